@@ -1,0 +1,5 @@
+pub mod Quorum
+pub mod Tables
+pub mod TablesLaw
+pub mod Unary
+pub mod UnaryLaw

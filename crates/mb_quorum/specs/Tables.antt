@@ -1,0 +1,10 @@
+-- The tables by name.
+use Rattle.std.specs.Prelude.{ℕ}
+use Rattle.mb_quorum.specs.declared.table.TableName.{TableName}
+use Rattle.mb_quorum.specs.declared.table.TableName.TheVariants.{Unary}
+use Rattle.mb_quorum.specs.Quorum.{QuorumTable}
+use Rattle.mb_quorum.specs.Unary.{unary_table}
+
+-- the table of this name with so many values
+abbrev pub table_of : TableName → ℕ → QuorumTable
+table_of Unary m = unary_table m

@@ -1,0 +1,20 @@
+//! Quorum tables: for each value a write quorum and a read quorum of registers, so chosen that a write quorum
+//! and a read quorum share no register exactly when they are those of one value.
+//!
+//! A process announces its value by setting the registers of the value's write quorum. If it then finds all
+//! registers of the value's read quorum unset, nobody has announced any other value. The idea is that of James
+//! Aspnes, "A modular approach to shared-memory consensus, with applications to the probabilistic-write model"
+//! (PODC 2010).
+#![tactic(auto)]
+
+mod quorums;
+mod table;
+#[cfg(test)]
+mod tests;
+mod unary;
+mod values;
+
+pub use quorums::Quorums;
+pub use table::{Table, TableName};
+pub use unary::Unary;
+pub use values::{BadValues, MAX_VALUES};

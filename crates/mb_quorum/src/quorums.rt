@@ -1,0 +1,33 @@
+/// A quorum table. Values and registers count from 0, and a quorum is a mask: register i is the bit of worth `2^i`.
+///
+/// No call takes memory. The law `lawful` is proved by each table for itself, and whoever uses a table rests on
+/// that law alone: a ratifier is right over every table that is lawful.
+pub trait Quorums {
+    ghost use Rattle.mb_quorum.specs.Quorum.{QuorumTable, IsQuorumTable};
+    ghost use Rattle.std.specs.Prelude.{◌≡◌, ◌<◌};
+
+    /// The table as plain data.
+    ghost table: { Self → QuorumTable };
+
+    /// How many registers there are, at most 64.
+    fn registers(&self) -> u32
+        ensures { result ≡ (table self.now).registers };
+
+    /// How many values there are, at most 64.
+    fn values(&self) -> u32
+        ensures { result ≡ (table self.now).values };
+
+    /// The registers that announce the value, as a mask.
+    fn write_quorum(&self, v: u32) -> u64
+        requires { v < (table self.now).values }
+        ensures { result ≡ (table self.now).write v };
+
+    /// The registers that are all unset as long as no other value was announced, as a mask.
+    fn read_quorum(&self, v: u32) -> u64
+        requires { v < (table self.now).values }
+        ensures { result ≡ (table self.now).read v };
+
+    /// Masks are below `2^registers`, and a write quorum and a read quorum are disjoint exactly when they are
+    /// those of one value.
+    ghost lawful: { (q : Self) → IsQuorumTable (table q) };
+}

@@ -1,0 +1,17 @@
+use std::error::Error;
+use std::fmt;
+
+/// The most values that a table of this crate can have. The least is 1.
+pub const MAX_VALUES: u64 = 16;
+
+/// The number of values is not in `1..=MAX_VALUES`.
+#[derive(Clone, Copy, Debug, PartialEq, Eq, Hash)]
+pub struct BadValues;
+
+impl fmt::Display for BadValues {
+    fn fmt<W: fmt::Write>(&self, f: &mut fmt::Formatter<W>) -> fmt::Result {
+        f.write_str("the number of values is out of range")
+    }
+}
+
+impl Error for BadValues {}
