@@ -32,7 +32,8 @@ impl Quorums for Unary {
     }
 
     fn read_quorum(&self, v: u32) -> u64 {
-        ((1 << self.values) - 1) - (1 << v)
+        let all = u64::MAX >> (u64::BITS - self.values);
+        all - (1 << v)
     }
 }
 
