@@ -4,7 +4,8 @@ ghost use Rattle.mb_quorum.specs.Mask.{mask_of};
 ghost use Rattle.mb_quorum.specs.Width.{width_of};
 ghost use Rattle.mb_quorum.specs.declared.values.TheConstants.{MAX_VALUES};
 
-use crate::{BadValues, MAX_VALUES, Quorums};
+use crate::values::checked_values;
+use crate::{BadValues, Quorums};
 
 /// The bit table, two registers for each bit of a value: where b is the least number with `2^b >= values`, for each
 /// i below b the write quorum of v holds register 2i + bit i of v, and its read quorum the other of the two.
@@ -51,10 +52,9 @@ impl Bits {
         ensures range { IsOk result ↔ ((1 ≤ m) × (m ≤ MAX_VALUES)) }
         ensures table { IfOk result (λ q. ⟦<Bits as Quorums>⟧.table q ≡ bits_table m) }
     {
-        if m < 1 || m > MAX_VALUES {
-            return Err(BadValues);
-        }
-        Ok(Bits { values: m as u32 })
+        Ok(Bits {
+            values: checked_values(m)?,
+        })
     }
 
     /// The table of so many values.

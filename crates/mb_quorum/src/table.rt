@@ -1,12 +1,16 @@
 ghost use Rattle.std.specs.Prelude.{◌≤◌};
 ghost use Rattle.mb_quorum.specs.declared.values.TheConstants.{MAX_VALUES};
 
-use crate::{BadValues, Bits, MAX_VALUES, Quorums, Unary};
+use crate::values::checked_values;
+use crate::{BadValues, Bits, Quorums, Unary};
 
 /// The name of a table of this crate.
 #[derive(Clone, Copy, Debug, PartialEq, Eq, Hash)]
 pub enum TableName {
+    /// [`Unary`](crate::Unary)
     Unary,
+
+    /// [`Bits`](crate::Bits)
     Bits,
 }
 
@@ -63,12 +67,9 @@ impl Table {
         ensures table { IfOk result (λ q. ⟦<Table as Quorums>⟧.table q ≡ table_of name m) }
         ensures values { IfOk result (λ q. (⟦<Table as Quorums>⟧.table q).values ≡ m) }
     {
-        if m < 1 || m > MAX_VALUES {
-            return Err(BadValues);
-        }
         Ok(Table {
             name,
-            values: m as u32,
+            values: checked_values(m)?,
         })
     }
 }

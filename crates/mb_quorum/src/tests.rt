@@ -68,3 +68,10 @@ fn mirrored_of_two_values(rt: HostRuntime) -> Result<(), Fail> {
     assert_eq!(rt; quorums(&mirrored, 1), (1, 2));
     Ok(())
 }
+
+#[test]
+fn text_of_bad_values(rt: HostRuntime) -> Result<(), Fail> {
+    let text = format!(in rt.alloc(); "{}", BadValues)?;
+    assert_eq!(rt; text.as_str(), "the number of values is out of range");
+    Ok(())
+}
