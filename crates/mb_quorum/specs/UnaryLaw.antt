@@ -4,7 +4,8 @@ use Rattle.std.specs.Int.{bit_at}
 use Rattle.std.proofs.Math.Numerals.{one-add}
 use Rattle.std.proofs.Math.Pow.{pow_pos, pow-lt, pow-add, suc_ones}
 use Rattle.std.proofs.lemmas.Bool.{cases_eq, cases_lt}
-use Rattle.std.proofs.lemmas.Nat.Bits.{bit_at-pow_same, bit_at-pow_other, bit_at_ones, bit_at_ones_above, bit_at_cat_low, bit_at_cat_high, bit_at_above}
+use Rattle.std.proofs.lemmas.Nat.Bits.{bit_at-pow_same, bit_at-pow_other, bit_at_ones, bit_at_ones_above}
+use Rattle.std.proofs.lemmas.Nat.Bits.{bit_at_cat_low, bit_at_cat_high, bit_at_above}
 use Rattle.mb_quorum.specs.declared.values.TheConstants.{MAX_VALUES}
 use Rattle.mb_quorum.specs.Quorum.{IsQuorumTable, IsMember, AreDisjoint}
 use Rattle.mb_quorum.specs.Unary.{unary_table}
@@ -23,17 +24,22 @@ others_cat j w =
 
 -- of these ones the one at w is missing
 others_same : (j w : ℕ) → bit_at (2 ^ (j + suc w) - 1 - 2 ^ w) w ≡ 0
-others_same j w = rw (others_cat j w) (bit_at_cat_low (2 ^ j - 1) (suc w) (2 ^ w - 1) w (omega arith) ∙ bit_at_ones_above w w (omega arith))
+others_same j w =
+    let low = bit_at_cat_low (2 ^ j - 1) (suc w) (2 ^ w - 1) w (omega arith) in
+    rw (others_cat j w) (low ∙ bit_at_ones_above w w (omega arith))
 
 -- and no other is
 others_other : (j w i : ℕ) → i < j + suc w → i ≢ w → bit_at (2 ^ (j + suc w) - 1 - 2 ^ w) i ≡ 1
 others_other j w i within other =
-    let at_low : i < w → bit_at (2 ^ (j + suc w) - 1 - 2 ^ w) i ≡ 1 =
-    λ h. rw (others_cat j w) (bit_at_cat_low (2 ^ j - 1) (suc w) (2 ^ w - 1) i (omega arith) ∙ bit_at_ones w i h) in
     let fits : 2 ^ w - 1 < 2 ^ suc w = omega (arith, rw one-add at (pow-add 2 1 w), pow_pos w) in
-    let at_high : w < i → bit_at (2 ^ (j + suc w) - 1 - 2 ^ w) i ≡ 1 =
-    λ h. rw (others_cat j w) (bit_at_cat_high (2 ^ j - 1) (suc w) (2 ^ w - 1) i fits (omega arith) ∙ bit_at_ones j (i - suc w) (omega arith)) in
-    elim (cases_lt i w) [ inl h ↦ at_low h | inr h ↦ at_high (omega arith) ]
+    elim (cases_lt i w) [
+      | inl below ↦
+          (let low = bit_at_cat_low (2 ^ j - 1) (suc w) (2 ^ w - 1) i (omega arith) in
+          rw (others_cat j w) (low ∙ bit_at_ones w i below))
+      | inr past ↦
+          (let high = bit_at_cat_high (2 ^ j - 1) (suc w) (2 ^ w - 1) i fits (omega arith) in
+          rw (others_cat j w) (high ∙ bit_at_ones j (i - suc w) (omega arith)))
+    ]
 
 -- a read quorum holds each register but the value's own
 pub read_others : (m v r : ℕ) → v < m → r < m → r ≢ v → IsMember ((unary_table m).read v) r
@@ -45,7 +51,8 @@ read_others m v r value within other =
 pub read_own : (m v : ℕ) → v < m → IsMember ((unary_table m).read v) v → ⊥
 read_own m v value member =
     let sum : m - suc v + suc v ≡ m = omega arith in
-    let none : bit_at (2 ^ m - 1 - 2 ^ v) v ≡ 0 = subst (λ n. bit_at (2 ^ n - 1 - 2 ^ v) v ≡ 0) sum (others_same (m - suc v) v) in
+    let none : bit_at (2 ^ m - 1 - 2 ^ v) v ≡ 0 =
+    subst (λ n. bit_at (2 ^ n - 1 - 2 ^ v) v ≡ 0) sum (others_same (m - suc v) v) in
     omega (arith, none, member)
 
 -- nor any past the last
@@ -70,9 +77,10 @@ write_only m v r member =
     ]
 
 -- the quorums of one value share no register
-apart : (m v : ℕ) → v < m → AreDisjoint ((unary_table m).write v) ((unary_table m).read v)
-apart m v value r in_write in_read =
-    read_own m v value (subst (λ n. IsMember ((unary_table m).read v) n) (write_only m v r in_write) in_read)
+apart : (m v w : ℕ) → v < m → v ≡ w → AreDisjoint ((unary_table m).write v) ((unary_table m).read w)
+apart m v w value same r in_write in_read =
+    let own : r ≡ w = write_only m v r in_write ∙ same in
+    read_own m w (omega (arith, value, same)) (subst (IsMember ((unary_table m).read w)) own in_read)
 
 -- quorums of two values share the register of the one that is written
 meet : (m v w : ℕ) → v < m → w < m → AreDisjoint ((unary_table m).write v) ((unary_table m).read w) → v ≡ w
@@ -91,6 +99,5 @@ unary_lawful m most =
       few = limit;
       write_within = λ v value. pow-lt value;
       read_within = λ v value. omega (arith, pow_pos m, pow_pos v);
-      disjoint = λ v w written seen.
-          (meet m v w written seen, λ same. subst (λ u. AreDisjoint ((unary_table m).write v) ((unary_table m).read u)) same (apart m v written));
+      disjoint = λ v w written seen. (meet m v w written seen, apart m v w written);
     }

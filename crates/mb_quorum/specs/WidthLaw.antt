@@ -35,8 +35,18 @@ enough_powers : (n m : ℕ) → m ≤ 2 ^ n → m ≤ 2 ^ powers_below n m
 enough_powers zero m h = h
 enough_powers (suc i) m h =
     elim (cases_lt (2 ^ i) m) [
-      | inl below ↦ (let all : powers_below (suc i) m ≡ suc i = counted i m below ∙ ap suc (all_below i m below) in rw all h)
+      | inl below ↦
+          (let all : powers_below (suc i) m ≡ suc i = counted i m below ∙ ap suc (all_below i m below) in
+          rw all h)
       | inr reached ↦ rw (passed_over i m reached) (enough_powers i m reached)
+    ]
+
+-- the exponent of the lower power is the lower one
+exponent_below : (i c : ℕ) → 2 ^ i < 2 ^ c → i < c
+exponent_below i c lower =
+    elim (cases_lt i c) [
+      | inl less ↦ less
+      | inr more ↦ (let higher : 2 ^ c ≤ 2 ^ i = pow_mono more in omega (arith, higher, lower))
     ]
 
 -- no exponent that is enough is less than the count
@@ -45,8 +55,7 @@ least_powers zero m c h = omega arith
 least_powers (suc i) m c h =
     elim (cases_lt (2 ^ i) m) [
       | inl below ↦
-          (let higher : i < c = elim (cases_lt i c) [ inl less ↦ less | inr more ↦ (let p : 2 ^ c ≤ 2 ^ i = pow_mono more in omega (arith, p, h, below)) ] in
-          omega (arith, counted i m below, powers_below-le i m, higher))
+          omega (arith, counted i m below, powers_below-le i m, exponent_below i c (omega (arith, below, h)))
       | inr reached ↦ rw (passed_over i m reached) (least_powers i m c h)
     ]
 
@@ -57,5 +66,10 @@ self_below (suc i) =
     let double : 2 ^ suc i ≡ 2 * 2 ^ i = rw one-add at (pow-add 2 1 i) in
     omega (arith, double, self_below i)
 
+-- the count of all powers below m is the least exponent that is enough
 pub width_is_least : (m : ℕ) → IsLeastWidth m (width_of m)
-width_is_least m = record { enough = enough_powers m m (omega (arith, self_below m)); least = λ c h. least_powers m m c h }
+width_is_least m =
+    record {
+      enough = enough_powers m m (omega (arith, self_below m));
+      least = least_powers m m;
+    }

@@ -1,5 +1,5 @@
-ghost use Rattle.std.specs.Prelude.{◌≡◌, ◌+◌, ◌*◌, ◌≤◌};
-ghost use Rattle.std.specs.Int.{bit_at};
+ghost use Rattle.std.specs.Prelude.{◌≡◌, ◌≤◌};
+ghost use Rattle.mb_quorum.specs.Bits.{named_register};
 ghost use Rattle.mb_quorum.specs.Mask.{mask_of};
 ghost use Rattle.mb_quorum.specs.Width.{width_of};
 ghost use Rattle.mb_quorum.specs.declared.values.TheConstants.{MAX_VALUES};
@@ -78,7 +78,7 @@ impl Bits {
 /// For each i below the width, register 2i + bit i of `bits`, as a mask.
 fn mask_of_bits(width: u32, bits: u32) -> u64
     requires { width ≤ 32 }
-    ensures { result ≡ mask_of (λ i. 2 * i + bit_at bits i) width }
+    ensures { result ≡ mask_of (named_register bits) width }
 {
     let mut mask = 0;
     for i in 0..width {

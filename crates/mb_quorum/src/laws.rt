@@ -1,6 +1,7 @@
 //! Facts about the tables, each the contract of a function with no body, for proofs that stand on them.
 
-ghost use Rattle.std.specs.Prelude.{◌≡◌, ◌≢◌, ℕ, ◌+◌, ◌-◌, ◌*◌, ◌<◌, ◌≤◌, ◌↔◌, bit_and};
+ghost use Rattle.std.specs.Prelude.{◌≡◌, ◌≢◌, ℕ, ◌+◌, ◌-◌, ◌*◌, ◌<◌, ◌≤◌, ◌↔◌};
+ghost use Rattle.std.specs.Prelude.{bit_and};
 ghost use Rattle.std.specs.Int.{bit_at};
 ghost use Rattle.mb_quorum.specs.declared.table.TableName.{TableName};
 ghost use Rattle.mb_quorum.specs.declared.values.TheConstants.{MAX_VALUES};
@@ -9,6 +10,13 @@ ghost use Rattle.mb_quorum.specs.Unary.{unary_table};
 ghost use Rattle.mb_quorum.specs.Bits.{bits_table};
 ghost use Rattle.mb_quorum.specs.Tables.{table_of};
 ghost use Rattle.mb_quorum.specs.Width.{width_of, IsLeastWidth};
+
+use crate::Quorums;
+
+/// Every value of a table's type is a quorum table.
+pub fn lawful_table<Q: Quorums>(table: &Q)
+    ensures { IsQuorumTable (Q.table table.now) }
+{}
 
 /// Each table that has a name is a quorum table, and has so many values as it is asked for.
 pub fn named_tables()
@@ -32,8 +40,10 @@ pub fn unary_quorums()
 /// Which registers the quorums of the bit table hold: of the two for each bit, the one that the bit names, and the
 /// other.
 pub fn bits_quorums()
-    ensures write { (m v r : ℕ) → IsMember ((bits_table m).write v) r ↔ ((i : ℕ) × (i < width_of m) × (r ≡ 2 * i + bit_at v i)) }
-    ensures read { (m v r : ℕ) → IsMember ((bits_table m).read v) r ↔ ((i : ℕ) × (i < width_of m) × (r ≡ 2 * i + 1 - bit_at v i)) }
+    ensures write { (m v r : ℕ) → IsMember ((bits_table m).write v) r
+        ↔ ((i : ℕ) × (i < width_of m) × (r ≡ 2 * i + bit_at v i)) }
+    ensures read { (m v r : ℕ) → IsMember ((bits_table m).read v) r
+        ↔ ((i : ℕ) × (i < width_of m) × (r ≡ 2 * i + 1 - bit_at v i)) }
 {}
 
 /// The width of the bit table is the least number b with `m <= 2^b`.

@@ -4,8 +4,8 @@
 /// that law alone: a ratifier is right over every table that is lawful.
 ///
 /// A table of one's own is a `QuorumTable`, a lemma that this is an `IsQuorumTable`, and the four calls. Here the
-/// registers are those of a unary table, counted from the last (whole in `src/tests/mirrored.rt`, with `mirrored_table`
-/// and `mirrored_lawful` in `specs/Mirrored.antt`):
+/// registers are those of a unary table, counted from the last. It stands whole in `src/tests/mirrored.rt`, with
+/// `mirrored_table` and `mirrored_lawful` in `specs/Mirrored.antt`.
 ///
 /// ```
 /// pub struct Mirrored {
