@@ -1,0 +1,3 @@
+mod Disjoint
+mod Masks
+mod Widths

@@ -1,5 +1,12 @@
+pub mod Bits
+pub mod BitsLaw
+pub mod Mask
+pub mod MaskLaw
+pub mod Mirrored
 pub mod Quorum
 pub mod Tables
 pub mod TablesLaw
 pub mod Unary
 pub mod UnaryLaw
+pub mod Width
+pub mod WidthLaw

@@ -1,12 +1,13 @@
 -- The unary table is a quorum table.
-use Rattle.std.proofs.Common.{◌≡◌, ◌≢◌, ℕ, suc, ◌+◌, ◌-◌, ◌*◌, ◌^◌, ◌<◌, ◌≤◌, sym, ◌∙◌, subst, inl, inr, arith}
+use Rattle.std.proofs.Common.{◌≡◌, ◌≢◌, ℕ, suc, ◌+◌, ◌-◌, ◌*◌, ◌^◌, ◌<◌, ◌≤◌, ◌∙◌, subst, inl, inr, arith}
 use Rattle.std.specs.Int.{bit_at}
 use Rattle.std.proofs.Math.Numerals.{one-add}
 use Rattle.std.proofs.Math.Pow.{pow_pos, pow-lt, pow-add, suc_ones}
 use Rattle.std.proofs.lemmas.Bool.{cases_eq, cases_lt}
-use Rattle.std.proofs.lemmas.Nat.Bits.{bit_at-pow_same, bit_at-pow_other, bit_at_ones, bit_at_ones_above, bit_at_cat_low, bit_at_cat_high}
+use Rattle.std.proofs.lemmas.Nat.Bits.{bit_at-pow_same, bit_at-pow_other, bit_at_ones, bit_at_ones_above}
+use Rattle.std.proofs.lemmas.Nat.Bits.{bit_at_cat_low, bit_at_cat_high, bit_at_above}
 use Rattle.mb_quorum.specs.declared.values.TheConstants.{MAX_VALUES}
-use Rattle.mb_quorum.specs.Quorum.{IsQuorumTable, AreDisjoint}
+use Rattle.mb_quorum.specs.Quorum.{IsQuorumTable, IsMember, AreDisjoint}
 use Rattle.mb_quorum.specs.Unary.{unary_table}
 
 -- the numbers of `others_cat`
@@ -23,45 +24,70 @@ others_cat j w =
 
 -- of these ones the one at w is missing
 others_same : (j w : ℕ) → bit_at (2 ^ (j + suc w) - 1 - 2 ^ w) w ≡ 0
-others_same j w = rw (others_cat j w) (bit_at_cat_low (2 ^ j - 1) (suc w) (2 ^ w - 1) w (omega arith) ∙ bit_at_ones_above w w (omega arith))
+others_same j w =
+    let low = bit_at_cat_low (2 ^ j - 1) (suc w) (2 ^ w - 1) w (omega arith) in
+    rw (others_cat j w) (low ∙ bit_at_ones_above w w (omega arith))
 
 -- and no other is
 others_other : (j w i : ℕ) → i < j + suc w → i ≢ w → bit_at (2 ^ (j + suc w) - 1 - 2 ^ w) i ≡ 1
 others_other j w i within other =
-    let at_low : i < w → bit_at (2 ^ (j + suc w) - 1 - 2 ^ w) i ≡ 1 =
-    λ h. rw (others_cat j w) (bit_at_cat_low (2 ^ j - 1) (suc w) (2 ^ w - 1) i (omega arith) ∙ bit_at_ones w i h) in
     let fits : 2 ^ w - 1 < 2 ^ suc w = omega (arith, rw one-add at (pow-add 2 1 w), pow_pos w) in
-    let at_high : w < i → bit_at (2 ^ (j + suc w) - 1 - 2 ^ w) i ≡ 1 =
-    λ h. rw (others_cat j w) (bit_at_cat_high (2 ^ j - 1) (suc w) (2 ^ w - 1) i fits (omega arith) ∙ bit_at_ones j (i - suc w) (omega arith)) in
-    elim (cases_lt i w) [ inl h ↦ at_low h | inr h ↦ at_high (omega arith) ]
-
--- a value's register is not in its read quorum
-read_same : (m w : ℕ) → w < m → bit_at (2 ^ m - 1 - 2 ^ w) w ≡ 0
-read_same m w h =
-    let e : m - suc w + suc w ≡ m = omega arith in
-    subst (λ n. bit_at (2 ^ n - 1 - 2 ^ w) w ≡ 0) e (others_same (m - suc w) w)
-
--- each other register is
-read_other : (m w i : ℕ) → w < m → i < m → i ≢ w → bit_at (2 ^ m - 1 - 2 ^ w) i ≡ 1
-read_other m w i h within other =
-    let e : m - suc w + suc w ≡ m = omega arith in
-    subst (λ n. bit_at (2 ^ n - 1 - 2 ^ w) i ≡ 1) e (others_other (m - suc w) w i (omega arith) other)
-
--- the quorums of one value share no register
-apart : (m v w : ℕ) → v < m → w < m → v ≡ w → AreDisjoint (2 ^ v) (2 ^ m - 1 - 2 ^ w)
-apart m v w hv hw e r in_write in_read =
-    let here : r ≡ v → ⊥ = λ k. let z : bit_at (2 ^ m - 1 - 2 ^ w) r ≡ 0 = subst (λ n. bit_at (2 ^ m - 1 - 2 ^ w) n ≡ 0) (sym (k ∙ e)) (read_same m w hw) in omega arith in
-    elim (cases_eq r v) [
-      | inl k ↦ here k
-      | inr k ↦ (let z : bit_at (2 ^ v) r ≡ 0 = bit_at-pow_other v r k in omega arith)
+    elim (cases_lt i w) [
+      | inl below ↦
+          (let low = bit_at_cat_low (2 ^ j - 1) (suc w) (2 ^ w - 1) i (omega arith) in
+          rw (others_cat j w) (low ∙ bit_at_ones w i below))
+      | inr past ↦
+          (let high = bit_at_cat_high (2 ^ j - 1) (suc w) (2 ^ w - 1) i fits (omega arith) in
+          rw (others_cat j w) (high ∙ bit_at_ones j (i - suc w) (omega arith)))
     ]
 
+-- a read quorum holds each register but the value's own
+pub read_others : (m v r : ℕ) → v < m → r < m → r ≢ v → IsMember ((unary_table m).read v) r
+read_others m v r value within other =
+    let sum : m - suc v + suc v ≡ m = omega arith in
+    subst (λ n. bit_at (2 ^ n - 1 - 2 ^ v) r ≡ 1) sum (others_other (m - suc v) v r (omega arith) other)
+
+-- and not that one
+pub read_own : (m v : ℕ) → v < m → IsMember ((unary_table m).read v) v → ⊥
+read_own m v value member =
+    let sum : m - suc v + suc v ≡ m = omega arith in
+    let none : bit_at (2 ^ m - 1 - 2 ^ v) v ≡ 0 =
+    subst (λ n. bit_at (2 ^ n - 1 - 2 ^ v) v ≡ 0) sum (others_same (m - suc v) v) in
+    omega (arith, none, member)
+
+-- nor any past the last
+pub read_within : (m v r : ℕ) → IsMember ((unary_table m).read v) r → r < m
+read_within m v r member =
+    let small : 2 ^ m - 1 - 2 ^ v < 2 ^ m = omega (arith, pow_pos m, pow_pos v) in
+    elim (cases_lt r m) [
+      | inl less ↦ less
+      | inr more ↦ absurd (omega (arith, bit_at_above (2 ^ m - 1 - 2 ^ v) m r small more, member))
+    ]
+
+-- a write quorum holds the value's register
+pub write_own : (m v : ℕ) → IsMember ((unary_table m).write v) v
+write_own m v = bit_at-pow_same v
+
+-- and no other
+pub write_only : (m v r : ℕ) → IsMember ((unary_table m).write v) r → r ≡ v
+write_only m v r member =
+    elim (cases_eq r v) [
+      | inl same ↦ same
+      | inr other ↦ absurd (omega (arith, bit_at-pow_other v r other, member))
+    ]
+
+-- the quorums of one value share no register
+apart : (m v w : ℕ) → v < m → v ≡ w → AreDisjoint ((unary_table m).write v) ((unary_table m).read w)
+apart m v w value same r in_write in_read =
+    let own : r ≡ w = write_only m v r in_write ∙ same in
+    read_own m w (omega (arith, value, same)) (subst (IsMember ((unary_table m).read w)) own in_read)
+
 -- quorums of two values share the register of the one that is written
-meet : (m v w : ℕ) → v < m → w < m → AreDisjoint (2 ^ v) (2 ^ m - 1 - 2 ^ w) → v ≡ w
-meet m v w hv hw d =
+meet : (m v w : ℕ) → v < m → w < m → AreDisjoint ((unary_table m).write v) ((unary_table m).read w) → v ≡ w
+meet m v w written seen disjoint =
     elim (cases_eq v w) [
-      | inl e ↦ e
-      | inr other ↦ absurd (d v (bit_at-pow_same v) (read_other m w v hw hv other))
+      | inl same ↦ same
+      | inr other ↦ absurd (disjoint v (write_own m v) (read_others m w v seen written other))
     ]
 
 -- the unary table of so many values, as long as that is not too many
@@ -71,7 +97,7 @@ unary_lawful m most =
     record {
       limit = limit;
       few = limit;
-      write_within = λ v h. pow-lt h;
-      read_within = λ v h. omega (arith, pow_pos m, pow_pos v);
-      disjoint = λ v w hv hw. (meet m v w hv hw, apart m v w hv hw);
+      write_within = λ v value. pow-lt value;
+      read_within = λ v value. omega (arith, pow_pos m, pow_pos v);
+      disjoint = λ v w written seen. (meet m v w written seen, apart m v w written);
     }

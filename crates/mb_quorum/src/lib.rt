@@ -7,6 +7,8 @@
 //! (PODC 2010).
 #![tactic(auto)]
 
+mod bits;
+pub mod laws;
 mod quorums;
 mod table;
 #[cfg(test)]
@@ -14,6 +16,7 @@ mod tests;
 mod unary;
 mod values;
 
+pub use bits::Bits;
 pub use quorums::Quorums;
 pub use table::{Table, TableName};
 pub use unary::Unary;

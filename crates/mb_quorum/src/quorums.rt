@@ -2,6 +2,38 @@
 ///
 /// No call takes memory. The law `lawful` is proved by each table for itself, and whoever uses a table rests on
 /// that law alone: a ratifier is right over every table that is lawful.
+///
+/// A table of one's own is a `QuorumTable`, a lemma that this is an `IsQuorumTable`, and the four calls. Here the
+/// registers are those of a unary table, counted from the last. It stands whole in `src/tests/mirrored.rt`, with
+/// `mirrored_table` and `mirrored_lawful` in `specs/Mirrored.antt`.
+///
+/// ```
+/// pub struct Mirrored {
+///     unary: Unary,
+/// }
+///
+/// impl Quorums for Mirrored {
+///     ghost table = { λ q. mirrored_table q.unary.values };
+///
+///     ghost lawful = { λ q. mirrored_lawful q.unary.values q.unary.most };
+///
+///     fn registers(&self) -> u32 {
+///         self.unary.registers()
+///     }
+///
+///     fn values(&self) -> u32 {
+///         self.unary.values()
+///     }
+///
+///     fn write_quorum(&self, v: u32) -> u64 {
+///         self.unary.write_quorum(self.values() - 1 - v)
+///     }
+///
+///     fn read_quorum(&self, v: u32) -> u64 {
+///         self.unary.read_quorum(self.values() - 1 - v)
+///     }
+/// }
+/// ```
 pub trait Quorums {
     ghost use Rattle.mb_quorum.specs.Quorum.{QuorumTable, IsQuorumTable};
     ghost use Rattle.std.specs.Prelude.{◌≡◌, ◌<◌};

@@ -1,12 +1,17 @@
 ghost use Rattle.std.specs.Prelude.{◌≤◌};
 ghost use Rattle.mb_quorum.specs.declared.values.TheConstants.{MAX_VALUES};
 
-use crate::{BadValues, MAX_VALUES, Quorums, Unary};
+use crate::values::checked_values;
+use crate::{BadValues, Bits, Quorums, Unary};
 
 /// The name of a table of this crate.
 #[derive(Clone, Copy, Debug, PartialEq, Eq, Hash)]
 pub enum TableName {
+    /// [`Unary`](crate::Unary)
     Unary,
+
+    /// [`Bits`](crate::Bits)
+    Bits,
 }
 
 /// A table chosen by its name when the program runs.
@@ -29,6 +34,7 @@ impl Quorums for Table {
     fn registers(&self) -> u32 {
         match self.name {
             TableName::Unary => Unary::of(self.values).registers(),
+            TableName::Bits => Bits::of(self.values).registers(),
         }
     }
 
@@ -39,12 +45,14 @@ impl Quorums for Table {
     fn write_quorum(&self, v: u32) -> u64 {
         match self.name {
             TableName::Unary => Unary::of(self.values).write_quorum(v),
+            TableName::Bits => Bits::of(self.values).write_quorum(v),
         }
     }
 
     fn read_quorum(&self, v: u32) -> u64 {
         match self.name {
             TableName::Unary => Unary::of(self.values).read_quorum(v),
+            TableName::Bits => Bits::of(self.values).read_quorum(v),
         }
     }
 }
@@ -57,13 +65,11 @@ impl Table {
     pub fn new(name: TableName, m: u64) -> Result<Table, BadValues>
         ensures range { IsOk result ↔ ((1 ≤ m) × (m ≤ MAX_VALUES)) }
         ensures table { IfOk result (λ q. ⟦<Table as Quorums>⟧.table q ≡ table_of name m) }
+        ensures values { IfOk result (λ q. (⟦<Table as Quorums>⟧.table q).values ≡ m) }
     {
-        if m < 1 || m > MAX_VALUES {
-            return Err(BadValues);
-        }
         Ok(Table {
             name,
-            values: m as u32,
+            values: checked_values(m)?,
         })
     }
 }

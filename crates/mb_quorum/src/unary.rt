@@ -1,7 +1,8 @@
 ghost use Rattle.std.specs.Prelude.{◌≤◌};
 ghost use Rattle.mb_quorum.specs.declared.values.TheConstants.{MAX_VALUES};
 
-use crate::{BadValues, MAX_VALUES, Quorums};
+use crate::values::checked_values;
+use crate::{BadValues, Quorums};
 
 /// The unary table, a register for each value: the write quorum of v is register v, its read quorum all others.
 #[derive(Clone, Copy, Debug, PartialEq, Eq, Hash)]
@@ -32,7 +33,8 @@ impl Quorums for Unary {
     }
 
     fn read_quorum(&self, v: u32) -> u64 {
-        ((1 << self.values) - 1) - (1 << v)
+        let all = u64::MAX >> (u64::BITS - self.values);
+        all - (1 << v)
     }
 }
 
@@ -45,10 +47,9 @@ impl Unary {
         ensures range { IsOk result ↔ ((1 ≤ m) × (m ≤ MAX_VALUES)) }
         ensures table { IfOk result (λ q. ⟦<Unary as Quorums>⟧.table q ≡ unary_table m) }
     {
-        if m < 1 || m > MAX_VALUES {
-            return Err(BadValues);
-        }
-        Ok(Unary { values: m as u32 })
+        Ok(Unary {
+            values: checked_values(m)?,
+        })
     }
 
     /// The table of so many values.

@@ -1,3 +1,5 @@
+ghost use Rattle.std.specs.Prelude.{◌≡◌, ◌≤◌, ◌↔◌, IsOk, IfOk};
+
 use std::error::Error;
 use std::fmt;
 
@@ -15,3 +17,15 @@ impl fmt::Display for BadValues {
 }
 
 impl Error for BadValues {}
+
+/// The number of values m, or `BadValues` if it is not in `1..=MAX_VALUES`.
+pub(crate) fn checked_values(m: u64) -> Result<u32, BadValues>
+    ensures range { IsOk result ↔ ((1 ≤ m) × (m ≤ MAX_VALUES)) }
+    ensures same { IfOk result (λ values. values ≡ m) }
+{
+    if (1..=MAX_VALUES).contains(&m) {
+        Ok(m as u32)
+    } else {
+        Err(BadValues)
+    }
+}

@@ -1,0 +1,10 @@
+use Rattle.mb_quorum.specs.Bits.{named_register, other_register}
+use Rattle.mb_quorum.specs.Width.{width_of}
+use Rattle.mb_quorum.specs.MaskLaw.{mask_of-member}
+use Rattle.mb_quorum.proofs.laws.bits_quorums.Goals as goal
+
+pub returns-clause-write : goal.returns-clause-write
+returns-clause-write c m v r = mask_of-member (named_register v) (width_of m) r
+
+pub returns-clause-read : goal.returns-clause-read
+returns-clause-read c m v r = mask_of-member (other_register v) (width_of m) r
