@@ -2,7 +2,6 @@ pub mod Bits
 pub mod BitsLaw
 pub mod Mask
 pub mod MaskLaw
-pub mod Mirrored
 pub mod Quorum
 pub mod Tables
 pub mod TablesLaw

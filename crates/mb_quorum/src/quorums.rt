@@ -3,9 +3,9 @@
 /// No call takes memory. The law `lawful` is proved by each table for itself, and whoever uses a table rests on
 /// that law alone: a ratifier is right over every table that is lawful.
 ///
-/// A table of one's own is a `QuorumTable`, a lemma that this is an `IsQuorumTable`, and the four calls. Here the
-/// registers are those of a unary table, counted from the last. It stands whole in `src/tests/mirrored.rt`, with
-/// `mirrored_table` and `mirrored_lawful` in `specs/Mirrored.antt`.
+/// A table of one's own is a `QuorumTable`, a lemma that this is an `IsQuorumTable`, and the four calls. Here value v
+/// has the quorums that value m - 1 - v has in the unary table of m values. It stands whole, with `mirrored` and
+/// `mirrored_lawful`, in the tests of `mb_deciding`.
 ///
 /// ```
 /// pub struct Mirrored {
@@ -13,9 +13,9 @@
 /// }
 ///
 /// impl Quorums for Mirrored {
-///     ghost table = { λ q. mirrored_table q.unary.values };
+///     ghost table = { λ q. mirrored (⟦<Unary as Quorums>⟧.table q.unary) };
 ///
-///     ghost lawful = { λ q. mirrored_lawful q.unary.values q.unary.most };
+///     ghost lawful = { λ q. mirrored_lawful (⟦<Unary as Quorums>⟧.table q.unary) (⟦<Unary as Quorums>⟧.lawful q.unary) };
 ///
 ///     fn registers(&self) -> u32 {
 ///         self.unary.registers()

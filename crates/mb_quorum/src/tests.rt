@@ -1,9 +1,6 @@
-mod mirrored;
-
 ghost use Rattle.std.specs.Prelude.{◌<◌};
 
 use crate::{BadValues, Bits, Quorums, Table, TableName, Unary};
-use mirrored::Mirrored;
 use std::test::Fail;
 
 /// The write quorum and the read quorum of a value, through the trait.
@@ -57,15 +54,6 @@ fn too_few_and_too_many_values(rt: HostRuntime) {
 fn most_values(rt: HostRuntime) -> Result<(), Fail> {
     assert_eq!(rt; quorums(&Unary::new(16)?, 15), (0x8000, 0x7fff));
     assert_eq!(rt; quorums(&Bits::new(16)?, 15), (0xaa, 0x55));
-    Ok(())
-}
-
-#[test]
-fn mirrored_of_two_values(rt: HostRuntime) -> Result<(), Fail> {
-    let mirrored = Mirrored::new(2)?;
-    assert_eq!(rt; (mirrored.registers(), mirrored.values()), (2, 2));
-    assert_eq!(rt; quorums(&mirrored, 0), (2, 1));
-    assert_eq!(rt; quorums(&mirrored, 1), (1, 2));
     Ok(())
 }
 
