@@ -1,0 +1,45 @@
+-- Turns and their acts.
+use Rattle.std.proofs.Common.{◌≡◌, ◌≢◌, suc, List, [], ◌∷◌, ◌++◌, map, length, inr, refl, ap}
+use Rattle.mb_deciding.specs.declared.access.Act.{Act}
+use Rattle.mb_deciding.specs.declared.access.Turn.{Turn}
+use Rattle.mb_deciding.specs.History.{acts, Has}
+use Rattle.mb_deciding.proofs.Histories.{not_empty}
+
+-- the acts of two lists of turns
+pub acts-append : (xs ys : List Turn) → acts (xs ++ ys) ≡ acts xs ++ acts ys
+acts-append [] ys = refl
+acts-append (x ∷ xs) ys = ap (λ zs. x.act ∷ zs) (acts-append xs ys)
+
+-- each turn has one act
+pub length-acts : (xs : List Turn) → length (acts xs) ≡ length xs
+length-acts [] = refl
+length-acts (x ∷ xs) = ap suc (length-acts xs)
+
+-- no acts, no turns
+pub no_acts : (xs : List Turn) → acts xs ≡ [] → xs ≡ []
+no_acts [] e = refl
+no_acts (x ∷ xs) e = absurd (not_empty x.act (acts xs) e)
+
+-- turns that make these acts, with 0 for each random word
+pub turns_for : List Act → List Turn
+turns_for xs = map (λ x. record { act = x; word = 0 }) xs
+
+-- they have these acts
+pub acts-turns_for : (xs : List Act) → acts (turns_for xs) ≡ xs
+unfolding turns_for
+acts-turns_for [] = refl
+acts-turns_for (x ∷ xs) = ap (λ zs. x ∷ zs) (acts-turns_for xs)
+
+-- a list that has an act is not empty
+pub has_some : (xs : List Act) (c : Act) → Has xs c → xs ≢ []
+has_some [] c k e = k
+has_some (x ∷ xs) c k e = not_empty x xs e
+
+-- who made an act has a turn
+pub has_turns : (turns : List Turn) (c : Act) → Has (acts turns) c → turns ≢ []
+has_turns turns c k e = has_some (acts turns) c k (ap acts e)
+
+-- what is in a list is in a longer one
+pub has_later : (xs ys : List Act) (c : Act) → Has ys c → Has (xs ++ ys) c
+has_later [] ys c h = h
+has_later (x ∷ xs) ys c h = inr (has_later xs ys c h)

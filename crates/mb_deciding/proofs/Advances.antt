@@ -1,0 +1,206 @@
+-- One access of a process at its place in a ratifier leads to its next place or to its output.
+use Rattle.std.proofs.Common.{◌≡◌, ◌≢◌, ℕ, ◌+◌, ◌<◌, ◌≤◌, ◌↔◌, List, ◌∷◌, ◌++◌, ◌⊎◌, inl, inr, sym, refl, ap, ap₂, ◌∙◌, subst, arith}
+use Rattle.std.proofs.lemmas.Bool.{cases_order}
+use Rattle.mb_quorum.specs.Quorum.{QuorumTable, IsQuorumTable, IsMember}
+use Rattle.mb_deciding.specs.declared.access.Reg.TheVariants.{Value, Proposal, Quorum}
+use Rattle.mb_deciding.specs.declared.access.Act.{Act}
+use Rattle.mb_deciding.specs.declared.access.Act.TheVariants.{Load, Store}
+use Rattle.mb_deciding.specs.declared.access.Op.{Op}
+use Rattle.mb_deciding.specs.declared.access.Op.TheVariants.{Load as ToLoad, Store as ToStore}
+use Rattle.mb_deciding.specs.declared.checking.Checking.{Checking}
+use Rattle.mb_deciding.specs.declared.checking.Checking.TheVariants.{Begin, Announce, Propose, Check}
+use Rattle.mb_deciding.specs.declared.place.Pc.TheVariants.{InRatifier}
+use Rattle.mb_deciding.specs.Ratifier.{stores_below, zeros_below, announced, ReadsClear, ReadsOne}
+use Rattle.mb_deciding.specs.Place.{IsLeast, IsRest, IsChecking, IsCheckOp, CanFind, act_of}
+use Rattle.mb_deciding.proofs.Registers.{member_below, none_empty, rest_whole, rest_least, rest_none, rest_taken, each_skip, each_next}
+
+-- what is left of a mask without one register
+abbrev pub IsTaken : ℕ → ℕ → ℕ → Type 0
+IsTaken left r after = (k : ℕ) → IsMember after k ↔ (IsMember left k × (k ≢ r))
+
+-- ---- the op of each place
+-- a process that announces stores in the least register that is left, or loads the proposal
+pub announce_op :
+    (t : QuorumTable) (input left : ℕ) (op : Op) → IsCheckOp t (Announce input left) op
+    → ((r : ℕ) × (op ≡ ToStore (Quorum r) 1) × IsLeast left r) ⊎ ((op ≡ ToLoad Proposal) × (left ≡ 0))
+announce_op t input left (ToLoad Value) is = absurd is
+announce_op t input left (ToLoad Proposal) is = inr (refl, is)
+announce_op t input left (ToLoad (Quorum r)) is = absurd is
+announce_op t input left (ToStore Value w) is = absurd is
+announce_op t input left (ToStore Proposal w) is = absurd is
+announce_op t input left (ToStore (Quorum r) w) is = inl (r, ap (λ n. ToStore (Quorum r) n) is.0, is.1)
+
+-- at first the whole write quorum is left
+pub begin_op :
+    (t : QuorumTable) (input : ℕ) (op : Op)
+    → IsCheckOp t (Begin input) op ↔ IsCheckOp t (Announce input (t.write input)) op
+begin_op t input (ToLoad Value) = ((λ is. is), (λ is. is))
+begin_op t input (ToLoad Proposal) = ((λ is. is), (λ is. is))
+begin_op t input (ToLoad (Quorum r)) = ((λ is. is), (λ is. is))
+begin_op t input (ToStore Value w) = ((λ is. is), (λ is. is))
+begin_op t input (ToStore Proposal w) = ((λ is. is), (λ is. is))
+begin_op t input (ToStore (Quorum r) w) = ((λ is. is), (λ is. is))
+
+-- what an op finds does not depend on the place in a ratifier
+pub find_anywhere :
+    (t : QuorumTable) (a b : Checking) (op : Op) (seen : ℕ) → CanFind t (InRatifier a) op seen
+    → CanFind t (InRatifier b) op seen
+find_anywhere t a b (ToLoad Value) seen can = tt
+find_anywhere t a b (ToLoad Proposal) seen can = can
+find_anywhere t a b (ToLoad (Quorum r)) seen can = can
+find_anywhere t a b (ToStore reg w) seen can = tt
+
+-- a process that proposes stores its input
+pub propose_op :
+    (t : QuorumTable) (input : ℕ) (op : Op) → IsCheckOp t (Propose input) op → op ≡ ToStore Proposal (input + 1)
+propose_op t input (ToLoad Value) is = absurd is
+propose_op t input (ToLoad Proposal) is = absurd is
+propose_op t input (ToLoad (Quorum r)) is = absurd is
+propose_op t input (ToStore Value w) is = absurd is
+propose_op t input (ToStore Proposal w) is = ap (λ n. ToStore Proposal n) is
+propose_op t input (ToStore (Quorum r) w) is = absurd is
+
+-- a process that checks loads the least register that is left
+pub check_op :
+    (t : QuorumTable) (u left : ℕ) (op : Op) → IsCheckOp t (Check u left) op
+    → (r : ℕ) × (op ≡ ToLoad (Quorum r)) × IsLeast left r
+check_op t u left (ToLoad Value) is = absurd is
+check_op t u left (ToLoad Proposal) is = absurd is
+check_op t u left (ToLoad (Quorum r)) is = (r, refl, is)
+check_op t u left (ToStore Value w) is = absurd is
+check_op t u left (ToStore Proposal w) is = absurd is
+check_op t u left (ToStore (Quorum r) w) is = absurd is
+
+-- a mask has one least register
+pub one_least : (mask r s : ℕ) → IsLeast mask r → IsLeast mask s → r ≡ s
+one_least mask r s l m =
+    elim (cases_order r s) [
+      | inl e ↦ e
+      | inr k ↦ (elim k [
+        | inl less ↦ absurd (m.least r less l.member)
+        | inr more ↦ absurd (l.least s more m.member)
+      ])
+    ]
+
+-- ---- announcing
+-- before its first access a process has all of its write quorum left
+pub begun :
+    (t : QuorumTable) (v input : ℕ) (made : List Act) → IsChecking t v (Begin input) made
+    → IsChecking t v (Announce input (t.write input)) made
+begun t v input made at = (at.0, (0, omega arith, rw (at.0) (rest_whole (t.write v)), at.1))
+
+-- a store in the least register that is left goes on with the announcement
+pub announced_next :
+    (t : QuorumTable) → IsQuorumTable t → (v input left r : ℕ) (made : List Act) → v < t.values
+    → IsChecking t v (Announce input left) made → IsLeast left r
+    → (r + 1 ≤ t.registers) × (Store (Quorum r) 1 ∷ made ≡ stores_below (r + 1) (t.write v))
+announced_next t q v input left r made within at least =
+    let bound = at.1.0 in
+    let from = rest_least (t.write v) bound left r at.1.2 least in
+    let below : r < t.registers = member_below t.registers (t.write v) r (q.write_within v within) from.member in
+    (omega arith, ap (λ xs. Store (Quorum r) 1 ∷ xs) at.1.3 ∙ sym (each_next (λ k. Store (Quorum k) 1) (t.write v) bound r from))
+
+-- and that register is no longer left
+pub announced_more :
+    (t : QuorumTable) → IsQuorumTable t → (v input left r after : ℕ) (made : List Act) (op : Op) (seen : ℕ)
+    → v < t.values → IsChecking t v (Announce input left) made → IsCheckOp t (Announce input left) op → left ≢ 0
+    → IsLeast left r → IsTaken left r after → IsChecking t v (Announce input after) (act_of op seen ∷ made)
+announced_more t q v input left r after made op seen within at is some least taken =
+    elim (announce_op t input left op is) [
+      | inl x ↦ (rw (x.1) (more (one_least left x.0 r x.2 least)))
+      | inr x ↦ absurd (some x.1)
+    ]
+  where
+    more : {x : ℕ} → x ≡ r → IsChecking t v (Announce input after) (Store (Quorum x) 1 ∷ made)
+    more {x} same =
+        let next = announced_next t q v input left r made within at least in
+        let stored : Store (Quorum x) 1 ∷ made ≡ stores_below (r + 1) (t.write v) =
+        ap (λ n. Store (Quorum n) 1 ∷ made) same ∙ next.1 in
+        (at.0, (r + 1, next.0, rest_taken (t.write v) at.1.0 left r after at.1.2 least taken, stored))
+
+-- where nothing is left, the whole quorum was stored, and the proposal is loaded
+pub announced_whole :
+    (t : QuorumTable) (v input left : ℕ) (made : List Act) (op : Op) (seen : ℕ)
+    → IsChecking t v (Announce input left) made → IsCheckOp t (Announce input left) op → left ≡ 0
+    → CanFind t (InRatifier (Announce input left)) op seen
+    → (act_of op seen ∷ made ≡ Load Proposal seen ∷ announced t v) × (seen ≤ t.values)
+announced_whole t v input left made op seen at is none can =
+    elim (announce_op t input left op is) [
+      | inl x ↦ absurd (none_empty left x.0 none x.2.member)
+      | inr x ↦ (let found = rw (x.0) at can in (rw (x.0) whole, found))
+    ]
+  where
+    whole : Load Proposal seen ∷ made ≡ Load Proposal seen ∷ announced t v
+    whole =
+        let bound = at.1.0 in
+        let free = rest_none (t.write v) bound left at.1.2 none in
+        let all = each_skip (λ k. Store (Quorum k) 1) t.registers (t.write v) bound at.1.1 (λ k above below m. free k above m) in
+        let before : made ≡ stores_below bound (t.write v) = at.1.3 in
+        cc
+
+-- ---- the preference
+-- a store of the input in an empty proposal
+pub prefers_own :
+    (t : QuorumTable) (v input : ℕ) (made : List Act) (op : Op) (seen : ℕ) → IsChecking t v (Propose input) made
+    → IsCheckOp t (Propose input) op → ReadsClear t v input 0 (act_of op seen ∷ made)
+prefers_own t v input made op seen at is =
+    rw (propose_op t input op is)
+    (let same : input ≡ v = at.0 in
+    let before : made ≡ Load Proposal 0 ∷ announced t v = at.1 in
+    (Store Proposal (input + 1) ∷ made, inl (same, cc), refl))
+
+-- a load of the value u from the proposal
+pub prefers_found :
+    (t : QuorumTable) (v u seen : ℕ) → seen ≡ u + 1 → ReadsClear t v u 0 (Load Proposal seen ∷ announced t v)
+prefers_found t v u seen e =
+    (Load Proposal seen ∷ announced t v, inr (ap (λ n. Load Proposal n ∷ announced t v) e), refl)
+
+-- ---- checking
+-- a load of 0 from the least register that is left goes on with the check
+pub checked_next :
+    (t : QuorumTable) → IsQuorumTable t → (v u left r : ℕ) (made : List Act) → u < t.values
+    → IsChecking t v (Check u left) made → IsLeast left r
+    → (r + 1 ≤ t.registers) × ReadsClear t v u (r + 1) (Load (Quorum r) 0 ∷ made)
+checked_next t q v u left r made within at least =
+    let from = rest_least (t.read u) at.0 left r at.2 least in
+    let below : r < t.registers = member_below t.registers (t.read u) r (q.read_within u within) from.member in
+    let next = each_next (λ k. Load (Quorum k) 0) (t.read u) at.0 r from in
+    let before : made ≡ zeros_below at.0 (t.read u) ++ at.3.0 = at.3.2 in
+    (omega arith, (at.3.0, at.3.1, rw next (cc)))
+
+-- and that register is no longer left
+pub checked_zero :
+    (t : QuorumTable) → IsQuorumTable t → (v u left r after : ℕ) (made : List Act) (op : Op) (seen : ℕ) → u < t.values
+    → IsChecking t v (Check u left) made → IsCheckOp t (Check u left) op → seen ≡ 0 → IsLeast left r
+    → IsTaken left r after
+    → (r + 1 ≤ t.registers) × IsRest (t.read u) (r + 1) after × ReadsClear t v u (r + 1) (act_of op seen ∷ made)
+checked_zero t q v u left r after made op seen within at is zero_seen least taken =
+    let x = check_op t u left op is in
+    let same : x.0 ≡ r = one_least left x.0 r x.2 least in
+    let act : act_of op seen ≡ Load (Quorum r) 0 =
+    ap (λ o. act_of o seen) x.1 ∙ ap₂ (λ s n. Load (Quorum s) n) same zero_seen in
+    let next = checked_next t q v u left r made within at least in
+    (next.0, rest_taken (t.read u) at.0 left r after at.2 least taken, subst (λ a. ReadsClear t v u (r + 1) (a ∷ made)) (sym act) next.1)
+
+-- a load of 1 ends the path
+pub checked_one :
+    (t : QuorumTable) → IsQuorumTable t → (v u left : ℕ) (made : List Act) (op : Op) (seen : ℕ) → u < t.values
+    → IsChecking t v (Check u left) made → IsCheckOp t (Check u left) op
+    → CanFind t (InRatifier (Check u left)) op seen → seen ≢ 0 → ReadsOne t v u (act_of op seen ∷ made)
+checked_one t q v u left made op seen within at is can some =
+    let x = check_op t u left op is in
+    let small : seen ≤ 1 = rw (x.1) at can in
+    let from = rest_least (t.read u) at.0 left x.0 at.2 x.2 in
+    let below : x.0 < t.registers = member_below t.registers (t.read u) x.0 (q.read_within u within) from.member in
+    let one : seen ≡ 1 = omega arith in
+    let same = each_skip (λ k. Load (Quorum k) 0) x.0 (t.read u) at.0 from.above from.least in
+    (x.0, ap (λ o. act_of o seen) x.1 ∙ ap (λ n. Load (Quorum x.0) n) one, from.member, below, (at.3.0, at.3.1, at.3.2 ∙ ap (λ xs. xs ++ at.3.0) (sym same)))
+
+-- where nothing is left, the whole read quorum was 0
+pub checked_whole :
+    (t : QuorumTable) (v u bound left : ℕ) (made : List Act) → bound ≤ t.registers → IsRest (t.read u) bound left
+    → left ≡ 0 → ReadsClear t v u bound made → ReadsClear t v u t.registers made
+checked_whole t v u bound left made within rest none h =
+    let free = rest_none (t.read u) bound left rest none in
+    let all = each_skip (λ k. Load (Quorum k) 0) t.registers (t.read u) bound within (λ k above below m. free k above m) in
+    (h.0, h.1, h.2 ∙ ap (λ xs. xs ++ h.0) (sym all))

@@ -1,0 +1,107 @@
+-- What a process does on its path through a conciliator.
+use Rattle.std.proofs.Common.{◌≡◌, ℕ, zero, suc, ◌+◌, ◌≤◌, List, [], ◌∷◌, ◌++◌, length, inl, inr, sym, refl, ap, ◌∙◌, subst, arith}
+use Rattle.mb_deciding.specs.declared.access.Reg.TheVariants.{Value, Proposal, Quorum}
+use Rattle.mb_deciding.specs.declared.access.Act.{Act}
+use Rattle.mb_deciding.specs.declared.access.Act.TheVariants.{Load, Store}
+use Rattle.mb_deciding.specs.declared.access.Turn.{Turn}
+use Rattle.mb_deciding.specs.Conciliator.{IsMissing, IsDrawn, IsPut, IsConciliatorPath}
+
+-- before its end a process with input v loads 0 or stores v
+abbrev IsBefore : ℕ → Act → Type 0
+IsBefore v (Load reg x) = x ≡ 0
+IsBefore v (Store Value w) = w ≡ v + 1
+IsBefore v (Store Proposal w) = ⊥
+IsBefore v (Store (Quorum r) w) = ⊥
+
+-- each of the turns is such
+abbrev AreBefore : ℕ → List Turn → Type 0
+AreBefore v [] = Unit {0}
+AreBefore v (x ∷ older) = IsBefore v x.act × AreBefore v older
+
+-- the turns whose words did not store
+missing_before : (s v k : ℕ) (turns : List Turn) → IsMissing s k turns → AreBefore v turns × (length turns ≡ k)
+missing_before s v zero [] h = (tt, refl)
+missing_before s v zero (x ∷ older) h = absurd h
+missing_before s v (suc k) [] h = absurd h
+missing_before s v (suc k) (x ∷ older) h =
+    let deeper = missing_before s v k older h.2 in
+    ((subst (λ act. IsBefore v act) (sym h.0) refl, deeper.0), ap suc deeper.1)
+
+-- and the turn whose word stores
+found_before : (s v k : ℕ) (turns : List Turn) → IsDrawn s k turns → AreBefore v turns × (length turns ≡ suc k)
+found_before s v k [] h = absurd h
+found_before s v k (x ∷ older) h =
+    let deeper = missing_before s v k older h.2 in
+    ((subst (λ act. IsBefore v act) (sym h.0) refl, deeper.0), ap suc deeper.1)
+
+-- and the store
+put_before : (s v k : ℕ) (turns : List Turn) → IsPut s v k turns → AreBefore v turns × (length turns ≡ suc (suc k))
+put_before s v k [] h = absurd h
+put_before s v k (x ∷ older) h =
+    let deeper = found_before s v k older h.1 in
+    ((subst (λ act. IsBefore v act) (sym h.0) refl, deeper.0), ap suc deeper.1)
+
+-- the turns behind the last load of a path
+behind_last :
+    (s v : ℕ) (x : Turn) (older : List Turn) (u : ℕ) → IsConciliatorPath s v (x ∷ older) u
+    → AreBefore v older × (length older ≤ s + 2)
+behind_last s v x older u h =
+    let within : h.1.0 ≤ s = h.1.1 in
+    elim h.1.2 [
+      | inl w ↦ (let m = missing_before s v h.1.0 older w in (m.0, omega (arith, m.1)))
+      | inr w ↦ (let m = put_before s v h.1.0 older w in (m.0, omega (arith, m.1)))
+    ]
+
+-- a path has at most so many turns
+pub path_length : (s v : ℕ) (turns : List Turn) (u : ℕ) → IsConciliatorPath s v turns u → length turns ≤ s + 3
+path_length s v [] u h = absurd h
+path_length s v (x ∷ older) u h = omega (arith, (behind_last s v x older u h).1)
+
+-- an earlier part of a list
+suffix_before : (v : ℕ) (later turns : List Turn) → AreBefore v (later ++ turns) → AreBefore v turns
+suffix_before v [] turns h = h
+suffix_before v (x ∷ later) turns h = suffix_before v later turns h.1
+
+-- a load has one value
+same_load : (u w : ℕ) → Load Value (u + 1) ≡ Load Value (w + 1) → u ≡ w
+same_load u w e = let n : u + 1 ≡ w + 1 = cc in omega arith
+
+-- a path has no longer path, and one value
+pub path_ends :
+    (s v : ℕ) (turns later : List Turn) (u w : ℕ) → IsConciliatorPath s v turns u
+    → IsConciliatorPath s v (later ++ turns) w → (later ≡ []) × (u ≡ w)
+path_ends s v [] later u w h k = absurd h
+path_ends s v (x ∷ older) [] u w h k = (refl, same_load u w (sym h.0 ∙ k.0))
+path_ends s v (x ∷ older) (y ∷ later) u w h k =
+    let before = suffix_before v later (x ∷ older) (behind_last s v y (later ++ x ∷ older) w k).0 in
+    let none : u + 1 ≡ 0 = subst (λ act. IsBefore v act) h.0 before.0 in
+    absurd (omega arith)
+
+-- a path ends with the load of its value
+pub path_last :
+    (s v : ℕ) (turns : List Turn) (u : ℕ) → IsConciliatorPath s v turns u
+    → (last : Turn) × (rest : List Turn) × (last.act ≡ Load Value (u + 1)) × (turns ≡ last ∷ rest)
+path_last s v [] u h = absurd h
+path_last s v (x ∷ older) u h = (x, older, h.0, refl)
+
+-- if it is a store, it stores v in the word of a conciliator
+abbrev pub StoresInput : ℕ → Act → Type 0
+StoresInput v (Load reg x) = Unit {0}
+StoresInput v (Store Value w) = w ≡ v + 1
+StoresInput v (Store Proposal w) = ⊥
+StoresInput v (Store (Quorum r) w) = ⊥
+
+-- so does each act before the end
+before_stores : (v : ℕ) (act : Act) → IsBefore v act → StoresInput v act
+before_stores v (Load reg x) h = tt
+before_stores v (Store Value w) h = h
+before_stores v (Store Proposal w) h = h
+before_stores v (Store (Quorum r) w) h = h
+
+-- and each act of a path
+pub path_stores :
+    (s v : ℕ) (x : Turn) (older later : List Turn) (u : ℕ) → IsConciliatorPath s v (later ++ x ∷ older) u
+    → StoresInput v x.act
+path_stores s v x older [] u h = subst (λ act. StoresInput v act) (sym h.0) tt
+path_stores s v x older (y ∷ later) u h =
+    before_stores v x.act (suffix_before v later (x ∷ older) (behind_last s v y (later ++ x ∷ older) u h).0).0

@@ -1,0 +1,177 @@
+-- What holds of every lawful history of one conciliator.
+use Rattle.std.proofs.Common.{◌≡◌, ◌≢◌, ℕ, ◌+◌, ◌-◌, ◌<◌, ◌≤◌, ◌⊎◌, List, [], ◌∷◌, inl, inr, sym, refl, ap, ◌∙◌, subst, arith}
+use Rattle.std.specs.List.{cons_option}
+use Rattle.std.proofs.lemmas.Bool.{cases_eq}
+use Rattle.mb_quorum.specs.Quorum.{QuorumTable}
+use Rattle.mb_deciding.specs.declared.access.Reg.{Reg}
+use Rattle.mb_deciding.specs.declared.access.Reg.TheVariants.{Value, Proposal, Quorum}
+use Rattle.mb_deciding.specs.declared.access.Act.{Act}
+use Rattle.mb_deciding.specs.declared.access.Act.TheVariants.{Load, Store}
+use Rattle.mb_deciding.specs.declared.access.Turn.{Turn}
+use Rattle.mb_deciding.specs.declared.access.Access.{Access}
+use Rattle.mb_deciding.specs.declared.object.Kind.TheVariants.{Conciliator}
+use Rattle.mb_deciding.specs.History.{value_after, value_in, ReadsLast, turns_of}
+use Rattle.mb_deciding.specs.Conciliator.{IsPut}
+use Rattle.mb_deciding.specs.Objects.{IsPart, IsObjectLawful, CanHold}
+use Rattle.mb_deciding.specs.Deciding.{IsValid, IsFirstMover, stored_by, stores_in}
+use Rattle.mb_deciding.proofs.Histories.{lawful_older, own_turns, own_some, some_kept, since_newest}
+use Rattle.mb_deciding.proofs.ConciliatorPaths.{StoresInput, path_stores, path_last}
+
+-- the value is in the list
+abbrev IsAmong : List ℕ → ℕ → Type 0
+IsAmong [] n = ⊥
+IsAmong (x ∷ xs) n = (n ≡ x) ⊎ IsAmong xs n
+
+-- ---- one act
+-- a value in the word was there before, or is the input
+act_value :
+    (v u : ℕ) (act : Act) (n : ℕ) → StoresInput v act → value_after Value act n ≡ u + 1 → (n ≡ u + 1) ⊎ (v ≡ u)
+act_value v u (Load at x) n b e = inl e
+act_value v u (Store Value w) n b e = let same : w ≡ v + 1 = b in inr (omega arith)
+act_value v u (Store Proposal w) n b e = inl e
+act_value v u (Store (Quorum r) w) n b e = inl e
+
+-- a value in the word was there before, or was stored
+act_stored :
+    (v u : ℕ) (act : Act) (n : ℕ) (stored : List ℕ) → StoresInput v act → (n ≡ u + 1 → IsAmong stored (u + 1))
+    → value_after Value act n ≡ u + 1 → IsAmong (cons_option (stored_by act) stored) (u + 1)
+act_stored v u (Load at x) n stored b f e = f e
+act_stored v u (Store Value w) n stored b f e = inl (sym e)
+act_stored v u (Store Proposal w) n stored b f e = absurd b
+act_stored v u (Store (Quorum r) w) n stored b f e = absurd b
+
+-- what was stored stays among the stores
+among_kept : (act : Act) (n : ℕ) (stored : List ℕ) → IsAmong stored n → IsAmong (cons_option (stored_by act) stored) n
+among_kept (Load reg x) n stored h = h
+among_kept (Store reg w) n stored h = inr h
+
+-- a word that is not empty stays so
+filled_after : (v : ℕ) (act : Act) (n : ℕ) → StoresInput v act → 0 < n → 0 < value_after Value act n
+filled_after v (Load reg x) n b e = e
+filled_after v (Store Value w) n b e = let k : w ≡ v + 1 = b in omega arith
+filled_after v (Store Proposal w) n b e = absurd b
+filled_after v (Store (Quorum r) w) n b e = absurd b
+
+-- a proposal stays empty
+proposal_kept : (v : ℕ) (act : Act) (n : ℕ) → StoresInput v act → n ≡ 0 → value_after Proposal act n ≡ 0
+proposal_kept v (Load at x) n b e = e
+proposal_kept v (Store Value w) n b e = e
+proposal_kept v (Store Proposal w) n b e = absurd b
+proposal_kept v (Store (Quorum r) w) n b e = absurd b
+
+-- and so do quorum registers
+register_kept : (v r : ℕ) (act : Act) (n : ℕ) → StoresInput v act → n ≡ 0 → value_after (Quorum r) act n ≡ 0
+register_kept v r (Load at x) n b e = e
+register_kept v r (Store Value w) n b e = e
+register_kept v r (Store Proposal w) n b e = absurd b
+register_kept v r (Store (Quorum i) w) n b e = absurd b
+
+-- ---- histories
+module _ (t : QuorumTable) (s : ℕ) (inputs : ℕ → ℕ) where
+  -- the history is lawful for this conciliator
+  abbrev L : List Access → Type 0
+  L h = IsObjectLawful t (Conciliator s) inputs h
+
+  -- the newest access stores the input of its process, if it stores
+  newest_stores : (a : Access) (h : List Access) → L (a ∷ h) → StoresInput (inputs a.process) a.turn.act
+  newest_stores a h l =
+      let p = subst (λ xs. IsPart t (Conciliator s) (inputs a.process) xs) (own_turns a h) (l.parts a.process (own_some a h)).1 in
+      path_stores s (inputs a.process) a.turn (turns_of a.process h) p.0 p.1.value p.2.1
+
+  -- the value is the input of a process with a turn
+  abbrev IsFrom : List Access → ℕ → Type 0
+  IsFrom h u = (b : ℕ) × (turns_of b h ≢ []) × (inputs b ≡ u)
+
+  -- it is in a longer history too
+  from_kept : (a : Access) (h : List Access) (u : ℕ) → IsFrom h u → IsFrom (a ∷ h) u
+  from_kept a h u f = (f.0, some_kept f.0 a h f.1, f.2)
+
+  -- a value in the word is the input of a process with a turn
+  value_from : (h : List Access) → L h → (u : ℕ) → value_in Value h ≡ u + 1 → IsFrom h u
+  value_from [] l u e = absurd (omega arith)
+  value_from (a ∷ h) l u e =
+      elim (act_value (inputs a.process) u a.turn.act (value_in Value h) (newest_stores a h l) e) [
+        | inl k ↦ from_kept a h u (value_from h (lawful_older t (Conciliator s) inputs a h l) u k)
+        | inr k ↦ (a.process, own_some a h, k)
+      ]
+
+  -- and it was stored
+  value_stored : (h : List Access) → L h → (u : ℕ) → value_in Value h ≡ u + 1 → IsAmong (stores_in h) (u + 1)
+  value_stored [] l u e = absurd (omega arith)
+  value_stored (a ∷ h) l u e =
+      act_stored (inputs a.process) u a.turn.act (value_in Value h) (stores_in h) (newest_stores a h l)
+      (value_stored h (lawful_older t (Conciliator s) inputs a h l) u) e
+
+  -- a load that is the newest access has the value that the older ones left
+  newest_load :
+      (a : Access) (h : List Access) → L (a ∷ h) → (last : Turn) (u : ℕ) → last.act ≡ Load Value (u + 1)
+      → a.turn ≡ last → value_in Value h ≡ u + 1
+  newest_load a h l last u e same = sym (subst (λ act. ReadsLast act h) (ap (λ x. x.act) same ∙ e) l.memory.0)
+
+  -- validity
+  pub valid : (h : List Access) → L h → IsValid t (Conciliator s) inputs h
+  valid h l p d u o =
+      let end = path_last s (inputs p) (turns_of p h) u o.1 in
+      since_newest t (Conciliator s) inputs (λ g. IsFrom g u) end.0
+      (λ a g k same. from_kept a g u (value_from g (lawful_older t (Conciliator s) inputs a g k) u (newest_load a g k end.0 u end.2 same)))
+      (λ a g k f. from_kept a g u f)
+      h l p end.1 end.3
+
+  -- an output was stored
+  output_stored :
+      (h : List Access) → L h → (p u : ℕ) (last : Turn) (rest : List Turn) → last.act ≡ Load Value (u + 1)
+      → turns_of p h ≡ last ∷ rest → IsAmong (stores_in h) (u + 1)
+  output_stored h l p u last rest e is =
+      since_newest t (Conciliator s) inputs (λ g. IsAmong (stores_in g) (u + 1)) last
+      (λ a g k same. among_kept a.turn.act (u + 1) (stores_in g) (value_stored g (lawful_older t (Conciliator s) inputs a g k) u (newest_load a g k last u e same)))
+      (λ a g k f. among_kept a.turn.act (u + 1) (stores_in g) f)
+      h l p rest is
+
+  -- where one store was made, every output is its value
+  pub first_movers : (h : List Access) → L h → IsFirstMover t s inputs h
+  first_movers h l w only p d u o =
+      let end = path_last s (inputs p) (turns_of p h) u o.1 in
+      elim (subst (λ xs. IsAmong xs (u + 1)) only (output_stored h l p u end.0 end.1 end.2 end.3)) [ inl e ↦ sym e | inr none ↦ absurd none ]
+
+  -- who has stored left the word filled, and so it stays
+  pub put_filled :
+      (h : List Access) → L h → (p k : ℕ) (turns : List Turn) → turns_of p h ≡ turns → IsPut s (inputs p) k turns
+      → 0 < value_in Value h
+  put_filled h l p k [] is put = absurd put
+  put_filled h l p k (x ∷ older) is put =
+      since_newest t (Conciliator s) inputs (λ g. 0 < value_in Value g) x
+      (λ a g b same. subst (λ act. 0 < value_after Value act (value_in Value g)) (sym (ap (λ y. y.act) same ∙ put.0)) (omega arith))
+      (λ a g b f. filled_after (inputs a.process) a.turn.act (value_in Value g) (newest_stores a g b) f)
+      h l p older is
+
+  -- the word holds 0, or one more than a value
+  pub value_small : (h : List Access) → L h → value_in Value h ≤ t.values
+  value_small h l =
+      elim (cases_eq (value_in Value h) 0) [
+        | inl e ↦ omega arith
+        | inr e ↦ (let n : ℕ = value_in Value h - 1 in
+            let is : value_in Value h ≡ n + 1 = omega arith in
+            let from = value_from h l n is in
+            let below : n < t.values = subst (λ w. w < t.values) from.2 (l.parts from.0 from.1).0 in
+            omega arith)
+      ]
+
+  -- a conciliator has no proposal
+  no_proposal : (h : List Access) → L h → value_in Proposal h ≡ 0
+  no_proposal [] l = refl
+  no_proposal (a ∷ h) l =
+      proposal_kept (inputs a.process) a.turn.act (value_in Proposal h) (newest_stores a h l)
+      (no_proposal h (lawful_older t (Conciliator s) inputs a h l))
+
+  -- and no quorum registers
+  no_register : (r : ℕ) (h : List Access) → L h → value_in (Quorum r) h ≡ 0
+  no_register r [] l = refl
+  no_register r (a ∷ h) l =
+      register_kept (inputs a.process) r a.turn.act (value_in (Quorum r) h) (newest_stores a h l)
+      (no_register r h (lawful_older t (Conciliator s) inputs a h l))
+
+  -- each word holds what it can
+  pub fits : (h : List Access) (reg : Reg) → L h → CanHold t reg (value_in reg h)
+  fits h Value l = value_small h l
+  fits h Proposal l = omega (arith, no_proposal h l)
+  fits h (Quorum r) l = omega (arith, no_register r h l)

@@ -1,0 +1,143 @@
+-- A whole path of a ratifier has one output.
+use Rattle.std.proofs.Common.{◌≡◌, ℕ, zero, suc, ◌+◌, ◌<◌, ◌==◌, cond, Bool, true, false, List, [], ◌∷◌, ◌++◌, ◌⊎◌, inl, inr, sym, refl, ap, ◌∙◌, subst, arith}
+use Rattle.std.specs.Int.{bit_at}
+use Rattle.mb_quorum.specs.Quorum.{QuorumTable}
+use Rattle.mb_deciding.specs.declared.access.Reg.TheVariants.{Value, Proposal, Quorum}
+use Rattle.mb_deciding.specs.declared.access.Act.{Act}
+use Rattle.mb_deciding.specs.declared.access.Act.TheVariants.{Load, Store}
+use Rattle.mb_deciding.specs.History.{Has}
+use Rattle.mb_deciding.specs.Ratifier.{each_below, stores_below, zeros_below, announced, Prefers, ReadsClear, ReadsOne, IsRatifierPath}
+use Rattle.mb_deciding.proofs.Grammar.{has_cond_cases, one_chosen}
+
+-- the values that the proposal gave, the newest first
+abbrev pub proposal_loads : List Act → List ℕ
+proposal_loads [] = []
+proposal_loads (Load Proposal x ∷ older) = x ∷ proposal_loads older
+proposal_loads (Load Value x ∷ older) = proposal_loads older
+proposal_loads (Load (Quorum r) x ∷ older) = proposal_loads older
+proposal_loads (Store reg w ∷ older) = proposal_loads older
+
+-- an act of a list that has an act for each register
+has_each_cases :
+    (act : ℕ → Act) (n mask : ℕ) (c : Act) → Has (each_below act n mask) c → (r : ℕ) × (r < n) × (c ≡ act r)
+has_each_cases act zero mask c h = absurd h
+has_each_cases act (suc n) mask c h =
+    elim (has_cond_cases (bit_at mask n == 1) (act n) (each_below act n mask) c h) [
+      | inl w ↦ (n, omega arith, w.1)
+      | inr w ↦ (let deeper = has_each_cases act n mask c w in (deeper.0, omega arith, deeper.2))
+    ]
+
+-- what is in two lists is in one of them
+has_append_cases : (xs ys : List Act) (c : Act) → Has (xs ++ ys) c → Has xs c ⊎ Has ys c
+has_append_cases [] ys c h = inr h
+has_append_cases (x ∷ xs) ys c (inl e) = inl (inl e)
+has_append_cases (x ∷ xs) ys c (inr h) = elim (has_append_cases xs ys c h) [ inl k ↦ inl (inr k) | inr k ↦ inr k ]
+
+-- the announcement has stores of registers alone
+stores_only : (n mask : ℕ) (c : Act) → Has (stores_below n mask) c → (r : ℕ) × (c ≡ Store (Quorum r) 1)
+stores_only n mask c h = let e = has_each_cases (λ k. Store (Quorum k) 1) n mask c h in (e.0, e.2)
+
+-- a preference has no load of a register
+prefers_no_load :
+    (t : QuorumTable) (v u r x : ℕ) (begin : List Act) → Prefers t v u begin → Has begin (Load (Quorum r) x) → ⊥
+prefers_no_load t v u r x begin (inl p) h = stores (subst (λ xs. Has xs (Load (Quorum r) x)) p.1 h)
+  where
+    stores : Has (Store Proposal (v + 1) ∷ Load Proposal 0 ∷ announced t v) (Load (Quorum r) x) → ⊥
+    stores (inl e) = cc
+    stores (inr (inl e)) = cc
+    stores (inr (inr k)) =
+        let other = stores_only t.registers (t.write v) (Load (Quorum r) x) k in
+        let e : Load (Quorum r) x ≡ Store (Quorum other.0) 1 = other.1 in cc
+prefers_no_load t v u r x begin (inr p) h = loads (subst (λ xs. Has xs (Load (Quorum r) x)) p h)
+  where
+    loads : Has (Load Proposal (u + 1) ∷ announced t v) (Load (Quorum r) x) → ⊥
+    loads (inl e) = cc
+    loads (inr k) =
+        let other = stores_only t.registers (t.write v) (Load (Quorum r) x) k in
+        let e : Load (Quorum r) x ≡ Store (Quorum other.0) 1 = other.1 in cc
+
+-- clear loads are below the bound, and are of 0
+pub clear_only :
+    (t : QuorumTable) (v u n r x : ℕ) (made : List Act) → ReadsClear t v u n made → Has made (Load (Quorum r) x)
+    → (r < n) × (x ≡ 0)
+clear_only t v u n r x made clear h =
+    elim (has_append_cases (zeros_below n (t.read u)) clear.0 (Load (Quorum r) x) (subst (λ xs. Has xs (Load (Quorum r) x)) clear.2 h)) [
+      | inl k ↦ (let e = has_each_cases (λ s. Load (Quorum s) 0) n (t.read u) (Load (Quorum r) x) k in
+          let same : r ≡ e.0 = register e.0 e.2 in
+          let below : e.0 < n = e.1 in
+          (omega arith, value e.0 e.2))
+      | inr k ↦ absurd (prefers_no_load t v u r x clear.0 clear.1 k)
+    ]
+  where
+    register : (s : ℕ) → Load (Quorum r) x ≡ Load (Quorum s) 0 → r ≡ s
+    register s e = cc
+
+    value : (s : ℕ) → Load (Quorum r) x ≡ Load (Quorum s) 0 → x ≡ 0
+    value s e = cc
+
+-- one more load of a register
+cond_loads :
+    (b : Bool) (r x : ℕ) (xs ys : List Act) → proposal_loads (xs ++ ys) ≡ proposal_loads ys
+    → proposal_loads (cond b (Load (Quorum r) x ∷ xs) xs ++ ys) ≡ proposal_loads ys
+cond_loads true r x xs ys h = h
+cond_loads false r x xs ys h = h
+
+-- loads of registers are none of the proposal
+pub zeros_loads : (n mask : ℕ) (ys : List Act) → proposal_loads (zeros_below n mask ++ ys) ≡ proposal_loads ys
+zeros_loads zero mask ys = refl
+zeros_loads (suc n) mask ys = cond_loads (bit_at mask n == 1) n 0 (zeros_below n mask) ys (zeros_loads n mask ys)
+
+-- the preference shows in the value that the proposal gave
+abbrev pub IsFrom : ℕ → ℕ → List ℕ → List ℕ → Type 0
+IsFrom v u loads rest = ((u ≡ v) × (loads ≡ 0 ∷ rest)) ⊎ (loads ≡ (u + 1) ∷ rest)
+
+-- where the preference was just made
+prefers_from :
+    (t : QuorumTable) (v u : ℕ) (begin : List Act) → Prefers t v u begin
+    → IsFrom v u (proposal_loads begin) (proposal_loads (announced t v))
+prefers_from t v u begin (inl p) = inl (p.0, ap proposal_loads p.1)
+prefers_from t v u begin (inr p) = inr (ap proposal_loads p)
+
+-- so there is one preference
+pub from_unique : (v u w : ℕ) (loads rest : List ℕ) → IsFrom v u loads rest → IsFrom v w loads rest → u ≡ w
+from_unique v u w loads rest (inl h) (inl k) = h.0 ∙ sym k.0
+from_unique v u w loads rest (inl h) (inr k) =
+    let e : 0 ≡ w + 1 = (let f : 0 ∷ rest ≡ (w + 1) ∷ rest = sym h.1 ∙ k in cc) in absurd (omega arith)
+from_unique v u w loads rest (inr h) (inl k) =
+    let e : 0 ≡ u + 1 = (let f : 0 ∷ rest ≡ (u + 1) ∷ rest = sym k.1 ∙ h in cc) in absurd (omega arith)
+from_unique v u w loads rest (inr h) (inr k) =
+    let e : u + 1 ≡ w + 1 = (let f : (u + 1) ∷ rest ≡ (w + 1) ∷ rest = sym h ∙ k in cc) in omega arith
+
+-- after clear loads
+pub clear_from :
+    (t : QuorumTable) (v u n : ℕ) (made : List Act) → ReadsClear t v u n made
+    → IsFrom v u (proposal_loads made) (proposal_loads (announced t v))
+clear_from t v u n made clear =
+    let e : proposal_loads made ≡ proposal_loads clear.0 = ap proposal_loads clear.2 ∙ zeros_loads n (t.read u) clear.0 in
+    subst (λ xs. IsFrom v u xs (proposal_loads (announced t v))) (sym e) (prefers_from t v u clear.0 clear.1)
+
+-- after a 1
+pub one_from :
+    (t : QuorumTable) (v u : ℕ) (made : List Act) → ReadsOne t v u made
+    → IsFrom v u (proposal_loads made) (proposal_loads (announced t v))
+one_from t v u [] h = absurd h
+one_from t v u (act ∷ older) h =
+    let e : proposal_loads (act ∷ older) ≡ proposal_loads older = ap (λ a. proposal_loads (a ∷ older)) h.1 in
+    subst (λ xs. IsFrom v u xs (proposal_loads (announced t v))) (sym e) (clear_from t v u h.0 older h.4)
+
+-- a whole path has one output
+pub same_output :
+    (t : QuorumTable) (v : ℕ) (made : List Act) (d e : Bool) (u w : ℕ) → IsRatifierPath t v made d u
+    → IsRatifierPath t v made e w → (d ≡ e) × (u ≡ w)
+same_output t v made true true u w h k =
+    (refl, from_unique v u w (proposal_loads made) (proposal_loads (announced t v)) (clear_from t v u t.registers made h) (clear_from t v w t.registers made k))
+same_output t v made true false u w h k =
+    let one = (one_chosen t v w made k).1 in
+    let none : ◌≡◌ {A = ℕ} 1 0 = (clear_only t v u t.registers one.0 1 made h one.2).1 in
+    absurd (omega arith)
+same_output t v made false true u w h k =
+    let one = (one_chosen t v u made h).1 in
+    let none : ◌≡◌ {A = ℕ} 1 0 = (clear_only t v w t.registers one.0 1 made k one.2).1 in
+    absurd (omega arith)
+same_output t v made false false u w h k =
+    (refl, from_unique v u w (proposal_loads made) (proposal_loads (announced t v)) (one_from t v u made h) (one_from t v w made k))

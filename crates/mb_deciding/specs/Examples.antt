@@ -1,0 +1,43 @@
+-- Small histories of process 0 alone, with the input 0: some are lawful, and some are not.
+use Rattle.std.specs.Prelude.{ℕ, List, [], ◌∷◌, map}
+use Rattle.mb_deciding.specs.declared.access.Reg.TheVariants.{Value, Proposal, Quorum}
+use Rattle.mb_deciding.specs.declared.access.Act.{Act}
+use Rattle.mb_deciding.specs.declared.access.Act.TheVariants.{Load, Store}
+use Rattle.mb_deciding.specs.declared.access.Turn.{Turn}
+use Rattle.mb_deciding.specs.declared.access.Access.{Access}
+
+-- every process has the input 0
+abbrev pub zero_for_all : ℕ → ℕ
+zero_for_all process = 0
+
+-- an act with this random word
+abbrev pub turn : ℕ → Act → Turn
+turn word act = record { act = act; word = word }
+
+-- the history of process 0 alone
+abbrev pub alone : List Turn → List Access
+alone turns = map (λ x. record { process = 0; turn = x }) turns
+
+-- a ratifier over the unary table of two values: register 0 is set, the proposal is empty and gets 1, register 1 is
+-- clear
+abbrev pub clear_run : List Turn
+clear_run =
+    turn 0 (Load (Quorum 1) 0) ∷ turn 0 (Store Proposal 1) ∷ turn 0 (Load Proposal 0) ∷ turn 0 (Store (Quorum 0) 1) ∷ []
+
+-- the proposal is loaded before the write quorum is set
+abbrev pub hasty_run : List Turn
+hasty_run = turn 0 (Load Proposal 0) ∷ []
+
+-- register 1 gives 1, which no process stored
+abbrev pub invented_run : List Turn
+invented_run =
+    turn 0 (Load (Quorum 1) 1) ∷ turn 0 (Store Proposal 1) ∷ turn 0 (Load Proposal 0) ∷ turn 0 (Store (Quorum 0) 1) ∷ []
+
+-- a conciliator with s = 2: the random word 3 stores on turn 2 and not before
+abbrev pub patient_run : List Turn
+patient_run =
+    turn 3 (Load Value 1) ∷ turn 3 (Store Value 1) ∷ turn 3 (Load Value 0) ∷ turn 3 (Load Value 0) ∷ turn 3 (Load Value 0) ∷ []
+
+-- it stores on turn 0
+abbrev pub impatient_run : List Turn
+impatient_run = turn 3 (Store Value 1) ∷ turn 3 (Load Value 0) ∷ []

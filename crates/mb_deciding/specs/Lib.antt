@@ -1,0 +1,13 @@
+pub mod History
+pub mod Conciliator
+pub mod Ratifier
+pub mod Objects
+pub mod Deciding
+pub mod Place
+pub mod Trace
+pub mod Spread
+pub mod Refusals
+pub mod Examples
+pub mod Words
+pub mod Run
+pub mod Mirrored

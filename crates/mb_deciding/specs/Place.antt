@@ -1,0 +1,146 @@
+-- The place of one process in an object, what it has made so far, and what it does next.
+use Rattle.std.specs.Prelude.{◌≡◌, ◌≢◌, ℕ, ◌+◌, ◌<◌, ◌≤◌, ◌^◌, ◌↔◌, List, [], ◌∷◌}
+use Rattle.mb_quorum.specs.Quorum.{QuorumTable, IsMember}
+use Rattle.mb_deciding.specs.declared.access.Reg.{Reg}
+use Rattle.mb_deciding.specs.declared.access.Reg.TheVariants.{Value, Proposal, Quorum}
+use Rattle.mb_deciding.specs.declared.access.Act.{Act}
+use Rattle.mb_deciding.specs.declared.access.Act.TheVariants.{Load, Store}
+use Rattle.mb_deciding.specs.declared.access.Op.{Op}
+use Rattle.mb_deciding.specs.declared.access.Op.TheVariants.{Load as ToLoad, Store as ToStore}
+use Rattle.mb_deciding.specs.declared.access.Turn.{Turn}
+use Rattle.mb_deciding.specs.declared.access.Access.{Access}
+use Rattle.mb_deciding.specs.declared.object.Kind.{Kind}
+use Rattle.mb_deciding.specs.declared.object.Kind.TheVariants.{Conciliator, Ratifier}
+use Rattle.mb_deciding.specs.declared.place.Pc.{Pc}
+use Rattle.mb_deciding.specs.declared.place.Pc.TheVariants.{InRatifier, InConciliator}
+use Rattle.mb_deciding.specs.declared.checking.Checking.{Checking}
+use Rattle.mb_deciding.specs.declared.checking.Checking.TheVariants.{Begin, Announce, Propose, Check}
+use Rattle.mb_deciding.specs.declared.drawing.Drawing.{Drawing}
+use Rattle.mb_deciding.specs.declared.drawing.Drawing.TheVariants.{Draw, Put, Look}
+use Rattle.mb_deciding.specs.declared.place.Next.{Next}
+use Rattle.mb_deciding.specs.declared.place.Next.TheVariants.{Go, Out}
+use Rattle.mb_deciding.specs.History.{value_in, acts}
+use Rattle.mb_deciding.specs.Ratifier.{stores_below, announced, ReadsClear}
+use Rattle.mb_deciding.specs.Conciliator.{IsMissing, IsDrawn, IsPut}
+use Rattle.mb_deciding.specs.Objects.{IsPath}
+
+-- r is the least register of the quorum
+pub record IsLeast (mask r : ℕ) : Type 0 where
+  pub member : IsMember mask r
+  pub least : (k : ℕ) → k < r → IsMember mask k → ⊥
+
+-- `left` is what the quorum has at and above the bound
+abbrev pub IsRest : ℕ → ℕ → ℕ → Type 0
+IsRest mask bound left = (k : ℕ) → IsMember left k ↔ ((bound ≤ k) × IsMember mask k)
+
+-- the place in a ratifier fits the table
+abbrev pub IsCheckPlace : QuorumTable → Checking → Type 0
+IsCheckPlace t (Begin input) = input < t.values
+IsCheckPlace t (Announce input left) = input < t.values
+IsCheckPlace t (Propose input) = input < t.values
+IsCheckPlace t (Check preference left) = (preference < t.values) × (left ≢ 0)
+
+-- `limit` is 2 ^ k and `modulus` is 2 ^ s
+abbrev pub HasLimits : ℕ → ℕ → ℕ → ℕ → Type 0
+HasLimits s k limit modulus = (k ≤ s) × (limit ≡ 2 ^ k) × (modulus ≡ 2 ^ s)
+
+-- the place in a conciliator fits the number of values
+abbrev pub IsDrawPlace : QuorumTable → Drawing → Type 0
+IsDrawPlace t (Draw input limit modulus) = (input < t.values) × ((s k : ℕ) × (s ≤ 63) × HasLimits s k limit modulus)
+IsDrawPlace t (Put input) = input < t.values
+IsDrawPlace t (Look input) = input < t.values
+
+-- the place fits the table
+abbrev pub IsPlace : QuorumTable → Pc → Type 0
+IsPlace t (InRatifier place) = IsCheckPlace t place
+IsPlace t (InConciliator place) = IsDrawPlace t place
+
+-- a process with input v that has made these acts on a ratifier is at the place
+abbrev pub IsChecking : QuorumTable → ℕ → Checking → List Act → Type 0
+IsChecking t v (Begin input) made = (input ≡ v) × (made ≡ [])
+IsChecking t v (Announce input left) made =
+    (input ≡ v)
+    × ((bound : ℕ) × (bound ≤ t.registers) × IsRest (t.write v) bound left × (made ≡ stores_below bound (t.write v)))
+IsChecking t v (Propose input) made = (input ≡ v) × (made ≡ Load Proposal 0 ∷ announced t v)
+IsChecking t v (Check preference left) made =
+    (bound : ℕ) × (bound ≤ t.registers) × IsRest (t.read preference) bound left × ReadsClear t v preference bound made
+
+-- a process with input v that has made these turns on a conciliator is at the place
+abbrev pub IsDrawing : ℕ → ℕ → Drawing → List Turn → Type 0
+IsDrawing s v (Draw input limit modulus) made =
+    (input ≡ v) × ((k : ℕ) × HasLimits s k limit modulus × IsMissing s k made)
+IsDrawing s v (Put input) made = (input ≡ v) × ((k : ℕ) × (k ≤ s) × IsDrawn s k made)
+IsDrawing s v (Look input) made = (input ≡ v) × ((k : ℕ) × (k ≤ s) × IsPut s v k made)
+
+-- a process with input v on an object of this kind, which has made these turns, is at the place
+abbrev pub IsAt : QuorumTable → Kind → ℕ → Pc → List Turn → Type 0
+IsAt t Ratifier v (InRatifier place) turns = IsPlace t (InRatifier place) × IsChecking t v place (acts turns)
+IsAt t (Conciliator s) v (InConciliator place) turns = IsPlace t (InConciliator place) × IsDrawing s v place turns
+IsAt t Ratifier v (InConciliator place) turns = ⊥
+IsAt t (Conciliator s) v (InRatifier place) turns = ⊥
+
+-- the access that comes next in a ratifier
+abbrev pub IsCheckOp : QuorumTable → Checking → Op → Type 0
+IsCheckOp t (Begin input) (ToStore (Quorum r) value) = (value ≡ 1) × IsLeast (t.write input) r
+IsCheckOp t (Begin input) (ToLoad Proposal) = t.write input ≡ 0
+IsCheckOp t (Announce input left) (ToStore (Quorum r) value) = (value ≡ 1) × IsLeast left r
+IsCheckOp t (Announce input left) (ToLoad Proposal) = left ≡ 0
+IsCheckOp t (Propose input) (ToStore Proposal value) = value ≡ input + 1
+IsCheckOp t (Check preference left) (ToLoad (Quorum r)) = IsLeast left r
+IsCheckOp t place op = ⊥
+
+-- the access that comes next in a conciliator
+abbrev pub IsDrawOp : Drawing → Op → Type 0
+IsDrawOp (Draw input limit modulus) op = op ≡ ToLoad Value
+IsDrawOp (Put input) op = op ≡ ToStore Value (input + 1)
+IsDrawOp (Look input) op = op ≡ ToLoad Value
+
+-- the access that comes next
+abbrev pub IsOpAt : QuorumTable → Pc → Op → Type 0
+IsOpAt t (InRatifier place) op = IsCheckOp t place op
+IsOpAt t (InConciliator place) op = IsDrawOp place op
+
+-- the act, with the value that was loaded
+abbrev pub act_of : Op → ℕ → Act
+act_of (ToLoad reg) seen = Load reg seen
+act_of (ToStore reg value) seen = Store reg value
+
+-- the word that an op goes to
+abbrev pub reg_of : Op → Reg
+reg_of (ToLoad reg) = reg
+reg_of (ToStore reg value) = reg
+
+-- an object of this kind, with r quorum registers, has the word
+abbrev pub HasReg : ℕ → Kind → Reg → Type 0
+HasReg r (Conciliator s) Value = Unit {0}
+HasReg r Ratifier Proposal = Unit {0}
+HasReg r Ratifier (Quorum i) = i < r
+HasReg r _ _ = ⊥
+
+-- what the op of a process at the place may find: a load gives a value that the word can hold, and what was stored is
+-- not empty
+abbrev pub CanFind : QuorumTable → Pc → Op → ℕ → Type 0
+CanFind t (InRatifier place) (ToLoad Proposal) seen = seen ≤ t.values
+CanFind t (InRatifier place) (ToLoad (Quorum r)) seen = seen ≤ 1
+CanFind t (InConciliator (Draw input limit modulus)) op seen = seen ≤ t.values
+CanFind t (InConciliator (Look input)) op seen = (0 < seen) × (seen ≤ t.values)
+CanFind t pc op seen = Unit {0}
+
+-- a process with input v that has made these turns has come to the place, or to its output
+abbrev pub IsReached : QuorumTable → Kind → ℕ → Next → List Turn → Type 0
+IsReached t kind v (Go pc) turns = IsAt t kind v pc turns
+IsReached t kind v (Out out) turns = IsPath t kind v turns out
+
+-- a place that fits the table, or an output that is one of its values
+abbrev pub IsNext : QuorumTable → Next → Type 0
+IsNext t (Go pc) = IsPlace t pc
+IsNext t (Out out) = out.value < t.values
+
+-- the value that a history leaves in the word of a load
+abbrev pub seen_by : Op → List Access → ℕ
+seen_by (ToLoad reg) h = value_in reg h
+seen_by (ToStore reg value) h = 0
+
+-- the turn that an op makes after a history
+abbrev pub turn_after : Op → ℕ → List Access → Turn
+turn_after op word h = record { act = act_of op (seen_by op h); word = word }

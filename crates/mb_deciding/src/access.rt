@@ -1,0 +1,73 @@
+//! What a process does to the words of an object.
+
+/// A word of a deciding object.
+#[derive(Clone, Copy, PartialEq, Eq, Debug)]
+pub enum Reg {
+    /// A conciliator's word: 0 while it is empty, v + 1 for value v.
+    Value,
+    /// A ratifier's proposal: 0 while it is empty, v + 1 for value v.
+    Proposal,
+    /// A ratifier's quorum register: 0 or 1.
+    Quorum(u32),
+}
+
+/// An access that a process is about to make.
+#[derive(Clone, Copy, PartialEq, Eq, Debug)]
+pub enum Op {
+    /// Load the word.
+    Load(Reg),
+    /// Store this value in the word.
+    Store(Reg, u64),
+}
+
+/// An access that was made.
+#[derive(Clone, Copy, PartialEq, Eq, Debug)]
+pub enum Act {
+    /// The word was loaded and had this value.
+    Load { reg: Reg, value: u64 },
+    /// This value was stored in the word.
+    Store { reg: Reg, value: u64 },
+}
+
+/// A turn of one process: its act, and the random word of this turn.
+#[derive(Clone, Copy, PartialEq, Eq, Debug)]
+pub struct Turn {
+    /// What the process did.
+    pub act: Act,
+    /// The random word. It counts only where a conciliator's word is loaded and found empty, before the process has
+    /// stored there.
+    pub word: u64,
+}
+
+/// A turn in the history of one object, and the process that made it.
+#[derive(Clone, Copy, PartialEq, Eq, Debug)]
+pub struct Access {
+    /// The process that made it. Processes count from 0.
+    pub process: usize,
+    /// What it did.
+    pub turn: Turn,
+}
+
+impl Op {
+    ghost use Rattle.std.specs.Prelude.{◌≡◌};
+    ghost use Rattle.mb_deciding.specs.Place.{act_of, reg_of};
+
+    /// The word that it goes to.
+    pub fn reg(self) -> Reg
+        ensures { result ≡ reg_of self }
+    {
+        match self {
+            Op::Load(reg) | Op::Store(reg, _) => reg,
+        }
+    }
+
+    /// The access that was made, where a load found `seen`.
+    pub fn act(self, seen: u64) -> Act
+        ensures { result ≡ act_of self seen }
+    {
+        match self {
+            Op::Load(reg) => Act::Load { reg, value: seen },
+            Op::Store(reg, value) => Act::Store { reg, value },
+        }
+    }
+}

@@ -1,0 +1,60 @@
+//! Deciding objects: ratifiers and conciliators, from which processes that share only words to load and to store
+//! choose one of their inputs.
+//!
+//! # Deciding objects
+//!
+//! Each process hands an object an input once and gets an output (d, u) from it, where u is the input of some
+//! process and d says whether the object *decided*.
+//!
+//! A **ratifier** finds out whether all processes agree already. It has a proposal and some registers, all 0 at
+//! first, and a *quorum table* of [`mb_quorum`], which gives each value a write quorum and a read quorum of
+//! registers, so chosen that they share a register exactly when they are those of two values. A process sets the
+//! write quorum of its input: it announces it. Then it looks at the proposal. If that is empty, it proposes its
+//! input and prefers it, else it prefers what it finds there. At last it reads the read quorum of its preference. If
+//! all is unset, it has decided: a process with another input that comes later announces that first, so it finds the
+//! proposal and prefers the same; and one that came before would have left a register set. If a register is set,
+//! some process announced another value, and the output is undecided.
+//!
+//! A **conciliator** makes processes agree, with luck, and never decides. It has one word. A process loads it, again
+//! and again, and as soon as it finds a value there, that is its output. While it finds the word empty, it stores its
+//! input with a chance that doubles each time: it becomes impatient. So most often the first that stores is the only
+//! one, and then every output is its input. Chance comes as *random words* that the caller hands in, and all that is
+//! promised holds for all of them.
+//!
+//! A conciliator and then a ratifier, again and again, make consensus. The objects and their names are those of James
+//! Aspnes, "A modular approach to shared-memory consensus, with applications to the probabilistic-write model" (PODC
+//! 2010); the order of accesses and the numbers are this crate's own.
+//!
+//! # What is here
+//!
+//! - [`Pc`] is the place of one process in an object: [`Pc::next`] names the access that comes next and
+//!   [`Pc::after`] what it leads to. It holds no words, so it serves a simulation and threads alike.
+//! - [`ratify`] and [`conciliate`] run one object for a whole schedule of turns.
+//! - [`laws`] has what holds of every history of one object, whatever the order of the accesses and the random words:
+//!   validity, coherence, acceptance and more, as contracts of functions that do nothing.
+#![tactic(auto)]
+
+mod access;
+mod checking;
+mod conciliator;
+mod drawing;
+pub mod laws;
+mod mask;
+mod object;
+mod place;
+mod ratifier;
+mod run;
+mod schedule;
+#[cfg(test)]
+mod tests;
+mod trace;
+mod words;
+
+pub use access::{Access, Act, Op, Reg, Turn};
+pub use checking::Checking;
+pub use conciliator::{conciliate, spread};
+pub use drawing::Drawing;
+pub use object::{Kind, Out};
+pub use place::{Next, Pc};
+pub use ratifier::ratify;
+pub use trace::{Entry, Fault, Trace};

@@ -1,0 +1,50 @@
+//! One ratifier and a schedule.
+
+ghost use Rattle.std.specs.Prelude.{IfOk, slice_index};
+ghost use Rattle.mb_quorum.specs.Tables.{table_of};
+ghost use Rattle.mb_deciding.specs.declared.object.Kind.TheVariants.{Ratifier};
+ghost use Rattle.mb_deciding.specs.Deciding.{IsValid, IsCoherent, IsAccepted, IsContested};
+ghost use Rattle.mb_deciding.specs.Refusals.{IsRefused};
+ghost use Rattle.mb_deciding.specs.Trace.{IsTrace, history_of, plain};
+
+use crate::laws::{deciding, ratifying};
+use crate::object::Kind;
+use crate::schedule;
+use crate::trace::{Fault, Trace};
+use mb_quorum::{Table, TableName};
+use std::alloc::Allocator;
+
+/// Runs one ratifier for m values over the named table: process i has the input `inputs[i]`, and each number
+/// of the schedule is a turn of that process. A turn of a process that has its output makes no access.
+///
+/// It is refused for the first of these that holds: m is out of range; an input is not below m; a number of the
+/// schedule is no process; a growth was refused.
+pub fn ratify<A: Allocator + Copy + Drop>(
+    alloc: A,
+    name: TableName,
+    m: u64,
+    inputs: &[u64],
+    schedule: &[u64],
+) -> Result<Trace<A>, Fault>
+    ensures trace { IfOk result (λ trace. IsTrace (table_of name m) Ratifier inputs.now (plain schedule.now)
+        trace.entries.items trace.outputs.items) }
+
+    // What holds of the outputs, whatever the schedule.
+    ensures validity { IfOk result (λ trace. IsValid (table_of name m) Ratifier (slice_index inputs.now)
+        (history_of (plain schedule.now) trace.entries.items)) }
+    ensures coherence { IfOk result (λ trace. IsCoherent (table_of name m) Ratifier (slice_index inputs.now)
+        (history_of (plain schedule.now) trace.entries.items)) }
+    ensures acceptance { IfOk result (λ trace. IsAccepted (table_of name m) (slice_index inputs.now)
+        (history_of (plain schedule.now) trace.entries.items)) }
+    ensures contested { IfOk result (λ trace. IsContested (table_of name m) (slice_index inputs.now)
+        (history_of (plain schedule.now) trace.entries.items)) }
+    ensures refused { IsRefused m inputs.now schedule.now result }
+{
+    // The laws do nothing: their contracts give the clauses on the outputs.
+    deciding();
+    ratifying();
+    let Ok(table) = Table::new(name, m) else {
+        return Err(Fault::BadValues);
+    };
+    schedule::trace(alloc, &table, Kind::Ratifier, inputs, schedule)
+}

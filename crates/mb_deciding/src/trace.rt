@@ -1,0 +1,59 @@
+//! The turns of a schedule, as a caller sees them.
+use crate::access::Act;
+use crate::object::Out;
+use std::alloc::Allocator;
+use std::error::Error;
+use std::fmt;
+
+/// One turn of a schedule. Processes count from 0.
+#[derive(Clone, Copy, PartialEq, Eq, Debug)]
+pub enum Entry {
+    /// The process made an access; `out` is its output where this was its last one.
+    Access {
+        process: usize,
+        act: Act,
+        out: Option<Out>,
+    },
+    /// The process had its output before and made no access.
+    Done {
+        process: usize,
+    },
+}
+
+/// The turns of a schedule in order, and what each process has at the end.
+#[derive(Debug, Drop)]
+pub struct Trace<A: Allocator + Drop> {
+    /// One entry for each turn of the schedule, in its order.
+    pub entries: Vec<Entry, A>,
+    /// For each process its output, or none where it has not come to its end.
+    pub outputs: Vec<Option<Out>, A>,
+}
+
+/// Why there is no trace. Places count from 0.
+#[derive(Clone, Copy, PartialEq, Eq, Debug)]
+pub enum Fault {
+    /// The number of values is out of range.
+    BadValues,
+    /// The input at this place is not below the number of values; it is the first such.
+    BadInput(usize),
+    /// The schedule has at this place a process without an input; it is the first such.
+    NoSuchProcess(usize),
+    /// A growth was refused.
+    NoMemory,
+}
+
+impl fmt::Display for Fault {
+    fn fmt<W: fmt::Write>(&self, f: &mut fmt::Formatter<W>) -> fmt::Result {
+        match self {
+            Fault::BadValues => f.write_str("the number of values is out of range"),
+            Fault::BadInput(place) => write!(f, "input {place} is not below the number of values"),
+            Fault::NoSuchProcess(place) => write!(
+                f,
+                "turn {place} is of a process without an input"
+            ),
+            Fault::NoMemory => f.write_str("out of memory"),
+        }
+    }
+}
+
+impl Error for Fault {}

@@ -1,0 +1,73 @@
+//! The words of one object.
+use crate::access::{Op, Reg};
+
+/// The words of one object. A conciliator uses the first, a ratifier the others.
+#[derive(Clone, Copy, Debug)]
+pub struct Words {
+    value: u64,
+    proposal: u64,
+    quorum: [u64; 64],
+}
+
+impl Words {
+    ghost use Rattle.std.specs.Prelude.{◌≡◌, ◌<◌, ◌^◌, [], ◌∷◌, ℕ, List};
+    ghost use Rattle.mb_deciding.specs.declared.access.Reg.{Reg};
+    ghost use Rattle.mb_deciding.specs.declared.access.Act.TheVariants.{Store};
+    ghost use Rattle.mb_deciding.specs.declared.access.Access.{Access};
+    ghost use Rattle.mb_deciding.specs.History.{value_after, value_of};
+    ghost use Rattle.mb_deciding.specs.Place.{act_of, reg_of, seen_by};
+    ghost use Rattle.mb_deciding.specs.Words.{IsMemory, IsReg, word_of};
+
+    /// Words that hold nothing yet.
+    pub fn new() -> Words
+        ensures { IsMemory result [] }
+    {
+        Words {
+            value: 0,
+            proposal: 0,
+            quorum: [0; 64],
+        }
+    }
+
+    /// Makes the access, and answers the value that a load finds, or 0 after a store.
+    pub fn perform(&mut self, op: Op) -> u64
+        requires { IsReg (reg_of op) }
+        ensures memory { (h : List Access) → IsMemory self.old h
+            → (p w : ℕ)
+            → IsMemory self.new (record { process = p; turn = record { act = act_of op result; word = w } } ∷ h) }
+        ensures seen { (h : List Access) → IsMemory self.old h → result ≡ seen_by op h }
+        ensures small { value_of (act_of op result) < 2 ^ 64 }
+    {
+        match op {
+            Op::Load(reg) => self.load(reg),
+            Op::Store(reg, value) => {
+                self.store(reg, value);
+                0
+            }
+        }
+    }
+
+    /// What the word holds.
+    fn load(&self, reg: Reg) -> u64
+        requires { IsReg reg }
+        ensures { result ≡ word_of self.now reg }
+    {
+        match reg {
+            Reg::Value => self.value,
+            Reg::Proposal => self.proposal,
+            Reg::Quorum(r) => self.quorum[r as usize],
+        }
+    }
+
+    /// Stores the value in the word.
+    fn store(&mut self, reg: Reg, value: u64)
+        requires { IsReg reg }
+        ensures { (at : Reg) → IsReg at → word_of self.new at ≡ value_after at (Store reg value) (word_of self.old at) }
+    {
+        match reg {
+            Reg::Value => self.value = value,
+            Reg::Proposal => self.proposal = value,
+            Reg::Quorum(r) => self.quorum[r as usize] = value,
+        }
+    }
+}
