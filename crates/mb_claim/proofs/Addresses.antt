@@ -1,0 +1,121 @@
+-- Different places have different addresses.
+use Rattle.std.proofs.Common.{◌≡◌, ◌+◌, ◌*◌, ◌<◌, ◌≤◌, ◌⊎◌, ℕ, zero, suc, List, [], ◌∷◌, refl, sym, ap, subst, inl, inr, arith, mul-le-mul_right, suc-mul}
+use Rattle.std.proofs.lemmas.Bool.{cases_order}
+use Rattle.std.proofs.lemmas.Option.{none-some, same_Some}
+use Rattle.mb_deciding.specs.declared.access.Reg.{Reg}
+use Rattle.mb_deciding.specs.declared.object.Kind.{Kind}
+use Rattle.mb_deciding.specs.declared.access.Reg.TheVariants.{Value, Proposal, Quorum}
+use Rattle.mb_deciding.specs.declared.object.Kind.TheVariants.{Conciliator, Ratifier}
+use Rattle.mb_deciding.specs.Place.{HasReg}
+use Rattle.mb_claim.specs.Layouts.{width, offset, words_before, words_of, address_of, pairs_of, IsWordOf}
+
+-- a word lies within its object
+in_object : (r : ℕ) (k : Kind) (reg : Reg) → HasReg r k reg → offset reg < width r k
+in_object r (Conciliator s) Value h = omega arith
+in_object r (Conciliator s) Proposal h = absurd h
+in_object r (Conciliator s) (Quorum i) h = absurd h
+in_object r Ratifier Value h = absurd h
+in_object r Ratifier Proposal h = omega arith
+in_object r Ratifier (Quorum i) h = omega arith
+
+-- two words of an object lie in two places
+same_word : (r : ℕ) (k : Kind) (p q : Reg) → HasReg r k p → HasReg r k q → offset p ≡ offset q → p ≡ q
+same_word r (Conciliator s) Value Value h g e = refl
+same_word r (Conciliator s) Value Proposal h g e = absurd g
+same_word r (Conciliator s) Value (Quorum i) h g e = absurd g
+same_word r (Conciliator s) Proposal q h g e = absurd h
+same_word r (Conciliator s) (Quorum i) q h g e = absurd h
+same_word r Ratifier Proposal Proposal h g e = refl
+same_word r Ratifier Proposal (Quorum i) h g e = absurd (omega arith)
+same_word r Ratifier Proposal Value h g e = absurd g
+same_word r Ratifier (Quorum i) (Quorum j) h g e = ap Quorum (omega arith)
+same_word r Ratifier (Quorum i) Proposal h g e = absurd (omega arith)
+same_word r Ratifier (Quorum i) Value h g e = absurd g
+same_word r Ratifier Value q h g e = absurd h
+
+-- a word of the first object
+first_word : (r : ℕ) (k : Kind) (ks : List Kind) (reg : Reg) → IsWordOf r (k ∷ ks) 0 reg → HasReg r k reg
+first_word r k ks reg p = subst (λ j. HasReg r j reg) (sym (same_Some k p.0 p.1)) p.2
+
+-- a word lies within its cell
+in_cell :
+    (r : ℕ) (kinds : List Kind) (o : ℕ) (reg : Reg) → IsWordOf r kinds o reg
+    → words_before r kinds o + offset reg < words_of r kinds
+in_cell r [] o reg p = absurd (none-some p.0 p.1)
+in_cell r (k ∷ ks) zero reg p = let h = in_object r k reg (first_word r k ks reg p) in omega arith
+in_cell r (k ∷ ks) (suc o) reg p = let h = in_cell r ks o reg p in omega arith
+
+-- two words of a cell lie in two places
+apart :
+    (r : ℕ) (kinds : List Kind) (o n : ℕ) (p q : Reg) → IsWordOf r kinds o p → IsWordOf r kinds n q
+    → words_before r kinds o + offset p ≡ words_before r kinds n + offset q → (o ≡ n) × (p ≡ q)
+apart r [] o n p q a b e = absurd (none-some a.0 a.1)
+apart r (k ∷ ks) zero zero p q a b e =
+    (refl, same_word r k p q (first_word r k ks p a) (first_word r k ks q b) (omega arith))
+apart r (k ∷ ks) zero (suc n) p q a b e = let h = in_object r k p (first_word r k ks p a) in absurd (omega arith)
+apart r (k ∷ ks) (suc o) zero p q a b e = let h = in_object r k q (first_word r k ks q b) in absurd (omega arith)
+apart r (k ∷ ks) (suc o) (suc n) p q a b e = let h = apart r ks o n p q a b (omega arith) in (ap suc h.0, h.1)
+
+-- no place in a row is a place in a later row
+row_before : (w k n a b : ℕ) → k < n → a < w → k * w + a ≡ n * w + b → ⊥
+row_before w k n a b l h e =
+    let m : suc k * w ≤ n * w = mul-le-mul_right w l in
+    let s : suc k * w ≡ k * w + w = suc-mul k w in
+    omega arith
+
+-- the cells are one, or one comes before the other
+distinct_by :
+    (r : ℕ) (kinds : List Kind) (k n o m : ℕ) (p q : Reg) → IsWordOf r kinds o p → IsWordOf r kinds m q
+    → address_of r kinds k o p ≡ address_of r kinds n m q
+    → (k ≡ n) ⊎ ((k < n) ⊎ (n < k)) → (k ≡ n) × (o ≡ m) × (p ≡ q)
+distinct_by r kinds k n o m p q a b e (inl f) =
+    let g : k * words_of r kinds ≡ n * words_of r kinds = ap (λ x. x * words_of r kinds) f in
+    let h = apart r kinds o m p q a b (omega arith) in (f, h.0, h.1)
+distinct_by r kinds k n o m p q a b e (inr (inl l)) =
+    absurd (row_before (words_of r kinds) k n (words_before r kinds o + offset p)
+    (words_before r kinds m + offset q) l (in_cell r kinds o p a) e)
+distinct_by r kinds k n o m p q a b e (inr (inr l)) =
+    absurd (row_before (words_of r kinds) n k (words_before r kinds m + offset q)
+    (words_before r kinds o + offset p) l (in_cell r kinds m q b) (sym e))
+
+-- different words have different addresses
+pub distinct :
+    (r : ℕ) (kinds : List Kind) (k n o m : ℕ) (p q : Reg) → IsWordOf r kinds o p → IsWordOf r kinds m q
+    → address_of r kinds k o p ≡ address_of r kinds n m q → (k ≡ n) × (o ≡ m) × (p ≡ q)
+distinct r kinds k n o m p q a b e = distinct_by r kinds k n o m p q a b e (cases_order k n)
+
+-- the words of the first cells lie below their count
+pub within :
+    (r : ℕ) (kinds : List Kind) (cells k o : ℕ) (reg : Reg) → IsWordOf r kinds o reg → k < cells
+    → address_of r kinds k o reg < cells * words_of r kinds
+within r kinds cells k o reg p l =
+    let h = in_cell r kinds o reg p in
+    let m : suc k * words_of r kinds ≤ cells * words_of r kinds = mul-le-mul_right (words_of r kinds) l in
+    let s : suc k * words_of r kinds ≡ k * words_of r kinds + words_of r kinds = suc-mul k (words_of r kinds) in
+    omega arith
+
+-- ---- pairs
+-- a pair has the words of its two objects
+pub words_of-pairs_of : (r s n : ℕ) → words_of r (pairs_of s n) ≡ n * (2 + r)
+words_of-pairs_of r s zero = omega arith
+words_of-pairs_of r s (suc n) = let h = words_of-pairs_of r s n in omega arith
+
+-- the words before an object of a pair: those of the pairs before it, and before its second object that of the first
+pub words_before-pairs_of :
+    (r s n i j o : ℕ) → o ≡ 2 * i + j → j < 2 → i < n → words_before r (pairs_of s n) o ≡ i * (2 + r) + j
+words_before-pairs_of r s zero i j o e f h = absurd (omega arith)
+words_before-pairs_of r s (suc n) zero j zero e f h = omega arith
+words_before-pairs_of r s (suc n) (suc i) j zero e f h = absurd (omega arith)
+words_before-pairs_of r s (suc n) zero j (suc zero) e f h = omega arith
+words_before-pairs_of r s (suc n) (suc i) j (suc zero) e f h = absurd (omega arith)
+words_before-pairs_of r s (suc n) zero j (suc (suc o)) e f h = absurd (omega arith)
+words_before-pairs_of r s (suc n) (suc i) j (suc (suc o)) e f h =
+    let g = words_before-pairs_of r s n i j o (omega arith) f (omega arith) in omega arith
+
+-- where a word of a pair lies
+pub pair_address :
+    (r s n k i j : ℕ) (reg : Reg) → i < n → j < 2
+    → address_of r (pairs_of s n) k (2 * i + j) reg ≡ k * (n * (2 + r)) + i * (2 + r) + (j + offset reg)
+pair_address r s n k i j reg h f =
+    let row : k * words_of r (pairs_of s n) ≡ k * (n * (2 + r)) = ap (λ w. k * w) (words_of-pairs_of r s n) in
+    omega (arith, row, words_before-pairs_of r s n i j (2 * i + j) refl f h)

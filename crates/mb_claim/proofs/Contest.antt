@@ -1,0 +1,98 @@
+-- A claim is undecided only where each ratifier saw two values.
+use Rattle.std.proofs.Common.{◌≡◌, ◌≢◌, ◌+◌, ℕ, zero, suc, false, Some, List, [], ◌∷◌, refl, sym, ◌∙◌, ap, subst, inl, slice_get, arith}
+use Rattle.std.proofs.lemmas.Option.{none-some, same_Some}
+use Rattle.mb_quorum.specs.Quorum.{QuorumTable, IsMember}
+use Rattle.mb_deciding.specs.declared.access.Turn.{Turn}
+use Rattle.mb_deciding.specs.declared.access.Access.{Access}
+use Rattle.mb_deciding.specs.declared.access.Act.TheVariants.{Store}
+use Rattle.mb_deciding.specs.declared.object.Kind.{Kind}
+use Rattle.mb_deciding.specs.declared.access.Reg.TheVariants.{Quorum}
+use Rattle.mb_deciding.specs.declared.object.Kind.TheVariants.{Ratifier}
+use Rattle.mb_deciding.specs.History.{turns_of, acts, Has}
+use Rattle.mb_deciding.specs.Objects.{IsObjectLawful, HasOutput, IsAnnounced}
+use Rattle.mb_deciding.specs.Deciding.{IsDeciding, IsRatifying}
+use Rattle.mb_claim.specs.declared.access.Stage.TheVariants.{Undecided}
+use Rattle.mb_claim.specs.Paths.{Enters}
+use Rattle.mb_claim.proofs.Unique.{AreDeciding}
+use Rattle.mb_claim.proofs.Lists.{cons_nil}
+use Rattle.mb_claim.proofs.Family.{Family, step, acted, lawful_here, next, passed}
+
+-- a process that has come to object n with input u, and has stored in a register of u's write quorum
+pub record Shown (t : QuorumTable) (hs : ℕ → List Access) (E : ℕ → ℕ → ℕ → Type 0) (n u : ℕ) : Type 0 where
+  pub process : ℕ
+  pub register : ℕ
+  pub enters : E process n u
+  pub member : IsMember (t.write u) register
+  pub stored : Has (acts (turns_of process (hs n))) (Store (Quorum register) 1)
+
+-- two processes that have shown two values
+pub record Contest (t : QuorumTable) (hs : ℕ → List Access) (E : ℕ → ℕ → ℕ → Type 0) (n : ℕ) : Type 0 where
+  pub first : ℕ
+  pub second : ℕ
+  pub apart : first ≢ second
+  pub one : Shown t hs E n first
+  pub other : Shown t hs E n second
+  pub two : one.process ≢ other.process
+
+-- who has stored has a turn
+pub contains_some : (ts : List Turn) (r : ℕ) → Has (acts ts) (Store (Quorum r) 1) → ts ≢ []
+contains_some [] r h e = h
+contains_some (x ∷ ts) r h e = cons_nil x ts e
+
+module _
+    (t : QuorumTable) (k : Kind) (ks : List Kind) (o : ℕ) (hs : ℕ → List Access) (P : ℕ → Type 0)
+    (fam : Family t (k ∷ ks) o hs P) (law : AreDeciding t) (ratifying : IsRatifying t)
+    (E : ℕ → ℕ → ℕ → Type 0) (enter : (c n w : ℕ) → fam.rest c ≢ []
+    → Enters t (k ∷ ks) o (fam.input c) (fam.rest c) n w → E c n w) where
+  -- a value that was announced was shown
+  abbrev shown : (u : ℕ) → IsAnnounced t fam.input (hs o) u → Shown t hs E o u
+  shown u a =
+      record {
+        process = a.0;
+        register = a.1;
+        enters = enter a.0 o u (acted t k ks o hs P fam a.0 (contains_some (turns_of a.0 (hs o)) a.1 a.4))
+            (inl (refl, sym a.2));
+        member = a.3;
+        stored = a.4;
+      }
+
+  -- an undecided output of a ratifier here shows two values
+  contest_here : k ≡ Ratifier → (c u : ℕ) → HasOutput t k fam.input (hs o) c false u → Contest t hs E o
+  contest_here e c u out =
+      let found =
+      ratifying.contested fam.input (hs o)
+      (subst (λ j. IsObjectLawful t j fam.input (hs o)) e (lawful_here t k ks o hs P fam)) c u
+      (subst (λ j. HasOutput t j fam.input (hs o) c false u) e out) in
+      let other = found.1 in
+      record {
+        first = u;
+        second = other.0;
+        apart = λ q. other.1 (sym q);
+        one = shown u found.0;
+        other = shown other.0 other.2;
+        two = λ q. other.1 (sym other.2.2 ∙ ap fam.input (sym q) ∙ found.0.2);
+      }
+
+  -- who comes to a later object has come here
+  pub enter_next :
+      (law' : IsDeciding t k) (c n w : ℕ) → (next t k ks o hs P fam law').rest c ≢ []
+      → Enters t ks (suc o) ((next t k ks o hs P fam law').input c) ((next t k ks o hs P fam law').rest c) n w
+      → E c n w
+  enter_next law' c n w ne q =
+      let came = (step t k ks o hs P fam c).came ne in enter c n w came.nonempty (came.enters n w q)
+
+-- where a claim is undecided, each ratifier from object o on has seen two values
+pub contention :
+    (t : QuorumTable) (hs : ℕ → List Access) → AreDeciding t → IsRatifying t
+    → (E : ℕ → ℕ → ℕ → Type 0) (ks : List Kind) (o : ℕ) (P : ℕ → Type 0) (fam : Family t ks o hs P)
+    → ((c n w : ℕ) → fam.rest c ≢ [] → Enters t ks o (fam.input c) (fam.rest c) n w → E c n w)
+    → (c n : ℕ) → fam.stage c ≡ Undecided → slice_get ks n ≡ Some Ratifier → Contest t hs E (o + n)
+contention t hs law ratifying E [] o P fam enter c n e r = absurd (none-some Ratifier r)
+contention t hs law ratifying E (k ∷ ks) o P fam enter c zero e r =
+    subst (Contest t hs E) (omega arith)
+    (contest_here t k ks o hs P fam law ratifying E enter (same_Some k Ratifier r) c (step t k ks o hs P fam c).value
+    (passed t k ks o hs P fam c e).0)
+contention t hs law ratifying E (k ∷ ks) o P fam enter c (suc n) e r =
+    subst (Contest t hs E) (omega arith)
+    (contention t hs law ratifying E ks (suc o) P (next t k ks o hs P fam (law k))
+    (enter_next t k ks o hs P fam law ratifying E enter (law k)) c n (passed t k ks o hs P fam c e).1 r)

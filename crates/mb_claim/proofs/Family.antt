@@ -1,0 +1,151 @@
+-- All consumers of one cell together, from one object on.
+use Rattle.std.proofs.Common.{◌≡◌, ◌≢◌, ◌<◌, ◌≤◌, ◌⊎◌, ℕ, suc, Bool, true, false, cond, eqb, List, [], ◌∷◌, refl, sym, ◌∙◌, ap, subst, inl, inr, arith}
+use Rattle.std.proofs.lemmas.Bool.{eqb-true}
+use Rattle.mb_quorum.specs.Quorum.{QuorumTable}
+use Rattle.mb_deciding.specs.declared.access.Access.{Access}
+use Rattle.mb_deciding.specs.declared.object.Kind.{Kind}
+use Rattle.mb_deciding.specs.History.{IsMemoryTrue as IsObjectMemoryTrue, turns_of, AreInWords as AreObjectInWords}
+use Rattle.mb_deciding.specs.Objects.{answer, IsPath, IsPart, IsObjectLawful, HasOutput}
+use Rattle.mb_deciding.specs.Deciding.{IsDeciding}
+use Rattle.mb_claim.specs.declared.access.ObjectTurn.{ObjectTurn}
+use Rattle.mb_claim.specs.declared.access.Stage.{Stage}
+use Rattle.mb_claim.specs.declared.access.Stage.TheVariants.{Going, Won, Lost, Undecided}
+use Rattle.mb_claim.specs.Paths.{stage_for}
+use Rattle.mb_claim.specs.Winner.{Names}
+use Rattle.mb_claim.proofs.Cutting.{turns_at}
+use Rattle.mb_claim.proofs.Parts.{Member, Forward, Ends, forward}
+
+-- The consumers of one cell, from object o on, where hs n is the history of object n. For each consumer: its input
+-- to object o, what its part has from there on, and its stage. What holds of P holds of the inputs of all who have
+-- come so far.
+pub record Family (t : QuorumTable) (ks : List Kind) (o : ℕ) (hs : ℕ → List Access) (P : ℕ → Type 0) : Type 0 where
+  pub input : ℕ → ℕ
+  pub rest : ℕ → List ObjectTurn
+  pub stage : ℕ → Stage
+  pub member : (c : ℕ) → Member t c ks o (input c) (rest c) (stage c)
+  pub holds : (c : ℕ) → rest c ≢ [] → (input c < t.values) × P (input c)
+  pub turns : (c n : ℕ) → o ≤ n → turns_of c (hs n) ≡ turns_at n (rest c)
+  pub memory : (n : ℕ) → IsObjectMemoryTrue (hs n)
+  pub words : (n : ℕ) → AreObjectInWords (hs n)
+
+-- the stage names the winner that was decided
+names_decided : (c a u : ℕ) (b : Bool) → eqb c a ≡ b → Names c (cond b Won (Lost a)) u → u ≡ a
+names_decided c a u true e n = n ∙ eqb-true c a e
+names_decided c a u false e n = n
+
+-- where a was decided, the winner that is named is a
+names_stage : (c a u : ℕ) (s : Stage) → s ≡ stage_for c a → Names c s u → u ≡ a
+names_stage c a u s e n = names_decided c a u (eqb c a) refl (subst (λ r. Names c r u) e n)
+
+-- where a value was decided, the claim is not undecided
+decided_undecided : (c a : ℕ) (b : Bool) → Undecided ≡ cond b Won (Lost a) → ⊥
+decided_undecided c a true e = cc
+decided_undecided c a false e = cc
+
+module _ (t : QuorumTable) (k : Kind) (ks : List Kind) (o : ℕ) (hs : ℕ → List Access) (P : ℕ → Type 0)
+    (fam : Family t (k ∷ ks) o hs P) where
+  -- each consumer's part, taken one object further
+  unfoldable pub step : (c : ℕ) → Forward t c k ks o (fam.input c) (fam.rest c) (fam.stage c)
+  step c = forward t c k ks o (fam.input c) (fam.rest c) (fam.stage c) (fam.member c)
+
+  -- the turns of a consumer here
+  pub here : (c : ℕ) → turns_of c (hs o) ≡ turns_at o (fam.rest c)
+  here c = fam.turns c o (omega arith)
+
+  -- who has a turn here has come so far
+  pub acted : (c : ℕ) → turns_of c (hs o) ≢ [] → fam.rest c ≢ []
+  acted c ne e = ne (here c ∙ ap (turns_at o) e)
+
+  -- its turns are a beginning of a path of its input
+  part_here :
+      (c : ℕ) → turns_of c (hs o) ≢ []
+      → (turns_at o (fam.rest c) ≡ []) ⊎ IsPart t k (fam.input c) (turns_at o (fam.rest c))
+      → (fam.input c < t.values) × IsPart t k (fam.input c) (turns_of c (hs o))
+  part_here c ne (inl e) = absurd (ne (here c ∙ e))
+  part_here c ne (inr p) = ((fam.holds c (acted c ne)).0, subst (λ ts. IsPart t k (fam.input c) ts) (sym (here c)) p)
+
+  -- the history of this object is lawful
+  pub lawful_here : IsObjectLawful t k fam.input (hs o)
+  lawful_here = record { memory = fam.memory o; words = fam.words o; parts = λ c ne. part_here c ne (step c).here }
+
+  -- a whole path of a consumer here is its output
+  pub output :
+      (c : ℕ) (d : Bool) (u : ℕ) → IsPath t k (fam.input c) (turns_at o (fam.rest c)) (answer d u)
+      → HasOutput t k fam.input (hs o) c d u
+  output c d u p = subst (λ ts. IsPath t k (fam.input c) ts (answer d u)) (sym (here c)) p
+
+  -- what holds of each input holds of each output
+  pub output_holds :
+      IsDeciding t k → (c : ℕ) (d : Bool) (u : ℕ) → HasOutput t k fam.input (hs o) c d u → (u < t.values) × P u
+  output_holds law c d u out =
+      let from = law.validity fam.input (hs o) lawful_here c d u out in
+      let at : (fam.input from.0 < t.values) × P (fam.input from.0) = fam.holds from.0 (acted from.0 from.1) in
+      subst (λ n. (n < t.values) × P n) from.2 at
+
+  -- the consumers at the next object
+  abbrev pub next_with :
+      (Q : ℕ → Type 0) → ((c u : ℕ) → HasOutput t k fam.input (hs o) c false u → (u < t.values) × Q u)
+      → Family t ks (suc o) hs Q
+  next_with Q holds =
+      record {
+        input = λ c. (step c).value;
+        rest = λ c. (step c).rest;
+        stage = λ c. (step c).stage;
+        member = λ c. (step c).member;
+        holds = λ c ne. holds c (step c).value (output c false (step c).value ((step c).came ne).path);
+        turns = λ c n l. fam.turns c n (omega arith) ∙ (step c).ahead n (omega arith);
+        memory = fam.memory;
+        words = fam.words;
+      }
+
+  -- the same, with what held of the inputs
+  abbrev pub next : IsDeciding t k → Family t ks (suc o) hs P
+  next law = next_with P (λ c u out. output_holds law c false u out)
+
+  -- the consumers at the next object, where u was decided here
+  abbrev pub next_decided :
+      IsDeciding t k → (c u : ℕ) → HasOutput t k fam.input (hs o) c true u → Family t ks (suc o) hs (λ a. a ≡ u)
+  next_decided law c u p =
+      next_with (λ a. a ≡ u) (λ b a out.
+      ((output_holds law b false a out).0, law.coherence fam.input (hs o) lawful_here c b false u a p out))
+
+  -- a stage that names u: u was decided here, or behind this object
+  abbrev pub Ended : ℕ → ℕ → Type 0
+  Ended c u =
+      HasOutput t k fam.input (hs o) c true u
+      ⊎ (HasOutput t k fam.input (hs o) c false (step c).value × Names c (step c).stage u)
+
+  -- the same, by how the part ends
+  ended_by :
+      (c u : ℕ) → Names c (fam.stage c) u
+      → Ends t c k o (fam.input c) (fam.rest c) (fam.stage c) (step c).value (step c).stage → Ended c u
+  ended_by c u n (inl g) = absurd (subst (λ r. Names c r u) g n)
+  ended_by c u n (inr (inl (a, path, e))) =
+      inl (subst (λ w. HasOutput t k fam.input (hs o) c true w) (sym (names_stage c a u (fam.stage c) e n))
+      (output c true a path))
+  ended_by c u n (inr (inr x)) = inr (output c false (step c).value x.0, subst (λ r. Names c r u) (sym x.1) n)
+
+  -- each stage that names a winner is one of these
+  pub ended : (c u : ℕ) → Names c (fam.stage c) u → Ended c u
+  ended c u n = ended_by c u n (step c).ends
+
+  -- the same as below, by how the part ends
+  passed_by :
+      (c : ℕ) → fam.stage c ≡ Undecided
+      → Ends t c k o (fam.input c) (fam.rest c) (fam.stage c) (step c).value (step c).stage
+      → HasOutput t k fam.input (hs o) c false (step c).value × ((step c).stage ≡ Undecided)
+  passed_by c e (inl g) = let h : Undecided ≡ Going = sym e ∙ g in cc
+  passed_by c e (inr (inl (a, path, g))) = absurd (decided_undecided c a (eqb c a) (sym e ∙ g))
+  passed_by c e (inr (inr x)) = (output c false (step c).value x.0, x.1 ∙ e)
+
+  -- an undecided claim has passed this object undecided
+  pub passed :
+      (c : ℕ) → fam.stage c ≡ Undecided
+      → HasOutput t k fam.input (hs o) c false (step c).value × ((step c).stage ≡ Undecided)
+  passed c e = passed_by c e (step c).ends
+
+-- where no object is left, no winner is named
+pub none_named :
+    (t : QuorumTable) (c o v u : ℕ) (xs : List ObjectTurn) (s : Stage) → Member t c [] o v xs s → Names c s u → ⊥
+none_named t c o v u xs s (inl x) n = subst (λ r. Names c r u) x.1 n
+none_named t c o v u xs s (inr x) n = subst (λ r. Names c r u) x.1 n

@@ -1,0 +1,177 @@
+-- One consumer's part: what it does on its first object, and what is left of it behind that object.
+use Rattle.std.proofs.Common.{◌≡◌, ◌≢◌, ◌<◌, ◌⊎◌, ℕ, suc, true, false, cond, Some, None, List, [], ◌∷◌, ◌++◌, length, ◌+◌, length-append, refl, sym, ◌∙◌, ap, subst, inl, inr, arith}
+use Rattle.std.specs.List.{cons_option}
+use Rattle.std.proofs.lemmas.Bool.{eq-eqb, ne_eqb}
+use Rattle.std.proofs.lemmas.List.Elements.{filter_map-append}
+use Rattle.mb_quorum.specs.Quorum.{QuorumTable}
+use Rattle.mb_deciding.specs.declared.access.Turn.{Turn}
+use Rattle.mb_deciding.specs.declared.object.Kind.{Kind}
+use Rattle.mb_deciding.specs.Objects.{answer, IsPath, IsPart, IsOpen}
+use Rattle.mb_claim.specs.declared.access.ObjectTurn.{ObjectTurn}
+use Rattle.mb_claim.specs.declared.access.Stage.{Stage}
+use Rattle.mb_claim.specs.declared.access.Stage.TheVariants.{Going}
+use Rattle.mb_claim.specs.Paths.{tagged, stage_for, Passes, IsClaimPart, Enters}
+use Rattle.mb_claim.proofs.Cutting.{turn_at, turns_at}
+use Rattle.mb_claim.proofs.Lists.{append_nils, append_nil_left, append_nil_right, append_nil_parts}
+
+-- of turns made on object o all went there
+pub turns_at-tagged : (o : ℕ) (ts : List Turn) → turns_at o (tagged o ts) ≡ ts
+turns_at-tagged o [] = refl
+turns_at-tagged o (t ∷ ts) =
+    ap (λ b. cons_option (cond b (Some t) None) (turns_at o (tagged o ts))) (eq-eqb o o refl)
+    ∙ ap (λ zs. t ∷ zs) (turns_at-tagged o ts)
+
+-- and there are as many
+pub length-tagged : (o : ℕ) (ts : List Turn) → length (tagged o ts) ≡ length ts
+length-tagged o [] = refl
+length-tagged o (t ∷ ts) = ap suc (length-tagged o ts)
+
+-- and none went to another object
+pub turns_at-tagged_other : (o n : ℕ) (ts : List Turn) → (o ≡ n → ⊥) → turns_at n (tagged o ts) ≡ []
+turns_at-tagged_other o n [] ne = refl
+turns_at-tagged_other o n (t ∷ ts) ne =
+    ap (λ b. cons_option (cond b (Some t) None) (turns_at n (tagged o ts))) (ne_eqb o n ne)
+    ∙ turns_at-tagged_other o n ts ne
+
+-- the turns on object n of two lists joined
+pub turns_at-append : (n : ℕ) (xs ys : List ObjectTurn) → turns_at n (xs ++ ys) ≡ turns_at n xs ++ turns_at n ys
+turns_at-append n xs ys = filter_map-append (turn_at n) xs ys
+
+-- a part from object o on has no turn before it
+pub nothing_before :
+    (t : QuorumTable) (c : ℕ) (ks : List Kind) (o v n : ℕ) (xs : List ObjectTurn) (s : Stage) → n < o
+    → IsClaimPart t c ks o v xs s → turns_at n xs ≡ []
+nothing_before t c [] o v n xs s l p = ap (turns_at n) p.0
+nothing_before t c (k ∷ ks) o v n xs s l (inl x) =
+    ap (turns_at n) x.all ∙ turns_at-tagged_other o n x.turns (λ e. omega arith)
+nothing_before t c (k ∷ ks) o v n xs s l (inr (inl x)) =
+    ap (turns_at n) x.all ∙ turns_at-tagged_other o n x.turns (λ e. omega arith)
+nothing_before t c (k ∷ ks) o v n xs s l (inr (inr (u, rest, x, p))) =
+    ap (turns_at n) x.all ∙ turns_at-append n rest (tagged o x.turns)
+    ∙ append_nils (turns_at n rest) (turns_at n (tagged o x.turns))
+    (nothing_before t c ks (suc o) u n rest s (omega arith) p)
+    (turns_at-tagged_other o n x.turns (λ e. omega arith))
+
+-- what goes on is a beginning
+pub open_part : (t : QuorumTable) (k : Kind) (v : ℕ) (turns : List Turn) → IsOpen t k v turns → IsPart t k v turns
+open_part t k v turns g = (g.0, g.2.0, g.2.1)
+
+-- the turns of a passed object
+pub passed_turns :
+    (t : QuorumTable) (c : ℕ) (k : Kind) (ks : List Kind) (o v : ℕ) (xs : List ObjectTurn) (s : Stage) (u : ℕ)
+    (rest : List ObjectTurn) (x : Passes t k o v xs u rest)
+    → IsClaimPart t c ks (suc o) u rest s → x.turns ≡ turns_at o xs
+passed_turns t c k ks o v xs s u rest x p =
+    sym
+    (ap (turns_at o) x.all ∙ turns_at-append o rest (tagged o x.turns)
+    ∙ append_nil_left (turns_at o rest) (turns_at o (tagged o x.turns))
+    (nothing_before t c ks (suc o) u o rest s (omega arith) p)
+    ∙ turns_at-tagged o x.turns)
+
+-- a consumer's part from object o on; or nothing, where it has not come so far
+abbrev pub Member : QuorumTable → ℕ → List Kind → ℕ → ℕ → List ObjectTurn → Stage → Type 0
+Member t c ks o v xs s = ((xs ≡ []) × (s ≡ Going)) ⊎ IsClaimPart t c ks o v xs s
+
+-- the consumer has come to the object behind this one
+pub record Came (t : QuorumTable) (k : Kind) (ks : List Kind) (o v : ℕ) (xs : List ObjectTurn) (value : ℕ)
+    (rest : List ObjectTurn) : Type 0 where
+  pub path : IsPath t k v (turns_at o xs) (answer false value)
+  pub nonempty : xs ≢ []
+  pub enters : (n w : ℕ) → Enters t ks (suc o) value rest n w → Enters t (k ∷ ks) o v xs n w
+
+-- how the part ends, seen from its first object
+abbrev pub Ends : QuorumTable → ℕ → Kind → ℕ → ℕ → List ObjectTurn → Stage → ℕ → Stage → Type 0
+Ends t c k o v xs s value stage =
+    (s ≡ Going)
+    ⊎ (((a : ℕ) × IsPath t k v (turns_at o xs) (answer true a) × (s ≡ stage_for c a))
+    ⊎ (IsPath t k v (turns_at o xs) (answer false value) × (stage ≡ s)))
+
+-- one consumer's part, taken one object further: the value, the part and the stage behind its first object, and how
+-- it ends
+pub record Forward (t : QuorumTable) (c : ℕ) (k : Kind) (ks : List Kind) (o v : ℕ) (xs : List ObjectTurn)
+    (s : Stage) : Type 0 where
+  pub value : ℕ
+  pub rest : List ObjectTurn
+  pub stage : Stage
+  pub member : Member t c ks (suc o) value rest stage
+  pub ahead : (n : ℕ) → o < n → turns_at n xs ≡ turns_at n rest
+  pub came : rest ≢ [] → Came t k ks o v xs value rest
+  pub here : (turns_at o xs ≡ []) ⊎ IsPart t k v (turns_at o xs)
+  pub ends : Ends t c k o v xs s value stage
+  pub counted : length xs ≡ length (turns_at o xs) + length rest
+
+module _ (t : QuorumTable) (c : ℕ) (k : Kind) (ks : List Kind) (o v : ℕ) (xs : List ObjectTurn) (s : Stage) where
+  -- a part on this object alone has its turns
+  pub counts : (turns : List Turn) → xs ≡ tagged o turns → turns_at o xs ≡ turns → length xs ≡ length (turns_at o xs)
+  counts turns all here = ap length all ∙ length-tagged o turns ∙ sym (ap length here)
+
+  -- it does not come to the next object
+  abbrev stays :
+      ((n : ℕ) → o < n → turns_at n xs ≡ []) → (turns_at o xs ≡ []) ⊎ IsPart t k v (turns_at o xs)
+      → Ends t c k o v xs s 0 Going
+      → length xs ≡ length (turns_at o xs) → Forward t c k ks o v xs s
+  stays ahead here ends counted =
+      record {
+        value = 0;
+        rest = [];
+        stage = Going;
+        member = inl (refl, refl);
+        ahead = ahead;
+        came =
+            λ ne. absurd (ne refl);
+        here = here;
+        ends = ends;
+        counted = omega (arith, counted);
+      }
+
+  -- it comes to the next object
+  abbrev moves :
+      (u : ℕ) (rest : List ObjectTurn) → Passes t k o v xs u rest → IsClaimPart t c ks (suc o) u rest s
+      → Forward t c k ks o v xs s
+  moves u rest x p =
+      let here : turns_at o xs ≡ x.turns = sym (passed_turns t c k ks o v xs s u rest x p) in
+      let P : List Turn → Type 0 = λ ts. IsPath t k v ts (answer false u) in
+      let path : P (turns_at o xs) = subst P (sym here) x.path in
+      record {
+        value = u;
+        rest = rest;
+        stage = s;
+        member = inr p;
+        ahead = λ n l. ap (turns_at n) x.all ∙ turns_at-append n rest (tagged o x.turns)
+            ∙ append_nil_right (turns_at n rest) (turns_at n (tagged o x.turns))
+            (turns_at-tagged_other o n x.turns (λ e. omega arith));
+        came = λ ne. record {
+          path = path;
+          nonempty =
+              λ e. ne (append_nil_parts rest (tagged o x.turns) (sym x.all ∙ e));
+          enters =
+              λ n w q. inr (u, rest, x, q);
+        };
+        here = inr ([], answer false u, path);
+        ends = inr (inr (path, refl));
+        counted = omega (
+          arith,
+          ap length x.all,
+          length-append rest (tagged o x.turns),
+          length-tagged o x.turns,
+          ap length here,
+        );
+      }
+
+  -- the step to the next object
+  abbrev pub forward : Member t c (k ∷ ks) o v xs s → Forward t c k ks o v xs s
+  forward (inl x) = stays (λ n l. ap (turns_at n) x.0) (inl (ap (turns_at o) x.0)) (inl x.1)
+      (ap length x.0 ∙ sym (ap (λ zs. length (turns_at o zs)) x.0))
+  forward (inr (inl x)) =
+      let here : turns_at o xs ≡ x.turns = ap (turns_at o) x.all ∙ turns_at-tagged o x.turns in
+      let P : List Turn → Type 0 = λ ts. IsOpen t k v ts in
+      stays (λ n l. ap (turns_at n) x.all ∙ turns_at-tagged_other o n x.turns (λ e. omega arith))
+      (inr (open_part t k v (turns_at o xs) (subst P (sym here) x.going))) (inl x.is) (counts x.turns x.all here)
+  forward (inr (inr (inl x))) =
+      let here : turns_at o xs ≡ x.turns = ap (turns_at o) x.all ∙ turns_at-tagged o x.turns in
+      let P : List Turn → Type 0 = λ ts. IsPath t k v ts (answer true x.value) in
+      let path : P (turns_at o xs) = subst P (sym here) x.path in
+      stays (λ n l. ap (turns_at n) x.all ∙ turns_at-tagged_other o n x.turns (λ e. omega arith))
+      (inr ([], answer true x.value, path))
+      (inr (inl (x.value, path, x.is))) (counts x.turns x.all here)
+  forward (inr (inr (inr (u, rest, x, p)))) = moves u rest x p

@@ -1,0 +1,92 @@
+-- A part has one stage.
+use Rattle.std.proofs.Common.{◌≡◌, ◌⊎◌, append_assoc, ℕ, suc, true, false, List, [], ◌∷◌, ◌++◌, sym, ◌∙◌, ap, subst, subst₂, inl, inr}
+use Rattle.std.proofs.lemmas.Bool.{true≢false}
+use Rattle.std.proofs.lemmas.List.{append_cancel_right}
+use Rattle.mb_quorum.specs.Quorum.{QuorumTable}
+use Rattle.mb_deciding.specs.declared.access.Turn.{Turn}
+use Rattle.mb_deciding.specs.declared.object.Kind.{Kind}
+use Rattle.mb_deciding.specs.declared.object.Out.{Out}
+use Rattle.mb_deciding.specs.Objects.{answer, IsPath, IsPart, IsOpen}
+use Rattle.mb_deciding.specs.Deciding.{IsDeciding}
+use Rattle.mb_claim.specs.declared.access.ObjectTurn.{ObjectTurn}
+use Rattle.mb_claim.specs.declared.access.Stage.{Stage}
+use Rattle.mb_claim.specs.History.{part}
+use Rattle.mb_claim.specs.Paths.{tagged, stage_for, IsClaimPart}
+use Rattle.mb_claim.proofs.Cutting.{turns_at}
+use Rattle.mb_claim.proofs.Lists.{append_nil_parts, append_nil_rest}
+use Rattle.mb_claim.proofs.Parts.{turns_at-tagged, passed_turns}
+
+-- the laws of the objects of every kind
+abbrev pub AreDeciding : QuorumTable → Type 0
+AreDeciding t = (kind : Kind) → IsDeciding t kind
+
+module _ (t : QuorumTable) (k : Kind) (law : IsDeciding t k) (v : ℕ) where
+  -- what goes on is no whole path
+  pub open_closed : (xs ys : List Turn) (out : Out) → xs ≡ ys → IsOpen t k v xs → IsPath t k v ys out → ⊥
+  open_closed xs ys out e g p =
+      g.1 (law.unique v xs g.0 out g.2.0 (subst (λ zs. IsPath t k v zs out) (sym e) p) g.2.1).0
+
+  -- one path has one output
+  pub same_out : (xs ys : List Turn) (a b : Out) → xs ≡ ys → IsPath t k v xs a → IsPath t k v ys b → a ≡ b
+  same_out xs ys a b e p q =
+      (law.unique v xs [] a b p (subst (λ zs. IsPath t k v zs b) (sym e) q)).1
+
+-- a part that went to one object has its turns there
+pub only :
+    (t : QuorumTable) (k : Kind) (o v : ℕ) (xs : List ObjectTurn) (ts : List Turn) → xs ≡ tagged o ts
+    → ts ≡ turns_at o xs
+only t k o v xs ts e = sym (turns_at-tagged o ts) ∙ ap (turns_at o) (sym e)
+
+-- a part has one stage
+pub one_stage_lem :
+    (t : QuorumTable) → AreDeciding t → (c : ℕ) (ks : List Kind) (o v : ℕ) (xs : List ObjectTurn) (s r : Stage)
+    → IsClaimPart t c ks o v xs s → IsClaimPart t c ks o v xs r → s ≡ r
+one_stage_lem t law c [] o v xs s r p q = p.1 ∙ sym q.1
+one_stage_lem t law c (k ∷ ks) o v xs s r (inl x) (inl y) = x.is ∙ sym y.is
+one_stage_lem t law c (k ∷ ks) o v xs s r (inl x) (inr (inl y)) =
+    absurd (open_closed t k (law k) v x.turns y.turns (answer true y.value)
+    (only t k o v xs x.turns x.all ∙ sym (only t k o v xs y.turns y.all)) x.going y.path)
+one_stage_lem t law c (k ∷ ks) o v xs s r (inl x) (inr (inr (w, rest, y, q))) =
+    absurd (open_closed t k (law k) v x.turns y.turns (answer false w)
+    (only t k o v xs x.turns x.all ∙ sym (passed_turns t c k ks o v xs r w rest y q)) x.going y.path)
+one_stage_lem t law c (k ∷ ks) o v xs s r (inr (inl x)) (inl y) =
+    absurd (open_closed t k (law k) v y.turns x.turns (answer true x.value)
+    (only t k o v xs y.turns y.all ∙ sym (only t k o v xs x.turns x.all)) y.going x.path)
+one_stage_lem t law c (k ∷ ks) o v xs s r (inr (inl x)) (inr (inl y)) =
+    x.is
+    ∙ ap (stage_for c) (ap (λ (a : Out). a.value)
+    (same_out t k (law k) v x.turns y.turns (answer true x.value) (answer true y.value)
+    (only t k o v xs x.turns x.all ∙ sym (only t k o v xs y.turns y.all)) x.path y.path))
+    ∙ sym y.is
+one_stage_lem t law c (k ∷ ks) o v xs s r (inr (inl x)) (inr (inr (w, rest, y, q))) =
+    absurd (true≢false (ap (λ (a : Out). a.decided)
+    (same_out t k (law k) v x.turns y.turns (answer true x.value) (answer false w)
+    (only t k o v xs x.turns x.all ∙ sym (passed_turns t c k ks o v xs r w rest y q)) x.path y.path)))
+one_stage_lem t law c (k ∷ ks) o v xs s r (inr (inr (u, front, x, p))) (inl y) =
+    absurd (open_closed t k (law k) v y.turns x.turns (answer false u)
+    (only t k o v xs y.turns y.all ∙ sym (passed_turns t c k ks o v xs s u front x p)) y.going x.path)
+one_stage_lem t law c (k ∷ ks) o v xs s r (inr (inr (u, front, x, p))) (inr (inl y)) =
+    absurd (true≢false (ap (λ (a : Out). a.decided)
+    (same_out t k (law k) v y.turns x.turns (answer true y.value) (answer false u)
+    (only t k o v xs y.turns y.all ∙ sym (passed_turns t c k ks o v xs s u front x p)) y.path x.path)))
+one_stage_lem t law c (k ∷ ks) o v xs s r (inr (inr (u, front, x, p))) (inr (inr (w, rest, y, q))) =
+    let e : x.turns ≡ y.turns =
+    passed_turns t c k ks o v xs s u front x p ∙ sym (passed_turns t c k ks o v xs r w rest y q) in
+    let values : u ≡ w =
+    ap (λ (a : Out). a.value) (same_out t k (law k) v x.turns y.turns (answer false u)
+    (answer false w) e x.path y.path) in
+    let rests : front ≡ rest =
+    append_cancel_right front rest (tagged o y.turns)
+    (ap (λ ts. front ++ tagged o ts) (sym e) ∙ sym x.all ∙ y.all) in
+    one_stage_lem t law c ks (suc o) w rest s r (subst₂ (λ n zs. IsClaimPart t c ks (suc o) n zs s) values rests p) q
+
+-- an object is used once: behind a whole path there is no turn
+pub used_once :
+    (t : QuorumTable) (k : Kind) (law : IsDeciding t k) (v : ℕ) (later turns all : List Turn) (out : Out)
+    → IsPath t k v turns out → all ≡ later ++ turns → (all ≡ []) ⊎ IsPart t k v all → later ≡ []
+used_once t k law v later turns all out path e (inl none) = append_nil_parts later turns (sym e ∙ none)
+used_once t k law v later turns all out path e (inr part) =
+    let P : List Turn → Type 0 = λ ts. IsPath t k v ts part.1 in
+    let whole : P ((part.0 ++ later) ++ turns) =
+    subst P (ap (λ ts. part.0 ++ ts) e ∙ sym (append_assoc part.0 later turns)) part.2 in
+    append_nil_rest part.0 later (law.unique v turns (part.0 ++ later) out part.1 path whole).0

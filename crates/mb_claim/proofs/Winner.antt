@@ -1,0 +1,97 @@
+-- One winner, over every lawful history of claims.
+use Rattle.std.proofs.Common.{suc, Bool, true, false, cond, eqb, ◌∷◌, inl, inr, ◌≡◌, ◌≢◌, ◌⊎◌, ℕ, Some, List, [], refl, sym, ◌∙◌, ap, subst, slice_get, arith}
+use Rattle.std.proofs.lemmas.Bool.{cases_eq, eqb-false}
+use Rattle.mb_quorum.specs.Quorum.{QuorumTable}
+use Rattle.mb_deciding.specs.declared.object.Kind.{Kind}
+use Rattle.mb_deciding.specs.declared.object.Kind.TheVariants.{Ratifier}
+use Rattle.mb_deciding.specs.History.{turns_of}
+use Rattle.mb_deciding.specs.Deciding.{IsRatifying}
+use Rattle.mb_claim.specs.declared.access.ObjectTurn.{ObjectTurn}
+use Rattle.mb_claim.specs.declared.access.ClaimAccess.{ClaimAccess}
+use Rattle.mb_claim.specs.declared.access.Stage.{Stage}
+use Rattle.mb_claim.specs.declared.access.Stage.TheVariants.{Going, Won, Lost, Undecided}
+use Rattle.mb_claim.specs.History.{part, object_history}
+use Rattle.mb_claim.specs.Paths.{IsClaimPart, Enters}
+use Rattle.mb_claim.specs.Claiming.{IsLawful, HasStage}
+use Rattle.mb_claim.specs.Winner.{Names, IsClaimAnnounced, HasOneWinner}
+use Rattle.mb_claim.proofs.Cutting.{turns_at, turns_of-object_history}
+use Rattle.mb_claim.proofs.Unique.{AreDeciding}
+use Rattle.mb_claim.proofs.Beginning.{start, competes, family}
+use Rattle.mb_claim.proofs.Agreeing.{winner_holds, agree}
+use Rattle.mb_claim.proofs.Contest.{Shown, Contest, contains_some, contention}
+
+-- the number of which a stage says that it was lost to
+abbrev lost_to : Stage → ℕ
+lost_to Going = 0
+lost_to Won = 0
+lost_to (Lost u) = u
+lost_to Undecided = 0
+
+-- a decided value that makes the loser is not its own number
+lost_by : (c u w : ℕ) (b : Bool) → eqb c u ≡ b → Lost w ≡ cond b Won (Lost u) → w ≢ c
+lost_by c u w true e is same = let h : Lost w ≡ Won = is in cc
+lost_by c u w false e is same =
+    let named : w ≡ u = ap lost_to is in eqb-false c u e (sym same ∙ named)
+
+-- who has lost names another consumer
+lost_other :
+    (t : QuorumTable) (c : ℕ) (ks : List Kind) (o v : ℕ) (xs : List ObjectTurn) (w : ℕ)
+    → IsClaimPart t c ks o v xs (Lost w) → w ≢ c
+lost_other t c [] o v xs w p same = let h : Lost w ≡ Undecided = p.1 in cc
+lost_other t c (k ∷ ks) o v xs w (inl x) same = let h : Lost w ≡ Going = x.is in cc
+lost_other t c (k ∷ ks) o v xs w (inr (inl x)) same = lost_by c x.value w (eqb c x.value) refl x.is same
+lost_other t c (k ∷ ks) o v xs w (inr (inr (u, rest, x, p))) same = lost_other t c ks (suc o) u rest w p same
+
+module _ (t : QuorumTable) (kinds : List Kind) (cells : ℕ) (h : List ClaimAccess) (k : ℕ) (law : AreDeciding t)
+    (ratifying : IsRatifying t) (lawful : IsLawful t kinds cells h) where
+  -- the winner that a stage names is the one that the consumer's stage names
+  named :
+      (c u : ℕ) (s : Stage) → HasStage t kinds h k c s → Names c s u
+      → Names c (start t kinds cells h k law lawful c).stage u
+  named c u s q n = subst (λ r. Names c r u) (sym ((start t kinds cells h k law lawful c).is s q)) n
+
+  -- consumer c comes to object n with input w
+  abbrev E : ℕ → ℕ → ℕ → Type 0
+  E c n w = Enters t kinds 0 c (part c k h) n w
+
+  -- two values were shown in a ratifier
+  contest :
+      (c o : ℕ) → HasStage t kinds h k c Undecided → slice_get kinds o ≡ Some Ratifier
+      → Contest t (λ n. object_history k n h) E o
+  contest c o q r =
+      subst (Contest t (λ n. object_history k n h) E) (omega arith)
+      (contention t (λ n. object_history k n h) law ratifying E kinds 0 (competes t kinds cells h k law lawful)
+      (family t kinds cells h k law lawful) (λ d n w ne e. e) c o
+      ((start t kinds cells h k law lawful c).is Undecided q) r)
+
+  -- what was shown was announced
+  shown_announced : (o u : ℕ) → Shown t (λ n. object_history k n h) E o u → IsClaimAnnounced t kinds h k o u
+  shown_announced o u x = (x.process, x.register, x.enters, x.member, x.stored)
+
+  -- who has shown a value has an access
+  some_part : (o u : ℕ) (x : Shown t (λ n. object_history k n h) E o u) → part x.process k h ≢ []
+  some_part o u x e =
+      contains_some (turns_of x.process (object_history k o h)) x.register x.stored
+      (turns_of-object_history x.process k o h ∙ ap (turns_at o) e)
+
+  -- one of two who have shown values is not this consumer
+  company_by :
+      (c o : ℕ) (x : Contest t (λ n. object_history k n h) E o) → (x.one.process ≡ c) ⊎ (x.one.process ≡ c → ⊥)
+      → (d : ℕ) × (d ≢ c) × (part d k h ≢ [])
+  company_by c o x (inl e) = (x.other.process, λ f. x.two (e ∙ sym f), some_part o x.second x.other)
+  company_by c o x (inr ne) = (x.one.process, ne, some_part o x.first x.one)
+
+  -- all claims on the cell have one winner
+  pub has_one_winner : HasOneWinner t kinds h k
+  has_one_winner =
+      record {
+        same = λ c d u w s r p q n m. agree t (λ o. object_history k o h) law kinds 0
+            (competes t kinds cells h k law lawful) (family t kinds cells h k law lawful) c d u w (named c u s p n)
+            (named d w r q m);
+        other = λ c w p. lost_other t c kinds 0 c (part c k h) w p.1;
+        competed = λ c u s p n. winner_holds t (λ o. object_history k o h) law kinds 0
+            (competes t kinds cells h k law lawful) (family t kinds cells h k law lawful) c u (named c u s p n);
+        contested = λ c o p r. let x = contest c o p r in
+            (x.first, x.second, x.apart, shown_announced o x.first x.one, shown_announced o x.second x.other);
+        company = λ c o p r. let x = contest c o p r in company_by c o x (cases_eq x.one.process c);
+      }

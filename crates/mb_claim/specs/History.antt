@@ -1,0 +1,47 @@
+-- Histories of claims over many cells: lists of accesses, the newest first. An access is what one consumer did to one
+-- word of one object of one cell. What is left of it when the consumer and the cell are known is a step (the object's
+-- number and the turn), and when the object is known, too, a turn. A part, and the history of one object, is what a
+-- history has of it, in its order.
+use Rattle.std.specs.Prelude.{ℕ, ◌==◌, cond, Option, Some, None, List, [], ◌∷◌, filter_map}
+use Rattle.mb_deciding.specs.declared.access.Reg.{Reg}
+use Rattle.mb_deciding.specs.declared.access.Access.{Access}
+use Rattle.mb_deciding.specs.History.{value_in, ReadsLast, IsInWords}
+use Rattle.mb_claim.specs.declared.access.ObjectTurn.{ObjectTurn}
+use Rattle.mb_claim.specs.declared.access.ClaimAccess.{ClaimAccess}
+
+-- the step, if consumer c made it on cell k
+abbrev pub step_by : ℕ → ℕ → ClaimAccess → Option ObjectTurn
+step_by c k a = cond (a.consumer == c) (cond (a.cell == k) (Some a.step) None) None
+
+-- the part of consumer c on cell k: the steps that it made there
+abbrev pub part : ℕ → ℕ → List ClaimAccess → List ObjectTurn
+part c k h = filter_map (step_by c k) h
+
+-- the access to object o of cell k, if it is one
+abbrev pub access_on : ℕ → ℕ → ClaimAccess → Option Access
+access_on k o a =
+    cond (a.cell == k)
+    (cond (a.step.object == o) (Some (record { process = a.consumer; turn = a.step.turn })) None)
+    None
+
+-- the history of object o of cell k, where the consumers are its processes
+abbrev pub object_history : ℕ → ℕ → List ClaimAccess → List Access
+object_history k o h = filter_map (access_on k o) h
+
+-- what a history leaves in a word of object o of cell k
+abbrev pub left_at : ℕ → ℕ → Reg → List ClaimAccess → ℕ
+left_at k o reg h = value_in reg (object_history k o h)
+
+-- each load has the value of the last earlier store to the same word, or 0 where there is none
+abbrev pub IsMemoryTrue : List ClaimAccess → Type 0
+IsMemoryTrue [] = Unit {0}
+IsMemoryTrue (a ∷ older) = ReadsLast a.step.turn.act (object_history a.cell a.step.object older) × IsMemoryTrue older
+
+-- values and random words are words of 64 bits
+abbrev pub AreInWords : List ClaimAccess → Type 0
+AreInWords [] = Unit {0}
+AreInWords (a ∷ older) = IsInWords a.step.turn × AreInWords older
+
+-- the accesses to cell k
+abbrev pub on_cell : ℕ → List ClaimAccess → List ClaimAccess
+on_cell k h = filter_map (λ a. cond (a.cell == k) (Some a) None) h

@@ -1,0 +1,12 @@
+pub mod History
+pub mod Paths
+pub mod Claiming
+pub mod Winner
+pub mod Standing
+pub mod Layouts
+pub mod States
+pub mod Claims
+pub mod Refusals
+pub mod Plays
+pub mod Boards
+pub mod Examples

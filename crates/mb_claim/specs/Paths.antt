@@ -1,0 +1,81 @@
+-- The path of a consumer through the objects of a cell. Turns are the newest first: what is on the right came first.
+use Rattle.std.specs.Prelude.{ℕ, suc, ◌≡◌, ◌==◌, Bool, true, false, cond, List, [], ◌∷◌, ◌++◌, map, ◌⊎◌}
+use Rattle.mb_quorum.specs.Quorum.{QuorumTable}
+use Rattle.mb_deciding.specs.declared.access.Turn.{Turn}
+use Rattle.mb_deciding.specs.declared.object.Kind.{Kind}
+use Rattle.mb_deciding.specs.declared.object.Out.{Out}
+use Rattle.mb_deciding.specs.Objects.{IsPath, IsOpen, answer}
+use Rattle.mb_claim.specs.declared.access.ObjectTurn.{ObjectTurn}
+use Rattle.mb_claim.specs.declared.access.Stage.{Stage}
+use Rattle.mb_claim.specs.declared.access.Stage.TheVariants.{Going, Won, Lost, Undecided}
+
+-- turns made on object o
+abbrev pub tagged : ℕ → List Turn → List ObjectTurn
+tagged o turns = map (λ turn. record { object = o; turn = turn }) turns
+
+-- the stage of consumer c where u was decided
+abbrev pub stage_for : ℕ → ℕ → Stage
+stage_for c u = cond (c == u) Won (Lost u)
+
+-- the stage of consumer c at the end of a path with this output
+abbrev pub stage_of : ℕ → Out → Stage
+stage_of c output = cond output.decided (stage_for c output.value) Undecided
+
+-- ---- whole paths
+-- A whole path through objects with numbers from o on, and its output: whole paths of the objects in their order,
+-- joined. The first input is v, each next input is the value of the output before. It ends at the first output that
+-- is decided, or after the last object.
+abbrev pub IsClaimPath : QuorumTable → List Kind → ℕ → ℕ → List ObjectTurn → Out → Type 0
+IsClaimPath t [] o v xs output = (xs ≡ []) × (output ≡ answer false v)
+IsClaimPath t (kind ∷ kinds) o v xs output =
+    (turns : List Turn) × (later : List ObjectTurn) × (d : Bool) × (u : ℕ)
+    × (xs ≡ later ++ tagged o turns) × IsPath t kind v turns (answer d u)
+    × (((d ≡ true) × (later ≡ []) × (output ≡ answer true u))
+    ⊎ ((d ≡ false) × IsClaimPath t kinds (suc o) u later output))
+
+-- ---- beginnings of paths, and their stages
+-- the consumer has begun its path on object o, and goes on
+pub record GoesOnIn (t : QuorumTable) (kind : Kind) (o v : ℕ) (xs : List ObjectTurn) (s : Stage) : Type 0 where
+  pub turns : List Turn
+  pub all : xs ≡ tagged o turns
+  pub going : IsOpen t kind v turns
+  pub is : s ≡ Going
+
+-- object o has decided
+pub record DecidesIn (t : QuorumTable) (c : ℕ) (kind : Kind) (o v : ℕ) (xs : List ObjectTurn) (s : Stage) : Type 0 where
+  pub turns : List Turn
+  pub value : ℕ
+  pub all : xs ≡ tagged o turns
+  pub path : IsPath t kind v turns (answer true value)
+  pub is : s ≡ stage_for c value
+
+-- object o has not decided: its output u is the next input, and later turns follow
+pub record Passes
+    (t : QuorumTable) (kind : Kind) (o v : ℕ) (xs : List ObjectTurn) (u : ℕ) (later : List ObjectTurn) : Type 0 where
+  pub turns : List Turn
+  pub all : xs ≡ later ++ tagged o turns
+  pub path : IsPath t kind v turns (answer false u)
+
+-- a beginning of a path of consumer c through objects with numbers from o on, with input v, and its stage
+abbrev pub IsClaimPart : QuorumTable → ℕ → List Kind → ℕ → ℕ → List ObjectTurn → Stage → Type 0
+IsClaimPart t c [] o v xs s = (xs ≡ []) × (s ≡ Undecided)
+IsClaimPart t c (kind ∷ kinds) o v xs s =
+    GoesOnIn t kind o v xs s
+    ⊎ (DecidesIn t c kind o v xs s
+    ⊎ ((u : ℕ) × (later : List ObjectTurn) × Passes t kind o v xs u later × IsClaimPart t c kinds (suc o) u later s))
+
+-- a part comes to object n with input w: whole paths through all objects before it, none decided, lead there
+abbrev pub Enters : QuorumTable → List Kind → ℕ → ℕ → List ObjectTurn → ℕ → ℕ → Type 0
+Enters t [] o v xs n w = ⊥
+Enters t (kind ∷ kinds) o v xs n w =
+    ((n ≡ o) × (w ≡ v))
+    ⊎ ((u : ℕ) × (later : List ObjectTurn) × Passes t kind o v xs u later × Enters t kinds (suc o) u later n w)
+
+-- ---- claims
+-- a whole claim path of consumer c on a cell with these objects: its first input is its own number
+abbrev pub IsWholeClaim : QuorumTable → List Kind → ℕ → List ObjectTurn → Out → Type 0
+IsWholeClaim t kinds c xs output = IsClaimPath t kinds 0 c xs output
+
+-- a beginning of a claim path of consumer c on such a cell, and its stage
+abbrev pub IsClaimBeginning : QuorumTable → List Kind → ℕ → List ObjectTurn → Stage → Type 0
+IsClaimBeginning t kinds c xs s = IsClaimPart t c kinds 0 c xs s
