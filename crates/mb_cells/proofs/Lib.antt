@@ -1,0 +1,16 @@
+pub mod Names
+pub mod Parts
+pub mod Places
+pub mod Forms
+pub mod Histories
+pub mod Items
+pub mod Ends
+pub mod Counts
+pub mod Steps
+pub mod Moves
+pub mod Pooling
+pub mod Following
+pub mod Told
+pub mod Listed
+pub mod Nexts
+pub mod Sublists

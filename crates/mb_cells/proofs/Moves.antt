@@ -1,0 +1,146 @@
+-- A producer's place as a plain value, from one access to the next.
+use Rattle.std.proofs.Common.{◌≡◌, ℕ, ◌+◌, ◌<◌, ◌≤◌, List, [], ◌∷◌, Some, None, refl, sym, ap, ◌∙◌, subst, inl, inr}
+use Rattle.std.specs.Prelude.{nat_lt}
+use Rattle.std.proofs.lemmas.Bool.{cases_Bool, ltb-true, ltb-false}
+use Rattle.mb_cells.specs.declared.lane.Stage.TheVariants as stage
+use Rattle.mb_cells.specs.LanePath.{Entry, IsLanePrefix, fetch, place_after, store}
+use Rattle.mb_cells.specs.Memory.{History}
+use Rattle.mb_cells.specs.Place.{Ended, Filled, Free, IsAt, Phase, Refused, Taken, ends_lane, ends_refused, fills_cell, finds_none, links_cell, takes_cell}
+use Rattle.mb_cells.specs.Standing.{IsLaneAfter, is_full, lane_finished, lane_offered, lane_pushed, last_of, link_after, new_lane, next_link, push_store, pushed_last, pushed_stage, refused_finish, refused_offer, stage_finish_refusal, stage_of, stage_offer_refusal, stage_push}
+use Rattle.mb_cells.specs.declared.access.TheConstants.{END}
+use Rattle.mb_cells.specs.declared.access.Word.{Word}
+use Rattle.mb_cells.specs.declared.access.Word.TheVariants.{Item}
+use Rattle.mb_cells.specs.declared.lane.Lane.{Lane}
+use Rattle.mb_cells.proofs.Places.{goes_on, one_place, prefix_at, somewhere}
+use Rattle.mb_cells.proofs.Steps.{start_at}
+
+-- the value of a producer that has done nothing
+pub start_lane : (cells p : ℕ) → IsLaneAfter cells p new_lane []
+start_lane cells p = record { entries = []; phase = Free; at = start_at cells p; last = refl; stage = refl }
+
+-- each beginning of a lane path has its value
+pub some_lane : (cells p : ℕ) (done : History) → IsLanePrefix cells p done → (lane : Lane) × IsLaneAfter cells p lane done
+some_lane cells p done prefix =
+    let s = somewhere cells p done prefix in
+    (record { last = last_of s.0; stage = stage_of s.1.0 }, record { entries = s.0; phase = s.1.0; at = s.1.1; last = refl; stage = refl })
+
+-- and only one
+pub same_lane : (cells p : ℕ) (lane other : Lane) (done : History) → IsLaneAfter cells p lane done → IsLaneAfter cells p other done → lane ≡ other
+same_lane cells p lane other done x y =
+    let one = one_place cells p x.entries y.entries x.phase y.phase done x.at y.at in
+    let last : lane.last ≡ other.last = x.last ∙ ap last_of one.0 ∙ sym y.last in
+    let stage : lane.stage ≡ other.stage = x.stage ∙ ap stage_of one.1 ∙ sym y.stage in
+    ap (λ z. record { last = z; stage = lane.stage }) last ∙ ap (λ z. record { last = other.last; stage = z }) stage
+
+-- what has a value is a beginning of a lane path
+pub lane_prefix : (cells p : ℕ) (lane : Lane) (done : History) → IsLaneAfter cells p lane done → IsLanePrefix cells p done
+lane_prefix cells p lane done x = prefix_at cells p x.entries x.phase done x.at
+
+-- the last link or the head is the place behind the entries
+link_place : (p : ℕ) (es : List Entry) → link_after p (last_of es) ≡ place_after p es
+link_place p [] = refl
+link_place p (e ∷ es) = refl
+
+-- the next link of the lane goes where its path has it
+pub next_place : (p : ℕ) (lane : Lane) (es : List Entry) → lane.last ≡ last_of es → next_link p lane ≡ place_after p es
+next_place p lane es is = ap (link_after p) is ∙ link_place p es
+
+-- an offer is not refused in the first phase alone
+free_of : (phase : Phase) → stage_offer_refusal (stage_of phase) ≡ None → phase ≡ Free
+free_of Free is = refl
+free_of (Taken e) is = absurd (cc)
+free_of (Filled e) is = absurd (cc)
+free_of (Refused e) is = absurd (cc)
+free_of (Ended None) is = absurd (cc)
+free_of (Ended (Some e)) is = absurd (cc)
+
+-- after an offer's fetch-add
+pub offered_lane : (cells p : ℕ) (lane : Lane) (done : History) (e : Entry) → IsLaneAfter cells p lane done → refused_offer lane ≡ None
+    → IsLaneAfter cells p (lane_offered cells e.value e.cell lane) (fetch p e ∷ done)
+offered_lane cells p lane done e x going =
+    let free : x.phase ≡ Free = free_of x.phase (ap stage_offer_refusal (sym x.stage) ∙ going) in
+    let at : IsAt cells p x.entries Free done = subst (λ z. IsAt cells p x.entries z done) free x.at in
+    elim (cases_Bool (nat_lt e.cell cells)) [
+      | inl low ↦
+          let b : e.cell < cells = ltb-true e.cell cells low in
+          record {
+            entries = x.entries;
+            phase = Taken e;
+            at = goes_on cells p x.entries x.entries Free (Taken e) (fetch p e) done (takes_cell x.entries e b) at;
+            last = x.last;
+            stage = rw low refl;
+          }
+      | inr high ↦
+          let b : cells ≤ e.cell = ltb-false e.cell cells high in
+          record {
+            entries = x.entries;
+            phase = Refused e;
+            at = goes_on cells p x.entries x.entries Free (Refused e) (fetch p e) done (finds_none x.entries e b) at;
+            last = x.last;
+            stage = rw high refl;
+          }
+    ]
+
+-- after a push's store, whichever it is
+pushed_at : (cells p : ℕ) (lane : Lane) (done : History) (es : List Entry) (phase : Phase) (s : Word × ℕ) → IsAt cells p es phase done → lane.last ≡ last_of es → lane.stage ≡ stage_of phase
+    → push_store p lane ≡ Some s → IsLaneAfter cells p (lane_pushed lane) (store p s.0 s.1 ∷ done)
+pushed_at cells p lane done es Free s at last stage is = absurd (let e : None ≡ Some s = sym (ap (stage_push (next_link p lane)) stage) ∙ is in cc)
+pushed_at cells p lane done es (Taken e) s at last stage is =
+    let some : Some (Item e.cell, e.value) ≡ Some s = sym (ap (stage_push (next_link p lane)) stage) ∙ is in
+    let pair : (Item e.cell, e.value) ≡ s = cc in
+    subst (λ z. IsLaneAfter cells p (lane_pushed lane) (store p z.0 z.1 ∷ done)) pair
+    (record {
+      entries = es;
+      phase = Filled e;
+      at = goes_on cells p es es (Taken e) (Filled e) (store p (Item e.cell) e.value) done (fills_cell es e) at;
+      last = ap (pushed_last lane.last) stage ∙ last;
+      stage = ap pushed_stage stage;
+    })
+pushed_at cells p lane done es (Filled e) s at last stage is =
+    let some : Some (next_link p lane, e.cell + 1) ≡ Some s = sym (ap (stage_push (next_link p lane)) stage) ∙ is in
+    let link : next_link p lane ≡ place_after p es = next_place p lane es last in
+    let put_at_place : (place_after p es, e.cell + 1) ≡ s = ap (λ w. (w, e.cell + 1)) (sym link) ∙ cc in
+    subst (λ z. IsLaneAfter cells p (lane_pushed lane) (store p z.0 z.1 ∷ done)) put_at_place
+    (record {
+      entries = e ∷ es;
+      phase = Free;
+      at = goes_on cells p es (e ∷ es) (Filled e) Free (store p (place_after p es) (e.cell + 1)) done (links_cell es e) at;
+      last = ap (pushed_last lane.last) stage;
+      stage = ap pushed_stage stage;
+    })
+pushed_at cells p lane done es (Refused e) s at last stage is = absurd (let n : None ≡ Some s = sym (ap (stage_push (next_link p lane)) stage) ∙ is in cc)
+pushed_at cells p lane done es (Ended None) s at last stage is = absurd (let n : None ≡ Some s = sym (ap (stage_push (next_link p lane)) stage) ∙ is in cc)
+pushed_at cells p lane done es (Ended (Some e)) s at last stage is = absurd (let n : None ≡ Some s = sym (ap (stage_push (next_link p lane)) stage) ∙ is in cc)
+
+-- after a push's store
+pub pushed_lane : (cells p : ℕ) (lane : Lane) (done : History) (s : Word × ℕ) → IsLaneAfter cells p lane done → push_store p lane ≡ Some s → IsLaneAfter cells p (lane_pushed lane) (store p s.0 s.1 ∷ done)
+pushed_lane cells p lane done s x is = pushed_at cells p lane done x.entries x.phase s x.at x.last x.stage is
+
+-- after the store of the end mark, by the phase
+finished_at : (cells p : ℕ) (lane : Lane) (done : History) (es : List Entry) (phase : Phase) → IsAt cells p es phase done → lane.last ≡ last_of es → lane.stage ≡ stage_of phase
+    → refused_finish lane ≡ None → IsLaneAfter cells p (lane_finished lane) (store p (place_after p es) END ∷ done)
+finished_at cells p lane done es Free at last by_stage is = record {
+  entries = es;
+  phase = Ended None;
+  at = goes_on cells p es es Free (Ended None) (store p (place_after p es) END) done (ends_lane es) at;
+  last = last;
+  stage = ap (λ z. stage.Ended (is_full z)) by_stage;
+}
+finished_at cells p lane done es (Taken e) at last by_stage is = absurd (let n = sym (ap stage_finish_refusal by_stage) ∙ is in cc)
+finished_at cells p lane done es (Filled e) at last by_stage is = absurd (let n = sym (ap stage_finish_refusal by_stage) ∙ is in cc)
+finished_at cells p lane done es (Refused e) at last by_stage is = record {
+  entries = es;
+  phase = Ended (Some e);
+  at = goes_on cells p es es (Refused e) (Ended (Some e)) (store p (place_after p es) END) done (ends_refused es e) at;
+  last = last;
+  stage = ap (λ z. stage.Ended (is_full z)) by_stage;
+}
+finished_at cells p lane done es (Ended None) at last by_stage is = absurd (let n = sym (ap stage_finish_refusal by_stage) ∙ is in cc)
+finished_at cells p lane done es (Ended (Some e)) at last by_stage is = absurd (let n = sym (ap stage_finish_refusal by_stage) ∙ is in cc)
+
+-- after the store of the end mark
+pub finished_lane : (cells p : ℕ) (lane : Lane) (done : History) → IsLaneAfter cells p lane done → refused_finish lane ≡ None
+    → IsLaneAfter cells p (lane_finished lane) (store p (next_link p lane) END ∷ done)
+finished_lane cells p lane done x going =
+    subst (λ w. IsLaneAfter cells p (lane_finished lane) (store p w END ∷ done)) (sym (next_place p lane x.entries x.last))
+    (finished_at cells p lane done x.entries x.phase x.at x.last x.stage going)

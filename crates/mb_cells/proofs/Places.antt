@@ -1,0 +1,216 @@
+-- A beginning of a lane path puts its producer at one place, and at no other.
+use Rattle.std.proofs.Common.{◌≡◌, ℕ, ◌+◌, Bool, true, false, List, [], ◌∷◌, ◌++◌, Option, Some, None, refl, sym, ap, ◌∙◌, subst, arith}
+use Rattle.mb_cells.specs.LanePath.{AllCellsBelow, Entry, IsLanePrefix, IsRefused, ending, fetch, groups, place_after, refusal, store}
+use Rattle.mb_cells.specs.Memory.{History}
+use Rattle.mb_cells.specs.Place.{Ended, Filled, Free, IsAt, Phase, Refused, Steps, Taken, done_at, ends_lane, ends_refused, fills_cell, finds_none, links_cell, takes_cell}
+use Rattle.mb_cells.specs.declared.access.Access.{Access}
+use Rattle.mb_cells.specs.declared.access.Act.TheVariants.{FetchAdd, Store}
+use Rattle.mb_cells.specs.declared.access.TheConstants.{END}
+use Rattle.mb_cells.specs.declared.access.Word.TheVariants.{Item}
+
+-- some place
+abbrev pub IsSomewhere : ℕ → ℕ → History → Type 0
+IsSomewhere cells p done = (es : List Entry) × ((phase : Phase) × IsAt cells p es phase done)
+
+-- what leads to whole groups stands at a place
+in_groups : (cells p : ℕ) (es : List Entry) (later done : History) → AllCellsBelow cells es → later ++ done ≡ groups p es → IsSomewhere cells p done
+in_groups cells p es [] done b h = (es, (Free, record { below = b; fits = tt; is = h }))
+in_groups cells p [] (x ∷ later) done b h = absurd (cc)
+in_groups cells p (e ∷ es) (x ∷ []) done b h = (es, (Filled e, record { below = b.1; fits = b.0; is = cc }))
+in_groups cells p (e ∷ es) (x ∷ y ∷ []) done b h = (es, (Taken e, record { below = b.1; fits = b.0; is = cc }))
+in_groups cells p (e ∷ es) (x ∷ y ∷ z ∷ later) done b h = in_groups cells p es later done b.1 (cc)
+
+-- so with a fetch-add that found no cell behind them
+in_refusal : (cells p : ℕ) (es : List Entry) (r : Option Entry) (later done : History) → AllCellsBelow cells es → IsRefused cells r → later ++ done ≡ refusal p r (groups p es) → IsSomewhere cells p done
+in_refusal cells p es None later done b f h = in_groups cells p es later done b h
+in_refusal cells p es (Some e) [] done b f h = (es, (Refused e, record { below = b; fits = f; is = h }))
+in_refusal cells p es (Some e) (x ∷ later) done b f h = in_groups cells p es later done b (cc)
+
+-- so with the end mark behind it
+in_ending : (cells p : ℕ) (es : List Entry) (r : Option Entry) (ended : Bool) (later done : History) → AllCellsBelow cells es → IsRefused cells r → later ++ done ≡ ending p (place_after p es) ended (refusal p r (groups p es)) → IsSomewhere cells p done
+in_ending cells p es r false later done b f h = in_refusal cells p es r later done b f h
+in_ending cells p es r true [] done b f h = (es, (Ended r, record { below = b; fits = f; is = h }))
+in_ending cells p es r true (x ∷ later) done b f h = in_refusal cells p es r later done b f (cc)
+
+-- a beginning of a lane path stands at a place
+pub somewhere : (cells p : ℕ) (done : History) → IsLanePrefix cells p done → IsSomewhere cells p done
+somewhere cells p done h =
+    in_ending cells p h.lawful.entries h.lawful.refused h.lawful.ended h.later done h.lawful.below h.lawful.above (h.is ∙ h.lawful.is)
+
+-- what stands before the rest of a path is a beginning of it
+whole : (cells p : ℕ) (es : List Entry) (r : Option Entry) (ended : Bool) → AllCellsBelow cells es → IsRefused cells r → (later done : History) → later ++ done ≡ ending p (place_after p es) ended (refusal p r (groups p es)) → IsLanePrefix cells p done
+whole cells p es r ended b f later done h = record {
+  path = later ++ done;
+  later = later;
+  lawful = record { entries = es; refused = r; ended = ended; below = b; above = f; is = h };
+  is = refl;
+}
+
+-- what stands at a place is a beginning of a lane path
+pub prefix_at : (cells p : ℕ) (es : List Entry) (phase : Phase) (done : History) → IsAt cells p es phase done → IsLanePrefix cells p done
+prefix_at cells p es Free done h = whole cells p es None false h.below tt [] done h.is
+prefix_at cells p es (Taken e) done h =
+    whole cells p (e ∷ es) None false (h.fits, h.below) tt (store p (place_after p es) (e.cell + 1) ∷ store p (Item e.cell) e.value ∷ []) done (ap (λ l. store p (place_after p es) (e.cell + 1) ∷ store p (Item e.cell) e.value ∷ l) h.is)
+prefix_at cells p es (Filled e) done h =
+    whole cells p (e ∷ es) None false (h.fits, h.below) tt (store p (place_after p es) (e.cell + 1) ∷ []) done (ap (λ l. store p (place_after p es) (e.cell + 1) ∷ l) h.is)
+prefix_at cells p es (Refused e) done h = whole cells p es (Some e) false h.below h.fits [] done h.is
+prefix_at cells p es (Ended r) done h = whole cells p es r true h.below h.fits [] done h.is
+
+-- where a producer stood before its newest access
+pub record CameFrom (cells p : ℕ) (es : List Entry) (phase : Phase) (a : Access) (d : History) : Type 0 where
+  pub entries : List Entry
+  pub was : Phase
+  pub at : IsAt cells p entries was d
+  pub by : Steps cells p entries was a es phase
+
+-- each access was a step from a place
+pub came_from : (cells p : ℕ) (es : List Entry) (phase : Phase) (a : Access) (d : History) → IsAt cells p es phase (a ∷ d) → CameFrom cells p es phase a d
+came_from cells p [] Free a d at = absurd (let e : a ∷ d ≡ [] = at.is in cc)
+came_from cells p (e ∷ es) Free a d at =
+    let whole : a ∷ d ≡ groups p (e ∷ es) = at.is in
+    let first : a ≡ store p (place_after p es) (e.cell + 1) = cc in
+    let rest : d ≡ done_at p es (Filled e) = cc in
+    record {
+      entries = es;
+      was = Filled e;
+      at = record { below = at.below.1; fits = at.below.0; is = rest };
+      by = subst (λ x. Steps cells p es (Filled e) x (e ∷ es) Free) (sym first) (links_cell es e);
+    }
+came_from cells p es (Taken e) a d at =
+    let whole : a ∷ d ≡ fetch p e ∷ groups p es = at.is in
+    let first : a ≡ fetch p e = cc in
+    let rest : d ≡ done_at p es Free = cc in
+    record {
+      entries = es;
+      was = Free;
+      at = record { below = at.below; fits = tt; is = rest };
+      by = subst (λ x. Steps cells p es Free x es (Taken e)) (sym first) (takes_cell es e at.fits);
+    }
+came_from cells p es (Filled e) a d at =
+    let whole : a ∷ d ≡ store p (Item e.cell) e.value ∷ fetch p e ∷ groups p es = at.is in
+    let first : a ≡ store p (Item e.cell) e.value = cc in
+    let rest : d ≡ done_at p es (Taken e) = cc in
+    record {
+      entries = es;
+      was = Taken e;
+      at = record { below = at.below; fits = at.fits; is = rest };
+      by = subst (λ x. Steps cells p es (Taken e) x es (Filled e)) (sym first) (fills_cell es e);
+    }
+came_from cells p es (Refused e) a d at =
+    let whole : a ∷ d ≡ fetch p e ∷ groups p es = at.is in
+    let first : a ≡ fetch p e = cc in
+    let rest : d ≡ done_at p es Free = cc in
+    record {
+      entries = es;
+      was = Free;
+      at = record { below = at.below; fits = tt; is = rest };
+      by = subst (λ x. Steps cells p es Free x es (Refused e)) (sym first) (finds_none es e at.fits);
+    }
+came_from cells p es (Ended None) a d at =
+    let whole : a ∷ d ≡ store p (place_after p es) END ∷ groups p es = at.is in
+    let first : a ≡ store p (place_after p es) END = cc in
+    let rest : d ≡ done_at p es Free = cc in
+    record {
+      entries = es;
+      was = Free;
+      at = record { below = at.below; fits = tt; is = rest };
+      by = subst (λ x. Steps cells p es Free x es (Ended None)) (sym first) (ends_lane es);
+    }
+came_from cells p es (Ended (Some e)) a d at =
+    let whole : a ∷ d ≡ store p (place_after p es) END ∷ (fetch p e ∷ groups p es) = at.is in
+    let first : a ≡ store p (place_after p es) END = cc in
+    let rest : d ≡ done_at p es (Refused e) = cc in
+    record {
+      entries = es;
+      was = Refused e;
+      at = record { below = at.below; fits = at.fits; is = rest };
+      by = subst (λ x. Steps cells p es (Refused e) x es (Ended (Some e))) (sym first) (ends_refused es e);
+    }
+
+-- a step takes what was done to the next place
+pub goes_on : (cells p : ℕ) (es fs : List Entry) (was now : Phase) (a : Access) (d : History) → Steps cells p es was a fs now → IsAt cells p es was d → IsAt cells p fs now (a ∷ d)
+goes_on cells p es fs was now a d (takes_cell _ e b) at = record { below = at.below; fits = b; is = ap (λ l. fetch p e ∷ l) at.is }
+goes_on cells p es fs was now a d (finds_none _ e b) at = record { below = at.below; fits = b; is = ap (λ l. fetch p e ∷ l) at.is }
+goes_on cells p es fs was now a d (fills_cell _ e) at = record { below = at.below; fits = at.fits; is = ap (λ l. store p (Item e.cell) e.value ∷ l) at.is }
+goes_on cells p es fs was now a d (links_cell _ e) at =
+    record { below = (at.fits, at.below); fits = tt; is = ap (λ l. store p (place_after p es) (e.cell + 1) ∷ l) at.is }
+goes_on cells p es fs was now a d (ends_lane _) at = record { below = at.below; fits = tt; is = ap (λ l. store p (place_after p es) END ∷ l) at.is }
+goes_on cells p es fs was now a d (ends_refused _ e) at =
+    record { below = at.below; fits = at.fits; is = ap (λ l. store p (place_after p es) END ∷ l) at.is }
+
+-- equal accesses have equal acts
+act_of : (a b : Access) → a ≡ b → a.act ≡ b.act
+act_of a b e = ap (λ (x : Access). x.act) e
+
+-- equal fetch-adds are of equal entries
+same_entry : (e f : Entry) (p : ℕ) → fetch p e ≡ fetch p f → e ≡ f
+same_entry e f p is =
+    let acts : FetchAdd e.value e.cell ≡ FetchAdd f.value f.cell = act_of (fetch p e) (fetch p f) is in
+    let cell : e.cell ≡ f.cell = cc in
+    let value : e.value ≡ f.value = cc in
+    ap (λ x. record { cell = x; value = e.value }) cell ∙ ap (λ x. record { cell = f.cell; value = x }) value
+
+-- from one place one access leads to one place
+steps_once : (cells p : ℕ) (es fs gs : List Entry) (was now then : Phase) (a b : Access) → a ≡ b
+    → Steps cells p es was a fs now → Steps cells p es was b gs then → (fs ≡ gs) × (now ≡ then)
+steps_once cells p es fs gs was now then a b is (takes_cell _ e x) (takes_cell _ f y) = (refl, ap Taken (same_entry e f p is))
+steps_once cells p es fs gs was now then a b is (takes_cell _ e x) (finds_none _ f y) =
+    let same : e.cell ≡ f.cell = ap (λ (z : Entry). z.cell) (same_entry e f p is) in
+    absurd (omega arith)
+steps_once cells p es fs gs was now then a b is (takes_cell _ e x) (ends_lane _) =
+    absurd (let acts : FetchAdd e.value e.cell ≡ Store END = act_of a b is in cc)
+steps_once cells p es fs gs was now then a b is (finds_none _ e x) (takes_cell _ f y) =
+    let same : e.cell ≡ f.cell = ap (λ (z : Entry). z.cell) (same_entry e f p is) in
+    absurd (omega arith)
+steps_once cells p es fs gs was now then a b is (finds_none _ e x) (finds_none _ f y) = (refl, ap Refused (same_entry e f p is))
+steps_once cells p es fs gs was now then a b is (finds_none _ e x) (ends_lane _) =
+    absurd (let acts : FetchAdd e.value e.cell ≡ Store END = act_of a b is in cc)
+steps_once cells p es fs gs was now then a b is (fills_cell _ e) (fills_cell _ f) = (refl, refl)
+steps_once cells p es fs gs was now then a b is (links_cell _ e) (links_cell _ f) = (refl, refl)
+steps_once cells p es fs gs was now then a b is (ends_lane _) (takes_cell _ f y) =
+    absurd (let acts : Store END ≡ FetchAdd f.value f.cell = act_of a b is in cc)
+steps_once cells p es fs gs was now then a b is (ends_lane _) (finds_none _ f y) =
+    absurd (let acts : Store END ≡ FetchAdd f.value f.cell = act_of a b is in cc)
+steps_once cells p es fs gs was now then a b is (ends_lane _) (ends_lane _) = (refl, refl)
+steps_once cells p es fs gs was now then a b is (ends_refused _ e) (ends_refused _ f) = (refl, refl)
+
+-- nothing done is the start
+at_start : (cells p : ℕ) (es : List Entry) (phase : Phase) → IsAt cells p es phase [] → (es ≡ []) × (phase ≡ Free)
+at_start cells p [] Free at = (refl, refl)
+at_start cells p (e ∷ es) Free at = absurd (let is : [] ≡ groups p (e ∷ es) = at.is in cc)
+at_start cells p es (Taken e) at = absurd (let is : [] ≡ fetch p e ∷ groups p es = at.is in cc)
+at_start cells p es (Filled e) at = absurd (let is : [] ≡ store p (Item e.cell) e.value ∷ fetch p e ∷ groups p es = at.is in cc)
+at_start cells p es (Refused e) at = absurd (let is : [] ≡ fetch p e ∷ groups p es = at.is in cc)
+at_start cells p es (Ended r) at = absurd (let is : [] ≡ store p (place_after p es) END ∷ refusal p r (groups p es) = at.is in cc)
+
+-- a producer stands at one place
+pub one_place : (cells p : ℕ) (es fs : List Entry) (was now : Phase) (d : History) → IsAt cells p es was d → IsAt cells p fs now d → (es ≡ fs) × (was ≡ now)
+one_place cells p es fs was now [] x y =
+    let s = at_start cells p es was x in
+    let t = at_start cells p fs now y in
+    (s.0 ∙ sym t.0, s.1 ∙ sym t.1)
+one_place cells p es fs was now (a ∷ d) x y =
+    let c = came_from cells p es was a d x in
+    let k = came_from cells p fs now a d y in
+    let before = one_place cells p c.entries k.entries c.was k.was d c.at k.at in
+    let step : Steps cells p k.entries k.was a es was =
+    subst (λ z. Steps cells p z k.was a es was) before.0 (subst (λ z. Steps cells p c.entries z a es was) before.1 c.by) in
+    steps_once cells p k.entries es fs k.was was now a a refl step k.by
+
+-- what a producer may do next: one step from its place
+pub record NextStep (cells p : ℕ) (es : List Entry) (phase : Phase) (a : Access) : Type 0 where
+  pub entries : List Entry
+  pub then : Phase
+  pub step : Steps cells p es phase a entries then
+
+-- an access that goes on with a lane path is a step from its place
+pub steps_only : (cells p : ℕ) (es : List Entry) (phase : Phase) (a : Access) (d : History) → IsAt cells p es phase d → IsLanePrefix cells p (a ∷ d) → NextStep cells p es phase a
+steps_only cells p es phase a d at prefix =
+    let s = somewhere cells p (a ∷ d) prefix in
+    let c = came_from cells p s.0 s.1.0 a d s.1.1 in
+    let same = one_place cells p c.entries es c.was phase d c.at at in
+    record {
+      entries = s.0;
+      then = s.1.0;
+      step = subst (λ z. Steps cells p z phase a s.0 s.1.0) same.0 (subst (λ z. Steps cells p c.entries z a s.0 s.1.0) same.1 c.by);
+    }

@@ -1,0 +1,21 @@
+use Rattle.mb_cells.proofs.Listed.{calls_answer, calls_once, calls_once_each, calls_read}
+use Rattle.mb_cells.proofs.Nexts.{calls_cell, calls_full}
+use Rattle.mb_cells.proofs.laws.calls_put_items.Goals as goal
+
+pub returns-clause-reads : goal.returns-clause-reads
+returns-clause-reads c = calls_read
+
+pub returns-clause-answers : goal.returns-clause-answers
+returns-clause-answers c = calls_answer
+
+pub returns-clause-cell : goal.returns-clause-cell
+returns-clause-cell c = calls_cell
+
+pub returns-clause-full : goal.returns-clause-full
+returns-clause-full c = calls_full
+
+pub returns-clause-lane : goal.returns-clause-lane
+returns-clause-lane c = calls_once
+
+pub returns-clause-once : goal.returns-clause-once
+returns-clause-once c = calls_once_each

@@ -1,0 +1,12 @@
+use Rattle.mb_cells.proofs.Ends.{after_end, end_told}
+use Rattle.mb_cells.proofs.Histories.{met_all}
+use Rattle.mb_cells.proofs.laws.end_marks_are_last.Goals as goal
+
+pub returns-clause-producer : goal.returns-clause-producer
+returns-clause-producer c = after_end
+
+pub returns-clause-reader : goal.returns-clause-reader
+returns-clause-reader c = met_all
+
+pub returns-clause-told : goal.returns-clause-told
+returns-clause-told c = end_told

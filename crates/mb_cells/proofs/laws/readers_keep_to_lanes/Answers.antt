@@ -1,0 +1,11 @@
+use Rattle.mb_cells.proofs.Sublists.{lane_path, path_of_parts, some_lane_on}
+use Rattle.mb_cells.proofs.laws.readers_keep_to_lanes.Goals as goal
+
+pub returns-clause-part : goal.returns-clause-part
+returns-clause-part c = lane_path
+
+pub returns-clause-all : goal.returns-clause-all
+returns-clause-all c = some_lane_on
+
+pub returns-clause-whole : goal.returns-clause-whole
+returns-clause-whole c = path_of_parts

@@ -1,0 +1,16 @@
+use Rattle.mb_cells.proofs.Ends.{end_word, next_cell}
+use Rattle.mb_cells.proofs.Following.{lane_reads}
+use Rattle.mb_cells.proofs.Items.{item_left}
+use Rattle.mb_cells.proofs.laws.words_lead_through_lanes.Goals as goal
+
+pub returns-clause-reads : goal.returns-clause-reads
+returns-clause-reads c = lane_reads
+
+pub returns-clause-next : goal.returns-clause-next
+returns-clause-next c = next_cell
+
+pub returns-clause-end : goal.returns-clause-end
+returns-clause-end c = end_word
+
+pub returns-clause-items : goal.returns-clause-items
+returns-clause-items c = item_left

@@ -1,0 +1,130 @@
+-- Lists of calls of a pool with their answers, the newest first, and what they alone say.
+use Rattle.std.specs.Prelude.{◌≡◌, ℕ, ◌+◌, ◌<◌, if◌then◌else◌, Bool, true, false, cond, ◌||◌, List, [], ◌∷◌, map, reverse, Option, Some, None, nat_eq, unwrap_or}
+use Rattle.mb_cells.specs.declared.answer.Offer.TheVariants as offer
+use Rattle.mb_cells.specs.declared.answer.Push.TheVariants as push
+use Rattle.mb_cells.specs.declared.answer.Finish.TheVariants as finish
+use Rattle.mb_cells.specs.declared.answer.Look.TheVariants as look
+use Rattle.mb_cells.specs.declared.lane.Stage.TheVariants as stage
+use Rattle.mb_cells.specs.Calls.{FinishMeets, OfferMeets, PushMeets}
+use Rattle.mb_cells.specs.LanePath.{Entry}
+use Rattle.mb_cells.specs.Lanes.{entry_of, push_if}
+use Rattle.mb_cells.specs.Standing.{is_full, offer_given, stage_finish_refusal, stage_offer_refusal, stage_push_answer}
+use Rattle.mb_cells.specs.State.{IsAfter, SameSize, State, cell_count, lane_count}
+use Rattle.mb_cells.specs.declared.answer.Finish.{Finish}
+use Rattle.mb_cells.specs.declared.answer.Look.{Look}
+use Rattle.mb_cells.specs.declared.answer.Offer.{Offer}
+use Rattle.mb_cells.specs.declared.answer.Push.{Push}
+use Rattle.mb_cells.specs.declared.lane.Stage.{Stage}
+
+-- a call on a lane that may change the pool, with its answer
+pub data Call : Type 0 where
+  -- lane, item, answer
+  Offered : ℕ → ℕ → Offer → Call
+  Pushed : ℕ → Push → Call
+  Finished : ℕ → Finish → Call
+
+-- the call leads from one state to the next, as the clauses `meets` and `size` of its contract say
+abbrev pub Leads : State → Call → State → Type 0
+Leads old (Offered p x r) new = (p < lane_count old) × OfferMeets old p x r new × SameSize old new
+Leads old (Pushed p r) new = (p < lane_count old) × PushMeets old p r new × SameSize old new
+Leads old (Finished p r) new = (p < lane_count old) × FinishMeets old p r new × SameSize old new
+
+-- a new pool of so many lanes and cells is in this state after these calls, each of a lane that it has
+abbrev pub HasMade : ℕ → ℕ → List Call → State → Type 0
+HasMade lanes cells [] s = (lane_count s ≡ lanes) × (cell_count s ≡ cells) × IsAfter [] s
+HasMade lanes cells (c ∷ older) s = (was : State) × (HasMade lanes cells older was × Leads was c s)
+
+-- the item that an offer's answer gives to cell k, if it was y before
+abbrev pub item_by_offer : ℕ → ℕ → Offer → ℕ → ℕ
+item_by_offer k x (offer.Cell n) y = cond (nat_eq n k) x y
+item_by_offer k x offer.Full y = y
+item_by_offer k x offer.Busy y = y
+item_by_offer k x offer.Closed y = y
+
+-- the item of the offer that was answered cell k
+abbrev pub item_by : List Call → ℕ → ℕ
+item_by [] k = 0
+item_by (Offered p x r ∷ older) k = item_by_offer k x r (item_by older k)
+item_by (Pushed p r ∷ older) k = item_by older k
+item_by (Finished p r ∷ older) k = item_by older k
+
+-- the cell that a push linked
+abbrev pub link_by_push : Push → Option ℕ
+link_by_push (push.Item k) = None
+link_by_push (push.Link k) = Some k
+link_by_push push.Idle = None
+
+-- the cells that pushes on lane p linked, the last first
+abbrev pub linked_by : ℕ → List Call → List ℕ
+linked_by p [] = []
+linked_by p (Offered q x r ∷ older) = linked_by p older
+linked_by p (Pushed q r ∷ older) = cond (nat_eq p q) (push_if (link_by_push r) (linked_by p older)) (linked_by p older)
+linked_by p (Finished q r ∷ older) = linked_by p older
+
+-- the put list of lane p: the cells that were linked, each with the item offered for it, the first linked first
+abbrev pub put_by : ℕ → List Call → List Entry
+put_by p calls = reverse (map (entry_of (item_by calls)) (linked_by p calls))
+
+-- whether the answer says that the end mark was stored
+abbrev pub is_end : Finish → Bool
+is_end finish.Ended = true
+is_end finish.Busy = false
+is_end finish.Closed = false
+
+-- whether a finish of lane p answered Ended
+abbrev pub ended_by : ℕ → List Call → Bool
+ended_by p [] = false
+ended_by p (Offered q x r ∷ older) = ended_by p older
+ended_by p (Pushed q r ∷ older) = ended_by p older
+ended_by p (Finished q r ∷ older) = cond (nat_eq p q) (is_end r || ended_by p older) (ended_by p older)
+
+-- what stands behind the last cell of lane p
+abbrev pub end_by : ℕ → List Call → Look
+end_by p calls = if ended_by p calls then look.Ended else look.Nothing
+
+-- what an offer of x with this answer makes of a stage
+abbrev pub stage_by_offer : ℕ → Offer → Stage → Stage
+stage_by_offer x (offer.Cell n) was = stage.Offered n x
+stage_by_offer x offer.Full was = stage.Full
+stage_by_offer x offer.Busy was = was
+stage_by_offer x offer.Closed was = was
+
+-- what a push with this answer makes of a stage
+abbrev pub stage_by_push : Push → Stage → Stage
+stage_by_push (push.Item k) was = stage.Stored k
+stage_by_push (push.Link k) was = stage.Open
+stage_by_push push.Idle was = was
+
+-- what a finish with this answer makes of a stage
+abbrev pub stage_by_finish : Finish → Stage → Stage
+stage_by_finish finish.Ended was = stage.Ended (is_full was)
+stage_by_finish finish.Busy was = was
+stage_by_finish finish.Closed was = was
+
+-- what the calls on lane p came to since its last link: the last answer that was no refusal says it
+abbrev pub stage_by : ℕ → List Call → Stage
+stage_by p [] = stage.Open
+stage_by p (Offered q x r ∷ older) = cond (nat_eq p q) (stage_by_offer x r (stage_by p older)) (stage_by p older)
+stage_by p (Pushed q r ∷ older) = cond (nat_eq p q) (stage_by_push r (stage_by p older)) (stage_by p older)
+stage_by p (Finished q r ∷ older) = cond (nat_eq p q) (stage_by_finish r (stage_by p older)) (stage_by p older)
+
+-- how many fetch-adds an offer with this answer made, at this stage
+abbrev pub adds_by_offer : Offer → Stage → ℕ
+adds_by_offer (offer.Cell n) was = 1
+adds_by_offer offer.Full was = cond (is_full was) 0 1
+adds_by_offer offer.Busy was = 0
+adds_by_offer offer.Closed was = 0
+
+-- how many offers made a fetch-add: those answered with a cell, and the first Full of each lane
+abbrev pub adds_by : List Call → ℕ
+adds_by [] = 0
+adds_by (Offered p x r ∷ older) = adds_by older + adds_by_offer r (stage_by p older)
+adds_by (Pushed p r ∷ older) = adds_by older
+adds_by (Finished p r ∷ older) = adds_by older
+
+-- the answer of a call is the one that the calls before it ask for
+abbrev pub IsAnswerBy : ℕ → Call → List Call → Type 0
+IsAnswerBy cells (Offered p x r) older =
+    r ≡ unwrap_or (stage_offer_refusal (stage_by p older)) (offer_given cells (adds_by older))
+IsAnswerBy cells (Pushed p r) older = r ≡ stage_push_answer (stage_by p older)
+IsAnswerBy cells (Finished p r) older = r ≡ unwrap_or (stage_finish_refusal (stage_by p older)) finish.Ended

@@ -1,0 +1,13 @@
+pub mod Memory
+pub mod LanePath
+pub mod ReaderPath
+pub mod Lawful
+pub mod Lanes
+pub mod Met
+pub mod Place
+pub mod Reading
+pub mod Standing
+pub mod State
+pub mod Calls
+pub mod CallLists
+pub mod Examples

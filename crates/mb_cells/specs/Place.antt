@@ -1,0 +1,53 @@
+-- Where a producer stands on its path.
+use Rattle.std.specs.Prelude.{◌≡◌, ℕ, ◌+◌, ◌<◌, ◌≤◌, List, ◌∷◌, Option, Some, None}
+use Rattle.mb_cells.specs.LanePath.{AllCellsBelow, Entry, IsRefused, fetch, groups, place_after, refusal, store}
+use Rattle.mb_cells.specs.Memory.{History}
+use Rattle.mb_cells.specs.declared.access.Access.{Access}
+use Rattle.mb_cells.specs.declared.access.TheConstants.{END}
+use Rattle.mb_cells.specs.declared.access.Word.TheVariants.{Item}
+
+-- what a producer has done since its last link store
+pub data Phase : Type 0 where
+  -- nothing
+  Free : Phase
+  -- a fetch-add that gave a cell
+  Taken : Entry → Phase
+  -- and a store of the item
+  Filled : Entry → Phase
+  -- a fetch-add that gave no cell
+  Refused : Entry → Phase
+  -- a store of the end mark, perhaps after a fetch-add that gave no cell
+  Ended : Option Entry → Phase
+
+-- all that producer p has done, where it has linked these entries (the last first) and stands in this phase
+abbrev pub done_at : ℕ → List Entry → Phase → History
+done_at p es Free = groups p es
+done_at p es (Taken e) = fetch p e ∷ groups p es
+done_at p es (Filled e) = store p (Item e.cell) e.value ∷ fetch p e ∷ groups p es
+done_at p es (Refused e) = fetch p e ∷ groups p es
+done_at p es (Ended r) = store p (place_after p es) END ∷ refusal p r (groups p es)
+
+-- the number that the last fetch-add gave is that of a cell, or past the cells, as the phase has it
+abbrev pub PhaseFits : ℕ → Phase → Type 0
+PhaseFits cells Free = Unit {0}
+PhaseFits cells (Taken e) = e.cell < cells
+PhaseFits cells (Filled e) = e.cell < cells
+PhaseFits cells (Refused e) = cells ≤ e.cell
+PhaseFits cells (Ended r) = IsRefused cells r
+
+-- what producer p has done puts it at this place
+pub record IsAt (cells p : ℕ) (es : List Entry) (phase : Phase) (done : History) : Type 0 where
+  pub below : AllCellsBelow cells es
+  pub fits : PhaseFits cells phase
+  pub is : done ≡ done_at p es phase
+
+-- one access takes producer p from one place to the next
+pub data Steps (cells p : ℕ) : List Entry → Phase → Access → List Entry → Phase → Type 0 where
+  takes_cell : (es : List Entry) (e : Entry) → e.cell < cells → Steps cells p es Free (fetch p e) es (Taken e)
+  finds_none : (es : List Entry) (e : Entry) → cells ≤ e.cell → Steps cells p es Free (fetch p e) es (Refused e)
+  fills_cell : (es : List Entry) (e : Entry) → Steps cells p es (Taken e) (store p (Item e.cell) e.value) es (Filled e)
+  links_cell : (es : List Entry) (e : Entry) →
+      Steps cells p es (Filled e) (store p (place_after p es) (e.cell + 1)) (e ∷ es) Free
+  ends_lane : (es : List Entry) → Steps cells p es Free (store p (place_after p es) END) es (Ended None)
+  ends_refused : (es : List Entry) (e : Entry) →
+      Steps cells p es (Refused e) (store p (place_after p es) END) es (Ended (Some e))

@@ -1,0 +1,50 @@
+//! Atomic accesses to the shared words of a pool of cells.
+
+/// The end mark of a lane, as it stands in its last link or its head.
+pub const END: u64 = u64::MAX;
+
+/// Who makes an access.
+#[derive(Clone, Copy, PartialEq, Eq, Debug)]
+pub enum Process {
+    /// The producer of the lane with this number.
+    Producer(u32),
+    /// A reader, under a number of its own.
+    Reader(u32),
+}
+
+/// A shared word of a pool. All are 0 at first.
+#[derive(Clone, Copy, PartialEq, Eq, Debug)]
+pub enum Word {
+    /// How many fetch-adds were made for cells.
+    Counter,
+    /// The head of a lane: 0 (nothing yet), k + 1 (cell k is the first), or `END`.
+    Head(u32),
+    /// The link of a cell: 0 (nothing yet), k + 1 (cell k follows), or `END`.
+    Link(u32),
+    /// The item of a cell.
+    Item(u32),
+}
+
+/// What an access does to its word.
+#[derive(Clone, Copy, PartialEq, Eq, Debug)]
+pub enum Act {
+    /// The word was loaded and had this value.
+    Load(u64),
+    /// This value was stored in the word.
+    Store(u64),
+    /// One was added to the counter, for an item that is offered.
+    FetchAdd {
+        /// The item offered.
+        item: u64,
+        /// What the counter held before.
+        found: u64,
+    },
+}
+
+/// One atomic access to one word.
+#[derive(Clone, Copy, PartialEq, Eq, Debug)]
+pub struct Access {
+    pub process: Process,
+    pub word: Word,
+    pub act: Act,
+}

@@ -1,0 +1,51 @@
+//! What the calls of a pool answer.
+use std::alloc::AllocError;
+
+/// Want of memory: a growth was refused.
+pub type NoMemory = AllocError;
+
+/// The answer of an offer.
+#[derive(Clone, Copy, PartialEq, Eq, Debug)]
+pub enum Offer {
+    /// The item has this cell, and is put by two pushes.
+    Cell(u32),
+    /// All cells were handed out.
+    Full,
+    /// The item offered before is not linked yet.
+    Busy,
+    /// The lane is finished.
+    Closed,
+}
+
+/// The answer of a push.
+#[derive(Clone, Copy, PartialEq, Eq, Debug)]
+pub enum Push {
+    /// The item was stored in this cell.
+    Item(u32),
+    /// This cell was linked: its item is put.
+    Link(u32),
+    /// No item is offered that is not linked.
+    Idle,
+}
+
+/// The answer of a finish.
+#[derive(Clone, Copy, PartialEq, Eq, Debug)]
+pub enum Finish {
+    /// The end mark was stored.
+    Ended,
+    /// The item offered before is not linked yet.
+    Busy,
+    /// The lane was finished before.
+    Closed,
+}
+
+/// The answer of a look: what stands behind a cursor.
+#[derive(Clone, Copy, PartialEq, Eq, Debug)]
+pub enum Look {
+    /// Nothing yet.
+    Nothing,
+    /// This cell.
+    Cell(u32),
+    /// The end mark of the lane.
+    Ended,
+}

@@ -1,0 +1,41 @@
+//! Where a reader stands.
+ghost use Rattle.std.specs.Prelude.{◌≡◌};
+ghost use Rattle.mb_cells.specs.declared.cursor.Cursor.TheVariants.{Head, Past};
+ghost use Rattle.mb_cells.specs.Reading.{word_of};
+
+use crate::access::Word;
+
+/// Where a reader stands on a lane.
+#[derive(Clone, Copy, PartialEq, Eq, Debug)]
+pub enum Cursor {
+    /// At the head of the lane with this number.
+    Head(u32),
+    /// Past the cell with this number.
+    Past(u32),
+}
+
+impl Cursor {
+    /// The head of lane `p`.
+    pub fn head(p: u32) -> Cursor
+        ensures { result ≡ Head p }
+    {
+        Cursor::Head(p)
+    }
+
+    /// The place past cell `k`.
+    pub fn past(k: u32) -> Cursor
+        ensures { result ≡ Past k }
+    {
+        Cursor::Past(k)
+    }
+
+    /// The word that tells what stands behind the cursor.
+    pub fn word(self) -> Word
+        ensures { result ≡ word_of self }
+    {
+        match self {
+            Cursor::Head(p) => Word::Head(p),
+            Cursor::Past(k) => Word::Link(k),
+        }
+    }
+}

@@ -1,0 +1,146 @@
+//! A producer's place on its lane, as a plain value: what it may do next, and what follows.
+ghost use Rattle.std.specs.Prelude.{◌≡◌, None};
+ghost use Rattle.mb_cells.specs.Standing.{refused_offer, refused_finish, offer_given, push_store, push_answer, next_link, new_lane, lane_offered, lane_pushed, lane_finished};
+ghost use Rattle.mb_cells.specs.declared.lane.Stage.TheVariants.{Open};
+
+use crate::access::Word;
+use crate::answer::{Finish, Offer, Push};
+
+/// What a producer has done since its last link store.
+#[derive(Clone, Copy, PartialEq, Eq, Debug)]
+pub enum Stage {
+    /// Nothing.
+    Open,
+    /// Its fetch-add gave this cell for this item.
+    Offered {
+        cell: u32,
+        item: u64,
+    },
+    /// The item is stored in this cell, which is not linked yet.
+    Stored {
+        cell: u32,
+    },
+    /// Its fetch-add found no cell.
+    Full,
+    /// It has stored the end mark.
+    Ended {
+        /// Whether a fetch-add had found no cell before.
+        full: bool,
+    },
+}
+
+/// A producer's place on its lane: the cell that it linked last, and what it has done since.
+#[derive(Clone, Copy, PartialEq, Eq, Debug)]
+pub struct Lane {
+    last: Option<u32>,
+    stage: Stage,
+}
+
+impl Lane {
+    /// The place of a producer that has made no access.
+    pub fn new() -> Lane
+        ensures { result ≡ new_lane }
+    {
+        Lane {
+            last: None,
+            stage: Stage::Open,
+        }
+    }
+
+    /// The answer of an offer that makes no access. Without one the offer makes a fetch-add.
+    pub fn offer_refusal(self) -> Option<Offer>
+        ensures { result ≡ refused_offer self }
+    {
+        match self.stage {
+            Stage::Ended { .. } => Some(Offer::Closed),
+            Stage::Offered { .. } | Stage::Stored { .. } => Some(Offer::Busy),
+            Stage::Full => Some(Offer::Full),
+            Stage::Open => None,
+        }
+    }
+
+    /// What follows an offer's fetch-add that gave `found`, in a pool of `cells` cells.
+    pub fn offered(&mut self, cells: u32, item: u64, found: u64) -> Offer
+        requires { refused_offer self.old ≡ None }
+        ensures answer { result ≡ offer_given cells found }
+        ensures lane { self.new ≡ lane_offered cells item found self.old }
+    {
+        if found < u64::from(cells) {
+            let cell = found as u32;
+            self.stage = Stage::Offered { cell, item };
+            Offer::Cell(cell)
+        } else {
+            self.stage = Stage::Full;
+            Offer::Full
+        }
+    }
+
+    /// The word and the value of the store that a push makes, on lane `p`. Without one the push is idle.
+    pub fn next_push(self, p: u32) -> Option<(Word, u64)>
+        ensures { result ≡ push_store p self }
+    {
+        match self.stage {
+            Stage::Offered { cell, item } => Some((Word::Item(cell), item)),
+            Stage::Stored { cell } => Some((self.next_link(p), u64::from(cell) + 1)),
+            _ => None,
+        }
+    }
+
+    /// What follows a push's store.
+    pub fn pushed(&mut self) -> Push
+        ensures answer { result ≡ push_answer self.old }
+        ensures lane { self.new ≡ lane_pushed self.old }
+    {
+        match self.stage {
+            Stage::Offered { cell, .. } => {
+                self.stage = Stage::Stored { cell };
+                Push::Item(cell)
+            }
+            Stage::Stored { cell } => {
+                self.last = Some(cell);
+                self.stage = Stage::Open;
+                Push::Link(cell)
+            }
+            _ => Push::Idle,
+        }
+    }
+
+    /// The answer of a finish that makes no access. Without one the finish stores the end mark.
+    pub fn finish_refusal(self) -> Option<Finish>
+        ensures { result ≡ refused_finish self }
+    {
+        match self.stage {
+            Stage::Ended { .. } => Some(Finish::Closed),
+            Stage::Offered { .. } | Stage::Stored { .. } => Some(Finish::Busy),
+            Stage::Open | Stage::Full => None,
+        }
+    }
+
+    /// Where the next link or the end mark of lane `p` goes: its last link, or its head.
+    pub fn next_link(self, p: u32) -> Word
+        ensures { result ≡ next_link p self }
+    {
+        match self.last {
+            None => Word::Head(p),
+            Some(k) => Word::Link(k),
+        }
+    }
+
+    /// What follows the store of the end mark.
+    pub fn finished(&mut self)
+        requires { refused_finish self.old ≡ None }
+        ensures { self.new ≡ lane_finished self.old }
+    {
+        self.stage = Stage::Ended {
+            full: self.stage == Stage::Full,
+        };
+    }
+}
+
+impl Default for Lane {
+    ghost is_default = { λ lane. lane ≡ new_lane };
+
+    fn default() -> Self {
+        Lane::new()
+    }
+}

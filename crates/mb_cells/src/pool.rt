@@ -1,0 +1,148 @@
+//! The pool of cells, under one caller.
+ghost use Rattle.std.specs.Prelude.{◌≡◌, ◌<◌, [], IfOk};
+
+use crate::access::{END, Word};
+use crate::answer::{Finish, Look, NoMemory, Offer, Push};
+use crate::cursor::Cursor;
+use crate::lane::Lane;
+use crate::words::Words;
+use std::alloc::Allocator;
+use std::marker::Model;
+
+/// Cells that producers link into lanes. All calls are one caller's, so each of them is one access, or none.
+#[derive(Drop)]
+pub struct Pool<A: Allocator + Drop> {
+    words: Words<A>,
+    lanes: Vec<Lane, A>,
+}
+
+impl<A: Allocator + Drop> Model for Pool<A> {
+    ghost use Rattle.mb_cells.specs.State.{State, IsSound};
+
+    ghost Value = { State };
+
+    ghost view = { λ a. record { words = a.words; lanes = a.lanes.items } };
+
+    ghost invariant = { λ a. IsSound (record { words = a.words; lanes = a.lanes.items }) };
+}
+
+impl<A: Allocator + Clone + Drop> Pool<A> {
+    ghost use Rattle.mb_cells.specs.State.{IsAfter, lane_count, cell_count};
+
+    /// A pool of empty lanes, none of whose cells was handed out. All that it will ever need is reserved here.
+    pub fn new(alloc: A, lanes: u32, cells: u32) -> Result<Pool<A>, NoMemory>
+        ensures lanes { IfOk result (λ s. lane_count s ≡ lanes) }
+        ensures cells { IfOk result (λ s. cell_count s ≡ cells) }
+        ensures empty { IfOk result (λ s. IsAfter [] s) }
+    {
+        let heads = vec![in alloc.clone()?; 0u64; lanes as usize]?;
+        let links = vec![in alloc.clone()?; 0u64; cells as usize]?;
+        let items = vec![in alloc.clone()?; 0u64; cells as usize]?;
+        let lanes = vec![in alloc; Lane::new(); lanes as usize]?;
+        Ok(Pool {
+            words: Words {
+                counter: 0,
+                heads,
+                links,
+                items,
+            },
+            lanes,
+        })
+    }
+}
+
+impl<A: Allocator + Drop> Pool<A> {
+    ghost use Rattle.mb_cells.specs.Memory.{History, value_after};
+    ghost use Rattle.mb_cells.specs.Reading.{look_after, word_of};
+    ghost use Rattle.mb_cells.specs.State.{IsAfter, IsShownAlike, IsWithin, SameSize, lane_count, cell_count, look_in, item_in};
+    ghost use Rattle.mb_cells.specs.Calls.{OfferMeets, OfferKeeps, PushMeets, FinishMeets, FinishKeeps, LoadGoesOn};
+    ghost use Rattle.mb_cells.specs.declared.access.Word.TheVariants.{Item};
+    ghost use Rattle.mb_cells.specs.declared.answer.Push.TheVariants.{Idle};
+
+    /// Takes the next cell for item `x` of lane `p`, by one fetch-add of the counter.
+    pub fn offer(&mut self, p: u32, x: u64) -> Offer
+        requires { p < lane_count self.old }
+        ensures meets { OfferMeets self.old p x result self.new }
+        ensures kept { OfferKeeps self.old p self.new }
+        ensures shown { IsShownAlike self.old self.new }
+        ensures size { SameSize self.old self.new }
+    {
+        let mut lane = self.lanes[p as usize];
+        if let Some(refusal) = lane.offer_refusal() {
+            return refusal;
+        }
+        let cells = self.words.cells();
+        let found = self.words.load(Word::Counter);
+        self.words.store(Word::Counter, found + 1);
+        let answer = lane.offered(cells, x, found);
+        self.lanes[p as usize] = lane;
+        answer
+    }
+
+    /// Stores the item that was offered on lane `p`, and at the next call its link.
+    pub fn push(&mut self, p: u32) -> Push
+        requires { p < lane_count self.old }
+        ensures meets { PushMeets self.old p result self.new }
+        ensures idle { result ≡ Idle → self.new ≡ self.old }
+        ensures size { SameSize self.old self.new }
+    {
+        let mut lane = self.lanes[p as usize];
+        let Some((word, value)) = lane.next_push(p) else {
+            return Push::Idle;
+        };
+        self.words.store(word, value);
+        let answer = lane.pushed();
+        self.lanes[p as usize] = lane;
+        answer
+    }
+
+    /// Stores the end mark of lane `p`.
+    pub fn finish(&mut self, p: u32) -> Finish
+        requires { p < lane_count self.old }
+        ensures meets { FinishMeets self.old p result self.new }
+        ensures kept { FinishKeeps self.old p self.new }
+        ensures size { SameSize self.old self.new }
+    {
+        let mut lane = self.lanes[p as usize];
+        if let Some(refusal) = lane.finish_refusal() {
+            return refusal;
+        }
+        self.words.store(lane.next_link(p), END);
+        lane.finished();
+        self.lanes[p as usize] = lane;
+        Finish::Ended
+    }
+
+    /// What stands behind the cursor.
+    pub fn look(&self, cursor: Cursor) -> Look
+        requires { IsWithin self.now cursor }
+        ensures shown { result ≡ look_in self.now cursor }
+        ensures after { (h : History) → IsAfter h self.now → result ≡ look_after h cursor }
+        ensures load { LoadGoesOn self.now (word_of cursor) }
+
+        // Some lawful history leaves each pool.
+        ensures history { (h : History) × IsAfter h self.now }
+    {
+        let link = self.words.load(cursor.word());
+        if link == 0 {
+            Look::Nothing
+        } else if link == END {
+            Look::Ended
+        } else {
+            Look::Cell((link - 1) as u32)
+        }
+    }
+
+    /// The item of cell `k`.
+    pub fn item(&self, k: u32) -> u64
+        requires { k < cell_count self.now }
+        ensures shown { result ≡ item_in self.now k }
+        ensures after { (h : History) → IsAfter h self.now → result ≡ value_after h (Item k) }
+        ensures load { LoadGoesOn self.now (Item k) }
+    {
+        self.words.load(Word::Item(k))
+    }
+}
+
+#[cfg(test)]
+mod tests;

@@ -1,0 +1,98 @@
+ghost use Rattle.std.specs.Prelude.{◌≡◌, ◌<◌, OnOk};
+ghost use Rattle.mb_cells.specs.State.{SameSize, lane_count};
+
+use super::*;
+use std::process::Abort;
+use std::test::Fail;
+
+/// Offers an item that gets this cell, and links it.
+fn put<A: Allocator + Drop>(
+    rt: &impl Abort,
+    pool: &mut Pool<A>,
+    p: u32,
+    x: u64,
+    cell: u32,
+) -> Result<(), Fail>
+    requires { p < lane_count pool.old }
+    ensures { OnOk result (SameSize pool.old pool.new) }
+{
+    assert_eq!(rt; pool.offer(p, x), Offer::Cell(cell));
+    assert_eq!(rt; pool.push(p), Push::Item(cell));
+    assert_eq!(rt; pool.push(p), Push::Link(cell));
+    Ok(())
+}
+
+#[test]
+fn two_lanes_draw_from_one_pool(rt: HostRuntime) -> Result<(), Fail> {
+    let mut pool = Pool::new(rt.alloc(), 2, 4)?;
+    put(&rt, &mut pool, 0, 10, 0)?;
+    put(&rt, &mut pool, 1, 20, 1)?;
+    put(&rt, &mut pool, 0, 11, 2)?;
+    put(&rt, &mut pool, 1, 21, 3)?;
+    assert_eq!(rt; pool.look(Cursor::head(0)), Look::Cell(0));
+    assert_eq!(rt; pool.look(Cursor::past(0)), Look::Cell(2));
+    assert_eq!(rt; pool.look(Cursor::past(2)), Look::Nothing);
+    assert_eq!(rt; pool.look(Cursor::head(1)), Look::Cell(1));
+    assert_eq!(rt; pool.look(Cursor::past(1)), Look::Cell(3));
+    assert_eq!(rt; pool.look(Cursor::past(3)), Look::Nothing);
+    assert_eq!(rt; pool.item(3), 21);
+    Ok(())
+}
+
+#[test]
+fn full_comes_with_one_access(rt: HostRuntime) -> Result<(), Fail> {
+    let mut pool = Pool::new(rt.alloc(), 2, 1)?;
+    assert_eq!(rt; pool.offer(0, 1), Offer::Cell(0));
+    assert_eq!(rt; pool.offer(1, 2), Offer::Full);
+    assert_eq!(rt; pool.words.load(Word::Counter), 2);
+    assert_eq!(rt; pool.offer(1, 3), Offer::Full);
+    assert_eq!(rt; pool.words.load(Word::Counter), 2);
+    assert_eq!(rt; pool.finish(1), Finish::Ended);
+    assert_eq!(rt; pool.finish(0), Finish::Busy);
+    Ok(())
+}
+
+#[test]
+fn a_pool_of_no_cells(rt: HostRuntime) -> Result<(), Fail> {
+    let mut pool = Pool::new(rt.alloc(), 1, 0)?;
+    assert_eq!(rt; pool.offer(0, 5), Offer::Full);
+    assert_eq!(rt; pool.offer(0, 5), Offer::Full);
+    assert_eq!(rt; pool.finish(0), Finish::Ended);
+    assert_eq!(rt; pool.look(Cursor::head(0)), Look::Ended);
+    Ok(())
+}
+
+#[test]
+fn refusals_in_their_order(rt: HostRuntime) -> Result<(), Fail> {
+    let mut pool = Pool::new(rt.alloc(), 1, 1)?;
+    assert_eq!(rt; pool.offer(0, 3), Offer::Cell(0));
+    assert_eq!(rt; pool.finish(0), Finish::Busy);
+    assert_eq!(rt; pool.offer(0, 4), Offer::Busy);
+    assert_eq!(rt; pool.push(0), Push::Item(0));
+    assert_eq!(rt; pool.finish(0), Finish::Busy);
+    assert_eq!(rt; pool.push(0), Push::Link(0));
+    assert_eq!(rt; pool.push(0), Push::Idle);
+    assert_eq!(rt; pool.finish(0), Finish::Ended);
+    assert_eq!(rt; pool.offer(0, 4), Offer::Closed);
+    assert_eq!(rt; pool.finish(0), Finish::Closed);
+    assert_eq!(rt; pool.push(0), Push::Idle);
+    Ok(())
+}
+
+#[test]
+fn sixteen_lanes_until_full(rt: HostRuntime) -> Result<(), Fail> {
+    let mut pool = Pool::new(rt.alloc(), 16, 40)?;
+    for cell in 0..40u32 {
+        put(&rt, &mut pool, cell % 16, u64::from(cell) + 100, cell)?;
+    }
+    for p in 0..16u32 {
+        let last = if p < 8 { p + 32 } else { p + 16 };
+        assert_eq!(rt; pool.offer(p, 7), Offer::Full);
+        assert_eq!(rt; pool.finish(p), Finish::Ended);
+        assert_eq!(rt; pool.look(Cursor::head(p)), Look::Cell(p));
+        assert_eq!(rt; pool.look(Cursor::past(p)), Look::Cell(p + 16));
+        assert_eq!(rt; pool.item(last), u64::from(last) + 100);
+        assert_eq!(rt; pool.look(Cursor::past(last)), Look::Ended);
+    }
+    Ok(())
+}

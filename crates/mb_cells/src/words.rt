@@ -1,0 +1,60 @@
+//! The words of a pool.
+ghost use Rattle.std.specs.Prelude.{◌≡◌, ◌<◌, ◌^◌, length};
+ghost use Rattle.mb_cells.specs.State.{HasWord, stored, word_in};
+
+use crate::access::Word;
+use std::alloc::Allocator;
+use std::marker::Model;
+
+/// The words of a pool.
+#[derive(Drop)]
+pub struct Words<A: Allocator + Drop> {
+    pub counter: u64,
+    pub heads: Vec<u64, A>,
+    pub links: Vec<u64, A>,
+    pub items: Vec<u64, A>,
+}
+
+impl<A: Allocator + Drop> Model for Words<A> {
+    ghost use Rattle.mb_cells.specs.State.{PoolWords};
+
+    ghost Value = { PoolWords };
+
+    ghost view = { λ w. record { counter = w.counter; heads = w.heads.items; links = w.links.items; items = w.items.items } };
+}
+
+impl<A: Allocator + Drop> Words<A> {
+    /// How many cells there are.
+    pub fn cells(&self) -> u32
+        requires { length self.now.items < 2 ^ 32 }
+        ensures { result ≡ length self.now.items }
+    {
+        self.items.len() as u32
+    }
+
+    /// What the word holds.
+    pub fn load(&self, word: Word) -> u64
+        requires { HasWord self.now word }
+        ensures { result ≡ word_in self.now word }
+    {
+        match word {
+            Word::Counter => self.counter,
+            Word::Head(p) => self.heads[p as usize],
+            Word::Link(k) => self.links[k as usize],
+            Word::Item(k) => self.items[k as usize],
+        }
+    }
+
+    /// Stores a value in the word.
+    pub fn store(&mut self, word: Word, value: u64)
+        requires { HasWord self.old word }
+        ensures { self.new ≡ stored self.old word value }
+    {
+        match word {
+            Word::Counter => self.counter = value,
+            Word::Head(p) => self.heads[p as usize] = value,
+            Word::Link(k) => self.links[k as usize] = value,
+            Word::Item(k) => self.items[k as usize] = value,
+        }
+    }
+}
