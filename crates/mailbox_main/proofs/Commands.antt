@@ -1,0 +1,39 @@
+-- A command that stands alone on the command line.
+use Rattle.std.proofs.Common.{◌≡◌, List, [], ◌∷◌, true, Some, option_map, refl, sym, ap, ap₂, ◌∙◌, arith, Result, Ok, Err}
+use Rattle.std.proofs.lemmas.Grind.{common_steps}
+use Rattle.std.specs.Prelude.{IfErr, IsErrAnd}
+use Rattle.clap.specs.Words.{App, Text, HasMatchesOf, is_simple, kind_of, subcommand_name_of, subcommand_of, subcommand_rows_of, takes}
+use Rattle.clap.specs.declared.parser.matches.ArgMatches.{ArgMatches}
+use Rattle.clap.specs.declared.error.Error.{Error}
+use Rattle.clap.specs.declared.error.ErrorKind.TheVariants.{OutOfMemory}
+use Rattle.clap.proofs.OnLiterals.{clap_on_literals}
+use Rattle.mailbox_main.specs.declared.command.Choice.{Choice}
+use Rattle.mailbox_main.specs.declared.command.Choice.TheVariants.{Ratify}
+use Rattle.mailbox_main.specs.CommandLine.{program, command_in, choice_name}
+
+-- clap takes it
+pub alone_taken : (name : Text) (choice : Choice) → takes program (name ∷ choice_name choice ∷ []) ≡ true
+unfolding clap_on_literals
+alone_taken name Ratify = refl
+
+-- and finds it
+alone_found : (name : Text) (choice : Choice) → command_in (name ∷ choice_name choice ∷ []) ≡ Some (choice_name choice)
+unfolding clap_on_literals
+alone_found name Ratify = refl
+
+-- the name of what was entered
+rows_name : (m : ArgMatches) → option_map (λ (found : _). found.0) (subcommand_rows_of m) ≡ subcommand_name_of m
+rows_name m = grind (arith, common_steps)
+
+-- so the matches name it
+pub alone_named : (app : App) (words : List Text) (m : ArgMatches) (name : Text) (choice : Choice) → app ≡ program
+    → words ≡ name ∷ choice_name choice ∷ [] → HasMatchesOf app words m → subcommand_name_of m ≡ Some (choice_name choice)
+alone_named app words m name choice is_program alone matches =
+    sym (rows_name m) ∙ ap (option_map (λ found. found.0)) ((matches (ap is_simple is_program)).1 ∙ ap₂ subcommand_of is_program alone)
+    ∙ alone_found name choice
+
+-- an error that `?` hands on is of its kind
+pub kind_kept : {X : Type 0} (r : Result X Error) (e : Error) → IsErrAnd r (λ f. f ≡ e) → kind_of e ≡ OutOfMemory
+    → IfErr r (λ f. kind_of f ≡ OutOfMemory)
+kind_kept (Ok x) e same kind = tt
+kind_kept (Err f) e same kind = ap kind_of same ∙ kind

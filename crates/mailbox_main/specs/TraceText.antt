@@ -1,0 +1,47 @@
+-- The text of a ratifier's trace.
+use Rattle.std.specs.Prelude.{ℕ, suc, List, [], ◌∷◌, ◌++◌, cond, codes, Option, Some, None}
+use Rattle.std.specs.List.{flat_map}
+use Rattle.std.specs.Fmt.{decimal}
+use Rattle.mb_deciding.specs.declared.access.Reg.{Reg}
+use Rattle.mb_deciding.specs.declared.access.Reg.TheVariants.{Value, Proposal, Quorum}
+use Rattle.mb_deciding.specs.declared.access.Act.{Act}
+use Rattle.mb_deciding.specs.declared.access.Act.TheVariants.{Load, Store}
+use Rattle.mb_deciding.specs.declared.object.Out.{Out}
+use Rattle.mb_deciding.specs.declared.trace.Entry.{Entry}
+use Rattle.mb_deciding.specs.declared.trace.Entry.TheVariants.{Access, Done}
+
+-- a conciliator's word, the proposal, or a quorum register by its index
+abbrev pub reg_text : Reg → List ℕ
+reg_text Value = codes "c"
+reg_text Proposal = codes "p"
+reg_text (Quorum i) = codes "q" ++ decimal i
+
+-- what was done, where, and the value of the word
+abbrev pub act_text : Act → List ℕ
+act_text (Load reg value) = codes "load " ++ reg_text reg ++ codes " " ++ decimal value
+act_text (Store reg value) = codes "store " ++ reg_text reg ++ codes " " ++ decimal value
+
+-- 1 where it is decided, else 0, and the value
+abbrev pub out_text : Out → List ℕ
+out_text out = cond out.decided (codes "1 ") (codes "0 ") ++ decimal out.value
+
+-- the line of a turn
+abbrev pub entry_text : Entry → List ℕ
+entry_text (Access process act None) = decimal process ++ codes " " ++ act_text act ++ codes "\n"
+entry_text (Access process act (Some out)) =
+    decimal process ++ codes " " ++ act_text act ++ codes " out " ++ out_text out ++ codes "\n"
+entry_text (Done process) = decimal process ++ codes " done\n"
+
+-- the line of a process
+abbrev pub process_text : ℕ → Option Out → List ℕ
+process_text process (Some out) = codes "process " ++ decimal process ++ codes ": " ++ out_text out ++ codes "\n"
+process_text process None = codes "process " ++ decimal process ++ codes ": none\n"
+
+-- the lines of the processes from the first of these on
+abbrev pub processes_text : ℕ → List (Option Out) → List ℕ
+processes_text first [] = []
+processes_text first (out ∷ outputs) = process_text first out ++ processes_text (suc first) outputs
+
+-- a line for each entry, and then a line for each process
+abbrev pub trace_text : List Entry → List (Option Out) → List ℕ
+trace_text entries outputs = flat_map entry_text entries ++ processes_text 0 outputs

@@ -1,0 +1,58 @@
+//! The command line.
+ghost use Rattle.std.specs.Prelude.{◌≡◌, [], ◌∷◌, List, ℕ, Some, IfOk, IfErr, IfSome, map, option_map};
+ghost use Rattle.clap.specs.Words.{app_of, kind_of};
+ghost use Rattle.mailbox_main.specs.CommandLine.{program, command_in, choice_name};
+
+use clap::error::ErrorKind;
+use clap::{Command, Error};
+use std::alloc::{AllocError, Global};
+use std::convert::AsStr;
+
+/// What a command line asks for.
+#[derive(Clone, Copy, Debug, PartialEq, Eq, Hash)]
+pub enum Choice {
+    /// Run one ratifier: a script from standard input, its trace to standard output.
+    Ratify,
+}
+
+fn program<'a>(alloc: Global) -> Result<Command<'a>, AllocError>
+    ensures { IfOk result (λ c. app_of c ≡ program) }
+{
+    let ratify = Command::new(alloc, "ratify").about(
+        "Runs one ratifier by a script from standard input, and prints each access and output",
+    );
+    Command::new(alloc, "mailbox_main")
+        .about("A mailbox claimed through ratifiers and conciliators")
+        .subcommand_required(true)
+        .subcommand(ratify)
+}
+
+/// The choice of the command's name.
+fn choice_named(name: Option<&str>) -> Option<Choice>
+    ensures named { IfSome result (λ choice. option_map (λ n. n.now) name.entry ≡ Some (choice_name choice)) }
+    ensures each { (choice : Choice) → option_map (λ n. n.now) name.entry ≡ Some (choice_name choice) → result ≡ Some choice }
+{
+    match name {
+        Some("ratify") => Some(Choice::Ratify),
+        _ => None,
+    }
+}
+
+/// Reads the command line, whose first word is the program's name.
+///
+/// Which lines are refused, and the text that says so, is clap's. A call for help is such a refusal.
+pub fn command_of<'a, S: AsStr>(alloc: Global, words: &'a [S]) -> Result<Choice, Error>
+    // What is chosen is the command that the words name.
+    ensures choice { IfOk result (λ choice. command_in (map S.text words.entry.now) ≡ Some (choice_name choice)) }
+
+    // A command alone is refused only for want of memory.
+    ensures alone { (name : List ℕ) (choice : Choice) → map S.text words.entry.now ≡ name ∷ choice_name choice ∷ []
+        → IfErr result (λ e. kind_of e ≡ ErrorKind.OutOfMemory) }
+{
+    let mut command = program(alloc)?;
+    let matches = command.try_get_matches_from_mut(words)?;
+    let Some(choice) = choice_named(matches.subcommand_name()) else {
+        return Err(command.error(ErrorKind::InvalidSubcommand, "no such command")?);
+    };
+    Ok(choice)
+}

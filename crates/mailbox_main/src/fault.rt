@@ -1,0 +1,69 @@
+//! What can go wrong.
+ghost use Rattle.std.specs.Prelude.{◌≡◌};
+ghost use Rattle.mailbox_main.specs.declared.fault.RatifyFault.TheVariants.{NoMemory};
+ghost use Rattle.mailbox_main.specs.Refusal.{fault_from};
+
+use std::alloc::{AllocError, AllocFailed};
+
+/// Why `ratify_text` stopped.
+#[derive(Clone, Copy, Debug, PartialEq, Eq, Hash)]
+pub enum RatifyFault {
+    /// The script has more than 1,048,576 bytes.
+    TooLong,
+    /// Some byte is 128 or more.
+    NotAscii,
+    /// The line of this number, counted from 1, is missing, is one too many, or has other words than it should.
+    BadLine(usize),
+    /// On the line of this number, counted from 1, a word that should be a number below 2^64 is none.
+    BadNumber(usize),
+    /// The number of values is out of range.
+    BadValues,
+    /// The input at this place, counted from 0, is not below the number of values. It is the first such.
+    BadInput(usize),
+    /// The turn at this place, counted from 0, is of no process. It is the first such.
+    NoSuchProcess(usize),
+    /// A growth was refused.
+    NoMemory,
+    /// A read answered an error.
+    ReadFault,
+    /// A write answered an error, or took no byte.
+    WriteFault,
+}
+
+impl From<AllocError> for RatifyFault {
+    ghost from_gives = { λ _ e. e ≡ NoMemory };
+
+    fn from(_e: AllocError) -> RatifyFault {
+        RatifyFault::NoMemory
+    }
+}
+
+impl<T: Drop> From<AllocFailed<T>> for RatifyFault {
+    ghost from_gives = { λ _ e. e ≡ NoMemory };
+
+    fn from(_e: AllocFailed<T>) -> RatifyFault {
+        RatifyFault::NoMemory
+    }
+}
+
+impl From<mb_deciding::Fault> for RatifyFault {
+    ghost from_gives = { λ refusal e. e ≡ fault_from refusal };
+
+    fn from(refusal: mb_deciding::Fault) -> RatifyFault {
+        match refusal {
+            mb_deciding::Fault::BadValues => RatifyFault::BadValues,
+            mb_deciding::Fault::BadInput(place) => RatifyFault::BadInput(place),
+            mb_deciding::Fault::NoSuchProcess(place) => RatifyFault::NoSuchProcess(place),
+            mb_deciding::Fault::NoMemory => RatifyFault::NoMemory,
+        }
+    }
+}
+
+/// Want of memory: a growth was refused.
+pub type NoMemory = AllocError;
+
+/// Which command failed, and why.
+#[derive(Clone, Copy, Debug, PartialEq, Eq, Hash)]
+pub enum Failed {
+    Ratify(RatifyFault),
+}
