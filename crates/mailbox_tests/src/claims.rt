@@ -1,0 +1,134 @@
+//! Claims of consumers on one cell: worked examples.
+
+use mb_claim::{BadLayout, Claim, ClaimEntry, Layout, PlayFault, Stage, play};
+use mb_deciding::{Act, Op, Reg};
+use mb_quorum::TableName;
+use std::test::Fail;
+
+/// A load of a consumer.
+fn loaded(consumer: u32, object: u32, reg: Reg, value: u64) -> ClaimEntry {
+    ClaimEntry::Access {
+        consumer,
+        object,
+        act: Act::Load { reg, value },
+    }
+}
+
+/// A store of a consumer.
+fn stored(consumer: u32, object: u32, reg: Reg, value: u64) -> ClaimEntry {
+    ClaimEntry::Access {
+        consumer,
+        object,
+        act: Act::Store { reg, value },
+    }
+}
+
+/// The steps in which consumer 0 wins before consumer 1 comes, and is asked once more.
+pub(crate) const WON_AND_LOST: [(u64, u64); 12] = [
+    (0, 0),
+    (0, 0),
+    (0, 0),
+    (0, 0),
+    (0, 0),
+    (0, 0),
+    (0, 0),
+    (1, 0),
+    (1, 0),
+    (1, 0),
+    (1, 0),
+    (0, 0),
+];
+
+/// What these steps make of two consumers and one pair over the bit table.
+pub(crate) fn won_and_lost() -> [ClaimEntry; 12] {
+    [
+        loaded(0, 0, Reg::Value, 0),
+        stored(0, 0, Reg::Value, 1),
+        loaded(0, 0, Reg::Value, 1),
+        stored(0, 1, Reg::Quorum(0), 1),
+        loaded(0, 1, Reg::Proposal, 0),
+        stored(0, 1, Reg::Proposal, 1),
+        loaded(0, 1, Reg::Quorum(1), 0),
+        loaded(1, 0, Reg::Value, 1),
+        stored(1, 1, Reg::Quorum(0), 1),
+        loaded(1, 1, Reg::Proposal, 1),
+        loaded(1, 1, Reg::Quorum(1), 0),
+        ClaimEntry::Done { consumer: 0 },
+    ]
+}
+
+#[test]
+fn layouts_out_of_range(rt: HostRuntime) {
+    let (consumers, pairs) = (BadLayout::BadConsumers, BadLayout::BadRounds);
+    assert_eq!(rt; Layout::new(0, 0, TableName::Bits), Err(consumers));
+    assert_eq!(rt; Layout::new(17, 1, TableName::Unary), Err(consumers));
+    assert_eq!(rt; Layout::new(1, 0, TableName::Bits), Err(pairs));
+    assert_eq!(rt; Layout::new(16, 9, TableName::Bits), Err(pairs));
+}
+
+#[test]
+fn two_consumers_and_three_pairs(rt: HostRuntime) -> Result<(), Fail> {
+    let layout = Layout::new(2, 3, TableName::Bits)?;
+    assert_eq!(rt; layout.consumers(), 2);
+    assert_eq!(rt; layout.words(1), 12);
+    assert_eq!(rt; layout.words(2), 24);
+    assert_eq!(rt; layout.address(2, 3, Reg::Quorum(1)), 31);
+    assert_eq!(rt; layout.max_steps(), 27);
+    Ok(())
+}
+
+#[test]
+fn most_accesses_of_sixteen_consumers(rt: HostRuntime) -> Result<(), Fail> {
+    assert_eq!(rt; Layout::new(16, 8, TableName::Bits)?.max_steps(), 144);
+    assert_eq!(rt; Layout::new(16, 8, TableName::Unary)?.max_steps(), 208);
+    Ok(())
+}
+
+#[test]
+fn first_access_of_a_claim(rt: HostRuntime) -> Result<(), Fail> {
+    let layout = Layout::new(2, 1, TableName::Bits)?;
+    let mut claim = Claim::new(&layout, 1);
+    assert!(rt; !claim.begun());
+    assert_eq!(rt; claim.next(&layout).op, Op::Load(Reg::Value));
+    assert_eq!(rt; claim.after(&layout, 0, 0), Stage::Going);
+    assert!(rt; claim.begun());
+    assert_eq!(rt; claim.stage(), Stage::Going);
+    Ok(())
+}
+
+#[test]
+fn one_wins_and_the_other_loses(rt: HostRuntime) -> Result<(), Fail> {
+    let layout = Layout::new(2, 1, TableName::Bits)?;
+    let run = play(rt.alloc(), &layout, &WON_AND_LOST)?;
+    assert_eq!(rt; run.entries.as_slice(), won_and_lost().as_slice());
+    assert_eq!(rt;
+        run.stages.as_slice(),
+        [Stage::Won, Stage::Lost(0)].as_slice()
+    );
+    Ok(())
+}
+
+#[test]
+fn both_stay_undecided(rt: HostRuntime) -> Result<(), Fail> {
+    let layout = Layout::new(2, 1, TableName::Bits)?;
+    let steps = [0, 1, 0, 0, 1, 1, 0, 1, 0, 1, 0, 0, 1, 1].map(|consumer| (consumer, 0));
+    let run = play(rt.alloc(), &layout, &steps)?;
+    assert_eq!(rt;
+        run.stages.as_slice(),
+        [Stage::Undecided, Stage::Undecided].as_slice()
+    );
+    Ok(())
+}
+
+#[test]
+fn a_step_of_no_consumer(rt: HostRuntime) -> Result<(), Fail> {
+    let layout = Layout::new(2, 1, TableName::Bits)?;
+    let steps = [(0, 0), (1, 0), (2, 0), (3, 0)];
+    match play(rt.alloc(), &layout, &steps) {
+        Ok(_) => Err(Fail::new("it is not refused")),
+        Err(fault) => {
+            assert_eq!(rt; fault, PlayFault::NoConsumer(2));
+            Ok(())
+        }
+    }
+}

@@ -1,0 +1,90 @@
+//! Schedules of one conciliator.
+
+use crate::entries::{ending, last_turn, loaded, shows, stored, undecided};
+use mb_deciding::{Entry, Fault, Reg, conciliate};
+use std::test::Fail;
+
+#[test]
+fn last_turn_stores(rt: HostRuntime) -> Result<(), Fail> {
+    let answer = conciliate(
+        rt.alloc(),
+        2,
+        &[0],
+        &[(0, 3), (0, 3), (0, 3), (0, 3), (0, 3)],
+    );
+    shows(&rt, answer, &last_turn(), &[Some(undecided(0))])?;
+
+    // The random words of the store and of the load after it count for nothing.
+    let other = conciliate(
+        rt.alloc(),
+        2,
+        &[0],
+        &[(0, 3), (0, 7), (0, 3), (0, 0), (0, u64::MAX)],
+    );
+    shows(&rt, other, &last_turn(), &[Some(undecided(0))])?;
+    Ok(())
+}
+
+#[test]
+fn two_stores_leave_two_values(rt: HostRuntime) -> Result<(), Fail> {
+    let entries = [
+        loaded(0, Reg::Value, 0),
+        loaded(1, Reg::Value, 0),
+        stored(0, Reg::Value, 1),
+        ending(loaded(0, Reg::Value, 1), undecided(0)),
+        stored(1, Reg::Value, 2),
+        ending(loaded(1, Reg::Value, 2), undecided(1)),
+    ];
+    let answer = conciliate(
+        rt.alloc(),
+        2,
+        &[0, 1],
+        &[(0, 0), (1, 0), (0, 0), (0, 0), (1, 0), (1, 0)],
+    );
+    shows(
+        &rt,
+        answer,
+        &entries,
+        &[Some(undecided(0)), Some(undecided(1))],
+    )?;
+    Ok(())
+}
+
+#[test]
+fn one_value(rt: HostRuntime) -> Result<(), Fail> {
+    let entries = [
+        loaded(0, Reg::Value, 0),
+        loaded(0, Reg::Value, 0),
+        stored(0, Reg::Value, 1),
+        ending(loaded(0, Reg::Value, 1), undecided(0)),
+        Entry::Done { process: 0 },
+    ];
+    let odd = conciliate(
+        rt.alloc(),
+        1,
+        &[0],
+        &[(0, 1), (0, 1), (0, 1), (0, 1), (0, 1)],
+    );
+    shows(&rt, odd, &entries, &[Some(undecided(0))])?;
+    let even = conciliate(rt.alloc(), 1, &[0], &[(0, 0), (0, 0), (0, 0)]);
+    shows(&rt, even, &entries[1..4], &[Some(undecided(0))])?;
+    Ok(())
+}
+
+#[test]
+fn first_reason_refuses(rt: HostRuntime) {
+    let a = rt.alloc();
+    assert_eq!(rt;
+        conciliate(a, 0, &[5], &[(9, 0)]).err(),
+        Some(Fault::BadValues)
+    );
+    assert_eq!(rt; conciliate(a, 17, &[], &[]).err(), Some(Fault::BadValues));
+    assert_eq!(rt;
+        conciliate(a, 2, &[0, 2], &[]).err(),
+        Some(Fault::BadInput(1))
+    );
+    assert_eq!(rt;
+        conciliate(a, 2, &[0], &[(1, 0)]).err(),
+        Some(Fault::NoSuchProcess(0))
+    );
+}

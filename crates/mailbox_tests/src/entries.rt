@@ -1,0 +1,88 @@
+//! Short words for the entries of a trace, and the traces that several tests expect.
+
+use mb_deciding::{Act, Entry, Fault, Out, Reg, Trace};
+use std::alloc::Global;
+use std::process::Abort;
+
+/// A load of a process.
+pub fn loaded(process: usize, reg: Reg, value: u64) -> Entry {
+    Entry::Access {
+        process,
+        act: Act::Load { reg, value },
+        out: None,
+    }
+}
+
+/// A store of a process.
+pub fn stored(process: usize, reg: Reg, value: u64) -> Entry {
+    Entry::Access {
+        process,
+        act: Act::Store { reg, value },
+        out: None,
+    }
+}
+
+/// The same entry, with the output that its access gives.
+pub fn ending(entry: Entry, output: Out) -> Entry {
+    match entry {
+        Entry::Access { process, act, .. } => Entry::Access {
+            process,
+            act,
+            out: Some(output),
+        },
+        Entry::Done { .. } => entry,
+    }
+}
+
+/// The output (1, value).
+pub fn decided(value: u32) -> Out {
+    Out {
+        decided: true,
+        value,
+    }
+}
+
+/// The output (0, value).
+pub fn undecided(value: u32) -> Out {
+    Out {
+        decided: false,
+        value,
+    }
+}
+
+/// What one ratifier makes of the inputs 0 and 1 where process 0 comes to its end before process 1 begins.
+pub fn late_input() -> [Entry; 7] {
+    [
+        stored(0, Reg::Quorum(0), 1),
+        loaded(0, Reg::Proposal, 0),
+        stored(0, Reg::Proposal, 1),
+        ending(loaded(0, Reg::Quorum(1), 0), decided(0)),
+        stored(1, Reg::Quorum(1), 1),
+        loaded(1, Reg::Proposal, 1),
+        ending(loaded(1, Reg::Quorum(1), 1), undecided(0)),
+    ]
+}
+
+/// What one conciliator for two values makes of one process with the input 0 that stores on its last turn.
+pub fn last_turn() -> [Entry; 5] {
+    [
+        loaded(0, Reg::Value, 0),
+        loaded(0, Reg::Value, 0),
+        loaded(0, Reg::Value, 0),
+        stored(0, Reg::Value, 1),
+        ending(loaded(0, Reg::Value, 1), undecided(0)),
+    ]
+}
+
+/// The call answers a trace with these entries and outputs.
+pub fn shows(
+    rt: &impl Abort,
+    answer: Result<Trace<Global>, Fault>,
+    entries: &[Entry],
+    outputs: &[Option<Out>],
+) -> Result<(), Fault> {
+    let trace = answer?;
+    assert_eq!(rt; trace.entries.as_slice(), entries);
+    assert_eq!(rt; trace.outputs.as_slice(), outputs);
+    Ok(())
+}

@@ -1,0 +1,140 @@
+//! Schedules of one ratifier.
+
+use crate::entries::{decided, ending, late_input, loaded, shows, stored, undecided};
+use mb_deciding::{Entry, Fault, Reg, ratify};
+use mb_quorum::TableName;
+use std::test::Fail;
+
+#[test]
+fn late_input_agrees(rt: HostRuntime) -> Result<(), Fail> {
+    let answer = ratify(
+        rt.alloc(),
+        TableName::Unary,
+        2,
+        &[0, 1],
+        &[0, 0, 0, 0, 1, 1, 1],
+    );
+    shows(
+        &rt,
+        answer,
+        &late_input(),
+        &[Some(decided(0)), Some(undecided(0))],
+    )?;
+    Ok(())
+}
+
+#[test]
+fn overwritten_proposal_leaves_both_undecided(rt: HostRuntime) -> Result<(), Fail> {
+    let entries = [
+        stored(0, Reg::Quorum(0), 1),
+        stored(1, Reg::Quorum(1), 1),
+        loaded(0, Reg::Proposal, 0),
+        loaded(1, Reg::Proposal, 0),
+        stored(0, Reg::Proposal, 1),
+        ending(loaded(0, Reg::Quorum(1), 1), undecided(0)),
+        stored(1, Reg::Proposal, 2),
+        ending(loaded(1, Reg::Quorum(0), 1), undecided(1)),
+    ];
+    let answer = ratify(
+        rt.alloc(),
+        TableName::Unary,
+        2,
+        &[0, 1],
+        &[0, 1, 0, 1, 0, 0, 1, 1],
+    );
+    shows(
+        &rt,
+        answer,
+        &entries,
+        &[Some(undecided(0)), Some(undecided(1))],
+    )?;
+    Ok(())
+}
+
+#[test]
+fn equal_inputs_are_decided(rt: HostRuntime) -> Result<(), Fail> {
+    let entries = [
+        stored(0, Reg::Quorum(1), 1),
+        stored(1, Reg::Quorum(1), 1),
+        loaded(0, Reg::Proposal, 0),
+        loaded(1, Reg::Proposal, 0),
+        stored(0, Reg::Proposal, 2),
+        stored(1, Reg::Proposal, 2),
+        ending(loaded(0, Reg::Quorum(0), 0), decided(1)),
+        ending(loaded(1, Reg::Quorum(0), 0), decided(1)),
+    ];
+    let answer = ratify(
+        rt.alloc(),
+        TableName::Unary,
+        2,
+        &[1, 1],
+        &[0, 1, 0, 1, 0, 1, 0, 1],
+    );
+    shows(&rt, answer, &entries, &[Some(decided(1)), Some(decided(1))])?;
+    Ok(())
+}
+
+#[test]
+fn no_turns_and_turns_after_the_output(rt: HostRuntime) -> Result<(), Fail> {
+    let idle = ratify(rt.alloc(), TableName::Unary, 2, &[0, 1], &[]);
+    shows(&rt, idle, &[], &[None, None])?;
+    let entries = [
+        stored(0, Reg::Quorum(0), 1),
+        loaded(0, Reg::Proposal, 0),
+        ending(stored(0, Reg::Proposal, 1), decided(0)),
+        Entry::Done { process: 0 },
+    ];
+    let alone = ratify(rt.alloc(), TableName::Unary, 1, &[0], &[0, 0, 0, 0]);
+    shows(&rt, alone, &entries, &[Some(decided(0))])?;
+    Ok(())
+}
+
+#[test]
+fn quorums_of_two_registers(rt: HostRuntime) -> Result<(), Fail> {
+    let entries = [
+        stored(0, Reg::Quorum(0), 1),
+        stored(0, Reg::Quorum(3), 1),
+        loaded(0, Reg::Proposal, 0),
+        stored(0, Reg::Proposal, 3),
+        loaded(0, Reg::Quorum(1), 0),
+        ending(loaded(0, Reg::Quorum(2), 0), decided(2)),
+        stored(1, Reg::Quorum(1), 1),
+        stored(1, Reg::Quorum(2), 1),
+        loaded(1, Reg::Proposal, 3),
+        ending(loaded(1, Reg::Quorum(1), 1), undecided(2)),
+    ];
+    let answer = ratify(
+        rt.alloc(),
+        TableName::Bits,
+        3,
+        &[2, 1],
+        &[0, 0, 0, 0, 0, 0, 1, 1, 1, 1],
+    );
+    shows(
+        &rt,
+        answer,
+        &entries,
+        &[Some(decided(2)), Some(undecided(2))],
+    )?;
+    Ok(())
+}
+
+#[test]
+fn first_reason_refuses(rt: HostRuntime) {
+    let a = rt.alloc();
+    let name = TableName::Unary;
+    assert_eq!(rt; ratify(a, name, 0, &[], &[]).err(), Some(Fault::BadValues));
+    assert_eq!(rt;
+        ratify(a, name, 17, &[17], &[9]).err(),
+        Some(Fault::BadValues)
+    );
+    assert_eq!(rt;
+        ratify(a, name, 2, &[2], &[5]).err(),
+        Some(Fault::BadInput(0))
+    );
+    assert_eq!(rt;
+        ratify(a, name, 2, &[0], &[0, 1]).err(),
+        Some(Fault::NoSuchProcess(1))
+    );
+    assert_eq!(rt; ratify(a, name, 2, &[], &[]).err(), None);
+}
