@@ -1,15 +1,15 @@
 -- The part of one process in a history.
-use Rattle.std.proofs.Common.{◌≡◌, ℕ, ◌<◌, true, false, [], ◌∷◌, refl, sym, ◌∙◌, subst, inl, inr, arith}
+use Rattle.std.proofs.Common.{◌≡◌, ℕ, ◌<◌, true, false, [], ◌∷◌, refl, sym, ◌∙◌, subst, inl, inr, arith, ap}
 use Rattle.std.proofs.lemmas.Bool.{cond_both, cases_Bool}
 use Rattle.mb_cells.specs.LanePath.{Entry, fetch}
-use Rattle.mb_cells.specs.Memory.{Has, History, IsMemoryTrue, TellsTruth, adds_on, is_same_process, is_same_word, part, value_after}
+use Rattle.mb_cells.specs.Memory.{Has, History, IsMemoryTrue, TellsTruth, adds_on, is_same_process, is_same_word, part, value_in}
 use Rattle.mb_cells.specs.declared.access.Access.{Access}
 use Rattle.mb_cells.specs.declared.access.Act.{Act}
 use Rattle.mb_cells.specs.declared.access.Act.TheVariants.{FetchAdd, Load, Store}
 use Rattle.mb_cells.specs.declared.access.Process.{Process}
 use Rattle.mb_cells.specs.declared.access.Word.{Word}
 use Rattle.mb_cells.specs.declared.access.Word.TheVariants.{Counter}
-use Rattle.mb_cells.proofs.Names.{adds_on-grows, is_same_word-eq, value_after-kept, value_after-other, value_after-stored}
+use Rattle.mb_cells.proofs.Names.{adds_on-grows, is_same_process-eq, is_same_word-eq, value_in-kept, value_in-other, value_in-stored}
 
 -- an own access is added to the part
 pub part-own : (who : Process) (a : Access) (h : History) → is_same_process who a.process ≡ true → part who (a ∷ h) ≡ a ∷ part who h
@@ -36,29 +36,37 @@ Has-of_part who (b ∷ h) a m =
     (λ _ k. elim k [ inl e ↦ inl e | inr n ↦ inr (Has-of_part who h a n) ])
     (λ _ k. inr (Has-of_part who h a k)) m
 
--- a word that only one process stores to is what that process value_after there
-pub value_after-part : (who : Process) (w : Word) (h : History)
+-- a part is of its process
+pub part_by : (who : Process) (h : History) (a : Access) → Has (part who h) a → a.process ≡ who
+part_by who [] a has = absurd has
+part_by who (b ∷ h) a has =
+    cond_both (is_same_process who b.process) (b ∷ part who h) (part who h) (λ l. Has l a → a.process ≡ who)
+    (λ t m. elim m [ inl e ↦ ap (λ (x : Access). x.process) (sym e) ∙ sym (is_same_process-eq who b.process t) | inr n ↦ part_by who h a n ])
+    (λ _ m. part_by who h a m) has
+
+-- a word that only one process stores to is what that process leaves there
+pub value_in-part : (who : Process) (w : Word) (h : History)
     → ((a : Access) (v : ℕ) → Has h a → a.word ≡ w → a.act ≡ Store v → is_same_process who a.process ≡ true)
-    → value_after h w ≡ value_after (part who h) w
-value_after-part who w [] only = refl
-value_after-part who w (a ∷ h) only =
-    let rest : value_after h w ≡ value_after (part who h) w = value_after-part who w h (λ b v m e f. only b v (inr m) e f) in
-    let other : value_after (a ∷ h) w ≡ value_after h w → value_after (a ∷ part who h) w ≡ value_after (part who h) w → value_after (a ∷ h) w ≡ value_after (part who (a ∷ h)) w =
-    λ x y. cond_both (is_same_process who a.process) (a ∷ part who h) (part who h) (λ l. value_after (a ∷ h) w ≡ value_after l w)
+    → value_in h w ≡ value_in (part who h) w
+value_in-part who w [] only = refl
+value_in-part who w (a ∷ h) only =
+    let rest : value_in h w ≡ value_in (part who h) w = value_in-part who w h (λ b v m e f. only b v (inr m) e f) in
+    let other : value_in (a ∷ h) w ≡ value_in h w → value_in (a ∷ part who h) w ≡ value_in (part who h) w → value_in (a ∷ h) w ≡ value_in (part who (a ∷ h)) w =
+    λ x y. cond_both (is_same_process who a.process) (a ∷ part who h) (part who h) (λ l. value_in (a ∷ h) w ≡ value_in l w)
     (λ _. x ∙ rest ∙ sym y) (λ _. x ∙ rest) in
     elim (cases_Bool (is_same_word a.word w)) [
       | inl same ↦
           let here : a.word ≡ w = is_same_word-eq a.word w same in
-          let by_act : (act : Act) → a.act ≡ act → value_after (a ∷ h) w ≡ value_after (part who (a ∷ h)) w =
-          λ (act : Act). elim act as (λ x. a.act ≡ x → value_after (a ∷ h) w ≡ value_after (part who (a ∷ h)) w) [
-            | Load u ↦ λ e. other (value_after-kept a h w (λ v f. cc)) (value_after-kept a (part who h) w (λ v f. cc))
+          let by_act : (act : Act) → a.act ≡ act → value_in (a ∷ h) w ≡ value_in (part who (a ∷ h)) w =
+          λ (act : Act). elim act as (λ x. a.act ≡ x → value_in (a ∷ h) w ≡ value_in (part who (a ∷ h)) w) [
+            | Load u ↦ λ e. other (value_in-kept a h w (λ v f. cc)) (value_in-kept a (part who h) w (λ v f. cc))
             | Store u ↦ λ e.
                 let own : is_same_process who a.process ≡ true = only a u (inl refl) here e in
-                rw own (value_after-stored a h w u here e ∙ sym (value_after-stored a (part who h) w u here e))
-            | FetchAdd u n ↦ λ e. other (value_after-kept a h w (λ v f. cc)) (value_after-kept a (part who h) w (λ v f. cc))
+                rw own (value_in-stored a h w u here e ∙ sym (value_in-stored a (part who h) w u here e))
+            | FetchAdd u n ↦ λ e. other (value_in-kept a h w (λ v f. cc)) (value_in-kept a (part who h) w (λ v f. cc))
           ] in
           by_act a.act refl
-      | inr differs ↦ other (value_after-other a h w differs) (value_after-other a (part who h) w differs)
+      | inr differs ↦ other (value_in-other a h w differs) (value_in-other a (part who h) w differs)
     ]
 
 -- fetch-adds give different cells, later ones greater

@@ -1,8 +1,8 @@
--- A beginning of a lane path puts its producer at one place, and at no other.
+-- A prefix of a lane path puts its producer at one place, and at no other.
 use Rattle.std.proofs.Common.{◌≡◌, ℕ, ◌+◌, Bool, true, false, List, [], ◌∷◌, ◌++◌, Option, Some, None, refl, sym, ap, ◌∙◌, subst, arith}
 use Rattle.mb_cells.specs.LanePath.{AllCellsBelow, Entry, IsLanePrefix, IsRefused, ending, fetch, groups, place_after, refusal, store}
 use Rattle.mb_cells.specs.Memory.{History}
-use Rattle.mb_cells.specs.Place.{Ended, Filled, Free, IsAt, Phase, Refused, Steps, Taken, done_at, ends_lane, ends_refused, fills_cell, finds_none, links_cell, takes_cell}
+use Rattle.mb_cells.specs.Place.{Ended, Full, IsAt, Offered, Open, Phase, Steps, Stored, done_at, ends_lane, ends_refused, fills_cell, finds_none, links_cell, takes_cell}
 use Rattle.mb_cells.specs.declared.access.Access.{Access}
 use Rattle.mb_cells.specs.declared.access.Act.TheVariants.{FetchAdd, Store}
 use Rattle.mb_cells.specs.declared.access.TheConstants.{END}
@@ -14,31 +14,36 @@ IsSomewhere cells p done = (es : List Entry) × ((phase : Phase) × IsAt cells p
 
 -- what leads to whole groups stands at a place
 in_groups : (cells p : ℕ) (es : List Entry) (later done : History) → AllCellsBelow cells es → later ++ done ≡ groups p es → IsSomewhere cells p done
-in_groups cells p es [] done b h = (es, (Free, record { below = b; fits = tt; is = h }))
+in_groups cells p es [] done b h = (es, (Open, record { below = b; fits = tt; is = h }))
 in_groups cells p [] (x ∷ later) done b h = absurd (cc)
-in_groups cells p (e ∷ es) (x ∷ []) done b h = (es, (Filled e, record { below = b.1; fits = b.0; is = cc }))
-in_groups cells p (e ∷ es) (x ∷ y ∷ []) done b h = (es, (Taken e, record { below = b.1; fits = b.0; is = cc }))
+in_groups cells p (e ∷ es) (x ∷ []) done b h = (es, (Stored e, record { below = b.1; fits = b.0; is = cc }))
+in_groups cells p (e ∷ es) (x ∷ y ∷ []) done b h = (es, (Offered e, record { below = b.1; fits = b.0; is = cc }))
 in_groups cells p (e ∷ es) (x ∷ y ∷ z ∷ later) done b h = in_groups cells p es later done b.1 (cc)
 
 -- so with a fetch-add that found no cell behind them
-in_refusal : (cells p : ℕ) (es : List Entry) (r : Option Entry) (later done : History) → AllCellsBelow cells es → IsRefused cells r → later ++ done ≡ refusal p r (groups p es) → IsSomewhere cells p done
+in_refusal : (cells p : ℕ) (es : List Entry) (r : Option Entry) (later done : History) → AllCellsBelow cells es
+    → IsRefused cells r → later ++ done ≡ refusal p r (groups p es) → IsSomewhere cells p done
 in_refusal cells p es None later done b f h = in_groups cells p es later done b h
-in_refusal cells p es (Some e) [] done b f h = (es, (Refused e, record { below = b; fits = f; is = h }))
+in_refusal cells p es (Some e) [] done b f h = (es, (Full e, record { below = b; fits = f; is = h }))
 in_refusal cells p es (Some e) (x ∷ later) done b f h = in_groups cells p es later done b (cc)
 
 -- so with the end mark behind it
-in_ending : (cells p : ℕ) (es : List Entry) (r : Option Entry) (ended : Bool) (later done : History) → AllCellsBelow cells es → IsRefused cells r → later ++ done ≡ ending p (place_after p es) ended (refusal p r (groups p es)) → IsSomewhere cells p done
+in_ending : (cells p : ℕ) (es : List Entry) (r : Option Entry) (ended : Bool) (later done : History)
+    → AllCellsBelow cells es → IsRefused cells r
+    → later ++ done ≡ ending p (place_after p es) ended (refusal p r (groups p es)) → IsSomewhere cells p done
 in_ending cells p es r false later done b f h = in_refusal cells p es r later done b f h
 in_ending cells p es r true [] done b f h = (es, (Ended r, record { below = b; fits = f; is = h }))
 in_ending cells p es r true (x ∷ later) done b f h = in_refusal cells p es r later done b f (cc)
 
--- a beginning of a lane path stands at a place
+-- a prefix of a lane path stands at a place
 pub somewhere : (cells p : ℕ) (done : History) → IsLanePrefix cells p done → IsSomewhere cells p done
 somewhere cells p done h =
     in_ending cells p h.lawful.entries h.lawful.refused h.lawful.ended h.later done h.lawful.below h.lawful.above (h.is ∙ h.lawful.is)
 
--- what stands before the rest of a path is a beginning of it
-whole : (cells p : ℕ) (es : List Entry) (r : Option Entry) (ended : Bool) → AllCellsBelow cells es → IsRefused cells r → (later done : History) → later ++ done ≡ ending p (place_after p es) ended (refusal p r (groups p es)) → IsLanePrefix cells p done
+-- what stands before the rest of a path is a prefix of it
+whole : (cells p : ℕ) (es : List Entry) (r : Option Entry) (ended : Bool) → AllCellsBelow cells es
+    → IsRefused cells r → (later done : History)
+    → later ++ done ≡ ending p (place_after p es) ended (refusal p r (groups p es)) → IsLanePrefix cells p done
 whole cells p es r ended b f later done h = record {
   path = later ++ done;
   later = later;
@@ -46,14 +51,17 @@ whole cells p es r ended b f later done h = record {
   is = refl;
 }
 
--- what stands at a place is a beginning of a lane path
+-- what stands at a place is a prefix of a lane path
 pub prefix_at : (cells p : ℕ) (es : List Entry) (phase : Phase) (done : History) → IsAt cells p es phase done → IsLanePrefix cells p done
-prefix_at cells p es Free done h = whole cells p es None false h.below tt [] done h.is
-prefix_at cells p es (Taken e) done h =
-    whole cells p (e ∷ es) None false (h.fits, h.below) tt (store p (place_after p es) (e.cell + 1) ∷ store p (Item e.cell) e.value ∷ []) done (ap (λ l. store p (place_after p es) (e.cell + 1) ∷ store p (Item e.cell) e.value ∷ l) h.is)
-prefix_at cells p es (Filled e) done h =
-    whole cells p (e ∷ es) None false (h.fits, h.below) tt (store p (place_after p es) (e.cell + 1) ∷ []) done (ap (λ l. store p (place_after p es) (e.cell + 1) ∷ l) h.is)
-prefix_at cells p es (Refused e) done h = whole cells p es (Some e) false h.below h.fits [] done h.is
+prefix_at cells p es Open done h = whole cells p es None false h.below tt [] done h.is
+prefix_at cells p es (Offered e) done h =
+    whole cells p (e ∷ es) None false (h.fits, h.below) tt
+    (store p (place_after p es) (e.cell + 1) ∷ store p (Item e.cell) e.value ∷ []) done
+    (ap (λ l. store p (place_after p es) (e.cell + 1) ∷ store p (Item e.cell) e.value ∷ l) h.is)
+prefix_at cells p es (Stored e) done h =
+    whole cells p (e ∷ es) None false (h.fits, h.below) tt (store p (place_after p es) (e.cell + 1) ∷ []) done
+    (ap (λ l. store p (place_after p es) (e.cell + 1) ∷ l) h.is)
+prefix_at cells p es (Full e) done h = whole cells p es (Some e) false h.below h.fits [] done h.is
 prefix_at cells p es (Ended r) done h = whole cells p es r true h.below h.fits [] done h.is
 
 -- where a producer stood before its newest access
@@ -65,70 +73,71 @@ pub record CameFrom (cells p : ℕ) (es : List Entry) (phase : Phase) (a : Acces
 
 -- each access was a step from a place
 pub came_from : (cells p : ℕ) (es : List Entry) (phase : Phase) (a : Access) (d : History) → IsAt cells p es phase (a ∷ d) → CameFrom cells p es phase a d
-came_from cells p [] Free a d at = absurd (let e : a ∷ d ≡ [] = at.is in cc)
-came_from cells p (e ∷ es) Free a d at =
+came_from cells p [] Open a d at = absurd (let e : a ∷ d ≡ [] = at.is in cc)
+came_from cells p (e ∷ es) Open a d at =
     let whole : a ∷ d ≡ groups p (e ∷ es) = at.is in
     let first : a ≡ store p (place_after p es) (e.cell + 1) = cc in
-    let rest : d ≡ done_at p es (Filled e) = cc in
+    let rest : d ≡ done_at p es (Stored e) = cc in
     record {
       entries = es;
-      was = Filled e;
+      was = Stored e;
       at = record { below = at.below.1; fits = at.below.0; is = rest };
-      by = subst (λ x. Steps cells p es (Filled e) x (e ∷ es) Free) (sym first) (links_cell es e);
+      by = subst (λ x. Steps cells p es (Stored e) x (e ∷ es) Open) (sym first) (links_cell es e);
     }
-came_from cells p es (Taken e) a d at =
+came_from cells p es (Offered e) a d at =
     let whole : a ∷ d ≡ fetch p e ∷ groups p es = at.is in
     let first : a ≡ fetch p e = cc in
-    let rest : d ≡ done_at p es Free = cc in
+    let rest : d ≡ done_at p es Open = cc in
     record {
       entries = es;
-      was = Free;
+      was = Open;
       at = record { below = at.below; fits = tt; is = rest };
-      by = subst (λ x. Steps cells p es Free x es (Taken e)) (sym first) (takes_cell es e at.fits);
+      by = subst (λ x. Steps cells p es Open x es (Offered e)) (sym first) (takes_cell es e at.fits);
     }
-came_from cells p es (Filled e) a d at =
+came_from cells p es (Stored e) a d at =
     let whole : a ∷ d ≡ store p (Item e.cell) e.value ∷ fetch p e ∷ groups p es = at.is in
     let first : a ≡ store p (Item e.cell) e.value = cc in
-    let rest : d ≡ done_at p es (Taken e) = cc in
+    let rest : d ≡ done_at p es (Offered e) = cc in
     record {
       entries = es;
-      was = Taken e;
+      was = Offered e;
       at = record { below = at.below; fits = at.fits; is = rest };
-      by = subst (λ x. Steps cells p es (Taken e) x es (Filled e)) (sym first) (fills_cell es e);
+      by = subst (λ x. Steps cells p es (Offered e) x es (Stored e)) (sym first) (fills_cell es e);
     }
-came_from cells p es (Refused e) a d at =
+came_from cells p es (Full e) a d at =
     let whole : a ∷ d ≡ fetch p e ∷ groups p es = at.is in
     let first : a ≡ fetch p e = cc in
-    let rest : d ≡ done_at p es Free = cc in
+    let rest : d ≡ done_at p es Open = cc in
     record {
       entries = es;
-      was = Free;
+      was = Open;
       at = record { below = at.below; fits = tt; is = rest };
-      by = subst (λ x. Steps cells p es Free x es (Refused e)) (sym first) (finds_none es e at.fits);
+      by = subst (λ x. Steps cells p es Open x es (Full e)) (sym first) (finds_none es e at.fits);
     }
 came_from cells p es (Ended None) a d at =
     let whole : a ∷ d ≡ store p (place_after p es) END ∷ groups p es = at.is in
     let first : a ≡ store p (place_after p es) END = cc in
-    let rest : d ≡ done_at p es Free = cc in
+    let rest : d ≡ done_at p es Open = cc in
     record {
       entries = es;
-      was = Free;
+      was = Open;
       at = record { below = at.below; fits = tt; is = rest };
-      by = subst (λ x. Steps cells p es Free x es (Ended None)) (sym first) (ends_lane es);
+      by = subst (λ x. Steps cells p es Open x es (Ended None)) (sym first) (ends_lane es);
     }
 came_from cells p es (Ended (Some e)) a d at =
     let whole : a ∷ d ≡ store p (place_after p es) END ∷ (fetch p e ∷ groups p es) = at.is in
     let first : a ≡ store p (place_after p es) END = cc in
-    let rest : d ≡ done_at p es (Refused e) = cc in
+    let rest : d ≡ done_at p es (Full e) = cc in
     record {
       entries = es;
-      was = Refused e;
+      was = Full e;
       at = record { below = at.below; fits = at.fits; is = rest };
-      by = subst (λ x. Steps cells p es (Refused e) x es (Ended (Some e))) (sym first) (ends_refused es e);
+      by = subst (λ x. Steps cells p es (Full e) x es (Ended (Some e))) (sym first) (ends_refused es e);
     }
 
 -- a step takes what was done to the next place
-pub goes_on : (cells p : ℕ) (es fs : List Entry) (was now : Phase) (a : Access) (d : History) → Steps cells p es was a fs now → IsAt cells p es was d → IsAt cells p fs now (a ∷ d)
+pub goes_on : (cells p : ℕ) (es fs : List Entry) (was now : Phase) (a : Access) (d : History)
+    → Steps cells p es was a fs now → IsAt cells p es was d → IsAt cells p fs now (a ∷ d)
 goes_on cells p es fs was now a d (takes_cell _ e b) at = record { below = at.below; fits = b; is = ap (λ l. fetch p e ∷ l) at.is }
 goes_on cells p es fs was now a d (finds_none _ e b) at = record { below = at.below; fits = b; is = ap (λ l. fetch p e ∷ l) at.is }
 goes_on cells p es fs was now a d (fills_cell _ e) at = record { below = at.below; fits = at.fits; is = ap (λ l. store p (Item e.cell) e.value ∷ l) at.is }
@@ -153,7 +162,7 @@ same_entry e f p is =
 -- from one place one access leads to one place
 steps_once : (cells p : ℕ) (es fs gs : List Entry) (was now then : Phase) (a b : Access) → a ≡ b
     → Steps cells p es was a fs now → Steps cells p es was b gs then → (fs ≡ gs) × (now ≡ then)
-steps_once cells p es fs gs was now then a b is (takes_cell _ e x) (takes_cell _ f y) = (refl, ap Taken (same_entry e f p is))
+steps_once cells p es fs gs was now then a b is (takes_cell _ e x) (takes_cell _ f y) = (refl, ap Offered (same_entry e f p is))
 steps_once cells p es fs gs was now then a b is (takes_cell _ e x) (finds_none _ f y) =
     let same : e.cell ≡ f.cell = ap (λ (z : Entry). z.cell) (same_entry e f p is) in
     absurd (omega arith)
@@ -162,7 +171,7 @@ steps_once cells p es fs gs was now then a b is (takes_cell _ e x) (ends_lane _)
 steps_once cells p es fs gs was now then a b is (finds_none _ e x) (takes_cell _ f y) =
     let same : e.cell ≡ f.cell = ap (λ (z : Entry). z.cell) (same_entry e f p is) in
     absurd (omega arith)
-steps_once cells p es fs gs was now then a b is (finds_none _ e x) (finds_none _ f y) = (refl, ap Refused (same_entry e f p is))
+steps_once cells p es fs gs was now then a b is (finds_none _ e x) (finds_none _ f y) = (refl, ap Full (same_entry e f p is))
 steps_once cells p es fs gs was now then a b is (finds_none _ e x) (ends_lane _) =
     absurd (let acts : FetchAdd e.value e.cell ≡ Store END = act_of a b is in cc)
 steps_once cells p es fs gs was now then a b is (fills_cell _ e) (fills_cell _ f) = (refl, refl)
@@ -175,12 +184,12 @@ steps_once cells p es fs gs was now then a b is (ends_lane _) (ends_lane _) = (r
 steps_once cells p es fs gs was now then a b is (ends_refused _ e) (ends_refused _ f) = (refl, refl)
 
 -- nothing done is the start
-at_start : (cells p : ℕ) (es : List Entry) (phase : Phase) → IsAt cells p es phase [] → (es ≡ []) × (phase ≡ Free)
-at_start cells p [] Free at = (refl, refl)
-at_start cells p (e ∷ es) Free at = absurd (let is : [] ≡ groups p (e ∷ es) = at.is in cc)
-at_start cells p es (Taken e) at = absurd (let is : [] ≡ fetch p e ∷ groups p es = at.is in cc)
-at_start cells p es (Filled e) at = absurd (let is : [] ≡ store p (Item e.cell) e.value ∷ fetch p e ∷ groups p es = at.is in cc)
-at_start cells p es (Refused e) at = absurd (let is : [] ≡ fetch p e ∷ groups p es = at.is in cc)
+at_start : (cells p : ℕ) (es : List Entry) (phase : Phase) → IsAt cells p es phase [] → (es ≡ []) × (phase ≡ Open)
+at_start cells p [] Open at = (refl, refl)
+at_start cells p (e ∷ es) Open at = absurd (let is : [] ≡ groups p (e ∷ es) = at.is in cc)
+at_start cells p es (Offered e) at = absurd (let is : [] ≡ fetch p e ∷ groups p es = at.is in cc)
+at_start cells p es (Stored e) at = absurd (let is : [] ≡ store p (Item e.cell) e.value ∷ fetch p e ∷ groups p es = at.is in cc)
+at_start cells p es (Full e) at = absurd (let is : [] ≡ fetch p e ∷ groups p es = at.is in cc)
 at_start cells p es (Ended r) at = absurd (let is : [] ≡ store p (place_after p es) END ∷ refusal p r (groups p es) = at.is in cc)
 
 -- a producer stands at one place
@@ -204,7 +213,8 @@ pub record NextStep (cells p : ℕ) (es : List Entry) (phase : Phase) (a : Acces
   pub step : Steps cells p es phase a entries then
 
 -- an access that goes on with a lane path is a step from its place
-pub steps_only : (cells p : ℕ) (es : List Entry) (phase : Phase) (a : Access) (d : History) → IsAt cells p es phase d → IsLanePrefix cells p (a ∷ d) → NextStep cells p es phase a
+pub steps_only : (cells p : ℕ) (es : List Entry) (phase : Phase) (a : Access) (d : History) → IsAt cells p es phase d
+    → IsLanePrefix cells p (a ∷ d) → NextStep cells p es phase a
 steps_only cells p es phase a d at prefix =
     let s = somewhere cells p (a ∷ d) prefix in
     let c = came_from cells p s.0 s.1.0 a d s.1.1 in

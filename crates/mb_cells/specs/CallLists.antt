@@ -1,5 +1,5 @@
 -- Lists of calls of a pool with their answers, the newest first, and what they alone say.
-use Rattle.std.specs.Prelude.{◌≡◌, ℕ, ◌+◌, ◌<◌, if◌then◌else◌, Bool, true, false, cond, ◌||◌, List, [], ◌∷◌, map, reverse, Option, Some, None, nat_eq, unwrap_or}
+use Rattle.std.specs.Prelude.{◌≡◌, ℕ, ◌+◌, ◌<◌, ◌⊎◌, if◌then◌else◌, Bool, true, false, cond, ◌||◌, List, [], ◌∷◌, map, reverse, Option, Some, None, nat_eq, unwrap_or}
 use Rattle.mb_cells.specs.declared.answer.Offer.TheVariants as offer
 use Rattle.mb_cells.specs.declared.answer.Push.TheVariants as push
 use Rattle.mb_cells.specs.declared.answer.Finish.TheVariants as finish
@@ -121,6 +121,13 @@ adds_by [] = 0
 adds_by (Offered p x r ∷ older) = adds_by older + adds_by_offer r (stage_by p older)
 adds_by (Pushed p r ∷ older) = adds_by older
 adds_by (Finished p r ∷ older) = adds_by older
+
+-- an offer was answered cell k
+abbrev pub WasGivenBy : List Call → ℕ → Type 0
+WasGivenBy [] k = ⊥
+WasGivenBy (Offered p x r ∷ older) k = (r ≡ offer.Cell k) ⊎ WasGivenBy older k
+WasGivenBy (Pushed p r ∷ older) k = WasGivenBy older k
+WasGivenBy (Finished p r ∷ older) k = WasGivenBy older k
 
 -- the answer of a call is the one that the calls before it ask for
 abbrev pub IsAnswerBy : ℕ → Call → List Call → Type 0

@@ -1,6 +1,6 @@
 -- What each call of a pool does, for every history that leaves the old state.
 use Rattle.std.specs.Prelude.{◌≡◌, ℕ, ◌∷◌, IsSome}
-use Rattle.mb_cells.specs.Memory.{History, adds_on, part, value_after}
+use Rattle.mb_cells.specs.Memory.{History, adds_on, part, value_in}
 use Rattle.mb_cells.specs.Met.{load}
 use Rattle.mb_cells.specs.ReaderPath.{MayRead}
 use Rattle.mb_cells.specs.Standing.{IsLaneAfter, after_finish, after_offer, after_push, finish_answer, offer_answer, push_answer, refused_finish, refused_offer}
@@ -47,4 +47,4 @@ FinishKeeps old p new =
 abbrev pub LoadGoesOn : State → Word → Type 0
 LoadGoesOn s w =
     (h : History) (r : ℕ) → IsAfter h s → MayRead (lane_count s) (part (Reader r) h) w →
-    IsAfter (load r w (value_after h w) ∷ h) s
+    IsAfter (load r w (value_in h w) ∷ h) s

@@ -1,10 +1,17 @@
--- One lane and one cell, by example: a lawful history, and accesses that go wrong.
-use Rattle.std.specs.Prelude.{[], ◌∷◌}
+-- One lane and one cell, by example: a lawful history, the calls that make it, and the pools that it leaves.
+use Rattle.std.specs.Prelude.{ℕ, List, [], ◌∷◌, Option, Some, None, false}
+use Rattle.mb_cells.specs.declared.answer.Offer.TheVariants as offer
+use Rattle.mb_cells.specs.declared.answer.Push.TheVariants as push
+use Rattle.mb_cells.specs.declared.answer.Finish.TheVariants as finish
+use Rattle.mb_cells.specs.declared.lane.Stage.TheVariants as stage
+use Rattle.mb_cells.specs.CallLists.{Call, Finished, Offered, Pushed}
 use Rattle.mb_cells.specs.LanePath.{Entry, fetch, store}
 use Rattle.mb_cells.specs.Memory.{History}
 use Rattle.mb_cells.specs.Met.{load}
+use Rattle.mb_cells.specs.State.{State}
 use Rattle.mb_cells.specs.declared.access.TheConstants.{END}
 use Rattle.mb_cells.specs.declared.access.Word.TheVariants.{Head, Item, Link}
+use Rattle.mb_cells.specs.declared.lane.Stage.{Stage}
 
 -- the item 8, in cell 0
 abbrev pub eight : Entry
@@ -23,3 +30,43 @@ abbrev pub one_read : History
 one_read =
     load 5 (Link 0) END ∷ store 0 (Link 0) END ∷ load 5 (Item 0) 8 ∷ load 5 (Head 0) 1
     ∷ store 0 (Head 0) 1 ∷ store 0 (Item 0) 8 ∷ load 5 (Head 0) 0 ∷ taken_only
+
+-- the item was offered, and got the cell
+abbrev pub one_offered : List Call
+one_offered = Offered 0 8 (offer.Cell 0) ∷ []
+
+-- it was put, and the lane was ended
+abbrev pub one_ended : List Call
+one_ended = Finished 0 finish.Ended ∷ Pushed 0 (push.Link 0) ∷ Pushed 0 (push.Item 0) ∷ one_offered
+
+-- a pool with this counter, head, link and item, whose producer linked this cell last and stands at this stage
+abbrev pub one_cell : ℕ → ℕ → ℕ → ℕ → Option ℕ → Stage → State
+one_cell counter head link item last at = record {
+  words = record { counter = counter; heads = head ∷ []; links = link ∷ []; items = item ∷ [] };
+  lanes = record { last = last; stage = at } ∷ [];
+}
+
+-- the new pool
+abbrev pub new_pool : State
+new_pool = one_cell 0 0 0 0 None stage.Open
+
+-- the cell was taken
+abbrev pub taken_pool : State
+taken_pool = one_cell 1 0 0 0 None (stage.Offered 0 8)
+
+-- the item is put
+abbrev pub put_pool : State
+put_pool = one_cell 1 1 0 8 (Some 0) stage.Open
+
+-- the lane is ended
+abbrev pub ended_pool : State
+ended_pool = one_cell 1 1 END 8 (Some 0) (stage.Ended false)
+
+-- a pool of one lane and no cell, with this counter
+abbrev pub no_cell : ℕ → Stage → State
+no_cell counter at =
+    record { words = record { counter = counter; heads = 0 ∷ []; links = []; items = [] }; lanes = record { last = None; stage = at } ∷ [] }
+
+-- its offer was answered Full
+abbrev pub full_pool : State
+full_pool = no_cell 1 stage.Full

@@ -1,5 +1,6 @@
 -- What one producer does on its lane, as a list of accesses, the newest first.
 use Rattle.std.specs.Prelude.{◌≡◌, ℕ, ◌+◌, ◌<◌, ◌≤◌, Bool, true, false, List, [], ◌∷◌, ◌++◌, Option, Some, None}
+use Rattle.std.specs.List.{AllByRecursion}
 use Rattle.mb_cells.specs.Memory.{History}
 use Rattle.mb_cells.specs.declared.access.Access.{Access}
 use Rattle.mb_cells.specs.declared.access.Act.TheVariants.{FetchAdd, Store}
@@ -44,8 +45,7 @@ ending p w true h = store p w END ∷ h
 
 -- each entry has a cell of the pool
 abbrev pub AllCellsBelow : ℕ → List Entry → Type 0
-AllCellsBelow cells [] = Unit {0}
-AllCellsBelow cells (e ∷ es) = (e.cell < cells) × AllCellsBelow cells es
+AllCellsBelow cells es = AllByRecursion (λ (e : Entry). e.cell < cells) es
 
 -- a fetch-add that found no cell gave a number past the cells
 abbrev pub IsRefused : ℕ → Option Entry → Type 0

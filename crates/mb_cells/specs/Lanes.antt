@@ -1,5 +1,5 @@
 -- What a history puts into the lanes.
-use Rattle.std.specs.Prelude.{◌≡◌, ℕ, ◌-◌, ◌⊎◌, Bool, false, cond, ◌||◌, if◌then◌else◌, List, [], ◌∷◌, map, reverse, Option, Some, None, nat_eq}
+use Rattle.std.specs.Prelude.{◌≡◌, ℕ, ◌-◌, Bool, false, cond, ◌||◌, if◌then◌else◌, List, [], ◌∷◌, map, reverse, Option, Some, None, nat_eq}
 use Rattle.mb_cells.specs.declared.answer.Look.TheVariants as look
 use Rattle.mb_cells.specs.LanePath.{Entry}
 use Rattle.mb_cells.specs.Memory.{Has, History, is_same_process, is_same_word}
@@ -64,15 +64,10 @@ has_ended p (a ∷ older) =
 abbrev pub lane_end : ℕ → History → Look
 lane_end p h = if has_ended p h then look.Ended else look.Nothing
 
--- the cell is in the list
-abbrev pub HasCell : List ℕ → ℕ → Type 0
-HasCell [] k = ⊥
-HasCell (j ∷ js) k = (j ≡ k) ⊎ HasCell js k
-
 -- each cell stands once
 abbrev pub IsOnceEach : List ℕ → Type 0
 IsOnceEach [] = Unit {0}
-IsOnceEach (k ∷ ks) = (HasCell ks k → ⊥) × IsOnceEach ks
+IsOnceEach (k ∷ ks) = (Has ks k → ⊥) × IsOnceEach ks
 
 -- some fetch-add gave cell k
 abbrev pub WasHandedOut : History → ℕ → Type 0

@@ -31,6 +31,6 @@ pub record IsLawful (lanes cells : ℕ) (h : History) : Type 0 where
   pub sized : cells < END
   pub fits : AllFit lanes h
   pub memory : IsMemoryTrue h
-  -- each producer's part is a beginning of a lane path
+  -- each producer's part is a prefix of a lane path
   pub producers : (p : ℕ) → IsLanePrefix cells p (part (Producer p) h)
   pub readers : (r : ℕ) → IsReaderPath lanes (part (Reader r) h)

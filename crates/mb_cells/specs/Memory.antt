@@ -27,10 +27,10 @@ is_same_process (Producer p) (Producer q) = nat_eq p q
 is_same_process (Reader p) (Reader q) = nat_eq p q
 is_same_process _ _ = false
 
--- the history has this access
-abbrev pub Has : History → Access → Type 0
-Has [] a = ⊥
-Has (b ∷ older) a = (b ≡ a) ⊎ Has older a
+-- the list has this element: a history has an access, and a lane a cell
+abbrev pub Has : {X : Type 0} → List X → X → Type 0
+Has [] x = ⊥
+Has (y ∷ ys) x = (y ≡ x) ⊎ Has ys x
 
 -- what a word holds after an act on it, if it held v
 abbrev pub after_act : Act → ℕ → ℕ
@@ -39,9 +39,9 @@ after_act (Store w) v = w
 after_act (FetchAdd _ _) v = v
 
 -- what a history leaves in a word: the value of the last store to it, or 0 where there is none
-abbrev pub value_after : History → Word → ℕ
-value_after [] w = 0
-value_after (a ∷ older) w = cond (is_same_word a.word w) (after_act a.act (value_after older w)) (value_after older w)
+abbrev pub value_in : History → Word → ℕ
+value_in [] w = 0
+value_in (a ∷ older) w = cond (is_same_word a.word w) (after_act a.act (value_in older w)) (value_in older w)
 
 -- whether the act is a fetch-add
 abbrev pub is_fetch_add : Act → Bool
@@ -58,7 +58,7 @@ adds_on (a ∷ older) w =
 -- a load has the value of the last earlier store to the word, or 0 where there is none;
 -- a fetch-add gives the number of earlier ones
 abbrev pub TellsTruth : History → Word → Act → Type 0
-TellsTruth older w (Load v) = v ≡ value_after older w
+TellsTruth older w (Load v) = v ≡ value_in older w
 TellsTruth older w (Store v) = Unit {0}
 TellsTruth older w (FetchAdd x n) = n ≡ adds_on older w
 

@@ -9,30 +9,30 @@ use Rattle.mb_cells.specs.declared.access.Word.TheVariants.{Item}
 -- what a producer has done since its last link store
 pub data Phase : Type 0 where
   -- nothing
-  Free : Phase
+  Open : Phase
   -- a fetch-add that gave a cell
-  Taken : Entry → Phase
+  Offered : Entry → Phase
   -- and a store of the item
-  Filled : Entry → Phase
+  Stored : Entry → Phase
   -- a fetch-add that gave no cell
-  Refused : Entry → Phase
+  Full : Entry → Phase
   -- a store of the end mark, perhaps after a fetch-add that gave no cell
   Ended : Option Entry → Phase
 
 -- all that producer p has done, where it has linked these entries (the last first) and stands in this phase
 abbrev pub done_at : ℕ → List Entry → Phase → History
-done_at p es Free = groups p es
-done_at p es (Taken e) = fetch p e ∷ groups p es
-done_at p es (Filled e) = store p (Item e.cell) e.value ∷ fetch p e ∷ groups p es
-done_at p es (Refused e) = fetch p e ∷ groups p es
+done_at p es Open = groups p es
+done_at p es (Offered e) = fetch p e ∷ groups p es
+done_at p es (Stored e) = store p (Item e.cell) e.value ∷ fetch p e ∷ groups p es
+done_at p es (Full e) = fetch p e ∷ groups p es
 done_at p es (Ended r) = store p (place_after p es) END ∷ refusal p r (groups p es)
 
 -- the number that the last fetch-add gave is that of a cell, or past the cells, as the phase has it
 abbrev pub PhaseFits : ℕ → Phase → Type 0
-PhaseFits cells Free = Unit {0}
-PhaseFits cells (Taken e) = e.cell < cells
-PhaseFits cells (Filled e) = e.cell < cells
-PhaseFits cells (Refused e) = cells ≤ e.cell
+PhaseFits cells Open = Unit {0}
+PhaseFits cells (Offered e) = e.cell < cells
+PhaseFits cells (Stored e) = e.cell < cells
+PhaseFits cells (Full e) = cells ≤ e.cell
 PhaseFits cells (Ended r) = IsRefused cells r
 
 -- what producer p has done puts it at this place
@@ -43,11 +43,11 @@ pub record IsAt (cells p : ℕ) (es : List Entry) (phase : Phase) (done : Histor
 
 -- one access takes producer p from one place to the next
 pub data Steps (cells p : ℕ) : List Entry → Phase → Access → List Entry → Phase → Type 0 where
-  takes_cell : (es : List Entry) (e : Entry) → e.cell < cells → Steps cells p es Free (fetch p e) es (Taken e)
-  finds_none : (es : List Entry) (e : Entry) → cells ≤ e.cell → Steps cells p es Free (fetch p e) es (Refused e)
-  fills_cell : (es : List Entry) (e : Entry) → Steps cells p es (Taken e) (store p (Item e.cell) e.value) es (Filled e)
+  takes_cell : (es : List Entry) (e : Entry) → e.cell < cells → Steps cells p es Open (fetch p e) es (Offered e)
+  finds_none : (es : List Entry) (e : Entry) → cells ≤ e.cell → Steps cells p es Open (fetch p e) es (Full e)
+  fills_cell : (es : List Entry) (e : Entry) → Steps cells p es (Offered e) (store p (Item e.cell) e.value) es (Stored e)
   links_cell : (es : List Entry) (e : Entry) →
-      Steps cells p es (Filled e) (store p (place_after p es) (e.cell + 1)) (e ∷ es) Free
-  ends_lane : (es : List Entry) → Steps cells p es Free (store p (place_after p es) END) es (Ended None)
+      Steps cells p es (Stored e) (store p (place_after p es) (e.cell + 1)) (e ∷ es) Open
+  ends_lane : (es : List Entry) → Steps cells p es Open (store p (place_after p es) END) es (Ended None)
   ends_refused : (es : List Entry) (e : Entry) →
-      Steps cells p es (Refused e) (store p (place_after p es) END) es (Ended (Some e))
+      Steps cells p es (Full e) (store p (place_after p es) END) es (Ended (Some e))

@@ -4,7 +4,7 @@ use Rattle.mb_cells.specs.declared.answer.Look.TheVariants as look
 use Rattle.mb_cells.specs.declared.access.Word.TheVariants as word
 use Rattle.mb_cells.specs.declared.cursor.Cursor.TheVariants as cursor
 use Rattle.mb_cells.specs.LanePath.{Entry}
-use Rattle.mb_cells.specs.Memory.{History, value_after}
+use Rattle.mb_cells.specs.Memory.{History, value_in}
 use Rattle.mb_cells.specs.declared.access.TheConstants.{END}
 use Rattle.mb_cells.specs.declared.access.Word.{Word}
 use Rattle.mb_cells.specs.declared.answer.Look.{Look}
@@ -21,7 +21,7 @@ look_of v = cond (nat_eq v 0) look.Nothing (cond (nat_eq v END) look.Ended (look
 
 -- what a look tells after a history
 abbrev pub look_after : History → Cursor → Look
-look_after h at = look_of (value_after h (word_of at))
+look_after h at = look_of (value_in h (word_of at))
 
 -- looks from the cursor on give these cells (the first first) with these items, and then the end
 abbrev pub Reads : (Cursor → Look) → (ℕ → ℕ) → Cursor → List Entry → Look → Type 0

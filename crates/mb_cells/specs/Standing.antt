@@ -5,9 +5,10 @@ use Rattle.mb_cells.specs.declared.lane.Stage.TheVariants as stage
 use Rattle.mb_cells.specs.declared.answer.Offer.TheVariants as offer
 use Rattle.mb_cells.specs.declared.answer.Push.TheVariants as push
 use Rattle.mb_cells.specs.declared.answer.Finish.TheVariants as finish
+use Rattle.mb_cells.specs.Place as phase
 use Rattle.mb_cells.specs.LanePath.{Entry, fetch, store}
 use Rattle.mb_cells.specs.Memory.{History, adds_on}
-use Rattle.mb_cells.specs.Place.{Ended, Filled, Free, IsAt, Phase, Refused, Taken}
+use Rattle.mb_cells.specs.Place.{IsAt, Phase}
 use Rattle.mb_cells.specs.declared.access.TheConstants.{END}
 use Rattle.mb_cells.specs.declared.access.Word.{Word}
 use Rattle.mb_cells.specs.declared.access.Word.TheVariants.{Counter, Head, Item, Link}
@@ -24,12 +25,12 @@ last_of (e ∷ _) = Some e.cell
 
 -- what the phase comes to, as far as the producer has to know it
 abbrev pub stage_of : Phase → Stage
-stage_of Free = stage.Open
-stage_of (Taken e) = stage.Offered e.cell e.value
-stage_of (Filled e) = stage.Stored e.cell
-stage_of (Refused e) = stage.Full
-stage_of (Ended None) = stage.Ended false
-stage_of (Ended (Some e)) = stage.Ended true
+stage_of phase.Open = stage.Open
+stage_of (phase.Offered e) = stage.Offered e.cell e.value
+stage_of (phase.Stored e) = stage.Stored e.cell
+stage_of (phase.Full e) = stage.Full
+stage_of (phase.Ended None) = stage.Ended false
+stage_of (phase.Ended (Some e)) = stage.Ended true
 
 -- the value is the place of producer p that has done this
 pub record IsLaneAfter (cells p : ℕ) (lane : Lane) (done : History) : Type 0 where
@@ -138,7 +139,7 @@ refused_finish lane = stage_finish_refusal lane.stage
 abbrev pub finish_answer : Lane → Finish
 finish_answer lane = unwrap_or (refused_finish lane) finish.Ended
 
--- whether the last fetch-add found no cell
+-- whether the last access was a fetch-add that found no cell
 abbrev pub is_full : Stage → Bool
 is_full (stage.Offered cell item) = false
 is_full (stage.Stored cell) = false

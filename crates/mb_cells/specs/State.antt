@@ -2,7 +2,7 @@
 use Rattle.std.specs.Prelude.{◌≡◌, ℕ, ◌^◌, ◌<◌, List, length, slice_index, slice_index_or, slice_set}
 use Rattle.mb_cells.specs.declared.cursor.Cursor.TheVariants as cursor
 use Rattle.mb_cells.specs.Lawful.{IsLawful}
-use Rattle.mb_cells.specs.Memory.{History, adds_on, part, value_after}
+use Rattle.mb_cells.specs.Memory.{History, adds_on, part, value_in}
 use Rattle.mb_cells.specs.Reading.{look_of, word_of}
 use Rattle.mb_cells.specs.Standing.{IsLaneAfter}
 use Rattle.mb_cells.specs.declared.access.Process.TheVariants.{Producer}
@@ -56,9 +56,9 @@ stored ws (Item k) v = record ws { items = slice_set ws.items k v }
 -- each head, link and item word of the pool holds what the history leaves in it
 abbrev pub HoldsWords : ℕ → ℕ → PoolWords → History → Type 0
 HoldsWords lanes cells ws h =
-    ((p : ℕ) → p < lanes → slice_index ws.heads p ≡ value_after h (Head p))
-    × ((k : ℕ) → k < cells → slice_index ws.links k ≡ value_after h (Link k))
-    × ((k : ℕ) → k < cells → slice_index ws.items k ≡ value_after h (Item k))
+    ((p : ℕ) → p < lanes → slice_index ws.heads p ≡ value_in h (Head p))
+    × ((k : ℕ) → k < cells → slice_index ws.links k ≡ value_in h (Link k))
+    × ((k : ℕ) → k < cells → slice_index ws.items k ≡ value_in h (Item k))
 
 -- the lawful history leaves the pool in this state
 pub record IsAfter (h : History) (s : State) : Type 0 where

@@ -44,7 +44,10 @@ pub enum Act {
 /// One atomic access to one word.
 #[derive(Clone, Copy, PartialEq, Eq, Debug)]
 pub struct Access {
+    /// Who makes it.
     pub process: Process,
+    /// Which word it is of.
     pub word: Word,
+    /// What it does, and what it finds.
     pub act: Act,
 }

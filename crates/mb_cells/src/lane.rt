@@ -13,11 +13,14 @@ pub enum Stage {
     Open,
     /// Its fetch-add gave this cell for this item.
     Offered {
+        /// The cell given.
         cell: u32,
+        /// The item offered for it.
         item: u64,
     },
     /// The item is stored in this cell, which is not linked yet.
     Stored {
+        /// The cell that holds the item.
         cell: u32,
     },
     /// Its fetch-add found no cell.

@@ -1,5 +1,5 @@
 //! The pool of cells, under one caller.
-ghost use Rattle.std.specs.Prelude.{◌≡◌, ◌<◌, [], IfOk};
+ghost use Rattle.std.specs.Prelude.{◌≡◌, ℕ, ◌<◌, ◌⊎◌, [], IfOk};
 
 use crate::access::{END, Word};
 use crate::answer::{Finish, Look, NoMemory, Offer, Push};
@@ -29,7 +29,8 @@ impl<A: Allocator + Drop> Model for Pool<A> {
 impl<A: Allocator + Clone + Drop> Pool<A> {
     ghost use Rattle.mb_cells.specs.State.{IsAfter, lane_count, cell_count};
 
-    /// A pool of empty lanes, none of whose cells was handed out. All that it will ever need is reserved here.
+    /// A pool of empty lanes, none of whose cells was handed out. All that it will ever need is reserved here, and
+    /// [`NoMemory`] comes where the allocator refuses a part of that.
     pub fn new(alloc: A, lanes: u32, cells: u32) -> Result<Pool<A>, NoMemory>
         ensures lanes { IfOk result (λ s. lane_count s ≡ lanes) }
         ensures cells { IfOk result (λ s. cell_count s ≡ cells) }
@@ -52,18 +53,22 @@ impl<A: Allocator + Clone + Drop> Pool<A> {
 }
 
 impl<A: Allocator + Drop> Pool<A> {
-    ghost use Rattle.mb_cells.specs.Memory.{History, value_after};
-    ghost use Rattle.mb_cells.specs.Reading.{look_after, word_of};
+    ghost use Rattle.mb_cells.specs.Memory.{History, value_in};
+    ghost use Rattle.mb_cells.specs.Reading.{look_after};
     ghost use Rattle.mb_cells.specs.State.{IsAfter, IsShownAlike, IsWithin, SameSize, lane_count, cell_count, look_in, item_in};
-    ghost use Rattle.mb_cells.specs.Calls.{OfferMeets, OfferKeeps, PushMeets, FinishMeets, FinishKeeps, LoadGoesOn};
+    ghost use Rattle.mb_cells.specs.Calls.{OfferMeets, OfferKeeps, PushMeets, FinishMeets, FinishKeeps};
     ghost use Rattle.mb_cells.specs.declared.access.Word.TheVariants.{Item};
-    ghost use Rattle.mb_cells.specs.declared.answer.Push.TheVariants.{Idle};
+    ghost use Rattle.mb_cells.specs.declared.answer.Offer.TheVariants as offer;
+    ghost use Rattle.mb_cells.specs.declared.answer.Push.TheVariants as push;
+    ghost use Rattle.mb_cells.specs.declared.answer.Finish.TheVariants as finish;
+    ghost use Rattle.mb_cells.specs.declared.answer.Look.TheVariants as look;
 
     /// Takes the next cell for item `x` of lane `p`, by one fetch-add of the counter.
     pub fn offer(&mut self, p: u32, x: u64) -> Offer
         requires { p < lane_count self.old }
         ensures meets { OfferMeets self.old p x result self.new }
         ensures kept { OfferKeeps self.old p self.new }
+        ensures idle { (result ≡ offer.Busy) ⊎ (result ≡ offer.Closed) → self.new ≡ self.old }
         ensures shown { IsShownAlike self.old self.new }
         ensures size { SameSize self.old self.new }
     {
@@ -83,7 +88,7 @@ impl<A: Allocator + Drop> Pool<A> {
     pub fn push(&mut self, p: u32) -> Push
         requires { p < lane_count self.old }
         ensures meets { PushMeets self.old p result self.new }
-        ensures idle { result ≡ Idle → self.new ≡ self.old }
+        ensures idle { result ≡ push.Idle → self.new ≡ self.old }
         ensures size { SameSize self.old self.new }
     {
         let mut lane = self.lanes[p as usize];
@@ -101,6 +106,7 @@ impl<A: Allocator + Drop> Pool<A> {
         requires { p < lane_count self.old }
         ensures meets { FinishMeets self.old p result self.new }
         ensures kept { FinishKeeps self.old p self.new }
+        ensures idle { (result ≡ finish.Busy) ⊎ (result ≡ finish.Closed) → self.new ≡ self.old }
         ensures size { SameSize self.old self.new }
     {
         let mut lane = self.lanes[p as usize];
@@ -118,7 +124,9 @@ impl<A: Allocator + Drop> Pool<A> {
         requires { IsWithin self.now cursor }
         ensures shown { result ≡ look_in self.now cursor }
         ensures after { (h : History) → IsAfter h self.now → result ≡ look_after h cursor }
-        ensures load { LoadGoesOn self.now (word_of cursor) }
+
+        // The cell that is found has an item, and a place past it.
+        ensures within { (k : ℕ) → result ≡ look.Cell k → k < cell_count self.now }
 
         // Some lawful history leaves each pool.
         ensures history { (h : History) × IsAfter h self.now }
@@ -137,12 +145,8 @@ impl<A: Allocator + Drop> Pool<A> {
     pub fn item(&self, k: u32) -> u64
         requires { k < cell_count self.now }
         ensures shown { result ≡ item_in self.now k }
-        ensures after { (h : History) → IsAfter h self.now → result ≡ value_after h (Item k) }
-        ensures load { LoadGoesOn self.now (Item k) }
+        ensures after { (h : History) → IsAfter h self.now → result ≡ value_in h (Item k) }
     {
         self.words.load(Word::Item(k))
     }
 }
-
-#[cfg(test)]
-mod tests;

@@ -9,9 +9,13 @@ use std::marker::Model;
 /// The words of a pool.
 #[derive(Drop)]
 pub struct Words<A: Allocator + Drop> {
+    /// How many fetch-adds were made for cells.
     pub counter: u64,
+    /// The head of each lane.
     pub heads: Vec<u64, A>,
+    /// The link of each cell.
     pub links: Vec<u64, A>,
+    /// The item of each cell.
     pub items: Vec<u64, A>,
 }
 

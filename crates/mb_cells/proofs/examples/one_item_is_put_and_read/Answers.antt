@@ -4,7 +4,7 @@ use Rattle.mb_cells.specs.LanePath.{fetch, store}
 use Rattle.mb_cells.specs.Lawful.{IsLawful}
 use Rattle.mb_cells.specs.Memory.{History}
 use Rattle.mb_cells.specs.Met.{load}
-use Rattle.mb_cells.specs.Place.{Ended, Filled, Free, IsAt, Taken}
+use Rattle.mb_cells.specs.Place.{Ended, IsAt, Offered, Open, Stored}
 use Rattle.mb_cells.specs.ReaderPath.{Gave}
 use Rattle.mb_cells.specs.declared.access.TheConstants.{END}
 use Rattle.mb_cells.specs.declared.access.Word.TheVariants.{Head, Item, Link}
@@ -14,24 +14,27 @@ use Rattle.mb_cells.proofs.examples.one_item_is_put_and_read.Goals as goal
 
 taken : IsLawful 1 1 taken_only
 taken =
-    let at : IsAt 1 0 [] (Taken eight) taken_only = record { below = tt; fits = omega arith; is = refl } in
-    producer_step 1 1 [] (fetch 0 eight) 0 (empty_lawful 1 1 (omega arith)) refl (omega arith) (omega arith, omega arith) refl (prefix_at 1 0 [] (Taken eight) taken_only at)
+    let at : IsAt 1 0 [] (Offered eight) taken_only = record { below = tt; fits = omega arith; is = refl } in
+    producer_step 1 1 [] (fetch 0 eight) 0 (empty_lawful 1 1 (omega arith)) refl (omega arith)
+    (omega arith, omega arith) refl (prefix_at 1 0 [] (Offered eight) taken_only at)
 
 looked : IsLawful 1 1 (load 5 (Head 0) 0 ∷ taken_only)
 looked = reader_step 1 1 taken_only 5 (Head 0) taken (omega arith)
 
 filled : IsLawful 1 1 (store 0 (Item 0) 8 ∷ load 5 (Head 0) 0 ∷ taken_only)
 filled =
-    let at : IsAt 1 0 [] (Filled eight) (store 0 (Item 0) 8 ∷ taken_only) = record { below = tt; fits = omega arith; is = refl } in
-    producer_step 1 1 (load 5 (Head 0) 0 ∷ taken_only) (store 0 (Item 0) 8) 0 looked refl (omega arith) (omega arith) tt (prefix_at 1 0 [] (Filled eight) (store 0 (Item 0) 8 ∷ taken_only) at)
+    let at : IsAt 1 0 [] (Stored eight) (store 0 (Item 0) 8 ∷ taken_only) = record { below = tt; fits = omega arith; is = refl } in
+    producer_step 1 1 (load 5 (Head 0) 0 ∷ taken_only) (store 0 (Item 0) 8) 0 looked refl (omega arith)
+    (omega arith) tt (prefix_at 1 0 [] (Stored eight) (store 0 (Item 0) 8 ∷ taken_only) at)
 
 abbrev pub linked_history : History
 linked_history = store 0 (Head 0) 1 ∷ store 0 (Item 0) 8 ∷ load 5 (Head 0) 0 ∷ taken_only
 
 linked_now : IsLawful 1 1 linked_history
 linked_now =
-    let at : IsAt 1 0 (eight ∷ []) Free one_put = record { below = (omega arith, tt); fits = tt; is = refl } in
-    producer_step 1 1 (store 0 (Item 0) 8 ∷ load 5 (Head 0) 0 ∷ taken_only) (store 0 (Head 0) 1) 0 filled refl (omega arith) (omega arith) tt (prefix_at 1 0 (eight ∷ []) Free one_put at)
+    let at : IsAt 1 0 (eight ∷ []) Open one_put = record { below = (omega arith, tt); fits = tt; is = refl } in
+    producer_step 1 1 (store 0 (Item 0) 8 ∷ load 5 (Head 0) 0 ∷ taken_only) (store 0 (Head 0) 1) 0 filled refl
+    (omega arith) (omega arith) tt (prefix_at 1 0 (eight ∷ []) Open one_put at)
 
 found : IsLawful 1 1 (load 5 (Head 0) 1 ∷ linked_history)
 found = reader_step 1 1 linked_history 5 (Head 0) linked_now (omega arith)

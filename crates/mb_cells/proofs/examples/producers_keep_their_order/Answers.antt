@@ -4,30 +4,30 @@ use Rattle.mb_cells.specs.declared.answer.Finish.TheVariants as finish
 use Rattle.mb_cells.specs.declared.lane.Stage.TheVariants as stage
 use Rattle.mb_cells.specs.Examples.{eight, one_put, taken_only}
 use Rattle.mb_cells.specs.LanePath.{IsLanePrefix, store}
-use Rattle.mb_cells.specs.Place.{Ended, Free, Refused, Taken}
 use Rattle.mb_cells.specs.Standing.{IsLaneAfter, push_store}
 use Rattle.mb_cells.specs.declared.access.TheConstants.{END}
 use Rattle.mb_cells.specs.declared.access.Word.{Word}
 use Rattle.mb_cells.specs.declared.access.Word.TheVariants.{Head, Item, Link}
 use Rattle.mb_cells.specs.declared.lane.Lane.{Lane}
-use Rattle.mb_cells.proofs.Nexts.{fetches_only, stores_only}
+use Rattle.mb_cells.proofs.NextAccesses.{fetches_only, stores_only}
 use Rattle.mb_cells.proofs.examples.producers_keep_their_order.Goals as goal
+use Rattle.mb_cells.specs.Place as phase
 
 -- a producer that has taken the cell
 abbrev pub taken_lane : Lane
 taken_lane = record { last = None; stage = stage.Offered 0 8 }
 
 taken_at : (cells : ℕ) → 0 < cells → IsLaneAfter cells 0 taken_lane taken_only
-taken_at cells b = record { entries = []; phase = Taken eight; at = record { below = tt; fits = b; is = refl }; last = refl; stage = refl }
+taken_at cells b = record { entries = []; phase = phase.Offered eight; at = record { below = tt; fits = b; is = refl }; last = refl; stage = refl }
 
 full_at_start : IsLaneAfter 0 0 (record { last = None; stage = stage.Full }) taken_only
-full_at_start = record { entries = []; phase = Refused eight; at = record { below = tt; fits = omega arith; is = refl }; last = refl; stage = refl }
+full_at_start = record { entries = []; phase = phase.Full eight; at = record { below = tt; fits = omega arith; is = refl }; last = refl; stage = refl }
 
 put_at_one : IsLaneAfter 1 0 (record { last = Some 0; stage = stage.Open }) one_put
-put_at_one = record { entries = eight ∷ []; phase = Free; at = record { below = (omega arith, tt); fits = tt; is = refl }; last = refl; stage = refl }
+put_at_one = record { entries = eight ∷ []; phase = phase.Open; at = record { below = (omega arith, tt); fits = tt; is = refl }; last = refl; stage = refl }
 
 ended_at : IsLaneAfter 1 0 (record { last = Some 0; stage = stage.Ended false }) (store 0 (Link 0) END ∷ one_put)
-ended_at = record { entries = eight ∷ []; phase = Ended None; at = record { below = (omega arith, tt); fits = tt; is = refl }; last = refl; stage = refl }
+ended_at = record { entries = eight ∷ []; phase = phase.Ended None; at = record { below = (omega arith, tt); fits = tt; is = refl }; last = refl; stage = refl }
 
 not_none : (s : Word × ℕ) → None ≡ Some s → ⊥
 not_none s e = cc
@@ -76,9 +76,11 @@ returns-clause-offer_while_busy c = λ prefix.
 
 pub returns-clause-offer_after_full : goal.returns-clause-offer_after_full
 returns-clause-offer_after_full c = λ prefix.
-    let none : Some offer.Full ≡ None = fetches_only 0 0 (record { last = None; stage = stage.Full }) taken_only (record { cell = 1; value = 9 }) full_at_start prefix in cc
+    let none : Some offer.Full ≡ None =
+    fetches_only 0 0 (record { last = None; stage = stage.Full }) taken_only (record { cell = 1; value = 9 }) full_at_start prefix in cc
 
 pub returns-clause-after_end : goal.returns-clause-after_end
 returns-clause-after_end c = λ prefix.
     let none : Some offer.Closed ≡ None =
-    fetches_only 1 0 (record { last = Some 0; stage = stage.Ended false }) (store 0 (Link 0) END ∷ one_put) (record { cell = 1; value = 9 }) ended_at prefix in cc
+    fetches_only 1 0 (record { last = Some 0; stage = stage.Ended false }) (store 0 (Link 0) END ∷ one_put)
+    (record { cell = 1; value = 9 }) ended_at prefix in cc

@@ -1,4 +1,4 @@
-use Rattle.mb_cells.proofs.Nexts.{link_within, push_within, read_within}
+use Rattle.mb_cells.proofs.NextAccesses.{link_within, push_within, read_within}
 use Rattle.mb_cells.proofs.laws.accesses_stay_within.Goals as goal
 
 pub returns-clause-push : goal.returns-clause-push

@@ -1,5 +1,5 @@
-use Rattle.mb_cells.proofs.Listed.{calls_answer, calls_once, calls_once_each, calls_read}
-use Rattle.mb_cells.proofs.Nexts.{calls_cell, calls_full}
+use Rattle.mb_cells.proofs.CallLaws.{calls_answer, calls_once, calls_once_each, calls_read, calls_within}
+use Rattle.mb_cells.proofs.CallNumbers.{calls_cell, calls_counter, calls_full, calls_handed_out}
 use Rattle.mb_cells.proofs.laws.calls_put_items.Goals as goal
 
 pub returns-clause-reads : goal.returns-clause-reads
@@ -19,3 +19,12 @@ returns-clause-lane c = calls_once
 
 pub returns-clause-once : goal.returns-clause-once
 returns-clause-once c = calls_once_each
+
+pub returns-clause-handed_out : goal.returns-clause-handed_out
+returns-clause-handed_out c = calls_handed_out
+
+pub returns-clause-counter : goal.returns-clause-counter
+returns-clause-counter c = calls_counter
+
+pub returns-clause-within : goal.returns-clause-within
+returns-clause-within c = calls_within

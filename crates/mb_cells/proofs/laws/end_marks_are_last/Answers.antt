@@ -1,4 +1,4 @@
-use Rattle.mb_cells.proofs.Ends.{after_end, end_told}
+use Rattle.mb_cells.proofs.EndMarks.{after_end, end_told}
 use Rattle.mb_cells.proofs.Histories.{met_all}
 use Rattle.mb_cells.proofs.laws.end_marks_are_last.Goals as goal
 

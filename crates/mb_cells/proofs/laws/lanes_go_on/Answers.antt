@@ -1,5 +1,5 @@
-use Rattle.mb_cells.proofs.Moves.{finished_lane, lane_prefix, offered_lane, pushed_lane, same_lane, some_lane, start_lane}
-use Rattle.mb_cells.proofs.Nexts.{fetches_only, stores_only}
+use Rattle.mb_cells.proofs.LaneSteps.{finished_lane, lane_prefix, offered_lane, pushed_lane, same_lane, some_lane, start_lane}
+use Rattle.mb_cells.proofs.NextAccesses.{kinds_only, fetches_only, stores_only}
 use Rattle.mb_cells.proofs.laws.lanes_go_on.Goals as goal
 
 pub returns-clause-start : goal.returns-clause-start
@@ -28,3 +28,6 @@ returns-clause-fetches c = fetches_only
 
 pub returns-clause-stores : goal.returns-clause-stores
 returns-clause-stores c = stores_only
+
+pub returns-clause-only : goal.returns-clause-only
+returns-clause-only c = kinds_only

@@ -1,6 +1,6 @@
-use Rattle.mb_cells.proofs.Ends.{end_load, next_load}
 use Rattle.mb_cells.proofs.Histories.{link_load}
 use Rattle.mb_cells.proofs.Items.{given, item_put, item_value}
+use Rattle.mb_cells.proofs.LaneReading.{end_load, next_load}
 use Rattle.mb_cells.proofs.laws.loads_tell_what_stays.Goals as goal
 
 pub returns-clause-link : goal.returns-clause-link

@@ -1,5 +1,4 @@
-use Rattle.mb_cells.proofs.Counts.{counter_bound}
-use Rattle.mb_cells.proofs.Ends.{all_handed_out, handed_out}
+use Rattle.mb_cells.proofs.Counts.{all_handed_out, counter_bound, handed_out}
 use Rattle.mb_cells.proofs.Parts.{fetch-below, fetch-one}
 use Rattle.mb_cells.proofs.laws.numbers_are_handed_out_once.Goals as goal
 

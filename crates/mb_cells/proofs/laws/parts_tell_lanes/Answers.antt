@@ -1,6 +1,6 @@
 use Rattle.std.proofs.Common.{refl}
 use Rattle.mb_cells.specs.declared.access.Word.TheVariants.{Head, Item, Link}
-use Rattle.mb_cells.proofs.Ends.{has_ended-part}
+use Rattle.mb_cells.proofs.EndMarks.{has_ended-part}
 use Rattle.mb_cells.proofs.Histories.{left_alone, linked-part, local}
 use Rattle.mb_cells.proofs.Items.{put-part}
 use Rattle.mb_cells.proofs.laws.parts_tell_lanes.Goals as goal

@@ -1,5 +1,5 @@
-use Rattle.mb_cells.proofs.Ends.{on_chain}
 use Rattle.mb_cells.proofs.Histories.{met_start}
+use Rattle.mb_cells.proofs.ReaderChains.{on_chain}
 use Rattle.mb_cells.proofs.laws.readers_follow_lanes.Goals as goal
 
 pub returns-clause-met : goal.returns-clause-met

@@ -1,4 +1,4 @@
-use Rattle.mb_cells.proofs.Sublists.{lane_path, path_of_parts, some_lane_on}
+use Rattle.mb_cells.proofs.ReaderParts.{lane_path, path_of_parts, some_lane_on}
 use Rattle.mb_cells.proofs.laws.readers_keep_to_lanes.Goals as goal
 
 pub returns-clause-part : goal.returns-clause-part

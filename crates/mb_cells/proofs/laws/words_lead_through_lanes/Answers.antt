@@ -1,5 +1,5 @@
-use Rattle.mb_cells.proofs.Ends.{end_word, next_cell}
-use Rattle.mb_cells.proofs.Following.{lane_reads}
+use Rattle.mb_cells.proofs.EndMarks.{end_word}
+use Rattle.mb_cells.proofs.LaneReading.{lane_reads, next_cell}
 use Rattle.mb_cells.proofs.Items.{item_left}
 use Rattle.mb_cells.proofs.laws.words_lead_through_lanes.Goals as goal
 

@@ -2,7 +2,7 @@ use Rattle.std.proofs.Common.{◌<◌, sym, ◌∙◌, subst}
 use Rattle.mb_cells.specs.Standing.{after_finish, lane_finished, next_link}
 use Rattle.mb_cells.specs.State.{State, lane_count}
 use Rattle.mb_cells.specs.declared.access.TheConstants.{END}
-use Rattle.mb_cells.proofs.Pooling.{finish_made, lane_here, sound_after}
+use Rattle.mb_cells.proofs.PoolSteps.{finish_made, lane_here, sound_after}
 use Rattle.mb_cells.proofs.pool.Pool.finish.Goals as goal
 
 pub returns-clause-meets : goal.returns-clause-meets

@@ -2,7 +2,7 @@ use Rattle.std.proofs.Common.{◌+◌, ◌<◌, sym, ◌∙◌, subst, arith}
 use Rattle.mb_cells.specs.Standing.{after_offer, lane_offered}
 use Rattle.mb_cells.specs.State.{State, cell_count, lane_count}
 use Rattle.mb_cells.specs.declared.access.Word.TheVariants.{Counter}
-use Rattle.mb_cells.proofs.Pooling.{counter_small, lane_here, offer_made, sound_after}
+use Rattle.mb_cells.proofs.PoolSteps.{counter_small, lane_here, offer_made, sound_after}
 use Rattle.mb_cells.proofs.pool.Pool.offer.Goals as goal
 
 pub overflow_add-found : goal.overflow_add-found
@@ -32,4 +32,5 @@ invariant_of-self g c =
     let was = c.self.invariant.history.1 in
     let then = made h lane was (lane_here h s c.args.p lane lt was c.index.ensures) in
     rw (c.offered-answer.ensures.lane, c.store.ensures, c.cells-cells.ensures, c.load-found.ensures)
-    (sound_after s Counter (s.words.counter + 1) c.args.p (lane_offered (cell_count s) c.args.x s.words.counter lane) c.self.invariant (after_offer c.args.p c.args.x lane h, then.1))
+    (sound_after s Counter (s.words.counter + 1) c.args.p (lane_offered (cell_count s) c.args.x s.words.counter lane) c.self.invariant
+    (after_offer c.args.p c.args.x lane h, then.1))

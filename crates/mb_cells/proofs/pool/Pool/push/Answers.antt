@@ -1,7 +1,7 @@
 use Rattle.std.proofs.Common.{◌<◌, sym, ◌∙◌, subst}
 use Rattle.mb_cells.specs.Standing.{after_push, lane_pushed}
 use Rattle.mb_cells.specs.State.{State, lane_count}
-use Rattle.mb_cells.proofs.Pooling.{lane_here, push_made, sound_after}
+use Rattle.mb_cells.proofs.PoolSteps.{lane_here, push_made, sound_after}
 use Rattle.mb_cells.proofs.pool.Pool.push.Goals as goal
 
 pub returns-clause-meets : goal.returns-clause-meets

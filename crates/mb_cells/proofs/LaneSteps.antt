@@ -3,9 +3,10 @@ use Rattle.std.proofs.Common.{◌≡◌, ℕ, ◌+◌, ◌<◌, ◌≤◌, List,
 use Rattle.std.specs.Prelude.{nat_lt}
 use Rattle.std.proofs.lemmas.Bool.{cases_Bool, ltb-true, ltb-false}
 use Rattle.mb_cells.specs.declared.lane.Stage.TheVariants as stage
+use Rattle.mb_cells.specs.Place as phase
 use Rattle.mb_cells.specs.LanePath.{Entry, IsLanePrefix, fetch, place_after, store}
 use Rattle.mb_cells.specs.Memory.{History}
-use Rattle.mb_cells.specs.Place.{Ended, Filled, Free, IsAt, Phase, Refused, Taken, ends_lane, ends_refused, fills_cell, finds_none, links_cell, takes_cell}
+use Rattle.mb_cells.specs.Place.{IsAt, Phase, ends_lane, ends_refused, fills_cell, finds_none, links_cell, takes_cell}
 use Rattle.mb_cells.specs.Standing.{IsLaneAfter, is_full, lane_finished, lane_offered, lane_pushed, last_of, link_after, new_lane, next_link, push_store, pushed_last, pushed_stage, refused_finish, refused_offer, stage_finish_refusal, stage_of, stage_offer_refusal, stage_push}
 use Rattle.mb_cells.specs.declared.access.TheConstants.{END}
 use Rattle.mb_cells.specs.declared.access.Word.{Word}
@@ -16,9 +17,9 @@ use Rattle.mb_cells.proofs.Steps.{start_at}
 
 -- the value of a producer that has done nothing
 pub start_lane : (cells p : ℕ) → IsLaneAfter cells p new_lane []
-start_lane cells p = record { entries = []; phase = Free; at = start_at cells p; last = refl; stage = refl }
+start_lane cells p = record { entries = []; phase = phase.Open; at = start_at cells p; last = refl; stage = refl }
 
--- each beginning of a lane path has its value
+-- each prefix of a lane path has its value
 pub some_lane : (cells p : ℕ) (done : History) → IsLanePrefix cells p done → (lane : Lane) × IsLaneAfter cells p lane done
 some_lane cells p done prefix =
     let s = somewhere cells p done prefix in
@@ -32,7 +33,7 @@ same_lane cells p lane other done x y =
     let stage : lane.stage ≡ other.stage = x.stage ∙ ap stage_of one.1 ∙ sym y.stage in
     ap (λ z. record { last = z; stage = lane.stage }) last ∙ ap (λ z. record { last = other.last; stage = z }) stage
 
--- what has a value is a beginning of a lane path
+-- what has a value is a prefix of a lane path
 pub lane_prefix : (cells p : ℕ) (lane : Lane) (done : History) → IsLaneAfter cells p lane done → IsLanePrefix cells p done
 lane_prefix cells p lane done x = prefix_at cells p x.entries x.phase done x.at
 
@@ -46,27 +47,27 @@ pub next_place : (p : ℕ) (lane : Lane) (es : List Entry) → lane.last ≡ las
 next_place p lane es is = ap (link_after p) is ∙ link_place p es
 
 -- an offer is not refused in the first phase alone
-free_of : (phase : Phase) → stage_offer_refusal (stage_of phase) ≡ None → phase ≡ Free
-free_of Free is = refl
-free_of (Taken e) is = absurd (cc)
-free_of (Filled e) is = absurd (cc)
-free_of (Refused e) is = absurd (cc)
-free_of (Ended None) is = absurd (cc)
-free_of (Ended (Some e)) is = absurd (cc)
+open_of : (z : Phase) → stage_offer_refusal (stage_of z) ≡ None → z ≡ phase.Open
+open_of phase.Open is = refl
+open_of (phase.Offered e) is = absurd (cc)
+open_of (phase.Stored e) is = absurd (cc)
+open_of (phase.Full e) is = absurd (cc)
+open_of (phase.Ended None) is = absurd (cc)
+open_of (phase.Ended (Some e)) is = absurd (cc)
 
 -- after an offer's fetch-add
 pub offered_lane : (cells p : ℕ) (lane : Lane) (done : History) (e : Entry) → IsLaneAfter cells p lane done → refused_offer lane ≡ None
     → IsLaneAfter cells p (lane_offered cells e.value e.cell lane) (fetch p e ∷ done)
 offered_lane cells p lane done e x going =
-    let free : x.phase ≡ Free = free_of x.phase (ap stage_offer_refusal (sym x.stage) ∙ going) in
-    let at : IsAt cells p x.entries Free done = subst (λ z. IsAt cells p x.entries z done) free x.at in
+    let start : x.phase ≡ phase.Open = open_of x.phase (ap stage_offer_refusal (sym x.stage) ∙ going) in
+    let at : IsAt cells p x.entries phase.Open done = subst (λ z. IsAt cells p x.entries z done) start x.at in
     elim (cases_Bool (nat_lt e.cell cells)) [
       | inl low ↦
           let b : e.cell < cells = ltb-true e.cell cells low in
           record {
             entries = x.entries;
-            phase = Taken e;
-            at = goes_on cells p x.entries x.entries Free (Taken e) (fetch p e) done (takes_cell x.entries e b) at;
+            phase = phase.Offered e;
+            at = goes_on cells p x.entries x.entries phase.Open (phase.Offered e) (fetch p e) done (takes_cell x.entries e b) at;
             last = x.last;
             stage = rw low refl;
           }
@@ -74,69 +75,74 @@ offered_lane cells p lane done e x going =
           let b : cells ≤ e.cell = ltb-false e.cell cells high in
           record {
             entries = x.entries;
-            phase = Refused e;
-            at = goes_on cells p x.entries x.entries Free (Refused e) (fetch p e) done (finds_none x.entries e b) at;
+            phase = phase.Full e;
+            at = goes_on cells p x.entries x.entries phase.Open (phase.Full e) (fetch p e) done (finds_none x.entries e b) at;
             last = x.last;
             stage = rw high refl;
           }
     ]
 
 -- after a push's store, whichever it is
-pushed_at : (cells p : ℕ) (lane : Lane) (done : History) (es : List Entry) (phase : Phase) (s : Word × ℕ) → IsAt cells p es phase done → lane.last ≡ last_of es → lane.stage ≡ stage_of phase
+pushed_at : (cells p : ℕ) (lane : Lane) (done : History) (es : List Entry) (phase : Phase) (s : Word × ℕ)
+    → IsAt cells p es phase done → lane.last ≡ last_of es → lane.stage ≡ stage_of phase
     → push_store p lane ≡ Some s → IsLaneAfter cells p (lane_pushed lane) (store p s.0 s.1 ∷ done)
-pushed_at cells p lane done es Free s at last stage is = absurd (let e : None ≡ Some s = sym (ap (stage_push (next_link p lane)) stage) ∙ is in cc)
-pushed_at cells p lane done es (Taken e) s at last stage is =
+pushed_at cells p lane done es phase.Open s at last stage is = absurd (let e : None ≡ Some s = sym (ap (stage_push (next_link p lane)) stage) ∙ is in cc)
+pushed_at cells p lane done es (phase.Offered e) s at last stage is =
     let some : Some (Item e.cell, e.value) ≡ Some s = sym (ap (stage_push (next_link p lane)) stage) ∙ is in
     let pair : (Item e.cell, e.value) ≡ s = cc in
     subst (λ z. IsLaneAfter cells p (lane_pushed lane) (store p z.0 z.1 ∷ done)) pair
     (record {
       entries = es;
-      phase = Filled e;
-      at = goes_on cells p es es (Taken e) (Filled e) (store p (Item e.cell) e.value) done (fills_cell es e) at;
+      phase = phase.Stored e;
+      at = goes_on cells p es es (phase.Offered e) (phase.Stored e) (store p (Item e.cell) e.value) done (fills_cell es e) at;
       last = ap (pushed_last lane.last) stage ∙ last;
       stage = ap pushed_stage stage;
     })
-pushed_at cells p lane done es (Filled e) s at last stage is =
+pushed_at cells p lane done es (phase.Stored e) s at last stage is =
     let some : Some (next_link p lane, e.cell + 1) ≡ Some s = sym (ap (stage_push (next_link p lane)) stage) ∙ is in
     let link : next_link p lane ≡ place_after p es = next_place p lane es last in
     let put_at_place : (place_after p es, e.cell + 1) ≡ s = ap (λ w. (w, e.cell + 1)) (sym link) ∙ cc in
     subst (λ z. IsLaneAfter cells p (lane_pushed lane) (store p z.0 z.1 ∷ done)) put_at_place
     (record {
       entries = e ∷ es;
-      phase = Free;
-      at = goes_on cells p es (e ∷ es) (Filled e) Free (store p (place_after p es) (e.cell + 1)) done (links_cell es e) at;
+      phase = phase.Open;
+      at = goes_on cells p es (e ∷ es) (phase.Stored e) phase.Open (store p (place_after p es) (e.cell + 1)) done (links_cell es e) at;
       last = ap (pushed_last lane.last) stage;
       stage = ap pushed_stage stage;
     })
-pushed_at cells p lane done es (Refused e) s at last stage is = absurd (let n : None ≡ Some s = sym (ap (stage_push (next_link p lane)) stage) ∙ is in cc)
-pushed_at cells p lane done es (Ended None) s at last stage is = absurd (let n : None ≡ Some s = sym (ap (stage_push (next_link p lane)) stage) ∙ is in cc)
-pushed_at cells p lane done es (Ended (Some e)) s at last stage is = absurd (let n : None ≡ Some s = sym (ap (stage_push (next_link p lane)) stage) ∙ is in cc)
+pushed_at cells p lane done es (phase.Full e) s at last stage is = absurd (let n : None ≡ Some s = sym (ap (stage_push (next_link p lane)) stage) ∙ is in cc)
+pushed_at cells p lane done es (phase.Ended None) s at last stage is =
+    absurd (let n : None ≡ Some s = sym (ap (stage_push (next_link p lane)) stage) ∙ is in cc)
+pushed_at cells p lane done es (phase.Ended (Some e)) s at last stage is =
+    absurd (let n : None ≡ Some s = sym (ap (stage_push (next_link p lane)) stage) ∙ is in cc)
 
 -- after a push's store
-pub pushed_lane : (cells p : ℕ) (lane : Lane) (done : History) (s : Word × ℕ) → IsLaneAfter cells p lane done → push_store p lane ≡ Some s → IsLaneAfter cells p (lane_pushed lane) (store p s.0 s.1 ∷ done)
+pub pushed_lane : (cells p : ℕ) (lane : Lane) (done : History) (s : Word × ℕ) → IsLaneAfter cells p lane done
+    → push_store p lane ≡ Some s → IsLaneAfter cells p (lane_pushed lane) (store p s.0 s.1 ∷ done)
 pushed_lane cells p lane done s x is = pushed_at cells p lane done x.entries x.phase s x.at x.last x.stage is
 
 -- after the store of the end mark, by the phase
-finished_at : (cells p : ℕ) (lane : Lane) (done : History) (es : List Entry) (phase : Phase) → IsAt cells p es phase done → lane.last ≡ last_of es → lane.stage ≡ stage_of phase
+finished_at : (cells p : ℕ) (lane : Lane) (done : History) (es : List Entry) (phase : Phase)
+    → IsAt cells p es phase done → lane.last ≡ last_of es → lane.stage ≡ stage_of phase
     → refused_finish lane ≡ None → IsLaneAfter cells p (lane_finished lane) (store p (place_after p es) END ∷ done)
-finished_at cells p lane done es Free at last by_stage is = record {
+finished_at cells p lane done es phase.Open at last by_stage is = record {
   entries = es;
-  phase = Ended None;
-  at = goes_on cells p es es Free (Ended None) (store p (place_after p es) END) done (ends_lane es) at;
+  phase = phase.Ended None;
+  at = goes_on cells p es es phase.Open (phase.Ended None) (store p (place_after p es) END) done (ends_lane es) at;
   last = last;
   stage = ap (λ z. stage.Ended (is_full z)) by_stage;
 }
-finished_at cells p lane done es (Taken e) at last by_stage is = absurd (let n = sym (ap stage_finish_refusal by_stage) ∙ is in cc)
-finished_at cells p lane done es (Filled e) at last by_stage is = absurd (let n = sym (ap stage_finish_refusal by_stage) ∙ is in cc)
-finished_at cells p lane done es (Refused e) at last by_stage is = record {
+finished_at cells p lane done es (phase.Offered e) at last by_stage is = absurd (let n = sym (ap stage_finish_refusal by_stage) ∙ is in cc)
+finished_at cells p lane done es (phase.Stored e) at last by_stage is = absurd (let n = sym (ap stage_finish_refusal by_stage) ∙ is in cc)
+finished_at cells p lane done es (phase.Full e) at last by_stage is = record {
   entries = es;
-  phase = Ended (Some e);
-  at = goes_on cells p es es (Refused e) (Ended (Some e)) (store p (place_after p es) END) done (ends_refused es e) at;
+  phase = phase.Ended (Some e);
+  at = goes_on cells p es es (phase.Full e) (phase.Ended (Some e)) (store p (place_after p es) END) done (ends_refused es e) at;
   last = last;
   stage = ap (λ z. stage.Ended (is_full z)) by_stage;
 }
-finished_at cells p lane done es (Ended None) at last by_stage is = absurd (let n = sym (ap stage_finish_refusal by_stage) ∙ is in cc)
-finished_at cells p lane done es (Ended (Some e)) at last by_stage is = absurd (let n = sym (ap stage_finish_refusal by_stage) ∙ is in cc)
+finished_at cells p lane done es (phase.Ended None) at last by_stage is = absurd (let n = sym (ap stage_finish_refusal by_stage) ∙ is in cc)
+finished_at cells p lane done es (phase.Ended (Some e)) at last by_stage is = absurd (let n = sym (ap stage_finish_refusal by_stage) ∙ is in cc)
 
 -- after the store of the end mark
 pub finished_lane : (cells p : ℕ) (lane : Lane) (done : History) → IsLaneAfter cells p lane done → refused_finish lane ≡ None

@@ -1,8 +1,8 @@
 -- What a producer leaves in its words.
 use Rattle.std.proofs.Common.{◌≡◌, ℕ, ◌+◌, ◌<◌, ◌⊎◌, false, List, [], ◌∷◌, Some, None, refl, sym, ◌∙◌, subst, inl, inr, arith, eq-eqb, ne_eqb}
 use Rattle.mb_cells.specs.LanePath.{AllCellsBelow, Entry, fetch, groups, place_after}
-use Rattle.mb_cells.specs.Memory.{Has, History, is_same_word, value_after}
-use Rattle.mb_cells.specs.Place.{Ended, Filled, Free, Phase, Refused, Taken, done_at}
+use Rattle.mb_cells.specs.Memory.{Has, History, is_same_word, value_in}
+use Rattle.mb_cells.specs.Place.{Ended, Full, Offered, Open, Phase, Stored, done_at}
 use Rattle.mb_cells.specs.declared.access.Access.{Access}
 use Rattle.mb_cells.specs.declared.access.Act.TheVariants.{Store}
 use Rattle.mb_cells.specs.declared.access.TheConstants.{END}
@@ -28,10 +28,10 @@ falling p (e ∷ es) r = (has_fetch p e.cell es (λ f m. r.1.1.0 p p e f refl m)
 
 -- the entry of the phase stands above all entries
 abbrev pub IsAbove : List Entry → Phase → Type 0
-IsAbove es Free = Unit {0}
-IsAbove es (Taken e) = AllCellsBelow e.cell es
-IsAbove es (Filled e) = AllCellsBelow e.cell es
-IsAbove es (Refused e) = AllCellsBelow e.cell es
+IsAbove es Open = Unit {0}
+IsAbove es (Offered e) = AllCellsBelow e.cell es
+IsAbove es (Stored e) = AllCellsBelow e.cell es
+IsAbove es (Full e) = AllCellsBelow e.cell es
 IsAbove es (Ended r) = Unit {0}
 
 -- the cells fall, and the one of the phase stands above them
@@ -40,10 +40,10 @@ IsFallingAt es phase = AreFalling es × IsAbove es phase
 
 -- where the numbers rise, the cells fall at each place
 pub falling_at : (p : ℕ) (es : List Entry) (phase : Phase) → AreRising (done_at p es phase) → IsFallingAt es phase
-falling_at p es Free r = (falling p es r, tt)
-falling_at p es (Taken e) r = (falling p es r.1, has_fetch p e.cell es (λ f m. r.0 p p e f refl m))
-falling_at p es (Filled e) r = (falling p es r.1.1, has_fetch p e.cell es (λ f m. r.1.0 p p e f refl m))
-falling_at p es (Refused e) r = (falling p es r.1, has_fetch p e.cell es (λ f m. r.0 p p e f refl m))
+falling_at p es Open r = (falling p es r, tt)
+falling_at p es (Offered e) r = (falling p es r.1, has_fetch p e.cell es (λ f m. r.0 p p e f refl m))
+falling_at p es (Stored e) r = (falling p es r.1.1, has_fetch p e.cell es (λ f m. r.1.0 p p e f refl m))
+falling_at p es (Full e) r = (falling p es r.1, has_fetch p e.cell es (λ f m. r.0 p p e f refl m))
 falling_at p es (Ended None) r = (falling p es r.1, tt)
 falling_at p es (Ended (Some e)) r = (falling p es r.1.1, tt)
 
@@ -103,18 +103,18 @@ item-place p k [] = refl
 item-place p k (e ∷ es) = refl
 
 -- groups leave a chain
-groups-chained : (p : ℕ) (es : List Entry) → AreFalling es → IsChained (value_after (groups p es)) p es
+groups-chained : (p : ℕ) (es : List Entry) → AreFalling es → IsChained (value_in (groups p es)) p es
 groups-chained p [] f = tt
 groups-chained p (e ∷ es) f = (
   rw (is_same_word-refl (place_after p es)),
   rw (place-item p e.cell es, eq-eqb e.cell e.cell refl),
-  chained-agree (value_after (groups p es)) (value_after (groups p (e ∷ es))) p es
+  chained-agree (value_in (groups p es)) (value_in (groups p (e ∷ es))) p es
       (λ w i. let a = apart p e.cell es w f.0 i in rw (apart-next p es w f.1 i, a.item, a.counter))
       (groups-chained p es f.1),
 )
 
 -- nothing is in the link of a greater cell yet
-groups-fresh : (p n : ℕ) (es : List Entry) → AllCellsBelow n es → value_after (groups p es) (Link n) ≡ 0
+groups-fresh : (p n : ℕ) (es : List Entry) → AllCellsBelow n es → value_in (groups p es) (Link n) ≡ 0
 groups-fresh p n [] b = refl
 groups-fresh p n (e ∷ []) b = refl
 groups-fresh p n (e ∷ d ∷ es) b =
@@ -122,7 +122,7 @@ groups-fresh p n (e ∷ d ∷ es) b =
     rw ne (groups-fresh p n (d ∷ es) b.1)
 
 -- nothing is in the next link of whole groups
-groups-next : (p : ℕ) (es : List Entry) → AreFalling es → value_after (groups p es) (place_after p es) ≡ 0
+groups-next : (p : ℕ) (es : List Entry) → AreFalling es → value_in (groups p es) (place_after p es) ≡ 0
 groups-next p [] f = refl
 groups-next p (e ∷ []) f = refl
 groups-next p (e ∷ d ∷ es) f =
@@ -131,10 +131,10 @@ groups-next p (e ∷ d ∷ es) f =
 
 -- what the word after the last cell holds
 abbrev pub end_value : Phase → ℕ
-end_value Free = 0
-end_value (Taken _) = 0
-end_value (Filled _) = 0
-end_value (Refused _) = 0
+end_value Open = 0
+end_value (Offered _) = 0
+end_value (Stored _) = 0
+end_value (Full _) = 0
 end_value (Ended _) = END
 
 -- the counter is no link
@@ -143,18 +143,21 @@ counter-place p [] = refl
 counter-place p (e ∷ es) = refl
 
 -- what was done leaves a chain, at each place
-pub chained_at : (p : ℕ) (es : List Entry) (phase : Phase) → IsFallingAt es phase → IsChained (value_after (done_at p es phase)) p es
-chained_at p es Free f = groups-chained p es f.0
-chained_at p es (Taken e) f =
-    chained-agree (value_after (groups p es)) (value_after (done_at p es (Taken e))) p es (λ w i. let a = apart p e.cell es w f.1 i in rw a.counter) (groups-chained p es f.0)
-chained_at p es (Filled e) f =
-    chained-agree (value_after (groups p es)) (value_after (done_at p es (Filled e))) p es (λ w i. let a = apart p e.cell es w f.1 i in rw (a.item, a.counter)) (groups-chained p es f.0)
-chained_at p es (Refused e) f =
-    chained-agree (value_after (groups p es)) (value_after (done_at p es (Refused e))) p es (λ w i. let a = apart p e.cell es w f.1 i in rw a.counter) (groups-chained p es f.0)
+pub chained_at : (p : ℕ) (es : List Entry) (phase : Phase) → IsFallingAt es phase → IsChained (value_in (done_at p es phase)) p es
+chained_at p es Open f = groups-chained p es f.0
+chained_at p es (Offered e) f =
+    chained-agree (value_in (groups p es)) (value_in (done_at p es (Offered e))) p es
+    (λ w i. let a = apart p e.cell es w f.1 i in rw a.counter) (groups-chained p es f.0)
+chained_at p es (Stored e) f =
+    chained-agree (value_in (groups p es)) (value_in (done_at p es (Stored e))) p es
+    (λ w i. let a = apart p e.cell es w f.1 i in rw (a.item, a.counter)) (groups-chained p es f.0)
+chained_at p es (Full e) f =
+    chained-agree (value_in (groups p es)) (value_in (done_at p es (Full e))) p es
+    (λ w i. let a = apart p e.cell es w f.1 i in rw a.counter) (groups-chained p es f.0)
 chained_at p es (Ended None) f =
-    chained-agree (value_after (groups p es)) (value_after (done_at p es (Ended None))) p es (λ w i. rw (apart-next p es w f.0 i)) (groups-chained p es f.0)
+    chained-agree (value_in (groups p es)) (value_in (done_at p es (Ended None))) p es (λ w i. rw (apart-next p es w f.0 i)) (groups-chained p es f.0)
 chained_at p es (Ended (Some e)) f =
-    chained-agree (value_after (groups p es)) (value_after (done_at p es (Ended (Some e)))) p es
+    chained-agree (value_in (groups p es)) (value_in (done_at p es (Ended (Some e)))) p es
     (λ w i. let n = apart-next p es w f.0 i in let c = in_chain-counter p es w i in rw (n, c))
     (groups-chained p es f.0)
   where
@@ -165,11 +168,11 @@ chained_at p es (Ended (Some e)) f =
     in_chain-counter p (e ∷ es) w (inr (inr i)) = in_chain-counter p es w i
 
 -- and in the word behind it 0 or the end mark
-pub next_at : (p : ℕ) (es : List Entry) (phase : Phase) → AreFalling es → value_after (done_at p es phase) (place_after p es) ≡ end_value phase
-next_at p es Free f = groups-next p es f
-next_at p es (Taken e) f = rw (counter-place p es) (groups-next p es f)
-next_at p es (Filled e) f = rw (item-place p e.cell es, counter-place p es) (groups-next p es f)
-next_at p es (Refused e) f = rw (counter-place p es) (groups-next p es f)
+pub next_at : (p : ℕ) (es : List Entry) (phase : Phase) → AreFalling es → value_in (done_at p es phase) (place_after p es) ≡ end_value phase
+next_at p es Open f = groups-next p es f
+next_at p es (Offered e) f = rw (counter-place p es) (groups-next p es f)
+next_at p es (Stored e) f = rw (item-place p e.cell es, counter-place p es) (groups-next p es f)
+next_at p es (Full e) f = rw (counter-place p es) (groups-next p es f)
 next_at p es (Ended r) f = rw (is_same_word-refl (place_after p es))
 
 -- the words that only producer q stores to
@@ -195,7 +198,8 @@ owned-place q (e ∷ es) = (e, (refl, inr (inr (inl refl))))
 pub groups-owned : (q : ℕ) (es : List Entry) (a : Access) (v : ℕ) → Has (groups q es) a → a.act ≡ Store v → IsOwned q (groups q es) a.word
 groups-owned q [] a v has is = absurd has
 groups-owned q (e ∷ es) a v (inl at) is =
-    subst (λ x. IsOwned q (groups q (e ∷ es)) x.word) at (owned-more q (groups q es) (groups q (e ∷ es)) (place_after q es) (λ b m. inr (inr (inr m))) (owned-place q es))
+    subst (λ x. IsOwned q (groups q (e ∷ es)) x.word) at
+    (owned-more q (groups q es) (groups q (e ∷ es)) (place_after q es) (λ b m. inr (inr (inr m))) (owned-place q es))
 groups-owned q (e ∷ es) a v (inr (inl at)) is =
     subst (λ x. IsOwned q (groups q (e ∷ es)) x.word) at (e, (refl, inr (inr (inl refl))))
 groups-owned q (e ∷ es) a v (inr (inr (inl at))) is = absurd (cc)
@@ -204,42 +208,46 @@ groups-owned q (e ∷ es) a v (inr (inr (inr has))) is =
 
 -- a producer owns the word behind its last cell
 pub owned_next : (q : ℕ) (es : List Entry) (phase : Phase) → IsOwned q (done_at q es phase) (place_after q es)
-owned_next q es Free = owned-place q es
-owned_next q es (Taken e) = owned-more q (groups q es) (done_at q es (Taken e)) (place_after q es) (λ b m. inr m) (owned-place q es)
-owned_next q es (Filled e) = owned-more q (groups q es) (done_at q es (Filled e)) (place_after q es) (λ b m. inr (inr m)) (owned-place q es)
-owned_next q es (Refused e) = owned-more q (groups q es) (done_at q es (Refused e)) (place_after q es) (λ b m. inr m) (owned-place q es)
+owned_next q es Open = owned-place q es
+owned_next q es (Offered e) = owned-more q (groups q es) (done_at q es (Offered e)) (place_after q es) (λ b m. inr m) (owned-place q es)
+owned_next q es (Stored e) = owned-more q (groups q es) (done_at q es (Stored e)) (place_after q es) (λ b m. inr (inr m)) (owned-place q es)
+owned_next q es (Full e) = owned-more q (groups q es) (done_at q es (Full e)) (place_after q es) (λ b m. inr m) (owned-place q es)
 owned_next q es (Ended None) = owned-more q (groups q es) (done_at q es (Ended None)) (place_after q es) (λ b m. inr m) (owned-place q es)
 owned_next q es (Ended (Some e)) = owned-more q (groups q es) (done_at q es (Ended (Some e))) (place_after q es) (λ b m. inr (inr m)) (owned-place q es)
 
 -- a producer stores to owned words
-pub stores_owned : (q : ℕ) (es : List Entry) (phase : Phase) (a : Access) (v : ℕ) → Has (done_at q es phase) a → a.act ≡ Store v → IsOwned q (done_at q es phase) a.word
-stores_owned q es Free a v has is = groups-owned q es a v has is
-stores_owned q es (Taken e) a v (inl at) is = absurd (cc)
-stores_owned q es (Taken e) a v (inr has) is = owned-more q (groups q es) (done_at q es (Taken e)) a.word (λ b m. inr m) (groups-owned q es a v has is)
-stores_owned q es (Filled e) a v (inl at) is = subst (λ x. IsOwned q (done_at q es (Filled e)) x.word) at (e, (refl, inr (inl refl)))
-stores_owned q es (Filled e) a v (inr (inl at)) is = absurd (cc)
-stores_owned q es (Filled e) a v (inr (inr has)) is = owned-more q (groups q es) (done_at q es (Filled e)) a.word (λ b m. inr (inr m)) (groups-owned q es a v has is)
-stores_owned q es (Refused e) a v (inl at) is = absurd (cc)
-stores_owned q es (Refused e) a v (inr has) is = owned-more q (groups q es) (done_at q es (Refused e)) a.word (λ b m. inr m) (groups-owned q es a v has is)
+pub stores_owned : (q : ℕ) (es : List Entry) (phase : Phase) (a : Access) (v : ℕ) → Has (done_at q es phase) a
+    → a.act ≡ Store v → IsOwned q (done_at q es phase) a.word
+stores_owned q es Open a v has is = groups-owned q es a v has is
+stores_owned q es (Offered e) a v (inl at) is = absurd (cc)
+stores_owned q es (Offered e) a v (inr has) is = owned-more q (groups q es) (done_at q es (Offered e)) a.word (λ b m. inr m) (groups-owned q es a v has is)
+stores_owned q es (Stored e) a v (inl at) is = subst (λ x. IsOwned q (done_at q es (Stored e)) x.word) at (e, (refl, inr (inl refl)))
+stores_owned q es (Stored e) a v (inr (inl at)) is = absurd (cc)
+stores_owned q es (Stored e) a v (inr (inr has)) is =
+    owned-more q (groups q es) (done_at q es (Stored e)) a.word (λ b m. inr (inr m)) (groups-owned q es a v has is)
+stores_owned q es (Full e) a v (inl at) is = absurd (cc)
+stores_owned q es (Full e) a v (inr has) is = owned-more q (groups q es) (done_at q es (Full e)) a.word (λ b m. inr m) (groups-owned q es a v has is)
 stores_owned q es (Ended r) a v (inl at) is = subst (λ x. IsOwned q (done_at q es (Ended r)) x.word) at (owned_next q es (Ended r))
 stores_owned q es (Ended None) a v (inr has) is = owned-more q (groups q es) (done_at q es (Ended None)) a.word (λ b m. inr m) (groups-owned q es a v has is)
 stores_owned q es (Ended (Some e)) a v (inr (inl at)) is = absurd (cc)
-stores_owned q es (Ended (Some e)) a v (inr (inr has)) is = owned-more q (groups q es) (done_at q es (Ended (Some e))) a.word (λ b m. inr (inr m)) (groups-owned q es a v has is)
+stores_owned q es (Ended (Some e)) a v (inr (inr has)) is =
+    owned-more q (groups q es) (done_at q es (Ended (Some e))) a.word (λ b m. inr (inr m)) (groups-owned q es a v has is)
 
 -- the words of the chain of groups are owned
 chain_owned-groups : (p : ℕ) (es : List Entry) (w : Word) → IsInChain p es w → IsOwned p (groups p es) w
 chain_owned-groups p [] w i = absurd i
 chain_owned-groups p (e ∷ es) w (inl is) =
-    subst (IsOwned p (groups p (e ∷ es))) (sym is) (owned-more p (groups p es) (groups p (e ∷ es)) (place_after p es) (λ b m. inr (inr (inr m))) (owned-place p es))
+    subst (IsOwned p (groups p (e ∷ es))) (sym is)
+    (owned-more p (groups p es) (groups p (e ∷ es)) (place_after p es) (λ b m. inr (inr (inr m))) (owned-place p es))
 chain_owned-groups p (e ∷ es) w (inr (inl is)) = subst (IsOwned p (groups p (e ∷ es))) (sym is) (e, (refl, inr (inr (inl refl))))
 chain_owned-groups p (e ∷ es) w (inr (inr i)) = owned-more p (groups p es) (groups p (e ∷ es)) w (λ b m. inr (inr (inr m))) (chain_owned-groups p es w i)
 
 -- the groups are a part of all that was done
 pub groups_in : (p : ℕ) (es : List Entry) (phase : Phase) (a : Access) → Has (groups p es) a → Has (done_at p es phase) a
-groups_in p es Free a m = m
-groups_in p es (Taken e) a m = inr m
-groups_in p es (Filled e) a m = inr (inr m)
-groups_in p es (Refused e) a m = inr m
+groups_in p es Open a m = m
+groups_in p es (Offered e) a m = inr m
+groups_in p es (Stored e) a m = inr (inr m)
+groups_in p es (Full e) a m = inr m
 groups_in p es (Ended None) a m = inr m
 groups_in p es (Ended (Some e)) a m = inr (inr m)
 

@@ -7,11 +7,12 @@ use Rattle.mb_cells.specs.declared.answer.Offer.TheVariants as offer
 use Rattle.mb_cells.specs.declared.answer.Push.TheVariants as push
 use Rattle.mb_cells.specs.declared.answer.Finish.TheVariants as finish
 use Rattle.mb_cells.specs.declared.lane.Stage.TheVariants as stage
-use Rattle.mb_cells.specs.CallLists.{Call, Finished, Offered, Pushed, adds_by, ended_by, is_end, item_by, linked_by, stage_by, stage_by_finish}
+use Rattle.mb_cells.specs.Place as phase
+use Rattle.mb_cells.specs.CallLists.{Call, Finished, Offered, Pushed, adds_by, adds_by_offer, ended_by, is_end, item_by, item_by_offer, linked_by, stage_by, stage_by_finish, stage_by_offer, stage_by_push}
 use Rattle.mb_cells.specs.LanePath.{Entry, fetch, store}
 use Rattle.mb_cells.specs.Lanes.{has_ended, linked, offered}
 use Rattle.mb_cells.specs.Memory.{History, adds_on, is_same_process, part}
-use Rattle.mb_cells.specs.Place.{Ended, Filled, Free, Phase, PhaseFits, Refused, Taken}
+use Rattle.mb_cells.specs.Place.{Phase, PhaseFits}
 use Rattle.mb_cells.specs.Standing.{IsLaneAfter, after_finish, after_offer, after_push, finish_answer, is_full, lane_finished, lane_offered, lane_pushed, link_after, new_lane, next_link, offer_answer, offer_given, push_answer, push_store, pushed_stage, refused_finish, refused_offer, stage_finish_refusal, stage_of, stage_offer_refusal, stage_push, stage_push_answer}
 use Rattle.mb_cells.specs.declared.access.Access.{Access}
 use Rattle.mb_cells.specs.declared.access.Process.TheVariants.{Producer}
@@ -21,8 +22,8 @@ use Rattle.mb_cells.specs.declared.answer.Finish.{Finish}
 use Rattle.mb_cells.specs.declared.answer.Offer.{Offer}
 use Rattle.mb_cells.specs.declared.lane.Lane.{Lane}
 use Rattle.mb_cells.specs.declared.lane.Stage.{Stage}
-use Rattle.mb_cells.proofs.Moves.{finished_lane, offered_lane, pushed_lane, same_lane, start_lane}
-use Rattle.mb_cells.proofs.Names.{is_same_process-refl}
+use Rattle.mb_cells.proofs.LaneSteps.{finished_lane, offered_lane, pushed_lane, same_lane, start_lane}
+use Rattle.mb_cells.proofs.Names.{own_process}
 use Rattle.mb_cells.proofs.Parts.{part-other, part-own}
 
 -- the calls say what the history says
@@ -59,7 +60,7 @@ stage_other cells calls h a p q lane t who ne at =
 stage_own : (cells : ℕ) (h : History) (a : Access) (p : ℕ) (lane now : Lane) → a.process ≡ Producer p → IsLaneAfter cells p now (a ∷ part (Producer p) h)
     → IsLaneAfter cells p lane (part (Producer p) (a ∷ h)) → lane.stage ≡ now.stage
 stage_own cells h a p lane now who next at =
-    let own : is_same_process (Producer p) a.process ≡ true = subst (λ x. is_same_process (Producer p) x ≡ true) (sym who) (is_same_process-refl (Producer p)) in
+    let own = own_process (Producer p) a who in
     ap (λ (l : Lane). l.stage) (same_lane cells p lane now (a ∷ part (Producer p) h) (subst (IsLaneAfter cells p lane) (part-own (Producer p) a h own) at) next)
 
 -- the stages after an access of producer p
@@ -77,26 +78,34 @@ stages_after cells calls h a p now z t who next is q lane at =
           rw not_own (stage_other cells calls h a p q lane t who other at)
     ]
 
--- an offer of a full lane leaves it full
-stages_full : (cells : ℕ) (calls : List Call) (h : History) (p : ℕ) (lane : Lane) → Tells cells calls h → IsLaneAfter cells p lane (part (Producer p) h) → lane.stage ≡ stage.Full
-    → (q : ℕ) (other : Lane) → IsLaneAfter cells q other (part (Producer q) h) → other.stage ≡ cond (nat_eq q p) stage.Full (stage_by q calls)
-stages_full cells calls h p lane t here is q other at =
+-- a call without an access leaves all stages, where its answer leaves that of its lane
+stages_kept : (cells : ℕ) (calls : List Call) (h : History) (p : ℕ) (f : Stage → Stage) → f (stage_by p calls) ≡ stage_by p calls → Tells cells calls h
+    → (q : ℕ) (lane : Lane) → IsLaneAfter cells q lane (part (Producer q) h) → lane.stage ≡ cond (nat_eq q p) (f (stage_by q calls)) (stage_by q calls)
+stages_kept cells calls h p f keeps t q lane at =
     elim (cases_eq q p) [
       | inl same ↦
           let own : nat_eq q p ≡ true = eq-eqb q p same in
-          rw own (t.stages q other at ∙ ap (λ x. stage_by x calls) same ∙ sym (t.stages p lane here) ∙ is)
-      | inr ne ↦
-          let not_own : nat_eq q p ≡ false = ne_eqb q p ne in
-          rw not_own (t.stages q other at)
+          rw own (t.stages q lane at ∙ sym (subst (λ x. f (stage_by x calls) ≡ stage_by x calls) (sym same) keeps))
+      | inr other ↦
+          let not_own : nat_eq q p ≡ false = ne_eqb q p other in
+          rw not_own (t.stages q lane at)
     ]
 
--- a call without an access leaves all stages
-stages_same : (cells : ℕ) (calls : List Call) (h : History) (p : ℕ) → Tells cells calls h
-    → (q : ℕ) (other : Lane) → IsLaneAfter cells q other (part (Producer q) h) → other.stage ≡ cond (nat_eq q p) (stage_by q calls) (stage_by q calls)
-stages_same cells calls h p t q other at = t.stages q other at ∙ sym (same_twice (nat_eq q p) (stage_by q calls))
+-- an offer with an answer that gives no cell, raises no counter and leaves the stage
+told_no_offer : (cells : ℕ) (calls : List Call) (h : History) (p x : ℕ) (r : Offer)
+    → ((k y : ℕ) → item_by_offer k x r y ≡ y) → adds_by_offer r (stage_by p calls) ≡ 0
+    → stage_by_offer x r (stage_by p calls) ≡ stage_by p calls → Tells cells calls h → Tells cells (Offered p x r ∷ calls) h
+told_no_offer cells calls h p x r gives adds keeps t = record {
+  adds = t.adds ∙ omega (arith, adds);
+  items = λ k b. t.items k b ∙ sym (gives k (item_by calls k));
+  cells_linked = t.cells_linked;
+  ends = t.ends;
+  stages = stages_kept cells calls h p (stage_by_offer x r) keeps t;
+}
 
 -- an offer without an access
-told_refusal : (cells : ℕ) (calls : List Call) (h : History) (p x : ℕ) (lane : Lane) (r : Offer) → Tells cells calls h → IsLaneAfter cells p lane (part (Producer p) h)
+told_refusal : (cells : ℕ) (calls : List Call) (h : History) (p x : ℕ) (lane : Lane) (r : Offer)
+    → Tells cells calls h → IsLaneAfter cells p lane (part (Producer p) h)
     → stage_offer_refusal lane.stage ≡ Some r → Tells cells (Offered p x r ∷ calls) h
 told_refusal cells calls h p x lane r t here is =
     by lane.stage refl is
@@ -104,42 +113,18 @@ told_refusal cells calls h p x lane r t here is =
     by : (z : Stage) → lane.stage ≡ z → stage_offer_refusal z ≡ Some r → Tells cells (Offered p x r ∷ calls) h
     by (stage.Ended full) e n =
         let answer : offer.Closed ≡ r = cc in
-        subst (λ a. Tells cells (Offered p x a ∷ calls) h) answer (record {
-          adds = t.adds ∙ omega arith;
-          items = t.items;
-          cells_linked = t.cells_linked;
-          ends = t.ends;
-          stages = stages_same cells calls h p t;
-        })
+        subst (λ a. Tells cells (Offered p x a ∷ calls) h) answer (told_no_offer cells calls h p x offer.Closed (λ k y. refl) refl refl t)
     by (stage.Offered cell item) e n =
         let answer : offer.Busy ≡ r = cc in
-        subst (λ a. Tells cells (Offered p x a ∷ calls) h) answer (record {
-          adds = t.adds ∙ omega arith;
-          items = t.items;
-          cells_linked = t.cells_linked;
-          ends = t.ends;
-          stages = stages_same cells calls h p t;
-        })
+        subst (λ a. Tells cells (Offered p x a ∷ calls) h) answer (told_no_offer cells calls h p x offer.Busy (λ k y. refl) refl refl t)
     by (stage.Stored cell) e n =
         let answer : offer.Busy ≡ r = cc in
-        subst (λ a. Tells cells (Offered p x a ∷ calls) h) answer (record {
-          adds = t.adds ∙ omega arith;
-          items = t.items;
-          cells_linked = t.cells_linked;
-          ends = t.ends;
-          stages = stages_same cells calls h p t;
-        })
+        subst (λ a. Tells cells (Offered p x a ∷ calls) h) answer (told_no_offer cells calls h p x offer.Busy (λ k y. refl) refl refl t)
     by stage.Full e n =
         let answer : offer.Full ≡ r = cc in
         let full : stage_by p calls ≡ stage.Full = sym (t.stages p lane here) ∙ e in
-        let none : cond {A = ℕ} (is_full (stage_by p calls)) 0 1 ≡ 0 = ap (λ z. cond {A = ℕ} (is_full z) 0 1) full in
-        subst (λ a. Tells cells (Offered p x a ∷ calls) h) answer (record {
-          adds = t.adds ∙ omega (arith, none);
-          items = t.items;
-          cells_linked = t.cells_linked;
-          ends = t.ends;
-          stages = stages_full cells calls h p lane t here e;
-        })
+        subst (λ a. Tells cells (Offered p x a ∷ calls) h) answer
+        (told_no_offer cells calls h p x offer.Full (λ k y. refl) (ap (adds_by_offer offer.Full) full) (sym full) t)
     by stage.Open e n = absurd (cc)
 
 -- an offer is not refused in the first stage alone
@@ -151,7 +136,8 @@ open_stage stage.Full n = absurd (cc)
 open_stage stage.Open n = refl
 
 -- an offer that makes a fetch-add
-told_fetch : (cells : ℕ) (calls : List Call) (h : History) (p x : ℕ) (lane : Lane) → Tells cells calls h → IsLaneAfter cells p lane (part (Producer p) h) → refused_offer lane ≡ None
+told_fetch : (cells : ℕ) (calls : List Call) (h : History) (p x : ℕ) (lane : Lane) → Tells cells calls h
+    → IsLaneAfter cells p lane (part (Producer p) h) → refused_offer lane ≡ None
     → Tells cells (Offered p x (offer_given cells (adds_on h Counter)) ∷ calls) (fetch p (record { cell = adds_on h Counter; value = x }) ∷ h)
 told_fetch cells calls h p x lane t here going =
     let e : Entry = record { cell = adds_on h Counter; value = x } in
@@ -166,7 +152,8 @@ told_fetch cells calls h p x lane t here going =
             items = λ k b. ap (λ z. cond (nat_eq (adds_on h Counter) k) x z) (t.items k b);
             cells_linked = λ q. same_twice (nat_eq q p) (linked q h) ∙ t.cells_linked q;
             ends = λ q. same_twice (nat_eq q p) (has_ended q h) ∙ t.ends q;
-            stages = stages_after cells calls h (fetch p e) p (lane_offered cells x (adds_on h Counter) lane) (λ q. stage.Offered (adds_on h Counter) x) t refl next now;
+            stages = stages_after cells calls h (fetch p e) p (lane_offered cells x (adds_on h Counter) lane)
+                (λ q. stage.Offered (adds_on h Counter) x) t refl next now;
           })
       | inr high ↦
           let given : offer.Full ≡ offer_given cells (adds_on h Counter) = rw high refl in
@@ -188,7 +175,9 @@ pub told_offer : (cells : ℕ) (calls : List Call) (h : History) (p x : ℕ) (la
 told_offer cells calls h p x lane t here =
     by (refused_offer lane) refl
   where
-    by : (z : Option Offer) → refused_offer lane ≡ z → Tells cells (Offered p x (unwrap_or (refused_offer lane) (offer_given cells (adds_on h Counter))) ∷ calls) (if is_some (refused_offer lane) then h else (fetch p (record { cell = adds_on h Counter; value = x }) ∷ h))
+    by : (z : Option Offer) → refused_offer lane ≡ z
+        → Tells cells (Offered p x (unwrap_or (refused_offer lane) (offer_given cells (adds_on h Counter))) ∷ calls)
+        (if is_some (refused_offer lane) then h else (fetch p (record { cell = adds_on h Counter; value = x }) ∷ h))
     by None is = rw is (told_fetch cells calls h p x lane t here is)
     by (Some r) is = rw is (told_refusal cells calls h p x lane r t here is)
 
@@ -203,9 +192,11 @@ link-offered p None v k h = refl
 link-offered p (Some j) v k h = refl
 
 -- it links its cell
-link-linked : (p q : ℕ) (last : Option ℕ) (k : ℕ) (h : History) → k + 1 ≢ END → linked q (store p (link_after p last) (k + 1) ∷ h) ≡ cond (nat_eq q p) (k ∷ linked q h) (linked q h)
+link-linked : (p q : ℕ) (last : Option ℕ) (k : ℕ) (h : History) → k + 1 ≢ END
+    → linked q (store p (link_after p last) (k + 1) ∷ h) ≡ cond (nat_eq q p) (k ∷ linked q h) (linked q h)
 link-linked p q None k h ne = let no_end : nat_eq (k + 1) END ≡ false = ne_eqb (k + 1) END ne in let m : (k + 1) - 1 ≡ k = omega arith in rw (no_end, m) refl
-link-linked p q (Some j) k h ne = let no_end : nat_eq (k + 1) END ≡ false = ne_eqb (k + 1) END ne in let m : (k + 1) - 1 ≡ k = omega arith in rw (no_end, m) refl
+link-linked p q (Some j) k h ne =
+    let no_end : nat_eq (k + 1) END ≡ false = ne_eqb (k + 1) END ne in let m : (k + 1) - 1 ≡ k = omega arith in rw (no_end, m) refl
 
 -- and ends no lane
 link-ended : (p q : ℕ) (last : Option ℕ) (k : ℕ) (h : History) → k + 1 ≢ END → has_ended q (store p (link_after p last) (k + 1) ∷ h) ≡ has_ended q h
@@ -223,19 +214,21 @@ end-ended p q None h = refl
 end-ended p q (Some j) h = refl
 
 -- the cell that is to be linked is one of the pool
-stored_below : (cells p : ℕ) (lane : Lane) (done : History) (cell : ℕ) (phase : Phase) → PhaseFits cells phase → lane.stage ≡ stage_of phase → lane.stage ≡ stage.Stored cell → cell < cells
-stored_below cells p lane done cell Free f x y = absurd (let e = sym x ∙ y in cc)
-stored_below cells p lane done cell (Taken e) f x y = absurd (let z = sym x ∙ y in cc)
-stored_below cells p lane done cell (Filled e) f x y =
+stored_below : (cells p : ℕ) (lane : Lane) (done : History) (cell : ℕ) (phase : Phase) → PhaseFits cells phase
+    → lane.stage ≡ stage_of phase → lane.stage ≡ stage.Stored cell → cell < cells
+stored_below cells p lane done cell phase.Open f x y = absurd (let e = sym x ∙ y in cc)
+stored_below cells p lane done cell (phase.Offered e) f x y = absurd (let z = sym x ∙ y in cc)
+stored_below cells p lane done cell (phase.Stored e) f x y =
     let z : stage.Stored e.cell ≡ stage.Stored cell = sym x ∙ y in
     let same : e.cell ≡ cell = cc in
     subst (λ n. n < cells) same f
-stored_below cells p lane done cell (Refused e) f x y = absurd (let z = sym x ∙ y in cc)
-stored_below cells p lane done cell (Ended None) f x y = absurd (let z = sym x ∙ y in cc)
-stored_below cells p lane done cell (Ended (Some e)) f x y = absurd (let z = sym x ∙ y in cc)
+stored_below cells p lane done cell (phase.Full e) f x y = absurd (let z = sym x ∙ y in cc)
+stored_below cells p lane done cell (phase.Ended None) f x y = absurd (let z = sym x ∙ y in cc)
+stored_below cells p lane done cell (phase.Ended (Some e)) f x y = absurd (let z = sym x ∙ y in cc)
 
 -- a push that stores the item
-told_item : (cells : ℕ) (calls : List Call) (h : History) (p : ℕ) (lane : Lane) (cell item : ℕ) → Tells cells calls h → IsLaneAfter cells p lane (part (Producer p) h) → lane.stage ≡ stage.Offered cell item
+told_item : (cells : ℕ) (calls : List Call) (h : History) (p : ℕ) (lane : Lane) (cell item : ℕ) → Tells cells calls h
+    → IsLaneAfter cells p lane (part (Producer p) h) → lane.stage ≡ stage.Offered cell item
     → Tells cells (Pushed p (push.Item cell) ∷ calls) (store p (Item cell) item ∷ h)
 told_item cells calls h p lane cell item t here is =
     let some : push_store p lane ≡ Some (Item cell, item) = ap (stage_push (next_link p lane)) is in
@@ -249,7 +242,8 @@ told_item cells calls h p lane cell item t here is =
     }
 
 -- a push that stores the link
-told_link : (cells : ℕ) (calls : List Call) (h : History) (p : ℕ) (lane : Lane) (cell : ℕ) → cells < END → Tells cells calls h → IsLaneAfter cells p lane (part (Producer p) h) → lane.stage ≡ stage.Stored cell
+told_link : (cells : ℕ) (calls : List Call) (h : History) (p : ℕ) (lane : Lane) (cell : ℕ) → cells < END
+    → Tells cells calls h → IsLaneAfter cells p lane (part (Producer p) h) → lane.stage ≡ stage.Stored cell
     → Tells cells (Pushed p (push.Link cell) ∷ calls) (store p (next_link p lane) (cell + 1) ∷ h)
 told_link cells calls h p lane cell sized t here is =
     let some : push_store p lane ≡ Some (next_link p lane, cell + 1) = ap (stage_push (next_link p lane)) is in
@@ -264,23 +258,25 @@ told_link cells calls h p lane cell sized t here is =
       stages = stages_after cells calls h (store p (next_link p lane) (cell + 1)) p (lane_pushed lane) (λ q. stage.Open) t refl next (ap pushed_stage is);
     }
 
--- a call that makes no access and leaves the stage
+-- a push that makes no store
 told_idle : (cells : ℕ) (calls : List Call) (h : History) (p : ℕ) → Tells cells calls h → Tells cells (Pushed p push.Idle ∷ calls) h
 told_idle cells calls h p t = record {
   adds = t.adds;
   items = t.items;
   cells_linked = λ q. t.cells_linked q ∙ sym (same_twice (nat_eq q p) (linked_by q calls));
   ends = t.ends;
-  stages = stages_same cells calls h p t;
+  stages = stages_kept cells calls h p (stage_by_push push.Idle) refl t;
 }
 
 -- a push
-pub told_push : (cells : ℕ) (calls : List Call) (h : History) (p : ℕ) (lane : Lane) → cells < END → Tells cells calls h → IsLaneAfter cells p lane (part (Producer p) h)
+pub told_push : (cells : ℕ) (calls : List Call) (h : History) (p : ℕ) (lane : Lane) → cells < END
+    → Tells cells calls h → IsLaneAfter cells p lane (part (Producer p) h)
     → Tells cells (Pushed p (push_answer lane) ∷ calls) (after_push p lane h)
 told_push cells calls h p lane sized t here =
     by lane.stage refl
   where
-    by : (z : Stage) → lane.stage ≡ z → Tells cells (Pushed p (stage_push_answer lane.stage) ∷ calls) (option_map_or (λ s. store p s.0 s.1 ∷ h) (stage_push (next_link p lane) lane.stage) h)
+    by : (z : Stage) → lane.stage ≡ z
+        → Tells cells (Pushed p (stage_push_answer lane.stage) ∷ calls) (option_map_or (λ s. store p s.0 s.1 ∷ h) (stage_push (next_link p lane) lane.stage) h)
     by (stage.Offered cell item) is = rw is (told_item cells calls h p lane cell item t here is)
     by (stage.Stored cell) is = rw is (told_link cells calls h p lane cell sized t here is)
     by (stage.Ended full) is = rw is (told_idle cells calls h p t)
@@ -288,25 +284,19 @@ told_push cells calls h p lane sized t here =
     by stage.Open is = rw is (told_idle cells calls h p t)
 
 -- a finish that makes no access
-told_no_finish : (cells : ℕ) (calls : List Call) (h : History) (p : ℕ) (r : Finish) → is_end r ≡ false → ((z : Stage) → stage_by_finish r z ≡ z) → Tells cells calls h → Tells cells (Finished p r ∷ calls) h
-told_no_finish cells calls h p finish.Ended no_end keeps t = absurd (cc)
-told_no_finish cells calls h p finish.Busy no_end keeps t = record {
+told_no_finish : (cells : ℕ) (calls : List Call) (h : History) (p : ℕ) (r : Finish) → is_end r ≡ false → stage_by_finish r (stage_by p calls) ≡ stage_by p calls
+    → Tells cells calls h → Tells cells (Finished p r ∷ calls) h
+told_no_finish cells calls h p r no_end keeps t = record {
   adds = t.adds;
   items = t.items;
   cells_linked = t.cells_linked;
-  ends = λ q. t.ends q ∙ sym (same_twice (nat_eq q p) (ended_by q calls));
-  stages = stages_same cells calls h p t;
-}
-told_no_finish cells calls h p finish.Closed no_end keeps t = record {
-  adds = t.adds;
-  items = t.items;
-  cells_linked = t.cells_linked;
-  ends = λ q. t.ends q ∙ sym (same_twice (nat_eq q p) (ended_by q calls));
-  stages = stages_same cells calls h p t;
+  ends = λ q. rw no_end (t.ends q ∙ sym (same_twice (nat_eq q p) (ended_by q calls)));
+  stages = stages_kept cells calls h p (stage_by_finish r) keeps t;
 }
 
 -- a finish that stores the end mark
-told_end : (cells : ℕ) (calls : List Call) (h : History) (p : ℕ) (lane : Lane) → Tells cells calls h → IsLaneAfter cells p lane (part (Producer p) h) → refused_finish lane ≡ None
+told_end : (cells : ℕ) (calls : List Call) (h : History) (p : ℕ) (lane : Lane) → Tells cells calls h
+    → IsLaneAfter cells p lane (part (Producer p) h) → refused_finish lane ≡ None
     → Tells cells (Finished p finish.Ended ∷ calls) (store p (next_link p lane) END ∷ h)
 told_end cells calls h p lane t here going =
     let next = finished_lane cells p lane (part (Producer p) h) here going in
@@ -325,9 +315,11 @@ pub told_finish : (cells : ℕ) (calls : List Call) (h : History) (p : ℕ) (lan
 told_finish cells calls h p lane t here =
     by lane.stage refl
   where
-    by : (z : Stage) → lane.stage ≡ z → Tells cells (Finished p (unwrap_or (stage_finish_refusal lane.stage) finish.Ended) ∷ calls) (if is_some (stage_finish_refusal lane.stage) then h else (store p (next_link p lane) END ∷ h))
-    by (stage.Offered cell item) is = rw is (told_no_finish cells calls h p finish.Busy refl (λ z. refl) t)
-    by (stage.Stored cell) is = rw is (told_no_finish cells calls h p finish.Busy refl (λ z. refl) t)
-    by (stage.Ended full) is = rw is (told_no_finish cells calls h p finish.Closed refl (λ z. refl) t)
+    by : (z : Stage) → lane.stage ≡ z
+        → Tells cells (Finished p (unwrap_or (stage_finish_refusal lane.stage) finish.Ended) ∷ calls)
+        (if is_some (stage_finish_refusal lane.stage) then h else (store p (next_link p lane) END ∷ h))
+    by (stage.Offered cell item) is = rw is (told_no_finish cells calls h p finish.Busy refl refl t)
+    by (stage.Stored cell) is = rw is (told_no_finish cells calls h p finish.Busy refl refl t)
+    by (stage.Ended full) is = rw is (told_no_finish cells calls h p finish.Closed refl refl t)
     by stage.Full is = rw is (told_end cells calls h p lane t here (ap stage_finish_refusal is))
     by stage.Open is = rw is (told_end cells calls h p lane t here (ap stage_finish_refusal is))
