@@ -121,6 +121,29 @@ fn both_stay_undecided(rt: HostRuntime) -> Result<(), Fail> {
 }
 
 #[test]
+fn the_first_random_word_does_not_store(rt: HostRuntime) -> Result<(), Fail> {
+    let layout = Layout::new(1, 1, TableName::Bits)?;
+    let run = play(
+        rt.alloc(),
+        &layout,
+        &[(0, 1), (0, 0), (0, 0), (0, 0), (0, 0), (0, 0), (0, 0)],
+    )?;
+    let entries = [
+        loaded(0, 0, Reg::Value, 0),
+        loaded(0, 0, Reg::Value, 0),
+        stored(0, 0, Reg::Value, 1),
+        loaded(0, 0, Reg::Value, 1),
+        loaded(0, 1, Reg::Proposal, 0),
+        stored(0, 1, Reg::Proposal, 1),
+        ClaimEntry::Done { consumer: 0 },
+    ];
+    assert_eq!(rt; run.entries.as_slice(), entries.as_slice());
+    assert_eq!(rt; run.stages.as_slice(), [Stage::Won].as_slice());
+    assert_eq!(rt; layout.max_steps(), 6);
+    Ok(())
+}
+
+#[test]
 fn a_step_of_no_consumer(rt: HostRuntime) -> Result<(), Fail> {
     let layout = Layout::new(2, 1, TableName::Bits)?;
     let steps = [(0, 0), (1, 0), (2, 0), (3, 0)];

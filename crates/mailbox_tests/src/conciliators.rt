@@ -1,7 +1,7 @@
 //! Schedules of one conciliator.
 
-use crate::entries::{ending, last_turn, loaded, shows, stored, undecided};
-use mb_deciding::{Entry, Fault, Reg, conciliate};
+use crate::entries::{ending, last_turn, loaded, shows, stored};
+use mb_deciding::{Entry, Fault, Out, Reg, conciliate};
 use std::test::Fail;
 
 #[test]
@@ -12,7 +12,7 @@ fn last_turn_stores(rt: HostRuntime) -> Result<(), Fail> {
         &[0],
         &[(0, 3), (0, 3), (0, 3), (0, 3), (0, 3)],
     );
-    shows(&rt, answer, &last_turn(), &[Some(undecided(0))])?;
+    shows(&rt, answer, &last_turn(), &[Some(Out::undecided(0))])?;
 
     // The random words of the store and of the load after it count for nothing.
     let other = conciliate(
@@ -21,7 +21,7 @@ fn last_turn_stores(rt: HostRuntime) -> Result<(), Fail> {
         &[0],
         &[(0, 3), (0, 7), (0, 3), (0, 0), (0, u64::MAX)],
     );
-    shows(&rt, other, &last_turn(), &[Some(undecided(0))])?;
+    shows(&rt, other, &last_turn(), &[Some(Out::undecided(0))])?;
     Ok(())
 }
 
@@ -31,9 +31,9 @@ fn two_stores_leave_two_values(rt: HostRuntime) -> Result<(), Fail> {
         loaded(0, Reg::Value, 0),
         loaded(1, Reg::Value, 0),
         stored(0, Reg::Value, 1),
-        ending(loaded(0, Reg::Value, 1), undecided(0)),
+        ending(loaded(0, Reg::Value, 1), Out::undecided(0)),
         stored(1, Reg::Value, 2),
-        ending(loaded(1, Reg::Value, 2), undecided(1)),
+        ending(loaded(1, Reg::Value, 2), Out::undecided(1)),
     ];
     let answer = conciliate(
         rt.alloc(),
@@ -45,7 +45,7 @@ fn two_stores_leave_two_values(rt: HostRuntime) -> Result<(), Fail> {
         &rt,
         answer,
         &entries,
-        &[Some(undecided(0)), Some(undecided(1))],
+        &[Some(Out::undecided(0)), Some(Out::undecided(1))],
     )?;
     Ok(())
 }
@@ -56,7 +56,7 @@ fn one_value(rt: HostRuntime) -> Result<(), Fail> {
         loaded(0, Reg::Value, 0),
         loaded(0, Reg::Value, 0),
         stored(0, Reg::Value, 1),
-        ending(loaded(0, Reg::Value, 1), undecided(0)),
+        ending(loaded(0, Reg::Value, 1), Out::undecided(0)),
         Entry::Done { process: 0 },
     ];
     let odd = conciliate(
@@ -65,9 +65,9 @@ fn one_value(rt: HostRuntime) -> Result<(), Fail> {
         &[0],
         &[(0, 1), (0, 1), (0, 1), (0, 1), (0, 1)],
     );
-    shows(&rt, odd, &entries, &[Some(undecided(0))])?;
+    shows(&rt, odd, &entries, &[Some(Out::undecided(0))])?;
     let even = conciliate(rt.alloc(), 1, &[0], &[(0, 0), (0, 0), (0, 0)]);
-    shows(&rt, even, &entries[1..4], &[Some(undecided(0))])?;
+    shows(&rt, even, &entries[1..4], &[Some(Out::undecided(0))])?;
     Ok(())
 }
 

@@ -5,7 +5,7 @@ use std::alloc::Global;
 use std::process::Abort;
 
 /// A load of a process.
-pub fn loaded(process: usize, reg: Reg, value: u64) -> Entry {
+pub(crate) fn loaded(process: usize, reg: Reg, value: u64) -> Entry {
     Entry::Access {
         process,
         act: Act::Load { reg, value },
@@ -14,7 +14,7 @@ pub fn loaded(process: usize, reg: Reg, value: u64) -> Entry {
 }
 
 /// A store of a process.
-pub fn stored(process: usize, reg: Reg, value: u64) -> Entry {
+pub(crate) fn stored(process: usize, reg: Reg, value: u64) -> Entry {
     Entry::Access {
         process,
         act: Act::Store { reg, value },
@@ -23,7 +23,7 @@ pub fn stored(process: usize, reg: Reg, value: u64) -> Entry {
 }
 
 /// The same entry, with the output that its access gives.
-pub fn ending(entry: Entry, output: Out) -> Entry {
+pub(crate) fn ending(entry: Entry, output: Out) -> Entry {
     match entry {
         Entry::Access { process, act, .. } => Entry::Access {
             process,
@@ -34,48 +34,32 @@ pub fn ending(entry: Entry, output: Out) -> Entry {
     }
 }
 
-/// The output (1, value).
-pub fn decided(value: u32) -> Out {
-    Out {
-        decided: true,
-        value,
-    }
-}
-
-/// The output (0, value).
-pub fn undecided(value: u32) -> Out {
-    Out {
-        decided: false,
-        value,
-    }
-}
-
 /// What one ratifier makes of the inputs 0 and 1 where process 0 comes to its end before process 1 begins.
-pub fn late_input() -> [Entry; 7] {
+pub(crate) fn late_input() -> [Entry; 7] {
     [
         stored(0, Reg::Quorum(0), 1),
         loaded(0, Reg::Proposal, 0),
         stored(0, Reg::Proposal, 1),
-        ending(loaded(0, Reg::Quorum(1), 0), decided(0)),
+        ending(loaded(0, Reg::Quorum(1), 0), Out::decided(0)),
         stored(1, Reg::Quorum(1), 1),
         loaded(1, Reg::Proposal, 1),
-        ending(loaded(1, Reg::Quorum(1), 1), undecided(0)),
+        ending(loaded(1, Reg::Quorum(1), 1), Out::undecided(0)),
     ]
 }
 
 /// What one conciliator for two values makes of one process with the input 0 that stores on its last turn.
-pub fn last_turn() -> [Entry; 5] {
+pub(crate) fn last_turn() -> [Entry; 5] {
     [
         loaded(0, Reg::Value, 0),
         loaded(0, Reg::Value, 0),
         loaded(0, Reg::Value, 0),
         stored(0, Reg::Value, 1),
-        ending(loaded(0, Reg::Value, 1), undecided(0)),
+        ending(loaded(0, Reg::Value, 1), Out::undecided(0)),
     ]
 }
 
 /// The call answers a trace with these entries and outputs.
-pub fn shows(
+pub(crate) fn shows(
     rt: &impl Abort,
     answer: Result<Trace<Global>, Fault>,
     entries: &[Entry],

@@ -1,4 +1,4 @@
-//! Tests that cross crates: worked examples, and calls whose memory is refused.
+//! Tests that the libraries are proved without: worked examples, and calls whose memory is refused.
 #![tactic(auto)]
 
 #[cfg(test)]
@@ -10,6 +10,16 @@ mod conciliators;
 #[cfg(test)]
 mod entries;
 #[cfg(test)]
+mod heaps;
+#[cfg(test)]
+mod mirrored;
+#[cfg(test)]
+mod own_table;
+#[cfg(test)]
 mod ratifiers;
 #[cfg(test)]
 mod refused_memory;
+#[cfg(test)]
+mod tables;
+#[cfg(test)]
+mod texts;

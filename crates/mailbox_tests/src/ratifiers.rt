@@ -1,7 +1,7 @@
 //! Schedules of one ratifier.
 
-use crate::entries::{decided, ending, late_input, loaded, shows, stored, undecided};
-use mb_deciding::{Entry, Fault, Reg, ratify};
+use crate::entries::{ending, late_input, loaded, shows, stored};
+use mb_deciding::{Entry, Fault, Out, Reg, ratify};
 use mb_quorum::TableName;
 use std::test::Fail;
 
@@ -18,7 +18,7 @@ fn late_input_agrees(rt: HostRuntime) -> Result<(), Fail> {
         &rt,
         answer,
         &late_input(),
-        &[Some(decided(0)), Some(undecided(0))],
+        &[Some(Out::decided(0)), Some(Out::undecided(0))],
     )?;
     Ok(())
 }
@@ -31,9 +31,9 @@ fn overwritten_proposal_leaves_both_undecided(rt: HostRuntime) -> Result<(), Fai
         loaded(0, Reg::Proposal, 0),
         loaded(1, Reg::Proposal, 0),
         stored(0, Reg::Proposal, 1),
-        ending(loaded(0, Reg::Quorum(1), 1), undecided(0)),
+        ending(loaded(0, Reg::Quorum(1), 1), Out::undecided(0)),
         stored(1, Reg::Proposal, 2),
-        ending(loaded(1, Reg::Quorum(0), 1), undecided(1)),
+        ending(loaded(1, Reg::Quorum(0), 1), Out::undecided(1)),
     ];
     let answer = ratify(
         rt.alloc(),
@@ -46,7 +46,7 @@ fn overwritten_proposal_leaves_both_undecided(rt: HostRuntime) -> Result<(), Fai
         &rt,
         answer,
         &entries,
-        &[Some(undecided(0)), Some(undecided(1))],
+        &[Some(Out::undecided(0)), Some(Out::undecided(1))],
     )?;
     Ok(())
 }
@@ -60,8 +60,8 @@ fn equal_inputs_are_decided(rt: HostRuntime) -> Result<(), Fail> {
         loaded(1, Reg::Proposal, 0),
         stored(0, Reg::Proposal, 2),
         stored(1, Reg::Proposal, 2),
-        ending(loaded(0, Reg::Quorum(0), 0), decided(1)),
-        ending(loaded(1, Reg::Quorum(0), 0), decided(1)),
+        ending(loaded(0, Reg::Quorum(0), 0), Out::decided(1)),
+        ending(loaded(1, Reg::Quorum(0), 0), Out::decided(1)),
     ];
     let answer = ratify(
         rt.alloc(),
@@ -70,7 +70,12 @@ fn equal_inputs_are_decided(rt: HostRuntime) -> Result<(), Fail> {
         &[1, 1],
         &[0, 1, 0, 1, 0, 1, 0, 1],
     );
-    shows(&rt, answer, &entries, &[Some(decided(1)), Some(decided(1))])?;
+    shows(
+        &rt,
+        answer,
+        &entries,
+        &[Some(Out::decided(1)), Some(Out::decided(1))],
+    )?;
     Ok(())
 }
 
@@ -81,11 +86,11 @@ fn no_turns_and_turns_after_the_output(rt: HostRuntime) -> Result<(), Fail> {
     let entries = [
         stored(0, Reg::Quorum(0), 1),
         loaded(0, Reg::Proposal, 0),
-        ending(stored(0, Reg::Proposal, 1), decided(0)),
+        ending(stored(0, Reg::Proposal, 1), Out::decided(0)),
         Entry::Done { process: 0 },
     ];
     let alone = ratify(rt.alloc(), TableName::Unary, 1, &[0], &[0, 0, 0, 0]);
-    shows(&rt, alone, &entries, &[Some(decided(0))])?;
+    shows(&rt, alone, &entries, &[Some(Out::decided(0))])?;
     Ok(())
 }
 
@@ -97,11 +102,11 @@ fn quorums_of_two_registers(rt: HostRuntime) -> Result<(), Fail> {
         loaded(0, Reg::Proposal, 0),
         stored(0, Reg::Proposal, 3),
         loaded(0, Reg::Quorum(1), 0),
-        ending(loaded(0, Reg::Quorum(2), 0), decided(2)),
+        ending(loaded(0, Reg::Quorum(2), 0), Out::decided(2)),
         stored(1, Reg::Quorum(1), 1),
         stored(1, Reg::Quorum(2), 1),
         loaded(1, Reg::Proposal, 3),
-        ending(loaded(1, Reg::Quorum(1), 1), undecided(2)),
+        ending(loaded(1, Reg::Quorum(1), 1), Out::undecided(2)),
     ];
     let answer = ratify(
         rt.alloc(),
@@ -114,8 +119,15 @@ fn quorums_of_two_registers(rt: HostRuntime) -> Result<(), Fail> {
         &rt,
         answer,
         &entries,
-        &[Some(decided(2)), Some(undecided(2))],
+        &[Some(Out::decided(2)), Some(Out::undecided(2))],
     )?;
+    Ok(())
+}
+
+#[test]
+fn no_processes_have_an_empty_trace(rt: HostRuntime) -> Result<(), Fail> {
+    let answer = ratify(rt.alloc(), TableName::Unary, 2, &[], &[]);
+    shows(&rt, answer, &[], &[])?;
     Ok(())
 }
 
@@ -136,5 +148,12 @@ fn first_reason_refuses(rt: HostRuntime) {
         ratify(a, name, 2, &[0], &[0, 1]).err(),
         Some(Fault::NoSuchProcess(1))
     );
-    assert_eq!(rt; ratify(a, name, 2, &[], &[]).err(), None);
+    assert_eq!(rt;
+        ratify(a, name, 2, &[0, 3, 2], &[5]).err(),
+        Some(Fault::BadInput(1))
+    );
+    assert_eq!(rt;
+        ratify(a, name, 2, &[0], &[0, 2, 1]).err(),
+        Some(Fault::NoSuchProcess(1))
+    );
 }

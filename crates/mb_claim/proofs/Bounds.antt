@@ -14,7 +14,7 @@ use Rattle.mb_claim.specs.Layouts.{pairs_of, most_on_objects, max_steps}
 use Rattle.mb_claim.proofs.Unique.{AreDeciding}
 use Rattle.mb_claim.proofs.Parts.{Member}
 use Rattle.mb_claim.proofs.Family.{Family, step, here, lawful_here, next}
-use Rattle.mb_claim.proofs.Beginning.{competes, family}
+use Rattle.mb_claim.proofs.CellFamily.{competes, family}
 
 -- with no object left there is no turn
 none_left : (t : QuorumTable) (c o v : ℕ) (xs : List ObjectTurn) (s : Stage) → Member t c [] o v xs s → xs ≡ []

@@ -1,16 +1,13 @@
 -- A history cut down to one cell.
-use Rattle.std.proofs.Common.{◌≡◌, ◌≢◌, ◌<◌, ◌⊎◌, ℕ, Bool, true, false, cond, eqb, Option, Some, None, List, [], ◌∷◌, refl, sym, ◌∙◌, ap, subst, inl, inr, filter_map, option_and_then}
+use Rattle.std.proofs.Common.{◌≡◌, ◌≢◌, ◌⊎◌, ℕ, Bool, true, false, cond, eqb, Option, Some, None, List, [], ◌∷◌, refl, sym, ◌∙◌, ap, subst, inl, inr, filter_map, option_and_then}
 use Rattle.std.specs.List.{cons_option}
 use Rattle.std.proofs.lemmas.Bool.{ne_eqb, eqb-true, cases_eq}
 use Rattle.mb_quorum.specs.Quorum.{QuorumTable}
 use Rattle.mb_deciding.specs.declared.object.Kind.{Kind}
 use Rattle.mb_deciding.specs.History.{ReadsLast, IsInWords}
-use Rattle.mb_claim.specs.declared.access.ObjectTurn.{ObjectTurn}
 use Rattle.mb_claim.specs.declared.access.ClaimAccess.{ClaimAccess}
-use Rattle.mb_claim.specs.declared.access.Stage.{Stage}
 use Rattle.mb_claim.specs.History.{step_by, part, access_on, object_history, IsMemoryTrue, AreInWords, on_cell}
-use Rattle.mb_claim.specs.Paths.{IsClaimPart}
-use Rattle.mb_claim.specs.Claiming.{IsLawful}
+use Rattle.mb_claim.specs.Claiming.{IsClaimPart, IsLawful}
 use Rattle.mb_claim.proofs.Lists.{filter_map-filter_map, filter_map_agree}
 
 -- a pick from the accesses that pass a test is a pick from all, where the others give nothing
@@ -99,16 +96,14 @@ words_cut k (a ∷ h) w = words_by a (on_cell k h) (eqb a.cell k) w.0 (words_cut
 
 module _ (t : QuorumTable) (kinds : List Kind) (cells : ℕ) (h : List ClaimAccess) (k : ℕ)
     (lawful : IsLawful t kinds cells h) where
-  -- what is asked of a part of a lawful history
-  abbrev IsKept : ℕ → ℕ → List ObjectTurn → Type 0
-  IsKept c j xs = (c < t.values) × (j < cells) × ((s : Stage) × IsClaimPart t c kinds 0 c xs s)
-
   -- each part of the cut history with a step keeps to its path
-  part_cut : (c j : ℕ) → part c j (on_cell k h) ≢ [] → (j ≡ k) ⊎ (j ≡ k → ⊥) → IsKept c j (part c j (on_cell k h))
+  part_cut :
+      (c j : ℕ) → part c j (on_cell k h) ≢ [] → (j ≡ k) ⊎ (j ≡ k → ⊥)
+      → IsClaimPart t kinds cells c j (part c j (on_cell k h))
   part_cut c j some (inl e) =
       let same : part c j (on_cell k h) ≡ part c j h =
       subst (λ i. part c i (on_cell k h) ≡ part c i h) (sym e) (kept c k h) in
-      subst (IsKept c j) (sym same) (lawful.parts c j (λ none. some (same ∙ none)))
+      subst (IsClaimPart t kinds cells c j) (sym same) (lawful.parts c j (λ none. some (same ∙ none)))
   part_cut c j some (inr ne) = absurd (some (gone c k j h ne))
 
   -- the cut history is lawful

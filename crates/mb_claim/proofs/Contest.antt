@@ -2,7 +2,6 @@
 use Rattle.std.proofs.Common.{◌≡◌, ◌≢◌, ◌+◌, ℕ, zero, suc, false, Some, List, [], ◌∷◌, refl, sym, ◌∙◌, ap, subst, inl, slice_get, arith}
 use Rattle.std.proofs.lemmas.Option.{none-some, same_Some}
 use Rattle.mb_quorum.specs.Quorum.{QuorumTable, IsMember}
-use Rattle.mb_deciding.specs.declared.access.Turn.{Turn}
 use Rattle.mb_deciding.specs.declared.access.Access.{Access}
 use Rattle.mb_deciding.specs.declared.access.Act.TheVariants.{Store}
 use Rattle.mb_deciding.specs.declared.object.Kind.{Kind}
@@ -13,8 +12,8 @@ use Rattle.mb_deciding.specs.Objects.{IsObjectLawful, HasOutput, IsAnnounced}
 use Rattle.mb_deciding.specs.Deciding.{IsDeciding, IsRatifying}
 use Rattle.mb_claim.specs.declared.access.Stage.TheVariants.{Undecided}
 use Rattle.mb_claim.specs.Paths.{Enters}
+use Rattle.mb_deciding.proofs.Acts.{has_turns}
 use Rattle.mb_claim.proofs.Unique.{AreDeciding}
-use Rattle.mb_claim.proofs.Lists.{cons_nil}
 use Rattle.mb_claim.proofs.Family.{Family, step, acted, lawful_here, next, passed}
 
 -- a process that has come to object n with input u, and has stored in a register of u's write quorum
@@ -34,11 +33,6 @@ pub record Contest (t : QuorumTable) (hs : ℕ → List Access) (E : ℕ → ℕ
   pub other : Shown t hs E n second
   pub two : one.process ≢ other.process
 
--- who has stored has a turn
-pub contains_some : (ts : List Turn) (r : ℕ) → Has (acts ts) (Store (Quorum r) 1) → ts ≢ []
-contains_some [] r h e = h
-contains_some (x ∷ ts) r h e = cons_nil x ts e
-
 module _
     (t : QuorumTable) (k : Kind) (ks : List Kind) (o : ℕ) (hs : ℕ → List Access) (P : ℕ → Type 0)
     (fam : Family t (k ∷ ks) o hs P) (law : AreDeciding t) (ratifying : IsRatifying t)
@@ -50,7 +44,7 @@ module _
       record {
         process = a.0;
         register = a.1;
-        enters = enter a.0 o u (acted t k ks o hs P fam a.0 (contains_some (turns_of a.0 (hs o)) a.1 a.4))
+        enters = enter a.0 o u (acted t k ks o hs P fam a.0 (has_turns (turns_of a.0 (hs o)) (Store (Quorum a.1) 1) a.4))
             (inl (refl, sym a.2));
         member = a.3;
         stored = a.4;

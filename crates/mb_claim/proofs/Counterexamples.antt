@@ -1,6 +1,6 @@
 -- The examples that are not lawful.
 use Rattle.std.proofs.Common.{◌≡◌, ◌<◌, ◌+◌, ◌⊎◌, ℕ, suc, Bool, true, false, List, [], ◌∷◌, ◌++◌, refl, sym, ◌∙◌, ap, subst₂, inl, inr, ⊎_elim, append_assoc, arith}
-use Rattle.std.proofs.lemmas.List.{map-append, same_from_push}
+use Rattle.std.proofs.lemmas.List.{same_from_push}
 use Rattle.mb_quorum.specs.Quorum.{QuorumTable}
 use Rattle.mb_quorum.specs.Unary.{unary_table}
 use Rattle.mb_deciding.specs.declared.access.Act.{Act}
@@ -8,23 +8,25 @@ use Rattle.mb_deciding.specs.declared.access.Turn.{Turn}
 use Rattle.mb_deciding.specs.declared.object.Kind.{Kind}
 use Rattle.mb_deciding.specs.declared.access.Reg.TheVariants.{Value, Proposal, Quorum}
 use Rattle.mb_deciding.specs.declared.access.Act.TheVariants.{Load, Store}
+use Rattle.mb_deciding.specs.declared.object.Out.{Out}
 use Rattle.mb_deciding.specs.declared.object.Kind.TheVariants.{Conciliator, Ratifier}
 use Rattle.mb_deciding.specs.History.{acts}
-use Rattle.mb_deciding.specs.Objects.{answer, IsPart}
+use Rattle.mb_deciding.specs.Objects.{answer, IsPath, IsPrefix}
 use Rattle.mb_deciding.specs.Deciding.{IsDeciding}
 use Rattle.mb_deciding.specs.Ratifier.{IsRatifierPath, Prefers, ReadsClear, ReadsOne, zeros_below}
 use Rattle.mb_claim.specs.declared.access.ObjectTurn.{ObjectTurn}
 use Rattle.mb_claim.specs.declared.access.Stage.{Stage}
 use Rattle.mb_claim.specs.History.{part}
-use Rattle.mb_claim.specs.Paths.{tagged, Passes, IsClaimPart}
+use Rattle.mb_claim.specs.Paths.{tagged, Passes, IsClaimPrefixFrom}
 use Rattle.mb_claim.specs.Claiming.{IsLawful}
 use Rattle.mb_claim.specs.Layouts.{pairs_of}
 use Rattle.mb_claim.specs.Examples.{won_and_lost, begun_again, after_winning, own_number_again, of_a_stranger}
-use Rattle.mb_claim.proofs.Lists.{cons_nil}
-use Rattle.mb_claim.proofs.Cutting.{turns_at}
+use Rattle.mb_deciding.proofs.Acts.{acts-append}
+use Rattle.mb_deciding.proofs.Histories.{not_empty}
+use Rattle.mb_claim.proofs.ObjectHistories.{turns_at}
 use Rattle.mb_claim.proofs.Parts.{Member, forward}
 use Rattle.mb_claim.proofs.Unique.{used_once}
-use Rattle.mb_claim.proofs.Passing.{forward_passes}
+use Rattle.mb_claim.proofs.PassedObjects.{forward_passes}
 use Rattle.mb_claim.proofs.Examples.{conciliated, ratified}
 
 -- ---- begun again
@@ -39,20 +41,20 @@ pub not_again : IsDeciding (unary_table 2) (Conciliator 2) → IsLawful (unary_t
 not_again law bad =
     let xs : List ObjectTurn = part 0 0 begun_again in
     let again : Turn = record { act = Load Value 1; word = 0 } in
-    let mine = bad.parts 0 0 (λ none. cons_nil _ _ none) in
+    let mine = bad.parts 0 0 (λ none. not_empty _ _ none) in
     let here = (forward (unary_table 2) 0 (Conciliator 2) (Ratifier ∷ []) 0 0 xs mine.2.0 (inr mine.2.1)).here in
-    cons_nil again []
+    not_empty again []
     (used_once (unary_table 2) (Conciliator 2) law 0 (again ∷ []) first_turns (turns_at 0 xs)
     (answer false 0) conciliated refl here)
 
 -- ---- on the second object
--- where a part has passed its first object, its turns on the second are a beginning of a path there
+-- where a part has passed its first object, its turns on the second are a prefix of a path there
 second_here :
     (t : QuorumTable) (c : ℕ) (k j : Kind) (ks : List Kind) (o v : ℕ) (xs : List ObjectTurn) (s : Stage)
     → IsDeciding t k → v < t.values
-    → IsClaimPart t c (k ∷ j ∷ ks) o v xs s → (u : ℕ) (later : List ObjectTurn) → Passes t k o v xs u later
+    → IsClaimPrefixFrom t c (k ∷ j ∷ ks) o v xs s → (u : ℕ) (later : List ObjectTurn) → Passes t k o v xs u later
     → turns_at o later ≡ []
-    → (turns_at (suc o) later ≡ []) ⊎ IsPart t j u (turns_at (suc o) later)
+    → (turns_at (suc o) later ≡ []) ⊎ IsPrefix t j u (turns_at (suc o) later)
 second_here t c k j ks o v xs s law l p u later x none =
     let first = forward t c k (j ∷ ks) o v xs s (inr p) in
     let same = forward_passes t c k (j ∷ ks) o v xs s law l u later x none (inr p) in
@@ -68,11 +70,11 @@ not_after_winning law ratifier bad =
     let xs : List ObjectTurn = part 0 0 after_winning in
     let later : List ObjectTurn = tagged 1 (turns_at 1 xs) in
     let again : Turn = record { act = Load (Quorum 1) 0; word = 0 } in
-    let mine = bad.parts 0 0 (λ none. cons_nil _ _ none) in
+    let mine = bad.parts 0 0 (λ none. not_empty _ _ none) in
     let here =
     second_here (unary_table 2) 0 (Conciliator 2) Ratifier [] 0 0 xs mine.2.0 law (omega arith) mine.2.1 0 later
     (record { turns = turns_at 0 xs; all = refl; path = conciliated }) refl in
-    cons_nil again []
+    not_empty again []
     (used_once (unary_table 2) Ratifier ratifier 0 (again ∷ []) (turns_at 1 (part 0 0 won_and_lost))
     (turns_at 1 later) (answer true 0) ratified refl here)
 
@@ -116,28 +118,32 @@ abbrev register_of : Act → ℕ
 register_of (Store (Quorum r) value) = r
 register_of act = 0
 
+-- the announcement of 1
+abbrev stored : Turn
+stored = record { act = Store (Quorum 1) 1; word = 0 }
+
+-- no path of the ratifier with input 0 begins with it
+no_path_behind : (turns : List Turn) (out : Out) → IsPath (unary_table 2) Ratifier 0 (turns ++ stored ∷ []) out → ⊥
+no_path_behind turns out path =
+    let last = path_last (acts (turns ++ stored ∷ [])) out.decided out.value path in
+    let joined : acts turns ++ Store (Quorum 1) 1 ∷ [] ≡ last.0 ++ Store (Quorum 0) 1 ∷ [] =
+    sym (acts-append turns (stored ∷ [])) ∙ last.1 in
+    let same = same_from_push (acts turns) last.0 (Store (Quorum 1) 1) (Store (Quorum 0) 1) joined in
+    let one : 1 ≡ 0 = ap register_of same.1 in absurd (omega (arith, one))
+
 -- consumer 1 announces its own number in object 1, to which it came with 0
 pub not_own_number :
     IsDeciding (unary_table 2) (Conciliator 2) → IsLawful (unary_table 2) (pairs_of 2 1) 1 own_number_again → ⊥
 not_own_number law bad =
     let xs : List ObjectTurn = part 1 0 own_number_again in
     let later : List ObjectTurn = tagged 1 (turns_at 1 xs) in
-    let stored : Turn = record { act = Store (Quorum 1) 1; word = 0 } in
-    let mine = bad.parts 1 0 (λ none. cons_nil _ _ none) in
+    let mine = bad.parts 1 0 (λ none. not_empty _ _ none) in
     let here =
     second_here (unary_table 2) 1 (Conciliator 2) Ratifier [] 0 1 xs mine.2.0 law (omega arith) mine.2.1 0 later
     (record { turns = turns_at 0 xs; all = refl; path = (refl, (refl, (0, (omega arith), inl tt))) }) refl in
-    ⊎_elim
-    (λ none. cons_nil stored [] none)
-    (λ part.
-    let last = path_last (acts (part.0 ++ stored ∷ [])) part.1.decided part.1.value part.2 in
-    let joined : acts part.0 ++ Store (Quorum 1) 1 ∷ [] ≡ last.0 ++ Store (Quorum 0) 1 ∷ [] =
-    sym (map-append (λ (turn : Turn). turn.act) part.0 (stored ∷ [])) ∙ last.1 in
-    let same = same_from_push (acts part.0) last.0 (Store (Quorum 1) 1) (Store (Quorum 0) 1) joined in
-    let one : 1 ≡ 0 = ap register_of same.1 in absurd (omega (arith, one)))
-    here
+    ⊎_elim (λ none. not_empty stored [] none) (λ part. no_path_behind part.0 part.1 part.2) here
 
 -- ---- a stranger
 -- there are two consumers, and this is the third
 pub no_stranger : IsLawful (unary_table 2) (pairs_of 2 1) 1 of_a_stranger → ⊥
-no_stranger bad = let two : 2 < 2 = (bad.parts 2 0 (λ none. cons_nil _ _ none)).0 in omega (arith, two)
+no_stranger bad = let two : 2 < 2 = (bad.parts 2 0 (λ none. not_empty _ _ none)).0 in omega (arith, two)

@@ -1,30 +1,24 @@
 -- What came before in a lawful history is lawful.
-use Rattle.std.proofs.Common.{◌≢◌, ◌<◌, ℕ, Bool, true, false, cond, eqb, Some, None, List, [], ◌∷◌, ◌++◌, sym, append_assoc}
+use Rattle.std.proofs.Common.{◌≢◌, ℕ, Bool, true, false, cond, eqb, Some, None, List, [], ◌∷◌, ◌++◌, sym, append_assoc}
 use Rattle.std.specs.List.{cons_option}
 use Rattle.mb_quorum.specs.Quorum.{QuorumTable}
 use Rattle.mb_deciding.specs.declared.object.Kind.{Kind}
 use Rattle.mb_claim.specs.declared.access.ObjectTurn.{ObjectTurn}
 use Rattle.mb_claim.specs.declared.access.ClaimAccess.{ClaimAccess}
-use Rattle.mb_claim.specs.declared.access.Stage.{Stage}
 use Rattle.mb_claim.specs.History.{part}
-use Rattle.mb_claim.specs.Paths.{IsClaimPart}
-use Rattle.mb_claim.specs.Claiming.{IsLawful}
-use Rattle.mb_claim.proofs.Lists.{cons_nil}
+use Rattle.mb_claim.specs.Claiming.{IsClaimPart, IsLawful}
+use Rattle.mb_deciding.proofs.Histories.{not_empty}
 use Rattle.mb_claim.proofs.Prefixes.{completed, begun}
 
 module _ (t : QuorumTable) (kinds : List Kind) (cells : ℕ) where
-  -- what is asked of a part of a lawful history
-  abbrev IsKept : ℕ → ℕ → List ObjectTurn → Type 0
-  IsKept c k xs = (c < t.values) × (k < cells) × ((s : Stage) × IsClaimPart t c kinds 0 c xs s)
-
   -- a part stays one without its newest step
   part_older :
       (c k : ℕ) (x : ObjectTurn) (xs : List ObjectTurn) (p q : Bool)
       → (cons_option (cond p (cond q (Some x) None) None) xs ≢ []
-      → IsKept c k (cons_option (cond p (cond q (Some x) None) None) xs))
-      → xs ≢ [] → IsKept c k xs
+      → IsClaimPart t kinds cells c k (cons_option (cond p (cond q (Some x) None) None) xs))
+      → xs ≢ [] → IsClaimPart t kinds cells c k xs
   part_older c k x xs true true kept some =
-      let all = kept (cons_nil x xs) in
+      let all = kept (not_empty x xs) in
       let whole = completed t c kinds 0 c (x ∷ xs) all.2.0 all.2.1 in (
         all.0,
         all.1,

@@ -1,5 +1,5 @@
 -- The examples that are lawful.
-use Rattle.std.proofs.Common.{◌≡◌, ◌≢◌, ◌<◌, ℕ, Bool, true, false, cond, eqb, Some, None, List, [], ◌∷◌, refl, subst₂, inl, inr, arith}
+use Rattle.std.proofs.Common.{◌≡◌, ◌≢◌, ℕ, Bool, true, false, cond, eqb, Some, None, List, [], ◌∷◌, refl, subst₂, inl, inr, arith}
 use Rattle.std.specs.List.{cons_option}
 use Rattle.std.proofs.lemmas.Bool.{eqb-true}
 use Rattle.mb_quorum.specs.Unary.{unary_table}
@@ -10,14 +10,13 @@ use Rattle.mb_deciding.specs.History.{IsInWords}
 use Rattle.mb_deciding.specs.Objects.{answer, IsPath}
 use Rattle.mb_claim.specs.declared.access.ObjectTurn.{ObjectTurn}
 use Rattle.mb_claim.specs.declared.access.ClaimAccess.{ClaimAccess}
-use Rattle.mb_claim.specs.declared.access.Stage.{Stage}
 use Rattle.mb_claim.specs.declared.access.Stage.TheVariants.{Won, Lost, Undecided}
 use Rattle.mb_claim.specs.History.{part}
-use Rattle.mb_claim.specs.Paths.{tagged, IsClaimPart}
-use Rattle.mb_claim.specs.Claiming.{IsLawful}
+use Rattle.mb_claim.specs.Paths.{tagged, IsClaimPrefixFrom}
+use Rattle.mb_claim.specs.Claiming.{IsClaimPart, IsLawful}
 use Rattle.mb_claim.specs.Layouts.{pairs_of}
 use Rattle.mb_claim.specs.Examples.{won_and_lost, both_undecided}
-use Rattle.mb_claim.proofs.Cutting.{turns_at}
+use Rattle.mb_claim.proofs.ObjectHistories.{turns_at}
 
 -- ---- which parts there are
 -- what holds of the consumer and the cell of each access
@@ -50,7 +49,7 @@ pub ratified : IsPath (unary_table 2) Ratifier 0 (turns_at 1 (part 0 0 won_and_l
 ratified = (Store Proposal 1 ∷ Load Proposal 0 ∷ Store (Quorum 0) 1 ∷ [], inl (refl, refl), refl)
 
 -- consumer 0 has won
-pub won : IsClaimPart (unary_table 2) 0 (pairs_of 2 1) 0 0 (part 0 0 won_and_lost) Won
+pub won : IsClaimPrefixFrom (unary_table 2) 0 (pairs_of 2 1) 0 0 (part 0 0 won_and_lost) Won
 won =
     inr (inr (
       0,
@@ -67,7 +66,7 @@ won =
     ))
 
 -- consumer 1 has lost to it
-pub lost : IsClaimPart (unary_table 2) 1 (pairs_of 2 1) 0 1 (part 1 0 won_and_lost) (Lost 0)
+pub lost : IsClaimPrefixFrom (unary_table 2) 1 (pairs_of 2 1) 0 1 (part 1 0 won_and_lost) (Lost 0)
 lost =
     inr (inr (
       0,
@@ -88,17 +87,16 @@ lost =
           })),
     ))
 
--- what is asked of a part of a lawful history
-abbrev IsKnown : ℕ → ℕ → Type 0
-IsKnown c k =
-    (c < 2) × (k < 1) × ((s : Stage) × IsClaimPart (unary_table 2) c (pairs_of 2 1) 0 c (part c k won_and_lost) s)
+-- what consumer c did on cell k in such a history belongs to its claim
+abbrev IsMine : List ClaimAccess → ℕ → ℕ → Type 0
+IsMine h c k = IsClaimPart (unary_table 2) (pairs_of 2 1) 1 c k (part c k h)
 
 -- it holds of consumer 0
-first : IsKnown 0 0
+first : IsMine won_and_lost 0 0
 first = ((omega arith), (omega arith), (Won, won))
 
 -- and of consumer 1
-second : IsKnown 1 0
+second : IsMine won_and_lost 1 0
 second = ((omega arith), (omega arith), (Lost 0, lost))
 
 -- 0 is a word
@@ -131,7 +129,7 @@ lawful =
         ),
       );
       parts = λ c k some.
-          known IsKnown c k won_and_lost (
+          known (IsMine won_and_lost) c k won_and_lost (
             second,
             (
               second,
@@ -148,7 +146,7 @@ lawful =
 
 -- ---- both are undecided
 -- consumer 0 leaves each object undecided with its own number
-pub first_undecided : IsClaimPart (unary_table 2) 0 (pairs_of 2 1) 0 0 (part 0 0 both_undecided) Undecided
+pub first_undecided : IsClaimPrefixFrom (unary_table 2) 0 (pairs_of 2 1) 0 0 (part 0 0 both_undecided) Undecided
 first_undecided =
     let xs : List ObjectTurn = part 0 0 both_undecided in
     inr (inr (
@@ -179,7 +177,7 @@ first_undecided =
     ))
 
 -- and so does consumer 1
-pub second_undecided : IsClaimPart (unary_table 2) 1 (pairs_of 2 1) 0 1 (part 1 0 both_undecided) Undecided
+pub second_undecided : IsClaimPrefixFrom (unary_table 2) 1 (pairs_of 2 1) 0 1 (part 1 0 both_undecided) Undecided
 second_undecided =
     let xs : List ObjectTurn = part 1 0 both_undecided in
     inr (inr (
@@ -209,17 +207,12 @@ second_undecided =
       )),
     ))
 
--- what is asked of a part of this history
-abbrev IsHere : ℕ → ℕ → Type 0
-IsHere c k =
-    (c < 2) × (k < 1) × ((s : Stage) × IsClaimPart (unary_table 2) c (pairs_of 2 1) 0 c (part c k both_undecided) s)
-
 -- it holds of consumer 0
-zero_here : IsHere 0 0
+zero_here : IsMine both_undecided 0 0
 zero_here = ((omega arith), (omega arith), (Undecided, first_undecided))
 
 -- and of consumer 1
-one_here : IsHere 1 0
+one_here : IsMine both_undecided 1 0
 one_here = ((omega arith), (omega arith), (Undecided, second_undecided))
 
 -- 2 is a word
@@ -257,7 +250,7 @@ undecided_lawful =
         ),
       );
       parts = λ c k some.
-          known IsHere c k both_undecided (
+          known (IsMine both_undecided) c k both_undecided (
             one_here,
             (
               one_here,

@@ -5,14 +5,14 @@ use Rattle.mb_quorum.specs.Quorum.{QuorumTable}
 use Rattle.mb_deciding.specs.declared.access.Access.{Access}
 use Rattle.mb_deciding.specs.declared.object.Kind.{Kind}
 use Rattle.mb_deciding.specs.History.{IsMemoryTrue as IsObjectMemoryTrue, turns_of, AreInWords as AreObjectInWords}
-use Rattle.mb_deciding.specs.Objects.{answer, IsPath, IsPart, IsObjectLawful, HasOutput}
+use Rattle.mb_deciding.specs.Objects.{answer, IsPath, IsPrefix, IsObjectLawful, HasOutput}
 use Rattle.mb_deciding.specs.Deciding.{IsDeciding}
 use Rattle.mb_claim.specs.declared.access.ObjectTurn.{ObjectTurn}
 use Rattle.mb_claim.specs.declared.access.Stage.{Stage}
 use Rattle.mb_claim.specs.declared.access.Stage.TheVariants.{Going, Won, Lost, Undecided}
 use Rattle.mb_claim.specs.Paths.{stage_for}
 use Rattle.mb_claim.specs.Winner.{Names}
-use Rattle.mb_claim.proofs.Cutting.{turns_at}
+use Rattle.mb_claim.proofs.ObjectHistories.{turns_at}
 use Rattle.mb_claim.proofs.Parts.{Member, Forward, Ends, forward}
 
 -- The consumers of one cell, from object o on, where hs n is the history of object n. For each consumer: its input
@@ -56,13 +56,13 @@ module _ (t : QuorumTable) (k : Kind) (ks : List Kind) (o : ℕ) (hs : ℕ → L
   pub acted : (c : ℕ) → turns_of c (hs o) ≢ [] → fam.rest c ≢ []
   acted c ne e = ne (here c ∙ ap (turns_at o) e)
 
-  -- its turns are a beginning of a path of its input
+  -- its turns are a prefix of a path of its input
   part_here :
       (c : ℕ) → turns_of c (hs o) ≢ []
-      → (turns_at o (fam.rest c) ≡ []) ⊎ IsPart t k (fam.input c) (turns_at o (fam.rest c))
-      → (fam.input c < t.values) × IsPart t k (fam.input c) (turns_of c (hs o))
+      → (turns_at o (fam.rest c) ≡ []) ⊎ IsPrefix t k (fam.input c) (turns_at o (fam.rest c))
+      → (fam.input c < t.values) × IsPrefix t k (fam.input c) (turns_of c (hs o))
   part_here c ne (inl e) = absurd (ne (here c ∙ e))
-  part_here c ne (inr p) = ((fam.holds c (acted c ne)).0, subst (λ ts. IsPart t k (fam.input c) ts) (sym (here c)) p)
+  part_here c ne (inr p) = ((fam.holds c (acted c ne)).0, subst (λ ts. IsPrefix t k (fam.input c) ts) (sym (here c)) p)
 
   -- the history of this object is lawful
   pub lawful_here : IsObjectLawful t k fam.input (hs o)

@@ -14,15 +14,16 @@ use Rattle.mb_claim.specs.declared.access.ClaimAccess.{ClaimAccess}
 use Rattle.mb_claim.specs.declared.access.Stage.{Stage}
 use Rattle.mb_claim.specs.declared.access.Stage.TheVariants.{Going}
 use Rattle.mb_claim.specs.History.{part, access_on, object_history}
-use Rattle.mb_claim.specs.Paths.{IsClaimPart}
+use Rattle.mb_claim.specs.Paths.{IsClaimPrefixFrom}
 use Rattle.mb_claim.specs.Claiming.{IsLawful}
-use Rattle.mb_claim.proofs.Cutting.{turns_at, turns_of-object_history}
+use Rattle.mb_deciding.proofs.Histories.{nil_or}
+use Rattle.mb_claim.proofs.ObjectHistories.{turns_at, turns_of-object_history}
 use Rattle.mb_claim.proofs.Unique.{AreDeciding, only, used_once}
 use Rattle.mb_claim.proofs.Parts.{passed_turns}
 use Rattle.mb_claim.proofs.Earlier.{earlier_lawful}
 use Rattle.mb_claim.proofs.Family.{Family, step, acted, output, lawful_here, next, next_decided}
-use Rattle.mb_claim.proofs.Beginning.{competes, family}
-use Rattle.mb_claim.proofs.Lists.{nil_or, append_nil_left}
+use Rattle.mb_claim.proofs.CellFamily.{competes, family}
+use Rattle.mb_claim.proofs.Lists.{append_nil_left}
 
 module _ (t : QuorumTable) (ks : List Kind) (hs : ℕ → List Access) (law : AreDeciding t) (ratifying : IsRatifying t)
     (P : ℕ → Type 0) (fam : Family t (Ratifier ∷ Ratifier ∷ ks) 0 hs P) (c u : ℕ)
@@ -89,7 +90,7 @@ module _ (t : QuorumTable) (law : AreDeciding t) (ratifying : IsRatifying t) (ks
   -- so it has decided
   decided_by :
       (h : List ClaimAccess) → IsLawful t kinds cells h → ((d : ℕ) → d ≢ c → part d k h ≡ []) → (s : Stage)
-      → IsClaimPart t c kinds 0 c (part c k h) s → s ≢ Going → (u : ℕ) × IsPath t Ratifier c (firsts h) (answer true u)
+      → IsClaimPrefixFrom t c kinds 0 c (part c k h) s → s ≢ Going → (u : ℕ) × IsPath t Ratifier c (firsts h) (answer true u)
   decided_by h lawful alone s (inl x) ended = absurd (ended x.is)
   decided_by h lawful alone s (inr (inl x)) ended =
       let P : List Turn → Type 0 = λ ts. IsPath t Ratifier c ts (answer true x.value) in
@@ -122,7 +123,7 @@ module _ (t : QuorumTable) (law : AreDeciding t) (ratifying : IsRatifying t) (ks
   pub none_behind_alone :
       (later h : List ClaimAccess) (s : Stage) → IsLawful t kinds cells (later ++ h)
       → ((d : ℕ) → d ≢ c → part d k h ≡ [])
-      → IsClaimPart t c kinds 0 c (part c k h) s → s ≢ Going → (d o : ℕ) → 2 ≤ o
+      → IsClaimPrefixFrom t c kinds 0 c (part c k h) s → s ≢ Going → (d o : ℕ) → 2 ≤ o
       → turns_of d (object_history k o (later ++ h)) ≡ []
   none_behind_alone later h s lawful alone p ended =
       let decided = decided_by h (earlier_lawful t kinds cells later h lawful) alone s p ended in

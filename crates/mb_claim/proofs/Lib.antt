@@ -1,5 +1,5 @@
 pub mod Lists
-pub mod Cutting
+pub mod ObjectHistories
 pub mod Parts
 pub mod Unique
 pub mod Prefixes
@@ -7,10 +7,10 @@ pub mod Earlier
 pub mod Family
 pub mod Agreeing
 pub mod Contest
-pub mod Beginning
+pub mod CellFamily
 pub mod Winner
-pub mod Steps
-pub mod Passing
+pub mod HistorySteps
+pub mod PassedObjects
 pub mod Standing
 pub mod Addresses
 pub mod Words
@@ -19,7 +19,9 @@ pub mod Cells
 pub mod FastPath
 pub mod Bounds
 pub mod Examples
-pub mod Shapes
-pub mod Turning
-pub mod Playing
+pub mod LayoutObjects
+pub mod ClaimSteps
+pub mod RunSteps
 pub mod Counterexamples
+pub mod PlayedExamples
+pub mod FirstAccess

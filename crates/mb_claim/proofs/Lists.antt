@@ -1,20 +1,8 @@
 -- Facts about lists.
-use Rattle.std.proofs.Common.{◌≡◌, ◌≢◌, ◌⊎◌, Option, Some, None, List, [], ◌∷◌, ◌++◌, refl, ◌∙◌, ap, subst, sym, inl, inr, append-nil, filter_map, option_and_then}
+use Rattle.std.proofs.Common.{suc, length, slice_get, ◌≡◌, Option, Some, None, List, [], ◌∷◌, ◌++◌, refl, ◌∙◌, ap, sym, append-nil, filter_map, option_and_then}
 use Rattle.std.specs.List.{cons_option}
-
--- the list is empty
-abbrev IsNil : {A : Type 0} → List A → Type 0
-IsNil [] = Unit {0}
-IsNil (x ∷ xs) = ⊥
-
--- a list with a first element is not empty
-pub cons_nil : {A : Type 0} (x : A) (xs : List A) → x ∷ xs ≡ [] → ⊥
-cons_nil x xs e = subst IsNil (sym e) tt
-
--- a list is empty or it is not
-pub nil_or : {A : Type 0} (xs : List A) → (xs ≡ []) ⊎ (xs ≢ [])
-nil_or [] = inl refl
-nil_or (x ∷ xs) = inr (λ e. cons_nil x xs e)
+use Rattle.std.proofs.lemmas.Option.{none-some, same_Some}
+use Rattle.mb_deciding.proofs.Histories.{not_empty}
 
 -- two empty lists, joined
 pub append_nils : {A : Type 0} (xs ys : List A) → xs ≡ [] → ys ≡ [] → xs ++ ys ≡ []
@@ -31,12 +19,12 @@ append_nil_right xs ys p = ap (λ zs. xs ++ zs) p ∙ append-nil xs
 -- where two lists joined are empty, the first is
 pub append_nil_parts : {A : Type 0} (xs ys : List A) → xs ++ ys ≡ [] → xs ≡ []
 append_nil_parts [] ys e = refl
-append_nil_parts (x ∷ xs) ys e = absurd (cons_nil x (xs ++ ys) e)
+append_nil_parts (x ∷ xs) ys e = absurd (not_empty x (xs ++ ys) e)
 
 -- and so is the second
 pub append_nil_rest : {A : Type 0} (xs ys : List A) → xs ++ ys ≡ [] → ys ≡ []
 append_nil_rest [] ys e = e
-append_nil_rest (x ∷ xs) ys e = absurd (cons_nil x (xs ++ ys) e)
+append_nil_rest (x ∷ xs) ys e = absurd (not_empty x (xs ++ ys) e)
 
 -- the first element, or d where there is none
 abbrev head_or : {A : Type 0} → A → List A → A
@@ -78,3 +66,29 @@ pub filter_map_agree :
 filter_map_agree f g e [] = refl
 filter_map_agree f g e (a ∷ h) =
     ap (λ o. cons_option o (filter_map f h)) (e a) ∙ ap (cons_option (g a)) (filter_map_agree f g e h)
+
+-- ---- the element at a place
+-- the element behind a front
+pub get_at : {A : Type 0} (xs : List A) (a : A) (ys : List A) → slice_get (xs ++ a ∷ ys) (length xs) ≡ Some a
+get_at [] a ys = refl
+get_at (x ∷ xs) a ys = get_at xs a ys
+
+-- what stands in a list behind that
+pub get_behind : {A : Type 0} (xs : List A) (a : A) (ys : List A) → slice_get (xs ++ a ∷ ys) (suc (length xs)) ≡ slice_get ys 0
+get_behind [] a ys = refl
+get_behind (x ∷ xs) a ys = get_behind xs a ys
+
+-- a list with a first element
+pub first_of : {A : Type 0} (ys : List A) (a : A) → slice_get ys 0 ≡ Some a → (rest : List A) × (ys ≡ a ∷ rest)
+first_of [] a e = absurd (none-some a e)
+first_of (y ∷ ys) a e = (ys, ap (λ b. b ∷ ys) (same_Some y a e))
+
+-- a list without one
+pub none_of : {A : Type 0} (ys : List A) → slice_get ys 0 ≡ None → ys ≡ []
+none_of [] e = refl
+none_of (y ∷ ys) e = absurd (none-some y (sym e))
+
+-- a list with one element more at its end
+pub length-push : {A : Type 0} (xs : List A) (a : A) → length (xs ++ a ∷ []) ≡ suc (length xs)
+length-push [] a = refl
+length-push (x ∷ xs) a = ap suc (length-push xs a)

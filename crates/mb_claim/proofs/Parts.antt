@@ -6,12 +6,12 @@ use Rattle.std.proofs.lemmas.List.Elements.{filter_map-append}
 use Rattle.mb_quorum.specs.Quorum.{QuorumTable}
 use Rattle.mb_deciding.specs.declared.access.Turn.{Turn}
 use Rattle.mb_deciding.specs.declared.object.Kind.{Kind}
-use Rattle.mb_deciding.specs.Objects.{answer, IsPath, IsPart, IsOpen}
+use Rattle.mb_deciding.specs.Objects.{answer, IsPath, IsPrefix, IsOpen}
 use Rattle.mb_claim.specs.declared.access.ObjectTurn.{ObjectTurn}
 use Rattle.mb_claim.specs.declared.access.Stage.{Stage}
 use Rattle.mb_claim.specs.declared.access.Stage.TheVariants.{Going}
-use Rattle.mb_claim.specs.Paths.{tagged, stage_for, Passes, IsClaimPart, Enters}
-use Rattle.mb_claim.proofs.Cutting.{turn_at, turns_at}
+use Rattle.mb_claim.specs.Paths.{tagged, stage_for, Passes, IsClaimPrefixFrom, Enters}
+use Rattle.mb_claim.proofs.ObjectHistories.{turn_at, turns_at}
 use Rattle.mb_claim.proofs.Lists.{append_nils, append_nil_left, append_nil_right, append_nil_parts}
 
 -- of turns made on object o all went there
@@ -40,7 +40,7 @@ turns_at-append n xs ys = filter_map-append (turn_at n) xs ys
 -- a part from object o on has no turn before it
 pub nothing_before :
     (t : QuorumTable) (c : ℕ) (ks : List Kind) (o v n : ℕ) (xs : List ObjectTurn) (s : Stage) → n < o
-    → IsClaimPart t c ks o v xs s → turns_at n xs ≡ []
+    → IsClaimPrefixFrom t c ks o v xs s → turns_at n xs ≡ []
 nothing_before t c [] o v n xs s l p = ap (turns_at n) p.0
 nothing_before t c (k ∷ ks) o v n xs s l (inl x) =
     ap (turns_at n) x.all ∙ turns_at-tagged_other o n x.turns (λ e. omega arith)
@@ -52,15 +52,15 @@ nothing_before t c (k ∷ ks) o v n xs s l (inr (inr (u, rest, x, p))) =
     (nothing_before t c ks (suc o) u n rest s (omega arith) p)
     (turns_at-tagged_other o n x.turns (λ e. omega arith))
 
--- what goes on is a beginning
-pub open_part : (t : QuorumTable) (k : Kind) (v : ℕ) (turns : List Turn) → IsOpen t k v turns → IsPart t k v turns
+-- what goes on is a prefix
+pub open_part : (t : QuorumTable) (k : Kind) (v : ℕ) (turns : List Turn) → IsOpen t k v turns → IsPrefix t k v turns
 open_part t k v turns g = (g.0, g.2.0, g.2.1)
 
 -- the turns of a passed object
 pub passed_turns :
     (t : QuorumTable) (c : ℕ) (k : Kind) (ks : List Kind) (o v : ℕ) (xs : List ObjectTurn) (s : Stage) (u : ℕ)
     (rest : List ObjectTurn) (x : Passes t k o v xs u rest)
-    → IsClaimPart t c ks (suc o) u rest s → x.turns ≡ turns_at o xs
+    → IsClaimPrefixFrom t c ks (suc o) u rest s → x.turns ≡ turns_at o xs
 passed_turns t c k ks o v xs s u rest x p =
     sym
     (ap (turns_at o) x.all ∙ turns_at-append o rest (tagged o x.turns)
@@ -70,7 +70,7 @@ passed_turns t c k ks o v xs s u rest x p =
 
 -- a consumer's part from object o on; or nothing, where it has not come so far
 abbrev pub Member : QuorumTable → ℕ → List Kind → ℕ → ℕ → List ObjectTurn → Stage → Type 0
-Member t c ks o v xs s = ((xs ≡ []) × (s ≡ Going)) ⊎ IsClaimPart t c ks o v xs s
+Member t c ks o v xs s = ((xs ≡ []) × (s ≡ Going)) ⊎ IsClaimPrefixFrom t c ks o v xs s
 
 -- the consumer has come to the object behind this one
 pub record Came (t : QuorumTable) (k : Kind) (ks : List Kind) (o v : ℕ) (xs : List ObjectTurn) (value : ℕ)
@@ -96,7 +96,7 @@ pub record Forward (t : QuorumTable) (c : ℕ) (k : Kind) (ks : List Kind) (o v 
   pub member : Member t c ks (suc o) value rest stage
   pub ahead : (n : ℕ) → o < n → turns_at n xs ≡ turns_at n rest
   pub came : rest ≢ [] → Came t k ks o v xs value rest
-  pub here : (turns_at o xs ≡ []) ⊎ IsPart t k v (turns_at o xs)
+  pub here : (turns_at o xs ≡ []) ⊎ IsPrefix t k v (turns_at o xs)
   pub ends : Ends t c k o v xs s value stage
   pub counted : length xs ≡ length (turns_at o xs) + length rest
 
@@ -107,7 +107,7 @@ module _ (t : QuorumTable) (c : ℕ) (k : Kind) (ks : List Kind) (o v : ℕ) (xs
 
   -- it does not come to the next object
   abbrev stays :
-      ((n : ℕ) → o < n → turns_at n xs ≡ []) → (turns_at o xs ≡ []) ⊎ IsPart t k v (turns_at o xs)
+      ((n : ℕ) → o < n → turns_at n xs ≡ []) → (turns_at o xs ≡ []) ⊎ IsPrefix t k v (turns_at o xs)
       → Ends t c k o v xs s 0 Going
       → length xs ≡ length (turns_at o xs) → Forward t c k ks o v xs s
   stays ahead here ends counted =
@@ -126,7 +126,7 @@ module _ (t : QuorumTable) (c : ℕ) (k : Kind) (ks : List Kind) (o v : ℕ) (xs
 
   -- it comes to the next object
   abbrev moves :
-      (u : ℕ) (rest : List ObjectTurn) → Passes t k o v xs u rest → IsClaimPart t c ks (suc o) u rest s
+      (u : ℕ) (rest : List ObjectTurn) → Passes t k o v xs u rest → IsClaimPrefixFrom t c ks (suc o) u rest s
       → Forward t c k ks o v xs s
   moves u rest x p =
       let here : turns_at o xs ≡ x.turns = sym (passed_turns t c k ks o v xs s u rest x p) in

@@ -1,5 +1,5 @@
 -- What belongs to a claim is exactly what a whole claim path begins with.
-use Rattle.std.proofs.Common.{◌≡◌, ◌≢◌, ◌+◌, ◌⊎◌, ℕ, suc, Bool, true, false, map, List, [], ◌∷◌, ◌++◌, refl, sym, ◌∙◌, ap, ap₂, subst, inl, inr, append_assoc, arith}
+use Rattle.std.proofs.Common.{◌≡◌, ◌≢◌, ◌+◌, ◌⊎◌, ℕ, suc, Bool, true, false, List, [], ◌∷◌, ◌++◌, refl, sym, ◌∙◌, ap, ap₂, subst, inl, inr, append_assoc, arith}
 use Rattle.std.proofs.lemmas.List.{map-append}
 use Rattle.mb_quorum.specs.Quorum.{QuorumTable}
 use Rattle.mb_deciding.specs.declared.access.Act.{Act}
@@ -9,25 +9,17 @@ use Rattle.mb_deciding.specs.declared.object.Out.{Out}
 use Rattle.mb_deciding.specs.declared.access.Reg.TheVariants.{Value, Proposal}
 use Rattle.mb_deciding.specs.declared.access.Act.TheVariants.{Load}
 use Rattle.mb_deciding.specs.declared.object.Kind.TheVariants.{Conciliator, Ratifier}
-use Rattle.mb_deciding.specs.History.{acts}
 use Rattle.mb_deciding.specs.Objects.{answer, IsPath, IsOpen}
 use Rattle.mb_deciding.specs.Ratifier.{zeros_below, announced}
 use Rattle.mb_claim.specs.declared.access.ObjectTurn.{ObjectTurn}
 use Rattle.mb_claim.specs.declared.access.Stage.{Stage}
 use Rattle.mb_claim.specs.declared.access.Stage.TheVariants.{Going, Undecided}
-use Rattle.mb_claim.specs.Paths.{tagged, stage_for, stage_of, IsClaimPath, IsClaimPart}
-use Rattle.mb_claim.proofs.Lists.{cons_nil, append_nil_left, append_nil_rest, heads, tails}
+use Rattle.mb_claim.specs.Paths.{tagged, stage_for, stage_of, IsClaimPath, IsClaimPrefixFrom}
+use Rattle.mb_deciding.proofs.Acts.{turns_for, acts-turns_for}
+use Rattle.mb_deciding.proofs.Histories.{not_empty}
+use Rattle.mb_claim.proofs.Lists.{append_nil_left, append_nil_rest, heads, tails}
 
 -- ---- whole paths
--- turns with these acts, whose random words are 0
-abbrev turns_with : List Act → List Turn
-turns_with made = map (λ act. record { act = act; word = 0 }) made
-
--- they have these acts
-acts-turns_with : (made : List Act) → acts (turns_with made) ≡ made
-acts-turns_with [] = refl
-acts-turns_with (act ∷ made) = ap (λ older. act ∷ older) (acts-turns_with made)
-
 -- each object has a whole path of each input
 some_path :
     (t : QuorumTable) (kind : Kind) (v : ℕ)
@@ -37,7 +29,7 @@ some_path t (Conciliator s) v =
 some_path t Ratifier v =
     let begin : List Act = Load Proposal (v + 1) ∷ announced t v in
     let made : List Act = zeros_below t.registers (t.read v) ++ begin in
-    (turns_with made, true, v, (begin, inr refl, acts-turns_with made))
+    (turns_for made, true, v, (begin, inr refl, acts-turns_for made))
 
 -- a whole path of an object leads to a whole path of it and the objects behind it, where these have one of each input
 path_on :
@@ -60,7 +52,7 @@ whole_path t (kind ∷ kinds) o v =
     let all = path_on t kind kinds o v (whole_path t kinds (suc o)) first.0 first.1 first.2 first.3 in
     (all.0 ++ tagged o first.0, all.1, all.2)
 
--- ---- what belongs is a beginning
+-- ---- what belongs is a prefix
 -- what goes on is completed
 completed_open :
     (t : QuorumTable) (kind : Kind) (kinds : List Kind) (o v : ℕ) (xs : List ObjectTurn) (turns : List Turn)
@@ -75,10 +67,10 @@ completed_open t kind kinds o v xs turns all (more, ne, (out, path)) =
     ∙ sym (append_assoc whole.0 (tagged o more) xs) in
     (whole.0 ++ tagged o more, whole.1, subst P joined whole.2)
 
--- a part is a beginning of a whole path
+-- a part is a prefix of a whole path
 pub completed :
     (t : QuorumTable) (c : ℕ) (kinds : List Kind) (o v : ℕ) (xs : List ObjectTurn) (s : Stage)
-    → IsClaimPart t c kinds o v xs s
+    → IsClaimPrefixFrom t c kinds o v xs s
     → (later : List ObjectTurn) × (output : Out) × IsClaimPath t kinds o v (later ++ xs) output
 completed t c [] o v xs s p = ([], answer false v, (p.0, refl))
 completed t c (kind ∷ kinds) o v xs s (inl x) = completed_open t kind kinds o v xs x.turns x.all x.going
@@ -90,7 +82,7 @@ completed t c (kind ∷ kinds) o v xs s (inr (inr (u, rest, x, p))) =
     ap (λ zs. whole.0 ++ zs) x.all ∙ sym (append_assoc whole.0 rest (tagged o x.turns)) in
     (whole.0, whole.1, (x.turns, whole.0 ++ rest, false, u, all, x.path, inr (refl, whole.2)))
 
--- ---- what is a beginning belongs
+-- ---- what is a prefix belongs
 -- Two ways to cut one list: the older part of the first reaches past that of the second, or lies within it.
 abbrev IsCut : {A : Type 0} → List A → List A → List A → List A → Type 0
 IsCut {A} later xs rest back =
@@ -116,7 +108,7 @@ cut_tagged :
     (o : ℕ) (turns : List Turn) (mid xs : List ObjectTurn) → tagged o turns ≡ mid ++ xs
     → (more ts : List Turn) × (turns ≡ more ++ ts) × (mid ≡ tagged o more) × (xs ≡ tagged o ts)
 cut_tagged o turns [] xs e = ([], turns, refl, refl, sym e)
-cut_tagged o [] (m ∷ mid) xs e = absurd (cons_nil m (mid ++ xs) (sym e))
+cut_tagged o [] (m ∷ mid) xs e = absurd (not_empty m (mid ++ xs) (sym e))
 cut_tagged o (turn ∷ turns) (m ∷ mid) xs e =
     let first : record { object = o; turn = turn } ≡ m =
     heads (record { object = o; turn = turn }) m (tagged o turns) (mid ++ xs) e in
@@ -124,12 +116,12 @@ cut_tagged o (turn ∷ turns) (m ∷ mid) xs e =
     cut_tagged o turns mid xs (tails (record { object = o; turn = turn }) m (tagged o turns) (mid ++ xs) e) in
     (turn ∷ rest.0, rest.1, ap (λ zs. turn ∷ zs) rest.2, ap₂ (λ a zs. a ∷ zs) (sym first) rest.3, rest.4)
 
--- a beginning that lies within the first object goes on there
+-- a prefix that lies within the first object goes on there
 begun_within :
     (t : QuorumTable) (c : ℕ) (kind : Kind) (kinds : List Kind) (o v : ℕ) (first : ObjectTurn)
     (mid xs : List ObjectTurn) (turns : List Turn) (d : Bool) (u : ℕ)
     → tagged o turns ≡ (first ∷ mid) ++ xs → IsPath t kind v turns (answer d u)
-    → IsClaimPart t c (kind ∷ kinds) o v xs Going
+    → IsClaimPrefixFrom t c (kind ∷ kinds) o v xs Going
 begun_within t c kind kinds o v first mid xs turns d u e path =
     let at = cut_tagged o turns (first ∷ mid) xs e in
     let P : List Turn → Type 0 = λ ts. IsPath t kind v ts (answer d u) in
@@ -137,19 +129,19 @@ begun_within t c kind kinds o v first mid xs turns d u e path =
     (record {
       turns = at.1;
       all = at.4;
-      going = (at.0, λ none. cons_nil first mid (at.3 ∙ ap (tagged o) none), (answer d u, subst P at.2 path));
+      going = (at.0, λ none. not_empty first mid (at.3 ∙ ap (tagged o) none), (answer d u, subst P at.2 path));
       is = refl;
     })
 
--- a beginning of a whole path, cut at its first object
+-- a prefix of a whole path, cut at its first object
 begun_by :
     (t : QuorumTable) (c : ℕ) (kind : Kind) (kinds : List Kind) (o v : ℕ) (later xs rest : List ObjectTurn)
     (turns : List Turn) (d : Bool) (u : ℕ) (output : Out)
     → IsPath t kind v turns (answer d u)
     → ((front : List ObjectTurn) → rest ≡ later ++ front → IsClaimPath t kinds (suc o) u rest output
-    → (s : Stage) × IsClaimPart t c kinds (suc o) u front s)
+    → (s : Stage) × IsClaimPrefixFrom t c kinds (suc o) u front s)
     → ((d ≡ true) × (rest ≡ []) × (output ≡ answer true u)) ⊎ ((d ≡ false) × IsClaimPath t kinds (suc o) u rest output)
-    → IsCut later xs rest (tagged o turns) → (s : Stage) × IsClaimPart t c (kind ∷ kinds) o v xs s
+    → IsCut later xs rest (tagged o turns) → (s : Stage) × IsClaimPrefixFrom t c (kind ∷ kinds) o v xs s
 begun_by t c kind kinds o v later xs rest turns d u output path behind end (inr (first, mid, e)) =
     (Going, begun_within t c kind kinds o v first mid xs turns d u e path)
 begun_by t c kind kinds o v later xs rest turns d u output path behind (inl (decided, none, e)) (inl (front, p, q)) =
@@ -162,11 +154,11 @@ begun_by t c kind kinds o v later xs rest turns d u output path behind (inr (und
     let P : Bool → Type 0 = λ b. IsPath t kind v turns (answer b u) in
     (found.0, inr (inr (u, front, record { turns = turns; all = p; path = subst P undecided path }, found.1)))
 
--- a beginning of a whole path is a part
+-- a prefix of a whole path is a part
 pub begun :
     (t : QuorumTable) (c : ℕ) (kinds : List Kind) (o v : ℕ) (later xs ys : List ObjectTurn) (output : Out)
     → ys ≡ later ++ xs → IsClaimPath t kinds o v ys output
-    → (s : Stage) × IsClaimPart t c kinds o v xs s
+    → (s : Stage) × IsClaimPrefixFrom t c kinds o v xs s
 begun t c [] o v later xs ys output e p = (Undecided, (append_nil_rest later xs (sym e ∙ p.0), refl))
 begun t c (kind ∷ kinds) o v later xs ys output e (turns, rest, d, u, all, path, end) =
     begun_by t c kind kinds o v later xs rest turns d u output path
@@ -178,7 +170,7 @@ begun t c (kind ∷ kinds) o v later xs ys output e (turns, rest, d, u, all, pat
 pub whole_stage :
     (t : QuorumTable) (c : ℕ) (kinds : List Kind) (o v : ℕ) (xs : List ObjectTurn) (output : Out)
     → IsClaimPath t kinds o v xs output
-    → IsClaimPart t c kinds o v xs (stage_of c output)
+    → IsClaimPrefixFrom t c kinds o v xs (stage_of c output)
 whole_stage t c [] o v xs output p = (p.0, ap (stage_of c) p.1)
 whole_stage t c (kind ∷ kinds) o v xs output (turns, rest, d, u, all, path, inl (decided, none, e)) =
     let P : Bool → Type 0 = λ b. IsPath t kind v turns (answer b u) in
@@ -202,7 +194,7 @@ whole_stage t c (kind ∷ kinds) o v xs output (turns, rest, d, u, all, path, in
 -- each stage but `Going` is that of a whole path
 pub ended_path :
     (t : QuorumTable) (c : ℕ) (kinds : List Kind) (o v : ℕ) (xs : List ObjectTurn) (s : Stage)
-    → IsClaimPart t c kinds o v xs s → s ≢ Going
+    → IsClaimPrefixFrom t c kinds o v xs s → s ≢ Going
     → (output : Out) × IsClaimPath t kinds o v xs output × (s ≡ stage_of c output)
 ended_path t c [] o v xs s p ne = (answer false v, (p.0, refl), p.1)
 ended_path t c (kind ∷ kinds) o v xs s (inl x) ne = absurd (ne x.is)

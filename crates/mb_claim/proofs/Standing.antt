@@ -9,32 +9,33 @@ use Rattle.mb_deciding.specs.declared.access.Op.{Op}
 use Rattle.mb_deciding.specs.declared.object.Kind.{Kind}
 use Rattle.mb_deciding.specs.declared.object.Out.{Out}
 use Rattle.mb_deciding.specs.declared.place.Pc.{Pc}
-use Rattle.mb_deciding.specs.declared.access.Op.TheVariants.{Load as ToLoad, Store as ToStore}
 use Rattle.mb_deciding.specs.History.{ReadsLast, turns_of, IsInWords}
-use Rattle.mb_deciding.specs.Objects.{answer, IsPath, IsPart, IsOpen, IsObjectLawful}
-use Rattle.mb_deciding.specs.Place.{CanFind, IsAt, IsOpAt, turn_after, act_of, seen_by}
+use Rattle.mb_deciding.specs.Objects.{answer, IsPath, IsPrefix, IsOpen, IsObjectLawful}
+use Rattle.mb_deciding.specs.Place.{CanFind, IsAt, IsOpAt, turn_after, seen_by}
 use Rattle.mb_claim.specs.declared.access.ObjectTurn.{ObjectTurn}
 use Rattle.mb_claim.specs.declared.access.ClaimAccess.{ClaimAccess}
 use Rattle.mb_claim.specs.declared.access.Stage.{Stage}
 use Rattle.mb_claim.specs.declared.access.Stage.TheVariants.{Going, Undecided}
 use Rattle.mb_claim.specs.History.{part, object_history}
-use Rattle.mb_claim.specs.Paths.{tagged, stage_for, Passes, IsClaimPart}
+use Rattle.mb_claim.specs.Paths.{tagged, stage_for, IsClaimPrefixFrom}
 use Rattle.mb_claim.specs.Claiming.{IsLawful, MayFollow}
 use Rattle.mb_claim.specs.Standing.{PassesAll, StandsAt, access_after}
-use Rattle.mb_claim.proofs.Lists.{cons_nil}
+use Rattle.mb_deciding.proofs.Histories.{not_empty}
+use Rattle.mb_deciding.proofs.Runs.{reads_seen}
+use Rattle.mb_claim.proofs.Lists.{get_at}
 use Rattle.mb_claim.proofs.Unique.{AreDeciding}
-use Rattle.mb_claim.proofs.Beginning.{competes, family}
-use Rattle.mb_claim.proofs.Passing.{Here, family_at}
+use Rattle.mb_claim.proofs.CellFamily.{competes, family}
+use Rattle.mb_claim.proofs.PassedObjects.{Here, family_at}
 
 -- a part of the objects behind those passed
 pub passed_then :
     (t : QuorumTable) (c : ℕ) (before after : List Kind) (o v w : ℕ) (front ys : List ObjectTurn) (s : Stage)
-    → PassesAll t before o v front w → IsClaimPart t c after (o + length before) w ys s
-    → IsClaimPart t c (before ++ after) o v (ys ++ front) s
+    → PassesAll t before o v front w → IsClaimPrefixFrom t c after (o + length before) w ys s
+    → IsClaimPrefixFrom t c (before ++ after) o v (ys ++ front) s
 passed_then t c [] after o v w front ys s p q =
     let n : o + 0 ≡ o = omega arith in
     let xs : ys ≡ ys ++ front = sym (ap (λ zs. ys ++ zs) p.0 ∙ append-nil ys) in
-    subst (λ zs. IsClaimPart t c after o v zs s) xs (subst₂ (λ m u. IsClaimPart t c after m u ys s) n p.1 q)
+    subst (λ zs. IsClaimPrefixFrom t c after o v zs s) xs (subst₂ (λ m u. IsClaimPrefixFrom t c after m u ys s) n p.1 q)
 passed_then t c (k ∷ ks) after o v w front ys s (u, rest, x, p) q =
     let n : o + suc (length ks) ≡ suc o + length ks = omega arith in
     let all : ys ++ front ≡ (ys ++ rest) ++ tagged o x.turns =
@@ -43,78 +44,91 @@ passed_then t c (k ∷ ks) after o v w front ys s (u, rest, x, p) q =
       u,
       ys ++ rest,
       record { turns = x.turns; all = all; path = x.path },
-      passed_then t c ks after (suc o) u w rest ys s p (subst (λ m. IsClaimPart t c after m w ys s) n q),
+      passed_then t c ks after (suc o) u w rest ys s p (subst (λ m. IsClaimPrefixFrom t c after m w ys s) n q),
     ))
 
 module _ (t : QuorumTable) (kinds : List Kind) (c object : ℕ) (pc : Pc) (xs : List ObjectTurn)
-    (p : StandsAt t kinds c object pc xs) (law : AreDeciding t) (x : Turn) where
-  -- one more turn on this object leaves a part of the claim
-  After : Type 0
-  After = (s : Stage) × IsClaimPart t c kinds 0 c (record { object = object; turn = x } ∷ xs) s
+    (p : StandsAt t kinds c object pc xs) where
+  -- a part from the claim's object on, behind those passed
+  from_here : (ys : List ObjectTurn) (s : Stage) → IsClaimPrefixFrom t c (p.kind ∷ p.after) object p.input ys s
+      → IsClaimPrefixFrom t c kinds 0 c (ys ++ p.front) s
+  from_here ys s q =
+      subst (λ ks. IsClaimPrefixFrom t c ks 0 c (ys ++ p.front) s) (sym p.order)
+      (passed_then t c p.before (p.kind ∷ p.after) 0 c p.input p.front ys s p.passed
+      (subst (λ n. IsClaimPrefixFrom t c (p.kind ∷ p.after) n p.input ys s) (p.number ∙ (omega arith)) q))
 
-  -- a part from this object on, behind those passed
-  from_here : (s : Stage) → IsClaimPart t c (p.kind ∷ p.after) object p.input (tagged object (x ∷ p.turns)) s → After
-  unfolding After
-  from_here s q = (
-    s,
-    subst₂ (λ ks zs. IsClaimPart t c ks 0 c zs s) (sym p.order)
-        (ap (λ zs. record { object = object; turn = x } ∷ zs) (sym p.all))
-        (passed_then t c p.before (p.kind ∷ p.after) 0 c p.input p.front (tagged object (x ∷ p.turns)) s p.passed
-        (subst (λ n. IsClaimPart t c (p.kind ∷ p.after) n p.input (tagged object (x ∷ p.turns)) s)
-        (p.number ∙ (omega arith)) q)),
-  )
+  module _ (x : Turn) where
+    -- the claim's turns with one more on its object
+    abbrev longer : List ObjectTurn
+    longer = record { object = object; turn = x } ∷ xs
 
-  -- an undecided output leads on, with no turn yet
-  passes_here :
-      (u : ℕ) → IsPath t p.kind p.input (x ∷ p.turns) (answer false u)
-      → Passes t p.kind object p.input (tagged object (x ∷ p.turns)) u []
-  passes_here u path = record { turns = x ∷ p.turns; all = refl; path = path }
+    -- they are those on this object, and those before
+    pub longer_is : longer ≡ tagged object (x ∷ p.turns) ++ p.front
+    longer_is = ap (λ zs. record { object = object; turn = x } ∷ zs) p.all
 
-  -- the turn ends the path on this object
-  ended :
-      (ks : List Kind) → p.after ≡ ks → (d : Bool) (u : ℕ) → IsPath t p.kind p.input (x ∷ p.turns) (answer d u)
-      → u < t.values → After
-  ended ks e true u path l =
-      from_here (stage_for c u) (inr
-      (inl (record { turns = x ∷ p.turns; value = u; all = refl; path = path; is = refl })))
-  ended [] e false u path l =
-      from_here Undecided (inr (inr (
-        u,
-        [],
-        passes_here u path,
-        subst (λ ks. IsClaimPart t c ks (suc object) u [] Undecided) (sym e)
-            (refl, refl),
-      )))
-  ended (k ∷ ks) e false u path l =
-      from_here Going
-      (inr (inr (
-        u,
-        [],
-        passes_here u path,
-        subst (λ js. IsClaimPart t c js (suc object) u [] Going) (sym e)
-            (inl (record { turns = []; all = refl; going = (law k).opens u l; is = refl })),
-      )))
+    -- a part with one more turn on this object
+    then_here : (s : Stage) → IsClaimPrefixFrom t c (p.kind ∷ p.after) object p.input (tagged object (x ∷ p.turns)) s
+        → IsClaimPrefixFrom t c kinds 0 c longer s
+    then_here s q = subst (λ zs. IsClaimPrefixFrom t c kinds 0 c zs s) (sym longer_is)
+        (from_here (tagged object (x ∷ p.turns)) s q)
 
-  -- where a turn goes on with the object's path, the claim's part goes on with it
-  pub goes_on :
-      ((u : ℕ) (d : Bool) → IsPath t p.kind p.input (x ∷ p.turns) (answer d u) → u < t.values)
-      → IsPart t p.kind p.input (x ∷ p.turns)
-      → (s : Stage) × IsClaimPart t c kinds 0 c (record { object = object; turn = x } ∷ xs) s
-  unfolding After
-  goes_on below ([], out, path) = ended p.after refl out.decided out.value path (below out.value out.decided path)
-  goes_on below (y ∷ more, out, path) =
-      from_here Going (inl (record {
+    -- the turn ends the path on this object, which decides
+    pub decided_here : (u : ℕ) → IsPath t p.kind p.input (x ∷ p.turns) (answer true u)
+        → IsClaimPrefixFrom t c kinds 0 c longer (stage_for c u)
+    decided_here u path =
+        then_here (stage_for c u)
+        (inr (inl (record { turns = x ∷ p.turns; value = u; all = refl; path = path; is = refl })))
+
+    -- it does not decide: what belongs to the objects behind it follows
+    undecided_then :
+        (u : ℕ) (s : Stage) → IsPath t p.kind p.input (x ∷ p.turns) (answer false u)
+        → IsClaimPrefixFrom t c p.after (suc object) u [] s → IsClaimPrefixFrom t c kinds 0 c longer s
+    undecided_then u s path behind =
+        then_here s (inr (inr (u, [], record { turns = x ∷ p.turns; all = refl; path = path }, behind)))
+
+    -- and there are none
+    pub undecided_here :
+        (u : ℕ) → IsPath t p.kind p.input (x ∷ p.turns) (answer false u) → p.after ≡ []
+        → IsClaimPrefixFrom t c kinds 0 c longer Undecided
+    undecided_here u path last =
+        undecided_then u Undecided path
+        (subst (λ ks. IsClaimPrefixFrom t c ks (suc object) u [] Undecided) (sym last) (refl, refl))
+
+    -- or the next one is still to be begun
+    passed_here :
+        AreDeciding t → (k : Kind) (ks : List Kind) → p.after ≡ k ∷ ks
+        → (u : ℕ) → IsPath t p.kind p.input (x ∷ p.turns) (answer false u) → u < t.values
+        → IsClaimPrefixFrom t c kinds 0 c longer Going
+    passed_here law k ks next u path l =
+        undecided_then u Going path
+        (subst (λ js. IsClaimPrefixFrom t c js (suc object) u [] Going) (sym next)
+        (inl (record { turns = []; all = refl; going = (law k).opens u l; is = refl })))
+
+    -- the turn ends the path on this object
+    ended :
+        AreDeciding t → (ks : List Kind) → p.after ≡ ks → (d : Bool) (u : ℕ)
+        → IsPath t p.kind p.input (x ∷ p.turns) (answer d u) → u < t.values
+        → (s : Stage) × IsClaimPrefixFrom t c kinds 0 c longer s
+    ended law ks e true u path l = (stage_for c u, decided_here u path)
+    ended law [] e false u path l = (Undecided, undecided_here u path e)
+    ended law (k ∷ ks) e false u path l = (Going, passed_here law k ks e u path l)
+
+    -- where a turn goes on with the object's path, the claim's part goes on with it
+    pub goes_on :
+        AreDeciding t
+        → ((u : ℕ) (d : Bool) → IsPath t p.kind p.input (x ∷ p.turns) (answer d u) → u < t.values)
+        → IsPrefix t p.kind p.input (x ∷ p.turns) → (s : Stage) × IsClaimPrefixFrom t c kinds 0 c longer s
+    goes_on law below ([], out, path) =
+        ended law p.after refl out.decided out.value path (below out.value out.decided path)
+    goes_on law below (y ∷ more, out, path) = (
+      Going,
+      then_here Going (inl (record {
         turns = x ∷ p.turns;
         all = refl;
-        going =
-            (y ∷ more, cons_nil y more, (out, path));
+        going = (y ∷ more, not_empty y more, (out, path));
         is = refl;
-      }))
-
--- an op makes a load with what is left in its word
-reads_last : (op : Op) (h : List Access) → ReadsLast (act_of op (seen_by op h)) h
-reads_last (ToLoad reg) h = refl
-reads_last (ToStore reg value) h = tt
+      })),
+    )
 
 -- the laws of one step of an object
 pub record AreStepping (t : QuorumTable) : Type 0 where
@@ -122,14 +136,14 @@ pub record AreStepping (t : QuorumTable) : Type 0 where
       (kind : Kind) (inputs : ℕ → ℕ) (h : List Access) (p : ℕ) (pc : Pc) (op : Op) (word : ℕ)
       → IsObjectLawful t kind inputs h
       → IsAt t kind (inputs p) pc (turns_of p h) → IsOpAt t pc op
-      → IsPart t kind (inputs p) (turn_after op word h ∷ turns_of p h)
+      → IsPrefix t kind (inputs p) (turn_after op word h ∷ turns_of p h)
   pub finds :
       (kind : Kind) (inputs : ℕ → ℕ) (h : List Access) (p : ℕ) (pc : Pc) (op : Op) → IsObjectLawful t kind inputs h
       → IsAt t kind (inputs p) pc (turns_of p h) → IsOpAt t pc op → CanFind t pc op (seen_by op h)
   pub longer :
       (kind : Kind) (inputs : ℕ → ℕ) (h : List Access) (p : ℕ) (turn : Turn) → IsObjectLawful t kind inputs h
       → inputs p < t.values → IsInWords turn
-      → ReadsLast turn.act h → IsPart t kind (inputs p) (turn ∷ turns_of p h)
+      → ReadsLast turn.act h → IsPrefix t kind (inputs p) (turn ∷ turns_of p h)
       → IsObjectLawful t kind inputs (record { process = p; turn = turn } ∷ h)
 
 module _ (t : QuorumTable) (law : AreDeciding t) (stepping : AreStepping t) (kind : Kind) (hs : ℕ → List Access)
@@ -137,20 +151,20 @@ module _ (t : QuorumTable) (law : AreDeciding t) (stepping : AreStepping t) (kin
     (pc : Pc) (op : Op) (word : ℕ) (small : IsInWords (turn_after op word (hs o))) (place : IsAt t kind w pc turns)
     (is : IsOpAt t pc op) where
   -- the turn goes on with the path of its process
-  own_step : IsPart t kind (at.inputs c) (turn_after op word (hs o) ∷ turns_of c (hs o))
+  own_step : IsPrefix t kind (at.inputs c) (turn_after op word (hs o) ∷ turns_of c (hs o))
   own_step =
       stepping.steps kind at.inputs (hs o) c pc op word at.lawful
       (subst₂ (λ v ts. IsAt t kind v pc ts) (sym at.own) (sym at.same) place) is
 
   -- and so with the claim's path on this object
-  pub part_here : IsPart t kind w (turn_after op word (hs o) ∷ turns)
-  part_here = subst₂ (λ v ts. IsPart t kind v (turn_after op word (hs o) ∷ ts)) at.own at.same own_step
+  pub part_here : IsPrefix t kind w (turn_after op word (hs o) ∷ turns)
+  part_here = subst₂ (λ v ts. IsPrefix t kind v (turn_after op word (hs o) ∷ ts)) at.own at.same own_step
 
   -- the history of this object with the turn is lawful
   then : IsObjectLawful t kind at.inputs (record { process = c; turn = turn_after op word (hs o) } ∷ hs o)
   then =
       stepping.longer kind at.inputs (hs o) c (turn_after op word (hs o)) at.lawful at.within small
-      (reads_last op (hs o)) own_step
+      (reads_seen op (hs o)) own_step
 
   -- and where the turn ends the path, the output is a value of the table
   pub output_below :
@@ -191,8 +205,8 @@ may_follow t law stepping kinds cells h c k object pc op word lawful known cell 
       consumer = known;
       cell = cell;
       words = words;
-      reads = reads_last op (object_history k object h);
-      part = goes_on t kinds c object pc (part c k h) p law (turn_after op word (object_history k object h))
+      reads = reads_seen op (object_history k object h);
+      part = goes_on t kinds c object pc (part c k h) p (turn_after op word (object_history k object h)) law
           (output_below t law stepping p.kind hs c object p.input p.turns at pc op word words p.place is)
           (part_here t law stepping p.kind hs c object p.input p.turns at pc op word words p.place is);
     }
@@ -208,11 +222,6 @@ finds_there t law stepping kinds cells h c k object pc op lawful known p is =
     stepping.finds p.kind at.inputs (object_history k object h) c pc op at.lawful
     (subst₂ (λ v ts. IsAt t p.kind v pc ts) (sym at.own) (sym at.same) p.place) is
 
--- the element behind a front
-get_at : {A : Type 0} (xs : List A) (a : A) (ys : List A) → slice_get (xs ++ a ∷ ys) (length xs) ≡ Some a
-get_at [] a ys = refl
-get_at (x ∷ xs) a ys = get_at xs a ys
-
 -- the object on which a claim stands is one of the layout's
 pub stands_on :
     (t : QuorumTable) (kinds : List Kind) (c object : ℕ) (pc : Pc) (xs : List ObjectTurn)
@@ -220,23 +229,20 @@ pub stands_on :
     → slice_get kinds object ≡ Some p.kind
 stands_on t kinds c object pc xs p = ap₂ (λ ks m. slice_get ks m) p.order p.number ∙ get_at p.before p.kind p.after
 
--- a beginning of a path that is not whole goes on
+-- a prefix of a path that is not whole goes on
 open_by :
     (t : QuorumTable) (kind : Kind) (v : ℕ) (turns : List Turn) → ((out : Out) → IsPath t kind v turns out → ⊥)
-    → IsPart t kind v turns → IsOpen t kind v turns
+    → IsPrefix t kind v turns → IsOpen t kind v turns
 open_by t kind v turns not ([], out, path) = absurd (not out path)
-open_by t kind v turns not (x ∷ more, out, path) = (x ∷ more, cons_nil x more, (out, path))
+open_by t kind v turns not (x ∷ more, out, path) = (x ∷ more, not_empty x more, (out, path))
 
 -- what a claim at a place has made is a part that goes on
 pub stands_part :
     (t : QuorumTable) (kinds : List Kind) (c object : ℕ) (pc : Pc) (xs : List ObjectTurn)
     (p : StandsAt t kinds c object pc xs)
-    → IsPart t p.kind p.input p.turns → ((out : Out) → IsPath t p.kind p.input p.turns out → ⊥)
-    → IsClaimPart t c kinds 0 c xs Going
+    → IsPrefix t p.kind p.input p.turns → ((out : Out) → IsPath t p.kind p.input p.turns out → ⊥)
+    → IsClaimPrefixFrom t c kinds 0 c xs Going
 stands_part t kinds c object pc xs p begin not =
-    let number : object ≡ 0 + length p.before = p.number ∙ (omega arith) in
-    let going : IsClaimPart t c (p.kind ∷ p.after) object p.input (tagged object p.turns) Going =
-    inl (record { turns = p.turns; all = refl; going = open_by t p.kind p.input p.turns not begin; is = refl }) in
-    subst₂ (λ ks zs. IsClaimPart t c ks 0 c zs Going) (sym p.order) (sym p.all)
-    (passed_then t c p.before (p.kind ∷ p.after) 0 c p.input p.front (tagged object p.turns) Going p.passed
-    (subst (λ n. IsClaimPart t c (p.kind ∷ p.after) n p.input (tagged object p.turns) Going) number going))
+    subst (λ zs. IsClaimPrefixFrom t c kinds 0 c zs Going) (sym p.all)
+    (from_here t kinds c object pc xs p (tagged object p.turns) Going
+    (inl (record { turns = p.turns; all = refl; going = open_by t p.kind p.input p.turns not begin; is = refl })))

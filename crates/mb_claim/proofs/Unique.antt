@@ -1,18 +1,18 @@
 -- A part has one stage.
-use Rattle.std.proofs.Common.{◌≡◌, ◌⊎◌, append_assoc, ℕ, suc, true, false, List, [], ◌∷◌, ◌++◌, sym, ◌∙◌, ap, subst, subst₂, inl, inr}
+use Rattle.std.proofs.Common.{◌≡◌, ◌⊎◌, append_assoc, ℕ, suc, true, false, List, [], ◌∷◌, ◌++◌, refl, sym, ◌∙◌, ap, subst, subst₂, inl, inr}
 use Rattle.std.proofs.lemmas.Bool.{true≢false}
 use Rattle.std.proofs.lemmas.List.{append_cancel_right}
 use Rattle.mb_quorum.specs.Quorum.{QuorumTable}
 use Rattle.mb_deciding.specs.declared.access.Turn.{Turn}
 use Rattle.mb_deciding.specs.declared.object.Kind.{Kind}
 use Rattle.mb_deciding.specs.declared.object.Out.{Out}
-use Rattle.mb_deciding.specs.Objects.{answer, IsPath, IsPart, IsOpen}
+use Rattle.mb_deciding.specs.Objects.{answer, IsPath, IsPrefix, IsOpen}
 use Rattle.mb_deciding.specs.Deciding.{IsDeciding}
 use Rattle.mb_claim.specs.declared.access.ObjectTurn.{ObjectTurn}
 use Rattle.mb_claim.specs.declared.access.Stage.{Stage}
 use Rattle.mb_claim.specs.History.{part}
-use Rattle.mb_claim.specs.Paths.{tagged, stage_for, IsClaimPart}
-use Rattle.mb_claim.proofs.Cutting.{turns_at}
+use Rattle.mb_claim.specs.Paths.{tagged, stage_for, GoesOnIn, DecidesIn, IsClaimPrefixFrom}
+use Rattle.mb_claim.proofs.ObjectHistories.{turns_at}
 use Rattle.mb_claim.proofs.Lists.{append_nil_parts, append_nil_rest}
 use Rattle.mb_claim.proofs.Parts.{turns_at-tagged, passed_turns}
 
@@ -37,38 +37,46 @@ pub only :
     → ts ≡ turns_at o xs
 only t k o v xs ts e = sym (turns_at-tagged o ts) ∙ ap (turns_at o) (sym e)
 
+module _ (t : QuorumTable) (k : Kind) (law : IsDeciding t k) (c o v : ℕ) (xs : List ObjectTurn) (s : Stage)
+    (ys : List Turn) (out : Out) (here : ys ≡ turns_at o xs) (path : IsPath t k v ys out) where
+  -- a part that goes on within its first object has no whole path there
+  pub not_ended : GoesOnIn t k o v xs s → ⊥
+  not_ended x = open_closed t k law v x.turns ys out (only t k o v xs x.turns x.all ∙ sym here) x.going path
+
+  -- one whose first object decided has no other output there
+  pub decided_as : (x : DecidesIn t c k o v xs s) → answer true x.value ≡ out
+  decided_as x =
+      same_out t k law v x.turns ys (answer true x.value) out (only t k o v xs x.turns x.all ∙ sym here) x.path path
+
+  -- and so it did not leave it undecided
+  pub not_undecided : DecidesIn t c k o v xs s → out.decided ≡ false → ⊥
+  not_undecided x e = true≢false (ap (λ (a : Out). a.decided) (decided_as x) ∙ e)
+
 -- a part has one stage
 pub one_stage_lem :
     (t : QuorumTable) → AreDeciding t → (c : ℕ) (ks : List Kind) (o v : ℕ) (xs : List ObjectTurn) (s r : Stage)
-    → IsClaimPart t c ks o v xs s → IsClaimPart t c ks o v xs r → s ≡ r
+    → IsClaimPrefixFrom t c ks o v xs s → IsClaimPrefixFrom t c ks o v xs r → s ≡ r
 one_stage_lem t law c [] o v xs s r p q = p.1 ∙ sym q.1
 one_stage_lem t law c (k ∷ ks) o v xs s r (inl x) (inl y) = x.is ∙ sym y.is
 one_stage_lem t law c (k ∷ ks) o v xs s r (inl x) (inr (inl y)) =
-    absurd (open_closed t k (law k) v x.turns y.turns (answer true y.value)
-    (only t k o v xs x.turns x.all ∙ sym (only t k o v xs y.turns y.all)) x.going y.path)
+    absurd (not_ended t k (law k) c o v xs s y.turns (answer true y.value) (only t k o v xs y.turns y.all) y.path x)
 one_stage_lem t law c (k ∷ ks) o v xs s r (inl x) (inr (inr (w, rest, y, q))) =
-    absurd (open_closed t k (law k) v x.turns y.turns (answer false w)
-    (only t k o v xs x.turns x.all ∙ sym (passed_turns t c k ks o v xs r w rest y q)) x.going y.path)
+    absurd (not_ended t k (law k) c o v xs s y.turns (answer false w) (passed_turns t c k ks o v xs r w rest y q) y.path x)
 one_stage_lem t law c (k ∷ ks) o v xs s r (inr (inl x)) (inl y) =
-    absurd (open_closed t k (law k) v y.turns x.turns (answer true x.value)
-    (only t k o v xs y.turns y.all ∙ sym (only t k o v xs x.turns x.all)) y.going x.path)
+    absurd (not_ended t k (law k) c o v xs r x.turns (answer true x.value) (only t k o v xs x.turns x.all) x.path y)
 one_stage_lem t law c (k ∷ ks) o v xs s r (inr (inl x)) (inr (inl y)) =
     x.is
-    ∙ ap (stage_for c) (ap (λ (a : Out). a.value)
-    (same_out t k (law k) v x.turns y.turns (answer true x.value) (answer true y.value)
-    (only t k o v xs x.turns x.all ∙ sym (only t k o v xs y.turns y.all)) x.path y.path))
+    ∙ ap (λ (a : Out). stage_for c a.value)
+    (decided_as t k (law k) c o v xs s y.turns (answer true y.value) (only t k o v xs y.turns y.all) y.path x)
     ∙ sym y.is
 one_stage_lem t law c (k ∷ ks) o v xs s r (inr (inl x)) (inr (inr (w, rest, y, q))) =
-    absurd (true≢false (ap (λ (a : Out). a.decided)
-    (same_out t k (law k) v x.turns y.turns (answer true x.value) (answer false w)
-    (only t k o v xs x.turns x.all ∙ sym (passed_turns t c k ks o v xs r w rest y q)) x.path y.path)))
+    absurd (not_undecided t k (law k) c o v xs s y.turns (answer false w) (passed_turns t c k ks o v xs r w rest y q)
+    y.path x refl)
 one_stage_lem t law c (k ∷ ks) o v xs s r (inr (inr (u, front, x, p))) (inl y) =
-    absurd (open_closed t k (law k) v y.turns x.turns (answer false u)
-    (only t k o v xs y.turns y.all ∙ sym (passed_turns t c k ks o v xs s u front x p)) y.going x.path)
+    absurd (not_ended t k (law k) c o v xs r x.turns (answer false u) (passed_turns t c k ks o v xs s u front x p) x.path y)
 one_stage_lem t law c (k ∷ ks) o v xs s r (inr (inr (u, front, x, p))) (inr (inl y)) =
-    absurd (true≢false (ap (λ (a : Out). a.decided)
-    (same_out t k (law k) v y.turns x.turns (answer true y.value) (answer false u)
-    (only t k o v xs y.turns y.all ∙ sym (passed_turns t c k ks o v xs s u front x p)) y.path x.path)))
+    absurd (not_undecided t k (law k) c o v xs r x.turns (answer false u) (passed_turns t c k ks o v xs s u front x p)
+    x.path y refl)
 one_stage_lem t law c (k ∷ ks) o v xs s r (inr (inr (u, front, x, p))) (inr (inr (w, rest, y, q))) =
     let e : x.turns ≡ y.turns =
     passed_turns t c k ks o v xs s u front x p ∙ sym (passed_turns t c k ks o v xs r w rest y q) in
@@ -78,12 +86,12 @@ one_stage_lem t law c (k ∷ ks) o v xs s r (inr (inr (u, front, x, p))) (inr (i
     let rests : front ≡ rest =
     append_cancel_right front rest (tagged o y.turns)
     (ap (λ ts. front ++ tagged o ts) (sym e) ∙ sym x.all ∙ y.all) in
-    one_stage_lem t law c ks (suc o) w rest s r (subst₂ (λ n zs. IsClaimPart t c ks (suc o) n zs s) values rests p) q
+    one_stage_lem t law c ks (suc o) w rest s r (subst₂ (λ n zs. IsClaimPrefixFrom t c ks (suc o) n zs s) values rests p) q
 
 -- an object is used once: behind a whole path there is no turn
 pub used_once :
     (t : QuorumTable) (k : Kind) (law : IsDeciding t k) (v : ℕ) (later turns all : List Turn) (out : Out)
-    → IsPath t k v turns out → all ≡ later ++ turns → (all ≡ []) ⊎ IsPart t k v all → later ≡ []
+    → IsPath t k v turns out → all ≡ later ++ turns → (all ≡ []) ⊎ IsPrefix t k v all → later ≡ []
 used_once t k law v later turns all out path e (inl none) = append_nil_parts later turns (sym e ∙ none)
 used_once t k law v later turns all out path e (inr part) =
     let P : List Turn → Type 0 = λ ts. IsPath t k v ts part.1 in

@@ -11,14 +11,15 @@ use Rattle.mb_claim.specs.declared.access.ClaimAccess.{ClaimAccess}
 use Rattle.mb_claim.specs.declared.access.Stage.{Stage}
 use Rattle.mb_claim.specs.declared.access.Stage.TheVariants.{Going, Won, Lost, Undecided}
 use Rattle.mb_claim.specs.History.{part, object_history}
-use Rattle.mb_claim.specs.Paths.{IsClaimPart, Enters}
+use Rattle.mb_claim.specs.Paths.{IsClaimPrefixFrom, Enters}
 use Rattle.mb_claim.specs.Claiming.{IsLawful, HasStage}
 use Rattle.mb_claim.specs.Winner.{Names, IsClaimAnnounced, HasOneWinner}
-use Rattle.mb_claim.proofs.Cutting.{turns_at, turns_of-object_history}
+use Rattle.mb_deciding.proofs.Acts.{has_turns}
+use Rattle.mb_claim.proofs.ObjectHistories.{turns_at, turns_of-object_history}
 use Rattle.mb_claim.proofs.Unique.{AreDeciding}
-use Rattle.mb_claim.proofs.Beginning.{start, competes, family}
+use Rattle.mb_claim.proofs.CellFamily.{start, competes, family}
 use Rattle.mb_claim.proofs.Agreeing.{winner_holds, agree}
-use Rattle.mb_claim.proofs.Contest.{Shown, Contest, contains_some, contention}
+use Rattle.mb_claim.proofs.Contest.{Shown, Contest, contention}
 
 -- the number of which a stage says that it was lost to
 abbrev lost_to : Stage → ℕ
@@ -36,7 +37,7 @@ lost_by c u w false e is same =
 -- who has lost names another consumer
 lost_other :
     (t : QuorumTable) (c : ℕ) (ks : List Kind) (o v : ℕ) (xs : List ObjectTurn) (w : ℕ)
-    → IsClaimPart t c ks o v xs (Lost w) → w ≢ c
+    → IsClaimPrefixFrom t c ks o v xs (Lost w) → w ≢ c
 lost_other t c [] o v xs w p same = let h : Lost w ≡ Undecided = p.1 in cc
 lost_other t c (k ∷ ks) o v xs w (inl x) same = let h : Lost w ≡ Going = x.is in cc
 lost_other t c (k ∷ ks) o v xs w (inr (inl x)) same = lost_by c x.value w (eqb c x.value) refl x.is same
@@ -71,7 +72,7 @@ module _ (t : QuorumTable) (kinds : List Kind) (cells : ℕ) (h : List ClaimAcce
   -- who has shown a value has an access
   some_part : (o u : ℕ) (x : Shown t (λ n. object_history k n h) E o u) → part x.process k h ≢ []
   some_part o u x e =
-      contains_some (turns_of x.process (object_history k o h)) x.register x.stored
+      has_turns (turns_of x.process (object_history k o h)) _ x.stored
       (turns_of-object_history x.process k o h ∙ ap (turns_at o) e)
 
   -- one of two who have shown values is not this consumer

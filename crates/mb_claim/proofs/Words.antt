@@ -10,7 +10,7 @@ use Rattle.mb_deciding.specs.declared.access.Reg.TheVariants.{Value, Proposal, Q
 use Rattle.mb_deciding.specs.declared.access.Act.TheVariants.{Load as Loaded}
 use Rattle.mb_deciding.specs.declared.access.Op.TheVariants.{Load as ToLoad, Store as ToStore}
 use Rattle.mb_deciding.specs.declared.place.Pc.TheVariants.{InRatifier, InConciliator}
-use Rattle.mb_deciding.specs.declared.drawing.Drawing.TheVariants.{Draw, Put, Look}
+use Rattle.mb_deciding.specs.declared.conciliator_place.ConciliatorPlace.TheVariants.{Draw, Put, Look}
 use Rattle.mb_deciding.specs.History.{value_in, value_after, is_same_reg}
 use Rattle.mb_deciding.specs.Place.{CanFind, IsOpAt, act_of, seen_by, reg_of}
 use Rattle.mb_claim.specs.States.{after_op}

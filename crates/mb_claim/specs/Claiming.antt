@@ -5,27 +5,30 @@ use Rattle.mb_deciding.specs.declared.access.Reg.{Reg}
 use Rattle.mb_deciding.specs.declared.object.Kind.{Kind}
 use Rattle.mb_deciding.specs.History.{value_after, ReadsLast, IsInWords}
 use Rattle.mb_claim.specs.declared.access.ClaimAccess.{ClaimAccess}
+use Rattle.mb_claim.specs.declared.access.ObjectTurn.{ObjectTurn}
 use Rattle.mb_claim.specs.declared.access.Stage.{Stage}
 use Rattle.mb_claim.specs.History.{part, object_history, left_at, IsMemoryTrue, AreInWords}
-use Rattle.mb_claim.specs.Paths.{IsClaimBeginning}
+use Rattle.mb_claim.specs.Paths.{IsClaimPrefix}
+
+-- what consumer c did on cell k belongs to a claim: it is a consumer, the cell is one of the claims', and the steps are
+-- a prefix of its claim path
+abbrev pub IsClaimPart : QuorumTable → List Kind → ℕ → ℕ → ℕ → List ObjectTurn → Type 0
+IsClaimPart t kinds cells c k xs = (c < t.values) × (k < cells) × ((s : Stage) × IsClaimPrefix t kinds c xs s)
 
 -- Each load is true to memory, values and random words are words of 64 bits, and what a consumer did on a cell is a
--- beginning of its claim path there, whose first input is its own number. There are no consumers and cells but
+-- prefix of its claim path there, whose first input is its own number. There are no consumers and cells but
 -- those of the claims: the consumers are the values of the quorum table.
 pub record IsLawful (t : QuorumTable) (kinds : List Kind) (cells : ℕ) (h : List ClaimAccess) : Type 0 where
   -- each load has what the older accesses left
   pub memory : IsMemoryTrue h
   -- values and random words are below 2 ^ 64
   pub words : AreInWords h
-  -- who has done something on a cell is a consumer, the cell is one of the claims', and what it did belongs to its
-  -- claim
-  pub parts :
-      (c k : ℕ) → part c k h ≢ []
-      → (c < t.values) × (k < cells) × ((s : Stage) × IsClaimBeginning t kinds c (part c k h) s)
+  -- who has done something on a cell has done it for its claim there
+  pub parts : (c k : ℕ) → part c k h ≢ [] → IsClaimPart t kinds cells c k (part c k h)
 
 -- the claim of consumer c on cell k has the stage s
 abbrev pub HasStage : QuorumTable → List Kind → List ClaimAccess → ℕ → ℕ → Stage → Type 0
-HasStage t kinds h k c s = (c < t.values) × IsClaimBeginning t kinds c (part c k h) s
+HasStage t kinds h k c s = (c < t.values) × IsClaimPrefix t kinds c (part c k h) s
 
 -- an access that may come next: it is of a consumer and a cell of the claims, a load gives what the history leaves
 -- in its word, and the consumer's part goes on along a claim path
@@ -40,7 +43,7 @@ pub record MayFollow
   -- a load has what the history leaves in its word
   pub reads : ReadsLast a.step.turn.act (object_history a.cell a.step.object h)
   -- and what the consumer has done then belongs to its claim
-  pub part : (s : Stage) × IsClaimBeginning t kinds a.consumer (a.step ∷ part a.consumer a.cell h) s
+  pub part : (s : Stage) × IsClaimPrefix t kinds a.consumer (a.step ∷ part a.consumer a.cell h) s
 
 -- what a word of object o of cell k that held n holds after an access
 abbrev pub left_after : ℕ → ℕ → Reg → ClaimAccess → ℕ → ℕ

@@ -25,7 +25,9 @@ is_begun claim = claim.begun
 
 -- it stands on one of the layout's objects, at a place there
 pub record IsOnObject (layout : Layout) (claim : Claim) : Type 0 where
+  -- the layout has the object
   pub object : claim.object < length (kinds_of layout)
+  -- and the place fits its table
   pub place : IsPlace (quorums_of layout) claim.place
 
 -- as long as it is going, its calls may be made with this layout
@@ -34,7 +36,9 @@ FitsLayout layout claim = claim_stage claim ≡ Going → IsOnObject layout clai
 
 -- the access that it makes next
 pub record IsNextOp (layout : Layout) (claim : Claim) (next : ClaimOp) : Type 0 where
+  -- on the object on which it stands
   pub object : next.object ≡ claim.object
+  -- the load or store of its place there
   pub op : IsOpAt (quorums_of layout) claim.place next.op
 
 -- what that access may find: a load gives a value that the word can hold, and what the claim has stored is not empty

@@ -1,10 +1,16 @@
 -- Histories of claims on one cell, for two consumers and one pair over the unary table: some that are lawful, and
--- some that are not.
+-- some that are not. And runs of them.
 use Rattle.std.specs.Prelude.{ℕ, List, [], ◌∷◌}
+use Rattle.mb_quorum.specs.Unary.{unary_table}
 use Rattle.mb_deciding.specs.declared.access.Reg.TheVariants.{Value, Proposal, Quorum}
 use Rattle.mb_deciding.specs.declared.access.Act.{Act}
 use Rattle.mb_deciding.specs.declared.access.Act.TheVariants.{Load, Store}
 use Rattle.mb_claim.specs.declared.access.ClaimAccess.{ClaimAccess}
+use Rattle.mb_claim.specs.declared.access.Stage.{Stage}
+use Rattle.mb_claim.specs.declared.run.ClaimEntry.{ClaimEntry}
+use Rattle.mb_claim.specs.declared.run.ClaimEntry.TheVariants.{Access}
+use Rattle.mb_claim.specs.Layouts.{pairs_of}
+use Rattle.mb_claim.specs.Plays.{IsPlayed}
 
 -- consumer c makes the act on object o of cell 0, with the random word 0
 abbrev pub made : ℕ → ℕ → Act → ClaimAccess
@@ -52,3 +58,23 @@ own_number_again = made 1 1 (Store (Quorum 1) 1) ∷ made 1 0 (Load Value 1) ∷
 -- a third consumer comes, where there are two
 abbrev pub of_a_stranger : List ClaimAccess
 of_a_stranger = made 2 0 (Load Value 0) ∷ []
+
+-- ---- runs
+-- what these steps make of the claims of two consumers
+abbrev pub IsPlayedByTwo : List (ℕ × ℕ) → List ClaimEntry → List Stage → Type 0
+IsPlayedByTwo steps entries stages = IsPlayed (unary_table 2) (pairs_of 2 1) steps entries stages
+
+-- a step of consumer 0 with the random word 0
+abbrev pub step : ℕ × ℕ
+step = (0, 0)
+
+-- eight of them: those of `won_alone`, and one more
+abbrev pub eight_steps : List (ℕ × ℕ)
+eight_steps = step ∷ step ∷ step ∷ step ∷ step ∷ step ∷ step ∷ step ∷ []
+
+-- the entries of `won_alone`, and this one
+abbrev pub won_and : ClaimEntry → List ClaimEntry
+won_and e =
+    Access 0 0 (Load Value 0) ∷ Access 0 0 (Store Value 1) ∷ Access 0 0 (Load Value 1)
+    ∷ Access 0 1 (Store (Quorum 0) 1) ∷ Access 0 1 (Load Proposal 0) ∷ Access 0 1 (Store Proposal 1)
+    ∷ Access 0 1 (Load (Quorum 1) 0) ∷ e ∷ []

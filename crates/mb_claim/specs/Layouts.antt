@@ -1,7 +1,7 @@
 -- Layouts: the objects that each cell has, where their words lie, and how many turns a claim takes at most.
 use Rattle.std.specs.Prelude.{ℕ, zero, suc, ◌≡◌, ◌+◌, ◌*◌, List, [], ◌∷◌, slice_get, Some}
 use Rattle.mb_quorum.specs.Quorum.{QuorumTable}
-use Rattle.mb_quorum.specs.Tables.{table_of}
+use Rattle.mb_quorum.specs.Tables.{chosen}
 use Rattle.mb_deciding.specs.declared.access.Reg.{Reg}
 use Rattle.mb_deciding.specs.declared.access.Reg.TheVariants.{Value, Proposal, Quorum}
 use Rattle.mb_deciding.specs.declared.object.Kind.{Kind}
@@ -19,7 +19,7 @@ pairs_of s (suc n) = Conciliator s ∷ Ratifier ∷ pairs_of s n
 
 -- the quorum table of a layout; its values are the consumers
 abbrev pub quorums_of : Layout → QuorumTable
-quorums_of layout = table_of layout.table.name layout.table.values
+quorums_of layout = chosen layout.table
 
 -- how many pairs of objects a layout has
 abbrev pub pair_count : Layout → ℕ

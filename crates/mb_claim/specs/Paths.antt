@@ -33,36 +33,42 @@ IsClaimPath t (kind ∷ kinds) o v xs output =
     × (((d ≡ true) × (later ≡ []) × (output ≡ answer true u))
     ⊎ ((d ≡ false) × IsClaimPath t kinds (suc o) u later output))
 
--- ---- beginnings of paths, and their stages
+-- ---- prefixes of paths, and their stages
 -- the consumer has begun its path on object o, and goes on
 pub record GoesOnIn (t : QuorumTable) (kind : Kind) (o v : ℕ) (xs : List ObjectTurn) (s : Stage) : Type 0 where
+  -- all that it did from here on, it did on this object
   pub turns : List Turn
   pub all : xs ≡ tagged o turns
+  -- and it goes on to a whole path there
   pub going : IsOpen t kind v turns
   pub is : s ≡ Going
 
 -- object o has decided
 pub record DecidesIn (t : QuorumTable) (c : ℕ) (kind : Kind) (o v : ℕ) (xs : List ObjectTurn) (s : Stage) : Type 0 where
+  -- all that it did from here on, it did on this object
   pub turns : List Turn
   pub value : ℕ
   pub all : xs ≡ tagged o turns
+  -- and that is a whole path with a decided output
   pub path : IsPath t kind v turns (answer true value)
   pub is : s ≡ stage_for c value
 
 -- object o has not decided: its output u is the next input, and later turns follow
 pub record Passes
     (t : QuorumTable) (kind : Kind) (o v : ℕ) (xs : List ObjectTurn) (u : ℕ) (later : List ObjectTurn) : Type 0 where
+  -- its first turns are those on this object
   pub turns : List Turn
   pub all : xs ≡ later ++ tagged o turns
+  -- and make a whole path with an undecided output
   pub path : IsPath t kind v turns (answer false u)
 
--- a beginning of a path of consumer c through objects with numbers from o on, with input v, and its stage
-abbrev pub IsClaimPart : QuorumTable → ℕ → List Kind → ℕ → ℕ → List ObjectTurn → Stage → Type 0
-IsClaimPart t c [] o v xs s = (xs ≡ []) × (s ≡ Undecided)
-IsClaimPart t c (kind ∷ kinds) o v xs s =
+-- a prefix of a path of consumer c through objects with numbers from o on, with input v, and its stage
+abbrev pub IsClaimPrefixFrom : QuorumTable → ℕ → List Kind → ℕ → ℕ → List ObjectTurn → Stage → Type 0
+IsClaimPrefixFrom t c [] o v xs s = (xs ≡ []) × (s ≡ Undecided)
+IsClaimPrefixFrom t c (kind ∷ kinds) o v xs s =
     GoesOnIn t kind o v xs s
     ⊎ (DecidesIn t c kind o v xs s
-    ⊎ ((u : ℕ) × (later : List ObjectTurn) × Passes t kind o v xs u later × IsClaimPart t c kinds (suc o) u later s))
+    ⊎ ((u : ℕ) × (later : List ObjectTurn) × Passes t kind o v xs u later × IsClaimPrefixFrom t c kinds (suc o) u later s))
 
 -- a part comes to object n with input w: whole paths through all objects before it, none decided, lead there
 abbrev pub Enters : QuorumTable → List Kind → ℕ → ℕ → List ObjectTurn → ℕ → ℕ → Type 0
@@ -76,6 +82,6 @@ Enters t (kind ∷ kinds) o v xs n w =
 abbrev pub IsWholeClaim : QuorumTable → List Kind → ℕ → List ObjectTurn → Out → Type 0
 IsWholeClaim t kinds c xs output = IsClaimPath t kinds 0 c xs output
 
--- a beginning of a claim path of consumer c on such a cell, and its stage
-abbrev pub IsClaimBeginning : QuorumTable → List Kind → ℕ → List ObjectTurn → Stage → Type 0
-IsClaimBeginning t kinds c xs s = IsClaimPart t c kinds 0 c xs s
+-- a prefix of a claim path of consumer c on such a cell, and its stage
+abbrev pub IsClaimPrefix : QuorumTable → List Kind → ℕ → List ObjectTurn → Stage → Type 0
+IsClaimPrefix t kinds c xs s = IsClaimPrefixFrom t c kinds 0 c xs s

@@ -11,7 +11,7 @@ use Rattle.mb_claim.specs.declared.access.ClaimAccess.{ClaimAccess}
 use Rattle.mb_claim.specs.declared.access.Stage.TheVariants.{Going}
 use Rattle.mb_claim.specs.declared.claim.Claim.{Claim}
 use Rattle.mb_claim.specs.History.{object_history}
-use Rattle.mb_claim.specs.Paths.{tagged, Passes, IsClaimBeginning}
+use Rattle.mb_claim.specs.Paths.{tagged, Passes, IsClaimPrefix}
 
 -- whole paths through objects with numbers from o on, none decided: the first input is v, the last output w
 abbrev pub PassesAll : QuorumTable → List Kind → ℕ → ℕ → List ObjectTurn → ℕ → Type 0
@@ -30,10 +30,13 @@ pub record StandsAt (t : QuorumTable) (kinds : List Kind) (c object : ℕ) (pc :
   pub turns : List Turn
   -- its input there: what the objects before made of its number, none of which has decided
   pub input : ℕ
+  -- the objects are these, and its own has the number
   pub order : kinds ≡ before ++ kind ∷ after
   pub number : object ≡ length before
+  -- it has passed those before, and what it did since then it did on its own
   pub passed : PassesAll t before 0 c front input
   pub all : xs ≡ tagged object turns ++ front
+  -- its input is a value of the table, and its turns led to the place
   pub within : input < t.values
   pub place : IsAt t kind input pc turns
 
@@ -41,8 +44,8 @@ pub record StandsAt (t : QuorumTable) (kinds : List Kind) (c object : ℕ) (pc :
 pub record IsClaimOf (t : QuorumTable) (kinds : List Kind) (claim : Claim) (xs : List ObjectTurn) : Type 0 where
   -- it is one of the consumers
   pub known : claim.consumer < t.values
-  -- the turns are a beginning of its claim path, with its stage
-  pub part : IsClaimBeginning t kinds claim.consumer xs claim.stage
+  -- the turns are a prefix of its claim path, with its stage
+  pub part : IsClaimPrefix t kinds claim.consumer xs claim.stage
   -- it is begun where there are any
   pub begun : (claim.begun ≡ true) ↔ (xs ≢ [])
   -- and while it goes on it stands at its place

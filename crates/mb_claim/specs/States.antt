@@ -12,18 +12,24 @@ use Rattle.mb_claim.specs.History.{part, left_at}
 use Rattle.mb_claim.specs.Claiming.{IsLawful}
 use Rattle.mb_claim.specs.Layouts.{words_of, address_of, IsWordOf}
 
--- the words at the addresses of the claims, and the parts of consumers on cells, are those of one lawful history;
--- other words may follow
-pub record IsState
-    (t : QuorumTable) (kinds : List Kind) (cells : ℕ) (words : List ℕ) (parts : ℕ → ℕ → List ObjectTurn) : Type 0 where
-  pub history : List ClaimAccess
-  pub lawful : IsLawful t kinds cells history
+-- the words at the addresses of the claims are those that a lawful history leaves; other words may follow
+pub record IsMemoryOf
+    (t : QuorumTable) (kinds : List Kind) (cells : ℕ) (words : List ℕ) (h : List ClaimAccess) : Type 0 where
+  -- the history is lawful
+  pub lawful : IsLawful t kinds cells h
   -- there are words for all cells
   pub room : cells * words_of t.registers kinds ≤ length words
   -- each word of an object has what the history leaves in it
   pub left :
       (k o : ℕ) (reg : Reg) → k < cells → IsWordOf t.registers kinds o reg
-      → slice_index words (address_of t.registers kinds k o reg) ≡ left_at k o reg history
+      → slice_index words (address_of t.registers kinds k o reg) ≡ left_at k o reg h
+
+-- the words, and the parts of consumers on cells, are those of one lawful history
+pub record IsState
+    (t : QuorumTable) (kinds : List Kind) (cells : ℕ) (words : List ℕ) (parts : ℕ → ℕ → List ObjectTurn) : Type 0 where
+  -- there is such a history, and it leaves the words
+  pub history : List ClaimAccess
+  pub memory : IsMemoryOf t kinds cells words history
   -- each part is that of the history
   pub same : (c k : ℕ) → parts c k ≡ part c k history
 

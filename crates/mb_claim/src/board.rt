@@ -6,7 +6,7 @@ ghost use Rattle.mb_claim.specs.States.{after_op};
 
 use crate::access::ClaimOp;
 use crate::claim::Claim;
-use crate::laws::{one_step, place_step, standing};
+use crate::laws::{addresses, claim_step, place_step};
 use crate::layout::Layout;
 use crate::run::{ClaimEntry, ClaimRun};
 use mb_deciding::Op;
@@ -21,10 +21,11 @@ pub struct Board<A: Allocator + Drop> {
 }
 
 impl<A: Allocator + Copy + Drop> Board<A> {
-    ghost use Rattle.std.specs.Prelude.{◌≡◌, ◌<◌, ◌++◌, ◌∷◌, [], ℕ, List, IfOk, OnOk, map};
+    ghost use Rattle.std.specs.Prelude.{◌≡◌, ◌<◌, ◌≤◌, ◌++◌, ◌∷◌, [], ℕ, List, IfOk, OnOk, length, map};
+    ghost use Rattle.mb_deciding.specs.Place.{reg_of};
     ghost use Rattle.mb_claim.specs.Boards.{IsBoard};
     ghost use Rattle.mb_claim.specs.Claims.{claim_stage};
-    ghost use Rattle.mb_claim.specs.Layouts.{quorums_of, kinds_of, consumer_count};
+    ghost use Rattle.mb_claim.specs.Layouts.{quorums_of, kinds_of, consumer_count, cell_words, word_address, HasWord};
 
     /// All words empty and each claim before its first access, with room for so many entries.
     pub fn begin(alloc: A, layout: &Layout, steps: usize) -> Result<Board<A>, AllocError>
@@ -54,27 +55,37 @@ impl<A: Allocator + Copy + Drop> Board<A> {
             → IsBoard (quorums_of layout.now) (kinds_of layout.now) (steps ++ (consumer, word) ∷ [])
             self.new.words.items self.new.claims.items self.new.entries.items) }
     {
+        claim_step();
         place_step();
-        one_step();
-        standing();
         let mut claim = self.claims[consumer as usize];
         if !claim.stage().is_going() {
             self.entries.push(ClaimEntry::Done { consumer })?;
             return Ok(());
         }
-        let ClaimOp { object, op } = claim.next(layout);
-        let address = layout.address(0, object, op.reg());
+        let next = claim.next(layout);
+        let address = self.address(layout, next);
         let seen = self.words[address];
-        let left = word_after(op, seen);
+        let left = word_after(next.op, seen);
         self.entries.push(ClaimEntry::Access {
             consumer,
-            object,
-            act: op.act(seen),
+            object: next.object,
+            act: next.op.act(seen),
         })?;
         self.words[address] = left;
         claim.after(layout, seen, word);
         self.claims[consumer as usize] = claim;
         Ok(())
+    }
+
+    /// Where the word of an access lies.
+    fn address(&self, layout: &Layout, next: ClaimOp) -> usize
+        requires room { cell_words layout.now ≤ length self.now.words.items }
+        requires word { HasWord layout.now next.object (reg_of next.op) }
+        ensures exact { result ≡ word_address layout.now 0 next.object (reg_of next.op) }
+        ensures inside { result < length self.now.words.items }
+    {
+        addresses();
+        layout.address(0, next.object, next.op.reg())
     }
 
     /// The entries, and how far each claim has come.

@@ -2,7 +2,7 @@
 use crate::access::{ClaimOp, Stage};
 use crate::laws::standing;
 use crate::layout::Layout;
-use mb_deciding::{Kind, Next, Pc};
+use mb_deciding::{Next, Pc};
 
 /// The claim of one consumer on one cell: the object on which it stands, its place there, and how
 /// far it has come. A plain value, which may be kept between calls.
@@ -109,10 +109,7 @@ impl Claim {
         match layout.kind(self.object + 1) {
             Some(kind) => {
                 self.object += 1;
-                self.place = match kind {
-                    Kind::Conciliator { s } => Pc::conciliator(value, s),
-                    Kind::Ratifier => Pc::ratifier(value),
-                };
+                self.place = kind.place(value);
             }
             None => self.stage = Stage::Undecided,
         }

@@ -1,10 +1,12 @@
-//! Laws over every lawful history of claims. The functions do nothing: their contracts are the laws,
+//! Laws over every lawful history of claims. The functions compute nothing: their contracts are the laws,
 //! and their bodies name the laws of deciding objects on which they stand.
 ghost use Rattle.mb_quorum.specs.Quorum.{QuorumTable, IsQuorumTable};
 ghost use Rattle.mb_quorum.specs.declared.values.TheConstants.{MAX_VALUES};
 ghost use Rattle.mb_quorum.specs.Unary.{unary_table};
-ghost use Rattle.std.specs.Prelude.{ℕ, ◌≡◌, ◌≢◌, ◌+◌, ◌*◌, ◌<◌, ◌≤◌, List, [], ◌∷◌, ◌++◌, true, length, slice_index, slice_set};
+ghost use Rattle.std.specs.Prelude.{ℕ, ◌≡◌, ◌≢◌, ◌+◌, ◌*◌, ◌<◌, ◌≤◌, List, [], ◌∷◌, ◌++◌, true, false, length, slice_index, slice_set};
+ghost use Rattle.mb_deciding.specs.declared.access.Act.TheVariants.{Load, Store};
 ghost use Rattle.mb_deciding.specs.declared.access.Op.{Op};
+ghost use Rattle.mb_deciding.specs.declared.access.Op.TheVariants.{Load as ToLoad};
 ghost use Rattle.mb_deciding.specs.declared.access.Reg.{Reg};
 ghost use Rattle.mb_deciding.specs.declared.access.Reg.TheVariants.{Value, Proposal, Quorum};
 ghost use Rattle.mb_deciding.specs.declared.object.Kind.{Kind};
@@ -22,10 +24,11 @@ ghost use Rattle.mb_claim.specs.declared.access.Stage.{Stage};
 ghost use Rattle.mb_claim.specs.declared.access.Stage.TheVariants.{Going, Won, Lost, Undecided};
 ghost use Rattle.mb_claim.specs.declared.claim.Claim.{Claim};
 ghost use Rattle.mb_claim.specs.declared.layout.Layout.{Layout};
+ghost use Rattle.mb_claim.specs.declared.run.ClaimEntry.TheVariants.{Access, Done};
 ghost use Rattle.mb_claim.specs.declared.layout.TheConstants.{MAX_PAIRS};
-ghost use Rattle.mb_claim.specs.Claims.{consumer_of, claim_stage, FitsLayout, IsClaimIn, IsStateIn, IsNextOp, CanClaimFind};
+ghost use Rattle.mb_claim.specs.Claims.{consumer_of, claim_stage, is_begun, FitsLayout, IsClaimIn, IsStateIn, IsNextOp, CanClaimFind};
 ghost use Rattle.mb_claim.specs.History.{part, object_history, left_at, on_cell};
-ghost use Rattle.mb_claim.specs.Paths.{IsWholeClaim, IsClaimBeginning, stage_of};
+ghost use Rattle.mb_claim.specs.Paths.{IsWholeClaim, IsClaimPrefix, stage_of};
 ghost use Rattle.mb_claim.specs.Claiming.{IsLawful, MayFollow, Adds, HasStage};
 ghost use Rattle.mb_claim.specs.Winner.{HasOneWinner, IsClaimContested};
 ghost use Rattle.mb_claim.specs.Standing.{StandsAt, access_after};
@@ -33,29 +36,32 @@ ghost use Rattle.mb_claim.specs.Layouts.{quorums_of, pair_count, consumer_count,
 ghost use Rattle.mb_claim.specs.Layouts.{pairs_of, address_of, words_of, IsWordOf, most_on_objects, max_steps};
 ghost use Rattle.mb_claim.specs.States.{IsState, after_op, step_of, with_step};
 ghost use Rattle.mb_claim.specs.Examples.{won_and_lost, both_undecided, begun_again, after_winning, own_number_again, of_a_stranger};
+ghost use Rattle.mb_claim.specs.Examples.{IsPlayedByTwo, step, eight_steps, won_and};
 
-use mb_deciding::laws::{deciding, one_turn, place, place_step as object_step, ratifying};
+use mb_deciding::laws::{
+    deciding, examples as object_examples, one_turn, place, place_step as object_step, ratifying,
+};
 
 /// What belongs to a claim is exactly what a whole claim path begins with.
 pub fn prefixes()
     ensures completed { (t : QuorumTable) (kinds : List Kind) (c : ℕ) (xs : List ObjectTurn) (s : Stage)
-        → IsClaimBeginning t kinds c xs s
+        → IsClaimPrefix t kinds c xs s
         → (later : List ObjectTurn) × (output : Out) × IsWholeClaim t kinds c (later ++ xs) output }
     ensures begun { (t : QuorumTable) (kinds : List Kind) (c : ℕ) (later xs : List ObjectTurn) (output : Out)
-        → IsWholeClaim t kinds c (later ++ xs) output → (s : Stage) × IsClaimBeginning t kinds c xs s }
+        → IsWholeClaim t kinds c (later ++ xs) output → (s : Stage) × IsClaimPrefix t kinds c xs s }
 
     // A whole path has the stage of its output, and each stage but `Going` is that of a whole path.
     ensures whole { (t : QuorumTable) (kinds : List Kind) (c : ℕ) (xs : List ObjectTurn) (output : Out)
-        → IsWholeClaim t kinds c xs output → IsClaimBeginning t kinds c xs (stage_of c output) }
+        → IsWholeClaim t kinds c xs output → IsClaimPrefix t kinds c xs (stage_of c output) }
     ensures ended { (t : QuorumTable) (kinds : List Kind) (c : ℕ) (xs : List ObjectTurn) (s : Stage)
-        → IsClaimBeginning t kinds c xs s → s ≢ Going
+        → IsClaimPrefix t kinds c xs s → s ≢ Going
         → (output : Out) × IsWholeClaim t kinds c xs output × (s ≡ stage_of c output) }
 {}
 
-/// A beginning of a claim path has one stage.
+/// A prefix of a claim path has one stage.
 pub fn one_stage()
     ensures { (t : QuorumTable) (kinds : List Kind) (c : ℕ) (xs : List ObjectTurn) (s r : Stage) → IsQuorumTable t
-        → IsClaimBeginning t kinds c xs s → IsClaimBeginning t kinds c xs r → s ≡ r }
+        → IsClaimPrefix t kinds c xs s → IsClaimPrefix t kinds c xs r → s ≡ r }
 {
     deciding();
 }
@@ -91,7 +97,7 @@ pub fn fast_path()
     ensures alone { (t : QuorumTable) (kinds : List Kind) (cells : ℕ) (later h : List ClaimAccess) (k c : ℕ) (s : Stage)
         → IsQuorumTable t → IsLawful t (Ratifier ∷ Ratifier ∷ kinds) cells (later ++ h)
         → ((d : ℕ) → d ≢ c → part d k h ≡ [])
-        → IsClaimBeginning t (Ratifier ∷ Ratifier ∷ kinds) c (part c k h) s → s ≢ Going
+        → IsClaimPrefix t (Ratifier ∷ Ratifier ∷ kinds) c (part c k h) s → s ≢ Going
         → (d o : ℕ) → 2 ≤ o → turns_of d (object_history k o (later ++ h)) ≡ [] }
 {
     deciding();
@@ -140,11 +146,11 @@ pub fn place_step()
     one_turn();
 }
 
-/// What a claim at a place has made is a beginning of its path, which goes on, and the word that comes next is
+/// What a claim at a place has made is a prefix of its path, which goes on, and the word that comes next is
 /// one of the cell's.
 pub fn standing()
     ensures part { (t : QuorumTable) (kinds : List Kind) (c object : ℕ) (pc : Pc) (xs : List ObjectTurn)
-        → IsQuorumTable t → StandsAt t kinds c object pc xs → IsClaimBeginning t kinds c xs Going }
+        → IsQuorumTable t → StandsAt t kinds c object pc xs → IsClaimPrefix t kinds c xs Going }
     ensures word { (t : QuorumTable) (kinds : List Kind) (c object : ℕ) (pc : Pc) (op : Op)
         (xs : List ObjectTurn) → IsQuorumTable t → StandsAt t kinds c object pc xs → IsOpAt t pc op
         → IsWordOf t.registers kinds object (reg_of op) }
@@ -217,6 +223,20 @@ pub fn claim_step()
     state_step();
 }
 
+/// The claim of a consumer that has made no access goes on, and first loads the word of its first object, a conciliator.
+pub fn first_access()
+    ensures fresh { (layout : Layout) (claim : Claim) → IsClaimIn layout claim []
+        → (claim_stage claim ≡ Going) × (is_begun claim ≡ false) }
+    ensures next { (layout : Layout) (claim : Claim) (next : ClaimOp) → IsClaimIn layout claim []
+        → IsNextOp layout claim next → (next.object ≡ 0) × (next.op ≡ ToLoad Value) }
+
+    // It may find no more than the number of consumers there.
+    ensures found { (layout : Layout) (claim : Claim) (next : ClaimOp) (seen : ℕ) → IsClaimIn layout claim []
+        → IsNextOp layout claim next → CanClaimFind layout claim next seen → seen ≤ consumer_count layout }
+{
+    deciding();
+}
+
 /// A lawful history, cut down to one cell, is lawful. It keeps all parts and words of that cell, and nothing else.
 pub fn one_cell()
     ensures lawful { (t : QuorumTable) (kinds : List Kind) (cells : ℕ) (h : List ClaimAccess) (k : ℕ)
@@ -275,4 +295,30 @@ pub fn counterexamples()
     ensures stranger { IsLawful (unary_table 2) (pairs_of 2 1) 1 of_a_stranger → ⊥ }
 {
     deciding();
+}
+
+/// Small runs of the claims of two consumers: what the definition of a run lets in, and what it keeps out.
+pub fn runs()
+    ensures won { IsPlayedByTwo eight_steps (won_and (Done 0)) (Won ∷ Going ∷ []) }
+
+    // No entry for a step.
+    ensures silent { IsPlayedByTwo (step ∷ []) [] (Going ∷ Going ∷ []) → ⊥ }
+
+    // An entry of consumer 0 for a step of consumer 1.
+    ensures another { IsPlayedByTwo ((1, 0) ∷ []) (Access 0 0 (Load Value 0) ∷ []) (Going ∷ Going ∷ []) → ⊥ }
+
+    // `Done` of a claim that is going, and an access of one that was won.
+    ensures early { IsPlayedByTwo (step ∷ []) (Done 0 ∷ []) (Going ∷ Going ∷ []) → ⊥ }
+    ensures late { IsPlayedByTwo eight_steps (won_and (Access 0 1 (Load (Quorum 1) 0))) (Won ∷ Going ∷ []) → ⊥ }
+
+    // Stages that are not the history's, and a stage too few.
+    ensures boast { IsPlayedByTwo [] [] (Won ∷ Going ∷ []) → ⊥ }
+    ensures few { IsPlayedByTwo [] [] (Going ∷ []) → ⊥ }
+
+    // A store on turn 0, where the step's random word 3 does not store.
+    ensures impatient { IsPlayedByTwo ((0, 3) ∷ (0, 3) ∷ [])
+        (Access 0 0 (Load Value 0) ∷ Access 0 0 (Store Value 1) ∷ []) (Going ∷ Going ∷ []) → ⊥ }
+{
+    deciding();
+    object_examples();
 }

@@ -45,10 +45,10 @@ impl fmt::Display for BadLayout {
 impl Error for BadLayout {}
 
 impl Layout {
-    ghost use Rattle.std.specs.Prelude.{◌≡◌, ◌<◌, ◌≤◌, ◌+◌, ◌*◌, ◌^◌, ℕ, slice_get, Some, IsOk, IfOk, Err, MatchOption};
+    ghost use Rattle.std.specs.Prelude.{◌≡◌, ◌<◌, ◌≤◌, ◌+◌, ◌*◌, ◌^◌, ℕ, slice_get, IsOk, IfOk, IfSome, Err, MatchOption};
     ghost use Rattle.mb_quorum.specs.Tables.{table_of};
     ghost use Rattle.mb_deciding.specs.declared.access.Reg.{Reg};
-    ghost use Rattle.mb_deciding.specs.declared.object.Kind.TheVariants.{Conciliator};
+    ghost use Rattle.mb_deciding.specs.Run.{IsFitKind};
     ghost use Rattle.mb_deciding.specs.Spread.{spread};
     ghost use Rattle.mb_claim.specs.declared.layout.TheConstants.{MAX_CELLS};
     ghost use Rattle.mb_claim.specs.Layouts.{quorums_of, kinds_of, pairs_of, pair_count, offset};
@@ -132,7 +132,7 @@ impl Layout {
     /// The kind of an object, if the cells have it.
     pub(crate) fn kind(&self, object: u32) -> Option<Kind>
         ensures exact { result ≡ slice_get (kinds_of self.now) object }
-        ensures small { (s : ℕ) → result ≡ Some (Conciliator s) → s ≤ 63 }
+        ensures fit { IfSome result IsFitKind }
     {
         if object >= 2 * self.pairs {
             None

@@ -7,11 +7,11 @@ use Rattle.mb_deciding.specs.declared.access.Act.{Act}
 use Rattle.mb_deciding.specs.declared.access.Act.TheVariants.{Load, Store}
 use Rattle.mb_deciding.specs.declared.access.Op.{Op}
 use Rattle.mb_deciding.specs.declared.access.Op.TheVariants.{Load as ToLoad, Store as ToStore}
-use Rattle.mb_deciding.specs.declared.checking.Checking.{Checking}
-use Rattle.mb_deciding.specs.declared.checking.Checking.TheVariants.{Begin, Announce, Propose, Check}
+use Rattle.mb_deciding.specs.declared.ratifier_place.RatifierPlace.{RatifierPlace}
+use Rattle.mb_deciding.specs.declared.ratifier_place.RatifierPlace.TheVariants.{Begin, Announce, Propose, Check}
 use Rattle.mb_deciding.specs.declared.place.Pc.TheVariants.{InRatifier}
 use Rattle.mb_deciding.specs.Ratifier.{stores_below, zeros_below, announced, ReadsClear, ReadsOne}
-use Rattle.mb_deciding.specs.Place.{IsLeast, IsRest, IsChecking, IsCheckOp, CanFind, act_of}
+use Rattle.mb_deciding.specs.Place.{IsLeast, IsRest, IsInRatifier, IsRatifierOp, CanFind, act_of}
 use Rattle.mb_deciding.proofs.Registers.{member_below, none_empty, rest_whole, rest_least, rest_none, rest_taken, each_skip, each_next}
 
 -- what is left of a mask without one register
@@ -21,7 +21,7 @@ IsTaken left r after = (k : ℕ) → IsMember after k ↔ (IsMember left k × (k
 -- ---- the op of each place
 -- a process that announces stores in the least register that is left, or loads the proposal
 pub announce_op :
-    (t : QuorumTable) (input left : ℕ) (op : Op) → IsCheckOp t (Announce input left) op
+    (t : QuorumTable) (input left : ℕ) (op : Op) → IsRatifierOp t (Announce input left) op
     → ((r : ℕ) × (op ≡ ToStore (Quorum r) 1) × IsLeast left r) ⊎ ((op ≡ ToLoad Proposal) × (left ≡ 0))
 announce_op t input left (ToLoad Value) is = absurd is
 announce_op t input left (ToLoad Proposal) is = inr (refl, is)
@@ -33,7 +33,7 @@ announce_op t input left (ToStore (Quorum r) w) is = inl (r, ap (λ n. ToStore (
 -- at first the whole write quorum is left
 pub begin_op :
     (t : QuorumTable) (input : ℕ) (op : Op)
-    → IsCheckOp t (Begin input) op ↔ IsCheckOp t (Announce input (t.write input)) op
+    → IsRatifierOp t (Begin input) op ↔ IsRatifierOp t (Announce input (t.write input)) op
 begin_op t input (ToLoad Value) = ((λ is. is), (λ is. is))
 begin_op t input (ToLoad Proposal) = ((λ is. is), (λ is. is))
 begin_op t input (ToLoad (Quorum r)) = ((λ is. is), (λ is. is))
@@ -43,7 +43,7 @@ begin_op t input (ToStore (Quorum r) w) = ((λ is. is), (λ is. is))
 
 -- what an op finds does not depend on the place in a ratifier
 pub find_anywhere :
-    (t : QuorumTable) (a b : Checking) (op : Op) (seen : ℕ) → CanFind t (InRatifier a) op seen
+    (t : QuorumTable) (a b : RatifierPlace) (op : Op) (seen : ℕ) → CanFind t (InRatifier a) op seen
     → CanFind t (InRatifier b) op seen
 find_anywhere t a b (ToLoad Value) seen can = tt
 find_anywhere t a b (ToLoad Proposal) seen can = can
@@ -52,7 +52,7 @@ find_anywhere t a b (ToStore reg w) seen can = tt
 
 -- a process that proposes stores its input
 pub propose_op :
-    (t : QuorumTable) (input : ℕ) (op : Op) → IsCheckOp t (Propose input) op → op ≡ ToStore Proposal (input + 1)
+    (t : QuorumTable) (input : ℕ) (op : Op) → IsRatifierOp t (Propose input) op → op ≡ ToStore Proposal (input + 1)
 propose_op t input (ToLoad Value) is = absurd is
 propose_op t input (ToLoad Proposal) is = absurd is
 propose_op t input (ToLoad (Quorum r)) is = absurd is
@@ -62,7 +62,7 @@ propose_op t input (ToStore (Quorum r) w) is = absurd is
 
 -- a process that checks loads the least register that is left
 pub check_op :
-    (t : QuorumTable) (u left : ℕ) (op : Op) → IsCheckOp t (Check u left) op
+    (t : QuorumTable) (u left : ℕ) (op : Op) → IsRatifierOp t (Check u left) op
     → (r : ℕ) × (op ≡ ToLoad (Quorum r)) × IsLeast left r
 check_op t u left (ToLoad Value) is = absurd is
 check_op t u left (ToLoad Proposal) is = absurd is
@@ -85,14 +85,14 @@ one_least mask r s l m =
 -- ---- announcing
 -- before its first access a process has all of its write quorum left
 pub begun :
-    (t : QuorumTable) (v input : ℕ) (made : List Act) → IsChecking t v (Begin input) made
-    → IsChecking t v (Announce input (t.write input)) made
+    (t : QuorumTable) (v input : ℕ) (made : List Act) → IsInRatifier t v (Begin input) made
+    → IsInRatifier t v (Announce input (t.write input)) made
 begun t v input made at = (at.0, (0, omega arith, rw (at.0) (rest_whole (t.write v)), at.1))
 
 -- a store in the least register that is left goes on with the announcement
 pub announced_next :
     (t : QuorumTable) → IsQuorumTable t → (v input left r : ℕ) (made : List Act) → v < t.values
-    → IsChecking t v (Announce input left) made → IsLeast left r
+    → IsInRatifier t v (Announce input left) made → IsLeast left r
     → (r + 1 ≤ t.registers) × (Store (Quorum r) 1 ∷ made ≡ stores_below (r + 1) (t.write v))
 announced_next t q v input left r made within at least =
     let bound = at.1.0 in
@@ -103,15 +103,15 @@ announced_next t q v input left r made within at least =
 -- and that register is no longer left
 pub announced_more :
     (t : QuorumTable) → IsQuorumTable t → (v input left r after : ℕ) (made : List Act) (op : Op) (seen : ℕ)
-    → v < t.values → IsChecking t v (Announce input left) made → IsCheckOp t (Announce input left) op → left ≢ 0
-    → IsLeast left r → IsTaken left r after → IsChecking t v (Announce input after) (act_of op seen ∷ made)
+    → v < t.values → IsInRatifier t v (Announce input left) made → IsRatifierOp t (Announce input left) op → left ≢ 0
+    → IsLeast left r → IsTaken left r after → IsInRatifier t v (Announce input after) (act_of op seen ∷ made)
 announced_more t q v input left r after made op seen within at is some least taken =
     elim (announce_op t input left op is) [
       | inl x ↦ (rw (x.1) (more (one_least left x.0 r x.2 least)))
       | inr x ↦ absurd (some x.1)
     ]
   where
-    more : {x : ℕ} → x ≡ r → IsChecking t v (Announce input after) (Store (Quorum x) 1 ∷ made)
+    more : {x : ℕ} → x ≡ r → IsInRatifier t v (Announce input after) (Store (Quorum x) 1 ∷ made)
     more {x} same =
         let next = announced_next t q v input left r made within at least in
         let stored : Store (Quorum x) 1 ∷ made ≡ stores_below (r + 1) (t.write v) =
@@ -121,7 +121,7 @@ announced_more t q v input left r after made op seen within at is some least tak
 -- where nothing is left, the whole quorum was stored, and the proposal is loaded
 pub announced_whole :
     (t : QuorumTable) (v input left : ℕ) (made : List Act) (op : Op) (seen : ℕ)
-    → IsChecking t v (Announce input left) made → IsCheckOp t (Announce input left) op → left ≡ 0
+    → IsInRatifier t v (Announce input left) made → IsRatifierOp t (Announce input left) op → left ≡ 0
     → CanFind t (InRatifier (Announce input left)) op seen
     → (act_of op seen ∷ made ≡ Load Proposal seen ∷ announced t v) × (seen ≤ t.values)
 announced_whole t v input left made op seen at is none can =
@@ -141,8 +141,8 @@ announced_whole t v input left made op seen at is none can =
 -- ---- the preference
 -- a store of the input in an empty proposal
 pub prefers_own :
-    (t : QuorumTable) (v input : ℕ) (made : List Act) (op : Op) (seen : ℕ) → IsChecking t v (Propose input) made
-    → IsCheckOp t (Propose input) op → ReadsClear t v input 0 (act_of op seen ∷ made)
+    (t : QuorumTable) (v input : ℕ) (made : List Act) (op : Op) (seen : ℕ) → IsInRatifier t v (Propose input) made
+    → IsRatifierOp t (Propose input) op → ReadsClear t v input 0 (act_of op seen ∷ made)
 prefers_own t v input made op seen at is =
     rw (propose_op t input op is)
     (let same : input ≡ v = at.0 in
@@ -159,7 +159,7 @@ prefers_found t v u seen e =
 -- a load of 0 from the least register that is left goes on with the check
 pub checked_next :
     (t : QuorumTable) → IsQuorumTable t → (v u left r : ℕ) (made : List Act) → u < t.values
-    → IsChecking t v (Check u left) made → IsLeast left r
+    → IsInRatifier t v (Check u left) made → IsLeast left r
     → (r + 1 ≤ t.registers) × ReadsClear t v u (r + 1) (Load (Quorum r) 0 ∷ made)
 checked_next t q v u left r made within at least =
     let from = rest_least (t.read u) at.0 left r at.2 least in
@@ -171,7 +171,7 @@ checked_next t q v u left r made within at least =
 -- and that register is no longer left
 pub checked_zero :
     (t : QuorumTable) → IsQuorumTable t → (v u left r after : ℕ) (made : List Act) (op : Op) (seen : ℕ) → u < t.values
-    → IsChecking t v (Check u left) made → IsCheckOp t (Check u left) op → seen ≡ 0 → IsLeast left r
+    → IsInRatifier t v (Check u left) made → IsRatifierOp t (Check u left) op → seen ≡ 0 → IsLeast left r
     → IsTaken left r after
     → (r + 1 ≤ t.registers) × IsRest (t.read u) (r + 1) after × ReadsClear t v u (r + 1) (act_of op seen ∷ made)
 checked_zero t q v u left r after made op seen within at is zero_seen least taken =
@@ -185,7 +185,7 @@ checked_zero t q v u left r after made op seen within at is zero_seen least take
 -- a load of 1 ends the path
 pub checked_one :
     (t : QuorumTable) → IsQuorumTable t → (v u left : ℕ) (made : List Act) (op : Op) (seen : ℕ) → u < t.values
-    → IsChecking t v (Check u left) made → IsCheckOp t (Check u left) op
+    → IsInRatifier t v (Check u left) made → IsRatifierOp t (Check u left) op
     → CanFind t (InRatifier (Check u left)) op seen → seen ≢ 0 → ReadsOne t v u (act_of op seen ∷ made)
 checked_one t q v u left made op seen within at is can some =
     let x = check_op t u left op is in

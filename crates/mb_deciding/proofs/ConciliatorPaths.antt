@@ -19,7 +19,7 @@ AreBefore v [] = Unit {0}
 AreBefore v (x ∷ older) = IsBefore v x.act × AreBefore v older
 
 -- the turns whose words did not store
-missing_before : (s v k : ℕ) (turns : List Turn) → IsMissing s k turns → AreBefore v turns × (length turns ≡ k)
+pub missing_before : (s v k : ℕ) (turns : List Turn) → IsMissing s k turns → AreBefore v turns × (length turns ≡ k)
 missing_before s v zero [] h = (tt, refl)
 missing_before s v zero (x ∷ older) h = absurd h
 missing_before s v (suc k) [] h = absurd h

@@ -12,7 +12,7 @@ use Rattle.mb_deciding.specs.declared.access.Access.{Access}
 use Rattle.mb_deciding.specs.declared.object.Kind.TheVariants.{Conciliator}
 use Rattle.mb_deciding.specs.History.{value_after, value_in, ReadsLast, turns_of}
 use Rattle.mb_deciding.specs.Conciliator.{IsPut}
-use Rattle.mb_deciding.specs.Objects.{IsPart, IsObjectLawful, CanHold}
+use Rattle.mb_deciding.specs.Objects.{IsPrefix, IsObjectLawful, CanHold}
 use Rattle.mb_deciding.specs.Deciding.{IsValid, IsFirstMover, stored_by, stores_in}
 use Rattle.mb_deciding.proofs.Histories.{lawful_older, own_turns, own_some, some_kept, since_newest}
 use Rattle.mb_deciding.proofs.ConciliatorPaths.{StoresInput, path_stores, path_last}
@@ -75,7 +75,7 @@ module _ (t : QuorumTable) (s : ℕ) (inputs : ℕ → ℕ) where
   -- the newest access stores the input of its process, if it stores
   newest_stores : (a : Access) (h : List Access) → L (a ∷ h) → StoresInput (inputs a.process) a.turn.act
   newest_stores a h l =
-      let p = subst (λ xs. IsPart t (Conciliator s) (inputs a.process) xs) (own_turns a h) (l.parts a.process (own_some a h)).1 in
+      let p = subst (λ xs. IsPrefix t (Conciliator s) (inputs a.process) xs) (own_turns a h) (l.parts a.process (own_some a h)).1 in
       path_stores s (inputs a.process) a.turn (turns_of a.process h) p.0 p.1.value p.2.1
 
   -- the value is the input of a process with a turn

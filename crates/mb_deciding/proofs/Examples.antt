@@ -11,7 +11,7 @@ use Rattle.mb_deciding.specs.declared.object.Kind.{Kind}
 use Rattle.mb_deciding.specs.declared.object.Kind.TheVariants.{Conciliator, Ratifier}
 use Rattle.mb_deciding.specs.History.{IsMemoryTrue, AreInWords, turns_of}
 use Rattle.mb_deciding.specs.Conciliator.{IsMissing, IsDrawn, IsConciliatorPath}
-use Rattle.mb_deciding.specs.Objects.{answer, IsPath, IsPart, IsObjectLawful, HasOutput}
+use Rattle.mb_deciding.specs.Objects.{answer, IsPath, IsPrefix, IsObjectLawful, HasOutput}
 use Rattle.mb_deciding.specs.Examples.{zero_for_all, turn, alone, clear_run, hasty_run, invented_run, patient_run, impatient_run}
 use Rattle.mb_deciding.proofs.Histories.{not_empty}
 use Rattle.mb_deciding.proofs.Grammar.{part_behind}
@@ -28,17 +28,17 @@ no_turns p [] other = refl
 no_turns p (x ∷ turns) other =
     ap (λ b. cons_option (cond b (Some x) None) (turns_of p (alone turns))) (ne_eqb 0 p (λ e. other (sym e))) ∙ no_turns p turns other
 
--- a beginning of a path that is true to memory is lawful
+-- a prefix of a path that is true to memory is lawful
 lawful_alone :
     (t : QuorumTable) (kind : Kind) (turns : List Turn) → IsMemoryTrue (alone turns) → AreInWords (alone turns)
-    → 0 < t.values → IsPart t kind 0 turns → IsObjectLawful t kind zero_for_all (alone turns)
+    → 0 < t.values → IsPrefix t kind 0 turns → IsObjectLawful t kind zero_for_all (alone turns)
 lawful_alone t kind turns memory words within part =
     record {
       memory = memory;
       words = words;
       parts = λ p some.
           elim (cases_eq p 0) [
-            | inl e ↦ (within, subst (λ q. IsPart t kind 0 (turns_of q (alone turns))) (sym e) (subst (IsPart t kind 0) (sym (own_turns turns)) part))
+            | inl e ↦ (within, subst (λ q. IsPrefix t kind 0 (turns_of q (alone turns))) (sym e) (subst (IsPrefix t kind 0) (sym (own_turns turns)) part))
             | inr other ↦ absurd (some (no_turns p turns other))
           ];
     }
@@ -46,13 +46,13 @@ lawful_alone t kind turns memory words within part =
 -- and what is lawful is one
 part_alone :
     (t : QuorumTable) (kind : Kind) (turns : List Turn) → turns ≢ []
-    → IsObjectLawful t kind zero_for_all (alone turns) → IsPart t kind 0 turns
+    → IsObjectLawful t kind zero_for_all (alone turns) → IsPrefix t kind 0 turns
 part_alone t kind turns some l =
-    subst (IsPart t kind 0) (own_turns turns) (l.parts 0 (λ e. some (sym (own_turns turns) ∙ e))).1
+    subst (IsPrefix t kind 0) (own_turns turns) (l.parts 0 (λ e. some (sym (own_turns turns) ∙ e))).1
 
 -- ---- a ratifier
 -- the run that met no 1 decides its input
-clear_path : IsPath (unary_table 2) Ratifier 0 clear_run (answer true 0)
+pub clear_path : IsPath (unary_table 2) Ratifier 0 clear_run (answer true 0)
 clear_path = (Store Proposal 1 ∷ Load Proposal 0 ∷ Store (Quorum 0) 1 ∷ [], inl (refl, refl), refl)
 
 -- it is lawful
@@ -79,7 +79,7 @@ invented_refused l = let none : ◌≡◌ {A = ℕ} 1 0 = l.memory.0 in absurd (
 
 -- ---- a conciliator
 -- the run that stores on turn 2 has its input as its output
-patient_path : IsPath (unary_table 2) (Conciliator 2) 0 patient_run (answer false 0)
+pub patient_path : IsPath (unary_table 2) (Conciliator 2) 0 patient_run (answer false 0)
 patient_path = (refl, (refl, (2, omega arith, inr (refl, (refl, omega arith, (refl, (λ stores. late stores), (refl, (λ stores. later stores), tt)))))))
   where
     late : 3 % 2 ^ 2 < 2 ^ 1 → ⊥
@@ -132,8 +132,11 @@ impatient_no_path (x ∷ y ∷ z ∷ later) u h =
       | inr put ↦ missing_no_store 2 h.1.0 0 later (turn 3 (Load Value 0) ∷ []) (turn 3 (Store Value 1)) refl put.1.2
     ]
 
+-- it is no prefix of a path
+pub impatient_no_part : IsPrefix (unary_table 2) (Conciliator 2) 0 impatient_run → ⊥
+impatient_no_part part = impatient_no_path part.0 part.1.value part.2.1
+
 -- and the history is not lawful
 pub impatient_refused : IsObjectLawful (unary_table 2) (Conciliator 2) zero_for_all (alone impatient_run) → ⊥
 impatient_refused l =
-    let part = part_alone (unary_table 2) (Conciliator 2) impatient_run (not_empty (turn 3 (Store Value 1)) (turn 3 (Load Value 0) ∷ [])) l in
-    impatient_no_path part.0 part.1.value part.2.1
+    impatient_no_part (part_alone (unary_table 2) (Conciliator 2) impatient_run (not_empty (turn 3 (Store Value 1)) (turn 3 (Load Value 0) ∷ [])) l)

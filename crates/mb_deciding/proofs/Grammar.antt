@@ -10,7 +10,7 @@ use Rattle.mb_deciding.specs.declared.access.Turn.{Turn}
 use Rattle.mb_deciding.specs.declared.object.Kind.TheVariants.{Ratifier}
 use Rattle.mb_deciding.specs.History.{acts, Has}
 use Rattle.mb_deciding.specs.Ratifier.{each_below, stores_below, zeros_below, announced, Prefers, ReadsClear, ReadsOne, IsRatifierPath}
-use Rattle.mb_deciding.specs.Objects.{IsPart}
+use Rattle.mb_deciding.specs.Objects.{IsPrefix}
 use Rattle.mb_deciding.proofs.Acts.{acts-append, has_later}
 
 -- the process stored its input in the proposal, or loaded a value from it
@@ -135,9 +135,9 @@ suffix_behind : (t : QuorumTable) (v : ℕ) (later made : List Act) → AllBehin
 suffix_behind t v [] made h = h
 suffix_behind t v (x ∷ later) made h = suffix_behind t v later made h.1
 
--- a beginning of a path
+-- a prefix of a path
 pub part_behind :
-    (t : QuorumTable) (v : ℕ) (turns : List Turn) → IsPart t Ratifier v turns → AllBehind t v (acts turns)
+    (t : QuorumTable) (v : ℕ) (turns : List Turn) → IsPrefix t Ratifier v turns → AllBehind t v (acts turns)
 part_behind t v turns p =
     suffix_behind t v (acts p.0) (acts turns)
     (subst (AllBehind t v) (acts-append p.0 turns) (path_behind t v (acts (p.0 ++ turns)) p.1.decided p.1.value p.2))

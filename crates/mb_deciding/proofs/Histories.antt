@@ -7,7 +7,7 @@ use Rattle.mb_deciding.specs.declared.access.Turn.{Turn}
 use Rattle.mb_deciding.specs.declared.access.Access.{Access}
 use Rattle.mb_deciding.specs.declared.object.Kind.{Kind}
 use Rattle.mb_deciding.specs.History.{IsInWords, ReadsLast, turns_of}
-use Rattle.mb_deciding.specs.Objects.{IsPath, IsPart, IsObjectLawful}
+use Rattle.mb_deciding.specs.Objects.{IsPath, IsPrefix, IsObjectLawful}
 
 -- a list with a first element is not empty
 pub not_empty : {A : Type 0} (x : A) (xs : List A) → x ∷ xs ≢ []
@@ -18,17 +18,17 @@ pub nil_or : {A : Type 0} (xs : List A) → (xs ≡ []) ⊎ (xs ≢ [])
 nil_or [] = inl refl
 nil_or (x ∷ xs) = inr (λ e. not_empty x xs e)
 
--- a beginning without its newest turn is a beginning
+-- a prefix without its newest turn is a prefix
 pub part_older :
-    (t : QuorumTable) (kind : Kind) (v : ℕ) (x : Turn) (turns : List Turn) → IsPart t kind v (x ∷ turns)
-    → IsPart t kind v turns
+    (t : QuorumTable) (kind : Kind) (v : ℕ) (x : Turn) (turns : List Turn) → IsPrefix t kind v (x ∷ turns)
+    → IsPrefix t kind v turns
 part_older t kind v x turns p =
     (p.0 ++ x ∷ [], p.1, subst (λ xs. IsPath t kind v xs p.1) (sym (append_assoc p.0 (x ∷ []) turns)) p.2)
 
 -- the same, where the newest turn may be of another process
 older_by :
     (t : QuorumTable) (kind : Kind) (v : ℕ) (own : Bool) (x : Turn) (turns : List Turn)
-    → IsPart t kind v (cons_option (cond own (Some x) None) turns) → IsPart t kind v turns
+    → IsPrefix t kind v (cons_option (cond own (Some x) None) turns) → IsPrefix t kind v turns
 older_by t kind v true x turns p = part_older t kind v x turns p
 older_by t kind v false x turns p = p
 
@@ -65,18 +65,18 @@ own_some a h e = not_empty a.turn (turns_of a.process h) (sym (own_turns a h) �
 -- the part of each process after one more turn of process p
 longer_by :
     (t : QuorumTable) (kind : Kind) (inputs : ℕ → ℕ) (h : List Access) (p q : ℕ) (turn : Turn)
-    → IsObjectLawful t kind inputs h → inputs p < t.values → IsPart t kind (inputs p) (turn ∷ turns_of p h)
+    → IsObjectLawful t kind inputs h → inputs p < t.values → IsPrefix t kind (inputs p) (turn ∷ turns_of p h)
     → (own : Bool) → (p == q) ≡ own → cons_option (cond own (Some turn) None) (turns_of q h) ≢ []
-    → (inputs q < t.values) × IsPart t kind (inputs q) (cons_option (cond own (Some turn) None) (turns_of q h))
+    → (inputs q < t.values) × IsPrefix t kind (inputs q) (cons_option (cond own (Some turn) None) (turns_of q h))
 longer_by t kind inputs h p q turn l within part true e some =
-    subst (λ k. (inputs k < t.values) × IsPart t kind (inputs k) (turn ∷ turns_of k h)) (eqb-true p q e) (within, part)
+    subst (λ k. (inputs k < t.values) × IsPrefix t kind (inputs k) (turn ∷ turns_of k h)) (eqb-true p q e) (within, part)
 longer_by t kind inputs h p q turn l within part false e some = l.parts q some
 
 -- one more turn of a process whose path goes on keeps a history lawful
 pub longer :
     (t : QuorumTable) (kind : Kind) (inputs : ℕ → ℕ) (h : List Access) (p : ℕ) (turn : Turn)
     → IsObjectLawful t kind inputs h → inputs p < t.values → IsInWords turn → ReadsLast turn.act h
-    → IsPart t kind (inputs p) (turn ∷ turns_of p h)
+    → IsPrefix t kind (inputs p) (turn ∷ turns_of p h)
     → IsObjectLawful t kind inputs (record { process = p; turn = turn } ∷ h)
 longer t kind inputs h p turn l within words reads part =
     record {

@@ -22,7 +22,7 @@ cond_length true x xs = (omega arith, omega arith)
 cond_length false x xs = (omega arith, omega arith)
 
 -- a register of the mask makes the list longer
-each_more :
+pub each_more :
     (act : ℕ → Act) (n mask r : ℕ) → r < n → IsMember mask r
     → length (each_below act r mask) < length (each_below act n mask)
 each_more act zero mask r l m = absurd (omega arith)
@@ -139,6 +139,28 @@ ends_within t u n m false a b =
 same_first : (x y : ℕ) (loads others rest : List ℕ) → loads ≡ x ∷ rest → others ≡ y ∷ rest → loads ≡ others → x ≡ y
 same_first x y loads others rest a b e = let f : x ∷ rest ≡ y ∷ rest = sym a ∙ (e ∙ b) in cc
 
+-- one list has one number of registers read
+pub clear_same :
+    (t : QuorumTable) (v u w n m : ℕ) (made : List Act) → ReadsClear t v u n made → ReadsClear t v w m made
+    → length (zeros_below n (t.read u)) ≡ length (zeros_below m (t.read w))
+clear_same t v u w n m made h k =
+    let a = clear_measured t v u n made h in
+    let b = clear_measured t v w m made k in
+    let extras : extra a.first ≡ extra b.first =
+    ap extra (same_first a.first b.first (proposal_loads made) (proposal_loads made) (proposal_loads (announced t v)) a.loads b.loads refl) in
+    omega (arith, a.long, b.long)
+
+-- after an empty proposal alone there is no preference
+pub empty_unclear :
+    (t : QuorumTable) (v u n : ℕ) → ReadsClear t v u n (Load Proposal 0 ∷ announced t v) → ⊥
+unfolding extra
+empty_unclear t v u n h =
+    let a = clear_measured t v u n (Load Proposal 0 ∷ announced t v) h in
+    let loads = proposal_loads (Load Proposal 0 ∷ announced t v) in
+    let empty : a.first ≡ 0 = same_first a.first 0 loads loads (proposal_loads (announced t v)) a.loads refl refl in
+    let extras : extra a.first ≡ 2 = ap extra empty in
+    omega (arith, a.long)
+
 -- nothing comes after all loads were clear
 clear_ends :
     (t : QuorumTable) (v : ℕ) (made later : List Act) (e : Bool) (u w : ℕ) → ReadsClear t v u t.registers made
@@ -233,7 +255,7 @@ suffix_cases [] begin (y ∷ later) made e = inl (omega (arith, ap length e, len
 suffix_cases (x ∷ xs) begin (y ∷ later) made e =
     suffix_cases xs begin later made (let same : xs ++ begin ≡ later ++ made = cc in same)
 
--- a beginning of a path has no more acts than an announcement and a preference add,
+-- a prefix of a path has no more acts than an announcement and a preference add,
 -- or it has chosen the path's preference, and has no more than the check of that adds
 pub part_length :
     (t : QuorumTable) (v : ℕ) (later made : List Act) (d : Bool) (u : ℕ) → IsRatifierPath t v (later ++ made) d u

@@ -13,8 +13,13 @@ pub mod Lengths
 pub mod ConciliatorPaths
 pub mod Conciliators
 pub mod Owed
-pub mod DrawingPlaces
+pub mod ConciliatorPlaces
 pub mod Stepping
 pub mod Refused
 pub mod Tableless
 pub mod Examples
+pub mod Traces
+pub mod SameOp
+pub mod RatifierNext
+pub mod ConciliatorNext
+pub mod OneTrace

@@ -11,7 +11,7 @@ use Rattle.mb_deciding.specs.declared.object.Kind.{Kind}
 use Rattle.mb_deciding.specs.declared.object.Kind.TheVariants.{Conciliator, Ratifier}
 use Rattle.mb_deciding.specs.History.{acts, turns_of}
 use Rattle.mb_deciding.specs.Ratifier.{zeros_below, announced, IsRatifierPath}
-use Rattle.mb_deciding.specs.Objects.{answer, IsPath, IsPart, IsOpen, IsObjectLawful, most_turns}
+use Rattle.mb_deciding.specs.Objects.{answer, IsPath, IsPrefix, IsOpen, IsObjectLawful, most_turns}
 use Rattle.mb_deciding.specs.Deciding.{IsDeciding}
 use Rattle.mb_deciding.proofs.Histories.{not_empty, nil_or}
 use Rattle.mb_deciding.proofs.Acts.{acts-append, length-acts, no_acts, turns_for, acts-turns_for, has_some}
@@ -84,7 +84,7 @@ unique_conciliator t s v turns later a b h k =
 -- a process with an input of the table has no more turns on a ratifier
 ratifier_turns :
     (t : QuorumTable) (inputs : ℕ → ℕ) (h : List Access) (p : ℕ) → IsObjectLawful t Ratifier inputs h
-    → inputs p < t.values → IsPart t Ratifier (inputs p) (turns_of p h)
+    → inputs p < t.values → IsPrefix t Ratifier (inputs p) (turns_of p h)
     → length (turns_of p h) ≤ most_turns t Ratifier
 ratifier_turns t inputs h p l within part =
     let whole : IsRatifierPath t (inputs p) (acts part.0 ++ acts (turns_of p h)) part.1.decided part.1.value =
@@ -98,7 +98,7 @@ ratifier_turns t inputs h p l within part =
 
 -- nor on a conciliator
 conciliator_turns :
-    (t : QuorumTable) (s v : ℕ) (turns : List Turn) → IsPart t (Conciliator s) v turns
+    (t : QuorumTable) (s v : ℕ) (turns : List Turn) → IsPrefix t (Conciliator s) v turns
     → length turns ≤ most_turns t (Conciliator s)
 conciliator_turns t s v turns part =
     omega (arith, length-append part.0 turns, conciliator_length s v (part.0 ++ turns) part.1.value part.2.1)
@@ -114,7 +114,7 @@ bounded t kind inputs h p l =
     ]
   where
     by_kind :
-        (k : Kind) → IsObjectLawful t k inputs h → inputs p < t.values → IsPart t k (inputs p) (turns_of p h)
+        (k : Kind) → IsObjectLawful t k inputs h → inputs p < t.values → IsPrefix t k (inputs p) (turns_of p h)
         → length (turns_of p h) ≤ most_turns t k
     by_kind (Conciliator s) lawful within part = conciliator_turns t s (inputs p) (turns_of p h) part
     by_kind Ratifier lawful within part = ratifier_turns t inputs h p lawful within part

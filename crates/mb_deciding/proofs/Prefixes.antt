@@ -8,7 +8,7 @@ use Rattle.mb_deciding.specs.declared.access.Turn.{Turn}
 use Rattle.mb_deciding.specs.declared.object.Kind.TheVariants.{Ratifier}
 use Rattle.mb_deciding.specs.History.{acts}
 use Rattle.mb_deciding.specs.Ratifier.{stores_below, zeros_below, announced, Prefers, ReadsClear, IsRatifierPath}
-use Rattle.mb_deciding.specs.Objects.{answer, IsPath, IsPart, IsOpen}
+use Rattle.mb_deciding.specs.Objects.{answer, IsPath, IsPrefix, IsOpen}
 use Rattle.mb_deciding.proofs.Histories.{not_empty}
 use Rattle.mb_deciding.proofs.Acts.{acts-append, turns_for, acts-turns_for}
 use Rattle.mb_deciding.proofs.Registers.{each_grow}
@@ -21,7 +21,7 @@ IsRatifierPart t v made = (later : List Act) × (decided : Bool) × (u : ℕ) ×
 abbrev pub IsRatifierOpen : QuorumTable → ℕ → List Act → Type 0
 IsRatifierOpen t v made = (later : List Act) × (later ≢ []) × ((decided : Bool) × (u : ℕ) × IsRatifierPath t v (later ++ made) decided u)
 
--- what is open is a beginning
+-- what is open is a prefix
 pub open_part : (t : QuorumTable) (v : ℕ) (made : List Act) → IsRatifierOpen t v made → IsRatifierPart t v made
 open_part t v made h = (h.0, h.2.0, h.2.1, h.2.2)
 
@@ -30,7 +30,7 @@ some_snoc : (xs : List Act) (x : Act) → xs ++ x ∷ [] ≢ []
 some_snoc [] x = not_empty x []
 some_snoc (y ∷ xs) x = not_empty y (xs ++ x ∷ [])
 
--- a beginning without its newest act is open
+-- a prefix without its newest act is open
 pub part_older :
     (t : QuorumTable) (v : ℕ) (x : Act) (made : List Act) → IsRatifierPart t v (x ∷ made) → IsRatifierOpen t v made
 part_older t v x made h =
@@ -81,9 +81,9 @@ path_by_turns :
 path_by_turns t v later turns d u h =
     subst (λ xs. IsRatifierPath t v xs d u) (sym (acts-append (turns_for later) turns ∙ ap (λ xs. xs ++ acts turns) (acts-turns_for later))) h
 
--- a beginning in acts is one in turns
+-- a prefix in acts is one in turns
 pub part_by_turns :
-    (t : QuorumTable) (v : ℕ) (turns : List Turn) → IsRatifierPart t v (acts turns) → IsPart t Ratifier v turns
+    (t : QuorumTable) (v : ℕ) (turns : List Turn) → IsRatifierPart t v (acts turns) → IsPrefix t Ratifier v turns
 part_by_turns t v turns p = (turns_for p.0, answer p.1 p.2, path_by_turns t v p.0 turns p.1 p.2 p.3)
 
 -- what is open in acts is open in turns

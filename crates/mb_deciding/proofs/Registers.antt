@@ -1,11 +1,11 @@
 -- Registers of a quorum in rising order: the least of those that are left, and lists with an act for each.
 use Rattle.std.proofs.Common.{◌≡◌, ◌≢◌, ℕ, zero, suc, ◌+◌, ◌<◌, ◌≤◌, ◌^◌, ◌==◌, ◌⊎◌, ◌↔◌, cond, Bool, true, false, List, [], ◌∷◌, ◌++◌, inl, inr, sym, refl, ap, ◌∙◌, subst, arith}
 use Rattle.std.specs.Int.{bit_at}
-use Rattle.std.proofs.Math.Numerals.{add-one, one-add}
+use Rattle.std.proofs.Math.Numerals.{add-one}
 use Rattle.std.proofs.lemmas.Bool.{cases_eq, cases_lt, eq-eqb, ne_eqb}
 use Rattle.std.proofs.lemmas.Nat.Bits.{bit_at-zero, bit_at-lt, bit_at_above, same_from_bits}
-use Rattle.std.proofs.Math.Pow.{pow-add}
 use Rattle.mb_quorum.specs.Quorum.{IsMember}
+use Rattle.mb_quorum.specs.WidthLaw.{self_below}
 use Rattle.mb_deciding.specs.declared.access.Act.{Act}
 use Rattle.mb_deciding.specs.Ratifier.{each_below}
 use Rattle.mb_deciding.specs.Place.{IsLeast, IsRest}
@@ -74,17 +74,12 @@ least_below (suc n) mask =
       ])
     ]
 
--- a number is below its power of two
-below_power : (n : ℕ) → n < 2 ^ n
-below_power zero = omega arith
-below_power (suc n) = omega (arith, below_power n, rw one-add at (pow-add 2 1 n))
-
 -- a mask has a member, or none
 pub some_member : (mask : ℕ) → ((r : ℕ) × IsMember mask r) ⊎ ((r : ℕ) → IsMember mask r → ⊥)
 some_member mask =
     elim (least_below mask mask) [
       | inl x ↦ inl (x.0, x.2.member)
-      | inr none ↦ inr (λ r m. none r (member_below mask mask r (below_power mask) m) m)
+      | inr none ↦ inr (λ r m. none r (member_below mask mask r (self_below mask) m) m)
     ]
 
 -- a mask that is not empty has a least register
@@ -99,7 +94,7 @@ some_least mask some =
     zeros none i =
         elim (cases_lt i mask) [
           | inl l ↦ (let small : bit_at mask i < 2 = bit_at-lt mask i in let other : bit_at mask i ≢ 1 = none i l in omega arith)
-          | inr l ↦ bit_at_above mask mask i (below_power mask) l
+          | inr l ↦ bit_at_above mask mask i (self_below mask) l
         ]
 
 -- ---- lists with an act for each register

@@ -16,7 +16,7 @@ use Rattle.mb_deciding.specs.declared.object.Kind.TheVariants.{Conciliator, Rati
 use Rattle.mb_deciding.specs.declared.object.Out.{Out as Output}
 use Rattle.mb_deciding.specs.declared.place.Pc.{Pc}
 use Rattle.mb_deciding.specs.declared.place.Pc.TheVariants.{InRatifier}
-use Rattle.mb_deciding.specs.declared.checking.Checking.TheVariants.{Begin}
+use Rattle.mb_deciding.specs.declared.ratifier_place.RatifierPlace.TheVariants.{Begin}
 use Rattle.mb_deciding.specs.declared.place.Next.{Next}
 use Rattle.mb_deciding.specs.declared.place.Next.TheVariants.{Go, Out}
 use Rattle.mb_deciding.specs.declared.trace.Entry.{Entry}

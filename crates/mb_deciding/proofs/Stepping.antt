@@ -1,4 +1,4 @@
--- A process at its place: what it made is an open beginning of a path, and its next turn goes on with it.
+-- A process at its place: what it made is an open prefix of a path, and its next turn goes on with it.
 use Rattle.std.proofs.Common.{◌≡◌, ap, ◌∙◌, ℕ, zero, suc, ◌+◌, ◌-◌, ◌*◌, ◌<◌, ◌≤◌, ◌%◌, false, List, [], ◌∷◌, inl, inr, sym, refl, subst, arith}
 use Rattle.std.proofs.Math.Numerals.{add-one}
 use Rattle.std.proofs.lemmas.Bool.{cases_eq, cases_lt}
@@ -15,27 +15,27 @@ use Rattle.mb_deciding.specs.declared.object.Kind.{Kind}
 use Rattle.mb_deciding.specs.declared.object.Kind.TheVariants.{Conciliator, Ratifier}
 use Rattle.mb_deciding.specs.declared.place.Pc.{Pc}
 use Rattle.mb_deciding.specs.declared.place.Pc.TheVariants.{InRatifier, InConciliator}
-use Rattle.mb_deciding.specs.declared.checking.Checking.{Checking}
-use Rattle.mb_deciding.specs.declared.checking.Checking.TheVariants.{Begin, Announce, Propose, Check}
-use Rattle.mb_deciding.specs.declared.drawing.Drawing.{Drawing}
-use Rattle.mb_deciding.specs.declared.drawing.Drawing.TheVariants.{Draw, Put, Look}
+use Rattle.mb_deciding.specs.declared.ratifier_place.RatifierPlace.{RatifierPlace}
+use Rattle.mb_deciding.specs.declared.ratifier_place.RatifierPlace.TheVariants.{Begin, Announce, Propose, Check}
+use Rattle.mb_deciding.specs.declared.conciliator_place.ConciliatorPlace.{ConciliatorPlace}
+use Rattle.mb_deciding.specs.declared.conciliator_place.ConciliatorPlace.TheVariants.{Draw, Put, Look}
 use Rattle.mb_deciding.specs.History.{value_in, turns_of, acts}
 use Rattle.mb_deciding.specs.Ratifier.{stores_below, announced}
-use Rattle.mb_deciding.specs.Objects.{answer, IsPath, IsPart, IsOpen, IsObjectLawful}
-use Rattle.mb_deciding.specs.Place.{IsAt, IsOpAt, IsCheckPlace, IsChecking, IsCheckOp, IsDrawing, IsDrawOp, CanFind, HasReg, act_of, reg_of, seen_by, turn_after}
+use Rattle.mb_deciding.specs.Objects.{answer, IsPath, IsPrefix, IsOpen, IsObjectLawful}
+use Rattle.mb_deciding.specs.Place.{IsAt, IsOpAt, IsRatifierPlace, IsInRatifier, IsRatifierOp, IsInConciliator, IsConciliatorOp, CanFind, HasReg, act_of, reg_of, seen_by, turn_after}
 use Rattle.mb_deciding.proofs.Registers.{some_least}
 use Rattle.mb_deciding.proofs.RatifierWords.{fits}
 use Rattle.mb_deciding.proofs.Conciliators.{put_filled, value_small}
 use Rattle.mb_deciding.proofs.Owed.{owed}
 use Rattle.mb_deciding.proofs.Prefixes.{IsRatifierOpen, IsRatifierPart, path_part, clear_part, part_older, open_part, empty_open, stores_open, part_by_turns, open_by_turns}
 use Rattle.mb_deciding.proofs.Advances.{find_anywhere, announce_op, begin_op, propose_op, check_op, begun, announced_next, announced_whole, prefers_own, prefers_found, checked_next, checked_one}
-use Rattle.mb_deciding.proofs.DrawingPlaces.{draw_missed, draw_found, draw_ends, put_looks, look_ends, drawing_open}
+use Rattle.mb_deciding.proofs.ConciliatorPlaces.{draw_missed, draw_found, draw_ends, put_looks, look_ends, drawing_open}
 
 -- ---- a ratifier
--- what was made at a place is an open beginning
+-- what was made at a place is an open prefix
 checking_open :
-    (t : QuorumTable) → IsQuorumTable t → (v : ℕ) (place : Checking) (made : List Act) → IsCheckPlace t place
-    → IsChecking t v place made → IsRatifierOpen t v made
+    (t : QuorumTable) → IsQuorumTable t → (v : ℕ) (place : RatifierPlace) (made : List Act) → IsRatifierPlace t place
+    → IsInRatifier t v place made → IsRatifierOpen t v made
 checking_open t q v (Begin input) made fit at = rw at.1 (stores_open t v 0 (omega arith))
 checking_open t q v (Announce input left) made fit at = rw at.1.3 (stores_open t v at.1.0 at.1.1)
 checking_open t q v (Propose input) made fit at = rw at.1 (empty_open t v)
@@ -53,7 +53,7 @@ loaded_part t v (suc u) =
 -- the next act of an announcement goes on with a path
 announcing_next :
     (t : QuorumTable) → IsQuorumTable t → (v input left : ℕ) (made : List Act) (op : Op) (seen : ℕ) → v < t.values
-    → IsChecking t v (Announce input left) made → IsCheckOp t (Announce input left) op
+    → IsInRatifier t v (Announce input left) made → IsRatifierOp t (Announce input left) op
     → CanFind t (InRatifier (Announce input left)) op seen → IsRatifierPart t v (act_of op seen ∷ made)
 announcing_next t q v input left made op seen within at is can =
     elim (announce_op t input left op is) [
@@ -66,8 +66,8 @@ announcing_next t q v input left made op seen within at is can =
 
 -- the next act of a process at a place, with a value that it can find there, goes on with a path
 checking_next :
-    (t : QuorumTable) → IsQuorumTable t → (v : ℕ) (place : Checking) (made : List Act) (op : Op) (seen : ℕ)
-    → IsCheckPlace t place → IsChecking t v place made → IsCheckOp t place op → CanFind t (InRatifier place) op seen
+    (t : QuorumTable) → IsQuorumTable t → (v : ℕ) (place : RatifierPlace) (made : List Act) (op : Op) (seen : ℕ)
+    → IsRatifierPlace t place → IsInRatifier t v place made → IsRatifierOp t place op → CanFind t (InRatifier place) op seen
     → IsRatifierPart t v (act_of op seen ∷ made)
 checking_next t q v (Begin input) made op seen fit at is can =
     announcing_next t q v input (t.write input) made op seen (subst (λ n. n < t.values) at.0 fit) (begun t v input made at)
@@ -88,7 +88,7 @@ checking_next t q v (Check u left) made op seen fit at is can =
 -- a load finds a value that the word can hold
 checking_found :
     (t : QuorumTable) (inputs : ℕ → ℕ) (h : List Access) → IsObjectLawful t Ratifier inputs h
-    → (place : Checking) (op : Op) → CanFind t (InRatifier place) op (seen_by op h)
+    → (place : RatifierPlace) (op : Op) → CanFind t (InRatifier place) op (seen_by op h)
 checking_found t inputs h l place (ToLoad Value) = tt
 checking_found t inputs h l place (ToLoad Proposal) = fits t inputs h Proposal l
 checking_found t inputs h l place (ToLoad (Quorum r)) = fits t inputs h (Quorum r) l
@@ -97,7 +97,7 @@ checking_found t inputs h l place (ToStore reg w) = tt
 -- the next op of an announcement is on a word of a ratifier
 announcing_word :
     (t : QuorumTable) → IsQuorumTable t → (v input left : ℕ) (made : List Act) (op : Op) → v < t.values
-    → IsChecking t v (Announce input left) made → IsCheckOp t (Announce input left) op
+    → IsInRatifier t v (Announce input left) made → IsRatifierOp t (Announce input left) op
     → HasReg t.registers Ratifier (reg_of op)
 announcing_word t q v input left made op within at is =
     elim (announce_op t input left op is) [
@@ -107,8 +107,8 @@ announcing_word t q v input left made op within at is =
 
 -- the next op is on a word of a ratifier
 checking_word :
-    (t : QuorumTable) → IsQuorumTable t → (v : ℕ) (place : Checking) (made : List Act) (op : Op) → IsCheckPlace t place
-    → IsChecking t v place made → IsCheckOp t place op → HasReg t.registers Ratifier (reg_of op)
+    (t : QuorumTable) → IsQuorumTable t → (v : ℕ) (place : RatifierPlace) (made : List Act) (op : Op) → IsRatifierPlace t place
+    → IsInRatifier t v place made → IsRatifierOp t place op → HasReg t.registers Ratifier (reg_of op)
 checking_word t q v (Begin input) made op fit at is =
     announcing_word t q v input (t.write input) made op (subst (λ n. n < t.values) at.0 fit)
     (begun t v input made at) ((begin_op t input op).0 is)
@@ -123,7 +123,7 @@ checking_word t q v (Check u left) made op fit at is =
 -- the turn after a load of 0 goes on with a path
 missed_open :
     (t : QuorumTable) (s v input limit modulus word : ℕ) (turns : List Turn)
-    → IsDrawing s v (Draw input limit modulus) turns
+    → IsInConciliator s v (Draw input limit modulus) turns
     → IsOpen t (Conciliator s) v (record { act = Load Value 0; word = word } ∷ turns)
 missed_open t s v input limit modulus word turns at =
     let next : List Turn = record { act = Load Value 0; word = word } ∷ turns in
@@ -132,28 +132,28 @@ missed_open t s v input limit modulus word turns at =
       | inr none ↦ drawing_open t s v (Draw input (limit * 2) modulus) next (draw_missed s v input limit modulus word turns at none)
     ]
 
--- what is open is a beginning
+-- what is open is a prefix
 open_turns :
-    (t : QuorumTable) (kind : Kind) (v : ℕ) (turns : List Turn) → IsOpen t kind v turns → IsPart t kind v turns
+    (t : QuorumTable) (kind : Kind) (v : ℕ) (turns : List Turn) → IsOpen t kind v turns → IsPrefix t kind v turns
 open_turns t kind v turns p = (p.0, p.2.0, p.2.1)
 
 -- the next turn of a process at a place, with what the history leaves in the word, goes on with a path
 drawing_next :
-    (t : QuorumTable) (s : ℕ) (inputs : ℕ → ℕ) (h : List Access) (p : ℕ) (place : Drawing) (op : Op) (word : ℕ)
-    → IsObjectLawful t (Conciliator s) inputs h → IsDrawing s (inputs p) place (turns_of p h) → IsDrawOp place op
-    → IsPart t (Conciliator s) (inputs p) (turn_after op word h ∷ turns_of p h)
+    (t : QuorumTable) (s : ℕ) (inputs : ℕ → ℕ) (h : List Access) (p : ℕ) (place : ConciliatorPlace) (op : Op) (word : ℕ)
+    → IsObjectLawful t (Conciliator s) inputs h → IsInConciliator s (inputs p) place (turns_of p h) → IsConciliatorOp place op
+    → IsPrefix t (Conciliator s) (inputs p) (turn_after op word h ∷ turns_of p h)
 drawing_next t s inputs h p (Draw input limit modulus) op word l at is =
-    subst (λ o. IsPart t (Conciliator s) (inputs p) (turn_after o word h ∷ turns_of p h)) (sym is) (elim (cases_eq (value_in Value h) 0) [
-      | inl e ↦ subst (λ n. IsPart t (Conciliator s) (inputs p) (record { act = Load Value n; word = word } ∷ turns_of p h)) (sym e)
+    subst (λ o. IsPrefix t (Conciliator s) (inputs p) (turn_after o word h ∷ turns_of p h)) (sym is) (elim (cases_eq (value_in Value h) 0) [
+      | inl e ↦ subst (λ n. IsPrefix t (Conciliator s) (inputs p) (record { act = Load Value n; word = word } ∷ turns_of p h)) (sym e)
           (open_turns t (Conciliator s) (inputs p) (record { act = Load Value 0; word = word } ∷ turns_of p h) (missed_open t s (inputs p) input limit modulus word (turns_of p h) at))
       | inr some ↦ ([], answer false (value_in Value h - 1), (refl, draw_ends s (inputs p) input limit modulus (value_in Value h) word (turns_of p h) at (omega arith)))
     ])
 drawing_next t s inputs h p (Put input) op word l at is =
-    subst (λ o. IsPart t (Conciliator s) (inputs p) (turn_after o word h ∷ turns_of p h)) (sym is)
+    subst (λ o. IsPrefix t (Conciliator s) (inputs p) (turn_after o word h ∷ turns_of p h)) (sym is)
     (open_turns t (Conciliator s) (inputs p) (record { act = Store Value (input + 1); word = word } ∷ turns_of p h)
     (drawing_open t s (inputs p) (Look input) (record { act = Store Value (input + 1); word = word } ∷ turns_of p h) (put_looks s (inputs p) input word (turns_of p h) at)))
 drawing_next t s inputs h p (Look input) op word l at is =
-    subst (λ o. IsPart t (Conciliator s) (inputs p) (turn_after o word h ∷ turns_of p h)) (sym is) (
+    subst (λ o. IsPrefix t (Conciliator s) (inputs p) (turn_after o word h ∷ turns_of p h)) (sym is) (
       [],
       answer false (value_in Value h - 1),
       (refl, look_ends s (inputs p) input (value_in Value h) word (turns_of p h) at (put_filled t s inputs h l p at.1.0 (turns_of p h) refl at.1.2)),
@@ -161,8 +161,8 @@ drawing_next t s inputs h p (Look input) op word l at is =
 
 -- a load finds a value that the word can hold, and the last one finds a value
 drawing_found :
-    (t : QuorumTable) (s : ℕ) (inputs : ℕ → ℕ) (h : List Access) (p : ℕ) (place : Drawing) (op : Op)
-    → IsObjectLawful t (Conciliator s) inputs h → IsDrawing s (inputs p) place (turns_of p h) → IsDrawOp place op
+    (t : QuorumTable) (s : ℕ) (inputs : ℕ → ℕ) (h : List Access) (p : ℕ) (place : ConciliatorPlace) (op : Op)
+    → IsObjectLawful t (Conciliator s) inputs h → IsInConciliator s (inputs p) place (turns_of p h) → IsConciliatorOp place op
     → CanFind t (InConciliator place) op (seen_by op h)
 drawing_found t s inputs h p (Draw input limit modulus) op l at is =
     subst (λ o. seen_by o h ≤ t.values) (sym is) (value_small t s inputs h l)
@@ -171,7 +171,7 @@ drawing_found t s inputs h p (Look input) op l at is =
     subst (λ o. (0 < seen_by o h) × (seen_by o h ≤ t.values)) (sym is) (put_filled t s inputs h l p at.1.0 (turns_of p h) refl at.1.2, value_small t s inputs h l)
 
 -- the next op is on the word of a conciliator
-drawing_word : (r s : ℕ) (place : Drawing) (op : Op) → IsDrawOp place op → HasReg r (Conciliator s) (reg_of op)
+drawing_word : (r s : ℕ) (place : ConciliatorPlace) (op : Op) → IsConciliatorOp place op → HasReg r (Conciliator s) (reg_of op)
 drawing_word r s (Draw input limit modulus) op is = subst (λ o. HasReg r (Conciliator s) (reg_of o)) (sym is) tt
 drawing_word r s (Put input) op is = subst (λ o. HasReg r (Conciliator s) (reg_of o)) (sym is) tt
 drawing_word r s (Look input) op is = subst (λ o. HasReg r (Conciliator s) (reg_of o)) (sym is) tt
@@ -181,7 +181,7 @@ drawing_word r s (Look input) op is = subst (λ o. HasReg r (Conciliator s) (reg
 pub next_part :
     (t : QuorumTable) (kind : Kind) (inputs : ℕ → ℕ) (h : List Access) (p : ℕ) (pc : Pc) (op : Op) (word : ℕ)
     → IsQuorumTable t → IsObjectLawful t kind inputs h → IsAt t kind (inputs p) pc (turns_of p h) → IsOpAt t pc op
-    → IsPart t kind (inputs p) (turn_after op word h ∷ turns_of p h)
+    → IsPrefix t kind (inputs p) (turn_after op word h ∷ turns_of p h)
 next_part t Ratifier inputs h p (InRatifier place) op word q l at is =
     part_by_turns t (inputs p) (turn_after op word h ∷ turns_of p h)
     (checking_next t q (inputs p) place (acts (turns_of p h)) op (seen_by op h) at.0 at.1 is (checking_found t inputs h l place op))
@@ -201,7 +201,7 @@ next_found t (Conciliator s) inputs h p (InConciliator place) op q l at is =
     drawing_found t s inputs h p place op l at.1 is
 next_found t (Conciliator s) inputs h p (InRatifier place) op q l at is = absurd at
 
--- what was made at a place is an open beginning
+-- what was made at a place is an open prefix
 pub at_open :
     (t : QuorumTable) (kind : Kind) (v : ℕ) (pc : Pc) (turns : List Turn) → IsQuorumTable t → IsAt t kind v pc turns
     → IsOpen t kind v turns
@@ -211,10 +211,10 @@ at_open t Ratifier v (InConciliator place) turns q at = absurd at
 at_open t (Conciliator s) v (InConciliator place) turns q at = drawing_open t s v place turns at.1
 at_open t (Conciliator s) v (InRatifier place) turns q at = absurd at
 
--- so it is a beginning
+-- so it is a prefix
 pub at_part :
     (t : QuorumTable) (kind : Kind) (v : ℕ) (pc : Pc) (turns : List Turn) → IsQuorumTable t → IsAt t kind v pc turns
-    → IsPart t kind v turns
+    → IsPrefix t kind v turns
 at_part t kind v pc turns q at = open_turns t kind v turns (at_open t kind v pc turns q at)
 
 -- and no whole path

@@ -10,4 +10,3 @@ pub mod Refusals
 pub mod Examples
 pub mod Words
 pub mod Run
-pub mod Mirrored

@@ -1,4 +1,4 @@
--- Deciding objects: whole paths of one process, their beginnings, and lawful histories of one object.
+-- Deciding objects: whole paths of one process, their prefixes, and lawful histories of one object.
 use Rattle.std.specs.Prelude.{◌≡◌, ◌≢◌, ℕ, zero, suc, ◌+◌, ◌<◌, ◌≤◌, max, count_ones, Bool, false, List, [], ◌++◌}
 use Rattle.mb_quorum.specs.Quorum.{QuorumTable, IsMember}
 use Rattle.mb_deciding.specs.declared.access.Reg.{Reg}
@@ -22,21 +22,21 @@ abbrev pub IsPath : QuorumTable → Kind → ℕ → List Turn → Out → Type 
 IsPath t (Conciliator s) input turns output = (output.decided ≡ false) × IsConciliatorPath s input turns output.value
 IsPath t Ratifier input turns output = IsRatifierPath t input (acts turns) output.decided output.value
 
--- a beginning of a path: later turns, or none, complete it
-abbrev pub IsPart : QuorumTable → Kind → ℕ → List Turn → Type 0
-IsPart t kind input turns = (later : List Turn) × (output : Out) × IsPath t kind input (later ++ turns) output
+-- a prefix of a path: later turns, or none, complete it
+abbrev pub IsPrefix : QuorumTable → Kind → ℕ → List Turn → Type 0
+IsPrefix t kind input turns = (later : List Turn) × (output : Out) × IsPath t kind input (later ++ turns) output
 
--- a beginning of a path that has not come to its end
+-- a prefix of a path that has not come to its end
 abbrev pub IsOpen : QuorumTable → Kind → ℕ → List Turn → Type 0
 IsOpen t kind input turns =
     (later : List Turn) × (later ≢ []) × ((output : Out) × IsPath t kind input (later ++ turns) output)
 
--- each load is true to memory, values and random words are words of 64 bits, and what a process did is a beginning of
+-- each load is true to memory, values and random words are words of 64 bits, and what a process did is a prefix of
 -- a path of its input
 pub record IsObjectLawful (t : QuorumTable) (kind : Kind) (inputs : ℕ → ℕ) (h : List Access) : Type 0 where
   pub memory : IsMemoryTrue h
   pub words : AreInWords h
-  pub parts : (p : ℕ) → turns_of p h ≢ [] → (inputs p < t.values) × IsPart t kind (inputs p) (turns_of p h)
+  pub parts : (p : ℕ) → turns_of p h ≢ [] → (inputs p < t.values) × IsPrefix t kind (inputs p) (turns_of p h)
 
 -- process p has the output (d, u)
 abbrev pub HasOutput : QuorumTable → Kind → (ℕ → ℕ) → List Access → ℕ → Bool → ℕ → Type 0

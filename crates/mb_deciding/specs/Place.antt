@@ -13,10 +13,10 @@ use Rattle.mb_deciding.specs.declared.object.Kind.{Kind}
 use Rattle.mb_deciding.specs.declared.object.Kind.TheVariants.{Conciliator, Ratifier}
 use Rattle.mb_deciding.specs.declared.place.Pc.{Pc}
 use Rattle.mb_deciding.specs.declared.place.Pc.TheVariants.{InRatifier, InConciliator}
-use Rattle.mb_deciding.specs.declared.checking.Checking.{Checking}
-use Rattle.mb_deciding.specs.declared.checking.Checking.TheVariants.{Begin, Announce, Propose, Check}
-use Rattle.mb_deciding.specs.declared.drawing.Drawing.{Drawing}
-use Rattle.mb_deciding.specs.declared.drawing.Drawing.TheVariants.{Draw, Put, Look}
+use Rattle.mb_deciding.specs.declared.ratifier_place.RatifierPlace.{RatifierPlace}
+use Rattle.mb_deciding.specs.declared.ratifier_place.RatifierPlace.TheVariants.{Begin, Announce, Propose, Check}
+use Rattle.mb_deciding.specs.declared.conciliator_place.ConciliatorPlace.{ConciliatorPlace}
+use Rattle.mb_deciding.specs.declared.conciliator_place.ConciliatorPlace.TheVariants.{Draw, Put, Look}
 use Rattle.mb_deciding.specs.declared.place.Next.{Next}
 use Rattle.mb_deciding.specs.declared.place.Next.TheVariants.{Go, Out}
 use Rattle.mb_deciding.specs.History.{value_in, acts}
@@ -34,71 +34,71 @@ abbrev pub IsRest : ℕ → ℕ → ℕ → Type 0
 IsRest mask bound left = (k : ℕ) → IsMember left k ↔ ((bound ≤ k) × IsMember mask k)
 
 -- the place in a ratifier fits the table
-abbrev pub IsCheckPlace : QuorumTable → Checking → Type 0
-IsCheckPlace t (Begin input) = input < t.values
-IsCheckPlace t (Announce input left) = input < t.values
-IsCheckPlace t (Propose input) = input < t.values
-IsCheckPlace t (Check preference left) = (preference < t.values) × (left ≢ 0)
+abbrev pub IsRatifierPlace : QuorumTable → RatifierPlace → Type 0
+IsRatifierPlace t (Begin input) = input < t.values
+IsRatifierPlace t (Announce input left) = input < t.values
+IsRatifierPlace t (Propose input) = input < t.values
+IsRatifierPlace t (Check preference left) = (preference < t.values) × (left ≢ 0)
 
 -- `limit` is 2 ^ k and `modulus` is 2 ^ s
 abbrev pub HasLimits : ℕ → ℕ → ℕ → ℕ → Type 0
 HasLimits s k limit modulus = (k ≤ s) × (limit ≡ 2 ^ k) × (modulus ≡ 2 ^ s)
 
 -- the place in a conciliator fits the number of values
-abbrev pub IsDrawPlace : QuorumTable → Drawing → Type 0
-IsDrawPlace t (Draw input limit modulus) = (input < t.values) × ((s k : ℕ) × (s ≤ 63) × HasLimits s k limit modulus)
-IsDrawPlace t (Put input) = input < t.values
-IsDrawPlace t (Look input) = input < t.values
+abbrev pub IsConciliatorPlace : QuorumTable → ConciliatorPlace → Type 0
+IsConciliatorPlace t (Draw input limit modulus) = (input < t.values) × ((s k : ℕ) × (s ≤ 63) × HasLimits s k limit modulus)
+IsConciliatorPlace t (Put input) = input < t.values
+IsConciliatorPlace t (Look input) = input < t.values
 
 -- the place fits the table
 abbrev pub IsPlace : QuorumTable → Pc → Type 0
-IsPlace t (InRatifier place) = IsCheckPlace t place
-IsPlace t (InConciliator place) = IsDrawPlace t place
+IsPlace t (InRatifier place) = IsRatifierPlace t place
+IsPlace t (InConciliator place) = IsConciliatorPlace t place
 
 -- a process with input v that has made these acts on a ratifier is at the place
-abbrev pub IsChecking : QuorumTable → ℕ → Checking → List Act → Type 0
-IsChecking t v (Begin input) made = (input ≡ v) × (made ≡ [])
-IsChecking t v (Announce input left) made =
+abbrev pub IsInRatifier : QuorumTable → ℕ → RatifierPlace → List Act → Type 0
+IsInRatifier t v (Begin input) made = (input ≡ v) × (made ≡ [])
+IsInRatifier t v (Announce input left) made =
     (input ≡ v)
     × ((bound : ℕ) × (bound ≤ t.registers) × IsRest (t.write v) bound left × (made ≡ stores_below bound (t.write v)))
-IsChecking t v (Propose input) made = (input ≡ v) × (made ≡ Load Proposal 0 ∷ announced t v)
-IsChecking t v (Check preference left) made =
+IsInRatifier t v (Propose input) made = (input ≡ v) × (made ≡ Load Proposal 0 ∷ announced t v)
+IsInRatifier t v (Check preference left) made =
     (bound : ℕ) × (bound ≤ t.registers) × IsRest (t.read preference) bound left × ReadsClear t v preference bound made
 
 -- a process with input v that has made these turns on a conciliator is at the place
-abbrev pub IsDrawing : ℕ → ℕ → Drawing → List Turn → Type 0
-IsDrawing s v (Draw input limit modulus) made =
+abbrev pub IsInConciliator : ℕ → ℕ → ConciliatorPlace → List Turn → Type 0
+IsInConciliator s v (Draw input limit modulus) made =
     (input ≡ v) × ((k : ℕ) × HasLimits s k limit modulus × IsMissing s k made)
-IsDrawing s v (Put input) made = (input ≡ v) × ((k : ℕ) × (k ≤ s) × IsDrawn s k made)
-IsDrawing s v (Look input) made = (input ≡ v) × ((k : ℕ) × (k ≤ s) × IsPut s v k made)
+IsInConciliator s v (Put input) made = (input ≡ v) × ((k : ℕ) × (k ≤ s) × IsDrawn s k made)
+IsInConciliator s v (Look input) made = (input ≡ v) × ((k : ℕ) × (k ≤ s) × IsPut s v k made)
 
 -- a process with input v on an object of this kind, which has made these turns, is at the place
 abbrev pub IsAt : QuorumTable → Kind → ℕ → Pc → List Turn → Type 0
-IsAt t Ratifier v (InRatifier place) turns = IsPlace t (InRatifier place) × IsChecking t v place (acts turns)
-IsAt t (Conciliator s) v (InConciliator place) turns = IsPlace t (InConciliator place) × IsDrawing s v place turns
+IsAt t Ratifier v (InRatifier place) turns = IsPlace t (InRatifier place) × IsInRatifier t v place (acts turns)
+IsAt t (Conciliator s) v (InConciliator place) turns = IsPlace t (InConciliator place) × IsInConciliator s v place turns
 IsAt t Ratifier v (InConciliator place) turns = ⊥
 IsAt t (Conciliator s) v (InRatifier place) turns = ⊥
 
 -- the access that comes next in a ratifier
-abbrev pub IsCheckOp : QuorumTable → Checking → Op → Type 0
-IsCheckOp t (Begin input) (ToStore (Quorum r) value) = (value ≡ 1) × IsLeast (t.write input) r
-IsCheckOp t (Begin input) (ToLoad Proposal) = t.write input ≡ 0
-IsCheckOp t (Announce input left) (ToStore (Quorum r) value) = (value ≡ 1) × IsLeast left r
-IsCheckOp t (Announce input left) (ToLoad Proposal) = left ≡ 0
-IsCheckOp t (Propose input) (ToStore Proposal value) = value ≡ input + 1
-IsCheckOp t (Check preference left) (ToLoad (Quorum r)) = IsLeast left r
-IsCheckOp t place op = ⊥
+abbrev pub IsRatifierOp : QuorumTable → RatifierPlace → Op → Type 0
+IsRatifierOp t (Begin input) (ToStore (Quorum r) value) = (value ≡ 1) × IsLeast (t.write input) r
+IsRatifierOp t (Begin input) (ToLoad Proposal) = t.write input ≡ 0
+IsRatifierOp t (Announce input left) (ToStore (Quorum r) value) = (value ≡ 1) × IsLeast left r
+IsRatifierOp t (Announce input left) (ToLoad Proposal) = left ≡ 0
+IsRatifierOp t (Propose input) (ToStore Proposal value) = value ≡ input + 1
+IsRatifierOp t (Check preference left) (ToLoad (Quorum r)) = IsLeast left r
+IsRatifierOp t place op = ⊥
 
 -- the access that comes next in a conciliator
-abbrev pub IsDrawOp : Drawing → Op → Type 0
-IsDrawOp (Draw input limit modulus) op = op ≡ ToLoad Value
-IsDrawOp (Put input) op = op ≡ ToStore Value (input + 1)
-IsDrawOp (Look input) op = op ≡ ToLoad Value
+abbrev pub IsConciliatorOp : ConciliatorPlace → Op → Type 0
+IsConciliatorOp (Draw input limit modulus) op = op ≡ ToLoad Value
+IsConciliatorOp (Put input) op = op ≡ ToStore Value (input + 1)
+IsConciliatorOp (Look input) op = op ≡ ToLoad Value
 
 -- the access that comes next
 abbrev pub IsOpAt : QuorumTable → Pc → Op → Type 0
-IsOpAt t (InRatifier place) op = IsCheckOp t place op
-IsOpAt t (InConciliator place) op = IsDrawOp place op
+IsOpAt t (InRatifier place) op = IsRatifierOp t place op
+IsOpAt t (InConciliator place) op = IsConciliatorOp place op
 
 -- the act, with the value that was loaded
 abbrev pub act_of : Op → ℕ → Act

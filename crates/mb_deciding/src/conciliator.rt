@@ -46,12 +46,10 @@ pub fn conciliate<A: Allocator + Copy + Drop>(
         → length (turns_of p (history_of schedule.now trace.entries.items)) ≤ spread m + 3) }
     ensures refused { IsRefused m inputs.now (map (λ turn. turn.0) schedule.now) result }
 {
-    // The laws do nothing: their contracts give the clauses on the outputs.
+    // The laws compute nothing: their contracts give the clauses on the outputs.
     deciding();
     first_mover();
-    let Ok(table) = Unary::new(m) else {
-        return Err(Fault::BadValues);
-    };
+    let table = Unary::new(m)?;
     let kind = Kind::Conciliator { s: spread(m) };
     schedule::trace(alloc, &table, kind, inputs, schedule)
 }

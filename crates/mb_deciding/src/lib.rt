@@ -31,30 +31,28 @@
 //!   [`Pc::after`] what it leads to. It holds no words, so it serves a simulation and threads alike.
 //! - [`ratify`] and [`conciliate`] run one object for a whole schedule of turns.
 //! - [`laws`] has what holds of every history of one object, whatever the order of the accesses and the random words:
-//!   validity, coherence, acceptance and more, as contracts of functions that do nothing.
+//!   validity, coherence, acceptance and more, as contracts of functions that compute nothing.
 #![tactic(auto)]
 
 mod access;
-mod checking;
 mod conciliator;
-mod drawing;
+mod conciliator_place;
 pub mod laws;
 mod mask;
 mod object;
 mod place;
 mod ratifier;
+mod ratifier_place;
 mod run;
 mod schedule;
-#[cfg(test)]
-mod tests;
 mod trace;
 mod words;
 
 pub use access::{Access, Act, Op, Reg, Turn};
-pub use checking::Checking;
 pub use conciliator::{conciliate, spread};
-pub use drawing::Drawing;
+pub use conciliator_place::ConciliatorPlace;
 pub use object::{Kind, Out};
 pub use place::{Next, Pc};
 pub use ratifier::ratify;
+pub use ratifier_place::RatifierPlace;
 pub use trace::{Entry, Fault, Trace};

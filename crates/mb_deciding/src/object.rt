@@ -23,16 +23,42 @@ pub struct Out {
     pub value: u32,
 }
 
+impl Out {
+    ghost use Rattle.std.specs.Prelude.{◌≡◌, true, false};
+    ghost use Rattle.mb_deciding.specs.Objects.{answer};
+
+    /// The output (1, value).
+    pub fn decided(value: u32) -> Out
+        ensures { result ≡ answer true value }
+    {
+        Out {
+            decided: true,
+            value,
+        }
+    }
+
+    /// The output (0, value).
+    pub fn undecided(value: u32) -> Out
+        ensures { result ≡ answer false value }
+    {
+        Out {
+            decided: false,
+            value,
+        }
+    }
+}
+
 impl Kind {
     ghost use Rattle.std.specs.Prelude.{◌<◌, [], ℕ};
     ghost use Rattle.mb_quorum.specs.Quorum.{QuorumTable};
-    ghost use Rattle.mb_deciding.specs.Place.{IsAt};
+    ghost use Rattle.mb_deciding.specs.Place.{IsAt, IsPlace};
     ghost use Rattle.mb_deciding.specs.Run.{IsFitKind};
 
-    /// The place of a process with this input before its first access.
-    pub(crate) fn place(self, input: u32) -> Pc
+    /// The place of a process with this input before its first access to an object of this kind.
+    pub fn place(self, input: u32) -> Pc
         requires { IsFitKind self }
-        ensures { (t : QuorumTable) → input < t.values → IsAt t self input result [] }
+        ensures begins { (t : QuorumTable) → input < t.values → IsAt t self input result [] }
+        ensures fits { (t : QuorumTable) → input < t.values → IsPlace t result }
     {
         match self {
             Kind::Conciliator { s } => Pc::conciliator(input, s),

@@ -1,17 +1,18 @@
 //! The place of one process in a deciding object.
 use crate::access::Op;
-use crate::checking::Checking;
-use crate::drawing::Drawing;
+use crate::conciliator_place::ConciliatorPlace;
 use crate::object::Out;
+use crate::ratifier_place::RatifierPlace;
 use mb_quorum::Quorums;
 
-/// The place of one process in a deciding object, between two of its accesses.
+/// The place of one process in a deciding object, between two of its accesses: its program counter, with the little
+/// that it has to keep.
 #[derive(Clone, Copy, PartialEq, Eq, Debug)]
 pub enum Pc {
     /// In a conciliator.
-    InConciliator(Drawing),
+    InConciliator(ConciliatorPlace),
     /// In a ratifier.
-    InRatifier(Checking),
+    InRatifier(RatifierPlace),
 }
 
 /// What an access leads to.
@@ -34,17 +35,19 @@ impl Pc {
 
     /// The place of a process with this input before its first access to a ratifier.
     pub fn ratifier(input: u32) -> Pc
-        ensures { (t : QuorumTable) → input < t.values → IsAt t Ratifier input result [] }
+        ensures begins { (t : QuorumTable) → input < t.values → IsAt t Ratifier input result [] }
+        ensures fits { (t : QuorumTable) → input < t.values → IsPlace t result }
     {
-        Pc::InRatifier(Checking::Begin { input })
+        Pc::InRatifier(RatifierPlace::Begin { input })
     }
 
     /// The place of a process with this input before its first access to a conciliator whose last turn is `s`.
     pub fn conciliator(input: u32, s: u32) -> Pc
         requires { s ≤ 63 }
-        ensures { (t : QuorumTable) → input < t.values → IsAt t (Conciliator s) input result [] }
+        ensures begins { (t : QuorumTable) → input < t.values → IsAt t (Conciliator s) input result [] }
+        ensures fits { (t : QuorumTable) → input < t.values → IsPlace t result }
     {
-        Pc::InConciliator(Drawing::Draw {
+        Pc::InConciliator(ConciliatorPlace::Draw {
             input,
             limit: 1,
             modulus: 1 << s,

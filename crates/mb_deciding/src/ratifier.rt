@@ -1,9 +1,11 @@
 //! One ratifier and a schedule.
 
-ghost use Rattle.std.specs.Prelude.{IfOk, slice_index};
+ghost use Rattle.std.specs.Prelude.{◌≤◌, ℕ, IfOk, length, slice_index};
 ghost use Rattle.mb_quorum.specs.Tables.{table_of};
 ghost use Rattle.mb_deciding.specs.declared.object.Kind.TheVariants.{Ratifier};
 ghost use Rattle.mb_deciding.specs.Deciding.{IsValid, IsCoherent, IsAccepted, IsContested};
+ghost use Rattle.mb_deciding.specs.History.{turns_of};
+ghost use Rattle.mb_deciding.specs.Objects.{most_turns};
 ghost use Rattle.mb_deciding.specs.Refusals.{IsRefused};
 ghost use Rattle.mb_deciding.specs.Trace.{IsTrace, history_of, plain};
 
@@ -38,13 +40,15 @@ pub fn ratify<A: Allocator + Copy + Drop>(
         (history_of (plain schedule.now) trace.entries.items)) }
     ensures contested { IfOk result (λ trace. IsContested (table_of name m) (slice_index inputs.now)
         (history_of (plain schedule.now) trace.entries.items)) }
+
+    // No process makes more accesses.
+    ensures bound { IfOk result (λ trace. (p : ℕ)
+        → length (turns_of p (history_of (plain schedule.now) trace.entries.items)) ≤ most_turns (table_of name m) Ratifier) }
     ensures refused { IsRefused m inputs.now schedule.now result }
 {
-    // The laws do nothing: their contracts give the clauses on the outputs.
+    // The laws compute nothing: their contracts give the clauses on the outputs.
     deciding();
     ratifying();
-    let Ok(table) = Table::new(name, m) else {
-        return Err(Fault::BadValues);
-    };
+    let table = Table::new(name, m)?;
     schedule::trace(alloc, &table, Kind::Ratifier, inputs, schedule)
 }

@@ -69,10 +69,7 @@ pub fn trace<A: Allocator + Copy + Drop, Q: Quorums, T: ScheduledTurn>(
     if let Some(i) = first_process(schedule, inputs.len() as u64) {
         return Err(Fault::NoSuchProcess(i));
     }
-    match traced(alloc, q, kind, inputs, schedule) {
-        Ok(trace) => Ok(trace),
-        Err(AllocError) => Err(Fault::NoMemory),
-    }
+    Ok(traced(alloc, q, kind, inputs, schedule)?)
 }
 
 /// The trace of a schedule that is not refused.

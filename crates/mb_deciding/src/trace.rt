@@ -1,21 +1,29 @@
 //! The turns of a schedule, as a caller sees them.
+ghost use Rattle.std.specs.Prelude.{◌≡◌};
+ghost use Rattle.mb_deciding.specs.declared.trace.Fault.TheVariants as fault;
+
 use crate::access::Act;
 use crate::object::Out;
-use std::alloc::Allocator;
+use mb_quorum::BadValues;
+use std::alloc::{AllocError, Allocator};
 use std::error::Error;
 use std::fmt;
 
 /// One turn of a schedule. Processes count from 0.
 #[derive(Clone, Copy, PartialEq, Eq, Debug)]
 pub enum Entry {
-    /// The process made an access; `out` is its output where this was its last one.
+    /// The process made an access.
     Access {
+        /// Whose turn it was.
         process: usize,
+        /// What it did.
         act: Act,
+        /// Its output, where this was its last access.
         out: Option<Out>,
     },
     /// The process had its output before and made no access.
     Done {
+        /// Whose turn it was.
         process: usize,
     },
 }
@@ -40,6 +48,22 @@ pub enum Fault {
     NoSuchProcess(usize),
     /// A growth was refused.
     NoMemory,
+}
+
+impl From<BadValues> for Fault {
+    ghost from_gives = { λ _ e. e ≡ fault.BadValues };
+
+    fn from(_e: BadValues) -> Fault {
+        Fault::BadValues
+    }
+}
+
+impl From<AllocError> for Fault {
+    ghost from_gives = { λ _ e. e ≡ fault.NoMemory };
+
+    fn from(_e: AllocError) -> Fault {
+        Fault::NoMemory
+    }
 }
 
 impl fmt::Display for Fault {

@@ -1,10 +1,11 @@
 -- Each table that has a name is a quorum table.
-use Rattle.std.specs.Prelude.{ℕ, ◌≤◌}
+use Rattle.std.proofs.Common.{◌≡◌, ℕ, ◌≤◌, refl}
+use Rattle.mb_quorum.specs.declared.table.Table.{Table}
 use Rattle.mb_quorum.specs.declared.table.TableName.{TableName}
 use Rattle.mb_quorum.specs.declared.table.TableName.TheVariants.{Unary, Bits}
 use Rattle.mb_quorum.specs.declared.values.TheConstants.{MAX_VALUES}
 use Rattle.mb_quorum.specs.Quorum.{IsQuorumTable}
-use Rattle.mb_quorum.specs.Tables.{table_of}
+use Rattle.mb_quorum.specs.Tables.{table_of, chosen}
 use Rattle.mb_quorum.specs.UnaryLaw.{unary_lawful}
 use Rattle.mb_quorum.specs.BitsLaw.{bits_lawful}
 
@@ -12,3 +13,16 @@ use Rattle.mb_quorum.specs.BitsLaw.{bits_lawful}
 pub named_lawful : (name : TableName) (m : ℕ) → m ≤ MAX_VALUES → IsQuorumTable (table_of name m)
 named_lawful Unary m most = unary_lawful m most
 named_lawful Bits m most = bits_lawful m most
+
+-- it has so many values
+named_values : (name : TableName) (m : ℕ) → (table_of name m).values ≡ m
+named_values Unary m = refl
+named_values Bits m = refl
+
+-- each table chosen by name is a quorum table
+pub chosen_lawful : (table : Table) → IsQuorumTable (chosen table)
+chosen_lawful table = named_lawful table.name table.values table.most
+
+-- it has at least one value, and no more than a table can have
+pub chosen_within : (table : Table) → (1 ≤ (chosen table).values) × ((chosen table).values ≤ MAX_VALUES)
+chosen_within table = let same = named_values table.name table.values in (rw same table.least, rw same table.most)

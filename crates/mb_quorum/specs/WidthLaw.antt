@@ -60,7 +60,7 @@ least_powers (suc i) m c h =
     ]
 
 -- a number is below its power of two
-self_below : (m : ℕ) → m < 2 ^ m
+pub self_below : (m : ℕ) → m < 2 ^ m
 self_below zero = omega arith
 self_below (suc i) =
     let double : 2 ^ suc i ≡ 2 * 2 ^ i = rw one-add at (pow-add 2 1 i) in

@@ -1,4 +1,4 @@
-//! Facts about the tables, each the contract of a function with no body, for proofs that stand on them.
+//! Facts about the tables, each the contract of a function that computes nothing, for proofs that stand on them.
 
 ghost use Rattle.std.specs.Prelude.{◌≡◌, ◌≢◌, ℕ, ◌+◌, ◌-◌, ◌*◌, ◌<◌, ◌≤◌, ◌↔◌};
 ghost use Rattle.std.specs.Prelude.{bit_and};

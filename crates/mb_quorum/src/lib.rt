@@ -11,8 +11,6 @@ mod bits;
 pub mod laws;
 mod quorums;
 mod table;
-#[cfg(test)]
-mod tests;
 mod unary;
 mod values;
 

@@ -4,8 +4,8 @@
 /// that law alone: a ratifier is right over every table that is lawful.
 ///
 /// A table of one's own is a `QuorumTable`, a lemma that this is an `IsQuorumTable`, and the four calls. Here value v
-/// has the quorums that value m - 1 - v has in the unary table of m values. It stands whole, with `mirrored` and
-/// `mirrored_lawful`, in the tests of `mb_deciding`.
+/// has the quorums that value m - 1 - v has in the unary table of m values. It stands whole in
+/// `mailbox_tests`: `src/mirrored.rt`, and `mirrored` and `mirrored_lawful` in `specs/Mirrored.antt`.
 ///
 /// ```
 /// pub struct Mirrored {
@@ -15,7 +15,7 @@
 /// impl Quorums for Mirrored {
 ///     ghost table = { λ q. mirrored (⟦<Unary as Quorums>⟧.table q.unary) };
 ///
-///     ghost lawful = { λ q. mirrored_lawful (⟦<Unary as Quorums>⟧.table q.unary) (⟦<Unary as Quorums>⟧.lawful q.unary) };
+///     ghost lawful = { λ q. mirrored_lawful (⟦<Unary as Quorums>⟧.table q.unary) (unary_lawful _ q.unary.most) };
 ///
 ///     fn registers(&self) -> u32 {
 ///         self.unary.registers()

@@ -24,12 +24,12 @@ pub struct Table {
 }
 
 impl Quorums for Table {
-    ghost use Rattle.mb_quorum.specs.Tables.{table_of};
-    ghost use Rattle.mb_quorum.specs.TablesLaw.{named_lawful};
+    ghost use Rattle.mb_quorum.specs.Tables.{chosen};
+    ghost use Rattle.mb_quorum.specs.TablesLaw.{chosen_lawful};
 
-    ghost table = { λ q. table_of q.name q.values };
+    ghost table = { chosen };
 
-    ghost lawful = { λ q. named_lawful q.name q.values q.most };
+    ghost lawful = { chosen_lawful };
 
     fn registers(&self) -> u32 {
         match self.name {

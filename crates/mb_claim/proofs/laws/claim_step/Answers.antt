@@ -1,6 +1,6 @@
 use Rattle.mb_claim.specs.Layouts.{quorums_of, kinds_of}
-use Rattle.mb_claim.proofs.Shapes.{quorums_lawful}
-use Rattle.mb_claim.proofs.Turning.{on_object, stands_next}
+use Rattle.mb_claim.proofs.LayoutObjects.{quorums_lawful}
+use Rattle.mb_claim.proofs.ClaimSteps.{on_object, stands_next}
 use Rattle.mb_claim.proofs.laws.claim_step.Goals as goal
 
 pub returns-clause-fits : goal.returns-clause-fits

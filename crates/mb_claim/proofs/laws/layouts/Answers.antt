@@ -1,4 +1,4 @@
-use Rattle.mb_claim.proofs.Shapes.{quorums_lawful, consumers_within}
+use Rattle.mb_claim.proofs.LayoutObjects.{quorums_lawful, consumers_within}
 use Rattle.mb_claim.proofs.laws.layouts.Goals as goal
 
 pub returns-clause-table : goal.returns-clause-table

@@ -3,8 +3,8 @@ use Rattle.mb_claim.proofs.laws.standing.Goals as goal
 
 pub returns-clause-part : goal.returns-clause-part
 returns-clause-part c t kinds d object pc xs quorum p =
-    stands_part t kinds d object pc xs p (c.place.ensures.part t p.kind p.input pc p.turns quorum p.within p.place)
-    (λ out path. c.place.ensures.open t p.kind p.input pc p.turns out quorum p.place path)
+    stands_part t kinds d object pc xs p (c.place.ensures.part t p.kind p.input pc p.turns quorum p.place)
+    (λ out path. c.place.ensures.unfinished t p.kind p.input pc p.turns out quorum p.place path)
 
 pub returns-clause-word : goal.returns-clause-word
 returns-clause-word c t kinds d object pc op xs quorum p is =

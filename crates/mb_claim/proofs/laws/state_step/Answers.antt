@@ -10,12 +10,12 @@ returns-clause-kept c t kinds cells words parts d k object pc op word quorum sta
       finds = λ kind inputs xs q at o. c.place_step.ensures.found t kind inputs xs q at o quorum;
       longer = λ kind inputs xs q turn. c.one_turn.ensures.longer t kind inputs xs q turn;
     })
-    kinds cells words parts d k object pc op word state known cell (
+    kinds cells words parts d k object pc op state known cell (
       p.kind,
       stands_on t kinds d object pc (parts d k) p,
       c.place.ensures.word t p.kind p.input pc p.turns op quorum p.place is,
     )
-    p is small
+    p is word small
 
 pub returns-clause-found : goal.returns-clause-found
 returns-clause-found c t kinds cells words parts d k object pc op quorum state known cell p is =

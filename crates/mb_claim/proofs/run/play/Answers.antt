@@ -4,7 +4,7 @@ use Rattle.std.proofs.lemmas.Bool.Decides.{nat_tests}
 use Rattle.std.proofs.lemmas.List.Sums.{fails_before_first}
 use Rattle.mb_claim.specs.Layouts.{quorums_of, kinds_of, pair_count}
 use Rattle.mb_claim.specs.Refusals.{stranger_in}
-use Rattle.mb_claim.proofs.Shapes.{quorums_lawful}
+use Rattle.mb_claim.proofs.LayoutObjects.{quorums_lawful}
 use Rattle.mb_claim.proofs.run.play.Goals as goal
 
 -- a number at which the test fails is below the bound

@@ -6,7 +6,7 @@ use Rattle.mb_claim.specs.Claims.{claim_stage}
 use Rattle.mb_claim.specs.Boards.{IsBoard}
 use Rattle.mb_claim.specs.Layouts.{quorums_of, kinds_of}
 use Rattle.mb_claim.specs.Plays.{IsPlayed}
-use Rattle.mb_claim.proofs.Playing.{board_played}
+use Rattle.mb_claim.proofs.RunSteps.{board_played}
 use Rattle.mb_claim.proofs.run.played.Goals as goal
 
 -- two facts of an answer give a third

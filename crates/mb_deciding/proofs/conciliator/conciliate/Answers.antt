@@ -20,20 +20,20 @@ answer_trace :
     (λ trace. IsTrace t (Conciliator (spread c.args.m)) c.args.inputs.now c.args.schedule.now
     trace.entries.items trace.outputs.items)
 answer_trace g c t values =
-    answer_over (unary_table c.in-Ok.table.values) t c.spread.result
+    answer_over (unary_table c.in_ok-table.table.values) t c.spread.result
     (spread c.args.m) c.args.inputs.now _ c.args.schedule.now
     (λ trace. trace.entries.items) (λ trace. trace.outputs.items) c.trace.result
-    (ap (λ (x : QuorumTable). x.values) c.in-Ok.ensures.table ∙ sym values) c.spread.ensures.exact
+    (ap (λ (x : QuorumTable). x.values) c.in_ok-table.ensures.table ∙ sym values) c.spread.ensures.exact
     (map-id c.args.schedule.now) c.trace.ensures.trace
 
 -- the unary table of so many values is a quorum table
 table_lawful : (g : Given.Over) (c : goal.After-trace g) → IsQuorumTable (unary_table c.args.m)
-table_lawful g c = unary_lawful c.args.m (c.in-Ok.ensures.range.0 refl).1
+table_lawful g c = unary_lawful c.args.m (c.in_ok-table.ensures.range.0 refl).1
 
 pub trace-requires : goal.trace-requires
 trace-requires g c =
     let m = c.args.m in
-    let range = c.in-Ok.ensures.range.0 refl in
+    let range = c.in_ok-table.ensures.range.0 refl in
     let small : width_of m ≤ 4 = (width_is_least m).least 4 (omega (arith, range.1)) in
     omega (arith, c.spread.ensures.exact)
 

@@ -1,4 +1,4 @@
-use Rattle.mb_deciding.proofs.Examples.{clear_lawful, clear_output, hasty_refused, invented_refused, patient_lawful, patient_output, impatient_refused}
+use Rattle.mb_deciding.proofs.Examples.{clear_lawful, clear_output, hasty_refused, invented_refused, patient_lawful, patient_output, impatient_refused, impatient_no_part}
 use Rattle.mb_deciding.proofs.laws.examples.Goals as goal
 
 pub returns-clause-clear : goal.returns-clause-clear
@@ -21,3 +21,6 @@ returns-clause-patient_output c = patient_output
 
 pub returns-clause-impatient : goal.returns-clause-impatient
 returns-clause-impatient c = impatient_refused
+
+pub returns-clause-impatient_part : goal.returns-clause-impatient_part
+returns-clause-impatient_part c = impatient_no_part

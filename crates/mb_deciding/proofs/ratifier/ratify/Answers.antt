@@ -33,11 +33,11 @@ answer_lawful : (g : Given.Over) (c : goal.After-trace g)
 answer_lawful g c =
     lawful_by _ (table_of c.args.name c.args.m) c.args.inputs.now (plain c.args.schedule.now)
     (λ trace. trace.entries.items)
-    (λ trace. trace.outputs.items) c.trace.result c.in-Ok.ensures.table c.trace.ensures.trace
+    (λ trace. trace.outputs.items) c.trace.result c.in_ok-table.ensures.table c.trace.ensures.trace
 
 -- and the table is a quorum table
 table_lawful : (g : Given.Over) (c : goal.After-trace g) → IsQuorumTable (table_of c.args.name c.args.m)
-table_lawful g c = named_lawful c.args.name c.args.m (c.in-Ok.ensures.range.0 refl).1
+table_lawful g c = named_lawful c.args.name c.args.m (c.in_ok-table.ensures.range.0 refl).1
 
 pub returns-clause-validity : goal.returns-clause-validity
 returns-clause-validity g c =
@@ -59,9 +59,14 @@ returns-clause-contested g c =
     IfOk-weaker c.trace.result _ _ (λ trace. (c.ratifying.ensures _ (table_lawful g c)).contested _ _)
     (answer_lawful g c)
 
+pub returns-clause-bound : goal.returns-clause-bound
+returns-clause-bound g c =
+    IfOk-weaker c.trace.result _ _ (λ trace h p. (c.deciding.ensures _ Ratifier (table_lawful g c)).bounded _ _ p h)
+    (answer_lawful g c)
+
 pub returns-clause-refused : goal.returns-clause-refused
 returns-clause-refused g c =
-    let range = c.in-Ok.ensures.range.0 refl in
+    let range = c.in_ok-table.ensures.range.0 refl in
     subst (λ reason. IsRefusedFor reason c.trace.result)
-    (refusal_in-of c.args.m _ c.args.inputs.now c.args.schedule.now _ range.0 range.1 c.in-Ok.ensures.values
+    (refusal_in-of c.args.m _ c.args.inputs.now c.args.schedule.now _ range.0 range.1 c.in_ok-table.ensures.values
     (map-id c.args.schedule.now)) c.trace.ensures.refused

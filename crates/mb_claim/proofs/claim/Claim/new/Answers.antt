@@ -4,8 +4,8 @@ use Rattle.mb_deciding.specs.declared.object.Kind.TheVariants.{Conciliator}
 use Rattle.mb_deciding.specs.Place.{IsAt}
 use Rattle.mb_deciding.specs.Spread.{spread}
 use Rattle.mb_claim.specs.Layouts.{quorums_of, kinds_of}
-use Rattle.mb_claim.proofs.Shapes.{quorums_lawful}
-use Rattle.mb_claim.proofs.Turning.{stands_first}
+use Rattle.mb_claim.proofs.LayoutObjects.{quorums_lawful}
+use Rattle.mb_claim.proofs.ClaimSteps.{stands_first}
 use Rattle.mb_claim.proofs.claim.Claim.new.Goals as goal
 
 pub returns-clause-path : goal.returns-clause-path
@@ -13,7 +13,7 @@ returns-clause-path c =
     let layout = c.args.layout.now in
     let t = quorums_of layout in
     let at = subst (λ s. IsAt t (Conciliator s) c.args.consumer c.conciliator.result []) c.last_turn.ensures.exact
-    (c.conciliator.ensures t c.requires) in
+    (c.conciliator.ensures.begins t c.requires) in
     let stands = stands_first t (spread t.values) layout.pairs c.args.consumer c.conciliator.result layout.some c.requires at
     in
     record {

@@ -1,7 +1,7 @@
-use Rattle.std.proofs.Common.{◌∙◌, ap, Some, arith}
+use Rattle.std.proofs.Common.{arith}
 use Rattle.mb_deciding.specs.Spread.{spread}
 use Rattle.mb_claim.specs.Layouts.{quorums_of}
-use Rattle.mb_claim.proofs.Shapes.{length-pairs_of}
+use Rattle.mb_claim.proofs.LayoutObjects.{length-pairs_of}
 use Rattle.mb_claim.proofs.claim.Claim.pass.Goals as goal
 
 pub overflow_add-self : goal.overflow_add-self
@@ -13,6 +13,3 @@ pub overflow_add-self-in-Some : goal.overflow_add-self-in-Some
 overflow_add-self-in-Some c =
     let all = length-pairs_of (spread (quorums_of c.args.layout.now).values) c.args.layout.now.pairs in
     omega (arith, c.args.layout.now.few, c.requires.object)
-
-pub conciliator-self-requires : goal.conciliator-self-requires
-conciliator-self-requires c = c.kind.ensures.small c.in-Conciliator.s (c.in-Some.is ∙ ap Some c.in-Conciliator.is)

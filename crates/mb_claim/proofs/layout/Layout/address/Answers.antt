@@ -6,7 +6,7 @@ use Rattle.mb_deciding.specs.Spread.{spread}
 use Rattle.mb_claim.specs.declared.layout.Layout.{Layout}
 use Rattle.mb_claim.specs.Layouts.{quorums_of, kinds_of, words_of, words_before, offset, IsWordOf}
 use Rattle.mb_claim.proofs.Addresses.{within, words_before-pairs_of}
-use Rattle.mb_claim.proofs.Shapes.{length-pairs_of}
+use Rattle.mb_claim.proofs.LayoutObjects.{length-pairs_of}
 use Rattle.mb_claim.proofs.layout.Layout.address.Goals as goal
 
 module _ (layout : Layout) (o : ℕ) (reg : Reg) (word : IsWordOf (quorums_of layout).registers (kinds_of layout) o reg) where

@@ -3,7 +3,7 @@ use Rattle.std.proofs.lemmas.Option.{slice_get_past}
 use Rattle.mb_deciding.specs.declared.object.Kind.TheVariants.{Conciliator}
 use Rattle.mb_deciding.specs.Spread.{spread}
 use Rattle.mb_claim.specs.Layouts.{quorums_of, kinds_of}
-use Rattle.mb_claim.proofs.Shapes.{length-pairs_of, first_of_pair, second_of_pair}
+use Rattle.mb_claim.proofs.LayoutObjects.{length-pairs_of, first_of_pair, second_of_pair}
 use Rattle.mb_claim.proofs.layout.Layout.kind.Goals as goal
 
 pub returns-then-object-self-clause-exact : goal.returns-then-object-self-clause-exact

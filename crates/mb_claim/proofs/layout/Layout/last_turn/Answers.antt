@@ -1,7 +1,7 @@
 use Rattle.std.proofs.Common.{◌≤◌, arith}
 use Rattle.mb_quorum.specs.Width.{width_of}
 use Rattle.mb_quorum.specs.WidthLaw.{width_is_least}
-use Rattle.mb_claim.proofs.Shapes.{quorums_lawful}
+use Rattle.mb_claim.proofs.LayoutObjects.{quorums_lawful}
 use Rattle.mb_claim.proofs.layout.Layout.last_turn.Goals as goal
 
 pub returns-clause-small : goal.returns-clause-small

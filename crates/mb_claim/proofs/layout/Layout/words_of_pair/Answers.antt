@@ -1,5 +1,5 @@
 use Rattle.std.proofs.Common.{arith}
-use Rattle.mb_claim.proofs.Shapes.{quorums_lawful}
+use Rattle.mb_claim.proofs.LayoutObjects.{quorums_lawful}
 use Rattle.mb_claim.proofs.layout.Layout.words_of_pair.Goals as goal
 
 pub overflow_add-result : goal.overflow_add-result

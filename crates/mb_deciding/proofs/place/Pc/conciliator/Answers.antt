@@ -1,9 +1,17 @@
-use Rattle.std.proofs.Common.{refl, arith}
+use Rattle.std.proofs.Common.{◌≡◌, ◌^◌, ℕ, refl, arith}
 use Rattle.std.proofs.lemmas.Nat.{one_shl}
 use Rattle.mb_deciding.specs.Place.{HasLimits}
 use Rattle.mb_deciding.proofs.place.Pc.conciliator.Goals as goal
 
-pub returns : goal.returns
-returns c t within =
-    let first : HasLimits c.args.s 0 1 _ = (omega arith, refl, one_shl c.args.s 64 (omega arith)) in
+-- the limits of turn 0
+first_limits : (s modulus : ℕ) → modulus ≡ 2 ^ s → HasLimits s 0 1 modulus
+first_limits s modulus is = (omega arith, refl, is)
+
+pub returns-clause-begins : goal.returns-clause-begins
+returns-clause-begins c t within =
+    let first = first_limits c.args.s _ (one_shl c.args.s 64 (omega arith)) in
     ((within, (c.args.s, 0, c.requires, first)), (refl, (0, first, tt)))
+
+pub returns-clause-fits : goal.returns-clause-fits
+returns-clause-fits c t within =
+    (within, (c.args.s, 0, c.requires, first_limits c.args.s _ (one_shl c.args.s 64 (omega arith))))

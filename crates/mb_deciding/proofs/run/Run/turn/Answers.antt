@@ -1,7 +1,7 @@
 use Rattle.std.proofs.Common.{◌≡◌, ℕ, ◌<◌, ◌∷◌, get_or, length, arith}
 use Rattle.mb_quorum.specs.Quorum.{IsQuorumTable}
 use Rattle.mb_deciding.specs.History.{ReadsLast, turns_of}
-use Rattle.mb_deciding.specs.Objects.{IsPart}
+use Rattle.mb_deciding.specs.Objects.{IsPrefix}
 use Rattle.mb_deciding.specs.Place.{CanFind, act_of, reg_of, seen_by}
 use Rattle.mb_deciding.specs.Trace.{history_of}
 use Rattle.mb_deciding.proofs.Histories.{longer}
@@ -51,7 +51,7 @@ returns-in_ok-push-in-Go g c = record {
       let found : seen ≡ seen_by op h = c.perform-seen.ensures.seen h run.memory in
       let can : CanFind t pc op seen =
       rw found (next_found t kind input h p pc op q run.lawful at c.next-op.ensures) in
-      let part : IsPart t kind (input p) (record { act = act_of op seen; word = c.args.word } ∷ turns_of p h) =
+      let part : IsPrefix t kind (input p) (record { act = act_of op seen; word = c.args.word } ∷ turns_of p h) =
       rw found (next_part t kind input h p pc op c.args.word q run.lawful at c.next-op.ensures) in
       let reads : ReadsLast (act_of op seen) h = rw found (reads_seen op h) in
       let inside : p < length inputs =

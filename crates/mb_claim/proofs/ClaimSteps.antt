@@ -1,0 +1,242 @@
+-- What a claim is after its next access.
+use Rattle.std.proofs.Common.{◌≡◌, ◌≢◌, ◌+◌, ◌<◌, ◌≤◌, ℕ, zero, suc, true, false, cond, Option, Some, None, MatchOption, List, [], ◌∷◌, ◌++◌, length, refl, sym, ◌∙◌, ap, ap₂, subst, subst₂, slice_get, append-nil, append_assoc, arith}
+use Rattle.std.proofs.lemmas.Bool.{eq-eqb, ne_eqb}
+use Rattle.std.proofs.lemmas.Option.{slice_get_within}
+use Rattle.mb_quorum.specs.Quorum.{QuorumTable}
+use Rattle.mb_deciding.specs.declared.access.Turn.{Turn}
+use Rattle.mb_deciding.specs.declared.object.Kind.{Kind}
+use Rattle.mb_deciding.specs.declared.object.Kind.TheVariants.{Conciliator, Ratifier}
+use Rattle.mb_deciding.specs.declared.place.Pc.{Pc}
+use Rattle.mb_deciding.specs.Objects.{answer, IsPath}
+use Rattle.mb_deciding.specs.declared.place.Pc.TheVariants.{InConciliator, InRatifier}
+use Rattle.mb_deciding.specs.Place.{IsAt, IsPlace}
+use Rattle.mb_claim.specs.declared.access.ClaimOp.{ClaimOp}
+use Rattle.mb_claim.specs.declared.access.ObjectTurn.{ObjectTurn}
+use Rattle.mb_claim.specs.declared.access.Stage.TheVariants.{Going, Won, Lost, Undecided}
+use Rattle.mb_claim.specs.declared.claim.Claim.{Claim}
+use Rattle.mb_claim.specs.declared.layout.Layout.{Layout}
+use Rattle.mb_claim.specs.Claims.{IsOnObject, IsNextOp}
+use Rattle.mb_claim.specs.Layouts.{pairs_of, quorums_of, kinds_of}
+use Rattle.mb_claim.specs.Paths.{tagged, stage_for, IsClaimPrefixFrom}
+use Rattle.mb_claim.specs.Standing.{PassesAll, StandsAt, IsClaimOf}
+use Rattle.mb_deciding.proofs.Histories.{not_empty}
+use Rattle.mb_claim.proofs.Lists.{get_behind, first_of, none_of, length-push}
+use Rattle.mb_claim.proofs.Standing.{longer_is, decided_here, undecided_here, stands_on}
+
+-- one more object passed
+passes_more :
+    (t : QuorumTable) (before : List Kind) (kind : Kind) (o v w u : ℕ) (front : List ObjectTurn) (turns : List Turn)
+    → PassesAll t before o v front w → IsPath t kind w turns (answer false u)
+    → PassesAll t (before ++ kind ∷ []) o v (tagged (o + length before) turns ++ front) u
+passes_more t [] kind o v w u front turns p path =
+    let n : o + 0 ≡ o = omega arith in (
+      u,
+      [],
+      record {
+        turns = turns;
+        all = ap₂ (λ m zs. tagged m turns ++ zs) n p.0 ∙ append-nil (tagged o turns);
+        path = subst (λ i. IsPath t kind i turns (answer false u)) p.1 path;
+      },
+      (refl, refl),
+    )
+passes_more t (k ∷ ks) kind o v w u front turns (i, rest, x, p) path =
+    let n : o + suc (length ks) ≡ suc o + length ks = omega arith in
+    let more = passes_more t ks kind (suc o) i w u rest turns p path in (
+      i,
+      tagged (o + suc (length ks)) turns ++ rest,
+      record {
+        turns = x.turns;
+        all = ap (λ zs. tagged (o + suc (length ks)) turns ++ zs) x.all
+            ∙ sym (append_assoc (tagged (o + suc (length ks)) turns) rest (tagged o x.turns));
+        path = x.path;
+      },
+      subst (λ m. PassesAll t (ks ++ kind ∷ []) (suc o) i (tagged m turns ++ rest) u) (sym n) more,
+    )
+
+module _ (t : QuorumTable) (kinds : List Kind) (c object : ℕ) (pc : Pc) (xs : List ObjectTurn)
+    (p : StandsAt t kinds c object pc xs) (x : Turn) where
+  -- the claim goes on with this object
+  pub same_object : (after : Pc) → IsAt t p.kind p.input after (x ∷ p.turns)
+      → StandsAt t kinds c object after (record { object = object; turn = x } ∷ xs)
+  same_object after at =
+      record {
+        before = p.before;
+        kind = p.kind;
+        after = p.after;
+        front = p.front;
+        turns = x ∷ p.turns;
+        input = p.input;
+        order = p.order;
+        number = p.number;
+        passed = p.passed;
+        all = longer_is t kinds c object pc xs p x;
+        within = p.within;
+        place = at;
+      }
+
+  -- the object that comes next
+  next_kind : slice_get kinds (suc object) ≡ slice_get p.after 0
+  next_kind = ap₂ (λ ks n. slice_get ks (suc n)) p.order p.number ∙ get_behind p.before p.kind p.after
+
+  -- the claim passes to it
+  pub next_object :
+      (u : ℕ) (kind : Kind) (after : Pc) → u < t.values → IsPath t p.kind p.input (x ∷ p.turns) (answer false u)
+      → slice_get kinds (suc object) ≡ Some kind → IsAt t kind u after []
+      → StandsAt t kinds c (suc object) after (record { object = object; turn = x } ∷ xs)
+  next_object u kind after below path is at =
+      let rest = first_of p.after kind (sym next_kind ∙ is) in
+      record {
+        before = p.before ++ p.kind ∷ [];
+        kind = kind;
+        after = rest.0;
+        front = record { object = object; turn = x } ∷ xs;
+        turns = [];
+        input = u;
+        order = p.order ∙ ap (λ ks. p.before ++ p.kind ∷ ks) rest.1
+            ∙ sym (append_assoc p.before (p.kind ∷ []) (kind ∷ rest.0));
+        number = ap suc p.number ∙ sym (length-push p.before p.kind);
+        passed = subst (λ zs. PassesAll t (p.before ++ p.kind ∷ []) 0 c zs u)
+            (sym (longer_is t kinds c object pc xs p x ∙ ap (λ m. tagged m (x ∷ p.turns) ++ p.front) (p.number ∙ (omega arith))))
+            (passes_more t p.before p.kind 0 c p.input u p.front (x ∷ p.turns) p.passed path);
+        all = refl;
+        within = below;
+        place = at;
+      }
+
+  -- it was the last one and did not decide
+  undecided_last :
+      (u : ℕ) → IsPath t p.kind p.input (x ∷ p.turns) (answer false u) → slice_get kinds (suc object) ≡ None
+      → IsClaimPrefixFrom t c kinds 0 c (record { object = object; turn = x } ∷ xs) Undecided
+  undecided_last u path last =
+      undecided_here t kinds c object pc xs p x u path (none_of p.after (sym next_kind ∙ last))
+
+-- ---- the claim
+-- a claim that stands at its place makes a part that goes on
+abbrev pub PartsOf : QuorumTable → List Kind → Type 0
+PartsOf t kinds = (c object : ℕ) (pc : Pc) (xs : List ObjectTurn) → StandsAt t kinds c object pc xs
+    → IsClaimPrefixFrom t c kinds 0 c xs Going
+
+-- a claim with an access that stands at its place
+pub claim_going :
+    (t : QuorumTable) (kinds : List Kind) (claim : Claim) (x : ObjectTurn) (xs : List ObjectTurn)
+    → PartsOf t kinds → claim.consumer < t.values → claim.stage ≡ Going → claim.begun ≡ true
+    → StandsAt t kinds claim.consumer claim.object claim.place (x ∷ xs) → IsClaimOf t kinds claim (x ∷ xs)
+claim_going t kinds claim x xs parts known going begun stands =
+    record {
+      known = known;
+      part = subst (λ s. IsClaimPrefixFrom t claim.consumer kinds 0 claim.consumer (x ∷ xs) s) (sym going)
+          (parts claim.consumer claim.object claim.place (x ∷ xs) stands);
+      begun = (λ b. not_empty x xs, λ some. begun);
+      stands = λ g. stands;
+    }
+
+-- a claim with an access that has come to its end
+pub claim_ended :
+    (t : QuorumTable) (kinds : List Kind) (claim : Claim) (x : ObjectTurn) (xs : List ObjectTurn)
+    → claim.consumer < t.values → claim.stage ≢ Going → claim.begun ≡ true
+    → IsClaimPrefixFrom t claim.consumer kinds 0 claim.consumer (x ∷ xs) claim.stage → IsClaimOf t kinds claim (x ∷ xs)
+claim_ended t kinds claim x xs known ended begun part =
+    record { known = known; part = part; begun = (λ b. not_empty x xs, λ some. begun); stands = λ g. absurd (ended g) }
+
+-- the stage of a consumer whose own number was decided
+pub stage_for-own : (c u : ℕ) → u ≡ c → stage_for c u ≡ Won
+stage_for-own c u e = ap (λ b. cond b Won (Lost u)) (eq-eqb c u (sym e))
+
+-- and of one where another was
+pub stage_for-other : (c u : ℕ) → u ≢ c → stage_for c u ≡ Lost u
+stage_for-other c u ne = ap (λ b. cond b Won (Lost u)) (ne_eqb c u (λ e. ne (sym e)))
+
+-- ---- the first object
+first_pair : (s n : ℕ) → 1 ≤ n → (rest : List Kind) × (pairs_of s n ≡ Conciliator s ∷ rest)
+first_pair s zero h = absurd (omega arith)
+first_pair s (suc n) h = (Ratifier ∷ pairs_of s n, refl)
+
+-- a claim without an access stands on it
+pub stands_first :
+    (t : QuorumTable) (s n c : ℕ) (pc : Pc) → 1 ≤ n → c < t.values → IsAt t (Conciliator s) c pc []
+    → StandsAt t (pairs_of s n) c 0 pc []
+stands_first t s n c pc some below at =
+    let rest = first_pair s n some in
+    record {
+      before = [];
+      kind = Conciliator s;
+      after = rest.0;
+      front = [];
+      turns = [];
+      input = c;
+      order = rest.1;
+      number = refl;
+      passed = (refl, refl);
+      all = refl;
+      within = below;
+      place = at;
+    }
+
+-- a claim whose object was undecided, which has passed to the next one, if there is one
+pub claim_passed :
+    (t : QuorumTable) (kinds : List Kind) (claim : Claim) (c object : ℕ) (pc : Pc) (xs : List ObjectTurn)
+    (p : StandsAt t kinds c object pc xs) (x : Turn) (u : ℕ)
+    → PartsOf t kinds → claim.consumer ≡ c → c < t.values → claim.begun ≡ true → u < t.values
+    → IsPath t p.kind p.input (x ∷ p.turns) (answer false u)
+    → (next : Option Kind) → slice_get kinds (object + 1) ≡ next
+    → MatchOption next (claim.stage ≡ Undecided)
+    (λ kind. (claim.stage ≡ Going) × (claim.object ≡ object + 1) × IsAt t kind u claim.place [])
+    → IsClaimOf t kinds claim (record { object = object; turn = x } ∷ xs)
+claim_passed t kinds claim c object pc xs p x u parts own known begun below path None is passed =
+    let n : suc object ≡ object + 1 = omega arith in
+    claim_ended t kinds claim (record { object = object; turn = x }) xs (subst (λ d. d < t.values) (sym own) known)
+    (λ g. undecided_going (sym passed ∙ g)) begun
+    (subst₂ (λ d s. IsClaimPrefixFrom t d kinds 0 d (record { object = object; turn = x } ∷ xs) s) (sym own) (sym passed)
+    (undecided_last t kinds c object pc xs p x u path (ap (slice_get kinds) n ∙ is)))
+  where
+    undecided_going : Undecided ≡ Going → ⊥
+    undecided_going e = cc
+claim_passed t kinds claim c object pc xs p x u parts own known begun below path (Some kind) is passed =
+    let n : suc object ≡ object + 1 = omega arith in
+    claim_going t kinds claim (record { object = object; turn = x }) xs parts
+    (subst (λ d. d < t.values) (sym own) known) passed.0 begun
+    (subst₂ (λ d o. StandsAt t kinds d o claim.place (record { object = object; turn = x } ∷ xs)) (sym own)
+    (n ∙ sym passed.1)
+    (next_object t kinds c object pc xs p x u kind claim.place below path (ap (slice_get kinds) n ∙ is) passed.2))
+
+-- a claim whose object decided
+pub claim_decided :
+    (t : QuorumTable) (kinds : List Kind) (claim : Claim) (object : ℕ) (pc : Pc) (xs : List ObjectTurn)
+    (p : StandsAt t kinds claim.consumer object pc xs) (x : Turn) (u : ℕ)
+    → claim.consumer < t.values → claim.begun ≡ true → claim.stage ≢ Going → claim.stage ≡ stage_for claim.consumer u
+    → IsPath t p.kind p.input (x ∷ p.turns) (answer true u)
+    → IsClaimOf t kinds claim (record { object = object; turn = x } ∷ xs)
+claim_decided t kinds claim object pc xs p x u known begun ended is path =
+    claim_ended t kinds claim (record { object = object; turn = x }) xs known ended begun
+    (subst (λ s. IsClaimPrefixFrom t claim.consumer kinds 0 claim.consumer (record { object = object; turn = x } ∷ xs) s) (sym is)
+    (decided_here t kinds claim.consumer object pc xs p x u path))
+
+-- ---- calls
+-- a process at a place is at one that fits the table
+at_place : (t : QuorumTable) (kind : Kind) (v : ℕ) (pc : Pc) (turns : List Turn) → IsAt t kind v pc turns → IsPlace t pc
+at_place t Ratifier v (InRatifier place) turns at = at.0
+at_place t (Conciliator s) v (InConciliator place) turns at = at.0
+at_place t Ratifier v (InConciliator place) turns at = absurd at
+at_place t (Conciliator s) v (InRatifier place) turns at = absurd at
+
+-- the claim of a consumer stands on one of the layout's objects
+pub on_object :
+    (layout : Layout) (claim : Claim) (xs : List ObjectTurn) → IsClaimOf (quorums_of layout) (kinds_of layout) claim xs
+    → claim.stage ≡ Going
+    → IsOnObject layout claim
+on_object layout claim xs of going =
+    let p = of.stands going in
+    record {
+      object = slice_get_within (kinds_of layout) claim.object p.kind
+          (stands_on (quorums_of layout) (kinds_of layout) claim.consumer claim.object claim.place xs p);
+      place = at_place (quorums_of layout) p.kind p.input claim.place p.turns p.place;
+    }
+
+-- and so on the one that its next access goes to
+pub stands_next :
+    (layout : Layout) (claim : Claim) (next : ClaimOp) (xs : List ObjectTurn)
+    → IsClaimOf (quorums_of layout) (kinds_of layout) claim xs → claim.stage ≡ Going
+    → IsNextOp layout claim next → StandsAt (quorums_of layout) (kinds_of layout) claim.consumer next.object claim.place xs
+stands_next layout claim next xs of going is =
+    subst (λ o. StandsAt (quorums_of layout) (kinds_of layout) claim.consumer o claim.place xs) (sym is.object)
+    (of.stands going)

@@ -1,0 +1,78 @@
+-- One more access.
+use Rattle.std.proofs.Common.{◌≡◌, ◌≢◌, ◌⊎◌, ℕ, Bool, true, false, cond, eqb, Some, None, List, [], ◌∷◌, refl, sym, ◌∙◌, ap₂, subst, subst₂, inl, inr, ⊎_elim}
+use Rattle.std.specs.List.{cons_option}
+use Rattle.std.proofs.lemmas.Bool.{eq-eqb, eqb-true, cases_eq}
+use Rattle.mb_quorum.specs.Quorum.{QuorumTable}
+use Rattle.mb_deciding.specs.declared.access.Reg.{Reg}
+use Rattle.mb_deciding.specs.declared.access.Access.{Access}
+use Rattle.mb_deciding.specs.declared.object.Kind.{Kind}
+use Rattle.mb_deciding.specs.History.{value_in, value_after}
+use Rattle.mb_claim.specs.declared.access.ObjectTurn.{ObjectTurn}
+use Rattle.mb_claim.specs.declared.access.ClaimAccess.{ClaimAccess}
+use Rattle.mb_claim.specs.History.{part, object_history}
+use Rattle.mb_claim.specs.Claiming.{IsClaimPart, IsLawful, MayFollow, Adds}
+
+-- the step is added to the part of its consumer and cell
+own_part : (a : ClaimAccess) (h : List ClaimAccess) → part a.consumer a.cell (a ∷ h) ≡ a.step ∷ part a.consumer a.cell h
+own_part a h =
+    ap₂ (λ p q. cons_option (cond p (cond q (Some a.step) None) None) (part a.consumer a.cell h))
+    (eq-eqb a.consumer a.consumer refl) (eq-eqb a.cell a.cell refl)
+
+-- an access that is not of this part adds nothing to it
+other_by :
+    (p q : Bool) (x : ObjectTurn) (xs : List ObjectTurn) → (p ≡ true → q ≡ true → ⊥)
+    → cons_option (cond p (cond q (Some x) None) None) xs ≡ xs
+other_by true true x xs ne = absurd (ne refl refl)
+other_by true false x xs ne = refl
+other_by false q x xs ne = refl
+
+-- every other part stays
+other_part :
+    (c k : ℕ) (a : ClaimAccess) (h : List ClaimAccess) → (a.consumer ≡ c → a.cell ≡ k → ⊥)
+    → part c k (a ∷ h) ≡ part c k h
+other_part c k a h ne =
+    other_by (eqb a.consumer c) (eqb a.cell k) a.step (part c k h)
+    (λ p q. ne (eqb-true a.consumer c p) (eqb-true a.cell k q))
+
+-- what is left in a word changes as the access says
+left_by :
+    (q r : Bool) (x : Access) (reg : Reg) (xs : List Access)
+    → value_in reg (cons_option (cond q (cond r (Some x) None) None) xs) ≡ cond q
+    (cond r (value_after reg x.turn.act (value_in reg xs)) (value_in reg xs)) (value_in reg xs)
+left_by true true x reg xs = refl
+left_by true false x reg xs = refl
+left_by false r x reg xs = refl
+
+module _ (t : QuorumTable) (kinds : List Kind) (cells : ℕ) (h : List ClaimAccess) (a : ClaimAccess)
+    (law : IsLawful t kinds cells h) (may : MayFollow t kinds cells h a) where
+  -- whether the access is of this part
+  mine : (c k : ℕ) → ((a.consumer ≡ c) × (a.cell ≡ k)) ⊎ (a.consumer ≡ c → a.cell ≡ k → ⊥)
+  mine c k =
+      ⊎_elim (λ p. ⊎_elim (λ q. inl (p, q)) (λ q. inr (λ x y. q y)) (cases_eq a.cell k)) (λ p. inr (λ x y. p x))
+      (cases_eq a.consumer c)
+
+  -- each part with a step keeps to its path
+  part_kept :
+      (c k : ℕ) → part c k (a ∷ h) ≢ [] → ((a.consumer ≡ c) × (a.cell ≡ k)) ⊎ (a.consumer ≡ c → a.cell ≡ k → ⊥)
+      → IsClaimPart t kinds cells c k (part c k (a ∷ h))
+  part_kept c k some (inl p) =
+      subst₂ (λ d j. IsClaimPart t kinds cells d j (part d j (a ∷ h))) p.0 p.1
+      (subst (IsClaimPart t kinds cells a.consumer a.cell) (sym (own_part a h)) (may.consumer, may.cell, may.part))
+  part_kept c k some (inr ne) =
+      let same = other_part c k a h ne in subst (IsClaimPart t kinds cells c k) (sym same) (law.parts c k (λ e. some (same ∙ e)))
+
+  -- what the access adds
+  pub adds : Adds t kinds cells h a
+  adds =
+      record {
+        lawful = record {
+          memory = (may.reads, law.memory);
+          words = (may.words, law.words);
+          parts =
+              λ c k some. part_kept c k some (mine c k);
+        };
+        own = own_part a h;
+        others = λ c k ne. other_part c k a h ne;
+        words = λ k o reg. left_by (eqb a.cell k) (eqb a.step.object o)
+            (record { process = a.consumer; turn = a.step.turn }) reg (object_history k o h);
+      }

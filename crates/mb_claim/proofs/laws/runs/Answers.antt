@@ -1,0 +1,29 @@
+use Rattle.std.proofs.Common.{arith}
+use Rattle.mb_quorum.specs.Unary.{unary_table}
+use Rattle.mb_quorum.specs.UnaryLaw.{unary_lawful}
+use Rattle.mb_claim.proofs.PlayedExamples.{won_played, silent_refused, another_refused, early_refused, late_refused, boast_refused, few_refused, impatient_refused}
+use Rattle.mb_claim.proofs.laws.runs.Goals as goal
+
+pub returns-clause-won : goal.returns-clause-won
+returns-clause-won c = won_played (λ kind. c.deciding.ensures (unary_table 2) kind (unary_lawful 2 (omega arith)))
+
+pub returns-clause-silent : goal.returns-clause-silent
+returns-clause-silent c = silent_refused
+
+pub returns-clause-another : goal.returns-clause-another
+returns-clause-another c = another_refused
+
+pub returns-clause-early : goal.returns-clause-early
+returns-clause-early c = early_refused (λ kind. c.deciding.ensures (unary_table 2) kind (unary_lawful 2 (omega arith)))
+
+pub returns-clause-late : goal.returns-clause-late
+returns-clause-late c = late_refused (λ kind. c.deciding.ensures (unary_table 2) kind (unary_lawful 2 (omega arith)))
+
+pub returns-clause-boast : goal.returns-clause-boast
+returns-clause-boast c = boast_refused (λ kind. c.deciding.ensures (unary_table 2) kind (unary_lawful 2 (omega arith)))
+
+pub returns-clause-few : goal.returns-clause-few
+returns-clause-few c = few_refused
+
+pub returns-clause-impatient : goal.returns-clause-impatient
+returns-clause-impatient c = impatient_refused c.examples.ensures.impatient_part

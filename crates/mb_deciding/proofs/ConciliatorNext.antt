@@ -1,0 +1,104 @@
+-- The next act of a conciliator's path: what was made names its word, and what it stores.
+use Rattle.std.proofs.Common.{◌≡◌, ℕ, zero, suc, ◌+◌, ◌⊎◌, List, [], ◌∷◌, ◌++◌, inl, inr, sym, refl, ◌∙◌, subst}
+use Rattle.mb_deciding.specs.declared.access.Reg.TheVariants.{Value, Proposal, Quorum}
+use Rattle.mb_deciding.specs.declared.access.Act.{Act}
+use Rattle.mb_deciding.specs.declared.access.Act.TheVariants.{Load, Store}
+use Rattle.mb_deciding.specs.declared.access.Turn.{Turn}
+use Rattle.mb_deciding.specs.Conciliator.{StoresOn, IsMissing, IsDrawn, IsPut, IsConciliatorPath}
+use Rattle.mb_deciding.proofs.ConciliatorPaths.{missing_before}
+use Rattle.mb_deciding.proofs.SameOp.{IsSameOp}
+
+-- all that a process with input v made before an act of its path
+abbrev pub Follows : ℕ → ℕ → Act → List Turn → Type 0
+Follows s v (Load Value x) made = (k : ℕ) × (IsMissing s k made ⊎ IsPut s v k made)
+Follows s v (Store Value w) made = (w ≡ v + 1) × ((k : ℕ) × IsDrawn s k made)
+Follows s v (Load Proposal x) made = ⊥
+Follows s v (Load (Quorum r) x) made = ⊥
+Follows s v (Store Proposal w) made = ⊥
+Follows s v (Store (Quorum r) w) made = ⊥
+
+-- so it is with each of the turns
+abbrev AllFollow : ℕ → ℕ → List Turn → Type 0
+AllFollow s v [] = Unit {0}
+AllFollow s v (x ∷ made) = Follows s v x.act made × AllFollow s v made
+
+-- the turns whose words did not store
+missing_follow : (s v k : ℕ) (turns : List Turn) → IsMissing s k turns → AllFollow s v turns
+missing_follow s v zero [] h = tt
+missing_follow s v zero (x ∷ older) h = absurd h
+missing_follow s v (suc k) [] h = absurd h
+missing_follow s v (suc k) (x ∷ older) h =
+    (subst (λ act. Follows s v act older) (sym h.0) (k, inl h.2), missing_follow s v k older h.2)
+
+-- and the turn whose word stores
+drawn_follow : (s v k : ℕ) (turns : List Turn) → IsDrawn s k turns → AllFollow s v turns
+drawn_follow s v k [] h = absurd h
+drawn_follow s v k (x ∷ older) h =
+    (subst (λ act. Follows s v act older) (sym h.0) (k, inl h.2), missing_follow s v k older h.2)
+
+-- and the store
+put_follow : (s v k : ℕ) (turns : List Turn) → IsPut s v k turns → AllFollow s v turns
+put_follow s v k [] h = absurd h
+put_follow s v k (x ∷ older) h =
+    (subst (λ act. Follows s v act older) (sym h.0) (refl, (k, h.1)), drawn_follow s v k older h.1)
+
+-- any whole path
+path_follow : (s v : ℕ) (turns : List Turn) (u : ℕ) → IsConciliatorPath s v turns u → AllFollow s v turns
+path_follow s v [] u h = absurd h
+path_follow s v (x ∷ older) u h =
+    elim h.1.2 [
+      | inl m ↦ (subst (λ act. Follows s v act older) (sym h.0) (h.1.0, inl m), missing_follow s v h.1.0 older m)
+      | inr p ↦ (subst (λ act. Follows s v act older) (sym h.0) (h.1.0, inr p), put_follow s v h.1.0 older p)
+    ]
+
+-- an earlier part of a list
+suffix_follow : (s v : ℕ) (later turns : List Turn) → AllFollow s v (later ++ turns) → AllFollow s v turns
+suffix_follow s v [] turns h = h
+suffix_follow s v (x ∷ later) turns h = suffix_follow s v later turns h.1
+
+-- a turn of a path
+pub turn_follows :
+    (s v : ℕ) (later turns : List Turn) (x : Turn) (u : ℕ) → IsConciliatorPath s v (later ++ x ∷ turns) u
+    → Follows s v x.act turns
+turn_follows s v later turns x u h = (suffix_follow s v later (x ∷ turns) (path_follow s v (later ++ x ∷ turns) u h)).0
+
+-- ---- one op
+-- the newest word stores, or it does not
+missing_undrawn : (s j k : ℕ) (turns : List Turn) → IsMissing s j turns → IsDrawn s k turns → ⊥
+missing_undrawn s zero k [] h d = d
+missing_undrawn s zero k (x ∷ older) h d = h
+missing_undrawn s (suc j) k [] h d = h
+missing_undrawn s (suc j) k (x ∷ older) h d =
+    let same : k ≡ j = sym (missing_before s 0 k older d.2).1 ∙ (missing_before s 0 j older h.2).1 in
+    h.1 (subst (λ n. StoresOn s n x.word) same d.1)
+
+-- the newest act is a store, or it is a load
+put_undrawn : (s v j k : ℕ) (turns : List Turn) → IsPut s v j turns → IsDrawn s k turns → ⊥
+put_undrawn s v j k [] h d = d
+put_undrawn s v j k (x ∷ older) h d = let other : Store Value (v + 1) ≡ Load Value 0 = sym h.0 ∙ d.0 in cc
+
+-- where a load comes next, no store does
+load_or_store :
+    (s v k : ℕ) (turns : List Turn) → ((j : ℕ) × (IsMissing s j turns ⊎ IsPut s v j turns)) → IsDrawn s k turns → ⊥
+load_or_store s v k turns (j, inl h) d = missing_undrawn s j k turns h d
+load_or_store s v k turns (j, inr h) d = put_undrawn s v j k turns h d
+
+-- after the same turns there is one op
+pub one_op :
+    (s v : ℕ) (turns : List Turn) (a b : Act) → Follows s v a turns → Follows s v b turns → IsSameOp a b
+one_op s v turns (Load Value x) (Load Value y) h k = refl
+one_op s v turns (Load Value x) (Store Value y) h k = absurd (load_or_store s v k.1.0 turns h k.1.1)
+one_op s v turns (Store Value w) (Load Value y) h k = absurd (load_or_store s v h.1.0 turns k h.1.1)
+one_op s v turns (Store Value w) (Store Value y) h k = (refl, h.0 ∙ sym k.0)
+one_op s v turns (Load Value x) (Load Proposal y) h k = absurd k
+one_op s v turns (Load Value x) (Load (Quorum r) y) h k = absurd k
+one_op s v turns (Load Value x) (Store Proposal y) h k = absurd k
+one_op s v turns (Load Value x) (Store (Quorum r) y) h k = absurd k
+one_op s v turns (Store Value w) (Load Proposal y) h k = absurd k
+one_op s v turns (Store Value w) (Load (Quorum r) y) h k = absurd k
+one_op s v turns (Store Value w) (Store Proposal y) h k = absurd k
+one_op s v turns (Store Value w) (Store (Quorum r) y) h k = absurd k
+one_op s v turns (Load Proposal x) b h k = absurd h
+one_op s v turns (Load (Quorum r) x) b h k = absurd h
+one_op s v turns (Store Proposal w) b h k = absurd h
+one_op s v turns (Store (Quorum r) w) b h k = absurd h

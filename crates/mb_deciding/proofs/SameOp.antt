@@ -1,0 +1,20 @@
+-- Acts of one op: what a process does before memory answers.
+use Rattle.std.proofs.Common.{◌≡◌, List, sym, ap, ap₂, ◌∙◌}
+use Rattle.mb_deciding.specs.declared.access.Act.{Act}
+use Rattle.mb_deciding.specs.declared.access.Act.TheVariants.{Load, Store}
+use Rattle.mb_deciding.specs.declared.access.Access.{Access}
+use Rattle.mb_deciding.specs.History.{value_in, ReadsLast}
+
+-- both load one word, or both store one value in one word
+abbrev pub IsSameOp : Act → Act → Type 0
+IsSameOp (Load reg x) (Load other y) = reg ≡ other
+IsSameOp (Load reg x) (Store other y) = ⊥
+IsSameOp (Store reg x) (Load other y) = ⊥
+IsSameOp (Store reg x) (Store other y) = (reg ≡ other) × (x ≡ y)
+
+-- after one history they are one act
+pub same_act : (a b : Act) (h : List Access) → IsSameOp a b → ReadsLast a h → ReadsLast b h → a ≡ b
+same_act (Load reg x) (Load other y) h e f g = ap₂ Load e (f ∙ (ap (λ r. value_in r h) e ∙ sym g))
+same_act (Load reg x) (Store other y) h e f g = absurd e
+same_act (Store reg x) (Load other y) h e f g = absurd e
+same_act (Store reg x) (Store other y) h e f g = ap₂ Store e.0 e.1
