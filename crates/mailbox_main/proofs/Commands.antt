@@ -2,7 +2,7 @@
 use Rattle.std.proofs.Common.{◌≡◌, List, [], ◌∷◌, true, Some, option_map, refl, sym, ap, ap₂, ◌∙◌, arith, Result, Ok, Err}
 use Rattle.std.proofs.lemmas.Grind.{common_steps}
 use Rattle.std.specs.Prelude.{IfErr, IsErrAnd}
-use Rattle.clap.specs.Words.{App, Text, HasMatchesOf, is_simple, kind_of, subcommand_name_of, subcommand_of, subcommand_rows_of, takes}
+use Rattle.clap.specs.Words.{App, Text, HasMatchesOf, is_simple, is_simple_and_free, kind_of, subcommand_name_of, subcommand_of, subcommand_rows_of, takes}
 use Rattle.clap.specs.declared.parser.matches.ArgMatches.{ArgMatches}
 use Rattle.clap.specs.declared.error.Error.{Error}
 use Rattle.clap.specs.declared.error.ErrorKind.TheVariants.{OutOfMemory}
@@ -11,7 +11,12 @@ use Rattle.mailbox_main.specs.declared.command.Choice.{Choice}
 use Rattle.mailbox_main.specs.declared.command.Choice.TheVariants.{Ratify}
 use Rattle.mailbox_main.specs.CommandLine.{program, command_in, choice_name}
 
--- clap takes it
+-- clap's rules say which words the program takes
+pub program_is_simple : is_simple_and_free program ≡ true
+unfolding clap_on_literals
+program_is_simple = refl
+
+-- clap takes a command alone
 pub alone_taken : (name : Text) (choice : Choice) → takes program (name ∷ choice_name choice ∷ []) ≡ true
 unfolding clap_on_literals
 alone_taken name Ratify = refl

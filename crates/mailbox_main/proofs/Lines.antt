@@ -1,6 +1,7 @@
 -- The first line of a text.
-use Rattle.std.proofs.Common.{◌≡◌, ℕ, suc, ◌+◌, ◌<◌, Bool, true, false, cond, nat_eq, List, [], ◌∷◌, length, take, drop, refl, ap, arith}
-use Rattle.std.specs.Prelude.{not}
+use Rattle.std.proofs.Common.{◌≡◌, ℕ, suc, ◌+◌, ◌<◌, Bool, true, false, cond, nat_eq, List, [], ◌∷◌, length, take, drop, Option, Some, None, Bor, refl, ap, arith}
+use Rattle.std.specs.Prelude.{not, MatchOption}
+use Rattle.std.specs.Option.{unwrap_or}
 use Rattle.std.specs.List.{position_or_len, before_first, after_first, onto_first}
 use Rattle.mailbox_main.specs.Text.{lines_of}
 
@@ -40,3 +41,12 @@ last_step b (x ∷ bs) false none rest = ap (onto_first b) (rest (omega arith) (
 pub lines_last : (bs : List ℕ) → position_or_len ends bs ≡ length bs → 0 < length bs → lines_of bs ≡ bs ∷ []
 lines_last [] none some = absurd (omega arith)
 lines_last (b ∷ bs) none some = last_step b bs (nat_eq b 10) none (lines_last bs)
+
+-- the line before the LF and the text after it, or else the text and nothing
+pub line_taken : (t : List ℕ) (cut : Option (Bor (List ℕ) × Bor (List ℕ))) (all : Bor (List ℕ) × Bor (List ℕ))
+    → MatchOption cut (position_or_len ends t ≡ length t)
+    (λ x. (x.0.now ≡ before_first ends t) × (x.1.now ≡ after_first ends t) × (position_or_len ends t < length t))
+    → 0 < length t → all.0.now ≡ t → all.1.now ≡ []
+    → lines_of t ≡ (unwrap_or cut all).0.now ∷ lines_of (unwrap_or cut all).1.now
+line_taken t (Some x) all found some same none = rw (found.0, found.1) (lines_cut t found.2)
+line_taken t None all absent some same none = rw (same, none) (lines_last t absent some)

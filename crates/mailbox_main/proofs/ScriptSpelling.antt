@@ -15,6 +15,7 @@ use Rattle.mb_quorum.specs.declared.table.TableName.TheVariants.{Unary, Bits}
 use Rattle.mailbox_main.specs.declared.fault.RatifyFault.{RatifyFault}
 use Rattle.mailbox_main.specs.declared.fault.RatifyFault.TheVariants.{TooLong, NotAscii, BadLine, BadNumber}
 use Rattle.mailbox_main.specs.declared.script.RatifyScript as code
+use Rattle.mailbox_main.specs.declared.transfer.TheConstants.{MAX_SCRIPT_LEN}
 use Rattle.mailbox_main.specs.Text.{lines_of, words_of, has_empty, number_of, numbers_of}
 use Rattle.mailbox_main.specs.Steps.{◌>>=◌, Gives}
 use Rattle.mailbox_main.specs.RatifyScript.{Script, view, line_words, table_named, head_of, list_of, three_lines, script_of}
@@ -220,12 +221,12 @@ script_takes : (bytes : List ℕ) (s : Script) → script_of bytes ≡ Ok s → 
 unfolding script_of
 script_takes bytes s e =
     let read = three_lines (lines_of bytes) in
-    let a = avoided (nat_lt 1048576 (length bytes)) TooLong (cond (list_all is_ascii bytes) read (Err NotAscii)) s e in
+    let a = avoided (nat_lt MAX_SCRIPT_LEN (length bytes)) TooLong (cond (list_all is_ascii bytes) read (Err NotAscii)) s e in
     let b = passed (list_all is_ascii bytes) NotAscii read s a.1 in
     lines_take (lines_of bytes) s b.1
 
 -- what is spelled is read so
-pub script_again : (bytes : List ℕ) (s : Script) → HasSpelling s → length bytes ≤ 1048576
+pub script_again : (bytes : List ℕ) (s : Script) → HasSpelling s → length bytes ≤ MAX_SCRIPT_LEN
     → lines_of bytes ≡ script_lines s → script_of bytes ≡ Ok s
 unfolding script_of
 script_again bytes s h short e =
@@ -238,7 +239,7 @@ script_again bytes s h short e =
       ),
     ) in
     let ascii = ascii_lines bytes (subst (AllByRecursion (λ x. list_all is_ascii x ≡ true)) (sym e) lines) in
-    rw (le-ltb 1048576 (length bytes) short, ascii, e) (lines_again s h)
+    rw (le-ltb MAX_SCRIPT_LEN (length bytes) short, ascii, e) (lines_again s h)
 
 -- the same of a call's result
 pub is_found : {A : Type 0} (bytes : List ℕ) (r : Result (code.RatifyScript A) RatifyFault)

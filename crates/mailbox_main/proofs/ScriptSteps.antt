@@ -4,6 +4,7 @@ use Rattle.std.specs.Prelude.{slice_index}
 use Rattle.std.specs.List.{list_any, list_all}
 use Rattle.std.specs.Char.{is_ascii}
 use Rattle.std.proofs.lemmas.Bool.{lt-ltb, le-ltb}
+use Rattle.mailbox_main.specs.declared.transfer.TheConstants.{MAX_SCRIPT_LEN}
 use Rattle.mailbox_main.specs.Text.{lines_of}
 use Rattle.mailbox_main.specs.RatifyScript.{three_lines, script_of}
 
@@ -19,7 +20,7 @@ all_ascii [] below = refl
 all_ascii (b ∷ bs) below = rw (lt-ltb b 128 (below 0)) (all_ascii bs (λ i. below (suc i)))
 
 -- a text of ASCII that is short enough is read by its lines
-pub script_is : (bs t : List ℕ) → t ≡ bs → length bs ≤ 1048576 → list_all is_ascii bs ≡ true
+pub script_is : (bs t : List ℕ) → t ≡ bs → length bs ≤ MAX_SCRIPT_LEN → list_all is_ascii bs ≡ true
     → three_lines (lines_of t) ≡ script_of bs
 unfolding script_of
-script_is bs t same short ascii = rw (le-ltb 1048576 (length bs) short, ascii, same) refl
+script_is bs t same short ascii = rw (le-ltb MAX_SCRIPT_LEN (length bs) short, ascii, same) refl

@@ -9,6 +9,7 @@ use Rattle.mb_quorum.specs.declared.table.TableName.TheVariants.{Unary, Bits}
 use Rattle.mailbox_main.specs.declared.fault.RatifyFault.{RatifyFault}
 use Rattle.mailbox_main.specs.declared.fault.RatifyFault.TheVariants.{TooLong, NotAscii, BadLine, BadNumber}
 use Rattle.mailbox_main.specs.declared.script.RatifyScript as code
+use Rattle.mailbox_main.specs.declared.transfer.TheConstants.{MAX_SCRIPT_LEN}
 use Rattle.mailbox_main.specs.Text.{lines_of, words_of, has_empty, number_of, numbers_of}
 use Rattle.mailbox_main.specs.Steps.{◌>>=◌}
 
@@ -64,6 +65,6 @@ three_lines lines = do
 -- what the bytes say: a script, or the first fault
 unfoldable pub script_of : List ℕ → Result Script RatifyFault
 script_of bytes =
-    if nat_lt 1048576 (length bytes) then Err TooLong
+    if nat_lt MAX_SCRIPT_LEN (length bytes) then Err TooLong
     else if list_all is_ascii bytes then three_lines (lines_of bytes)
     else Err NotAscii

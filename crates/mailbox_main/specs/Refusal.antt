@@ -1,8 +1,10 @@
--- What `ratify` refuses, as a fault of the program.
+-- What `ratify` refuses, and where reading stops, as a fault of the program.
 use Rattle.mb_deciding.specs.declared.trace.Fault.{Fault}
 use Rattle.mb_deciding.specs.declared.trace.Fault.TheVariants as ratify
 use Rattle.mailbox_main.specs.declared.fault.RatifyFault.{RatifyFault}
-use Rattle.mailbox_main.specs.declared.fault.RatifyFault.TheVariants.{BadValues, BadInput, NoSuchProcess, NoMemory}
+use Rattle.mailbox_main.specs.declared.fault.RatifyFault.TheVariants.{TooLong, BadValues, BadInput, NoSuchProcess, NoMemory, ReadFault}
+use Rattle.mailbox_main.specs.declared.transfer.ReadEnd.{ReadEnd}
+use Rattle.mailbox_main.specs.declared.transfer.ReadEnd.TheVariants as end
 
 -- each refusal keeps its name
 abbrev pub fault_from : Fault → RatifyFault
@@ -10,3 +12,9 @@ fault_from ratify.BadValues = BadValues
 fault_from (ratify.BadInput place) = BadInput place
 fault_from (ratify.NoSuchProcess place) = NoSuchProcess place
 fault_from ratify.NoMemory = NoMemory
+
+-- each end of reading keeps its name
+abbrev pub fault_at : ReadEnd → RatifyFault
+fault_at end.TooLong = TooLong
+fault_at end.NoMemory = NoMemory
+fault_at end.ReadFault = ReadFault

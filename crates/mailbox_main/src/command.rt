@@ -1,6 +1,6 @@
 //! The command line.
-ghost use Rattle.std.specs.Prelude.{◌≡◌, [], ◌∷◌, List, ℕ, Some, IfOk, IfErr, IfSome, map, option_map};
-ghost use Rattle.clap.specs.Words.{app_of, kind_of};
+ghost use Rattle.std.specs.Prelude.{◌≡◌, true, [], ◌∷◌, List, ℕ, Some, IfOk, IfErr, IfSome, OnOk, map, option_map};
+ghost use Rattle.clap.specs.Words.{app_of, fault_of, kind_of, takes};
 ghost use Rattle.mailbox_main.specs.CommandLine.{program, command_in, choice_name};
 
 use clap::error::ErrorKind;
@@ -15,6 +15,7 @@ pub enum Choice {
     Ratify,
 }
 
+/// The program in clap's words, of which one command has to be named.
 fn program<'a>(alloc: Global) -> Result<Command<'a>, AllocError>
     ensures { IfOk result (λ c. app_of c ≡ program) }
 {
@@ -22,7 +23,7 @@ fn program<'a>(alloc: Global) -> Result<Command<'a>, AllocError>
         "Runs one ratifier by a script from standard input, and prints each access and output",
     );
     Command::new(alloc, "mailbox_main")
-        .about("A mailbox claimed through ratifiers and conciliators")
+        .about("Runs scripts of single atomic steps")
         .subcommand_required(true)
         .subcommand(ratify)
 }
@@ -42,10 +43,14 @@ fn choice_named(name: Option<&str>) -> Option<Choice>
 ///
 /// Which lines are refused, and the text that says so, is clap's. A call for help is such a refusal.
 pub fn command_of<'a, S: AsStr>(alloc: Global, words: &'a [S]) -> Result<Choice, Error>
-    // What is chosen is the command that the words name.
+    // What is chosen is the command that the words name, and clap refuses none of them.
     ensures choice { IfOk result (λ choice. command_in (map S.text words.entry.now) ≡ Some (choice_name choice)) }
+    ensures taken { OnOk result (fault_of program (map S.text words.entry.now) ≡ []) }
 
-    // A command alone is refused only for want of memory.
+    // Words that clap takes and that name a command are refused only for want of memory, and so is a command alone.
+    ensures refused { (choice : Choice) → takes program (map S.text words.entry.now) ≡ true
+        → command_in (map S.text words.entry.now) ≡ Some (choice_name choice)
+        → IfErr result (λ e. kind_of e ≡ ErrorKind.OutOfMemory) }
     ensures alone { (name : List ℕ) (choice : Choice) → map S.text words.entry.now ≡ name ∷ choice_name choice ∷ []
         → IfErr result (λ e. kind_of e ≡ ErrorKind.OutOfMemory) }
 {

@@ -45,7 +45,9 @@ pub trait Sink {
 /// A reader or writer of std, beside the number of its failures.
 #[derive(Drop)]
 pub struct Counting<D: Drop> {
+    /// The reader or writer.
     pub device: D,
+    /// How many of its reads or writes failed, modulo 2^64.
     pub failures: u64,
 }
 

@@ -1,8 +1,9 @@
 //! What can go wrong.
 ghost use Rattle.std.specs.Prelude.{◌≡◌};
-ghost use Rattle.mailbox_main.specs.declared.fault.RatifyFault.TheVariants.{NoMemory};
-ghost use Rattle.mailbox_main.specs.Refusal.{fault_from};
+ghost use Rattle.mailbox_main.specs.declared.fault.RatifyFault.TheVariants.{NoMemory, WriteFault};
+ghost use Rattle.mailbox_main.specs.Refusal.{fault_from, fault_at};
 
+use crate::transfer::{ReadEnd, WriteFailed};
 use std::alloc::{AllocError, AllocFailed};
 
 /// Why `ratify_text` stopped.
@@ -59,11 +60,32 @@ impl From<mb_deciding::Fault> for RatifyFault {
     }
 }
 
+impl From<ReadEnd> for RatifyFault {
+    ghost from_gives = { λ end e. e ≡ fault_at end };
+
+    fn from(end: ReadEnd) -> RatifyFault {
+        match end {
+            ReadEnd::TooLong => RatifyFault::TooLong,
+            ReadEnd::NoMemory => RatifyFault::NoMemory,
+            ReadEnd::ReadFault => RatifyFault::ReadFault,
+        }
+    }
+}
+
+impl From<WriteFailed> for RatifyFault {
+    ghost from_gives = { λ _ e. e ≡ WriteFault };
+
+    fn from(_e: WriteFailed) -> RatifyFault {
+        RatifyFault::WriteFault
+    }
+}
+
 /// Want of memory: a growth was refused.
 pub type NoMemory = AllocError;
 
 /// Which command failed, and why.
 #[derive(Clone, Copy, Debug, PartialEq, Eq, Hash)]
 pub enum Failed {
+    /// `ratify`, by this fault.
     Ratify(RatifyFault),
 }

@@ -7,6 +7,15 @@ use crate::fault::{Failed, NoMemory, RatifyFault};
 use clap::error::ErrorKind;
 use std::alloc::Allocator;
 
+/// The status where all went well, and after help that was asked for.
+pub const DONE: u8 = 0;
+
+/// The status after a fault of the script, or a command line that is refused.
+pub const REFUSED: u8 = 2;
+
+/// The status after want of memory, or a failed read or write.
+pub const FAILED: u8 = 3;
+
 /// The line of a fault, with its LF: `fault`, the fault's number and name, and the number that it is about, if any.
 pub fn fault_text<A: Allocator>(alloc: A, failed: &Failed) -> Result<String<A>, NoMemory>
     ensures { IfOk result (λ text. string_bytes text ≡ fault_line failed.now) }
@@ -28,25 +37,25 @@ pub fn fault_text<A: Allocator>(alloc: A, failed: &Failed) -> Result<String<A>, 
     Ok(text)
 }
 
-/// The exit status of a fault: 3 for want of memory and for a failed read or write, else 2.
+/// The exit status of a fault: `FAILED` for want of memory and for a failed read or write, else `REFUSED`.
 pub fn status_of(failed: &Failed) -> u8
     ensures { result ≡ fault_status failed.now }
 {
     let Failed::Ratify(fault) = failed;
     match fault {
-        RatifyFault::NoMemory | RatifyFault::ReadFault | RatifyFault::WriteFault => 3,
-        _ => 2,
+        RatifyFault::NoMemory | RatifyFault::ReadFault | RatifyFault::WriteFault => FAILED,
+        _ => REFUSED,
     }
 }
 
-/// The exit status where clap did not read the command line: 0 for help that was asked for, 3 for want of memory,
-/// else 2.
+/// The exit status where clap did not read the command line: `DONE` for help that was asked for, `FAILED` for want of
+/// memory, else `REFUSED`.
 pub fn status_of_refusal(error: &clap::Error) -> u8
     ensures { result ≡ refusal_status (kind_of error.now) }
 {
     match error.kind() {
-        ErrorKind::DisplayHelp | ErrorKind::DisplayVersion => 0,
-        ErrorKind::OutOfMemory => 3,
-        _ => 2,
+        ErrorKind::DisplayHelp | ErrorKind::DisplayVersion => DONE,
+        ErrorKind::OutOfMemory => FAILED,
+        _ => REFUSED,
     }
 }

@@ -9,7 +9,7 @@ use crate::device::{Sink, Source};
 use crate::fault::RatifyFault;
 use crate::reading::read_script;
 use crate::trace_text::trace_text;
-use crate::transfer::{MAX_SCRIPT_LEN, ReadEnd, read_all, write_all};
+use crate::transfer::{MAX_SCRIPT_LEN, read_all, write_all};
 use std::alloc::Allocator;
 
 /// The text that answers a script.
@@ -51,23 +51,17 @@ pub fn ratify_text<A: Allocator + Copy, R: Source, W: Sink>(
     ensures write_failed { result ≡ Err WriteFault → W.failures writer.new ≢ W.failures writer.old }
     ensures write_worked { result ≢ Err WriteFault → W.failures writer.new ≡ W.failures writer.old }
 
-    // After a failed write a beginning of the text was written, after any other fault nothing.
+    // After a failed write a prefix of the text was written, after any other fault nothing.
     ensures front { result ≡ Err WriteFault → (bytes text : List ℕ) × Had (R.left reader.old) bytes × IsAnswer bytes text
         × AppendsFront (W.held writer.old) (W.held writer.new) text }
     ensures untouched { IfErr result (λ e. e ≢ WriteFault → writer.new ≡ writer.old) }
 
     // No more is read than tells that a script is too long.
     ensures bound { ConsumesUpTo (MAX_SCRIPT_LEN + 1) (R.left reader.old) (R.left reader.new) }
+    ensures stops { result ≡ Err ReadFault → ConsumesUpTo MAX_SCRIPT_LEN (R.left reader.old) (R.left reader.new) }
 {
-    let bytes = match read_all(alloc, reader) {
-        Ok(bytes) => bytes,
-        Err(ReadEnd::TooLong) => return Err(RatifyFault::TooLong),
-        Err(ReadEnd::NoMemory) => return Err(RatifyFault::NoMemory),
-        Err(ReadEnd::ReadFault) => return Err(RatifyFault::ReadFault),
-    };
+    let bytes = read_all(alloc, reader)?;
     let text = answer(alloc, &bytes)?;
-    match write_all(writer, text.as_bytes()) {
-        Ok(()) => Ok(()),
-        Err(()) => Err(RatifyFault::WriteFault),
-    }
+    write_all(writer, text.as_bytes())?;
+    Ok(())
 }

@@ -6,6 +6,7 @@ use std::alloc::Allocator;
 /// A run of one ratifier: its quorum table, the inputs of its processes, and their turns.
 #[derive(Drop)]
 pub struct RatifyScript<A: Allocator + Drop> {
+    /// The quorum table of the ratifier.
     pub table: TableName,
     /// How many values the table is for.
     pub values: u64,

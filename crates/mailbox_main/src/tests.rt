@@ -1,12 +1,16 @@
-//! The command `ratify` on worked scripts, over devices that fail, and with refused memory.
+//! The command `ratify` on worked scripts, over devices that fail, and with refused memory; how the program ends.
 
 use crate::command::{Choice, command_of};
 use crate::device::Counting;
 use crate::fault::{Failed, RatifyFault};
-use crate::outcome::{fault_text, status_of};
+use crate::outcome::{fault_text, status_of, status_of_refusal};
 use crate::ratify::ratify_text;
+use crate::reading::read_script;
+use crate::text::{has_empty, number, split_line, words};
+use clap::Command;
 use clap::error::ErrorKind;
 use linked_list_allocator::LocalHeap;
+use mb_quorum::TableName;
 use std::io;
 use std::io::{Read, Write};
 use std::test::Fail;
@@ -16,38 +20,49 @@ const LATE_INPUT: &str = "ratify unary 2\ninputs 0 1\nturns 0 0 0 0 1 1 1\n";
 const LATE_INPUT_TEXT: &str = "0 store q0 1\n0 load p 0\n0 store p 1\n0 load q1 0 out 1 0\n\
     1 store q1 1\n1 load p 1\n1 load q1 1 out 0 0\nprocess 0: 1 0\nprocess 1: 0 0\n";
 
+const NO_DECISION: &str = "ratify unary 2\ninputs 0 1\nturns 0 1 0 1 0 0 1 1\n";
+
+const NO_DECISION_TEXT: &str = "0 store q0 1\n1 store q1 1\n0 load p 0\n1 load p 0\n0 store p 1\n\
+    0 load q1 1 out 0 0\n1 store p 2\n1 load q0 1 out 0 1\nprocess 0: 0 0\nprocess 1: 0 1\n";
+
+const ONE_INPUT: &str = "ratify unary 2\ninputs 1 1\nturns 0 1 0 1 0 1 0 1\n";
+
+const ONE_INPUT_TEXT: &str =
+    "0 store q1 1\n1 store q1 1\n0 load p 0\n1 load p 0\n0 store p 2\n1 store p 2\n\
+    0 load q0 0 out 1 1\n1 load q0 0 out 1 1\nprocess 0: 1 1\nprocess 1: 1 1\n";
+
+const NO_TURNS: &str = "ratify unary 2\ninputs 0 1\nturns\n";
+
+const NO_TURNS_TEXT: &str = "process 0: none\nprocess 1: none\n";
+
+const TURN_AFTER_OUTPUT: &str = "ratify unary 1\ninputs 0\nturns 0 0 0 0";
+
+const TURN_AFTER_OUTPUT_TEXT: &str =
+    "0 store q0 1\n0 load p 0\n0 store p 1 out 1 0\n0 done\nprocess 0: 1 0\n";
+
+const NO_PROCESSES: &str = "ratify unary 2\ninputs\nturns\n";
+
+const BIT_TABLE: &str = "ratify bits 3\ninputs 2 1\nturns 0 0 0 0 0 0 1 1 1 1\n";
+
+const BIT_TABLE_TEXT: &str = "0 store q0 1\n0 store q3 1\n0 load p 0\n0 store p 3\n0 load q1 0\n\
+    0 load q2 0 out 1 2\n1 store q1 1\n1 store q2 1\n1 load p 3\n1 load q1 1 out 0 2\n\
+    process 0: 1 2\nprocess 1: 0 2\n";
+
+const NO_REGISTERS: &str = "ratify bits 1\ninputs 0\nturns 0 0\n";
+
+const NO_REGISTERS_TEXT: &str = "0 load p 0\n0 store p 1 out 1 0\nprocess 0: 1 0\n";
+
 #[test]
 fn scripts_are_answered(rt: HostRuntime) -> Result<(), Fail> {
     for (script, want) in [
         (LATE_INPUT, LATE_INPUT_TEXT),
-        (
-            "ratify unary 2\ninputs 0 1\nturns 0 1 0 1 0 0 1 1\n",
-            "0 store q0 1\n1 store q1 1\n0 load p 0\n1 load p 0\n0 store p 1\n0 load q1 1 out 0 0\n1 store p 2\n\
-            1 load q0 1 out 0 1\nprocess 0: 0 0\nprocess 1: 0 1\n",
-        ),
-        (
-            "ratify unary 2\ninputs 1 1\nturns 0 1 0 1 0 1 0 1\n",
-            "0 store q1 1\n1 store q1 1\n0 load p 0\n1 load p 0\n0 store p 2\n1 store p 2\n0 load q0 0 out 1 1\n\
-            1 load q0 0 out 1 1\nprocess 0: 1 1\nprocess 1: 1 1\n",
-        ),
-        (
-            "ratify unary 2\ninputs 0 1\nturns\n",
-            "process 0: none\nprocess 1: none\n",
-        ),
-        (
-            "ratify unary 1\ninputs 0\nturns 0 0 0 0",
-            "0 store q0 1\n0 load p 0\n0 store p 1 out 1 0\n0 done\nprocess 0: 1 0\n",
-        ),
-        ("ratify unary 2\ninputs\nturns\n", ""),
-        (
-            "ratify bits 3\ninputs 2 1\nturns 0 0 0 0 0 0 1 1 1 1\n",
-            "0 store q0 1\n0 store q3 1\n0 load p 0\n0 store p 3\n0 load q1 0\n0 load q2 0 out 1 2\n1 store q1 1\n\
-            1 store q2 1\n1 load p 3\n1 load q1 1 out 0 2\nprocess 0: 1 2\nprocess 1: 0 2\n",
-        ),
-        (
-            "ratify bits 1\ninputs 0\nturns 0 0\n",
-            "0 load p 0\n0 store p 1 out 1 0\nprocess 0: 1 0\n",
-        ),
+        (NO_DECISION, NO_DECISION_TEXT),
+        (ONE_INPUT, ONE_INPUT_TEXT),
+        (NO_TURNS, NO_TURNS_TEXT),
+        (TURN_AFTER_OUTPUT, TURN_AFTER_OUTPUT_TEXT),
+        (NO_PROCESSES, ""),
+        (BIT_TABLE, BIT_TABLE_TEXT),
+        (NO_REGISTERS, NO_REGISTERS_TEXT),
     ] {
         let mut reader = Counting::new(script.as_bytes());
         let mut writer = Counting::new(Vec::<u8>::new(rt.alloc()));
@@ -57,6 +72,57 @@ fn scripts_are_answered(rt: HostRuntime) -> Result<(), Fail> {
             "{script}"
         );
         assert_eq!(rt; writer.device.as_slice(), want.as_bytes(), "{script}");
+    }
+    Ok(())
+}
+
+#[test]
+fn a_script_is_read(rt: HostRuntime) -> Result<(), Fail> {
+    let Ok(script) = read_script(rt.alloc(), LATE_INPUT.as_bytes()) else {
+        return Err(Fail::from("a script that is refused"));
+    };
+    assert!(rt; script.table == TableName::Unary);
+    assert_eq!(rt; script.values, 2);
+    assert_eq!(rt; script.inputs.as_slice(), [0, 1].as_slice());
+    assert_eq!(rt; script.turns.as_slice(), [0, 0, 0, 0, 1, 1, 1].as_slice());
+    Ok(())
+}
+
+#[test]
+fn texts_are_cut(rt: HostRuntime) -> Result<(), Fail> {
+    for (text, want) in [
+        ("", None),
+        ("\n", Some(("", ""))),
+        ("a b", Some(("a b", ""))),
+        ("a\r\n\nb", Some(("a\r", "\nb"))),
+    ] {
+        assert!(rt; split_line(text) == want, "{text}");
+    }
+    for (line, want, empty) in [
+        ("", [""].as_slice(), true),
+        ("a b\tc", ["a", "b\tc"].as_slice(), false),
+        (" a  b", ["", "a", "", "b"].as_slice(), true),
+        ("a ", ["a", ""].as_slice(), true),
+    ] {
+        let cut = words(rt.alloc(), line)?;
+        assert!(rt; cut.as_slice() == want, "{line}");
+        assert_eq!(rt; has_empty(&cut), empty, "{line}");
+    }
+    for (word, want) in [
+        ("0", Some(0)),
+        ("9", Some(9)),
+        ("10", Some(10)),
+        ("18446744073709551615", Some(u64::MAX)),
+        ("18446744073709551616", None),
+        ("00", None),
+        ("01", None),
+        ("+1", None),
+        ("-1", None),
+        ("1x", None),
+        ("1\r", None),
+        ("", None),
+    ] {
+        assert_eq!(rt; number(word), want, "{word}");
     }
     Ok(())
 }
@@ -89,7 +155,68 @@ fn faults_have_a_line_and_a_status(rt: HostRuntime) -> Result<(), Fail> {
         assert_eq!(rt; status_of(&failed), 2, "{script}");
         assert_eq!(rt; writer.device.len(), 0, "{script}");
     }
-    assert_eq!(rt; status_of(&Failed::Ratify(RatifyFault::NoMemory)), 3);
+    for (fault, line, status) in [
+        (RatifyFault::TooLong, "fault 1 TooLong\n", 2),
+        (RatifyFault::NotAscii, "fault 2 NotAscii\n", 2),
+        (RatifyFault::NoMemory, "fault 8 NoMemory\n", 3),
+        (RatifyFault::ReadFault, "fault 9 ReadFault\n", 3),
+        (RatifyFault::WriteFault, "fault 10 WriteFault\n", 3),
+    ] {
+        let failed = Failed::Ratify(fault);
+        assert_eq!(rt; fault_text(rt.alloc(), &failed)?.as_str(), line);
+        assert_eq!(rt; status_of(&failed), status, "{line}");
+    }
+    Ok(())
+}
+
+#[test]
+fn the_first_fault_decides(rt: HostRuntime) -> Result<(), Fail> {
+    for (script, want) in [
+        (
+            "ratify unary 2\ninput\nturns \u{80}\n",
+            RatifyFault::NotAscii,
+        ),
+        ("\n", RatifyFault::BadLine(1)),
+        ("ratify unary 2 2\n", RatifyFault::BadLine(1)),
+        ("ratify middle x\ninputs\nturns\n", RatifyFault::BadLine(1)),
+        ("ratify unary\t2\ninputs\nturns\n", RatifyFault::BadLine(1)),
+        (
+            "ratify unary 2\r\ninputs\nturns\n",
+            RatifyFault::BadNumber(1),
+        ),
+        ("ratify unary 02\n", RatifyFault::BadNumber(1)),
+        (
+            "ratify unary 2\ninputs x \nturns\n",
+            RatifyFault::BadLine(2),
+        ),
+        ("ratify unary 2\nturns x\ninputs\n", RatifyFault::BadLine(2)),
+        (
+            "ratify unary 2\ninputs 5 18446744073709551616\nturn\n",
+            RatifyFault::BadNumber(2),
+        ),
+        (
+            "ratify unary 0\ninputs 5\nturns 00\n\n",
+            RatifyFault::BadNumber(3),
+        ),
+        (
+            "ratify unary 0\ninputs 5\nturns 5\nx y",
+            RatifyFault::BadLine(4),
+        ),
+        (
+            "ratify unary 17\ninputs 17\nturns 1\n",
+            RatifyFault::BadValues,
+        ),
+        (
+            "ratify bits 16\ninputs 15 18446744073709551615 16\nturns 3\n",
+            RatifyFault::BadInput(1),
+        ),
+    ] {
+        let mut reader = Counting::new(script.as_bytes());
+        let mut writer = Counting::new(Vec::<u8>::new(rt.alloc()));
+        let result = ratify_text(rt.alloc(), &mut reader, &mut writer);
+        assert_eq!(rt; result, Err(want), "{script}");
+        assert_eq!(rt; writer.device.len(), 0, "{script}");
+    }
     Ok(())
 }
 
@@ -160,7 +287,46 @@ fn devices_fail(rt: HostRuntime) -> Result<(), Fail> {
     Ok(())
 }
 
-// Each size of heap below the least that serves refuses a growth: the first, the second, and so on.
+// Gives so many letters, and then fails or ends.
+#[derive(Drop)]
+struct Letters {
+    left: usize,
+    fails: bool,
+}
+
+impl Read for Letters {
+    fn read(&mut self, buf: &mut [u8]) -> io::Result<usize> {
+        if self.left == 0 && self.fails {
+            return Err(io::Error::from(io::ErrorKind::Other));
+        }
+        let len = buf.len().min(self.left);
+        buf[..len].fill(b'a');
+        self.left -= len;
+        Ok(len)
+    }
+}
+
+#[test]
+fn reading_stops_past_the_limit(rt: HostRuntime) -> Result<(), Fail> {
+    for (left, fails, want) in [
+        (1_048_576, false, RatifyFault::BadLine(1)),
+        (1_048_576, true, RatifyFault::ReadFault),
+        (1_048_577, true, RatifyFault::TooLong),
+        (1_048_578, false, RatifyFault::TooLong),
+    ] {
+        let mut reader = Counting::new(Letters { left, fails });
+        let mut writer = Counting::new(Vec::<u8>::new(rt.alloc()));
+        let result = ratify_text(rt.alloc(), &mut reader, &mut writer);
+        assert_eq!(rt; result, Err(want), "{left}");
+        assert_eq!(rt; reader.device.left, left.saturating_sub(1_048_577));
+        assert_eq!(rt; writer.device.len(), 0, "{left}");
+    }
+    Ok(())
+}
+
+// Each size of heap below the least that serves refuses a growth: the first, the second, and so on. Ten lists grow, some
+// more than once: the script's bytes, the words of each line, the inputs, the turns, the ratifier's processes, entries
+// and outputs, and the text.
 #[test]
 fn growths_are_refused(rt: HostRuntime) -> Result<(), Fail> {
     for size in 0..4096usize {
@@ -189,16 +355,32 @@ fn the_command_line_is_read(rt: HostRuntime) -> Result<(), Fail> {
             Ok(Choice::Ratify)
         )
     );
-    for (word, want) in [
-        ("--help", ErrorKind::DisplayHelp),
-        ("ratifier", ErrorKind::InvalidSubcommand),
-        ("--version", ErrorKind::UnknownArgument),
+    for (words, want, status) in [
+        (["mailbox", "--help"].as_slice(), ErrorKind::DisplayHelp, 0),
+        (["mailbox"].as_slice(), ErrorKind::MissingSubcommand, 2),
+        (
+            ["mailbox", "ratifier"].as_slice(),
+            ErrorKind::InvalidSubcommand,
+            2,
+        ),
+        (
+            ["mailbox", "--version"].as_slice(),
+            ErrorKind::UnknownArgument,
+            2,
+        ),
+        (
+            ["mailbox", "ratify", "now"].as_slice(),
+            ErrorKind::UnknownArgument,
+            2,
+        ),
     ] {
-        let words = ["mailbox", word];
-        let Err(error) = command_of(rt.alloc(), words.as_slice()) else {
+        let Err(error) = command_of(rt.alloc(), words) else {
             return Err(Fail::from("a line that is refused"));
         };
-        assert!(rt; error.kind() == want, "{word}");
+        assert!(rt; error.kind() == want);
+        assert_eq!(rt; status_of_refusal(&error), status);
     }
+    let no_memory = Command::new(rt.alloc(), "mailbox").error(ErrorKind::OutOfMemory, "")?;
+    assert_eq!(rt; status_of_refusal(&no_memory), 3);
     Ok(())
 }

@@ -12,10 +12,7 @@ pub fn split_line(text: &str) -> Option<(&str, &str)>
     if text.is_empty() {
         return None;
     }
-    match text.split_once('\n') {
-        Some((line, rest)) => Some((line, rest)),
-        None => Some((text, "")),
-    }
+    Some(text.split_once('\n').unwrap_or((text, "")))
 }
 
 /// The words of a line, empty ones among them: a line is cut at each space.

@@ -10,6 +10,7 @@ fn push_reg<A: Allocator>(text: &mut String<A>, reg: Reg) -> Result<(), AllocErr
     ensures { OnOk result (string_bytes text.new ≡ string_bytes text.old ++ reg_text reg) }
 {
     match reg {
+        // A conciliator's word, which is here for the type's sake: no ratifier has one.
         Reg::Value => text.push_str("c"),
         Reg::Proposal => text.push_str("p"),
         Reg::Quorum(i) => write!(text, "q{i}"),

@@ -15,10 +15,17 @@ const PIECE_LEN: usize = 4096;
 /// Why reading stopped before the end.
 #[derive(Clone, Copy, Debug, PartialEq, Eq, Hash)]
 pub enum ReadEnd {
+    /// There is one byte more than the limit.
     TooLong,
+    /// A growth was refused.
     NoMemory,
+    /// A read answered an error.
     ReadFault,
 }
+
+/// A write answered an error, or took no byte.
+#[derive(Clone, Copy, Debug, PartialEq, Eq, Hash)]
+pub struct WriteFailed;
 
 /// Reads to the end, and stops at the first byte past the limit.
 pub fn read_all<R: Source, A: Allocator + Drop>(
@@ -32,6 +39,9 @@ pub fn read_all<R: Source, A: Allocator + Drop>(
     // Where it stopped early, what it has read is within the limit, or one byte longer.
     ensures early { OnErr result (ConsumesUpTo (MAX_SCRIPT_LEN + 1) (R.left reader.old) (R.left reader.new)) }
     ensures long { result ≡ Err ReadEnd.TooLong → ConsumesCount (MAX_SCRIPT_LEN + 1) (R.left reader.old) (R.left reader.new) }
+
+    // Behind one byte too many it reads no more, so no read fails there.
+    ensures failed { result ≡ Err ReadEnd.ReadFault → ConsumesUpTo MAX_SCRIPT_LEN (R.left reader.old) (R.left reader.new) }
 
     // It answers ReadFault exactly where the reader failed.
     ensures fault { result ≡ Err ReadEnd.ReadFault → R.failures reader.new ≢ R.failures reader.old }
@@ -54,8 +64,8 @@ pub fn read_all<R: Source, A: Allocator + Drop>(
     Err(ReadEnd::TooLong)
 }
 
-/// Writes the text. After an `Err` a beginning of it was written.
-pub fn write_all<W: Sink>(writer: &mut W, text: &[u8]) -> Result<(), ()>
+/// Writes the text. After an `Err` a prefix of it was written.
+pub fn write_all<W: Sink>(writer: &mut W, text: &[u8]) -> Result<(), WriteFailed>
     ensures ok { OnOk result (Appends (W.held writer.old) (W.held writer.new) text.now) }
     ensures err { OnErr result (AppendsFront (W.held writer.old) (W.held writer.new) text.now) }
     ensures fault { OnErr result (W.failures writer.new ≢ W.failures writer.old) }
@@ -65,7 +75,7 @@ pub fn write_all<W: Sink>(writer: &mut W, text: &[u8]) -> Result<(), ()>
     while at < text.len() {
         match writer.write(&text[at..]) {
             Ok(n) if n > 0 => at += n,
-            _ => return Err(()),
+            _ => return Err(WriteFailed),
         }
     }
     Ok(())

@@ -1,6 +1,6 @@
-use Rattle.mailbox_main.proofs.LongScripts.{too_long_read}
+use Rattle.mailbox_main.proofs.LongScripts.{early_fault}
 use Rattle.mailbox_main.proofs.ratify.ratify_text.Goals as goal
 
-pub returns-in-Err-TooLong-clause-fault : goal.returns-in-Err-TooLong-clause-fault
-returns-in-Err-TooLong-clause-fault g c =
-    λ _. let e = c.in-Err-TooLong.field-0-is in too_long_read _ _ (c.in-Err-TooLong.ensures.long (cc))
+pub returns-in_err-bytes-clause-fault : goal.returns-in_err-bytes-clause-fault
+returns-in_err-bytes-clause-fault g c =
+    early_fault _ c.in_err-bytes.field-0.0 _ _ c.from_residual.ensures.1 (λ is. let e = c.in_err-bytes.is in c.read_all.ensures.long (cc))
