@@ -1,5 +1,6 @@
 //! What refusals say of themselves.
 
+use mb_claim::{BadLayout, PlayFault};
 use mb_deciding::Fault;
 use mb_quorum::BadValues;
 use std::test::Fail;
@@ -22,6 +23,21 @@ fn text_of_faults(rt: HostRuntime) -> Result<(), Fail> {
     assert_eq!(rt;
         text.as_str(),
         "the number of values is out of range, out of memory"
+    );
+    Ok(())
+}
+
+#[test]
+fn text_of_layouts_and_runs(rt: HostRuntime) -> Result<(), Fail> {
+    let text = format!(in rt.alloc(); "{}, {}", BadLayout::BadConsumers, BadLayout::BadRounds)?;
+    assert_eq!(rt;
+        text.as_str(),
+        "the number of consumers is out of range, the number of pairs is out of range"
+    );
+    let text = format!(in rt.alloc(); "{}, {}", PlayFault::NoConsumer(7), PlayFault::NoMemory)?;
+    assert_eq!(rt;
+        text.as_str(),
+        "the step at place 7 is of no consumer of the layout, out of memory"
     );
     Ok(())
 }

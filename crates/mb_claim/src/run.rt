@@ -22,12 +22,16 @@ use std::fmt;
 pub enum ClaimEntry {
     /// The claim of the consumer made an access to the object with this number.
     Access {
+        /// Whose step it was.
         consumer: u32,
+        /// The number of the object.
         object: u32,
+        /// What it did there.
         act: Act,
     },
     /// The claim of the consumer had come to its end before and made no access.
     Done {
+        /// Whose step it was.
         consumer: u32,
     },
 }
@@ -50,6 +54,14 @@ pub enum PlayFault {
     NoMemory,
 }
 
+impl From<AllocError> for PlayFault {
+    ghost from_gives = { λ _ e. e ≡ NoMemory };
+
+    fn from(_e: AllocError) -> PlayFault {
+        PlayFault::NoMemory
+    }
+}
+
 impl fmt::Display for PlayFault {
     fn fmt<W: fmt::Write>(&self, f: &mut fmt::Formatter<W>) -> fmt::Result {
         match self {
@@ -57,7 +69,7 @@ impl fmt::Display for PlayFault {
                 f,
                 "the step at place {place} is of no consumer of the layout"
             ),
-            PlayFault::NoMemory => f.write_str("a growth was refused"),
+            PlayFault::NoMemory => f.write_str("out of memory"),
         }
     }
 }
@@ -90,10 +102,7 @@ pub fn play<A: Allocator + Copy + Drop>(
     if let Some(place) = stranger(steps, layout.consumers()) {
         return Err(PlayFault::NoConsumer(place));
     }
-    match played(alloc, layout, steps) {
-        Ok(run) => Ok(run),
-        Err(AllocError) => Err(PlayFault::NoMemory),
-    }
+    Ok(played(alloc, layout, steps)?)
 }
 
 /// The run of steps that are all of consumers of the layout.

@@ -23,3 +23,4 @@ pub mod SameOp
 pub mod RatifierNext
 pub mod ConciliatorNext
 pub mod OneTrace
+pub mod FirstPlaces

@@ -1,23 +1,11 @@
-use Rattle.std.proofs.Common.{◌≡◌, ℕ, ◌<◌, ◌≤◌, Bool, true, false, nat_lt, nat_le, cond, Some, None, List, length, get_or, map, sym, subst, refl, arith}
+use Rattle.std.proofs.Common.{◌≡◌, ℕ, ◌<◌, ◌≤◌, nat_le, None, List, length, get_or, map, sym, subst, arith}
 use Rattle.std.specs.List.{position_or_len}
-use Rattle.std.proofs.lemmas.Bool.Decides.{nat_tests}
 use Rattle.std.proofs.lemmas.List.{get_or-map, length-map}
 use Rattle.std.proofs.lemmas.Simd.{map-map}
 use Rattle.std.proofs.lemmas.List.Sums.{fails_before_first}
 use Rattle.mb_deciding.specs.Refusals.{first_from}
+use Rattle.mb_deciding.proofs.FirstPlaces.{below_by_test, none_inside}
 use Rattle.mb_deciding.proofs.schedule.trace.Goals as goal
-
--- a number at which the test fails is below the bound
-below_by_test : (bound n : ℕ) → nat_le bound n ≡ false → n < bound
-below_by_test bound n e = grind (arith, nat_tests)
-
--- a place that is not given is not below the length
-none_inside : (at all : ℕ) → None ≡ cond (nat_lt at all) (Some at) None → all ≤ at
-none_inside at all e = by_test (nat_lt at all) refl e
-  where
-    by_test : (b : Bool) → nat_lt at all ≡ b → None ≡ cond b (Some at) None → all ≤ at
-    by_test true is none = cc
-    by_test false is none = grind (arith, nat_tests)
 
 -- where no number is the first that is not below the bound, each is below it
 all_below : (bound : ℕ) (numbers : List ℕ) → None ≡ first_from bound numbers → (k d : ℕ) → k < length numbers
