@@ -1,3 +1,3 @@
 mod Disjoint
 mod Masks
-mod Widths
+mod LeastWidth

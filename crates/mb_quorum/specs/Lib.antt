@@ -1,5 +1,6 @@
 pub mod Bits
 pub mod BitsLaw
+pub mod Chosen
 pub mod Mask
 pub mod MaskLaw
 pub mod Quorum
@@ -7,5 +8,6 @@ pub mod Tables
 pub mod TablesLaw
 pub mod Unary
 pub mod UnaryLaw
+pub mod Vocabulary
 pub mod Width
 pub mod WidthLaw

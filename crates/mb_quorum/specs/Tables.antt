@@ -1,6 +1,5 @@
 -- The tables by name.
 use Rattle.std.specs.Prelude.{ℕ}
-use Rattle.mb_quorum.specs.declared.table.Table.{Table}
 use Rattle.mb_quorum.specs.declared.table.TableName.{TableName}
 use Rattle.mb_quorum.specs.declared.table.TableName.TheVariants.{Unary, Bits}
 use Rattle.mb_quorum.specs.Quorum.{QuorumTable}
@@ -11,7 +10,3 @@ use Rattle.mb_quorum.specs.Bits.{bits_table}
 abbrev pub table_of : TableName → ℕ → QuorumTable
 table_of Unary m = unary_table m
 table_of Bits m = bits_table m
-
--- what a table chosen by name is
-abbrev pub chosen : Table → QuorumTable
-chosen table = table_of table.name table.values

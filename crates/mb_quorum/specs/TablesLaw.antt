@@ -5,7 +5,8 @@ use Rattle.mb_quorum.specs.declared.table.TableName.{TableName}
 use Rattle.mb_quorum.specs.declared.table.TableName.TheVariants.{Unary, Bits}
 use Rattle.mb_quorum.specs.declared.values.TheConstants.{MAX_VALUES}
 use Rattle.mb_quorum.specs.Quorum.{IsQuorumTable}
-use Rattle.mb_quorum.specs.Tables.{table_of, chosen}
+use Rattle.mb_quorum.specs.Tables.{table_of}
+use Rattle.mb_quorum.specs.Chosen.{chosen_table}
 use Rattle.mb_quorum.specs.UnaryLaw.{unary_lawful}
 use Rattle.mb_quorum.specs.BitsLaw.{bits_lawful}
 
@@ -20,9 +21,9 @@ named_values Unary m = refl
 named_values Bits m = refl
 
 -- each table chosen by name is a quorum table
-pub chosen_lawful : (table : Table) → IsQuorumTable (chosen table)
+pub chosen_lawful : (table : Table) → IsQuorumTable (chosen_table table)
 chosen_lawful table = named_lawful table.name table.values table.most
 
 -- it has at least one value, and no more than a table can have
-pub chosen_within : (table : Table) → (1 ≤ (chosen table).values) × ((chosen table).values ≤ MAX_VALUES)
+pub chosen_within : (table : Table) → (1 ≤ (chosen_table table).values) × ((chosen_table table).values ≤ MAX_VALUES)
 chosen_within table = let same = named_values table.name table.values in (rw same table.least, rw same table.most)

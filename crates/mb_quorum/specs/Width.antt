@@ -1,10 +1,10 @@
 -- How many bits tell so many values apart.
-use Rattle.std.specs.Prelude.{ℕ, zero, suc, ◌^◌, ◌≤◌, nat_lt, cond}
+use Rattle.std.specs.Prelude.{ℕ, zero, suc, ◌^◌, ◌≤◌, nat_lt, if◌then◌else◌}
 
 -- how many of the powers 2 ^ 0, 2 ^ 1, .., 2 ^ (n - 1) are below m
 abbrev pub powers_below : ℕ → ℕ → ℕ
 powers_below zero m = 0
-powers_below (suc i) m = cond (nat_lt (2 ^ i) m) (suc (powers_below i m)) (powers_below i m)
+powers_below (suc i) m = if nat_lt (2 ^ i) m then suc (powers_below i m) else powers_below i m
 
 -- the least b with m ≤ 2 ^ b, which is how many powers of two are below m
 abbrev pub width_of : ℕ → ℕ

@@ -4,8 +4,7 @@ ghost use Rattle.mb_quorum.specs.Mask.{mask_of};
 ghost use Rattle.mb_quorum.specs.Width.{width_of};
 ghost use Rattle.mb_quorum.specs.declared.values.TheConstants.{MAX_VALUES};
 
-use crate::values::checked_values;
-use crate::{BadValues, Quorums};
+use crate::{BadValues, Quorums, checked_values, width};
 
 /// The bit table, two registers for each bit of a value: where b is the least number with `2^b >= values`, for each
 /// i below b the write quorum of v holds register 2i + bit i of v, and its read quorum the other of the two.
@@ -71,7 +70,7 @@ impl Bits {
         ensures least { result ≡ width_of self.now.values }
         ensures small { result ≤ 32 }
     {
-        u32::BITS - (self.values - 1).leading_zeros()
+        width(u64::from(self.values))
     }
 }
 

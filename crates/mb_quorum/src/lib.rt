@@ -18,4 +18,4 @@ pub use bits::Bits;
 pub use quorums::Quorums;
 pub use table::{Table, TableName};
 pub use unary::Unary;
-pub use values::{BadValues, MAX_VALUES};
+pub use values::{BadValues, MAX_VALUES, checked_values, width};

@@ -1,8 +1,7 @@
 ghost use Rattle.std.specs.Prelude.{◌≤◌};
 ghost use Rattle.mb_quorum.specs.declared.values.TheConstants.{MAX_VALUES};
 
-use crate::values::checked_values;
-use crate::{BadValues, Quorums};
+use crate::{BadValues, Quorums, checked_values};
 
 /// The unary table, a register for each value: the write quorum of v is register v, its read quorum all others.
 #[derive(Clone, Copy, Debug, PartialEq, Eq, Hash)]

@@ -1,4 +1,5 @@
 ghost use Rattle.std.specs.Prelude.{◌≡◌, ◌≤◌, ◌↔◌, IsOk, IfOk};
+ghost use Rattle.mb_quorum.specs.Width.{width_of, IsLeastWidth};
 
 use std::error::Error;
 use std::fmt;
@@ -19,7 +20,7 @@ impl fmt::Display for BadValues {
 impl Error for BadValues {}
 
 /// The number of values m, or `BadValues` if it is not in `1..=MAX_VALUES`.
-pub(crate) fn checked_values(m: u64) -> Result<u32, BadValues>
+pub fn checked_values(m: u64) -> Result<u32, BadValues>
     ensures range { IsOk result ↔ ((1 ≤ m) × (m ≤ MAX_VALUES)) }
     ensures same { IfOk result (λ values. values ≡ m) }
 {
@@ -28,4 +29,13 @@ pub(crate) fn checked_values(m: u64) -> Result<u32, BadValues>
     } else {
         Err(BadValues)
     }
+}
+
+/// How many bits tell m values apart: the least b with `m <= 2^b`.
+pub fn width(m: u64) -> u32
+    ensures exact { result ≡ width_of m }
+    ensures least { IsLeastWidth m result }
+    ensures small { result ≤ 64 }
+{
+    u64::BITS - m.saturating_sub(1).leading_zeros()
 }

@@ -1,20 +1,21 @@
--- The least width is one number.
+-- The least width is one number: how many binary digits m - 1 has.
 use Rattle.std.proofs.Common.{◌≡◌, ℕ, suc, ◌-◌, ◌+◌, ◌*◌, ◌^◌, ◌<◌, ◌≤◌, inl, inr, arith}
 use Rattle.std.proofs.Math.Numerals.{one-add}
-use Rattle.std.proofs.Math.Pow.{pow-add, pow_mono}
+use Rattle.std.proofs.Math.Pow.{pow-add, pow_mono, pow_pos}
 use Rattle.std.proofs.lemmas.Bool.{cases_lt}
 use Rattle.mb_quorum.specs.Width.{width_of}
 use Rattle.mb_quorum.specs.WidthLaw.{width_is_least}
 
--- the number of bits of m - 1 is the least width of m
-pub length_is_width : (m b : ℕ) → 1 ≤ m → m - 1 < 2 ^ b → 2 ^ b ≤ 2 * (m - 1) + 1 → b ≡ width_of m
-length_is_width m b some enough tight =
+-- the number of binary digits of a, where a is m - 1, is the least width of m
+pub digits_are_width : (m a b : ℕ) → a ≡ m - 1 → a < 2 ^ b → 2 ^ b ≤ 2 * a + 1 → b ≡ width_of m
+digits_are_width m a b e enough tight =
     let least = width_is_least m in
-    let above : width_of m ≤ b = least.least b (omega (arith, enough, some)) in
+    let above : width_of m ≤ b = least.least b (omega (arith, enough, e)) in
     let double : 2 ^ suc (width_of m) ≡ 2 * 2 ^ width_of m = rw one-add at (pow-add 2 1 (width_of m)) in
+    let some : 0 < 2 ^ width_of m = pow_pos (width_of m) in
     elim (cases_lt (width_of m) b) [
       | inl less ↦
           (let grown : 2 ^ suc (width_of m) ≤ 2 ^ b = pow_mono less in
-          absurd (omega (arith, grown, double, tight, some, least.enough)))
+          absurd (omega (arith, grown, double, tight, some, e, least.enough)))
       | inr same ↦ omega (arith, above, same)
     ]

@@ -1,5 +1,5 @@
 use Rattle.mb_quorum.proofs.Disjoint.{disjoint_as_and}
-use Rattle.mb_quorum.proofs.laws.disjoint_masks.Goals as goal
+use Rattle.mb_quorum.proofs.laws.masks_tell_values_apart.Goals as goal
 
 pub returns : goal.returns
 returns c t v w lawful written seen =

@@ -2,7 +2,7 @@ use Rattle.std.proofs.Common.{◌≢◌, sym, subst}
 use Rattle.mb_quorum.specs.Quorum.{IsMember}
 use Rattle.mb_quorum.specs.Unary.{unary_table}
 use Rattle.mb_quorum.specs.UnaryLaw.{write_own, write_only, read_own, read_others, read_within}
-use Rattle.mb_quorum.proofs.laws.unary_quorums.Goals as goal
+use Rattle.mb_quorum.proofs.laws.unary_quorums_are_own_and_others.Goals as goal
 
 pub returns-clause-write : goal.returns-clause-write
 returns-clause-write c m v r value =

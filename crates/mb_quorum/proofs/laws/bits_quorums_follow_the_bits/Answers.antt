@@ -1,7 +1,7 @@
 use Rattle.mb_quorum.specs.Bits.{named_register, other_register}
 use Rattle.mb_quorum.specs.Width.{width_of}
 use Rattle.mb_quorum.specs.MaskLaw.{mask_of-member}
-use Rattle.mb_quorum.proofs.laws.bits_quorums.Goals as goal
+use Rattle.mb_quorum.proofs.laws.bits_quorums_follow_the_bits.Goals as goal
 
 pub returns-clause-write : goal.returns-clause-write
 returns-clause-write c m v r = mask_of-member (named_register v) (width_of m) r
