@@ -1,8 +1,6 @@
 -- Turns and their acts.
 use Rattle.std.proofs.Common.{◌≡◌, ◌≢◌, suc, List, [], ◌∷◌, ◌++◌, map, length, inr, refl, ap}
-use Rattle.mb_deciding.specs.declared.access.Act.{Act}
-use Rattle.mb_deciding.specs.declared.access.Turn.{Turn}
-use Rattle.mb_deciding.specs.History.{acts, Has}
+use Rattle.mb_deciding.specs.{Act, Turn, acts, Has}
 use Rattle.mb_deciding.proofs.Histories.{not_empty}
 
 -- the acts of two lists of turns

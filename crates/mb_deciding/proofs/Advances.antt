@@ -1,18 +1,14 @@
 -- One access of a process at its place in a ratifier leads to its next place or to its output.
-use Rattle.std.proofs.Common.{◌≡◌, ◌≢◌, ℕ, ◌+◌, ◌<◌, ◌≤◌, ◌↔◌, List, ◌∷◌, ◌++◌, ◌⊎◌, inl, inr, sym, refl, ap, ap₂, ◌∙◌, subst, arith}
+use Rattle.std.proofs.Common.{◌≡◌, ◌≢◌, ℕ, ◌+◌, ◌<◌, ◌≤◌, ◌↔◌, List, ◌∷◌, ◌++◌, ◌⊎◌, inl, inr, sym, refl, ap, ap₂, ◌∙◌}
+use Rattle.std.proofs.Common.{subst, arith}
 use Rattle.std.proofs.lemmas.Bool.{cases_order}
 use Rattle.mb_quorum.specs.Quorum.{QuorumTable, IsQuorumTable, IsMember}
-use Rattle.mb_deciding.specs.declared.access.Reg.TheVariants.{Value, Proposal, Quorum}
-use Rattle.mb_deciding.specs.declared.access.Act.{Act}
-use Rattle.mb_deciding.specs.declared.access.Act.TheVariants.{Load, Store}
-use Rattle.mb_deciding.specs.declared.access.Op.{Op}
-use Rattle.mb_deciding.specs.declared.access.Op.TheVariants.{Load as ToLoad, Store as ToStore}
-use Rattle.mb_deciding.specs.declared.ratifier_place.RatifierPlace.{RatifierPlace}
-use Rattle.mb_deciding.specs.declared.ratifier_place.RatifierPlace.TheVariants.{Begin, Announce, Propose, Check}
-use Rattle.mb_deciding.specs.declared.place.Pc.TheVariants.{InRatifier}
-use Rattle.mb_deciding.specs.Ratifier.{stores_below, zeros_below, announced, ReadsClear, ReadsOne}
-use Rattle.mb_deciding.specs.Place.{IsLeast, IsRest, IsInRatifier, IsRatifierOp, CanFind, act_of}
-use Rattle.mb_deciding.proofs.Registers.{member_below, none_empty, rest_whole, rest_least, rest_none, rest_taken, each_skip, each_next}
+use Rattle.mb_deciding.specs.{Value, Proposal, Quorum, Act, Load, Store, Op, RatifierPlace, Begin, Announce, Propose}
+use Rattle.mb_deciding.specs.{Check, InRatifier, stores_below, zeros_below, announcement, ReadsClear, ReadsOne, IsLeast}
+use Rattle.mb_deciding.specs.{IsRest, IsInRatifier, IsRatifierOp, CanFind, act_of}
+use Rattle.mb_deciding.specs.declared.access.Op.TheVariants as to
+use Rattle.mb_deciding.proofs.Registers.{member_below, none_empty, rest_whole, rest_least, rest_none, rest_taken}
+use Rattle.mb_deciding.proofs.Registers.{each_skip, each_next}
 
 -- what is left of a mask without one register
 abbrev pub IsTaken : ℕ → ℕ → ℕ → Type 0
@@ -22,54 +18,54 @@ IsTaken left r after = (k : ℕ) → IsMember after k ↔ (IsMember left k × (k
 -- a process that announces stores in the least register that is left, or loads the proposal
 pub announce_op :
     (t : QuorumTable) (input left : ℕ) (op : Op) → IsRatifierOp t (Announce input left) op
-    → ((r : ℕ) × (op ≡ ToStore (Quorum r) 1) × IsLeast left r) ⊎ ((op ≡ ToLoad Proposal) × (left ≡ 0))
-announce_op t input left (ToLoad Value) is = absurd is
-announce_op t input left (ToLoad Proposal) is = inr (refl, is)
-announce_op t input left (ToLoad (Quorum r)) is = absurd is
-announce_op t input left (ToStore Value w) is = absurd is
-announce_op t input left (ToStore Proposal w) is = absurd is
-announce_op t input left (ToStore (Quorum r) w) is = inl (r, ap (λ n. ToStore (Quorum r) n) is.0, is.1)
+    → ((r : ℕ) × (op ≡ to.Store (Quorum r) 1) × IsLeast left r) ⊎ ((op ≡ to.Load Proposal) × (left ≡ 0))
+announce_op t input left (to.Load Value) is = absurd is
+announce_op t input left (to.Load Proposal) is = inr (refl, is)
+announce_op t input left (to.Load (Quorum r)) is = absurd is
+announce_op t input left (to.Store Value w) is = absurd is
+announce_op t input left (to.Store Proposal w) is = absurd is
+announce_op t input left (to.Store (Quorum r) w) is = inl (r, ap (λ n. to.Store (Quorum r) n) is.0, is.1)
 
 -- at first the whole write quorum is left
 pub begin_op :
     (t : QuorumTable) (input : ℕ) (op : Op)
     → IsRatifierOp t (Begin input) op ↔ IsRatifierOp t (Announce input (t.write input)) op
-begin_op t input (ToLoad Value) = ((λ is. is), (λ is. is))
-begin_op t input (ToLoad Proposal) = ((λ is. is), (λ is. is))
-begin_op t input (ToLoad (Quorum r)) = ((λ is. is), (λ is. is))
-begin_op t input (ToStore Value w) = ((λ is. is), (λ is. is))
-begin_op t input (ToStore Proposal w) = ((λ is. is), (λ is. is))
-begin_op t input (ToStore (Quorum r) w) = ((λ is. is), (λ is. is))
+begin_op t input (to.Load Value) = ((λ is. is), (λ is. is))
+begin_op t input (to.Load Proposal) = ((λ is. is), (λ is. is))
+begin_op t input (to.Load (Quorum r)) = ((λ is. is), (λ is. is))
+begin_op t input (to.Store Value w) = ((λ is. is), (λ is. is))
+begin_op t input (to.Store Proposal w) = ((λ is. is), (λ is. is))
+begin_op t input (to.Store (Quorum r) w) = ((λ is. is), (λ is. is))
 
 -- what an op finds does not depend on the place in a ratifier
 pub find_anywhere :
     (t : QuorumTable) (a b : RatifierPlace) (op : Op) (seen : ℕ) → CanFind t (InRatifier a) op seen
     → CanFind t (InRatifier b) op seen
-find_anywhere t a b (ToLoad Value) seen can = tt
-find_anywhere t a b (ToLoad Proposal) seen can = can
-find_anywhere t a b (ToLoad (Quorum r)) seen can = can
-find_anywhere t a b (ToStore reg w) seen can = tt
+find_anywhere t a b (to.Load Value) seen can = tt
+find_anywhere t a b (to.Load Proposal) seen can = can
+find_anywhere t a b (to.Load (Quorum r)) seen can = can
+find_anywhere t a b (to.Store reg w) seen can = tt
 
 -- a process that proposes stores its input
 pub propose_op :
-    (t : QuorumTable) (input : ℕ) (op : Op) → IsRatifierOp t (Propose input) op → op ≡ ToStore Proposal (input + 1)
-propose_op t input (ToLoad Value) is = absurd is
-propose_op t input (ToLoad Proposal) is = absurd is
-propose_op t input (ToLoad (Quorum r)) is = absurd is
-propose_op t input (ToStore Value w) is = absurd is
-propose_op t input (ToStore Proposal w) is = ap (λ n. ToStore Proposal n) is
-propose_op t input (ToStore (Quorum r) w) is = absurd is
+    (t : QuorumTable) (input : ℕ) (op : Op) → IsRatifierOp t (Propose input) op → op ≡ to.Store Proposal (input + 1)
+propose_op t input (to.Load Value) is = absurd is
+propose_op t input (to.Load Proposal) is = absurd is
+propose_op t input (to.Load (Quorum r)) is = absurd is
+propose_op t input (to.Store Value w) is = absurd is
+propose_op t input (to.Store Proposal w) is = ap (λ n. to.Store Proposal n) is
+propose_op t input (to.Store (Quorum r) w) is = absurd is
 
 -- a process that checks loads the least register that is left
 pub check_op :
     (t : QuorumTable) (u left : ℕ) (op : Op) → IsRatifierOp t (Check u left) op
-    → (r : ℕ) × (op ≡ ToLoad (Quorum r)) × IsLeast left r
-check_op t u left (ToLoad Value) is = absurd is
-check_op t u left (ToLoad Proposal) is = absurd is
-check_op t u left (ToLoad (Quorum r)) is = (r, refl, is)
-check_op t u left (ToStore Value w) is = absurd is
-check_op t u left (ToStore Proposal w) is = absurd is
-check_op t u left (ToStore (Quorum r) w) is = absurd is
+    → (r : ℕ) × (op ≡ to.Load (Quorum r)) × IsLeast left r
+check_op t u left (to.Load Value) is = absurd is
+check_op t u left (to.Load Proposal) is = absurd is
+check_op t u left (to.Load (Quorum r)) is = (r, refl, is)
+check_op t u left (to.Store Value w) is = absurd is
+check_op t u left (to.Store Proposal w) is = absurd is
+check_op t u left (to.Store (Quorum r) w) is = absurd is
 
 -- a mask has one least register
 pub one_least : (mask r s : ℕ) → IsLeast mask r → IsLeast mask s → r ≡ s
@@ -84,10 +80,10 @@ one_least mask r s l m =
 
 -- ---- announcing
 -- before its first access a process has all of its write quorum left
-pub begun :
+pub begin_announces :
     (t : QuorumTable) (v input : ℕ) (made : List Act) → IsInRatifier t v (Begin input) made
     → IsInRatifier t v (Announce input (t.write input)) made
-begun t v input made at = (at.0, (0, omega arith, rw (at.0) (rest_whole (t.write v)), at.1))
+begin_announces t v input made at = (at.0, (0, omega arith, rw (at.0) (rest_whole (t.write v)), at.1))
 
 -- a store in the least register that is left goes on with the announcement
 pub announced_next :
@@ -97,8 +93,11 @@ pub announced_next :
 announced_next t q v input left r made within at least =
     let bound = at.1.0 in
     let from = rest_least (t.write v) bound left r at.1.2 least in
-    let below : r < t.registers = member_below t.registers (t.write v) r (q.write_within v within) from.member in
-    (omega arith, ap (λ xs. Store (Quorum r) 1 ∷ xs) at.1.3 ∙ sym (each_next (λ k. Store (Quorum k) 1) (t.write v) bound r from))
+    let below : r < t.registers = member_below t.registers (t.write v) r (q.write_within v within) from.member in (
+      omega arith,
+      ap (λ xs. Store (Quorum r) 1 ∷ xs) at.1.3 ∙ sym
+          (each_next (λ k. Store (Quorum k) 1) (t.write v) bound r from),
+    )
 
 -- and that register is no longer left
 pub announced_more :
@@ -123,18 +122,19 @@ pub announced_whole :
     (t : QuorumTable) (v input left : ℕ) (made : List Act) (op : Op) (seen : ℕ)
     → IsInRatifier t v (Announce input left) made → IsRatifierOp t (Announce input left) op → left ≡ 0
     → CanFind t (InRatifier (Announce input left)) op seen
-    → (act_of op seen ∷ made ≡ Load Proposal seen ∷ announced t v) × (seen ≤ t.values)
+    → (act_of op seen ∷ made ≡ Load Proposal seen ∷ announcement t v) × (seen ≤ t.values)
 announced_whole t v input left made op seen at is none can =
     elim (announce_op t input left op is) [
       | inl x ↦ absurd (none_empty left x.0 none x.2.member)
       | inr x ↦ (let found = rw (x.0) at can in (rw (x.0) whole, found))
     ]
   where
-    whole : Load Proposal seen ∷ made ≡ Load Proposal seen ∷ announced t v
+    whole : Load Proposal seen ∷ made ≡ Load Proposal seen ∷ announcement t v
     whole =
         let bound = at.1.0 in
         let free = rest_none (t.write v) bound left at.1.2 none in
-        let all = each_skip (λ k. Store (Quorum k) 1) t.registers (t.write v) bound at.1.1 (λ k above below m. free k above m) in
+        let all = each_skip (λ k. Store (Quorum k) 1) t.registers (t.write v) bound at.1.1
+        (λ k above below m. free k above m) in
         let before : made ≡ stores_below bound (t.write v) = at.1.3 in
         cc
 
@@ -146,14 +146,14 @@ pub prefers_own :
 prefers_own t v input made op seen at is =
     rw (propose_op t input op is)
     (let same : input ≡ v = at.0 in
-    let before : made ≡ Load Proposal 0 ∷ announced t v = at.1 in
+    let before : made ≡ Load Proposal 0 ∷ announcement t v = at.1 in
     (Store Proposal (input + 1) ∷ made, inl (same, cc), refl))
 
 -- a load of the value u from the proposal
 pub prefers_found :
-    (t : QuorumTable) (v u seen : ℕ) → seen ≡ u + 1 → ReadsClear t v u 0 (Load Proposal seen ∷ announced t v)
+    (t : QuorumTable) (v u seen : ℕ) → seen ≡ u + 1 → ReadsClear t v u 0 (Load Proposal seen ∷ announcement t v)
 prefers_found t v u seen e =
-    (Load Proposal seen ∷ announced t v, inr (ap (λ n. Load Proposal n ∷ announced t v) e), refl)
+    (Load Proposal seen ∷ announcement t v, inr (ap (λ n. Load Proposal n ∷ announcement t v) e), refl)
 
 -- ---- checking
 -- a load of 0 from the least register that is left goes on with the check
@@ -179,8 +179,12 @@ checked_zero t q v u left r after made op seen within at is zero_seen least take
     let same : x.0 ≡ r = one_least left x.0 r x.2 least in
     let act : act_of op seen ≡ Load (Quorum r) 0 =
     ap (λ o. act_of o seen) x.1 ∙ ap₂ (λ s n. Load (Quorum s) n) same zero_seen in
-    let next = checked_next t q v u left r made within at least in
-    (next.0, rest_taken (t.read u) at.0 left r after at.2 least taken, subst (λ a. ReadsClear t v u (r + 1) (a ∷ made)) (sym act) next.1)
+    let next = checked_next t q v u left r made within at least in (
+      next.0,
+      rest_taken (t.read u) at.0 left r after at.2 least taken,
+      subst (λ a. ReadsClear t v u (r + 1) (a ∷ made))
+          (sym act) next.1,
+    )
 
 -- a load of 1 ends the path
 pub checked_one :
@@ -193,8 +197,13 @@ checked_one t q v u left made op seen within at is can some =
     let from = rest_least (t.read u) at.0 left x.0 at.2 x.2 in
     let below : x.0 < t.registers = member_below t.registers (t.read u) x.0 (q.read_within u within) from.member in
     let one : seen ≡ 1 = omega arith in
-    let same = each_skip (λ k. Load (Quorum k) 0) x.0 (t.read u) at.0 from.above from.least in
-    (x.0, ap (λ o. act_of o seen) x.1 ∙ ap (λ n. Load (Quorum x.0) n) one, from.member, below, (at.3.0, at.3.1, at.3.2 ∙ ap (λ xs. xs ++ at.3.0) (sym same)))
+    let same = each_skip (λ k. Load (Quorum k) 0) x.0 (t.read u) at.0 from.above from.least in (
+      x.0,
+      ap (λ o. act_of o seen) x.1 ∙ ap (λ n. Load (Quorum x.0) n) one,
+      from.member,
+      below,
+      (at.3.0, at.3.1, at.3.2 ∙ ap (λ xs. xs ++ at.3.0) (sym same)),
+    )
 
 -- where nothing is left, the whole read quorum was 0
 pub checked_whole :
@@ -202,5 +211,6 @@ pub checked_whole :
     → left ≡ 0 → ReadsClear t v u bound made → ReadsClear t v u t.registers made
 checked_whole t v u bound left made within rest none h =
     let free = rest_none (t.read u) bound left rest none in
-    let all = each_skip (λ k. Load (Quorum k) 0) t.registers (t.read u) bound within (λ k above below m. free k above m) in
+    let all = each_skip (λ k. Load (Quorum k) 0) t.registers (t.read u) bound within
+    (λ k above below m. free k above m) in
     (h.0, h.1, h.2 ∙ ap (λ xs. xs ++ h.0) (sym all))

@@ -1,12 +1,8 @@
 -- The next act of a conciliator's path: what was made names its word, and what it stores.
 use Rattle.std.proofs.Common.{◌≡◌, ℕ, zero, suc, ◌+◌, ◌⊎◌, List, [], ◌∷◌, ◌++◌, inl, inr, sym, refl, ◌∙◌, subst}
-use Rattle.mb_deciding.specs.declared.access.Reg.TheVariants.{Value, Proposal, Quorum}
-use Rattle.mb_deciding.specs.declared.access.Act.{Act}
-use Rattle.mb_deciding.specs.declared.access.Act.TheVariants.{Load, Store}
-use Rattle.mb_deciding.specs.declared.access.Turn.{Turn}
-use Rattle.mb_deciding.specs.Conciliator.{StoresOn, IsMissing, IsDrawn, IsPut, IsConciliatorPath}
+use Rattle.mb_deciding.specs.{IsSameOp, Value, Proposal, Quorum, Act, Load, Store, Turn, StoresOn, IsMissing, IsDrawn}
+use Rattle.mb_deciding.specs.{IsPut, IsConciliatorPath}
 use Rattle.mb_deciding.proofs.ConciliatorPaths.{missing_before}
-use Rattle.mb_deciding.proofs.SameOp.{IsSameOp}
 
 -- all that a process with input v made before an act of its path
 abbrev pub Follows : ℕ → ℕ → Act → List Turn → Type 0
@@ -51,7 +47,7 @@ path_follow s v (x ∷ older) u h =
       | inr p ↦ (subst (λ act. Follows s v act older) (sym h.0) (h.1.0, inr p), put_follow s v h.1.0 older p)
     ]
 
--- an earlier part of a list
+-- an older part of a list
 suffix_follow : (s v : ℕ) (later turns : List Turn) → AllFollow s v (later ++ turns) → AllFollow s v turns
 suffix_follow s v [] turns h = h
 suffix_follow s v (x ∷ later) turns h = suffix_follow s v later turns h.1

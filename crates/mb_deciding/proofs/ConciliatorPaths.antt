@@ -1,10 +1,8 @@
 -- What a process does on its path through a conciliator.
-use Rattle.std.proofs.Common.{◌≡◌, ℕ, zero, suc, ◌+◌, ◌≤◌, List, [], ◌∷◌, ◌++◌, length, inl, inr, sym, refl, ap, ◌∙◌, subst, arith}
-use Rattle.mb_deciding.specs.declared.access.Reg.TheVariants.{Value, Proposal, Quorum}
-use Rattle.mb_deciding.specs.declared.access.Act.{Act}
-use Rattle.mb_deciding.specs.declared.access.Act.TheVariants.{Load, Store}
-use Rattle.mb_deciding.specs.declared.access.Turn.{Turn}
-use Rattle.mb_deciding.specs.Conciliator.{IsMissing, IsDrawn, IsPut, IsConciliatorPath}
+use Rattle.std.proofs.Common.{◌≡◌, ℕ, zero, suc, ◌+◌, ◌≤◌, List, [], ◌∷◌, ◌++◌, length, inl, inr, sym, refl, ap, ◌∙◌}
+use Rattle.std.proofs.Common.{subst, arith}
+use Rattle.mb_deciding.specs.{Value, Proposal, Quorum, Act, Load, Store, Turn, IsMissing, IsDrawn, IsPut}
+use Rattle.mb_deciding.specs.{IsConciliatorPath}
 
 -- before its end a process with input v loads 0 or stores v
 abbrev IsBefore : ℕ → Act → Type 0
@@ -57,7 +55,7 @@ pub path_length : (s v : ℕ) (turns : List Turn) (u : ℕ) → IsConciliatorPat
 path_length s v [] u h = absurd h
 path_length s v (x ∷ older) u h = omega (arith, (behind_last s v x older u h).1)
 
--- an earlier part of a list
+-- an older part of a list
 suffix_before : (v : ℕ) (later turns : List Turn) → AreBefore v (later ++ turns) → AreBefore v turns
 suffix_before v [] turns h = h
 suffix_before v (x ∷ later) turns h = suffix_before v later turns h.1

@@ -1,19 +1,13 @@
 -- The places of a conciliator: where each next turn leads.
-use Rattle.std.proofs.Common.{◌≡◌, ℕ, suc, ◌+◌, ◌-◌, ◌*◌, ◌<◌, ◌≤◌, ◌%◌, ◌^◌, false, List, [], ◌∷◌, inl, inr, refl, ap, subst, arith}
+use Rattle.std.proofs.Common.{◌≡◌, ℕ, suc, ◌+◌, ◌-◌, ◌*◌, ◌<◌, ◌≤◌, ◌%◌, ◌^◌, false, List, [], ◌∷◌, inl, inr, refl, ap}
+use Rattle.std.proofs.Common.{subst, arith}
 use Rattle.std.proofs.Math.Numerals.{one-add}
 use Rattle.std.proofs.Math.Pow.{pow_mono, pow_pos, pow-add}
 use Rattle.std.proofs.Math.Nat.{mod-lt}
 use Rattle.std.proofs.lemmas.Bool.{cases_lt}
 use Rattle.mb_quorum.specs.Quorum.{QuorumTable}
-use Rattle.mb_deciding.specs.declared.access.Reg.TheVariants.{Value}
-use Rattle.mb_deciding.specs.declared.access.Act.TheVariants.{Load, Store}
-use Rattle.mb_deciding.specs.declared.access.Turn.{Turn}
-use Rattle.mb_deciding.specs.declared.object.Kind.TheVariants.{Conciliator}
-use Rattle.mb_deciding.specs.declared.conciliator_place.ConciliatorPlace.{ConciliatorPlace}
-use Rattle.mb_deciding.specs.declared.conciliator_place.ConciliatorPlace.TheVariants.{Draw, Put, Look}
-use Rattle.mb_deciding.specs.Conciliator.{IsConciliatorPath}
-use Rattle.mb_deciding.specs.Objects.{answer, IsOpen}
-use Rattle.mb_deciding.specs.Place.{HasLimits, IsInConciliator}
+use Rattle.mb_deciding.specs.{Value, Load, Store, Turn, Conciliator, ConciliatorPlace, Draw, Put, Look}
+use Rattle.mb_deciding.specs.{IsConciliatorPath, answer, IsOpen, HasLimits, IsInConciliator}
 use Rattle.mb_deciding.proofs.Histories.{not_empty}
 
 -- ---- the next turn
@@ -21,24 +15,28 @@ use Rattle.mb_deciding.proofs.Histories.{not_empty}
 never : (a b : ℕ) → a < b → b ≤ a → ⊥
 never a b l m = omega arith
 
--- on turn s every word stores
-turns_left : (k s n : ℕ) → 2 ^ k ≤ n → n < 2 ^ s → suc k ≤ s
-turns_left k s n a b =
+-- on attempt s every word stores
+attempts_remain : (k s n : ℕ) → 2 ^ k ≤ n → n < 2 ^ s → suc k ≤ s
+attempts_remain k s n a b =
     elim (cases_lt k s) [ inl l ↦ l | inr l ↦ absurd (let m : 2 ^ s ≤ 2 ^ k = pow_mono l in omega arith) ]
 
--- a word that does not store on turn k
+-- a word that does not store on attempt k
 above_limit : (s k limit modulus word : ℕ) → HasLimits s k limit modulus → limit ≤ word % modulus → 2 ^ k ≤ word % 2 ^ s
 above_limit s k limit modulus word limits none =
     subst (λ n. 2 ^ k ≤ word % n) limits.2 (subst (λ n. n ≤ word % modulus) limits.1 none)
 
--- so that is not the last turn, and the next limit is twice this one
+-- so that is not the last attempt, and the next limit is twice this one
 pub next_limits :
     (s k limit modulus word : ℕ) → HasLimits s k limit modulus → limit ≤ word % modulus
     → HasLimits s (suc k) (limit * 2) modulus
 next_limits s k limit modulus word limits none =
     let double : 2 ^ suc k ≡ 2 * 2 ^ k = rw one-add at (pow-add 2 1 k) in
-    let exact : limit ≡ 2 ^ k = limits.1 in
-    (turns_left k s (word % 2 ^ s) (above_limit s k limit modulus word limits none) (mod-lt word (pow_pos s)), omega arith, limits.2)
+    let exact : limit ≡ 2 ^ k = limits.1 in (
+      attempts_remain k s (word % 2 ^ s) (above_limit s k limit modulus word limits none)
+          (mod-lt word (pow_pos s)),
+      omega arith,
+      limits.2,
+    )
 
 -- the word is empty, and the random word does not store: the next turn
 pub draw_missed :
@@ -59,12 +57,24 @@ draw_missed s v input limit modulus word turns at none =
 pub draw_found :
     (s v input limit modulus word : ℕ) (turns : List Turn) → IsInConciliator s v (Draw input limit modulus) turns
     → word % modulus < limit → IsInConciliator s v (Put input) (record { act = Load Value 0; word = word } ∷ turns)
-draw_found s v input limit modulus word turns at stores =
-    (at.0, (at.1.0, at.1.1.0, (refl, subst (λ n. word % 2 ^ s < n) at.1.1.1 (subst (λ n. word % n < limit) at.1.1.2 stores), at.1.2)))
+draw_found s v input limit modulus word turns at stores = (
+  at.0,
+  (
+    at.1.0,
+    at.1.1.0,
+    (
+      refl,
+      subst (λ n. word % 2 ^ s < n) at.1.1.1
+          (subst (λ n. word % n < limit) at.1.1.2 stores),
+      at.1.2,
+    ),
+  ),
+)
 
 -- the word is not empty: that is the end
 pub draw_ends :
-    (s v input limit modulus seen word : ℕ) (turns : List Turn) → IsInConciliator s v (Draw input limit modulus) turns → 0 < seen
+    (s v input limit modulus seen word : ℕ) (turns : List Turn) → IsInConciliator s v (Draw input limit modulus) turns
+    → 0 < seen
     → IsConciliatorPath s v (record { act = Load Value seen; word = word } ∷ turns) (seen - 1)
 draw_ends s v input limit modulus seen word turns at some =
     (let e : seen ≡ seen - 1 + 1 = omega arith in ap (λ n. Load Value n) e, (at.1.0, at.1.1.0, inl at.1.2))
@@ -95,7 +105,10 @@ unfolding last_turn
 drawing_open t s v (Draw input limit modulus) turns at =
     (last_turn v ∷ [], not_empty (last_turn v) [], (answer false v, (refl, (refl, (at.1.0, at.1.1.0, inl at.1.2)))))
 drawing_open t s v (Put input) turns at =
-    let put : Turn = record { act = Store Value (v + 1); word = 0 } in
-    (last_turn v ∷ put ∷ [], not_empty (last_turn v) (put ∷ []), (answer false v, (refl, (refl, (at.1.0, at.1.1, inr (refl, at.1.2))))))
+    let put : Turn = record { act = Store Value (v + 1); word = 0 } in (
+      last_turn v ∷ put ∷ [],
+      not_empty (last_turn v) (put ∷ []),
+      (answer false v, (refl, (refl, (at.1.0, at.1.1, inr (refl, at.1.2))))),
+    )
 drawing_open t s v (Look input) turns at =
     (last_turn v ∷ [], not_empty (last_turn v) [], (answer false v, (refl, (refl, (at.1.0, at.1.1, inr at.1.2)))))

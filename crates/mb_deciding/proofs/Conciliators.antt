@@ -1,19 +1,12 @@
 -- What holds of every lawful history of one conciliator.
-use Rattle.std.proofs.Common.{◌≡◌, ◌≢◌, ℕ, ◌+◌, ◌-◌, ◌<◌, ◌≤◌, ◌⊎◌, List, [], ◌∷◌, inl, inr, sym, refl, ap, ◌∙◌, subst, arith}
+use Rattle.std.proofs.Common.{◌≡◌, ◌≢◌, ℕ, ◌+◌, ◌-◌, ◌<◌, ◌≤◌, ◌⊎◌, List, [], ◌∷◌, inl, inr, sym, refl, ap, ◌∙◌, subst}
+use Rattle.std.proofs.Common.{arith}
 use Rattle.std.specs.List.{cons_option}
 use Rattle.std.proofs.lemmas.Bool.{cases_eq}
+use Rattle.mb_deciding.specs.{Reg, Value, Proposal, Quorum, Act, Load, Store, Turn, Access, Conciliator, Object}
+use Rattle.mb_deciding.specs.{object_of, conciliator_of, value_after, value_in, stored_by, ReadsLast, part, IsPut}
+use Rattle.mb_deciding.specs.{IsPrefix, IsObjectLawful, CanHold, IsValid, IsFirstMover, stores_in}
 use Rattle.mb_quorum.specs.Quorum.{QuorumTable}
-use Rattle.mb_deciding.specs.declared.access.Reg.{Reg}
-use Rattle.mb_deciding.specs.declared.access.Reg.TheVariants.{Value, Proposal, Quorum}
-use Rattle.mb_deciding.specs.declared.access.Act.{Act}
-use Rattle.mb_deciding.specs.declared.access.Act.TheVariants.{Load, Store}
-use Rattle.mb_deciding.specs.declared.access.Turn.{Turn}
-use Rattle.mb_deciding.specs.declared.access.Access.{Access}
-use Rattle.mb_deciding.specs.declared.object.Kind.TheVariants.{Conciliator}
-use Rattle.mb_deciding.specs.History.{value_after, value_in, ReadsLast, turns_of}
-use Rattle.mb_deciding.specs.Conciliator.{IsPut}
-use Rattle.mb_deciding.specs.Objects.{IsPrefix, IsObjectLawful, CanHold}
-use Rattle.mb_deciding.specs.Deciding.{IsValid, IsFirstMover, stored_by, stores_in}
 use Rattle.mb_deciding.proofs.Histories.{lawful_older, own_turns, own_some, some_kept, since_newest}
 use Rattle.mb_deciding.proofs.ConciliatorPaths.{StoresInput, path_stores, path_last}
 
@@ -70,17 +63,18 @@ register_kept v r (Store (Quorum i) w) n b e = absurd b
 module _ (t : QuorumTable) (s : ℕ) (inputs : ℕ → ℕ) where
   -- the history is lawful for this conciliator
   abbrev L : List Access → Type 0
-  L h = IsObjectLawful t (Conciliator s) inputs h
+  L h = IsObjectLawful (conciliator_of t s inputs) h
 
   -- the newest access stores the input of its process, if it stores
   newest_stores : (a : Access) (h : List Access) → L (a ∷ h) → StoresInput (inputs a.process) a.turn.act
   newest_stores a h l =
-      let p = subst (λ xs. IsPrefix t (Conciliator s) (inputs a.process) xs) (own_turns a h) (l.parts a.process (own_some a h)).1 in
-      path_stores s (inputs a.process) a.turn (turns_of a.process h) p.0 p.1.value p.2.1
+      let p = subst (λ xs. IsPrefix t (Conciliator s) (inputs a.process) xs) (own_turns a h)
+      (l.parts a.process (own_some a h)).1 in
+      path_stores s (inputs a.process) a.turn (part a.process h) p.0 p.1.value p.2.1
 
   -- the value is the input of a process with a turn
   abbrev IsFrom : List Access → ℕ → Type 0
-  IsFrom h u = (b : ℕ) × (turns_of b h ≢ []) × (inputs b ≡ u)
+  IsFrom h u = (b : ℕ) × (part b h ≢ []) × (inputs b ≡ u)
 
   -- it is in a longer history too
   from_kept : (a : Access) (h : List Access) (u : ℕ) → IsFrom h u → IsFrom (a ∷ h) u
@@ -91,7 +85,7 @@ module _ (t : QuorumTable) (s : ℕ) (inputs : ℕ → ℕ) where
   value_from [] l u e = absurd (omega arith)
   value_from (a ∷ h) l u e =
       elim (act_value (inputs a.process) u a.turn.act (value_in Value h) (newest_stores a h l) e) [
-        | inl k ↦ from_kept a h u (value_from h (lawful_older t (Conciliator s) inputs a h l) u k)
+        | inl k ↦ from_kept a h u (value_from h (lawful_older (conciliator_of t s inputs) a h l) u k)
         | inr k ↦ (a.process, own_some a h, k)
       ]
 
@@ -100,7 +94,7 @@ module _ (t : QuorumTable) (s : ℕ) (inputs : ℕ → ℕ) where
   value_stored [] l u e = absurd (omega arith)
   value_stored (a ∷ h) l u e =
       act_stored (inputs a.process) u a.turn.act (value_in Value h) (stores_in h) (newest_stores a h l)
-      (value_stored h (lawful_older t (Conciliator s) inputs a h l) u) e
+      (value_stored h (lawful_older (conciliator_of t s inputs) a h l) u) e
 
   -- a load that is the newest access has the value that the older ones left
   newest_load :
@@ -109,38 +103,42 @@ module _ (t : QuorumTable) (s : ℕ) (inputs : ℕ → ℕ) where
   newest_load a h l last u e same = sym (subst (λ act. ReadsLast act h) (ap (λ x. x.act) same ∙ e) l.memory.0)
 
   -- validity
-  pub valid : (h : List Access) → L h → IsValid t (Conciliator s) inputs h
+  pub valid : (h : List Access) → L h → IsValid (conciliator_of t s inputs) h
   valid h l p d u o =
-      let end = path_last s (inputs p) (turns_of p h) u o.1 in
-      since_newest t (Conciliator s) inputs (λ g. IsFrom g u) end.0
-      (λ a g k same. from_kept a g u (value_from g (lawful_older t (Conciliator s) inputs a g k) u (newest_load a g k end.0 u end.2 same)))
+      let end = path_last s (inputs p) (part p h) u o.1 in
+      since_newest (conciliator_of t s inputs) (λ g. IsFrom g u) end.0
+      (λ a g k same. from_kept a g u (value_from g (lawful_older (conciliator_of t s inputs) a g k) u
+      (newest_load a g k end.0 u end.2 same)))
       (λ a g k f. from_kept a g u f)
       h l p end.1 end.3
 
   -- an output was stored
   output_stored :
       (h : List Access) → L h → (p u : ℕ) (last : Turn) (rest : List Turn) → last.act ≡ Load Value (u + 1)
-      → turns_of p h ≡ last ∷ rest → IsAmong (stores_in h) (u + 1)
+      → part p h ≡ last ∷ rest → IsAmong (stores_in h) (u + 1)
   output_stored h l p u last rest e is =
-      since_newest t (Conciliator s) inputs (λ g. IsAmong (stores_in g) (u + 1)) last
-      (λ a g k same. among_kept a.turn.act (u + 1) (stores_in g) (value_stored g (lawful_older t (Conciliator s) inputs a g k) u (newest_load a g k last u e same)))
+      since_newest (conciliator_of t s inputs) (λ g. IsAmong (stores_in g) (u + 1)) last
+      (λ a g k same. among_kept a.turn.act (u + 1) (stores_in g)
+      (value_stored g (lawful_older (conciliator_of t s inputs) a g k) u (newest_load a g k last u e same)))
       (λ a g k f. among_kept a.turn.act (u + 1) (stores_in g) f)
       h l p rest is
 
   -- where one store was made, every output is its value
-  pub first_movers : (h : List Access) → L h → IsFirstMover t s inputs h
+  first_movers : (h : List Access) → L h → IsFirstMover (conciliator_of t s inputs) h
   first_movers h l w only p d u o =
-      let end = path_last s (inputs p) (turns_of p h) u o.1 in
-      elim (subst (λ xs. IsAmong xs (u + 1)) only (output_stored h l p u end.0 end.1 end.2 end.3)) [ inl e ↦ sym e | inr none ↦ absurd none ]
+      let end = path_last s (inputs p) (part p h) u o.1 in
+      elim (subst (λ xs. IsAmong xs (u + 1)) only
+      (output_stored h l p u end.0 end.1 end.2 end.3)) [ inl e ↦ sym e | inr none ↦ absurd none ]
 
   -- who has stored left the word filled, and so it stays
   pub put_filled :
-      (h : List Access) → L h → (p k : ℕ) (turns : List Turn) → turns_of p h ≡ turns → IsPut s (inputs p) k turns
+      (h : List Access) → L h → (p k : ℕ) (turns : List Turn) → part p h ≡ turns → IsPut s (inputs p) k turns
       → 0 < value_in Value h
   put_filled h l p k [] is put = absurd put
   put_filled h l p k (x ∷ older) is put =
-      since_newest t (Conciliator s) inputs (λ g. 0 < value_in Value g) x
-      (λ a g b same. subst (λ act. 0 < value_after Value act (value_in Value g)) (sym (ap (λ y. y.act) same ∙ put.0)) (omega arith))
+      since_newest (conciliator_of t s inputs) (λ g. 0 < value_in Value g) x
+      (λ a g b same. subst (λ act. 0 < value_after Value act (value_in Value g)) (sym (ap (λ y. y.act) same ∙ put.0))
+      (omega arith))
       (λ a g b f. filled_after (inputs a.process) a.turn.act (value_in Value g) (newest_stores a g b) f)
       h l p older is
 
@@ -161,17 +159,25 @@ module _ (t : QuorumTable) (s : ℕ) (inputs : ℕ → ℕ) where
   no_proposal [] l = refl
   no_proposal (a ∷ h) l =
       proposal_kept (inputs a.process) a.turn.act (value_in Proposal h) (newest_stores a h l)
-      (no_proposal h (lawful_older t (Conciliator s) inputs a h l))
+      (no_proposal h (lawful_older (conciliator_of t s inputs) a h l))
 
   -- and no quorum registers
   no_register : (r : ℕ) (h : List Access) → L h → value_in (Quorum r) h ≡ 0
   no_register r [] l = refl
   no_register r (a ∷ h) l =
       register_kept (inputs a.process) r a.turn.act (value_in (Quorum r) h) (newest_stores a h l)
-      (no_register r h (lawful_older t (Conciliator s) inputs a h l))
+      (no_register r h (lawful_older (conciliator_of t s inputs) a h l))
 
   -- each word holds what it can
   pub fits : (h : List Access) (reg : Reg) → L h → CanHold t reg (value_in reg h)
   fits h Value l = value_small h l
   fits h Proposal l = omega (arith, no_proposal h l)
   fits h (Quorum r) l = omega (arith, no_register r h l)
+
+-- where one store was made to a conciliator, every output is its value
+pub one_mover :
+    (o : Object) (s : ℕ) (h : List Access) → o.kind ≡ Conciliator s → IsObjectLawful o h → IsFirstMover o h
+one_mover o s h is =
+    subst (λ kind. IsObjectLawful (object_of o.table kind o.inputs) h → IsFirstMover
+    (object_of o.table kind o.inputs) h) (sym is)
+    (first_movers o.table s o.inputs h)

@@ -1,16 +1,12 @@
 -- What the acts of a ratifier's path have behind them.
-use Rattle.std.proofs.Common.{◌≡◌, ◌≢◌, ℕ, zero, suc, ◌+◌, ◌<◌, ◌==◌, cond, Bool, true, false, List, [], ◌∷◌, ◌++◌, ◌⊎◌, inl, inr, sym, refl, ap, subst, arith}
+use Rattle.std.proofs.Common.{◌≡◌, ◌≢◌, ℕ, zero, suc, ◌+◌, ◌<◌, ◌==◌, cond, Bool, true, false, List, [], ◌∷◌, ◌++◌, ◌⊎◌}
+use Rattle.std.proofs.Common.{inl, inr, sym, refl, ap, subst, arith}
 use Rattle.std.specs.Int.{bit_at}
 use Rattle.std.proofs.lemmas.Bool.{cases_eq, eqb-true, eq-eqb}
 use Rattle.mb_quorum.specs.Quorum.{QuorumTable, IsMember}
-use Rattle.mb_deciding.specs.declared.access.Reg.TheVariants.{Value, Proposal, Quorum}
-use Rattle.mb_deciding.specs.declared.access.Act.{Act}
-use Rattle.mb_deciding.specs.declared.access.Act.TheVariants.{Load, Store}
-use Rattle.mb_deciding.specs.declared.access.Turn.{Turn}
-use Rattle.mb_deciding.specs.declared.object.Kind.TheVariants.{Ratifier}
-use Rattle.mb_deciding.specs.History.{acts, Has}
-use Rattle.mb_deciding.specs.Ratifier.{each_below, stores_below, zeros_below, announced, Prefers, ReadsClear, ReadsOne, IsRatifierPath}
-use Rattle.mb_deciding.specs.Objects.{IsPrefix}
+use Rattle.mb_deciding.specs.{Value, Proposal, Quorum, Act, Load, Store, Turn, Ratifier, acts, Has, acts_below}
+use Rattle.mb_deciding.specs.{stores_below, zeros_below, announcement, Prefers, ReadsClear, ReadsOne, IsRatifierPath}
+use Rattle.mb_deciding.specs.{IsPrefix}
 use Rattle.mb_deciding.proofs.Acts.{acts-append, has_later}
 
 -- the process stored its input in the proposal, or loaded a value from it
@@ -45,14 +41,15 @@ has_cond_cases true x xs c (inr h) = inr h
 has_cond_cases false x xs c h = inr h
 
 -- each register of the mask below the bound has its act
-has_each : (act : ℕ → Act) (n mask r : ℕ) → r < n → IsMember mask r → Has (each_below act n mask) (act r)
+has_each : (act : ℕ → Act) (n mask r : ℕ) → r < n → IsMember mask r → Has (acts_below act n mask) (act r)
 has_each act zero mask r h m = absurd (omega arith)
 has_each act (suc n) mask r h m =
-    let here : r ≡ n → Has (each_below act (suc n) mask) (act r) =
+    let here : r ≡ n → Has (acts_below act (suc n) mask) (act r) =
     λ e. let b : (bit_at mask n == 1) ≡ true = eq-eqb (bit_at mask n) 1 (subst (λ k. bit_at mask k ≡ 1) e m) in
     rw b (inl (ap act e)) in
-    let below : r ≢ n → Has (each_below act (suc n) mask) (act r) =
-    λ e. has_cond (bit_at mask n == 1) (act n) (each_below act n mask) (act r) (has_each act n mask r (omega arith) m) in
+    let below : r ≢ n → Has (acts_below act (suc n) mask) (act r) =
+    λ e. has_cond (bit_at mask n == 1) (act n) (acts_below act n mask) (act r)
+    (has_each act n mask r (omega arith) m) in
     elim (cases_eq r n) [ inl e ↦ here e | inr e ↦ below e ]
 
 -- ---- paths
@@ -76,7 +73,7 @@ preference_later : (v : ℕ) (xs ys : List Act) → HasPreference v ys → HasPr
 preference_later v xs ys (inl h) = inl (has_later xs ys (Store Proposal (v + 1)) h)
 preference_later v xs ys (inr h) = inr (h.0, has_later xs ys (Load Proposal (h.0 + 1)) h.1)
 
--- one more act in front of an earlier part
+-- one more act in front of an older part
 behind_cond_append :
     (t : QuorumTable) (v : ℕ) (b : Bool) (x : Act) (xs ys : List Act) → Behind t v x (xs ++ ys)
     → AllBehind t v (xs ++ ys) → AllBehind t v (cond b (x ∷ xs) xs ++ ys)
@@ -95,7 +92,7 @@ zeros_behind t v (suc n) mask begin p h =
 
 -- a value that is announced is stored in all of its write quorum
 all_stored :
-    (t : QuorumTable) (v r : ℕ) → r < t.registers → IsMember (t.write v) r → Has (announced t v) (Store (Quorum r) 1)
+    (t : QuorumTable) (v r : ℕ) → r < t.registers → IsMember (t.write v) r → Has (announcement t v) (Store (Quorum r) 1)
 all_stored t v r h m = has_each (λ k. Store (Quorum k) 1) t.registers (t.write v) r h m
 
 -- a path up to its preference
@@ -130,7 +127,7 @@ path_behind :
 path_behind t v made true u h = (clear_behind t v u t.registers made h).1
 path_behind t v made false u h = one_behind t v u made h
 
--- an earlier part of a list
+-- an older part of a list
 suffix_behind : (t : QuorumTable) (v : ℕ) (later made : List Act) → AllBehind t v (later ++ made) → AllBehind t v made
 suffix_behind t v [] made h = h
 suffix_behind t v (x ∷ later) made h = suffix_behind t v later made h.1
@@ -153,7 +150,7 @@ behind_at t v (x ∷ made) a all (inr h) =
     (deeper.0, deeper.1, λ c k. inr (deeper.2 c k))
 
 -- ---- what a path loaded
--- what is in a list is in the list before an earlier part
+-- what is in a list is in the list in front of an older part
 has_sooner : (xs ys : List Act) (c : Act) → Has xs c → Has (xs ++ ys) c
 has_sooner [] ys c k = absurd k
 has_sooner (x ∷ xs) ys c (inl e) = inl e
@@ -165,7 +162,8 @@ pub clear_loads :
     → IsMember (t.read u) r → Has made (Load (Quorum r) 0)
 clear_loads t v u n made h r l m =
     subst (λ xs. Has xs (Load (Quorum r) 0)) (sym h.2)
-    (has_sooner (zeros_below n (t.read u)) h.0 (Load (Quorum r) 0) (has_each (λ k. Load (Quorum k) 0) n (t.read u) r l m))
+    (has_sooner (zeros_below n (t.read u)) h.0 (Load (Quorum r) 0)
+    (has_each (λ k. Load (Quorum k) 0) n (t.read u) r l m))
 
 -- the preference is the input, after a load of 0 from the proposal, or it was loaded
 abbrev pub IsChosen : ℕ → ℕ → List Act → Type 0
@@ -184,7 +182,8 @@ chosen_later v u xs ys (inr h) = inr (has_later xs ys (Load Proposal (u + 1)) h)
 -- after clear loads
 clear_chosen : (t : QuorumTable) (v u n : ℕ) (made : List Act) → ReadsClear t v u n made → IsChosen v u made
 clear_chosen t v u n made h =
-    subst (λ xs. IsChosen v u xs) (sym h.2) (chosen_later v u (zeros_below n (t.read u)) h.0 (prefers_chosen t v u h.0 h.1))
+    subst (λ xs. IsChosen v u xs) (sym h.2) (chosen_later v u (zeros_below n (t.read u)) h.0
+    (prefers_chosen t v u h.0 h.1))
 
 -- a path that ended in a 1 has its preference, and that load
 pub one_chosen :

@@ -1,13 +1,10 @@
 -- One access more, or one less, in a lawful history of an object of any kind.
-use Rattle.std.proofs.Common.{◌≡◌, ◌≢◌, ℕ, ◌<◌, ◌==◌, ◌⊎◌, cond, Bool, true, false, Some, None, List, [], ◌∷◌, ◌++◌, inl, inr, sym, refl, ap, ◌∙◌, subst, append_assoc}
+use Rattle.std.proofs.Common.{◌≡◌, ◌≢◌, ℕ, ◌<◌, ◌==◌, ◌⊎◌, cond, Bool, true, false, Some, None, List, [], ◌∷◌, ◌++◌}
+use Rattle.std.proofs.Common.{inl, inr, sym, refl, ap, ◌∙◌, subst, append_assoc}
 use Rattle.std.specs.List.{cons_option}
 use Rattle.std.proofs.lemmas.Bool.{eq-eqb, eqb-true}
+use Rattle.mb_deciding.specs.{Turn, Access, Kind, Object, IsInWords, ReadsLast, part, IsPath, IsPrefix, IsObjectLawful}
 use Rattle.mb_quorum.specs.Quorum.{QuorumTable}
-use Rattle.mb_deciding.specs.declared.access.Turn.{Turn}
-use Rattle.mb_deciding.specs.declared.access.Access.{Access}
-use Rattle.mb_deciding.specs.declared.object.Kind.{Kind}
-use Rattle.mb_deciding.specs.History.{IsInWords, ReadsLast, turns_of}
-use Rattle.mb_deciding.specs.Objects.{IsPath, IsPrefix, IsObjectLawful}
 
 -- a list with a first element is not empty
 pub not_empty : {A : Type 0} (x : A) (xs : List A) → x ∷ xs ≢ []
@@ -38,69 +35,72 @@ some_by true x turns some = not_empty x turns
 some_by false x turns some = some
 
 -- a process with a turn has one in a longer history
-pub some_kept : (p : ℕ) (a : Access) (h : List Access) → turns_of p h ≢ [] → turns_of p (a ∷ h) ≢ []
-some_kept p a h some = some_by (a.process == p) a.turn (turns_of p h) some
+pub some_kept : (p : ℕ) (a : Access) (h : List Access) → part p h ≢ [] → part p (a ∷ h) ≢ []
+some_kept p a h some = some_by (a.process == p) a.turn (part p h) some
 
 -- a lawful history without its newest access is lawful
 pub lawful_older :
-    (t : QuorumTable) (kind : Kind) (inputs : ℕ → ℕ) (a : Access) (h : List Access)
-    → IsObjectLawful t kind inputs (a ∷ h) → IsObjectLawful t kind inputs h
-lawful_older t kind inputs a h l =
+    (o : Object) (a : Access) (h : List Access)
+    → IsObjectLawful o (a ∷ h) → IsObjectLawful o h
+lawful_older o a h l =
     record {
       memory = l.memory.1;
       words = l.words.1;
       parts =
-          λ p some. let q = l.parts p (some_kept p a h some) in (q.0, older_by t kind (inputs p) (a.process == p) a.turn (turns_of p h) q.1);
+          λ p some. let q = l.parts p (some_kept p a h some) in
+          (q.0, older_by o.table o.kind (o.inputs p) (a.process == p) a.turn (part p h) q.1);
     }
 
 -- the newest access is the newest turn of its process
-pub own_turns : (a : Access) (h : List Access) → turns_of a.process (a ∷ h) ≡ a.turn ∷ turns_of a.process h
+pub own_turns : (a : Access) (h : List Access) → part a.process (a ∷ h) ≡ a.turn ∷ part a.process h
 own_turns a h =
-    ap (λ b. cons_option (cond b (Some a.turn) None) (turns_of a.process h)) (eq-eqb a.process a.process refl)
+    ap (λ b. cons_option (cond b (Some a.turn) None) (part a.process h)) (eq-eqb a.process a.process refl)
 
 -- so that process has a turn
-pub own_some : (a : Access) (h : List Access) → turns_of a.process (a ∷ h) ≢ []
-own_some a h e = not_empty a.turn (turns_of a.process h) (sym (own_turns a h) ∙ e)
+pub own_some : (a : Access) (h : List Access) → part a.process (a ∷ h) ≢ []
+own_some a h e = not_empty a.turn (part a.process h) (sym (own_turns a h) ∙ e)
 
 -- the part of each process after one more turn of process p
 longer_by :
-    (t : QuorumTable) (kind : Kind) (inputs : ℕ → ℕ) (h : List Access) (p q : ℕ) (turn : Turn)
-    → IsObjectLawful t kind inputs h → inputs p < t.values → IsPrefix t kind (inputs p) (turn ∷ turns_of p h)
-    → (own : Bool) → (p == q) ≡ own → cons_option (cond own (Some turn) None) (turns_of q h) ≢ []
-    → (inputs q < t.values) × IsPrefix t kind (inputs q) (cons_option (cond own (Some turn) None) (turns_of q h))
-longer_by t kind inputs h p q turn l within part true e some =
-    subst (λ k. (inputs k < t.values) × IsPrefix t kind (inputs k) (turn ∷ turns_of k h)) (eqb-true p q e) (within, part)
-longer_by t kind inputs h p q turn l within part false e some = l.parts q some
+    (o : Object) (h : List Access) (p q : ℕ) (turn : Turn)
+    → IsObjectLawful o h → o.inputs p < o.table.values → IsPrefix o.table o.kind (o.inputs p) (turn ∷ part p h)
+    → (own : Bool) → (p == q) ≡ own → cons_option (cond own (Some turn) None) (part q h) ≢ []
+    → (o.inputs q < o.table.values) × IsPrefix o.table o.kind (o.inputs q)
+    (cons_option (cond own (Some turn) None) (part q h))
+longer_by o h p q turn l within prefix true e some =
+    subst (λ k. (o.inputs k < o.table.values) × IsPrefix o.table o.kind (o.inputs k) (turn ∷ part k h)) (eqb-true p q e)
+    (within, prefix)
+longer_by o h p q turn l within prefix false e some = l.parts q some
 
 -- one more turn of a process whose path goes on keeps a history lawful
 pub longer :
-    (t : QuorumTable) (kind : Kind) (inputs : ℕ → ℕ) (h : List Access) (p : ℕ) (turn : Turn)
-    → IsObjectLawful t kind inputs h → inputs p < t.values → IsInWords turn → ReadsLast turn.act h
-    → IsPrefix t kind (inputs p) (turn ∷ turns_of p h)
-    → IsObjectLawful t kind inputs (record { process = p; turn = turn } ∷ h)
-longer t kind inputs h p turn l within words reads part =
+    (o : Object) (h : List Access) (p : ℕ) (turn : Turn)
+    → IsObjectLawful o h → o.inputs p < o.table.values → IsInWords turn → ReadsLast turn.act h
+    → IsPrefix o.table o.kind (o.inputs p) (turn ∷ part p h)
+    → IsObjectLawful o (record { process = p; turn = turn } ∷ h)
+longer o h p turn l within words reads prefix =
     record {
       memory = (reads, l.memory);
       words = (words, l.words);
-      parts = λ q some. longer_by t kind inputs h p q turn l within part (p == q) refl some;
+      parts = λ q some. longer_by o h p q turn l within prefix (p == q) refl some;
     }
 
 -- the empty history is lawful
-pub none_lawful : (t : QuorumTable) (kind : Kind) (inputs : ℕ → ℕ) → IsObjectLawful t kind inputs []
-none_lawful t kind inputs = record { memory = tt; words = tt; parts = λ p some. absurd (some refl) }
+pub none_lawful : (o : Object) → IsObjectLawful o []
+none_lawful o = record { memory = tt; words = tt; parts = λ p some. absurd (some refl) }
 
 -- what holds once a turn is made, and stays, holds where that is the newest turn of a process
 pub since_newest :
-    (t : QuorumTable) (kind : Kind) (inputs : ℕ → ℕ) (P : List Access → Type 0) (last : Turn)
-    → ((a : Access) (h : List Access) → IsObjectLawful t kind inputs (a ∷ h) → a.turn ≡ last → P (a ∷ h))
-    → ((a : Access) (h : List Access) → IsObjectLawful t kind inputs (a ∷ h) → P h → P (a ∷ h)) → (h : List Access)
-    → IsObjectLawful t kind inputs h → (p : ℕ) (rest : List Turn) → turns_of p h ≡ last ∷ rest → P h
-since_newest t kind inputs P last made kept [] l p rest is = absurd (not_empty last rest (sym is))
-since_newest t kind inputs P last made kept (a ∷ h) l p rest is =
-    by (λ k. since_newest t kind inputs P last made kept h (lawful_older t kind inputs a h l) p rest k) (a.process == p) is
+    (o : Object) (P : List Access → Type 0) (last : Turn)
+    → ((a : Access) (h : List Access) → IsObjectLawful o (a ∷ h) → a.turn ≡ last → P (a ∷ h))
+    → ((a : Access) (h : List Access) → IsObjectLawful o (a ∷ h) → P h → P (a ∷ h)) → (h : List Access)
+    → IsObjectLawful o h → (p : ℕ) (rest : List Turn) → part p h ≡ last ∷ rest → P h
+since_newest o P last made kept [] l p rest is = absurd (not_empty last rest (sym is))
+since_newest o P last made kept (a ∷ h) l p rest is =
+    by (λ k. since_newest o P last made kept h (lawful_older o a h l) p rest k) (a.process == p) is
   where
     by :
-        (turns_of p h ≡ last ∷ rest → P h) → (own : Bool)
-        → cons_option (cond own (Some a.turn) None) (turns_of p h) ≡ last ∷ rest → P (a ∷ h)
+        (part p h ≡ last ∷ rest → P h) → (own : Bool)
+        → cons_option (cond own (Some a.turn) None) (part p h) ≡ last ∷ rest → P (a ∷ h)
     by deeper true k = made a h l (let same : a.turn ≡ last = cc in same)
     by deeper false k = kept a h l (deeper k)

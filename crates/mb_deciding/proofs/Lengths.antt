@@ -1,17 +1,17 @@
 -- How long a ratifier's path is, and that no path goes on behind its end.
-use Rattle.std.proofs.Common.{◌≡◌, ℕ, zero, suc, ◌+◌, ◌<◌, ◌≤◌, ◌⊎◌, count_ones, ◌==◌, cond, Bool, true, false, List, [], ◌∷◌, ◌++◌, length, inl, inr, sym, refl, ap, ◌∙◌, subst, length-append, arith}
+use Rattle.std.proofs.Common.{◌≡◌, ℕ, zero, suc, ◌+◌, ◌<◌, ◌≤◌, ◌⊎◌, count_ones, ◌==◌, cond, Bool, true, false, List}
+use Rattle.std.proofs.Common.{[], ◌∷◌, ◌++◌, length, inl, inr, sym, refl, ap, ◌∙◌, subst, length-append, arith}
 use Rattle.std.specs.Int.{bit_at}
 use Rattle.std.proofs.Math.Numerals.{add-one}
 use Rattle.std.proofs.lemmas.Bool.{cases_eq, eq-eqb}
 use Rattle.mb_quorum.specs.Quorum.{QuorumTable, IsMember}
-use Rattle.mb_deciding.specs.declared.access.Reg.TheVariants.{Value, Proposal, Quorum}
-use Rattle.mb_deciding.specs.declared.access.Act.{Act}
-use Rattle.mb_deciding.specs.declared.access.Act.TheVariants.{Load, Store}
-use Rattle.mb_deciding.specs.Ratifier.{each_below, zeros_below, announced, Prefers, ReadsClear, ReadsOne, IsRatifierPath}
+use Rattle.mb_deciding.specs.{Value, Proposal, Quorum, Act, Load, Store, acts_below, zeros_below, announcement, Prefers}
+use Rattle.mb_deciding.specs.{ReadsClear, ReadsOne, IsRatifierPath}
 use Rattle.mb_deciding.proofs.Acts.{has_later}
 use Rattle.mb_deciding.proofs.Grammar.{IsChosen, one_chosen, prefers_chosen, chosen_later}
 use Rattle.mb_deciding.proofs.Sizes.{each_size}
-use Rattle.mb_deciding.proofs.Outputs.{proposal_loads, IsFrom, zeros_loads, clear_from, one_from, clear_only, from_unique}
+use Rattle.mb_deciding.proofs.Outputs.{proposal_loads, IsFrom, zeros_loads, clear_from, one_from, clear_only}
+use Rattle.mb_deciding.proofs.Outputs.{from_unique}
 
 -- ---- registers
 -- one more act, or none
@@ -24,30 +24,35 @@ cond_length false x xs = (omega arith, omega arith)
 -- a register of the mask makes the list longer
 pub each_more :
     (act : ℕ → Act) (n mask r : ℕ) → r < n → IsMember mask r
-    → length (each_below act r mask) < length (each_below act n mask)
+    → length (acts_below act r mask) < length (acts_below act n mask)
 each_more act zero mask r l m = absurd (omega arith)
 each_more act (suc n) mask r l m =
     elim (cases_eq r n) [
       | inl e ↦ (let b : (bit_at mask n == 1) ≡ true = eq-eqb (bit_at mask n) 1 (subst (λ k. bit_at mask k ≡ 1) e m) in
-          let same : length (each_below act r mask) ≡ length (each_below act n mask) =
-          ap (λ k. length (each_below act k mask)) e in
-          let more : length (each_below act (suc n) mask) ≡ suc (length (each_below act n mask)) =
-          ap (λ c. length (cond c (act n ∷ each_below act n mask) (each_below act n mask))) b in
+          let same : length (acts_below act r mask) ≡ length (acts_below act n mask) =
+          ap (λ k. length (acts_below act k mask)) e in
+          let more : length (acts_below act (suc n) mask) ≡ suc (length (acts_below act n mask)) =
+          ap (λ c. length (cond c (act n ∷ acts_below act n mask) (acts_below act n mask))) b in
           omega arith)
-      | inr d ↦ omega (arith, (cond_length (bit_at mask n == 1) (act n) (each_below act n mask)).0, each_more act n mask r (omega arith) m)
+      | inr d ↦ omega (
+        arith,
+        (cond_length (bit_at mask n == 1) (act n)
+            (acts_below act n mask)).0,
+        each_more act n mask r (omega arith) m,
+      )
     ]
 
 -- ---- paths
 -- a value loaded from the proposal gives one act, and an empty proposal two
-extra : ℕ → ℕ
-extra zero = 2
-extra (suc x) = 1
+extra_acts : ℕ → ℕ
+extra_acts zero = 2
+extra_acts (suc x) = 1
 
 -- the list is as long as its first load of the proposal says, with n registers read
 record Measured (t : QuorumTable) (v n : ℕ) (made : List Act) : Type 0 where
   pub first : ℕ
-  pub loads : proposal_loads made ≡ first ∷ proposal_loads (announced t v)
-  pub long : length made ≡ n + (extra first + length (announced t v))
+  pub loads : proposal_loads made ≡ first ∷ proposal_loads (announcement t v)
+  pub long : length made ≡ n + (extra_acts first + length (announcement t v))
 
 -- a store and a load more
 two_more : (n m : ℕ) → n ≡ suc (suc m) → n ≡ 0 + (2 + m)
@@ -59,14 +64,19 @@ one_more n m e = omega arith
 
 -- where the preference was just made
 prefers_measured : (t : QuorumTable) (v u : ℕ) (begin : List Act) → Prefers t v u begin → Measured t v 0 begin
-unfolding extra
+unfolding extra_acts
 prefers_measured t v u begin (inl p) =
-    record { first = 0; loads = ap proposal_loads p.1; long = two_more (length begin) (length (announced t v)) (ap length p.1) }
+    record {
+      first = 0;
+      loads = ap proposal_loads p.1;
+      long = two_more (length begin) (length (announcement t v))
+          (ap length p.1);
+    }
 prefers_measured t v u begin (inr p) =
     record {
       first = suc u;
-      loads = ap proposal_loads p ∙ ap (λ x. x ∷ proposal_loads (announced t v)) (add-one u);
-      long = one_more (length begin) (length (announced t v)) (ap length p);
+      loads = ap proposal_loads p ∙ ap (λ x. x ∷ proposal_loads (announcement t v)) (add-one u);
+      long = one_more (length begin) (length (announcement t v)) (ap length p);
     }
 
 -- after clear loads
@@ -95,7 +105,12 @@ one_measured t v u (act ∷ older) h =
     let m = clear_measured t v u h.0 older h.4 in (
       suc (length (zeros_below h.0 (t.read u))),
       (h.0, h.3, h.2, refl),
-      record { first = m.first; loads = ap (λ a. proposal_loads (a ∷ older)) h.1 ∙ m.loads; long = omega (arith, m.long) },
+      record {
+        first = m.first;
+        loads = ap (λ a. proposal_loads (a ∷ older)) h.1 ∙ m.loads;
+        long = omega
+            (arith, m.long);
+      },
     )
 
 -- any whole path
@@ -109,7 +124,7 @@ path_measured t v made false u h = one_measured t v u made h
 -- the preference of a whole path shows in the values that the proposal gave
 path_from :
     (t : QuorumTable) (v : ℕ) (made : List Act) (d : Bool) (u : ℕ) → IsRatifierPath t v made d u
-    → IsFrom v u (proposal_loads made) (proposal_loads (announced t v))
+    → IsFrom v u (proposal_loads made) (proposal_loads (announcement t v))
 path_from t v made true u h = clear_from t v u t.registers made h
 path_from t v made false u h = one_from t v u made h
 
@@ -129,7 +144,8 @@ no_length (x ∷ xs) e = absurd (omega arith)
 -- no path ends before a decided one has read all
 ends_within : (t : QuorumTable) (u n m : ℕ) (e : Bool) → EndsAt t u true n → EndsAt t u e m → m ≤ n
 ends_within t u n m true a b =
-    let p : n ≡ length (zeros_below t.registers (t.read u)) = a in let q : m ≡ length (zeros_below t.registers (t.read u)) = b in omega arith
+    let p : n ≡ length (zeros_below t.registers (t.read u)) =
+    a in let q : m ≡ length (zeros_below t.registers (t.read u)) = b in omega arith
 ends_within t u n m false a b =
     let p : n ≡ length (zeros_below t.registers (t.read u)) = a in
     let q : m ≡ suc (length (zeros_below b.0 (t.read u))) = b.3 in
@@ -146,19 +162,20 @@ pub clear_same :
 clear_same t v u w n m made h k =
     let a = clear_measured t v u n made h in
     let b = clear_measured t v w m made k in
-    let extras : extra a.first ≡ extra b.first =
-    ap extra (same_first a.first b.first (proposal_loads made) (proposal_loads made) (proposal_loads (announced t v)) a.loads b.loads refl) in
+    let extras : extra_acts a.first ≡ extra_acts b.first =
+    ap extra_acts (same_first a.first b.first (proposal_loads made) (proposal_loads made)
+    (proposal_loads (announcement t v)) a.loads b.loads refl) in
     omega (arith, a.long, b.long)
 
 -- after an empty proposal alone there is no preference
 pub empty_unclear :
-    (t : QuorumTable) (v u n : ℕ) → ReadsClear t v u n (Load Proposal 0 ∷ announced t v) → ⊥
-unfolding extra
+    (t : QuorumTable) (v u n : ℕ) → ReadsClear t v u n (Load Proposal 0 ∷ announcement t v) → ⊥
+unfolding extra_acts
 empty_unclear t v u n h =
-    let a = clear_measured t v u n (Load Proposal 0 ∷ announced t v) h in
-    let loads = proposal_loads (Load Proposal 0 ∷ announced t v) in
-    let empty : a.first ≡ 0 = same_first a.first 0 loads loads (proposal_loads (announced t v)) a.loads refl refl in
-    let extras : extra a.first ≡ 2 = ap extra empty in
+    let a = clear_measured t v u n (Load Proposal 0 ∷ announcement t v) h in
+    let loads = proposal_loads (Load Proposal 0 ∷ announcement t v) in
+    let empty : a.first ≡ 0 = same_first a.first 0 loads loads (proposal_loads (announcement t v)) a.loads refl refl in
+    let extras : extra_acts a.first ≡ 2 = ap extra_acts empty in
     omega (arith, a.long)
 
 -- nothing comes after all loads were clear
@@ -168,8 +185,8 @@ clear_ends :
 clear_ends t v made later e u w h k =
     let m = clear_measured t v u t.registers made h in
     let whole = path_measured t v (later ++ made) e w k in
-    let a : length (proposal_loads made) ≡ suc (length (proposal_loads (announced t v))) = ap length m.loads in
-    let b : length (proposal_loads (later ++ made)) ≡ suc (length (proposal_loads (announced t v))) =
+    let a : length (proposal_loads made) ≡ suc (length (proposal_loads (announcement t v))) = ap length m.loads in
+    let b : length (proposal_loads (later ++ made)) ≡ suc (length (proposal_loads (announcement t v))) =
     ap length whole.2.loads in
     let c : length (proposal_loads (later ++ made)) ≡ length (proposal_loads later) + length (proposal_loads made) =
     ap length (loads-append later made) ∙ length-append (proposal_loads later) (proposal_loads made) in
@@ -177,16 +194,16 @@ clear_ends t v made later e u w h k =
     let loads : proposal_loads (later ++ made) ≡ proposal_loads made =
     loads-append later made ∙ ap (λ zs. zs ++ proposal_loads made) none in
     let same : w ≡ u =
-    from_unique v w u (proposal_loads made) (proposal_loads (announced t v))
-    (subst (λ zs. IsFrom v w zs (proposal_loads (announced t v))) loads (path_from t v (later ++ made) e w k))
+    from_unique v w u (proposal_loads made) (proposal_loads (announcement t v))
+    (subst (λ zs. IsFrom v w zs (proposal_loads (announcement t v))) loads (path_from t v (later ++ made) e w k))
     (clear_from t v u t.registers made h) in
     let first : whole.2.first ≡ m.first =
     same_first whole.2.first m.first (proposal_loads (later ++ made)) (proposal_loads made)
-    (proposal_loads (announced t v)) whole.2.loads m.loads loads in
+    (proposal_loads (announcement t v)) whole.2.loads m.loads loads in
     let within : whole.0 ≤ length (zeros_below t.registers (t.read u)) =
     ends_within t u (length (zeros_below t.registers (t.read u))) whole.0 e refl
     (subst (λ n. EndsAt t n e whole.0) same whole.1) in
-    let extras : extra whole.2.first ≡ extra m.first = ap extra first in
+    let extras : extra_acts whole.2.first ≡ extra_acts m.first = ap extra_acts first in
     no_length later (omega (arith, m.long, whole.2.long, length-append later made))
 
 -- a path has no longer path
@@ -198,7 +215,8 @@ path_ends t v made [] false e u w h k = refl
 path_ends t v made (x ∷ later) false true u w h k =
     let one = (one_chosen t v u made h).1 in
     let none : ◌≡◌ {A = ℕ} 1 0 =
-    (clear_only t v w t.registers one.0 1 (x ∷ later ++ made) k (has_later (x ∷ later) made (Load (Quorum one.0) 1) one.2)).1 in
+    (clear_only t v w t.registers one.0 1 (x ∷ later ++ made) k
+    (has_later (x ∷ later) made (Load (Quorum one.0) 1) one.2)).1 in
     absurd (omega arith)
 path_ends t v made (x ∷ later) false false u w h k =
     let one = (one_chosen t v u made h).1 in
@@ -242,11 +260,15 @@ path_checked t v (act ∷ older) false u h =
       prefers = h.4.1;
       whole = ap (λ xs. act ∷ xs) h.4.2;
       few =
-          omega
-          (arith, each_more (λ r. Load (Quorum r) 0) t.registers (t.read u) h.0 h.3 h.2, each_size (λ r. Load (Quorum r) 0) t.registers (t.read u));
+          omega (
+            arith,
+            each_more (λ r. Load (Quorum r) 0) t.registers (t.read u) h.0 h.3 h.2,
+            each_size
+                (λ r. Load (Quorum r) 0) t.registers (t.read u),
+          );
     }
 
--- an earlier part of two lists ends in the second, or has all of it
+-- an older part of two lists ends in the second, or has all of it
 suffix_cases :
     (xs begin later made : List Act) → xs ++ begin ≡ later ++ made
     → (length made ≤ length begin) ⊎ ((ys : List Act) × (made ≡ ys ++ begin))
@@ -259,14 +281,22 @@ suffix_cases (x ∷ xs) begin (y ∷ later) made e =
 -- or it has chosen the path's preference, and has no more than the check of that adds
 pub part_length :
     (t : QuorumTable) (v : ℕ) (later made : List Act) (d : Bool) (u : ℕ) → IsRatifierPath t v (later ++ made) d u
-    → (length made ≤ count_ones (t.write v) + 2) ⊎ (IsChosen v u made × (length made ≤ count_ones (t.write v) + 2 + count_ones (t.read u)))
+    → (length made ≤ count_ones (t.write v) + 2) ⊎ (IsChosen v u made ×
+    (length made ≤ count_ones (t.write v) + 2 + count_ones (t.read u)))
 part_length t v later made d u h =
     let c = path_checked t v (later ++ made) d u h in
     elim (suffix_cases c.loads c.begin later made (sym c.whole)) [
       | inl short ↦ inl (omega (arith, prefers_length t v u c.begin c.prefers))
       | inr has ↦ inr (
-        subst (λ xs. IsChosen v u xs) (sym has.1) (chosen_later v u has.0 c.begin (prefers_chosen t v u c.begin c.prefers)),
-        omega
-            (arith, ap length c.whole, length-append c.loads c.begin, length-append later made, prefers_length t v u c.begin c.prefers, c.few),
+        subst (λ xs. IsChosen v u xs) (sym has.1) (chosen_later v u has.0 c.begin
+            (prefers_chosen t v u c.begin c.prefers)),
+        omega (
+          arith,
+          ap length c.whole,
+          length-append c.loads c.begin,
+          length-append later made,
+          prefers_length t v u c.begin c.prefers,
+          c.few,
+        ),
       )
     ]

@@ -1,24 +1,17 @@
 -- A schedule has one trace.
-use Rattle.std.proofs.Common.{◌≡◌, ℕ, ◌<◌, Some, None, List, [], ◌∷◌, Option, length, slice_index, sym, refl, ap, ap₂, ◌∙◌, subst}
+use Rattle.std.proofs.Common.{◌≡◌, ℕ, ◌<◌, Some, None, List, [], ◌∷◌, Option, length, sym, refl, ap, ap₂}
+use Rattle.std.proofs.Common.{◌∙◌, subst}
 use Rattle.std.specs.List.{slice_index_or}
 use Rattle.std.proofs.lemmas.List.{ext_get_or}
-use Rattle.mb_quorum.specs.Quorum.{QuorumTable, IsQuorumTable}
-use Rattle.mb_deciding.specs.declared.access.Act.{Act}
-use Rattle.mb_deciding.specs.declared.access.Turn.{Turn}
-use Rattle.mb_deciding.specs.declared.access.Access.{Access}
-use Rattle.mb_deciding.specs.declared.object.Out.{Out}
-use Rattle.mb_deciding.specs.declared.object.Kind.{Kind}
-use Rattle.mb_deciding.specs.declared.object.Kind.TheVariants.{Conciliator, Ratifier}
-use Rattle.mb_deciding.specs.declared.trace.Entry.{Entry}
-use Rattle.mb_deciding.specs.declared.trace.Entry.TheVariants.{Access as Accessed, Done}
-use Rattle.mb_deciding.specs.History.{acts, turns_of}
-use Rattle.mb_deciding.specs.Ratifier.{IsRatifierPath}
-use Rattle.mb_deciding.specs.Objects.{IsPrefix, IsObjectLawful}
-use Rattle.mb_deciding.specs.Trace.{process_of, with_entry, history_from, history_of, HasEnded, IsOutputOf, IsEntryAfter, AreEntriesOf, IsTrace}
+use Rattle.mb_deciding.specs.{IsSameOp, Act, Turn, Access, Out, Kind, Conciliator, Ratifier, Entry, Object, ObjectSetup}
+use Rattle.mb_deciding.specs.{object_in, acts, part, IsRatifierPath, IsPrefix, IsObjectLawful, process_of, with_entry}
+use Rattle.mb_deciding.specs.{history_from, history_of, HasEnded, IsOutputOf, IsEntryAfter, AreEntriesOf, IsTrace}
+use Rattle.mb_quorum.specs.Quorum.{QuorumTable}
+use Rattle.mb_deciding.specs.declared.trace.Entry.TheVariants as entry
 use Rattle.mb_deciding.proofs.Acts.{acts-append}
 use Rattle.mb_deciding.proofs.Histories.{lawful_older, own_turns, own_some}
-use Rattle.mb_deciding.proofs.Owed.{owed}
-use Rattle.mb_deciding.proofs.SameOp.{IsSameOp, same_act}
+use Rattle.mb_deciding.proofs.Owed.{one_end}
+use Rattle.mb_deciding.proofs.SameOp.{same_act}
 use Rattle.mb_deciding.proofs.RatifierNext.{Follows, act_follows, one_op}
 use Rattle.mb_deciding.proofs.ConciliatorNext.{turn_follows, one_op as conciliator_op}
 
@@ -32,7 +25,7 @@ ratifier_follows t v turns x p =
     (subst (λ xs. IsRatifierPath t v xs p.1.decided p.1.value) (acts-append p.0 (x ∷ turns)) p.2)
 
 -- after the same turns there is one op
-next_op :
+pub next_op :
     (t : QuorumTable) (kind : Kind) (v : ℕ) (turns : List Turn) (a b : Turn) → IsPrefix t kind v (a ∷ turns)
     → IsPrefix t kind v (b ∷ turns) → IsSameOp a.act b.act
 next_op t Ratifier v turns a b p q =
@@ -47,109 +40,108 @@ access p word act = record { process = p; turn = record { act = act; word = word
 
 -- the newest turn goes on with the path of its process
 newest_part :
-    (t : QuorumTable) (kind : Kind) (inputs : ℕ → ℕ) (a : Access) (h : List Access)
-    → IsObjectLawful t kind inputs (a ∷ h) → IsPrefix t kind (inputs a.process) (a.turn ∷ turns_of a.process h)
-newest_part t kind inputs a h l =
-    subst (λ xs. IsPrefix t kind (inputs a.process) xs) (own_turns a h) (l.parts a.process (own_some a h)).1
+    (o : Object) (a : Access) (h : List Access)
+    → IsObjectLawful o (a ∷ h) → IsPrefix o.table o.kind (o.inputs a.process) (a.turn ∷ part a.process h)
+newest_part o a h l =
+    subst (λ xs. IsPrefix o.table o.kind (o.inputs a.process) xs) (own_turns a h) (l.parts a.process (own_some a h)).1
 
 -- so a process has one act after a history
 one_act :
-    (t : QuorumTable) (kind : Kind) (inputs : ℕ → ℕ) (word p : ℕ) (h : List Access) (a b : Act)
-    → IsObjectLawful t kind inputs (access p word a ∷ h) → IsObjectLawful t kind inputs (access p word b ∷ h) → a ≡ b
-one_act t kind inputs word p h a b l m =
+    (o : Object) (word p : ℕ) (h : List Access) (a b : Act)
+    → IsObjectLawful o (access p word a ∷ h) → IsObjectLawful o (access p word b ∷ h) → a ≡ b
+one_act o word p h a b l m =
     let op =
-    next_op t kind (inputs p) (turns_of p h) (access p word a).turn (access p word b).turn
-    (newest_part t kind inputs (access p word a) h l)
-    (newest_part t kind inputs (access p word b) h m) in
+    next_op o.table o.kind (o.inputs p) (part p h) (access p word a).turn (access p word b).turn
+    (newest_part o (access p word a) h l)
+    (newest_part o (access p word b) h m) in
     same_act a b h op l.memory.0 m.memory.0
 
 -- ---- one entry
 -- and one output, or none
 one_out :
-    (t : QuorumTable) (kind : Kind) (inputs : ℕ → ℕ) (h : List Access) (p : ℕ) (a b : Option Out) → IsQuorumTable t
-    → IsOutputOf t kind inputs h p a → IsOutputOf t kind inputs h p b → a ≡ b
-one_out t kind inputs h p None None q x y = refl
-one_out t kind inputs h p None (Some b) q x y = absurd (x (b.decided, b.value, y))
-one_out t kind inputs h p (Some a) None q x y = absurd (y (a.decided, a.value, x))
-one_out t kind inputs h p (Some a) (Some b) q x y =
-    ap Some ((owed t kind q).unique (inputs p) (turns_of p h) [] a b x y).1
+    (o : Object) (h : List Access) (p : ℕ) (a b : Option Out)
+    → IsOutputOf o p a h → IsOutputOf o p b h → a ≡ b
+one_out o h p None None x y = refl
+one_out o h p None (Some b) x y = absurd (x (b.decided, b.value, y))
+one_out o h p (Some a) None x y = absurd (y (a.decided, a.value, x))
+one_out o h p (Some a) (Some b) x y =
+    ap Some (one_end o.table o.kind (o.inputs p) (part p h) [] a b x y).1
 
 -- a process has one entry with an access
 one_access :
-    (t : QuorumTable) (kind : Kind) (inputs : ℕ → ℕ) (word p : ℕ) (h : List Access) (a b : Act) (x y : Option Out)
-    → IsQuorumTable t → IsObjectLawful t kind inputs (access p word a ∷ h)
-    → IsObjectLawful t kind inputs (access p word b ∷ h) → IsOutputOf t kind inputs (access p word a ∷ h) p x
-    → IsOutputOf t kind inputs (access p word b ∷ h) p y → Accessed p a x ≡ Accessed p b y
-one_access t kind inputs word p h a b x y q l m out other =
-    let same : a ≡ b = one_act t kind inputs word p h a b l m in
-    let found = subst (λ act. IsOutputOf t kind inputs (access p word act ∷ h) p y) (sym same) other in
-    ap₂ (λ act o. Accessed p act o) same (one_out t kind inputs (access p word a ∷ h) p x y q out found)
+    (o : Object) (word p : ℕ) (h : List Access) (a b : Act) (x y : Option Out)
+    → IsObjectLawful o (access p word a ∷ h)
+    → IsObjectLawful o (access p word b ∷ h) → IsOutputOf o p x (access p word a ∷ h)
+    → IsOutputOf o p y (access p word b ∷ h) → entry.Access p a x ≡ entry.Access p b y
+one_access o word p h a b x y l m out other =
+    let same : a ≡ b = one_act o word p h a b l m in
+    let found = subst (λ act. IsOutputOf o p y (access p word act ∷ h)) (sym same) other in
+    ap₂ (λ act o. entry.Access p act o) same (one_out o (access p word a ∷ h) p x y out found)
 
 -- a turn has one entry
 one_entry :
-    (t : QuorumTable) (kind : Kind) (inputs : ℕ → ℕ) (word : ℕ) (h : List Access) (e f : Entry) → IsQuorumTable t
-    → IsObjectLawful t kind inputs (with_entry word e h) → IsObjectLawful t kind inputs (with_entry word f h)
-    → IsEntryAfter t kind inputs word h e → IsEntryAfter t kind inputs word h f → process_of e ≡ process_of f → e ≡ f
-one_entry t kind inputs word h (Done p) (Done r) q l m x y same = ap Done same
-one_entry t kind inputs word h (Done p) (Accessed r b other) q l m x y same =
-    absurd (y.0 (subst (λ n. HasEnded t kind inputs h n) same x))
-one_entry t kind inputs word h (Accessed p a out) (Done r) q l m x y same =
-    absurd (x.0 (subst (λ n. HasEnded t kind inputs h n) (sym same) y))
-one_entry t kind inputs word h (Accessed p a out) (Accessed r b other) q l m x y same =
-    one_access t kind inputs word p h a b out other q l
-    (subst (λ n. IsObjectLawful t kind inputs (access n word b ∷ h)) (sym same) m)
+    (o : Object) (word : ℕ) (h : List Access) (e f : Entry)
+    → IsObjectLawful o (with_entry word e h) → IsObjectLawful o (with_entry word f h)
+    → IsEntryAfter o word e h → IsEntryAfter o word f h → process_of e ≡ process_of f → e ≡ f
+one_entry o word h (entry.Done p) (entry.Done r) l m x y same = ap entry.Done same
+one_entry o word h (entry.Done p) (entry.Access r b other) l m x y same =
+    absurd (y.0 (subst (λ n. HasEnded o n h) same x))
+one_entry o word h (entry.Access p a out) (entry.Done r) l m x y same =
+    absurd (x.0 (subst (λ n. HasEnded o n h) (sym same) y))
+one_entry o word h (entry.Access p a out) (entry.Access r b other) l m x y same =
+    one_access o word p h a b out other l
+    (subst (λ n. IsObjectLawful o (access n word b ∷ h)) (sym same) m)
     x.1
-    (subst (λ n. IsOutputOf t kind inputs (access n word b ∷ h) n other) (sym same) y.1)
-    ∙ ap (λ n. Accessed n b other) same
+    (subst (λ n. IsOutputOf o n other (access n word b ∷ h)) (sym same) y.1)
+    ∙ ap (λ n. entry.Access n b other) same
 
 -- ---- one trace
 -- a history was lawful before an entry
 entry_older :
-    (t : QuorumTable) (kind : Kind) (inputs : ℕ → ℕ) (word : ℕ) (e : Entry) (h : List Access)
-    → IsObjectLawful t kind inputs (with_entry word e h) → IsObjectLawful t kind inputs h
-entry_older t kind inputs word (Done p) h l = l
-entry_older t kind inputs word (Accessed p a out) h l = lawful_older t kind inputs (access p word a) h l
+    (o : Object) (word : ℕ) (e : Entry) (h : List Access)
+    → IsObjectLawful o (with_entry word e h) → IsObjectLawful o h
+entry_older o word (entry.Done p) h l = l
+entry_older o word (entry.Access p a out) h l = lawful_older o (access p word a) h l
 
 -- and before all
 entries_older :
-    (t : QuorumTable) (kind : Kind) (inputs : ℕ → ℕ) (schedule : List (ℕ × ℕ)) (es : List Entry) (h : List Access)
-    → IsObjectLawful t kind inputs (history_from h schedule es) → IsObjectLawful t kind inputs h
-entries_older t kind inputs [] es h l = l
-entries_older t kind inputs (turn ∷ schedule) [] h l = l
-entries_older t kind inputs (turn ∷ schedule) (e ∷ es) h l =
-    entry_older t kind inputs turn.1 e h (entries_older t kind inputs schedule es (with_entry turn.1 e h) l)
+    (o : Object) (schedule : List (ℕ × ℕ)) (es : List Entry) (h : List Access)
+    → IsObjectLawful o (history_from schedule es h) → IsObjectLawful o h
+entries_older o [] es h l = l
+entries_older o (turn ∷ schedule) [] h l = l
+entries_older o (turn ∷ schedule) (e ∷ es) h l =
+    entry_older o turn.1 e h (entries_older o schedule es (with_entry turn.1 e h) l)
 
 -- the turns of a schedule have one list of entries
 one_list :
-    (t : QuorumTable) (kind : Kind) (inputs : ℕ → ℕ) (schedule : List (ℕ × ℕ)) (es fs : List Entry) (h : List Access)
-    → IsQuorumTable t → IsObjectLawful t kind inputs (history_from h schedule es)
-    → IsObjectLawful t kind inputs (history_from h schedule fs) → AreEntriesOf t kind inputs h schedule es
-    → AreEntriesOf t kind inputs h schedule fs → es ≡ fs
-one_list t kind inputs [] [] [] h q l m x y = refl
-one_list t kind inputs [] [] (f ∷ fs) h q l m x y = absurd y
-one_list t kind inputs [] (e ∷ es) fs h q l m x y = absurd x
-one_list t kind inputs (turn ∷ schedule) [] fs h q l m x y = absurd x
-one_list t kind inputs (turn ∷ schedule) (e ∷ es) [] h q l m x y = absurd y
-one_list t kind inputs (turn ∷ schedule) (e ∷ es) (f ∷ fs) h q l m x y =
+    (o : Object) (schedule : List (ℕ × ℕ)) (es fs : List Entry) (h : List Access)
+    → IsObjectLawful o (history_from schedule es h)
+    → IsObjectLawful o (history_from schedule fs h) → AreEntriesOf o schedule es h
+    → AreEntriesOf o schedule fs h → es ≡ fs
+one_list o [] [] [] h l m x y = refl
+one_list o [] [] (f ∷ fs) h l m x y = absurd y
+one_list o [] (e ∷ es) fs h l m x y = absurd x
+one_list o (turn ∷ schedule) [] fs h l m x y = absurd x
+one_list o (turn ∷ schedule) (e ∷ es) [] h l m x y = absurd y
+one_list o (turn ∷ schedule) (e ∷ es) (f ∷ fs) h l m x y =
     let first : e ≡ f =
-    one_entry t kind inputs turn.1 h e f q (entries_older t kind inputs schedule es (with_entry turn.1 e h) l)
-    (entries_older t kind inputs schedule fs (with_entry turn.1 f h) m)
+    one_entry o turn.1 h e f (entries_older o schedule es (with_entry turn.1 e h) l)
+    (entries_older o schedule fs (with_entry turn.1 f h) m)
     x.1 y.1 (x.0 ∙ sym y.0) in
     let later =
-    one_list t kind inputs schedule es fs (with_entry turn.1 e h) q l
-    (subst (λ d. IsObjectLawful t kind inputs (history_from (with_entry turn.1 d h) schedule fs)) (sym first) m)
+    one_list o schedule es fs (with_entry turn.1 e h) l
+    (subst (λ d. IsObjectLawful o (history_from schedule fs (with_entry turn.1 d h))) (sym first) m)
     x.2
-    (subst (λ d. AreEntriesOf t kind inputs (with_entry turn.1 d h) schedule fs) (sym first) y.2) in
+    (subst (λ d. AreEntriesOf o schedule fs (with_entry turn.1 d h)) (sym first) y.2) in
     ap₂ (λ d ds. d ∷ ds) first later
 
 -- entries and outputs
 pub one_trace :
-    (t : QuorumTable) (kind : Kind) (inputs : List ℕ) (schedule : List (ℕ × ℕ)) (es fs : List Entry)
-    (outs others : List (Option Out)) → IsQuorumTable t → IsTrace t kind inputs schedule es outs
-    → IsTrace t kind inputs schedule fs others → (es ≡ fs) × (outs ≡ others)
-one_trace t kind inputs schedule es fs outs others q a b =
+    (u : ObjectSetup) (schedule : List (ℕ × ℕ)) (es fs : List Entry) (outs others : List (Option Out))
+    → IsTrace u schedule es outs → IsTrace u schedule fs others → (es ≡ fs) × (outs ≡ others)
+one_trace u schedule es fs outs others a b =
     let entries : es ≡ fs =
-    one_list t kind (slice_index inputs) schedule es fs [] q a.lawful b.lawful a.entries b.entries in
+    one_list (object_in u) schedule es fs [] a.lawful b.lawful a.entries b.entries in
     let long : length outs ≡ length others = a.processes ∙ sym b.processes in
     (entries, ext_get_or None outs others long (λ p below. same entries p below (subst (λ n. p < n) long below)))
   where
@@ -157,7 +149,7 @@ one_trace t kind inputs schedule es fs outs others q a b =
         es ≡ fs → (p : ℕ) → p < length outs → p < length others
         → slice_index_or outs p None ≡ slice_index_or others p None
     same entries p below within =
-        one_out t kind (slice_index inputs) (history_of schedule es) p (slice_index_or outs p None)
-        (slice_index_or others p None) q (a.outputs p None below)
-        (subst (λ ds. IsOutputOf t kind (slice_index inputs) (history_of schedule ds) p (slice_index_or others p None))
+        one_out (object_in u) (history_of schedule es) p (slice_index_or outs p None)
+        (slice_index_or others p None) (a.outputs p None below)
+        (subst (λ ds. IsOutputOf (object_in u) p (slice_index_or others p None) (history_of schedule ds))
         (sym entries) (b.outputs p None within))

@@ -1,12 +1,10 @@
 -- A whole path of a ratifier has one output.
-use Rattle.std.proofs.Common.{◌≡◌, ℕ, zero, suc, ◌+◌, ◌<◌, ◌==◌, cond, Bool, true, false, List, [], ◌∷◌, ◌++◌, ◌⊎◌, inl, inr, sym, refl, ap, ◌∙◌, subst, arith}
+use Rattle.std.proofs.Common.{◌≡◌, ℕ, zero, suc, ◌+◌, ◌<◌, ◌==◌, cond, Bool, true, false, List, [], ◌∷◌, ◌++◌, ◌⊎◌, inl}
+use Rattle.std.proofs.Common.{inr, sym, refl, ap, ◌∙◌, subst, arith}
 use Rattle.std.specs.Int.{bit_at}
 use Rattle.mb_quorum.specs.Quorum.{QuorumTable}
-use Rattle.mb_deciding.specs.declared.access.Reg.TheVariants.{Value, Proposal, Quorum}
-use Rattle.mb_deciding.specs.declared.access.Act.{Act}
-use Rattle.mb_deciding.specs.declared.access.Act.TheVariants.{Load, Store}
-use Rattle.mb_deciding.specs.History.{Has}
-use Rattle.mb_deciding.specs.Ratifier.{each_below, stores_below, zeros_below, announced, Prefers, ReadsClear, ReadsOne, IsRatifierPath}
+use Rattle.mb_deciding.specs.{Value, Proposal, Quorum, Act, Load, Store, Has, acts_below, stores_below, zeros_below}
+use Rattle.mb_deciding.specs.{announcement, Prefers, ReadsClear, ReadsOne, IsRatifierPath}
 use Rattle.mb_deciding.proofs.Grammar.{has_cond_cases, one_chosen}
 
 -- the values that the proposal gave, the newest first
@@ -19,10 +17,10 @@ proposal_loads (Store reg w ∷ older) = proposal_loads older
 
 -- an act of a list that has an act for each register
 has_each_cases :
-    (act : ℕ → Act) (n mask : ℕ) (c : Act) → Has (each_below act n mask) c → (r : ℕ) × (r < n) × (c ≡ act r)
+    (act : ℕ → Act) (n mask : ℕ) (c : Act) → Has (acts_below act n mask) c → (r : ℕ) × (r < n) × (c ≡ act r)
 has_each_cases act zero mask c h = absurd h
 has_each_cases act (suc n) mask c h =
-    elim (has_cond_cases (bit_at mask n == 1) (act n) (each_below act n mask) c h) [
+    elim (has_cond_cases (bit_at mask n == 1) (act n) (acts_below act n mask) c h) [
       | inl w ↦ (n, omega arith, w.1)
       | inr w ↦ (let deeper = has_each_cases act n mask c w in (deeper.0, omega arith, deeper.2))
     ]
@@ -42,7 +40,7 @@ prefers_no_load :
     (t : QuorumTable) (v u r x : ℕ) (begin : List Act) → Prefers t v u begin → Has begin (Load (Quorum r) x) → ⊥
 prefers_no_load t v u r x begin (inl p) h = stores (subst (λ xs. Has xs (Load (Quorum r) x)) p.1 h)
   where
-    stores : Has (Store Proposal (v + 1) ∷ Load Proposal 0 ∷ announced t v) (Load (Quorum r) x) → ⊥
+    stores : Has (Store Proposal (v + 1) ∷ Load Proposal 0 ∷ announcement t v) (Load (Quorum r) x) → ⊥
     stores (inl e) = cc
     stores (inr (inl e)) = cc
     stores (inr (inr k)) =
@@ -50,7 +48,7 @@ prefers_no_load t v u r x begin (inl p) h = stores (subst (λ xs. Has xs (Load (
         let e : Load (Quorum r) x ≡ Store (Quorum other.0) 1 = other.1 in cc
 prefers_no_load t v u r x begin (inr p) h = loads (subst (λ xs. Has xs (Load (Quorum r) x)) p h)
   where
-    loads : Has (Load Proposal (u + 1) ∷ announced t v) (Load (Quorum r) x) → ⊥
+    loads : Has (Load Proposal (u + 1) ∷ announcement t v) (Load (Quorum r) x) → ⊥
     loads (inl e) = cc
     loads (inr k) =
         let other = stores_only t.registers (t.write v) (Load (Quorum r) x) k in
@@ -61,7 +59,8 @@ pub clear_only :
     (t : QuorumTable) (v u n r x : ℕ) (made : List Act) → ReadsClear t v u n made → Has made (Load (Quorum r) x)
     → (r < n) × (x ≡ 0)
 clear_only t v u n r x made clear h =
-    elim (has_append_cases (zeros_below n (t.read u)) clear.0 (Load (Quorum r) x) (subst (λ xs. Has xs (Load (Quorum r) x)) clear.2 h)) [
+    elim (has_append_cases (zeros_below n (t.read u)) clear.0 (Load (Quorum r) x)
+    (subst (λ xs. Has xs (Load (Quorum r) x)) clear.2 h)) [
       | inl k ↦ (let e = has_each_cases (λ s. Load (Quorum s) 0) n (t.read u) (Load (Quorum r) x) k in
           let same : r ≡ e.0 = register e.0 e.2 in
           let below : e.0 < n = e.1 in
@@ -94,7 +93,7 @@ IsFrom v u loads rest = ((u ≡ v) × (loads ≡ 0 ∷ rest)) ⊎ (loads ≡ (u 
 -- where the preference was just made
 prefers_from :
     (t : QuorumTable) (v u : ℕ) (begin : List Act) → Prefers t v u begin
-    → IsFrom v u (proposal_loads begin) (proposal_loads (announced t v))
+    → IsFrom v u (proposal_loads begin) (proposal_loads (announcement t v))
 prefers_from t v u begin (inl p) = inl (p.0, ap proposal_loads p.1)
 prefers_from t v u begin (inr p) = inr (ap proposal_loads p)
 
@@ -111,26 +110,30 @@ from_unique v u w loads rest (inr h) (inr k) =
 -- after clear loads
 pub clear_from :
     (t : QuorumTable) (v u n : ℕ) (made : List Act) → ReadsClear t v u n made
-    → IsFrom v u (proposal_loads made) (proposal_loads (announced t v))
+    → IsFrom v u (proposal_loads made) (proposal_loads (announcement t v))
 clear_from t v u n made clear =
-    let e : proposal_loads made ≡ proposal_loads clear.0 = ap proposal_loads clear.2 ∙ zeros_loads n (t.read u) clear.0 in
-    subst (λ xs. IsFrom v u xs (proposal_loads (announced t v))) (sym e) (prefers_from t v u clear.0 clear.1)
+    let e : proposal_loads made ≡ proposal_loads clear.0 =
+    ap proposal_loads clear.2 ∙ zeros_loads n (t.read u) clear.0 in
+    subst (λ xs. IsFrom v u xs (proposal_loads (announcement t v))) (sym e) (prefers_from t v u clear.0 clear.1)
 
 -- after a 1
 pub one_from :
     (t : QuorumTable) (v u : ℕ) (made : List Act) → ReadsOne t v u made
-    → IsFrom v u (proposal_loads made) (proposal_loads (announced t v))
+    → IsFrom v u (proposal_loads made) (proposal_loads (announcement t v))
 one_from t v u [] h = absurd h
 one_from t v u (act ∷ older) h =
     let e : proposal_loads (act ∷ older) ≡ proposal_loads older = ap (λ a. proposal_loads (a ∷ older)) h.1 in
-    subst (λ xs. IsFrom v u xs (proposal_loads (announced t v))) (sym e) (clear_from t v u h.0 older h.4)
+    subst (λ xs. IsFrom v u xs (proposal_loads (announcement t v))) (sym e) (clear_from t v u h.0 older h.4)
 
 -- a whole path has one output
 pub same_output :
     (t : QuorumTable) (v : ℕ) (made : List Act) (d e : Bool) (u w : ℕ) → IsRatifierPath t v made d u
     → IsRatifierPath t v made e w → (d ≡ e) × (u ≡ w)
-same_output t v made true true u w h k =
-    (refl, from_unique v u w (proposal_loads made) (proposal_loads (announced t v)) (clear_from t v u t.registers made h) (clear_from t v w t.registers made k))
+same_output t v made true true u w h k = (
+  refl,
+  from_unique v u w (proposal_loads made) (proposal_loads (announcement t v))
+      (clear_from t v u t.registers made h) (clear_from t v w t.registers made k),
+)
 same_output t v made true false u w h k =
     let one = (one_chosen t v w made k).1 in
     let none : ◌≡◌ {A = ℕ} 1 0 = (clear_only t v u t.registers one.0 1 made h one.2).1 in
@@ -139,5 +142,8 @@ same_output t v made false true u w h k =
     let one = (one_chosen t v u made h).1 in
     let none : ◌≡◌ {A = ℕ} 1 0 = (clear_only t v w t.registers one.0 1 made k one.2).1 in
     absurd (omega arith)
-same_output t v made false false u w h k =
-    (refl, from_unique v u w (proposal_loads made) (proposal_loads (announced t v)) (one_from t v u made h) (one_from t v w made k))
+same_output t v made false false u w h k = (
+  refl,
+  from_unique v u w (proposal_loads made) (proposal_loads (announcement t v)) (one_from t v u made h)
+      (one_from t v w made k),
+)

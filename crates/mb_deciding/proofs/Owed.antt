@@ -1,18 +1,10 @@
 -- What both kinds of object owe.
-use Rattle.std.proofs.Common.{◌≡◌, ◌≢◌, ℕ, ◌+◌, ◌<◌, ◌≤◌, Bool, true, false, List, [], ◌∷◌, ◌++◌, length, inl, inr, sym, refl, ap, ap₂, ◌∙◌, subst, append-nil, length-append, true≢false, arith}
+use Rattle.std.proofs.Common.{◌≡◌, ◌≢◌, ℕ, ◌+◌, ◌<◌, ◌≤◌, Bool, true, false, List, [], ◌∷◌, ◌++◌, length, inl, inr, sym}
+use Rattle.std.proofs.Common.{refl, ap, ap₂, ◌∙◌, subst, append-nil, length-append, true≢false, arith}
+use Rattle.mb_deciding.specs.{Value, Proposal, Act, Load, Store, Turn, Access, Out, Kind, Conciliator, Ratifier, Object}
+use Rattle.mb_deciding.specs.{IsSound, object_of, ratifier_of, conciliator_of, acts, part, zeros_below, announcement}
+use Rattle.mb_deciding.specs.{IsRatifierPath, answer, IsPath, IsPrefix, IsOpen, IsObjectLawful, most_turns, IsDeciding}
 use Rattle.mb_quorum.specs.Quorum.{QuorumTable, IsQuorumTable}
-use Rattle.mb_deciding.specs.declared.access.Reg.TheVariants.{Value, Proposal}
-use Rattle.mb_deciding.specs.declared.access.Act.{Act}
-use Rattle.mb_deciding.specs.declared.access.Act.TheVariants.{Load, Store}
-use Rattle.mb_deciding.specs.declared.access.Turn.{Turn}
-use Rattle.mb_deciding.specs.declared.access.Access.{Access}
-use Rattle.mb_deciding.specs.declared.object.Out.{Out}
-use Rattle.mb_deciding.specs.declared.object.Kind.{Kind}
-use Rattle.mb_deciding.specs.declared.object.Kind.TheVariants.{Conciliator, Ratifier}
-use Rattle.mb_deciding.specs.History.{acts, turns_of}
-use Rattle.mb_deciding.specs.Ratifier.{zeros_below, announced, IsRatifierPath}
-use Rattle.mb_deciding.specs.Objects.{answer, IsPath, IsPrefix, IsOpen, IsObjectLawful, most_turns}
-use Rattle.mb_deciding.specs.Deciding.{IsDeciding}
 use Rattle.mb_deciding.proofs.Histories.{not_empty, nil_or}
 use Rattle.mb_deciding.proofs.Acts.{acts-append, length-acts, no_acts, turns_for, acts-turns_for, has_some}
 use Rattle.mb_deciding.proofs.Grammar.{path_chosen}
@@ -38,21 +30,25 @@ some_path t v made d u h =
     ]
 
 -- the path of a process that runs alone
-alone : QuorumTable → ℕ → List Act
-alone t v = zeros_below t.registers (t.read v) ++ (Store Proposal (v + 1) ∷ Load Proposal 0 ∷ announced t v)
+lone_path : QuorumTable → ℕ → List Act
+lone_path t v = zeros_below t.registers (t.read v) ++ (Store Proposal (v + 1) ∷ Load Proposal 0 ∷ announcement t v)
 
 -- it decides its input
-alone_path : (t : QuorumTable) (v : ℕ) → IsRatifierPath t v (alone t v) true v
-unfolding alone
-alone_path t v = (Store Proposal (v + 1) ∷ Load Proposal 0 ∷ announced t v, inl (refl, refl), refl)
+lone_path_decides : (t : QuorumTable) (v : ℕ) → IsRatifierPath t v (lone_path t v) true v
+unfolding lone_path
+lone_path_decides t v = (Store Proposal (v + 1) ∷ Load Proposal 0 ∷ announcement t v, inl (refl, refl), refl)
 
 -- so each input has a path
 opens_ratifier : (t : QuorumTable) (v : ℕ) → IsOpen t Ratifier v []
 opens_ratifier t v =
-    let is : acts (turns_for (alone t v)) ≡ alone t v = acts-turns_for (alone t v) in (
-      turns_for (alone t v),
-      (λ e. some_path t v (alone t v) true v (alone_path t v) (sym is ∙ ap acts e)),
-      (answer true v, subst (λ xs. IsRatifierPath t v xs true v) (sym (ap acts (append-nil (turns_for (alone t v))) ∙ is)) (alone_path t v)),
+    let is : acts (turns_for (lone_path t v)) ≡ lone_path t v = acts-turns_for (lone_path t v) in (
+      turns_for (lone_path t v),
+      (λ e. some_path t v (lone_path t v) true v (lone_path_decides t v) (sym is ∙ ap acts e)),
+      (
+        answer true v,
+        subst (λ xs. IsRatifierPath t v xs true v)
+            (sym (ap acts (append-nil (turns_for (lone_path t v))) ∙ is)) (lone_path_decides t v),
+      ),
     )
 
 -- a path ends once, with one output
@@ -62,8 +58,12 @@ unique_ratifier :
 unique_ratifier t v turns later a b h k =
     let whole : IsRatifierPath t v (acts later ++ acts turns) b.decided b.value =
     subst (λ xs. IsRatifierPath t v xs b.decided b.value) (acts-append later turns) k in
-    let none : acts later ≡ [] = path_ends t v (acts turns) (acts later) a.decided b.decided a.value b.value h whole in
-    (no_acts later none, same_answer a b (same_output t v (acts turns) a.decided b.decided a.value b.value h (subst (λ xs. IsRatifierPath t v (xs ++ acts turns) b.decided b.value) none whole)))
+    let none : acts later ≡ [] =
+    path_ends t v (acts turns) (acts later) a.decided b.decided a.value b.value h whole in (
+      no_acts later none,
+      same_answer a b (same_output t v (acts turns) a.decided b.decided a.value b.value h
+          (subst (λ xs. IsRatifierPath t v (xs ++ acts turns) b.decided b.value) none whole)),
+    )
 
 -- ---- a conciliator
 -- a process that finds its input in the word at once
@@ -81,61 +81,76 @@ unique_conciliator t s v turns later a b h k =
     (e.0, same_answer a b (h.0 ∙ sym k.0, e.1))
 
 -- ---- both
+-- a path ends once, with one output
+pub one_end :
+    (t : QuorumTable) (kind : Kind) (v : ℕ) (turns later : List Turn) (a b : Out) → IsPath t kind v turns a
+    → IsPath t kind v (later ++ turns) b → (later ≡ []) × (a ≡ b)
+one_end t (Conciliator s) = unique_conciliator t s
+one_end t Ratifier = unique_ratifier t
+
 -- a process with an input of the table has no more turns on a ratifier
 ratifier_turns :
-    (t : QuorumTable) (inputs : ℕ → ℕ) (h : List Access) (p : ℕ) → IsObjectLawful t Ratifier inputs h
-    → inputs p < t.values → IsPrefix t Ratifier (inputs p) (turns_of p h)
-    → length (turns_of p h) ≤ most_turns t Ratifier
-ratifier_turns t inputs h p l within part =
-    let whole : IsRatifierPath t (inputs p) (acts part.0 ++ acts (turns_of p h)) part.1.decided part.1.value =
-    subst (λ xs. IsRatifierPath t (inputs p) xs part.1.decided part.1.value) (acts-append part.0 (turns_of p h)) part.2 in
+    (t : QuorumTable) (inputs : ℕ → ℕ) (h : List Access) (p : ℕ) → IsObjectLawful (ratifier_of t inputs) h
+    → inputs p < t.values → IsPrefix t Ratifier (inputs p) (part p h)
+    → length (part p h) ≤ most_turns t Ratifier
+ratifier_turns t inputs h p l within prefix =
+    let whole : IsRatifierPath t (inputs p) (acts prefix.0 ++ acts (part p h)) prefix.1.decided prefix.1.value =
+    subst (λ xs. IsRatifierPath t (inputs p) xs prefix.1.decided prefix.1.value)
+    (acts-append prefix.0 (part p h)) prefix.2 in
     let announces = largest_bound t.write t.values (inputs p) within in
-    elim (part_length t (inputs p) (acts part.0) (acts (turns_of p h)) part.1.decided part.1.value whole) [
-      | inl short ↦ omega (arith, length-acts (turns_of p h), announces)
-      | inr long ↦ (let known = founded_within t inputs h l part.1.value (chosen_founded t inputs h l p part.1.value long.0) in
-          omega (arith, length-acts (turns_of p h), announces, long.1, largest_bound t.read t.values part.1.value known))
+    elim (part_length t (inputs p) (acts prefix.0) (acts (part p h)) prefix.1.decided prefix.1.value whole) [
+      | inl short ↦ omega (arith, length-acts (part p h), announces)
+      | inr long ↦ (let known = founded_within t inputs h l prefix.1.value
+          (chosen_founded t inputs h l p prefix.1.value long.0) in
+          omega (arith, length-acts (part p h), announces, long.1, largest_bound t.read t.values prefix.1.value known))
     ]
 
 -- nor on a conciliator
 conciliator_turns :
     (t : QuorumTable) (s v : ℕ) (turns : List Turn) → IsPrefix t (Conciliator s) v turns
     → length turns ≤ most_turns t (Conciliator s)
-conciliator_turns t s v turns part =
-    omega (arith, length-append part.0 turns, conciliator_length s v (part.0 ++ turns) part.1.value part.2.1)
+conciliator_turns t s v turns prefix =
+    omega (arith, length-append prefix.0 turns, conciliator_length s v (prefix.0 ++ turns) prefix.1.value prefix.2.1)
 
 -- nor any process
-bounded :
-    (t : QuorumTable) (kind : Kind) (inputs : ℕ → ℕ) (h : List Access) (p : ℕ) → IsObjectLawful t kind inputs h
-    → length (turns_of p h) ≤ most_turns t kind
-bounded t kind inputs h p l =
-    elim (nil_or (turns_of p h)) [
-      | inl none ↦ subst (λ xs. length xs ≤ most_turns t kind) (sym none) (omega arith)
-      | inr some ↦ (let own = l.parts p some in by_kind kind l own.0 own.1)
+pub bounded :
+    (o : Object) (h : List Access) (p : ℕ) → IsObjectLawful o h
+    → length (part p h) ≤ most_turns o.table o.kind
+bounded o h p l =
+    elim (nil_or (part p h)) [
+      | inl none ↦ subst (λ xs. length xs ≤ most_turns o.table o.kind) (sym none) (omega arith)
+      | inr some ↦ (let own = l.parts p some in by_kind o.kind l own.0 own.1)
     ]
   where
     by_kind :
-        (k : Kind) → IsObjectLawful t k inputs h → inputs p < t.values → IsPrefix t k (inputs p) (turns_of p h)
-        → length (turns_of p h) ≤ most_turns t k
-    by_kind (Conciliator s) lawful within part = conciliator_turns t s (inputs p) (turns_of p h) part
-    by_kind Ratifier lawful within part = ratifier_turns t inputs h p lawful within part
+        (k : Kind) → IsObjectLawful (object_of o.table k o.inputs) h → o.inputs p < o.table.values → IsPrefix o.table k
+        (o.inputs p) (part p h)
+        → length (part p h) ≤ most_turns o.table k
+    by_kind (Conciliator s) lawful within prefix = conciliator_turns o.table s (o.inputs p) (part p h) prefix
+    by_kind Ratifier lawful within prefix = ratifier_turns o.table o.inputs h p lawful within prefix
 
 -- what each kind of object owes
-pub owed : (t : QuorumTable) (kind : Kind) → IsQuorumTable t → IsDeciding t kind
-owed t (Conciliator s) law =
+promises_kept_by : (t : QuorumTable) (kind : Kind) (inputs : ℕ → ℕ) → IsQuorumTable t → IsDeciding
+    (object_of t kind inputs)
+promises_kept_by t (Conciliator s) inputs law =
     record {
       opens = λ v below. opens_conciliator t s v;
       unique = unique_conciliator t s;
-      bounded = bounded t (Conciliator s);
-      fits = conciliator_fits t s;
-      validity = conciliator_valid t s;
-      coherence = λ inputs h l p q d u w o other. absurd (true≢false o.0);
+      bounded = bounded (conciliator_of t s inputs);
+      fits = conciliator_fits t s inputs;
+      validity = conciliator_valid t s inputs;
+      coherence = λ h l p q d u w o other. absurd (true≢false o.0);
     }
-owed t Ratifier law =
+promises_kept_by t Ratifier inputs law =
     record {
       opens = λ v below. opens_ratifier t v;
       unique = unique_ratifier t;
-      bounded = bounded t Ratifier;
-      fits = fits t;
-      validity = valid t;
-      coherence = coherent t law;
+      bounded = bounded (ratifier_of t inputs);
+      fits = fits t inputs;
+      validity = valid t inputs;
+      coherence = coherent t law inputs;
     }
+
+-- so does every object
+pub promises_kept : (o : Object) → IsSound o → IsDeciding o
+promises_kept o law = promises_kept_by o.table o.kind o.inputs law

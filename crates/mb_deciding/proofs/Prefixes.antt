@@ -1,14 +1,9 @@
 -- Beginnings of a ratifier's path, in acts.
-use Rattle.std.proofs.Common.{◌≢◌, ℕ, ◌+◌, ◌≤◌, Bool, true, List, [], ◌∷◌, ◌++◌, inl, sym, refl, ap, ◌∙◌, subst, append_assoc, arith}
+use Rattle.std.proofs.Common.{◌≢◌, ℕ, ◌+◌, ◌≤◌, Bool, true, List, [], ◌∷◌, ◌++◌, inl, sym, refl, ap, ◌∙◌, subst}
+use Rattle.std.proofs.Common.{append_assoc, arith}
 use Rattle.mb_quorum.specs.Quorum.{QuorumTable}
-use Rattle.mb_deciding.specs.declared.access.Reg.TheVariants.{Proposal, Quorum}
-use Rattle.mb_deciding.specs.declared.access.Act.{Act}
-use Rattle.mb_deciding.specs.declared.access.Act.TheVariants.{Load, Store}
-use Rattle.mb_deciding.specs.declared.access.Turn.{Turn}
-use Rattle.mb_deciding.specs.declared.object.Kind.TheVariants.{Ratifier}
-use Rattle.mb_deciding.specs.History.{acts}
-use Rattle.mb_deciding.specs.Ratifier.{stores_below, zeros_below, announced, Prefers, ReadsClear, IsRatifierPath}
-use Rattle.mb_deciding.specs.Objects.{answer, IsPath, IsPrefix, IsOpen}
+use Rattle.mb_deciding.specs.{Proposal, Quorum, Act, Load, Store, Turn, Ratifier, acts, stores_below, zeros_below}
+use Rattle.mb_deciding.specs.{announcement, Prefers, ReadsClear, IsRatifierPath, answer, IsPath, IsPrefix, IsOpen}
 use Rattle.mb_deciding.proofs.Histories.{not_empty}
 use Rattle.mb_deciding.proofs.Acts.{acts-append, turns_for, acts-turns_for}
 use Rattle.mb_deciding.proofs.Registers.{each_grow}
@@ -19,7 +14,8 @@ IsRatifierPart t v made = (later : List Act) × (decided : Bool) × (u : ℕ) ×
 
 -- later acts complete it to a path
 abbrev pub IsRatifierOpen : QuorumTable → ℕ → List Act → Type 0
-IsRatifierOpen t v made = (later : List Act) × (later ≢ []) × ((decided : Bool) × (u : ℕ) × IsRatifierPath t v (later ++ made) decided u)
+IsRatifierOpen t v made =
+    (later : List Act) × (later ≢ []) × ((decided : Bool) × (u : ℕ) × IsRatifierPath t v (later ++ made) decided u)
 
 -- what is open is a prefix
 pub open_part : (t : QuorumTable) (v : ℕ) (made : List Act) → IsRatifierOpen t v made → IsRatifierPart t v made
@@ -33,10 +29,18 @@ some_snoc (y ∷ xs) x = not_empty y (xs ++ x ∷ [])
 -- a prefix without its newest act is open
 pub part_older :
     (t : QuorumTable) (v : ℕ) (x : Act) (made : List Act) → IsRatifierPart t v (x ∷ made) → IsRatifierOpen t v made
-part_older t v x made h =
-    (h.0 ++ x ∷ [], some_snoc h.0 x, (h.1, h.2, subst (λ xs. IsRatifierPath t v xs h.1 h.2) (sym (append_assoc h.0 (x ∷ []) made)) h.3))
+part_older t v x made h = (
+  h.0 ++ x ∷ [],
+  some_snoc h.0 x,
+  (
+    h.1,
+    h.2,
+    subst (λ xs. IsRatifierPath t v xs h.1 h.2)
+        (sym (append_assoc h.0 (x ∷ []) made)) h.3,
+  ),
+)
 
--- an earlier part of what is open is open
+-- an older part of what is open is open
 open_suffix :
     (t : QuorumTable) (v : ℕ) (later made : List Act) → IsRatifierOpen t v (later ++ made) → IsRatifierOpen t v made
 open_suffix t v [] made h = h
@@ -54,24 +58,34 @@ pub clear_part :
     (t : QuorumTable) (v u n : ℕ) (made : List Act) → n ≤ t.registers → ReadsClear t v u n made
     → IsRatifierPart t v made
 clear_part t v u n made within h =
-    let grown = each_grow (λ r. Load (Quorum r) 0) t.registers (t.read u) n within in
-    (grown.0, true, u, (h.0, h.1, ap (λ xs. grown.0 ++ xs) h.2 ∙ (sym (append_assoc grown.0 (zeros_below n (t.read u)) h.0) ∙ ap (λ xs. xs ++ h.0) grown.1)))
+    let grown = each_grow (λ r. Load (Quorum r) 0) t.registers (t.read u) n within in (
+      grown.0,
+      true,
+      u,
+      (
+        h.0,
+        h.1,
+        ap (λ xs. grown.0 ++ xs) h.2 ∙
+            (sym (append_assoc grown.0 (zeros_below n (t.read u)) h.0) ∙ ap (λ xs. xs ++ h.0) grown.1),
+      ),
+    )
 
 -- a preference
 prefers_part : (t : QuorumTable) (v u : ℕ) (made : List Act) → Prefers t v u made → IsRatifierPart t v made
 prefers_part t v u made h = clear_part t v u 0 made (omega arith) (made, h, refl)
 
 -- the load of an empty proposal
-pub empty_open : (t : QuorumTable) (v : ℕ) → IsRatifierOpen t v (Load Proposal 0 ∷ announced t v)
+pub empty_open : (t : QuorumTable) (v : ℕ) → IsRatifierOpen t v (Load Proposal 0 ∷ announcement t v)
 empty_open t v =
-    part_older t v (Store Proposal (v + 1)) (Load Proposal 0 ∷ announced t v)
-    (prefers_part t v v (Store Proposal (v + 1) ∷ Load Proposal 0 ∷ announced t v) (inl (refl, refl)))
+    part_older t v (Store Proposal (v + 1)) (Load Proposal 0 ∷ announcement t v)
+    (prefers_part t v v (Store Proposal (v + 1) ∷ Load Proposal 0 ∷ announcement t v) (inl (refl, refl)))
 
 -- the announcement up to a bound
 pub stores_open : (t : QuorumTable) (v n : ℕ) → n ≤ t.registers → IsRatifierOpen t v (stores_below n (t.write v))
 stores_open t v n within =
     let grown = each_grow (λ r. Store (Quorum r) 1) t.registers (t.write v) n within in
-    let whole = part_older t v (Load Proposal 0) (announced t v) (open_part t v (Load Proposal 0 ∷ announced t v) (empty_open t v)) in
+    let whole = part_older t v (Load Proposal 0) (announcement t v)
+    (open_part t v (Load Proposal 0 ∷ announcement t v) (empty_open t v)) in
     open_suffix t v grown.0 (stores_below n (t.write v)) (rw grown.1 whole)
 
 -- a path in acts is one in turns
@@ -79,7 +93,8 @@ path_by_turns :
     (t : QuorumTable) (v : ℕ) (later : List Act) (turns : List Turn) (d : Bool) (u : ℕ)
     → IsRatifierPath t v (later ++ acts turns) d u → IsPath t Ratifier v (turns_for later ++ turns) (answer d u)
 path_by_turns t v later turns d u h =
-    subst (λ xs. IsRatifierPath t v xs d u) (sym (acts-append (turns_for later) turns ∙ ap (λ xs. xs ++ acts turns) (acts-turns_for later))) h
+    subst (λ xs. IsRatifierPath t v xs d u) (sym (acts-append (turns_for later) turns ∙ ap (λ xs. xs ++ acts turns)
+    (acts-turns_for later))) h
 
 -- a prefix in acts is one in turns
 pub part_by_turns :
@@ -89,5 +104,8 @@ part_by_turns t v turns p = (turns_for p.0, answer p.1 p.2, path_by_turns t v p.
 -- what is open in acts is open in turns
 pub open_by_turns :
     (t : QuorumTable) (v : ℕ) (turns : List Turn) → IsRatifierOpen t v (acts turns) → IsOpen t Ratifier v turns
-open_by_turns t v turns p =
-    (turns_for p.0, (λ e. p.1 (sym (acts-turns_for p.0) ∙ ap acts e)), (answer p.2.0 p.2.1, path_by_turns t v p.0 turns p.2.0 p.2.1 p.2.2))
+open_by_turns t v turns p = (
+  turns_for p.0,
+  (λ e. p.1 (sym (acts-turns_for p.0) ∙ ap acts e)),
+  (answer p.2.0 p.2.1, path_by_turns t v p.0 turns p.2.0 p.2.1 p.2.2),
+)

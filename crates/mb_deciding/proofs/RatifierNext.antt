@@ -1,24 +1,22 @@
 -- The next act of a ratifier's path: what was made names its word, and what it stores.
-use Rattle.std.proofs.Common.{◌≡◌, ℕ, zero, suc, ◌+◌, ◌<◌, ◌≤◌, ◌==◌, cond, Bool, true, false, List, [], ◌∷◌, ◌++◌, length, inl, inr, sym, refl, ap, ◌∙◌, subst, length-append, arith}
+use Rattle.std.proofs.Common.{◌≡◌, ℕ, zero, suc, ◌+◌, ◌<◌, ◌≤◌, ◌==◌, cond, Bool, true, false, List, [], ◌∷◌, ◌++◌}
+use Rattle.std.proofs.Common.{length, inl, inr, sym, refl, ap, ◌∙◌, subst, length-append, arith}
 use Rattle.std.specs.Int.{bit_at}
 use Rattle.std.proofs.lemmas.Bool.{cases_order, eqb-true}
 use Rattle.mb_quorum.specs.Quorum.{QuorumTable, IsMember}
-use Rattle.mb_deciding.specs.declared.access.Reg.TheVariants.{Value, Proposal, Quorum}
-use Rattle.mb_deciding.specs.declared.access.Act.{Act}
-use Rattle.mb_deciding.specs.declared.access.Act.TheVariants.{Load, Store}
-use Rattle.mb_deciding.specs.Ratifier.{each_below, stores_below, zeros_below, announced, Prefers, ReadsClear, IsRatifierPath}
+use Rattle.mb_deciding.specs.{IsSameOp, Value, Proposal, Quorum, Act, Load, Store, acts_below, stores_below}
+use Rattle.mb_deciding.specs.{zeros_below, announcement, Prefers, ReadsClear, IsRatifierPath}
 use Rattle.mb_deciding.proofs.Lengths.{each_more, clear_same, empty_unclear}
 use Rattle.mb_deciding.proofs.Outputs.{proposal_loads, clear_from, from_unique}
-use Rattle.mb_deciding.proofs.SameOp.{IsSameOp}
 
 -- all that a process with input v made before an act of its path
 abbrev pub Follows : QuorumTable → ℕ → Act → List Act → Type 0
 Follows t v (Store Value w) made = ⊥
-Follows t v (Store Proposal w) made = (w ≡ v + 1) × (made ≡ Load Proposal 0 ∷ announced t v)
+Follows t v (Store Proposal w) made = (w ≡ v + 1) × (made ≡ Load Proposal 0 ∷ announcement t v)
 Follows t v (Store (Quorum r) w) made =
     (w ≡ 1) × (r < t.registers) × IsMember (t.write v) r × (made ≡ stores_below r (t.write v))
 Follows t v (Load Value x) made = ⊥
-Follows t v (Load Proposal x) made = made ≡ announced t v
+Follows t v (Load Proposal x) made = made ≡ announcement t v
 Follows t v (Load (Quorum r) x) made = (u : ℕ) × IsMember (t.read u) r × ReadsClear t v u r made
 
 -- so it is with each act of the list
@@ -78,7 +76,7 @@ path_follow t v [] false u h = tt
 path_follow t v (act ∷ older) false u h =
     (subst (λ a. Follows t v a older) (sym h.1) (u, h.2, h.4), clear_follow t v u h.0 older h.4)
 
--- an earlier part of a list
+-- an older part of a list
 suffix_follow : (t : QuorumTable) (v : ℕ) (later made : List Act) → AllFollow t v (later ++ made) → AllFollow t v made
 suffix_follow t v [] made h = h
 suffix_follow t v (x ∷ later) made h = suffix_follow t v later made h.1
@@ -93,7 +91,7 @@ act_follows t v later made a d u h = (suffix_follow t v later (a ∷ made) (path
 -- two registers with the same number of registers below them are one
 same_register :
     (act : ℕ → Act) (mask r s : ℕ) → IsMember mask r → IsMember mask s
-    → length (each_below act r mask) ≡ length (each_below act s mask) → r ≡ s
+    → length (acts_below act r mask) ≡ length (acts_below act s mask) → r ≡ s
 same_register act mask r s a b e =
     elim (cases_order r s) [
       | inl same ↦ same
@@ -106,13 +104,13 @@ same_register act mask r s a b e =
 -- a store of the announcement comes before its end
 store_early :
     (t : QuorumTable) (v r w : ℕ) (made : List Act) → Follows t v (Store (Quorum r) w) made
-    → length made < length (announced t v)
+    → length made < length (announcement t v)
 store_early t v r w made h =
     omega (arith, ap length h.3, each_more (λ k. Store (Quorum k) 1) t.registers (t.write v) r h.1 h.2)
 
 -- a load of a check comes after it
 check_late :
-    (t : QuorumTable) (v u n : ℕ) (made : List Act) → ReadsClear t v u n made → length (announced t v) < length made
+    (t : QuorumTable) (v u n : ℕ) (made : List Act) → ReadsClear t v u n made → length (announcement t v) < length made
 check_late t v u n made h =
     elim h.1 [
       | inl p ↦ omega (arith, ap length h.2, length-append (zeros_below n (t.read u)) h.0, ap length p.1)
@@ -125,7 +123,7 @@ same_check :
     → ReadsClear t v u r made → ReadsClear t v w s made → r ≡ s
 same_check t v u w r s made a b h k =
     let same : w ≡ u =
-    from_unique v w u (proposal_loads made) (proposal_loads (announced t v)) (clear_from t v w s made k)
+    from_unique v w u (proposal_loads made) (proposal_loads (announcement t v)) (clear_from t v w s made k)
     (clear_from t v u r made h) in
     let long : length (zeros_below r (t.read u)) ≡ length (zeros_below s (t.read u)) =
     clear_same t v u w r s made h k ∙ ap (λ x. length (zeros_below s (t.read x))) same in
@@ -133,7 +131,7 @@ same_check t v u w r s made a b h k =
 
 -- after a store in a proposal that was empty there is no load of a check
 put_unchecked :
-    (t : QuorumTable) (v u n : ℕ) (made : List Act) → made ≡ Load Proposal 0 ∷ announced t v
+    (t : QuorumTable) (v u n : ℕ) (made : List Act) → made ≡ Load Proposal 0 ∷ announcement t v
     → ReadsClear t v u n made → ⊥
 put_unchecked t v u n made e h = empty_unclear t v u n (subst (λ xs. ReadsClear t v u n xs) e h)
 

@@ -1,17 +1,11 @@
 -- What the words of a ratifier hold after a lawful history, and who stored it.
-use Rattle.std.proofs.Common.{◌≡◌, ℕ, ◌+◌, ◌-◌, ◌<◌, ◌≤◌, ◌==◌, cond, Bool, true, false, Some, None, List, [], ◌∷◌, ◌⊎◌, inl, inr, sym, refl, ap, subst, arith}
+use Rattle.std.proofs.Common.{◌≡◌, ℕ, ◌+◌, ◌-◌, ◌<◌, ◌≤◌, ◌==◌, cond, Bool, true, false, Some, None, List, [], ◌∷◌, ◌⊎◌}
+use Rattle.std.proofs.Common.{inl, inr, sym, refl, ap, subst, arith}
 use Rattle.std.specs.List.{cons_option}
 use Rattle.std.proofs.lemmas.Bool.{cases_eq, eqb-true, eq-eqb}
+use Rattle.mb_deciding.specs.{Reg, Value, Proposal, Quorum, Act, Load, Store, Turn, Access, ratifier_of}
+use Rattle.mb_deciding.specs.{value_after, value_in, ReadsLast, part, acts, Has, IsObjectLawful, CanHold}
 use Rattle.mb_quorum.specs.Quorum.{QuorumTable}
-use Rattle.mb_deciding.specs.declared.access.Reg.{Reg}
-use Rattle.mb_deciding.specs.declared.access.Reg.TheVariants.{Value, Proposal, Quorum}
-use Rattle.mb_deciding.specs.declared.access.Act.{Act}
-use Rattle.mb_deciding.specs.declared.access.Act.TheVariants.{Load, Store}
-use Rattle.mb_deciding.specs.declared.access.Turn.{Turn}
-use Rattle.mb_deciding.specs.declared.access.Access.{Access}
-use Rattle.mb_deciding.specs.declared.object.Kind.TheVariants.{Ratifier}
-use Rattle.mb_deciding.specs.History.{value_after, value_in, ReadsLast, turns_of, acts, Has}
-use Rattle.mb_deciding.specs.Objects.{IsObjectLawful, CanHold}
 use Rattle.mb_deciding.proofs.Histories.{lawful_older, own_turns, own_some}
 use Rattle.mb_deciding.proofs.Acts.{has_turns}
 use Rattle.mb_deciding.proofs.Grammar.{Behind, AllBehind, HasPreference, IsChosen, part_behind, behind_at}
@@ -26,8 +20,8 @@ kept_by false x turns c k = k
 
 -- nor does any access
 has_kept :
-    (p : ℕ) (a : Access) (h : List Access) (c : Act) → Has (acts (turns_of p h)) c → Has (acts (turns_of p (a ∷ h))) c
-has_kept p a h c k = kept_by (a.process == p) a.turn (turns_of p h) c k
+    (p : ℕ) (a : Access) (h : List Access) (c : Act) → Has (acts (part p h)) c → Has (acts (part p (a ∷ h))) c
+has_kept p a h c k = kept_by (a.process == p) a.turn (part p h) c k
 
 -- an act is of an access that may be of another process, or older
 cases_by :
@@ -39,29 +33,30 @@ cases_by false x turns c k = inr k
 
 -- an act of a process is the newest access, or older
 pub has_cases :
-    (p : ℕ) (a : Access) (h : List Access) (c : Act) → Has (acts (turns_of p (a ∷ h))) c
-    → ((a.process ≡ p) × (c ≡ a.turn.act)) ⊎ Has (acts (turns_of p h)) c
+    (p : ℕ) (a : Access) (h : List Access) (c : Act) → Has (acts (part p (a ∷ h))) c
+    → ((a.process ≡ p) × (c ≡ a.turn.act)) ⊎ Has (acts (part p h)) c
 has_cases p a h c k =
-    elim (cases_by (a.process == p) a.turn (turns_of p h) c k) [
+    elim (cases_by (a.process == p) a.turn (part p h) c k) [
       | inl w ↦ inl (eqb-true a.process p w.0, w.1)
       | inr w ↦ inr w
     ]
 
 -- what lies behind an act of a process
 pub own_behind :
-    (t : QuorumTable) (inputs : ℕ → ℕ) (h : List Access) → IsObjectLawful t Ratifier inputs h → (p : ℕ) (c : Act)
-    → Has (acts (turns_of p h)) c
-    → (older : List Act) × Behind t (inputs p) c older × ((b : Act) → Has older b → Has (acts (turns_of p h)) b)
+    (t : QuorumTable) (inputs : ℕ → ℕ) (h : List Access) → IsObjectLawful (ratifier_of t inputs) h → (p : ℕ) (c : Act)
+    → Has (acts (part p h)) c
+    → (older : List Act) × Behind t (inputs p) c older × ((b : Act) → Has older b → Has (acts (part p h)) b)
 own_behind t inputs h l p c k =
-    behind_at t (inputs p) (acts (turns_of p h)) c
-    (part_behind t (inputs p) (turns_of p h) (l.parts p (has_turns (turns_of p h) c k)).1) k
+    behind_at t (inputs p) (acts (part p h)) c
+    (part_behind t (inputs p) (part p h) (l.parts p (has_turns (part p h) c k)).1) k
 
 -- what lies behind the newest access
 newest_behind :
-    (t : QuorumTable) (inputs : ℕ → ℕ) (a : Access) (h : List Access) → IsObjectLawful t Ratifier inputs (a ∷ h)
-    → Behind t (inputs a.process) a.turn.act (acts (turns_of a.process h))
+    (t : QuorumTable) (inputs : ℕ → ℕ) (a : Access) (h : List Access) → IsObjectLawful (ratifier_of t inputs) (a ∷ h)
+    → Behind t (inputs a.process) a.turn.act (acts (part a.process h))
 newest_behind t inputs a h l =
-    (subst (λ turns. AllBehind t (inputs a.process) (acts turns)) (own_turns a h) (part_behind t (inputs a.process) (turns_of a.process (a ∷ h)) (l.parts a.process (own_some a h)).1)).0
+    (subst (λ turns. AllBehind t (inputs a.process) (acts turns)) (own_turns a h)
+    (part_behind t (inputs a.process) (part a.process (a ∷ h)) (l.parts a.process (own_some a h)).1)).0
 
 -- ---- one access
 -- a store leaves its value
@@ -121,57 +116,62 @@ register_origin t v r (Store (Quorum i) w) older n b h =
 -- ---- the proposal and the quorum registers
 -- a register that a process stored holds 1
 pub stored_one :
-    (t : QuorumTable) (inputs : ℕ → ℕ) (h : List Access) → IsObjectLawful t Ratifier inputs h → (p r : ℕ)
-    → Has (acts (turns_of p h)) (Store (Quorum r) 1) → value_in (Quorum r) h ≡ 1
+    (t : QuorumTable) (inputs : ℕ → ℕ) (h : List Access) → IsObjectLawful (ratifier_of t inputs) h → (p r : ℕ)
+    → Has (acts (part p h)) (Store (Quorum r) 1) → value_in (Quorum r) h ≡ 1
 stored_one t inputs [] l p r k = absurd k
 stored_one t inputs (a ∷ h) l p r k =
     elim (has_cases p a h (Store (Quorum r) 1) k) [
-      | inl w ↦ subst (λ act. value_after (Quorum r) act (value_in (Quorum r) h) ≡ 1) w.1 (same_register r 1 (value_in (Quorum r) h))
-      | inr w ↦ one_kept t (inputs a.process) r a.turn.act (acts (turns_of a.process h)) (value_in (Quorum r) h) (newest_behind t inputs a h l)
-          (stored_one t inputs h (lawful_older t Ratifier inputs a h l) p r w)
+      | inl w ↦ subst (λ act. value_after (Quorum r) act (value_in (Quorum r) h) ≡ 1) w.1
+          (same_register r 1 (value_in (Quorum r) h))
+      | inr w ↦ one_kept t (inputs a.process) r a.turn.act (acts (part a.process h)) (value_in (Quorum r) h)
+          (newest_behind t inputs a h l)
+          (stored_one t inputs h (lawful_older (ratifier_of t inputs) a h l) p r w)
     ]
 
 -- once a process has stored a proposal, the proposal is never empty
 stored_filled :
-    (t : QuorumTable) (inputs : ℕ → ℕ) (h : List Access) → IsObjectLawful t Ratifier inputs h → (p v : ℕ)
-    → Has (acts (turns_of p h)) (Store Proposal (v + 1)) → 0 < value_in Proposal h
+    (t : QuorumTable) (inputs : ℕ → ℕ) (h : List Access) → IsObjectLawful (ratifier_of t inputs) h → (p v : ℕ)
+    → Has (acts (part p h)) (Store Proposal (v + 1)) → 0 < value_in Proposal h
 stored_filled t inputs [] l p v k = absurd k
 stored_filled t inputs (a ∷ h) l p v k =
     elim (has_cases p a h (Store Proposal (v + 1)) k) [
       | inl w ↦ subst (λ act. 0 < value_after Proposal act (value_in Proposal h)) w.1 (omega arith)
-      | inr w ↦ filled_kept t (inputs a.process) a.turn.act (acts (turns_of a.process h)) (value_in Proposal h) (newest_behind t inputs a h l)
-          (stored_filled t inputs h (lawful_older t Ratifier inputs a h l) p v w)
+      | inr w ↦ filled_kept t (inputs a.process) a.turn.act (acts (part a.process h)) (value_in Proposal h)
+          (newest_behind t inputs a h l)
+          (stored_filled t inputs h (lawful_older (ratifier_of t inputs) a h l) p v w)
     ]
 
 -- a load that is the newest access has the value that the older ones left
 pub newest_load :
     (t : QuorumTable) (inputs : ℕ → ℕ) (a : Access) (h : List Access) (reg : Reg) (x : ℕ)
-    → IsObjectLawful t Ratifier inputs (a ∷ h) → Load reg x ≡ a.turn.act → x ≡ value_in reg h
+    → IsObjectLawful (ratifier_of t inputs) (a ∷ h) → Load reg x ≡ a.turn.act → x ≡ value_in reg h
 newest_load t inputs a h reg x l e = subst (λ act. ReadsLast act h) (sym e) l.memory.0
 
 -- once a process has loaded a value from the proposal, the proposal is never empty
 loaded_filled :
-    (t : QuorumTable) (inputs : ℕ → ℕ) (h : List Access) → IsObjectLawful t Ratifier inputs h → (p u : ℕ)
-    → Has (acts (turns_of p h)) (Load Proposal (u + 1)) → 0 < value_in Proposal h
+    (t : QuorumTable) (inputs : ℕ → ℕ) (h : List Access) → IsObjectLawful (ratifier_of t inputs) h → (p u : ℕ)
+    → Has (acts (part p h)) (Load Proposal (u + 1)) → 0 < value_in Proposal h
 loaded_filled t inputs [] l p u k = absurd k
 loaded_filled t inputs (a ∷ h) l p u k =
     let kept : 0 < value_in Proposal h → 0 < value_in Proposal (a ∷ h) =
-    λ f. filled_kept t (inputs a.process) a.turn.act (acts (turns_of a.process h)) (value_in Proposal h) (newest_behind t inputs a h l) f in
+    λ f. filled_kept t (inputs a.process) a.turn.act (acts (part a.process h)) (value_in Proposal h)
+    (newest_behind t inputs a h l) f in
     elim (has_cases p a h (Load Proposal (u + 1)) k) [
-      | inl w ↦ kept (let e : u + 1 ≡ value_in Proposal h = newest_load t inputs a h Proposal (u + 1) l w.1 in omega arith)
-      | inr w ↦ kept (loaded_filled t inputs h (lawful_older t Ratifier inputs a h l) p u w)
+      | inl w ↦ kept (let e : u + 1 ≡ value_in Proposal h = newest_load t inputs a h Proposal
+          (u + 1) l w.1 in omega arith)
+      | inr w ↦ kept (loaded_filled t inputs h (lawful_older (ratifier_of t inputs) a h l) p u w)
     ]
 
 -- where a process has a preference, the proposal is not empty
 pub preference_filled :
-    (t : QuorumTable) (inputs : ℕ → ℕ) (h : List Access) → IsObjectLawful t Ratifier inputs h → (p v : ℕ)
-    → HasPreference v (acts (turns_of p h)) → 0 < value_in Proposal h
+    (t : QuorumTable) (inputs : ℕ → ℕ) (h : List Access) → IsObjectLawful (ratifier_of t inputs) h → (p v : ℕ)
+    → HasPreference v (acts (part p h)) → 0 < value_in Proposal h
 preference_filled t inputs h l p v (inl k) = stored_filled t inputs h l p v k
 preference_filled t inputs h l p v (inr k) = loaded_filled t inputs h l p k.0 k.1
 
 -- a process with this input loaded an empty proposal
 abbrev pub IsFounded : (ℕ → ℕ) → List Access → ℕ → Type 0
-IsFounded inputs h u = (b : ℕ) × (inputs b ≡ u) × Has (acts (turns_of b h)) (Load Proposal 0)
+IsFounded inputs h u = (b : ℕ) × (inputs b ≡ u) × Has (acts (part b h)) (Load Proposal 0)
 
 -- it did in a longer history too
 founded_kept :
@@ -180,63 +180,69 @@ founded_kept inputs a h u f = (f.0, f.1, has_kept f.0 a h (Load Proposal 0) f.2)
 
 -- a value in the proposal is the input of a process that loaded an empty proposal
 proposal_founded :
-    (t : QuorumTable) (inputs : ℕ → ℕ) (h : List Access) → IsObjectLawful t Ratifier inputs h → (u : ℕ)
+    (t : QuorumTable) (inputs : ℕ → ℕ) (h : List Access) → IsObjectLawful (ratifier_of t inputs) h → (u : ℕ)
     → value_in Proposal h ≡ u + 1 → IsFounded inputs h u
 proposal_founded t inputs [] l u e = absurd (omega arith)
 proposal_founded t inputs (a ∷ h) l u e =
-    elim (proposal_origin t (inputs a.process) u a.turn.act (acts (turns_of a.process h)) (value_in Proposal h) (newest_behind t inputs a h l) e) [
-      | inl w ↦ founded_kept inputs a h u (proposal_founded t inputs h (lawful_older t Ratifier inputs a h l) u w)
+    elim (proposal_origin t (inputs a.process) u a.turn.act (acts (part a.process h)) (value_in Proposal h)
+    (newest_behind t inputs a h l) e) [
+      | inl w ↦ founded_kept inputs a h u (proposal_founded t inputs h (lawful_older (ratifier_of t inputs) a h l) u w)
       | inr w ↦ founded_kept inputs a h u (a.process, w.0, w.1)
     ]
 
 -- so is a value that was loaded from it
 loaded_founded :
-    (t : QuorumTable) (inputs : ℕ → ℕ) (h : List Access) → IsObjectLawful t Ratifier inputs h → (p u : ℕ)
-    → Has (acts (turns_of p h)) (Load Proposal (u + 1)) → IsFounded inputs h u
+    (t : QuorumTable) (inputs : ℕ → ℕ) (h : List Access) → IsObjectLawful (ratifier_of t inputs) h → (p u : ℕ)
+    → Has (acts (part p h)) (Load Proposal (u + 1)) → IsFounded inputs h u
 loaded_founded t inputs [] l p u k = absurd k
 loaded_founded t inputs (a ∷ h) l p u k =
-    let older = lawful_older t Ratifier inputs a h l in
+    let older = lawful_older (ratifier_of t inputs) a h l in
     elim (has_cases p a h (Load Proposal (u + 1)) k) [
-      | inl w ↦ founded_kept inputs a h u (proposal_founded t inputs h older u (sym (newest_load t inputs a h Proposal (u + 1) l w.1)))
+      | inl w ↦ founded_kept inputs a h u (proposal_founded t inputs h older u
+          (sym (newest_load t inputs a h Proposal (u + 1) l w.1)))
       | inr w ↦ founded_kept inputs a h u (loaded_founded t inputs h older p u w)
     ]
 
 -- and a value that a process chose
 pub chosen_founded :
-    (t : QuorumTable) (inputs : ℕ → ℕ) (h : List Access) → IsObjectLawful t Ratifier inputs h → (p u : ℕ)
-    → IsChosen (inputs p) u (acts (turns_of p h)) → IsFounded inputs h u
+    (t : QuorumTable) (inputs : ℕ → ℕ) (h : List Access) → IsObjectLawful (ratifier_of t inputs) h → (p u : ℕ)
+    → IsChosen (inputs p) u (acts (part p h)) → IsFounded inputs h u
 chosen_founded t inputs h l p u (inl k) = (p, sym k.0, k.1)
 chosen_founded t inputs h l p u (inr k) = loaded_founded t inputs h l p u k
 
 -- such a value is one of the table's
 pub founded_within :
-    (t : QuorumTable) (inputs : ℕ → ℕ) (h : List Access) → IsObjectLawful t Ratifier inputs h → (u : ℕ)
+    (t : QuorumTable) (inputs : ℕ → ℕ) (h : List Access) → IsObjectLawful (ratifier_of t inputs) h → (u : ℕ)
     → IsFounded inputs h u → u < t.values
 founded_within t inputs h l u f =
-    subst (λ w. w < t.values) f.1 (l.parts f.0 (has_turns (turns_of f.0 h) (Load Proposal 0) f.2)).0
+    subst (λ w. w < t.values) f.1 (l.parts f.0 (has_turns (part f.0 h) (Load Proposal 0) f.2)).0
 
 -- a register that holds something was stored by a process
 register_stored :
-    (t : QuorumTable) (inputs : ℕ → ℕ) (h : List Access) → IsObjectLawful t Ratifier inputs h → (r : ℕ)
-    → 0 < value_in (Quorum r) h → (b : ℕ) × Has (acts (turns_of b h)) (Store (Quorum r) 1)
+    (t : QuorumTable) (inputs : ℕ → ℕ) (h : List Access) → IsObjectLawful (ratifier_of t inputs) h → (r : ℕ)
+    → 0 < value_in (Quorum r) h → (b : ℕ) × Has (acts (part b h)) (Store (Quorum r) 1)
 register_stored t inputs [] l r e = absurd (omega arith)
 register_stored t inputs (a ∷ h) l r e =
-    elim (register_origin t (inputs a.process) r a.turn.act (acts (turns_of a.process h)) (value_in (Quorum r) h) (newest_behind t inputs a h l) e) [
-      | inl w ↦ (let b = register_stored t inputs h (lawful_older t Ratifier inputs a h l) r w in (b.0, has_kept b.0 a h (Store (Quorum r) 1) b.1))
+    elim (register_origin t (inputs a.process) r a.turn.act (acts (part a.process h)) (value_in (Quorum r) h)
+    (newest_behind t inputs a h l) e) [
+      | inl w ↦ (let b = register_stored t inputs h (lawful_older (ratifier_of t inputs) a h l) r w in
+          (b.0, has_kept b.0 a h (Store (Quorum r) 1) b.1))
       | inr w ↦ (a.process, subst (λ turns. Has (acts turns) (Store (Quorum r) 1)) (sym (own_turns a h)) (inl w))
     ]
 
 -- a register that gave 1 was stored by a process
 pub loaded_stored :
-    (t : QuorumTable) (inputs : ℕ → ℕ) (h : List Access) → IsObjectLawful t Ratifier inputs h → (p r : ℕ)
-    → Has (acts (turns_of p h)) (Load (Quorum r) 1) → (b : ℕ) × Has (acts (turns_of b h)) (Store (Quorum r) 1)
+    (t : QuorumTable) (inputs : ℕ → ℕ) (h : List Access) → IsObjectLawful (ratifier_of t inputs) h → (p r : ℕ)
+    → Has (acts (part p h)) (Load (Quorum r) 1) → (b : ℕ) × Has (acts (part b h)) (Store (Quorum r) 1)
 loaded_stored t inputs [] l p r k = absurd k
 loaded_stored t inputs (a ∷ h) l p r k =
-    let older = lawful_older t Ratifier inputs a h l in
-    let kept : ((b : ℕ) × Has (acts (turns_of b h)) (Store (Quorum r) 1)) → (b : ℕ) × Has (acts (turns_of b (a ∷ h))) (Store (Quorum r) 1) =
+    let older = lawful_older (ratifier_of t inputs) a h l in
+    let kept : ((b : ℕ) × Has (acts (part b h)) (Store (Quorum r) 1)) → (b : ℕ) × Has (acts (part b (a ∷ h)))
+    (Store (Quorum r) 1) =
     λ b. (b.0, has_kept b.0 a h (Store (Quorum r) 1) b.1) in
     elim (has_cases p a h (Load (Quorum r) 1) k) [
-      | inl w ↦ kept (register_stored t inputs h older r (let e : 1 ≡ value_in (Quorum r) h = newest_load t inputs a h (Quorum r) 1 l w.1 in omega arith))
+      | inl w ↦ kept (register_stored t inputs h older r (let e : 1 ≡ value_in (Quorum r) h = newest_load t inputs a h
+          (Quorum r) 1 l w.1 in omega arith))
       | inr w ↦ kept (loaded_stored t inputs h older p r w)
     ]
 
@@ -257,17 +263,17 @@ small_kept t v r (Store (Quorum i) w) older n b e = cond_small (i == r) w n b.0 
 
 -- a quorum register holds 0 or 1
 register_small :
-    (t : QuorumTable) (inputs : ℕ → ℕ) (h : List Access) → IsObjectLawful t Ratifier inputs h → (r : ℕ)
+    (t : QuorumTable) (inputs : ℕ → ℕ) (h : List Access) → IsObjectLawful (ratifier_of t inputs) h → (r : ℕ)
     → value_in (Quorum r) h ≤ 1
 register_small t inputs [] l r = omega arith
 register_small t inputs (a ∷ h) l r =
-    small_kept t (inputs a.process) r a.turn.act (acts (turns_of a.process h)) (value_in (Quorum r) h)
+    small_kept t (inputs a.process) r a.turn.act (acts (part a.process h)) (value_in (Quorum r) h)
     (newest_behind t inputs a h l)
-    (register_small t inputs h (lawful_older t Ratifier inputs a h l) r)
+    (register_small t inputs h (lawful_older (ratifier_of t inputs) a h l) r)
 
 -- the proposal holds 0, or one more than a value
 proposal_small :
-    (t : QuorumTable) (inputs : ℕ → ℕ) (h : List Access) → IsObjectLawful t Ratifier inputs h
+    (t : QuorumTable) (inputs : ℕ → ℕ) (h : List Access) → IsObjectLawful (ratifier_of t inputs) h
     → value_in Proposal h ≤ t.values
 proposal_small t inputs h l =
     elim (cases_eq (value_in Proposal h) 0) [
@@ -289,15 +295,16 @@ no_value t v (Store (Quorum i) w) older n b e = e
 
 -- so that word is empty
 value_empty :
-    (t : QuorumTable) (inputs : ℕ → ℕ) (h : List Access) → IsObjectLawful t Ratifier inputs h → value_in Value h ≤ 0
+    (t : QuorumTable) (inputs : ℕ → ℕ) (h : List Access) → IsObjectLawful (ratifier_of t inputs) h
+    → value_in Value h ≤ 0
 value_empty t inputs [] l = omega arith
 value_empty t inputs (a ∷ h) l =
-    no_value t (inputs a.process) a.turn.act (acts (turns_of a.process h)) (value_in Value h) (newest_behind t inputs a h l)
-    (value_empty t inputs h (lawful_older t Ratifier inputs a h l))
+    no_value t (inputs a.process) a.turn.act (acts (part a.process h)) (value_in Value h) (newest_behind t inputs a h l)
+    (value_empty t inputs h (lawful_older (ratifier_of t inputs) a h l))
 
 -- each word holds what it can
 pub fits :
-    (t : QuorumTable) (inputs : ℕ → ℕ) (h : List Access) (reg : Reg) → IsObjectLawful t Ratifier inputs h
+    (t : QuorumTable) (inputs : ℕ → ℕ) (h : List Access) (reg : Reg) → IsObjectLawful (ratifier_of t inputs) h
     → CanHold t reg (value_in reg h)
 fits t inputs h Value l = omega (arith, value_empty t inputs h l)
 fits t inputs h Proposal l = proposal_small t inputs h l

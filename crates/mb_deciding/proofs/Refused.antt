@@ -1,9 +1,9 @@
 -- The first reason to refuse a schedule, where the number of values is in range.
-use Rattle.std.proofs.Common.{◌≡◌, ◌≤◌, ℕ, List, Some, refl, ap, ◌∙◌}
+use Rattle.std.proofs.Common.{◌≡◌, ◌≤◌, ℕ, List, length, Option, Some, None, refl, sym, ap, ◌∙◌}
+use Rattle.std.specs.Option.{option_map_or}
 use Rattle.std.proofs.lemmas.Bool.{cond_above}
 use Rattle.mb_quorum.specs.declared.values.TheConstants.{MAX_VALUES}
-use Rattle.mb_deciding.specs.declared.trace.Fault.TheVariants.{BadValues}
-use Rattle.mb_deciding.specs.Refusals.{refusal_in, refusal_of}
+use Rattle.mb_deciding.specs.{BadValues, BadInput, NoSuchProcess, first_from, refusal_in, refusal_of}
 
 -- no other reason comes before those of the inputs and the schedule
 pub refusal_in-of :
@@ -14,3 +14,18 @@ refusal_in-of m v inputs processes others least most same own =
     ∙ (cond_above MAX_VALUES m (Some BadValues) (refusal_in m inputs processes)
     (refusal_in m inputs processes) most refl
     ∙ cond_above m 1 (Some BadValues) _ _ least refl))
+
+-- the first of two reasons, where neither is one
+none_of :
+    (x y : Option ℕ)
+    → option_map_or (λ i. Some (BadInput i)) x (option_map_or (λ i. Some (NoSuchProcess i)) y None) ≡ None
+    → (None ≡ x) × (None ≡ y)
+none_of None None e = (refl, refl)
+none_of None (Some j) e = absurd (let f : Some (NoSuchProcess j) ≡ None = e in cc)
+none_of (Some i) y e = absurd (let f : Some (BadInput i) ≡ None = e in cc)
+
+-- where there is no reason, no input and no process is the first bad one
+pub none_first :
+    (m : ℕ) (inputs processes : List ℕ) → None ≡ refusal_in m inputs processes
+    → (None ≡ first_from m inputs) × (None ≡ first_from (length inputs) processes)
+none_first m inputs processes e = none_of (first_from m inputs) (first_from (length inputs) processes) (sym e)

@@ -1,14 +1,13 @@
 -- Registers of a quorum in rising order: the least of those that are left, and lists with an act for each.
-use Rattle.std.proofs.Common.{◌≡◌, ◌≢◌, ℕ, zero, suc, ◌+◌, ◌<◌, ◌≤◌, ◌^◌, ◌==◌, ◌⊎◌, ◌↔◌, cond, Bool, true, false, List, [], ◌∷◌, ◌++◌, inl, inr, sym, refl, ap, ◌∙◌, subst, arith}
+use Rattle.std.proofs.Common.{◌≡◌, ◌≢◌, ℕ, zero, suc, ◌+◌, ◌<◌, ◌≤◌, ◌^◌, ◌==◌, ◌⊎◌, ◌↔◌, cond, Bool, true, false, List}
+use Rattle.std.proofs.Common.{[], ◌∷◌, ◌++◌, inl, inr, sym, refl, ap, ◌∙◌, subst, arith}
 use Rattle.std.specs.Int.{bit_at}
 use Rattle.std.proofs.Math.Numerals.{add-one}
 use Rattle.std.proofs.lemmas.Bool.{cases_eq, cases_lt, eq-eqb, ne_eqb}
 use Rattle.std.proofs.lemmas.Nat.Bits.{bit_at-zero, bit_at-lt, bit_at_above, same_from_bits}
 use Rattle.mb_quorum.specs.Quorum.{IsMember}
 use Rattle.mb_quorum.specs.WidthLaw.{self_below}
-use Rattle.mb_deciding.specs.declared.access.Act.{Act}
-use Rattle.mb_deciding.specs.Ratifier.{each_below}
-use Rattle.mb_deciding.specs.Place.{IsLeast, IsRest}
+use Rattle.mb_deciding.specs.{Act, acts_below, IsLeast, IsRest}
 
 -- no register of the quorum is at or above the bound
 abbrev pub IsNoneFrom : ℕ → ℕ → Type 0
@@ -70,7 +69,11 @@ least_below (suc n) mask =
       | inl x ↦ (let below : x.0 < n = x.1 in inl (x.0, omega arith, x.2))
       | inr none ↦ (elim (cases_eq (bit_at mask n) 1) [
         | inl e ↦ inl (n, omega arith, record { member = e; least = λ k l m. none k l m })
-        | inr ne ↦ inr (λ r l m. elim (cases_eq r n) [ inl e ↦ ne (subst (λ k. IsMember mask k) e m) | inr d ↦ none r (omega arith) m ])
+        | inr ne ↦ inr (λ r l m. elim (cases_eq r n) [
+          | inl e ↦ ne (subst (λ k. IsMember mask k) e m)
+          | inr d ↦ none r
+              (omega arith) m
+        ])
       ])
     ]
 
@@ -93,7 +96,8 @@ some_least mask some =
     zeros : ((r : ℕ) → r < mask → IsMember mask r → ⊥) → (i : ℕ) → bit_at mask i ≡ 0
     zeros none i =
         elim (cases_lt i mask) [
-          | inl l ↦ (let small : bit_at mask i < 2 = bit_at-lt mask i in let other : bit_at mask i ≢ 1 = none i l in omega arith)
+          | inl l ↦ (let small : bit_at mask i < 2 = bit_at-lt mask i in
+              let other : bit_at mask i ≢ 1 = none i l in omega arith)
           | inr l ↦ bit_at_above mask mask i (self_below mask) l
         ]
 
@@ -111,21 +115,22 @@ take_cond false x xs e = cc
 -- bounds with no register of the mask between them give one list
 pub each_skip :
     (act : ℕ → Act) (n mask bound : ℕ) → bound ≤ n → ((k : ℕ) → bound ≤ k → k < n → IsMember mask k → ⊥)
-    → each_below act n mask ≡ each_below act bound mask
+    → acts_below act n mask ≡ acts_below act bound mask
 each_skip act zero mask bound h none = let e : bound ≡ 0 = omega arith in rw e refl
 each_skip act (suc n) mask bound h none =
     elim (cases_eq bound (suc n)) [
       | inl e ↦ rw e refl
-      | inr e ↦ skip_cond (bit_at mask n == 1) (act n) (each_below act n mask) (ne_eqb (bit_at mask n) 1 (none n (omega arith) (omega arith)))
+      | inr e ↦ skip_cond (bit_at mask n == 1) (act n) (acts_below act n mask)
+          (ne_eqb (bit_at mask n) 1 (none n (omega arith) (omega arith)))
           ∙ each_skip act n mask bound (omega arith) (λ k a b. none k a (omega arith))
     ]
 
 -- the least register comes next
 pub each_next :
     (act : ℕ → Act) (mask bound r : ℕ) → IsLeastFrom mask bound r
-    → each_below act (r + 1) mask ≡ act r ∷ each_below act bound mask
+    → acts_below act (r + 1) mask ≡ act r ∷ acts_below act bound mask
 each_next act mask bound r l =
-    rw add-one (take_cond (bit_at mask r == 1) (act r) (each_below act r mask) (eq-eqb (bit_at mask r) 1 l.member)
+    rw add-one (take_cond (bit_at mask r == 1) (act r) (acts_below act r mask) (eq-eqb (bit_at mask r) 1 l.member)
     ∙ ap (λ xs. act r ∷ xs) (each_skip act r mask bound l.above l.least))
 
 -- one more register adds its act or nothing
@@ -138,10 +143,11 @@ grow_cond false x xs ys h = h
 -- a higher bound adds acts on the left
 pub each_grow :
     (act : ℕ → Act) (n mask bound : ℕ) → bound ≤ n
-    → (later : List Act) × (later ++ each_below act bound mask ≡ each_below act n mask)
+    → (later : List Act) × (later ++ acts_below act bound mask ≡ acts_below act n mask)
 each_grow act zero mask bound h = ([], (let e : bound ≡ 0 = omega arith in rw e refl))
 each_grow act (suc n) mask bound h =
     elim (cases_eq bound (suc n)) [
       | inl e ↦ ([], rw e refl)
-      | inr e ↦ grow_cond (bit_at mask n == 1) (act n) (each_below act n mask) (each_below act bound mask) (each_grow act n mask bound (omega arith))
+      | inr e ↦ grow_cond (bit_at mask n == 1) (act n) (acts_below act n mask) (acts_below act bound mask)
+          (each_grow act n mask bound (omega arith))
     ]

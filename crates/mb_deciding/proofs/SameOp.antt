@@ -1,16 +1,6 @@
 -- Acts of one op: what a process does before memory answers.
 use Rattle.std.proofs.Common.{◌≡◌, List, sym, ap, ap₂, ◌∙◌}
-use Rattle.mb_deciding.specs.declared.access.Act.{Act}
-use Rattle.mb_deciding.specs.declared.access.Act.TheVariants.{Load, Store}
-use Rattle.mb_deciding.specs.declared.access.Access.{Access}
-use Rattle.mb_deciding.specs.History.{value_in, ReadsLast}
-
--- both load one word, or both store one value in one word
-abbrev pub IsSameOp : Act → Act → Type 0
-IsSameOp (Load reg x) (Load other y) = reg ≡ other
-IsSameOp (Load reg x) (Store other y) = ⊥
-IsSameOp (Store reg x) (Load other y) = ⊥
-IsSameOp (Store reg x) (Store other y) = (reg ≡ other) × (x ≡ y)
+use Rattle.mb_deciding.specs.{Act, Load, Store, Access, IsSameOp, value_in, ReadsLast}
 
 -- after one history they are one act
 pub same_act : (a b : Act) (h : List Access) → IsSameOp a b → ReadsLast a h → ReadsLast b h → a ≡ b

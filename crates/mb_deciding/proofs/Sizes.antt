@@ -1,5 +1,6 @@
 -- How many registers a quorum has.
-use Rattle.std.proofs.Common.{◌≡◌, ◌≢◌, ℕ, zero, suc, ◌+◌, ◌*◌, ◌/◌, ◌%◌, ◌^◌, ◌<◌, ◌≤◌, ◌==◌, count_ones, cond, Bool, true, false, List, ◌∷◌, length, inl, inr, sym, refl, ap, ◌∙◌, subst, arith}
+use Rattle.std.proofs.Common.{◌≡◌, ◌≢◌, ℕ, zero, suc, ◌+◌, ◌*◌, ◌/◌, ◌%◌, ◌^◌, ◌<◌, ◌≤◌, ◌==◌, count_ones, cond, Bool}
+use Rattle.std.proofs.Common.{true, false, List, ◌∷◌, length, inl, inr, sym, refl, ap, ◌∙◌, subst, arith}
 use Rattle.std.specs.Int.{bit_at}
 use Rattle.std.proofs.Math.Nat.{mod-lt, le-max_left, le-max_right}
 use Rattle.std.proofs.Math.Numerals.{one-add}
@@ -7,9 +8,7 @@ use Rattle.std.proofs.Math.Pow.{pow_pos}
 use Rattle.std.proofs.lemmas.Bool.{cases_eq, eqb-true, eqb-false}
 use Rattle.std.proofs.lemmas.Nat.{mod-pow-add, div-add-mod', ones_cat, ones_le_self, zero_from_ones}
 use Rattle.std.proofs.lemmas.Nat.Bits.{bit_at-lt}
-use Rattle.mb_deciding.specs.declared.access.Act.{Act}
-use Rattle.mb_deciding.specs.Ratifier.{each_below}
-use Rattle.mb_deciding.specs.Objects.{largest}
+use Rattle.mb_deciding.specs.{Act, acts_below, largest_quorum}
 
 -- the empty quorum
 ones_none : count_ones 0 ≡ 0
@@ -42,26 +41,33 @@ below_next n mask =
     ap count_ones bits ∙ ones_cat n (bit_at mask n) (mask % 2 ^ n) (mod-lt mask (pow_pos n))
 
 -- a list with an act for each register is as long as there are registers
-each_exact : (act : ℕ → Act) (n mask : ℕ) → length (each_below act n mask) ≡ count_ones (mask % 2 ^ n)
+pub each_exact : (act : ℕ → Act) (n mask : ℕ) → length (acts_below act n mask) ≡ count_ones (mask % 2 ^ n)
 each_exact act zero mask =
     let none : mask % 1 ≡ 0 = omega (arith, mod-lt mask (pow_pos 0)) in omega (arith, ap count_ones none, ones_none)
 each_exact act (suc n) mask =
-    cond_size (act n) (each_below act n mask) (bit_at mask n) (count_ones (mask % 2 ^ n)) (bit_at-lt mask n)
+    cond_size (act n) (acts_below act n mask) (bit_at mask n) (count_ones (mask % 2 ^ n)) (bit_at-lt mask n)
     (each_exact act n mask) (bit_at mask n == 1) refl
     ∙ sym (below_next n mask)
 
 -- so it has no more acts than the quorum has registers
-pub each_size : (act : ℕ → Act) (n mask : ℕ) → length (each_below act n mask) ≤ count_ones mask
+pub each_size : (act : ℕ → Act) (n mask : ℕ) → length (acts_below act n mask) ≤ count_ones mask
 each_size act n mask =
     let whole : count_ones mask ≡ count_ones (mask / 2 ^ n) + count_ones (mask % 2 ^ n) =
-    ap count_ones (sym (div-add-mod' mask (2 ^ n))) ∙ ones_cat n (mask / 2 ^ n) (mask % 2 ^ n) (mod-lt mask (pow_pos n)) in
+    ap count_ones (sym (div-add-mod' mask (2 ^ n))) ∙ ones_cat n (mask / 2 ^ n) (mask % 2 ^ n)
+    (mod-lt mask (pow_pos n)) in
     omega (arith, each_exact act n mask)
 
 -- no quorum of the values is larger than the largest
-pub largest_bound : (quorum : ℕ → ℕ) (n v : ℕ) → v < n → count_ones (quorum v) ≤ largest quorum n
+pub largest_bound : (quorum : ℕ → ℕ) (n v : ℕ) → v < n → count_ones (quorum v) ≤ largest_quorum quorum n
 largest_bound quorum zero v below = absurd (omega arith)
 largest_bound quorum (suc n) v below =
     elim (cases_eq v n) [
-      | inl e ↦ subst (λ k. count_ones (quorum k) ≤ largest quorum (suc n)) (sym e) (le-max_left (count_ones (quorum n)) (largest quorum n))
-      | inr other ↦ omega (arith, largest_bound quorum n v (omega arith), le-max_right (count_ones (quorum n)) (largest quorum n))
+      | inl e ↦ subst (λ k. count_ones (quorum k) ≤ largest_quorum quorum (suc n)) (sym e)
+          (le-max_left (count_ones (quorum n)) (largest_quorum quorum n))
+      | inr other ↦ omega (
+        arith,
+        largest_bound quorum n v (omega arith),
+        le-max_right (count_ones (quorum n))
+            (largest_quorum quorum n),
+      )
     ]

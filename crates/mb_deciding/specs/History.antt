@@ -1,12 +1,9 @@
 -- Histories of one object. A history is a list of accesses, the newest first: in `a ∷ older` the accesses of `older`
 -- came before a.
-use Rattle.std.specs.Prelude.{◌≡◌, ℕ, ◌^◌, ◌<◌, Bool, true, false, ◌==◌, cond, Option, Some, None, List, [], ◌∷◌, ◌⊎◌, map, filter_map}
-use Rattle.mb_deciding.specs.declared.access.Reg.{Reg}
-use Rattle.mb_deciding.specs.declared.access.Reg.TheVariants.{Value, Proposal, Quorum}
-use Rattle.mb_deciding.specs.declared.access.Act.{Act}
-use Rattle.mb_deciding.specs.declared.access.Act.TheVariants.{Load, Store}
-use Rattle.mb_deciding.specs.declared.access.Turn.{Turn}
-use Rattle.mb_deciding.specs.declared.access.Access.{Access}
+use Rattle.std.specs.Prelude.{◌≡◌, ℕ, ◌^◌, ◌<◌, Bool, true, false, ◌==◌, if◌then◌else◌, Option, Some, None, IfSome}
+use Rattle.std.specs.Prelude.{List, [], ◌∷◌, ◌⊎◌, map, filter_map}
+use Rattle.std.specs.Option.{option_map_or}
+use Rattle.mb_deciding.specs.Types.{Reg, Value, Proposal, Quorum, Act, Load, Store, Turn, Access}
 
 -- whether two names of words are one
 abbrev pub is_same_reg : Reg → Reg → Bool
@@ -20,47 +17,70 @@ is_same_reg Proposal (Quorum j) = false
 is_same_reg (Quorum i) Value = false
 is_same_reg (Quorum i) Proposal = false
 
+-- the word that an act went to
+abbrev pub reg_of_act : Act → Reg
+reg_of_act (Load reg value) = reg
+reg_of_act (Store reg value) = reg
+
+-- the value that an act loaded, if it loaded one
+abbrev pub loaded_by : Act → Option ℕ
+loaded_by (Load reg value) = Some value
+loaded_by (Store reg value) = None
+
+-- the value that an act stored, if it stored one
+abbrev pub stored_by : Act → Option ℕ
+stored_by (Load reg value) = None
+stored_by (Store reg value) = Some value
+
+-- ---- memory: by what an act loads and by what it stores, and by nothing else
 -- what a word that held n holds after an act
 abbrev pub value_after : Reg → Act → ℕ → ℕ
-value_after reg (Load at value) n = n
-value_after reg (Store at value) n = cond (is_same_reg at reg) value n
+value_after reg act n =
+    option_map_or (λ value. if is_same_reg (reg_of_act act) reg then value else n) (stored_by act) n
 
 -- what a history leaves in a word: the value of the last store to it, or 0 where there is none
 abbrev pub value_in : Reg → List Access → ℕ
 value_in reg [] = 0
 value_in reg (a ∷ older) = value_after reg a.turn.act (value_in reg older)
 
--- a load has the value that the older accesses left
+-- an act that loads has the value that the older accesses left
 abbrev pub ReadsLast : Act → List Access → Type 0
-ReadsLast (Load reg value) older = value ≡ value_in reg older
-ReadsLast (Store reg value) older = Unit {0}
+ReadsLast act older = IfSome (loaded_by act) (λ value. value ≡ value_in (reg_of_act act) older)
 
--- each load has the value of the last earlier store to the same word, or 0 where there is none
+-- so it is with each act of a history
 abbrev pub IsMemoryTrue : List Access → Type 0
 IsMemoryTrue [] = Unit {0}
 IsMemoryTrue (a ∷ older) = ReadsLast a.turn.act older × IsMemoryTrue older
 
--- the value that was loaded or stored
-abbrev pub value_of : Act → ℕ
-value_of (Load reg value) = value
-value_of (Store reg value) = value
+-- both load one word, or both store one value in one word: before memory answers they are one
+abbrev pub IsSameOp : Act → Act → Type 0
+IsSameOp (Load reg x) (Load other y) = reg ≡ other
+IsSameOp (Load reg x) (Store other y) = ⊥
+IsSameOp (Store reg x) (Load other y) = ⊥
+IsSameOp (Store reg x) (Store other y) = (reg ≡ other) × (x ≡ y)
 
--- the value and the random word are words of 64 bits
+-- what an act loads and stores are words of 64 bits
+abbrev pub IsActInWords : Act → Type 0
+IsActInWords act =
+    IfSome (loaded_by act) (λ value. value < 2 ^ 64)
+    × IfSome (stored_by act) (λ value. value < 2 ^ 64)
+
+-- and the random word is one
 abbrev pub IsInWords : Turn → Type 0
-IsInWords turn = (value_of turn.act < 2 ^ 64) × (turn.word < 2 ^ 64)
+IsInWords turn = IsActInWords turn.act × (turn.word < 2 ^ 64)
 
--- so are those of each access
+-- so it is with each access
 abbrev pub AreInWords : List Access → Type 0
 AreInWords [] = Unit {0}
 AreInWords (a ∷ older) = IsInWords a.turn × AreInWords older
 
 -- the turn, if the process made the access
 abbrev pub turn_by : ℕ → Access → Option Turn
-turn_by process a = cond (a.process == process) (Some a.turn) None
+turn_by process a = if a.process == process then Some a.turn else None
 
 -- the part of one process: the turns that it made
-abbrev pub turns_of : ℕ → List Access → List Turn
-turns_of process h = filter_map (turn_by process) h
+abbrev pub part : ℕ → List Access → List Turn
+part process h = filter_map (turn_by process) h
 
 -- the acts of turns, where the random words do not count
 abbrev pub acts : List Turn → List Act

@@ -1,17 +1,11 @@
 -- Deciding objects: whole paths of one process, their prefixes, and lawful histories of one object.
 use Rattle.std.specs.Prelude.{◌≡◌, ◌≢◌, ℕ, zero, suc, ◌+◌, ◌<◌, ◌≤◌, max, count_ones, Bool, false, List, [], ◌++◌}
+use Rattle.mb_deciding.specs.OneObject.{Object}
 use Rattle.mb_quorum.specs.Quorum.{QuorumTable, IsMember}
-use Rattle.mb_deciding.specs.declared.access.Reg.{Reg}
-use Rattle.mb_deciding.specs.declared.access.Reg.TheVariants.{Value, Proposal, Quorum}
-use Rattle.mb_deciding.specs.declared.access.Act.TheVariants.{Store}
-use Rattle.mb_deciding.specs.declared.access.Turn.{Turn}
-use Rattle.mb_deciding.specs.declared.access.Access.{Access}
-use Rattle.mb_deciding.specs.declared.object.Out.{Out}
-use Rattle.mb_deciding.specs.declared.object.Kind.{Kind}
-use Rattle.mb_deciding.specs.declared.object.Kind.TheVariants.{Conciliator, Ratifier}
-use Rattle.mb_deciding.specs.History.{IsMemoryTrue, AreInWords, turns_of, acts, Has}
-use Rattle.mb_deciding.specs.Ratifier.{IsRatifierPath}
-use Rattle.mb_deciding.specs.Conciliator.{IsConciliatorPath}
+use Rattle.mb_deciding.specs.Types.{Reg, Value, Proposal, Quorum, Store, Turn, Access, Out, Kind, Conciliator, Ratifier}
+use Rattle.mb_deciding.specs.History.{IsMemoryTrue, AreInWords, part, acts, Has}
+use Rattle.mb_deciding.specs.RatifierPaths.{IsRatifierPath}
+use Rattle.mb_deciding.specs.ConciliatorPaths.{IsConciliatorPath}
 
 -- the answer (d, u)
 abbrev pub answer : Bool → ℕ → Out
@@ -19,33 +13,40 @@ answer d u = record { decided = d; value = u }
 
 -- the whole path of one process through an object, and its output; a conciliator never decides
 abbrev pub IsPath : QuorumTable → Kind → ℕ → List Turn → Out → Type 0
-IsPath t (Conciliator s) input turns output = (output.decided ≡ false) × IsConciliatorPath s input turns output.value
-IsPath t Ratifier input turns output = IsRatifierPath t input (acts turns) output.decided output.value
+IsPath t (Conciliator s) input turns output =
+    (output.decided ≡ false) × IsConciliatorPath s input turns output.value
+IsPath t Ratifier input turns output =
+    IsRatifierPath t input (acts turns) output.decided output.value
 
 -- a prefix of a path: later turns, or none, complete it
 abbrev pub IsPrefix : QuorumTable → Kind → ℕ → List Turn → Type 0
-IsPrefix t kind input turns = (later : List Turn) × (output : Out) × IsPath t kind input (later ++ turns) output
+IsPrefix t kind input turns =
+    (later : List Turn) × (output : Out) × IsPath t kind input (later ++ turns) output
 
 -- a prefix of a path that has not come to its end
 abbrev pub IsOpen : QuorumTable → Kind → ℕ → List Turn → Type 0
 IsOpen t kind input turns =
-    (later : List Turn) × (later ≢ []) × ((output : Out) × IsPath t kind input (later ++ turns) output)
+    (later : List Turn) × (later ≢ [])
+    × ((output : Out) × IsPath t kind input (later ++ turns) output)
 
 -- each load is true to memory, values and random words are words of 64 bits, and what a process did is a prefix of
 -- a path of its input
-pub record IsObjectLawful (t : QuorumTable) (kind : Kind) (inputs : ℕ → ℕ) (h : List Access) : Type 0 where
+pub record IsObjectLawful (o : Object) (h : List Access) : Type 0 where
   pub memory : IsMemoryTrue h
   pub words : AreInWords h
-  pub parts : (p : ℕ) → turns_of p h ≢ [] → (inputs p < t.values) × IsPrefix t kind (inputs p) (turns_of p h)
+  pub parts :
+      (p : ℕ) → part p h ≢ []
+      → (o.inputs p < o.table.values) × IsPrefix o.table o.kind (o.inputs p) (part p h)
 
 -- process p has the output (d, u)
-abbrev pub HasOutput : QuorumTable → Kind → (ℕ → ℕ) → List Access → ℕ → Bool → ℕ → Type 0
-HasOutput t kind inputs h p d u = IsPath t kind (inputs p) (turns_of p h) (answer d u)
+abbrev pub HasOutput : Object → ℕ → Bool → ℕ → List Access → Type 0
+HasOutput o p d u h = IsPath o.table o.kind (o.inputs p) (part p h) (answer d u)
 
 -- a process with input u has stored in a register of u's write quorum
-abbrev pub IsAnnounced : QuorumTable → (ℕ → ℕ) → List Access → ℕ → Type 0
-IsAnnounced t inputs h u =
-    (p r : ℕ) × (inputs p ≡ u) × IsMember (t.write u) r × Has (acts (turns_of p h)) (Store (Quorum r) 1)
+abbrev pub IsAnnounced : Object → ℕ → List Access → Type 0
+IsAnnounced o u h =
+    (p r : ℕ) × (o.inputs p ≡ u) × IsMember (o.table.write u) r
+    × Has (acts (part p h)) (Store (Quorum r) 1)
 
 -- a value that a word of an object can hold
 abbrev pub CanHold : QuorumTable → Reg → ℕ → Type 0
@@ -54,11 +55,11 @@ CanHold t Proposal n = n ≤ t.values
 CanHold t (Quorum r) n = n ≤ 1
 
 -- the most registers that a quorum of one of the first n values has
-abbrev pub largest : (ℕ → ℕ) → ℕ → ℕ
-largest quorum zero = 0
-largest quorum (suc v) = max (count_ones (quorum v)) (largest quorum v)
+abbrev pub largest_quorum : (ℕ → ℕ) → ℕ → ℕ
+largest_quorum quorum zero = 0
+largest_quorum quorum (suc v) = max (count_ones (quorum v)) (largest_quorum quorum v)
 
 -- no process makes more turns on an object
 abbrev pub most_turns : QuorumTable → Kind → ℕ
 most_turns t (Conciliator s) = s + 3
-most_turns t Ratifier = largest t.write t.values + 2 + largest t.read t.values
+most_turns t Ratifier = largest_quorum t.write t.values + 2 + largest_quorum t.read t.values

@@ -1,27 +1,14 @@
 -- The place of one process in an object, what it has made so far, and what it does next.
 use Rattle.std.specs.Prelude.{◌≡◌, ◌≢◌, ℕ, ◌+◌, ◌<◌, ◌≤◌, ◌^◌, ◌↔◌, List, [], ◌∷◌}
 use Rattle.mb_quorum.specs.Quorum.{QuorumTable, IsMember}
-use Rattle.mb_deciding.specs.declared.access.Reg.{Reg}
-use Rattle.mb_deciding.specs.declared.access.Reg.TheVariants.{Value, Proposal, Quorum}
-use Rattle.mb_deciding.specs.declared.access.Act.{Act}
-use Rattle.mb_deciding.specs.declared.access.Act.TheVariants.{Load, Store}
-use Rattle.mb_deciding.specs.declared.access.Op.{Op}
-use Rattle.mb_deciding.specs.declared.access.Op.TheVariants.{Load as ToLoad, Store as ToStore}
-use Rattle.mb_deciding.specs.declared.access.Turn.{Turn}
-use Rattle.mb_deciding.specs.declared.access.Access.{Access}
-use Rattle.mb_deciding.specs.declared.object.Kind.{Kind}
-use Rattle.mb_deciding.specs.declared.object.Kind.TheVariants.{Conciliator, Ratifier}
-use Rattle.mb_deciding.specs.declared.place.Pc.{Pc}
-use Rattle.mb_deciding.specs.declared.place.Pc.TheVariants.{InRatifier, InConciliator}
-use Rattle.mb_deciding.specs.declared.ratifier_place.RatifierPlace.{RatifierPlace}
-use Rattle.mb_deciding.specs.declared.ratifier_place.RatifierPlace.TheVariants.{Begin, Announce, Propose, Check}
-use Rattle.mb_deciding.specs.declared.conciliator_place.ConciliatorPlace.{ConciliatorPlace}
-use Rattle.mb_deciding.specs.declared.conciliator_place.ConciliatorPlace.TheVariants.{Draw, Put, Look}
-use Rattle.mb_deciding.specs.declared.place.Next.{Next}
-use Rattle.mb_deciding.specs.declared.place.Next.TheVariants.{Go, Out}
+use Rattle.mb_deciding.specs.Types.{Reg, Value, Proposal, Quorum, Act, Load, Store, Op, Turn, Access, Kind, Conciliator}
+use Rattle.mb_deciding.specs.Types.{Ratifier, Pc, InRatifier, InConciliator, RatifierPlace, Begin, Announce, Propose}
+use Rattle.mb_deciding.specs.Types.{Check, ConciliatorPlace, Draw, Put, Look, Next}
+use Rattle.mb_deciding.specs.declared.access.Op.TheVariants as to
+use Rattle.mb_deciding.specs.declared.place.pc.Next.TheVariants as leads
 use Rattle.mb_deciding.specs.History.{value_in, acts}
-use Rattle.mb_deciding.specs.Ratifier.{stores_below, announced, ReadsClear}
-use Rattle.mb_deciding.specs.Conciliator.{IsMissing, IsDrawn, IsPut}
+use Rattle.mb_deciding.specs.RatifierPaths.{stores_below, announcement, ReadsClear}
+use Rattle.mb_deciding.specs.ConciliatorPaths.{IsMissing, IsDrawn, IsPut}
 use Rattle.mb_deciding.specs.Objects.{IsPath}
 
 -- r is the least register of the quorum
@@ -45,25 +32,28 @@ abbrev pub HasLimits : ℕ → ℕ → ℕ → ℕ → Type 0
 HasLimits s k limit modulus = (k ≤ s) × (limit ≡ 2 ^ k) × (modulus ≡ 2 ^ s)
 
 -- the place in a conciliator fits the number of values
-abbrev pub IsConciliatorPlace : QuorumTable → ConciliatorPlace → Type 0
-IsConciliatorPlace t (Draw input limit modulus) = (input < t.values) × ((s k : ℕ) × (s ≤ 63) × HasLimits s k limit modulus)
-IsConciliatorPlace t (Put input) = input < t.values
-IsConciliatorPlace t (Look input) = input < t.values
+abbrev pub IsConciliatorPlace : ℕ → ConciliatorPlace → Type 0
+IsConciliatorPlace values (Draw input limit modulus) =
+    (input < values) × ((s k : ℕ) × (s ≤ 63) × HasLimits s k limit modulus)
+IsConciliatorPlace values (Put input) = input < values
+IsConciliatorPlace values (Look input) = input < values
 
 -- the place fits the table
 abbrev pub IsPlace : QuorumTable → Pc → Type 0
 IsPlace t (InRatifier place) = IsRatifierPlace t place
-IsPlace t (InConciliator place) = IsConciliatorPlace t place
+IsPlace t (InConciliator place) = IsConciliatorPlace t.values place
 
 -- a process with input v that has made these acts on a ratifier is at the place
 abbrev pub IsInRatifier : QuorumTable → ℕ → RatifierPlace → List Act → Type 0
 IsInRatifier t v (Begin input) made = (input ≡ v) × (made ≡ [])
 IsInRatifier t v (Announce input left) made =
     (input ≡ v)
-    × ((bound : ℕ) × (bound ≤ t.registers) × IsRest (t.write v) bound left × (made ≡ stores_below bound (t.write v)))
-IsInRatifier t v (Propose input) made = (input ≡ v) × (made ≡ Load Proposal 0 ∷ announced t v)
+    × ((bound : ℕ) × (bound ≤ t.registers) × IsRest (t.write v) bound left ×
+    (made ≡ stores_below bound (t.write v)))
+IsInRatifier t v (Propose input) made = (input ≡ v) × (made ≡ Load Proposal 0 ∷ announcement t v)
 IsInRatifier t v (Check preference left) made =
-    (bound : ℕ) × (bound ≤ t.registers) × IsRest (t.read preference) bound left × ReadsClear t v preference bound made
+    (bound : ℕ) × (bound ≤ t.registers) × IsRest (t.read preference) bound left
+    × ReadsClear t v preference bound made
 
 -- a process with input v that has made these turns on a conciliator is at the place
 abbrev pub IsInConciliator : ℕ → ℕ → ConciliatorPlace → List Turn → Type 0
@@ -74,26 +64,28 @@ IsInConciliator s v (Look input) made = (input ≡ v) × ((k : ℕ) × (k ≤ s)
 
 -- a process with input v on an object of this kind, which has made these turns, is at the place
 abbrev pub IsAt : QuorumTable → Kind → ℕ → Pc → List Turn → Type 0
-IsAt t Ratifier v (InRatifier place) turns = IsPlace t (InRatifier place) × IsInRatifier t v place (acts turns)
-IsAt t (Conciliator s) v (InConciliator place) turns = IsPlace t (InConciliator place) × IsInConciliator s v place turns
+IsAt t Ratifier v (InRatifier place) turns =
+    IsPlace t (InRatifier place) × IsInRatifier t v place (acts turns)
+IsAt t (Conciliator s) v (InConciliator place) turns =
+    IsPlace t (InConciliator place) × IsInConciliator s v place turns
 IsAt t Ratifier v (InConciliator place) turns = ⊥
 IsAt t (Conciliator s) v (InRatifier place) turns = ⊥
 
 -- the access that comes next in a ratifier
 abbrev pub IsRatifierOp : QuorumTable → RatifierPlace → Op → Type 0
-IsRatifierOp t (Begin input) (ToStore (Quorum r) value) = (value ≡ 1) × IsLeast (t.write input) r
-IsRatifierOp t (Begin input) (ToLoad Proposal) = t.write input ≡ 0
-IsRatifierOp t (Announce input left) (ToStore (Quorum r) value) = (value ≡ 1) × IsLeast left r
-IsRatifierOp t (Announce input left) (ToLoad Proposal) = left ≡ 0
-IsRatifierOp t (Propose input) (ToStore Proposal value) = value ≡ input + 1
-IsRatifierOp t (Check preference left) (ToLoad (Quorum r)) = IsLeast left r
+IsRatifierOp t (Begin input) (to.Store (Quorum r) value) = (value ≡ 1) × IsLeast (t.write input) r
+IsRatifierOp t (Begin input) (to.Load Proposal) = t.write input ≡ 0
+IsRatifierOp t (Announce input left) (to.Store (Quorum r) value) = (value ≡ 1) × IsLeast left r
+IsRatifierOp t (Announce input left) (to.Load Proposal) = left ≡ 0
+IsRatifierOp t (Propose input) (to.Store Proposal value) = value ≡ input + 1
+IsRatifierOp t (Check preference left) (to.Load (Quorum r)) = IsLeast left r
 IsRatifierOp t place op = ⊥
 
 -- the access that comes next in a conciliator
 abbrev pub IsConciliatorOp : ConciliatorPlace → Op → Type 0
-IsConciliatorOp (Draw input limit modulus) op = op ≡ ToLoad Value
-IsConciliatorOp (Put input) op = op ≡ ToStore Value (input + 1)
-IsConciliatorOp (Look input) op = op ≡ ToLoad Value
+IsConciliatorOp (Draw input limit modulus) op = op ≡ to.Load Value
+IsConciliatorOp (Put input) op = op ≡ to.Store Value (input + 1)
+IsConciliatorOp (Look input) op = op ≡ to.Load Value
 
 -- the access that comes next
 abbrev pub IsOpAt : QuorumTable → Pc → Op → Type 0
@@ -102,13 +94,13 @@ IsOpAt t (InConciliator place) op = IsConciliatorOp place op
 
 -- the act, with the value that was loaded
 abbrev pub act_of : Op → ℕ → Act
-act_of (ToLoad reg) seen = Load reg seen
-act_of (ToStore reg value) seen = Store reg value
+act_of (to.Load reg) seen = Load reg seen
+act_of (to.Store reg value) seen = Store reg value
 
 -- the word that an op goes to
 abbrev pub reg_of : Op → Reg
-reg_of (ToLoad reg) = reg
-reg_of (ToStore reg value) = reg
+reg_of (to.Load reg) = reg
+reg_of (to.Store reg value) = reg
 
 -- an object of this kind, with r quorum registers, has the word
 abbrev pub HasReg : ℕ → Kind → Reg → Type 0
@@ -117,29 +109,35 @@ HasReg r Ratifier Proposal = Unit {0}
 HasReg r Ratifier (Quorum i) = i < r
 HasReg r _ _ = ⊥
 
--- what the op of a process at the place may find: a load gives a value that the word can hold, and what was stored is
--- not empty
+-- what a load of a conciliator's word may find: a value of so many, or none where the process itself has not stored
+abbrev pub CanMeet : ℕ → ConciliatorPlace → ℕ → Type 0
+CanMeet values (Draw input limit modulus) seen = seen ≤ values
+CanMeet values (Put input) seen = Unit {0}
+CanMeet values (Look input) seen = (0 < seen) × (seen ≤ values)
+
+-- what the op of a process at the place may find: a store finds nothing, whatever is said; a load finds a value that
+-- the word can hold, and in a conciliator one that is not empty where the process itself has stored
 abbrev pub CanFind : QuorumTable → Pc → Op → ℕ → Type 0
-CanFind t (InRatifier place) (ToLoad Proposal) seen = seen ≤ t.values
-CanFind t (InRatifier place) (ToLoad (Quorum r)) seen = seen ≤ 1
-CanFind t (InConciliator (Draw input limit modulus)) op seen = seen ≤ t.values
-CanFind t (InConciliator (Look input)) op seen = (0 < seen) × (seen ≤ t.values)
-CanFind t pc op seen = Unit {0}
+CanFind t pc (to.Store reg value) seen = Unit {0}
+CanFind t (InRatifier place) (to.Load Proposal) seen = seen ≤ t.values
+CanFind t (InRatifier place) (to.Load (Quorum r)) seen = seen ≤ 1
+CanFind t (InRatifier place) (to.Load Value) seen = Unit {0}
+CanFind t (InConciliator place) (to.Load reg) seen = CanMeet t.values place seen
 
 -- a process with input v that has made these turns has come to the place, or to its output
 abbrev pub IsReached : QuorumTable → Kind → ℕ → Next → List Turn → Type 0
-IsReached t kind v (Go pc) turns = IsAt t kind v pc turns
-IsReached t kind v (Out out) turns = IsPath t kind v turns out
+IsReached t kind v (leads.Go pc) turns = IsAt t kind v pc turns
+IsReached t kind v (leads.Out out) turns = IsPath t kind v turns out
 
 -- a place that fits the table, or an output that is one of its values
 abbrev pub IsNext : QuorumTable → Next → Type 0
-IsNext t (Go pc) = IsPlace t pc
-IsNext t (Out out) = out.value < t.values
+IsNext t (leads.Go pc) = IsPlace t pc
+IsNext t (leads.Out out) = out.value < t.values
 
 -- the value that a history leaves in the word of a load
 abbrev pub seen_by : Op → List Access → ℕ
-seen_by (ToLoad reg) h = value_in reg h
-seen_by (ToStore reg value) h = 0
+seen_by (to.Load reg) h = value_in reg h
+seen_by (to.Store reg value) h = 0
 
 -- the turn that an op makes after a history
 abbrev pub turn_after : Op → ℕ → List Access → Turn

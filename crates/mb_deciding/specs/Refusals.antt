@@ -1,9 +1,9 @@
 -- When a schedule is refused, and why.
-use Rattle.std.specs.Prelude.{ℕ, ◌≡◌, cond, nat_lt, nat_le, List, length, position, Option, Some, None, Result, Err, IfErr, MatchOption}
+use Rattle.std.specs.Prelude.{ℕ, ◌≡◌, if◌then◌else◌, nat_lt, nat_le, List, length, position, Option, Some, None, Result}
+use Rattle.std.specs.Prelude.{Err, IfErr, MatchOption}
 use Rattle.std.specs.Option.{option_map_or}
 use Rattle.mb_quorum.specs.declared.values.TheConstants.{MAX_VALUES}
-use Rattle.mb_deciding.specs.declared.trace.Fault.{Fault}
-use Rattle.mb_deciding.specs.declared.trace.Fault.TheVariants.{BadValues, BadInput, NoSuchProcess, NoMemory}
+use Rattle.mb_deciding.specs.Types.{Fault, BadValues, BadInput, NoSuchProcess, NoMemory}
 
 -- the least place of a number that is not below the bound
 abbrev pub first_from : ℕ → List ℕ → Option ℕ
@@ -19,12 +19,10 @@ refusal_in m inputs processes =
 -- the first reason to refuse inputs for m values and the processes of a schedule, if there is one
 abbrev pub refusal_of : ℕ → List ℕ → List ℕ → Option Fault
 refusal_of m inputs processes =
-    cond (nat_lt m 1) (Some BadValues) (cond (nat_lt MAX_VALUES m) (Some BadValues) (refusal_in m inputs processes))
+    if nat_lt m 1 then Some BadValues else
+    (if nat_lt MAX_VALUES m then Some BadValues else refusal_in m inputs processes)
 
 -- a call is refused for the reason where there is one, and else for want of memory alone
-abbrev pub IsRefusedFor : {X : Type 0} → Option Fault → Result X Fault → Type 0
-IsRefusedFor reason result = MatchOption reason (IfErr result (λ e. e ≡ NoMemory)) (λ fault. result ≡ Err fault)
-
--- a call is refused for the first reason where there is one, and else for want of memory alone
-abbrev pub IsRefused : {X : Type 0} → ℕ → List ℕ → List ℕ → Result X Fault → Type 0
-IsRefused m inputs processes result = IsRefusedFor (refusal_of m inputs processes) result
+abbrev pub RefusesOnlyFor : {X : Type 0} → Option Fault → Result X Fault → Type 0
+RefusesOnlyFor reason result =
+    MatchOption reason (IfErr result (λ e. e ≡ NoMemory)) (λ fault. result ≡ Err fault)

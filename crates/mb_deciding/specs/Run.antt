@@ -1,38 +1,58 @@
 -- One object with its processes, in the course of a schedule.
 use Rattle.std.specs.Prelude.{◌≡◌, ℕ, ◌<◌, ◌≤◌, List, [], length, slice_index, slice_index_or, Option, Some, None}
-use Rattle.mb_quorum.specs.Quorum.{QuorumTable}
-use Rattle.mb_deciding.specs.declared.object.Out.{Out as Output}
-use Rattle.mb_deciding.specs.declared.object.Kind.{Kind}
-use Rattle.mb_deciding.specs.declared.object.Kind.TheVariants.{Conciliator, Ratifier}
-use Rattle.mb_deciding.specs.declared.place.Next.{Next}
-use Rattle.mb_deciding.specs.declared.place.Next.TheVariants.{Go, Out}
-use Rattle.mb_deciding.specs.declared.trace.Entry.{Entry}
-use Rattle.mb_deciding.specs.declared.words.Words.{Words}
-use Rattle.mb_deciding.specs.History.{turns_of}
+use Rattle.mb_quorum.specs.Quorum.{QuorumTable, IsQuorumTable}
+use Rattle.mb_deciding.specs.OneObject.{ObjectSetup, object_in}
+use Rattle.mb_deciding.specs.Types.{Out, Kind, Conciliator, Ratifier, Next, Entry, Words}
+use Rattle.mb_deciding.specs.declared.place.pc.Next.TheVariants as leads
+use Rattle.mb_deciding.specs.History.{part}
 use Rattle.mb_deciding.specs.Objects.{IsObjectLawful}
 use Rattle.mb_deciding.specs.Place.{IsReached}
 use Rattle.mb_deciding.specs.Trace.{history_of, AreEntriesOf}
-use Rattle.mb_deciding.specs.Words.{IsMemory}
+use Rattle.mb_deciding.specs.Memory.{IsMemory}
 
--- the number of turns fits a place
+-- the number of attempts fits a place
 abbrev pub IsFitKind : Kind → Type 0
 IsFitKind (Conciliator s) = s ≤ 63
 IsFitKind Ratifier = Unit {0}
 
--- the output, if the process has come to it
-abbrev pub out_of : Next → Option Output
-out_of (Go pc) = None
-out_of (Out out) = Some out
+-- an object of this kind can have the table: a conciliator has none, so any one does
+abbrev pub IsTableFor : Kind → QuorumTable → Type 0
+IsTableFor (Conciliator s) t = Unit {0}
+IsTableFor Ratifier t = IsQuorumTable t
 
--- words, places and entries after the turns of a schedule
-pub record IsRun
-    (t : QuorumTable) (kind : Kind) (inputs : List ℕ) (schedule : List (ℕ × ℕ)) (words : Words) (places : List Next)
-    (entries : List Entry) : Type 0 where
-  pub memory : IsMemory words (history_of schedule entries)
-  pub lawful : IsObjectLawful t kind (slice_index inputs) (history_of schedule entries)
-  pub fits : AreEntriesOf t kind (slice_index inputs) [] schedule entries
-  pub processes : length places ≡ length inputs
-  pub within : (p : ℕ) → p < length inputs → slice_index inputs p < t.values
+-- an object of this kind does over one table what it does over the other: a conciliator looks at their numbers of
+-- values alone
+abbrev pub IsSameFor : Kind → QuorumTable → QuorumTable → Type 0
+IsSameFor (Conciliator s) t u = t.values ≡ u.values
+IsSameFor Ratifier t u = t ≡ u
+
+-- a table of so many values, without registers
+abbrev pub bare_table : ℕ → QuorumTable
+bare_table m = record { values = m; registers = 0; write = λ v. 0; read = λ v. 0 }
+
+-- the output, if the process has come to it
+abbrev pub out_of : Next → Option Out
+out_of (leads.Go pc) = None
+out_of (leads.Out out) = Some out
+
+-- what a run holds: the words of its object, what each process has come to, and the entries of the turns so far
+pub record RunState : Type 0 where
+  pub words : Words
+  pub places : List Next
+  pub entries : List Entry
+
+-- a run after the turns of a schedule
+pub record IsRun (u : ObjectSetup) (schedule : List (ℕ × ℕ)) (run : RunState) : Type 0 where
+  -- the entries are those of the turns
+  pub fits : AreEntriesOf (object_in u) schedule run.entries []
+  -- their accesses are one lawful history, which leaves the words
+  pub lawful : IsObjectLawful (object_in u) (history_of schedule run.entries)
+  pub memory : IsMemory run.words (history_of schedule run.entries)
+  -- each process has an input of the table
+  pub processes : length run.places ≡ length u.inputs
+  pub within : (p : ℕ) → p < length u.inputs → slice_index u.inputs p < u.table.values
+  -- and has come to where its part brings it
   pub reached :
-      (p : ℕ) (d : Next) → p < length places
-      → IsReached t kind (slice_index inputs p) (slice_index_or places p d) (turns_of p (history_of schedule entries))
+      (p : ℕ) (d : Next) → p < length run.places
+      → IsReached u.table u.kind (slice_index u.inputs p) (slice_index_or run.places p d)
+      (part p (history_of schedule run.entries))

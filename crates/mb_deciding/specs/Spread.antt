@@ -1,4 +1,4 @@
--- The number s of a conciliator for m values.
+-- The last attempt s of a conciliator for m values.
 use Rattle.std.specs.Prelude.{ℕ, suc}
 use Rattle.mb_quorum.specs.Width.{width_of}
 

@@ -50,7 +50,7 @@ pub struct Access {
 
 impl Op {
     ghost use Rattle.std.specs.Prelude.{◌≡◌};
-    ghost use Rattle.mb_deciding.specs.Place.{act_of, reg_of};
+    ghost use Rattle.mb_deciding.specs.{act_of, reg_of};
 
     /// The word that it goes to.
     pub fn reg(self) -> Reg

@@ -31,28 +31,26 @@
 //!   [`Pc::after`] what it leads to. It holds no words, so it serves a simulation and threads alike.
 //! - [`ratify`] and [`conciliate`] run one object for a whole schedule of turns.
 //! - [`laws`] has what holds of every history of one object, whatever the order of the accesses and the random words:
-//!   validity, coherence, acceptance and more, as contracts of functions that compute nothing.
+//!   validity, coherence, acceptance and more, as contracts of functions that compute nothing. [`steps`] has what
+//!   those need who build histories step by step, and [`examples`] small histories and traces that are in and out.
 #![tactic(auto)]
 
 mod access;
-mod conciliator;
-mod conciliator_place;
+mod attempts;
+pub mod examples;
 pub mod laws;
-mod mask;
+mod memory;
 mod object;
 mod place;
-mod ratifier;
-mod ratifier_place;
 mod run;
-mod schedule;
+pub mod steps;
 mod trace;
-mod words;
 
 pub use access::{Access, Act, Op, Reg, Turn};
-pub use conciliator::{conciliate, spread};
-pub use conciliator_place::ConciliatorPlace;
+pub use attempts::spread;
+pub use memory::Memory;
 pub use object::{Kind, Out};
-pub use place::{Next, Pc};
-pub use ratifier::ratify;
-pub use ratifier_place::RatifierPlace;
+pub use place::{ConciliatorPlace, Next, Pc, RatifierPlace};
+pub use run::conciliate::conciliate;
+pub use run::ratify::ratify;
 pub use trace::{Entry, Fault, Trace};

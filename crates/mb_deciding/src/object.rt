@@ -1,13 +1,12 @@
 //! The kinds of deciding object, and what they answer.
-use crate::place::Pc;
 
 /// A kind of deciding object. Each process uses an object once at most.
 #[derive(Clone, Copy, PartialEq, Eq, Debug)]
 pub enum Kind {
-    /// The impatient first-mover conciliator: on turn k a process that finds the word empty stores
-    /// its input where the random word, modulo 2^s, is below 2^k. On turn s it always does.
+    /// The impatient first-mover conciliator: on attempt k a process that finds the word empty stores
+    /// its input where the random word, modulo 2^s, is below 2^k. On attempt s it always does.
     Conciliator {
-        /// The last turn, at most 63.
+        /// The last attempt, at most 63; the first is attempt 0.
         s: u32,
     },
     /// A ratifier over a quorum table.
@@ -25,7 +24,7 @@ pub struct Out {
 
 impl Out {
     ghost use Rattle.std.specs.Prelude.{◌≡◌, true, false};
-    ghost use Rattle.mb_deciding.specs.Objects.{answer};
+    ghost use Rattle.mb_deciding.specs.{answer};
 
     /// The output (1, value).
     pub fn decided(value: u32) -> Out
@@ -44,25 +43,6 @@ impl Out {
         Out {
             decided: false,
             value,
-        }
-    }
-}
-
-impl Kind {
-    ghost use Rattle.std.specs.Prelude.{◌<◌, [], ℕ};
-    ghost use Rattle.mb_quorum.specs.Quorum.{QuorumTable};
-    ghost use Rattle.mb_deciding.specs.Place.{IsAt, IsPlace};
-    ghost use Rattle.mb_deciding.specs.Run.{IsFitKind};
-
-    /// The place of a process with this input before its first access to an object of this kind.
-    pub fn place(self, input: u32) -> Pc
-        requires { IsFitKind self }
-        ensures begins { (t : QuorumTable) → input < t.values → IsAt t self input result [] }
-        ensures fits { (t : QuorumTable) → input < t.values → IsPlace t result }
-    {
-        match self {
-            Kind::Conciliator { s } => Pc::conciliator(input, s),
-            Kind::Ratifier => Pc::ratifier(input),
         }
     }
 }

@@ -1,51 +1,56 @@
-//! The place of one process in a deciding object.
+//! The places of processes in deciding objects: where one begins, what it does next, and where that leads.
 use crate::access::Op;
-use crate::conciliator_place::ConciliatorPlace;
-use crate::object::Out;
-use crate::ratifier_place::RatifierPlace;
+use crate::memory::Memory;
+use crate::object::Kind;
 use mb_quorum::Quorums;
 
-/// The place of one process in a deciding object, between two of its accesses: its program counter, with the little
-/// that it has to keep.
-#[derive(Clone, Copy, PartialEq, Eq, Debug)]
-pub enum Pc {
-    /// In a conciliator.
-    InConciliator(ConciliatorPlace),
-    /// In a ratifier.
-    InRatifier(RatifierPlace),
-}
+mod conciliating;
+mod conciliator;
+mod mask;
+mod pc;
+mod ratifier;
+mod ratifying;
 
-/// What an access leads to.
-#[derive(Clone, Copy, PartialEq, Eq, Debug)]
-pub enum Next {
-    /// The process goes on from this place.
-    Go(Pc),
-    /// That was its last access, and this is the object's answer.
-    Out(Out),
-}
+pub use conciliator::ConciliatorPlace;
+pub use pc::{Next, Pc};
+pub use ratifier::RatifierPlace;
 
 impl Pc {
     ghost use Rattle.std.specs.Prelude.{◌≡◌, ◌<◌, ◌≤◌, ℕ, List, [], ◌∷◌};
     ghost use Rattle.mb_quorum.specs.Quorum.{QuorumTable};
-    ghost use Rattle.mb_deciding.specs.declared.access.Op.{Op};
-    ghost use Rattle.mb_deciding.specs.declared.access.Turn.{Turn};
-    ghost use Rattle.mb_deciding.specs.declared.object.Kind.{Kind};
-    ghost use Rattle.mb_deciding.specs.declared.object.Kind.TheVariants.{Conciliator, Ratifier};
-    ghost use Rattle.mb_deciding.specs.Place.{IsAt, IsPlace, IsOpAt, IsNext, IsReached, CanFind, act_of};
+    ghost use Rattle.mb_deciding.specs.{Op, Turn, Kind, Conciliator, Ratifier, IsAt, IsPlace, IsOpAt, IsNext};
+    ghost use Rattle.mb_deciding.specs.{IsReached, CanFind, act_of, IsStep, turns_left, turns_after, most_turns};
 
     /// The place of a process with this input before its first access to a ratifier.
     pub fn ratifier(input: u32) -> Pc
         ensures begins { (t : QuorumTable) → input < t.values → IsAt t Ratifier input result [] }
         ensures fits { (t : QuorumTable) → input < t.values → IsPlace t result }
+        ensures bound { (t : QuorumTable) → input < t.values
+            → turns_left t result ≤ most_turns t Ratifier }
     {
         Pc::InRatifier(RatifierPlace::Begin { input })
     }
 
-    /// The place of a process with this input before its first access to a conciliator whose last turn is `s`.
+    /// The same place with the registers of the input's write quorum, for who has the table.
+    #[inline(always)]
+    pub fn announcing<Q: Quorums>(q: &Q, input: u32) -> Pc
+        requires { input < (Q.table q.now).values }
+        ensures begins { IsAt (Q.table q.now) Ratifier input result [] }
+        ensures fits { IsPlace (Q.table q.now) result }
+        ensures bound { turns_left (Q.table q.now) result ≤ most_turns (Q.table q.now) Ratifier }
+    {
+        let left = q.write_quorum(input);
+        Pc::InRatifier(RatifierPlace::Announce { input, left })
+    }
+
+    /// The place of a process with this input before its first access to a conciliator whose last attempt is `s`.
+    #[inline(always)]
     pub fn conciliator(input: u32, s: u32) -> Pc
         requires { s ≤ 63 }
-        ensures begins { (t : QuorumTable) → input < t.values → IsAt t (Conciliator s) input result [] }
+        ensures begins { (t : QuorumTable) → input < t.values
+            → IsAt t (Conciliator s) input result [] }
         ensures fits { (t : QuorumTable) → input < t.values → IsPlace t result }
+        ensures bound { (t : QuorumTable) → turns_left t result ≤ most_turns t (Conciliator s) }
     {
         Pc::InConciliator(ConciliatorPlace::Draw {
             input,
@@ -55,6 +60,7 @@ impl Pc {
     }
 
     /// The access that comes next.
+    #[inline(always)]
     pub fn next<Q: Quorums>(self, q: &Q) -> Op
         requires { IsPlace (Q.table q.now) self }
         ensures { IsOpAt (Q.table q.now) self result }
@@ -68,34 +74,72 @@ impl Pc {
     /// What the access leads to. `seen` is the loaded value and is not looked at after a store; the random
     /// `word` counts after a load of a conciliator's word alone. After a value that the word cannot hold the
     /// result is still a place of the table or one of its values.
+    #[inline(always)]
     pub fn after<Q: Quorums>(self, q: &Q, seen: u64, word: u64) -> Next
         requires { IsPlace (Q.table q.now) self }
         ensures fits { IsNext (Q.table q.now) result }
+
+        // It can make fewer accesses from there, whatever it loaded: so it comes to an end.
+        ensures fewer { turns_after (Q.table q.now) result < turns_left (Q.table q.now) self }
 
         // A process that was at this place is now at the next one, or has its output.
         ensures reached { (kind : Kind) (v : ℕ) (turns : List Turn) (op : Op)
             → IsAt (Q.table q.now) kind v self turns → IsOpAt (Q.table q.now) self op
             → CanFind (Q.table q.now) self op seen
-            → IsReached (Q.table q.now) kind v result (record { act = act_of op seen; word = word } ∷ turns) }
+            → IsReached (Q.table q.now) kind v result
+            (record { act = act_of op seen; word = word } ∷ turns) }
     {
         match self {
-            Pc::InConciliator(place) => place.after(q, seen, word),
+            Pc::InConciliator(place) => place.after(q.values(), seen, word),
             Pc::InRatifier(place) => place.after(q, seen),
+        }
+    }
+
+    /// Makes the access that comes next, to the object with this number in this memory, and answers what it leads
+    /// to: [`Pc::next`], [`Memory::perform`] and [`Pc::after`] in one match.
+    #[inline(always)]
+    pub fn step<Q: Quorums, M: Memory>(self, q: &Q, memory: &mut M, object: u32, word: u64) -> Next
+        requires place { IsPlace (Q.table q.now) self }
+        requires may { (op : Op) → IsOpAt (Q.table q.now) self op
+            → M.can_make memory.old object op }
+        ensures fits { IsNext (Q.table q.now) result }
+        ensures fewer { turns_after (Q.table q.now) result < turns_left (Q.table q.now) self }
+
+        // The access that was made is the one that comes next, and a process that was at this place is now at the
+        // next one, or has its output.
+        ensures step { IsStep (Q.table q.now) self
+            (λ op seen. M.makes memory.old object op seen memory.new) word result }
+    {
+        let mut next = self;
+        match self {
+            Pc::InConciliator(place) => {
+                let out = place.step(q.values(), memory, object, word, &mut next);
+                Next::from_place(next, out)
+            }
+            Pc::InRatifier(place) => {
+                let out = place.step(q, memory, object, &mut next);
+                Next::from_place(next, out)
+            }
         }
     }
 }
 
-impl Next {
-    ghost use Rattle.std.specs.Prelude.{◌≡◌};
-    ghost use Rattle.mb_deciding.specs.Run.{out_of};
+impl Kind {
+    ghost use Rattle.std.specs.Prelude.{◌<◌, ◌≤◌, []};
+    ghost use Rattle.mb_deciding.specs.{IsAt, IsPlace, IsFitKind, turns_left, most_turns};
 
-    /// The output, if the process has come to it.
-    pub(crate) fn out(self) -> Option<Out>
-        ensures { result ≡ out_of self }
+    /// The place of a process with this input before its first access to an object of this kind over the table.
+    #[inline(always)]
+    pub fn place<Q: Quorums>(self, q: &Q, input: u32) -> Pc
+        requires kind { IsFitKind self }
+        requires input { input < (Q.table q.now).values }
+        ensures begins { IsAt (Q.table q.now) self input result [] }
+        ensures fits { IsPlace (Q.table q.now) result }
+        ensures bound { turns_left (Q.table q.now) result ≤ most_turns (Q.table q.now) self }
     {
         match self {
-            Next::Go(_) => None,
-            Next::Out(out) => Some(out),
+            Kind::Conciliator { s } => Pc::conciliator(input, s),
+            Kind::Ratifier => Pc::announcing(q, input),
         }
     }
 }

@@ -1,10 +1,17 @@
 //! One object of any kind with its processes, in the course of a schedule.
-use crate::object::Kind;
+use crate::access::{Act, Reg};
 use crate::place::Next;
 use crate::trace::{Entry, Trace};
-use crate::words::Words;
-use mb_quorum::Quorums;
+use machine::Machine;
 use std::alloc::{AllocError, Allocator};
+use std::marker::Model;
+use words::{ObjectWords, Words};
+
+pub mod conciliate;
+mod machine;
+pub mod ratify;
+mod schedule;
+mod words;
 
 /// One object with its processes, and what they have done so far.
 #[derive(Drop)]
@@ -14,22 +21,39 @@ pub struct Run<A: Allocator + Drop> {
     entries: Vec<Entry, A>,
 }
 
+impl<A: Allocator + Drop> Model for Run<A> {
+    ghost use Rattle.mb_deciding.specs.{RunState};
+
+    ghost Value = { RunState };
+
+    ghost view = { λ run. record {
+      words = run.words;
+      places = run.places.items;
+      entries = run.entries.items;
+    } };
+}
+
 impl<A: Allocator + Copy + Drop> Run<A> {
     ghost use Rattle.std.specs.Prelude.{◌≡◌, ◌<◌, ◌^◌, ◌++◌, ◌∷◌, [], ℕ, List, All, OnOk, IfOk, length, map};
     ghost use Rattle.mb_quorum.specs.Quorum.{QuorumTable};
-    ghost use Rattle.mb_deciding.specs.declared.object.Kind.{Kind};
-    ghost use Rattle.mb_deciding.specs.Run.{IsFitKind, IsRun, out_of};
+    ghost use Rattle.mb_deciding.specs.{setup_of, IsSameFor, IsRun, out_of};
 
     /// Each process before its first access, with room for so many entries.
-    pub fn begin(alloc: A, kind: Kind, inputs: &[u64], turns: usize) -> Result<Run<A>, AllocError>
-        requires kind { IsFitKind kind }
-        requires inputs { All (λ v. v < 2 ^ 32) inputs.now }
-        ensures { IfOk result (λ run. (t : QuorumTable) → All (λ v. v < t.values) inputs.now
-            → IsRun t kind inputs.now [] run.words run.places.items run.entries.items) }
+    pub fn begin<M: Machine>(
+        alloc: A,
+        machine: &M,
+        inputs: &[u64],
+        turns: usize,
+    ) -> Result<Run<A>, AllocError>
+        requires inputs { All (λ v. v < (M.table machine.now).values) inputs.now }
+        requires small { All (λ v. v < 2 ^ 32) inputs.now }
+        ensures { IfOk result (λ run. (t : QuorumTable)
+            → IsSameFor (M.kind machine.now) t (M.table machine.now)
+            → IsRun (setup_of t (M.kind machine.now) inputs.now) [] run) }
     {
         let mut places = Vec::with_capacity(alloc, inputs.len())?;
         for input in inputs {
-            places.push(Next::Go(kind.place(*input as u32)))?;
+            places.push(Next::Go(machine.first(*input as u32)))?;
         }
         let entries = Vec::with_capacity(alloc, turns)?;
         Ok(Run {
@@ -40,24 +64,36 @@ impl<A: Allocator + Copy + Drop> Run<A> {
     }
 
     /// One turn of a process, with the random word of this turn.
-    pub fn turn<Q: Quorums>(&mut self, q: &Q, process: usize, word: u64) -> Result<(), AllocError>
-        requires run { (kind : Kind) × (inputs : List ℕ) × (schedule : List (ℕ × ℕ))
-            × IsRun (Q.table q.now) kind inputs schedule self.old.words self.old.places.items self.old.entries.items }
-        requires process { process < length self.old.places.items }
-        ensures run { OnOk result ((kind : Kind) (inputs : List ℕ) (schedule : List (ℕ × ℕ))
-            → IsRun (Q.table q.now) kind inputs schedule self.old.words self.old.places.items self.old.entries.items
-            → IsRun (Q.table q.now) kind inputs (schedule ++ (process, word) ∷ [])
-            self.new.words self.new.places.items self.new.entries.items) }
+    pub fn turn<M: Machine>(
+        &mut self,
+        machine: &M,
+        process: usize,
+        word: u64,
+    ) -> Result<(), AllocError>
+        requires run { (inputs : List ℕ) × (schedule : List (ℕ × ℕ))
+            × IsRun (setup_of (M.table machine.now) (M.kind machine.now) inputs) schedule self.old }
+        requires process { process < length self.old.places }
+        ensures run { OnOk result ((t : QuorumTable) (inputs : List ℕ) (schedule : List (ℕ × ℕ))
+            → IsSameFor (M.kind machine.now) t (M.table machine.now)
+            → IsRun (setup_of t (M.kind machine.now) inputs) schedule self.old
+            → IsRun (setup_of t (M.kind machine.now) inputs)
+            (schedule ++ (process, word) ∷ []) self.new) }
     {
         match self.places[process] {
             Next::Out(_) => self.entries.push(Entry::Done { process })?,
             Next::Go(pc) => {
-                let op = pc.next(q);
-                let seen = self.words.perform(op);
-                let next = pc.after(q, seen, word);
+                let mut memory = ObjectWords {
+                    words: &mut self.words,
+                    made: Act::Load {
+                        reg: Reg::Value,
+                        value: 0,
+                    },
+                };
+                let next = machine.step(pc, &mut memory, word);
+                let ObjectWords { words: _, made } = memory;
                 self.entries.push(Entry::Access {
                     process,
-                    act: op.act(seen),
+                    act: made,
                     out: next.out(),
                 })?;
                 self.places[process] = next;
@@ -68,8 +104,8 @@ impl<A: Allocator + Copy + Drop> Run<A> {
 
     /// The entries, and the output of each process.
     pub fn finish(self, alloc: A) -> Result<Trace<A>, AllocError>
-        ensures entries { IfOk result (λ trace. trace.entries.items ≡ self.entries.items) }
-        ensures outputs { IfOk result (λ trace. trace.outputs.items ≡ map out_of self.places.items) }
+        ensures entries { IfOk result (λ trace. trace.entries.items ≡ self.entries) }
+        ensures outputs { IfOk result (λ trace. trace.outputs.items ≡ map out_of self.places) }
     {
         let mut outputs = Vec::with_capacity(alloc, self.places.len())?;
         for next in &self.places {

@@ -1,12 +1,12 @@
 use Rattle.std.proofs.Common.{◌≡◌, ◌<◌, ℕ, get_or, length, []}
 use Rattle.mb_quorum.specs.Quorum.{QuorumTable}
-use Rattle.mb_deciding.specs.declared.place.Next.{Next}
-use Rattle.mb_deciding.specs.Place.{IsReached}
+use Rattle.mb_deciding.specs.{Next, IsReached, IsSameFor}
 use Rattle.mb_deciding.proofs.run.Run.begin.Given as goal
 
 abbrev pub invariant-loop-input : goal.invariant-loop-input
 invariant-loop-input g l = record {
   processes : length l.places.items ≡ l.input-index;
-  reached : (t : QuorumTable) (p : ℕ) (d : Next) → p < length l.places.items → get_or l.inputs p 0 < t.values
-      → IsReached t l.kind (get_or l.inputs p 0) (get_or l.places.items p d) [];
+  reached : (t : QuorumTable) → IsSameFor (g.M.Machine.kind l.machine) t (g.M.Machine.table l.machine)
+      → (p : ℕ) (d : Next) → p < length l.places.items
+      → IsReached t (g.M.Machine.kind l.machine) (get_or l.inputs p 0) (get_or l.places.items p d) [];
 }

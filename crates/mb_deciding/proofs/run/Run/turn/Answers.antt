@@ -1,70 +1,83 @@
-use Rattle.std.proofs.Common.{◌≡◌, ℕ, ◌<◌, ◌∷◌, get_or, length, arith}
-use Rattle.mb_quorum.specs.Quorum.{IsQuorumTable}
-use Rattle.mb_deciding.specs.History.{ReadsLast, turns_of}
-use Rattle.mb_deciding.specs.Objects.{IsPrefix}
-use Rattle.mb_deciding.specs.Place.{CanFind, act_of, reg_of, seen_by}
-use Rattle.mb_deciding.specs.Trace.{history_of}
+use Rattle.std.proofs.Common.{◌≡◌, ℕ, ◌<◌, List, ◌∷◌, get_or, length, sym, subst, arith}
+use Rattle.mb_deciding.specs.{ObjectSetup, setup_of, object_in, ReadsLast, part, IsPrefix, CanFind, act_of}
+use Rattle.mb_deciding.specs.{seen_by, RunState, IsRun, IsTableFor, history_of}
 use Rattle.mb_deciding.proofs.Histories.{longer}
-use Rattle.mb_deciding.proofs.Stepping.{next_part, next_found, at_word}
-use Rattle.mb_deciding.proofs.Runs.{has_reg, reads_seen, place_at, ended_at, not_ended, run_done, run_accessed}
+use Rattle.mb_deciding.proofs.Runs.{reads_seen, place_at, ended_at, not_ended, run_done, run_accessed}
+use Rattle.mb_deciding.proofs.RunsTables.{place_leads, place_finds, place_word, same_self, same_table}
 use Rattle.mb_deciding.proofs.run.Run.turn.Goals as goal
 
-pub perform-seen-requires : goal.perform-seen-requires
-perform-seen-requires g c =
-    let t = g.Q.Quorums.table c.args.q.now in
-    let q : IsQuorumTable t = g.met.Q.Quorums.lawful c.args.q.now in
-    let some = c.requires.run in
-    let at = place_at t some.0 some.1 some.2 c.args.self.now.words c.args.self.now.places.items
-    c.args.self.now.entries.items
-    some.3 c.args.process c.index.result.now c.in-Go.pc c.requires.process c.index.ensures c.in-Go.is in
-    has_reg t.registers some.0 (reg_of c.next-op.result) q.limit
-    (at_word t some.0 (get_or some.1 c.args.process 0) c.in-Go.pc
-    (turns_of c.args.process (history_of some.2 c.args.self.now.entries.items)) c.next-op.result q at
-    c.next-op.ensures)
+-- a process of a run is one of those of an equal run
+below_same : (state run : RunState) (p : ℕ) → state ≡ run → p < length run.places → p < length state.places
+below_same state run p same below = subst (λ (s : RunState). p < length s.places) (sym same) below
+
+-- the same of the turns
+run_same :
+    (state run : RunState) (u : ObjectSetup) (schedule : List (ℕ × ℕ)) → state ≡ run → IsRun u schedule run
+    → IsRun u schedule state
+run_same state run u schedule same of = subst (λ (s : RunState). IsRun u schedule s) (sym same) of
+
+pub step-next-requires-clause-place : goal.step-next-requires-clause-place
+step-next-requires-clause-place g c =
+    let (inputs, schedule, run) = c.requires.run in
+    let machine = c.args.machine.now in
+    let u : ObjectSetup = setup_of (g.M.Machine.table machine) (g.M.Machine.kind machine) inputs in
+    let p = c.args.process in (
+      get_or inputs p 0,
+      part p (history_of schedule c.self.inside.entries.items),
+      place_at u schedule _ (run_same _ _ u schedule c.self.view_is run) p c.index.result.now c.in-Go.pc
+          (below_same _ _ p c.self.view_is c.requires.process) c.index.ensures c.in-Go.is,
+    )
+
+pub step-next-requires-clause-may : goal.step-next-requires-clause-may
+step-next-requires-clause-may g c op is =
+    let t = g.M.Machine.table c.args.machine.now in
+    let kind = g.M.Machine.kind c.args.machine.now in
+    let (v, turns, at) = step-next-requires-clause-place g c in
+    place_word t kind v c.in-Go.pc turns op (g.met.M.Machine.lawful c.args.machine.now) at is
+
+pub shape_of-self-inside-in-Go : goal.shape_of-self-inside-in-Go
+shape_of-self-inside-in-Go g c =
+    sym (c.step-next.ensures _ (same_self (g.M.Machine.kind c.args.machine.now) _)).made.1
 
 pub returns-in_ok-push-in-Out : goal.returns-in_ok-push-in-Out
 returns-in_ok-push-in-Out g c = record {
-  run = λ kind inputs schedule run.
-      let t = g.Q.Quorums.table c.args.q.now in
+  run = λ t inputs schedule same run.
+      let u : ObjectSetup = setup_of t (g.M.Machine.kind c.args.machine.now) inputs in
+      let own = run_same _ _ u schedule c.self.view_is run in
       rw (c.in_ok-push-in-Out.ensures.items)
-      (run_done t kind inputs schedule c.args.self.now.words c.args.self.now.places.items
-      c.args.self.now.entries.items run c.args.process c.args.word
-      (ended_at t kind inputs schedule c.args.self.now.words c.args.self.now.places.items
-      c.args.self.now.entries.items
-      run c.args.process c.index.result.now c.in-Out.field-0 c.requires.process c.index.ensures c.in-Out.is));
+      (run_done u schedule _ own c.args.process c.args.word
+      (ended_at u schedule _ own c.args.process c.index.result.now c.in-Out.field-0
+      (below_same _ _ c.args.process c.self.view_is c.requires.process) c.index.ensures c.in-Out.is));
 }
 
 pub returns-in_ok-push-in-Go : goal.returns-in_ok-push-in-Go
 returns-in_ok-push-in-Go g c = record {
-  run = λ kind inputs schedule run.
-      let t = g.Q.Quorums.table c.args.q.now in
-      let q : IsQuorumTable t = g.met.Q.Quorums.lawful c.args.q.now in
-      let h = history_of schedule c.args.self.now.entries.items in
+  run = λ t inputs schedule same old.
+      let kind = g.M.Machine.kind c.args.machine.now in
+      let u : ObjectSetup = setup_of t kind inputs in
+      let q : IsTableFor kind t = same_table kind t _ same (g.met.M.Machine.lawful c.args.machine.now) in
+      let run = run_same _ _ u schedule c.self.view_is old in
+      let h = history_of schedule c.self.inside.entries.items in
       let p = c.args.process in
+      let below = below_same _ _ p c.self.view_is c.requires.process in
       let pc = c.in-Go.pc in
-      let op = c.next-op.result in
-      let seen = c.perform-seen.result in
+      let step = c.step-next.ensures t same in
+      let op = step.op in
+      let seen = step.seen in
+      let access = step.made.0 in
       let input = λ (k : ℕ). get_or inputs k 0 in
-      let at = place_at t kind inputs schedule c.args.self.now.words c.args.self.now.places.items
-      c.args.self.now.entries.items
-      run p c.index.result.now pc c.requires.process c.index.ensures c.in-Go.is in
-      let found : seen ≡ seen_by op h = c.perform-seen.ensures.seen h run.memory in
-      let can : CanFind t pc op seen =
-      rw found (next_found t kind input h p pc op q run.lawful at c.next-op.ensures) in
-      let part : IsPrefix t kind (input p) (record { act = act_of op seen; word = c.args.word } ∷ turns_of p h) =
-      rw found (next_part t kind input h p pc op c.args.word q run.lawful at c.next-op.ensures) in
+      let at = place_at u schedule _ run p c.index.result.now pc below c.index.ensures c.in-Go.is in
+      let found : seen ≡ seen_by op h = access.found h run.memory in
+      let can : CanFind t pc op seen = rw found (place_finds t kind input h p pc op q run.lawful at step.is) in
+      let prefix : IsPrefix t kind (input p) (record { act = act_of op seen; word = c.args.word } ∷ part p h) =
+      rw found (place_leads t kind input h p pc op c.args.word q run.lawful at step.is) in
       let reads : ReadsLast (act_of op seen) h = rw found (reads_seen op h) in
-      let inside : p < length inputs =
-      (let n : length c.args.self.now.places.items ≡ length inputs = run.processes in omega arith) in
-      let lawful = longer t kind input h p (record { act = act_of op seen; word = c.args.word }) run.lawful
+      let inside : p < length inputs = omega (arith, below, run.processes) in
+      let lawful = longer (object_in u) h p (record { act = act_of op seen; word = c.args.word }) run.lawful
       (run.within p inside)
-      (c.perform-seen.ensures.small, omega arith) reads part in
-      rw (c.in_ok-push-in-Go.ensures.items, c.act.ensures, c.out.ensures)
-      (run_accessed t q kind inputs schedule c.args.self.now.words c.perform-seen.new.self
-      c.args.self.now.places.items c.args.self.now.entries.items
-      run p c.args.word c.after-next.result (act_of op seen) c.requires.process
-      (not_ended t q kind input h p pc at)
-      lawful
-      (c.perform-seen.ensures.memory h run.memory p c.args.word)
-      (c.after-next.ensures.reached kind (input p) (turns_of p h) op at c.next-op.ensures can));
+      (access.small, omega arith) reads prefix in
+      rw (c.in_ok-push-in-Go.ensures.items, step.made.2, c.out.ensures)
+      (run_accessed u schedule _ run q _ p c.args.word c.step-next.result
+      (act_of op seen) below (not_ended (object_in u) q h p pc at) lawful
+      (access.memory h run.memory p c.args.word) (step.reached kind (input p) (part p h) at can));
 }

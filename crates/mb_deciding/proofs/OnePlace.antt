@@ -1,0 +1,68 @@
+-- Two places with the same turns go on with one op.
+use Rattle.std.proofs.Common.{◌≡◌, ℕ, ◌+◌, List, [], ◌∷◌, false, refl, sym, ap, ap₂, subst, arith}
+use Rattle.mb_quorum.specs.Quorum.{QuorumTable, IsQuorumTable}
+use Rattle.mb_deciding.specs.{Value, Proposal, Quorum, Kind, Conciliator, Ratifier, Pc, InRatifier, InConciliator, Draw}
+use Rattle.mb_deciding.specs.{Put, Look, RatifierPlace}
+use Rattle.mb_deciding.specs.{Load, Store, Op, Turn, answer, acts, IsPrefix, IsSameOp, IsAt, IsOpAt, CanFind}
+use Rattle.mb_deciding.specs.{act_of}
+use Rattle.mb_deciding.specs.declared.access.Op.TheVariants as to
+use Rattle.mb_deciding.proofs.ConciliatorPlaces.{put_looks, look_ends, drawing_open}
+use Rattle.mb_deciding.proofs.OneTrace.{next_op}
+use Rattle.mb_deciding.proofs.Prefixes.{part_by_turns}
+use Rattle.mb_deciding.proofs.RatifierStepping.{checking_next}
+use Rattle.mb_deciding.proofs.ConciliatorStepping.{missed_open, open_turns}
+
+-- ops whose acts are of one op are one
+same_ops : (op next : Op) (x y : ℕ) → IsSameOp (act_of op x) (act_of next y) → op ≡ next
+same_ops (to.Load reg) (to.Load other) x y e = ap to.Load e
+same_ops (to.Load reg) (to.Store other w) x y e = absurd e
+same_ops (to.Store reg w) (to.Load other) x y e = absurd e
+same_ops (to.Store reg w) (to.Store other n) x y e = ap₂ to.Store e.0 e.1
+
+-- each op of a ratifier can find a 0
+zero_found : (t : QuorumTable) (place : RatifierPlace) (op : Op) → CanFind t (InRatifier place) op 0
+zero_found t place (to.Load Value) = tt
+zero_found t place (to.Load Proposal) = omega arith
+zero_found t place (to.Load (Quorum r)) = omega arith
+zero_found t place (to.Store reg w) = tt
+
+-- what the next op of a place finds there goes on with a path, for some value
+some_part :
+    (t : QuorumTable) (kind : Kind) (v : ℕ) (turns : List Turn) (pc : Pc) (op : Op) → IsQuorumTable t
+    → IsAt t kind v pc turns → IsOpAt t pc op → (x : ℕ) × IsPrefix t kind v
+    (record { act = act_of op x; word = 0 } ∷ turns)
+some_part t Ratifier v turns (InRatifier place) op q at is = (
+  0,
+  part_by_turns t v (record { act = act_of op 0; word = 0 } ∷ turns)
+      (checking_next t q v place (acts turns) op 0 at.0 at.1 is (zero_found t place op)),
+)
+some_part t Ratifier v turns (InConciliator place) op q at is = absurd at
+some_part t (Conciliator s) v turns (InRatifier place) op q at is = absurd at
+some_part t (Conciliator s) v turns (InConciliator (Draw input limit modulus)) op q at is = (
+  0,
+  subst (λ o. IsPrefix t (Conciliator s) v (record { act = act_of o 0; word = 0 } ∷ turns)) (sym is)
+      (open_turns t (Conciliator s) v (record { act = Load Value 0; word = 0 } ∷ turns)
+      (missed_open t s v input limit modulus 0 turns at.1)),
+)
+some_part t (Conciliator s) v turns (InConciliator (Put input)) op q at is = (
+  0,
+  subst (λ o. IsPrefix t (Conciliator s) v (record { act = act_of o 0; word = 0 } ∷ turns)) (sym is)
+      (open_turns t (Conciliator s) v (record { act = Store Value (input + 1); word = 0 } ∷ turns)
+      (drawing_open t s v (Look input) (record { act = Store Value (input + 1); word = 0 } ∷ turns)
+      (put_looks s v input 0 turns at.1))),
+)
+some_part t (Conciliator s) v turns (InConciliator (Look input)) op q at is = (
+  1,
+  subst (λ o. IsPrefix t (Conciliator s) v (record { act = act_of o 1; word = 0 } ∷ turns)) (sym is)
+      ([], answer false 0, (refl, look_ends s v input 1 0 turns at.1 (omega arith))),
+)
+
+-- so it is one
+pub one_next :
+    (t : QuorumTable) (kind : Kind) (v : ℕ) (turns : List Turn) (pc other : Pc) (op next : Op) → IsQuorumTable t
+    → IsAt t kind v pc turns → IsAt t kind v other turns → IsOpAt t pc op → IsOpAt t other next → op ≡ next
+one_next t kind v turns pc other op next q at here is that =
+    let (x, a) = some_part t kind v turns pc op q at is in
+    let (y, b) = some_part t kind v turns other next q here that in
+    same_ops op next x y
+    (next_op t kind v turns (record { act = act_of op x; word = 0 }) (record { act = act_of next y; word = 0 }) a b)

@@ -1,0 +1,59 @@
+-- An access that was made at a place, and what it leads to, as one step.
+use Rattle.std.proofs.Common.{◌≡◌, ℕ, List, ◌∷◌, subst, sym}
+use Rattle.mb_quorum.specs.Quorum.{QuorumTable}
+use Rattle.mb_deciding.specs.{Op, Turn, Kind, Conciliator, Ratifier, InConciliator, InRatifier, Next, ConciliatorPlace}
+use Rattle.mb_deciding.specs.{RatifierPlace, Begin, Announce, IsAt, IsConciliatorOp, IsRatifierOp, IsReached, IsInRatifier, acts, CanFind, act_of}
+use Rattle.mb_deciding.specs.{ConciliatorReaches, RatifierReaches, IsStep}
+use Rattle.mb_deciding.proofs.Advances.{find_anywhere, begin_op, begin_announces}
+
+-- in a conciliator
+pub conciliator_step :
+    (t : QuorumTable) (place : ConciliatorPlace) (makes : Op → ℕ → Type 0) (op : Op) (seen word : ℕ) (follows : Next)
+    → IsConciliatorOp place op → makes op seen → ConciliatorReaches t place seen word follows
+    → IsStep t (InConciliator place) makes word follows
+conciliator_step t place makes op seen word follows is made reaches =
+    record { op = op; seen = seen; is = is; made = made; reached = reached }
+  where
+    reached :
+        (kind : Kind) (v : ℕ) (turns : List Turn) → IsAt t kind v (InConciliator place) turns
+        → CanFind t (InConciliator place) op seen
+        → IsReached t kind v follows (record { act = act_of op seen; word = word } ∷ turns)
+    reached (Conciliator s) v turns at can = reaches s v turns op at is can
+    reached Ratifier v turns at can = absurd at
+
+-- in a ratifier
+pub ratifier_step :
+    (t : QuorumTable) (place : RatifierPlace) (makes : Op → ℕ → Type 0) (op : Op) (seen word : ℕ) (follows : Next)
+    → IsRatifierOp t place op → makes op seen → RatifierReaches t place seen follows
+    → IsStep t (InRatifier place) makes word follows
+ratifier_step t place makes op seen word follows is made reaches =
+    record { op = op; seen = seen; is = is; made = made; reached = reached }
+  where
+    reached :
+        (kind : Kind) (v : ℕ) (turns : List Turn) → IsAt t kind v (InRatifier place) turns
+        → CanFind t (InRatifier place) op seen
+        → IsReached t kind v follows (record { act = act_of op seen; word = word } ∷ turns)
+    reached (Conciliator s) v turns at can = absurd at
+    reached Ratifier v turns at can = reaches v turns op word at is can
+
+-- before the first access it is the same with and without the mask of the write quorum
+pub begin_step :
+    (t : QuorumTable) (input left : ℕ) (makes : Op → ℕ → Type 0) (word : ℕ) (follows : Next) → left ≡ t.write input
+    → IsStep t (InRatifier (Announce input left)) makes word follows
+    → IsStep t (InRatifier (Begin input)) makes word follows
+begin_step t input left makes word follows is step =
+    record { op = step.op; seen = step.seen; is = (begin_op t input step.op).1 op; made = step.made; reached = reached }
+  where
+    op : IsRatifierOp t (Announce input (t.write input)) step.op
+    op = subst (λ mask. IsRatifierOp t (Announce input mask) step.op) is step.is
+
+    reached :
+        (kind : Kind) (v : ℕ) (turns : List Turn) → IsAt t kind v (InRatifier (Begin input)) turns
+        → CanFind t (InRatifier (Begin input)) step.op step.seen
+        → IsReached t kind v follows (record { act = act_of step.op step.seen; word = word } ∷ turns)
+    reached (Conciliator s) v turns at can = absurd at
+    reached Ratifier v turns at can =
+        let begins = subst (λ mask. IsInRatifier t v (Announce input mask) (acts turns)) (sym is)
+        (begin_announces t v input (acts turns) at.1) in
+        step.reached Ratifier v turns (at.0, begins)
+        (find_anywhere t (Begin input) (Announce input left) step.op step.seen can)

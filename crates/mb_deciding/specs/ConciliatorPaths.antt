@@ -1,0 +1,33 @@
+-- The paths of one process through a conciliator. Turns are the newest first.
+use Rattle.std.specs.Prelude.{◌≡◌, ℕ, zero, suc, ◌+◌, ◌<◌, ◌≤◌, ◌%◌, ◌^◌, List, [], ◌∷◌, ◌⊎◌}
+use Rattle.mb_deciding.specs.Types.{Value, Load, Store, Turn}
+
+-- on attempt k the random word stores
+abbrev pub StoresOn : ℕ → ℕ → ℕ → Type 0
+StoresOn s k word = word % 2 ^ s < 2 ^ k
+
+-- a load of 0 for each attempt below k, whose word does not store
+abbrev pub IsMissing : ℕ → ℕ → List Turn → Type 0
+IsMissing s zero [] = Unit {0}
+IsMissing s zero (turn ∷ older) = ⊥
+IsMissing s (suc k) [] = ⊥
+IsMissing s (suc k) (turn ∷ older) =
+    (turn.act ≡ Load Value 0) × (StoresOn s k turn.word → ⊥) × IsMissing s k older
+
+-- later a load of 0 on attempt k, whose word stores
+abbrev pub IsDrawn : ℕ → ℕ → List Turn → Type 0
+IsDrawn s k [] = ⊥
+IsDrawn s k (turn ∷ older) =
+    (turn.act ≡ Load Value 0) × StoresOn s k turn.word × IsMissing s k older
+
+-- later a store of the input v
+abbrev pub IsPut : ℕ → ℕ → ℕ → List Turn → Type 0
+IsPut s v k [] = ⊥
+IsPut s v k (turn ∷ older) = (turn.act ≡ Store Value (v + 1)) × IsDrawn s k older
+
+-- a whole path of input v with the value u: at last u was loaded, at once on attempt k, or where attempt k has stored
+abbrev pub IsConciliatorPath : ℕ → ℕ → List Turn → ℕ → Type 0
+IsConciliatorPath s v [] u = ⊥
+IsConciliatorPath s v (turn ∷ older) u =
+    (turn.act ≡ Load Value (u + 1))
+    × ((k : ℕ) × (k ≤ s) × (IsMissing s k older ⊎ IsPut s v k older))

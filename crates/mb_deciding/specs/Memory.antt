@@ -1,0 +1,30 @@
+-- The words of one object, as a run keeps them.
+use Rattle.std.specs.Prelude.{◌≡◌, ℕ, ◌<◌, List, ◌∷◌, slice_index}
+use Rattle.mb_deciding.specs.Types.{Reg, Value, Proposal, Quorum, Op, Access, Words}
+use Rattle.mb_deciding.specs.History.{value_in, IsActInWords}
+use Rattle.mb_deciding.specs.Place.{act_of, seen_by}
+
+-- there is such a word
+abbrev pub IsReg : Reg → Type 0
+IsReg Value = Unit {0}
+IsReg Proposal = Unit {0}
+IsReg (Quorum r) = r < 64
+
+-- what a word holds
+abbrev pub word_of : Words → Reg → ℕ
+word_of words Value = words.value
+word_of words Proposal = words.proposal
+word_of words (Quorum r) = slice_index words.quorum r
+
+-- each word holds what the history leaves in it
+abbrev pub IsMemory : Words → List Access → Type 0
+IsMemory words h = (reg : Reg) → IsReg reg → word_of words reg ≡ value_in reg h
+
+-- the access was made to the words and found this value; whatever history they were of, they are then of that with the
+-- access
+pub record IsAccess (words : Words) (op : Op) (seen : ℕ) (after : Words) : Type 0 where
+  pub memory :
+      (h : List Access) → IsMemory words h → (p word : ℕ)
+      → IsMemory after (record { process = p; turn = record { act = act_of op seen; word = word } } ∷ h)
+  pub found : (h : List Access) → IsMemory words h → seen ≡ seen_by op h
+  pub small : IsActInWords (act_of op seen)

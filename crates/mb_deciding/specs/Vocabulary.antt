@@ -1,0 +1,23 @@
+-- The definitions that crates above name in their clauses and proofs. They take the types from `specs.declared`, since
+-- another crate cannot name a type that a module here passes on.
+pub use Rattle.mb_deciding.specs.History.{is_same_reg, reg_of_act, loaded_by, stored_by, value_after, value_in}
+pub use Rattle.mb_deciding.specs.History.{ReadsLast, IsMemoryTrue, IsSameOp, IsActInWords, IsInWords, AreInWords}
+pub use Rattle.mb_deciding.specs.History.{turn_by, part, acts, Has}
+pub use Rattle.mb_deciding.specs.ConciliatorPaths.{StoresOn, IsMissing, IsDrawn, IsPut, IsConciliatorPath}
+pub use Rattle.mb_deciding.specs.RatifierPaths.{acts_below, stores_below, zeros_below, announcement, Prefers}
+pub use Rattle.mb_deciding.specs.RatifierPaths.{ReadsClear, ReadsOne, IsRatifierPath}
+pub use Rattle.mb_deciding.specs.OneObject.{Object, object_of, ratifier_of, conciliator_of, IsSound, ObjectSetup}
+pub use Rattle.mb_deciding.specs.OneObject.{setup_of, object_in}
+pub use Rattle.mb_deciding.specs.Objects.{answer, IsPath, IsPrefix, IsOpen, IsObjectLawful, HasOutput, IsAnnounced}
+pub use Rattle.mb_deciding.specs.Objects.{CanHold, largest_quorum, most_turns}
+pub use Rattle.mb_deciding.specs.Deciding.{IsValid, IsCoherent, IsAccepted, IsContested, ChecksKeepOut, stores_in}
+pub use Rattle.mb_deciding.specs.Deciding.{IsFirstMover, IsDeciding, IsRatifying}
+pub use Rattle.mb_deciding.specs.Place.{IsLeast, IsRest, IsRatifierPlace, HasLimits, IsConciliatorPlace, IsPlace}
+pub use Rattle.mb_deciding.specs.Place.{IsInRatifier, IsInConciliator, IsAt, IsRatifierOp, IsConciliatorOp, IsOpAt}
+pub use Rattle.mb_deciding.specs.Place.{act_of, reg_of, HasReg, CanFind, IsReached, IsNext, seen_by, turn_after}
+pub use Rattle.mb_deciding.specs.OneStep.{IsStep}
+pub use Rattle.mb_deciding.specs.Bounds.{turns_left, turns_after}
+pub use Rattle.mb_deciding.specs.Trace.{process_of, with_entry, history_from, history_of, plain_schedule, HasEnded}
+pub use Rattle.mb_deciding.specs.Trace.{IsOutputOf, IsEntryAfter, AreEntriesOf, IsTrace}
+pub use Rattle.mb_deciding.specs.Spread.{spread}
+pub use Rattle.mb_deciding.specs.Refusals.{first_from, refusal_in, refusal_of, RefusesOnlyFor}

@@ -1,0 +1,69 @@
+//! Small histories and traces of one process: what the definitions let in, and what they keep out. The functions compute
+//! nothing. The proofs begin in `proofs/examples`; the lemmas are in `proofs/SmallHistories.antt` and `SmallTraces.antt`.
+ghost use Rattle.std.specs.Prelude.{ℕ, ◌≡◌, true, false, Some, None, [], ◌∷◌, ◌++◌};
+ghost use Rattle.mb_quorum.specs.Unary.{unary_table};
+ghost use Rattle.mb_deciding.specs.{Words, Conciliator, Ratifier, Proposal, Quorum, Load, Store, setup_of};
+ghost use Rattle.mb_deciding.specs.{IsObjectLawful, HasOutput, IsPrefix, IsTrace, IsMemory, word_of, answer};
+ghost use Rattle.mb_deciding.specs.{small_ratifier, small_conciliator, history_of_one, clear_run, hasty_run};
+ghost use Rattle.mb_deciding.specs.{invented_run, patient_run, impatient_run, IsTraceOfOne, entry_of_one};
+ghost use Rattle.mb_deciding.specs.{clear_entries, hidden_entries, patient_entries, impatient_entries};
+ghost use Rattle.mb_deciding.specs.declared.trace.Entry.TheVariants as entry;
+
+/// Small histories of one process with the input 0.
+pub fn small_histories()
+    ensures clear { IsObjectLawful small_ratifier (history_of_one clear_run) }
+    ensures clear_output { HasOutput small_ratifier 0 true 0 (history_of_one clear_run) }
+
+    // The proposal is loaded before the write quorum is set.
+    ensures hasty { IsObjectLawful small_ratifier (history_of_one hasty_run) → ⊥ }
+
+    // A load gives a value that no process stored.
+    ensures invented { IsObjectLawful small_ratifier (history_of_one invented_run) → ⊥ }
+
+    ensures patient { IsObjectLawful small_conciliator (history_of_one patient_run) }
+    ensures patient_output { HasOutput small_conciliator 0 false 0 (history_of_one patient_run) }
+
+    // It stores on attempt 0, where the random word 3 does not.
+    ensures impatient { IsObjectLawful small_conciliator (history_of_one impatient_run) → ⊥ }
+    ensures impatient_part { IsPrefix (unary_table 2) (Conciliator 2) 0 impatient_run → ⊥ }
+{}
+
+/// Small traces of one process with the input 0.
+pub fn small_traces()
+    ensures clear { IsTraceOfOne Ratifier 5 0
+        (clear_entries ++ entry.Done 0 ∷ []) (Some (answer true 0)) }
+    ensures patient { IsTraceOfOne (Conciliator 2) 5 3 patient_entries (Some (answer false 0)) }
+
+    // No entry for a turn.
+    ensures silent { IsTraceOfOne Ratifier 1 0 [] None → ⊥ }
+
+    // An entry of process 0 for a turn of process 1.
+    ensures another { IsTrace (setup_of (unary_table 2) Ratifier (0 ∷ 0 ∷ [])) ((1, 0) ∷ [])
+        (entry_of_one (Store (Quorum 0) 1) ∷ []) (None ∷ None ∷ []) → ⊥ }
+
+    // A turn of a process without an input.
+    ensures stranger { IsTrace (setup_of (unary_table 2) Ratifier []) ((0, 0) ∷ [])
+        (entry_of_one (Store (Quorum 0) 1) ∷ []) [] → ⊥ }
+
+    // `Done` before the output, and an access after it.
+    ensures early { IsTraceOfOne Ratifier 1 0 (entry.Done 0 ∷ []) None → ⊥ }
+    ensures late { IsTraceOfOne Ratifier 5 0
+        (clear_entries ++ entry_of_one (Load (Quorum 1) 0) ∷ []) (Some (answer true 0)) → ⊥ }
+
+    // An output at the first access, and none at the last.
+    ensures hasty { IsTraceOfOne Ratifier 1 0
+        (entry.Access 0 (Store (Quorum 0) 1) (Some (answer true 0)) ∷ []) (Some (answer true 0))
+        → ⊥ }
+    ensures hidden { IsTraceOfOne Ratifier 4 0 hidden_entries (Some (answer true 0)) → ⊥ }
+
+    // No output of a process that has one.
+    ensures withheld { IsTraceOfOne Ratifier 4 0 clear_entries None → ⊥ }
+
+    // A store on attempt 0, where the schedule's random word 3 does not store.
+    ensures impatient { IsTraceOfOne (Conciliator 2) 2 3 impatient_entries None → ⊥ }
+
+    // What a run's words hold after the four accesses.
+    ensures words { (words : Words) → IsMemory words (history_of_one clear_run)
+        → (word_of words Proposal ≡ 1) × (word_of words (Quorum 0) ≡ 1) ×
+        (word_of words (Quorum 1) ≡ 0) }
+{}

@@ -1,0 +1,25 @@
+//! Where one process can be in a conciliator.
+
+/// The place of one process in a conciliator.
+#[derive(Clone, Copy, PartialEq, Eq, Debug)]
+pub enum ConciliatorPlace {
+    /// It loads the word; if that is empty, it stores where the random word modulo `modulus` is below `limit`.
+    Draw {
+        /// The process's own value.
+        input: u32,
+        /// 2^k on attempt k.
+        limit: u64,
+        /// 2^s, where s is the last attempt.
+        modulus: u64,
+    },
+    /// It is about to store its input.
+    Put {
+        /// The process's own value.
+        input: u32,
+    },
+    /// It has stored, and loads the word once more.
+    Look {
+        /// The process's own value.
+        input: u32,
+    },
+}

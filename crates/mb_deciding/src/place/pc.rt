@@ -1,0 +1,69 @@
+//! The place of one process in an object of any kind, and what an access leads to.
+use super::conciliator::ConciliatorPlace;
+use super::ratifier::RatifierPlace;
+use crate::object::Out;
+
+/// The place of one process in a deciding object, between two of its accesses: its program counter, with the little
+/// that it has to keep.
+#[derive(Clone, Copy, PartialEq, Eq, Debug)]
+pub enum Pc {
+    /// In a conciliator.
+    InConciliator(ConciliatorPlace),
+    /// In a ratifier.
+    InRatifier(RatifierPlace),
+}
+
+/// What an access leads to.
+#[derive(Clone, Copy, PartialEq, Eq, Debug)]
+pub enum Next {
+    /// The process goes on from this place.
+    Go(Pc),
+    /// That was its last access, and this is the object's answer.
+    Out(Out),
+}
+
+impl Pc {
+    ghost use Rattle.std.specs.Prelude.{◌≡◌};
+    ghost use Rattle.mb_deciding.specs.{next_from};
+
+    /// Goes on to the next place, or answers the output.
+    #[inline(always)]
+    pub(crate) fn settle(&mut self, next: Next) -> Option<Out>
+        ensures { next_from result self.new ≡ next }
+    {
+        match next {
+            Next::Go(place) => {
+                *self = place;
+                None
+            }
+            Next::Out(out) => Some(out),
+        }
+    }
+}
+
+impl Next {
+    ghost use Rattle.std.specs.Prelude.{◌≡◌};
+    ghost use Rattle.mb_deciding.specs.{next_from, out_of};
+
+    /// From a place and the output, if there is one.
+    #[inline(always)]
+    pub(crate) fn from_place(place: Pc, out: Option<Out>) -> Next
+        ensures { result ≡ next_from out place }
+    {
+        match out {
+            None => Next::Go(place),
+            Some(out) => Next::Out(out),
+        }
+    }
+
+    /// The output, if the process has come to it.
+    #[inline(always)]
+    pub(crate) fn out(self) -> Option<Out>
+        ensures { result ≡ out_of self }
+    {
+        match self {
+            Next::Go(_) => None,
+            Next::Out(out) => Some(out),
+        }
+    }
+}

@@ -1,0 +1,55 @@
+//! One conciliator and a schedule.
+
+ghost use Rattle.mb_deciding.specs.{Conciliator, conciliator_of, setup_of, IsValid, IsFirstMover, part, RefusesOnlyFor};
+ghost use Rattle.mb_deciding.specs.{refusal_of, spread, IsTrace, history_of};
+ghost use Rattle.std.specs.Prelude.{◌≡◌, ◌≤◌, ◌+◌, ℕ, IfOk, slice_index, length, map};
+ghost use Rattle.mb_quorum.specs.Quorum.{QuorumTable};
+
+use super::machine::ConciliatorMachine;
+use super::schedule;
+use crate::attempts::spread;
+use crate::laws::first_movers_win;
+use crate::trace::{Fault, Trace};
+use mb_quorum::checked_values;
+use std::alloc::Allocator;
+
+/// Runs one conciliator for m values: process i has the input `inputs[i]`, and each pair of the schedule is a
+/// turn of a process with its random word. A turn of a process that has its output makes no access.
+///
+/// It is refused for the first of these that holds: m is out of range; an input is not below m; a turn of the
+/// schedule is of no process; a growth was refused.
+pub fn conciliate<A: Allocator + Copy + Drop>(
+    alloc: A,
+    m: u64,
+    inputs: &[u64],
+    schedule: &[(u64, u64)],
+) -> Result<Trace<A>, Fault>
+    // A conciliator has no table, so this is said over each table of m values.
+    ensures trace { (t : QuorumTable) → t.values ≡ m
+        → IfOk result (λ trace.
+        IsTrace (setup_of t (Conciliator (spread m)) inputs.now) schedule.now
+        trace.entries.items trace.outputs.items) }
+
+    // What holds of the outputs, whatever the schedule and the random words.
+    ensures validity { (t : QuorumTable) → t.values ≡ m
+        → IfOk result (λ trace. IsValid (conciliator_of t (spread m) (slice_index inputs.now))
+        (history_of schedule.now trace.entries.items)) }
+    ensures first_mover { (t : QuorumTable) → t.values ≡ m
+        → IfOk result (λ trace. IsFirstMover (conciliator_of t (spread m) (slice_index inputs.now))
+        (history_of schedule.now trace.entries.items)) }
+
+    // No process makes more accesses.
+    ensures bound { IfOk result (λ trace. (p : ℕ)
+        → length (part p (history_of schedule.now trace.entries.items)) ≤ spread m + 3) }
+    ensures refused { RefusesOnlyFor
+        (refusal_of m inputs.now (map (λ turn. turn.0) schedule.now)) result }
+{
+    // The law computes nothing: its contract gives the clause on the first mover.
+    first_movers_win();
+    let values = checked_values(m)?;
+    let machine = ConciliatorMachine {
+        values,
+        s: spread(m),
+    };
+    schedule::trace(alloc, &machine, inputs, schedule)
+}

@@ -1,0 +1,73 @@
+//! What builders of worlds and of tables of shared words need: one more step of a lawful history, and the places of
+//! processes. Who keeps the words of an object in a table takes `one_step` for its rule, and `places_lead_on` for the
+//! step that a place makes there. The proofs begin in `proofs/steps`, in a folder of the law's name.
+ghost use Rattle.std.specs.Prelude.{ℕ, ◌≡◌, ◌<◌, List, [], ◌∷◌};
+ghost use Rattle.mb_quorum.specs.Quorum.{QuorumTable, IsQuorumTable};
+ghost use Rattle.mb_deciding.specs.{Object, IsSound, Kind, Access, Turn, Act, Op, Pc, Out};
+ghost use Rattle.mb_deciding.specs.{ReadsLast, IsInWords, part, IsObjectLawful, IsPrefix, IsOpen, IsPath};
+ghost use Rattle.mb_deciding.specs.{HasReg, IsAt, IsOpAt, CanFind, turn_after, seen_by, reg_of};
+ghost use Rattle.mb_deciding.specs.{IsSameOp, IsPlace, turns_left};
+
+/// The empty history is lawful, and one more turn of a process whose path goes on keeps a history lawful.
+pub fn one_step()
+    ensures empty { (o : Object) → IsObjectLawful o [] }
+    ensures longer { (o : Object) (h : List Access) (p : ℕ) (turn : Turn)
+        → IsObjectLawful o h → o.inputs p < o.table.values → IsInWords turn → ReadsLast turn.act h
+        → IsPrefix o.table o.kind (o.inputs p) (turn ∷ part p h)
+        → IsObjectLawful o (record { process = p; turn = turn } ∷ h) }
+{}
+
+/// The next turn of a process at its place, with the value that the history leaves in its word, goes on with its path.
+pub fn places_lead_on()
+    ensures prefix { (o : Object) (h : List Access) (p : ℕ) (pc : Pc) (op : Op) (word : ℕ)
+        → IsSound o → IsObjectLawful o h
+        → IsAt o.table o.kind (o.inputs p) pc (part p h) → IsOpAt o.table pc op
+        → IsPrefix o.table o.kind (o.inputs p) (turn_after op word h ∷ part p h) }
+
+    // What it finds there is a value with which the place can go on.
+    ensures found { (o : Object) (h : List Access) (p : ℕ) (pc : Pc) (op : Op)
+        → IsSound o → IsObjectLawful o h
+        → IsAt o.table o.kind (o.inputs p) pc (part p h) → IsOpAt o.table pc op
+        → CanFind o.table pc op (seen_by op h) }
+
+    // And its act is true to memory.
+    ensures reads { (op : Op) (word : ℕ) (h : List Access)
+        → ReadsLast (turn_after op word h).act h }
+{}
+
+/// What a process at a place has made is a prefix of a path that has not come to its end, and the word that comes next
+/// is one of the object's.
+pub fn places_are_unfinished()
+    ensures open { (t : QuorumTable) (kind : Kind) (v : ℕ) (pc : Pc) (turns : List Turn)
+        → IsQuorumTable t → IsAt t kind v pc turns → IsOpen t kind v turns }
+    ensures prefix { (t : QuorumTable) (kind : Kind) (v : ℕ) (pc : Pc) (turns : List Turn)
+        → IsQuorumTable t → IsAt t kind v pc turns → IsPrefix t kind v turns }
+    ensures unfinished { (t : QuorumTable) (kind : Kind) (v : ℕ) (pc : Pc) (turns : List Turn)
+        (out : Out)
+        → IsQuorumTable t → IsAt t kind v pc turns → IsPath t kind v turns out → ⊥ }
+    ensures word { (t : QuorumTable) (kind : Kind) (v : ℕ) (pc : Pc) (turns : List Turn) (op : Op)
+        → IsQuorumTable t → IsAt t kind v pc turns → IsOpAt t pc op
+        → HasReg t.registers kind (reg_of op) }
+{}
+
+/// The turns that a process has made name what it does next, whatever memory answers.
+pub fn turns_name_the_next_op()
+    ensures op { (t : QuorumTable) (kind : Kind) (v : ℕ) (turns : List Turn) (a b : Turn)
+        → IsPrefix t kind v (a ∷ turns) → IsPrefix t kind v (b ∷ turns) → IsSameOp a.act b.act }
+
+    // So two places with the same turns go on with one op.
+    ensures places { (t : QuorumTable) (kind : Kind) (v : ℕ) (turns : List Turn) (pc other : Pc)
+        (op next : Op)
+        → IsQuorumTable t → IsAt t kind v pc turns → IsAt t kind v other turns
+        → IsOpAt t pc op → IsOpAt t other next → op ≡ next }
+
+    // And after one history acts of one op are one act.
+    ensures act { (a b : Act) (h : List Access)
+        → IsSameOp a b → ReadsLast a h → ReadsLast b h → a ≡ b }
+{}
+
+/// A process at a place has an access to make, and no more than the number that falls with each access, whatever its
+/// loads find ([`crate::Pc::after`] says so, and the first places say with how many it begins).
+pub fn places_have_turns_left()
+    ensures { (t : QuorumTable) (pc : Pc) → IsPlace t pc → 0 < turns_left t pc }
+{}
