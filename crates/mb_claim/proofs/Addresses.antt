@@ -1,13 +1,12 @@
 -- Different places have different addresses.
-use Rattle.std.proofs.Common.{◌≡◌, ◌+◌, ◌*◌, ◌<◌, ◌≤◌, ◌⊎◌, ℕ, zero, suc, List, [], ◌∷◌, refl, sym, ap, subst, inl, inr, arith, mul-le-mul_right, suc-mul}
+use Rattle.std.proofs.Common.{◌≡◌, ◌+◌, ◌*◌, ◌<◌, ◌≤◌, ◌⊎◌, ℕ, zero, suc, List, [], ◌∷◌, refl, sym, ap, subst, inl, inr}
+use Rattle.std.proofs.Common.{Some, length, slice_get}
+use Rattle.std.proofs.Common.{arith, mul-le-mul_right, suc-mul}
 use Rattle.std.proofs.lemmas.Bool.{cases_order}
 use Rattle.std.proofs.lemmas.Option.{none-some, same_Some}
-use Rattle.mb_deciding.specs.declared.access.Reg.{Reg}
-use Rattle.mb_deciding.specs.declared.object.Kind.{Kind}
-use Rattle.mb_deciding.specs.declared.access.Reg.TheVariants.{Value, Proposal, Quorum}
-use Rattle.mb_deciding.specs.declared.object.Kind.TheVariants.{Conciliator, Ratifier}
-use Rattle.mb_deciding.specs.Place.{HasReg}
-use Rattle.mb_claim.specs.Layouts.{width, offset, words_before, words_of, address_of, pairs_of, IsWordOf}
+use Rattle.mb_deciding.specs.Vocabulary.{HasReg}
+use Rattle.mb_claim.specs.{Reg, Kind, Value, Proposal, Quorum, Conciliator, Ratifier, width, offset, words_before}
+use Rattle.mb_claim.specs.{words_of, address_of, pairs_of, IsWordOf}
 
 -- a word lies within its object
 in_object : (r : ℕ) (k : Kind) (reg : Reg) → HasReg r k reg → offset reg < width r k
@@ -93,6 +92,41 @@ within r kinds cells k o reg p l =
     let m : suc k * words_of r kinds ≤ cells * words_of r kinds = mul-le-mul_right (words_of r kinds) l in
     let s : suc k * words_of r kinds ≡ k * words_of r kinds + words_of r kinds = suc-mul k (words_of r kinds) in
     omega arith
+
+-- ---- object by object
+-- an object has few words
+pub width_few : (r : ℕ) (k : Kind) → width r k ≤ 1 + r
+width_few r (Conciliator s) = omega arith
+width_few r Ratifier = omega arith
+
+-- no words come before the first object
+pub words_before-first : (r : ℕ) (kinds : List Kind) → words_before r kinds 0 ≡ 0
+words_before-first r [] = refl
+words_before-first r (k ∷ ks) = refl
+
+-- one more object has its words
+pub words_before-next :
+    (r : ℕ) (kinds : List Kind) (o : ℕ) (kind : Kind) → slice_get kinds o ≡ Some kind
+    → words_before r kinds (suc o) ≡ words_before r kinds o + width r kind
+words_before-next r [] o kind e = absurd (none-some kind e)
+words_before-next r (k ∷ ks) zero kind e =
+    let same : width r k ≡ width r kind = ap (width r) (same_Some k kind e) in
+    omega (arith, same, words_before-first r ks)
+words_before-next r (k ∷ ks) (suc o) kind e = omega (arith, words_before-next r ks o kind e)
+
+-- those before the end are all
+pub words_before-all : (r : ℕ) (kinds : List Kind) → words_before r kinds (length kinds) ≡ words_of r kinds
+words_before-all r [] = refl
+words_before-all r (k ∷ ks) = omega (arith, words_before-all r ks)
+
+-- so many objects have few words
+pub words_before-few : (r : ℕ) (kinds : List Kind) (o : ℕ) → words_before r kinds o ≤ o * (1 + r)
+words_before-few r [] o = omega arith
+words_before-few r (k ∷ ks) zero = omega arith
+words_before-few r (k ∷ ks) (suc o) = omega (arith, width_few r k, words_before-few r ks o, suc-mul o (1 + r))
+
+pub words_of-few : (r : ℕ) (kinds : List Kind) → words_of r kinds ≤ length kinds * (1 + r)
+words_of-few r kinds = omega (arith, words_before-all r kinds, words_before-few r kinds (length kinds))
 
 -- ---- pairs
 -- a pair has the words of its two objects

@@ -1,12 +1,11 @@
 -- All who have won or lost name one winner.
 use Rattle.std.proofs.Common.{◌≡◌, ℕ, suc, true, List, [], ◌∷◌, sym, inl, inr, ⊎_elim}
-use Rattle.mb_quorum.specs.Quorum.{QuorumTable}
-use Rattle.mb_deciding.specs.declared.access.Access.{Access}
-use Rattle.mb_deciding.specs.declared.object.Kind.{Kind}
-use Rattle.mb_deciding.specs.Objects.{HasOutput}
-use Rattle.mb_claim.specs.Winner.{Names}
-use Rattle.mb_claim.proofs.Unique.{AreDeciding}
-use Rattle.mb_claim.proofs.Family.{Family, step, ended, lawful_here, output_holds, next, next_decided, none_named, Ended}
+use Rattle.mb_quorum.specs.Vocabulary.{QuorumTable}
+use Rattle.mb_deciding.specs.Vocabulary.{object_of, HasOutput}
+use Rattle.mb_claim.specs.{Access, Kind, Names}
+use Rattle.mb_claim.proofs.KindLaws.{AreDeciding}
+use Rattle.mb_claim.proofs.Family.{Family, step, ended, lawful_here, output_holds, next, next_decided, none_named}
+use Rattle.mb_claim.proofs.Family.{Ended}
 
 -- what holds of each input holds of each winner that is named
 pub winner_holds :
@@ -22,7 +21,8 @@ winner_holds t hs law (k ∷ ks) o P fam c u n =
 module _ (t : QuorumTable) (k : Kind) (ks : List Kind) (o : ℕ) (hs : ℕ → List Access) (P : ℕ → Type 0)
     (fam : Family t (k ∷ ks) o hs P) (law : AreDeciding t) where
   -- where u was decided here, whoever goes on names u
-  late : (c d u w : ℕ) → HasOutput t k fam.input (hs o) c true u → Names d (step t k ks o hs P fam d).stage w → w ≡ u
+  late : (c d u w : ℕ) → HasOutput (object_of t k fam.input) c true u (hs o)
+      → Names d (step t k ks o hs P fam d).stage w → w ≡ u
   late c d u w p n = winner_holds t hs law ks (suc o) (λ a. a ≡ u) (next_decided t k ks o hs P fam (law k) c u p) d w n
 
   -- two consumers decided here, later, or one of each
@@ -31,7 +31,7 @@ module _ (t : QuorumTable) (k : Kind) (ks : List Kind) (o : ℕ) (hs : ℕ → L
       → Names d (step t k ks o hs P fam d).stage b → a ≡ b)
       → Ended t k ks o hs P fam c u → Ended t k ks o hs P fam d w → u ≡ w
   agree_by c d u w ih (inl p) (inl q) =
-      sym ((law k).coherence fam.input (hs o) (lawful_here t k ks o hs P fam) c d true u w p q)
+      sym ((law k fam.input).coherence (hs o) (lawful_here t k ks o hs P fam) c d true u w p q)
   agree_by c d u w ih (inl p) (inr q) = sym (late c d u w p q.1)
   agree_by c d u w ih (inr p) (inl q) = late d c w u q p.1
   agree_by c d u w ih (inr p) (inr q) = ih u w p.1 q.1

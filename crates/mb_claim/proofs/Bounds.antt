@@ -1,17 +1,10 @@
 -- How many accesses a claim makes.
 use Rattle.std.proofs.Common.{◌≡◌, ◌+◌, ◌≤◌, ℕ, zero, suc, List, [], ◌∷◌, length, ap, inl, inr, suc-mul, arith}
-use Rattle.mb_quorum.specs.Quorum.{QuorumTable}
-use Rattle.mb_deciding.specs.declared.access.Access.{Access}
-use Rattle.mb_deciding.specs.declared.object.Kind.{Kind}
-use Rattle.mb_deciding.specs.Objects.{largest}
-use Rattle.mb_deciding.specs.Spread.{spread}
-use Rattle.mb_claim.specs.declared.access.ObjectTurn.{ObjectTurn}
-use Rattle.mb_claim.specs.declared.access.ClaimAccess.{ClaimAccess}
-use Rattle.mb_claim.specs.declared.access.Stage.{Stage}
-use Rattle.mb_claim.specs.History.{part, object_history}
-use Rattle.mb_claim.specs.Claiming.{IsLawful}
-use Rattle.mb_claim.specs.Layouts.{pairs_of, most_on_objects, max_steps}
-use Rattle.mb_claim.proofs.Unique.{AreDeciding}
+use Rattle.mb_quorum.specs.Vocabulary.{QuorumTable}
+use Rattle.mb_deciding.specs.Vocabulary.{largest_quorum, spread}
+use Rattle.mb_claim.specs.{Claims, Access, Kind, ObjectTurn, ClaimAccess, Stage, part_on, object_history, IsClaimLawful}
+use Rattle.mb_claim.specs.{pairs_of, most_on_objects, max_steps}
+use Rattle.mb_claim.proofs.KindLaws.{AreDeciding}
 use Rattle.mb_claim.proofs.Parts.{Member}
 use Rattle.mb_claim.proofs.Family.{Family, step, here, lawful_here, next}
 use Rattle.mb_claim.proofs.CellFamily.{competes, family}
@@ -33,18 +26,17 @@ rest_bounded t hs law (k ∷ ks) o P fam c =
       arith,
       (step t k ks o hs P fam c).counted,
       ap length (here t k ks o hs P fam c),
-      (law k).bounded fam.input (hs o) c (lawful_here t k ks o hs P fam),
+      (law k fam.input).bounded (hs o) c (lawful_here t k ks o hs P fam),
       rest_bounded t hs law ks (suc o) P (next t k ks o hs P fam (law k)) c,
     )
 
 -- no claim makes more accesses
 pub claim_bounded :
-    (t : QuorumTable) → AreDeciding t → (kinds : List Kind) (cells : ℕ) (h : List ClaimAccess) (c k : ℕ)
-    → IsLawful t kinds cells h
-    → length (part c k h) ≤ most_on_objects t kinds
-claim_bounded t law kinds cells h c k lawful =
-    rest_bounded t (λ n. object_history k n h) law kinds 0 (competes t kinds cells h k law lawful)
-    (family t kinds cells h k law lawful) c
+    (cs : Claims) → AreDeciding cs.table → (h : List ClaimAccess) (c k : ℕ) → IsClaimLawful cs h
+    → length (part_on c k h) ≤ most_on_objects cs.table cs.kinds
+claim_bounded cs law h c k lawful =
+    rest_bounded cs.table (λ n. object_history k n h) law cs.kinds 0 (competes cs h k law lawful)
+    (family cs h k law lawful) c
 
 -- pairs take so many times what one pair takes
 pub pairs_steps : (t : QuorumTable) (n : ℕ) → most_on_objects t (pairs_of (spread t.values) n) ≡ max_steps t n
@@ -53,5 +45,5 @@ pairs_steps t (suc n) =
     omega (
       arith,
       pairs_steps t n,
-      suc-mul n (spread t.values + 3 + largest t.write t.values + 2 + largest t.read t.values),
+      suc-mul n (spread t.values + 3 + largest_quorum t.write t.values + 2 + largest_quorum t.read t.values),
     )

@@ -1,13 +1,11 @@
 -- A history cut down to one cell.
-use Rattle.std.proofs.Common.{◌≡◌, ◌≢◌, ◌⊎◌, ℕ, Bool, true, false, cond, eqb, Option, Some, None, List, [], ◌∷◌, refl, sym, ◌∙◌, ap, subst, inl, inr, filter_map, option_and_then}
+use Rattle.std.proofs.Common.{◌≡◌, ◌≢◌, ◌⊎◌, ℕ, Bool, true, false, cond, eqb, Option, Some, None, List, [], ◌∷◌, refl}
+use Rattle.std.proofs.Common.{sym, ◌∙◌, ap, subst, inl, inr, filter_map, option_and_then}
 use Rattle.std.specs.List.{cons_option}
 use Rattle.std.proofs.lemmas.Bool.{ne_eqb, eqb-true, cases_eq}
-use Rattle.mb_quorum.specs.Quorum.{QuorumTable}
-use Rattle.mb_deciding.specs.declared.object.Kind.{Kind}
-use Rattle.mb_deciding.specs.History.{ReadsLast, IsInWords}
-use Rattle.mb_claim.specs.declared.access.ClaimAccess.{ClaimAccess}
-use Rattle.mb_claim.specs.History.{step_by, part, access_on, object_history, IsMemoryTrue, AreInWords, on_cell}
-use Rattle.mb_claim.specs.Claiming.{IsClaimPart, IsLawful}
+use Rattle.mb_deciding.specs.Vocabulary.{ReadsLast, IsInWords}
+use Rattle.mb_claim.specs.{Claims, ClaimAccess, step_by, part_on, access_on, object_history}
+use Rattle.mb_claim.specs.{IsMemoryTrue, AreInWords, on_cell, IsClaimPart, IsClaimLawful}
 use Rattle.mb_claim.proofs.Lists.{filter_map-filter_map, filter_map_agree}
 
 -- a pick from the accesses that pass a test is a pick from all, where the others give nothing
@@ -35,7 +33,7 @@ cond_none true q x e = ap (λ b. cond b (Some x) None) e
 cond_none false q x e = refl
 
 -- on this cell every part is kept
-pub kept : (c k : ℕ) (h : List ClaimAccess) → part c k (on_cell k h) ≡ part c k h
+pub kept : (c k : ℕ) (h : List ClaimAccess) → part_on c k (on_cell k h) ≡ part_on c k h
 kept c k h =
     filter_map-filter_map (step_by c k) (λ (a : ClaimAccess). cond (eqb a.cell k) (Some a) None) h
     ∙ filter_map_agree (λ (a : ClaimAccess). option_and_then (step_by c k) (cond (eqb a.cell k) (Some a) None))
@@ -43,7 +41,7 @@ kept c k h =
     (λ a. picks (step_by c k) (eqb a.cell k) a (λ e. cond_none (eqb a.consumer c) (eqb a.cell k) a.step e)) h
 
 -- on another cell nothing is left
-pub gone : (c k j : ℕ) (h : List ClaimAccess) → (j ≡ k → ⊥) → part c j (on_cell k h) ≡ []
+pub gone : (c k j : ℕ) (h : List ClaimAccess) → (j ≡ k → ⊥) → part_on c j (on_cell k h) ≡ []
 gone c k j h ne =
     filter_map-filter_map (step_by c j) (λ (a : ClaimAccess). cond (eqb a.cell k) (Some a) None) h
     ∙ filter_map_agree (λ (a : ClaimAccess). option_and_then (step_by c j) (cond (eqb a.cell k) (Some a) None))
@@ -94,20 +92,20 @@ words_cut : (k : ℕ) (h : List ClaimAccess) → AreInWords h → AreInWords (on
 words_cut k [] w = tt
 words_cut k (a ∷ h) w = words_by a (on_cell k h) (eqb a.cell k) w.0 (words_cut k h w.1)
 
-module _ (t : QuorumTable) (kinds : List Kind) (cells : ℕ) (h : List ClaimAccess) (k : ℕ)
-    (lawful : IsLawful t kinds cells h) where
+module _ (cs : Claims) (h : List ClaimAccess) (k : ℕ)
+    (lawful : IsClaimLawful cs h) where
   -- each part of the cut history with a step keeps to its path
   part_cut :
-      (c j : ℕ) → part c j (on_cell k h) ≢ [] → (j ≡ k) ⊎ (j ≡ k → ⊥)
-      → IsClaimPart t kinds cells c j (part c j (on_cell k h))
+      (c j : ℕ) → part_on c j (on_cell k h) ≢ [] → (j ≡ k) ⊎ (j ≡ k → ⊥)
+      → IsClaimPart cs c j (part_on c j (on_cell k h))
   part_cut c j some (inl e) =
-      let same : part c j (on_cell k h) ≡ part c j h =
-      subst (λ i. part c i (on_cell k h) ≡ part c i h) (sym e) (kept c k h) in
-      subst (IsClaimPart t kinds cells c j) (sym same) (lawful.parts c j (λ none. some (same ∙ none)))
+      let same : part_on c j (on_cell k h) ≡ part_on c j h =
+      subst (λ i. part_on c i (on_cell k h) ≡ part_on c i h) (sym e) (kept c k h) in
+      subst (IsClaimPart cs c j) (sym same) (lawful.parts c j (λ none. some (same ∙ none)))
   part_cut c j some (inr ne) = absurd (some (gone c k j h ne))
 
   -- the cut history is lawful
-  pub cut_lawful : IsLawful t kinds cells (on_cell k h)
+  pub cut_lawful : IsClaimLawful cs (on_cell k h)
   cut_lawful =
       record {
         memory = memory_cut k h lawful.memory;

@@ -1,40 +1,29 @@
 -- What a claim is after its next access.
-use Rattle.std.proofs.Common.{◌≡◌, ◌≢◌, ◌+◌, ◌<◌, ◌≤◌, ℕ, zero, suc, true, false, cond, Option, Some, None, MatchOption, List, [], ◌∷◌, ◌++◌, length, refl, sym, ◌∙◌, ap, ap₂, subst, subst₂, slice_get, append-nil, append_assoc, arith}
+use Rattle.std.proofs.Common.{◌≡◌, ◌≢◌, ◌+◌, ◌<◌, ℕ, suc, true, false, cond, Option, Some, None, MatchOption}
+use Rattle.std.proofs.Common.{List, [], ◌∷◌, ◌++◌, length, refl, sym, ◌∙◌, ap, ap₂, subst, subst₂, slice_get}
+use Rattle.std.proofs.Common.{append-nil, append_assoc, arith}
 use Rattle.std.proofs.lemmas.Bool.{eq-eqb, ne_eqb}
 use Rattle.std.proofs.lemmas.Option.{slice_get_within}
-use Rattle.mb_quorum.specs.Quorum.{QuorumTable}
-use Rattle.mb_deciding.specs.declared.access.Turn.{Turn}
-use Rattle.mb_deciding.specs.declared.object.Kind.{Kind}
-use Rattle.mb_deciding.specs.declared.object.Kind.TheVariants.{Conciliator, Ratifier}
-use Rattle.mb_deciding.specs.declared.place.Pc.{Pc}
-use Rattle.mb_deciding.specs.Objects.{answer, IsPath}
-use Rattle.mb_deciding.specs.declared.place.Pc.TheVariants.{InConciliator, InRatifier}
-use Rattle.mb_deciding.specs.Place.{IsAt, IsPlace}
-use Rattle.mb_claim.specs.declared.access.ClaimOp.{ClaimOp}
-use Rattle.mb_claim.specs.declared.access.ObjectTurn.{ObjectTurn}
-use Rattle.mb_claim.specs.declared.access.Stage.TheVariants.{Going, Won, Lost, Undecided}
-use Rattle.mb_claim.specs.declared.claim.Claim.{Claim}
-use Rattle.mb_claim.specs.declared.layout.Layout.{Layout}
-use Rattle.mb_claim.specs.Claims.{IsOnObject, IsNextOp}
-use Rattle.mb_claim.specs.Layouts.{pairs_of, quorums_of, kinds_of}
-use Rattle.mb_claim.specs.Paths.{tagged, stage_for, IsClaimPrefixFrom}
-use Rattle.mb_claim.specs.Standing.{PassesAll, StandsAt, IsClaimOf}
-use Rattle.mb_deciding.proofs.Histories.{not_empty}
-use Rattle.mb_claim.proofs.Lists.{get_behind, first_of, none_of, length-push}
+use Rattle.mb_quorum.specs.Vocabulary.{QuorumTable}
+use Rattle.mb_deciding.specs.Vocabulary.{answer, IsPath, IsAt, IsPlace}
+use Rattle.mb_claim.specs.{Turn, Kind, Conciliator, Ratifier, Pc, InConciliator, InRatifier, ClaimOp, ObjectTurn, Going}
+use Rattle.mb_claim.specs.{Won, Lost, Undecided, Claim, Layout, IsOnObject, IsNextOp, quorums_of, kinds_of}
+use Rattle.mb_claim.specs.{turns_on, stage_for, IsClaimPrefixFrom, PassesAll, StandsAt, IsClaimOf}
+use Rattle.mb_claim.proofs.Lists.{not_empty, get_behind, first_of, none_of, length-push}
 use Rattle.mb_claim.proofs.Standing.{longer_is, decided_here, undecided_here, stands_on}
 
 -- one more object passed
 passes_more :
     (t : QuorumTable) (before : List Kind) (kind : Kind) (o v w u : ℕ) (front : List ObjectTurn) (turns : List Turn)
     → PassesAll t before o v front w → IsPath t kind w turns (answer false u)
-    → PassesAll t (before ++ kind ∷ []) o v (tagged (o + length before) turns ++ front) u
+    → PassesAll t (before ++ kind ∷ []) o v (turns_on (o + length before) turns ++ front) u
 passes_more t [] kind o v w u front turns p path =
     let n : o + 0 ≡ o = omega arith in (
       u,
       [],
       record {
         turns = turns;
-        all = ap₂ (λ m zs. tagged m turns ++ zs) n p.0 ∙ append-nil (tagged o turns);
+        all = ap₂ (λ m zs. turns_on m turns ++ zs) n p.0 ∙ append-nil (turns_on o turns);
         path = subst (λ i. IsPath t kind i turns (answer false u)) p.1 path;
       },
       (refl, refl),
@@ -43,14 +32,14 @@ passes_more t (k ∷ ks) kind o v w u front turns (i, rest, x, p) path =
     let n : o + suc (length ks) ≡ suc o + length ks = omega arith in
     let more = passes_more t ks kind (suc o) i w u rest turns p path in (
       i,
-      tagged (o + suc (length ks)) turns ++ rest,
+      turns_on (o + suc (length ks)) turns ++ rest,
       record {
         turns = x.turns;
-        all = ap (λ zs. tagged (o + suc (length ks)) turns ++ zs) x.all
-            ∙ sym (append_assoc (tagged (o + suc (length ks)) turns) rest (tagged o x.turns));
+        all = ap (λ zs. turns_on (o + suc (length ks)) turns ++ zs) x.all
+            ∙ sym (append_assoc (turns_on (o + suc (length ks)) turns) rest (turns_on o x.turns));
         path = x.path;
       },
-      subst (λ m. PassesAll t (ks ++ kind ∷ []) (suc o) i (tagged m turns ++ rest) u) (sym n) more,
+      subst (λ m. PassesAll t (ks ++ kind ∷ []) (suc o) i (turns_on m turns ++ rest) u) (sym n) more,
     )
 
 module _ (t : QuorumTable) (kinds : List Kind) (c object : ℕ) (pc : Pc) (xs : List ObjectTurn)
@@ -96,7 +85,8 @@ module _ (t : QuorumTable) (kinds : List Kind) (c object : ℕ) (pc : Pc) (xs : 
             ∙ sym (append_assoc p.before (p.kind ∷ []) (kind ∷ rest.0));
         number = ap suc p.number ∙ sym (length-push p.before p.kind);
         passed = subst (λ zs. PassesAll t (p.before ++ p.kind ∷ []) 0 c zs u)
-            (sym (longer_is t kinds c object pc xs p x ∙ ap (λ m. tagged m (x ∷ p.turns) ++ p.front) (p.number ∙ (omega arith))))
+            (sym (longer_is t kinds c object pc xs p x ∙ ap (λ m. turns_on m (x ∷ p.turns) ++ p.front) (p.number
+            ∙ (omega arith))))
             (passes_more t p.before p.kind 0 c p.input u p.front (x ∷ p.turns) p.passed path);
         all = refl;
         within = below;
@@ -124,7 +114,7 @@ pub claim_going :
 claim_going t kinds claim x xs parts known going begun stands =
     record {
       known = known;
-      part = subst (λ s. IsClaimPrefixFrom t claim.consumer kinds 0 claim.consumer (x ∷ xs) s) (sym going)
+      prefix = subst (λ s. IsClaimPrefixFrom t claim.consumer kinds 0 claim.consumer (x ∷ xs) s) (sym going)
           (parts claim.consumer claim.object claim.place (x ∷ xs) stands);
       begun = (λ b. not_empty x xs, λ some. begun);
       stands = λ g. stands;
@@ -135,8 +125,14 @@ pub claim_ended :
     (t : QuorumTable) (kinds : List Kind) (claim : Claim) (x : ObjectTurn) (xs : List ObjectTurn)
     → claim.consumer < t.values → claim.stage ≢ Going → claim.begun ≡ true
     → IsClaimPrefixFrom t claim.consumer kinds 0 claim.consumer (x ∷ xs) claim.stage → IsClaimOf t kinds claim (x ∷ xs)
-claim_ended t kinds claim x xs known ended begun part =
-    record { known = known; part = part; begun = (λ b. not_empty x xs, λ some. begun); stands = λ g. absurd (ended g) }
+claim_ended t kinds claim x xs known ended begun prefix =
+    record {
+      known = known;
+      prefix = prefix;
+      begun = (λ b. not_empty x xs, λ some. begun);
+      stands = λ g. absurd
+          (ended g);
+    }
 
 -- the stage of a consumer whose own number was decided
 pub stage_for-own : (c u : ℕ) → u ≡ c → stage_for c u ≡ Won
@@ -147,19 +143,15 @@ pub stage_for-other : (c u : ℕ) → u ≢ c → stage_for c u ≡ Lost u
 stage_for-other c u ne = ap (λ b. cond b Won (Lost u)) (ne_eqb c u (λ e. ne (sym e)))
 
 -- ---- the first object
-first_pair : (s n : ℕ) → 1 ≤ n → (rest : List Kind) × (pairs_of s n ≡ Conciliator s ∷ rest)
-first_pair s zero h = absurd (omega arith)
-first_pair s (suc n) h = (Ratifier ∷ pairs_of s n, refl)
-
 -- a claim without an access stands on it
 pub stands_first :
-    (t : QuorumTable) (s n c : ℕ) (pc : Pc) → 1 ≤ n → c < t.values → IsAt t (Conciliator s) c pc []
-    → StandsAt t (pairs_of s n) c 0 pc []
-stands_first t s n c pc some below at =
-    let rest = first_pair s n some in
+    (t : QuorumTable) (kinds : List Kind) (kind : Kind) (c : ℕ) (pc : Pc) → slice_get kinds 0 ≡ Some kind → c < t.values
+    → IsAt t kind c pc [] → StandsAt t kinds c 0 pc []
+stands_first t kinds kind c pc first below at =
+    let rest = first_of kinds kind first in
     record {
       before = [];
-      kind = Conciliator s;
+      kind = kind;
       after = rest.0;
       front = [];
       turns = [];
@@ -186,7 +178,8 @@ claim_passed t kinds claim c object pc xs p x u parts own known begun below path
     let n : suc object ≡ object + 1 = omega arith in
     claim_ended t kinds claim (record { object = object; turn = x }) xs (subst (λ d. d < t.values) (sym own) known)
     (λ g. undecided_going (sym passed ∙ g)) begun
-    (subst₂ (λ d s. IsClaimPrefixFrom t d kinds 0 d (record { object = object; turn = x } ∷ xs) s) (sym own) (sym passed)
+    (subst₂ (λ d s. IsClaimPrefixFrom t d kinds 0 d (record { object = object; turn = x } ∷ xs) s) (sym own)
+    (sym passed)
     (undecided_last t kinds c object pc xs p x u path (ap (slice_get kinds) n ∙ is)))
   where
     undecided_going : Undecided ≡ Going → ⊥
@@ -208,7 +201,8 @@ pub claim_decided :
     → IsClaimOf t kinds claim (record { object = object; turn = x } ∷ xs)
 claim_decided t kinds claim object pc xs p x u known begun ended is path =
     claim_ended t kinds claim (record { object = object; turn = x }) xs known ended begun
-    (subst (λ s. IsClaimPrefixFrom t claim.consumer kinds 0 claim.consumer (record { object = object; turn = x } ∷ xs) s) (sym is)
+    (subst (λ s. IsClaimPrefixFrom t claim.consumer kinds 0 claim.consumer
+    (record { object = object; turn = x } ∷ xs) s) (sym is)
     (decided_here t kinds claim.consumer object pc xs p x u path))
 
 -- ---- calls
@@ -236,7 +230,8 @@ on_object layout claim xs of going =
 pub stands_next :
     (layout : Layout) (claim : Claim) (next : ClaimOp) (xs : List ObjectTurn)
     → IsClaimOf (quorums_of layout) (kinds_of layout) claim xs → claim.stage ≡ Going
-    → IsNextOp layout claim next → StandsAt (quorums_of layout) (kinds_of layout) claim.consumer next.object claim.place xs
+    → IsNextOp layout claim next → StandsAt (quorums_of layout)
+    (kinds_of layout) claim.consumer next.object claim.place xs
 stands_next layout claim next xs of going is =
     subst (λ o. StandsAt (quorums_of layout) (kinds_of layout) claim.consumer o claim.place xs) (sym is.object)
     (of.stands going)

@@ -1,19 +1,12 @@
 -- A claim is undecided only where each ratifier saw two values.
-use Rattle.std.proofs.Common.{◌≡◌, ◌≢◌, ◌+◌, ℕ, zero, suc, false, Some, List, [], ◌∷◌, refl, sym, ◌∙◌, ap, subst, inl, slice_get, arith}
+use Rattle.std.proofs.Common.{◌≡◌, ◌≢◌, ◌+◌, ℕ, zero, suc, false, Some, List, [], ◌∷◌, refl, sym, ◌∙◌, ap, subst, inl}
+use Rattle.std.proofs.Common.{slice_get, arith}
 use Rattle.std.proofs.lemmas.Option.{none-some, same_Some}
-use Rattle.mb_quorum.specs.Quorum.{QuorumTable, IsMember}
-use Rattle.mb_deciding.specs.declared.access.Access.{Access}
-use Rattle.mb_deciding.specs.declared.access.Act.TheVariants.{Store}
-use Rattle.mb_deciding.specs.declared.object.Kind.{Kind}
-use Rattle.mb_deciding.specs.declared.access.Reg.TheVariants.{Quorum}
-use Rattle.mb_deciding.specs.declared.object.Kind.TheVariants.{Ratifier}
-use Rattle.mb_deciding.specs.History.{turns_of, acts, Has}
-use Rattle.mb_deciding.specs.Objects.{IsObjectLawful, HasOutput, IsAnnounced}
-use Rattle.mb_deciding.specs.Deciding.{IsDeciding, IsRatifying}
-use Rattle.mb_claim.specs.declared.access.Stage.TheVariants.{Undecided}
-use Rattle.mb_claim.specs.Paths.{Enters}
-use Rattle.mb_deciding.proofs.Acts.{has_turns}
-use Rattle.mb_claim.proofs.Unique.{AreDeciding}
+use Rattle.mb_quorum.specs.Vocabulary.{QuorumTable, IsMember}
+use Rattle.mb_deciding.specs.Vocabulary.{object_of, part, acts, Has, IsObjectLawful, HasOutput, IsAnnounced}
+use Rattle.mb_claim.specs.{Access, Store, Kind, Quorum, Ratifier, Undecided, Enters}
+use Rattle.mb_claim.proofs.KindLaws.{OfKind, AreDeciding, AreRatifying}
+use Rattle.mb_claim.proofs.Turns.{has_turns}
 use Rattle.mb_claim.proofs.Family.{Family, step, acted, lawful_here, next, passed}
 
 -- a process that has come to object n with input u, and has stored in a register of u's write quorum
@@ -22,7 +15,7 @@ pub record Shown (t : QuorumTable) (hs : ℕ → List Access) (E : ℕ → ℕ �
   pub register : ℕ
   pub enters : E process n u
   pub member : IsMember (t.write u) register
-  pub stored : Has (acts (turns_of process (hs n))) (Store (Quorum register) 1)
+  pub stored : Has (acts (part process (hs n))) (Store (Quorum register) 1)
 
 -- two processes that have shown two values
 pub record Contest (t : QuorumTable) (hs : ℕ → List Access) (E : ℕ → ℕ → ℕ → Type 0) (n : ℕ) : Type 0 where
@@ -35,28 +28,28 @@ pub record Contest (t : QuorumTable) (hs : ℕ → List Access) (E : ℕ → ℕ
 
 module _
     (t : QuorumTable) (k : Kind) (ks : List Kind) (o : ℕ) (hs : ℕ → List Access) (P : ℕ → Type 0)
-    (fam : Family t (k ∷ ks) o hs P) (law : AreDeciding t) (ratifying : IsRatifying t)
+    (fam : Family t (k ∷ ks) o hs P) (law : AreDeciding t) (ratifying : AreRatifying t)
     (E : ℕ → ℕ → ℕ → Type 0) (enter : (c n w : ℕ) → fam.rest c ≢ []
     → Enters t (k ∷ ks) o (fam.input c) (fam.rest c) n w → E c n w) where
   -- a value that was announced was shown
-  abbrev shown : (u : ℕ) → IsAnnounced t fam.input (hs o) u → Shown t hs E o u
+  abbrev shown : (u : ℕ) → IsAnnounced (object_of t Ratifier fam.input) u (hs o) → Shown t hs E o u
   shown u a =
       record {
         process = a.0;
         register = a.1;
-        enters = enter a.0 o u (acted t k ks o hs P fam a.0 (has_turns (turns_of a.0 (hs o)) (Store (Quorum a.1) 1) a.4))
+        enters = enter a.0 o u (acted t k ks o hs P fam a.0 (has_turns (part a.0 (hs o)) (Store (Quorum a.1) 1) a.4))
             (inl (refl, sym a.2));
         member = a.3;
         stored = a.4;
       }
 
   -- an undecided output of a ratifier here shows two values
-  contest_here : k ≡ Ratifier → (c u : ℕ) → HasOutput t k fam.input (hs o) c false u → Contest t hs E o
+  contest_here : k ≡ Ratifier → (c u : ℕ) → HasOutput (object_of t k fam.input) c false u (hs o) → Contest t hs E o
   contest_here e c u out =
       let found =
-      ratifying.contested fam.input (hs o)
-      (subst (λ j. IsObjectLawful t j fam.input (hs o)) e (lawful_here t k ks o hs P fam)) c u
-      (subst (λ j. HasOutput t j fam.input (hs o) c false u) e out) in
+      (ratifying fam.input).contested (hs o)
+      (subst (λ j. IsObjectLawful (object_of t j fam.input) (hs o)) e (lawful_here t k ks o hs P fam)) c u
+      (subst (λ j. HasOutput (object_of t j fam.input) c false u (hs o)) e out) in
       let other = found.1 in
       record {
         first = u;
@@ -69,7 +62,7 @@ module _
 
   -- who comes to a later object has come here
   pub enter_next :
-      (law' : IsDeciding t k) (c n w : ℕ) → (next t k ks o hs P fam law').rest c ≢ []
+      (law' : OfKind t k) (c n w : ℕ) → (next t k ks o hs P fam law').rest c ≢ []
       → Enters t ks (suc o) ((next t k ks o hs P fam law').input c) ((next t k ks o hs P fam law').rest c) n w
       → E c n w
   enter_next law' c n w ne q =
@@ -77,7 +70,7 @@ module _
 
 -- where a claim is undecided, each ratifier from object o on has seen two values
 pub contention :
-    (t : QuorumTable) (hs : ℕ → List Access) → AreDeciding t → IsRatifying t
+    (t : QuorumTable) (hs : ℕ → List Access) → AreDeciding t → AreRatifying t
     → (E : ℕ → ℕ → ℕ → Type 0) (ks : List Kind) (o : ℕ) (P : ℕ → Type 0) (fam : Family t ks o hs P)
     → ((c n w : ℕ) → fam.rest c ≢ [] → Enters t ks o (fam.input c) (fam.rest c) n w → E c n w)
     → (c n : ℕ) → fam.stage c ≡ Undecided → slice_get ks n ≡ Some Ratifier → Contest t hs E (o + n)

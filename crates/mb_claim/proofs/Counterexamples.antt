@@ -1,33 +1,22 @@
 -- The examples that are not lawful.
-use Rattle.std.proofs.Common.{◌≡◌, ◌<◌, ◌+◌, ◌⊎◌, ℕ, suc, Bool, true, false, List, [], ◌∷◌, ◌++◌, refl, sym, ◌∙◌, ap, subst₂, inl, inr, ⊎_elim, append_assoc, arith}
+use Rattle.std.proofs.Common.{◌≡◌, ◌<◌, ◌+◌, ◌⊎◌, ℕ, suc, Bool, true, false, List, [], ◌∷◌, ◌++◌, refl, sym, ◌∙◌, ap}
+use Rattle.std.proofs.Common.{subst₂, inl, inr, ⊎_elim, append_assoc, arith}
 use Rattle.std.proofs.lemmas.List.{same_from_push}
-use Rattle.mb_quorum.specs.Quorum.{QuorumTable}
+use Rattle.mb_quorum.specs.Vocabulary.{QuorumTable}
 use Rattle.mb_quorum.specs.Unary.{unary_table}
-use Rattle.mb_deciding.specs.declared.access.Act.{Act}
-use Rattle.mb_deciding.specs.declared.access.Turn.{Turn}
-use Rattle.mb_deciding.specs.declared.object.Kind.{Kind}
-use Rattle.mb_deciding.specs.declared.access.Reg.TheVariants.{Value, Proposal, Quorum}
-use Rattle.mb_deciding.specs.declared.access.Act.TheVariants.{Load, Store}
-use Rattle.mb_deciding.specs.declared.object.Out.{Out}
-use Rattle.mb_deciding.specs.declared.object.Kind.TheVariants.{Conciliator, Ratifier}
-use Rattle.mb_deciding.specs.History.{acts}
-use Rattle.mb_deciding.specs.Objects.{answer, IsPath, IsPrefix}
-use Rattle.mb_deciding.specs.Deciding.{IsDeciding}
-use Rattle.mb_deciding.specs.Ratifier.{IsRatifierPath, Prefers, ReadsClear, ReadsOne, zeros_below}
-use Rattle.mb_claim.specs.declared.access.ObjectTurn.{ObjectTurn}
-use Rattle.mb_claim.specs.declared.access.Stage.{Stage}
-use Rattle.mb_claim.specs.History.{part}
-use Rattle.mb_claim.specs.Paths.{tagged, Passes, IsClaimPrefixFrom}
-use Rattle.mb_claim.specs.Claiming.{IsLawful}
-use Rattle.mb_claim.specs.Layouts.{pairs_of}
-use Rattle.mb_claim.specs.Examples.{won_and_lost, begun_again, after_winning, own_number_again, of_a_stranger}
-use Rattle.mb_deciding.proofs.Acts.{acts-append}
-use Rattle.mb_deciding.proofs.Histories.{not_empty}
+use Rattle.mb_deciding.specs.Vocabulary.{acts, answer, IsPath, IsPrefix, IsRatifierPath, Prefers, ReadsClear, ReadsOne}
+use Rattle.mb_deciding.specs.Vocabulary.{zeros_below}
+use Rattle.mb_claim.specs.{Act, Turn, Kind, Value, Proposal, Quorum, Load, Store, Out, Conciliator, Ratifier}
+use Rattle.mb_claim.specs.{ObjectTurn, Stage, part_on, turns_on, Passes, IsClaimPrefixFrom, IsClaimLawful}
+use Rattle.mb_claim.specs.{two_consumers, won_and_lost, begun_again, after_winning, own_number_again, of_a_stranger}
+use Rattle.mb_claim.proofs.KindLaws.{OfKind}
+use Rattle.mb_claim.proofs.Turns.{acts-append}
+use Rattle.mb_claim.proofs.Lists.{not_empty}
 use Rattle.mb_claim.proofs.ObjectHistories.{turns_at}
 use Rattle.mb_claim.proofs.Parts.{Member, forward}
 use Rattle.mb_claim.proofs.Unique.{used_once}
 use Rattle.mb_claim.proofs.PassedObjects.{forward_passes}
-use Rattle.mb_claim.proofs.Examples.{conciliated, ratified}
+use Rattle.mb_claim.proofs.LawfulExamples.{conciliated, ratified}
 
 -- ---- begun again
 -- the first three turns of that history, which are a whole path
@@ -37,9 +26,9 @@ first_turns =
     ∷ record { act = Load Value 0; word = 0 } ∷ []
 
 -- behind a whole path of object 0 there would be a turn
-pub not_again : IsDeciding (unary_table 2) (Conciliator 2) → IsLawful (unary_table 2) (pairs_of 2 1) 1 begun_again → ⊥
+pub not_again : OfKind (unary_table 2) (Conciliator 2) → IsClaimLawful two_consumers begun_again → ⊥
 not_again law bad =
-    let xs : List ObjectTurn = part 0 0 begun_again in
+    let xs : List ObjectTurn = part_on 0 0 begun_again in
     let again : Turn = record { act = Load Value 1; word = 0 } in
     let mine = bad.parts 0 0 (λ none. not_empty _ _ none) in
     let here = (forward (unary_table 2) 0 (Conciliator 2) (Ratifier ∷ []) 0 0 xs mine.2.0 (inr mine.2.1)).here in
@@ -51,7 +40,7 @@ not_again law bad =
 -- where a part has passed its first object, its turns on the second are a prefix of a path there
 second_here :
     (t : QuorumTable) (c : ℕ) (k j : Kind) (ks : List Kind) (o v : ℕ) (xs : List ObjectTurn) (s : Stage)
-    → IsDeciding t k → v < t.values
+    → OfKind t k → v < t.values
     → IsClaimPrefixFrom t c (k ∷ j ∷ ks) o v xs s → (u : ℕ) (later : List ObjectTurn) → Passes t k o v xs u later
     → turns_at o later ≡ []
     → (turns_at (suc o) later ≡ []) ⊎ IsPrefix t j u (turns_at (suc o) later)
@@ -64,18 +53,18 @@ second_here t c k j ks o v xs s law l p u later x none =
 
 -- consumer 0 goes on after it has won: behind a whole path of object 1 there would be a turn
 pub not_after_winning :
-    IsDeciding (unary_table 2) (Conciliator 2) → IsDeciding (unary_table 2) Ratifier
-    → IsLawful (unary_table 2) (pairs_of 2 1) 1 after_winning → ⊥
+    OfKind (unary_table 2) (Conciliator 2) → OfKind (unary_table 2) Ratifier
+    → IsClaimLawful two_consumers after_winning → ⊥
 not_after_winning law ratifier bad =
-    let xs : List ObjectTurn = part 0 0 after_winning in
-    let later : List ObjectTurn = tagged 1 (turns_at 1 xs) in
+    let xs : List ObjectTurn = part_on 0 0 after_winning in
+    let later : List ObjectTurn = turns_on 1 (turns_at 1 xs) in
     let again : Turn = record { act = Load (Quorum 1) 0; word = 0 } in
     let mine = bad.parts 0 0 (λ none. not_empty _ _ none) in
     let here =
     second_here (unary_table 2) 0 (Conciliator 2) Ratifier [] 0 0 xs mine.2.0 law (omega arith) mine.2.1 0 later
     (record { turns = turns_at 0 xs; all = refl; path = conciliated }) refl in
     not_empty again []
-    (used_once (unary_table 2) Ratifier ratifier 0 (again ∷ []) (turns_at 1 (part 0 0 won_and_lost))
+    (used_once (unary_table 2) Ratifier ratifier 0 (again ∷ []) (turns_at 1 (part_on 0 0 won_and_lost))
     (turns_at 1 later) (answer true 0) ratified refl here)
 
 -- ---- the own number as next input
@@ -133,17 +122,17 @@ no_path_behind turns out path =
 
 -- consumer 1 announces its own number in object 1, to which it came with 0
 pub not_own_number :
-    IsDeciding (unary_table 2) (Conciliator 2) → IsLawful (unary_table 2) (pairs_of 2 1) 1 own_number_again → ⊥
+    OfKind (unary_table 2) (Conciliator 2) → IsClaimLawful two_consumers own_number_again → ⊥
 not_own_number law bad =
-    let xs : List ObjectTurn = part 1 0 own_number_again in
-    let later : List ObjectTurn = tagged 1 (turns_at 1 xs) in
+    let xs : List ObjectTurn = part_on 1 0 own_number_again in
+    let later : List ObjectTurn = turns_on 1 (turns_at 1 xs) in
     let mine = bad.parts 1 0 (λ none. not_empty _ _ none) in
     let here =
     second_here (unary_table 2) 1 (Conciliator 2) Ratifier [] 0 1 xs mine.2.0 law (omega arith) mine.2.1 0 later
     (record { turns = turns_at 0 xs; all = refl; path = (refl, (refl, (0, (omega arith), inl tt))) }) refl in
-    ⊎_elim (λ none. not_empty stored [] none) (λ part. no_path_behind part.0 part.1 part.2) here
+    ⊎_elim (λ none. not_empty stored [] none) (λ begun. no_path_behind begun.0 begun.1 begun.2) here
 
 -- ---- a stranger
 -- there are two consumers, and this is the third
-pub no_stranger : IsLawful (unary_table 2) (pairs_of 2 1) 1 of_a_stranger → ⊥
+pub no_stranger : IsClaimLawful two_consumers of_a_stranger → ⊥
 no_stranger bad = let two : 2 < 2 = (bad.parts 2 0 (λ none. not_empty _ _ none)).0 in omega (arith, two)

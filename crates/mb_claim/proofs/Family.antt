@@ -1,17 +1,13 @@
 -- All consumers of one cell together, from one object on.
-use Rattle.std.proofs.Common.{◌≡◌, ◌≢◌, ◌<◌, ◌≤◌, ◌⊎◌, ℕ, suc, Bool, true, false, cond, eqb, List, [], ◌∷◌, refl, sym, ◌∙◌, ap, subst, inl, inr, arith}
+use Rattle.std.proofs.Common.{◌≡◌, ◌≢◌, ◌<◌, ◌≤◌, ◌⊎◌, ℕ, suc, Bool, true, false, cond, eqb, List, [], ◌∷◌, refl, sym}
+use Rattle.std.proofs.Common.{◌∙◌, ap, subst, inl, inr, arith}
 use Rattle.std.proofs.lemmas.Bool.{eqb-true}
-use Rattle.mb_quorum.specs.Quorum.{QuorumTable}
-use Rattle.mb_deciding.specs.declared.access.Access.{Access}
-use Rattle.mb_deciding.specs.declared.object.Kind.{Kind}
-use Rattle.mb_deciding.specs.History.{IsMemoryTrue as IsObjectMemoryTrue, turns_of, AreInWords as AreObjectInWords}
-use Rattle.mb_deciding.specs.Objects.{answer, IsPath, IsPrefix, IsObjectLawful, HasOutput}
-use Rattle.mb_deciding.specs.Deciding.{IsDeciding}
-use Rattle.mb_claim.specs.declared.access.ObjectTurn.{ObjectTurn}
-use Rattle.mb_claim.specs.declared.access.Stage.{Stage}
-use Rattle.mb_claim.specs.declared.access.Stage.TheVariants.{Going, Won, Lost, Undecided}
-use Rattle.mb_claim.specs.Paths.{stage_for}
-use Rattle.mb_claim.specs.Winner.{Names}
+use Rattle.mb_quorum.specs.Vocabulary.{QuorumTable}
+use Rattle.mb_deciding.specs.Vocabulary.{object_of, IsMemoryTrue as IsObjectMemoryTrue, part}
+use Rattle.mb_deciding.specs.Vocabulary.{AreInWords as AreObjectInWords, answer, IsPath, IsPrefix, IsObjectLawful}
+use Rattle.mb_deciding.specs.Vocabulary.{HasOutput}
+use Rattle.mb_claim.specs.{Access, Kind, ObjectTurn, Stage, Going, Won, Lost, Undecided, stage_for, Names}
+use Rattle.mb_claim.proofs.KindLaws.{OfKind}
 use Rattle.mb_claim.proofs.ObjectHistories.{turns_at}
 use Rattle.mb_claim.proofs.Parts.{Member, Forward, Ends, forward}
 
@@ -24,7 +20,7 @@ pub record Family (t : QuorumTable) (ks : List Kind) (o : ℕ) (hs : ℕ → Lis
   pub stage : ℕ → Stage
   pub member : (c : ℕ) → Member t c ks o (input c) (rest c) (stage c)
   pub holds : (c : ℕ) → rest c ≢ [] → (input c < t.values) × P (input c)
-  pub turns : (c n : ℕ) → o ≤ n → turns_of c (hs n) ≡ turns_at n (rest c)
+  pub turns : (c n : ℕ) → o ≤ n → part c (hs n) ≡ turns_at n (rest c)
   pub memory : (n : ℕ) → IsObjectMemoryTrue (hs n)
   pub words : (n : ℕ) → AreObjectInWords (hs n)
 
@@ -49,42 +45,42 @@ module _ (t : QuorumTable) (k : Kind) (ks : List Kind) (o : ℕ) (hs : ℕ → L
   step c = forward t c k ks o (fam.input c) (fam.rest c) (fam.stage c) (fam.member c)
 
   -- the turns of a consumer here
-  pub here : (c : ℕ) → turns_of c (hs o) ≡ turns_at o (fam.rest c)
+  pub here : (c : ℕ) → part c (hs o) ≡ turns_at o (fam.rest c)
   here c = fam.turns c o (omega arith)
 
   -- who has a turn here has come so far
-  pub acted : (c : ℕ) → turns_of c (hs o) ≢ [] → fam.rest c ≢ []
+  pub acted : (c : ℕ) → part c (hs o) ≢ [] → fam.rest c ≢ []
   acted c ne e = ne (here c ∙ ap (turns_at o) e)
 
   -- its turns are a prefix of a path of its input
   part_here :
-      (c : ℕ) → turns_of c (hs o) ≢ []
+      (c : ℕ) → part c (hs o) ≢ []
       → (turns_at o (fam.rest c) ≡ []) ⊎ IsPrefix t k (fam.input c) (turns_at o (fam.rest c))
-      → (fam.input c < t.values) × IsPrefix t k (fam.input c) (turns_of c (hs o))
+      → (fam.input c < t.values) × IsPrefix t k (fam.input c) (part c (hs o))
   part_here c ne (inl e) = absurd (ne (here c ∙ e))
   part_here c ne (inr p) = ((fam.holds c (acted c ne)).0, subst (λ ts. IsPrefix t k (fam.input c) ts) (sym (here c)) p)
 
   -- the history of this object is lawful
-  pub lawful_here : IsObjectLawful t k fam.input (hs o)
+  pub lawful_here : IsObjectLawful (object_of t k fam.input) (hs o)
   lawful_here = record { memory = fam.memory o; words = fam.words o; parts = λ c ne. part_here c ne (step c).here }
 
   -- a whole path of a consumer here is its output
   pub output :
       (c : ℕ) (d : Bool) (u : ℕ) → IsPath t k (fam.input c) (turns_at o (fam.rest c)) (answer d u)
-      → HasOutput t k fam.input (hs o) c d u
+      → HasOutput (object_of t k fam.input) c d u (hs o)
   output c d u p = subst (λ ts. IsPath t k (fam.input c) ts (answer d u)) (sym (here c)) p
 
   -- what holds of each input holds of each output
   pub output_holds :
-      IsDeciding t k → (c : ℕ) (d : Bool) (u : ℕ) → HasOutput t k fam.input (hs o) c d u → (u < t.values) × P u
+      OfKind t k → (c : ℕ) (d : Bool) (u : ℕ) → HasOutput (object_of t k fam.input) c d u (hs o) → (u < t.values) × P u
   output_holds law c d u out =
-      let from = law.validity fam.input (hs o) lawful_here c d u out in
+      let from = (law fam.input).validity (hs o) lawful_here c d u out in
       let at : (fam.input from.0 < t.values) × P (fam.input from.0) = fam.holds from.0 (acted from.0 from.1) in
       subst (λ n. (n < t.values) × P n) from.2 at
 
   -- the consumers at the next object
   abbrev pub next_with :
-      (Q : ℕ → Type 0) → ((c u : ℕ) → HasOutput t k fam.input (hs o) c false u → (u < t.values) × Q u)
+      (Q : ℕ → Type 0) → ((c u : ℕ) → HasOutput (object_of t k fam.input) c false u (hs o) → (u < t.values) × Q u)
       → Family t ks (suc o) hs Q
   next_with Q holds =
       record {
@@ -99,21 +95,21 @@ module _ (t : QuorumTable) (k : Kind) (ks : List Kind) (o : ℕ) (hs : ℕ → L
       }
 
   -- the same, with what held of the inputs
-  abbrev pub next : IsDeciding t k → Family t ks (suc o) hs P
+  abbrev pub next : OfKind t k → Family t ks (suc o) hs P
   next law = next_with P (λ c u out. output_holds law c false u out)
 
   -- the consumers at the next object, where u was decided here
   abbrev pub next_decided :
-      IsDeciding t k → (c u : ℕ) → HasOutput t k fam.input (hs o) c true u → Family t ks (suc o) hs (λ a. a ≡ u)
+      OfKind t k → (c u : ℕ) → HasOutput (object_of t k fam.input) c true u (hs o) → Family t ks (suc o) hs (λ a. a ≡ u)
   next_decided law c u p =
       next_with (λ a. a ≡ u) (λ b a out.
-      ((output_holds law b false a out).0, law.coherence fam.input (hs o) lawful_here c b false u a p out))
+      ((output_holds law b false a out).0, (law fam.input).coherence (hs o) lawful_here c b false u a p out))
 
   -- a stage that names u: u was decided here, or behind this object
   abbrev pub Ended : ℕ → ℕ → Type 0
   Ended c u =
-      HasOutput t k fam.input (hs o) c true u
-      ⊎ (HasOutput t k fam.input (hs o) c false (step c).value × Names c (step c).stage u)
+      HasOutput (object_of t k fam.input) c true u (hs o)
+      ⊎ (HasOutput (object_of t k fam.input) c false (step c).value (hs o) × Names c (step c).stage u)
 
   -- the same, by how the part ends
   ended_by :
@@ -121,7 +117,7 @@ module _ (t : QuorumTable) (k : Kind) (ks : List Kind) (o : ℕ) (hs : ℕ → L
       → Ends t c k o (fam.input c) (fam.rest c) (fam.stage c) (step c).value (step c).stage → Ended c u
   ended_by c u n (inl g) = absurd (subst (λ r. Names c r u) g n)
   ended_by c u n (inr (inl (a, path, e))) =
-      inl (subst (λ w. HasOutput t k fam.input (hs o) c true w) (sym (names_stage c a u (fam.stage c) e n))
+      inl (subst (λ w. HasOutput (object_of t k fam.input) c true w (hs o)) (sym (names_stage c a u (fam.stage c) e n))
       (output c true a path))
   ended_by c u n (inr (inr x)) = inr (output c false (step c).value x.0, subst (λ r. Names c r u) (sym x.1) n)
 
@@ -133,7 +129,7 @@ module _ (t : QuorumTable) (k : Kind) (ks : List Kind) (o : ℕ) (hs : ℕ → L
   passed_by :
       (c : ℕ) → fam.stage c ≡ Undecided
       → Ends t c k o (fam.input c) (fam.rest c) (fam.stage c) (step c).value (step c).stage
-      → HasOutput t k fam.input (hs o) c false (step c).value × ((step c).stage ≡ Undecided)
+      → HasOutput (object_of t k fam.input) c false (step c).value (hs o) × ((step c).stage ≡ Undecided)
   passed_by c e (inl g) = let h : Undecided ≡ Going = sym e ∙ g in cc
   passed_by c e (inr (inl (a, path, g))) = absurd (decided_undecided c a (eqb c a) (sym e ∙ g))
   passed_by c e (inr (inr x)) = (output c false (step c).value x.0, x.1 ∙ e)
@@ -141,7 +137,7 @@ module _ (t : QuorumTable) (k : Kind) (ks : List Kind) (o : ℕ) (hs : ℕ → L
   -- an undecided claim has passed this object undecided
   pub passed :
       (c : ℕ) → fam.stage c ≡ Undecided
-      → HasOutput t k fam.input (hs o) c false (step c).value × ((step c).stage ≡ Undecided)
+      → HasOutput (object_of t k fam.input) c false (step c).value (hs o) × ((step c).stage ≡ Undecided)
   passed c e = passed_by c e (step c).ends
 
 -- where no object is left, no winner is named

@@ -1,33 +1,24 @@
 -- Two leading ratifiers: where the first has decided, nobody comes behind the second.
 use Rattle.std.proofs.lemmas.Bool.{cases_eq}
 use Rattle.std.proofs.lemmas.List.Elements.{filter_map-append}
-use Rattle.std.proofs.Common.{subst, inl, inr, ◌++◌, ◌≡◌, ◌≢◌, ◌≤◌, ℕ, true, false, List, [], ◌∷◌, sym, ◌∙◌, ap, ⊎_elim, true≢false}
-use Rattle.mb_quorum.specs.Quorum.{QuorumTable}
-use Rattle.mb_deciding.specs.declared.access.Turn.{Turn}
-use Rattle.mb_deciding.specs.declared.access.Access.{Access}
-use Rattle.mb_deciding.specs.declared.object.Kind.{Kind}
-use Rattle.mb_deciding.specs.declared.object.Kind.TheVariants.{Ratifier}
-use Rattle.mb_deciding.specs.History.{turn_by, turns_of}
-use Rattle.mb_deciding.specs.Objects.{answer, IsPath}
-use Rattle.mb_deciding.specs.Deciding.{IsRatifying}
-use Rattle.mb_claim.specs.declared.access.ClaimAccess.{ClaimAccess}
-use Rattle.mb_claim.specs.declared.access.Stage.{Stage}
-use Rattle.mb_claim.specs.declared.access.Stage.TheVariants.{Going}
-use Rattle.mb_claim.specs.History.{part, access_on, object_history}
-use Rattle.mb_claim.specs.Paths.{IsClaimPrefixFrom}
-use Rattle.mb_claim.specs.Claiming.{IsLawful}
-use Rattle.mb_deciding.proofs.Histories.{nil_or}
-use Rattle.mb_claim.proofs.ObjectHistories.{turns_at, turns_of-object_history}
-use Rattle.mb_claim.proofs.Unique.{AreDeciding, only, used_once}
+use Rattle.std.proofs.Common.{subst, inl, inr, ◌++◌, ◌≡◌, ◌≢◌, ◌≤◌, ℕ, true, false, List, [], ◌∷◌, sym, ◌∙◌, ap, ⊎_elim}
+use Rattle.std.proofs.Common.{true≢false}
+use Rattle.mb_quorum.specs.Vocabulary.{QuorumTable}
+use Rattle.mb_deciding.specs.Vocabulary.{turn_by, part, answer, IsPath}
+use Rattle.mb_claim.specs.{claims_of, Turn, Access, Kind, Ratifier, ClaimAccess, Stage, Going, part_on, access_on}
+use Rattle.mb_claim.specs.{object_history, IsClaimPrefixFrom, IsClaimLawful}
+use Rattle.mb_claim.proofs.KindLaws.{AreDeciding, AreRatifying}
+use Rattle.mb_claim.proofs.Lists.{nil_or, append_nil_left}
+use Rattle.mb_claim.proofs.ObjectHistories.{turns_at, part-object_history}
+use Rattle.mb_claim.proofs.Unique.{only, used_once}
 use Rattle.mb_claim.proofs.Parts.{passed_turns}
-use Rattle.mb_claim.proofs.Earlier.{earlier_lawful}
+use Rattle.mb_claim.proofs.OlderHistories.{older_history_lawful}
 use Rattle.mb_claim.proofs.Family.{Family, step, acted, output, lawful_here, next, next_decided}
 use Rattle.mb_claim.proofs.CellFamily.{competes, family}
-use Rattle.mb_claim.proofs.Lists.{append_nil_left}
 
-module _ (t : QuorumTable) (ks : List Kind) (hs : ℕ → List Access) (law : AreDeciding t) (ratifying : IsRatifying t)
+module _ (t : QuorumTable) (ks : List Kind) (hs : ℕ → List Access) (law : AreDeciding t) (ratifying : AreRatifying t)
     (P : ℕ → Type 0) (fam : Family t (Ratifier ∷ Ratifier ∷ ks) 0 hs P) (c u : ℕ)
-    (p : IsPath t Ratifier (fam.input c) (turns_of c (hs 0)) (answer true u)) where
+    (p : IsPath t Ratifier (fam.input c) (part c (hs 0)) (answer true u)) where
   -- all who come to the second ratifier come with u
   abbrev second : Family t (Ratifier ∷ ks) 1 hs (λ a. a ≡ u)
   second = next_decided t Ratifier (Ratifier ∷ ks) 0 hs P fam (law Ratifier) c u p
@@ -43,27 +34,28 @@ module _ (t : QuorumTable) (ks : List Kind) (hs : ℕ → List Access) (law : Ar
       let out = output t Ratifier ks 1 hs (λ a. a ≡ u) second d false f.value (f.came ne).path in
       true≢false
       (sym
-      (ratifying.acceptance second.input (hs 1) (lawful_here t Ratifier ks 1 hs (λ a. a ≡ u) second) u
+      ((ratifying second.input).acceptance (hs 1) (lawful_here t Ratifier ks 1 hs (λ a. a ≡ u) second) u
       (λ q m. (second.holds q (acted t Ratifier ks 1 hs (λ a. a ≡ u) second q m)).1) d false f.value out).0)
 
   -- so no later object has a turn
-  pub none_behind : (d o : ℕ) → 2 ≤ o → turns_of d (hs o) ≡ []
+  pub none_behind : (d o : ℕ) → 2 ≤ o → part d (hs o) ≡ []
   none_behind d o l =
       third.turns d o l ∙ ap (turns_at o) (⊎_elim (λ e. e) (λ ne. absurd (nobody d ne)) (nil_or (third.rest d)))
 
 -- the same of a lawful history of claims
 pub fast_path_lem :
-    (t : QuorumTable) → AreDeciding t → IsRatifying t
-    → (ks : List Kind) (cells : ℕ) (h : List ClaimAccess) (k c u : ℕ) → IsLawful t (Ratifier ∷ Ratifier ∷ ks) cells h
-    → IsPath t Ratifier c (turns_of c (object_history k 0 h)) (answer true u) → (d o : ℕ) → 2 ≤ o
-    → turns_of d (object_history k o h) ≡ []
+    (t : QuorumTable) → AreDeciding t → AreRatifying t
+    → (ks : List Kind) (cells : ℕ) (h : List ClaimAccess) (k c u : ℕ)
+    → IsClaimLawful (claims_of t (Ratifier ∷ Ratifier ∷ ks) cells) h
+    → IsPath t Ratifier c (part c (object_history k 0 h)) (answer true u) → (d o : ℕ) → 2 ≤ o
+    → part d (object_history k o h) ≡ []
 fast_path_lem t law ratifying ks cells h k c u lawful p =
     none_behind t ks (λ n. object_history k n h) law ratifying
-    (competes t (Ratifier ∷ Ratifier ∷ ks) cells h k law lawful)
-    (family t (Ratifier ∷ Ratifier ∷ ks) cells h k law lawful) c u p
+    (competes (claims_of t (Ratifier ∷ Ratifier ∷ ks) cells) h k law lawful)
+    (family (claims_of t (Ratifier ∷ Ratifier ∷ ks) cells) h k law lawful) c u p
 
 -- ---- a consumer that was alone
-module _ (t : QuorumTable) (law : AreDeciding t) (ratifying : IsRatifying t) (ks : List Kind) (cells : ℕ)
+module _ (t : QuorumTable) (law : AreDeciding t) (ratifying : AreRatifying t) (ks : List Kind) (cells : ℕ)
     (k c : ℕ) where
   -- a layout that begins with two ratifiers
   abbrev kinds : List Kind
@@ -71,62 +63,66 @@ module _ (t : QuorumTable) (law : AreDeciding t) (ratifying : IsRatifying t) (ks
 
   -- what consumer c did on the first object
   abbrev firsts : List ClaimAccess → List Turn
-  firsts h = turns_of c (object_history k 0 h)
+  firsts h = part c (object_history k 0 h)
 
   -- where only consumer c has come, the first ratifier does not leave it undecided
   not_passed :
-      (h : List ClaimAccess) → IsLawful t kinds cells h → ((d : ℕ) → d ≢ c → part d k h ≡ []) → (u : ℕ)
+      (h : List ClaimAccess) → IsClaimLawful (claims_of t kinds cells) h → ((d : ℕ) → d ≢ c → part_on d k h ≡ [])
+      → (u : ℕ)
       → IsPath t Ratifier c (firsts h) (answer false u) → ⊥
   not_passed h lawful alone u path =
       let hs : ℕ → List Access = λ o. object_history k o h in
       let here =
-      lawful_here t Ratifier (Ratifier ∷ ks) 0 hs (competes t kinds cells h k law lawful)
-      (family t kinds cells h k law lawful) in
-      let mine : (q : ℕ) → turns_of q (hs 0) ≢ [] → q ≡ c =
+      lawful_here t Ratifier (Ratifier ∷ ks) 0 hs (competes (claims_of t kinds cells) h k law lawful)
+      (family (claims_of t kinds cells) h k law lawful) in
+      let mine : (q : ℕ) → part q (hs 0) ≢ [] → q ≡ c =
       λ q some. ⊎_elim (λ e. e) (λ ne. absurd
-      (some (turns_of-object_history q k 0 h ∙ ap (turns_at 0) (alone q ne)))) (cases_eq q c) in
-      true≢false (sym (ratifying.acceptance (λ q. q) (hs 0) here c mine c false u path).0)
+      (some (part-object_history q k 0 h ∙ ap (turns_at 0) (alone q ne)))) (cases_eq q c) in
+      true≢false (sym ((ratifying (λ q. q)).acceptance (hs 0) here c mine c false u path).0)
 
   -- so it has decided
   decided_by :
-      (h : List ClaimAccess) → IsLawful t kinds cells h → ((d : ℕ) → d ≢ c → part d k h ≡ []) → (s : Stage)
-      → IsClaimPrefixFrom t c kinds 0 c (part c k h) s → s ≢ Going → (u : ℕ) × IsPath t Ratifier c (firsts h) (answer true u)
+      (h : List ClaimAccess) → IsClaimLawful (claims_of t kinds cells) h → ((d : ℕ) → d ≢ c → part_on d k h ≡ [])
+      → (s : Stage)
+      → IsClaimPrefixFrom t c kinds 0 c (part_on c k h) s → s ≢ Going → (u : ℕ)
+      × IsPath t Ratifier c (firsts h) (answer true u)
   decided_by h lawful alone s (inl x) ended = absurd (ended x.is)
   decided_by h lawful alone s (inr (inl x)) ended =
       let P : List Turn → Type 0 = λ ts. IsPath t Ratifier c ts (answer true x.value) in
-      (x.value, subst P (only t Ratifier 0 c (part c k h) x.turns x.all ∙ sym (turns_of-object_history c k 0 h)) x.path)
+      (x.value, subst P (only t Ratifier 0 c (part_on c k h) x.turns x.all ∙ sym (part-object_history c k 0 h)) x.path)
   decided_by h lawful alone s (inr (inr (u, rest, x, p))) ended =
       let P : List Turn → Type 0 = λ ts. IsPath t Ratifier c ts (answer false u) in
       absurd (not_passed h lawful alone u
-      (subst P (passed_turns t c Ratifier (Ratifier ∷ ks) 0 c (part c k h) s u rest x p
-      ∙ sym (turns_of-object_history c k 0 h)) x.path))
+      (subst P (passed_turns t c Ratifier (Ratifier ∷ ks) 0 c (part_on c k h) s u rest x p
+      ∙ sym (part-object_history c k 0 h)) x.path))
 
   -- later accesses leave its turns on the first object as they are
   firsts_stay :
-      (later h : List ClaimAccess) → IsLawful t kinds cells (later ++ h) → (u : ℕ)
+      (later h : List ClaimAccess) → IsClaimLawful (claims_of t kinds cells) (later ++ h) → (u : ℕ)
       → IsPath t Ratifier c (firsts h) (answer true u)
       → firsts (later ++ h) ≡ firsts h
   firsts_stay later h lawful u path =
       let hs : ℕ → List Access = λ o. object_history k o (later ++ h) in
-      let fam = family t kinds cells (later ++ h) k law lawful in
+      let fam = family (claims_of t kinds cells) (later ++ h) k law lawful in
       let joined : firsts (later ++ h) ≡ firsts later ++ firsts h =
-      ap (turns_of c) (filter_map-append (access_on k 0) later h)
+      ap (part c) (filter_map-append (access_on k 0) later h)
       ∙ filter_map-append (turn_by c) (object_history k 0 later) (object_history k 0 h) in
-      let here = (step t Ratifier (Ratifier ∷ ks) 0 hs (competes t kinds cells (later ++ h) k law lawful) fam c).here in
+      let here = (step t Ratifier (Ratifier ∷ ks) 0 hs (competes (claims_of t kinds cells)
+      (later ++ h) k law lawful) fam c).here in
       let none : firsts later ≡ [] =
-      used_once t Ratifier (law Ratifier) c (firsts later) (firsts h) (turns_at 0 (part c k (later ++ h)))
+      used_once t Ratifier (law Ratifier) c (firsts later) (firsts h) (turns_at 0 (part_on c k (later ++ h)))
       (answer true u) path
-      (sym (turns_of-object_history c k 0 (later ++ h)) ∙ joined) here in
+      (sym (part-object_history c k 0 (later ++ h)) ∙ joined) here in
       joined ∙ append_nil_left (firsts later) (firsts h) none
 
   -- where consumer c has ended its claim before any other came, nobody comes behind the second ratifier
   pub none_behind_alone :
-      (later h : List ClaimAccess) (s : Stage) → IsLawful t kinds cells (later ++ h)
-      → ((d : ℕ) → d ≢ c → part d k h ≡ [])
-      → IsClaimPrefixFrom t c kinds 0 c (part c k h) s → s ≢ Going → (d o : ℕ) → 2 ≤ o
-      → turns_of d (object_history k o (later ++ h)) ≡ []
+      (later h : List ClaimAccess) (s : Stage) → IsClaimLawful (claims_of t kinds cells) (later ++ h)
+      → ((d : ℕ) → d ≢ c → part_on d k h ≡ [])
+      → IsClaimPrefixFrom t c kinds 0 c (part_on c k h) s → s ≢ Going → (d o : ℕ) → 2 ≤ o
+      → part d (object_history k o (later ++ h)) ≡ []
   none_behind_alone later h s lawful alone p ended =
-      let decided = decided_by h (earlier_lawful t kinds cells later h lawful) alone s p ended in
+      let decided = decided_by h (older_history_lawful (claims_of t kinds cells) later h lawful) alone s p ended in
       let P : List Turn → Type 0 = λ ts. IsPath t Ratifier c ts (answer true decided.0) in
       fast_path_lem t law ratifying ks cells (later ++ h) k c decided.0 lawful
       (subst P (sym (firsts_stay later h lawful decided.0 decided.1)) decided.1)

@@ -1,33 +1,20 @@
 -- A claim that has made no access.
-use Rattle.std.proofs.Common.{◌≡◌, ◌<◌, ◌≤◌, ℕ, zero, suc, Bool, true, false, List, [], ◌∷◌, ◌++◌, length, refl, sym, ◌∙◌, ap, subst, inl, arith}
-use Rattle.mb_quorum.specs.Quorum.{QuorumTable}
-use Rattle.mb_deciding.specs.declared.access.Op.{Op}
-use Rattle.mb_deciding.specs.declared.access.Op.TheVariants.{Load}
-use Rattle.mb_deciding.specs.declared.access.Reg.TheVariants.{Value}
-use Rattle.mb_deciding.specs.declared.access.Turn.{Turn}
-use Rattle.mb_deciding.specs.declared.conciliator_place.ConciliatorPlace.TheVariants.{Draw, Put, Look}
-use Rattle.mb_deciding.specs.declared.object.Kind.{Kind}
-use Rattle.mb_deciding.specs.declared.object.Kind.TheVariants.{Conciliator, Ratifier}
-use Rattle.mb_deciding.specs.declared.place.Pc.{Pc}
-use Rattle.mb_deciding.specs.declared.place.Pc.TheVariants.{InRatifier, InConciliator}
-use Rattle.mb_deciding.specs.Objects.{answer}
-use Rattle.mb_deciding.specs.Place.{IsAt, IsOpAt, CanFind}
-use Rattle.mb_deciding.specs.Spread.{spread}
-use Rattle.mb_claim.specs.declared.access.ObjectTurn.{ObjectTurn}
-use Rattle.mb_claim.specs.declared.access.Stage.TheVariants.{Going}
-use Rattle.mb_claim.specs.declared.claim.Claim.{Claim}
-use Rattle.mb_claim.specs.declared.layout.Layout.{Layout}
-use Rattle.mb_claim.specs.Layouts.{pairs_of, quorums_of, kinds_of}
-use Rattle.mb_claim.specs.Paths.{tagged, IsClaimPrefixFrom}
-use Rattle.mb_claim.specs.Standing.{PassesAll, StandsAt, IsClaimOf}
-use Rattle.mb_deciding.proofs.Histories.{not_empty}
-use Rattle.mb_claim.proofs.Lists.{append_nil_parts, append_nil_rest, heads}
-use Rattle.mb_claim.proofs.Unique.{AreDeciding, open_closed, one_stage_lem}
+use Rattle.std.proofs.Common.{◌≡◌, ◌<◌, ◌≤◌, ℕ, zero, suc, Bool, true, false, List, [], ◌∷◌, ◌++◌, length, refl, sym}
+use Rattle.std.proofs.Common.{◌∙◌, ap, subst, inl, arith}
+use Rattle.mb_quorum.specs.Vocabulary.{QuorumTable}
+use Rattle.mb_deciding.specs.declared.access.Op.TheVariants as to
+use Rattle.mb_deciding.specs.Vocabulary.{answer, IsAt, IsOpAt, CanFind, spread}
+use Rattle.mb_claim.specs.{Op, Value, Turn, Draw, Put, Look, Kind, Conciliator, Ratifier, Pc, InRatifier, InConciliator}
+use Rattle.mb_claim.specs.{ObjectTurn, Going, Claim, Layout, pairs_of, quorums_of, kinds_of, turns_on}
+use Rattle.mb_claim.specs.{IsClaimPrefixFrom, PassesAll, StandsAt, IsClaimOf}
+use Rattle.mb_claim.proofs.KindLaws.{AreDeciding}
+use Rattle.mb_claim.proofs.Lists.{not_empty, append_nil_parts, append_nil_rest, heads}
+use Rattle.mb_claim.proofs.Unique.{open_closed, one_stage_lem}
 
--- no turns tagged are no turns
-untagged : (o : ℕ) (turns : List Turn) → tagged o turns ≡ [] → turns ≡ []
-untagged o [] none = refl
-untagged o (x ∷ turns) none = absurd (not_empty _ _ none)
+-- no turns on an object are no turns
+no_turns_on : (o : ℕ) (turns : List Turn) → turns_on o turns ≡ [] → turns ≡ []
+no_turns_on o [] none = refl
+no_turns_on o (x ∷ turns) none = absurd (not_empty _ _ none)
 
 -- a layout has a first object, a conciliator
 first_object : (s n : ℕ) → 1 ≤ n → (rest : List Kind) × (pairs_of s n ≡ Conciliator s ∷ rest)
@@ -37,28 +24,33 @@ first_object s (suc n) some = (Ratifier ∷ pairs_of s n, refl)
 -- what the place of a process in a conciliator without turns does next, and what it may find
 first_load :
     (t : QuorumTable) (s v : ℕ) (pc : Pc) (op : Op) → IsAt t (Conciliator s) v pc [] → IsOpAt t pc op
-    → (op ≡ Load Value) × ((seen : ℕ) → CanFind t pc op seen → seen ≤ t.values)
+    → (op ≡ to.Load Value) × ((seen : ℕ) → CanFind t pc op seen → seen ≤ t.values)
 first_load t s v (InRatifier place) op at is = absurd at
-first_load t s v (InConciliator (Draw input limit modulus)) op at is = (is, λ seen can. can)
+first_load t s v (InConciliator (Draw input limit modulus)) op at is =
+    (is, λ seen can. subst (λ o. CanFind t (InConciliator (Draw input limit modulus)) o seen) is can)
 first_load t s v (InConciliator (Put input)) op at is = absurd at.1.1.2
 first_load t s v (InConciliator (Look input)) op at is = absurd at.1.1.2
 
 module _ (t : QuorumTable) (law : AreDeciding t) (c : ℕ) (known : c < t.values) where
   -- without turns no object is passed
-  none_passed : (before : List Kind) (front : List ObjectTurn) (w : ℕ) → front ≡ [] → PassesAll t before 0 c front w → before ≡ []
+  none_passed : (before : List Kind) (front : List ObjectTurn) (w : ℕ) → front ≡ [] → PassesAll t before 0 c front w
+      → before ≡ []
   none_passed [] front w none passed = refl
   none_passed (kind ∷ before) front w none (u, later, x, passed) =
-      let empty : x.turns ≡ [] = untagged 0 x.turns (append_nil_rest later (tagged 0 x.turns) (sym x.all ∙ none)) in
-      absurd (open_closed t kind (law kind) c [] x.turns (answer false u) (sym empty) ((law kind).opens c known) x.path)
+      let empty : x.turns ≡ [] = no_turns_on 0 x.turns (append_nil_rest later (turns_on 0 x.turns) (sym x.all
+      ∙ none)) in
+      absurd (open_closed t kind (law kind) c [] x.turns (answer false u) (sym empty) ((law kind
+      (λ p. p)).opens c known) x.path)
 
   -- so a claim stands on its first object, where it loads the conciliator's word
   stands_first :
-      (s object : ℕ) (rest : List Kind) (pc : Pc) (op : Op) → StandsAt t (Conciliator s ∷ rest) c object pc [] → IsOpAt t pc op
-      → (object ≡ 0) × (op ≡ Load Value) × ((seen : ℕ) → CanFind t pc op seen → seen ≤ t.values)
+      (s object : ℕ) (rest : List Kind) (pc : Pc) (op : Op) → StandsAt t (Conciliator s ∷ rest) c object pc []
+      → IsOpAt t pc op
+      → (object ≡ 0) × (op ≡ to.Load Value) × ((seen : ℕ) → CanFind t pc op seen → seen ≤ t.values)
   stands_first s object rest pc op at is =
-      let front : at.front ≡ [] = append_nil_rest (tagged object at.turns) at.front (sym at.all) in
+      let front : at.front ≡ [] = append_nil_rest (turns_on object at.turns) at.front (sym at.all) in
       let turns : at.turns ≡ [] =
-      untagged object at.turns (append_nil_parts (tagged object at.turns) at.front (sym at.all)) in
+      no_turns_on object at.turns (append_nil_parts (turns_on object at.turns) at.front (sym at.all)) in
       let before : at.before ≡ [] = none_passed at.before at.front at.input front at.passed in
       let kind : Conciliator s ≡ at.kind =
       heads (Conciliator s) at.kind rest at.after (at.order ∙ ap (λ ks. ks ++ at.kind ∷ at.after) before) in
@@ -82,9 +74,16 @@ module _ (layout : Layout) (law : AreDeciding (quorums_of layout)) (claim : Clai
   -- the claim goes on
   pub fresh_going : claim.stage ≡ Going
   fresh_going =
-      one_stage_lem (quorums_of layout) law claim.consumer (kinds_of layout) 0 claim.consumer [] claim.stage Going of.part
+      one_stage_lem (quorums_of layout) law claim.consumer
+      (kinds_of layout) 0 claim.consumer [] claim.stage Going of.prefix
       (subst (λ ks. IsClaimPrefixFrom (quorums_of layout) claim.consumer ks 0 claim.consumer [] Going) (sym first.1)
-      (inl (record { turns = []; all = refl; going = (law (Conciliator (spread (quorums_of layout).values))).opens claim.consumer of.known; is = refl })))
+      (inl (record {
+        turns = [];
+        all = refl;
+        going = (law (Conciliator (spread (quorums_of layout).values))
+            (λ p. p)).opens claim.consumer of.known;
+        is = refl;
+      })))
 
   -- and is not begun
   pub fresh_begun : claim.begun ≡ false
@@ -93,9 +92,10 @@ module _ (layout : Layout) (law : AreDeciding (quorums_of layout)) (claim : Clai
   -- its next access, and what that may find
   pub fresh_next :
       (op : Op) → IsOpAt (quorums_of layout) claim.place op
-      → (claim.object ≡ 0) × (op ≡ Load Value)
+      → (claim.object ≡ 0) × (op ≡ to.Load Value)
       × ((seen : ℕ) → CanFind (quorums_of layout) claim.place op seen → seen ≤ (quorums_of layout).values)
   fresh_next op is =
-      stands_first (quorums_of layout) law claim.consumer of.known (spread (quorums_of layout).values) claim.object first.0 claim.place op
+      stands_first (quorums_of layout) law claim.consumer of.known (spread
+      (quorums_of layout).values) claim.object first.0 claim.place op
       (subst (λ ks. StandsAt (quorums_of layout) ks claim.consumer claim.object claim.place []) first.1
       (of.stands fresh_going)) is

@@ -1,21 +1,17 @@
 -- One more access.
-use Rattle.std.proofs.Common.{◌≡◌, ◌≢◌, ◌⊎◌, ℕ, Bool, true, false, cond, eqb, Some, None, List, [], ◌∷◌, refl, sym, ◌∙◌, ap₂, subst, subst₂, inl, inr, ⊎_elim}
+use Rattle.std.proofs.Common.{◌≡◌, ◌≢◌, ◌⊎◌, ℕ, Bool, true, false, cond, eqb, Some, None, List, [], ◌∷◌, refl, sym, ◌∙◌}
+use Rattle.std.proofs.Common.{ap₂, subst, subst₂, inl, inr, ⊎_elim}
 use Rattle.std.specs.List.{cons_option}
 use Rattle.std.proofs.lemmas.Bool.{eq-eqb, eqb-true, cases_eq}
-use Rattle.mb_quorum.specs.Quorum.{QuorumTable}
-use Rattle.mb_deciding.specs.declared.access.Reg.{Reg}
-use Rattle.mb_deciding.specs.declared.access.Access.{Access}
-use Rattle.mb_deciding.specs.declared.object.Kind.{Kind}
-use Rattle.mb_deciding.specs.History.{value_in, value_after}
-use Rattle.mb_claim.specs.declared.access.ObjectTurn.{ObjectTurn}
-use Rattle.mb_claim.specs.declared.access.ClaimAccess.{ClaimAccess}
-use Rattle.mb_claim.specs.History.{part, object_history}
-use Rattle.mb_claim.specs.Claiming.{IsClaimPart, IsLawful, MayFollow, Adds}
+use Rattle.mb_deciding.specs.Vocabulary.{value_in, value_after}
+use Rattle.mb_claim.specs.{Claims, Reg, Access, ObjectTurn, ClaimAccess, part_on, object_history}
+use Rattle.mb_claim.specs.{IsClaimPart, IsClaimLawful, MayFollow, Adds}
 
 -- the step is added to the part of its consumer and cell
-own_part : (a : ClaimAccess) (h : List ClaimAccess) → part a.consumer a.cell (a ∷ h) ≡ a.step ∷ part a.consumer a.cell h
+pub own_part : (a : ClaimAccess) (h : List ClaimAccess) → part_on a.consumer a.cell
+    (a ∷ h) ≡ a.step ∷ part_on a.consumer a.cell h
 own_part a h =
-    ap₂ (λ p q. cons_option (cond p (cond q (Some a.step) None) None) (part a.consumer a.cell h))
+    ap₂ (λ p q. cons_option (cond p (cond q (Some a.step) None) None) (part_on a.consumer a.cell h))
     (eq-eqb a.consumer a.consumer refl) (eq-eqb a.cell a.cell refl)
 
 -- an access that is not of this part adds nothing to it
@@ -27,11 +23,11 @@ other_by true false x xs ne = refl
 other_by false q x xs ne = refl
 
 -- every other part stays
-other_part :
+pub other_part :
     (c k : ℕ) (a : ClaimAccess) (h : List ClaimAccess) → (a.consumer ≡ c → a.cell ≡ k → ⊥)
-    → part c k (a ∷ h) ≡ part c k h
+    → part_on c k (a ∷ h) ≡ part_on c k h
 other_part c k a h ne =
-    other_by (eqb a.consumer c) (eqb a.cell k) a.step (part c k h)
+    other_by (eqb a.consumer c) (eqb a.cell k) a.step (part_on c k h)
     (λ p q. ne (eqb-true a.consumer c p) (eqb-true a.cell k q))
 
 -- what is left in a word changes as the access says
@@ -43,8 +39,8 @@ left_by true true x reg xs = refl
 left_by true false x reg xs = refl
 left_by false r x reg xs = refl
 
-module _ (t : QuorumTable) (kinds : List Kind) (cells : ℕ) (h : List ClaimAccess) (a : ClaimAccess)
-    (law : IsLawful t kinds cells h) (may : MayFollow t kinds cells h a) where
+module _ (cs : Claims) (h : List ClaimAccess) (a : ClaimAccess)
+    (law : IsClaimLawful cs h) (may : MayFollow cs a h) where
   -- whether the access is of this part
   mine : (c k : ℕ) → ((a.consumer ≡ c) × (a.cell ≡ k)) ⊎ (a.consumer ≡ c → a.cell ≡ k → ⊥)
   mine c k =
@@ -53,16 +49,16 @@ module _ (t : QuorumTable) (kinds : List Kind) (cells : ℕ) (h : List ClaimAcce
 
   -- each part with a step keeps to its path
   part_kept :
-      (c k : ℕ) → part c k (a ∷ h) ≢ [] → ((a.consumer ≡ c) × (a.cell ≡ k)) ⊎ (a.consumer ≡ c → a.cell ≡ k → ⊥)
-      → IsClaimPart t kinds cells c k (part c k (a ∷ h))
+      (c k : ℕ) → part_on c k (a ∷ h) ≢ [] → ((a.consumer ≡ c) × (a.cell ≡ k)) ⊎ (a.consumer ≡ c → a.cell ≡ k → ⊥)
+      → IsClaimPart cs c k (part_on c k (a ∷ h))
   part_kept c k some (inl p) =
-      subst₂ (λ d j. IsClaimPart t kinds cells d j (part d j (a ∷ h))) p.0 p.1
-      (subst (IsClaimPart t kinds cells a.consumer a.cell) (sym (own_part a h)) (may.consumer, may.cell, may.part))
+      subst₂ (λ d j. IsClaimPart cs d j (part_on d j (a ∷ h))) p.0 p.1
+      (subst (IsClaimPart cs a.consumer a.cell) (sym (own_part a h)) (may.consumer, may.cell, may.prefix))
   part_kept c k some (inr ne) =
-      let same = other_part c k a h ne in subst (IsClaimPart t kinds cells c k) (sym same) (law.parts c k (λ e. some (same ∙ e)))
+      let same = other_part c k a h ne in subst (IsClaimPart cs c k) (sym same) (law.parts c k (λ e. some (same ∙ e)))
 
   -- what the access adds
-  pub adds : Adds t kinds cells h a
+  pub adds : Adds cs a h
   adds =
       record {
         lawful = record {

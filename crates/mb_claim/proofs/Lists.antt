@@ -1,8 +1,20 @@
 -- Facts about lists.
-use Rattle.std.proofs.Common.{suc, length, slice_get, ◌≡◌, Option, Some, None, List, [], ◌∷◌, ◌++◌, refl, ◌∙◌, ap, sym, append-nil, filter_map, option_and_then}
+use Rattle.std.proofs.lemmas.Bool.{cases_lt}
+use Rattle.std.proofs.lemmas.List.{get_or_append_left, get_or_push}
+use Rattle.std.proofs.Common.{ℕ, ◌<◌, ◌≤◌, subst, get_or, arith, suc, length, slice_get, ◌≡◌, ◌≢◌, ◌⊎◌, inl, inr}
+use Rattle.std.proofs.Common.{Option, Some, None, List, [], ◌∷◌, ◌++◌, refl, ◌∙◌, ap, sym, append-nil, filter_map}
+use Rattle.std.proofs.Common.{option_and_then}
 use Rattle.std.specs.List.{cons_option}
 use Rattle.std.proofs.lemmas.Option.{none-some, same_Some}
-use Rattle.mb_deciding.proofs.Histories.{not_empty}
+
+-- a list with a first element is not empty
+pub not_empty : {A : Type 0} (x : A) (xs : List A) → x ∷ xs ≢ []
+not_empty x xs e = cc
+
+-- a list is empty or not
+pub nil_or : {A : Type 0} (xs : List A) → (xs ≡ []) ⊎ (xs ≢ [])
+nil_or [] = inl refl
+nil_or (x ∷ xs) = inr (λ e. not_empty x xs e)
 
 -- two empty lists, joined
 pub append_nils : {A : Type 0} (xs ys : List A) → xs ≡ [] → ys ≡ [] → xs ++ ys ≡ []
@@ -74,7 +86,8 @@ get_at [] a ys = refl
 get_at (x ∷ xs) a ys = get_at xs a ys
 
 -- what stands in a list behind that
-pub get_behind : {A : Type 0} (xs : List A) (a : A) (ys : List A) → slice_get (xs ++ a ∷ ys) (suc (length xs)) ≡ slice_get ys 0
+pub get_behind : {A : Type 0} (xs : List A) (a : A) (ys : List A)
+    → slice_get (xs ++ a ∷ ys) (suc (length xs)) ≡ slice_get ys 0
 get_behind [] a ys = refl
 get_behind (x ∷ xs) a ys = get_behind xs a ys
 
@@ -92,3 +105,17 @@ none_of (y ∷ ys) e = absurd (none-some y (sym e))
 pub length-push : {A : Type 0} (xs : List A) (a : A) → length (xs ++ a ∷ []) ≡ suc (length xs)
 length-push [] a = refl
 length-push (x ∷ xs) a = ap suc (length-push xs a)
+
+-- what holds of each element, and of one more at the end, holds of each element of the longer list
+pub all_push :
+    {A : Type 0} (P : ℕ → A → Type 0) (xs : List A) (y : A) → ((k : ℕ) (d : A) → k < length xs → P k (get_or xs k d))
+    → P (length xs) y → (k : ℕ) (d : A) → k < length (xs ++ y ∷ []) → P k (get_or (xs ++ y ∷ []) k d)
+all_push P xs y all p k d below = by_place (cases_lt k (length xs))
+  where
+    by_place : (k < length xs) ⊎ (length xs ≤ k) → P k (get_or (xs ++ y ∷ []) k d)
+    by_place (inl l) = subst (P k) (sym (get_or_append_left xs (y ∷ []) d k l)) (all k d l)
+    by_place (inr l) =
+        let long : length (xs ++ y ∷ []) ≡ suc (length xs) = length-push xs y in
+        let here : k ≡ length xs = omega arith in
+        subst (λ n. P n (get_or (xs ++ y ∷ []) n d)) (sym here)
+        (subst (P (length xs)) (sym (get_or_push xs y d (length xs) refl)) p)

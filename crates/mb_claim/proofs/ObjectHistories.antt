@@ -1,13 +1,12 @@
 -- A history of claims, cut down to one object of one cell.
-use Rattle.std.proofs.Common.{◌≡◌, ℕ, Bool, true, false, cond, eqb, Option, Some, None, List, refl, sym, ◌∙◌, subst₂, [], ◌∷◌, filter_map, option_and_then}
+use Rattle.std.proofs.Common.{◌≡◌, ℕ, Bool, true, false, cond, eqb, Option, Some, None, List, refl, sym, ◌∙◌, subst₂}
+use Rattle.std.proofs.Common.{[], ◌∷◌, filter_map, option_and_then}
 use Rattle.std.specs.List.{cons_option}
 use Rattle.std.proofs.lemmas.Bool.{eqb-true}
-use Rattle.mb_deciding.specs.declared.access.Turn.{Turn}
-use Rattle.mb_deciding.specs.declared.access.Access.{Access}
-use Rattle.mb_deciding.specs.History.{ReadsLast, IsMemoryTrue as IsObjectMemoryTrue, turn_by, turns_of, IsInWords, AreInWords as AreObjectInWords}
-use Rattle.mb_claim.specs.declared.access.ObjectTurn.{ObjectTurn}
-use Rattle.mb_claim.specs.declared.access.ClaimAccess.{ClaimAccess}
-use Rattle.mb_claim.specs.History.{step_by, part, access_on, object_history, IsMemoryTrue, AreInWords}
+use Rattle.mb_deciding.specs.Vocabulary.{ReadsLast, IsMemoryTrue as IsObjectMemoryTrue, turn_by, part, IsInWords}
+use Rattle.mb_deciding.specs.Vocabulary.{AreInWords as AreObjectInWords}
+use Rattle.mb_claim.specs.{Turn, Access, ObjectTurn, ClaimAccess, step_by, part_on, access_on, object_history}
+use Rattle.mb_claim.specs.{IsMemoryTrue, AreInWords}
 use Rattle.mb_claim.proofs.Lists.{filter_map-filter_map, filter_map_agree}
 
 -- the turn, if it went to object o
@@ -34,9 +33,9 @@ two_picks false false true x y z g g' e f = refl
 two_picks false false false x y z g g' e f = refl
 
 -- a process's turns in the history of an object are those of its part
-pub turns_of-object_history :
-    (c k o : ℕ) (h : List ClaimAccess) → turns_of c (object_history k o h) ≡ turns_at o (part c k h)
-turns_of-object_history c k o h =
+pub part-object_history :
+    (c k o : ℕ) (h : List ClaimAccess) → part c (object_history k o h) ≡ turns_at o (part_on c k h)
+part-object_history c k o h =
     filter_map-filter_map (turn_by c) (access_on k o) h
     ∙ filter_map_agree (λ a. option_and_then (turn_by c) (access_on k o a))
     (λ a. option_and_then (turn_at o) (step_by c k a))

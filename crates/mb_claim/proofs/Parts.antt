@@ -1,37 +1,33 @@
 -- One consumer's part: what it does on its first object, and what is left of it behind that object.
-use Rattle.std.proofs.Common.{◌≡◌, ◌≢◌, ◌<◌, ◌⊎◌, ℕ, suc, true, false, cond, Some, None, List, [], ◌∷◌, ◌++◌, length, ◌+◌, length-append, refl, sym, ◌∙◌, ap, subst, inl, inr, arith}
+use Rattle.std.proofs.Common.{◌≡◌, ◌≢◌, ◌<◌, ◌⊎◌, ℕ, suc, true, false, cond, Some, None, List, [], ◌∷◌, ◌++◌, length}
+use Rattle.std.proofs.Common.{◌+◌, length-append, refl, sym, ◌∙◌, ap, subst, inl, inr, arith}
 use Rattle.std.specs.List.{cons_option}
 use Rattle.std.proofs.lemmas.Bool.{eq-eqb, ne_eqb}
 use Rattle.std.proofs.lemmas.List.Elements.{filter_map-append}
-use Rattle.mb_quorum.specs.Quorum.{QuorumTable}
-use Rattle.mb_deciding.specs.declared.access.Turn.{Turn}
-use Rattle.mb_deciding.specs.declared.object.Kind.{Kind}
-use Rattle.mb_deciding.specs.Objects.{answer, IsPath, IsPrefix, IsOpen}
-use Rattle.mb_claim.specs.declared.access.ObjectTurn.{ObjectTurn}
-use Rattle.mb_claim.specs.declared.access.Stage.{Stage}
-use Rattle.mb_claim.specs.declared.access.Stage.TheVariants.{Going}
-use Rattle.mb_claim.specs.Paths.{tagged, stage_for, Passes, IsClaimPrefixFrom, Enters}
+use Rattle.mb_quorum.specs.Vocabulary.{QuorumTable}
+use Rattle.mb_deciding.specs.Vocabulary.{answer, IsPath, IsPrefix, IsOpen}
+use Rattle.mb_claim.specs.{Turn, Kind, ObjectTurn, Stage, Going, turns_on, stage_for, Passes, IsClaimPrefixFrom, Enters}
 use Rattle.mb_claim.proofs.ObjectHistories.{turn_at, turns_at}
 use Rattle.mb_claim.proofs.Lists.{append_nils, append_nil_left, append_nil_right, append_nil_parts}
 
 -- of turns made on object o all went there
-pub turns_at-tagged : (o : ℕ) (ts : List Turn) → turns_at o (tagged o ts) ≡ ts
-turns_at-tagged o [] = refl
-turns_at-tagged o (t ∷ ts) =
-    ap (λ b. cons_option (cond b (Some t) None) (turns_at o (tagged o ts))) (eq-eqb o o refl)
-    ∙ ap (λ zs. t ∷ zs) (turns_at-tagged o ts)
+pub turns_at-turns_on : (o : ℕ) (ts : List Turn) → turns_at o (turns_on o ts) ≡ ts
+turns_at-turns_on o [] = refl
+turns_at-turns_on o (t ∷ ts) =
+    ap (λ b. cons_option (cond b (Some t) None) (turns_at o (turns_on o ts))) (eq-eqb o o refl)
+    ∙ ap (λ zs. t ∷ zs) (turns_at-turns_on o ts)
 
 -- and there are as many
-pub length-tagged : (o : ℕ) (ts : List Turn) → length (tagged o ts) ≡ length ts
-length-tagged o [] = refl
-length-tagged o (t ∷ ts) = ap suc (length-tagged o ts)
+pub length-turns_on : (o : ℕ) (ts : List Turn) → length (turns_on o ts) ≡ length ts
+length-turns_on o [] = refl
+length-turns_on o (t ∷ ts) = ap suc (length-turns_on o ts)
 
 -- and none went to another object
-pub turns_at-tagged_other : (o n : ℕ) (ts : List Turn) → (o ≡ n → ⊥) → turns_at n (tagged o ts) ≡ []
-turns_at-tagged_other o n [] ne = refl
-turns_at-tagged_other o n (t ∷ ts) ne =
-    ap (λ b. cons_option (cond b (Some t) None) (turns_at n (tagged o ts))) (ne_eqb o n ne)
-    ∙ turns_at-tagged_other o n ts ne
+pub turns_at-turns_on_other : (o n : ℕ) (ts : List Turn) → (o ≡ n → ⊥) → turns_at n (turns_on o ts) ≡ []
+turns_at-turns_on_other o n [] ne = refl
+turns_at-turns_on_other o n (t ∷ ts) ne =
+    ap (λ b. cons_option (cond b (Some t) None) (turns_at n (turns_on o ts))) (ne_eqb o n ne)
+    ∙ turns_at-turns_on_other o n ts ne
 
 -- the turns on object n of two lists joined
 pub turns_at-append : (n : ℕ) (xs ys : List ObjectTurn) → turns_at n (xs ++ ys) ≡ turns_at n xs ++ turns_at n ys
@@ -43,14 +39,14 @@ pub nothing_before :
     → IsClaimPrefixFrom t c ks o v xs s → turns_at n xs ≡ []
 nothing_before t c [] o v n xs s l p = ap (turns_at n) p.0
 nothing_before t c (k ∷ ks) o v n xs s l (inl x) =
-    ap (turns_at n) x.all ∙ turns_at-tagged_other o n x.turns (λ e. omega arith)
+    ap (turns_at n) x.all ∙ turns_at-turns_on_other o n x.turns (λ e. omega arith)
 nothing_before t c (k ∷ ks) o v n xs s l (inr (inl x)) =
-    ap (turns_at n) x.all ∙ turns_at-tagged_other o n x.turns (λ e. omega arith)
+    ap (turns_at n) x.all ∙ turns_at-turns_on_other o n x.turns (λ e. omega arith)
 nothing_before t c (k ∷ ks) o v n xs s l (inr (inr (u, rest, x, p))) =
-    ap (turns_at n) x.all ∙ turns_at-append n rest (tagged o x.turns)
-    ∙ append_nils (turns_at n rest) (turns_at n (tagged o x.turns))
+    ap (turns_at n) x.all ∙ turns_at-append n rest (turns_on o x.turns)
+    ∙ append_nils (turns_at n rest) (turns_at n (turns_on o x.turns))
     (nothing_before t c ks (suc o) u n rest s (omega arith) p)
-    (turns_at-tagged_other o n x.turns (λ e. omega arith))
+    (turns_at-turns_on_other o n x.turns (λ e. omega arith))
 
 -- what goes on is a prefix
 pub open_part : (t : QuorumTable) (k : Kind) (v : ℕ) (turns : List Turn) → IsOpen t k v turns → IsPrefix t k v turns
@@ -63,10 +59,10 @@ pub passed_turns :
     → IsClaimPrefixFrom t c ks (suc o) u rest s → x.turns ≡ turns_at o xs
 passed_turns t c k ks o v xs s u rest x p =
     sym
-    (ap (turns_at o) x.all ∙ turns_at-append o rest (tagged o x.turns)
-    ∙ append_nil_left (turns_at o rest) (turns_at o (tagged o x.turns))
+    (ap (turns_at o) x.all ∙ turns_at-append o rest (turns_on o x.turns)
+    ∙ append_nil_left (turns_at o rest) (turns_at o (turns_on o x.turns))
     (nothing_before t c ks (suc o) u o rest s (omega arith) p)
-    ∙ turns_at-tagged o x.turns)
+    ∙ turns_at-turns_on o x.turns)
 
 -- a consumer's part from object o on; or nothing, where it has not come so far
 abbrev pub Member : QuorumTable → ℕ → List Kind → ℕ → ℕ → List ObjectTurn → Stage → Type 0
@@ -102,8 +98,8 @@ pub record Forward (t : QuorumTable) (c : ℕ) (k : Kind) (ks : List Kind) (o v 
 
 module _ (t : QuorumTable) (c : ℕ) (k : Kind) (ks : List Kind) (o v : ℕ) (xs : List ObjectTurn) (s : Stage) where
   -- a part on this object alone has its turns
-  pub counts : (turns : List Turn) → xs ≡ tagged o turns → turns_at o xs ≡ turns → length xs ≡ length (turns_at o xs)
-  counts turns all here = ap length all ∙ length-tagged o turns ∙ sym (ap length here)
+  pub counts : (turns : List Turn) → xs ≡ turns_on o turns → turns_at o xs ≡ turns → length xs ≡ length (turns_at o xs)
+  counts turns all here = ap length all ∙ length-turns_on o turns ∙ sym (ap length here)
 
   -- it does not come to the next object
   abbrev stays :
@@ -137,13 +133,13 @@ module _ (t : QuorumTable) (c : ℕ) (k : Kind) (ks : List Kind) (o v : ℕ) (xs
         rest = rest;
         stage = s;
         member = inr p;
-        ahead = λ n l. ap (turns_at n) x.all ∙ turns_at-append n rest (tagged o x.turns)
-            ∙ append_nil_right (turns_at n rest) (turns_at n (tagged o x.turns))
-            (turns_at-tagged_other o n x.turns (λ e. omega arith));
+        ahead = λ n l. ap (turns_at n) x.all ∙ turns_at-append n rest (turns_on o x.turns)
+            ∙ append_nil_right (turns_at n rest) (turns_at n (turns_on o x.turns))
+            (turns_at-turns_on_other o n x.turns (λ e. omega arith));
         came = λ ne. record {
           path = path;
           nonempty =
-              λ e. ne (append_nil_parts rest (tagged o x.turns) (sym x.all ∙ e));
+              λ e. ne (append_nil_parts rest (turns_on o x.turns) (sym x.all ∙ e));
           enters =
               λ n w q. inr (u, rest, x, q);
         };
@@ -152,8 +148,8 @@ module _ (t : QuorumTable) (c : ℕ) (k : Kind) (ks : List Kind) (o v : ℕ) (xs
         counted = omega (
           arith,
           ap length x.all,
-          length-append rest (tagged o x.turns),
-          length-tagged o x.turns,
+          length-append rest (turns_on o x.turns),
+          length-turns_on o x.turns,
           ap length here,
         );
       }
@@ -163,15 +159,15 @@ module _ (t : QuorumTable) (c : ℕ) (k : Kind) (ks : List Kind) (o v : ℕ) (xs
   forward (inl x) = stays (λ n l. ap (turns_at n) x.0) (inl (ap (turns_at o) x.0)) (inl x.1)
       (ap length x.0 ∙ sym (ap (λ zs. length (turns_at o zs)) x.0))
   forward (inr (inl x)) =
-      let here : turns_at o xs ≡ x.turns = ap (turns_at o) x.all ∙ turns_at-tagged o x.turns in
+      let here : turns_at o xs ≡ x.turns = ap (turns_at o) x.all ∙ turns_at-turns_on o x.turns in
       let P : List Turn → Type 0 = λ ts. IsOpen t k v ts in
-      stays (λ n l. ap (turns_at n) x.all ∙ turns_at-tagged_other o n x.turns (λ e. omega arith))
+      stays (λ n l. ap (turns_at n) x.all ∙ turns_at-turns_on_other o n x.turns (λ e. omega arith))
       (inr (open_part t k v (turns_at o xs) (subst P (sym here) x.going))) (inl x.is) (counts x.turns x.all here)
   forward (inr (inr (inl x))) =
-      let here : turns_at o xs ≡ x.turns = ap (turns_at o) x.all ∙ turns_at-tagged o x.turns in
+      let here : turns_at o xs ≡ x.turns = ap (turns_at o) x.all ∙ turns_at-turns_on o x.turns in
       let P : List Turn → Type 0 = λ ts. IsPath t k v ts (answer true x.value) in
       let path : P (turns_at o xs) = subst P (sym here) x.path in
-      stays (λ n l. ap (turns_at n) x.all ∙ turns_at-tagged_other o n x.turns (λ e. omega arith))
+      stays (λ n l. ap (turns_at n) x.all ∙ turns_at-turns_on_other o n x.turns (λ e. omega arith))
       (inr ([], answer true x.value, path))
       (inr (inl (x.value, path, x.is))) (counts x.turns x.all here)
   forward (inr (inr (inr (u, rest, x, p)))) = moves u rest x p

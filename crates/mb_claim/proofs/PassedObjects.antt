@@ -1,21 +1,15 @@
 -- The objects that a claim has passed, and the one on which it stands.
-use Rattle.std.proofs.Common.{◌≡◌, ◌+◌, ◌<◌, ℕ, suc, false, List, [], ◌∷◌, ◌++◌, length, refl, sym, ◌∙◌, ap, ap₂, subst, inl, inr, append-nil, append_assoc, arith}
+use Rattle.std.proofs.Common.{◌≡◌, ◌+◌, ◌<◌, ℕ, suc, false, List, [], ◌∷◌, ◌++◌, length, refl, sym, ◌∙◌, ap, ap₂, subst}
+use Rattle.std.proofs.Common.{inl, inr, append-nil, append_assoc, arith}
 use Rattle.std.proofs.lemmas.List.{append_cancel_right}
-use Rattle.mb_quorum.specs.Quorum.{QuorumTable}
-use Rattle.mb_deciding.specs.declared.access.Turn.{Turn}
-use Rattle.mb_deciding.specs.declared.access.Access.{Access}
-use Rattle.mb_deciding.specs.declared.object.Kind.{Kind}
-use Rattle.mb_deciding.specs.declared.object.Out.{Out}
-use Rattle.mb_deciding.specs.History.{turns_of}
-use Rattle.mb_deciding.specs.Objects.{answer, IsPath, IsObjectLawful}
-use Rattle.mb_deciding.specs.Deciding.{IsDeciding}
-use Rattle.mb_claim.specs.declared.access.ObjectTurn.{ObjectTurn}
-use Rattle.mb_claim.specs.declared.access.Stage.{Stage}
-use Rattle.mb_claim.specs.Paths.{tagged, Passes}
-use Rattle.mb_claim.specs.Standing.{PassesAll}
+use Rattle.mb_quorum.specs.Vocabulary.{QuorumTable}
+use Rattle.mb_deciding.specs.Vocabulary.{object_of, part, answer, IsPath, IsObjectLawful}
+use Rattle.mb_claim.specs.{Turn, Access, Kind, Out, ObjectTurn, Stage, turns_on, Passes, PassesAll}
+use Rattle.mb_claim.proofs.KindLaws.{OfKind, AreDeciding}
 use Rattle.mb_claim.proofs.ObjectHistories.{turns_at}
-use Rattle.mb_claim.proofs.Parts.{Member, forward, passed_turns, turns_at-append, turns_at-tagged, turns_at-tagged_other, turns_at-append}
-use Rattle.mb_claim.proofs.Unique.{AreDeciding, open_closed, same_out, not_ended, not_undecided}
+use Rattle.mb_claim.proofs.Parts.{Member, forward, passed_turns, turns_at-append, turns_at-turns_on}
+use Rattle.mb_claim.proofs.Parts.{turns_at-turns_on_other}
+use Rattle.mb_claim.proofs.Unique.{open_closed, same_out, not_ended, not_undecided}
 use Rattle.mb_claim.proofs.Family.{Family, step, lawful_here, output, output_holds, next}
 use Rattle.mb_claim.proofs.Lists.{append_nils, append_nil_left}
 
@@ -25,19 +19,19 @@ nothing_passed :
     → turns_at n xs ≡ []
 nothing_passed t [] o v w n xs l p = ap (turns_at n) p.0
 nothing_passed t (k ∷ ks) o v w n xs l (u, later, x, p) =
-    ap (turns_at n) x.all ∙ turns_at-append n later (tagged o x.turns)
-    ∙ append_nils (turns_at n later) (turns_at n (tagged o x.turns))
-    (nothing_passed t ks (suc o) u w n later (omega arith) p) (turns_at-tagged_other o n x.turns (λ e. omega arith))
+    ap (turns_at n) x.all ∙ turns_at-append n later (turns_on o x.turns)
+    ∙ append_nils (turns_at n later) (turns_at n (turns_on o x.turns))
+    (nothing_passed t ks (suc o) u w n later (omega arith) p) (turns_at-turns_on_other o n x.turns (λ e. omega arith))
 
 -- a part has one way past its first object
 module _ (t : QuorumTable) (c : ℕ) (k : Kind) (ks : List Kind) (o v : ℕ) (xs : List ObjectTurn) (s : Stage)
-    (law : IsDeciding t k) (l : v < t.values)
+    (law : OfKind t k) (l : v < t.values)
     (u : ℕ) (later : List ObjectTurn) (x : Passes t k o v xs u later) (none : turns_at o later ≡ []) where
   -- the turns of the object that was passed
   pub here : x.turns ≡ turns_at o xs
   here =
-      sym (ap (turns_at o) x.all ∙ turns_at-append o later (tagged o x.turns)
-      ∙ append_nil_left (turns_at o later) (turns_at o (tagged o x.turns)) none ∙ turns_at-tagged o x.turns)
+      sym (ap (turns_at o) x.all ∙ turns_at-append o later (turns_on o x.turns)
+      ∙ append_nil_left (turns_at o later) (turns_at o (turns_on o x.turns)) none ∙ turns_at-turns_on o x.turns)
 
   -- what is behind it is what `forward` finds
   pub forward_passes :
@@ -45,7 +39,7 @@ module _ (t : QuorumTable) (c : ℕ) (k : Kind) (ks : List Kind) (o v : ℕ) (xs
       → ((forward t c k ks o v xs s m).value ≡ u) × ((forward t c k ks o v xs s m).rest ≡ later)
   forward_passes (inl y) =
       absurd (open_closed t k law v [] x.turns (answer false u) (sym (here ∙ ap (turns_at o) y.0))
-      (law.opens v l) x.path)
+      ((law (λ p. p)).opens v l) x.path)
   forward_passes (inr (inl y)) = absurd (not_ended t k law c o v xs s x.turns (answer false u) here x.path y)
   forward_passes (inr (inr (inl y))) =
       absurd (not_undecided t k law c o v xs s x.turns (answer false u) here x.path y refl)
@@ -55,23 +49,23 @@ module _ (t : QuorumTable) (c : ℕ) (k : Kind) (ks : List Kind) (o v : ℕ) (xs
       ap (λ (a : Out). a.value) (same_out t k law v y.turns x.turns (answer false w)
       (answer false u) e y.path x.path) in (
         values,
-        append_cancel_right front later (tagged o x.turns)
-            (ap (λ ts. front ++ tagged o ts) (sym e) ∙ sym y.all ∙ x.all),
+        append_cancel_right front later (turns_on o x.turns)
+            (ap (λ ts. front ++ turns_on o ts) (sym e) ∙ sym y.all ∙ x.all),
       )
 
 -- the history of the object on which a claim stands is lawful, and the claim's input there is the one that its part
 -- gives
 pub record Here (t : QuorumTable) (kind : Kind) (hs : ℕ → List Access) (c o w : ℕ) (turns : List Turn) : Type 0 where
   pub inputs : ℕ → ℕ
-  pub lawful : IsObjectLawful t kind inputs (hs o)
+  pub lawful : IsObjectLawful (object_of t kind inputs) (hs o)
   pub own : inputs c ≡ w
-  pub same : turns_of c (hs o) ≡ turns
+  pub same : part c (hs o) ≡ turns
   pub within : inputs c < t.values
 
 -- the same of one consumer among all
 step_passes :
     (t : QuorumTable) (k : Kind) (ks : List Kind) (o : ℕ) (hs : ℕ → List Access) (P : ℕ → Type 0)
-    (fam : Family t (k ∷ ks) o hs P) (law : IsDeciding t k) (c : ℕ) → fam.input c < t.values
+    (fam : Family t (k ∷ ks) o hs P) (law : OfKind t k) (c : ℕ) → fam.input c < t.values
     → (u : ℕ) (later : List ObjectTurn) (x : Passes t k o (fam.input c) (fam.rest c) u later) → turns_at o later ≡ []
     → ((step t k ks o hs P fam c).value ≡ u) × ((step t k ks o hs P fam c).rest ≡ later)
 unfolding step
@@ -84,7 +78,7 @@ pub family_at :
     (after : List Kind) (o : ℕ) (P : ℕ → Type 0)
     (fam : Family t (before ++ kind ∷ after) o hs P) (c w m : ℕ) (front : List ObjectTurn) (turns : List Turn)
     → m ≡ o + length before → fam.input c < t.values
-    → fam.rest c ≡ tagged m turns ++ front → PassesAll t before o (fam.input c) front w → Here t kind hs c m w turns
+    → fam.rest c ≡ turns_on m turns ++ front → PassesAll t before o (fam.input c) front w → Here t kind hs c m w turns
 family_at t hs law [] kind after o P fam c w m front turns e l all p =
     let n : m ≡ o = omega arith in
     subst (λ i. Here t kind hs c i w turns) (sym n)
@@ -93,23 +87,23 @@ family_at t hs law [] kind after o P fam c w m front turns e l all p =
       lawful = lawful_here t kind after o hs P fam;
       own = sym p.1;
       same = fam.turns c o (omega arith)
-          ∙ ap (turns_at o) (all ∙ ap₂ (λ i zs. tagged i turns ++ zs) n p.0 ∙ append-nil (tagged o turns))
-          ∙ turns_at-tagged o turns;
+          ∙ ap (turns_at o) (all ∙ ap₂ (λ i zs. turns_on i turns ++ zs) n p.0 ∙ append-nil (turns_on o turns))
+          ∙ turns_at-turns_on o turns;
       within = l;
     })
 family_at t hs law (b ∷ bs) kind after o P fam c w m front turns e l all (u, rest, x, p) =
-    let ys : List ObjectTurn = tagged m turns in
+    let ys : List ObjectTurn = turns_on m turns in
     let y : Passes t b o (fam.input c) (fam.rest c) u (ys ++ rest) =
     record {
       turns = x.turns;
-      all = all ∙ ap (λ zs. tagged m turns ++ zs) x.all
-          ∙ sym (append_assoc (tagged m turns) rest (tagged o x.turns));
+      all = all ∙ ap (λ zs. turns_on m turns ++ zs) x.all
+          ∙ sym (append_assoc (turns_on m turns) rest (turns_on o x.turns));
       path = x.path;
     } in
     let none : turns_at o (ys ++ rest) ≡ [] =
-    turns_at-append o (tagged m turns) rest
-    ∙ append_nils (turns_at o (tagged m turns)) (turns_at o rest)
-    (turns_at-tagged_other m o turns (λ q. omega arith)) (nothing_passed t bs (suc o) u w o rest (omega arith) p) in
+    turns_at-append o (turns_on m turns) rest
+    ∙ append_nils (turns_at o (turns_on m turns)) (turns_at o rest)
+    (turns_at-turns_on_other m o turns (λ q. omega arith)) (nothing_passed t bs (suc o) u w o rest (omega arith) p) in
     let at = step_passes t b (bs ++ kind ∷ after) o hs P fam (law b) c l u (ys ++ rest) y none in
     let path : IsPath t b (fam.input c) (turns_at o (fam.rest c)) (answer false u) =
     subst (λ ts. IsPath t b (fam.input c) ts (answer false u))

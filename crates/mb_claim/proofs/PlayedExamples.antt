@@ -1,27 +1,20 @@
 -- The examples of runs: which of them are runs.
-use Rattle.std.proofs.Common.{◌≡◌, ◌≢◌, ◌<◌, ℕ, zero, suc, true, false, List, [], ◌∷◌, ◌++◌, get_or, refl, inl, inr, ⊎_elim, arith}
+use Rattle.std.proofs.Common.{◌≡◌, ◌≢◌, ◌<◌, ℕ, zero, suc, true, false, List, [], ◌∷◌, ◌++◌, get_or, refl, inl, inr}
+use Rattle.std.proofs.Common.{⊎_elim, arith}
 use Rattle.mb_quorum.specs.Unary.{unary_table}
-use Rattle.mb_deciding.specs.declared.access.Reg.TheVariants.{Value, Proposal, Quorum}
-use Rattle.mb_deciding.specs.declared.access.Act.{Act}
-use Rattle.mb_deciding.specs.declared.access.Act.TheVariants.{Load, Store}
-use Rattle.mb_deciding.specs.declared.access.Turn.{Turn}
-use Rattle.mb_deciding.specs.declared.object.Kind.TheVariants.{Conciliator, Ratifier}
 use Rattle.mb_deciding.specs.Examples.{impatient_run}
-use Rattle.mb_deciding.specs.Objects.{answer, IsPath, IsPrefix}
-use Rattle.mb_claim.specs.declared.access.ObjectTurn.{ObjectTurn}
-use Rattle.mb_claim.specs.declared.access.Stage.{Stage}
-use Rattle.mb_claim.specs.declared.access.Stage.TheVariants.{Going, Won}
-use Rattle.mb_claim.specs.declared.run.ClaimEntry.TheVariants.{Access, Done}
-use Rattle.mb_claim.specs.Claiming.{IsLawful, HasStage}
-use Rattle.mb_claim.specs.Examples.{made, won_alone, IsPlayedByTwo, step, eight_steps, won_and}
-use Rattle.mb_claim.specs.Layouts.{pairs_of}
-use Rattle.mb_claim.specs.Paths.{tagged, IsClaimPrefixFrom}
-use Rattle.mb_deciding.proofs.Histories.{not_empty}
+use Rattle.mb_deciding.specs.Vocabulary.{answer, IsPath, IsPrefix}
+use Rattle.mb_claim.specs.declared.run.ClaimEntry.TheVariants as entry
+use Rattle.mb_claim.specs.{Value, Proposal, Quorum, Act, Load, Store, Turn, Conciliator, Ratifier}
+use Rattle.mb_claim.specs.{ObjectTurn, Stage, Going, Won, IsClaimLawful, HasStage, two_consumers, access_at, won_alone}
+use Rattle.mb_claim.specs.{IsPlayedByTwo, step, eight_steps, won_and, pairs_of, turns_on, IsClaimPrefixFrom}
+use Rattle.mb_claim.proofs.KindLaws.{AreDeciding}
+use Rattle.mb_claim.proofs.Lists.{not_empty}
 use Rattle.mb_claim.proofs.Counterexamples.{not_after_winning}
-use Rattle.mb_claim.proofs.Earlier.{earlier_lawful}
-use Rattle.mb_claim.proofs.Examples.{conciliated, ratified, won, lawful}
+use Rattle.mb_claim.proofs.OlderHistories.{older_history_lawful}
+use Rattle.mb_claim.proofs.LawfulExamples.{conciliated, ratified, won, lawful}
 use Rattle.mb_claim.proofs.Parts.{forward}
-use Rattle.mb_claim.proofs.Unique.{AreDeciding, one_stage_lem}
+use Rattle.mb_claim.proofs.Unique.{one_stage_lem}
 
 -- ---- one wins
 -- a turn with the random word 0
@@ -34,8 +27,9 @@ drawn = turn (Load Value 1) ∷ turn (Store Value 1) ∷ turn (Load Value 0) ∷
 
 -- before the end of that it goes on
 going_first :
-    (turns later : List Turn) (x : Turn) → IsPath (unary_table 2) (Conciliator 2) 0 (x ∷ later ++ turns) (answer false 0)
-    → IsClaimPrefixFrom (unary_table 2) 0 (pairs_of 2 1) 0 0 (tagged 0 turns) Going
+    (turns later : List Turn) (x : Turn) → IsPath (unary_table 2) (Conciliator 2) 0 (x ∷ later ++ turns)
+    (answer false 0)
+    → IsClaimPrefixFrom (unary_table 2) 0 (pairs_of 2 1) 0 0 (turns_on 0 turns) Going
 going_first turns later x path =
     inl
     (record { turns = turns; all = refl; going = (x ∷ later, not_empty x later, (answer false 0, path)); is = refl })
@@ -43,14 +37,23 @@ going_first turns later x path =
 -- and then before the end of what it does on the ratifier
 going_second :
     (turns later : List Turn) (x : Turn) → IsPath (unary_table 2) Ratifier 0 (x ∷ later ++ turns) (answer true 0)
-    → IsClaimPrefixFrom (unary_table 2) 0 (pairs_of 2 1) 0 0 (tagged 1 turns ++ tagged 0 drawn) Going
+    → IsClaimPrefixFrom (unary_table 2) 0 (pairs_of 2 1) 0 0 (turns_on 1 turns ++ turns_on 0 drawn) Going
 going_second turns later x path =
     inr (inr (
       0,
-      tagged 1 turns,
+      turns_on 1 turns,
       record { turns = drawn; all = refl; path = conciliated },
       inl
-          (record { turns = turns; all = refl; going = (x ∷ later, not_empty x later, (answer true 0, path)); is = refl }),
+          (record {
+            turns = turns;
+            all = refl;
+            going = (
+              x ∷ later,
+              not_empty x later,
+              (answer true 0, path),
+            );
+            is = refl;
+          }),
     ))
 
 -- consumer 0 is one of the two
@@ -62,26 +65,33 @@ won_ended : Won ≢ Going
 won_ended e = cc
 
 -- what came before the other consumer is lawful
-alone_lawful : IsLawful (unary_table 2) (pairs_of 2 1) 1 won_alone
+alone_lawful : IsClaimLawful two_consumers won_alone
 alone_lawful =
-    earlier_lawful (unary_table 2) (pairs_of 2 1) 1
-    (made 1 1 (Load (Quorum 1) 0) ∷ made 1 1 (Load Proposal 1) ∷ made 1 1 (Store (Quorum 0) 1) ∷ made 1 0 (Load Value 1) ∷ [])
+    older_history_lawful two_consumers
+    (access_at 1 1 (Load (Quorum 1) 0) ∷ access_at 1 1 (Load Proposal 1) ∷ access_at 1 1 (Store (Quorum 0) 1) ∷ access_at 1 0
+    (Load Value 1) ∷ [])
     won_alone lawful
 
 module _ (law : AreDeciding (unary_table 2)) where
   -- who has not begun goes on
   idle : (c : ℕ) → c < 2 → IsClaimPrefixFrom (unary_table 2) c (pairs_of 2 1) 0 c [] Going
-  idle c known = inl (record { turns = []; all = refl; going = (law (Conciliator 2)).opens c known; is = refl })
+  idle c known = inl (record {
+    turns = [];
+    all = refl;
+    going = (law (Conciliator 2)
+        (λ p. p)).opens c known;
+    is = refl;
+  })
 
   -- the stages at the end
   stages_reached :
-      (c : ℕ) (d : Stage) → c < 2 → HasStage (unary_table 2) (pairs_of 2 1) won_alone 0 c (get_or (Won ∷ Going ∷ []) c d)
+      (c : ℕ) (d : Stage) → c < 2 → HasStage two_consumers c 0 (get_or (Won ∷ Going ∷ []) c d) won_alone
   stages_reached zero d below = (below, won)
   stages_reached (suc zero) d below = (below, idle 1 below)
   stages_reached (suc (suc c)) d below = absurd (omega arith)
 
   -- seven accesses, and a step of the claim that was won
-  pub won_played : IsPlayedByTwo eight_steps (won_and (Done 0)) (Won ∷ Going ∷ [])
+  pub won_played : IsPlayedByTwo eight_steps (won_and (entry.Done 0)) (Won ∷ Going ∷ [])
   won_played =
       let load : Turn = turn (Load Value 0) in
       let store : Turn = turn (Store Value 1) in
@@ -125,13 +135,13 @@ module _ (law : AreDeciding (unary_table 2)) where
       }
 
   -- `Done` comes after the end
-  pub early_refused : IsPlayedByTwo (step ∷ []) (Done 0 ∷ []) (Going ∷ Going ∷ []) → ⊥
+  pub early_refused : IsPlayedByTwo (step ∷ []) (entry.Done 0 ∷ []) (Going ∷ Going ∷ []) → ⊥
   early_refused bad =
       let done = bad.fits.1 in
       done.2 (one_stage_lem (unary_table 2) law 0 (pairs_of 2 1) 0 0 [] done.0 Going done.1.1 (idle 0 zero_known))
 
   -- and nothing else
-  pub late_refused : IsPlayedByTwo eight_steps (won_and (Access 0 1 (Load (Quorum 1) 0))) (Won ∷ Going ∷ []) → ⊥
+  pub late_refused : IsPlayedByTwo eight_steps (won_and (entry.Access 0 1 (Load (Quorum 1) 0))) (Won ∷ Going ∷ []) → ⊥
   late_refused bad = not_after_winning (law (Conciliator 2)) (law Ratifier) bad.lawful
 
   -- the stages are the history's
@@ -146,7 +156,7 @@ pub silent_refused : IsPlayedByTwo (step ∷ []) [] (Going ∷ Going ∷ []) →
 silent_refused bad = bad.fits
 
 -- that is of the step's consumer
-pub another_refused : IsPlayedByTwo ((1, 0) ∷ []) (Access 0 0 (Load Value 0) ∷ []) (Going ∷ Going ∷ []) → ⊥
+pub another_refused : IsPlayedByTwo ((1, 0) ∷ []) (entry.Access 0 0 (Load Value 0) ∷ []) (Going ∷ Going ∷ []) → ⊥
 another_refused bad = let same : 0 ≡ 1 = bad.fits.0 in absurd (omega (arith, same))
 
 -- each consumer has a stage
@@ -156,10 +166,10 @@ few_refused bad = let same : 1 ≡ 2 = bad.consumers in absurd (omega (arith, sa
 -- the random words are the steps'
 pub impatient_refused :
     (IsPrefix (unary_table 2) (Conciliator 2) 0 impatient_run → ⊥)
-    → IsPlayedByTwo ((0, 3) ∷ (0, 3) ∷ []) (Access 0 0 (Load Value 0) ∷ Access 0 0 (Store Value 1) ∷ [])
+    → IsPlayedByTwo ((0, 3) ∷ (0, 3) ∷ []) (entry.Access 0 0 (Load Value 0) ∷ entry.Access 0 0 (Store Value 1) ∷ [])
     (Going ∷ Going ∷ []) → ⊥
 impatient_refused no_part bad =
-    let xs : List ObjectTurn = tagged 0 impatient_run in
+    let xs : List ObjectTurn = turns_on 0 impatient_run in
     let mine = bad.lawful.parts 0 0 (λ none. not_empty _ _ none) in
     let here = (forward (unary_table 2) 0 (Conciliator 2) (Ratifier ∷ []) 0 0 xs mine.2.0 (inr mine.2.1)).here in
     ⊎_elim (λ none. not_empty _ _ none) no_part here

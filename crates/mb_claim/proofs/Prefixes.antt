@@ -1,23 +1,13 @@
 -- What belongs to a claim is exactly what a whole claim path begins with.
-use Rattle.std.proofs.Common.{◌≡◌, ◌≢◌, ◌+◌, ◌⊎◌, ℕ, suc, Bool, true, false, List, [], ◌∷◌, ◌++◌, refl, sym, ◌∙◌, ap, ap₂, subst, inl, inr, append_assoc, arith}
+use Rattle.std.proofs.Common.{◌≡◌, ◌≢◌, ◌+◌, ◌⊎◌, ℕ, suc, Bool, true, false, List, [], ◌∷◌, ◌++◌, refl, sym, ◌∙◌, ap}
+use Rattle.std.proofs.Common.{ap₂, subst, inl, inr, append_assoc, arith}
 use Rattle.std.proofs.lemmas.List.{map-append}
-use Rattle.mb_quorum.specs.Quorum.{QuorumTable}
-use Rattle.mb_deciding.specs.declared.access.Act.{Act}
-use Rattle.mb_deciding.specs.declared.access.Turn.{Turn}
-use Rattle.mb_deciding.specs.declared.object.Kind.{Kind}
-use Rattle.mb_deciding.specs.declared.object.Out.{Out}
-use Rattle.mb_deciding.specs.declared.access.Reg.TheVariants.{Value, Proposal}
-use Rattle.mb_deciding.specs.declared.access.Act.TheVariants.{Load}
-use Rattle.mb_deciding.specs.declared.object.Kind.TheVariants.{Conciliator, Ratifier}
-use Rattle.mb_deciding.specs.Objects.{answer, IsPath, IsOpen}
-use Rattle.mb_deciding.specs.Ratifier.{zeros_below, announced}
-use Rattle.mb_claim.specs.declared.access.ObjectTurn.{ObjectTurn}
-use Rattle.mb_claim.specs.declared.access.Stage.{Stage}
-use Rattle.mb_claim.specs.declared.access.Stage.TheVariants.{Going, Undecided}
-use Rattle.mb_claim.specs.Paths.{tagged, stage_for, stage_of, IsClaimPath, IsClaimPrefixFrom}
-use Rattle.mb_deciding.proofs.Acts.{turns_for, acts-turns_for}
-use Rattle.mb_deciding.proofs.Histories.{not_empty}
-use Rattle.mb_claim.proofs.Lists.{append_nil_left, append_nil_rest, heads, tails}
+use Rattle.mb_quorum.specs.Vocabulary.{QuorumTable}
+use Rattle.mb_deciding.specs.Vocabulary.{answer, IsPath, IsOpen, zeros_below, announcement}
+use Rattle.mb_claim.specs.{Act, Turn, Kind, Out, Value, Proposal, Load, Conciliator, Ratifier, ObjectTurn, Stage, Going}
+use Rattle.mb_claim.specs.{Undecided, turns_on, stage_for, stage_of, IsClaimPath, IsClaimPrefixFrom}
+use Rattle.mb_claim.proofs.Turns.{turns_for, acts-turns_for}
+use Rattle.mb_claim.proofs.Lists.{not_empty, append_nil_left, append_nil_rest, heads, tails}
 
 -- ---- whole paths
 -- each object has a whole path of each input
@@ -27,7 +17,7 @@ some_path :
 some_path t (Conciliator s) v =
     (record { act = Load Value (v + 1); word = 0 } ∷ [], false, v, (refl, (refl, (0, (omega arith), inl tt))))
 some_path t Ratifier v =
-    let begin : List Act = Load Proposal (v + 1) ∷ announced t v in
+    let begin : List Act = Load Proposal (v + 1) ∷ announcement t v in
     let made : List Act = zeros_below t.registers (t.read v) ++ begin in
     (turns_for made, true, v, (begin, inr refl, acts-turns_for made))
 
@@ -36,7 +26,7 @@ path_on :
     (t : QuorumTable) (kind : Kind) (kinds : List Kind) (o v : ℕ)
     → ((u : ℕ) → (xs : List ObjectTurn) × (output : Out) × IsClaimPath t kinds (suc o) u xs output)
     → (turns : List Turn) (d : Bool) (u : ℕ) → IsPath t kind v turns (answer d u)
-    → (later : List ObjectTurn) × (output : Out) × IsClaimPath t (kind ∷ kinds) o v (later ++ tagged o turns) output
+    → (later : List ObjectTurn) × (output : Out) × IsClaimPath t (kind ∷ kinds) o v (later ++ turns_on o turns) output
 path_on t kind kinds o v behind turns true u path =
     ([], answer true u, (turns, [], true, u, refl, path, inl (refl, refl, refl)))
 path_on t kind kinds o v behind turns false u path =
@@ -50,22 +40,22 @@ whole_path t [] o v = ([], answer false v, (refl, refl))
 whole_path t (kind ∷ kinds) o v =
     let first = some_path t kind v in
     let all = path_on t kind kinds o v (whole_path t kinds (suc o)) first.0 first.1 first.2 first.3 in
-    (all.0 ++ tagged o first.0, all.1, all.2)
+    (all.0 ++ turns_on o first.0, all.1, all.2)
 
 -- ---- what belongs is a prefix
 -- what goes on is completed
 completed_open :
     (t : QuorumTable) (kind : Kind) (kinds : List Kind) (o v : ℕ) (xs : List ObjectTurn) (turns : List Turn)
-    → xs ≡ tagged o turns → IsOpen t kind v turns
+    → xs ≡ turns_on o turns → IsOpen t kind v turns
     → (later : List ObjectTurn) × (output : Out) × IsClaimPath t (kind ∷ kinds) o v (later ++ xs) output
 completed_open t kind kinds o v xs turns all (more, ne, (out, path)) =
     let whole = path_on t kind kinds o v (whole_path t kinds (suc o)) (more ++ turns) out.decided out.value path in
     let P : List ObjectTurn → Type 0 = λ zs. IsClaimPath t (kind ∷ kinds) o v zs whole.1 in
-    let joined : whole.0 ++ tagged o (more ++ turns) ≡ (whole.0 ++ tagged o more) ++ xs =
+    let joined : whole.0 ++ turns_on o (more ++ turns) ≡ (whole.0 ++ turns_on o more) ++ xs =
     ap (λ zs. whole.0 ++ zs) (map-append (λ (x : Turn). record { object = o; turn = x }) more turns
-    ∙ ap (λ zs. tagged o more ++ zs) (sym all))
-    ∙ sym (append_assoc whole.0 (tagged o more) xs) in
-    (whole.0 ++ tagged o more, whole.1, subst P joined whole.2)
+    ∙ ap (λ zs. turns_on o more ++ zs) (sym all))
+    ∙ sym (append_assoc whole.0 (turns_on o more) xs) in
+    (whole.0 ++ turns_on o more, whole.1, subst P joined whole.2)
 
 -- a part is a prefix of a whole path
 pub completed :
@@ -78,8 +68,8 @@ completed t c (kind ∷ kinds) o v xs s (inr (inl x)) =
     ([], answer true x.value, (x.turns, [], true, x.value, x.all, x.path, inl (refl, refl, refl)))
 completed t c (kind ∷ kinds) o v xs s (inr (inr (u, rest, x, p))) =
     let whole = completed t c kinds (suc o) u rest s p in
-    let all : whole.0 ++ xs ≡ (whole.0 ++ rest) ++ tagged o x.turns =
-    ap (λ zs. whole.0 ++ zs) x.all ∙ sym (append_assoc whole.0 rest (tagged o x.turns)) in
+    let all : whole.0 ++ xs ≡ (whole.0 ++ rest) ++ turns_on o x.turns =
+    ap (λ zs. whole.0 ++ zs) x.all ∙ sym (append_assoc whole.0 rest (turns_on o x.turns)) in
     (whole.0, whole.1, (x.turns, whole.0 ++ rest, false, u, all, x.path, inr (refl, whole.2)))
 
 -- ---- what is a prefix belongs
@@ -104,32 +94,32 @@ cut (y ∷ ys) xs (z ∷ zs) back e =
     (cut ys xs zs back (tails y z (ys ++ xs) (zs ++ back) e))
 
 -- turns on one object, cut in two
-cut_tagged :
-    (o : ℕ) (turns : List Turn) (mid xs : List ObjectTurn) → tagged o turns ≡ mid ++ xs
-    → (more ts : List Turn) × (turns ≡ more ++ ts) × (mid ≡ tagged o more) × (xs ≡ tagged o ts)
-cut_tagged o turns [] xs e = ([], turns, refl, refl, sym e)
-cut_tagged o [] (m ∷ mid) xs e = absurd (not_empty m (mid ++ xs) (sym e))
-cut_tagged o (turn ∷ turns) (m ∷ mid) xs e =
+cut_turns_on :
+    (o : ℕ) (turns : List Turn) (mid xs : List ObjectTurn) → turns_on o turns ≡ mid ++ xs
+    → (more ts : List Turn) × (turns ≡ more ++ ts) × (mid ≡ turns_on o more) × (xs ≡ turns_on o ts)
+cut_turns_on o turns [] xs e = ([], turns, refl, refl, sym e)
+cut_turns_on o [] (m ∷ mid) xs e = absurd (not_empty m (mid ++ xs) (sym e))
+cut_turns_on o (turn ∷ turns) (m ∷ mid) xs e =
     let first : record { object = o; turn = turn } ≡ m =
-    heads (record { object = o; turn = turn }) m (tagged o turns) (mid ++ xs) e in
+    heads (record { object = o; turn = turn }) m (turns_on o turns) (mid ++ xs) e in
     let rest =
-    cut_tagged o turns mid xs (tails (record { object = o; turn = turn }) m (tagged o turns) (mid ++ xs) e) in
+    cut_turns_on o turns mid xs (tails (record { object = o; turn = turn }) m (turns_on o turns) (mid ++ xs) e) in
     (turn ∷ rest.0, rest.1, ap (λ zs. turn ∷ zs) rest.2, ap₂ (λ a zs. a ∷ zs) (sym first) rest.3, rest.4)
 
 -- a prefix that lies within the first object goes on there
 begun_within :
     (t : QuorumTable) (c : ℕ) (kind : Kind) (kinds : List Kind) (o v : ℕ) (first : ObjectTurn)
     (mid xs : List ObjectTurn) (turns : List Turn) (d : Bool) (u : ℕ)
-    → tagged o turns ≡ (first ∷ mid) ++ xs → IsPath t kind v turns (answer d u)
+    → turns_on o turns ≡ (first ∷ mid) ++ xs → IsPath t kind v turns (answer d u)
     → IsClaimPrefixFrom t c (kind ∷ kinds) o v xs Going
 begun_within t c kind kinds o v first mid xs turns d u e path =
-    let at = cut_tagged o turns (first ∷ mid) xs e in
+    let at = cut_turns_on o turns (first ∷ mid) xs e in
     let P : List Turn → Type 0 = λ ts. IsPath t kind v ts (answer d u) in
     inl
     (record {
       turns = at.1;
       all = at.4;
-      going = (at.0, λ none. not_empty first mid (at.3 ∙ ap (tagged o) none), (answer d u, subst P at.2 path));
+      going = (at.0, λ none. not_empty first mid (at.3 ∙ ap (turns_on o) none), (answer d u, subst P at.2 path));
       is = refl;
     })
 
@@ -141,12 +131,12 @@ begun_by :
     → ((front : List ObjectTurn) → rest ≡ later ++ front → IsClaimPath t kinds (suc o) u rest output
     → (s : Stage) × IsClaimPrefixFrom t c kinds (suc o) u front s)
     → ((d ≡ true) × (rest ≡ []) × (output ≡ answer true u)) ⊎ ((d ≡ false) × IsClaimPath t kinds (suc o) u rest output)
-    → IsCut later xs rest (tagged o turns) → (s : Stage) × IsClaimPrefixFrom t c (kind ∷ kinds) o v xs s
+    → IsCut later xs rest (turns_on o turns) → (s : Stage) × IsClaimPrefixFrom t c (kind ∷ kinds) o v xs s
 begun_by t c kind kinds o v later xs rest turns d u output path behind end (inr (first, mid, e)) =
     (Going, begun_within t c kind kinds o v first mid xs turns d u e path)
 begun_by t c kind kinds o v later xs rest turns d u output path behind (inl (decided, none, e)) (inl (front, p, q)) =
-    let all : xs ≡ tagged o turns =
-    p ∙ append_nil_left front (tagged o turns) (append_nil_rest later front (sym q ∙ none)) in
+    let all : xs ≡ turns_on o turns =
+    p ∙ append_nil_left front (turns_on o turns) (append_nil_rest later front (sym q ∙ none)) in
     let P : Bool → Type 0 = λ b. IsPath t kind v turns (answer b u) in
     (stage_for c u, inr (inl (record { turns = turns; value = u; all = all; path = subst P decided path; is = refl })))
 begun_by t c kind kinds o v later xs rest turns d u output path behind (inr (undecided, whole)) (inl (front, p, q)) =
@@ -163,7 +153,7 @@ begun t c [] o v later xs ys output e p = (Undecided, (append_nil_rest later xs 
 begun t c (kind ∷ kinds) o v later xs ys output e (turns, rest, d, u, all, path, end) =
     begun_by t c kind kinds o v later xs rest turns d u output path
     (λ front f p. begun t c kinds (suc o) u later front rest output f p) end
-    (cut later xs rest (tagged o turns) (sym e ∙ all))
+    (cut later xs rest (turns_on o turns) (sym e ∙ all))
 
 -- ---- whole paths and their stages
 -- a whole path has the stage of its output
@@ -177,7 +167,7 @@ whole_stage t c (kind ∷ kinds) o v xs output (turns, rest, d, u, all, path, in
     inr (inl (record {
       turns = turns;
       value = u;
-      all = all ∙ append_nil_left rest (tagged o turns) none;
+      all = all ∙ append_nil_left rest (turns_on o turns) none;
       path =
           subst P decided path;
       is = ap (stage_of c) e;

@@ -1,29 +1,18 @@
 -- The access that a place names may come next.
-use Rattle.std.proofs.Common.{◌≡◌, ◌+◌, ◌<◌, ℕ, suc, Bool, true, false, cond, Some, None, List, [], ◌∷◌, ◌++◌, length, refl, sym, ◌∙◌, ap, ap₂, subst, subst₂, slice_get, inl, inr, append-nil, append_assoc, arith}
+use Rattle.std.proofs.Common.{◌≡◌, ◌+◌, ◌<◌, ℕ, suc, Bool, true, false, cond, Some, None, List, [], ◌∷◌, ◌++◌, length}
+use Rattle.std.proofs.Common.{refl, sym, ◌∙◌, ap, ap₂, subst, subst₂, slice_get, inl, inr, append-nil, append_assoc}
+use Rattle.std.proofs.Common.{arith}
 use Rattle.std.proofs.lemmas.Bool.{eq-eqb}
 use Rattle.std.specs.List.{cons_option}
-use Rattle.mb_quorum.specs.Quorum.{QuorumTable}
-use Rattle.mb_deciding.specs.declared.access.Turn.{Turn}
-use Rattle.mb_deciding.specs.declared.access.Access.{Access}
-use Rattle.mb_deciding.specs.declared.access.Op.{Op}
-use Rattle.mb_deciding.specs.declared.object.Kind.{Kind}
-use Rattle.mb_deciding.specs.declared.object.Out.{Out}
-use Rattle.mb_deciding.specs.declared.place.Pc.{Pc}
-use Rattle.mb_deciding.specs.History.{ReadsLast, turns_of, IsInWords}
-use Rattle.mb_deciding.specs.Objects.{answer, IsPath, IsPrefix, IsOpen, IsObjectLawful}
-use Rattle.mb_deciding.specs.Place.{CanFind, IsAt, IsOpAt, turn_after, seen_by}
-use Rattle.mb_claim.specs.declared.access.ObjectTurn.{ObjectTurn}
-use Rattle.mb_claim.specs.declared.access.ClaimAccess.{ClaimAccess}
-use Rattle.mb_claim.specs.declared.access.Stage.{Stage}
-use Rattle.mb_claim.specs.declared.access.Stage.TheVariants.{Going, Undecided}
-use Rattle.mb_claim.specs.History.{part, object_history}
-use Rattle.mb_claim.specs.Paths.{tagged, stage_for, IsClaimPrefixFrom}
-use Rattle.mb_claim.specs.Claiming.{IsLawful, MayFollow}
-use Rattle.mb_claim.specs.Standing.{PassesAll, StandsAt, access_after}
-use Rattle.mb_deciding.proofs.Histories.{not_empty}
-use Rattle.mb_deciding.proofs.Runs.{reads_seen}
-use Rattle.mb_claim.proofs.Lists.{get_at}
-use Rattle.mb_claim.proofs.Unique.{AreDeciding}
+use Rattle.mb_quorum.specs.Vocabulary.{QuorumTable}
+use Rattle.mb_deciding.specs.Vocabulary.{object_of, ReadsLast, part, IsInWords, answer, IsPath, IsPrefix, IsOpen}
+use Rattle.mb_deciding.specs.Vocabulary.{IsObjectLawful, CanFind, IsAt, IsOpAt, turn_after, seen_by}
+use Rattle.mb_claim.specs.{Claims, claims_of, Turn, Access, Op, Kind, Out, Pc, ObjectTurn, ClaimAccess, Stage, Going}
+use Rattle.mb_claim.specs.{Undecided, part_on, object_history, turns_on, stage_for, IsClaimPrefixFrom, IsClaimLawful}
+use Rattle.mb_claim.specs.{MayFollow, PassesAll, StandsAt, HasPlace, access_after}
+use Rattle.mb_claim.proofs.KindLaws.{AreDeciding}
+use Rattle.mb_claim.proofs.Lists.{not_empty, get_at}
+use Rattle.mb_claim.proofs.Turns.{reads_seen}
 use Rattle.mb_claim.proofs.CellFamily.{competes, family}
 use Rattle.mb_claim.proofs.PassedObjects.{Here, family_at}
 
@@ -38,8 +27,8 @@ passed_then t c [] after o v w front ys s p q =
     subst (λ zs. IsClaimPrefixFrom t c after o v zs s) xs (subst₂ (λ m u. IsClaimPrefixFrom t c after m u ys s) n p.1 q)
 passed_then t c (k ∷ ks) after o v w front ys s (u, rest, x, p) q =
     let n : o + suc (length ks) ≡ suc o + length ks = omega arith in
-    let all : ys ++ front ≡ (ys ++ rest) ++ tagged o x.turns =
-    ap (λ zs. ys ++ zs) x.all ∙ sym (append_assoc ys rest (tagged o x.turns)) in
+    let all : ys ++ front ≡ (ys ++ rest) ++ turns_on o x.turns =
+    ap (λ zs. ys ++ zs) x.all ∙ sym (append_assoc ys rest (turns_on o x.turns)) in
     inr (inr (
       u,
       ys ++ rest,
@@ -63,14 +52,14 @@ module _ (t : QuorumTable) (kinds : List Kind) (c object : ℕ) (pc : Pc) (xs : 
     longer = record { object = object; turn = x } ∷ xs
 
     -- they are those on this object, and those before
-    pub longer_is : longer ≡ tagged object (x ∷ p.turns) ++ p.front
+    pub longer_is : longer ≡ turns_on object (x ∷ p.turns) ++ p.front
     longer_is = ap (λ zs. record { object = object; turn = x } ∷ zs) p.all
 
     -- a part with one more turn on this object
-    then_here : (s : Stage) → IsClaimPrefixFrom t c (p.kind ∷ p.after) object p.input (tagged object (x ∷ p.turns)) s
+    then_here : (s : Stage) → IsClaimPrefixFrom t c (p.kind ∷ p.after) object p.input (turns_on object (x ∷ p.turns)) s
         → IsClaimPrefixFrom t c kinds 0 c longer s
     then_here s q = subst (λ zs. IsClaimPrefixFrom t c kinds 0 c zs s) (sym longer_is)
-        (from_here (tagged object (x ∷ p.turns)) s q)
+        (from_here (turns_on object (x ∷ p.turns)) s q)
 
     -- the turn ends the path on this object, which decides
     pub decided_here : (u : ℕ) → IsPath t p.kind p.input (x ∷ p.turns) (answer true u)
@@ -102,7 +91,7 @@ module _ (t : QuorumTable) (kinds : List Kind) (c object : ℕ) (pc : Pc) (xs : 
     passed_here law k ks next u path l =
         undecided_then u Going path
         (subst (λ js. IsClaimPrefixFrom t c js (suc object) u [] Going) (sym next)
-        (inl (record { turns = []; all = refl; going = (law k).opens u l; is = refl })))
+        (inl (record { turns = []; all = refl; going = (law k (λ p. p)).opens u l; is = refl })))
 
     -- the turn ends the path on this object
     ended :
@@ -134,24 +123,26 @@ module _ (t : QuorumTable) (kinds : List Kind) (c object : ℕ) (pc : Pc) (xs : 
 pub record AreStepping (t : QuorumTable) : Type 0 where
   pub steps :
       (kind : Kind) (inputs : ℕ → ℕ) (h : List Access) (p : ℕ) (pc : Pc) (op : Op) (word : ℕ)
-      → IsObjectLawful t kind inputs h
-      → IsAt t kind (inputs p) pc (turns_of p h) → IsOpAt t pc op
-      → IsPrefix t kind (inputs p) (turn_after op word h ∷ turns_of p h)
+      → IsObjectLawful (object_of t kind inputs) h
+      → IsAt t kind (inputs p) pc (part p h) → IsOpAt t pc op
+      → IsPrefix t kind (inputs p) (turn_after op word h ∷ part p h)
   pub finds :
-      (kind : Kind) (inputs : ℕ → ℕ) (h : List Access) (p : ℕ) (pc : Pc) (op : Op) → IsObjectLawful t kind inputs h
-      → IsAt t kind (inputs p) pc (turns_of p h) → IsOpAt t pc op → CanFind t pc op (seen_by op h)
+      (kind : Kind) (inputs : ℕ → ℕ) (h : List Access) (p : ℕ) (pc : Pc) (op : Op)
+      → IsObjectLawful (object_of t kind inputs) h
+      → IsAt t kind (inputs p) pc (part p h) → IsOpAt t pc op → CanFind t pc op (seen_by op h)
   pub longer :
-      (kind : Kind) (inputs : ℕ → ℕ) (h : List Access) (p : ℕ) (turn : Turn) → IsObjectLawful t kind inputs h
+      (kind : Kind) (inputs : ℕ → ℕ) (h : List Access) (p : ℕ) (turn : Turn)
+      → IsObjectLawful (object_of t kind inputs) h
       → inputs p < t.values → IsInWords turn
-      → ReadsLast turn.act h → IsPrefix t kind (inputs p) (turn ∷ turns_of p h)
-      → IsObjectLawful t kind inputs (record { process = p; turn = turn } ∷ h)
+      → ReadsLast turn.act h → IsPrefix t kind (inputs p) (turn ∷ part p h)
+      → IsObjectLawful (object_of t kind inputs) (record { process = p; turn = turn } ∷ h)
 
 module _ (t : QuorumTable) (law : AreDeciding t) (stepping : AreStepping t) (kind : Kind) (hs : ℕ → List Access)
     (c o w : ℕ) (turns : List Turn) (at : Here t kind hs c o w turns)
     (pc : Pc) (op : Op) (word : ℕ) (small : IsInWords (turn_after op word (hs o))) (place : IsAt t kind w pc turns)
     (is : IsOpAt t pc op) where
   -- the turn goes on with the path of its process
-  own_step : IsPrefix t kind (at.inputs c) (turn_after op word (hs o) ∷ turns_of c (hs o))
+  own_step : IsPrefix t kind (at.inputs c) (turn_after op word (hs o) ∷ part c (hs o))
   own_step =
       stepping.steps kind at.inputs (hs o) c pc op word at.lawful
       (subst₂ (λ v ts. IsAt t kind v pc ts) (sym at.own) (sym at.same) place) is
@@ -161,7 +152,7 @@ module _ (t : QuorumTable) (law : AreDeciding t) (stepping : AreStepping t) (kin
   part_here = subst₂ (λ v ts. IsPrefix t kind v (turn_after op word (hs o) ∷ ts)) at.own at.same own_step
 
   -- the history of this object with the turn is lawful
-  then : IsObjectLawful t kind at.inputs (record { process = c; turn = turn_after op word (hs o) } ∷ hs o)
+  then : IsObjectLawful (object_of t kind at.inputs) (record { process = c; turn = turn_after op word (hs o) } ∷ hs o)
   then =
       stepping.longer kind at.inputs (hs o) c (turn_after op word (hs o)) at.lawful at.within small
       (reads_seen op (hs o)) own_step
@@ -171,56 +162,57 @@ module _ (t : QuorumTable) (law : AreDeciding t) (stepping : AreStepping t) (kin
       (u : ℕ) (d : Bool) → IsPath t kind w (turn_after op word (hs o) ∷ turns) (answer d u) → u < t.values
   output_below u d path =
       let turn : Turn = turn_after op word (hs o) in
-      let mine : turns_of c (record { process = c; turn = turn } ∷ hs o) ≡ turn ∷ turns =
-      ap (λ b. cons_option (cond b (Some turn) None) (turns_of c (hs o))) (eq-eqb c c refl) ∙ ap (λ ts. turn ∷ ts) at.same in
+      let mine : part c (record { process = c; turn = turn } ∷ hs o) ≡ turn ∷ turns =
+      ap (λ b. cons_option (cond b (Some turn) None) (part c (hs o))) (eq-eqb c c refl)
+      ∙ ap (λ ts. turn ∷ ts) at.same in
       let output = subst₂ (λ v ts. IsPath t kind v ts (answer d u)) (sym at.own) (sym mine) path in
-      let from = (law kind).validity at.inputs (record { process = c; turn = turn } ∷ hs o) then c d u output in
+      let from = (law kind at.inputs).validity (record { process = c; turn = turn } ∷ hs o) then c d u output in
       subst (λ n. n < t.values) from.2 (then.parts from.0 from.1).0
 
 -- the object on which a claim stands, in a lawful history
 stands_here :
-    (t : QuorumTable) → AreDeciding t
-    → (kinds : List Kind) (cells : ℕ) (h : List ClaimAccess) (c k object : ℕ) (pc : Pc)
-    → IsLawful t kinds cells h → c < t.values → (p : StandsAt t kinds c object pc (part c k h))
-    → Here t p.kind (λ o. object_history k o h) c object p.input p.turns
-stands_here t law kinds cells h c k object pc lawful known p =
-    let lawful' : IsLawful t (p.before ++ p.kind ∷ p.after) cells h =
-    subst (λ ks. IsLawful t ks cells h) p.order lawful in
-    family_at t (λ o. object_history k o h) law p.before p.kind p.after 0
-    (competes t (p.before ++ p.kind ∷ p.after) cells h k law lawful')
-    (family t (p.before ++ p.kind ∷ p.after) cells h k law lawful') c p.input object p.front p.turns
-    (p.number ∙ (omega arith)) known p.all p.passed
+    (cs : Claims) → AreDeciding cs.table → (h : List ClaimAccess) (c k object : ℕ) (pc : Pc)
+    → IsClaimLawful cs h → (p : HasPlace cs c k object pc h)
+    → Here cs.table p.1.kind (λ o. object_history k o h) c object p.1.input p.1.turns
+stands_here cs law h c k object pc lawful p =
+    let row : Claims = claims_of cs.table (p.1.before ++ p.1.kind ∷ p.1.after) cs.cells in
+    let lawful' : IsClaimLawful row h =
+    subst (λ ks. IsClaimLawful (claims_of cs.table ks cs.cells) h) p.1.order lawful in
+    family_at cs.table (λ o. object_history k o h) law p.1.before p.1.kind p.1.after 0
+    (competes row h k law lawful') (family row h k law lawful') c p.1.input object p.1.front p.1.turns
+    (p.1.number ∙ (omega arith)) p.0 p.1.all p.1.passed
 
 -- the access that a claim's place names may come next
 pub may_follow :
-    (t : QuorumTable) → AreDeciding t → AreStepping t
-    → (kinds : List Kind) (cells : ℕ) (h : List ClaimAccess) (c k object : ℕ) (pc : Pc) (op : Op) (word : ℕ)
-    → IsLawful t kinds cells h → c < t.values → k < cells → StandsAt t kinds c object pc (part c k h) → IsOpAt t pc op
+    (cs : Claims) → AreDeciding cs.table → AreStepping cs.table
+    → (h : List ClaimAccess) (c k object : ℕ) (pc : Pc) (op : Op) (word : ℕ)
+    → IsClaimLawful cs h → k < cs.cells → HasPlace cs c k object pc h → IsOpAt cs.table pc op
     → IsInWords (access_after c k object op word h).step.turn
-    → MayFollow t kinds cells h (access_after c k object op word h)
-may_follow t law stepping kinds cells h c k object pc op word lawful known cell p is words =
-    let at = stands_here t law kinds cells h c k object pc lawful known p in
+    → MayFollow cs (access_after c k object op word h) h
+may_follow cs law stepping h c k object pc op word lawful cell p is words =
+    let at = stands_here cs law h c k object pc lawful p in
     let hs : ℕ → List Access = λ o. object_history k o h in
     record {
-      consumer = known;
+      consumer = p.0;
       cell = cell;
       words = words;
       reads = reads_seen op (object_history k object h);
-      part = goes_on t kinds c object pc (part c k h) p (turn_after op word (object_history k object h)) law
-          (output_below t law stepping p.kind hs c object p.input p.turns at pc op word words p.place is)
-          (part_here t law stepping p.kind hs c object p.input p.turns at pc op word words p.place is);
+      prefix =
+          goes_on cs.table cs.kinds c object pc (part_on c k h) p.1 (turn_after op word (object_history k object h)) law
+          (output_below cs.table law stepping p.1.kind hs c object p.1.input p.1.turns at pc op word words p.1.place is)
+          (part_here cs.table law stepping p.1.kind hs c object p.1.input p.1.turns at pc op word words p.1.place is);
     }
 
 -- and it finds a value with which the place can go on
 pub finds_there :
-    (t : QuorumTable) → AreDeciding t → AreStepping t
-    → (kinds : List Kind) (cells : ℕ) (h : List ClaimAccess) (c k object : ℕ) (pc : Pc) (op : Op)
-    → IsLawful t kinds cells h → c < t.values → StandsAt t kinds c object pc (part c k h) → IsOpAt t pc op
-    → CanFind t pc op (seen_by op (object_history k object h))
-finds_there t law stepping kinds cells h c k object pc op lawful known p is =
-    let at = stands_here t law kinds cells h c k object pc lawful known p in
-    stepping.finds p.kind at.inputs (object_history k object h) c pc op at.lawful
-    (subst₂ (λ v ts. IsAt t p.kind v pc ts) (sym at.own) (sym at.same) p.place) is
+    (cs : Claims) → AreDeciding cs.table → AreStepping cs.table
+    → (h : List ClaimAccess) (c k object : ℕ) (pc : Pc) (op : Op)
+    → IsClaimLawful cs h → HasPlace cs c k object pc h → IsOpAt cs.table pc op
+    → CanFind cs.table pc op (seen_by op (object_history k object h))
+finds_there cs law stepping h c k object pc op lawful p is =
+    let at = stands_here cs law h c k object pc lawful p in
+    stepping.finds p.1.kind at.inputs (object_history k object h) c pc op at.lawful
+    (subst₂ (λ v ts. IsAt cs.table p.1.kind v pc ts) (sym at.own) (sym at.same) p.1.place) is
 
 -- the object on which a claim stands is one of the layout's
 pub stands_on :
@@ -244,5 +236,5 @@ pub stands_part :
     → IsClaimPrefixFrom t c kinds 0 c xs Going
 stands_part t kinds c object pc xs p begin not =
     subst (λ zs. IsClaimPrefixFrom t c kinds 0 c zs Going) (sym p.all)
-    (from_here t kinds c object pc xs p (tagged object p.turns) Going
+    (from_here t kinds c object pc xs p (turns_on object p.turns) Going
     (inl (record { turns = p.turns; all = refl; going = open_by t p.kind p.input p.turns not begin; is = refl })))

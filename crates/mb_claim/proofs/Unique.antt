@@ -1,43 +1,35 @@
 -- A part has one stage.
-use Rattle.std.proofs.Common.{◌≡◌, ◌⊎◌, append_assoc, ℕ, suc, true, false, List, [], ◌∷◌, ◌++◌, refl, sym, ◌∙◌, ap, subst, subst₂, inl, inr}
+use Rattle.std.proofs.Common.{◌≡◌, ◌⊎◌, append_assoc, ℕ, suc, true, false, List, [], ◌∷◌, ◌++◌, refl, sym, ◌∙◌, ap}
+use Rattle.std.proofs.Common.{subst, subst₂, inl, inr}
 use Rattle.std.proofs.lemmas.Bool.{true≢false}
 use Rattle.std.proofs.lemmas.List.{append_cancel_right}
-use Rattle.mb_quorum.specs.Quorum.{QuorumTable}
-use Rattle.mb_deciding.specs.declared.access.Turn.{Turn}
-use Rattle.mb_deciding.specs.declared.object.Kind.{Kind}
-use Rattle.mb_deciding.specs.declared.object.Out.{Out}
-use Rattle.mb_deciding.specs.Objects.{answer, IsPath, IsPrefix, IsOpen}
-use Rattle.mb_deciding.specs.Deciding.{IsDeciding}
-use Rattle.mb_claim.specs.declared.access.ObjectTurn.{ObjectTurn}
-use Rattle.mb_claim.specs.declared.access.Stage.{Stage}
-use Rattle.mb_claim.specs.History.{part}
-use Rattle.mb_claim.specs.Paths.{tagged, stage_for, GoesOnIn, DecidesIn, IsClaimPrefixFrom}
+use Rattle.mb_quorum.specs.Vocabulary.{QuorumTable}
+use Rattle.mb_deciding.specs.Vocabulary.{answer, IsPath, IsPrefix, IsOpen}
+use Rattle.mb_claim.specs.{Turn, Kind, Out, ObjectTurn, Stage, turns_on, stage_for, GoesOnIn, DecidesIn}
+use Rattle.mb_claim.specs.{IsClaimPrefixFrom}
+use Rattle.mb_claim.proofs.KindLaws.{OfKind, AreDeciding}
 use Rattle.mb_claim.proofs.ObjectHistories.{turns_at}
 use Rattle.mb_claim.proofs.Lists.{append_nil_parts, append_nil_rest}
-use Rattle.mb_claim.proofs.Parts.{turns_at-tagged, passed_turns}
+use Rattle.mb_claim.proofs.Parts.{turns_at-turns_on, passed_turns}
 
--- the laws of the objects of every kind
-abbrev pub AreDeciding : QuorumTable → Type 0
-AreDeciding t = (kind : Kind) → IsDeciding t kind
-
-module _ (t : QuorumTable) (k : Kind) (law : IsDeciding t k) (v : ℕ) where
+module _ (t : QuorumTable) (k : Kind) (law : OfKind t k) (v : ℕ) where
   -- what goes on is no whole path
   pub open_closed : (xs ys : List Turn) (out : Out) → xs ≡ ys → IsOpen t k v xs → IsPath t k v ys out → ⊥
   open_closed xs ys out e g p =
-      g.1 (law.unique v xs g.0 out g.2.0 (subst (λ zs. IsPath t k v zs out) (sym e) p) g.2.1).0
+      g.1 ((law (λ p. p)).unique v xs g.0 out g.2.0 (subst (λ zs. IsPath t k v zs out) (sym e) p) g.2.1).0
 
   -- one path has one output
   pub same_out : (xs ys : List Turn) (a b : Out) → xs ≡ ys → IsPath t k v xs a → IsPath t k v ys b → a ≡ b
   same_out xs ys a b e p q =
-      (law.unique v xs [] a b p (subst (λ zs. IsPath t k v zs b) (sym e) q)).1
+      ((law (λ p. p)).unique v xs [] a b p (subst (λ zs. IsPath t k v zs b) (sym e) q)).1
 
 -- a part that went to one object has its turns there
 pub only :
-    (t : QuorumTable) (k : Kind) (o v : ℕ) (xs : List ObjectTurn) (ts : List Turn) → xs ≡ tagged o ts
+    (t : QuorumTable) (k : Kind) (o v : ℕ) (xs : List ObjectTurn) (ts : List Turn) → xs ≡ turns_on o ts
     → ts ≡ turns_at o xs
-only t k o v xs ts e = sym (turns_at-tagged o ts) ∙ ap (turns_at o) (sym e)
+only t k o v xs ts e = sym (turns_at-turns_on o ts) ∙ ap (turns_at o) (sym e)
 
-module _ (t : QuorumTable) (k : Kind) (law : IsDeciding t k) (c o v : ℕ) (xs : List ObjectTurn) (s : Stage)
+module _ (t : QuorumTable) (k : Kind) (law : OfKind t k) (c o v : ℕ) (xs : List ObjectTurn) (s : Stage)
     (ys : List Turn) (out : Out) (here : ys ≡ turns_at o xs) (path : IsPath t k v ys out) where
   -- a part that goes on within its first object has no whole path there
   pub not_ended : GoesOnIn t k o v xs s → ⊥
@@ -61,7 +53,8 @@ one_stage_lem t law c (k ∷ ks) o v xs s r (inl x) (inl y) = x.is ∙ sym y.is
 one_stage_lem t law c (k ∷ ks) o v xs s r (inl x) (inr (inl y)) =
     absurd (not_ended t k (law k) c o v xs s y.turns (answer true y.value) (only t k o v xs y.turns y.all) y.path x)
 one_stage_lem t law c (k ∷ ks) o v xs s r (inl x) (inr (inr (w, rest, y, q))) =
-    absurd (not_ended t k (law k) c o v xs s y.turns (answer false w) (passed_turns t c k ks o v xs r w rest y q) y.path x)
+    absurd (not_ended t k (law k) c o v xs s y.turns (answer false w)
+    (passed_turns t c k ks o v xs r w rest y q) y.path x)
 one_stage_lem t law c (k ∷ ks) o v xs s r (inr (inl x)) (inl y) =
     absurd (not_ended t k (law k) c o v xs r x.turns (answer true x.value) (only t k o v xs x.turns x.all) x.path y)
 one_stage_lem t law c (k ∷ ks) o v xs s r (inr (inl x)) (inr (inl y)) =
@@ -73,7 +66,8 @@ one_stage_lem t law c (k ∷ ks) o v xs s r (inr (inl x)) (inr (inr (w, rest, y,
     absurd (not_undecided t k (law k) c o v xs s y.turns (answer false w) (passed_turns t c k ks o v xs r w rest y q)
     y.path x refl)
 one_stage_lem t law c (k ∷ ks) o v xs s r (inr (inr (u, front, x, p))) (inl y) =
-    absurd (not_ended t k (law k) c o v xs r x.turns (answer false u) (passed_turns t c k ks o v xs s u front x p) x.path y)
+    absurd (not_ended t k (law k) c o v xs r x.turns (answer false u)
+    (passed_turns t c k ks o v xs s u front x p) x.path y)
 one_stage_lem t law c (k ∷ ks) o v xs s r (inr (inr (u, front, x, p))) (inr (inl y)) =
     absurd (not_undecided t k (law k) c o v xs r x.turns (answer false u) (passed_turns t c k ks o v xs s u front x p)
     x.path y refl)
@@ -84,17 +78,18 @@ one_stage_lem t law c (k ∷ ks) o v xs s r (inr (inr (u, front, x, p))) (inr (i
     ap (λ (a : Out). a.value) (same_out t k (law k) v x.turns y.turns (answer false u)
     (answer false w) e x.path y.path) in
     let rests : front ≡ rest =
-    append_cancel_right front rest (tagged o y.turns)
-    (ap (λ ts. front ++ tagged o ts) (sym e) ∙ sym x.all ∙ y.all) in
-    one_stage_lem t law c ks (suc o) w rest s r (subst₂ (λ n zs. IsClaimPrefixFrom t c ks (suc o) n zs s) values rests p) q
+    append_cancel_right front rest (turns_on o y.turns)
+    (ap (λ ts. front ++ turns_on o ts) (sym e) ∙ sym x.all ∙ y.all) in
+    one_stage_lem t law c ks (suc o) w rest s r (subst₂ (λ n zs. IsClaimPrefixFrom t c ks
+    (suc o) n zs s) values rests p) q
 
 -- an object is used once: behind a whole path there is no turn
 pub used_once :
-    (t : QuorumTable) (k : Kind) (law : IsDeciding t k) (v : ℕ) (later turns all : List Turn) (out : Out)
+    (t : QuorumTable) (k : Kind) (law : OfKind t k) (v : ℕ) (later turns all : List Turn) (out : Out)
     → IsPath t k v turns out → all ≡ later ++ turns → (all ≡ []) ⊎ IsPrefix t k v all → later ≡ []
 used_once t k law v later turns all out path e (inl none) = append_nil_parts later turns (sym e ∙ none)
-used_once t k law v later turns all out path e (inr part) =
-    let P : List Turn → Type 0 = λ ts. IsPath t k v ts part.1 in
-    let whole : P ((part.0 ++ later) ++ turns) =
-    subst P (ap (λ ts. part.0 ++ ts) e ∙ sym (append_assoc part.0 later turns)) part.2 in
-    append_nil_rest part.0 later (law.unique v turns (part.0 ++ later) out part.1 path whole).0
+used_once t k law v later turns all out path e (inr begun) =
+    let P : List Turn → Type 0 = λ ts. IsPath t k v ts begun.1 in
+    let whole : P ((begun.0 ++ later) ++ turns) =
+    subst P (ap (λ ts. begun.0 ++ ts) e ∙ sym (append_assoc begun.0 later turns)) begun.2 in
+    append_nil_rest begun.0 later ((law (λ p. p)).unique v turns (begun.0 ++ later) out begun.1 path whole).0

@@ -1,22 +1,15 @@
 -- One winner, over every lawful history of claims.
-use Rattle.std.proofs.Common.{suc, Bool, true, false, cond, eqb, ◌∷◌, inl, inr, ◌≡◌, ◌≢◌, ◌⊎◌, ℕ, Some, List, [], refl, sym, ◌∙◌, ap, subst, slice_get, arith}
+use Rattle.std.proofs.Common.{suc, Bool, true, false, cond, eqb, ◌∷◌, inl, inr, ◌≡◌, ◌≢◌, ◌⊎◌, ℕ, Some, List, [], refl}
+use Rattle.std.proofs.Common.{sym, ◌∙◌, ap, subst, slice_get, arith}
 use Rattle.std.proofs.lemmas.Bool.{cases_eq, eqb-false}
-use Rattle.mb_quorum.specs.Quorum.{QuorumTable}
-use Rattle.mb_deciding.specs.declared.object.Kind.{Kind}
-use Rattle.mb_deciding.specs.declared.object.Kind.TheVariants.{Ratifier}
-use Rattle.mb_deciding.specs.History.{turns_of}
-use Rattle.mb_deciding.specs.Deciding.{IsRatifying}
-use Rattle.mb_claim.specs.declared.access.ObjectTurn.{ObjectTurn}
-use Rattle.mb_claim.specs.declared.access.ClaimAccess.{ClaimAccess}
-use Rattle.mb_claim.specs.declared.access.Stage.{Stage}
-use Rattle.mb_claim.specs.declared.access.Stage.TheVariants.{Going, Won, Lost, Undecided}
-use Rattle.mb_claim.specs.History.{part, object_history}
-use Rattle.mb_claim.specs.Paths.{IsClaimPrefixFrom, Enters}
-use Rattle.mb_claim.specs.Claiming.{IsLawful, HasStage}
-use Rattle.mb_claim.specs.Winner.{Names, IsClaimAnnounced, HasOneWinner}
-use Rattle.mb_deciding.proofs.Acts.{has_turns}
-use Rattle.mb_claim.proofs.ObjectHistories.{turns_at, turns_of-object_history}
-use Rattle.mb_claim.proofs.Unique.{AreDeciding}
+use Rattle.mb_quorum.specs.Vocabulary.{QuorumTable}
+use Rattle.mb_deciding.specs.Vocabulary.{part}
+use Rattle.mb_claim.specs.{Claims, Kind, Ratifier, ObjectTurn, ClaimAccess, Stage, Going, Won, Lost}
+use Rattle.mb_claim.specs.{Undecided, part_on, object_history, IsClaimPrefixFrom, Enters, IsClaimLawful, HasStage}
+use Rattle.mb_claim.specs.{Names, IsClaimAnnounced, HasOneWinner}
+use Rattle.mb_claim.proofs.KindLaws.{AreDeciding, AreRatifying}
+use Rattle.mb_claim.proofs.Turns.{has_turns}
+use Rattle.mb_claim.proofs.ObjectHistories.{turns_at, part-object_history}
 use Rattle.mb_claim.proofs.CellFamily.{start, competes, family}
 use Rattle.mb_claim.proofs.Agreeing.{winner_holds, agree}
 use Rattle.mb_claim.proofs.Contest.{Shown, Contest, contention}
@@ -43,55 +36,55 @@ lost_other t c (k ∷ ks) o v xs w (inl x) same = let h : Lost w ≡ Going = x.i
 lost_other t c (k ∷ ks) o v xs w (inr (inl x)) same = lost_by c x.value w (eqb c x.value) refl x.is same
 lost_other t c (k ∷ ks) o v xs w (inr (inr (u, rest, x, p))) same = lost_other t c ks (suc o) u rest w p same
 
-module _ (t : QuorumTable) (kinds : List Kind) (cells : ℕ) (h : List ClaimAccess) (k : ℕ) (law : AreDeciding t)
-    (ratifying : IsRatifying t) (lawful : IsLawful t kinds cells h) where
+module _ (cs : Claims) (h : List ClaimAccess) (k : ℕ) (law : AreDeciding cs.table)
+    (ratifying : AreRatifying cs.table) (lawful : IsClaimLawful cs h) where
   -- the winner that a stage names is the one that the consumer's stage names
   named :
-      (c u : ℕ) (s : Stage) → HasStage t kinds h k c s → Names c s u
-      → Names c (start t kinds cells h k law lawful c).stage u
-  named c u s q n = subst (λ r. Names c r u) (sym ((start t kinds cells h k law lawful c).is s q)) n
+      (c u : ℕ) (s : Stage) → HasStage cs c k s h → Names c s u
+      → Names c (start cs h k law lawful c).stage u
+  named c u s q n = subst (λ r. Names c r u) (sym ((start cs h k law lawful c).is s q)) n
 
   -- consumer c comes to object n with input w
   abbrev E : ℕ → ℕ → ℕ → Type 0
-  E c n w = Enters t kinds 0 c (part c k h) n w
+  E c n w = Enters cs.table cs.kinds 0 c (part_on c k h) n w
 
   -- two values were shown in a ratifier
   contest :
-      (c o : ℕ) → HasStage t kinds h k c Undecided → slice_get kinds o ≡ Some Ratifier
-      → Contest t (λ n. object_history k n h) E o
+      (c o : ℕ) → HasStage cs c k Undecided h → slice_get cs.kinds o ≡ Some Ratifier
+      → Contest cs.table (λ n. object_history k n h) E o
   contest c o q r =
-      subst (Contest t (λ n. object_history k n h) E) (omega arith)
-      (contention t (λ n. object_history k n h) law ratifying E kinds 0 (competes t kinds cells h k law lawful)
-      (family t kinds cells h k law lawful) (λ d n w ne e. e) c o
-      ((start t kinds cells h k law lawful c).is Undecided q) r)
+      subst (Contest cs.table (λ n. object_history k n h) E) (omega arith)
+      (contention cs.table (λ n. object_history k n h) law ratifying E cs.kinds 0 (competes cs h k law lawful)
+      (family cs h k law lawful) (λ d n w ne e. e) c o
+      ((start cs h k law lawful c).is Undecided q) r)
 
   -- what was shown was announced
-  shown_announced : (o u : ℕ) → Shown t (λ n. object_history k n h) E o u → IsClaimAnnounced t kinds h k o u
+  shown_announced : (o u : ℕ) → Shown cs.table (λ n. object_history k n h) E o u → IsClaimAnnounced cs k o u h
   shown_announced o u x = (x.process, x.register, x.enters, x.member, x.stored)
 
   -- who has shown a value has an access
-  some_part : (o u : ℕ) (x : Shown t (λ n. object_history k n h) E o u) → part x.process k h ≢ []
+  some_part : (o u : ℕ) (x : Shown cs.table (λ n. object_history k n h) E o u) → part_on x.process k h ≢ []
   some_part o u x e =
-      has_turns (turns_of x.process (object_history k o h)) _ x.stored
-      (turns_of-object_history x.process k o h ∙ ap (turns_at o) e)
+      has_turns (part x.process (object_history k o h)) _ x.stored
+      (part-object_history x.process k o h ∙ ap (turns_at o) e)
 
   -- one of two who have shown values is not this consumer
   company_by :
-      (c o : ℕ) (x : Contest t (λ n. object_history k n h) E o) → (x.one.process ≡ c) ⊎ (x.one.process ≡ c → ⊥)
-      → (d : ℕ) × (d ≢ c) × (part d k h ≢ [])
+      (c o : ℕ) (x : Contest cs.table (λ n. object_history k n h) E o) → (x.one.process ≡ c) ⊎ (x.one.process ≡ c → ⊥)
+      → (d : ℕ) × (d ≢ c) × (part_on d k h ≢ [])
   company_by c o x (inl e) = (x.other.process, λ f. x.two (e ∙ sym f), some_part o x.second x.other)
   company_by c o x (inr ne) = (x.one.process, ne, some_part o x.first x.one)
 
   -- all claims on the cell have one winner
-  pub has_one_winner : HasOneWinner t kinds h k
+  pub has_one_winner : HasOneWinner cs k h
   has_one_winner =
       record {
-        same = λ c d u w s r p q n m. agree t (λ o. object_history k o h) law kinds 0
-            (competes t kinds cells h k law lawful) (family t kinds cells h k law lawful) c d u w (named c u s p n)
+        same = λ c d u w s r p q n m. agree cs.table (λ o. object_history k o h) law cs.kinds 0
+            (competes cs h k law lawful) (family cs h k law lawful) c d u w (named c u s p n)
             (named d w r q m);
-        other = λ c w p. lost_other t c kinds 0 c (part c k h) w p.1;
-        competed = λ c u s p n. winner_holds t (λ o. object_history k o h) law kinds 0
-            (competes t kinds cells h k law lawful) (family t kinds cells h k law lawful) c u (named c u s p n);
+        other = λ c w p. lost_other cs.table c cs.kinds 0 c (part_on c k h) w p.1;
+        competed = λ c u s p n. winner_holds cs.table (λ o. object_history k o h) law cs.kinds 0
+            (competes cs h k law lawful) (family cs h k law lawful) c u (named c u s p n);
         contested = λ c o p r. let x = contest c o p r in
             (x.first, x.second, x.apart, shown_announced o x.first x.one, shown_announced o x.second x.other);
         company = λ c o p r. let x = contest c o p r in company_by c o x (cases_eq x.one.process c);

@@ -1,19 +1,14 @@
 -- What an op leaves in the words.
-use Rattle.std.proofs.Common.{◌≡◌, ℕ, Bool, true, false, cond, eqb, List, refl, sym, subst, ◌∙◌, ap, ap₂, ⊎_elim}
+use Rattle.std.proofs.Common.{◌≡◌, ℕ, Bool, true, false, cond, eqb, Option, Some, None, List, refl, sym, subst, ◌∙◌, ap}
+use Rattle.std.proofs.Common.{ap₂, ⊎_elim}
 use Rattle.std.proofs.lemmas.Bool.{eq-eqb, eqb-true, cases_Bool, false≢true}
-use Rattle.mb_quorum.specs.Quorum.{QuorumTable}
-use Rattle.mb_deciding.specs.declared.access.Reg.{Reg}
-use Rattle.mb_deciding.specs.declared.access.Access.{Access}
-use Rattle.mb_deciding.specs.declared.access.Op.{Op}
-use Rattle.mb_deciding.specs.declared.place.Pc.{Pc}
-use Rattle.mb_deciding.specs.declared.access.Reg.TheVariants.{Value, Proposal, Quorum}
-use Rattle.mb_deciding.specs.declared.access.Act.TheVariants.{Load as Loaded}
-use Rattle.mb_deciding.specs.declared.access.Op.TheVariants.{Load as ToLoad, Store as ToStore}
-use Rattle.mb_deciding.specs.declared.place.Pc.TheVariants.{InRatifier, InConciliator}
-use Rattle.mb_deciding.specs.declared.conciliator_place.ConciliatorPlace.TheVariants.{Draw, Put, Look}
-use Rattle.mb_deciding.specs.History.{value_in, value_after, is_same_reg}
-use Rattle.mb_deciding.specs.Place.{CanFind, IsOpAt, act_of, seen_by, reg_of}
-use Rattle.mb_claim.specs.States.{after_op}
+use Rattle.std.specs.Option.{option_map_or}
+use Rattle.mb_quorum.specs.Vocabulary.{QuorumTable}
+use Rattle.mb_deciding.specs.declared.access.Op.TheVariants as to
+use Rattle.mb_deciding.specs.Vocabulary.{value_in, value_after, is_same_reg, reg_of_act, stored_by, CanFind, IsOpAt}
+use Rattle.mb_deciding.specs.Vocabulary.{act_of, seen_by, reg_of}
+use Rattle.mb_claim.specs.{Reg, Access, Op, Pc, Value, Proposal, Quorum, Load as Loaded}
+use Rattle.mb_claim.specs.{after_op}
 
 -- a name of a word is itself
 same_reg-refl : (p : Reg) → is_same_reg p p ≡ true
@@ -33,23 +28,42 @@ same_reg-true Proposal (Quorum j) e = absurd (false≢true e)
 same_reg-true (Quorum i) Value e = absurd (false≢true e)
 same_reg-true (Quorum i) Proposal e = absurd (false≢true e)
 
--- what an op leaves in its word
-own_word : (op : Op) (s n : ℕ) → value_after (reg_of op) (act_of op s) n ≡ after_op op n
-own_word (ToLoad q) s n = refl
-own_word (ToStore q m) s n = ap (λ b. cond b m n) (same_reg-refl q)
+-- the act of an op goes to its word
+reg_of-act_of : (op : Op) (s : ℕ) → reg_of_act (act_of op s) ≡ reg_of op
+reg_of-act_of (to.Load q) s = refl
+reg_of-act_of (to.Store q m) s = refl
+
+-- what is stored stays where the word is the same
+stored_here : (b : Bool) (stored : Option ℕ) (n : ℕ) → b ≡ true
+    → option_map_or (λ value. cond b value n) stored n ≡ option_map_or (λ value. value) stored n
+stored_here b None n e = refl
+stored_here b (Some m) n e = ap (λ a. cond a m n) e
+
+-- and changes nothing where it is another
+stored_there : (b : Bool) (stored : Option ℕ) (n : ℕ) → b ≡ false
+    → option_map_or (λ value. cond b value n) stored n ≡ n
+stored_there b None n e = refl
+stored_there b (Some m) n e = ap (λ a. cond a m n) e
+
+-- what an op that finds n leaves in its word
+own_word : (op : Op) (n : ℕ) → value_after (reg_of op) (act_of op n) n ≡ after_op op n
+own_word op n =
+    stored_here (is_same_reg (reg_of_act (act_of op n)) (reg_of op)) (stored_by (act_of op n)) n
+    (ap (λ p. is_same_reg p (reg_of op)) (reg_of-act_of op n) ∙ same_reg-refl (reg_of op))
 
 -- what it leaves in another word
 other_word : (op : Op) (s n : ℕ) (q : Reg) → is_same_reg (reg_of op) q ≡ false → value_after q (act_of op s) n ≡ n
-other_word (ToLoad p) s n q e = refl
-other_word (ToStore p m) s n q e = ap (λ b. cond b m n) e
+other_word op s n q e =
+    stored_there (is_same_reg (reg_of_act (act_of op s)) q) (stored_by (act_of op s)) n
+    (ap (λ p. is_same_reg p q) (reg_of-act_of op s) ∙ e)
 
--- the same at its cell and object
+-- the same at its cell and object, where n is what it finds
 pub own_place :
-    (k o s n : ℕ) (op : Op) → cond (eqb k k)
-    (cond (eqb o o) (value_after (reg_of op) (act_of op s) n) n) n ≡ after_op op n
-own_place k o s n op =
+    (k o s n : ℕ) (op : Op) → s ≡ n
+    → cond (eqb k k) (cond (eqb o o) (value_after (reg_of op) (act_of op s) n) n) n ≡ after_op op n
+own_place k o s n op e =
     ap₂ (λ a b. cond a (cond b (value_after (reg_of op) (act_of op s) n) n) n) (eq-eqb k k refl) (eq-eqb o o refl)
-    ∙ own_word op s n
+    ∙ (ap (λ m. value_after (reg_of op) (act_of op m) n) e ∙ own_word op n)
 
 -- a value that stays where both tests pass stays
 same_at : (a b : Bool) (x n : ℕ) → (a ≡ true → b ≡ true → x ≡ n) → cond a (cond b x n) n ≡ n
@@ -69,19 +83,12 @@ other_place k o s n op j m q ne =
 
 -- an op makes the same act where it finds the same
 pub same_act : (op : Op) (n : ℕ) (h : List Access) → n ≡ value_in (reg_of op) h → act_of op (seen_by op h) ≡ act_of op n
-same_act (ToLoad q) n h e = ap (λ m. Loaded q m) (sym e)
-same_act (ToStore q m) n h e = refl
-
--- a store is no load
-store_load : (reg : Reg) (value : ℕ) → ToStore reg value ≡ ToLoad Value → ⊥
-store_load reg value e = cc
+same_act (to.Load q) n h e = ap (λ m. Loaded q m) (sym e)
+same_act (to.Store q m) n h e = refl
 
 -- what an op may find in its word does not hang on how the word is named
 pub same_find :
     (t : QuorumTable) (pc : Pc) (op : Op) (n : ℕ) (h : List Access) → IsOpAt t pc op → n ≡ value_in (reg_of op) h
     → CanFind t pc op (seen_by op h) → CanFind t pc op n
-same_find t pc (ToLoad reg) n h is e fits = subst (CanFind t pc (ToLoad reg)) (sym e) fits
-same_find t (InRatifier place) (ToStore reg value) n h is e fits = tt
-same_find t (InConciliator (Draw input limit last)) (ToStore reg value) n h is e fits = absurd (store_load reg value is)
-same_find t (InConciliator (Put input)) (ToStore reg value) n h is e fits = tt
-same_find t (InConciliator (Look input)) (ToStore reg value) n h is e fits = absurd (store_load reg value is)
+same_find t pc (to.Load reg) n h is e fits = subst (CanFind t pc (to.Load reg)) (sym e) fits
+same_find t pc (to.Store reg value) n h is e fits = tt

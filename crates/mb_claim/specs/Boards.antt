@@ -1,26 +1,30 @@
 -- The words and the claims of one cell, in the course of a run.
 use Rattle.std.specs.Prelude.{ℕ, ◌≡◌, ◌<◌, List, [], length, slice_index_or}
-use Rattle.mb_quorum.specs.Quorum.{QuorumTable}
-use Rattle.mb_deciding.specs.declared.object.Kind.{Kind}
-use Rattle.mb_claim.specs.declared.claim.Claim.{Claim}
-use Rattle.mb_claim.specs.declared.run.ClaimEntry.{ClaimEntry}
-use Rattle.mb_claim.specs.History.{part}
+use Rattle.mb_claim.specs.Types.{Claim, ClaimEntry, Layout}
+use Rattle.mb_claim.specs.History.{part_on}
+use Rattle.mb_claim.specs.Layouts.{claims_in, consumer_count}
+use Rattle.mb_claim.specs.OneClaim.{consumer_of, IsClaimIn}
 use Rattle.mb_claim.specs.Plays.{history_of, AreEntriesOf}
-use Rattle.mb_claim.specs.Standing.{IsClaimOf}
 use Rattle.mb_claim.specs.States.{IsMemoryOf}
 
--- words, claims and entries after these steps
-pub record IsBoard
-    (t : QuorumTable) (kinds : List Kind) (steps : List (ℕ × ℕ)) (words : List ℕ) (claims : List Claim)
-    (entries : List ClaimEntry) : Type 0 where
+-- what a run holds: the words of its cell, the claim of each consumer, and the entries of the steps so far
+pub record BoardState : Type 0 where
+  pub words : List ℕ
+  pub claims : List Claim
+  pub entries : List ClaimEntry
+
+-- a run after these steps
+pub record IsBoard (layout : Layout) (steps : List (ℕ × ℕ)) (board : BoardState) : Type 0 where
   -- the entries are those of the steps
-  pub fits : AreEntriesOf t kinds [] steps entries
+  pub fits : AreEntriesOf (claims_in layout 1) steps board.entries []
   -- their accesses are one lawful history, which leaves the words
-  pub memory : IsMemoryOf t kinds 1 words (history_of steps entries)
+  pub memory : IsMemoryOf (claims_in layout 1) board.words (history_of steps board.entries)
   -- each consumer has a claim
-  pub consumers : length claims ≡ t.values
-  pub own : (c : ℕ) (d : Claim) → c < length claims → (slice_index_or claims c d).consumer ≡ c
-  -- which is that of its part
+  pub consumers : length board.claims ≡ consumer_count layout
+  pub own : (c : ℕ) (d : Claim) → c < length board.claims
+      → consumer_of (slice_index_or board.claims c d) ≡ c
+  -- which has made its part
   pub standing :
-      (c : ℕ) (d : Claim) → c < length claims
-      → IsClaimOf t kinds (slice_index_or claims c d) (part c 0 (history_of steps entries))
+      (c : ℕ) (d : Claim) → c < length board.claims
+      → IsClaimIn layout (slice_index_or board.claims c d) (part_on c 0
+      (history_of steps board.entries))

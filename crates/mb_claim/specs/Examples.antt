@@ -2,67 +2,70 @@
 -- some that are not. And runs of them.
 use Rattle.std.specs.Prelude.{ℕ, List, [], ◌∷◌}
 use Rattle.mb_quorum.specs.Unary.{unary_table}
-use Rattle.mb_deciding.specs.declared.access.Reg.TheVariants.{Value, Proposal, Quorum}
-use Rattle.mb_deciding.specs.declared.access.Act.{Act}
-use Rattle.mb_deciding.specs.declared.access.Act.TheVariants.{Load, Store}
-use Rattle.mb_claim.specs.declared.access.ClaimAccess.{ClaimAccess}
-use Rattle.mb_claim.specs.declared.access.Stage.{Stage}
-use Rattle.mb_claim.specs.declared.run.ClaimEntry.{ClaimEntry}
-use Rattle.mb_claim.specs.declared.run.ClaimEntry.TheVariants.{Access}
-use Rattle.mb_claim.specs.Layouts.{pairs_of}
+use Rattle.mb_claim.specs.declared.run.ClaimEntry.TheVariants as entry
+use Rattle.mb_claim.specs.AllClaims.{Claims, claims_of}
+use Rattle.mb_claim.specs.ObjectTypes.{Value, Proposal, Quorum, Act, Load, Store}
+use Rattle.mb_claim.specs.Types.{ClaimAccess, Stage, ClaimEntry}
+use Rattle.mb_claim.specs.Rows.{pairs_of}
 use Rattle.mb_claim.specs.Plays.{IsPlayed}
 
+-- the claims of two consumers on one cell with one pair over the unary table
+abbrev pub two_consumers : Claims
+two_consumers = claims_of (unary_table 2) (pairs_of 2 1) 1
+
 -- consumer c makes the act on object o of cell 0, with the random word 0
-abbrev pub made : ℕ → ℕ → Act → ClaimAccess
-made c o act = record { consumer = c; cell = 0; step = record { object = o; turn = record { act = act; word = 0 } } }
+abbrev pub access_at : ℕ → ℕ → Act → ClaimAccess
+access_at c o act =
+    record { consumer = c; cell = 0; step = record { object = o; turn = record { act = act; word = 0 } } }
 
 -- consumer 0 alone wins
 abbrev pub won_alone : List ClaimAccess
 won_alone =
-    made 0 1 (Load (Quorum 1) 0) ∷ made 0 1 (Store Proposal 1) ∷ made 0 1 (Load Proposal 0)
-    ∷ made 0 1 (Store (Quorum 0) 1)
-    ∷ made 0 0 (Load Value 1) ∷ made 0 0 (Store Value 1) ∷ made 0 0 (Load Value 0) ∷ []
+    access_at 0 1 (Load (Quorum 1) 0) ∷ access_at 0 1 (Store Proposal 1) ∷ access_at 0 1 (Load Proposal 0)
+    ∷ access_at 0 1 (Store (Quorum 0) 1)
+    ∷ access_at 0 0 (Load Value 1) ∷ access_at 0 0 (Store Value 1) ∷ access_at 0 0 (Load Value 0) ∷ []
 
 -- and then consumer 1 comes and loses
 abbrev pub won_and_lost : List ClaimAccess
 won_and_lost =
-    made 1 1 (Load (Quorum 1) 0) ∷ made 1 1 (Load Proposal 1) ∷ made 1 1 (Store (Quorum 0) 1) ∷ made 1 0 (Load Value 1)
+    access_at 1 1 (Load (Quorum 1) 0) ∷ access_at 1 1 (Load Proposal 1) ∷ access_at 1 1 (Store
+    (Quorum 0) 1) ∷ access_at 1 0 (Load Value 1)
     ∷ won_alone
 
 -- both take the conciliator's word for empty, one after the other, and then each finds the other's announcement
 abbrev pub both_undecided : List ClaimAccess
 both_undecided =
-    made 1 1 (Load (Quorum 0) 1) ∷ made 1 1 (Store Proposal 2)
-    ∷ made 0 1 (Load (Quorum 1) 1) ∷ made 0 1 (Store Proposal 1)
-    ∷ made 1 1 (Load Proposal 0) ∷ made 0 1 (Load Proposal 0)
-    ∷ made 1 1 (Store (Quorum 1) 1) ∷ made 0 1 (Store (Quorum 0) 1)
-    ∷ made 1 0 (Load Value 2) ∷ made 1 0 (Store Value 2)
-    ∷ made 0 0 (Load Value 1) ∷ made 0 0 (Store Value 1)
-    ∷ made 1 0 (Load Value 0) ∷ made 0 0 (Load Value 0) ∷ []
+    access_at 1 1 (Load (Quorum 0) 1) ∷ access_at 1 1 (Store Proposal 2)
+    ∷ access_at 0 1 (Load (Quorum 1) 1) ∷ access_at 0 1 (Store Proposal 1)
+    ∷ access_at 1 1 (Load Proposal 0) ∷ access_at 0 1 (Load Proposal 0)
+    ∷ access_at 1 1 (Store (Quorum 1) 1) ∷ access_at 0 1 (Store (Quorum 0) 1)
+    ∷ access_at 1 0 (Load Value 2) ∷ access_at 1 0 (Store Value 2)
+    ∷ access_at 0 0 (Load Value 1) ∷ access_at 0 0 (Store Value 1)
+    ∷ access_at 1 0 (Load Value 0) ∷ access_at 0 0 (Load Value 0) ∷ []
 
 -- ---- not lawful
 -- consumer 0 has its output from object 0, pauses, and begins there again
 abbrev pub begun_again : List ClaimAccess
 begun_again =
-    made 0 0 (Load Value 1)
-    ∷ made 0 0 (Load Value 1) ∷ made 0 0 (Store Value 1) ∷ made 0 0 (Load Value 0) ∷ []
+    access_at 0 0 (Load Value 1)
+    ∷ access_at 0 0 (Load Value 1) ∷ access_at 0 0 (Store Value 1) ∷ access_at 0 0 (Load Value 0) ∷ []
 
 -- consumer 0 goes on after it has won
 abbrev pub after_winning : List ClaimAccess
-after_winning = made 0 1 (Load (Quorum 1) 0) ∷ won_alone
+after_winning = access_at 0 1 (Load (Quorum 1) 0) ∷ won_alone
 
 -- consumer 1 has 0 from object 0, and goes to object 1 with its own number all the same
 abbrev pub own_number_again : List ClaimAccess
-own_number_again = made 1 1 (Store (Quorum 1) 1) ∷ made 1 0 (Load Value 1) ∷ won_alone
+own_number_again = access_at 1 1 (Store (Quorum 1) 1) ∷ access_at 1 0 (Load Value 1) ∷ won_alone
 
 -- a third consumer comes, where there are two
 abbrev pub of_a_stranger : List ClaimAccess
-of_a_stranger = made 2 0 (Load Value 0) ∷ []
+of_a_stranger = access_at 2 0 (Load Value 0) ∷ []
 
 -- ---- runs
 -- what these steps make of the claims of two consumers
 abbrev pub IsPlayedByTwo : List (ℕ × ℕ) → List ClaimEntry → List Stage → Type 0
-IsPlayedByTwo steps entries stages = IsPlayed (unary_table 2) (pairs_of 2 1) steps entries stages
+IsPlayedByTwo steps entries stages = IsPlayed two_consumers steps entries stages
 
 -- a step of consumer 0 with the random word 0
 abbrev pub step : ℕ × ℕ
@@ -75,6 +78,8 @@ eight_steps = step ∷ step ∷ step ∷ step ∷ step ∷ step ∷ step ∷ ste
 -- the entries of `won_alone`, and this one
 abbrev pub won_and : ClaimEntry → List ClaimEntry
 won_and e =
-    Access 0 0 (Load Value 0) ∷ Access 0 0 (Store Value 1) ∷ Access 0 0 (Load Value 1)
-    ∷ Access 0 1 (Store (Quorum 0) 1) ∷ Access 0 1 (Load Proposal 0) ∷ Access 0 1 (Store Proposal 1)
-    ∷ Access 0 1 (Load (Quorum 1) 0) ∷ e ∷ []
+    entry.Access 0 0 (Load Value 0) ∷ entry.Access 0 0 (Store Value 1) ∷ entry.Access 0 0
+    (Load Value 1)
+    ∷ entry.Access 0 1 (Store (Quorum 0) 1) ∷ entry.Access 0 1 (Load Proposal 0) ∷ entry.Access 0 1
+    (Store Proposal 1)
+    ∷ entry.Access 0 1 (Load (Quorum 1) 0) ∷ e ∷ []

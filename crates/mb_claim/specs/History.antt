@@ -2,40 +2,51 @@
 -- word of one object of one cell. What is left of it when the consumer and the cell are known is a step (the object's
 -- number and the turn), and when the object is known, too, a turn. A part, and the history of one object, is what a
 -- history has of it, in its order.
-use Rattle.std.specs.Prelude.{ℕ, ◌==◌, cond, Option, Some, None, List, [], ◌∷◌, filter_map}
-use Rattle.mb_deciding.specs.declared.access.Reg.{Reg}
-use Rattle.mb_deciding.specs.declared.access.Access.{Access}
-use Rattle.mb_deciding.specs.History.{value_in, ReadsLast, IsInWords}
-use Rattle.mb_claim.specs.declared.access.ObjectTurn.{ObjectTurn}
-use Rattle.mb_claim.specs.declared.access.ClaimAccess.{ClaimAccess}
+use Rattle.std.specs.Prelude.{ℕ, ◌==◌, if◌then◌else◌, Option, Some, None, List, [], ◌∷◌, filter_map}
+use Rattle.mb_deciding.specs.Vocabulary.{value_in, ReadsLast, IsInWords, part as object_part}
+use Rattle.mb_claim.specs.ObjectTypes.{Reg, Access, Turn}
+use Rattle.mb_claim.specs.Types.{ObjectTurn, ClaimAccess}
 
 -- the step, if consumer c made it on cell k
 abbrev pub step_by : ℕ → ℕ → ClaimAccess → Option ObjectTurn
-step_by c k a = cond (a.consumer == c) (cond (a.cell == k) (Some a.step) None) None
+step_by c k a = if a.consumer == c then (if a.cell == k then Some a.step else None) else None
 
 -- the part of consumer c on cell k: the steps that it made there
-abbrev pub part : ℕ → ℕ → List ClaimAccess → List ObjectTurn
-part c k h = filter_map (step_by c k) h
+abbrev pub part_on : ℕ → ℕ → List ClaimAccess → List ObjectTurn
+part_on c k h = filter_map (step_by c k) h
+
+-- the access, if consumer c made it
+abbrev pub access_by : ℕ → ClaimAccess → Option ClaimAccess
+access_by c a = if a.consumer == c then Some a else None
+
+-- the part of consumer c: all accesses that it made
+abbrev pub part : ℕ → List ClaimAccess → List ClaimAccess
+part c h = filter_map (access_by c) h
 
 -- the access to object o of cell k, if it is one
 abbrev pub access_on : ℕ → ℕ → ClaimAccess → Option Access
 access_on k o a =
-    cond (a.cell == k)
-    (cond (a.step.object == o) (Some (record { process = a.consumer; turn = a.step.turn })) None)
-    None
+    if a.cell == k
+    then (if a.step.object == o then Some (record { process = a.consumer; turn = a.step.turn }) else None)
+    else None
 
 -- the history of object o of cell k, where the consumers are its processes
 abbrev pub object_history : ℕ → ℕ → List ClaimAccess → List Access
 object_history k o h = filter_map (access_on k o) h
 
+-- the turns that consumer c made on object o of cell k
+abbrev pub part_at : ℕ → ℕ → ℕ → List ClaimAccess → List Turn
+part_at c k o h = object_part c (object_history k o h)
+
 -- what a history leaves in a word of object o of cell k
 abbrev pub left_at : ℕ → ℕ → Reg → List ClaimAccess → ℕ
 left_at k o reg h = value_in reg (object_history k o h)
 
--- each load has the value of the last earlier store to the same word, or 0 where there is none
+-- each access that loads has what the older accesses left in its word
 abbrev pub IsMemoryTrue : List ClaimAccess → Type 0
 IsMemoryTrue [] = Unit {0}
-IsMemoryTrue (a ∷ older) = ReadsLast a.step.turn.act (object_history a.cell a.step.object older) × IsMemoryTrue older
+IsMemoryTrue (a ∷ older) = ReadsLast a.step.turn.act (object_history a.cell a.step.object older)
+    × IsMemoryTrue older
 
 -- values and random words are words of 64 bits
 abbrev pub AreInWords : List ClaimAccess → Type 0
@@ -44,4 +55,4 @@ AreInWords (a ∷ older) = IsInWords a.step.turn × AreInWords older
 
 -- the accesses to cell k
 abbrev pub on_cell : ℕ → List ClaimAccess → List ClaimAccess
-on_cell k h = filter_map (λ a. cond (a.cell == k) (Some a) None) h
+on_cell k h = filter_map (λ a. if a.cell == k then Some a else None) h

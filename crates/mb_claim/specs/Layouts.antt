@@ -1,25 +1,16 @@
 -- Layouts: the objects that each cell has, where their words lie, and how many turns a claim takes at most.
-use Rattle.std.specs.Prelude.{ℕ, zero, suc, ◌≡◌, ◌+◌, ◌*◌, List, [], ◌∷◌, slice_get, Some}
-use Rattle.mb_quorum.specs.Quorum.{QuorumTable}
-use Rattle.mb_quorum.specs.Tables.{chosen}
-use Rattle.mb_deciding.specs.declared.access.Reg.{Reg}
-use Rattle.mb_deciding.specs.declared.access.Reg.TheVariants.{Value, Proposal, Quorum}
-use Rattle.mb_deciding.specs.declared.object.Kind.{Kind}
-use Rattle.mb_deciding.specs.declared.object.Kind.TheVariants.{Conciliator, Ratifier}
-use Rattle.mb_deciding.specs.Objects.{largest, most_turns}
-use Rattle.mb_deciding.specs.Place.{HasReg}
-use Rattle.mb_deciding.specs.Spread.{spread}
-use Rattle.mb_claim.specs.declared.layout.Layout.{Layout}
+use Rattle.std.specs.Prelude.{ℕ, ◌+◌, ◌*◌, List, [], ◌∷◌}
+use Rattle.mb_quorum.specs.Vocabulary.{QuorumTable, chosen_table}
+use Rattle.mb_deciding.specs.Vocabulary.{largest_quorum, most_turns, spread}
+use Rattle.mb_claim.specs.AllClaims.{Claims, claims_of}
+use Rattle.mb_claim.specs.ObjectTypes.{Reg, Kind}
+pub use Rattle.mb_claim.specs.Rows.{pairs_of, width, offset, words_before, words_of, address_of, IsWordOf}
+use Rattle.mb_claim.specs.Types.{Layout}
 
 -- ---- the objects of a cell
--- so many pairs of a conciliator and a ratifier
-abbrev pub pairs_of : ℕ → ℕ → List Kind
-pairs_of s zero = []
-pairs_of s (suc n) = Conciliator s ∷ Ratifier ∷ pairs_of s n
-
 -- the quorum table of a layout; its values are the consumers
 abbrev pub quorums_of : Layout → QuorumTable
-quorums_of layout = chosen layout.table
+quorums_of layout = chosen_table layout.table
 
 -- how many pairs of objects a layout has
 abbrev pub pair_count : Layout → ℕ
@@ -29,36 +20,18 @@ pair_count layout = layout.pairs
 abbrev pub kinds_of : Layout → List Kind
 kinds_of layout = pairs_of (spread (quorums_of layout).values) (pair_count layout)
 
--- ---- addresses
--- how many words an object has, with r quorum registers
-abbrev pub width : ℕ → Kind → ℕ
-width r (Conciliator s) = 1
-width r Ratifier = 1 + r
+-- ---- the same of claims
+-- how many words they have
+abbrev pub words_in : Claims → ℕ
+words_in cs = cs.cells * words_of cs.table.registers cs.kinds
 
--- the place of a word within its object
-abbrev pub offset : Reg → ℕ
-offset Value = 0
-offset Proposal = 0
-offset (Quorum i) = 1 + i
-
--- how many words the objects before object o have
-abbrev pub words_before : ℕ → List Kind → ℕ → ℕ
-words_before r [] o = 0
-words_before r (kind ∷ kinds) zero = 0
-words_before r (kind ∷ kinds) (suc o) = width r kind + words_before r kinds o
-
--- how many words a cell has
-abbrev pub words_of : ℕ → List Kind → ℕ
-words_of r [] = 0
-words_of r (kind ∷ kinds) = width r kind + words_of r kinds
+-- each cell has an object o, and that has the word
+abbrev pub IsWordIn : Claims → ℕ → Reg → Type 0
+IsWordIn cs o reg = IsWordOf cs.table.registers cs.kinds o reg
 
 -- where a word of object o of cell k lies
-abbrev pub address_of : ℕ → List Kind → ℕ → ℕ → Reg → ℕ
-address_of r kinds k o reg = k * words_of r kinds + (words_before r kinds o + offset reg)
-
--- a cell has an object o, and that has the word
-abbrev pub IsWordOf : ℕ → List Kind → ℕ → Reg → Type 0
-IsWordOf r kinds o reg = (kind : Kind) × (slice_get kinds o ≡ Some kind) × HasReg r kind reg
+abbrev pub address_in : Claims → ℕ → ℕ → Reg → ℕ
+address_in cs k o reg = address_of cs.table.registers cs.kinds k o reg
 
 -- ---- how many turns
 -- no consumer makes more turns on a cell with these objects
@@ -69,9 +42,14 @@ most_on_objects t (kind ∷ kinds) = most_turns t kind + most_on_objects t kinds
 -- with so many pairs: for each s + 3 on the conciliator, and on the ratifier the registers of the largest write
 -- quorum, 2 on the proposal, and the registers of the largest read quorum
 abbrev pub max_steps : QuorumTable → ℕ → ℕ
-max_steps t pairs = pairs * (spread t.values + 3 + largest t.write t.values + 2 + largest t.read t.values)
+max_steps t pairs =
+    pairs * (spread t.values + 3 + largest_quorum t.write t.values + 2 + largest_quorum t.read t.values)
 
 -- ---- the same of a layout
+-- its claims on so many cells
+abbrev pub claims_in : Layout → ℕ → Claims
+claims_in layout cells = claims_of (quorums_of layout) (kinds_of layout) cells
+
 -- how many consumers it has
 abbrev pub consumer_count : Layout → ℕ
 consumer_count layout = (quorums_of layout).values

@@ -1,25 +1,22 @@
 -- The path of a consumer through the objects of a cell. Turns are the newest first: what is on the right came first.
-use Rattle.std.specs.Prelude.{ℕ, suc, ◌≡◌, ◌==◌, Bool, true, false, cond, List, [], ◌∷◌, ◌++◌, map, ◌⊎◌}
-use Rattle.mb_quorum.specs.Quorum.{QuorumTable}
-use Rattle.mb_deciding.specs.declared.access.Turn.{Turn}
-use Rattle.mb_deciding.specs.declared.object.Kind.{Kind}
-use Rattle.mb_deciding.specs.declared.object.Out.{Out}
-use Rattle.mb_deciding.specs.Objects.{IsPath, IsOpen, answer}
-use Rattle.mb_claim.specs.declared.access.ObjectTurn.{ObjectTurn}
-use Rattle.mb_claim.specs.declared.access.Stage.{Stage}
-use Rattle.mb_claim.specs.declared.access.Stage.TheVariants.{Going, Won, Lost, Undecided}
+use Rattle.std.specs.Prelude.{ℕ, suc, ◌≡◌, ◌==◌, Bool, true, false, if◌then◌else◌, List, [], ◌∷◌, ◌++◌, map, ◌⊎◌}
+use Rattle.mb_quorum.specs.Vocabulary.{QuorumTable}
+use Rattle.mb_deciding.specs.Vocabulary.{IsPath, IsOpen, answer}
+use Rattle.mb_claim.specs.AllClaims.{Claims}
+use Rattle.mb_claim.specs.ObjectTypes.{Turn, Kind, Out}
+use Rattle.mb_claim.specs.Types.{ObjectTurn, Stage, Going, Won, Lost, Undecided}
 
 -- turns made on object o
-abbrev pub tagged : ℕ → List Turn → List ObjectTurn
-tagged o turns = map (λ turn. record { object = o; turn = turn }) turns
+abbrev pub turns_on : ℕ → List Turn → List ObjectTurn
+turns_on o turns = map (λ turn. record { object = o; turn = turn }) turns
 
 -- the stage of consumer c where u was decided
 abbrev pub stage_for : ℕ → ℕ → Stage
-stage_for c u = cond (c == u) Won (Lost u)
+stage_for c u = if c == u then Won else Lost u
 
 -- the stage of consumer c at the end of a path with this output
 abbrev pub stage_of : ℕ → Out → Stage
-stage_of c output = cond output.decided (stage_for c output.value) Undecided
+stage_of c output = if output.decided then stage_for c output.value else Undecided
 
 -- ---- whole paths
 -- A whole path through objects with numbers from o on, and its output: whole paths of the objects in their order,
@@ -29,59 +26,65 @@ abbrev pub IsClaimPath : QuorumTable → List Kind → ℕ → ℕ → List Obje
 IsClaimPath t [] o v xs output = (xs ≡ []) × (output ≡ answer false v)
 IsClaimPath t (kind ∷ kinds) o v xs output =
     (turns : List Turn) × (later : List ObjectTurn) × (d : Bool) × (u : ℕ)
-    × (xs ≡ later ++ tagged o turns) × IsPath t kind v turns (answer d u)
+    × (xs ≡ later ++ turns_on o turns) × IsPath t kind v turns (answer d u)
     × (((d ≡ true) × (later ≡ []) × (output ≡ answer true u))
     ⊎ ((d ≡ false) × IsClaimPath t kinds (suc o) u later output))
 
 -- ---- prefixes of paths, and their stages
 -- the consumer has begun its path on object o, and goes on
-pub record GoesOnIn (t : QuorumTable) (kind : Kind) (o v : ℕ) (xs : List ObjectTurn) (s : Stage) : Type 0 where
+pub record GoesOnIn (t : QuorumTable) (kind : Kind) (o v : ℕ) (xs : List ObjectTurn)
+    (s : Stage) : Type 0 where
   -- all that it did from here on, it did on this object
   pub turns : List Turn
-  pub all : xs ≡ tagged o turns
+  pub all : xs ≡ turns_on o turns
   -- and it goes on to a whole path there
   pub going : IsOpen t kind v turns
   pub is : s ≡ Going
 
 -- object o has decided
-pub record DecidesIn (t : QuorumTable) (c : ℕ) (kind : Kind) (o v : ℕ) (xs : List ObjectTurn) (s : Stage) : Type 0 where
+pub record DecidesIn (t : QuorumTable) (c : ℕ) (kind : Kind) (o v : ℕ) (xs : List ObjectTurn)
+    (s : Stage) : Type 0 where
   -- all that it did from here on, it did on this object
   pub turns : List Turn
   pub value : ℕ
-  pub all : xs ≡ tagged o turns
+  pub all : xs ≡ turns_on o turns
   -- and that is a whole path with a decided output
   pub path : IsPath t kind v turns (answer true value)
   pub is : s ≡ stage_for c value
 
 -- object o has not decided: its output u is the next input, and later turns follow
 pub record Passes
-    (t : QuorumTable) (kind : Kind) (o v : ℕ) (xs : List ObjectTurn) (u : ℕ) (later : List ObjectTurn) : Type 0 where
+    (t : QuorumTable) (kind : Kind) (o v : ℕ) (xs : List ObjectTurn) (u : ℕ)
+    (later : List ObjectTurn) : Type 0 where
   -- its first turns are those on this object
   pub turns : List Turn
-  pub all : xs ≡ later ++ tagged o turns
+  pub all : xs ≡ later ++ turns_on o turns
   -- and make a whole path with an undecided output
   pub path : IsPath t kind v turns (answer false u)
 
 -- a prefix of a path of consumer c through objects with numbers from o on, with input v, and its stage
-abbrev pub IsClaimPrefixFrom : QuorumTable → ℕ → List Kind → ℕ → ℕ → List ObjectTurn → Stage → Type 0
+abbrev pub IsClaimPrefixFrom : QuorumTable → ℕ → List Kind → ℕ → ℕ → List ObjectTurn → Stage
+    → Type 0
 IsClaimPrefixFrom t c [] o v xs s = (xs ≡ []) × (s ≡ Undecided)
 IsClaimPrefixFrom t c (kind ∷ kinds) o v xs s =
     GoesOnIn t kind o v xs s
     ⊎ (DecidesIn t c kind o v xs s
-    ⊎ ((u : ℕ) × (later : List ObjectTurn) × Passes t kind o v xs u later × IsClaimPrefixFrom t c kinds (suc o) u later s))
+    ⊎ ((u : ℕ) × (later : List ObjectTurn) × Passes t kind o v xs u later
+    × IsClaimPrefixFrom t c kinds (suc o) u later s))
 
 -- a part comes to object n with input w: whole paths through all objects before it, none decided, lead there
 abbrev pub Enters : QuorumTable → List Kind → ℕ → ℕ → List ObjectTurn → ℕ → ℕ → Type 0
 Enters t [] o v xs n w = ⊥
 Enters t (kind ∷ kinds) o v xs n w =
     ((n ≡ o) × (w ≡ v))
-    ⊎ ((u : ℕ) × (later : List ObjectTurn) × Passes t kind o v xs u later × Enters t kinds (suc o) u later n w)
+    ⊎ ((u : ℕ) × (later : List ObjectTurn) × Passes t kind o v xs u later
+    × Enters t kinds (suc o) u later n w)
 
 -- ---- claims
--- a whole claim path of consumer c on a cell with these objects: its first input is its own number
-abbrev pub IsWholeClaim : QuorumTable → List Kind → ℕ → List ObjectTurn → Out → Type 0
-IsWholeClaim t kinds c xs output = IsClaimPath t kinds 0 c xs output
+-- a whole claim path of consumer c: its first input is its own number
+abbrev pub IsWholeClaim : Claims → ℕ → List ObjectTurn → Out → Type 0
+IsWholeClaim cs c xs output = IsClaimPath cs.table cs.kinds 0 c xs output
 
--- a prefix of a claim path of consumer c on such a cell, and its stage
-abbrev pub IsClaimPrefix : QuorumTable → List Kind → ℕ → List ObjectTurn → Stage → Type 0
-IsClaimPrefix t kinds c xs s = IsClaimPrefixFrom t c kinds 0 c xs s
+-- a prefix of a claim path of consumer c, and its stage
+abbrev pub IsClaimPrefix : Claims → ℕ → List ObjectTurn → Stage → Type 0
+IsClaimPrefix cs c xs s = IsClaimPrefixFrom cs.table c cs.kinds 0 c xs s

@@ -1,17 +1,14 @@
 -- When a layout or a run is refused, and why.
-use Rattle.std.specs.Prelude.{ℕ, cond, nat_lt, nat_le, List, position, Option, Some, None}
+use Rattle.std.specs.Prelude.{ℕ, ◌||◌, if◌then◌else◌, nat_lt, nat_le, List, position, Option, Some, None}
 use Rattle.mb_quorum.specs.declared.values.TheConstants.{MAX_VALUES}
-use Rattle.mb_claim.specs.declared.layout.TheConstants.{MAX_PAIRS}
-use Rattle.mb_claim.specs.declared.layout.BadLayout.{BadLayout}
-use Rattle.mb_claim.specs.declared.layout.BadLayout.TheVariants.{BadConsumers, BadRounds}
+use Rattle.mb_claim.specs.Types.{MAX_PAIRS, BadLayout, BadConsumers, BadRounds}
 
 -- the first reason to refuse a layout for so many consumers with so many pairs, if there is one
 abbrev pub layout_refusal : ℕ → ℕ → Option BadLayout
 layout_refusal consumers pairs =
-    cond (nat_lt consumers 1) (Some BadConsumers)
-    (cond (nat_lt MAX_VALUES consumers) (Some BadConsumers)
-    (cond (nat_lt pairs 1) (Some BadRounds)
-    (cond (nat_lt MAX_PAIRS pairs) (Some BadRounds) None)))
+    if nat_lt consumers 1 || nat_lt MAX_VALUES consumers then Some BadConsumers
+    else if nat_lt pairs 1 || nat_lt MAX_PAIRS pairs then Some BadRounds
+    else None
 
 -- the least place of a step of a consumer that is not below the bound, if there is one
 abbrev pub stranger_in : ℕ → List (ℕ × ℕ) → Option ℕ

@@ -1,26 +1,23 @@
 -- Where a claim stands: the objects that it has passed, and its place on the next one.
 use Rattle.std.specs.Prelude.{ℕ, suc, ◌≡◌, ◌≢◌, ◌<◌, ◌↔◌, true, List, [], ◌∷◌, ◌++◌, length}
-use Rattle.mb_quorum.specs.Quorum.{QuorumTable}
-use Rattle.mb_deciding.specs.declared.access.Op.{Op}
-use Rattle.mb_deciding.specs.declared.access.Turn.{Turn}
-use Rattle.mb_deciding.specs.declared.object.Kind.{Kind}
-use Rattle.mb_deciding.specs.declared.place.Pc.{Pc}
-use Rattle.mb_deciding.specs.Place.{IsAt, turn_after}
-use Rattle.mb_claim.specs.declared.access.ObjectTurn.{ObjectTurn}
-use Rattle.mb_claim.specs.declared.access.ClaimAccess.{ClaimAccess}
-use Rattle.mb_claim.specs.declared.access.Stage.TheVariants.{Going}
-use Rattle.mb_claim.specs.declared.claim.Claim.{Claim}
-use Rattle.mb_claim.specs.History.{object_history}
-use Rattle.mb_claim.specs.Paths.{tagged, Passes, IsClaimPrefix}
+use Rattle.mb_quorum.specs.Vocabulary.{QuorumTable}
+use Rattle.mb_deciding.specs.Vocabulary.{IsAt, turn_after}
+use Rattle.mb_claim.specs.AllClaims.{Claims}
+use Rattle.mb_claim.specs.ObjectTypes.{Op, Turn, Kind, Pc}
+use Rattle.mb_claim.specs.Types.{ObjectTurn, ClaimAccess, Going, Claim}
+use Rattle.mb_claim.specs.History.{part_on, object_history}
+use Rattle.mb_claim.specs.Paths.{turns_on, Passes, IsClaimPrefixFrom}
 
 -- whole paths through objects with numbers from o on, none decided: the first input is v, the last output w
 abbrev pub PassesAll : QuorumTable → List Kind → ℕ → ℕ → List ObjectTurn → ℕ → Type 0
 PassesAll t [] o v xs w = (xs ≡ []) × (w ≡ v)
 PassesAll t (kind ∷ kinds) o v xs w =
-    (u : ℕ) × (later : List ObjectTurn) × Passes t kind o v xs u later × PassesAll t kinds (suc o) u later w
+    (u : ℕ) × (later : List ObjectTurn) × Passes t kind o v xs u later
+    × PassesAll t kinds (suc o) u later w
 
 -- a consumer c that has made these turns stands on the object with this number, at this place
-pub record StandsAt (t : QuorumTable) (kinds : List Kind) (c object : ℕ) (pc : Pc) (xs : List ObjectTurn) : Type 0 where
+pub record StandsAt (t : QuorumTable) (kinds : List Kind) (c object : ℕ) (pc : Pc)
+    (xs : List ObjectTurn) : Type 0 where
   -- the objects before it, its own, and those after it
   pub before : List Kind
   pub kind : Kind
@@ -35,17 +32,23 @@ pub record StandsAt (t : QuorumTable) (kinds : List Kind) (c object : ℕ) (pc :
   pub number : object ≡ length before
   -- it has passed those before, and what it did since then it did on its own
   pub passed : PassesAll t before 0 c front input
-  pub all : xs ≡ tagged object turns ++ front
+  pub all : xs ≡ turns_on object turns ++ front
   -- its input is a value of the table, and its turns led to the place
   pub within : input < t.values
   pub place : IsAt t kind input pc turns
 
+-- the claim of consumer c on cell k stands there
+abbrev pub HasPlace : Claims → ℕ → ℕ → ℕ → Pc → List ClaimAccess → Type 0
+HasPlace cs c k object pc h = (c < cs.table.values)
+    × StandsAt cs.table cs.kinds c object pc (part_on c k h)
+
 -- the claim is that of a consumer that has made these turns
-pub record IsClaimOf (t : QuorumTable) (kinds : List Kind) (claim : Claim) (xs : List ObjectTurn) : Type 0 where
+pub record IsClaimOf (t : QuorumTable) (kinds : List Kind) (claim : Claim)
+    (xs : List ObjectTurn) : Type 0 where
   -- it is one of the consumers
   pub known : claim.consumer < t.values
   -- the turns are a prefix of its claim path, with its stage
-  pub part : IsClaimPrefix t kinds claim.consumer xs claim.stage
+  pub prefix : IsClaimPrefixFrom t claim.consumer kinds 0 claim.consumer xs claim.stage
   -- it is begun where there are any
   pub begun : (claim.begun ≡ true) ↔ (xs ≢ [])
   -- and while it goes on it stands at its place
@@ -54,4 +57,12 @@ pub record IsClaimOf (t : QuorumTable) (kinds : List Kind) (claim : Claim) (xs :
 -- the access of consumer c to object o of cell k that an op makes after a history
 abbrev pub access_after : ℕ → ℕ → ℕ → Op → ℕ → List ClaimAccess → ClaimAccess
 access_after c k o op word h =
-    record { consumer = c; cell = k; step = record { object = o; turn = turn_after op word (object_history k o h) } }
+    record {
+      consumer = c;
+      cell = k;
+      step = record {
+        object = o;
+        turn = turn_after op word
+            (object_history k o h);
+      };
+    }

@@ -1,47 +1,48 @@
--- Words in one block, and the parts of all consumers.
-use Rattle.std.specs.Prelude.{ℕ, ◌≡◌, ◌<◌, ◌≤◌, ◌==◌, ◌*◌, cond, List, ◌∷◌, length, slice_index}
-use Rattle.mb_quorum.specs.Quorum.{QuorumTable}
-use Rattle.mb_deciding.specs.declared.access.Reg.{Reg}
-use Rattle.mb_deciding.specs.declared.access.Op.{Op}
-use Rattle.mb_deciding.specs.declared.access.Op.TheVariants.{Load, Store}
-use Rattle.mb_deciding.specs.declared.object.Kind.{Kind}
-use Rattle.mb_deciding.specs.Place.{act_of}
-use Rattle.mb_claim.specs.declared.access.ObjectTurn.{ObjectTurn}
-use Rattle.mb_claim.specs.declared.access.ClaimAccess.{ClaimAccess}
-use Rattle.mb_claim.specs.History.{part, left_at}
-use Rattle.mb_claim.specs.Claiming.{IsLawful}
-use Rattle.mb_claim.specs.Layouts.{words_of, address_of, IsWordOf}
+-- Words in one block, and what one access makes of them.
+use Rattle.std.specs.Prelude.{ℕ, ◌≡◌, ◌<◌, ◌≤◌, List, length, slice_index, slice_set}
+use Rattle.std.specs.Option.{option_map_or}
+use Rattle.mb_deciding.specs.Vocabulary.{stored_by, act_of, reg_of}
+use Rattle.mb_claim.specs.ObjectTypes.{Reg, Op}
+use Rattle.mb_claim.specs.Types.{ObjectTurn, ClaimAccess}
+use Rattle.mb_claim.specs.AllClaims.{Claims}
+use Rattle.mb_claim.specs.History.{left_at}
+use Rattle.mb_claim.specs.Claiming.{IsClaimLawful}
+use Rattle.mb_claim.specs.Layouts.{words_in, address_in, IsWordIn}
 
 -- the words at the addresses of the claims are those that a lawful history leaves; other words may follow
-pub record IsMemoryOf
-    (t : QuorumTable) (kinds : List Kind) (cells : ℕ) (words : List ℕ) (h : List ClaimAccess) : Type 0 where
+pub record IsMemoryOf (cs : Claims) (words : List ℕ) (h : List ClaimAccess) : Type 0 where
   -- the history is lawful
-  pub lawful : IsLawful t kinds cells h
+  pub lawful : IsClaimLawful cs h
   -- there are words for all cells
-  pub room : cells * words_of t.registers kinds ≤ length words
+  pub room : words_in cs ≤ length words
   -- each word of an object has what the history leaves in it
   pub left :
-      (k o : ℕ) (reg : Reg) → k < cells → IsWordOf t.registers kinds o reg
-      → slice_index words (address_of t.registers kinds k o reg) ≡ left_at k o reg h
+      (k o : ℕ) (reg : Reg) → k < cs.cells → IsWordIn cs o reg
+      → slice_index words (address_in cs k o reg) ≡ left_at k o reg h
 
--- the words, and the parts of consumers on cells, are those of one lawful history
-pub record IsState
-    (t : QuorumTable) (kinds : List Kind) (cells : ℕ) (words : List ℕ) (parts : ℕ → ℕ → List ObjectTurn) : Type 0 where
-  -- there is such a history, and it leaves the words
-  pub history : List ClaimAccess
-  pub memory : IsMemoryOf t kinds cells words history
-  -- each part is that of the history
-  pub same : (c k : ℕ) → parts c k ≡ part c k history
-
--- what an op leaves in its word, where it finds n
+-- what an op leaves in its word, where it finds n: what its act stores, if it stores anything
 abbrev pub after_op : Op → ℕ → ℕ
-after_op (Load reg) n = n
-after_op (Store reg value) n = value
+after_op op n = option_map_or (λ value. value) (stored_by (act_of op n)) n
 
 -- the step of a claim on object o that an op makes, where it finds n
 abbrev pub step_of : ℕ → Op → ℕ → ℕ → ObjectTurn
 step_of o op n word = record { object = o; turn = record { act = act_of op n; word = word } }
 
--- the parts, with one more step of consumer c on cell k
-abbrev pub with_step : ℕ → ℕ → ObjectTurn → (ℕ → ℕ → List ObjectTurn) → ℕ → ℕ → List ObjectTurn
-with_step c k x parts d j = cond (c == d) (cond (k == j) (x ∷ parts d j) (parts d j)) (parts d j)
+-- ---- an op on object o of cell k, made on these words
+-- what it finds
+abbrev pub found_in : Claims → ℕ → ℕ → Op → List ℕ → ℕ
+found_in cs k o op words = slice_index words (address_in cs k o (reg_of op))
+
+-- the access of consumer c with the random word
+abbrev pub access_in : Claims → ℕ → ℕ → ℕ → Op → ℕ → List ℕ → ClaimAccess
+access_in cs c k o op word words = record {
+  consumer = c;
+  cell = k;
+  step = step_of o op
+      (found_in cs k o op words) word;
+}
+
+-- the words that it leaves
+abbrev pub words_after : Claims → ℕ → ℕ → Op → List ℕ → List ℕ
+words_after cs k o op words = slice_set words (address_in cs k o (reg_of op)) (after_op op
+    (found_in cs k o op words))

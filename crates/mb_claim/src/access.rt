@@ -30,6 +30,15 @@ pub struct ClaimOp {
     pub op: Op,
 }
 
+/// An access that a claim has made.
+#[derive(Clone, Copy, PartialEq, Eq, Debug)]
+pub struct ClaimStep {
+    /// What it did, and on which object.
+    pub step: ObjectTurn,
+    /// How far the claim has come with it.
+    pub stage: Stage,
+}
+
 /// How far the claim of a consumer on a cell has come.
 #[derive(Clone, Copy, PartialEq, Eq, Debug)]
 pub enum Stage {

@@ -1,8 +1,8 @@
 //! The claim of one consumer on one cell.
 use crate::access::{ClaimOp, Stage};
-use crate::laws::standing;
 use crate::layout::Layout;
-use mb_deciding::{Next, Pc};
+use crate::steps::places_show_prefixes;
+use mb_deciding::{Memory, Next, Pc};
 
 /// The claim of one consumer on one cell: the object on which it stands, its place there, and how
 /// far it has come. A plain value, which may be kept between calls.
@@ -16,14 +16,12 @@ pub struct Claim {
 }
 
 impl Claim {
-    ghost use Rattle.std.specs.Prelude.{◌≡◌, ◌<◌, ◌+◌, ℕ, true, List, [], ◌∷◌, length, slice_get, MatchOption};
-    ghost use Rattle.mb_deciding.specs.Place.{IsAt};
-    ghost use Rattle.mb_claim.specs.declared.access.ClaimOp.{ClaimOp};
-    ghost use Rattle.mb_claim.specs.declared.access.ObjectTurn.{ObjectTurn};
-    ghost use Rattle.mb_claim.specs.declared.access.Stage.TheVariants.{Going, Undecided};
-    ghost use Rattle.mb_claim.specs.Claims.{consumer_of, claim_stage, is_begun, FitsLayout, IsClaimIn, IsNextOp, CanClaimFind};
-    ghost use Rattle.mb_claim.specs.Layouts.{quorums_of, kinds_of, consumer_count};
-    ghost use Rattle.mb_claim.specs.States.{step_of};
+    ghost use Rattle.std.specs.Prelude.{◌≡◌, ◌≢◌, ◌<◌, ◌≤◌, ◌+◌, ℕ, true, List, [], ◌∷◌, length, slice_get, MatchOption};
+    ghost use Rattle.mb_deciding.specs.Vocabulary.{IsAt, IsNext, IsReached, turns_left, turns_after, most_turns};
+    ghost use Rattle.mb_claim.specs.{Kind, Turn, ClaimOp, ObjectTurn, Going, Undecided, consumer_of, claim_stage, is_begun};
+    ghost use Rattle.mb_claim.specs.{FitsLayout, IsClaimIn, IsNextOp, CanClaimFind, IsClaimStep, steps_left, step_of};
+    ghost use Rattle.mb_claim.specs.{stage_for};
+    ghost use Rattle.mb_claim.specs.{quorums_of, kinds_of, consumer_count, most_accesses};
 
     /// The claim of a consumer that has made no access.
     pub fn new(layout: &Layout, consumer: u32) -> Claim
@@ -32,18 +30,20 @@ impl Claim {
         ensures going { claim_stage result ≡ Going }
         ensures fits { FitsLayout layout.now result }
         ensures path { IsClaimIn layout.now result [] }
+        ensures bound { steps_left layout.now result ≤ most_accesses layout.now }
     {
-        standing();
+        places_show_prefixes();
         Claim {
             consumer,
             object: 0,
-            place: Pc::conciliator(consumer, layout.last_turn()),
+            place: layout.kind_of(0).place(&layout.table, consumer),
             stage: Stage::Going,
             begun: false,
         }
     }
 
     /// The access that comes next.
+    #[inline(always)]
     pub fn next(&self, layout: &Layout) -> ClaimOp
         requires going { claim_stage self.now ≡ Going }
         requires fits { FitsLayout layout.now self.now }
@@ -58,6 +58,7 @@ impl Claim {
     /// Makes the next access, and tells how far the claim has come then. `seen` is the loaded value and is not
     /// looked at after a store; the random `word` counts after a load of a conciliator's word alone. After a
     /// value that the word cannot hold the stage is left open, and the claim can be called on.
+    #[inline(always)]
     pub fn after(&mut self, layout: &Layout, seen: u64, word: u64) -> Stage
         requires going { claim_stage self.old ≡ Going }
         requires fits { FitsLayout layout.now self.old }
@@ -66,23 +67,43 @@ impl Claim {
         ensures begun { is_begun self.new ≡ true }
         ensures stage { result ≡ claim_stage self.new }
 
+        // It can make fewer accesses then, whatever is said that it found: so it comes to an end.
+        ensures fewer { steps_left layout.now self.new < steps_left layout.now self.old }
+
         // The access is one more on the claim's path.
         ensures path { (xs : List ObjectTurn) (next : ClaimOp) → IsClaimIn layout.now self.old xs
             → IsNextOp layout.now self.old next → CanClaimFind layout.now self.old next seen
             → IsClaimIn layout.now self.new (step_of next.object next.op seen word ∷ xs) }
     {
-        standing();
-        self.begun = true;
-        match self.place.after(&layout.table, seen, word) {
-            Next::Go(place) => self.place = place,
-            Next::Out(out) if !out.decided => self.pass(layout, out.value),
-            Next::Out(out) if out.value == self.consumer => self.stage = Stage::Won,
-            Next::Out(out) => self.stage = Stage::Lost(out.value),
-        }
-        self.stage
+        self.follow(layout, self.place.after(&layout.table, seen, word))
+    }
+
+    /// Makes the next access in this memory, and tells how far the claim has come then: [`Claim::next`],
+    /// [`Memory::perform`] and [`Claim::after`] in one match.
+    #[inline(always)]
+    pub fn step<M: Memory>(&mut self, layout: &Layout, memory: &mut M, word: u64) -> Stage
+        requires going { claim_stage self.old ≡ Going }
+        requires fits { FitsLayout layout.now self.old }
+        requires may { (next : ClaimOp) → IsNextOp layout.now self.old next
+            → M.can_make memory.old next.object next.op }
+        ensures fits { FitsLayout layout.now self.new }
+        ensures consumer { consumer_of self.new ≡ consumer_of self.old }
+        ensures begun { is_begun self.new ≡ true }
+        ensures stage { result ≡ claim_stage self.new }
+        ensures fewer { steps_left layout.now self.new < steps_left layout.now self.old }
+
+        // The access that was made is the one that comes next, and is one more on the claim's path.
+        ensures step { IsClaimStep layout.now self.old
+            (λ next seen. M.makes memory.old next.object next.op seen memory.new) word self.new }
+    {
+        self.follow(
+            layout,
+            self.place.step(&layout.table, memory, self.object, word),
+        )
     }
 
     /// How far the claim has come.
+    #[inline(always)]
     pub fn stage(&self) -> Stage
         ensures { result ≡ claim_stage self.now }
     {
@@ -96,22 +117,83 @@ impl Claim {
         self.begun
     }
 
+    /// Goes on with what an access on the claim's object led to.
+    #[inline(always)]
+    fn follow(&mut self, layout: &Layout, next: Next) -> Stage
+        requires going { claim_stage self.old ≡ Going }
+        requires fits { FitsLayout layout.now self.old }
+        requires next { IsNext (quorums_of layout.now) next }
+        requires fewer { turns_after (quorums_of layout.now) next
+            < turns_left (quorums_of layout.now) self.old.place }
+        ensures fits { FitsLayout layout.now self.new }
+        ensures consumer { consumer_of self.new ≡ consumer_of self.old }
+        ensures begun { is_begun self.new ≡ true }
+        ensures stage { result ≡ claim_stage self.new }
+        ensures fewer { steps_left layout.now self.new < steps_left layout.now self.old }
+        ensures path { (xs : List ObjectTurn) (turn : Turn) → IsClaimIn layout.now self.old xs
+            → ((kind : Kind) (v : ℕ) (turns : List Turn)
+            → IsAt (quorums_of layout.now) kind v self.old.place turns
+            → IsReached (quorums_of layout.now) kind v next (turn ∷ turns))
+            → IsClaimIn layout.now self.new
+            (record { object = self.old.object; turn = turn } ∷ xs) }
+    {
+        places_show_prefixes();
+        self.begun = true;
+        match next {
+            Next::Go(place) => {
+                self.place = place;
+                Stage::Going
+            }
+            Next::Out(out) if !out.decided => self.pass(layout, out.value),
+            Next::Out(out) => {
+                let stage = self.stage_for(out.value);
+                self.stage = stage;
+                stage
+            }
+        }
+    }
+
+    /// The stage of the claim where its object decided this value.
+    #[inline(always)]
+    fn stage_for(&self, value: u32) -> Stage
+        ensures exact { result ≡ stage_for self.now.consumer value }
+        ensures ended { result ≢ Going }
+    {
+        if value == self.consumer {
+            Stage::Won
+        } else {
+            Stage::Lost(value)
+        }
+    }
+
     /// Goes on from the claim's object, whose output is this value and undecided, to the next one.
-    fn pass(&mut self, layout: &Layout, value: u32)
+    #[inline(always)]
+    fn pass(&mut self, layout: &Layout, value: u32) -> Stage
         requires object { self.old.object < length (kinds_of layout.now) }
         requires value { value < consumer_count layout.now }
         requires going { self.old.stage ≡ Going }
         ensures same { (self.new.consumer ≡ self.old.consumer) × (self.new.begun ≡ self.old.begun) }
-        ensures next { MatchOption (slice_get (kinds_of layout.now) (self.old.object + 1)) (self.new.stage ≡ Undecided)
+        ensures next { MatchOption (slice_get (kinds_of layout.now) (self.old.object + 1))
+            (self.new.stage ≡ Undecided)
             (λ kind. (self.new.stage ≡ Going) × (self.new.object ≡ self.old.object + 1)
             × IsAt (quorums_of layout.now) kind value self.new.place []) }
+        ensures few { MatchOption (slice_get (kinds_of layout.now) (self.old.object + 1))
+            (self.new.stage ≡ Undecided)
+            (λ kind. (self.new.stage ≡ Going) × (self.new.object ≡ self.old.object + 1)
+            × (turns_left (quorums_of layout.now) self.new.place
+            ≤ most_turns (quorums_of layout.now) kind)) }
+        ensures stage { result ≡ self.new.stage }
     {
         match layout.kind(self.object + 1) {
             Some(kind) => {
                 self.object += 1;
-                self.place = kind.place(value);
+                self.place = kind.place(&layout.table, value);
+                Stage::Going
             }
-            None => self.stage = Stage::Undecided,
+            None => {
+                self.stage = Stage::Undecided;
+                Stage::Undecided
+            }
         }
     }
 }

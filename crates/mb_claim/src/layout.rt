@@ -1,8 +1,11 @@
 //! The deciding objects that each cell has, and where their words lie.
-ghost use Rattle.std.specs.Prelude.{◌≤◌};
+ghost use Rattle.std.specs.Prelude.{◌≡◌, ◌<◌, ◌≤◌, ◌+◌, ◌*◌, ℕ, length, slice_get, slice_index};
+ghost use Rattle.mb_quorum.specs.Vocabulary.{chosen_table};
+ghost use Rattle.mb_deciding.specs.Vocabulary.{spread};
+ghost use Rattle.mb_claim.specs.Rows.{pairs_of, words_before, words_of};
 ghost use Rattle.mb_claim.specs.declared.layout.TheConstants.{MAX_PAIRS};
 
-use crate::laws;
+use crate::steps::addresses_are_apart;
 use mb_deciding::{Kind, Reg, spread};
 use mb_quorum::{Quorums, Table, TableName};
 use std::error::Error;
@@ -14,14 +17,28 @@ pub const MAX_PAIRS: u64 = 8;
 /// The most cells whose words can be addressed.
 pub const MAX_CELLS: u32 = 256;
 
+/// The most objects of a cell: those of `MAX_PAIRS` pairs.
+const MAX_OBJECTS: usize = 2 * MAX_PAIRS as usize;
+
 /// The deciding objects that each cell has: so many pairs of a conciliator and a ratifier, over a
 /// quorum table with a value for each consumer.
 #[derive(Clone, Copy, PartialEq, Eq, Debug)]
 pub struct Layout {
     pub(crate) table: Table,
     pairs: u32,
+    objects: u32,
+    kinds: [Kind; MAX_OBJECTS],
+    begins: [u32; MAX_OBJECTS],
+    cell_size: u32,
     pub ghost some: { 1 ≤ pairs },
     pub ghost few: { pairs ≤ MAX_PAIRS },
+    pub ghost counted: { objects ≡ length (pairs_of (spread (chosen_table table).values) pairs) },
+    pub ghost row: { (o : ℕ) → o < objects
+        → slice_get (pairs_of (spread (chosen_table table).values) pairs) o ≡ slice_get kinds o },
+    pub ghost begin: { (o : ℕ) → o < objects → slice_index begins o ≡ words_before
+        (chosen_table table).registers (pairs_of (spread (chosen_table table).values) pairs) o },
+    pub ghost size: { cell_size ≡ words_of
+        (chosen_table table).registers (pairs_of (spread (chosen_table table).values) pairs) },
 }
 
 /// Why there is no layout.
@@ -45,24 +62,25 @@ impl fmt::Display for BadLayout {
 impl Error for BadLayout {}
 
 impl Layout {
-    ghost use Rattle.std.specs.Prelude.{◌≡◌, ◌<◌, ◌≤◌, ◌+◌, ◌*◌, ◌^◌, ℕ, slice_get, IsOk, IfOk, IfSome, Err, MatchOption};
+    ghost use Rattle.std.specs.Prelude.{◌≡◌, ◌<◌, ◌≤◌, ◌+◌, ◌*◌, ◌^◌, ℕ, length, slice_get, Some};
+    ghost use Rattle.std.specs.Prelude.{IsOk, IfOk, IfSome, Err, MatchOption};
     ghost use Rattle.mb_quorum.specs.Tables.{table_of};
-    ghost use Rattle.mb_deciding.specs.declared.access.Reg.{Reg};
     ghost use Rattle.mb_deciding.specs.Run.{IsFitKind};
-    ghost use Rattle.mb_deciding.specs.Spread.{spread};
-    ghost use Rattle.mb_claim.specs.declared.layout.TheConstants.{MAX_CELLS};
-    ghost use Rattle.mb_claim.specs.Layouts.{quorums_of, kinds_of, pairs_of, pair_count, offset};
-    ghost use Rattle.mb_claim.specs.Layouts.{consumer_count, cell_words, word_address, HasWord, most_accesses};
-    ghost use Rattle.mb_claim.specs.Refusals.{layout_refusal};
+    ghost use Rattle.mb_deciding.specs.Vocabulary.{spread};
+    ghost use Rattle.mb_claim.specs.{Reg, width, quorums_of, kinds_of, pairs_of, pair_count, offset};
+    ghost use Rattle.mb_claim.specs.{consumer_count, cell_words, word_address, HasWord, most_accesses, layout_refusal};
+    ghost use Rattle.mb_claim.specs.declared.layout.TheConstants.{MAX_CELLS, MAX_OBJECTS};
 
     /// The layout for so many consumers, with so many pairs of objects over the quorum table of this name.
     /// It is refused with `BadConsumers` if the number of consumers is not in `1..=MAX_VALUES`, and
     /// else with `BadRounds` if the number of pairs is not in `1..=MAX_PAIRS`.
     pub fn new(consumers: u64, pairs: u64, name: TableName) -> Result<Layout, BadLayout>
-        ensures refused { MatchOption (layout_refusal consumers pairs) (IsOk result) (λ fault. result ≡ Err fault) }
+        ensures refused { MatchOption (layout_refusal consumers pairs) (IsOk result)
+            (λ fault. result ≡ Err fault) }
         ensures quorums { IfOk result (λ layout. quorums_of layout ≡ table_of name consumers) }
         ensures pairs { IfOk result (λ layout. pair_count layout ≡ pairs) }
-        ensures kinds { IfOk result (λ layout. kinds_of layout ≡ pairs_of (spread consumers) pairs) }
+        ensures kinds { IfOk result
+            (λ layout. kinds_of layout ≡ pairs_of (spread consumers) pairs) }
     {
         let Ok(table) = Table::new(name, consumers) else {
             return Err(BadLayout::BadConsumers);
@@ -70,10 +88,58 @@ impl Layout {
         if !(1..=MAX_PAIRS).contains(&pairs) {
             return Err(BadLayout::BadRounds);
         }
+        let pairs = pairs as u32;
+        let last_turn = spread(consumers);
+        let registers = table.registers();
+        let objects = Layout::objects_of(pairs);
+        let mut kinds = [Kind::Ratifier; MAX_OBJECTS];
+        let mut begins = [0; MAX_OBJECTS];
+        let mut cell_size = 0;
+        for object in 0..objects {
+            let kind = Layout::kind_in_row(last_turn, object);
+            kinds[object as usize] = kind;
+            begins[object as usize] = cell_size;
+            cell_size += Layout::width(registers, kind);
+        }
         Ok(Layout {
             table,
-            pairs: pairs as u32,
+            pairs,
+            objects,
+            kinds,
+            begins,
+            cell_size,
         })
+    }
+
+    /// How many objects so many pairs have. This function and the next are all that know the row.
+    fn objects_of(pairs: u32) -> u32
+        requires { pairs ≤ MAX_PAIRS }
+        ensures { (s : ℕ) → result ≡ length (pairs_of s pairs) }
+    {
+        2 * pairs
+    }
+
+    /// The kind of an object of the row: in turn a conciliator, with this last turn, and a ratifier.
+    fn kind_in_row(last_turn: u32, object: u32) -> Kind
+        ensures { (n : ℕ) → object < length (pairs_of last_turn n)
+            → slice_get (pairs_of last_turn n) object ≡ Some result }
+    {
+        if object % 2 == 0 {
+            Kind::Conciliator { s: last_turn }
+        } else {
+            Kind::Ratifier
+        }
+    }
+
+    /// How many words an object of this kind has, with so many quorum registers.
+    fn width(registers: u32, kind: Kind) -> u32
+        requires { registers ≤ 64 }
+        ensures { result ≡ width registers kind }
+    {
+        match kind {
+            Kind::Conciliator { .. } => 1,
+            Kind::Ratifier => 1 + registers,
+        }
     }
 
     /// How many consumers there are. Their numbers count from 0.
@@ -87,25 +153,28 @@ impl Layout {
     pub fn words(&self, cells: u32) -> usize
         requires { cells ≤ MAX_CELLS }
         ensures exact { result ≡ cells * cell_words self.now }
-        ensures within { (k o : ℕ) (reg : Reg) → HasWord self.now o reg → k < cells → word_address self.now k o reg < result }
+        ensures within { (k o : ℕ) (reg : Reg) → HasWord self.now o reg → k < cells
+            → word_address self.now k o reg < result }
     {
-        laws::addresses();
+        addresses_are_apart();
         cells as usize * self.words_of_cell()
     }
 
     /// Where a word of an object of a cell lies, counted from the first word of cell 0.
+    #[inline(always)]
     pub fn address(&self, cell: u32, object: u32, reg: Reg) -> usize
         requires cell { cell < MAX_CELLS }
         requires word { HasWord self.now object reg }
         ensures exact { result ≡ word_address self.now cell object reg }
 
         // No other word lies there.
-        ensures apart { (k o : ℕ) (other : Reg) → HasWord self.now o other → word_address self.now k o other ≡ result
+        ensures apart { (k o : ℕ) (other : Reg) → HasWord self.now o other
+            → word_address self.now k o other ≡ result
             → (k ≡ cell) × (o ≡ object) × (other ≡ reg) }
     {
-        laws::addresses();
-        let before = object / 2 * self.words_of_pair() + object % 2;
-        cell as usize * self.words_of_cell() + (before + Layout::place_in_object(reg)) as usize
+        addresses_are_apart();
+        let begin = self.begins[object as usize];
+        cell as usize * self.words_of_cell() + (begin + Layout::place_in_object(reg)) as usize
     }
 
     /// The most accesses that a claim can make.
@@ -118,15 +187,14 @@ impl Layout {
             write = self.table.write_quorum(consumer).count_ones().max(write);
             read = self.table.read_quorum(consumer).count_ones().max(read);
         }
-        u64::from(self.pairs) * u64::from(self.last_turn() + 3 + write + 2 + read)
-    }
-
-    /// The last turn of each conciliator.
-    pub(crate) fn last_turn(&self) -> u32
-        ensures exact { result ≡ spread (consumer_count self.now) }
-        ensures small { result ≤ 63 }
-    {
-        spread(u64::from(self.consumers()))
+        let mut steps = 0;
+        for object in 0..self.objects {
+            steps += match self.kind_of(object) {
+                Kind::Conciliator { s } => u64::from(s) + 3,
+                Kind::Ratifier => u64::from(write + 2 + read),
+            };
+        }
+        steps
     }
 
     /// The kind of an object, if the cells have it.
@@ -134,34 +202,33 @@ impl Layout {
         ensures exact { result ≡ slice_get (kinds_of self.now) object }
         ensures fit { IfSome result IsFitKind }
     {
-        if object >= 2 * self.pairs {
-            None
-        } else if object % 2 == 0 {
-            Some(Kind::Conciliator {
-                s: self.last_turn(),
-            })
+        if object < self.objects {
+            Some(self.kind_of(object))
         } else {
-            Some(Kind::Ratifier)
+            None
         }
     }
 
-    /// How many words a conciliator and a ratifier have together.
-    fn words_of_pair(&self) -> u32
-        ensures exact { result ≡ 2 + (quorums_of self.now).registers }
-        ensures small { result ≤ 66 }
+    /// The kind of one of the objects of each cell.
+    pub(crate) fn kind_of(&self, object: u32) -> Kind
+        requires { object < length (kinds_of self.now) }
+        ensures exact { slice_get (kinds_of self.now) object ≡ Some result }
+        ensures fit { IsFitKind result }
     {
-        2 + self.table.registers()
+        self.kinds[object as usize]
     }
 
     /// How many words a cell has.
+    #[inline(always)]
     fn words_of_cell(&self) -> usize
-        ensures small { result ≤ 528 }
+        ensures small { result ≤ 65 * MAX_OBJECTS }
         ensures exact { result ≡ cell_words self.now }
     {
-        (self.pairs * self.words_of_pair()) as usize
+        self.cell_size as usize
     }
 
     /// The place of a word within its object.
+    #[inline(always)]
     fn place_in_object(reg: Reg) -> u32
         requires { offset reg < 2 ^ 32 }
         ensures { result ≡ offset reg }

@@ -1,25 +1,39 @@
-use Rattle.std.proofs.Common.{[], refl, subst}
+use Rattle.std.proofs.Common.{[], refl, arith}
 use Rattle.std.proofs.lemmas.Bool.{false≢true}
-use Rattle.mb_deciding.specs.declared.object.Kind.TheVariants.{Conciliator}
-use Rattle.mb_deciding.specs.Place.{IsAt}
-use Rattle.mb_deciding.specs.Spread.{spread}
-use Rattle.mb_claim.specs.Layouts.{quorums_of, kinds_of}
-use Rattle.mb_claim.proofs.LayoutObjects.{quorums_lawful}
+use Rattle.mb_claim.specs.{quorums_of, kinds_of, claims_in}
+use Rattle.mb_claim.proofs.Bounds.{pairs_steps}
 use Rattle.mb_claim.proofs.ClaimSteps.{stands_first}
+use Rattle.mb_deciding.specs.Vocabulary.{spread}
+use Rattle.mb_claim.proofs.LayoutObjects.{quorums_lawful, length-pairs_of}
+use Rattle.mb_claim.proofs.StepsLeft.{most_from}
 use Rattle.mb_claim.proofs.claim.Claim.new.Goals as goal
+
+pub kind_of-requires : goal.kind_of-requires
+kind_of-requires c =
+    let layout = c.args.layout.now in
+    let all = length-pairs_of (spread (quorums_of layout).values) layout.pairs in omega (arith, all, layout.some)
 
 pub returns-clause-path : goal.returns-clause-path
 returns-clause-path c =
     let layout = c.args.layout.now in
     let t = quorums_of layout in
-    let at = subst (λ s. IsAt t (Conciliator s) c.args.consumer c.conciliator.result []) c.last_turn.ensures.exact
-    (c.conciliator.ensures.begins t c.requires) in
-    let stands = stands_first t (spread t.values) layout.pairs c.args.consumer c.conciliator.result layout.some c.requires at
-    in
+    let stands = stands_first t (kinds_of layout) c.kind_of.result c.args.consumer c.place.result c.kind_of.ensures.exact
+    c.requires c.place.ensures.begins in
     record {
       known = c.requires;
-      part = c.standing.ensures.part t (kinds_of layout) c.args.consumer 0 c.conciliator.result []
+      prefix = c.places_show_prefixes.ensures.prefix (claims_in layout 0) c.args.consumer 0 c.place.result []
           (quorums_lawful layout) stands;
       begun = (λ b. absurd (false≢true b), λ some. absurd (some refl));
       stands = λ g. stands;
     }
+
+pub returns-clause-bound : goal.returns-clause-bound
+returns-clause-bound c =
+    let layout = c.args.layout.now in
+    let t = quorums_of layout in
+    omega (
+      arith,
+      most_from t (kinds_of layout) 0 c.kind_of.result c.kind_of.ensures.exact,
+      c.place.ensures.bound,
+      pairs_steps t layout.pairs,
+    )

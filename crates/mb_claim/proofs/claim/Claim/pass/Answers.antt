@@ -1,6 +1,6 @@
 use Rattle.std.proofs.Common.{arith}
-use Rattle.mb_deciding.specs.Spread.{spread}
-use Rattle.mb_claim.specs.Layouts.{quorums_of}
+use Rattle.mb_deciding.specs.Vocabulary.{spread}
+use Rattle.mb_claim.specs.{quorums_of}
 use Rattle.mb_claim.proofs.LayoutObjects.{length-pairs_of}
 use Rattle.mb_claim.proofs.claim.Claim.pass.Goals as goal
 

@@ -1,0 +1,72 @@
+-- How many accesses a claim can still make.
+use Rattle.std.proofs.Common.{◌≡◌, ◌≢◌, ◌+◌, ◌<◌, ◌≤◌, ℕ, zero, suc, Option, Some, None, MatchOption, List, [], ◌∷◌}
+use Rattle.std.proofs.Common.{refl, sym, ◌∙◌, ap, slice_get, drop, arith}
+use Rattle.std.proofs.lemmas.Option.{none-some, same_Some}
+use Rattle.mb_quorum.specs.Vocabulary.{QuorumTable}
+use Rattle.mb_deciding.specs.Vocabulary.{turns_left, most_turns}
+use Rattle.mb_claim.specs.{Kind, Claim, Layout, Stage, Going, Won, Lost, Undecided, quorums_of, kinds_of}
+use Rattle.mb_claim.specs.{most_on_objects, steps_left, steps_left_at}
+
+-- the objects from one on allow what it allows and what those behind it allow
+pub most_from :
+    (t : QuorumTable) (kinds : List Kind) (o : ℕ) (kind : Kind) → slice_get kinds o ≡ Some kind
+    → most_on_objects t (drop o kinds) ≡ most_turns t kind + most_on_objects t (drop (suc o) kinds)
+most_from t [] o kind e = absurd (none-some kind e)
+most_from t (k ∷ ks) zero kind e = ap (λ j. most_turns t j + most_on_objects t ks) (same_Some k kind e)
+most_from t (k ∷ ks) (suc o) kind e = most_from t ks o kind e
+
+-- the stages at an end
+pub won_ended : Won ≢ Going
+won_ended e = cc
+
+pub lost_ended : (winner : ℕ) → Lost winner ≢ Going
+lost_ended winner e = cc
+
+-- no access is left there
+pub ended_left : (layout : Layout) (claim : Claim) (s : Stage) → claim.stage ≡ s → s ≢ Going
+    → steps_left layout claim ≡ 0
+ended_left layout claim Going e ended = absurd (ended refl)
+ended_left layout claim Won e ended = ap (λ s. steps_left_at layout s claim.object claim.place) e
+ended_left layout claim (Lost winner) e ended = ap (λ s. steps_left_at layout s claim.object claim.place) e
+ended_left layout claim Undecided e ended = ap (λ s. steps_left_at layout s claim.object claim.place) e
+
+-- those of a claim that is going
+pub going_left :
+    (layout : Layout) (claim : Claim) → claim.stage ≡ Going
+    → steps_left layout claim ≡ steps_left_at layout Going claim.object claim.place
+going_left layout claim e = ap (λ s. steps_left_at layout s claim.object claim.place) e
+
+module _ (layout : Layout) (old now : Claim) (going : old.stage ≡ Going) where
+  -- the claim goes on with its object
+  pub fewer_here :
+      now.stage ≡ Going → now.object ≡ old.object
+      → turns_left (quorums_of layout) now.place < turns_left (quorums_of layout) old.place
+      → steps_left layout now < steps_left layout old
+  fewer_here goes same fewer =
+      let behind = ap (λ o. most_on_objects (quorums_of layout) (drop (suc o) (kinds_of layout))) same in
+      omega (arith, going_left layout old going, going_left layout now goes, behind, fewer)
+
+  -- it has come to an end
+  pub fewer_ended :
+      now.stage ≢ Going → 0 < turns_left (quorums_of layout) old.place → steps_left layout now < steps_left layout old
+  fewer_ended ended some = omega (arith, going_left layout old going, ended_left layout now now.stage refl ended, some)
+
+  -- it has passed to the next object, if there is one
+  pub fewer_passed :
+      0 < turns_left (quorums_of layout) old.place
+      → (next : Option Kind) → slice_get (kinds_of layout) (old.object + 1) ≡ next
+      → MatchOption next (now.stage ≡ Undecided)
+      (λ kind. (now.stage ≡ Going) × (now.object ≡ old.object + 1)
+      × (turns_left (quorums_of layout) now.place ≤ most_turns (quorums_of layout) kind))
+      → steps_left layout now < steps_left layout old
+  fewer_passed some None is passed = fewer_ended (λ g. undecided_going (sym passed ∙ g)) some
+    where
+      undecided_going : Undecided ≡ Going → ⊥
+      undecided_going e = cc
+  fewer_passed some (Some kind) is passed =
+      let n : suc old.object ≡ old.object + 1 = omega arith in
+      let from =
+      most_from (quorums_of layout) (kinds_of layout) (suc old.object) kind (ap (slice_get (kinds_of layout)) n ∙ is) in
+      let behind =
+      ap (λ o. most_on_objects (quorums_of layout) (drop (suc o) (kinds_of layout))) (passed.1 ∙ sym n) in
+      omega (arith, going_left layout old going, going_left layout now passed.0, from, behind, passed.2, some)

@@ -1,0 +1,16 @@
+use Rattle.std.proofs.Common.{◌≤◌, length, subst}
+use Rattle.mb_deciding.specs.Vocabulary.{object_of}
+use Rattle.mb_claim.specs.{part_on}
+use Rattle.mb_claim.proofs.Bounds.{claim_bounded, pairs_steps}
+use Rattle.mb_claim.proofs.laws.claims_are_bounded.Goals as goal
+
+pub returns-clause-objects : goal.returns-clause-objects
+returns-clause-objects c cs h d k quorum =
+    claim_bounded cs (λ kind inputs. c.objects_keep_their_promises.ensures
+    (object_of cs.table kind inputs) quorum) h d k
+
+pub returns-clause-pairs : goal.returns-clause-pairs
+returns-clause-pairs c t n cells h d k quorum lawful =
+    subst (λ most. length (part_on d k h) ≤ most) (pairs_steps t n)
+    (claim_bounded _ (λ kind inputs. c.objects_keep_their_promises.ensures
+    (object_of t kind inputs) quorum) h d k lawful)

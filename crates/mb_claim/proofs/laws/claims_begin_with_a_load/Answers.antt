@@ -1,0 +1,27 @@
+use Rattle.std.proofs.Common.{◌∙◌}
+use Rattle.mb_deciding.specs.Vocabulary.{object_of}
+use Rattle.mb_claim.specs.{Layout, quorums_of}
+use Rattle.mb_claim.proofs.KindLaws.{AreDeciding}
+use Rattle.mb_claim.proofs.FirstAccess.{fresh_going, fresh_begun, fresh_next}
+use Rattle.mb_claim.proofs.LayoutObjects.{quorums_lawful}
+use Rattle.mb_claim.proofs.laws.claims_begin_with_a_load.Goals as goal
+
+-- the laws of the layout's objects
+law : goal.After-objects_keep_their_promises → (layout : Layout) → AreDeciding (quorums_of layout)
+law c layout kind inputs =
+    c.objects_keep_their_promises.ensures (object_of (quorums_of layout) kind inputs) (quorums_lawful layout)
+
+pub returns-clause-fresh : goal.returns-clause-fresh
+returns-clause-fresh c layout claim of = (
+  fresh_going layout (law c layout) claim of,
+  fresh_begun layout
+      (law c layout) claim of,
+)
+
+pub returns-clause-next : goal.returns-clause-next
+returns-clause-next c layout claim next of is =
+    let first = fresh_next layout (law c layout) claim of next.op is.op in (is.object ∙ first.0, first.1)
+
+pub returns-clause-found : goal.returns-clause-found
+returns-clause-found c layout claim next seen of is can = (fresh_next layout
+    (law c layout) claim of next.op is.op).2 seen can

@@ -1,0 +1,10 @@
+use Rattle.std.proofs.Common.{refl}
+use Rattle.mb_deciding.specs.Vocabulary.{object_of}
+use Rattle.mb_claim.specs.{Ratifier}
+use Rattle.mb_claim.proofs.Winner.{has_one_winner}
+use Rattle.mb_claim.proofs.laws.claims_have_one_winner.Goals as goal
+
+pub returns : goal.returns
+returns c cs h k quorum lawful =
+    has_one_winner cs h k (λ kind inputs. c.objects_keep_their_promises.ensures (object_of cs.table kind inputs) quorum)
+    (λ inputs. c.ratifiers_decide_unless_contested.ensures (object_of cs.table Ratifier inputs) quorum refl) lawful

@@ -1,0 +1,24 @@
+use Rattle.mb_deciding.specs.Vocabulary.{object_of}
+use Rattle.mb_claim.specs.{Claims, IsSound}
+use Rattle.mb_claim.proofs.Standing.{AreStepping, may_follow, finds_there}
+use Rattle.mb_claim.proofs.steps.places_make_steps.Goals as goal
+
+-- the laws of one step of the objects
+stepping : goal.After-one_step → (cs : Claims) → IsSound cs → AreStepping cs.table
+stepping c cs quorum =
+    record {
+      steps = λ kind inputs xs q at o n. c.places_lead_on.ensures.prefix
+          (object_of cs.table kind inputs) xs q at o n quorum;
+      finds = λ kind inputs xs q at o. c.places_lead_on.ensures.found (object_of cs.table kind inputs) xs q at o quorum;
+      longer = λ kind inputs xs q turn. c.one_step.ensures.longer (object_of cs.table kind inputs) xs q turn;
+    }
+
+pub returns-clause-follows : goal.returns-clause-follows
+returns-clause-follows c cs d k object pc op word h quorum =
+    may_follow cs (λ kind inputs. c.objects_keep_their_promises.ensures (object_of cs.table kind inputs) quorum)
+    (stepping c cs quorum) h d k object pc op word
+
+pub returns-clause-found : goal.returns-clause-found
+returns-clause-found c cs d k object pc op h quorum =
+    finds_there cs (λ kind inputs. c.objects_keep_their_promises.ensures (object_of cs.table kind inputs) quorum)
+    (stepping c cs quorum) h d k object pc op

@@ -1,0 +1,39 @@
+use Rattle.std.proofs.Common.{ℕ, List}
+use Rattle.mb_deciding.specs.Vocabulary.{object_of, IsOpAt, reg_of}
+use Rattle.mb_claim.specs.{Op, Pc, ClaimAccess, Claims, IsSound, IsWordIn, HasPlace}
+use Rattle.mb_claim.proofs.Standing.{AreStepping, stands_on}
+use Rattle.mb_claim.proofs.States.{memory_step, memory_found}
+use Rattle.mb_claim.proofs.steps.words_follow_steps.Goals as goal
+
+-- the laws of one step of the objects
+stepping : goal.After-places_are_unfinished → (cs : Claims) → IsSound cs → AreStepping cs.table
+stepping c cs quorum =
+    record {
+      steps = λ kind inputs xs q at o n. c.places_lead_on.ensures.prefix
+          (object_of cs.table kind inputs) xs q at o n quorum;
+      finds = λ kind inputs xs q at o. c.places_lead_on.ensures.found (object_of cs.table kind inputs) xs q at o quorum;
+      longer = λ kind inputs xs q turn. c.one_step.ensures.longer (object_of cs.table kind inputs) xs q turn;
+    }
+
+-- the word of the place's op is one of the cell's
+place_word :
+    goal.After-places_are_unfinished → (cs : Claims) (d k object : ℕ) (pc : Pc) (op : Op) (h : List ClaimAccess)
+    → IsSound cs
+    → HasPlace cs d k object pc h → IsOpAt cs.table pc op → IsWordIn cs object (reg_of op)
+place_word c cs d k object pc op h quorum p is = (
+  p.1.kind,
+  stands_on cs.table cs.kinds d object pc _ p.1,
+  c.places_are_unfinished.ensures.word cs.table p.1.kind p.1.input pc p.1.turns op quorum p.1.place is,
+)
+
+pub returns-clause-memory : goal.returns-clause-memory
+returns-clause-memory c cs d k object pc op word words h quorum memory cell p is =
+    memory_step cs words h memory d k object op word cell (place_word c cs d k object pc op h quorum p is)
+    (λ kind inputs. c.objects_keep_their_promises.ensures (object_of cs.table kind inputs) quorum)
+    (stepping c cs quorum) pc p is
+
+pub returns-clause-found : goal.returns-clause-found
+returns-clause-found c cs d k object pc op words h quorum memory cell p is =
+    memory_found cs words h memory d k object op 0 cell (place_word c cs d k object pc op h quorum p is)
+    (λ kind inputs. c.objects_keep_their_promises.ensures (object_of cs.table kind inputs) quorum)
+    (stepping c cs quorum) pc p is

@@ -1,0 +1,18 @@
+-- The claims on cells that have all the same objects, as plain data.
+use Rattle.std.specs.Prelude.{ℕ, List}
+use Rattle.mb_quorum.specs.Vocabulary.{QuorumTable, IsQuorumTable}
+use Rattle.mb_claim.specs.ObjectTypes.{Kind}
+
+-- the quorum table, whose values are the consumers, the objects of each cell, and how many cells there are
+pub record Claims : Type 0 where
+  pub table : QuorumTable
+  pub kinds : List Kind
+  pub cells : ℕ
+
+-- the claims of these
+abbrev pub claims_of : QuorumTable → List Kind → ℕ → Claims
+claims_of t kinds cells = record { table = t; kinds = kinds; cells = cells }
+
+-- the table is one
+abbrev pub IsSound : Claims → Type 0
+IsSound cs = IsQuorumTable cs.table

@@ -1,0 +1,91 @@
+-- A claim between its accesses, as those see it who call it.
+use Rattle.std.specs.Prelude.{ℕ, suc, ◌≡◌, ◌+◌, ◌<◌, Bool, List, ◌∷◌, drop, length}
+use Rattle.mb_deciding.specs.Vocabulary.{turns_left, IsPlace, IsOpAt, CanFind}
+use Rattle.mb_claim.specs.ObjectTypes.{Pc}
+use Rattle.mb_claim.specs.Types.{ClaimAccess, ClaimOp, ObjectTurn, Stage, Going, Won, Lost, Undecided, Claim, Layout}
+use Rattle.mb_claim.specs.History.{part_on}
+use Rattle.mb_claim.specs.Layouts.{quorums_of, kinds_of, claims_in, most_on_objects}
+use Rattle.mb_claim.specs.States.{IsMemoryOf, step_of}
+use Rattle.mb_claim.specs.Standing.{IsClaimOf}
+
+-- whose claim it is
+abbrev pub consumer_of : Claim → ℕ
+consumer_of claim = claim.consumer
+
+-- how far it has come
+abbrev pub claim_stage : Claim → Stage
+claim_stage claim = claim.stage
+
+-- whether it has made an access
+abbrev pub is_begun : Claim → Bool
+is_begun claim = claim.begun
+
+-- it stands on one of the layout's objects, at a place there
+pub record IsOnObject (layout : Layout) (claim : Claim) : Type 0 where
+  -- the layout has the object
+  pub object : claim.object < length (kinds_of layout)
+  -- and the place fits its table
+  pub place : IsPlace (quorums_of layout) claim.place
+
+-- as long as it is going, its calls may be made with this layout
+abbrev pub FitsLayout : Layout → Claim → Type 0
+FitsLayout layout claim = claim_stage claim ≡ Going → IsOnObject layout claim
+
+-- the access that it makes next
+pub record IsNextOp (layout : Layout) (claim : Claim) (next : ClaimOp) : Type 0 where
+  -- on the object on which it stands
+  pub object : next.object ≡ claim.object
+  -- the load or store of its place there
+  pub op : IsOpAt (quorums_of layout) claim.place next.op
+
+-- what that access may find: a load gives a value that the word can hold, and what the claim has stored is not empty
+abbrev pub CanClaimFind : Layout → Claim → ClaimOp → ℕ → Type 0
+CanClaimFind layout claim next seen = CanFind (quorums_of layout) claim.place next.op seen
+
+-- the claim is that of a consumer of the layout that has made these turns
+abbrev pub IsClaimIn : Layout → Claim → List ObjectTurn → Type 0
+IsClaimIn layout claim xs = IsClaimOf (quorums_of layout) (kinds_of layout) claim xs
+
+-- ---- one step
+-- the next access of the claim was made with the random word, where `makes` says what was made and what it found, and
+-- the claim is then another
+pub record IsClaimStep (layout : Layout) (claim : Claim) (makes : ClaimOp → ℕ → Type 0) (word : ℕ) (follows : Claim)
+    : Type 0 where
+  -- the access, and the value that it found
+  pub next : ClaimOp
+  pub seen : ℕ
+  -- it is the one that comes next, and it was made
+  pub is : IsNextOp layout claim next
+  pub made : makes next seen
+  -- where it can find that, it is one more on the claim's path
+  pub path :
+      (xs : List ObjectTurn) → IsClaimIn layout claim xs → CanClaimFind layout claim next seen
+      → IsClaimIn layout follows (step_of next.object next.op seen word ∷ xs)
+
+-- ---- the accesses that are left
+-- how many a claim with this stage can still make from its place on this object, whatever its loads find: those that are
+-- left on the object, and all that the objects behind it allow
+abbrev pub steps_left_at : Layout → Stage → ℕ → Pc → ℕ
+steps_left_at layout Going object pc =
+    turns_left (quorums_of layout) pc + most_on_objects (quorums_of layout) (drop (suc object) (kinds_of layout))
+steps_left_at layout Won object pc = 0
+steps_left_at layout (Lost winner) object pc = 0
+steps_left_at layout Undecided object pc = 0
+
+-- how many accesses a claim can still make
+abbrev pub steps_left : Layout → Claim → ℕ
+steps_left layout claim = steps_left_at layout claim.stage claim.object claim.place
+
+-- ---- a claim, the words and a history
+-- a step of the claim on cell k
+abbrev pub claim_access : Claim → ℕ → ObjectTurn → ClaimAccess
+claim_access claim k step = record { consumer = consumer_of claim; cell = k; step = step }
+
+-- the words, and the claim on cell k, are those of one lawful history of the layout's claims on so many cells
+pub record IsClaimOn (layout : Layout) (cells k : ℕ) (claim : Claim) (words : List ℕ) (h : List ClaimAccess) : Type 0 where
+  -- the cell is one of them
+  pub cell : k < cells
+  -- the history leaves the words
+  pub memory : IsMemoryOf (claims_in layout cells) words h
+  -- and the claim has made its consumer's part on the cell
+  pub standing : IsClaimIn layout claim (part_on (consumer_of claim) k h)

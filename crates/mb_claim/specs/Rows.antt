@@ -1,0 +1,41 @@
+-- The rows of objects: which objects a cell has, how many words these have, and where the words lie.
+use Rattle.std.specs.Prelude.{ℕ, zero, suc, ◌≡◌, ◌+◌, ◌*◌, List, [], ◌∷◌, slice_get, Some}
+use Rattle.mb_deciding.specs.Vocabulary.{HasReg}
+use Rattle.mb_claim.specs.ObjectTypes.{Reg, Value, Proposal, Quorum, Kind, Conciliator, Ratifier}
+
+-- ---- the objects of a cell
+-- so many pairs of a conciliator and a ratifier
+abbrev pub pairs_of : ℕ → ℕ → List Kind
+pairs_of s zero = []
+pairs_of s (suc n) = Conciliator s ∷ Ratifier ∷ pairs_of s n
+
+-- ---- addresses
+-- how many words an object has, with r quorum registers
+abbrev pub width : ℕ → Kind → ℕ
+width r (Conciliator s) = 1
+width r Ratifier = 1 + r
+
+-- the place of a word within its object
+abbrev pub offset : Reg → ℕ
+offset Value = 0
+offset Proposal = 0
+offset (Quorum i) = 1 + i
+
+-- how many words the objects before object o have
+abbrev pub words_before : ℕ → List Kind → ℕ → ℕ
+words_before r [] o = 0
+words_before r (kind ∷ kinds) zero = 0
+words_before r (kind ∷ kinds) (suc o) = width r kind + words_before r kinds o
+
+-- how many words a cell has
+abbrev pub words_of : ℕ → List Kind → ℕ
+words_of r [] = 0
+words_of r (kind ∷ kinds) = width r kind + words_of r kinds
+
+-- where a word of object o of cell k lies
+abbrev pub address_of : ℕ → List Kind → ℕ → ℕ → Reg → ℕ
+address_of r kinds k o reg = k * words_of r kinds + (words_before r kinds o + offset reg)
+
+-- a cell has an object o, and that has the word
+abbrev pub IsWordOf : ℕ → List Kind → ℕ → Reg → Type 0
+IsWordOf r kinds o reg = (kind : Kind) × (slice_get kinds o ≡ Some kind) × HasReg r kind reg

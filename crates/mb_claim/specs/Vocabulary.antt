@@ -1,0 +1,20 @@
+-- What crates above name in their clauses and proofs.
+pub use Rattle.mb_claim.specs.AllClaims.{claims_of, IsSound, Claims}
+pub use Rattle.mb_claim.specs.History.{step_by, part_on, access_by, part, access_on, object_history, part_at, left_at}
+pub use Rattle.mb_claim.specs.History.{IsMemoryTrue, AreInWords, on_cell}
+pub use Rattle.mb_claim.specs.Paths.{turns_on, stage_for, stage_of, IsClaimPath, IsClaimPrefixFrom, Enters}
+pub use Rattle.mb_claim.specs.Paths.{IsWholeClaim, IsClaimPrefix, GoesOnIn, DecidesIn, Passes}
+pub use Rattle.mb_claim.specs.Claiming.{IsClaimPart, HasStage, left_after, IsClaimLawful, MayFollow, Adds}
+pub use Rattle.mb_claim.specs.Winner.{Names, IsClaimAnnounced, IsClaimContested, HasOneWinner}
+pub use Rattle.mb_claim.specs.Standing.{PassesAll, HasPlace, access_after, StandsAt, IsClaimOf}
+pub use Rattle.mb_claim.specs.Layouts.{pairs_of, quorums_of, pair_count, kinds_of, width, offset, words_before}
+pub use Rattle.mb_claim.specs.Layouts.{words_of, address_of, IsWordOf, words_in, IsWordIn, address_in, most_on_objects}
+pub use Rattle.mb_claim.specs.Layouts.{max_steps, claims_in, consumer_count, cell_words, HasWord, word_address}
+pub use Rattle.mb_claim.specs.Layouts.{most_accesses}
+pub use Rattle.mb_claim.specs.States.{after_op, step_of, found_in, access_in, words_after, IsMemoryOf}
+pub use Rattle.mb_claim.specs.OneClaim.{consumer_of, claim_stage, is_begun, FitsLayout, CanClaimFind, IsClaimIn}
+pub use Rattle.mb_claim.specs.OneClaim.{steps_left_at, steps_left, claim_access, IsOnObject, IsNextOp, IsClaimOn}
+pub use Rattle.mb_claim.specs.OneClaim.{IsClaimStep}
+pub use Rattle.mb_claim.specs.Refusals.{layout_refusal, stranger_in}
+pub use Rattle.mb_claim.specs.Plays.{entry_consumer, with_entry, history_from, history_of, IsEntryAfter, AreEntriesOf}
+pub use Rattle.mb_claim.specs.Plays.{IsPlayed}

@@ -1,0 +1,74 @@
+//! Small histories and runs of the claims of two consumers on one cell: what the definitions let in, and what they keep
+//! out. The functions compute nothing. The proofs begin in `proofs/examples`.
+ghost use Rattle.std.specs.Prelude.{[], ◌∷◌};
+ghost use Rattle.mb_claim.specs.declared.run.ClaimEntry.TheVariants as entry;
+ghost use Rattle.mb_claim.specs.{Load, Store, Value, Quorum, IsClaimLawful, HasStage, IsClaimContested, Going, Won};
+ghost use Rattle.mb_claim.specs.{Lost, Undecided, two_consumers, won_and_lost, both_undecided, begun_again};
+ghost use Rattle.mb_claim.specs.{after_winning, own_number_again, of_a_stranger, IsPlayedByTwo, step, eight_steps};
+ghost use Rattle.mb_claim.specs.{won_and};
+
+use mb_deciding::examples::small_histories;
+use mb_deciding::laws::{objects_keep_their_promises, ratifiers_decide_unless_contested};
+
+/// Histories that are lawful.
+pub fn examples_are_lawful()
+    // Consumer 0 wins alone, then consumer 1 comes and loses.
+    ensures lawful { IsClaimLawful two_consumers won_and_lost }
+    ensures won { HasStage two_consumers 0 0 Won won_and_lost }
+    ensures lost { HasStage two_consumers 1 0 (Lost 0) won_and_lost }
+
+    // Both are undecided, and in object 1 both numbers were announced.
+    ensures contest { IsClaimLawful two_consumers both_undecided }
+    ensures first { HasStage two_consumers 0 0 Undecided both_undecided }
+    ensures second { HasStage two_consumers 1 0 Undecided both_undecided }
+    ensures contested { IsClaimContested two_consumers 0 1 both_undecided }
+{
+    objects_keep_their_promises();
+    ratifiers_decide_unless_contested();
+}
+
+/// Histories that are not lawful.
+pub fn counterexamples_are_unlawful()
+    // A claim begun again at its first object after a pause.
+    ensures again { IsClaimLawful two_consumers begun_again → ⊥ }
+
+    // An access of a claim that was won.
+    ensures won { IsClaimLawful two_consumers after_winning → ⊥ }
+
+    // The own number as next input, in place of the value of the output before.
+    ensures own { IsClaimLawful two_consumers own_number_again → ⊥ }
+
+    // A consumer that is none of the claims'.
+    ensures stranger { IsClaimLawful two_consumers of_a_stranger → ⊥ }
+{
+    objects_keep_their_promises();
+}
+
+/// Runs, and entries and stages that are none.
+pub fn runs_are_told_from_others()
+    ensures won { IsPlayedByTwo eight_steps (won_and (entry.Done 0)) (Won ∷ Going ∷ []) }
+
+    // No entry for a step.
+    ensures silent { IsPlayedByTwo (step ∷ []) [] (Going ∷ Going ∷ []) → ⊥ }
+
+    // An entry of consumer 0 for a step of consumer 1.
+    ensures another { IsPlayedByTwo ((1, 0) ∷ []) (entry.Access 0 0 (Load Value 0) ∷ [])
+        (Going ∷ Going ∷ []) → ⊥ }
+
+    // `Done` of a claim that is going, and an access of one that was won.
+    ensures early { IsPlayedByTwo (step ∷ []) (entry.Done 0 ∷ []) (Going ∷ Going ∷ []) → ⊥ }
+    ensures late { IsPlayedByTwo eight_steps (won_and (entry.Access 0 1 (Load (Quorum 1) 0)))
+        (Won ∷ Going ∷ []) → ⊥ }
+
+    // Stages that are not the history's, and a stage too few.
+    ensures boast { IsPlayedByTwo [] [] (Won ∷ Going ∷ []) → ⊥ }
+    ensures few { IsPlayedByTwo [] [] (Going ∷ []) → ⊥ }
+
+    // A store on attempt 0, where the step's random word 3 does not store.
+    ensures impatient { IsPlayedByTwo ((0, 3) ∷ (0, 3) ∷ [])
+        (entry.Access 0 0 (Load Value 0) ∷ entry.Access 0 0 (Store Value 1) ∷ [])
+        (Going ∷ Going ∷ []) → ⊥ }
+{
+    objects_keep_their_promises();
+    small_histories();
+}

@@ -1,0 +1,193 @@
+//! Laws of one access more, for those who keep the words and the history of many claims: a world, a table of words that
+//! threads share. The functions compute nothing: their contracts are the laws. The proofs begin in `proofs/steps`.
+//!
+//! A table of shared words begins with [`histories_begin_with_zeros`]. Each access of a claim rests on
+//! [`claims_make_steps`]: the claim can be called, its word is one of the cell's, what it finds there it can go on with,
+//! and the words are then those that the history leaves with its access. [`accesses_lengthen_one_part`] says what is
+//! left of that for each consumer, and [`other_words_are_free`] that words behind the claims' may hold anything.
+ghost use Rattle.std.specs.Prelude.{ℕ, ◌≡◌, ◌≢◌, ◌+◌, ◌*◌, ◌<◌, ◌≤◌, List, [], ◌∷◌, length, slice_index, slice_set};
+ghost use Rattle.mb_deciding.specs.declared.access.Op.TheVariants as to;
+ghost use Rattle.mb_deciding.specs.Vocabulary.{IsInWords, IsSameOp, IsOpAt, CanFind, reg_of, seen_by};
+ghost use Rattle.mb_claim.specs.{Op, Reg, Value, Proposal, Quorum, Kind, Pc, Claims, IsSound, ClaimAccess, ObjectTurn};
+ghost use Rattle.mb_claim.specs.{Stage, Going, IsClaimLawful, MayFollow, Adds, IsClaimPrefix, part, part_on};
+ghost use Rattle.mb_claim.specs.{object_history, StandsAt, HasPlace, access_after, words_in, address_in, IsWordIn};
+ghost use Rattle.mb_claim.specs.{address_of, words_of, IsWordOf, pairs_of, IsMemoryOf, found_in, access_in};
+ghost use Rattle.mb_claim.specs.{words_after, Layout, Claim, ClaimOp, claims_in, consumer_of, claim_stage, FitsLayout};
+ghost use Rattle.mb_claim.specs.{HasWord, IsClaimIn, IsNextOp, CanClaimFind};
+
+use mb_deciding::laws::objects_keep_their_promises;
+use mb_deciding::steps::{
+    one_step as object_step, places_are_unfinished, places_lead_on, turns_name_the_next_op,
+};
+
+/// A lawful history with an access that may come next is lawful. The access adds one step to one part, and
+/// changes at most one word.
+pub fn one_step()
+    ensures { (cs : Claims) (a : ClaimAccess) (h : List ClaimAccess)
+        → IsClaimLawful cs h → MayFollow cs a h → Adds cs a h }
+{}
+
+/// What one access more adds to the parts, whether it may come next or not.
+pub fn accesses_lengthen_one_part()
+    ensures own { (a : ClaimAccess) (h : List ClaimAccess)
+        → part a.consumer (a ∷ h) ≡ a ∷ part a.consumer h }
+    ensures others { (c : ℕ) (a : ClaimAccess) (h : List ClaimAccess) → a.consumer ≢ c
+        → part c (a ∷ h) ≡ part c h }
+
+    // The part on one cell.
+    ensures own_cell { (a : ClaimAccess) (h : List ClaimAccess)
+        → part_on a.consumer a.cell (a ∷ h) ≡ a.step ∷ part_on a.consumer a.cell h }
+    ensures other_cells { (c k : ℕ) (a : ClaimAccess) (h : List ClaimAccess) → (a.consumer ≡ c
+        → a.cell ≡ k → ⊥)
+        → part_on c k (a ∷ h) ≡ part_on c k h }
+
+    // Which is that of all that the consumer did.
+    ensures cells { (c k : ℕ) (h : List ClaimAccess) → part_on c k (part c h) ≡ part_on c k h }
+{}
+
+/// What a claim has done names what it does next, whatever memory answers: so a history goes on in one way with the
+/// access of a consumer on a cell.
+pub fn claims_have_one_next_op()
+    ensures op { (cs : Claims) (c : ℕ) (x y : ObjectTurn) (xs : List ObjectTurn) (s r : Stage)
+        → IsSound cs
+        → IsClaimPrefix cs c (x ∷ xs) s → IsClaimPrefix cs c (y ∷ xs) r
+        → (x.object ≡ y.object) × IsSameOp x.turn.act y.turn.act }
+
+    // It was going on: nothing follows an ended claim.
+    ensures going { (cs : Claims) (c : ℕ) (x : ObjectTurn) (xs : List ObjectTurn) (s : Stage)
+        → IsClaimPrefix cs c (x ∷ xs) s → IsClaimPrefix cs c xs Going }
+
+    // And with the value that memory gives, and the same random word, the access is one.
+    ensures access { (cs : Claims) (a b : ClaimAccess) (h : List ClaimAccess) → IsSound cs
+        → IsClaimLawful cs (a ∷ h) → IsClaimLawful cs (b ∷ h) → a.consumer ≡ b.consumer
+        → a.cell ≡ b.cell
+        → a.step.turn.word ≡ b.step.turn.word → a ≡ b }
+{
+    objects_keep_their_promises();
+    turns_name_the_next_op();
+}
+
+/// The access that a claim's place names, with the value that the history leaves in its word, may come next.
+pub fn places_make_steps()
+    ensures follows { (cs : Claims) (c k object : ℕ) (pc : Pc) (op : Op) (word : ℕ)
+        (h : List ClaimAccess)
+        → IsSound cs → IsClaimLawful cs h → k < cs.cells → HasPlace cs c k object pc h
+        → IsOpAt cs.table pc op
+        → IsInWords (access_after c k object op word h).step.turn
+        → MayFollow cs (access_after c k object op word h) h }
+
+    // What it finds there is a value with which the place can go on.
+    ensures found { (cs : Claims) (c k object : ℕ) (pc : Pc) (op : Op) (h : List ClaimAccess)
+        → IsSound cs → IsClaimLawful cs h → HasPlace cs c k object pc h → IsOpAt cs.table pc op
+        → CanFind cs.table pc op (seen_by op (object_history k object h)) }
+{
+    objects_keep_their_promises();
+    places_lead_on();
+    object_step();
+}
+
+/// What a claim at a place has made is a prefix of its path, which goes on, and the word that comes next is
+/// one of the cell's.
+pub fn places_show_prefixes()
+    ensures prefix { (cs : Claims) (c object : ℕ) (pc : Pc) (xs : List ObjectTurn)
+        → IsSound cs → StandsAt cs.table cs.kinds c object pc xs → IsClaimPrefix cs c xs Going }
+    ensures word { (cs : Claims) (c object : ℕ) (pc : Pc) (op : Op) (xs : List ObjectTurn)
+        → IsSound cs → StandsAt cs.table cs.kinds c object pc xs → IsOpAt cs.table pc op
+        → IsWordIn cs object (reg_of op) }
+{
+    places_are_unfinished();
+}
+
+/// The empty history is lawful, and words that are all 0 are those that it leaves.
+pub fn histories_begin_with_zeros()
+    ensures lawful { (cs : Claims) → IsClaimLawful cs [] }
+    ensures memory { (cs : Claims) (words : List ℕ)
+        → words_in cs ≤ length words → ((i : ℕ) → slice_index words i ≡ 0)
+        → IsMemoryOf cs words [] }
+{}
+
+/// A word behind those of the cells is none of the claims'.
+pub fn other_words_are_free()
+    ensures { (cs : Claims) (at n : ℕ) (words : List ℕ) (h : List ClaimAccess)
+        → words_in cs ≤ at → IsMemoryOf cs words h → IsMemoryOf cs (slice_set words at n) h }
+{}
+
+/// One access of a claim at its place, made on words that a history leaves: the words are then those that the history
+/// leaves with that access.
+pub fn words_follow_steps()
+    ensures memory { (cs : Claims) (c k object : ℕ) (pc : Pc) (op : Op) (word : ℕ) (words : List ℕ)
+        (h : List ClaimAccess) → IsSound cs → IsMemoryOf cs words h
+        → k < cs.cells → HasPlace cs c k object pc h → IsOpAt cs.table pc op
+        → let a = access_in cs c k object op word words in
+        IsInWords a.step.turn → IsMemoryOf cs (words_after cs k object op words) (a ∷ h) }
+
+    // What it finds there is a value with which the place can go on.
+    ensures found { (cs : Claims) (c k object : ℕ) (pc : Pc) (op : Op) (words : List ℕ)
+        (h : List ClaimAccess)
+        → IsSound cs → IsMemoryOf cs words h
+        → k < cs.cells → HasPlace cs c k object pc h → IsOpAt cs.table pc op
+        → CanFind cs.table pc op (found_in cs k object op words) }
+{
+    objects_keep_their_promises();
+    places_lead_on();
+    object_step();
+    places_are_unfinished();
+}
+
+/// What the claim of a consumer owes to those who make its accesses on words of their own.
+pub fn claims_make_steps()
+    // It can be called.
+    ensures fits { (layout : Layout) (claim : Claim) (xs : List ObjectTurn)
+        → IsClaimIn layout claim xs → FitsLayout layout claim }
+
+    // The word that comes next is one of the cell's.
+    ensures word { (layout : Layout) (claim : Claim) (next : ClaimOp) (xs : List ObjectTurn)
+        → IsClaimIn layout claim xs → claim_stage claim ≡ Going → IsNextOp layout claim next
+        → HasWord layout next.object (reg_of next.op) }
+
+    // What it finds there is a value with which it can go on.
+    ensures found { (layout : Layout) (cells k : ℕ) (claim : Claim) (next : ClaimOp)
+        (words : List ℕ)
+        (h : List ClaimAccess) → let cs = claims_in layout cells in IsMemoryOf cs words h
+        → k < cells
+        → IsClaimIn layout claim (part_on (consumer_of claim) k h)
+        → claim_stage claim ≡ Going → IsNextOp layout claim next
+        → CanClaimFind layout claim next (found_in cs k next.object next.op words) }
+
+    // A store finds nothing, so whatever is said that it found will do.
+    ensures stored { (layout : Layout) (claim : Claim) (next : ClaimOp) (reg : Reg) (value seen : ℕ)
+        → next.op ≡ to.Store reg value → CanClaimFind layout claim next seen }
+
+    // With its access the words are those that the longer history leaves.
+    ensures memory { (layout : Layout) (cells k : ℕ) (claim : Claim) (next : ClaimOp) (word : ℕ)
+        (words : List ℕ)
+        (h : List ClaimAccess) → let cs = claims_in layout cells in IsMemoryOf cs words h
+        → k < cells
+        → IsClaimIn layout claim (part_on (consumer_of claim) k h)
+        → claim_stage claim ≡ Going → IsNextOp layout claim next
+        → let a = access_in cs (consumer_of claim) k next.object next.op word words in
+        IsInWords a.step.turn → IsMemoryOf cs (words_after cs k next.object next.op words) (a ∷ h) }
+{
+    places_show_prefixes();
+    words_follow_steps();
+}
+
+/// Different words have different addresses, the words of so many cells lie below their count, and in a layout
+/// of pairs the words lie cell by cell, pair by pair: the conciliator's word, the proposal, the quorum registers.
+pub fn addresses_are_apart()
+    ensures apart { (r : ℕ) (kinds : List Kind) (j k o p : ℕ) (reg other : Reg)
+        → IsWordOf r kinds o reg → IsWordOf r kinds p other
+        → address_of r kinds j o reg ≡ address_of r kinds k p other → (j ≡ k) × (o ≡ p)
+        × (reg ≡ other) }
+    ensures within { (r : ℕ) (kinds : List Kind) (cells k o : ℕ) (reg : Reg)
+        → IsWordOf r kinds o reg → k < cells
+        → address_of r kinds k o reg < cells * words_of r kinds }
+    ensures conciliator { (r s n k i : ℕ) → i < n
+        → address_of r (pairs_of s n) k (2 * i) Value ≡ k * (n * (2 + r)) + i * (2 + r) }
+    ensures proposal { (r s n k i : ℕ) → i < n
+        → address_of r (pairs_of s n) k (2 * i + 1) Proposal ≡ k * (n * (2 + r)) + i * (2 + r) + 1 }
+    ensures register { (r s n k i q : ℕ) → i < n
+        → address_of r (pairs_of s n) k (2 * i + 1) (Quorum q) ≡ k * (n * (2 + r)) + i * (2 + r) +
+        (2 + q) }
+    ensures words { (r s n : ℕ) → words_of r (pairs_of s n) ≡ n * (2 + r) }
+{}
