@@ -1,25 +1,19 @@
 -- The numbers that a list of calls handed out.
-use Rattle.std.proofs.Common.{◌≡◌, ℕ, ◌<◌, ◌≤◌, List, [], ◌∷◌, Some, None, refl, sym, ap, ◌∙◌, subst, inl, inr, arith}
-use Rattle.std.specs.Prelude.{nat_lt, unwrap_or, slice_index_or}
-use Rattle.std.proofs.lemmas.Bool.{cases_Bool, ltb-true, ltb-false}
+use Rattle.std.proofs.Common.{List, None, Some, [], ap, arith, inl, inr, refl, subst, sym, ℕ, ◌<◌, ◌∙◌, ◌∷◌, ◌≡◌, ◌≤◌}
+use Rattle.std.specs.Prelude.{nat_lt, slice_index_or, unwrap_or}
+use Rattle.std.proofs.lemmas.Bool.{cases_Bool, ltb-false, ltb-true}
 use Rattle.mb_cells.specs.declared.answer.Offer.TheVariants as offer
-use Rattle.mb_cells.specs.declared.lane.Stage.TheVariants as stage
+use Rattle.mb_cells.specs.declared.lane.LaneStage.TheVariants as stage
 use Rattle.mb_cells.specs.Place as phase
-use Rattle.mb_cells.specs.CallLists.{Call, Finished, HasMade, Offered, Pushed, WasGivenBy, adds_by, stage_by}
-use Rattle.mb_cells.specs.LanePath.{fetch}
-use Rattle.mb_cells.specs.Memory.{Has, History, IsMemoryTrue, adds_on, part}
-use Rattle.mb_cells.specs.Place.{IsAt, Phase}
-use Rattle.mb_cells.specs.Standing.{IsLaneAfter, new_lane, offer_given, stage_of, stage_offer_refusal}
-use Rattle.mb_cells.specs.State.{State, cell_count}
-use Rattle.mb_cells.specs.declared.access.Process.TheVariants.{Producer}
-use Rattle.mb_cells.specs.declared.access.Word.TheVariants.{Counter}
-use Rattle.mb_cells.specs.declared.lane.Lane.{Lane}
-use Rattle.mb_cells.specs.declared.lane.Stage.{Stage}
+use Rattle.mb_cells.specs.{Call, Counter, Finished, Has, HasMade, History, IsAt, IsLaneAfter, Lane, LaneStage, Offered, Phase, PoolSize, PoolState, Producer, Pushed, WasGivenBy, cell_count, fetch, fetch_adds_by, new_lane, offer_by_found, part, size_of, stage_by, stage_of, stage_offer_refusal, value_in}
 use Rattle.mb_cells.proofs.CallLaws.{calls_answer, made_stands}
-use Rattle.mb_cells.proofs.Parts.{Has-of_part, fetch-below}
+use Rattle.mb_cells.proofs.Counter.{IsCounted, fetch-below}
+use Rattle.mb_cells.proofs.Histories.{lawful-counted}
+use Rattle.mb_cells.proofs.Parts.{Has-of_part}
 
 -- an answer of a cell is that of a fetch-add, and so is the first Full
-given_cell : (cells n k : ℕ) (z : Stage) → offer.Cell k ≡ unwrap_or (stage_offer_refusal z) (offer_given cells n) → (k ≡ n) × (k < cells)
+given_cell : (cells n k : ℕ) (z : LaneStage) → offer.Cell k ≡ unwrap_or (stage_offer_refusal z) (offer_by_found cells n)
+    → (k ≡ n) × (k < cells)
 given_cell cells n k (stage.Ended full) is = absurd (cc)
 given_cell cells n k (stage.Offered cell item) is = absurd (cc)
 given_cell cells n k (stage.Stored cell) is = absurd (cc)
@@ -34,29 +28,32 @@ given_cell cells n k stage.Open is =
     ]
 
 -- the number of a cell is the number of earlier fetch-adds
-pub calls_cell : (lanes cells p x k : ℕ) (older : List Call) (s : State)
-    → HasMade lanes cells (Offered p x (offer.Cell k) ∷ older) s → (k ≡ adds_by older) × (k < cells)
-calls_cell lanes cells p x k older s made =
-    given_cell cells (adds_by older) k (stage_by p older) (calls_answer lanes cells (Offered p x (offer.Cell k)) older s made)
+pub calls_cell : (size : PoolSize) (p x k : ℕ) (older : List Call) (s : PoolState)
+    → HasMade size (Offered p x (offer.Cell k) ∷ older) s → (k ≡ fetch_adds_by older) × (k < size.cells)
+calls_cell size p x k older s made =
+    given_cell size.cells (fetch_adds_by older) k (stage_by p older)
+    (calls_answer size (Offered p x (offer.Cell k)) older s made)
 
 -- after a fetch-add that found no cell all cells were handed out
-full_at : (cells p : ℕ) (lane : Lane) (h : History) → IsMemoryTrue h → IsLaneAfter cells p lane (part (Producer p) h)
-    → lane.stage ≡ stage.Full → cells < adds_on h Counter
-full_at cells p lane h memory x is =
+full_at : (cells p : ℕ) (lane : Lane) (h : History) → IsCounted h → IsLaneAfter cells p lane (part (Producer p) h)
+    → lane.stage ≡ stage.Full → cells < value_in Counter h
+full_at cells p lane h counted x is =
     by x.phase x.at (sym x.stage ∙ is)
   where
-    by : (phase : Phase) → IsAt cells p x.entries phase (part (Producer p) h) → stage_of phase ≡ stage.Full → cells < adds_on h Counter
+    by : (phase : Phase) → IsAt cells p x.entries phase (part (Producer p) h) → stage_of phase ≡ stage.Full
+        → cells < value_in Counter h
     by phase.Open at e = absurd (cc)
     by (phase.Offered f) at e = absurd (cc)
     by (phase.Stored f) at e = absurd (cc)
     by (phase.Full f) at e =
         let has : Has (part (Producer p) h) (fetch p f) = subst (λ d. Has d (fetch p f)) (sym at.is) (inl refl) in
-        omega (arith, at.fits, fetch-below h p f memory (Has-of_part (Producer p) h (fetch p f) has))
+        omega (arith, at.fits, fetch-below h p f counted (Has-of_part (Producer p) h (fetch p f) has))
     by (phase.Ended None) at e = absurd (cc)
     by (phase.Ended (Some f)) at e = absurd (cc)
 
 -- Full comes from a fetch-add past the cells, or after one
-given_full : (cells n : ℕ) (z : Stage) → (z ≡ stage.Full → cells < n) → offer.Full ≡ unwrap_or (stage_offer_refusal z) (offer_given cells n) → cells ≤ n
+given_full : (cells n : ℕ) (z : LaneStage) → (z ≡ stage.Full → cells < n)
+    → offer.Full ≡ unwrap_or (stage_offer_refusal z) (offer_by_found cells n) → cells ≤ n
 given_full cells n (stage.Ended full) past is = absurd (cc)
 given_full cells n (stage.Offered cell item) past is = absurd (cc)
 given_full cells n (stage.Stored cell) past is = absurd (cc)
@@ -68,42 +65,48 @@ given_full cells n stage.Open past is =
     ]
 
 -- Full comes only where the fetch-adds before it handed out all cells
-pub calls_full : (lanes cells p x : ℕ) (older : List Call) (s : State) → HasMade lanes cells (Offered p x offer.Full ∷ older) s → cells ≤ adds_by older
-calls_full lanes cells p x older s (was, (made, (lt, meets, size))) =
-    let b = made_stands lanes cells older was made in
+pub calls_full : (size : PoolSize) (p x : ℕ) (older : List Call) (s : PoolState)
+    → HasMade size (Offered p x offer.Full ∷ older) s → size.cells ≤ fetch_adds_by older
+calls_full size p x older s (was, (made, (lt, meets, same))) =
+    let b = made_stands size older was made in
     let lane = slice_index_or was.lanes p new_lane in
     let here = b.after.lanes p new_lane lt in
-    let past : stage_by p older ≡ stage.Full → cells < adds_by older =
-    λ is. let full = full_at (cell_count was) p lane b.history b.after.lawful.memory here
+    let past : stage_by p older ≡ stage.Full → size.cells < fetch_adds_by older =
+    λ is. let full = full_at (cell_count was) p lane b.history
+    (lawful-counted (size_of was) b.history b.after.lawful) here
     (b.tells.stages p lane here ∙ is) in omega (arith, b.cells_are, b.tells.adds) in
-    given_full cells (adds_by older) (stage_by p older) past (calls_answer lanes cells (Offered p x offer.Full) older s (was, (made, (lt, meets, size))))
+    given_full size.cells (fetch_adds_by older) (stage_by p older) past
+    (calls_answer size (Offered p x offer.Full) older s (was, (made, (lt, meets, same))))
 
 -- each cell below the number of fetch-adds was handed out
-pub calls_given : (lanes cells k : ℕ) (calls : List Call) (s : State) → HasMade lanes cells calls s → k < adds_by calls → k < cells → WasGivenBy calls k
-calls_given lanes cells k [] s made few low = absurd (omega (arith, few))
-calls_given lanes cells k (Offered p x (offer.Cell n) ∷ older) s (was, (made, leads)) few low =
-    let is = calls_cell lanes cells p x n older s (was, (made, leads)) in
-    elim (cases_Bool (nat_lt k (adds_by older))) [
-      | inl before ↦ inr (calls_given lanes cells k older was made (ltb-true k (adds_by older) before) low)
-      | inr not ↦ let same : n ≡ k = omega (arith, is.0, few, ltb-false k (adds_by older) not) in inl (ap offer.Cell same)
+pub calls_given : (size : PoolSize) (k : ℕ) (calls : List Call) (s : PoolState) → HasMade size calls s
+    → k < fetch_adds_by calls → k < size.cells → WasGivenBy k calls
+calls_given size k [] s made few low = absurd (omega (arith, few))
+calls_given size k (Offered p x (offer.Cell n) ∷ older) s (was, (made, leads)) few low =
+    let is = calls_cell size p x n older s (was, (made, leads)) in
+    elim (cases_Bool (nat_lt k (fetch_adds_by older))) [
+      | inl before ↦ inr (calls_given size k older was made (ltb-true k (fetch_adds_by older) before) low)
+      | inr not ↦ let same : n ≡ k = omega (arith, is.0, few, ltb-false k (fetch_adds_by older) not) in
+          inl (ap offer.Cell same)
     ]
-calls_given lanes cells k (Offered p x offer.Full ∷ older) s (was, (made, leads)) few low =
-    let past = calls_full lanes cells p x older s (was, (made, leads)) in
-    inr (calls_given lanes cells k older was made (omega (arith, past, low)) low)
-calls_given lanes cells k (Offered p x offer.Busy ∷ older) s (was, (made, leads)) few low =
-    inr (calls_given lanes cells k older was made (omega (arith, few)) low)
-calls_given lanes cells k (Offered p x offer.Closed ∷ older) s (was, (made, leads)) few low =
-    inr (calls_given lanes cells k older was made (omega (arith, few)) low)
-calls_given lanes cells k (Pushed p r ∷ older) s (was, (made, leads)) few low = calls_given lanes cells k older was made few low
-calls_given lanes cells k (Finished p r ∷ older) s (was, (made, leads)) few low = calls_given lanes cells k older was made few low
+calls_given size k (Offered p x offer.Full ∷ older) s (was, (made, leads)) few low =
+    let past = calls_full size p x older s (was, (made, leads)) in
+    inr (calls_given size k older was made (omega (arith, past, low)) low)
+calls_given size k (Offered p x offer.Busy ∷ older) s (was, (made, leads)) few low =
+    inr (calls_given size k older was made (omega (arith, few)) low)
+calls_given size k (Offered p x offer.Closed ∷ older) s (was, (made, leads)) few low =
+    inr (calls_given size k older was made (omega (arith, few)) low)
+calls_given size k (Pushed p r ∷ older) s (was, (made, leads)) few low = calls_given size k older was made few low
+calls_given size k (Finished p r ∷ older) s (was, (made, leads)) few low = calls_given size k older was made few low
 
 -- Full comes only where each cell was handed out
-pub calls_handed_out : (lanes cells p x k : ℕ) (older : List Call) (s : State)
-    → HasMade lanes cells (Offered p x offer.Full ∷ older) s → k < cells → WasGivenBy older k
-calls_handed_out lanes cells p x k older s (was, (made, leads)) low =
-    let past = calls_full lanes cells p x older s (was, (made, leads)) in
-    calls_given lanes cells k older was made (omega (arith, past, low)) low
+pub calls_handed_out : (size : PoolSize) (p x k : ℕ) (older : List Call) (s : PoolState)
+    → HasMade size (Offered p x offer.Full ∷ older) s → k < size.cells → WasGivenBy k older
+calls_handed_out size p x k older s (was, (made, leads)) low =
+    let past = calls_full size p x older s (was, (made, leads)) in
+    calls_given size k older was made (omega (arith, past, low)) low
 
 -- the counter holds the number of fetch-adds
-pub calls_counter : (lanes cells : ℕ) (calls : List Call) (s : State) → HasMade lanes cells calls s → s.words.counter ≡ adds_by calls
-calls_counter lanes cells calls s made = let b = made_stands lanes cells calls s made in b.after.counter ∙ b.tells.adds
+pub calls_counter : (size : PoolSize) (calls : List Call) (s : PoolState) → HasMade size calls s
+    → s.words.counter ≡ fetch_adds_by calls
+calls_counter size calls s made = let b = made_stands size calls s made in b.after.words Counter tt ∙ b.tells.adds

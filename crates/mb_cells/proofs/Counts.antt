@@ -1,34 +1,25 @@
 -- The counter: it is at most the cells and the producers refused, and each number below it was handed out.
-use Rattle.std.proofs.Common.{◌≡◌, ℕ, zero, suc, ◌+◌, ◌<◌, ◌≤◌, Bool, true, false, cond, ◌||◌, List, [], ◌∷◌, refl, sym, ap, ◌∙◌, subst, inl, inr, arith, eq-eqb, le-leb}
+use Rattle.std.proofs.Common.{Bool, List, [], ap, arith, cond, eq-eqb, false, inl, inr, le-leb, refl, subst, suc, sym, true, zero, ℕ, ◌++◌, ◌+◌, ◌<◌, ◌||◌, ◌∙◌, ◌∷◌, ◌≡◌, ◌≤◌}
 use Rattle.std.specs.Prelude.{nat_le}
-use Rattle.std.proofs.lemmas.Bool.{lt-leb, cond_both, cases_Bool, cases_eq, cases_lt}
-use Rattle.mb_cells.specs.LanePath.{AllCellsBelow, Entry, fetch, groups}
-use Rattle.mb_cells.specs.Lanes.{WasHandedOut}
-use Rattle.mb_cells.specs.Lawful.{IsLawful, ProcessFits}
-use Rattle.mb_cells.specs.Memory.{Has, History, IsMemoryTrue, TellsTruth, adds_on, is_fetch_add, is_same_process, is_same_word, part}
-use Rattle.mb_cells.specs.Place.{IsAt, Phase, Steps, ends_lane, ends_refused, fills_cell, finds_none, links_cell, takes_cell}
-use Rattle.mb_cells.specs.ReaderPath.{IsLoad, IsReaderPath}
-use Rattle.mb_cells.specs.declared.access.Access.{Access}
-use Rattle.mb_cells.specs.declared.access.Act.TheVariants.{FetchAdd, Load, Store}
-use Rattle.mb_cells.specs.declared.access.Act.{Act}
-use Rattle.mb_cells.specs.declared.access.Process.TheVariants.{Producer, Reader}
-use Rattle.mb_cells.specs.declared.access.Process.{Process}
-use Rattle.mb_cells.specs.declared.access.Word.TheVariants.{Counter}
-use Rattle.mb_cells.proofs.Histories.{lawful-tail, place_of}
-use Rattle.mb_cells.proofs.Names.{is_same_word-eq, own_process}
-use Rattle.mb_cells.proofs.Parts.{fetch-below, part-own}
+use Rattle.std.proofs.lemmas.Bool.{cases_Bool, cases_eq, cases_lt, cond_both, lt-leb}
+use Rattle.mb_cells.specs.{AllCellsBelow, Counter, Entry, FetchAdd, Has, History, IsAt, IsLoad, IsPoolLawful, IsReaderPath, Phase, PoolAccess, PoolAct, PoolSize, Process, ProcessFits, Producer, Reader, Steps, Store, WasHandedOut, ends_lane, ends_refused, fetch, fetch_adds_on, fills_cell, finds_none, groups, is_same_process, links_cell, part, stored_by, takes_cell, value_in}
+use Rattle.mb_cells.proofs.Counter.{IsCounted, counted-tail, counter_count, counter_step, fetch-below, fetch-found}
+use Rattle.mb_cells.proofs.Histories.{lawful-counted, lawful-tail, place_of, storer_of}
+use Rattle.mb_cells.proofs.Names.{own_process}
+use Rattle.mb_cells.proofs.OneStep.{older_lawful}
+use Rattle.mb_cells.proofs.Parts.{part-own}
 use Rattle.mb_cells.proofs.Places.{came_from}
 
 -- whether the act is a fetch-add past the cells
-abbrev pub refused_act : ℕ → Act → Bool
-refused_act cells (Load _) = false
-refused_act cells (Store _) = false
+abbrev pub refused_act : ℕ → PoolAct → Bool
 refused_act cells (FetchAdd x n) = nat_le cells n
+refused_act cells _ = false
 
 -- whether producer p was refused a cell
 abbrev pub has_refused : ℕ → ℕ → History → Bool
 has_refused p cells [] = false
-has_refused p cells (a ∷ h) = cond (is_same_process (Producer p) a.process) (refused_act cells a.act || has_refused p cells h) (has_refused p cells h)
+has_refused p cells (a ∷ h) = cond (is_same_process (Producer p) a.process)
+    (refused_act cells a.act || has_refused p cells h) (has_refused p cells h)
 
 -- how many of the first n producers were refused a cell
 abbrev pub refusals : ℕ → ℕ → History → ℕ
@@ -43,9 +34,11 @@ refusals-bound cells (suc n) h =
     (λ _. omega (arith, refusals-bound cells n h)) (λ _. omega (arith, refusals-bound cells n h))
 
 -- who was refused stays refused
-refused-more : (p cells : ℕ) (a : Access) (h : History) → has_refused p cells h ≡ true → has_refused p cells (a ∷ h) ≡ true
+refused-more : (p cells : ℕ) (a : PoolAccess) (h : History) → has_refused p cells h ≡ true
+    → has_refused p cells (a ∷ h) ≡ true
 refused-more p cells a h is =
-    cond_both (is_same_process (Producer p) a.process) (refused_act cells a.act || has_refused p cells h) (has_refused p cells h) (λ z. z ≡ true)
+    cond_both (is_same_process (Producer p) a.process) (refused_act cells a.act || has_refused p cells h)
+    (has_refused p cells h) (λ z. z ≡ true)
     (λ _. rw is (elim (refused_act cells a.act) as (λ z. (z || true) ≡ true) [ true ↦ refl | false ↦ refl ])) (λ _. is)
 
 -- a test that turns true counts one more
@@ -54,20 +47,26 @@ one-more true c h = rw (h refl) (omega arith)
 one-more false c h = omega arith
 
 -- the count does not fall
-refusals-more : (cells n : ℕ) (a : Access) (h : History) → refusals cells n h ≤ refusals cells n (a ∷ h)
+refusals-more : (cells n : ℕ) (a : PoolAccess) (h : History) → refusals cells n h ≤ refusals cells n (a ∷ h)
 refusals-more cells zero a h = omega arith
 refusals-more cells (suc n) a h =
-    omega (arith, refusals-more cells n a h, one-more (has_refused n cells h) (has_refused n cells (a ∷ h)) (refused-more n cells a h))
+    omega (
+      arith,
+      refusals-more cells n a h,
+      one-more (has_refused n cells h) (has_refused n cells (a ∷ h)) (refused-more n cells a h),
+    )
 
 -- and rises with a producer that is refused for the first time
-refusals-new : (cells n p : ℕ) (a : Access) (h : History) → p < n → has_refused p cells h ≡ false
+refusals-new : (cells n p : ℕ) (a : PoolAccess) (h : History) → p < n → has_refused p cells h ≡ false
     → has_refused p cells (a ∷ h) ≡ true → refusals cells n h + 1 ≤ refusals cells n (a ∷ h)
 refusals-new cells zero p a h lt before now = absurd (omega arith)
 refusals-new cells (suc n) p a h lt before now =
     elim (cases_eq p n) [
       | inl e ↦
-          let b : cond {A = ℕ} (has_refused n cells h) 1 0 ≡ 0 = ap (λ z. cond {A = ℕ} z 1 0) (subst (λ z. has_refused z cells h ≡ false) e before) in
-          let w : cond {A = ℕ} (has_refused n cells (a ∷ h)) 1 0 ≡ 1 = ap (λ z. cond {A = ℕ} z 1 0) (subst (λ z. has_refused z cells (a ∷ h) ≡ true) e now) in
+          let b : cond {A = ℕ} (has_refused n cells h) 1 0 ≡ 0 =
+          ap (λ z. cond {A = ℕ} z 1 0) (subst (λ z. has_refused z cells h ≡ false) e before) in
+          let w : cond {A = ℕ} (has_refused n cells (a ∷ h)) 1 0 ≡ 1 =
+          ap (λ z. cond {A = ℕ} z 1 0) (subst (λ z. has_refused z cells (a ∷ h) ≡ true) e now) in
           omega (arith, refusals-more cells n a h, b, w)
       | inr ne ↦
           let more = one-more (has_refused n cells h) (has_refused n cells (a ∷ h)) (refused-more n cells a h) in
@@ -91,96 +90,108 @@ none-groups p cells (e ∷ es) b =
     rw (eq-eqb p p refl, low) (none-groups p cells es b.1)
 
 -- a fetch-add past the cells is its producer's first
-first_refusal : (p cells : ℕ) (es fs : List Entry) (was now : Phase) (a : Access) (d : History) (x n : ℕ)
+first_refusal : (p cells : ℕ) (es fs : List Entry) (was now : Phase) (a : PoolAccess) (d : History) (x n : ℕ)
     → Steps cells p es was a fs now → IsAt cells p es was d
     → a.act ≡ FetchAdd x n → cells ≤ n → has_refused p cells d ≡ false
-first_refusal p cells es fs was now a d x n (takes_cell _ e b) at is high = absurd (let g : n ≡ e.cell = cc in omega arith)
-first_refusal p cells es fs was now a d x n (finds_none _ e b) at is high = ap (has_refused p cells) at.is ∙ none-groups p cells es at.below
+first_refusal p cells es fs was now a d x n (takes_cell _ e b) at is high =
+    absurd (let g : n ≡ e.cell = cc in omega arith)
+first_refusal p cells es fs was now a d x n (finds_none _ e b) at is high =
+    ap (has_refused p cells) at.is ∙ none-groups p cells es at.below
 first_refusal p cells es fs was now a d x n (fills_cell _ e) at is high = absurd (cc)
 first_refusal p cells es fs was now a d x n (links_cell _ e) at is high = absurd (cc)
 first_refusal p cells es fs was now a d x n (ends_lane _) at is high = absurd (cc)
 first_refusal p cells es fs was now a d x n (ends_refused _ e) at is high = absurd (cc)
 
 -- a fetch-add past the cells raises the count
-new-refusal : (lanes cells : ℕ) (a : Access) (h : History) (x n : ℕ) → IsLawful lanes cells (a ∷ h)
-    → a.act ≡ FetchAdd x n → cells ≤ n → refusals cells lanes h + 1 ≤ refusals cells lanes (a ∷ h)
-new-refusal lanes cells a h x n l is high =
-    let by : (who : Process) → a.process ≡ who → refusals cells lanes h + 1 ≤ refusals cells lanes (a ∷ h) =
-    λ (who : Process). elim who as (λ z. a.process ≡ z → refusals cells lanes h + 1 ≤ refusals cells lanes (a ∷ h)) [
+new-refusal : (size : PoolSize) (a : PoolAccess) (h : History) (x n : ℕ) → IsPoolLawful size (a ∷ h)
+    → a.act ≡ FetchAdd x n → size.cells ≤ n
+    → refusals size.cells size.lanes h + 1 ≤ refusals size.cells size.lanes (a ∷ h)
+new-refusal size a h x n l is high =
+    let by : (who : Process) → a.process ≡ who
+    → refusals size.cells size.lanes h + 1 ≤ refusals size.cells size.lanes (a ∷ h) =
+    λ (who : Process). elim who as (λ z. a.process ≡ z
+    → refusals size.cells size.lanes h + 1 ≤ refusals size.cells size.lanes (a ∷ h)) [
       | Producer p ↦ λ e.
           let own = own_process (Producer p) a e in
-          let lane : p < lanes = subst (ProcessFits lanes) e l.fits.1 in
-          let place = place_of lanes cells (a ∷ h) p l in
-          let at : IsAt cells p place.0 place.1.0 (a ∷ part (Producer p) h) =
-          subst (IsAt cells p place.0 place.1.0) (part-own (Producer p) a h own) place.1.1 in
-          let before_a = came_from cells p place.0 place.1.0 a (part (Producer p) h) at in
-          let before : has_refused p cells h ≡ false =
-          refused-part p cells h
-          ∙ first_refusal p cells before_a.entries place.0 before_a.was place.1.0 a (part (Producer p) h) x n before_a.by before_a.at is high in
-          let yes : refused_act cells a.act ≡ true = ap (refused_act cells) is ∙ le-leb cells n high in
-          let now : has_refused p cells (a ∷ h) ≡ true = rw (own, yes) refl in
-          refusals-new cells lanes p a h lane before now
+          let lane : p < size.lanes = subst (ProcessFits size.lanes) e l.fits.1 in
+          let place = place_of size (a ∷ h) p l in
+          let at : IsAt size.cells p place.entries place.phase (a ∷ part (Producer p) h) =
+          subst (IsAt size.cells p place.entries place.phase) (part-own (Producer p) a h own) place.at in
+          let before_a = came_from size.cells p place.entries place.phase a (part (Producer p) h) at in
+          let before : has_refused p size.cells h ≡ false =
+          refused-part p size.cells h
+          ∙ first_refusal p size.cells before_a.entries place.entries before_a.was place.phase a
+          (part (Producer p) h) x n before_a.by before_a.at is high in
+          let yes : refused_act size.cells a.act ≡ true = ap (refused_act size.cells) is ∙ le-leb size.cells n high in
+          let now : has_refused p size.cells (a ∷ h) ≡ true = rw (own, yes) refl in
+          refusals-new size.cells size.lanes p a h lane before now
       | Reader r ↦ λ e.
           let own = own_process (Reader r) a e in
-          let path : IsReaderPath lanes (a ∷ part (Reader r) h) = subst (IsReaderPath lanes) (part-own (Reader r) a h own) (l.readers r) in
+          let path : IsReaderPath size.lanes (a ∷ part (Reader r) h) =
+          subst (IsReaderPath size.lanes) (part-own (Reader r) a h own) (l.readers r) in
           absurd (subst IsLoad is path.0)
     ] in
     by a.process refl
 
 -- the counter is at most the cells and the refusals
-counted : (lanes cells : ℕ) (h : History) → IsLawful lanes cells h → adds_on h Counter ≤ cells + refusals cells lanes h
-counted lanes cells [] l = omega arith
-counted lanes cells (a ∷ h) l =
-    let rest = counted lanes cells h (lawful-tail lanes cells a h l) in
-    let more = refusals-more cells lanes a h in
-    let same : adds_on h Counter ≤ cells + refusals cells lanes (a ∷ h) = omega arith in
-    cond_both (is_same_word a.word Counter) (cond (is_fetch_add a.act) (adds_on h Counter + 1) (adds_on h Counter))
-    (adds_on h Counter) (λ z. z ≤ cells + refusals cells lanes (a ∷ h))
-    (λ on.
-    let here : a.word ≡ Counter = is_same_word-eq a.word Counter on in
-    let told : TellsTruth h Counter a.act = subst (λ z. TellsTruth h z a.act) here l.memory.0 in
-    let by_act : (act : Act) → a.act ≡ act → TellsTruth h Counter act → cond (is_fetch_add act) (adds_on h Counter + 1) (adds_on h Counter) ≤ cells + refusals cells lanes (a ∷ h) =
-    λ (act : Act). elim act as
-    (λ z. a.act ≡ z → TellsTruth h Counter z → cond (is_fetch_add z) (adds_on h Counter + 1) (adds_on h Counter) ≤ cells + refusals cells lanes (a ∷ h)) [
-      | Load _ ↦ λ _ _. same
-      | Store _ ↦ λ _ _. same
-      | FetchAdd x n ↦ λ e t.
-          elim (cases_lt n cells) [
-            | inl low ↦ omega arith
-            | inr high ↦ omega (arith, new-refusal lanes cells a h x n l e high)
+counted : (size : PoolSize) (h : History) → IsPoolLawful size h
+    → value_in Counter h ≤ size.cells + refusals size.cells size.lanes h
+counted size [] l = omega arith
+counted size (a ∷ h) l =
+    let rest = counted size h (lawful-tail size a h l) in
+    let more = refusals-more size.cells size.lanes a h in
+    elim (counter_step a h (lawful-counted size (a ∷ h) l)) [
+      | inl stays ↦ omega (arith, rest, more, stays.value)
+      | inr adds ↦
+          let now = adds.value in
+          elim (cases_lt (value_in Counter h) size.cells) [
+            | inl low ↦ omega (arith, now)
+            | inr high ↦
+                let refused = new-refusal size a h adds.item (value_in Counter h) l adds.act high in
+                omega (arith, rest, now, refused)
           ]
-    ] in
-    by_act a.act refl told)
-    (λ _. same)
+    ]
 
 -- and so at most cells and lanes
-pub counter_bound : (lanes cells : ℕ) (h : History) → IsLawful lanes cells h → adds_on h Counter ≤ cells + lanes
-counter_bound lanes cells h l = omega (arith, counted lanes cells h l, refusals-bound cells lanes h)
+pub counter_bound : (size : PoolSize) (h : History) → IsPoolLawful size h → value_in Counter h ≤ size.cells + size.lanes
+counter_bound size h l = omega (arith, counted size h l, refusals-bound size.cells size.lanes h)
 
 -- each number below the counter was handed out
-pub handed_out : (h : History) (k : ℕ) → IsMemoryTrue h → k < adds_on h Counter → WasHandedOut h k
-handed_out [] k m lt = absurd (omega arith)
-handed_out (a ∷ h) k m lt =
-    let deeper : k < adds_on h Counter → WasHandedOut (a ∷ h) k = λ b. let x = handed_out h k m.1 b in (x.0, (inr x.1.0, x.1.1)) in
-    cond_both (is_same_word a.word Counter) (cond (is_fetch_add a.act) (adds_on h Counter + 1) (adds_on h Counter))
-    (adds_on h Counter) (λ x. k < x → WasHandedOut (a ∷ h) k)
-    (λ same.
-    let on : a.word ≡ Counter = is_same_word-eq a.word Counter same in
-    let by_act : (act : Act) → a.act ≡ act → TellsTruth h Counter act → k < cond (is_fetch_add act) (adds_on h Counter + 1) (adds_on h Counter) → WasHandedOut (a ∷ h) k =
-    λ (act : Act). elim act as
-    (λ y. a.act ≡ y → TellsTruth h Counter y → k < cond (is_fetch_add y) (adds_on h Counter + 1) (adds_on h Counter) → WasHandedOut (a ∷ h) k) [
-      | Load _ ↦ λ _ _ b. deeper b
-      | Store _ ↦ λ _ _ b. deeper b
-      | FetchAdd y n ↦ λ e told b.
-          elim (cases_eq k n) [
-            | inl is ↦ (a, (inl refl, (on, (y, e ∙ ap (FetchAdd y) (sym is)))))
-            | inr ne ↦ deeper (omega arith)
+pub handed_out : (h : History) (k : ℕ) → IsCounted h → k < value_in Counter h → WasHandedOut k h
+handed_out [] k c lt = absurd (omega arith)
+handed_out (a ∷ h) k c lt =
+    let deeper : k < value_in Counter h → WasHandedOut k (a ∷ h) =
+    λ low. let x = handed_out h k (counted-tail a h c) low in (x.0, (inr x.1.0, x.1.1)) in
+    elim (counter_step a h c) [
+      | inl stays ↦ deeper (omega (arith, stays.value))
+      | inr adds ↦
+          let now = adds.value in
+          elim (cases_eq k (value_in Counter h)) [
+            | inl is ↦ (a, (inl refl, (adds.word, (adds.item, adds.act ∙ ap (FetchAdd adds.item) (sym is)))))
+            | inr ne ↦ deeper (omega (arith, now, ne))
           ]
-    ] in
-    by_act a.act refl (subst (λ x. TellsTruth h x a.act) on m.0))
-    (λ _ b. deeper b) lt
+    ]
 
 -- a fetch-add past the cells comes when all cells were handed out
-pub all_handed_out : (lanes cells : ℕ) (h : History) (p k : ℕ) (e : Entry) → IsLawful lanes cells h
-    → Has h (fetch p e) → cells ≤ e.cell → k < cells → WasHandedOut h k
-all_handed_out lanes cells h p k e l has high lt = handed_out h k l.memory (omega (arith, fetch-below h p e l.memory has))
+pub all_handed_out : (size : PoolSize) (h : History) (p k : ℕ) (e : Entry) → IsPoolLawful size h
+    → Has h (fetch p e) → size.cells ≤ e.cell → k < size.cells → WasHandedOut k h
+all_handed_out size h p k e l has high lt =
+    let c = lawful-counted size h l in
+    handed_out h k c (omega (arith, fetch-below h p e c has))
+
+-- each fetch-add finds the number of older ones on its word
+pub found_count : (size : PoolSize) (later older : History) (a : PoolAccess) (x n : ℕ)
+    → IsPoolLawful size (later ++ a ∷ older) → a.act ≡ FetchAdd x n → n ≡ fetch_adds_on a.word older
+found_count size later older a x n l is =
+    let here : IsPoolLawful size (a ∷ older) = older_lawful size later (a ∷ older) l in
+    let c = lawful-counted size (a ∷ older) here in
+    let s = storer_of size (a ∷ older) a (n + 1) here (inl refl) (ap stored_by is) in
+    elim s.how [
+      | inl add ↦
+          let acts : FetchAdd add.0.value add.0.cell ≡ FetchAdd x n = sym (ap (λ (z : PoolAccess). z.act) add.1) ∙ is in
+          let same : n ≡ add.0.cell = cc in
+          let word : Counter ≡ a.word = sym (ap (λ (z : PoolAccess). z.word) add.1) in
+          same ∙ fetch-found a older s.maker add.0 c add.1 ∙ counter_count older (counted-tail a older c)
+          ∙ ap (λ w. fetch_adds_on w older) word
+      | inr own ↦ absurd (let acts : FetchAdd x n ≡ Store (n + 1) = sym is ∙ own.0 in cc)
+    ]

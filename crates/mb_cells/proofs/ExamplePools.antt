@@ -1,17 +1,10 @@
 -- The pools of the examples, from one call to the next.
-use Rattle.std.proofs.Common.{◌≡◌, ℕ, false, [], ◌∷◌, Option, Some, None, refl, arith}
+use Rattle.std.proofs.Common.{None, Option, Some, [], arith, false, refl, ℕ, ◌∷◌, ◌≡◌}
 use Rattle.mb_cells.specs.declared.answer.Finish.TheVariants as finish
 use Rattle.mb_cells.specs.declared.answer.Offer.TheVariants as offer
 use Rattle.mb_cells.specs.declared.answer.Push.TheVariants as push
-use Rattle.mb_cells.specs.declared.lane.Stage.TheVariants as stage
-use Rattle.mb_cells.specs.Calls.{FinishMeets, OfferMeets, PushMeets}
-use Rattle.mb_cells.specs.Examples.{ended_pool, full_pool, new_pool, no_cell, one_cell, one_put, put_pool, taken_only, taken_pool}
-use Rattle.mb_cells.specs.LanePath.{store}
-use Rattle.mb_cells.specs.Standing.{new_lane}
-use Rattle.mb_cells.specs.State.{IsAfter, IsSound, State}
-use Rattle.mb_cells.specs.declared.access.TheConstants.{END}
-use Rattle.mb_cells.specs.declared.access.Word.TheVariants.{Head, Item, Link}
-use Rattle.mb_cells.specs.declared.lane.Lane.{Lane}
+use Rattle.mb_cells.specs.declared.lane.LaneStage.TheVariants as stage
+use Rattle.mb_cells.specs.{END, FinishMeets, Head, IsAfter, IsSound, Item, Lane, Link, OfferMeets, PoolState, PushMeets, ended_pool, full_pool, new_lane, new_pool, no_cell, one_cell, one_put, one_taken, put_pool, store, taken_pool}
 use Rattle.mb_cells.proofs.PoolSteps.{empty_after, finish_made, offer_made, push_made}
 
 -- the place of the only producer that has taken the cell
@@ -43,7 +36,7 @@ pub not_linked : (k : ℕ) → no_link ≡ Some k → ⊥
 not_linked k e = cc
 
 -- the item is stored
-abbrev pub filled_pool : State
+abbrev pub filled_pool : PoolState
 filled_pool = one_cell 1 0 0 8 None (stage.Stored 0)
 
 -- the new pool, before any access
@@ -55,20 +48,21 @@ pub offer_one : OfferMeets new_pool 0 8 (offer.Cell 0) taken_pool
 offer_one = offer_made new_pool 0 8 new_lane (omega arith) refl refl (omega arith) (omega arith)
 
 -- after which the pool has it taken
-pub taken_after : IsAfter taken_only taken_pool
+pub taken_after : IsAfter one_taken taken_pool
 taken_after = (offer_one [] new_lane new_after (new_after.lanes 0 new_lane (omega arith))).1
 
 -- which is a pool
 taken_sound : IsSound taken_pool
-taken_sound = record { heads = refl; links = refl; lanes = omega arith; cells = omega arith; history = (taken_only, taken_after) }
+taken_sound =
+    record { heads = refl; links = refl; lanes = omega arith; cells = omega arith; history = (one_taken, taken_after) }
 
 -- a push stores the item
 pub fill_one : PushMeets taken_pool 0 (push.Item 0) filled_pool
 fill_one = push_made taken_pool 0 taken_place (Item 0, 8) (omega arith) taken_sound refl refl
 
 -- after which the pool has it stored
-filled_after : IsAfter (store 0 (Item 0) 8 ∷ taken_only) filled_pool
-filled_after = (fill_one taken_only taken_place taken_after (taken_after.lanes 0 taken_place (omega arith))).1
+filled_after : IsAfter (store 0 (Item 0) 8 ∷ one_taken) filled_pool
+filled_after = (fill_one one_taken taken_place taken_after (taken_after.lanes 0 taken_place (omega arith))).1
 
 -- which is a pool
 filled_sound : IsSound filled_pool
@@ -77,7 +71,7 @@ filled_sound = record {
   links = refl;
   lanes = omega arith;
   cells = omega arith;
-  history = (store 0 (Item 0) 8 ∷ taken_only, filled_after);
+  history = (store 0 (Item 0) 8 ∷ one_taken, filled_after);
 }
 
 -- a push links the cell
@@ -86,11 +80,14 @@ link_one = push_made filled_pool 0 filled_place (Head 0, 1) (omega arith) filled
 
 -- after which the pool has it put
 pub put_after : IsAfter one_put put_pool
-put_after = (link_one (store 0 (Item 0) 8 ∷ taken_only) filled_place filled_after (filled_after.lanes 0 filled_place (omega arith))).1
+put_after =
+    (link_one (store 0 (Item 0) 8 ∷ one_taken) filled_place filled_after
+    (filled_after.lanes 0 filled_place (omega arith))).1
 
 -- which is a pool
 pub put_sound : IsSound put_pool
-put_sound = record { heads = refl; links = refl; lanes = omega arith; cells = omega arith; history = (one_put, put_after) }
+put_sound =
+    record { heads = refl; links = refl; lanes = omega arith; cells = omega arith; history = (one_put, put_after) }
 
 -- a finish ends the lane
 pub end_one : FinishMeets put_pool 0 finish.Ended ended_pool
@@ -109,5 +106,5 @@ pub offer_none : OfferMeets (no_cell 0 stage.Open) 0 8 offer.Full full_pool
 offer_none = offer_made (no_cell 0 stage.Open) 0 8 new_lane (omega arith) refl refl (omega arith) (omega arith)
 
 -- after which the pool has a full lane
-pub full_after : IsAfter taken_only full_pool
+pub full_after : IsAfter one_taken full_pool
 full_after = (offer_none [] new_lane no_cell_after (no_cell_after.lanes 0 new_lane (omega arith))).1

@@ -1,32 +1,29 @@
 -- A producer's place as a plain value, from one access to the next.
-use Rattle.std.proofs.Common.{◌≡◌, ℕ, ◌+◌, ◌<◌, ◌≤◌, List, [], ◌∷◌, Some, None, refl, sym, ap, ◌∙◌, subst, inl, inr}
+use Rattle.std.proofs.Common.{List, None, Some, [], ap, inl, inr, refl, subst, sym, ℕ, ◌+◌, ◌<◌, ◌∙◌, ◌∷◌, ◌≡◌, ◌≤◌}
 use Rattle.std.specs.Prelude.{nat_lt}
-use Rattle.std.proofs.lemmas.Bool.{cases_Bool, ltb-true, ltb-false}
-use Rattle.mb_cells.specs.declared.lane.Stage.TheVariants as stage
+use Rattle.std.proofs.lemmas.Bool.{cases_Bool, ltb-false, ltb-true}
+use Rattle.mb_cells.specs.declared.lane.LaneStage.TheVariants as stage
 use Rattle.mb_cells.specs.Place as phase
-use Rattle.mb_cells.specs.LanePath.{Entry, IsLanePrefix, fetch, place_after, store}
-use Rattle.mb_cells.specs.Memory.{History}
-use Rattle.mb_cells.specs.Place.{IsAt, Phase, ends_lane, ends_refused, fills_cell, finds_none, links_cell, takes_cell}
-use Rattle.mb_cells.specs.Standing.{IsLaneAfter, is_full, lane_finished, lane_offered, lane_pushed, last_of, link_after, new_lane, next_link, push_store, pushed_last, pushed_stage, refused_finish, refused_offer, stage_finish_refusal, stage_of, stage_offer_refusal, stage_push}
-use Rattle.mb_cells.specs.declared.access.TheConstants.{END}
-use Rattle.mb_cells.specs.declared.access.Word.{Word}
-use Rattle.mb_cells.specs.declared.access.Word.TheVariants.{Item}
-use Rattle.mb_cells.specs.declared.lane.Lane.{Lane}
+use Rattle.mb_cells.specs.{END, Entry, History, IsAt, IsLaneAfter, IsLanePrefix, Item, Lane, Phase, Word, ends_lane, ends_refused, fetch, fills_cell, finds_none, finish_refusal, is_full, lane_after_finish, lane_after_offer, lane_after_push, last_after_push, last_of, link_after, links_cell, new_lane, next_link, offer_refusal, place_after, push_store, stage_after_push, stage_finish_refusal, stage_of, stage_offer_refusal, stage_push_store, store, takes_cell}
+use Rattle.mb_cells.proofs.OneStep.{start_at}
 use Rattle.mb_cells.proofs.Places.{goes_on, one_place, prefix_at, somewhere}
-use Rattle.mb_cells.proofs.Steps.{start_at}
 
 -- the value of a producer that has done nothing
 pub start_lane : (cells p : ℕ) → IsLaneAfter cells p new_lane []
 start_lane cells p = record { entries = []; phase = phase.Open; at = start_at cells p; last = refl; stage = refl }
 
 -- each prefix of a lane path has its value
-pub some_lane : (cells p : ℕ) (done : History) → IsLanePrefix cells p done → (lane : Lane) × IsLaneAfter cells p lane done
+pub some_lane : (cells p : ℕ) (done : History) → IsLanePrefix cells p done
+    → (lane : Lane) × IsLaneAfter cells p lane done
 some_lane cells p done prefix =
-    let s = somewhere cells p done prefix in
-    (record { last = last_of s.0; stage = stage_of s.1.0 }, record { entries = s.0; phase = s.1.0; at = s.1.1; last = refl; stage = refl })
+    let s = somewhere cells p done prefix in (
+      record { last = last_of s.entries; stage = stage_of s.phase },
+      record { entries = s.entries; phase = s.phase; at = s.at; last = refl; stage = refl },
+    )
 
 -- and only one
-pub same_lane : (cells p : ℕ) (lane other : Lane) (done : History) → IsLaneAfter cells p lane done → IsLaneAfter cells p other done → lane ≡ other
+pub same_lane : (cells p : ℕ) (lane other : Lane) (done : History) → IsLaneAfter cells p lane done
+    → IsLaneAfter cells p other done → lane ≡ other
 same_lane cells p lane other done x y =
     let one = one_place cells p x.entries y.entries x.phase y.phase done x.at y.at in
     let last : lane.last ≡ other.last = x.last ∙ ap last_of one.0 ∙ sym y.last in
@@ -34,7 +31,8 @@ same_lane cells p lane other done x y =
     ap (λ z. record { last = z; stage = lane.stage }) last ∙ ap (λ z. record { last = other.last; stage = z }) stage
 
 -- what has a value is a prefix of a lane path
-pub lane_prefix : (cells p : ℕ) (lane : Lane) (done : History) → IsLaneAfter cells p lane done → IsLanePrefix cells p done
+pub lane_prefix : (cells p : ℕ) (lane : Lane) (done : History) → IsLaneAfter cells p lane done
+    → IsLanePrefix cells p done
 lane_prefix cells p lane done x = prefix_at cells p x.entries x.phase done x.at
 
 -- the last link or the head is the place behind the entries
@@ -56,8 +54,9 @@ open_of (phase.Ended None) is = absurd (cc)
 open_of (phase.Ended (Some e)) is = absurd (cc)
 
 -- after an offer's fetch-add
-pub offered_lane : (cells p : ℕ) (lane : Lane) (done : History) (e : Entry) → IsLaneAfter cells p lane done → refused_offer lane ≡ None
-    → IsLaneAfter cells p (lane_offered cells e.value e.cell lane) (fetch p e ∷ done)
+pub offered_lane : (cells p : ℕ) (lane : Lane) (done : History) (e : Entry) → IsLaneAfter cells p lane done
+    → offer_refusal lane ≡ None
+    → IsLaneAfter cells p (lane_after_offer cells e.value e.cell lane) (fetch p e ∷ done)
 offered_lane cells p lane done e x going =
     let start : x.phase ≡ phase.Open = open_of x.phase (ap stage_offer_refusal (sym x.stage) ∙ going) in
     let at : IsAt cells p x.entries phase.Open done = subst (λ z. IsAt cells p x.entries z done) start x.at in
@@ -67,7 +66,8 @@ offered_lane cells p lane done e x going =
           record {
             entries = x.entries;
             phase = phase.Offered e;
-            at = goes_on cells p x.entries x.entries phase.Open (phase.Offered e) (fetch p e) done (takes_cell x.entries e b) at;
+            at = goes_on cells p x.entries x.entries phase.Open (phase.Offered e) (fetch p e) done
+                (takes_cell x.entries e b) at;
             last = x.last;
             stage = rw low refl;
           }
@@ -76,7 +76,8 @@ offered_lane cells p lane done e x going =
           record {
             entries = x.entries;
             phase = phase.Full e;
-            at = goes_on cells p x.entries x.entries phase.Open (phase.Full e) (fetch p e) done (finds_none x.entries e b) at;
+            at = goes_on cells p x.entries x.entries phase.Open (phase.Full e) (fetch p e) done
+                (finds_none x.entries e b) at;
             last = x.last;
             stage = rw high refl;
           }
@@ -85,46 +86,51 @@ offered_lane cells p lane done e x going =
 -- after a push's store, whichever it is
 pushed_at : (cells p : ℕ) (lane : Lane) (done : History) (es : List Entry) (phase : Phase) (s : Word × ℕ)
     → IsAt cells p es phase done → lane.last ≡ last_of es → lane.stage ≡ stage_of phase
-    → push_store p lane ≡ Some s → IsLaneAfter cells p (lane_pushed lane) (store p s.0 s.1 ∷ done)
-pushed_at cells p lane done es phase.Open s at last stage is = absurd (let e : None ≡ Some s = sym (ap (stage_push (next_link p lane)) stage) ∙ is in cc)
+    → push_store p lane ≡ Some s → IsLaneAfter cells p (lane_after_push lane) (store p s.0 s.1 ∷ done)
+pushed_at cells p lane done es phase.Open s at last stage is =
+    absurd (let e : None ≡ Some s = sym (ap (stage_push_store (next_link p lane)) stage) ∙ is in cc)
 pushed_at cells p lane done es (phase.Offered e) s at last stage is =
-    let some : Some (Item e.cell, e.value) ≡ Some s = sym (ap (stage_push (next_link p lane)) stage) ∙ is in
+    let some : Some (Item e.cell, e.value) ≡ Some s = sym (ap (stage_push_store (next_link p lane)) stage) ∙ is in
     let pair : (Item e.cell, e.value) ≡ s = cc in
-    subst (λ z. IsLaneAfter cells p (lane_pushed lane) (store p z.0 z.1 ∷ done)) pair
+    subst (λ z. IsLaneAfter cells p (lane_after_push lane) (store p z.0 z.1 ∷ done)) pair
     (record {
       entries = es;
       phase = phase.Stored e;
-      at = goes_on cells p es es (phase.Offered e) (phase.Stored e) (store p (Item e.cell) e.value) done (fills_cell es e) at;
-      last = ap (pushed_last lane.last) stage ∙ last;
-      stage = ap pushed_stage stage;
+      at = goes_on cells p es es (phase.Offered e) (phase.Stored e) (store p (Item e.cell) e.value) done
+          (fills_cell es e) at;
+      last = ap (last_after_push lane.last) stage ∙ last;
+      stage = ap stage_after_push stage;
     })
 pushed_at cells p lane done es (phase.Stored e) s at last stage is =
-    let some : Some (next_link p lane, e.cell + 1) ≡ Some s = sym (ap (stage_push (next_link p lane)) stage) ∙ is in
+    let some : Some (next_link p lane, e.cell + 1) ≡ Some s =
+    sym (ap (stage_push_store (next_link p lane)) stage) ∙ is in
     let link : next_link p lane ≡ place_after p es = next_place p lane es last in
     let put_at_place : (place_after p es, e.cell + 1) ≡ s = ap (λ w. (w, e.cell + 1)) (sym link) ∙ cc in
-    subst (λ z. IsLaneAfter cells p (lane_pushed lane) (store p z.0 z.1 ∷ done)) put_at_place
+    subst (λ z. IsLaneAfter cells p (lane_after_push lane) (store p z.0 z.1 ∷ done)) put_at_place
     (record {
       entries = e ∷ es;
       phase = phase.Open;
-      at = goes_on cells p es (e ∷ es) (phase.Stored e) phase.Open (store p (place_after p es) (e.cell + 1)) done (links_cell es e) at;
-      last = ap (pushed_last lane.last) stage;
-      stage = ap pushed_stage stage;
+      at = goes_on cells p es (e ∷ es) (phase.Stored e) phase.Open (store p (place_after p es) (e.cell + 1)) done
+          (links_cell es e) at;
+      last = ap (last_after_push lane.last) stage;
+      stage = ap stage_after_push stage;
     })
-pushed_at cells p lane done es (phase.Full e) s at last stage is = absurd (let n : None ≡ Some s = sym (ap (stage_push (next_link p lane)) stage) ∙ is in cc)
+pushed_at cells p lane done es (phase.Full e) s at last stage is =
+    absurd (let n : None ≡ Some s = sym (ap (stage_push_store (next_link p lane)) stage) ∙ is in cc)
 pushed_at cells p lane done es (phase.Ended None) s at last stage is =
-    absurd (let n : None ≡ Some s = sym (ap (stage_push (next_link p lane)) stage) ∙ is in cc)
+    absurd (let n : None ≡ Some s = sym (ap (stage_push_store (next_link p lane)) stage) ∙ is in cc)
 pushed_at cells p lane done es (phase.Ended (Some e)) s at last stage is =
-    absurd (let n : None ≡ Some s = sym (ap (stage_push (next_link p lane)) stage) ∙ is in cc)
+    absurd (let n : None ≡ Some s = sym (ap (stage_push_store (next_link p lane)) stage) ∙ is in cc)
 
 -- after a push's store
 pub pushed_lane : (cells p : ℕ) (lane : Lane) (done : History) (s : Word × ℕ) → IsLaneAfter cells p lane done
-    → push_store p lane ≡ Some s → IsLaneAfter cells p (lane_pushed lane) (store p s.0 s.1 ∷ done)
+    → push_store p lane ≡ Some s → IsLaneAfter cells p (lane_after_push lane) (store p s.0 s.1 ∷ done)
 pushed_lane cells p lane done s x is = pushed_at cells p lane done x.entries x.phase s x.at x.last x.stage is
 
 -- after the store of the end mark, by the phase
 finished_at : (cells p : ℕ) (lane : Lane) (done : History) (es : List Entry) (phase : Phase)
     → IsAt cells p es phase done → lane.last ≡ last_of es → lane.stage ≡ stage_of phase
-    → refused_finish lane ≡ None → IsLaneAfter cells p (lane_finished lane) (store p (place_after p es) END ∷ done)
+    → finish_refusal lane ≡ None → IsLaneAfter cells p (lane_after_finish lane) (store p (place_after p es) END ∷ done)
 finished_at cells p lane done es phase.Open at last by_stage is = record {
   entries = es;
   phase = phase.Ended None;
@@ -132,21 +138,28 @@ finished_at cells p lane done es phase.Open at last by_stage is = record {
   last = last;
   stage = ap (λ z. stage.Ended (is_full z)) by_stage;
 }
-finished_at cells p lane done es (phase.Offered e) at last by_stage is = absurd (let n = sym (ap stage_finish_refusal by_stage) ∙ is in cc)
-finished_at cells p lane done es (phase.Stored e) at last by_stage is = absurd (let n = sym (ap stage_finish_refusal by_stage) ∙ is in cc)
+finished_at cells p lane done es (phase.Offered e) at last by_stage is =
+    absurd (let n = sym (ap stage_finish_refusal by_stage) ∙ is in cc)
+finished_at cells p lane done es (phase.Stored e) at last by_stage is =
+    absurd (let n = sym (ap stage_finish_refusal by_stage) ∙ is in cc)
 finished_at cells p lane done es (phase.Full e) at last by_stage is = record {
   entries = es;
   phase = phase.Ended (Some e);
-  at = goes_on cells p es es (phase.Full e) (phase.Ended (Some e)) (store p (place_after p es) END) done (ends_refused es e) at;
+  at = goes_on cells p es es (phase.Full e) (phase.Ended (Some e)) (store p (place_after p es) END) done
+      (ends_refused es e) at;
   last = last;
   stage = ap (λ z. stage.Ended (is_full z)) by_stage;
 }
-finished_at cells p lane done es (phase.Ended None) at last by_stage is = absurd (let n = sym (ap stage_finish_refusal by_stage) ∙ is in cc)
-finished_at cells p lane done es (phase.Ended (Some e)) at last by_stage is = absurd (let n = sym (ap stage_finish_refusal by_stage) ∙ is in cc)
+finished_at cells p lane done es (phase.Ended None) at last by_stage is =
+    absurd (let n = sym (ap stage_finish_refusal by_stage) ∙ is in cc)
+finished_at cells p lane done es (phase.Ended (Some e)) at last by_stage is =
+    absurd (let n = sym (ap stage_finish_refusal by_stage) ∙ is in cc)
 
 -- after the store of the end mark
-pub finished_lane : (cells p : ℕ) (lane : Lane) (done : History) → IsLaneAfter cells p lane done → refused_finish lane ≡ None
-    → IsLaneAfter cells p (lane_finished lane) (store p (next_link p lane) END ∷ done)
+pub finished_lane : (cells p : ℕ) (lane : Lane) (done : History) → IsLaneAfter cells p lane done
+    → finish_refusal lane ≡ None
+    → IsLaneAfter cells p (lane_after_finish lane) (store p (next_link p lane) END ∷ done)
 finished_lane cells p lane done x going =
-    subst (λ w. IsLaneAfter cells p (lane_finished lane) (store p w END ∷ done)) (sym (next_place p lane x.entries x.last))
+    subst (λ w. IsLaneAfter cells p (lane_after_finish lane) (store p w END ∷ done))
+    (sym (next_place p lane x.entries x.last))
     (finished_at cells p lane done x.entries x.phase x.at x.last x.stage going)

@@ -1,5 +1,6 @@
 pub mod Names
 pub mod Parts
+pub mod Counter
 pub mod Places
 pub mod ProducerWords
 pub mod Histories
@@ -7,7 +8,7 @@ pub mod Items
 pub mod ReaderChains
 pub mod EndMarks
 pub mod Counts
-pub mod Steps
+pub mod OneStep
 pub mod LaneSteps
 pub mod NextAccesses
 pub mod PoolSteps
@@ -17,3 +18,5 @@ pub mod CallLaws
 pub mod CallNumbers
 pub mod ReaderParts
 pub mod ExamplePools
+pub mod PutLists
+pub mod Blocks

@@ -1,14 +1,12 @@
 -- Words, and what a history leaves in them.
-use Rattle.std.proofs.Common.{◌≡◌, ℕ, ◌+◌, ◌≤◌, true, false, cond, ◌∷◌, refl, sym, ap, ◌∙◌, subst, arith, eqb-true, eq-eqb}
-use Rattle.std.proofs.lemmas.Bool.{false≢true, cond_both}
-use Rattle.mb_cells.specs.Memory.{History, adds_on, after_act, is_fetch_add, is_same_process, is_same_word, value_in}
-use Rattle.mb_cells.specs.declared.access.Access.{Access}
-use Rattle.mb_cells.specs.declared.access.Act.{Act}
-use Rattle.mb_cells.specs.declared.access.Act.TheVariants.{FetchAdd, Load, Store}
-use Rattle.mb_cells.specs.declared.access.Process.{Process}
-use Rattle.mb_cells.specs.declared.access.Process.TheVariants.{Producer, Reader}
-use Rattle.mb_cells.specs.declared.access.Word.{Word}
-use Rattle.mb_cells.specs.declared.access.Word.TheVariants.{Counter, Head, Item, Link}
+use Rattle.std.proofs.Common.{Bool, None, Option, Some, ap, cond, eq-eqb, eqb-true, false, inl, inr, refl, subst, sym, true, ℕ, ◌∙◌, ◌∷◌, ◌≡◌, ◌≢◌, ◌⊎◌}
+use Rattle.std.proofs.lemmas.Bool.{cases_Bool, cond_both, false≢true}
+use Rattle.mb_cells.specs.{Counter, Head, History, Item, Link, PoolAccess, PoolAct, Process, Producer, Reader, Word, is_same_process, is_same_word, stored_by, value_in}
+
+-- a choice between two that are one
+pub same_twice : {X : Type 0} (b : Bool) (x : X) → cond b x x ≡ x
+same_twice true x = refl
+same_twice false x = refl
 
 -- a word is itself
 pub is_same_word-refl : (w : Word) → is_same_word w w ≡ true
@@ -25,13 +23,31 @@ is_same_word-eq (Link p) (Link q) h = ap Link (eqb-true p q h)
 is_same_word-eq (Item p) (Item q) h = ap Item (eqb-true p q h)
 is_same_word-eq _ _ h = absurd (false≢true h)
 
+-- two words are one or not
+pub cases_word : (v w : Word) → (v ≡ w) ⊎ (v ≢ w)
+cases_word v w =
+    elim (cases_Bool (is_same_word v w)) [
+      | inl same ↦ inl (is_same_word-eq v w same)
+      | inr other ↦ inr (λ e.
+          let same : is_same_word v w ≡ true = subst (λ x. is_same_word v x ≡ true) e (is_same_word-refl v) in
+          absurd (false≢true (sym other ∙ same)))
+    ]
+
+-- words that differ are not the same
+pub is_same_word-ne : (v w : Word) → v ≢ w → is_same_word v w ≡ false
+is_same_word-ne v w ne =
+    elim (cases_Bool (is_same_word v w)) [
+      | inl same ↦ absurd (ne (is_same_word-eq v w same))
+      | inr other ↦ other
+    ]
+
 -- a process is itself
 pub is_same_process-refl : (w : Process) → is_same_process w w ≡ true
 is_same_process-refl (Producer p) = eq-eqb p p refl
 is_same_process-refl (Reader p) = eq-eqb p p refl
 
 -- the process of an access is the one it is known to be
-pub own_process : (who : Process) (a : Access) → a.process ≡ who → is_same_process who a.process ≡ true
+pub own_process : (who : Process) (a : PoolAccess) → a.process ≡ who → is_same_process who a.process ≡ true
 own_process who a is = subst (λ x. is_same_process who x ≡ true) (sym is) (is_same_process-refl who)
 
 -- processes that are the same are equal
@@ -40,8 +56,26 @@ is_same_process-eq (Producer p) (Producer q) h = ap Producer (eqb-true p q h)
 is_same_process-eq (Reader p) (Reader q) h = ap Reader (eqb-true p q h)
 is_same_process-eq _ _ h = absurd (false≢true h)
 
+-- two processes are one or not
+pub cases_process : (v w : Process) → (v ≡ w) ⊎ (v ≢ w)
+cases_process v w =
+    elim (cases_Bool (is_same_process v w)) [
+      | inl same ↦ inl (is_same_process-eq v w same)
+      | inr other ↦ inr (λ e.
+          let same : is_same_process v w ≡ true = subst (λ x. is_same_process v x ≡ true) e (is_same_process-refl v) in
+          absurd (false≢true (sym other ∙ same)))
+    ]
+
+-- processes that differ are not the same
+pub is_same_process-ne : (v w : Process) → v ≢ w → is_same_process v w ≡ false
+is_same_process-ne v w ne =
+    elim (cases_Bool (is_same_process v w)) [
+      | inl same ↦ absurd (ne (is_same_process-eq v w same))
+      | inr other ↦ other
+    ]
+
 -- an access is known by its process, its word and its act
-pub access_is : (a : Access) (who : Process) (w : Word) (act : Act) → a.process ≡ who → a.word ≡ w → a.act ≡ act
+pub access_is : (a : PoolAccess) (who : Process) (w : Word) (act : PoolAct) → a.process ≡ who → a.word ≡ w → a.act ≡ act
     → a ≡ record { process = who; word = w; act = act }
 access_is a who w act e f g =
     ap (λ x. record { process = x; word = a.word; act = a.act }) e
@@ -49,26 +83,30 @@ access_is a who w act e f g =
     ∙ ap (λ x. record { process = who; word = w; act = x }) g
 
 -- an access to another word leaves this one
-pub value_in-other : (a : Access) (h : History) (w : Word) → is_same_word a.word w ≡ false → value_in (a ∷ h) w ≡ value_in h w
+pub value_in-other : (a : PoolAccess) (h : History) (w : Word) → is_same_word a.word w ≡ false
+    → value_in w (a ∷ h) ≡ value_in w h
 value_in-other a h w e = rw e
 
--- a store leaves its value in its word
-pub value_in-stored : (a : Access) (h : History) (w : Word) (v : ℕ) → a.word ≡ w → a.act ≡ Store v → value_in (a ∷ h) w ≡ v
-value_in-stored a h w v e f =
-    let t : is_same_word a.word w ≡ true = subst (λ x. is_same_word a.word x ≡ true) e (is_same_word-refl a.word) in
-    rw (t, f)
+-- what an act stores stands in its word
+pub value_in-stored : (a : PoolAccess) (h : History) (w : Word) (v : ℕ) → a.word ≡ w → stored_by a.act ≡ Some v
+    → value_in w (a ∷ h) ≡ v
+value_in-stored a h w v at is =
+    let here : is_same_word a.word w ≡ true =
+    subst (λ x. is_same_word a.word x ≡ true) at (is_same_word-refl a.word) in
+    rw (here, is)
 
--- an act that is no store leaves each word as it was
-pub value_in-kept : (a : Access) (h : History) (w : Word) → ((v : ℕ) → a.act ≡ Store v → ⊥) → value_in (a ∷ h) w ≡ value_in h w
-value_in-kept a h w never =
-    let kept : (act : Act) → ((v : ℕ) → act ≡ Store v → ⊥) → after_act act (value_in h w) ≡ value_in h w =
-    λ (act : Act). elim act as (λ x. ((v : ℕ) → x ≡ Store v → ⊥) → after_act x (value_in h w) ≡ value_in h w)
-    [ Load _ ↦ λ _. refl | Store v ↦ λ f. absurd (f v refl) | FetchAdd _ _ ↦ λ _. refl ] in
-    rw (kept a.act never) (cond_both (is_same_word a.word w) (value_in h w) (value_in h w) (λ x. x ≡ value_in h w) (λ _. refl) (λ _. refl))
+-- an act that stores nothing leaves each word as it was
+pub value_in-kept : (a : PoolAccess) (h : History) (w : Word) → stored_by a.act ≡ None
+    → value_in w (a ∷ h) ≡ value_in w h
+value_in-kept a h w none =
+    let old = value_in w h in
+    rw none (cond_both (is_same_word a.word w) old old (λ x. x ≡ old) (λ _. refl) (λ _. refl))
 
--- one more access takes no fetch-add away
-pub adds_on-grows : (a : Access) (h : History) (w : Word) → adds_on h w ≤ adds_on (a ∷ h) w
-adds_on-grows a h w =
-    cond_both (is_same_word a.word w) (cond (is_fetch_add a.act) (adds_on h w + 1) (adds_on h w)) (adds_on h w) (λ x. adds_on h w ≤ x)
-    (λ _. cond_both (is_fetch_add a.act) (adds_on h w + 1) (adds_on h w) (λ x. adds_on h w ≤ x) (λ _. omega arith) (λ _. omega arith))
-    (λ _. omega arith)
+-- an act stores a value or nothing
+pub stores_or_not : (act : PoolAct) → ((v : ℕ) × (stored_by act ≡ Some v)) ⊎ (stored_by act ≡ None)
+stores_or_not act =
+    by (stored_by act) refl
+  where
+    by : (o : Option ℕ) → stored_by act ≡ o → ((v : ℕ) × (stored_by act ≡ Some v)) ⊎ (stored_by act ≡ None)
+    by (Some v) is = inl (v, is)
+    by None is = inr is

@@ -1,48 +1,52 @@
 -- A prefix of a lane path puts its producer at one place, and at no other.
-use Rattle.std.proofs.Common.{◌≡◌, ℕ, ◌+◌, Bool, true, false, List, [], ◌∷◌, ◌++◌, Option, Some, None, refl, sym, ap, ◌∙◌, subst, arith}
-use Rattle.mb_cells.specs.LanePath.{AllCellsBelow, Entry, IsLanePrefix, IsRefused, ending, fetch, groups, place_after, refusal, store}
-use Rattle.mb_cells.specs.Memory.{History}
-use Rattle.mb_cells.specs.Place.{Ended, Full, IsAt, Offered, Open, Phase, Steps, Stored, done_at, ends_lane, ends_refused, fills_cell, finds_none, links_cell, takes_cell}
-use Rattle.mb_cells.specs.declared.access.Access.{Access}
-use Rattle.mb_cells.specs.declared.access.Act.TheVariants.{FetchAdd, Store}
-use Rattle.mb_cells.specs.declared.access.TheConstants.{END}
-use Rattle.mb_cells.specs.declared.access.Word.TheVariants.{Item}
+use Rattle.std.proofs.Common.{Bool, List, None, Option, Some, [], ap, arith, false, inl, inr, refl, subst, sym, true, ℕ, ◌++◌, ◌+◌, ◌∙◌, ◌∷◌, ◌≡◌, ◌⊎◌}
+use Rattle.mb_cells.specs.{AllCellsBelow, END, Entry, FetchAdd, FindsNoCell, Has, History, IsAt, IsLanePrefix, Item, Phase, PoolAccess, Steps, Store, Word, ending, ends_lane, ends_refused, fetch, fills_cell, finds_none, groups, links_cell, part_at, place_after, refusal, store, takes_cell}
+use Rattle.mb_cells.specs.Place.{Ended, Full, Offered, Open, Stored}
 
--- some place
-abbrev pub IsSomewhere : ℕ → ℕ → History → Type 0
-IsSomewhere cells p done = (es : List Entry) × ((phase : Phase) × IsAt cells p es phase done)
+-- where a producer stands that has done this
+pub record IsSomewhere (cells p : ℕ) (done : History) : Type 0 where
+  pub entries : List Entry
+  pub phase : Phase
+  pub at : IsAt cells p entries phase done
 
 -- what leads to whole groups stands at a place
-in_groups : (cells p : ℕ) (es : List Entry) (later done : History) → AllCellsBelow cells es → later ++ done ≡ groups p es → IsSomewhere cells p done
-in_groups cells p es [] done b h = (es, (Open, record { below = b; fits = tt; is = h }))
+in_groups : (cells p : ℕ) (es : List Entry) (later done : History) → AllCellsBelow cells es
+    → later ++ done ≡ groups p es → IsSomewhere cells p done
+in_groups cells p es [] done b h =
+    record { entries = es; phase = Open; at = record { below = b; fits = tt; is = h } }
 in_groups cells p [] (x ∷ later) done b h = absurd (cc)
-in_groups cells p (e ∷ es) (x ∷ []) done b h = (es, (Stored e, record { below = b.1; fits = b.0; is = cc }))
-in_groups cells p (e ∷ es) (x ∷ y ∷ []) done b h = (es, (Offered e, record { below = b.1; fits = b.0; is = cc }))
+in_groups cells p (e ∷ es) (x ∷ []) done b h =
+    record { entries = es; phase = Stored e; at = record { below = b.1; fits = b.0; is = cc } }
+in_groups cells p (e ∷ es) (x ∷ y ∷ []) done b h =
+    record { entries = es; phase = Offered e; at = record { below = b.1; fits = b.0; is = cc } }
 in_groups cells p (e ∷ es) (x ∷ y ∷ z ∷ later) done b h = in_groups cells p es later done b.1 (cc)
 
 -- so with a fetch-add that found no cell behind them
 in_refusal : (cells p : ℕ) (es : List Entry) (r : Option Entry) (later done : History) → AllCellsBelow cells es
-    → IsRefused cells r → later ++ done ≡ refusal p r (groups p es) → IsSomewhere cells p done
+    → FindsNoCell cells r → later ++ done ≡ refusal p r (groups p es) → IsSomewhere cells p done
 in_refusal cells p es None later done b f h = in_groups cells p es later done b h
-in_refusal cells p es (Some e) [] done b f h = (es, (Full e, record { below = b; fits = f; is = h }))
+in_refusal cells p es (Some e) [] done b f h =
+    record { entries = es; phase = Full e; at = record { below = b; fits = f; is = h } }
 in_refusal cells p es (Some e) (x ∷ later) done b f h = in_groups cells p es later done b (cc)
 
 -- so with the end mark behind it
 in_ending : (cells p : ℕ) (es : List Entry) (r : Option Entry) (ended : Bool) (later done : History)
-    → AllCellsBelow cells es → IsRefused cells r
+    → AllCellsBelow cells es → FindsNoCell cells r
     → later ++ done ≡ ending p (place_after p es) ended (refusal p r (groups p es)) → IsSomewhere cells p done
 in_ending cells p es r false later done b f h = in_refusal cells p es r later done b f h
-in_ending cells p es r true [] done b f h = (es, (Ended r, record { below = b; fits = f; is = h }))
+in_ending cells p es r true [] done b f h =
+    record { entries = es; phase = Ended r; at = record { below = b; fits = f; is = h } }
 in_ending cells p es r true (x ∷ later) done b f h = in_refusal cells p es r later done b f (cc)
 
 -- a prefix of a lane path stands at a place
 pub somewhere : (cells p : ℕ) (done : History) → IsLanePrefix cells p done → IsSomewhere cells p done
 somewhere cells p done h =
-    in_ending cells p h.lawful.entries h.lawful.refused h.lawful.ended h.later done h.lawful.below h.lawful.above (h.is ∙ h.lawful.is)
+    in_ending cells p h.lawful.entries h.lawful.refused h.lawful.ended h.later done h.lawful.below h.lawful.above
+    (h.is ∙ h.lawful.is)
 
 -- what stands before the rest of a path is a prefix of it
 whole : (cells p : ℕ) (es : List Entry) (r : Option Entry) (ended : Bool) → AllCellsBelow cells es
-    → IsRefused cells r → (later done : History)
+    → FindsNoCell cells r → (later done : History)
     → later ++ done ≡ ending p (place_after p es) ended (refusal p r (groups p es)) → IsLanePrefix cells p done
 whole cells p es r ended b f later done h = record {
   path = later ++ done;
@@ -52,7 +56,8 @@ whole cells p es r ended b f later done h = record {
 }
 
 -- what stands at a place is a prefix of a lane path
-pub prefix_at : (cells p : ℕ) (es : List Entry) (phase : Phase) (done : History) → IsAt cells p es phase done → IsLanePrefix cells p done
+pub prefix_at : (cells p : ℕ) (es : List Entry) (phase : Phase) (done : History) → IsAt cells p es phase done
+    → IsLanePrefix cells p done
 prefix_at cells p es Open done h = whole cells p es None false h.below tt [] done h.is
 prefix_at cells p es (Offered e) done h =
     whole cells p (e ∷ es) None false (h.fits, h.below) tt
@@ -65,19 +70,20 @@ prefix_at cells p es (Full e) done h = whole cells p es (Some e) false h.below h
 prefix_at cells p es (Ended r) done h = whole cells p es r true h.below h.fits [] done h.is
 
 -- where a producer stood before its newest access
-pub record CameFrom (cells p : ℕ) (es : List Entry) (phase : Phase) (a : Access) (d : History) : Type 0 where
+pub record CameFrom (cells p : ℕ) (es : List Entry) (phase : Phase) (a : PoolAccess) (d : History) : Type 0 where
   pub entries : List Entry
   pub was : Phase
   pub at : IsAt cells p entries was d
   pub by : Steps cells p entries was a es phase
 
 -- each access was a step from a place
-pub came_from : (cells p : ℕ) (es : List Entry) (phase : Phase) (a : Access) (d : History) → IsAt cells p es phase (a ∷ d) → CameFrom cells p es phase a d
+pub came_from : (cells p : ℕ) (es : List Entry) (phase : Phase) (a : PoolAccess) (d : History)
+    → IsAt cells p es phase (a ∷ d) → CameFrom cells p es phase a d
 came_from cells p [] Open a d at = absurd (let e : a ∷ d ≡ [] = at.is in cc)
 came_from cells p (e ∷ es) Open a d at =
     let whole : a ∷ d ≡ groups p (e ∷ es) = at.is in
     let first : a ≡ store p (place_after p es) (e.cell + 1) = cc in
-    let rest : d ≡ done_at p es (Stored e) = cc in
+    let rest : d ≡ part_at p es (Stored e) = cc in
     record {
       entries = es;
       was = Stored e;
@@ -87,7 +93,7 @@ came_from cells p (e ∷ es) Open a d at =
 came_from cells p es (Offered e) a d at =
     let whole : a ∷ d ≡ fetch p e ∷ groups p es = at.is in
     let first : a ≡ fetch p e = cc in
-    let rest : d ≡ done_at p es Open = cc in
+    let rest : d ≡ part_at p es Open = cc in
     record {
       entries = es;
       was = Open;
@@ -97,7 +103,7 @@ came_from cells p es (Offered e) a d at =
 came_from cells p es (Stored e) a d at =
     let whole : a ∷ d ≡ store p (Item e.cell) e.value ∷ fetch p e ∷ groups p es = at.is in
     let first : a ≡ store p (Item e.cell) e.value = cc in
-    let rest : d ≡ done_at p es (Offered e) = cc in
+    let rest : d ≡ part_at p es (Offered e) = cc in
     record {
       entries = es;
       was = Offered e;
@@ -107,7 +113,7 @@ came_from cells p es (Stored e) a d at =
 came_from cells p es (Full e) a d at =
     let whole : a ∷ d ≡ fetch p e ∷ groups p es = at.is in
     let first : a ≡ fetch p e = cc in
-    let rest : d ≡ done_at p es Open = cc in
+    let rest : d ≡ part_at p es Open = cc in
     record {
       entries = es;
       was = Open;
@@ -117,7 +123,7 @@ came_from cells p es (Full e) a d at =
 came_from cells p es (Ended None) a d at =
     let whole : a ∷ d ≡ store p (place_after p es) END ∷ groups p es = at.is in
     let first : a ≡ store p (place_after p es) END = cc in
-    let rest : d ≡ done_at p es Open = cc in
+    let rest : d ≡ part_at p es Open = cc in
     record {
       entries = es;
       was = Open;
@@ -127,7 +133,7 @@ came_from cells p es (Ended None) a d at =
 came_from cells p es (Ended (Some e)) a d at =
     let whole : a ∷ d ≡ store p (place_after p es) END ∷ (fetch p e ∷ groups p es) = at.is in
     let first : a ≡ store p (place_after p es) END = cc in
-    let rest : d ≡ done_at p es (Full e) = cc in
+    let rest : d ≡ part_at p es (Full e) = cc in
     record {
       entries = es;
       was = Full e;
@@ -136,20 +142,24 @@ came_from cells p es (Ended (Some e)) a d at =
     }
 
 -- a step takes what was done to the next place
-pub goes_on : (cells p : ℕ) (es fs : List Entry) (was now : Phase) (a : Access) (d : History)
+pub goes_on : (cells p : ℕ) (es fs : List Entry) (was now : Phase) (a : PoolAccess) (d : History)
     → Steps cells p es was a fs now → IsAt cells p es was d → IsAt cells p fs now (a ∷ d)
-goes_on cells p es fs was now a d (takes_cell _ e b) at = record { below = at.below; fits = b; is = ap (λ l. fetch p e ∷ l) at.is }
-goes_on cells p es fs was now a d (finds_none _ e b) at = record { below = at.below; fits = b; is = ap (λ l. fetch p e ∷ l) at.is }
-goes_on cells p es fs was now a d (fills_cell _ e) at = record { below = at.below; fits = at.fits; is = ap (λ l. store p (Item e.cell) e.value ∷ l) at.is }
+goes_on cells p es fs was now a d (takes_cell _ e b) at =
+    record { below = at.below; fits = b; is = ap (λ l. fetch p e ∷ l) at.is }
+goes_on cells p es fs was now a d (finds_none _ e b) at =
+    record { below = at.below; fits = b; is = ap (λ l. fetch p e ∷ l) at.is }
+goes_on cells p es fs was now a d (fills_cell _ e) at =
+    record { below = at.below; fits = at.fits; is = ap (λ l. store p (Item e.cell) e.value ∷ l) at.is }
 goes_on cells p es fs was now a d (links_cell _ e) at =
     record { below = (at.fits, at.below); fits = tt; is = ap (λ l. store p (place_after p es) (e.cell + 1) ∷ l) at.is }
-goes_on cells p es fs was now a d (ends_lane _) at = record { below = at.below; fits = tt; is = ap (λ l. store p (place_after p es) END ∷ l) at.is }
+goes_on cells p es fs was now a d (ends_lane _) at =
+    record { below = at.below; fits = tt; is = ap (λ l. store p (place_after p es) END ∷ l) at.is }
 goes_on cells p es fs was now a d (ends_refused _ e) at =
     record { below = at.below; fits = at.fits; is = ap (λ l. store p (place_after p es) END ∷ l) at.is }
 
 -- equal accesses have equal acts
-act_of : (a b : Access) → a ≡ b → a.act ≡ b.act
-act_of a b e = ap (λ (x : Access). x.act) e
+act_of : (a b : PoolAccess) → a ≡ b → a.act ≡ b.act
+act_of a b e = ap (λ (x : PoolAccess). x.act) e
 
 -- equal fetch-adds are of equal entries
 same_entry : (e f : Entry) (p : ℕ) → fetch p e ≡ fetch p f → e ≡ f
@@ -160,9 +170,10 @@ same_entry e f p is =
     ap (λ x. record { cell = x; value = e.value }) cell ∙ ap (λ x. record { cell = f.cell; value = x }) value
 
 -- from one place one access leads to one place
-steps_once : (cells p : ℕ) (es fs gs : List Entry) (was now then : Phase) (a b : Access) → a ≡ b
+steps_once : (cells p : ℕ) (es fs gs : List Entry) (was now then : Phase) (a b : PoolAccess) → a ≡ b
     → Steps cells p es was a fs now → Steps cells p es was b gs then → (fs ≡ gs) × (now ≡ then)
-steps_once cells p es fs gs was now then a b is (takes_cell _ e x) (takes_cell _ f y) = (refl, ap Offered (same_entry e f p is))
+steps_once cells p es fs gs was now then a b is (takes_cell _ e x) (takes_cell _ f y) =
+    (refl, ap Offered (same_entry e f p is))
 steps_once cells p es fs gs was now then a b is (takes_cell _ e x) (finds_none _ f y) =
     let same : e.cell ≡ f.cell = ap (λ (z : Entry). z.cell) (same_entry e f p is) in
     absurd (omega arith)
@@ -171,7 +182,8 @@ steps_once cells p es fs gs was now then a b is (takes_cell _ e x) (ends_lane _)
 steps_once cells p es fs gs was now then a b is (finds_none _ e x) (takes_cell _ f y) =
     let same : e.cell ≡ f.cell = ap (λ (z : Entry). z.cell) (same_entry e f p is) in
     absurd (omega arith)
-steps_once cells p es fs gs was now then a b is (finds_none _ e x) (finds_none _ f y) = (refl, ap Full (same_entry e f p is))
+steps_once cells p es fs gs was now then a b is (finds_none _ e x) (finds_none _ f y) =
+    (refl, ap Full (same_entry e f p is))
 steps_once cells p es fs gs was now then a b is (finds_none _ e x) (ends_lane _) =
     absurd (let acts : FetchAdd e.value e.cell ≡ Store END = act_of a b is in cc)
 steps_once cells p es fs gs was now then a b is (fills_cell _ e) (fills_cell _ f) = (refl, refl)
@@ -188,12 +200,15 @@ at_start : (cells p : ℕ) (es : List Entry) (phase : Phase) → IsAt cells p es
 at_start cells p [] Open at = (refl, refl)
 at_start cells p (e ∷ es) Open at = absurd (let is : [] ≡ groups p (e ∷ es) = at.is in cc)
 at_start cells p es (Offered e) at = absurd (let is : [] ≡ fetch p e ∷ groups p es = at.is in cc)
-at_start cells p es (Stored e) at = absurd (let is : [] ≡ store p (Item e.cell) e.value ∷ fetch p e ∷ groups p es = at.is in cc)
+at_start cells p es (Stored e) at =
+    absurd (let is : [] ≡ store p (Item e.cell) e.value ∷ fetch p e ∷ groups p es = at.is in cc)
 at_start cells p es (Full e) at = absurd (let is : [] ≡ fetch p e ∷ groups p es = at.is in cc)
-at_start cells p es (Ended r) at = absurd (let is : [] ≡ store p (place_after p es) END ∷ refusal p r (groups p es) = at.is in cc)
+at_start cells p es (Ended r) at =
+    absurd (let is : [] ≡ store p (place_after p es) END ∷ refusal p r (groups p es) = at.is in cc)
 
 -- a producer stands at one place
-pub one_place : (cells p : ℕ) (es fs : List Entry) (was now : Phase) (d : History) → IsAt cells p es was d → IsAt cells p fs now d → (es ≡ fs) × (was ≡ now)
+pub one_place : (cells p : ℕ) (es fs : List Entry) (was now : Phase) (d : History) → IsAt cells p es was d
+    → IsAt cells p fs now d → (es ≡ fs) × (was ≡ now)
 one_place cells p es fs was now [] x y =
     let s = at_start cells p es was x in
     let t = at_start cells p fs now y in
@@ -203,24 +218,52 @@ one_place cells p es fs was now (a ∷ d) x y =
     let k = came_from cells p fs now a d y in
     let before = one_place cells p c.entries k.entries c.was k.was d c.at k.at in
     let step : Steps cells p k.entries k.was a es was =
-    subst (λ z. Steps cells p z k.was a es was) before.0 (subst (λ z. Steps cells p c.entries z a es was) before.1 c.by) in
+    subst (λ z. Steps cells p z k.was a es was) before.0
+    (subst (λ z. Steps cells p c.entries z a es was) before.1 c.by) in
     steps_once cells p k.entries es fs k.was was now a a refl step k.by
 
 -- what a producer may do next: one step from its place
-pub record NextStep (cells p : ℕ) (es : List Entry) (phase : Phase) (a : Access) : Type 0 where
+pub record NextStep (cells p : ℕ) (es : List Entry) (phase : Phase) (a : PoolAccess) : Type 0 where
   pub entries : List Entry
   pub then : Phase
   pub step : Steps cells p es phase a entries then
 
 -- an access that goes on with a lane path is a step from its place
-pub steps_only : (cells p : ℕ) (es : List Entry) (phase : Phase) (a : Access) (d : History) → IsAt cells p es phase d
+pub steps_only : (cells p : ℕ) (es : List Entry) (phase : Phase) (a : PoolAccess) (d : History)
+    → IsAt cells p es phase d
     → IsLanePrefix cells p (a ∷ d) → NextStep cells p es phase a
 steps_only cells p es phase a d at prefix =
     let s = somewhere cells p (a ∷ d) prefix in
-    let c = came_from cells p s.0 s.1.0 a d s.1.1 in
+    let c = came_from cells p s.entries s.phase a d s.at in
     let same = one_place cells p c.entries es c.was phase d c.at at in
     record {
-      entries = s.0;
-      then = s.1.0;
-      step = subst (λ z. Steps cells p z phase a s.0 s.1.0) same.0 (subst (λ z. Steps cells p c.entries z a s.0 s.1.0) same.1 c.by);
+      entries = s.entries;
+      then = s.phase;
+      step = subst (λ z. Steps cells p z phase a s.entries s.phase) same.0
+          (subst (λ z. Steps cells p c.entries z a s.entries s.phase) same.1 c.by);
     }
+
+-- an access of producer p: a fetch-add for an item, or a store
+abbrev pub IsFetchOrStore : ℕ → PoolAccess → Type 0
+IsFetchOrStore p a = ((e : Entry) × (a ≡ fetch p e)) ⊎ ((w : Word) × ((v : ℕ) × (a ≡ store p w v)))
+
+-- a step is by a fetch-add or by a store
+pub step_kind : (cells p : ℕ) (es fs : List Entry) (was now : Phase) (a : PoolAccess) → Steps cells p es was a fs now
+    → IsFetchOrStore p a
+step_kind cells p es fs was now a (takes_cell _ e b) = inl (e, refl)
+step_kind cells p es fs was now a (finds_none _ e b) = inl (e, refl)
+step_kind cells p es fs was now a (fills_cell _ e) = inr (Item e.cell, (e.value, refl))
+step_kind cells p es fs was now a (links_cell _ e) = inr (place_after p es, (e.cell + 1, refl))
+step_kind cells p es fs was now a (ends_lane _) = inr (place_after p es, (END, refl))
+step_kind cells p es fs was now a (ends_refused _ e) = inr (place_after p es, (END, refl))
+
+-- and so is each access that led to a place
+pub kind_at : (cells p : ℕ) (d : History) (es : List Entry) (phase : Phase) (a : PoolAccess)
+    → IsAt cells p es phase d → Has d a → IsFetchOrStore p a
+kind_at cells p [] es phase a at has = absurd has
+kind_at cells p (b ∷ d) es phase a at (inl is) =
+    let c = came_from cells p es phase b d at in
+    subst (IsFetchOrStore p) is (step_kind cells p c.entries es c.was phase b c.by)
+kind_at cells p (b ∷ d) es phase a at (inr has) =
+    let c = came_from cells p es phase b d at in
+    kind_at cells p d c.entries c.was a c.at has

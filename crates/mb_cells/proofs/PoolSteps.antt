@@ -1,205 +1,232 @@
 -- The state of a pool after one access of a producer.
-use Rattle.std.proofs.Common.{◌≡◌, ℕ, ◌+◌, ◌-◌, ◌^◌, ◌<◌, ◌≢◌, false, cond, List, [], ◌∷◌, Some, None, length, refl, sym, ap, ◌∙◌, subst, inl, inr, arith, eq-eqb, ne_eqb}
-use Rattle.std.specs.Prelude.{slice_index, slice_index_or, slice_set, nat_eq, if◌then◌else◌, is_some, unwrap_or}
+use Rattle.std.proofs.Common.{List, None, Some, [], ap, arith, eq-eqb, false, inl, inr, length, ne_eqb, refl, subst, sym, ℕ, ◌+◌, ◌-◌, ◌<◌, ◌^◌, ◌∙◌, ◌∷◌, ◌≡◌, ◌≢◌}
+use Rattle.std.specs.Prelude.{if◌then◌else◌, is_some, slice_index, slice_index_or, slice_set, unwrap_or}
+use Rattle.std.proofs.Math.ListN.{length-replicate, length-set, replicate}
+use Rattle.std.proofs.lemmas.Bool.{cases_Bool, cases_eq, false≢true}
+use Rattle.std.proofs.lemmas.List.{get_or-replicate, get_or-set_other, get_or-set_same}
 use Rattle.std.specs.Option.{option_map_or}
-use Rattle.std.proofs.lemmas.Bool.{cases_eq}
-use Rattle.std.proofs.lemmas.List.{get_or-set_same, get_or-set_other, get_or-replicate}
-use Rattle.std.proofs.Math.ListN.{length-set, replicate, length-replicate}
 use Rattle.mb_cells.specs.declared.answer.Finish.TheVariants as finish
 use Rattle.mb_cells.specs.declared.cursor.Cursor.TheVariants as cursor
-use Rattle.mb_cells.specs.Calls.{FinishMeets, OfferMeets, PushMeets}
-use Rattle.mb_cells.specs.LanePath.{Entry, fetch, store}
-use Rattle.mb_cells.specs.Lawful.{ActFits, IsLawful}
-use Rattle.mb_cells.specs.Memory.{History, TellsTruth, adds_on, is_same_process, part, value_in}
-use Rattle.mb_cells.specs.Met.{IsLinkWord}
-use Rattle.mb_cells.specs.Reading.{word_of}
-use Rattle.mb_cells.specs.Standing.{IsLaneAfter, IsWordOf, lane_finished, lane_offered, lane_pushed, new_lane, next_link, offer_given, push_answer, push_store, refused_finish, refused_offer}
-use Rattle.mb_cells.specs.State.{HasWord, HoldsWords, IsAfter, IsSound, IsWithin, PoolWords, State, cell_count, lane_count, stored, word_in}
-use Rattle.mb_cells.specs.declared.access.Access.{Access}
-use Rattle.mb_cells.specs.declared.access.Process.TheVariants.{Producer}
-use Rattle.mb_cells.specs.declared.access.TheConstants.{END}
-use Rattle.mb_cells.specs.declared.access.Word.{Word}
-use Rattle.mb_cells.specs.declared.access.Word.TheVariants.{Counter, Head, Item, Link}
-use Rattle.mb_cells.specs.declared.cursor.Cursor.{Cursor}
-use Rattle.mb_cells.specs.declared.lane.Lane.{Lane}
+use Rattle.mb_cells.specs.{ActFits, Counter, Cursor, END, Entry, FinishMeets, HasWord, Head, History, HoldsWords, IsAfter, IsLaneAfter, IsLinkWord, IsPoolLawful, IsPoolWord, IsSound, IsWithin, IsLaneWord, Item, Lane, Link, OfferMeets, PoolAccess, PoolSize, PoolState, PoolWords, Producer, PushMeets, ReadsLast, Word, cell_count, fetch, finish_refusal, is_same_process, is_same_word, lane_after_finish, lane_after_offer, lane_after_push, lane_count, new_lane, next_link, offer_by_found, offer_refusal, part, pool_size, push_answer, push_store, size_of, store, stored_by, value_in, word_in, word_of, words_with}
 use Rattle.mb_cells.proofs.Counts.{counter_bound}
 use Rattle.mb_cells.proofs.Items.{cell_within, leads_to}
 use Rattle.mb_cells.proofs.LaneSteps.{finished_lane, lane_prefix, offered_lane, pushed_lane, same_lane, start_lane}
-use Rattle.mb_cells.proofs.Names.{own_process}
-use Rattle.mb_cells.proofs.NextAccesses.{link_within, push_within}
+use Rattle.mb_cells.proofs.Names.{is_same_word-eq, own_process, value_in-other, value_in-stored}
+use Rattle.mb_cells.proofs.NextAccesses.{link_within, push_value, push_within}
+use Rattle.mb_cells.proofs.OneStep.{empty_lawful, producer_step}
 use Rattle.mb_cells.proofs.Parts.{part-other, part-own}
-use Rattle.mb_cells.proofs.Steps.{empty_lawful, producer_step}
 
 -- producer p's place as the state has it
-pub lane_here : (h : History) (s : State) (p : ℕ) (lane : Lane) → p < lane_count s → IsAfter h s
+pub lane_here : (h : History) (s : PoolState) (p : ℕ) (lane : Lane) → p < lane_count s → IsAfter h s
     → lane ≡ slice_index_or s.lanes p lane → IsLaneAfter (cell_count s) p lane (part (Producer p) h)
-lane_here h s p lane lt after is = subst (λ l. IsLaneAfter (cell_count s) p l (part (Producer p) h)) (sym is) (after.lanes p lane lt)
+lane_here h s p lane lt after is =
+    subst (λ l. IsLaneAfter (cell_count s) p l (part (Producer p) h)) (sym is) (after.lanes p lane lt)
 
 -- the lanes after an access of one producer
-lanes_after : (h : History) (a : Access) (cells p : ℕ) (lanes : List Lane) (lane : Lane) → a.process ≡ Producer p → p < length lanes
+lanes_after : (h : History) (a : PoolAccess) (cells p : ℕ) (lanes : List Lane) (lane : Lane) → a.process ≡ Producer p
+    → p < length lanes
     → ((q : ℕ) (d : Lane) → q < length lanes → IsLaneAfter cells q (slice_index_or lanes q d) (part (Producer q) h))
     → IsLaneAfter cells p lane (a ∷ part (Producer p) h)
-    → (q : ℕ) (d : Lane) → q < length (slice_set lanes p lane) → IsLaneAfter cells q (slice_index_or (slice_set lanes p lane) q d) (part (Producer q) (a ∷ h))
+    → (q : ℕ) (d : Lane) → q < length (slice_set lanes p lane)
+    → IsLaneAfter cells q (slice_index_or (slice_set lanes p lane) q d) (part (Producer q) (a ∷ h))
 lanes_after h a cells p lanes lane who lt before now q d bound =
     let within : q < length lanes = omega (arith, length-set lanes p lane) in
     elim (cases_eq q p) [
       | inl same ↦
           let own = own_process (Producer p) a who in
-          subst (λ z. IsLaneAfter cells z (slice_index_or (slice_set lanes p lane) z d) (part (Producer z) (a ∷ h))) (sym same)
+          subst (λ z. IsLaneAfter cells z (slice_index_or (slice_set lanes p lane) z d) (part (Producer z) (a ∷ h)))
+          (sym same)
           (subst (λ l. IsLaneAfter cells p l (part (Producer p) (a ∷ h))) (sym (get_or-set_same lanes p lane d lt))
           (subst (IsLaneAfter cells p lane) (sym (part-own (Producer p) a h own)) now))
       | inr other ↦
-          let not_own : is_same_process (Producer q) a.process ≡ false = subst (λ x. is_same_process (Producer q) x ≡ false) (sym who) (ne_eqb q p other) in
+          let not_own : is_same_process (Producer q) a.process ≡ false =
+          subst (λ x. is_same_process (Producer q) x ≡ false) (sym who) (ne_eqb q p other) in
           subst (λ l. IsLaneAfter cells q l (part (Producer q) (a ∷ h))) (sym (get_or-set_other lanes p q lane d other))
-          (subst (IsLaneAfter cells q (slice_index_or lanes q d)) (sym (part-other (Producer q) a h not_own)) (before q d within))
+          (subst (IsLaneAfter cells q (slice_index_or lanes q d)) (sym (part-other (Producer q) a h not_own))
+          (before q d within))
     ]
 
 -- the state after an access of producer p, given the words and the place then
-access_after : (h : History) (a : Access) (s : State) (p : ℕ) (lane : Lane) (ws : PoolWords) → IsAfter h s → a.process ≡ Producer p → p < lane_count s
-    → length ws.items ≡ cell_count s → ActFits a.act → TellsTruth h a.word a.act → IsLaneAfter (cell_count s) p lane (a ∷ part (Producer p) h)
-    → ws.counter ≡ adds_on (a ∷ h) Counter → HoldsWords (lane_count s) (cell_count s) ws (a ∷ h)
+access_after : (h : History) (a : PoolAccess) (s : PoolState) (p : ℕ) (lane : Lane) (ws : PoolWords) → IsAfter h s
+    → a.process ≡ Producer p → p < lane_count s
+    → length ws.items ≡ cell_count s → ActFits a.act → ReadsLast a.word a.act h
+    → IsLaneAfter (cell_count s) p lane (a ∷ part (Producer p) h)
+    → HoldsWords (size_of s) ws (a ∷ h)
     → IsAfter (a ∷ h) (record { words = ws; lanes = slice_set s.lanes p lane })
-access_after h a s p lane ws was who lt same fits truth now counter holds =
+access_after h a s p lane ws was who lt same fits truth now holds =
     let n : length (slice_set s.lanes p lane) ≡ lane_count s = length-set s.lanes p lane in
-    let lawful : IsLawful (lane_count s) (cell_count s) (a ∷ h) =
-    producer_step (lane_count s) (cell_count s) h a p was.lawful who lt fits truth (lane_prefix (cell_count s) p lane (a ∷ part (Producer p) h) now) in
+    let wide : size_of s ≡ pool_size (length (slice_set s.lanes p lane)) (length ws.items) =
+    ap (λ z. pool_size z (cell_count s)) (sym n)
+    ∙ ap (pool_size (length (slice_set s.lanes p lane))) (sym same) in
+    let path = lane_prefix (cell_count s) p lane (a ∷ part (Producer p) h) now in
+    let lawful = producer_step (size_of s) h a p was.lawful who lt fits truth path in
+    let after = lanes_after h a (cell_count s) p s.lanes lane who lt was.lanes now in
     record {
-      lawful = subst (λ z. IsLawful z (length ws.items) (a ∷ h)) (sym n) (subst (λ z. IsLawful (lane_count s) z (a ∷ h)) (sym same) lawful);
-      counter = counter;
-      words = subst (λ z. HoldsWords z (length ws.items) ws (a ∷ h)) (sym n) (subst (λ z. HoldsWords (lane_count s) z ws (a ∷ h)) (sym same) holds);
-      lanes = λ q d b. subst (λ z. IsLaneAfter z q (slice_index_or (slice_set s.lanes p lane) q d) (part (Producer q) (a ∷ h))) (sym same)
-          (lanes_after h a (cell_count s) p s.lanes lane who lt was.lanes now q d b);
+      lawful = subst (λ z. IsPoolLawful z (a ∷ h)) wide lawful;
+      words = subst (λ z. HoldsWords z ws (a ∷ h)) wide holds;
+      lanes = λ q d b.
+          let at = slice_index_or (slice_set s.lanes p lane) q d in
+          subst (λ z. IsLaneAfter z q at (part (Producer q) (a ∷ h))) (sym same) (after q d b);
     }
 
--- a list of words after a store to one
-written : (xs : List ℕ) (n k v : ℕ) (m : ℕ → ℕ) → k < length xs → ((j : ℕ) → j < n → slice_index xs j ≡ m j)
-    → (j : ℕ) → j < n → slice_index (slice_set xs k v) j ≡ cond (nat_eq k j) v (m j)
-written xs n k v m lt same j b =
-    elim (cases_eq j k) [
-      | inl e ↦ subst (λ z. slice_index (slice_set xs k v) z ≡ cond (nat_eq k z) v (m z)) (sym e) (rw (eq-eqb k k refl) (get_or-set_same xs k v 0 lt))
-      | inr ne ↦ let other : nat_eq k j ≡ false = ne_eqb k j (λ e. ne (sym e)) in rw other (get_or-set_other xs k j v 0 ne ∙ same j b)
+-- the word that is stored to holds the value
+words_with-same : (w : Word) (v : ℕ) (ws : PoolWords) → HasWord w ws → word_in w (words_with w v ws) ≡ v
+words_with-same Counter v ws has = refl
+words_with-same (Head p) v ws has = get_or-set_same ws.heads p v 0 has
+words_with-same (Link k) v ws has = get_or-set_same ws.links k v 0 has
+words_with-same (Item k) v ws has = get_or-set_same ws.items k v 0 has
+
+-- and each other word what it held
+words_with-other : (w x : Word) (v : ℕ) (ws : PoolWords) → is_same_word w x ≡ false
+    → word_in x (words_with w v ws) ≡ word_in x ws
+words_with-other Counter Counter v ws differs = absurd (false≢true (sym differs))
+words_with-other (Head p) (Head q) v ws differs =
+    get_or-set_other ws.heads p q v 0 (λ e. absurd (false≢true (sym differs ∙ eq-eqb p q (sym e))))
+words_with-other (Link j) (Link k) v ws differs =
+    get_or-set_other ws.links j k v 0 (λ e. absurd (false≢true (sym differs ∙ eq-eqb j k (sym e))))
+words_with-other (Item j) (Item k) v ws differs =
+    get_or-set_other ws.items j k v 0 (λ e. absurd (false≢true (sym differs ∙ eq-eqb j k (sym e))))
+words_with-other _ _ v ws differs = refl
+
+-- the words after an access that stores a value
+words_after : (size : PoolSize) (ws : PoolWords) (h : History) (a : PoolAccess) (v : ℕ) → HasWord a.word ws
+    → stored_by a.act ≡ Some v → HoldsWords size ws h → HoldsWords size (words_with a.word v ws) (a ∷ h)
+words_after size ws h a v has stores holds w within =
+    elim (cases_Bool (is_same_word a.word w)) [
+      | inl same ↦
+          let here : a.word ≡ w = is_same_word-eq a.word w same in
+          subst (λ x. word_in x (words_with a.word v ws) ≡ v) here (words_with-same a.word v ws has)
+          ∙ sym (value_in-stored a h w v here stores)
+      | inr other ↦
+          words_with-other a.word w v ws other ∙ holds w within ∙ sym (value_in-other a h w other)
     ]
 
--- the words after a store
-stored_after : (lanes cells : ℕ) (ws : PoolWords) (h : History) (p : ℕ) (w : Word) (v : ℕ) → HasWord ws w
-    → IsWordOf lanes cells w → HoldsWords lanes cells ws h → HoldsWords lanes cells (stored ws w v) (store p w v ∷ h)
-stored_after lanes cells ws h p Counter v has may holds = absurd may
-stored_after lanes cells ws h p (Head q) v has may holds = (written ws.heads lanes q v (λ j. value_in h (Head j)) has holds.0, holds.1, holds.2)
-stored_after lanes cells ws h p (Link k) v has may holds = (holds.0, written ws.links cells k v (λ j. value_in h (Link j)) has holds.1, holds.2)
-stored_after lanes cells ws h p (Item k) v has may holds = (holds.0, holds.1, written ws.items cells k v (λ j. value_in h (Item j)) has holds.2)
-
--- a store leaves the counter
-stored-counter : (lanes cells : ℕ) (ws : PoolWords) (p : ℕ) (h : History) (w : Word) (v : ℕ) → IsWordOf lanes cells w
-    → ws.counter ≡ adds_on h Counter → (stored ws w v).counter ≡ adds_on (store p w v ∷ h) Counter
-stored-counter lanes cells ws p h Counter v may is = absurd may
-stored-counter lanes cells ws p h (Head q) v may is = is
-stored-counter lanes cells ws p h (Link k) v may is = is
-stored-counter lanes cells ws p h (Item k) v may is = is
-
 -- a store keeps the number of cells
-pub stored-items : (ws : PoolWords) (w : Word) (v : ℕ) → length (stored ws w v).items ≡ length ws.items
-stored-items ws Counter v = refl
-stored-items ws (Head q) v = refl
-stored-items ws (Link k) v = refl
-stored-items ws (Item k) v = length-set ws.items k v
+pub words_with-items : (ws : PoolWords) (w : Word) (v : ℕ) → length (words_with w v ws).items ≡ length ws.items
+words_with-items ws Counter v = refl
+words_with-items ws (Head q) v = refl
+words_with-items ws (Link k) v = refl
+words_with-items ws (Item k) v = length-set ws.items k v
 
 -- and of heads
-pub stored-heads : (ws : PoolWords) (w : Word) (v : ℕ) → length (stored ws w v).heads ≡ length ws.heads
-stored-heads ws Counter v = refl
-stored-heads ws (Head q) v = length-set ws.heads q v
-stored-heads ws (Link k) v = refl
-stored-heads ws (Item k) v = refl
+pub words_with-heads : (ws : PoolWords) (w : Word) (v : ℕ) → length (words_with w v ws).heads ≡ length ws.heads
+words_with-heads ws Counter v = refl
+words_with-heads ws (Head q) v = length-set ws.heads q v
+words_with-heads ws (Link k) v = refl
+words_with-heads ws (Item k) v = refl
 
 -- and of links
-pub stored-links : (ws : PoolWords) (w : Word) (v : ℕ) → length (stored ws w v).links ≡ length ws.links
-stored-links ws Counter v = refl
-stored-links ws (Head q) v = refl
-stored-links ws (Link k) v = length-set ws.links k v
-stored-links ws (Item k) v = refl
+pub words_with-links : (ws : PoolWords) (w : Word) (v : ℕ) → length (words_with w v ws).links ≡ length ws.links
+words_with-links ws Counter v = refl
+words_with-links ws (Head q) v = refl
+words_with-links ws (Link k) v = length-set ws.links k v
+words_with-links ws (Item k) v = refl
 
 -- a store of producer p
-store_after : (h : History) (s : State) (p : ℕ) (w : Word) (v : ℕ) (lane : Lane) → IsAfter h s → p < lane_count s
-    → HasWord s.words w → IsWordOf (lane_count s) (cell_count s) w → v < 2 ^ 64
+store_after : (h : History) (s : PoolState) (p : ℕ) (w : Word) (v : ℕ) (lane : Lane) → IsAfter h s → p < lane_count s
+    → HasWord w s.words → v < 2 ^ 64
     → IsLaneAfter (cell_count s) p lane (store p w v ∷ part (Producer p) h)
-    → IsAfter (store p w v ∷ h) (record { words = stored s.words w v; lanes = slice_set s.lanes p lane })
-store_after h s p w v lane was lt has may fits now =
-    access_after h (store p w v) s p lane (stored s.words w v) was refl lt (stored-items s.words w v) fits tt now
-    (stored-counter (lane_count s) (cell_count s) s.words p h w v may was.counter)
-    (stored_after (lane_count s) (cell_count s) s.words h p w v has may was.words)
+    → IsAfter (store p w v ∷ h) (record { words = words_with w v s.words; lanes = slice_set s.lanes p lane })
+store_after h s p w v lane was lt has fits now =
+    access_after h (store p w v) s p lane (words_with w v s.words) was refl lt
+    (words_with-items s.words w v) fits tt now (words_after (size_of s) s.words h (store p w v) v has refl was.words)
 
 -- a fetch-add of producer p
-fetch_after : (h : History) (s : State) (p x : ℕ) (lane : Lane) → IsAfter h s → p < lane_count s → x < 2 ^ 64 → s.words.counter < 2 ^ 64
-    → IsLaneAfter (cell_count s) p lane (fetch p (record { cell = adds_on h Counter; value = x }) ∷ part (Producer p) h)
-    → IsAfter (fetch p (record { cell = adds_on h Counter; value = x }) ∷ h)
-    (record { words = stored s.words Counter (s.words.counter + 1); lanes = slice_set s.lanes p lane })
+fetch_after : (h : History) (s : PoolState) (p x : ℕ) (lane : Lane) → IsAfter h s → p < lane_count s → x < 2 ^ 64
+    → s.words.counter < 2 ^ 64
+    → IsLaneAfter (cell_count s) p lane
+    (fetch p (record { cell = value_in Counter h; value = x }) ∷ part (Producer p) h)
+    → IsAfter (fetch p (record { cell = value_in Counter h; value = x }) ∷ h)
+    (record { words = words_with Counter (s.words.counter + 1) s.words; lanes = slice_set s.lanes p lane })
 fetch_after h s p x lane was lt fits small now =
-    access_after h (fetch p (record { cell = adds_on h Counter; value = x })) s p lane (stored s.words Counter (s.words.counter + 1)) was refl lt refl
-    (fits, omega (arith, was.counter)) refl now (ap (λ z. z + 1) was.counter) was.words
+    let e : Entry = record { cell = value_in Counter h; value = x } in
+    let found : s.words.counter ≡ value_in Counter h = was.words Counter tt in
+    let more : Some (value_in Counter h + 1) ≡ Some (s.words.counter + 1) = ap (λ n. Some (n + 1)) (sym found) in
+    access_after h (fetch p e) s p lane (words_with Counter (s.words.counter + 1) s.words) was refl lt refl
+    (fits, omega (arith, found)) refl now
+    (words_after (size_of s) s.words h (fetch p e) (s.words.counter + 1) tt more was.words)
 
 -- an offer that makes a fetch-add
-pub offer_made : (s : State) (p x : ℕ) (lane : Lane) → p < lane_count s → lane ≡ slice_index_or s.lanes p lane
-    → refused_offer lane ≡ None → x < 2 ^ 64 → s.words.counter < 2 ^ 64
-    → OfferMeets s p x (offer_given (cell_count s) s.words.counter)
-    (record { words = stored s.words Counter (s.words.counter + 1); lanes = slice_set s.lanes p (lane_offered (cell_count s) x s.words.counter lane) })
+pub offer_made : (s : PoolState) (p x : ℕ) (lane : Lane) → p < lane_count s → lane ≡ slice_index_or s.lanes p lane
+    → offer_refusal lane ≡ None → x < 2 ^ 64 → s.words.counter < 2 ^ 64
+    → OfferMeets s p x (offer_by_found (cell_count s) s.words.counter)
+    (record {
+      words = words_with Counter (s.words.counter + 1) s.words;
+      lanes = slice_set s.lanes p (lane_after_offer (cell_count s) x s.words.counter lane);
+    })
 offer_made s p x lane lt read going fits small h other was at =
     let here = lane_here h s p lane lt was read in
     let same : lane ≡ other = same_lane (cell_count s) p lane other (part (Producer p) h) here at in
-    let goes : refused_offer other ≡ None = sym (ap refused_offer same) ∙ going in
-    let e : Entry = record { cell = adds_on h Counter; value = x } in
+    let goes : offer_refusal other ≡ None = sym (ap offer_refusal same) ∙ going in
+    let e : Entry = record { cell = value_in Counter h; value = x } in
     let next = offered_lane (cell_count s) p lane (part (Producer p) h) e here going in
-    let there = lane_offered (cell_count s) x s.words.counter lane in
+    let there = lane_after_offer (cell_count s) x s.words.counter lane in
     let moved : IsLaneAfter (cell_count s) p there (fetch p e ∷ part (Producer p) h) =
-    subst (λ n. IsLaneAfter (cell_count s) p (lane_offered (cell_count s) x n lane) (fetch p e ∷ part (Producer p) h)) (sym was.counter) next in
-    let now : State = record { words = stored s.words Counter (s.words.counter + 1); lanes = slice_set s.lanes p there } in (
-      ap (offer_given (cell_count s)) was.counter ∙ sym (ap (λ r. unwrap_or r (offer_given (cell_count s) (adds_on h Counter))) goes),
+    subst (λ n. IsLaneAfter (cell_count s) p (lane_after_offer (cell_count s) x n lane)
+    (fetch p e ∷ part (Producer p) h)) (sym (was.words Counter tt)) next in
+    let now : PoolState =
+    record { words = words_with Counter (s.words.counter + 1) s.words; lanes = slice_set s.lanes p there } in (
+      ap (offer_by_found (cell_count s)) (was.words Counter tt)
+          ∙ sym (ap (λ r. unwrap_or r (offer_by_found (cell_count s) (value_in Counter h))) goes),
       subst (λ r. IsAfter (if is_some r then h else (fetch p e ∷ h)) now) (sym goes)
           (fetch_after h s p x there was lt fits small moved),
     )
 
 -- a word of so many lanes and cells is a word of the pool that has them
-pub word_here : (s : State) (w : Word) → IsSound s → IsWordOf (lane_count s) (cell_count s) w → HasWord s.words w
+pub word_here : (s : PoolState) (w : Word) → IsSound s → IsLaneWord (size_of s) w → HasWord w s.words
 word_here s Counter sound within = tt
 word_here s (Head p) sound within = omega (arith, sound.heads)
 word_here s (Link k) sound within = omega (arith, sound.links)
 word_here s (Item k) sound within = within
 
 -- the store of a push fits
-pub push_fits : (s : State) (p : ℕ) (lane : Lane) (st : Word × ℕ) → p < lane_count s → IsSound s
+pub push_fits : (s : PoolState) (p : ℕ) (lane : Lane) (st : Word × ℕ) → p < lane_count s → IsSound s
     → lane ≡ slice_index_or s.lanes p lane → push_store p lane ≡ Some st
-    → IsWordOf (lane_count s) (cell_count s) st.0 × (st.1 < 2 ^ 64)
+    → IsLaneWord (size_of s) st.0 × (st.1 < 2 ^ 64)
 push_fits s p lane st lt sound read is =
     let h = sound.history.0 in
     let was = sound.history.1 in
-    push_within (lane_count s) (cell_count s) h p lane st.0 st.1 was.lawful lt (lane_here h s p lane lt was read) is
+    let here = lane_here h s p lane lt was read in (
+      push_within (size_of s) p lane (part (Producer p) h) st.0 st.1 lt here is,
+      push_value (size_of s) h p lane st.0 st.1 was.lawful here is,
+    )
 
 -- a push that makes a store
-pub push_made : (s : State) (p : ℕ) (lane : Lane) (st : Word × ℕ) → p < lane_count s → IsSound s
+pub push_made : (s : PoolState) (p : ℕ) (lane : Lane) (st : Word × ℕ) → p < lane_count s → IsSound s
     → lane ≡ slice_index_or s.lanes p lane → push_store p lane ≡ Some st
-    → PushMeets s p (push_answer lane) (record { words = stored s.words st.0 st.1; lanes = slice_set s.lanes p (lane_pushed lane) })
+    → PushMeets s p (push_answer lane)
+    (record { words = words_with st.0 st.1 s.words; lanes = slice_set s.lanes p (lane_after_push lane) })
 push_made s p lane st lt sound read is h other was at =
     let here = lane_here h s p lane lt was read in
     let same : lane ≡ other = same_lane (cell_count s) p lane other (part (Producer p) h) here at in
     let goes : push_store p other ≡ Some st = sym (ap (push_store p) same) ∙ is in
     let fits = push_fits s p lane st lt sound read is in
     let moved = pushed_lane (cell_count s) p lane (part (Producer p) h) st here is in
-    let now : State = record { words = stored s.words st.0 st.1; lanes = slice_set s.lanes p (lane_pushed lane) } in (
+    let now : PoolState =
+    record { words = words_with st.0 st.1 s.words; lanes = slice_set s.lanes p (lane_after_push lane) } in (
       ap push_answer same,
       subst (λ z. IsAfter (option_map_or (λ x. store p x.0 x.1 ∷ h) z h) now) (sym goes)
-          (store_after h s p st.0 st.1 (lane_pushed lane) was lt (word_here s st.0 sound fits.0) fits.0 fits.1 moved),
+          (store_after h s p st.0 st.1 (lane_after_push lane) was lt (word_here s st.0 sound fits.0) fits.1 moved),
     )
 
 -- a finish that stores the end mark
-pub finish_made : (s : State) (p : ℕ) (lane : Lane) → p < lane_count s → IsSound s → lane ≡ slice_index_or s.lanes p lane → refused_finish lane ≡ None
-    → FinishMeets s p finish.Ended (record { words = stored s.words (next_link p lane) END; lanes = slice_set s.lanes p (lane_finished lane) })
+pub finish_made : (s : PoolState) (p : ℕ) (lane : Lane) → p < lane_count s → IsSound s
+    → lane ≡ slice_index_or s.lanes p lane → finish_refusal lane ≡ None
+    → FinishMeets s p finish.Ended
+    (record { words = words_with (next_link p lane) END s.words; lanes = slice_set s.lanes p (lane_after_finish lane) })
 finish_made s p lane lt sound read going h other was at =
     let here = lane_here h s p lane lt was read in
     let same : lane ≡ other = same_lane (cell_count s) p lane other (part (Producer p) h) here at in
-    let goes : refused_finish other ≡ None = sym (ap refused_finish same) ∙ going in
-    let link = link_within (lane_count s) (cell_count s) p lane (part (Producer p) h) lt here in
-    let now : State = record { words = stored s.words (next_link p lane) END; lanes = slice_set s.lanes p (lane_finished lane) } in
+    let goes : finish_refusal other ≡ None = sym (ap finish_refusal same) ∙ going in
+    let link = link_within (size_of s) p lane (part (Producer p) h) lt here in
+    let now : PoolState =
+    record {
+      words = words_with (next_link p lane) END s.words;
+      lanes = slice_set s.lanes p (lane_after_finish lane);
+    } in
     let after : IsAfter (store p (next_link p lane) END ∷ h) now =
-    store_after h s p (next_link p lane) END (lane_finished lane) was lt
-    (word_here s (next_link p lane) sound link) link (omega arith)
+    store_after h s p (next_link p lane) END (lane_after_finish lane) was lt
+    (word_here s (next_link p lane) sound link) (omega arith)
     (finished_lane (cell_count s) p lane (part (Producer p) h) here going) in (
       sym (ap (λ r. unwrap_or r finish.Ended) goes),
       subst (λ r. IsAfter (if is_some r then h else (store p (next_link p other) END ∷ h)) now) (sym goes)
@@ -207,34 +234,43 @@ finish_made s p lane lt sound read going h other was at =
     )
 
 -- a cursor within the pool is at one of its words
-pub cursor_word : (s : State) (at : Cursor) → IsSound s → IsWithin s at → HasWord s.words (word_of at)
+pub cursor_word : (s : PoolState) (at : Cursor) → IsSound s → IsWithin at s → HasWord (word_of at) s.words
 cursor_word s (cursor.Head p) sound within = omega (arith, sound.heads)
 cursor_word s (cursor.Past k) sound within = omega (arith, sound.links)
 
 -- what a head or link leads to is a cell of the pool
-pub link_bound : (s : State) (at : Cursor) (v : ℕ) → IsSound s → IsWithin s at → word_in s.words (word_of at) ≡ v → v ≢ 0 → v ≢ END → v - 1 < cell_count s
+pub link_bound : (s : PoolState) (at : Cursor) (v : ℕ) → IsSound s → IsWithin at s → word_in (word_of at) s.words ≡ v
+    → v ≢ 0 → v ≢ END → v - 1 < cell_count s
 link_bound s at v sound within is some no_end =
     let h = sound.history.0 in
     let was = sound.history.1 in
     let back : (v - 1) + 1 ≡ v = omega arith in
-    let told : value_in h (word_of at) ≡ (v - 1) + 1 = sym (word_told h s at sound was within) ∙ is ∙ sym back in
-    let cell = leads_to (lane_count s) (cell_count s) h (word_of at) (v - 1) was.lawful (link_cursor at) told (λ e. no_end (sym back ∙ e)) in
-    let low = cell_within (lane_count s) (cell_count s) h cell.0 (v - 1) was.lawful cell.1 in
+    let told : value_in (word_of at) h ≡ (v - 1) + 1 = sym (word_told h s at sound was within) ∙ is ∙ sym back in
+    let cell = leads_to (size_of s) h (word_of at) (v - 1) was.lawful (link_cursor at) told
+    (λ e. no_end (sym back ∙ e)) in
+    let low = cell_within (size_of s) h cell.0 (v - 1) was.lawful cell.1 in
     low.1
   where
     link_cursor : (at : Cursor) → IsLinkWord (word_of at)
     link_cursor (cursor.Head p) = tt
     link_cursor (cursor.Past k) = tt
 
-    word_told : (h : History) (s : State) (at : Cursor) → IsSound s → IsAfter h s → IsWithin s at → word_in s.words (word_of at) ≡ value_in h (word_of at)
-    word_told h s (cursor.Head p) sound was within = was.words.0 p within
-    word_told h s (cursor.Past k) sound was within = was.words.1 k within
+    word_told : (h : History) (s : PoolState) (at : Cursor) → IsSound s → IsAfter h s → IsWithin at s
+        → word_in (word_of at) s.words ≡ value_in (word_of at) h
+    word_told h s (cursor.Head p) sound was within = was.words (Head p) within
+    word_told h s (cursor.Past k) sound was within = was.words (Link k) within
 
 -- the counter of a pool is far below 2^64
-pub counter_small : (s : State) → IsSound s → s.words.counter < 2 ^ 33
+pub counter_small : (s : PoolState) → IsSound s → s.words.counter < 2 ^ 33
 counter_small s sound =
     let was = sound.history.1 in
-    omega (arith, was.counter, counter_bound (lane_count s) (cell_count s) sound.history.0 was.lawful, sound.lanes, sound.cells)
+    omega (
+      arith,
+      (was.words Counter tt),
+      counter_bound (size_of s) sound.history.0 was.lawful,
+      sound.lanes,
+      sound.cells,
+    )
 
 -- a new pool is what the empty history leaves
 pub empty_after : (n m : ℕ) (heads links items : List ℕ) (lanes : List Lane) → n < 2 ^ 32 → m < 2 ^ 32
@@ -244,17 +280,26 @@ empty_after n m heads links items lanes few small hs ks is ls =
     let len : length lanes ≡ n = ap length ls ∙ length-replicate n new_lane in
     let wide : length items ≡ m = ap length is ∙ length-replicate m 0 in
     record {
-      lawful = empty_lawful (length lanes) (length items) (omega arith);
-      counter = refl;
-      words = (
-        λ p b. ap (λ z. slice_index z p) hs ∙ get_or-replicate n p 0 0 (omega arith),
-        λ k b. ap (λ z. slice_index z k) ks ∙ get_or-replicate m k 0 0 (omega arith),
-        λ k b. ap (λ z. slice_index z k) is ∙ get_or-replicate m k 0 0 (omega arith),
-      );
+      lawful = empty_lawful (pool_size (length lanes) (length items)) (omega arith);
+      words = λ w. holds_nothing w;
       lanes = λ p d b.
-          let read : slice_index_or lanes p d ≡ new_lane = ap (λ z. slice_index_or z p d) ls ∙ get_or-replicate n p new_lane d (omega arith) in
+          let read : slice_index_or lanes p d ≡ new_lane =
+          ap (λ z. slice_index_or z p d) ls ∙ get_or-replicate n p new_lane d (omega arith) in
           subst (λ l. IsLaneAfter (length items) p l []) (sym read) (start_lane (length items) p);
     }
+  where
+    holds_nothing : (w : Word) → IsPoolWord (pool_size (length lanes) (length items)) w
+        → word_in w (record { counter = 0; heads = heads; links = links; items = items }) ≡ 0
+    holds_nothing Counter b = refl
+    holds_nothing (Head p) b =
+        let len : length lanes ≡ n = ap length ls ∙ length-replicate n new_lane in
+        ap (λ z. slice_index z p) hs ∙ get_or-replicate n p 0 0 (omega (arith, b, len))
+    holds_nothing (Link k) b =
+        let wide : length items ≡ m = ap length is ∙ length-replicate m 0 in
+        ap (λ z. slice_index z k) ks ∙ get_or-replicate m k 0 0 (omega (arith, b, wide))
+    holds_nothing (Item k) b =
+        let wide : length items ≡ m = ap length is ∙ length-replicate m 0 in
+        ap (λ z. slice_index z k) is ∙ get_or-replicate m k 0 0 (omega (arith, b, wide))
 
 -- a new pool is sound
 pub empty_sound : (n m : ℕ) (heads links items : List ℕ) (lanes : List Lane) → n < 2 ^ 32 → m < 2 ^ 32
@@ -272,15 +317,15 @@ empty_sound n m heads links items lanes few small hs ks is ls =
     }
 
 -- a pool is sound after a store and a new place of one lane, where some history leaves it
-pub sound_after : (s : State) (w : Word) (v p : ℕ) (lane : Lane) → IsSound s
-    → (h : History) × IsAfter h (record { words = stored s.words w v; lanes = slice_set s.lanes p lane })
-    → IsSound (record { words = stored s.words w v; lanes = slice_set s.lanes p lane })
+pub sound_after : (s : PoolState) (w : Word) (v p : ℕ) (lane : Lane) → IsSound s
+    → (h : History) × IsAfter h (record { words = words_with w v s.words; lanes = slice_set s.lanes p lane })
+    → IsSound (record { words = words_with w v s.words; lanes = slice_set s.lanes p lane })
 sound_after s w v p lane sound history =
     let n : length (slice_set s.lanes p lane) ≡ lane_count s = length-set s.lanes p lane in
     record {
-      heads = stored-heads s.words w v ∙ sound.heads ∙ sym n;
-      links = stored-links s.words w v ∙ sound.links ∙ sym (stored-items s.words w v);
+      heads = words_with-heads s.words w v ∙ sound.heads ∙ sym n;
+      links = words_with-links s.words w v ∙ sound.links ∙ sym (words_with-items s.words w v);
       lanes = omega (arith, sound.lanes);
-      cells = omega (arith, stored-items s.words w v, sound.cells);
+      cells = omega (arith, words_with-items s.words w v, sound.cells);
       history = history;
     }

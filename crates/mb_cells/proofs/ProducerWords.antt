@@ -1,15 +1,9 @@
 -- What a producer leaves in its words.
-use Rattle.std.proofs.Common.{◌≡◌, ℕ, ◌+◌, ◌<◌, ◌⊎◌, false, List, [], ◌∷◌, Some, None, refl, sym, ◌∙◌, subst, inl, inr, arith, eq-eqb, ne_eqb}
-use Rattle.mb_cells.specs.LanePath.{AllCellsBelow, Entry, fetch, groups, place_after}
-use Rattle.mb_cells.specs.Memory.{Has, History, is_same_word, value_in}
-use Rattle.mb_cells.specs.Place.{Ended, Full, Offered, Open, Phase, Stored, done_at}
-use Rattle.mb_cells.specs.declared.access.Access.{Access}
-use Rattle.mb_cells.specs.declared.access.Act.TheVariants.{Store}
-use Rattle.mb_cells.specs.declared.access.TheConstants.{END}
-use Rattle.mb_cells.specs.declared.access.Word.{Word}
-use Rattle.mb_cells.specs.declared.access.Word.TheVariants.{Counter, Head, Item, Link}
+use Rattle.std.proofs.Common.{List, None, Some, [], arith, eq-eqb, false, inl, inr, ne_eqb, refl, subst, sym, ℕ, ◌+◌, ◌<◌, ◌∙◌, ◌∷◌, ◌≡◌, ◌⊎◌}
+use Rattle.mb_cells.specs.{AllCellsBelow, Counter, END, Entry, Has, Head, History, Item, Link, Phase, PoolAccess, Store, Word, fetch, groups, is_same_word, part_at, place_after, value_in}
+use Rattle.mb_cells.specs.Place.{Ended, Full, Offered, Open, Stored}
+use Rattle.mb_cells.proofs.Counter.{AreRising}
 use Rattle.mb_cells.proofs.Names.{is_same_word-refl}
-use Rattle.mb_cells.proofs.Parts.{AreRising}
 
 -- the cells fall from the newest to the oldest
 abbrev pub AreFalling : List Entry → Type 0
@@ -17,14 +11,17 @@ AreFalling [] = Unit {0}
 AreFalling (e ∷ es) = AllCellsBelow e.cell es × AreFalling es
 
 -- where all fetch-adds gave less than n, all cells are below n
-has_fetch : (p n : ℕ) (es : List Entry) → ((f : Entry) → Has (groups p es) (fetch p f) → f.cell < n) → AllCellsBelow n es
+has_fetch : (p n : ℕ) (es : List Entry) → ((f : Entry) → Has (groups p es) (fetch p f) → f.cell < n)
+    → AllCellsBelow n es
 has_fetch p n [] h = tt
 has_fetch p n (e ∷ es) h = (h e (inr (inr (inl refl))), has_fetch p n es (λ f m. h f (inr (inr (inr m)))))
 
 -- where the numbers rise, the cells of the groups fall
 falling : (p : ℕ) (es : List Entry) → AreRising (groups p es) → AreFalling es
 falling p [] r = tt
-falling p (e ∷ es) r = (has_fetch p e.cell es (λ f m. r.1.1.0 p p e f refl m), falling p es r.1.1.1)
+falling p (e ∷ es) r =
+    let fetches : AreRising (fetch p e ∷ groups p es) = r.1.1 in
+    (has_fetch p e.cell es (λ f m. fetches.0 p p e f refl m), falling p es fetches.1)
 
 -- the entry of the phase stands above all entries
 abbrev pub IsAbove : List Entry → Phase → Type 0
@@ -39,7 +36,7 @@ abbrev pub IsFallingAt : List Entry → Phase → Type 0
 IsFallingAt es phase = AreFalling es × IsAbove es phase
 
 -- where the numbers rise, the cells fall at each place
-pub falling_at : (p : ℕ) (es : List Entry) (phase : Phase) → AreRising (done_at p es phase) → IsFallingAt es phase
+pub falling_at : (p : ℕ) (es : List Entry) (phase : Phase) → AreRising (part_at p es phase) → IsFallingAt es phase
 falling_at p es Open r = (falling p es r, tt)
 falling_at p es (Offered e) r = (falling p es r.1, has_fetch p e.cell es (λ f m. r.0 p p e f refl m))
 falling_at p es (Stored e) r = (falling p es r.1.1, has_fetch p e.cell es (λ f m. r.1.0 p p e f refl m))
@@ -58,10 +55,15 @@ IsChained m p [] = Unit {0}
 IsChained m p (e ∷ es) = (m (place_after p es) ≡ e.cell + 1) × (m (Item e.cell) ≡ e.value) × IsChained m p es
 
 -- a chain holds in each memory that agrees on its words
-pub chained-agree : (m n : Word → ℕ) (p : ℕ) (es : List Entry) → ((w : Word) → IsInChain p es w → n w ≡ m w) → IsChained m p es → IsChained n p es
+pub chained-agree : (m n : Word → ℕ) (p : ℕ) (es : List Entry) → ((w : Word) → IsInChain p es w → n w ≡ m w)
+    → IsChained m p es → IsChained n p es
 chained-agree m n p [] same h = tt
-chained-agree m n p (e ∷ es) same h =
-    (same (place_after p es) (inl refl) ∙ h.0, same (Item e.cell) (inr (inl refl)) ∙ h.1, chained-agree m n p es (λ w i. same w (inr (inr i))) h.2)
+chained-agree m n p (e ∷ es) same h = (
+  same (place_after p es) (inl refl) ∙ h.0,
+  same (Item e.cell) (inr (inl refl))
+      ∙ h.1,
+  chained-agree m n p es (λ w i. same w (inr (inr i))) h.2,
+)
 
 -- a greater link is another word
 below-ne : (n k : ℕ) → k < n → is_same_word (Link n) (Link k) ≡ false
@@ -82,13 +84,16 @@ apart-place p n (e ∷ es) b = record { counter = refl; item = refl; link = belo
 apart : (p n : ℕ) (es : List Entry) (w : Word) → AllCellsBelow n es → IsInChain p es w → IsApart n w
 apart p n [] w b i = absurd i
 apart p n (e ∷ es) w b (inl is) = subst (IsApart n) (sym is) (apart-place p n es b.1)
-apart p n (e ∷ es) w b (inr (inl is)) = subst (IsApart n) (sym is) (record { counter = refl; item = below-ne n e.cell b.0; link = refl })
+apart p n (e ∷ es) w b (inr (inl is)) =
+    subst (IsApart n) (sym is) (record { counter = refl; item = below-ne n e.cell b.0; link = refl })
 apart p n (e ∷ es) w b (inr (inr i)) = apart p n es w b.1 i
 
 -- the place behind the last cell is no word of the chain
-apart-next : (p : ℕ) (es : List Entry) (w : Word) → AreFalling es → IsInChain p es w → is_same_word (place_after p es) w ≡ false
+apart-next : (p : ℕ) (es : List Entry) (w : Word) → AreFalling es → IsInChain p es w
+    → is_same_word (place_after p es) w ≡ false
 apart-next p [] w f i = absurd i
-apart-next p (e ∷ es) w f (inl is) = subst (λ x. is_same_word (Link e.cell) x ≡ false) (sym is) (apart-place p e.cell es f.0).link
+apart-next p (e ∷ es) w f (inl is) =
+    subst (λ x. is_same_word (Link e.cell) x ≡ false) (sym is) (apart-place p e.cell es f.0).link
 apart-next p (e ∷ es) w f (inr (inl is)) = subst (λ x. is_same_word (Link e.cell) x ≡ false) (sym is) refl
 apart-next p (e ∷ es) w f (inr (inr i)) = (apart p e.cell es w f.0 i).link
 
@@ -103,18 +108,18 @@ item-place p k [] = refl
 item-place p k (e ∷ es) = refl
 
 -- groups leave a chain
-groups-chained : (p : ℕ) (es : List Entry) → AreFalling es → IsChained (value_in (groups p es)) p es
+groups-chained : (p : ℕ) (es : List Entry) → AreFalling es → IsChained (λ w. value_in w (groups p es)) p es
 groups-chained p [] f = tt
 groups-chained p (e ∷ es) f = (
   rw (is_same_word-refl (place_after p es)),
   rw (place-item p e.cell es, eq-eqb e.cell e.cell refl),
-  chained-agree (value_in (groups p es)) (value_in (groups p (e ∷ es))) p es
+  chained-agree (λ w. value_in w (groups p es)) (λ w. value_in w (groups p (e ∷ es))) p es
       (λ w i. let a = apart p e.cell es w f.0 i in rw (apart-next p es w f.1 i, a.item, a.counter))
       (groups-chained p es f.1),
 )
 
 -- nothing is in the link of a greater cell yet
-groups-fresh : (p n : ℕ) (es : List Entry) → AllCellsBelow n es → value_in (groups p es) (Link n) ≡ 0
+groups-fresh : (p n : ℕ) (es : List Entry) → AllCellsBelow n es → value_in (Link n) (groups p es) ≡ 0
 groups-fresh p n [] b = refl
 groups-fresh p n (e ∷ []) b = refl
 groups-fresh p n (e ∷ d ∷ es) b =
@@ -122,11 +127,12 @@ groups-fresh p n (e ∷ d ∷ es) b =
     rw ne (groups-fresh p n (d ∷ es) b.1)
 
 -- nothing is in the next link of whole groups
-groups-next : (p : ℕ) (es : List Entry) → AreFalling es → value_in (groups p es) (place_after p es) ≡ 0
+groups-next : (p : ℕ) (es : List Entry) → AreFalling es → value_in (place_after p es) (groups p es) ≡ 0
 groups-next p [] f = refl
 groups-next p (e ∷ []) f = refl
 groups-next p (e ∷ d ∷ es) f =
-    let ne : is_same_word (Link d.cell) (Link e.cell) ≡ false = ne_eqb d.cell e.cell (λ x. absurd (omega (arith, f.0.0))) in
+    let ne : is_same_word (Link d.cell) (Link e.cell) ≡ false =
+    ne_eqb d.cell e.cell (λ x. absurd (omega (arith, f.0.0))) in
     rw ne (groups-fresh p e.cell (d ∷ es) f.0)
 
 -- what the word after the last cell holds
@@ -143,21 +149,23 @@ counter-place p [] = refl
 counter-place p (e ∷ es) = refl
 
 -- what was done leaves a chain, at each place
-pub chained_at : (p : ℕ) (es : List Entry) (phase : Phase) → IsFallingAt es phase → IsChained (value_in (done_at p es phase)) p es
+pub chained_at : (p : ℕ) (es : List Entry) (phase : Phase) → IsFallingAt es phase
+    → IsChained (λ w. value_in w (part_at p es phase)) p es
 chained_at p es Open f = groups-chained p es f.0
 chained_at p es (Offered e) f =
-    chained-agree (value_in (groups p es)) (value_in (done_at p es (Offered e))) p es
+    chained-agree (λ w. value_in w (groups p es)) (λ w. value_in w (part_at p es (Offered e))) p es
     (λ w i. let a = apart p e.cell es w f.1 i in rw a.counter) (groups-chained p es f.0)
 chained_at p es (Stored e) f =
-    chained-agree (value_in (groups p es)) (value_in (done_at p es (Stored e))) p es
+    chained-agree (λ w. value_in w (groups p es)) (λ w. value_in w (part_at p es (Stored e))) p es
     (λ w i. let a = apart p e.cell es w f.1 i in rw (a.item, a.counter)) (groups-chained p es f.0)
 chained_at p es (Full e) f =
-    chained-agree (value_in (groups p es)) (value_in (done_at p es (Full e))) p es
+    chained-agree (λ w. value_in w (groups p es)) (λ w. value_in w (part_at p es (Full e))) p es
     (λ w i. let a = apart p e.cell es w f.1 i in rw a.counter) (groups-chained p es f.0)
 chained_at p es (Ended None) f =
-    chained-agree (value_in (groups p es)) (value_in (done_at p es (Ended None))) p es (λ w i. rw (apart-next p es w f.0 i)) (groups-chained p es f.0)
+    chained-agree (λ w. value_in w (groups p es)) (λ w. value_in w (part_at p es (Ended None))) p es
+    (λ w i. rw (apart-next p es w f.0 i)) (groups-chained p es f.0)
 chained_at p es (Ended (Some e)) f =
-    chained-agree (value_in (groups p es)) (value_in (done_at p es (Ended (Some e)))) p es
+    chained-agree (λ w. value_in w (groups p es)) (λ w. value_in w (part_at p es (Ended (Some e)))) p es
     (λ w i. let n = apart-next p es w f.0 i in let c = in_chain-counter p es w i in rw (n, c))
     (groups-chained p es f.0)
   where
@@ -168,7 +176,8 @@ chained_at p es (Ended (Some e)) f =
     in_chain-counter p (e ∷ es) w (inr (inr i)) = in_chain-counter p es w i
 
 -- and in the word behind it 0 or the end mark
-pub next_at : (p : ℕ) (es : List Entry) (phase : Phase) → AreFalling es → value_in (done_at p es phase) (place_after p es) ≡ end_value phase
+pub next_at : (p : ℕ) (es : List Entry) (phase : Phase) → AreFalling es
+    → value_in (place_after p es) (part_at p es phase) ≡ end_value phase
 next_at p es Open f = groups-next p es f
 next_at p es (Offered e) f = rw (counter-place p es) (groups-next p es f)
 next_at p es (Stored e) f = rw (item-place p e.cell es, counter-place p es) (groups-next p es f)
@@ -183,7 +192,8 @@ IsOwned q h (Link k) = (e : Entry) × ((e.cell ≡ k) × Has h (fetch q e))
 IsOwned q h (Item k) = (e : Entry) × ((e.cell ≡ k) × Has h (fetch q e))
 
 -- what a producer owns it owns in a longer history
-pub owned-more : (q : ℕ) (h k : History) (w : Word) → ((a : Access) → Has h a → Has k a) → IsOwned q h w → IsOwned q k w
+pub owned-more : (q : ℕ) (h k : History) (w : Word) → ((a : PoolAccess) → Has h a → Has k a) → IsOwned q h w
+    → IsOwned q k w
 owned-more q h k Counter more o = o
 owned-more q h k (Head p) more o = o
 owned-more q h k (Link c) more o = (o.0, (o.1.0, more (fetch q o.0) o.1.1))
@@ -195,7 +205,8 @@ owned-place q [] = refl
 owned-place q (e ∷ es) = (e, (refl, inr (inr (inl refl))))
 
 -- groups store to owned words
-pub groups-owned : (q : ℕ) (es : List Entry) (a : Access) (v : ℕ) → Has (groups q es) a → a.act ≡ Store v → IsOwned q (groups q es) a.word
+pub groups-owned : (q : ℕ) (es : List Entry) (a : PoolAccess) (v : ℕ) → Has (groups q es) a → a.act ≡ Store v
+    → IsOwned q (groups q es) a.word
 groups-owned q [] a v has is = absurd has
 groups-owned q (e ∷ es) a v (inl at) is =
     subst (λ x. IsOwned q (groups q (e ∷ es)) x.word) at
@@ -207,31 +218,43 @@ groups-owned q (e ∷ es) a v (inr (inr (inr has))) is =
     owned-more q (groups q es) (groups q (e ∷ es)) a.word (λ b m. inr (inr (inr m))) (groups-owned q es a v has is)
 
 -- a producer owns the word behind its last cell
-pub owned_next : (q : ℕ) (es : List Entry) (phase : Phase) → IsOwned q (done_at q es phase) (place_after q es)
+pub owned_next : (q : ℕ) (es : List Entry) (phase : Phase) → IsOwned q (part_at q es phase) (place_after q es)
 owned_next q es Open = owned-place q es
-owned_next q es (Offered e) = owned-more q (groups q es) (done_at q es (Offered e)) (place_after q es) (λ b m. inr m) (owned-place q es)
-owned_next q es (Stored e) = owned-more q (groups q es) (done_at q es (Stored e)) (place_after q es) (λ b m. inr (inr m)) (owned-place q es)
-owned_next q es (Full e) = owned-more q (groups q es) (done_at q es (Full e)) (place_after q es) (λ b m. inr m) (owned-place q es)
-owned_next q es (Ended None) = owned-more q (groups q es) (done_at q es (Ended None)) (place_after q es) (λ b m. inr m) (owned-place q es)
-owned_next q es (Ended (Some e)) = owned-more q (groups q es) (done_at q es (Ended (Some e))) (place_after q es) (λ b m. inr (inr m)) (owned-place q es)
+owned_next q es (Offered e) = owned-more q (groups q es) (part_at q es (Offered e)) (place_after q es) (λ b m. inr m)
+    (owned-place q es)
+owned_next q es (Stored e) = owned-more q (groups q es) (part_at q es (Stored e)) (place_after q es)
+    (λ b m. inr (inr m)) (owned-place q es)
+owned_next q es (Full e) = owned-more q (groups q es) (part_at q es (Full e)) (place_after q es) (λ b m. inr m)
+    (owned-place q es)
+owned_next q es (Ended None) =
+    owned-more q (groups q es) (part_at q es (Ended None)) (place_after q es) (λ b m. inr m) (owned-place q es)
+owned_next q es (Ended (Some e)) =
+    owned-more q (groups q es) (part_at q es (Ended (Some e))) (place_after q es) (λ b m. inr (inr m))
+    (owned-place q es)
 
 -- a producer stores to owned words
-pub stores_owned : (q : ℕ) (es : List Entry) (phase : Phase) (a : Access) (v : ℕ) → Has (done_at q es phase) a
-    → a.act ≡ Store v → IsOwned q (done_at q es phase) a.word
+pub stores_owned : (q : ℕ) (es : List Entry) (phase : Phase) (a : PoolAccess) (v : ℕ) → Has (part_at q es phase) a
+    → a.act ≡ Store v → IsOwned q (part_at q es phase) a.word
 stores_owned q es Open a v has is = groups-owned q es a v has is
 stores_owned q es (Offered e) a v (inl at) is = absurd (cc)
-stores_owned q es (Offered e) a v (inr has) is = owned-more q (groups q es) (done_at q es (Offered e)) a.word (λ b m. inr m) (groups-owned q es a v has is)
-stores_owned q es (Stored e) a v (inl at) is = subst (λ x. IsOwned q (done_at q es (Stored e)) x.word) at (e, (refl, inr (inl refl)))
+stores_owned q es (Offered e) a v (inr has) is =
+    owned-more q (groups q es) (part_at q es (Offered e)) a.word (λ b m. inr m) (groups-owned q es a v has is)
+stores_owned q es (Stored e) a v (inl at) is =
+    subst (λ x. IsOwned q (part_at q es (Stored e)) x.word) at (e, (refl, inr (inl refl)))
 stores_owned q es (Stored e) a v (inr (inl at)) is = absurd (cc)
 stores_owned q es (Stored e) a v (inr (inr has)) is =
-    owned-more q (groups q es) (done_at q es (Stored e)) a.word (λ b m. inr (inr m)) (groups-owned q es a v has is)
+    owned-more q (groups q es) (part_at q es (Stored e)) a.word (λ b m. inr (inr m)) (groups-owned q es a v has is)
 stores_owned q es (Full e) a v (inl at) is = absurd (cc)
-stores_owned q es (Full e) a v (inr has) is = owned-more q (groups q es) (done_at q es (Full e)) a.word (λ b m. inr m) (groups-owned q es a v has is)
-stores_owned q es (Ended r) a v (inl at) is = subst (λ x. IsOwned q (done_at q es (Ended r)) x.word) at (owned_next q es (Ended r))
-stores_owned q es (Ended None) a v (inr has) is = owned-more q (groups q es) (done_at q es (Ended None)) a.word (λ b m. inr m) (groups-owned q es a v has is)
+stores_owned q es (Full e) a v (inr has) is =
+    owned-more q (groups q es) (part_at q es (Full e)) a.word (λ b m. inr m) (groups-owned q es a v has is)
+stores_owned q es (Ended r) a v (inl at) is =
+    subst (λ x. IsOwned q (part_at q es (Ended r)) x.word) at (owned_next q es (Ended r))
+stores_owned q es (Ended None) a v (inr has) is =
+    owned-more q (groups q es) (part_at q es (Ended None)) a.word (λ b m. inr m) (groups-owned q es a v has is)
 stores_owned q es (Ended (Some e)) a v (inr (inl at)) is = absurd (cc)
 stores_owned q es (Ended (Some e)) a v (inr (inr has)) is =
-    owned-more q (groups q es) (done_at q es (Ended (Some e))) a.word (λ b m. inr (inr m)) (groups-owned q es a v has is)
+    owned-more q (groups q es) (part_at q es (Ended (Some e))) a.word (λ b m. inr (inr m))
+    (groups-owned q es a v has is)
 
 -- the words of the chain of groups are owned
 chain_owned-groups : (p : ℕ) (es : List Entry) (w : Word) → IsInChain p es w → IsOwned p (groups p es) w
@@ -239,11 +262,14 @@ chain_owned-groups p [] w i = absurd i
 chain_owned-groups p (e ∷ es) w (inl is) =
     subst (IsOwned p (groups p (e ∷ es))) (sym is)
     (owned-more p (groups p es) (groups p (e ∷ es)) (place_after p es) (λ b m. inr (inr (inr m))) (owned-place p es))
-chain_owned-groups p (e ∷ es) w (inr (inl is)) = subst (IsOwned p (groups p (e ∷ es))) (sym is) (e, (refl, inr (inr (inl refl))))
-chain_owned-groups p (e ∷ es) w (inr (inr i)) = owned-more p (groups p es) (groups p (e ∷ es)) w (λ b m. inr (inr (inr m))) (chain_owned-groups p es w i)
+chain_owned-groups p (e ∷ es) w (inr (inl is)) =
+    subst (IsOwned p (groups p (e ∷ es))) (sym is) (e, (refl, inr (inr (inl refl))))
+chain_owned-groups p (e ∷ es) w (inr (inr i)) =
+    owned-more p (groups p es) (groups p (e ∷ es)) w (λ b m. inr (inr (inr m))) (chain_owned-groups p es w i)
 
 -- the groups are a part of all that was done
-pub groups_in : (p : ℕ) (es : List Entry) (phase : Phase) (a : Access) → Has (groups p es) a → Has (done_at p es phase) a
+pub groups_in : (p : ℕ) (es : List Entry) (phase : Phase) (a : PoolAccess) → Has (groups p es) a
+    → Has (part_at p es phase) a
 groups_in p es Open a m = m
 groups_in p es (Offered e) a m = inr m
 groups_in p es (Stored e) a m = inr (inr m)
@@ -252,5 +278,7 @@ groups_in p es (Ended None) a m = inr m
 groups_in p es (Ended (Some e)) a m = inr (inr m)
 
 -- the words of the chain are owned at each place
-pub chain_owned : (p : ℕ) (es : List Entry) (phase : Phase) (w : Word) → IsInChain p es w → IsOwned p (done_at p es phase) w
-chain_owned p es phase w i = owned-more p (groups p es) (done_at p es phase) w (groups_in p es phase) (chain_owned-groups p es w i)
+pub chain_owned : (p : ℕ) (es : List Entry) (phase : Phase) (w : Word) → IsInChain p es w
+    → IsOwned p (part_at p es phase) w
+chain_owned p es phase w i = owned-more p (groups p es) (part_at p es phase) w (groups_in p es phase)
+    (chain_owned-groups p es w i)

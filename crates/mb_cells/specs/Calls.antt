@@ -1,50 +1,50 @@
 -- What each call of a pool does, for every history that leaves the old state.
-use Rattle.std.specs.Prelude.{◌≡◌, ℕ, ◌∷◌, IsSome}
-use Rattle.mb_cells.specs.Memory.{History, adds_on, part, value_in}
-use Rattle.mb_cells.specs.Met.{load}
+use Rattle.std.specs.Prelude.{IsSome, ℕ, ◌∷◌, ◌≡◌}
+use Rattle.mb_cells.specs.Types.{Counter, Finish, Lane, Offer, Producer, Push, Reader, Word}
+use Rattle.mb_cells.specs.Memory.{History, part, value_in}
 use Rattle.mb_cells.specs.ReaderPath.{MayRead}
-use Rattle.mb_cells.specs.Standing.{IsLaneAfter, after_finish, after_offer, after_push, finish_answer, offer_answer, push_answer, refused_finish, refused_offer}
-use Rattle.mb_cells.specs.State.{IsAfter, State, cell_count, lane_count}
-use Rattle.mb_cells.specs.declared.access.Process.TheVariants.{Producer, Reader}
-use Rattle.mb_cells.specs.declared.access.Word.{Word}
-use Rattle.mb_cells.specs.declared.access.Word.TheVariants.{Counter}
-use Rattle.mb_cells.specs.declared.answer.Finish.{Finish}
-use Rattle.mb_cells.specs.declared.answer.Offer.{Offer}
-use Rattle.mb_cells.specs.declared.answer.Push.{Push}
-use Rattle.mb_cells.specs.declared.lane.Lane.{Lane}
+use Rattle.mb_cells.specs.Met.{load}
+use Rattle.mb_cells.specs.Standing.{IsLaneAfter, finish_answer, finish_refusal, history_after_finish, history_after_offer, history_after_push, offer_answer, offer_refusal, push_answer}
+use Rattle.mb_cells.specs.State.{IsAfter, PoolState, cell_count, lane_count}
 
 -- an offer of x, by the place of producer p: the answer, and the history that leaves the new state
-abbrev pub OfferMeets : State → ℕ → ℕ → Offer → State → Type 0
+abbrev pub OfferMeets : PoolState → ℕ → ℕ → Offer → PoolState → Type 0
 OfferMeets old p x answer new =
-    (h : History) (lane : Lane) → IsAfter h old → IsLaneAfter (cell_count old) p lane (part (Producer p) h) →
-    (answer ≡ offer_answer (cell_count old) (adds_on h Counter) lane) × IsAfter (after_offer p x lane h) new
+    (h : History) (lane : Lane) → IsAfter h old
+    → IsLaneAfter (cell_count old) p lane (part (Producer p) h)
+    → (answer ≡ offer_answer (cell_count old) (value_in Counter h) lane)
+    × IsAfter (history_after_offer p x (value_in Counter h) lane h) new
 
 -- a push, by the place of producer p
-abbrev pub PushMeets : State → ℕ → Push → State → Type 0
+abbrev pub PushMeets : PoolState → ℕ → Push → PoolState → Type 0
 PushMeets old p answer new =
-    (h : History) (lane : Lane) → IsAfter h old → IsLaneAfter (cell_count old) p lane (part (Producer p) h) →
-    (answer ≡ push_answer lane) × IsAfter (after_push p lane h) new
+    (h : History) (lane : Lane) → IsAfter h old
+    → IsLaneAfter (cell_count old) p lane (part (Producer p) h)
+    → (answer ≡ push_answer lane) × IsAfter (history_after_push p lane h) new
 
 -- a finish, by the place of producer p
-abbrev pub FinishMeets : State → ℕ → Finish → State → Type 0
+abbrev pub FinishMeets : PoolState → ℕ → Finish → PoolState → Type 0
 FinishMeets old p answer new =
-    (h : History) (lane : Lane) → IsAfter h old → IsLaneAfter (cell_count old) p lane (part (Producer p) h) →
-    (answer ≡ finish_answer lane) × IsAfter (after_finish p lane h) new
+    (h : History) (lane : Lane) → IsAfter h old
+    → IsLaneAfter (cell_count old) p lane (part (Producer p) h)
+    → (answer ≡ finish_answer lane) × IsAfter (history_after_finish p lane h) new
 
 -- a call that is refused by the place of producer p, without an access, changes nothing
-abbrev pub OfferKeeps : State → ℕ → State → Type 0
+abbrev pub OfferKeeps : PoolState → ℕ → PoolState → Type 0
 OfferKeeps old p new =
-    (h : History) (lane : Lane) → IsAfter h old → IsLaneAfter (cell_count old) p lane (part (Producer p) h) →
-    IsSome (refused_offer lane) → new ≡ old
+    (h : History) (lane : Lane) → IsAfter h old
+    → IsLaneAfter (cell_count old) p lane (part (Producer p) h)
+    → IsSome (offer_refusal lane) → new ≡ old
 
 -- and so does a finish that is refused
-abbrev pub FinishKeeps : State → ℕ → State → Type 0
+abbrev pub FinishKeeps : PoolState → ℕ → PoolState → Type 0
 FinishKeeps old p new =
-    (h : History) (lane : Lane) → IsAfter h old → IsLaneAfter (cell_count old) p lane (part (Producer p) h) →
-    IsSome (refused_finish lane) → new ≡ old
+    (h : History) (lane : Lane) → IsAfter h old
+    → IsLaneAfter (cell_count old) p lane (part (Producer p) h)
+    → IsSome (finish_refusal lane) → new ≡ old
 
 -- a load of the word by any reader that may load it leaves the pool as it is
-abbrev pub LoadGoesOn : State → Word → Type 0
-LoadGoesOn s w =
-    (h : History) (r : ℕ) → IsAfter h s → MayRead (lane_count s) (part (Reader r) h) w →
-    IsAfter (load r w (value_in h w) ∷ h) s
+abbrev pub LoadGoesOn : Word → PoolState → Type 0
+LoadGoesOn w s =
+    (h : History) (r : ℕ) → IsAfter h s → MayRead (lane_count s) w (part (Reader r) h)
+    → IsAfter (load r w (value_in w h) ∷ h) s

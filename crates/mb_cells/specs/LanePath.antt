@@ -1,13 +1,8 @@
 -- What one producer does on its lane, as a list of accesses, the newest first.
-use Rattle.std.specs.Prelude.{◌≡◌, ℕ, ◌+◌, ◌<◌, ◌≤◌, Bool, true, false, List, [], ◌∷◌, ◌++◌, Option, Some, None}
+use Rattle.std.specs.Prelude.{Bool, List, None, Option, Some, [], false, true, ℕ, ◌++◌, ◌+◌, ◌<◌, ◌∷◌, ◌≡◌, ◌≤◌}
 use Rattle.std.specs.List.{AllByRecursion}
+use Rattle.mb_cells.specs.Types.{Counter, END, FetchAdd, Head, Item, Link, PoolAccess, Producer, Store, Word}
 use Rattle.mb_cells.specs.Memory.{History}
-use Rattle.mb_cells.specs.declared.access.Access.{Access}
-use Rattle.mb_cells.specs.declared.access.Act.TheVariants.{FetchAdd, Store}
-use Rattle.mb_cells.specs.declared.access.Process.TheVariants.{Producer}
-use Rattle.mb_cells.specs.declared.access.TheConstants.{END}
-use Rattle.mb_cells.specs.declared.access.Word.{Word}
-use Rattle.mb_cells.specs.declared.access.Word.TheVariants.{Counter, Head, Item, Link}
 
 -- an item, and the number that its fetch-add gave
 pub record Entry : Type 0 where
@@ -20,18 +15,19 @@ place_after p [] = Head p
 place_after p (e ∷ _) = Link e.cell
 
 -- the fetch-add for an item, and the number that it gave
-abbrev pub fetch : ℕ → Entry → Access
+abbrev pub fetch : ℕ → Entry → PoolAccess
 fetch p e = record { process = Producer p; word = Counter; act = FetchAdd e.value e.cell }
 
 -- a store of the producer
-abbrev pub store : ℕ → Word → ℕ → Access
+abbrev pub store : ℕ → Word → ℕ → PoolAccess
 store p w v = record { process = Producer p; word = w; act = Store v }
 
 -- for each entry a fetch-add, then a store of the item, then a store of its link
 abbrev pub groups : ℕ → List Entry → History
 groups p [] = []
 groups p (e ∷ es) =
-    store p (place_after p es) (e.cell + 1) ∷ store p (Item e.cell) e.value ∷ fetch p e ∷ groups p es
+    store p (place_after p es) (e.cell + 1) ∷ store p (Item e.cell) e.value ∷ fetch p e
+    ∷ groups p es
 
 -- then at most one fetch-add that found no cell
 abbrev pub refusal : ℕ → Option Entry → History → History
@@ -48,9 +44,9 @@ abbrev pub AllCellsBelow : ℕ → List Entry → Type 0
 AllCellsBelow cells es = AllByRecursion (λ (e : Entry). e.cell < cells) es
 
 -- a fetch-add that found no cell gave a number past the cells
-abbrev pub IsRefused : ℕ → Option Entry → Type 0
-IsRefused cells None = Unit {0}
-IsRefused cells (Some e) = cells ≤ e.cell
+abbrev pub FindsNoCell : ℕ → Option Entry → Type 0
+FindsNoCell cells None = Unit {0}
+FindsNoCell cells (Some e) = cells ≤ e.cell
 
 -- a whole path of producer p, in a pool of so many cells
 pub record IsLanePath (cells p : ℕ) (path : History) : Type 0 where
@@ -58,7 +54,7 @@ pub record IsLanePath (cells p : ℕ) (path : History) : Type 0 where
   pub refused : Option Entry
   pub ended : Bool
   pub below : AllCellsBelow cells entries
-  pub above : IsRefused cells refused
+  pub above : FindsNoCell cells refused
   pub is : path ≡ ending p (place_after p entries) ended (refusal p refused (groups p entries))
 
 -- what was done so far of a path of producer p

@@ -1,21 +1,14 @@
 -- What a history puts into the lanes.
-use Rattle.std.specs.Prelude.{◌≡◌, ℕ, ◌-◌, Bool, false, cond, ◌||◌, if◌then◌else◌, List, [], ◌∷◌, map, reverse, Option, Some, None, nat_eq}
+use Rattle.std.specs.Prelude.{Bool, List, None, Option, Some, [], false, if◌then◌else◌, map, nat_eq, reverse, ℕ, ◌-◌, ◌||◌, ◌∷◌, ◌≡◌}
 use Rattle.mb_cells.specs.declared.answer.Look.TheVariants as look
-use Rattle.mb_cells.specs.LanePath.{Entry}
+use Rattle.mb_cells.specs.Types.{Counter, END, FetchAdd, Head, Link, Look, PoolAccess, PoolAct, Producer, Store, Word}
 use Rattle.mb_cells.specs.Memory.{Has, History, is_same_process, is_same_word}
-use Rattle.mb_cells.specs.declared.access.Access.{Access}
-use Rattle.mb_cells.specs.declared.access.Act.{Act}
-use Rattle.mb_cells.specs.declared.access.Act.TheVariants.{FetchAdd, Load, Store}
-use Rattle.mb_cells.specs.declared.access.Process.TheVariants.{Producer}
-use Rattle.mb_cells.specs.declared.access.TheConstants.{END}
-use Rattle.mb_cells.specs.declared.access.Word.{Word}
-use Rattle.mb_cells.specs.declared.access.Word.TheVariants.{Counter, Head, Link}
-use Rattle.mb_cells.specs.declared.answer.Look.{Look}
+use Rattle.mb_cells.specs.LanePath.{Entry}
 
 -- the cell that a store to a head or link links
-abbrev pub link_of : Word → Act → Option ℕ
-link_of (Head _) (Store v) = cond (nat_eq v END) None (Some (v - 1))
-link_of (Link _) (Store v) = cond (nat_eq v END) None (Some (v - 1))
+abbrev pub link_of : Word → PoolAct → Option ℕ
+link_of (Head _) (Store v) = if nat_eq v END then None else Some (v - 1)
+link_of (Link _) (Store v) = if nat_eq v END then None else Some (v - 1)
 link_of _ _ = None
 
 -- the list with the cell put in front, where there is one
@@ -24,32 +17,38 @@ push_if None ks = ks
 push_if (Some k) ks = k ∷ ks
 
 -- the cells that producer p linked into its lane, the last first
-abbrev pub linked : ℕ → History → List ℕ
-linked p [] = []
-linked p (a ∷ older) =
-    cond (is_same_process (Producer p) a.process) (push_if (link_of a.word a.act) (linked p older)) (linked p older)
+abbrev pub linked_cells : ℕ → History → List ℕ
+linked_cells p [] = []
+linked_cells p (a ∷ older) =
+    if is_same_process (Producer p) a.process
+    then push_if (link_of a.word a.act) (linked_cells p older) else linked_cells p older
 
--- the item of cell k after an act on the counter, if it was x: a fetch-add that gives k brings its item
-abbrev pub item_after : ℕ → Act → ℕ → ℕ
-item_after k (Load _) x = x
-item_after k (Store _) x = x
-item_after k (FetchAdd y n) x = cond (nat_eq n k) y x
+-- the item of cell k after an act on the counter, if it was x: a fetch-add that gives k brings
+-- its item
+abbrev pub item_after : ℕ → PoolAct → ℕ → ℕ
+item_after k (FetchAdd y n) x = if nat_eq n k then y else x
+item_after k _ x = x
 
 -- the item of cell k: that of the fetch-add that gave k
-abbrev pub offered : History → ℕ → ℕ
-offered [] k = 0
-offered (a ∷ older) k = cond (is_same_word a.word Counter) (item_after k a.act (offered older k)) (offered older k)
+abbrev pub item_of : ℕ → History → ℕ
+item_of k [] = 0
+item_of k (a ∷ older) =
+    if is_same_word a.word Counter then item_after k a.act (item_of k older) else item_of k older
 
 -- a cell with its item
 abbrev pub entry_of : (ℕ → ℕ) → ℕ → Entry
-entry_of item_of k = record { cell = k; value = item_of k }
+entry_of items k = record { cell = k; value = items k }
+
+-- a cell with the item that a history has for it
+abbrev pub entry_at : ℕ → History → Entry
+entry_at k h = record { cell = k; value = item_of k h }
 
 -- the put list of lane p: the cells linked with their items, the first linked first
-abbrev pub put : ℕ → History → List Entry
-put p h = reverse (map (entry_of (offered h)) (linked p h))
+abbrev pub put_list : ℕ → History → List Entry
+put_list p h = reverse (map (λ k. entry_at k h) (linked_cells p h))
 
 -- whether a store to a head or link is of the end mark
-abbrev pub marks_end : Word → Act → Bool
+abbrev pub marks_end : Word → PoolAct → Bool
 marks_end (Head _) (Store v) = nat_eq v END
 marks_end (Link _) (Store v) = nat_eq v END
 marks_end _ _ = false
@@ -58,7 +57,8 @@ marks_end _ _ = false
 abbrev pub has_ended : ℕ → History → Bool
 has_ended p [] = false
 has_ended p (a ∷ older) =
-    cond (is_same_process (Producer p) a.process) (marks_end a.word a.act || has_ended p older) (has_ended p older)
+    if is_same_process (Producer p) a.process then marks_end a.word a.act || has_ended p older
+    else has_ended p older
 
 -- what a reader finds behind the last cell of lane p
 abbrev pub lane_end : ℕ → History → Look
@@ -70,5 +70,6 @@ IsOnceEach [] = Unit {0}
 IsOnceEach (k ∷ ks) = (Has ks k → ⊥) × IsOnceEach ks
 
 -- some fetch-add gave cell k
-abbrev pub WasHandedOut : History → ℕ → Type 0
-WasHandedOut h k = (a : Access) × (Has h a × ((a.word ≡ Counter) × ((x : ℕ) × (a.act ≡ FetchAdd x k))))
+abbrev pub WasHandedOut : ℕ → History → Type 0
+WasHandedOut k h =
+    (a : PoolAccess) × (Has h a × ((a.word ≡ Counter) × ((x : ℕ) × (a.act ≡ FetchAdd x k))))

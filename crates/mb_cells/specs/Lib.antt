@@ -1,3 +1,5 @@
+pub mod Types
+pub mod Size
 pub mod Memory
 pub mod LanePath
 pub mod ReaderPath
@@ -8,6 +10,10 @@ pub mod Place
 pub mod Reading
 pub mod Standing
 pub mod State
+pub mod Block
 pub mod Calls
 pub mod CallLists
 pub mod Examples
+pub mod Vocabulary
+-- the words of clauses, behind one door
+pub use Vocabulary.*

@@ -1,17 +1,12 @@
 -- Histories of the pool's words.
--- A history is a list of accesses, the newest first: in `a ∷ older` the accesses of `older` came before a.
-use Rattle.std.specs.Prelude.{◌≡◌, ℕ, ◌+◌, ◌⊎◌, Bool, true, false, cond, List, [], ◌∷◌, nat_eq, filter}
-use Rattle.mb_cells.specs.declared.access.Access.{Access}
-use Rattle.mb_cells.specs.declared.access.Act.{Act}
-use Rattle.mb_cells.specs.declared.access.Act.TheVariants.{FetchAdd, Load, Store}
-use Rattle.mb_cells.specs.declared.access.Process.{Process}
-use Rattle.mb_cells.specs.declared.access.Process.TheVariants.{Producer, Reader}
-use Rattle.mb_cells.specs.declared.access.Word.{Word}
-use Rattle.mb_cells.specs.declared.access.Word.TheVariants.{Counter, Head, Item, Link}
+-- A history is a list of accesses, the newest first: in `a ∷ older` the accesses of `older` came
+-- before a.
+use Rattle.std.specs.Prelude.{Bool, IfSome, List, None, Option, Some, [], false, filter, if◌then◌else◌, nat_eq, true, unwrap_or, ℕ, ◌&&◌, ◌+◌, ◌∷◌, ◌≡◌, ◌⊎◌}
+use Rattle.mb_cells.specs.Types.{Counter, FetchAdd, Head, Item, Link, Load, PoolAccess, PoolAct, Process, Producer, Reader, Store, Word}
 
 -- a finite list of accesses, the newest first
 abbrev pub History : Type 0
-History = List Access
+History = List PoolAccess
 
 -- whether two names of words are one
 abbrev pub is_same_word : Word → Word → Bool
@@ -32,41 +27,47 @@ abbrev pub Has : {X : Type 0} → List X → X → Type 0
 Has [] x = ⊥
 Has (y ∷ ys) x = (y ≡ x) ⊎ Has ys x
 
--- what a word holds after an act on it, if it held v
-abbrev pub after_act : Act → ℕ → ℕ
-after_act (Load _) v = v
-after_act (Store w) v = w
-after_act (FetchAdd _ _) v = v
+-- what an act loads: the value that it finds in its word
+abbrev pub loaded_by : PoolAct → Option ℕ
+loaded_by (Load v) = Some v
+loaded_by (Store _) = None
+loaded_by (FetchAdd _ n) = Some n
 
--- what a history leaves in a word: the value of the last store to it, or 0 where there is none
-abbrev pub value_in : History → Word → ℕ
-value_in [] w = 0
-value_in (a ∷ older) w = cond (is_same_word a.word w) (after_act a.act (value_in older w)) (value_in older w)
+-- what an act stores in its word: a fetch-add one more than it finds
+abbrev pub stored_by : PoolAct → Option ℕ
+stored_by (Load _) = None
+stored_by (Store v) = Some v
+stored_by (FetchAdd _ n) = Some (n + 1)
 
--- whether the act is a fetch-add
-abbrev pub is_fetch_add : Act → Bool
-is_fetch_add (Load _) = false
-is_fetch_add (Store _) = false
-is_fetch_add (FetchAdd _ _) = true
+-- what a history leaves in a word: the value that was last stored there, or 0 where none was
+abbrev pub value_in : Word → History → ℕ
+value_in w [] = 0
+value_in w (a ∷ older) =
+    if is_same_word a.word w then unwrap_or (stored_by a.act) (value_in w older)
+    else value_in w older
 
--- the number of fetch-adds on the word
-abbrev pub adds_on : History → Word → ℕ
-adds_on [] w = 0
-adds_on (a ∷ older) w =
-    cond (is_same_word a.word w) (cond (is_fetch_add a.act) (adds_on older w + 1) (adds_on older w)) (adds_on older w)
+-- what an act loads is what the older accesses left in its word
+abbrev pub ReadsLast : Word → PoolAct → History → Type 0
+ReadsLast w act older = IfSome (loaded_by act) (λ v. v ≡ value_in w older)
 
--- a load has the value of the last earlier store to the word, or 0 where there is none;
--- a fetch-add gives the number of earlier ones
-abbrev pub TellsTruth : History → Word → Act → Type 0
-TellsTruth older w (Load v) = v ≡ value_in older w
-TellsTruth older w (Store v) = Unit {0}
-TellsTruth older w (FetchAdd x n) = n ≡ adds_on older w
-
--- each access tells the truth
+-- each access reads what was stored last. In a lawful history a fetch-add then finds the number of earlier ones (law
+-- `numbers_are_handed_out_once`)
 abbrev pub IsMemoryTrue : History → Type 0
 IsMemoryTrue [] = Unit {0}
-IsMemoryTrue (a ∷ older) = TellsTruth older a.word a.act × IsMemoryTrue older
+IsMemoryTrue (a ∷ older) = ReadsLast a.word a.act older × IsMemoryTrue older
 
 -- the part of one process: the accesses that it made
 abbrev pub part : Process → History → History
 part who h = filter (λ a. is_same_process who a.process) h
+
+-- whether the act is a fetch-add
+abbrev pub is_fetch_add : PoolAct → Bool
+is_fetch_add (FetchAdd _ _) = true
+is_fetch_add _ = false
+
+-- the number of fetch-adds on the word
+abbrev pub fetch_adds_on : Word → History → ℕ
+fetch_adds_on w [] = 0
+fetch_adds_on w (a ∷ older) =
+    if is_same_word a.word w && is_fetch_add a.act then fetch_adds_on w older + 1
+    else fetch_adds_on w older

@@ -1,13 +1,8 @@
 -- What a reader has met.
-use Rattle.std.specs.Prelude.{◌≡◌, ℕ, ◌+◌, ◌≢◌, Bool, false, ◌||◌, nat_eq, filter, List, [], ◌∷◌, ◌++◌}
-use Rattle.mb_cells.specs.Lanes.{linked}
+use Rattle.std.specs.Prelude.{Bool, List, [], false, filter, nat_eq, ℕ, ◌++◌, ◌+◌, ◌||◌, ◌∷◌, ◌≡◌, ◌≢◌}
+use Rattle.mb_cells.specs.Types.{Counter, END, Head, Item, Link, Load, PoolAccess, Reader, Word}
 use Rattle.mb_cells.specs.Memory.{Has, History, part}
-use Rattle.mb_cells.specs.declared.access.Access.{Access}
-use Rattle.mb_cells.specs.declared.access.Act.TheVariants.{Load}
-use Rattle.mb_cells.specs.declared.access.Process.TheVariants.{Reader}
-use Rattle.mb_cells.specs.declared.access.TheConstants.{END}
-use Rattle.mb_cells.specs.declared.access.Word.{Word}
-use Rattle.mb_cells.specs.declared.access.Word.TheVariants.{Counter, Head, Item, Link}
+use Rattle.mb_cells.specs.Lanes.{linked_cells}
 
 -- the word that leads to the cell after these (the last first), on lane p
 abbrev pub place_past : ℕ → List ℕ → Word
@@ -22,18 +17,19 @@ IsLinkWord (Link _) = Unit {0}
 IsLinkWord (Item _) = ⊥
 
 -- a load of a word by a reader
-abbrev pub load : ℕ → Word → ℕ → Access
+abbrev pub load : ℕ → Word → ℕ → PoolAccess
 load r w v = record { process = Reader r; word = w; act = Load v }
 
 -- the reader has loaded this value from the word
-abbrev pub HasLoaded : ℕ → History → Word → ℕ → Type 0
-HasLoaded r h w v = Has h (load r w v)
+abbrev pub HasLoaded : ℕ → Word → ℕ → History → Type 0
+HasLoaded r w v h = Has h (load r w v)
 
--- the reader has met these cells (the last first) on lane p: from the head on, the link to each of them was loaded.
+-- the reader has met these cells (the last first) on lane p: from the head on, the link to each
+-- of them was loaded.
 -- The end mark is no link
-abbrev pub HasMet : ℕ → ℕ → History → List ℕ → Type 0
-HasMet r p h [] = Unit {0}
-HasMet r p h (k ∷ ks) = HasLoaded r h (place_past p ks) (k + 1) × (k + 1 ≢ END) × HasMet r p h ks
+abbrev pub HasMet : ℕ → ℕ → List ℕ → History → Type 0
+HasMet r p [] h = Unit {0}
+HasMet r p (k ∷ ks) h = HasLoaded r (place_past p ks) (k + 1) h × (k + 1 ≢ END) × HasMet r p ks h
 
 -- ks is what ls began with (both the last first)
 abbrev pub IsStart : List ℕ → List ℕ → Type 0
@@ -53,4 +49,4 @@ is_of_lane p ks (Item k) = has_cell ks k
 
 -- the part of reader r on lane p: its loads of the head and of the words of the cells linked there
 abbrev pub part_on : ℕ → ℕ → History → History
-part_on r p h = filter (λ a. is_of_lane p (linked p h) a.word) (part (Reader r) h)
+part_on r p h = filter (λ a. is_of_lane p (linked_cells p h) a.word) (part (Reader r) h)

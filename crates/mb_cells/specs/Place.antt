@@ -1,10 +1,8 @@
 -- Where a producer stands on its path.
-use Rattle.std.specs.Prelude.{◌≡◌, ℕ, ◌+◌, ◌<◌, ◌≤◌, List, ◌∷◌, Option, Some, None}
-use Rattle.mb_cells.specs.LanePath.{AllCellsBelow, Entry, IsRefused, fetch, groups, place_after, refusal, store}
+use Rattle.std.specs.Prelude.{List, None, Option, Some, ℕ, ◌+◌, ◌<◌, ◌∷◌, ◌≡◌, ◌≤◌}
+use Rattle.mb_cells.specs.Types.{END, Item, PoolAccess}
 use Rattle.mb_cells.specs.Memory.{History}
-use Rattle.mb_cells.specs.declared.access.Access.{Access}
-use Rattle.mb_cells.specs.declared.access.TheConstants.{END}
-use Rattle.mb_cells.specs.declared.access.Word.TheVariants.{Item}
+use Rattle.mb_cells.specs.LanePath.{AllCellsBelow, Entry, FindsNoCell, fetch, groups, place_after, refusal, store}
 
 -- what a producer has done since its last link store
 pub data Phase : Type 0 where
@@ -19,13 +17,14 @@ pub data Phase : Type 0 where
   -- a store of the end mark, perhaps after a fetch-add that gave no cell
   Ended : Option Entry → Phase
 
--- all that producer p has done, where it has linked these entries (the last first) and stands in this phase
-abbrev pub done_at : ℕ → List Entry → Phase → History
-done_at p es Open = groups p es
-done_at p es (Offered e) = fetch p e ∷ groups p es
-done_at p es (Stored e) = store p (Item e.cell) e.value ∷ fetch p e ∷ groups p es
-done_at p es (Full e) = fetch p e ∷ groups p es
-done_at p es (Ended r) = store p (place_after p es) END ∷ refusal p r (groups p es)
+-- all that producer p has done, where it has linked these entries (the last first) and stands in
+-- this phase
+abbrev pub part_at : ℕ → List Entry → Phase → History
+part_at p es Open = groups p es
+part_at p es (Offered e) = fetch p e ∷ groups p es
+part_at p es (Stored e) = store p (Item e.cell) e.value ∷ fetch p e ∷ groups p es
+part_at p es (Full e) = fetch p e ∷ groups p es
+part_at p es (Ended r) = store p (place_after p es) END ∷ refusal p r (groups p es)
 
 -- the number that the last fetch-add gave is that of a cell, or past the cells, as the phase has it
 abbrev pub PhaseFits : ℕ → Phase → Type 0
@@ -33,21 +32,25 @@ PhaseFits cells Open = Unit {0}
 PhaseFits cells (Offered e) = e.cell < cells
 PhaseFits cells (Stored e) = e.cell < cells
 PhaseFits cells (Full e) = cells ≤ e.cell
-PhaseFits cells (Ended r) = IsRefused cells r
+PhaseFits cells (Ended r) = FindsNoCell cells r
 
 -- what producer p has done puts it at this place
 pub record IsAt (cells p : ℕ) (es : List Entry) (phase : Phase) (done : History) : Type 0 where
   pub below : AllCellsBelow cells es
   pub fits : PhaseFits cells phase
-  pub is : done ≡ done_at p es phase
+  pub is : done ≡ part_at p es phase
 
 -- one access takes producer p from one place to the next
-pub data Steps (cells p : ℕ) : List Entry → Phase → Access → List Entry → Phase → Type 0 where
-  takes_cell : (es : List Entry) (e : Entry) → e.cell < cells → Steps cells p es Open (fetch p e) es (Offered e)
-  finds_none : (es : List Entry) (e : Entry) → cells ≤ e.cell → Steps cells p es Open (fetch p e) es (Full e)
-  fills_cell : (es : List Entry) (e : Entry) → Steps cells p es (Offered e) (store p (Item e.cell) e.value) es (Stored e)
+pub data Steps (cells p : ℕ) : List Entry → Phase → PoolAccess → List Entry → Phase → Type 0 where
+  takes_cell : (es : List Entry) (e : Entry) → e.cell < cells
+      → Steps cells p es Open (fetch p e) es (Offered e)
+  finds_none : (es : List Entry) (e : Entry) → cells ≤ e.cell
+      → Steps cells p es Open (fetch p e) es (Full e)
+  fills_cell : (es : List Entry) (e : Entry)
+      → Steps cells p es (Offered e) (store p (Item e.cell) e.value) es (Stored e)
   links_cell : (es : List Entry) (e : Entry) →
       Steps cells p es (Stored e) (store p (place_after p es) (e.cell + 1)) (e ∷ es) Open
-  ends_lane : (es : List Entry) → Steps cells p es Open (store p (place_after p es) END) es (Ended None)
+  ends_lane : (es : List Entry)
+      → Steps cells p es Open (store p (place_after p es) END) es (Ended None)
   ends_refused : (es : List Entry) (e : Entry) →
       Steps cells p es (Full e) (store p (place_after p es) END) es (Ended (Some e))

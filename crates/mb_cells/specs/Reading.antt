@@ -1,14 +1,11 @@
 -- What a reader finds behind a cursor, and along a lane.
-use Rattle.std.specs.Prelude.{◌≡◌, ℕ, ◌-◌, cond, List, [], ◌∷◌, nat_eq}
+use Rattle.std.specs.Prelude.{List, [], if◌then◌else◌, nat_eq, ℕ, ◌-◌, ◌∷◌, ◌≡◌}
 use Rattle.mb_cells.specs.declared.answer.Look.TheVariants as look
 use Rattle.mb_cells.specs.declared.access.Word.TheVariants as word
 use Rattle.mb_cells.specs.declared.cursor.Cursor.TheVariants as cursor
-use Rattle.mb_cells.specs.LanePath.{Entry}
+use Rattle.mb_cells.specs.Types.{Cursor, END, Look, Word}
 use Rattle.mb_cells.specs.Memory.{History, value_in}
-use Rattle.mb_cells.specs.declared.access.TheConstants.{END}
-use Rattle.mb_cells.specs.declared.access.Word.{Word}
-use Rattle.mb_cells.specs.declared.answer.Look.{Look}
-use Rattle.mb_cells.specs.declared.cursor.Cursor.{Cursor}
+use Rattle.mb_cells.specs.LanePath.{Entry}
 
 -- the word that tells what stands behind a cursor
 abbrev pub word_of : Cursor → Word
@@ -17,14 +14,16 @@ word_of (cursor.Past k) = word.Link k
 
 -- what the value of a head or link tells
 abbrev pub look_of : ℕ → Look
-look_of v = cond (nat_eq v 0) look.Nothing (cond (nat_eq v END) look.Ended (look.Cell (v - 1)))
+look_of v = if nat_eq v 0 then look.Nothing else if nat_eq v END then look.Ended
+    else look.Cell (v - 1)
 
 -- what a look tells after a history
-abbrev pub look_after : History → Cursor → Look
-look_after h at = look_of (value_in h (word_of at))
+abbrev pub look_after : Cursor → History → Look
+look_after at h = look_of (value_in (word_of at) h)
 
 -- looks from the cursor on give these cells (the first first) with these items, and then the end
 abbrev pub Reads : (Cursor → Look) → (ℕ → ℕ) → Cursor → List Entry → Look → Type 0
 Reads look_at item_at at [] end = look_at at ≡ end
 Reads look_at item_at at (e ∷ es) end =
-    (look_at at ≡ look.Cell e.cell) × (item_at e.cell ≡ e.value) × Reads look_at item_at (cursor.Past e.cell) es end
+    (look_at at ≡ look.Cell e.cell) × (item_at e.cell ≡ e.value)
+    × Reads look_at item_at (cursor.Past e.cell) es end

@@ -27,7 +27,7 @@ pub enum Word {
 
 /// What an access does to its word.
 #[derive(Clone, Copy, PartialEq, Eq, Debug)]
-pub enum Act {
+pub enum PoolAct {
     /// The word was loaded and had this value.
     Load(u64),
     /// This value was stored in the word.
@@ -43,11 +43,11 @@ pub enum Act {
 
 /// One atomic access to one word.
 #[derive(Clone, Copy, PartialEq, Eq, Debug)]
-pub struct Access {
+pub struct PoolAccess {
     /// Who makes it.
     pub process: Process,
     /// Which word it is of.
     pub word: Word,
     /// What it does, and what it finds.
-    pub act: Act,
+    pub act: PoolAct,
 }

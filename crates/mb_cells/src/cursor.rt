@@ -1,7 +1,7 @@
 //! Where a reader stands.
 ghost use Rattle.std.specs.Prelude.{◌≡◌};
 ghost use Rattle.mb_cells.specs.declared.cursor.Cursor.TheVariants.{Head, Past};
-ghost use Rattle.mb_cells.specs.Reading.{word_of};
+ghost use Rattle.mb_cells.specs.{word_of};
 
 use crate::access::Word;
 

@@ -1,51 +1,46 @@
-//! The definitions by example: what is lawful, and what only looks so. The functions compute nothing: their contracts are
-//! the examples.
+//! The definitions by example: what is lawful, and what only looks so. The functions compute nothing: their contracts
+//! are the examples. Their proofs stand in `proofs/examples/`.
 ghost use Rattle.std.specs.Prelude.{◌≡◌, ◌-◌, ◌^◌, true, false, Some, None, [], ◌∷◌};
-ghost use Rattle.mb_cells.specs.declared.access.Word.TheVariants.{Counter, Head, Link, Item};
-ghost use Rattle.mb_cells.specs.declared.access.TheConstants.{END};
-ghost use Rattle.mb_cells.specs.Memory.{IsMemoryTrue};
-ghost use Rattle.mb_cells.specs.LanePath.{IsLanePrefix, fetch, store};
-ghost use Rattle.mb_cells.specs.ReaderPath.{IsReaderPath};
-ghost use Rattle.mb_cells.specs.Lawful.{IsLawful};
-ghost use Rattle.mb_cells.specs.Lanes.{put, has_ended};
-ghost use Rattle.mb_cells.specs.Met.{HasMet, load, part_on};
+ghost use Rattle.mb_cells.specs.{Counter, END, FinishKeeps, FinishMeets, Finished, HasMade, HasMet, HasWord, Head};
+ghost use Rattle.mb_cells.specs.{IsAfter, IsLaneAfter, IsLanePrefix, IsMemoryOf, IsMemoryTrue, IsPoolLawful};
+ghost use Rattle.mb_cells.specs.{IsReaderPath, IsShownAlike, IsSound, IsWithin, IsLaneWord, Item, Lane, Link};
+ghost use Rattle.mb_cells.specs.{OfferKeeps, OfferMeets, Offered, PoolState, PushMeets, Pushed, SameSize};
+ghost use Rattle.mb_cells.specs.{WasGivenBy, eight, ended_pool, fetch, fetch_adds_by, full_pool, has_ended};
+ghost use Rattle.mb_cells.specs.{has_ended_by, item_in, load, look_in, new_lane, new_pool, nine, no_cell, one_cell};
+ghost use Rattle.mb_cells.specs.{one_ended, one_offered, one_put, one_read, one_taken, part_on, pool_size};
+ghost use Rattle.mb_cells.specs.{put_list, put_list_by, put_pool, store, taken_pool, too_wide};
 ghost use Rattle.mb_cells.specs.declared.answer.Offer.TheVariants as offer;
 ghost use Rattle.mb_cells.specs.declared.answer.Push.TheVariants as push;
 ghost use Rattle.mb_cells.specs.declared.answer.Finish.TheVariants as finish;
 ghost use Rattle.mb_cells.specs.declared.answer.Look.TheVariants as look;
 ghost use Rattle.mb_cells.specs.declared.cursor.Cursor.TheVariants as cursor;
-ghost use Rattle.mb_cells.specs.declared.lane.Stage.TheVariants as stage;
-ghost use Rattle.mb_cells.specs.declared.lane.Lane.{Lane};
-ghost use Rattle.mb_cells.specs.Standing.{IsLaneAfter, IsWordOf, new_lane};
-ghost use Rattle.mb_cells.specs.State.{State, IsAfter, IsSound, IsShownAlike, IsWithin, HasWord, SameSize, look_in, item_in};
-ghost use Rattle.mb_cells.specs.Calls.{OfferMeets, OfferKeeps, PushMeets, FinishMeets, FinishKeeps};
-ghost use Rattle.mb_cells.specs.CallLists.{Offered, Pushed, Finished, HasMade, WasGivenBy, put_by, ended_by, adds_by};
-ghost use Rattle.mb_cells.specs.Examples.{eight, taken_only, one_put, one_read, one_offered, one_ended, one_cell, new_pool, taken_pool, put_pool, ended_pool, no_cell, full_pool};
+ghost use Rattle.mb_cells.specs.declared.lane.LaneStage.TheVariants as stage;
 
 /// One item is put and read, and the lane ends.
 pub fn one_item_is_put_and_read()
-    ensures lawful { IsLawful 1 1 one_read }
-    ensures put { put 0 one_read ≡ eight ∷ [] }
+    ensures lawful { IsPoolLawful (pool_size 1 1) one_read }
+    ensures put { put_list 0 one_read ≡ eight ∷ [] }
     ensures ended { has_ended 0 one_read ≡ true }
-    ensures met { HasMet 5 0 one_read (0 ∷ []) }
+    ensures met { HasMet 5 0 (0 ∷ []) one_read }
 {}
 
 /// Memory gives nothing that was not stored, and each number of the counter once.
 pub fn memory_makes_nothing_up()
-    ensures no_store { IsMemoryTrue (load 5 (Head 0) 1 ∷ taken_only) → ⊥ }
+    ensures no_store { IsMemoryTrue (load 5 (Head 0) 1 ∷ one_taken) → ⊥ }
     ensures old_value { IsMemoryTrue (load 5 (Head 0) 0 ∷ one_put) → ⊥ }
-    ensures same_number { IsMemoryTrue (fetch 1 eight ∷ taken_only) → ⊥ }
+    ensures same_number { IsMemoryTrue (fetch 1 eight ∷ one_taken) → ⊥ }
+    ensures next_number { IsMemoryTrue (fetch 1 nine ∷ one_taken) }
 {}
 
 /// A producer that goes wrong has left its lane path.
 pub fn producers_keep_their_order()
-    ensures link_before_item { IsLanePrefix 1 0 (store 0 (Head 0) 1 ∷ taken_only) → ⊥ }
-    ensures other_item { IsLanePrefix 1 0 (store 0 (Item 0) 9 ∷ taken_only) → ⊥ }
-    ensures end_while_busy { IsLanePrefix 1 0 (store 0 (Head 0) END ∷ taken_only) → ⊥ }
+    ensures link_before_item { IsLanePrefix 1 0 (store 0 (Head 0) 1 ∷ one_taken) → ⊥ }
+    ensures other_item { IsLanePrefix 1 0 (store 0 (Item 0) 9 ∷ one_taken) → ⊥ }
+    ensures end_while_busy { IsLanePrefix 1 0 (store 0 (Head 0) END ∷ one_taken) → ⊥ }
     ensures end_over_link { IsLanePrefix 1 0 (store 0 (Head 0) END ∷ one_put) → ⊥ }
-    ensures offer_while_busy { IsLanePrefix 2 0 (fetch 0 (record { cell = 1; value = 9 }) ∷ taken_only) → ⊥ }
-    ensures offer_after_full { IsLanePrefix 0 0 (fetch 0 (record { cell = 1; value = 9 }) ∷ taken_only) → ⊥ }
-    ensures after_end { IsLanePrefix 1 0 (fetch 0 (record { cell = 1; value = 9 }) ∷ store 0 (Link 0) END ∷ one_put) → ⊥ }
+    ensures offer_while_busy { IsLanePrefix 2 0 (fetch 0 nine ∷ one_taken) → ⊥ }
+    ensures offer_after_full { IsLanePrefix 0 0 (fetch 0 nine ∷ one_taken) → ⊥ }
+    ensures after_end { IsLanePrefix 1 0 (fetch 0 nine ∷ store 0 (Link 0) END ∷ one_put) → ⊥ }
 {}
 
 /// A reader goes where its own loads led it. The end mark leads nowhere.
@@ -53,13 +48,13 @@ pub fn readers_go_where_they_are_led()
     ensures not_given { IsReaderPath 1 (load 5 (Item 0) 8 ∷ load 5 (Head 0) 0 ∷ []) → ⊥ }
     ensures end_mark { IsReaderPath 1 (load 5 (Item (END - 1)) 8 ∷ load 5 (Head 0) END ∷ []) → ⊥ }
     ensures no_lane { IsReaderPath 1 (load 5 (Head 1) 0 ∷ []) → ⊥ }
-    ensures nothing_met { HasMet 5 0 (load 5 (Head 0) 0 ∷ []) (0 ∷ []) → ⊥ }
+    ensures nothing_met { HasMet 5 0 (0 ∷ []) (load 5 (Head 0) 0 ∷ []) → ⊥ }
 {}
 
 /// A lawful history names no lane that the pool has not, and no value that is no word.
 pub fn histories_stay_in_range()
-    ensures no_lane { IsLawful 1 1 (fetch 1 eight ∷ []) → ⊥ }
-    ensures no_word { IsLawful 1 1 (fetch 0 (record { cell = 0; value = 2 ^ 64 }) ∷ []) → ⊥ }
+    ensures no_lane { IsPoolLawful (pool_size 1 1) (fetch 1 eight ∷ []) → ⊥ }
+    ensures no_word { IsPoolLawful (pool_size 1 1) (fetch 0 too_wide ∷ []) → ⊥ }
 {}
 
 /// What a reader loaded falls to the lane of the head, or of the cell once it is linked there.
@@ -69,41 +64,50 @@ pub fn loads_fall_to_lanes()
     ensures other_lane { part_on 5 1 one_read ≡ [] }
     ensures other_reader { part_on 4 0 one_read ≡ [] }
     ensures other_head { part_on 5 0 (load 5 (Head 1) 0 ∷ one_put) ≡ [] }
-    ensures not_linked { part_on 5 0 (load 5 (Item 0) 0 ∷ taken_only) ≡ [] }
+    ensures not_linked { part_on 5 0 (load 5 (Item 0) 0 ∷ one_taken) ≡ [] }
 {}
 
 /// A producer stands at one place: what it linked last, and what it has done since.
 pub fn producers_stand_at_one_place()
-    ensures taken { IsLaneAfter 1 0 (record { last = None; stage = stage.Offered 0 8 }) taken_only }
+    ensures taken { IsLaneAfter 1 0 (record { last = None; stage = stage.Offered 0 8 }) one_taken }
     ensures linked { IsLaneAfter 1 0 (record { last = Some 0; stage = stage.Open }) one_put }
-    ensures full { IsLaneAfter 0 0 (record { last = None; stage = stage.Full }) taken_only }
+    ensures full { IsLaneAfter 0 0 (record { last = None; stage = stage.Full }) one_taken }
     ensures not_new { IsLaneAfter 1 0 new_lane one_put → ⊥ }
-    ensures not_stored { IsLaneAfter 1 0 (record { last = None; stage = stage.Stored 0 }) taken_only → ⊥ }
+    ensures not_stored { IsLaneAfter 1 0
+        (record { last = None; stage = stage.Stored 0 }) one_taken → ⊥ }
     ensures nowhere { (lane : Lane) → IsLaneAfter 1 0 lane (store 0 (Head 0) 1 ∷ []) → ⊥ }
 {}
 
 /// A history leaves its values in the words and its producers at their places, and a reader is shown that.
 pub fn pools_hold_what_was_done()
     ensures put { IsAfter one_put put_pool }
-    ensures cell { look_in put_pool (cursor.Head 0) ≡ look.Cell 0 }
-    ensures item { item_in put_pool 0 ≡ 8 }
+    ensures cell { look_in (cursor.Head 0) put_pool ≡ look.Cell 0 }
+    ensures item { item_in 0 put_pool ≡ 8 }
     ensures counter { IsAfter one_put (one_cell 0 1 0 8 (Some 0) stage.Open) → ⊥ }
     ensures head { IsAfter one_put (one_cell 1 0 0 8 (Some 0) stage.Open) → ⊥ }
     ensures place { IsAfter one_put (one_cell 1 1 0 8 None stage.Open) → ⊥ }
-    ensures unlawful { (s : State) → IsAfter (fetch 1 eight ∷ taken_only) s → ⊥ }
+    ensures unlawful { (s : PoolState) → IsAfter (fetch 1 eight ∷ one_taken) s → ⊥ }
     ensures sound { IsSound put_pool }
     ensures unsound { IsSound (one_cell 3 0 0 0 None stage.Open) → ⊥ }
 {}
 
 /// A pool has the words and cursors of its lanes and cells. An offer shows a reader nothing new.
 pub fn pools_have_bounds()
-    ensures past { IsWithin put_pool (cursor.Past 1) → ⊥ }
-    ensures word { HasWord put_pool.words (Head 1) → ⊥ }
-    ensures not_shown { IsWordOf 1 1 Counter → ⊥ }
-    ensures link { IsWordOf 1 1 (Link 1) → ⊥ }
+    ensures past { IsWithin (cursor.Past 1) put_pool → ⊥ }
+    ensures word { HasWord (Head 1) put_pool.words → ⊥ }
+    ensures not_shown { IsLaneWord (pool_size 1 1) Counter → ⊥ }
+    ensures link { IsLaneWord (pool_size 1 1) (Link 1) → ⊥ }
     ensures size { SameSize full_pool new_pool → ⊥ }
     ensures alike { IsShownAlike new_pool taken_pool }
     ensures shown { IsShownAlike taken_pool put_pool → ⊥ }
+{}
+
+/// The words of a pool lie in one block: the counter, the heads, the links and the items. Other words may follow.
+pub fn words_lie_in_one_block()
+    ensures block { IsMemoryOf (pool_size 1 1) (1 ∷ 1 ∷ 0 ∷ 8 ∷ 5 ∷ []) one_put }
+    ensures counter { IsMemoryOf (pool_size 1 1) (0 ∷ 1 ∷ 0 ∷ 8 ∷ []) one_put → ⊥ }
+    ensures item_first { IsMemoryOf (pool_size 1 1) (1 ∷ 1 ∷ 8 ∷ 0 ∷ []) one_put → ⊥ }
+    ensures too_short { IsMemoryOf (pool_size 1 1) (1 ∷ 1 ∷ 0 ∷ []) one_put → ⊥ }
 {}
 
 /// Each call is its access, by its answer and by what it leaves.
@@ -112,41 +116,51 @@ pub fn calls_make_their_access()
     ensures always_full { OfferMeets new_pool 0 8 offer.Full new_pool → ⊥ }
     ensures nothing_stored { PushMeets taken_pool 0 (push.Item 0) taken_pool → ⊥ }
     ensures ended { FinishMeets put_pool 0 finish.Ended ended_pool }
-    ensures end_over_link { FinishMeets put_pool 0 finish.Ended (one_cell 1 END 0 8 (Some 0) (stage.Ended false)) → ⊥ }
+    ensures end_over_link { FinishMeets put_pool 0 finish.Ended
+        (one_cell 1 END 0 8 (Some 0) (stage.Ended false)) → ⊥ }
     ensures ended_again { FinishKeeps ended_pool 0 put_pool → ⊥ }
 {}
 
 /// The first Full raises the counter, and a later one changes nothing.
 pub fn full_raises_the_counter_once()
     ensures first { OfferMeets (no_cell 0 stage.Open) 0 8 offer.Full full_pool }
-    ensures stands_still { OfferMeets (no_cell 0 stage.Open) 0 8 offer.Full (no_cell 0 stage.Full) → ⊥ }
+    ensures stands_still { OfferMeets (no_cell 0 stage.Open) 0 8
+        offer.Full (no_cell 0 stage.Full) → ⊥ }
     ensures later { OfferKeeps full_pool 0 (no_cell 2 stage.Full) → ⊥ }
-    ensures counted { adds_by (Offered 0 9 offer.Full ∷ Offered 0 8 offer.Full ∷ []) ≡ 1 }
+    ensures counted { fetch_adds_by (Offered 0 9 offer.Full ∷ Offered 0 8 offer.Full ∷ []) ≡ 1 }
 
     // In a pool of one cell, the first after an offer that got it.
-    ensures second { adds_by (Offered 1 2 offer.Full ∷ Offered 0 1 (offer.Cell 0) ∷ []) ≡ 2 }
-    ensures third { adds_by (Offered 1 3 offer.Full ∷ Offered 1 2 offer.Full ∷ Offered 0 1 (offer.Cell 0) ∷ []) ≡ 2 }
+    ensures second { fetch_adds_by (Offered 1 2 offer.Full ∷ Offered 0 1 (offer.Cell 0) ∷ []) ≡ 2 }
+    ensures third { fetch_adds_by
+        (Offered 1 3 offer.Full ∷ Offered 1 2 offer.Full ∷ Offered 0 1 (offer.Cell 0) ∷ []) ≡ 2 }
 {}
 
 /// The calls that put one item and end its lane, and what they say.
 pub fn calls_put_one_item()
-    ensures made { HasMade 1 1 one_ended ended_pool }
-    ensures put { put_by 0 one_ended ≡ eight ∷ [] }
-    ensures not_put { put_by 0 one_offered ≡ [] }
-    ensures given { WasGivenBy one_ended 0 }
-    ensures not_given { WasGivenBy one_ended 1 → ⊥ }
-    ensures ended { ended_by 0 one_ended ≡ true }
-    ensures open { ended_by 0 (Finished 0 finish.Busy ∷ one_offered) ≡ false }
+    ensures made { HasMade (pool_size 1 1) one_ended ended_pool }
+    ensures put { put_list_by 0 one_ended ≡ eight ∷ [] }
+    ensures not_put { put_list_by 0 one_offered ≡ [] }
+    ensures given { WasGivenBy 0 one_ended }
+    ensures not_given { WasGivenBy 1 one_ended → ⊥ }
+    ensures ended { has_ended_by 0 one_ended ≡ true }
+    ensures open { has_ended_by 0 (Finished 0 finish.Busy ∷ one_offered) ≡ false }
 {}
 
 /// No calls of a pool have other answers, and they leave no other pool.
 pub fn pools_answer_nothing_else()
-    ensures always_full { (s : State) → HasMade 1 1 (Offered 0 8 offer.Full ∷ []) s → ⊥ }
-    ensures cell_left_out { (s : State) → HasMade 1 2 (Offered 0 8 (offer.Cell 1) ∷ []) s → ⊥ }
-    ensures link_before_item { (s : State) → HasMade 1 1 (Pushed 0 (push.Link 0) ∷ one_offered) s → ⊥ }
-    ensures never_ended { (s : State) → HasMade 1 1 (Finished 0 finish.Busy ∷ []) s → ⊥ }
-    ensures ended_while_busy { (s : State) → HasMade 1 1 (Finished 0 finish.Ended ∷ one_offered) s → ⊥ }
-    ensures no_lane { (s : State) → HasMade 1 1 (Finished 1 finish.Ended ∷ []) s → ⊥ }
-    ensures no_cells { (s : State) → HasMade 1 0 one_offered s → ⊥ }
-    ensures nothing_shown { HasMade 1 1 one_ended new_pool → ⊥ }
+    ensures always_full { (s : PoolState)
+        → HasMade (pool_size 1 1) (Offered 0 8 offer.Full ∷ []) s → ⊥ }
+    ensures cell_left_out { (s : PoolState)
+        → HasMade (pool_size 1 2) (Offered 0 8 (offer.Cell 1) ∷ []) s → ⊥ }
+    ensures link_before_item { (s : PoolState)
+        → HasMade (pool_size 1 1) (Pushed 0 (push.Link 0) ∷ one_offered) s → ⊥ }
+    ensures never_ended { (s : PoolState)
+        → HasMade (pool_size 1 1) (Finished 0 finish.Busy ∷ []) s → ⊥ }
+    ensures ended_while_busy { (s : PoolState)
+        → HasMade (pool_size 1 1) (Finished 0 finish.Ended ∷ one_offered) s → ⊥ }
+    ensures no_lane { (s : PoolState)
+        → HasMade (pool_size 1 1) (Finished 1 finish.Ended ∷ []) s → ⊥ }
+    ensures no_cells { (s : PoolState)
+        → HasMade (pool_size 1 0) one_offered s → ⊥ }
+    ensures nothing_shown { HasMade (pool_size 1 1) one_ended new_pool → ⊥ }
 {}

@@ -1,14 +1,15 @@
 //! A producer's place on its lane, as a plain value: what it may do next, and what follows.
 ghost use Rattle.std.specs.Prelude.{◌≡◌, None};
-ghost use Rattle.mb_cells.specs.Standing.{refused_offer, refused_finish, offer_given, push_store, push_answer, next_link, new_lane, lane_offered, lane_pushed, lane_finished};
-ghost use Rattle.mb_cells.specs.declared.lane.Stage.TheVariants.{Open};
+ghost use Rattle.mb_cells.specs.{offer_refusal, finish_refusal, offer_by_found, push_store, push_answer, next_link};
+ghost use Rattle.mb_cells.specs.{new_lane, lane_after_offer, lane_after_push, lane_after_finish};
+ghost use Rattle.mb_cells.specs.declared.lane.LaneStage.TheVariants.{Open};
 
 use crate::access::Word;
 use crate::answer::{Finish, Offer, Push};
 
 /// What a producer has done since its last link store.
 #[derive(Clone, Copy, PartialEq, Eq, Debug)]
-pub enum Stage {
+pub enum LaneStage {
     /// Nothing.
     Open,
     /// Its fetch-add gave this cell for this item.
@@ -36,7 +37,7 @@ pub enum Stage {
 #[derive(Clone, Copy, PartialEq, Eq, Debug)]
 pub struct Lane {
     last: Option<u32>,
-    stage: Stage,
+    stage: LaneStage,
 }
 
 impl Lane {
@@ -46,34 +47,34 @@ impl Lane {
     {
         Lane {
             last: None,
-            stage: Stage::Open,
+            stage: LaneStage::Open,
         }
     }
 
     /// The answer of an offer that makes no access. Without one the offer makes a fetch-add.
     pub fn offer_refusal(self) -> Option<Offer>
-        ensures { result ≡ refused_offer self }
+        ensures { result ≡ offer_refusal self }
     {
         match self.stage {
-            Stage::Ended { .. } => Some(Offer::Closed),
-            Stage::Offered { .. } | Stage::Stored { .. } => Some(Offer::Busy),
-            Stage::Full => Some(Offer::Full),
-            Stage::Open => None,
+            LaneStage::Ended { .. } => Some(Offer::Closed),
+            LaneStage::Offered { .. } | LaneStage::Stored { .. } => Some(Offer::Busy),
+            LaneStage::Full => Some(Offer::Full),
+            LaneStage::Open => None,
         }
     }
 
     /// What follows an offer's fetch-add that gave `found`, in a pool of `cells` cells.
     pub fn offered(&mut self, cells: u32, item: u64, found: u64) -> Offer
-        requires { refused_offer self.old ≡ None }
-        ensures answer { result ≡ offer_given cells found }
-        ensures lane { self.new ≡ lane_offered cells item found self.old }
+        requires { offer_refusal self.old ≡ None }
+        ensures answer { result ≡ offer_by_found cells found }
+        ensures lane { self.new ≡ lane_after_offer cells item found self.old }
     {
         if found < u64::from(cells) {
             let cell = found as u32;
-            self.stage = Stage::Offered { cell, item };
+            self.stage = LaneStage::Offered { cell, item };
             Offer::Cell(cell)
         } else {
-            self.stage = Stage::Full;
+            self.stage = LaneStage::Full;
             Offer::Full
         }
     }
@@ -83,8 +84,8 @@ impl Lane {
         ensures { result ≡ push_store p self }
     {
         match self.stage {
-            Stage::Offered { cell, item } => Some((Word::Item(cell), item)),
-            Stage::Stored { cell } => Some((self.next_link(p), u64::from(cell) + 1)),
+            LaneStage::Offered { cell, item } => Some((Word::Item(cell), item)),
+            LaneStage::Stored { cell } => Some((self.next_link(p), u64::from(cell) + 1)),
             _ => None,
         }
     }
@@ -92,16 +93,16 @@ impl Lane {
     /// What follows a push's store.
     pub fn pushed(&mut self) -> Push
         ensures answer { result ≡ push_answer self.old }
-        ensures lane { self.new ≡ lane_pushed self.old }
+        ensures lane { self.new ≡ lane_after_push self.old }
     {
         match self.stage {
-            Stage::Offered { cell, .. } => {
-                self.stage = Stage::Stored { cell };
+            LaneStage::Offered { cell, .. } => {
+                self.stage = LaneStage::Stored { cell };
                 Push::Item(cell)
             }
-            Stage::Stored { cell } => {
+            LaneStage::Stored { cell } => {
                 self.last = Some(cell);
-                self.stage = Stage::Open;
+                self.stage = LaneStage::Open;
                 Push::Link(cell)
             }
             _ => Push::Idle,
@@ -110,12 +111,12 @@ impl Lane {
 
     /// The answer of a finish that makes no access. Without one the finish stores the end mark.
     pub fn finish_refusal(self) -> Option<Finish>
-        ensures { result ≡ refused_finish self }
+        ensures { result ≡ finish_refusal self }
     {
         match self.stage {
-            Stage::Ended { .. } => Some(Finish::Closed),
-            Stage::Offered { .. } | Stage::Stored { .. } => Some(Finish::Busy),
-            Stage::Open | Stage::Full => None,
+            LaneStage::Ended { .. } => Some(Finish::Closed),
+            LaneStage::Offered { .. } | LaneStage::Stored { .. } => Some(Finish::Busy),
+            LaneStage::Open | LaneStage::Full => None,
         }
     }
 
@@ -131,11 +132,11 @@ impl Lane {
 
     /// What follows the store of the end mark.
     pub fn finished(&mut self)
-        requires { refused_finish self.old ≡ None }
-        ensures { self.new ≡ lane_finished self.old }
+        requires { finish_refusal self.old ≡ None }
+        ensures { self.new ≡ lane_after_finish self.old }
     {
-        self.stage = Stage::Ended {
-            full: self.stage == Stage::Full,
+        self.stage = LaneStage::Ended {
+            full: self.stage == LaneStage::Full,
         };
     }
 }

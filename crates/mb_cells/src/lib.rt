@@ -19,9 +19,9 @@
 //! - [`Lane`] is the place of a producer: [`Lane::next_push`] names the store that comes next and [`Lane::pushed`] what
 //!   it leads to. [`Cursor`] is where a reader stands. They hold no words, so they serve threads too.
 //! - [`Pool`] has all words and lanes under one caller, and makes each access itself.
-//! - [`laws`] has what holds of every history of a pool, whatever the order of the accesses, and of every list of calls,
-//!   as contracts of functions that compute nothing; [`examples`] shows each definition by what it lets in and keeps
-//!   out.
+//! - [`laws`] has what holds of every history of a pool, whatever the order of the accesses, and of every list of
+//!   calls, as contracts of functions that compute nothing; [`steps`] has what builders of worlds and tables need;
+//!   [`examples`] shows each definition by what it lets in and keeps out.
 #![tactic(auto)]
 
 mod access;
@@ -31,10 +31,11 @@ pub mod examples;
 mod lane;
 pub mod laws;
 mod pool;
+pub mod steps;
 mod words;
 
-pub use access::{Access, Act, END, Process, Word};
+pub use access::{END, PoolAccess, PoolAct, Process, Word};
 pub use answer::{Finish, Look, NoMemory, Offer, Push};
 pub use cursor::Cursor;
-pub use lane::{Lane, Stage};
+pub use lane::{Lane, LaneStage};
 pub use pool::Pool;

@@ -10,6 +10,7 @@ use std::alloc::Allocator;
 use std::marker::Model;
 
 /// Cells that producers link into lanes. All calls are one caller's, so each of them is one access, or none.
+/// What any list of calls comes to is the law [`calls_put_items`](crate::laws::calls_put_items).
 #[derive(Drop)]
 pub struct Pool<A: Allocator + Drop> {
     words: Words<A>,
@@ -17,9 +18,9 @@ pub struct Pool<A: Allocator + Drop> {
 }
 
 impl<A: Allocator + Drop> Model for Pool<A> {
-    ghost use Rattle.mb_cells.specs.State.{State, IsSound};
+    ghost use Rattle.mb_cells.specs.{IsSound, PoolState};
 
-    ghost Value = { State };
+    ghost Value = { PoolState };
 
     ghost view = { λ a. record { words = a.words; lanes = a.lanes.items } };
 
@@ -27,7 +28,7 @@ impl<A: Allocator + Drop> Model for Pool<A> {
 }
 
 impl<A: Allocator + Clone + Drop> Pool<A> {
-    ghost use Rattle.mb_cells.specs.State.{IsAfter, lane_count, cell_count};
+    ghost use Rattle.mb_cells.specs.{IsAfter, cell_count, lane_count};
 
     /// A pool of empty lanes, none of whose cells was handed out. All that it will ever need is reserved here, and
     /// [`NoMemory`] comes where the allocator refuses a part of that.
@@ -53,17 +54,25 @@ impl<A: Allocator + Clone + Drop> Pool<A> {
 }
 
 impl<A: Allocator + Drop> Pool<A> {
-    ghost use Rattle.mb_cells.specs.Memory.{History, value_in};
-    ghost use Rattle.mb_cells.specs.Reading.{look_after};
-    ghost use Rattle.mb_cells.specs.State.{IsAfter, IsShownAlike, IsWithin, SameSize, lane_count, cell_count, look_in, item_in};
-    ghost use Rattle.mb_cells.specs.Calls.{OfferMeets, OfferKeeps, PushMeets, FinishMeets, FinishKeeps};
-    ghost use Rattle.mb_cells.specs.declared.access.Word.TheVariants.{Item};
+    ghost use Rattle.mb_cells.specs.{FinishKeeps, FinishMeets, History, IsAfter, IsShownAlike, IsSound, IsWithin};
+    ghost use Rattle.mb_cells.specs.{Item, OfferKeeps, OfferMeets, PushMeets, SameSize, cell_count, item_in};
+    ghost use Rattle.mb_cells.specs.{lane_count, look_after, look_in, value_in};
     ghost use Rattle.mb_cells.specs.declared.answer.Offer.TheVariants as offer;
     ghost use Rattle.mb_cells.specs.declared.answer.Push.TheVariants as push;
     ghost use Rattle.mb_cells.specs.declared.answer.Finish.TheVariants as finish;
     ghost use Rattle.mb_cells.specs.declared.answer.Look.TheVariants as look;
 
-    /// Takes the next cell for item `x` of lane `p`, by one fetch-add of the counter.
+    /// Some lawful history leaves each pool. It computes nothing: its contract is a law of all pools.
+    pub fn has_history(&self)
+        ensures sound { IsSound self.now }
+        ensures history { (h : History) × IsAfter h self.now }
+    {
+        // The invariant of a pool is known where a field is named.
+        let _ = &self.words;
+    }
+
+    /// Takes the next cell for item `x` of lane `p`, by one fetch-add of the counter. Which cell that is by the calls
+    /// before, [`calls_put_items`](crate::laws::calls_put_items) says.
     pub fn offer(&mut self, p: u32, x: u64) -> Offer
         requires { p < lane_count self.old }
         ensures meets { OfferMeets self.old p x result self.new }
@@ -84,7 +93,8 @@ impl<A: Allocator + Drop> Pool<A> {
         answer
     }
 
-    /// Stores the item that was offered on lane `p`, and at the next call its link.
+    /// Stores the item that was offered on lane `p`, and at the next call its link. The items put are those of
+    /// [`calls_put_items`](crate::laws::calls_put_items).
     pub fn push(&mut self, p: u32) -> Push
         requires { p < lane_count self.old }
         ensures meets { PushMeets self.old p result self.new }
@@ -101,7 +111,8 @@ impl<A: Allocator + Drop> Pool<A> {
         answer
     }
 
-    /// Stores the end mark of lane `p`.
+    /// Stores the end mark of lane `p`, which readers then find behind its last cell, as
+    /// [`calls_put_items`](crate::laws::calls_put_items) says.
     pub fn finish(&mut self, p: u32) -> Finish
         requires { p < lane_count self.old }
         ensures meets { FinishMeets self.old p result self.new }
@@ -119,17 +130,15 @@ impl<A: Allocator + Drop> Pool<A> {
         Finish::Ended
     }
 
-    /// What stands behind the cursor.
+    /// What stands behind the cursor. From a lane's head on that is what the calls put, in their order:
+    /// [`calls_put_items`](crate::laws::calls_put_items).
     pub fn look(&self, cursor: Cursor) -> Look
-        requires { IsWithin self.now cursor }
-        ensures shown { result ≡ look_in self.now cursor }
-        ensures after { (h : History) → IsAfter h self.now → result ≡ look_after h cursor }
+        requires { IsWithin cursor self.now }
+        ensures shown { result ≡ look_in cursor self.now }
+        ensures after { (h : History) → IsAfter h self.now → result ≡ look_after cursor h }
 
         // The cell that is found has an item, and a place past it.
         ensures within { (k : ℕ) → result ≡ look.Cell k → k < cell_count self.now }
-
-        // Some lawful history leaves each pool.
-        ensures history { (h : History) × IsAfter h self.now }
     {
         let link = self.words.load(cursor.word());
         if link == 0 {
@@ -141,11 +150,12 @@ impl<A: Allocator + Drop> Pool<A> {
         }
     }
 
-    /// The item of cell `k`.
+    /// The item of cell `k`: for a cell that was linked the item put, as
+    /// [`calls_put_items`](crate::laws::calls_put_items) says.
     pub fn item(&self, k: u32) -> u64
         requires { k < cell_count self.now }
-        ensures shown { result ≡ item_in self.now k }
-        ensures after { (h : History) → IsAfter h self.now → result ≡ value_in h (Item k) }
+        ensures shown { result ≡ item_in k self.now }
+        ensures after { (h : History) → IsAfter h self.now → result ≡ value_in (Item k) h }
     {
         self.words.load(Word::Item(k))
     }

@@ -1,6 +1,6 @@
 //! The words of a pool.
 ghost use Rattle.std.specs.Prelude.{◌≡◌, ◌<◌, ◌^◌, length};
-ghost use Rattle.mb_cells.specs.State.{HasWord, stored, word_in};
+ghost use Rattle.mb_cells.specs.{HasWord, words_with, word_in};
 
 use crate::access::Word;
 use std::alloc::Allocator;
@@ -20,11 +20,16 @@ pub struct Words<A: Allocator + Drop> {
 }
 
 impl<A: Allocator + Drop> Model for Words<A> {
-    ghost use Rattle.mb_cells.specs.State.{PoolWords};
+    ghost use Rattle.mb_cells.specs.{PoolWords};
 
     ghost Value = { PoolWords };
 
-    ghost view = { λ w. record { counter = w.counter; heads = w.heads.items; links = w.links.items; items = w.items.items } };
+    ghost view = { λ w. record {
+      counter = w.counter;
+      heads = w.heads.items;
+      links = w.links.items;
+      items = w.items.items;
+    } };
 }
 
 impl<A: Allocator + Drop> Words<A> {
@@ -38,8 +43,8 @@ impl<A: Allocator + Drop> Words<A> {
 
     /// What the word holds.
     pub fn load(&self, word: Word) -> u64
-        requires { HasWord self.now word }
-        ensures { result ≡ word_in self.now word }
+        requires { HasWord word self.now }
+        ensures { result ≡ word_in word self.now }
     {
         match word {
             Word::Counter => self.counter,
@@ -51,8 +56,8 @@ impl<A: Allocator + Drop> Words<A> {
 
     /// Stores a value in the word.
     pub fn store(&mut self, word: Word, value: u64)
-        requires { HasWord self.old word }
-        ensures { self.new ≡ stored self.old word value }
+        requires { HasWord word self.old }
+        ensures { self.new ≡ words_with word value self.old }
     {
         match word {
             Word::Counter => self.counter = value,

@@ -1,10 +1,9 @@
-use Rattle.std.proofs.Common.{◌≡◌, ℕ, List, [], ◌∷◌, refl, inl, inr, arith}
+use Rattle.std.proofs.Common.{List, [], arith, inl, inr, refl, ℕ, ◌∷◌, ◌≡◌}
 use Rattle.mb_cells.specs.declared.answer.Offer.TheVariants as offer
 use Rattle.mb_cells.specs.declared.answer.Push.TheVariants as push
-use Rattle.mb_cells.specs.CallLists.{Call, HasMade, Pushed}
-use Rattle.mb_cells.specs.Examples.{new_pool, one_offered, put_pool, taken_pool}
-use Rattle.mb_cells.proofs.ExamplePools.{end_one, fill_one, filled_pool, link_one, new_after, offer_one}
 use Rattle.mb_cells.proofs.examples.calls_put_one_item.Goals as goal
+use Rattle.mb_cells.specs.{Call, HasMade, Pushed, new_pool, one_offered, pool_size, put_pool, taken_pool}
+use Rattle.mb_cells.proofs.ExamplePools.{end_one, fill_one, filled_pool, link_one, new_after, offer_one}
 
 same_cell : (n m : ℕ) → offer.Cell n ≡ offer.Cell m → n ≡ m
 same_cell n m e = cc
@@ -14,10 +13,13 @@ one_filled = Pushed 0 (push.Item 0) ∷ one_offered
 
 pub returns-clause-made : goal.returns-clause-made
 returns-clause-made c =
-    let new : HasMade 1 1 [] new_pool = (refl, refl, new_after) in
-    let offered : HasMade 1 1 one_offered taken_pool = (new_pool, (new, (omega arith, offer_one, (refl, refl)))) in
-    let filled : HasMade 1 1 one_filled filled_pool = (taken_pool, (offered, (omega arith, fill_one, (refl, refl)))) in
-    let put : HasMade 1 1 (Pushed 0 (push.Link 0) ∷ one_filled) put_pool = (filled_pool, (filled, (omega arith, link_one, (refl, refl)))) in
+    let new : HasMade (pool_size 1 1) [] new_pool = (refl, refl, new_after) in
+    let offered : HasMade (pool_size 1 1) one_offered taken_pool =
+    (new_pool, (new, (omega arith, offer_one, (refl, refl)))) in
+    let filled : HasMade (pool_size 1 1) one_filled filled_pool =
+    (taken_pool, (offered, (omega arith, fill_one, (refl, refl)))) in
+    let put : HasMade (pool_size 1 1) (Pushed 0 (push.Link 0) ∷ one_filled) put_pool =
+    (filled_pool, (filled, (omega arith, link_one, (refl, refl)))) in
     (put_pool, (put, (omega arith, end_one, (refl, refl))))
 
 pub returns-clause-put : goal.returns-clause-put

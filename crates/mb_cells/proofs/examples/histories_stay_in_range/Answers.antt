@@ -1,4 +1,4 @@
-use Rattle.std.proofs.Common.{◌<◌, arith}
+use Rattle.std.proofs.Common.{arith, ◌<◌}
 use Rattle.mb_cells.proofs.examples.histories_stay_in_range.Goals as goal
 
 pub returns-clause-no_lane : goal.returns-clause-no_lane

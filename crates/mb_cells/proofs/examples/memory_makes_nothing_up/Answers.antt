@@ -1,4 +1,4 @@
-use Rattle.std.proofs.Common.{◌≡◌, arith}
+use Rattle.std.proofs.Common.{arith, refl, ◌≡◌}
 use Rattle.mb_cells.proofs.examples.memory_makes_nothing_up.Goals as goal
 
 pub returns-clause-no_store : goal.returns-clause-no_store
@@ -9,3 +9,6 @@ returns-clause-old_value c = λ m. let e : 0 ≡ 1 = m.0 in omega arith
 
 pub returns-clause-same_number : goal.returns-clause-same_number
 returns-clause-same_number c = λ m. let e : 0 ≡ 1 = m.0 in omega arith
+
+pub returns-clause-next_number : goal.returns-clause-next_number
+returns-clause-next_number c = (refl, (refl, tt))

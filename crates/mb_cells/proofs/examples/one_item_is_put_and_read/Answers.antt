@@ -1,59 +1,57 @@
-use Rattle.std.proofs.Common.{[], ◌∷◌, None, refl, inl, inr, arith}
-use Rattle.mb_cells.specs.Examples.{eight, one_put, taken_only}
-use Rattle.mb_cells.specs.LanePath.{fetch, store}
-use Rattle.mb_cells.specs.Lawful.{IsLawful}
-use Rattle.mb_cells.specs.Memory.{History}
-use Rattle.mb_cells.specs.Met.{load}
-use Rattle.mb_cells.specs.Place.{Ended, IsAt, Offered, Open, Stored}
-use Rattle.mb_cells.specs.ReaderPath.{Gave}
-use Rattle.mb_cells.specs.declared.access.TheConstants.{END}
-use Rattle.mb_cells.specs.declared.access.Word.TheVariants.{Head, Item, Link}
-use Rattle.mb_cells.proofs.Places.{prefix_at}
-use Rattle.mb_cells.proofs.Steps.{empty_lawful, producer_step, reader_step}
+use Rattle.std.proofs.Common.{None, [], arith, inl, inr, refl, ◌∷◌}
 use Rattle.mb_cells.proofs.examples.one_item_is_put_and_read.Goals as goal
+use Rattle.mb_cells.specs.{END, Gave, Head, History, IsAt, IsPoolLawful, Item, Link, eight, fetch, load, one_put, one_taken, pool_size, store}
+use Rattle.mb_cells.specs.Place.{Ended, Offered, Open, Stored}
+use Rattle.mb_cells.proofs.OneStep.{empty_lawful, producer_step, reader_step}
+use Rattle.mb_cells.proofs.Places.{prefix_at}
 
-taken : IsLawful 1 1 taken_only
+taken : IsPoolLawful (pool_size 1 1) one_taken
 taken =
-    let at : IsAt 1 0 [] (Offered eight) taken_only = record { below = tt; fits = omega arith; is = refl } in
-    producer_step 1 1 [] (fetch 0 eight) 0 (empty_lawful 1 1 (omega arith)) refl (omega arith)
-    (omega arith, omega arith) refl (prefix_at 1 0 [] (Offered eight) taken_only at)
+    let at : IsAt 1 0 [] (Offered eight) one_taken = record { below = tt; fits = omega arith; is = refl } in
+    producer_step (pool_size 1 1) [] (fetch 0 eight) 0 (empty_lawful (pool_size 1 1) (omega arith)) refl (omega arith)
+    (omega arith, omega arith) refl (prefix_at 1 0 [] (Offered eight) one_taken at)
 
-looked : IsLawful 1 1 (load 5 (Head 0) 0 ∷ taken_only)
-looked = reader_step 1 1 taken_only 5 (Head 0) taken (omega arith)
+looked : IsPoolLawful (pool_size 1 1) (load 5 (Head 0) 0 ∷ one_taken)
+looked = reader_step (pool_size 1 1) one_taken 5 (Head 0) taken (omega arith)
 
-filled : IsLawful 1 1 (store 0 (Item 0) 8 ∷ load 5 (Head 0) 0 ∷ taken_only)
+filled : IsPoolLawful (pool_size 1 1) (store 0 (Item 0) 8 ∷ load 5 (Head 0) 0 ∷ one_taken)
 filled =
-    let at : IsAt 1 0 [] (Stored eight) (store 0 (Item 0) 8 ∷ taken_only) = record { below = tt; fits = omega arith; is = refl } in
-    producer_step 1 1 (load 5 (Head 0) 0 ∷ taken_only) (store 0 (Item 0) 8) 0 looked refl (omega arith)
-    (omega arith) tt (prefix_at 1 0 [] (Stored eight) (store 0 (Item 0) 8 ∷ taken_only) at)
+    let at : IsAt 1 0 [] (Stored eight) (store 0 (Item 0) 8 ∷ one_taken) =
+    record { below = tt; fits = omega arith; is = refl } in
+    producer_step (pool_size 1 1) (load 5 (Head 0) 0 ∷ one_taken) (store 0 (Item 0) 8) 0 looked refl (omega arith)
+    (omega arith) tt (prefix_at 1 0 [] (Stored eight) (store 0 (Item 0) 8 ∷ one_taken) at)
 
 abbrev pub linked_history : History
-linked_history = store 0 (Head 0) 1 ∷ store 0 (Item 0) 8 ∷ load 5 (Head 0) 0 ∷ taken_only
+linked_history = store 0 (Head 0) 1 ∷ store 0 (Item 0) 8 ∷ load 5 (Head 0) 0 ∷ one_taken
 
-linked_now : IsLawful 1 1 linked_history
+linked_now : IsPoolLawful (pool_size 1 1) linked_history
 linked_now =
     let at : IsAt 1 0 (eight ∷ []) Open one_put = record { below = (omega arith, tt); fits = tt; is = refl } in
-    producer_step 1 1 (store 0 (Item 0) 8 ∷ load 5 (Head 0) 0 ∷ taken_only) (store 0 (Head 0) 1) 0 filled refl
+    producer_step (pool_size 1 1) (store 0 (Item 0) 8 ∷ load 5 (Head 0) 0 ∷ one_taken)
+    (store 0 (Head 0) 1) 0 filled refl
     (omega arith) (omega arith) tt (prefix_at 1 0 (eight ∷ []) Open one_put at)
 
-found : IsLawful 1 1 (load 5 (Head 0) 1 ∷ linked_history)
-found = reader_step 1 1 linked_history 5 (Head 0) linked_now (omega arith)
+found : IsPoolLawful (pool_size 1 1) (load 5 (Head 0) 1 ∷ linked_history)
+found = reader_step (pool_size 1 1) linked_history 5 (Head 0) linked_now (omega arith)
 
-given_zero : Gave (load 5 (Head 0) 1 ∷ load 5 (Head 0) 0 ∷ []) 0
+given_zero : Gave 0 (load 5 (Head 0) 1 ∷ load 5 (Head 0) 0 ∷ [])
 given_zero = inl (refl, λ e. absurd (omega arith))
 
-took : IsLawful 1 1 (load 5 (Item 0) 8 ∷ load 5 (Head 0) 1 ∷ linked_history)
-took = reader_step 1 1 (load 5 (Head 0) 1 ∷ linked_history) 5 (Item 0) found given_zero
+took : IsPoolLawful (pool_size 1 1) (load 5 (Item 0) 8 ∷ load 5 (Head 0) 1 ∷ linked_history)
+took = reader_step (pool_size 1 1) (load 5 (Head 0) 1 ∷ linked_history) 5 (Item 0) found given_zero
 
-finished : IsLawful 1 1 (store 0 (Link 0) END ∷ load 5 (Item 0) 8 ∷ load 5 (Head 0) 1 ∷ linked_history)
+finished : IsPoolLawful (pool_size 1 1) (store 0 (Link 0) END ∷ load 5 (Item 0) 8 ∷ load 5 (Head 0) 1 ∷ linked_history)
 finished =
-    let at : IsAt 1 0 (eight ∷ []) (Ended None) (store 0 (Link 0) END ∷ one_put) = record { below = (omega arith, tt); fits = tt; is = refl } in
-    producer_step 1 1 (load 5 (Item 0) 8 ∷ load 5 (Head 0) 1 ∷ linked_history) (store 0 (Link 0) END) 0 took refl (omega arith) (omega arith) tt
+    let at : IsAt 1 0 (eight ∷ []) (Ended None) (store 0 (Link 0) END ∷ one_put) =
+    record { below = (omega arith, tt); fits = tt; is = refl } in
+    producer_step (pool_size 1 1) (load 5 (Item 0) 8 ∷ load 5 (Head 0) 1 ∷ linked_history)
+    (store 0 (Link 0) END) 0 took refl (omega arith) (omega arith) tt
     (prefix_at 1 0 (eight ∷ []) (Ended None) (store 0 (Link 0) END ∷ one_put) at)
 
 pub returns-clause-lawful : goal.returns-clause-lawful
 returns-clause-lawful c =
-    reader_step 1 1 (store 0 (Link 0) END ∷ load 5 (Item 0) 8 ∷ load 5 (Head 0) 1 ∷ linked_history) 5 (Link 0) finished (inr given_zero)
+    reader_step (pool_size 1 1) (store 0 (Link 0) END ∷ load 5 (Item 0) 8 ∷ load 5 (Head 0) 1 ∷ linked_history) 5
+    (Link 0) finished (inr given_zero)
 
 pub returns-clause-put : goal.returns-clause-put
 returns-clause-put c = refl

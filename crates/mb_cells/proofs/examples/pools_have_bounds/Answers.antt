@@ -1,4 +1,4 @@
-use Rattle.std.proofs.Common.{◌≡◌, ◌<◌, refl, ap, arith}
+use Rattle.std.proofs.Common.{ap, arith, refl, ◌<◌, ◌≡◌}
 use Rattle.std.specs.Prelude.{slice_index}
 use Rattle.mb_cells.proofs.examples.pools_have_bounds.Goals as goal
 

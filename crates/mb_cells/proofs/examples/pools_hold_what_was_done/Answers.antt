@@ -1,11 +1,9 @@
-use Rattle.std.proofs.Common.{◌≡◌, refl, ap, arith}
-use Rattle.mb_cells.specs.Examples.{one_put}
-use Rattle.mb_cells.specs.Standing.{new_lane}
-use Rattle.mb_cells.specs.declared.lane.Lane.{Lane}
-use Rattle.mb_cells.proofs.Counts.{counter_bound}
-use Rattle.mb_cells.proofs.LaneSteps.{same_lane}
-use Rattle.mb_cells.proofs.ExamplePools.{not_linked, put_after, put_place, put_sound}
+use Rattle.std.proofs.Common.{ap, arith, refl, ◌≡◌}
 use Rattle.mb_cells.proofs.examples.pools_hold_what_was_done.Goals as goal
+use Rattle.mb_cells.specs.{Counter, Head, Lane, new_lane, one_put, pool_size}
+use Rattle.mb_cells.proofs.Counts.{counter_bound}
+use Rattle.mb_cells.proofs.ExamplePools.{not_linked, put_after, put_place, put_sound}
+use Rattle.mb_cells.proofs.LaneSteps.{same_lane}
 
 pub returns-clause-put : goal.returns-clause-put
 returns-clause-put c = put_after
@@ -17,10 +15,10 @@ pub returns-clause-item : goal.returns-clause-item
 returns-clause-item c = refl
 
 pub returns-clause-counter : goal.returns-clause-counter
-returns-clause-counter c = λ after. let e : 0 ≡ 1 = after.counter in omega (arith, e)
+returns-clause-counter c = λ after. let e : 0 ≡ 1 = after.words Counter tt in omega (arith, e)
 
 pub returns-clause-head : goal.returns-clause-head
-returns-clause-head c = λ after. let e : 0 ≡ 1 = after.words.0 0 (omega arith) in omega (arith, e)
+returns-clause-head c = λ after. let e : 0 ≡ 1 = after.words (Head 0) (omega arith) in omega (arith, e)
 
 pub returns-clause-place : goal.returns-clause-place
 returns-clause-place c = λ after.
@@ -36,4 +34,5 @@ returns-clause-sound c = put_sound
 
 pub returns-clause-unsound : goal.returns-clause-unsound
 returns-clause-unsound c = λ sound.
-    let after = sound.history.1 in omega (arith, after.counter, counter_bound 1 1 sound.history.0 after.lawful)
+    let after = sound.history.1 in
+    omega (arith, after.words Counter tt, counter_bound (pool_size 1 1) sound.history.0 after.lawful)

@@ -1,33 +1,55 @@
-use Rattle.std.proofs.Common.{◌≡◌, ℕ, ◌<◌, false, [], ◌∷◌, Option, Some, None, refl, ap, inl, inr, arith}
+use Rattle.std.proofs.Common.{None, Option, Some, [], ap, arith, false, inl, inr, refl, ℕ, ◌<◌, ◌∷◌, ◌≡◌}
 use Rattle.mb_cells.specs.declared.answer.Offer.TheVariants as offer
 use Rattle.mb_cells.specs.declared.answer.Finish.TheVariants as finish
-use Rattle.mb_cells.specs.declared.lane.Stage.TheVariants as stage
-use Rattle.mb_cells.specs.Examples.{eight, one_put, taken_only}
-use Rattle.mb_cells.specs.LanePath.{IsLanePrefix, store}
-use Rattle.mb_cells.specs.Standing.{IsLaneAfter, push_store}
-use Rattle.mb_cells.specs.declared.access.TheConstants.{END}
-use Rattle.mb_cells.specs.declared.access.Word.{Word}
-use Rattle.mb_cells.specs.declared.access.Word.TheVariants.{Head, Item, Link}
-use Rattle.mb_cells.specs.declared.lane.Lane.{Lane}
-use Rattle.mb_cells.proofs.NextAccesses.{fetches_only, stores_only}
+use Rattle.mb_cells.specs.declared.lane.LaneStage.TheVariants as stage
 use Rattle.mb_cells.proofs.examples.producers_keep_their_order.Goals as goal
 use Rattle.mb_cells.specs.Place as phase
+use Rattle.mb_cells.specs.{END, Head, IsLaneAfter, IsLanePrefix, Item, Lane, Link, Word, eight, one_put, one_taken, push_store, store}
+use Rattle.mb_cells.proofs.NextAccesses.{fetches_only, stores_only}
 
 -- a producer that has taken the cell
 abbrev pub taken_lane : Lane
 taken_lane = record { last = None; stage = stage.Offered 0 8 }
 
-taken_at : (cells : ℕ) → 0 < cells → IsLaneAfter cells 0 taken_lane taken_only
-taken_at cells b = record { entries = []; phase = phase.Offered eight; at = record { below = tt; fits = b; is = refl }; last = refl; stage = refl }
+taken_at : (cells : ℕ) → 0 < cells → IsLaneAfter cells 0 taken_lane one_taken
+taken_at cells b =
+    record {
+      entries = [];
+      phase = phase.Offered eight;
+      at = record { below = tt; fits = b; is = refl };
+      last = refl;
+      stage = refl;
+    }
 
-full_at_start : IsLaneAfter 0 0 (record { last = None; stage = stage.Full }) taken_only
-full_at_start = record { entries = []; phase = phase.Full eight; at = record { below = tt; fits = omega arith; is = refl }; last = refl; stage = refl }
+full_at_start : IsLaneAfter 0 0 (record { last = None; stage = stage.Full }) one_taken
+full_at_start =
+    record {
+      entries = [];
+      phase = phase.Full eight;
+      at = record { below = tt; fits = omega arith; is = refl };
+      last = refl;
+      stage = refl;
+    }
 
 put_at_one : IsLaneAfter 1 0 (record { last = Some 0; stage = stage.Open }) one_put
-put_at_one = record { entries = eight ∷ []; phase = phase.Open; at = record { below = (omega arith, tt); fits = tt; is = refl }; last = refl; stage = refl }
+put_at_one =
+    record {
+      entries = eight ∷ [];
+      phase = phase.Open;
+      at = record { below = (omega arith, tt); fits = tt; is = refl };
+      last = refl;
+      stage = refl;
+    }
 
 ended_at : IsLaneAfter 1 0 (record { last = Some 0; stage = stage.Ended false }) (store 0 (Link 0) END ∷ one_put)
-ended_at = record { entries = eight ∷ []; phase = phase.Ended None; at = record { below = (omega arith, tt); fits = tt; is = refl }; last = refl; stage = refl }
+ended_at =
+    record {
+      entries = eight ∷ [];
+      phase = phase.Ended None;
+      at = record { below = (omega arith, tt); fits = tt; is = refl };
+      last = refl;
+      stage = refl;
+    }
 
 not_none : (s : Word × ℕ) → None ≡ Some s → ⊥
 not_none s e = cc
@@ -47,21 +69,24 @@ same_values w u n m e =
     let b : Word × ℕ = (u, m) in
     let pair : a ≡ b = cc in ap (λ (z : Word × ℕ). z.1) pair
 
-not_from_taken : (w : Word) (v : ℕ) → (push_store 0 taken_lane ≡ Some (w, v) → ⊥) → IsLanePrefix 1 0 (store 0 w v ∷ taken_only) → ⊥
+not_from_taken : (w : Word) (v : ℕ) → (push_store 0 taken_lane ≡ Some (w, v) → ⊥)
+    → IsLanePrefix 1 0 (store 0 w v ∷ one_taken) → ⊥
 not_from_taken w v ne prefix =
-    elim (stores_only 1 0 taken_lane taken_only w v (taken_at 1 (omega arith)) prefix) [
+    elim (stores_only 1 0 taken_lane one_taken w v (taken_at 1 (omega arith)) prefix) [
       | inl e ↦ ne e
       | inr e ↦ let busy : Some finish.Busy ≡ None = e.0 in cc
     ]
 
 pub returns-clause-link_before_item : goal.returns-clause-link_before_item
-returns-clause-link_before_item c = not_from_taken (Head 0) 1 (λ e. let w : Item 0 ≡ Head 0 = same_words (Item 0) (Head 0) 8 1 e in cc)
+returns-clause-link_before_item c =
+    not_from_taken (Head 0) 1 (λ e. let w : Item 0 ≡ Head 0 = same_words (Item 0) (Head 0) 8 1 e in cc)
 
 pub returns-clause-other_item : goal.returns-clause-other_item
 returns-clause-other_item c = not_from_taken (Item 0) 9 (λ e. omega (arith, same_values (Item 0) (Item 0) 8 9 e))
 
 pub returns-clause-end_while_busy : goal.returns-clause-end_while_busy
-returns-clause-end_while_busy c = not_from_taken (Head 0) END (λ e. let w : Item 0 ≡ Head 0 = same_words (Item 0) (Head 0) 8 END e in cc)
+returns-clause-end_while_busy c =
+    not_from_taken (Head 0) END (λ e. let w : Item 0 ≡ Head 0 = same_words (Item 0) (Head 0) 8 END e in cc)
 
 pub returns-clause-end_over_link : goal.returns-clause-end_over_link
 returns-clause-end_over_link c = λ prefix.
@@ -72,12 +97,14 @@ returns-clause-end_over_link c = λ prefix.
 
 pub returns-clause-offer_while_busy : goal.returns-clause-offer_while_busy
 returns-clause-offer_while_busy c = λ prefix.
-    let none : Some offer.Busy ≡ None = fetches_only 2 0 taken_lane taken_only (record { cell = 1; value = 9 }) (taken_at 2 (omega arith)) prefix in cc
+    let none : Some offer.Busy ≡ None =
+    fetches_only 2 0 taken_lane one_taken (record { cell = 1; value = 9 }) (taken_at 2 (omega arith)) prefix in cc
 
 pub returns-clause-offer_after_full : goal.returns-clause-offer_after_full
 returns-clause-offer_after_full c = λ prefix.
     let none : Some offer.Full ≡ None =
-    fetches_only 0 0 (record { last = None; stage = stage.Full }) taken_only (record { cell = 1; value = 9 }) full_at_start prefix in cc
+    fetches_only 0 0 (record { last = None; stage = stage.Full }) one_taken
+    (record { cell = 1; value = 9 }) full_at_start prefix in cc
 
 pub returns-clause-after_end : goal.returns-clause-after_end
 returns-clause-after_end c = λ prefix.

@@ -1,16 +1,10 @@
-use Rattle.std.proofs.Common.{◌≡◌, ℕ, [], ◌∷◌, Option, Some, None, ap, inl, inr, arith}
-use Rattle.mb_cells.specs.declared.lane.Stage.TheVariants as stage
-use Rattle.mb_cells.specs.Examples.{one_put, taken_only}
-use Rattle.mb_cells.specs.LanePath.{store}
-use Rattle.mb_cells.specs.Standing.{new_lane}
-use Rattle.mb_cells.specs.declared.access.Word.{Word}
-use Rattle.mb_cells.specs.declared.access.TheConstants.{END}
-use Rattle.mb_cells.specs.declared.access.Word.TheVariants.{Head}
-use Rattle.mb_cells.specs.declared.lane.Lane.{Lane}
+use Rattle.std.proofs.Common.{None, Option, Some, [], ap, arith, inl, inr, ℕ, ◌∷◌, ◌≡◌}
+use Rattle.mb_cells.specs.declared.lane.LaneStage.TheVariants as stage
+use Rattle.mb_cells.proofs.examples.producers_stand_at_one_place.Goals as goal
+use Rattle.mb_cells.specs.{END, Head, Lane, Word, new_lane, one_put, one_taken, store}
+use Rattle.mb_cells.proofs.ExamplePools.{full_after, full_place, not_linked, put_after, put_place, taken_after, taken_place}
 use Rattle.mb_cells.proofs.LaneSteps.{lane_prefix, same_lane, start_lane}
 use Rattle.mb_cells.proofs.NextAccesses.{stores_only}
-use Rattle.mb_cells.proofs.ExamplePools.{full_after, full_place, not_linked, put_after, put_place, taken_after, taken_place}
-use Rattle.mb_cells.proofs.examples.producers_stand_at_one_place.Goals as goal
 
 abbrev pub some_store : Word → ℕ → Option (Word × ℕ)
 some_store w v = Some (w, v)
@@ -30,12 +24,14 @@ returns-clause-full c = full_after.lanes 0 full_place (omega arith)
 pub returns-clause-not_new : goal.returns-clause-not_new
 returns-clause-not_new c = λ at.
     let same : new_lane ≡ put_place =
-    same_lane 1 0 new_lane put_place one_put at (put_after.lanes 0 put_place (omega arith)) in not_linked 0 (ap (λ (l : Lane). l.last) same)
+    same_lane 1 0 new_lane put_place one_put at (put_after.lanes 0 put_place (omega arith)) in
+    not_linked 0 (ap (λ (l : Lane). l.last) same)
 
 pub returns-clause-not_stored : goal.returns-clause-not_stored
 returns-clause-not_stored c = λ at.
-    let stored : Lane = record { last = None; stage = stage.Stored 0 } in
-    let same : stored ≡ taken_place = same_lane 1 0 stored taken_place taken_only at (taken_after.lanes 0 taken_place (omega arith)) in
+    let filled : Lane = record { last = None; stage = stage.Stored 0 } in
+    let same : filled ≡ taken_place =
+    same_lane 1 0 filled taken_place one_taken at (taken_after.lanes 0 taken_place (omega arith)) in
     let stages : stage.Stored 0 ≡ stage.Offered 0 8 = ap (λ (l : Lane). l.stage) same in cc
 
 pub returns-clause-nowhere : goal.returns-clause-nowhere

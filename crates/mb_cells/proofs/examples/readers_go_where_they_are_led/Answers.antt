@@ -1,7 +1,6 @@
-use Rattle.std.proofs.Common.{◌≡◌, ℕ, ◌+◌, ◌<◌, refl, ap, inl, inr, arith}
-use Rattle.mb_cells.specs.declared.access.Access.{Access}
-use Rattle.mb_cells.specs.declared.access.Act.TheVariants.{Load}
+use Rattle.std.proofs.Common.{ap, arith, inl, inr, refl, ℕ, ◌+◌, ◌<◌, ◌≡◌}
 use Rattle.mb_cells.proofs.examples.readers_go_where_they_are_led.Goals as goal
+use Rattle.mb_cells.specs.{Load, PoolAccess}
 
 pub returns-clause-not_given : goal.returns-clause-not_given
 returns-clause-not_given c = λ path.
@@ -26,6 +25,6 @@ same_load n m e = cc
 pub returns-clause-nothing_met : goal.returns-clause-nothing_met
 returns-clause-nothing_met c = λ met.
     elim met.0 [
-      | inl is ↦ omega (arith, same_load 0 1 (ap (λ (x : Access). x.act) is))
+      | inl is ↦ omega (arith, same_load 0 1 (ap (λ (x : PoolAccess). x.act) is))
       | inr none ↦ none
     ]

@@ -1,6 +1,6 @@
+use Rattle.mb_cells.proofs.laws.calls_put_items.Goals as goal
 use Rattle.mb_cells.proofs.CallLaws.{calls_answer, calls_once, calls_once_each, calls_read, calls_within}
 use Rattle.mb_cells.proofs.CallNumbers.{calls_cell, calls_counter, calls_full, calls_handed_out}
-use Rattle.mb_cells.proofs.laws.calls_put_items.Goals as goal
 
 pub returns-clause-reads : goal.returns-clause-reads
 returns-clause-reads c = calls_read

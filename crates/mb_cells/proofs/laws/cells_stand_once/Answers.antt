@@ -1,5 +1,5 @@
-use Rattle.mb_cells.proofs.Items.{cell_within, once_each, one_lane}
 use Rattle.mb_cells.proofs.laws.cells_stand_once.Goals as goal
+use Rattle.mb_cells.proofs.Items.{cell_within, once_each, one_lane}
 
 pub returns-clause-lane : goal.returns-clause-lane
 returns-clause-lane c = one_lane

@@ -1,7 +1,7 @@
+use Rattle.mb_cells.proofs.laws.loads_tell_what_stays.Goals as goal
 use Rattle.mb_cells.proofs.Histories.{link_load}
 use Rattle.mb_cells.proofs.Items.{given, item_put, item_value}
 use Rattle.mb_cells.proofs.LaneReading.{end_load, next_load}
-use Rattle.mb_cells.proofs.laws.loads_tell_what_stays.Goals as goal
 
 pub returns-clause-link : goal.returns-clause-link
 returns-clause-link c = link_load

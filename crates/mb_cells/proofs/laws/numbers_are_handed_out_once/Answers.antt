@@ -1,18 +1,25 @@
-use Rattle.mb_cells.proofs.Counts.{all_handed_out, counter_bound, handed_out}
-use Rattle.mb_cells.proofs.Parts.{fetch-below, fetch-one}
 use Rattle.mb_cells.proofs.laws.numbers_are_handed_out_once.Goals as goal
+use Rattle.mb_cells.proofs.Counter.{counter_count, fetch-below, fetch-one}
+use Rattle.mb_cells.proofs.Counts.{all_handed_out, counter_bound, found_count, handed_out}
+use Rattle.mb_cells.proofs.Histories.{lawful-counted}
 
 pub returns-clause-bound : goal.returns-clause-bound
 returns-clause-bound c = counter_bound
 
 pub returns-clause-given : goal.returns-clause-given
-returns-clause-given c = λ lanes cells h p e l has. fetch-below h p e l.memory has
+returns-clause-given c = λ size h p e l has. fetch-below h p e (lawful-counted size h l) has
 
 pub returns-clause-handed_out : goal.returns-clause-handed_out
-returns-clause-handed_out c = λ lanes cells h k l lt. handed_out h k l.memory lt
+returns-clause-handed_out c = λ size h k l lt. handed_out h k (lawful-counted size h l) lt
 
 pub returns-clause-once : goal.returns-clause-once
-returns-clause-once c = λ lanes cells h p q e f l. fetch-one h p q e f l.memory
+returns-clause-once c = λ size h p q e f l. fetch-one h p q e f (lawful-counted size h l)
 
 pub returns-clause-refused : goal.returns-clause-refused
 returns-clause-refused c = all_handed_out
+
+pub returns-clause-counter : goal.returns-clause-counter
+returns-clause-counter c = λ size h l. counter_count h (lawful-counted size h l)
+
+pub returns-clause-found : goal.returns-clause-found
+returns-clause-found c = found_count

@@ -1,5 +1,5 @@
-use Rattle.mb_cells.proofs.ReaderParts.{lane_path, path_of_parts, some_lane_on}
 use Rattle.mb_cells.proofs.laws.readers_keep_to_lanes.Goals as goal
+use Rattle.mb_cells.proofs.ReaderParts.{lane_path, path_of_parts, some_lane_on}
 
 pub returns-clause-part : goal.returns-clause-part
 returns-clause-part c = lane_path

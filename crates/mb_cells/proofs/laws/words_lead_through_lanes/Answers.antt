@@ -1,7 +1,7 @@
-use Rattle.mb_cells.proofs.EndMarks.{end_word}
-use Rattle.mb_cells.proofs.LaneReading.{lane_reads, next_cell}
-use Rattle.mb_cells.proofs.Items.{item_left}
 use Rattle.mb_cells.proofs.laws.words_lead_through_lanes.Goals as goal
+use Rattle.mb_cells.proofs.EndMarks.{end_word}
+use Rattle.mb_cells.proofs.Items.{item_left}
+use Rattle.mb_cells.proofs.LaneReading.{lane_reads, next_cell}
 
 pub returns-clause-reads : goal.returns-clause-reads
 returns-clause-reads c = lane_reads

@@ -1,14 +1,13 @@
-use Rattle.std.proofs.Common.{◌<◌, sym, ◌∙◌, subst}
-use Rattle.mb_cells.specs.Standing.{after_finish, lane_finished, next_link}
-use Rattle.mb_cells.specs.State.{State, lane_count}
-use Rattle.mb_cells.specs.declared.access.TheConstants.{END}
-use Rattle.mb_cells.proofs.PoolSteps.{finish_made, lane_here, sound_after}
+use Rattle.std.proofs.Common.{subst, sym, ◌<◌, ◌∙◌}
 use Rattle.mb_cells.proofs.pool.Pool.finish.Goals as goal
+use Rattle.mb_cells.specs.{END, PoolState, history_after_finish, lane_after_finish, lane_count, next_link}
+use Rattle.mb_cells.proofs.PoolSteps.{finish_made, lane_here, sound_after}
 
 pub returns-clause-meets : goal.returns-clause-meets
 returns-clause-meets g c =
-    let s : State = record { words = c.self.inside.words; lanes = c.self.inside.lanes.items } in
-    let lt : c.args.p < lane_count s = subst (λ (z : State). c.args.p < lane_count z) (sym c.self.view_is) c.requires in
+    let s : PoolState = record { words = c.self.inside.words; lanes = c.self.inside.lanes.items } in
+    let lt : c.args.p < lane_count s =
+    subst (λ (z : PoolState). c.args.p < lane_count z) (sym c.self.view_is) c.requires in
     let lane = c.index.result.now in
     let going = sym c.finish_refusal.ensures ∙ c.in_default.is in
     rw (← c.self.view_is, c.finished.ensures, c.store.ensures, c.next_link.ensures)
@@ -16,8 +15,9 @@ returns-clause-meets g c =
 
 pub invariant_of-self : goal.invariant_of-self
 invariant_of-self g c =
-    let s : State = record { words = c.self.inside.words; lanes = c.self.inside.lanes.items } in
-    let lt : c.args.p < lane_count s = subst (λ (z : State). c.args.p < lane_count z) (sym c.self.view_is) c.requires in
+    let s : PoolState = record { words = c.self.inside.words; lanes = c.self.inside.lanes.items } in
+    let lt : c.args.p < lane_count s =
+    subst (λ (z : PoolState). c.args.p < lane_count z) (sym c.self.view_is) c.requires in
     let lane = c.index.result.now in
     let going = sym c.finish_refusal.ensures ∙ c.in_default.is in
     let made = finish_made s c.args.p lane lt c.self.invariant c.index.ensures going in
@@ -25,4 +25,5 @@ invariant_of-self g c =
     let was = c.self.invariant.history.1 in
     let then = made h lane was (lane_here h s c.args.p lane lt was c.index.ensures) in
     rw (c.finished.ensures, c.store.ensures, c.next_link.ensures)
-    (sound_after s (next_link c.args.p lane) END c.args.p (lane_finished lane) c.self.invariant (after_finish c.args.p lane h, then.1))
+    (sound_after s (next_link c.args.p lane) END c.args.p (lane_after_finish lane) c.self.invariant
+    (history_after_finish c.args.p lane h, then.1))

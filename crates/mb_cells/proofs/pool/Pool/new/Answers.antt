@@ -1,7 +1,7 @@
 use Rattle.std.proofs.Common.{ap, ◌∙◌}
 use Rattle.std.proofs.Math.ListN.{replicate}
-use Rattle.mb_cells.proofs.PoolSteps.{empty_after, empty_sound}
 use Rattle.mb_cells.proofs.pool.Pool.new.Goals as goal
+use Rattle.mb_cells.proofs.PoolSteps.{empty_after, empty_sound}
 
 pub invariant_of-result : goal.invariant_of-result
 invariant_of-result g c =

@@ -1,29 +1,36 @@
-use Rattle.std.proofs.Common.{◌+◌, ◌<◌, sym, ◌∙◌, subst, arith}
-use Rattle.mb_cells.specs.Standing.{after_offer, lane_offered}
-use Rattle.mb_cells.specs.State.{State, cell_count, lane_count}
-use Rattle.mb_cells.specs.declared.access.Word.TheVariants.{Counter}
-use Rattle.mb_cells.proofs.PoolSteps.{counter_small, lane_here, offer_made, sound_after}
+use Rattle.std.proofs.Common.{arith, subst, sym, ◌+◌, ◌<◌, ◌∙◌}
 use Rattle.mb_cells.proofs.pool.Pool.offer.Goals as goal
+use Rattle.mb_cells.specs.{Counter, PoolState, cell_count, history_after_offer, lane_after_offer, lane_count, value_in}
+use Rattle.mb_cells.proofs.PoolSteps.{counter_small, lane_here, offer_made, sound_after}
 
 pub overflow_add-found : goal.overflow_add-found
 overflow_add-found g c =
-    let s : State = record { words = c.self.inside.words; lanes = c.self.inside.lanes.items } in
+    let s : PoolState = record { words = c.self.inside.words; lanes = c.self.inside.lanes.items } in
     omega (arith, c.load-found.ensures, counter_small s c.self.invariant)
 
 pub returns-clause-meets : goal.returns-clause-meets
 returns-clause-meets g c =
-    let s : State = record { words = c.self.inside.words; lanes = c.self.inside.lanes.items } in
-    let lt : c.args.p < lane_count s = subst (λ (z : State). c.args.p < lane_count z) (sym c.self.view_is) c.requires in
+    let s : PoolState = record { words = c.self.inside.words; lanes = c.self.inside.lanes.items } in
+    let lt : c.args.p < lane_count s =
+    subst (λ (z : PoolState). c.args.p < lane_count z) (sym c.self.view_is) c.requires in
     let lane = c.index.result.now in
     let going = sym c.offer_refusal.ensures ∙ c.in_default.is in
     let small = counter_small s c.self.invariant in
-    rw (← c.self.view_is, c.offered-answer.ensures.answer, c.offered-answer.ensures.lane, c.store.ensures, c.cells-cells.ensures, c.load-found.ensures)
+    rw (
+      ← c.self.view_is,
+      c.offered-answer.ensures.answer,
+      c.offered-answer.ensures.lane,
+      c.store.ensures,
+      c.cells-cells.ensures,
+      c.load-found.ensures,
+    )
     (offer_made s c.args.p c.args.x lane lt c.index.ensures going c.ranges.x.fits (omega (arith, small)))
 
 pub invariant_of-self : goal.invariant_of-self
 invariant_of-self g c =
-    let s : State = record { words = c.self.inside.words; lanes = c.self.inside.lanes.items } in
-    let lt : c.args.p < lane_count s = subst (λ (z : State). c.args.p < lane_count z) (sym c.self.view_is) c.requires in
+    let s : PoolState = record { words = c.self.inside.words; lanes = c.self.inside.lanes.items } in
+    let lt : c.args.p < lane_count s =
+    subst (λ (z : PoolState). c.args.p < lane_count z) (sym c.self.view_is) c.requires in
     let lane = c.index.result.now in
     let going = sym c.offer_refusal.ensures ∙ c.in_default.is in
     let small = counter_small s c.self.invariant in
@@ -32,5 +39,6 @@ invariant_of-self g c =
     let was = c.self.invariant.history.1 in
     let then = made h lane was (lane_here h s c.args.p lane lt was c.index.ensures) in
     rw (c.offered-answer.ensures.lane, c.store.ensures, c.cells-cells.ensures, c.load-found.ensures)
-    (sound_after s Counter (s.words.counter + 1) c.args.p (lane_offered (cell_count s) c.args.x s.words.counter lane) c.self.invariant
-    (after_offer c.args.p c.args.x lane h, then.1))
+    (sound_after s Counter (s.words.counter + 1) c.args.p
+    (lane_after_offer (cell_count s) c.args.x s.words.counter lane) c.self.invariant
+    (history_after_offer c.args.p c.args.x (value_in Counter h) lane h, then.1))

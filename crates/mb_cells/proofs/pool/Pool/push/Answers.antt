@@ -1,13 +1,13 @@
-use Rattle.std.proofs.Common.{◌<◌, sym, ◌∙◌, subst}
-use Rattle.mb_cells.specs.Standing.{after_push, lane_pushed}
-use Rattle.mb_cells.specs.State.{State, lane_count}
-use Rattle.mb_cells.proofs.PoolSteps.{lane_here, push_made, sound_after}
+use Rattle.std.proofs.Common.{subst, sym, ◌<◌, ◌∙◌}
 use Rattle.mb_cells.proofs.pool.Pool.push.Goals as goal
+use Rattle.mb_cells.specs.{PoolState, history_after_push, lane_after_push, lane_count}
+use Rattle.mb_cells.proofs.PoolSteps.{lane_here, push_made, sound_after}
 
 pub returns-clause-meets : goal.returns-clause-meets
 returns-clause-meets g c =
-    let s : State = record { words = c.self.inside.words; lanes = c.self.inside.lanes.items } in
-    let lt : c.args.p < lane_count s = subst (λ (z : State). c.args.p < lane_count z) (sym c.self.view_is) c.requires in
+    let s : PoolState = record { words = c.self.inside.words; lanes = c.self.inside.lanes.items } in
+    let lt : c.args.p < lane_count s =
+    subst (λ (z : PoolState). c.args.p < lane_count z) (sym c.self.view_is) c.requires in
     let lane = c.index.result.now in
     let some = sym c.next_push.ensures ∙ c.in-Some.is in
     rw (← c.self.view_is, c.pushed-answer.ensures.answer, c.pushed-answer.ensures.lane, c.store.ensures)
@@ -15,8 +15,9 @@ returns-clause-meets g c =
 
 pub invariant_of-self : goal.invariant_of-self
 invariant_of-self g c =
-    let s : State = record { words = c.self.inside.words; lanes = c.self.inside.lanes.items } in
-    let lt : c.args.p < lane_count s = subst (λ (z : State). c.args.p < lane_count z) (sym c.self.view_is) c.requires in
+    let s : PoolState = record { words = c.self.inside.words; lanes = c.self.inside.lanes.items } in
+    let lt : c.args.p < lane_count s =
+    subst (λ (z : PoolState). c.args.p < lane_count z) (sym c.self.view_is) c.requires in
     let lane = c.index.result.now in
     let some = sym c.next_push.ensures ∙ c.in-Some.is in
     let made = push_made s c.args.p lane (c.in-Some.word, c.in-Some.value) lt c.self.invariant c.index.ensures some in
@@ -24,4 +25,5 @@ invariant_of-self g c =
     let was = c.self.invariant.history.1 in
     let then = made h lane was (lane_here h s c.args.p lane lt was c.index.ensures) in
     rw (c.pushed-answer.ensures.lane, c.store.ensures)
-    (sound_after s c.in-Some.word c.in-Some.value c.args.p (lane_pushed lane) c.self.invariant (after_push c.args.p lane h, then.1))
+    (sound_after s c.in-Some.word c.in-Some.value c.args.p (lane_after_push lane) c.self.invariant
+    (history_after_push c.args.p lane h, then.1))

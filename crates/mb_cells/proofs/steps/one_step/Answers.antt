@@ -1,5 +1,5 @@
-use Rattle.mb_cells.proofs.Steps.{empty_lawful, older_lawful, producer_step, reader_step}
-use Rattle.mb_cells.proofs.laws.histories_go_on.Goals as goal
+use Rattle.mb_cells.proofs.steps.one_step.Goals as goal
+use Rattle.mb_cells.proofs.OneStep.{empty_lawful, older_lawful, producer_step, reader_step}
 
 pub returns-clause-empty : goal.returns-clause-empty
 returns-clause-empty c = empty_lawful

@@ -1,6 +1,6 @@
+use Rattle.mb_cells.proofs.steps.lanes_lead_on.Goals as goal
 use Rattle.mb_cells.proofs.LaneSteps.{finished_lane, lane_prefix, offered_lane, pushed_lane, same_lane, some_lane, start_lane}
-use Rattle.mb_cells.proofs.NextAccesses.{kinds_only, fetches_only, stores_only}
-use Rattle.mb_cells.proofs.laws.lanes_go_on.Goals as goal
+use Rattle.mb_cells.proofs.NextAccesses.{fetches_only, kinds_only, stores_only}
 
 pub returns-clause-start : goal.returns-clause-start
 returns-clause-start c = start_lane

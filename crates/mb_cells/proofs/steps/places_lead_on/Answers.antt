@@ -1,6 +1,6 @@
+use Rattle.mb_cells.proofs.steps.places_lead_on.Goals as goal
+use Rattle.mb_cells.proofs.OneStep.{start_at}
 use Rattle.mb_cells.proofs.Places.{goes_on, one_place, prefix_at, somewhere, steps_only}
-use Rattle.mb_cells.proofs.Steps.{start_at}
-use Rattle.mb_cells.proofs.laws.places_go_on.Goals as goal
 
 pub returns-clause-start : goal.returns-clause-start
 returns-clause-start c = start_at
@@ -12,10 +12,12 @@ pub returns-clause-prefix : goal.returns-clause-prefix
 returns-clause-prefix c = prefix_at
 
 pub returns-clause-place : goal.returns-clause-place
-returns-clause-place c = somewhere
+returns-clause-place c = λ cells p done prefix.
+    let s = somewhere cells p done prefix in (s.entries, (s.phase, s.at))
 
 pub returns-clause-one : goal.returns-clause-one
 returns-clause-one c = one_place
 
 pub returns-clause-only : goal.returns-clause-only
-returns-clause-only c = λ cells p es phase a done at prefix. let n = steps_only cells p es phase a done at prefix in (n.entries, (n.then, n.step))
+returns-clause-only c = λ cells p es phase a done at prefix. let n = steps_only cells p es phase a done at prefix in
+    (n.entries, (n.then, n.step))

@@ -1,0 +1,40 @@
+-- All words of a pool in one block, and the parts of its processes.
+use Rattle.std.specs.Prelude.{List, if◌then◌else◌, length, slice_index, slice_set, unwrap_or, ℕ, ◌+◌, ◌∷◌, ◌≡◌, ◌≤◌}
+use Rattle.mb_cells.specs.Types.{Counter, Head, Item, Link, PoolAccess, Process, Word}
+use Rattle.mb_cells.specs.Size.{PoolSize}
+use Rattle.mb_cells.specs.Memory.{History, is_same_process, part, stored_by, value_in}
+use Rattle.mb_cells.specs.Lawful.{IsPoolLawful}
+use Rattle.mb_cells.specs.Standing.{IsPoolWord}
+
+-- how many words a pool has
+abbrev pub words_of : PoolSize → ℕ
+words_of size = 1 + size.lanes + size.cells + size.cells
+
+-- where a word lies: the counter first, then the heads, the links and the items
+abbrev pub address_of : PoolSize → Word → ℕ
+address_of size Counter = 0
+address_of size (Head p) = 1 + p
+address_of size (Link k) = 1 + size.lanes + k
+address_of size (Item k) = 1 + size.lanes + size.cells + k
+
+-- the words at their addresses are those that a lawful history leaves; other words may follow
+pub record IsMemoryOf (size : PoolSize) (words : List ℕ) (h : History) : Type 0 where
+  pub lawful : IsPoolLawful size h
+  pub room : words_of size ≤ length words
+  pub left : (w : Word) → IsPoolWord size w → slice_index words (address_of size w) ≡ value_in w h
+
+-- and each process has done its part of that history
+pub record IsStateOf (size : PoolSize) (words : List ℕ) (parts : Process → History)
+    (h : History) : Type 0 where
+  pub memory : IsMemoryOf size words h
+  pub same : (who : Process) → parts who ≡ part who h
+
+-- the block after an access: what it stores stands at its address
+abbrev pub block_after : PoolSize → PoolAccess → List ℕ → List ℕ
+block_after size a words =
+    slice_set words (address_of size a.word)
+    (unwrap_or (stored_by a.act) (slice_index words (address_of size a.word)))
+
+-- the parts after an access
+abbrev pub parts_after : PoolAccess → (Process → History) → Process → History
+parts_after a parts who = if is_same_process who a.process then a ∷ parts who else parts who
