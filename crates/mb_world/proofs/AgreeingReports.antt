@@ -1,0 +1,208 @@
+-- Small reports that agree with an assignment.
+use Rattle.std.proofs.Common.{◌≡◌, ◌↔◌, ℕ, zero, suc, ◌<◌, ◌≤◌, true, false, List, [], ◌∷◌, length, Some, refl, inl, inr, arith}
+use Rattle.mb_world.specs.declared.report.Note.{Note}
+use Rattle.mb_world.specs.declared.report.Note.TheVariants.{Took, Lost, Undecided}
+use Rattle.mb_world.specs.Report.{DiaryView, is_begun, note, notes}
+use Rattle.mb_world.specs.Agreement.{AgreesWith, HasCompeted, HasLostTo, HasTaken, IsLossTo, ledger}
+use Rattle.mb_world.specs.Assignment.{share}
+use Rattle.mb_world.specs.ReportExamples.{both_undecided, diary_of, first_to, nobody_came, taken_and_lost, to_nobody, won_not_loaded}
+use Rattle.mb_world.proofs.ReportLists.{no_diary, not_noted}
+use Rattle.mb_world.proofs.OneLaneReports.{agrees_on_lane}
+
+-- ---- consumer 0 has taken the item, and consumer 1 has lost it
+abbrev taken_diaries : List DiaryView
+taken_diaries = diary_of 0 (Took 5 ∷ []) false ∷ diary_of 1 (Lost 0 ∷ []) false ∷ []
+
+taken_known : (c j : ℕ) → first_to 0 0 j ≡ Some c → c < 2
+taken_known c zero e = let f : 0 ≡ c = cc in omega (arith, f)
+taken_known c (suc j) e = absurd (cc)
+
+taken_taken : (c j : ℕ) → c < 2 → HasTaken c 0 j taken_and_lost ↔ (first_to 0 0 j ≡ Some c)
+taken_taken zero zero less = ((λ h. refl), (λ e. (5, refl)))
+taken_taken zero (suc j) less = ((λ h. absurd (let e = h.1 in cc)), (λ e. absurd (cc)))
+taken_taken (suc zero) zero less = ((λ h. absurd (let e = h.1 in cc)), (λ e. absurd (cc)))
+taken_taken (suc zero) (suc j) less = ((λ h. absurd (let e = h.1 in cc)), (λ e. absurd (cc)))
+taken_taken (suc (suc c)) j less = absurd (omega (arith, less))
+
+taken_competitors : (c j : ℕ) → c < 2 → first_to 0 0 j ≡ Some c → (j < 1) × HasCompeted c 0 j taken_and_lost
+taken_competitors zero zero less e = (omega arith, inl (omega arith))
+taken_competitors (suc c) zero less e = absurd (cc)
+taken_competitors c (suc j) less e = absurd (cc)
+
+taken_loser : (d v : ℕ) → HasLostTo d v 0 0 taken_and_lost → v ≡ 0
+taken_loser zero v e = absurd (cc)
+taken_loser (suc zero) v e = cc
+taken_loser (suc (suc d)) v e =
+    absurd (not_noted (suc (suc d)) 0 0 taken_and_lost (Lost v)
+    (no_diary (suc (suc d)) (5 ∷ []) [] taken_diaries (omega arith)) e)
+
+taken_losses : (c w j : ℕ) → c < 2 → HasLostTo c w 0 j taken_and_lost → IsLossTo (first_to 0) c w 0 j taken_and_lost
+taken_losses zero w zero less e = absurd (cc)
+taken_losses zero w (suc j) less e = absurd (cc)
+taken_losses (suc zero) zero zero less e = record {
+  another = λ f. cc;
+  competed = inl (omega arith);
+  only = taken_loser;
+  given = inl refl;
+}
+taken_losses (suc zero) (suc w) zero less e = absurd (cc)
+taken_losses (suc zero) w (suc j) less e = absurd (cc)
+taken_losses (suc (suc c)) w j less e = absurd (omega (arith, less))
+
+taken_ledgers : (c : ℕ) → c < 2 → ledger c 0 taken_and_lost ≡ share (first_to 0) c 0 taken_and_lost
+taken_ledgers zero less = refl
+taken_ledgers (suc zero) less = refl
+taken_ledgers (suc (suc c)) less = absurd (omega (arith, less))
+
+taken_within : (c : ℕ) → c < 2 → length (notes c 0 taken_and_lost) ≤ 1
+taken_within zero less = omega arith
+taken_within (suc zero) less = omega arith
+taken_within (suc (suc c)) less = absurd (omega (arith, less))
+
+taken_begun : (c : ℕ) → c < 2 → is_begun c 0 taken_and_lost ≡ true → length (notes c 0 taken_and_lost) < 1
+taken_begun zero less e = absurd (cc)
+taken_begun (suc zero) less e = absurd (cc)
+taken_begun (suc (suc c)) less e = absurd (omega (arith, less))
+
+pub taken_agrees : AgreesWith (first_to 0) taken_and_lost
+taken_agrees = agrees_on_lane (first_to 0) (5 ∷ []) [] taken_diaries (record {
+  elsewhere = λ p j. refl;
+  known = taken_known;
+  taken = taken_taken;
+  ledgers = taken_ledgers;
+  competitors = taken_competitors;
+  losses = taken_losses;
+  within = taken_within;
+  begun_within = taken_begun;
+  left = refl;
+})
+
+-- ---- consumer 1 has lost the item to 0, which has not loaded it yet
+abbrev won_diaries : List DiaryView
+won_diaries = diary_of 0 [] true ∷ diary_of 1 (Lost 0 ∷ []) false ∷ []
+
+won_taken : (c j : ℕ) → c < 2 → HasTaken c 0 j won_not_loaded → ⊥
+won_taken zero j less h = let e = h.1 in cc
+won_taken (suc zero) zero less h = let e = h.1 in cc
+won_taken (suc zero) (suc j) less h = let e = h.1 in cc
+won_taken (suc (suc c)) j less h = omega (arith, less)
+
+won_loser : (d v : ℕ) → HasLostTo d v 0 0 won_not_loaded → v ≡ 0
+won_loser zero v e = absurd (cc)
+won_loser (suc zero) v e = cc
+won_loser (suc (suc d)) v e =
+    absurd (not_noted (suc (suc d)) 0 0 won_not_loaded (Lost v)
+    (no_diary (suc (suc d)) (5 ∷ []) (5 ∷ []) won_diaries (omega arith)) e)
+
+won_losses : (c w j : ℕ) → c < 2 → HasLostTo c w 0 j won_not_loaded → IsLossTo to_nobody c w 0 j won_not_loaded
+won_losses zero w j less e = absurd (cc)
+won_losses (suc zero) zero zero less e = record {
+  another = λ f. cc;
+  competed = inr (refl, refl);
+  only = won_loser;
+  given = inr refl;
+}
+won_losses (suc zero) (suc w) zero less e = absurd (cc)
+won_losses (suc zero) w (suc j) less e = absurd (cc)
+won_losses (suc (suc c)) w j less e = absurd (omega (arith, less))
+
+won_ledgers : (c : ℕ) → c < 2 → ledger c 0 won_not_loaded ≡ share to_nobody c 0 won_not_loaded
+won_ledgers zero less = refl
+won_ledgers (suc zero) less = refl
+won_ledgers (suc (suc c)) less = absurd (omega (arith, less))
+
+won_within : (c : ℕ) → c < 2 → length (notes c 0 won_not_loaded) ≤ 1
+won_within zero less = omega arith
+won_within (suc zero) less = omega arith
+won_within (suc (suc c)) less = absurd (omega (arith, less))
+
+won_begun : (c : ℕ) → c < 2 → is_begun c 0 won_not_loaded ≡ true → length (notes c 0 won_not_loaded) < 1
+won_begun zero less e = omega arith
+won_begun (suc zero) less e = absurd (cc)
+won_begun (suc (suc c)) less e = absurd (omega (arith, less))
+
+pub won_agrees : AgreesWith to_nobody won_not_loaded
+won_agrees = agrees_on_lane to_nobody (5 ∷ []) (5 ∷ []) won_diaries (record {
+  elsewhere = λ p j. refl;
+  known = λ c j e. absurd (cc);
+  taken = λ c j less. ((λ h. absurd (won_taken c j less h)), (λ e. absurd (cc)));
+  ledgers = won_ledgers;
+  competitors = λ c j less e. absurd (cc);
+  losses = won_losses;
+  within = won_within;
+  begun_within = won_begun;
+  left = refl;
+})
+
+-- ---- both are undecided
+abbrev undecided_diaries : List DiaryView
+undecided_diaries = diary_of 0 (Undecided ∷ []) false ∷ diary_of 1 (Undecided ∷ []) false ∷ []
+
+undecided_note : (c j : ℕ) (n : Note) → c < 2 → note c 0 j both_undecided ≡ Some n → n ≡ Undecided
+undecided_note zero zero n less e = cc
+undecided_note zero (suc j) n less e = absurd (cc)
+undecided_note (suc zero) zero n less e = cc
+undecided_note (suc zero) (suc j) n less e = absurd (cc)
+undecided_note (suc (suc c)) j n less e = absurd (omega (arith, less))
+
+undecided_ledgers : (c : ℕ) → c < 2 → ledger c 0 both_undecided ≡ share to_nobody c 0 both_undecided
+undecided_ledgers zero less = refl
+undecided_ledgers (suc zero) less = refl
+undecided_ledgers (suc (suc c)) less = absurd (omega (arith, less))
+
+undecided_within : (c : ℕ) → c < 2 → length (notes c 0 both_undecided) ≤ 1
+undecided_within zero less = omega arith
+undecided_within (suc zero) less = omega arith
+undecided_within (suc (suc c)) less = absurd (omega (arith, less))
+
+undecided_begun : (c : ℕ) → c < 2 → is_begun c 0 both_undecided ≡ true → length (notes c 0 both_undecided) < 1
+undecided_begun zero less e = absurd (cc)
+undecided_begun (suc zero) less e = absurd (cc)
+undecided_begun (suc (suc c)) less e = absurd (omega (arith, less))
+
+pub undecided_agrees : AgreesWith to_nobody both_undecided
+undecided_agrees = agrees_on_lane to_nobody (5 ∷ []) (5 ∷ []) undecided_diaries (record {
+  elsewhere = λ p j. refl;
+  known = λ c j e. absurd (cc);
+  taken = λ c j less. ((λ h. absurd (let e = undecided_note c j (Took h.0) less h.1 in cc)), (λ e. absurd (cc)));
+  ledgers = undecided_ledgers;
+  competitors = λ c j less e. absurd (cc);
+  losses = λ c w j less e. absurd (let f = undecided_note c j (Lost w) less e in cc);
+  within = undecided_within;
+  begun_within = undecided_begun;
+  left = refl;
+})
+
+-- ---- nobody came
+pub untouched_agrees : AgreesWith to_nobody nobody_came
+untouched_agrees = agrees_on_lane to_nobody (10 ∷ 11 ∷ []) (10 ∷ 11 ∷ []) (diary_of 0 [] false ∷ []) (record {
+  elsewhere = λ p j. refl;
+  known = λ c j e. absurd (cc);
+  taken = taken;
+  ledgers = ledgers;
+  competitors = λ c j less e. absurd (cc);
+  losses = losses;
+  within = within;
+  begun_within = begun;
+  left = refl;
+})
+  where
+    taken : (c j : ℕ) → c < 1 → HasTaken c 0 j nobody_came ↔ (to_nobody 0 j ≡ Some c)
+    taken zero j less = ((λ h. absurd (let e = h.1 in cc)), (λ e. absurd (cc)))
+    taken (suc c) j less = absurd (omega (arith, less))
+
+    ledgers : (c : ℕ) → c < 1 → ledger c 0 nobody_came ≡ share to_nobody c 0 nobody_came
+    ledgers zero less = refl
+    ledgers (suc c) less = absurd (omega (arith, less))
+
+    losses : (c w j : ℕ) → c < 1 → HasLostTo c w 0 j nobody_came → IsLossTo to_nobody c w 0 j nobody_came
+    losses zero w j less e = absurd (cc)
+    losses (suc c) w j less e = absurd (omega (arith, less))
+
+    within : (c : ℕ) → c < 1 → length (notes c 0 nobody_came) ≤ 2
+    within zero less = omega arith
+    within (suc c) less = absurd (omega (arith, less))
+
+    begun : (c : ℕ) → c < 1 → is_begun c 0 nobody_came ≡ true → length (notes c 0 nobody_came) < 2
+    begun zero less e = absurd (cc)
+    begun (suc c) less e = absurd (omega (arith, less))

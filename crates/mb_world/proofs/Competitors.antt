@@ -1,0 +1,73 @@
+-- Who competed for an item by its diary has an access to the claim there, and the other way round.
+use Rattle.std.proofs.Common.{◌≡◌, ◌≢◌, ◌⊎◌, ◌↔◌, ℕ, ◌<◌, true, List, [], length, Some, sym, ◌∙◌, subst, inl, inr, get_or}
+use Rattle.std.specs.Prelude.{reverse, slice_get}
+use Rattle.std.proofs.lemmas.Option.{slice_get-get_or}
+use Rattle.mb_claim.specs.declared.access.Stage.TheVariants as stage
+use Rattle.mb_world.specs.declared.report.Note.{Note}
+use Rattle.mb_world.specs.declared.report.Note.TheVariants.{Took, Lost, Undecided}
+use Rattle.mb_world.specs.Below.{IsClaimPrefix, Stage, claim_part, linked_cells}
+use Rattle.mb_world.specs.Plan.{Histories, Plan, consumers_of}
+use Rattle.mb_world.specs.Report.{DiaryView, ReportView}
+use Rattle.mb_world.specs.Agreement.{HasCompeted}
+use Rattle.mb_world.specs.Fitting.{EndsAs, parts_of}
+use Rattle.mb_world.specs.Reporting.{IsDiaryOf, IsReportOf}
+use Rattle.mb_world.proofs.Diaries.{met_at, note_at, open_last, placed}
+use Rattle.mb_world.proofs.Known.{Known}
+use Rattle.mb_world.proofs.Places.{IsAt, at_one, at_reverse, has_at}
+use Rattle.mb_world.proofs.Recorded.{begun_is, competed_in, notes_is}
+use Rattle.mb_world.proofs.Diaries as diaries
+
+module _ (plan : Plan) (hs : Histories) (known : Known plan hs)
+    (fresh : (c : ℕ) → c < consumers_of plan → IsClaimPrefix plan.claims c [] stage.Going)
+    (r : ReportView) (is : IsReportOf plan hs r) (c p j k : ℕ) (cs : c < consumers_of plan) (ps : p < plan.lanes)
+    (here : slice_get (reverse (linked_cells p hs.pool)) j ≡ Some k) where
+  abbrev d : DiaryView
+  d = (is.diary c p cs ps).0
+
+  diary : IsDiaryOf plan c p hs d
+  diary = (is.diary c p cs ps).2
+
+  on_lane : IsAt (linked_cells p hs.pool) j k
+  on_lane = at_reverse (linked_cells p hs.pool) j k here
+
+  -- a claim that has ended has an access
+  not_fresh : (i : ℕ) (s : Stage) → IsClaimPrefix plan.claims c (claim_part c i hs.claims) s → s ≢ stage.Going
+      → claim_part c i hs.claims ≢ []
+  not_fresh i s q over none =
+      over (known.stage c [] s stage.Going (subst (λ xs. IsClaimPrefix plan.claims c xs s) none q) (fresh c cs))
+
+  end_made : (i : ℕ) (n : Note) → EndsAs plan.claims c i n (parts_of c hs) → claim_part c i hs.claims ≢ []
+  end_made i (Took v) e = not_fresh i stage.Won e.0 (λ f. cc)
+  end_made i (Lost w) e = not_fresh i (stage.Lost w) e (λ f. cc)
+  end_made i Undecided e = not_fresh i stage.Undecided e (λ f. cc)
+
+  -- the cell at the place of a note is that of the item
+  cell_at : (i : ℕ) → IsAt diary.cells j i → i ≡ k
+  cell_at i at = at_one (linked_cells p hs.pool) j i k (placed plan hs known c p cs d diary j i at) on_lane
+
+  has_access : (j < length d.notes) ⊎ ((length d.notes ≡ j) × (d.begun ≡ true)) → claim_part c k hs.claims ≢ []
+  has_access (inl before) =
+      let n = get_or d.notes j Undecided in
+      let q = note_at plan hs known c p cs d diary j n (slice_get-get_or d.notes j Undecided before) in
+      subst (λ i. claim_part c i hs.claims ≢ []) (cell_at q.0 q.1) (end_made q.0 n q.2)
+  has_access (inr next) =
+      let q = diary.begun.0 next.1 in
+      let at = has_at diary.cells q.0 q.1 in
+      let last = open_last plan hs known c p cs d diary at.0 q.0 at.1 q.3 in
+      let there : IsAt diary.cells j q.0 = subst (λ i. IsAt diary.cells i q.0) (sym last.0 ∙ next.0) at.1 in
+      subst (λ i. claim_part c i hs.claims ≢ []) (cell_at q.0 there) q.2
+
+  pub competes : HasCompeted c p j r ↔ (claim_part c k hs.claims ≢ [])
+  competes = (
+    λ h. has_access (by h),
+    λ some.
+        let there = met_at plan hs known c p cs d diary j k on_lane ((known.fit c cs).met k some) in
+        competed_in plan hs known r is c p j cs ps (diaries.competes_at plan hs known c p cs d diary j k there some),
+  )
+    where
+      by : HasCompeted c p j r → (j < length d.notes) ⊎ ((length d.notes ≡ j) × (d.begun ≡ true))
+      by (inl before) = inl (subst (λ (ns : List Note). j < length ns) (notes_is plan hs known r is c p cs ps) before)
+      by (inr next) = inr (
+        subst (λ (ns : List Note). length ns ≡ j) (notes_is plan hs known r is c p cs ps) next.0,
+        sym (begun_is plan hs known r is c p cs ps) ∙ next.1,
+      )

@@ -1,0 +1,26 @@
+-- A claim on some objects goes on before its first access.
+use Rattle.std.proofs.Common.{◌≢◌, ℕ, zero, suc, ◌<◌, ◌≤◌, List, [], ◌∷◌, refl, inl, arith}
+use Rattle.mb_quorum.specs.Quorum.{IsQuorumTable, QuorumTable}
+use Rattle.mb_deciding.specs.Deciding.{IsDeciding}
+use Rattle.mb_deciding.specs.Objects.{IsOpen}
+use Rattle.mb_deciding.specs.OneObject.{Object, object_of}
+use Rattle.mb_claim.specs.declared.access.Stage.TheVariants as stage
+use Rattle.mb_claim.specs.Layouts.{pairs_of}
+use Rattle.mb_claim.specs.Paths.{IsClaimPrefixFrom}
+use Rattle.mb_world.specs.Below.{Claims, IsClaimPrefix, Kind}
+
+goes_from : (t : QuorumTable) (kinds : List Kind) (c : ℕ) → kinds ≢ [] → ((kind : Kind) → IsOpen t kind c [])
+    → IsClaimPrefixFrom t c kinds 0 c [] stage.Going
+goes_from t [] c some opens = absurd (some refl)
+goes_from t (kind ∷ kinds) c some opens = inl (record { turns = []; all = refl; going = opens kind; is = refl })
+
+pub fresh_goes : (cs : Claims) → IsQuorumTable cs.table → ((o : Object) → IsQuorumTable o.table → IsDeciding o)
+    → cs.kinds ≢ []
+    → (c : ℕ) → c < cs.table.values → IsClaimPrefix cs c [] stage.Going
+fresh_goes cs table promises some c known =
+    goes_from cs.table cs.kinds c some (λ kind. (promises (object_of cs.table kind (λ i. i)) table).opens c known)
+
+-- so many pairs are some objects
+pub some_pairs : (s n : ℕ) → 1 ≤ n → pairs_of s n ≢ []
+some_pairs s zero less e = omega (arith, less)
+some_pairs s (suc n) less e = cc

@@ -1,0 +1,22 @@
+-- What the laws of claims and of cells give for two histories.
+use Rattle.std.specs.Prelude.{ℕ, ◌≡◌, ◌≢◌, ◌<◌, List, [], ◌∷◌}
+use Rattle.mb_claim.specs.Winner.{HasOneWinner}
+use Rattle.mb_world.specs.Below.{END, Gave, Has, HasLoaded, HasMet, IsClaimPrefix, IsOnceEach, IsReaderPath, IsStart, Item, ObjectTurn, Reader, Stage, claim_part, item_of, linked_cells, part, place_past}
+use Rattle.mb_world.specs.Plan.{Histories, Plan, consumers_of}
+use Rattle.mb_world.specs.Fitting.{Fits, parts_of}
+
+pub record Known (plan : Plan) (hs : Histories) : Type 0 where
+  pub winner : (k : ℕ) → HasOneWinner plan.claims k hs.claims
+  pub stage : (c : ℕ) (xs : List ObjectTurn) (s r : Stage) → IsClaimPrefix plan.claims c xs s
+      → IsClaimPrefix plan.claims c xs r → s ≡ r
+  pub claimant : (c k : ℕ) → claim_part c k hs.claims ≢ []
+      → (c < consumers_of plan) × ((s : Stage) × IsClaimPrefix plan.claims c (claim_part c k hs.claims) s)
+  pub fit : (c : ℕ) → c < consumers_of plan → Fits plan.claims c (parts_of c hs)
+  pub path : (q : ℕ) → IsReaderPath plan.lanes (part (Reader q) hs.pool)
+  pub start : (q p : ℕ) (ks : List ℕ) → HasMet q p ks hs.pool → IsStart ks (linked_cells p hs.pool)
+  pub chain : (q k : ℕ) → Gave k (part (Reader q) hs.pool) → (p : ℕ) × ((ks : List ℕ) × HasMet q p (k ∷ ks) hs.pool)
+  pub item : (q k v : ℕ) → HasLoaded q (Item k) v hs.pool → v ≡ item_of k hs.pool
+  pub end : (q p : ℕ) (ks : List ℕ) → HasMet q p ks hs.pool → HasLoaded q (place_past p ks) END hs.pool
+      → ks ≡ linked_cells p hs.pool
+  pub one_lane : (p q k : ℕ) → Has (linked_cells p hs.pool) k → Has (linked_cells q hs.pool) k → p ≡ q
+  pub once : (p : ℕ) → IsOnceEach (linked_cells p hs.pool)

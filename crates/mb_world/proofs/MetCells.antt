@@ -1,0 +1,103 @@
+-- The cells that a consumer's own loads met on a lane are all that it met there.
+use Rattle.std.proofs.Common.{◌≡◌, ◌≢◌, ◌⊎◌, ℕ, ◌+◌, ◌-◌, ◌<◌, true, false, List, [], ◌∷◌, ◌++◌, Option, Some, None, refl, sym, ◌∙◌, ap, subst, inl, inr, arith}
+use Rattle.std.proofs.lemmas.Bool.{cases_Bool, cases_eq, ne_eqb, eq-eqb}
+use Rattle.mb_world.specs.Below.{Counter, END, FetchAdd, Gave, Has, HasMet, Head, History, IsGift, IsLinkWord, Item, Link, Load, PoolAccess, PoolAct, Reader, Store, Word, is_same_word, linked_cells, place_past, push_if}
+use Rattle.mb_world.specs.Plan.{Histories, Plan, consumers_of}
+use Rattle.mb_world.specs.Fitting.{FollowsLinks, cell_given, cells_met, parts_of}
+use Rattle.mb_world.specs.Reporting.{HasMetAll}
+use Rattle.mb_world.proofs.Known.{Known}
+use Rattle.mb_world.proofs.PathLoads.{met_elsewhere, met_more, met_there, one_given}
+use Rattle.mb_world.proofs.Places.{at_has, at_start, has_at}
+use Rattle.mb_world.proofs.ReaderParts.{access_is, of_part, word_is}
+use Rattle.mb_world.proofs.WorldFollows.{met_stay}
+
+-- what gives a cell is a load of its number plus one, and not of the end mark
+given_load : (act : PoolAct) (k : ℕ) → cell_given act ≡ Some k → (act ≡ Load (k + 1)) × (k + 1 ≢ END)
+given_load (Load v) k e = by (cases_eq v 0) (cases_eq v END)
+  where
+    by : (v ≡ 0) ⊎ (v ≡ 0 → ⊥) → (v ≡ END) ⊎ (v ≡ END → ⊥) → (Load v ≡ Load (k + 1)) × (k + 1 ≢ END)
+    by (inl zero_v) end = absurd (let f : None ≡ Some k = rw (eq-eqb v 0 zero_v) at e in cc)
+    by (inr some) (inl end) = absurd (let f : None ≡ Some k = rw (ne_eqb v 0 some, eq-eqb v END end) at e in cc)
+    by (inr some) (inr more) =
+        let f : Some (v - 1) ≡ Some k = rw (ne_eqb v 0 some, ne_eqb v END more) at e in
+        let g : v - 1 ≡ k = cc in
+        let h : v ≡ k + 1 = omega (arith, g, some) in
+        (ap Load h, λ x. more (h ∙ x))
+given_load (Store v) k e = absurd (cc)
+given_load (FetchAdd x n) k e = absurd (cc)
+
+-- a gift is of a link, and gives the cell
+gift_link : (w : Word) (act : PoolAct) (k : ℕ) → IsGift k w act → IsLinkWord w × (cell_given act ≡ Some k)
+gift_link Counter act k g = absurd g
+gift_link (Head p) (Load v) k g = (tt, ap (λ i. cell_given (Load i)) g.0 ∙ one_given k (λ e. g.1 (g.0 ∙ e)))
+gift_link (Head p) (Store v) k g = absurd g
+gift_link (Head p) (FetchAdd x n) k g = absurd g
+gift_link (Link j) (Load v) k g = (tt, ap (λ i. cell_given (Load i)) g.0 ∙ one_given k (λ e. g.1 (g.0 ∙ e)))
+gift_link (Link j) (Store v) k g = absurd g
+gift_link (Link j) (FetchAdd x n) k g = absurd g
+gift_link (Item j) act k g = absurd g
+
+-- the cells that these loads of a reader met were met
+met_cells : (q p : ℕ) (d : History) → ((a : PoolAccess) → Has d a → a.process ≡ Reader q) → HasMet q p (cells_met p d) d
+met_cells q p [] own = tt
+met_cells q p (a ∷ older) own =
+    by (cases_Bool (is_same_word a.word (place_past p (cells_met p older))))
+    (met_more q p older (a ∷ older) (cells_met p older) (λ b m. inr m) (met_cells q p older (λ b m. own b (inr m))))
+  where
+    by_given : (o : Option ℕ) → cell_given a.act ≡ o → a.word ≡ place_past p (cells_met p older)
+        → HasMet q p (cells_met p older) (a ∷ older) → HasMet q p (push_if o (cells_met p older)) (a ∷ older)
+    by_given None e at older_met = older_met
+    by_given (Some k) e at older_met =
+        let l = given_load a.act k e in (
+          inl (access_is a (Reader q) (place_past p (cells_met p older)) (Load (k + 1))
+              (own a (inl refl)) at l.0),
+          l.1,
+          older_met,
+        )
+
+    by : (is_same_word a.word (place_past p (cells_met p older)) ≡ true)
+        ⊎ (is_same_word a.word (place_past p (cells_met p older)) ≡ false)
+        → HasMet q p (cells_met p older) (a ∷ older) → HasMet q p (cells_met p (a ∷ older)) (a ∷ older)
+    by (inl same) older_met =
+        let at = word_is a.word (place_past p (cells_met p older)) same in
+        subst (λ ks. HasMet q p ks (a ∷ older)) (sym (met_there p (cells_met p older) a older refl at))
+        (by_given (cell_given a.act) refl at older_met)
+    by (inr other) older_met =
+        subst (λ ks. HasMet q p ks (a ∷ older)) (sym (met_elsewhere p a older other)) older_met
+
+-- and each cell that was given was met on some lane
+gave_met : (d : History) (k : ℕ) → FollowsLinks d → Gave k d → (p : ℕ) × Has (cells_met p d) k
+gave_met [] k f g = absurd g
+gave_met (a ∷ older) k f (inl g) =
+    let l = gift_link a.word a.act k g in
+    let lane = f.0 l.0 in (
+      lane.0,
+      subst (λ ks. Has ks k) (sym (met_there lane.0 (cells_met lane.0 older) a older refl lane.1
+          ∙ ap (λ o. push_if o (cells_met lane.0 older)) l.1)) (inl refl),
+    )
+gave_met (a ∷ older) k f (inr g) = let q = gave_met older k f.1 g in (q.0, met_stay q.0 a older k q.1)
+
+module _ (plan : Plan) (hs : Histories) (known : Known plan hs) (c p : ℕ) (cs : c < consumers_of plan) where
+  abbrev reads : History
+  reads = (parts_of c hs).reads
+
+  met_on : (q : ℕ) → HasMet (hs.reader_of c) q (cells_met q reads) hs.pool
+  met_on q =
+      met_more (hs.reader_of c) q reads hs.pool (cells_met q reads) (λ a m. (of_part (hs.reader_of c) hs.pool a m).0)
+      (met_cells (hs.reader_of c) q reads (λ a m. (of_part (hs.reader_of c) hs.pool a m).1))
+
+  on_lane : (q k : ℕ) → Has (cells_met q reads) k → Has (linked_cells q hs.pool) k
+  on_lane q k has =
+      let s = known.start (hs.reader_of c) q (cells_met q reads) (met_on q) in
+      let at = has_at (cells_met q reads) k has in
+      subst (λ (ls : List ℕ). Has ls k) s.1
+      (at_has (s.0 ++ cells_met q reads) at.0 k (at_start s.0 (cells_met q reads) at.0 k at.1))
+
+  pub all_met : HasMetAll (hs.reader_of c) p (cells_met p reads) hs.pool
+  all_met = record {
+    met = met_on p;
+    all = λ k gave here.
+        let there = gave_met reads k (known.fit c cs).follows gave in
+        let same = known.one_lane there.0 p k (on_lane there.0 k there.1) here in
+        subst (λ (q : ℕ). Has (cells_met q reads) k) same there.1;
+  }

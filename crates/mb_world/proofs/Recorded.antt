@@ -1,0 +1,217 @@
+-- The notes of a report of lawful histories whose consumers' parts fit are right.
+use Rattle.std.proofs.Common.{◌≡◌, ◌≢◌, ◌⊎◌, ℕ, ◌+◌, ◌*◌, ◌<◌, ◌≤◌, Bool, true, false, not, cond, List, [], length, Option, Some, None, refl, ap, subst, inl, inr, arith}
+use Rattle.std.specs.Prelude.{slice_get, IsSome, nat_lt}
+use Rattle.std.specs.Option.{option_map_or}
+use Rattle.std.proofs.lemmas.Bool.{cases_lt, lt-ltb, le-ltb}
+use Rattle.std.proofs.lemmas.Option.{slice_get_past, slice_get-get_or}
+use Rattle.std.proofs.Math.Nat.{mul-le-mul_right}
+use Rattle.mb_claim.specs.declared.access.Stage.TheVariants as stage
+use Rattle.mb_claim.specs.Claiming.{HasStage}
+use Rattle.mb_claim.specs.Winner.{Names}
+use Rattle.mb_world.specs.declared.report.Note.{Note}
+use Rattle.mb_world.specs.declared.report.Note.TheVariants.{Took, Lost, Undecided}
+use Rattle.mb_world.specs.Below.{Stage, linked_cells}
+use Rattle.mb_world.specs.Plan.{Histories, Plan, consumers_of}
+use Rattle.mb_world.specs.Report.{DiaryView, ReportView, diary, is_begun, items_left, items_put, note, notes}
+use Rattle.mb_world.specs.Assignment.{items_where}
+use Rattle.mb_world.specs.Agreement.{HasCompeted}
+use Rattle.mb_world.specs.Fitting.{EndsAs, parts_of}
+use Rattle.mb_world.specs.Reporting.{IsDiaryOf, IsReportOf, is_taken, lane_view, values_put}
+use Rattle.mb_world.specs.Headline.{HasMetEnd}
+use Rattle.mb_world.proofs.Assigned.{AreNotesRight, winner_named}
+use Rattle.mb_world.proofs.Diaries.{begun_within, competes_at, met_at, note_at, placed, value_of, within}
+use Rattle.mb_world.proofs.Known.{Known}
+use Rattle.mb_world.proofs.LaneEnds.{ends_noted}
+use Rattle.mb_world.proofs.Places.{at_one}
+
+module _ (plan : Plan) (hs : Histories) (known : Known plan hs) where
+  abbrev Diary : ℕ → ℕ → DiaryView → Type 0
+  Diary c p d = IsDiaryOf plan c p hs d
+
+  -- the end that a note tells names the winner that the note names
+  end_named : (c k : ℕ) (n : Note) (w : ℕ) → c < consumers_of plan → EndsAs plan.claims c k n (parts_of c hs)
+      → winner_named c n ≡ Some w
+      → (s : Stage) × HasStage plan.claims c k s hs.claims × Names c s w
+  end_named c k (Took x) w cs end e = (stage.Won, (cs, end.0), cc)
+  end_named c k (Lost u) w cs end e = (stage.Lost u, (cs, end), cc)
+  end_named c k Undecided w cs end e = absurd (cc)
+
+  -- notes at one position of a lane name one winner
+  one_winner : (c d p j : ℕ) (x y : DiaryView) (n m : Note) (v w : ℕ) → c < consumers_of plan → d < consumers_of plan
+      → Diary c p x → Diary d p y → slice_get x.notes j ≡ Some n → slice_get y.notes j ≡ Some m
+      → winner_named c n ≡ Some v → winner_named d m ≡ Some w → v ≡ w
+  one_winner c d p j x y n m v w cs ds dx dy e f en fm =
+      let a = note_at plan hs known c p cs x dx j n e in
+      let b = note_at plan hs known d p ds y dy j m f in
+      let pa = placed plan hs known c p cs x dx j a.0 a.1 in
+      let pb = placed plan hs known d p ds y dy j b.0 b.1 in
+      let same : b.0 ≡ a.0 = at_one (linked_cells p hs.pool) j b.0 a.0 pb pa in
+      let l = end_named c a.0 n v cs a.2 en in
+      let r = end_named d b.0 m w ds b.2 fm in
+      let there = subst (λ (k : ℕ). HasStage plan.claims d k r.0 hs.claims) same r.1 in
+      (known.winner a.0).same c d v w l.0 r.0 l.1 there l.2 r.2
+
+  -- the winner that a loss names is another consumer, which competed for that item
+  lost_to : (c w p j : ℕ) (x y : DiaryView) → c < consumers_of plan → Diary c p x
+      → (w < consumers_of plan → Diary w p y)
+      → slice_get x.notes j ≡ Some (Lost w)
+      → (w ≢ c) × (w < consumers_of plan) × ((j < length y.notes) ⊎ ((length y.notes ≡ j) × (y.begun ≡ true)))
+  lost_to c w p j x y cs dx dy e =
+      let a = note_at plan hs known c p cs x dx j (Lost w) e in
+      let at = placed plan hs known c p cs x dx j a.0 a.1 in
+      let some = (known.winner a.0).competed c w (stage.Lost w) (cs, a.2) refl in
+      let ws = (known.claimant w a.0 some).0 in
+      let there = met_at plan hs known w p ws y (dy ws) j a.0 at ((known.fit w ws).met a.0 some) in (
+        (known.winner a.0).other c w (cs, a.2),
+        ws,
+        competes_at plan hs known w p ws y (dy ws) j a.0 there some,
+      )
+
+  -- ---- the whole report
+  module _ (r : ReportView) (is : IsReportOf plan hs r) where
+    no_lane : (p : ℕ) → plan.lanes ≤ p → slice_get r.lanes p ≡ None
+    no_lane p past = slice_get_past r.lanes p (omega (arith, is.lanes_count))
+
+    diary_none : (c p : ℕ) → (plan.lanes ≤ p) ⊎ (consumers_of plan ≤ c) → diary c p r ≡ None
+    diary_none c p (inl past) = rw (le-ltb p (length r.lanes) (omega (arith, is.lanes_count))) refl
+    diary_none c p (inr past) = by_lane (nat_lt p (length r.lanes))
+      where
+        size : consumers_of plan * plan.lanes ≤ c * plan.lanes
+        size = mul-le-mul_right plan.lanes past
+
+        beyond : length r.diaries ≤ c * length r.lanes + p
+        beyond = rw (is.lanes_count, is.diaries_count) (omega (arith, size))
+
+        by_lane : (b : Bool) → cond b (slice_get r.diaries (c * length r.lanes + p)) None ≡ None
+        by_lane true = slice_get_past r.diaries (c * length r.lanes + p) beyond
+        by_lane false = refl
+
+    diary_is : (c p : ℕ) (cs : c < consumers_of plan) (ps : p < plan.lanes) → diary c p r ≡ Some (is.diary c p cs ps).0
+    diary_is c p cs ps = rw (is.lanes_count, lt-ltb p plan.lanes ps) (is.diary c p cs ps).1
+
+    pub notes_is : (c p : ℕ) (cs : c < consumers_of plan) (ps : p < plan.lanes)
+        → notes c p r ≡ (is.diary c p cs ps).0.notes
+    notes_is c p cs ps = ap (λ (o : Option DiaryView). option_map_or (λ d. d.notes) o []) (diary_is c p cs ps)
+
+    pub begun_is : (c p : ℕ) (cs : c < consumers_of plan) (ps : p < plan.lanes)
+        → is_begun c p r ≡ (is.diary c p cs ps).0.begun
+    begun_is c p cs ps = ap (λ (o : Option DiaryView). option_map_or (λ d. d.begun) o false) (diary_is c p cs ps)
+
+    put_is : (p : ℕ) → p < plan.lanes → items_put p r ≡ values_put p hs.pool
+    put_is p ps = rw (is.lane p ps) refl
+
+    left_is : (p : ℕ) → p < plan.lanes → items_left p r ≡ (lane_view plan p hs r).left
+    left_is p ps = rw (is.lane p ps) refl
+
+    -- where a note is, or a claim is begun, there are the consumer and the lane
+    abbrev IsInside : ℕ → ℕ → Type 0
+    IsInside c p = (c < consumers_of plan) × (p < plan.lanes)
+
+    inside : (c p : ℕ) → (diary c p r ≡ None → ⊥) → IsInside c p
+    inside c p some = by_cases (cases_lt c (consumers_of plan)) (cases_lt p plan.lanes)
+      where
+        by_cases : (c < consumers_of plan) ⊎ (consumers_of plan ≤ c) → (p < plan.lanes) ⊎ (plan.lanes ≤ p)
+            → IsInside c p
+        by_cases (inl cs) (inl ps) = (cs, ps)
+        by_cases (inr past) o = absurd (some (diary_none c p (inr past)))
+        by_cases (inl cs) (inr past) = absurd (some (diary_none c p (inl past)))
+
+    note_in : (c p j : ℕ) (n : Note) → note c p j r ≡ Some n
+        → (cs : c < consumers_of plan) × (ps : p < plan.lanes) × (slice_get (is.diary c p cs ps).0.notes j ≡ Some n)
+    note_in c p j n e = (
+      there.0,
+      there.1,
+      subst (λ (ns : List Note). slice_get ns j ≡ Some n)
+          (notes_is c p there.0 there.1) e,
+    )
+      where
+        there : IsInside c p
+        there = inside c p (λ none. let q : slice_get {X = Note} [] j ≡ Some n = rw none at e in cc)
+
+    -- a competitor by its diary is one by the report
+    pub competed_in : (c p j : ℕ) (cs : c < consumers_of plan) (ps : p < plan.lanes) →
+        let d = (is.diary c p cs ps).0 in
+        (j < length d.notes) ⊎ ((length d.notes ≡ j) × (d.begun ≡ true)) → HasCompeted c p j r
+    competed_in c p j cs ps (inl before) = inl (rw (notes_is c p cs ps) before)
+    competed_in c p j cs ps (inr next) = inr (rw (notes_is c p cs ps) next.0, rw (begun_is c p cs ps) next.1)
+
+    value : (c p j x : ℕ) → note c p j r ≡ Some (Took x) → slice_get (items_put p r) j ≡ Some x
+    value c p j x e =
+        let i = note_in c p j (Took x) e in
+        let d = is.diary c p i.0 i.1 in
+        rw (put_is p i.1) (value_of plan hs known c p i.0 d.0 d.2 j x i.2)
+
+    notes_within : (c p : ℕ) → length (notes c p r) ≤ length (items_put p r)
+    notes_within c p = by_cases (cases_lt p plan.lanes) (cases_lt c (consumers_of plan))
+      where
+        by_cases : (p < plan.lanes) ⊎ (plan.lanes ≤ p) → (c < consumers_of plan) ⊎ (consumers_of plan ≤ c)
+            → length (notes c p r) ≤ length (items_put p r)
+        by_cases (inl ps) (inl cs) =
+            let d = is.diary c p cs ps in
+            rw (notes_is c p cs ps, put_is p ps) (within plan hs known c p cs d.0 d.2)
+        by_cases (inr past) o = rw (diary_none c p (inl past)) (omega arith)
+        by_cases (inl ps) (inr past) = rw (diary_none c p (inr past)) (omega arith)
+
+    claims_within : (c p : ℕ) → is_begun c p r ≡ true → length (notes c p r) < length (items_put p r)
+    claims_within c p b =
+        let d = is.diary c p there.0 there.1 in
+        rw (notes_is c p there.0 there.1, put_is p there.1)
+        (begun_within plan hs known c p there.0 d.0 d.2 (rw (begun_is c p there.0 there.1) at b))
+      where
+        there : IsInside c p
+        there = inside c p (λ none. let q : false ≡ true = rw none at b in cc)
+
+    lost : (c w p j : ℕ) → note c p j r ≡ Some (Lost w) → (w ≢ c) × HasCompeted w p j r
+    lost c w p j e = by_winner (cases_lt w (consumers_of plan))
+      where
+        i : (cs : c < consumers_of plan) × (ps : p < plan.lanes)
+            × (slice_get (is.diary c p cs ps).0.notes j ≡ Some (Lost w))
+        i = note_in c p j (Lost w) e
+
+        by_winner : (w < consumers_of plan) ⊎ (consumers_of plan ≤ w) → (w ≢ c) × HasCompeted w p j r
+        by_winner (inl ws) =
+            let d = is.diary c p i.0 i.1 in
+            let y = is.diary w p ws i.1 in
+            let l = lost_to c w p j d.0 y.0 i.0 d.2 (λ _. y.2) i.2 in
+            (l.0, competed_in w p j ws i.1 l.2)
+        by_winner (inr past) =
+            let d = is.diary c p i.0 i.1 in
+            let a = note_at plan hs known c p i.0 d.0 d.2 j (Lost w) i.2 in
+            let some = (known.winner a.0).competed c w (stage.Lost w) (i.0, a.2) refl in
+            absurd (omega (arith, (known.claimant w a.0 some).0))
+
+    one : (c d p j : ℕ) (n m : Note) (u w : ℕ) → note c p j r ≡ Some n → note d p j r ≡ Some m
+        → winner_named c n ≡ Some u → winner_named d m ≡ Some w → u ≡ w
+    one c d p j n m u w e f en fm =
+        let i = note_in c p j n e in
+        let k = note_in d p j m f in
+        let x = is.diary c p i.0 i.1 in
+        let y = is.diary d p k.0 k.1 in
+        one_winner c d p j x.0 y.0 n m u w i.0 k.0 x.2 y.2 i.2 k.2 en fm
+
+    left_all : (p : ℕ) → items_left p r ≡ items_where (λ j. not (is_taken (consumers_of plan) p j r)) (items_put p r)
+    left_all p = by_lane (cases_lt p plan.lanes)
+      where
+        by_lane : (p < plan.lanes) ⊎ (plan.lanes ≤ p)
+            → items_left p r ≡ items_where (λ j. not (is_taken (consumers_of plan) p j r)) (items_put p r)
+        by_lane (inl ps) = rw (put_is p ps) (left_is p ps)
+        by_lane (inr past) = rw (no_lane p past) refl
+
+    pub right : AreNotesRight (consumers_of plan) r
+    right = record {
+      value = value;
+      within = notes_within;
+      begun_within = claims_within;
+      one = one;
+      lost = lost;
+      left = left_all;
+      below = λ c p j n e. (note_in c p j n e).0;
+    }
+
+    -- past an end mark there are all notes
+    pub noted : (c p j : ℕ) → c < consumers_of plan → p < plan.lanes → HasMetEnd (hs.reader_of c) p hs.pool
+        → j < length (items_put p r) → IsSome (note c p j r)
+    noted c p j cs ps end before =
+        let d = is.diary c p cs ps in
+        let less = ends_noted plan hs known c p cs d.0 d.2 j end (rw (put_is p ps) at before) in
+        rw (notes_is c p cs ps, slice_get-get_or d.0.notes j Undecided less) refl

@@ -1,0 +1,49 @@
+-- A report that agrees with an assignment is settled, and agrees with no other assignment.
+use Rattle.std.proofs.Common.{◌≡◌, ℕ, Option, Some, None, refl, sym, ◌∙◌, inl, inr}
+use Rattle.mb_world.specs.declared.report.Note.{Note}
+use Rattle.mb_world.specs.declared.report.Note.TheVariants.{Took, Lost, Undecided}
+use Rattle.mb_world.specs.Report.{ReportView, note}
+use Rattle.mb_world.specs.Assignment.{Assignment}
+use Rattle.mb_world.specs.Agreement.{AgreesWith, HasCompeted, HasTaken, IsFinished, IsLossTo, IsSettled}
+
+-- some competitor's claim is unfinished
+abbrev IsContested : ℕ → ℕ → ReportView → Type 0
+IsContested p j r = (d : ℕ) × HasCompeted d p j r × (IsFinished d p j r → ⊥)
+
+-- a claim without a note is not finished, nor is one that ended undecided
+unfinished_none : (c p j : ℕ) (r : ReportView) → note c p j r ≡ None → IsFinished c p j r → ⊥
+unfinished_none c p j r e (inl h) = let k = h.1 in cc
+unfinished_none c p j r e (inr h) = let k = h.1 in cc
+
+unfinished_undecided : (c p j : ℕ) (r : ReportView) → note c p j r ≡ Some Undecided → IsFinished c p j r → ⊥
+unfinished_undecided c p j r e (inl h) = let k = h.1 in cc
+unfinished_undecided c p j r e (inr h) = let k = h.1 in cc
+
+module _ (t : Assignment) (r : ReportView) (a : AgreesWith t r) where
+  -- the winner that a loss names has not finished where nobody has taken the item
+  unfinished_winner : (c w p j : ℕ) → IsLossTo t c w p j r → ((d : ℕ) → HasTaken d p j r → ⊥) → IsFinished w p j r → ⊥
+  unfinished_winner c w p j l none (inl h) = none w h
+  unfinished_winner c w p j l none (inr h) = (a.given.losses w h.0 p j h.1).another (l.only w h.0 h.1)
+
+  at_note : (c p j : ℕ) → HasCompeted c p j r → ((d : ℕ) → HasTaken d p j r → ⊥) → (n : Option Note)
+      → note c p j r ≡ n → IsContested p j r
+  at_note c p j competed none None e = (c, competed, unfinished_none c p j r e)
+  at_note c p j competed none (Some (Took x)) e = absurd (none c (x, e))
+  at_note c p j competed none (Some (Lost w)) e =
+      let loss = a.given.losses c w p j e in (w, loss.competed, unfinished_winner c w p j loss none)
+  at_note c p j competed none (Some Undecided) e = (c, competed, unfinished_undecided c p j r e)
+
+  pub settled : IsSettled r
+  settled c p j inside competed none = at_note c p j competed none (note c p j r) refl
+
+  -- what the assignment gives, any other that the report agrees with gives
+  given_alike : (u : Assignment) → AgreesWith u r → (p j c : ℕ) → t p j ≡ Some c → u p j ≡ Some c
+  given_alike u b p j c e = (b.given.taken c p j).0 ((a.given.taken c p j).1 e)
+
+pub unique : (t u : Assignment) (r : ReportView) → AgreesWith t r → AgreesWith u r → (p j : ℕ) → t p j ≡ u p j
+unique t u r a b p j = by (t p j) (u p j) refl refl
+  where
+    by : (x y : Option ℕ) → t p j ≡ x → u p j ≡ y → t p j ≡ u p j
+    by None None e f = e ∙ sym f
+    by (Some c) y e f = e ∙ sym (given_alike t r a u b p j c e)
+    by None (Some c) e f = let g = given_alike u r b t a p j c f in cc

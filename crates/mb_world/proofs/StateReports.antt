@@ -1,0 +1,312 @@
+-- What the state of a world tells is the report of each history that leaves the world.
+use Rattle.std.proofs.Common.{◌≡◌, ◌≢◌, ◌↔◌, ℕ, suc, ◌+◌, ◌*◌, ◌<◌, ◌≤◌, ◌++◌, Bool, true, false, not, List, [], ◌∷◌, length, Option, Some, None, refl, sym, ◌∙◌, ap, subst, inl, inr, arith}
+use Rattle.std.specs.Prelude.{reverse, slice_get}
+use Rattle.std.specs.List.{filter_map}
+use Rattle.std.specs.Option.{option_map_or}
+use Rattle.std.proofs.lemmas.Bool.{lt-ltb}
+use Rattle.std.proofs.lemmas.List.{append-nil, append_assoc, length-reverse, reverse-append}
+use Rattle.std.proofs.lemmas.List.Elements.{filter_map-append}
+use Rattle.std.proofs.Math.Nat.{mul-le-mul_right}
+use Rattle.mb_claim.specs.declared.access.Stage.TheVariants as stage
+use Rattle.mb_claim.specs.declared.layout.Layout.{Layout}
+use Rattle.mb_cells.specs.State.{item_in}
+use Rattle.mb_world.specs.declared.report.Note.{Note}
+use Rattle.mb_world.specs.declared.report.Note.TheVariants.{Took, Lost, Undecided}
+use Rattle.mb_world.specs.declared.seat.Seat.{Seat}
+use Rattle.mb_world.specs.declared.seat.Seat.TheVariants as seat
+use Rattle.mb_world.specs.Below.{Has, IsClaimPrefix, IsOnceEach, ObjectTurn, claim_part, linked_cells}
+use Rattle.mb_world.specs.Plan.{Plan, consumers_of}
+use Rattle.mb_world.specs.Report.{DiaryView, LaneView, ReportView, diary, note, notes}
+use Rattle.mb_world.specs.Assignment.{items_where}
+use Rattle.mb_world.specs.Fitting.{EndsAs, parts_of}
+use Rattle.mb_world.specs.Reporting.{IsDiaryOf, IsReportOf, is_taken, is_took, lane_view}
+use Rattle.mb_world.specs.Setups.{plan_in}
+use Rattle.mb_world.specs.Sound.{AreSound}
+use Rattle.mb_world.specs.World.{WorldHistory, claim_accesses, histories_of, lane_part, pool_accesses}
+use Rattle.mb_world.specs.ConsumerPath.{has_begun}
+use Rattle.mb_world.specs.Worlds.{IsOnPath}
+use Rattle.mb_world.specs.WorldState.{IsSeatAfter, IsSeatAt, IsWorldAfter, WorldState}
+use Rattle.mb_world.specs.StateReport.{AreDiariesTold, AreLanesTold, IsDiaryTold, IsLaneTold, IsWalked, begun_on, has_begun_on, is_taken_on, note_on, note_there}
+use Rattle.mb_world.proofs.Cells.{has_cell-true}
+use Rattle.mb_world.proofs.PathDiaries.{ends_length}
+use Rattle.mb_world.proofs.Places.{IsAt, at_has, has_at, reverse_at}
+use Rattle.mb_world.proofs.StateNotes.{any_below-same, items_chosen, none_noted, note_by, note_placed, noted, put_cells}
+use Rattle.mb_world.proofs.Tracks.{AreEnds, EndsIn, closed, ends_more, ends_some}
+use Rattle.mb_world.proofs.WorldClaims.{end_here, met_all, on_lane, tracks}
+use Rattle.mb_world.proofs.WorldDiaries.{diary_is, ended_within, no_other}
+use Rattle.mb_world.proofs.WorldKnown.{WorldKnown}
+use mathlib.Core.List.{reverse-cons}
+
+-- ---- lists of cells
+has_left : (xs ys : List ℕ) (k : ℕ) → Has xs k → Has (xs ++ ys) k
+has_left [] ys k has = absurd has
+has_left (x ∷ xs) ys k (inl e) = inl e
+has_left (x ∷ xs) ys k (inr m) = inr (has_left xs ys k m)
+
+has_right : (xs ys : List ℕ) (k : ℕ) → Has ys k → Has (xs ++ ys) k
+has_right [] ys k has = has
+has_right (x ∷ xs) ys k has = inr (has_right xs ys k has)
+
+has_last : (xs : List ℕ) (x k : ℕ) → Has (xs ++ x ∷ []) k → Has (x ∷ xs) k
+has_last [] x k has = has
+has_last (y ∷ xs) x k (inl e) = inr (inl e)
+has_last (y ∷ xs) x k (inr m) = elim (has_last xs x k m) [ inl e ↦ inl e | inr n ↦ inr (inr n) ]
+
+-- what the reversed list has, the list has
+has_of_reverse : (xs : List ℕ) (k : ℕ) → Has (reverse xs) k → Has xs k
+has_of_reverse [] k has = has
+has_of_reverse (x ∷ xs) k has =
+    elim (has_last (reverse xs) x k (subst (λ (ys : List ℕ). Has ys k) (reverse-cons x xs) has)) [
+      | inl e ↦ inl e
+      | inr m ↦ inr (has_of_reverse xs k m)
+    ]
+
+-- where each stands once, none stands in both parts
+once_apart : (xs ys : List ℕ) (k : ℕ) → IsOnceEach (xs ++ ys) → Has xs k → Has ys k → ⊥
+once_apart [] ys k once has there = has
+once_apart (x ∷ xs) ys k once (inl e) there =
+    once.0 (has_right xs ys x (subst (λ (i : ℕ). Has ys i) (sym e) there))
+once_apart (x ∷ xs) ys k once (inr m) there = once_apart xs ys k once.1 m there
+
+-- ---- the cells that have notes
+closed_has : (ks : List ℕ) (z : Option (List ObjectTurn)) (k : ℕ) → Has (closed ks z) k → Has ks k
+closed_has ks None k has = has
+closed_has [] (Some xs) k has = absurd has
+closed_has (q ∷ qs) (Some xs) k has = inr has
+
+closed_at : (ks : List ℕ) (z : Option (List ObjectTurn)) (j k : ℕ) → IsAt ks j k → j < length (closed ks z)
+    → Has (closed ks z) k
+closed_at ks None j k at less = at_has ks j k at
+closed_at [] (Some xs) j k at less = absurd at
+closed_at (q ∷ qs) (Some xs) j k (inl at) less = absurd (omega (arith, at.0, less))
+closed_at (q ∷ qs) (Some xs) j k (inr at) less = at_has qs j k at
+
+-- the cells linked later than these
+closed_cut : (ks : List ℕ) (z : Option (List ObjectTurn)) (later ls : List ℕ) → later ++ ks ≡ ls
+    → (late : List ℕ) × (late ++ closed ks z ≡ ls)
+closed_cut ks None later ls e = (later, e)
+closed_cut [] (Some xs) later ls e = (later, e)
+closed_cut (q ∷ qs) (Some xs) later ls e = (later ++ q ∷ [], append_assoc later (q ∷ []) qs ∙ e)
+
+-- ---- a seat
+cons_some : (x : ObjectTurn) (xs : List ObjectTurn) → x ∷ xs ≢ []
+cons_some x xs e = cc
+
+claim_begun : (b : Bool) (xs : List ObjectTurn) → (b ≡ true) ↔ (xs ≢ []) → b ≡ has_begun (Some xs)
+claim_begun true [] w = absurd (w.0 refl refl)
+claim_begun false [] w = refl
+claim_begun true (x ∷ xs) w = refl
+claim_begun false (x ∷ xs) w = w.1 (cons_some x xs)
+
+seat_begun : (layout : Layout) (c : ℕ) (ks : List ℕ) (held : Option (List ObjectTurn)) (d : Seat)
+    → IsSeatAt layout c ks held d → has_begun_on d ≡ has_begun held
+seat_begun layout c [] None seat.AtHead is = refl
+seat_begun layout c [] None (seat.PastCell k) is = absurd is
+seat_begun layout c [] None (seat.AtCell k claim) is = absurd is
+seat_begun layout c [] (Some xs) seat.AtHead is = absurd is
+seat_begun layout c [] (Some xs) (seat.PastCell k) is = absurd is
+seat_begun layout c [] (Some xs) (seat.AtCell k claim) is = absurd is
+seat_begun layout c (q ∷ qs) None seat.AtHead is = absurd is
+seat_begun layout c (q ∷ qs) None (seat.PastCell k) is = refl
+seat_begun layout c (q ∷ qs) None (seat.AtCell k claim) is = absurd is
+seat_begun layout c (q ∷ qs) (Some xs) seat.AtHead is = absurd is
+seat_begun layout c (q ∷ qs) (Some xs) (seat.PastCell k) is = absurd is
+seat_begun layout c (q ∷ qs) (Some xs) (seat.AtCell k claim) is = claim_begun claim.begun xs is.2.begun
+
+-- ---- a lane
+abbrev lane_of : List ℕ → Bool → List ℕ → LaneView
+lane_of put ended left = record { put = put; ended = ended; left = left }
+
+lane_same : (l m : LaneView) → l.put ≡ m.put → l.ended ≡ m.ended → l.left ≡ m.left → l ≡ m
+lane_same l m a b c =
+    ap (λ x. lane_of x l.ended l.left) a ∙ (ap (λ x. lane_of m.put x l.left) b ∙ ap (λ x. lane_of m.put m.ended x) c)
+
+-- a place in the grid of the diaries
+grid_within : (n w c p : ℕ) → c < n → p < w → c * w + p < n * w
+grid_within n w c p cs ps =
+    let most : suc c * w ≤ n * w = mul-le-mul_right w cs in
+    let more : suc c * w ≡ c * w + w = grind arith in
+    omega (arith, most, more, ps)
+
+module _ (s : WorldState) (h : WorldHistory) (is : IsWorldAfter h s) (known : WorldKnown (plan_in s.setup) h)
+    (sound : AreSound (plan_in s.setup) (histories_of h))
+    (fresh : (c : ℕ) → c < consumers_of (plan_in s.setup) → IsClaimPrefix (plan_in s.setup).claims c [] stage.Going)
+  where
+    abbrev plan : Plan
+    plan = plan_in s.setup
+
+    abbrev Ends : ℕ → ℕ → Note → Type 0
+    Ends c k n = EndsAs plan.claims c k n (parts_of c (histories_of h))
+
+    abbrev linked : ℕ → List ℕ
+    linked p = linked_cells p (pool_accesses h)
+
+    walk_is : (p : ℕ) (ks : List ℕ) (over : Bool) → IsWalked s.pool p ks over → ks ≡ reverse (linked p)
+    walk_is p ks over w = sym (w (pool_accesses h) is.pool).cells ∙ put_cells p (pool_accesses h)
+
+    -- ---- one note
+    note_of_end : (c k : ℕ) (n : Note) → c < consumers_of plan → k < plan.claims.cells → Ends c k n
+        → note_on s c k ≡ Some n
+    note_of_end c k n cs less e = let q = is.note c k cs less in ap note_there q.1 ∙ (q.2 n).1 e
+
+    end_of_note : (c k : ℕ) (n : Note) → c < consumers_of plan → k < plan.claims.cells → note_on s c k ≡ Some n
+        → Ends c k n
+    end_of_note c k n cs less e = let q = is.note c k cs less in (q.2 n).0 (sym (ap note_there q.1) ∙ e)
+
+    -- a claim that has ended has an access
+    end_some : (c k : ℕ) (n : Note) → c < consumers_of plan → Ends c k n → claim_part c k (claim_accesses h) ≢ []
+    end_some c k n cs e none = by n e
+      where
+        same : (z : _) → IsClaimPrefix plan.claims c (claim_part c k (claim_accesses h)) z → stage.Going ≡ z
+        same z w =
+            known.stage c [] stage.Going z (fresh c cs) (subst (λ xs. IsClaimPrefix plan.claims c xs z) none w)
+
+        by : (m : Note) → Ends c k m → ⊥
+        by (Took v) w = let d = same stage.Won w.0 in cc
+        by (Lost u) w = let d = same (stage.Lost u) w in cc
+        by Undecided w = let d = same stage.Undecided w in cc
+
+    -- ---- one consumer on one lane
+    module _ (c p : ℕ) (cs : c < consumers_of plan) (ps : p < plan.lanes) where
+      abbrev at : IsSeatAfter s.setup c p h (is.seat c p cs ps).0
+      at = (is.seat c p cs ps).2
+
+      abbrev here : IsOnPath plan c p h
+      here = record { cells = at.cells; notes = at.notes; held = at.held; path = at.path }
+
+      abbrev with_notes : List ℕ
+      with_notes = closed at.cells at.held
+
+      own : IsDiaryOf plan c p (histories_of h)
+          (record { consumer = c; lane = p; notes = reverse at.notes; begun = has_begun at.held })
+      own = diary_is plan h is.lawful known c p at.cells at.notes at.held at.path
+
+      noted_here : AreEnds (λ k n. note_on s c k ≡ Some n) with_notes at.notes
+      noted_here =
+          ends_more (EndsIn plan.claims c (lane_part c p h)) (λ k n. note_on s c k ≡ Some n) with_notes at.notes
+          (λ k n has e.
+          let stands = on_lane plan h is.lawful known c p k here (closed_has at.cells at.held k has) in
+          note_of_end c k n cs (known.within p k stands)
+          (end_here plan h is.lawful known c p k n (has_cell-true (linked p) k stands) e))
+          (tracks plan h is.lawful known c p here).ended
+
+      late : (ks : List ℕ) × (ks ++ with_notes ≡ linked p)
+      late =
+          let start = known.start c p at.cells (met_all plan h is.lawful known c p here) in
+          closed_cut at.cells at.held start.0 (linked p) start.1
+
+      -- a cell of the lane that has a note is met, and its note is among these
+      ended_here : (k : ℕ) (n : Note) → Has (linked p) k → Ends c k n → Has with_notes k
+      ended_here k n has e =
+          let gave = (sound.fit c cs).met k (end_some c k n cs e) in
+          let place = has_at at.cells k (no_other plan h is.lawful known c p k here gave has) in
+          let less : place.0 < length (reverse at.notes) =
+          ended_within plan h is.lawful known c p at.cells at.notes at.held at.path place.0 k n
+          (reverse_at at.cells place.0 k place.1) e in
+          closed_at at.cells at.held place.0 k place.1
+          (omega (
+            arith,
+            less,
+            length-reverse at.notes,
+            ends_length (λ k n. note_on s c k ≡ Some n) with_notes at.notes noted_here,
+          ))
+
+      none_late : (k : ℕ) → Has (late.0) k → note_on s c k ≡ None
+      none_late k has = by (note_on s c k) refl
+        where
+          stands : Has (linked p) k
+          stands = subst (λ (ls : List ℕ). Has ls k) late.1 (has_left late.0 with_notes k has)
+
+          by : (o : Option Note) → note_on s c k ≡ o → note_on s c k ≡ None
+          by None e = e
+          by (Some n) e =
+              absurd (once_apart late.0 with_notes k (subst IsOnceEach (sym late.1) (known.once p)) has
+              (ended_here k n stands (end_of_note c k n cs (known.within p k stands) e)))
+
+      lane_order : reverse (linked p) ≡ reverse with_notes ++ reverse late.0
+      lane_order = ap reverse (sym late.1) ∙ reverse-append late.0 with_notes
+
+      notes_along : filter_map (note_on s c) (reverse (linked p)) ≡ reverse at.notes
+      notes_along =
+          ap (filter_map (note_on s c)) lane_order
+          ∙ (filter_map-append (note_on s c) (reverse with_notes) (reverse late.0)
+          ∙ (ap (λ (ms : List Note). ms ++ filter_map (note_on s c) (reverse late.0))
+          (noted (note_on s c) with_notes at.notes noted_here)
+          ∙ (ap (λ (ms : List Note). reverse at.notes ++ ms)
+          (none_noted (note_on s c) (reverse late.0) (λ k has. none_late k (has_of_reverse late.0 k has)))
+          ∙ append-nil (reverse at.notes))))
+
+      -- each note has the place of its cell
+      note_along : (j : ℕ)
+          → slice_get (filter_map (note_on s c) (reverse (linked p))) j
+          ≡ note_by (note_on s c) (slice_get (reverse (linked p)) j)
+      note_along j =
+          subst (λ (ls : List ℕ). slice_get (filter_map (note_on s c) ls) j ≡ note_by (note_on s c) (slice_get ls j))
+          (sym lane_order)
+          (note_placed (note_on s c) (reverse with_notes) (reverse late.0) j
+          (λ k has. ends_some (λ k n. note_on s c k ≡ Some n) with_notes at.notes k noted_here
+          (has_of_reverse with_notes k has))
+          (λ k has. none_late k (has_of_reverse late.0 k has)))
+
+      begun_here : begun_on s c p ≡ has_begun at.held
+      begun_here =
+          ap (λ (o : Option Seat). option_map_or has_begun_on o false) (is.seat c p cs ps).1
+          ∙ seat_begun s.setup.layout c at.cells at.held (is.seat c p cs ps).0 at.is
+
+      told_notes : (d : DiaryView) → IsDiaryTold s c p d → d.notes ≡ filter_map (note_on s c) (reverse (linked p))
+      told_notes d t = t.notes ∙ ap (filter_map (note_on s c)) (walk_is p t.cells t.ended t.walked)
+
+      diary_told : (d : DiaryView) → IsDiaryTold s c p d → IsDiaryOf plan c p (histories_of h) d
+      diary_told d t =
+          let same : d.notes ≡ reverse at.notes = told_notes d t ∙ notes_along in
+          let begun : d.begun ≡ has_begun at.held = t.begun ∙ begun_here in
+          record {
+            consumer = t.consumer;
+            lane = t.lane;
+            cells = own.cells;
+            met = own.met;
+            notes = λ j n e. own.notes j n (subst (λ (ms : List Note). slice_get ms j ≡ Some n) same e);
+            all = λ j k n place e.
+                subst (λ (ms : List Note). j < length ms) (sym same) (own.all j k n place e);
+            begun = ((λ b. own.begun.0 (sym begun ∙ b)), (λ z. begun ∙ own.begun.1 z));
+          }
+
+    -- ---- the report
+    module _ (r : ReportView) (lanes : AreLanesTold s plan.lanes r.lanes)
+        (diaries : AreDiariesTold s (consumers_of plan * plan.lanes) r.diaries) where
+      note_is : (c p j k : ℕ) → c < consumers_of plan → p < plan.lanes → slice_get (reverse (linked p)) j ≡ Some k
+          → note c p j r ≡ note_on s c k
+      note_is c p j k cs ps e =
+          let t = diaries.each c p ps (grid_within (consumers_of plan) plan.lanes c p cs ps) in
+          let there : diary c p r ≡ Some t.0 = rw (lanes.count, lt-ltb p plan.lanes ps) t.1 in
+          let same : notes c p r ≡ t.0.notes =
+          ap (λ (o : Option DiaryView). option_map_or (λ d. d.notes) o []) there in
+          ap (λ (ns : List Note). slice_get ns j) (same ∙ told_notes c p cs ps t.0 t.2)
+          ∙ (note_along c p cs ps j ∙ ap (note_by (note_on s c)) e)
+
+      taken_is : (p j k : ℕ) → p < plan.lanes → slice_get (reverse (linked p)) j ≡ Some k
+          → not (is_taken (consumers_of plan) p j r) ≡ not (is_taken_on s k)
+      taken_is p j k ps e =
+          ap not (any_below-same (consumers_of plan) (λ c. is_took (note c p j r)) (λ c. is_took (note_on s c k))
+          (λ c cs. ap is_took (note_is c p j k cs ps e)))
+
+      lane_told : (p : ℕ) (l : LaneView) → p < plan.lanes → IsLaneTold s p l → l ≡ lane_view plan p (histories_of h) r
+      lane_told p l ps t =
+          let w = t.walked (pool_accesses h) is.pool in
+          let order : t.cells ≡ reverse (linked p) = walk_is p t.cells l.ended t.walked in
+          lane_same l (lane_view plan p (histories_of h) r) (t.put ∙ sym w.values) (sym w.ended)
+          (t.left
+          ∙ (items_chosen (λ k. item_in k s.pool) (λ j. not (is_taken (consumers_of plan) p j r))
+          (λ k. not (is_taken_on s k)) t.cells
+          (λ j k e. taken_is p j k ps (subst (λ (ls : List ℕ). slice_get ls j ≡ Some k) order e))
+          ∙ ap (items_where (λ j. not (is_taken (consumers_of plan) p j r))) (sym w.values)))
+
+      pub report_is : IsReportOf plan (histories_of h) r
+      report_is = record {
+        lanes_count = lanes.count;
+        diaries_count = diaries.count;
+        lane = λ p ps. let t = lanes.each p ps in t.1 ∙ ap Some (lane_told p t.0 ps t.2);
+        diary = λ c p cs ps.
+            let t = diaries.each c p ps (grid_within (consumers_of plan) plan.lanes c p cs ps) in
+            (t.0, t.1, diary_told c p cs ps t.0 t.2);
+      }

@@ -1,0 +1,14 @@
+-- What the laws of claims and of cells give for a history of a world.
+use Rattle.std.specs.Prelude.{ℕ, ◌≡◌, ◌<◌, List}
+use Rattle.mb_world.specs.Below.{Has, HasMet, IsClaimPrefix, IsOnceEach, IsStart, ObjectTurn, Stage, linked_cells}
+use Rattle.mb_world.specs.Plan.{Plan}
+use Rattle.mb_world.specs.World.{WorldHistory, pool_accesses}
+
+pub record WorldKnown (plan : Plan) (h : WorldHistory) : Type 0 where
+  pub start : (q p : ℕ) (ks : List ℕ) → HasMet q p ks (pool_accesses h) → IsStart ks (linked_cells p (pool_accesses h))
+  pub once : (p : ℕ) → IsOnceEach (linked_cells p (pool_accesses h))
+  pub within : (p k : ℕ) → Has (linked_cells p (pool_accesses h)) k → k < plan.claims.cells
+  pub one_lane : (p q k : ℕ) → Has (linked_cells p (pool_accesses h)) k → Has (linked_cells q (pool_accesses h)) k
+      → p ≡ q
+  pub stage : (c : ℕ) (xs : List ObjectTurn) (s r : Stage) → IsClaimPrefix plan.claims c xs s
+      → IsClaimPrefix plan.claims c xs r → s ≡ r

@@ -1,0 +1,11 @@
+use Rattle.std.proofs.Common.{refl}
+use Rattle.mb_world.proofs.examples.assignments_are_told.Goals as goal
+
+pub returns-clause-other : goal.returns-clause-other
+returns-clause-other c agrees = let e = (agrees.given.taken 0 0 0).0 (5, refl) in cc
+
+pub returns-clause-nobody : goal.returns-clause-nobody
+returns-clause-nobody c agrees = let e = (agrees.given.taken 0 0 0).0 (5, refl) in cc
+
+pub returns-clause-early : goal.returns-clause-early
+returns-clause-early c agrees = let e = ((agrees.given.taken 0 0 0).1 refl).1 in cc

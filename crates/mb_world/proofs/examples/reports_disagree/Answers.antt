@@ -1,0 +1,105 @@
+use Rattle.std.proofs.Common.{◌≡◌, ◌⊎◌, ℕ, zero, suc, ◌∷◌, [], List, Bool, Option, Some, None, false, true, refl, sym, ◌∙◌, inl, inr, arith}
+use Rattle.std.specs.Prelude.{if◌then◌else◌}
+use Rattle.std.specs.Option.{is_none}
+use Rattle.mb_world.specs.Agreement.{HasCompeted}
+use Rattle.mb_world.specs.Assignment.{is_consumer}
+use Rattle.mb_world.specs.ReportExamples.{diary_of, left_omitted, winner_stayed_away}
+use Rattle.mb_world.proofs.ReportLists.{no_diary, not_competing}
+use Rattle.mb_world.proofs.examples.reports_disagree.Goals as goal
+
+-- two items are not chosen in another order
+abbrev chosen : Option ℕ → Option ℕ → List ℕ
+chosen a b = if is_none a then 10 ∷ (if is_none b then 11 ∷ [] else []) else (if is_none b then 11 ∷ [] else [])
+
+abbrev turned : List ℕ
+turned = 11 ∷ 10 ∷ []
+
+no_order : (a b : Option ℕ) → turned ≡ chosen a b → ⊥
+no_order None None e = cc
+no_order None (Some d) e = cc
+no_order (Some c) None e = cc
+no_order (Some c) (Some d) e = cc
+
+pub returns-clause-order : goal.returns-clause-order
+returns-clause-order c t agrees = no_order (t 0 0) (t 0 1) (agrees.left 0)
+
+-- nobody competes without a note or a claim
+idle : HasCompeted 0 0 0 left_omitted → ⊥
+idle (inl h) = omega (arith, h)
+idle (inr h) = let e = h.1 in cc
+
+nobody : (d : ℕ) → HasCompeted (suc d) 0 0 left_omitted → ⊥
+nobody d h = not_competing (suc d) 0 0 left_omitted
+    (no_diary (suc d) (10 ∷ []) [] (diary_of 0 [] false ∷ []) (omega arith)) h
+
+away : HasCompeted 1 0 0 winner_stayed_away → ⊥
+away (inl h) = omega (arith, h)
+away (inr h) = let e = h.1 in cc
+
+abbrev ten : Option ℕ → List ℕ
+ten a = if is_none a then 10 ∷ [] else []
+
+abbrev nothing : List ℕ
+nothing = []
+
+pub returns-clause-omitted : goal.returns-clause-omitted
+returns-clause-omitted c t agrees = by (t 0 0) refl (agrees.left 0)
+  where
+    by : (a : Option ℕ) → t 0 0 ≡ a → nothing ≡ ten a → ⊥
+    by None e f = cc
+    by (Some zero) e f = idle (agrees.given.competitors 0 0 0 e).1
+    by (Some (suc d)) e f = nobody d (agrees.given.competitors (suc d) 0 0 e).1
+
+pub returns-clause-both : goal.returns-clause-both
+returns-clause-both c t agrees = by (t 0 0) ((agrees.given.taken 0 0 0).0 (10, refl)) (agrees.left 0)
+  where
+    by : (a : Option ℕ) → a ≡ Some 0 → ten None ≡ ten a → ⊥
+    by None e f = cc
+    by (Some d) e f = cc
+
+pub returns-clause-twice : goal.returns-clause-twice
+returns-clause-twice c t agrees =
+    let e = (agrees.given.taken 0 0 0).0 (5, refl) in
+    let f = (agrees.given.taken 1 0 0).0 (5, refl) in
+    cc
+
+-- another value is not chosen
+abbrev five : Bool → List ℕ
+five b = if b then 5 ∷ [] else []
+
+abbrev six : List ℕ
+six = 6 ∷ []
+
+no_value : (b : Bool) → six ≡ five b → ⊥
+no_value true e = cc
+no_value false e = cc
+
+pub returns-clause-value : goal.returns-clause-value
+returns-clause-value c t agrees = no_value (is_consumer 0 (t 0 0)) (agrees.given.ledgers 0 0)
+
+pub returns-clause-itself : goal.returns-clause-itself
+returns-clause-itself c t agrees = (agrees.given.losses 0 0 0 0 refl).another refl
+
+pub returns-clause-away : goal.returns-clause-away
+returns-clause-away c t agrees = away (agrees.given.losses 0 1 0 0 refl).competed
+
+pub returns-clause-each : goal.returns-clause-each
+returns-clause-each c t agrees = let e = (agrees.given.losses 0 1 0 0 refl).only 1 0 refl in cc
+
+pub returns-clause-begun : goal.returns-clause-begun
+returns-clause-begun c t agrees = let e = agrees.given.begun_within 0 0 refl in omega (arith, e)
+
+pub returns-clause-beyond : goal.returns-clause-beyond
+returns-clause-beyond c t agrees = let e = agrees.given.within 0 0 in omega (arith, e)
+
+pub returns-clause-third : goal.returns-clause-third
+returns-clause-third c t agrees =
+    by (t 0 0) ((agrees.given.taken 0 0 0).0 (5, refl)) (agrees.given.losses 1 2 0 0 refl).given
+  where
+    by : (a : Option ℕ) → a ≡ Some 0 → (a ≡ Some 2) ⊎ (a ≡ None) → ⊥
+    by None e f = cc
+    by (Some d) e (inl f) = let g : Some 0 ≡ Some 2 = sym e ∙ f in cc
+    by (Some d) e (inr f) = cc
+
+pub returns-clause-places : goal.returns-clause-places
+returns-clause-places c t agrees = (agrees.given.losses 0 0 1 0 refl).another refl

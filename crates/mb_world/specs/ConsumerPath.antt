@@ -1,0 +1,74 @@
+-- The path of a consumer on a lane.
+use Rattle.std.specs.Prelude.{ℕ, ◌≡◌, ◌≢◌, ◌+◌, ◌⊎◌, Bool, true, false, Option, Some, None, List, [], ◌∷◌, reverse}
+use Rattle.mb_claim.specs.declared.access.Stage.TheVariants as stage
+use Rattle.mb_world.specs.declared.report.Note.{Note}
+use Rattle.mb_world.specs.declared.report.Note.TheVariants.{Took, Lost, Undecided}
+use Rattle.mb_world.specs.Below.{ClaimAccess, Claims, END, IsClaimPrefix, Item, ObjectTurn, Stage, load, place_past}
+use Rattle.mb_world.specs.Report.{DiaryView}
+use Rattle.mb_world.specs.World.{ToCells, ToClaims, WorldAccess, WorldHistory}
+
+-- the note with which a claim ends at its last access; one that is won has its note when the item is loaded
+abbrev pub note_of : Stage → Option Note
+note_of stage.Going = None
+note_of stage.Won = None
+note_of (stage.Lost w) = Some (Lost w)
+note_of stage.Undecided = Some Undecided
+
+-- a step of the claim of consumer c on cell k
+abbrev pub claim_access : ℕ → ℕ → ObjectTurn → ClaimAccess
+claim_access c k x = record { consumer = c; cell = k; step = x }
+
+abbrev pub claim_step : ℕ → ℕ → ObjectTurn → WorldAccess
+claim_step c k x = ToClaims (claim_access c k x)
+
+-- a load by consumer c of the link past these cells of lane p (the last first), or of the lane's head
+abbrev pub link_load : ℕ → ℕ → List ℕ → ℕ → WorldAccess
+link_load c p ks v = ToCells (load c (place_past p ks) v)
+
+-- a load by consumer c of the item of cell k
+abbrev pub item_load : ℕ → ℕ → ℕ → WorldAccess
+item_load c k v = ToCells (load c (Item k) v)
+
+-- What consumer c has done on lane p, the newest first, and where it leads: to these cells met and these notes (each
+-- the last first), and to these steps of a claim on the last cell met, where one is held. Each rule is one access, so
+-- these are the prefixes of its paths: links loaded until one leads to a cell; there a claim to its end, and where that
+-- is won the item; then the same from that cell's link.
+pub data ConsumerPath (cs : Claims) (c p : ℕ) : WorldHistory → List ℕ → List Note → Option (List ObjectTurn)
+    → Type 0 where
+  -- nothing yet: it stands at the lane's head
+  begins : ConsumerPath cs c p [] [] [] None
+  -- the link leads to no cell: it waits there
+  waits : {older : WorldHistory} {ks : List ℕ} {ns : List Note} {v : ℕ} → (v ≡ 0) ⊎ (v ≡ END)
+      → ConsumerPath cs c p older ks ns None
+      → ConsumerPath cs c p (link_load c p ks v ∷ older) ks ns None
+  -- the link leads to cell k: it holds a new claim there, which has an access to come
+  finds : {older : WorldHistory} {ks : List ℕ} {ns : List Note} {k : ℕ} → k + 1 ≢ END
+      → IsClaimPrefix cs c [] stage.Going
+      → ConsumerPath cs c p older ks ns None
+      → ConsumerPath cs c p (link_load c p ks (k + 1) ∷ older) (k ∷ ks) ns (Some [])
+  -- a step of the claim, which goes on or is won then
+  goes : {older : WorldHistory} {ks : List ℕ} {ns : List Note} {k : ℕ} {xs : List ObjectTurn} {x : ObjectTurn}
+      → (s : Stage) → IsClaimPrefix cs c (x ∷ xs) s → note_of s ≡ None
+      → ConsumerPath cs c p older (k ∷ ks) ns (Some xs)
+      → ConsumerPath cs c p (claim_step c k x ∷ older) (k ∷ ks) ns (Some (x ∷ xs))
+  -- the last step of a claim that is lost or undecided: it is noted, and the consumer stands at the link of cell k
+  ends : {older : WorldHistory} {ks : List ℕ} {ns : List Note} {k : ℕ} {xs : List ObjectTurn} {x : ObjectTurn}
+      {n : Note}
+      → (s : Stage) → IsClaimPrefix cs c (x ∷ xs) s → note_of s ≡ Some n
+      → ConsumerPath cs c p older (k ∷ ks) ns (Some xs)
+      → ConsumerPath cs c p (claim_step c k x ∷ older) (k ∷ ks) (n ∷ ns) None
+  -- where the claim is won, the item is loaded: it is noted, and the consumer stands at the link of cell k
+  takes : {older : WorldHistory} {ks : List ℕ} {ns : List Note} {k : ℕ} {xs : List ObjectTurn} {v : ℕ}
+      → IsClaimPrefix cs c xs stage.Won
+      → ConsumerPath cs c p older (k ∷ ks) ns (Some xs)
+      → ConsumerPath cs c p (item_load c k v ∷ older) (k ∷ ks) (Took v ∷ ns) None
+
+-- whether a claim is held that has an access
+abbrev pub has_begun : Option (List ObjectTurn) → Bool
+has_begun None = false
+has_begun (Some []) = false
+has_begun (Some (x ∷ xs)) = true
+
+-- the diary of consumer c on lane p, where its path has led to these notes and this claim
+abbrev pub diary_at : ℕ → ℕ → List Note → Option (List ObjectTurn) → DiaryView
+diary_at c p ns held = record { consumer = c; lane = p; notes = reverse ns; begun = has_begun held }

@@ -1,0 +1,103 @@
+-- What consumer 0 does on lane 0, with two consumers, two cells and one pair of objects over the unary table: some of
+-- it is on its path, and some of it on none.
+use Rattle.std.specs.Prelude.{ℕ, Option, List, [], ◌∷◌, ◌++◌, map}
+use Rattle.mb_deciding.specs.declared.access.Act.TheVariants as act
+use Rattle.mb_deciding.specs.declared.access.Reg.TheVariants.{Quorum, Value}
+use Rattle.mb_claim.specs.Examples.{two_consumers, won_alone}
+use Rattle.mb_world.specs.declared.report.Note.{Note}
+use Rattle.mb_claim.specs.AllClaims.{claims_of}
+use Rattle.mb_world.specs.Below.{Claims, Head, Item, Link, ObjectTurn, PoolAccess, load}
+use Rattle.mb_world.specs.Fitting.{Parts}
+use Rattle.mb_world.specs.World.{WorldHistory}
+use Rattle.mb_world.specs.ConsumerPath.{ConsumerPath, claim_step, item_load, link_load}
+
+-- the claims of the two consumers
+abbrev pub two_cells : Claims
+two_cells = claims_of two_consumers.table two_consumers.kinds 2
+
+-- no path leads through this
+abbrev pub IsOnNoPath : WorldHistory → Type 0
+IsOnNoPath done = (ks : List ℕ) (ns : List Note) (held : Option (List ObjectTurn))
+    → ConsumerPath two_cells 0 0 done ks ns held → ⊥
+
+-- the claim's first step: it finds the conciliator's word empty
+abbrev pub first_step : ObjectTurn
+first_step = record { object = 0; turn = record { act = act.Load Value 0; word = 0 } }
+
+-- ---- on the path
+-- nothing is linked yet
+abbrev pub waited : WorldHistory
+waited = link_load 0 0 [] 0 ∷ []
+
+-- then cell 0 is found, and its claim begun
+abbrev pub found : WorldHistory
+found = link_load 0 0 [] 1 ∷ waited
+
+abbrev pub begun : WorldHistory
+begun = claim_step 0 0 first_step ∷ found
+
+-- or the claim is made to its end, where it is won, and the item 5 is taken
+abbrev pub won_steps : List ObjectTurn
+won_steps = map (λ a. a.step) won_alone
+
+-- its last step finds no register of another consumer set
+abbrev pub won_last : ObjectTurn
+won_last = record { object = 1; turn = record { act = act.Load (Quorum 1) 0; word = 0 } }
+
+abbrev pub won : WorldHistory
+won = map (claim_step 0 0) won_steps ++ found
+
+abbrev pub taken : WorldHistory
+taken = item_load 0 0 5 ∷ won
+
+-- ---- on no path
+-- the item is loaded before the claim is begun, and before it is won
+abbrev pub taken_unclaimed : WorldHistory
+taken_unclaimed = item_load 0 0 5 ∷ found
+
+abbrev pub taken_early : WorldHistory
+taken_early = item_load 0 0 5 ∷ begun
+
+-- it is loaded again
+abbrev pub taken_twice : WorldHistory
+taken_twice = item_load 0 0 5 ∷ taken
+
+-- a claim on a cell that was not met: before any, and beside the one that was
+abbrev pub claimed_unmet : WorldHistory
+claimed_unmet = claim_step 0 0 first_step ∷ waited
+
+abbrev pub claimed_another : WorldHistory
+claimed_another = claim_step 0 1 first_step ∷ found
+
+-- the link of the cell is loaded while the claim goes on, and before it is begun
+abbrev pub passed_going : WorldHistory
+passed_going = link_load 0 0 (0 ∷ []) 0 ∷ begun
+
+abbrev pub passed_unclaimed : WorldHistory
+passed_unclaimed = link_load 0 0 (0 ∷ []) 0 ∷ found
+
+-- it is loaded when the claim is won, and before the item is
+abbrev pub passed_won : WorldHistory
+passed_won = link_load 0 0 (0 ∷ []) 0 ∷ won
+
+-- the head is loaded again behind the cell
+abbrev pub gone_back : WorldHistory
+gone_back = link_load 0 0 [] 1 ∷ taken
+
+-- ---- parts that do not fit
+-- a step of a claim on each cell, and no load
+abbrev pub claimed_unseen : Parts
+claimed_unseen = record { reads = []; claimed = λ k. first_step ∷ [] }
+
+-- after the head led to cell 0, and without a claim there: the item, the link, the head again
+abbrev pub read_on : PoolAccess → Parts
+read_on a = record { reads = a ∷ load 0 (Head 0) 1 ∷ []; claimed = λ k. [] }
+
+abbrev pub read_unclaimed : Parts
+read_unclaimed = read_on (load 0 (Item 0) 5)
+
+abbrev pub passed_without_claim : Parts
+passed_without_claim = read_on (load 0 (Link 0) 0)
+
+abbrev pub read_head_again : Parts
+read_head_again = read_on (load 0 (Head 0) 1)

@@ -1,0 +1,24 @@
+-- What a mailbox is made of, and what was done to its words, as plain data.
+use Rattle.std.specs.Prelude.{ℕ, List}
+use Rattle.mb_world.specs.Below.{ClaimAccess, Claims, History, PoolSize, pool_size}
+
+-- the claims on its cells, whose quorum table has the consumers as its values, and how many lanes it has
+pub record Plan : Type 0 where
+  pub claims : Claims
+  pub lanes : ℕ
+
+-- how many consumers it has
+abbrev pub consumers_of : Plan → ℕ
+consumers_of plan = plan.claims.table.values
+
+-- how many lanes and cells it has
+abbrev pub size_of : Plan → PoolSize
+size_of plan = pool_size plan.lanes plan.claims.cells
+
+-- What was done to the words of the claims, and what to the words of the cells, each the newest first. No order between
+-- the two is known. Consumer c stands among the readers of the cells under the number `reader_of c`; these
+-- numbers need not differ.
+pub record Histories : Type 0 where
+  pub claims : List ClaimAccess
+  pub pool : History
+  pub reader_of : ℕ → ℕ

@@ -1,0 +1,43 @@
+-- Setups: what they are made of, and when they are refused.
+use Rattle.std.specs.Prelude.{ℕ, ◌||◌, if◌then◌else◌, nat_lt, Option, Some, None}
+use Rattle.mb_quorum.specs.declared.table.TableName.{TableName}
+use Rattle.mb_quorum.specs.declared.values.TheConstants.{MAX_VALUES}
+use Rattle.mb_quorum.specs.Tables.{table_of}
+use Rattle.mb_deciding.specs.Spread.{spread}
+use Rattle.mb_claim.specs.declared.layout.Layout.{Layout}
+use Rattle.mb_claim.specs.declared.layout.TheConstants.{MAX_CELLS, MAX_PAIRS}
+use Rattle.mb_claim.specs.AllClaims.{claims_of}
+use Rattle.mb_claim.specs.Layouts.{claims_in, pair_count, pairs_of}
+use Rattle.mb_world.specs.declared.setup.Setup.{Setup}
+use Rattle.mb_world.specs.declared.setup.SetupFault.{SetupFault}
+use Rattle.mb_world.specs.declared.setup.SetupFault.TheVariants.{BadCells, BadConsumers, BadProducers, BadRounds}
+use Rattle.mb_world.specs.declared.setup.TheConstants.{MAX_PRODUCERS}
+use Rattle.mb_world.specs.Plan.{Plan}
+
+-- what so many producers, consumers, cells and pairs over the quorum table of this name make
+abbrev pub plan_of : ℕ → ℕ → ℕ → ℕ → TableName → Plan
+plan_of producers consumers cells pairs name = record {
+  claims = claims_of (table_of name consumers) (pairs_of (spread consumers) pairs) cells;
+  lanes = producers;
+}
+
+-- the layout of a setup
+abbrev pub layout_of : Setup → Layout
+layout_of setup = setup.layout
+
+-- what a setup is made of
+abbrev pub plan_in : Setup → Plan
+plan_in setup = record { claims = claims_in setup.layout setup.cells; lanes = setup.producers }
+
+-- how many pairs of deciding objects each cell has
+abbrev pub pairs_in : Setup → ℕ
+pairs_in setup = pair_count setup.layout
+
+-- the first reason to refuse a setup, if there is one
+abbrev pub setup_refusal : ℕ → ℕ → ℕ → ℕ → Option SetupFault
+setup_refusal producers consumers cells pairs =
+    if nat_lt producers 1 || nat_lt MAX_PRODUCERS producers then Some BadProducers
+    else if nat_lt consumers 1 || nat_lt MAX_VALUES consumers then Some BadConsumers
+    else if nat_lt MAX_CELLS cells then Some BadCells
+    else if nat_lt pairs 1 || nat_lt MAX_PAIRS pairs then Some BadRounds
+    else None

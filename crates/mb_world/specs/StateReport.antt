@@ -1,0 +1,76 @@
+-- What the state of a world tells of its report: read off its words, its seats and its notes.
+use Rattle.std.specs.Prelude.{ℕ, ◌≡◌, ◌+◌, ◌*◌, ◌<◌, Bool, false, not, Option, Some, None, List, length, map, filter, slice_get}
+use Rattle.std.specs.Option.{option_map_or}
+use Rattle.std.specs.List.{filter_map}
+use Rattle.mb_claim.specs.OneClaim.{is_begun}
+use Rattle.mb_cells.specs.State.{IsAfter, PoolState, item_in}
+use Rattle.mb_world.specs.declared.report.Note.{Note}
+use Rattle.mb_world.specs.declared.seat.Seat.{Seat}
+use Rattle.mb_world.specs.declared.seat.Seat.TheVariants as seat
+use Rattle.mb_world.specs.Below.{Entry, History, has_ended, put_list}
+use Rattle.mb_world.specs.Plan.{consumers_of}
+use Rattle.mb_world.specs.Report.{DiaryView, LaneView}
+use Rattle.mb_world.specs.Reporting.{any_below, is_took, values_put}
+use Rattle.mb_world.specs.Setups.{plan_in}
+use Rattle.mb_world.specs.WorldState.{WorldState}
+
+-- the cells of lane p, the first linked first, with their items, and whether the end mark stands behind them
+pub record IsWalk (s : PoolState) (p : ℕ) (ks : List ℕ) (over : Bool) (pool : History) : Type 0 where
+  pub cells : map (λ (e : Entry). e.cell) (put_list p pool) ≡ ks
+  pub values : values_put p pool ≡ map (λ k. item_in k s) ks
+  pub ended : has_ended p pool ≡ over
+
+-- so they are by each history that leaves the pool
+abbrev pub IsWalked : PoolState → ℕ → List ℕ → Bool → Type 0
+IsWalked s p ks ended = (pool : History) → IsAfter pool s → IsWalk s p ks ended pool
+
+-- the note that stands there, if one does
+abbrev pub note_there : Option (Option Note) → Option Note
+note_there None = None
+note_there (Some o) = o
+
+-- the note of consumer c on cell k
+abbrev pub note_on : WorldState → ℕ → ℕ → Option Note
+note_on s c k = note_there (slice_get s.notes (c * (plan_in s.setup).claims.cells + k))
+
+-- whether a consumer has a note that it took the item of cell k
+abbrev pub is_taken_on : WorldState → ℕ → Bool
+is_taken_on s k = any_below (consumers_of (plan_in s.setup)) (λ c. is_took (note_on s c k))
+
+-- whether the consumer on this seat holds a claim that has an access
+abbrev pub has_begun_on : Seat → Bool
+has_begun_on seat.AtHead = false
+has_begun_on (seat.PastCell k) = false
+has_begun_on (seat.AtCell k claim) = is_begun claim
+
+-- so it is for consumer c on lane p
+abbrev pub begun_on : WorldState → ℕ → ℕ → Bool
+begun_on s c p = option_map_or has_begun_on (slice_get s.seats (c * (plan_in s.setup).lanes + p)) false
+
+-- the state tells this of lane p
+pub record IsLaneTold (s : WorldState) (p : ℕ) (l : LaneView) : Type 0 where
+  pub cells : List ℕ
+  pub walked : IsWalked s.pool p cells l.ended
+  pub put : l.put ≡ map (λ k. item_in k s.pool) cells
+  pub left : l.left ≡ map (λ k. item_in k s.pool) (filter (λ k. not (is_taken_on s k)) cells)
+
+-- and this of consumer c there
+pub record IsDiaryTold (s : WorldState) (c p : ℕ) (d : DiaryView) : Type 0 where
+  pub consumer : d.consumer ≡ c
+  pub lane : d.lane ≡ p
+  pub cells : List ℕ
+  pub ended : Bool
+  pub walked : IsWalked s.pool p cells ended
+  pub notes : d.notes ≡ filter_map (note_on s c) cells
+  pub begun : d.begun ≡ begun_on s c p
+
+-- so it is for the first n pairs of consumers and lanes, in the order of their diaries
+pub record AreDiariesTold (s : WorldState) (n : ℕ) (ds : List DiaryView) : Type 0 where
+  pub count : length ds ≡ n
+  pub each : (c p : ℕ) → p < (plan_in s.setup).lanes → c * (plan_in s.setup).lanes + p < n →
+      (d : DiaryView) × (slice_get ds (c * (plan_in s.setup).lanes + p) ≡ Some d) × IsDiaryTold s c p d
+
+-- and for the first n lanes
+pub record AreLanesTold (s : WorldState) (n : ℕ) (ls : List LaneView) : Type 0 where
+  pub count : length ls ≡ n
+  pub each : (p : ℕ) → p < n → (l : LaneView) × (slice_get ls p ≡ Some l) × IsLaneTold s p l

@@ -1,0 +1,68 @@
+-- Lawful histories of a world, and what one more access adds to them.
+use Rattle.std.specs.Prelude.{ℕ, ◌≡◌, ◌<◌, true, Option, List, ◌∷◌}
+use Rattle.mb_claim.specs.History as claim
+use Rattle.mb_cells.specs.Memory as cell
+use Rattle.mb_deciding.specs.History as object
+use Rattle.mb_world.specs.declared.report.Note.{Note}
+use Rattle.mb_world.specs.Below.{ActFits, AllFit, END, Has, IsLanePrefix, ObjectTurn, PoolAccess, Producer, linked_cells, part}
+use Rattle.mb_world.specs.Plan.{Plan, consumers_of}
+use Rattle.mb_world.specs.World.{IsBy, ToCells, ToClaims, WorldAccess, WorldHistory, claim_accesses, is_on, lane_part, pool_accesses}
+use Rattle.mb_world.specs.ConsumerPath.{ConsumerPath}
+
+-- what consumer c did on lane p is a prefix of a path there, which leads to one place
+pub record IsOnPath (plan : Plan) (c p : ℕ) (h : WorldHistory) : Type 0 where
+  pub cells : List ℕ
+  pub notes : List Note
+  pub held : Option (List ObjectTurn)
+  pub path : ConsumerPath plan.claims c p (lane_part c p h) cells notes held
+
+-- an access of consumer c is in its part on one of the lanes
+pub record IsOnLane (plan : Plan) (c : ℕ) (a : WorldAccess) (h : WorldHistory) : Type 0 where
+  pub known : c < consumers_of plan
+  pub lane : ℕ
+  pub below : lane < plan.lanes
+  pub on : is_on c lane (linked_cells lane (pool_accesses h)) a ≡ true
+
+-- a lawful history of a world
+pub record IsWorldLawful (plan : Plan) (h : WorldHistory) : Type 0 where
+  -- the end mark is the link of no cell
+  pub sized : plan.claims.cells < END
+  -- values and random words are words of 64 bits, and each producer has a lane
+  pub cells_fit : AllFit plan.lanes (pool_accesses h)
+  pub claims_fit : claim.AreInWords (claim_accesses h)
+  -- each access reads what was stored last in its word; no word is both of the cells and of the claims
+  pub cells_memory : cell.IsMemoryTrue (pool_accesses h)
+  pub claims_memory : claim.IsMemoryTrue (claim_accesses h)
+  -- each producer's part is a prefix of a lane path
+  pub producers : (p : ℕ) → IsLanePrefix plan.claims.cells p (part (Producer p) (pool_accesses h))
+  -- each consumer's part on each lane is a prefix of a consumer path
+  pub consumers : (c p : ℕ) → c < consumers_of plan → p < plan.lanes → IsOnPath plan c p h
+  -- and no access of a consumer is outside these
+  pub no_others : (c : ℕ) (a : WorldAccess) → Has h a → IsBy c a → IsOnLane plan c a h
+
+-- ---- one more access
+-- its values are words of 64 bits, and it reads what was stored last in its word
+abbrev pub IsTrueTo : WorldAccess → WorldHistory → Type 0
+IsTrueTo (ToCells a) h = ActFits a.act × cell.ReadsLast a.word a.act (pool_accesses h)
+IsTrueTo (ToClaims a) h =
+    object.IsInWords a.step.turn
+    × object.ReadsLast a.step.turn.act (claim.object_history a.cell a.step.object (claim_accesses h))
+
+-- what an access of consumer c on lane p adds
+pub record ConsumerAdds (plan : Plan) (c p : ℕ) (a : WorldAccess) (h : WorldHistory) : Type 0 where
+  -- it is the consumer's, on that lane
+  pub maker : IsBy c a
+  pub on : is_on c p (linked_cells p (pool_accesses h)) a ≡ true
+  -- the longer history is lawful
+  pub lawful : IsWorldLawful plan (a ∷ h)
+  -- the part of its consumer on its lane has one access more
+  pub own : lane_part c p (a ∷ h) ≡ a ∷ lane_part c p h
+  -- all other parts of consumers stay
+  pub others : (d q : ℕ) → (d ≡ c → q ≡ p → ⊥) → lane_part d q (a ∷ h) ≡ lane_part d q h
+
+-- what an access of a producer adds
+pub record ProducerAdds (plan : Plan) (a : PoolAccess) (h : WorldHistory) : Type 0 where
+  -- the longer history is lawful
+  pub lawful : IsWorldLawful plan (ToCells a ∷ h)
+  -- the parts of all consumers stay
+  pub others : (d q : ℕ) → lane_part d q (ToCells a ∷ h) ≡ lane_part d q h

@@ -1,0 +1,46 @@
+//! What may happen in a world, and what it answers.
+use mb_cells::{Finish, Look, Offer, Push};
+use mb_claim::Stage;
+use mb_deciding::Act;
+
+/// What may happen: one step of a producer on its lane, or of a consumer on a lane.
+#[derive(Clone, Copy, PartialEq, Eq, Debug)]
+pub enum Event {
+    /// The producer of this lane takes a cell for this item.
+    Offer { lane: u64, item: u64 },
+    /// It stores the item that was offered, or links its cell.
+    Push { lane: u64 },
+    /// It stores the end mark.
+    Finish { lane: u64 },
+    /// This consumer makes its next access on this lane, with this random word.
+    Step { consumer: u64, lane: u64, word: u64 },
+}
+
+/// What an event answers. It names the access that was made, or tells why none was.
+#[derive(Clone, Copy, PartialEq, Eq, Debug)]
+pub enum Answer {
+    /// There is no such lane. No access was made.
+    NoLane,
+    /// There is no such consumer. No access was made.
+    NoConsumer,
+    /// An offer: the cell that the counter gave, or `Full` where it gave none; or a refusal.
+    Offered(Offer),
+    /// A push: the item or the link that was stored; or `Idle`.
+    Pushed(Push),
+    /// A finish: `Ended`, the end mark was stored; or a refusal.
+    Finished(Finish),
+    /// A step of a consumer that holds no claim: what the link at its place says.
+    Looked(Look),
+    /// A step of a claim on this cell: what it did to a word of this object, and how far the claim has come then.
+    Claimed {
+        cell: u32,
+        object: u32,
+        act: Act,
+        stage: Stage,
+    },
+    /// A step of a consumer whose claim on this cell is won: the item that it loaded.
+    Took {
+        cell: u32,
+        item: u64,
+    },
+}

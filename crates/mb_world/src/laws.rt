@@ -1,0 +1,161 @@
+//! Laws of mailboxes and their reports. The functions compute nothing: their contracts are the laws, and their bodies
+//! name the laws of claims and of cells on which they stand. Their proofs stand in `proofs/laws/`, one folder for each,
+//! over the lemmas of `proofs/`.
+ghost use Rattle.std.specs.Prelude.{ℕ, ◌≡◌, ◌≢◌, ◌↔◌, ◌<◌, List, [], ◌∷◌, ◌++◌, Option, Some, reverse, slice_get};
+ghost use Rattle.mb_world.specs.Report.{ReportView};
+ghost use Rattle.mb_world.specs.Assignment.{Assignment};
+ghost use Rattle.mb_world.specs.Agreement.{AgreesWith, HasCompeted, IsSettled};
+ghost use Rattle.mb_world.specs.Plan.{Histories, Plan, consumers_of};
+ghost use Rattle.mb_world.specs.Fitting.{cells_met, parts_of};
+ghost use Rattle.mb_world.specs.Sound.{AreSound};
+ghost use Rattle.mb_world.specs.Reporting.{HasMetAll, IsDiaryOf, IsReportOf};
+ghost use Rattle.mb_world.specs.Headline.{IsHonest};
+ghost use Rattle.mb_world.specs.Below.{Claims, IsQuorumTable, ObjectTurn, claim_part, linked_cells};
+ghost use Rattle.mb_world.specs.declared.report.Note.{Note};
+ghost use Rattle.mb_world.specs.ConsumerPath.{ConsumerPath, diary_at};
+ghost use Rattle.mb_world.specs.declared.event.Answer.{Answer};
+ghost use Rattle.mb_world.specs.declared.event.Event.{Event};
+ghost use Rattle.mb_world.specs.Replay.{IsAccessOf, IsEntry, IsRefused, IsReplay};
+ghost use Rattle.mb_world.specs.World.{WorldAccess, WorldHistory, claim_accesses, histories_of, lane_part};
+ghost use Rattle.mb_world.specs.Worlds.{IsWorldLawful};
+
+use mb_cells::laws::{
+    cells_stand_once, end_marks_are_last, loads_tell_what_stays, readers_follow_lanes,
+    readers_keep_to_lanes,
+};
+use mb_cells::steps::lanes_lead_on;
+use mb_claim::laws::{claims_have_one_winner, prefixes_have_one_stage};
+use mb_claim::steps::claims_have_one_next_op;
+use mb_deciding::laws::objects_keep_their_promises;
+
+/// Whatever the order of the accesses to the claims, whatever that of the accesses to the cells, and whatever the
+/// random words: one assignment of items to competitors stands behind the whole report, and nothing follows an end
+/// mark.
+pub fn reports_have_one_assignment()
+    ensures { (plan : Plan) (hs : Histories) (r : ReportView) → AreSound plan hs
+        → IsReportOf plan hs r → IsHonest plan hs r }
+{
+    prefixes_have_one_stage();
+    claims_have_one_winner();
+    readers_follow_lanes();
+    loads_tell_what_stays();
+    end_marks_are_last();
+    cells_stand_once();
+}
+
+/// A report that agrees with an assignment is settled: what was competed for is left only beside an unfinished claim.
+pub fn agreeing_reports_are_settled()
+    ensures { (t : Assignment) (r : ReportView) → AgreesWith t r → IsSettled r }
+{}
+
+/// A report agrees with one assignment at most, point by point.
+pub fn reports_agree_with_one_assignment()
+    ensures { (t u : Assignment) (r : ReportView) → AgreesWith t r → AgreesWith u r
+        → (p j : ℕ) → t p j ≡ u p j }
+{}
+
+/// Who competed for an item, by the report, is who made an access to the claim there. A claim on no objects would end
+/// without one.
+pub fn competitors_have_accesses()
+    ensures { (plan : Plan) (hs : Histories) (r : ReportView) (c p j k : ℕ) → AreSound plan hs
+        → IsReportOf plan hs r → plan.claims.kinds ≢ [] → c < consumers_of plan → p < plan.lanes
+        → slice_get (reverse (linked_cells p hs.pool)) j ≡ Some k
+        → HasCompeted c p j r ↔ (claim_part c k hs.claims ≢ []) }
+{
+    objects_keep_their_promises();
+    prefixes_have_one_stage();
+    claims_have_one_winner();
+    readers_follow_lanes();
+    loads_tell_what_stays();
+    end_marks_are_last();
+    cells_stand_once();
+}
+
+/// The cells that a consumer's own loads met on a lane are all that it met there.
+pub fn parts_tell_cells_met()
+    ensures { (plan : Plan) (hs : Histories) (c p : ℕ) → AreSound plan hs → c < consumers_of plan
+        → HasMetAll (hs.reader_of c) p (cells_met p (parts_of c hs).reads) hs.pool }
+{
+    prefixes_have_one_stage();
+    claims_have_one_winner();
+    readers_follow_lanes();
+    loads_tell_what_stays();
+    end_marks_are_last();
+    cells_stand_once();
+}
+
+/// A lawful history of a world, cut into that of its claims and that of its cells, is sound. So one assignment stands
+/// behind its report.
+pub fn worlds_are_sound()
+    ensures sound { (plan : Plan) (h : WorldHistory) → IsQuorumTable plan.claims.table
+        → IsWorldLawful plan h → AreSound plan (histories_of h) }
+    ensures honest { (plan : Plan) (h : WorldHistory) (r : ReportView)
+        → IsQuorumTable plan.claims.table → IsWorldLawful plan h
+        → IsReportOf plan (histories_of h) r → IsHonest plan (histories_of h) r }
+{
+    prefixes_have_one_stage();
+    cells_stand_once();
+    readers_follow_lanes();
+    readers_keep_to_lanes();
+    reports_have_one_assignment();
+}
+
+/// What a consumer has done on a lane leads to one place, and what came before led to one, too.
+pub fn paths_lead_to_one_place()
+    ensures one { (cs : Claims) (c p : ℕ) (done : WorldHistory) (ks js : List ℕ) (ns ms : List Note)
+        (held other : Option (List ObjectTurn)) → IsQuorumTable cs.table
+        → ConsumerPath cs c p done ks ns held → ConsumerPath cs c p done js ms other
+        → (ks ≡ js) × (ns ≡ ms) × (held ≡ other) }
+    ensures older { (cs : Claims) (c p : ℕ) (later older : WorldHistory) (ks : List ℕ)
+        (ns : List Note) (held : Option (List ObjectTurn))
+        → ConsumerPath cs c p (later ++ older) ks ns held
+        → (js : List ℕ) × (ms : List Note) × (was : Option (List ObjectTurn))
+        × ConsumerPath cs c p older js ms was }
+{
+    prefixes_have_one_stage();
+    claims_have_one_next_op();
+}
+
+/// The place of a consumer on a lane, where its path there has led, tells its diary.
+pub fn places_tell_diaries()
+    ensures diary { (plan : Plan) (h : WorldHistory) (c p : ℕ) (ks : List ℕ) (ns : List Note)
+        (held : Option (List ObjectTurn)) → IsQuorumTable plan.claims.table → IsWorldLawful plan h
+        → ConsumerPath plan.claims c p (lane_part c p h) ks ns held
+        → IsDiaryOf plan c p (histories_of h) (diary_at c p ns held) }
+
+    // The steps of the claim that it holds are all that the consumer has made on that cell.
+    ensures held { (plan : Plan) (h : WorldHistory) (c p k : ℕ) (ks : List ℕ) (ns : List Note)
+        (xs : List ObjectTurn) → IsQuorumTable plan.claims.table → IsWorldLawful plan h
+        → ConsumerPath plan.claims c p (lane_part c p h) (k ∷ ks) ns (Some xs)
+        → (claim_part c k (claim_accesses h) ≡ xs) × (k < plan.claims.cells) }
+{
+    prefixes_have_one_stage();
+    worlds_are_sound();
+    cells_stand_once();
+    readers_follow_lanes();
+}
+
+/// Events have at most one replay after a lawful history: each has one answer at most, with one access or with none,
+/// and never both a refusal and an access that keeps the history lawful.
+pub fn replays_do_not_differ()
+    ensures never_both { (plan : Plan) (e : Event) (r : Answer) (a : WorldAccess) (h : WorldHistory)
+        → IsQuorumTable plan.claims.table → IsWorldLawful plan h → IsRefused plan e r h
+        → IsAccessOf e a h → IsWorldLawful plan (a ∷ h) → ⊥ }
+    ensures entry { (plan : Plan) (e : Event) (r s : Answer) (a b : Option WorldAccess)
+        (h : WorldHistory) → IsQuorumTable plan.claims.table → IsWorldLawful plan h
+        → IsEntry plan e r a h → IsEntry plan e s b h → (r ≡ s) × (a ≡ b) }
+    ensures replay { (plan : Plan) (es : List Event) (rs ss : List Answer)
+        (was now then : WorldHistory) → IsQuorumTable plan.claims.table → IsWorldLawful plan was
+        → IsReplay plan es rs was now → IsReplay plan es ss was then → (rs ≡ ss) × (now ≡ then) }
+
+    // It leads to a lawful history.
+    ensures lawful { (plan : Plan) (es : List Event) (rs : List Answer) (was now : WorldHistory)
+        → IsQuorumTable plan.claims.table → IsWorldLawful plan was → IsReplay plan es rs was now
+        → IsWorldLawful plan now }
+{
+    prefixes_have_one_stage();
+    claims_have_one_next_op();
+    cells_stand_once();
+    lanes_lead_on();
+    worlds_are_sound();
+}

@@ -1,0 +1,76 @@
+//! What is reported of the lanes and the consumers.
+use std::alloc::Allocator;
+use std::marker::Model;
+
+/// The end of a consumer's claim on an item.
+#[derive(Clone, Copy, PartialEq, Eq, Debug)]
+pub enum Note {
+    /// The consumer has won the item, and has loaded this value.
+    Took(u64),
+    /// This other consumer is the winner.
+    Lost(u32),
+    /// The claim ended with no winner.
+    Undecided,
+}
+
+/// What is reported of one lane.
+#[derive(Drop)]
+pub struct LaneReport<A: Allocator + Drop> {
+    /// The items put, in the order of linking.
+    pub put: Vec<u64, A>,
+    /// Whether the end mark was stored.
+    pub ended: bool,
+    /// The items of `put` that nobody took, in the same order.
+    pub left: Vec<u64, A>,
+}
+
+/// What is reported of one consumer on one lane.
+#[derive(Drop)]
+pub struct Diary<A: Allocator + Drop> {
+    /// The consumer, from 0 on.
+    pub consumer: u32,
+    /// The lane, from 0 on.
+    pub lane: u32,
+    /// Its notes on the items of the lane, from the first item on.
+    pub notes: Vec<Note, A>,
+    /// Whether its claim on the next item, which has no note, has an access.
+    pub begun: bool,
+}
+
+/// The whole report.
+#[derive(Drop)]
+pub struct Report<A: Allocator + Drop> {
+    /// One for each lane, in their order.
+    pub lanes: Vec<LaneReport<A>, A>,
+    /// One for each consumer and lane: that of consumer `c` and lane `p` stands at `c * lanes.len() + p`.
+    pub diaries: Vec<Diary<A>, A>,
+}
+
+impl<A: Allocator + Drop> Model for LaneReport<A> {
+    ghost use Rattle.mb_world.specs.Report.{LaneView};
+
+    ghost Value = { LaneView };
+
+    ghost view = { λ l. record { put = l.put.items; ended = l.ended; left = l.left.items } };
+}
+
+impl<A: Allocator + Drop> Model for Diary<A> {
+    ghost use Rattle.mb_world.specs.Report.{DiaryView};
+
+    ghost Value = { DiaryView };
+
+    ghost view = { λ d. record {
+      consumer = d.consumer;
+      lane = d.lane;
+      notes = d.notes.items;
+      begun = d.begun;
+    } };
+}
+
+impl<A: Allocator + Drop> Model for Report<A> {
+    ghost use Rattle.mb_world.specs.Report.{ReportView};
+
+    ghost Value = { ReportView };
+
+    ghost view = { λ r. record { lanes = r.lanes.items; diaries = r.diaries.items } };
+}

@@ -1,0 +1,117 @@
+//! How large a world is.
+ghost use Rattle.std.specs.Prelude.{◌≤◌};
+
+use mb_claim::{BadLayout, Layout, MAX_CELLS};
+use mb_quorum::TableName;
+use std::error::Error;
+use std::fmt;
+
+/// The most producers that a setup can have. The least is 1.
+pub const MAX_PRODUCERS: u64 = 16;
+
+/// How many producers, consumers and cells there are, and the deciding objects of each cell.
+#[derive(Clone, Copy, PartialEq, Eq, Debug)]
+pub struct Setup {
+    producers: u32,
+    cells: u32,
+    layout: Layout,
+    pub ghost some: { 1 ≤ producers },
+    pub ghost few: { producers ≤ 16 },
+    pub ghost small: { cells ≤ 256 },
+}
+
+/// Why there is no setup.
+#[derive(Clone, Copy, PartialEq, Eq, Debug)]
+pub enum SetupFault {
+    /// The number of producers is not in `1..=MAX_PRODUCERS`.
+    BadProducers,
+    /// The number of consumers is out of the layout's range.
+    BadConsumers,
+    /// There are more cells than `MAX_CELLS`.
+    BadCells,
+    /// The number of pairs of deciding objects is out of the layout's range.
+    BadRounds,
+}
+
+impl fmt::Display for SetupFault {
+    fn fmt<W: fmt::Write>(&self, f: &mut fmt::Formatter<W>) -> fmt::Result {
+        f.write_str(match self {
+            SetupFault::BadProducers => "the number of producers is out of range",
+            SetupFault::BadConsumers => "the number of consumers is out of range",
+            SetupFault::BadCells => "the number of cells is out of range",
+            SetupFault::BadRounds => "the number of pairs is out of range",
+        })
+    }
+}
+
+impl Error for SetupFault {}
+
+impl Setup {
+    ghost use Rattle.std.specs.Prelude.{◌≡◌, IsOk, IfOk, Err, MatchOption};
+    ghost use Rattle.mb_world.specs.Plan.{consumers_of};
+    ghost use Rattle.mb_world.specs.Setups.{layout_of, pairs_in, plan_in, plan_of, setup_refusal};
+
+    /// The setup of so many producers, consumers and cells, with so many pairs of deciding objects for each cell over
+    /// the quorum table of this name. Where several numbers are out of range, the first of them is told, in the order
+    /// of [`SetupFault`].
+    pub fn new(
+        producers: u64,
+        consumers: u64,
+        cells: u64,
+        pairs: u64,
+        name: TableName,
+    ) -> Result<Setup, SetupFault>
+        ensures refused { MatchOption (setup_refusal producers consumers cells pairs) (IsOk result)
+            (λ fault. result ≡ Err fault) }
+        ensures made { IfOk result
+            (λ setup. plan_in setup ≡ plan_of producers consumers cells pairs name) }
+        ensures pairs { IfOk result (λ setup. pairs_in setup ≡ pairs) }
+    {
+        if !(1..=MAX_PRODUCERS).contains(&producers) {
+            return Err(SetupFault::BadProducers);
+        }
+        let layout = Layout::new(consumers, pairs, name);
+        if let Err(BadLayout::BadConsumers) = layout {
+            return Err(SetupFault::BadConsumers);
+        }
+        if cells > u64::from(MAX_CELLS) {
+            return Err(SetupFault::BadCells);
+        }
+        match layout {
+            Ok(layout) => Ok(Setup {
+                producers: producers as u32,
+                cells: cells as u32,
+                layout,
+            }),
+            Err(_) => Err(SetupFault::BadRounds),
+        }
+    }
+
+    /// How many producers there are. Each has a lane of its own.
+    pub fn producers(&self) -> u64
+        ensures { result ≡ (plan_in self.now).lanes }
+    {
+        u64::from(self.producers)
+    }
+
+    /// How many consumers there are.
+    pub fn consumers(&self) -> u64
+        ensures { result ≡ consumers_of (plan_in self.now) }
+    {
+        u64::from(self.layout.consumers())
+    }
+
+    /// How many cells there are.
+    pub fn cells(&self) -> u64
+        ensures { result ≡ (plan_in self.now).claims.cells }
+    {
+        u64::from(self.cells)
+    }
+
+    /// The deciding objects of each cell, and where their words lie.
+    pub fn layout(&self) -> Layout
+        ensures { result ≡ layout_of self.now }
+    {
+        self.layout
+    }
+}

@@ -1,0 +1,67 @@
+//! What builders need: one more access. A world keeps one history ([`one_step`]); a consumer among threads keeps its
+//! own two parts, and that they fit ([`parts_fit_on`]). The functions compute nothing: their contracts are the laws.
+//! Their proofs stand in `proofs/steps/`, one folder for each, over the lemmas of `proofs/`.
+ghost use Rattle.std.specs.Prelude.{ℕ, ◌≡◌, ◌<◌, List, [], ◌∷◌, Option};
+ghost use Rattle.mb_claim.specs.declared.access.Stage.TheVariants as stage;
+ghost use Rattle.mb_world.specs.Fitting.{Fits, HasStageIn, Parts, cells_met};
+ghost use Rattle.mb_world.specs.PartSteps.{HasNotLeft, MayLookPast, no_parts, with_load, with_step};
+ghost use Rattle.mb_world.specs.Below.{Claims, Gave, Item, load, place_past};
+ghost use Rattle.mb_world.specs.Below.{END, IsPoolLawful, IsQuorumTable, ObjectTurn, PoolAccess, Producer};
+ghost use Rattle.mb_world.specs.declared.report.Note.{Note};
+ghost use Rattle.mb_world.specs.Plan.{Plan, consumers_of, size_of};
+ghost use Rattle.mb_world.specs.World.{WorldAccess, WorldHistory, lane_part, pool_accesses};
+ghost use Rattle.mb_world.specs.ConsumerPath.{ConsumerPath};
+ghost use Rattle.mb_world.specs.Worlds.{ConsumerAdds, IsTrueTo, IsWorldLawful, ProducerAdds};
+
+use crate::laws::worlds_are_sound;
+use mb_cells::laws::{cells_stand_once, readers_follow_lanes};
+use mb_cells::steps::one_step as one_pool_step;
+use mb_claim::laws::prefixes_have_one_stage;
+
+/// Lawful histories of a world grow by one access after another.
+pub fn one_step()
+    ensures empty { (plan : Plan) → plan.claims.cells < END → IsWorldLawful plan [] }
+
+    // One more access of a consumer, with which its path on a lane goes on.
+    ensures consumer { (plan : Plan) (h : WorldHistory) (c p : ℕ) (a : WorldAccess) (ks : List ℕ)
+        (ns : List Note) (held : Option (List ObjectTurn)) → IsQuorumTable plan.claims.table
+        → IsWorldLawful plan h → c < consumers_of plan → p < plan.lanes → IsTrueTo a h
+        → ConsumerPath plan.claims c p (a ∷ lane_part c p h) ks ns held
+        → ConsumerAdds plan c p a h }
+
+    // One more access of a producer, with which the history of the cells goes on.
+    ensures producer { (plan : Plan) (h : WorldHistory) (p : ℕ) (a : PoolAccess)
+        → IsWorldLawful plan h → a.process ≡ Producer p
+        → IsPoolLawful (size_of plan) (a ∷ pool_accesses h)
+        → ProducerAdds plan a h }
+{
+    prefixes_have_one_stage();
+    worlds_are_sound();
+    cells_stand_once();
+    readers_follow_lanes();
+    one_pool_step();
+}
+
+/// The two parts of a consumer fit on with each access that it may make, whatever it finds.
+pub fn parts_fit_on()
+    ensures empty { (cs : Claims) (c : ℕ) → Fits cs c no_parts }
+
+    // It looks for the next cell of a lane where it is done with the last one that it met.
+    ensures looks { (cs : Claims) (c q p v : ℕ) (x : Parts) → Fits cs c x
+        → MayLookPast cs c (cells_met p x.reads) x
+        → Fits cs c (with_load (load q (place_past p (cells_met p x.reads)) v) x) }
+
+    // It makes a step of its claim on a cell that it met and has not left.
+    ensures claims { (cs : Claims) (c k : ℕ) (t : ObjectTurn) (x : Parts) → Fits cs c x
+        → Gave k x.reads → HasNotLeft k x → Fits cs c (with_step k t x) }
+
+    // It loads the item where its claim is won.
+    ensures takes { (cs : Claims) (c q k v : ℕ) (x : Parts) → Fits cs c x
+        → HasStageIn cs c k stage.Won x → Fits cs c (with_load (load q (Item k) v) x) }
+
+    // It has not left a cell on which its claim goes on.
+    ensures going { (cs : Claims) (c k : ℕ) (x : Parts) → IsQuorumTable cs.table → Fits cs c x
+        → HasStageIn cs c k stage.Going x → HasNotLeft k x }
+{
+    prefixes_have_one_stage();
+}
