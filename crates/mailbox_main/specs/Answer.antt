@@ -4,8 +4,7 @@ use Rattle.mb_quorum.specs.Tables.{table_of}
 use Rattle.mb_deciding.specs.declared.object.Out.{Out}
 use Rattle.mb_deciding.specs.declared.object.Kind.TheVariants.{Ratifier}
 use Rattle.mb_deciding.specs.declared.trace.Entry.{Entry}
-use Rattle.mb_deciding.specs.Trace.{IsTrace, plain}
-use Rattle.mb_deciding.specs.Refusals.{refusal_of}
+use Rattle.mb_deciding.specs.Vocabulary.{setup_of, IsTrace, plain_schedule, refusal_of}
 use Rattle.mailbox_main.specs.declared.fault.RatifyFault.{RatifyFault}
 use Rattle.mailbox_main.specs.declared.fault.RatifyFault.TheVariants.{NoMemory, ReadFault, WriteFault}
 use Rattle.mailbox_main.specs.Refusal.{fault_from}
@@ -14,7 +13,8 @@ use Rattle.mailbox_main.specs.TraceText.{trace_text}
 
 -- these entries and outputs are the trace of one ratifier over the script's table, inputs and turns
 abbrev pub IsTraceOf : Script → List Entry → List (Option Out) → Type 0
-IsTraceOf s entries outputs = IsTrace (table_of s.table s.values) Ratifier s.inputs (plain s.turns) entries outputs
+IsTraceOf s entries outputs =
+    IsTrace (setup_of (table_of s.table s.values) Ratifier s.inputs) (plain_schedule s.turns) entries outputs
 
 -- why `ratify` refuses the script, if it does
 abbrev pub refused_as : Script → Option RatifyFault

@@ -1,9 +1,10 @@
 //! The definitions by example: what they let in, and what only looks so. The functions compute nothing: their contracts
-//! are the examples.
+//! are the examples. Those that are not proved by their contract alone have their proofs in `proofs/examples`.
 ghost use Rattle.std.specs.Prelude.{◌≡◌, ℕ, ◌-◌, ◌^◌, true, false, List, [], ◌∷◌, codes, Some, None, Err};
 ghost use Rattle.clap.specs.Words.{takes};
 ghost use Rattle.mb_quorum.specs.declared.table.TableName.TheVariants.{Unary};
-ghost use Rattle.mailbox_main.specs.declared.fault.RatifyFault.TheVariants.{TooLong, BadLine, NoMemory, ReadFault, WriteFault};
+ghost use Rattle.mailbox_main.specs.declared.fault.RatifyFault.TheVariants.{TooLong, BadLine, NoMemory, ReadFault};
+ghost use Rattle.mailbox_main.specs.declared.fault.RatifyFault.TheVariants.{WriteFault};
 ghost use Rattle.mailbox_main.specs.declared.transfer.TheConstants.{MAX_SCRIPT_LEN};
 ghost use Rattle.mailbox_main.specs.Answer.{IsAnswer, LiesInScript};
 ghost use Rattle.mailbox_main.specs.CommandLine.{program, command_in};

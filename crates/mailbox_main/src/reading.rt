@@ -5,7 +5,8 @@
 ghost use Rattle.std.specs.Prelude.{◌≡◌, ◌≤◌, map, length, Ok, IfOk};
 ghost use Rattle.mailbox_main.specs.Text.{lines_of};
 ghost use Rattle.mailbox_main.specs.Steps.{Gives};
-ghost use Rattle.mailbox_main.specs.RatifyScript.{Script, view, line_words, table_named, head_of, list_of, three_lines, script_of};
+ghost use Rattle.mailbox_main.specs.RatifyScript.{Script, view, line_words, table_named, head_of, list_of};
+ghost use Rattle.mailbox_main.specs.RatifyScript.{three_lines, script_of};
 ghost use Rattle.mailbox_main.specs.Spelling.{HasSpelling, script_lines};
 
 use crate::fault::RatifyFault;

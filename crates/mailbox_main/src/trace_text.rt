@@ -1,7 +1,8 @@
 //! The text of a ratifier's trace.
 ghost use Rattle.std.specs.Prelude.{◌≡◌, ◌++◌, IfOk, OnOk, string_bytes};
 ghost use Rattle.std.specs.List.{flat_map};
-ghost use Rattle.mailbox_main.specs.TraceText.{reg_text, act_text, out_text, entry_text, process_text, processes_text, trace_text};
+ghost use Rattle.mailbox_main.specs.TraceText.{reg_text, act_text, out_text, entry_text, process_text};
+ghost use Rattle.mailbox_main.specs.TraceText.{processes_text, trace_text};
 
 use mb_deciding::{Act, Entry, Out, Reg, Trace};
 use std::alloc::{AllocError, Allocator};

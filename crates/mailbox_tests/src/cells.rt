@@ -1,7 +1,7 @@
 //! A pool of linked cells.
 ghost use Rattle.std.specs.Prelude.{◌≡◌, ◌<◌, ℕ, List, ◌∷◌, OnOk};
-ghost use Rattle.mb_cells.specs.CallLists.{Call, Offered, Pushed, Finished, HasMade};
-ghost use Rattle.mb_cells.specs.State.{SameSize, lane_count, cell_count};
+ghost use Rattle.mb_cells.specs.Vocabulary.{Call, Finished, HasMade, Offered, PoolSize, Pushed, SameSize};
+ghost use Rattle.mb_cells.specs.Vocabulary.{cell_count, lane_count};
 
 use crate::heaps::refusals;
 use mb_cells::{Cursor, Finish, Look, Offer, Pool, Push};
@@ -64,8 +64,9 @@ fn put_and_end<A: Allocator + Drop>(
     x: u64,
 ) -> (Offer, Push, Push, Finish)
     requires { p < lane_count pool.old }
-    ensures { (lanes cells : ℕ) (older : List Call) → HasMade lanes cells older pool.old
-        → HasMade lanes cells (Finished p result.3 ∷ Pushed p result.2 ∷ Pushed p result.1 ∷ Offered p x result.0 ∷ older) pool.new }
+    ensures { (size : PoolSize) (older : List Call) → HasMade size older pool.old
+        → HasMade size (Finished p result.3 ∷ Pushed p result.2 ∷ Pushed p result.1
+        ∷ Offered p x result.0 ∷ older) pool.new }
 {
     let offered = pool.offer(p, x);
     let stored = pool.push(p);
@@ -153,6 +154,81 @@ fn sixteen_lanes_until_full(rt: HostRuntime) -> Result<(), Fail> {
         assert_eq!(rt; pool.look(Cursor::past(p)), Look::Cell(p + 16));
         assert_eq!(rt; pool.item(last), u64::from(last) + 100);
         assert_eq!(rt; pool.look(Cursor::past(last)), Look::Ended);
+    }
+    Ok(())
+}
+
+#[test]
+fn sixteen_lanes_share_256_cells(rt: HostRuntime) -> Result<(), Fail> {
+    let mut pool = Pool::new(rt.alloc(), 16, 256)?;
+    for cell in 0..256u32 {
+        put(&rt, &mut pool, cell % 16, u64::from(cell) + 1000, cell)?;
+    }
+    for p in 0..16u32 {
+        assert_eq!(rt; pool.offer(p, 7), Offer::Full);
+        assert_eq!(rt; pool.finish(p), Finish::Ended);
+        assert_eq!(rt; pool.look(Cursor::head(p)), Look::Cell(p));
+    }
+    for k in 0..256u32 {
+        let next = if k < 240 {
+            Look::Cell(k + 16)
+        } else {
+            Look::Ended
+        };
+        assert_eq!(rt; pool.item(k), u64::from(k) + 1000);
+        assert_eq!(rt; pool.look(Cursor::past(k)), next);
+    }
+    Ok(())
+}
+
+#[test]
+fn one_lane_takes_all_256_cells(rt: HostRuntime) -> Result<(), Fail> {
+    let mut pool = Pool::new(rt.alloc(), 16, 256)?;
+    for cell in 0..256u32 {
+        put(&rt, &mut pool, 5, u64::from(cell) + 1000, cell)?;
+        assert_eq!(rt; pool.look(Cursor::past(cell)), Look::Nothing);
+    }
+    assert_eq!(rt; pool.offer(5, 7), Offer::Full);
+    assert_eq!(rt; pool.finish(5), Finish::Ended);
+    assert_eq!(rt; pool.look(Cursor::head(5)), Look::Cell(0));
+    for k in 0..256u32 {
+        let next = if k < 255 {
+            Look::Cell(k + 1)
+        } else {
+            Look::Ended
+        };
+        assert_eq!(rt; pool.item(k), u64::from(k) + 1000);
+        assert_eq!(rt; pool.push(5), Push::Idle);
+        assert_eq!(rt; pool.look(Cursor::past(k)), next);
+    }
+    Ok(())
+}
+
+#[test]
+fn a_thousand_refusals_change_nothing(rt: HostRuntime) -> Result<(), Fail> {
+    let mut pool = Pool::new(rt.alloc(), 16, 256)?;
+    for p in 0..16u32 {
+        assert_eq!(rt; pool.offer(p, u64::from(p) + 1), Offer::Cell(p));
+    }
+    for turn in 0..1024u32 {
+        let p = turn % 16;
+        assert_eq!(rt; pool.offer(p, 9), Offer::Busy);
+        assert_eq!(rt; pool.finish(p), Finish::Busy);
+        assert_eq!(rt; pool.look(Cursor::head(p)), Look::Nothing);
+    }
+    for q in 0..16u32 {
+        assert_eq!(rt; pool.push(q), Push::Item(q));
+        assert_eq!(rt; pool.push(q), Push::Link(q));
+        assert_eq!(rt; pool.finish(q), Finish::Ended);
+    }
+    for after in 0..1024u32 {
+        let p = after % 16;
+        assert_eq!(rt; pool.offer(p, 9), Offer::Closed);
+        assert_eq!(rt; pool.push(p), Push::Idle);
+        assert_eq!(rt; pool.finish(p), Finish::Closed);
+        assert_eq!(rt; pool.look(Cursor::head(p)), Look::Cell(p));
+        assert_eq!(rt; pool.item(p), u64::from(p) + 1);
+        assert_eq!(rt; pool.look(Cursor::past(p)), Look::Ended);
     }
     Ok(())
 }

@@ -155,3 +155,30 @@ fn a_step_of_no_consumer(rt: HostRuntime) -> Result<(), Fail> {
         }
     }
 }
+
+/// So many steps: more than a run of all claims takes, so that most of them are `Done`.
+const STEPS: usize = 2048;
+
+#[test]
+fn two_thousand_steps_of_sixteen_consumers(rt: HostRuntime) -> Result<(), Fail> {
+    let layout = Layout::new(16, 8, TableName::Bits)?;
+    let mut steps = [(0, 0); STEPS];
+    for place in 0..STEPS {
+        steps[place] = (place as u64 % 16, 0);
+    }
+    let run = play(rt.alloc(), &layout, &steps)?;
+    assert_eq!(rt; run.entries.len(), STEPS);
+    assert_eq!(rt; run.stages.len(), 16);
+    // All find the conciliator's word empty, and the last to store there wins.
+    for consumer in 0..15 {
+        assert_eq!(rt; run.stages.get(consumer).copied(), Some(Stage::Lost(15)));
+    }
+    assert_eq!(rt; run.stages.get(15).copied(), Some(Stage::Won));
+    for place in 0..STEPS {
+        let done = ClaimEntry::Done {
+            consumer: place as u32 % 16,
+        };
+        assert_eq!(rt; run.entries.get(place).copied() == Some(done), 208 <= place);
+    }
+    Ok(())
+}

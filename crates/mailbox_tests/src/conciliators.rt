@@ -88,3 +88,33 @@ fn first_reason_refuses(rt: HostRuntime) {
         Some(Fault::NoSuchProcess(0))
     );
 }
+
+/// So many turns: more than all processes take to their outputs, so that most of them are `Done`.
+const TURNS: usize = 2048;
+
+#[test]
+fn two_thousand_turns_of_sixteen_processes(rt: HostRuntime) -> Result<(), Fail> {
+    let inputs = [0, 1, 2, 3, 4, 5, 6, 7, 8, 9, 10, 11, 12, 13, 14, 15];
+    let mut turns = [(0, 0); TURNS];
+    for place in 0..TURNS {
+        turns[place] = (place as u64 % 16, 0);
+    }
+    let trace = conciliate(rt.alloc(), 16, &inputs, &turns)?;
+    assert_eq!(rt; trace.entries.len(), TURNS);
+    assert_eq!(rt; trace.outputs.len(), 16);
+    // All find the word empty and store, and then all find what the last one stored.
+    for process in 0..16 {
+        let output = trace.outputs.get(process).copied();
+        assert_eq!(rt; output, Some(Some(Out::undecided(15))));
+    }
+    for place in 0..TURNS {
+        let done = Entry::Done {
+            process: place % 16,
+        };
+        assert_eq!(rt;
+            trace.entries.get(place).copied() == Some(done),
+            48 <= place
+        );
+    }
+    Ok(())
+}

@@ -1,7 +1,7 @@
 //! A ratifier over a quorum table of one's own.
 
 ghost use Rattle.std.specs.Prelude.{◌≡◌, IfOk};
-ghost use Rattle.mb_deciding.specs.declared.place.Next.TheVariants.{Go};
+ghost use Rattle.mb_deciding.specs.declared.place.pc.Next.TheVariants.{Go};
 
 use crate::mirrored::Mirrored;
 use mb_deciding::{Next, Op, Out, Pc, Reg};

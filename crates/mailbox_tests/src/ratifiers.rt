@@ -157,3 +157,33 @@ fn first_reason_refuses(rt: HostRuntime) {
         Some(Fault::NoSuchProcess(1))
     );
 }
+
+/// So many turns: more than all processes take to their outputs, so that most of them are `Done`.
+const TURNS: usize = 2048;
+
+#[test]
+fn two_thousand_turns_of_sixteen_processes(rt: HostRuntime) -> Result<(), Fail> {
+    let mut turns = [0; TURNS];
+    for place in 0..TURNS {
+        turns[place] = place as u64 % 16;
+    }
+    let trace = ratify(rt.alloc(), TableName::Unary, 16, &[3; 16], &turns)?;
+    assert_eq!(rt; trace.entries.len(), TURNS);
+    assert_eq!(rt; trace.outputs.len(), 16);
+    // All have one input, so all decide it.
+    for process in 0..16 {
+        let output = trace.outputs.get(process).copied();
+        assert_eq!(rt; output, Some(Some(Out::decided(3))));
+    }
+    // Each announces in one register, finds the proposal empty, stores it, and checks the 15 others.
+    for place in 0..TURNS {
+        let done = Entry::Done {
+            process: place % 16,
+        };
+        assert_eq!(rt;
+            trace.entries.get(place).copied() == Some(done),
+            288 <= place
+        );
+    }
+    Ok(())
+}
