@@ -1,0 +1,41 @@
+//! The claims, mailboxes and schedules of `mailbox_bench` in hand-written Rust, to compare with.
+//!
+//! usage: by_hand SHAPE TABLE CONSUMERS TIMES, as `mailbox_bench` takes them. It prints the same lines.
+
+// Entries and notes are made, counted and dropped: nothing reads them.
+#![allow(dead_code)]
+
+mod claim;
+mod layout;
+mod loops;
+mod mail;
+mod play;
+mod ratify;
+mod source;
+
+use layout::Layout;
+
+/// How many pairs of objects each cell has.
+const PAIRS: usize = 4;
+
+fn main() {
+    let words: Vec<String> = std::env::args().skip(1).collect();
+    let [shape, table, consumers, times] = &words[..] else {
+        eprintln!("usage: by_hand words|lone|contended|mail|play|ratify bits|unary CONSUMERS TIMES");
+        std::process::exit(2);
+    };
+    let number = |text: &String| text.parse::<u64>().expect("a number");
+    let (consumers, times) = (number(consumers), number(times));
+    assert!((1..=16).contains(&consumers), "1 to 16 consumers");
+    let layout = Layout::new(consumers as u32, PAIRS, table == "bits");
+    let said = match shape.as_str() {
+        "words" => format!("{} words", loops::words_alone(&layout, times)),
+        "lone" => loops::lone(&layout, times).to_string(),
+        "contended" => loops::contended(&layout, times).to_string(),
+        "mail" => mail::mail(&layout, times).to_string(),
+        "play" => play::plays(&layout, times).to_string(),
+        "ratify" => ratify::ratifiers(&layout, times).to_string(),
+        _ => panic!("no such shape"),
+    };
+    println!("{shape} {table} {consumers} {times}: {said}");
+}

@@ -1,0 +1,26 @@
+//! Random words.
+
+/// A source of random words, by shifts: cheap, and the same at each run.
+pub struct Source {
+    state: u64,
+}
+
+impl Source {
+    pub fn new() -> Source {
+        Source { state: 0x9E37_79B9_7F4A_7C15 }
+    }
+
+    #[inline]
+    pub fn word(&mut self) -> u64 {
+        let mut word = self.state;
+        word ^= word << 13;
+        word ^= word >> 7;
+        word ^= word << 17;
+        self.state = word;
+        word
+    }
+
+    pub fn below(&mut self, bound: u64) -> u64 {
+        self.word() % bound
+    }
+}

@@ -1,0 +1,88 @@
+#!/usr/bin/env python3
+"""Counts the instructions of the libraries' loops and of the same loops by hand, and prints a table of both.
+
+usage: bench/count.py [--shapes lone,mail] [--tables bits,unary] [--consumers 2,4,16] [--keep]
+
+Both programs are built first: `mailbox_bench` by `rt run`, which proves it, and `by_hand` by rustc. Then callgrind counts
+the instructions of each at two sizes, so that the start of the program falls out; the counts repeat exactly. Both have to
+print the same lines. With --keep the programs of the last run are taken as they are. It wants rt, rustc and valgrind.
+"""
+import argparse
+import pathlib
+import re
+import subprocess
+import sys
+import tempfile
+
+TOP = pathlib.Path(__file__).resolve().parent.parent
+PROGRAM = TOP / "crates" / "mailbox_bench" / "out" / "mailbox_bench"
+BY_HAND = pathlib.Path(tempfile.gettempdir()) / "mailbox_bench_by_hand"
+
+# How often a shape is done at either size.
+SIZES = {"words": (2, 6), "lone": (4, 12), "contended": (2, 6), "mail": (2, 6), "play": (100, 300), "ratify": (1, 3)}
+UNITS = {"lone": "an access", "contended": "an access", "mail": "an item", "play": "a step", "ratify": "a turn"}
+# These make words at each time, which are no part of their units.
+LESS_WORDS = ("lone", "contended")
+
+
+def build():
+    """Builds both programs."""
+    bench = TOP / "crates" / "mailbox_bench"
+    subprocess.run(["rt", "run", "--jobs", "1"], cwd=bench, check=True, stdout=subprocess.DEVNULL)
+    flags = ["--edition", "2024", "-C", "opt-level=3", "-C", "target-cpu=x86-64-v2", "-C", "codegen-units=1", "-C", "panic=abort"]
+    subprocess.run(["rustc", *flags, TOP / "bench" / "by_hand" / "main.rs", "-o", BY_HAND], check=True)
+
+
+def counted(program, shape, table, consumers, times):
+    """The instructions of a run, and the line that it prints."""
+    valgrind = ["valgrind", "--tool=callgrind", "--callgrind-out-file=/dev/null"]
+    words = [shape, table, str(consumers), str(times)]
+    ran = subprocess.run([*valgrind, program, *words], capture_output=True, text=True, check=True)
+    return int(re.search(r"Collected : (\d+)", ran.stderr).group(1)), ran.stdout
+
+
+def difference(program, shape, table, consumers):
+    """The instructions of one time, the units that it makes, and the lines of both sizes."""
+    small, large = SIZES[shape]
+    (few, first), (many, last) = (counted(program, shape, table, consumers, times) for times in (small, large))
+    units = [int(re.search(r": (\d+)", line).group(1)) for line in (first, last)]
+    return (many - few) / (large - small), (units[1] - units[0]) / (large - small), first + last
+
+
+def row(shape, table, consumers):
+    """What a unit of the shape takes, by the libraries and by hand."""
+    taken, lines = [], []
+    for program in (PROGRAM, BY_HAND):
+        instructions, units, line = difference(program, shape, table, consumers)
+        if shape in LESS_WORDS:
+            instructions -= difference(program, "words", table, consumers)[0]
+        taken.append(instructions / units)
+        lines.append(line)
+    if lines[0] != lines[1]:
+        sys.exit(f"the programs differ:\n{lines[0]}{lines[1]}")
+    return taken
+
+
+def main():
+    parser = argparse.ArgumentParser()
+    parser.add_argument("--shapes", default="lone,contended,mail,play,ratify")
+    parser.add_argument("--tables", default="bits,unary")
+    parser.add_argument("--consumers", default="1,2,4,16")
+    parser.add_argument("--keep", action="store_true")
+    options = parser.parse_args()
+    if not options.keep:
+        build()
+    cpu = re.search(r"Model name:\s*(.*)", subprocess.run(["lscpu"], capture_output=True, text=True).stdout)
+    print(f"Machine: {cpu.group(1) if cpu else 'unknown'}\n")
+    print("| Shape | Table | Consumers | Libraries | By hand | Ratio |")
+    print("|---|---|---|---|---|---|")
+    for shape in options.shapes.split(","):
+        for table in options.tables.split(","):
+            for consumers in options.consumers.split(","):
+                ours, hand = row(shape, table, int(consumers))
+                name = f"{shape}, {UNITS[shape]}"
+                print(f"| {name} | {table} | {consumers} | {ours:.1f} | {hand:.1f} | {ours / hand:.2f} |", flush=True)
+
+
+if __name__ == "__main__":
+    main()

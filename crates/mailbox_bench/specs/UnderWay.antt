@@ -1,0 +1,35 @@
+-- Claims under way on the words of all cells.
+use Rattle.std.specs.Prelude.{ℕ, ◌≡◌, ◌<◌, ◌≤◌, List, [], length, slice_index_or}
+use Rattle.mb_claim.specs.declared.access.ClaimAccess.{ClaimAccess}
+use Rattle.mb_claim.specs.declared.claim.Claim.{Claim}
+use Rattle.mb_claim.specs.declared.layout.Layout.{Layout}
+use Rattle.mb_claim.specs.declared.layout.TheConstants.{MAX_CELLS}
+use Rattle.mb_claim.specs.Vocabulary.{Claims, part_on, claims_in, consumer_of, IsClaimIn, IsMemoryOf}
+
+-- the claims of a layout's consumers on as many cells as there can be
+abbrev pub all_claims : Layout → Claims
+all_claims layout = claims_in layout MAX_CELLS
+
+-- the history leaves the words, and what the claim's consumer did in it on the cell led the claim to where it is
+pub record IsUnderWay
+    (layout : Layout) (cell : ℕ) (claim : Claim) (words : List ℕ) (h : List ClaimAccess) : Type 0 where
+  pub memory : IsMemoryOf (all_claims layout) words h
+  pub stands : IsClaimIn layout claim (part_on (consumer_of claim) cell h)
+
+-- the later history changes only parts of a consumer c on a cell k for which this holds
+abbrev pub ChangesOnly : (ℕ → ℕ → Type 0) → List ClaimAccess → List ClaimAccess → Type 0
+ChangesOnly Changed h later = (c k : ℕ) → (Changed c k → ⊥) → part_on c k later ≡ part_on c k h
+
+-- the history leaves the words, and the consumer has made no access to this cell, nor to any after it
+pub record IsBefore (layout : Layout) (consumer cell : ℕ) (words : List ℕ) (h : List ClaimAccess) : Type 0 where
+  pub memory : IsMemoryOf (all_claims layout) words h
+  pub untouched : (k : ℕ) → cell ≤ k → part_on consumer k h ≡ []
+
+-- the history leaves the words, each consumer has its claim on the cell, and these are the claims in their order
+pub record IsContest
+    (layout : Layout) (cell : ℕ) (claims : List Claim) (words : List ℕ) (h : List ClaimAccess) : Type 0 where
+  pub memory : IsMemoryOf (all_claims layout) words h
+  pub whose : (i : ℕ) (d : Claim) → i < length claims → consumer_of (slice_index_or claims i d) ≡ i
+  pub stands :
+      (i : ℕ) (d : Claim) → i < length claims
+      → IsClaimIn layout (slice_index_or claims i d) (part_on i cell h)

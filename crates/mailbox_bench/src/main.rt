@@ -1,0 +1,43 @@
+//! Claims, mailboxes and whole schedules in loops, for who counts their instructions.
+//!
+//! With the words SHAPE TABLE CONSUMERS TIMES it runs one loop and prints what that came to; with none, each shape
+//! once.
+#![tactic(auto)]
+
+use std::io;
+use std::process::ExitCode;
+
+pub mod choice;
+pub mod contended;
+pub mod count;
+pub mod lone;
+pub mod mail;
+pub mod run;
+pub mod schedules;
+pub mod source;
+pub mod step;
+
+use choice::Choice;
+use run::{run, run_all};
+
+/// The status of a command line that tells no choice.
+const REFUSED: u8 = 2;
+
+fn main(rt: HostRuntime) -> io::Result<ExitCode> {
+    let words = std::env::args(&rt)?.collect::<Vec<String>>(rt.alloc())?;
+    let Some((_, words)) = words.as_slice().split_first() else {
+        return Ok(ExitCode::from(REFUSED));
+    };
+    if words.is_empty() {
+        run_all(&rt)?;
+        return Ok(ExitCode::SUCCESS);
+    }
+    let Some(choice) = Choice::of(words) else {
+        eprintln!(rt;
+            "usage: mailbox_bench [words|lone|contended|mail|play|ratify bits|unary CONSUMERS TIMES]"
+        )?;
+        return Ok(ExitCode::from(REFUSED));
+    };
+    run(&rt, &choice)?;
+    Ok(ExitCode::SUCCESS)
+}

@@ -1,0 +1,50 @@
+//! One run of a choice, and what is printed of it.
+use crate::choice::{Choice, SHAPES, Shape};
+use crate::contended::contended;
+use crate::lone::{lone, words_alone};
+use crate::mail::mail;
+use crate::schedules::{plays, ratifiers};
+use std::io;
+
+/// Each shape once.
+pub fn run_all<R: Print + AllocGlobal>(rt: &R) -> io::Result<()> {
+    for shape in SHAPES {
+        if let Some(choice) = Choice::short(shape) {
+            run(rt, &choice)?;
+        }
+    }
+    Ok(())
+}
+
+/// Does what was chosen, and prints a line of what it came to.
+pub fn run<R: Print + AllocGlobal>(rt: &R, choice: &Choice) -> io::Result<()> {
+    let alloc = rt.alloc();
+    let layout = &choice.layout;
+    let times = choice.times;
+    match choice.shape {
+        Shape::Words => {
+            let made = words_alone(alloc, layout, times)?;
+            println!(rt; "{choice}: {made} words")
+        }
+        Shape::Lone => {
+            let count = lone(alloc, layout, times)?;
+            println!(rt; "{choice}: {count}")
+        }
+        Shape::Contended => {
+            let count = contended(alloc, layout, times)?;
+            println!(rt; "{choice}: {count}")
+        }
+        Shape::Mail => {
+            let post = mail(alloc, layout, times)?;
+            println!(rt; "{choice}: {post}")
+        }
+        Shape::Play => {
+            let runs = plays(alloc, layout, times)?;
+            println!(rt; "{choice}: {runs}")
+        }
+        Shape::Ratify => {
+            let runs = ratifiers(alloc, layout, choice.name, times)?;
+            println!(rt; "{choice}: {runs}")
+        }
+    }
+}
