@@ -1,9 +1,10 @@
 -- Turns, and the acts that they make.
-use Rattle.std.proofs.Common.{◌≡◌, ◌≢◌, List, [], ◌∷◌, ◌++◌, map, refl, ap}
+use Rattle.std.proofs.Common.{◌≡◌, ◌≢◌, ℕ, List, [], ◌∷◌, ◌++◌, map, refl, sym, ap, subst}
 use Rattle.std.proofs.lemmas.List.{map-append}
+use Rattle.mb_quorum.specs.Vocabulary.{QuorumTable}
 use Rattle.mb_deciding.specs.declared.access.Op.TheVariants as to
-use Rattle.mb_deciding.specs.Vocabulary.{ReadsLast, acts, Has, act_of, seen_by}
-use Rattle.mb_claim.specs.{Access, Act, Op, Turn}
+use Rattle.mb_deciding.specs.Vocabulary.{ReadsLast, acts, Has, CanFind, act_of, seen_by}
+use Rattle.mb_claim.specs.{Access, Act, Op, Pc, Turn}
 use Rattle.mb_claim.proofs.Lists.{not_empty}
 
 -- the acts of two lists of turns
@@ -33,3 +34,10 @@ has_turns turns act has e = has_some (acts turns) act has (ap acts e)
 pub reads_seen : (op : Op) (h : List Access) → ReadsLast (act_of op (seen_by op h)) h
 reads_seen (to.Load reg) h = refl
 reads_seen (to.Store reg value) h = tt
+
+-- an op that found what the history leaves in its word has found what it may find there
+pub told_find :
+    (t : QuorumTable) (pc : Pc) (op : Op) (seen : ℕ) (h : List Access) → ReadsLast (act_of op seen) h
+    → CanFind t pc op (seen_by op h) → CanFind t pc op seen
+told_find t pc (to.Load reg) seen h same can = subst (CanFind t pc (to.Load reg)) (sym same) can
+told_find t pc (to.Store reg value) seen h same can = tt

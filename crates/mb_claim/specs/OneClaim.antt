@@ -16,6 +16,17 @@ consumer_of claim = claim.consumer
 abbrev pub claim_stage : Claim → Stage
 claim_stage claim = claim.stage
 
+-- the claim as it is where it stands at this place on its object
+abbrev pub placed_at : Pc → Claim → Claim
+placed_at pc claim =
+    record {
+      consumer = claim.consumer;
+      object = claim.object;
+      place = pc;
+      stage = claim.stage;
+      begun = claim.begun;
+    }
+
 -- whether it has made an access
 abbrev pub is_begun : Claim → Bool
 is_begun claim = claim.begun

@@ -20,7 +20,11 @@ impl<A: Allocator + Drop> Model for Board<A> {
 
     ghost Value = { BoardState };
 
-    ghost view = { λ board. record { words = board.words; claims = board.claims.items; entries = board.entries.items } };
+    ghost view = { λ board. record {
+      words = board.words;
+      claims = board.claims.items;
+      entries = board.entries.items;
+    } };
 }
 
 impl<A: Allocator + Copy + Drop> Board<A> {
@@ -52,13 +56,12 @@ impl<A: Allocator + Copy + Drop> Board<A> {
             → IsBoard layout.now (steps ++ (consumer, word) ∷ []) self.new) }
     {
         accesses_lengthen_one_part();
-        let mut claim = self.claims[consumer as usize];
+        let claim = &mut self.claims[consumer as usize];
         if !claim.stage().is_going() {
             self.entries.push(ClaimEntry::Done { consumer })?;
             return Ok(());
         }
-        let made = self.words.step(layout, &mut claim, 0, word);
-        self.claims[consumer as usize] = claim;
+        let made = self.words.step(layout, claim, 0, word);
         self.entries.push(ClaimEntry::Access {
             consumer,
             object: made.step.object,

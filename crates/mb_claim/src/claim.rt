@@ -2,7 +2,7 @@
 use crate::access::{ClaimOp, Stage};
 use crate::layout::Layout;
 use crate::steps::places_show_prefixes;
-use mb_deciding::{Memory, Next, Pc};
+use mb_deciding::{Memory, Next, Out, Pc};
 
 /// The claim of one consumer on one cell: the object on which it stands, its place there, and how
 /// far it has come. A plain value, which may be kept between calls.
@@ -17,10 +17,11 @@ pub struct Claim {
 
 impl Claim {
     ghost use Rattle.std.specs.Prelude.{◌≡◌, ◌≢◌, ◌<◌, ◌≤◌, ◌+◌, ℕ, true, List, [], ◌∷◌, length, slice_get, MatchOption};
-    ghost use Rattle.mb_deciding.specs.Vocabulary.{IsAt, IsNext, IsReached, turns_left, turns_after, most_turns};
+    ghost use Rattle.mb_deciding.specs.Vocabulary.{IsAt, IsNext, IsReached, next_from, turns_left, turns_after};
+    ghost use Rattle.mb_deciding.specs.Vocabulary.{most_turns};
     ghost use Rattle.mb_claim.specs.{Kind, Turn, ClaimOp, ObjectTurn, Going, Undecided, consumer_of, claim_stage, is_begun};
     ghost use Rattle.mb_claim.specs.{FitsLayout, IsClaimIn, IsNextOp, CanClaimFind, IsClaimStep, steps_left, step_of};
-    ghost use Rattle.mb_claim.specs.{stage_for};
+    ghost use Rattle.mb_claim.specs.{Pc, stage_for, placed_at};
     ghost use Rattle.mb_claim.specs.{quorums_of, kinds_of, consumer_count, most_accesses};
 
     /// The claim of a consumer that has made no access.
@@ -75,7 +76,13 @@ impl Claim {
             → IsNextOp layout.now self.old next → CanClaimFind layout.now self.old next seen
             → IsClaimIn layout.now self.new (step_of next.object next.op seen word ∷ xs) }
     {
-        self.follow(layout, self.place.after(&layout.table, seen, word))
+        match self.place.after(&layout.table, seen, word) {
+            Next::Go(place) => {
+                self.place = place;
+                self.follow(layout, None)
+            }
+            Next::Out(out) => self.follow(layout, Some(out)),
+        }
     }
 
     /// Makes the next access in this memory, and tells how far the claim has come then: [`Claim::next`],
@@ -96,10 +103,8 @@ impl Claim {
         ensures step { IsClaimStep layout.now self.old
             (λ next seen. M.makes memory.old next.object next.op seen memory.new) word self.new }
     {
-        self.follow(
-            layout,
-            self.place.step(&layout.table, memory, self.object, word),
-        )
+        let out = self.place.step(&layout.table, memory, self.object, word);
+        self.follow(layout, out)
     }
 
     /// How far the claim has come.
@@ -117,35 +122,36 @@ impl Claim {
         self.begun
     }
 
-    /// Goes on with what an access on the claim's object led to.
+    /// Goes on with what an access on the claim's object led to: its place stands there already, or this is the output.
     #[inline(always)]
-    fn follow(&mut self, layout: &Layout, next: Next) -> Stage
+    fn follow(&mut self, layout: &Layout, out: Option<Out>) -> Stage
         requires going { claim_stage self.old ≡ Going }
-        requires fits { FitsLayout layout.now self.old }
-        requires next { IsNext (quorums_of layout.now) next }
-        requires fewer { turns_after (quorums_of layout.now) next
-            < turns_left (quorums_of layout.now) self.old.place }
+        requires object { self.old.object < length (kinds_of layout.now) }
+        requires next { IsNext (quorums_of layout.now) (next_from out self.old.place) }
         ensures fits { FitsLayout layout.now self.new }
         ensures consumer { consumer_of self.new ≡ consumer_of self.old }
         ensures begun { is_begun self.new ≡ true }
         ensures stage { result ≡ claim_stage self.new }
-        ensures fewer { steps_left layout.now self.new < steps_left layout.now self.old }
-        ensures path { (xs : List ObjectTurn) (turn : Turn) → IsClaimIn layout.now self.old xs
+
+        // Where it stood before the access, there it could make more.
+        ensures fewer { (pc : Pc)
+            → turns_after (quorums_of layout.now) (next_from out self.old.place)
+            < turns_left (quorums_of layout.now) pc
+            → steps_left layout.now self.new < steps_left layout.now (placed_at pc self.old) }
+        ensures path { (pc : Pc) (xs : List ObjectTurn) (turn : Turn)
+            → IsClaimIn layout.now (placed_at pc self.old) xs
             → ((kind : Kind) (v : ℕ) (turns : List Turn)
-            → IsAt (quorums_of layout.now) kind v self.old.place turns
-            → IsReached (quorums_of layout.now) kind v next (turn ∷ turns))
+            → IsAt (quorums_of layout.now) kind v pc turns
+            → IsReached (quorums_of layout.now) kind v (next_from out self.old.place) (turn ∷ turns))
             → IsClaimIn layout.now self.new
             (record { object = self.old.object; turn = turn } ∷ xs) }
     {
         places_show_prefixes();
         self.begun = true;
-        match next {
-            Next::Go(place) => {
-                self.place = place;
-                Stage::Going
-            }
-            Next::Out(out) if !out.decided => self.pass(layout, out.value),
-            Next::Out(out) => {
+        match out {
+            None => Stage::Going,
+            Some(out) if !out.decided => self.pass(layout, out.value),
+            Some(out) => {
                 let stage = self.stage_for(out.value);
                 self.stage = stage;
                 stage

@@ -21,8 +21,9 @@ pub const MAX_CELLS: u32 = 256;
 const MAX_OBJECTS: usize = 2 * MAX_PAIRS as usize;
 
 /// The deciding objects that each cell has: so many pairs of a conciliator and a ratifier, over a
-/// quorum table with a value for each consumer.
-#[derive(Clone, Copy, PartialEq, Eq, Debug)]
+/// quorum table with a value for each consumer. It keeps their row and where each one's words begin, so it has some 500
+/// bytes and is not `Copy`: [`Layout::copy`] says where one more is made.
+#[derive(PartialEq, Eq, Debug, Drop)]
 pub struct Layout {
     pub(crate) table: Table,
     pairs: u32,
@@ -109,6 +110,20 @@ impl Layout {
             begins,
             cell_size,
         })
+    }
+
+    /// The same layout once more.
+    pub fn copy(&self) -> Layout
+        ensures { result ≡ self.now }
+    {
+        Layout {
+            table: self.table.copy(),
+            pairs: self.pairs,
+            objects: self.objects,
+            kinds: self.kinds,
+            begins: self.begins,
+            cell_size: self.cell_size,
+        }
     }
 
     /// How many objects so many pairs have. This function and the next are all that know the row.

@@ -13,7 +13,7 @@ ghost use Rattle.mb_claim.specs.{Stage, Going, IsClaimLawful, MayFollow, Adds, I
 ghost use Rattle.mb_claim.specs.{object_history, StandsAt, HasPlace, access_after, words_in, address_in, IsWordIn};
 ghost use Rattle.mb_claim.specs.{address_of, words_of, IsWordOf, pairs_of, IsMemoryOf, found_in, access_in};
 ghost use Rattle.mb_claim.specs.{words_after, Layout, Claim, ClaimOp, claims_in, consumer_of, claim_stage, FitsLayout};
-ghost use Rattle.mb_claim.specs.{HasWord, IsClaimIn, IsNextOp, CanClaimFind};
+ghost use Rattle.mb_claim.specs.{HasWord, IsClaimIn, IsNextOp, CanClaimFind, claim_access, step_of};
 
 use mb_deciding::laws::objects_keep_their_promises;
 use mb_deciding::steps::{
@@ -158,6 +158,15 @@ pub fn claims_make_steps()
     ensures stored { (layout : Layout) (claim : Claim) (next : ClaimOp) (reg : Reg) (value seen : ℕ)
         → next.op ≡ to.Store reg value → CanClaimFind layout claim next seen }
 
+    // And where a lawful history has its access, what that found is a value with which it can go on.
+    ensures told { (layout : Layout) (cells k : ℕ) (claim : Claim) (next : ClaimOp) (seen word : ℕ)
+        (h : List ClaimAccess)
+        → IsClaimLawful (claims_in layout cells)
+        (claim_access claim k (step_of next.object next.op seen word) ∷ h) → k < cells
+        → IsClaimIn layout claim (part_on (consumer_of claim) k h)
+        → claim_stage claim ≡ Going → IsNextOp layout claim next
+        → CanClaimFind layout claim next seen }
+
     // With its access the words are those that the longer history leaves.
     ensures memory { (layout : Layout) (cells k : ℕ) (claim : Claim) (next : ClaimOp) (word : ℕ)
         (words : List ℕ)
@@ -169,6 +178,7 @@ pub fn claims_make_steps()
         IsInWords a.step.turn → IsMemoryOf cs (words_after cs k next.object next.op words) (a ∷ h) }
 {
     places_show_prefixes();
+    places_make_steps();
     words_follow_steps();
 }
 

@@ -8,7 +8,7 @@ use Rattle.mb_deciding.specs.{Act, Access, Turn, Op, Out, Pc}
 use Rattle.mb_deciding.specs.{InRatifier, Begin, Next, Entry, Words, Object, ObjectSetup, object_in, ReadsLast}
 use Rattle.mb_deciding.specs.{part, IsPath, IsObjectLawful, answer, IsAt, IsReached, act_of, seen_by}
 use Rattle.mb_deciding.specs.{process_of, with_entry, history_from, history_of, HasEnded, IsOutputOf, IsEntryAfter}
-use Rattle.mb_deciding.specs.{AreEntriesOf, IsTrace, IsTableFor, IsMemory, RunState, IsRun, out_of}
+use Rattle.mb_deciding.specs.{AreEntriesOf, IsTrace, IsTableFor, IsMemory, RunState, IsRun, out_of, next_from, come_to}
 use Rattle.mb_deciding.specs.declared.access.Op.TheVariants as to
 use Rattle.mb_deciding.specs.declared.place.pc.Next.TheVariants as leads
 use Rattle.mb_deciding.specs.declared.trace.Entry.TheVariants as entry
@@ -74,6 +74,16 @@ pub reached_output :
     → IsReached o.table o.kind (o.inputs p) next (part p h) → IsOutputOf o p (out_of next) h
 reached_output o q h p (leads.Go pc) r = not_ended o q h p pc r
 reached_output o q h p (leads.Out out) r = r
+
+-- an output is come to, and else the place
+pub comes_from : (out : Option Out) (pc : Pc) → come_to out (leads.Go pc) ≡ next_from out pc
+comes_from None pc = refl
+comes_from (Some x) pc = refl
+
+-- and so it is what has been come to
+pub out_from : (out : Option Out) (pc : Pc) → out_of (next_from out pc) ≡ out
+out_from None pc = refl
+out_from (Some x) pc = refl
 
 -- ---- the run
 module _ (u : ObjectSetup) (schedule : List (ℕ × ℕ)) (state : RunState) (run : IsRun u schedule state) where

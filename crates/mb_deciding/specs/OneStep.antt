@@ -11,6 +11,11 @@ abbrev pub next_from : Option Out → Pc → Next
 next_from None pc = leads.Go pc
 next_from (Some out) pc = leads.Out out
 
+-- what a process has come to: its output, where it has one, and else what it had come to before
+abbrev pub come_to : Option Out → Next → Next
+come_to None next = next
+come_to (Some out) next = leads.Out out
+
 -- a process at the place in a ratifier, whose next access found this value, has come to what follows
 abbrev pub RatifierReaches : QuorumTable → RatifierPlace → ℕ → Next → Type 0
 RatifierReaches t place seen follows =

@@ -15,7 +15,7 @@ pub use Rattle.mb_deciding.specs.Deciding.{IsFirstMover, IsDeciding, IsRatifying
 pub use Rattle.mb_deciding.specs.Place.{IsLeast, IsRest, IsRatifierPlace, HasLimits, IsConciliatorPlace, IsPlace}
 pub use Rattle.mb_deciding.specs.Place.{IsInRatifier, IsInConciliator, IsAt, IsRatifierOp, IsConciliatorOp, IsOpAt}
 pub use Rattle.mb_deciding.specs.Place.{act_of, reg_of, HasReg, CanFind, IsReached, IsNext, seen_by, turn_after}
-pub use Rattle.mb_deciding.specs.OneStep.{IsStep}
+pub use Rattle.mb_deciding.specs.OneStep.{next_from, IsStep}
 pub use Rattle.mb_deciding.specs.Bounds.{turns_left, turns_after}
 pub use Rattle.mb_deciding.specs.Trace.{process_of, with_entry, history_from, history_of, plain_schedule, HasEnded}
 pub use Rattle.mb_deciding.specs.Trace.{IsOutputOf, IsEntryAfter, AreEntriesOf, IsTrace}

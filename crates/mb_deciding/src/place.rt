@@ -1,7 +1,7 @@
 //! The places of processes in deciding objects: where one begins, what it does next, and where that leads.
 use crate::access::Op;
 use crate::memory::Memory;
-use crate::object::Kind;
+use crate::object::{Kind, Out};
 use mb_quorum::Quorums;
 
 mod conciliating;
@@ -19,7 +19,7 @@ impl Pc {
     ghost use Rattle.std.specs.Prelude.{◌≡◌, ◌<◌, ◌≤◌, ℕ, List, [], ◌∷◌};
     ghost use Rattle.mb_quorum.specs.Quorum.{QuorumTable};
     ghost use Rattle.mb_deciding.specs.{Op, Turn, Kind, Conciliator, Ratifier, IsAt, IsPlace, IsOpAt, IsNext};
-    ghost use Rattle.mb_deciding.specs.{IsReached, CanFind, act_of, IsStep, turns_left, turns_after, most_turns};
+    ghost use Rattle.mb_deciding.specs.{IsReached, CanFind, act_of, IsStep, next_from, turns_left, turns_after, most_turns};
 
     /// The place of a process with this input before its first access to a ratifier.
     pub fn ratifier(input: u32) -> Pc
@@ -90,36 +90,43 @@ impl Pc {
             (record { act = act_of op seen; word = word } ∷ turns) }
     {
         match self {
-            Pc::InConciliator(place) => place.after(q.values(), seen, word),
-            Pc::InRatifier(place) => place.after(q, seen),
+            Pc::InConciliator(mut place) => {
+                let out = place.after(q.values(), seen, word);
+                Next::from_place(Pc::InConciliator(place), out)
+            }
+            Pc::InRatifier(mut place) => {
+                let out = place.after(q, seen);
+                Next::from_place(Pc::InRatifier(place), out)
+            }
         }
     }
 
-    /// Makes the access that comes next, to the object with this number in this memory, and answers what it leads
-    /// to: [`Pc::next`], [`Memory::perform`] and [`Pc::after`] in one match.
+    /// Makes the access that comes next, to the object with this number in this memory, and goes on to the place that
+    /// it leads to, or answers the output: [`Pc::next`], [`Memory::perform`] and [`Pc::after`] in one match. With an
+    /// output the place counts no more.
     #[inline(always)]
-    pub fn step<Q: Quorums, M: Memory>(self, q: &Q, memory: &mut M, object: u32, word: u64) -> Next
-        requires place { IsPlace (Q.table q.now) self }
-        requires may { (op : Op) → IsOpAt (Q.table q.now) self op
+    pub fn step<Q: Quorums, M: Memory>(
+        &mut self,
+        q: &Q,
+        memory: &mut M,
+        object: u32,
+        word: u64,
+    ) -> Option<Out>
+        requires place { IsPlace (Q.table q.now) self.old }
+        requires may { (op : Op) → IsOpAt (Q.table q.now) self.old op
             → M.can_make memory.old object op }
-        ensures fits { IsNext (Q.table q.now) result }
-        ensures fewer { turns_after (Q.table q.now) result < turns_left (Q.table q.now) self }
+        ensures fits { IsNext (Q.table q.now) (next_from result self.new) }
+        ensures fewer { turns_after (Q.table q.now) (next_from result self.new)
+            < turns_left (Q.table q.now) self.old }
 
         // The access that was made is the one that comes next, and a process that was at this place is now at the
         // next one, or has its output.
-        ensures step { IsStep (Q.table q.now) self
-            (λ op seen. M.makes memory.old object op seen memory.new) word result }
+        ensures step { IsStep (Q.table q.now) self.old
+            (λ op seen. M.makes memory.old object op seen memory.new) word (next_from result self.new) }
     {
-        let mut next = self;
         match self {
-            Pc::InConciliator(place) => {
-                let out = place.step(q.values(), memory, object, word, &mut next);
-                Next::from_place(next, out)
-            }
-            Pc::InRatifier(place) => {
-                let out = place.step(q, memory, object, &mut next);
-                Next::from_place(next, out)
-            }
+            Pc::InConciliator(place) => place.step(q.values(), memory, object, word),
+            Pc::InRatifier(place) => place.step(q, memory, object),
         }
     }
 }

@@ -79,7 +79,8 @@ impl<A: Allocator + Copy + Drop> Run<A> {
             → IsRun (setup_of t (M.kind machine.now) inputs)
             (schedule ++ (process, word) ∷ []) self.new) }
     {
-        match self.places[process] {
+        let next = &mut self.places[process];
+        match next {
             Next::Out(_) => self.entries.push(Entry::Done { process })?,
             Next::Go(pc) => {
                 let mut memory = ObjectWords {
@@ -89,14 +90,14 @@ impl<A: Allocator + Copy + Drop> Run<A> {
                         value: 0,
                     },
                 };
-                let next = machine.step(pc, &mut memory, word);
+                let out = machine.step(pc, &mut memory, word);
                 let ObjectWords { words: _, made } = memory;
+                next.end(out);
                 self.entries.push(Entry::Access {
                     process,
                     act: made,
-                    out: next.out(),
+                    out,
                 })?;
-                self.places[process] = next;
             }
         }
         Ok(())

@@ -16,8 +16,9 @@ pub enum TableName {
 
 /// A table chosen by its name when the program runs.
 ///
-/// It keeps the quorums of each value, so that they are made once.
-#[derive(Clone, Copy, Debug, PartialEq, Eq, Hash)]
+/// It keeps the quorums of each value, so that they are made once. With them it has some 270 bytes, so it is not `Copy`:
+/// [`Table::copy`] says where one more is made.
+#[derive(Debug, PartialEq, Eq, Hash, Drop)]
 pub struct Table {
     name: TableName,
     values: u32,
@@ -63,7 +64,7 @@ impl Quorums for Table {
 }
 
 impl Table {
-    ghost use Rattle.std.specs.Prelude.{◌↔◌, IsOk, IfOk};
+    ghost use Rattle.std.specs.Prelude.{◌≡◌, ◌↔◌, IsOk, IfOk};
 
     /// The table of this name with m values, or `BadValues` if m is not in `1..=MAX_VALUES`.
     pub fn new(name: TableName, m: u64) -> Result<Table, BadValues>
@@ -85,6 +86,19 @@ impl Table {
             write,
             read,
         })
+    }
+
+    /// The same table once more.
+    pub fn copy(&self) -> Table
+        ensures { result ≡ self.now }
+    {
+        Table {
+            name: self.name,
+            values: self.values,
+            registers: self.registers,
+            write: self.write,
+            read: self.read,
+        }
     }
 }
 

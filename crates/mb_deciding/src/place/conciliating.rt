@@ -1,6 +1,5 @@
 //! What one process does in a conciliator.
 use super::conciliator::ConciliatorPlace;
-use super::pc::{Next, Pc};
 use crate::access::{Op, Reg};
 use crate::memory::Memory;
 use crate::object::Out;
@@ -8,7 +7,7 @@ use crate::object::Out;
 impl ConciliatorPlace {
     ghost use Rattle.std.specs.Prelude.{◌≡◌, ◌<◌, ◌≤◌, ◌+◌, false, ℕ};
     ghost use Rattle.mb_quorum.specs.Vocabulary.{QuorumTable};
-    ghost use Rattle.mb_deciding.specs.{Op, InConciliator, Draw, Put, Look, next_from, turns_left};
+    ghost use Rattle.mb_deciding.specs.{Op, Pc, InConciliator, Draw, Put, Look, next_from, turns_left};
     ghost use Rattle.mb_deciding.specs.{turns_after};
     ghost use Rattle.mb_deciding.specs.{IsConciliatorPlace, IsConciliatorOp, IsNext, ConciliatorReaches, IsStep};
 
@@ -23,24 +22,27 @@ impl ConciliatorPlace {
         }
     }
 
-    /// What the access leads to in a conciliator for so many values, where `seen` is the loaded value and `word` the
-    /// random word.
+    /// Goes on to the place that the access leads to, or answers the output, in a conciliator for so many values. `seen`
+    /// is the loaded value and `word` the random word.
     #[inline(always)]
-    pub(crate) fn after(self, values: u32, seen: u64, word: u64) -> Next
-        requires { IsConciliatorPlace values self }
-        ensures fits { (t : QuorumTable) → t.values ≡ values → IsNext t result }
+    pub(crate) fn after(&mut self, values: u32, seen: u64, word: u64) -> Option<Out>
+        requires { IsConciliatorPlace values self.old }
+        ensures fits { (t : QuorumTable) → t.values ≡ values
+            → IsNext t (next_from result (InConciliator self.new)) }
         ensures fewer { (t : QuorumTable)
-            → turns_after t result < turns_left t (InConciliator self) }
+            → turns_after t (next_from result (InConciliator self.new))
+            < turns_left t (InConciliator self.old) }
         ensures reached { (t : QuorumTable) → t.values ≡ values
-            → ConciliatorReaches t self seen word result }
+            → ConciliatorReaches t self.old seen word
+            (next_from result (InConciliator self.new)) }
     {
-        match self {
+        match *self {
             Self::Draw {
                 input,
                 limit,
                 modulus,
-            } => Self::drawn(values, input, limit, modulus, seen, word),
-            Self::Put { input } => Self::put(input),
+            } => self.drawn(values, input, limit, modulus, seen, word),
+            Self::Put { input } => self.put(input),
             Self::Look { input } => Self::looked(values, input, seen),
         }
     }
@@ -49,89 +51,108 @@ impl ConciliatorPlace {
     /// to, or answers the output.
     #[inline(always)]
     pub(crate) fn step<M: Memory>(
-        self,
+        &mut self,
         values: u32,
         memory: &mut M,
         object: u32,
         word: u64,
-        place: &mut Pc,
     ) -> Option<Out>
-        requires place { IsConciliatorPlace values self }
-        requires may { (op : Op) → IsConciliatorOp self op → M.can_make memory.old object op }
-        ensures fits { (t : QuorumTable) → t.values ≡ values → IsNext t
-            (next_from result place.new) }
+        requires place { IsConciliatorPlace values self.old }
+        requires may { (op : Op) → IsConciliatorOp self.old op → M.can_make memory.old object op }
+        ensures fits { (t : QuorumTable) → t.values ≡ values
+            → IsNext t (next_from result (InConciliator self.new)) }
         ensures fewer { (t : QuorumTable)
-            → turns_after t (next_from result place.new) < turns_left t (InConciliator self) }
-        ensures step { (t : QuorumTable) → t.values ≡ values → IsStep t (InConciliator self)
-            (λ op seen. M.makes memory.old object op seen memory.new) word (next_from result place.new) }
+            → turns_after t (next_from result (InConciliator self.new))
+            < turns_left t (InConciliator self.old) }
+        ensures step { (t : QuorumTable) → t.values ≡ values → IsStep t (InConciliator self.old)
+            (λ op seen. M.makes memory.old object op seen memory.new) word
+            (next_from result (InConciliator self.new)) }
     {
-        match self {
+        match *self {
             Self::Draw {
                 input,
                 limit,
                 modulus,
             } => {
                 let seen = memory.perform(object, Op::Load(Reg::Value));
-                place.settle(Self::drawn(values, input, limit, modulus, seen, word))
+                self.drawn(values, input, limit, modulus, seen, word)
             }
             Self::Put { input } => {
                 memory.perform(object, Op::Store(Reg::Value, u64::from(input) + 1));
-                place.settle(Self::put(input))
+                self.put(input)
             }
             Self::Look { input } => {
                 let seen = memory.perform(object, Op::Load(Reg::Value));
-                place.settle(Self::looked(values, input, seen))
+                Self::looked(values, input, seen)
             }
         }
     }
 
     /// After the load of a process that has not stored.
     #[inline(always)]
-    fn drawn(values: u32, input: u32, limit: u64, modulus: u64, seen: u64, word: u64) -> Next
+    fn drawn(
+        &mut self,
+        values: u32,
+        input: u32,
+        limit: u64,
+        modulus: u64,
+        seen: u64,
+        word: u64,
+    ) -> Option<Out>
         requires { IsConciliatorPlace values (Draw input limit modulus) }
-        ensures fits { (t : QuorumTable) → t.values ≡ values → IsNext t result }
+        ensures fits { (t : QuorumTable) → t.values ≡ values
+            → IsNext t (next_from result (InConciliator self.new)) }
         ensures fewer { (t : QuorumTable)
-            → turns_after t result < turns_left t (InConciliator (Draw input limit modulus)) }
+            → turns_after t (next_from result (InConciliator self.new))
+            < turns_left t (InConciliator (Draw input limit modulus)) }
         ensures reached { (t : QuorumTable) → t.values ≡ values
-            → ConciliatorReaches t (Draw input limit modulus) seen word result }
+            → ConciliatorReaches t (Draw input limit modulus) seen word
+            (next_from result (InConciliator self.new)) }
     {
         if seen != 0 {
-            Next::Out(Self::met(values, input, seen))
+            Some(Self::met(values, input, seen))
         } else if word & (modulus - 1) < limit {
-            Next::Go(Pc::InConciliator(Self::Put { input }))
+            *self = Self::Put { input };
+            None
         } else {
             let limit = limit * 2;
-            Next::Go(Pc::InConciliator(Self::Draw {
+            *self = Self::Draw {
                 input,
                 limit,
                 modulus,
-            }))
+            };
+            None
         }
     }
 
     /// After the store of the input.
     #[inline(always)]
-    fn put(input: u32) -> Next
-        ensures fits { (t : QuorumTable) → input < t.values → IsNext t result }
+    fn put(&mut self, input: u32) -> Option<Out>
+        ensures fits { (t : QuorumTable) → input < t.values
+            → IsNext t (next_from result (InConciliator self.new)) }
         ensures fewer { (t : QuorumTable)
-            → turns_after t result < turns_left t (InConciliator (Put input)) }
+            → turns_after t (next_from result (InConciliator self.new))
+            < turns_left t (InConciliator (Put input)) }
         ensures reached { (t : QuorumTable) (seen word : ℕ)
-            → ConciliatorReaches t (Put input) seen word result }
+            → ConciliatorReaches t (Put input) seen word
+            (next_from result (InConciliator self.new)) }
     {
-        Next::Go(Pc::InConciliator(Self::Look { input }))
+        *self = Self::Look { input };
+        None
     }
 
-    /// After the load of a process that has stored.
+    /// After the load of a process that has stored, wherever it stands then.
     #[inline(always)]
-    fn looked(values: u32, input: u32, seen: u64) -> Next
+    fn looked(values: u32, input: u32, seen: u64) -> Option<Out>
         requires { input < values }
-        ensures fits { (t : QuorumTable) → t.values ≡ values → IsNext t result }
-        ensures fewer { (t : QuorumTable)
-            → turns_after t result < turns_left t (InConciliator (Look input)) }
-        ensures reached { (t : QuorumTable) (word : ℕ) → t.values ≡ values
-            → ConciliatorReaches t (Look input) seen word result }
+        ensures fits { (t : QuorumTable) (pc : Pc) → t.values ≡ values
+            → IsNext t (next_from result pc) }
+        ensures fewer { (t : QuorumTable) (pc : Pc)
+            → turns_after t (next_from result pc) < turns_left t (InConciliator (Look input)) }
+        ensures reached { (t : QuorumTable) (pc : Pc) (word : ℕ) → t.values ≡ values
+            → ConciliatorReaches t (Look input) seen word (next_from result pc) }
     {
-        Next::Out(Self::met(values, input, seen))
+        Some(Self::met(values, input, seen))
     }
 
     /// The output of a process with this input that loaded `seen`: the value that stands there,

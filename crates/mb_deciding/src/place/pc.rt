@@ -22,28 +22,9 @@ pub enum Next {
     Out(Out),
 }
 
-impl Pc {
-    ghost use Rattle.std.specs.Prelude.{◌≡◌};
-    ghost use Rattle.mb_deciding.specs.{next_from};
-
-    /// Goes on to the next place, or answers the output.
-    #[inline(always)]
-    pub(crate) fn settle(&mut self, next: Next) -> Option<Out>
-        ensures { next_from result self.new ≡ next }
-    {
-        match next {
-            Next::Go(place) => {
-                *self = place;
-                None
-            }
-            Next::Out(out) => Some(out),
-        }
-    }
-}
-
 impl Next {
     ghost use Rattle.std.specs.Prelude.{◌≡◌};
-    ghost use Rattle.mb_deciding.specs.{next_from, out_of};
+    ghost use Rattle.mb_deciding.specs.{next_from, come_to, out_of};
 
     /// From a place and the output, if there is one.
     #[inline(always)]
@@ -53,6 +34,16 @@ impl Next {
         match out {
             None => Next::Go(place),
             Some(out) => Next::Out(out),
+        }
+    }
+
+    /// On to the output, if there is one.
+    #[inline(always)]
+    pub(crate) fn end(&mut self, out: Option<Out>)
+        ensures { self.new ≡ come_to out self.old }
+    {
+        if let Some(out) = out {
+            *self = Next::Out(out);
         }
     }
 

@@ -2,14 +2,15 @@
 ghost use Rattle.std.specs.Prelude.{◌≤◌};
 
 use crate::memory::Memory;
-use crate::place::{Next, Pc};
+use crate::object::Out;
+use crate::place::Pc;
 use mb_quorum::Quorums;
 
 /// An object of one kind, as a run steps it.
 pub trait Machine {
     ghost use Rattle.std.specs.Prelude.{◌≡◌, ◌<◌, ℕ, List, []};
     ghost use Rattle.mb_quorum.specs.Quorum.{QuorumTable};
-    ghost use Rattle.mb_deciding.specs.{Op, Turn, Kind, IsAt, IsOpAt, IsStep, IsTableFor, IsSameFor};
+    ghost use Rattle.mb_deciding.specs.{Op, Turn, Kind, IsAt, IsOpAt, IsStep, IsTableFor, IsSameFor, next_from};
 
     /// The kind of the object.
     ghost kind: { Self → Kind };
@@ -27,13 +28,16 @@ pub trait Machine {
         ensures { (t : QuorumTable) → IsSameFor (kind self.now) t (table self.now)
             → IsAt t (kind self.now) input result [] };
 
-    /// Makes the access that comes next, with this random word, and answers what it leads to.
-    fn step<W: Memory>(&self, pc: Pc, memory: &mut W, word: u64) -> Next
+    /// Makes the access that comes next, with this random word, and goes on to the place that it leads to, or answers
+    /// the output.
+    fn step<W: Memory>(&self, pc: &mut Pc, memory: &mut W, word: u64) -> Option<Out>
         requires place { (v : ℕ) × (turns : List Turn)
-            × IsAt (table self.now) (kind self.now) v pc turns }
-        requires may { (op : Op) → IsOpAt (table self.now) pc op → W.can_make memory.old 0 op }
+            × IsAt (table self.now) (kind self.now) v pc.old turns }
+        requires may { (op : Op) → IsOpAt (table self.now) pc.old op
+            → W.can_make memory.old 0 op }
         ensures { (t : QuorumTable) → IsSameFor (kind self.now) t (table self.now)
-            → IsStep t pc (λ op seen. W.makes memory.old 0 op seen memory.new) word result };
+            → IsStep t pc.old (λ op seen. W.makes memory.old 0 op seen memory.new) word
+            (next_from result pc.new) };
 
     /// The table is one for the kind.
     ghost lawful: { (m : Self) → IsTableFor (kind m) (table m) };
@@ -64,7 +68,7 @@ impl<Q: Quorums + Drop> Machine for RatifierMachine<Q> {
     }
 
     #[inline(always)]
-    fn step<W: Memory>(&self, pc: Pc, memory: &mut W, word: u64) -> Next {
+    fn step<W: Memory>(&self, pc: &mut Pc, memory: &mut W, word: u64) -> Option<Out> {
         pc.step(&self.table, memory, 0, word)
     }
 
@@ -99,13 +103,9 @@ impl Machine for ConciliatorMachine {
     }
 
     #[inline(always)]
-    fn step<W: Memory>(&self, pc: Pc, memory: &mut W, word: u64) -> Next {
+    fn step<W: Memory>(&self, pc: &mut Pc, memory: &mut W, word: u64) -> Option<Out> {
         match pc {
-            Pc::InConciliator(place) => {
-                let mut next = pc;
-                let out = place.step(self.values, memory, 0, word, &mut next);
-                Next::from_place(next, out)
-            }
+            Pc::InConciliator(place) => place.step(self.values, memory, 0, word),
             Pc::InRatifier(_) => unreachable!(),
         }
     }

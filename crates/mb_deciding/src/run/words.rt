@@ -3,7 +3,7 @@ use crate::access::{Act, Op, Reg};
 use crate::memory::Memory;
 
 /// The words of one object. A conciliator uses the first, a ratifier the others.
-#[derive(Clone, Copy, Debug)]
+#[derive(Drop)]
 pub struct Words {
     value: u64,
     proposal: u64,

@@ -1,4 +1,5 @@
-use Rattle.std.proofs.Common.{◌≡◌, ◌≢◌, ◌↔◌, Bool, true, false, IsTrue, sym, ◌∙◌, subst}
+use Rattle.std.proofs.Common.{◌≡◌, ◌≢◌, ◌↔◌, Bool, true, false, IsTrue, set, ap, sym, ◌∙◌, subst}
+use Rattle.std.proofs.lemmas.List.{set-get_or}
 use Rattle.std.proofs.lemmas.Bool.{false≢true}
 use Rattle.mb_claim.specs.{Stage, Going, BoardState, IsBoard}
 use Rattle.mb_claim.proofs.RunSteps.{board_done, board_stepped, held}
@@ -16,10 +17,14 @@ pub returns-then-not-is_going : goal.returns-then-not-is_going
 returns-then-not-is_going g c = record {
   board = λ steps old.
       let layout = c.args.layout.now in
-      let claim = c.index.result.now in
+      let claim = c.index_mut-claim.result.now in
+      let found = c.index_mut-claim.ensures.value in
+      let claims = c.self.inside.claims.items in
+      let kept : set claims c.args.consumer claim ≡ claims =
+      ap (set claims c.args.consumer) found ∙ set-get_or claims c.args.consumer claim in
       let ran = subst (λ (b : BoardState). IsBoard layout steps b) (sym c.self.view_is) old in
-      rw (c.in_ok-push.ensures.items)
-      (board_done layout steps _ ran c.args.consumer c.args.word c.requires.consumer claim c.index.ensures
+      rw (c.in_ok-push.ensures.items, kept)
+      (board_done layout steps _ ran c.args.consumer c.args.word c.requires.consumer claim found
       (is_ended c.is_going.result claim.stage c.stage.result c.stage.ensures c.is_going.ensures c.if-not-is_going.true));
 }
 
@@ -27,13 +32,14 @@ pub returns : goal.returns
 returns g c = record {
   board = λ steps old.
       let layout = c.args.layout.now in
-      let claim = c.index.result.now in
+      let claim = c.index_mut-claim.result.now in
+      let found = c.index_mut-claim.ensures.value in
       let made = c.step-made in
       let ran = subst (λ (b : BoardState). IsBoard layout steps b) (sym c.self.view_is) old in
       let going = is_going c.is_going.result claim.stage c.stage.result c.stage.ensures c.is_going.ensures
       c.if-not-is_going.false in
       rw (c.in_ok-push-2.ensures.items)
-      (board_stepped layout steps _ ran c.args.consumer c.args.word c.requires.consumer claim c.index.ensures going
+      (board_stepped layout steps _ ran c.args.consumer c.args.word c.requires.consumer claim found going
       made.new.claim made.ensures.consumer made.result.step made.ensures.word made.new.self
-      (made.ensures.held 1 _ (held layout steps _ ran c.args.consumer c.args.word c.requires.consumer claim c.index.ensures)));
+      (made.ensures.held 1 _ (held layout steps _ ran c.args.consumer c.args.word c.requires.consumer claim found)));
 }

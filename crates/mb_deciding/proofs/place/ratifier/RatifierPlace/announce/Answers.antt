@@ -4,27 +4,13 @@ use Rattle.mb_deciding.specs.declared.access.Op.TheVariants as to
 use Rattle.mb_deciding.proofs.OneStep.{ratifier_step}
 use Rattle.mb_deciding.proofs.place.ratifier.RatifierPlace.announce.Goals as goal
 
-pub returns-then-left-eq0-clause-fits : goal.returns-then-left-eq0-clause-fits
-returns-then-left-eq0-clause-fits g c = rw (c.settle.ensures) (c.found.ensures.fits)
-
-pub returns-then-left-eq0-clause-fewer : goal.returns-then-left-eq0-clause-fewer
-returns-then-left-eq0-clause-fewer g c = rw (c.settle.ensures) (c.found.ensures.fewer)
-
 pub returns-then-left-eq0-clause-step : goal.returns-then-left-eq0-clause-step
 returns-then-left-eq0-clause-step g c word =
-    rw (c.settle.ensures)
-    (ratifier_step (g.Q.Quorums.table c.args.q.now) (Announce c.args.input c.args.left) _ (to.Load Proposal)
-    c.perform-seen.result word _ c.if-left-eq0.true c.perform-seen.ensures c.found.ensures.reached)
-
-pub returns-else-left-eq0-clause-fits : goal.returns-else-left-eq0-clause-fits
-returns-else-left-eq0-clause-fits g c = rw (c.settle-else-left-eq0.ensures) (c.stored.ensures.fits)
-
-pub returns-else-left-eq0-clause-fewer : goal.returns-else-left-eq0-clause-fewer
-returns-else-left-eq0-clause-fewer g c = rw (c.settle-else-left-eq0.ensures) (c.stored.ensures.fewer)
+    ratifier_step (g.Q.Quorums.table c.args.q.now) (Announce c.args.input c.args.left) _ (to.Load Proposal)
+    c.perform-seen.result word _ c.if-left-eq0.true c.perform-seen.ensures c.found.ensures.reached
 
 pub returns-else-left-eq0-clause-step : goal.returns-else-left-eq0-clause-step
 returns-else-left-eq0-clause-step g c word =
-    rw (c.settle-else-left-eq0.ensures)
-    (ratifier_step (g.Q.Quorums.table c.args.q.now) (Announce c.args.input c.args.left) _
+    ratifier_step (g.Q.Quorums.table c.args.q.now) (Announce c.args.input c.args.left) _
     (to.Store (Quorum c.least.result) 1) c.perform.result word _ (refl, c.least.ensures.member) c.perform.ensures
-    (c.stored.ensures.reached c.perform.result))
+    (c.stored.ensures.reached c.perform.result)

@@ -14,24 +14,12 @@ returns-in-Announce-clause-step g c word = rw (c.in-Announce.is) (c.announce-in-
 
 pub returns-in-Propose-clause-step : goal.returns-in-Propose-clause-step
 returns-in-Propose-clause-step g c word =
-    rw (c.settle.ensures, c.in-Propose.is) (ratifier_step (g.Q.Quorums.table c.args.q.now) (Propose c.in-Propose.input) _
+    rw (c.in-Propose.is) (ratifier_step (g.Q.Quorums.table c.args.q.now) (Propose c.in-Propose.input) _
     (to.Store Proposal (c.in-Propose.input + 1)) c.perform.result word _
     refl (rw (c.from.ensures) at c.perform.ensures) (c.proposed.ensures.reached c.perform.result))
 
 pub returns-in-Check-clause-step : goal.returns-in-Check-clause-step
 returns-in-Check-clause-step g c word =
-    rw (c.settle-in-Check.ensures, c.in-Check.is) (ratifier_step (g.Q.Quorums.table c.args.q.now) (Check c.in-Check.preference c.in-Check.left) _
+    rw (c.in-Check.is) (ratifier_step (g.Q.Quorums.table c.args.q.now) (Check c.in-Check.preference c.in-Check.left) _
     (to.Load (Quorum c.least.result)) c.perform-seen.result word _
     c.least.ensures.member c.perform-seen.ensures c.checked.ensures.reached)
-
-pub returns-in-Propose-clause-fits : goal.returns-in-Propose-clause-fits
-returns-in-Propose-clause-fits g c = rw (c.settle.ensures) (c.proposed.ensures.fits)
-
-pub returns-in-Propose-clause-fewer : goal.returns-in-Propose-clause-fewer
-returns-in-Propose-clause-fewer g c = rw (c.settle.ensures, c.in-Propose.is) (c.proposed.ensures.fewer)
-
-pub returns-in-Check-clause-fits : goal.returns-in-Check-clause-fits
-returns-in-Check-clause-fits g c = rw (c.settle-in-Check.ensures) (c.checked.ensures.fits)
-
-pub returns-in-Check-clause-fewer : goal.returns-in-Check-clause-fewer
-returns-in-Check-clause-fewer g c = rw (c.settle-in-Check.ensures, c.in-Check.is) (c.checked.ensures.fewer)

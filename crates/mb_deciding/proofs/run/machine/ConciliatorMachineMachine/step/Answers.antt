@@ -1,4 +1,4 @@
 use Rattle.mb_deciding.proofs.run.machine.ConciliatorMachineMachine.step.Goals as goal
 
 pub returns : goal.returns
-returns g c t same = rw (c.from_place.ensures, c.in-InConciliator.is) (c.step-out.ensures.step t same)
+returns g c t same = rw (c.in-InConciliator.is) (c.step.ensures.step t same)

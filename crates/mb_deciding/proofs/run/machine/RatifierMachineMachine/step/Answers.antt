@@ -1,14 +1,14 @@
 use Rattle.std.proofs.Common.{sym, subst}
-use Rattle.mb_deciding.specs.{IsStep}
+use Rattle.mb_deciding.specs.{IsStep, next_from}
 use Rattle.mb_deciding.proofs.RunsTables.{ratifier_place}
 use Rattle.mb_deciding.proofs.run.machine.RatifierMachineMachine.step.Goals as goal
 
 pub step-requires-clause-place : goal.step-requires-clause-place
 step-requires-clause-place g c =
     let (v, turns, at) = c.requires.place in
-    ratifier_place (g.Q.Quorums.table c.args.self.now.table) v c.args.pc turns at
+    ratifier_place (g.Q.Quorums.table c.args.self.now.table) v c.args.pc.now turns at
 
 pub returns : goal.returns
 returns g c t same =
-    subst (λ x. IsStep x c.args.pc (λ op seen. g.W.Memory.makes c.args.memory.now 0 op seen c.step.new.memory)
-    c.args.word c.step.result) (sym same) (c.step.ensures.step)
+    subst (λ x. IsStep x c.args.pc.now (λ op seen. g.W.Memory.makes c.args.memory.now 0 op seen c.step.new.memory)
+    c.args.word (next_from c.step.result c.step.new.self)) (sym same) (c.step.ensures.step)
