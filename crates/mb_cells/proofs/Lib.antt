@@ -20,3 +20,5 @@ pub mod ReaderParts
 pub mod ExamplePools
 pub mod PutLists
 pub mod Blocks
+pub mod Totals
+pub mod LaneRefusals

@@ -2,9 +2,9 @@
 use Rattle.std.proofs.Common.{Bool, List, [], ap, eq-eqb, eqb-true, false, inl, inr, refl, subst, sym, true, ℕ, ◌++◌, ◌+◌, ◌||◌, ◌∙◌, ◌∷◌, ◌≡◌, ◌≢◌}
 use Rattle.std.specs.Prelude.{filter, nat_eq}
 use Rattle.std.proofs.lemmas.Bool.{cases_Bool, cond_both, false≢true}
-use Rattle.mb_cells.specs.{Counter, END, Gave, Has, HasLoaded, HasMet, Head, History, IsGift, IsLinkWord, IsPoolLawful, IsReaderPath, Item, Link, Load, MayRead, PoolAccess, PoolSize, Reader, Word, has_cell, is_of_lane, is_same_process, linked_cells, load, part, part_on}
+use Rattle.mb_cells.specs.{Counter, END, Gave, Has, HasLoaded, HasMet, Head, History, IsGift, IsLinkWord, IsOnceEach, IsPoolLawful, IsReaderPath, Item, Link, Load, MayRead, PoolAccess, PoolSize, Reader, Word, has_cell, is_of_lane, is_same_process, linked_cells, load, part, part_on, place_past}
 use Rattle.mb_cells.proofs.Histories.{met_all, met_start}
-use Rattle.mb_cells.proofs.Items.{gift-load, given, one_lane}
+use Rattle.mb_cells.proofs.Items.{gift-load, given, once_each, one_lane}
 use Rattle.mb_cells.proofs.Names.{access_is, is_same_process-refl}
 use Rattle.mb_cells.proofs.Parts.{Has-of_part, Has-part, part_by}
 use Rattle.mb_cells.proofs.ReaderChains.{HasMet-more, met-of, on_chain}
@@ -206,3 +206,61 @@ all_met size h r p (Link k) l link on loaded =
     let met : HasMet r p (k ∷ ks) h = subst (λ q. HasMet r q (k ∷ ks) h) same chain.1.1 in
     subst (λ js. HasMet r p js h) (met_all size h r p (k ∷ ks) l met loaded) met
 all_met size h r p (Item k) l link on loaded = absurd link
+
+-- what was met is told by the reader's part
+pub met_own : (h : History) (r p : ℕ) (ks : List ℕ) → HasMet r p ks h → HasMet r p ks (part (Reader r) h)
+met_own h r p [] met = tt
+met_own h r p (k ∷ ks) met = (
+  Has-part (Reader r) h (load r (place_past p ks) (k + 1)) met.0 (is_same_process-refl (Reader r)),
+  met.1,
+  met_own h r p ks met.2,
+)
+
+-- who loaded a word of a cell was given the cell
+pub gave_link : (size : PoolSize) (h : History) (r k v : ℕ) → IsPoolLawful size h → HasLoaded r (Link k) v h
+    → Gave k (part (Reader r) h)
+gave_link size h r k v l has =
+    may-now size.lanes (part (Reader r) h) (load r (Link k) v) (l.readers r)
+    (Has-part (Reader r) h (load r (Link k) v) has (is_same_process-refl (Reader r)))
+
+pub gave_item : (size : PoolSize) (h : History) (r k v : ℕ) → IsPoolLawful size h → HasLoaded r (Item k) v h
+    → Gave k (part (Reader r) h)
+gave_item size h r k v l has =
+    may-now size.lanes (part (Reader r) h) (load r (Item k) v) (l.readers r)
+    (Has-part (Reader r) h (load r (Item k) v) has (is_same_process-refl (Reader r)))
+
+has_behind : (xs js : List ℕ) (k : ℕ) → Has (xs ++ k ∷ js) k
+has_behind [] js k = inl refl
+has_behind (y ∷ xs) js k = inr (has_behind xs js k)
+
+-- where a list has a cell once, what stands behind it is one list
+one_rest : (later other ks js : List ℕ) (k : ℕ) → IsOnceEach (later ++ k ∷ ks) → later ++ k ∷ ks ≡ other ++ k ∷ js
+    → ks ≡ js
+one_rest [] [] ks js k once is = tail_is ks js k is
+  where
+    tail_is : (ks js : List ℕ) (k : ℕ) → k ∷ ks ≡ k ∷ js → ks ≡ js
+    tail_is ks js k is = cc
+one_rest [] (x ∷ other) ks js k once is =
+    absurd (once.0 (subst (λ l. Has l k) (sym (tail_is ks (other ++ k ∷ js) k x is)) (has_behind other js k)))
+  where
+    tail_is : (ks ls : List ℕ) (k x : ℕ) → k ∷ ks ≡ x ∷ ls → ks ≡ ls
+    tail_is ks ls k x is = cc
+one_rest (x ∷ later) [] ks js k once is =
+    absurd (once.0 (subst (λ z. Has (later ++ k ∷ ks) z) (sym (head_is x k (later ++ k ∷ ks) js is))
+    (has_behind later ks k)))
+  where
+    head_is : (x k : ℕ) (ls js : List ℕ) → x ∷ ls ≡ k ∷ js → x ≡ k
+    head_is x k ls js is = cc
+one_rest (x ∷ later) (y ∷ other) ks js k once is =
+    one_rest later other ks js k once.1 (tails (later ++ k ∷ ks) (other ++ k ∷ js) x y is)
+  where
+    tails : (ls ms : List ℕ) (x y : ℕ) → x ∷ ls ≡ y ∷ ms → ls ≡ ms
+    tails ls ms x y is = cc
+
+-- so one way leads to a cell
+pub one_way : (size : PoolSize) (h : History) (r p k : ℕ) (ks js : List ℕ) → IsPoolLawful size h
+    → HasMet r p (k ∷ ks) h → HasMet r p (k ∷ js) h → ks ≡ js
+one_way size h r p k ks js l met also =
+    let s = met_start size h r p (k ∷ ks) l met in
+    let t = met_start size h r p (k ∷ js) l also in
+    one_rest s.0 t.0 ks js k (subst IsOnceEach (sym s.1) (once_each size h p l)) (s.1 ∙ sym t.1)

@@ -1,9 +1,10 @@
 -- What a history puts into the lanes.
-use Rattle.std.specs.Prelude.{Bool, List, None, Option, Some, [], false, if◌then◌else◌, map, nat_eq, reverse, ℕ, ◌-◌, ◌||◌, ◌∷◌, ◌≡◌}
+use Rattle.std.specs.Prelude.{Bool, List, None, Option, Some, [], false, if◌then◌else◌, length, map, nat_eq, reverse, suc, zero, ℕ, ◌+◌, ◌-◌, ◌<◌, ◌||◌, ◌∷◌, ◌≡◌}
 use Rattle.mb_cells.specs.declared.answer.Look.TheVariants as look
 use Rattle.mb_cells.specs.Types.{Counter, END, FetchAdd, Head, Link, Look, PoolAccess, PoolAct, Producer, Store, Word}
+use Rattle.mb_cells.specs.Size.{PoolSize}
 use Rattle.mb_cells.specs.Memory.{Has, History, is_same_process, is_same_word}
-use Rattle.mb_cells.specs.LanePath.{Entry}
+use Rattle.mb_cells.specs.LanePath.{Entry, fetch}
 
 -- the cell that a store to a head or link links
 abbrev pub link_of : Word → PoolAct → Option ℕ
@@ -73,3 +74,13 @@ IsOnceEach (k ∷ ks) = (Has ks k → ⊥) × IsOnceEach ks
 abbrev pub WasHandedOut : ℕ → History → Type 0
 WasHandedOut k h =
     (a : PoolAccess) × (Has h a × ((a.word ≡ Counter) × ((x : ℕ) × (a.act ≡ FetchAdd x k))))
+
+-- how many items are put into the first n lanes
+abbrev pub items_put : ℕ → History → ℕ
+items_put zero h = 0
+items_put (suc n) h = length (put_list n h) + items_put n h
+
+-- each cell that a producer got is linked in its lane
+abbrev pub AllLinked : PoolSize → History → Type 0
+AllLinked size h =
+    (p : ℕ) (e : Entry) → Has h (fetch p e) → e.cell < size.cells → Has (linked_cells p h) e.cell

@@ -9,6 +9,7 @@ pub mod Met
 pub mod Place
 pub mod Reading
 pub mod Standing
+pub mod Refusals
 pub mod State
 pub mod Block
 pub mod Calls

@@ -5,11 +5,12 @@ pub use Rattle.mb_cells.specs.Memory.{Has, History, IsMemoryTrue, ReadsLast, fet
 pub use Rattle.mb_cells.specs.LanePath.{AllCellsBelow, Entry, FindsNoCell, IsLanePath, IsLanePrefix, ending, fetch, groups, place_after, refusal, store}
 pub use Rattle.mb_cells.specs.ReaderPath.{Gave, IsGift, IsLoad, IsReaderPath, MayRead}
 pub use Rattle.mb_cells.specs.Lawful.{ActFits, AllFit, IsPoolLawful, ProcessFits}
-pub use Rattle.mb_cells.specs.Lanes.{IsOnceEach, WasHandedOut, entry_at, entry_of, has_ended, item_after, item_of, lane_end, link_of, linked_cells, marks_end, push_if, put_list}
+pub use Rattle.mb_cells.specs.Lanes.{AllLinked, IsOnceEach, WasHandedOut, entry_at, entry_of, has_ended, item_after, item_of, items_put, lane_end, link_of, linked_cells, marks_end, push_if, put_list}
 pub use Rattle.mb_cells.specs.Met.{HasLoaded, HasMet, IsLinkWord, IsStart, has_cell, is_of_lane, load, part_on, place_past}
 pub use Rattle.mb_cells.specs.Place.{IsAt, Phase, PhaseFits, Steps, part_at, takes_cell, finds_none, fills_cell, links_cell, ends_lane, ends_refused}
 pub use Rattle.mb_cells.specs.Reading.{Reads, look_after, look_of, word_of}
 pub use Rattle.mb_cells.specs.Standing.{IsLaneAfter, IsPoolWord, IsLaneWord, finish_answer, finish_refusal, history_after_finish, history_after_offer, history_after_push, is_full, lane_after_finish, lane_after_offer, lane_after_push, last_after_push, last_of, link_after, new_lane, next_link, offer_answer, offer_by_found, offer_refusal, push_answer, push_store, stage_after_push, stage_finish_refusal, stage_of, stage_offer_refusal, stage_push_answer, stage_push_store}
+pub use Rattle.mb_cells.specs.Refusals.{HasFoundNone, HasPending}
 pub use Rattle.mb_cells.specs.State.{HasWord, HoldsWords, IsAfter, IsShownAlike, IsSound, IsWithin, PoolState, PoolWords, SameSize, cell_count, item_in, lane_count, look_in, size_of, word_in, words_with}
 pub use Rattle.mb_cells.specs.Block.{IsMemoryOf, IsStateOf, address_of, block_after, parts_after, words_of}
 pub use Rattle.mb_cells.specs.Calls.{FinishKeeps, FinishMeets, LoadGoesOn, OfferKeeps, OfferMeets, PushMeets}

@@ -1,17 +1,21 @@
 //! Laws over the lawful histories of a pool, and over lists of its calls. The functions compute nothing: their
 //! contracts are the laws. A law that is not proved by its contract alone has its proof in `proofs/laws`, in a folder of
 //! its name, over the lemmas of `proofs`.
-ghost use Rattle.std.specs.Prelude.{◌≡◌, ◌+◌, ◌-◌, ◌<◌, ◌≤◌, ◌⊎◌, ◌∷◌, ◌++◌, ◌^◌, ℕ, List, Bool, Some, true};
-ghost use Rattle.std.specs.Prelude.{filter, if◌then◌else◌, []};
+ghost use Rattle.std.specs.Prelude.{◌≡◌, ◌≢◌, ◌↔◌, ◌+◌, ◌-◌, ◌<◌, ◌≤◌, ◌⊎◌, ◌∷◌, ◌++◌, ◌^◌, ℕ, List, [], Bool, true};
+ghost use Rattle.std.specs.Prelude.{filter, if◌then◌else◌, length, None, Some, false};
+ghost use Rattle.mb_cells.specs.{AllLinked, IsLaneAfter, Lane, items_put, push_store};
 ghost use Rattle.mb_cells.specs.{Call, Counter, END, Entry, FetchAdd, Gave, Has, HasLoaded, HasMade, HasMet, Head};
 ghost use Rattle.mb_cells.specs.{History, IsAfter, IsAnswerBy, IsLinkWord, IsOnceEach, IsPoolLawful, IsReaderPath};
 ghost use Rattle.mb_cells.specs.{IsStart, Item, Link, Offered, PoolAccess, PoolSize, PoolState, Producer, Reader};
 ghost use Rattle.mb_cells.specs.{Reads, WasGivenBy, WasHandedOut, Word, cell_count, fetch, fetch_adds_by};
 ghost use Rattle.mb_cells.specs.{fetch_adds_on, has_ended, is_of_lane, item_in, item_of, lane_count, lane_end};
-ghost use Rattle.mb_cells.specs.{lane_end_by, linked_cells, linked_cells_by, look_after, look_in, part, part_on};
+ghost use Rattle.mb_cells.specs.{lane_end_by, linked_cells, linked_cells_by, look_after, look_in, look_of, part, part_on};
+ghost use Rattle.mb_cells.specs.{HasFoundNone, HasPending, finish_refusal, offer_refusal};
 ghost use Rattle.mb_cells.specs.{place_past, put_list, put_list_by, stored_by, value_in};
 ghost use Rattle.mb_cells.specs.declared.cursor.Cursor.TheVariants as cursor;
+ghost use Rattle.mb_cells.specs.declared.answer.Finish.TheVariants as finish;
 ghost use Rattle.mb_cells.specs.declared.answer.Offer.TheVariants as offer;
+ghost use Rattle.mb_cells.specs.declared.answer.Look.TheVariants as look;
 
 /// What a reader has met on a lane is what the lane began with, in the order of linking.
 pub fn readers_follow_lanes()
@@ -22,9 +26,25 @@ pub fn readers_follow_lanes()
     ensures part { (size : PoolSize) (h : History) (r p : ℕ) (ks : List ℕ) → IsPoolLawful size h
         → HasMet r p ks (part (Reader r) h) → IsStart ks (linked_cells p h) }
 
+    // What a reader has met is told by its own part, and by that alone.
+    ensures own { (h : History) (r p : ℕ) (ks : List ℕ) → HasMet r p ks h
+        → HasMet r p ks (part (Reader r) h) }
+    ensures whole { (h : History) (r p : ℕ) (ks : List ℕ) → HasMet r p ks (part (Reader r) h)
+        → HasMet r p ks h }
+
+    // One way leads to a cell.
+    ensures one_way { (size : PoolSize) (h : History) (r p k : ℕ) (ks js : List ℕ)
+        → IsPoolLawful size h → HasMet r p (k ∷ ks) h → HasMet r p (k ∷ js) h → ks ≡ js }
+
     // A reader was given no cell but those that it met.
     ensures chains { (size : PoolSize) (h : History) (r k : ℕ) → IsPoolLawful size h
         → Gave k (part (Reader r) h) → (p : ℕ) × ((ks : List ℕ) × HasMet r p (k ∷ ks) h) }
+
+    // It was given each cell whose words it loaded.
+    ensures link { (size : PoolSize) (h : History) (r k v : ℕ) → IsPoolLawful size h
+        → HasLoaded r (Link k) v h → Gave k (part (Reader r) h) }
+    ensures item { (size : PoolSize) (h : History) (r k v : ℕ) → IsPoolLawful size h
+        → HasLoaded r (Item k) v h → Gave k (part (Reader r) h) }
 {}
 
 /// What any list of calls comes to, said by the calls and their answers alone.
@@ -94,6 +114,28 @@ pub fn cells_stand_once()
         → IsOnceEach (linked_cells p h) }
     ensures within { (size : PoolSize) (h : History) (p k : ℕ) → IsPoolLawful size h
         → Has (linked_cells p h) k → (p < size.lanes) × (k < size.cells) }
+
+    // So a lane has no more cells than the pool, and no more items.
+    ensures few { (size : PoolSize) (h : History) (p : ℕ) → IsPoolLawful size h
+        → length (linked_cells p h) ≤ size.cells }
+    ensures put { (size : PoolSize) (h : History) (p : ℕ) → IsPoolLawful size h
+        → length (put_list p h) ≤ size.cells }
+{}
+
+/// All lanes together have no more items than the pool has cells. Where a producer found no cell, and none is held that
+/// is not linked, they have just as many.
+pub fn lanes_share_cells()
+    ensures few { (size : PoolSize) (h : History) → IsPoolLawful size h
+        → items_put size.lanes h ≤ size.cells }
+    ensures all { (size : PoolSize) (h : History) (p : ℕ) (e : Entry) → IsPoolLawful size h
+        → Has h (fetch p e) → size.cells ≤ e.cell → AllLinked size h
+        → items_put size.lanes h ≡ size.cells }
+
+    // A producer whose next push would be idle has linked each cell that it got.
+    ensures idle { (size : PoolSize) (h : History) (p : ℕ) (lane : Lane) (e : Entry)
+        → IsPoolLawful size h → IsLaneAfter size.cells p lane (part (Producer p) h)
+        → push_store p lane ≡ None → Has h (fetch p e) → e.cell < size.cells
+        → Has (linked_cells p h) e.cell }
 {}
 
 /// The words lead from a lane's head through the cells put, to the end mark or to 0.
@@ -135,6 +177,13 @@ pub fn loads_tell_what_stays()
         → HasLoaded r (Item k) v h → (p : ℕ) × Has (linked_cells p h) k }
     ensures cell_put { (size : PoolSize) (h : History) (r k : ℕ) → IsPoolLawful size h
         → Gave k (part (Reader r) h) → (p : ℕ) × Has (linked_cells p h) k }
+{}
+
+/// What a look answers tells what the link holds.
+pub fn looks_tell_links()
+    ensures nothing { (v : ℕ) → look_of v ≡ look.Nothing → v ≡ 0 }
+    ensures ended { (v : ℕ) → look_of v ≡ look.Ended → v ≡ END }
+    ensures cell { (v k : ℕ) → look_of v ≡ look.Cell k → (v ≡ k + 1) × (v ≢ END) }
 {}
 
 /// The counter is bounded, and each number that it gave is one cell's, or past the cells.
@@ -205,4 +254,40 @@ pub fn parts_tell_lanes()
     ensures linked_link { (size : PoolSize) (h : History) (p k : ℕ) → IsPoolLawful size h
         → Has (linked_cells p h) k
         → value_in (Link k) h ≡ value_in (Link k) (part (Producer p) h) }
+{}
+
+/// A lane refuses a call exactly for what its producer has done.
+pub fn lanes_refuse_by_what_was_done()
+    // An offer is answered `Closed` after the end mark, `Busy` while an item has a cell that is not linked, and `Full`
+    // after a fetch-add that found no cell. Otherwise it is not refused.
+    ensures closed { (size : PoolSize) (h : History) (p : ℕ) (lane : Lane) → IsPoolLawful size h
+        → IsLaneAfter size.cells p lane (part (Producer p) h)
+        → (offer_refusal lane ≡ Some offer.Closed) ↔ (has_ended p h ≡ true) }
+    ensures busy { (size : PoolSize) (h : History) (p : ℕ) (lane : Lane) → IsPoolLawful size h
+        → IsLaneAfter size.cells p lane (part (Producer p) h)
+        → (offer_refusal lane ≡ Some offer.Busy) ↔ HasPending size.cells p h }
+    ensures full { (size : PoolSize) (h : History) (p : ℕ) (lane : Lane) → IsPoolLawful size h
+        → IsLaneAfter size.cells p lane (part (Producer p) h)
+        → (offer_refusal lane ≡ Some offer.Full)
+        ↔ ((has_ended p h ≡ false) × HasFoundNone size.cells p h) }
+    ensures free { (size : PoolSize) (h : History) (p : ℕ) (lane : Lane) → IsPoolLawful size h
+        → IsLaneAfter size.cells p lane (part (Producer p) h)
+        → has_ended p h ≡ false → (HasPending size.cells p h → ⊥)
+        → (HasFoundNone size.cells p h → ⊥) → offer_refusal lane ≡ None }
+
+    // A push is idle where no item has such a cell.
+    ensures idle { (size : PoolSize) (h : History) (p : ℕ) (lane : Lane) → IsPoolLawful size h
+        → IsLaneAfter size.cells p lane (part (Producer p) h)
+        → (push_store p lane ≡ None) ↔ (HasPending size.cells p h → ⊥) }
+
+    // A finish is answered as an offer is, but for `Full`.
+    ensures finish_closed { (size : PoolSize) (h : History) (p : ℕ) (lane : Lane)
+        → IsPoolLawful size h → IsLaneAfter size.cells p lane (part (Producer p) h)
+        → (finish_refusal lane ≡ Some finish.Closed) ↔ (has_ended p h ≡ true) }
+    ensures finish_busy { (size : PoolSize) (h : History) (p : ℕ) (lane : Lane)
+        → IsPoolLawful size h → IsLaneAfter size.cells p lane (part (Producer p) h)
+        → (finish_refusal lane ≡ Some finish.Busy) ↔ HasPending size.cells p h }
+    ensures finish_free { (size : PoolSize) (h : History) (p : ℕ) (lane : Lane)
+        → IsPoolLawful size h → IsLaneAfter size.cells p lane (part (Producer p) h)
+        → has_ended p h ≡ false → (HasPending size.cells p h → ⊥) → finish_refusal lane ≡ None }
 {}

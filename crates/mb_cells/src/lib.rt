@@ -31,6 +31,7 @@ pub mod examples;
 mod lane;
 pub mod laws;
 mod pool;
+mod size;
 pub mod steps;
 mod words;
 
@@ -39,3 +40,4 @@ pub use answer::{Finish, Look, NoMemory, Offer, Push};
 pub use cursor::Cursor;
 pub use lane::{Lane, LaneStage};
 pub use pool::Pool;
+pub use size::PoolSize;

@@ -81,16 +81,14 @@ impl<A: Allocator + Drop> Pool<A> {
         ensures shown { IsShownAlike self.old self.new }
         ensures size { SameSize self.old self.new }
     {
-        let mut lane = self.lanes[p as usize];
+        let lane = &mut self.lanes[p as usize];
         if let Some(refusal) = lane.offer_refusal() {
             return refusal;
         }
         let cells = self.words.cells();
         let found = self.words.load(Word::Counter);
         self.words.store(Word::Counter, found + 1);
-        let answer = lane.offered(cells, x, found);
-        self.lanes[p as usize] = lane;
-        answer
+        lane.offered(cells, x, found)
     }
 
     /// Stores the item that was offered on lane `p`, and at the next call its link. The items put are those of
@@ -101,14 +99,12 @@ impl<A: Allocator + Drop> Pool<A> {
         ensures idle { result ≡ push.Idle → self.new ≡ self.old }
         ensures size { SameSize self.old self.new }
     {
-        let mut lane = self.lanes[p as usize];
+        let lane = &mut self.lanes[p as usize];
         let Some((word, value)) = lane.next_push(p) else {
             return Push::Idle;
         };
         self.words.store(word, value);
-        let answer = lane.pushed();
-        self.lanes[p as usize] = lane;
-        answer
+        lane.pushed()
     }
 
     /// Stores the end mark of lane `p`, which readers then find behind its last cell, as
@@ -120,13 +116,12 @@ impl<A: Allocator + Drop> Pool<A> {
         ensures idle { (result ≡ finish.Busy) ⊎ (result ≡ finish.Closed) → self.new ≡ self.old }
         ensures size { SameSize self.old self.new }
     {
-        let mut lane = self.lanes[p as usize];
+        let lane = &mut self.lanes[p as usize];
         if let Some(refusal) = lane.finish_refusal() {
             return refusal;
         }
         self.words.store(lane.next_link(p), END);
         lane.finished();
-        self.lanes[p as usize] = lane;
         Finish::Ended
     }
 

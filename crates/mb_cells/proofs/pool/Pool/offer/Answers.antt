@@ -13,32 +13,32 @@ returns-clause-meets g c =
     let s : PoolState = record { words = c.self.inside.words; lanes = c.self.inside.lanes.items } in
     let lt : c.args.p < lane_count s =
     subst (λ (z : PoolState). c.args.p < lane_count z) (sym c.self.view_is) c.requires in
-    let lane = c.index.result.now in
+    let lane = c.index_mut-lane.result.now in
     let going = sym c.offer_refusal.ensures ∙ c.in_default.is in
     let small = counter_small s c.self.invariant in
     rw (
       ← c.self.view_is,
-      c.offered-answer.ensures.answer,
-      c.offered-answer.ensures.lane,
+      c.offered.ensures.answer,
+      c.offered.ensures.lane,
       c.store.ensures,
       c.cells-cells.ensures,
       c.load-found.ensures,
     )
-    (offer_made s c.args.p c.args.x lane lt c.index.ensures going c.ranges.x.fits (omega (arith, small)))
+    (offer_made s c.args.p c.args.x lane lt c.index_mut-lane.ensures.value going c.ranges.x.fits (omega (arith, small)))
 
-pub invariant_of-self : goal.invariant_of-self
-invariant_of-self g c =
+pub invariant_of-self-2 : goal.invariant_of-self-2
+invariant_of-self-2 g c =
     let s : PoolState = record { words = c.self.inside.words; lanes = c.self.inside.lanes.items } in
     let lt : c.args.p < lane_count s =
     subst (λ (z : PoolState). c.args.p < lane_count z) (sym c.self.view_is) c.requires in
-    let lane = c.index.result.now in
+    let lane = c.index_mut-lane.result.now in
     let going = sym c.offer_refusal.ensures ∙ c.in_default.is in
     let small = counter_small s c.self.invariant in
-    let made = offer_made s c.args.p c.args.x lane lt c.index.ensures going c.ranges.x.fits (omega (arith, small)) in
+    let made = offer_made s c.args.p c.args.x lane lt c.index_mut-lane.ensures.value going c.ranges.x.fits (omega (arith, small)) in
     let h = c.self.invariant.history.0 in
     let was = c.self.invariant.history.1 in
-    let then = made h lane was (lane_here h s c.args.p lane lt was c.index.ensures) in
-    rw (c.offered-answer.ensures.lane, c.store.ensures, c.cells-cells.ensures, c.load-found.ensures)
+    let then = made h lane was (lane_here h s c.args.p lane lt was c.index_mut-lane.ensures.value) in
+    rw (c.offered.ensures.lane, c.store.ensures, c.cells-cells.ensures, c.load-found.ensures)
     (sound_after s Counter (s.words.counter + 1) c.args.p
     (lane_after_offer (cell_count s) c.args.x s.words.counter lane) c.self.invariant
     (history_after_offer c.args.p c.args.x (value_in Counter h) lane h, then.1))

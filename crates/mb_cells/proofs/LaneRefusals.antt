@@ -1,0 +1,305 @@
+-- Why a lane refuses a call, by what its producer has done.
+use Rattle.std.proofs.Common.{Bool, List, None, Some, [], ap, arith, false, inl, inr, refl, subst, sym, true, ℕ, ◌+◌, ◌<◌, ◌≤◌, ◌∙◌, ◌∷◌, ◌≡◌, ◌↔◌, ◌⊎◌}
+use Rattle.std.proofs.lemmas.Bool.{cases_Bool}
+use Rattle.mb_cells.specs.declared.answer.Finish.TheVariants as finish
+use Rattle.mb_cells.specs.declared.answer.Offer.TheVariants as offer
+use Rattle.mb_cells.specs.{AllCellsBelow, Entry, FetchAdd, Has, HasFoundNone, HasPending, History, IsAt, IsLaneAfter, IsPoolLawful, Item, Lane, Load, Phase, PoolAccess, PoolAct, PoolSize, Producer, Store, Word, fetch, finish_refusal, groups, has_ended, linked_cells, next_link, offer_refusal, part, part_at, place_after, push_store, stage_finish_refusal, stage_of, stage_offer_refusal, stage_push_store, store}
+use Rattle.mb_cells.specs.Place.{Ended, Full, Offered, Open, Stored}
+use Rattle.mb_cells.proofs.EndMarks.{ended_is, is_ended}
+use Rattle.mb_cells.proofs.Histories.{cells_at, cells_of, falls}
+use Rattle.mb_cells.proofs.Items.{lower}
+use Rattle.mb_cells.proofs.Names.{own_process}
+use Rattle.mb_cells.proofs.Parts.{Has-of_part, Has-part}
+
+-- whether an item has a cell that is not linked, and whether the last fetch-add found none
+abbrev is_pending : Phase → Bool
+is_pending Open = false
+is_pending (Offered e) = true
+is_pending (Stored e) = true
+is_pending (Full e) = false
+is_pending (Ended r) = false
+
+abbrev found_none : Phase → Bool
+found_none Open = false
+found_none (Offered e) = false
+found_none (Stored e) = false
+found_none (Full e) = true
+found_none (Ended r) = false
+
+-- ---- by the phase
+closed_at : (phase : Phase) → (stage_offer_refusal (stage_of phase) ≡ Some offer.Closed) ↔ (is_ended phase ≡ true)
+closed_at Open = (λ e. cc, λ e. cc)
+closed_at (Offered x) = (λ e. cc, λ e. cc)
+closed_at (Stored x) = (λ e. cc, λ e. cc)
+closed_at (Full x) = (λ e. cc, λ e. cc)
+closed_at (Ended None) = (λ e. refl, λ e. refl)
+closed_at (Ended (Some x)) = (λ e. refl, λ e. refl)
+
+busy_at : (phase : Phase) → (stage_offer_refusal (stage_of phase) ≡ Some offer.Busy) ↔ (is_pending phase ≡ true)
+busy_at Open = (λ e. cc, λ e. cc)
+busy_at (Offered x) = (λ e. refl, λ e. refl)
+busy_at (Stored x) = (λ e. refl, λ e. refl)
+busy_at (Full x) = (λ e. cc, λ e. cc)
+busy_at (Ended None) = (λ e. cc, λ e. cc)
+busy_at (Ended (Some x)) = (λ e. cc, λ e. cc)
+
+full_at : (phase : Phase) → (stage_offer_refusal (stage_of phase) ≡ Some offer.Full) ↔ (found_none phase ≡ true)
+full_at Open = (λ e. cc, λ e. cc)
+full_at (Offered x) = (λ e. cc, λ e. cc)
+full_at (Stored x) = (λ e. cc, λ e. cc)
+full_at (Full x) = (λ e. refl, λ e. refl)
+full_at (Ended None) = (λ e. cc, λ e. cc)
+full_at (Ended (Some x)) = (λ e. cc, λ e. cc)
+
+free_at : (phase : Phase) → is_ended phase ≡ false → is_pending phase ≡ false → found_none phase ≡ false
+    → stage_offer_refusal (stage_of phase) ≡ None
+free_at Open e f g = refl
+free_at (Offered x) e f g = absurd (cc)
+free_at (Stored x) e f g = absurd (cc)
+free_at (Full x) e f g = absurd (cc)
+free_at (Ended r) e f g = absurd (cc)
+
+idle_at : (link : Word) (phase : Phase) → (stage_push_store link (stage_of phase) ≡ None) ↔ (is_pending phase ≡ false)
+idle_at link Open = (λ e. refl, λ e. refl)
+idle_at link (Offered x) = (λ e. cc, λ e. cc)
+idle_at link (Stored x) = (λ e. cc, λ e. cc)
+idle_at link (Full x) = (λ e. refl, λ e. refl)
+idle_at link (Ended None) = (λ e. refl, λ e. refl)
+idle_at link (Ended (Some x)) = (λ e. refl, λ e. refl)
+
+over_at : (phase : Phase) → (stage_finish_refusal (stage_of phase) ≡ Some finish.Closed) ↔ (is_ended phase ≡ true)
+over_at Open = (λ e. cc, λ e. cc)
+over_at (Offered x) = (λ e. cc, λ e. cc)
+over_at (Stored x) = (λ e. cc, λ e. cc)
+over_at (Full x) = (λ e. cc, λ e. cc)
+over_at (Ended None) = (λ e. refl, λ e. refl)
+over_at (Ended (Some x)) = (λ e. refl, λ e. refl)
+
+held_at : (phase : Phase) → (stage_finish_refusal (stage_of phase) ≡ Some finish.Busy) ↔ (is_pending phase ≡ true)
+held_at Open = (λ e. cc, λ e. cc)
+held_at (Offered x) = (λ e. refl, λ e. refl)
+held_at (Stored x) = (λ e. refl, λ e. refl)
+held_at (Full x) = (λ e. cc, λ e. cc)
+held_at (Ended None) = (λ e. cc, λ e. cc)
+held_at (Ended (Some x)) = (λ e. cc, λ e. cc)
+
+done_at : (phase : Phase) → is_ended phase ≡ false → is_pending phase ≡ false
+    → stage_finish_refusal (stage_of phase) ≡ None
+done_at Open e f = refl
+done_at (Offered x) e f = absurd (cc)
+done_at (Stored x) e f = absurd (cc)
+done_at (Full x) e f = refl
+done_at (Ended r) e f = absurd (cc)
+
+-- ---- by the history
+-- the number that an act of the counter gave
+abbrev number_of : PoolAct → ℕ
+number_of (FetchAdd x n) = n
+number_of (Store v) = 0
+number_of (Load v) = 0
+
+same_cell : (p : ℕ) (e f : Entry) → fetch p e ≡ fetch p f → e.cell ≡ f.cell
+same_cell p e f is = ap (λ (a : PoolAccess). number_of a.act) is
+
+abbrev is_add : PoolAct → Bool
+is_add (FetchAdd x n) = true
+is_add (Store v) = false
+is_add (Load v) = false
+
+no_store : (p v : ℕ) (w : Word) (e : Entry) → store p w v ≡ fetch p e → ⊥
+no_store p v w e is = let f : false ≡ true = ap (λ (a : PoolAccess). is_add a.act) is in cc
+
+-- the fetch-adds of the groups gave the cells of the entries
+add_in : (p : ℕ) (es : List Entry) (e : Entry) → Has (groups p es) (fetch p e) → Has (cells_of es) e.cell
+add_in p [] e has = absurd has
+add_in p (x ∷ es) e (inl is) = absurd (no_store p (x.cell + 1) (place_after p es) e is)
+add_in p (x ∷ es) e (inr (inl is)) = absurd (no_store p x.value (Item x.cell) e is)
+add_in p (x ∷ es) e (inr (inr (inl is))) = inl (same_cell p x e is)
+add_in p (x ∷ es) e (inr (inr (inr has))) = inr (add_in p es e has)
+
+-- a fetch-add gave the cell of an entry, or the number of the phase, which found no cell or is pending
+abbrev IsLast : ℕ → Phase → ℕ → Type 0
+IsLast cells Open n = ⊥
+IsLast cells (Offered x) n = n < cells
+IsLast cells (Stored x) n = n < cells
+IsLast cells (Full x) n = cells ≤ n
+IsLast cells (Ended r) n = cells ≤ n
+
+add_at : (cells p : ℕ) (es : List Entry) (phase : Phase) (d : History) → IsAt cells p es phase d → (e : Entry)
+    → Has (part_at p es phase) (fetch p e) → Has (cells_of es) e.cell ⊎ IsLast cells phase e.cell
+add_at cells p es Open d at e has = inl (add_in p es e has)
+add_at cells p es (Offered x) d at e (inl is) = inr (omega (arith, same_cell p x e is, at.fits))
+add_at cells p es (Offered x) d at e (inr has) = inl (add_in p es e has)
+add_at cells p es (Stored x) d at e (inl is) = absurd (no_store p x.value (Item x.cell) e is)
+add_at cells p es (Stored x) d at e (inr (inl is)) = inr (omega (arith, same_cell p x e is, at.fits))
+add_at cells p es (Stored x) d at e (inr (inr has)) = inl (add_in p es e has)
+add_at cells p es (Full x) d at e (inl is) = inr (omega (arith, same_cell p x e is, at.fits))
+add_at cells p es (Full x) d at e (inr has) = inl (add_in p es e has)
+add_at cells p es (Ended None) d at e (inl is) = absurd (no_store p _ (place_after p es) e is)
+add_at cells p es (Ended None) d at e (inr has) = inl (add_in p es e has)
+add_at cells p es (Ended (Some x)) d at e (inl is) = absurd (no_store p _ (place_after p es) e is)
+add_at cells p es (Ended (Some x)) d at e (inr (inl is)) = inr (omega (arith, same_cell p x e is, at.fits))
+add_at cells p es (Ended (Some x)) d at e (inr (inr has)) = inl (add_in p es e has)
+
+module _ (size : PoolSize) (h : History) (p : ℕ) (lawful : IsPoolLawful size h) where
+  module _ (es : List Entry) (phase : Phase) (at : IsAt size.cells p es phase (part (Producer p) h)) where
+    abbrev IsMade : Entry → Type 0
+    IsMade e = Has h (fetch p e)
+
+    made : (e : Entry) → Has (part_at p es phase) (fetch p e) → IsMade e
+    made e has = Has-of_part (Producer p) h (fetch p e) (subst (λ d. Has d (fetch p e)) (sym at.is) has)
+
+    add_of : (e : Entry) → IsMade e → Has (linked_cells p h) e.cell ⊎ IsLast size.cells phase e.cell
+    add_of e has =
+        elim (add_at size.cells p es phase (part (Producer p) h) at e
+        (subst (λ d. Has d (fetch p e)) at.is (Has-part (Producer p) h (fetch p e) has (own_process (Producer p) (fetch p e) refl)))) [
+          | inl there ↦ inl (subst (λ ks. Has ks e.cell) (sym (cells_at size p h es phase lawful.sized at)) there)
+          | inr last ↦ inr last
+        ]
+
+    no_link : (x : Entry) → AllCellsBelow x.cell es → Has (linked_cells p h) x.cell → ⊥
+    no_link x above has =
+        let less : x.cell < x.cell =
+        lower x.cell x.cell es above (subst (λ ks. Has ks x.cell) (cells_at size p h es phase lawful.sized at) has) in
+        omega (arith, less)
+
+    link_within : (e : Entry) → Has (linked_cells p h) e.cell → e.cell < size.cells
+    link_within e has =
+        lower size.cells e.cell es at.below
+        (subst (λ ks. Has ks e.cell) (cells_at size p h es phase lawful.sized at) has)
+
+  -- what is pending, by the phase
+  pending_at : (es : List Entry) (phase : Phase) (at : IsAt size.cells p es phase (part (Producer p) h))
+      → is_pending phase ≡ true → HasPending size.cells p h
+  pending_at es Open at e = absurd (cc)
+  pending_at es (Offered x) at e = record {
+    entry = x;
+    offered = made es (Offered x) at x (inl refl);
+    got = at.fits;
+    unlinked = no_link es (Offered x) at x (falls size p h es (Offered x) lawful at).1;
+  }
+  pending_at es (Stored x) at e = record {
+    entry = x;
+    offered = made es (Stored x) at x (inr (inl refl));
+    got = at.fits;
+    unlinked = no_link es (Stored x) at x (falls size p h es (Stored x) lawful at).1;
+  }
+  pending_at es (Full x) at e = absurd (cc)
+  pending_at es (Ended r) at e = absurd (cc)
+
+  last_pending : (phase : Phase) (n : ℕ) → n < size.cells → IsLast size.cells phase n → is_pending phase ≡ true
+  last_pending Open n got last = absurd last
+  last_pending (Offered x) n got last = refl
+  last_pending (Stored x) n got last = refl
+  last_pending (Full x) n got last = absurd (omega (arith, got, last))
+  last_pending (Ended r) n got last = absurd (omega (arith, got, last))
+
+  pending_tells : (es : List Entry) (phase : Phase) → IsAt size.cells p es phase (part (Producer p) h)
+      → HasPending size.cells p h → is_pending phase ≡ true
+  pending_tells es phase at pending = elim (add_of es phase at pending.entry pending.offered) [
+    | inl linked ↦ absurd (pending.unlinked linked)
+    | inr last ↦ last_pending phase pending.entry.cell pending.got last
+  ]
+
+  -- what found no cell
+  none_at : (es : List Entry) (phase : Phase) (at : IsAt size.cells p es phase (part (Producer p) h))
+      → found_none phase ≡ true → (is_ended phase ≡ false) × HasFoundNone size.cells p h
+  none_at es Open at e = absurd (cc)
+  none_at es (Offered x) at e = absurd (cc)
+  none_at es (Stored x) at e = absurd (cc)
+  none_at es (Full x) at e =
+      (refl, record { entry = x; offered = made es (Full x) at x (inl refl); past = at.fits })
+  none_at es (Ended r) at e = absurd (cc)
+
+  last_none : (phase : Phase) (n : ℕ) → size.cells ≤ n → is_ended phase ≡ false → IsLast size.cells phase n
+      → found_none phase ≡ true
+  last_none Open n past still last = absurd last
+  last_none (Offered x) n past still last = absurd (omega (arith, past, last))
+  last_none (Stored x) n past still last = absurd (omega (arith, past, last))
+  last_none (Full x) n past still last = refl
+  last_none (Ended r) n past still last = absurd (cc)
+
+  none_tells : (es : List Entry) (phase : Phase) → IsAt size.cells p es phase (part (Producer p) h)
+      → is_ended phase ≡ false → HasFoundNone size.cells p h → found_none phase ≡ true
+  none_tells es phase at still none = elim (add_of es phase at none.entry none.offered) [
+    | inl linked ↦ absurd (omega (arith, none.past, link_within es phase at none.entry linked))
+    | inr last ↦ last_none phase none.entry.cell none.past still last
+  ]
+
+  -- ---- the calls of a lane
+  module _ (lane : Lane) (here : IsLaneAfter size.cells p lane (part (Producer p) h)) where
+    ended : has_ended p h ≡ is_ended here.phase
+    ended = ended_is size.cells p h here.entries here.phase lawful.sized here.at
+
+    offers : offer_refusal lane ≡ stage_offer_refusal (stage_of here.phase)
+    offers = ap stage_offer_refusal here.stage
+
+    finishes : finish_refusal lane ≡ stage_finish_refusal (stage_of here.phase)
+    finishes = ap stage_finish_refusal here.stage
+
+    pushes : push_store p lane ≡ stage_push_store (next_link p lane) (stage_of here.phase)
+    pushes = ap (stage_push_store (next_link p lane)) here.stage
+
+    not_pending : (HasPending size.cells p h → ⊥) → is_pending here.phase ≡ false
+    not_pending none = elim (cases_Bool (is_pending here.phase)) [
+      | inl e ↦ absurd (none (pending_at here.entries here.phase here.at e))
+      | inr e ↦ e
+    ]
+
+    not_none : (is_ended here.phase ≡ false) → (HasFoundNone size.cells p h → ⊥) → found_none here.phase ≡ false
+    not_none still none = elim (cases_Bool (found_none here.phase)) [
+      | inl e ↦ absurd (none (none_at here.entries here.phase here.at e).1)
+      | inr e ↦ e
+    ]
+
+    pub closed : (offer_refusal lane ≡ Some offer.Closed) ↔ (has_ended p h ≡ true)
+    closed = (
+      λ e. ended ∙ (closed_at here.phase).0 (sym offers ∙ e),
+      λ e. offers ∙ (closed_at here.phase).1 (sym ended ∙ e),
+    )
+
+    pub busy : (offer_refusal lane ≡ Some offer.Busy) ↔ HasPending size.cells p h
+    busy = (
+      λ e. pending_at here.entries here.phase here.at ((busy_at here.phase).0 (sym offers ∙ e)),
+      λ pending. offers ∙ (busy_at here.phase).1 (pending_tells here.entries here.phase here.at pending),
+    )
+
+    pub full : (offer_refusal lane ≡ Some offer.Full) ↔ ((has_ended p h ≡ false) × HasFoundNone size.cells p h)
+    full = (
+      λ e.
+          let none = none_at here.entries here.phase here.at ((full_at here.phase).0 (sym offers ∙ e)) in
+          (ended ∙ none.0, none.1),
+      λ none.
+          offers
+          ∙ (full_at here.phase).1 (none_tells here.entries here.phase here.at (sym ended ∙ none.0) none.1),
+    )
+
+    pub free : has_ended p h ≡ false → (HasPending size.cells p h → ⊥) → (HasFoundNone size.cells p h → ⊥)
+        → offer_refusal lane ≡ None
+    free still pending none =
+        let e = sym ended ∙ still in
+        offers ∙ free_at here.phase e (not_pending pending) (not_none e none)
+
+    pub idle : (push_store p lane ≡ None) ↔ (HasPending size.cells p h → ⊥)
+    idle = (
+      λ e pending.
+          let f : is_pending here.phase ≡ false = (idle_at (next_link p lane) here.phase).0 (sym pushes ∙ e) in
+          let g : is_pending here.phase ≡ true = pending_tells here.entries here.phase here.at pending in
+          cc,
+      λ none. pushes ∙ (idle_at (next_link p lane) here.phase).1 (not_pending none),
+    )
+
+    pub over : (finish_refusal lane ≡ Some finish.Closed) ↔ (has_ended p h ≡ true)
+    over = (
+      λ e. ended ∙ (over_at here.phase).0 (sym finishes ∙ e),
+      λ e. finishes ∙ (over_at here.phase).1 (sym ended ∙ e),
+    )
+
+    pub held : (finish_refusal lane ≡ Some finish.Busy) ↔ HasPending size.cells p h
+    held = (
+      λ e. pending_at here.entries here.phase here.at ((held_at here.phase).0 (sym finishes ∙ e)),
+      λ pending. finishes ∙ (held_at here.phase).1 (pending_tells here.entries here.phase here.at pending),
+    )
+
+    pub may_finish : has_ended p h ≡ false → (HasPending size.cells p h → ⊥) → finish_refusal lane ≡ None
+    may_finish still pending = finishes ∙ done_at here.phase (sym ended ∙ still) (not_pending pending)
