@@ -1,7 +1,7 @@
 -- The cells that a consumer's own loads met on a lane are all that it met there.
 use Rattle.std.proofs.Common.{◌≡◌, ◌≢◌, ◌⊎◌, ℕ, ◌+◌, ◌-◌, ◌<◌, true, false, List, [], ◌∷◌, ◌++◌, Option, Some, None, refl, sym, ◌∙◌, ap, subst, inl, inr, arith}
 use Rattle.std.proofs.lemmas.Bool.{cases_Bool, cases_eq, ne_eqb, eq-eqb}
-use Rattle.mb_world.specs.Below.{Counter, END, FetchAdd, Gave, Has, HasMet, Head, History, IsGift, IsLinkWord, Item, Link, Load, PoolAccess, PoolAct, Reader, Store, Word, is_same_word, linked_cells, place_past, push_if}
+use Rattle.mb_world.specs.Below.{Counter, END, FetchAdd, Gave, Has, HasMet, Head, History, IsGift, IsLinkWord, IsOnceEach, IsStart, Item, Link, Load, PoolAccess, PoolAct, Reader, Store, Word, is_same_word, linked_cells, part, place_past, push_if}
 use Rattle.mb_world.specs.Plan.{Histories, Plan, consumers_of}
 use Rattle.mb_world.specs.Fitting.{FollowsLinks, cell_given, cells_met, parts_of}
 use Rattle.mb_world.specs.Reporting.{HasMetAll}
@@ -76,6 +76,40 @@ gave_met (a ∷ older) k f (inl g) =
           ∙ ap (λ o. push_if o (cells_met lane.0 older)) l.1)) (inl refl),
     )
 gave_met (a ∷ older) k f (inr g) = let q = gave_met older k f.1 g in (q.0, met_stay q.0 a older k q.1)
+
+-- ---- the same for the part of a reader in a lawful history
+pub met_in : (q p : ℕ) (h : History) → HasMet q p (cells_met p (part (Reader q) h)) h
+met_in q p h =
+    met_more q p (part (Reader q) h) h (cells_met p (part (Reader q) h)) (λ a m. (of_part q h a m).0)
+    (met_cells q p (part (Reader q) h) (λ a m. (of_part q h a m).1))
+
+once_start : (later ks : List ℕ) → IsOnceEach (later ++ ks) → IsOnceEach ks
+once_start [] ks once = once
+once_start (j ∷ later) ks once = once_start later ks once.1
+
+module _ (q : ℕ) (h : History)
+    (start : (p : ℕ) (ks : List ℕ) → HasMet q p ks h → IsStart ks (linked_cells p h))
+    (one_lane : (p r k : ℕ) → Has (linked_cells p h) k → Has (linked_cells r h) k → p ≡ r) where
+  pub on_lane_in : (p k : ℕ) → Has (cells_met p (part (Reader q) h)) k → Has (linked_cells p h) k
+  on_lane_in p k has =
+      let s = start p (cells_met p (part (Reader q) h)) (met_in q p h) in
+      let at = has_at (cells_met p (part (Reader q) h)) k has in
+      subst (λ (ls : List ℕ). Has ls k) s.1
+      (at_has (s.0 ++ cells_met p (part (Reader q) h)) at.0 k (at_start s.0 (cells_met p (part (Reader q) h)) at.0 k at.1))
+
+  pub once_in : (p : ℕ) → IsOnceEach (linked_cells p h) → IsOnceEach (cells_met p (part (Reader q) h))
+  once_in p once =
+      let s = start p (cells_met p (part (Reader q) h)) (met_in q p h) in
+      once_start s.0 (cells_met p (part (Reader q) h)) (subst IsOnceEach (sym s.1) once)
+
+  pub all_met_in : (p : ℕ) → FollowsLinks (part (Reader q) h) → HasMetAll q p (cells_met p (part (Reader q) h)) h
+  all_met_in p follows = record {
+    met = met_in q p h;
+    all = λ k gave here.
+        let there = gave_met (part (Reader q) h) k follows gave in
+        let same = one_lane there.0 p k (on_lane_in there.0 k there.1) here in
+        subst (λ (r : ℕ). Has (cells_met r (part (Reader q) h)) k) same there.1;
+  }
 
 module _ (plan : Plan) (hs : Histories) (known : Known plan hs) (c p : ℕ) (cs : c < consumers_of plan) where
   abbrev reads : History

@@ -33,7 +33,7 @@ none_alone P never None h = refl
 none_alone P never (Some x) h = absurd (never x h)
 
 -- the place of a row and a column lies within the rows
-place_within : (c p rows columns : ℕ) → c < rows → p < columns → c * columns + p < rows * columns
+pub place_within : (c p rows columns : ℕ) → c < rows → p < columns → c * columns + p < rows * columns
 place_within c p rows columns cs ps = omega (arith, mul-le-mul_right columns cs, ps)
 
 module _ (setup : Setup)

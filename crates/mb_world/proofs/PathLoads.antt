@@ -18,7 +18,7 @@ met_more q p d h (k ∷ ks) more met =
     (more (load q (place_past p ks) (k + 1)) met.0, met.1, met_more q p d h ks more met.2)
 
 -- ---- what a load gives
-none_given : (v : ℕ) → (v ≡ 0) ⊎ (v ≡ END) → cell_given (Load v) ≡ None
+pub none_given : (v : ℕ) → (v ≡ 0) ⊎ (v ≡ END) → cell_given (Load v) ≡ None
 none_given v (inl e) = rw e refl
 none_given v (inr e) = rw e refl
 

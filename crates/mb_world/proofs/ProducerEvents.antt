@@ -102,7 +102,7 @@ module _ (plan : Plan) (h : WorldHistory) (known : EventKnown plan h) (p : ℕ) 
   no_mark_of link w (phase.Ended None) fits e is_link = cc
   no_mark_of link w (phase.Ended (Some x)) fits e is_link = cc
 
-  no_mark : (lane : Lane) (w : Word) → IsLaneOf plan p lane h → push_store p lane ≡ stored w END → IsLinkWord w → ⊥
+  pub no_mark : (lane : Lane) (w : Word) → IsLaneOf plan p lane h → push_store p lane ≡ stored w END → IsLinkWord w → ⊥
   no_mark lane w at e is_link =
       no_mark_of (next_link p lane) w at.phase at.at.fits
       (subst (λ z. stage_push_store (next_link p lane) z ≡ stored w END) at.stage e) is_link

@@ -17,10 +17,12 @@ pub use Rattle.mb_cells.specs.declared.access.Process.TheVariants.{Producer, Rea
 pub use Rattle.mb_cells.specs.declared.access.TheConstants.{END}
 pub use Rattle.mb_cells.specs.declared.access.Word.{Word}
 pub use Rattle.mb_cells.specs.declared.access.Word.TheVariants.{Counter, Head, Item, Link}
-pub use Rattle.mb_cells.specs.Size.{PoolSize, pool_size}
+pub use Rattle.mb_cells.specs.declared.size.PoolSize.{PoolSize}
+pub use Rattle.mb_cells.specs.Size.{pool_size}
 pub use Rattle.mb_cells.specs.Memory.{Has, History, is_same_process, is_same_word, part}
 pub use Rattle.mb_cells.specs.LanePath.{Entry, IsLanePrefix}
 pub use Rattle.mb_cells.specs.Lanes.{IsOnceEach, entry_of, has_ended, item_of, link_of, linked_cells, push_if, put_list}
+pub use Rattle.mb_cells.specs.Refusals.{HasFoundNone, HasPending}
 pub use Rattle.mb_cells.specs.Met.{HasLoaded, HasMet, IsLinkWord, IsStart, has_cell, is_of_lane, load, place_past}
 pub use Rattle.mb_cells.specs.ReaderPath.{Gave, IsGift, IsReaderPath, MayRead}
 pub use Rattle.mb_cells.specs.Lawful.{ActFits, AllFit, IsPoolLawful}

@@ -14,6 +14,9 @@ pub mod ReportExamples
 pub mod Setups
 pub mod Replay
 pub mod PathExamples
+pub mod WorldExamples
 pub mod PartSteps
 pub mod WorldState
 pub mod StateReport
+pub mod EventSteps
+pub mod Waiting

@@ -100,6 +100,11 @@ abbrev pub IsEntry : Plan → Event → Answer → Option WorldAccess → WorldH
 IsEntry plan e r None h = IsRefused plan e r h
 IsEntry plan e r (Some a) h = IsAccessOf e a h × Names plan r a h × IsWorldLawful plan (a ∷ h)
 
+-- after a history, the event is refused, or has an access
+abbrev pub IsRefusedOrMade : Plan → Event → WorldHistory → Type 0
+IsRefusedOrMade plan e h =
+    ((r : Answer) × IsRefused plan e r h) ⊎ ((r : Answer) × (a : WorldAccess) × IsEntry plan e r (Some a) h)
+
 -- the history with the access, where there is one
 abbrev pub with_access : Option WorldAccess → WorldHistory → WorldHistory
 with_access None h = h

@@ -12,12 +12,39 @@ ghost use Rattle.mb_world.specs.ReportExamples.{two_takers, other_value, lost_to
 ghost use Rattle.mb_world.specs.ReportExamples.{lost_to_each_other, begun_beyond, noted_beyond};
 ghost use Rattle.mb_world.specs.ConsumerPath.{ConsumerPath};
 ghost use Rattle.mb_world.specs.Fitting.{Fits};
+ghost use Rattle.mb_world.specs.Below.{IsClaimPrefix, Item};
+ghost use Rattle.mb_claim.specs.declared.access.Stage.TheVariants as stage;
 ghost use Rattle.mb_world.specs.PathExamples.{claimed_unseen, read_unclaimed, passed_without_claim, read_head_again};
 ghost use Rattle.mb_world.specs.PathExamples.{IsOnNoPath, first_step, won_steps, waited, found, begun, won, taken};
 ghost use Rattle.mb_world.specs.PathExamples.{two_cells, taken_unclaimed, taken_early, taken_twice, claimed_unmet};
 ghost use Rattle.mb_world.specs.PathExamples.{claimed_another, passed_unclaimed, passed_going, passed_won, gone_back};
+ghost use Rattle.mb_world.specs.World.{histories_of, lane_part};
+ghost use Rattle.mb_world.specs.Worlds.{IsWorldLawful};
+ghost use Rattle.mb_world.specs.Sound.{AreSound};
+ghost use Rattle.mb_world.specs.Reporting.{IsReportOf};
+ghost use Rattle.mb_world.specs.Headline.{NothingFollowsEnds};
+ghost use Rattle.mb_world.specs.Replay.{IsEntry, IsReplay};
+ghost use Rattle.mb_world.specs.WorldExamples.{two_by_two, offered, both_put, one_put, first_taken, second_met};
+ghost use Rattle.mb_world.specs.WorldExamples.{second_begun, all_done, all_histories, all_reported, report_with};
+ghost use Rattle.mb_world.specs.WorldExamples.{MayNotFollow, taken_unwon, taken_again, taken_lost, unmet_claimed};
+ghost use Rattle.mb_world.specs.WorldExamples.{claim_passed, end_missed, offered_late, stranger, no_lane};
+ghost use Rattle.mb_world.specs.WorldExamples.{IsNoReport, IsNoDiary, item_left_out, nothing_told, loss_left_out};
+ghost use Rattle.mb_world.specs.WorldExamples.{loss_taken, unwon_taken, claim_left_out, diary_with};
+ghost use Rattle.mb_world.specs.WorldExamples.{first_events, first_answers, Answers, first_claimed};
+ghost use Rattle.mb_world.specs.WorldExamples.{first_lost, first_won, one_stored, one_taken, stores};
+ghost use Rattle.mb_world.specs.ConsumerPath.{claim_step, item_load, link_load};
+ghost use Rattle.mb_world.specs.declared.event.Answer.TheVariants as answer;
+ghost use Rattle.mb_world.specs.declared.event.Event.TheVariants as event;
+ghost use Rattle.mb_cells.specs.declared.answer.Look.TheVariants as look;
+ghost use Rattle.mb_cells.specs.declared.answer.Offer.TheVariants as offer;
+ghost use Rattle.mb_cells.specs.declared.answer.Push.TheVariants as push;
 
-use crate::laws::agreeing_reports_are_settled;
+use crate::laws::{
+    agreeing_reports_are_settled, places_tell_diaries, replays_do_not_differ, worlds_are_sound,
+};
+use crate::steps::one_step;
+use mb_cells::laws::end_marks_are_last;
+use mb_cells::steps::{one_step as one_pool_step, places_lead_on};
 use mb_claim::examples::examples_are_lawful;
 use mb_claim::laws::prefixes_have_one_stage;
 use mb_claim::steps::claims_have_one_next_op;
@@ -131,4 +158,169 @@ pub fn parts_do_not_fit()
     examples_are_lawful();
     prefixes_have_one_stage();
     claims_have_one_next_op();
+}
+
+/// What is done in a small world, and where its consumers stand then.
+pub fn worlds_go_on()
+    ensures asked { IsWorldLawful two_by_two one_taken }
+    ensures offered { IsWorldLawful two_by_two offered }
+    ensures stored { IsWorldLawful two_by_two one_stored }
+    ensures one { IsWorldLawful two_by_two one_put }
+    ensures put { IsWorldLawful two_by_two both_put }
+    ensures won { IsWorldLawful two_by_two first_won }
+    ensures taken { IsWorldLawful two_by_two first_taken }
+    ensures came { IsWorldLawful two_by_two first_lost }
+    ensures met { IsWorldLawful two_by_two second_met }
+    ensures goes { IsWorldLawful two_by_two second_begun }
+    ensures all { IsWorldLawful two_by_two all_done }
+
+    // Consumer 0 has taken the item of lane 0, and has not been on lane 1.
+    ensures took { ConsumerPath two_cells 0 0
+        (lane_part 0 0 all_done) (0 ∷ []) (Took 5 ∷ []) None }
+    ensures away { ConsumerPath two_cells 0 1 (lane_part 0 1 all_done) [] [] None }
+
+    // Consumer 1 has lost it, and met the end behind it. On lane 1 its claim goes on.
+    ensures lost { ConsumerPath two_cells 1 0
+        (lane_part 1 0 all_done) (0 ∷ []) (Lost 0 ∷ []) None }
+    ensures begun { ConsumerPath two_cells 1 1
+        (lane_part 1 1 all_done) (1 ∷ []) [] (Some (first_step ∷ [])) }
+    ensures going { IsClaimPrefix two_cells 1 (first_step ∷ []) stage.Going }
+{
+    named_tables_are_lawful();
+    examples_are_lawful();
+    claims_have_one_next_op();
+    one_step();
+    one_pool_step();
+    places_lead_on();
+    worlds_are_sound();
+}
+
+/// What may not follow in that world.
+pub fn worlds_keep_out()
+    // An item is loaded while the claim there goes on, where it is lost, and a second time.
+    ensures unwon { MayNotFollow taken_unwon }
+    ensures lost { MayNotFollow taken_lost }
+    ensures again { MayNotFollow taken_again }
+
+    // A claim on a cell that its consumer has not met.
+    ensures unmet { MayNotFollow unmet_claimed }
+
+    // The link past a cell is loaded while the claim there goes on.
+    ensures passed { MayNotFollow claim_passed }
+
+    // Nothing is found where the end mark stands.
+    ensures missed { MayNotFollow end_missed }
+
+    // A producer goes on behind its end mark.
+    ensures late { MayNotFollow offered_late }
+
+    // A consumer and a lane that there are not.
+    ensures stranger { MayNotFollow stranger }
+    ensures no_lane { MayNotFollow no_lane }
+{
+    named_tables_are_lawful();
+    prefixes_have_one_stage();
+    claims_have_one_next_op();
+    worlds_are_sound();
+    end_marks_are_last();
+    worlds_go_on();
+}
+
+/// The report of that world.
+pub fn worlds_are_reported()
+    ensures report { IsReportOf two_by_two all_histories all_reported }
+
+    // Each consumer's parts fit, and nothing follows the end mark.
+    ensures sound { AreSound two_by_two all_histories }
+    ensures ends { NothingFollowsEnds two_by_two all_histories all_reported }
+{
+    named_tables_are_lawful();
+    worlds_are_sound();
+    places_tell_diaries();
+    worlds_go_on();
+}
+
+/// What is no report of it.
+pub fn worlds_are_not_misreported()
+    // An item that nobody took is left out, a note is skipped, and all is left out.
+    ensures left { IsNoReport item_left_out }
+    ensures skipped { IsNoReport (report_with (6 ∷ []) loss_left_out) }
+    ensures nothing { IsNoReport nothing_told }
+
+    // A diary has no note on an item that its consumer has lost.
+    ensures silent { IsNoDiary 1 0 loss_left_out }
+
+    // It says that an item was taken where its consumer has not won.
+    ensures lost { IsNoDiary 1 0 loss_taken }
+    ensures unwon { IsNoDiary 1 1 unwon_taken }
+
+    // It does not say that a claim is begun, and it is another consumer's.
+    ensures open { IsNoDiary 1 1 claim_left_out }
+    ensures other { IsNoDiary 1 0 (diary_with 0 0 (Lost 0 ∷ [])) }
+{
+    named_tables_are_lawful();
+    examples_are_lawful();
+    prefixes_have_one_stage();
+    worlds_go_on();
+}
+
+/// What does follow an end mark: a note that is not there, and an access of the lane's producer.
+pub fn end_marks_are_not_passed()
+    ensures unnoted { NothingFollowsEnds two_by_two all_histories
+        (report_with (6 ∷ []) loss_left_out) → ⊥ }
+    ensures late { NothingFollowsEnds two_by_two
+        (histories_of (offered_late ∷ all_done)) all_reported → ⊥ }
+{}
+
+/// Events and their answers.
+pub fn events_are_replayed()
+    ensures first { IsReplay two_by_two first_events first_answers [] one_put }
+
+    // An item is stored.
+    ensures pushed { IsEntry two_by_two
+        (event.Push 0) (answer.Pushed (push.Item 0)) (Some (stores 0 (Item 0) 5)) offered }
+
+    // A step that finds a cell, one of a claim, and one that takes an item.
+    ensures found { IsEntry two_by_two
+        (event.Step 1 1 7) (answer.Looked (look.Cell 1)) (Some (link_load 1 1 [] 2)) first_lost }
+    ensures claimed { IsEntry two_by_two
+        (event.Step 1 1 0) first_claimed (Some (claim_step 1 1 first_step)) second_met }
+    ensures took { IsEntry two_by_two
+        (event.Step 0 0 7) (answer.Took 0 5) (Some (item_load 0 0 5)) first_won }
+
+    // Refusals in their order.
+    ensures closed { IsEntry two_by_two
+        (event.Offer 0 7) (answer.Offered offer.Closed) None all_done }
+    ensures no_lane { IsEntry two_by_two (event.Step 2 2 0) answer.NoLane None all_done }
+    ensures no_consumer { IsEntry two_by_two (event.Step 2 1 0) answer.NoConsumer None all_done }
+{
+    worlds_go_on();
+}
+
+/// Answers that events do not have.
+pub fn events_are_not_misanswered()
+    // Nothing is found where a cell is linked, and an item is taken before the claim there.
+    ensures nothing { Answers (event.Step 1 1 7) (answer.Looked look.Nothing) first_lost → ⊥ }
+    ensures unclaimed { Answers (event.Step 1 1 0) (answer.Took 1 6) second_met → ⊥ }
+
+    // A push is idle while an item is to be stored.
+    ensures idle { Answers (event.Push 0) (answer.Pushed push.Idle) offered → ⊥ }
+
+    // An access is made, and not named.
+    ensures unnamed { Answers (event.Step 1 1 0) answer.NoConsumer second_met → ⊥ }
+
+    // The lane is looked for first.
+    ensures order { Answers (event.Step 2 2 0) answer.NoConsumer all_done → ⊥ }
+
+    // The random word is the event's.
+    ensures word { IsEntry two_by_two
+        (event.Step 1 1 1) first_claimed (Some (claim_step 1 1 first_step)) second_met → ⊥ }
+
+    // An event has no answer.
+    ensures silent { IsReplay two_by_two (event.Push 0 ∷ []) [] [] [] → ⊥ }
+{
+    named_tables_are_lawful();
+    replays_do_not_differ();
+    worlds_go_on();
+    events_are_replayed();
 }

@@ -1,7 +1,7 @@
 //! Laws of mailboxes and their reports. The functions compute nothing: their contracts are the laws, and their bodies
 //! name the laws of claims and of cells on which they stand. Their proofs stand in `proofs/laws/`, one folder for each,
 //! over the lemmas of `proofs/`.
-ghost use Rattle.std.specs.Prelude.{ℕ, ◌≡◌, ◌≢◌, ◌↔◌, ◌<◌, List, [], ◌∷◌, ◌++◌, Option, Some, reverse, slice_get};
+ghost use Rattle.std.specs.Prelude.{ℕ, ◌+◌, ◌^◌, ◌≡◌, ◌≢◌, ◌↔◌, ◌<◌, List, [], ◌∷◌, ◌++◌, Option, Some, true, false, reverse, slice_get};
 ghost use Rattle.mb_world.specs.Report.{ReportView};
 ghost use Rattle.mb_world.specs.Assignment.{Assignment};
 ghost use Rattle.mb_world.specs.Agreement.{AgreesWith, HasCompeted, IsSettled};
@@ -13,17 +13,28 @@ ghost use Rattle.mb_world.specs.Headline.{IsHonest};
 ghost use Rattle.mb_world.specs.Below.{Claims, IsQuorumTable, ObjectTurn, claim_part, linked_cells};
 ghost use Rattle.mb_world.specs.declared.report.Note.{Note};
 ghost use Rattle.mb_world.specs.ConsumerPath.{ConsumerPath, diary_at};
+ghost use Rattle.mb_cells.specs.declared.answer.Finish.TheVariants as finish;
+ghost use Rattle.mb_cells.specs.declared.answer.Look.TheVariants as look;
+ghost use Rattle.mb_cells.specs.declared.answer.Offer.TheVariants as offer;
+ghost use Rattle.mb_cells.specs.declared.answer.Push.TheVariants as push;
 ghost use Rattle.mb_world.specs.declared.event.Answer.{Answer};
+ghost use Rattle.mb_world.specs.declared.event.Answer.TheVariants as answer;
 ghost use Rattle.mb_world.specs.declared.event.Event.{Event};
-ghost use Rattle.mb_world.specs.Replay.{IsAccessOf, IsEntry, IsRefused, IsReplay};
+ghost use Rattle.mb_world.specs.declared.event.Event.TheVariants as event;
+ghost use Rattle.mb_world.specs.Replay.{IsAccessOf, IsEntry, IsRefused, IsRefusedOrMade, IsReplay};
 ghost use Rattle.mb_world.specs.World.{WorldAccess, WorldHistory, claim_accesses, histories_of, lane_part};
+ghost use Rattle.mb_world.specs.World.{pool_accesses};
+ghost use Rattle.mb_world.specs.Below.{HasFoundNone, HasPending, has_ended};
+ghost use Rattle.mb_world.specs.Waiting.{HasNothing};
 ghost use Rattle.mb_world.specs.Worlds.{IsWorldLawful};
 
+use crate::steps::one_step;
 use mb_cells::laws::{
-    cells_stand_once, end_marks_are_last, loads_tell_what_stays, readers_follow_lanes,
-    readers_keep_to_lanes,
+    cells_stand_once, end_marks_are_last, lanes_refuse_by_what_was_done, loads_tell_what_stays,
+    numbers_are_handed_out_once, readers_follow_lanes, readers_keep_to_lanes,
+    words_lead_through_lanes,
 };
-use mb_cells::steps::lanes_lead_on;
+use mb_cells::steps::{accesses_stay_within, lanes_lead_on, one_step as one_pool_step};
 use mb_claim::laws::{claims_have_one_winner, prefixes_have_one_stage};
 use mb_claim::steps::claims_have_one_next_op;
 use mb_deciding::laws::objects_keep_their_promises;
@@ -34,6 +45,19 @@ use mb_deciding::laws::objects_keep_their_promises;
 pub fn reports_have_one_assignment()
     ensures { (plan : Plan) (hs : Histories) (r : ReportView) → AreSound plan hs
         → IsReportOf plan hs r → IsHonest plan hs r }
+{
+    prefixes_have_one_stage();
+    claims_have_one_winner();
+    readers_follow_lanes();
+    loads_tell_what_stays();
+    end_marks_are_last();
+    cells_stand_once();
+}
+
+/// What was done has one report.
+pub fn histories_have_one_report()
+    ensures { (plan : Plan) (hs : Histories) (r s : ReportView) → AreSound plan hs
+        → IsReportOf plan hs r → IsReportOf plan hs s → r ≡ s }
 {
     prefixes_have_one_stage();
     claims_have_one_winner();
@@ -135,6 +159,22 @@ pub fn places_tell_diaries()
     readers_follow_lanes();
 }
 
+/// A step answers that it found nothing exactly where there is nothing: its consumer holds no claim on the lane and has
+/// met all cells that are linked there, and the lane has not ended.
+pub fn nothing_is_exact()
+    ensures { (plan : Plan) (h : WorldHistory) (c p word : ℕ) (r : Answer) (a : Option WorldAccess)
+        → IsQuorumTable plan.claims.table → IsWorldLawful plan h
+        → IsEntry plan (event.Step c p word) r a h
+        → (r ≡ answer.Looked look.Nothing) ↔ HasNothing plan c p h }
+{
+    prefixes_have_one_stage();
+    cells_stand_once();
+    readers_follow_lanes();
+    words_lead_through_lanes();
+    worlds_are_sound();
+    paths_lead_to_one_place();
+}
+
 /// Events have at most one replay after a lawful history: each has one answer at most, with one access or with none,
 /// and never both a refusal and an access that keeps the history lawful.
 pub fn replays_do_not_differ()
@@ -158,4 +198,78 @@ pub fn replays_do_not_differ()
     cells_stand_once();
     lanes_lead_on();
     worlds_are_sound();
+}
+
+/// A producer's event is refused exactly for what that producer has done. No other answer refuses it.
+pub fn events_are_refused_for_what_was_done()
+    // An offer is closed after the end mark, busy while an item has a cell that is not linked, and full after a
+    // fetch-add that found no cell.
+    ensures closed { (plan : Plan) (h : WorldHistory) (p x : ℕ) → IsQuorumTable plan.claims.table
+        → IsWorldLawful plan h → p < plan.lanes
+        → IsRefused plan (event.Offer p x) (answer.Offered offer.Closed) h
+        ↔ (has_ended p (pool_accesses h) ≡ true) }
+    ensures busy { (plan : Plan) (h : WorldHistory) (p x : ℕ) → IsQuorumTable plan.claims.table
+        → IsWorldLawful plan h → p < plan.lanes
+        → IsRefused plan (event.Offer p x) (answer.Offered offer.Busy) h
+        ↔ HasPending plan.claims.cells p (pool_accesses h) }
+    ensures full { (plan : Plan) (h : WorldHistory) (p x : ℕ) → IsQuorumTable plan.claims.table
+        → IsWorldLawful plan h → p < plan.lanes
+        → IsRefused plan (event.Offer p x) (answer.Offered offer.Full) h
+        ↔ ((has_ended p (pool_accesses h) ≡ false)
+        × HasFoundNone plan.claims.cells p (pool_accesses h)) }
+    ensures offered { (plan : Plan) (h : WorldHistory) (p x : ℕ) (r : Answer)
+        → IsQuorumTable plan.claims.table → IsWorldLawful plan h → p < plan.lanes
+        → has_ended p (pool_accesses h) ≡ false
+        → (HasPending plan.claims.cells p (pool_accesses h) → ⊥)
+        → (HasFoundNone plan.claims.cells p (pool_accesses h) → ⊥)
+        → IsRefused plan (event.Offer p x) r h → ⊥ }
+
+    // A push is idle where no item has such a cell.
+    ensures idle { (plan : Plan) (h : WorldHistory) (p : ℕ) (r : Answer)
+        → IsQuorumTable plan.claims.table → IsWorldLawful plan h → p < plan.lanes
+        → IsRefused plan (event.Push p) r h
+        ↔ ((r ≡ answer.Pushed push.Idle)
+        × (HasPending plan.claims.cells p (pool_accesses h) → ⊥)) }
+
+    // A finish is refused as an offer is, but is never full.
+    ensures over { (plan : Plan) (h : WorldHistory) (p : ℕ) → IsQuorumTable plan.claims.table
+        → IsWorldLawful plan h → p < plan.lanes
+        → IsRefused plan (event.Finish p) (answer.Finished finish.Closed) h
+        ↔ (has_ended p (pool_accesses h) ≡ true) }
+    ensures held { (plan : Plan) (h : WorldHistory) (p : ℕ) → IsQuorumTable plan.claims.table
+        → IsWorldLawful plan h → p < plan.lanes
+        → IsRefused plan (event.Finish p) (answer.Finished finish.Busy) h
+        ↔ HasPending plan.claims.cells p (pool_accesses h) }
+    ensures finished { (plan : Plan) (h : WorldHistory) (p : ℕ) (r : Answer)
+        → IsQuorumTable plan.claims.table → IsWorldLawful plan h → p < plan.lanes
+        → has_ended p (pool_accesses h) ≡ false
+        → (HasPending plan.claims.cells p (pool_accesses h) → ⊥)
+        → IsRefused plan (event.Finish p) r h → ⊥ }
+{
+    lanes_lead_on();
+    lanes_refuse_by_what_was_done();
+    worlds_are_sound();
+}
+
+/// A producer's event that is not refused has an access that keeps the history lawful. So it is refused exactly where
+/// it has none. Of steps `World::apply` says so.
+pub fn events_of_producers_are_refused_or_made()
+    // There are not so many cells and lanes that the counter would leave its word.
+    ensures offer { (plan : Plan) (h : WorldHistory) (p x : ℕ) → IsQuorumTable plan.claims.table
+        → IsWorldLawful plan h → p < plan.lanes → x < 2 ^ 64
+        → plan.claims.cells + plan.lanes < 2 ^ 64 → IsRefusedOrMade plan (event.Offer p x) h }
+    ensures push { (plan : Plan) (h : WorldHistory) (p : ℕ) → IsQuorumTable plan.claims.table
+        → IsWorldLawful plan h → p < plan.lanes → IsRefusedOrMade plan (event.Push p) h }
+    ensures finish { (plan : Plan) (h : WorldHistory) (p : ℕ) → IsQuorumTable plan.claims.table
+        → IsWorldLawful plan h → p < plan.lanes → IsRefusedOrMade plan (event.Finish p) h }
+{
+    prefixes_have_one_stage();
+    claims_have_one_next_op();
+    cells_stand_once();
+    lanes_lead_on();
+    accesses_stay_within();
+    numbers_are_handed_out_once();
+    worlds_are_sound();
+    one_step();
+    one_pool_step();
 }

@@ -9,8 +9,9 @@ use std::fmt;
 /// The most producers that a setup can have. The least is 1.
 pub const MAX_PRODUCERS: u64 = 16;
 
-/// How many producers, consumers and cells there are, and the deciding objects of each cell.
-#[derive(Clone, Copy, PartialEq, Eq, Debug)]
+/// How many producers, consumers and cells there are, and the deciding objects of each cell. It holds their layout, so it
+/// is not `Copy`: [`Setup::copy`] says where one more is made.
+#[derive(PartialEq, Eq, Debug, Drop)]
 pub struct Setup {
     producers: u32,
     cells: u32,
@@ -87,6 +88,17 @@ impl Setup {
         }
     }
 
+    /// The same setup once more.
+    pub fn copy(&self) -> Setup
+        ensures { result ≡ self.now }
+    {
+        Setup {
+            producers: self.producers,
+            cells: self.cells,
+            layout: self.layout.copy(),
+        }
+    }
+
     /// How many producers there are. Each has a lane of its own.
     pub fn producers(&self) -> u64
         ensures { result ≡ (plan_in self.now).lanes }
@@ -112,6 +124,14 @@ impl Setup {
     pub fn layout(&self) -> Layout
         ensures { result ≡ layout_of self.now }
     {
-        self.layout
+        self.layout.copy()
+    }
+
+    /// The same, where it stands.
+    #[inline(always)]
+    pub(crate) fn as_layout(&self) -> &Layout
+        ensures { result.now ≡ layout_of self.now }
+    {
+        &self.layout
     }
 }

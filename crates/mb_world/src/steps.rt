@@ -1,11 +1,13 @@
 //! What builders need: one more access. A world keeps one history ([`one_step`]); a consumer among threads keeps its
 //! own two parts, and that they fit ([`parts_fit_on`]). The functions compute nothing: their contracts are the laws.
 //! Their proofs stand in `proofs/steps/`, one folder for each, over the lemmas of `proofs/`.
-ghost use Rattle.std.specs.Prelude.{ℕ, ◌≡◌, ◌<◌, List, [], ◌∷◌, Option};
+ghost use Rattle.std.specs.Prelude.{ℕ, ◌≡◌, ◌≢◌, ◌+◌, ◌<◌, ◌⊎◌, List, [], ◌∷◌, Option};
 ghost use Rattle.mb_claim.specs.declared.access.Stage.TheVariants as stage;
-ghost use Rattle.mb_world.specs.Fitting.{Fits, HasStageIn, Parts, cells_met};
+ghost use Rattle.mb_world.specs.Fitting.{Fits, FollowsLinks, HasStageIn, Parts, cells_met};
+ghost use Rattle.mb_world.specs.Reporting.{HasMetAll};
 ghost use Rattle.mb_world.specs.PartSteps.{HasNotLeft, MayLookPast, no_parts, with_load, with_step};
-ghost use Rattle.mb_world.specs.Below.{Claims, Gave, Item, load, place_past};
+ghost use Rattle.mb_world.specs.Below.{Claims, Gave, Has, HasMet, History, IsOnceEach, Item, PoolSize, Reader, linked_cells};
+ghost use Rattle.mb_world.specs.Below.{load, part, place_past};
 ghost use Rattle.mb_world.specs.Below.{END, IsPoolLawful, IsQuorumTable, ObjectTurn, PoolAccess, Producer};
 ghost use Rattle.mb_world.specs.declared.report.Note.{Note};
 ghost use Rattle.mb_world.specs.Plan.{Plan, consumers_of, size_of};
@@ -64,4 +66,35 @@ pub fn parts_fit_on()
         → HasStageIn cs c k stage.Going x → HasNotLeft k x }
 {
     prefixes_have_one_stage();
+}
+
+/// The cells that a reader's own loads met on a lane, as they grow by one load after another, and what they are in each
+/// lawful history that has these loads.
+pub fn loads_meet_cells()
+    // A load of the link past them meets the cell to which it leads, if it leads to one.
+    ensures cell { (q p k : ℕ) (reads : History) → k + 1 ≢ END
+        → cells_met p (load q (place_past p (cells_met p reads)) (k + 1) ∷ reads)
+        ≡ k ∷ cells_met p reads }
+    ensures none { (q p v : ℕ) (reads : History) → (v ≡ 0) ⊎ (v ≡ END)
+        → cells_met p (load q (place_past p (cells_met p reads)) v ∷ reads) ≡ cells_met p reads }
+
+    // A load of another word meets none.
+    ensures elsewhere { (p : ℕ) (a : PoolAccess) (reads : History)
+        → a.word ≢ place_past p (cells_met p reads) → cells_met p (a ∷ reads) ≡ cells_met p reads }
+
+    // They were met, so they are given, and are cells of the lane, each once.
+    ensures met { (q p : ℕ) (h : History) → HasMet q p (cells_met p (part (Reader q) h)) h }
+    ensures given { (q p k : ℕ) (h : History) → Has (cells_met p (part (Reader q) h)) k
+        → Gave k (part (Reader q) h) }
+    ensures on_lane { (size : PoolSize) (q p k : ℕ) (h : History) → IsPoolLawful size h
+        → Has (cells_met p (part (Reader q) h)) k → Has (linked_cells p h) k }
+    ensures once { (size : PoolSize) (q p : ℕ) (h : History) → IsPoolLawful size h
+        → IsOnceEach (cells_met p (part (Reader q) h)) }
+
+    // Where the loads follow links, no other cell of the lane was given.
+    ensures all { (size : PoolSize) (q p : ℕ) (h : History) → IsPoolLawful size h
+        → FollowsLinks (part (Reader q) h) → HasMetAll q p (cells_met p (part (Reader q) h)) h }
+{
+    cells_stand_once();
+    readers_follow_lanes();
 }

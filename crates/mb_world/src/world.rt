@@ -1,5 +1,8 @@
 //! The world: all words under one caller.
+mod applying;
 mod reporting;
+mod states;
+mod stepping;
 
 use crate::report::Note;
 use crate::seat::Seat;

@@ -1,0 +1,43 @@
+-- Places of producer 0 in the small world of the examples, where its lane refuses an event.
+use Rattle.std.proofs.Common.{false, [], ◌∷◌, None, Some, refl, arith}
+use Rattle.mb_cells.specs.declared.lane.Lane.{Lane}
+use Rattle.mb_cells.specs.declared.lane.LaneStage.TheVariants as stage
+use Rattle.mb_cells.specs.Place.{Ended, Offered, Open}
+use Rattle.mb_world.specs.Replay.{IsLaneOf}
+use Rattle.mb_world.specs.WorldExamples.{all_done, five, offered, one_put, two_by_two}
+
+abbrev pub busy : Lane
+busy = record { last = None; stage = stage.Offered 0 5 }
+
+pub busy_there : IsLaneOf two_by_two 0 busy offered
+busy_there = record {
+  entries = [];
+  phase = Offered five;
+  at = record { below = tt; fits = omega arith; is = refl };
+  last = refl;
+  stage = refl;
+}
+
+abbrev pub idle : Lane
+idle = record { last = Some 0; stage = stage.Open }
+
+pub idle_there : IsLaneOf two_by_two 0 idle one_put
+idle_there = record {
+  entries = five ∷ [];
+  phase = Open;
+  at = record { below = (omega arith, tt); fits = tt; is = refl };
+  last = refl;
+  stage = refl;
+}
+
+abbrev pub closed : Lane
+closed = record { last = Some 0; stage = stage.Ended false }
+
+pub closed_there : IsLaneOf two_by_two 0 closed all_done
+closed_there = record {
+  entries = five ∷ [];
+  phase = Ended None;
+  at = record { below = (omega arith, tt); fits = tt; is = refl };
+  last = refl;
+  stage = refl;
+}

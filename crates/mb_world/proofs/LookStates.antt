@@ -1,0 +1,186 @@
+-- A look of a consumer that holds no claim, on the state of a world.
+use Rattle.std.proofs.Common.{◌≡◌, ◌≢◌, ◌⊎◌, ℕ, ◌+◌, ◌*◌, ◌-◌, ◌<◌, Bool, true, false, cond, List, [], ◌∷◌, Option, Some, None, refl, sym, ◌∙◌, ap, subst, inl, inr, arith}
+use Rattle.std.specs.Prelude.{nat_eq, slice_get, slice_set}
+use Rattle.std.proofs.lemmas.Bool.{eqb-true, eqb-false}
+use Rattle.std.proofs.lemmas.List.{length-set}
+use Rattle.mb_claim.specs.declared.access.Stage.TheVariants as stage
+use Rattle.mb_claim.specs.declared.claim.Claim.{Claim}
+use Rattle.mb_claim.specs.OneClaim.{IsClaimIn, claim_stage, consumer_of}
+use Rattle.mb_cells.specs.declared.answer.Look.{Look}
+use Rattle.mb_cells.specs.declared.answer.Look.TheVariants as look
+use Rattle.mb_cells.specs.declared.cursor.Cursor.{Cursor}
+use Rattle.mb_cells.specs.declared.cursor.Cursor.TheVariants as cursor
+use Rattle.mb_cells.specs.Memory.{value_in}
+use Rattle.mb_cells.specs.Reading.{look_of, word_of}
+use Rattle.mb_cells.specs.State.{IsWithin}
+use Rattle.mb_world.specs.declared.event.Answer.TheVariants as answer
+use Rattle.mb_world.specs.declared.event.Event.TheVariants as event
+use Rattle.mb_world.specs.declared.report.Note.{Note}
+use Rattle.mb_world.specs.declared.seat.Seat.{Seat}
+use Rattle.mb_world.specs.declared.seat.Seat.TheVariants as seat
+use Rattle.mb_world.specs.Below.{END, Has, Gave, IsClaimPrefix, Item, Head, Link, Load, MayRead, ObjectTurn, Reader, Stage, Word, load, part, place_past}
+use Rattle.mb_world.specs.Plan.{consumers_of}
+use Rattle.mb_world.specs.Setups.{layout_of}
+use Rattle.mb_world.specs.World.{ToCells, WorldAccess, WorldHistory, lane_part, pool_accesses}
+use Rattle.mb_world.specs.ConsumerPath.{ConsumerPath, finds, link_load, waits}
+use Rattle.mb_world.specs.WorldState.{IsSeatAt, IsWorldAfter, WorldState}
+use Rattle.mb_world.specs.Replay.{answer_to}
+use Rattle.mb_world.specs.EventSteps.{EventAdds, IsBefore, with_seat}
+use Rattle.mb_world.proofs.LoadStates.{adds, given, load_adds, loaded}
+use Rattle.mb_world.proofs.StateEnds.{load_keeps}
+use Rattle.mb_world.proofs.StateSteps.{AreNotes, notes_kept, own_seat, plan, seat_here, seats_kept, seats_set}
+use Rattle.mb_world.proofs.StepKnown.{StepKnown}
+use Rattle.mb_world.proofs.WorldClaims.{on_lane}
+
+-- ---- what a link tells
+-- no cell
+pub none_told : (v : ℕ) → ((k : ℕ) → look_of v ≡ look.Cell k → ⊥) → (v ≡ 0) ⊎ (v ≡ END)
+none_told v other = by (nat_eq v 0) (nat_eq v END) refl refl
+  where
+    by : (a b : Bool) → nat_eq v 0 ≡ a → nat_eq v END ≡ b → (v ≡ 0) ⊎ (v ≡ END)
+    by true b e f = inl (eqb-true v 0 e)
+    by false true e f = inr (eqb-true v END f)
+    by false false e f = absurd (other (v - 1) (rw (e, f) refl))
+
+-- this cell
+pub cell_told : (v k : ℕ) → look_of v ≡ look.Cell k → (v ≡ k + 1) × (k + 1 ≢ END)
+cell_told v k tells = by (nat_eq v 0) (nat_eq v END) refl refl tells
+  where
+    by : (a b : Bool) → nat_eq v 0 ≡ a → nat_eq v END ≡ b
+        → cond a look.Nothing (cond b look.Ended (look.Cell (v - 1))) ≡ look.Cell k → (v ≡ k + 1) × (k + 1 ≢ END)
+    by true b e f h = absurd (cc)
+    by false true e f h = absurd (cc)
+    by false false e f h =
+        let same : v - 1 ≡ k = cc in
+        let some : v ≡ 0 → ⊥ = eqb-false v 0 e in
+        let no_end : v ≡ END → ⊥ = eqb-false v END f in
+        let more : v ≡ k + 1 = omega (arith, same, some) in
+        (more, λ g. no_end (more ∙ g))
+
+told : (cells : ℕ) (at : Cursor) (v : ℕ) → answer_to cells (word_of at) (Load v) ≡ Some (answer.Looked (look_of v))
+told cells (cursor.Head q) v = refl
+told cells (cursor.Past q) v = refl
+
+not_item : (at : Cursor) (k : ℕ) → word_of at ≡ Item k → ⊥
+not_item (cursor.Head q) k e = cc
+not_item (cursor.Past q) k e = cc
+
+module _ (s : WorldState) (h : WorldHistory) (is : IsWorldAfter h s) (c p : ℕ) (cs : c < consumers_of (plan s h is))
+    (ps : p < (plan s h is).lanes) (known : StepKnown s h c p) (d : Seat) (at : Cursor)
+    (here : slice_get s.seats (c * (plan s h is).lanes + p) ≡ Some d) (before : IsBefore p d at) where
+  -- such a seat stands before a link
+  pub record AtLink (e : Seat) (it : Cursor) : Type 0 where
+    pub cells : List ℕ
+    pub notes : List Note
+    pub path : ConsumerPath (plan s h is).claims c p (lane_part c p h) cells notes None
+    pub word : word_of it ≡ place_past p cells
+    pub seat : IsSeatAt (layout_of s.setup) c cells None e
+
+  link_at : (ks : List ℕ) (ns : List Note) (held : Option (List ObjectTurn)) (e : Seat) (it : Cursor)
+      → ConsumerPath (plan s h is).claims c p (lane_part c p h) ks ns held
+      → IsSeatAt (layout_of s.setup) c ks held e → IsBefore p e it → AtLink e it
+  link_at [] ns None seat.AtHead (cursor.Head q) path on b =
+      record { cells = []; notes = ns; path = path; word = ap Head b; seat = tt }
+  link_at (k ∷ ks) ns None (seat.PastCell j) (cursor.Past i) path on b =
+      record { cells = k ∷ ks; notes = ns; path = path; word = ap Link (b ∙ on); seat = on }
+  link_at [] ns None (seat.PastCell j) it path on b = absurd on
+  link_at [] ns None (seat.AtCell j claim) it path on b = absurd on
+  link_at [] ns (Some xs) e it path on b = absurd on
+  link_at (k ∷ ks) ns None seat.AtHead it path on b = absurd on
+  link_at (k ∷ ks) ns None (seat.AtCell j claim) it path on b = absurd on
+  link_at (k ∷ ks) ns (Some xs) seat.AtHead it path on b = absurd on
+  link_at (k ∷ ks) ns (Some xs) (seat.PastCell j) it path on b = absurd on
+  link_at (k ∷ ks) ns (Some xs) (seat.AtCell j claim) it path on b = absurd b
+  link_at [] ns None seat.AtHead (cursor.Past i) path on b = absurd b
+  link_at (k ∷ ks) ns None (seat.PastCell j) (cursor.Head q) path on b = absurd b
+
+  at_link : AtLink d at
+  at_link =
+      let y = seat_here s h is c p d cs ps here in link_at y.cells y.notes y.held d at y.path y.is before
+
+  -- which is one of the pool's
+  within_by : (ks : List ℕ) (ns : List Note) (it : Cursor)
+      → ConsumerPath (plan s h is).claims c p (lane_part c p h) ks ns None → word_of it ≡ place_past p ks
+      → IsWithin it s.pool
+  within_by [] ns (cursor.Head q) path e =
+      let same : q ≡ p = cc in omega (arith, same, ps, is.lanes)
+  within_by (k ∷ ks) ns (cursor.Past j) path e =
+      let same : j ≡ k = cc in
+      let below = known.world.within p k
+      (on_lane (plan s h is) h is.lawful known.world c p k
+      (record { cells = k ∷ ks; notes = ns; held = None; path = path }) (inl refl)) in
+      omega (arith, same, below, is.cells)
+  within_by [] ns (cursor.Past j) path e = absurd (cc)
+  within_by (k ∷ ks) ns (cursor.Head q) path e = absurd (cc)
+
+  pub within : IsWithin at s.pool
+  within = within_by at_link.cells at_link.notes at at_link.path at_link.word
+
+  may_past : (ks : List ℕ) → ((k : ℕ) → Has ks k → Gave k (part (Reader c) (pool_accesses h)))
+      → MayRead (plan s h is).lanes (place_past p ks) (part (Reader c) (pool_accesses h))
+  may_past [] gave = ps
+  may_past (k ∷ ks) gave = gave k (inl refl)
+
+  may : MayRead (plan s h is).lanes (word_of at) (part (Reader c) (pool_accesses h))
+  may =
+      subst (λ (w : Word). MayRead (plan s h is).lanes w (part (Reader c) (pool_accesses h))) (sym at_link.word)
+      (may_past at_link.cells (given s h is c p cs ps known at_link.cells at_link.notes None at_link.path))
+
+  abbrev v : ℕ
+  v = value_in (word_of at) (pool_accesses h)
+
+  abbrev a : WorldAccess
+  a = loaded s h is c p cs ps known (word_of at) may
+
+  -- the load is of the link past the cells met
+  on_link : (held : Option (List ObjectTurn)) (ks : List ℕ) (i : ℕ) → v ≡ i
+      → ConsumerPath (plan s h is).claims c p (link_load c p at_link.cells i ∷ lane_part c p h) ks at_link.notes held
+      → ConsumerPath (plan s h is).claims c p (a ∷ lane_part c p h) ks at_link.notes held
+  on_link held ks i e path =
+      subst (λ (j : ℕ). ConsumerPath (plan s h is).claims c p (ToCells (load c (word_of at) j) ∷ lane_part c p h) ks
+      at_link.notes held) (sym e)
+      (subst (λ (w : Word). ConsumerPath (plan s h is).claims c p (ToCells (load c w i) ∷ lane_part c p h) ks
+      at_link.notes held) (sym at_link.word) path)
+
+  -- no note changes
+  notes_stay : (held : Option (List ObjectTurn)) (ks : List ℕ)
+      (next : ConsumerPath (plan s h is).claims c p (a ∷ lane_part c p h) ks at_link.notes held)
+      → AreNotes s h is (a ∷ h) s.notes
+  notes_stay held ks next =
+      notes_kept s h is c p cs ps a
+      (adds s h is c p cs ps known (word_of at) may ks at_link.notes held next)
+      (λ e j n. load_keeps (plan s h is).claims c h (word_of at) v e j n (λ _ f. not_item at j f))
+
+  -- the link leads to cell k
+  pub looked_on : (word k : ℕ) (claim : Claim) → look_of v ≡ look.Cell k → consumer_of claim ≡ c
+      → claim_stage claim ≡ stage.Going → IsClaimIn (layout_of s.setup) claim []
+      → EventAdds (event.Step c p word) (answer.Looked (look.Cell k)) (with_seat c p (seat.AtCell k claim) s) h
+  looked_on word k claim tells own going fresh =
+      let q = cell_told v k tells in
+      let still : IsClaimPrefix (plan s h is).claims c [] stage.Going =
+      subst (λ (z : Stage). IsClaimPrefix (plan s h is).claims c [] z) going
+      (subst (λ (i : ℕ). IsClaimPrefix (plan s h is).claims i [] (claim_stage claim)) own fresh.prefix) in
+      let next = on_link (Some []) (k ∷ at_link.cells) (k + 1) q.0 (finds q.1 still at_link.path) in
+      let more = adds s h is c p cs ps known (word_of at) may (k ∷ at_link.cells) at_link.notes (Some []) next in
+      load_adds s h is c p cs ps known (word_of at) may (k ∷ at_link.cells) at_link.notes (Some []) next word
+      (answer.Looked (look.Cell k)) (slice_set s.seats (c * (plan s h is).lanes + p) (seat.AtCell k claim)) s.notes
+      (told (plan s h is).claims.cells at v ∙ ap (λ (z : Look). Some (answer.Looked z)) tells)
+      (length-set s.seats (c * (plan s h is).lanes + p) (seat.AtCell k claim))
+      (seats_set s h is c p cs ps a more (seat.AtCell k claim)
+      (own_seat s h is c p cs ps a more (k ∷ at_link.cells) at_link.notes (Some []) (seat.AtCell k claim) next
+      (refl, own, fresh)))
+      refl (notes_stay (Some []) (k ∷ at_link.cells) next)
+
+  -- it leads to none
+  pub looked_in_vain : (word : ℕ) (z : Look) → look_of v ≡ z → ((k : ℕ) → z ≡ look.Cell k → ⊥)
+      → EventAdds (event.Step c p word) (answer.Looked z) s h
+  looked_in_vain word z tells none =
+      let next = on_link None at_link.cells v refl (waits (none_told v (λ k e. none k (sym tells ∙ e))) at_link.path) in
+      let more = adds s h is c p cs ps known (word_of at) may at_link.cells at_link.notes None next in
+      load_adds s h is c p cs ps known (word_of at) may at_link.cells at_link.notes None next word
+      (answer.Looked z) s.seats s.notes
+      (told (plan s h is).claims.cells at v ∙ ap (λ (y : Look). Some (answer.Looked y)) tells)
+      refl
+      (seats_kept s h is c p cs ps a more d here
+      (own_seat s h is c p cs ps a more at_link.cells at_link.notes None d next at_link.seat))
+      refl (notes_stay None at_link.cells next)

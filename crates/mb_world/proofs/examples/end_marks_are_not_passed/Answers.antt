@@ -1,0 +1,16 @@
+use Rattle.std.proofs.Common.{◌≡◌, true, false, [], ◌∷◌, refl, inl, arith}
+use Rattle.mb_cells.specs.LanePath.{fetch}
+use Rattle.mb_world.specs.Below.{Link, PoolAccess}
+use Rattle.mb_world.specs.World.{pool_accesses}
+use Rattle.mb_world.specs.WorldExamples.{all_done}
+use Rattle.mb_world.proofs.examples.end_marks_are_not_passed.Goals as goal
+
+pub returns-clause-unnoted : goal.returns-clause-unnoted
+returns-clause-unnoted c ends =
+    let none : false ≡ true = ends.noted 1 0 0 (omega arith) (omega arith) (Link 0, tt, refl, inl refl) (omega arith) in
+    cc
+
+pub returns-clause-late : goal.returns-clause-late
+returns-clause-late c ends =
+    let late : PoolAccess = fetch 0 (record { cell = 2; value = 7 }) in
+    let silent : late ∷ [] ≡ [] = ends.silent (late ∷ []) (pool_accesses all_done) 0 refl refl in cc

@@ -1,0 +1,27 @@
+use Rattle.mb_world.proofs.LookStates.{looked_in_vain, looked_on, within}
+use Rattle.mb_world.proofs.StepKnown.{step_known}
+use Rattle.mb_world.proofs.world.states.looks_leave_states.Goals as goal
+
+pub returns-clause-within : goal.returns-clause-within
+returns-clause-within c s h d p e at is has before =
+    let known = step_known c.layouts_are_sound.ensures.table c.prefixes_have_one_stage.ensures
+    c.cells_stand_once.ensures.lane c.cells_stand_once.ensures.once c.cells_stand_once.ensures.within
+    c.readers_follow_lanes.ensures.met c.loads_leave_pools.ensures c.worlds_are_sound.ensures.sound
+    c.one_step.ensures.consumer s h is d p has.consumer has.lane in
+    within s h is d p has.consumer has.lane known e at has.seat before
+
+pub returns-clause-found : goal.returns-clause-found
+returns-clause-found c s h d p word k e at claim is has before tells own going fresh =
+    let known = step_known c.layouts_are_sound.ensures.table c.prefixes_have_one_stage.ensures
+    c.cells_stand_once.ensures.lane c.cells_stand_once.ensures.once c.cells_stand_once.ensures.within
+    c.readers_follow_lanes.ensures.met c.loads_leave_pools.ensures c.worlds_are_sound.ensures.sound
+    c.one_step.ensures.consumer s h is d p has.consumer has.lane in
+    looked_on s h is d p has.consumer has.lane known e at has.seat before word k claim tells own going fresh
+
+pub returns-clause-waited : goal.returns-clause-waited
+returns-clause-waited c s h d p word e at z is has before tells none =
+    let known = step_known c.layouts_are_sound.ensures.table c.prefixes_have_one_stage.ensures
+    c.cells_stand_once.ensures.lane c.cells_stand_once.ensures.once c.cells_stand_once.ensures.within
+    c.readers_follow_lanes.ensures.met c.loads_leave_pools.ensures c.worlds_are_sound.ensures.sound
+    c.one_step.ensures.consumer s h is d p has.consumer has.lane in
+    looked_in_vain s h is d p has.consumer has.lane known e at has.seat before word z tells none

@@ -1,0 +1,18 @@
+-- When a step of a consumer finds nothing.
+use Rattle.std.specs.Prelude.{ℕ, ◌≡◌, ◌<◌, false, None, List}
+use Rattle.mb_world.specs.declared.report.Note.{Note}
+use Rattle.mb_world.specs.Below.{has_ended, linked_cells}
+use Rattle.mb_world.specs.Plan.{Plan, consumers_of}
+use Rattle.mb_world.specs.World.{WorldHistory, lane_part, pool_accesses}
+use Rattle.mb_world.specs.ConsumerPath.{ConsumerPath}
+
+-- after a history, there is nothing for consumer c on lane p
+pub record HasNothing (plan : Plan) (c p : ℕ) (h : WorldHistory) : Type 0 where
+  -- there are such a consumer and such a lane
+  pub consumer : c < consumers_of plan
+  pub lane : p < plan.lanes
+  -- its path has led past all cells that are linked there, and it holds no claim
+  pub notes : List Note
+  pub path : ConsumerPath plan.claims c p (lane_part c p h) (linked_cells p (pool_accesses h)) notes None
+  -- and the lane has not ended
+  pub goes_on : has_ended p (pool_accesses h) ≡ false

@@ -1,0 +1,200 @@
+-- A world of two lanes, two consumers and two cells, with one pair of objects over the unary table: what was done in it,
+-- what may not follow, what is reported of it and what is not, and some of its events.
+use Rattle.std.specs.Prelude.{ℕ, true, false, Option, List, [], ◌∷◌, ◌++◌, map}
+use Rattle.mb_cells.specs.LanePath.{fetch, store}
+use Rattle.mb_cells.specs.declared.answer.Finish.TheVariants as finish
+use Rattle.mb_cells.specs.declared.answer.Look.TheVariants as look
+use Rattle.mb_cells.specs.declared.answer.Offer.TheVariants as offer
+use Rattle.mb_cells.specs.declared.answer.Push.TheVariants as push
+use Rattle.mb_deciding.specs.declared.access.Act.TheVariants as act
+use Rattle.mb_deciding.specs.declared.access.Reg.TheVariants.{Value}
+use Rattle.mb_claim.specs.declared.access.Stage.TheVariants as stage
+use Rattle.mb_claim.specs.Examples.{won_and_lost}
+use Rattle.mb_world.specs.declared.event.Answer.{Answer}
+use Rattle.mb_world.specs.declared.event.Answer.TheVariants as answer
+use Rattle.mb_world.specs.declared.event.Event.{Event}
+use Rattle.mb_world.specs.declared.event.Event.TheVariants as event
+use Rattle.mb_world.specs.declared.report.Note.{Note}
+use Rattle.mb_world.specs.declared.report.Note.TheVariants.{Took, Lost}
+use Rattle.mb_world.specs.Below.{END, Entry, Head, Item, Link, ObjectTurn, Word, claim_part}
+use Rattle.mb_world.specs.Plan.{Histories, Plan}
+use Rattle.mb_world.specs.Report.{DiaryView, ReportView}
+use Rattle.mb_world.specs.Reporting.{IsDiaryOf, IsReportOf}
+use Rattle.mb_world.specs.World.{ToCells, WorldAccess, WorldHistory, histories_of}
+use Rattle.mb_world.specs.Worlds.{IsWorldLawful}
+use Rattle.mb_world.specs.Replay.{IsEntry}
+use Rattle.mb_world.specs.ConsumerPath.{claim_step, item_load, link_load}
+use Rattle.mb_world.specs.PathExamples.{first_step, two_cells, won_steps}
+
+-- the world
+abbrev pub two_by_two : Plan
+two_by_two = record { claims = two_cells; lanes = 2 }
+
+-- the item 5, in cell 0, and the item 6, in cell 1
+abbrev pub five : Entry
+five = record { cell = 0; value = 5 }
+
+abbrev pub six : Entry
+six = record { cell = 1; value = 6 }
+
+-- a store of producer p
+abbrev pub stores : ℕ → Word → ℕ → WorldAccess
+stores p w v = ToCells (store p w v)
+
+-- ---- what was done
+-- producer 0 has taken a cell for the item 5, and consumer 0 has found nothing on its lane
+abbrev pub one_taken : WorldHistory
+one_taken = ToCells (fetch 0 five) ∷ []
+
+abbrev pub offered : WorldHistory
+offered = link_load 0 0 [] 0 ∷ one_taken
+
+-- the item is stored, and put
+abbrev pub one_stored : WorldHistory
+one_stored = stores 0 (Item 0) 5 ∷ offered
+
+abbrev pub one_put : WorldHistory
+one_put = stores 0 (Head 0) 1 ∷ one_stored
+
+-- producer 1 has put another
+abbrev pub both_put : WorldHistory
+both_put = stores 1 (Head 1) 2 ∷ stores 1 (Item 1) 6 ∷ ToCells (fetch 1 six) ∷ one_put
+
+-- consumer 0 has found the item 5
+abbrev pub first_found : WorldHistory
+first_found = link_load 0 0 [] 1 ∷ both_put
+
+-- it has won and taken it
+abbrev pub first_won : WorldHistory
+first_won = map (claim_step 0 0) won_steps ++ first_found
+
+abbrev pub first_taken : WorldHistory
+first_taken = item_load 0 0 5 ∷ first_won
+
+-- consumer 1 has come and lost it
+abbrev pub lost_steps : List ObjectTurn
+lost_steps = claim_part 1 0 won_and_lost
+
+abbrev pub first_lost : WorldHistory
+first_lost = map (claim_step 1 0) lost_steps ++ link_load 1 0 [] 1 ∷ first_taken
+
+-- it has found the item 6, and begun a claim there
+abbrev pub second_met : WorldHistory
+second_met = link_load 1 1 [] 2 ∷ first_lost
+
+abbrev pub second_begun : WorldHistory
+second_begun = claim_step 1 1 first_step ∷ second_met
+
+-- producer 0 has finished, and consumer 1 has met the end of its lane
+abbrev pub all_done : WorldHistory
+all_done = link_load 1 0 (0 ∷ []) END ∷ stores 0 (Link 0) END ∷ second_begun
+
+abbrev pub all_histories : Histories
+all_histories = histories_of all_done
+
+-- ---- what may not follow
+-- the access does not keep the history lawful
+abbrev pub MayNotFollow : WorldAccess → Type 0
+MayNotFollow a = IsWorldLawful two_by_two (a ∷ all_done) → ⊥
+
+-- consumer 1 loads the item 6 while its claim goes on, and consumer 0 the item 5 again
+abbrev pub taken_unwon : WorldAccess
+taken_unwon = item_load 1 1 6
+
+abbrev pub taken_again : WorldAccess
+taken_again = item_load 0 0 5
+
+-- consumer 1 loads the item that it has lost
+abbrev pub taken_lost : WorldAccess
+taken_lost = item_load 1 0 5
+
+-- consumer 0 makes a step of a claim on the item 6, of which it has not loaded the link
+abbrev pub unmet_claimed : WorldAccess
+unmet_claimed = claim_step 0 1 first_step
+
+-- consumer 1 loads the link past the item 6 while its claim goes on
+abbrev pub claim_passed : WorldAccess
+claim_passed = link_load 1 1 (1 ∷ []) 0
+
+-- consumer 0 finds nothing past the item 5, where the end mark stands
+abbrev pub end_missed : WorldAccess
+end_missed = link_load 0 0 (0 ∷ []) 0
+
+-- producer 0 makes a fetch-add behind its end mark
+abbrev pub offered_late : WorldAccess
+offered_late = ToCells (fetch 0 (record { cell = 2; value = 7 }))
+
+-- a consumer that is none of the world's, and a lane that it has not
+abbrev pub stranger : WorldAccess
+stranger = link_load 2 1 [] 2
+
+abbrev pub no_lane : WorldAccess
+no_lane = link_load 0 2 [] 0
+
+-- ---- what is reported
+-- so many lanes and diaries
+abbrev pub diary_with : ℕ → ℕ → List Note → DiaryView
+diary_with c p ns = record { consumer = c; lane = p; notes = ns; begun = false }
+
+-- a report with these items left of lane 1, and with this diary of consumer 1 on lane 0
+abbrev pub report_with : List ℕ → DiaryView → ReportView
+report_with left d = record {
+  lanes = record { put = 5 ∷ []; ended = true; left = [] } ∷ record { put = 6 ∷ []; ended = false; left = left } ∷ [];
+  diaries =
+      diary_with 0 0 (Took 5 ∷ []) ∷ diary_with 0 1 [] ∷ d
+      ∷ record { consumer = 1; lane = 1; notes = []; begun = true } ∷ [];
+}
+
+-- the report
+abbrev pub all_reported : ReportView
+all_reported = report_with (6 ∷ []) (diary_with 1 0 (Lost 0 ∷ []))
+
+-- ---- what is not
+-- this is no report of it
+abbrev pub IsNoReport : ReportView → Type 0
+IsNoReport r = IsReportOf two_by_two all_histories r → ⊥
+
+-- and this is no diary of consumer c on lane p
+abbrev pub IsNoDiary : ℕ → ℕ → DiaryView → Type 0
+IsNoDiary c p d = IsDiaryOf two_by_two c p all_histories d → ⊥
+
+-- an item that nobody took is left out
+abbrev pub item_left_out : ReportView
+item_left_out = report_with [] (diary_with 1 0 (Lost 0 ∷ []))
+
+-- there is nothing in it
+abbrev pub nothing_told : ReportView
+nothing_told = record { lanes = []; diaries = [] }
+
+-- a consumer has no note on the item that it has lost, or says that it took it
+abbrev pub loss_left_out : DiaryView
+loss_left_out = diary_with 1 0 []
+
+abbrev pub loss_taken : DiaryView
+loss_taken = diary_with 1 0 (Took 5 ∷ [])
+
+-- it says that it took the item on which its claim goes on, or does not say that the claim is begun
+abbrev pub unwon_taken : DiaryView
+unwon_taken = diary_with 1 1 (Took 6 ∷ [])
+
+abbrev pub claim_left_out : DiaryView
+claim_left_out = diary_with 1 1 []
+
+-- ---- events
+-- the first events, which lead to `one_put`, and their answers
+abbrev pub first_events : List Event
+first_events =
+    event.Offer 0 5 ∷ event.Step 0 0 9 ∷ event.Finish 0 ∷ event.Push 0 ∷ event.Push 0 ∷ event.Push 0 ∷ []
+
+abbrev pub first_answers : List Answer
+first_answers =
+    answer.Offered (offer.Cell 0) ∷ answer.Looked look.Nothing ∷ answer.Finished finish.Busy
+    ∷ answer.Pushed (push.Item 0) ∷ answer.Pushed (push.Link 0) ∷ answer.Pushed push.Idle ∷ []
+
+-- after this history the event has this answer, with an access or with none
+abbrev pub Answers : Event → Answer → WorldHistory → Type 0
+Answers e r h = (a : Option WorldAccess) × IsEntry two_by_two e r a h
+
+-- its first step of the claim there is answered so
+abbrev pub first_claimed : Answer
+first_claimed = answer.Claimed 1 0 (act.Load Value 0) stage.Going

@@ -1,0 +1,144 @@
+//! What one event makes of the state of a world. The functions compute nothing: their contracts are the laws on which
+//! the calls of a world stand, and their bodies name the laws below.
+ghost use Rattle.std.specs.Prelude.{ℕ, ◌≡◌, ◌≢◌, ◌<◌, List, [], ◌∷◌};
+ghost use Rattle.mb_claim.specs.declared.access.Stage.TheVariants as stage;
+ghost use Rattle.mb_claim.specs.declared.claim.Claim.{Claim};
+ghost use Rattle.mb_claim.specs.OneClaim.{IsClaimIn, IsClaimOn, claim_access, claim_stage, consumer_of};
+ghost use Rattle.mb_cells.specs.declared.answer.Finish.{Finish};
+ghost use Rattle.mb_cells.specs.declared.answer.Look.{Look};
+ghost use Rattle.mb_cells.specs.declared.answer.Look.TheVariants as look;
+ghost use Rattle.mb_cells.specs.declared.answer.Offer.{Offer};
+ghost use Rattle.mb_cells.specs.declared.answer.Push.{Push};
+ghost use Rattle.mb_cells.specs.declared.cursor.Cursor.{Cursor};
+ghost use Rattle.mb_cells.specs.Calls.{FinishKeeps, FinishMeets, OfferKeeps, OfferMeets, PushMeets};
+ghost use Rattle.mb_cells.specs.Memory.{value_in};
+ghost use Rattle.mb_cells.specs.Reading.{look_after};
+ghost use Rattle.mb_cells.specs.State.{IsWithin, PoolState, SameSize};
+ghost use Rattle.mb_world.specs.declared.event.Answer.{Answer};
+ghost use Rattle.mb_world.specs.declared.event.Answer.TheVariants as answer;
+ghost use Rattle.mb_world.specs.declared.event.Event.TheVariants as event;
+ghost use Rattle.mb_world.specs.declared.report.Note.TheVariants.{Took};
+ghost use Rattle.mb_world.specs.declared.seat.Seat.{Seat};
+ghost use Rattle.mb_world.specs.declared.seat.Seat.TheVariants as seat;
+ghost use Rattle.mb_world.specs.Below.{Item, ObjectTurn};
+ghost use Rattle.mb_world.specs.Setups.{layout_of, plan_in};
+ghost use Rattle.mb_world.specs.World.{WorldHistory, claim_accesses, pool_accesses};
+ghost use Rattle.mb_world.specs.ConsumerPath.{note_of};
+ghost use Rattle.mb_world.specs.WorldState.{IsWorldAfter, WorldState};
+ghost use Rattle.mb_world.specs.Replay.{IsRefused};
+ghost use Rattle.mb_world.specs.EventSteps.{EventAdds, HasSeat, IsBefore, seat_by, with_note, with_note_if, with_pool};
+ghost use Rattle.mb_world.specs.EventSteps.{with_seat, with_words};
+
+use crate::laws::worlds_are_sound;
+use crate::steps::one_step;
+use mb_cells::laws::{cells_stand_once, readers_follow_lanes};
+use mb_cells::steps::loads_leave_pools;
+use mb_claim::laws::{layouts_are_sound, prefixes_have_one_stage};
+
+/// A look of a consumer that holds no claim.
+pub(super) fn looks_leave_states()
+    // It stands before a link of the pool.
+    ensures within { (s : WorldState) (h : WorldHistory) (c p : ℕ) (d : Seat) (at : Cursor)
+        → IsWorldAfter h s → HasSeat c p d s → IsBefore p d at → IsWithin at s.pool }
+
+    // Where the link leads to a cell, it holds a new claim there.
+    ensures found { (s : WorldState) (h : WorldHistory) (c p word k : ℕ) (d : Seat) (at : Cursor)
+        (claim : Claim) → IsWorldAfter h s → HasSeat c p d s → IsBefore p d at
+        → look_after at (pool_accesses h) ≡ look.Cell k → consumer_of claim ≡ c
+        → claim_stage claim ≡ stage.Going → IsClaimIn (layout_of s.setup) claim []
+        → EventAdds (event.Step c p word) (answer.Looked (look.Cell k))
+        (with_seat c p (seat.AtCell k claim) s) h }
+
+    // Where it leads to none, the state stays.
+    ensures waited { (s : WorldState) (h : WorldHistory) (c p word : ℕ) (d : Seat) (at : Cursor)
+        (z : Look) → IsWorldAfter h s → HasSeat c p d s → IsBefore p d at
+        → look_after at (pool_accesses h) ≡ z → ((k : ℕ) → z ≢ look.Cell k)
+        → EventAdds (event.Step c p word) (answer.Looked z) s h }
+{
+    layouts_are_sound();
+    prefixes_have_one_stage();
+    cells_stand_once();
+    readers_follow_lanes();
+    loads_leave_pools();
+    worlds_are_sound();
+    one_step();
+}
+
+/// The item load of a consumer whose claim is won.
+pub(super) fn takes_leave_states()
+    ensures { (s : WorldState) (h : WorldHistory) (c p word k : ℕ) (claim : Claim)
+        → IsWorldAfter h s → HasSeat c p (seat.AtCell k claim) s → claim_stage claim ≡ stage.Won
+        → let v = value_in (Item k) (pool_accesses h) in
+        EventAdds (event.Step c p word) (answer.Took k v)
+        (with_note c k (Took v) (with_seat c p (seat.PastCell k) s)) h }
+{
+    layouts_are_sound();
+    prefixes_have_one_stage();
+    cells_stand_once();
+    readers_follow_lanes();
+    loads_leave_pools();
+    worlds_are_sound();
+    one_step();
+}
+
+/// A step of a consumer's claim.
+pub(super) fn claims_leave_states()
+    // A claim that is held goes on where it is not won.
+    ensures going { (s : WorldState) (h : WorldHistory) (c p k : ℕ) (claim : Claim)
+        → IsWorldAfter h s → HasSeat c p (seat.AtCell k claim) s → claim_stage claim ≢ stage.Won
+        → claim_stage claim ≡ stage.Going }
+
+    // The words and the claim are of one history of the claims.
+    ensures on { (s : WorldState) (h : WorldHistory) (c p k : ℕ) (claim : Claim)
+        → IsWorldAfter h s → HasSeat c p (seat.AtCell k claim) s
+        → IsClaimOn (layout_of s.setup) (plan_in s.setup).claims.cells k claim s.words
+        (claim_accesses h) }
+
+    // With the step the words and the claim are these.
+    ensures competed { (s : WorldState) (h : WorldHistory) (c p word k : ℕ) (claim now : Claim)
+        (words : List ℕ) (x : ObjectTurn)
+        → IsWorldAfter h s → HasSeat c p (seat.AtCell k claim) s → claim_stage claim ≡ stage.Going
+        → consumer_of now ≡ consumer_of claim → x.turn.word ≡ word
+        → IsClaimOn (layout_of s.setup) (plan_in s.setup).claims.cells k now words
+        (claim_access claim k x ∷ claim_accesses h)
+        → EventAdds (event.Step c p word)
+        (answer.Claimed k x.object x.turn.act (claim_stage now))
+        (with_note_if c k (note_of (claim_stage now))
+        (with_seat c p (seat_by k now (claim_stage now)) (with_words words s))) h }
+{
+    layouts_are_sound();
+    prefixes_have_one_stage();
+    cells_stand_once();
+    readers_follow_lanes();
+    loads_leave_pools();
+    worlds_are_sound();
+    one_step();
+}
+
+/// A call of a producer's lane.
+pub(super) fn calls_leave_states()
+    ensures offered { (s : WorldState) (h : WorldHistory) (p x : ℕ) (z : Offer) (pool : PoolState)
+        → IsWorldAfter h s → p < (plan_in s.setup).lanes → OfferMeets s.pool p x z pool
+        → SameSize s.pool pool
+        → EventAdds (event.Offer p x) (answer.Offered z) (with_pool pool s) h }
+    ensures pushed { (s : WorldState) (h : WorldHistory) (p : ℕ) (z : Push) (pool : PoolState)
+        → IsWorldAfter h s → p < (plan_in s.setup).lanes → PushMeets s.pool p z pool
+        → SameSize s.pool pool
+        → EventAdds (event.Push p) (answer.Pushed z) (with_pool pool s) h }
+    ensures finished { (s : WorldState) (h : WorldHistory) (p : ℕ) (z : Finish) (pool : PoolState)
+        → IsWorldAfter h s → p < (plan_in s.setup).lanes → FinishMeets s.pool p z pool
+        → SameSize s.pool pool
+        → EventAdds (event.Finish p) (answer.Finished z) (with_pool pool s) h }
+
+    // Where the producer's place refuses the call, the pool stays.
+    ensures offer_refused { (s : WorldState) (h : WorldHistory) (p x : ℕ) (r : Answer)
+        (pool : PoolState) → IsWorldAfter h s → p < (plan_in s.setup).lanes
+        → IsRefused (plan_in s.setup) (event.Offer p x) r h → OfferKeeps s.pool p pool
+        → pool ≡ s.pool }
+    ensures finish_refused { (s : WorldState) (h : WorldHistory) (p : ℕ) (r : Answer)
+        (pool : PoolState) → IsWorldAfter h s → p < (plan_in s.setup).lanes
+        → IsRefused (plan_in s.setup) (event.Finish p) r h → FinishKeeps s.pool p pool
+        → pool ≡ s.pool }
+{
+    one_step();
+}
