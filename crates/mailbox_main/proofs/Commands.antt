@@ -8,7 +8,7 @@ use Rattle.clap.specs.declared.error.Error.{Error}
 use Rattle.clap.specs.declared.error.ErrorKind.TheVariants.{OutOfMemory}
 use Rattle.clap.proofs.OnLiterals.{clap_on_literals}
 use Rattle.mailbox_main.specs.declared.command.Choice.{Choice}
-use Rattle.mailbox_main.specs.declared.command.Choice.TheVariants.{Ratify}
+use Rattle.mailbox_main.specs.declared.command.Choice.TheVariants.{Ratify, Replay}
 use Rattle.mailbox_main.specs.CommandLine.{program, command_in, choice_name}
 
 -- clap's rules say which words the program takes
@@ -20,11 +20,13 @@ program_is_simple = refl
 pub alone_taken : (name : Text) (choice : Choice) → takes program (name ∷ choice_name choice ∷ []) ≡ true
 unfolding clap_on_literals
 alone_taken name Ratify = refl
+alone_taken name Replay = refl
 
 -- and finds it
 alone_found : (name : Text) (choice : Choice) → command_in (name ∷ choice_name choice ∷ []) ≡ Some (choice_name choice)
 unfolding clap_on_literals
 alone_found name Ratify = refl
+alone_found name Replay = refl
 
 -- the name of what was entered
 rows_name : (m : ArgMatches) → option_map (λ (found : _). found.0) (subcommand_rows_of m) ≡ subcommand_name_of m

@@ -1,8 +1,4 @@
 pub mod Commands
-pub mod KnownBytes
-pub mod Lines
+pub mod Exchanges
 pub mod LongScripts
-pub mod Numbers
 pub mod ScriptSpelling
-pub mod ScriptSteps
-pub mod Words

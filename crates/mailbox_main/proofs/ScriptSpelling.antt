@@ -15,12 +15,23 @@ use Rattle.mb_quorum.specs.declared.table.TableName.TheVariants.{Unary, Bits}
 use Rattle.mailbox_main.specs.declared.fault.RatifyFault.{RatifyFault}
 use Rattle.mailbox_main.specs.declared.fault.RatifyFault.TheVariants.{TooLong, NotAscii, BadLine, BadNumber}
 use Rattle.mailbox_main.specs.declared.script.RatifyScript as code
-use Rattle.mailbox_main.specs.declared.transfer.TheConstants.{MAX_SCRIPT_LEN}
-use Rattle.mailbox_main.specs.Text.{lines_of, words_of, has_empty, number_of, numbers_of}
-use Rattle.mailbox_main.specs.Steps.{◌>>=◌, Gives}
-use Rattle.mailbox_main.specs.RatifyScript.{Script, view, line_words, table_named, head_of, list_of, three_lines, script_of}
-use Rattle.mailbox_main.specs.Spelling.{HasSpelling, table_name, script_words, script_lines}
-use Rattle.mailbox_main.proofs.Words.{IsWord, words_join, none_empty, decimal_word, decimal_words, number_again, numbers_again, number_takes, numbers_take, ascii_join, ascii_lines}
+use Rattle.mb_script.specs.declared.transfer.TheConstants.{MAX_SCRIPT_LEN}
+use Rattle.mb_script.specs.Vocabulary.{◌>>=◌, table_name, table_named, IsWord, IsWordLine, lines_of, words_of, has_empty, number_of, numbers_of}
+use Rattle.mailbox_main.specs.Steps.{Gives}
+use Rattle.mailbox_main.specs.RatifyScript.{Script, view, line_words, head_of, list_of, three_lines, script_of}
+use Rattle.mailbox_main.specs.Spelling.{HasSpelling, script_words, script_lines}
+
+-- the laws of texts on which the reading stands
+pub record TextLaws : Type 0 where
+  pub cut : (w : List ℕ) (ws : List (List ℕ)) → AllByRecursion IsWord (w ∷ ws) → words_of (join_with_byte 32 (w ∷ ws)) ≡ w ∷ ws
+  pub none_empty : (ws : List (List ℕ)) → AllByRecursion IsWord ws → has_empty ws ≡ false
+  pub word : (n : ℕ) → n < 2 ^ 64 → IsWord (decimal n)
+  pub words : (ns : List ℕ) → AllByRecursion (λ n. n < 2 ^ 64) ns → AllByRecursion IsWord (map decimal ns)
+  pub read : (n : ℕ) → n < 2 ^ 64 → number_of (decimal n) ≡ Some n
+  pub all_read : (ns : List ℕ) → AllByRecursion (λ n. n < 2 ^ 64) ns → numbers_of (map decimal ns) ≡ Some ns
+  pub spelled : (w : List ℕ) (n : ℕ) → number_of w ≡ Some n → (w ≡ decimal n) × (n < 2 ^ 64)
+  pub all_spelled : (ws : List (List ℕ)) (ns : List ℕ) → numbers_of ws ≡ Some ns → (ws ≡ map decimal ns) × AllByRecursion (λ n. n < 2 ^ 64) ns
+  pub ascii : (bytes : List ℕ) (lines : List (List (List ℕ))) → AllByRecursion IsWordLine lines → lines_of bytes ≡ map (join_with_byte 32) lines → list_all is_ascii bytes ≡ true
 
 -- the step before one that succeeded
 bind_ok : {A B : Type 0} (r : Result A RatifyFault) (f : A → Result B RatifyFault) (y : B) → (r >>= f) ≡ Ok y
@@ -64,10 +75,10 @@ line_takes n (line ∷ rest) x e =
     (ok_is (words_of line, rest) x g.1) (ap (λ (l : List ℕ). l ∷ rest) (sym (join_with_byte-slice_split 32 line)))
 
 -- a line of words is read as these words
-line_again : (n : ℕ) (w : List ℕ) (ws rest : List (List ℕ)) → AllByRecursion IsWord (w ∷ ws)
+line_again : TextLaws → (n : ℕ) (w : List ℕ) (ws rest : List (List ℕ)) → AllByRecursion IsWord (w ∷ ws)
     → line_words n (join_with_byte 32 (w ∷ ws) ∷ rest) ≡ Ok (w ∷ ws, rest)
 unfolding line_words
-line_again n w ws rest are = rw (words_join w ws are, none_empty (w ∷ ws) are) refl
+line_again law n w ws rest are = rw (law.cut w ws are, law.none_empty (w ∷ ws) are) refl
 
 -- a name that was read is the name of its table
 table_takes : (word : List ℕ) (t : TableName) (u b : Bool) → bytes_eq word (codes "unary") ≡ u → bytes_eq word (codes "bits") ≡ b
@@ -83,21 +94,21 @@ abbrev head_values : List ℕ → TableName → Result (TableName × ℕ) Ratify
 head_values values t = ok_or (number_of values) (BadNumber 1) >>= (λ m. Ok (t, m))
 
 -- what was read of the first line was spelled so
-head_takes : (ws : List (List ℕ)) (x : TableName × ℕ) → head_of ws ≡ Ok x
+head_takes : TextLaws → (ws : List (List ℕ)) (x : TableName × ℕ) → head_of ws ≡ Ok x
     → (ws ≡ codes "ratify" ∷ table_name x.0 ∷ decimal x.1 ∷ []) × (x.1 < 2 ^ 64)
 unfolding head_of
-head_takes [] x e = absurd (cc)
-head_takes (a ∷ []) x e = absurd (cc)
-head_takes (a ∷ b ∷ []) x e = absurd (cc)
-head_takes (a ∷ b ∷ c ∷ d ∷ ws) x e = absurd (cc)
-head_takes (key ∷ name ∷ values ∷ []) x e =
+head_takes law [] x e = absurd (cc)
+head_takes law (a ∷ []) x e = absurd (cc)
+head_takes law (a ∷ b ∷ []) x e = absurd (cc)
+head_takes law (a ∷ b ∷ c ∷ d ∷ ws) x e = absurd (cc)
+head_takes law (key ∷ name ∷ values ∷ []) x e =
     let named = ok_or (table_named name) (BadLine 1) in
     let g = passed (bytes_eq key (codes "ratify")) (BadLine 1) (named >>= head_values values) x e in
     let a = bind_ok named (head_values values) x g.1 in
     let b = bind_ok (ok_or (number_of values) (BadNumber 1)) (λ m. Ok (a.0, m)) x a.2 in
     let k = (bytes_eq-Decides key (codes "ratify")).0 g.0 in
     let t = table_takes name a.0 _ _ refl refl (some_from _ _ _ a.1) in
-    let v = number_takes values b.0 (some_from _ _ _ b.1) in
+    let v = law.spelled values b.0 (some_from _ _ _ b.1) in
     let made : TableName × ℕ = (a.0, b.0) in
     let whole : key ∷ name ∷ values ∷ [] ≡ codes "ratify" ∷ table_name a.0 ∷ decimal b.0 ∷ [] =
     ap (λ (w : List ℕ). w ∷ name ∷ values ∷ []) k
@@ -107,28 +118,28 @@ head_takes (key ∷ name ∷ values ∷ []) x e =
     (ok_is made x b.2) (whole, v.1)
 
 -- what is spelled on the first line is read so
-head_again : (t : TableName) (m : ℕ) → m < 2 ^ 64
+head_again : TextLaws → (t : TableName) (m : ℕ) → m < 2 ^ 64
     → head_of (codes "ratify" ∷ table_name t ∷ decimal m ∷ []) ≡ Ok (t, m)
 unfolding head_of
-head_again Unary m h = rw (number_again m h) refl
-head_again Bits m h = rw (number_again m h) refl
+head_again law Unary m h = rw (law.read m h) refl
+head_again law Bits m h = rw (law.read m h) refl
 
 -- numbers that were read behind a key were spelled so
-list_takes : (n : ℕ) (key : List ℕ) (ws : List (List ℕ)) (ns : List ℕ) → list_of n key ws ≡ Ok ns
+list_takes : TextLaws → (n : ℕ) (key : List ℕ) (ws : List (List ℕ)) (ns : List ℕ) → list_of n key ws ≡ Ok ns
     → (ws ≡ key ∷ map decimal ns) × AllByRecursion (λ k. k < 2 ^ 64) ns
 unfolding list_of
-list_takes n key [] ns e = absurd (cc)
-list_takes n key (w ∷ ws) ns e =
+list_takes law n key [] ns e = absurd (cc)
+list_takes law n key (w ∷ ws) ns e =
     let g = passed (bytes_eq w key) (BadLine n) (ok_or (numbers_of ws) (BadNumber n)) ns e in
     let k = (bytes_eq-Decides w key).0 g.0 in
-    let v = numbers_take ws ns (some_from _ _ _ g.1) in
+    let v = law.all_spelled ws ns (some_from _ _ _ g.1) in
     (ap (λ (x : List ℕ). x ∷ ws) k ∙ ap (λ (x : List (List ℕ)). key ∷ x) v.0, v.1)
 
 -- numbers that are spelled behind a key are read so
-list_again : (n : ℕ) (key : List ℕ) (ns : List ℕ) → AllByRecursion (λ k. k < 2 ^ 64) ns
+list_again : TextLaws → (n : ℕ) (key : List ℕ) (ns : List ℕ) → AllByRecursion (λ k. k < 2 ^ 64) ns
     → list_of n key (key ∷ map decimal ns) ≡ Ok ns
 unfolding list_of
-list_again n key ns h = rw ((bytes_eq-Decides key key).1 refl, numbers_again ns h) refl
+list_again law n key ns h = rw ((bytes_eq-Decides key key).1 refl, law.all_read ns h) refl
 
 -- what is done after each step of `three_lines` stands below, the last first; lines, or the words of one
 abbrev Lines : Type 0
@@ -161,9 +172,9 @@ abbrev after_first : Lines × Lines → Result Script RatifyFault
 after_first first = head_of first.0 >>= after_head first.1
 
 -- lines that were read were spelled so
-lines_take : (lines : Lines) (s : Script) → three_lines lines ≡ Ok s → HasSpelling s × (lines ≡ script_lines s)
+lines_take : TextLaws → (lines : Lines) (s : Script) → three_lines lines ≡ Ok s → HasSpelling s × (lines ≡ script_lines s)
 unfolding three_lines
-lines_take lines s e =
+lines_take law lines s e =
     let a = bind_ok (line_words 1 lines) after_first s e in
     let b = bind_ok (head_of a.0.0) (after_head a.0.1) s a.2 in
     let c = bind_ok (line_words 2 a.0.1) (after_second b.0) s b.2 in
@@ -175,9 +186,9 @@ lines_take lines s e =
     let first = line_takes 1 lines a.0 a.1 in
     let second = line_takes 2 a.0.1 c.0 c.1 in
     let third = line_takes 3 c.0.1 f.0 f.1 in
-    let head = head_takes a.0.0 b.0 b.1 in
-    let inputs = list_takes 2 (codes "inputs") c.0.0 d.0 d.1 in
-    let turns = list_takes 3 (codes "turns") f.0.0 g.0 g.1 in
+    let head = head_takes law a.0.0 b.0 b.1 in
+    let inputs = list_takes law 2 (codes "inputs") c.0.0 d.0 d.1 in
+    let turns = list_takes law 3 (codes "turns") f.0.0 g.0 g.1 in
     let nothing : f.0.1 ≡ [] = nil_from_length f.0.1 (eqb-true _ _ h.0) in
     let join = join_with_byte 32 in
     let whole : lines ≡ script_lines made =
@@ -196,54 +207,46 @@ table_word Unary = search rules
 table_word Bits = search rules
 
 -- a script's words are words
-words_fit : (s : Script) → HasSpelling s → AllByRecursion (λ ws. AllByRecursion IsWord ws) (script_words s)
-words_fit s h = (
-  (search rules, (table_word s.table, (decimal_word s.values h.values, tt))),
-  ((search rules, decimal_words s.inputs h.inputs), ((search rules, decimal_words s.turns h.turns), tt)),
+words_fit : TextLaws → (s : Script) → HasSpelling s → AllByRecursion IsWordLine (script_words s)
+words_fit law s h = (
+  (search rules, (table_word s.table, (law.word s.values h.values, tt))),
+  ((search rules, law.words s.inputs h.inputs), ((search rules, law.words s.turns h.turns), tt)),
 )
 
 -- lines that are spelled are read so
-lines_again : (s : Script) → HasSpelling s → three_lines (script_lines s) ≡ Ok s
+lines_again : TextLaws → (s : Script) → HasSpelling s → three_lines (script_lines s) ≡ Ok s
 unfolding three_lines
-lines_again s h =
-    let w = words_fit s h in
+lines_again law s h =
+    let w = words_fit law s h in
     rw (
-      line_again 1 (codes "ratify") (table_name s.table ∷ decimal s.values ∷ []) _ w.0,
-      head_again s.table s.values h.values,
-      line_again 2 (codes "inputs") (map decimal s.inputs) _ w.1.0,
-      list_again 2 (codes "inputs") s.inputs h.inputs,
-      line_again 3 (codes "turns") (map decimal s.turns) _ w.1.1.0,
-      list_again 3 (codes "turns") s.turns h.turns,
+      line_again law 1 (codes "ratify") (table_name s.table ∷ decimal s.values ∷ []) _ w.0,
+      head_again law s.table s.values h.values,
+      line_again law 2 (codes "inputs") (map decimal s.inputs) _ w.1.0,
+      list_again law 2 (codes "inputs") s.inputs h.inputs,
+      line_again law 3 (codes "turns") (map decimal s.turns) _ w.1.1.0,
+      list_again law 3 (codes "turns") s.turns h.turns,
     ) refl
 
 -- what is read was spelled so
-script_takes : (bytes : List ℕ) (s : Script) → script_of bytes ≡ Ok s → HasSpelling s × (lines_of bytes ≡ script_lines s)
+script_takes : TextLaws → (bytes : List ℕ) (s : Script) → script_of bytes ≡ Ok s → HasSpelling s × (lines_of bytes ≡ script_lines s)
 unfolding script_of
-script_takes bytes s e =
+script_takes law bytes s e =
     let read = three_lines (lines_of bytes) in
     let a = avoided (nat_lt MAX_SCRIPT_LEN (length bytes)) TooLong (cond (list_all is_ascii bytes) read (Err NotAscii)) s e in
     let b = passed (list_all is_ascii bytes) NotAscii read s a.1 in
-    lines_take (lines_of bytes) s b.1
+    lines_take law (lines_of bytes) s b.1
 
 -- what is spelled is read so
-pub script_again : (bytes : List ℕ) (s : Script) → HasSpelling s → length bytes ≤ MAX_SCRIPT_LEN
+pub script_again : TextLaws → (bytes : List ℕ) (s : Script) → HasSpelling s → length bytes ≤ MAX_SCRIPT_LEN
     → lines_of bytes ≡ script_lines s → script_of bytes ≡ Ok s
 unfolding script_of
-script_again bytes s h short e =
-    let w = words_fit s h in
-    let lines : AllByRecursion (λ x. list_all is_ascii x ≡ true) (script_lines s) = (
-      ascii_join (codes "ratify") (table_name s.table ∷ decimal s.values ∷ []) w.0,
-      (
-        ascii_join (codes "inputs") (map decimal s.inputs) w.1.0,
-        (ascii_join (codes "turns") (map decimal s.turns) w.1.1.0, tt),
-      ),
-    ) in
-    let ascii = ascii_lines bytes (subst (AllByRecursion (λ x. list_all is_ascii x ≡ true)) (sym e) lines) in
-    rw (le-ltb MAX_SCRIPT_LEN (length bytes) short, ascii, e) (lines_again s h)
+script_again law bytes s h short e =
+    let ascii = law.ascii bytes (script_words s) (words_fit law s h) e in
+    rw (le-ltb MAX_SCRIPT_LEN (length bytes) short, ascii, e) (lines_again law s h)
 
 -- the same of a call's result
-pub is_found : {A : Type 0} (bytes : List ℕ) (r : Result (code.RatifyScript A) RatifyFault)
+pub is_found : {A : Type 0} → TextLaws → (bytes : List ℕ) (r : Result (code.RatifyScript A) RatifyFault)
     → Gives (λ s. view s) r (script_of bytes)
     → IfOk r (λ s. HasSpelling (view s) × (lines_of bytes ≡ script_lines (view s)))
-is_found bytes (Ok s) read = script_takes bytes (view s) read
-is_found bytes (Err e) read = tt
+is_found law bytes (Ok s) read = script_takes law bytes (view s) read
+is_found law bytes (Err e) read = tt

@@ -1,12 +1,13 @@
 -- What a ratifier script is answered.
-use Rattle.std.specs.Prelude.{◌≡◌, ◌≢◌, ℕ, List, Option, Some, None, Result, Ok, Err, option_map}
+use Rattle.std.specs.Prelude.{◌≡◌, ℕ, List, Option, Some, None, Result, Ok, Err, option_map}
 use Rattle.mb_quorum.specs.Tables.{table_of}
 use Rattle.mb_deciding.specs.declared.object.Out.{Out}
 use Rattle.mb_deciding.specs.declared.object.Kind.TheVariants.{Ratifier}
 use Rattle.mb_deciding.specs.declared.trace.Entry.{Entry}
 use Rattle.mb_deciding.specs.Vocabulary.{setup_of, IsTrace, plain_schedule, refusal_of}
 use Rattle.mailbox_main.specs.declared.fault.RatifyFault.{RatifyFault}
-use Rattle.mailbox_main.specs.declared.fault.RatifyFault.TheVariants.{NoMemory, ReadFault, WriteFault}
+use Rattle.mailbox_main.specs.declared.fault.RatifyFault.TheVariants.{TooLong, NoMemory, ReadFault, WriteFault}
+use Rattle.mb_script.specs.Vocabulary.{Command}
 use Rattle.mailbox_main.specs.Refusal.{fault_from}
 use Rattle.mailbox_main.specs.RatifyScript.{Script, script_of}
 use Rattle.mailbox_main.specs.TraceText.{trace_text}
@@ -39,6 +40,13 @@ pub record IsAnswer (bytes text : List ℕ) : Type 0 where
   pub made : IsTraceOf script entries outputs
   pub written : text ≡ trace_text entries outputs
 
--- a fault that lies in the script, and not in memory or a device
-abbrev pub LiesInScript : RatifyFault → Type 0
-LiesInScript e = (e ≢ NoMemory) × (e ≢ ReadFault) × (e ≢ WriteFault)
+-- what the command `ratify` answers
+abbrev pub ratifying : Command RatifyFault
+ratifying = record {
+  too_long = TooLong;
+  no_memory = NoMemory;
+  read_fault = ReadFault;
+  write_fault = WriteFault;
+  IsAnswer = IsAnswer;
+  fault_of = fault_of;
+}

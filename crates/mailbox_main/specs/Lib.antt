@@ -1,10 +1,8 @@
 pub mod Answer
 pub mod CommandLine
-pub mod Devices
 pub mod Outcome
 pub mod RatifyScript
 pub mod Refusal
 pub mod Spelling
 pub mod Steps
-pub mod Text
 pub mod TraceText

@@ -1,17 +1,15 @@
 -- What the bytes of a ratifier script say.
-use Rattle.std.specs.Prelude.{ℕ, List, [], ◌∷◌, length, codes, Option, Some, None, Result, Ok, Err, nat_lt, ◌==◌, if◌then◌else◌}
+use Rattle.std.specs.Prelude.{ℕ, List, [], ◌∷◌, length, codes, Result, Ok, Err, nat_lt, ◌==◌, if◌then◌else◌}
 use Rattle.std.specs.List.{list_all}
 use Rattle.std.specs.Char.{is_ascii}
 use Rattle.std.specs.Option.{ok_or}
 use Rattle.std.specs.Str.{bytes_eq}
 use Rattle.mb_quorum.specs.declared.table.TableName.{TableName}
-use Rattle.mb_quorum.specs.declared.table.TableName.TheVariants.{Unary, Bits}
 use Rattle.mailbox_main.specs.declared.fault.RatifyFault.{RatifyFault}
 use Rattle.mailbox_main.specs.declared.fault.RatifyFault.TheVariants.{TooLong, NotAscii, BadLine, BadNumber}
 use Rattle.mailbox_main.specs.declared.script.RatifyScript as code
-use Rattle.mailbox_main.specs.declared.transfer.TheConstants.{MAX_SCRIPT_LEN}
-use Rattle.mailbox_main.specs.Text.{lines_of, words_of, has_empty, number_of, numbers_of}
-use Rattle.mailbox_main.specs.Steps.{◌>>=◌}
+use Rattle.mb_script.specs.declared.transfer.TheConstants.{MAX_SCRIPT_LEN}
+use Rattle.mb_script.specs.Vocabulary.{◌>>=◌, table_named, lines_of, words_of, has_empty, number_of, numbers_of}
 
 -- a script without where it lies in memory
 pub record Script : Type 0 where
@@ -28,13 +26,6 @@ view s = record { table = s.table; values = s.values; inputs = s.inputs.items; t
 unfoldable pub line_words : ℕ → List (List ℕ) → Result (List (List ℕ) × List (List ℕ)) RatifyFault
 line_words n [] = Err (BadLine n)
 line_words n (line ∷ rest) = if has_empty (words_of line) then Err (BadLine n) else Ok (words_of line, rest)
-
--- the table of a name
-abbrev pub table_named : List ℕ → Option TableName
-table_named word =
-    if bytes_eq word (codes "unary") then Some Unary
-    else if bytes_eq word (codes "bits") then Some Bits
-    else None
 
 -- `ratify`, a table and a number
 unfoldable pub head_of : List (List ℕ) → Result (TableName × ℕ) RatifyFault

@@ -3,8 +3,8 @@ use Rattle.mb_deciding.specs.declared.trace.Fault.{Fault}
 use Rattle.mb_deciding.specs.declared.trace.Fault.TheVariants as ratify
 use Rattle.mailbox_main.specs.declared.fault.RatifyFault.{RatifyFault}
 use Rattle.mailbox_main.specs.declared.fault.RatifyFault.TheVariants.{TooLong, BadValues, BadInput, NoSuchProcess, NoMemory, ReadFault}
-use Rattle.mailbox_main.specs.declared.transfer.ReadEnd.{ReadEnd}
-use Rattle.mailbox_main.specs.declared.transfer.ReadEnd.TheVariants as end
+use Rattle.mb_script.specs.declared.transfer.ReadEnd.{ReadEnd}
+use Rattle.mb_script.specs.declared.transfer.ReadEnd.TheVariants as end
 
 -- each refusal keeps its name
 abbrev pub fault_from : Fault → RatifyFault

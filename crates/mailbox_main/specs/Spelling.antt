@@ -2,14 +2,8 @@
 use Rattle.std.specs.Prelude.{ℕ, ◌<◌, ◌^◌, List, [], ◌∷◌, codes, map}
 use Rattle.std.specs.List.{join_with_byte, AllByRecursion}
 use Rattle.std.specs.Fmt.{decimal}
-use Rattle.mb_quorum.specs.declared.table.TableName.{TableName}
-use Rattle.mb_quorum.specs.declared.table.TableName.TheVariants.{Unary, Bits}
+use Rattle.mb_script.specs.Vocabulary.{table_name}
 use Rattle.mailbox_main.specs.RatifyScript.{Script}
-
--- the name of a table in a script
-abbrev pub table_name : TableName → List ℕ
-table_name Unary = codes "unary"
-table_name Bits = codes "bits"
 
 -- the words of each line
 abbrev pub script_words : Script → List (List (List ℕ))

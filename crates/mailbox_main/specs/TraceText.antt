@@ -2,24 +2,10 @@
 use Rattle.std.specs.Prelude.{ℕ, suc, List, [], ◌∷◌, ◌++◌, cond, codes, Option, Some, None}
 use Rattle.std.specs.List.{flat_map}
 use Rattle.std.specs.Fmt.{decimal}
-use Rattle.mb_deciding.specs.declared.access.Reg.{Reg}
-use Rattle.mb_deciding.specs.declared.access.Reg.TheVariants.{Value, Proposal, Quorum}
-use Rattle.mb_deciding.specs.declared.access.Act.{Act}
-use Rattle.mb_deciding.specs.declared.access.Act.TheVariants.{Load, Store}
 use Rattle.mb_deciding.specs.declared.object.Out.{Out}
 use Rattle.mb_deciding.specs.declared.trace.Entry.{Entry}
 use Rattle.mb_deciding.specs.declared.trace.Entry.TheVariants.{Access, Done}
-
--- a conciliator's word, the proposal, or a quorum register by its index
-abbrev pub reg_text : Reg → List ℕ
-reg_text Value = codes "c"
-reg_text Proposal = codes "p"
-reg_text (Quorum i) = codes "q" ++ decimal i
-
--- what was done, where, and the value of the word
-abbrev pub act_text : Act → List ℕ
-act_text (Load reg value) = codes "load " ++ reg_text reg ++ codes " " ++ decimal value
-act_text (Store reg value) = codes "store " ++ reg_text reg ++ codes " " ++ decimal value
+use Rattle.mb_script.specs.Vocabulary.{act_text}
 
 -- 1 where it is decided, else 0, and the value
 abbrev pub out_text : Out → List ℕ

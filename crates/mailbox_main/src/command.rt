@@ -13,19 +13,52 @@ use std::convert::AsStr;
 pub enum Choice {
     /// Run one ratifier: a script from standard input, its trace to standard output.
     Ratify,
+    /// Replay a script from standard input: its transcript and its report to standard output.
+    Replay,
 }
+
+const RATIFY_HELP: &str = "\
+A script has three lines of words, with one space between each two:
+  ratify <table> <m>      the quorum table, unary or bits, for m values, 1 to 16
+  inputs <i0> <i1> ..     the input of each process, each below m
+  turns <p> <p> ..        the process of each turn, in the order of time
+
+For example:
+  ratify unary 2
+  inputs 0 1
+  turns 0 0 0 0 1 1 1";
+
+const REPLAY_HELP: &str = "\
+A script is lines of words, with one space between each two. The first is
+  setup <producers> <consumers> <cells> <pairs> <table>
+with 1 to 16, 1 to 16, 0 to 256, 1 to 8, and unary or bits. Each line behind it is an event:
+  offer <lane> <item>               push <lane>               finish <lane>
+  step <consumer> <lane> <word>     where <word> is the random word of the step
+
+For example:
+  setup 1 1 1 1 bits
+  offer 0 7
+  push 0";
 
 /// The program in clap's words, of which one command has to be named.
 fn program<'a>(alloc: Global) -> Result<Command<'a>, AllocError>
     ensures { IfOk result (λ c. app_of c ≡ program) }
 {
-    let ratify = Command::new(alloc, "ratify").about(
-        "Runs one ratifier by a script from standard input, and prints each access and output",
-    );
+    let ratify = Command::new(alloc, "ratify")
+        .about(
+            "Runs one ratifier by a script from standard input, and prints each access and output",
+        )
+        .after_help(RATIFY_HELP);
+    let replay = Command::new(alloc, "replay")
+        .about(
+            "Replays a script from standard input, and prints each event's answer and the report",
+        )
+        .after_help(REPLAY_HELP);
     Command::new(alloc, "mailbox_main")
         .about("Runs scripts of single atomic steps")
         .subcommand_required(true)
-        .subcommand(ratify)
+        .subcommand(ratify)?
+        .subcommand(replay)
 }
 
 /// The choice of the command's name.
@@ -35,6 +68,7 @@ fn choice_named(name: Option<&str>) -> Option<Choice>
 {
     match name {
         Some("ratify") => Some(Choice::Ratify),
+        Some("replay") => Some(Choice::Replay),
         _ => None,
     }
 }

@@ -5,10 +5,10 @@ ghost use Rattle.clap.specs.Words.{takes};
 ghost use Rattle.mb_quorum.specs.declared.table.TableName.TheVariants.{Unary};
 ghost use Rattle.mailbox_main.specs.declared.fault.RatifyFault.TheVariants.{TooLong, BadLine, NoMemory, ReadFault};
 ghost use Rattle.mailbox_main.specs.declared.fault.RatifyFault.TheVariants.{WriteFault};
-ghost use Rattle.mailbox_main.specs.declared.transfer.TheConstants.{MAX_SCRIPT_LEN};
-ghost use Rattle.mailbox_main.specs.Answer.{IsAnswer, LiesInScript};
+ghost use Rattle.mb_script.specs.declared.transfer.TheConstants.{MAX_SCRIPT_LEN};
+ghost use Rattle.mailbox_main.specs.Answer.{IsAnswer, ratifying};
 ghost use Rattle.mailbox_main.specs.CommandLine.{program, command_in};
-ghost use Rattle.mailbox_main.specs.Devices.{AppendsFront, ConsumesCount, ConsumesUpTo, Had};
+ghost use Rattle.mb_script.specs.Vocabulary.{AppendsFront, ConsumesCount, ConsumesUpTo, Had, LiesIn};
 ghost use Rattle.mailbox_main.specs.Spelling.{HasSpelling};
 ghost use Rattle.mailbox_main.specs.Steps.{Gives};
 
@@ -53,10 +53,10 @@ pub fn answers_fit_their_script()
 
 /// Want of memory and what devices do are no faults of a script.
 pub fn faults_lie_in_the_script()
-    ensures line { LiesInScript (BadLine 2) }
-    ensures memory { LiesInScript NoMemory → ⊥ }
-    ensures read { LiesInScript ReadFault → ⊥ }
-    ensures write { LiesInScript WriteFault → ⊥ }
+    ensures line { LiesIn ratifying (BadLine 2) }
+    ensures memory { LiesIn ratifying NoMemory → ⊥ }
+    ensures read { LiesIn ratifying ReadFault → ⊥ }
+    ensures write { LiesIn ratifying WriteFault → ⊥ }
 {}
 
 /// A call that reads gives what was to be read, or wants memory, and gives no fault of a device.

@@ -3,7 +3,7 @@ ghost use Rattle.std.specs.Prelude.{◌≡◌};
 ghost use Rattle.mailbox_main.specs.declared.fault.RatifyFault.TheVariants.{NoMemory, WriteFault};
 ghost use Rattle.mailbox_main.specs.Refusal.{fault_from, fault_at};
 
-use crate::transfer::{ReadEnd, WriteFailed};
+use mb_script::{Fault, ReadEnd, WriteFailed};
 use std::alloc::{AllocError, AllocFailed};
 
 /// Why `ratify_text` stopped.
@@ -84,8 +84,10 @@ impl From<WriteFailed> for RatifyFault {
 pub type NoMemory = AllocError;
 
 /// Which command failed, and why.
-#[derive(Clone, Copy, Debug, PartialEq, Eq, Hash)]
+#[derive(Clone, Copy, Debug, PartialEq, Eq)]
 pub enum Failed {
     /// `ratify`, by this fault.
     Ratify(RatifyFault),
+    /// `replay`, by this fault.
+    Replay(Fault),
 }

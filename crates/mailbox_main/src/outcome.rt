@@ -1,10 +1,12 @@
 //! How the program ends: the line of a fault, and the exit statuses.
-ghost use Rattle.std.specs.Prelude.{◌≡◌, IfOk, string_bytes};
-ghost use Rattle.clap.specs.Words.{kind_of};
-ghost use Rattle.mailbox_main.specs.Outcome.{fault_line, fault_status, refusal_status};
+ghost use Rattle.std.specs.Prelude.{◌≡◌, ◌++◌, IfOk, OnOk, string_bytes};
+ghost use Rattle.mailbox_main.specs.declared.fault.Failed.TheVariants.{Ratify, Replay};
+ghost use Rattle.mailbox_main.specs.Outcome.{end_status, fault_line, fault_status, refusal_status, setup_fault_text};
 
 use crate::fault::{Failed, NoMemory, RatifyFault};
 use clap::error::ErrorKind;
+use mb_script::Fault;
+use mb_world::SetupFault;
 use std::alloc::Allocator;
 
 /// The status where all went well, and after help that was asked for.
@@ -16,11 +18,36 @@ pub const REFUSED: u8 = 2;
 /// The status after want of memory, or a failed read or write.
 pub const FAILED: u8 = 3;
 
-/// The line of a fault, with its LF: `fault`, the fault's number and name, and the number that it is about, if any.
-pub fn fault_text<A: Allocator>(alloc: A, failed: &Failed) -> Result<String<A>, NoMemory>
-    ensures { IfOk result (λ text. string_bytes text ≡ fault_line failed.now) }
+/// How the program comes to its end.
+#[derive(Clone, Copy, Debug, PartialEq, Eq)]
+pub enum Ending {
+    /// The command did what was asked.
+    Done,
+    /// The command failed.
+    Failed(Failed),
+    /// Clap did not read the command line, for a reason of this kind. Its text was printed, or it could not be.
+    Refused { kind: ErrorKind, printed: bool },
+    /// A word of the command line is no UTF-8.
+    NoText,
+    /// The words of the command line could not be had.
+    NoWords,
+}
+
+fn push_setup_fault<A: Allocator>(text: &mut String<A>, fault: SetupFault) -> Result<(), NoMemory>
+    ensures { OnOk result
+        (string_bytes text.new ≡ string_bytes text.old ++ setup_fault_text fault) }
 {
-    let Failed::Ratify(fault) = failed;
+    text.push_str(match fault {
+        SetupFault::BadProducers => "1 BadProducers",
+        SetupFault::BadConsumers => "2 BadConsumers",
+        SetupFault::BadCells => "3 BadCells",
+        SetupFault::BadRounds => "4 BadRounds",
+    })
+}
+
+fn ratify_fault_text<A: Allocator>(alloc: A, fault: RatifyFault) -> Result<String<A>, NoMemory>
+    ensures { IfOk result (λ text. string_bytes text ≡ fault_line (Ratify fault)) }
+{
     let mut text = String::new(alloc);
     match fault {
         RatifyFault::TooLong => text.push_str("fault 1 TooLong\n")?,
@@ -37,25 +64,76 @@ pub fn fault_text<A: Allocator>(alloc: A, failed: &Failed) -> Result<String<A>, 
     Ok(text)
 }
 
+fn replay_fault_text<A: Allocator>(alloc: A, fault: Fault) -> Result<String<A>, NoMemory>
+    ensures { IfOk result (λ text. string_bytes text ≡ fault_line (Replay fault)) }
+{
+    let mut text = String::new(alloc);
+    match fault {
+        Fault::TooLong => text.push_str("fault 1 TooLong\n")?,
+        Fault::NotAscii => text.push_str("fault 2 NotAscii\n")?,
+        Fault::BadLine(line) => write!(text, "fault 3 BadLine {line}\n")?,
+        Fault::BadNumber(line) => write!(text, "fault 4 BadNumber {line}\n")?,
+        Fault::NoSetup => text.push_str("fault 5 NoSetup\n")?,
+        Fault::BadSetup(line, why) => {
+            write!(text, "fault 6 BadSetup {line} ")?;
+            push_setup_fault(&mut text, why)?;
+            text.push_str("\n")?;
+        }
+        Fault::NoLane(line) => write!(text, "fault 7 NoLane {line}\n")?,
+        Fault::NoConsumer(line) => write!(text, "fault 8 NoConsumer {line}\n")?,
+        Fault::TooManyEvents => text.push_str("fault 9 TooManyEvents\n")?,
+        Fault::NoMemory => text.push_str("fault 10 NoMemory\n")?,
+        Fault::ReadFault => text.push_str("fault 11 ReadFault\n")?,
+        Fault::WriteFault => text.push_str("fault 12 WriteFault\n")?,
+    }
+    Ok(text)
+}
+
+/// The line of a fault, with its LF: `fault`, the fault's number and name, and what it is about, if anything: the number
+/// of a line or a place, and behind the line of a setup the number and name of the setup's fault.
+pub fn fault_text<A: Allocator>(alloc: A, failed: &Failed) -> Result<String<A>, NoMemory>
+    ensures { IfOk result (λ text. string_bytes text ≡ fault_line failed.now) }
+{
+    match *failed {
+        Failed::Ratify(fault) => ratify_fault_text(alloc, fault),
+        Failed::Replay(fault) => replay_fault_text(alloc, fault),
+    }
+}
+
 /// The exit status of a fault: `FAILED` for want of memory and for a failed read or write, else `REFUSED`.
 pub fn status_of(failed: &Failed) -> u8
     ensures { result ≡ fault_status failed.now }
 {
-    let Failed::Ratify(fault) = failed;
-    match fault {
-        RatifyFault::NoMemory | RatifyFault::ReadFault | RatifyFault::WriteFault => FAILED,
+    match failed {
+        Failed::Ratify(RatifyFault::NoMemory | RatifyFault::ReadFault | RatifyFault::WriteFault) =>
+            FAILED,
+        Failed::Replay(Fault::NoMemory | Fault::ReadFault | Fault::WriteFault) => FAILED,
         _ => REFUSED,
     }
 }
 
-/// The exit status where clap did not read the command line: `DONE` for help that was asked for, `FAILED` for want of
-/// memory, else `REFUSED`.
-pub fn status_of_refusal(error: &clap::Error) -> u8
-    ensures { result ≡ refusal_status (kind_of error.now) }
+fn status_of_refusal(kind: ErrorKind, printed: bool) -> u8
+    ensures { result ≡ refusal_status kind printed }
 {
-    match error.kind() {
-        ErrorKind::DisplayHelp | ErrorKind::DisplayVersion => DONE,
+    match kind {
+        ErrorKind::DisplayHelp | ErrorKind::DisplayVersion if printed => DONE,
+        ErrorKind::DisplayHelp | ErrorKind::DisplayVersion => FAILED,
         ErrorKind::OutOfMemory => FAILED,
         _ => REFUSED,
+    }
+}
+
+/// The exit status of the program: `DONE` where the command did what was asked, and after help that was asked for and
+/// printed; `FAILED` for help that could not be printed, for want of memory, and for a failed read or write; else
+/// `REFUSED`.
+pub fn status_of_ending(ending: &Ending) -> u8
+    ensures { result ≡ end_status ending.now }
+{
+    match ending {
+        Ending::Done => DONE,
+        Ending::Failed(failed) => status_of(failed),
+        Ending::Refused { kind, printed } => status_of_refusal(*kind, *printed),
+        Ending::NoText => REFUSED,
+        Ending::NoWords => FAILED,
     }
 }

@@ -1,40 +1,56 @@
 //! What the program does between its command line and its status.
-ghost use Rattle.std.specs.Prelude.{◌≡◌, ◌≢◌};
+ghost use Rattle.std.specs.Prelude.{◌≡◌, Bool};
 ghost use Rattle.clap.specs.Words.{kind_of};
-ghost use Rattle.mailbox_main.specs.Outcome.{fault_status, refusal_status};
+ghost use Rattle.mailbox_main.specs.declared.outcome.Ending.TheVariants as ending;
 
-use crate::command::Choice;
-use crate::device::Counting;
+use crate::command::{Choice, command_of};
 use crate::fault::Failed;
-use crate::outcome::{DONE, FAILED, fault_text, status_of, status_of_refusal};
+use crate::outcome::{Ending, fault_text};
 use crate::ratify::ratify_text;
+use mb_script::Counting;
+use std::convert::AsStr;
 use std::io;
 
-/// Does what was asked, from standard input to standard output.
-pub fn run<R: Input + Print + AllocGlobal>(rt: &R, choice: Choice) -> Result<(), Failed> {
+/// Does what the words of the command line ask for.
+pub fn run<R: Input + Print + Eprint + AllocGlobal, S: AsStr>(rt: &R, words: &[S]) -> Ending {
+    match command_of(rt.alloc(), words) {
+        Ok(choice) => match carry_out(rt, choice) {
+            Ok(()) => Ending::Done,
+            Err(failed) => end_with_fault(rt, failed),
+        },
+        Err(error) => end_with_refusal(rt, &error),
+    }
+}
+
+/// Does what was chosen, from standard input to standard output.
+fn carry_out<R: Input + Print + AllocGlobal>(rt: &R, choice: Choice) -> Result<(), Failed> {
     let mut reader = Counting::new(rt.reader());
     let mut writer = Counting::new(io::writer(rt));
     match choice {
         Choice::Ratify => ratify_text(rt.alloc(), &mut reader, &mut writer).map_err(Failed::Ratify),
+        Choice::Replay => {
+            mb_script::run(rt.alloc(), &mut reader, &mut writer).map_err(Failed::Replay)
+        }
     }
 }
 
-/// Prints the line of a fault, where there is memory for it, and answers the status.
-pub fn end_with_fault<R: Eprint + AllocGlobal>(rt: &R, failed: &Failed) -> u8
-    ensures { result ≡ fault_status failed.now }
+/// Prints the line of a fault, where there is memory for it.
+fn end_with_fault<R: Eprint + AllocGlobal>(rt: &R, failed: Failed) -> Ending
+    ensures { result ≡ ending.Failed failed }
 {
-    if let Ok(text) = fault_text(rt.alloc(), failed) {
+    if let Ok(text) = fault_text(rt.alloc(), &failed) {
         let _ = rt.eprint(text);
     }
-    status_of(failed)
+    Ending::Failed(failed)
 }
 
-/// Prints clap's help or refusal, and answers the status. Help that could not be printed is a failed write.
-pub fn end_with_refusal<R: Print + Eprint>(rt: &R, error: &clap::Error) -> u8
-    ensures { refusal_status (kind_of error.now) ≢ 0 → result ≡ refusal_status (kind_of error.now) }
+/// Prints clap's help or refusal.
+fn end_with_refusal<R: Print + Eprint>(rt: &R, error: &clap::Error) -> Ending
+    ensures { (printed : Bool) × (result ≡ ending.Refused (kind_of error.now) printed) }
 {
-    match (status_of_refusal(error), error.print(rt)) {
-        (DONE, Err(_)) => FAILED,
-        (status, _) => status,
+    let printed = error.print(rt).is_ok();
+    Ending::Refused {
+        kind: error.kind(),
+        printed,
     }
 }

@@ -2,62 +2,60 @@
 //!
 //! It has three lines: `ratify`, the name of a quorum table and how many values the table is for; `inputs` and the
 //! input of each process; `turns` and the process of each turn.
-ghost use Rattle.std.specs.Prelude.{◌≡◌, ◌≤◌, map, length, Ok, IfOk};
-ghost use Rattle.mailbox_main.specs.Text.{lines_of};
+ghost use Rattle.std.specs.Prelude.{◌≡◌, ◌≤◌, length, Ok, IfOk};
+ghost use Rattle.mb_script.specs.Vocabulary.{lines_of, words_of};
 ghost use Rattle.mailbox_main.specs.Steps.{Gives};
-ghost use Rattle.mailbox_main.specs.RatifyScript.{Script, view, line_words, table_named, head_of, list_of};
+ghost use Rattle.mailbox_main.specs.RatifyScript.{Script, view, line_words, head_of, list_of};
 ghost use Rattle.mailbox_main.specs.RatifyScript.{three_lines, script_of};
 ghost use Rattle.mailbox_main.specs.Spelling.{HasSpelling, script_lines};
 
 use crate::fault::RatifyFault;
 use crate::script::RatifyScript;
-use crate::text::{has_empty, number, numbers, split_line, words};
-use crate::transfer::MAX_SCRIPT_LEN;
 use mb_quorum::TableName;
+use mb_script::laws::{
+    lines_of_words_are_ascii, numbers_are_read_as_spelled, words_are_cut_as_spelled,
+};
+use mb_script::{
+    MAX_SCRIPT_LEN, ascii_text, has_empty_word, number, numbers, split_line, split_word,
+    table_named,
+};
 use std::alloc::Allocator;
-use std::str;
 
-/// The words of line `n`, with which the text begins, and the text after it.
+/// Line `n`, with which the text begins, and the text after it.
 #[tactic(auto, unfolding(crate::specs::RatifyScript::line_words))]
-fn line<'a, A: Allocator + Drop>(
-    alloc: A,
-    n: usize,
-    text: &'a str,
-) -> Result<(Vec<&'a str, A>, &'a str), RatifyFault>
-    ensures { Gives (λ x. (map (λ w. w.now) x.0.items, lines_of x.1.now)) result (line_words n (lines_of text.now)) }
+fn line(n: usize, text: &str) -> Result<(&str, &str), RatifyFault>
+    ensures { Gives (λ x. (words_of x.0.now, lines_of x.1.now)) result (line_words n (lines_of text.now)) }
 {
     let Some((line, rest)) = split_line(text) else {
         return Err(RatifyFault::BadLine(n));
     };
-    let words = words(alloc, line)?;
-    if has_empty(&words) {
+    if has_empty_word(line) {
         return Err(RatifyFault::BadLine(n));
     }
-    Ok((words, rest))
-}
-
-fn table(word: &str) -> Option<TableName>
-    ensures { result ≡ table_named word.now }
-{
-    match word {
-        "unary" => Some(TableName::Unary),
-        "bits" => Some(TableName::Bits),
-        _ => None,
-    }
+    Ok((line, rest))
 }
 
 /// `ratify`, a table and a number.
 #[tactic(auto, unfolding(crate::specs::RatifyScript::head_of))]
-fn head(words: &[&str]) -> Result<(TableName, u64), RatifyFault>
-    ensures { Gives (λ x. x) result (head_of (map (λ w. w.now) words.now)) }
+fn head(line: &str) -> Result<(TableName, u64), RatifyFault>
+    ensures { Gives (λ x. x) result (head_of (words_of line.now)) }
 {
-    let [key, name, values] = words else {
+    let (key, behind) = split_word(line);
+    let Some(second) = behind else {
         return Err(RatifyFault::BadLine(1));
     };
-    if *key != "ratify" {
+    let (name, behind) = split_word(second);
+    let Some(third) = behind else {
+        return Err(RatifyFault::BadLine(1));
+    };
+    let (values, behind) = split_word(third);
+    if let Some(_further) = behind {
         return Err(RatifyFault::BadLine(1));
     }
-    let name = table(name).ok_or(RatifyFault::BadLine(1))?;
+    if key != "ratify" {
+        return Err(RatifyFault::BadLine(1));
+    }
+    let name = table_named(name).ok_or(RatifyFault::BadLine(1))?;
     let values = number(values).ok_or(RatifyFault::BadNumber(1))?;
     Ok((name, values))
 }
@@ -68,29 +66,27 @@ fn list<A: Allocator + Drop>(
     alloc: A,
     n: usize,
     key: &str,
-    words: &[&str],
+    line: &str,
 ) -> Result<Vec<u64, A>, RatifyFault>
-    ensures { Gives (λ v. v.items) result (list_of n key.now (map (λ w. w.now) words.now)) }
+    ensures { Gives (λ v. v.items) result (list_of n key.now (words_of line.now)) }
 {
-    let Some((first, rest)) = words.split_first() else {
-        return Err(RatifyFault::BadLine(n));
-    };
-    if *first != key {
+    let (first, behind) = split_word(line);
+    if first != key {
         return Err(RatifyFault::BadLine(n));
     }
-    numbers(alloc, rest)?.ok_or(RatifyFault::BadNumber(n))
+    numbers(alloc, behind)?.ok_or(RatifyFault::BadNumber(n))
 }
 
 #[tactic(auto, unfolding(crate::specs::RatifyScript::three_lines))]
 fn read_lines<A: Allocator + Copy>(alloc: A, text: &str) -> Result<RatifyScript<A>, RatifyFault>
     ensures { Gives (λ s. view s) result (three_lines (lines_of text.now)) }
 {
-    let (words, rest) = line(alloc, 1, text)?;
-    let (table, values) = head(&words)?;
-    let (words, rest) = line(alloc, 2, rest)?;
-    let inputs = list(alloc, 2, "inputs", &words)?;
-    let (words, rest) = line(alloc, 3, rest)?;
-    let turns = list(alloc, 3, "turns", &words)?;
+    let (first, rest) = line(1, text)?;
+    let (table, values) = head(first)?;
+    let (second, rest) = line(2, rest)?;
+    let inputs = list(alloc, 2, "inputs", second)?;
+    let (third, rest) = line(3, rest)?;
+    let turns = list(alloc, 3, "turns", third)?;
     let None = split_line(rest) else {
         return Err(RatifyFault::BadLine(4));
     };
@@ -109,11 +105,8 @@ fn read_bytes<A: Allocator + Copy>(alloc: A, bytes: &[u8]) -> Result<RatifyScrip
     if bytes.len() > MAX_SCRIPT_LEN {
         return Err(RatifyFault::TooLong);
     }
-    if !bytes.is_ascii() {
+    let Some(text) = ascii_text(bytes) else {
         return Err(RatifyFault::NotAscii);
-    }
-    let Ok(text) = str::from_utf8(bytes) else {
-        unreachable!()
     };
     read_lines(alloc, text)
 }
@@ -133,5 +126,8 @@ pub fn read_script<A: Allocator + Copy>(
     // Which fault it is.
     ensures exact { Gives (λ s. view s) result (script_of bytes.now) }
 {
+    words_are_cut_as_spelled();
+    numbers_are_read_as_spelled();
+    lines_of_words_are_ascii();
     read_bytes(alloc, bytes)
 }

@@ -1,18 +1,19 @@
 //! The command `ratify` on worked scripts, over devices that fail, and with refused memory; how the program ends.
 
+mod devices;
+mod replay;
+mod replays;
+
 use crate::command::{Choice, command_of};
-use crate::device::Counting;
 use crate::fault::{Failed, RatifyFault};
-use crate::outcome::{fault_text, status_of, status_of_refusal};
+use crate::outcome::{Ending, fault_text, status_of, status_of_ending};
 use crate::ratify::ratify_text;
 use crate::reading::read_script;
-use crate::text::{has_empty, number, split_line, words};
-use clap::Command;
 use clap::error::ErrorKind;
+use devices::{Letters, NarrowWriter, SlowReader};
 use linked_list_allocator::LocalHeap;
 use mb_quorum::TableName;
-use std::io;
-use std::io::{Read, Write};
+use mb_script::{Counting, Fault};
 use std::test::Fail;
 
 const LATE_INPUT: &str = "ratify unary 2\ninputs 0 1\nturns 0 0 0 0 1 1 1\n";
@@ -76,6 +77,41 @@ fn scripts_are_answered(rt: HostRuntime) -> Result<(), Fail> {
     Ok(())
 }
 
+// Ten thousand turns of sixteen processes with one value, which has an empty read quorum.
+#[test]
+fn ten_thousand_turns_are_answered(rt: HostRuntime) -> Result<(), Fail> {
+    let processes = [
+        "0", "1", "2", "3", "4", "5", "6", "7", "8", "9", "10", "11", "12", "13", "14", "15",
+    ];
+    let mut script = String::new(rt.alloc());
+    let mut want = String::new(rt.alloc());
+    script.push_str("ratify unary 1\ninputs 0 0 0 0 0 0 0 0 0 0 0 0 0 0 0 0\nturns")?;
+    for round in 0..625 {
+        for process in processes {
+            script.push_str(" ")?;
+            script.push_str(process)?;
+            want.push_str(process)?;
+            want.push_str(match round {
+                0 => " store q0 1\n",
+                1 => " load p 0\n",
+                2 => " store p 1 out 1 0\n",
+                _ => " done\n",
+            })?;
+        }
+    }
+    script.push_str("\n")?;
+    for process in processes {
+        want.push_str("process ")?;
+        want.push_str(process)?;
+        want.push_str(": 1 0\n")?;
+    }
+    let mut reader = Counting::new(script.as_bytes());
+    let mut writer = Counting::new(Vec::<u8>::new(rt.alloc()));
+    assert_eq!(rt; ratify_text(rt.alloc(), &mut reader, &mut writer), Ok(()));
+    assert!(rt; writer.device.as_slice() == want.as_bytes());
+    Ok(())
+}
+
 #[test]
 fn a_script_is_read(rt: HostRuntime) -> Result<(), Fail> {
     let Ok(script) = read_script(rt.alloc(), LATE_INPUT.as_bytes()) else {
@@ -85,45 +121,6 @@ fn a_script_is_read(rt: HostRuntime) -> Result<(), Fail> {
     assert_eq!(rt; script.values, 2);
     assert_eq!(rt; script.inputs.as_slice(), [0, 1].as_slice());
     assert_eq!(rt; script.turns.as_slice(), [0, 0, 0, 0, 1, 1, 1].as_slice());
-    Ok(())
-}
-
-#[test]
-fn texts_are_cut(rt: HostRuntime) -> Result<(), Fail> {
-    for (text, want) in [
-        ("", None),
-        ("\n", Some(("", ""))),
-        ("a b", Some(("a b", ""))),
-        ("a\r\n\nb", Some(("a\r", "\nb"))),
-    ] {
-        assert!(rt; split_line(text) == want, "{text}");
-    }
-    for (line, want, empty) in [
-        ("", [""].as_slice(), true),
-        ("a b\tc", ["a", "b\tc"].as_slice(), false),
-        (" a  b", ["", "a", "", "b"].as_slice(), true),
-        ("a ", ["a", ""].as_slice(), true),
-    ] {
-        let cut = words(rt.alloc(), line)?;
-        assert!(rt; cut.as_slice() == want, "{line}");
-        assert_eq!(rt; has_empty(&cut), empty, "{line}");
-    }
-    for (word, want) in [
-        ("0", Some(0)),
-        ("9", Some(9)),
-        ("10", Some(10)),
-        ("18446744073709551615", Some(u64::MAX)),
-        ("18446744073709551616", None),
-        ("00", None),
-        ("01", None),
-        ("+1", None),
-        ("-1", None),
-        ("1x", None),
-        ("1\r", None),
-        ("", None),
-    ] {
-        assert_eq!(rt; number(word), want, "{word}");
-    }
     Ok(())
 }
 
@@ -220,47 +217,6 @@ fn the_first_fault_decides(rt: HostRuntime) -> Result<(), Fail> {
     Ok(())
 }
 
-// Gives the script one byte at a time, and then fails or ends.
-#[derive(Drop)]
-struct SlowReader {
-    script: &'static [u8],
-    fails: bool,
-}
-
-impl Read for SlowReader {
-    fn read(&mut self, buf: &mut [u8]) -> io::Result<usize> {
-        if self.script.is_empty() && self.fails {
-            return Err(io::Error::from(io::ErrorKind::Other));
-        }
-        let len = buf.len().min(1);
-        self.script.read(&mut buf[..len])
-    }
-}
-
-// Takes `room` bytes, one at a time, and then fails or takes none.
-#[derive(Drop)]
-struct NarrowWriter {
-    taken: Vec<u8>,
-    room: usize,
-    fails: bool,
-}
-
-impl Write for NarrowWriter {
-    fn write(&mut self, buf: &[u8]) -> io::Result<usize> {
-        if self.room == 0 && self.fails {
-            return Err(io::Error::from(io::ErrorKind::Other));
-        }
-        let len = buf.len().min(1).min(self.room);
-        self.taken.extend_from_slice(&buf[..len])?;
-        self.room -= len;
-        Ok(len)
-    }
-
-    fn flush(&mut self) -> io::Result<()> {
-        Ok(())
-    }
-}
-
 #[test]
 fn devices_fail(rt: HostRuntime) -> Result<(), Fail> {
     let read_fault = Err(RatifyFault::ReadFault);
@@ -285,25 +241,6 @@ fn devices_fail(rt: HostRuntime) -> Result<(), Fail> {
         assert_eq!(rt; writer.device.taken.as_slice(), written.as_bytes());
     }
     Ok(())
-}
-
-// Gives so many letters, and then fails or ends.
-#[derive(Drop)]
-struct Letters {
-    left: usize,
-    fails: bool,
-}
-
-impl Read for Letters {
-    fn read(&mut self, buf: &mut [u8]) -> io::Result<usize> {
-        if self.left == 0 && self.fails {
-            return Err(io::Error::from(io::ErrorKind::Other));
-        }
-        let len = buf.len().min(self.left);
-        buf[..len].fill(b'a');
-        self.left -= len;
-        Ok(len)
-    }
 }
 
 #[test]
@@ -355,6 +292,13 @@ fn the_command_line_is_read(rt: HostRuntime) -> Result<(), Fail> {
             Ok(Choice::Ratify)
         )
     );
+    let replay = ["mailbox", "replay"];
+    assert!(rt;
+        matches!(
+            command_of(rt.alloc(), replay.as_slice()),
+            Ok(Choice::Replay)
+        )
+    );
     for (words, want, status) in [
         (["mailbox", "--help"].as_slice(), ErrorKind::DisplayHelp, 0),
         (["mailbox"].as_slice(), ErrorKind::MissingSubcommand, 2),
@@ -378,9 +322,29 @@ fn the_command_line_is_read(rt: HostRuntime) -> Result<(), Fail> {
             return Err(Fail::from("a line that is refused"));
         };
         assert!(rt; error.kind() == want);
-        assert_eq!(rt; status_of_refusal(&error), status);
+        let kind = error.kind();
+        for (printed, want) in [
+            (true, status),
+            (false, if status == 0 { 3 } else { status }),
+        ] {
+            assert_eq!(rt; status_of_ending(&Ending::Refused { kind, printed }), want);
+        }
     }
-    let no_memory = Command::new(rt.alloc(), "mailbox").error(ErrorKind::OutOfMemory, "")?;
-    assert_eq!(rt; status_of_refusal(&no_memory), 3);
+    for (ending, status) in [
+        (Ending::Done, 0),
+        (Ending::Failed(Failed::Ratify(RatifyFault::BadLine(1))), 2),
+        (Ending::Failed(Failed::Replay(Fault::ReadFault)), 3),
+        (
+            Ending::Refused {
+                kind: ErrorKind::OutOfMemory,
+                printed: true,
+            },
+            3,
+        ),
+        (Ending::NoText, 2),
+        (Ending::NoWords, 3),
+    ] {
+        assert_eq!(rt; status_of_ending(&ending), status);
+    }
     Ok(())
 }

@@ -1,34 +1,12 @@
 //! The text of a ratifier's trace.
 ghost use Rattle.std.specs.Prelude.{◌≡◌, ◌++◌, IfOk, OnOk, string_bytes};
 ghost use Rattle.std.specs.List.{flat_map};
-ghost use Rattle.mailbox_main.specs.TraceText.{reg_text, act_text, out_text, entry_text, process_text};
+ghost use Rattle.mailbox_main.specs.TraceText.{out_text, entry_text, process_text};
 ghost use Rattle.mailbox_main.specs.TraceText.{processes_text, trace_text};
 
-use mb_deciding::{Act, Entry, Out, Reg, Trace};
+use mb_deciding::{Entry, Out, Trace};
+use mb_script::push_act;
 use std::alloc::{AllocError, Allocator};
-
-fn push_reg<A: Allocator>(text: &mut String<A>, reg: Reg) -> Result<(), AllocError>
-    ensures { OnOk result (string_bytes text.new ≡ string_bytes text.old ++ reg_text reg) }
-{
-    match reg {
-        // A conciliator's word, which is here for the type's sake: no ratifier has one.
-        Reg::Value => text.push_str("c"),
-        Reg::Proposal => text.push_str("p"),
-        Reg::Quorum(i) => write!(text, "q{i}"),
-    }
-}
-
-fn push_act<A: Allocator>(text: &mut String<A>, act: Act) -> Result<(), AllocError>
-    ensures { OnOk result (string_bytes text.new ≡ string_bytes text.old ++ act_text act) }
-{
-    let (name, reg, value) = match act {
-        Act::Load { reg, value } => ("load ", reg, value),
-        Act::Store { reg, value } => ("store ", reg, value),
-    };
-    text.push_str(name)?;
-    push_reg(text, reg)?;
-    write!(text, " {value}")
-}
 
 fn push_out<A: Allocator>(text: &mut String<A>, out: Out) -> Result<(), AllocError>
     ensures { OnOk result (string_bytes text.new ≡ string_bytes text.old ++ out_text out) }

@@ -6,7 +6,7 @@ use Rattle.mailbox_main.specs.Answer.{IsTraceOf, refused_as}
 use Rattle.mailbox_main.specs.declared.fault.RatifyFault.{RatifyFault}
 use Rattle.mailbox_main.specs.declared.fault.RatifyFault.TheVariants.{BadValues}
 use Rattle.mailbox_main.specs.RatifyScript.{Script, script_of, three_lines, line_words, head_of, list_of}
-use Rattle.mailbox_main.specs.Text.{number_of, numbers_of}
+use Rattle.mb_script.specs.Vocabulary.{number_of, numbers_of}
 use Rattle.mailbox_main.specs.TraceText.{trace_text}
 use Rattle.mailbox_main.proofs.examples.answers_fit_their_script.Goals as goal
 

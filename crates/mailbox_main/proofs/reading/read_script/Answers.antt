@@ -1,13 +1,28 @@
 use Rattle.std.proofs.Common.{subst}
 use Rattle.mailbox_main.specs.Steps.{Gives}
 use Rattle.mailbox_main.specs.RatifyScript.{view}
-use Rattle.mailbox_main.proofs.ScriptSpelling.{is_found, script_again}
+use Rattle.mailbox_main.proofs.ScriptSpelling.{TextLaws, is_found, script_again}
 use Rattle.mailbox_main.proofs.reading.read_script.Goals as goal
 
-pub returns-clause-found : goal.returns-clause-found
-returns-clause-found g c = is_found c.args.bytes.now c.read_bytes.result c.read_bytes.ensures.exact
-
-pub returns-clause-only : goal.returns-clause-only
-returns-clause-only g c =
-    λ s spelled short lines. subst (λ r. Gives (λ s. view s) c.read_bytes.result r)
-    (script_again c.args.bytes.now s spelled short lines) c.read_bytes.ensures.exact
+pub returns : goal.returns
+returns g c =
+    let words = c.words_are_cut_as_spelled.ensures in
+    let numbers = c.numbers_are_read_as_spelled.ensures in
+    let law : TextLaws = record {
+      cut = words.cut;
+      none_empty = words.none_empty;
+      word = numbers.word;
+      words = numbers.words;
+      read = numbers.read;
+      all_read = numbers.all_read;
+      spelled = numbers.spelled;
+      all_spelled = numbers.all_spelled;
+      ascii = c.lines_of_words_are_ascii.ensures;
+    } in
+    let exact = c.read_bytes.ensures.exact in
+    record {
+      found = is_found law c.args.bytes.now c.read_bytes.result exact;
+      only = λ s spelled short lines. subst (λ r. Gives (λ s. view s) c.read_bytes.result r)
+          (script_again law c.args.bytes.now s spelled short lines) exact;
+      exact = exact;
+    }

@@ -1,0 +1,63 @@
+//! Readers and writers that are slow, or fail.
+use std::io;
+use std::io::{Read, Write};
+
+/// Gives the script one byte at a time, and then fails or ends.
+#[derive(Drop)]
+pub struct SlowReader {
+    pub script: &'static [u8],
+    pub fails: bool,
+}
+
+impl Read for SlowReader {
+    fn read(&mut self, buf: &mut [u8]) -> io::Result<usize> {
+        if self.script.is_empty() && self.fails {
+            return Err(io::Error::from(io::ErrorKind::Other));
+        }
+        let len = buf.len().min(1);
+        self.script.read(&mut buf[..len])
+    }
+}
+
+/// Takes `room` bytes, one at a time, and then fails or takes none.
+#[derive(Drop)]
+pub struct NarrowWriter {
+    pub taken: Vec<u8>,
+    pub room: usize,
+    pub fails: bool,
+}
+
+impl Write for NarrowWriter {
+    fn write(&mut self, buf: &[u8]) -> io::Result<usize> {
+        if self.room == 0 && self.fails {
+            return Err(io::Error::from(io::ErrorKind::Other));
+        }
+        let len = buf.len().min(1).min(self.room);
+        self.taken.extend_from_slice(&buf[..len])?;
+        self.room -= len;
+        Ok(len)
+    }
+
+    fn flush(&mut self) -> io::Result<()> {
+        Ok(())
+    }
+}
+
+/// Gives so many letters, and then fails or ends.
+#[derive(Drop)]
+pub struct Letters {
+    pub left: usize,
+    pub fails: bool,
+}
+
+impl Read for Letters {
+    fn read(&mut self, buf: &mut [u8]) -> io::Result<usize> {
+        if self.left == 0 && self.fails {
+            return Err(io::Error::from(io::ErrorKind::Other));
+        }
+        let len = buf.len().min(self.left);
+        buf[..len].fill(b'a');
+        self.left -= len;
+        Ok(len)
+    }
+}

@@ -1,0 +1,250 @@
+//! The command `replay` on worked scripts, over devices that fail, and with refused memory.
+
+use super::devices::{Letters, NarrowWriter, SlowReader};
+use super::replays::*;
+use crate::fault::Failed;
+use crate::outcome::{fault_text, status_of};
+use linked_list_allocator::LocalHeap;
+use mb_script::{Counting, Fault, report_text, run};
+use mb_world::{Diary, LaneReport, Note, Report, SetupFault};
+use std::test::Fail;
+
+// The script, replayed: how the call ended, and what was written.
+fn replayed(rt: &HostRuntime, script: &str) -> (Result<(), Fault>, Vec<u8>) {
+    let mut reader = Counting::new(script.as_bytes());
+    let mut writer = Counting::new(Vec::<u8>::new(rt.alloc()));
+    let result = run(rt.alloc(), &mut reader, &mut writer);
+    (result, writer.device)
+}
+
+#[test]
+fn scripts_are_replayed(rt: HostRuntime) -> Result<(), Fail> {
+    for (script, want) in [
+        (TAKEN, TAKEN_TEXT),
+        (UNARY, UNARY_TEXT),
+        (FULL, FULL_TEXT),
+        (TWO_LANES, TWO_LANES_TEXT),
+        (MET, MET_TEXT),
+        (BEGUN, BEGUN_TEXT),
+        (LOST, LOST_TEXT),
+        (UNDECIDED, UNDECIDED_TEXT),
+        (ENDED, ENDED_TEXT),
+        (REFUSED_EVENTS, REFUSED_EVENTS_TEXT),
+        ("setup 1 1 0 1 bits", "lane 0 open put\nleft 0\ndiary 0 0\n"),
+    ] {
+        let (result, text) = replayed(&rt, script);
+        assert_eq!(rt; result, Ok(()), "{script}");
+        assert_eq!(rt; text.as_slice(), want.as_bytes(), "{script}");
+    }
+    Ok(())
+}
+
+#[test]
+fn the_first_fault_decides(rt: HostRuntime) -> Result<(), Fail> {
+    for (script, want) in [
+        ("", Fault::NoSetup),
+        ("\n", Fault::NoSetup),
+        (" setup 1 1 1 1 bits\n", Fault::NoSetup),
+        ("setup 1 1 1 1\n", Fault::BadLine(1)),
+        ("setup 1 1 1 1 bits\r\n", Fault::BadLine(1)),
+        ("setup 1 1 1 1 middle\n", Fault::BadLine(1)),
+        ("setup 0 17 300 x bits\n", Fault::BadNumber(1)),
+        (
+            "setup 0 0 300 0 bits\npush\n",
+            Fault::BadSetup(1, SetupFault::BadProducers),
+        ),
+        (
+            "setup 1 1 257 0 bits\n",
+            Fault::BadSetup(1, SetupFault::BadCells),
+        ),
+        ("setup 1 1 1 1 bits\noffer 0\n", Fault::BadLine(2)),
+        ("setup 1 1 1 1 bits\npush  0\n", Fault::BadLine(2)),
+        ("setup 1 1 1 1 bits\npush 0 \n", Fault::BadLine(2)),
+        ("setup 1 1 1 1 bits\n\n", Fault::BadLine(2)),
+        (
+            "setup 1 1 1 1 bits\nsetup 1 1 1 1 bits\n",
+            Fault::BadLine(2),
+        ),
+        ("setup 1 1 0 1 bits\npush 00\n", Fault::BadNumber(2)),
+        (
+            "setup 1 1 1 1 bits\npush 18446744073709551616\n",
+            Fault::BadNumber(2),
+        ),
+        (
+            "setup 1 1 1 1 bits\npush 18446744073709551615\n",
+            Fault::NoLane(2),
+        ),
+        ("setup 1 1 1 1 bits\nstep 5 5 0\n", Fault::NoLane(2)),
+        ("setup 1 1 1 1 bits\nstep 0 1x 0\n", Fault::BadNumber(2)),
+        ("setup 1 16 0 1 bits\nstep 16 0 0\n", Fault::NoConsumer(2)),
+        ("setup 1 16 0 1 bits\nstep 16 1 0\n", Fault::NoLane(2)),
+        ("setup 1 1 1 1 bits\npush\npush \u{80}\n", Fault::NotAscii),
+        ("setup 1 1 1 1 bits\npush 1\npush\n", Fault::NoLane(2)),
+    ] {
+        let (result, text) = replayed(&rt, script);
+        assert_eq!(rt; result, Err(want), "{script}");
+        assert_eq!(rt; text.len(), 0, "{script}");
+    }
+    Ok(())
+}
+
+#[test]
+fn a_script_has_a_limit_of_events(rt: HostRuntime) -> Result<(), Fail> {
+    let mut script = String::new(rt.alloc());
+    let mut want = String::new(rt.alloc());
+    script.push_str("setup 1 1 1 1 bits\n")?;
+    for _ in 0..20_000 {
+        script.push_str("push 0\n")?;
+        want.push_str("push 0 idle\n")?;
+    }
+    want.push_str("lane 0 open put\nleft 0\ndiary 0 0\n")?;
+    let (result, text) = replayed(&rt, script.as_str());
+    assert_eq!(rt; result, Ok(()));
+    assert!(rt; text.as_slice() == want.as_bytes());
+    script.push_str("x\n")?;
+    let (result, text) = replayed(&rt, script.as_str());
+    assert_eq!(rt; result, Err(Fault::TooManyEvents));
+    assert_eq!(rt; text.len(), 0);
+    Ok(())
+}
+
+#[test]
+fn devices_fail(rt: HostRuntime) -> Result<(), Fail> {
+    let read_fault = Err(Fault::ReadFault);
+    let write_fault = Err(Fault::WriteFault);
+    for (script, reader_fails, room, writer_fails, want, written) in [
+        (TAKEN, false, 1000, false, Ok(()), TAKEN_TEXT),
+        (TAKEN, true, 1000, false, read_fault, ""),
+        ("", true, 1000, false, read_fault, ""),
+        (TAKEN, false, 10, true, write_fault, "offer 0 7 "),
+        (TAKEN, false, 10, false, write_fault, "offer 0 7 "),
+    ] {
+        let mut reader = Counting::new(SlowReader {
+            script: script.as_bytes(),
+            fails: reader_fails,
+        });
+        let mut writer = Counting::new(NarrowWriter {
+            taken: Vec::new(rt.alloc()),
+            room,
+            fails: writer_fails,
+        });
+        assert_eq!(rt; run(rt.alloc(), &mut reader, &mut writer), want);
+        assert_eq!(rt; writer.device.taken.as_slice(), written.as_bytes());
+        assert_eq!(rt; reader.failures, u64::from(reader_fails));
+        assert_eq!(rt; writer.failures, u64::from(want == write_fault));
+    }
+    Ok(())
+}
+
+#[test]
+fn reading_stops_past_the_limit(rt: HostRuntime) -> Result<(), Fail> {
+    for (left, fails, want) in [
+        (1_048_576, false, Fault::NoSetup),
+        (1_048_576, true, Fault::ReadFault),
+        (1_048_577, true, Fault::TooLong),
+        (1_048_578, false, Fault::TooLong),
+    ] {
+        let mut reader = Counting::new(Letters { left, fails });
+        let mut writer = Counting::new(Vec::<u8>::new(rt.alloc()));
+        let result = run(rt.alloc(), &mut reader, &mut writer);
+        assert_eq!(rt; result, Err(want), "{left}");
+        assert_eq!(rt; reader.device.left, left.saturating_sub(1_048_577));
+        assert_eq!(rt; writer.device.len(), 0, "{left}");
+    }
+    Ok(())
+}
+
+// Each size of heap below the least that serves refuses a growth: the first, the second, and so on. So it is for the
+// script's bytes, its events, the words of the world, its report and the text.
+#[test]
+fn growths_are_refused(rt: HostRuntime) -> Result<(), Fail> {
+    for size in 0..4096usize {
+        let heap = LocalHeap::new(rt.alloc(), size * 16)?;
+        let mut reader = Counting::new(LOST.as_bytes());
+        let mut writer = Counting::new(Vec::<u8>::new(rt.alloc()));
+        let result = run(&heap, &mut reader, &mut writer);
+        assert_eq!(rt; heap.used(), 0, "a call keeps memory");
+        if result.is_ok() {
+            assert_eq!(rt; writer.device.as_slice(), LOST_TEXT.as_bytes());
+            assert!(rt; size > 10, "{size} sizes were refused");
+            return Ok(());
+        }
+        assert_eq!(rt; result, Err(Fault::NoMemory));
+        assert_eq!(rt; writer.device.len(), 0, "nothing is written");
+    }
+    Err(Fail::from("no size served"))
+}
+
+#[test]
+fn a_report_is_a_text(rt: HostRuntime) -> Result<(), Fail> {
+    let lane = LaneReport {
+        put: vec![in rt.alloc(); 5]?,
+        ended: true,
+        left: Vec::new(rt.alloc()),
+    };
+    let diary = Diary {
+        consumer: 0,
+        lane: 0,
+        notes: vec![in rt.alloc(); Note::Took(5)]?,
+        begun: false,
+    };
+    let report = Report {
+        lanes: vec![in rt.alloc(); lane]?,
+        diaries: vec![in rt.alloc(); diary]?,
+    };
+    for size in 0..64usize {
+        let heap = LocalHeap::new(rt.alloc(), size * 16)?;
+        if let Ok(text) = report_text(&heap, &report) {
+            assert_eq!(rt;
+                text.as_str(),
+                "lane 0 ended put 5\nleft 0\ndiary 0 0 took 5\n"
+            );
+            assert!(rt; size > 2, "{size} sizes were refused");
+            return Ok(());
+        }
+        assert_eq!(rt; heap.used(), 0, "a call keeps memory");
+    }
+    Err(Fail::from("no size served"))
+}
+
+#[test]
+fn faults_have_a_line_and_a_status(rt: HostRuntime) -> Result<(), Fail> {
+    for (fault, line, status) in [
+        (Fault::TooLong, "fault 1 TooLong\n", 2),
+        (Fault::NotAscii, "fault 2 NotAscii\n", 2),
+        (Fault::BadLine(3), "fault 3 BadLine 3\n", 2),
+        (Fault::BadNumber(20_001), "fault 4 BadNumber 20001\n", 2),
+        (Fault::NoSetup, "fault 5 NoSetup\n", 2),
+        (
+            Fault::BadSetup(1, SetupFault::BadProducers),
+            "fault 6 BadSetup 1 1 BadProducers\n",
+            2,
+        ),
+        (
+            Fault::BadSetup(1, SetupFault::BadConsumers),
+            "fault 6 BadSetup 1 2 BadConsumers\n",
+            2,
+        ),
+        (
+            Fault::BadSetup(1, SetupFault::BadCells),
+            "fault 6 BadSetup 1 3 BadCells\n",
+            2,
+        ),
+        (
+            Fault::BadSetup(1, SetupFault::BadRounds),
+            "fault 6 BadSetup 1 4 BadRounds\n",
+            2,
+        ),
+        (Fault::NoLane(2), "fault 7 NoLane 2\n", 2),
+        (Fault::NoConsumer(2), "fault 8 NoConsumer 2\n", 2),
+        (Fault::TooManyEvents, "fault 9 TooManyEvents\n", 2),
+        (Fault::NoMemory, "fault 10 NoMemory\n", 3),
+        (Fault::ReadFault, "fault 11 ReadFault\n", 3),
+        (Fault::WriteFault, "fault 12 WriteFault\n", 3),
+    ] {
+        let failed = Failed::Replay(fault);
+        assert_eq!(rt; fault_text(rt.alloc(), &failed)?.as_str(), line);
+        assert_eq!(rt; status_of(&failed), status, "{line}");
+    }
+    Ok(())
+}

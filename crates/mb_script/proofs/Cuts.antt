@@ -1,0 +1,135 @@
+-- The first word of a line.
+use Rattle.std.proofs.Common.{append-nil, option_map, ◌≡◌, ℕ, suc, Option, Some, None, ◌+◌, ◌<◌, ◌≤◌, nat_lt, sym, ◌∙◌, Bor, append_assoc, length-append, slice_set, Bool, true, false, cond, nat_eq, List, [], ◌∷◌, ◌++◌, length, take, drop, map, ◌||◌, refl, ap, arith}
+use Rattle.std.specs.Prelude.{not, option_and_then}
+use Rattle.std.proofs.lemmas.Bool.{lt-ltb}
+use Rattle.std.proofs.lemmas.List.{length-map, length-take-le, map-append, take_more_set}
+use Rattle.std.specs.List.{position_or_len, before_first, after_first, onto_first}
+use Rattle.mb_script.specs.Text.{words_of, has_empty, number_of, numbers_of}
+
+-- a space
+abbrev pub parts : ℕ → Bool
+parts b = nat_eq b 32
+
+-- one byte more, which ends the word or not
+cut_step : (b : ℕ) (bs : List ℕ) (t : Bool) → cond (not t) (1 + position_or_len parts bs) 0 < suc (length bs)
+    → (position_or_len parts bs < length bs → words_of bs ≡ before_first parts bs ∷ words_of (after_first parts bs))
+    → cond t ([] ∷ words_of bs) (onto_first b (words_of bs))
+    ≡ take (cond (not t) (1 + position_or_len parts bs) 0) (b ∷ bs)
+    ∷ words_of (drop (cond (not t) (1 + position_or_len parts bs) 0 + 1) (b ∷ bs))
+cut_step b bs true within rest = refl
+cut_step b bs false within rest =
+    let n = position_or_len parts bs in
+    let one : 1 + n ≡ suc n = omega arith in
+    let two : 1 + n + 1 ≡ suc (n + 1) = omega arith in
+    let cut = rest (omega arith) in
+    rw (cut, two, one) refl
+
+-- where there is a space, the first word stands before it
+pub words_cut : (bs : List ℕ) → position_or_len parts bs < length bs
+    → words_of bs ≡ before_first parts bs ∷ words_of (after_first parts bs)
+words_cut [] within = absurd (omega arith)
+words_cut (b ∷ bs) within = cut_step b bs (nat_eq b 32) within (words_cut bs)
+
+-- one byte more in front of a line with no space
+last_step : (b : ℕ) (bs : List ℕ) (t : Bool) → cond (not t) (1 + position_or_len parts bs) 0 ≡ suc (length bs)
+    → (position_or_len parts bs ≡ length bs → words_of bs ≡ bs ∷ [])
+    → cond t ([] ∷ words_of bs) (onto_first b (words_of bs)) ≡ (b ∷ bs) ∷ []
+last_step b bs true none rest = absurd (omega arith)
+last_step b bs false none rest = ap (onto_first b) (rest (omega arith))
+
+-- where there is none, the line is its only word
+pub words_last : (bs : List ℕ) → position_or_len parts bs ≡ length bs → words_of bs ≡ bs ∷ []
+words_last [] none = refl
+words_last (b ∷ bs) none = last_step b bs (nat_eq b 32) none (words_last bs)
+
+-- one byte more leaves a word
+first_step : (b : ℕ) (ws : List (List ℕ)) (t : Bool) → 0 < length ws → 0 < length (cond t ([] ∷ ws) (onto_first b ws))
+first_step b ws true some = omega arith
+first_step b [] false some = omega (arith, some)
+first_step b (w ∷ ws) false some = omega arith
+
+-- a line has a word
+pub some_word : (bs : List ℕ) → 0 < length (words_of bs)
+some_word [] = omega arith
+some_word (b ∷ bs) = first_step b (words_of bs) (nat_eq b 32) (some_word bs)
+
+-- a test among three, one after the other
+any_step : (a b c t : Bool) → a ≡ (b || c) → (t || a) ≡ ((t || b) || c)
+any_step a b c true e = refl
+any_step a b c false e = e
+
+-- an empty word among the first words or behind them
+empty_among : (ws vs : List (List ℕ)) → has_empty (ws ++ vs) ≡ (has_empty ws || has_empty vs)
+empty_among [] vs = refl
+empty_among (w ∷ ws) vs = any_step _ (has_empty ws) (has_empty vs) (nat_eq (length w) 0) (empty_among ws vs)
+
+-- behind words none of which is empty an empty one is found
+pub empty_behind : (ws : List (List ℕ)) (w : List ℕ) (vs all : List (List ℕ)) (long : Bool) → has_empty ws ≡ false
+    → nat_eq (length w) 0 ≡ true → ws ++ w ∷ vs ≡ all → (has_empty all || long) ≡ true
+empty_behind ws w vs all long full empty cut = rw (sym cut, empty_among ws (w ∷ vs), full, empty) refl
+
+-- and words none of which is empty stay so with one more
+pub none_behind : (ws : List (List ℕ)) (w : List ℕ) → has_empty ws ≡ false → nat_eq (length w) 0 ≡ false
+    → has_empty (ws ++ w ∷ []) ≡ false
+none_behind ws w full some = rw (empty_among ws (w ∷ []), full, some) refl
+
+-- a test that holds beside another
+or_true : (a b : Bool) → b ≡ true → (a || b) ≡ true
+or_true true b e = refl
+or_true false b e = e
+
+-- so many words, one more, and a line behind it are too many
+pub too_many : (ws : List (List ℕ)) (w bs : List ℕ) (all : List (List ℕ)) (most : ℕ) → length ws + 1 ≡ most
+    → ws ++ w ∷ words_of bs ≡ all → (has_empty all || nat_lt most (length all)) ≡ true
+too_many ws w bs all most count cut =
+    let long : length all ≡ length ws + suc (length (words_of bs)) =
+    ap (λ (l : List (List ℕ)). length l) (sym cut) ∙ length-append ws (w ∷ words_of bs) in
+    let some = some_word bs in
+    or_true (has_empty all) _ (lt-ltb most (length all) (omega (arith, long, some, count)))
+
+-- one word moves from the line to the words before it
+pub word_moves : (ws : List (List ℕ)) (w bs after : List ℕ) (all : List (List ℕ)) → words_of bs ≡ w ∷ words_of after
+    → ws ++ words_of bs ≡ all → (ws ++ w ∷ []) ++ words_of after ≡ all
+word_moves ws w bs after all cut whole =
+    append_assoc ws (w ∷ []) (words_of after) ∙ ap (λ (l : List (List ℕ)). ws ++ l) (sym cut) ∙ whole
+
+-- one word more in an array
+pub word_kept : (ws : List (Bor (List ℕ))) (i : ℕ) (w : Bor (List ℕ)) → i < length ws
+    → map (λ x. x.now) (take (i + 1) (slice_set ws i w)) ≡ map (λ x. x.now) (take i ws) ++ w.now ∷ []
+word_kept ws i w low =
+    ap (λ (l : List (Bor (List ℕ))). map (λ x. x.now) l) (take_more_set ws i w low)
+    ∙ map-append (λ (x : Bor (List ℕ)). x.now) (take i ws) (w ∷ [])
+
+-- the first words of an array are so many
+pub words_taken : (ws : List (Bor (List ℕ))) (i : ℕ) → i ≤ length ws → length (map (λ x. x.now) (take i ws)) ≡ i
+words_taken ws i low = length-map (take i ws) (λ (x : Bor (List ℕ)). x.now) ∙ length-take-le i ws low
+
+-- how much is left, and one more where a word is left
+abbrev pub bytes_left : Option (List ℕ) → ℕ
+bytes_left None = 0
+bytes_left (Some rest) = suc (length rest)
+
+-- a word that is no number
+pub number_fails : (done : List ℕ) (w : List ℕ) (ws : List (List ℕ)) (whole : Option (List ℕ)) → number_of w ≡ None
+    → option_map (λ ns. done ++ ns) (numbers_of (w ∷ ws)) ≡ whole → None ≡ whole
+unfolding numbers_of
+number_fails done w ws whole fails same = sym (rw fails refl) ∙ same
+
+-- one number before others
+map_one : (done : List ℕ) (n : ℕ) (o : Option (List ℕ)) → option_map (λ (ns : List ℕ). (done ++ n ∷ []) ++ ns) o
+    ≡ option_map (λ ns. done ++ ns) (option_and_then (λ ns. Some (n ∷ ns)) o)
+map_one done n None = refl
+map_one done n (Some ns) = ap (λ (l : List ℕ). Some l) (append_assoc done (n ∷ []) ns)
+
+-- a word that is one
+pub number_works : (done : List ℕ) (w : List ℕ) (ws : List (List ℕ)) (n : ℕ) (whole : Option (List ℕ)) → number_of w ≡ Some n
+    → option_map (λ ns. done ++ ns) (numbers_of (w ∷ ws)) ≡ whole
+    → option_map (λ (ns : List ℕ). (done ++ n ∷ []) ++ ns) (numbers_of ws) ≡ whole
+unfolding numbers_of
+number_works done w ws n whole works same = map_one done n (numbers_of ws) ∙ sym (rw works refl) ∙ same
+
+-- no word is left
+pub numbers_end : (done : List ℕ) (whole : Option (List ℕ)) → option_map (λ ns. done ++ ns) (numbers_of []) ≡ whole
+    → Some done ≡ whole
+unfolding numbers_of
+numbers_end done whole same = ap (λ (l : List ℕ). Some l) (sym (append-nil done)) ∙ same

@@ -1,0 +1,187 @@
+-- A replay script that is spelled is read.
+use Rattle.std.proofs.Common.{◌≡◌, ℕ, suc, ◌+◌, ◌<◌, ◌≤◌, ◌^◌, Bool, true, false, cond, nat_lt, ◌||◌, List, [], ◌∷◌, length, codes, map, Some, None, Ok, refl, sym, ◌∙◌, subst, arith, rules}
+use Rattle.std.specs.Char.{is_ascii}
+use Rattle.std.specs.List.{AllByRecursion, join_with_byte, list_all}
+use Rattle.std.specs.Fmt.{decimal}
+use Rattle.std.proofs.lemmas.Bool.{lt-ltb, le-ltb}
+use Rattle.std.proofs.lemmas.Bool.Decides.{nat_tests}
+use Rattle.mb_quorum.specs.declared.table.TableName.{TableName}
+use Rattle.mb_quorum.specs.declared.table.TableName.TheVariants.{Unary, Bits}
+use Rattle.mb_world.specs.declared.event.Event.{Event}
+use Rattle.mb_world.specs.declared.event.Event.TheVariants.{Offer, Push, Finish, Step}
+use Rattle.mb_world.specs.declared.setup.SetupFault.{SetupFault}
+use Rattle.mb_world.specs.Plan.{Plan, consumers_of}
+use Rattle.mb_world.specs.Setups.{plan_of, setup_refusal}
+use Rattle.mb_script.specs.declared.script.TheConstants.{MAX_EVENTS}
+use Rattle.mb_script.specs.declared.transfer.TheConstants.{MAX_SCRIPT_LEN}
+use Rattle.mb_script.specs.Scripts.{one_number, two_numbers, three_numbers, sizes_of, setup_of, event_of, placed, event_at, events_of, lines_script, script_of}
+use Rattle.mb_script.specs.Spelling.{IsEventOf, IsScript, Sizes, event_words, script_in, script_lines, setup_words}
+use Rattle.mb_script.specs.Steps.{◌>>=◌}
+use Rattle.mb_script.specs.Tables.{table_name}
+use Rattle.mb_script.specs.Text.{IsWord, IsWordLine, has_empty, lines_of, words_of}
+use Rattle.mb_script.proofs.Spelled.{ascii_lines, decimal_word, none_empty, number_again, words_ascii, words_join}
+
+-- four tests in turn, none of which holds
+pub none_of : (a b c d : Bool) (w x y z : SetupFault)
+    → cond a (Some w) (cond b (Some x) (cond c (Some y) (cond d (Some z) None))) ≡ None
+    → (a ≡ false) × (b ≡ false) × (c ≡ false) × (d ≡ false)
+none_of true b c d w x y z e = absurd (cc)
+none_of false true c d w x y z e = absurd (cc)
+none_of false false true d w x y z e = absurd (cc)
+none_of false false false true w x y z e = absurd (cc)
+none_of false false false false w x y z e = (refl, refl, refl, refl)
+
+-- the second of two tests that fail
+second : (x y : Bool) → (x || y) ≡ false → y ≡ false
+second true y e = absurd (cc)
+second false y e = e
+
+-- what is not above a small number is small
+small_by : (most n : ℕ) → most ≤ 256 → nat_lt most n ≡ false → n < 2 ^ 64
+small_by most n low e = let small : n ≤ most = grind (arith, nat_tests, e) in omega (arith, low, small)
+
+-- so their numbers have a spelling
+pub sizes_small : (p c m k : ℕ) → setup_refusal p c m k ≡ None
+    → (p < 2 ^ 64) × (c < 2 ^ 64) × (m < 2 ^ 64) × (k < 2 ^ 64)
+sizes_small p c m k e =
+    let a = none_of (nat_lt p 1 || nat_lt 16 p) (nat_lt c 1 || nat_lt 16 c) (nat_lt 256 m) (nat_lt k 1 || nat_lt 8 k) _ _ _ _ e in (
+      small_by 16 p (omega arith) (second (nat_lt p 1) _ a.0),
+      small_by 16 c (omega arith) (second (nat_lt c 1) _ a.1),
+      small_by 256 m (omega arith) a.2,
+      small_by 8 k (omega arith) (second (nat_lt k 1) _ a.3),
+    )
+
+-- the consumers of a plan are those it was made of
+pub consumers_are : (p c m k : ℕ) (t : TableName) → consumers_of (plan_of p c m k t) ≡ c
+consumers_are p c m k Unary = refl
+consumers_are p c m k Bits = refl
+
+-- the plan of sizes
+abbrev pub plan_for : Sizes → Plan
+plan_for z = plan_of z.producers z.consumers z.cells z.pairs z.table
+
+-- the words behind `setup`
+sizes_again : (p c m k : ℕ) (t : TableName) → setup_refusal p c m k ≡ None
+    → sizes_of (decimal p ∷ decimal c ∷ decimal m ∷ decimal k ∷ table_name t ∷ []) ≡ Ok (plan_of p c m k t, k)
+unfolding sizes_of
+sizes_again p c m k Unary e =
+    let s = sizes_small p c m k e in
+    rw (number_again p s.0, number_again c s.1, number_again m s.2, number_again k s.3, e) refl
+sizes_again p c m k Bits e =
+    let s = sizes_small p c m k e in
+    rw (number_again p s.0, number_again c s.1, number_again m s.2, number_again k s.3, e) refl
+
+-- the name of a table is a word
+table_word : (t : TableName) → IsWord (table_name t)
+table_word Unary = search rules
+table_word Bits = search rules
+
+-- the words of a first line are words
+setup_fit : (z : Sizes) → setup_refusal z.producers z.consumers z.cells z.pairs ≡ None → AllByRecursion IsWord (setup_words z)
+setup_fit z e =
+    let s = sizes_small z.producers z.consumers z.cells z.pairs e in
+    (search rules, (decimal_word _ s.0, (decimal_word _ s.1, (decimal_word _ s.2, (decimal_word _ s.3, (table_word z.table, tt))))))
+
+-- a key and words none of which is empty
+setup_is : (ws : List (List ℕ)) → has_empty ws ≡ false → setup_of (codes "setup" ∷ ws) ≡ sizes_of ws
+unfolding setup_of
+setup_is ws e = rw e refl
+
+-- the first line
+pub setup_again : (z : Sizes) → setup_refusal z.producers z.consumers z.cells z.pairs ≡ None
+    → setup_of (words_of (join_with_byte 32 (setup_words z))) ≡ Ok (plan_for z, z.pairs)
+setup_again z e =
+    let fit = setup_fit z e in
+    let cut : words_of (join_with_byte 32 (setup_words z)) ≡ setup_words z = words_join _ _ fit in
+    let behind : List (List ℕ) =
+    decimal z.producers ∷ decimal z.consumers ∷ decimal z.cells ∷ decimal z.pairs ∷ table_name z.table ∷ [] in
+    rw cut (setup_is behind (none_empty behind fit.1) ∙ sizes_again z.producers z.consumers z.cells z.pairs z.table e)
+
+-- a line of words
+line_is : (plan : Plan) (n : ℕ) (w : List ℕ) (ws : List (List ℕ)) → AllByRecursion IsWord (w ∷ ws)
+    → event_at plan n (join_with_byte 32 (w ∷ ws)) ≡ (event_of n (w ∷ ws) >>= placed plan n)
+unfolding event_at
+line_is plan n w ws are = rw (words_join w ws are, none_empty (w ∷ ws) are) refl
+
+-- a lane's number is small
+lane_small : (z : Sizes) (l : ℕ) → setup_refusal z.producers z.consumers z.cells z.pairs ≡ None → l < z.producers → l < 2 ^ 64
+lane_small z l e low = let s = sizes_small z.producers z.consumers z.cells z.pairs e in omega (arith, low, s.0)
+
+-- the line of an event
+pub event_again : (z : Sizes) (n : ℕ) (e : Event) → setup_refusal z.producers z.consumers z.cells z.pairs ≡ None → IsEventOf z e
+    → event_at (plan_for z) n (join_with_byte 32 (event_words e)) ≡ Ok e
+unfolding event_of one_number two_numbers three_numbers placed
+event_again z n (Offer lane item) sized is =
+    let l = lane_small z lane sized is.0 in
+    line_is (plan_for z) n (codes "offer") (decimal lane ∷ decimal item ∷ []) (search rules, (decimal_word lane l, (decimal_word item is.1, tt)))
+    ∙ rw (number_again lane l, number_again item is.1, lt-ltb lane z.producers is.0) refl
+event_again z n (Push lane) sized is =
+    let l = lane_small z lane sized is in
+    line_is (plan_for z) n (codes "push") (decimal lane ∷ []) (search rules, (decimal_word lane l, tt))
+    ∙ rw (number_again lane l, lt-ltb lane z.producers is) refl
+event_again z n (Finish lane) sized is =
+    let l = lane_small z lane sized is in
+    line_is (plan_for z) n (codes "finish") (decimal lane ∷ []) (search rules, (decimal_word lane l, tt))
+    ∙ rw (number_again lane l, lt-ltb lane z.producers is) refl
+event_again z n (Step consumer lane word) sized is =
+    let l = lane_small z lane sized is.0 in
+    let s = sizes_small z.producers z.consumers z.cells z.pairs sized in
+    let c : consumer < 2 ^ 64 = omega (arith, is.1, s.1) in
+    line_is (plan_for z) n (codes "step") (decimal consumer ∷ decimal lane ∷ decimal word ∷ [])
+    (search rules, (decimal_word consumer c, (decimal_word lane l, (decimal_word word is.2, tt))))
+    ∙ rw (
+      number_again consumer c,
+      number_again lane l,
+      number_again word is.2,
+      lt-ltb lane z.producers is.0,
+      consumers_are z.producers z.consumers z.cells z.pairs z.table,
+      lt-ltb consumer z.consumers is.1,
+    ) refl
+
+-- the lines from line n on
+pub events_again : (z : Sizes) (n : ℕ) (events : List Event) → setup_refusal z.producers z.consumers z.cells z.pairs ≡ None
+    → AllByRecursion (IsEventOf z) events → n + length events ≤ MAX_EVENTS + 2
+    → events_of (plan_for z) n (map (join_with_byte 32) (map event_words events)) ≡ Ok events
+unfolding events_of
+events_again z n [] sized are few = refl
+events_again z n (e ∷ events) sized are few =
+    rw (
+      le-ltb (MAX_EVENTS + 1) n (omega (arith, few)),
+      event_again z n e sized are.0,
+      events_again z (suc n) events sized are.1 (omega (arith, few)),
+    ) refl
+
+-- all lines
+pub lines_again : (z : Sizes) (events : List Event) → IsScript z events
+    → lines_script (script_lines z events) ≡ Ok (script_in z events)
+unfolding lines_script
+lines_again z events is =
+    let few = is.few in
+    rw (setup_again z is.sizes, events_again z 2 events is.sizes is.known (omega (arith, few))) refl
+
+-- the words of an event are words
+event_fit : (z : Sizes) (e : Event) → setup_refusal z.producers z.consumers z.cells z.pairs ≡ None → IsEventOf z e
+    → IsWordLine (event_words e)
+event_fit z (Offer lane item) sized is =
+    (search rules, (decimal_word lane (lane_small z lane sized is.0), (decimal_word item is.1, tt)))
+event_fit z (Push lane) sized is = (search rules, (decimal_word lane (lane_small z lane sized is), tt))
+event_fit z (Finish lane) sized is = (search rules, (decimal_word lane (lane_small z lane sized is), tt))
+event_fit z (Step consumer lane word) sized is =
+    let s = sizes_small z.producers z.consumers z.cells z.pairs sized in
+    (search rules, (decimal_word consumer (omega (arith, is.1, s.1)), (decimal_word lane (lane_small z lane sized is.0), (decimal_word word is.2, tt))))
+
+events_fit : (z : Sizes) (events : List Event) → setup_refusal z.producers z.consumers z.cells z.pairs ≡ None
+    → AllByRecursion (IsEventOf z) events → AllByRecursion IsWordLine (map event_words events)
+events_fit z [] sized are = tt
+events_fit z (e ∷ events) sized are = (event_fit z e sized are.0, events_fit z events sized are.1)
+
+-- what is spelled is read so
+pub script_again : (bytes : List ℕ) (z : Sizes) (events : List Event) → IsScript z events → length bytes ≤ MAX_SCRIPT_LEN
+    → lines_of bytes ≡ script_lines z events → script_of bytes ≡ Ok (script_in z events)
+unfolding script_of
+script_again bytes z events is short e =
+    let fit : AllByRecursion IsWordLine (setup_words z ∷ map event_words events) =
+    (setup_fit z is.sizes, events_fit z events is.sizes is.known) in
+    let ascii = ascii_lines bytes (subst (AllByRecursion (λ l. list_all is_ascii l ≡ true)) (sym e)
+    (words_ascii (setup_words z ∷ map event_words events) fit)) in
+    rw (le-ltb MAX_SCRIPT_LEN (length bytes) short, ascii, e) (lines_again z events is)

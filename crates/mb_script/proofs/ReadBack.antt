@@ -1,0 +1,310 @@
+-- What is read of a replay script was spelled so.
+use Rattle.std.proofs.Common.{◌≡◌, ℕ, suc, ◌+◌, ◌<◌, ◌≤◌, ◌^◌, Bool, true, false, cond, nat_lt, List, [], ◌∷◌, length, codes, map, Option, Some, None, Result, Ok, Err, refl, ap, sym, ◌∙◌, subst, arith}
+use Rattle.std.specs.Prelude.{IfOk}
+use Rattle.std.specs.Char.{is_ascii}
+use Rattle.std.specs.Option.{ok_or}
+use Rattle.std.specs.List.{AllByRecursion, join_with_byte, list_all}
+use Rattle.std.specs.Fmt.{decimal}
+use Rattle.std.specs.Str.{bytes_eq}
+use Rattle.std.proofs.lemmas.Bool.{ltb-true}
+use Rattle.std.proofs.lemmas.Bool.Decides.{nat_tests}
+use Rattle.std.proofs.lemmas.Slice.Eq.{bytes_eq-Decides}
+use Rattle.std.proofs.lemmas.List.Splits.{join_with_byte-slice_split}
+use Rattle.mb_quorum.specs.declared.table.TableName.{TableName}
+use Rattle.mb_quorum.specs.declared.table.TableName.TheVariants.{Unary, Bits}
+use Rattle.mb_world.specs.declared.event.Event.{Event}
+use Rattle.mb_world.specs.declared.event.Event.TheVariants.{Offer, Push, Finish, Step}
+use Rattle.mb_world.specs.declared.setup.SetupFault.{SetupFault}
+use Rattle.mb_world.specs.Plan.{Plan}
+use Rattle.mb_world.specs.Setups.{plan_of, setup_refusal}
+use Rattle.mb_script.specs.declared.fault.Fault.{Fault}
+use Rattle.mb_script.specs.declared.fault.Fault.TheVariants.{TooLong, NotAscii, BadLine, NoSetup, NoLane, NoConsumer, TooManyEvents}
+use Rattle.mb_script.specs.declared.script.TheConstants.{MAX_EVENTS}
+use Rattle.mb_script.specs.declared.transfer.TheConstants.{MAX_SCRIPT_LEN}
+use Rattle.mb_script.specs.declared.script.Script as code
+use Rattle.mb_script.specs.Faults.{Gives}
+use Rattle.mb_script.specs.Scripts.{Script, view, number_at, one_number, two_numbers, three_numbers, made_of, sizes_of, setup_of, event_of, lane_of, consumer_in, has_consumer, placed, event_at, events_of, script_with, lines_script, script_of}
+use Rattle.mb_script.specs.Spelling.{IsEventOf, Spells, Sizes, event_words, script_in, setup_words}
+use Rattle.mb_script.specs.Steps.{◌>>=◌}
+use Rattle.mb_script.specs.Tables.{table_name, table_named}
+use Rattle.mb_script.specs.Text.{has_empty, lines_of, words_of}
+use Rattle.mb_script.proofs.Bound.{avoided, bind_ok, ok_is, passed, some_from}
+use Rattle.mb_script.proofs.ReadAgain.{consumers_are, plan_for}
+use Rattle.mb_script.proofs.Spelled.{number_takes}
+
+-- a name that was read is the name of its table
+table_takes : (word : List ℕ) (t : TableName) (u b : Bool) → bytes_eq word (codes "unary") ≡ u → bytes_eq word (codes "bits") ≡ b
+    → cond u (Some Unary) (cond b (Some Bits) None) ≡ Some t → word ≡ table_name t
+table_takes word Unary true b p q e = (bytes_eq-Decides word (codes "unary")).0 p
+table_takes word Bits true b p q e = absurd (cc)
+table_takes word Bits false true p q e = (bytes_eq-Decides word (codes "bits")).0 q
+table_takes word Unary false true p q e = absurd (cc)
+table_takes word t false false p q e = absurd (cc)
+
+-- a number that was read was spelled so
+at_takes : (n : ℕ) (w : List ℕ) (x : ℕ) → number_at n w ≡ Ok x → (w ≡ decimal x) × (x < 2 ^ 64)
+at_takes n w x e = number_takes w x (some_from _ _ _ e)
+
+one_takes : (n : ℕ) (ws : List (List ℕ)) (x : ℕ) → one_number n ws ≡ Ok x → (ws ≡ decimal x ∷ []) × (x < 2 ^ 64)
+unfolding one_number
+one_takes n [] x e = absurd (cc)
+one_takes n (a ∷ b ∷ ws) x e = absurd (cc)
+one_takes n (a ∷ []) x e = let t = at_takes n a x e in (ap (λ (w : List ℕ). w ∷ []) t.0, t.1)
+
+two_takes : (n : ℕ) (ws : List (List ℕ)) (x : ℕ × ℕ) → two_numbers n ws ≡ Ok x
+    → (ws ≡ decimal x.0 ∷ decimal x.1 ∷ []) × (x.0 < 2 ^ 64) × (x.1 < 2 ^ 64)
+unfolding two_numbers
+two_takes n [] x e = absurd (cc)
+two_takes n (a ∷ []) x e = absurd (cc)
+two_takes n (a ∷ b ∷ c ∷ ws) x e = absurd (cc)
+two_takes n (a ∷ b ∷ []) x e =
+    let f = bind_ok (number_at n a) (λ p. number_at n b >>= (λ q. Ok (p, q))) x e in
+    let g = bind_ok (number_at n b) (λ q. Ok (f.0, q)) x f.2 in
+    let p = at_takes n a f.0 f.1 in
+    let q = at_takes n b g.0 g.1 in
+    let made : ℕ × ℕ = (f.0, g.0) in
+    subst (λ (y : ℕ × ℕ). (a ∷ b ∷ [] ≡ decimal y.0 ∷ decimal y.1 ∷ []) × (y.0 < 2 ^ 64) × (y.1 < 2 ^ 64))
+    (ok_is made x g.2)
+    (ap (λ (w : List ℕ). w ∷ b ∷ []) p.0 ∙ ap (λ (w : List ℕ). decimal f.0 ∷ w ∷ []) q.0, p.1, q.1)
+
+-- three numbers
+abbrev Three : Type 0
+Three = ℕ × ℕ × ℕ
+
+three_takes : (n : ℕ) (ws : List (List ℕ)) (x : Three) → three_numbers n ws ≡ Ok x
+    → (ws ≡ decimal x.0 ∷ decimal x.1 ∷ decimal x.2 ∷ []) × (x.0 < 2 ^ 64) × (x.1 < 2 ^ 64) × (x.2 < 2 ^ 64)
+unfolding three_numbers
+three_takes n [] x e = absurd (cc)
+three_takes n (a ∷ []) x e = absurd (cc)
+three_takes n (a ∷ b ∷ []) x e = absurd (cc)
+three_takes n (a ∷ b ∷ c ∷ d ∷ ws) x e = absurd (cc)
+three_takes n (a ∷ b ∷ c ∷ []) x e =
+    let f = bind_ok (number_at n a) (λ p. number_at n b >>= (λ q. number_at n c >>= (λ r. Ok (p, q, r)))) x e in
+    let g = bind_ok (number_at n b) (λ q. number_at n c >>= (λ r. Ok (f.0, q, r))) x f.2 in
+    let h = bind_ok (number_at n c) (λ r. Ok (f.0, g.0, r)) x g.2 in
+    let p = at_takes n a f.0 f.1 in
+    let q = at_takes n b g.0 g.1 in
+    let r = at_takes n c h.0 h.1 in
+    let made : Three = (f.0, g.0, h.0) in
+    subst (λ (y : Three). (a ∷ b ∷ c ∷ [] ≡ decimal y.0 ∷ decimal y.1 ∷ decimal y.2 ∷ []) × (y.0 < 2 ^ 64) × (y.1 < 2 ^ 64) × (y.2 < 2 ^ 64))
+    (ok_is made x h.2) (
+      ap (λ (w : List ℕ). w ∷ b ∷ c ∷ []) p.0 ∙ ap (λ (w : List ℕ). decimal f.0 ∷ w ∷ c ∷ []) q.0
+          ∙ ap (λ (w : List ℕ). decimal f.0 ∷ decimal g.0 ∷ w ∷ []) r.0,
+      p.1,
+      q.1,
+      r.1,
+    )
+
+-- ---- the first line; what is done after each step of `sizes_of` stands below, the last first
+abbrev Made : Type 0
+Made = Plan × ℕ
+
+abbrev with_pairs : ℕ → ℕ → ℕ → TableName → ℕ → Result Made Fault
+with_pairs p c m t k = made_of (setup_refusal p c m k) (plan_of p c m k t, k)
+
+abbrev with_cells : ℕ → ℕ → List ℕ → TableName → ℕ → Result Made Fault
+with_cells p c pairs t m = number_at 1 pairs >>= with_pairs p c m t
+
+abbrev with_consumers : ℕ → List ℕ → List ℕ → TableName → ℕ → Result Made Fault
+with_consumers p cells pairs t c = number_at 1 cells >>= with_cells p c pairs t
+
+abbrev with_producers : List ℕ → List ℕ → List ℕ → TableName → ℕ → Result Made Fault
+with_producers consumers cells pairs t p = number_at 1 consumers >>= with_consumers p cells pairs t
+
+abbrev with_table : List ℕ → List ℕ → List ℕ → List ℕ → TableName → Result Made Fault
+with_table producers consumers cells pairs t = number_at 1 producers >>= with_producers consumers cells pairs t
+
+-- what was not refused
+made_takes : (o : Option SetupFault) (x y : Made) → made_of o x ≡ Ok y → (o ≡ None) × (x ≡ y)
+made_takes None x y e = (refl, ok_is x y e)
+made_takes (Some f) x y e = absurd (cc)
+
+-- sizes of a world that make this
+abbrev pub Sized : Made → Sizes → Type 0
+Sized made z = (setup_refusal z.producers z.consumers z.cells z.pairs ≡ None) × ((plan_for z, z.pairs) ≡ made)
+
+sizes_take : (ws : List (List ℕ)) (made : Made) → sizes_of ws ≡ Ok made
+    → (z : Sizes) × (codes "setup" ∷ ws ≡ setup_words z) × Sized made z
+unfolding sizes_of
+sizes_take [] made e = absurd (cc)
+sizes_take (a ∷ []) made e = absurd (cc)
+sizes_take (a ∷ b ∷ []) made e = absurd (cc)
+sizes_take (a ∷ b ∷ c ∷ []) made e = absurd (cc)
+sizes_take (a ∷ b ∷ c ∷ d ∷ []) made e = absurd (cc)
+sizes_take (a ∷ b ∷ c ∷ d ∷ f ∷ g ∷ ws) made e = absurd (cc)
+sizes_take (producers ∷ consumers ∷ cells ∷ pairs ∷ name ∷ []) made e =
+    let t = bind_ok (ok_or (table_named name) (BadLine 1)) (with_table producers consumers cells pairs) made e in
+    let p = bind_ok (number_at 1 producers) (with_producers consumers cells pairs t.0) made t.2 in
+    let c = bind_ok (number_at 1 consumers) (with_consumers p.0 cells pairs t.0) made p.2 in
+    let m = bind_ok (number_at 1 cells) (with_cells p.0 c.0 pairs t.0) made c.2 in
+    let k = bind_ok (number_at 1 pairs) (with_pairs p.0 c.0 m.0 t.0) made m.2 in
+    let z : Sizes = record { producers = p.0; consumers = c.0; cells = m.0; pairs = k.0; table = t.0 } in
+    let sized = made_takes (setup_refusal p.0 c.0 m.0 k.0) (plan_for z, k.0) made k.2 in
+    let named = table_takes name t.0 _ _ refl refl (some_from _ _ _ t.1) in
+    let whole : codes "setup" ∷ producers ∷ consumers ∷ cells ∷ pairs ∷ name ∷ [] ≡ setup_words z =
+    ap (λ (w : List ℕ). codes "setup" ∷ w ∷ consumers ∷ cells ∷ pairs ∷ name ∷ []) (at_takes 1 producers p.0 p.1).0
+    ∙ ap (λ (w : List ℕ). codes "setup" ∷ decimal p.0 ∷ w ∷ cells ∷ pairs ∷ name ∷ []) (at_takes 1 consumers c.0 c.1).0
+    ∙ ap (λ (w : List ℕ). codes "setup" ∷ decimal p.0 ∷ decimal c.0 ∷ w ∷ pairs ∷ name ∷ []) (at_takes 1 cells m.0 m.1).0
+    ∙ ap (λ (w : List ℕ). codes "setup" ∷ decimal p.0 ∷ decimal c.0 ∷ decimal m.0 ∷ w ∷ name ∷ []) (at_takes 1 pairs k.0 k.1).0
+    ∙ ap (λ (w : List ℕ). codes "setup" ∷ decimal p.0 ∷ decimal c.0 ∷ decimal m.0 ∷ decimal k.0 ∷ w ∷ []) named in
+    (z, whole, sized)
+
+setup_take : (ws : List (List ℕ)) (made : Made) → setup_of ws ≡ Ok made → (z : Sizes) × (ws ≡ setup_words z) × Sized made z
+unfolding setup_of
+setup_take [] made e = absurd (cc)
+setup_take (key ∷ ws) made e =
+    let a = passed (bytes_eq key (codes "setup")) NoSetup (cond (has_empty ws) (Err (BadLine 1)) (sizes_of ws)) made e in
+    let b = avoided (has_empty ws) (BadLine 1) (sizes_of ws) made a.1 in
+    let c = sizes_take ws made b.1 in
+    (c.0, ap (λ (w : List ℕ). w ∷ ws) ((bytes_eq-Decides key (codes "setup")).0 a.0) ∙ c.1, c.2)
+
+-- ---- the line of an event
+-- its numbers below 2^64
+abbrev Small : Event → Type 0
+Small (Offer lane item) = (lane < 2 ^ 64) × (item < 2 ^ 64)
+Small (Push lane) = lane < 2 ^ 64
+Small (Finish lane) = lane < 2 ^ 64
+Small (Step consumer lane word) = (consumer < 2 ^ 64) × (lane < 2 ^ 64) × (word < 2 ^ 64)
+
+-- words that spell an event
+abbrev SpellsOne : List (List ℕ) → Event → Type 0
+SpellsOne ws e = (ws ≡ event_words e) × Small e
+
+-- the word that stands first, and the others
+key_is : (key name : List ℕ) (ws vs : List (List ℕ)) → bytes_eq key name ≡ true → ws ≡ vs → key ∷ ws ≡ name ∷ vs
+key_is key name ws vs is same =
+    ap (λ (w : List ℕ). w ∷ ws) ((bytes_eq-Decides key name).0 is) ∙ ap (λ (t : List (List ℕ)). name ∷ t) same
+
+-- by the key
+by_key : (n : ℕ) (key : List ℕ) (ws : List (List ℕ)) (e : Event) (o p f s : Bool) → bytes_eq key (codes "offer") ≡ o
+    → bytes_eq key (codes "push") ≡ p → bytes_eq key (codes "finish") ≡ f → bytes_eq key (codes "step") ≡ s
+    → cond o (two_numbers n ws >>= (λ x. Ok (Offer x.0 x.1)))
+    (cond p (one_number n ws >>= (λ x. Ok (Push x)))
+    (cond f (one_number n ws >>= (λ x. Ok (Finish x)))
+    (cond s (three_numbers n ws >>= (λ x. Ok (Step x.0 x.1 x.2))) (Err (BadLine n))))) ≡ Ok e
+    → SpellsOne (key ∷ ws) e
+by_key n key ws e true p f s is_o is_p is_f is_s read =
+    let a = bind_ok (two_numbers n ws) (λ x. Ok (Offer x.0 x.1)) e read in
+    let t = two_takes n ws a.0 a.1 in
+    subst (SpellsOne (key ∷ ws)) (ok_is (Offer a.0.0 a.0.1) e a.2) (key_is key (codes "offer") ws _ is_o t.0, (t.1, t.2))
+by_key n key ws e false true f s is_o is_p is_f is_s read =
+    let a = bind_ok (one_number n ws) (λ x. Ok (Push x)) e read in
+    let t = one_takes n ws a.0 a.1 in
+    subst (SpellsOne (key ∷ ws)) (ok_is (Push a.0) e a.2) (key_is key (codes "push") ws _ is_p t.0, t.1)
+by_key n key ws e false false true s is_o is_p is_f is_s read =
+    let a = bind_ok (one_number n ws) (λ x. Ok (Finish x)) e read in
+    let t = one_takes n ws a.0 a.1 in
+    subst (SpellsOne (key ∷ ws)) (ok_is (Finish a.0) e a.2) (key_is key (codes "finish") ws _ is_f t.0, t.1)
+by_key n key ws e false false false true is_o is_p is_f is_s read =
+    let a = bind_ok (three_numbers n ws) (λ x. Ok (Step x.0 x.1 x.2)) e read in
+    let t = three_takes n ws a.0 a.1 in
+    subst (SpellsOne (key ∷ ws)) (ok_is (Step a.0.0 a.0.1 a.0.2) e a.2) (key_is key (codes "step") ws _ is_s t.0, (t.1, t.2, t.3))
+by_key n key ws e false false false false is_o is_p is_f is_s read = absurd (cc)
+
+event_takes : (n : ℕ) (ws : List (List ℕ)) (e : Event) → event_of n ws ≡ Ok e → SpellsOne ws e
+unfolding event_of
+event_takes n [] e read = absurd (cc)
+event_takes n (key ∷ ws) e read = by_key n key ws e _ _ _ _ refl refl refl refl read
+
+-- an event that has a place in the world of these sizes
+place_takes : (z : Sizes) (n : ℕ) (e : Event) → nat_lt (lane_of e) z.producers ≡ true
+    → has_consumer (plan_for z) (consumer_in e) ≡ true → Small e → IsEventOf z e
+place_takes z n (Offer lane item) low has small = (ltb-true _ _ low, small.1)
+place_takes z n (Push lane) low has small = ltb-true _ _ low
+place_takes z n (Finish lane) low has small = ltb-true _ _ low
+place_takes z n (Step consumer lane word) low has small = (
+  ltb-true _ _ low,
+  subst (λ (c : ℕ). consumer < c) (consumers_are z.producers z.consumers z.cells z.pairs z.table) (ltb-true _ _ has),
+  small.2,
+)
+
+placed_takes : (z : Sizes) (n : ℕ) (d e : Event) → placed (plan_for z) n d ≡ Ok e → Small d → (d ≡ e) × IsEventOf z d
+unfolding placed
+placed_takes z n d e read small =
+    let a = passed (nat_lt (lane_of d) z.producers) (NoLane n)
+    (cond (has_consumer (plan_for z) (consumer_in d)) (Ok d) (Err (NoConsumer n))) e read in
+    let b = passed (has_consumer (plan_for z) (consumer_in d)) (NoConsumer n) (Ok d) e a.1 in
+    (ok_is d e b.1, place_takes z n d a.0 b.0 small)
+
+-- the line of an event was spelled so
+pub line_takes : (z : Sizes) (n : ℕ) (line : List ℕ) (e : Event) → event_at (plan_for z) n line ≡ Ok e
+    → (line ≡ join_with_byte 32 (event_words e)) × IsEventOf z e
+unfolding event_at
+line_takes z n line e read =
+    let a = avoided (has_empty (words_of line)) (BadLine n) (event_of n (words_of line) >>= placed (plan_for z) n) e read in
+    let b = bind_ok (event_of n (words_of line)) (placed (plan_for z) n) e a.1 in
+    let c = event_takes n (words_of line) b.0 b.1 in
+    let d = placed_takes z n b.0 e b.2 c.1 in
+    let spelled : line ≡ join_with_byte 32 (event_words b.0) =
+    sym (join_with_byte-slice_split 32 line) ∙ ap (join_with_byte 32) c.0 in
+    subst (λ (f : Event). (line ≡ join_with_byte 32 (event_words f)) × IsEventOf z f) d.0 (spelled, d.1)
+
+-- ---- all lines
+-- one line in front of others
+line_before : (line line2 : List ℕ) (lines lines2 : List (List ℕ)) → line ≡ line2 → lines ≡ lines2 → line ∷ lines ≡ line2 ∷ lines2
+line_before line line2 lines lines2 e f = ap (λ (l : List ℕ). l ∷ lines) e ∙ ap (λ (t : List (List ℕ)). line2 ∷ t) f
+
+-- what the lines from line n on are, where they have no fault
+abbrev Lines : Sizes → ℕ → List (List ℕ) → List Event → Type 0
+Lines z n lines events =
+    (lines ≡ map (join_with_byte 32) (map event_words events)) × AllByRecursion (IsEventOf z) events
+    × (n ≤ MAX_EVENTS + 2 → n + length events ≤ MAX_EVENTS + 2)
+
+pub events_take : (z : Sizes) (n : ℕ) (lines : List (List ℕ)) (events : List Event) → events_of (plan_for z) n lines ≡ Ok events
+    → Lines z n lines events
+unfolding events_of
+events_take z n [] events read =
+    subst (Lines z n []) (ok_is [] events read) (refl, tt, λ low. omega (arith, low))
+events_take z n (line ∷ lines) events read =
+    let plan = plan_for z in
+    let further = λ (e : Event). events_of plan (suc n) lines >>= (λ es. Ok (e ∷ es)) in
+    let a = avoided (nat_lt (MAX_EVENTS + 1) n) TooManyEvents (event_at plan n line >>= further) events read in
+    let b = bind_ok (event_at plan n line) further events a.1 in
+    let c = bind_ok (events_of plan (suc n) lines) (λ es. Ok (b.0 ∷ es)) events b.2 in
+    let first = line_takes z n line b.0 b.1 in
+    let rest = events_take z (suc n) lines c.0 c.1 in
+    let low : n ≤ MAX_EVENTS + 1 = grind (arith, nat_tests, a.0) in
+    let few = rest.2 (omega (arith, low)) in
+    subst (Lines z n (line ∷ lines)) (ok_is (b.0 ∷ c.0) events c.2)
+    (line_before _ _ _ _ first.0 rest.0, (first.1, rest.1), λ h. omega (arith, few))
+
+-- a plan with pairs, and events, as one script
+script_is : (z : Sizes) (made : Made) (events : List Event) → (plan_for z, z.pairs) ≡ made
+    → script_with made events ≡ script_in z events
+script_is z made events e = ap (λ (m : Made). script_with m events) (sym e)
+
+pub lines_take : (lines : List (List ℕ)) (s : Script) → lines_script lines ≡ Ok s → Spells lines s
+unfolding lines_script
+lines_take [] s read = absurd (cc)
+lines_take (line ∷ lines) s read =
+    let further = λ (m : Made). events_of m.0 2 lines >>= (λ events. Ok (script_with m events)) in
+    let a = bind_ok (setup_of (words_of line)) further s read in
+    let b = bind_ok (events_of a.0.0 2 lines) (λ events. Ok (script_with a.0 events)) s a.2 in
+    let set = setup_take (words_of line) a.0 a.1 in
+    let z = set.0 in
+    let plan : a.0.0 ≡ plan_for z = ap (λ (m : Made). m.0) (sym set.2.1) in
+    let events = events_take z 2 lines b.0 (subst (λ (p : Plan). events_of p 2 lines ≡ Ok b.0) plan b.1) in
+    let first : line ≡ join_with_byte 32 (setup_words z) =
+    sym (join_with_byte-slice_split 32 line) ∙ ap (join_with_byte 32) set.1 in
+    let few = events.2 (omega arith) in
+    subst (Spells (line ∷ lines)) (ok_is (script_with a.0 b.0) s b.2) (
+      z,
+      record { sizes = set.2.0; known = events.1; few = omega (arith, few) },
+      line_before _ _ _ _ first events.0,
+      script_is z a.0 b.0 set.2.1,
+    )
+
+-- what is read was spelled so
+pub script_takes : (bytes : List ℕ) (s : Script) → script_of bytes ≡ Ok s → Spells (lines_of bytes) s
+unfolding script_of
+script_takes bytes s e =
+    let read = lines_script (lines_of bytes) in
+    let a = avoided (nat_lt MAX_SCRIPT_LEN (length bytes)) TooLong (cond (list_all is_ascii bytes) read (Err NotAscii)) s e in
+    let b = passed (list_all is_ascii bytes) NotAscii read s a.1 in
+    lines_take (lines_of bytes) s b.1
+
+-- the same of a call's result
+pub is_found : {A : Type 0} (bytes : List ℕ) (r : Result (code.Script A) Fault) → Gives (λ s. view s) r (script_of bytes)
+    → IfOk r (λ s. Spells (lines_of bytes) (view s))
+is_found bytes (Ok s) read = script_takes bytes (view s) read
+is_found bytes (Err e) read = tt

@@ -1,0 +1,25 @@
+-- What devices give and take, where their bytes are known.
+use Rattle.std.specs.Prelude.{◌≡◌, ℕ, ◌+◌, ◌%◌, ◌^◌, ◌≤◌, List, length, take, Some, None}
+use Rattle.std.specs.declared.option.Option.{Option}
+use Rattle.std.specs.Io.KnownBytes.{Appends, Consumes}
+
+-- the number of failures after one more
+abbrev pub one_more : ℕ → ℕ
+one_more failures = (failures + 1) % 2 ^ 64
+
+-- known bytes grow by a prefix of the text
+abbrev pub AppendsFront : Option (List ℕ) → Option (List ℕ) → List ℕ → Type 0
+AppendsFront old new text = (n : ℕ) × (n ≤ length text) × Appends old new (take n text)
+
+-- known bytes lose n from their beginning
+abbrev pub ConsumesCount : ℕ → Option (List ℕ) → Option (List ℕ) → Type 0
+ConsumesCount n old new = (bytes : List ℕ) × (length bytes ≡ n) × Consumes old new bytes
+
+-- known bytes lose at most so many from their beginning
+abbrev pub ConsumesUpTo : ℕ → Option (List ℕ) → Option (List ℕ) → Type 0
+ConsumesUpTo most old new = (bytes : List ℕ) × (length bytes ≤ most) × Consumes old new bytes
+
+-- these are the bytes that a reader has left, where they are known
+abbrev pub Had : Option (List ℕ) → List ℕ → Type 0
+Had None bytes = Unit {0}
+Had (Some left) bytes = bytes ≡ left

@@ -1,0 +1,21 @@
+-- The faults of a replay.
+use Rattle.std.specs.Prelude.{◌≢◌, Result}
+use Rattle.mb_script.specs.declared.fault.Fault.{Fault}
+use Rattle.mb_script.specs.declared.fault.Fault.TheVariants.{TooLong, NoMemory, ReadFault, WriteFault}
+use Rattle.mb_script.specs.declared.transfer.ReadEnd.{ReadEnd}
+use Rattle.mb_script.specs.declared.transfer.ReadEnd.TheVariants as end
+use Rattle.mb_script.specs.Steps.{GivesUnless}
+
+-- each end of reading keeps its name
+abbrev pub fault_at : ReadEnd → Fault
+fault_at end.TooLong = TooLong
+fault_at end.NoMemory = NoMemory
+fault_at end.ReadFault = ReadFault
+
+-- a fault that lies in the script, and not in memory or a device
+abbrev pub LiesInScript : Fault → Type 0
+LiesInScript e = (e ≢ NoMemory) × (e ≢ ReadFault) × (e ≢ WriteFault)
+
+-- what a call returned, seen by view, is what was to be read, unless memory ran out
+abbrev pub Gives : {X Y : Type 0} → (X → Y) → Result X Fault → Result Y Fault → Type 0
+Gives view result read = GivesUnless NoMemory ReadFault WriteFault view result read

@@ -1,0 +1,7 @@
+-- The words of one line, in a fixed array.
+use Rattle.std.specs.Prelude.{ℕ, List, map, take}
+use Rattle.mb_script.specs.declared.few_words.Words.{Words}
+
+-- the words, the first first
+abbrev pub words_in : Words → List (List ℕ)
+words_in words = map (λ w. w.now) (take words.count words.words)

@@ -1,0 +1,19 @@
+pub mod ActText
+pub mod Devices
+pub mod Exchange
+pub mod Faults
+pub mod FewWords
+pub mod FirstFault
+pub mod ReplayText
+pub mod Replaying
+pub mod ReportText
+pub mod Scripts
+pub mod Spelling
+pub mod Steps
+pub mod Tables
+pub mod Text
+pub mod Transcribed
+pub mod Transcript
+pub mod Vocabulary
+-- the words of clauses, behind one door
+unfoldable pub use Vocabulary.*

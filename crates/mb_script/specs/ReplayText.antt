@@ -1,0 +1,23 @@
+-- The text of a replay: the transcript of its events, and then the report of what they did.
+use Rattle.std.specs.Prelude.{ℕ, ◌≡◌, List, [], ◌++◌}
+use Rattle.mb_world.specs.declared.event.Answer.{Answer}
+use Rattle.mb_world.specs.declared.event.Event.{Event}
+use Rattle.mb_world.specs.Plan.{Plan}
+use Rattle.mb_world.specs.Report.{ReportView}
+use Rattle.mb_world.specs.Reporting.{IsReportOf}
+use Rattle.mb_world.specs.Headline.{IsHonest}
+use Rattle.mb_world.specs.Replay.{IsReplay}
+use Rattle.mb_world.specs.World.{WorldHistory, histories_of}
+use Rattle.mb_script.specs.ReportText.{report_text}
+use Rattle.mb_script.specs.Transcript.{transcript_text}
+
+-- the text of the replay of these events in a new mailbox
+pub record IsReplayText (plan : Plan) (events : List Event) (text : List ℕ) : Type 0 where
+  pub answers : List Answer
+  pub history : WorldHistory
+  pub replayed : IsReplay plan events answers [] history
+  pub report : ReportView
+  pub reported : IsReportOf plan (histories_of history) report
+  -- one assignment stands behind the report, and nothing follows an end mark
+  pub honest : IsHonest plan (histories_of history) report
+  pub written : text ≡ transcript_text events answers ++ report_text report

@@ -1,0 +1,136 @@
+-- What the bytes of a replay script say.
+use Rattle.std.specs.Prelude.{ℕ, suc, ◌+◌, Bool, true, List, [], ◌∷◌, length, codes, Option, Some, None, Result, Ok, Err, nat_lt, if◌then◌else◌}
+use Rattle.std.specs.List.{list_all}
+use Rattle.std.specs.Char.{is_ascii}
+use Rattle.std.specs.Option.{ok_or}
+use Rattle.std.specs.Str.{bytes_eq}
+use Rattle.mb_world.specs.declared.event.Event.{Event}
+use Rattle.mb_world.specs.declared.event.Event.TheVariants.{Offer, Push, Finish, Step}
+use Rattle.mb_world.specs.declared.setup.SetupFault.{SetupFault}
+use Rattle.mb_world.specs.Plan.{Plan, consumers_of}
+use Rattle.mb_world.specs.Setups.{pairs_in, plan_in, plan_of, setup_refusal}
+use Rattle.mb_script.specs.declared.fault.Fault.{Fault}
+use Rattle.mb_script.specs.declared.fault.Fault.TheVariants.{TooLong, NotAscii, BadLine, BadNumber, NoSetup, BadSetup, NoLane, NoConsumer, TooManyEvents}
+use Rattle.mb_script.specs.declared.script.Script as code
+use Rattle.mb_script.specs.declared.script.TheConstants.{MAX_EVENTS}
+use Rattle.mb_script.specs.declared.transfer.TheConstants.{MAX_SCRIPT_LEN}
+use Rattle.mb_script.specs.Steps.{◌>>=◌}
+use Rattle.mb_script.specs.Tables.{table_named}
+use Rattle.mb_script.specs.Text.{lines_of, words_of, has_empty, number_of}
+
+-- what a world is made of, how many pairs of deciding objects each cell has, and what is to happen, the first first
+pub record Script : Type 0 where
+  pub plan : Plan
+  pub pairs : ℕ
+  pub events : List Event
+
+-- a script of the code
+abbrev pub view : {A : Type 0} → code.Script A → Script
+view s = record { plan = plan_in s.setup; pairs = pairs_in s.setup; events = s.events.items }
+
+-- ---- the numbers of line n, where there are as many as there should be
+abbrev pub number_at : ℕ → List ℕ → Result ℕ Fault
+number_at n word = ok_or (number_of word) (BadNumber n)
+
+unfoldable pub one_number : ℕ → List (List ℕ) → Result ℕ Fault
+one_number n (a ∷ []) = number_at n a
+one_number n words = Err (BadLine n)
+
+unfoldable pub two_numbers : ℕ → List (List ℕ) → Result (ℕ × ℕ) Fault
+two_numbers n (a ∷ b ∷ []) = number_at n a >>= (λ x. number_at n b >>= (λ y. Ok (x, y)))
+two_numbers n words = Err (BadLine n)
+
+unfoldable pub three_numbers : ℕ → List (List ℕ) → Result (ℕ × ℕ × ℕ) Fault
+three_numbers n (a ∷ b ∷ c ∷ []) =
+    number_at n a >>= (λ x. number_at n b >>= (λ y. number_at n c >>= (λ z. Ok (x, y, z))))
+three_numbers n words = Err (BadLine n)
+
+-- ---- the first line: `setup`, four numbers and the name of a table
+-- what they make, or why they make nothing
+abbrev pub made_of : Option SetupFault → Plan × ℕ → Result (Plan × ℕ) Fault
+made_of None made = Ok made
+made_of (Some fault) made = Err (BadSetup 1 fault)
+
+-- the words behind `setup`
+unfoldable pub sizes_of : List (List ℕ) → Result (Plan × ℕ) Fault
+sizes_of (producers ∷ consumers ∷ cells ∷ pairs ∷ name ∷ []) = do
+  t ← ok_or (table_named name) (BadLine 1)
+  p ← number_at 1 producers
+  c ← number_at 1 consumers
+  m ← number_at 1 cells
+  k ← number_at 1 pairs
+  made_of (setup_refusal p c m k) (plan_of p c m k t, k)
+sizes_of words = Err (BadLine 1)
+
+-- the words of the line: what else is wrong with it counts only where its first word is `setup`
+unfoldable pub setup_of : List (List ℕ) → Result (Plan × ℕ) Fault
+setup_of [] = Err NoSetup
+setup_of (key ∷ words) =
+    if bytes_eq key (codes "setup")
+    then (if has_empty words then Err (BadLine 1) else sizes_of words)
+    else Err NoSetup
+
+-- ---- each further line: an event
+-- the words of line n, as an event of some world
+unfoldable pub event_of : ℕ → List (List ℕ) → Result Event Fault
+event_of n [] = Err (BadLine n)
+event_of n (key ∷ words) =
+    if bytes_eq key (codes "offer") then two_numbers n words >>= (λ x. Ok (Offer x.0 x.1))
+    else if bytes_eq key (codes "push") then one_number n words >>= (λ x. Ok (Push x))
+    else if bytes_eq key (codes "finish") then one_number n words >>= (λ x. Ok (Finish x))
+    else if bytes_eq key (codes "step") then three_numbers n words >>= (λ x. Ok (Step x.0 x.1 x.2))
+    else Err (BadLine n)
+
+-- the lane of an event, and its consumer, if it has one
+abbrev pub lane_of : Event → ℕ
+lane_of (Offer lane item) = lane
+lane_of (Push lane) = lane
+lane_of (Finish lane) = lane
+lane_of (Step consumer lane word) = lane
+
+abbrev pub consumer_in : Event → Option ℕ
+consumer_in (Step consumer lane word) = Some consumer
+consumer_in event = None
+
+-- whether there is such a consumer
+abbrev pub has_consumer : Plan → Option ℕ → Bool
+has_consumer plan None = true
+has_consumer plan (Some consumer) = nat_lt consumer (consumers_of plan)
+
+-- an event of this world
+unfoldable pub placed : Plan → ℕ → Event → Result Event Fault
+placed plan n event =
+    if nat_lt (lane_of event) plan.lanes
+    then (if has_consumer plan (consumer_in event) then Ok event else Err (NoConsumer n))
+    else Err (NoLane n)
+
+-- line n
+unfoldable pub event_at : Plan → ℕ → List ℕ → Result Event Fault
+event_at plan n line =
+    if has_empty (words_of line) then Err (BadLine n)
+    else event_of n (words_of line) >>= placed plan n
+
+-- The lines from line n on, so that the first faulty line decides. The line behind the last that may have an event is one
+-- too many, whatever it holds.
+unfoldable pub events_of : Plan → ℕ → List (List ℕ) → Result (List Event) Fault
+events_of plan n [] = Ok []
+events_of plan n (line ∷ lines) =
+    if nat_lt (MAX_EVENTS + 1) n then Err TooManyEvents
+    else event_at plan n line >>= (λ event. events_of plan (suc n) lines >>= (λ events. Ok (event ∷ events)))
+
+-- ---- the whole
+-- the script of a world and its events
+abbrev pub script_with : Plan × ℕ → List Event → Script
+script_with made events = record { plan = made.0; pairs = made.1; events = events }
+
+unfoldable pub lines_script : List (List ℕ) → Result Script Fault
+lines_script [] = Err NoSetup
+lines_script (line ∷ lines) =
+    setup_of (words_of line) >>= (λ made. events_of made.0 2 lines >>= (λ events. Ok (script_with made events)))
+
+-- what the bytes say: a script, or the first fault
+unfoldable pub script_of : List ℕ → Result Script Fault
+script_of bytes =
+    if nat_lt MAX_SCRIPT_LEN (length bytes) then Err TooLong
+    else if list_all is_ascii bytes then lines_script (lines_of bytes)
+    else Err NotAscii

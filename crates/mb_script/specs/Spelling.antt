@@ -1,0 +1,61 @@
+-- How a replay script is spelled.
+use Rattle.std.specs.Prelude.{◌≡◌, ℕ, ◌<◌, ◌≤◌, ◌^◌, List, [], ◌∷◌, length, codes, map, None}
+use Rattle.std.specs.List.{AllByRecursion, join_with_byte}
+use Rattle.std.specs.Fmt.{decimal}
+use Rattle.mb_quorum.specs.declared.table.TableName.{TableName}
+use Rattle.mb_world.specs.declared.event.Event.{Event}
+use Rattle.mb_world.specs.declared.event.Event.TheVariants.{Offer, Push, Finish, Step}
+use Rattle.mb_world.specs.Setups.{plan_of, setup_refusal}
+use Rattle.mb_script.specs.declared.script.TheConstants.{MAX_EVENTS}
+use Rattle.mb_script.specs.Scripts.{Script}
+use Rattle.mb_script.specs.Tables.{table_name}
+
+-- the numbers of a setup, and its table
+pub record Sizes : Type 0 where
+  pub producers : ℕ
+  pub consumers : ℕ
+  pub cells : ℕ
+  pub pairs : ℕ
+  pub table : TableName
+
+-- the words of the first line
+abbrev pub setup_words : Sizes → List (List ℕ)
+setup_words z =
+    codes "setup" ∷ decimal z.producers ∷ decimal z.consumers ∷ decimal z.cells ∷ decimal z.pairs
+    ∷ table_name z.table ∷ []
+
+-- the words of the line of an event
+abbrev pub event_words : Event → List (List ℕ)
+event_words (Offer lane item) = codes "offer" ∷ decimal lane ∷ decimal item ∷ []
+event_words (Push lane) = codes "push" ∷ decimal lane ∷ []
+event_words (Finish lane) = codes "finish" ∷ decimal lane ∷ []
+event_words (Step consumer lane word) = codes "step" ∷ decimal consumer ∷ decimal lane ∷ decimal word ∷ []
+
+-- the lines: one space between each two words
+abbrev pub script_lines : Sizes → List Event → List (List ℕ)
+script_lines z events = map (join_with_byte 32) (setup_words z ∷ map event_words events)
+
+-- an event of the world of these sizes: its lane and its consumer are there, and an item or a word is below 2^64
+abbrev pub IsEventOf : Sizes → Event → Type 0
+IsEventOf z (Offer lane item) = (lane < z.producers) × (item < 2 ^ 64)
+IsEventOf z (Push lane) = lane < z.producers
+IsEventOf z (Finish lane) = lane < z.producers
+IsEventOf z (Step consumer lane word) = (lane < z.producers) × (consumer < z.consumers) × (word < 2 ^ 64)
+
+-- there is such a world, the events are its own, and they are not too many
+pub record IsScript (z : Sizes) (events : List Event) : Type 0 where
+  pub sizes : setup_refusal z.producers z.consumers z.cells z.pairs ≡ None
+  pub known : AllByRecursion (IsEventOf z) events
+  pub few : length events ≤ MAX_EVENTS
+
+-- what the lines say
+abbrev pub script_in : Sizes → List Event → Script
+script_in z events = record {
+  plan = plan_of z.producers z.consumers z.cells z.pairs z.table;
+  pairs = z.pairs;
+  events = events;
+}
+
+-- these lines spell this script
+abbrev pub Spells : List (List ℕ) → Script → Type 0
+Spells lines s = (z : Sizes) × IsScript z s.events × (lines ≡ script_lines z s.events) × (s ≡ script_in z s.events)

@@ -1,0 +1,17 @@
+-- The words of clauses, here and in the crates above.
+pub use Rattle.mb_script.specs.Devices.{AppendsFront, ConsumesCount, ConsumesUpTo, Had, one_more}
+pub use Rattle.mb_script.specs.Exchange.{Command, IsExchange, LiesIn, Meter, meter}
+pub use Rattle.mb_script.specs.Text.{IsWord, IsWordLine, has_empty, is_numeral, lines_of, words_behind, words_of}
+unfoldable pub use Rattle.mb_script.specs.Text.{number_of, numbers_of}
+pub use Rattle.mb_script.specs.ActText.{act_text, reg_text}
+pub use Rattle.mb_script.specs.Transcript.{answer_text, entry_text, event_text, transcript_text}
+pub use Rattle.mb_script.specs.ReportText.{diary_text, lanes_text, note_text, report_text}
+pub use Rattle.mb_script.specs.Steps.{◌>>=◌, GivesUnless}
+pub use Rattle.mb_script.specs.Tables.{table_name, table_named}
+pub use Rattle.mb_script.specs.Faults.{Gives, LiesInScript, fault_at}
+pub use Rattle.mb_script.specs.Scripts.{Script, consumer_in, has_consumer, lane_of, view}
+unfoldable pub use Rattle.mb_script.specs.Scripts.{event_at, event_of, events_of, lines_script, one_number, placed, script_of, setup_of, sizes_of, three_numbers, two_numbers}
+pub use Rattle.mb_script.specs.Spelling.{IsEventOf, IsScript, Sizes, Spells, event_words, script_in, script_lines, setup_words}
+pub use Rattle.mb_script.specs.FirstFault.{first_word_in, line_of}
+pub use Rattle.mb_script.specs.ReplayText.{IsReplayText}
+pub use Rattle.mb_script.specs.Replaying.{IsAnswer, fault_of, replaying}

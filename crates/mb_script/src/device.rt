@@ -1,0 +1,102 @@
+//! Readers and writers that count their failures.
+//!
+//! A promise that a fault comes only where the device failed needs a device that tells so. These traits have one read
+//! or one write a call, so nothing is retried.
+ghost use Rattle.std.specs.Prelude.{◌≡◌, ℕ, ◌<◌, List, IsOk, IsErr, IfOk, Ok, length};
+ghost use Rattle.std.specs.declared.option.Option.{Option};
+ghost use Rattle.std.specs.Io.{ReadsAtMost, WritesAtMost};
+ghost use Rattle.std.specs.Io.KnownBytes.{ReadConsumes, WriteAppends};
+ghost use Rattle.mb_script.specs.Devices.{one_more};
+
+use std::io;
+use std::io::{Read, Write};
+
+/// A reader that counts its failures, modulo 2^64.
+pub trait Source {
+    // The bytes that reads will give from here on, where they are known.
+    ghost left: { Self → Option (List ℕ) };
+
+    ghost failures: { Self → ℕ };
+
+    /// Reads some bytes, at most the buffer's length, and none only at the end or with no room.
+    fn read(&mut self, buf: &mut [u8]) -> io::Result<usize>
+        ensures bound { ReadsAtMost result buf.new }
+        ensures bytes { ReadConsumes (left self.old) (left self.new) result buf.new }
+        ensures fails { IsErr result → failures self.new ≡ one_more (failures self.old) }
+        ensures works { IsOk result → failures self.new ≡ failures self.old };
+}
+
+/// A writer that counts its failures, modulo 2^64. To take none of some bytes is a failure.
+pub trait Sink {
+    // The bytes that the writer holds, where they are known.
+    ghost held: { Self → Option (List ℕ) };
+
+    ghost failures: { Self → ℕ };
+
+    /// Writes the first bytes of the buffer, and says how many.
+    fn write(&mut self, buf: &[u8]) -> io::Result<usize>
+        requires { 0 < length buf.now }
+        ensures bound { WritesAtMost result buf.now }
+        ensures bytes { WriteAppends (held self.old) (held self.new) result buf.now }
+        ensures fails { IsErr result → failures self.new ≡ one_more (failures self.old) }
+        ensures stuck { result ≡ Ok 0 → failures self.new ≡ one_more (failures self.old) }
+        ensures works { IfOk result (λ n. 0 < n → failures self.new ≡ failures self.old) };
+}
+
+/// A reader or writer of std, beside the number of its failures.
+#[derive(Drop)]
+pub struct Counting<D: Drop> {
+    /// The reader or writer.
+    pub device: D,
+    /// How many of its reads or writes failed, modulo 2^64.
+    pub failures: u64,
+}
+
+impl<D: Drop> Counting<D> {
+    /// The device, with no failure counted.
+    pub fn new(device: D) -> Counting<D>
+        ensures device { result.device ≡ device }
+        ensures failures { result.failures ≡ 0 }
+    {
+        Counting {
+            device,
+            failures: 0,
+        }
+    }
+
+    fn count(&mut self)
+        ensures device { self.new.device ≡ self.old.device }
+        ensures failures { self.new.failures ≡ one_more self.old.failures }
+    {
+        self.failures = self.failures.wrapping_add(1);
+    }
+}
+
+impl<R: Read + Drop> Source for Counting<R> {
+    ghost left = { λ c. R.remaining c.device };
+
+    ghost failures = { λ c. c.failures };
+
+    fn read(&mut self, buf: &mut [u8]) -> io::Result<usize> {
+        let result = self.device.read(buf);
+        if result.is_err() {
+            self.count();
+        }
+        result
+    }
+}
+
+impl<W: Write + Drop> Sink for Counting<W> {
+    ghost held = { λ c. W.contents c.device };
+
+    ghost failures = { λ c. c.failures };
+
+    fn write(&mut self, buf: &[u8]) -> io::Result<usize> {
+        let result = self.device.write(buf);
+        match &result {
+            Ok(n) if *n > 0 => {}
+            _ => self.count(),
+        }
+        result
+    }
+}

@@ -1,0 +1,73 @@
+//! The definitions by example: how answers and reports are written. The functions compute nothing: their contracts are
+//! the examples, and their proofs stand in `proofs/examples`.
+ghost use Rattle.std.specs.Prelude.{◌≡◌, true, false, [], ◌∷◌, ◌++◌, codes};
+ghost use Rattle.mb_claim.specs.declared.access.Stage.TheVariants as stage;
+ghost use Rattle.mb_cells.specs.declared.answer.Finish.TheVariants as finish;
+ghost use Rattle.mb_cells.specs.declared.answer.Look.TheVariants as look;
+ghost use Rattle.mb_cells.specs.declared.answer.Offer.TheVariants as offer;
+ghost use Rattle.mb_cells.specs.declared.answer.Push.TheVariants as push;
+ghost use Rattle.mb_deciding.specs.declared.access.Act.TheVariants.{Load, Store};
+ghost use Rattle.mb_deciding.specs.declared.access.Reg.TheVariants.{Value, Proposal, Quorum};
+ghost use Rattle.mb_world.specs.declared.event.Answer.TheVariants as answer;
+ghost use Rattle.mb_world.specs.declared.event.Event.TheVariants.{Offer, Push, Finish, Step};
+ghost use Rattle.mb_world.specs.declared.report.Note.TheVariants.{Took, Lost, Undecided};
+ghost use Rattle.mb_script.specs.ReportText.{report_text};
+ghost use Rattle.mb_script.specs.Transcript.{entry_text, transcript_text};
+
+/// The events of a producer with their answers.
+pub fn producers_are_answered()
+    ensures offered { entry_text (Offer 0 7) (answer.Offered (offer.Cell 3))
+        ≡ codes "offer 0 7 cell 3\n" }
+    ensures full { entry_text (Offer 1 7) (answer.Offered offer.Full) ≡ codes "offer 1 7 full\n" }
+    ensures stored { entry_text (Push 0) (answer.Pushed (push.Item 3)) ≡ codes "push 0 item 3\n" }
+    ensures linked { entry_text (Push 0) (answer.Pushed (push.Link 3)) ≡ codes "push 0 link 3\n" }
+    ensures idle { entry_text (Push 0) (answer.Pushed push.Idle) ≡ codes "push 0 idle\n" }
+    ensures ended { entry_text (Finish 0) (answer.Finished finish.Ended)
+        ≡ codes "finish 0 ended\n" }
+    ensures busy { entry_text (Finish 0) (answer.Finished finish.Busy) ≡ codes "finish 0 busy\n" }
+{}
+
+/// The steps of a consumer with their answers. The random word is not written.
+pub fn consumers_are_answered()
+    ensures nothing { entry_text (Step 1 0 9) (answer.Looked look.Nothing)
+        ≡ codes "step 1 0 nothing\n" }
+    ensures found { entry_text (Step 1 0 9) (answer.Looked (look.Cell 3))
+        ≡ codes "step 1 0 found 3\n" }
+    ensures ended { entry_text (Step 1 0 9) (answer.Looked look.Ended) ≡ codes "step 1 0 ended\n" }
+    ensures going { entry_text (Step 1 0 9) (answer.Claimed 3 0 (Load Value 0) stage.Going)
+        ≡ codes "step 1 0 cell 3 o0 load c 0\n" }
+    ensures won { entry_text (Step 1 0 9) (answer.Claimed 3 1 (Store Proposal 2) stage.Won)
+        ≡ codes "step 1 0 cell 3 o1 store p 2 won\n" }
+    ensures lost { entry_text (Step 1 0 9) (answer.Claimed 3 1 (Load (Quorum 2) 1) (stage.Lost 4))
+        ≡ codes "step 1 0 cell 3 o1 load q2 1 lost 4\n" }
+    ensures undecided { entry_text (Step 1 0 9)
+        (answer.Claimed 3 1 (Load (Quorum 0) 1) stage.Undecided)
+        ≡ codes "step 1 0 cell 3 o1 load q0 1 undecided\n" }
+    ensures took { entry_text (Step 1 0 9) (answer.Took 3 7) ≡ codes "step 1 0 took 7\n" }
+{}
+
+/// The lines stand in the order of the events.
+pub fn transcripts_keep_the_order()
+    ensures { transcript_text (Push 0 ∷ Push 1 ∷ [])
+        (answer.Pushed push.Idle ∷ answer.Pushed (push.Link 2) ∷ [])
+        ≡ codes "push 0 idle\npush 1 link 2\n" }
+{}
+
+/// A report of two lanes and one consumer, and one with nothing but a claim that is begun.
+pub fn reports_are_written()
+    ensures two_lanes { report_text (record {
+      lanes = record { put = 5 ∷ 6 ∷ 7 ∷ []; ended = true; left = 6 ∷ 7 ∷ [] }
+          ∷ record { put = []; ended = false; left = [] } ∷ [];
+      diaries = record {
+        consumer = 0;
+        lane = 0;
+        notes = Took 5 ∷ Lost 1 ∷ Undecided ∷ [];
+        begun = false;
+      } ∷ record { consumer = 0; lane = 1; notes = []; begun = false } ∷ [];
+    }) ≡ codes "lane 0 ended put 5 6 7\nleft 0 6 7\nlane 1 open put\nleft 1\n"
+        ++ codes "diary 0 0 took 5 lost 1 undecided\ndiary 0 1\n" }
+    ensures begun { report_text (record {
+      lanes = record { put = 5 ∷ []; ended = false; left = 5 ∷ [] } ∷ [];
+      diaries = record { consumer = 0; lane = 0; notes = []; begun = true } ∷ [];
+    }) ≡ codes "lane 0 open put 5\nleft 0 5\ndiary 0 0 begun\n" }
+{}

@@ -1,0 +1,57 @@
+//! The words of one line, without memory.
+ghost use Rattle.std.specs.Prelude.{◌≤◌};
+
+/// The most words that a line of a script has.
+pub const MAX_WORDS: usize = 8;
+
+/// The words of a line that has no empty word, and not more than [`MAX_WORDS`].
+#[derive(Clone, Copy)]
+pub struct Words<'a> {
+    words: [&'a str; MAX_WORDS],
+    count: usize,
+    pub ghost within: { count ≤ 8 },
+}
+
+impl<'a> Words<'a> {
+    ghost use Rattle.std.specs.Prelude.{◌≡◌, true, false, ◌||◌, nat_lt, length, map, MatchOption};
+    ghost use Rattle.mb_script.specs.Text.{has_empty, words_of};
+    ghost use Rattle.mb_script.specs.FewWords.{words_in};
+
+    /// The words of a line, or `None` where some word is empty or there are too many.
+    ///
+    /// This takes no memory, however many words there are.
+    pub fn of_line(line: &'a str) -> Option<Words<'a>>
+        ensures { MatchOption result
+            ((has_empty (words_of line.now) || nat_lt MAX_WORDS (length (words_of line.now)))
+            ≡ true)
+            (λ words. (has_empty (words_of line.now) ≡ false)
+            × (words_in words ≡ words_of line.now)) }
+    {
+        let mut words = [""; MAX_WORDS];
+        let mut count = 0;
+        let mut rest = line;
+        while let Some((word, after)) = rest.split_once(' ') {
+            if word.is_empty() || count + 1 == MAX_WORDS {
+                return None;
+            }
+            words[count] = word;
+            count += 1;
+            rest = after;
+        }
+        if rest.is_empty() {
+            return None;
+        }
+        words[count] = rest;
+        Some(Words {
+            words,
+            count: count + 1,
+        })
+    }
+
+    /// The words, the first first.
+    pub fn as_slice(&self) -> &[&'a str]
+        ensures { map (λ w. w.now) result.now ≡ words_in self.now }
+    {
+        &self.words[..self.count]
+    }
+}

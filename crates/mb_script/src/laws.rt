@@ -1,0 +1,105 @@
+//! What holds of every text, every script and every device. The functions compute nothing: their contracts are the laws. Their proofs stand in
+//! `proofs/laws`, in a folder of the law's name.
+ghost use Rattle.std.specs.Prelude.{◌≡◌, ◌≢◌, ℕ, suc, ◌<◌, ◌≤◌, ◌^◌, List, ◌∷◌, ◌++◌, codes, length, map, take};
+ghost use Rattle.std.specs.Prelude.{Some, Err, true, false};
+ghost use Rattle.std.specs.Char.{is_ascii};
+ghost use Rattle.std.specs.Fmt.{decimal};
+ghost use Rattle.std.specs.List.{AllByRecursion, join_with_byte, list_all};
+ghost use Rattle.mb_world.specs.declared.event.Event.{Event};
+ghost use Rattle.mb_script.specs.declared.fault.Fault.{Fault};
+ghost use Rattle.mb_script.specs.declared.fault.Fault.TheVariants.{NoSetup, TooManyEvents};
+ghost use Rattle.mb_script.specs.declared.script.TheConstants.{MAX_EVENTS};
+ghost use Rattle.mb_script.specs.declared.transfer.TheConstants.{MAX_SCRIPT_LEN};
+ghost use Rattle.mb_script.specs.Devices.{one_more};
+ghost use Rattle.mb_script.specs.FirstFault.{first_word_in, line_of};
+ghost use Rattle.mb_script.specs.Replaying.{IsAnswer, IsOfWorld};
+ghost use Rattle.mb_script.specs.Scripts.{Script, script_of};
+ghost use Rattle.mb_script.specs.Spelling.{IsScript, Sizes, Spells, script_lines};
+ghost use Rattle.mb_script.specs.Text.{IsWord, IsWordLine, has_empty, lines_of, number_of, numbers_of, words_of};
+
+use mb_quorum::laws::named_tables_are_lawful;
+use mb_world::laws::{histories_have_one_report, replays_do_not_differ, worlds_are_sound};
+use mb_world::steps::one_step;
+
+/// What is spelled as words with one space between each two is cut into these words, and what was cut was spelled so.
+pub fn words_are_cut_as_spelled()
+    ensures cut { (w : List ℕ) (ws : List (List ℕ)) → AllByRecursion IsWord (w ∷ ws)
+        → words_of (join_with_byte 32 (w ∷ ws)) ≡ w ∷ ws }
+    ensures none_empty { (ws : List (List ℕ)) → AllByRecursion IsWord ws → has_empty ws ≡ false }
+    ensures spelled { (line : List ℕ) → join_with_byte 32 (words_of line) ≡ line }
+{}
+
+/// What is spelled as a number is read as that number, and what was read was spelled so: in digits, with no needless 0.
+pub fn numbers_are_read_as_spelled()
+    ensures word { (n : ℕ) → n < 2 ^ 64 → IsWord (decimal n) }
+    ensures read { (n : ℕ) → n < 2 ^ 64 → number_of (decimal n) ≡ Some n }
+    ensures spelled { (w : List ℕ) (n : ℕ) → number_of w ≡ Some n → (w ≡ decimal n) × (n < 2 ^ 64) }
+
+    // The same of lists of numbers.
+    ensures words { (ns : List ℕ) → AllByRecursion (λ n. n < 2 ^ 64) ns
+        → AllByRecursion IsWord (map decimal ns) }
+    ensures all_read { (ns : List ℕ) → AllByRecursion (λ n. n < 2 ^ 64) ns
+        → numbers_of (map decimal ns) ≡ Some ns }
+    ensures all_spelled { (ws : List (List ℕ)) (ns : List ℕ) → numbers_of ws ≡ Some ns
+        → (ws ≡ map decimal ns) × AllByRecursion (λ n. n < 2 ^ 64) ns }
+{}
+
+/// A text whose lines are spelled as words is ASCII.
+pub fn lines_of_words_are_ascii()
+    ensures { (bytes : List ℕ) (lines : List (List (List ℕ))) → AllByRecursion IsWordLine lines
+        → lines_of bytes ≡ map (join_with_byte 32) lines → list_all is_ascii bytes ≡ true }
+{}
+
+/// The first faulty line of a script decides: what stands behind it counts for nothing, and what stands before it is
+/// spelled as a script.
+pub fn first_faulty_lines_decide()
+    ensures behind { (bytes others : List ℕ) (e : Fault) (n : ℕ) → script_of bytes ≡ Err e
+        → line_of e ≡ Some n
+        → take n (lines_of bytes) ≡ take n (lines_of others) → length others ≤ MAX_SCRIPT_LEN
+        → list_all is_ascii others ≡ true → script_of others ≡ Err e }
+    ensures before { (bytes : List ℕ) (e : Fault) (n : ℕ) → script_of bytes ≡ Err e
+        → line_of e ≡ Some (suc n) → 0 < n
+        → (s : Script) × Spells (take n (lines_of bytes)) s }
+{}
+
+/// `NoSetup` comes before every other fault of the first line, and only where its first word is not `setup`.
+pub fn setups_come_first()
+    ensures always { (bytes : List ℕ) → length bytes ≤ MAX_SCRIPT_LEN
+        → list_all is_ascii bytes ≡ true
+        → first_word_in (lines_of bytes) ≢ Some (codes "setup") → script_of bytes ≡ Err NoSetup }
+    ensures only { (bytes : List ℕ) → script_of bytes ≡ Err NoSetup
+        → first_word_in (lines_of bytes) ≢ Some (codes "setup") }
+{}
+
+/// A line behind a script that has as many events as a script may have is one too many, whatever it holds.
+pub fn further_lines_are_too_many()
+    ensures { (bytes : List ℕ) (z : Sizes) (events : List Event)
+        → (line : List ℕ) (rest : List (List ℕ))
+        → IsScript z events → length events ≡ MAX_EVENTS
+        → lines_of bytes ≡ script_lines z events ++ line ∷ rest → length bytes ≤ MAX_SCRIPT_LEN
+        → list_all is_ascii bytes ≡ true → script_of bytes ≡ Err TooManyEvents }
+{}
+
+/// A script has one answer: its events have one replay, and what they did has one report.
+pub fn scripts_have_one_answer()
+    ensures { (bytes text other : List ℕ) → IsAnswer bytes text → IsAnswer bytes other → text ≡ other }
+{
+    named_tables_are_lawful();
+    one_step();
+    replays_do_not_differ();
+    worlds_are_sound();
+    histories_have_one_report();
+}
+
+/// In the transcript of a script no lane and no consumer is missing.
+pub fn transcripts_name_what_is_there()
+    ensures { (bytes text : List ℕ) (a : IsAnswer bytes text)
+        → AllByRecursion IsOfWorld a.replayed.answers }
+{
+    named_tables_are_lawful();
+}
+
+/// A failure is seen in the number of failures.
+pub fn failures_are_seen()
+    ensures { (failures : ℕ) → one_more failures ≢ failures }
+{}

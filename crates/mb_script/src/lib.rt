@@ -1,0 +1,31 @@
+//! The replayer: a script in, its transcript and report out. It stands on a text layer of its own, lines, words and
+//! numbers, and on readers and writers that count their failures.
+#![tactic(auto)]
+
+mod act_text;
+mod device;
+pub mod examples;
+mod fault;
+mod few_words;
+pub mod laws;
+mod parsing;
+mod replay;
+mod replaying;
+mod report_lines;
+mod script;
+mod table;
+mod text;
+mod transcript;
+mod transfer;
+
+pub use act_text::push_act;
+pub use device::{Counting, Sink, Source};
+pub use fault::Fault;
+pub use few_words::{MAX_WORDS, Words};
+pub use parsing::parse;
+pub use replaying::run;
+pub use report_lines::report_text;
+pub use script::{MAX_EVENTS, Script};
+pub use table::table_named;
+pub use text::{ascii_text, has_empty_word, number, numbers, split_line, split_word};
+pub use transfer::{MAX_SCRIPT_LEN, ReadEnd, WriteFailed, read_all, write_all};

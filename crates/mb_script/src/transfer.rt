@@ -1,0 +1,86 @@
+//! All that a reader has, up to a limit, and a text into a writer.
+ghost use Rattle.std.specs.Prelude.{◌≡◌, ◌≢◌, ◌+◌, ◌≤◌, IfOk, OnOk, OnErr, Err, length};
+ghost use Rattle.std.specs.Io.KnownBytes.{Appends, Consumes, IsAtEnd};
+ghost use Rattle.mb_script.specs.Devices.{AppendsFront, ConsumesCount, ConsumesUpTo, one_more};
+
+use crate::device::{Sink, Source};
+use std::alloc::Allocator;
+
+/// The most bytes that a script may have.
+pub const MAX_SCRIPT_LEN: usize = 1_048_576;
+
+// How many bytes one read may give.
+const PIECE_LEN: usize = 4096;
+
+/// Why reading stopped before the end.
+#[derive(Clone, Copy, Debug, PartialEq, Eq, Hash)]
+pub enum ReadEnd {
+    /// There is one byte more than the limit.
+    TooLong,
+    /// A growth was refused.
+    NoMemory,
+    /// A read answered an error.
+    ReadFault,
+}
+
+/// A write answered an error, or took no byte.
+#[derive(Clone, Copy, Debug, PartialEq, Eq, Hash)]
+pub struct WriteFailed;
+
+/// Reads to the end, and stops at the first byte past the limit.
+pub fn read_all<R: Source, A: Allocator + Drop>(
+    alloc: A,
+    reader: &mut R,
+) -> Result<Vec<u8, A>, ReadEnd>
+    ensures whole { IfOk result (λ v. Consumes (R.left reader.old) (R.left reader.new) v.items) }
+    ensures end { OnOk result (IsAtEnd (R.left reader.new)) }
+    ensures limit { IfOk result (λ v. length v.items ≤ MAX_SCRIPT_LEN) }
+
+    // Where it stopped early, what it has read is within the limit, or one byte longer.
+    ensures early { OnErr result
+        (ConsumesUpTo (MAX_SCRIPT_LEN + 1) (R.left reader.old) (R.left reader.new)) }
+    ensures long { result ≡ Err ReadEnd.TooLong
+        → ConsumesCount (MAX_SCRIPT_LEN + 1) (R.left reader.old) (R.left reader.new) }
+
+    // Behind one byte too many it reads no more, so no read fails there.
+    ensures failed { result ≡ Err ReadEnd.ReadFault
+        → ConsumesUpTo MAX_SCRIPT_LEN (R.left reader.old) (R.left reader.new) }
+
+    // It answers ReadFault exactly where the reader failed.
+    ensures fault { result ≡ Err ReadEnd.ReadFault
+        → R.failures reader.new ≡ one_more (R.failures reader.old) }
+    ensures works { result ≢ Err ReadEnd.ReadFault → R.failures reader.new ≡ R.failures reader.old }
+{
+    let mut text = Vec::new(alloc);
+    let mut piece = [0u8; PIECE_LEN];
+    while text.len() <= MAX_SCRIPT_LEN {
+        let room = PIECE_LEN.min(MAX_SCRIPT_LEN + 1 - text.len());
+        let Ok(n) = reader.read(&mut piece[..room]) else {
+            return Err(ReadEnd::ReadFault);
+        };
+        if n == 0 {
+            return Ok(text);
+        }
+        let Ok(()) = text.extend_from_slice(&piece[..n]) else {
+            return Err(ReadEnd::NoMemory);
+        };
+    }
+    Err(ReadEnd::TooLong)
+}
+
+/// Writes the text. After an `Err` a prefix of it was written.
+pub fn write_all<W: Sink>(writer: &mut W, text: &[u8]) -> Result<(), WriteFailed>
+    ensures ok { OnOk result (Appends (W.held writer.old) (W.held writer.new) text.now) }
+    ensures err { OnErr result (AppendsFront (W.held writer.old) (W.held writer.new) text.now) }
+    ensures fault { OnErr result (W.failures writer.new ≡ one_more (W.failures writer.old)) }
+    ensures works { OnOk result (W.failures writer.new ≡ W.failures writer.old) }
+{
+    let mut at = 0;
+    while at < text.len() {
+        match writer.write(&text[at..]) {
+            Ok(n) if n > 0 => at += n,
+            _ => return Err(WriteFailed),
+        }
+    }
+    Ok(())
+}
