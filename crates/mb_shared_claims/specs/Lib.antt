@@ -1,0 +1,14 @@
+pub mod Types
+pub mod Views
+pub mod ViewSteps
+pub mod Rule
+pub mod Seats
+pub mod SeatSteps
+pub mod Vocabulary
+-- what clauses name stands here, too
+pub use Types.*
+pub use Views.*
+pub use ViewSteps.*
+pub use Rule.*
+pub use Seats.*
+pub use SeatSteps.*

@@ -1,0 +1,100 @@
+-- What callers see of a table, its hub and its seats, and what each of these keeps.
+use Rattle.std.specs.Prelude.{ℕ, zero, suc, ◌≡◌, ◌+◌, ◌<◌, ◌≤◌, Option, Some, None, List, [], ◌∷◌, length}
+use Rattle.mb_claim.specs.Vocabulary.{Claims, claims_of, part, consumer_count, IsClaimLawful}
+use Rattle.mb_shared_claims.specs.Types.{TableId, ClaimAccess, Layout, MAX_CELLS, TableSize, View, Handing, Drawing}
+use Rattle.mb_shared_claims.specs.Types.{Standing, Taking, Spent}
+use Rattle.mb_shared_claims.specs.Views.{claims_of_size, Roll}
+use Rattle.mb_shared_claims.specs.ViewSteps.{Seated, roll_of, part_of}
+use Rattle.mb_shared_claims.specs.Rule.{roster}
+
+-- ---- what callers see
+-- which table it is, the objects of each cell, and how many cells there are
+pub record TableView : Type 0 where
+  pub id : TableId
+  pub layout : Layout
+  pub cells : ℕ
+
+-- the name of a table, which its hub and all its seats have: which it is, and its size. So where two names are one, so are
+-- the layouts and the numbers of cells. Each hub and each seat that there is has a table with a size.
+pub record ClaimTable : Type 0 where
+  pub id : TableId
+  pub size : Option TableSize
+
+-- the name of this table
+abbrev pub name_of : TableView → ClaimTable
+name_of t = record { id = t.id; size = Some (record { layout = t.layout; cells = t.cells }) }
+
+-- the claims on the cells of a table that has this size; none where it has none
+abbrev pub claims_at_size : Option TableSize → Claims
+claims_at_size (Some size) = claims_of_size size
+claims_at_size None = claims_of (record { registers = 0; values = 0; write = λ _. 0; read = λ _. 0 }) [] 0
+
+-- the claims on the cells of the table with this name
+abbrev pub claims_at : ClaimTable → Claims
+claims_at table = claims_at_size table.size
+
+-- a hub: of which table it is, and its roll
+pub record HubView : Type 0 where
+  pub table : ClaimTable
+  pub roll : Roll
+
+-- a seat: of which table it is, its consumer's number, and all that the consumer did
+pub record SeatView : Type 0 where
+  pub table : ClaimTable
+  pub consumer : ℕ
+  pub part : List ClaimAccess
+
+-- how many seats are out
+abbrev pub count_out : Roll → ℕ
+count_out [] = 0
+count_out (Some done ∷ rest) = count_out rest
+count_out (None ∷ rest) = suc (count_out rest)
+
+-- the part of consumer c that was taken in, and nothing where none was
+abbrev pub taken_part : Roll → ℕ → List ClaimAccess
+taken_part [] c = []
+taken_part (Some done ∷ rest) zero = done
+taken_part (None ∷ rest) zero = []
+taken_part (x ∷ rest) (suc c) = taken_part rest c
+
+-- these are the parts of all consumers in one lawful history
+abbrev pub AreOfOneHistory : Claims → (ℕ → List ClaimAccess) → Type 0
+AreOfOneHistory cs parts = (h : List ClaimAccess) × IsClaimLawful cs h × ((c : ℕ) → part c h ≡ parts c)
+
+-- consumer c did this in some lawful history
+abbrev pub IsLawfulPart : Claims → ℕ → List ClaimAccess → Type 0
+IsLawfulPart cs c done = (h : List ClaimAccess) × IsClaimLawful cs h × (part c h ≡ done)
+
+-- ---- what a table, a hub and a seat keep
+-- the size of its table that a view has
+abbrev pub size_in : View → Option TableSize
+size_in (Handing size roll) = Some size
+size_in (Drawing size roll) = Some size
+size_in (Standing size own done) = Some size
+size_in (Taking size roll own done) = Some size
+size_in Spent = None
+
+-- the name of the table of a seat, by its table's identity and its view
+abbrev pub table_of : TableId → View → ClaimTable
+table_of id v = record { id = id; size = size_in v }
+
+-- a table has the words of its cells, the roster behind them, and no slots, and its rule was told its size
+pub record IsTable (id : TableId) (key size : TableSize) : Type 0 where
+  pub told : key ≡ size
+  pub words : id.words ≡ roster size + 1
+  pub slots : id.slots ≡ 0
+  pub cells : size.cells ≤ MAX_CELLS
+
+-- the hub's seat, and the numbers that it counts: those given, and those out
+pub record IsHubSeat (me : Seated) (given out : ℕ) : Type 0 where
+  pub size : TableSize
+  pub is : me ≡ (Handing size (roll_of me.0), [])
+  pub all : given ≡ length (roll_of me.0)
+  pub absent : out ≡ count_out (roll_of me.0)
+
+-- the seat of a consumer of the layout, whose part is that of some lawful history
+pub record IsClaimSeat (me : Seated) (consumer : ℕ) : Type 0 where
+  pub size : TableSize
+  pub is : me ≡ (Standing size consumer (part_of me.0), [])
+  pub known : consumer < consumer_count size.layout
+  pub lawful : IsLawfulPart (claims_of_size size) consumer (part_of me.0)

@@ -1,0 +1,83 @@
+-- How the steps of a table change the views of its seats, and what they tell.
+use Rattle.std.specs.Prelude.{ℕ, ◌≡◌, Some, None, List, [], ◌∷◌, ◌++◌, length, slice_set}
+use Rattle.atomic_table.specs.Table.{Me}
+use Rattle.mb_claim.specs.Vocabulary.{Claims, part, IsClaimLawful}
+use Rattle.mb_shared_claims.specs.Types.{ClaimAccess, View, Handing, Drawing, Standing, Taking, Spent}
+use Rattle.mb_shared_claims.specs.Views.{claims_of_size, Roll, IsOut}
+
+-- a seat with its view; it holds no slots, since the table has none
+abbrev pub Seated : Type 0
+Seated = Me (Unit {0}) View
+
+-- the roll that a view has, if it is the hub's
+abbrev pub roll_of : View → Roll
+roll_of (Handing size roll) = roll
+roll_of (Drawing size roll) = roll
+roll_of (Standing size own done) = []
+roll_of (Taking size roll own done) = roll
+roll_of Spent = []
+
+-- the part that a view has, if it is that of a consumer's seat
+abbrev pub part_of : View → List ClaimAccess
+part_of (Standing size own done) = done
+part_of _ = []
+
+-- ---- a claim's access
+-- a consumer's seat with one access more
+abbrev pub with_one_more : ClaimAccess → View → View
+with_one_more a (Standing size own done) = Standing size own (a ∷ done)
+with_one_more a v = v
+
+-- the access came after a lawful history of all claims, in which its consumer had done this
+abbrev pub ComesAfter : Claims → ClaimAccess → List ClaimAccess → Type 0
+ComesAfter cs a done =
+    (h : List ClaimAccess) × IsClaimLawful cs (a ∷ h) × (part a.consumer h ≡ done)
+
+-- so it did after what the view has
+abbrev pub ComesAfterView : ClaimAccess → View → Type 0
+ComesAfterView a (Standing size own done) = ComesAfter (claims_of_size size) a done
+ComesAfterView a v = Unit {0}
+
+-- what a load or a store tells
+abbrev pub makes : ClaimAccess → Seated → Seated → Type 0
+makes a me now = (now ≡ (with_one_more a me.0, me.1)) × ComesAfterView a me.0
+
+-- ---- enrolling
+-- the hub has drawn the next number
+abbrev pub drawn : View → View
+drawn (Handing size roll) = Drawing size roll
+drawn v = v
+
+-- and gives it out: its place in the roll is empty
+abbrev pub given_out : View → View
+given_out (Drawing size roll) = Handing size (roll ++ None ∷ [])
+given_out v = v
+
+-- to a seat whose consumer has done nothing
+abbrev pub newcomer : View → View
+newcomer (Drawing size roll) = Standing size (length roll) []
+newcomer v = Spent
+
+-- what the fetch-add tells: it found how many numbers were given before
+abbrev pub draws : ℕ → Seated → Seated → Type 0
+draws found me now = (found ≡ length (roll_of me.0)) × (now ≡ (drawn me.0, me.1))
+
+-- ---- taking a seat in
+-- the part of the seat stands beside the roll
+abbrev pub took_in : View → View → View
+took_in (Handing size roll) (Standing other own done) = Taking size roll own done
+took_in v w = v
+
+-- and then in its place in the roll
+abbrev pub settled : View → View
+settled (Taking size roll own done) = Handing size (slice_set roll own (Some done))
+settled v = v
+
+-- the seat that is being taken in was out
+abbrev pub WasOut : View → Type 0
+WasOut (Taking size roll own done) = IsOut roll own
+WasOut v = Unit {0}
+
+-- what the load behind the join tells
+abbrev pub settles : Seated → Seated → Type 0
+settles me now = WasOut me.0 × (now ≡ (settled me.0, me.1))

@@ -1,0 +1,89 @@
+//! What the rule of a table says, and that each kind of step keeps it. The functions compute nothing: their contracts are
+//! the laws.
+//!
+//! Between any two steps of any seats, the words and the views of a table are a state of the claims: so says the rule under
+//! which each table is made, [`ClaimsRule`](crate::rule::ClaimsRule), and the rule is checked at each step.
+ghost use Rattle.std.specs.Prelude.{ℕ, suc, ◌≡◌, ◌≢◌, ◌+◌, ◌<◌, ◌≤◌, Some, None, List, [], ◌∷◌, ◌++◌, length};
+ghost use Rattle.std.specs.Prelude.{replicate};
+ghost use Rattle.std.specs.Prelude.{slice_index, slice_set};
+ghost use Rattle.mb_deciding.specs.Vocabulary.{IsInWords, reg_of};
+ghost use Rattle.mb_claim.specs.Vocabulary.{part, consumer_count, HasWord, IsMemoryOf, access_in, words_after};
+ghost use Rattle.mb_shared_claims.specs.{ClaimAccess, ClaimOp, TableSize, View, Handing, Drawing, Standing, Taking};
+ghost use Rattle.mb_shared_claims.specs.{Spent};
+ghost use Rattle.mb_shared_claims.specs.{claims_of_size, Roll, IsViewAt, HasPartAt, roster, IsClaimsState, MayComeNext};
+
+use mb_claim::steps::{
+    accesses_lengthen_one_part, addresses_are_apart, histories_begin_with_zeros,
+    other_words_are_free,
+};
+
+/// What a state of the claims is.
+pub fn states_have_one_history()
+    // Some lawful history leaves the words, and its parts are those of the seats: each part that a seat has, and no other.
+    ensures history { (k : TableSize) (words : List ℕ) (views : List View)
+        → IsClaimsState k words views
+        → (h : List ClaimAccess) × IsMemoryOf (claims_of_size k) words h
+        × ((seat c : ℕ) (xs : List ClaimAccess) → HasPartAt views seat c xs → xs ≡ part c h)
+        × ((c : ℕ) → part c h ≢ [] → (seat : ℕ) × HasPartAt views seat c (part c h)) }
+
+    // No number stands at two seats, nor with two parts.
+    ensures once { (k : TableSize) (words : List ℕ) (views : List View) (i j c : ℕ)
+        (xs ys : List ClaimAccess)
+        → IsClaimsState k words views → HasPartAt views i c xs → HasPartAt views j c ys
+        → (i ≡ j) × (xs ≡ ys) }
+
+    // The roster counts no more numbers than there are consumers, and each number at a seat is one of them.
+    ensures roster { (k : TableSize) (words : List ℕ) (views : List View)
+        → IsClaimsState k words views
+        → slice_index words (roster k) ≤ consumer_count k.layout }
+    ensures numbers { (k : TableSize) (words : List ℕ) (views : List View) (i c : ℕ)
+        (xs : List ClaimAccess)
+        → IsClaimsState k words views → HasPartAt views i c xs → c < slice_index words (roster k) }
+{}
+
+/// Each kind of step leads from a state to a state. It changes the view of the seat that makes it and no other, but
+/// that a number given adds the view of its seat, and a seat taken in has no part any more.
+pub fn steps_keep_states()
+    // A table begins with zeros and its hub.
+    ensures new { (k : TableSize)
+        → IsClaimsState k (replicate (roster k + 1) 0) (Handing k [] ∷ []) }
+
+    // An access, whichever load or store it is: by one law, with no case for another seat.
+    ensures access { (k size : TableSize) (words : List ℕ) (views : List View)
+        (id own cell word : ℕ) (done : List ClaimAccess)
+        (next : ClaimOp) → let cs = claims_of_size k in
+        let a = access_in cs own cell next.object next.op word words in
+        IsClaimsState k words views → IsViewAt views id (Standing size own done)
+        → cell < k.cells → HasWord k.layout next.object (reg_of next.op)
+        → MayComeNext cs own cell done next → IsInWords a.step.turn
+        → IsClaimsState k (words_after cs cell next.object next.op words)
+        (slice_set views id (Standing size own (a ∷ done))) }
+
+    // The fetch-add on the roster, and the split that gives the number out.
+    ensures draw { (k size : TableSize) (words : List ℕ) (views : List View) (id : ℕ) (roll : Roll)
+        → IsClaimsState k words views → IsViewAt views id (Handing size roll)
+        → length roll < consumer_count k.layout
+        → IsClaimsState k (slice_set words (roster k) (suc (slice_index words (roster k))))
+        (slice_set views id (Drawing size roll)) }
+    ensures give { (k size : TableSize) (words : List ℕ) (views : List View) (id : ℕ) (roll : Roll)
+        → IsClaimsState k words views → IsViewAt views id (Drawing size roll)
+        → IsClaimsState k words (slice_set views id (Handing size (roll ++ None ∷ []))
+        ++ Standing size (length roll) [] ∷ []) }
+
+    // The join of a seat's view to the hub's, and the load behind it.
+    ensures take { (k size its : TableSize) (words : List ℕ) (views : List View) (id other own : ℕ)
+        (roll : Roll) (done : List ClaimAccess)
+        → IsClaimsState k words views → other ≢ id → IsViewAt views id (Handing size roll)
+        → IsViewAt views other (Standing its own done)
+        → IsClaimsState k words
+        (slice_set (slice_set views id (Taking size roll own done)) other Spent) }
+    ensures settle { (k size : TableSize) (words : List ℕ) (views : List View) (id own : ℕ)
+        (roll : Roll) (done : List ClaimAccess)
+        → IsClaimsState k words views → IsViewAt views id (Taking size roll own done)
+        → IsClaimsState k words (slice_set views id (Handing size (slice_set roll own (Some done)))) }
+{
+    accesses_lengthen_one_part();
+    addresses_are_apart();
+    histories_begin_with_zeros();
+    other_words_are_free();
+}

@@ -1,0 +1,129 @@
+//! One step of a claim on the words of a table.
+ghost use Rattle.std.specs.Prelude.{◌<◌, ◌^◌};
+
+use crate::rule::{Made, Makes};
+use crate::seat::ClaimSeat;
+use crate::table::SharedClaims;
+use mb_claim::steps::{accesses_lengthen_one_part, addresses_are_apart, claims_make_steps};
+use mb_claim::{Claim, ClaimOp, Stage};
+use mb_deciding::{Memory, Op};
+use std::alloc::Allocator;
+use std::marker::Brand;
+
+impl<A: Allocator + Drop> SharedClaims<A> {
+    ghost use Rattle.std.specs.Prelude.{◌≡◌, ◌<◌, ℕ, true};
+    ghost use Rattle.mb_deciding.specs.Vocabulary.{reg_of};
+    ghost use Rattle.mb_claim.specs.Vocabulary.{HasWord, IsClaimIn, claim_stage, claims_in, consumer_of, is_begun};
+    ghost use Rattle.mb_claim.specs.Vocabulary.{part_on, steps_left};
+    ghost use Rattle.mb_shared_claims.specs.{Going, name_of, IsSeatStep, MayComeNext, ComesAfter, access_of};
+    ghost use Rattle.mb_shared_claims.specs.{with_access};
+
+    /// Makes the next access of a claim of the seat's consumer on a cell, with the random word of this step, and tells how
+    /// far the claim has come then.
+    #[inline(always)]
+    pub fn step(&self, seat: &mut ClaimSeat, claim: &mut Claim, cell: u32, word: u64) -> Stage
+        requires table { seat.old.table ≡ name_of self.now }
+        requires cell { cell < self.now.cells }
+        requires consumer { consumer_of claim.old ≡ seat.old.consumer }
+        requires standing { IsClaimIn self.now.layout claim.old
+            (part_on seat.old.consumer cell seat.old.part) }
+        requires going { claim_stage claim.old ≡ Going }
+
+        // The seat's part has exactly the access more that the claim names, with the value found and the random word; it
+        // came after a lawful history; and the claim is the one after it.
+        ensures step { IsSeatStep self.now.layout cell word claim.old seat.old claim.new seat.new }
+
+        // So the claim has made what its consumer then has done on the cell, and can be stepped again.
+        ensures standing { IsClaimIn self.now.layout claim.new
+            (part_on seat.new.consumer cell seat.new.part) }
+        ensures consumer { consumer_of claim.new ≡ consumer_of claim.old }
+        ensures begun { is_begun claim.new ≡ true }
+        ensures stage { result ≡ claim_stage claim.new }
+        ensures fewer { steps_left self.now.layout claim.new
+            < steps_left self.now.layout claim.old }
+    {
+        claims_make_steps();
+        accesses_lengthen_one_part();
+        let mut memory = SeatWords {
+            table: self,
+            seat: &mut *seat,
+            cell,
+            word,
+        };
+        claim.step(&self.size.layout, &mut memory, word)
+    }
+
+    /// Makes an access of a claim that may come next, and answers the value that a load found, or any value after a store.
+    #[inline(always)]
+    fn make<W: Made>(&self, seat: &mut ClaimSeat, cell: u32, next: ClaimOp, word: u64) -> u64
+        requires table { seat.old.table ≡ name_of self.now }
+        requires cell { cell < self.now.cells }
+        requires word { HasWord self.now.layout next.object (reg_of next.op) }
+        requires next { MayComeNext (claims_in self.now.layout self.now.cells) seat.old.consumer
+            cell seat.old.part next }
+        requires access { (found : ℕ) → W.access found ≡ access_of
+            seat.old.consumer cell next found word }
+        ensures seat { seat.new ≡ with_access (access_of
+            seat.old.consumer cell next result word) seat.old }
+        ensures comes { ComesAfter (claims_in self.now.layout self.now.cells)
+            (access_of seat.old.consumer cell next result word) seat.old.part }
+    {
+        accesses_lengthen_one_part();
+        addresses_are_apart();
+        let _ = word;
+        let address = self.size.layout.address(cell, next.object, next.op.reg());
+        match next.op {
+            Op::Load(_) => self.table.shared.load::<Makes<W>>(&mut seat.seat, address),
+            Op::Store(_, value) => {
+                is_word(value);
+                self.table
+                    .shared
+                    .store::<Makes<W>>(&mut seat.seat, address, value);
+                value
+            }
+        }
+    }
+}
+
+/// A `u64` is below 2 ^ 64, also one that was taken out of an op.
+#[inline(always)]
+fn is_word(value: u64)
+    ensures { value < 2 ^ 64 }
+{
+    let _ = value;
+}
+
+/// The words of a cell, as a seat makes one access to them.
+#[derive(Drop)]
+struct SeatWords<'a, A: Allocator + Drop> {
+    table: &'a SharedClaims<A>,
+    seat: &'a mut ClaimSeat,
+    cell: u32,
+    word: u64,
+}
+
+impl<'a, A: Allocator + Drop> Memory for SeatWords<'a, A> {
+    ghost use Rattle.std.specs.Prelude.{◌≡◌, ◌<◌};
+    ghost use Rattle.mb_deciding.specs.Vocabulary.{reg_of};
+    ghost use Rattle.mb_claim.specs.Vocabulary.{HasWord, claims_in};
+    ghost use Rattle.mb_shared_claims.specs.{name_of, MayComeNext, ComesAfter, access_of, with_access};
+
+    ghost can_make = { λ m object op. (m.seat.now.table ≡ name_of m.table.now)
+        × (m.cell < m.table.now.cells)
+        × HasWord m.table.now.layout object (reg_of op)
+        × MayComeNext (claims_in m.table.now.layout m.table.now.cells) m.seat.now.consumer m.cell
+        m.seat.now.part (record { object = object; op = op }) };
+
+    ghost makes = { λ m object op seen after.
+        let a = access_of m.seat.now.consumer m.cell (record { object = object; op = op }) seen
+        m.word in
+        (after.seat.now ≡ with_access a m.seat.now)
+        × (after.seat.ghost_name ≡ m.seat.ghost_name)
+        × ComesAfter (claims_in m.table.now.layout m.table.now.cells) a m.seat.now.part };
+
+    #[inline(always)]
+    fn perform(&mut self, object: u32, op: Op) -> u64 {
+        self.table
+            .make::<Brand>(self.seat, self.cell, ClaimOp { object, op }, self.word)
+    }
+}
