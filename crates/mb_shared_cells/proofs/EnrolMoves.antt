@@ -1,0 +1,374 @@
+-- The table at its start, and the hub's steps that give numbers out.
+use Rattle.std.proofs.Common.{List, [], ap, arith, get_or-set_other, get_or-set_same, inl, inr, le_refl, length, length-append, length-set, refl, replicate, slice_index, slice_set, subst, suc, sym, zero, ℕ, ⊎_elim, ◌%◌, ◌++◌, ◌+◌, ◌<◌, ◌^◌, ◌∙◌, ◌∷◌, ◌≡◌, ◌≢◌, ◌≤◌, ◌⊎◌}
+use Rattle.std.specs.Prelude.{None, Some}
+use Rattle.std.proofs.lemmas.Bool.{cases_eq}
+use Rattle.std.proofs.lemmas.List.{length-replicate}
+use mathlib.Core.Option.{some, some-injective, some-ne-none}
+use lib.ListN.{get_elem?}
+use Rattle.atomic_table.specs.Table.{Allows, Splits, keeps}
+use Rattle.atomic_table.proofs.Lists.{at_last}
+use Rattle.mb_cells.specs.Vocabulary.{History, IsPoolWord, IsStateOf, address_of, part, words_of}
+use Rattle.mb_cells.specs.declared.access.Process.{Process}
+use Rattle.mb_cells.specs.declared.access.Process.TheVariants.{Producer, Reader}
+use Rattle.mb_cells.specs.declared.access.TheConstants.{END}
+use Rattle.mb_cells.specs.declared.access.Word.{Word}
+use Rattle.mb_cells.specs.declared.size.PoolSize.{PoolSize}
+use Rattle.mb_shared_cells.specs.Rule.{FitsView, HasProcess, IsCellsState, IsEnrolled, IsHub, KeepsCells, KnowsTaken, Seating, StandsAt, roster_of}
+use Rattle.mb_shared_cells.specs.Views.{IsRollOf, PartList, SeatState, empty_roll, hub_after_draw, hub_after_split, newcomer, roll_at, roll_with_lane, roll_with_reader}
+use Rattle.mb_shared_cells.specs.declared.views.Roll.{Roll}
+use Rattle.mb_shared_cells.specs.declared.views.View.{View}
+use Rattle.mb_shared_cells.specs.declared.views.View.TheVariants.{Hub, HubDraws, Member}
+use Rattle.mb_shared_cells.proofs.Seatings.{Spares, fits_still, moved, moved-else, moved-here, roll_enrolled, stands_longer, stands_then, with_lane-has, with_reader-has}
+use Rattle.mb_shared_cells.proofs.ViewLists.{all_set, all_snoc, at_within, longer_had, longer_none}
+
+-- the laws of the cells on a history to which nothing is added
+abbrev pub MoreLaw : Type 0
+MoreLaw =
+    (size : PoolSize) (words more : List ℕ) (parts : Process → History) (h : History)
+    → IsStateOf size words parts h
+    → ((i : ℕ) → i < words_of size → slice_index more i ≡ slice_index words i)
+    → words_of size ≤ length more → IsStateOf size more parts h
+
+abbrev pub EmptyLaw : Type 0
+EmptyLaw =
+    (size : PoolSize) (words : List ℕ) → size.cells < END → words_of size ≤ length words
+    → ((w : Word) → IsPoolWord size w → slice_index words (address_of size w) ≡ 0)
+    → IsStateOf size words (λ who. []) []
+
+-- the table at its start
+zeros : (n i : ℕ) → slice_index (replicate n 0) i ≡ 0
+zeros zero i = refl
+zeros (suc n) zero = refl
+zeros (suc n) (suc i) = zeros n i
+
+pub begins : EmptyLaw → (size : PoolSize) → size.cells < END
+    → IsCellsState size (replicate (roster_of size + 1) 0) (Hub size empty_roll ∷ [])
+begins law size fits =
+    let count : ℕ = roster_of size + 1 in
+    let words : List ℕ = replicate count 0 in
+    let t : Seating = record { history = []; lanes = 0; readers = 0; hub = 0; seat_of = λ _. 0 } in
+    let wide : length words ≡ roster_of size + 1 = length-replicate count 0 in
+    let roster : slice_index words (roster_of size) ≡ 0 = zeros count (roster_of size) in
+    let hub : IsHub size t 0 size empty_roll = record {
+      sized = refl;
+      here = refl;
+      lanes = refl;
+      readers = refl;
+      parts = nothing_taken t;
+    } in (
+      t,
+      record {
+        memory = (law size words fits (omega (arith, wide)) (λ w within. zeros count (address_of size w))).memory;
+        wide = wide;
+        few = subst (λ (z : ℕ). z ≤ size.lanes) (sym roster) (omega arith);
+        drawn = omega arith;
+        nobody_else = λ x none. refl;
+        stands = nobody_yet t refl refl (Hub size empty_roll ∷ []);
+        fits = one (λ j v. FitsView size t (slice_index words (roster_of size)) j v) (Hub size empty_roll) (hub, roster);
+      },
+    )
+  where
+    nobody_yet : (t : Seating) → t.lanes ≡ 0 → t.readers ≡ 0 → (views : List View) (x : Process) → IsEnrolled t x
+        → StandsAt views (t.seat_of x) x
+    nobody_yet t l r views (Producer p) e = absurd (omega arith)
+    nobody_yet t l r views (Reader p) e = absurd (omega arith)
+
+    one : (P : ℕ → View → Type 0) (v : View) → P 0 v → (j : ℕ) (u : View) → get_elem? (v ∷ []) j ≡ some u → P j u
+    one P v p zero u e = subst (P 0) (some-injective v u e) p
+    one P v p (suc j) u e = absurd (some-ne-none u (sym e))
+
+    nothing_taken : (t : Seating) (x : Process) (done : History) → roll_at x empty_roll ≡ Some (Some done)
+        → (t.seat_of x ≡ 0) × (done ≡ part x t.history)
+    nothing_taken t (Producer p) done e = absurd (cc)
+    nothing_taken t (Reader r) done e = absurd (cc)
+
+-- the hub draws the next lane's number from the roster, and no part moves
+draw_allows : MoreLaw → (size : PoolSize) (slots id : ℕ) (own : PoolSize) (roll : Roll)
+    → length roll.lanes < size.lanes → size.lanes < 2 ^ 32
+    → Allows (KeepsCells size) slots id (Hub own roll, []) (roster_of size) (λ n. (n + 1) % 2 ^ 64)
+    (λ n w. w ≡ (HubDraws own roll, []))
+draw_allows law size slots id own roll room small s h _ at _ =
+    let words = s.words in
+    let views = s.views in
+    let t = h.0 in
+    let r = h.1 in
+    let i = roster_of size in
+    let roster = slice_index words i in
+    let more = (roster + 1) % 2 ^ 64 in
+    let longer = slice_set words i more in
+    let mine = r.fits id (Hub own roll) at in
+    let wide = r.wide in
+    let count = mine.0.lanes in
+    let enrolled = mine.1 in
+    let is_more : more ≡ roster + 1 = omega arith in
+    let more_is : slice_index longer i ≡ more = get_or-set_same words i more 0 (omega arith) in
+    let as_wide : length longer ≡ length words = length-set words i more in
+    let now = HubDraws own roll in (
+      now,
+      keeps,
+      tt,
+      (
+        t,
+        record {
+          memory = (law size words longer (λ x. part x t.history) t.history
+              (record { memory = r.memory; same = λ x. refl })
+              (λ j low. get_or-set_other words i j more 0 (λ e. omega arith)) (omega arith)).memory;
+          wide = as_wide ∙ wide;
+          few = subst (λ (z : ℕ). z ≤ size.lanes) (sym more_is) (omega arith);
+          drawn = subst (λ (z : ℕ). t.lanes ≤ z) (sym more_is) (omega arith);
+          nobody_else = r.nobody_else;
+          stands = λ x e. stands_then views id (Hub own roll) now (t.seat_of x) x at (λ y. y) (r.stands x e);
+          fits = subst
+              (λ (z : ℕ). (j : ℕ) (v : View) → get_elem? (slice_set views id now) j ≡ some v → FitsView size t z j v)
+              (sym more_is)
+              (all_set (λ j v. FitsView size t more j v) views id now
+              (λ j v apart e. fits_still size t t roster more j
+              (record {
+                hubs = refl;
+                enrolled = λ x y. y;
+                same = λ is_hub. absurd (apart (is_hub ∙ sym mine.0.here));
+                stand = λ x _ _. (refl, refl);
+              }) v (r.fits j v e))
+              (mine.0, omega arith));
+        },
+      ),
+      refl,
+    )
+
+pub draw_asked : MoreLaw → (key size : PoolSize) (slots id i : ℕ) (me : SeatState) (own : PoolSize) (roll : Roll)
+    → key ≡ size → me ≡ (Hub own roll, []) → i ≡ roster_of size → length roll.lanes < size.lanes
+    → size.lanes < 2 ^ 32
+    → Allows (KeepsCells key) slots id me i (λ n. (n + 1) % 2 ^ 64) (λ n w. w ≡ (hub_after_draw me.0, me.1))
+draw_asked law key size slots id i me own roll same is there room small =
+    subst
+    (λ (z : PoolSize × SeatState × ℕ).
+    Allows (KeepsCells z.0) slots id z.1 z.2 (λ n. (n + 1) % 2 ^ 64) (λ n w. w ≡ (hub_after_draw z.1.0, z.1.1)))
+    (λ i. (sym same i, sym is i, sym there i))
+    (draw_allows law size slots id own roll room small)
+
+-- the process has the next number of its kind
+IsNext : Process → Roll → Type 0
+IsNext (Producer p) roll = p ≡ length roll.lanes
+IsNext (Reader r) roll = r ≡ length roll.readers
+
+-- the roll with that number, the hub's view before it, and what the newcomer knows
+grown : Process → Roll → Roll
+grown (Producer p) roll = roll_with_lane roll
+grown (Reader r) roll = roll_with_reader roll
+
+before : Process → PoolSize → Roll → View
+before (Producer p) own roll = HubDraws own roll
+before (Reader r) own roll = Hub own roll
+
+known_by : Process → Roll → PartList
+known_by (Producer p) roll = []
+known_by (Reader r) roll = roll.lanes
+
+lanes_after : Process → ℕ → ℕ
+lanes_after (Producer p) n = n + 1
+lanes_after (Reader r) n = n
+
+readers_after : Process → ℕ → ℕ
+readers_after (Producer p) n = n
+readers_after (Reader r) n = n + 1
+
+seating_after : Process → ℕ → Seating → Seating
+seating_after who to t = record {
+  history = t.history;
+  lanes = lanes_after who t.lanes;
+  readers = readers_after who t.readers;
+  hub = t.hub;
+  seat_of = moved who to t.seat_of;
+}
+
+still_enrolled : (who : Process) (to : ℕ) (t : Seating) (x : Process) → IsEnrolled t x
+    → IsEnrolled (seating_after who to t) x
+unfolding lanes_after readers_after seating_after
+still_enrolled (Producer p) to t (Producer q) e = omega arith
+still_enrolled (Producer p) to t (Reader q) e = e
+still_enrolled (Reader p) to t (Producer q) e = e
+still_enrolled (Reader p) to t (Reader q) e = omega arith
+
+next_enrolled : (size : PoolSize) (seat : ℕ) (own : PoolSize) (roll : Roll) (who : Process) (to : ℕ) (t : Seating)
+    → IsHub size t seat own roll → IsNext who roll → IsEnrolled (seating_after who to t) who
+unfolding lanes_after readers_after seating_after IsNext
+next_enrolled size seat own roll (Producer p) to t h is = let n = h.lanes in omega arith
+next_enrolled size seat own roll (Reader r) to t h is = let n = h.readers in omega arith
+
+next_not_enrolled : (size : PoolSize) (seat : ℕ) (own : PoolSize) (roll : Roll) (who : Process) (t : Seating)
+    → IsHub size t seat own roll → IsNext who roll → IsEnrolled t who → ⊥
+unfolding IsNext
+next_not_enrolled size seat own roll (Producer p) t h is e = let n = h.lanes in omega arith
+next_not_enrolled size seat own roll (Reader r) t h is e = let n = h.readers in omega arith
+
+-- who is enrolled now was so before, or is the newcomer
+enrolled_before : (size : PoolSize) (seat : ℕ) (own : PoolSize) (roll : Roll) (who : Process) (to : ℕ) (t : Seating)
+    (x : Process) → IsHub size t seat own roll → IsNext who roll → IsEnrolled (seating_after who to t) x
+    → (IsEnrolled t x) ⊎ (who ≡ x)
+unfolding lanes_after readers_after seating_after IsNext
+enrolled_before size seat own roll (Producer p) to t (Producer q) h is e =
+    let n = h.lanes in
+    elim (cases_eq q t.lanes) [ inl same ↦ inr (ap Producer (is ∙ n ∙ sym same)) | inr other ↦ inl (omega arith) ]
+enrolled_before size seat own roll (Producer p) to t (Reader q) h is e = inl e
+enrolled_before size seat own roll (Reader p) to t (Producer q) h is e = inl e
+enrolled_before size seat own roll (Reader p) to t (Reader q) h is e =
+    let n = h.readers in
+    elim (cases_eq q t.readers) [ inl same ↦ inr (ap Reader (is ∙ n ∙ sym same)) | inr other ↦ inl (omega arith) ]
+
+grown_lanes : (who : Process) (roll : Roll) (n : ℕ) → length roll.lanes ≡ n
+    → length (grown who roll).lanes ≡ lanes_after who n
+unfolding lanes_after grown
+grown_lanes (Producer p) roll n e = omega (arith, length-append roll.lanes (None ∷ []))
+grown_lanes (Reader r) roll n e = e
+
+grown_readers : (who : Process) (roll : Roll) (n : ℕ) → length roll.readers ≡ n
+    → length (grown who roll).readers ≡ readers_after who n
+unfolding readers_after grown
+grown_readers (Producer p) roll n e = e
+grown_readers (Reader r) roll n e = omega (arith, length-append roll.readers (None ∷ []))
+
+grown_had : (who : Process) (roll : Roll) (x : Process) (done : History)
+    → roll_at x (grown who roll) ≡ Some (Some done) → roll_at x roll ≡ Some (Some done)
+unfolding grown
+grown_had (Producer p) roll (Producer q) done e = longer_had roll.lanes q done e
+grown_had (Producer p) roll (Reader q) done e = e
+grown_had (Reader p) roll (Producer q) done e = e
+grown_had (Reader p) roll (Reader q) done e = longer_had roll.readers q done e
+
+before_keeps : (who : Process) (own : PoolSize) (roll : Roll) (x : Process) → HasProcess (before who own roll) x
+    → HasProcess (Hub own (grown who roll)) x
+unfolding before grown
+before_keeps (Producer p) own roll x h = (h.0, with_lane-has roll x (Some h.0) h.1)
+before_keeps (Reader p) own roll x h = (h.0, with_reader-has roll x (Some h.0) h.1)
+
+before_fits : (size : PoolSize) (t : Seating) (roster seat : ℕ) (who : Process) (own : PoolSize) (roll : Roll)
+    → FitsView size t roster seat (before who own roll)
+    → IsHub size t seat own roll × (roster ≡ lanes_after who t.lanes)
+unfolding lanes_after before
+before_fits size t roster seat (Producer p) own roll h = h
+before_fits size t roster seat (Reader r) own roll h = h
+
+-- what a newcomer knows was taken in
+newcomer_knows : (size : PoolSize) (t : Seating) (seat : ℕ) (own : PoolSize) (roll : Roll) (who : Process)
+    → IsHub size t seat own roll → KnowsTaken t (known_by who roll)
+unfolding known_by
+newcomer_knows size t seat own roll (Producer p) h q theirs e = absurd (cc)
+newcomer_knows size t seat own roll (Reader r) h q theirs e =
+    let x = h.parts (Producer q) theirs e in
+    let low : q < t.lanes = roll_enrolled size t seat own roll (Producer q) (Some theirs) h e in
+    (low, x.0 ∙ h.here, x.1)
+
+-- a seat goes out: to the lane whose number was drawn, or to the next reader
+hands_out : (size : PoolSize) (id : ℕ) (own : PoolSize) (roll : Roll) (who : Process) → IsNext who roll
+    → Splits (KeepsCells size) id (before who own roll) (Hub own (grown who roll))
+    (Member own who (known_by who roll) [])
+unfolding seating_after
+hands_out size id own roll who is s h at =
+    let views = s.views in
+    let t = h.0 in
+    let r = h.1 in
+    let roster = slice_index s.words (roster_of size) in
+    let mine = before_fits size t roster id who own roll (r.fits id (before who own roll) at) in
+    let hub = mine.0 in
+    let left = Hub own (grown who roll) in
+    let right = Member own who (known_by who roll) [] in
+    let seats = slice_set views id left in
+    let to = length seats in
+    let u = seating_after who to t in
+    let within : id < length views = at_within views id (before who own roll) at in
+    let wide : length seats ≡ length views = length-set views id left in
+    let new : (x : Process) → IsEnrolled t x → who ≢ x =
+    λ x e same. next_not_enrolled size id own roll who t hub is (subst (IsEnrolled t) (sym same) e) in
+    let there : (x : Process) → IsEnrolled t x → moved who to t.seat_of x ≡ t.seat_of x =
+    λ x e. moved-else who to t.seat_of x (new x e) in
+    let hub_now : IsHub size u id own (grown who roll) = record {
+      sized = hub.sized;
+      here = hub.here;
+      lanes = grown_lanes who roll t.lanes hub.lanes;
+      readers = grown_readers who roll t.readers hub.readers;
+      parts = λ x done e.
+          let old = grown_had who roll x done e in
+          let y = hub.parts x done old in
+          (there x (roll_enrolled size t id own roll x (Some done) hub old) ∙ y.0, y.1);
+    } in
+    let spares : (j : ℕ) → j ≢ id → Spares t u roster roster j = λ j apart. record {
+      hubs = refl;
+      enrolled = still_enrolled who to t;
+      same = λ is_hub. absurd (apart (is_hub ∙ sym hub.here));
+      stand = λ x e _. (there x e, refl);
+    } in
+    let new_one : FitsView size u roster to right = (
+      hub.sized,
+      (λ e. let at_hub : to ≡ id = e ∙ sym hub.here in omega arith),
+      record {
+        here = moved-here who to t.seat_of;
+        enrolled = next_enrolled size id own roll who to t hub is;
+        part = sym (r.nobody_else who (λ e. next_not_enrolled size id own roll who t hub is e));
+      },
+      (λ p theirs e.
+          let x = newcomer_knows size t id own roll who hub p theirs e in
+          (still_enrolled who to t (Producer p) x.0, there (Producer p) x.0 ∙ x.1, x.2)),
+    ) in (
+      u,
+      record {
+        memory = r.memory;
+        wide = r.wide;
+        few = r.few;
+        drawn = let e = mine.1 in subst (λ (z : ℕ). z ≤ roster) e (le_refl roster);
+        nobody_else = λ x none. r.nobody_else x (λ e. none (still_enrolled who to t x e));
+        stands = λ x enrolled. ⊎_elim
+            (λ (e : IsEnrolled t x). subst (λ (z : ℕ). StandsAt (seats ++ right ∷ []) z x) (sym (there x e))
+            (stands_longer seats right (t.seat_of x) x
+            (stands_then views id (before who own roll) left (t.seat_of x) x at
+            (before_keeps who own roll x) (r.stands x e))))
+            (λ (e : who ≡ x). subst (λ (z : ℕ). StandsAt (seats ++ right ∷ []) z x)
+            (sym (ap (moved who to t.seat_of) (sym e) ∙ moved-here who to t.seat_of))
+            (right, at_last seats right to refl, e))
+            (enrolled_before size id own roll who to t x hub is enrolled);
+        fits = all_snoc (λ j v. FitsView size u roster j v) seats right
+            (all_set (λ j v. FitsView size u roster j v) views id left
+            (λ j v apart e. fits_still size t u roster roster j (spares j apart) v (r.fits j v e))
+            (hub_now, mine.1))
+            new_one;
+      },
+    )
+
+pub lane_splits : (size : PoolSize) (id : ℕ) (v : View) (own : PoolSize) (roll : Roll) → v ≡ HubDraws own roll
+    → Splits (KeepsCells size) id v (hub_after_split v) (newcomer v)
+unfolding IsNext grown before known_by
+lane_splits size id v own roll is =
+    subst (λ (u : View). Splits (KeepsCells size) id u (hub_after_split u) (newcomer u)) (sym is)
+    (hands_out size id own roll (Producer (length roll.lanes)) refl)
+
+pub reader_splits : (size : PoolSize) (id : ℕ) (v : View) (own : PoolSize) (roll : Roll) → v ≡ Hub own roll
+    → Splits (KeepsCells size) id v (hub_after_split v) (newcomer v)
+unfolding IsNext grown before known_by
+reader_splits size id v own roll is =
+    subst (λ (u : View). Splits (KeepsCells size) id u (hub_after_split u) (newcomer u)) (sym is)
+    (hands_out size id own roll (Reader (length roll.readers)) refl)
+
+-- the history of a roll is that of the roll with one number more, whose seat is out
+pub with_lane_history : (size : PoolSize) (roll : Roll) (h : History) → IsRollOf size roll h
+    → IsRollOf size (roll_with_lane roll) h
+with_lane_history size roll h r = record { lawful = r.lawful; parts = had; others = none }
+  where
+    had : (who : Process) (done : History) → roll_at who (roll_with_lane roll) ≡ Some (Some done) → part who h ≡ done
+    had (Producer p) done e = r.parts (Producer p) done (longer_had roll.lanes p done e)
+    had (Reader q) done e = r.parts (Reader q) done e
+
+    none : (who : Process) → roll_at who (roll_with_lane roll) ≡ None → part who h ≡ []
+    none (Producer p) e = r.others (Producer p) (longer_none roll.lanes p e)
+    none (Reader q) e = r.others (Reader q) e
+
+pub with_reader_history : (size : PoolSize) (roll : Roll) (h : History) → IsRollOf size roll h
+    → IsRollOf size (roll_with_reader roll) h
+with_reader_history size roll h r = record { lawful = r.lawful; parts = had; others = none }
+  where
+    had : (who : Process) (done : History) → roll_at who (roll_with_reader roll) ≡ Some (Some done)
+        → part who h ≡ done
+    had (Producer p) done e = r.parts (Producer p) done e
+    had (Reader q) done e = r.parts (Reader q) done (longer_had roll.readers q done e)
+
+    none : (who : Process) → roll_at who (roll_with_reader roll) ≡ None → part who h ≡ []
+    none (Producer p) e = r.others (Producer p) e
+    none (Reader q) e = r.others (Reader q) (longer_none roll.readers q e)

@@ -1,0 +1,10 @@
+pub mod ViewLists
+pub mod Seatings
+pub mod AccessMoves
+pub mod NextAccesses
+pub mod EnrolMoves
+pub mod TakeMoves
+pub mod SeatFacts
+pub mod CallFacts
+pub mod KnownLanes
+pub mod PutMoves

@@ -1,0 +1,31 @@
+use Rattle.mb_shared_cells.proofs.PutMoves.{PutLaws, end_puts, full_found, full_puts}
+use Rattle.mb_shared_cells.proofs.laws.other_calls_put_nothing.Goals as goal
+
+pub returns-clause-full : goal.returns-clause-full
+returns-clause-full c = λ old new x made.
+    let laws : PutLaws = record {
+      own = c.accesses_lengthen_one_part.ensures.own;
+      older = c.one_step.ensures.older;
+      told = c.parts_tell_lanes.ensures.put;
+      link = c.put_lists_grow.ensures.link;
+      fetched = c.put_lists_grow.ensures.fetch;
+      item = c.put_lists_grow.ensures.item;
+      end = c.put_lists_grow.ensures.end;
+    } in
+    full_puts laws old new x made
+
+pub returns-clause-found : goal.returns-clause-found
+returns-clause-found c = full_found
+
+pub returns-clause-ended : goal.returns-clause-ended
+returns-clause-ended c = λ old new made.
+    let laws : PutLaws = record {
+      own = c.accesses_lengthen_one_part.ensures.own;
+      older = c.one_step.ensures.older;
+      told = c.parts_tell_lanes.ensures.put;
+      link = c.put_lists_grow.ensures.link;
+      fetched = c.put_lists_grow.ensures.fetch;
+      item = c.put_lists_grow.ensures.item;
+      end = c.put_lists_grow.ensures.end;
+    } in
+    end_puts laws old new made

@@ -1,0 +1,97 @@
+-- The rule of the table: its words and views are a state of the cells.
+use Rattle.std.specs.Prelude.{List, None, Some, [], length, slice_get, slice_index, ℕ, ◌+◌, ◌<◌, ◌≡◌, ◌≢◌, ◌≤◌, ◌⊎◌}
+use mathlib.Core.Option.{some}
+use lib.ListN.{get_elem?}
+use Rattle.atomic_table.specs.Table.{State}
+use Rattle.mb_cells.specs.Vocabulary.{History, IsMemoryOf, part, words_of}
+use Rattle.mb_cells.specs.declared.access.Process.{Process}
+use Rattle.mb_cells.specs.declared.access.Process.TheVariants.{Producer, Reader}
+use Rattle.mb_cells.specs.declared.size.PoolSize.{PoolSize}
+use Rattle.mb_shared_cells.specs.Views.{PartList, roll_at}
+use Rattle.mb_shared_cells.specs.declared.views.Roll.{Roll}
+use Rattle.mb_shared_cells.specs.declared.views.View.{View}
+use Rattle.mb_shared_cells.specs.declared.views.View.TheVariants.{Empty, Hub, HubDraws, HubJoins, Member}
+
+-- the roster, which counts the lanes' numbers drawn, lies behind the words of the pool
+abbrev pub roster_of : PoolSize → ℕ
+roster_of size = words_of size
+
+-- how the parts of one history are seated: the history, how many lanes and readers were enrolled, which seat is the
+-- hub's, and for each process the one seat where its part stands
+pub record Seating : Type 0 where
+  pub history : History
+  pub lanes : ℕ
+  pub readers : ℕ
+  pub hub : ℕ
+  pub seat_of : Process → ℕ
+
+-- the process was enrolled
+abbrev pub IsEnrolled : Seating → Process → Type 0
+IsEnrolled t (Producer p) = p < t.lanes
+IsEnrolled t (Reader r) = r < t.readers
+
+-- the hub's roll has a place for each process enrolled, and the parts in it are those of the history
+pub record IsHub (size : PoolSize) (t : Seating) (seat : ℕ) (own : PoolSize) (roll : Roll) : Type 0 where
+  pub sized : own ≡ size
+  pub here : seat ≡ t.hub
+  pub lanes : length roll.lanes ≡ t.lanes
+  pub readers : length roll.readers ≡ t.readers
+  pub parts : (who : Process) (done : History) → roll_at who roll ≡ Some (Some done)
+      → (t.seat_of who ≡ seat) × (done ≡ part who t.history)
+
+-- the lanes known were taken in, and their parts are those of the history
+abbrev pub KnowsTaken : Seating → PartList → Type 0
+KnowsTaken t known =
+    (p : ℕ) (theirs : History) → slice_get known p ≡ Some (Some theirs)
+    → (p < t.lanes) × (t.seat_of (Producer p) ≡ t.hub) × (theirs ≡ part (Producer p) t.history)
+
+-- the part of the process stands at the seat, and is that of the history
+pub record HasPart (t : Seating) (seat : ℕ) (who : Process) (done : History) : Type 0 where
+  pub here : t.seat_of who ≡ seat
+  pub enrolled : IsEnrolled t who
+  pub part : done ≡ part who t.history
+
+-- the view is that of the seat, where the roster holds this number
+abbrev pub FitsView : PoolSize → Seating → ℕ → ℕ → View → Type 0
+FitsView size t roster seat (Hub own roll) = IsHub size t seat own roll × (roster ≡ t.lanes)
+FitsView size t roster seat (HubDraws own roll) = IsHub size t seat own roll × (roster ≡ t.lanes + 1)
+FitsView size t roster seat (HubJoins own roll who done) =
+    IsHub size t seat own roll × (roster ≡ t.lanes) × HasPart t seat who done × (roll_at who roll ≡ Some None)
+FitsView size t roster seat (Member own who known done) =
+    (own ≡ size) × (seat ≢ t.hub) × HasPart t seat who done × KnowsTaken t known
+FitsView size t roster seat Empty = Unit {0}
+
+-- the view has a part of the process
+abbrev pub HasProcess : View → Process → Type 0
+HasProcess (Hub size roll) who = (done : History) × (roll_at who roll ≡ Some (Some done))
+HasProcess (HubDraws size roll) who = (done : History) × (roll_at who roll ≡ Some (Some done))
+HasProcess (HubJoins size roll other done) who =
+    (other ≡ who) ⊎ ((part : History) × (roll_at who roll ≡ Some (Some part)))
+HasProcess (Member size other known done) who = other ≡ who
+HasProcess Empty who = ⊥
+
+-- the view of the seat has it
+abbrev pub StandsAt : List View → ℕ → Process → Type 0
+StandsAt views seat who = (v : View) × (get_elem? views seat ≡ some v) × HasProcess v who
+
+-- the words and views are those of the history that is seated so
+pub record IsTableState (size : PoolSize) (words : List ℕ) (views : List View) (t : Seating) : Type 0 where
+  -- the history is lawful, and leaves each word of the pool as it is
+  pub memory : IsMemoryOf size words t.history
+  pub wide : length words ≡ roster_of size + 1
+  -- there are no more numbers than lanes
+  pub few : slice_index words (roster_of size) ≤ size.lanes
+  pub drawn : t.lanes ≤ slice_index words (roster_of size)
+  -- who was not enrolled did nothing
+  pub nobody_else : (who : Process) → (IsEnrolled t who → ⊥) → part who t.history ≡ []
+  -- who was enrolled stands in the view of its seat, and what any view says of a part is so
+  pub stands : (who : Process) → IsEnrolled t who → StandsAt views (t.seat_of who) who
+  pub fits : (seat : ℕ) (v : View) → get_elem? views seat ≡ some v
+      → FitsView size t (slice_index words (roster_of size)) seat v
+
+-- some history does
+abbrev pub IsCellsState : PoolSize → List ℕ → List View → Type 0
+IsCellsState size words views = (t : Seating) × IsTableState size words views t
+
+abbrev pub KeepsCells : PoolSize → State (Unit {0}) View → Type 0
+KeepsCells size s = IsCellsState size s.words s.views

@@ -1,0 +1,114 @@
+-- What is kept in the hub and in each seat, and how callers see it.
+use Rattle.std.specs.Prelude.{[], length, ℕ, ◌<◌, ◌∷◌, ◌≡◌}
+use Rattle.atomic_table.specs.Seated.{TableId}
+use Rattle.mb_cells.specs.Vocabulary.{History, IsLaneAfter, IsLanePrefix, IsLaneWord, MayRead, fetch, store}
+use Rattle.mb_cells.specs.declared.access.Process.{Process}
+use Rattle.mb_cells.specs.declared.access.Process.TheVariants.{Producer, Reader}
+use Rattle.mb_cells.specs.declared.access.Word.{Word}
+use Rattle.mb_cells.specs.declared.lane.Lane.{Lane}
+use Rattle.mb_cells.specs.declared.size.PoolSize.{PoolSize}
+use Rattle.mb_shared_cells.specs.Shown.{CellHubView, CellsName, HasHistory, LaneSeatView, ReaderSeatView}
+use Rattle.mb_shared_cells.specs.Views.{IsRollOf, PartList, SeatState, empty_roll}
+use Rattle.mb_shared_cells.specs.declared.views.Roll.{Roll}
+use Rattle.mb_shared_cells.specs.declared.views.View.{View}
+use Rattle.mb_shared_cells.specs.declared.views.View.TheVariants.{Empty, Hub, HubDraws, HubJoins, Member}
+
+-- the fields of a view, and nothing where it has no such field
+abbrev pub size_in : View → PoolSize
+size_in (Hub size roll) = size
+size_in (HubDraws size roll) = size
+size_in (HubJoins size roll who done) = size
+size_in (Member size who known done) = size
+size_in Empty = record { lanes = 0; cells = 0 }
+
+abbrev pub roll_in : View → Roll
+roll_in (Hub size roll) = roll
+roll_in (HubDraws size roll) = roll
+roll_in (HubJoins size roll who done) = roll
+roll_in (Member size who known done) = empty_roll
+roll_in Empty = empty_roll
+
+abbrev pub number_of : Process → ℕ
+number_of (Producer p) = p
+number_of (Reader r) = r
+
+abbrev pub number_in : View → ℕ
+number_in (Hub size roll) = 0
+number_in (HubDraws size roll) = 0
+number_in (HubJoins size roll who done) = 0
+number_in (Member size who known done) = number_of who
+number_in Empty = 0
+
+abbrev pub known_in : View → PartList
+known_in (Hub size roll) = []
+known_in (HubDraws size roll) = []
+known_in (HubJoins size roll who done) = []
+known_in (Member size who known done) = known
+known_in Empty = []
+
+abbrev pub done_in : View → History
+done_in (Hub size roll) = []
+done_in (HubDraws size roll) = []
+done_in (HubJoins size roll who done) = done
+done_in (Member size who known done) = done
+done_in Empty = []
+
+abbrev pub name_in : TableId → SeatState → CellsName
+name_in id me = record { id = id; size = size_in me.0 }
+
+-- the hub counts the lanes' numbers that it gave, and the parts that it took in are those of some lawful history
+pub record IsHubSeat (me : SeatState) (given : ℕ) : Type 0 where
+  pub is : me ≡ (Hub (size_in me.0) (roll_in me.0), [])
+  pub count : given ≡ length (roll_in me.0).lanes
+  pub history : (h : History) × IsRollOf (size_in me.0) (roll_in me.0) h
+
+abbrev pub hub_shown : TableId → SeatState → CellHubView
+hub_shown id me = record { table = name_in id me; roll = roll_in me.0 }
+
+-- the lane is one of the table's, its producer stands at the place, and some lawful history has its part
+pub record IsLaneSeat (me : SeatState) (number : ℕ) (place : Lane) : Type 0 where
+  pub is : me ≡ (Member (size_in me.0) (Producer number) [] (done_in me.0), [])
+  pub within : number < (size_in me.0).lanes
+  pub stands : IsLaneAfter (size_in me.0).cells number place (done_in me.0)
+  pub history : HasHistory (size_in me.0) (Producer number) (done_in me.0)
+
+abbrev pub lane_shown : TableId → SeatState → ℕ → Lane → LaneSeatView
+lane_shown id me number place =
+    record { table = name_in id me; lane = number; place = place; part = done_in me.0 }
+
+-- some lawful history has the reader's part
+pub record IsReaderSeat (me : SeatState) : Type 0 where
+  pub is : me ≡ (Member (size_in me.0) (Reader (number_in me.0)) (known_in me.0) (done_in me.0), [])
+  pub history : HasHistory (size_in me.0) (Reader (number_in me.0)) (done_in me.0)
+
+abbrev pub reader_shown : TableId → SeatState → ReaderSeatView
+reader_shown id me = record {
+  table = name_in id me;
+  reader = number_in me.0;
+  known = known_in me.0;
+  part = done_in me.0;
+}
+
+-- the seat is a reader's, which may load the word
+pub record CanLoad (size : PoolSize) (word : Word) (me : SeatState) : Type 0 where
+  pub reader : ℕ
+  pub known : PartList
+  pub done : History
+  pub is : me ≡ (Member size (Reader reader) known done, [])
+  pub may : MayRead size.lanes word done
+  pub within : IsLaneWord size word
+
+-- the seat is a lane's, whose path goes on with the store
+pub record CanStore (size : PoolSize) (word : Word) (value : ℕ) (me : SeatState) : Type 0 where
+  pub lane : ℕ
+  pub done : History
+  pub is : me ≡ (Member size (Producer lane) [] done, [])
+  pub path : IsLanePrefix size.cells lane (store lane word value ∷ done)
+  pub within : IsLaneWord size word
+
+-- the seat is a lane's, whose path goes on with a fetch-add, whatever number that finds
+pub record CanFetch (size : PoolSize) (item : ℕ) (me : SeatState) : Type 0 where
+  pub lane : ℕ
+  pub done : History
+  pub is : me ≡ (Member size (Producer lane) [] done, [])
+  pub path : (n : ℕ) → IsLanePrefix size.cells lane (fetch lane (record { cell = n; value = item }) ∷ done)

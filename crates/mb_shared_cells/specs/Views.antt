@@ -1,0 +1,152 @@
+-- What a seat knows, and how each step of the table changes it.
+use Rattle.std.specs.Prelude.{List, None, Option, Some, [], length, slice_get, slice_set, ℕ, ◌++◌, ◌∷◌, ◌≡◌}
+use Rattle.atomic_table.specs.Table.{Me, Step}
+use Rattle.mb_cells.specs.Vocabulary.{History, IsPoolLawful, part}
+use Rattle.mb_cells.specs.declared.access.PoolAccess.{PoolAccess}
+use Rattle.mb_cells.specs.declared.access.PoolAct.{PoolAct}
+use Rattle.mb_cells.specs.declared.access.Process.{Process}
+use Rattle.mb_cells.specs.declared.access.Process.TheVariants.{Producer, Reader}
+use Rattle.mb_cells.specs.declared.access.Word.{Word}
+use Rattle.mb_cells.specs.declared.size.PoolSize.{PoolSize}
+use Rattle.mb_shared_cells.specs.declared.views.Roll.{Roll}
+use Rattle.mb_shared_cells.specs.declared.views.View.{View}
+use Rattle.mb_shared_cells.specs.declared.views.View.TheVariants.{Empty, Hub, HubDraws, HubJoins, Member}
+
+-- parts by number: None where the seat is out
+abbrev pub PartList : Type 0
+PartList = List (Option History)
+
+-- a seat: its view, and the slots that it holds, which are none
+abbrev pub SeatState : Type 0
+SeatState = Me (Unit {0}) View
+
+-- nobody was enrolled
+abbrev pub empty_roll : Roll
+empty_roll = record { lanes = []; readers = [] }
+
+abbrev pub first_view : PoolSize → View
+first_view size = Hub size empty_roll
+
+-- what the roll has at the number of a process
+abbrev pub roll_at : Process → Roll → Option (Option History)
+roll_at (Producer p) roll = slice_get roll.lanes p
+roll_at (Reader r) roll = slice_get roll.readers r
+
+-- one number more, whose seat is out
+abbrev pub roll_with_lane : Roll → Roll
+roll_with_lane roll = record roll { lanes = roll.lanes ++ None ∷ [] }
+
+abbrev pub roll_with_reader : Roll → Roll
+roll_with_reader roll = record roll { readers = roll.readers ++ None ∷ [] }
+
+-- the part of a process, put at its number
+abbrev pub roll_with_part : Process → History → Roll → Roll
+roll_with_part (Producer p) done roll = record roll { lanes = slice_set roll.lanes p (Some done) }
+roll_with_part (Reader r) done roll = record roll { readers = slice_set roll.readers r (Some done) }
+
+-- an access of a process
+abbrev pub access_by : Process → Word → PoolAct → PoolAccess
+access_by who word act = record { process = who; word = word; act = act }
+
+-- the lanes known have done in the history what is known of them
+abbrev pub KnowsLanes : PartList → History → Type 0
+KnowsLanes known h =
+    (p : ℕ) (theirs : History) → slice_get known p ≡ Some (Some theirs) → part (Producer p) h ≡ theirs
+
+-- the access came next after a lawful history, and it goes on lawfully; there its process had done this part, and the
+-- lanes known what is known of them
+pub record IsAccessAfter (size : PoolSize) (known : PartList) (a : PoolAccess) (done : History) : Type 0 where
+  pub older : History
+  pub lawful : IsPoolLawful size (a ∷ older)
+  pub own : part a.process older ≡ done
+  pub lanes : KnowsLanes known older
+
+-- all parts taken in are those of the history, and no process that has no number did anything
+pub record IsRollOf (size : PoolSize) (roll : Roll) (h : History) : Type 0 where
+  pub lawful : IsPoolLawful size h
+  pub parts : (who : Process) (done : History) → roll_at who roll ≡ Some (Some done) → part who h ≡ done
+  pub others : (who : Process) → roll_at who roll ≡ None → part who h ≡ []
+
+-- a lane's or reader's seat has made one access more
+abbrev pub view_after : Word → PoolAct → View → View
+view_after word act (Hub size roll) = Hub size roll
+view_after word act (HubDraws size roll) = HubDraws size roll
+view_after word act (HubJoins size roll who done) = HubJoins size roll who done
+view_after word act (Member size who known done) = Member size who known (access_by who word act ∷ done)
+view_after word act Empty = Empty
+
+-- and the access came after what that seat had done
+abbrev pub CameAfter : Word → PoolAct → View → Type 0
+CameAfter word act (Hub size roll) = Unit {0}
+CameAfter word act (HubDraws size roll) = Unit {0}
+CameAfter word act (HubJoins size roll who done) = Unit {0}
+CameAfter word act (Member size who known done) = IsAccessAfter size known (access_by who word act) done
+CameAfter word act Empty = Unit {0}
+
+-- what the step of an access tells
+abbrev pub MakesAccess : Word → PoolAct → SeatState → SeatState → Type 0
+MakesAccess word act v w = CameAfter word act v.0 × (w ≡ (view_after word act v.0, v.1))
+
+-- the hub has drawn the next lane's number
+abbrev pub hub_after_draw : View → View
+hub_after_draw (Hub size roll) = HubDraws size roll
+hub_after_draw (HubDraws size roll) = HubDraws size roll
+hub_after_draw (HubJoins size roll who done) = HubJoins size roll who done
+hub_after_draw (Member size who known done) = Member size who known done
+hub_after_draw Empty = Empty
+
+-- what the step on the roster tells
+abbrev pub DrawsNumber : Step (Unit {0}) → SeatState → ℕ → SeatState → Type 0
+DrawsNumber s v found w = w ≡ (hub_after_draw v.0, v.1)
+
+-- a seat was split off from the hub's: a lane's where its number was drawn, else a reader's
+abbrev pub hub_after_split : View → View
+hub_after_split (Hub size roll) = Hub size (roll_with_reader roll)
+hub_after_split (HubDraws size roll) = Hub size (roll_with_lane roll)
+hub_after_split (HubJoins size roll who done) = HubJoins size roll who done
+hub_after_split (Member size who known done) = Member size who known done
+hub_after_split Empty = Empty
+
+-- the seat that was split off. A reader knows the parts of the lanes that the hub has taken in
+abbrev pub newcomer : View → View
+newcomer (Hub size roll) = Member size (Reader (length roll.readers)) roll.lanes []
+newcomer (HubDraws size roll) = Member size (Producer (length roll.lanes)) [] []
+newcomer (HubJoins size roll who done) = Empty
+newcomer (Member size who known done) = Empty
+newcomer Empty = Empty
+
+-- the hub of this size and roll, with the part of the seat that was joined beside the roll
+abbrev pub hub_beside : PoolSize → Roll → View → View
+hub_beside size roll (Hub other rest) = Hub size roll
+hub_beside size roll (HubDraws other rest) = Hub size roll
+hub_beside size roll (HubJoins other rest who done) = Hub size roll
+hub_beside size roll (Member other who known done) = HubJoins size roll who done
+hub_beside size roll Empty = Hub size roll
+
+abbrev pub hub_after_join : View → View → View
+hub_after_join (Hub size roll) w = hub_beside size roll w
+hub_after_join (HubDraws size roll) w = HubDraws size roll
+hub_after_join (HubJoins size roll who done) w = HubJoins size roll who done
+hub_after_join (Member size who known done) w = Member size who known done
+hub_after_join Empty w = Empty
+
+-- and in the roll
+abbrev pub hub_after_load : View → View
+hub_after_load (Hub size roll) = Hub size roll
+hub_after_load (HubDraws size roll) = HubDraws size roll
+hub_after_load (HubJoins size roll who done) = Hub size (roll_with_part who done roll)
+hub_after_load (Member size who known done) = Member size who known done
+hub_after_load Empty = Empty
+
+-- the number of the seat that was joined was out, and all parts in the roll are now those of one lawful history
+abbrev pub WasOut : View → Type 0
+WasOut (Hub size roll) = Unit {0}
+WasOut (HubDraws size roll) = Unit {0}
+WasOut (HubJoins size roll who done) =
+    (roll_at who roll ≡ Some None) × ((h : History) × IsRollOf size (roll_with_part who done roll) h)
+WasOut (Member size who known done) = Unit {0}
+WasOut Empty = Unit {0}
+
+-- what the load after a join tells
+abbrev pub TakesPart : Step (Unit {0}) → SeatState → ℕ → SeatState → Type 0
+TakesPart s v found w = WasOut v.0 × (w ≡ (hub_after_load v.0, v.1))

@@ -1,0 +1,179 @@
+//! The table, its hub, and the seats of lanes and readers.
+mod accesses;
+mod enrolling;
+mod lanes;
+mod readers;
+
+use crate::rule::CellsRule;
+use crate::views::View;
+use atomic_table::{Seat, Table};
+pub use enrolling::AllGiven;
+use mb_cells::steps::{one_step, words_follow_steps};
+use mb_cells::{Lane, NoMemory, PoolSize};
+use std::alloc::Allocator;
+use std::marker::Model;
+
+/// The words of a pool of cells, on which threads make single atomic steps, each with a seat of its own. Between any two
+/// steps one lawful history leaves the words, and its parts are those that the seats and the hub have.
+#[derive(Drop)]
+pub struct SharedCells<A: Allocator + Drop> {
+    table: Table<(), View, PoolSize, CellsRule, A>,
+    size: PoolSize,
+}
+
+impl<A: Allocator + Drop> Model for SharedCells<A> {
+    ghost use Rattle.std.specs.Prelude.{◌≡◌, ◌+◌, ◌<◌, ◌^◌};
+    ghost use Rattle.mb_shared_cells.specs.Rule.{roster_of};
+    ghost use Rattle.mb_shared_cells.specs.Shown.{CellsName};
+
+    ghost Value = { CellsName };
+
+    ghost view = { λ t. record { id = t.table.shared.table_id; size = t.size } };
+
+    ghost invariant = { λ t. (t.table.shared.key ≡ t.size)
+        × (t.table.shared.table_id.words ≡ roster_of t.size + 1)
+        × (t.table.shared.table_id.slots ≡ 0) × (t.size.lanes < 2 ^ 32) × (t.size.cells < 2 ^ 32) };
+}
+
+/// Gives the seats of a table out, and takes them in with what was done on them.
+#[derive(Drop)]
+pub struct CellHub {
+    seat: Seat<(), View>,
+    given: u32,
+}
+
+impl Model for CellHub {
+    ghost use Rattle.mb_shared_cells.specs.Seats.{IsHubSeat, hub_shown};
+    ghost use Rattle.mb_shared_cells.specs.Shown.{CellHubView};
+
+    ghost Value = { CellHubView };
+
+    ghost view = { λ h. hub_shown h.seat.table_id h.seat.me };
+
+    ghost invariant = { λ h. IsHubSeat h.seat.me h.given };
+}
+
+/// The seat of a lane's producer.
+#[derive(Drop)]
+pub struct LaneSeat {
+    seat: Seat<(), View>,
+    number: u32,
+    place: Lane,
+}
+
+impl Model for LaneSeat {
+    ghost use Rattle.mb_shared_cells.specs.Seats.{IsLaneSeat, lane_shown};
+    ghost use Rattle.mb_shared_cells.specs.Shown.{LaneSeatView};
+
+    ghost Value = { LaneSeatView };
+
+    ghost view = { λ s. lane_shown s.seat.table_id s.seat.me s.number s.place };
+
+    ghost invariant = { λ s. IsLaneSeat s.seat.me s.number s.place };
+}
+
+/// The seat of a reader.
+#[derive(Drop)]
+pub struct ReaderSeat {
+    seat: Seat<(), View>,
+}
+
+impl Model for ReaderSeat {
+    ghost use Rattle.mb_shared_cells.specs.Seats.{IsReaderSeat, reader_shown};
+    ghost use Rattle.mb_shared_cells.specs.Shown.{ReaderSeatView};
+
+    ghost Value = { ReaderSeatView };
+
+    ghost view = { λ s. reader_shown s.seat.table_id s.seat.me };
+
+    ghost invariant = { λ s. IsReaderSeat s.seat.me };
+}
+
+impl<A: Allocator + Clone + Drop> SharedCells<A> {
+    ghost use Rattle.std.specs.Prelude.{◌≡◌, IfOk};
+    ghost use Rattle.mb_shared_cells.specs.{empty_roll};
+
+    /// A table of empty lanes, none of whose cells was handed out, and its hub. All that it will ever need is reserved
+    /// here, and [`NoMemory`] comes where the allocator refuses a part of that.
+    pub fn new(alloc: A, lanes: u32, cells: u32) -> Result<(SharedCells<A>, CellHub), NoMemory>
+        ensures size { IfOk result (λ r. r.0.size ≡ record { lanes = lanes; cells = cells }) }
+        ensures hub { IfOk result (λ r. r.1 ≡ record { table = r.0; roll = empty_roll }) }
+    {
+        one_step();
+        words_follow_steps();
+        let size = PoolSize { lanes, cells };
+        let roster = 1 + lanes as usize + cells as usize + cells as usize;
+        let words = vec![in alloc.clone()?; 0u64; roster + 1]?;
+        let (table, seat) = Table::of_words(alloc, words.as_slice(), &size)?;
+        Ok((SharedCells { table, size }, CellHub { seat, given: 0 }))
+    }
+}
+
+impl<A: Allocator + Drop> SharedCells<A> {
+    ghost use Rattle.std.specs.Prelude.{◌≡◌};
+    ghost use Rattle.mb_cells.specs.Vocabulary.{History};
+    ghost use Rattle.mb_shared_cells.specs.{IsRollOf};
+
+    /// Ends the table. All parts that the hub has taken in are those of one lawful history.
+    pub fn close(self, hub: CellHub)
+        requires { hub.table ≡ self }
+        ensures { (h : History) × IsRollOf self.size hub.roll h }
+    {
+        let CellHub { seat, given: _ } = hub;
+        let SharedCells { table, size: _ } = self;
+        table.close_with(seat).free();
+    }
+}
+
+impl CellHub {
+    ghost use Rattle.mb_cells.specs.Vocabulary.{History};
+    ghost use Rattle.mb_shared_cells.specs.{IsRollOf};
+
+    /// The parts that were taken in are those of one lawful history. It computes nothing: its contract is a law of all
+    /// hubs.
+    pub fn has_history(&self)
+        ensures { (h : History) × IsRollOf self.now.table.size self.now.roll h }
+    {
+        // The invariant of a hub is known where a field is named.
+        let _ = &self.seat;
+    }
+}
+
+impl LaneSeat {
+    ghost use Rattle.std.specs.Prelude.{◌≡◌, ◌<◌};
+    ghost use Rattle.mb_cells.specs.Vocabulary.{IsLaneAfter};
+    ghost use Rattle.mb_cells.specs.declared.access.Process.TheVariants.{Producer};
+    ghost use Rattle.mb_shared_cells.specs.{HasHistory};
+
+    /// The number of the lane.
+    pub fn lane(&self) -> u32
+        ensures { result ≡ self.now.lane }
+    {
+        self.number
+    }
+
+    /// Some lawful history has the lane's part, and the producer stands at the place of that part. It computes nothing:
+    /// its contract is a law of all seats.
+    pub fn has_history(&self)
+        ensures history { HasHistory self.now.table.size (Producer self.now.lane) self.now.part }
+        ensures place { IsLaneAfter self.now.table.size.cells self.now.lane self.now.place
+            self.now.part }
+        ensures within { self.now.lane < self.now.table.size.lanes }
+    {
+        // The invariant of a seat is known where a field is named.
+        let _ = &self.seat;
+    }
+}
+
+impl ReaderSeat {
+    ghost use Rattle.mb_cells.specs.declared.access.Process.TheVariants.{Reader};
+    ghost use Rattle.mb_shared_cells.specs.{HasHistory};
+
+    /// Some lawful history has the reader's part. It computes nothing: its contract is a law of all seats.
+    pub fn has_history(&self)
+        ensures { HasHistory self.now.table.size (Reader self.now.reader) self.now.part }
+    {
+        // The invariant of a seat is known where a field is named.
+        let _ = &self.seat;
+    }
+}

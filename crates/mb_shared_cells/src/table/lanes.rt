@@ -1,0 +1,65 @@
+//! What a producer does with its lane's seat.
+use super::{LaneSeat, SharedCells};
+use mb_cells::steps::{accesses_lengthen_one_part, accesses_stay_within, lanes_lead_on};
+use mb_cells::{END, Finish, Offer, Push};
+use std::alloc::Allocator;
+use std::marker::Brand;
+
+impl<A: Allocator + Drop> SharedCells<A> {
+    ghost use Rattle.std.specs.Prelude.{◌≡◌};
+    ghost use Rattle.mb_shared_cells.specs.{FinishMakes, OfferMakes, PushMakes};
+
+    /// Takes the next cell for item `x`, by one fetch-add of the counter, or is refused by the producer's place without
+    /// an access.
+    pub fn offer(&self, seat: &mut LaneSeat, x: u64) -> Offer
+        requires { seat.old.table ≡ self.now }
+        ensures makes { OfferMakes seat.old x result seat.new }
+        ensures table { seat.new.table ≡ self.now }
+        ensures lane { seat.new.lane ≡ seat.old.lane }
+    {
+        accesses_lengthen_one_part();
+        lanes_lead_on();
+        if let Some(refusal) = seat.place.offer_refusal() {
+            return refusal;
+        }
+        let found = self.fetch_add::<Brand>(&mut seat.seat, x);
+        seat.place.offered(self.size.cells, x, found)
+    }
+
+    /// Stores the item that was offered, and at the next call its link. With nothing offered it is idle, and makes no
+    /// access.
+    pub fn push(&self, seat: &mut LaneSeat) -> Push
+        requires { seat.old.table ≡ self.now }
+        ensures makes { PushMakes seat.old result seat.new }
+        ensures table { seat.new.table ≡ self.now }
+        ensures lane { seat.new.lane ≡ seat.old.lane }
+    {
+        accesses_lengthen_one_part();
+        accesses_stay_within();
+        lanes_lead_on();
+        let Some((word, value)) = seat.place.next_push(seat.number) else {
+            return Push::Idle;
+        };
+        self.store::<Brand>(&mut seat.seat, word, value);
+        seat.place.pushed()
+    }
+
+    /// Stores the end mark of the lane, or is refused by the producer's place without an access.
+    pub fn finish(&self, seat: &mut LaneSeat) -> Finish
+        requires { seat.old.table ≡ self.now }
+        ensures makes { FinishMakes seat.old result seat.new }
+        ensures table { seat.new.table ≡ self.now }
+        ensures lane { seat.new.lane ≡ seat.old.lane }
+    {
+        accesses_lengthen_one_part();
+        accesses_stay_within();
+        lanes_lead_on();
+        if let Some(refusal) = seat.place.finish_refusal() {
+            return refusal;
+        }
+        let word = seat.place.next_link(seat.number);
+        self.store::<Brand>(&mut seat.seat, word, END);
+        seat.place.finished();
+        Finish::Ended
+    }
+}

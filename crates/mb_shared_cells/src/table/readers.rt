@@ -1,0 +1,74 @@
+//! What a reader does with its seat.
+use super::{ReaderSeat, SharedCells};
+use mb_cells::laws::{cells_stand_once, loads_tell_what_stays, parts_tell_lanes};
+use mb_cells::steps::{accesses_lengthen_one_part, accesses_stay_within, one_step};
+use mb_cells::{Cursor, END, Look, Word};
+use std::alloc::Allocator;
+use std::marker::Brand;
+
+impl<A: Allocator + Drop> SharedCells<A> {
+    ghost use Rattle.std.specs.Prelude.{◌≡◌, ◌<◌, ℕ, Some, slice_get, true};
+    ghost use Rattle.mb_cells.specs.Vocabulary.{Gave, History, MayRead, is_of_lane, linked_cells, look_after};
+    ghost use Rattle.mb_cells.specs.Vocabulary.{value_in, word_of};
+    ghost use Rattle.mb_cells.specs.declared.access.Word.TheVariants.{Item};
+    ghost use Rattle.mb_cells.specs.declared.answer.Look.TheVariants as look;
+    ghost use Rattle.mb_shared_cells.specs.{ItemMakes, LookMakes};
+
+    /// What stands behind the cursor, by one load: nothing yet, a cell, or the end mark. A reader may look at the head of
+    /// each lane, and past each cell that it met.
+    pub fn look(&self, seat: &mut ReaderSeat, cursor: Cursor) -> Look
+        requires table { seat.old.table ≡ self.now }
+        requires may { MayRead self.now.size.lanes (word_of cursor) seat.old.part }
+        ensures makes { LookMakes seat.old cursor result seat.new }
+        ensures table { seat.new.table ≡ self.now }
+        ensures reader { seat.new.reader ≡ seat.old.reader }
+        ensures known_lanes { seat.new.known ≡ seat.old.known }
+
+        // What was met stays met; and so is the cell that is found, which is one of the table's.
+        ensures met { (k : ℕ) → Gave k seat.old.part → Gave k seat.new.part }
+        ensures gave { (k : ℕ) → result ≡ look.Cell k → Gave k seat.new.part }
+        ensures within { (k : ℕ) → result ≡ look.Cell k → k < self.now.size.cells }
+
+        // On a lane that was taken in before the reader was enrolled it is what that lane's producer left.
+        ensures known { (p : ℕ) (theirs : History) → slice_get seat.old.known p ≡ Some (Some theirs)
+            → is_of_lane p (linked_cells p theirs) (word_of cursor) ≡ true
+            → result ≡ look_after cursor theirs }
+    {
+        accesses_lengthen_one_part();
+        accesses_stay_within();
+        cells_stand_once();
+        loads_tell_what_stays();
+        one_step();
+        parts_tell_lanes();
+        let link = self.load::<Brand>(&mut seat.seat, cursor.word());
+        if link == 0 {
+            Look::Nothing
+        } else if link == END {
+            Look::Ended
+        } else {
+            Look::Cell((link - 1) as u32)
+        }
+    }
+
+    /// The item of cell `k`, which this reader met, by one load.
+    pub fn item(&self, seat: &mut ReaderSeat, k: u32) -> u64
+        requires table { seat.old.table ≡ self.now }
+        requires may { Gave k seat.old.part }
+        ensures makes { ItemMakes seat.old k result seat.new }
+        ensures met { (j : ℕ) → Gave j seat.old.part → Gave j seat.new.part }
+        ensures table { seat.new.table ≡ self.now }
+        ensures reader { seat.new.reader ≡ seat.old.reader }
+        ensures known_lanes { seat.new.known ≡ seat.old.known }
+
+        // On a lane that was taken in before the reader was enrolled it is what that lane's producer left.
+        ensures known { (p : ℕ) (theirs : History) → slice_get seat.old.known p ≡ Some (Some theirs)
+            → is_of_lane p (linked_cells p theirs) (Item k) ≡ true
+            → result ≡ value_in (Item k) theirs }
+    {
+        accesses_lengthen_one_part();
+        accesses_stay_within();
+        one_step();
+        parts_tell_lanes();
+        self.load::<Brand>(&mut seat.seat, Word::Item(k))
+    }
+}

@@ -1,0 +1,26 @@
+//! What the seats of a table know. It stands in proofs alone: no value of these types is made.
+use mb_cells::{PoolAccess, PoolSize, Process};
+use std::collections::LinkedList;
+
+/// What the hub has taken in, by the numbers that it gave: a part, the newest access first, or `None` where the seat is
+/// out. A reader has no other number than its place here.
+pub struct Roll {
+    /// The parts of the lanes.
+    pub lanes: LinkedList<Option<LinkedList<PoolAccess>>>,
+    /// The parts of the readers.
+    pub readers: LinkedList<Option<LinkedList<PoolAccess>>>,
+}
+
+/// What a seat knows: the size of the table, and more by what the seat is.
+pub enum View {
+    /// The hub, and what it has taken in.
+    Hub(PoolSize, Roll),
+    /// The hub, which has drawn a lane's number from the roster, and has not split the seat off yet.
+    HubDraws(PoolSize, Roll),
+    /// The hub, which has joined the seat of a process to its own: that process, and its part.
+    HubJoins(PoolSize, Roll, Process, LinkedList<PoolAccess>),
+    /// The seat of a lane or reader: the process, the parts of lanes that it knows, and its own part.
+    Member(PoolSize, Process, LinkedList<Option<LinkedList<PoolAccess>>>, LinkedList<PoolAccess>),
+    /// A seat that was taken in.
+    Empty,
+}
