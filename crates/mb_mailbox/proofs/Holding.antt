@@ -1,0 +1,205 @@
+-- A consumer that holds a claim moves on by one access.
+use Rattle.std.proofs.Common.{◌≡◌, ◌≢◌, ℕ, ◌<◌, List, [], ◌∷◌, ◌++◌, length, reverse, cond, refl, sym, ap, ◌∙◌, subst, inl, ⊎_elim, arith}
+use Rattle.std.specs.Prelude.{Some, None, nat_eq, slice_get}
+use Rattle.std.proofs.lemmas.Bool.{cases_eq, ne_eqb, eq-eqb}
+use Rattle.std.proofs.lemmas.List.{length-reverse, reverse-append}
+use Rattle.mb_claim.specs.declared.access.ClaimOp.{ClaimOp}
+use Rattle.mb_claim.specs.declared.access.Stage.TheVariants as stage
+use Rattle.mb_cells.specs.declared.cursor.Cursor.TheVariants.{Past}
+use Rattle.mb_mailbox.specs.Below.{Claim, ClaimAccess, Claims, EndsAs, Fits, Gave, Has, HasStageIn, IsClaimIn, IsClaimPrefix, IsOnceEach, Item, Link, Lost, Note, ObjectTurn, Parts, PoolAccess, Stage, TableSize, Took, Undecided, access_of, cells_met, claim_stage, claims_in, consumer_of, load, note_of, part_on, place_past, with_load}
+use Rattle.mb_mailbox.specs.Consumers.{AreEnds, ConsumerView, IsAt, IsBefore, IsConsumer, StandsOn, parts_of}
+use Rattle.mb_mailbox.specs.Moves.{HasLoads, HasPlace, HasTurns, item_load, moved_to}
+use Rattle.mb_mailbox.specs.NoteLists.{place_after}
+use Rattle.mb_mailbox.specs.declared.place.Place.TheVariants.{At, Before}
+use Rattle.mb_mailbox.proofs.KnownLoads.{Known, Laws, past_item, read-cases, read-more}
+use Rattle.mb_mailbox.proofs.Lists.{some_same}
+use Rattle.mb_mailbox.proofs.Moving.{holds, loads_known}
+use Rattle.mb_mailbox.proofs.Standings.{Leaves, end_kept, ends_more, moves, same_length, with_one}
+
+-- a note behind others is the first of them backwards
+snoc_back : (ns : List Note) (n : Note) → reverse (ns ++ n ∷ []) ≡ n ∷ reverse ns
+snoc_back ns n = reverse-append ns (n ∷ [])
+
+-- the stage of a claim that is held
+pub goes_on : (st : Stage) → note_of st ≡ None → st ≢ stage.Won → st ≡ stage.Going
+goes_on stage.Going e ne = refl
+goes_on stage.Won e ne = absurd (ne refl)
+goes_on (stage.Lost w) e ne = absurd (cc)
+goes_on stage.Undecided e ne = absurd (cc)
+
+module _ (s : ConsumerView) (p k : ℕ) (claim : Claim) (i : IsConsumer s) (e : HasPlace p (At k claim) s) where
+  abbrev cs : Claims
+  cs = claims_in i.size.layout i.size.cells
+
+  abbrev c : ℕ
+  c = s.seat.consumer
+
+  abbrev x : Parts
+  x = parts_of s.reader s.seat
+
+  pub own_claim : consumer_of claim ≡ c
+  own_claim = (holds s p k claim i e).2.own
+
+  pub turns_made : HasTurns s claim (part_on c k s.seat.part)
+  turns_made = λ size is. let same : i.size ≡ size = some_same i.size size (sym i.table ∙ is) in
+      subst (λ (z : TableSize). IsClaimIn z.layout claim (part_on c k s.seat.part)) same (holds s p k claim i e).2.path
+
+  pub stage_held : claim_stage claim ≢ stage.Won → claim_stage claim ≡ stage.Going
+  stage_held ne = goes_on (claim_stage claim) (holds s p k claim i e).2.unnoted ne
+
+  has_here : Has (cells_met p s.reader.part) k
+  has_here = subst (λ ks. Has ks k) (sym (holds s p k claim i e).2.met) (inl refl)
+
+  module _ (laws : Laws) (h : HasLoads s) where
+    abbrev known : Known s.reader.table.size s.reader.part
+    known = loads_known laws s h
+
+    pub given : Gave k s.reader.part
+    given = known.given p k has_here
+
+    pub within : k < s.reader.table.size.cells
+    within = known.within p k has_here
+
+    pub room : (ns : List Note) → slice_get s.notes p ≡ Some ns → length ns < s.reader.table.size.cells
+    room ns f =
+        let o : IsAt i.size.layout cs c p x ns k claim = i.lanes p (At k claim) ns e f in
+        let few = known.few p in
+        let long : length (cells_met p s.reader.part) ≡ length (k ∷ o.cells) = ap length o.met in
+        let same = same_length cs c o.cells (reverse ns) x o.ended in
+        let turned : length (reverse ns) ≡ length ns = length-reverse ns in
+        omega arith
+
+    -- the claims' cells before this one are other cells
+    before_else : (ns : List Note) (o : IsAt i.size.layout cs c p x ns k claim) (j : ℕ) → Has o.cells j → j ≡ k → ⊥
+    before_else ns o j has f =
+        let once : IsOnceEach (k ∷ o.cells) = subst IsOnceEach o.met (known.once p) in
+        once.0 (subst (Has o.cells) f has)
+
+    -- ---- an access of the claim
+    module _ (word seen : ℕ) (now : Claim) (next : ClaimOp) (own_now : consumer_of now ≡ c)
+        (turns_now : HasTurns s now (part_on c k (access_of c k next seen word ∷ s.seat.part))) where
+      abbrev a : ClaimAccess
+      a = access_of c k next seen word
+
+      abbrev made : List ClaimAccess
+      made = a ∷ s.seat.part
+
+      abbrev y : Parts
+      y = record { reads = s.reader.part; claimed = λ j. part_on c j made }
+
+      else : (j : ℕ) → (j ≡ k → ⊥) → part_on c j made ≡ part_on c j s.seat.part
+      else j ne = laws.other_cells c j a s.seat.part (λ u v. ne (sym v))
+
+      stepped : (j : ℕ) → cond (nat_eq j k) (a.step ∷ x.claimed j) (x.claimed j) ≡ part_on c j made
+      stepped j = ⊎_elim
+          (λ (same : j ≡ k).
+          ap (λ b. cond b (a.step ∷ x.claimed j) (x.claimed j)) (eq-eqb j k same)
+          ∙ subst (λ (z : ℕ). a.step ∷ part_on c z s.seat.part ≡ part_on c z made) (sym same) (sym (laws.own_cell a s.seat.part)))
+          (λ (ne : j ≡ k → ⊥).
+          ap (λ b. cond b (a.step ∷ x.claimed j) (x.claimed j)) (ne_eqb j k ne) ∙ sym (else j ne))
+          (cases_eq j k)
+
+      fits : Fits cs c y
+      fits =
+          subst (λ (f : ℕ → List ObjectTurn). Fits cs c (record { reads = s.reader.part; claimed = f })) (λ z j. stepped j z)
+          (laws.claims cs c k a.step x i.fit given (holds s p k claim i e).2.left)
+
+      others : (q : ℕ) → q ≢ p → Leaves q x y
+      others q ne = record {
+        met = refl;
+        claims = λ j has. sym (else j (λ f. ne (known.apart q p k (subst (Has (cells_met q s.reader.part)) f has) has_here)));
+        more = λ j u r. r;
+        left = λ j has l. l;
+      }
+
+      ends : (ns : List Note) (o : IsAt i.size.layout cs c p x ns k claim) → AreEnds cs c o.cells (reverse ns) y
+      ends ns o = ends_more cs c x y o.cells (reverse ns)
+          (λ j n has. end_kept cs c j n x y (sym (else j (before_else ns o j has))) (λ u r. r)) o.ended
+
+      path : IsClaimIn i.size.layout now (y.claimed k)
+      path = turns_now i.size i.table
+
+      prefix : HasStageIn cs c k (claim_stage now) y
+      prefix = subst (λ d. IsClaimPrefix cs d (y.claimed k) (claim_stage now)) own_now path.prefix
+
+      stands : (st : Stage) → claim_stage now ≡ st → (ns : List Note) → slice_get s.notes p ≡ Some ns
+          → StandsOn i.size.layout cs c p y (with_one (note_of st) ns) (place_after k now st)
+      stands stage.Going is ns f = held ns f (ap note_of is)
+        where
+          held : (ns : List Note) → slice_get s.notes p ≡ Some ns → note_of (claim_stage now) ≡ None → IsAt i.size.layout cs c p y ns k now
+          held ns f none = let o : IsAt i.size.layout cs c p x ns k claim = i.lanes p (At k claim) ns e f in
+              record { cells = o.cells; met = o.met; ended = ends ns o; own = own_now; path = path; unnoted = none; left = o.left }
+      stands stage.Won is ns f = held ns f (ap note_of is)
+        where
+          held : (ns : List Note) → slice_get s.notes p ≡ Some ns → note_of (claim_stage now) ≡ None → IsAt i.size.layout cs c p y ns k now
+          held ns f none = let o : IsAt i.size.layout cs c p x ns k claim = i.lanes p (At k claim) ns e f in
+              record { cells = o.cells; met = o.met; ended = ends ns o; own = own_now; path = path; unnoted = none; left = o.left }
+      stands (stage.Lost w) is ns f = passed (Lost w) ns f (subst (λ z. EndsAs cs c k (Lost w) y) is (subst (λ z. HasStageIn cs c k z y) is prefix))
+        where
+          passed : (n : Note) (ns : List Note) → slice_get s.notes p ≡ Some ns → EndsAs cs c k n y → IsBefore cs c p y (ns ++ n ∷ []) (Past k)
+          passed n ns f end = let o : IsAt i.size.layout cs c p x ns k claim = i.lanes p (At k claim) ns e f in
+              record {
+                word = ap (place_past p) (sym o.met);
+                ended = subst (λ (z : List ℕ × List Note). AreEnds cs c z.0 z.1 y) (λ j. (sym o.met j, sym (snoc_back ns n) j)) (end, ends ns o);
+              }
+      stands stage.Undecided is ns f = passed Undecided ns f (subst (λ z. HasStageIn cs c k z y) is prefix)
+        where
+          passed : (n : Note) (ns : List Note) → slice_get s.notes p ≡ Some ns → EndsAs cs c k n y → IsBefore cs c p y (ns ++ n ∷ []) (Past k)
+          passed n ns f end = let o : IsAt i.size.layout cs c p x ns k claim = i.lanes p (At k claim) ns e f in
+              record {
+                word = ap (place_past p) (sym o.met);
+                ended = subst (λ (z : List ℕ × List Note). AreEnds cs c z.0 z.1 y) (λ j. (sym o.met j, sym (snoc_back ns n) j)) (end, ends ns o);
+              }
+
+      pub competes : IsConsumer (moved_to p (place_after k now (claim_stage now)) (note_of (claim_stage now)) s.reader.part made s)
+      competes = moves s p (At k claim) (place_after k now (claim_stage now)) (note_of (claim_stage now)) s.reader.part made i e fits
+          (stands (claim_stage now) refl) others
+
+    -- ---- the load of the item
+    module _ (v : ℕ) (won : claim_stage claim ≡ stage.Won) where
+      abbrev b : PoolAccess
+      b = load s.reader.reader (Item k) v
+
+      abbrev z : Parts
+      z = with_load b x
+
+      has_won : HasStageIn cs c k stage.Won x
+      has_won =
+          let o = (holds s p k claim i e).2 in
+          subst (λ st. IsClaimPrefix cs c (x.claimed k) st) won
+          (subst (λ d. IsClaimPrefix cs d (x.claimed k) (claim_stage claim)) o.own o.path.prefix)
+
+      no_link : (q : ℕ) → Item k ≢ place_past q (cells_met q s.reader.part)
+      no_link q f = past_item q k (cells_met q s.reader.part) (sym f)
+
+      same_item : (j : ℕ) → Item k ≡ Item j → k ≡ j
+      same_item j f = cc
+
+      left_else : (q : ℕ) → q ≢ p → Leaves q x z
+      left_else q ne = record {
+        met = laws.elsewhere q b s.reader.part (no_link q);
+        claims = λ j has. refl;
+        more = λ j u r. read-more b s.reader.part (Item j) u r;
+        left = λ j has l. (
+          (λ u r. ⊎_elim (λ t. ne (known.apart q p k (subst (Has (cells_met q s.reader.part)) (sym (same_item j t)) has) has_here)) (λ old. l.0 u old)
+              (read-cases b s.reader.part (Item j) u r)),
+          (λ u r. ⊎_elim (λ t. let f : Item k ≡ Link j = t in cc) (λ old. l.1 u old) (read-cases b s.reader.part (Link j) u r)),
+        );
+      }
+
+      pub takes : IsConsumer (moved_to p (Before (Past k)) (Some (Took v)) (item_load s k v) s.seat.part s)
+      takes =
+          let same : cells_met p (b ∷ s.reader.part) ≡ cells_met p s.reader.part = laws.elsewhere p b s.reader.part (no_link p) in
+          moves s p (At k claim) (Before (Past k)) (Some (Took v)) (b ∷ s.reader.part) s.seat.part i e
+          (laws.takes cs c s.reader.reader k v x i.fit has_won)
+          (λ ns f.
+          let o : IsAt i.size.layout cs c p x ns k claim = i.lanes p (At k claim) ns e f in
+          let met : cells_met p (b ∷ s.reader.part) ≡ k ∷ o.cells = same ∙ o.met in
+          let before : AreEnds cs c o.cells (reverse ns) z = ends_more cs c x z o.cells (reverse ns)
+          (λ j n has. end_kept cs c j n x z refl (λ u r. read-more b s.reader.part (Item j) u r)) o.ended in
+          record {
+            word = ap (place_past p) (sym met);
+            ended = subst (λ (t : List ℕ × List Note). AreEnds cs c t.0 t.1 z) (λ j. (sym met j, sym (snoc_back ns (Took v)) j))
+                ((has_won, (b, inl refl, refl, refl)), before);
+          })
+          left_else

@@ -1,0 +1,122 @@
+-- What the laws of the cells give for what one reader loaded.
+use Rattle.std.proofs.Common.{◌≡◌, ◌≢◌, ◌⊎◌, ℕ, ◌+◌, ◌<◌, ◌≤◌, List, [], ◌∷◌, ◌++◌, length, refl, sym, ap, ◌∙◌, subst, inl, inr, arith}
+use Rattle.std.proofs.lemmas.List.{length-append}
+use Rattle.mb_quorum.specs.Vocabulary.{IsQuorumTable}
+use Rattle.mb_cells.specs.declared.access.Process.{Process}
+use Rattle.mb_cells.specs.Vocabulary.{HasLoaded, IsStart}
+use Rattle.mb_claim.specs.Vocabulary.{quorums_of}
+use Rattle.mb_world.specs.Reporting.{HasMetAll}
+use Rattle.mb_claim.specs.declared.access.Stage.TheVariants as stage
+use Rattle.mb_mailbox.specs.Below.{ClaimAccess, Claims, END, Fits, FollowsLinks, Gave, Has, HasMet, HasNotLeft, HasRead, HasStageIn, History, IsClaimPrefix, IsOnceEach, IsPoolLawful, Item, Layout, Link, MayLookPast, ObjectTurn, Parts, PoolAccess, PoolSize, Reader, Stage, Word, cells_met, linked_cells, load, part, part_on, place_past, with_load, with_step}
+
+-- the laws
+pub record Laws : Type 0 where
+  pub start : (size : PoolSize) (h : History) (r p : ℕ) (ks : List ℕ) → IsPoolLawful size h → HasMet r p ks h → IsStart ks (linked_cells p h)
+  pub link : (size : PoolSize) (h : History) (r k v : ℕ) → IsPoolLawful size h → HasLoaded r (Link k) v h → Gave k (part (Reader r) h)
+  pub item : (size : PoolSize) (h : History) (r k v : ℕ) → IsPoolLawful size h → HasLoaded r (Item k) v h → Gave k (part (Reader r) h)
+  pub lane : (size : PoolSize) (h : History) (p q k : ℕ) → IsPoolLawful size h → Has (linked_cells p h) k → Has (linked_cells q h) k → p ≡ q
+  pub within : (size : PoolSize) (h : History) (p k : ℕ) → IsPoolLawful size h → Has (linked_cells p h) k → (p < size.lanes) × (k < size.cells)
+  pub few : (size : PoolSize) (h : History) (p : ℕ) → IsPoolLawful size h → length (linked_cells p h) ≤ size.cells
+  pub older : (size : PoolSize) (later older : History) → IsPoolLawful size (later ++ older) → IsPoolLawful size older
+  pub of : (h : History) (who : Process) (a : PoolAccess) → Has (part who h) a → Has h a × (a.process ≡ who)
+  pub own : (h : History) (a : PoolAccess) → part a.process (a ∷ h) ≡ a ∷ part a.process h
+  pub table : (layout : Layout) → IsQuorumTable (quorums_of layout)
+  pub one_stage : (cs : Claims) (c : ℕ) (xs : List ObjectTurn) (s r : Stage) → IsQuorumTable cs.table → IsClaimPrefix cs c xs s → IsClaimPrefix cs c xs r → s ≡ r
+  pub own_cell : (a : ClaimAccess) (h : List ClaimAccess) → part_on a.consumer a.cell (a ∷ h) ≡ a.step ∷ part_on a.consumer a.cell h
+  pub other_cells : (c k : ℕ) (a : ClaimAccess) (h : List ClaimAccess) → (a.consumer ≡ c → a.cell ≡ k → ⊥) → part_on c k (a ∷ h) ≡ part_on c k h
+  pub cell : (q p k : ℕ) (reads : History) → k + 1 ≢ END → cells_met p (load q (place_past p (cells_met p reads)) (k + 1) ∷ reads) ≡ k ∷ cells_met p reads
+  pub none : (q p v : ℕ) (reads : History) → (v ≡ 0) ⊎ (v ≡ END) → cells_met p (load q (place_past p (cells_met p reads)) v ∷ reads) ≡ cells_met p reads
+  pub elsewhere : (p : ℕ) (a : PoolAccess) (reads : History) → a.word ≢ place_past p (cells_met p reads) → cells_met p (a ∷ reads) ≡ cells_met p reads
+  pub met : (q p : ℕ) (h : History) → HasMet q p (cells_met p (part (Reader q) h)) h
+  pub given : (q p k : ℕ) (h : History) → Has (cells_met p (part (Reader q) h)) k → Gave k (part (Reader q) h)
+  pub on_lane : (size : PoolSize) (q p k : ℕ) (h : History) → IsPoolLawful size h → Has (cells_met p (part (Reader q) h)) k → Has (linked_cells p h) k
+  pub once : (size : PoolSize) (q p : ℕ) (h : History) → IsPoolLawful size h → IsOnceEach (cells_met p (part (Reader q) h))
+  pub all : (size : PoolSize) (q p : ℕ) (h : History) → IsPoolLawful size h → FollowsLinks (part (Reader q) h) → HasMetAll q p (cells_met p (part (Reader q) h)) h
+  pub looks : (cs : Claims) (c q p v : ℕ) (x : Parts) → Fits cs c x → MayLookPast cs c (cells_met p x.reads) x → Fits cs c (with_load (load q (place_past p (cells_met p x.reads)) v) x)
+  pub claims : (cs : Claims) (c k : ℕ) (t : ObjectTurn) (x : Parts) → Fits cs c x → Gave k x.reads → HasNotLeft k x → Fits cs c (with_step k t x)
+  pub takes : (cs : Claims) (c q k v : ℕ) (x : Parts) → Fits cs c x → HasStageIn cs c k stage.Won x → Fits cs c (with_load (load q (Item k) v) x)
+
+-- what they give for the loads of a reader in a lawful history
+pub record Known (size : PoolSize) (reads : History) : Type 0 where
+  pub apart : (p q k : ℕ) → Has (cells_met p reads) k → Has (cells_met q reads) k → p ≡ q
+  pub once : (p : ℕ) → IsOnceEach (cells_met p reads)
+  pub within : (p k : ℕ) → Has (cells_met p reads) k → k < size.cells
+  pub given : (p k : ℕ) → Has (cells_met p reads) k → Gave k reads
+  pub few : (p : ℕ) → length (cells_met p reads) ≤ size.cells
+  pub link : (k v : ℕ) → HasRead (Link k) v reads → Gave k reads
+  pub item : (k v : ℕ) → HasRead (Item k) v reads → Gave k reads
+
+-- what a reader's part has was loaded in the history
+loaded : Laws → (r v : ℕ) (w : Word) (h : History) → HasRead w v (part (Reader r) h) → HasLoaded r w v h
+loaded laws r v w h read =
+    let a = read.0 in
+    let o = laws.of h (Reader r) a read.1 in
+    subst (λ (x : PoolAccess). Has h x) (λ i. record { process = o.1 i; word = read.2 i; act = read.3 i }) o.0
+
+known_of : Laws → (size : PoolSize) (r : ℕ) (h : History) → IsPoolLawful size h → Known size (part (Reader r) h)
+known_of laws size r h lawful =
+    let on : (p k : ℕ) → Has (cells_met p (part (Reader r) h)) k → Has (linked_cells p h) k = λ p k has. laws.on_lane size r p k h lawful has in
+    record {
+      apart = λ p q k a b. laws.lane size h p q k lawful (on p k a) (on q k b);
+      once = λ p. laws.once size r p h lawful;
+      within = λ p k has. (laws.within size h p k lawful (on p k has)).1;
+      given = λ p k has. laws.given r p k h has;
+      few = λ p.
+          let ks = cells_met p (part (Reader r) h) in
+          let s = laws.start size h r p ks lawful (laws.met r p h) in
+          let all = laws.few size h p lawful in
+          let long : length (s.0 ++ ks) ≡ length s.0 + length ks = length-append s.0 ks in
+          let same : length (s.0 ++ ks) ≡ length (linked_cells p h) = ap length s.1 in
+          omega arith;
+      link = λ k v read. laws.link size h r k v lawful (loaded laws r v (Link k) h read);
+      item = λ k v read. laws.item size h r k v lawful (loaded laws r v (Item k) h read);
+    }
+
+pub known : Laws → (size : PoolSize) (r : ℕ) (h reads : History) → IsPoolLawful size h → part (Reader r) h ≡ reads → Known size reads
+known laws size r h reads lawful is = subst (Known size) is (known_of laws size r h lawful)
+
+-- the link behind cells is no item, and if it is the link of a cell, the cell is the last of these
+pub past_item : (p k : ℕ) (ks : List ℕ) → place_past p ks ≡ Item k → ⊥
+past_item p k [] e = cc
+past_item p k (j ∷ ks) e = cc
+
+pub past_link : (p k : ℕ) (ks : List ℕ) → place_past p ks ≡ Link k → Has ks k
+past_link p k [] e = absurd (cc)
+past_link p k (j ∷ ks) e = let same : j ≡ k = cc in inl same
+
+-- lanes have other links behind their cells
+pub past_apart : (p q : ℕ) (ks js : List ℕ) → ((k : ℕ) → Has ks k → Has js k → p ≡ q) → p ≢ q → place_past p ks ≡ place_past q js → ⊥
+past_apart p q [] [] one ne e = ne (cc)
+past_apart p q [] (j ∷ js) one ne e = absurd (cc)
+past_apart p q (k ∷ ks) [] one ne e = absurd (cc)
+past_apart p q (k ∷ ks) (j ∷ js) one ne e = let same : k ≡ j = cc in ne (one k (inl refl) (inl (sym same)))
+
+pub read-more : (a : PoolAccess) (d : History) (w : Word) (v : ℕ) → HasRead w v d → HasRead w v (a ∷ d)
+read-more a d w v h = (h.0, inr h.1, h.2, h.3)
+
+pub read-cases : (a : PoolAccess) (d : History) (w : Word) (v : ℕ) → HasRead w v (a ∷ d) → (a.word ≡ w) ⊎ HasRead w v d
+read-cases a d w v h = by h.1
+  where
+    by : Has (a ∷ d) h.0 → (a.word ≡ w) ⊎ HasRead w v d
+    by (inl e) = inl (ap (λ (x : PoolAccess). x.word) e ∙ h.2)
+    by (inr m) = inr (h.0, m, h.2, h.3)
+
+-- a cell that is newly found was not given before
+pub fresh : Laws → (size : PoolSize) (r p k : ℕ) (h reads : History) → FollowsLinks reads → k + 1 ≢ END
+    → let a = load r (place_past p (cells_met p reads)) (k + 1) in
+    IsPoolLawful size (a ∷ h) → part (Reader r) h ≡ reads → (Gave k reads → ⊥) × Known size (a ∷ reads)
+fresh laws size r p k h reads follows ne lawful is =
+    let a = load r (place_past p (cells_met p reads)) (k + 1) in
+    let longer : part (Reader r) (a ∷ h) ≡ a ∷ reads = laws.own h a ∙ ap (λ (d : History). a ∷ d) is in
+    let now = known laws size r (a ∷ h) (a ∷ reads) lawful longer in
+    let met : cells_met p (a ∷ reads) ≡ k ∷ cells_met p reads = laws.cell r p k reads ne in
+    let here : Has (linked_cells p h) k =
+    laws.on_lane size r p k (a ∷ h) lawful
+    (subst (λ (d : History). Has (cells_met p d) k) (sym longer) (subst (λ ks. Has ks k) (sym met) (inl refl))) in
+    let once : IsOnceEach (k ∷ cells_met p reads) = subst IsOnceEach met (now.once p) in
+    let was = laws.older size (a ∷ []) h lawful in (
+      λ gave.
+          let all = laws.all size r p h was (subst FollowsLinks (sym is) follows) in
+          once.0 (subst (λ (d : History). Has (cells_met p d) k) is (all.all k (subst (Gave k) (sym is) gave) here)),
+      now,
+    )

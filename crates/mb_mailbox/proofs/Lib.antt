@@ -1,0 +1,11 @@
+pub mod Lists
+pub mod KnownLoads
+pub mod Standings
+pub mod Moving
+pub mod Holding
+pub mod Made
+pub mod Polls
+pub mod Putting
+pub mod Closing
+pub mod HubMoves
+pub mod NewConsumer

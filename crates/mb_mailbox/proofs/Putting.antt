@@ -1,0 +1,206 @@
+-- A producer moves on by its calls.
+use Rattle.std.proofs.Common.{◌≡◌, ◌≢◌, ◌↔◌, ℕ, ◌+◌, ◌<◌, ◌≤◌, Bool, true, false, cond, List, [], ◌∷◌, ◌++◌, length, map, refl, sym, ap, ◌∙◌, subst, arith}
+use Rattle.std.specs.Prelude.{Option, Some, None, nat_lt}
+use Rattle.std.proofs.lemmas.Bool.{ltb-true, eq-eqb}
+use Rattle.std.proofs.lemmas.List.{length-append, length-map, map-append}
+use Rattle.mb_cells.specs.declared.access.PoolAccess.{PoolAccess}
+use Rattle.mb_cells.specs.declared.access.Process.{Process}
+use Rattle.mb_cells.specs.declared.answer.Finish.TheVariants as finish
+use Rattle.mb_cells.specs.declared.answer.Offer.{Offer}
+use Rattle.mb_cells.specs.declared.answer.Offer.TheVariants as offer
+use Rattle.mb_cells.specs.declared.answer.Push.{Push}
+use Rattle.mb_cells.specs.declared.lane.Lane.{Lane}
+use Rattle.mb_cells.specs.declared.lane.LaneStage.{LaneStage}
+use Rattle.mb_cells.specs.declared.lane.LaneStage.TheVariants as stage
+use Rattle.mb_cells.specs.Vocabulary.{Entry, HasFoundNone, IsLaneAfter, entry_at, fetch, finish_refusal, item_of, link_after, next_link, offer_refusal, push_store, put_list, stage_offer_refusal, stage_push_store, store}
+use Rattle.mb_shared_cells.specs.Vocabulary.{IsAccessAfter, LaneMakes, LaneSeatView, OfferBy, OfferMakes, PushMakes}
+use Rattle.mb_world.specs.Reporting.{values_put}
+use Rattle.mb_mailbox.specs.Below.{END, Has, History, IsPoolLawful, Item, PoolSize, Producer, Word, has_ended, part}
+use Rattle.mb_cells.specs.Vocabulary.{IsLinkWord}
+use Rattle.mb_mailbox.specs.PartPlaces.{HasPart}
+use Rattle.mb_mailbox.specs.Producers.{IsLinked, IsProducer, ProducerView}
+
+-- the producer with this seat and these items
+abbrev pub producer_at : LaneSeatView → List ℕ → ProducerView
+producer_at seat items = record { seat = seat; items = items }
+
+-- the laws
+pub record PutLaws : Type 0 where
+  pub few : (size : PoolSize) (h : History) (p : ℕ) → IsPoolLawful size h → length (put_list p h) ≤ size.cells
+  pub put : (size : PoolSize) (h : History) (p : ℕ) → IsPoolLawful size h → put_list p h ≡ put_list p (part (Producer p) h)
+  pub ended : (h : History) (p : ℕ) → has_ended p h ≡ has_ended p (part (Producer p) h)
+  pub own : (h : History) (a : PoolAccess) → part a.process (a ∷ h) ≡ a ∷ part a.process h
+  pub older : (size : PoolSize) (later older : History) → IsPoolLawful size (later ++ older) → IsPoolLawful size older
+  pub all : (h : History) (who : Process) (a : PoolAccess) → Has h a → a.process ≡ who → Has (part who h) a
+  pub link : (h : History) (p k : ℕ) (w : Word) → IsLinkWord w → k + 1 ≢ END → put_list p (store p w (k + 1) ∷ h) ≡ put_list p h ++ entry_at k h ∷ []
+  pub fetched : (size : PoolSize) (h : History) (p q : ℕ) (e : Entry) → IsPoolLawful size (fetch p e ∷ h) → put_list q (fetch p e ∷ h) ≡ put_list q h
+  pub item : (h : History) (p q k v : ℕ) → put_list q (store p (Item k) v ∷ h) ≡ put_list q h
+  pub end : (h : History) (p q : ℕ) (w : Word) → IsLinkWord w → put_list q (store p w END ∷ h) ≡ put_list q h
+  pub closed : (size : PoolSize) (h : History) (p : ℕ) (lane : Lane) → IsPoolLawful size h → IsLaneAfter size.cells p lane (part (Producer p) h)
+      → (offer_refusal lane ≡ Some offer.Closed) ↔ (has_ended p h ≡ true)
+  pub full : (size : PoolSize) (h : History) (p : ℕ) (lane : Lane) → IsPoolLawful size h → IsLaneAfter size.cells p lane (part (Producer p) h)
+      → (offer_refusal lane ≡ Some offer.Full) ↔ ((has_ended p h ≡ false) × HasFoundNone size.cells p h)
+  pub over : (size : PoolSize) (h : History) (p : ℕ) (lane : Lane) → IsPoolLawful size h → IsLaneAfter size.cells p lane (part (Producer p) h)
+      → (finish_refusal lane ≡ Some finish.Closed) ↔ (has_ended p h ≡ true)
+
+pub link_word : (p : ℕ) (last : Option ℕ) → IsLinkWord (link_after p last)
+link_word p None = tt
+link_word p (Some k) = tt
+
+-- an offer that was answered with a cell made its fetch-add
+record Took (old : LaneSeatView) (x k : ℕ) (new : LaneSeatView) : Type 0 where
+  pub low : k < old.table.size.cells
+  pub is : new ≡ record old { place = record { last = old.place.last; stage = stage.Offered k x }; part = fetch old.lane (record { cell = k; value = x }) ∷ old.part }
+  pub after : IsAccessAfter old.table.size [] (fetch old.lane (record { cell = k; value = x })) old.part
+
+took_by : (old : LaneSeatView) (x k n : ℕ) (new : LaneSeatView) (b : Bool) → nat_lt n old.table.size.cells ≡ b
+    → offer.Cell k ≡ cond b (offer.Cell n) offer.Full
+    → LaneMakes (fetch old.lane (record { cell = n; value = x })) (record { last = old.place.last; stage = cond b (stage.Offered n x) stage.Full }) old new
+    → Took old x k new
+took_by old x k n new true low told m =
+    let same : n ≡ k = cc in
+    subst (λ (z : ℕ). Took old x z new) same (record { low = ltb-true n old.table.size.cells low; is = m.1; after = m.0 })
+took_by old x k n new false low told m = absurd (cc)
+
+took_at : (old : LaneSeatView) (x k : ℕ) (new : LaneSeatView) (at : LaneStage) → OfferBy (stage_offer_refusal at) old x (offer.Cell k) new → Took old x k new
+took_at old x k new stage.Open m = took_by old x k m.0 new (nat_lt m.0 old.table.size.cells) refl m.1 m.2
+took_at old x k new (stage.Offered c i) m = absurd (cc)
+took_at old x k new (stage.Stored c) m = absurd (cc)
+took_at old x k new stage.Full m = absurd (cc)
+took_at old x k new (stage.Ended f) m = absurd (cc)
+
+-- a fetch-add puts nothing
+pub fetch_keeps : PutLaws → (old : LaneSeatView) (e : Entry) → IsAccessAfter old.table.size [] (fetch old.lane e) old.part
+    → put_list old.lane (fetch old.lane e ∷ old.part) ≡ put_list old.lane old.part
+fetch_keeps laws old e a =
+    let p = old.lane in
+    let size = old.table.size in
+    let h = a.older in
+    let was = laws.older size (fetch p e ∷ []) h a.lawful in
+    ap (λ l. put_list p (fetch p e ∷ l)) (sym a.own)
+    ∙ ap (put_list p) (sym (laws.own h (fetch p e)))
+    ∙ sym (laws.put size (fetch p e ∷ h) p a.lawful)
+    ∙ laws.fetched size h p p e a.lawful
+    ∙ laws.put size h p was
+    ∙ ap (put_list p) a.own
+
+module _ (laws : PutLaws) (s : ProducerView) (x k : ℕ) (one two : Push) (a b now : LaneSeatView) (i : IsProducer s)
+    (o : OfferMakes s.seat x (offer.Cell k) a) (f : PushMakes a one b) (g : PushMakes b two now) where
+  abbrev p : ℕ
+  p = s.seat.lane
+
+  abbrev e : Entry
+  e = record { cell = k; value = x }
+
+  abbrev h : History
+  h = store p (Item k) x ∷ fetch p e ∷ s.seat.part
+
+  abbrev linked_part : History
+  linked_part = store p (next_link p s.seat.place) (k + 1) ∷ h
+
+  took : Took s.seat x k a
+  took = took_at s.seat x k a s.seat.place.stage o
+
+  first : LaneMakes (store p (Item k) x) (record { last = s.seat.place.last; stage = stage.Stored k })
+      (record s.seat { place = record { last = s.seat.place.last; stage = stage.Offered k x }; part = fetch p e ∷ s.seat.part }) b
+  first = (subst (λ v. PushMakes v one b) took.is f).1
+
+  second : LaneMakes (store p (next_link p s.seat.place) (k + 1)) (record { last = Some k; stage = stage.Open })
+      (record s.seat { place = record { last = s.seat.place.last; stage = stage.Stored k }; part = h }) now
+  second = (subst (λ v. PushMakes v two now) first.1 g).1
+
+  pub is_linked : IsLinked k x s (record { seat = now; items = s.items ++ x ∷ [] })
+  is_linked = record {
+    same = record { table = ap (λ (v : LaneSeatView). v.table) second.1; lane = ap (λ (v : LaneSeatView). v.lane) second.1 };
+    part = ap (λ (v : LaneSeatView). v.part) second.1;
+    items = refl;
+  }
+
+  grown : put_list p linked_part ≡ put_list p s.seat.part ++ e ∷ []
+  grown =
+      let size = s.seat.table.size in
+      let no_end : k + 1 ≢ END = let low = took.low in let few = first.0.lawful.sized in λ z. omega arith in
+      let item : item_of k h ≡ x = rw (eq-eqb k k refl) refl in
+      let entry : entry_at k h ≡ e = ap (λ (v : ℕ). record { cell = k; value = v }) item in
+      laws.link h p k (next_link p s.seat.place) (link_word p s.seat.place.last) no_end
+      ∙ (λ j. (laws.item (fetch p e ∷ s.seat.part) p p k x ∙ fetch_keeps laws s.seat e took.after) j ++ entry j ∷ [])
+
+  values : values_put p linked_part ≡ s.items ++ x ∷ []
+  values = ap (λ (l : List Entry). map (λ (z : Entry). z.value) l) grown
+      ∙ map-append (λ (z : Entry). z.value) (put_list p s.seat.part) (e ∷ [])
+      ∙ ap (λ (l : List ℕ). l ++ x ∷ []) (sym i.items)
+
+  pub still : IsProducer (record { seat = now; items = s.items ++ x ∷ [] })
+  still = record {
+    items = sym values ∙ ap (λ (v : LaneSeatView). values_put v.lane v.part) (sym second.1);
+    idle = ap (λ (v : LaneSeatView). push_store v.lane v.place) second.1;
+  }
+
+  pub room : length s.items < s.seat.table.size.cells
+  room =
+      let size = s.seat.table.size in
+      let t = second.0 in
+      let longer = store p (next_link p s.seat.place) (k + 1) ∷ t.older in
+      let same : put_list p longer ≡ put_list p s.seat.part ++ e ∷ [] =
+      laws.put size longer p t.lawful ∙ ap (put_list p) (laws.own t.older (store p (next_link p s.seat.place) (k + 1)))
+      ∙ ap (λ l. put_list p (store p (next_link p s.seat.place) (k + 1) ∷ l)) t.own ∙ grown in
+      let few = laws.few size longer p t.lawful in
+      let long : length (put_list p longer) ≡ length (put_list p s.seat.part) + 1 = ap length same ∙ length-append (put_list p s.seat.part) (e ∷ []) in
+      let count : length s.items ≡ length (put_list p s.seat.part) = ap length i.items ∙ length-map (put_list p s.seat.part) (λ (z : Entry). z.value) in
+      omega arith
+
+-- ---- other answers of an offer
+same_offer : (a b : Offer) → Some a ≡ Some b → a ≡ b
+same_offer a b e = cc
+
+refused_closed : (old : LaneSeatView) (x : ℕ) (now : LaneSeatView) (at : LaneStage) → OfferBy (stage_offer_refusal at) old x offer.Closed now
+    → (now ≡ old) × (stage_offer_refusal at ≡ Some offer.Closed)
+refused_closed old x now stage.Open m = absurd (by (nat_lt m.0 old.table.size.cells) m.1)
+  where
+    by : (b : Bool) → offer.Closed ≡ cond b (offer.Cell m.0) offer.Full → ⊥
+    by true f = absurd (cc)
+    by false f = absurd (cc)
+refused_closed old x now (stage.Offered c i) m = absurd (cc)
+refused_closed old x now (stage.Stored c) m = absurd (cc)
+refused_closed old x now stage.Full m = absurd (cc)
+refused_closed old x now (stage.Ended f) m = (m.1, refl)
+
+pub is_refused : (s : ProducerView) (x : ℕ) (now : LaneSeatView) → OfferMakes s.seat x offer.Closed now → now ≡ s.seat
+is_refused s x now m = (refused_closed s.seat x now s.seat.place.stage m).0
+
+pub is_closed : PutLaws → (s : ProducerView) (x : ℕ) (now : LaneSeatView) → HasPart s.seat → OfferMakes s.seat x offer.Closed now
+    → has_ended s.seat.lane s.seat.part ≡ true
+is_closed laws s x now h m =
+    let p = s.seat.lane in
+    let g = h.history.0 in
+    let place = subst (λ d. IsLaneAfter s.seat.table.size.cells p s.seat.place d) (sym h.history.2) h.place in
+    ap (has_ended p) (sym h.history.2) ∙ sym (laws.ended g p)
+    ∙ (laws.closed s.seat.table.size g p s.seat.place h.history.1 place).0 (refused_closed s.seat x now s.seat.place.stage m).1
+
+answered : (o : Option Offer) (r : Offer) (old : LaneSeatView) (x : ℕ) (answer : Offer) (now : LaneSeatView) → o ≡ Some r → OfferBy o old x answer now → answer ≡ r
+answered (Some q) r old x answer now e m = m.0 ∙ same_offer q r e
+answered None r old x answer now e m = absurd (cc)
+
+pub is_over : PutLaws → (s : ProducerView) (x : ℕ) (answer : Offer) (now : LaneSeatView) → HasPart s.seat → OfferMakes s.seat x answer now
+    → has_ended s.seat.lane s.seat.part ≡ true → answer ≡ offer.Closed
+is_over laws s x answer now h m over =
+    let p = s.seat.lane in
+    let g = h.history.0 in
+    let place = subst (λ d. IsLaneAfter s.seat.table.size.cells p s.seat.place d) (sym h.history.2) h.place in
+    answered (offer_refusal s.seat.place) offer.Closed s.seat x answer now
+    ((laws.closed s.seat.table.size g p s.seat.place h.history.1 place).1 (laws.ended g p ∙ ap (has_ended p) h.history.2 ∙ over)) m
+
+pub not_busy : (s : ProducerView) (x : ℕ) (now : LaneSeatView) → IsProducer s → OfferMakes s.seat x offer.Busy now → ⊥
+not_busy s x now i m = by s.seat.place.stage m i.idle
+  where
+    found : (n : ℕ) (b : Bool) → offer.Busy ≡ cond b (offer.Cell n) offer.Full → ⊥
+    found n true f = absurd (cc)
+    found n false f = absurd (cc)
+
+    by : (at : LaneStage) → OfferBy (stage_offer_refusal at) s.seat x offer.Busy now
+        → stage_push_store (next_link s.seat.lane s.seat.place) at ≡ None → ⊥
+    by stage.Open m e = found m.0 (nat_lt m.0 s.seat.table.size.cells) m.1
+    by (stage.Offered c j) m e = absurd (cc)
+    by (stage.Stored c) m e = absurd (cc)
+    by stage.Full m e = absurd (cc)
+    by (stage.Ended f) m e = absurd (cc)

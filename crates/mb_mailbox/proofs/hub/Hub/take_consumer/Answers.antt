@@ -1,0 +1,57 @@
+use Rattle.std.proofs.Common.{◌≡◌, ◌∙◌, ◌≤◌, None, Some, ℕ, ap, subst, sym}
+use Rattle.std.specs.Prelude.{slice_get, slice_set}
+use Rattle.mb_shared_cells.specs.Vocabulary.{CellHubView, CellsName, roll_with_part}
+use Rattle.mb_shared_claims.specs.Vocabulary.{HubView as ClaimHubView}
+use Rattle.mb_mailbox.specs.Below.{claims_at, name_of, Reader}
+use Rattle.mb_mailbox.specs.Consumers.{ConsumerView}
+use Rattle.mb_mailbox.specs.Mailboxes.{MailboxView}
+use Rattle.mb_mailbox.specs.Hubs.{HubView, IsHub, LedgerView, put_lists, with_taken_consumer}
+use Rattle.mb_mailbox.proofs.Made.{at_views, lists}
+use Rattle.mb_mailbox.proofs.HubMoves.{seat_is_out, took_consumer}
+use Rattle.mb_mailbox.proofs.hub.Hub.take_consumer.Goals as goal
+
+pub invariant_of-self : goal.invariant_of-self
+invariant_of-self g c =
+    let h : HubView = record {
+      cells = c.self.inside.cells;
+      claims = c.self.inside.claims;
+      puts = put_lists c.self.inside.puts.items;
+      ledgers = c.self.inside.ledgers.items;
+    } in
+    let s = at_views c.consumer.inside.reader c.consumer.inside.seat c.consumer.inside.places.items (lists c.consumer.inside.notes.items) in
+    let table : h.cells.table ≡ c.mailbox.inside.cells =
+    ap (λ (v : HubView). v.cells.table) c.self.view_is ∙ c.requires.hub.cells ∙ sym (ap (λ (m : MailboxView). m.cells) c.mailbox.view_is) in
+    let claims : h.claims.table ≡ name_of c.mailbox.inside.claims =
+    ap (λ (v : HubView). v.claims.table) c.self.view_is ∙ c.requires.hub.claims ∙ sym (ap (λ (m : MailboxView). name_of m.claims) c.mailbox.view_is) in
+    let cells : c.take_reader.new.hub ≡ (with_taken_consumer s h).cells =
+    c.take_reader.ensures.hub ∙ ap (λ (t : CellsName). record { table = t; roll = roll_with_part (Reader s.reader.reader) s.reader.part h.cells.roll }) (sym table) in
+    let seats : c.take_in.new.hub ≡ (with_taken_consumer s h).claims = c.take_in.ensures.hub in
+    let number : c.consumer-number.result ≡ s.seat.consumer = c.consumer-number.ensures.exact in
+    let l : LedgerView = record { places = s.places; notes = s.notes } in
+    let ledgers : slice_set h.ledgers c.consumer-number.result (Some l) ≡ slice_set h.ledgers s.seat.consumer (Some l) =
+    ap (λ (n : ℕ). slice_set h.ledgers n (Some l)) number in
+    let is : with_taken_consumer s h ≡ record {
+      cells = c.take_reader.new.hub;
+      claims = c.take_in.new.hub;
+      puts = h.puts;
+      ledgers = slice_set h.ledgers c.consumer-number.result (Some l);
+    } = λ j. record { cells = sym cells j; claims = sym seats j; puts = h.puts; ledgers = sym ledgers j } in
+    let same : s.seat.table ≡ h.claims.table =
+    ap (λ (v : ConsumerView). v.seat.table) c.consumer.view_is ∙ c.requires.consumer.claims ∙ sym (ap (λ (m : MailboxView). name_of m.claims) c.mailbox.view_is) ∙ sym claims in
+    let took = took_consumer h s c.self.invariant.0 c.consumer.invariant.0 same c.take_reader.ensures.was_out c.take_in.ensures.was_out in (
+      subst IsHub is took,
+      subst (λ (t : CellHubView). t.table.size.lanes ≤ c.self.inside.puts.cap) (sym cells) c.self.invariant.1,
+      subst (λ (t : ClaimHubView). (claims_at t.table).table.values ≤ c.self.inside.ledgers.cap) (sym seats) c.self.invariant.2,
+    )
+
+pub returns-clause-was_out : goal.returns-clause-was_out
+returns-clause-was_out g c =
+    let h : HubView = record {
+      cells = c.self.inside.cells;
+      claims = c.self.inside.claims;
+      puts = put_lists c.self.inside.puts.items;
+      ledgers = c.self.inside.ledgers.items;
+    } in
+    let s = at_views c.consumer.inside.reader c.consumer.inside.seat c.consumer.inside.places.items (lists c.consumer.inside.notes.items) in
+    subst (λ (z : HubView × ConsumerView). slice_get z.0.ledgers z.1.seat.consumer ≡ Some None) (λ j. (c.self.view_is j, c.consumer.view_is j))
+    (seat_is_out h s.seat.consumer c.self.invariant.0 c.take_in.ensures.was_out)

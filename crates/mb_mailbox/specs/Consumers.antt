@@ -1,0 +1,67 @@
+-- A consumer of a mailbox: what its two seats did, and where it stands on each lane.
+use Rattle.std.specs.Prelude.{ℕ, ◌≡◌, List, [], ◌∷◌, Some, None, length, reverse, slice_get}
+use Rattle.mb_mailbox.specs.Below.{Claim, Claims, Cursor, EndsAs, Fits, HasNotLeft, IsClaimIn, Layout, Note, Parts, ReaderSeatView, SeatView, TableSize, cells_met, claim_stage, claims_in, consumer_of, name_of, note_of, part_on, place_past, word_of}
+use Rattle.mb_mailbox.specs.Mailboxes.{MailboxView}
+use Rattle.mb_mailbox.specs.declared.place.Place.{Place}
+use Rattle.mb_mailbox.specs.declared.place.Place.TheVariants.{At, Before}
+
+-- its seat among the readers of the cells, its seat among the consumers of the claims, and for each lane where it stands
+-- there and its notes
+pub record ConsumerView : Type 0 where
+  pub reader : ReaderSeatView
+  pub seat : SeatView
+  pub places : List Place
+  pub notes : List (List Note)
+
+-- what it loaded from the cells, and what it did for its claims
+abbrev pub parts_of : ReaderSeatView → SeatView → Parts
+parts_of reader seat = record { reads = reader.part; claimed = λ k. part_on seat.consumer k seat.part }
+
+-- the claims on these cells (the last first) have ended with these notes
+abbrev pub AreEnds : Claims → ℕ → List ℕ → List Note → Parts → Type 0
+AreEnds cs c [] [] x = Unit {0}
+AreEnds cs c (k ∷ ks) (n ∷ ns) x = EndsAs cs c k n x × AreEnds cs c ks ns x
+AreEnds cs c _ _ x = ⊥
+
+-- it stands before the link of the last cell that it met on lane p, or before the lane's head, and has a note on each cell
+pub record IsBefore (cs : Claims) (c p : ℕ) (x : Parts) (notes : List Note) (at : Cursor) : Type 0 where
+  pub word : word_of at ≡ place_past p (cells_met p x.reads)
+  pub ended : AreEnds cs c (cells_met p x.reads) (reverse notes) x
+
+-- it holds a claim on the last cell that it met there, which has no note, and has one on each cell before
+pub record IsAt (layout : Layout) (cs : Claims) (c p : ℕ) (x : Parts) (notes : List Note) (k : ℕ) (claim : Claim)
+    : Type 0 where
+  pub cells : List ℕ
+  pub met : cells_met p x.reads ≡ k ∷ cells
+  pub ended : AreEnds cs c cells (reverse notes) x
+  pub own : consumer_of claim ≡ c
+  pub path : IsClaimIn layout claim (x.claimed k)
+  pub unnoted : note_of (claim_stage claim) ≡ None
+  pub left : HasNotLeft k x
+
+-- where consumer c stands on lane p, by its parts and its notes there
+abbrev pub StandsOn : Layout → Claims → ℕ → ℕ → Parts → List Note → Place → Type 0
+StandsOn layout cs c p x notes (Before at) = IsBefore cs c p x notes at
+StandsOn layout cs c p x notes (At k claim) = IsAt layout cs c p x notes k claim
+
+-- what each consumer keeps
+pub record IsConsumer (s : ConsumerView) : Type 0 where
+  -- the size of its tables
+  pub size : TableSize
+  pub table : s.seat.table.size ≡ Some size
+  -- its number is its reader's
+  pub same : s.reader.reader ≡ s.seat.consumer
+  -- its two parts fit each other
+  pub fit : Fits (claims_in size.layout size.cells) s.seat.consumer (parts_of s.reader s.seat)
+  -- and tell where it stands on each lane, and its notes there
+  pub places_count : length s.places ≡ s.reader.table.size.lanes
+  pub notes_count : length s.notes ≡ s.reader.table.size.lanes
+  pub lanes : (p : ℕ) (place : Place) (notes : List Note) → slice_get s.places p ≡ Some place
+      → slice_get s.notes p ≡ Some notes
+      → StandsOn size.layout (claims_in size.layout size.cells) s.seat.consumer p
+      (parts_of s.reader s.seat) notes place
+
+-- the consumer is one of the mailbox
+pub record IsConsumerOf (m : MailboxView) (s : ConsumerView) : Type 0 where
+  pub cells : s.reader.table ≡ m.cells
+  pub claims : s.seat.table ≡ name_of m.claims

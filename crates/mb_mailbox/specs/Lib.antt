@@ -1,0 +1,10 @@
+pub mod Below
+pub mod Mailboxes
+pub mod Consumers
+pub mod Steps
+pub mod NoteLists
+pub mod Moves
+pub mod Producers
+pub mod PartPlaces
+pub mod Hubs
+pub mod NewConsumers

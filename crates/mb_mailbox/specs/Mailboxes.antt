@@ -1,0 +1,17 @@
+-- A mailbox: its two tables.
+use Rattle.std.specs.Prelude.{◌≡◌, ◌≤◌}
+use Rattle.mb_mailbox.specs.Below.{CellsName, Plan, TableView, claims_in}
+
+-- the table of the cells, and that of the claims on them
+pub record MailboxView : Type 0 where
+  pub cells : CellsName
+  pub claims : TableView
+
+-- the claims are on the cells, and there are at most 16 lanes
+pub record IsMailbox (m : MailboxView) : Type 0 where
+  pub cells : m.claims.cells ≡ m.cells.size.cells
+  pub lanes : m.cells.size.lanes ≤ 16
+
+-- what the mailbox is made of
+abbrev pub plan_at : MailboxView → Plan
+plan_at m = record { claims = claims_in m.claims.layout m.claims.cells; lanes = m.cells.size.lanes }

@@ -1,0 +1,35 @@
+-- How a consumer moves on by one access.
+use Rattle.std.specs.Prelude.{ℕ, ◌≡◌, List, ◌∷◌, Option, Some, slice_get, slice_set}
+use Rattle.mb_shared_cells.specs.Vocabulary.{HasHistory}
+use Rattle.mb_mailbox.specs.Below.{Claim, ClaimAccess, History, IsClaimIn, Item, Note, ObjectTurn, Reader, TableSize, load, word_of, Cursor}
+use Rattle.mb_mailbox.specs.Consumers.{ConsumerView}
+use Rattle.mb_mailbox.specs.Steps.{with_note}
+use Rattle.mb_mailbox.specs.declared.place.Place.{Place}
+
+-- it stands at this place on lane p
+abbrev pub HasPlace : ℕ → Place → ConsumerView → Type 0
+HasPlace p place s = slice_get s.places p ≡ Some place
+
+-- some lawful history of the cells has its loads
+abbrev pub HasLoads : ConsumerView → Type 0
+HasLoads s = HasHistory s.reader.table.size (Reader s.reader.reader) s.reader.part
+
+-- the claim has made these turns
+abbrev pub HasTurns : ConsumerView → Claim → List ObjectTurn → Type 0
+HasTurns s claim xs = (size : TableSize) → s.seat.table.size ≡ Some size → IsClaimIn size.layout claim xs
+
+-- the consumer with these parts, at this place on lane p, with one note more there, if there is one
+abbrev pub moved_to : ℕ → Place → Option Note → History → List ClaimAccess → ConsumerView → ConsumerView
+moved_to p place note reads made s = record {
+  reader = record s.reader { part = reads };
+  seat = record s.seat { part = made };
+  places = slice_set s.places p place;
+  notes = with_note p note s.notes;
+}
+
+-- its load of the link at a cursor, and that of an item
+abbrev pub link_load : ConsumerView → Cursor → ℕ → History
+link_load s at v = load s.reader.reader (word_of at) v ∷ s.reader.part
+
+abbrev pub item_load : ConsumerView → ℕ → ℕ → History
+item_load s k v = load s.reader.reader (Item k) v ∷ s.reader.part

@@ -1,0 +1,220 @@
+//! The hub of a mailbox, which gives producers and consumers and takes them in.
+ghost use Rattle.std.specs.Prelude.{◌≤◌, IfOk};
+ghost use Rattle.mb_mailbox.specs.NewConsumers.{AreEmptyLists, AreHeads};
+
+use crate::consumer::Consumer;
+use crate::mailbox::Mailbox;
+use crate::place::Place;
+use crate::producer::Producer;
+use arrayvec::ArrayVec;
+use mb_cells::{Cursor, NoMemory};
+use mb_shared_cells::CellHub;
+use mb_shared_claims::ClaimHub;
+use mb_world::Note;
+use mb_world::steps::parts_fit_on;
+use std::alloc::Allocator;
+use std::marker::Model;
+
+/// Why no producer or consumer was given.
+#[derive(Clone, Copy, PartialEq, Eq, Debug)]
+pub enum HubFault {
+    /// All numbers of the setup were given.
+    AllGiven,
+    /// The allocator refused the memory that it needs.
+    NoMemory,
+}
+
+/// What is kept of a consumer that was taken in.
+#[derive(Drop)]
+pub(crate) struct Ledger<A: Allocator + Drop> {
+    pub(crate) places: ArrayVec<Place, 16>,
+    pub(crate) notes: Vec<Vec<Note, A>, A>,
+}
+
+impl<A: Allocator + Drop> Model for Ledger<A> {
+    ghost use Rattle.std.specs.Prelude.{map};
+    ghost use Rattle.mb_mailbox.specs.Hubs.{LedgerView};
+
+    ghost Value = { LedgerView };
+
+    ghost view = { λ l. record { places = l.places.items; notes = map (λ v. v.items) l.notes.items } };
+}
+
+/// The one that gives producers and consumers by their numbers, and takes them in.
+#[derive(Drop)]
+pub struct Hub<A: Allocator + Drop> {
+    pub(crate) cells: CellHub,
+    pub(crate) claims: ClaimHub,
+    pub(crate) puts: Vec<Option<Vec<u64, A>>, A>,
+    pub(crate) ledgers: Vec<Option<Ledger<A>>, A>,
+}
+
+impl<A: Allocator + Drop> Model for Hub<A> {
+    ghost use Rattle.std.specs.Prelude.{◌≡◌, ◌≤◌, vec_capacity};
+    ghost use Rattle.mb_mailbox.specs.Below.{claims_at};
+    ghost use Rattle.mb_mailbox.specs.Hubs.{HubView, IsHub, put_lists};
+
+    ghost Value = { HubView };
+
+    ghost view = { λ h. record {
+      cells = h.cells;
+      claims = h.claims;
+      puts = put_lists h.puts.items;
+      ledgers = h.ledgers.items;
+    } };
+
+    ghost invariant = { λ h. IsHub (record {
+      cells = h.cells;
+      claims = h.claims;
+      puts = put_lists h.puts.items;
+      ledgers = h.ledgers.items;
+    })
+        × (h.cells.table.size.lanes ≤ vec_capacity h.puts)
+        × ((claims_at h.claims.table).table.values ≤ vec_capacity h.ledgers) };
+}
+
+impl<A: Allocator + Drop> Hub<A> {
+    ghost use Rattle.std.specs.Prelude.{◌≡◌, ◌↔◌, ◌≤◌, Err, IfOk, None, OnErr, Some, length, slice_get};
+    ghost use Rattle.mb_mailbox.specs.declared.hub.HubFault.TheVariants.{AllGiven};
+    ghost use Rattle.mb_mailbox.specs.Below.{consumer_count};
+    ghost use Rattle.mb_mailbox.specs.Consumers.{IsConsumerOf};
+    ghost use Rattle.mb_mailbox.specs.Hubs.{IsHubOf, IsNewConsumer, new_producer, with_consumer, with_producer};
+    ghost use Rattle.mb_mailbox.specs.Hubs.{with_taken_consumer, with_taken_producer};
+    ghost use Rattle.mb_mailbox.specs.Producers.{IsProducerOf};
+
+    /// The producer of the next lane, which has put nothing. Numbers are given in order, from 0 on.
+    /// [`HubFault::AllGiven`] comes exactly where each lane of the mailbox was given, and is decided first.
+    pub fn producer<B: Allocator + Drop>(
+        &mut self,
+        alloc: A,
+        mailbox: &Mailbox<B>,
+    ) -> Result<Producer<A>, HubFault>
+        requires of { IsHubOf mailbox.now self.old }
+        ensures all_given { (result ≡ Err AllGiven) ↔ (mailbox.now.cells.size.lanes ≤ length self.old.puts) }
+        ensures producer { IfOk result (λ given. given ≡ new_producer mailbox.now (length self.old.puts)) }
+        ensures hub { IfOk result (λ _. self.new ≡ with_producer self.old) }
+        ensures refused { OnErr result (self.new ≡ self.old) }
+    {
+        if self.puts.len() >= mailbox.lanes as usize {
+            return Err(HubFault::AllGiven);
+        }
+        let Ok(items) = Vec::with_capacity(alloc, mailbox.claims.cells() as usize) else {
+            return Err(HubFault::NoMemory);
+        };
+        let Ok(seat) = mailbox.cells.enroll_lane(&mut self.cells) else {
+            unreachable!()
+        };
+        self.puts.push_reserved(None);
+        Ok(Producer { seat, items })
+    }
+
+    /// Takes a producer in: its part and its items are the hub's then, as they are.
+    pub fn take_producer<B: Allocator + Drop>(
+        &mut self,
+        mailbox: &Mailbox<B>,
+        producer: Producer<A>,
+    )
+        requires hub { IsHubOf mailbox.now self.old }
+        requires producer { IsProducerOf mailbox.now producer }
+        ensures was_out { slice_get self.old.puts producer.seat.lane ≡ Some None }
+        ensures hub { self.new ≡ with_taken_producer producer self.old }
+    {
+        let Producer { seat, items } = producer;
+        let lane = seat.lane();
+        mailbox.cells.take_lane(&mut self.cells, seat);
+        self.puts[lane as usize] = Some(items);
+    }
+    /// Takes a consumer in: its parts, its places and its notes are the hub's then, as they are.
+    pub fn take_consumer<B: Allocator + Drop>(
+        &mut self,
+        mailbox: &Mailbox<B>,
+        consumer: Consumer<A>,
+    )
+        requires hub { IsHubOf mailbox.now self.old }
+        requires consumer { IsConsumerOf mailbox.now consumer }
+        ensures was_out { slice_get self.old.ledgers consumer.seat.consumer ≡ Some None }
+        ensures hub { self.new ≡ with_taken_consumer consumer self.old }
+    {
+        let Consumer {
+            reader,
+            seat,
+            places,
+            notes,
+        } = consumer;
+        let number = seat.consumer();
+        mailbox.cells.take_reader(&mut self.cells, reader);
+        mailbox.claims.take_in(&mut self.claims, seat);
+        self.ledgers[number as usize] = Some(Ledger { places, notes });
+    }
+}
+
+impl<A: Allocator + Clone + Drop> Hub<A> {
+    ghost use Rattle.std.specs.Prelude.{◌≡◌, ◌↔◌, ◌≤◌, Err, IfOk, OnErr, length};
+    ghost use Rattle.mb_mailbox.specs.declared.hub.HubFault.TheVariants.{AllGiven};
+    ghost use Rattle.mb_mailbox.specs.Below.{consumer_count};
+    ghost use Rattle.mb_mailbox.specs.Hubs.{IsHubOf, IsNewConsumer, with_consumer};
+
+    /// The consumer of the next number, which has done nothing. Numbers are given in order, from 0 on.
+    /// [`HubFault::AllGiven`] comes exactly where all numbers of the mailbox were given, and is decided first.
+    pub fn consumer<B: Allocator + Drop>(
+        &mut self,
+        alloc: A,
+        mailbox: &Mailbox<B>,
+    ) -> Result<Consumer<A>, HubFault>
+        requires of { IsHubOf mailbox.now self.old }
+        ensures all_given { (result ≡ Err AllGiven) ↔ (consumer_count mailbox.now.claims.layout ≤ length self.old.ledgers) }
+        ensures consumer { IfOk result (λ given. IsNewConsumer mailbox.now self.old given) }
+        ensures hub { IfOk result (λ _. self.new ≡ with_consumer self.old) }
+        ensures refused { OnErr result (self.new ≡ self.old) }
+    {
+        parts_fit_on();
+        if self.ledgers.len() >= mailbox.claims.layout().consumers() as usize {
+            return Err(HubFault::AllGiven);
+        }
+        let Ok(notes) = empty_lists(
+            alloc,
+            mailbox.lanes as usize,
+            mailbox.claims.cells() as usize,
+        ) else {
+            return Err(HubFault::NoMemory);
+        };
+        let Ok(seat) = mailbox.claims.enroll(&mut self.claims) else {
+            unreachable!()
+        };
+        let reader = mailbox.cells.enroll_reader(&mut self.cells);
+        self.ledgers.push_reserved(None);
+        Ok(Consumer {
+            reader,
+            seat,
+            places: before_heads(mailbox.lanes),
+            notes,
+        })
+    }
+}
+
+/// The places of a consumer that has done nothing: before the head of each lane.
+fn before_heads(lanes: u32) -> ArrayVec<Place, 16>
+    requires { lanes ≤ 16 }
+    ensures { AreHeads lanes result.items }
+{
+    let mut places = ArrayVec::new();
+    for p in 0..lanes {
+        places.push(Place::Before(Cursor::head(p)));
+    }
+    places
+}
+
+/// So many empty lists of notes, each with room for as many notes as there are cells.
+fn empty_lists<A: Allocator + Clone + Drop>(
+    alloc: A,
+    lanes: usize,
+    cells: usize,
+) -> Result<Vec<Vec<Note, A>, A>, NoMemory>
+    ensures { IfOk result (λ lists. AreEmptyLists lanes cells lists.items) }
+{
+    let mut lists = Vec::with_capacity(alloc.clone()?, lanes)?;
+    for p in 0..lanes {
+        lists.push(Vec::with_capacity(alloc.clone()?, cells)?)?;
+    }
+    Ok(lists)
+}

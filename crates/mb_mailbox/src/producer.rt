@@ -1,0 +1,86 @@
+//! A producer of a mailbox.
+mod moving;
+
+use crate::mailbox::Mailbox;
+use mb_cells::{Finish, Offer};
+use mb_shared_cells::LaneSeat;
+use moving::producers_move_on;
+use std::alloc::Allocator;
+use std::marker::Model;
+
+/// What a put comes to.
+#[derive(Clone, Copy, PartialEq, Eq, Debug)]
+pub enum Put {
+    /// The item was linked: it is the last of the lane.
+    Linked,
+    /// No cell was left for the item.
+    Full,
+    /// The lane has ended.
+    Closed,
+}
+
+/// A producer: the seat of its lane, and the items that it put.
+#[derive(Drop)]
+pub struct Producer<A: Allocator + Drop> {
+    pub(crate) seat: LaneSeat,
+    pub(crate) items: Vec<u64, A>,
+}
+
+impl<A: Allocator + Drop> Model for Producer<A> {
+    ghost use Rattle.std.specs.Prelude.{◌≤◌, vec_capacity};
+    ghost use Rattle.mb_mailbox.specs.Producers.{IsProducer, ProducerView};
+
+    ghost Value = { ProducerView };
+
+    ghost view = { λ p. record { seat = p.seat; items = p.items.items } };
+
+    ghost invariant = { λ p. IsProducer (record { seat = p.seat; items = p.items.items })
+        × (p.seat.table.size.cells ≤ vec_capacity p.items) };
+}
+
+impl<A: Allocator + Drop> Producer<A> {
+    ghost use Rattle.std.specs.Prelude.{◌≡◌, ◌↔◌, ℕ, true};
+    ghost use Rattle.mb_cells.specs.declared.answer.Finish.TheVariants as finish;
+    ghost use Rattle.mb_mailbox.specs.declared.producer.Put.TheVariants.{Closed, Full, Linked};
+    ghost use Rattle.mb_mailbox.specs.Below.{has_ended};
+    ghost use Rattle.mb_mailbox.specs.Producers.{IsFinished, IsFull, IsLinked, IsProducerOf};
+
+    /// Puts an item at the end of the lane: takes a cell, stores the item there, and links the cell.
+    pub fn put<B: Allocator + Drop>(&mut self, mailbox: &Mailbox<B>, x: u64) -> Put
+        requires of { IsProducerOf mailbox.now self.old }
+        ensures linked { result ≡ Linked → (k : ℕ) × IsLinked k x self.old self.new }
+        ensures full { result ≡ Full → IsFull x self.old self.new }
+        ensures closed { (result ≡ Closed) ↔ (has_ended self.old.seat.lane self.old.seat.part ≡ true) }
+        ensures closed_same { result ≡ Closed → self.new ≡ self.old }
+        ensures of { IsProducerOf mailbox.now self.new }
+    {
+        producers_move_on();
+        self.seat.has_history();
+        match mailbox.cells.offer(&mut self.seat, x) {
+            Offer::Cell(_) => {
+                mailbox.cells.push(&mut self.seat);
+                mailbox.cells.push(&mut self.seat);
+                self.items.push_reserved(x);
+                Put::Linked
+            }
+            Offer::Full => Put::Full,
+            Offer::Closed => Put::Closed,
+            Offer::Busy => unreachable!(),
+        }
+    }
+
+    /// Ends the lane: no item comes after those that it has. It answers `Ended`, or `Closed` where the lane has ended, and
+    /// never `Busy`, since each item put is linked.
+    pub fn finish<B: Allocator + Drop>(&mut self, mailbox: &Mailbox<B>) -> Finish
+        requires of { IsProducerOf mailbox.now self.old }
+        ensures ended { result ≡ finish.Ended → IsFinished self.old self.new }
+        ensures closed { (result ≡ finish.Closed)
+            ↔ (has_ended self.old.seat.lane self.old.seat.part ≡ true) }
+        ensures closed_same { result ≡ finish.Closed → self.new ≡ self.old }
+        ensures of { IsProducerOf mailbox.now self.new }
+    {
+        producers_move_on();
+        self.seat.has_history();
+        mailbox.cells.finish(&mut self.seat)
+    }
+}
