@@ -19,10 +19,18 @@ PROGRAM = TOP / "crates" / "mailbox_bench" / "out" / "mailbox_bench"
 BY_HAND = pathlib.Path(tempfile.gettempdir()) / "mailbox_bench_by_hand"
 
 # How often a shape is done at either size.
-SIZES = {"words": (2, 6), "lone": (4, 12), "contended": (2, 6), "mail": (2, 6), "play": (100, 300), "ratify": (1, 3)}
-UNITS = {"lone": "an access", "contended": "an access", "mail": "an item", "play": "a step", "ratify": "a turn"}
-# These make words at each time, which are no part of their units.
-LESS_WORDS = ("lone", "contended")
+SIZES = {
+    "words": (2, 6), "lone": (4, 12), "contended": (2, 6), "tables": (4, 12), "shared": (4, 12), "mail": (2, 6),
+    "play": (100, 300), "ratify": (1, 3), "worlds": (1, 3), "events": (1, 3), "reports": (1, 3),
+}
+UNITS = {
+    "lone": "an access", "contended": "an access", "shared": "an access", "mail": "an item", "play": "a step",
+    "ratify": "a turn", "events": "an event", "reports": "a note",
+}
+# What these make at each time, words, tables or a world, is no part of their units.
+LESS = {"lone": "words", "contended": "words", "shared": "tables", "events": "worlds"}
+# These have no loop by hand.
+ALONE = ("events", "reports")
 
 
 def build():
@@ -50,22 +58,22 @@ def difference(program, shape, table, consumers):
 
 
 def row(shape, table, consumers):
-    """What a unit of the shape takes, by the libraries and by hand."""
+    """What a unit of the shape takes, by the libraries and, where there is such a loop, by hand."""
     taken, lines = [], []
-    for program in (PROGRAM, BY_HAND):
+    for program in (PROGRAM,) if shape in ALONE else (PROGRAM, BY_HAND):
         instructions, units, line = difference(program, shape, table, consumers)
-        if shape in LESS_WORDS:
-            instructions -= difference(program, "words", table, consumers)[0]
+        if shape in LESS:
+            instructions -= difference(program, LESS[shape], table, consumers)[0]
         taken.append(instructions / units)
         lines.append(line)
-    if lines[0] != lines[1]:
-        sys.exit(f"the programs differ:\n{lines[0]}{lines[1]}")
+    if lines[0] != lines[-1]:
+        sys.exit(f"the programs differ:\n{lines[0]}{lines[-1]}")
     return taken
 
 
 def main():
     parser = argparse.ArgumentParser()
-    parser.add_argument("--shapes", default="lone,contended,mail,play,ratify")
+    parser.add_argument("--shapes", default="lone,contended,shared,mail,play,ratify")
     parser.add_argument("--tables", default="bits,unary")
     parser.add_argument("--consumers", default="1,2,4,16")
     parser.add_argument("--keep", action="store_true")
@@ -79,9 +87,9 @@ def main():
     for shape in options.shapes.split(","):
         for table in options.tables.split(","):
             for consumers in options.consumers.split(","):
-                ours, hand = row(shape, table, int(consumers))
-                name = f"{shape}, {UNITS[shape]}"
-                print(f"| {name} | {table} | {consumers} | {ours:.1f} | {hand:.1f} | {ours / hand:.2f} |", flush=True)
+                ours, *hand = row(shape, table, int(consumers))
+                beside = f"{hand[0]:.1f} | {ours / hand[0]:.2f}" if hand else "- | -"
+                print(f"| {shape}, {UNITS[shape]} | {table} | {consumers} | {ours:.1f} | {beside} |", flush=True)
 
 
 if __name__ == "__main__":

@@ -1,6 +1,38 @@
 //! The claim of one consumer on one cell, an access at a time.
 
 use crate::layout::Layout;
+use std::sync::atomic::AtomicU64;
+use std::sync::atomic::Ordering::SeqCst;
+
+/// Words in which a claim makes its accesses: those of one thread, or of many.
+pub trait Words {
+    fn load(&self, at: usize) -> u64;
+    fn store(&mut self, at: usize, value: u64);
+}
+
+impl Words for [u64] {
+    #[inline]
+    fn load(&self, at: usize) -> u64 {
+        self[at]
+    }
+
+    #[inline]
+    fn store(&mut self, at: usize, value: u64) {
+        self[at] = value
+    }
+}
+
+impl Words for &[AtomicU64] {
+    #[inline]
+    fn load(&self, at: usize) -> u64 {
+        self[at].load(SeqCst)
+    }
+
+    #[inline]
+    fn store(&mut self, at: usize, value: u64) {
+        self[at].store(value, SeqCst)
+    }
+}
 
 /// How far a claim has come.
 #[derive(Clone, Copy, PartialEq, Eq, Debug)]
@@ -47,11 +79,11 @@ impl Claim {
 
     /// One access, with its random word.
     #[inline]
-    pub fn step(&mut self, layout: &Layout, words: &mut [u64], cell: usize, word: u64) -> Stage {
+    pub fn step<W: Words + ?Sized>(&mut self, layout: &Layout, words: &mut W, cell: usize, word: u64) -> Stage {
         let base = cell * layout.cell_words + self.pair as usize * layout.pair_words;
         match self.place {
             Place::Look { limit } => {
-                let seen = words[base];
+                let seen = words.load(base);
                 if seen != 0 {
                     self.announce(layout, (seen - 1) as u32)
                 } else if word & (layout.modulus - 1) < limit {
@@ -61,20 +93,20 @@ impl Claim {
                 }
             }
             Place::Write => {
-                words[base] = u64::from(self.value) + 1;
+                words.store(base, u64::from(self.value) + 1);
                 self.place = Place::Again
             }
             Place::Again => {
-                let seen = words[base];
+                let seen = words.load(base);
                 self.announce(layout, (seen - 1) as u32)
             }
             Place::Announce { left } => {
-                words[base + 2 + left.trailing_zeros() as usize] = 1;
+                words.store(base + 2 + left.trailing_zeros() as usize, 1);
                 let left = left & (left - 1);
                 self.place = if left == 0 { Place::Propose } else { Place::Announce { left } }
             }
             Place::Propose => {
-                let seen = words[base + 1];
+                let seen = words.load(base + 1);
                 if seen == 0 {
                     self.place = Place::SetProposal
                 } else {
@@ -83,11 +115,11 @@ impl Claim {
                 }
             }
             Place::SetProposal => {
-                words[base + 1] = u64::from(self.value) + 1;
+                words.store(base + 1, u64::from(self.value) + 1);
                 self.check(layout.read[self.value as usize], self.value)
             }
             Place::Check { left, preference } => {
-                if words[base + 2 + left.trailing_zeros() as usize] != 0 {
+                if words.load(base + 2 + left.trailing_zeros() as usize) != 0 {
                     self.pass(layout, preference)
                 } else {
                     self.check(left & (left - 1), preference)

@@ -1,5 +1,7 @@
 //! Where the words of a cell lie, and the quorums of each value as masks.
 
+use std::sync::atomic::AtomicU64;
+
 /// The cells of a block of words, and of a mailbox.
 pub const CELLS: usize = 256;
 
@@ -47,5 +49,10 @@ impl Layout {
     /// The words of all cells, empty.
     pub fn words(&self) -> Vec<u64> {
         vec![0; CELLS * self.cell_words]
+    }
+
+    /// The same for threads to share.
+    pub fn atomic_words(&self) -> Vec<AtomicU64> {
+        (0..CELLS * self.cell_words).map(|_| AtomicU64::new(0)).collect()
     }
 }

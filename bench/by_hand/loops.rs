@@ -1,6 +1,6 @@
 //! Claims in loops: alone, and contended.
 
-use crate::claim::{Claim, Stage};
+use crate::claim::{Claim, Stage, Words};
 use crate::layout::{CELLS, Layout};
 use crate::source::Source;
 use std::fmt;
@@ -45,7 +45,7 @@ pub fn lone(layout: &Layout, times: u64) -> Count {
         let mut words = layout.words();
         let mut consumer = 0;
         for cell in 0..CELLS {
-            let (accesses, stage) = claim_cell(layout, &mut words, consumer, cell, &mut source);
+            let (accesses, stage) = claim_cell(layout, &mut words[..], consumer, cell, &mut source);
             count.add(accesses, stage);
             consumer += 1;
             if consumer == layout.consumers {
@@ -58,7 +58,13 @@ pub fn lone(layout: &Layout, times: u64) -> Count {
 
 /// A claim to its end: its accesses, and how it ended.
 #[inline]
-pub fn claim_cell(layout: &Layout, words: &mut [u64], consumer: u32, cell: usize, source: &mut Source) -> (u64, Stage) {
+pub fn claim_cell<W: Words + ?Sized>(
+    layout: &Layout,
+    words: &mut W,
+    consumer: u32,
+    cell: usize,
+    source: &mut Source,
+) -> (u64, Stage) {
     let mut claim = Claim::new(consumer);
     let mut made = 0;
     loop {
@@ -68,6 +74,31 @@ pub fn claim_cell(layout: &Layout, words: &mut [u64], consumer: u32, cell: usize
             return (made, stage);
         }
     }
+}
+
+/// So many times, the words that threads can share, alone.
+pub fn tables_alone(layout: &Layout, times: u64) -> u64 {
+    let mut made = 0;
+    for _ in 0..times {
+        black_box(layout.atomic_words());
+        made += 1
+    }
+    made
+}
+
+/// So many times, one claim on each cell, all of the first consumer, on words that threads can share.
+pub fn shared(layout: &Layout, times: u64) -> Count {
+    let mut source = Source::new();
+    let mut count = Count { accesses: 0, won: 0 };
+    for _ in 0..times {
+        let words = layout.atomic_words();
+        let consumer = black_box(0);
+        for cell in 0..CELLS {
+            let (accesses, stage) = claim_cell(layout, &mut &words[..], consumer, cell, &mut source);
+            count.add(accesses, stage)
+        }
+    }
+    count
 }
 
 /// So many times, the claims of all consumers on each cell, a step each in turn.

@@ -21,7 +21,7 @@ const PAIRS: usize = 4;
 fn main() {
     let words: Vec<String> = std::env::args().skip(1).collect();
     let [shape, table, consumers, times] = &words[..] else {
-        eprintln!("usage: by_hand words|lone|contended|mail|play|ratify bits|unary CONSUMERS TIMES");
+        eprintln!("usage: by_hand words|lone|contended|tables|shared|mail|play|ratify bits|unary CONSUMERS TIMES");
         std::process::exit(2);
     };
     let number = |text: &String| text.parse::<u64>().expect("a number");
@@ -32,6 +32,8 @@ fn main() {
         "words" => format!("{} words", loops::words_alone(&layout, times)),
         "lone" => loops::lone(&layout, times).to_string(),
         "contended" => loops::contended(&layout, times).to_string(),
+        "tables" => format!("{} tables", loops::tables_alone(&layout, times)),
+        "shared" => loops::shared(&layout, times).to_string(),
         "mail" => mail::mail(&layout, times).to_string(),
         "play" => play::plays(&layout, times).to_string(),
         "ratify" => ratify::ratifiers(&layout, times).to_string(),

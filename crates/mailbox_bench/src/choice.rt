@@ -4,7 +4,7 @@ use mb_quorum::TableName;
 use std::fmt;
 
 /// How many pairs of objects each cell has.
-const PAIRS: u64 = 4;
+pub const PAIRS: u64 = 4;
 
 /// What is done so many times.
 #[derive(Clone, Copy, PartialEq, Eq, Debug)]
@@ -15,26 +15,41 @@ pub enum Shape {
     Lone,
     /// The claims of all consumers on each cell.
     Contended,
+    /// A table that threads can share is made, with a seat, and nothing else.
+    Tables,
+    /// One claim on each cell of such a table.
+    Shared,
     /// A mailbox, filled and then read by each consumer.
     Mail,
     /// A play of all consumers on one cell.
     Play,
     /// A run of one ratifier.
     Ratify,
+    /// New worlds of one lane, and nothing else.
+    Worlds,
+    /// The events of a world: a lane is filled and then read by all consumers.
+    Events,
+    /// The report of a world with as many lanes and cells as there may be, and a note at each place.
+    Reports,
 }
 
 /// All shapes.
-pub const SHAPES: [Shape; 6] = [
+pub const SHAPES: [Shape; 11] = [
     Shape::Words,
     Shape::Lone,
     Shape::Contended,
+    Shape::Tables,
+    Shape::Shared,
     Shape::Mail,
     Shape::Play,
     Shape::Ratify,
+    Shape::Worlds,
+    Shape::Events,
+    Shape::Reports,
 ];
 
 /// A shape with its table, its consumers, and how often it is done.
-#[derive(Clone, Copy, Debug)]
+#[derive(Debug, Drop)]
 pub struct Choice {
     /// What is done.
     pub shape: Shape,
@@ -81,9 +96,14 @@ impl fmt::Display for Choice {
             Shape::Words => "words",
             Shape::Lone => "lone",
             Shape::Contended => "contended",
+            Shape::Tables => "tables",
+            Shape::Shared => "shared",
             Shape::Mail => "mail",
             Shape::Play => "play",
             Shape::Ratify => "ratify",
+            Shape::Worlds => "worlds",
+            Shape::Events => "events",
+            Shape::Reports => "reports",
         };
         let name = match self.name {
             TableName::Unary => "unary",
@@ -101,9 +121,14 @@ fn shape_of(text: &str) -> Option<Shape> {
         "words" => Some(Shape::Words),
         "lone" => Some(Shape::Lone),
         "contended" => Some(Shape::Contended),
+        "tables" => Some(Shape::Tables),
+        "shared" => Some(Shape::Shared),
         "mail" => Some(Shape::Mail),
         "play" => Some(Shape::Play),
         "ratify" => Some(Shape::Ratify),
+        "worlds" => Some(Shape::Worlds),
+        "events" => Some(Shape::Events),
+        "reports" => Some(Shape::Reports),
         _ => None,
     }
 }

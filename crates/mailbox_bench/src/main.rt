@@ -14,8 +14,10 @@ pub mod lone;
 pub mod mail;
 pub mod run;
 pub mod schedules;
+pub mod shared;
 pub mod source;
 pub mod step;
+pub mod world;
 
 use choice::Choice;
 use run::{run, run_all};
@@ -33,9 +35,7 @@ fn main(rt: HostRuntime) -> io::Result<ExitCode> {
         return Ok(ExitCode::SUCCESS);
     }
     let Some(choice) = Choice::of(words) else {
-        eprintln!(rt;
-            "usage: mailbox_bench [words|lone|contended|mail|play|ratify bits|unary CONSUMERS TIMES]"
-        )?;
+        eprintln!(rt; "usage: mailbox_bench [SHAPE bits|unary CONSUMERS TIMES]")?;
         return Ok(ExitCode::from(REFUSED));
     };
     run(&rt, &choice)?;

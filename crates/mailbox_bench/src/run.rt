@@ -4,6 +4,8 @@ use crate::contended::contended;
 use crate::lone::{lone, words_alone};
 use crate::mail::mail;
 use crate::schedules::{plays, ratifiers};
+use crate::shared::{shared, tables_alone};
+use crate::world::{events, reports, worlds_alone};
 use std::io;
 
 /// Each shape once.
@@ -34,6 +36,14 @@ pub fn run<R: Print + AllocGlobal>(rt: &R, choice: &Choice) -> io::Result<()> {
             let count = contended(alloc, layout, times)?;
             println!(rt; "{choice}: {count}")
         }
+        Shape::Tables => {
+            let made = tables_alone(alloc, layout, times)?;
+            println!(rt; "{choice}: {made} tables")
+        }
+        Shape::Shared => {
+            let count = shared(alloc, layout, times)?;
+            println!(rt; "{choice}: {count}")
+        }
         Shape::Mail => {
             let post = mail(alloc, layout, times)?;
             println!(rt; "{choice}: {post}")
@@ -45,6 +55,18 @@ pub fn run<R: Print + AllocGlobal>(rt: &R, choice: &Choice) -> io::Result<()> {
         Shape::Ratify => {
             let runs = ratifiers(alloc, layout, choice.name, times)?;
             println!(rt; "{choice}: {runs}")
+        }
+        Shape::Worlds => {
+            let made = worlds_alone(alloc, choice)?;
+            println!(rt; "{choice}: {made} worlds")
+        }
+        Shape::Events => {
+            let deeds = events(alloc, choice)?;
+            println!(rt; "{choice}: {deeds}")
+        }
+        Shape::Reports => {
+            let told = reports(alloc, choice)?;
+            println!(rt; "{choice}: {told} notes")
         }
     }
 }

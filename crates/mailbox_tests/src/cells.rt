@@ -1,6 +1,7 @@
 //! A pool of linked cells.
 ghost use Rattle.std.specs.Prelude.{◌≡◌, ◌<◌, ℕ, List, ◌∷◌, OnOk};
-ghost use Rattle.mb_cells.specs.Vocabulary.{Call, Finished, HasMade, Offered, PoolSize, Pushed, SameSize};
+ghost use Rattle.mb_cells.specs.Vocabulary.{Call, Finished, HasMade, Offered, Pushed, SameSize};
+ghost use Rattle.mb_cells.specs.declared.size.PoolSize.{PoolSize};
 ghost use Rattle.mb_cells.specs.Vocabulary.{cell_count, lane_count};
 
 use crate::heaps::refusals;

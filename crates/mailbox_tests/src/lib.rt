@@ -2,13 +2,19 @@
 #![tactic(auto)]
 
 #[cfg(test)]
+mod answers;
+#[cfg(test)]
 mod cells;
 #[cfg(test)]
 mod claims;
 #[cfg(test)]
 mod conciliators;
 #[cfg(test)]
+mod devices;
+#[cfg(test)]
 mod entries;
+#[cfg(test)]
+mod events;
 #[cfg(test)]
 mod heaps;
 #[cfg(test)]
@@ -20,6 +26,14 @@ mod ratifiers;
 #[cfg(test)]
 mod refused_memory;
 #[cfg(test)]
+mod scripts;
+#[cfg(test)]
+mod shared_cells;
+#[cfg(test)]
+mod shared_claims;
+#[cfg(test)]
 mod tables;
 #[cfg(test)]
 mod texts;
+#[cfg(test)]
+mod worlds;

@@ -3,12 +3,21 @@
 use mb_claim::{BadLayout, PlayFault};
 use mb_deciding::Fault;
 use mb_quorum::BadValues;
+use mb_shared_claims::AllGiven;
+use mb_world::SetupFault;
 use std::test::Fail;
 
 #[test]
 fn text_of_bad_values(rt: HostRuntime) -> Result<(), Fail> {
     let text = format!(in rt.alloc(); "{}", BadValues)?;
     assert_eq!(rt; text.as_str(), "the number of values is out of range");
+    Ok(())
+}
+
+#[test]
+fn text_of_all_given(rt: HostRuntime) -> Result<(), Fail> {
+    let text = format!(in rt.alloc(); "{}", AllGiven)?;
+    assert_eq!(rt; text.as_str(), "all numbers were given");
     Ok(())
 }
 
@@ -38,6 +47,25 @@ fn text_of_layouts_and_runs(rt: HostRuntime) -> Result<(), Fail> {
     assert_eq!(rt;
         text.as_str(),
         "the step at place 7 is of no consumer of the layout, out of memory"
+    );
+    Ok(())
+}
+
+#[test]
+fn text_of_setups(rt: HostRuntime) -> Result<(), Fail> {
+    let text = format!(in rt.alloc();
+        "{}, {}",
+        SetupFault::BadProducers,
+        SetupFault::BadConsumers
+    )?;
+    assert_eq!(rt;
+        text.as_str(),
+        "the number of producers is out of range, the number of consumers is out of range"
+    );
+    let text = format!(in rt.alloc(); "{}, {}", SetupFault::BadCells, SetupFault::BadRounds)?;
+    assert_eq!(rt;
+        text.as_str(),
+        "the number of cells is out of range, the number of pairs is out of range"
     );
     Ok(())
 }

@@ -1,0 +1,88 @@
+//! Short words for events and their answers.
+
+use mb_cells::{Look, Offer, Push};
+use mb_claim::Stage;
+use mb_deciding::{Act, Reg};
+use mb_world::{Answer, Event, World};
+use std::alloc::Allocator;
+use std::process::Abort;
+
+/// An item is offered on a lane.
+pub(crate) fn offer(lane: u64, item: u64) -> Event {
+    Event::Offer { lane, item }
+}
+
+/// A push on a lane.
+pub(crate) fn push(lane: u64) -> Event {
+    Event::Push { lane }
+}
+
+/// A finish of a lane.
+pub(crate) fn finish(lane: u64) -> Event {
+    Event::Finish { lane }
+}
+
+/// A step of a consumer on a lane, with the random word 0.
+pub(crate) fn step(consumer: u64, lane: u64) -> Event {
+    Event::Step {
+        consumer,
+        lane,
+        word: 0,
+    }
+}
+
+/// A cell for an item that is offered.
+pub(crate) fn cell(k: u32) -> Answer {
+    Answer::Offered(Offer::Cell(k))
+}
+
+/// The item of a cell is stored.
+pub(crate) fn item(k: u32) -> Answer {
+    Answer::Pushed(Push::Item(k))
+}
+
+/// A cell is linked.
+pub(crate) fn link(k: u32) -> Answer {
+    Answer::Pushed(Push::Link(k))
+}
+
+/// A consumer finds a cell.
+pub(crate) fn found(k: u32) -> Answer {
+    Answer::Looked(Look::Cell(k))
+}
+
+/// A claim loads a word, and then has this stage.
+pub(crate) fn loads(k: u32, object: u32, reg: Reg, value: u64, stage: Stage) -> Answer {
+    Answer::Claimed {
+        cell: k,
+        object,
+        act: Act::Load { reg, value },
+        stage,
+    }
+}
+
+/// A claim stores in a word, and then has this stage.
+pub(crate) fn stores(k: u32, object: u32, reg: Reg, value: u64, stage: Stage) -> Answer {
+    Answer::Claimed {
+        cell: k,
+        object,
+        act: Act::Store { reg, value },
+        stage,
+    }
+}
+
+/// A consumer takes the item of a cell.
+pub(crate) fn took(k: u32, x: u64) -> Answer {
+    Answer::Took { cell: k, item: x }
+}
+
+/// Makes these events, each of which has this answer.
+pub(crate) fn make<A: Allocator + Drop>(
+    rt: &impl Abort,
+    world: &mut World<A>,
+    events: &[(Event, Answer)],
+) {
+    for (event, answer) in events {
+        assert_eq!(rt; world.apply(*event), *answer);
+    }
+}
