@@ -9,6 +9,7 @@ ghost use Rattle.mb_cells.specs.{WasGivenBy, eight, ended_pool, fetch, fetch_add
 ghost use Rattle.mb_cells.specs.{has_ended_by, item_in, load, look_in, new_lane, new_pool, nine, no_cell, one_cell};
 ghost use Rattle.mb_cells.specs.{one_ended, one_offered, one_put, one_read, one_taken, part_on, pool_size};
 ghost use Rattle.mb_cells.specs.{put_list, put_list_by, put_pool, store, taken_pool, too_wide};
+ghost use Rattle.mb_cells.specs.{IsStateOf, Producer, Reader, address_of, block_after, part, parts_after, words_of};
 ghost use Rattle.mb_cells.specs.declared.answer.Offer.TheVariants as offer;
 ghost use Rattle.mb_cells.specs.declared.answer.Push.TheVariants as push;
 ghost use Rattle.mb_cells.specs.declared.answer.Finish.TheVariants as finish;
@@ -108,6 +109,33 @@ pub fn words_lie_in_one_block()
     ensures counter { IsMemoryOf (pool_size 1 1) (0 ∷ 1 ∷ 0 ∷ 8 ∷ []) one_put → ⊥ }
     ensures item_first { IsMemoryOf (pool_size 1 1) (1 ∷ 1 ∷ 8 ∷ 0 ∷ []) one_put → ⊥ }
     ensures too_short { IsMemoryOf (pool_size 1 1) (1 ∷ 1 ∷ 0 ∷ []) one_put → ⊥ }
+{}
+
+/// Each word of a pool has its address in the block, and an access changes the word at its own.
+pub fn words_have_addresses()
+    ensures size { (pool_size 2 3).cells ≡ 3 }
+    ensures count { words_of (pool_size 2 3) ≡ 9 }
+    ensures counter { address_of (pool_size 2 3) Counter ≡ 0 }
+    ensures last_head { address_of (pool_size 2 3) (Head 1) ≡ 2 }
+    ensures first_link { address_of (pool_size 2 3) (Link 0) ≡ 3 }
+    ensures last_item { address_of (pool_size 2 3) (Item 2) ≡ 8 }
+    ensures fetched { block_after (pool_size 1 1) (fetch 0 eight) (0 ∷ 0 ∷ 0 ∷ 0 ∷ [])
+        ≡ 1 ∷ 0 ∷ 0 ∷ 0 ∷ [] }
+    ensures stored { block_after (pool_size 1 1) (store 0 (Item 0) 8) (1 ∷ 0 ∷ 0 ∷ 0 ∷ [])
+        ≡ 1 ∷ 0 ∷ 0 ∷ 8 ∷ [] }
+    ensures loaded { block_after (pool_size 1 1) (load 5 (Head 0) 1) (1 ∷ 1 ∷ 0 ∷ 8 ∷ [])
+        ≡ 1 ∷ 1 ∷ 0 ∷ 8 ∷ [] }
+{}
+
+/// With the words go the parts of all processes: each has done its own part of the history, and nothing else.
+pub fn words_stand_beside_parts()
+    ensures put { IsStateOf (pool_size 1 1) (1 ∷ 1 ∷ 0 ∷ 8 ∷ [])
+        (λ who. part who one_put) one_put }
+    ensures nobody { IsStateOf (pool_size 1 1) (1 ∷ 1 ∷ 0 ∷ 8 ∷ []) (λ who. []) one_put → ⊥ }
+    ensures everybody { IsStateOf (pool_size 1 1) (1 ∷ 1 ∷ 0 ∷ 8 ∷ [])
+        (λ who. one_put) one_put → ⊥ }
+    ensures own { parts_after (fetch 0 eight) (λ who. []) (Producer 0) ≡ one_taken }
+    ensures other { parts_after (fetch 0 eight) (λ who. []) (Reader 0) ≡ [] }
 {}
 
 /// Each call is its access, by its answer and by what it leaves.

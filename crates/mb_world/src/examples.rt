@@ -38,11 +38,17 @@ ghost use Rattle.mb_world.specs.declared.event.Event.TheVariants as event;
 ghost use Rattle.mb_cells.specs.declared.answer.Look.TheVariants as look;
 ghost use Rattle.mb_cells.specs.declared.answer.Offer.TheVariants as offer;
 ghost use Rattle.mb_cells.specs.declared.answer.Push.TheVariants as push;
+ghost use Rattle.std.specs.Prelude.{false, true};
+ghost use Rattle.mb_cells.specs.Vocabulary.{one_put as item_put, put_pool, taken_pool};
+ghost use Rattle.mb_world.specs.StateReport.{IsLaneTold, IsWalk, has_begun_on, note_there};
+ghost use Rattle.mb_world.specs.WorldState.{WorldState};
+ghost use Rattle.mb_world.specs.declared.seat.Seat.TheVariants as seat;
 
 use crate::laws::{
     agreeing_reports_are_settled, places_tell_diaries, replays_do_not_differ, worlds_are_sound,
 };
 use crate::steps::one_step;
+use mb_cells::examples::pools_hold_what_was_done;
 use mb_cells::laws::end_marks_are_last;
 use mb_cells::steps::{one_step as one_pool_step, places_lead_on};
 use mb_claim::examples::examples_are_lawful;
@@ -323,4 +329,23 @@ pub fn events_are_not_misanswered()
     replays_do_not_differ();
     worlds_go_on();
     events_are_replayed();
+}
+
+/// What the state of a world tells of its report, where its pool has one cell with the item 8.
+pub fn states_tell_reports()
+    ensures walked { IsWalk put_pool 0 (0 ∷ []) false item_put }
+    ensures told { (s : WorldState) → s.pool ≡ put_pool
+        → IsLaneTold s 0 (record { put = []; ended = false; left = [] }) → ⊥ }
+
+    // A cell that is passed by, an end mark that nobody stored, and an item that is not there.
+    ensures passed { IsWalk put_pool 0 [] false item_put → ⊥ }
+    ensures over { IsWalk put_pool 0 (0 ∷ []) true item_put → ⊥ }
+    ensures not_there { IsWalk taken_pool 0 (0 ∷ []) false item_put → ⊥ }
+
+    // No note stands where there is no place for one, and no claim is begun where none is held.
+    ensures noted { note_there (Some (Some (Lost 1))) ≡ Some (Lost 1) }
+    ensures nowhere { note_there None ≡ None }
+    ensures not_held { has_begun_on (seat.PastCell 0) ≡ false }
+{
+    pools_hold_what_was_done();
 }
