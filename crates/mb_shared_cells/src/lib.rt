@@ -19,6 +19,7 @@
 //! were taken in. So all laws of `mb_cells` hold of what threads did, whatever the order of their steps.
 #![tactic(auto)]
 
+pub mod examples;
 pub mod laws;
 mod rule;
 mod table;

@@ -8,8 +8,9 @@ use crate::rule::CellsRule;
 use crate::views::View;
 use atomic_table::{Seat, Table};
 pub use enrolling::AllGiven;
+use mb_cells::laws::{lanes_refuse_by_what_was_done, parts_tell_lanes};
 use mb_cells::steps::{one_step, words_follow_steps};
-use mb_cells::{Lane, NoMemory, PoolSize};
+use mb_cells::{Finish, Lane, NoMemory, PoolSize};
 use std::alloc::Allocator;
 use std::marker::Model;
 
@@ -141,7 +142,7 @@ impl CellHub {
 
 impl LaneSeat {
     ghost use Rattle.std.specs.Prelude.{◌≡◌, ◌<◌};
-    ghost use Rattle.mb_cells.specs.Vocabulary.{IsLaneAfter};
+    ghost use Rattle.mb_cells.specs.Vocabulary.{IsLaneAfter, has_ended};
     ghost use Rattle.mb_cells.specs.declared.access.Process.TheVariants.{Producer};
     ghost use Rattle.mb_shared_cells.specs.{HasHistory};
 
@@ -150,6 +151,15 @@ impl LaneSeat {
         ensures { result ≡ self.now.lane }
     {
         self.number
+    }
+
+    /// Whether the producer has stored the end mark of the lane.
+    pub fn has_ended(&self) -> bool
+        ensures { result ≡ has_ended self.now.lane self.now.part }
+    {
+        lanes_refuse_by_what_was_done();
+        parts_tell_lanes();
+        self.place.finish_refusal() == Some(Finish::Closed)
     }
 
     /// Some lawful history has the lane's part, and the producer stands at the place of that part. It computes nothing:

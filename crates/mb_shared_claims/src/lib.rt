@@ -22,6 +22,7 @@
 //!   the rule itself, and what a seat knows. Programs need none of these three.
 #![tactic(auto)]
 
+pub mod examples;
 mod hub;
 pub mod laws;
 pub mod rule;

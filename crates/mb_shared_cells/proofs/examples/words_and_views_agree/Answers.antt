@@ -1,0 +1,127 @@
+use Rattle.std.proofs.Common.{Some, None, [], arith, refl, sym, ◌∷◌, ◌≡◌, subst, suc, zero, ℕ, slice_index, nat_eq, false}
+use Rattle.std.proofs.Math.Dec.{eqb-suc-zero}
+use mathlib.Core.Option.{some, some-injective, some-ne-none}
+use lib.ListN.{get_elem?}
+use Rattle.mb_cells.specs.Vocabulary.{History, IsPoolWord, address_of, one_put, part, value_in}
+use Rattle.mb_cells.specs.declared.access.Process.{Process}
+use Rattle.mb_cells.specs.declared.access.Process.TheVariants.{Producer, Reader}
+use Rattle.mb_cells.specs.declared.access.Word.{Word}
+use Rattle.mb_cells.specs.declared.access.Word.TheVariants.{Counter, Head, Item, Link}
+use Rattle.mb_shared_cells.specs.Rule.{FitsView, IsEnrolled, IsHub, Seating, StandsAt}
+use Rattle.mb_shared_cells.specs.Examples.{hub_of_one, lane_with, one_by_one}
+use Rattle.mb_shared_cells.specs.Views.{empty_roll, first_view, roll_at}
+use Rattle.mb_shared_cells.specs.declared.views.Roll.{Roll}
+use Rattle.mb_shared_cells.specs.declared.views.View.{View}
+use Rattle.mb_shared_cells.proofs.examples.words_and_views_agree.Goals as goal
+
+-- ---- nothing was done
+abbrev nothing : Seating
+nothing = record { history = []; lanes = 0; readers = 0; hub = 0; seat_of = λ who. 0 }
+
+all_zeros : (w : Word) → IsPoolWord one_by_one w
+    → slice_index (0 ∷ 0 ∷ 0 ∷ 0 ∷ 0 ∷ []) (address_of one_by_one w) ≡ 0
+all_zeros Counter b = refl
+all_zeros (Head zero) b = refl
+all_zeros (Head (suc p)) b = absurd (omega (arith, b))
+all_zeros (Link zero) b = refl
+all_zeros (Link (suc k)) b = absurd (omega (arith, b))
+all_zeros (Item zero) b = refl
+all_zeros (Item (suc k)) b = absurd (omega (arith, b))
+
+nobody_in : (who : Process) (done : History) → roll_at who empty_roll ≡ Some (Some done)
+    → (nothing.seat_of who ≡ 0) × (done ≡ part who nothing.history)
+nobody_in (Producer p) done e = absurd (cc)
+nobody_in (Reader r) done e = absurd (cc)
+
+nobody_stands : (who : Process) → IsEnrolled nothing who → StandsAt (first_view one_by_one ∷ []) 0 who
+nobody_stands (Producer p) low = absurd (omega (arith, low))
+nobody_stands (Reader r) low = absurd (omega (arith, low))
+
+new_hub : IsHub one_by_one nothing 0 one_by_one empty_roll
+new_hub = record { sized = refl; here = refl; lanes = refl; readers = refl; parts = nobody_in }
+
+new_fits : (seat : ℕ) (v : View) → get_elem? (first_view one_by_one ∷ []) seat ≡ some v
+    → FitsView one_by_one nothing 0 seat v
+new_fits zero v e = subst (λ x. FitsView one_by_one nothing 0 0 x) (some-injective (first_view one_by_one) v e) (new_hub, refl)
+new_fits (suc seat) v e = absurd (some-ne-none v (sym e))
+
+pub returns-clause-new : goal.returns-clause-new
+returns-clause-new c = (
+  nothing,
+  record {
+    memory = record {
+      lawful = c.one_step.ensures.empty one_by_one (omega arith);
+      room = omega arith;
+      left = all_zeros;
+    };
+    wide = refl;
+    few = omega arith;
+    drawn = omega arith;
+    nobody_else = λ who out. refl;
+    stands = nobody_stands;
+    fits = new_fits;
+  },
+)
+
+-- ---- the item 8 was put
+abbrev putting : Seating
+putting = record { history = one_put; lanes = 1; readers = 0; hub = 0; seat_of = λ who. 1 }
+
+abbrev one_out : Roll
+one_out = record { lanes = None ∷ []; readers = [] }
+
+holds : (w : Word) → IsPoolWord one_by_one w
+    → slice_index (1 ∷ 1 ∷ 0 ∷ 8 ∷ 1 ∷ []) (address_of one_by_one w) ≡ value_in w one_put
+holds Counter b = refl
+holds (Head zero) b = refl
+holds (Head (suc p)) b = absurd (omega (arith, b))
+holds (Link zero) b = refl
+holds (Link (suc k)) b = absurd (omega (arith, b))
+holds (Item zero) b = refl
+holds (Item (suc k)) b = absurd (omega (arith, b))
+
+none_taken : (who : Process) (done : History) → roll_at who one_out ≡ Some (Some done)
+    → (putting.seat_of who ≡ 0) × (done ≡ part who putting.history)
+none_taken (Producer zero) done e = absurd (cc)
+none_taken (Producer (suc p)) done e = absurd (cc)
+none_taken (Reader r) done e = absurd (cc)
+
+nobody_else : (who : Process) → (IsEnrolled putting who → ⊥) → part who one_put ≡ []
+nobody_else (Producer zero) out = absurd (out (omega arith))
+nobody_else (Producer (suc p)) out = let e : nat_eq (suc p) 0 ≡ false = eqb-suc-zero p in cc
+nobody_else (Reader r) out = refl
+
+one_stands : (who : Process) → IsEnrolled putting who → StandsAt (hub_of_one ∷ lane_with one_put ∷ []) 1 who
+one_stands (Producer zero) low = (lane_with one_put, refl, refl)
+one_stands (Producer (suc p)) low = absurd (omega (arith, low))
+one_stands (Reader r) low = absurd (omega (arith, low))
+
+put_hub : FitsView one_by_one putting 1 0 hub_of_one
+put_hub = (record { sized = refl; here = refl; lanes = refl; readers = refl; parts = none_taken }, refl)
+
+put_seat : FitsView one_by_one putting 1 1 (lane_with one_put)
+put_seat = (refl, (λ e. omega (arith, e)), record { here = refl; enrolled = omega arith; part = refl }, λ p theirs e. absurd (cc))
+
+put_fits : (seat : ℕ) (v : View) → get_elem? (hub_of_one ∷ lane_with one_put ∷ []) seat ≡ some v
+    → FitsView one_by_one putting 1 seat v
+put_fits zero v e = subst (λ x. FitsView one_by_one putting 1 0 x) (some-injective hub_of_one v e) put_hub
+put_fits (suc zero) v e = subst (λ x. FitsView one_by_one putting 1 1 x) (some-injective (lane_with one_put) v e) put_seat
+put_fits (suc (suc seat)) v e = absurd (some-ne-none v (sym e))
+
+pub returns-clause-put : goal.returns-clause-put
+returns-clause-put c = (
+  putting,
+  record {
+    memory = record {
+      lawful = c.pools_hold_what_was_done.ensures.put.lawful;
+      room = omega arith;
+      left = holds;
+    };
+    wide = refl;
+    few = omega arith;
+    drawn = omega arith;
+    nobody_else = nobody_else;
+    stands = one_stands;
+    fits = put_fits;
+  },
+)

@@ -1,0 +1,49 @@
+-- A table of one lane and one cell, by example: its hub, the seat of its lane, and a reader.
+use Rattle.std.specs.Prelude.{List, None, [], ◌∷◌, ℕ}
+use Rattle.atomic_table.specs.Seated.{TableId}
+use Rattle.mb_cells.specs.Vocabulary.{History, pool_size}
+use Rattle.mb_cells.specs.declared.access.Process.TheVariants.{Producer}
+use Rattle.mb_cells.specs.declared.lane.Lane.{Lane}
+use Rattle.mb_cells.specs.declared.lane.LaneStage.TheVariants as stage
+use Rattle.mb_cells.specs.declared.size.PoolSize.{PoolSize}
+use Rattle.mb_shared_cells.specs.Rule.{IsCellsState}
+use Rattle.mb_shared_cells.specs.Views.{first_view}
+use Rattle.mb_shared_cells.specs.Shown.{CellsName, LaneSeatView, ReaderSeatView}
+use Rattle.mb_shared_cells.specs.declared.views.View.{View}
+use Rattle.mb_shared_cells.specs.declared.views.View.TheVariants.{Hub, Member}
+
+-- one lane and one cell
+abbrev pub one_by_one : PoolSize
+one_by_one = pool_size 1 1
+
+-- a state of that table
+abbrev pub IsStateOfOne : List ℕ → List View → Type 0
+IsStateOfOne words views = IsCellsState one_by_one words views
+
+-- the hub that has given no number
+abbrev pub new_hub : View
+new_hub = first_view one_by_one
+
+-- the hub that has given lane 0, whose seat is out
+abbrev pub hub_of_one : View
+hub_of_one = Hub one_by_one (record { lanes = None ∷ []; readers = [] })
+
+-- the seat of lane 0, whose producer has done this
+abbrev pub lane_with : History → View
+lane_with done = Member one_by_one (Producer 0) [] done
+
+-- the table of this identity
+abbrev pub table_of_one : TableId → CellsName
+table_of_one id = record { id = id; size = one_by_one }
+
+-- the seat of lane 0 as callers see it: its producer stands at this place and has done this
+abbrev pub lane_seen : TableId → Lane → History → LaneSeatView
+lane_seen id place done = record { table = table_of_one id; lane = 0; place = place; part = done }
+
+-- the place of a producer that was given cell 0 for the item 8
+abbrev pub has_taken : Lane
+has_taken = record { last = None; stage = stage.Offered 0 8 }
+
+-- reader 0, which was given before any lane was taken in, and has done this
+abbrev pub reader_seen : TableId → History → ReaderSeatView
+reader_seen id done = record { table = table_of_one id; reader = 0; known = []; part = done }

@@ -1,0 +1,81 @@
+//! The definitions by example: what they let in, and what only looks right. The functions compute nothing: their contracts
+//! are the examples, and their proofs stand in `proofs/examples/`, one folder for each.
+ghost use Rattle.std.specs.Prelude.{[], ◌∷◌};
+ghost use Rattle.atomic_table.specs.Seated.{TableId};
+ghost use Rattle.mb_cells.specs.Vocabulary.{load, new_lane, one_put, one_taken};
+ghost use Rattle.mb_cells.specs.declared.access.Word.TheVariants as word;
+ghost use Rattle.mb_cells.specs.declared.answer.Look.TheVariants as look;
+ghost use Rattle.mb_cells.specs.declared.answer.Offer.TheVariants as offer;
+ghost use Rattle.mb_cells.specs.declared.answer.Push.TheVariants as push;
+ghost use Rattle.mb_cells.specs.declared.cursor.Cursor.TheVariants as cursor;
+ghost use Rattle.mb_shared_cells.specs.{LookMakes, OfferMakes, PushMakes};
+ghost use Rattle.mb_shared_cells.specs.Examples.{IsStateOfOne, has_taken, hub_of_one, lane_seen};
+ghost use Rattle.mb_shared_cells.specs.Examples.{lane_with, new_hub, reader_seen};
+
+use crate::laws::processes_stand_once;
+use mb_cells::examples::pools_hold_what_was_done;
+use mb_cells::laws::parts_tell_lanes;
+use mb_cells::steps::one_step;
+
+/// Words and views of a table of one lane and one cell: the counter, the head, the link, the item, and the roster.
+pub fn words_and_views_agree()
+    // Nothing was done yet.
+    ensures new { IsStateOfOne (0 ∷ 0 ∷ 0 ∷ 0 ∷ 0 ∷ []) (new_hub ∷ []) }
+
+    // The lane was given, and its producer has put the item 8.
+    ensures put { IsStateOfOne (1 ∷ 1 ∷ 0 ∷ 8 ∷ 1 ∷ [])
+        (hub_of_one ∷ lane_with one_put ∷ []) }
+{
+    one_step();
+    pools_hold_what_was_done();
+}
+
+/// Words and views that no history and no hub made.
+pub fn words_and_views_disagree()
+    // A link that nobody stored, and one that was stored and is not there.
+    ensures made_up { IsStateOfOne (0 ∷ 1 ∷ 0 ∷ 0 ∷ 0 ∷ []) (new_hub ∷ []) → ⊥ }
+    ensures lost { IsStateOfOne (1 ∷ 0 ∷ 0 ∷ 8 ∷ 1 ∷ [])
+        (hub_of_one ∷ lane_with one_put ∷ []) → ⊥ }
+
+    // A lane with two seats.
+    ensures twice { IsStateOfOne (1 ∷ 1 ∷ 0 ∷ 8 ∷ 1 ∷ [])
+        (hub_of_one ∷ lane_with one_put ∷ lane_with one_put ∷ []) → ⊥ }
+
+    // A number on the roster that was not given, and one given that is not on the roster.
+    ensures not_given { IsStateOfOne (0 ∷ 0 ∷ 0 ∷ 0 ∷ 1 ∷ []) (new_hub ∷ []) → ⊥ }
+    ensures not_drawn { IsStateOfOne (0 ∷ 0 ∷ 0 ∷ 0 ∷ 0 ∷ [])
+        (hub_of_one ∷ lane_with [] ∷ []) → ⊥ }
+{
+    parts_tell_lanes();
+    processes_stand_once();
+}
+
+/// Calls of seats: each makes its access, and tells what that found.
+pub fn seats_make_their_access()
+    ensures offered { (id : TableId)
+        → OfferMakes (lane_seen id new_lane []) 8 (offer.Cell 0)
+        (lane_seen id has_taken one_taken) }
+    ensures looked { (id : TableId)
+        → LookMakes (reader_seen id []) (cursor.Head 0) look.Nothing
+        (reader_seen id (load 0 (word.Head 0) 0 ∷ [])) }
+
+    // An offer that is full without an access, one that is full with a cell, and a push that stores nothing.
+    ensures always_full { (id : TableId)
+        → OfferMakes (lane_seen id new_lane []) 8 offer.Full (lane_seen id new_lane []) → ⊥ }
+    ensures full_with_cell { (id : TableId)
+        → OfferMakes (lane_seen id new_lane []) 8 offer.Full
+        (lane_seen id has_taken one_taken) → ⊥ }
+    ensures nothing_stored { (id : TableId)
+        → PushMakes (lane_seen id has_taken one_taken) (push.Item 0)
+        (lane_seen id has_taken one_taken) → ⊥ }
+
+    // A look without a load, and one that tells another value than it loaded.
+    ensures not_looked { (id : TableId)
+        → LookMakes (reader_seen id []) (cursor.Head 0) look.Nothing (reader_seen id []) → ⊥ }
+    ensures other_value { (id : TableId)
+        → LookMakes (reader_seen id []) (cursor.Head 0) (look.Cell 0)
+        (reader_seen id (load 0 (word.Head 0) 0 ∷ [])) → ⊥ }
+{
+    one_step();
+    pools_hold_what_was_done();
+}

@@ -1,0 +1,74 @@
+//! The definitions by example: what they let in, and what only looks right. The functions compute nothing: their contracts
+//! are the examples, and their proofs stand in `proofs/examples/`, one folder for each.
+ghost use Rattle.std.specs.Prelude.{ℕ, ◌≡◌, ◌+◌, ◌<◌, List, None, [], ◌∷◌, replicate, slice_index};
+ghost use Rattle.mb_claim.specs.declared.access.Stage.TheVariants.{Won};
+ghost use Rattle.mb_claim.specs.Vocabulary.{IsClaimLawful, IsClaimPrefix, IsWordIn, address_in, part_on};
+ghost use Rattle.mb_shared_claims.specs.{Claim, ClaimAccess, Handing, HasPartAt, IsClaimsState, IsSeatStep, Layout};
+ghost use Rattle.mb_shared_claims.specs.{Reg, SeatView, Standing, TableSize, View, claims_of_size, makes, roster};
+
+use crate::laws::{states_have_one_history, steps_keep_states};
+use mb_claim::laws::{claims_have_one_winner, layouts_are_sound};
+use mb_claim::steps::accesses_lengthen_one_part;
+
+/// Words and views of a table, whatever its size.
+pub fn words_and_views_agree()
+    // Nothing was done yet.
+    ensures new { (k : TableSize)
+        → IsClaimsState k (replicate (roster k + 1) 0) (Handing k [] ∷ []) }
+{
+    steps_keep_states();
+}
+
+/// Words and views that no history and no hub made.
+pub fn words_and_views_disagree()
+    // A value that nobody stored.
+    ensures made_up { (k : TableSize) (o : ℕ) (reg : Reg) (words : List ℕ) → 0 < k.cells
+        → IsWordIn (claims_of_size k) o reg
+        → slice_index words (address_in (claims_of_size k) 0 o reg) ≡ 1
+        → IsClaimsState k words (Handing k [] ∷ []) → ⊥ }
+
+    // A number on the roster that was not given, and one given that is not on the roster.
+    ensures not_given { (k : TableSize) (words : List ℕ) → slice_index words (roster k) ≡ 1
+        → IsClaimsState k words (Handing k [] ∷ []) → ⊥ }
+    ensures not_drawn { (k : TableSize) (words : List ℕ) (views : List View)
+        → slice_index words (roster k) ≡ 0
+        → IsClaimsState k words (Handing k (None ∷ []) ∷ views) → ⊥ }
+
+    // A number given whose seat is nowhere, and one with two seats.
+    ensures gone { (k : TableSize) (words : List ℕ)
+        → IsClaimsState k words (Handing k (None ∷ []) ∷ []) → ⊥ }
+    ensures twice { (k : TableSize) (words : List ℕ)
+        → IsClaimsState k words
+        (Handing k (None ∷ []) ∷ Standing k 0 [] ∷ Standing k 0 [] ∷ []) → ⊥ }
+{
+    accesses_lengthen_one_part();
+    states_have_one_history();
+}
+
+/// Where two seats have both won a cell they are one consumer's: two winners are no state of a table.
+pub fn seats_have_one_winner()
+    ensures { (k : TableSize) (words : List ℕ) (views : List View) (i j c d cell : ℕ)
+        (xs ys : List ClaimAccess)
+        → IsClaimsState k words views → HasPartAt views i c xs → HasPartAt views j d ys
+        → IsClaimPrefix (claims_of_size k) c (part_on c cell xs) Won
+        → IsClaimPrefix (claims_of_size k) d (part_on d cell ys) Won → c ≡ d }
+{
+    accesses_lengthen_one_part();
+    claims_have_one_winner();
+    layouts_are_sound();
+    states_have_one_history();
+}
+
+/// What a step tells: one access more in the part of its seat.
+pub fn steps_add_one_access()
+    ensures made { (k : TableSize) (a : ClaimAccess) → IsClaimLawful (claims_of_size k) (a ∷ [])
+        → makes a (Standing k a.consumer [], []) (Standing k a.consumer (a ∷ []), []) }
+    ensures not_made { (k : TableSize) (a : ClaimAccess)
+        → makes a (Standing k a.consumer [], []) (Standing k a.consumer [], []) → ⊥ }
+    ensures made_twice { (k : TableSize) (a : ClaimAccess)
+        → makes a (Standing k a.consumer [], []) (Standing k a.consumer (a ∷ a ∷ []), []) → ⊥ }
+
+    // A call of a seat that leaves the seat as it was.
+    ensures stuck { (layout : Layout) (cell word : ℕ) (claim follows : Claim) (seat : SeatView)
+        → IsSeatStep layout cell word claim seat follows seat → ⊥ }
+{}
