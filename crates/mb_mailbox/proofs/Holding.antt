@@ -8,10 +8,11 @@ use Rattle.mb_claim.specs.declared.access.Stage.TheVariants as stage
 use Rattle.mb_cells.specs.declared.cursor.Cursor.TheVariants.{Past}
 use Rattle.mb_mailbox.specs.Below.{Claim, ClaimAccess, Claims, EndsAs, Fits, Gave, Has, HasStageIn, IsClaimIn, IsClaimPrefix, IsOnceEach, Item, Link, Lost, Note, ObjectTurn, Parts, PoolAccess, Stage, TableSize, Took, Undecided, access_of, cells_met, claim_stage, claims_in, consumer_of, load, note_of, part_on, place_past, with_load}
 use Rattle.mb_mailbox.specs.Consumers.{AreEnds, ConsumerView, IsAt, IsBefore, IsConsumer, StandsOn, parts_of}
-use Rattle.mb_mailbox.specs.Moves.{HasLoads, HasPlace, HasTurns, item_load, moved_to}
+use Rattle.mb_mailbox.specs.Moves.{HasLoads, HasPlace, HasTurns, reads_with_item, moved_to}
 use Rattle.mb_mailbox.specs.NoteLists.{place_after}
 use Rattle.mb_mailbox.specs.declared.place.Place.TheVariants.{At, Before}
-use Rattle.mb_mailbox.proofs.KnownLoads.{Known, Laws, past_item, read-cases, read-more}
+use Rattle.mb_mailbox.specs.Laws.{Laws}
+use Rattle.mb_mailbox.proofs.KnownLoads.{Known, past_item, read-cases, read-more}
 use Rattle.mb_mailbox.proofs.Lists.{some_same}
 use Rattle.mb_mailbox.proofs.Moving.{holds, loads_known}
 use Rattle.mb_mailbox.proofs.Standings.{Leaves, end_kept, ends_more, moves, same_length, with_one}
@@ -187,7 +188,7 @@ module _ (s : ConsumerView) (p k : ℕ) (claim : Claim) (i : IsConsumer s) (e : 
         );
       }
 
-      pub takes : IsConsumer (moved_to p (Before (Past k)) (Some (Took v)) (item_load s k v) s.seat.part s)
+      pub takes : IsConsumer (moved_to p (Before (Past k)) (Some (Took v)) (reads_with_item s k v) s.seat.part s)
       takes =
           let same : cells_met p (b ∷ s.reader.part) ≡ cells_met p s.reader.part = laws.elsewhere p b s.reader.part (no_link p) in
           moves s p (At k claim) (Before (Past k)) (Some (Took v)) (b ∷ s.reader.part) s.seat.part i e

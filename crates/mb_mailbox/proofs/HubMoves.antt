@@ -1,13 +1,13 @@
 -- A hub gives a producer, and takes it in.
-use Rattle.std.proofs.Common.{◌≡◌, ◌≢◌, ◌⊎◌, ℕ, zero, suc, ◌<◌, List, [], ◌∷◌, ◌++◌, length, refl, sym, ap, ◌∙◌, subst, inl, inr, ⊎_elim, arith}
-use Rattle.std.specs.Prelude.{Option, Some, None, Vec, option_map, slice_get, slice_set}
-use Rattle.std.proofs.lemmas.List.{length-append, map-append}
-use Rattle.mb_world.specs.Reporting.{values_put}
-use Rattle.mb_mailbox.specs.Below.{ClaimAccess, ClaimTable, History}
-use Rattle.mb_mailbox.specs.Hubs.{HubView, IsHub, IsLedger, LedgerView, put_lists, with_consumer, with_producer, with_taken_consumer, with_taken_producer}
+use Rattle.std.proofs.Common.{◌≡◌, ◌≢◌, ◌⊎◌, ℕ, zero, suc, ◌<◌, ◌≤◌, List, [], ◌∷◌, ◌++◌, length, refl, sym, ap, ◌∙◌, subst, inl, inr, ⊎_elim, arith}
+use Rattle.std.specs.Prelude.{Option, Some, None, slice_get, slice_set}
+use Rattle.std.proofs.lemmas.List.{length-append}
+use Rattle.mb_cells.specs.Vocabulary.{Entry, fetch}
+use Rattle.mb_mailbox.specs.Below.{CellsName, ClaimAccess, ClaimTable, Has, History, claims_at, linked_cells}
+use Rattle.mb_mailbox.specs.Hubs.{HubView, IsHub, IsLedger, IsPutList, LedgerView, PutListView, put_list_of, with_consumer, with_producer, with_taken_consumer, with_taken_producer}
 use Rattle.mb_mailbox.specs.Consumers.{ConsumerView, IsConsumer}
 use Rattle.mb_mailbox.specs.Producers.{IsProducer, ProducerView}
-use Rattle.mb_mailbox.proofs.Lists.{get_some, get_within, map_set, set_get, set_length, some_same}
+use Rattle.mb_mailbox.proofs.Lists.{get_some, get_within, set_get, set_length, some_same}
 
 -- ---- lists with one more at their end
 get_more : {X : Type 0} (xs : List X) (x : X) (p : ℕ) (a : X) → slice_get xs p ≡ Some a → slice_get (xs ++ x ∷ []) p ≡ Some a
@@ -39,25 +39,20 @@ longer xs ys x y e =
     let b = length-append ys (y ∷ []) in
     omega arith
 
-module _ {Z : Type 0} where
-  pub lists_more : (xs : List (Option (Vec ℕ Z))) → put_lists (xs ++ None ∷ []) ≡ put_lists xs ++ None ∷ []
-  lists_more xs = map-append (λ (x : Option (Vec ℕ Z)). option_map (λ (v : Vec ℕ Z). v.items) x) xs (None ∷ [])
-
-  pub lists_set : (xs : List (Option (Vec ℕ Z))) (p : ℕ) (v : Vec ℕ Z) → put_lists (slice_set xs p (Some v)) ≡ slice_set (put_lists xs) p (Some v.items)
-  lists_set xs p v = map_set (λ (x : Option (Vec ℕ Z)). option_map (λ (v : Vec ℕ Z). v.items) x) xs p (Some v)
-
 -- the hub that has given one more
-pub gave_producer : (h : HubView) → IsHub h → IsHub (with_producer h)
-gave_producer h i = record {
+pub gave_producer : (h : HubView) → IsHub h → length h.puts < h.cells.table.size.lanes → IsHub (with_producer h)
+gave_producer h i low = record {
   lanes = longer h.puts h.cells.roll.lanes None None i.lanes;
   readers = i.readers;
   seats = i.seats;
+  few_lanes = let n = length-append h.puts (None ∷ []) in omega arith;
+  few_consumers = i.few_consumers;
+  put = λ p l e. ⊎_elim
+      (λ (old : slice_get h.puts p ≡ Some (Some l)).
+      let t = i.put p l old in (t.0, get_more h.cells.roll.lanes None p (Some t.0) t.1, t.2))
+      (λ (new : None ≡ Some l). absurd (cc))
+      (get_older h.puts None p (Some l) e);
   taken = i.taken;
-  put = λ p items e. ⊎_elim
-      (λ (old : slice_get h.puts p ≡ Some (Some items)).
-      let t = i.put p items old in (t.0, get_more h.cells.roll.lanes None p (Some t.0) t.1, t.2))
-      (λ (new : None ≡ Some items). absurd (cc))
-      (get_older h.puts None p (Some items) e);
 }
 
 -- a producer whose seat is out is not taken in
@@ -66,41 +61,57 @@ is_out h p i out =
     let t = get_some h.puts p (subst (λ n. p < n) (sym i.lanes) (get_within h.cells.roll.lanes p None out)) in
     by t.0 t.1
   where
-    by : (o : Option (List ℕ)) → slice_get h.puts p ≡ Some o → slice_get h.puts p ≡ Some None
+    by : (o : Option PutListView) → slice_get h.puts p ≡ Some o → slice_get h.puts p ≡ Some None
     by None e = e
-    by (Some items) e =
-        let t = i.put p items e in
+    by (Some l) e =
+        let t = i.put p l e in
         let f : None ≡ Some t.0 = some_same None (Some t.0) (sym out ∙ t.1) in
         absurd (cc)
 
+-- what is kept of a producer is told by its part
+pub kept_list : (s : ProducerView) → IsProducer s
+    → ((e : Entry) → Has s.seat.part (fetch s.seat.lane e) → e.cell < s.seat.table.size.cells
+    → Has (linked_cells s.seat.lane s.seat.part) e.cell)
+    → IsPutList s.seat.table.size.cells s.seat.lane s.seat.part (put_list_of s)
+kept_list s own linked = record { items = own.items; ended = refl; linked = linked }
+
 -- the hub that has taken it in
-pub took_producer : (h : HubView) (s : ProducerView) → IsHub h → IsProducer s → slice_get h.cells.roll.lanes s.seat.lane ≡ Some None
+pub took_producer : (h : HubView) (s : ProducerView) → IsHub h
+    → IsPutList h.cells.table.size.cells s.seat.lane s.seat.part (put_list_of s)
+    → slice_get h.cells.roll.lanes s.seat.lane ≡ Some None
     → IsHub (with_taken_producer s h)
-took_producer h s i own out = record {
-  lanes = set_length h.puts s.seat.lane (Some s.items) ∙ i.lanes ∙ sym (set_length h.cells.roll.lanes s.seat.lane (Some s.seat.part));
-  readers = i.readers;
-  seats = i.seats;
-  taken = i.taken;
-  put = λ p items e. ⊎_elim
-      (λ (t : (p ≡ s.seat.lane) × (Some s.items ≡ Some items)). (
-        s.seat.part,
-        subst (λ (q : ℕ). slice_get (slice_set h.cells.roll.lanes s.seat.lane (Some s.seat.part)) q ≡ Some (Some s.seat.part)) (sym t.0)
-            (set_here h.cells.roll.lanes s.seat.lane (Some s.seat.part) None out),
-        sym (some_same s.items items t.1) ∙ own.items ∙ ap (λ (q : ℕ). values_put q s.seat.part) (sym t.0),
-      ))
-      (λ (t : (p ≢ s.seat.lane) × (slice_get h.puts p ≡ Some (Some items))).
-      let x = i.put p items t.1 in
-      (x.0, set_there h.cells.roll.lanes s.seat.lane p (Some s.seat.part) (Some x.0) t.0 x.1, x.2))
-      (set_get h.puts s.seat.lane p (Some s.items) (Some items) e);
-}
+took_producer h s i own out =
+    let size = h.cells.table.size in
+    let n = set_length h.puts s.seat.lane (Some (put_list_of s)) in
+    record {
+      lanes = n ∙ i.lanes ∙ sym (set_length h.cells.roll.lanes s.seat.lane (Some s.seat.part));
+      readers = i.readers;
+      seats = i.seats;
+      few_lanes = subst (λ k. k ≤ size.lanes) (sym n) i.few_lanes;
+      few_consumers = i.few_consumers;
+      put = λ p l e. ⊎_elim
+          (λ (t : (p ≡ s.seat.lane) × (Some (put_list_of s) ≡ Some l)).
+          subst (λ (z : ℕ × PutListView). (done : History)
+          × (slice_get (slice_set h.cells.roll.lanes s.seat.lane (Some s.seat.part)) z.0 ≡ Some (Some done))
+          × IsPutList size.cells z.0 done z.1)
+          (λ j. (sym t.0 j, some_same (put_list_of s) l t.1 j))
+          (s.seat.part, set_here h.cells.roll.lanes s.seat.lane (Some s.seat.part) None out, own))
+          (λ (t : (p ≢ s.seat.lane) × (slice_get h.puts p ≡ Some (Some l))).
+          let x = i.put p l t.1 in
+          (x.0, set_there h.cells.roll.lanes s.seat.lane p (Some s.seat.part) (Some x.0) t.0 x.1, x.2))
+          (set_get h.puts s.seat.lane p (Some (put_list_of s)) (Some l) e);
+      taken = i.taken;
+    }
 
 -- ---- consumers
 -- the hub that has given one more
-pub gave_consumer : (h : HubView) → IsHub h → IsHub (with_consumer h)
-gave_consumer h i = record {
+pub gave_consumer : (h : HubView) → IsHub h → length h.ledgers < (claims_at h.claims.table).table.values → IsHub (with_consumer h)
+gave_consumer h i low = record {
   lanes = i.lanes;
   readers = longer h.ledgers h.cells.roll.readers None None i.readers;
   seats = longer h.ledgers h.claims.roll None None i.seats;
+  few_lanes = i.few_lanes;
+  few_consumers = let n = length-append h.ledgers (None ∷ []) in omega arith;
   taken = λ c ledger e. ⊎_elim
       (λ (old : slice_get h.ledgers c ≡ Some (Some ledger)).
       let t = i.taken c ledger old in
@@ -125,31 +136,37 @@ seat_is_out h c i out =
 
 -- the hub that has taken it in
 pub took_consumer : (h : HubView) (s : ConsumerView) → IsHub h → IsConsumer s → s.seat.table ≡ h.claims.table
-    → slice_get h.cells.roll.readers s.reader.reader ≡ Some None → slice_get h.claims.roll s.seat.consumer ≡ Some None
+    → s.reader.table ≡ h.cells.table → slice_get h.cells.roll.readers s.reader.reader ≡ Some None → slice_get h.claims.roll s.seat.consumer ≡ Some None
     → IsHub (with_taken_consumer s h)
-took_consumer h s i own table reader_out seat_out =
+took_consumer h s i own table cells reader_out seat_out =
     let c = s.seat.consumer in
     let l : LedgerView = record { places = s.places; notes = s.notes } in
     let out : slice_get h.cells.roll.readers c ≡ Some None = subst (λ (r : ℕ). slice_get h.cells.roll.readers r ≡ Some None) own.same reader_out in
     let here : slice_get (slice_set h.cells.roll.readers s.reader.reader (Some s.reader.part)) c ≡ Some (Some s.reader.part) =
     subst (λ (r : ℕ). slice_get (slice_set h.cells.roll.readers r (Some s.reader.part)) c ≡ Some (Some s.reader.part)) (sym own.same)
     (set_here h.cells.roll.readers c (Some s.reader.part) None out) in
-    let its : IsLedger h.claims.table c s.reader.part s.seat.part l = record {
+    let lanes : s.reader.table.size.lanes ≡ h.cells.table.size.lanes = ap (λ (t : CellsName). t.size.lanes) cells in
+    let n = set_length h.ledgers c (Some l) in
+    let its : IsLedger h.claims.table h.cells.table.size.lanes c s.reader.part s.seat.part l = record {
       size = own.size;
       of = ap (λ (t : ClaimTable). t.size) (sym table) ∙ own.table;
       fit = own.fit;
+      places_count = own.places_count ∙ lanes;
+      notes_count = own.notes_count ∙ lanes;
       lanes = own.lanes;
     } in
     record {
       lanes = i.lanes;
-      readers = set_length h.ledgers c (Some l) ∙ i.readers ∙ sym (set_length h.cells.roll.readers s.reader.reader (Some s.reader.part));
-      seats = set_length h.ledgers c (Some l) ∙ i.seats ∙ sym (set_length h.claims.roll c (Some s.seat.part));
+      readers = n ∙ i.readers ∙ sym (set_length h.cells.roll.readers s.reader.reader (Some s.reader.part));
+      seats = n ∙ i.seats ∙ sym (set_length h.claims.roll c (Some s.seat.part));
+      few_lanes = i.few_lanes;
+      few_consumers = subst (λ k. k ≤ (claims_at h.claims.table).table.values) (sym n) i.few_consumers;
       taken = λ d ledger e. ⊎_elim
           (λ (t : (d ≡ c) × (Some l ≡ Some ledger)).
           subst (λ (z : ℕ × LedgerView). (reads : History)
           × (slice_get (slice_set h.cells.roll.readers s.reader.reader (Some s.reader.part)) z.0 ≡ Some (Some reads))
           × ((done : List ClaimAccess) × (slice_get (slice_set h.claims.roll c (Some s.seat.part)) z.0 ≡ Some (Some done))
-          × IsLedger h.claims.table z.0 reads done z.1))
+          × IsLedger h.claims.table h.cells.table.size.lanes z.0 reads done z.1))
           (λ j. (sym t.0 j, some_same l ledger t.1 j))
           (s.reader.part, here, (s.seat.part, set_here h.claims.roll c (Some s.seat.part) None seat_out, its)))
           (λ (t : (d ≢ c) × (slice_get h.ledgers d ≡ Some (Some ledger))).

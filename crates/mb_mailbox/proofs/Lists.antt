@@ -24,6 +24,16 @@ set_same [] i a e = refl
 set_same (x ∷ xs) zero a e = let f : x ≡ a = cc in ap (λ y. y ∷ xs) (sym f)
 set_same (x ∷ xs) (suc i) a e = ap (λ ys. x ∷ ys) (set_same xs i a e)
 
+pub set_twice : {X : Type 0} (xs : List X) (i : ℕ) (a b : X) → slice_set (slice_set xs i a) i b ≡ slice_set xs i b
+set_twice [] i a b = refl
+set_twice (x ∷ xs) zero a b = refl
+set_twice (x ∷ xs) (suc i) a b = ap (λ ys. x ∷ ys) (set_twice xs i a b)
+
+pub set_here : {X : Type 0} (xs : List X) (i : ℕ) (a b : X) → slice_get xs i ≡ Some b → slice_get (slice_set xs i a) i ≡ Some a
+set_here [] i a b e = absurd (cc)
+set_here (x ∷ xs) zero a b e = refl
+set_here (x ∷ xs) (suc i) a b e = set_here xs i a b e
+
 pub get_some : {X : Type 0} (xs : List X) (i : ℕ) → i < length xs → (a : X) × (slice_get xs i ≡ Some a)
 get_some [] i low = absurd (omega arith)
 get_some (x ∷ xs) zero low = (x, refl)

@@ -1,19 +1,18 @@
 -- What the steps of a consumer come to, from the contracts of the two tables.
 use Rattle.std.proofs.Common.{◌≡◌, ◌≢◌, ℕ, ◌<◌, ◌≤◌, List, [], ◌∷◌, ◌++◌, length, map, refl, sym, ap, ◌∙◌, subst, ⊎_elim, arith}
 use Rattle.std.specs.Prelude.{Option, Some, None, Vec, slice_get, slice_set, vec_capacity, vec_len}
-use Rattle.mb_claim.specs.declared.access.ClaimOp.{ClaimOp}
 use Rattle.mb_claim.specs.declared.access.Stage.TheVariants as stage
 use Rattle.mb_cells.specs.declared.answer.Look.{Look}
-use Rattle.mb_cells.specs.declared.cursor.Cursor.TheVariants as cursor
 use Rattle.mb_shared_cells.specs.Vocabulary.{ItemMakes, LookMakes}
-use Rattle.mb_mailbox.specs.Below.{CellsName, Claim, ClaimAccess, ClaimTable, Cursor, HasStageIn, History, IsClaimIn, IsClaimPrefix, Item, Load, Look, Note, ReaderSeatView, SeatView, Stage, Stream, TableSize, ToCells, ToClaims, Took, access_of, claim_stage, claims_at, claims_in, consumer_of, load, look_of, next_u64, note_of, part_on, with_access, word_of}
+use Rattle.mb_mailbox.specs.Below.{CellsName, ClaimAccess, ClaimTable, Cursor, History, Item, Look, Note, ReaderSeatView, SeatView, Stage, Stream, ToCells, ToClaims, Took, claims_at, load, look_of, next_u64, note_of, with_access, word_of}
 use Rattle.mb_mailbox.specs.declared.consumer.Poll.{Poll}
 use Rattle.mb_mailbox.specs.declared.consumer.Poll.TheVariants as poll
-use Rattle.mb_mailbox.specs.Consumers.{ConsumerView, IsConsumer, IsConsumerOf, parts_of}
+use Rattle.mb_mailbox.specs.Consumers.{ConsumerView, IsConsumerOf, parts_of}
 use Rattle.mb_mailbox.specs.Mailboxes.{MailboxView}
 use Rattle.mb_mailbox.specs.Moves.{moved_to}
 use Rattle.mb_mailbox.specs.NoteLists.{HasRoom, NotesGrow}
-use Rattle.mb_mailbox.specs.Steps.{ClaimTells, IsStep, LoadTells, link_answer, note_with, notes_on, stage_answer, with_note}
+use Rattle.mb_mailbox.specs.ConsumerStep.{ConsumerStep, link_answer, stage_answer}
+use Rattle.mb_mailbox.specs.Steps.{IsStep, note_with, notes_on, with_note}
 use Rattle.mb_mailbox.specs.declared.place.Place.{Place}
 use Rattle.std.specs.Option.{option_map_or}
 use Rattle.mb_mailbox.proofs.Lists.{get_some, map_get, map_set, set_get}
@@ -22,44 +21,46 @@ use Rattle.mb_mailbox.proofs.Lists.{get_some, map_get, map_set, set_get}
 abbrev pub at_views : ReaderSeatView → SeatView → List Place → List (List Note) → ConsumerView
 at_views reader seat places notes = record { reader = reader; seat = seat; places = places; notes = notes }
 
--- the one that moved is the one that there is
-pub is_moved : (s : ConsumerView) (p : ℕ) (place : Place) (o : Option Note) (reads : History) (made : List ClaimAccess)
+-- what holds of the one that moved
+pub moved_has : (P : ConsumerView → Type 0) → (s : ConsumerView) (p : ℕ) (place : Place) (o : Option Note) (reads : History) (made : List ClaimAccess)
     (reader : ReaderSeatView) (seat : SeatView) (places : List Place) (notes : List (List Note))
-    → IsConsumer (moved_to p place o reads made s)
+    → P (moved_to p place o reads made s)
     → reader ≡ record s.reader { part = reads } → seat ≡ record s.seat { part = made }
     → places ≡ slice_set s.places p place → notes ≡ with_note p o s.notes
-    → IsConsumer (at_views reader seat places notes)
-is_moved s p place o reads made reader seat places notes done e f g h =
-    subst IsConsumer (λ i. at_views (sym e i) (sym f i) (sym g i) (sym h i)) done
+    → P (at_views reader seat places notes)
+moved_has P s p place o reads made reader seat places notes done e f g h =
+    subst P (λ i. at_views (sym e i) (sym f i) (sym g i) (sym h i)) done
 
 -- ---- looks
-link_tells : (at : Cursor) (n : ℕ) (answer : Option Poll) → answer ≡ link_answer (look_of n) → LoadTells (word_of at) (Load n) answer
-link_tells (cursor.Head p) n answer e = e
-link_tells (cursor.Past k) n answer e = e
-
 pub look_made : (s old : ConsumerView) (p : ℕ) (at : Cursor) (reader : ReaderSeatView) (places : List Place) (l : Look) (answer : Option Poll)
-    → s ≡ old → LookMakes s.reader at l reader → answer ≡ link_answer l → note_with answer ≡ None → (t : Stream)
-    → IsStep p answer t t old (at_views reader s.seat places s.notes)
-look_made s old p at reader places l answer is m e quiet t =
+    → s ≡ old → LookMakes s.reader at l reader → answer ≡ link_answer l → note_with answer ≡ None
+    → ((v : ℕ) → ConsumerStep (claims_at s.seat.table) s.seat.consumer p (parts_of s.reader s.seat) (ToCells (load s.reader.reader (word_of at) v)) (link_answer (look_of v)))
+    → (t : Stream) → IsStep p answer t t old (at_views reader s.seat places s.notes)
+look_made s old p at reader places l answer is m e quiet next t =
     subst (λ o. IsStep p answer t t o (at_views reader s.seat places s.notes)) is
     (record {
       access = ToCells (load s.reader.reader (word_of at) m.0);
       done = record { reader = m.2.1; seat = refl; notes = sym (ap (λ o. with_note p o s.notes) quiet) };
+      leads = (
+        subst (λ o. ConsumerStep (claims_at s.seat.table) s.seat.consumer p (parts_of s.reader s.seat) (ToCells (load s.reader.reader (word_of at) m.0)) o)
+            (sym (e ∙ ap link_answer m.1)) (next m.0),
+        refl,
+      );
       drawn = refl;
-      tells = link_tells at m.0 answer (e ∙ ap link_answer m.1);
     })
 
 -- ---- items
 pub item_made : (s old : ConsumerView) (p k v : ℕ) (reader : ReaderSeatView) (places : List Place) (notes : List (List Note))
-    → s ≡ old → ItemMakes s.reader k v reader → notes ≡ with_note p (Some (Took v)) s.notes → (t : Stream)
-    → IsStep p (Some (poll.Took v)) t t old (at_views reader s.seat places notes)
-item_made s old p k v reader places notes is m put t =
+    → s ≡ old → ItemMakes s.reader k v reader → notes ≡ with_note p (Some (Took v)) s.notes
+    → ConsumerStep (claims_at s.seat.table) s.seat.consumer p (parts_of s.reader s.seat) (ToCells (load s.reader.reader (Item k) v)) (Some (poll.Took v))
+    → (t : Stream) → IsStep p (Some (poll.Took v)) t t old (at_views reader s.seat places notes)
+item_made s old p k v reader places notes is m put next t =
     subst (λ o. IsStep p (Some (poll.Took v)) t t o (at_views reader s.seat places notes)) is
     (record {
       access = ToCells (load s.reader.reader (Item k) v);
       done = record { reader = m.1; seat = refl; notes = put };
+      leads = (next, refl);
       drawn = refl;
-      tells = refl;
     })
 
 -- ---- claims
@@ -69,34 +70,22 @@ note_of_answer stage.Won = refl
 note_of_answer (stage.Lost w) = refl
 note_of_answer stage.Undecided = refl
 
-pub claim_made : (s old : ConsumerView) (p k word seen : ℕ) (next : ClaimOp) (claim : Claim) (size : TableSize) (seat : SeatView) (places : List Place)
-    (notes : List (List Note)) (answer : Option Poll) → s ≡ old → s.seat.table.size ≡ Some size
-    → seat ≡ with_access (access_of s.seat.consumer k next seen word) s.seat
-    → consumer_of claim ≡ s.seat.consumer
-    → IsClaimIn size.layout claim (part_on s.seat.consumer k seat.part)
-    → answer ≡ stage_answer (claim_stage claim)
-    → notes ≡ with_note p (note_of (claim_stage claim)) s.notes
+pub claim_made : (s old : ConsumerView) (p word : ℕ) (a : ClaimAccess) (st : Stage) (seat : SeatView) (places : List Place)
+    (notes : List (List Note)) (answer : Option Poll) → s ≡ old → seat ≡ with_access a s.seat → a.step.turn.word ≡ word
+    → answer ≡ stage_answer st → notes ≡ with_note p (note_of st) s.notes
+    → ConsumerStep (claims_at s.seat.table) s.seat.consumer p (parts_of s.reader s.seat) (ToClaims a) (stage_answer st)
     → (t u : Stream) → (word, u) ≡ next_u64 t
     → IsStep p answer t u old (at_views s.reader seat places notes)
-claim_made s old p k word seen next claim size seat places notes answer is table made own path tells put t u drawn =
-    let new = at_views s.reader seat places notes in
-    let c = s.seat.consumer in
-    let same : seat.consumer ≡ c = ap (λ (v : SeatView). v.consumer) made in
-    let there : seat.table.size ≡ Some size = ap (λ (v : SeatView). v.table.size) made ∙ table in
-    let has : HasStageIn (claims_in size.layout size.cells) c k (claim_stage claim) (parts_of s.reader (record seat { consumer = c })) =
-    subst (λ d. IsClaimPrefix (claims_in size.layout size.cells) d (part_on c k seat.part) (claim_stage claim)) own path.prefix in
-    let told : ClaimTells k new answer = (
-      claim_stage claim,
-      subst (λ (z : Option TableSize × ℕ). IsClaimPrefix (claims_at (record { id = seat.table.id; size = z.0 })) z.1 (part_on z.1 k seat.part) (claim_stage claim))
-          (λ i. (sym there i, sym same i)) has,
-      tells,
-    ) in
-    subst (λ o. IsStep p answer t u o new) is
+claim_made s old p word a st seat places notes answer is made drawn_word tells put next t u drawn =
+    subst (λ o. IsStep p answer t u o (at_views s.reader seat places notes)) is
     (record {
-      access = ToClaims (access_of c k next seen word);
-      done = record { reader = refl; seat = made; notes = put ∙ ap (λ o. with_note p o s.notes) (sym (note_of_answer (claim_stage claim)) ∙ ap note_with (sym tells)) };
-      drawn = (t, refl, drawn);
-      tells = told;
+      access = ToClaims a;
+      done = record { reader = refl; seat = made; notes = put ∙ ap (λ o. with_note p o s.notes) (sym (note_of_answer st) ∙ ap note_with (sym tells)) };
+      leads = (
+        subst (λ o. ConsumerStep (claims_at s.seat.table) s.seat.consumer p (parts_of s.reader s.seat) (ToClaims a) o) (sym tells) next,
+        refl,
+      );
+      drawn = (t, refl, subst (λ w. (w, u) ≡ next_u64 t) (sym drawn_word) drawn);
     })
 
 -- ---- the lists of notes

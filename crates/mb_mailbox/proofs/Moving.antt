@@ -4,10 +4,11 @@ use Rattle.std.specs.Prelude.{Some, None, slice_get}
 use Rattle.mb_claim.specs.declared.access.Stage.TheVariants as stage
 use Rattle.mb_mailbox.specs.Below.{Claim, Claims, Cursor, END, EndsAs, Fits, Gave, Has, IsAccessAfter, IsClaimIn, IsDoneWith, IsOnceEach, Item, Layout, Link, Lost, MayLookPast, MayRead, Note, ObjectTurn, Parts, PoolAccess, Took, Undecided, cells_met, claim_stage, claims_in, consumer_of, load, note_of, place_past, with_load, word_of}
 use Rattle.mb_mailbox.specs.Consumers.{AreEnds, ConsumerView, IsAt, IsBefore, IsConsumer, parts_of}
-use Rattle.mb_mailbox.specs.Moves.{HasLoads, HasPlace, HasTurns, link_load, moved_to}
+use Rattle.mb_mailbox.specs.Moves.{HasLoads, HasPlace, HasTurns, reads_with_link, moved_to}
 use Rattle.mb_mailbox.specs.declared.place.Place.{Place}
 use Rattle.mb_mailbox.specs.declared.place.Place.TheVariants.{At, Before}
-use Rattle.mb_mailbox.proofs.KnownLoads.{Known, Laws, fresh, known, past_apart, past_item, past_link, read-cases, read-more}
+use Rattle.mb_mailbox.specs.Laws.{Laws}
+use Rattle.mb_mailbox.proofs.KnownLoads.{Known, fresh, known, past_apart, past_item, past_link, read-cases, read-more}
 use Rattle.mb_mailbox.proofs.Lists.{get_some, get_within}
 use Rattle.mb_mailbox.proofs.Standings.{Leaves, end_kept, ends_more, moves}
 
@@ -22,7 +23,7 @@ list_there s p place i e =
     get_some s.notes p (subst (λ n. p < n) (i.places_count ∙ sym i.notes_count) (get_within s.places p place e))
 
 -- where it stands there
-before : (s : ConsumerView) (p : ℕ) (at : Cursor) (i : IsConsumer s) → slice_get s.places p ≡ Some (Before at)
+pub before : (s : ConsumerView) (p : ℕ) (at : Cursor) (i : IsConsumer s) → slice_get s.places p ≡ Some (Before at)
     → (ns : List Note) × (slice_get s.notes p ≡ Some ns) × IsBefore (claims_in i.size.layout i.size.cells) s.seat.consumer p (parts_of s.reader s.seat) ns at
 before s p at i e = let l = list_there s p (Before at) i e in (l.0, l.1, i.lanes p (Before at) l.0 e l.1)
 
@@ -58,7 +59,7 @@ done_with laws layout cells c k Undecided x e = record {
   taken = λ won. let f : stage.Undecided ≡ stage.Won = laws.one_stage (claims_in layout cells) c (x.claimed k) stage.Undecided stage.Won (laws.table layout) e won in absurd (cc);
 }
 
-may_past : Laws → (layout : Layout) (cells c : ℕ) (ks : List ℕ) (ns : List Note) (x : Parts) → AreEnds (claims_in layout cells) c ks ns x
+pub may_past : Laws → (layout : Layout) (cells c : ℕ) (ks : List ℕ) (ns : List Note) (x : Parts) → AreEnds (claims_in layout cells) c ks ns x
     → MayLookPast (claims_in layout cells) c ks x
 may_past laws layout cells c [] ns x e = tt
 may_past laws layout cells c (k ∷ ks) [] x e = absurd e
@@ -111,11 +112,11 @@ module _ (laws : Laws) (s : ConsumerView) (p : ℕ) (at : Cursor) (i : IsConsume
   word = (before s p at i e).2.word
 
   with_word : (v : ℕ) (place : Place) → IsConsumer (moved_to p place None (a v ∷ s.reader.part) s.seat.part s)
-      → IsConsumer (moved_to p place None (link_load s at v) s.seat.part s)
+      → IsConsumer (moved_to p place None (reads_with_link s at v) s.seat.part s)
   with_word v place done =
       subst (λ w. IsConsumer (moved_to p place None (load s.reader.reader w v ∷ s.reader.part) s.seat.part s)) (sym word) done
 
-  pub waits : (v : ℕ) → (v ≡ 0) ⊎ (v ≡ END) → IsConsumer (moved_to p (Before at) None (link_load s at v) s.seat.part s)
+  pub waits : (v : ℕ) → (v ≡ 0) ⊎ (v ≡ END) → IsConsumer (moved_to p (Before at) None (reads_with_link s at v) s.seat.part s)
   waits v says =
       let met : cells_met p (a v ∷ s.reader.part) ≡ ks = laws.none s.reader.reader p v s.reader.part says in
       with_word v (Before at)
@@ -129,7 +130,7 @@ module _ (laws : Laws) (s : ConsumerView) (p : ℕ) (at : Cursor) (i : IsConsume
   pub finds : (k : ℕ) (claim : Claim) → k + 1 ≢ END
       → IsAccessAfter s.reader.table.size s.reader.known (load s.reader.reader (word_of at) (k + 1)) s.reader.part
       → consumer_of claim ≡ c → claim_stage claim ≡ stage.Going → HasTurns s claim []
-      → IsConsumer (moved_to p (At k claim) None (link_load s at (k + 1)) s.seat.part s)
+      → IsConsumer (moved_to p (At k claim) None (reads_with_link s at (k + 1)) s.seat.part s)
   finds k claim real comes own going turns =
       let v = k + 1 in
       let met : cells_met p (a v ∷ s.reader.part) ≡ k ∷ ks = laws.cell s.reader.reader p k s.reader.part real in

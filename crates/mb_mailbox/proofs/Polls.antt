@@ -1,13 +1,12 @@
 -- Steps on a lane, one after another.
-use Rattle.std.proofs.Common.{◌≡◌, ℕ, ◌+◌, ◌<◌, [], ◌∷◌, refl, sym, ap, ◌∙◌, subst, arith}
-use Rattle.std.specs.Prelude.{Option, Some, None}
-use Rattle.mb_claim.specs.declared.access.Stage.TheVariants as stage
-use Rattle.mb_cells.specs.declared.answer.Look.TheVariants as look
-use Rattle.mb_mailbox.specs.Below.{Counter, FetchAdd, Head, Item, Link, Load, Look, PoolAct, ReaderSeatView, SeatView, Stage, Store, Stream, ToCells, ToClaims, Word, WorldAccess, WorldHistory, look_of}
+use Rattle.std.proofs.Common.{◌≤◌, ◌≡◌, ℕ, ◌+◌, [], ◌∷◌, refl, sym, ap, ◌∙◌, subst, arith}
+use Rattle.std.specs.Prelude.{Option, None, slice_get}
+use Rattle.mb_mailbox.specs.Below.{ReaderSeatView, SeatView, Stream, ToCells, ToClaims, WorldAccess, WorldHistory, claims_at}
 use Rattle.mb_mailbox.specs.declared.consumer.Poll.{Poll}
 use Rattle.mb_mailbox.specs.declared.consumer.Poll.TheVariants as poll
-use Rattle.mb_mailbox.specs.Consumers.{ConsumerView}
-use Rattle.mb_mailbox.specs.Steps.{AreDrawn, AreSteps, HasDone, IsPolled, IsStep, LoadTells, Tells, link_answer, note_with, stage_answer, with_note, words_of}
+use Rattle.mb_mailbox.specs.Consumers.{ConsumerView, parts_of}
+use Rattle.mb_mailbox.specs.ConsumerStep.{ConsumerStep}
+use Rattle.mb_mailbox.specs.Steps.{AnswerTells, AreDrawn, AreSteps, HasDone, IsPollOf, IsStep, LeadTo, note_with, outcome, with_note, words_of}
 
 -- one access more
 done_more : (p : ℕ) (a : WorldAccess) (done : WorldHistory) (answer : Option Poll) (old now new : ConsumerView) → HasDone p done None old now
@@ -23,86 +22,55 @@ done_more p (ToClaims b) done answer old now new was h = record {
   notes = h.notes ∙ ap (with_note p (note_with answer)) was.notes;
 }
 
+lead_more : (p : ℕ) (a : WorldAccess) (done : WorldHistory) (answer : Option Poll) (old now : ConsumerView) → HasDone p done None old now
+    → LeadTo p None done old → LeadTo p answer (a ∷ []) now → LeadTo p answer (a ∷ done) old
+lead_more p a done answer old now was lead step = (
+  subst (λ (z : ReaderSeatView × SeatView). ConsumerStep (claims_at z.1.table) z.1.consumer p (parts_of z.0 z.1) a answer)
+      (λ j. (was.reader j, was.seat j)) step.0,
+  lead,
+)
+
 drawn_more : (a : WorldAccess) (done : WorldHistory) (s t u : Stream) → AreDrawn s (words_of done) t → AreDrawn t (words_of (a ∷ [])) u
     → AreDrawn s (words_of (a ∷ done)) u
 drawn_more (ToCells b) done s t u was d = subst (λ z. AreDrawn s (words_of done) z) (sym d) was
 drawn_more (ToClaims b) done s t u was d = (d.0, subst (λ z. AreDrawn s (words_of done) z) (sym d.1) was, d.2)
 
-pub steps_more : (p n : ℕ) (s t u : Stream) (old now new : ConsumerView) → AreSteps p n s t old now → IsStep p None t u now new
-    → AreSteps p (n + 1) s u old new
-steps_more p n s t u old now new m st =
+pub steps_more : (p n : ℕ) (answer : Option Poll) (s t u : Stream) (old now new : ConsumerView) → AreSteps p n None s t old now → IsStep p answer t u now new
+    → AreSteps p (n + 1) answer s u old new
+steps_more p n answer s t u old now new m st =
     let count = m.count in
     record {
       accesses = st.access ∷ m.accesses;
-      done = done_more p st.access m.accesses None old now new m.done st.done;
+      done = done_more p st.access m.accesses answer old now new m.done st.done;
+      lead = lead_more p st.access m.accesses answer old now m.done m.lead st.leads;
       drawn = drawn_more st.access m.accesses s t u m.drawn st.drawn;
       count = omega arith;
     }
 
-pub no_steps : (p : ℕ) (s : Stream) (old : ConsumerView) → AreSteps p 0 s s old old
-no_steps p s old = record { accesses = []; done = record { reader = refl; seat = refl; notes = refl }; drawn = refl; count = refl }
+pub no_steps : (p : ℕ) (s : Stream) (old : ConsumerView) → AreSteps p 0 None s s old old
+no_steps p s old = record { accesses = []; done = record { reader = refl; seat = refl; notes = refl }; lead = refl; drawn = refl; count = refl }
 
--- ---- an access tells no other answers
-abbrev pub IsTold : Poll → Type 0
-IsTold poll.Spent = ⊥
-IsTold poll.NoLane = ⊥
-IsTold _ = Unit {0}
-
-some_in : (a b : Poll) → Some a ≡ Some b → a ≡ b
-some_in a b e = cc
-
-link_told : (l : Look) (x : Poll) → Some x ≡ link_answer l → IsTold x
-link_told look.Nothing x e = subst IsTold (sym (some_in x poll.Nothing e)) tt
-link_told look.Ended x e = subst IsTold (sym (some_in x poll.Ended e)) tt
-link_told (look.Cell k) x e = absurd (cc)
-
-stage_told : (st : Stage) (x : Poll) → Some x ≡ stage_answer st → IsTold x
-stage_told stage.Going x e = absurd (cc)
-stage_told stage.Won x e = absurd (cc)
-stage_told (stage.Lost w) x e = subst IsTold (sym (some_in x (poll.Lost w) e)) tt
-stage_told stage.Undecided x e = subst IsTold (sym (some_in x poll.Undecided e)) tt
-
-load_told : (w : Word) (act : PoolAct) (x : Poll) → LoadTells w act (Some x) → IsTold x
-load_told (Head p) (Load v) x e = link_told (look_of v) x e
-load_told (Link k) (Load v) x e = link_told (look_of v) x e
-load_told (Item k) (Load v) x e = subst IsTold (sym (some_in x (poll.Took v) e)) tt
-load_told Counter act x e = absurd e
-load_told (Head p) (Store v) x e = absurd e
-load_told (Link k) (Store v) x e = absurd e
-load_told (Item k) (Store v) x e = absurd e
-load_told (Head p) (FetchAdd y v) x e = absurd e
-load_told (Link k) (FetchAdd y v) x e = absurd e
-load_told (Item k) (FetchAdd y v) x e = absurd e
-
-told : (a : WorldAccess) (new : ConsumerView) (x : Poll) → Tells a new (Some x) → IsTold x
-told (ToCells a) new x e = load_told a.word a.act x e
-told (ToClaims a) new x e = stage_told e.0 x e.2
-
-pub never_lane : (p : ℕ) (t u : Stream) (now new : ConsumerView) (x : Poll) → IsStep p (Some x) t u now new → x ≡ poll.NoLane → ⊥
-never_lane p t u now new x st e = subst IsTold e (told st.access new x st.tells)
+pub one_step : (p : ℕ) (answer : Option Poll) (s t : Stream) (old new : ConsumerView) → IsStep p answer s t old new → AreSteps p 1 answer s t old new
+one_step p answer s t old new st = steps_more p 0 answer s s t old old new (no_steps p s old) st
 
 -- ---- polls
-pub polled_by : (p n budget : ℕ) (x : Poll) (s t u : Stream) (old now new : ConsumerView) → AreSteps p n s t old now → n < budget
-    → IsStep p (Some x) t u now new → IsPolled p budget x s u old new
-polled_by p n budget x s t u old now new m low st =
-    let count = m.count in
-    record {
-      accesses = st.access ∷ m.accesses;
-      done = done_more p st.access m.accesses (Some x) old now new m.done st.done;
-      drawn = drawn_more st.access m.accesses s t u m.drawn st.drawn;
-      within = omega arith;
-      spent = λ e. absurd (subst IsTold e (told st.access new x st.tells));
-      outcome = λ _. st.tells;
-    }
+pub poll_of : (p n budget : ℕ) (x : Poll) (s t : Stream) (old new : ConsumerView) → AreSteps p n (outcome x) s t old new → n ≤ budget
+    → (x ≡ poll.Spent → n ≡ budget) → IsPollOf p budget x s t old new
+poll_of p n budget x s t old new m few all = record {
+  accesses = m.accesses;
+  done = m.done;
+  lead = m.lead;
+  drawn = m.drawn;
+  within = subst (λ z. z ≤ budget) (sym m.count) few;
+  spent = λ e. m.count ∙ all e;
+}
 
-pub polled_out : (p budget : ℕ) (s t : Stream) (old now : ConsumerView) → AreSteps p budget s t old now → IsPolled p budget poll.Spent s t old now
-polled_out p budget s t old now m =
-    let count = m.count in
-    record {
-      accesses = m.accesses;
-      done = record { reader = m.done.reader; seat = m.done.seat; notes = m.done.notes };
-      drawn = m.drawn;
-      within = omega arith;
-      spent = λ _. count;
-      outcome = λ ne. absurd (ne refl);
-    }
+-- what tells the lane of one consumer tells it of another that knows the same
+pub told_from : (p : ℕ) (answer : Option Poll) (old now new : ConsumerView) → now.reader.known ≡ old.reader.known
+    → AnswerTells p answer now new → AnswerTells p answer old new
+told_from p answer old now new same tells = record {
+  noted = tells.noted;
+  ended = tells.ended;
+  known_nothing = λ theirs k. tells.known_nothing theirs (ap (λ ks. slice_get ks p) same ∙ k);
+  known_ended = λ theirs k. tells.known_ended theirs (ap (λ ks. slice_get ks p) same ∙ k);
+}

@@ -1,7 +1,7 @@
 -- A producer moves on by its calls.
 use Rattle.std.proofs.Common.{◌≡◌, ◌≢◌, ◌↔◌, ℕ, ◌+◌, ◌<◌, ◌≤◌, Bool, true, false, cond, List, [], ◌∷◌, ◌++◌, length, map, refl, sym, ap, ◌∙◌, subst, arith}
 use Rattle.std.specs.Prelude.{Option, Some, None, nat_lt}
-use Rattle.std.proofs.lemmas.Bool.{ltb-true, eq-eqb}
+use Rattle.std.proofs.lemmas.Bool.{ltb-true, eq-eqb, ne_eqb}
 use Rattle.std.proofs.lemmas.List.{length-append, length-map, map-append}
 use Rattle.mb_cells.specs.declared.access.PoolAccess.{PoolAccess}
 use Rattle.mb_cells.specs.declared.access.Process.{Process}
@@ -15,37 +15,26 @@ use Rattle.mb_cells.specs.declared.lane.LaneStage.TheVariants as stage
 use Rattle.mb_cells.specs.Vocabulary.{Entry, HasFoundNone, IsLaneAfter, entry_at, fetch, finish_refusal, item_of, link_after, next_link, offer_refusal, push_store, put_list, stage_offer_refusal, stage_push_store, store}
 use Rattle.mb_shared_cells.specs.Vocabulary.{IsAccessAfter, LaneMakes, LaneSeatView, OfferBy, OfferMakes, PushMakes}
 use Rattle.mb_world.specs.Reporting.{values_put}
-use Rattle.mb_mailbox.specs.Below.{END, Has, History, IsPoolLawful, Item, PoolSize, Producer, Word, has_ended, part}
+use Rattle.mb_mailbox.specs.Below.{Counter, END, Head, History, Item, Link, Word, has_ended}
 use Rattle.mb_cells.specs.Vocabulary.{IsLinkWord}
 use Rattle.mb_mailbox.specs.PartPlaces.{HasPart}
-use Rattle.mb_mailbox.specs.Producers.{IsLinked, IsProducer, ProducerView}
+use Rattle.mb_mailbox.specs.Producers.{FoundNoCell, IsProducer, IsPutInto, ProducerView, is_over}
+use Rattle.mb_mailbox.specs.PutLaws.{PutLaws}
 
 -- the producer with this seat and these items
 abbrev pub producer_at : LaneSeatView → List ℕ → ProducerView
 producer_at seat items = record { seat = seat; items = items }
 
--- the laws
-pub record PutLaws : Type 0 where
-  pub few : (size : PoolSize) (h : History) (p : ℕ) → IsPoolLawful size h → length (put_list p h) ≤ size.cells
-  pub put : (size : PoolSize) (h : History) (p : ℕ) → IsPoolLawful size h → put_list p h ≡ put_list p (part (Producer p) h)
-  pub ended : (h : History) (p : ℕ) → has_ended p h ≡ has_ended p (part (Producer p) h)
-  pub own : (h : History) (a : PoolAccess) → part a.process (a ∷ h) ≡ a ∷ part a.process h
-  pub older : (size : PoolSize) (later older : History) → IsPoolLawful size (later ++ older) → IsPoolLawful size older
-  pub all : (h : History) (who : Process) (a : PoolAccess) → Has h a → a.process ≡ who → Has (part who h) a
-  pub link : (h : History) (p k : ℕ) (w : Word) → IsLinkWord w → k + 1 ≢ END → put_list p (store p w (k + 1) ∷ h) ≡ put_list p h ++ entry_at k h ∷ []
-  pub fetched : (size : PoolSize) (h : History) (p q : ℕ) (e : Entry) → IsPoolLawful size (fetch p e ∷ h) → put_list q (fetch p e ∷ h) ≡ put_list q h
-  pub item : (h : History) (p q k v : ℕ) → put_list q (store p (Item k) v ∷ h) ≡ put_list q h
-  pub end : (h : History) (p q : ℕ) (w : Word) → IsLinkWord w → put_list q (store p w END ∷ h) ≡ put_list q h
-  pub closed : (size : PoolSize) (h : History) (p : ℕ) (lane : Lane) → IsPoolLawful size h → IsLaneAfter size.cells p lane (part (Producer p) h)
-      → (offer_refusal lane ≡ Some offer.Closed) ↔ (has_ended p h ≡ true)
-  pub full : (size : PoolSize) (h : History) (p : ℕ) (lane : Lane) → IsPoolLawful size h → IsLaneAfter size.cells p lane (part (Producer p) h)
-      → (offer_refusal lane ≡ Some offer.Full) ↔ ((has_ended p h ≡ false) × HasFoundNone size.cells p h)
-  pub over : (size : PoolSize) (h : History) (p : ℕ) (lane : Lane) → IsPoolLawful size h → IsLaneAfter size.cells p lane (part (Producer p) h)
-      → (finish_refusal lane ≡ Some finish.Closed) ↔ (has_ended p h ≡ true)
-
 pub link_word : (p : ℕ) (last : Option ℕ) → IsLinkWord (link_after p last)
 link_word p None = tt
 link_word p (Some k) = tt
+
+-- a link to a cell is no end mark
+no_mark : (p k : ℕ) (w : Word) (h : History) → IsLinkWord w → k + 1 ≢ END → has_ended p (store p w (k + 1) ∷ h) ≡ has_ended p h
+no_mark p k (Head q) h l ne = rw (eq-eqb p p refl) (rw (ne_eqb (k + 1) END ne) refl)
+no_mark p k (Link q) h l ne = rw (eq-eqb p p refl) (rw (ne_eqb (k + 1) END ne) refl)
+no_mark p k (Item q) h l ne = absurd l
+no_mark p k Counter h l ne = absurd l
 
 -- an offer that was answered with a cell made its fetch-add
 record Took (old : LaneSeatView) (x k : ℕ) (new : LaneSeatView) : Type 0 where
@@ -109,9 +98,10 @@ module _ (laws : PutLaws) (s : ProducerView) (x k : ℕ) (one two : Push) (a b n
       (record s.seat { place = record { last = s.seat.place.last; stage = stage.Stored k }; part = h }) now
   second = (subst (λ v. PushMakes v two now) first.1 g).1
 
-  pub is_linked : IsLinked k x s (record { seat = now; items = s.items ++ x ∷ [] })
-  is_linked = record {
+  pub is_put : IsPutInto k x s (record { seat = now; items = s.items ++ x ∷ [] })
+  is_put = record {
     same = record { table = ap (λ (v : LaneSeatView). v.table) second.1; lane = ap (λ (v : LaneSeatView). v.lane) second.1 };
+    within = took.low;
     part = ap (λ (v : LaneSeatView). v.part) second.1;
     items = refl;
   }
@@ -149,6 +139,13 @@ module _ (laws : PutLaws) (s : ProducerView) (x k : ℕ) (one two : Push) (a b n
       let count : length s.items ≡ length (put_list p s.seat.part) = ap length i.items ∙ length-map (put_list p s.seat.part) (λ (z : Entry). z.value) in
       omega arith
 
+  -- the two links and the fetch-add are no end mark
+  pub over_stays : is_over (record { seat = now; items = s.items ++ x ∷ [] }) ≡ is_over s
+  over_stays =
+      let no_end : k + 1 ≢ END = let low = took.low in let few = first.0.lawful.sized in λ z. omega arith in
+      ap (λ (v : LaneSeatView). has_ended v.lane v.part) second.1 ∙ no_mark p k (next_link p s.seat.place) h (link_word p s.seat.place.last) no_end
+      ∙ rw (eq-eqb p p refl) refl
+
 -- ---- other answers of an offer
 same_offer : (a b : Offer) → Some a ≡ Some b → a ≡ b
 same_offer a b e = cc
@@ -181,9 +178,9 @@ answered : (o : Option Offer) (r : Offer) (old : LaneSeatView) (x : ℕ) (answer
 answered (Some q) r old x answer now e m = m.0 ∙ same_offer q r e
 answered None r old x answer now e m = absurd (cc)
 
-pub is_over : PutLaws → (s : ProducerView) (x : ℕ) (answer : Offer) (now : LaneSeatView) → HasPart s.seat → OfferMakes s.seat x answer now
+pub offer_is_over : PutLaws → (s : ProducerView) (x : ℕ) (answer : Offer) (now : LaneSeatView) → HasPart s.seat → OfferMakes s.seat x answer now
     → has_ended s.seat.lane s.seat.part ≡ true → answer ≡ offer.Closed
-is_over laws s x answer now h m over =
+offer_is_over laws s x answer now h m over =
     let p = s.seat.lane in
     let g = h.history.0 in
     let place = subst (λ d. IsLaneAfter s.seat.table.size.cells p s.seat.place d) (sym h.history.2) h.place in

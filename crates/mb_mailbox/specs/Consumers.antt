@@ -5,8 +5,8 @@ use Rattle.mb_mailbox.specs.Mailboxes.{MailboxView}
 use Rattle.mb_mailbox.specs.declared.place.Place.{Place}
 use Rattle.mb_mailbox.specs.declared.place.Place.TheVariants.{At, Before}
 
--- its seat among the readers of the cells, its seat among the consumers of the claims, and for each lane where it stands
--- there and its notes
+-- its seat among the readers of the cells, its seat among the consumers of the claims, and for each lane where
+-- it stands there and its notes
 pub record ConsumerView : Type 0 where
   pub reader : ReaderSeatView
   pub seat : SeatView
@@ -15,7 +15,8 @@ pub record ConsumerView : Type 0 where
 
 -- what it loaded from the cells, and what it did for its claims
 abbrev pub parts_of : ReaderSeatView → SeatView → Parts
-parts_of reader seat = record { reads = reader.part; claimed = λ k. part_on seat.consumer k seat.part }
+parts_of reader seat =
+    record { reads = reader.part; claimed = λ k. part_on seat.consumer k seat.part }
 
 -- the claims on these cells (the last first) have ended with these notes
 abbrev pub AreEnds : Claims → ℕ → List ℕ → List Note → Parts → Type 0
@@ -23,14 +24,16 @@ AreEnds cs c [] [] x = Unit {0}
 AreEnds cs c (k ∷ ks) (n ∷ ns) x = EndsAs cs c k n x × AreEnds cs c ks ns x
 AreEnds cs c _ _ x = ⊥
 
--- it stands before the link of the last cell that it met on lane p, or before the lane's head, and has a note on each cell
-pub record IsBefore (cs : Claims) (c p : ℕ) (x : Parts) (notes : List Note) (at : Cursor) : Type 0 where
+-- it stands before the link of the last cell that it met on lane p, or before the lane's head, and has a note
+-- on each cell
+pub record IsBefore (cs : Claims) (c p : ℕ) (x : Parts) (notes : List Note) (at : Cursor)
+    : Type 0 where
   pub word : word_of at ≡ place_past p (cells_met p x.reads)
   pub ended : AreEnds cs c (cells_met p x.reads) (reverse notes) x
 
 -- it holds a claim on the last cell that it met there, which has no note, and has one on each cell before
-pub record IsAt (layout : Layout) (cs : Claims) (c p : ℕ) (x : Parts) (notes : List Note) (k : ℕ) (claim : Claim)
-    : Type 0 where
+pub record IsAt (layout : Layout) (cs : Claims) (c p : ℕ) (x : Parts) (notes : List Note) (k : ℕ)
+    (claim : Claim) : Type 0 where
   pub cells : List ℕ
   pub met : cells_met p x.reads ≡ k ∷ cells
   pub ended : AreEnds cs c cells (reverse notes) x

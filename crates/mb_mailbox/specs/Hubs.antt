@@ -1,14 +1,19 @@
 -- The hub of a mailbox: what it gave, and what it has taken in.
-use Rattle.std.specs.Prelude.{ℕ, ◌≡◌, List, [], ◌∷◌, ◌++◌, Option, Some, None, length, option_map, map, Vec, slice_get, slice_set}
-use Rattle.mb_cells.specs.Vocabulary.{new_lane}
+use Rattle.std.specs.Prelude.{ℕ, ◌≡◌, ◌<◌, ◌≤◌, Bool, List, [], ◌∷◌, ◌++◌, Option, Some, None, length, slice_get, slice_set}
+use Rattle.mb_cells.specs.Vocabulary.{Entry, fetch, new_lane}
 use Rattle.mb_shared_cells.specs.Vocabulary.{CellHubView, empty_roll, roll_with_lane, roll_with_part, roll_with_reader}
 use Rattle.mb_shared_claims.specs.Vocabulary.{HubView as ClaimHubView}
 use Rattle.mb_world.specs.Reporting.{values_put}
-use Rattle.mb_mailbox.specs.Below.{ClaimAccess, ClaimTable, Fits, History, Note, Parts, Producer, Reader, TableSize, claims_in, name_of, part_on}
+use Rattle.mb_mailbox.specs.Below.{ClaimAccess, ClaimTable, Fits, Has, History, Note, Parts, Producer, Reader, TableSize, claims_at, claims_in, has_ended, linked_cells, name_of, part_on}
 use Rattle.mb_mailbox.specs.Mailboxes.{MailboxView}
 use Rattle.mb_mailbox.specs.Consumers.{ConsumerView, StandsOn}
 use Rattle.mb_mailbox.specs.Producers.{ProducerView}
 use Rattle.mb_mailbox.specs.declared.place.Place.{Place}
+
+-- what is kept of a producer that was taken in: its items, and whether it has ended its lane
+pub record PutListView : Type 0 where
+  pub items : List ℕ
+  pub ended : Bool
 
 -- what is kept of a consumer that was taken in: for each lane where it stood, and its notes
 pub record LedgerView : Type 0 where
@@ -19,22 +24,36 @@ pub record LedgerView : Type 0 where
 abbrev pub parts_by : ℕ → History → List ClaimAccess → Parts
 parts_by c reads done = record { reads = reads; claimed = λ k. part_on c k done }
 
--- the hubs of both tables, and by the numbers given the items of the producers that were taken in, and the ledgers of the
--- consumers
+-- the hubs of both tables, and by the numbers given the put lists of the producers that were
+-- taken in, and the ledgers of the consumers
 pub record HubView : Type 0 where
   pub cells : CellHubView
   pub claims : ClaimHubView
-  pub puts : List (Option (List ℕ))
+  pub puts : List (Option PutListView)
   pub ledgers : List (Option LedgerView)
 
--- the ledger is that of consumer c, which did this: its two parts fit each other, and tell where it stood and its notes
-pub record IsLedger (table : ClaimTable) (c : ℕ) (reads : History) (done : List ClaimAccess) (l : LedgerView) : Type 0 where
+-- the put list is that of the producer of lane p, which did this in a pool of so many cells
+pub record IsPutList (cells p : ℕ) (done : History) (l : PutListView) : Type 0 where
+  pub items : l.items ≡ values_put p done
+  pub ended : l.ended ≡ has_ended p done
+  -- it has linked each cell that it got
+  pub linked : (e : Entry) → Has done (fetch p e) → e.cell < cells
+      → Has (linked_cells p done) e.cell
+
+-- the ledger is that of consumer c, which did this where there are so many lanes: its two parts
+-- fit each other, and tell where it stood on each lane and its notes there
+pub record IsLedger
+    (table : ClaimTable) (count c : ℕ) (reads : History) (done : List ClaimAccess) (l : LedgerView)
+    : Type 0 where
   pub size : TableSize
   pub of : table.size ≡ Some size
   pub fit : Fits (claims_in size.layout size.cells) c (parts_by c reads done)
+  pub places_count : length l.places ≡ count
+  pub notes_count : length l.notes ≡ count
   pub lanes : (p : ℕ) (place : Place) (notes : List Note) → slice_get l.places p ≡ Some place
       → slice_get l.notes p ≡ Some notes
-      → StandsOn size.layout (claims_in size.layout size.cells) c p (parts_by c reads done) notes place
+      → StandsOn size.layout (claims_in size.layout size.cells) c p (parts_by c reads done)
+      notes place
 
 -- a hub that has given no number
 abbrev pub hub_empty : MailboxView → HubView
@@ -45,18 +64,23 @@ hub_empty m = record {
   ledgers = [];
 }
 
--- what each hub keeps: a number of a producer is its lane's, and one of a consumer is that of its reader and of its seat
+-- what each hub keeps: a number of a producer is its lane's, and one of a consumer is that of its
+-- reader and of its seat
 pub record IsHub (h : HubView) : Type 0 where
   pub lanes : length h.puts ≡ length h.cells.roll.lanes
   pub readers : length h.ledgers ≡ length h.cells.roll.readers
   pub seats : length h.ledgers ≡ length h.claims.roll
-  -- and the items of a producer are those that its part puts into the lane
-  pub taken : (c : ℕ) (ledger : LedgerView) → slice_get h.ledgers c ≡ Some (Some ledger)
+  -- there are no more than the mailbox has
+  pub few_lanes : length h.puts ≤ h.cells.table.size.lanes
+  pub few_consumers : length h.ledgers ≤ (claims_at h.claims.table).table.values
+  -- and what is kept of one that was taken in is told by what it did
+  pub put : (p : ℕ) (l : PutListView) → slice_get h.puts p ≡ Some (Some l)
+      → (done : History) × (slice_get h.cells.roll.lanes p ≡ Some (Some done))
+      × IsPutList h.cells.table.size.cells p done l
+  pub taken : (c : ℕ) (l : LedgerView) → slice_get h.ledgers c ≡ Some (Some l)
       → (reads : History) × (slice_get h.cells.roll.readers c ≡ Some (Some reads))
       × ((done : List ClaimAccess) × (slice_get h.claims.roll c ≡ Some (Some done))
-      × IsLedger h.claims.table c reads done ledger)
-  pub put : (p : ℕ) (items : List ℕ) → slice_get h.puts p ≡ Some (Some items)
-      → (done : History) × (slice_get h.cells.roll.lanes p ≡ Some (Some done)) × (items ≡ values_put p done)
+      × IsLedger h.claims.table h.cells.table.size.lanes c reads done l)
 
 -- the hub is the mailbox's
 pub record IsHubOf (m : MailboxView) (h : HubView) : Type 0 where
@@ -78,7 +102,12 @@ with_producer h = record h {
 
 -- the consumer of the next number, which has done nothing
 pub record IsNewConsumer (m : MailboxView) (h : HubView) (s : ConsumerView) : Type 0 where
-  pub reader : s.reader ≡ record { table = m.cells; reader = length h.ledgers; known = h.cells.roll.lanes; part = [] }
+  pub reader : s.reader ≡ record {
+    table = m.cells;
+    reader = length h.ledgers;
+    known = h.cells.roll.lanes;
+    part = [];
+  }
   pub seat : s.seat ≡ record { table = name_of m.claims; consumer = length h.ledgers; part = [] }
   pub notes : (p : ℕ) (notes : List Note) → slice_get s.notes p ≡ Some notes → notes ≡ []
 
@@ -90,19 +119,30 @@ with_consumer h = record h {
 }
 
 -- ---- what it takes in
+abbrev pub put_list_of : ProducerView → PutListView
+put_list_of s = record { items = s.items; ended = has_ended s.seat.lane s.seat.part }
+
+abbrev pub ledger_of : ConsumerView → LedgerView
+ledger_of s = record { places = s.places; notes = s.notes }
+
 abbrev pub with_taken_producer : ProducerView → HubView → HubView
 with_taken_producer s h = record h {
-  cells = record { table = h.cells.table; roll = roll_with_part (Producer s.seat.lane) s.seat.part h.cells.roll };
-  puts = slice_set h.puts s.seat.lane (Some s.items);
+  cells = record {
+    table = h.cells.table;
+    roll = roll_with_part (Producer s.seat.lane) s.seat.part h.cells.roll;
+  };
+  puts = slice_set h.puts s.seat.lane (Some (put_list_of s));
 }
 
 abbrev pub with_taken_consumer : ConsumerView → HubView → HubView
 with_taken_consumer s h = record h {
-  cells = record { table = h.cells.table; roll = roll_with_part (Reader s.reader.reader) s.reader.part h.cells.roll };
-  claims = record { table = h.claims.table; roll = slice_set h.claims.roll s.seat.consumer (Some s.seat.part) };
-  ledgers = slice_set h.ledgers s.seat.consumer (Some (record { places = s.places; notes = s.notes }));
+  cells = record {
+    table = h.cells.table;
+    roll = roll_with_part (Reader s.reader.reader) s.reader.part h.cells.roll;
+  };
+  claims = record {
+    table = h.claims.table;
+    roll = slice_set h.claims.roll s.seat.consumer (Some s.seat.part);
+  };
+  ledgers = slice_set h.ledgers s.seat.consumer (Some (ledger_of s));
 }
-
--- the items of the lists that there are
-abbrev pub put_lists : {Z : Type 0} → List (Option (Vec ℕ Z)) → List (Option (List ℕ))
-put_lists xs = map (λ x. option_map (λ v. v.items) x) xs

@@ -16,10 +16,12 @@ HasLoads s = HasHistory s.reader.table.size (Reader s.reader.reader) s.reader.pa
 
 -- the claim has made these turns
 abbrev pub HasTurns : ConsumerView → Claim → List ObjectTurn → Type 0
-HasTurns s claim xs = (size : TableSize) → s.seat.table.size ≡ Some size → IsClaimIn size.layout claim xs
+HasTurns s claim xs =
+    (size : TableSize) → s.seat.table.size ≡ Some size → IsClaimIn size.layout claim xs
 
 -- the consumer with these parts, at this place on lane p, with one note more there, if there is one
-abbrev pub moved_to : ℕ → Place → Option Note → History → List ClaimAccess → ConsumerView → ConsumerView
+abbrev pub moved_to : ℕ → Place → Option Note → History → List ClaimAccess → ConsumerView
+    → ConsumerView
 moved_to p place note reads made s = record {
   reader = record s.reader { part = reads };
   seat = record s.seat { part = made };
@@ -27,9 +29,9 @@ moved_to p place note reads made s = record {
   notes = with_note p note s.notes;
 }
 
--- its load of the link at a cursor, and that of an item
-abbrev pub link_load : ConsumerView → Cursor → ℕ → History
-link_load s at v = load s.reader.reader (word_of at) v ∷ s.reader.part
+-- its loads with one more of the link at a cursor, and with one more of an item
+abbrev pub reads_with_link : ConsumerView → Cursor → ℕ → History
+reads_with_link s at v = load s.reader.reader (word_of at) v ∷ s.reader.part
 
-abbrev pub item_load : ConsumerView → ℕ → ℕ → History
-item_load s k v = load s.reader.reader (Item k) v ∷ s.reader.part
+abbrev pub reads_with_item : ConsumerView → ℕ → ℕ → History
+reads_with_item s k v = load s.reader.reader (Item k) v ∷ s.reader.part

@@ -1,4 +1,5 @@
--- The lists of notes, which have their room from the beginning, and where a consumer stands after a claim's access.
+-- The lists of notes, which have their room from the beginning; and where a consumer stands after an access
+-- of a claim.
 use Rattle.std.specs.Prelude.{ℕ, ◌≡◌, ◌<◌, ◌++◌, List, [], ◌∷◌, Option, Some, None, Vec, slice_get, slice_set, vec_capacity, vec_len}
 use Rattle.mb_claim.specs.declared.access.Stage.TheVariants as stage
 use Rattle.mb_cells.specs.declared.cursor.Cursor.TheVariants.{Past}

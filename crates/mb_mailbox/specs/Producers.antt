@@ -1,9 +1,9 @@
 -- A producer of a mailbox: what its seat did, and the items that it put.
-use Rattle.std.specs.Prelude.{ℕ, ◌≡◌, ◌+◌, ◌++◌, ◌⊎◌, List, [], ◌∷◌, None}
+use Rattle.std.specs.Prelude.{ℕ, ◌≡◌, ◌+◌, ◌<◌, ◌≤◌, ◌++◌, ◌⊎◌, Bool, List, [], ◌∷◌, None}
 use Rattle.mb_cells.specs.Vocabulary.{HasFoundNone, fetch, next_link, push_store, store}
 use Rattle.mb_shared_cells.specs.Vocabulary.{LaneSeatView}
 use Rattle.mb_world.specs.Reporting.{values_put}
-use Rattle.mb_mailbox.specs.Below.{END, Item}
+use Rattle.mb_mailbox.specs.Below.{END, Item, has_ended}
 use Rattle.mb_mailbox.specs.Mailboxes.{MailboxView}
 
 -- its seat, and the items, the first put first
@@ -25,25 +25,44 @@ pub record IsSameLane (old new : ProducerView) : Type 0 where
   pub table : new.seat.table ≡ old.seat.table
   pub lane : new.seat.lane ≡ old.seat.lane
 
--- it put x in cell k: three accesses more, and x at the end of its items
-pub record IsLinked (k x : ℕ) (old new : ProducerView) : Type 0 where
+-- whether its lane has ended, by what it did
+abbrev pub is_over : ProducerView → Bool
+is_over s = has_ended s.seat.lane s.seat.part
+
+-- a fetch-add of its own found no cell
+abbrev pub FoundNoCell : ProducerView → Type 0
+FoundNoCell s = HasFoundNone s.seat.table.size.cells s.seat.lane s.seat.part
+
+-- x was put in cell k: three accesses more, and x at the end of its items
+pub record IsPutInto (k x : ℕ) (old new : ProducerView) : Type 0 where
   pub same : IsSameLane old new
+  pub within : k < old.seat.table.size.cells
   pub part : new.seat.part
       ≡ store old.seat.lane (next_link old.seat.lane old.seat.place) (k + 1)
       ∷ store old.seat.lane (Item k) x
       ∷ fetch old.seat.lane (record { cell = k; value = x }) ∷ old.seat.part
   pub items : new.items ≡ old.items ++ x ∷ []
 
--- it found no cell for x: a fetch-add of its own tells so, this one or an older one, and its items stay
-pub record IsFull (x : ℕ) (old new : ProducerView) : Type 0 where
+-- a fetch-add for x, the first of its own that found no cell, and nothing else
+pub record IsFirstPastCells (x : ℕ) (old new : ProducerView) : Type 0 where
+  pub first : FoundNoCell old → ⊥
   pub same : IsSameLane old new
-  pub part : (new.seat.part ≡ old.seat.part)
-      ⊎ ((n : ℕ) × (new.seat.part ≡ fetch old.seat.lane (record { cell = n; value = x }) ∷ old.seat.part))
-  pub found_none : HasFoundNone old.seat.table.size.cells old.seat.lane new.seat.part
+  pub found : ℕ
+  pub past : old.seat.table.size.cells ≤ found
+  pub part : new.seat.part ≡ fetch old.seat.lane (record { cell = found; value = x }) ∷ old.seat.part
   pub items : new.items ≡ old.items
 
--- it stored the end mark, and its items stay
-pub record IsFinished (old new : ProducerView) : Type 0 where
+-- nothing at all, since a fetch-add of its own found no cell before
+pub record IsPastCells (old new : ProducerView) : Type 0 where
+  pub before : FoundNoCell old
+  pub same : new ≡ old
+
+-- there was no cell for x
+abbrev pub HasNoCellFor : ℕ → ProducerView → ProducerView → Type 0
+HasNoCellFor x old new = IsFirstPastCells x old new ⊎ IsPastCells old new
+
+-- the end mark was stored, and nothing else was done
+pub record IsEndOfLane (old new : ProducerView) : Type 0 where
   pub same : IsSameLane old new
   pub part : new.seat.part ≡ store old.seat.lane (next_link old.seat.lane old.seat.place) END ∷ old.seat.part
   pub items : new.items ≡ old.items

@@ -1,12 +1,12 @@
--- What the accesses of a consumer on a lane come to.
-use Rattle.std.specs.Prelude.{ℕ, ◌≡◌, ◌≢◌, ◌++◌, ◌≤◌, List, [], ◌∷◌, Option, Some, None, length, map, slice_get, slice_set}
+-- The polls of a consumer on a lane: their accesses, and what these come to.
+use Rattle.std.specs.Prelude.{ℕ, ◌≡◌, ◌≢◌, ◌++◌, ◌≤◌, Bool, true, false, List, [], ◌∷◌, Option, Some, None, length, map, slice_get, slice_set}
 use Rattle.std.specs.Option.{option_map_or}
-use Rattle.mb_claim.specs.declared.access.Stage.TheVariants as stage
-use Rattle.mb_cells.specs.declared.answer.Look.TheVariants as look
-use Rattle.mb_mailbox.specs.Below.{HasStageIn, Head, Item, Link, Load, Look, Lost, Note, PoolAct, Stage, Stream, ToCells, ToClaims, Took, Undecided, Word, WorldAccess, WorldHistory, claim_accesses, claims_at, look_of, next_u64, pool_accesses}
+use Rattle.mb_world.specs.Reporting.{values_put}
+use Rattle.mb_mailbox.specs.Below.{END, HasRead, History, Lost, Note, Parts, Stream, Took, Undecided, WorldAccess, WorldHistory, cells_met, claim_accesses, claims_at, has_ended, linked_cells, next_u64, place_past, pool_accesses}
 use Rattle.mb_mailbox.specs.declared.consumer.Poll.{Poll}
 use Rattle.mb_mailbox.specs.declared.consumer.Poll.TheVariants as poll
 use Rattle.mb_mailbox.specs.Consumers.{ConsumerView, parts_of}
+use Rattle.mb_mailbox.specs.ConsumerStep.{ConsumerStep}
 
 -- ---- random words
 -- the words (the last first) are the next of the source `s`, and `t` is what is left after them
@@ -18,39 +18,22 @@ AreDrawn s (w ∷ ws) t = (u : Stream) × AreDrawn s ws u × ((w, t) ≡ next_u6
 abbrev pub words_of : WorldHistory → List ℕ
 words_of done = map (λ a. a.step.turn.word) (claim_accesses done)
 
--- ---- what an access tells
--- what a link tells: where it leads to a cell, the consumer goes on there
-abbrev pub link_answer : Look → Option Poll
-link_answer look.Nothing = Some poll.Nothing
-link_answer look.Ended = Some poll.Ended
-link_answer (look.Cell k) = None
+-- ---- accesses in a row
+-- the parts of a consumer after these accesses, the newest first
+abbrev pub parts_after : WorldHistory → ConsumerView → Parts
+parts_after done s = parts_of
+    (record s.reader { part = pool_accesses done ++ s.reader.part })
+    (record s.seat { part = claim_accesses done ++ s.seat.part })
 
--- what the stage after a claim's access tells
-abbrev pub stage_answer : Stage → Option Poll
-stage_answer stage.Going = None
-stage_answer stage.Won = None
-stage_answer (stage.Lost w) = Some (poll.Lost w)
-stage_answer stage.Undecided = Some poll.Undecided
+-- from the consumer on, these accesses on lane p (the newest first) are each the next one by the parts before
+-- it, and come to this answer, or to none yet: only the newest can come to one
+abbrev pub LeadTo : ℕ → Option Poll → WorldHistory → ConsumerView → Type 0
+LeadTo p answer [] s = answer ≡ None
+LeadTo p answer (a ∷ older) s =
+    ConsumerStep (claims_at s.seat.table) s.seat.consumer p (parts_after older s) a answer
+    × LeadTo p None older s
 
--- what a load tells: a link where it leads, and an item its value
-abbrev pub LoadTells : Word → PoolAct → Option Poll → Type 0
-LoadTells (Head p) (Load v) answer = answer ≡ link_answer (look_of v)
-LoadTells (Link k) (Load v) answer = answer ≡ link_answer (look_of v)
-LoadTells (Item k) (Load v) answer = answer ≡ Some (poll.Took v)
-LoadTells _ _ answer = ⊥
-
--- what a claim's access on cell k tells, after which the consumer is this one
-abbrev pub ClaimTells : ℕ → ConsumerView → Option Poll → Type 0
-ClaimTells k s answer =
-    (end : Stage) × HasStageIn (claims_at s.seat.table) s.seat.consumer k end (parts_of s.reader s.seat)
-    × (answer ≡ stage_answer end)
-
--- what the newest access tells
-abbrev pub Tells : WorldAccess → ConsumerView → Option Poll → Type 0
-Tells (ToCells a) s answer = LoadTells a.word a.act answer
-Tells (ToClaims a) s answer = ClaimTells a.cell s answer
-
--- ---- what changes
+-- ---- notes
 -- the note that comes with an answer
 abbrev pub note_with : Option Poll → Option Note
 note_with (Some (poll.Took x)) = Some (Took x)
@@ -67,41 +50,77 @@ abbrev pub with_note : ℕ → Option Note → List (List Note) → List (List N
 with_note p None notes = notes
 with_note p (Some n) notes = slice_set notes p (notes_on p notes ++ n ∷ [])
 
--- these accesses were made, the newest first, and nothing else: the parts have just these more, and the notes just the one
--- that comes with the answer
-pub record HasDone (p : ℕ) (done : WorldHistory) (answer : Option Poll) (old new : ConsumerView) : Type 0 where
+-- these accesses were made, the newest first, and nothing else: the parts have just these more, and the notes
+-- just the one that comes with the answer
+pub record HasDone (p : ℕ) (done : WorldHistory) (answer : Option Poll) (old new : ConsumerView)
+    : Type 0 where
   pub reader : new.reader ≡ record old.reader { part = pool_accesses done ++ old.reader.part }
   pub seat : new.seat ≡ record old.seat { part = claim_accesses done ++ old.seat.part }
   pub notes : new.notes ≡ with_note p (note_with answer) old.notes
 
--- one step on lane p: one access and its outcome
-pub record IsStep (p : ℕ) (answer : Option Poll) (s t : Stream) (old new : ConsumerView) : Type 0 where
+-- ---- steps and polls
+-- one step on lane p: one access and what it comes to
+pub record IsStep (p : ℕ) (answer : Option Poll) (s t : Stream) (old new : ConsumerView)
+    : Type 0 where
   pub access : WorldAccess
   pub done : HasDone p (access ∷ []) answer old new
+  pub leads : LeadTo p answer (access ∷ []) old
   pub drawn : AreDrawn s (words_of (access ∷ [])) t
-  pub tells : Tells access new answer
 
--- the answer is the outcome of the newest of these accesses
-abbrev pub IsOutcome : WorldHistory → Poll → ConsumerView → Type 0
-IsOutcome [] answer s = ⊥
-IsOutcome (a ∷ older) answer s = Tells a s (Some answer)
-
--- so many steps on lane p, none of which has an answer
-pub record AreSteps (p n : ℕ) (s t : Stream) (old new : ConsumerView) : Type 0 where
+-- so many steps on lane p, of which the last comes to this answer, or to none yet
+pub record AreSteps (p n : ℕ) (answer : Option Poll) (s t : Stream) (old new : ConsumerView)
+    : Type 0 where
   pub accesses : WorldHistory
-  pub done : HasDone p accesses None old new
+  pub done : HasDone p accesses answer old new
+  pub lead : LeadTo p answer accesses old
   pub drawn : AreDrawn s (words_of accesses) t
   pub count : length accesses ≡ n
 
--- a poll of lane p with this budget
-pub record IsPolled (p budget : ℕ) (answer : Poll) (s t : Stream) (old new : ConsumerView) : Type 0 where
-  -- the accesses that it made, the newest first, are all that its parts have more, and a note comes with the answer
+-- what the accesses of a poll come to: to its answer, or to none where it is spent
+abbrev pub outcome : Poll → Option Poll
+outcome poll.Spent = None
+outcome answer = Some answer
+
+-- a poll of lane p with this budget and this answer
+pub record IsPollOf (p budget : ℕ) (answer : Poll) (s t : Stream) (old new : ConsumerView)
+    : Type 0 where
+  -- the accesses that it made, the newest first, are all that the parts have more, and a note comes with
+  -- the answer
   pub accesses : WorldHistory
-  pub done : HasDone p accesses (Some answer) old new
+  pub done : HasDone p accesses (outcome answer) old new
+  -- each is the next one on the lane, and the poll ends with the first that comes to an answer
+  pub lead : LeadTo p (outcome answer) accesses old
   -- the source is left after one word for each access of a claim
   pub drawn : AreDrawn s (words_of accesses) t
   -- there are no more accesses than the budget, and just as many where it is spent
   pub within : length accesses ≤ budget
   pub spent : answer ≡ poll.Spent → length accesses ≡ budget
-  -- any other answer is the outcome of the last access
-  pub outcome : answer ≢ poll.Spent → IsOutcome accesses answer new
+
+-- ---- what an answer tells of the lane
+-- the consumer has a note on each cell that it met on lane p
+abbrev pub HasNoteOnEach : ℕ → ConsumerView → Type 0
+HasNoteOnEach p s = length (notes_on p s.notes) ≡ length (cells_met p s.reader.part)
+
+-- it has loaded the end mark past the last cell that it met there, or at the lane's head
+abbrev pub HasLoadedEnd : ℕ → ConsumerView → Type 0
+HasLoadedEnd p s = HasRead (place_past p (cells_met p s.reader.part)) END s.reader.part
+
+-- it has met all cells of lane p, whose producer did `theirs`, and has as many notes there as that put items;
+-- and the lane has ended or has not
+pub record HasReadWhole (p : ℕ) (theirs : History) (over : Bool) (s : ConsumerView) : Type 0 where
+  pub cells : cells_met p s.reader.part ≡ linked_cells p theirs
+  pub notes : length (notes_on p s.notes) ≡ length (values_put p theirs)
+  pub ended : has_ended p theirs ≡ over
+
+-- what an answer tells of lane p
+pub record AnswerTells (p : ℕ) (answer : Option Poll) (old new : ConsumerView) : Type 0 where
+  -- where there is one, the consumer holds no claim there, and has a note on each cell that it met
+  pub noted : answer ≢ None → HasNoteOnEach p new
+  -- that the lane has ended, it is told by the end mark alone
+  pub ended : answer ≡ Some poll.Ended → HasLoadedEnd p new
+  -- On a lane that was taken in before the consumer was given, nothing is found only past all that was put,
+  -- and never where the lane has ended; and the end just there.
+  pub known_nothing : (theirs : History) → slice_get old.reader.known p ≡ Some (Some theirs)
+      → answer ≡ Some poll.Nothing → HasReadWhole p theirs false new
+  pub known_ended : (theirs : History) → slice_get old.reader.known p ≡ Some (Some theirs)
+      → answer ≡ Some poll.Ended → HasReadWhole p theirs true new

@@ -1,11 +1,17 @@
 //! A consumer of a mailbox.
 mod moving;
 mod places;
-mod stepping;
+mod pursuing;
 
+use self::moving::{answers_tell_lanes, consumers_move_on, places_tell_steps};
+use self::places::place_at;
+use self::pursuing::pursue;
 use crate::mailbox::Mailbox;
 use crate::place::Place;
 use arrayvec::ArrayVec;
+use mb_cells::Look;
+use mb_cells::laws::looks_tell_links;
+use mb_claim::Claim;
 use mb_shared_cells::ReaderSeat;
 use mb_shared_claims::ClaimSeat;
 use mb_world::Note;
@@ -66,8 +72,10 @@ impl<A: Allocator + Drop> Model for Consumer<A> {
 impl<A: Allocator + Drop> Consumer<A> {
     ghost use Rattle.std.specs.Prelude.{◌≡◌, ◌≢◌, ◌↔◌, ◌≤◌};
     ghost use Rattle.mb_mailbox.specs.declared.consumer.Poll.TheVariants.{NoLane};
-    ghost use Rattle.mb_mailbox.specs.Consumers.{IsConsumerOf};
-    ghost use Rattle.mb_mailbox.specs.Steps.{IsPolled};
+    ghost use Rattle.mb_mailbox.specs.Below.{IsLawfulPart, claims_at};
+    ghost use Rattle.mb_mailbox.specs.Consumers.{IsConsumer, IsConsumerOf};
+    ghost use Rattle.mb_mailbox.specs.Moves.{HasLoads};
+    ghost use Rattle.mb_mailbox.specs.Steps.{AnswerTells, IsPollOf, outcome};
 
     /// Makes accesses on a lane until one has an answer, or as many were made as the budget allows. One word is drawn from
     /// the source for each access of a claim. A claim that is held then stays with the consumer, and the next poll of the
@@ -83,19 +91,71 @@ impl<A: Allocator + Drop> Consumer<A> {
         ensures no_lane { (result ≡ NoLane) ↔ (mailbox.now.cells.size.lanes ≤ lane) }
         ensures refused { result ≡ NoLane
             → (self.new ≡ self.old) × (R.stream rng.new ≡ R.stream rng.old) }
+
+        // Each access is the next one on that lane, and the first that comes to an answer is the last.
         ensures polled { result ≢ NoLane
-            → IsPolled lane budget result (R.stream rng.old) (R.stream rng.new) self.old self.new }
+            → IsPollOf lane budget result (R.stream rng.old) (R.stream rng.new) self.old self.new }
+
+        // What the answer tells of the lane, also where its producer was taken in before the consumer was given.
+        ensures told { result ≢ NoLane → AnswerTells lane (outcome result) self.old self.new }
         ensures of { IsConsumerOf mailbox.now self.new }
     {
         if lane >= self.places.len() as u64 {
             return Poll::NoLane;
         }
-        let lane = lane as u32;
-        for made in 0..budget {
-            if let Some(answer) = self.step(mailbox, lane, rng) {
-                return answer;
-            }
+        if budget == 0 {
+            return Poll::Spent;
         }
-        Poll::Spent
+        consumers_move_on();
+        places_tell_steps();
+        answers_tell_lanes();
+        looks_tell_links();
+        self.reader.has_history();
+        let lane = lane as u32;
+        match place_at(&self.places, lane as usize) {
+            Place::At { cell, claim } => pursue(
+                &mut self.places,
+                &mut self.notes,
+                &mut self.reader,
+                &mut self.seat,
+                mailbox,
+                lane,
+                cell,
+                claim,
+                budget,
+                rng,
+            ),
+            Place::Before(at) => match mailbox.cells.look(&mut self.reader, at) {
+                Look::Nothing => Poll::Nothing,
+                Look::Ended => Poll::Ended,
+                Look::Cell(cell) => {
+                    let claim = Claim::new(mailbox.claims.layout(), self.seat.consumer());
+                    pursue(
+                        &mut self.places,
+                        &mut self.notes,
+                        &mut self.reader,
+                        &mut self.seat,
+                        mailbox,
+                        lane,
+                        cell,
+                        claim,
+                        budget - 1,
+                        rng,
+                    )
+                }
+            },
+        }
+    }
+
+    /// The two parts of a consumer fit each other, and tell where it stands on each lane and its notes there; and each is
+    /// its part of some lawful history. It computes nothing: its contract is a law of all consumers.
+    pub fn keeps_its_parts(&self)
+        ensures parts { IsConsumer self.now }
+        ensures loads { HasLoads self.now }
+        ensures claims { IsLawfulPart (claims_at self.now.seat.table) self.now.seat.consumer
+            self.now.seat.part }
+    {
+        self.reader.has_history();
+        self.seat.has_history();
     }
 }

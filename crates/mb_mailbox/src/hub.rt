@@ -6,13 +6,18 @@ use crate::consumer::Consumer;
 use crate::mailbox::Mailbox;
 use crate::place::Place;
 use crate::producer::Producer;
+use crate::taken::{Ledger, PutList};
 use arrayvec::ArrayVec;
+use mb_cells::laws::{lanes_share_cells, parts_tell_lanes};
+use mb_cells::steps::parts_have_accesses;
 use mb_cells::{Cursor, NoMemory};
 use mb_shared_cells::CellHub;
 use mb_shared_claims::ClaimHub;
 use mb_world::Note;
 use mb_world::steps::parts_fit_on;
 use std::alloc::Allocator;
+use std::error::Error;
+use std::fmt;
 use std::marker::Model;
 
 /// Why no producer or consumer was given.
@@ -24,49 +29,44 @@ pub enum HubFault {
     NoMemory,
 }
 
-/// What is kept of a consumer that was taken in.
-#[derive(Drop)]
-pub(crate) struct Ledger<A: Allocator + Drop> {
-    pub(crate) places: ArrayVec<Place, 16>,
-    pub(crate) notes: Vec<Vec<Note, A>, A>,
+impl fmt::Display for HubFault {
+    fn fmt<W: fmt::Write>(&self, f: &mut fmt::Formatter<W>) -> fmt::Result {
+        f.write_str(match self {
+            HubFault::AllGiven => "all numbers of the mailbox were given",
+            HubFault::NoMemory => "memory was refused",
+        })
+    }
 }
 
-impl<A: Allocator + Drop> Model for Ledger<A> {
-    ghost use Rattle.std.specs.Prelude.{map};
-    ghost use Rattle.mb_mailbox.specs.Hubs.{LedgerView};
-
-    ghost Value = { LedgerView };
-
-    ghost view = { λ l. record { places = l.places.items; notes = map (λ v. v.items) l.notes.items } };
-}
+impl Error for HubFault {}
 
 /// The one that gives producers and consumers by their numbers, and takes them in.
 #[derive(Drop)]
 pub struct Hub<A: Allocator + Drop> {
     pub(crate) cells: CellHub,
     pub(crate) claims: ClaimHub,
-    pub(crate) puts: Vec<Option<Vec<u64, A>>, A>,
+    pub(crate) puts: Vec<Option<PutList<A>>, A>,
     pub(crate) ledgers: Vec<Option<Ledger<A>>, A>,
 }
 
 impl<A: Allocator + Drop> Model for Hub<A> {
     ghost use Rattle.std.specs.Prelude.{◌≡◌, ◌≤◌, vec_capacity};
     ghost use Rattle.mb_mailbox.specs.Below.{claims_at};
-    ghost use Rattle.mb_mailbox.specs.Hubs.{HubView, IsHub, put_lists};
+    ghost use Rattle.mb_mailbox.specs.Hubs.{HubView, IsHub};
 
     ghost Value = { HubView };
 
     ghost view = { λ h. record {
       cells = h.cells;
       claims = h.claims;
-      puts = put_lists h.puts.items;
+      puts = h.puts.items;
       ledgers = h.ledgers.items;
     } };
 
     ghost invariant = { λ h. IsHub (record {
       cells = h.cells;
       claims = h.claims;
-      puts = put_lists h.puts.items;
+      puts = h.puts.items;
       ledgers = h.ledgers.items;
     })
         × (h.cells.table.size.lanes ≤ vec_capacity h.puts)
@@ -78,9 +78,21 @@ impl<A: Allocator + Drop> Hub<A> {
     ghost use Rattle.mb_mailbox.specs.declared.hub.HubFault.TheVariants.{AllGiven};
     ghost use Rattle.mb_mailbox.specs.Below.{consumer_count};
     ghost use Rattle.mb_mailbox.specs.Consumers.{IsConsumerOf};
-    ghost use Rattle.mb_mailbox.specs.Hubs.{IsHubOf, IsNewConsumer, new_producer, with_consumer, with_producer};
+    ghost use Rattle.mb_mailbox.specs.Below.{History};
+    ghost use Rattle.mb_shared_cells.specs.Vocabulary.{IsRollOf};
+    ghost use Rattle.mb_mailbox.specs.Hubs.{IsHub, IsHubOf, IsNewConsumer, new_producer, with_consumer, with_producer};
     ghost use Rattle.mb_mailbox.specs.Hubs.{with_taken_consumer, with_taken_producer};
     ghost use Rattle.mb_mailbox.specs.Producers.{IsProducerOf};
+
+    /// What every hub keeps, and that the parts of the cells that it has taken in are those of one lawful history. It
+    /// computes nothing: its contract is a law of all hubs.
+    pub fn has_history(&self)
+        ensures kept { IsHub self.now }
+        ensures pool { (pool : History)
+            × IsRollOf self.now.cells.table.size self.now.cells.roll pool }
+    {
+        self.cells.has_history();
+    }
 
     /// The producer of the next lane, which has put nothing. Numbers are given in order, from 0 on.
     /// [`HubFault::AllGiven`] comes exactly where each lane of the mailbox was given, and is decided first.
@@ -90,10 +102,13 @@ impl<A: Allocator + Drop> Hub<A> {
         mailbox: &Mailbox<B>,
     ) -> Result<Producer<A>, HubFault>
         requires of { IsHubOf mailbox.now self.old }
-        ensures all_given { (result ≡ Err AllGiven) ↔ (mailbox.now.cells.size.lanes ≤ length self.old.puts) }
-        ensures producer { IfOk result (λ given. given ≡ new_producer mailbox.now (length self.old.puts)) }
+        ensures all_given { (result ≡ Err AllGiven)
+            ↔ (mailbox.now.cells.size.lanes ≤ length self.old.puts) }
+        ensures producer { IfOk result (λ given.
+            given ≡ new_producer mailbox.now (length self.old.puts)) }
         ensures hub { IfOk result (λ _. self.new ≡ with_producer self.old) }
         ensures refused { OnErr result (self.new ≡ self.old) }
+        ensures of { IsHubOf mailbox.now self.new }
     {
         if self.puts.len() >= mailbox.lanes as usize {
             return Err(HubFault::AllGiven);
@@ -118,12 +133,19 @@ impl<A: Allocator + Drop> Hub<A> {
         requires producer { IsProducerOf mailbox.now producer }
         ensures was_out { slice_get self.old.puts producer.seat.lane ≡ Some None }
         ensures hub { self.new ≡ with_taken_producer producer self.old }
+        ensures of { IsHubOf mailbox.now self.new }
     {
+        lanes_share_cells();
+        parts_have_accesses();
+        parts_tell_lanes();
         let Producer { seat, items } = producer;
+        seat.has_history();
         let lane = seat.lane();
+        let ended = seat.has_ended();
         mailbox.cells.take_lane(&mut self.cells, seat);
-        self.puts[lane as usize] = Some(items);
+        self.puts[lane as usize] = Some(PutList { items, ended });
     }
+
     /// Takes a consumer in: its parts, its places and its notes are the hub's then, as they are.
     pub fn take_consumer<B: Allocator + Drop>(
         &mut self,
@@ -134,6 +156,7 @@ impl<A: Allocator + Drop> Hub<A> {
         requires consumer { IsConsumerOf mailbox.now consumer }
         ensures was_out { slice_get self.old.ledgers consumer.seat.consumer ≡ Some None }
         ensures hub { self.new ≡ with_taken_consumer consumer self.old }
+        ensures of { IsHubOf mailbox.now self.new }
     {
         let Consumer {
             reader,
@@ -162,10 +185,12 @@ impl<A: Allocator + Clone + Drop> Hub<A> {
         mailbox: &Mailbox<B>,
     ) -> Result<Consumer<A>, HubFault>
         requires of { IsHubOf mailbox.now self.old }
-        ensures all_given { (result ≡ Err AllGiven) ↔ (consumer_count mailbox.now.claims.layout ≤ length self.old.ledgers) }
+        ensures all_given { (result ≡ Err AllGiven)
+            ↔ (consumer_count mailbox.now.claims.layout ≤ length self.old.ledgers) }
         ensures consumer { IfOk result (λ given. IsNewConsumer mailbox.now self.old given) }
         ensures hub { IfOk result (λ _. self.new ≡ with_consumer self.old) }
         ensures refused { OnErr result (self.new ≡ self.old) }
+        ensures of { IsHubOf mailbox.now self.new }
     {
         parts_fit_on();
         if self.ledgers.len() >= mailbox.claims.layout().consumers() as usize {

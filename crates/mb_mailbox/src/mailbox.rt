@@ -30,7 +30,8 @@ impl<A: Allocator + Drop> Model for Mailbox<A> {
 
 impl<A: Allocator + Clone + Drop> Mailbox<A> {
     ghost use Rattle.std.specs.Prelude.{◌≡◌, [], IfOk};
-    ghost use Rattle.mb_world.specs.Setups.{plan_in};
+    ghost use Rattle.mb_world.specs.Plan.{size_of};
+    ghost use Rattle.mb_world.specs.Setups.{layout_of, plan_in};
     ghost use Rattle.mb_mailbox.specs.Hubs.{IsHubOf, hub_empty};
     ghost use Rattle.mb_mailbox.specs.Mailboxes.{plan_at};
 
@@ -38,6 +39,8 @@ impl<A: Allocator + Clone + Drop> Mailbox<A> {
     /// the allocator refuses a part of what both need.
     pub fn new(alloc: A, setup: Setup) -> Result<(Mailbox<A>, Hub<A>), NoMemory>
         ensures plan { IfOk result (λ made. plan_at made.0 ≡ plan_in setup) }
+        ensures size { IfOk result (λ made. made.0.cells.size ≡ size_of (plan_in setup)) }
+        ensures layout { IfOk result (λ made. made.0.claims.layout ≡ layout_of setup) }
         ensures of { IfOk result (λ made. IsHubOf made.0 made.1) }
         ensures empty { IfOk result (λ made. made.1 ≡ hub_empty made.0) }
     {

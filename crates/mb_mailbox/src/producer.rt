@@ -39,19 +39,28 @@ impl<A: Allocator + Drop> Model for Producer<A> {
 }
 
 impl<A: Allocator + Drop> Producer<A> {
-    ghost use Rattle.std.specs.Prelude.{◌≡◌, ◌↔◌, ℕ, true};
+    ghost use Rattle.std.specs.Prelude.{◌≡◌, ◌≢◌, ◌↔◌, ℕ, false, true};
     ghost use Rattle.mb_cells.specs.declared.answer.Finish.TheVariants as finish;
     ghost use Rattle.mb_mailbox.specs.declared.producer.Put.TheVariants.{Closed, Full, Linked};
-    ghost use Rattle.mb_mailbox.specs.Below.{has_ended};
-    ghost use Rattle.mb_mailbox.specs.Producers.{IsFinished, IsFull, IsLinked, IsProducerOf};
+    ghost use Rattle.mb_mailbox.specs.PartPlaces.{HasPart};
+    ghost use Rattle.mb_mailbox.specs.Producers.{FoundNoCell, HasNoCellFor, IsEndOfLane, IsProducer, IsProducerOf};
+    ghost use Rattle.mb_mailbox.specs.Producers.{IsPutInto, IsSameLane, is_over};
 
     /// Puts an item at the end of the lane: takes a cell, stores the item there, and links the cell.
     pub fn put<B: Allocator + Drop>(&mut self, mailbox: &Mailbox<B>, x: u64) -> Put
         requires of { IsProducerOf mailbox.now self.old }
-        ensures linked { result ≡ Linked → (k : ℕ) × IsLinked k x self.old self.new }
-        ensures full { result ≡ Full → IsFull x self.old self.new }
-        ensures closed { (result ≡ Closed) ↔ (has_ended self.old.seat.lane self.old.seat.part ≡ true) }
+        ensures linked { result ≡ Linked → (k : ℕ) × IsPutInto k x self.old self.new }
+
+        // `Full` comes with the first fetch-add of the producer that finds no cell, and then stays, without an access.
+        ensures full { result ≡ Full → HasNoCellFor x self.old self.new }
+        ensures found { result ≡ Full → FoundNoCell self.new }
+        ensures stays_full { FoundNoCell self.old → is_over self.old ≡ false → result ≡ Full }
+        ensures closed { (result ≡ Closed) ↔ (is_over self.old ≡ true) }
         ensures closed_same { result ≡ Closed → self.new ≡ self.old }
+
+        // A put ends no lane.
+        ensures stays { is_over self.new ≡ is_over self.old }
+        ensures lane { IsSameLane self.old self.new }
         ensures of { IsProducerOf mailbox.now self.new }
     {
         producers_move_on();
@@ -73,14 +82,26 @@ impl<A: Allocator + Drop> Producer<A> {
     /// never `Busy`, since each item put is linked.
     pub fn finish<B: Allocator + Drop>(&mut self, mailbox: &Mailbox<B>) -> Finish
         requires of { IsProducerOf mailbox.now self.old }
-        ensures ended { result ≡ finish.Ended → IsFinished self.old self.new }
-        ensures closed { (result ≡ finish.Closed)
-            ↔ (has_ended self.old.seat.lane self.old.seat.part ≡ true) }
+        ensures ended { result ≡ finish.Ended → IsEndOfLane self.old self.new }
+        ensures closed { (result ≡ finish.Closed) ↔ (is_over self.old ≡ true) }
         ensures closed_same { result ≡ finish.Closed → self.new ≡ self.old }
+        ensures never_busy { result ≢ finish.Busy }
+        ensures over { is_over self.new ≡ true }
+        ensures lane { IsSameLane self.old self.new }
+        ensures items { self.new.items ≡ self.old.items }
         ensures of { IsProducerOf mailbox.now self.new }
     {
         producers_move_on();
         self.seat.has_history();
         mailbox.cells.finish(&mut self.seat)
+    }
+
+    /// Its items are those that its part puts into the lane, nothing waits for its link, and some lawful history has the
+    /// part. It computes nothing: its contract is a law of all producers.
+    pub fn keeps_its_items(&self)
+        ensures items { IsProducer self.now }
+        ensures part { HasPart self.now.seat }
+    {
+        self.seat.has_history();
     }
 }

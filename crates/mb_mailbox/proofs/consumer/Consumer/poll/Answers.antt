@@ -1,30 +1,274 @@
-use Rattle.std.proofs.Common.{◌<◌, ◌∙◌, ap, subst, sym}
-use Rattle.mb_mailbox.specs.Below.{ReaderSeatView}
-use Rattle.mb_mailbox.specs.Consumers.{ConsumerView}
-use Rattle.mb_mailbox.proofs.Polls.{no_steps, polled_by, steps_more}
+use Rattle.std.proofs.Common.{[], ◌≡◌, ◌∙◌, ◌+◌, ◌-◌, ◌≤◌, ◌≢◌, ℕ, ap, arith, inl, inr, refl, subst, sym}
+use Rattle.std.specs.Prelude.{None, Some, slice_set}
+use Rattle.mb_cells.specs.declared.answer.Look.TheVariants as look
+use Rattle.mb_mailbox.specs.declared.consumer.Poll.TheVariants as poll
+use Rattle.mb_mailbox.specs.declared.place.Place.{Place}
+use Rattle.mb_mailbox.specs.declared.place.Place.TheVariants.{At, Before}
+use Rattle.mb_mailbox.specs.Below.{END, IsAccessAfter, IsClaimIn, MayRead, PoolSize, ReaderSeatView, TableSize, load, word_of}
+use Rattle.mb_mailbox.specs.Consumers.{IsConsumer, IsConsumerOf}
+use Rattle.mb_mailbox.specs.Mailboxes.{MailboxView}
+use Rattle.mb_mailbox.specs.Moves.{reads_with_link}
+use Rattle.mb_mailbox.specs.Steps.{AnswerTells, AreSteps, IsPollOf}
+use Rattle.mb_mailbox.specs.Pursuits.{holding}
+use Rattle.mb_mailbox.proofs.Ending.{holds_it, not_no_lane, poll_by, pursuit_tells, still_of}
+use Rattle.mb_mailbox.proofs.Lists.{set_same, some_same}
+use Rattle.mb_mailbox.proofs.Made.{at_views, cells_size, claims_size, lists, look_made, moved_has}
+use Rattle.mb_mailbox.proofs.Polls.{no_steps, one_step, poll_of}
 use Rattle.mb_mailbox.proofs.consumer.Consumer.poll.Goals as goal
 
-pub loop-made-init : goal.loop-made-init
-loop-made-init g c = record {
-  so_far = no_steps c.args.lane (g.R.Rng.stream c.args.rng.now) c.args.self.now;
-  of = c.requires.of;
-  lane = subst (λ n. c.args.lane < n)
-      (c.len.ensures.value ∙ c.self.invariant.0.places_count ∙ ap (λ (v : ConsumerView). v.reader.table.size.lanes) c.self.view_is)
-      c.if-lane-len.false;
-}
+pub pursue-requires-clause-held : goal.pursue-requires-clause-held
+pursue-requires-clause-held g c =
+    let s = at_views c.self.inside.reader c.self.inside.seat c.self.inside.places.items (lists c.self.inside.notes.items) in
+    let e = c.place_at.ensures ∙ ap (λ (z : Place). Some z) c.in-At.is in
+    let hold : holding c.args.lane c.in-At.cell c.in-At.claim s ≡ s = holds_it c.args.lane c.in-At.cell c.in-At.claim s e in
+    subst IsConsumer (sym hold) c.self.invariant.0
 
-pub returns-in-Some-clause-polled : goal.returns-in-Some-clause-polled
-returns-in-Some-clause-polled g c = λ _.
-    polled_by c.args.lane c.loop-made.made c.args.budget c.in-Some.answer (g.R.Rng.stream c.args.rng.now)
-    (g.R.Rng.stream c.loop-made.rng) (g.R.Rng.stream c.step.new.rng) c.args.self.now c.loop-made.self c.step.new.self
-    c.loop-made.invariant.so_far c.loop-made-test.true c.in-Some.ensures.step
+pub invariant_of-self : goal.invariant_of-self
+invariant_of-self g c =
+    let s = at_views c.self.inside.reader c.self.inside.seat c.self.inside.places.items (lists c.self.inside.notes.items) in
+    let e = c.place_at.ensures ∙ ap (λ (z : Place). Some z) c.in-At.is in
+    let hold : holding c.args.lane c.in-At.cell c.in-At.claim s ≡ s = holds_it c.args.lane c.in-At.cell c.in-At.claim s e in
+    let so = c.pursue.ensures.pursued s 0 (g.R.Rng.stream c.args.rng.now) (subst (λ z. AreSteps c.args.lane 0 None (g.R.Rng.stream c.args.rng.now) (g.R.Rng.stream c.args.rng.now) s z) (sym hold) (no_steps c.args.lane (g.R.Rng.stream c.args.rng.now) s)) in
+    let new = at_views c.pursue.new.reader c.pursue.new.seat c.pursue.new.places.items (lists c.pursue.new.notes.items) in
+    (so.is, c.pursue.ensures.wide)
 
-pub loop-made-preserved : goal.loop-made-preserved
-loop-made-preserved g c =
-    let st = c.step.ensures.step in
-    record {
-      so_far = steps_more c.args.lane c.loop-made.made (g.R.Rng.stream c.args.rng.now) (g.R.Rng.stream c.loop-made.rng)
-          (g.R.Rng.stream c.step.new.rng) c.args.self.now c.loop-made.self c.step.new.self c.loop-made.invariant.so_far c.in_default.ensures.step;
-      of = c.step.ensures.of;
-      lane = subst (λ n. c.args.lane < n) (sym (ap (λ (v : ReaderSeatView). v.table.size.lanes) st.done.reader)) c.loop-made.invariant.lane;
-    }
+pub returns-in-At-clause-no_lane : goal.returns-in-At-clause-no_lane
+returns-in-At-clause-no_lane g c =
+    let s = at_views c.self.inside.reader c.self.inside.seat c.self.inside.places.items (lists c.self.inside.notes.items) in
+    let e = c.place_at.ensures ∙ ap (λ (z : Place). Some z) c.in-At.is in
+    let hold : holding c.args.lane c.in-At.cell c.in-At.claim s ≡ s = holds_it c.args.lane c.in-At.cell c.in-At.claim s e in
+    let so = c.pursue.ensures.pursued s 0 (g.R.Rng.stream c.args.rng.now) (subst (λ z. AreSteps c.args.lane 0 None (g.R.Rng.stream c.args.rng.now) (g.R.Rng.stream c.args.rng.now) s z) (sym hold) (no_steps c.args.lane (g.R.Rng.stream c.args.rng.now) s)) in
+    let new = at_views c.pursue.new.reader c.pursue.new.seat c.pursue.new.places.items (lists c.pursue.new.notes.items) in
+    let lanes : c.len.result ≡ c.args.mailbox.now.cells.size.lanes =
+    c.len.ensures.value ∙ c.self.invariant.0.places_count
+    ∙ ap (λ (z : PoolSize). z.lanes) (cells_size c.args.mailbox.now s c.args.self.now c.self.view_is c.requires.of) in (
+      (λ f. absurd (not_no_lane c.args.lane 0 c.args.budget c.pursue.result (g.R.Rng.stream c.args.rng.now) (g.R.Rng.stream c.pursue.new.rng) s new so f)),
+      (λ wide. let low = c.if-lane-len.false in absurd (omega (arith, low, wide, lanes))),
+    )
+
+pub returns-in-At-clause-refused : goal.returns-in-At-clause-refused
+returns-in-At-clause-refused g c =
+    let s = at_views c.self.inside.reader c.self.inside.seat c.self.inside.places.items (lists c.self.inside.notes.items) in
+    let e = c.place_at.ensures ∙ ap (λ (z : Place). Some z) c.in-At.is in
+    let hold : holding c.args.lane c.in-At.cell c.in-At.claim s ≡ s = holds_it c.args.lane c.in-At.cell c.in-At.claim s e in
+    let so = c.pursue.ensures.pursued s 0 (g.R.Rng.stream c.args.rng.now) (subst (λ z. AreSteps c.args.lane 0 None (g.R.Rng.stream c.args.rng.now) (g.R.Rng.stream c.args.rng.now) s z) (sym hold) (no_steps c.args.lane (g.R.Rng.stream c.args.rng.now) s)) in
+    let new = at_views c.pursue.new.reader c.pursue.new.seat c.pursue.new.places.items (lists c.pursue.new.notes.items) in
+    λ f. absurd (not_no_lane c.args.lane 0 c.args.budget c.pursue.result (g.R.Rng.stream c.args.rng.now) (g.R.Rng.stream c.pursue.new.rng) s new so f)
+
+pub returns-in-At-clause-polled : goal.returns-in-At-clause-polled
+returns-in-At-clause-polled g c =
+    let s = at_views c.self.inside.reader c.self.inside.seat c.self.inside.places.items (lists c.self.inside.notes.items) in
+    let e = c.place_at.ensures ∙ ap (λ (z : Place). Some z) c.in-At.is in
+    let hold : holding c.args.lane c.in-At.cell c.in-At.claim s ≡ s = holds_it c.args.lane c.in-At.cell c.in-At.claim s e in
+    let so = c.pursue.ensures.pursued s 0 (g.R.Rng.stream c.args.rng.now) (subst (λ z. AreSteps c.args.lane 0 None (g.R.Rng.stream c.args.rng.now) (g.R.Rng.stream c.args.rng.now) s z) (sym hold) (no_steps c.args.lane (g.R.Rng.stream c.args.rng.now) s)) in
+    let new = at_views c.pursue.new.reader c.pursue.new.seat c.pursue.new.places.items (lists c.pursue.new.notes.items) in
+    let sum : c.args.budget + 0 ≡ c.args.budget = omega arith in
+    λ _. subst (λ o. IsPollOf c.args.lane c.args.budget c.pursue.result (g.R.Rng.stream c.args.rng.now) (g.R.Rng.stream c.pursue.new.rng) o new) c.self.view_is
+    (poll_by c.args.lane 0 c.args.budget c.args.budget c.pursue.result (g.R.Rng.stream c.args.rng.now) (g.R.Rng.stream c.pursue.new.rng) s new sum so)
+
+pub returns-in-At-clause-told : goal.returns-in-At-clause-told
+returns-in-At-clause-told g c =
+    let s = at_views c.self.inside.reader c.self.inside.seat c.self.inside.places.items (lists c.self.inside.notes.items) in
+    let e = c.place_at.ensures ∙ ap (λ (z : Place). Some z) c.in-At.is in
+    let hold : holding c.args.lane c.in-At.cell c.in-At.claim s ≡ s = holds_it c.args.lane c.in-At.cell c.in-At.claim s e in
+    let so = c.pursue.ensures.pursued s 0 (g.R.Rng.stream c.args.rng.now) (subst (λ z. AreSteps c.args.lane 0 None (g.R.Rng.stream c.args.rng.now) (g.R.Rng.stream c.args.rng.now) s z) (sym hold) (no_steps c.args.lane (g.R.Rng.stream c.args.rng.now) s)) in
+    let new = at_views c.pursue.new.reader c.pursue.new.seat c.pursue.new.places.items (lists c.pursue.new.notes.items) in
+    λ _. pursuit_tells c.args.lane 0 c.args.budget c.pursue.result (g.R.Rng.stream c.args.rng.now) (g.R.Rng.stream c.pursue.new.rng) s c.args.self.now new so
+
+pub returns-in-At-clause-of : goal.returns-in-At-clause-of
+returns-in-At-clause-of g c =
+    let s = at_views c.self.inside.reader c.self.inside.seat c.self.inside.places.items (lists c.self.inside.notes.items) in
+    let e = c.place_at.ensures ∙ ap (λ (z : Place). Some z) c.in-At.is in
+    let hold : holding c.args.lane c.in-At.cell c.in-At.claim s ≡ s = holds_it c.args.lane c.in-At.cell c.in-At.claim s e in
+    let so = c.pursue.ensures.pursued s 0 (g.R.Rng.stream c.args.rng.now) (subst (λ z. AreSteps c.args.lane 0 None (g.R.Rng.stream c.args.rng.now) (g.R.Rng.stream c.args.rng.now) s z) (sym hold) (no_steps c.args.lane (g.R.Rng.stream c.args.rng.now) s)) in
+    let new = at_views c.pursue.new.reader c.pursue.new.seat c.pursue.new.places.items (lists c.pursue.new.notes.items) in
+    still_of c.args.mailbox.now c.args.lane 0 c.args.budget c.pursue.result (g.R.Rng.stream c.args.rng.now) (g.R.Rng.stream c.pursue.new.rng) s new so
+    (subst (λ o. IsConsumerOf c.args.mailbox.now o) (sym c.self.view_is) c.requires.of)
+
+pub look-requires-clause-may : goal.look-requires-clause-may
+look-requires-clause-may g c =
+    let s = at_views c.self.inside.reader c.self.inside.seat c.self.inside.places.items (lists c.self.inside.notes.items) in
+    let e = c.place_at.ensures ∙ ap (λ (z : Place). Some z) c.in-Before.is in
+    let size : s.reader.table.size ≡ c.mailbox.inside.cells.size =
+    cells_size c.args.mailbox.now s c.args.self.now c.self.view_is c.requires.of
+    ∙ sym (ap (λ (v : MailboxView). v.cells.size) c.mailbox.view_is) in
+    subst (λ (z : PoolSize). MayRead z.lanes (word_of c.in-Before.at) s.reader.part) size
+    (c.consumers_move_on.ensures.may_look s c.args.lane c.in-Before.at c.self.invariant.0 c.has_history.ensures e)
+
+pub invariant_of-self-in-Nothing : goal.invariant_of-self-in-Nothing
+invariant_of-self-in-Nothing g c =
+    let s = at_views c.self.inside.reader c.self.inside.seat c.self.inside.places.items (lists c.self.inside.notes.items) in
+    let e = c.place_at.ensures ∙ ap (λ (z : Place). Some z) c.in-Before.is in
+    let m = c.in-Nothing.ensures.makes in
+    let v = m.0 in
+    let quiet = c.looks_tell_links.ensures.nothing v (sym m.1) in
+    let done = c.consumers_move_on.ensures.waits s c.args.lane v c.in-Before.at c.self.invariant.0 c.has_history.ensures e (inl quiet) in
+    let there : c.look.new.seat ≡ record s.reader { part = reads_with_link s c.in-Before.at v } = m.2.1 in (
+      moved_has IsConsumer s c.args.lane (Before c.in-Before.at) None (reads_with_link s c.in-Before.at v) s.seat.part c.look.new.seat s.seat s.places s.notes done
+          there refl (sym (set_same s.places c.args.lane (Before c.in-Before.at) e)) refl,
+      (λ q w at. subst (λ (r : ReaderSeatView). r.table.size.cells ≤ w.cap) (sym there) (c.self.invariant.1 q w at)),
+    )
+
+pub returns-in-Nothing-clause-polled : goal.returns-in-Nothing-clause-polled
+returns-in-Nothing-clause-polled g c =
+    let s = at_views c.self.inside.reader c.self.inside.seat c.self.inside.places.items (lists c.self.inside.notes.items) in
+    let e = c.place_at.ensures ∙ ap (λ (z : Place). Some z) c.in-Before.is in
+    let new = at_views c.look.new.seat s.seat s.places s.notes in
+    let step = look_made s c.args.self.now c.args.lane c.in-Before.at c.look.new.seat s.places look.Nothing (Some poll.Nothing) c.self.view_is
+    c.in-Nothing.ensures.makes refl refl (λ v. c.places_tell_steps.ensures.looks s c.args.lane v c.in-Before.at c.self.invariant.0 e) (g.R.Rng.stream c.args.rng.now) in
+    let some = c.if-budget-eq0.false in
+    λ _. poll_of c.args.lane 1 c.args.budget poll.Nothing (g.R.Rng.stream c.args.rng.now) (g.R.Rng.stream c.args.rng.now) c.args.self.now new
+    (one_step c.args.lane (Some poll.Nothing) (g.R.Rng.stream c.args.rng.now) (g.R.Rng.stream c.args.rng.now) c.args.self.now new step) (omega (arith, some)) (λ f. absurd (cc))
+
+pub returns-in-Nothing-clause-told : goal.returns-in-Nothing-clause-told
+returns-in-Nothing-clause-told g c =
+    let s = at_views c.self.inside.reader c.self.inside.seat c.self.inside.places.items (lists c.self.inside.notes.items) in
+    let e = c.place_at.ensures ∙ ap (λ (z : Place). Some z) c.in-Before.is in
+    λ _. subst (λ o. AnswerTells c.args.lane (Some poll.Nothing) o (at_views c.look.new.seat s.seat s.places s.notes)) c.self.view_is
+    (c.answers_tell_lanes.ensures.nothing s c.args.lane c.in-Before.at c.look.new.seat c.self.invariant.0 c.has_history.ensures e c.in-Nothing.ensures.makes)
+
+pub invariant_of-self-in-Ended : goal.invariant_of-self-in-Ended
+invariant_of-self-in-Ended g c =
+    let s = at_views c.self.inside.reader c.self.inside.seat c.self.inside.places.items (lists c.self.inside.notes.items) in
+    let e = c.place_at.ensures ∙ ap (λ (z : Place). Some z) c.in-Before.is in
+    let m = c.in-Ended.ensures.makes in
+    let v = m.0 in
+    let quiet = c.looks_tell_links.ensures.ended v (sym m.1) in
+    let done = c.consumers_move_on.ensures.waits s c.args.lane v c.in-Before.at c.self.invariant.0 c.has_history.ensures e (inr quiet) in
+    let there : c.look.new.seat ≡ record s.reader { part = reads_with_link s c.in-Before.at v } = m.2.1 in (
+      moved_has IsConsumer s c.args.lane (Before c.in-Before.at) None (reads_with_link s c.in-Before.at v) s.seat.part c.look.new.seat s.seat s.places s.notes done
+          there refl (sym (set_same s.places c.args.lane (Before c.in-Before.at) e)) refl,
+      (λ q w at. subst (λ (r : ReaderSeatView). r.table.size.cells ≤ w.cap) (sym there) (c.self.invariant.1 q w at)),
+    )
+
+pub returns-in-Ended-clause-polled : goal.returns-in-Ended-clause-polled
+returns-in-Ended-clause-polled g c =
+    let s = at_views c.self.inside.reader c.self.inside.seat c.self.inside.places.items (lists c.self.inside.notes.items) in
+    let e = c.place_at.ensures ∙ ap (λ (z : Place). Some z) c.in-Before.is in
+    let new = at_views c.look.new.seat s.seat s.places s.notes in
+    let step = look_made s c.args.self.now c.args.lane c.in-Before.at c.look.new.seat s.places look.Ended (Some poll.Ended) c.self.view_is
+    c.in-Ended.ensures.makes refl refl (λ v. c.places_tell_steps.ensures.looks s c.args.lane v c.in-Before.at c.self.invariant.0 e) (g.R.Rng.stream c.args.rng.now) in
+    let some = c.if-budget-eq0.false in
+    λ _. poll_of c.args.lane 1 c.args.budget poll.Ended (g.R.Rng.stream c.args.rng.now) (g.R.Rng.stream c.args.rng.now) c.args.self.now new
+    (one_step c.args.lane (Some poll.Ended) (g.R.Rng.stream c.args.rng.now) (g.R.Rng.stream c.args.rng.now) c.args.self.now new step) (omega (arith, some)) (λ f. absurd (cc))
+
+pub returns-in-Ended-clause-told : goal.returns-in-Ended-clause-told
+returns-in-Ended-clause-told g c =
+    let s = at_views c.self.inside.reader c.self.inside.seat c.self.inside.places.items (lists c.self.inside.notes.items) in
+    let e = c.place_at.ensures ∙ ap (λ (z : Place). Some z) c.in-Before.is in
+    λ _. subst (λ o. AnswerTells c.args.lane (Some poll.Ended) o (at_views c.look.new.seat s.seat s.places s.notes)) c.self.view_is
+    (c.answers_tell_lanes.ensures.ended s c.args.lane c.in-Before.at c.look.new.seat c.self.invariant.0 c.has_history.ensures e c.in-Ended.ensures.makes)
+
+pub pursue-requires-in-Cell-clause-held : goal.pursue-requires-in-Cell-clause-held
+pursue-requires-in-Cell-clause-held g c =
+    let s = at_views c.self.inside.reader c.self.inside.seat c.self.inside.places.items (lists c.self.inside.notes.items) in
+    let e = c.place_at.ensures ∙ ap (λ (z : Place). Some z) c.in-Before.is in
+    let m = c.in-Cell.ensures.makes in
+    let k = c.in-Cell.cell in
+    let claim = c.new-claim.result in
+    let is = c.looks_tell_links.ensures.cell m.0 k (sym m.1) in
+    let real : k + 1 ≢ END = λ z. is.1 (is.0 ∙ z) in
+    let comes = subst (λ n. IsAccessAfter s.reader.table.size s.reader.known (load s.reader.reader (word_of c.in-Before.at) n) s.reader.part) is.0 m.2.0 in
+    let size : s.seat.table.size ≡ Some (record { layout = c.args.mailbox.now.claims.layout; cells = c.args.mailbox.now.claims.cells }) =
+    claims_size c.args.mailbox.now s c.args.self.now c.self.view_is c.requires.of in
+    let turns = λ (z : TableSize) (there : s.seat.table.size ≡ Some z). subst (λ (y : TableSize). IsClaimIn y.layout claim [])
+    (some_same (record { layout = c.args.mailbox.now.claims.layout; cells = c.args.mailbox.now.claims.cells }) z (sym size ∙ there))
+    (subst (λ (y : MailboxView). IsClaimIn y.claims.layout claim []) c.mailbox.view_is
+    (subst (λ l. IsClaimIn l claim []) c.layout.ensures c.new-claim.ensures.path)) in
+    let done = c.consumers_move_on.ensures.finds s c.args.lane k c.in-Before.at claim c.self.invariant.0 c.has_history.ensures e real comes
+    (c.new-claim.ensures.consumer ∙ c.consumer.ensures.exact) c.new-claim.ensures.going turns in
+    let there : c.look.new.seat ≡ record s.reader { part = reads_with_link s c.in-Before.at (k + 1) } =
+    m.2.1 ∙ ap (λ (n : ℕ). record s.reader { part = reads_with_link s c.in-Before.at n }) is.0 in
+    moved_has IsConsumer s c.args.lane (At k claim) None (reads_with_link s c.in-Before.at (k + 1)) s.seat.part c.look.new.seat s.seat
+    (slice_set s.places c.args.lane (At k claim)) s.notes done there refl refl refl
+
+pub invariant_of-self-in-Cell : goal.invariant_of-self-in-Cell
+invariant_of-self-in-Cell g c =
+    let s = at_views c.self.inside.reader c.self.inside.seat c.self.inside.places.items (lists c.self.inside.notes.items) in
+    let e = c.place_at.ensures ∙ ap (λ (z : Place). Some z) c.in-Before.is in
+    let m = c.in-Cell.ensures.makes in
+    let k = c.in-Cell.cell in
+    let claim = c.new-claim.result in
+    let mid = at_views c.look.new.seat s.seat (slice_set s.places c.args.lane (At k claim)) s.notes in
+    let step = look_made s c.args.self.now c.args.lane c.in-Before.at c.look.new.seat (slice_set s.places c.args.lane (At k claim)) (look.Cell k) None c.self.view_is
+    m refl refl (λ v. c.places_tell_steps.ensures.looks s c.args.lane v c.in-Before.at c.self.invariant.0 e) (g.R.Rng.stream c.args.rng.now) in
+    let so = c.pursue-in-Cell.ensures.pursued c.args.self.now 1 (g.R.Rng.stream c.args.rng.now) (one_step c.args.lane None (g.R.Rng.stream c.args.rng.now) (g.R.Rng.stream c.args.rng.now) c.args.self.now mid step) in
+    let new = at_views c.pursue-in-Cell.new.reader c.pursue-in-Cell.new.seat c.pursue-in-Cell.new.places.items (lists c.pursue-in-Cell.new.notes.items) in
+    (so.is, c.pursue-in-Cell.ensures.wide)
+
+pub returns-in-Cell-clause-no_lane : goal.returns-in-Cell-clause-no_lane
+returns-in-Cell-clause-no_lane g c =
+    let s = at_views c.self.inside.reader c.self.inside.seat c.self.inside.places.items (lists c.self.inside.notes.items) in
+    let e = c.place_at.ensures ∙ ap (λ (z : Place). Some z) c.in-Before.is in
+    let m = c.in-Cell.ensures.makes in
+    let k = c.in-Cell.cell in
+    let claim = c.new-claim.result in
+    let mid = at_views c.look.new.seat s.seat (slice_set s.places c.args.lane (At k claim)) s.notes in
+    let step = look_made s c.args.self.now c.args.lane c.in-Before.at c.look.new.seat (slice_set s.places c.args.lane (At k claim)) (look.Cell k) None c.self.view_is
+    m refl refl (λ v. c.places_tell_steps.ensures.looks s c.args.lane v c.in-Before.at c.self.invariant.0 e) (g.R.Rng.stream c.args.rng.now) in
+    let so = c.pursue-in-Cell.ensures.pursued c.args.self.now 1 (g.R.Rng.stream c.args.rng.now) (one_step c.args.lane None (g.R.Rng.stream c.args.rng.now) (g.R.Rng.stream c.args.rng.now) c.args.self.now mid step) in
+    let new = at_views c.pursue-in-Cell.new.reader c.pursue-in-Cell.new.seat c.pursue-in-Cell.new.places.items (lists c.pursue-in-Cell.new.notes.items) in
+    let lanes : c.len.result ≡ c.args.mailbox.now.cells.size.lanes =
+    c.len.ensures.value ∙ c.self.invariant.0.places_count
+    ∙ ap (λ (z : PoolSize). z.lanes) (cells_size c.args.mailbox.now s c.args.self.now c.self.view_is c.requires.of) in (
+      (λ f. absurd (not_no_lane c.args.lane 1 (c.args.budget - 1) c.pursue-in-Cell.result (g.R.Rng.stream c.args.rng.now) (g.R.Rng.stream c.pursue-in-Cell.new.rng) c.args.self.now new so f)),
+      (λ wide. let low = c.if-lane-len.false in absurd (omega (arith, low, wide, lanes))),
+    )
+
+pub returns-in-Cell-clause-refused : goal.returns-in-Cell-clause-refused
+returns-in-Cell-clause-refused g c =
+    let s = at_views c.self.inside.reader c.self.inside.seat c.self.inside.places.items (lists c.self.inside.notes.items) in
+    let e = c.place_at.ensures ∙ ap (λ (z : Place). Some z) c.in-Before.is in
+    let m = c.in-Cell.ensures.makes in
+    let k = c.in-Cell.cell in
+    let claim = c.new-claim.result in
+    let mid = at_views c.look.new.seat s.seat (slice_set s.places c.args.lane (At k claim)) s.notes in
+    let step = look_made s c.args.self.now c.args.lane c.in-Before.at c.look.new.seat (slice_set s.places c.args.lane (At k claim)) (look.Cell k) None c.self.view_is
+    m refl refl (λ v. c.places_tell_steps.ensures.looks s c.args.lane v c.in-Before.at c.self.invariant.0 e) (g.R.Rng.stream c.args.rng.now) in
+    let so = c.pursue-in-Cell.ensures.pursued c.args.self.now 1 (g.R.Rng.stream c.args.rng.now) (one_step c.args.lane None (g.R.Rng.stream c.args.rng.now) (g.R.Rng.stream c.args.rng.now) c.args.self.now mid step) in
+    let new = at_views c.pursue-in-Cell.new.reader c.pursue-in-Cell.new.seat c.pursue-in-Cell.new.places.items (lists c.pursue-in-Cell.new.notes.items) in
+    λ f. absurd (not_no_lane c.args.lane 1 (c.args.budget - 1) c.pursue-in-Cell.result (g.R.Rng.stream c.args.rng.now) (g.R.Rng.stream c.pursue-in-Cell.new.rng) c.args.self.now new so f)
+
+pub returns-in-Cell-clause-polled : goal.returns-in-Cell-clause-polled
+returns-in-Cell-clause-polled g c =
+    let s = at_views c.self.inside.reader c.self.inside.seat c.self.inside.places.items (lists c.self.inside.notes.items) in
+    let e = c.place_at.ensures ∙ ap (λ (z : Place). Some z) c.in-Before.is in
+    let m = c.in-Cell.ensures.makes in
+    let k = c.in-Cell.cell in
+    let claim = c.new-claim.result in
+    let mid = at_views c.look.new.seat s.seat (slice_set s.places c.args.lane (At k claim)) s.notes in
+    let step = look_made s c.args.self.now c.args.lane c.in-Before.at c.look.new.seat (slice_set s.places c.args.lane (At k claim)) (look.Cell k) None c.self.view_is
+    m refl refl (λ v. c.places_tell_steps.ensures.looks s c.args.lane v c.in-Before.at c.self.invariant.0 e) (g.R.Rng.stream c.args.rng.now) in
+    let so = c.pursue-in-Cell.ensures.pursued c.args.self.now 1 (g.R.Rng.stream c.args.rng.now) (one_step c.args.lane None (g.R.Rng.stream c.args.rng.now) (g.R.Rng.stream c.args.rng.now) c.args.self.now mid step) in
+    let new = at_views c.pursue-in-Cell.new.reader c.pursue-in-Cell.new.seat c.pursue-in-Cell.new.places.items (lists c.pursue-in-Cell.new.notes.items) in
+    let some = c.if-budget-eq0.false in
+    let sum : c.args.budget - 1 + 1 ≡ c.args.budget = omega (arith, some) in
+    λ _. poll_by c.args.lane 1 (c.args.budget - 1) c.args.budget c.pursue-in-Cell.result (g.R.Rng.stream c.args.rng.now) (g.R.Rng.stream c.pursue-in-Cell.new.rng) c.args.self.now new sum so
+
+pub returns-in-Cell-clause-told : goal.returns-in-Cell-clause-told
+returns-in-Cell-clause-told g c =
+    let s = at_views c.self.inside.reader c.self.inside.seat c.self.inside.places.items (lists c.self.inside.notes.items) in
+    let e = c.place_at.ensures ∙ ap (λ (z : Place). Some z) c.in-Before.is in
+    let m = c.in-Cell.ensures.makes in
+    let k = c.in-Cell.cell in
+    let claim = c.new-claim.result in
+    let mid = at_views c.look.new.seat s.seat (slice_set s.places c.args.lane (At k claim)) s.notes in
+    let step = look_made s c.args.self.now c.args.lane c.in-Before.at c.look.new.seat (slice_set s.places c.args.lane (At k claim)) (look.Cell k) None c.self.view_is
+    m refl refl (λ v. c.places_tell_steps.ensures.looks s c.args.lane v c.in-Before.at c.self.invariant.0 e) (g.R.Rng.stream c.args.rng.now) in
+    let so = c.pursue-in-Cell.ensures.pursued c.args.self.now 1 (g.R.Rng.stream c.args.rng.now) (one_step c.args.lane None (g.R.Rng.stream c.args.rng.now) (g.R.Rng.stream c.args.rng.now) c.args.self.now mid step) in
+    let new = at_views c.pursue-in-Cell.new.reader c.pursue-in-Cell.new.seat c.pursue-in-Cell.new.places.items (lists c.pursue-in-Cell.new.notes.items) in
+    λ _. pursuit_tells c.args.lane 1 (c.args.budget - 1) c.pursue-in-Cell.result (g.R.Rng.stream c.args.rng.now) (g.R.Rng.stream c.pursue-in-Cell.new.rng) c.args.self.now c.args.self.now new so
+
+pub returns-in-Cell-clause-of : goal.returns-in-Cell-clause-of
+returns-in-Cell-clause-of g c =
+    let s = at_views c.self.inside.reader c.self.inside.seat c.self.inside.places.items (lists c.self.inside.notes.items) in
+    let e = c.place_at.ensures ∙ ap (λ (z : Place). Some z) c.in-Before.is in
+    let m = c.in-Cell.ensures.makes in
+    let k = c.in-Cell.cell in
+    let claim = c.new-claim.result in
+    let mid = at_views c.look.new.seat s.seat (slice_set s.places c.args.lane (At k claim)) s.notes in
+    let step = look_made s c.args.self.now c.args.lane c.in-Before.at c.look.new.seat (slice_set s.places c.args.lane (At k claim)) (look.Cell k) None c.self.view_is
+    m refl refl (λ v. c.places_tell_steps.ensures.looks s c.args.lane v c.in-Before.at c.self.invariant.0 e) (g.R.Rng.stream c.args.rng.now) in
+    let so = c.pursue-in-Cell.ensures.pursued c.args.self.now 1 (g.R.Rng.stream c.args.rng.now) (one_step c.args.lane None (g.R.Rng.stream c.args.rng.now) (g.R.Rng.stream c.args.rng.now) c.args.self.now mid step) in
+    let new = at_views c.pursue-in-Cell.new.reader c.pursue-in-Cell.new.seat c.pursue-in-Cell.new.places.items (lists c.pursue-in-Cell.new.notes.items) in
+    still_of c.args.mailbox.now c.args.lane 1 (c.args.budget - 1) c.pursue-in-Cell.result (g.R.Rng.stream c.args.rng.now) (g.R.Rng.stream c.pursue-in-Cell.new.rng) c.args.self.now new so c.requires.of

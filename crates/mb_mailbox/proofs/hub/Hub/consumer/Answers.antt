@@ -1,10 +1,10 @@
-use Rattle.std.proofs.Common.{[], ◌≡◌, ◌∙◌, ◌≤◌, ℕ, ap, arith, length, subst, sym}
+use Rattle.std.proofs.Common.{[], ◌≡◌, ◌∙◌, ◌≤◌, ◌<◌, ℕ, ap, arith, length, subst, sym}
 use Rattle.mb_shared_cells.specs.Vocabulary.{CellHubView, CellsName, roll_with_reader}
 use Rattle.mb_shared_claims.specs.Vocabulary.{HubView as ClaimHubView}
-use Rattle.mb_mailbox.specs.Below.{ReaderSeatView, claims_at, name_of}
+use Rattle.mb_mailbox.specs.Below.{ClaimTable, ReaderSeatView, claims_at, consumer_count, name_of}
 use Rattle.mb_mailbox.specs.Consumers.{IsConsumer}
 use Rattle.mb_mailbox.specs.Mailboxes.{MailboxView}
-use Rattle.mb_mailbox.specs.Hubs.{HubView, IsHub, IsNewConsumer, put_lists, with_consumer}
+use Rattle.mb_mailbox.specs.Hubs.{HubView, IsHub, IsNewConsumer, with_consumer}
 use Rattle.mb_mailbox.proofs.Made.{at_views, lists}
 use Rattle.mb_mailbox.proofs.HubMoves.{gave_consumer}
 use Rattle.mb_mailbox.proofs.NewConsumer.{is_new, new_reader, new_seat, no_notes}
@@ -15,7 +15,7 @@ invariant_of-result g c =
     let h : HubView = record {
       cells = c.self.inside.cells;
       claims = c.self.inside.claims;
-      puts = put_lists c.self.inside.puts.items;
+      puts = c.self.inside.puts.items;
       ledgers = c.self.inside.ledgers.items;
     } in
     let m : MailboxView = record { cells = c.mailbox.inside.cells; claims = c.mailbox.inside.claims } in
@@ -44,7 +44,7 @@ invariant_of-self g c =
     let h : HubView = record {
       cells = c.self.inside.cells;
       claims = c.self.inside.claims;
-      puts = put_lists c.self.inside.puts.items;
+      puts = c.self.inside.puts.items;
       ledgers = c.self.inside.ledgers.items;
     } in
     let m : MailboxView = record { cells = c.mailbox.inside.cells; claims = c.mailbox.inside.claims } in
@@ -68,8 +68,14 @@ invariant_of-self g c =
       ledgers = c.push_reserved.new.self.items;
     } = λ j. record { cells = sym cells j; claims = sym seats j; puts = h.puts; ledgers = sym c.push_reserved.ensures.items j } in
     let cap = c.push_reserved.ensures.capacity in
-    let wide = subst (λ (t : ClaimHubView). (claims_at t.table).table.values ≤ c.self.inside.ledgers.cap) (sym seats) c.self.invariant.2 in (
-      subst IsHub is (gave_consumer h i),
+    let wide = subst (λ (t : ClaimHubView). (claims_at t.table).table.values ≤ c.self.inside.ledgers.cap) (sym seats) c.self.invariant.2 in
+    let low : length h.ledgers < (claims_at h.claims.table).table.values =
+    (let few = c.if-len-consumers.false in
+    let n = c.len.ensures in
+    let all : c.consumers.result ≡ (claims_at h.claims.table).table.values =
+    c.consumers.ensures ∙ ap consumer_count c.layout.ensures ∙ ap (λ (t : ClaimTable). (claims_at t).table.values) (sym claims) in
+    omega arith) in (
+      subst IsHub is (gave_consumer h i low),
       subst (λ (t : CellHubView). t.table.size.lanes ≤ c.self.inside.puts.cap) (sym cells) c.self.invariant.1,
       omega arith,
     )
@@ -79,7 +85,7 @@ returns-clause-consumer g c =
     let h : HubView = record {
       cells = c.self.inside.cells;
       claims = c.self.inside.claims;
-      puts = put_lists c.self.inside.puts.items;
+      puts = c.self.inside.puts.items;
       ledgers = c.self.inside.ledgers.items;
     } in
     let m : MailboxView = record { cells = c.mailbox.inside.cells; claims = c.mailbox.inside.claims } in

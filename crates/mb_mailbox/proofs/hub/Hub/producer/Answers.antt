@@ -1,8 +1,8 @@
-use Rattle.std.proofs.Common.{[], ◌≡◌, ◌∙◌, ◌∷◌, ◌++◌, None, ap, arith, subst, sym}
+use Rattle.std.proofs.Common.{[], ◌≡◌, ◌∙◌, ◌∷◌, ◌++◌, ◌<◌, None, ap, arith, length, subst, sym}
 use Rattle.mb_shared_cells.specs.Vocabulary.{CellHubView, CellsName, roll_with_lane}
 use Rattle.mb_mailbox.specs.Mailboxes.{MailboxView}
-use Rattle.mb_mailbox.specs.Hubs.{HubView, IsHub, put_lists, with_producer}
-use Rattle.mb_mailbox.proofs.HubMoves.{gave_producer, lists_more}
+use Rattle.mb_mailbox.specs.Hubs.{HubView, IsHub, with_producer}
+use Rattle.mb_mailbox.proofs.HubMoves.{gave_producer}
 use Rattle.mb_mailbox.proofs.hub.Hub.producer.Goals as goal
 
 pub invariant_of-self : goal.invariant_of-self
@@ -10,11 +10,10 @@ invariant_of-self g c =
     let h : HubView = record {
       cells = c.self.inside.cells;
       claims = c.self.inside.claims;
-      puts = put_lists c.self.inside.puts.items;
+      puts = c.self.inside.puts.items;
       ledgers = c.self.inside.ledgers.items;
     } in
-    let lists : put_lists c.push_reserved.new.self.items ≡ put_lists c.self.inside.puts.items ++ None ∷ [] =
-    ap (λ l. put_lists l) c.push_reserved.ensures.items ∙ lists_more c.self.inside.puts.items in
+    let lists : c.push_reserved.new.self.items ≡ c.self.inside.puts.items ++ None ∷ [] = c.push_reserved.ensures.items in
     let table : h.cells.table ≡ c.mailbox.inside.cells =
     ap (λ (v : HubView). v.cells.table) c.self.view_is ∙ c.requires.of.cells ∙ sym (ap (λ (m : MailboxView). m.cells) c.mailbox.view_is) in
     let hub = c.in-Ok-enroll_lane.ensures.hub in
@@ -26,7 +25,7 @@ invariant_of-self g c =
     let is : with_producer h ≡ record {
       cells = c.enroll_lane.new.hub;
       claims = c.self.inside.claims;
-      puts = put_lists c.push_reserved.new.self.items;
+      puts = c.push_reserved.new.self.items;
       ledgers = c.self.inside.ledgers.items;
     } = λ j. record {
       cells = sym cells j;
@@ -34,4 +33,10 @@ invariant_of-self g c =
       puts = sym lists j;
       ledgers = c.self.inside.ledgers.items;
     } in
-    (subst IsHub is (gave_producer h c.self.invariant.0), omega arith, c.self.invariant.2)
+    let low : length h.puts < h.cells.table.size.lanes =
+    (let few = c.if-len-mailbox.false in
+    let n = c.len.ensures in
+    let m = c.mailbox.invariant.1 in
+    let its : h.cells.table.size.lanes ≡ c.mailbox.inside.cells.size.lanes = ap (λ (t : CellsName). t.size.lanes) table in
+    omega arith) in
+    (subst IsHub is (gave_producer h c.self.invariant.0 low), omega arith, c.self.invariant.2)

@@ -5,7 +5,7 @@ use Rattle.mb_shared_claims.specs.Vocabulary.{HubView as ClaimHubView}
 use Rattle.mb_mailbox.specs.Below.{claims_at, name_of, Reader}
 use Rattle.mb_mailbox.specs.Consumers.{ConsumerView}
 use Rattle.mb_mailbox.specs.Mailboxes.{MailboxView}
-use Rattle.mb_mailbox.specs.Hubs.{HubView, IsHub, LedgerView, put_lists, with_taken_consumer}
+use Rattle.mb_mailbox.specs.Hubs.{HubView, IsHub, LedgerView, with_taken_consumer}
 use Rattle.mb_mailbox.proofs.Made.{at_views, lists}
 use Rattle.mb_mailbox.proofs.HubMoves.{seat_is_out, took_consumer}
 use Rattle.mb_mailbox.proofs.hub.Hub.take_consumer.Goals as goal
@@ -15,7 +15,7 @@ invariant_of-self g c =
     let h : HubView = record {
       cells = c.self.inside.cells;
       claims = c.self.inside.claims;
-      puts = put_lists c.self.inside.puts.items;
+      puts = c.self.inside.puts.items;
       ledgers = c.self.inside.ledgers.items;
     } in
     let s = at_views c.consumer.inside.reader c.consumer.inside.seat c.consumer.inside.places.items (lists c.consumer.inside.notes.items) in
@@ -38,7 +38,9 @@ invariant_of-self g c =
     } = λ j. record { cells = sym cells j; claims = sym seats j; puts = h.puts; ledgers = sym ledgers j } in
     let same : s.seat.table ≡ h.claims.table =
     ap (λ (v : ConsumerView). v.seat.table) c.consumer.view_is ∙ c.requires.consumer.claims ∙ sym (ap (λ (m : MailboxView). name_of m.claims) c.mailbox.view_is) ∙ sym claims in
-    let took = took_consumer h s c.self.invariant.0 c.consumer.invariant.0 same c.take_reader.ensures.was_out c.take_in.ensures.was_out in (
+    let read : s.reader.table ≡ h.cells.table =
+    ap (λ (v : ConsumerView). v.reader.table) c.consumer.view_is ∙ c.requires.consumer.cells ∙ sym (ap (λ (m : MailboxView). m.cells) c.mailbox.view_is) ∙ sym table in
+    let took = took_consumer h s c.self.invariant.0 c.consumer.invariant.0 same read c.take_reader.ensures.was_out c.take_in.ensures.was_out in (
       subst IsHub is took,
       subst (λ (t : CellHubView). t.table.size.lanes ≤ c.self.inside.puts.cap) (sym cells) c.self.invariant.1,
       subst (λ (t : ClaimHubView). (claims_at t.table).table.values ≤ c.self.inside.ledgers.cap) (sym seats) c.self.invariant.2,
@@ -49,7 +51,7 @@ returns-clause-was_out g c =
     let h : HubView = record {
       cells = c.self.inside.cells;
       claims = c.self.inside.claims;
-      puts = put_lists c.self.inside.puts.items;
+      puts = c.self.inside.puts.items;
       ledgers = c.self.inside.ledgers.items;
     } in
     let s = at_views c.consumer.inside.reader c.consumer.inside.seat c.consumer.inside.places.items (lists c.consumer.inside.notes.items) in

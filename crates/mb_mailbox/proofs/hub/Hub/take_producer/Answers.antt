@@ -1,11 +1,12 @@
-use Rattle.std.proofs.Common.{◌≡◌, ◌∙◌, None, Some, ℕ, ap, arith, subst, sym}
+use Rattle.std.proofs.Common.{◌≡◌, ◌∙◌, ◌<◌, None, Some, ap, arith, subst, sym}
 use Rattle.std.specs.Prelude.{slice_get, slice_set}
+use Rattle.mb_cells.specs.Vocabulary.{Entry, IsLaneAfter, fetch}
 use Rattle.mb_shared_cells.specs.Vocabulary.{CellHubView, CellsName, roll_with_part}
-use Rattle.mb_mailbox.specs.Below.{Producer}
+use Rattle.mb_mailbox.specs.Below.{Has, PoolSize, Producer, linked_cells}
 use Rattle.mb_mailbox.specs.Mailboxes.{MailboxView}
-use Rattle.mb_mailbox.specs.Hubs.{HubView, IsHub, put_lists, with_taken_producer}
+use Rattle.mb_mailbox.specs.Hubs.{HubView, IsHub, IsPutList, PutListView, put_list_of, with_taken_producer}
 use Rattle.mb_mailbox.specs.Producers.{ProducerView}
-use Rattle.mb_mailbox.proofs.HubMoves.{is_out, lists_set, took_producer}
+use Rattle.mb_mailbox.proofs.HubMoves.{is_out, kept_list, took_producer}
 use Rattle.mb_mailbox.proofs.hub.Hub.take_producer.Goals as goal
 
 pub invariant_of-self : goal.invariant_of-self
@@ -13,7 +14,7 @@ invariant_of-self g c =
     let h : HubView = record {
       cells = c.self.inside.cells;
       claims = c.self.inside.claims;
-      puts = put_lists c.self.inside.puts.items;
+      puts = c.self.inside.puts.items;
       ledgers = c.self.inside.ledgers.items;
     } in
     let s : ProducerView = record { seat = c.producer.inside.seat; items = c.producer.inside.items.items } in
@@ -22,12 +23,14 @@ invariant_of-self g c =
     let lane : c.lane-lane.result ≡ s.seat.lane = c.lane-lane.ensures in
     let cells : c.take_lane.new.hub ≡ (with_taken_producer s h).cells =
     c.take_lane.ensures.hub ∙ ap (λ (t : CellsName). record { table = t; roll = roll_with_part (Producer s.seat.lane) s.seat.part h.cells.roll }) (sym table) in
-    let lists : put_lists (slice_set c.self.inside.puts.items c.lane-lane.result (Some c.producer.inside.items)) ≡ slice_set h.puts s.seat.lane (Some s.items) =
-    lists_set c.self.inside.puts.items c.lane-lane.result c.producer.inside.items ∙ ap (λ (p : ℕ). slice_set h.puts p (Some s.items)) lane in
+    let kept : PutListView = record { items = s.items; ended = c.has_ended-ended.result } in
+    let its : kept ≡ put_list_of s = λ j. record { items = s.items; ended = c.has_ended-ended.ensures j } in
+    let lists : slice_set h.puts c.lane-lane.result (Some kept) ≡ slice_set h.puts s.seat.lane (Some (put_list_of s)) =
+    λ j. slice_set h.puts (lane j) (Some (its j)) in
     let is : with_taken_producer s h ≡ record {
       cells = c.take_lane.new.hub;
       claims = c.self.inside.claims;
-      puts = put_lists (slice_set c.self.inside.puts.items c.lane-lane.result (Some c.producer.inside.items));
+      puts = slice_set h.puts c.lane-lane.result (Some kept);
       ledgers = c.self.inside.ledgers.items;
     } = λ j. record {
       cells = sym cells j;
@@ -35,7 +38,22 @@ invariant_of-self g c =
       puts = sym lists j;
       ledgers = c.self.inside.ledgers.items;
     } in
-    let took = took_producer h s c.self.invariant.0 c.producer.invariant.0 c.take_lane.ensures.was_out in
+    let pool = c.has_history.ensures.history.0 in
+    let lawful = c.has_history.ensures.history.1 in
+    let part_is = c.has_history.ensures.history.2 in
+    let place = subst (λ d. IsLaneAfter s.seat.table.size.cells s.seat.lane s.seat.place d) (sym part_is) c.has_history.ensures.place in
+    let linked : (e : Entry) → Has s.seat.part (fetch s.seat.lane e) → e.cell < s.seat.table.size.cells
+    → Has (linked_cells s.seat.lane s.seat.part) e.cell =
+    (λ e has low. subst (λ ks. Has ks e.cell) (c.parts_tell_lanes.ensures.linked pool s.seat.lane ∙ ap (linked_cells s.seat.lane) part_is)
+    (c.lanes_share_cells.ensures.idle s.seat.table.size pool s.seat.lane s.seat.place e lawful place c.producer.invariant.0.idle
+    (c.parts_have_accesses.ensures.of pool (Producer s.seat.lane) (fetch s.seat.lane e)
+    (subst (λ d. Has d (fetch s.seat.lane e)) (sym part_is) has)).0 low)) in
+    let size : s.seat.table.size ≡ h.cells.table.size =
+    ap (λ (v : ProducerView). v.seat.table.size) c.producer.view_is ∙ ap (λ (t : CellsName). t.size) c.requires.producer.table
+    ∙ sym (ap (λ (m : MailboxView). m.cells.size) c.mailbox.view_is) ∙ sym (ap (λ (t : CellsName). t.size) table) in
+    let own = kept_list s c.producer.invariant.0 linked in
+    let took = took_producer h s c.self.invariant.0
+    (subst (λ (z : PoolSize). IsPutList z.cells s.seat.lane s.seat.part (put_list_of s)) size own) c.take_lane.ensures.was_out in
     let lanes : c.take_lane.new.hub.table.size.lanes ≡ h.cells.table.size.lanes = ap (λ (v : CellHubView). v.table.size.lanes) cells in
     let wide = c.self.invariant.1 in
     (subst IsHub is took, omega arith, c.self.invariant.2)
@@ -45,7 +63,7 @@ returns-clause-was_out g c =
     let h : HubView = record {
       cells = c.self.inside.cells;
       claims = c.self.inside.claims;
-      puts = put_lists c.self.inside.puts.items;
+      puts = c.self.inside.puts.items;
       ledgers = c.self.inside.ledgers.items;
     } in
     let s : ProducerView = record { seat = c.producer.inside.seat; items = c.producer.inside.items.items } in
@@ -57,7 +75,7 @@ returns-clause-hub g c =
     let h : HubView = record {
       cells = c.self.inside.cells;
       claims = c.self.inside.claims;
-      puts = put_lists c.self.inside.puts.items;
+      puts = c.self.inside.puts.items;
       ledgers = c.self.inside.ledgers.items;
     } in
     let s : ProducerView = record { seat = c.producer.inside.seat; items = c.producer.inside.items.items } in
@@ -66,12 +84,14 @@ returns-clause-hub g c =
     let lane : c.lane-lane.result ≡ s.seat.lane = c.lane-lane.ensures in
     let cells : c.take_lane.new.hub ≡ (with_taken_producer s h).cells =
     c.take_lane.ensures.hub ∙ ap (λ (t : CellsName). record { table = t; roll = roll_with_part (Producer s.seat.lane) s.seat.part h.cells.roll }) (sym table) in
-    let lists : put_lists (slice_set c.self.inside.puts.items c.lane-lane.result (Some c.producer.inside.items)) ≡ slice_set h.puts s.seat.lane (Some s.items) =
-    lists_set c.self.inside.puts.items c.lane-lane.result c.producer.inside.items ∙ ap (λ (p : ℕ). slice_set h.puts p (Some s.items)) lane in
+    let kept : PutListView = record { items = s.items; ended = c.has_ended-ended.result } in
+    let its : kept ≡ put_list_of s = λ j. record { items = s.items; ended = c.has_ended-ended.ensures j } in
+    let lists : slice_set h.puts c.lane-lane.result (Some kept) ≡ slice_set h.puts s.seat.lane (Some (put_list_of s)) =
+    λ j. slice_set h.puts (lane j) (Some (its j)) in
     let is : with_taken_producer s h ≡ record {
       cells = c.take_lane.new.hub;
       claims = c.self.inside.claims;
-      puts = put_lists (slice_set c.self.inside.puts.items c.lane-lane.result (Some c.producer.inside.items));
+      puts = slice_set h.puts c.lane-lane.result (Some kept);
       ledgers = c.self.inside.ledgers.items;
     } = λ j. record {
       cells = sym cells j;

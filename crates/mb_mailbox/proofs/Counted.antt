@@ -1,0 +1,98 @@
+-- How many items a report has on all lanes together, and who competed for an item.
+use Rattle.std.proofs.Common.{◌≡◌, ℕ, zero, suc, ◌+◌, ◌*◌, ◌<◌, ◌≤◌, Bool, true, false, List, [], ◌∷◌, length, refl, sym, ◌∙◌, ap, subst, inl, inr, arith}
+use Rattle.std.specs.Prelude.{Option, Some, None, if◌then◌else◌, nat_lt, reverse, slice_get, sum_by}
+use Rattle.std.specs.Option.{option_map_or}
+use Rattle.std.proofs.lemmas.Bool.{cases_lt, ltb-true}
+use Rattle.std.proofs.lemmas.List.{length-map, reverse-append}
+use Rattle.std.proofs.lemmas.List.Sums.{sum_by-cons}
+use Rattle.std.proofs.Math.Nat.{mul-le-mul_right}
+use Rattle.mb_cells.specs.Vocabulary.{Entry, IsStart, items_put, put_list}
+use Rattle.mb_world.specs.Plan.{Histories, Plan, consumers_of}
+use Rattle.mb_world.specs.Report.{DiaryView, LaneView, ReportView, diary, note}
+use Rattle.mb_world.specs.Reporting.{IsReportOf, lane_view}
+use Rattle.mb_mailbox.specs.Below.{History, Note}
+use Rattle.mb_mailbox.specs.Gathering.{put_count}
+use Rattle.mb_mailbox.proofs.Lists.{get_within, some_same}
+use Rattle.mb_mailbox.proofs.Turned.{get_left}
+
+-- ---- sums
+total : (ℕ → ℕ) → ℕ → ℕ
+total f zero = 0
+total f (suc n) = f n + total f n
+
+shift : (f : ℕ → ℕ) (n : ℕ) → total f (suc n) ≡ f 0 + total (λ j. f (suc j)) n
+unfolding total
+shift f zero = refl
+shift f (suc n) = omega (arith, shift f n)
+
+summed : {X : Type 0} (g : X → ℕ) (f : ℕ → ℕ) (xs : List X) → ((j : ℕ) (x : X) → slice_get xs j ≡ Some x → g x ≡ f j)
+    → sum_by g xs ≡ total f (length xs)
+unfolding total
+summed g f [] each = refl
+summed g f (x ∷ xs) each =
+    let rest = summed g (λ j. f (suc j)) xs (λ j y e. each (suc j) y e) in
+    let here = each 0 x refl in
+    let whole = shift f (length xs) in
+    let next = sum_by-cons g x xs in
+    omega (arith, rest, here, whole, next)
+
+put_total : (n : ℕ) (pool : History) → items_put n pool ≡ total (λ p. length (put_list p pool)) n
+unfolding total
+put_total zero pool = refl
+put_total (suc n) pool = ap (λ k. length (put_list n pool) + k) (put_total n pool)
+
+pub counted : (plan : Plan) (hs : Histories) (r : ReportView) → IsReportOf plan hs r → put_count r ≡ items_put plan.lanes hs.pool
+counted plan hs r is =
+    summed (λ (l : LaneView). length l.put) (λ p. length (put_list p hs.pool)) r.lanes each
+    ∙ ap (total (λ p. length (put_list p hs.pool))) is.lanes_count ∙ sym (put_total plan.lanes hs.pool)
+  where
+    each : (p : ℕ) (l : LaneView) → slice_get r.lanes p ≡ Some l → length l.put ≡ length (put_list p hs.pool)
+    each p l e =
+        let low : p < plan.lanes = subst (λ n. p < n) is.lanes_count (get_within r.lanes p l e) in
+        let same : l ≡ lane_view plan p hs r = some_same l (lane_view plan p hs r) (sym e ∙ is.lane p low) in
+        ap (λ (v : LaneView). length v.put) same ∙ length-map (put_list p hs.pool) (λ (z : Entry). z.value)
+
+-- ---- where a note stands
+some_chosen : {X : Type 0} (b : Bool) (o : Option X) (x : X) → (if b then o else None) ≡ Some x → (b ≡ true) × (o ≡ Some x)
+some_chosen true o x e = (refl, e)
+some_chosen false o x e = absurd (cc)
+
+-- a note is in a diary
+in_diary : (o : Option DiaryView) (j : ℕ) (n : Note) → slice_get (option_map_or (λ (d : DiaryView). d.notes) o []) j ≡ Some n
+    → (d : DiaryView) × (o ≡ Some d) × (slice_get d.notes j ≡ Some n)
+in_diary None j n e = absurd (cc)
+in_diary (Some d) j n e = (d, refl, e)
+
+pub record IsNoted (plan : Plan) (r : ReportView) (c p j : ℕ) (n : Note) : Type 0 where
+  pub consumer : c < consumers_of plan
+  pub lane : p < plan.lanes
+  pub diary : DiaryView
+  pub there : slice_get r.diaries (c * plan.lanes + p) ≡ Some diary
+  pub here : slice_get diary.notes j ≡ Some n
+
+pub is_noted : (plan : Plan) (hs : Histories) (r : ReportView) → IsReportOf plan hs r → (c p j : ℕ) (n : Note) → note c p j r ≡ Some n
+    → IsNoted plan r c p j n
+is_noted plan hs r is c p j n e =
+    let t = in_diary (diary c p r) j n e in
+    let d = t.0 in
+    let z = some_chosen (nat_lt p (length r.lanes)) (slice_get r.diaries (c * length r.lanes + p)) d t.1 in
+    let low : p < plan.lanes = subst (λ w. p < w) is.lanes_count (ltb-true p (length r.lanes) z.0) in
+    let there : slice_get r.diaries (c * plan.lanes + p) ≡ Some d = ap (λ w. slice_get r.diaries (c * w + p)) (sym is.lanes_count) ∙ z.1 in
+    let within : c * plan.lanes + p < consumers_of plan * plan.lanes =
+    subst (λ w. c * plan.lanes + p < w) is.diaries_count (get_within r.diaries (c * plan.lanes + p) d there) in
+    record {
+      consumer = elim (cases_lt c (consumers_of plan)) [
+        | inl less ↦ less
+        | inr not ↦ let most : consumers_of plan * plan.lanes ≤ c * plan.lanes = mul-le-mul_right plan.lanes not in absurd (omega (arith, most, within))
+      ];
+      lane = low;
+      diary = d;
+      there = there;
+      here = t.2;
+    }
+
+-- what a list began with keeps its places, from the first on
+pub at_start : (ks ls : List ℕ) (j k : ℕ) → IsStart ks ls → slice_get (reverse ks) j ≡ Some k → slice_get (reverse ls) j ≡ Some k
+at_start ks ls j k s e =
+    ap (λ l. slice_get (reverse l) j) (sym s.1) ∙ ap (λ l. slice_get l j) (reverse-append s.0 ks)
+    ∙ get_left (reverse ks) (reverse s.0) j k e

@@ -1,0 +1,39 @@
+-- The parts of the examples: a consumer that has met cell 4 on lane 0, and loaded neither its item nor its link.
+use Rattle.std.proofs.Common.{None, Option, Some, [], inl, inr, refl, ◌∷◌, ◌≡◌, ◌∙◌, ℕ, List}
+use Rattle.mb_cells.specs.Vocabulary.{loaded_by}
+use Rattle.mb_mailbox.specs.Below.{HasRead, Head, Item, Link, ObjectTurn, ToCells, ToClaims, Word, WorldAccess, load}
+use Rattle.mb_mailbox.specs.ConsumerStep.{IsLastMet}
+use Rattle.mb_mailbox.specs.Examples.{met_four}
+
+-- the word of an access to the cells, and the cell and the step of one to the claims
+abbrev pub word_in : WorldAccess → Option Word
+word_in (ToCells a) = Some a.word
+word_in (ToClaims a) = None
+
+abbrev pub cell_in : WorldAccess → Option ℕ
+cell_in (ToCells a) = None
+cell_in (ToClaims a) = Some a.cell
+
+abbrev pub step_in : WorldAccess → Option ObjectTurn
+step_in (ToCells a) = None
+step_in (ToClaims a) = Some a.step
+
+-- and the value that an access to the cells loaded
+abbrev pub value_loaded : WorldAccess → Option ℕ
+value_loaded (ToCells a) = loaded_by a.act
+value_loaded (ToClaims a) = None
+
+-- it has loaded the lane's head alone
+pub only_head : (w : Word) (v : ℕ) → HasRead w v (load 0 (Head 0) 5 ∷ []) → Head 0 ≡ w
+only_head w v (a, inl same, word, act) = let e : (load 0 (Head 0) 5).word ≡ a.word = cc in e ∙ word
+only_head w v (a, inr none, word, act) = absurd none
+
+pub last_met : (xs : List ObjectTurn) → IsLastMet 0 4 (met_four xs)
+last_met xs = record {
+  cells = [];
+  met = refl;
+  left = (
+    (λ v read. let e : Head 0 ≡ Item 4 = only_head (Item 4) v read in absurd (cc)),
+    (λ v read. let e : Head 0 ≡ Link 4 = only_head (Link 4) v read in absurd (cc)),
+  );
+}

@@ -1,0 +1,180 @@
+-- What a run comes to, from what was given, what came of it, and what was taken in.
+use Rattle.std.proofs.Common.{◌≡◌, ℕ, suc, ◌+◌, ◌-◌, ◌^◌, ◌≤◌, List, [], ◌∷◌, ◌++◌, length, map, min, refl, sym, ap, ◌∙◌, subst, vec_len, false, arith}
+use Rattle.std.specs.Prelude.{Vec, Some, slice_get}
+use Rattle.std.specs.List.{All, AllZip, sum_by}
+use Rattle.std.proofs.lemmas.List.{length-map, map-append}
+use Rattle.std.proofs.lemmas.List.Elements.{All-cons, All-head, All-tail}
+use Rattle.mb_shared_cells.specs.Vocabulary.{IsRollOf}
+use Rattle.mb_shared_cells.specs.declared.views.Roll.{Roll}
+use Rattle.mb_cells.specs.declared.size.PoolSize.{PoolSize}
+use Rattle.mb_world.specs.Reporting.{values_put}
+use Rattle.mb_mailbox.specs.Below.{History}
+use Rattle.mb_mailbox.specs.Consumers.{ConsumerView, IsConsumerOf}
+use Rattle.mb_mailbox.specs.Given.{AreAllGiven, AreGiven}
+use Rattle.mb_mailbox.specs.HubRuns.{ArePollJobs, ArePutJobs}
+use Rattle.mb_mailbox.specs.Hubs.{HubView, IsHub, IsHubOf}
+use Rattle.mb_mailbox.specs.Jobs.{HasReadToEnd, IsPollEnd, IsPutEnd}
+use Rattle.mb_mailbox.specs.Mailboxes.{MailboxView}
+use Rattle.mb_mailbox.specs.Producers.{IsProducerOf, ProducerView}
+use Rattle.mb_mailbox.specs.Rooms.{HasEndRoom, HasRoom}
+use Rattle.mb_mailbox.specs.Runs.{AreEndsAt, AreEndsOf, AreOf, NoneStopped, with_taken}
+use Rattle.mb_mailbox.specs.Steps.{notes_on}
+use Rattle.mb_mailbox.specs.Worked.{AreCutByCells, IsRunOf, IsWorked, WereTakenIn, WereTakenInEarly, lists_in}
+use Rattle.mb_mailbox.specs.declared.working.Worked.{Worked}
+use Rattle.mb_mailbox.specs.declared.working.jobs.PollDone.{PollDone}
+use Rattle.mb_mailbox.specs.declared.working.jobs.PollJob.{PollJob}
+use Rattle.mb_mailbox.specs.declared.working.jobs.PutDone.{PutDone}
+use Rattle.mb_mailbox.specs.declared.working.jobs.PutJob.{PutJob}
+use Rattle.mb_mailbox.specs.declared.working.room.Ends.{Ends}
+use Rattle.mb_mailbox.specs.declared.working.room.Jobs.{Jobs}
+use Rattle.mb_mailbox.specs.declared.working.room.Room.{Room}
+use Rattle.mb_mailbox.proofs.HubRuns.{after}
+use Rattle.mb_mailbox.proofs.Noted.{all_noted}
+use Rattle.mb_mailbox.proofs.Runs.{consumers, lanes_of, left_of, nums, producers, run_beyond, run_cut, run_of}
+use Rattle.mb_mailbox.proofs.Zips.{zip_length}
+
+nothing : {X : Type 0} (P : X → Type 0) → All P []
+nothing P k d low = absurd (omega (arith, low))
+
+-- ---- all of the mailbox
+module _ {Z : Type 0} (m : MailboxView) where
+  puts_at : (p : ℕ) (vs : List (Vec ℕ Z)) (js : List (PutJob Z)) → ArePutJobs m p vs js → All (λ (j : PutJob Z). IsProducerOf m j.producer) js
+  puts_at p [] [] a = nothing (λ (j : PutJob Z). IsProducerOf m j.producer)
+  puts_at p [] (j ∷ js) a = absurd a
+  puts_at p (v ∷ vs) [] a = absurd a
+  puts_at p (v ∷ vs) (j ∷ js) a =
+      All-cons (λ (j : PutJob Z). IsProducerOf m j.producer) j js (record { table = ap (λ (s : ProducerView). s.seat.table) a.0 }) (puts_at (suc p) vs js a.2)
+
+  put_ends_at : (js : List (PutJob Z)) (ds : List (PutDone Z)) → All (λ (j : PutJob Z). IsProducerOf m j.producer) js → AllZip IsPutEnd js ds
+      → All (λ (d : PutDone Z). IsProducerOf m d.producer) ds
+  put_ends_at [] [] a z = nothing (λ (d : PutDone Z). IsProducerOf m d.producer)
+  put_ends_at [] (d ∷ ds) a z = absurd z
+  put_ends_at (j ∷ js) [] a z = absurd z
+  put_ends_at (j ∷ js) (d ∷ ds) a z =
+      let P = λ (j : PutJob Z). IsProducerOf m j.producer in
+      All-cons (λ (d : PutDone Z). IsProducerOf m d.producer) d ds (record { table = z.0.same.table ∙ (All-head P j js a).table })
+      (put_ends_at js ds (All-tail P j js a) z.1)
+
+module _ {R Z : Type 0} (m : MailboxView) where
+  polls_at : (c : ℕ) (js : List (PollJob R Z)) → ArePollJobs m c js → All (λ (j : PollJob R Z). IsConsumerOf m j.consumer) js
+  polls_at c [] a = nothing (λ (j : PollJob R Z). IsConsumerOf m j.consumer)
+  polls_at c (j ∷ js) a =
+      All-cons (λ (j : PollJob R Z). IsConsumerOf m j.consumer) j js (record { cells = a.0.cells; claims = a.0.claims }) (polls_at (suc c) js a.1)
+
+  pub jobs_at : (vs : List (Vec ℕ Z)) (sources : ℕ) (jobs : Jobs R Z) (h mid : HubView) → AreGiven m vs sources jobs h mid → AreOf m jobs
+  jobs_at vs sources jobs h mid g = record {
+    puts = puts_at m (length h.puts) g.puts.front jobs.puts.items g.puts.are;
+    polls = polls_at (length h.ledgers) jobs.polls.items g.polls;
+  }
+
+  poll_ends_at : (from end : ℕ) (js : List (PollJob R Z)) (ds : List (PollDone Z)) → All (λ (j : PollJob R Z). IsConsumerOf m j.consumer) js
+      → AllZip (λ (j : PollJob R Z) (d : PollDone Z). IsPollEnd from end j.consumer d) js ds → All (λ (d : PollDone Z). IsConsumerOf m d.consumer) ds
+  poll_ends_at from end [] [] a z = nothing (λ (d : PollDone Z). IsConsumerOf m d.consumer)
+  poll_ends_at from end [] (d ∷ ds) a z = absurd z
+  poll_ends_at from end (j ∷ js) [] a z = absurd z
+  poll_ends_at from end (j ∷ js) (d ∷ ds) a z =
+      let P = λ (j : PollJob R Z). IsConsumerOf m j.consumer in
+      All-cons (λ (d : PollDone Z). IsConsumerOf m d.consumer) d ds
+      (record { cells = z.0.same.cells ∙ (All-head P j js a).cells; claims = z.0.same.claims ∙ (All-head P j js a).claims })
+      (poll_ends_at from end js ds (All-tail P j js a) z.1)
+
+  pub ends_at : (from end : ℕ) (jobs : Jobs R Z) (ends : Ends Z) → AreOf m jobs → AreEndsOf from end jobs ends → AreEndsAt m ends
+  ends_at from end jobs ends a e = record {
+    puts = put_ends_at m jobs.puts.items ends.puts.items a.puts e.puts;
+    polls = poll_ends_at from end jobs.polls.items ends.polls.items a.polls e.polls;
+  }
+
+-- there is room for fewer
+pub room_for : {Z : Type 0} (a b c d : ℕ) (r : Room Z) → c ≤ a → d ≤ b → HasRoom a b r → HasRoom c d r
+room_for a b c d r puts polls h =
+    let p = h.puts in
+    let q = h.polls in
+    let s = h.ends.puts in
+    let t = h.ends.polls in
+    record {
+      no_puts = h.no_puts;
+      no_polls = h.no_polls;
+      puts = omega arith;
+      polls = omega arith;
+      ends = record { no_puts = h.ends.no_puts; no_polls = h.ends.no_polls; puts = omega arith; polls = omega arith };
+    }
+
+-- ---- where nothing was given
+append_none : {X : Type 0} (xs : List X) → xs ≡ xs ++ []
+append_none [] = refl
+append_none (x ∷ xs) = ap (λ l. x ∷ l) (append_none xs)
+
+pub nothing_taken : (lists : List (List ℕ)) (sources : ℕ) (h : HubView) → WereTakenInEarly lists sources h h
+nothing_taken lists sources h = record {
+  front = [];
+  rest = lists;
+  whole = refl;
+  given = 0;
+  few = omega arith;
+  taken = record {
+    lanes = [];
+    consumers = [];
+    run = record {
+      puts = append_none h.puts;
+      parts = append_none h.cells.roll.lanes;
+      fronts = tt;
+      ledgers = append_none h.ledgers;
+      reads = append_none h.cells.roll.readers;
+      claimed = append_none h.claims.roll;
+      count = refl;
+    };
+  };
+}
+
+-- ---- the end of a run
+module _ {R Z : Type 0} (m : MailboxView) (items : List (Vec ℕ Z)) (sources from end : ℕ) (jobs : Jobs R Z) (ends : Ends Z) (h mid now : HubView)
+    (hub : IsHub h) (given : AreGiven m items sources jobs h mid) (came : AreEndsOf from end jobs ends) (is : now ≡ with_taken ends mid) where
+  its : (vs : List (Vec ℕ Z)) → ArePutJobs m (length h.puts) vs jobs.puts.items
+      → IsRunOf (lists_in vs) (length jobs.polls.items) (lanes_of m ends.puts.items) (left_of m ends.polls.items) h now
+  its vs are =
+      subst (λ (n : HubView). IsRunOf (lists_in vs) (length jobs.polls.items) (lanes_of m ends.puts.items) (left_of m ends.polls.items) h n)
+      (sym (is ∙ ap (with_taken ends) given.hub))
+      (run_of m h from end vs jobs.puts.items ends.puts.items jobs.polls.items ends.polls.items hub are given.polls came.puts came.polls)
+
+  pub early : WereTakenInEarly (lists_in items) sources h now
+  early = record {
+    front = lists_in given.puts.front;
+    rest = lists_in given.puts.rest;
+    whole = sym (map-append (λ (v : Vec ℕ Z). v.items) given.puts.front given.puts.rest) ∙ ap lists_in given.puts.whole;
+    given = length jobs.polls.items;
+    few = subst (λ (n : ℕ). n ≤ sources) jobs.polls.ok.0 given.few;
+    taken = record { lanes = lanes_of m ends.puts.items; consumers = left_of m ends.polls.items; run = its given.puts.front given.puts.are };
+  }
+
+  module _ (all : AreAllGiven m items sources jobs h) where
+    run : IsRunOf (lists_in items) sources (lanes_of m ends.puts.items) (left_of m ends.polls.items) h now
+    run = subst (λ (n : ℕ). IsRunOf (lists_in items) n (lanes_of m ends.puts.items) (left_of m ends.polls.items) h now)
+        (sym jobs.polls.ok.0 ∙ all.polls) (its items all.puts)
+
+    pub taken : WereTakenIn (lists_in items) sources h now
+    taken = record { lanes = lanes_of m ends.puts.items; consumers = left_of m ends.polls.items; run = run }
+
+    module _ (w : Worked) (full : w.full ≡ min (2 ^ 64 - 1) (sum_by (λ (d : PutDone Z). d.full) ends.puts.items))
+        (stopped : w.stopped ≡ 0 → NoneStopped ends) (later : IsHub now) (of : IsHubOf m now)
+        (pool : History) (roll : IsRollOf now.cells.table.size now.cells.roll pool)
+        (first : from ≡ length h.puts) (last : end ≡ length h.puts + length items)
+        (tell : (size : PoolSize) (roll : Roll) (h : History) (p : ℕ) (done : History) (s : ConsumerView) → IsRollOf size roll h
+        → slice_get roll.lanes p ≡ Some (Some done) → slice_get roll.readers s.reader.reader ≡ Some (Some s.reader.part)
+        → HasReadToEnd p s → length (notes_on p s.notes) ≡ length (values_put p done)) where
+      count : length (lanes_of m ends.puts.items) ≡ length items
+      count = sym (zip_length _ (lists_in items) (lanes_of m ends.puts.items) run.fronts) ∙ length-map items (λ (v : Vec ℕ Z). v.items)
+
+      pub worked : IsWorked (lists_in items) sources w h now
+      worked = record {
+        lanes = lanes_of m ends.puts.items;
+        consumers = left_of m ends.polls.items;
+        run = run;
+        full = λ z. full ∙ ap (λ (n : ℕ). min (2 ^ 64 - 1) n)
+            (run_beyond m h from end items jobs.puts.items ends.puts.items jobs.polls.items ends.polls.items hub all.puts given.polls came.puts came.polls (stopped z).puts);
+        cut = λ z. subst (λ (n : ℕ). AreCutByCells n (length h.puts) (lists_in items) (lanes_of m ends.puts.items))
+            (ap (λ t. t.size.cells) (sym of.cells))
+            (run_cut m h from end items jobs.puts.items ends.puts.items jobs.polls.items ends.polls.items hub all.puts given.polls came.puts came.polls (stopped z).puts);
+        noted = λ z. all_noted now later pool roll tell m h.puts (lanes_of m ends.puts.items) run.puts from end first (last ∙ ap (λ (n : ℕ). length h.puts + n) (sym count))
+            ends.polls.items h.cells.roll.readers (length h.ledgers) (sym hub.readers) run.reads
+            (nums m h from end items jobs.puts.items ends.puts.items jobs.polls.items ends.polls.items hub all.puts given.polls came.puts came.polls) (stopped z).polls;
+      }

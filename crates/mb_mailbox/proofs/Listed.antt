@@ -1,0 +1,111 @@
+-- Lists with one more at their end: what is counted, chosen and told of them.
+use Rattle.std.proofs.Common.{◌≡◌, ◌⊎◌, ℕ, zero, suc, ◌+◌, ◌*◌, ◌<◌, ◌≤◌, ◌||◌, Bool, true, false, List, [], ◌∷◌, ◌++◌, length, get_or, take, refl, sym, ◌∙◌, ap, inl, inr, arith, append-nil}
+use Rattle.std.specs.Prelude.{Option, Some, None, if◌then◌else◌}
+use Rattle.std.proofs.lemmas.Bool.{cases_eq, cases_lt}
+use Rattle.std.proofs.lemmas.List.{length-append, length-take-le, take_more}
+use Rattle.std.proofs.Math.Nat.{mul-le-mul_right}
+use Rattle.mb_world.specs.Assignment.{items_where}
+use Rattle.mb_world.specs.Report.{DiaryView}
+use Rattle.mb_world.specs.Reporting.{any_below, is_took}
+use Rattle.mb_mailbox.specs.Below.{Note, Took}
+use Rattle.mb_mailbox.specs.Gathering.{AreDiariesIn, count_missing, diary_in}
+use Rattle.mb_mailbox.specs.Hubs.{HubView}
+use Rattle.mb_mailbox.proofs.Turned.{get_end, get_left}
+
+-- ---- what is missing
+count_end : {X : Type 0} (xs : List (Option X)) (x : Option X) → count_missing (xs ++ x ∷ []) ≡ count_missing xs + count_missing (x ∷ [])
+count_end [] x = omega arith
+count_end (Some y ∷ xs) x = count_end xs x
+count_end (None ∷ xs) x = omega (arith, count_end xs x)
+
+pub count_more : {X : Type 0} (xs : List (Option X)) (i : ℕ) (x : Option X) → i < length xs → x ≡ get_or xs i x
+    → count_missing (take (i + 1) xs) ≡ count_missing (take i xs) + count_missing (x ∷ [])
+count_more xs i x low is =
+    ap count_missing (take_more xs i x low) ∙ count_end (take i xs) (get_or xs i x)
+    ∙ ap (λ y. count_missing (take i xs) + count_missing (y ∷ [])) (sym is)
+
+-- ---- items at chosen positions
+chosen_end : (f : ℕ → Bool) (xs : List ℕ) (x : ℕ) → items_where f (xs ++ x ∷ []) ≡ items_where f xs ++ (if f (length xs) then x ∷ [] else [])
+chosen_end f [] x = refl
+chosen_end f (y ∷ xs) x = by (f 0) (chosen_end (λ j. f (suc j)) xs x)
+  where
+    by : (b : Bool) → items_where (λ j. f (suc j)) (xs ++ x ∷ []) ≡ items_where (λ j. f (suc j)) xs ++ (if f (suc (length xs)) then x ∷ [] else [])
+        → (if b then y ∷ items_where (λ j. f (suc j)) (xs ++ x ∷ []) else items_where (λ j. f (suc j)) (xs ++ x ∷ []))
+        ≡ (if b then y ∷ items_where (λ j. f (suc j)) xs else items_where (λ j. f (suc j)) xs) ++ (if f (suc (length xs)) then x ∷ [] else [])
+    by true rest = ap (λ zs. y ∷ zs) rest
+    by false rest = rest
+
+chosen_more : (f : ℕ → Bool) (xs left : List ℕ) (i : ℕ) → i < length xs → left ≡ items_where f (take i xs)
+    → left ++ (if f i then get_or xs i 0 ∷ [] else []) ≡ items_where f (take (i + 1) xs)
+chosen_more f xs left i low old =
+    sym (ap (items_where f) (take_more xs i 0 low) ∙ chosen_end f (take i xs) (get_or xs i 0)
+    ∙ (λ j. sym old j ++ (if f (length-take-le i xs (omega arith) j) then get_or xs i 0 ∷ [] else [])))
+
+pub chosen_one : (f : ℕ → Bool) (xs left : List ℕ) (i : ℕ) → i < length xs → left ≡ items_where f (take i xs) → f i ≡ true
+    → left ++ get_or xs i 0 ∷ [] ≡ items_where f (take (i + 1) xs)
+chosen_one f xs left i low old e =
+    ap (λ b. left ++ (if b then get_or xs i 0 ∷ [] else [])) (sym e) ∙ chosen_more f xs left i low old
+
+pub chosen_none : (f : ℕ → Bool) (xs left : List ℕ) (i : ℕ) → i < length xs → left ≡ items_where f (take i xs) → f i ≡ false
+    → left ≡ items_where f (take (i + 1) xs)
+chosen_none f xs left i low old e =
+    sym (append-nil left) ∙ ap (λ b. left ++ (if b then get_or xs i 0 ∷ [] else [])) (sym e) ∙ chosen_more f xs left i low old
+
+-- ---- a consumer that took it
+pub any_below_some : (n c : ℕ) (test : ℕ → Bool) → c < n → test c ≡ true → any_below n test ≡ true
+any_below_some zero c test low e = absurd (omega arith)
+any_below_some (suc n) c test low e = by (cases_eq c n) (λ under. any_below_some n c test under e)
+  where
+    top : (b : Bool) → b ≡ true → (b || any_below n test) ≡ true
+    top true e = refl
+    top false e = absurd (cc)
+
+    under : (b : Bool) → any_below n test ≡ true → (b || any_below n test) ≡ true
+    under true e = refl
+    under false e = e
+
+    by : (c ≡ n) ⊎ (c ≡ n → ⊥) → (c < n → any_below n test ≡ true) → (test n || any_below n test) ≡ true
+    by (inl same) older = top (test n) (ap test (sym same) ∙ e)
+    by (inr other) older = under (test n) (older (omega arith))
+
+pub took_some : (o : Option Note) (n : Note) (v : ℕ) → o ≡ Some n → n ≡ Took v → is_took o ≡ true
+took_some o n v e same = rw (e, same) refl
+
+-- ---- diaries, consumer by consumer
+not_before : (w c e p q : ℕ) → p < w → e * w + q ≡ c * w + p → e < c → q < w → ⊥
+not_before w c e p q ps same less qs =
+    let most : suc e * w ≤ c * w = mul-le-mul_right w less in
+    let more : suc e * w ≡ e * w + w = grind arith in
+    omega (arith, most, more, same, ps, qs)
+
+-- a place in the grid is of one row and one column
+row_is : (w c e p q : ℕ) → p < w → q < w → e * w + q ≡ c * w + p → e ≡ c
+row_is w c e p q ps qs same = elim (cases_lt e c) [
+  | inl less ↦ absurd (not_before w c e p q ps same less qs)
+  | inr not ↦ elim (cases_lt c e) [
+    | inl more ↦ absurd (not_before w e c q p qs (sym same) more ps)
+    | inr least ↦ omega (arith, not, least)
+  ]
+]
+
+pub diaries_more : (w : ℕ) (h : HubView) (c p : ℕ) (d : DiaryView) (ds : List DiaryView) → p < w
+    → AreDiariesIn w h (c * w + p) ds → d ≡ diary_in c p h → AreDiariesIn w h (c * w + (p + 1)) (ds ++ d ∷ [])
+diaries_more w h c p d ds ps told here = record {
+  count = omega (arith, length-append ds (d ∷ []), told.count);
+  each = λ e q qs less. elim (cases_lt (e * w + q) (c * w + p)) [
+    | inl old ↦ get_left ds (d ∷ []) (e * w + q) (diary_in e q h) (told.each e q qs old)
+    | inr new ↦
+        let same : e * w + q ≡ c * w + p = omega (arith, less, new) in
+        let row : e ≡ c = row_is w c e p q ps qs same in
+        let column : q ≡ p = omega (arith, same, ap (λ i. i * w) row) in
+        get_end ds d (e * w + q) (same ∙ sym told.count) ∙ ap Some here
+        ∙ (λ i. Some (diary_in (sym row i) (sym column i) h))
+  ];
+}
+
+-- a row and a column below their numbers are a place within the grid
+pub within_grid : (w n c p : ℕ) → c < n → p < w → c * w + p < n * w
+within_grid w n c p known low =
+    let most : suc c * w ≤ n * w = mul-le-mul_right w known in
+    let more : suc c * w ≡ c * w + w = grind arith in
+    omega (arith, most, more, low)

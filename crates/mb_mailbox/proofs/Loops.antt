@@ -1,0 +1,71 @@
+-- What the loops of a run keep, one element later.
+use Rattle.std.proofs.Common.{◌≡◌, ℕ, suc, ◌+◌, ◌<◌, ◌≤◌, Bool, true, false, List, [], ◌∷◌, ◌++◌, length, map, min, refl, sym, ap, ◌∙◌, subst, append_assoc, arith}
+use Rattle.std.specs.Prelude.{Vec}
+use Rattle.std.specs.Int.{from_bool}
+use Rattle.std.specs.List.{sum_by}
+use Rattle.std.proofs.lemmas.List.{map-append}
+use Rattle.std.proofs.lemmas.List.Sums.{sum_by-append, sum_by-cons}
+use Rattle.mb_mailbox.specs.Below.{ClaimTable, name_of}
+use Rattle.mb_mailbox.specs.Consumers.{ConsumerView}
+use Rattle.mb_mailbox.specs.HubRuns.{ArePollJobs, ArePutJobs, HasNumber, with_taken_consumers, with_taken_producers}
+use Rattle.mb_mailbox.specs.Hubs.{HubView, IsNewConsumer, new_producer, with_taken_consumer, with_taken_producer}
+use Rattle.mb_mailbox.specs.Mailboxes.{MailboxView}
+use Rattle.mb_mailbox.specs.Producers.{ProducerView}
+use Rattle.mb_mailbox.specs.declared.working.jobs.PollJob.{PollJob}
+use Rattle.mb_mailbox.specs.declared.working.jobs.PutJob.{PutJob}
+use Rattle.mb_mailbox.proofs.HubRuns.{taken_consumers_snoc, taken_producers_snoc}
+
+-- ---- jobs
+module _ {Z : Type 0} (m : MailboxView) where
+  pub put_jobs_more : (p n : ℕ) (vs : List (Vec ℕ Z)) (js : List (PutJob Z)) (v : Vec ℕ Z) (j : PutJob Z) → ArePutJobs m p vs js
+      → n ≡ p + length js → j.producer ≡ new_producer m n → j.list ≡ v → ArePutJobs m p (vs ++ v ∷ []) (js ++ j ∷ [])
+  put_jobs_more p n [] [] v j a e is list = (subst (λ (k : ℕ). j.producer ≡ new_producer m k) (omega (arith, e)) is, list, tt)
+  put_jobs_more p n [] (i ∷ is) v j a e is' list = absurd a
+  put_jobs_more p n (w ∷ ws) [] v j a e is list = absurd a
+  put_jobs_more p n (w ∷ ws) (i ∷ js) v j a e is list = (a.0, a.1, put_jobs_more (suc p) n ws js v j a.2 (omega (arith, e)) is list)
+
+  pub poll_jobs_more : {R : Type 0} (c n : ℕ) (js : List (PollJob R Z)) (j : PollJob R Z) → ArePollJobs m c js
+      → n ≡ c + length js → HasNumber m n j.consumer → ArePollJobs m c (js ++ j ∷ [])
+  poll_jobs_more c n [] j a e has = (subst (λ (k : ℕ). HasNumber m k j.consumer) (omega (arith, e)) has, tt)
+  poll_jobs_more c n (i ∷ js) j a e has = (a.0, poll_jobs_more (suc c) n js j a.1 (omega (arith, e)) has)
+
+-- a new consumer has the next number
+pub new_number : (m : MailboxView) (h : HubView) (s : ConsumerView) → IsNewConsumer m h s → HasNumber m (length h.ledgers) s
+new_number m h s i = record {
+  cells = ap (λ r. r.table) i.reader;
+  reader = ap (λ r. r.reader) i.reader;
+  claims = ap (λ r. r.table) i.seat;
+  consumer = ap (λ r. r.consumer) i.seat;
+}
+
+-- ---- what is taken in
+module _ {X : Type 0} (f : X → ProducerView) (h : HubView) where
+  pub took_producer_more : (xs : List X) (x : X) (was now : HubView) → was ≡ with_taken_producers (map f xs) h → now ≡ with_taken_producer (f x) was
+      → now ≡ with_taken_producers (map f (xs ++ x ∷ [])) h
+  took_producer_more xs x was now e is =
+      is ∙ ap (with_taken_producer (f x)) e ∙ sym (taken_producers_snoc (map f xs) (f x) h)
+      ∙ ap (λ (l : List ProducerView). with_taken_producers l h) (sym (map-append f xs (x ∷ [])))
+
+module _ {X : Type 0} (f : X → ConsumerView) (h : HubView) where
+  pub took_consumer_more : (xs : List X) (x : X) (was now : HubView) → was ≡ with_taken_consumers (map f xs) h → now ≡ with_taken_consumer (f x) was
+      → now ≡ with_taken_consumers (map f (xs ++ x ∷ [])) h
+  took_consumer_more xs x was now e is =
+      is ∙ ap (with_taken_consumer (f x)) e ∙ sym (taken_consumers_snoc (map f xs) (f x) h)
+      ∙ ap (λ (l : List ConsumerView). with_taken_consumers l h) (sym (map-append f xs (x ∷ [])))
+
+-- ---- a sum that stays at its bound
+pub full_more : {X : Type 0} (f : X → ℕ) (most was now : ℕ) (xs : List X) (x : X) → was ≡ min most (sum_by f xs)
+    → now ≡ min (was + f x) most → now ≡ min most (sum_by f (xs ++ x ∷ []))
+full_more f most was now xs x e is =
+    let whole = sum_by-append f xs (x ∷ []) in
+    let last = sum_by-cons f x [] in
+    omega (arith, e, is, whole, last)
+
+-- ---- nobody stopped
+pub going : (b : Bool) → from_bool b ≡ 0 → b ≡ false
+going false e = refl
+going true e = absurd (cc)
+
+-- a count that stays at its bound and is 0 has counted nothing
+pub no_count : (most was n now : ℕ) → now ≡ min (was + n) most → 0 < most → now ≡ 0 → (was ≡ 0) × (n ≡ 0)
+no_count most was n now e low z = (omega (arith, e, low, z), omega (arith, e, low, z))

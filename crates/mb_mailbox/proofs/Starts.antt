@@ -1,0 +1,68 @@
+-- Where a poll begins with a claim, and one access more of it.
+use Rattle.std.proofs.Common.{◌≡◌, ℕ, ◌+◌, ◌<◌, List, length, sym, ap, ◌∙◌, subst, arith}
+use Rattle.std.specs.Prelude.{Some, None, Vec, slice_get}
+use Rattle.mb_claim.specs.declared.access.Stage.TheVariants as stage
+use Rattle.mb_shared_claims.specs.Vocabulary.{IsSeatStep}
+use Rattle.mb_mailbox.specs.Below.{Claim, ClaimTable, IsClaimIn, Note, ReaderSeatView, SeatView, Stream, TableSize, claim_stage, consumer_of, next_u64, note_of, part_on}
+use Rattle.mb_mailbox.specs.declared.place.Place.{Place}
+use Rattle.mb_mailbox.specs.declared.place.Place.TheVariants.{At}
+use Rattle.mb_mailbox.specs.Consumers.{ConsumerView, IsConsumer, IsConsumerOf}
+use Rattle.mb_mailbox.specs.Mailboxes.{MailboxView}
+use Rattle.mb_mailbox.specs.Moves.{HasLoads, HasPlace}
+use Rattle.mb_mailbox.specs.NoteLists.{HasRoom}
+use Rattle.mb_mailbox.specs.Pursuits.{HasCompeted, HasWideLists, consumer_with, holding}
+use Rattle.mb_mailbox.specs.Steps.{AreSteps}
+use Rattle.mb_mailbox.proofs.Competing.{IsNext, MovesOn, competed_more, competed_none}
+use Rattle.mb_mailbox.proofs.Lists.{get_some, set_here, set_length}
+use Rattle.mb_mailbox.proofs.Made.{lists, room_there}
+use Rattle.mb_mailbox.proofs.Moving.{holds}
+
+-- the fields of a consumer which is to stand at this claim
+pub record Start {Z : Type 0} (m : MailboxView) (p k : ℕ) (claim : Claim) (reader : ReaderSeatView) (seat : SeatView) (places : List Place)
+    (notes : List (Vec Note Z)) : Type 0 where
+  pub held : IsConsumer (holding p k claim (consumer_with reader seat places notes))
+  pub of : IsConsumerOf m (consumer_with reader seat places notes)
+  pub lane : p < length places
+  pub wide : HasWideLists reader.table.size.cells notes
+  pub loads : HasLoads (consumer_with reader seat places notes)
+
+module _ {Z : Type 0} (m : MailboxView) (p k : ℕ) (claim : Claim) (reader : ReaderSeatView) (seat : SeatView) (places : List Place)
+    (notes : List (Vec Note Z)) (start : Start m p k claim reader seat places notes) where
+  abbrev s : ConsumerView
+  s = holding p k claim (consumer_with reader seat places notes)
+
+  pub there : (place : Place) × (slice_get places p ≡ Some place)
+  there = get_some places p start.lane
+
+  pub here : HasPlace p (At k claim) s
+  here = set_here places p (At k claim) there.0 there.1
+
+  pub start_room : ((ns : List Note) → slice_get s.notes p ≡ Some ns → length ns < reader.table.size.cells) → HasRoom p notes
+  start_room few =
+      let low : p < length (lists notes) =
+      subst (λ n. p < n) (sym (set_length places p (At k claim)) ∙ start.held.places_count ∙ sym start.held.notes_count) start.lane in
+      room_there p reader.table.size.cells notes low start.wide few
+
+  pub table : seat.table.size ≡ Some (record { layout = m.claims.layout; cells = m.claims.cells })
+  table = ap (λ (t : ClaimTable). t.size) start.of.claims
+
+  pub unnoted : note_of (claim_stage claim) ≡ None
+  unnoted = (holds s p k claim start.held here).2.unnoted
+
+  pub begun : (from : ConsumerView) (n : ℕ) (t u : Stream) → AreSteps p n None t u from s → HasCompeted p k n claim t u from s seat
+  begun from n t u so = competed_none p k n claim t u from s seat (λ j. seat) here unnoted start.held so
+
+  -- one access more
+  pub stepped : MovesOn → IsNext → (now : MailboxView) → now ≡ m → (from : ConsumerView) (made n word : ℕ) (was next : Claim) (before after : SeatView)
+      (t u v : Stream) → claim_stage was ≡ stage.Going → HasCompeted p k (made + n) was t u from s before
+      → IsSeatStep now.claims.layout k word was before next after → consumer_of was ≡ before.consumer → consumer_of next ≡ consumer_of was
+      → IsClaimIn now.claims.layout next (part_on after.consumer k after.part) → (word, v) ≡ next_u64 u
+      → HasCompeted p k (made + 1 + n) next t v from s after
+  stepped moves nexts now same from made n word was next before after t u v going so step own still turns drawn =
+      let size : TableSize = record { layout = m.claims.layout; cells = m.claims.cells } in
+      let turned : IsClaimIn m.claims.layout next (part_on after.consumer k after.part) =
+      subst (λ (y : MailboxView). IsClaimIn y.claims.layout next (part_on after.consumer k after.part)) same turns in
+      let more = competed_more moves nexts s from p k (made + n) word step.seen was next step.next before after size (At k claim) t u v here
+      start.loads table going so step.adds (still ∙ own) turned drawn in
+      let count : made + n + 1 ≡ made + 1 + n = omega arith in
+      subst (λ z. HasCompeted p k z next t v from s after) count more

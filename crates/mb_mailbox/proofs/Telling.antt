@@ -1,0 +1,157 @@
+-- What the answers of a consumer tell of the lane.
+use Rattle.std.proofs.Common.{◌≡◌, ◌≢◌, ◌⊎◌, ℕ, Bool, true, false, List, [], ◌∷◌, length, map, reverse, refl, sym, ap, ◌∙◌, subst, inl, inr}
+use Rattle.std.specs.Prelude.{Option, Some, None, slice_get}
+use Rattle.std.specs.Option.{option_map_or}
+use Rattle.std.proofs.lemmas.List.{length-map, length-reverse}
+use Rattle.mb_claim.specs.declared.access.Stage.TheVariants as stage
+use Rattle.mb_cells.specs.declared.answer.Look.TheVariants as look
+use Rattle.mb_cells.specs.Vocabulary.{Entry, entry_at, put_list}
+use Rattle.mb_shared_cells.specs.Vocabulary.{LookMakes}
+use Rattle.mb_world.specs.Reporting.{values_put}
+use Rattle.mb_mailbox.specs.Below.{Claim, ClaimAccess, Cursor, END, HasMet, History, Note, Has, Load, ReaderSeatView, Reader, Stage, cells_met, claims_in, has_ended, linked_cells, load, look_of, part, place_past, word_of}
+use Rattle.mb_mailbox.specs.declared.consumer.Poll.{Poll}
+use Rattle.mb_mailbox.specs.declared.consumer.Poll.TheVariants as poll
+use Rattle.mb_mailbox.specs.declared.place.Place.TheVariants.{Before}
+use Rattle.mb_mailbox.specs.Consumers.{ConsumerView, IsConsumer, parts_of}
+use Rattle.mb_mailbox.specs.ConsumerStep.{stage_answer}
+use Rattle.mb_mailbox.specs.Laws.{Laws}
+use Rattle.mb_mailbox.specs.Moves.{HasLoads, HasPlace, moved_to}
+use Rattle.mb_mailbox.specs.NoteLists.{place_after}
+use Rattle.mb_mailbox.specs.declared.place.Place.{Place}
+use Rattle.mb_cells.specs.declared.cursor.Cursor.TheVariants.{Past}
+use Rattle.mb_mailbox.proofs.Lists.{set_here}
+use Rattle.mb_mailbox.specs.Steps.{AnswerTells, HasLoadedEnd, HasNoteOnEach, HasReadWhole, notes_on}
+use Rattle.mb_mailbox.proofs.Moving.{before}
+use Rattle.mb_mailbox.proofs.Standings.{same_length}
+
+-- before a link it has a note on each cell met
+pub noted : (s : ConsumerView) (p : ℕ) (at : Cursor) → IsConsumer s → HasPlace p (Before at) s → HasNoteOnEach p s
+noted s p at i e =
+    let b = before s p at i e in
+    let on : notes_on p s.notes ≡ b.0 = ap (λ (z : Option (List Note)). option_map_or (λ (l : List Note). l) z []) b.1 in
+    ap length on ∙ sym (length-reverse b.0)
+    ∙ same_length (claims_in i.size.layout i.size.cells) s.seat.consumer (cells_met p s.reader.part) (reverse b.0) (parts_of s.reader s.seat) b.2.ended
+
+-- there are as many items as cells
+items_count : (p : ℕ) (h : History) → length (values_put p h) ≡ length (linked_cells p h)
+items_count p h =
+    length-map (put_list p h) (λ (e : Entry). e.value)
+    ∙ length-reverse (map (λ k. entry_at k h) (linked_cells p h))
+    ∙ length-map (linked_cells p h) (λ k. entry_at k h)
+
+-- what it met it met by its own part
+met_by_part : Laws → (s : ConsumerView) (p : ℕ) → HasLoads s → HasMet s.reader.reader p (cells_met p s.reader.part) s.reader.part
+met_by_part laws s p h =
+    subst (λ (d : History). HasMet s.reader.reader p (cells_met p d) d) h.2
+    (laws.own_met h.0 s.reader.reader p (cells_met p (part (Reader s.reader.reader) h.0)) (laws.met s.reader.reader p h.0))
+
+module _ (laws : Laws) (s : ConsumerView) (p : ℕ) (at : Cursor) (now : ReaderSeatView) (i : IsConsumer s) (h : HasLoads s) (e : HasPlace p (Before at) s)
+    (v : ℕ) (none : (v ≡ 0) ⊎ (v ≡ END)) (is : now ≡ record s.reader { part = load s.reader.reader (word_of at) v ∷ s.reader.part }) where
+  pub word : word_of at ≡ place_past p (cells_met p s.reader.part)
+  word = (before s p at i e).2.word
+
+  met_still : cells_met p now.part ≡ cells_met p s.reader.part
+  met_still =
+      ap (λ (r : ReaderSeatView). cells_met p r.part) is
+      ∙ ap (λ w. cells_met p (load s.reader.reader w v ∷ s.reader.part)) word
+      ∙ laws.none s.reader.reader p v s.reader.part none
+
+  pub noted_still : HasNoteOnEach p (record s { reader = now })
+  noted_still = noted s p at i e ∙ ap length (sym met_still)
+
+  pub read_whole : (theirs : History) (over : Bool) → (cells_met p s.reader.part ≡ linked_cells p theirs) × (has_ended p theirs ≡ over)
+      → HasReadWhole p theirs over (record s { reader = now })
+  read_whole theirs over so = record {
+    cells = met_still ∙ so.0;
+    notes = noted s p at i e ∙ ap length so.0 ∙ sym (items_count p theirs);
+    ended = so.1;
+  }
+
+  pub loaded_end : v ≡ END → HasLoadedEnd p (record s { reader = now })
+  loaded_end end = (
+    load s.reader.reader (word_of at) v,
+    subst (λ (r : ReaderSeatView). Has r.part (load s.reader.reader (word_of at) v)) (sym is) (inl refl),
+    word ∙ ap (place_past p) (sym met_still),
+    ap Load end,
+  )
+
+-- ---- answers
+some_poll : (a b : Poll) → Some a ≡ Some b → a ≡ b
+some_poll a b e = cc
+
+pub tells_nothing : Laws → ((v : ℕ) → look_of v ≡ look.Nothing → v ≡ 0)
+    → (s : ConsumerView) (p : ℕ) (at : Cursor) (now : ReaderSeatView) → IsConsumer s → HasLoads s → HasPlace p (Before at) s
+    → LookMakes s.reader at look.Nothing now
+    → ((theirs : History) → slice_get s.reader.known p ≡ Some (Some theirs) → HasMet s.reader.reader p (cells_met p s.reader.part) s.reader.part
+    → word_of at ≡ place_past p (cells_met p s.reader.part) → (cells_met p s.reader.part ≡ linked_cells p theirs) × (has_ended p theirs ≡ false))
+    → AnswerTells p (Some poll.Nothing) s (record s { reader = now })
+tells_nothing laws zero_by s p at now i h e m whole =
+    let none = inl (zero_by m.0 (sym m.1)) in record {
+      noted = λ _. noted_still laws s p at now i h e m.0 none m.2.1;
+      ended = λ f. absurd (cc);
+      known_nothing = λ theirs k f. read_whole laws s p at now i h e m.0 none m.2.1 theirs false
+          (whole theirs k (met_by_part laws s p h) (word laws s p at now i h e m.0 none m.2.1));
+      known_ended = λ theirs k f. absurd (cc);
+    }
+
+pub tells_end : Laws → ((v : ℕ) → look_of v ≡ look.Ended → v ≡ END)
+    → (s : ConsumerView) (p : ℕ) (at : Cursor) (now : ReaderSeatView) → IsConsumer s → HasLoads s → HasPlace p (Before at) s
+    → LookMakes s.reader at look.Ended now
+    → ((theirs : History) → slice_get s.reader.known p ≡ Some (Some theirs) → HasMet s.reader.reader p (cells_met p s.reader.part) s.reader.part
+    → word_of at ≡ place_past p (cells_met p s.reader.part) → (cells_met p s.reader.part ≡ linked_cells p theirs) × (has_ended p theirs ≡ true))
+    → AnswerTells p (Some poll.Ended) s (record s { reader = now })
+tells_end laws end_by s p at now i h e m whole =
+    let end = end_by m.0 (sym m.1) in
+    let none = inr end in record {
+      noted = λ _. noted_still laws s p at now i h e m.0 none m.2.1;
+      ended = λ f. loaded_end laws s p at now i h e m.0 none m.2.1 end;
+      known_nothing = λ theirs k f. absurd (cc);
+      known_ended = λ theirs k f. read_whole laws s p at now i h e m.0 none m.2.1 theirs true
+          (whole theirs k (met_by_part laws s p h) (word laws s p at now i h e m.0 none m.2.1));
+    }
+
+-- a step that has no answer tells nothing
+pub tells_none : (p : ℕ) (old new : ConsumerView) → AnswerTells p None old new
+tells_none p old new = record {
+  noted = λ some. absurd (some refl);
+  ended = λ f. absurd (cc);
+  known_nothing = λ theirs k f. absurd (cc);
+  known_ended = λ theirs k f. absurd (cc);
+}
+
+-- the answer of an item
+pub tells_item : (p v : ℕ) (old new : ConsumerView) → HasNoteOnEach p new → AnswerTells p (Some (poll.Took v)) old new
+tells_item p v old new has = record {
+  noted = λ _. has;
+  ended = λ f. absurd (cc);
+  known_nothing = λ theirs k f. absurd (cc);
+  known_ended = λ theirs k f. absurd (cc);
+}
+
+-- that of a claim, which has its note where it has an answer
+pub tells_stage : (p : ℕ) (st : Stage) (old new : ConsumerView) → (stage_answer st ≢ None → HasNoteOnEach p new) → AnswerTells p (stage_answer st) old new
+tells_stage p stage.Going old new has = tells_none p old new
+tells_stage p stage.Won old new has = tells_none p old new
+tells_stage p (stage.Lost w) old new has = record {
+  noted = has;
+  ended = λ f. absurd (cc);
+  known_nothing = λ theirs k f. absurd (cc);
+  known_ended = λ theirs k f. absurd (cc);
+}
+tells_stage p stage.Undecided old new has = record {
+  noted = has;
+  ended = λ f. absurd (cc);
+  known_nothing = λ theirs k f. absurd (cc);
+  known_ended = λ theirs k f. absurd (cc);
+}
+
+-- a claim with an answer leads past its cell, where all cells met have their notes
+pub noted_after : (s : ConsumerView) (p k : ℕ) (claim : Claim) (st : Stage) (o : Option Note) (reads : History) (made : List ClaimAccess) (was : Place)
+    → slice_get s.places p ≡ Some was → stage_answer st ≢ None → IsConsumer (moved_to p (place_after k claim st) o reads made s)
+    → HasNoteOnEach p (moved_to p (place_after k claim st) o reads made s)
+noted_after s p k claim stage.Going o reads made was e some i = absurd (some refl)
+noted_after s p k claim stage.Won o reads made was e some i = absurd (some refl)
+noted_after s p k claim (stage.Lost w) o reads made was e some i =
+    noted (moved_to p (Before (Past k)) o reads made s) p (Past k) i (set_here s.places p (Before (Past k)) was e)
+noted_after s p k claim stage.Undecided o reads made was e some i =
+    noted (moved_to p (Before (Past k)) o reads made s) p (Past k) i (set_here s.places p (Before (Past k)) was e)

@@ -1,0 +1,26 @@
+use Rattle.std.proofs.Common.{◌≡◌, arith, ap, refl, sym, ◌∙◌, length, None, [], ◌∷◌}
+use Rattle.std.proofs.lemmas.Grind.{common_steps}
+use Rattle.std.proofs.lemmas.List.{length-append}
+use Rattle.mb_mailbox.specs.Hubs.{HubView, with_consumer}
+use Rattle.mb_mailbox.proofs.HubRuns.{consumers_snoc}
+use Rattle.mb_mailbox.proofs.Loops.{new_number, poll_jobs_more}
+use Rattle.mb_mailbox.proofs.working.giving.give_consumers.Goals as goal
+
+pub loop-rng-preserved : goal.loop-rng-preserved
+loop-rng-preserved g c =
+    let i = c.loop-rng.invariant in
+    let count = i.ledgers in
+    let jobs = c.loop-rng.jobs.ok.0 in
+    let hub = c.in-Ok-consumer.ensures.hub in
+    let len = c.push_reserved.ensures.len in
+    let longer = ap (λ (h : HubView). length h.ledgers) hub ∙ length-append c.loop-rng.hub.ledgers (None ∷ []) in
+    record {
+      left = grind (arith, common_steps);
+      room = grind (arith, common_steps);
+      jobs = rw c.push_reserved.ensures.items
+          (poll_jobs_more c.args.mailbox.now (length c.args.hub.now.ledgers) (length c.loop-rng.hub.ledgers) c.loop-rng.jobs.items _
+          i.jobs (omega (arith, count, jobs)) (new_number c.args.mailbox.now c.loop-rng.hub c.in-Ok-consumer.consumer c.in-Ok-consumer.ensures.consumer));
+      hub = rw c.push_reserved.ensures.items (hub ∙ ap with_consumer i.hub ∙ sym (consumers_snoc c.loop-rng.jobs.items _ c.args.hub.now));
+      all_of = c.in-Ok-consumer.ensures.of;
+      ledgers = omega (arith, count, len, longer);
+    }

@@ -1,0 +1,11 @@
+use Rattle.std.proofs.Common.{◌≡◌, false, take}
+use Rattle.mb_mailbox.specs.Producers.{IsProducerOf, IsSameLane, is_over}
+use Rattle.mb_mailbox.proofs.working.workers.put_items.Given as goal
+
+abbrev pub invariant-loop-i : goal.invariant-loop-i
+invariant-loop-i g l = record {
+  all_of : IsProducerOf l.mailbox l.producer;
+  items : l.producer.items ≡ take l.i l.items;
+  lane : IsSameLane l.initial.producer l.producer;
+  begun : is_over l.producer ≡ false;
+}

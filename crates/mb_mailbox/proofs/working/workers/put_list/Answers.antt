@@ -1,0 +1,29 @@
+use Rattle.std.proofs.Common.{◌≡◌, ◌≢◌, ◌+◌, ◌≤◌, ℕ, List, ap, arith, false, length, length-take, subst, sym, take, ◌∙◌}
+use Rattle.mb_mailbox.specs.Jobs.{IsFront}
+use Rattle.mb_mailbox.specs.Producers.{FoundNoCell}
+use Rattle.mb_mailbox.proofs.PutEnds.{found_still, front_take}
+use Rattle.mb_mailbox.proofs.working.workers.put_list.Goals as goal
+use Rattle.mb_mailbox.proofs.working.workers.put_list.Goals.{then-stopped, else-stopped}
+
+pub returns : goal.returns
+returns g c =
+    let n = c.put_items-linked.result.0 in
+    let list = c.args.job.list.items in
+    let items : c.finish.new.self.items ≡ take n list =
+    c.finish.ensures.items ∙ c.put_items-linked.ensures.items ∙ ap (take n) c.deref.ensures.value in
+    let low : n ≤ length list = rw c.deref.ensures.value at c.put_items-linked.ensures.linked in
+    let found = c.put_items-linked.ensures.found in
+    record {
+      same = record {
+        table = c.finish.ensures.lane.table ∙ c.put_items-linked.ensures.lane.table;
+        lane = c.finish.ensures.lane.lane ∙ c.put_items-linked.ensures.lane.lane;
+      };
+      over = c.finish.ensures.over;
+      front = subst (λ (l : List ℕ). IsFront l list) (sym items) (front_take n list);
+      full = λ h. elim c.if-stopped.branch [ then-stopped w ↦ cc | else-stopped w ↦ rw items (rw length-take (omega (arith, c.args.job.list.ok.0))) ];
+      found = λ h some. elim c.if-stopped.branch [
+        | then-stopped w ↦ absurd (cc)
+        | else-stopped w ↦ found_still c.finish.result c.put_items-linked.new.producer c.finish.new.self c.finish.ensures.ended c.finish.ensures.closed_same
+            c.finish.ensures.never_busy (found h (λ z. some (omega (arith, c.args.job.list.ok.0, w.full-is, w.len.ensures, z, ap length c.deref.ensures.value))))
+      ];
+    }

@@ -1,0 +1,125 @@
+-- The report of what a hub has taken in.
+use Rattle.std.specs.Prelude.{ℕ, suc, ◌≡◌, ◌≢◌, ◌+◌, ◌*◌, ◌<◌, Bool, false, not, List, [], ◌∷◌, Option, Some, None, length, slice_get, sum_by}
+use Rattle.std.specs.Option.{option_map_or}
+use Rattle.mb_shared_cells.specs.Vocabulary.{IsRollOf}
+use Rattle.mb_shared_claims.specs.Vocabulary.{taken_part}
+use Rattle.mb_world.specs.Agreement.{HasCompeted}
+use Rattle.mb_world.specs.Assignment.{items_where}
+use Rattle.mb_world.specs.Headline.{IsHonest}
+use Rattle.mb_world.specs.Plan.{Histories}
+use Rattle.mb_world.specs.Report.{DiaryView, LaneView, ReportView, note}
+use Rattle.mb_world.specs.Reporting.{IsReportOf, any_below, is_took}
+use Rattle.mb_world.specs.Sound.{AreSound}
+use Rattle.mb_mailbox.specs.Below.{HasFoundNone, History, Note, Undecided, consumer_part, is_begun}
+use Rattle.mb_mailbox.specs.Hubs.{HubView}
+use Rattle.mb_mailbox.specs.Mailboxes.{MailboxView, plan_at}
+use Rattle.mb_mailbox.specs.declared.place.Place.{Place}
+use Rattle.mb_mailbox.specs.declared.place.Place.TheVariants.{At, Before}
+
+-- ---- what is missing
+-- how many of these are not there
+abbrev pub count_missing : {X : Type 0} → List (Option X) → ℕ
+count_missing [] = 0
+count_missing (Some x ∷ xs) = count_missing xs
+count_missing (None ∷ xs) = suc (count_missing xs)
+
+-- ---- what was taken in, by numbers; where a number was not taken in, that is nothing
+-- the one at this number, if there is one
+abbrev pub kept_at : {X : Type 0} → List (Option X) → ℕ → Option X
+kept_at xs n = option_map_or (λ o. o) (slice_get xs n) None
+
+-- the items of the producer of lane p
+abbrev pub items_in : ℕ → HubView → List ℕ
+items_in p h = option_map_or (λ l. l.items) (kept_at h.puts p) []
+
+-- whether it has ended the lane
+abbrev pub ended_in : ℕ → HubView → Bool
+ended_in p h = option_map_or (λ l. l.ended) (kept_at h.puts p) false
+
+-- the notes of consumer c on lane p
+abbrev pub notes_in : ℕ → ℕ → HubView → List Note
+notes_in c p h =
+    option_map_or (λ l. option_map_or (λ ns. ns) (slice_get l.notes p) []) (kept_at h.ledgers c) []
+
+-- whether a claim is held there that has an access
+abbrev pub has_begun_at : Place → Bool
+has_begun_at (Before at) = false
+has_begun_at (At k claim) = is_begun claim
+
+-- so it is for consumer c on lane p
+abbrev pub begun_in : ℕ → ℕ → HubView → Bool
+begun_in c p h =
+    option_map_or (λ l. option_map_or has_begun_at (slice_get l.places p) false)
+    (kept_at h.ledgers c) false
+
+-- whether one of the first n consumers has noted that it took the item at position j of lane p
+abbrev pub is_taken_in : ℕ → ℕ → ℕ → HubView → Bool
+is_taken_in n p j h = any_below n (λ c. is_took (slice_get (notes_in c p h) j))
+
+-- ---- the report
+-- lane p, where there are n consumers: the items put, whether it has ended, and the items that
+-- nobody took
+abbrev pub lane_in : ℕ → ℕ → HubView → LaneView
+lane_in n p h = record {
+  put = items_in p h;
+  ended = ended_in p h;
+  left = items_where (λ j. not (is_taken_in n p j h)) (items_in p h);
+}
+
+-- the diary of consumer c on lane p
+abbrev pub diary_in : ℕ → ℕ → HubView → DiaryView
+diary_in c p h = record { consumer = c; lane = p; notes = notes_in c p h; begun = begun_in c p h }
+
+-- the first n lanes, where there are so many consumers
+pub record AreLanesIn (consumers : ℕ) (h : HubView) (n : ℕ) (ls : List LaneView) : Type 0 where
+  pub count : length ls ≡ n
+  pub each : (p : ℕ) → p < n → slice_get ls p ≡ Some (lane_in consumers p h)
+
+-- the first n diaries: consumer by consumer, lane by lane
+pub record AreDiariesIn (lanes : ℕ) (h : HubView) (n : ℕ) (ds : List DiaryView) : Type 0 where
+  pub count : length ds ≡ n
+  pub each : (c p : ℕ) → p < lanes → c * lanes + p < n
+      → slice_get ds (c * lanes + p) ≡ Some (diary_in c p h)
+
+-- the lists and diaries are those of the producers and consumers that were taken in, each in its
+-- place
+pub record IsReportIn (lanes consumers : ℕ) (h : HubView) (r : ReportView) : Type 0 where
+  pub lanes_count : length r.lanes ≡ lanes
+  pub diaries_count : length r.diaries ≡ consumers * lanes
+  pub lane : (p : ℕ) → p < lanes → slice_get r.lanes p ≡ Some (lane_in consumers p h)
+  pub diary : (c p : ℕ) → c < consumers → p < lanes
+      → slice_get r.diaries (c * lanes + p) ≡ Some (diary_in c p h)
+
+-- ---- what it shows
+-- what all that were taken in did, and that the report is honest of it
+pub record IsGathered (m : MailboxView) (h : HubView) (r : ReportView) : Type 0 where
+  -- what was done to the words of the claims and to those of the cells; consumer c is reader c
+  pub histories : Histories
+  pub reader : (c : ℕ) → histories.reader_of c ≡ c
+  -- each part of them is what the hub has taken in
+  pub claims : (c : ℕ) → consumer_part c histories.claims ≡ taken_part h.claims.roll c
+  pub pool : IsRollOf m.cells.size h.cells.roll histories.pool
+  -- they are lawful, and the two parts of each consumer fit
+  pub sound : AreSound (plan_at m) histories
+  -- the report is theirs
+  pub report : IsReportOf (plan_at m) histories r
+  -- One assignment of items to competitors stands behind the whole report: each ledger is exactly
+  -- the items given, in the order put; the rest is reported as left; nothing follows an end mark;
+  -- and an item that was competed for is left only beside an unfinished claim
+  pub honest : IsHonest (plan_at m) histories r
+
+-- how many items are put, on all lanes together
+abbrev pub put_count : ReportView → ℕ
+put_count r = sum_by (λ l. length l.put) r.lanes
+
+-- where a producer that was taken in found no cell, all the cells are put
+abbrev pub FullTakesAll : MailboxView → HubView → ReportView → Type 0
+FullTakesAll m h r =
+    (p : ℕ) (done : History) → slice_get h.cells.roll.lanes p ≡ Some (Some done)
+    → HasFoundNone m.cells.size.cells p done → put_count r ≡ m.cells.size.cells
+
+-- where a note is undecided, at least two consumers competed for the item
+abbrev pub UndecidedHasCompany : ReportView → Type 0
+UndecidedHasCompany r =
+    (c p j : ℕ) → note c p j r ≡ Some Undecided
+    → HasCompeted c p j r × ((d : ℕ) × (d ≢ c) × HasCompeted d p j r)

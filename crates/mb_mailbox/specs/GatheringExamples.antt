@@ -1,0 +1,23 @@
+-- Small reports of one lane with one item, that nobody took.
+use Rattle.std.specs.Prelude.{ℕ, false, List, [], ◌∷◌}
+use Rattle.mb_world.specs.Report.{DiaryView, ReportView}
+use Rattle.mb_mailbox.specs.Below.{Note, Undecided}
+
+-- the diary of consumer c on lane 0
+abbrev pub diary_of : ℕ → List Note → DiaryView
+diary_of c notes = record { consumer = c; lane = 0; notes = notes; begun = false }
+
+-- one item on lane 0, which is left, beside these diaries
+abbrev pub one_left : List DiaryView → ReportView
+one_left diaries = record {
+  lanes = record { put = 7 ∷ []; ended = false; left = 7 ∷ [] } ∷ [];
+  diaries = diaries;
+}
+
+-- one of two consumers has an undecided note, and the other did nothing
+abbrev pub alone_undecided : ReportView
+alone_undecided = one_left (diary_of 0 (Undecided ∷ []) ∷ diary_of 1 [] ∷ [])
+
+-- both have one
+abbrev pub two_undecided : ReportView
+two_undecided = one_left (diary_of 0 (Undecided ∷ []) ∷ diary_of 1 (Undecided ∷ []) ∷ [])

@@ -1,0 +1,61 @@
+-- A poll that keeps the claim of its lane in a variable, while the place there is behind.
+use Rattle.std.specs.Prelude.{ℕ, ◌≡◌, ◌≢◌, ◌+◌, ◌≤◌, Some, List, Vec, map, slice_get, slice_set, vec_capacity}
+use Rattle.mb_mailbox.specs.Below.{Claim, Note, ReaderSeatView, SeatView, Stream, claim_stage, note_of}
+use Rattle.mb_mailbox.specs.declared.consumer.Poll.{Poll}
+use Rattle.mb_mailbox.specs.declared.consumer.Poll.TheVariants as poll
+use Rattle.mb_mailbox.specs.declared.place.Place.{Place}
+use Rattle.mb_mailbox.specs.declared.place.Place.TheVariants.{At}
+use Rattle.mb_mailbox.specs.Consumers.{ConsumerView, IsConsumer}
+use Rattle.mb_mailbox.specs.ConsumerStep.{stage_answer}
+use Rattle.mb_mailbox.specs.Moves.{moved_to}
+use Rattle.mb_mailbox.specs.NoteLists.{place_after}
+use Rattle.mb_mailbox.specs.Steps.{AreSteps, HasNoteOnEach, outcome}
+
+-- ---- the consumer of these fields
+module _ {Z : Type 0} where
+  abbrev pub consumer_with : ReaderSeatView → SeatView → List Place → List (Vec Note Z)
+      → ConsumerView
+  consumer_with reader seat places notes =
+      record { reader = reader; seat = seat; places = places; notes = map (λ v. v.items) notes }
+
+  -- each list of notes has room for so many
+  abbrev pub HasWideLists : ℕ → List (Vec Note Z) → Type 0
+  HasWideLists cells notes =
+      (p : ℕ) (v : Vec Note Z) → slice_get notes p ≡ Some v → cells ≤ vec_capacity v
+
+-- the consumer, standing at cell k of lane p with this claim there
+abbrev pub holding : ℕ → ℕ → Claim → ConsumerView → ConsumerView
+holding p k claim s = record s { places = slice_set s.places p (At k claim) }
+
+-- ---- accesses of the claim
+-- the consumer where accesses of the claim on cell k have led, which has this stage then
+abbrev pub competed : ℕ → ℕ → Claim → SeatView → ConsumerView → ConsumerView
+competed p k claim seat s =
+    moved_to p (place_after k claim (claim_stage claim)) (note_of (claim_stage claim)) s.reader.part
+    seat.part s
+
+-- from a start on, so many accesses led a consumer there
+pub record HasCompeted (p k n : ℕ) (claim : Claim) (t u : Stream) (from s : ConsumerView)
+    (seat : SeatView) : Type 0 where
+  pub same : seat ≡ record s.seat { part = seat.part }
+  pub steps : AreSteps p n (stage_answer (claim_stage claim)) t u from (competed p k claim seat s)
+  pub is : IsConsumer (competed p k claim seat s)
+
+-- ---- the rest of a poll
+-- what a poll can answer that has held a claim
+abbrev pub IsOfClaim : Poll → Type 0
+IsOfClaim poll.Nothing = ⊥
+IsOfClaim poll.Ended = ⊥
+IsOfClaim poll.NoLane = ⊥
+IsOfClaim _ = Unit {0}
+
+-- after n accesses on lane p, at most so many more come to this answer
+pub record IsPursuit (p n most : ℕ) (answer : Poll) (t u : Stream) (from new : ConsumerView)
+    : Type 0 where
+  pub made : ℕ
+  pub within : made ≤ most
+  pub spent : answer ≡ poll.Spent → made ≡ most
+  pub steps : AreSteps p (made + n) (outcome answer) t u from new
+  pub kind : IsOfClaim answer
+  pub noted : answer ≢ poll.Spent → HasNoteOnEach p new
+  pub is : IsConsumer new

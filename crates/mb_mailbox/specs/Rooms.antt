@@ -1,0 +1,27 @@
+-- Room for the workers of a run.
+use Rattle.std.specs.Prelude.{ℕ, ◌≡◌, ◌≤◌, [], vec_capacity}
+use Rattle.mb_mailbox.specs.declared.working.room.Ends.{Ends}
+use Rattle.mb_mailbox.specs.declared.working.room.Jobs.{Jobs}
+use Rattle.mb_mailbox.specs.declared.working.room.Room.{Room}
+
+module _ {Z : Type 0} where
+  -- no job yet, and room for so many
+  pub record HasJobRoom {R : Type 0} (lists sources : ℕ) (j : Jobs R Z) : Type 0 where
+    pub no_puts : j.puts.items ≡ []
+    pub no_polls : j.polls.items ≡ []
+    pub puts : lists ≤ vec_capacity j.puts
+    pub polls : sources ≤ vec_capacity j.polls
+
+  -- nothing begun and no end yet, and room for so many
+  pub record HasEndRoom (lists sources : ℕ) (e : Ends Z) : Type 0 where
+    pub no_puts : e.puts.items ≡ []
+    pub no_polls : e.polls.items ≡ []
+    pub puts : lists ≤ vec_capacity e.puts
+    pub polls : sources ≤ vec_capacity e.polls
+
+  pub record HasRoom (lists sources : ℕ) (r : Room Z) : Type 0 where
+    pub no_puts : r.puts.items ≡ []
+    pub no_polls : r.polls.items ≡ []
+    pub puts : lists ≤ vec_capacity r.puts
+    pub polls : sources ≤ vec_capacity r.polls
+    pub ends : HasEndRoom lists sources r.ends

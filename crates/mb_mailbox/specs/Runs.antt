@@ -1,0 +1,39 @@
+-- The jobs of a run, and their ends.
+use Rattle.std.specs.Prelude.{ℕ, ◌≡◌, false, map}
+use Rattle.std.specs.List.{All, AllZip}
+use Rattle.mb_mailbox.specs.Consumers.{IsConsumerOf}
+use Rattle.mb_mailbox.specs.HubRuns.{with_taken_consumers, with_taken_producers}
+use Rattle.mb_mailbox.specs.Hubs.{HubView}
+use Rattle.mb_mailbox.specs.Jobs.{IsPollEnd, IsPutEnd}
+use Rattle.mb_mailbox.specs.Mailboxes.{MailboxView}
+use Rattle.mb_mailbox.specs.Producers.{IsProducerOf}
+use Rattle.mb_mailbox.specs.declared.working.room.Ends.{Ends}
+use Rattle.mb_mailbox.specs.declared.working.room.Jobs.{Jobs}
+
+module _ {R Z : Type 0} where
+  -- all of them are of the mailbox
+  pub record AreOf (m : MailboxView) (jobs : Jobs R Z) : Type 0 where
+    pub puts : All (λ j. IsProducerOf m j.producer) jobs.puts.items
+    pub polls : All (λ j. IsConsumerOf m j.consumer) jobs.polls.items
+
+  -- these are the ends of the jobs, in their order, where consumers read the lanes from `from` on and below `end`
+  pub record AreEndsOf (from end : ℕ) (jobs : Jobs R Z) (ends : Ends Z) : Type 0 where
+    pub puts : AllZip IsPutEnd jobs.puts.items ends.puts.items
+    pub polls : AllZip (λ j d. IsPollEnd from end j.consumer d) jobs.polls.items ends.polls.items
+
+module _ {Z : Type 0} where
+  -- all ends are of the mailbox
+  pub record AreEndsAt (m : MailboxView) (ends : Ends Z) : Type 0 where
+    pub puts : All (λ d. IsProducerOf m d.producer) ends.puts.items
+    pub polls : All (λ d. IsConsumerOf m d.consumer) ends.polls.items
+
+  -- nobody was stopped
+  pub record NoneStopped (ends : Ends Z) : Type 0 where
+    pub puts : All (λ d. d.stopped ≡ false) ends.puts.items
+    pub polls : All (λ d. d.stopped ≡ false) ends.polls.items
+
+  -- the hub with all of them taken in, in their order
+  abbrev pub with_taken : Ends Z → HubView → HubView
+  with_taken ends h =
+      with_taken_consumers (map (λ d. d.consumer) ends.polls.items)
+      (with_taken_producers (map (λ d. d.producer) ends.puts.items) h)

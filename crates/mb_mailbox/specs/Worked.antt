@@ -1,0 +1,91 @@
+-- What a run of workers makes of a hub.
+use Rattle.std.specs.Prelude.{ℕ, suc, ◌≡◌, ◌+◌, ◌-◌, ◌^◌, ◌<◌, ◌≤◌, ◌⊎◌, ◌++◌, List, [], ◌∷◌, Some, Vec, length, map, min, true}
+use Rattle.std.specs.List.{All, AllZip}
+use Rattle.mb_cells.specs.Vocabulary.{HasFoundNone}
+use Rattle.mb_mailbox.specs.Below.{ClaimAccess, History, consumer_count}
+use Rattle.mb_mailbox.specs.Hubs.{HubView, LedgerView, PutListView}
+use Rattle.mb_mailbox.specs.Jobs.{IsFront}
+use Rattle.mb_mailbox.specs.Mailboxes.{MailboxView}
+use Rattle.mb_mailbox.specs.Steps.{notes_on}
+use Rattle.mb_mailbox.specs.declared.working.Worked.{Worked}
+
+-- there are more lists, or more sources, than numbers are left
+abbrev pub AsksTooMany : MailboxView → ℕ → ℕ → HubView → Type 0
+AsksTooMany m lists sources h =
+    (m.cells.size.lanes - length h.puts < lists) ⊎ (consumer_count m.claims.layout - length h.ledgers < sources)
+
+-- what a producer that was taken in left: the items that it put, and its part
+pub record LaneLeft : Type 0 where
+  pub put : List ℕ
+  pub part : History
+
+-- what a consumer that was taken in left: its ledger, and its two parts
+pub record ConsumerLeft : Type 0 where
+  pub ledger : LedgerView
+  pub reads : History
+  pub claimed : List ClaimAccess
+
+-- what the hub keeps of a producer that has ended its lane
+abbrev pub ended_list : LaneLeft → PutListView
+ended_list l = record { items = l.put; ended = true }
+
+-- the lists of a `Vec` of them
+abbrev pub lists_in : {Z : Type 0} → List (Vec ℕ Z) → List (List ℕ)
+lists_in vs = map (λ v. v.items) vs
+
+-- the next numbers were given, one for each list and so many to consumers, and all of them were taken in: these lanes, each
+-- of them ended and with a beginning of its list, and these consumers. What the hub had taken in it still has
+pub record IsRunOf (lists : List (List ℕ)) (sources : ℕ) (lanes : List LaneLeft) (consumers : List ConsumerLeft)
+    (old new : HubView) : Type 0 where
+  pub puts : new.puts ≡ old.puts ++ map (λ l. Some (ended_list l)) lanes
+  pub parts : new.cells.roll.lanes ≡ old.cells.roll.lanes ++ map (λ l. Some l.part) lanes
+  pub fronts : AllZip (λ list l. IsFront l.put list) lists lanes
+  pub ledgers : new.ledgers ≡ old.ledgers ++ map (λ c. Some c.ledger) consumers
+  pub reads : new.cells.roll.readers ≡ old.cells.roll.readers ++ map (λ c. Some c.reads) consumers
+  pub claimed : new.claims.roll ≡ old.claims.roll ++ map (λ c. Some c.claimed) consumers
+  pub count : length consumers ≡ sources
+
+-- all that was given was taken in
+pub record WereTakenIn (lists : List (List ℕ)) (sources : ℕ) (old new : HubView) : Type 0 where
+  pub lanes : List LaneLeft
+  pub consumers : List ConsumerLeft
+  pub run : IsRunOf lists sources lanes consumers old new
+
+-- so it is where no more than a front of these lists and so many consumers were given
+pub record WereTakenInEarly (lists : List (List ℕ)) (sources : ℕ) (old new : HubView) : Type 0 where
+  pub front : List (List ℕ)
+  pub rest : List (List ℕ)
+  pub whole : front ++ rest ≡ lists
+  pub given : ℕ
+  pub few : given ≤ sources
+  pub taken : WereTakenIn front given old new
+
+-- how many items of the lists stand beyond those that were put
+abbrev pub items_beyond : List (List ℕ) → List LaneLeft → ℕ
+items_beyond [] _ = 0
+items_beyond _ [] = 0
+items_beyond (list ∷ lists) (l ∷ ls) = (length list - length l.put) + items_beyond lists ls
+
+-- the lanes from p on, each of which has less than its list only behind a fetch-add that found no cell
+abbrev pub AreCutByCells : ℕ → ℕ → List (List ℕ) → List LaneLeft → Type 0
+AreCutByCells cells p [] [] = Unit {0}
+AreCutByCells cells p (list ∷ lists) (l ∷ ls) =
+    (length l.put < length list → HasFoundNone cells p l.part) × AreCutByCells cells (suc p) lists ls
+AreCutByCells cells p _ _ = ⊥
+
+-- on the lanes from p on the consumer has a note at each item
+abbrev pub HasNoteAtEach : ℕ → List LaneLeft → LedgerView → Type 0
+HasNoteAtEach p [] ledger = Unit {0}
+HasNoteAtEach p (l ∷ ls) ledger = (length (notes_on p ledger.notes) ≡ length l.put) × HasNoteAtEach (suc p) ls ledger
+
+-- all that was given was taken in, and these are the counts
+pub record IsWorked (lists : List (List ℕ)) (sources : ℕ) (w : Worked) (old new : HubView) : Type 0 where
+  pub lanes : List LaneLeft
+  pub consumers : List ConsumerLeft
+  pub run : IsRunOf lists sources lanes consumers old new
+  -- where nobody was stopped, `full` counts the items that were not put, no further than 2^64 - 1
+  pub full : w.stopped ≡ 0 → w.full ≡ min (2 ^ 64 - 1) (items_beyond lists lanes)
+  -- a producer that put less than its list has a fetch-add that found no cell
+  pub cut : w.stopped ≡ 0 → AreCutByCells new.cells.table.size.cells (length old.puts) lists lanes
+  -- and each consumer has a note at each item of each of these lanes
+  pub noted : w.stopped ≡ 0 → All (λ c. HasNoteAtEach (length old.puts) lanes c.ledger) consumers

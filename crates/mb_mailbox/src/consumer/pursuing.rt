@@ -1,0 +1,111 @@
+//! What a poll does with a claim: it keeps the claim in a variable of its own, and writes the consumer's place once.
+ghost use Rattle.std.specs.Prelude.{ℕ, ◌≡◌, ◌<◌, None, Some, slice_set};
+ghost use Rattle.arrayvec.specs.ArrayVec.{array_vec_len};
+ghost use Rattle.mb_claim.specs.declared.access.Stage.TheVariants as stage;
+ghost use Rattle.mb_cells.specs.declared.cursor.Cursor.TheVariants.{Past};
+ghost use Rattle.mb_shared_cells.specs.Vocabulary.{ItemMakes};
+ghost use Rattle.mb_mailbox.specs.Below.{Gave, Stream, Took, claim_stage};
+ghost use Rattle.mb_mailbox.specs.Consumers.{ConsumerView, IsConsumer, IsConsumerOf};
+ghost use Rattle.mb_mailbox.specs.NoteLists.{HasRoom, NotesGrow};
+ghost use Rattle.mb_mailbox.specs.Pursuits.{HasWideLists, IsPursuit, consumer_with, holding};
+ghost use Rattle.mb_mailbox.specs.Steps.{AreSteps};
+ghost use Rattle.mb_mailbox.specs.declared.place.Place.TheVariants.{Before};
+
+use super::Poll;
+use super::moving::{consumers_move_on, places_tell_steps};
+use super::places::{leave, stay};
+use crate::mailbox::Mailbox;
+use crate::place::Place;
+use arrayvec::ArrayVec;
+use mb_claim::{Claim, Stage};
+use mb_shared_cells::ReaderSeat;
+use mb_shared_claims::ClaimSeat;
+use mb_world::Note;
+use rand_core::Rng;
+use std::alloc::Allocator;
+
+/// Loads the item of cell `k`, and stands past the cell on lane `p`.
+#[inline(always)]
+fn take<A: Allocator + Drop, B: Allocator + Drop>(
+    places: &mut ArrayVec<Place, 16>,
+    notes: &mut Vec<Vec<Note, A>, A>,
+    reader: &mut ReaderSeat,
+    mailbox: &Mailbox<B>,
+    p: usize,
+    k: u32,
+) -> u64
+    requires table { reader.old.table ≡ mailbox.now.cells }
+    requires may { Gave k reader.old.part }
+    requires place { p < array_vec_len places.old }
+    requires room { HasRoom p notes.old.items }
+    ensures makes { ItemMakes reader.old k result reader.new }
+    ensures place { places.new.items ≡ slice_set places.old.items p (Before (Past k)) }
+    ensures notes { NotesGrow p (Some (Took result)) notes.old.items notes.new.items }
+{
+    let item = mailbox.cells.item(reader, k);
+    leave(places, notes, p, k, Note::Took(item));
+    item
+}
+
+/// Goes on with a claim on cell `k` of a lane: to its end, to the item where it is won, or until so many accesses were made.
+#[inline(always)]
+pub(super) fn pursue<A: Allocator + Drop, B: Allocator + Drop, R: Rng>(
+    places: &mut ArrayVec<Place, 16>,
+    notes: &mut Vec<Vec<Note, A>, A>,
+    reader: &mut ReaderSeat,
+    seat: &mut ClaimSeat,
+    mailbox: &Mailbox<B>,
+    lane: u32,
+    k: u32,
+    claim: Claim,
+    most: u64,
+    rng: &mut R,
+) -> Poll
+    requires held { IsConsumer (holding lane k claim
+        (consumer_with reader.old seat.old places.old.items notes.old.items)) }
+    requires won { claim_stage claim ≡ stage.Won → 0 < most }
+    requires of { IsConsumerOf mailbox.now
+        (consumer_with reader.old seat.old places.old.items notes.old.items) }
+    requires lane { lane < array_vec_len places.old }
+    requires wide { HasWideLists reader.old.table.size.cells notes.old.items }
+
+    // Whatever was done before came to no answer.
+    ensures pursued { (from : ConsumerView) (n : ℕ) (t : Stream)
+        → AreSteps lane n None t (R.stream rng.old) from (holding lane k claim
+        (consumer_with reader.old seat.old places.old.items notes.old.items))
+        → IsPursuit lane n most result t (R.stream rng.new) from
+        (consumer_with reader.new seat.new places.new.items notes.new.items) }
+    ensures wide { HasWideLists reader.new.table.size.cells notes.new.items }
+{
+    consumers_move_on();
+    places_tell_steps();
+    reader.has_history();
+    let p = lane as usize;
+    let mut claim = claim;
+    if let Stage::Won = claim.stage() {
+        return Poll::Took(take(places, notes, reader, mailbox, p, k));
+    }
+    for made in 0..most {
+        let word = rng.next_u64();
+        match mailbox.claims.step(seat, &mut claim, k, word) {
+            Stage::Going => {}
+            Stage::Won => {
+                if made + 1 < most {
+                    return Poll::Took(take(places, notes, reader, mailbox, p, k));
+                }
+                stay(places, p, k, claim);
+                return Poll::Spent;
+            }
+            Stage::Lost(w) => {
+                leave(places, notes, p, k, Note::Lost(w));
+                return Poll::Lost(w);
+            }
+            Stage::Undecided => {
+                leave(places, notes, p, k, Note::Undecided);
+                return Poll::Undecided;
+            }
+        }
+    }
+    stay(places, p, k, claim);
+    Poll::Spent
+}

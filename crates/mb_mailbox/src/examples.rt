@@ -1,0 +1,80 @@
+//! The definitions by example: what they let in, and what only looks right. The functions compute nothing: their contracts
+//! are the examples, and their proofs stand in `proofs/examples/`, one folder for each.
+ghost use Rattle.std.specs.Prelude.{List, None, Option, Some, [], ◌∷◌};
+ghost use Rattle.mb_quorum.specs.Vocabulary.{IsQuorumTable};
+ghost use Rattle.mb_claim.specs.declared.access.Stage.TheVariants as stage;
+ghost use Rattle.mb_mailbox.specs.Below.{Claims, END, IsClaimPrefix, ObjectTurn, Stream, WorldAccess};
+ghost use Rattle.mb_mailbox.specs.Below.{claim_step, item_load, link_load};
+ghost use Rattle.mb_mailbox.specs.declared.consumer.Poll.{Poll};
+ghost use Rattle.mb_mailbox.specs.declared.consumer.Poll.TheVariants as poll;
+ghost use Rattle.mb_mailbox.specs.Consumers.{ConsumerView};
+ghost use Rattle.mb_mailbox.specs.ConsumerStep.{ConsumerStep};
+ghost use Rattle.mb_mailbox.specs.Examples.{head_loaded, link_loaded, met_four, nothing_done};
+ghost use Rattle.mb_mailbox.specs.Steps.{IsPollOf, LeadTo};
+
+use mb_claim::laws::prefixes_have_one_stage;
+
+/// What a consumer does next on a lane, and what that comes to.
+pub fn consumers_go_on()
+    // It looks at the head: nothing is there yet, or the lane has ended, or it has met a cell, without an answer.
+    ensures waits { (cs : Claims)
+        → ConsumerStep cs 0 0 nothing_done (head_loaded 0) (Some poll.Nothing) }
+    ensures ends { (cs : Claims)
+        → ConsumerStep cs 0 0 nothing_done (head_loaded END) (Some poll.Ended) }
+    ensures finds { (cs : Claims) → ConsumerStep cs 0 0 nothing_done (head_loaded 5) None }
+
+    // Its claim there is going: the last step may lose it, and then it looks on.
+    ensures loses { (cs : Claims) (t : ObjectTurn) (xs : List ObjectTurn)
+        → IsClaimPrefix cs 0 xs stage.Going → IsClaimPrefix cs 0 (t ∷ xs) (stage.Lost 1)
+        → ConsumerStep cs 0 0 (met_four xs) (claim_step 0 4 t) (Some (poll.Lost 1)) }
+    ensures looks_on { (cs : Claims) (xs : List ObjectTurn) → IsQuorumTable cs.table
+        → IsClaimPrefix cs 0 xs (stage.Lost 1)
+        → ConsumerStep cs 0 0 (met_four xs) (link_loaded 0) (Some poll.Nothing) }
+
+    // It is won: the item is taken.
+    ensures takes { (cs : Claims) (xs : List ObjectTurn) → IsClaimPrefix cs 0 xs stage.Won
+        → ConsumerStep cs 0 0 (met_four xs) (item_load 0 4 8) (Some (poll.Took 8)) }
+{
+    prefixes_have_one_stage();
+}
+
+/// What it does not do, and what it is not told.
+pub fn consumers_keep_to_their_path()
+    // The head of another lane, and nothing where a cell is linked.
+    ensures other_lane { (cs : Claims)
+        → ConsumerStep cs 0 0 nothing_done (link_load 0 1 [] 0) (Some poll.Nothing) → ⊥ }
+    ensures linked { (cs : Claims)
+        → ConsumerStep cs 0 0 nothing_done (head_loaded 5) (Some poll.Nothing) → ⊥ }
+
+    // A claim on a cell that it has not met.
+    ensures unmet { (cs : Claims) (t : ObjectTurn) (xs : List ObjectTurn) (answer : Option Poll)
+        → ConsumerStep cs 0 0 (met_four xs) (claim_step 0 3 t) answer → ⊥ }
+
+    // A look past a claim that is going, and past one that is won and not loaded.
+    ensures passed { (cs : Claims) (xs : List ObjectTurn) (answer : Option Poll)
+        → IsQuorumTable cs.table → IsClaimPrefix cs 0 xs stage.Going
+        → ConsumerStep cs 0 0 (met_four xs) (link_loaded 0) answer → ⊥ }
+    ensures not_loaded { (cs : Claims) (xs : List ObjectTurn) (answer : Option Poll)
+        → IsClaimPrefix cs 0 xs stage.Won
+        → ConsumerStep cs 0 0 (met_four xs) (link_loaded 0) answer → ⊥ }
+
+    // An item that another has won, and a claim that is won and told as undecided.
+    ensures lost { (cs : Claims) (xs : List ObjectTurn) (answer : Option Poll)
+        → IsQuorumTable cs.table → IsClaimPrefix cs 0 xs (stage.Lost 1)
+        → ConsumerStep cs 0 0 (met_four xs) (item_load 0 4 8) answer → ⊥ }
+    ensures undecided { (cs : Claims) (t : ObjectTurn) (xs : List ObjectTurn)
+        → IsQuorumTable cs.table → IsClaimPrefix cs 0 (t ∷ xs) stage.Won
+        → ConsumerStep cs 0 0 (met_four xs) (claim_step 0 4 t) (Some poll.Undecided) → ⊥ }
+{
+    prefixes_have_one_stage();
+}
+
+/// What a poll is not: it ends with its first answer, and is spent or has another answer only by its accesses.
+pub fn polls_end_with_their_answer()
+    ensures goes_on { (s : ConsumerView) (a : WorldAccess) (answer : Option Poll)
+        → LeadTo 0 answer (a ∷ link_load s.seat.consumer 0 [] 0 ∷ []) s → ⊥ }
+    ensures spent_early { (s t : Stream) (old : ConsumerView)
+        → IsPollOf 0 2 poll.Spent s t old old → ⊥ }
+    ensures took_nothing { (s t : Stream) (old : ConsumerView)
+        → IsPollOf 0 2 (poll.Took 5) s t old old → ⊥ }
+{}

@@ -1,0 +1,118 @@
+//! The end of a mailbox: the report of all that was taken in.
+mod reporting;
+mod sound;
+
+ghost use Rattle.std.specs.Prelude.{◌≡◌, ◌≤◌, length};
+ghost use Rattle.mb_mailbox.specs.Gathering.{count_missing};
+
+use crate::hub::Hub;
+use crate::mailbox::Mailbox;
+use mb_claim::laws::layouts_are_sound;
+use mb_world::Report;
+use sound::gathering_is_sound;
+use std::alloc::Allocator;
+use std::error::Error;
+use std::fmt;
+
+/// Why there is no report.
+#[derive(Clone, Copy, PartialEq, Eq, Debug)]
+pub enum GatherFault {
+    /// So many producers, and so many consumers, were given and not taken in.
+    Missing(u32, u32),
+    /// The allocator refused room for the report.
+    NoMemory,
+}
+
+impl fmt::Display for GatherFault {
+    fn fmt<W: fmt::Write>(&self, f: &mut fmt::Formatter<W>) -> fmt::Result {
+        match self {
+            GatherFault::Missing(producers, consumers) => write!(
+                f,
+                "{producers} producers and {consumers} consumers were not taken in"
+            ),
+            GatherFault::NoMemory => f.write_str("memory was refused"),
+        }
+    }
+}
+
+impl Error for GatherFault {}
+
+impl<A: Allocator + Clone + Drop> Mailbox<A> {
+    ghost use Rattle.std.specs.Prelude.{◌≡◌, ◌+◌, ◌<◌, Err, IfErr, IfOk};
+    ghost use Rattle.mb_mailbox.specs.declared.gather.GatherFault.TheVariants.{Missing, NoMemory};
+    ghost use Rattle.mb_mailbox.specs.Below.{consumer_count};
+    ghost use Rattle.mb_mailbox.specs.Gathering.{FullTakesAll, IsGathered, IsReportIn, UndecidedHasCompany, count_missing};
+    ghost use Rattle.mb_mailbox.specs.Hubs.{IsHubOf};
+
+    /// Ends the mailbox, and tells what all that were taken in did: the items put, the notes, and what is left.
+    /// [`GatherFault::Missing`] comes exactly where a producer or a consumer was given and not taken in, and is decided
+    /// first. All room for the report is taken before the tables are closed: after a fault both values come back as they
+    /// were, and `gather` may be called again.
+    pub fn gather(
+        self,
+        alloc: A,
+        hub: Hub<A>,
+    ) -> Result<Report<A>, (GatherFault, Mailbox<A>, Hub<A>)>
+        requires of { IsHubOf self hub }
+
+        // What is refused, and that nothing is lost then.
+        ensures missing { 0 < count_missing hub.puts + count_missing hub.ledgers
+            → result
+            ≡ Err (Missing (count_missing hub.puts) (count_missing hub.ledgers), self, hub) }
+        ensures refused { count_missing hub.puts + count_missing hub.ledgers ≡ 0
+            → IfErr result (λ e. e ≡ (NoMemory, self, hub)) }
+        ensures same { IfErr result (λ e. (e.1 ≡ self) × (e.2 ≡ hub)) }
+
+        // The lists and diaries are those of what was taken in.
+        ensures lists { IfOk result (λ r.
+            IsReportIn self.cells.size.lanes (consumer_count self.claims.layout) hub r) }
+
+        // One assignment stands behind the whole report, and nothing follows an end mark.
+        ensures headline { IfOk result (λ r. IsGathered self hub r) }
+
+        // Where a producer found no cell, the put lists together have all cells; and where a note is undecided, two
+        // consumers or more competed for the item.
+        ensures full { IfOk result (λ r. FullTakesAll self hub r) }
+        ensures undecided { IfOk result (λ r. UndecidedHasCompany r) }
+    {
+        gathering_is_sound();
+        layouts_are_sound();
+        let producers = missing(hub.puts.as_slice());
+        let consumers = missing(hub.ledgers.as_slice());
+        if producers > 0 || consumers > 0 {
+            return Err((GatherFault::Missing(producers, consumers), self, hub));
+        }
+        let competitors = self.claims.layout().consumers();
+        let Ok(report) = hub.report(alloc, self.lanes, competitors) else {
+            return Err((GatherFault::NoMemory, self, hub));
+        };
+        let Mailbox {
+            lanes: _,
+            cells,
+            claims,
+        } = self;
+        let Hub {
+            cells: lanes_hub,
+            claims: claims_hub,
+            puts: _,
+            ledgers: _,
+        } = hub;
+        cells.close(lanes_hub);
+        claims.close(claims_hub);
+        Ok(report)
+    }
+}
+
+/// How many of these are not there.
+fn missing<T: Drop>(given: &[Option<T>]) -> u32
+    requires { length given.now ≤ 16 }
+    ensures { result ≡ count_missing given.now }
+{
+    let mut count = 0;
+    for one in given {
+        if one.is_none() {
+            count += 1;
+        }
+    }
+    count
+}

@@ -1,0 +1,49 @@
+//! Laws of what a hub has taken in, and of what is gathered. The functions compute nothing: their contracts are the laws.
+ghost use Rattle.std.specs.Prelude.{ℕ, ◌≡◌, ◌≤◌, List, [], ◌∷◌, Some, None, false, length, slice_get};
+ghost use Rattle.mb_mailbox.specs.Below.{Note, has_ended};
+ghost use Rattle.mb_mailbox.specs.Consumers.{ConsumerView};
+ghost use Rattle.mb_mailbox.specs.Gathering.{UndecidedHasCompany, begun_in, count_missing, ended_in, has_begun_at};
+ghost use Rattle.mb_mailbox.specs.Gathering.{IsReportIn, items_in, notes_in};
+ghost use Rattle.mb_world.specs.Report.{ReportView};
+ghost use Rattle.mb_mailbox.specs.GatheringExamples.{alone_undecided, two_undecided};
+ghost use Rattle.mb_mailbox.specs.Hubs.{HubView, with_taken_consumer, with_taken_producer};
+ghost use Rattle.mb_mailbox.specs.Producers.{ProducerView};
+ghost use Rattle.mb_mailbox.specs.declared.place.Place.{Place};
+
+/// A lane that was never given is open and empty, and a consumer that was never given has noted and begun nothing.
+pub fn what_was_not_given_is_empty()
+    ensures items { (h : HubView) (p : ℕ) → length h.puts ≤ p → items_in p h ≡ [] }
+    ensures ended { (h : HubView) (p : ℕ) → length h.puts ≤ p → ended_in p h ≡ false }
+    ensures notes { (h : HubView) (c p : ℕ) → length h.ledgers ≤ c → notes_in c p h ≡ [] }
+    ensures begun { (h : HubView) (c p : ℕ) → length h.ledgers ≤ c → begun_in c p h ≡ false }
+{}
+
+/// What was taken in is what the report has of it: the producer's own items, and the consumer's own notes.
+pub fn what_was_taken_in_is_told()
+    ensures items { (h : HubView) (s : ProducerView)
+        → slice_get h.puts s.seat.lane ≡ Some None
+        → items_in s.seat.lane (with_taken_producer s h) ≡ s.items }
+    ensures ended { (h : HubView) (s : ProducerView)
+        → slice_get h.puts s.seat.lane ≡ Some None
+        → ended_in s.seat.lane (with_taken_producer s h) ≡ has_ended s.seat.lane s.seat.part }
+    ensures notes { (h : HubView) (s : ConsumerView) (p : ℕ) (notes : List Note)
+        → slice_get h.ledgers s.seat.consumer ≡ Some None → slice_get s.notes p ≡ Some notes
+        → notes_in s.seat.consumer p (with_taken_consumer s h) ≡ notes }
+    ensures begun { (h : HubView) (s : ConsumerView) (p : ℕ) (place : Place)
+        → slice_get h.ledgers s.seat.consumer ≡ Some None → slice_get s.places p ≡ Some place
+        → begun_in s.seat.consumer p (with_taken_consumer s h) ≡ has_begun_at place }
+{}
+
+/// What was taken in has one report.
+pub fn hubs_have_one_report()
+    ensures { (lanes consumers : ℕ) (h : HubView) (r s : ReportView)
+        → IsReportIn lanes consumers h r → IsReportIn lanes consumers h s → r ≡ s }
+{}
+
+/// What is missing by example, and that an undecided note of one consumer alone is not let in.
+pub fn reports_by_example()
+    ensures two_missing { count_missing {X = ℕ} (None ∷ Some 7 ∷ None ∷ []) ≡ 2 }
+    ensures none_missing { count_missing {X = ℕ} (Some 7 ∷ Some 8 ∷ []) ≡ 0 }
+    ensures company { UndecidedHasCompany two_undecided }
+    ensures alone { UndecidedHasCompany alone_undecided → ⊥ }
+{}

@@ -1,0 +1,76 @@
+//! What a worker is given, what it promises, and what it gives back.
+ghost use Rattle.std.specs.Prelude.{◌≡◌, ◌≤◌, [], false};
+ghost use Rattle.mb_mailbox.specs.Producers.{is_over};
+
+use crate::consumer::Consumer;
+use crate::producer::Producer;
+use std::alloc::Allocator;
+use std::snapshot::Snapshot;
+use std::thread::Promise;
+
+/// The lanes from `from` on and below `end`, and how many accesses a poll of one of them makes at most.
+#[derive(Clone, Copy)]
+pub(crate) struct Lanes {
+    pub(crate) from: u32,
+    pub(crate) end: u32,
+    pub(crate) budget: u64,
+    pub(crate) ghost ordered: { from ≤ end },
+    pub(crate) ghost few: { end ≤ 16 },
+}
+
+/// A producer that has put nothing and has not ended its lane, and the list that it is to put.
+#[derive(Drop)]
+pub(crate) struct PutJob<A: Allocator + Drop> {
+    pub(crate) producer: Producer<A>,
+    pub(crate) list: Vec<u64, A>,
+    pub(crate) ghost fresh: { producer.items ≡ [] },
+    pub(crate) ghost begun: { is_over producer ≡ false },
+}
+
+/// A producer that has ended its lane, how many items of its list found no cell, and whether it was stopped.
+#[derive(Drop)]
+pub(crate) struct PutDone<A: Allocator + Drop> {
+    pub(crate) producer: Producer<A>,
+    pub(crate) full: u64,
+    pub(crate) stopped: bool,
+}
+
+/// What a producer's thread promises, by its job.
+#[derive(Drop)]
+pub(crate) struct Puts<A: Allocator + Drop> {
+    pub(crate) job: Snapshot<PutJob<A>>,
+}
+
+impl<A: Allocator + Drop> Promise<PutDone<A>> for Puts<A> {
+    ghost use Rattle.mb_mailbox.specs.Jobs.{IsPutEnd};
+
+    ghost kept_by = { λ p d. IsPutEnd p.job.value d };
+}
+
+/// A consumer and its source of random words.
+#[derive(Drop)]
+pub(crate) struct PollJob<R: Drop, A: Allocator + Drop> {
+    pub(crate) consumer: Consumer<A>,
+    pub(crate) rng: R,
+}
+
+/// A consumer whose worker is done, and whether it was stopped.
+#[derive(Drop)]
+pub(crate) struct PollDone<A: Allocator + Drop> {
+    pub(crate) consumer: Consumer<A>,
+    pub(crate) stopped: bool,
+}
+
+/// What a consumer's thread promises, by the consumer and the lanes.
+#[derive(Drop)]
+pub(crate) struct Polls<A: Allocator + Drop> {
+    pub(crate) consumer: Snapshot<Consumer<A>>,
+    pub(crate) from: u32,
+    pub(crate) end: u32,
+}
+
+impl<A: Allocator + Drop> Promise<PollDone<A>> for Polls<A> {
+    ghost use Rattle.mb_mailbox.specs.Jobs.{IsPollEnd};
+
+    ghost kept_by = { λ p d. IsPollEnd p.from p.end p.consumer.value d };
+}

@@ -1,0 +1,61 @@
+//! The ends of the workers, in the order of their jobs.
+ghost use Rattle.std.specs.Prelude.{◌≡◌, ◌≤◌, [], vec_capacity, vec_len};
+ghost use Rattle.std.specs.List.{AllZip};
+ghost use Rattle.mb_mailbox.specs.Begun.{PollKeeps, PutKeeps};
+
+use super::begun::{PollBegun, PutBegun};
+use super::jobs::{PollDone, PutDone};
+use std::alloc::Allocator;
+use std::thread::Threads;
+
+/// The end of a producer's worker, whose thread is joined where it has one.
+fn put_end<W: Threads, A: Allocator + Drop>(rt: &W, one: PutBegun<A>) -> PutDone<A>
+    ensures { PutKeeps one result }
+{
+    match one {
+        PutBegun::Apart(handle) => handle.join(rt),
+        PutBegun::Here(end) => end,
+    }
+}
+
+/// Joins the producers' threads. `done` has room for all.
+pub(super) fn join_puts<W: Threads, A: Allocator + Drop>(
+    rt: &W,
+    begun: Vec<PutBegun<A>, A>,
+    mut done: Vec<PutDone<A>, A>,
+) -> Vec<PutDone<A>, A>
+    requires none { done.items ≡ [] }
+    requires room { vec_len begun ≤ vec_capacity done }
+    ensures { AllZip PutKeeps begun.items result.items }
+{
+    for one in begun {
+        done.push_reserved(put_end(rt, one));
+    }
+    done
+}
+
+/// The end of a consumer's worker, whose thread is joined where it has one.
+fn poll_end<W: Threads, A: Allocator + Drop>(rt: &W, one: PollBegun<A>) -> PollDone<A>
+    ensures { PollKeeps one result }
+{
+    match one {
+        PollBegun::Apart(handle) => handle.join(rt),
+        PollBegun::Here(end) => end,
+    }
+}
+
+/// Joins the consumers' threads. `done` has room for all.
+pub(super) fn join_polls<W: Threads, A: Allocator + Drop>(
+    rt: &W,
+    begun: Vec<PollBegun<A>, A>,
+    mut done: Vec<PollDone<A>, A>,
+) -> Vec<PollDone<A>, A>
+    requires none { done.items ≡ [] }
+    requires room { vec_len begun ≤ vec_capacity done }
+    ensures { AllZip PollKeeps begun.items result.items }
+{
+    for one in begun {
+        done.push_reserved(poll_end(rt, one));
+    }
+    done
+}

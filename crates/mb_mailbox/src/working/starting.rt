@@ -1,0 +1,131 @@
+//! One thread for each worker.
+ghost use Rattle.std.specs.Prelude.{◌≡◌, ◌≤◌, [], vec_capacity, vec_len};
+ghost use Rattle.std.specs.List.{All, AllZip};
+ghost use Rattle.mb_mailbox.specs.Consumers.{IsConsumerOf};
+ghost use Rattle.mb_mailbox.specs.Jobs.{IsPollEnd, IsPutEnd};
+ghost use Rattle.mb_mailbox.specs.Begun.{PollPromises, PutPromises};
+ghost use Rattle.mb_mailbox.specs.Producers.{IsProducerOf};
+
+use super::begun::{PollBegun, PutBegun};
+use super::jobs::{Lanes, PollDone, PollJob, Polls, PutDone, PutJob, Puts};
+use super::workers::{poll_lanes, put_list};
+use crate::gate::Gate;
+use crate::mailbox::Mailbox;
+use rand_core::Rng;
+use std::alloc::Allocator;
+use std::snapshot::Snapshot;
+use std::sync::atomic::{AtomicBool, Ordering};
+use std::thread::Scope;
+
+/// Starts a producer's thread. Where none can be made, it tells all workers to stop, and ends this one here.
+fn start_put<'s, E: 's, A: Allocator + Drop + Send + Sync + 's, G: Gate + 's>(
+    scope: &Scope<'s, E>,
+    mailbox: &'s Mailbox<A>,
+    job: PutJob<A>,
+    gate: &'s G,
+    going: &'s AtomicBool,
+) -> PutBegun<A>
+    requires of { IsProducerOf mailbox.now job.producer }
+    ensures { PutPromises job result }
+{
+    let promise = Puts {
+        job: Snapshot::of(&job),
+    };
+    let body = move || -> PutDone<A>
+        requires { IsProducerOf mailbox.now job.producer }
+        ensures { IsPutEnd job result }
+    { put_list(mailbox, job, gate, going) };
+    match scope.spawn_with(promise, body) {
+        Ok(handle) => PutBegun::Apart(handle),
+        Err(refused) => {
+            going.store(false, Ordering::SeqCst);
+            PutBegun::Here((refused.value)())
+        }
+    }
+}
+
+/// Starts a thread for each job, in order. `begun` has room for all.
+pub(super) fn start_puts<'s, E: 's, A: Allocator + Drop + Send + Sync + 's, G: Gate + 's>(
+    scope: &Scope<'s, E>,
+    mailbox: &'s Mailbox<A>,
+    jobs: Vec<PutJob<A>, A>,
+    gate: &'s G,
+    going: &'s AtomicBool,
+    mut begun: Vec<PutBegun<A>, A>,
+) -> Vec<PutBegun<A>, A>
+    requires of { All (λ j. IsProducerOf mailbox.now j.producer) jobs.items }
+    requires none { begun.items ≡ [] }
+    requires room { vec_len jobs ≤ vec_capacity begun }
+    ensures { AllZip PutPromises jobs.items result.items }
+{
+    for job in jobs {
+        begun.push_reserved(start_put(scope, mailbox, job, gate, going));
+    }
+    begun
+}
+
+/// Starts a consumer's thread. Where none can be made, it tells all workers to stop, and ends this one here.
+fn start_poll<
+    's,
+    E: 's,
+    A: Allocator + Drop + Send + Sync + 's,
+    R: Rng + Send + Drop + 's,
+    G: Gate + 's,
+>(
+    scope: &Scope<'s, E>,
+    mailbox: &'s Mailbox<A>,
+    job: PollJob<R, A>,
+    lanes: Lanes,
+    gate: &'s G,
+    going: &'s AtomicBool,
+) -> PollBegun<A>
+    requires of { IsConsumerOf mailbox.now job.consumer }
+    requires few { lanes.end ≤ mailbox.now.cells.size.lanes }
+    ensures { PollPromises lanes.from lanes.end job.consumer result }
+{
+    let promise = Polls {
+        consumer: Snapshot::of(&job.consumer),
+        from: lanes.from,
+        end: lanes.end,
+    };
+    let body = move || -> PollDone<A>
+        requires of { IsConsumerOf mailbox.now job.consumer }
+        requires few { lanes.end ≤ mailbox.now.cells.size.lanes }
+        ensures { IsPollEnd lanes.from lanes.end job.consumer result }
+    { poll_lanes(mailbox, job, lanes, gate, going) };
+    match scope.spawn_with(promise, body) {
+        Ok(handle) => PollBegun::Apart(handle),
+        Err(refused) => {
+            going.store(false, Ordering::SeqCst);
+            PollBegun::Here((refused.value)())
+        }
+    }
+}
+
+/// Starts a thread for each job, in order. `begun` has room for all.
+pub(super) fn start_polls<
+    's,
+    E: 's,
+    A: Allocator + Drop + Send + Sync + 's,
+    R: Rng + Send + Drop + 's,
+    G: Gate + 's,
+>(
+    scope: &Scope<'s, E>,
+    mailbox: &'s Mailbox<A>,
+    jobs: Vec<PollJob<R, A>, A>,
+    lanes: Lanes,
+    gate: &'s G,
+    going: &'s AtomicBool,
+    mut begun: Vec<PollBegun<A>, A>,
+) -> Vec<PollBegun<A>, A>
+    requires of { All (λ j. IsConsumerOf mailbox.now j.consumer) jobs.items }
+    requires few { lanes.end ≤ mailbox.now.cells.size.lanes }
+    requires none { begun.items ≡ [] }
+    requires room { vec_len jobs ≤ vec_capacity begun }
+    ensures { AllZip (λ j b. PollPromises lanes.from lanes.end j.consumer b) jobs.items result.items }
+{
+    for job in jobs {
+        begun.push_reserved(start_poll(scope, mailbox, job, lanes, gate, going));
+    }
+    begun
+}

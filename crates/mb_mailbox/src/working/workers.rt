@@ -1,0 +1,197 @@
+//! The bodies of the workers.
+ghost use Rattle.std.specs.Prelude.{ℕ, ◌≡◌, ◌≢◌, ◌<◌, ◌≤◌, [], IfNone, IfSome, false, length, slice_index_or, slice_set, take, true};
+ghost use Rattle.mb_mailbox.specs.Consumers.{IsConsumerOf};
+ghost use Rattle.mb_mailbox.specs.Jobs.{HasReadMarked, IsPollEnd, IsPutEnd, IsSameConsumer};
+ghost use Rattle.mb_mailbox.specs.Producers.{FoundNoCell, IsProducerOf, IsSameLane, is_over};
+
+use super::ending::ends_are_kept;
+use super::jobs::{Lanes, PollDone, PollJob, PutDone, PutJob};
+use crate::consumer::{Consumer, Poll};
+use crate::gate::{Gate, Who};
+use crate::mailbox::Mailbox;
+use crate::producer::{Producer, Put};
+use rand_core::Rng;
+use std::alloc::Allocator;
+use std::sync::atomic::{AtomicBool, Ordering};
+
+/// Puts items up to the first that is refused: how many were linked, and whether the producer was stopped.
+fn put_items<A: Allocator + Drop, B: Allocator + Drop, G: Gate>(
+    mailbox: &Mailbox<B>,
+    producer: &mut Producer<A>,
+    items: &[u64],
+    gate: &G,
+    going: &AtomicBool,
+) -> (usize, bool)
+    requires of { IsProducerOf mailbox.now producer.old }
+    requires fresh { producer.old.items ≡ [] }
+    requires begun { is_over producer.old ≡ false }
+    ensures linked { result.0 ≤ length items.now }
+    ensures items { producer.new.items ≡ take result.0 items.now }
+    ensures lane { IsSameLane producer.old producer.new }
+    ensures begun { is_over producer.new ≡ false }
+    ensures found { result.1 ≡ false → result.0 ≢ length items.now → FoundNoCell producer.new }
+{
+    let who = Who::Producer(producer.seat.lane());
+    for (i, item) in items.iter().enumerate() {
+        let call = i as u64 + 1;
+        if call == u64::MAX || !going.load(Ordering::SeqCst) || !gate.enter(who, call) {
+            return (i, true);
+        }
+        let put = producer.put(mailbox, *item);
+        gate.leave(who, call);
+        if put != Put::Linked {
+            return (i, false);
+        }
+    }
+    (items.len(), false)
+}
+
+/// Puts the list in order up to the first item that finds no cell, and ends the lane.
+pub(super) fn put_list<A: Allocator + Drop, B: Allocator + Drop, G: Gate>(
+    mailbox: &Mailbox<B>,
+    job: PutJob<A>,
+    gate: &G,
+    going: &AtomicBool,
+) -> PutDone<A>
+    requires of { IsProducerOf mailbox.now job.producer }
+    ensures { IsPutEnd job result }
+{
+    let PutJob { mut producer, list } = job;
+    let (linked, stopped) = put_items(mailbox, &mut producer, &list, gate, going);
+    producer.finish(mailbox);
+    let full = if stopped {
+        0
+    } else {
+        (list.len() - linked) as u64
+    };
+    PutDone {
+        producer,
+        full,
+        stopped,
+    }
+}
+
+/// Ends the lane of a producer that puts nothing.
+pub(super) fn put_nothing<A: Allocator + Drop, B: Allocator + Drop>(
+    mailbox: &Mailbox<B>,
+    job: PutJob<A>,
+) -> PutDone<A>
+    requires of { IsProducerOf mailbox.now job.producer }
+    ensures { IsPutEnd job result }
+{
+    let PutJob {
+        producer: mut idle,
+        list: _,
+    } = job;
+    idle.finish(mailbox);
+    PutDone {
+        producer: idle,
+        full: 0,
+        stopped: true,
+    }
+}
+
+/// The next lane at `at` or behind it that has not ended, round and round from `from` to `end`.
+fn next_lane(ended: &[bool], at: u32, from: u32, end: u32) -> Option<u32>
+    requires at { at ≤ end }
+    requires few { end ≤ length ended.now }
+    ensures some { IfSome result (λ p. (p < end) × (slice_index_or ended.now p true ≡ false)) }
+    ensures none { IfNone result ((p : ℕ) → from ≤ p → p < end → slice_index_or ended.now p true ≡ true) }
+{
+    for lane in at.max(from)..end {
+        if !ended[lane as usize] {
+            return Some(lane);
+        }
+    }
+    for lane in from..at.min(end) {
+        if !ended[lane as usize] {
+            return Some(lane);
+        }
+    }
+    None
+}
+
+/// Marks a lane.
+fn mark(ended: &mut [bool; 16], lane: u32)
+    requires { lane < 16 }
+    ensures { ended.new ≡ slice_set ended.old lane true }
+{
+    ended[lane as usize] = true;
+}
+
+/// Polls a lane that has not ended, and marks it where it has.
+fn poll_lane<A: Allocator + Drop, B: Allocator + Drop, R: Rng>(
+    mailbox: &Mailbox<B>,
+    consumer: &mut Consumer<A>,
+    lane: u32,
+    budget: u64,
+    rng: &mut R,
+    ended: &mut [bool; 16],
+)
+    requires of { IsConsumerOf mailbox.now consumer.old }
+    requires few { (lane < mailbox.now.cells.size.lanes) × (lane < 16) }
+    requires unmarked { slice_index_or ended.old lane true ≡ false }
+    requires read { HasReadMarked ended.old consumer.old }
+    ensures read { HasReadMarked ended.new consumer.new }
+    ensures same { IsSameConsumer consumer.old consumer.new }
+    ensures of { IsConsumerOf mailbox.now consumer.new }
+{
+    ends_are_kept();
+    let poll = consumer.poll(mailbox, lane as u64, budget, rng);
+    consumer.keeps_its_parts();
+    if let Poll::Ended = poll {
+        mark(ended, lane);
+    }
+}
+
+/// Polls the lanes round and round, each until it has ended.
+pub(super) fn poll_lanes<A: Allocator + Drop, B: Allocator + Drop, R: Rng + Drop, G: Gate>(
+    mailbox: &Mailbox<B>,
+    job: PollJob<R, A>,
+    lanes: Lanes,
+    gate: &G,
+    going: &AtomicBool,
+) -> PollDone<A>
+    requires of { IsConsumerOf mailbox.now job.consumer }
+    requires few { lanes.end ≤ mailbox.now.cells.size.lanes }
+    ensures { IsPollEnd lanes.from lanes.end job.consumer result }
+{
+    let Lanes { from, end, budget } = lanes;
+    let PollJob {
+        mut consumer,
+        mut rng,
+    } = job;
+    let who = Who::Consumer(consumer.seat.consumer());
+    let mut ended = [false; 16];
+    let mut at = from;
+    for call in 1..u64::MAX {
+        let Some(lane) = next_lane(&ended, at, from, end) else {
+            return PollDone {
+                consumer,
+                stopped: false,
+            };
+        };
+        if !going.load(Ordering::SeqCst) || !gate.enter(who, call) {
+            break;
+        }
+        poll_lane(mailbox, &mut consumer, lane, budget, &mut rng, &mut ended);
+        gate.leave(who, call);
+        at = lane + 1;
+    }
+    PollDone {
+        consumer,
+        stopped: true,
+    }
+}
+
+/// A consumer that polls nothing.
+pub(super) fn poll_nothing<A: Allocator + Drop, R: Drop>(job: PollJob<R, A>) -> PollDone<A>
+    ensures consumer { result.consumer ≡ job.consumer }
+    ensures stopped { result.stopped ≡ true }
+{
+    let PollJob { consumer, rng: _ } = job;
+    PollDone {
+        consumer,
+        stopped: true,
+    }
+}
