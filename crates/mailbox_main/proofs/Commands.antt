@@ -1,14 +1,14 @@
 -- A command that stands alone on the command line.
-use Rattle.std.proofs.Common.{◌≡◌, List, [], ◌∷◌, true, Some, option_map, refl, sym, ap, ap₂, ◌∙◌, arith, Result, Ok, Err}
+use Rattle.std.proofs.Common.{◌≡◌, Bool, false, List, [], ◌∷◌, true, Option, Some, None, option_map, refl, sym, ap, ap₂, ◌∙◌, arith, Result, Ok, Err}
 use Rattle.std.proofs.lemmas.Grind.{common_steps}
-use Rattle.std.specs.Prelude.{IfErr, IsErrAnd}
+use Rattle.std.specs.Prelude.{IfErr, IsErrAnd, IsSome}
 use Rattle.clap.specs.Words.{App, Text, HasMatchesOf, is_simple, is_simple_and_free, kind_of, subcommand_name_of, subcommand_of, subcommand_rows_of, takes}
 use Rattle.clap.specs.declared.parser.matches.ArgMatches.{ArgMatches}
 use Rattle.clap.specs.declared.error.Error.{Error}
 use Rattle.clap.specs.declared.error.ErrorKind.TheVariants.{OutOfMemory}
 use Rattle.clap.proofs.OnLiterals.{clap_on_literals}
 use Rattle.mailbox_main.specs.declared.command.Choice.{Choice}
-use Rattle.mailbox_main.specs.declared.command.Choice.TheVariants.{Ratify, Replay}
+use Rattle.mailbox_main.specs.declared.command.Choice.TheVariants.{Ratify, Replay, Run}
 use Rattle.mailbox_main.specs.CommandLine.{program, command_in, choice_name}
 
 -- clap's rules say which words the program takes
@@ -21,12 +21,14 @@ pub alone_taken : (name : Text) (choice : Choice) → takes program (name ∷ ch
 unfolding clap_on_literals
 alone_taken name Ratify = refl
 alone_taken name Replay = refl
+alone_taken name (Run options) = refl
 
 -- and finds it
 alone_found : (name : Text) (choice : Choice) → command_in (name ∷ choice_name choice ∷ []) ≡ Some (choice_name choice)
 unfolding clap_on_literals
 alone_found name Ratify = refl
 alone_found name Replay = refl
+alone_found name (Run options) = refl
 
 -- the name of what was entered
 rows_name : (m : ArgMatches) → option_map (λ (found : _). found.0) (subcommand_rows_of m) ≡ subcommand_name_of m
@@ -44,3 +46,26 @@ pub kind_kept : {X : Type 0} (r : Result X Error) (e : Error) → IsErrAnd r (λ
     → IfErr r (λ f. kind_of f ≡ OutOfMemory)
 kind_kept (Ok x) e same kind = tt
 kind_kept (Err f) e same kind = ap kind_of same ∙ kind
+
+-- nothing is no choice
+pub not_some : {X : Type 0} (r : Option X) → r ≡ None → IsSome r → ⊥
+not_some {X} (Some x) e is = let both : ◌≡◌ {A = Option X} (Some x) None = e in absurd (cc)
+not_some None e is = let both : ◌≡◌ {A = Bool} false true = is in absurd (cc)
+
+-- what the matches have is what clap finds in the words
+pub found_in : (app : App) (words : List Text) (m : ArgMatches) → app ≡ program → HasMatchesOf app words m
+    → subcommand_rows_of m ≡ subcommand_of program words
+found_in app words m is_program matches =
+    (matches (ap is_simple is_program)).1 ∙ ap (λ (a : App). subcommand_of a words) is_program
+
+-- so they name the command that clap finds
+pub named_in : (app : App) (words : List Text) (m : ArgMatches) (choice : Choice) → app ≡ program → HasMatchesOf app words m
+    → command_in words ≡ Some (choice_name choice) → subcommand_name_of m ≡ Some (choice_name choice)
+named_in app words m choice is_program matches named =
+    sym (rows_name m) ∙ ap (option_map (λ found. found.0)) (found_in app words m is_program matches) ∙ named
+
+-- and no other
+pub told_in : (app : App) (words : List Text) (m : ArgMatches) (choice : Choice) → app ≡ program → HasMatchesOf app words m
+    → subcommand_name_of m ≡ Some (choice_name choice) → command_in words ≡ Some (choice_name choice)
+told_in app words m choice is_program matches named =
+    sym (ap (option_map (λ found. found.0)) (found_in app words m is_program matches)) ∙ rows_name m ∙ named

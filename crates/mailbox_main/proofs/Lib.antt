@@ -1,4 +1,9 @@
 pub mod Commands
 pub mod Exchanges
 pub mod LongScripts
+pub mod NumbersGiven
+pub mod RunEnds
+pub mod RunItems
+pub mod RunReports
+pub mod RunSetups
 pub mod ScriptSpelling

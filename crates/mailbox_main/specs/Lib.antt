@@ -1,5 +1,8 @@
 pub mod Answer
 pub mod CommandLine
+pub mod RunOptions
+pub mod Running
+pub mod Source
 pub mod Outcome
 pub mod RatifyScript
 pub mod Refusal

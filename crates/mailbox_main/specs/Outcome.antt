@@ -7,8 +7,9 @@ use Rattle.mb_world.specs.declared.setup.SetupFault.{SetupFault}
 use Rattle.mb_world.specs.declared.setup.SetupFault.TheVariants.{BadProducers, BadConsumers, BadCells, BadRounds}
 use Rattle.mb_script.specs.declared.fault.Fault.TheVariants as replay
 use Rattle.mailbox_main.specs.declared.fault.Failed.{Failed}
-use Rattle.mailbox_main.specs.declared.fault.Failed.TheVariants.{Ratify, Replay}
+use Rattle.mailbox_main.specs.declared.fault.Failed.TheVariants.{Ratify, Replay, Run}
 use Rattle.mailbox_main.specs.declared.fault.RatifyFault.TheVariants as ratify
+use Rattle.mailbox_main.specs.declared.fault.RunFault.TheVariants as run
 use Rattle.mailbox_main.specs.declared.outcome.Ending.{Ending}
 use Rattle.mailbox_main.specs.declared.outcome.Ending.TheVariants as ending
 
@@ -44,6 +45,10 @@ fault_line (Replay replay.TooManyEvents) = codes "fault 9 TooManyEvents\n"
 fault_line (Replay replay.NoMemory) = codes "fault 10 NoMemory\n"
 fault_line (Replay replay.ReadFault) = codes "fault 11 ReadFault\n"
 fault_line (Replay replay.WriteFault) = codes "fault 12 WriteFault\n"
+fault_line (Run (run.BadSetup why)) = codes "fault 1 BadSetup " ++ setup_fault_text why ++ codes "\n"
+fault_line (Run run.NoMemory) = codes "fault 2 NoMemory\n"
+fault_line (Run run.NoThread) = codes "fault 3 NoThread\n"
+fault_line (Run run.WriteFault) = codes "fault 4 WriteFault\n"
 
 -- the exit status of a fault
 abbrev pub fault_status : Failed → ℕ
@@ -55,6 +60,8 @@ fault_status (Replay replay.NoMemory) = 3
 fault_status (Replay replay.ReadFault) = 3
 fault_status (Replay replay.WriteFault) = 3
 fault_status (Replay fault) = 2
+fault_status (Run (run.BadSetup why)) = 2
+fault_status (Run fault) = 3
 
 -- the exit status where clap answered no choice, and its text was printed or not: help that was asked for and could not
 -- be printed is a failed write

@@ -1,10 +1,14 @@
 //! The command line.
 ghost use Rattle.std.specs.Prelude.{◌≡◌, true, [], ◌∷◌, List, ℕ, Some, IfOk, IfErr, IfSome, OnOk, map, option_map};
-ghost use Rattle.clap.specs.Words.{app_of, fault_of, kind_of, takes};
-ghost use Rattle.mailbox_main.specs.CommandLine.{program, command_in, choice_name};
+ghost use Rattle.std.specs.Prelude.{IsSome};
+ghost use Rattle.clap.specs.Words.{app_of, fault_of, kind_of, subcommand_name_of, subcommand_rows_of, takes};
+ghost use Rattle.mailbox_main.specs.CommandLine.{program, program_alone, command_in, choice_name};
+ghost use Rattle.mailbox_main.specs.RunOptions.{HasBudget, HasOptions, HasToldOptions};
 
+use crate::help;
+use crate::options::{Options, command_named, options_of, run_command};
 use clap::error::ErrorKind;
-use clap::{Command, Error};
+use clap::{ArgMatches, Command, Error};
 use std::alloc::{AllocError, Global};
 use std::convert::AsStr;
 
@@ -15,60 +19,45 @@ pub enum Choice {
     Ratify,
     /// Replay a script from standard input: its transcript and its report to standard output.
     Replay,
+    /// Let producers and consumers work in threads, as these options ask: the report to standard output.
+    Run(Options),
 }
 
-const RATIFY_HELP: &str = "\
-A script has three lines of words, with one space between each two:
-  ratify <table> <m>      the quorum table, unary or bits, for m values, 1 to 16
-  inputs <i0> <i1> ..     the input of each process, each below m
-  turns <p> <p> ..        the process of each turn, in the order of time
+/// The program without its commands, of which one has to be named.
+fn program_alone<'a>(alloc: Global) -> Result<Command<'a>, AllocError>
+    ensures { IfOk result (λ c. app_of c ≡ program_alone) }
+{
+    Ok(
+        Command::new(alloc, "mailbox")
+            .bin_name("mailbox")?
+            .about("Replays single atomic steps, or lets threads work")
+            .after_help(help::PROGRAM)
+            .subcommand_required(true),
+    )
+}
 
-For example:
-  ratify unary 2
-  inputs 0 1
-  turns 0 0 0 0 1 1 1";
-
-const REPLAY_HELP: &str = "\
-A script is lines of words, with one space between each two. The first is
-  setup <producers> <consumers> <cells> <pairs> <table>
-with 1 to 16, 1 to 16, 0 to 256, 1 to 8, and unary or bits. Each line behind it is an event:
-  offer <lane> <item>               push <lane>               finish <lane>
-  step <consumer> <lane> <word>     where <word> is the random word of the step
-
-For example:
-  setup 1 1 1 1 bits
-  offer 0 7
-  push 0";
-
-/// The program in clap's words, of which one command has to be named.
+/// The program in clap's words.
 fn program<'a>(alloc: Global) -> Result<Command<'a>, AllocError>
     ensures { IfOk result (λ c. app_of c ≡ program) }
 {
-    let ratify = Command::new(alloc, "ratify")
-        .about(
-            "Runs one ratifier by a script from standard input, and prints each access and output",
-        )
-        .after_help(RATIFY_HELP);
-    let replay = Command::new(alloc, "replay")
-        .about(
-            "Replays a script from standard input, and prints each event's answer and the report",
-        )
-        .after_help(REPLAY_HELP);
-    Command::new(alloc, "mailbox_main")
-        .about("Runs scripts of single atomic steps")
-        .subcommand_required(true)
-        .subcommand(ratify)?
-        .subcommand(replay)
+    program_alone(alloc)?
+        .subcommand(command_named(alloc, "ratify", help::RATIFY_ABOUT, help::RATIFY))?
+        .subcommand(command_named(alloc, "replay", help::REPLAY_ABOUT, help::REPLAY))?
+        .subcommand(run_command(alloc)?)
 }
 
-/// The choice of the command's name.
-fn choice_named(name: Option<&str>) -> Option<Choice>
-    ensures named { IfSome result (λ choice. option_map (λ n. n.now) name.entry ≡ Some (choice_name choice)) }
-    ensures each { (choice : Choice) → option_map (λ n. n.now) name.entry ≡ Some (choice_name choice) → result ≡ Some choice }
+/// The choice of the command that clap has found.
+fn choice_of(matches: &ArgMatches) -> Option<Choice>
+    ensures named { IfSome result (λ choice. subcommand_name_of matches.now ≡ Some (choice_name choice)) }
+    ensures options { IfSome result (HasOptions (subcommand_rows_of matches.now)) }
+    ensures budget { IfSome result HasBudget }
+    ensures each { (choice : Choice) → subcommand_name_of matches.now ≡ Some (choice_name choice) → IsSome result }
 {
+    let (name, given) = matches.subcommand()?;
     match name {
-        Some("ratify") => Some(Choice::Ratify),
-        Some("replay") => Some(Choice::Replay),
+        "ratify" => Some(Choice::Ratify),
+        "replay" => Some(Choice::Replay),
+        "run" => Some(Choice::Run(options_of(given))),
         _ => None,
     }
 }
@@ -81,6 +70,10 @@ pub fn command_of<'a, S: AsStr>(alloc: Global, words: &'a [S]) -> Result<Choice,
     ensures choice { IfOk result (λ choice. command_in (map S.text words.entry.now) ≡ Some (choice_name choice)) }
     ensures taken { OnOk result (fault_of program (map S.text words.entry.now) ≡ []) }
 
+    // The options of `run` are those that the words give, and the budget lies in its range.
+    ensures options { IfOk result (HasToldOptions (map S.text words.entry.now)) }
+    ensures budget { IfOk result HasBudget }
+
     // Words that clap takes and that name a command are refused only for want of memory, and so is a command alone.
     ensures refused { (choice : Choice) → takes program (map S.text words.entry.now) ≡ true
         → command_in (map S.text words.entry.now) ≡ Some (choice_name choice)
@@ -90,7 +83,7 @@ pub fn command_of<'a, S: AsStr>(alloc: Global, words: &'a [S]) -> Result<Choice,
 {
     let mut command = program(alloc)?;
     let matches = command.try_get_matches_from_mut(words)?;
-    let Some(choice) = choice_named(matches.subcommand_name()) else {
+    let Some(choice) = choice_of(&matches) else {
         return Err(command.error(ErrorKind::InvalidSubcommand, "no such command")?);
     };
     Ok(choice)

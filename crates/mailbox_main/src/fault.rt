@@ -1,9 +1,11 @@
 //! What can go wrong.
 ghost use Rattle.std.specs.Prelude.{◌≡◌};
 ghost use Rattle.mailbox_main.specs.declared.fault.RatifyFault.TheVariants.{NoMemory, WriteFault};
+ghost use Rattle.mailbox_main.specs.declared.fault.RunFault.TheVariants as run;
 ghost use Rattle.mailbox_main.specs.Refusal.{fault_from, fault_at};
 
 use mb_script::{Fault, ReadEnd, WriteFailed};
+use mb_world::SetupFault;
 use std::alloc::{AllocError, AllocFailed};
 
 /// Why `ratify_text` stopped.
@@ -80,6 +82,51 @@ impl From<WriteFailed> for RatifyFault {
     }
 }
 
+/// Why `run_threads` stopped.
+#[derive(Clone, Copy, Debug, PartialEq, Eq)]
+pub enum RunFault {
+    /// The options ask for a mailbox that there is not.
+    BadSetup(SetupFault),
+    /// A growth was refused.
+    NoMemory,
+    /// A thread could not be started.
+    NoThread,
+    /// A write answered an error, or took no byte.
+    WriteFault,
+}
+
+impl From<SetupFault> for RunFault {
+    ghost from_gives = { λ why e. e ≡ run.BadSetup why };
+
+    fn from(why: SetupFault) -> RunFault {
+        RunFault::BadSetup(why)
+    }
+}
+
+impl From<AllocError> for RunFault {
+    ghost from_gives = { λ _ e. e ≡ run.NoMemory };
+
+    fn from(_e: AllocError) -> RunFault {
+        RunFault::NoMemory
+    }
+}
+
+impl<T: Drop> From<AllocFailed<T>> for RunFault {
+    ghost from_gives = { λ _ e. e ≡ run.NoMemory };
+
+    fn from(_e: AllocFailed<T>) -> RunFault {
+        RunFault::NoMemory
+    }
+}
+
+impl From<WriteFailed> for RunFault {
+    ghost from_gives = { λ _ e. e ≡ run.WriteFault };
+
+    fn from(_e: WriteFailed) -> RunFault {
+        RunFault::WriteFault
+    }
+}
+
 /// Want of memory: a growth was refused.
 pub type NoMemory = AllocError;
 
@@ -90,4 +137,6 @@ pub enum Failed {
     Ratify(RatifyFault),
     /// `replay`, by this fault.
     Replay(Fault),
+    /// `run`, by this fault.
+    Run(RunFault),
 }

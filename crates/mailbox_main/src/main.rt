@@ -7,11 +7,15 @@ use std::process::ExitCode;
 pub mod command;
 pub mod examples;
 pub mod fault;
+mod help;
+pub mod options;
 pub mod outcome;
 pub mod program;
 pub mod ratify;
 pub mod reading;
+pub mod run;
 pub mod script;
+pub mod source;
 #[cfg(test)]
 mod tests;
 pub mod trace_text;

@@ -1,9 +1,9 @@
 //! How the program ends: the line of a fault, and the exit statuses.
 ghost use Rattle.std.specs.Prelude.{◌≡◌, ◌++◌, IfOk, OnOk, string_bytes};
-ghost use Rattle.mailbox_main.specs.declared.fault.Failed.TheVariants.{Ratify, Replay};
+ghost use Rattle.mailbox_main.specs.declared.fault.Failed.TheVariants.{Ratify, Replay, Run};
 ghost use Rattle.mailbox_main.specs.Outcome.{end_status, fault_line, fault_status, refusal_status, setup_fault_text};
 
-use crate::fault::{Failed, NoMemory, RatifyFault};
+use crate::fault::{Failed, NoMemory, RatifyFault, RunFault};
 use clap::error::ErrorKind;
 use mb_script::Fault;
 use mb_world::SetupFault;
@@ -12,10 +12,10 @@ use std::alloc::Allocator;
 /// The status where all went well, and after help that was asked for.
 pub const DONE: u8 = 0;
 
-/// The status after a fault of the script, or a command line that is refused.
+/// The status after a fault of the script or of the options, or a command line that is refused.
 pub const REFUSED: u8 = 2;
 
-/// The status after want of memory, or a failed read or write.
+/// The status after want of memory, a thread that could not be started, or a failed read or write.
 pub const FAILED: u8 = 3;
 
 /// How the program comes to its end.
@@ -89,6 +89,23 @@ fn replay_fault_text<A: Allocator>(alloc: A, fault: Fault) -> Result<String<A>, 
     Ok(text)
 }
 
+fn run_fault_text<A: Allocator>(alloc: A, fault: RunFault) -> Result<String<A>, NoMemory>
+    ensures { IfOk result (λ text. string_bytes text ≡ fault_line (Run fault)) }
+{
+    let mut text = String::new(alloc);
+    match fault {
+        RunFault::BadSetup(why) => {
+            text.push_str("fault 1 BadSetup ")?;
+            push_setup_fault(&mut text, why)?;
+            text.push_str("\n")?;
+        }
+        RunFault::NoMemory => text.push_str("fault 2 NoMemory\n")?,
+        RunFault::NoThread => text.push_str("fault 3 NoThread\n")?,
+        RunFault::WriteFault => text.push_str("fault 4 WriteFault\n")?,
+    }
+    Ok(text)
+}
+
 /// The line of a fault, with its LF: `fault`, the fault's number and name, and what it is about, if anything: the number
 /// of a line or a place, and behind the line of a setup the number and name of the setup's fault.
 pub fn fault_text<A: Allocator>(alloc: A, failed: &Failed) -> Result<String<A>, NoMemory>
@@ -97,10 +114,12 @@ pub fn fault_text<A: Allocator>(alloc: A, failed: &Failed) -> Result<String<A>, 
     match *failed {
         Failed::Ratify(fault) => ratify_fault_text(alloc, fault),
         Failed::Replay(fault) => replay_fault_text(alloc, fault),
+        Failed::Run(fault) => run_fault_text(alloc, fault),
     }
 }
 
-/// The exit status of a fault: `FAILED` for want of memory and for a failed read or write, else `REFUSED`.
+/// The exit status of a fault: `FAILED` for want of memory, for a thread that could not be started and for a failed read
+/// or write, else `REFUSED`.
 pub fn status_of(failed: &Failed) -> u8
     ensures { result ≡ fault_status failed.now }
 {
@@ -108,6 +127,7 @@ pub fn status_of(failed: &Failed) -> u8
         Failed::Ratify(RatifyFault::NoMemory | RatifyFault::ReadFault | RatifyFault::WriteFault) =>
             FAILED,
         Failed::Replay(Fault::NoMemory | Fault::ReadFault | Fault::WriteFault) => FAILED,
+        Failed::Run(RunFault::NoMemory | RunFault::NoThread | RunFault::WriteFault) => FAILED,
         _ => REFUSED,
     }
 }
@@ -124,8 +144,8 @@ fn status_of_refusal(kind: ErrorKind, printed: bool) -> u8
 }
 
 /// The exit status of the program: `DONE` where the command did what was asked, and after help that was asked for and
-/// printed; `FAILED` for help that could not be printed, for want of memory, and for a failed read or write; else
-/// `REFUSED`.
+/// printed; `FAILED` for help that could not be printed, for want of memory, for a thread that could not be started, and
+/// for a failed read or write; else `REFUSED`.
 pub fn status_of_ending(ending: &Ending) -> u8
     ensures { result ≡ end_status ending.now }
 {

@@ -1,19 +1,19 @@
-//! The command `ratify` on worked scripts, over devices that fail, and with refused memory; how the program ends.
+//! The command `ratify` on worked scripts, over devices that fail, and with refused memory.
 
+mod command_line;
 mod devices;
 mod replay;
 mod replays;
+mod run;
 
-use crate::command::{Choice, command_of};
 use crate::fault::{Failed, RatifyFault};
-use crate::outcome::{Ending, fault_text, status_of, status_of_ending};
+use crate::outcome::{fault_text, status_of};
 use crate::ratify::ratify_text;
 use crate::reading::read_script;
-use clap::error::ErrorKind;
 use devices::{Letters, NarrowWriter, SlowReader};
 use linked_list_allocator::LocalHeap;
 use mb_quorum::TableName;
-use mb_script::{Counting, Fault};
+use mb_script::Counting;
 use std::test::Fail;
 
 const LATE_INPUT: &str = "ratify unary 2\ninputs 0 1\nturns 0 0 0 0 1 1 1\n";
@@ -281,70 +281,4 @@ fn growths_are_refused(rt: HostRuntime) -> Result<(), Fail> {
         assert_eq!(rt; writer.device.len(), 0, "nothing is written");
     }
     Err(Fail::from("no size served"))
-}
-
-#[test]
-fn the_command_line_is_read(rt: HostRuntime) -> Result<(), Fail> {
-    let ratify = ["mailbox", "ratify"];
-    assert!(rt;
-        matches!(
-            command_of(rt.alloc(), ratify.as_slice()),
-            Ok(Choice::Ratify)
-        )
-    );
-    let replay = ["mailbox", "replay"];
-    assert!(rt;
-        matches!(
-            command_of(rt.alloc(), replay.as_slice()),
-            Ok(Choice::Replay)
-        )
-    );
-    for (words, want, status) in [
-        (["mailbox", "--help"].as_slice(), ErrorKind::DisplayHelp, 0),
-        (["mailbox"].as_slice(), ErrorKind::MissingSubcommand, 2),
-        (
-            ["mailbox", "ratifier"].as_slice(),
-            ErrorKind::InvalidSubcommand,
-            2,
-        ),
-        (
-            ["mailbox", "--version"].as_slice(),
-            ErrorKind::UnknownArgument,
-            2,
-        ),
-        (
-            ["mailbox", "ratify", "now"].as_slice(),
-            ErrorKind::UnknownArgument,
-            2,
-        ),
-    ] {
-        let Err(error) = command_of(rt.alloc(), words) else {
-            return Err(Fail::from("a line that is refused"));
-        };
-        assert!(rt; error.kind() == want);
-        let kind = error.kind();
-        for (printed, want) in [
-            (true, status),
-            (false, if status == 0 { 3 } else { status }),
-        ] {
-            assert_eq!(rt; status_of_ending(&Ending::Refused { kind, printed }), want);
-        }
-    }
-    for (ending, status) in [
-        (Ending::Done, 0),
-        (Ending::Failed(Failed::Ratify(RatifyFault::BadLine(1))), 2),
-        (Ending::Failed(Failed::Replay(Fault::ReadFault)), 3),
-        (
-            Ending::Refused {
-                kind: ErrorKind::OutOfMemory,
-                printed: true,
-            },
-            3,
-        ),
-        (Ending::NoText, 2),
-        (Ending::NoWords, 3),
-    ] {
-        assert_eq!(rt; status_of_ending(&ending), status);
-    }
-    Ok(())
 }

@@ -18,28 +18,6 @@ fn replayed(rt: &HostRuntime, script: &str) -> (Result<(), Fault>, Vec<u8>) {
 }
 
 #[test]
-fn scripts_are_replayed(rt: HostRuntime) -> Result<(), Fail> {
-    for (script, want) in [
-        (TAKEN, TAKEN_TEXT),
-        (UNARY, UNARY_TEXT),
-        (FULL, FULL_TEXT),
-        (TWO_LANES, TWO_LANES_TEXT),
-        (MET, MET_TEXT),
-        (BEGUN, BEGUN_TEXT),
-        (LOST, LOST_TEXT),
-        (UNDECIDED, UNDECIDED_TEXT),
-        (ENDED, ENDED_TEXT),
-        (REFUSED_EVENTS, REFUSED_EVENTS_TEXT),
-        ("setup 1 1 0 1 bits", "lane 0 open put\nleft 0\ndiary 0 0\n"),
-    ] {
-        let (result, text) = replayed(&rt, script);
-        assert_eq!(rt; result, Ok(()), "{script}");
-        assert_eq!(rt; text.as_slice(), want.as_bytes(), "{script}");
-    }
-    Ok(())
-}
-
-#[test]
 fn the_first_fault_decides(rt: HostRuntime) -> Result<(), Fail> {
     for (script, want) in [
         ("", Fault::NoSetup),

@@ -1,0 +1,79 @@
+-- What the command `run` answers.
+use Rattle.std.specs.Prelude.{◌≡◌, ◌≢◌, ◌<◌, ◌≤◌, ◌↔◌, ◌+◌, ◌*◌, ◌++◌, ℕ, List, Option, Some, Result, Err, IfErr, OnOk, map, slice_get, true}
+use Rattle.std.specs.List.{range_with_len}
+use Rattle.std.specs.Io.KnownBytes.{Appends}
+use Rattle.mb_quorum.specs.declared.table.TableName.TheVariants.{Bits}
+use Rattle.mb_world.specs.declared.setup.SetupFault.{SetupFault}
+use Rattle.mb_world.specs.Headline.{IsHonest}
+use Rattle.mb_world.specs.Plan.{Histories, Plan}
+use Rattle.mb_world.specs.Report.{LaneView, ReportView}
+use Rattle.mb_world.specs.Reporting.{IsReportOf}
+use Rattle.mb_world.specs.Setups.{plan_of, setup_refusal}
+use Rattle.mb_world.specs.Sound.{AreSound}
+use Rattle.mb_script.specs.Vocabulary.{AppendsFront, Meter, one_more, report_text}
+use Rattle.mailbox_main.specs.declared.fault.RunFault.{RunFault}
+use Rattle.mailbox_main.specs.declared.fault.RunFault.TheVariants.{BadSetup, WriteFault}
+use Rattle.mailbox_main.specs.declared.options.Options.{Options}
+
+-- ---- the mailbox that the options ask for
+-- why there is none, if so: it would have a cell for each item
+abbrev pub setup_refused : Options → Option SetupFault
+setup_refused o = setup_refusal o.producers o.consumers (o.producers * o.items) o.pairs
+
+abbrev pub plan_asked : Options → Plan
+plan_asked o = plan_of o.producers o.consumers (o.producers * o.items) o.pairs Bits
+
+-- what a mailbox that there is has at most
+pub record AreFew (o : Options) : Type 0 where
+  pub producers : o.producers ≤ 16
+  pub consumers : o.consumers ≤ 16
+  pub items : o.items ≤ 256
+
+-- ---- the items
+-- what producer p puts, in order
+abbrev pub items_of : ℕ → ℕ → List ℕ
+items_of p count = map (λ i. 1000 * p + i) (range_with_len 0 count)
+
+-- what each of the producers puts
+abbrev pub item_lists : ℕ → ℕ → List (List ℕ)
+item_lists producers count = map (λ p. items_of p count) (range_with_len 0 producers)
+
+-- ---- the report
+-- lane p has ended, and begins as the items of producer p do
+pub record IsLaneOf (p count : ℕ) (l : LaneView) : Type 0 where
+  pub ended : l.ended ≡ true
+  pub rest : List ℕ
+  pub whole : l.put ++ rest ≡ items_of p count
+
+-- the report of a mailbox of these options in which all have worked
+pub record IsRunReport (o : Options) (r : ReportView) : Type 0 where
+  -- all accesses to the words of the claims, and all to those of the cells: they are lawful, and each consumer's
+  -- parts fit
+  pub histories : Histories
+  pub sound : AreSound (plan_asked o) histories
+  -- the report is theirs, and one assignment stands behind it
+  pub report : IsReportOf (plan_asked o) histories r
+  pub honest : IsHonest (plan_asked o) histories r
+  -- each producer has put its items, or a beginning of them, and nothing else
+  pub lanes : (p : ℕ) → p < o.producers
+      → (l : LaneView) × (slice_get r.lanes p ≡ Some l) × IsLaneOf p o.items l
+
+-- the text is that of such a report
+abbrev pub IsRunText : Options → List ℕ → Type 0
+IsRunText o text = (r : ReportView) × IsRunReport o r × (text ≡ report_text r)
+
+-- ---- one call, that found a writer and left it
+pub record IsRun {X W : Type 0} (o : Options) (sink : Meter W) (writer writer' : W)
+    (result : Result X RunFault) : Type 0 where
+  -- the text of such a report was written, and nothing else
+  pub answered : OnOk result ((text : List ℕ) × IsRunText o text
+      × Appends (sink.bytes writer) (sink.bytes writer') text)
+  -- the setup is refused exactly where there is none, for the first reason
+  pub refused : (why : SetupFault) → (result ≡ Err (BadSetup why)) ↔ (setup_refused o ≡ Some why)
+  -- a failed write comes exactly where the writer failed in this call, and it failed once
+  pub write_failed : result ≡ Err WriteFault → sink.failures writer' ≡ one_more (sink.failures writer)
+  pub write_worked : result ≢ Err WriteFault → sink.failures writer' ≡ sink.failures writer
+  -- after it a prefix of such a text was written, after any other fault nothing
+  pub front : result ≡ Err WriteFault →
+      (text : List ℕ) × IsRunText o text × AppendsFront (sink.bytes writer) (sink.bytes writer') text
+  pub untouched : IfErr result (λ e. e ≢ WriteFault → writer' ≡ writer)
