@@ -1,1 +1,2 @@
 pub mod Mirrored
+pub mod Zeros

@@ -4,6 +4,10 @@
 #[cfg(test)]
 mod answers;
 #[cfg(test)]
+mod audits;
+#[cfg(test)]
+mod beside;
+#[cfg(test)]
 mod cells;
 #[cfg(test)]
 mod claims;
@@ -16,13 +20,21 @@ mod entries;
 #[cfg(test)]
 mod events;
 #[cfg(test)]
+mod gates;
+#[cfg(test)]
 mod heaps;
+#[cfg(test)]
+mod mailboxes;
 #[cfg(test)]
 mod mirrored;
 #[cfg(test)]
 mod own_table;
 #[cfg(test)]
+mod polls;
+#[cfg(test)]
 mod ratifiers;
+#[cfg(test)]
+mod refused_mailboxes;
 #[cfg(test)]
 mod refused_memory;
 #[cfg(test)]
@@ -32,8 +44,18 @@ mod shared_cells;
 #[cfg(test)]
 mod shared_claims;
 #[cfg(test)]
+mod spoiled_words;
+#[cfg(test)]
 mod tables;
 #[cfg(test)]
 mod texts;
+#[cfg(test)]
+mod trial;
+#[cfg(test)]
+mod trials;
+#[cfg(test)]
+mod words;
+#[cfg(test)]
+mod workers;
 #[cfg(test)]
 mod worlds;

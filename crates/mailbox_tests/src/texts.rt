@@ -2,6 +2,7 @@
 
 use mb_claim::{BadLayout, PlayFault};
 use mb_deciding::Fault;
+use mb_mailbox::{GatherFault, HubFault, WorkFault};
 use mb_quorum::BadValues;
 use mb_shared_claims::AllGiven;
 use mb_world::SetupFault;
@@ -66,6 +67,31 @@ fn text_of_setups(rt: HostRuntime) -> Result<(), Fail> {
     assert_eq!(rt;
         text.as_str(),
         "the number of cells is out of range, the number of pairs is out of range"
+    );
+    Ok(())
+}
+
+#[test]
+fn text_of_mailboxes(rt: HostRuntime) -> Result<(), Fail> {
+    let text = format!(in rt.alloc(); "{}, {}", GatherFault::Missing(2, 1), GatherFault::NoMemory)?;
+    assert_eq!(rt;
+        text.as_str(),
+        "2 producers and 1 consumers were not taken in, memory was refused"
+    );
+    let text = format!(in rt.alloc(); "{}, {}", HubFault::AllGiven, HubFault::NoMemory)?;
+    assert_eq!(rt;
+        text.as_str(),
+        "all numbers of the mailbox were given, memory was refused"
+    );
+    let text = format!(in rt.alloc(); "{}, {}", WorkFault::AllGiven, WorkFault::BadBudget)?;
+    assert_eq!(rt;
+        text.as_str(),
+        "more numbers are asked for than the mailbox has left, the budget is 0"
+    );
+    let text = format!(in rt.alloc(); "{}, {}", WorkFault::NoMemory, WorkFault::NoThread)?;
+    assert_eq!(rt;
+        text.as_str(),
+        "memory was refused, a thread could not be started"
     );
     Ok(())
 }

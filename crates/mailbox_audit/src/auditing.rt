@@ -1,0 +1,152 @@
+//! The audit of a whole report.
+
+use crate::meeting::{all_said_of, diary_of};
+use mb_world::{LaneReport, Report};
+use std::alloc::Allocator;
+
+/// What in a report cannot be.
+#[derive(Clone, Copy, PartialEq, Eq, Debug)]
+pub enum Flaw {
+    /// The diaries are not one for each consumer and lane, in their order.
+    OtherDiary,
+    /// A diary has more notes than its lane has items, or as many and a claim that is under way.
+    TooManyNotes,
+    /// Two consumers took one item.
+    TwoTakers,
+    /// A consumer took a value that was not put there.
+    OtherItem,
+    /// A loser names itself, or one that did not compete, or another than the taker or than another loser.
+    OtherWinner,
+    /// A consumer that alone competed for an item is undecided.
+    UndecidedAlone,
+    /// The items left are not those that nobody took, in their order.
+    OtherLeft,
+}
+
+/// How many there are of each in a report.
+#[derive(Clone, Copy, PartialEq, Eq, Debug)]
+pub struct Tally {
+    /// Items put.
+    pub put: u64,
+    /// Items taken.
+    pub took: u64,
+    /// Items left.
+    pub left: u64,
+    /// Notes of losers.
+    pub lost: u64,
+    /// Notes of consumers that are undecided.
+    pub undecided: u64,
+    /// Claims under way.
+    pub under_way: u64,
+}
+
+impl Tally {
+    /// Nothing.
+    pub fn none() -> Tally {
+        Tally {
+            put: 0,
+            took: 0,
+            left: 0,
+            lost: 0,
+            undecided: 0,
+            under_way: 0,
+        }
+    }
+
+    /// Both together, modulo 2^64.
+    pub fn with(&self, other: Tally) -> Tally {
+        Tally {
+            put: self.put.wrapping_add(other.put),
+            took: self.took.wrapping_add(other.took),
+            left: self.left.wrapping_add(other.left),
+            lost: self.lost.wrapping_add(other.lost),
+            undecided: self.undecided.wrapping_add(other.undecided),
+            under_way: self.under_way.wrapping_add(other.under_way),
+        }
+    }
+}
+
+/// How many consumers a report has, where its diaries are one for each consumer and lane, in their order.
+fn consumers_of<A: Allocator + Drop>(report: &Report<A>) -> Result<u32, Flaw> {
+    let mut consumer = 0u32;
+    let mut lane = 0u32;
+    for diary in &report.diaries {
+        if diary.consumer != consumer || diary.lane != lane {
+            return Err(Flaw::OtherDiary);
+        }
+        lane = lane.wrapping_add(1);
+        if lane as usize == report.lanes.len() {
+            lane = 0;
+            consumer = consumer.wrapping_add(1);
+        }
+    }
+    if lane == 0 {
+        Ok(consumer)
+    } else {
+        Err(Flaw::OtherDiary)
+    }
+}
+
+/// The diaries of a lane have no more notes than it has items, and fewer where a claim is under way.
+fn have_few_notes<A: Allocator + Drop>(
+    report: &Report<A>,
+    consumers: u32,
+    lane: usize,
+    items: usize,
+) -> Result<(), Flaw> {
+    for consumer in 0..consumers {
+        let Some(diary) = diary_of(report, consumer as usize, lane) else {
+            return Err(Flaw::OtherDiary);
+        };
+        let notes = diary.notes.len();
+        if items < notes || (items == notes && diary.begun) {
+            return Err(Flaw::TooManyNotes);
+        }
+    }
+    Ok(())
+}
+
+/// One lane and all diaries of it.
+fn audit_lane<A: Allocator + Drop>(
+    report: &Report<A>,
+    consumers: u32,
+    number: usize,
+    lane: &LaneReport<A>,
+) -> Result<Tally, Flaw> {
+    have_few_notes(report, consumers, number, lane.put.len())?;
+    let mut tally = Tally::none();
+    let mut left = 0usize;
+    for (j, item) in lane.put.iter().enumerate() {
+        let met = all_said_of(report, consumers, number, j, *item)?;
+        let taken = met.taker.is_some();
+        if !taken {
+            if lane.left.get(left).copied() != Some(*item) {
+                return Err(Flaw::OtherLeft);
+            }
+            left = left.wrapping_add(1);
+        }
+        tally = tally.with(Tally {
+            put: 1,
+            took: if taken { 1 } else { 0 },
+            left: if taken { 0 } else { 1 },
+            lost: met.lost,
+            undecided: met.undecided,
+            under_way: met.under_way,
+        });
+    }
+    if left == lane.left.len() {
+        Ok(tally)
+    } else {
+        Err(Flaw::OtherLeft)
+    }
+}
+
+/// What a report comes to, where nothing in it is a flaw.
+pub fn audit<A: Allocator + Drop>(report: &Report<A>) -> Result<Tally, Flaw> {
+    let consumers = consumers_of(report)?;
+    let mut tally = Tally::none();
+    for (number, lane) in report.lanes.iter().enumerate() {
+        tally = tally.with(audit_lane(report, consumers, number, lane)?);
+    }
+    Ok(tally)
+}

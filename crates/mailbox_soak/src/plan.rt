@@ -1,0 +1,86 @@
+//! What a run is made of.
+
+use crate::sources::chacha;
+use mb_quorum::TableName;
+use rand_core::Rng;
+
+/// Who is stopped at the gate.
+#[derive(Clone, Copy, PartialEq, Eq, Debug)]
+pub enum Stops {
+    /// Nobody.
+    Nobody,
+    /// Any worker, at one call in so many.
+    Anybody(u64),
+    /// Each second consumer, at one call in so many.
+    HalfOfTheConsumers(u64),
+}
+
+/// What a run is made of: the numbers of its setup, and what its workers are handed.
+#[derive(Clone, Copy, Debug)]
+pub struct Plan {
+    pub producers: u64,
+    pub consumers: u64,
+    pub cells: u64,
+    pub pairs: u64,
+    pub table: TableName,
+    /// How many items each producer is to put.
+    pub items: u64,
+    pub budget: u64,
+    /// Whether all random words are 0.
+    pub zeros: bool,
+    pub stops: Stops,
+    /// What the gate draws from.
+    pub gate_seed: u64,
+}
+
+/// A number from `least` on, one of so many.
+fn drawn<R: Rng>(rng: &mut R, least: u64, amount: u64) -> u64 {
+    let word = rng.next_u64();
+    least.wrapping_add(word.checked_rem(amount).unwrap_or(0))
+}
+
+/// Whether the next word is even.
+fn is_even<R: Rng>(rng: &mut R) -> bool {
+    rng.next_u64() % 2 == 0
+}
+
+impl Plan {
+    /// The plan of a run of a seed.
+    pub fn of(seed: u64, number: u64) -> Plan {
+        let mut rng = chacha(seed, number, 0);
+        let producers = drawn(&mut rng, 1, 16);
+        let consumers = drawn(&mut rng, 1, 16);
+        let cells = if is_even(&mut rng) {
+            256
+        } else {
+            drawn(&mut rng, 0, 257)
+        };
+        let share = cells.checked_div(producers).unwrap_or(0);
+        let items = if is_even(&mut rng) {
+            share
+        } else {
+            drawn(&mut rng, 0, share.wrapping_mul(2).wrapping_add(2))
+        };
+        let stops = match drawn(&mut rng, 0, 4) {
+            0 => Stops::Anybody(drawn(&mut rng, 2, 200)),
+            1 => Stops::HalfOfTheConsumers(drawn(&mut rng, 2, 30)),
+            _ => Stops::Nobody,
+        };
+        Plan {
+            producers,
+            consumers,
+            cells,
+            pairs: drawn(&mut rng, 1, 8),
+            table: if is_even(&mut rng) {
+                TableName::Bits
+            } else {
+                TableName::Unary
+            },
+            items,
+            budget: drawn(&mut rng, 1, 64),
+            zeros: is_even(&mut rng),
+            stops,
+            gate_seed: rng.next_u64(),
+        }
+    }
+}

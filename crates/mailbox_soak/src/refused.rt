@@ -1,0 +1,49 @@
+//! What workers leave whose memory was refused.
+ghost use Rattle.mb_mailbox.specs.Hubs.{IsHubOf};
+
+use crate::plan::Plan;
+use crate::run::Fault;
+use mb_mailbox::{Hub, HubFault, Mailbox};
+use std::alloc::Global;
+
+/// Takes as many producers as the hub still gives, and takes them in again. The answer is how many there were.
+fn count_left(
+    alloc: Global,
+    mailbox: &Mailbox<Global>,
+    hub: &mut Hub<Global>,
+    most: u64,
+) -> Result<u64, Fault>
+    requires { IsHubOf mailbox.now hub.old }
+    ensures { IsHubOf mailbox.now hub.new }
+{
+    for count in 0..most {
+        match hub.producer(alloc, mailbox) {
+            Ok(producer) => hub.take_producer(mailbox, producer),
+            Err(HubFault::AllGiven) => return Ok(count),
+            Err(HubFault::NoMemory) => return Err(Fault::NoMemory),
+        }
+    }
+    Ok(most)
+}
+
+/// All that was given was taken in, and exactly the lanes that were given have ended.
+pub fn check_refused(
+    alloc: Global,
+    plan: &Plan,
+    mailbox: Mailbox<Global>,
+    mut hub: Hub<Global>,
+) -> Result<(), Fault>
+    requires { IsHubOf mailbox hub }
+{
+    let left = count_left(alloc, &mailbox, &mut hub, plan.producers)?;
+    let Ok(report) = mailbox.gather(alloc, hub) else {
+        return Err(Fault::NoReport);
+    };
+    for (p, lane) in report.lanes.iter().enumerate() {
+        let given = (p as u64).saturating_add(left) < plan.producers;
+        if lane.ended != given {
+            return Err(Fault::NotEnded);
+        }
+    }
+    Ok(())
+}

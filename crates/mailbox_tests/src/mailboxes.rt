@@ -1,0 +1,171 @@
+//! Mailboxes in one thread: what their calls answer, and what is reported at the end.
+
+use crate::trial::Trial;
+use crate::trials::{all_given, ends, new_trial};
+use crate::words::words_0;
+use mb_cells::Finish;
+use mb_mailbox::{GatherFault, HubFault, Poll, Put};
+use mb_world::Note;
+use rand_core::Rng;
+use std::alloc::{Allocator, Global};
+use std::process::Abort;
+use std::test::Fail;
+
+/// Puts an item, ends the lane and polls it. It is handed nothing that it could wait with.
+fn put_finish_and_poll<A: Allocator + Clone + Drop, R: Rng>(
+    trial: &mut Trial<A>,
+    words: &mut R,
+) -> (Option<Put>, Option<Finish>, Option<Poll>) {
+    let put = trial.put(0, 7);
+    let finish = trial.finish(0);
+    let poll = trial.poll(0, 0, 100, words);
+    (put, finish, poll)
+}
+
+#[test]
+fn an_item_is_put_and_taken(rt: HostRuntime) -> Result<(), Fail> {
+    let mut trial = all_given(rt.alloc(), 1, 1, 1)?;
+    assert_eq!(rt; trial.put(0, 7), Some(Put::Linked));
+    assert_eq!(rt; trial.poll(0, 0, 100, &mut words_0()), Some(Poll::Took(7)));
+    ends(
+        &rt,
+        rt.alloc(),
+        trial,
+        &[(&[7], false, &[])],
+        &[(0, 0, &[Note::Took(7)], false)],
+    )
+}
+
+#[test]
+fn nothing_is_waited_for(rt: HostRuntime) -> Result<(), Fail> {
+    let mut trial = all_given(rt.alloc(), 1, 1, 1)?;
+    let mut words = words_0();
+    let (put, finish, poll) = put_finish_and_poll(&mut trial, &mut words);
+    assert_eq!(rt; put, Some(Put::Linked));
+    assert_eq!(rt; finish, Some(Finish::Ended));
+    assert_eq!(rt; poll, Some(Poll::Took(7)));
+    let (put, finish, poll) = put_finish_and_poll(&mut trial, &mut words);
+    assert_eq!(rt; put, Some(Put::Closed));
+    assert_eq!(rt; finish, Some(Finish::Closed));
+    assert_eq!(rt; poll, Some(Poll::Ended));
+    Ok(())
+}
+
+#[test]
+fn all_numbers_are_given(rt: HostRuntime) -> Result<(), Fail> {
+    let mut trial = all_given(rt.alloc(), 1, 1, 1)?;
+    assert_eq!(rt; trial.producer(rt.alloc()), Err(HubFault::AllGiven));
+    assert_eq!(rt; trial.consumer(rt.alloc()), Err(HubFault::AllGiven));
+    trial.take_producer(0);
+    let Err((fault, trial)) = trial.gather(rt.alloc()) else {
+        return Err(Fail::new("a consumer is out"));
+    };
+    assert_eq!(rt; fault, GatherFault::Missing(0, 1));
+    ends(
+        &rt,
+        rt.alloc(),
+        trial,
+        &[(&[], false, &[])],
+        &[(0, 0, &[], false)],
+    )
+}
+
+#[test]
+fn a_poll_of_no_lane_or_no_budget_draws_nothing(rt: HostRuntime) -> Result<(), Fail> {
+    let mut trial = all_given(rt.alloc(), 1, 1, 1)?;
+    let mut words = words_0();
+    assert_eq!(rt; trial.poll(0, 1, 100, &mut words), Some(Poll::NoLane));
+    assert_eq!(rt; trial.poll(0, 1, 0, &mut words), Some(Poll::NoLane));
+    assert_eq!(rt; trial.poll(0, u64::MAX, 1, &mut words), Some(Poll::NoLane));
+    assert_eq!(rt; trial.poll(0, 0, 0, &mut words), Some(Poll::Spent));
+    assert_eq!(rt; words.given, 0);
+    ends(
+        &rt,
+        rt.alloc(),
+        trial,
+        &[(&[], false, &[])],
+        &[(0, 0, &[], false)],
+    )
+}
+
+/// Consumer 0 has begun a claim on the only item, and consumer 1 has lost it to consumer 0.
+fn one_went_away<R: Abort + AllocGlobal>(rt: &R) -> Result<Trial<Global>, Fail> {
+    let mut trial = all_given(rt.alloc(), 1, 2, 1)?;
+    assert_eq!(rt; trial.put(0, 5), Some(Put::Linked));
+    assert_eq!(rt; trial.poll(0, 0, 8, &mut words_0()), Some(Poll::Spent));
+    assert_eq!(rt; trial.poll(1, 0, 100, &mut words_0()), Some(Poll::Lost(0)));
+    Ok(trial)
+}
+
+#[test]
+fn a_later_consumer_loses_to_one_that_went_away(rt: HostRuntime) -> Result<(), Fail> {
+    let mut trial = one_went_away(&rt)?;
+    trial.take_consumer(1);
+    trial.take_producer(0);
+    let Err((fault, trial)) = trial.gather(rt.alloc()) else {
+        return Err(Fail::new("a consumer is out"));
+    };
+    assert_eq!(rt; fault, GatherFault::Missing(0, 1));
+    ends(
+        &rt,
+        rt.alloc(),
+        trial,
+        &[(&[5], false, &[5])],
+        &[(0, 0, &[], true), (1, 0, &[Note::Lost(0)], false)],
+    )
+}
+
+#[test]
+fn nobody_is_taken_in(rt: HostRuntime) -> Result<(), Fail> {
+    let trial = all_given(rt.alloc(), 1, 2, 1)?;
+    let Err((fault, _)) = trial.gather(rt.alloc()) else {
+        return Err(Fail::new("three are out"));
+    };
+    assert_eq!(rt; fault, GatherFault::Missing(1, 2));
+    Ok(())
+}
+
+#[test]
+fn nobody_is_given(rt: HostRuntime) -> Result<(), Fail> {
+    let trial = new_trial(rt.alloc(), 1, 2, 1)?;
+    ends(
+        &rt,
+        rt.alloc(),
+        trial,
+        &[(&[], false, &[])],
+        &[(0, 0, &[], false), (1, 0, &[], false)],
+    )
+}
+
+#[test]
+fn two_producers_want_the_only_cell(rt: HostRuntime) -> Result<(), Fail> {
+    let mut trial = all_given(rt.alloc(), 2, 1, 1)?;
+    assert_eq!(rt; trial.put(0, 5), Some(Put::Linked));
+    assert_eq!(rt; trial.put(1, 6), Some(Put::Full));
+    assert_eq!(rt; trial.put(1, 7), Some(Put::Full));
+    assert_eq!(rt; trial.finish(1), Some(Finish::Ended));
+    assert_eq!(rt; trial.put(1, 8), Some(Put::Closed));
+    assert_eq!(rt; trial.finish(1), Some(Finish::Closed));
+    assert_eq!(rt; trial.put(0, 9), Some(Put::Full));
+    ends(
+        &rt,
+        rt.alloc(),
+        trial,
+        &[(&[5], false, &[5]), (&[], true, &[])],
+        &[(0, 0, &[], false), (0, 1, &[], false)],
+    )
+}
+
+#[test]
+fn an_ended_lane_is_read_by_a_consumer_given_later(rt: HostRuntime) -> Result<(), Fail> {
+    let mut trial = new_trial(rt.alloc(), 1, 1, 1)?;
+    trial.producer(rt.alloc())?;
+    assert_eq!(rt; trial.put(0, 7), Some(Put::Linked));
+    assert_eq!(rt; trial.finish(0), Some(Finish::Ended));
+    assert!(rt; trial.take_producer(0));
+    trial.consumer(rt.alloc())?;
+    let mut words = words_0();
+    assert_eq!(rt; trial.poll(0, 0, 100, &mut words), Some(Poll::Took(7)));
+    assert_eq!(rt; trial.poll(0, 0, 100, &mut words), Some(Poll::Ended));
+    Ok(())
+}

@@ -1,0 +1,89 @@
+//! Polls of one thread: what they answer with small budgets, and how many words they draw.
+ghost use Rattle.std.specs.Prelude.{◌<◌};
+
+use crate::trial::Trial;
+use crate::trials::{all_given, ends, new_trial};
+use crate::words::{Zeros, words_0};
+use mb_mailbox::{Poll, Put};
+use mb_world::Note;
+use std::alloc::{Allocator, Global};
+use std::process::Abort;
+use std::test::Fail;
+
+/// Consumer 0 polls lane 0 so many times with this budget. Each poll is to be spent.
+fn are_spent<A: Allocator + Clone + Drop>(
+    rt: &impl Abort,
+    trial: &mut Trial<A>,
+    words: &mut Zeros,
+    budget: u64,
+    times: u64,
+) {
+    for turn in 0..times {
+        let answer = trial.poll(0, 0, budget, words);
+        assert_eq!(rt;
+            answer,
+            Some(Poll::Spent),
+            "poll {turn} with budget {budget}"
+        );
+    }
+}
+
+/// With this budget, so many polls are spent, and the next one takes the item.
+fn is_cut_short<R: Abort + AllocGlobal>(rt: &R, budget: u64, spent: u64) -> Result<(), Fail> {
+    let mut trial = all_given(rt.alloc(), 1, 1, 1)?;
+    let mut words = words_0();
+    assert_eq!(rt; trial.put(0, 7), Some(Put::Linked));
+    are_spent(rt, &mut trial, &mut words, budget, spent);
+    let answer = trial.poll(0, 0, budget, &mut words);
+    assert_eq!(rt; answer, Some(Poll::Took(7)), "with budget {budget}");
+    // The claim has five accesses.
+    assert_eq!(rt; words.given, 5);
+    ends(
+        rt,
+        rt.alloc(),
+        trial,
+        &[(&[7], false, &[])],
+        &[(0, 0, &[Note::Took(7)], false)],
+    )
+}
+
+#[test]
+fn a_budget_cuts_polls_short(rt: HostRuntime) -> Result<(), Fail> {
+    for (budget, spent) in [(1, 6), (6, 1), (7, 0), (100, 0)] {
+        is_cut_short(&rt, budget, spent)?;
+    }
+    Ok(())
+}
+
+/// Another consumer is given after so many polls of eight that are spent, and the next one takes the item.
+fn one_is_given_after<R: Abort + AllocGlobal>(rt: &R, before: u64) -> Result<Trial<Global>, Fail>
+    requires { before < 9 }
+{
+    let mut trial = new_trial(rt.alloc(), 1, 2, 1)?;
+    trial.producer(rt.alloc())?;
+    trial.consumer(rt.alloc())?;
+    let mut words = words_0();
+    assert_eq!(rt; trial.put(0, 7), Some(Put::Linked));
+    are_spent(rt, &mut trial, &mut words, 1, before);
+    trial.consumer(rt.alloc())?;
+    are_spent(rt, &mut trial, &mut words, 1, 8 - before);
+    assert_eq!(rt; trial.poll(0, 0, 1, &mut words), Some(Poll::Took(7)));
+    // The claim has seven accesses.
+    assert_eq!(rt; words.given, 7);
+    Ok(trial)
+}
+
+#[test]
+fn another_consumer_is_given_between_two_polls(rt: HostRuntime) -> Result<(), Fail> {
+    for before in 1..9 {
+        let trial = one_is_given_after(&rt, before)?;
+        ends(
+            &rt,
+            rt.alloc(),
+            trial,
+            &[(&[7], false, &[])],
+            &[(0, 0, &[Note::Took(7)], false), (1, 0, &[], false)],
+        )?;
+    }
+    Ok(())
+}

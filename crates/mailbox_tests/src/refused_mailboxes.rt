@@ -1,0 +1,219 @@
+//! Calls of a mailbox whose memory is refused: each growth in turn, and then the same call with memory.
+
+use crate::heaps::refusals;
+use crate::trial::Trial;
+use crate::trials::{all_given, ends, new_trial, take_all};
+use crate::words::words_0;
+use crate::worlds::tells;
+use linked_list_allocator::LocalHeap;
+use mb_cells::Finish;
+use mb_mailbox::{GatherFault, HubFault, Poll, Put};
+use mb_quorum::TableName;
+use mb_world::{Note, Report, Setup};
+use std::process::Abort;
+use std::test::Fail;
+
+/// A heap that serves every call of these tests.
+const PLENTY: usize = 1 << 16;
+
+/// Whether the heap serves a new mailbox, in which an item is then put and taken.
+fn new_is_served<'a>(
+    rt: &impl Abort,
+    heap: &'a LocalHeap,
+    plenty: &'a LocalHeap,
+) -> Result<bool, Fail> {
+    let setup = Setup::new(1, 1, 1, 1, TableName::Bits)?;
+    let Ok(mut trial) = Trial::new(heap, setup) else {
+        return Ok(false);
+    };
+    trial.producer(plenty)?;
+    trial.consumer(plenty)?;
+    assert_eq!(rt; trial.put(0, 7), Some(Put::Linked));
+    assert_eq!(rt; trial.poll(0, 0, 100, &mut words_0()), Some(Poll::Took(7)));
+    ends(
+        rt,
+        plenty,
+        trial,
+        &[(&[7], false, &[])],
+        &[(0, 0, &[Note::Took(7)], false)],
+    )?;
+    Ok(true)
+}
+
+#[test]
+fn each_growth_of_new_refused(rt: HostRuntime) -> Result<(), Fail> {
+    let plenty = LocalHeap::new(rt.alloc(), PLENTY)?;
+    let refused = refusals(&rt, |heap| new_is_served(&rt, heap, &plenty))?;
+    // The lists of what is taken in, the words of the cells, and the zeros and the words of the claims.
+    assert!(rt; 5 <= refused);
+    assert_eq!(rt; plenty.used(), 0);
+    Ok(())
+}
+
+/// The next producer is given, from a heap that may refuse it, and then from one that does not. Whether the first served.
+fn next_producer<'a>(
+    rt: &impl Abort,
+    trial: &mut Trial<&'a LocalHeap>,
+    heap: &'a LocalHeap,
+    plenty: &'a LocalHeap,
+) -> Result<bool, Fail> {
+    let Err(fault) = trial.producer(heap) else {
+        return Ok(true);
+    };
+    assert_eq!(rt; fault, HubFault::NoMemory);
+    trial.producer(plenty)?;
+    Ok(false)
+}
+
+/// The next consumer is given, in the same way.
+fn next_consumer<'a>(
+    rt: &impl Abort,
+    trial: &mut Trial<&'a LocalHeap>,
+    heap: &'a LocalHeap,
+    plenty: &'a LocalHeap,
+) -> Result<bool, Fail> {
+    let Err(fault) = trial.consumer(heap) else {
+        return Ok(true);
+    };
+    assert_eq!(rt; fault, HubFault::NoMemory);
+    trial.consumer(plenty)?;
+    Ok(false)
+}
+
+/// Whether the heap serves a producer. A refusal uses no number up: the next is still 0, and one is left.
+fn producer_is_served<'a>(
+    rt: &impl Abort,
+    heap: &'a LocalHeap,
+    plenty: &'a LocalHeap,
+) -> Result<bool, Fail> {
+    let mut trial = new_trial(plenty, 2, 1, 4)?;
+    let served = next_producer(rt, &mut trial, heap, plenty)?;
+    trial.producer(plenty)?;
+    assert_eq!(rt; trial.producer(plenty), Err(HubFault::AllGiven));
+    assert_eq!(rt; trial.put(0, 7), Some(Put::Linked));
+    ends(
+        rt,
+        plenty,
+        trial,
+        &[(&[7], false, &[7]), (&[], false, &[])],
+        &[(0, 0, &[], false), (0, 1, &[], false)],
+    )?;
+    Ok(served)
+}
+
+#[test]
+fn each_growth_of_a_producer_refused(rt: HostRuntime) -> Result<(), Fail> {
+    let plenty = LocalHeap::new(rt.alloc(), PLENTY)?;
+    let refused = refusals(&rt, |heap| producer_is_served(&rt, heap, &plenty))?;
+    // The list of its items, of four words.
+    assert!(rt; 2 <= refused);
+    assert_eq!(rt; plenty.used(), 0);
+    Ok(())
+}
+
+/// The only item is put, taken by consumer 0 and lost by consumer 1.
+fn first_takes<'a>(
+    rt: &impl Abort,
+    plenty: &'a LocalHeap,
+    mut trial: Trial<&'a LocalHeap>,
+) -> Result<(), Fail> {
+    assert_eq!(rt; trial.put(0, 7), Some(Put::Linked));
+    assert_eq!(rt; trial.poll(0, 0, 100, &mut words_0()), Some(Poll::Took(7)));
+    assert_eq!(rt; trial.poll(1, 0, 100, &mut words_0()), Some(Poll::Lost(0)));
+    ends(
+        rt,
+        plenty,
+        trial,
+        &[(&[7], false, &[])],
+        &[
+            (0, 0, &[Note::Took(7)], false),
+            (1, 0, &[Note::Lost(0)], false),
+        ],
+    )
+}
+
+/// Whether the heap serves a consumer. A refusal uses no number up: the next is still 0, and one is left.
+fn consumer_is_served<'a>(
+    rt: &impl Abort,
+    heap: &'a LocalHeap,
+    plenty: &'a LocalHeap,
+) -> Result<bool, Fail> {
+    let mut trial = new_trial(plenty, 1, 2, 1)?;
+    trial.producer(plenty)?;
+    let served = next_consumer(rt, &mut trial, heap, plenty)?;
+    trial.consumer(plenty)?;
+    assert_eq!(rt; trial.consumer(plenty), Err(HubFault::AllGiven));
+    first_takes(rt, plenty, trial)?;
+    Ok(served)
+}
+
+#[test]
+fn each_growth_of_a_consumer_refused(rt: HostRuntime) -> Result<(), Fail> {
+    let plenty = LocalHeap::new(rt.alloc(), PLENTY)?;
+    let refused = refusals(&rt, |heap| consumer_is_served(&rt, heap, &plenty))?;
+    // The list of the lanes, and of the notes of each.
+    assert!(rt; 2 <= refused);
+    assert_eq!(rt; plenty.used(), 0);
+    Ok(())
+}
+
+/// Two lanes and two consumers, all taken in: consumer 0 has taken the item of lane 0, which consumer 1 has lost, and
+/// consumer 1 has begun a claim on the item of lane 1, which has ended.
+fn two_lanes<'a>(rt: &impl Abort, heap: &'a LocalHeap) -> Result<Trial<&'a LocalHeap>, Fail> {
+    let mut trial = all_given(heap, 2, 2, 2)?;
+    assert_eq!(rt; trial.put(0, 5), Some(Put::Linked));
+    assert_eq!(rt; trial.put(1, 6), Some(Put::Linked));
+    assert_eq!(rt; trial.finish(1), Some(Finish::Ended));
+    assert_eq!(rt; trial.poll(0, 0, 100, &mut words_0()), Some(Poll::Took(5)));
+    assert_eq!(rt; trial.poll(1, 0, 100, &mut words_0()), Some(Poll::Lost(0)));
+    assert_eq!(rt; trial.poll(1, 1, 2, &mut words_0()), Some(Poll::Spent));
+    take_all(&mut trial);
+    Ok(trial)
+}
+
+/// The report of that.
+fn tells_two_lanes(rt: &impl Abort, report: &Report<&LocalHeap>) {
+    tells(
+        rt,
+        report,
+        &[(&[5], false, &[]), (&[6], true, &[6])],
+        &[
+            (0, 0, &[Note::Took(5)], false),
+            (0, 1, &[], false),
+            (1, 0, &[Note::Lost(0)], false),
+            (1, 1, &[], true),
+        ],
+    );
+}
+
+/// Whether the heap serves the report. Where it does not, another one serves the same report.
+fn gather_is_served<'a>(
+    rt: &impl Abort,
+    heap: &'a LocalHeap,
+    plenty: &'a LocalHeap,
+) -> Result<bool, Fail> {
+    match two_lanes(rt, plenty)?.gather(heap) {
+        Ok(report) => {
+            tells_two_lanes(rt, &report);
+            Ok(true)
+        }
+        Err((fault, trial)) => {
+            assert_eq!(rt; fault, GatherFault::NoMemory);
+            let Ok(report) = trial.gather(plenty) else {
+                return Err(Fail::new("no report"));
+            };
+            tells_two_lanes(rt, &report);
+            Ok(false)
+        }
+    }
+}
+
+#[test]
+fn each_growth_of_gather_refused(rt: HostRuntime) -> Result<(), Fail> {
+    let plenty = LocalHeap::new(rt.alloc(), PLENTY)?;
+    let refused = refusals(&rt, |heap| gather_is_served(&rt, heap, &plenty))?;
+    // The lanes, the items of each and the item left; the diaries, and the notes of two.
+    assert!(rt; 7 <= refused);
+    assert_eq!(rt; plenty.used(), 0);
+    Ok(())
+}

@@ -1,0 +1,74 @@
+//! Words that somebody spoiled: a claim on them comes to an end, with no more accesses than a claim ever makes.
+ghost use Rattle.std.specs.Prelude.{◌<◌, ⊤};
+ghost use Rattle.mb_claim.specs.Vocabulary.{consumer_count};
+
+use mb_claim::{Claim, Layout, Stage};
+use mb_deciding::{Memory, Op};
+use mb_quorum::TableName;
+use std::test::Fail;
+
+/// Words in which somebody else stores before each access: a load finds a small value, the largest one, or any.
+#[derive(Drop)]
+struct Spoiled {
+    state: u64,
+}
+
+impl Memory for Spoiled {
+    ghost can_make = { λ _ _ _. ⊤ };
+
+    ghost makes = { λ _ _ _ _ _. ⊤ };
+
+    fn perform(&mut self, _object: u32, _op: Op) -> u64 {
+        self.state = self
+            .state
+            .wrapping_mul(6364136223846793005)
+            .wrapping_add(1442695040888963407);
+        match self.state >> 60 {
+            14 => u64::MAX,
+            15 => self.state,
+            small => small,
+        }
+    }
+}
+
+/// How many accesses a claim makes on spoiled words to its end, or a thousand.
+fn accesses(layout: &Layout, consumer: u32, seed: u64) -> u64
+    requires { consumer < consumer_count layout.now }
+{
+    let mut words = Spoiled { state: seed };
+    let mut claim = Claim::new(layout, consumer);
+    for made in 0..1000 {
+        if claim.stage() != Stage::Going {
+            return made;
+        }
+        let word = words.state;
+        claim.step(layout, &mut words, word);
+    }
+    1000
+}
+
+/// Claims of the first and of the last consumer of a layout, on words that are spoiled in a hundred ways.
+fn most_accesses(consumers: u64, pairs: u64, name: TableName) -> Result<(u64, u64), Fail> {
+    let layout = Layout::new(consumers, pairs, name)?;
+    let mut most = 0;
+    for seed in 0..100 {
+        most = most
+            .max(accesses(&layout, 0, seed))
+            .max(accesses(&layout, layout.consumers() - 1, seed));
+    }
+    Ok((most, layout.max_steps()))
+}
+
+#[test]
+fn claims_on_spoiled_words_end_within_their_bound(rt: HostRuntime) -> Result<(), Fail> {
+    for name in [TableName::Unary, TableName::Bits] {
+        for (consumers, pairs) in [(1, 1), (2, 1), (3, 2), (16, 8)] {
+            let (made, bound) = most_accesses(consumers, pairs, name)?;
+            assert!(rt;
+                made <= bound,
+                "{made} accesses, {consumers} consumers, {pairs} pairs"
+            );
+        }
+    }
+    Ok(())
+}

@@ -1,0 +1,248 @@
+//! A mailbox together with those that it gave, so that a test calls them by their places.
+ghost use Rattle.std.specs.Prelude.{IfSome};
+ghost use Rattle.mb_mailbox.specs.Consumers.{IsConsumerOf};
+ghost use Rattle.mb_mailbox.specs.Producers.{IsProducerOf};
+
+use mb_cells::{Finish, NoMemory};
+use mb_mailbox::{
+    Consumer, Gate, GatherFault, Hub, HubFault, Mailbox, Poll, Producer, Put, WorkFault, Worked,
+    work,
+};
+use mb_world::{Report, Setup};
+use rand_core::Rng;
+use std::alloc::Allocator;
+use std::marker::Model;
+use std::sync::Wait;
+use std::thread::Threads;
+
+/// A mailbox and its hub, with at most two producers and two consumers that were given and not taken in.
+#[derive(Drop)]
+pub(crate) struct Trial<A: Allocator + Drop> {
+    mailbox: Mailbox<A>,
+    hub: Hub<A>,
+    first_producer: Option<Producer<A>>,
+    second_producer: Option<Producer<A>>,
+    first_consumer: Option<Consumer<A>>,
+    second_consumer: Option<Consumer<A>>,
+}
+
+impl<A: Allocator + Drop> Model for Trial<A> {
+    ghost use Rattle.std.specs.Prelude.{IfSome};
+    ghost use Rattle.mb_mailbox.specs.Consumers.{IsConsumerOf};
+    ghost use Rattle.mb_mailbox.specs.Hubs.{IsHubOf};
+    ghost use Rattle.mb_mailbox.specs.Producers.{IsProducerOf};
+
+    ghost Value = { Unit {0} };
+
+    ghost view = { λ _. tt };
+
+    ghost invariant = { λ t. IsHubOf t.mailbox t.hub
+        × IfSome t.first_producer (IsProducerOf t.mailbox)
+        × IfSome t.second_producer (IsProducerOf t.mailbox)
+        × IfSome t.first_consumer (IsConsumerOf t.mailbox)
+        × IfSome t.second_consumer (IsConsumerOf t.mailbox) };
+}
+
+impl<A: Allocator + Clone + Drop> Trial<A> {
+    /// A mailbox of this setup, which has given nothing.
+    pub(crate) fn new(alloc: A, setup: Setup) -> Result<Trial<A>, NoMemory> {
+        let (mailbox, hub) = Mailbox::new(alloc, setup)?;
+        Ok(Trial {
+            mailbox,
+            hub,
+            first_producer: None,
+            second_producer: None,
+            first_consumer: None,
+            second_consumer: None,
+        })
+    }
+
+    /// Gives a producer, which stands at the first empty place, else at place 1: the one that stood there goes away.
+    pub(crate) fn producer(&mut self, alloc: A) -> Result<(), HubFault> {
+        let producer = self.hub.producer(alloc, &self.mailbox)?;
+        if self.first_producer.is_none() {
+            self.first_producer = Some(producer);
+        } else {
+            self.second_producer = Some(producer);
+        }
+        Ok(())
+    }
+
+    /// Gives a consumer, which stands at the first empty place, else at place 1: the one that stood there goes away.
+    pub(crate) fn consumer(&mut self, alloc: A) -> Result<(), HubFault> {
+        let consumer = self.hub.consumer(alloc, &self.mailbox)?;
+        if self.first_consumer.is_none() {
+            self.first_consumer = Some(consumer);
+        } else {
+            self.second_consumer = Some(consumer);
+        }
+        Ok(())
+    }
+
+    /// What a put of the producer at this place comes to.
+    pub(crate) fn put(&mut self, place: usize, x: u64) -> Option<Put> {
+        match place {
+            0 => put_by(&mut self.first_producer, &self.mailbox, x),
+            1 => put_by(&mut self.second_producer, &self.mailbox, x),
+            _ => None,
+        }
+    }
+
+    /// The producer at this place ends its lane.
+    pub(crate) fn finish(&mut self, place: usize) -> Option<Finish> {
+        match place {
+            0 => finish_by(&mut self.first_producer, &self.mailbox),
+            1 => finish_by(&mut self.second_producer, &self.mailbox),
+            _ => None,
+        }
+    }
+
+    /// What a poll of the consumer at this place comes to.
+    pub(crate) fn poll<R: Rng>(
+        &mut self,
+        place: usize,
+        lane: u64,
+        budget: u64,
+        words: &mut R,
+    ) -> Option<Poll> {
+        match place {
+            0 => poll_by(&mut self.first_consumer, &self.mailbox, lane, budget, words),
+            1 => poll_by(
+                &mut self.second_consumer,
+                &self.mailbox,
+                lane,
+                budget,
+                words,
+            ),
+            _ => None,
+        }
+    }
+
+    /// Takes the producer at this place in, and says whether there was one.
+    pub(crate) fn take_producer(&mut self, place: usize) -> bool {
+        let producer = match place {
+            0 => self.first_producer.take(),
+            1 => self.second_producer.take(),
+            _ => None,
+        };
+        match producer {
+            Some(producer) => {
+                self.hub.take_producer(&self.mailbox, producer);
+                true
+            }
+            None => false,
+        }
+    }
+
+    /// Takes the consumer at this place in, and says whether there was one.
+    pub(crate) fn take_consumer(&mut self, place: usize) -> bool {
+        let consumer = match place {
+            0 => self.first_consumer.take(),
+            1 => self.second_consumer.take(),
+            _ => None,
+        };
+        match consumer {
+            Some(consumer) => {
+                self.hub.take_consumer(&self.mailbox, consumer);
+                true
+            }
+            None => false,
+        }
+    }
+
+    /// The report, or the fault with all as it was: who was not taken in stands where it stood.
+    pub(crate) fn gather(self, alloc: A) -> Result<Report<A>, (GatherFault, Trial<A>)> {
+        let Trial {
+            mailbox,
+            hub,
+            first_producer,
+            second_producer,
+            first_consumer,
+            second_consumer,
+        } = self;
+        match mailbox.gather(alloc, hub) {
+            Ok(report) => Ok(report),
+            Err((fault, mailbox, hub)) => Err((
+                fault,
+                Trial {
+                    mailbox,
+                    hub,
+                    first_producer,
+                    second_producer,
+                    first_consumer,
+                    second_consumer,
+                },
+            )),
+        }
+    }
+}
+
+impl<A: Allocator + Clone + Drop + Send + Sync> Trial<A> {
+    /// Workers in threads, as `mb_mailbox::work` has them.
+    pub(crate) fn work<W: Threads + Wait + Sync, R: Rng + Send + Drop, G: Gate>(
+        &mut self,
+        alloc: A,
+        rt: &W,
+        items: Vec<Vec<u64, A>, A>,
+        budget: u64,
+        rngs: Vec<R, A>,
+        gate: &G,
+    ) -> Result<Worked, WorkFault> {
+        work(
+            alloc,
+            rt,
+            &self.mailbox,
+            &mut self.hub,
+            items,
+            budget,
+            rngs,
+            gate,
+        )
+    }
+}
+
+/// What a put comes to, where there is a producer.
+fn put_by<A: Allocator + Drop>(
+    producer: &mut Option<Producer<A>>,
+    mailbox: &Mailbox<A>,
+    x: u64,
+) -> Option<Put>
+    requires of { IfSome producer.old (IsProducerOf mailbox.now) }
+    ensures of { IfSome producer.new (IsProducerOf mailbox.now) }
+{
+    match producer {
+        Some(producer) => Some(producer.put(mailbox, x)),
+        None => None,
+    }
+}
+
+/// What the end of a lane comes to, where there is a producer.
+fn finish_by<A: Allocator + Drop>(
+    producer: &mut Option<Producer<A>>,
+    mailbox: &Mailbox<A>,
+) -> Option<Finish>
+    requires of { IfSome producer.old (IsProducerOf mailbox.now) }
+    ensures of { IfSome producer.new (IsProducerOf mailbox.now) }
+{
+    match producer {
+        Some(producer) => Some(producer.finish(mailbox)),
+        None => None,
+    }
+}
+
+/// What a poll comes to, where there is a consumer.
+fn poll_by<A: Allocator + Drop, R: Rng>(
+    consumer: &mut Option<Consumer<A>>,
+    mailbox: &Mailbox<A>,
+    lane: u64,
+    budget: u64,
+    words: &mut R,
+) -> Option<Poll>
+    requires of { IfSome consumer.old (IsConsumerOf mailbox.now) }
+    ensures of { IfSome consumer.new (IsConsumerOf mailbox.now) }
+{
+    match consumer {
+        Some(consumer) => Some(consumer.poll(mailbox, lane, budget, words)),
+        None => None,
+    }
+}

@@ -1,0 +1,220 @@
+//! Workers: what `work` answers, and what is reported then.
+
+ghost use Rattle.std.specs.Prelude.{◌<◌};
+
+use crate::trial::Trial;
+use crate::trials::{ends, new_trial};
+use crate::words::{Zeros, words_0};
+use mailbox_audit::audit;
+use mb_mailbox::{Gate, OpenGate, Who, WorkFault, Worked};
+use mb_quorum::TableName;
+use mb_world::{Note, Report, Setup};
+use std::alloc::Global;
+use std::process::Abort;
+use std::sync::Wait;
+use std::sync::atomic::{AtomicU64, Ordering};
+use std::test::Fail;
+use std::thread::Threads;
+
+/// Each item was put, and nobody was stopped.
+pub(crate) const ALL_DONE: Worked = Worked {
+    full: 0,
+    stopped: 0,
+};
+
+/// A list of items for each producer.
+fn lists(alloc: Global, items: &[&[u64]]) -> Result<Vec<Vec<u64>>, Fail> {
+    let mut lists = Vec::new(alloc);
+    for list in items {
+        lists.push(list.to_vec(alloc)?)?;
+    }
+    Ok(lists)
+}
+
+/// So many sources of words 0.
+fn sources(alloc: Global, amount: usize) -> Result<Vec<Zeros>, Fail> {
+    let mut sources = Vec::new(alloc);
+    for _ in 0..amount {
+        sources.push(words_0())?;
+    }
+    Ok(sources)
+}
+
+/// One worker puts each of these lists, and so many others poll with this budget.
+pub(crate) fn works<R: AllocGlobal + Threads + Wait + Sync, G: Gate>(
+    rt: &R,
+    trial: &mut Trial<Global>,
+    items: &[&[u64]],
+    budget: u64,
+    consumers: usize,
+    gate: &G,
+) -> Result<Result<Worked, WorkFault>, Fail> {
+    let items = lists(rt.alloc(), items)?;
+    let rngs = sources(rt.alloc(), consumers)?;
+    Ok(trial.work(rt.alloc(), rt, items, budget, rngs, gate))
+}
+
+/// A gate that lets nobody in.
+#[derive(Drop)]
+struct ClosedGate;
+
+impl Gate for ClosedGate {
+    fn enter(&self, _who: Who, _call: u64) -> bool {
+        false
+    }
+
+    fn leave(&self, _who: Who, _call: u64) {}
+}
+
+/// In two cells a worker puts these items, of which so many find no cell, and another takes both that are put.
+fn two_are_taken<R: Abort + AllocGlobal + Threads + Wait + Sync>(
+    rt: &R,
+    items: &[u64],
+    full: u64,
+) -> Result<(), Fail> {
+    let mut trial = new_trial(rt.alloc(), 1, 1, 2)?;
+    let worked = works(rt, &mut trial, &[items], 5, 1, &OpenGate)?;
+    assert_eq!(rt; worked, Ok(Worked { full, stopped: 0 }));
+    ends(
+        rt,
+        rt.alloc(),
+        trial,
+        &[(&[1, 2], true, &[])],
+        &[(0, 0, &[Note::Took(1), Note::Took(2)], false)],
+    )
+}
+
+#[test]
+fn a_worker_puts_and_another_takes(rt: HostRuntime) -> Result<(), Fail> {
+    two_are_taken(&rt, &[1, 2], 0)?;
+    // One item more than there are cells.
+    two_are_taken(&rt, &[1, 2, 3], 1)
+}
+
+#[test]
+fn a_budget_of_0_is_refused(rt: HostRuntime) -> Result<(), Fail> {
+    let mut trial = new_trial(rt.alloc(), 1, 1, 2)?;
+    let worked = works(&rt, &mut trial, &[&[1, 2]], 0, 1, &OpenGate)?;
+    assert_eq!(rt; worked, Err(WorkFault::BadBudget));
+    // No number was given: both are left.
+    trial.producer(rt.alloc())?;
+    trial.consumer(rt.alloc())?;
+    Ok(())
+}
+
+#[test]
+fn nobody_comes_through_a_closed_gate(rt: HostRuntime) -> Result<(), Fail> {
+    let mut trial = new_trial(rt.alloc(), 1, 1, 2)?;
+    let worked = works(&rt, &mut trial, &[&[1, 2]], 5, 1, &ClosedGate)?;
+    let both = Worked {
+        full: 0,
+        stopped: 2,
+    };
+    assert_eq!(rt; worked, Ok(both));
+    ends(
+        &rt,
+        rt.alloc(),
+        trial,
+        &[(&[], true, &[])],
+        &[(0, 0, &[], false)],
+    )
+}
+
+#[test]
+fn no_numbers_are_left_for_more_workers(rt: HostRuntime) -> Result<(), Fail> {
+    let mut trial = new_trial(rt.alloc(), 1, 1, 2)?;
+    let worked = works(&rt, &mut trial, &[&[1, 2]], 5, 1, &OpenGate)?;
+    assert_eq!(rt; worked, Ok(ALL_DONE));
+    // That no number is left is told before the budget.
+    let worked = works(&rt, &mut trial, &[&[3]], 0, 0, &OpenGate)?;
+    assert_eq!(rt; worked, Err(WorkFault::AllGiven));
+    let worked = works(&rt, &mut trial, &[], 5, 1, &OpenGate)?;
+    assert_eq!(rt; worked, Err(WorkFault::AllGiven));
+    // Nobody has nothing to do.
+    let worked = works(&rt, &mut trial, &[], 5, 0, &OpenGate)?;
+    assert_eq!(rt; worked, Ok(ALL_DONE));
+    ends(
+        &rt,
+        rt.alloc(),
+        trial,
+        &[(&[1, 2], true, &[])],
+        &[(0, 0, &[Note::Took(1), Note::Took(2)], false)],
+    )
+}
+
+/// A gate that counts the calls that it lets in.
+#[derive(Drop)]
+struct CountingGate {
+    calls: AtomicU64,
+}
+
+impl Gate for CountingGate {
+    fn enter(&self, _who: Who, _call: u64) -> bool {
+        self.calls.fetch_add(1, Ordering::SeqCst);
+        true
+    }
+
+    fn leave(&self, _who: Who, _call: u64) {}
+}
+
+#[test]
+fn a_consumer_without_lanes_polls_none(rt: HostRuntime) -> Result<(), Fail> {
+    let mut trial = new_trial(rt.alloc(), 1, 1, 2)?;
+    let gate = CountingGate {
+        calls: AtomicU64::new(0),
+    };
+    let worked = works(&rt, &mut trial, &[], 5, 1, &gate)?;
+    assert_eq!(rt; worked, Ok(ALL_DONE));
+    assert_eq!(rt; gate.calls.load(Ordering::SeqCst), 0);
+    ends(
+        &rt,
+        rt.alloc(),
+        trial,
+        &[(&[], false, &[])],
+        &[(0, 0, &[], false)],
+    )
+}
+
+/// The items of producer `p`, as in a list of its own.
+fn sixteen_from(alloc: Global, first: u64) -> Result<Vec<u64>, Fail>
+    requires { first < 1000000 }
+{
+    let mut items = Vec::new(alloc);
+    for i in 0..16 {
+        items.push(first + i)?;
+    }
+    Ok(items)
+}
+
+/// The report of a run of four producers and four consumers, which share 64 cells.
+fn four_and_four<R: Abort + AllocGlobal + Threads + Wait + Sync>(
+    rt: &R,
+) -> Result<Report<Global>, Fail> {
+    let setup = Setup::new(4, 4, 64, 4, TableName::Bits)?;
+    let mut trial = Trial::new(rt.alloc(), setup)?;
+    let mut items = Vec::new(rt.alloc());
+    for p in 0..4 {
+        items.push(sixteen_from(rt.alloc(), 100 * p)?)?;
+    }
+    let rngs = sources(rt.alloc(), 4)?;
+    let worked = trial.work(rt.alloc(), rt, items, 3, rngs, &OpenGate);
+    assert_eq!(rt; worked, Ok(ALL_DONE));
+    trial.gather(rt.alloc()).map_err(|_| Fail::new("no report"))
+}
+
+#[test]
+fn four_producers_and_four_consumers_share_64_cells(rt: HostRuntime) -> Result<(), Fail> {
+    let report = four_and_four(&rt)?;
+    assert_eq!(rt; (report.lanes.len(), report.diaries.len()), (4, 16));
+    for (lane, first) in report.lanes.iter().zip([0u64, 100, 200, 300]) {
+        let put = sixteen_from(rt.alloc(), first)?;
+        assert_eq!(rt; lane.put.as_slice(), put.as_slice());
+    }
+    for diary in &report.diaries {
+        assert_eq!(rt; (diary.notes.len(), diary.begun), (16, false));
+    }
+    // Among others: no item has two who took it.
+    let tally = audit(&report)?;
+    assert_eq!(rt; tally.put, 64);
+    Ok(())
+}
