@@ -1,0 +1,11 @@
+-- The crew of a mailbox.
+use Rattle.mb_mailbox.specs.Consumers.{IsConsumerOf}
+use Rattle.mb_mailbox.specs.Mailboxes.{MailboxView}
+use Rattle.mb_mailbox.specs.Producers.{IsProducerOf}
+use Rattle.mailbox_jobs.specs.declared.crew.Member.{Member}
+use Rattle.mailbox_jobs.specs.declared.crew.Member.TheVariants as member
+
+-- the member's producer or consumer is one of the mailbox
+abbrev pub IsOf : MailboxView → Member → Type 0
+IsOf m (member.Producer producer first) = IsProducerOf m producer
+IsOf m (member.Worker consumer source) = IsConsumerOf m consumer

@@ -1,0 +1,63 @@
+//! The jobs, by their numbers.
+
+use std::alloc::{AllocError, Global};
+use std::fmt;
+use std::sync::atomic::{AtomicU64, Ordering};
+
+/// What the jobs came to. Job n adds up the numbers from 1 to n.
+#[derive(Drop)]
+pub struct Board {
+    runs: Vec<AtomicU64>,
+    total: AtomicU64,
+}
+
+impl Board {
+    /// The board of the jobs 0 to `jobs - 1`, of which none was run.
+    pub fn new(alloc: Global, jobs: u64) -> Result<Board, AllocError> {
+        let mut runs = Vec::new(alloc);
+        for _ in 0..jobs {
+            runs.push(AtomicU64::new(0))?;
+        }
+        Ok(Board {
+            runs,
+            total: AtomicU64::new(0),
+        })
+    }
+
+    /// Runs the job of this number. A number of no job is nothing to do.
+    pub fn run(&self, number: u64) {
+        let Some(runs) = self.runs.get(number as usize) else {
+            return;
+        };
+        let mut sum = 0u64;
+        for n in 0..number {
+            sum = sum.wrapping_add(n + 1);
+        }
+        self.total.fetch_add(sum, Ordering::SeqCst);
+        runs.fetch_add(1, Ordering::SeqCst);
+    }
+
+    /// How many jobs were run at least so often.
+    fn run_at_least(&self, times: u64) -> usize {
+        let mut count = 0usize;
+        for runs in self.runs.iter() {
+            if runs.load(Ordering::SeqCst) >= times {
+                count = count.wrapping_add(1);
+            }
+        }
+        count
+    }
+}
+
+impl fmt::Display for Board {
+    fn fmt<W: fmt::Write>(&self, f: &mut fmt::Formatter<W>) -> fmt::Result {
+        let jobs = self.runs.len();
+        let once = self.run_at_least(1);
+        let twice = self.run_at_least(2);
+        let total = self.total.load(Ordering::SeqCst);
+        write!(
+            f,
+            "{jobs} jobs: {once} were run, {twice} more than once; all came to {total}"
+        )
+    }
+}

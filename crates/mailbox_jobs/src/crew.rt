@@ -1,0 +1,139 @@
+//! Who puts jobs, and who takes them.
+ghost use Rattle.std.specs.Prelude.{All, IfOk, OnOk};
+ghost use Rattle.mb_mailbox.specs.Consumers.{IsConsumerOf};
+ghost use Rattle.mb_mailbox.specs.Hubs.{IsHubOf};
+ghost use Rattle.mb_mailbox.specs.Producers.{IsProducerOf};
+ghost use Rattle.mailbox_jobs.specs.Crew.{IsOf};
+
+use crate::board::Board;
+use crate::{JOBS_EACH, PRODUCERS, WORKERS};
+use anyhow::Result;
+use mb_mailbox::{Consumer, Hub, Mailbox, Poll, Producer, Put};
+use rand::make_rng;
+use rand_chacha::ChaCha8Rng;
+use std::alloc::Global;
+use std::random::RandomSource;
+use std::thread::yield_now;
+
+/// How many accesses a worker makes before it looks up from a lane.
+const BUDGET: u64 = 64;
+
+/// After how many jobs a worker goes home. All together they do fewer than there are, so some are left at the end.
+const SHIFT: u64 = 5;
+
+/// One of those who work.
+#[derive(Drop)]
+pub enum Member {
+    /// Puts so many jobs, from this number on.
+    Producer(Producer<Global>, u64),
+    /// Takes jobs, with random words from this source.
+    Worker(Consumer<Global>, ChaCha8Rng),
+}
+
+impl Member {
+    /// Does what the member has to do, to its end.
+    pub fn work(&mut self, mailbox: &Mailbox<Global>, board: &Board)
+        requires of { IsOf mailbox.now self.old }
+        ensures of { IsOf mailbox.now self.new }
+    {
+        match self {
+            Member::Producer(producer, first) => put_jobs(mailbox, producer, *first),
+            Member::Worker(consumer, source) => run_jobs(mailbox, consumer, source, board),
+        }
+    }
+}
+
+/// Puts the jobs of one producer in their order, and then ends its lane, so that workers know that no job follows.
+fn put_jobs(mailbox: &Mailbox<Global>, producer: &mut Producer<Global>, first: u64)
+    requires of { IsProducerOf mailbox.now producer.old }
+    ensures of { IsProducerOf mailbox.now producer.new }
+{
+    for job in 0..JOBS_EACH {
+        match producer.put(mailbox, first.wrapping_add(job)) {
+            // Every worker can find the job from now on.
+            Put::Linked => {}
+            // There is no cell left, now and for ever: the job is not in the mailbox, and still the producer's.
+            Put::Full | Put::Closed => break,
+        }
+    }
+    producer.finish(mailbox);
+}
+
+/// Takes jobs until each lane has ended or the shift is over, and runs those that it takes.
+fn run_jobs(
+    mailbox: &Mailbox<Global>,
+    consumer: &mut Consumer<Global>,
+    source: &mut ChaCha8Rng,
+    board: &Board,
+)
+    requires of { IsConsumerOf mailbox.now consumer.old }
+    ensures of { IsConsumerOf mailbox.now consumer.new }
+{
+    let mut ended = [false; PRODUCERS as usize];
+    let mut lane = 0;
+    let mut taken = 0;
+    for turn in 0..u64::MAX {
+        if taken == SHIFT || ended == [true; PRODUCERS as usize] {
+            break;
+        }
+        if !ended[lane] {
+            match consumer.poll(mailbox, lane as u64, BUDGET, source) {
+                // This worker has won the job, and nobody else ever will. Should it go away before it has run it, nobody
+                // does: at most once is not exactly once.
+                Poll::Took(job) => {
+                    board.run(job);
+                    taken += 1;
+                }
+                // Another worker has won it, whose number this is: nothing to do here.
+                Poll::Lost(_) => {}
+                // This worker does not know who has won it, if anybody has. It must not run it: the report will tell.
+                Poll::Undecided => {}
+                // The budget was spent. A claim that is held is kept, and the next poll of the lane goes on with it.
+                Poll::Spent => {}
+                // No further job is linked yet: time for something else, such as the next lane.
+                Poll::Nothing => yield_now(),
+                // No job follows on this lane.
+                Poll::Ended | Poll::NoLane => ended[lane] = true,
+            }
+        }
+        lane = if lane + 1 < ended.len() { lane + 1 } else { 0 };
+    }
+}
+
+/// All producers and workers of the mailbox. The producers come first, so that they are through where no thread can be
+/// made and one works after the other.
+pub fn hired<R: RandomSource + AllocGlobal>(
+    rt: &R,
+    mailbox: &Mailbox<Global>,
+    hub: &mut Hub<Global>,
+) -> Result<Vec<Member>>
+    requires of { IsHubOf mailbox.now hub.old }
+    ensures hub { OnOk result (IsHubOf mailbox.now hub.new) }
+    ensures crew { IfOk result (λ crew. All (IsOf mailbox.now) crew.items) }
+{
+    let mut crew = Vec::new(rt.alloc());
+    for number in 0..PRODUCERS {
+        let producer = hub.producer(rt.alloc(), mailbox)?;
+        crew.push(Member::Producer(producer, number * JOBS_EACH))?;
+    }
+    for _ in 0..WORKERS {
+        let consumer = hub.consumer(rt.alloc(), mailbox)?;
+        // Each worker has random words of its own, seeded by the system.
+        crew.push(Member::Worker(consumer, make_rng(rt)?))?;
+    }
+    Ok(crew)
+}
+
+/// Takes all of them in, with what they did.
+pub fn take_in(mailbox: &Mailbox<Global>, hub: &mut Hub<Global>, crew: Vec<Member>)
+    requires hub { IsHubOf mailbox.now hub.old }
+    requires crew { All (IsOf mailbox.now) crew.items }
+    ensures hub { IsHubOf mailbox.now hub.new }
+{
+    for member in crew {
+        match member {
+            Member::Producer(producer, _) => hub.take_producer(mailbox, producer),
+            Member::Worker(consumer, _) => hub.take_consumer(mailbox, consumer),
+        }
+    }
+}
