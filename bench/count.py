@@ -21,16 +21,18 @@ BY_HAND = pathlib.Path(tempfile.gettempdir()) / "mailbox_bench_by_hand"
 # How often a shape is done at either size.
 SIZES = {
     "words": (2, 6), "lone": (4, 12), "contended": (2, 6), "tables": (4, 12), "shared": (4, 12), "mail": (2, 6),
-    "play": (100, 300), "ratify": (1, 3), "worlds": (1, 3), "events": (1, 3), "reports": (1, 3),
+    "mailboxes": (2, 6), "puts": (2, 6), "mailbox": (2, 6), "chacha": (2, 6), "play": (100, 300), "ratify": (1, 3),
+    "worlds": (1, 3), "events": (1, 3), "reports": (1, 3),
 }
 UNITS = {
-    "lone": "an access", "contended": "an access", "shared": "an access", "mail": "an item", "play": "a step",
-    "ratify": "a turn", "events": "an event", "reports": "a note",
+    "lone": "an access", "contended": "an access", "shared": "an access", "mail": "an item", "puts": "a put",
+    "mailbox": "an item", "chacha": "an item", "play": "a step", "ratify": "a turn", "events": "an event",
+    "reports": "a note",
 }
-# What these make at each time, words, tables or a world, is no part of their units.
-LESS = {"lone": "words", "contended": "words", "shared": "tables", "events": "worlds"}
+# What these make at each time, words, tables, a mailbox or a world, is no part of their units.
+LESS = {"lone": "words", "contended": "words", "shared": "tables", "puts": "mailboxes", "events": "worlds"}
 # These have no loop by hand.
-ALONE = ("events", "reports")
+ALONE = ("chacha", "events", "reports")
 
 
 def build():
@@ -73,7 +75,7 @@ def row(shape, table, consumers):
 
 def main():
     parser = argparse.ArgumentParser()
-    parser.add_argument("--shapes", default="lone,contended,shared,mail,play,ratify")
+    parser.add_argument("--shapes", default="lone,contended,shared,mail,puts,mailbox,play,ratify")
     parser.add_argument("--tables", default="bits,unary")
     parser.add_argument("--consumers", default="1,2,4,16")
     parser.add_argument("--keep", action="store_true")

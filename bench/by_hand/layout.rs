@@ -53,6 +53,11 @@ impl Layout {
 
     /// The same for threads to share.
     pub fn atomic_words(&self) -> Vec<AtomicU64> {
-        (0..CELLS * self.cell_words).map(|_| AtomicU64::new(0)).collect()
+        atomic_zeros(CELLS * self.cell_words)
     }
+}
+
+/// So many words for threads to share, all 0.
+pub fn atomic_zeros(count: usize) -> Vec<AtomicU64> {
+    vec![0; count].into_iter().map(AtomicU64::new).collect()
 }

@@ -9,6 +9,7 @@ mod claim;
 mod layout;
 mod loops;
 mod mail;
+mod mailbox;
 mod play;
 mod ratify;
 mod source;
@@ -21,7 +22,7 @@ const PAIRS: usize = 4;
 fn main() {
     let words: Vec<String> = std::env::args().skip(1).collect();
     let [shape, table, consumers, times] = &words[..] else {
-        eprintln!("usage: by_hand words|lone|contended|tables|shared|mail|play|ratify bits|unary CONSUMERS TIMES");
+        eprintln!("usage: by_hand words|lone|contended|tables|shared|mail|mailboxes|puts|mailbox|play|ratify bits|unary CONSUMERS TIMES");
         std::process::exit(2);
     };
     let number = |text: &String| text.parse::<u64>().expect("a number");
@@ -35,6 +36,9 @@ fn main() {
         "tables" => format!("{} tables", loops::tables_alone(&layout, times)),
         "shared" => loops::shared(&layout, times).to_string(),
         "mail" => mail::mail(&layout, times).to_string(),
+        "mailboxes" => format!("{} mailboxes", mailbox::mailboxes_alone(&layout, times)),
+        "puts" => format!("{} items", mailbox::puts(&layout, times)),
+        "mailbox" => mailbox::mailboxes(&layout, times).to_string(),
         "play" => play::plays(&layout, times).to_string(),
         "ratify" => ratify::ratifiers(&layout, times).to_string(),
         _ => panic!("no such shape"),

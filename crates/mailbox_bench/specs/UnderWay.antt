@@ -1,10 +1,20 @@
 -- Claims under way on the words of all cells.
 use Rattle.std.specs.Prelude.{ℕ, ◌≡◌, ◌<◌, ◌≤◌, List, [], length, slice_index_or}
+use Rattle.mb_deciding.specs.declared.access.Act.TheVariants.{Load}
+use Rattle.mb_deciding.specs.declared.access.Reg.TheVariants.{Value}
 use Rattle.mb_claim.specs.declared.access.ClaimAccess.{ClaimAccess}
 use Rattle.mb_claim.specs.declared.claim.Claim.{Claim}
 use Rattle.mb_claim.specs.declared.layout.Layout.{Layout}
 use Rattle.mb_claim.specs.declared.layout.TheConstants.{MAX_CELLS}
 use Rattle.mb_claim.specs.Vocabulary.{Claims, part_on, claims_in, consumer_of, IsClaimIn, IsMemoryOf}
+
+-- consumer c has loaded this value from the first word of cell k, with the random word 0
+abbrev pub looked : ℕ → ℕ → ℕ → ClaimAccess
+looked c k value = record {
+  consumer = c;
+  cell = k;
+  step = record { object = 0; turn = record { act = Load Value value; word = 0 } };
+}
 
 -- the claims of a layout's consumers on as many cells as there can be
 abbrev pub all_claims : Layout → Claims
@@ -16,9 +26,9 @@ pub record IsUnderWay
   pub memory : IsMemoryOf (all_claims layout) words h
   pub stands : IsClaimIn layout claim (part_on (consumer_of claim) cell h)
 
--- the later history changes only parts of a consumer c on a cell k for which this holds
+-- the second history differs from the first only in parts of a consumer c on a cell k for which this holds
 abbrev pub ChangesOnly : (ℕ → ℕ → Type 0) → List ClaimAccess → List ClaimAccess → Type 0
-ChangesOnly Changed h later = (c k : ℕ) → (Changed c k → ⊥) → part_on c k later ≡ part_on c k h
+ChangesOnly Changed h other = (c k : ℕ) → (Changed c k → ⊥) → part_on c k other ≡ part_on c k h
 
 -- the history leaves the words, and the consumer has made no access to this cell, nor to any after it
 pub record IsBefore (layout : Layout) (consumer cell : ℕ) (words : List ℕ) (h : List ClaimAccess) : Type 0 where

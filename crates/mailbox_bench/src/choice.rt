@@ -19,8 +19,16 @@ pub enum Shape {
     Tables,
     /// One claim on each cell of such a table.
     Shared,
-    /// A mailbox, filled and then read by each consumer.
+    /// A pool of cells and the words of claims, filled and then read by each consumer.
     Mail,
+    /// A mailbox that threads can share is made, with a producer, and nothing else.
+    Mailboxes,
+    /// The puts of a producer into such a mailbox.
+    Puts,
+    /// Such a mailbox, filled and then polled to its end by each consumer.
+    Mailbox,
+    /// The same with random words of ChaCha8.
+    Chacha,
     /// A play of all consumers on one cell.
     Play,
     /// A run of one ratifier.
@@ -34,13 +42,17 @@ pub enum Shape {
 }
 
 /// All shapes.
-pub const SHAPES: [Shape; 11] = [
+pub const SHAPES: [Shape; 15] = [
     Shape::Words,
     Shape::Lone,
     Shape::Contended,
     Shape::Tables,
     Shape::Shared,
     Shape::Mail,
+    Shape::Mailboxes,
+    Shape::Puts,
+    Shape::Mailbox,
+    Shape::Chacha,
     Shape::Play,
     Shape::Ratify,
     Shape::Worlds,
@@ -99,6 +111,10 @@ impl fmt::Display for Choice {
             Shape::Tables => "tables",
             Shape::Shared => "shared",
             Shape::Mail => "mail",
+            Shape::Mailboxes => "mailboxes",
+            Shape::Puts => "puts",
+            Shape::Mailbox => "mailbox",
+            Shape::Chacha => "chacha",
             Shape::Play => "play",
             Shape::Ratify => "ratify",
             Shape::Worlds => "worlds",
@@ -124,6 +140,10 @@ fn shape_of(text: &str) -> Option<Shape> {
         "tables" => Some(Shape::Tables),
         "shared" => Some(Shape::Shared),
         "mail" => Some(Shape::Mail),
+        "mailboxes" => Some(Shape::Mailboxes),
+        "puts" => Some(Shape::Puts),
+        "mailbox" => Some(Shape::Mailbox),
+        "chacha" => Some(Shape::Chacha),
         "play" => Some(Shape::Play),
         "ratify" => Some(Shape::Ratify),
         "worlds" => Some(Shape::Worlds),

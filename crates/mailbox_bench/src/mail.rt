@@ -36,6 +36,17 @@ pub struct Post {
     pub taken: u64,
 }
 
+impl Post {
+    /// Nothing yet.
+    pub fn new() -> Post {
+        Post {
+            items: 0,
+            notes: 0,
+            taken: 0,
+        }
+    }
+}
+
 impl fmt::Display for Post {
     fn fmt<W: fmt::Write>(&self, f: &mut fmt::Formatter<W>) -> fmt::Result {
         let Post {
@@ -54,11 +65,7 @@ pub fn mail<A: Allocator + Copy + Drop>(
     times: u64,
 ) -> Result<Post, AllocError> {
     let mut source = Source::new();
-    let mut post = Post {
-        items: 0,
-        notes: 0,
-        taken: 0,
-    };
+    let mut post = Post::new();
     for time in 0..times {
         let mut words = ClaimWords::new(alloc, layout, MAX_CELLS)?;
         let mut pool = Pool::new(alloc, 1, MAX_CELLS)?;

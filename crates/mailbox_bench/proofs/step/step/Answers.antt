@@ -1,5 +1,4 @@
-use Rattle.std.proofs.Common.{List, refl}
-use Rattle.mb_claim.specs.declared.access.ClaimAccess.{ClaimAccess}
+use Rattle.std.proofs.Common.{refl}
 use Rattle.mb_claim.specs.declared.layout.TheConstants.{MAX_CELLS}
 use Rattle.mb_claim.specs.Vocabulary.{claim_access}
 use Rattle.mailbox_bench.proofs.step.step.Goals as goal

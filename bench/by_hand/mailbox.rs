@@ -1,0 +1,275 @@
+//! A mailbox that threads can share, under one thread: a producer fills it, and then each consumer polls it to its end.
+
+use crate::claim::{Claim, Stage};
+use crate::layout::{CELLS, Layout, atomic_zeros};
+use crate::source::Source;
+use std::fmt;
+use std::hint::black_box;
+use std::sync::atomic::AtomicU64;
+use std::sync::atomic::Ordering::SeqCst;
+
+/// The mark that ends a lane.
+const END: u64 = u64::MAX;
+
+/// How many lanes there are.
+const LANES: usize = 1;
+
+/// The words of the lanes, of the cells, and of the claims on them.
+struct Mailbox<'a> {
+    layout: &'a Layout,
+    counter: AtomicU64,
+    heads: Vec<AtomicU64>,
+    links: Vec<AtomicU64>,
+    items: Vec<AtomicU64>,
+    claims: Vec<AtomicU64>,
+}
+
+impl Mailbox<'_> {
+    fn new(layout: &Layout) -> Mailbox<'_> {
+        Mailbox {
+            layout,
+            counter: AtomicU64::new(0),
+            heads: atomic_zeros(LANES),
+            links: atomic_zeros(CELLS),
+            items: atomic_zeros(CELLS),
+            claims: layout.atomic_words(),
+        }
+    }
+
+    /// The word that tells what comes after this cell, or at the head of the lane.
+    #[inline]
+    fn link(&self, lane: usize, last: Option<usize>) -> &AtomicU64 {
+        match last {
+            None => &self.heads[lane],
+            Some(cell) => &self.links[cell],
+        }
+    }
+}
+
+#[derive(Clone, Copy, PartialEq, Eq)]
+enum Put {
+    Linked,
+    Full,
+    Closed,
+}
+
+/// What a producer did last.
+#[derive(Clone, Copy, PartialEq, Eq)]
+enum LaneStage {
+    Open,
+    Full,
+    Ended,
+}
+
+/// The producer of a lane.
+struct Producer {
+    lane: usize,
+    last: Option<usize>,
+    stage: LaneStage,
+    put: Vec<u64>,
+}
+
+impl Producer {
+    fn new(lane: usize) -> Producer {
+        Producer { lane, last: None, stage: LaneStage::Open, put: Vec::with_capacity(CELLS) }
+    }
+
+    fn put(&mut self, mailbox: &Mailbox, item: u64) -> Put {
+        match self.stage {
+            LaneStage::Open => {}
+            LaneStage::Full => return Put::Full,
+            LaneStage::Ended => return Put::Closed,
+        }
+        let cell = mailbox.counter.fetch_add(1, SeqCst) as usize;
+        if cell >= CELLS {
+            self.stage = LaneStage::Full;
+            return Put::Full;
+        }
+        mailbox.items[cell].store(item, SeqCst);
+        mailbox.link(self.lane, self.last).store(cell as u64 + 1, SeqCst);
+        self.last = Some(cell);
+        self.put.push(item);
+        Put::Linked
+    }
+
+    fn finish(&mut self, mailbox: &Mailbox) {
+        mailbox.link(self.lane, self.last).store(END, SeqCst);
+        self.stage = LaneStage::Ended
+    }
+}
+
+/// What became of an item, as a consumer notes it.
+#[derive(Clone, Copy)]
+enum Note {
+    Took(u64),
+    Lost(u32),
+    Undecided,
+}
+
+/// What a poll comes to.
+#[derive(Clone, Copy)]
+enum Poll {
+    Noted(Note),
+    Nothing,
+    Ended,
+    Spent,
+    NoLane,
+}
+
+/// Where a consumer stands on a lane: before the link of the last cell that it met, or at a cell, with a claim that is
+/// going there or one that it has won.
+#[derive(Clone, Copy)]
+enum Place {
+    Before(Option<usize>),
+    At { cell: usize, claim: Claim },
+    Won(usize),
+}
+
+/// What a consumer keeps of a lane.
+struct Lane {
+    place: Place,
+    notes: Vec<Note>,
+}
+
+impl Lane {
+    /// Loads the item that the consumer has won.
+    #[inline]
+    fn take(&mut self, mailbox: &Mailbox, cell: usize) -> Poll {
+        self.noted(cell, Note::Took(mailbox.items[cell].load(SeqCst)))
+    }
+
+    /// Goes on past the cell, with this note on it.
+    #[inline]
+    fn noted(&mut self, cell: usize, note: Note) -> Poll {
+        self.place = Place::Before(Some(cell));
+        self.notes.push(note);
+        Poll::Noted(note)
+    }
+}
+
+struct Consumer {
+    number: u32,
+    lanes: Vec<Lane>,
+}
+
+impl Consumer {
+    fn new(number: u32) -> Consumer {
+        let lane = || Lane { place: Place::Before(None), notes: Vec::with_capacity(CELLS) };
+        Consumer { number, lanes: (0..LANES).map(|_| lane()).collect() }
+    }
+
+    /// Makes accesses on a lane until one has an answer, or as many were made as the budget allows.
+    fn poll(&mut self, mailbox: &Mailbox, p: usize, budget: u64, source: &mut Source) -> Poll {
+        let Some(lane) = self.lanes.get_mut(p) else {
+            return Poll::NoLane;
+        };
+        if budget == 0 {
+            return Poll::Spent;
+        }
+        let (cell, mut claim, left) = match lane.place {
+            Place::At { cell, claim } => (cell, claim, budget),
+            Place::Won(cell) => return lane.take(mailbox, cell),
+            Place::Before(last) => match mailbox.link(p, last).load(SeqCst) {
+                0 => return Poll::Nothing,
+                END => return Poll::Ended,
+                link => (link as usize - 1, Claim::new(self.number), budget - 1),
+            },
+        };
+        for left in (0..left).rev() {
+            match claim.step(mailbox.layout, &mut &mailbox.claims[..], cell, source.word()) {
+                Stage::Going => {}
+                Stage::Won if left == 0 => {
+                    lane.place = Place::Won(cell);
+                    return Poll::Spent;
+                }
+                Stage::Won => return lane.take(mailbox, cell),
+                Stage::Lost(winner) => return lane.noted(cell, Note::Lost(winner)),
+                Stage::Undecided => return lane.noted(cell, Note::Undecided),
+            }
+        }
+        lane.place = Place::At { cell, claim };
+        Poll::Spent
+    }
+}
+
+/// What the mailboxes together came to.
+pub struct Post {
+    items: u64,
+    notes: u64,
+    taken: u64,
+}
+
+impl fmt::Display for Post {
+    fn fmt(&self, f: &mut fmt::Formatter) -> fmt::Result {
+        write!(f, "{} items, {} notes, {} taken in sum", self.items, self.notes, self.taken)
+    }
+}
+
+/// So many mailboxes, one after the other, each filled and then polled to its end by each consumer.
+pub fn mailboxes(layout: &Layout, times: u64) -> Post {
+    let mut source = Source::new();
+    let mut post = Post { items: 0, notes: 0, taken: 0 };
+    for time in 0..times {
+        let mailbox = Mailbox::new(layout);
+        post.items += fill(&mailbox, time * CELLS as u64);
+        for number in 0..layout.consumers {
+            read(&mailbox, &mut Consumer::new(number), &mut source, &mut post)
+        }
+    }
+    post
+}
+
+/// So many mailboxes and their producers alone.
+pub fn mailboxes_alone(layout: &Layout, times: u64) -> u64 {
+    let mut made = 0;
+    for _ in 0..times {
+        black_box((Mailbox::new(layout), Producer::new(0)));
+        made += 1
+    }
+    made
+}
+
+/// So many mailboxes, in each of which a producer puts an item in each cell, and no more.
+pub fn puts(layout: &Layout, times: u64) -> u64 {
+    let mut linked = 0;
+    for time in 0..times {
+        let mailbox = Mailbox::new(layout);
+        linked += put_all(&mailbox, &mut Producer::new(0), time * CELLS as u64)
+    }
+    linked
+}
+
+/// Puts an item in each cell, numbered from `first`, and ends the lane. The answer is the number of items.
+fn fill(mailbox: &Mailbox, first: u64) -> u64 {
+    let mut producer = Producer::new(0);
+    let linked = put_all(mailbox, &mut producer, first);
+    producer.finish(mailbox);
+    linked
+}
+
+/// Puts an item in each cell, numbered from `first`. The answer is the number of items that were linked.
+fn put_all(mailbox: &Mailbox, producer: &mut Producer, first: u64) -> u64 {
+    let mut linked = 0;
+    for number in 0..CELLS as u64 {
+        if producer.put(mailbox, first + number) == Put::Linked {
+            linked += 1
+        }
+    }
+    linked
+}
+
+/// A consumer polls the lane to its end.
+fn read(mailbox: &Mailbox, consumer: &mut Consumer, source: &mut Source, post: &mut Post) {
+    loop {
+        match consumer.poll(mailbox, 0, u64::MAX, source) {
+            Poll::Noted(note) => {
+                post.notes += 1;
+                if let Note::Took(item) = note {
+                    post.taken += item
+                }
+            }
+            Poll::Spent => {}
+            Poll::Nothing | Poll::Ended | Poll::NoLane => return,
+        }
+    }
+}

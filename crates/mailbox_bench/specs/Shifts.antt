@@ -1,0 +1,20 @@
+-- Random words by shifts: the state is the last word.
+use Rattle.std.specs.Prelude.{ℕ, ◌*◌, ◌/◌, ◌%◌, ◌^◌, bit_xor}
+use Rattle.rand_core.specs.Steps.{Steps, steps_u64_low}
+
+-- a word with itself, shifted up or down by k places
+abbrev pub with_upper : ℕ → ℕ → ℕ
+with_upper k x = bit_xor x (x * 2 ^ k % 2 ^ 64)
+
+abbrev pub with_lower : ℕ → ℕ → ℕ
+with_lower k x = bit_xor x (x / 2 ^ k)
+
+-- the next word, and the state after it
+abbrev pub word_after : ℕ → ℕ × ℕ
+word_after x =
+    let word = with_upper 17 (with_lower 7 (with_upper 13 x)) in
+    (word, word)
+
+-- the three calls
+abbrev pub shift_steps : Steps ℕ
+shift_steps = steps_u64_low word_after

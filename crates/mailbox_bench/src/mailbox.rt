@@ -1,0 +1,134 @@
+//! Mailboxes that threads can share, under one thread: a producer fills one, and then each consumer polls it to its end.
+ghost use Rattle.mb_mailbox.specs.Consumers.{IsConsumerOf};
+ghost use Rattle.mb_mailbox.specs.Hubs.{IsHubOf};
+ghost use Rattle.mb_mailbox.specs.Producers.{IsProducerOf};
+
+use crate::choice::{Choice, PAIRS};
+use crate::mail::Post;
+use mb_claim::MAX_CELLS;
+use mb_mailbox::{Consumer, Hub, HubFault, Mailbox, Poll, Producer, Put};
+use mb_world::Setup;
+use rand_core::Rng;
+use std::alloc::{AllocError, Allocator};
+
+/// So many mailboxes with a producer each, and nothing else. The answer is how many were made.
+pub fn mailboxes_alone<A: Allocator + Copy + Drop>(
+    alloc: A,
+    choice: &Choice,
+) -> Result<u64, AllocError> {
+    let mut made = 0u64;
+    for _ in 0..choice.times {
+        let Some(setup) = setup_of(choice) else {
+            break;
+        };
+        let (mailbox, mut hub) = Mailbox::new(alloc, setup)?;
+        if hub.producer(alloc, &mailbox).is_err() {
+            return Err(AllocError);
+        }
+        made = made.wrapping_add(1);
+    }
+    Ok(made)
+}
+
+/// So many mailboxes that are filled, and nothing else. The answer is how many items were put.
+pub fn puts<A: Allocator + Copy + Drop>(alloc: A, choice: &Choice) -> Result<u64, AllocError> {
+    let mut items = 0u64;
+    for time in 0..choice.times {
+        let Some(setup) = setup_of(choice) else {
+            break;
+        };
+        let (mailbox, mut hub) = Mailbox::new(alloc, setup)?;
+        let Ok(mut producer) = hub.producer(alloc, &mailbox) else {
+            return Err(AllocError);
+        };
+        items = items.wrapping_add(put_all(&mailbox, &mut producer, time));
+    }
+    Ok(items)
+}
+
+/// So many mailboxes, one after the other, each filled and then polled to its end by each consumer.
+pub fn mailboxes<A: Allocator + Copy + Drop, R: Rng>(
+    alloc: A,
+    choice: &Choice,
+    rng: &mut R,
+) -> Result<Post, AllocError> {
+    let mut post = Post::new();
+    for time in 0..choice.times {
+        let Some(setup) = setup_of(choice) else {
+            break;
+        };
+        let (mailbox, mut hub) = Mailbox::new(alloc, setup)?;
+        let Ok(mut producer) = hub.producer(alloc, &mailbox) else {
+            return Err(AllocError);
+        };
+        let items = put_all(&mailbox, &mut producer, time);
+        post.items = post.items.wrapping_add(items);
+        producer.finish(&mailbox);
+        read_all(alloc, &mailbox, &mut hub, rng, &mut post)?;
+    }
+    Ok(post)
+}
+
+/// The setup of one lane and `MAX_CELLS` cells, with the choice's consumers.
+fn setup_of(choice: &Choice) -> Option<Setup> {
+    let consumers = u64::from(choice.layout.consumers());
+    Setup::new(1, consumers, u64::from(MAX_CELLS), PAIRS, choice.name).ok()
+}
+
+/// Puts an item for each cell, numbered by how many mailboxes came before. The answer is how many were linked.
+#[inline(always)]
+fn put_all<A: Allocator + Drop>(mailbox: &Mailbox<A>, producer: &mut Producer<A>, time: u64) -> u64
+    requires of { IsProducerOf mailbox.now producer.old }
+    ensures of { IsProducerOf mailbox.now producer.new }
+{
+    let first = time.wrapping_mul(u64::from(MAX_CELLS));
+    let mut linked = 0u64;
+    for number in 0..u64::from(MAX_CELLS) {
+        if producer.put(mailbox, first.wrapping_add(number)) == Put::Linked {
+            linked = linked.wrapping_add(1);
+        }
+    }
+    linked
+}
+
+/// Each consumer that the hub has left polls the lane until nothing more comes.
+fn read_all<A: Allocator + Copy + Drop, R: Rng>(
+    alloc: A,
+    mailbox: &Mailbox<A>,
+    hub: &mut Hub<A>,
+    rng: &mut R,
+    post: &mut Post,
+) -> Result<(), AllocError>
+    requires of { IsHubOf mailbox.now hub.old }
+{
+    for _ in 0..u64::MAX {
+        match hub.consumer(alloc, mailbox) {
+            Ok(mut consumer) => read(mailbox, &mut consumer, rng, post),
+            Err(HubFault::AllGiven) => break,
+            Err(HubFault::NoMemory) => return Err(AllocError),
+        }
+    }
+    Ok(())
+}
+
+/// A consumer polls the lane until nothing more comes, and its answers are counted.
+fn read<A: Allocator + Drop, R: Rng>(
+    mailbox: &Mailbox<A>,
+    consumer: &mut Consumer<A>,
+    rng: &mut R,
+    post: &mut Post,
+)
+    requires of { IsConsumerOf mailbox.now consumer.old }
+{
+    for _ in 0..u64::MAX {
+        match consumer.poll(mailbox, 0, u64::MAX, rng) {
+            Poll::Took(item) => {
+                post.notes = post.notes.wrapping_add(1);
+                post.taken = post.taken.wrapping_add(item);
+            }
+            Poll::Lost(_) | Poll::Undecided => post.notes = post.notes.wrapping_add(1),
+            Poll::Spent => {}
+            Poll::Nothing | Poll::Ended | Poll::NoLane => break,
+        }
+    }
+}
