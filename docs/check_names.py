@@ -1,0 +1,186 @@
+#!/usr/bin/env python3
+"""Looks up each name and each link of the pages in the sources, and lists those that are not there.
+
+The pages are README.md, those of docs/ and bench/, and the README of each crate and of the examples.
+A name is a word between backticks, but for words of capitals alone, which stand for others. It is found where the
+code, the definitions, the proofs, the examples or the names of files have it, comments aside. Further:
+  - a path has to be the end of the path of a file or folder;
+  - in `crate::..::name`, and in `Type::name` of a crate's own page, that crate has to have the last word;
+  - in "`name` in `specs/File.antt`" one of the files named there has to have the name;
+  - in "`function`: `clause`" a function of that name has to have that clause;
+  - a block of Rust has to stand, line by line, in a source file.
+The status is 0 where all was found, and else 1.
+"""
+import os
+import re
+import sys
+from fnmatch import fnmatch
+
+TOP = os.path.dirname(os.path.dirname(os.path.abspath(__file__)))
+PARTS = ("src", "specs", "proofs")
+PATH = re.compile(r"[\w.<>*-]+(?:/[\w.<>*-]+)+/?|[\w*-]+\.(?:rt|antt|md|py|txt|replay|ratify|out|err|edit)")
+WORD = re.compile(r"[A-Za-z_]\w*")
+# A function with what stands up to its body, and a clause of it.
+FUNCTION = re.compile(r"^ *(?:pub(?:\(\w+\))? )?(?:const )?(?:final )?fn (\w+)(.*?)(?=^ *\}?\{|^ *(?:pub |#\[|fn )|\Z)", re.M | re.S)
+CLAUSE = re.compile(r"^ *ensures (\w+) \{", re.M)
+NAMES = r"(?:`[\w:]+`(?:, | and ))*`[\w:]+`"
+# Words that are said of the world outside: commands, the library below, placeholders of formats.
+OUTSIDE = set(
+    """
+    rt ci run test check try plant fmt doc version cd grep rnE rn l LF CR TAB usr bin time a b i k m n o p q s u v w x y
+    Rust std HostRuntime Vec String Option Result Some None Ok Err usize u32 u64 Drop Send Sync Clone Copy Allocator
+    Threads Wait Rng ChaCha8 ChaCha8Rng Display Debug stdin stdout stderr sh git clone crossbeam_queue SegQueue mpsc main fn use mod mb_NAME earlier widths
+    """.split()
+)
+
+
+def read(path):
+    with open(path, encoding="utf-8") as file:
+        return file.read()
+
+
+def files_below(folder):
+    for at, folders, names in os.walk(folder):
+        folders[:] = sorted(it for it in folders if it not in ("out", ".git"))
+        for name in sorted(names):
+            yield os.path.join(at, name)
+
+
+def code_of(path):
+    """The text of a source file without its comments."""
+    text = read(path)
+    return re.sub(r"--.*" if path.endswith(".antt") else r"//.*", "", text)
+
+
+class Sources:
+    def __init__(self):
+        self.crates = sorted(os.listdir(f"{TOP}/crates"))
+        self.texts = {}
+        self.paths = set()
+        for path in [*files_below(TOP), *files_below(f"{TOP}/examples")]:
+            parts = os.path.relpath(path, TOP).split(os.sep)
+            self.paths.update("/".join(parts[:n]) for n in range(1, len(parts) + 1))
+        self.words = {crate: set() for crate in self.crates}
+        for crate in self.crates:
+            folder = f"{TOP}/crates/{crate}"
+            for path in files_below(folder):
+                self.words[crate].update(WORD.findall(os.path.relpath(path, folder)))
+                if path.endswith((".rt", ".antt")):
+                    self.texts[path] = code_of(path)
+                    self.words[crate].update(WORD.findall(self.texts[path]))
+        self.clauses = {}
+        for path, text in self.texts.items():
+            if path.endswith(".rt"):
+                for function, head in FUNCTION.findall(text):
+                    self.clauses.setdefault(function, set()).update(CLAUSE.findall(head))
+        self.all = set().union(*self.words.values(), self.crates, OUTSIDE)
+        for path in (f"{TOP}/crates.txt", f"{TOP}/HANDLES", f"{TOP}/mailbox", *files_below(f"{TOP}/bench")):
+            self.all.update(WORD.findall(read(path)))
+        for folder in ("examples", "docs"):
+            for path in files_below(os.path.realpath(f"{TOP}/{folder}")):
+                self.all.update(WORD.findall(os.path.basename(path)))
+                if not path.endswith(".md"):
+                    self.all.update(WORD.findall(open(path, encoding="latin-1").read()))
+
+    def has_path(self, path):
+        path = re.sub(r"<\w+>|[A-Z]{4,}|\b[A-Z]\b", "*", path.removeprefix("./").rstrip("/"))
+        return any(fnmatch(f"/{it}", f"*/{path}{end}") for it in self.paths for end in ("", ".antt", ".rt"))
+
+    def files_named(self, path):
+        return [it for it in self.texts if it.endswith(f"/{path}")]
+
+
+def pages():
+    yield f"{TOP}/README.md"
+    for folder in ("docs", "bench", "crates"):
+        for path in files_below(f"{TOP}/{folder}"):
+            if path.endswith(".md"):
+                yield path
+
+
+def crate_of(page):
+    parts = os.path.relpath(page, TOP).split(os.sep)
+    return parts[1] if parts[0] == "crates" else None
+
+
+def blocks_of(text):
+    """The fenced blocks, each with its language, and the text without them."""
+    blocks = re.findall(r"^```(\w*)\n(.*?)^```$", text, re.M | re.S)
+    return blocks, re.sub(r"^```.*?^```$", "", text, flags=re.M | re.S)
+
+
+def headings_of(path):
+    """The headings of a page, as a link spells them."""
+    return {re.sub(r"[^\w -]", "", it.lower()).replace(" ", "-") for it in re.findall(r"^#+ (.*)$", read(path), re.M)}
+
+
+def lines(text):
+    return [it.strip() for it in text.splitlines() if it.strip()]
+
+
+def faults_of(page, sources):
+    crate = crate_of(page)
+    blocks, text = blocks_of(read(page))
+    for target, heading in re.findall(r"\]\(([^)#]+)#?([^)]*)\)", text):
+        path = f"{os.path.dirname(page)}/{target}"
+        if "://" not in target and (not os.path.exists(path) or heading and heading not in headings_of(path)):
+            yield f"the link {target}#{heading}"
+    for span in re.findall(r"`([^`\n]+)`", text):
+        yield from faults_of_span(span, crate, sources)
+    for names, paths in re.findall(r"((?:`\w+`(?:,\s| and ))*`\w+`) in ((?:`[\w/]+\.antt`(?:,\s| and )?)+)", text):
+        files = [it for path in re.findall(r"`([^`]+)`", paths) for it in sources.files_named(path)]
+        for name in re.findall(r"`(\w+)`", names):
+            if not any(re.search(rf"\b{name}\b", sources.texts[it]) for it in files):
+                yield f"{name} in {paths}"
+    for names, clauses in re.findall(rf"({NAMES}): ({NAMES})", text):
+        functions = [it.split("::")[-1] for it in re.findall(r"`([^`]+)`", names)]
+        known = set().union(*(sources.clauses.get(it, set()) for it in functions))
+        for clause in re.findall(r"`([a-z]\w*)`", clauses):
+            if functions[-1] in sources.clauses and clause not in known:
+                yield f"the clause {clause} of {names}"
+    for language, block in blocks:
+        if language == "rust" and not any(stands_in(lines(block), lines(read(it))) for it in sources.texts):
+            yield f"the block that begins with {lines(block)[0]}"
+
+
+def stands_in(few, many):
+    return any(many[at:at + len(few)] == few for at in range(len(many) - len(few) + 1))
+
+
+def faults_of_span(span, crate, sources):
+    if span.startswith(("rattle-kit", "/")):
+        return
+    for path in PATH.findall(span):
+        if not sources.has_path(path):
+            yield f"the path {path}"
+    rest = PATH.sub(" ", span)
+    for chain in re.findall(r"\w+(?:::\w+)+", rest):
+        first, last = chain.split("::")[0], chain.split("::")[-1]
+        home = first if first in sources.words else crate
+        if home and not any(last in sources.words[it] for it in ({home} | below(home))):
+            yield f"{last} of {chain} in {home}"
+    for word in WORD.findall(rest):
+        if word not in sources.all and not word.isupper():
+            yield word
+
+
+def below(crate):
+    """The crates that the crate stands on."""
+    for line in read(f"{TOP}/crates.txt").splitlines():
+        name, _, on = line.partition(":")
+        if name.split() and name.split()[0] == crate:
+            return {it for it in on.split() if os.path.isdir(f"{TOP}/crates/{it}")}
+    return set()
+
+
+def main():
+    sources, count = Sources(), 0
+    for page in pages():
+        for fault in dict.fromkeys(faults_of(page, sources)):
+            print(f"{os.path.relpath(page, TOP)}: not found: {fault}")
+            count += 1
+    print(f"{count} not found")
+    return 1 if count else 0
+
+
+sys.exit(main())
