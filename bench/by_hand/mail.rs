@@ -26,9 +26,9 @@ enum Note {
 }
 
 pub struct Post {
-    items: u64,
-    notes: u64,
-    taken: u64,
+    pub items: u64,
+    pub notes: u64,
+    pub taken: u64,
 }
 
 impl fmt::Display for Post {

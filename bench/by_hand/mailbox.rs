@@ -1,9 +1,9 @@
 //! A mailbox that threads can share, under one thread: a producer fills it, and then each consumer polls it to its end.
 
+use crate::mail::Post;
 use crate::claim::{Claim, Stage};
 use crate::layout::{CELLS, Layout, atomic_zeros};
 use crate::source::Source;
-use std::fmt;
 use std::hint::black_box;
 use std::sync::atomic::AtomicU64;
 use std::sync::atomic::Ordering::SeqCst;
@@ -189,19 +189,6 @@ impl Consumer {
         }
         lane.place = Place::At { cell, claim };
         Poll::Spent
-    }
-}
-
-/// What the mailboxes together came to.
-pub struct Post {
-    items: u64,
-    notes: u64,
-    taken: u64,
-}
-
-impl fmt::Display for Post {
-    fn fmt(&self, f: &mut fmt::Formatter) -> fmt::Result {
-        write!(f, "{} items, {} notes, {} taken in sum", self.items, self.notes, self.taken)
     }
 }
 
