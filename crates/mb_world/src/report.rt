@@ -7,9 +7,9 @@ use std::marker::Model;
 pub enum Note {
     /// The consumer has won the item, and has loaded this value.
     Took(u64),
-    /// This other consumer is the winner.
+    /// No consumer but this other one can have won it; it may not have, or may have ended undecided.
     Lost(u32),
-    /// The claim ended with no winner.
+    /// The consumer's own claim ended undecided: another may have won the item, or nobody.
     Undecided,
 }
 
