@@ -1,4 +1,4 @@
--- What devices give and take, where their bytes are known.
+-- What devices count, and what they give and take, where their bytes are known.
 use Rattle.std.specs.Prelude.{◌≡◌, ℕ, ◌+◌, ◌%◌, ◌^◌, ◌≤◌, List, length, take, Some, None}
 use Rattle.std.specs.declared.option.Option.{Option}
 use Rattle.std.specs.Io.KnownBytes.{Appends, Consumes}
@@ -6,6 +6,14 @@ use Rattle.std.specs.Io.KnownBytes.{Appends, Consumes}
 -- the number of failures after one more
 abbrev pub one_more : ℕ → ℕ
 one_more failures = (failures + 1) % 2 ^ 64
+
+-- a count modulo 2^64 grows by n
+abbrev pub CountGrows : ℕ → ℕ → ℕ → Type 0
+CountGrows n old new = new % 2 ^ 64 ≡ (old + n) % 2 ^ 64
+
+-- a count modulo 2^64 grows by at most so many
+abbrev pub CountGrowsUpTo : ℕ → ℕ → ℕ → Type 0
+CountGrowsUpTo most old new = (n : ℕ) × (n ≤ most) × CountGrows n old new
 
 -- known bytes grow by a prefix of the text
 abbrev pub AppendsFront : Option (List ℕ) → Option (List ℕ) → List ℕ → Type 0

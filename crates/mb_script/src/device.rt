@@ -1,29 +1,35 @@
-//! Readers and writers that count their failures.
+//! Readers and writers that count their failures, and readers that count the bytes that they give.
 //!
-//! A promise that a fault comes only where the device failed needs a device that tells so. These traits have one read
-//! or one write a call, so nothing is retried.
+//! A promise that a fault comes only where the device failed needs a device that tells so, and a promise that no more
+//! than so many bytes are read needs a count where the bytes themselves are not known. These traits have one read or
+//! one write a call, so nothing is retried.
 ghost use Rattle.std.specs.Prelude.{◌≡◌, ℕ, ◌<◌, List, IsOk, IsErr, IfOk, Ok, length};
 ghost use Rattle.std.specs.declared.option.Option.{Option};
 ghost use Rattle.std.specs.Io.{ReadsAtMost, WritesAtMost};
 ghost use Rattle.std.specs.Io.KnownBytes.{ReadConsumes, WriteAppends};
-ghost use Rattle.mb_script.specs.Devices.{one_more};
+ghost use Rattle.mb_script.specs.Devices.{CountGrows, one_more};
 
 use std::io;
 use std::io::{Read, Write};
 
-/// A reader that counts its failures, modulo 2^64.
+/// A reader that counts its failures and the bytes that its reads give, both modulo 2^64.
 pub trait Source {
     // The bytes that reads will give from here on, where they are known.
     ghost left: { Self → Option (List ℕ) };
 
     ghost failures: { Self → ℕ };
 
+    // How many bytes its reads gave, whether they are known or not.
+    ghost given: { Self → ℕ };
+
     /// Reads some bytes, at most the buffer's length, and none only at the end or with no room.
     fn read(&mut self, buf: &mut [u8]) -> io::Result<usize>
         ensures bound { ReadsAtMost result buf.new }
         ensures bytes { ReadConsumes (left self.old) (left self.new) result buf.new }
         ensures fails { IsErr result → failures self.new ≡ one_more (failures self.old) }
-        ensures works { IsOk result → failures self.new ≡ failures self.old };
+        ensures works { IsOk result → failures self.new ≡ failures self.old }
+        ensures gives { IfOk result (λ n. CountGrows n (given self.old) (given self.new)) }
+        ensures gives_none { IsErr result → given self.new ≡ given self.old };
 }
 
 /// A writer that counts its failures, modulo 2^64. To take none of some bytes is a failure.
@@ -43,30 +49,35 @@ pub trait Sink {
         ensures works { IfOk result (λ n. 0 < n → failures self.new ≡ failures self.old) };
 }
 
-/// A reader or writer of std, beside the number of its failures.
+/// A reader or writer of std, beside the number of its failures and of the bytes that it gave.
 #[derive(Drop)]
 pub struct Counting<D: Drop> {
     /// The reader or writer.
     pub device: D,
     /// How many of its reads or writes failed, modulo 2^64.
     pub failures: u64,
+    /// How many bytes its reads gave, modulo 2^64. Of a writer it stays as it is.
+    pub given: u64,
 }
 
 impl<D: Drop> Counting<D> {
-    /// The device, with no failure counted.
+    /// The device, with no failure and no byte counted.
     pub fn new(device: D) -> Counting<D>
         ensures device { result.device ≡ device }
         ensures failures { result.failures ≡ 0 }
+        ensures given { result.given ≡ 0 }
     {
         Counting {
             device,
             failures: 0,
+            given: 0,
         }
     }
 
-    fn count(&mut self)
+    fn count_failure(&mut self)
         ensures device { self.new.device ≡ self.old.device }
         ensures failures { self.new.failures ≡ one_more self.old.failures }
+        ensures given { self.new.given ≡ self.old.given }
     {
         self.failures = self.failures.wrapping_add(1);
     }
@@ -77,10 +88,13 @@ impl<R: Read + Drop> Source for Counting<R> {
 
     ghost failures = { λ c. c.failures };
 
+    ghost given = { λ c. c.given };
+
     fn read(&mut self, buf: &mut [u8]) -> io::Result<usize> {
         let result = self.device.read(buf);
-        if result.is_err() {
-            self.count();
+        match &result {
+            Ok(n) => self.given = self.given.wrapping_add(*n as u64),
+            Err(_) => self.count_failure(),
         }
         result
     }
@@ -95,7 +109,7 @@ impl<W: Write + Drop> Sink for Counting<W> {
         let result = self.device.write(buf);
         match &result {
             Ok(n) if *n > 0 => {}
-            _ => self.count(),
+            _ => self.count_failure(),
         }
         result
     }

@@ -10,7 +10,7 @@ ghost use Rattle.mb_script.specs.declared.fault.Fault.{Fault};
 ghost use Rattle.mb_script.specs.declared.fault.Fault.TheVariants.{NoSetup, TooManyEvents};
 ghost use Rattle.mb_script.specs.declared.script.TheConstants.{MAX_EVENTS};
 ghost use Rattle.mb_script.specs.declared.transfer.TheConstants.{MAX_SCRIPT_LEN};
-ghost use Rattle.mb_script.specs.Devices.{one_more};
+ghost use Rattle.mb_script.specs.Devices.{CountGrows, CountGrowsUpTo, one_more};
 ghost use Rattle.mb_script.specs.FirstFault.{first_word_in, line_of};
 ghost use Rattle.mb_script.specs.Replaying.{IsAnswer, IsOfWorld};
 ghost use Rattle.mb_script.specs.Scripts.{Script, script_of};
@@ -102,4 +102,10 @@ pub fn transcripts_name_what_is_there()
 /// A failure is seen in the number of failures.
 pub fn failures_are_seen()
     ensures { (failures : ℕ) → one_more failures ≢ failures }
+{}
+
+/// A count that grows by at most so many shows that no more bytes were given, unless these are 2^64 or more.
+pub fn counts_bound_what_is_given()
+    ensures { (most n old new : ℕ) → n < 2 ^ 64 → most < 2 ^ 64 → CountGrows n old new
+        → CountGrowsUpTo most old new → n ≤ most }
 {}

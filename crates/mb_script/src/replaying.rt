@@ -1,6 +1,8 @@
 //! The command `replay`: from a script to its transcript and its report.
-ghost use Rattle.std.specs.Prelude.{◌≡◌, ◌≢◌, Some, IfOk, IfErr, string_bytes};
+ghost use Rattle.std.specs.Prelude.{◌≡◌, ◌≢◌, ◌+◌, Some, IfOk, IfErr, string_bytes};
 ghost use Rattle.mb_script.specs.declared.fault.Fault.TheVariants.{NoMemory, ReadFault, WriteFault};
+ghost use Rattle.mb_script.specs.declared.transfer.TheConstants.{MAX_SCRIPT_LEN};
+ghost use Rattle.mb_script.specs.Devices.{CountGrowsUpTo};
 ghost use Rattle.mb_script.specs.Exchange.{IsExchange, meter};
 ghost use Rattle.mb_script.specs.Replaying.{IsAnswer, fault_of, replaying};
 
@@ -30,8 +32,11 @@ pub fn run<A: Allocator + Copy, R: Source, W: Sink>(
     reader: &mut R,
     writer: &mut W,
 ) -> Result<(), Fault>
-    ensures { IsExchange replaying (meter R.left R.failures) (meter W.held W.failures)
+    ensures exchange { IsExchange replaying (meter R.left R.failures) (meter W.held W.failures)
         reader.old reader.new writer.old writer.new result }
+
+    // Of every reader, also of one whose bytes are not known.
+    ensures given { CountGrowsUpTo (MAX_SCRIPT_LEN + 1) (R.given reader.old) (R.given reader.new) }
 {
     let bytes = read_all(alloc, reader)?;
     let text = answer(alloc, &bytes)?;

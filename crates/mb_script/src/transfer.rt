@@ -1,7 +1,7 @@
 //! All that a reader has, up to a limit, and a text into a writer.
 ghost use Rattle.std.specs.Prelude.{◌≡◌, ◌≢◌, ◌+◌, ◌≤◌, IfOk, OnOk, OnErr, Err, length};
 ghost use Rattle.std.specs.Io.KnownBytes.{Appends, Consumes, IsAtEnd};
-ghost use Rattle.mb_script.specs.Devices.{AppendsFront, ConsumesCount, ConsumesUpTo, one_more};
+ghost use Rattle.mb_script.specs.Devices.{AppendsFront, ConsumesCount, ConsumesUpTo, CountGrowsUpTo, one_more};
 
 use crate::device::{Sink, Source};
 use std::alloc::Allocator;
@@ -45,6 +45,9 @@ pub fn read_all<R: Source, A: Allocator + Drop>(
     // Behind one byte too many it reads no more, so no read fails there.
     ensures failed { result ≡ Err ReadEnd.ReadFault
         → ConsumesUpTo MAX_SCRIPT_LEN (R.left reader.old) (R.left reader.new) }
+
+    // Of every reader, also of one whose bytes are not known.
+    ensures given { CountGrowsUpTo (MAX_SCRIPT_LEN + 1) (R.given reader.old) (R.given reader.new) }
 
     // It answers ReadFault exactly where the reader failed.
     ensures fault { result ≡ Err ReadEnd.ReadFault

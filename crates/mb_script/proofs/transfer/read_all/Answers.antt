@@ -1,4 +1,4 @@
-use Rattle.std.proofs.Common.{arith, ◌++◌, take}
+use Rattle.std.proofs.Common.{arith, ◌+◌, ◌++◌, length, take}
 use Rattle.std.proofs.lemmas.Grind.{common_steps}
 use Rattle.mb_script.proofs.KnownBytes.{Consumes-twice}
 use Rattle.mb_script.proofs.transfer.read_all.Goals as goal
@@ -9,3 +9,10 @@ returns-in_default-extend_from_slice-clause-early g c = (
   (let bound = c.in-Ok.ensures.bound in grind (arith, common_steps)),
   Consumes-twice _ _ _ _ _ c.loop-piece.invariant.took c.in-Ok.ensures.bytes.0,
 )
+
+pub returns-in_default-extend_from_slice-clause-given : goal.returns-in_default-extend_from_slice-clause-given
+returns-in_default-extend_from_slice-clause-given g c =
+    let bound = c.in-Ok.ensures.bound in
+    let before = c.loop-piece.invariant.given in
+    let more = c.in-Ok.ensures.gives in
+    (length c.loop-piece.text.items + c.in-Ok.n, grind (arith, common_steps), grind (arith, common_steps))

@@ -1,12 +1,14 @@
 use Rattle.std.proofs.Common.{◌≡◌, ◌≤◌, ◌+◌, ◌-◌, length}
 use Rattle.std.specs.Io.KnownBytes.{Consumes}
 use Rattle.mb_script.specs.declared.transfer.TheConstants.{MAX_SCRIPT_LEN}
+use Rattle.mb_script.specs.Devices.{CountGrows}
 use Rattle.mb_script.proofs.transfer.read_all.Given as goal
 
 abbrev pub invariant-loop-piece : goal.invariant-loop-piece
 invariant-loop-piece g l = record {
   took : Consumes (g.R.Source.left l.fn.reader) (g.R.Source.left l.reader) l.text.items;
   limit : length l.text.items ≤ MAX_SCRIPT_LEN + 1;
+  given : CountGrows (length l.text.items) (g.R.Source.given l.fn.reader) (g.R.Source.given l.reader);
   works : g.R.Source.failures l.reader ≡ g.R.Source.failures l.fn.reader;
 }
 
