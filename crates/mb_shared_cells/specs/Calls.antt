@@ -1,6 +1,8 @@
 -- What each call of a seat does: the access of the same call of a pool, or none where that makes none.
 use Rattle.std.specs.Prelude.{None, Option, Some, [], ℕ, ◌∷◌, ◌≡◌}
-use Rattle.mb_cells.specs.Vocabulary.{fetch, finish_refusal, lane_after_finish, lane_after_offer, lane_after_push, load, look_of, next_link, offer_by_found, offer_refusal, push_answer, push_store, store, word_of}
+use Rattle.mb_cells.specs.Vocabulary.{fetch, finish_refusal, lane_after_finish, lane_after_offer}
+use Rattle.mb_cells.specs.Vocabulary.{lane_after_push, load, look_of, next_link, offer_by_found}
+use Rattle.mb_cells.specs.Vocabulary.{offer_refusal, push_answer, push_store, store, word_of}
 use Rattle.mb_cells.specs.declared.access.PoolAccess.{PoolAccess}
 use Rattle.mb_cells.specs.declared.access.TheConstants.{END}
 use Rattle.mb_cells.specs.declared.access.Word.{Word}

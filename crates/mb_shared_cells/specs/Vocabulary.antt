@@ -1,5 +1,8 @@
 -- The words of clauses, here and in the crates above. `Seats` has what the seats keep, for the code alone.
-pub use Rattle.mb_shared_cells.specs.Views.{IsAccessAfter, IsRollOf, KnowsLanes, PartList, empty_roll, roll_at, roll_with_lane, roll_with_part, roll_with_reader}
-pub use Rattle.mb_shared_cells.specs.Rule.{FitsView, HasPart, HasProcess, IsCellsState, IsEnrolled, IsHub, IsTableState, KnowsTaken, Seating, StandsAt, roster_of}
+pub use Rattle.mb_shared_cells.specs.Views.{IsAccessAfter, IsRollOf, KnowsLanes, PartList, empty_roll}
+pub use Rattle.mb_shared_cells.specs.Views.{roll_at, roll_with_lane, roll_with_part, roll_with_reader}
+pub use Rattle.mb_shared_cells.specs.Rule.{FitsView, HasPart, HasProcess, IsCellsState, IsEnrolled, IsHub}
+pub use Rattle.mb_shared_cells.specs.Rule.{IsTableState, KnowsTaken, Seating, StandsAt, roster_of}
 pub use Rattle.mb_shared_cells.specs.Shown.{CellHubView, CellsName, HasHistory, LaneSeatView, ReaderSeatView}
-pub use Rattle.mb_shared_cells.specs.Calls.{FinishBy, FinishMakes, ItemMakes, LaneMakes, LookMakes, OfferBy, OfferMakes, PushBy, PushMakes, ReaderMakes}
+pub use Rattle.mb_shared_cells.specs.Calls.{FinishBy, FinishMakes, ItemMakes, LaneMakes, LookMakes}
+pub use Rattle.mb_shared_cells.specs.Calls.{OfferBy, OfferMakes, PushBy, PushMakes, ReaderMakes}

@@ -94,7 +94,7 @@ pub fn three_calls_put_an_item()
 
 /// What puts nothing: an offer that is answered Full, which comes only where a fetch-add of this producer found a number
 /// past the cells, and the end mark.
-pub fn other_calls_put_nothing()
+pub fn full_offers_and_end_marks_put_nothing()
     ensures full { (old new : LaneSeatView) (x : ℕ) → OfferMakes old x offer.Full new
         → put_list old.lane new.part ≡ put_list old.lane old.part }
     ensures found { (old new : LaneSeatView) (x : ℕ)

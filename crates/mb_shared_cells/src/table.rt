@@ -4,6 +4,7 @@ mod enrolling;
 mod lanes;
 mod readers;
 
+use self::accesses::roster;
 use crate::rule::CellsRule;
 use crate::views::View;
 use atomic_table::{Seat, Table};
@@ -103,8 +104,7 @@ impl<A: Allocator + Clone + Drop> SharedCells<A> {
         one_step();
         words_follow_steps();
         let size = PoolSize { lanes, cells };
-        let roster = 1 + lanes as usize + cells as usize + cells as usize;
-        let words = vec![in alloc.clone()?; 0u64; roster + 1]?;
+        let words = vec![in alloc.clone()?; 0u64; roster(size) + 1]?;
         let (table, seat) = Table::of_words(alloc, words.as_slice(), &size)?;
         Ok((SharedCells { table, size }, CellHub { seat, given: 0 }))
     }

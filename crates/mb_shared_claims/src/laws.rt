@@ -4,12 +4,10 @@
 //! Between any two steps of any seats, the words and the views of a table are a state of the claims: so says the rule under
 //! which each table is made, [`ClaimsRule`](crate::rule::ClaimsRule), and the rule is checked at each step.
 ghost use Rattle.std.specs.Prelude.{ℕ, suc, ◌≡◌, ◌≢◌, ◌+◌, ◌<◌, ◌≤◌, Some, None, List, [], ◌∷◌, ◌++◌, length};
-ghost use Rattle.std.specs.Prelude.{replicate};
-ghost use Rattle.std.specs.Prelude.{slice_index, slice_set};
+ghost use Rattle.std.specs.Prelude.{replicate, slice_index, slice_set};
 ghost use Rattle.mb_deciding.specs.Vocabulary.{IsInWords, reg_of};
 ghost use Rattle.mb_claim.specs.Vocabulary.{part, consumer_count, HasWord, IsMemoryOf, access_in, words_after};
-ghost use Rattle.mb_shared_claims.specs.{ClaimAccess, ClaimOp, TableSize, View, Handing, Drawing, Standing, Taking};
-ghost use Rattle.mb_shared_claims.specs.{Spent};
+ghost use Rattle.mb_shared_claims.specs.{ClaimAccess, ClaimOp, TableSize, View, Handing, Drawing, Standing, Taking, Spent};
 ghost use Rattle.mb_shared_claims.specs.{claims_of_size, Roll, IsViewAt, HasPartAt, roster, IsClaimsState, MayComeNext};
 
 use mb_claim::steps::{

@@ -69,8 +69,8 @@ impl<A: Allocator + Clone + Drop> SharedClaims<A> {
 }
 
 impl<A: Allocator + Drop> SharedClaims<A> {
-    ghost use Rattle.std.specs.Prelude.{◌≡◌, ◌↔◌, ◌≤◌, [], ◌∷◌, ◌++◌, length, slice_set, Some, None, IsErr, IfOk};
-    ghost use Rattle.std.specs.Prelude.{OnErr};
+    ghost use Rattle.std.specs.Prelude.{◌≡◌, ◌↔◌, ◌≤◌, [], ◌∷◌, ◌++◌, length, slice_set};
+    ghost use Rattle.std.specs.Prelude.{Some, None, IsErr, IfOk, OnErr};
     ghost use Rattle.mb_claim.specs.Vocabulary.{claims_in, consumer_count};
     ghost use Rattle.mb_shared_claims.specs.{name_of, IsOut, count_out, taken_part, AreOfOneHistory};
 

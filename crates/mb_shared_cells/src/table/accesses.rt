@@ -1,30 +1,32 @@
 //! One access of a seat: one atomic step of the table.
+ghost use Rattle.std.specs.Prelude.{◌≡◌};
+ghost use Rattle.mb_shared_cells.specs.Rule.{roster_of};
+
 use super::SharedCells;
 use crate::rule::{Made, Makes};
 use crate::views::View;
 use atomic_table::Seat;
-use mb_cells::Word;
 use mb_cells::laws::numbers_are_handed_out_once;
 use mb_cells::steps::{
     accesses_lengthen_one_part, addresses_are_apart, one_step, words_follow_steps,
 };
+use mb_cells::{PoolSize, Word};
 use std::alloc::Allocator;
+
+/// Where the roster lies in a table of this size: behind the words of the pool.
+pub(super) fn roster(size: PoolSize) -> usize
+    ensures { result ≡ roster_of size }
+{
+    1 + size.lanes as usize + size.cells as usize + size.cells as usize
+}
 
 impl<A: Allocator + Drop> SharedCells<A> {
     ghost use Rattle.std.specs.Prelude.{◌≡◌, ◌<◌, ◌^◌};
     ghost use Rattle.mb_cells.specs.Vocabulary.{IsPoolWord, address_of};
     ghost use Rattle.mb_cells.specs.declared.access.PoolAct.TheVariants.{FetchAdd, Load, Store};
     ghost use Rattle.mb_cells.specs.declared.access.Word.TheVariants.{Counter};
-    ghost use Rattle.mb_shared_cells.specs.Rule.{roster_of};
     ghost use Rattle.mb_shared_cells.specs.Seats.{CanFetch, CanLoad, CanStore};
     ghost use Rattle.mb_shared_cells.specs.Views.{MakesAccess};
-
-    /// Where the roster lies.
-    pub(super) fn roster(&self) -> usize
-        ensures { result ≡ roster_of self.now.size }
-    {
-        1 + self.size.lanes as usize + self.size.cells as usize + self.size.cells as usize
-    }
 
     /// Where a word lies.
     fn address(&self, word: Word) -> usize

@@ -15,8 +15,7 @@ impl<A: Allocator + Drop> SharedClaims<A> {
     ghost use Rattle.mb_deciding.specs.Vocabulary.{reg_of};
     ghost use Rattle.mb_claim.specs.Vocabulary.{HasWord, IsClaimIn, claim_stage, claims_in, consumer_of, is_begun};
     ghost use Rattle.mb_claim.specs.Vocabulary.{part_on, steps_left};
-    ghost use Rattle.mb_shared_claims.specs.{Going, name_of, IsSeatStep, MayComeNext, ComesAfter, access_of};
-    ghost use Rattle.mb_shared_claims.specs.{with_access};
+    ghost use Rattle.mb_shared_claims.specs.{Going, name_of, IsSeatStep, MayComeNext, ComesAfter, access_of, with_access};
 
     /// Makes the next access of a claim of the seat's consumer on a cell, with the random word of this step, and tells how
     /// far the claim has come then.
@@ -70,6 +69,7 @@ impl<A: Allocator + Drop> SharedClaims<A> {
     {
         accesses_lengthen_one_part();
         addresses_are_apart();
+        // The random word stands in the contract alone.
         let _ = word;
         let address = self.size.layout.address(cell, next.object, next.op.reg());
         match next.op {

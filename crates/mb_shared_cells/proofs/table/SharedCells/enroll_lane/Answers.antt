@@ -1,5 +1,4 @@
 use Rattle.std.proofs.Common.{ap, arith, sym, ◌∙◌}
-use Rattle.mb_shared_cells.specs.Rule.{roster_of}
 use Rattle.mb_shared_cells.specs.Seats.{roll_in, size_in}
 use Rattle.mb_shared_cells.specs.Views.{SeatState, hub_after_draw}
 use Rattle.mb_shared_cells.proofs.EnrolMoves.{draw_asked, lane_splits}
@@ -12,7 +11,7 @@ fetch_add-requires g c =
     let few = c.if-hub-self.false in
     let count = c.hub.invariant.count in
     let wide = c.self.invariant.1 in
-    let there = c.roster-roster.ensures ∙ ap (λ v. roster_of v.size) (sym c.self.view_is) in (
+    let there = c.roster-roster.ensures in (
       same,
       omega (arith, there, wide),
       draw_asked c.words_follow_steps.ensures.more _ c.self.inside.size _ _ _ _ (size_in me.0) (roll_in me.0)

@@ -1,5 +1,5 @@
 use Rattle.mb_shared_cells.proofs.PutMoves.{PutLaws, end_puts, full_found, full_puts}
-use Rattle.mb_shared_cells.proofs.laws.other_calls_put_nothing.Goals as goal
+use Rattle.mb_shared_cells.proofs.laws.full_offers_and_end_marks_put_nothing.Goals as goal
 
 pub returns-clause-full : goal.returns-clause-full
 returns-clause-full c = λ old new x made.
