@@ -1,8 +1,8 @@
 -- A consumer that has read a lane to its end.
-use Rattle.std.proofs.Common.{◌≡◌, ◌≢◌, ℕ, zero, suc, ◌+◌, ◌⊎◌, List, [], ◌∷◌, ◌++◌, length, map, reverse, refl, sym, ap, ◌∙◌, subst, inl, inr}
+use Rattle.std.proofs.Common.{◌≡◌, ◌≢◌, ℕ, zero, suc, ◌+◌, ◌<◌, List, [], ◌∷◌, ◌++◌, length, map, refl, sym, ap, ◌∙◌, subst, inr, arith}
 use Rattle.std.specs.Prelude.{Option, Some, None, slice_get, slice_set}
 use Rattle.std.specs.Option.{option_map_or}
-use Rattle.std.proofs.lemmas.List.{length-map, length-reverse}
+use Rattle.std.proofs.lemmas.List.{length-append, length-map, length-reverse}
 use Rattle.mb_cells.specs.Vocabulary.{Entry, HasLoaded, entry_at, put_list}
 use Rattle.mb_cells.specs.declared.access.PoolAccess.{PoolAccess}
 use Rattle.mb_cells.specs.declared.access.Process.{Process}
@@ -10,12 +10,13 @@ use Rattle.mb_cells.specs.declared.size.PoolSize.{PoolSize}
 use Rattle.mb_shared_cells.specs.Vocabulary.{IsRollOf}
 use Rattle.mb_shared_cells.specs.declared.views.Roll.{Roll}
 use Rattle.mb_world.specs.Reporting.{values_put}
-use Rattle.mb_mailbox.specs.Below.{END, Has, HasMet, History, IsPoolLawful, Note, Producer, Reader, Stream, cells_met, claim_accesses, linked_cells, load, part, place_past, pool_accesses}
+use Rattle.mb_mailbox.specs.Below.{END, Has, HasMet, History, IsPoolLawful, Note, Producer, Reader, ReaderSeatView, SeatView, Stream, ToCells, ToClaims, WorldHistory, cells_met, claim_accesses, linked_cells, load, part, place_past, pool_accesses}
 use Rattle.mb_mailbox.specs.Consumers.{ConsumerView}
-use Rattle.mb_mailbox.specs.Jobs.{HasReadToEnd, IsSameConsumer}
+use Rattle.mb_mailbox.specs.Jobs.{HasReadToEnd, IsSameConsumer, accesses_made}
 use Rattle.mb_mailbox.specs.Moves.{HasLoads}
-use Rattle.mb_mailbox.specs.Steps.{HasLoadedEnd, HasNoteOnEach, IsPollOf, note_with, notes_on, outcome, with_note}
+use Rattle.mb_mailbox.specs.Steps.{HasLoadedEnd, HasNoteOnEach, IsPollOf, LeadTo, note_with, notes_on, outcome, with_note}
 use Rattle.mb_mailbox.specs.declared.consumer.Poll.{Poll}
+use Rattle.mb_mailbox.specs.declared.consumer.Poll.TheVariants as poll
 
 -- ---- longer parts
 has_more : (later : History) (h : History) (a : PoolAccess) → Has h a → Has (later ++ h) a
@@ -59,6 +60,36 @@ kept_by p q budget answer s t old new i ne o =
       notes = ap (λ (l : List (List Note)). length (notes_on q l)) i.done.notes
           ∙ ap (λ (l : List Note). length l) (notes_kept p q (note_with (outcome answer)) old.notes ne) ∙ o.notes;
     }
+
+-- ---- its accesses
+both : (done : WorldHistory) → length (pool_accesses done) + length (claim_accesses done) ≡ length done
+both [] = refl
+both (ToCells a ∷ older) = let e = both older in omega (arith, e)
+both (ToClaims a ∷ older) = let e = both older in omega (arith, e)
+
+-- a poll that is spent at once has a budget of 0
+none_made : (p budget : ℕ) (answer : Poll) (s : ConsumerView) → LeadTo p (outcome answer) [] s → (answer ≡ poll.Spent → 0 ≡ budget) → 0 ≡ budget
+none_made p budget poll.Spent s lead spent = spent refl
+none_made p budget (poll.Took x) s lead spent = absurd (cc)
+none_made p budget (poll.Lost w) s lead spent = absurd (cc)
+none_made p budget poll.Undecided s lead spent = absurd (cc)
+none_made p budget poll.Nothing s lead spent = absurd (cc)
+none_made p budget poll.Ended s lead spent = absurd (cc)
+none_made p budget poll.NoLane s lead spent = absurd (cc)
+
+some_made : (p budget : ℕ) (answer : Poll) (done : WorldHistory) (s : ConsumerView) → 0 < budget → LeadTo p (outcome answer) done s
+    → (answer ≡ poll.Spent → length done ≡ budget) → 0 < length done
+some_made p budget answer [] s able lead spent = let none = none_made p budget answer s lead spent in omega (arith, able, none)
+some_made p budget answer (a ∷ older) s able lead spent = omega arith
+
+pub made_by : (p budget : ℕ) (answer : Poll) (s t : Stream) (old new : ConsumerView) → 0 < budget → IsPollOf p budget answer s t old new
+    → accesses_made old < accesses_made new
+made_by p budget answer s t old new able i =
+    let some = some_made p budget answer i.accesses old able i.lead i.spent in
+    let reads = ap (λ (r : ReaderSeatView). length r.part) i.done.reader ∙ length-append (pool_accesses i.accesses) old.reader.part in
+    let claimed = ap (λ (c : SeatView). length c.part) i.done.seat ∙ length-append (claim_accesses i.accesses) old.seat.part in
+    let all = both i.accesses in
+    omega (arith, some, reads, claimed, all)
 
 -- ---- from its loads
 module _ (met : (q p : ℕ) (h : History) → HasMet q p (cells_met p (part (Reader q) h)) h)

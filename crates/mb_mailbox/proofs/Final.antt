@@ -1,9 +1,11 @@
 -- What a run comes to, from what was given, what came of it, and what was taken in.
-use Rattle.std.proofs.Common.{◌≡◌, ℕ, suc, ◌+◌, ◌-◌, ◌^◌, ◌≤◌, List, [], ◌∷◌, ◌++◌, length, map, min, refl, sym, ap, ◌∙◌, subst, vec_len, false, arith}
+use Rattle.std.proofs.Common.{◌≡◌, ℕ, suc, Bool, true, ◌+◌, ◌-◌, ◌^◌, ◌≤◌, List, [], ◌∷◌, ◌++◌, length, map, min, refl, sym, ap, ◌∙◌, subst, false, arith, ◌<◌}
+use Rattle.std.specs.Int.{from_bool}
 use Rattle.std.specs.Prelude.{Vec, Some, slice_get}
 use Rattle.std.specs.List.{All, AllZip, sum_by}
 use Rattle.std.proofs.lemmas.List.{length-map, map-append}
 use Rattle.std.proofs.lemmas.List.Elements.{All-cons, All-head, All-tail}
+use Rattle.std.proofs.lemmas.List.Sums.{sum_by-cons}
 use Rattle.mb_shared_cells.specs.Vocabulary.{IsRollOf}
 use Rattle.mb_shared_cells.specs.declared.views.Roll.{Roll}
 use Rattle.mb_cells.specs.declared.size.PoolSize.{PoolSize}
@@ -16,10 +18,11 @@ use Rattle.mb_mailbox.specs.Hubs.{HubView, IsHub, IsHubOf}
 use Rattle.mb_mailbox.specs.Jobs.{HasReadToEnd, IsPollEnd, IsPutEnd}
 use Rattle.mb_mailbox.specs.Mailboxes.{MailboxView}
 use Rattle.mb_mailbox.specs.Producers.{IsProducerOf, ProducerView}
-use Rattle.mb_mailbox.specs.Rooms.{HasEndRoom, HasRoom}
-use Rattle.mb_mailbox.specs.Runs.{AreEndsAt, AreEndsOf, AreOf, NoneStopped, with_taken}
+use Rattle.mb_mailbox.specs.Rooms.{HasRoom}
+use Rattle.mb_mailbox.specs.Runs.{AreEndsAt, AreEndsOf, AreOf, count_stopped, with_taken}
 use Rattle.mb_mailbox.specs.Steps.{notes_on}
-use Rattle.mb_mailbox.specs.Worked.{AreCutByCells, IsRunOf, IsWorked, WereTakenIn, WereTakenInEarly, lists_in}
+use Rattle.mb_mailbox.specs.Worked.{AreCutByCells, AreStoppedPuts, ConsumerLeft, IsRunOf, IsWorked, LaneLeft, WereTakenIn, WereTakenInEarly, lists_in}
+use Rattle.mb_mailbox.specs.declared.gate.Who.{Who}
 use Rattle.mb_mailbox.specs.declared.working.Worked.{Worked}
 use Rattle.mb_mailbox.specs.declared.working.jobs.PollDone.{PollDone}
 use Rattle.mb_mailbox.specs.declared.working.jobs.PollJob.{PollJob}
@@ -28,9 +31,8 @@ use Rattle.mb_mailbox.specs.declared.working.jobs.PutJob.{PutJob}
 use Rattle.mb_mailbox.specs.declared.working.room.Ends.{Ends}
 use Rattle.mb_mailbox.specs.declared.working.room.Jobs.{Jobs}
 use Rattle.mb_mailbox.specs.declared.working.room.Room.{Room}
-use Rattle.mb_mailbox.proofs.HubRuns.{after}
 use Rattle.mb_mailbox.proofs.Noted.{all_noted}
-use Rattle.mb_mailbox.proofs.Runs.{consumers, lanes_of, left_of, nums, producers, run_beyond, run_cut, run_of}
+use Rattle.mb_mailbox.proofs.Runs.{lane_left, lanes_of, left_by, left_of, nums, run_beyond, run_cut, run_of, run_poll_stops, run_stops}
 use Rattle.mb_mailbox.proofs.Zips.{zip_length}
 
 nothing : {X : Type 0} (P : X → Type 0) → All P []
@@ -45,15 +47,16 @@ module _ {Z : Type 0} (m : MailboxView) where
   puts_at p (v ∷ vs) (j ∷ js) a =
       All-cons (λ (j : PutJob Z). IsProducerOf m j.producer) j js (record { table = ap (λ (s : ProducerView). s.seat.table) a.0 }) (puts_at (suc p) vs js a.2)
 
-  put_ends_at : (js : List (PutJob Z)) (ds : List (PutDone Z)) → All (λ (j : PutJob Z). IsProducerOf m j.producer) js → AllZip IsPutEnd js ds
+  put_ends_at : (may_stop : Who → ℕ → Type 0) (js : List (PutJob Z)) (ds : List (PutDone Z)) → All (λ (j : PutJob Z). IsProducerOf m j.producer) js
+      → AllZip (IsPutEnd may_stop) js ds
       → All (λ (d : PutDone Z). IsProducerOf m d.producer) ds
-  put_ends_at [] [] a z = nothing (λ (d : PutDone Z). IsProducerOf m d.producer)
-  put_ends_at [] (d ∷ ds) a z = absurd z
-  put_ends_at (j ∷ js) [] a z = absurd z
-  put_ends_at (j ∷ js) (d ∷ ds) a z =
+  put_ends_at may_stop [] [] a z = nothing (λ (d : PutDone Z). IsProducerOf m d.producer)
+  put_ends_at may_stop [] (d ∷ ds) a z = absurd z
+  put_ends_at may_stop (j ∷ js) [] a z = absurd z
+  put_ends_at may_stop (j ∷ js) (d ∷ ds) a z =
       let P = λ (j : PutJob Z). IsProducerOf m j.producer in
       All-cons (λ (d : PutDone Z). IsProducerOf m d.producer) d ds (record { table = z.0.same.table ∙ (All-head P j js a).table })
-      (put_ends_at js ds (All-tail P j js a) z.1)
+      (put_ends_at may_stop js ds (All-tail P j js a) z.1)
 
 module _ {R Z : Type 0} (m : MailboxView) where
   polls_at : (c : ℕ) (js : List (PollJob R Z)) → ArePollJobs m c js → All (λ (j : PollJob R Z). IsConsumerOf m j.consumer) js
@@ -67,25 +70,26 @@ module _ {R Z : Type 0} (m : MailboxView) where
     polls = polls_at (length h.ledgers) jobs.polls.items g.polls;
   }
 
-  poll_ends_at : (from end : ℕ) (js : List (PollJob R Z)) (ds : List (PollDone Z)) → All (λ (j : PollJob R Z). IsConsumerOf m j.consumer) js
-      → AllZip (λ (j : PollJob R Z) (d : PollDone Z). IsPollEnd from end j.consumer d) js ds → All (λ (d : PollDone Z). IsConsumerOf m d.consumer) ds
-  poll_ends_at from end [] [] a z = nothing (λ (d : PollDone Z). IsConsumerOf m d.consumer)
-  poll_ends_at from end [] (d ∷ ds) a z = absurd z
-  poll_ends_at from end (j ∷ js) [] a z = absurd z
-  poll_ends_at from end (j ∷ js) (d ∷ ds) a z =
+  poll_ends_at : (may_stop : Who → ℕ → Type 0) (from end : ℕ) (js : List (PollJob R Z)) (ds : List (PollDone Z)) → All (λ (j : PollJob R Z). IsConsumerOf m j.consumer) js
+      → AllZip (λ (j : PollJob R Z) (d : PollDone Z). IsPollEnd may_stop from end j.consumer d) js ds → All (λ (d : PollDone Z). IsConsumerOf m d.consumer) ds
+  poll_ends_at may_stop from end [] [] a z = nothing (λ (d : PollDone Z). IsConsumerOf m d.consumer)
+  poll_ends_at may_stop from end [] (d ∷ ds) a z = absurd z
+  poll_ends_at may_stop from end (j ∷ js) [] a z = absurd z
+  poll_ends_at may_stop from end (j ∷ js) (d ∷ ds) a z =
       let P = λ (j : PollJob R Z). IsConsumerOf m j.consumer in
       All-cons (λ (d : PollDone Z). IsConsumerOf m d.consumer) d ds
       (record { cells = z.0.same.cells ∙ (All-head P j js a).cells; claims = z.0.same.claims ∙ (All-head P j js a).claims })
-      (poll_ends_at from end js ds (All-tail P j js a) z.1)
+      (poll_ends_at may_stop from end js ds (All-tail P j js a) z.1)
 
-  pub ends_at : (from end : ℕ) (jobs : Jobs R Z) (ends : Ends Z) → AreOf m jobs → AreEndsOf from end jobs ends → AreEndsAt m ends
-  ends_at from end jobs ends a e = record {
-    puts = put_ends_at m jobs.puts.items ends.puts.items a.puts e.puts;
-    polls = poll_ends_at from end jobs.polls.items ends.polls.items a.polls e.polls;
+  pub ends_at : (may_stop : Who → ℕ → Type 0) (from end : ℕ) (jobs : Jobs R Z) (ends : Ends Z) → AreOf m jobs → AreEndsOf may_stop from end jobs ends
+      → AreEndsAt m ends
+  ends_at may_stop from end jobs ends a e = record {
+    puts = put_ends_at m may_stop jobs.puts.items ends.puts.items a.puts e.puts;
+    polls = poll_ends_at may_stop from end jobs.polls.items ends.polls.items a.polls e.polls;
   }
 
 -- there is room for fewer
-pub room_for : {Z : Type 0} (a b c d : ℕ) (r : Room Z) → c ≤ a → d ≤ b → HasRoom a b r → HasRoom c d r
+pub room_for : {G Z : Type 0} (a b c d : ℕ) (r : Room G Z) → c ≤ a → d ≤ b → HasRoom a b r → HasRoom c d r
 room_for a b c d r puts polls h =
     let p = h.puts in
     let q = h.polls in
@@ -126,15 +130,32 @@ nothing_taken lists sources h = record {
   };
 }
 
+-- ---- counts
+sum_same : {X Y : Type 0} (f : X → ℕ) (g : Y → ℕ) (h : X → Y) → ((x : X) → f x ≡ g (h x)) → (xs : List X) → sum_by f xs ≡ sum_by g (map h xs)
+sum_same f g h e [] = refl
+sum_same f g h e (x ∷ xs) = sum_by-cons f x xs ∙ (λ i. e x i + sum_same f g h e xs i) ∙ sym (sum_by-cons g (h x) (map h xs))
+
+at_most_one : (b : Bool) → from_bool b ≤ 1
+at_most_one true = omega arith
+at_most_one false = omega arith
+
+at_most_each : {X : Type 0} (f : X → Bool) (xs : List X) → sum_by (λ x. from_bool (f x)) xs ≤ length xs
+at_most_each f [] = omega arith
+at_most_each f (x ∷ xs) =
+    let all = sum_by-cons (λ x. from_bool (f x)) x xs in
+    let one = at_most_one (f x) in
+    let rest = at_most_each f xs in
+    omega (arith, all, one, rest)
+
 -- ---- the end of a run
-module _ {R Z : Type 0} (m : MailboxView) (items : List (Vec ℕ Z)) (sources from end : ℕ) (jobs : Jobs R Z) (ends : Ends Z) (h mid now : HubView)
-    (hub : IsHub h) (given : AreGiven m items sources jobs h mid) (came : AreEndsOf from end jobs ends) (is : now ≡ with_taken ends mid) where
+module _ {R Z : Type 0} (m : MailboxView) (may_stop : Who → ℕ → Type 0) (items : List (Vec ℕ Z)) (sources from end : ℕ) (jobs : Jobs R Z) (ends : Ends Z) (h mid now : HubView)
+    (hub : IsHub h) (given : AreGiven m items sources jobs h mid) (came : AreEndsOf may_stop from end jobs ends) (is : now ≡ with_taken ends mid) where
   its : (vs : List (Vec ℕ Z)) → ArePutJobs m (length h.puts) vs jobs.puts.items
-      → IsRunOf (lists_in vs) (length jobs.polls.items) (lanes_of m ends.puts.items) (left_of m ends.polls.items) h now
+      → IsRunOf (lists_in vs) (length jobs.polls.items) (lanes_of m may_stop ends.puts.items) (left_of m may_stop ends.polls.items) h now
   its vs are =
-      subst (λ (n : HubView). IsRunOf (lists_in vs) (length jobs.polls.items) (lanes_of m ends.puts.items) (left_of m ends.polls.items) h n)
+      subst (λ (n : HubView). IsRunOf (lists_in vs) (length jobs.polls.items) (lanes_of m may_stop ends.puts.items) (left_of m may_stop ends.polls.items) h n)
       (sym (is ∙ ap (with_taken ends) given.hub))
-      (run_of m h from end vs jobs.puts.items ends.puts.items jobs.polls.items ends.polls.items hub are given.polls came.puts came.polls)
+      (run_of m may_stop h from end vs jobs.puts.items ends.puts.items jobs.polls.items ends.polls.items hub are given.polls came.puts came.polls)
 
   pub early : WereTakenInEarly (lists_in items) sources h now
   early = record {
@@ -143,38 +164,70 @@ module _ {R Z : Type 0} (m : MailboxView) (items : List (Vec ℕ Z)) (sources fr
     whole = sym (map-append (λ (v : Vec ℕ Z). v.items) given.puts.front given.puts.rest) ∙ ap lists_in given.puts.whole;
     given = length jobs.polls.items;
     few = subst (λ (n : ℕ). n ≤ sources) jobs.polls.ok.0 given.few;
-    taken = record { lanes = lanes_of m ends.puts.items; consumers = left_of m ends.polls.items; run = its given.puts.front given.puts.are };
+    taken = record { lanes = lanes_of m may_stop ends.puts.items; consumers = left_of m may_stop ends.polls.items; run = its given.puts.front given.puts.are };
   }
 
   module _ (all : AreAllGiven m items sources jobs h) where
-    run : IsRunOf (lists_in items) sources (lanes_of m ends.puts.items) (left_of m ends.polls.items) h now
-    run = subst (λ (n : ℕ). IsRunOf (lists_in items) n (lanes_of m ends.puts.items) (left_of m ends.polls.items) h now)
+    run : IsRunOf (lists_in items) sources (lanes_of m may_stop ends.puts.items) (left_of m may_stop ends.polls.items) h now
+    run = subst (λ (n : ℕ). IsRunOf (lists_in items) n (lanes_of m may_stop ends.puts.items) (left_of m may_stop ends.polls.items) h now)
         (sym jobs.polls.ok.0 ∙ all.polls) (its items all.puts)
 
     pub taken : WereTakenIn (lists_in items) sources h now
-    taken = record { lanes = lanes_of m ends.puts.items; consumers = left_of m ends.polls.items; run = run }
+    taken = record { lanes = lanes_of m may_stop ends.puts.items; consumers = left_of m may_stop ends.polls.items; run = run }
+
+    few : length (lanes_of m may_stop ends.puts.items) ≡ length items
+    few = sym (zip_length _ (lists_in items) (lanes_of m may_stop ends.puts.items) run.fronts) ∙ length-map items (λ (v : Vec ℕ Z). v.items)
+
+    -- where a worker has come to an end, there was a list or a source
+    pub some_worker : 0 < length ends.puts.items + length ends.polls.items → 0 < length items + sources
+    some_worker some =
+        let puts = length-map ends.puts.items (λ (d : PutDone Z). lane_left d.producer d.stopped) in
+        let polls = length-map ends.polls.items (λ (d : PollDone Z). left_by d.consumer d.stopped) in
+        let count = run.count in
+        let lanes = few in
+        omega (arith, some, puts, polls, lanes, count)
 
     module _ (w : Worked) (full : w.full ≡ min (2 ^ 64 - 1) (sum_by (λ (d : PutDone Z). d.full) ends.puts.items))
-        (stopped : w.stopped ≡ 0 → NoneStopped ends) (later : IsHub now) (of : IsHubOf m now)
+        (stopped : w.stopped ≡ min (2 ^ 64 - 1) (count_stopped ends)) (puts_on : All (λ (d : PutDone Z). d.off ≡ false) ends.puts.items)
+        (polls_on : All (λ (d : PollDone Z). d.off ≡ false) ends.polls.items) (small : length items + sources < 2 ^ 64)
+        (later : IsHub now) (of : IsHubOf m now)
         (pool : History) (roll : IsRollOf now.cells.table.size now.cells.roll pool)
         (first : from ≡ length h.puts) (last : end ≡ length h.puts + length items)
         (tell : (size : PoolSize) (roll : Roll) (h : History) (p : ℕ) (done : History) (s : ConsumerView) → IsRollOf size roll h
         → slice_get roll.lanes p ≡ Some (Some done) → slice_get roll.readers s.reader.reader ≡ Some (Some s.reader.part)
         → HasReadToEnd p s → length (notes_on p s.notes) ≡ length (values_put p done)) where
-      count : length (lanes_of m ends.puts.items) ≡ length items
-      count = sym (zip_length _ (lists_in items) (lanes_of m ends.puts.items) run.fronts) ∙ length-map items (λ (v : Vec ℕ Z). v.items)
+      -- no more are stopped than there are
+      total : w.stopped ≡ sum_by (λ (l : LaneLeft). from_bool l.stopped) (lanes_of m may_stop ends.puts.items)
+          + sum_by (λ (c : ConsumerLeft). from_bool c.stopped) (left_of m may_stop ends.polls.items)
+      total =
+          let puts = sum_same (λ (d : PutDone Z). from_bool d.stopped) (λ (l : LaneLeft). from_bool l.stopped)
+          (λ (d : PutDone Z). lane_left d.producer d.stopped) (λ d. refl) ends.puts.items in
+          let polls = sum_same (λ (d : PollDone Z). from_bool d.stopped) (λ (c : ConsumerLeft). from_bool c.stopped)
+          (λ (d : PollDone Z). left_by d.consumer d.stopped) (λ d. refl) ends.polls.items in
+          let most = at_most_each (λ (l : LaneLeft). l.stopped) (lanes_of m may_stop ends.puts.items) in
+          let others = at_most_each (λ (c : ConsumerLeft). c.stopped) (left_of m may_stop ends.polls.items) in
+          let count = run.count in
+          let lanes = few in
+          omega (arith, stopped, puts, polls, most, others, lanes, count, small)
 
-      pub worked : IsWorked (lists_in items) sources w h now
+      cells : m.cells.size.cells ≡ now.cells.table.size.cells
+      cells = ap (λ t. t.size.cells) (sym of.cells)
+
+      pub worked : IsWorked may_stop (lists_in items) sources w h now
       worked = record {
-        lanes = lanes_of m ends.puts.items;
-        consumers = left_of m ends.polls.items;
+        lanes = lanes_of m may_stop ends.puts.items;
+        consumers = left_of m may_stop ends.polls.items;
         run = run;
-        full = λ z. full ∙ ap (λ (n : ℕ). min (2 ^ 64 - 1) n)
-            (run_beyond m h from end items jobs.puts.items ends.puts.items jobs.polls.items ends.polls.items hub all.puts given.polls came.puts came.polls (stopped z).puts);
-        cut = λ z. subst (λ (n : ℕ). AreCutByCells n (length h.puts) (lists_in items) (lanes_of m ends.puts.items))
-            (ap (λ t. t.size.cells) (sym of.cells))
-            (run_cut m h from end items jobs.puts.items ends.puts.items jobs.polls.items ends.polls.items hub all.puts given.polls came.puts came.polls (stopped z).puts);
-        noted = λ z. all_noted now later pool roll tell m h.puts (lanes_of m ends.puts.items) run.puts from end first (last ∙ ap (λ (n : ℕ). length h.puts + n) (sym count))
-            ends.polls.items h.cells.roll.readers (length h.ledgers) (sym hub.readers) run.reads
-            (nums m h from end items jobs.puts.items ends.puts.items jobs.polls.items ends.polls.items hub all.puts given.polls came.puts came.polls) (stopped z).polls;
+        stopped = total;
+        stopped_puts = subst (λ (n : ℕ). AreStoppedPuts may_stop n (length h.puts) (lists_in items) (lanes_of m may_stop ends.puts.items)) cells
+            (run_stops m may_stop h from end items jobs.puts.items ends.puts.items jobs.polls.items ends.polls.items hub all.puts given.polls came.puts came.polls puts_on);
+        stopped_polls =
+            run_poll_stops m may_stop h from end items jobs.puts.items ends.puts.items jobs.polls.items ends.polls.items hub all.puts given.polls came.puts came.polls polls_on;
+        full = full ∙ ap (λ (n : ℕ). min (2 ^ 64 - 1) n)
+            (run_beyond m may_stop h from end items jobs.puts.items ends.puts.items jobs.polls.items ends.polls.items hub all.puts given.polls came.puts came.polls);
+        cut = subst (λ (n : ℕ). AreCutByCells n (length h.puts) (lists_in items) (lanes_of m may_stop ends.puts.items)) cells
+            (run_cut m may_stop h from end items jobs.puts.items ends.puts.items jobs.polls.items ends.polls.items hub all.puts given.polls came.puts came.polls);
+        noted = all_noted now later pool roll tell m may_stop h.puts (lanes_of m may_stop ends.puts.items) run.puts from end first
+            (last ∙ ap (λ (n : ℕ). length h.puts + n) (sym few)) ends.polls.items h.cells.roll.readers (length h.ledgers) (sym hub.readers) run.reads
+            (nums m may_stop h from end items jobs.puts.items ends.puts.items jobs.polls.items ends.polls.items hub all.puts given.polls came.puts came.polls);
       }

@@ -1,8 +1,9 @@
 -- From the jobs through what was begun to the ends.
-use Rattle.std.proofs.Common.{◌≡◌, ℕ, false, true, refl, sym, ap, ◌∙◌, subst}
+use Rattle.std.proofs.Common.{◌≡◌, ℕ, false, true, sym, ap, ◌∙◌, subst}
 use Rattle.mb_mailbox.specs.Begun.{PollKeeps, PollPromises, PutKeeps, PutPromises}
 use Rattle.mb_mailbox.specs.Consumers.{ConsumerView}
 use Rattle.mb_mailbox.specs.Jobs.{IsPollEnd, IsPutEnd}
+use Rattle.mb_mailbox.specs.declared.gate.Who.{Who}
 use Rattle.mb_mailbox.specs.declared.working.begun.PollBegun.{PollBegun}
 use Rattle.mb_mailbox.specs.declared.working.begun.PollBegun.TheVariants as poll
 use Rattle.mb_mailbox.specs.declared.working.begun.PutBegun.{PutBegun}
@@ -11,25 +12,41 @@ use Rattle.mb_mailbox.specs.declared.working.jobs.PollDone.{PollDone}
 use Rattle.mb_mailbox.specs.declared.working.jobs.PutDone.{PutDone}
 use Rattle.mb_mailbox.specs.declared.working.jobs.PutJob.{PutJob}
 
-module _ {Z : Type 0} where
-  pub put_kept : (j : PutJob Z) (b : PutBegun Z) (d : PutDone Z) → PutPromises j b → PutKeeps b d → IsPutEnd j d
-  put_kept j (put.Apart h) d p k = subst (λ (i : PutJob Z). IsPutEnd i d) p k
-  put_kept j (put.Here e) d p k = subst (λ (e : PutDone Z). IsPutEnd j e) (sym k) p
+module _ {G Z : Type 0} (may_stop : G → Who → ℕ → Type 0) (gate : G) where
+  pub put_kept : (j : PutJob Z) (b : PutBegun G Z) (d : PutDone Z) → PutPromises may_stop gate j b → PutKeeps may_stop b d
+      → IsPutEnd (may_stop gate) j d
+  put_kept j (put.Apart h) d p k =
+      subst (λ (g : G). IsPutEnd (may_stop g) j d) p.1 (subst (λ (i : PutJob Z). IsPutEnd (may_stop h.promise.gate.value) i d) p.0 k)
+  put_kept j (put.Here e) d p k = subst (λ (e : PutDone Z). IsPutEnd (may_stop gate) j e) (sym k) p
 
-  pub poll_kept : (from end : ℕ) (s : ConsumerView) (b : PollBegun Z) (d : PollDone Z) → PollPromises from end s b → PollKeeps b d → IsPollEnd from end s d
+  pub poll_kept : (from end : ℕ) (s : ConsumerView) (b : PollBegun G Z) (d : PollDone Z) → PollPromises may_stop gate from end s b → PollKeeps may_stop b d
+      → IsPollEnd (may_stop gate) from end s d
   poll_kept from end s (poll.Apart h) d p k =
-      subst (λ (t : ConsumerView). IsPollEnd from end t d) p.consumer
-      (subst (λ (n : ℕ). IsPollEnd from n h.promise.consumer.value d) p.last (subst (λ (n : ℕ). IsPollEnd n h.promise.end h.promise.consumer.value d) p.first k))
-  poll_kept from end s (poll.Here e) d p k = subst (λ (e : PollDone Z). IsPollEnd from end s e) (sym k) p
+      let its = may_stop h.promise.gate.value in
+      subst (λ (g : G). IsPollEnd (may_stop g) from end s d) p.gate
+      (subst (λ (t : ConsumerView). IsPollEnd its from end t d) p.consumer
+      (subst (λ (n : ℕ). IsPollEnd its from n h.promise.consumer.value d) p.last (subst (λ (n : ℕ). IsPollEnd its n h.promise.end h.promise.consumer.value d) p.first k)))
+  poll_kept from end s (poll.Here e) d p k = subst (λ (e : PollDone Z). IsPollEnd (may_stop gate) from end s e) (sym k) p
 
-  -- a consumer that was not run
-  pub not_run : (from end : ℕ) (s : ConsumerView) (d : PollDone Z) → d.consumer ≡ s → d.stopped ≡ true → IsPollEnd from end s d
-  not_run from end s d is stopped = record {
-    same = record {
-      cells = ap (λ (t : ConsumerView). t.reader.table) is;
-      reader = ap (λ (t : ConsumerView). t.reader.reader) is;
-      claims = ap (λ (t : ConsumerView). t.seat.table) is;
-      consumer = ap (λ (t : ConsumerView). t.seat.consumer) is;
-    };
-    read = λ f. let no : true ≡ false = sym stopped ∙ f in absurd (cc);
-  }
+-- a consumer that was not run
+pub not_run : {Z : Type 0} (may_stop : Who → ℕ → Type 0) (from end : ℕ) (s : ConsumerView) (d : PollDone Z) → d.consumer ≡ s → d.stopped ≡ true → d.off ≡ true
+    → IsPollEnd may_stop from end s d
+not_run may_stop from end s d is stopped off = record {
+  same = record {
+    cells = ap (λ (t : ConsumerView). t.reader.table) is;
+    reader = ap (λ (t : ConsumerView). t.reader.reader) is;
+    claims = ap (λ (t : ConsumerView). t.seat.table) is;
+    consumer = ap (λ (t : ConsumerView). t.seat.consumer) is;
+  };
+  read = λ f. let no : true ≡ false = sym stopped ∙ f in absurd (cc);
+  stop = λ t f. let no : true ≡ false = sym off ∙ f in absurd (cc);
+}
+
+-- where the run is off, less is said of the end
+pub still_off : {Z : Type 0} (may_stop : Who → ℕ → Type 0) (from end : ℕ) (s : ConsumerView) (d : PollDone Z) → IsPollEnd may_stop from end s d
+    → IsPollEnd {Z = Z} may_stop from end s (record d { off = true })
+still_off may_stop from end s d i = record {
+  same = i.same;
+  read = i.read;
+  stop = λ t o. absurd (cc);
+}

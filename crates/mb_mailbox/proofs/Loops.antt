@@ -1,11 +1,9 @@
 -- What the loops of a run keep, one element later.
-use Rattle.std.proofs.Common.{◌≡◌, ℕ, suc, ◌+◌, ◌<◌, ◌≤◌, Bool, true, false, List, [], ◌∷◌, ◌++◌, length, map, min, refl, sym, ap, ◌∙◌, subst, append_assoc, arith}
+use Rattle.std.proofs.Common.{◌≡◌, ℕ, suc, ◌+◌, List, [], ◌∷◌, ◌++◌, length, map, min, sym, ap, ◌∙◌, subst, arith}
 use Rattle.std.specs.Prelude.{Vec}
-use Rattle.std.specs.Int.{from_bool}
 use Rattle.std.specs.List.{sum_by}
 use Rattle.std.proofs.lemmas.List.{map-append}
 use Rattle.std.proofs.lemmas.List.Sums.{sum_by-append, sum_by-cons}
-use Rattle.mb_mailbox.specs.Below.{ClaimTable, name_of}
 use Rattle.mb_mailbox.specs.Consumers.{ConsumerView}
 use Rattle.mb_mailbox.specs.HubRuns.{ArePollJobs, ArePutJobs, HasNumber, with_taken_consumers, with_taken_producers}
 use Rattle.mb_mailbox.specs.Hubs.{HubView, IsNewConsumer, new_producer, with_taken_consumer, with_taken_producer}
@@ -60,12 +58,3 @@ full_more f most was now xs x e is =
     let whole = sum_by-append f xs (x ∷ []) in
     let last = sum_by-cons f x [] in
     omega (arith, e, is, whole, last)
-
--- ---- nobody stopped
-pub going : (b : Bool) → from_bool b ≡ 0 → b ≡ false
-going false e = refl
-going true e = absurd (cc)
-
--- a count that stays at its bound and is 0 has counted nothing
-pub no_count : (most was n now : ℕ) → now ≡ min (was + n) most → 0 < most → now ≡ 0 → (was ≡ 0) × (n ≡ 0)
-no_count most was n now e low z = (omega (arith, e, low, z), omega (arith, e, low, z))

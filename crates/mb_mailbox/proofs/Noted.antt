@@ -1,9 +1,9 @@
--- Where nobody was stopped, each consumer of a run has a note at each item.
-use Rattle.std.proofs.Common.{◌≡◌, ℕ, zero, suc, ◌+◌, ◌<◌, ◌≤◌, false, List, [], ◌∷◌, ◌++◌, length, map, refl, sym, ap, ◌∙◌, subst, append_assoc, arith}
+-- Each consumer of a run that was not stopped has a note at each item.
+use Rattle.std.proofs.Common.{◌≡◌, ℕ, zero, suc, ◌+◌, ◌<◌, ◌≤◌, false, List, [], ◌∷◌, ◌++◌, length, map, refl, sym, ap, ◌∙◌, append_assoc, arith}
 use Rattle.std.specs.Prelude.{Option, Some, slice_get}
 use Rattle.std.specs.List.{All}
 use Rattle.std.proofs.lemmas.List.{length-append}
-use Rattle.std.proofs.lemmas.List.Elements.{All-cons, All-head, All-tail}
+use Rattle.std.proofs.lemmas.List.Elements.{All-cons}
 use Rattle.mb_cells.specs.declared.size.PoolSize.{PoolSize}
 use Rattle.mb_shared_cells.specs.Vocabulary.{IsRollOf}
 use Rattle.mb_shared_cells.specs.declared.views.Roll.{Roll}
@@ -15,6 +15,7 @@ use Rattle.mb_mailbox.specs.Jobs.{HasReadToEnd}
 use Rattle.mb_mailbox.specs.Mailboxes.{MailboxView}
 use Rattle.mb_mailbox.specs.Steps.{notes_on}
 use Rattle.mb_mailbox.specs.Worked.{ConsumerLeft, HasNoteAtEach, LaneLeft, ended_list}
+use Rattle.mb_mailbox.specs.declared.gate.Who.{Who}
 use Rattle.mb_mailbox.specs.declared.working.jobs.PollDone.{PollDone}
 use Rattle.mb_mailbox.proofs.Runs.{AreNumbered, left_by, left_of}
 
@@ -50,22 +51,21 @@ module _ (now : HubView) (hub : IsHub now) (pool : History) (roll : IsRollOf now
             (λ q low high. read q (omega (arith, low)) (omega (arith, high))),
       )
 
-  module _ {Z : Type 0} (m : MailboxView) (old : List (Option PutListView)) (ls : List LaneLeft) (is : now.puts ≡ old ++ map (λ (l : LaneLeft). Some (ended_list l)) ls)
+  module _ {Z : Type 0} (m : MailboxView) (may_stop : Who → ℕ → Type 0) (old : List (Option PutListView)) (ls : List LaneLeft) (is : now.puts ≡ old ++ map (λ (l : LaneLeft). Some (ended_list l)) ls)
       (from end : ℕ) (first : from ≡ length old) (last : end ≡ length old + length ls) where
     pub all_noted : (es : List (PollDone Z)) (base : List (Option History)) (c : ℕ) → length base ≡ c
-        → now.cells.roll.readers ≡ base ++ map (λ (x : ConsumerLeft). Some x.reads) (left_of m es) → AreNumbered m from end c es
-        → All (λ (d : PollDone Z). d.stopped ≡ false) es → All (λ (x : ConsumerLeft). HasNoteAtEach (length old) ls x.ledger) (left_of m es)
-    all_noted [] base c e there a none = λ k d low. absurd (omega (arith, low))
-    all_noted (d ∷ es) base c e there a none =
-        let P = λ (x : ConsumerLeft). HasNoteAtEach (length old) ls x.ledger in
-        let F = λ (d : PollDone Z). d.stopped ≡ false in
+        → now.cells.roll.readers ≡ base ++ map (λ (x : ConsumerLeft). Some x.reads) (left_of m may_stop es) → AreNumbered m may_stop from end c es
+        → All (λ (x : ConsumerLeft). x.stopped ≡ false → HasNoteAtEach (length old) ls x.ledger) (left_of m may_stop es)
+    all_noted [] base c e there a = λ k d low. absurd (omega (arith, low))
+    all_noted (d ∷ es) base c e there a =
+        let P = λ (x : ConsumerLeft). x.stopped ≡ false → HasNoteAtEach (length old) ls x.ledger in
         let s = d.consumer in
-        let rest = map (λ (x : ConsumerLeft). Some x.reads) (left_of m es) in
+        let rest = map (λ (x : ConsumerLeft). Some x.reads) (left_of m may_stop es) in
         let here : slice_get now.cells.roll.readers s.reader.reader ≡ Some (Some s.reader.part) =
         ap (λ (n : ℕ). slice_get now.cells.roll.readers n) a.0.reader
         ∙ ap (λ (xs : List (Option History)). slice_get xs c) there ∙ get_next base rest (Some s.reader.part) c e in
-        let one : P (left_by s) = noted_by s here ls old (length old) refl is
-        (λ q low high. a.0.read (All-head F d es none) q (omega (arith, low, first)) (omega (arith, high, last))) in
-        All-cons P (left_by s) (left_of m es) one
+        let one : P (left_by s d.stopped) = λ f. noted_by s here ls old (length old) refl is
+        (λ q low high. a.0.read f q (omega (arith, low, first)) (omega (arith, high, last))) in
+        All-cons P (left_by s d.stopped) (left_of m may_stop es) one
         (all_noted es (base ++ Some s.reader.part ∷ []) (suc c) (longer base (Some s.reader.part) c e)
-        (there ∙ sym (append_assoc base (Some s.reader.part ∷ []) rest)) a.1 (All-tail F d es none))
+        (there ∙ sym (append_assoc base (Some s.reader.part ∷ []) rest)) a.1)

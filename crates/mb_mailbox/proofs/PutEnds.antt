@@ -1,11 +1,14 @@
 -- The end of a producer's worker.
-use Rattle.std.proofs.Common.{◌≡◌, ◌≢◌, ◌≤◌, ℕ, List, ◌++◌, take, drop, refl, sym, ap, ◌∙◌, subst, inr}
+use Rattle.std.proofs.Common.{◌≡◌, ◌≢◌, ◌≤◌, ⊎_elim, ℕ, Bool, true, false, List, take, drop, refl, sym, ap, subst, inr}
 use Rattle.std.proofs.lemmas.List.{take-append-drop}
 use Rattle.mb_cells.specs.declared.answer.Finish.{Finish}
 use Rattle.mb_cells.specs.declared.answer.Finish.TheVariants as finish
-use Rattle.mb_cells.specs.Vocabulary.{HasFoundNone, fetch}
+use Rattle.mb_cells.specs.declared.access.PoolAccess.{PoolAccess}
+use Rattle.mb_cells.specs.declared.access.PoolAct.{PoolAct}
+use Rattle.mb_cells.specs.declared.access.PoolAct.TheVariants.{FetchAdd, Load, Store}
+use Rattle.mb_cells.specs.Vocabulary.{fetch, next_link, store}
 use Rattle.mb_shared_cells.specs.Vocabulary.{CellsName}
-use Rattle.mb_mailbox.specs.Below.{Has, History}
+use Rattle.mb_mailbox.specs.Below.{END, Has, History}
 use Rattle.mb_mailbox.specs.Jobs.{IsFront}
 use Rattle.mb_mailbox.specs.Producers.{FoundNoCell, IsEndOfLane, ProducerView}
 
@@ -24,3 +27,26 @@ found_still finish.Ended old new ended closed busy none =
     }
 found_still finish.Closed old new ended closed busy none = subst FoundNoCell (sym (closed refl)) none
 found_still finish.Busy old new ended closed busy none = absurd (busy refl)
+
+-- what it has found then it had found before
+abbrev is_fetch : PoolAct → Bool
+is_fetch (FetchAdd v k) = true
+is_fetch (Store v) = false
+is_fetch (Load v) = false
+
+pub found_before : (r : Finish) (old new : ProducerView) → (r ≡ finish.Ended → IsEndOfLane old new) → (r ≡ finish.Closed → new ≡ old) → r ≢ finish.Busy
+    → FoundNoCell new → FoundNoCell old
+found_before finish.Ended old new ended closed busy none =
+    let e = ended refl in
+    let it = fetch new.seat.lane none.entry in
+    let end = store old.seat.lane (next_link old.seat.lane old.seat.place) END in
+    let has : Has old.seat.part it =
+    ⊎_elim (λ (same : end ≡ it). (let no : false ≡ true = ap (λ (a : PoolAccess). is_fetch a.act) same in absurd (cc))) (λ (has : Has old.seat.part it). has)
+    (subst (λ (h : History). Has h it) e.part none.offered) in
+    record {
+      entry = none.entry;
+      offered = subst (λ (q : ℕ). Has old.seat.part (fetch q none.entry)) e.same.lane has;
+      past = subst (λ (t : CellsName). t.size.cells ≤ none.entry.cell) e.same.table none.past;
+    }
+found_before finish.Closed old new ended closed busy none = subst FoundNoCell (closed refl) none
+found_before finish.Busy old new ended closed busy none = absurd (busy refl)

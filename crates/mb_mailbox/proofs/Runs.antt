@@ -1,24 +1,21 @@
 -- From the jobs of a run through their ends to what the hub has then.
-use Rattle.std.proofs.Common.{◌≡◌, ◌≢◌, ℕ, zero, suc, ◌+◌, ◌-◌, ◌<◌, ◌≤◌, Bool, true, false, List, [], ◌∷◌, ◌++◌, length, map, refl, sym, ap, ◌∙◌, subst, append_assoc, arith}
-use Rattle.std.specs.Prelude.{Option, Some, None, Vec, slice_get}
+use Rattle.std.proofs.Common.{◌≡◌, ◌≢◌, ℕ, suc, ◌+◌, ◌<◌, ◌≤◌, Bool, true, false, List, [], ◌∷◌, ◌++◌, length, map, refl, sym, ap, ◌∙◌, subst, arith}
+use Rattle.std.specs.Prelude.{Some, Vec}
 use Rattle.std.specs.List.{All, AllZip, sum_by}
-use Rattle.std.proofs.lemmas.List.{length-append, length-map}
+use Rattle.std.proofs.lemmas.List.{length-map}
 use Rattle.std.proofs.lemmas.List.Sums.{sum_by-cons}
-use Rattle.std.proofs.lemmas.List.Elements.{All-cons, All-head, All-tail}
+use Rattle.std.proofs.lemmas.List.Elements.{All-head, All-tail}
 use Rattle.mb_cells.specs.Vocabulary.{HasFoundNone}
-use Rattle.mb_cells.specs.declared.size.PoolSize.{PoolSize}
-use Rattle.mb_shared_cells.specs.declared.views.Roll.{Roll}
-use Rattle.mb_shared_cells.specs.Vocabulary.{CellsName, IsRollOf}
-use Rattle.mb_world.specs.Reporting.{values_put}
-use Rattle.mb_mailbox.specs.Below.{History}
-use Rattle.mb_mailbox.specs.Consumers.{ConsumerView, IsConsumerOf}
-use Rattle.mb_mailbox.specs.HubRuns.{ArePollJobs, ArePutJobs, HasNumber}
-use Rattle.mb_mailbox.specs.Hubs.{HubView, IsHub, LedgerView, PutListView, new_producer, put_list_of}
-use Rattle.mb_mailbox.specs.Jobs.{HasReadToEnd, IsFront, IsPollEnd, IsPutEnd}
+use Rattle.mb_shared_cells.specs.Vocabulary.{CellsName}
+use Rattle.mb_mailbox.specs.Consumers.{ConsumerView}
+use Rattle.mb_mailbox.specs.HubRuns.{ArePollJobs, ArePutJobs}
+use Rattle.mb_mailbox.specs.Hubs.{HubView, IsHub, new_producer, put_list_of}
+use Rattle.mb_mailbox.specs.Jobs.{HasReadToEnd, IsFront, IsPollEnd, IsPutEnd, IsStopBefore, IsStoppedPoll, accesses_made}
 use Rattle.mb_mailbox.specs.Mailboxes.{MailboxView}
-use Rattle.mb_mailbox.specs.Producers.{IsProducerOf, ProducerView, is_over}
-use Rattle.mb_mailbox.specs.Steps.{notes_on}
-use Rattle.mb_mailbox.specs.Worked.{AreCutByCells, ConsumerLeft, HasNoteAtEach, IsRunOf, LaneLeft, ended_list, items_beyond, lists_in}
+use Rattle.mb_mailbox.specs.Producers.{FoundNoCell, ProducerView, is_over}
+use Rattle.mb_mailbox.specs.Worked.{AreCutByCells, AreStoppedPolls, AreStoppedPuts, ConsumerLeft, IsRunOf, IsStoppedPut, LaneLeft, ended_list, items_behind, items_beyond, lists_in}
+use Rattle.mb_mailbox.specs.declared.gate.Who.{Who}
+use Rattle.mb_mailbox.specs.declared.gate.Who.TheVariants as who
 use Rattle.mb_mailbox.specs.declared.working.jobs.PollDone.{PollDone}
 use Rattle.mb_mailbox.specs.declared.working.jobs.PollJob.{PollJob}
 use Rattle.mb_mailbox.specs.declared.working.jobs.PutDone.{PutDone}
@@ -26,18 +23,23 @@ use Rattle.mb_mailbox.specs.declared.working.jobs.PutJob.{PutJob}
 use Rattle.mb_mailbox.proofs.HubRuns.{CountFrom, after, run_claimed, run_ledgers, run_parts, run_puts, run_readers}
 use Rattle.mb_mailbox.proofs.Zips.{zip_length}
 
-abbrev pub lane_left : ProducerView → LaneLeft
-lane_left s = record { put = s.items; part = s.seat.part }
+abbrev pub lane_left : ProducerView → Bool → LaneLeft
+lane_left s stopped = record { put = s.items; part = s.seat.part; stopped = stopped }
 
-abbrev pub left_by : ConsumerView → ConsumerLeft
-left_by s = record { ledger = record { places = s.places; notes = s.notes }; reads = s.reader.part; claimed = s.seat.part }
+abbrev pub left_by : ConsumerView → Bool → ConsumerLeft
+left_by s stopped = record { ledger = record { places = s.places; notes = s.notes }; reads = s.reader.part; claimed = s.seat.part; stopped = stopped }
 
-module _ {Z : Type 0} (m : MailboxView) where
+behind : (stopped : Bool) (list put : List ℕ) (full : ℕ) → (stopped ≡ false → length put + full ≡ length list) → (stopped ≡ true → full ≡ 0)
+    → full ≡ items_behind stopped list put
+behind true list put full rest none = none refl
+behind false list put full rest none = let e = rest refl in omega (arith, e)
+
+module _ {Z : Type 0} (m : MailboxView) (may_stop : Who → ℕ → Type 0) where
   abbrev pub producers : List (PutDone Z) → List ProducerView
   producers ds = map (λ d. d.producer) ds
 
   abbrev pub lanes_of : List (PutDone Z) → List LaneLeft
-  lanes_of ds = map (λ d. lane_left d.producer) ds
+  lanes_of ds = map (λ d. lane_left d.producer d.stopped) ds
 
   -- the end of the job of lane p
   pub record IsPutEndAt (p : ℕ) (v : Vec ℕ Z) (d : PutDone Z) : Type 0 where
@@ -47,13 +49,15 @@ module _ {Z : Type 0} (m : MailboxView) where
     pub front : IsFront d.producer.items v.items
     pub full : d.stopped ≡ false → length d.producer.items + d.full ≡ length v.items
     pub found : d.stopped ≡ false → d.full ≢ 0 → HasFoundNone m.cells.size.cells p d.producer.seat.part
+    pub none : d.stopped ≡ true → d.full ≡ 0
+    pub stop : d.stopped ≡ true → d.off ≡ false → IsStoppedPut may_stop m.cells.size.cells p v.items (lane_left d.producer d.stopped)
 
   abbrev pub AreAt : ℕ → List (Vec ℕ Z) → List (PutDone Z) → Type 0
   AreAt p [] [] = Unit {0}
   AreAt p (v ∷ vs) (d ∷ ds) = IsPutEndAt p v d × AreAt (suc p) vs ds
   AreAt p _ _ = ⊥
 
-  end_at : (p : ℕ) (v : Vec ℕ Z) (j : PutJob Z) (d : PutDone Z) → j.producer ≡ new_producer m p → j.list ≡ v → IsPutEnd j d → IsPutEndAt p v d
+  end_at : (p : ℕ) (v : Vec ℕ Z) (j : PutJob Z) (d : PutDone Z) → j.producer ≡ new_producer m p → j.list ≡ v → IsPutEnd may_stop j d → IsPutEndAt p v d
   end_at p v j d is list e =
       let lane : d.producer.seat.lane ≡ p = e.same.lane ∙ ap (λ (s : ProducerView). s.seat.lane) is in
       let table : d.producer.seat.table ≡ m.cells = e.same.table ∙ ap (λ (s : ProducerView). s.seat.table) is in
@@ -64,9 +68,18 @@ module _ {Z : Type 0} (m : MailboxView) where
         front = subst (λ (w : Vec ℕ Z). IsFront d.producer.items w.items) list e.front;
         full = λ f. e.full f ∙ ap (λ (w : Vec ℕ Z). length w.items) list;
         found = λ f ne. subst (λ (z : CellsName × ℕ). HasFoundNone z.0.size.cells z.1 d.producer.seat.part) (λ i. (table i, lane i)) (e.found f ne);
+        none = e.none;
+        stop = λ t o. record {
+          short = subst (λ (w : Vec ℕ Z). length d.producer.items < length w.items) list (e.short t o);
+          had_cells = λ none.
+              let mine : FoundNoCell d.producer =
+              subst (λ (z : CellsName × ℕ). HasFoundNone z.0.size.cells z.1 d.producer.seat.part) (λ i. (sym table i, sym lane i)) none in
+              absurd ((subst FoundNoCell is (e.had_cells t o mine)).offered);
+          stop = subst (λ (q : ℕ). IsStopBefore may_stop (who.Producer q) (suc (length d.producer.items))) (ap (λ (s : ProducerView). s.seat.lane) is) (e.stop t o);
+        };
       }
 
-  are_at : (p : ℕ) (vs : List (Vec ℕ Z)) (js : List (PutJob Z)) (ds : List (PutDone Z)) → ArePutJobs m p vs js → AllZip IsPutEnd js ds → AreAt p vs ds
+  are_at : (p : ℕ) (vs : List (Vec ℕ Z)) (js : List (PutJob Z)) (ds : List (PutDone Z)) → ArePutJobs m p vs js → AllZip (IsPutEnd may_stop) js ds → AreAt p vs ds
   are_at p [] [] [] a z = tt
   are_at p [] [] (d ∷ ds) a z = absurd z
   are_at p [] (j ∷ js) ds a z = absurd a
@@ -99,25 +112,31 @@ module _ {Z : Type 0} (m : MailboxView) where
   parts_of_lanes (d ∷ ds) = ap (λ l. Some d.producer.seat.part ∷ l) (parts_of_lanes ds)
 
   -- what is not put
-  beyond_of : (p : ℕ) (vs : List (Vec ℕ Z)) (ds : List (PutDone Z)) → AreAt p vs ds → All (λ (d : PutDone Z). d.stopped ≡ false) ds
+  beyond_of : (p : ℕ) (vs : List (Vec ℕ Z)) (ds : List (PutDone Z)) → AreAt p vs ds
       → sum_by (λ (d : PutDone Z). d.full) ds ≡ items_beyond (lists_in vs) (lanes_of ds)
-  beyond_of p [] [] a none = refl
-  beyond_of p [] (d ∷ ds) a none = absurd a
-  beyond_of p (v ∷ vs) [] a none = absurd a
-  beyond_of p (v ∷ vs) (d ∷ ds) a none =
-      let here = a.0.full (All-head (λ (d : PutDone Z). d.stopped ≡ false) d ds none) in
-      let one : d.full ≡ length v.items - length d.producer.items = omega (arith, here) in
-      sum_by-cons (λ (d : PutDone Z). d.full) d ds
-      ∙ (λ i. one i + beyond_of (suc p) vs ds a.1 (All-tail (λ (d : PutDone Z). d.stopped ≡ false) d ds none) i)
+  beyond_of p [] [] a = refl
+  beyond_of p [] (d ∷ ds) a = absurd a
+  beyond_of p (v ∷ vs) [] a = absurd a
+  beyond_of p (v ∷ vs) (d ∷ ds) a =
+      let one = behind d.stopped v.items d.producer.items d.full a.0.full a.0.none in
+      sum_by-cons (λ (d : PutDone Z). d.full) d ds ∙ (λ i. one i + beyond_of (suc p) vs ds a.1 i)
 
-  cut_of : (p : ℕ) (vs : List (Vec ℕ Z)) (ds : List (PutDone Z)) → AreAt p vs ds → All (λ (d : PutDone Z). d.stopped ≡ false) ds
-      → AreCutByCells m.cells.size.cells p (lists_in vs) (lanes_of ds)
-  cut_of p [] [] a none = tt
-  cut_of p [] (d ∷ ds) a none = absurd a
-  cut_of p (v ∷ vs) [] a none = absurd a
-  cut_of p (v ∷ vs) (d ∷ ds) a none =
-      let f = All-head (λ (d : PutDone Z). d.stopped ≡ false) d ds none in
-      (λ short. let here = a.0.full f in a.0.found f (λ z. omega (arith, here, z, short)), cut_of (suc p) vs ds a.1 (All-tail (λ (d : PutDone Z). d.stopped ≡ false) d ds none))
+  cut_of : (p : ℕ) (vs : List (Vec ℕ Z)) (ds : List (PutDone Z)) → AreAt p vs ds → AreCutByCells m.cells.size.cells p (lists_in vs) (lanes_of ds)
+  cut_of p [] [] a = tt
+  cut_of p [] (d ∷ ds) a = absurd a
+  cut_of p (v ∷ vs) [] a = absurd a
+  cut_of p (v ∷ vs) (d ∷ ds) a =
+      (λ f short. let here = a.0.full f in a.0.found f (λ z. omega (arith, here, z, short)), cut_of (suc p) vs ds a.1)
+
+  -- who was stopped, where the run is not off
+  stops_of : (p : ℕ) (vs : List (Vec ℕ Z)) (ds : List (PutDone Z)) → AreAt p vs ds → All (λ (d : PutDone Z). d.off ≡ false) ds
+      → AreStoppedPuts may_stop m.cells.size.cells p (lists_in vs) (lanes_of ds)
+  stops_of p [] [] a on = tt
+  stops_of p [] (d ∷ ds) a on = absurd a
+  stops_of p (v ∷ vs) [] a on = absurd a
+  stops_of p (v ∷ vs) (d ∷ ds) a on =
+      let F = λ (d : PutDone Z). d.off ≡ false in
+      (λ t. a.0.stop t (All-head F d ds on), stops_of (suc p) vs ds a.1 (All-tail F d ds on))
 
   -- ---- consumers
   abbrev pub consumers : List (PollDone Z) → List ConsumerView
@@ -128,18 +147,24 @@ module _ {Z : Type 0} (m : MailboxView) where
     pub reader : d.consumer.reader.reader ≡ c
     pub consumer : d.consumer.seat.consumer ≡ c
     pub read : d.stopped ≡ false → (p : ℕ) → from ≤ p → p < end → HasReadToEnd p d.consumer
+    pub stop : d.stopped ≡ true → d.off ≡ false → IsStoppedPoll may_stop c (accesses_made d.consumer)
 
   abbrev pub AreNumbered : ℕ → ℕ → ℕ → List (PollDone Z) → Type 0
   AreNumbered from end c [] = Unit {0}
   AreNumbered from end c (d ∷ ds) = IsPollEndAt from end c d × AreNumbered from end (suc c) ds
 
   numbered : {R : Type 0} (from end c : ℕ) (js : List (PollJob R Z)) (ds : List (PollDone Z)) → ArePollJobs m c js
-      → AllZip (λ (j : PollJob R Z) (d : PollDone Z). IsPollEnd from end j.consumer d) js ds → AreNumbered from end c ds
+      → AllZip (λ (j : PollJob R Z) (d : PollDone Z). IsPollEnd may_stop from end j.consumer d) js ds → AreNumbered from end c ds
   numbered from end c [] [] a z = tt
   numbered from end c [] (d ∷ ds) a z = absurd z
   numbered from end c (j ∷ js) [] a z = absurd z
   numbered from end c (j ∷ js) (d ∷ ds) a z = (
-    record { reader = z.0.same.reader ∙ a.0.reader; consumer = z.0.same.consumer ∙ a.0.consumer; read = z.0.read },
+    record {
+      reader = z.0.same.reader ∙ a.0.reader;
+      consumer = z.0.same.consumer ∙ a.0.consumer;
+      read = z.0.read;
+      stop = λ t o. subst (λ (c : ℕ). IsStoppedPoll may_stop c (accesses_made d.consumer)) a.0.consumer (z.0.stop t o);
+    },
     numbered from end (suc c) js ds a.1 z.1,
   )
 
@@ -152,13 +177,20 @@ module _ {Z : Type 0} (m : MailboxView) where
   count_readers from end c (d ∷ ds) a = (a.0.reader, count_readers from end (suc c) ds a.1)
 
   abbrev pub left_of : List (PollDone Z) → List ConsumerLeft
-  left_of ds = map (λ d. left_by d.consumer) ds
+  left_of ds = map (λ d. left_by d.consumer d.stopped) ds
+
+  poll_stops_of : (from end c : ℕ) (ds : List (PollDone Z)) → AreNumbered from end c ds → All (λ (d : PollDone Z). d.off ≡ false) ds
+      → AreStoppedPolls may_stop c (left_of ds)
+  poll_stops_of from end c [] a on = tt
+  poll_stops_of from end c (d ∷ ds) a on =
+      let F = λ (d : PollDone Z). d.off ≡ false in
+      (λ t. a.0.stop t (All-head F d ds on), poll_stops_of from end (suc c) ds a.1 (All-tail F d ds on))
 
   -- ---- a whole run
   module _ {R : Type 0} (h : HubView) (from end : ℕ) (vs : List (Vec ℕ Z)) (js : List (PutJob Z)) (ds : List (PutDone Z))
       (ks : List (PollJob R Z)) (es : List (PollDone Z)) (i : IsHub h) (putting : ArePutJobs m (length h.puts) vs js)
-      (polling : ArePollJobs m (length h.ledgers) ks) (put : AllZip IsPutEnd js ds)
-      (polled : AllZip (λ (j : PollJob R Z) (d : PollDone Z). IsPollEnd from end j.consumer d) ks es) where
+      (polling : ArePollJobs m (length h.ledgers) ks) (put : AllZip (IsPutEnd may_stop) js ds)
+      (polled : AllZip (λ (j : PollJob R Z) (d : PollDone Z). IsPollEnd may_stop from end j.consumer d) ks es) where
     abbrev pub now : HubView
     now = after js ks (producers ds) (consumers es) h
 
@@ -169,10 +201,10 @@ module _ {Z : Type 0} (m : MailboxView) where
     nums = numbered from end (length h.ledgers) ks es polling polled
 
     puts_count : length js ≡ length (producers ds)
-    puts_count = zip_length IsPutEnd js ds put ∙ sym (length-map ds (λ (d : PutDone Z). d.producer))
+    puts_count = zip_length (IsPutEnd may_stop) js ds put ∙ sym (length-map ds (λ (d : PutDone Z). d.producer))
 
     polls_count : length ks ≡ length (consumers es)
-    polls_count = zip_length (λ (j : PollJob R Z) (d : PollDone Z). IsPollEnd from end j.consumer d) ks es polled
+    polls_count = zip_length (λ (j : PollJob R Z) (d : PollDone Z). IsPollEnd may_stop from end j.consumer d) ks es polled
         ∙ sym (length-map es (λ (d : PollDone Z). d.consumer))
 
     pub run_of : IsRunOf (lists_in vs) (length ks) (lanes_of ds) (left_of es) h now
@@ -183,23 +215,27 @@ module _ {Z : Type 0} (m : MailboxView) where
           ∙ ap (λ l. h.cells.roll.lanes ++ l) (parts_of_lanes ds);
       fronts = fronts_of (length h.puts) vs ds ats;
       ledgers = run_ledgers js ks (producers ds) (consumers es) h polls_count (count_seats from end (length h.ledgers) es nums)
-          ∙ ap (λ l. h.ledgers ++ l) (turned (λ (s : ConsumerView). Some (left_by s).ledger) (λ (x : ConsumerLeft). Some x.ledger) (λ s. refl) es);
+          ∙ ap (λ l. h.ledgers ++ l) (turned (λ (s : ConsumerView). Some (left_by s true).ledger) (λ (x : ConsumerLeft). Some x.ledger) (λ s b. refl) es);
       reads = run_readers js ks (producers ds) (consumers es) h polls_count i.readers (count_readers from end (length h.ledgers) es nums)
-          ∙ ap (λ l. h.cells.roll.readers ++ l) (turned (λ (s : ConsumerView). Some s.reader.part) (λ (x : ConsumerLeft). Some x.reads) (λ s. refl) es);
+          ∙ ap (λ l. h.cells.roll.readers ++ l) (turned (λ (s : ConsumerView). Some s.reader.part) (λ (x : ConsumerLeft). Some x.reads) (λ s b. refl) es);
       claimed = run_claimed js ks (producers ds) (consumers es) h polls_count i.seats (count_seats from end (length h.ledgers) es nums)
-          ∙ ap (λ l. h.claims.roll ++ l) (turned (λ (s : ConsumerView). Some s.seat.part) (λ (x : ConsumerLeft). Some x.claimed) (λ s. refl) es);
-      count = length-map es (λ (d : PollDone Z). left_by d.consumer) ∙ sym (length-map es (λ (d : PollDone Z). d.consumer)) ∙ sym polls_count;
+          ∙ ap (λ l. h.claims.roll ++ l) (turned (λ (s : ConsumerView). Some s.seat.part) (λ (x : ConsumerLeft). Some x.claimed) (λ s b. refl) es);
+      count = length-map es (λ (d : PollDone Z). left_by d.consumer d.stopped) ∙ sym (length-map es (λ (d : PollDone Z). d.consumer)) ∙ sym polls_count;
     }
       where
-        turned : {Y : Type 0} (f : ConsumerView → Y) (r : ConsumerLeft → Y) → ((s : ConsumerView) → f s ≡ r (left_by s)) → (es : List (PollDone Z))
+        turned : {Y : Type 0} (f : ConsumerView → Y) (r : ConsumerLeft → Y) → ((s : ConsumerView) (b : Bool) → f s ≡ r (left_by s b)) → (es : List (PollDone Z))
             → map f (consumers es) ≡ map r (left_of es)
         turned f r same [] = refl
-        turned f r same (d ∷ ds) = λ i. same d.consumer i ∷ turned f r same ds i
+        turned f r same (d ∷ ds) = λ i. same d.consumer d.stopped i ∷ turned f r same ds i
 
-    -- where nobody was stopped
-    module _ (none : All (λ (d : PutDone Z). d.stopped ≡ false) ds) where
-      pub run_beyond : sum_by (λ (d : PutDone Z). d.full) ds ≡ items_beyond (lists_in vs) (lanes_of ds)
-      run_beyond = beyond_of (length h.puts) vs ds ats none
+    pub run_beyond : sum_by (λ (d : PutDone Z). d.full) ds ≡ items_beyond (lists_in vs) (lanes_of ds)
+    run_beyond = beyond_of (length h.puts) vs ds ats
 
-      pub run_cut : AreCutByCells m.cells.size.cells (length h.puts) (lists_in vs) (lanes_of ds)
-      run_cut = cut_of (length h.puts) vs ds ats none
+    pub run_cut : AreCutByCells m.cells.size.cells (length h.puts) (lists_in vs) (lanes_of ds)
+    run_cut = cut_of (length h.puts) vs ds ats
+
+    pub run_stops : All (λ (d : PutDone Z). d.off ≡ false) ds → AreStoppedPuts may_stop m.cells.size.cells (length h.puts) (lists_in vs) (lanes_of ds)
+    run_stops on = stops_of (length h.puts) vs ds ats on
+
+    pub run_poll_stops : All (λ (d : PollDone Z). d.off ≡ false) es → AreStoppedPolls may_stop (length h.ledgers) (left_of es)
+    run_poll_stops on = poll_stops_of from end (length h.ledgers) es nums on

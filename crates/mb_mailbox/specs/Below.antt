@@ -6,7 +6,8 @@ pub use Rattle.mb_claim.specs.declared.access.ObjectTurn.{ObjectTurn}
 pub use Rattle.mb_claim.specs.declared.access.Stage.{Stage}
 pub use Rattle.mb_claim.specs.declared.claim.Claim.{Claim}
 pub use Rattle.mb_claim.specs.declared.layout.Layout.{Layout}
-pub use Rattle.mb_claim.specs.Vocabulary.{Claims, IsClaimIn, IsClaimPrefix, claim_stage, claims_in, consumer_count, consumer_of, is_begun, part as consumer_part, part_on}
+pub use Rattle.mb_claim.specs.Vocabulary.{Claims, IsClaimIn, IsClaimPrefix, claim_stage, claims_in}
+pub use Rattle.mb_claim.specs.Vocabulary.{consumer_count, consumer_of, is_begun, part as consumer_part, part_on}
 pub use Rattle.mb_cells.specs.declared.answer.Look.{Look}
 pub use Rattle.mb_cells.specs.declared.access.PoolAct.TheVariants.{FetchAdd, Load, Store}
 pub use Rattle.mb_cells.specs.declared.access.TheConstants.{END}
@@ -17,9 +18,10 @@ pub use Rattle.mb_cells.specs.declared.access.Word.{Word}
 pub use Rattle.mb_cells.specs.declared.access.PoolAccess.{PoolAccess}
 pub use Rattle.mb_cells.specs.declared.access.Process.TheVariants.{Producer, Reader}
 pub use Rattle.mb_cells.specs.declared.size.PoolSize.{PoolSize}
-pub use Rattle.mb_cells.specs.Vocabulary.{Gave, Has, HasFoundNone, HasLoaded, HasMet, History, IsOnceEach, IsPoolLawful, MayRead, has_ended, linked_cells, load, look_of, part, place_past, word_of}
+pub use Rattle.mb_cells.specs.Vocabulary.{Gave, Has, HasFoundNone, HasLoaded, HasMet, History, IsOnceEach, IsPoolLawful}
+pub use Rattle.mb_cells.specs.Vocabulary.{MayRead, has_ended, linked_cells, load, look_of, part, place_past, word_of}
 pub use Rattle.mb_shared_cells.specs.Vocabulary.{CellsName, IsAccessAfter, ReaderSeatView}
-pub use Rattle.mb_shared_claims.specs.Vocabulary.{ClaimTable, SeatView, TableView, access_of, claims_at, name_of, with_access}
+pub use Rattle.mb_shared_claims.specs.Vocabulary.{ClaimTable, SeatView, TableView, access_of, claims_at, name_of, taken_part, with_access}
 pub use Rattle.mb_shared_claims.specs.declared.view.TableSize.{TableSize}
 pub use Rattle.mb_world.specs.declared.report.Note.{Note}
 pub use Rattle.mb_world.specs.declared.report.Note.TheVariants.{Took, Lost, Undecided}

@@ -1,6 +1,8 @@
 -- A consumer of a mailbox: what its two seats did, and where it stands on each lane.
 use Rattle.std.specs.Prelude.{ℕ, ◌≡◌, List, [], ◌∷◌, Some, None, length, reverse, slice_get}
-use Rattle.mb_mailbox.specs.Below.{Claim, Claims, Cursor, EndsAs, Fits, HasNotLeft, IsClaimIn, Layout, Note, Parts, ReaderSeatView, SeatView, TableSize, cells_met, claim_stage, claims_in, consumer_of, name_of, note_of, part_on, place_past, word_of}
+use Rattle.mb_mailbox.specs.Below.{Claim, Claims, Cursor, EndsAs, Fits, HasNotLeft, IsClaimIn, Layout, Note}
+use Rattle.mb_mailbox.specs.Below.{Parts, ReaderSeatView, SeatView, TableSize, cells_met, claim_stage}
+use Rattle.mb_mailbox.specs.Below.{claims_in, consumer_of, name_of, note_of, part_on, place_past, word_of}
 use Rattle.mb_mailbox.specs.Mailboxes.{MailboxView}
 use Rattle.mb_mailbox.specs.declared.place.Place.{Place}
 use Rattle.mb_mailbox.specs.declared.place.Place.TheVariants.{At, Before}

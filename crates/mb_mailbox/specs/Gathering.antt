@@ -1,5 +1,6 @@
 -- The report of what a hub has taken in.
-use Rattle.std.specs.Prelude.{ℕ, suc, ◌≡◌, ◌≢◌, ◌+◌, ◌*◌, ◌<◌, Bool, false, not, List, [], ◌∷◌, Option, Some, None, length, slice_get, sum_by}
+use Rattle.std.specs.Prelude.{ℕ, suc, ◌≡◌, ◌≢◌, ◌+◌, ◌*◌, ◌<◌, Bool, false, not, List}
+use Rattle.std.specs.Prelude.{[], ◌∷◌, Option, Some, None, length, slice_get, sum_by}
 use Rattle.std.specs.Option.{option_map_or}
 use Rattle.mb_shared_cells.specs.Vocabulary.{IsRollOf}
 use Rattle.mb_shared_claims.specs.Vocabulary.{taken_part}

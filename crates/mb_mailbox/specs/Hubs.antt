@@ -4,7 +4,8 @@ use Rattle.mb_cells.specs.Vocabulary.{Entry, fetch, new_lane}
 use Rattle.mb_shared_cells.specs.Vocabulary.{CellHubView, empty_roll, roll_with_lane, roll_with_part, roll_with_reader}
 use Rattle.mb_shared_claims.specs.Vocabulary.{HubView as ClaimHubView}
 use Rattle.mb_world.specs.Reporting.{values_put}
-use Rattle.mb_mailbox.specs.Below.{ClaimAccess, ClaimTable, Fits, Has, History, Note, Parts, Producer, Reader, TableSize, claims_at, claims_in, has_ended, linked_cells, name_of, part_on}
+use Rattle.mb_mailbox.specs.Below.{ClaimAccess, ClaimTable, Fits, Has, History, Note, Parts, Producer, Reader}
+use Rattle.mb_mailbox.specs.Below.{TableSize, claims_at, claims_in, has_ended, linked_cells, name_of, part_on}
 use Rattle.mb_mailbox.specs.Mailboxes.{MailboxView}
 use Rattle.mb_mailbox.specs.Consumers.{ConsumerView, StandsOn}
 use Rattle.mb_mailbox.specs.Producers.{ProducerView}

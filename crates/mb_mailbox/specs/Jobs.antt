@@ -1,12 +1,22 @@
 -- What the workers of a run are given, and what they give back.
-use Rattle.std.specs.Prelude.{ℕ, ◌≡◌, ◌≢◌, ◌+◌, ◌<◌, ◌≤◌, ◌++◌, Bool, List, false, length, slice_index_or, true}
+use Rattle.std.specs.Prelude.{ℕ, suc, ◌≡◌, ◌≢◌, ◌+◌, ◌-◌, ◌^◌, ◌<◌, ◌≤◌, ◌⊎◌, ◌++◌, Bool, List, false, length, slice_index_or, true}
 use Rattle.mb_mailbox.specs.Below.{END, HasLoaded, HasMet, place_past}
 use Rattle.mb_mailbox.specs.Consumers.{ConsumerView}
 use Rattle.mb_mailbox.specs.Producers.{FoundNoCell, IsSameLane, is_over}
 use Rattle.mb_mailbox.specs.Steps.{notes_on}
+use Rattle.mb_mailbox.specs.declared.gate.Who.{Who}
+use Rattle.mb_mailbox.specs.declared.gate.Who.TheVariants as who
 use Rattle.mb_mailbox.specs.declared.working.jobs.PollDone.{PollDone}
 use Rattle.mb_mailbox.specs.declared.working.jobs.PutDone.{PutDone}
 use Rattle.mb_mailbox.specs.declared.working.jobs.PutJob.{PutJob}
+
+-- a worker is stopped before this call of it: there the gate may stop it, or it is call 2^64 - 1
+abbrev pub IsStopBefore : (Who → ℕ → Type 0) → Who → ℕ → Type 0
+IsStopBefore may_stop w call = may_stop w call ⊎ (call ≡ 2 ^ 64 - 1)
+
+-- how many accesses a consumer has made
+abbrev pub accesses_made : ConsumerView → ℕ
+accesses_made s = length s.reader.part + length s.seat.part
 
 -- `whole` begins with `front`
 abbrev pub IsFront : List ℕ → List ℕ → Type 0
@@ -30,17 +40,31 @@ pub record HasReadToEnd (p : ℕ) (s : ConsumerView) : Type 0 where
 abbrev pub HasReadMarked : List Bool → ConsumerView → Type 0
 HasReadMarked marks s = (p : ℕ) → slice_index_or marks p false ≡ true → HasReadToEnd p s
 
-module _ {Z : Type 0} where
+-- it was stopped before a call, and made an access at least in each call before
+pub record IsStoppedPoll (may_stop : Who → ℕ → Type 0) (c made : ℕ) : Type 0 where
+  pub call : ℕ
+  pub first : 1 ≤ call
+  pub within : call ≤ suc made
+  pub stop : IsStopBefore may_stop (who.Consumer c) call
+
+module _ {Z : Type 0} (may_stop : Who → ℕ → Type 0) where
   -- the producer put a beginning of its list, and ended its lane. Where it was not stopped, `full` counts the rest of the
-  -- list, and if there is any, a fetch-add of its own found no cell
+  -- list, and if there is any, a fetch-add of its own found no cell. Where it was, there is a rest, each of its fetch-adds
+  -- found a cell, and it was stopped before the call of the next item, or the run is off
   pub record IsPutEnd (j : PutJob Z) (d : PutDone Z) : Type 0 where
     pub same : IsSameLane j.producer d.producer
     pub over : is_over d.producer ≡ true
     pub front : IsFront d.producer.items j.list.items
     pub full : d.stopped ≡ false → length d.producer.items + d.full ≡ length j.list.items
     pub found : d.stopped ≡ false → d.full ≢ 0 → FoundNoCell d.producer
+    pub none : d.stopped ≡ true → d.full ≡ 0
+    pub short : d.stopped ≡ true → d.off ≡ false → length d.producer.items < length j.list.items
+    pub had_cells : d.stopped ≡ true → d.off ≡ false → FoundNoCell d.producer → FoundNoCell j.producer
+    pub stop : d.stopped ≡ true → d.off ≡ false
+        → IsStopBefore may_stop (who.Producer j.producer.seat.lane) (suc (length d.producer.items))
 
   -- the consumer, where it was not stopped, has read each lane from `from` on and below `end` to its end mark
   pub record IsPollEnd (from end : ℕ) (s : ConsumerView) (d : PollDone Z) : Type 0 where
     pub same : IsSameConsumer s d.consumer
     pub read : d.stopped ≡ false → (p : ℕ) → from ≤ p → p < end → HasReadToEnd p d.consumer
+    pub stop : d.stopped ≡ true → d.off ≡ false → IsStoppedPoll may_stop s.seat.consumer (accesses_made d.consumer)

@@ -22,3 +22,4 @@ pub mod HubRuns
 pub mod Given
 pub mod Gathering
 pub mod GatheringExamples
+pub mod WorkExamples

@@ -1,12 +1,14 @@
 -- The jobs of a run, and their ends.
-use Rattle.std.specs.Prelude.{ℕ, ◌≡◌, false, map}
-use Rattle.std.specs.List.{All, AllZip}
+use Rattle.std.specs.Prelude.{ℕ, ◌+◌, map}
+use Rattle.std.specs.Int.{from_bool}
+use Rattle.std.specs.List.{All, AllZip, sum_by}
 use Rattle.mb_mailbox.specs.Consumers.{IsConsumerOf}
 use Rattle.mb_mailbox.specs.HubRuns.{with_taken_consumers, with_taken_producers}
 use Rattle.mb_mailbox.specs.Hubs.{HubView}
 use Rattle.mb_mailbox.specs.Jobs.{IsPollEnd, IsPutEnd}
 use Rattle.mb_mailbox.specs.Mailboxes.{MailboxView}
 use Rattle.mb_mailbox.specs.Producers.{IsProducerOf}
+use Rattle.mb_mailbox.specs.declared.gate.Who.{Who}
 use Rattle.mb_mailbox.specs.declared.working.room.Ends.{Ends}
 use Rattle.mb_mailbox.specs.declared.working.room.Jobs.{Jobs}
 
@@ -16,10 +18,11 @@ module _ {R Z : Type 0} where
     pub puts : All (λ j. IsProducerOf m j.producer) jobs.puts.items
     pub polls : All (λ j. IsConsumerOf m j.consumer) jobs.polls.items
 
-  -- these are the ends of the jobs, in their order, where consumers read the lanes from `from` on and below `end`
-  pub record AreEndsOf (from end : ℕ) (jobs : Jobs R Z) (ends : Ends Z) : Type 0 where
-    pub puts : AllZip IsPutEnd jobs.puts.items ends.puts.items
-    pub polls : AllZip (λ j d. IsPollEnd from end j.consumer d) jobs.polls.items ends.polls.items
+  -- these are the ends of the jobs, in their order, where consumers read the lanes from `from` on and below `end`, and the
+  -- gate may stop them before these calls
+  pub record AreEndsOf (may_stop : Who → ℕ → Type 0) (from end : ℕ) (jobs : Jobs R Z) (ends : Ends Z) : Type 0 where
+    pub puts : AllZip (IsPutEnd may_stop) jobs.puts.items ends.puts.items
+    pub polls : AllZip (λ j d. IsPollEnd may_stop from end j.consumer d) jobs.polls.items ends.polls.items
 
 module _ {Z : Type 0} where
   -- all ends are of the mailbox
@@ -27,10 +30,9 @@ module _ {Z : Type 0} where
     pub puts : All (λ d. IsProducerOf m d.producer) ends.puts.items
     pub polls : All (λ d. IsConsumerOf m d.consumer) ends.polls.items
 
-  -- nobody was stopped
-  pub record NoneStopped (ends : Ends Z) : Type 0 where
-    pub puts : All (λ d. d.stopped ≡ false) ends.puts.items
-    pub polls : All (λ d. d.stopped ≡ false) ends.polls.items
+  -- how many were stopped
+  abbrev pub count_stopped : Ends Z → ℕ
+  count_stopped ends = sum_by (λ d. from_bool d.stopped) ends.puts.items + sum_by (λ d. from_bool d.stopped) ends.polls.items
 
   -- the hub with all of them taken in, in their order
   abbrev pub with_taken : Ends Z → HubView → HubView

@@ -1,8 +1,11 @@
 -- The polls of a consumer on a lane: their accesses, and what these come to.
-use Rattle.std.specs.Prelude.{ℕ, ◌≡◌, ◌≢◌, ◌++◌, ◌≤◌, Bool, true, false, List, [], ◌∷◌, Option, Some, None, length, map, slice_get, slice_set}
+use Rattle.std.specs.Prelude.{ℕ, ◌≡◌, ◌≢◌, ◌++◌, ◌≤◌, Bool, true, false, List, [], ◌∷◌}
+use Rattle.std.specs.Prelude.{Option, Some, None, length, map, slice_get, slice_set}
 use Rattle.std.specs.Option.{option_map_or}
 use Rattle.mb_world.specs.Reporting.{values_put}
-use Rattle.mb_mailbox.specs.Below.{END, HasRead, History, Lost, Note, Parts, Stream, Took, Undecided, WorldAccess, WorldHistory, cells_met, claim_accesses, claims_at, has_ended, linked_cells, next_u64, place_past, pool_accesses}
+use Rattle.mb_mailbox.specs.Below.{END, HasRead, History, Lost, Note, Parts, Stream, Took, Undecided}
+use Rattle.mb_mailbox.specs.Below.{WorldAccess, WorldHistory, cells_met, claim_accesses, claims_at}
+use Rattle.mb_mailbox.specs.Below.{has_ended, linked_cells, next_u64, place_past, pool_accesses}
 use Rattle.mb_mailbox.specs.declared.consumer.Poll.{Poll}
 use Rattle.mb_mailbox.specs.declared.consumer.Poll.TheVariants as poll
 use Rattle.mb_mailbox.specs.Consumers.{ConsumerView, parts_of}

@@ -1,12 +1,15 @@
 -- What a run of workers makes of a hub.
-use Rattle.std.specs.Prelude.{ℕ, suc, ◌≡◌, ◌+◌, ◌-◌, ◌^◌, ◌<◌, ◌≤◌, ◌⊎◌, ◌++◌, List, [], ◌∷◌, Some, Vec, length, map, min, true}
-use Rattle.std.specs.List.{All, AllZip}
+use Rattle.std.specs.Prelude.{ℕ, suc, ◌≡◌, ◌+◌, ◌-◌, ◌^◌, ◌<◌, ◌≤◌, ◌⊎◌, ◌++◌, Bool, List, [], ◌∷◌, Some, Vec, false, length, map, min, true}
+use Rattle.std.specs.Int.{from_bool}
+use Rattle.std.specs.List.{All, AllZip, sum_by}
 use Rattle.mb_cells.specs.Vocabulary.{HasFoundNone}
 use Rattle.mb_mailbox.specs.Below.{ClaimAccess, History, consumer_count}
 use Rattle.mb_mailbox.specs.Hubs.{HubView, LedgerView, PutListView}
-use Rattle.mb_mailbox.specs.Jobs.{IsFront}
+use Rattle.mb_mailbox.specs.Jobs.{IsFront, IsStopBefore, IsStoppedPoll}
 use Rattle.mb_mailbox.specs.Mailboxes.{MailboxView}
 use Rattle.mb_mailbox.specs.Steps.{notes_on}
+use Rattle.mb_mailbox.specs.declared.gate.Who.{Who}
+use Rattle.mb_mailbox.specs.declared.gate.Who.TheVariants as who
 use Rattle.mb_mailbox.specs.declared.working.Worked.{Worked}
 
 -- there are more lists, or more sources, than numbers are left
@@ -14,16 +17,18 @@ abbrev pub AsksTooMany : MailboxView → ℕ → ℕ → HubView → Type 0
 AsksTooMany m lists sources h =
     (m.cells.size.lanes - length h.puts < lists) ⊎ (consumer_count m.claims.layout - length h.ledgers < sources)
 
--- what a producer that was taken in left: the items that it put, and its part
+-- what a producer that was taken in left: the items that it put, and its part; and whether it was stopped
 pub record LaneLeft : Type 0 where
   pub put : List ℕ
   pub part : History
+  pub stopped : Bool
 
--- what a consumer that was taken in left: its ledger, and its two parts
+-- what a consumer that was taken in left: its ledger, and its two parts; and whether it was stopped
 pub record ConsumerLeft : Type 0 where
   pub ledger : LedgerView
   pub reads : History
   pub claimed : List ClaimAccess
+  pub stopped : Bool
 
 -- what the hub keeps of a producer that has ended its lane
 abbrev pub ended_list : LaneLeft → PutListView
@@ -60,32 +65,66 @@ pub record WereTakenInEarly (lists : List (List ℕ)) (sources : ℕ) (old new :
   pub few : given ≤ sources
   pub taken : WereTakenIn front given old new
 
--- how many items of the lists stand beyond those that were put
+-- ---- items that found no cell
+-- how many items of its list a producer did not put, where it was not stopped
+abbrev pub items_behind : Bool → List ℕ → List ℕ → ℕ
+items_behind true list put = 0
+items_behind false list put = length list - length put
+
+-- how many that are of all lists
 abbrev pub items_beyond : List (List ℕ) → List LaneLeft → ℕ
 items_beyond [] _ = 0
 items_beyond _ [] = 0
-items_beyond (list ∷ lists) (l ∷ ls) = (length list - length l.put) + items_beyond lists ls
+items_beyond (list ∷ lists) (l ∷ ls) = items_behind l.stopped list l.put + items_beyond lists ls
 
--- the lanes from p on, each of which has less than its list only behind a fetch-add that found no cell
+-- the lanes from p on, each of which, where its producer was not stopped, has less than its list only behind a fetch-add
+-- that found no cell
 abbrev pub AreCutByCells : ℕ → ℕ → List (List ℕ) → List LaneLeft → Type 0
 AreCutByCells cells p [] [] = Unit {0}
 AreCutByCells cells p (list ∷ lists) (l ∷ ls) =
-    (length l.put < length list → HasFoundNone cells p l.part) × AreCutByCells cells (suc p) lists ls
+    (l.stopped ≡ false → length l.put < length list → HasFoundNone cells p l.part) × AreCutByCells cells (suc p) lists ls
 AreCutByCells cells p _ _ = ⊥
 
+-- ---- notes
 -- on the lanes from p on the consumer has a note at each item
 abbrev pub HasNoteAtEach : ℕ → List LaneLeft → LedgerView → Type 0
 HasNoteAtEach p [] ledger = Unit {0}
 HasNoteAtEach p (l ∷ ls) ledger = (length (notes_on p ledger.notes) ≡ length l.put) × HasNoteAtEach (suc p) ls ledger
 
--- all that was given was taken in, and these are the counts
-pub record IsWorked (lists : List (List ℕ)) (sources : ℕ) (w : Worked) (old new : HubView) : Type 0 where
+-- ---- who was stopped
+-- the producer of lane p was stopped before the call that was to put the next item of its list, and each of its fetch-adds
+-- found a cell
+pub record IsStoppedPut (may_stop : Who → ℕ → Type 0) (cells p : ℕ) (list : List ℕ) (l : LaneLeft) : Type 0 where
+  pub short : length l.put < length list
+  pub had_cells : HasFoundNone cells p l.part → ⊥
+  pub stop : IsStopBefore may_stop (who.Producer p) (suc (length l.put))
+
+-- each producer of the lanes from p on that was stopped was so
+abbrev pub AreStoppedPuts : (Who → ℕ → Type 0) → ℕ → ℕ → List (List ℕ) → List LaneLeft → Type 0
+AreStoppedPuts may_stop cells p [] [] = Unit {0}
+AreStoppedPuts may_stop cells p (list ∷ lists) (l ∷ ls) =
+    (l.stopped ≡ true → IsStoppedPut may_stop cells p list l) × AreStoppedPuts may_stop cells (suc p) lists ls
+AreStoppedPuts may_stop cells p _ _ = ⊥
+
+-- each consumer from number c on that was stopped was stopped before a call, and made an access at least in each before
+abbrev pub AreStoppedPolls : (Who → ℕ → Type 0) → ℕ → List ConsumerLeft → Type 0
+AreStoppedPolls may_stop c [] = Unit {0}
+AreStoppedPolls may_stop c (l ∷ ls) =
+    (l.stopped ≡ true → IsStoppedPoll may_stop c (length l.reads + length l.claimed)) × AreStoppedPolls may_stop (suc c) ls
+
+-- all that was given was taken in, and these are the counts, where the gate may stop these workers before these calls
+pub record IsWorked (may_stop : Who → ℕ → Type 0) (lists : List (List ℕ)) (sources : ℕ) (w : Worked) (old new : HubView)
+    : Type 0 where
   pub lanes : List LaneLeft
   pub consumers : List ConsumerLeft
   pub run : IsRunOf lists sources lanes consumers old new
-  -- where nobody was stopped, `full` counts the items that were not put, no further than 2^64 - 1
-  pub full : w.stopped ≡ 0 → w.full ≡ min (2 ^ 64 - 1) (items_beyond lists lanes)
-  -- a producer that put less than its list has a fetch-add that found no cell
-  pub cut : w.stopped ≡ 0 → AreCutByCells new.cells.table.size.cells (length old.puts) lists lanes
+  -- `stopped` counts who was stopped; each of them was stopped by the gate, or at call 2^64 - 1
+  pub stopped : w.stopped ≡ sum_by (λ l. from_bool l.stopped) lanes + sum_by (λ c. from_bool c.stopped) consumers
+  pub stopped_puts : AreStoppedPuts may_stop new.cells.table.size.cells (length old.puts) lists lanes
+  pub stopped_polls : AreStoppedPolls may_stop (length old.ledgers) consumers
+  -- Of those who were not stopped: `full` counts the items that they did not put, no further than 2^64 - 1,
+  pub full : w.full ≡ min (2 ^ 64 - 1) (items_beyond lists lanes)
+  -- a producer that put less than its list has a fetch-add that found no cell,
+  pub cut : AreCutByCells new.cells.table.size.cells (length old.puts) lists lanes
   -- and each consumer has a note at each item of each of these lanes
-  pub noted : w.stopped ≡ 0 → All (λ c. HasNoteAtEach (length old.puts) lanes c.ledger) consumers
+  pub noted : All (λ c. c.stopped ≡ false → HasNoteAtEach (length old.puts) lanes c.ledger) consumers

@@ -5,7 +5,7 @@ mod pursuing;
 
 use self::moving::{answers_tell_lanes, consumers_move_on, places_tell_steps};
 use self::places::place_at;
-use self::pursuing::pursue;
+use self::pursuing::{Held, pursue};
 use crate::mailbox::Mailbox;
 use crate::place::Place;
 use arrayvec::ArrayVec;
@@ -24,9 +24,9 @@ use std::marker::Model;
 pub enum Poll {
     /// The consumer has won the lane's next item, and has loaded this value.
     Took(u64),
-    /// This other consumer is the winner of the lane's next item.
+    /// No consumer but this other one can win the lane's next item; it may not have won it yet, or may end undecided.
     Lost(u32),
-    /// This consumer's claim on the lane's next item ended undecided: another may have won it.
+    /// This consumer's claim on the lane's next item ended undecided: another may have won it, or nobody.
     Undecided,
     /// No further item is linked yet.
     Nothing,
@@ -112,39 +112,27 @@ impl<A: Allocator + Drop> Consumer<A> {
         looks_tell_links();
         self.reader.has_history();
         let lane = lane as u32;
-        match place_at(&self.places, lane as usize) {
-            Place::At { cell, claim } => pursue(
-                &mut self.places,
-                &mut self.notes,
-                &mut self.reader,
-                &mut self.seat,
-                mailbox,
-                lane,
-                cell,
-                claim,
-                budget,
-                rng,
-            ),
-            Place::Before(at) => match mailbox.cells.look(&mut self.reader, at) {
-                Look::Nothing => Poll::Nothing,
-                Look::Ended => Poll::Ended,
-                Look::Cell(cell) => {
-                    let claim = Claim::new(mailbox.claims.layout(), self.seat.consumer());
-                    pursue(
-                        &mut self.places,
-                        &mut self.notes,
-                        &mut self.reader,
-                        &mut self.seat,
-                        mailbox,
-                        lane,
-                        cell,
-                        claim,
-                        budget - 1,
-                        rng,
-                    )
-                }
-            },
-        }
+        let Consumer {
+            reader,
+            seat,
+            places,
+            notes,
+        } = self;
+        let at = match place_at(places, lane as usize) {
+            Place::Before(at) => at,
+            Place::At { cell, claim } => {
+                let held = Held { lane, cell, claim };
+                return pursue(places, notes, reader, seat, mailbox, held, budget, rng);
+            }
+        };
+        let cell = match mailbox.cells.look(reader, at) {
+            Look::Nothing => return Poll::Nothing,
+            Look::Ended => return Poll::Ended,
+            Look::Cell(cell) => cell,
+        };
+        let claim = Claim::new(mailbox.claims.layout(), seat.consumer());
+        let held = Held { lane, cell, claim };
+        pursue(places, notes, reader, seat, mailbox, held, budget - 1, rng)
     }
 
     /// The two parts of a consumer fit each other, and tell where it stands on each lane and its notes there; and each is

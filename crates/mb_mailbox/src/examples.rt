@@ -1,16 +1,21 @@
 //! The definitions by example: what they let in, and what only looks right. The functions compute nothing: their contracts
 //! are the examples, and their proofs stand in `proofs/examples/`, one folder for each.
-ghost use Rattle.std.specs.Prelude.{List, None, Option, Some, [], ◌∷◌};
+ghost use Rattle.std.specs.Prelude.{◌≡◌, List, None, Option, Some, [], ◌∷◌};
 ghost use Rattle.mb_quorum.specs.Vocabulary.{IsQuorumTable};
 ghost use Rattle.mb_claim.specs.declared.access.Stage.TheVariants as stage;
-ghost use Rattle.mb_mailbox.specs.Below.{Claims, END, IsClaimPrefix, ObjectTurn, Stream, WorldAccess};
+ghost use Rattle.mb_cells.specs.Vocabulary.{new_lane};
+ghost use Rattle.mb_mailbox.specs.Below.{CellsName, Claims, END, IsClaimPrefix, ObjectTurn, Stream, Took, WorldAccess};
 ghost use Rattle.mb_mailbox.specs.Below.{claim_step, item_load, link_load};
 ghost use Rattle.mb_mailbox.specs.declared.consumer.Poll.{Poll};
 ghost use Rattle.mb_mailbox.specs.declared.consumer.Poll.TheVariants as poll;
 ghost use Rattle.mb_mailbox.specs.Consumers.{ConsumerView};
 ghost use Rattle.mb_mailbox.specs.ConsumerStep.{ConsumerStep};
 ghost use Rattle.mb_mailbox.specs.Examples.{head_loaded, link_loaded, met_four, nothing_done};
+ghost use Rattle.mb_mailbox.specs.Producers.{HasNoCellFor, IsEndOfLane, IsFirstPastCells, IsPutInto};
 ghost use Rattle.mb_mailbox.specs.Steps.{IsPollOf, LeadTo};
+ghost use Rattle.mb_mailbox.specs.WorkExamples.{fetched, has_linked, idle_producer, lane_left, ledger_with, linked_early};
+ghost use Rattle.mb_mailbox.specs.WorkExamples.{producer_of_one, seven_put, stopped_lane};
+ghost use Rattle.mb_mailbox.specs.Worked.{AreCutByCells, HasNoteAtEach, items_beyond};
 
 use mb_claim::laws::prefixes_have_one_stage;
 
@@ -77,4 +82,32 @@ pub fn polls_end_with_their_answer()
         → IsPollOf 0 2 poll.Spent s t old old → ⊥ }
     ensures took_nothing { (s t : Stream) (old : ConsumerView)
         → IsPollOf 0 2 (poll.Took 5) s t old old → ⊥ }
+{}
+
+/// What a put adds that is linked.
+pub fn puts_make_three_accesses()
+    ensures linked { (name : CellsName) → IsPutInto 0 7 (idle_producer name) (producer_of_one name has_linked seven_put (7 ∷ [])) }
+    ensures link_first { (name : CellsName)
+        → IsPutInto 0 7 (idle_producer name) (producer_of_one name has_linked linked_early (7 ∷ [])) → ⊥ }
+    ensures not_kept { (name : CellsName) → IsPutInto 0 7 (idle_producer name) (producer_of_one name has_linked seven_put []) → ⊥ }
+    ensures no_such_cell { (name : CellsName)
+        → IsPutInto 1 7 (idle_producer name) (producer_of_one name has_linked seven_put (7 ∷ [])) → ⊥ }
+{}
+
+/// A put without a cell, and an end mark that was not stored.
+pub fn puts_are_full_for_a_reason()
+    ensures always_full { (name : CellsName) → HasNoCellFor 8 (idle_producer name) (idle_producer name) → ⊥ }
+    ensures found_one { (name : CellsName)
+        → IsFirstPastCells 8 (idle_producer name) (producer_of_one name new_lane (fetched 0 8) []) → ⊥ }
+    ensures not_ended { (name : CellsName) → IsEndOfLane (idle_producer name) (idle_producer name) → ⊥ }
+{}
+
+/// What workers leave: items that were not put, a lane that is cut short, and notes.
+pub fn workers_are_counted()
+    ensures beyond { items_beyond ((1 ∷ 2 ∷ 3 ∷ []) ∷ []) (lane_left (1 ∷ []) [] ∷ []) ≡ 2 }
+    ensures stopped { items_beyond ((1 ∷ 2 ∷ 3 ∷ []) ∷ []) (stopped_lane (1 ∷ []) [] ∷ []) ≡ 0 }
+    ensures cut { AreCutByCells 1 0 ((7 ∷ 8 ∷ []) ∷ []) (lane_left (7 ∷ []) (fetched 1 8) ∷ []) }
+    ensures cut_short { AreCutByCells 1 0 ((7 ∷ 8 ∷ []) ∷ []) (lane_left (7 ∷ []) [] ∷ []) → ⊥ }
+    ensures noted { HasNoteAtEach 0 (lane_left (7 ∷ []) [] ∷ []) (ledger_with (Took 7 ∷ [])) }
+    ensures not_noted { HasNoteAtEach 0 (lane_left (7 ∷ []) [] ∷ []) (ledger_with []) → ⊥ }
 {}

@@ -1,4 +1,5 @@
 //! The gate that workers pass at each call.
+ghost use Rattle.std.specs.Prelude.{ℕ, ◌≡◌, false};
 
 /// A worker.
 #[derive(Clone, Copy, PartialEq, Eq, Debug)]
@@ -12,8 +13,14 @@ pub enum Who {
 /// Is asked before each put or poll of a worker, and told after it. Calls of a worker have the numbers 1, 2, .. in order.
 /// All workers share it, so one that waits in [`Gate::enter`] may wait for the others, and it may not wait for ever.
 pub trait Gate: Sync {
+    ghost use Rattle.mb_mailbox.specs.declared.gate.Who.{Who};
+
+    // Before which calls it may stop which worker. Where an implementation says nothing, it may stop each before any.
+    ghost may_stop: { Self → Who → ℕ → Type 0 } = { λ _ _ _. Unit {0} };
+
     /// Whether the worker may make its call of this number. Where it may not, the worker stops.
-    fn enter(&self, who: Who, call: u64) -> bool;
+    fn enter(&self, who: Who, call: u64) -> bool
+        ensures { result ≡ false → may_stop self.now who call };
 
     /// The worker has made its call of this number.
     fn leave(&self, who: Who, call: u64);
@@ -24,6 +31,8 @@ pub trait Gate: Sync {
 pub struct OpenGate;
 
 impl Gate for OpenGate {
+    ghost may_stop = { λ _ _ _. ⊥ };
+
     fn enter(&self, _who: Who, _call: u64) -> bool {
         true
     }

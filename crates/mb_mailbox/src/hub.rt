@@ -50,7 +50,7 @@ pub struct Hub<A: Allocator + Drop> {
 }
 
 impl<A: Allocator + Drop> Model for Hub<A> {
-    ghost use Rattle.std.specs.Prelude.{◌≡◌, ◌≤◌, vec_capacity};
+    ghost use Rattle.std.specs.Prelude.{◌≤◌, vec_capacity};
     ghost use Rattle.mb_mailbox.specs.Below.{claims_at};
     ghost use Rattle.mb_mailbox.specs.Hubs.{HubView, IsHub};
 
@@ -76,11 +76,10 @@ impl<A: Allocator + Drop> Model for Hub<A> {
 impl<A: Allocator + Drop> Hub<A> {
     ghost use Rattle.std.specs.Prelude.{◌≡◌, ◌↔◌, ◌≤◌, Err, IfOk, None, OnErr, Some, length, slice_get};
     ghost use Rattle.mb_mailbox.specs.declared.hub.HubFault.TheVariants.{AllGiven};
-    ghost use Rattle.mb_mailbox.specs.Below.{consumer_count};
-    ghost use Rattle.mb_mailbox.specs.Consumers.{IsConsumerOf};
-    ghost use Rattle.mb_mailbox.specs.Below.{History};
     ghost use Rattle.mb_shared_cells.specs.Vocabulary.{IsRollOf};
-    ghost use Rattle.mb_mailbox.specs.Hubs.{IsHub, IsHubOf, IsNewConsumer, new_producer, with_consumer, with_producer};
+    ghost use Rattle.mb_mailbox.specs.Below.{History};
+    ghost use Rattle.mb_mailbox.specs.Consumers.{IsConsumerOf};
+    ghost use Rattle.mb_mailbox.specs.Hubs.{IsHub, IsHubOf, new_producer, with_producer};
     ghost use Rattle.mb_mailbox.specs.Hubs.{with_taken_consumer, with_taken_producer};
     ghost use Rattle.mb_mailbox.specs.Producers.{IsProducerOf};
 

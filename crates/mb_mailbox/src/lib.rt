@@ -18,6 +18,5 @@ pub use gate::{Gate, OpenGate, Who};
 pub use gather::GatherFault;
 pub use hub::{Hub, HubFault};
 pub use mailbox::Mailbox;
-pub use place::Place;
 pub use producer::{Producer, Put};
 pub use working::{WorkFault, Worked, work};

@@ -29,7 +29,7 @@ impl<A: Allocator + Drop> Model for Mailbox<A> {
 }
 
 impl<A: Allocator + Clone + Drop> Mailbox<A> {
-    ghost use Rattle.std.specs.Prelude.{◌≡◌, [], IfOk};
+    ghost use Rattle.std.specs.Prelude.{◌≡◌, IfOk};
     ghost use Rattle.mb_world.specs.Plan.{size_of};
     ghost use Rattle.mb_world.specs.Setups.{layout_of, plan_in};
     ghost use Rattle.mb_mailbox.specs.Hubs.{IsHubOf, hub_empty};

@@ -4,7 +4,7 @@ use mb_claim::Claim;
 
 /// Where a consumer stands on a lane.
 #[derive(Clone, Copy, PartialEq, Eq, Debug)]
-pub enum Place {
+pub(crate) enum Place {
     /// Before the link at this cursor.
     Before(Cursor),
     /// At this cell, with its claim there.

@@ -1,5 +1,5 @@
 //! Workers in threads: producers that each put a list, and consumers that poll until all those lanes have ended.
-ghost use Rattle.std.specs.Prelude.{◌≡◌, ◌≢◌, ◌↔◌, ◌+◌, ◌-◌, ◌<◌, ◌≤◌, ◌⊎◌, Err, IfOk, length, vec_len};
+ghost use Rattle.std.specs.Prelude.{◌≡◌, ◌≢◌, ◌↔◌, ◌+◌, ◌-◌, ◌^◌, ◌<◌, ◌≤◌, ◌⊎◌, Err, IfOk, length, vec_len};
 ghost use Rattle.mb_mailbox.specs.declared.working.WorkFault.TheVariants.{AllGiven, BadBudget, NoMemory, NoThread};
 ghost use Rattle.mb_mailbox.specs.Below.{consumer_count};
 ghost use Rattle.mb_mailbox.specs.Hubs.{HubView, IsHubOf};
@@ -30,9 +30,9 @@ use std::alloc::Allocator;
 use std::error::Error;
 use std::fmt;
 use std::sync::Wait;
-use std::sync::atomic::{AtomicBool, Ordering};
+use std::sync::atomic::AtomicBool;
 use std::thread::Threads;
-use taking::take_all;
+use taking::{is_off, take_all};
 
 /// What the workers of a run came to.
 #[derive(Clone, Copy, PartialEq, Eq, Debug)]
@@ -52,7 +52,8 @@ pub enum WorkFault {
     BadBudget,
     /// The allocator refused what the run needs. Each producer given has ended its lane, and all that was given is taken in.
     NoMemory,
-    /// A thread could not be started. Each producer given has ended its lane, and all that was given is taken in.
+    /// A thread could not be started, where there is a list or a source. Each producer given has ended its lane, and all that
+    /// was given is taken in.
     NoThread,
 }
 
@@ -74,7 +75,14 @@ impl Error for WorkFault {}
 /// call in rising order, round and round, each until it has ended. Numbers are given in the order of the lists and of the
 /// sources. Before its n-th put or poll each worker asks the gate, and stops where that lets it not through.
 ///
-/// Faults are decided in the order of [`WorkFault`]. The call may wait for its threads, and for nobody else.
+/// It hands items out and runs none: each `Took` note of the report that [`Mailbox::gather`] gives is an item to be run, once,
+/// and so is each item left there. What was not put is in no report: it is what stands in a list behind the items that its lane
+/// has put, so keep a copy of the lists. `budget` is the most accesses of one poll, at least 1; a claim that is cut short is
+/// kept and goes on at the next poll, so a small budget only means that the gate is asked more often. Each consumer draws its
+/// random words from one of `rngs`.
+///
+/// Faults are decided in the order of [`WorkFault`]; after `NoMemory` and `NoThread` some items may have been taken, and a
+/// report tells. The call may wait for its threads, and for nobody else.
 pub fn work<
     A: Allocator + Clone + Drop + Send + Sync,
     W: Threads + Wait + Sync,
@@ -100,9 +108,10 @@ pub fn work<
 
     // Whatever comes else, all that was given is taken in, and each producer given has ended its lane.
     ensures worked { IfOk result (λ w.
-        IsWorked (lists_in items.items) (vec_len rngs) w hub.old hub.new) }
+        IsWorked (G.may_stop gate.now) (lists_in items.items) (vec_len rngs) w hub.old hub.new) }
     ensures no_thread { result ≡ Err NoThread
         → WereTakenIn (lists_in items.items) (vec_len rngs) hub.old hub.new }
+    ensures some_thread { result ≡ Err NoThread → 0 < vec_len items + vec_len rngs }
     ensures no_memory { result ≡ Err NoMemory
         → WereTakenInEarly (lists_in items.items) (vec_len rngs) hub.old hub.new }
     ensures of { IsHubOf mailbox.now hub.new }
@@ -157,9 +166,17 @@ fn lanes_are_few<B: Allocator + Drop>(mailbox: &Mailbox<B>)
     let _ = &mailbox.cells;
 }
 
+/// The numbers of consumers have 32 bits. It computes nothing: its contract is a law of all mailboxes.
+fn consumers_are_few<B: Allocator + Drop>(mailbox: &Mailbox<B>)
+    ensures { consumer_count mailbox.now.claims.layout < 2 ^ 32 }
+{
+    let _ = mailbox.claims.layout().consumers();
+}
+
 /// The lanes of the next so many numbers.
 fn next_lanes(given: usize, lists: usize, budget: u64) -> Lanes
-    requires { given + lists ≤ 16 }
+    requires few { given + lists ≤ 16 }
+    requires able { 0 < budget }
     ensures from { result.from ≡ given }
     ensures end { result.end ≡ given + lists }
 {
@@ -186,25 +203,28 @@ fn work_with<
     rngs: Vec<R, A>,
     gate: &G,
     mut jobs: Jobs<R, A>,
-    room: Room<A>,
+    room: Room<G, A>,
 ) -> Result<Worked, WorkFault>
     requires of { IsHubOf mailbox.now hub.old }
     requires lanes { length hub.old.puts + vec_len items ≤ mailbox.now.cells.size.lanes }
     requires consumers { length hub.old.ledgers + vec_len rngs ≤ consumer_count mailbox.now.claims.layout }
+    requires able { 0 < budget }
     requires jobs { HasJobRoom (vec_len items) (vec_len rngs) jobs }
     requires room { HasRoom (vec_len items) (vec_len rngs) room }
     ensures all_given { result ≢ Err AllGiven }
     ensures bad_budget { result ≢ Err BadBudget }
     ensures worked { IfOk result (λ w.
-        IsWorked (lists_in items.items) (vec_len rngs) w hub.old hub.new) }
+        IsWorked (G.may_stop gate.now) (lists_in items.items) (vec_len rngs) w hub.old hub.new) }
     ensures no_thread { result ≡ Err NoThread
         → WereTakenIn (lists_in items.items) (vec_len rngs) hub.old hub.new }
+    ensures some_thread { result ≡ Err NoThread → 0 < vec_len items + vec_len rngs }
     ensures no_memory { result ≡ Err NoMemory
         → WereTakenInEarly (lists_in items.items) (vec_len rngs) hub.old hub.new }
     ensures of { IsHubOf mailbox.now hub.new }
 {
     hub.has_history();
     lanes_are_few(mailbox);
+    consumers_are_few(mailbox);
     let lanes = next_lanes(lanes_given(hub), items.len(), budget);
     if !give(&alloc, mailbox, hub, items, rngs, &mut jobs) {
         let ends = end_all(mailbox, jobs, room);
@@ -213,12 +233,13 @@ fn work_with<
     }
     let going = AtomicBool::new(true);
     let ends = run(rt, mailbox, jobs, lanes, gate, &going, room);
+    let off = is_off(&ends);
     let worked = take_all(mailbox, hub, ends);
     ends_tell_notes();
     hub.has_history();
-    if going.load(Ordering::SeqCst) {
-        Ok(worked)
-    } else {
+    if off {
         Err(WorkFault::NoThread)
+    } else {
+        Ok(worked)
     }
 }

@@ -47,7 +47,15 @@ fn take<A: Allocator + Drop, B: Allocator + Drop>(
     item
 }
 
-/// Goes on with a claim on cell `k` of a lane: to its end, to the item where it is won, or until so many accesses were made.
+/// A claim that a consumer holds, on the last cell that it met on a lane.
+#[derive(Clone, Copy)]
+pub(super) struct Held {
+    pub(super) lane: u32,
+    pub(super) cell: u32,
+    pub(super) claim: Claim,
+}
+
+/// Goes on with a claim that is held: to its end, to the item where it is won, or until so many accesses were made.
 #[inline(always)]
 pub(super) fn pursue<A: Allocator + Drop, B: Allocator + Drop, R: Rng>(
     places: &mut ArrayVec<Place, 16>,
@@ -55,57 +63,59 @@ pub(super) fn pursue<A: Allocator + Drop, B: Allocator + Drop, R: Rng>(
     reader: &mut ReaderSeat,
     seat: &mut ClaimSeat,
     mailbox: &Mailbox<B>,
-    lane: u32,
-    k: u32,
-    claim: Claim,
+    held: Held,
     most: u64,
     rng: &mut R,
 ) -> Poll
-    requires held { IsConsumer (holding lane k claim
+    requires held { IsConsumer (holding held.lane held.cell held.claim
         (consumer_with reader.old seat.old places.old.items notes.old.items)) }
-    requires won { claim_stage claim ≡ stage.Won → 0 < most }
+    requires won { claim_stage held.claim ≡ stage.Won → 0 < most }
     requires of { IsConsumerOf mailbox.now
         (consumer_with reader.old seat.old places.old.items notes.old.items) }
-    requires lane { lane < array_vec_len places.old }
+    requires lane { held.lane < array_vec_len places.old }
     requires wide { HasWideLists reader.old.table.size.cells notes.old.items }
 
     // Whatever was done before came to no answer.
     ensures pursued { (from : ConsumerView) (n : ℕ) (t : Stream)
-        → AreSteps lane n None t (R.stream rng.old) from (holding lane k claim
+        → AreSteps held.lane n None t (R.stream rng.old) from (holding held.lane held.cell held.claim
         (consumer_with reader.old seat.old places.old.items notes.old.items))
-        → IsPursuit lane n most result t (R.stream rng.new) from
+        → IsPursuit held.lane n most result t (R.stream rng.new) from
         (consumer_with reader.new seat.new places.new.items notes.new.items) }
     ensures wide { HasWideLists reader.new.table.size.cells notes.new.items }
 {
     consumers_move_on();
     places_tell_steps();
     reader.has_history();
+    let Held {
+        lane,
+        cell,
+        mut claim,
+    } = held;
     let p = lane as usize;
-    let mut claim = claim;
     if let Stage::Won = claim.stage() {
-        return Poll::Took(take(places, notes, reader, mailbox, p, k));
+        return Poll::Took(take(places, notes, reader, mailbox, p, cell));
     }
     for made in 0..most {
         let word = rng.next_u64();
-        match mailbox.claims.step(seat, &mut claim, k, word) {
+        match mailbox.claims.step(seat, &mut claim, cell, word) {
             Stage::Going => {}
             Stage::Won => {
                 if made + 1 < most {
-                    return Poll::Took(take(places, notes, reader, mailbox, p, k));
+                    return Poll::Took(take(places, notes, reader, mailbox, p, cell));
                 }
-                stay(places, p, k, claim);
+                stay(places, p, cell, claim);
                 return Poll::Spent;
             }
             Stage::Lost(w) => {
-                leave(places, notes, p, k, Note::Lost(w));
+                leave(places, notes, p, cell, Note::Lost(w));
                 return Poll::Lost(w);
             }
             Stage::Undecided => {
-                leave(places, notes, p, k, Note::Undecided);
+                leave(places, notes, p, cell, Note::Undecided);
                 return Poll::Undecided;
             }
         }
     }
-    stay(places, p, k, claim);
+    stay(places, p, cell, claim);
     Poll::Spent
 }

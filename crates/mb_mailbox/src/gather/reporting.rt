@@ -7,7 +7,6 @@ use std::alloc::Allocator;
 
 impl<A: Allocator + Drop> Hub<A> {
     ghost use Rattle.std.specs.Prelude.{◌≡◌, slice_get};
-    ghost use Rattle.mb_world.specs.Reporting.{any_below, is_took};
     ghost use Rattle.mb_mailbox.specs.Gathering.{begun_in, ended_in, is_taken_in, items_in, notes_in};
 
     /// The items that the producer of lane `p` put, where it was taken in.

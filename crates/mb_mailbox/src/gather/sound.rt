@@ -1,6 +1,6 @@
 //! What is gathered is sound, and the report tells it. The function computes nothing: its contract is the law on which
 //! `gather` stands, and its body names the laws below.
-ghost use Rattle.std.specs.Prelude.{ℕ, ◌≡◌, List};
+ghost use Rattle.std.specs.Prelude.{◌≡◌};
 ghost use Rattle.mb_shared_cells.specs.Vocabulary.{IsRollOf};
 ghost use Rattle.mb_shared_claims.specs.Vocabulary.{AreOfOneHistory, count_out, taken_part};
 ghost use Rattle.mb_world.specs.Report.{ReportView};

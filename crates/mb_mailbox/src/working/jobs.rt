@@ -1,8 +1,9 @@
 //! What a worker is given, what it promises, and what it gives back.
-ghost use Rattle.std.specs.Prelude.{◌≡◌, ◌≤◌, [], false};
+ghost use Rattle.std.specs.Prelude.{◌≡◌, ◌<◌, ◌≤◌, [], false};
 ghost use Rattle.mb_mailbox.specs.Producers.{is_over};
 
 use crate::consumer::Consumer;
+use crate::gate::Gate;
 use crate::producer::Producer;
 use std::alloc::Allocator;
 use std::snapshot::Snapshot;
@@ -16,6 +17,7 @@ pub(crate) struct Lanes {
     pub(crate) budget: u64,
     pub(crate) ghost ordered: { from ≤ end },
     pub(crate) ghost few: { end ≤ 16 },
+    pub(crate) ghost able: { 0 < budget },
 }
 
 /// A producer that has put nothing and has not ended its lane, and the list that it is to put.
@@ -27,24 +29,27 @@ pub(crate) struct PutJob<A: Allocator + Drop> {
     pub(crate) ghost begun: { is_over producer ≡ false },
 }
 
-/// A producer that has ended its lane, how many items of its list found no cell, and whether it was stopped.
+/// A producer that has ended its lane, how many items of its list found no cell, whether it was stopped before it came to
+/// the end of its list, and whether the run is off: a thread could not be started, its own or another's.
 #[derive(Drop)]
 pub(crate) struct PutDone<A: Allocator + Drop> {
     pub(crate) producer: Producer<A>,
     pub(crate) full: u64,
     pub(crate) stopped: bool,
+    pub(crate) off: bool,
 }
 
-/// What a producer's thread promises, by its job.
+/// What a producer's thread promises, by its job and the gate.
 #[derive(Drop)]
-pub(crate) struct Puts<A: Allocator + Drop> {
+pub(crate) struct Puts<G: Gate, A: Allocator + Drop> {
     pub(crate) job: Snapshot<PutJob<A>>,
+    pub(crate) gate: Snapshot<G>,
 }
 
-impl<A: Allocator + Drop> Promise<PutDone<A>> for Puts<A> {
+impl<G: Gate, A: Allocator + Drop> Promise<PutDone<A>> for Puts<G, A> {
     ghost use Rattle.mb_mailbox.specs.Jobs.{IsPutEnd};
 
-    ghost kept_by = { λ p d. IsPutEnd p.job.value d };
+    ghost kept_by = { λ p d. IsPutEnd (G.may_stop p.gate.value) p.job.value d };
 }
 
 /// A consumer and its source of random words.
@@ -54,23 +59,26 @@ pub(crate) struct PollJob<R: Drop, A: Allocator + Drop> {
     pub(crate) rng: R,
 }
 
-/// A consumer whose worker is done, and whether it was stopped.
+/// A consumer whose worker is done, whether it was stopped before all lanes had ended, and whether the run is off, as with
+/// a producer.
 #[derive(Drop)]
 pub(crate) struct PollDone<A: Allocator + Drop> {
     pub(crate) consumer: Consumer<A>,
     pub(crate) stopped: bool,
+    pub(crate) off: bool,
 }
 
-/// What a consumer's thread promises, by the consumer and the lanes.
+/// What a consumer's thread promises, by the consumer, the lanes and the gate.
 #[derive(Drop)]
-pub(crate) struct Polls<A: Allocator + Drop> {
+pub(crate) struct Polls<G: Gate, A: Allocator + Drop> {
     pub(crate) consumer: Snapshot<Consumer<A>>,
     pub(crate) from: u32,
     pub(crate) end: u32,
+    pub(crate) gate: Snapshot<G>,
 }
 
-impl<A: Allocator + Drop> Promise<PollDone<A>> for Polls<A> {
+impl<G: Gate, A: Allocator + Drop> Promise<PollDone<A>> for Polls<G, A> {
     ghost use Rattle.mb_mailbox.specs.Jobs.{IsPollEnd};
 
-    ghost kept_by = { λ p d. IsPollEnd p.from p.end p.consumer.value d };
+    ghost kept_by = { λ p d. IsPollEnd (G.may_stop p.gate.value) p.from p.end p.consumer.value d };
 }

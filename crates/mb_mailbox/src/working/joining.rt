@@ -5,12 +5,13 @@ ghost use Rattle.mb_mailbox.specs.Begun.{PollKeeps, PutKeeps};
 
 use super::begun::{PollBegun, PutBegun};
 use super::jobs::{PollDone, PutDone};
+use crate::gate::Gate;
 use std::alloc::Allocator;
 use std::thread::Threads;
 
 /// The end of a producer's worker, whose thread is joined where it has one.
-fn put_end<W: Threads, A: Allocator + Drop>(rt: &W, one: PutBegun<A>) -> PutDone<A>
-    ensures { PutKeeps one result }
+fn put_end<W: Threads, G: Gate, A: Allocator + Drop>(rt: &W, one: PutBegun<G, A>) -> PutDone<A>
+    ensures { PutKeeps G.may_stop one result }
 {
     match one {
         PutBegun::Apart(handle) => handle.join(rt),
@@ -19,14 +20,14 @@ fn put_end<W: Threads, A: Allocator + Drop>(rt: &W, one: PutBegun<A>) -> PutDone
 }
 
 /// Joins the producers' threads. `done` has room for all.
-pub(super) fn join_puts<W: Threads, A: Allocator + Drop>(
+pub(super) fn join_puts<W: Threads, G: Gate, A: Allocator + Drop>(
     rt: &W,
-    begun: Vec<PutBegun<A>, A>,
+    begun: Vec<PutBegun<G, A>, A>,
     mut done: Vec<PutDone<A>, A>,
 ) -> Vec<PutDone<A>, A>
     requires none { done.items ≡ [] }
     requires room { vec_len begun ≤ vec_capacity done }
-    ensures { AllZip PutKeeps begun.items result.items }
+    ensures { AllZip (PutKeeps G.may_stop) begun.items result.items }
 {
     for one in begun {
         done.push_reserved(put_end(rt, one));
@@ -35,8 +36,8 @@ pub(super) fn join_puts<W: Threads, A: Allocator + Drop>(
 }
 
 /// The end of a consumer's worker, whose thread is joined where it has one.
-fn poll_end<W: Threads, A: Allocator + Drop>(rt: &W, one: PollBegun<A>) -> PollDone<A>
-    ensures { PollKeeps one result }
+fn poll_end<W: Threads, G: Gate, A: Allocator + Drop>(rt: &W, one: PollBegun<G, A>) -> PollDone<A>
+    ensures { PollKeeps G.may_stop one result }
 {
     match one {
         PollBegun::Apart(handle) => handle.join(rt),
@@ -45,14 +46,14 @@ fn poll_end<W: Threads, A: Allocator + Drop>(rt: &W, one: PollBegun<A>) -> PollD
 }
 
 /// Joins the consumers' threads. `done` has room for all.
-pub(super) fn join_polls<W: Threads, A: Allocator + Drop>(
+pub(super) fn join_polls<W: Threads, G: Gate, A: Allocator + Drop>(
     rt: &W,
-    begun: Vec<PollBegun<A>, A>,
+    begun: Vec<PollBegun<G, A>, A>,
     mut done: Vec<PollDone<A>, A>,
 ) -> Vec<PollDone<A>, A>
     requires none { done.items ≡ [] }
     requires room { vec_len begun ≤ vec_capacity done }
-    ensures { AllZip PollKeeps begun.items result.items }
+    ensures { AllZip (PollKeeps G.may_stop) begun.items result.items }
 {
     for one in begun {
         done.push_reserved(poll_end(rt, one));

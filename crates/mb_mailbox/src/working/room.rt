@@ -4,6 +4,7 @@ ghost use Rattle.mb_mailbox.specs.Rooms.{HasRoom, HasJobRoom};
 
 use super::begun::{PollBegun, PutBegun};
 use super::jobs::{PollDone, PollJob, PutDone, PutJob};
+use crate::gate::Gate;
 use std::alloc::{AllocError, Allocator};
 
 /// Room for the jobs.
@@ -15,9 +16,9 @@ pub(crate) struct Jobs<R: Drop, A: Allocator + Drop> {
 
 /// Room for the workers that were begun, and for their ends.
 #[derive(Drop)]
-pub(crate) struct Room<A: Allocator + Drop> {
-    pub(crate) puts: Vec<PutBegun<A>, A>,
-    pub(crate) polls: Vec<PollBegun<A>, A>,
+pub(crate) struct Room<G: Gate, A: Allocator + Drop> {
+    pub(crate) puts: Vec<PutBegun<G, A>, A>,
+    pub(crate) polls: Vec<PollBegun<G, A>, A>,
     pub(crate) ends: Ends<A>,
 }
 
@@ -43,11 +44,11 @@ pub(super) fn room_for_jobs<R: Drop, A: Allocator + Clone + Drop>(
 }
 
 /// Room for so many workers and their ends.
-pub(super) fn room_for_workers<A: Allocator + Clone + Drop>(
+pub(super) fn room_for_workers<G: Gate, A: Allocator + Clone + Drop>(
     alloc: &A,
     puts: usize,
     polls: usize,
-) -> Result<Room<A>, AllocError>
+) -> Result<Room<G, A>, AllocError>
     ensures { IfOk result (λ r. HasRoom puts polls r) }
 {
     Ok(Room {

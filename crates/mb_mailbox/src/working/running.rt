@@ -36,12 +36,12 @@ fn run_in<
     lanes: Lanes,
     gate: &'s G,
     going: &'s AtomicBool,
-    room: Room<A>,
+    room: Room<G, A>,
 ) -> Ends<A>
     requires of { AreOf mailbox.now jobs }
     requires few { lanes.end ≤ mailbox.now.cells.size.lanes }
     requires room { HasRoom (vec_len jobs.puts) (vec_len jobs.polls) room }
-    ensures { AreEndsOf lanes.from lanes.end jobs result }
+    ensures { AreEndsOf (G.may_stop gate.now) lanes.from lanes.end jobs result }
 {
     let Jobs { puts, polls } = jobs;
     let Room {
@@ -60,7 +60,7 @@ fn run_in<
     }
 }
 
-/// Runs one thread for each job and joins all. `going` is then false where a thread could not be made.
+/// Runs one thread for each job and joins all. `going` is false from the first thread on that could not be made.
 pub(super) fn run<
     A: Allocator + Drop + Send + Sync,
     W: Threads + Wait + Sync,
@@ -73,12 +73,12 @@ pub(super) fn run<
     lanes: Lanes,
     gate: &G,
     going: &AtomicBool,
-    room: Room<A>,
+    room: Room<G, A>,
 ) -> Ends<A>
     requires of { AreOf mailbox.now jobs }
     requires few { lanes.end ≤ mailbox.now.cells.size.lanes }
     requires room { HasRoom (vec_len jobs.puts) (vec_len jobs.polls) room }
-    ensures { AreEndsOf lanes.from lanes.end jobs result }
+    ensures { AreEndsOf (G.may_stop gate.now) lanes.from lanes.end jobs result }
 {
     thread::scope(
         thread::scope_env(),
@@ -87,7 +87,7 @@ pub(super) fn run<
             requires of { AreOf mailbox.now jobs }
             requires few { lanes.end ≤ mailbox.now.cells.size.lanes }
             requires room { HasRoom (vec_len jobs.puts) (vec_len jobs.polls) room }
-            ensures { AreEndsOf lanes.from lanes.end jobs result }
+            ensures { AreEndsOf (G.may_stop gate.entry.now) lanes.from lanes.end jobs result }
         { run_in(scope, rt, mailbox, jobs, lanes, gate, going, room) },
     )
 }
@@ -101,7 +101,7 @@ pub(super) fn end_puts<A: Allocator + Drop, B: Allocator + Drop>(
     requires of { All (λ j. IsProducerOf mailbox.now j.producer) jobs.items }
     requires none { done.items ≡ [] }
     requires room { vec_len jobs ≤ vec_capacity done }
-    ensures { AllZip IsPutEnd jobs.items result.items }
+    ensures { AllZip (IsPutEnd (λ _ _. ⊥)) jobs.items result.items }
 {
     for job in jobs {
         done.push_reserved(put_nothing(mailbox, job));
@@ -116,7 +116,8 @@ pub(super) fn end_polls<R: Drop, A: Allocator + Drop>(
 ) -> Vec<PollDone<A>, A>
     requires none { done.items ≡ [] }
     requires room { vec_len jobs ≤ vec_capacity done }
-    ensures { AllZip (λ j d. (d.consumer ≡ j.consumer) × (d.stopped ≡ true)) jobs.items result.items }
+    ensures { AllZip (λ j d. (d.consumer ≡ j.consumer) × (d.stopped ≡ true) × (d.off ≡ true))
+        jobs.items result.items }
 {
     for job in jobs {
         done.push_reserved(poll_nothing(job));
@@ -125,14 +126,14 @@ pub(super) fn end_polls<R: Drop, A: Allocator + Drop>(
 }
 
 /// Ends jobs that are not to be run.
-pub(super) fn end_all<R: Drop, A: Allocator + Drop, B: Allocator + Drop>(
+pub(super) fn end_all<R: Drop, G: Gate, A: Allocator + Drop, B: Allocator + Drop>(
     mailbox: &Mailbox<B>,
     jobs: Jobs<R, A>,
-    room: Room<A>,
+    room: Room<G, A>,
 ) -> Ends<A>
     requires of { AreOf mailbox.now jobs }
     requires room { HasRoom (vec_len jobs.puts) (vec_len jobs.polls) room }
-    ensures { (from end : ℕ) → AreEndsOf from end jobs result }
+    ensures { (from end : ℕ) → AreEndsOf (λ _ _. ⊥) from end jobs result }
 {
     let Jobs { puts, polls } = jobs;
     let Ends {

@@ -24,22 +24,26 @@ fn start_put<'s, E: 's, A: Allocator + Drop + Send + Sync + 's, G: Gate + 's>(
     job: PutJob<A>,
     gate: &'s G,
     going: &'s AtomicBool,
-) -> PutBegun<A>
+) -> PutBegun<G, A>
     requires of { IsProducerOf mailbox.now job.producer }
-    ensures { PutPromises job result }
+    ensures { PutPromises G.may_stop gate.now job result }
 {
     let promise = Puts {
         job: Snapshot::of(&job),
+        gate: Snapshot::of(gate),
     };
     let body = move || -> PutDone<A>
         requires { IsProducerOf mailbox.now job.producer }
-        ensures { IsPutEnd job result }
+        ensures { IsPutEnd (G.may_stop gate.entry.now) job result }
     { put_list(mailbox, job, gate, going) };
     match scope.spawn_with(promise, body) {
         Ok(handle) => PutBegun::Apart(handle),
         Err(refused) => {
             going.store(false, Ordering::SeqCst);
-            PutBegun::Here((refused.value)())
+            PutBegun::Here(PutDone {
+                off: true,
+                ..(refused.value)()
+            })
         }
     }
 }
@@ -51,12 +55,12 @@ pub(super) fn start_puts<'s, E: 's, A: Allocator + Drop + Send + Sync + 's, G: G
     jobs: Vec<PutJob<A>, A>,
     gate: &'s G,
     going: &'s AtomicBool,
-    mut begun: Vec<PutBegun<A>, A>,
-) -> Vec<PutBegun<A>, A>
+    mut begun: Vec<PutBegun<G, A>, A>,
+) -> Vec<PutBegun<G, A>, A>
     requires of { All (λ j. IsProducerOf mailbox.now j.producer) jobs.items }
     requires none { begun.items ≡ [] }
     requires room { vec_len jobs ≤ vec_capacity begun }
-    ensures { AllZip PutPromises jobs.items result.items }
+    ensures { AllZip (PutPromises G.may_stop gate.now) jobs.items result.items }
 {
     for job in jobs {
         begun.push_reserved(start_put(scope, mailbox, job, gate, going));
@@ -78,26 +82,30 @@ fn start_poll<
     lanes: Lanes,
     gate: &'s G,
     going: &'s AtomicBool,
-) -> PollBegun<A>
+) -> PollBegun<G, A>
     requires of { IsConsumerOf mailbox.now job.consumer }
     requires few { lanes.end ≤ mailbox.now.cells.size.lanes }
-    ensures { PollPromises lanes.from lanes.end job.consumer result }
+    ensures { PollPromises G.may_stop gate.now lanes.from lanes.end job.consumer result }
 {
     let promise = Polls {
         consumer: Snapshot::of(&job.consumer),
         from: lanes.from,
         end: lanes.end,
+        gate: Snapshot::of(gate),
     };
     let body = move || -> PollDone<A>
         requires of { IsConsumerOf mailbox.now job.consumer }
         requires few { lanes.end ≤ mailbox.now.cells.size.lanes }
-        ensures { IsPollEnd lanes.from lanes.end job.consumer result }
+        ensures { IsPollEnd (G.may_stop gate.entry.now) lanes.from lanes.end job.consumer result }
     { poll_lanes(mailbox, job, lanes, gate, going) };
     match scope.spawn_with(promise, body) {
         Ok(handle) => PollBegun::Apart(handle),
         Err(refused) => {
             going.store(false, Ordering::SeqCst);
-            PollBegun::Here((refused.value)())
+            PollBegun::Here(PollDone {
+                off: true,
+                ..(refused.value)()
+            })
         }
     }
 }
@@ -116,13 +124,14 @@ pub(super) fn start_polls<
     lanes: Lanes,
     gate: &'s G,
     going: &'s AtomicBool,
-    mut begun: Vec<PollBegun<A>, A>,
-) -> Vec<PollBegun<A>, A>
+    mut begun: Vec<PollBegun<G, A>, A>,
+) -> Vec<PollBegun<G, A>, A>
     requires of { All (λ j. IsConsumerOf mailbox.now j.consumer) jobs.items }
     requires few { lanes.end ≤ mailbox.now.cells.size.lanes }
     requires none { begun.items ≡ [] }
     requires room { vec_len jobs ≤ vec_capacity begun }
-    ensures { AllZip (λ j b. PollPromises lanes.from lanes.end j.consumer b) jobs.items result.items }
+    ensures { AllZip (λ j b. PollPromises G.may_stop gate.now lanes.from lanes.end j.consumer b)
+        jobs.items result.items }
 {
     for job in jobs {
         begun.push_reserved(start_poll(scope, mailbox, job, lanes, gate, going));

@@ -1,7 +1,8 @@
 //! The bodies of the workers.
-ghost use Rattle.std.specs.Prelude.{ℕ, ◌≡◌, ◌≢◌, ◌<◌, ◌≤◌, [], IfNone, IfSome, false, length, slice_index_or, slice_set, take, true};
+ghost use Rattle.std.specs.Prelude.{ℕ, suc, ◌≡◌, ◌≢◌, ◌+◌, ◌<◌, ◌≤◌, [], IfNone, IfSome, false, length, slice_index_or, slice_set, take, true};
 ghost use Rattle.mb_mailbox.specs.Consumers.{IsConsumerOf};
-ghost use Rattle.mb_mailbox.specs.Jobs.{HasReadMarked, IsPollEnd, IsPutEnd, IsSameConsumer};
+ghost use Rattle.mb_mailbox.specs.declared.gate.Who.TheVariants as who;
+ghost use Rattle.mb_mailbox.specs.Jobs.{HasReadMarked, IsPollEnd, IsPutEnd, IsSameConsumer, IsStopBefore, accesses_made};
 ghost use Rattle.mb_mailbox.specs.Producers.{FoundNoCell, IsProducerOf, IsSameLane, is_over};
 
 use super::ending::ends_are_kept;
@@ -14,14 +15,15 @@ use rand_core::Rng;
 use std::alloc::Allocator;
 use std::sync::atomic::{AtomicBool, Ordering};
 
-/// Puts items up to the first that is refused: how many were linked, and whether the producer was stopped.
+/// Puts items up to the first that is refused: how many were linked, whether the producer was stopped, and whether the run
+/// is off.
 fn put_items<A: Allocator + Drop, B: Allocator + Drop, G: Gate>(
     mailbox: &Mailbox<B>,
     producer: &mut Producer<A>,
     items: &[u64],
     gate: &G,
     going: &AtomicBool,
-) -> (usize, bool)
+) -> (usize, bool, bool)
     requires of { IsProducerOf mailbox.now producer.old }
     requires fresh { producer.old.items ≡ [] }
     requires begun { is_over producer.old ≡ false }
@@ -30,20 +32,30 @@ fn put_items<A: Allocator + Drop, B: Allocator + Drop, G: Gate>(
     ensures lane { IsSameLane producer.old producer.new }
     ensures begun { is_over producer.new ≡ false }
     ensures found { result.1 ≡ false → result.0 ≢ length items.now → FoundNoCell producer.new }
+    ensures stopped { result.1 ≡ true → result.0 < length items.now }
+    ensures stop { result.1 ≡ true → result.2 ≡ false
+        → IsStopBefore (G.may_stop gate.now) (who.Producer producer.old.seat.lane) (suc result.0) }
+    ensures had_cells { result.1 ≡ true → FoundNoCell producer.new → FoundNoCell producer.old }
 {
     let who = Who::Producer(producer.seat.lane());
     for (i, item) in items.iter().enumerate() {
+        if !going.load(Ordering::SeqCst) {
+            return (i, true, true);
+        }
         let call = i as u64 + 1;
-        if call == u64::MAX || !going.load(Ordering::SeqCst) || !gate.enter(who, call) {
-            return (i, true);
+        if call == u64::MAX {
+            return (i, true, false);
+        }
+        if !gate.enter(who, call) {
+            return (i, true, false);
         }
         let put = producer.put(mailbox, *item);
         gate.leave(who, call);
         if put != Put::Linked {
-            return (i, false);
+            return (i, false, false);
         }
     }
-    (items.len(), false)
+    (items.len(), false, false)
 }
 
 /// Puts the list in order up to the first item that finds no cell, and ends the lane.
@@ -54,10 +66,10 @@ pub(super) fn put_list<A: Allocator + Drop, B: Allocator + Drop, G: Gate>(
     going: &AtomicBool,
 ) -> PutDone<A>
     requires of { IsProducerOf mailbox.now job.producer }
-    ensures { IsPutEnd job result }
+    ensures { IsPutEnd (G.may_stop gate.now) job result }
 {
     let PutJob { mut producer, list } = job;
-    let (linked, stopped) = put_items(mailbox, &mut producer, &list, gate, going);
+    let (linked, stopped, off) = put_items(mailbox, &mut producer, &list, gate, going);
     producer.finish(mailbox);
     let full = if stopped {
         0
@@ -68,6 +80,7 @@ pub(super) fn put_list<A: Allocator + Drop, B: Allocator + Drop, G: Gate>(
         producer,
         full,
         stopped,
+        off,
     }
 }
 
@@ -77,7 +90,7 @@ pub(super) fn put_nothing<A: Allocator + Drop, B: Allocator + Drop>(
     job: PutJob<A>,
 ) -> PutDone<A>
     requires of { IsProducerOf mailbox.now job.producer }
-    ensures { IsPutEnd job result }
+    ensures { IsPutEnd (λ _ _. ⊥) job result }
 {
     let PutJob {
         producer: mut idle,
@@ -88,6 +101,7 @@ pub(super) fn put_nothing<A: Allocator + Drop, B: Allocator + Drop>(
         producer: idle,
         full: 0,
         stopped: true,
+        off: true,
     }
 }
 
@@ -132,6 +146,8 @@ fn poll_lane<A: Allocator + Drop, B: Allocator + Drop, R: Rng>(
     requires few { (lane < mailbox.now.cells.size.lanes) × (lane < 16) }
     requires unmarked { slice_index_or ended.old lane true ≡ false }
     requires read { HasReadMarked ended.old consumer.old }
+    requires able { 0 < budget }
+    ensures made { accesses_made consumer.old < accesses_made consumer.new }
     ensures read { HasReadMarked ended.new consumer.new }
     ensures same { IsSameConsumer consumer.old consumer.new }
     ensures of { IsConsumerOf mailbox.now consumer.new }
@@ -154,7 +170,7 @@ pub(super) fn poll_lanes<A: Allocator + Drop, B: Allocator + Drop, R: Rng + Drop
 ) -> PollDone<A>
     requires of { IsConsumerOf mailbox.now job.consumer }
     requires few { lanes.end ≤ mailbox.now.cells.size.lanes }
-    ensures { IsPollEnd lanes.from lanes.end job.consumer result }
+    ensures { IsPollEnd (G.may_stop gate.now) lanes.from lanes.end job.consumer result }
 {
     let Lanes { from, end, budget } = lanes;
     let PollJob {
@@ -169,9 +185,17 @@ pub(super) fn poll_lanes<A: Allocator + Drop, B: Allocator + Drop, R: Rng + Drop
             return PollDone {
                 consumer,
                 stopped: false,
+                off: false,
             };
         };
-        if !going.load(Ordering::SeqCst) || !gate.enter(who, call) {
+        if !going.load(Ordering::SeqCst) {
+            return PollDone {
+                consumer,
+                stopped: true,
+                off: true,
+            };
+        }
+        if !gate.enter(who, call) {
             break;
         }
         poll_lane(mailbox, &mut consumer, lane, budget, &mut rng, &mut ended);
@@ -181,6 +205,7 @@ pub(super) fn poll_lanes<A: Allocator + Drop, B: Allocator + Drop, R: Rng + Drop
     PollDone {
         consumer,
         stopped: true,
+        off: false,
     }
 }
 
@@ -188,10 +213,12 @@ pub(super) fn poll_lanes<A: Allocator + Drop, B: Allocator + Drop, R: Rng + Drop
 pub(super) fn poll_nothing<A: Allocator + Drop, R: Drop>(job: PollJob<R, A>) -> PollDone<A>
     ensures consumer { result.consumer ≡ job.consumer }
     ensures stopped { result.stopped ≡ true }
+    ensures off { result.off ≡ true }
 {
     let PollJob { consumer, rng: _ } = job;
     PollDone {
         consumer,
         stopped: true,
+        off: true,
     }
 }

@@ -1,13 +1,13 @@
-use Rattle.std.proofs.Common.{◌≡◌, arith, sym, vec_len, ◌∙◌}
-use Rattle.mb_mailbox.proofs.Final.{early, ends_at, jobs_at, room_for, taken, worked}
+use Rattle.std.proofs.Common.{arith, vec_len}
+use Rattle.mb_mailbox.proofs.Final.{early, ends_at, jobs_at, room_for, some_worker, taken, worked}
 use Rattle.mb_mailbox.proofs.working.work_with.Goals as goal
 
 pub end_all-ends-requires-clause-of : goal.end_all-ends-requires-clause-of
-end_all-ends-requires-clause-of g c =
+end_all-ends-requires-clause-of g c κs within =
     jobs_at c.args.mailbox.now c.args.items.items _ c.give.new.jobs c.args.hub.now c.give.new.hub c.give.ensures.given
 
 pub end_all-ends-requires-clause-room : goal.end_all-ends-requires-clause-room
-end_all-ends-requires-clause-room g c =
+end_all-ends-requires-clause-room g c κs within =
     room_for _ _ _ _ c.args.room (omega (arith, c.give.ensures.given.small, c.args.items.ok.0)) c.give.ensures.given.few c.requires.room
 
 pub run-ends-requires-clause-of : goal.run-ends-requires-clause-of
@@ -20,32 +20,41 @@ run-ends-requires-clause-room g c κs within =
 
 pub take_all-requires-clause-ends : goal.take_all-requires-clause-ends
 take_all-requires-clause-ends g c =
-    ends_at c.args.mailbox.now 0 0 c.give.new.jobs c.end_all-ends.result
+    ends_at c.args.mailbox.now (λ _ _. ⊥) 0 0 c.give.new.jobs c.end_all-ends.result
     (jobs_at c.args.mailbox.now c.args.items.items _ c.give.new.jobs c.args.hub.now c.give.new.hub c.give.ensures.given) (c.end_all-ends.ensures 0 0)
 
 pub take_all-worked-requires-clause-ends : goal.take_all-worked-requires-clause-ends
 take_all-worked-requires-clause-ends g c =
-    ends_at c.args.mailbox.now _ _ c.give.new.jobs c.run-ends.result
+    ends_at c.args.mailbox.now (g.G.Gate.may_stop c.args.gate.now) _ _ c.give.new.jobs c.run-ends.result
     (jobs_at c.args.mailbox.now c.args.items.items _ c.give.new.jobs c.args.hub.now c.give.new.hub c.give.ensures.given) c.run-ends.ensures
 
 pub returns-then-not-give-clause-no_memory : goal.returns-then-not-give-clause-no_memory
 returns-then-not-give-clause-no_memory g c = λ e.
-    early c.args.mailbox.now c.args.items.items _ 0 0 c.give.new.jobs c.end_all-ends.result c.args.hub.now c.give.new.hub c.take_all.new.hub
+    early c.args.mailbox.now (λ _ _. ⊥) c.args.items.items _ 0 0 c.give.new.jobs c.end_all-ends.result c.args.hub.now c.give.new.hub c.take_all.new.hub
     c.has_history.ensures.kept c.give.ensures.given (c.end_all-ends.ensures 0 0) c.take_all.ensures.hub
 
-pub returns-then-load-clause-worked : goal.returns-then-load-clause-worked
-returns-then-load-clause-worked g c =
+pub returns-clause-worked : goal.returns-clause-worked
+returns-clause-worked g c =
     let first = c.next_lanes-lanes.ensures.from in
     let last = c.next_lanes-lanes.ensures.end in
     let given = c.lanes_given.ensures in
-    worked c.args.mailbox.now c.args.items.items (vec_len c.args.rngs) c.next_lanes-lanes.result.from c.next_lanes-lanes.result.end c.give.new.jobs
+    worked c.args.mailbox.now (g.G.Gate.may_stop c.args.gate.now) c.args.items.items (vec_len c.args.rngs) c.next_lanes-lanes.result.from c.next_lanes-lanes.result.end c.give.new.jobs
     c.run-ends.result c.args.hub.now c.give.new.hub c.take_all-worked.new.hub c.has_history.ensures.kept c.give.ensures.given c.run-ends.ensures
     c.take_all-worked.ensures.hub (c.give.ensures.all c.if-not-give.false) c.take_all-worked.result c.take_all-worked.ensures.full
-    c.take_all-worked.ensures.stopped c.has_history-2.ensures.kept c.take_all-worked.ensures.of c.has_history-2.ensures.pool.0
+    c.take_all-worked.ensures.stopped (c.is_off-off.ensures.puts c.if-off.false) (c.is_off-off.ensures.polls c.if-off.false)
+    (omega (arith, c.requires.lanes, c.requires.consumers, c.lanes_are_few.ensures, c.consumers_are_few.ensures, c.args.items.ok.0)) c.has_history-2.ensures.kept c.take_all-worked.ensures.of c.has_history-2.ensures.pool.0
     c.has_history-2.ensures.pool.1 (omega (arith, first, given)) (omega (arith, last, given, c.len.ensures, c.args.items.ok.0)) c.ends_tell_notes.ensures
 
-pub returns-clause-no_thread : goal.returns-clause-no_thread
-returns-clause-no_thread g c = λ e.
-    taken c.args.mailbox.now c.args.items.items (vec_len c.args.rngs) c.next_lanes-lanes.result.from c.next_lanes-lanes.result.end c.give.new.jobs
+pub returns-then-off-clause-no_thread : goal.returns-then-off-clause-no_thread
+returns-then-off-clause-no_thread g c = λ e.
+    taken c.args.mailbox.now (g.G.Gate.may_stop c.args.gate.now) c.args.items.items (vec_len c.args.rngs) c.next_lanes-lanes.result.from c.next_lanes-lanes.result.end c.give.new.jobs
     c.run-ends.result c.args.hub.now c.give.new.hub c.take_all-worked.new.hub c.has_history.ensures.kept c.give.ensures.given c.run-ends.ensures
     c.take_all-worked.ensures.hub (c.give.ensures.all c.if-not-give.false)
+
+pub returns-then-off-clause-some_thread : goal.returns-then-off-clause-some_thread
+returns-then-off-clause-some_thread g c = λ e.
+    let some = some_worker c.args.mailbox.now (g.G.Gate.may_stop c.args.gate.now) c.args.items.items (vec_len c.args.rngs) c.next_lanes-lanes.result.from c.next_lanes-lanes.result.end c.give.new.jobs
+    c.run-ends.result c.args.hub.now c.give.new.hub c.take_all-worked.new.hub c.has_history.ensures.kept c.give.ensures.given c.run-ends.ensures
+    c.take_all-worked.ensures.hub (c.give.ensures.all c.if-not-give.false)
+    (c.is_off-off.ensures.off c.if-off.true) in
+    omega (arith, some, c.args.items.ok.0)

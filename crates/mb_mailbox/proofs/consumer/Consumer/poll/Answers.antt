@@ -159,8 +159,8 @@ returns-in-Ended-clause-told g c =
     λ _. subst (λ o. AnswerTells c.args.lane (Some poll.Ended) o (at_views c.look.new.seat s.seat s.places s.notes)) c.self.view_is
     (c.answers_tell_lanes.ensures.ended s c.args.lane c.in-Before.at c.look.new.seat c.self.invariant.0 c.has_history.ensures e c.in-Ended.ensures.makes)
 
-pub pursue-requires-in-Cell-clause-held : goal.pursue-requires-in-Cell-clause-held
-pursue-requires-in-Cell-clause-held g c =
+pub pursue-requires-2-clause-held : goal.pursue-requires-2-clause-held
+pursue-requires-2-clause-held g c =
     let s = at_views c.self.inside.reader c.self.inside.seat c.self.inside.places.items (lists c.self.inside.notes.items) in
     let e = c.place_at.ensures ∙ ap (λ (z : Place). Some z) c.in-Before.is in
     let m = c.in-Cell.ensures.makes in
@@ -182,8 +182,8 @@ pursue-requires-in-Cell-clause-held g c =
     moved_has IsConsumer s c.args.lane (At k claim) None (reads_with_link s c.in-Before.at (k + 1)) s.seat.part c.look.new.seat s.seat
     (slice_set s.places c.args.lane (At k claim)) s.notes done there refl refl refl
 
-pub invariant_of-self-in-Cell : goal.invariant_of-self-in-Cell
-invariant_of-self-in-Cell g c =
+pub invariant_of-self-2 : goal.invariant_of-self-2
+invariant_of-self-2 g c =
     let s = at_views c.self.inside.reader c.self.inside.seat c.self.inside.places.items (lists c.self.inside.notes.items) in
     let e = c.place_at.ensures ∙ ap (λ (z : Place). Some z) c.in-Before.is in
     let m = c.in-Cell.ensures.makes in
@@ -192,12 +192,12 @@ invariant_of-self-in-Cell g c =
     let mid = at_views c.look.new.seat s.seat (slice_set s.places c.args.lane (At k claim)) s.notes in
     let step = look_made s c.args.self.now c.args.lane c.in-Before.at c.look.new.seat (slice_set s.places c.args.lane (At k claim)) (look.Cell k) None c.self.view_is
     m refl refl (λ v. c.places_tell_steps.ensures.looks s c.args.lane v c.in-Before.at c.self.invariant.0 e) (g.R.Rng.stream c.args.rng.now) in
-    let so = c.pursue-in-Cell.ensures.pursued c.args.self.now 1 (g.R.Rng.stream c.args.rng.now) (one_step c.args.lane None (g.R.Rng.stream c.args.rng.now) (g.R.Rng.stream c.args.rng.now) c.args.self.now mid step) in
-    let new = at_views c.pursue-in-Cell.new.reader c.pursue-in-Cell.new.seat c.pursue-in-Cell.new.places.items (lists c.pursue-in-Cell.new.notes.items) in
-    (so.is, c.pursue-in-Cell.ensures.wide)
+    let so = c.pursue-2.ensures.pursued c.args.self.now 1 (g.R.Rng.stream c.args.rng.now) (one_step c.args.lane None (g.R.Rng.stream c.args.rng.now) (g.R.Rng.stream c.args.rng.now) c.args.self.now mid step) in
+    let new = at_views c.pursue-2.new.reader c.pursue-2.new.seat c.pursue-2.new.places.items (lists c.pursue-2.new.notes.items) in
+    (so.is, c.pursue-2.ensures.wide)
 
-pub returns-in-Cell-clause-no_lane : goal.returns-in-Cell-clause-no_lane
-returns-in-Cell-clause-no_lane g c =
+pub returns-clause-no_lane : goal.returns-clause-no_lane
+returns-clause-no_lane g c =
     let s = at_views c.self.inside.reader c.self.inside.seat c.self.inside.places.items (lists c.self.inside.notes.items) in
     let e = c.place_at.ensures ∙ ap (λ (z : Place). Some z) c.in-Before.is in
     let m = c.in-Cell.ensures.makes in
@@ -206,17 +206,17 @@ returns-in-Cell-clause-no_lane g c =
     let mid = at_views c.look.new.seat s.seat (slice_set s.places c.args.lane (At k claim)) s.notes in
     let step = look_made s c.args.self.now c.args.lane c.in-Before.at c.look.new.seat (slice_set s.places c.args.lane (At k claim)) (look.Cell k) None c.self.view_is
     m refl refl (λ v. c.places_tell_steps.ensures.looks s c.args.lane v c.in-Before.at c.self.invariant.0 e) (g.R.Rng.stream c.args.rng.now) in
-    let so = c.pursue-in-Cell.ensures.pursued c.args.self.now 1 (g.R.Rng.stream c.args.rng.now) (one_step c.args.lane None (g.R.Rng.stream c.args.rng.now) (g.R.Rng.stream c.args.rng.now) c.args.self.now mid step) in
-    let new = at_views c.pursue-in-Cell.new.reader c.pursue-in-Cell.new.seat c.pursue-in-Cell.new.places.items (lists c.pursue-in-Cell.new.notes.items) in
+    let so = c.pursue-2.ensures.pursued c.args.self.now 1 (g.R.Rng.stream c.args.rng.now) (one_step c.args.lane None (g.R.Rng.stream c.args.rng.now) (g.R.Rng.stream c.args.rng.now) c.args.self.now mid step) in
+    let new = at_views c.pursue-2.new.reader c.pursue-2.new.seat c.pursue-2.new.places.items (lists c.pursue-2.new.notes.items) in
     let lanes : c.len.result ≡ c.args.mailbox.now.cells.size.lanes =
     c.len.ensures.value ∙ c.self.invariant.0.places_count
     ∙ ap (λ (z : PoolSize). z.lanes) (cells_size c.args.mailbox.now s c.args.self.now c.self.view_is c.requires.of) in (
-      (λ f. absurd (not_no_lane c.args.lane 1 (c.args.budget - 1) c.pursue-in-Cell.result (g.R.Rng.stream c.args.rng.now) (g.R.Rng.stream c.pursue-in-Cell.new.rng) c.args.self.now new so f)),
+      (λ f. absurd (not_no_lane c.args.lane 1 (c.args.budget - 1) c.pursue-2.result (g.R.Rng.stream c.args.rng.now) (g.R.Rng.stream c.pursue-2.new.rng) c.args.self.now new so f)),
       (λ wide. let low = c.if-lane-len.false in absurd (omega (arith, low, wide, lanes))),
     )
 
-pub returns-in-Cell-clause-refused : goal.returns-in-Cell-clause-refused
-returns-in-Cell-clause-refused g c =
+pub returns-clause-refused : goal.returns-clause-refused
+returns-clause-refused g c =
     let s = at_views c.self.inside.reader c.self.inside.seat c.self.inside.places.items (lists c.self.inside.notes.items) in
     let e = c.place_at.ensures ∙ ap (λ (z : Place). Some z) c.in-Before.is in
     let m = c.in-Cell.ensures.makes in
@@ -225,12 +225,12 @@ returns-in-Cell-clause-refused g c =
     let mid = at_views c.look.new.seat s.seat (slice_set s.places c.args.lane (At k claim)) s.notes in
     let step = look_made s c.args.self.now c.args.lane c.in-Before.at c.look.new.seat (slice_set s.places c.args.lane (At k claim)) (look.Cell k) None c.self.view_is
     m refl refl (λ v. c.places_tell_steps.ensures.looks s c.args.lane v c.in-Before.at c.self.invariant.0 e) (g.R.Rng.stream c.args.rng.now) in
-    let so = c.pursue-in-Cell.ensures.pursued c.args.self.now 1 (g.R.Rng.stream c.args.rng.now) (one_step c.args.lane None (g.R.Rng.stream c.args.rng.now) (g.R.Rng.stream c.args.rng.now) c.args.self.now mid step) in
-    let new = at_views c.pursue-in-Cell.new.reader c.pursue-in-Cell.new.seat c.pursue-in-Cell.new.places.items (lists c.pursue-in-Cell.new.notes.items) in
-    λ f. absurd (not_no_lane c.args.lane 1 (c.args.budget - 1) c.pursue-in-Cell.result (g.R.Rng.stream c.args.rng.now) (g.R.Rng.stream c.pursue-in-Cell.new.rng) c.args.self.now new so f)
+    let so = c.pursue-2.ensures.pursued c.args.self.now 1 (g.R.Rng.stream c.args.rng.now) (one_step c.args.lane None (g.R.Rng.stream c.args.rng.now) (g.R.Rng.stream c.args.rng.now) c.args.self.now mid step) in
+    let new = at_views c.pursue-2.new.reader c.pursue-2.new.seat c.pursue-2.new.places.items (lists c.pursue-2.new.notes.items) in
+    λ f. absurd (not_no_lane c.args.lane 1 (c.args.budget - 1) c.pursue-2.result (g.R.Rng.stream c.args.rng.now) (g.R.Rng.stream c.pursue-2.new.rng) c.args.self.now new so f)
 
-pub returns-in-Cell-clause-polled : goal.returns-in-Cell-clause-polled
-returns-in-Cell-clause-polled g c =
+pub returns-clause-polled : goal.returns-clause-polled
+returns-clause-polled g c =
     let s = at_views c.self.inside.reader c.self.inside.seat c.self.inside.places.items (lists c.self.inside.notes.items) in
     let e = c.place_at.ensures ∙ ap (λ (z : Place). Some z) c.in-Before.is in
     let m = c.in-Cell.ensures.makes in
@@ -239,14 +239,14 @@ returns-in-Cell-clause-polled g c =
     let mid = at_views c.look.new.seat s.seat (slice_set s.places c.args.lane (At k claim)) s.notes in
     let step = look_made s c.args.self.now c.args.lane c.in-Before.at c.look.new.seat (slice_set s.places c.args.lane (At k claim)) (look.Cell k) None c.self.view_is
     m refl refl (λ v. c.places_tell_steps.ensures.looks s c.args.lane v c.in-Before.at c.self.invariant.0 e) (g.R.Rng.stream c.args.rng.now) in
-    let so = c.pursue-in-Cell.ensures.pursued c.args.self.now 1 (g.R.Rng.stream c.args.rng.now) (one_step c.args.lane None (g.R.Rng.stream c.args.rng.now) (g.R.Rng.stream c.args.rng.now) c.args.self.now mid step) in
-    let new = at_views c.pursue-in-Cell.new.reader c.pursue-in-Cell.new.seat c.pursue-in-Cell.new.places.items (lists c.pursue-in-Cell.new.notes.items) in
+    let so = c.pursue-2.ensures.pursued c.args.self.now 1 (g.R.Rng.stream c.args.rng.now) (one_step c.args.lane None (g.R.Rng.stream c.args.rng.now) (g.R.Rng.stream c.args.rng.now) c.args.self.now mid step) in
+    let new = at_views c.pursue-2.new.reader c.pursue-2.new.seat c.pursue-2.new.places.items (lists c.pursue-2.new.notes.items) in
     let some = c.if-budget-eq0.false in
     let sum : c.args.budget - 1 + 1 ≡ c.args.budget = omega (arith, some) in
-    λ _. poll_by c.args.lane 1 (c.args.budget - 1) c.args.budget c.pursue-in-Cell.result (g.R.Rng.stream c.args.rng.now) (g.R.Rng.stream c.pursue-in-Cell.new.rng) c.args.self.now new sum so
+    λ _. poll_by c.args.lane 1 (c.args.budget - 1) c.args.budget c.pursue-2.result (g.R.Rng.stream c.args.rng.now) (g.R.Rng.stream c.pursue-2.new.rng) c.args.self.now new sum so
 
-pub returns-in-Cell-clause-told : goal.returns-in-Cell-clause-told
-returns-in-Cell-clause-told g c =
+pub returns-clause-told : goal.returns-clause-told
+returns-clause-told g c =
     let s = at_views c.self.inside.reader c.self.inside.seat c.self.inside.places.items (lists c.self.inside.notes.items) in
     let e = c.place_at.ensures ∙ ap (λ (z : Place). Some z) c.in-Before.is in
     let m = c.in-Cell.ensures.makes in
@@ -255,12 +255,12 @@ returns-in-Cell-clause-told g c =
     let mid = at_views c.look.new.seat s.seat (slice_set s.places c.args.lane (At k claim)) s.notes in
     let step = look_made s c.args.self.now c.args.lane c.in-Before.at c.look.new.seat (slice_set s.places c.args.lane (At k claim)) (look.Cell k) None c.self.view_is
     m refl refl (λ v. c.places_tell_steps.ensures.looks s c.args.lane v c.in-Before.at c.self.invariant.0 e) (g.R.Rng.stream c.args.rng.now) in
-    let so = c.pursue-in-Cell.ensures.pursued c.args.self.now 1 (g.R.Rng.stream c.args.rng.now) (one_step c.args.lane None (g.R.Rng.stream c.args.rng.now) (g.R.Rng.stream c.args.rng.now) c.args.self.now mid step) in
-    let new = at_views c.pursue-in-Cell.new.reader c.pursue-in-Cell.new.seat c.pursue-in-Cell.new.places.items (lists c.pursue-in-Cell.new.notes.items) in
-    λ _. pursuit_tells c.args.lane 1 (c.args.budget - 1) c.pursue-in-Cell.result (g.R.Rng.stream c.args.rng.now) (g.R.Rng.stream c.pursue-in-Cell.new.rng) c.args.self.now c.args.self.now new so
+    let so = c.pursue-2.ensures.pursued c.args.self.now 1 (g.R.Rng.stream c.args.rng.now) (one_step c.args.lane None (g.R.Rng.stream c.args.rng.now) (g.R.Rng.stream c.args.rng.now) c.args.self.now mid step) in
+    let new = at_views c.pursue-2.new.reader c.pursue-2.new.seat c.pursue-2.new.places.items (lists c.pursue-2.new.notes.items) in
+    λ _. pursuit_tells c.args.lane 1 (c.args.budget - 1) c.pursue-2.result (g.R.Rng.stream c.args.rng.now) (g.R.Rng.stream c.pursue-2.new.rng) c.args.self.now c.args.self.now new so
 
-pub returns-in-Cell-clause-of : goal.returns-in-Cell-clause-of
-returns-in-Cell-clause-of g c =
+pub returns-clause-of : goal.returns-clause-of
+returns-clause-of g c =
     let s = at_views c.self.inside.reader c.self.inside.seat c.self.inside.places.items (lists c.self.inside.notes.items) in
     let e = c.place_at.ensures ∙ ap (λ (z : Place). Some z) c.in-Before.is in
     let m = c.in-Cell.ensures.makes in
@@ -269,6 +269,6 @@ returns-in-Cell-clause-of g c =
     let mid = at_views c.look.new.seat s.seat (slice_set s.places c.args.lane (At k claim)) s.notes in
     let step = look_made s c.args.self.now c.args.lane c.in-Before.at c.look.new.seat (slice_set s.places c.args.lane (At k claim)) (look.Cell k) None c.self.view_is
     m refl refl (λ v. c.places_tell_steps.ensures.looks s c.args.lane v c.in-Before.at c.self.invariant.0 e) (g.R.Rng.stream c.args.rng.now) in
-    let so = c.pursue-in-Cell.ensures.pursued c.args.self.now 1 (g.R.Rng.stream c.args.rng.now) (one_step c.args.lane None (g.R.Rng.stream c.args.rng.now) (g.R.Rng.stream c.args.rng.now) c.args.self.now mid step) in
-    let new = at_views c.pursue-in-Cell.new.reader c.pursue-in-Cell.new.seat c.pursue-in-Cell.new.places.items (lists c.pursue-in-Cell.new.notes.items) in
-    still_of c.args.mailbox.now c.args.lane 1 (c.args.budget - 1) c.pursue-in-Cell.result (g.R.Rng.stream c.args.rng.now) (g.R.Rng.stream c.pursue-in-Cell.new.rng) c.args.self.now new so c.requires.of
+    let so = c.pursue-2.ensures.pursued c.args.self.now 1 (g.R.Rng.stream c.args.rng.now) (one_step c.args.lane None (g.R.Rng.stream c.args.rng.now) (g.R.Rng.stream c.args.rng.now) c.args.self.now mid step) in
+    let new = at_views c.pursue-2.new.reader c.pursue-2.new.seat c.pursue-2.new.places.items (lists c.pursue-2.new.notes.items) in
+    still_of c.args.mailbox.now c.args.lane 1 (c.args.budget - 1) c.pursue-2.result (g.R.Rng.stream c.args.rng.now) (g.R.Rng.stream c.pursue-2.new.rng) c.args.self.now new so c.requires.of

@@ -14,29 +14,29 @@ use Rattle.mb_mailbox.proofs.consumer.pursuing.pursue.Goals as goal
 
 pub take-requires-clause-may : goal.take-requires-clause-may
 take-requires-clause-may g c =
-    let start : Start c.args.mailbox.now c.args.lane c.args.k c.args.claim c.args.reader.now c.args.seat.now c.args.places.now.items c.args.notes.now.items = record {
+    let start : Start c.args.mailbox.now c.args.held.lane c.args.held.cell c.args.held.claim c.args.reader.now c.args.seat.now c.args.places.now.items c.args.notes.now.items = record {
       held = c.requires.held;
       of = c.requires.of;
       lane = c.requires.lane;
       wide = c.requires.wide;
       loads = c.has_history.ensures;
     } in
-    c.consumers_move_on.ensures.given (holding c.args.lane c.args.k c.args.claim (consumer_with c.args.reader.now c.args.seat.now c.args.places.now.items c.args.notes.now.items)) c.args.lane c.args.k c.args.claim start.held start.loads (here c.args.mailbox.now c.args.lane c.args.k c.args.claim c.args.reader.now c.args.seat.now c.args.places.now.items c.args.notes.now.items start)
+    c.consumers_move_on.ensures.given (holding c.args.held.lane c.args.held.cell c.args.held.claim (consumer_with c.args.reader.now c.args.seat.now c.args.places.now.items c.args.notes.now.items)) c.args.held.lane c.args.held.cell c.args.held.claim start.held start.loads (here c.args.mailbox.now c.args.held.lane c.args.held.cell c.args.held.claim c.args.reader.now c.args.seat.now c.args.places.now.items c.args.notes.now.items start)
 
 pub take-requires-clause-room : goal.take-requires-clause-room
 take-requires-clause-room g c =
-    let start : Start c.args.mailbox.now c.args.lane c.args.k c.args.claim c.args.reader.now c.args.seat.now c.args.places.now.items c.args.notes.now.items = record {
+    let start : Start c.args.mailbox.now c.args.held.lane c.args.held.cell c.args.held.claim c.args.reader.now c.args.seat.now c.args.places.now.items c.args.notes.now.items = record {
       held = c.requires.held;
       of = c.requires.of;
       lane = c.requires.lane;
       wide = c.requires.wide;
       loads = c.has_history.ensures;
     } in
-    start_room c.args.mailbox.now c.args.lane c.args.k c.args.claim c.args.reader.now c.args.seat.now c.args.places.now.items c.args.notes.now.items start (λ ns f. c.consumers_move_on.ensures.room (holding c.args.lane c.args.k c.args.claim (consumer_with c.args.reader.now c.args.seat.now c.args.places.now.items c.args.notes.now.items)) c.args.lane c.args.k c.args.claim ns start.held start.loads (here c.args.mailbox.now c.args.lane c.args.k c.args.claim c.args.reader.now c.args.seat.now c.args.places.now.items c.args.notes.now.items start) f)
+    start_room c.args.mailbox.now c.args.held.lane c.args.held.cell c.args.held.claim c.args.reader.now c.args.seat.now c.args.places.now.items c.args.notes.now.items start (λ ns f. c.consumers_move_on.ensures.room (holding c.args.held.lane c.args.held.cell c.args.held.claim (consumer_with c.args.reader.now c.args.seat.now c.args.places.now.items c.args.notes.now.items)) c.args.held.lane c.args.held.cell c.args.held.claim ns start.held start.loads (here c.args.mailbox.now c.args.held.lane c.args.held.cell c.args.held.claim c.args.reader.now c.args.seat.now c.args.places.now.items c.args.notes.now.items start) f)
 
 pub returns-in-Won-clause-pursued : goal.returns-in-Won-clause-pursued
 returns-in-Won-clause-pursued g c =
-    let start : Start c.args.mailbox.now c.args.lane c.args.k c.args.claim c.args.reader.now c.args.seat.now c.args.places.now.items c.args.notes.now.items = record {
+    let start : Start c.args.mailbox.now c.args.held.lane c.args.held.cell c.args.held.claim c.args.reader.now c.args.seat.now c.args.places.now.items c.args.notes.now.items = record {
       held = c.requires.held;
       of = c.requires.of;
       lane = c.requires.lane;
@@ -44,17 +44,17 @@ returns-in-Won-clause-pursued g c =
       loads = c.has_history.ensures;
     } in
     λ from n t m.
-    let so = begun c.args.mailbox.now c.args.lane c.args.k c.args.claim c.args.reader.now c.args.seat.now c.args.places.now.items c.args.notes.now.items start from n t (g.R.Rng.stream c.args.rng.now) m in
-    let grow = lists_grow c.args.lane (Some (Took c.take.result)) c.args.notes.now.items c.take.new.notes.items c.take.ensures.notes in
-    let mid = mid_consumer (consumer_with c.args.reader.now c.args.seat.now c.args.places.now.items c.args.notes.now.items) c.args.lane c.args.k c.args.claim c.take.result c.args.claim c.args.seat.now c.take.new.reader c.take.new.places.items (lists c.take.new.notes.items) t (g.R.Rng.stream c.args.rng.now) from n (there c.args.mailbox.now c.args.lane c.args.k c.args.claim c.args.reader.now c.args.seat.now c.args.places.now.items c.args.notes.now.items start).0 (there c.args.mailbox.now c.args.lane c.args.k c.args.claim c.args.reader.now c.args.seat.now c.args.places.now.items c.args.notes.now.items start).1 (sym c.stage.ensures ∙ c.in-Won.is) so c.take.ensures.makes c.take.ensures.place grow in
-    let at = mid_at (consumer_with c.args.reader.now c.args.seat.now c.args.places.now.items c.args.notes.now.items) c.args.lane c.args.k c.args.claim c.take.result c.args.claim c.args.seat.now c.take.new.reader c.take.new.places.items (lists c.take.new.notes.items) t (g.R.Rng.stream c.args.rng.now) from n (there c.args.mailbox.now c.args.lane c.args.k c.args.claim c.args.reader.now c.args.seat.now c.args.places.now.items c.args.notes.now.items start).0 (there c.args.mailbox.now c.args.lane c.args.k c.args.claim c.args.reader.now c.args.seat.now c.args.places.now.items c.args.notes.now.items start).1 (sym c.stage.ensures ∙ c.in-Won.is) so c.take.ensures.makes c.take.ensures.place grow in
-    pursued_took (consumer_with c.args.reader.now c.args.seat.now c.args.places.now.items c.args.notes.now.items) c.args.lane c.args.k c.args.claim c.take.result c.args.claim c.args.seat.now c.take.new.reader c.take.new.places.items (lists c.take.new.notes.items) t (g.R.Rng.stream c.args.rng.now) from n (there c.args.mailbox.now c.args.lane c.args.k c.args.claim c.args.reader.now c.args.seat.now c.args.places.now.items c.args.notes.now.items start).0 (there c.args.mailbox.now c.args.lane c.args.k c.args.claim c.args.reader.now c.args.seat.now c.args.places.now.items c.args.notes.now.items start).1 (sym c.stage.ensures ∙ c.in-Won.is) so c.take.ensures.makes c.take.ensures.place grow c.args.most 0 n (omega arith) (omega (arith, c.requires.won (sym c.stage.ensures ∙ c.in-Won.is)))
-    (c.places_tell_steps.ensures.takes (moved_to c.args.lane (At c.args.k c.args.claim) None (consumer_with c.args.reader.now c.args.seat.now c.args.places.now.items c.args.notes.now.items).reader.part c.args.seat.now.part (holding c.args.lane c.args.k c.args.claim (consumer_with c.args.reader.now c.args.seat.now c.args.places.now.items c.args.notes.now.items))) c.args.lane c.args.k c.take.result c.args.claim mid at (sym c.stage.ensures ∙ c.in-Won.is))
-    (c.consumers_move_on.ensures.takes (moved_to c.args.lane (At c.args.k c.args.claim) None (consumer_with c.args.reader.now c.args.seat.now c.args.places.now.items c.args.notes.now.items).reader.part c.args.seat.now.part (holding c.args.lane c.args.k c.args.claim (consumer_with c.args.reader.now c.args.seat.now c.args.places.now.items c.args.notes.now.items))) c.args.lane c.args.k c.take.result c.args.claim mid start.loads at (sym c.stage.ensures ∙ c.in-Won.is))
+    let so = begun c.args.mailbox.now c.args.held.lane c.args.held.cell c.args.held.claim c.args.reader.now c.args.seat.now c.args.places.now.items c.args.notes.now.items start from n t (g.R.Rng.stream c.args.rng.now) m in
+    let grow = lists_grow c.args.held.lane (Some (Took c.take.result)) c.args.notes.now.items c.take.new.notes.items c.take.ensures.notes in
+    let mid = mid_consumer (consumer_with c.args.reader.now c.args.seat.now c.args.places.now.items c.args.notes.now.items) c.args.held.lane c.args.held.cell c.args.held.claim c.take.result c.args.held.claim c.args.seat.now c.take.new.reader c.take.new.places.items (lists c.take.new.notes.items) t (g.R.Rng.stream c.args.rng.now) from n (there c.args.mailbox.now c.args.held.lane c.args.held.cell c.args.held.claim c.args.reader.now c.args.seat.now c.args.places.now.items c.args.notes.now.items start).0 (there c.args.mailbox.now c.args.held.lane c.args.held.cell c.args.held.claim c.args.reader.now c.args.seat.now c.args.places.now.items c.args.notes.now.items start).1 (sym c.stage.ensures ∙ c.in-Won.is) so c.take.ensures.makes c.take.ensures.place grow in
+    let at = mid_at (consumer_with c.args.reader.now c.args.seat.now c.args.places.now.items c.args.notes.now.items) c.args.held.lane c.args.held.cell c.args.held.claim c.take.result c.args.held.claim c.args.seat.now c.take.new.reader c.take.new.places.items (lists c.take.new.notes.items) t (g.R.Rng.stream c.args.rng.now) from n (there c.args.mailbox.now c.args.held.lane c.args.held.cell c.args.held.claim c.args.reader.now c.args.seat.now c.args.places.now.items c.args.notes.now.items start).0 (there c.args.mailbox.now c.args.held.lane c.args.held.cell c.args.held.claim c.args.reader.now c.args.seat.now c.args.places.now.items c.args.notes.now.items start).1 (sym c.stage.ensures ∙ c.in-Won.is) so c.take.ensures.makes c.take.ensures.place grow in
+    pursued_took (consumer_with c.args.reader.now c.args.seat.now c.args.places.now.items c.args.notes.now.items) c.args.held.lane c.args.held.cell c.args.held.claim c.take.result c.args.held.claim c.args.seat.now c.take.new.reader c.take.new.places.items (lists c.take.new.notes.items) t (g.R.Rng.stream c.args.rng.now) from n (there c.args.mailbox.now c.args.held.lane c.args.held.cell c.args.held.claim c.args.reader.now c.args.seat.now c.args.places.now.items c.args.notes.now.items start).0 (there c.args.mailbox.now c.args.held.lane c.args.held.cell c.args.held.claim c.args.reader.now c.args.seat.now c.args.places.now.items c.args.notes.now.items start).1 (sym c.stage.ensures ∙ c.in-Won.is) so c.take.ensures.makes c.take.ensures.place grow c.args.most 0 n (omega arith) (omega (arith, c.requires.won (sym c.stage.ensures ∙ c.in-Won.is)))
+    (c.places_tell_steps.ensures.takes (moved_to c.args.held.lane (At c.args.held.cell c.args.held.claim) None (consumer_with c.args.reader.now c.args.seat.now c.args.places.now.items c.args.notes.now.items).reader.part c.args.seat.now.part (holding c.args.held.lane c.args.held.cell c.args.held.claim (consumer_with c.args.reader.now c.args.seat.now c.args.places.now.items c.args.notes.now.items))) c.args.held.lane c.args.held.cell c.take.result c.args.held.claim mid at (sym c.stage.ensures ∙ c.in-Won.is))
+    (c.consumers_move_on.ensures.takes (moved_to c.args.held.lane (At c.args.held.cell c.args.held.claim) None (consumer_with c.args.reader.now c.args.seat.now c.args.places.now.items c.args.notes.now.items).reader.part c.args.seat.now.part (holding c.args.held.lane c.args.held.cell c.args.held.claim (consumer_with c.args.reader.now c.args.seat.now c.args.places.now.items c.args.notes.now.items))) c.args.held.lane c.args.held.cell c.take.result c.args.held.claim mid start.loads at (sym c.stage.ensures ∙ c.in-Won.is))
 
 pub returns-in-Won-clause-wide : goal.returns-in-Won-clause-wide
 returns-in-Won-clause-wide g c =
-    let start : Start c.args.mailbox.now c.args.lane c.args.k c.args.claim c.args.reader.now c.args.seat.now c.args.places.now.items c.args.notes.now.items = record {
+    let start : Start c.args.mailbox.now c.args.held.lane c.args.held.cell c.args.held.claim c.args.reader.now c.args.seat.now c.args.places.now.items c.args.notes.now.items = record {
       held = c.requires.held;
       of = c.requires.of;
       lane = c.requires.lane;
@@ -62,42 +62,42 @@ returns-in-Won-clause-wide g c =
       loads = c.has_history.ensures;
     } in
     λ q w at. subst (λ (r : ReaderSeatView). r.table.size.cells ≤ w.cap) (sym c.take.ensures.makes.1)
-    (room_grows c.args.lane c.args.reader.now.table.size.cells (Some (Took c.take.result)) c.args.notes.now.items c.take.new.notes.items c.take.ensures.notes start.wide q w at)
+    (room_grows c.args.held.lane c.args.reader.now.table.size.cells (Some (Took c.take.result)) c.args.notes.now.items c.take.new.notes.items c.take.ensures.notes start.wide q w at)
 
 pub loop-made-init : goal.loop-made-init
 loop-made-init g c =
-    let start : Start c.args.mailbox.now c.args.lane c.args.k c.args.claim c.args.reader.now c.args.seat.now c.args.places.now.items c.args.notes.now.items = record {
+    let start : Start c.args.mailbox.now c.args.held.lane c.args.held.cell c.args.held.claim c.args.reader.now c.args.seat.now c.args.places.now.items c.args.notes.now.items = record {
       held = c.requires.held;
       of = c.requires.of;
       lane = c.requires.lane;
       wide = c.requires.wide;
       loads = c.has_history.ensures;
     } in
-    let s = holding c.args.lane c.args.k c.args.claim (consumer_with c.args.reader.now c.args.seat.now c.args.places.now.items c.args.notes.now.items) in
+    let s = holding c.args.held.lane c.args.held.cell c.args.held.claim (consumer_with c.args.reader.now c.args.seat.now c.args.places.now.items c.args.notes.now.items) in
     let size : TableSize = record { layout = c.args.mailbox.now.claims.layout; cells = c.args.mailbox.now.claims.cells } in
     record {
       start = start;
-      going = c.consumers_move_on.ensures.going s c.args.lane c.args.k c.args.claim start.held (here c.args.mailbox.now c.args.lane c.args.k c.args.claim c.args.reader.now c.args.seat.now c.args.places.now.items c.args.notes.now.items start) (λ won. c.in_default.not-Won (c.stage.ensures ∙ won));
+      going = c.consumers_move_on.ensures.going s c.args.held.lane c.args.held.cell c.args.held.claim start.held (here c.args.mailbox.now c.args.held.lane c.args.held.cell c.args.held.claim c.args.reader.now c.args.seat.now c.args.places.now.items c.args.notes.now.items start) (λ won. c.in_default.not-Won (c.stage.ensures ∙ won));
       table = c.requires.of.claims;
-      own = c.consumers_move_on.ensures.own s c.args.lane c.args.k c.args.claim start.held (here c.args.mailbox.now c.args.lane c.args.k c.args.claim c.args.reader.now c.args.seat.now c.args.places.now.items c.args.notes.now.items start);
-      turns = c.consumers_move_on.ensures.turns s c.args.lane c.args.k c.args.claim start.held (here c.args.mailbox.now c.args.lane c.args.k c.args.claim c.args.reader.now c.args.seat.now c.args.places.now.items c.args.notes.now.items start) size (table c.args.mailbox.now c.args.lane c.args.k c.args.claim c.args.reader.now c.args.seat.now c.args.places.now.items c.args.notes.now.items start);
+      own = c.consumers_move_on.ensures.own s c.args.held.lane c.args.held.cell c.args.held.claim start.held (here c.args.mailbox.now c.args.held.lane c.args.held.cell c.args.held.claim c.args.reader.now c.args.seat.now c.args.places.now.items c.args.notes.now.items start);
+      turns = c.consumers_move_on.ensures.turns s c.args.held.lane c.args.held.cell c.args.held.claim start.held (here c.args.mailbox.now c.args.held.lane c.args.held.cell c.args.held.claim c.args.reader.now c.args.seat.now c.args.places.now.items c.args.notes.now.items start) size (table c.args.mailbox.now c.args.held.lane c.args.held.cell c.args.held.claim c.args.reader.now c.args.seat.now c.args.places.now.items c.args.notes.now.items start);
       competed = λ from n t m.
           let none : n ≡ 0 + n = omega arith in
-          subst (λ z. HasCompeted c.args.lane c.args.k z c.args.claim t (g.R.Rng.stream c.args.rng.now) from s c.args.seat.now) none (begun c.args.mailbox.now c.args.lane c.args.k c.args.claim c.args.reader.now c.args.seat.now c.args.places.now.items c.args.notes.now.items start from n t (g.R.Rng.stream c.args.rng.now) m);
+          subst (λ z. HasCompeted c.args.held.lane c.args.held.cell z c.args.held.claim t (g.R.Rng.stream c.args.rng.now) from s c.args.seat.now) none (begun c.args.mailbox.now c.args.held.lane c.args.held.cell c.args.held.claim c.args.reader.now c.args.seat.now c.args.places.now.items c.args.notes.now.items start from n t (g.R.Rng.stream c.args.rng.now) m);
     }
 
 pub step-requires : goal.step-requires
 step-requires g c =
     let start = c.loop-made.invariant.start in
     let inv = c.loop-made.invariant in
-    let low = c.consumers_move_on.ensures.within (holding c.args.lane c.args.k c.args.claim (consumer_with c.loop-made.reader c.args.seat.now c.loop-made.places.items c.loop-made.notes.items)) c.args.lane c.args.k c.args.claim start.held start.loads (here c.args.mailbox.now c.args.lane c.args.k c.args.claim c.loop-made.reader c.args.seat.now c.loop-made.places.items c.loop-made.notes.items start) in
+    let low = c.consumers_move_on.ensures.within (holding c.args.held.lane c.args.held.cell c.args.held.claim (consumer_with c.loop-made.reader c.args.seat.now c.loop-made.places.items c.loop-made.notes.items)) c.args.held.lane c.args.held.cell c.args.held.claim start.held start.loads (here c.args.mailbox.now c.args.held.lane c.args.held.cell c.args.held.claim c.loop-made.reader c.args.seat.now c.loop-made.places.items c.loop-made.notes.items start) in
     let cells : c.loop-made.reader.table.size.cells ≡ c.mailbox.inside.claims.cells =
     ap (λ (z : CellsName). z.size.cells) (start.of.cells ∙ sym (ap (λ (v : MailboxView). v.cells) c.mailbox.view_is)) ∙ sym c.mailbox.invariant.0.cells in
     record {
       table = inv.table ∙ sym (ap (λ (v : MailboxView). name_of v.claims) c.mailbox.view_is);
-      cell = subst (λ n. c.args.k < n) cells low;
+      cell = subst (λ n. c.args.held.cell < n) cells low;
       consumer = inv.own;
-      standing = subst (λ (y : MailboxView). IsClaimIn y.claims.layout c.loop-made.claim (part_on c.loop-made.seat.consumer c.args.k c.loop-made.seat.part)) (sym c.mailbox.view_is) inv.turns;
+      standing = subst (λ (y : MailboxView). IsClaimIn y.claims.layout c.loop-made.claim (part_on c.loop-made.seat.consumer c.args.held.cell c.loop-made.seat.part)) (sym c.mailbox.view_is) inv.turns;
       going = inv.going;
     }
 
@@ -106,9 +106,9 @@ take-requires-then-made-most g c =
     let start = c.loop-made.invariant.start in
     record {
       table = start.of.cells;
-      may = c.consumers_move_on.ensures.given (holding c.args.lane c.args.k c.args.claim (consumer_with c.loop-made.reader c.args.seat.now c.loop-made.places.items c.loop-made.notes.items)) c.args.lane c.args.k c.args.claim start.held start.loads (here c.args.mailbox.now c.args.lane c.args.k c.args.claim c.loop-made.reader c.args.seat.now c.loop-made.places.items c.loop-made.notes.items start);
+      may = c.consumers_move_on.ensures.given (holding c.args.held.lane c.args.held.cell c.args.held.claim (consumer_with c.loop-made.reader c.args.seat.now c.loop-made.places.items c.loop-made.notes.items)) c.args.held.lane c.args.held.cell c.args.held.claim start.held start.loads (here c.args.mailbox.now c.args.held.lane c.args.held.cell c.args.held.claim c.loop-made.reader c.args.seat.now c.loop-made.places.items c.loop-made.notes.items start);
       place = start.lane;
-      room = start_room c.args.mailbox.now c.args.lane c.args.k c.args.claim c.loop-made.reader c.args.seat.now c.loop-made.places.items c.loop-made.notes.items start (λ ns f. c.consumers_move_on.ensures.room (holding c.args.lane c.args.k c.args.claim (consumer_with c.loop-made.reader c.args.seat.now c.loop-made.places.items c.loop-made.notes.items)) c.args.lane c.args.k c.args.claim ns start.held start.loads (here c.args.mailbox.now c.args.lane c.args.k c.args.claim c.loop-made.reader c.args.seat.now c.loop-made.places.items c.loop-made.notes.items start) f);
+      room = start_room c.args.mailbox.now c.args.held.lane c.args.held.cell c.args.held.claim c.loop-made.reader c.args.seat.now c.loop-made.places.items c.loop-made.notes.items start (λ ns f. c.consumers_move_on.ensures.room (holding c.args.held.lane c.args.held.cell c.args.held.claim (consumer_with c.loop-made.reader c.args.seat.now c.loop-made.places.items c.loop-made.notes.items)) c.args.held.lane c.args.held.cell c.args.held.claim ns start.held start.loads (here c.args.mailbox.now c.args.held.lane c.args.held.cell c.args.held.claim c.loop-made.reader c.args.seat.now c.loop-made.places.items c.loop-made.notes.items start) f);
     }
 
 pub returns-then-made-most : goal.returns-then-made-most
@@ -116,19 +116,19 @@ returns-then-made-most g c =
     let start = c.loop-made.invariant.start in
     record {
       pursued = λ from n t m.
-          let so = stepped c.args.mailbox.now c.args.lane c.args.k c.args.claim c.loop-made.reader c.args.seat.now c.loop-made.places.items c.loop-made.notes.items start c.consumers_move_on.ensures.competes c.places_tell_steps.ensures.competes
+          let so = stepped c.args.mailbox.now c.args.held.lane c.args.held.cell c.args.held.claim c.loop-made.reader c.args.seat.now c.loop-made.places.items c.loop-made.notes.items start c.consumers_move_on.ensures.competes c.places_tell_steps.ensures.competes
           (record { cells = c.mailbox.inside.cells; claims = c.mailbox.inside.claims }) c.mailbox.view_is from c.loop-made.made n
           c.next_u64-word.result c.loop-made.claim c.step.new.claim c.loop-made.seat c.step.new.seat t (g.R.Rng.stream c.loop-made.rng) (g.R.Rng.stream c.next_u64-word.new.self)
           c.loop-made.invariant.going (c.loop-made.invariant.competed from n t m) c.step.ensures.step c.loop-made.invariant.own
           c.step.ensures.consumer c.step.ensures.standing c.next_u64-word.ensures in
-          let grow = lists_grow c.args.lane (Some (Took c.take-then-made-most.result)) c.loop-made.notes.items c.take-then-made-most.new.notes.items c.take-then-made-most.ensures.notes in
-          let mid = mid_consumer (consumer_with c.loop-made.reader c.args.seat.now c.loop-made.places.items c.loop-made.notes.items) c.args.lane c.args.k c.args.claim c.take-then-made-most.result c.step.new.claim c.step.new.seat c.take-then-made-most.new.reader c.take-then-made-most.new.places.items (lists c.take-then-made-most.new.notes.items) t (g.R.Rng.stream c.next_u64-word.new.self) from ((c.loop-made.made + 1) + n) (there c.args.mailbox.now c.args.lane c.args.k c.args.claim c.loop-made.reader c.args.seat.now c.loop-made.places.items c.loop-made.notes.items start).0 (there c.args.mailbox.now c.args.lane c.args.k c.args.claim c.loop-made.reader c.args.seat.now c.loop-made.places.items c.loop-made.notes.items start).1 (sym c.step.ensures.stage ∙ c.in-Won-step.is) so c.take-then-made-most.ensures.makes c.take-then-made-most.ensures.place grow in
-          let at = mid_at (consumer_with c.loop-made.reader c.args.seat.now c.loop-made.places.items c.loop-made.notes.items) c.args.lane c.args.k c.args.claim c.take-then-made-most.result c.step.new.claim c.step.new.seat c.take-then-made-most.new.reader c.take-then-made-most.new.places.items (lists c.take-then-made-most.new.notes.items) t (g.R.Rng.stream c.next_u64-word.new.self) from ((c.loop-made.made + 1) + n) (there c.args.mailbox.now c.args.lane c.args.k c.args.claim c.loop-made.reader c.args.seat.now c.loop-made.places.items c.loop-made.notes.items start).0 (there c.args.mailbox.now c.args.lane c.args.k c.args.claim c.loop-made.reader c.args.seat.now c.loop-made.places.items c.loop-made.notes.items start).1 (sym c.step.ensures.stage ∙ c.in-Won-step.is) so c.take-then-made-most.ensures.makes c.take-then-made-most.ensures.place grow in
-          pursued_took (consumer_with c.loop-made.reader c.args.seat.now c.loop-made.places.items c.loop-made.notes.items) c.args.lane c.args.k c.args.claim c.take-then-made-most.result c.step.new.claim c.step.new.seat c.take-then-made-most.new.reader c.take-then-made-most.new.places.items (lists c.take-then-made-most.new.notes.items) t (g.R.Rng.stream c.next_u64-word.new.self) from ((c.loop-made.made + 1) + n) (there c.args.mailbox.now c.args.lane c.args.k c.args.claim c.loop-made.reader c.args.seat.now c.loop-made.places.items c.loop-made.notes.items start).0 (there c.args.mailbox.now c.args.lane c.args.k c.args.claim c.loop-made.reader c.args.seat.now c.loop-made.places.items c.loop-made.notes.items start).1 (sym c.step.ensures.stage ∙ c.in-Won-step.is) so c.take-then-made-most.ensures.makes c.take-then-made-most.ensures.place grow c.args.most (c.loop-made.made + 1) n (refl) (omega (arith, c.if-made-most.true))
-          (c.places_tell_steps.ensures.takes (moved_to c.args.lane (At c.args.k c.step.new.claim) None (consumer_with c.loop-made.reader c.args.seat.now c.loop-made.places.items c.loop-made.notes.items).reader.part c.step.new.seat.part (holding c.args.lane c.args.k c.args.claim (consumer_with c.loop-made.reader c.args.seat.now c.loop-made.places.items c.loop-made.notes.items))) c.args.lane c.args.k c.take-then-made-most.result c.step.new.claim mid at (sym c.step.ensures.stage ∙ c.in-Won-step.is))
-          (c.consumers_move_on.ensures.takes (moved_to c.args.lane (At c.args.k c.step.new.claim) None (consumer_with c.loop-made.reader c.args.seat.now c.loop-made.places.items c.loop-made.notes.items).reader.part c.step.new.seat.part (holding c.args.lane c.args.k c.args.claim (consumer_with c.loop-made.reader c.args.seat.now c.loop-made.places.items c.loop-made.notes.items))) c.args.lane c.args.k c.take-then-made-most.result c.step.new.claim mid start.loads at (sym c.step.ensures.stage ∙ c.in-Won-step.is));
+          let grow = lists_grow c.args.held.lane (Some (Took c.take-then-made-most.result)) c.loop-made.notes.items c.take-then-made-most.new.notes.items c.take-then-made-most.ensures.notes in
+          let mid = mid_consumer (consumer_with c.loop-made.reader c.args.seat.now c.loop-made.places.items c.loop-made.notes.items) c.args.held.lane c.args.held.cell c.args.held.claim c.take-then-made-most.result c.step.new.claim c.step.new.seat c.take-then-made-most.new.reader c.take-then-made-most.new.places.items (lists c.take-then-made-most.new.notes.items) t (g.R.Rng.stream c.next_u64-word.new.self) from ((c.loop-made.made + 1) + n) (there c.args.mailbox.now c.args.held.lane c.args.held.cell c.args.held.claim c.loop-made.reader c.args.seat.now c.loop-made.places.items c.loop-made.notes.items start).0 (there c.args.mailbox.now c.args.held.lane c.args.held.cell c.args.held.claim c.loop-made.reader c.args.seat.now c.loop-made.places.items c.loop-made.notes.items start).1 (sym c.step.ensures.stage ∙ c.in-Won-step.is) so c.take-then-made-most.ensures.makes c.take-then-made-most.ensures.place grow in
+          let at = mid_at (consumer_with c.loop-made.reader c.args.seat.now c.loop-made.places.items c.loop-made.notes.items) c.args.held.lane c.args.held.cell c.args.held.claim c.take-then-made-most.result c.step.new.claim c.step.new.seat c.take-then-made-most.new.reader c.take-then-made-most.new.places.items (lists c.take-then-made-most.new.notes.items) t (g.R.Rng.stream c.next_u64-word.new.self) from ((c.loop-made.made + 1) + n) (there c.args.mailbox.now c.args.held.lane c.args.held.cell c.args.held.claim c.loop-made.reader c.args.seat.now c.loop-made.places.items c.loop-made.notes.items start).0 (there c.args.mailbox.now c.args.held.lane c.args.held.cell c.args.held.claim c.loop-made.reader c.args.seat.now c.loop-made.places.items c.loop-made.notes.items start).1 (sym c.step.ensures.stage ∙ c.in-Won-step.is) so c.take-then-made-most.ensures.makes c.take-then-made-most.ensures.place grow in
+          pursued_took (consumer_with c.loop-made.reader c.args.seat.now c.loop-made.places.items c.loop-made.notes.items) c.args.held.lane c.args.held.cell c.args.held.claim c.take-then-made-most.result c.step.new.claim c.step.new.seat c.take-then-made-most.new.reader c.take-then-made-most.new.places.items (lists c.take-then-made-most.new.notes.items) t (g.R.Rng.stream c.next_u64-word.new.self) from ((c.loop-made.made + 1) + n) (there c.args.mailbox.now c.args.held.lane c.args.held.cell c.args.held.claim c.loop-made.reader c.args.seat.now c.loop-made.places.items c.loop-made.notes.items start).0 (there c.args.mailbox.now c.args.held.lane c.args.held.cell c.args.held.claim c.loop-made.reader c.args.seat.now c.loop-made.places.items c.loop-made.notes.items start).1 (sym c.step.ensures.stage ∙ c.in-Won-step.is) so c.take-then-made-most.ensures.makes c.take-then-made-most.ensures.place grow c.args.most (c.loop-made.made + 1) n (refl) (omega (arith, c.if-made-most.true))
+          (c.places_tell_steps.ensures.takes (moved_to c.args.held.lane (At c.args.held.cell c.step.new.claim) None (consumer_with c.loop-made.reader c.args.seat.now c.loop-made.places.items c.loop-made.notes.items).reader.part c.step.new.seat.part (holding c.args.held.lane c.args.held.cell c.args.held.claim (consumer_with c.loop-made.reader c.args.seat.now c.loop-made.places.items c.loop-made.notes.items))) c.args.held.lane c.args.held.cell c.take-then-made-most.result c.step.new.claim mid at (sym c.step.ensures.stage ∙ c.in-Won-step.is))
+          (c.consumers_move_on.ensures.takes (moved_to c.args.held.lane (At c.args.held.cell c.step.new.claim) None (consumer_with c.loop-made.reader c.args.seat.now c.loop-made.places.items c.loop-made.notes.items).reader.part c.step.new.seat.part (holding c.args.held.lane c.args.held.cell c.args.held.claim (consumer_with c.loop-made.reader c.args.seat.now c.loop-made.places.items c.loop-made.notes.items))) c.args.held.lane c.args.held.cell c.take-then-made-most.result c.step.new.claim mid start.loads at (sym c.step.ensures.stage ∙ c.in-Won-step.is));
       wide = λ q w at. subst (λ (r : ReaderSeatView). r.table.size.cells ≤ w.cap) (sym c.take-then-made-most.ensures.makes.1)
-          (room_grows c.args.lane c.loop-made.reader.table.size.cells (Some (Took c.take-then-made-most.result)) c.loop-made.notes.items c.take-then-made-most.new.notes.items c.take-then-made-most.ensures.notes start.wide q w at);
+          (room_grows c.args.held.lane c.loop-made.reader.table.size.cells (Some (Took c.take-then-made-most.result)) c.loop-made.notes.items c.take-then-made-most.new.notes.items c.take-then-made-most.ensures.notes start.wide q w at);
     }
 
 pub stay-requires : goal.stay-requires
@@ -140,14 +140,14 @@ returns-in-Won-step g c =
     let start = c.loop-made.invariant.start in
     record {
       pursued = λ from n t m.
-          let so = stepped c.args.mailbox.now c.args.lane c.args.k c.args.claim c.loop-made.reader c.args.seat.now c.loop-made.places.items c.loop-made.notes.items start c.consumers_move_on.ensures.competes c.places_tell_steps.ensures.competes
+          let so = stepped c.args.mailbox.now c.args.held.lane c.args.held.cell c.args.held.claim c.loop-made.reader c.args.seat.now c.loop-made.places.items c.loop-made.notes.items start c.consumers_move_on.ensures.competes c.places_tell_steps.ensures.competes
           (record { cells = c.mailbox.inside.cells; claims = c.mailbox.inside.claims }) c.mailbox.view_is from c.loop-made.made n
           c.next_u64-word.result c.loop-made.claim c.step.new.claim c.loop-made.seat c.step.new.seat t (g.R.Rng.stream c.loop-made.rng) (g.R.Rng.stream c.next_u64-word.new.self)
           c.loop-made.invariant.going (c.loop-made.invariant.competed from n t m) c.step.ensures.step c.loop-made.invariant.own
           c.step.ensures.consumer c.step.ensures.standing c.next_u64-word.ensures in
           let all : c.loop-made.made + 1 ≡ c.args.most = omega (arith, c.if-made-most.false, c.loop-made-test.true) in
-          pursued_spent (consumer_with c.loop-made.reader c.args.seat.now c.loop-made.places.items c.loop-made.notes.items) c.args.lane c.args.k c.args.claim c.args.most n c.step.new.claim stage.Won t (g.R.Rng.stream c.next_u64-word.new.self) from c.step.new.seat c.stay.new.places.items (sym c.step.ensures.stage ∙ c.in-Won-step.is)
-          refl refl refl (subst (λ z. HasCompeted c.args.lane c.args.k (z + n) c.step.new.claim t (g.R.Rng.stream c.next_u64-word.new.self) from (holding c.args.lane c.args.k c.args.claim (consumer_with c.loop-made.reader c.args.seat.now c.loop-made.places.items c.loop-made.notes.items)) c.step.new.seat) all so) c.stay.ensures;
+          pursued_spent (consumer_with c.loop-made.reader c.args.seat.now c.loop-made.places.items c.loop-made.notes.items) c.args.held.lane c.args.held.cell c.args.held.claim c.args.most n c.step.new.claim stage.Won t (g.R.Rng.stream c.next_u64-word.new.self) from c.step.new.seat c.stay.new.places.items (sym c.step.ensures.stage ∙ c.in-Won-step.is)
+          refl refl refl (subst (λ z. HasCompeted c.args.held.lane c.args.held.cell (z + n) c.step.new.claim t (g.R.Rng.stream c.next_u64-word.new.self) from (holding c.args.held.lane c.args.held.cell c.args.held.claim (consumer_with c.loop-made.reader c.args.seat.now c.loop-made.places.items c.loop-made.notes.items)) c.step.new.seat) all so) c.stay.ensures;
       wide = start.wide;
     }
 
@@ -156,7 +156,7 @@ leave-requires g c =
     let start = c.loop-made.invariant.start in
     record {
       place = start.lane;
-      room = start_room c.args.mailbox.now c.args.lane c.args.k c.args.claim c.loop-made.reader c.args.seat.now c.loop-made.places.items c.loop-made.notes.items start (λ ns f. c.consumers_move_on.ensures.room (holding c.args.lane c.args.k c.args.claim (consumer_with c.loop-made.reader c.args.seat.now c.loop-made.places.items c.loop-made.notes.items)) c.args.lane c.args.k c.args.claim ns start.held start.loads (here c.args.mailbox.now c.args.lane c.args.k c.args.claim c.loop-made.reader c.args.seat.now c.loop-made.places.items c.loop-made.notes.items start) f);
+      room = start_room c.args.mailbox.now c.args.held.lane c.args.held.cell c.args.held.claim c.loop-made.reader c.args.seat.now c.loop-made.places.items c.loop-made.notes.items start (λ ns f. c.consumers_move_on.ensures.room (holding c.args.held.lane c.args.held.cell c.args.held.claim (consumer_with c.loop-made.reader c.args.seat.now c.loop-made.places.items c.loop-made.notes.items)) c.args.held.lane c.args.held.cell c.args.held.claim ns start.held start.loads (here c.args.mailbox.now c.args.held.lane c.args.held.cell c.args.held.claim c.loop-made.reader c.args.seat.now c.loop-made.places.items c.loop-made.notes.items start) f);
     }
 
 pub returns-in-Lost : goal.returns-in-Lost
@@ -164,16 +164,16 @@ returns-in-Lost g c =
     let start = c.loop-made.invariant.start in
     record {
       pursued = λ from n t m.
-          let so = stepped c.args.mailbox.now c.args.lane c.args.k c.args.claim c.loop-made.reader c.args.seat.now c.loop-made.places.items c.loop-made.notes.items start c.consumers_move_on.ensures.competes c.places_tell_steps.ensures.competes
+          let so = stepped c.args.mailbox.now c.args.held.lane c.args.held.cell c.args.held.claim c.loop-made.reader c.args.seat.now c.loop-made.places.items c.loop-made.notes.items start c.consumers_move_on.ensures.competes c.places_tell_steps.ensures.competes
           (record { cells = c.mailbox.inside.cells; claims = c.mailbox.inside.claims }) c.mailbox.view_is from c.loop-made.made n
           c.next_u64-word.result c.loop-made.claim c.step.new.claim c.loop-made.seat c.step.new.seat t (g.R.Rng.stream c.loop-made.rng) (g.R.Rng.stream c.next_u64-word.new.self)
           c.loop-made.invariant.going (c.loop-made.invariant.competed from n t m) c.step.ensures.step c.loop-made.invariant.own
           c.step.ensures.consumer c.step.ensures.standing c.next_u64-word.ensures in
-          pursued_past (consumer_with c.loop-made.reader c.args.seat.now c.loop-made.places.items c.loop-made.notes.items) c.args.lane c.args.k c.args.claim c.args.most (c.loop-made.made + 1) n c.step.new.claim (stage.Lost c.in-Lost.w) (Lost c.in-Lost.w) (poll.Lost c.in-Lost.w) t (g.R.Rng.stream c.next_u64-word.new.self) from c.step.new.seat
-          c.leave.new.places.items (lists c.leave.new.notes.items) (there c.args.mailbox.now c.args.lane c.args.k c.args.claim c.loop-made.reader c.args.seat.now c.loop-made.places.items c.loop-made.notes.items start).0 (there c.args.mailbox.now c.args.lane c.args.k c.args.claim c.loop-made.reader c.args.seat.now c.loop-made.places.items c.loop-made.notes.items start).1 (sym c.step.ensures.stage ∙ c.in-Lost.is) refl refl tt (λ f. cc) refl
+          pursued_past (consumer_with c.loop-made.reader c.args.seat.now c.loop-made.places.items c.loop-made.notes.items) c.args.held.lane c.args.held.cell c.args.held.claim c.args.most (c.loop-made.made + 1) n c.step.new.claim (stage.Lost c.in-Lost.w) (Lost c.in-Lost.w) (poll.Lost c.in-Lost.w) t (g.R.Rng.stream c.next_u64-word.new.self) from c.step.new.seat
+          c.leave.new.places.items (lists c.leave.new.notes.items) (there c.args.mailbox.now c.args.held.lane c.args.held.cell c.args.held.claim c.loop-made.reader c.args.seat.now c.loop-made.places.items c.loop-made.notes.items start).0 (there c.args.mailbox.now c.args.held.lane c.args.held.cell c.args.held.claim c.loop-made.reader c.args.seat.now c.loop-made.places.items c.loop-made.notes.items start).1 (sym c.step.ensures.stage ∙ c.in-Lost.is) refl refl tt (λ f. cc) refl
           (omega (arith, c.loop-made-test.true)) so c.leave.ensures.place
-          (lists_grow c.args.lane (Some (Lost c.in-Lost.w)) c.loop-made.notes.items c.leave.new.notes.items c.leave.ensures.notes);
-      wide = room_grows c.args.lane c.loop-made.reader.table.size.cells (Some (Lost c.in-Lost.w)) c.loop-made.notes.items c.leave.new.notes.items c.leave.ensures.notes start.wide;
+          (lists_grow c.args.held.lane (Some (Lost c.in-Lost.w)) c.loop-made.notes.items c.leave.new.notes.items c.leave.ensures.notes);
+      wide = room_grows c.args.held.lane c.loop-made.reader.table.size.cells (Some (Lost c.in-Lost.w)) c.loop-made.notes.items c.leave.new.notes.items c.leave.ensures.notes start.wide;
     }
 
 pub leave-requires-in-Undecided : goal.leave-requires-in-Undecided
@@ -181,7 +181,7 @@ leave-requires-in-Undecided g c =
     let start = c.loop-made.invariant.start in
     record {
       place = start.lane;
-      room = start_room c.args.mailbox.now c.args.lane c.args.k c.args.claim c.loop-made.reader c.args.seat.now c.loop-made.places.items c.loop-made.notes.items start (λ ns f. c.consumers_move_on.ensures.room (holding c.args.lane c.args.k c.args.claim (consumer_with c.loop-made.reader c.args.seat.now c.loop-made.places.items c.loop-made.notes.items)) c.args.lane c.args.k c.args.claim ns start.held start.loads (here c.args.mailbox.now c.args.lane c.args.k c.args.claim c.loop-made.reader c.args.seat.now c.loop-made.places.items c.loop-made.notes.items start) f);
+      room = start_room c.args.mailbox.now c.args.held.lane c.args.held.cell c.args.held.claim c.loop-made.reader c.args.seat.now c.loop-made.places.items c.loop-made.notes.items start (λ ns f. c.consumers_move_on.ensures.room (holding c.args.held.lane c.args.held.cell c.args.held.claim (consumer_with c.loop-made.reader c.args.seat.now c.loop-made.places.items c.loop-made.notes.items)) c.args.held.lane c.args.held.cell c.args.held.claim ns start.held start.loads (here c.args.mailbox.now c.args.held.lane c.args.held.cell c.args.held.claim c.loop-made.reader c.args.seat.now c.loop-made.places.items c.loop-made.notes.items start) f);
     }
 
 pub returns-in-Undecided : goal.returns-in-Undecided
@@ -189,16 +189,16 @@ returns-in-Undecided g c =
     let start = c.loop-made.invariant.start in
     record {
       pursued = λ from n t m.
-          let so = stepped c.args.mailbox.now c.args.lane c.args.k c.args.claim c.loop-made.reader c.args.seat.now c.loop-made.places.items c.loop-made.notes.items start c.consumers_move_on.ensures.competes c.places_tell_steps.ensures.competes
+          let so = stepped c.args.mailbox.now c.args.held.lane c.args.held.cell c.args.held.claim c.loop-made.reader c.args.seat.now c.loop-made.places.items c.loop-made.notes.items start c.consumers_move_on.ensures.competes c.places_tell_steps.ensures.competes
           (record { cells = c.mailbox.inside.cells; claims = c.mailbox.inside.claims }) c.mailbox.view_is from c.loop-made.made n
           c.next_u64-word.result c.loop-made.claim c.step.new.claim c.loop-made.seat c.step.new.seat t (g.R.Rng.stream c.loop-made.rng) (g.R.Rng.stream c.next_u64-word.new.self)
           c.loop-made.invariant.going (c.loop-made.invariant.competed from n t m) c.step.ensures.step c.loop-made.invariant.own
           c.step.ensures.consumer c.step.ensures.standing c.next_u64-word.ensures in
-          pursued_past (consumer_with c.loop-made.reader c.args.seat.now c.loop-made.places.items c.loop-made.notes.items) c.args.lane c.args.k c.args.claim c.args.most (c.loop-made.made + 1) n c.step.new.claim stage.Undecided Undecided poll.Undecided t (g.R.Rng.stream c.next_u64-word.new.self) from c.step.new.seat
-          c.leave-in-Undecided.new.places.items (lists c.leave-in-Undecided.new.notes.items) (there c.args.mailbox.now c.args.lane c.args.k c.args.claim c.loop-made.reader c.args.seat.now c.loop-made.places.items c.loop-made.notes.items start).0 (there c.args.mailbox.now c.args.lane c.args.k c.args.claim c.loop-made.reader c.args.seat.now c.loop-made.places.items c.loop-made.notes.items start).1 (sym c.step.ensures.stage ∙ c.in-Undecided.is) refl refl tt (λ f. cc) refl
+          pursued_past (consumer_with c.loop-made.reader c.args.seat.now c.loop-made.places.items c.loop-made.notes.items) c.args.held.lane c.args.held.cell c.args.held.claim c.args.most (c.loop-made.made + 1) n c.step.new.claim stage.Undecided Undecided poll.Undecided t (g.R.Rng.stream c.next_u64-word.new.self) from c.step.new.seat
+          c.leave-in-Undecided.new.places.items (lists c.leave-in-Undecided.new.notes.items) (there c.args.mailbox.now c.args.held.lane c.args.held.cell c.args.held.claim c.loop-made.reader c.args.seat.now c.loop-made.places.items c.loop-made.notes.items start).0 (there c.args.mailbox.now c.args.held.lane c.args.held.cell c.args.held.claim c.loop-made.reader c.args.seat.now c.loop-made.places.items c.loop-made.notes.items start).1 (sym c.step.ensures.stage ∙ c.in-Undecided.is) refl refl tt (λ f. cc) refl
           (omega (arith, c.loop-made-test.true)) so c.leave-in-Undecided.ensures.place
-          (lists_grow c.args.lane (Some Undecided) c.loop-made.notes.items c.leave-in-Undecided.new.notes.items c.leave-in-Undecided.ensures.notes);
-      wide = room_grows c.args.lane c.loop-made.reader.table.size.cells (Some Undecided) c.loop-made.notes.items c.leave-in-Undecided.new.notes.items c.leave-in-Undecided.ensures.notes start.wide;
+          (lists_grow c.args.held.lane (Some Undecided) c.loop-made.notes.items c.leave-in-Undecided.new.notes.items c.leave-in-Undecided.ensures.notes);
+      wide = room_grows c.args.held.lane c.loop-made.reader.table.size.cells (Some Undecided) c.loop-made.notes.items c.leave-in-Undecided.new.notes.items c.leave-in-Undecided.ensures.notes start.wide;
     }
 
 pub loop-made-preserved : goal.loop-made-preserved
@@ -211,9 +211,9 @@ loop-made-preserved g c =
       going = sym c.step.ensures.stage ∙ c.in-Going.is;
       table = ap (λ (z : SeatView). z.table) a.adds ∙ inv.table;
       own = c.step.ensures.consumer ∙ inv.own ∙ sym (ap (λ (z : SeatView). z.consumer) a.adds);
-      turns = subst (λ (y : MailboxView). IsClaimIn y.claims.layout c.step.new.claim (part_on c.step.new.seat.consumer c.args.k c.step.new.seat.part)) c.mailbox.view_is c.step.ensures.standing;
+      turns = subst (λ (y : MailboxView). IsClaimIn y.claims.layout c.step.new.claim (part_on c.step.new.seat.consumer c.args.held.cell c.step.new.seat.part)) c.mailbox.view_is c.step.ensures.standing;
       competed = λ from n t m.
-          let so = stepped c.args.mailbox.now c.args.lane c.args.k c.args.claim c.loop-made.reader c.args.seat.now c.loop-made.places.items c.loop-made.notes.items start c.consumers_move_on.ensures.competes c.places_tell_steps.ensures.competes
+          let so = stepped c.args.mailbox.now c.args.held.lane c.args.held.cell c.args.held.claim c.loop-made.reader c.args.seat.now c.loop-made.places.items c.loop-made.notes.items start c.consumers_move_on.ensures.competes c.places_tell_steps.ensures.competes
           (record { cells = c.mailbox.inside.cells; claims = c.mailbox.inside.claims }) c.mailbox.view_is from c.loop-made.made n
           c.next_u64-word.result c.loop-made.claim c.step.new.claim c.loop-made.seat c.step.new.seat t (g.R.Rng.stream c.loop-made.rng) (g.R.Rng.stream c.next_u64-word.new.self)
           c.loop-made.invariant.going (c.loop-made.invariant.competed from n t m) c.step.ensures.step c.loop-made.invariant.own
@@ -231,7 +231,7 @@ returns g c =
     let all : c.loop-made.made ≡ c.args.most = omega (arith, c.loop-made-test.false, c.loop-made.auto.made-end) in
     record {
       pursued = λ from n t m.
-          pursued_spent (consumer_with c.loop-made.reader c.args.seat.now c.loop-made.places.items c.loop-made.notes.items) c.args.lane c.args.k c.args.claim c.args.most n c.loop-made.claim stage.Going t (g.R.Rng.stream c.loop-made.rng) from c.loop-made.seat c.stay-2.new.places.items c.loop-made.invariant.going
-          refl refl refl (subst (λ z. HasCompeted c.args.lane c.args.k (z + n) c.loop-made.claim t (g.R.Rng.stream c.loop-made.rng) from (holding c.args.lane c.args.k c.args.claim (consumer_with c.loop-made.reader c.args.seat.now c.loop-made.places.items c.loop-made.notes.items)) c.loop-made.seat) all (c.loop-made.invariant.competed from n t m)) c.stay-2.ensures;
+          pursued_spent (consumer_with c.loop-made.reader c.args.seat.now c.loop-made.places.items c.loop-made.notes.items) c.args.held.lane c.args.held.cell c.args.held.claim c.args.most n c.loop-made.claim stage.Going t (g.R.Rng.stream c.loop-made.rng) from c.loop-made.seat c.stay-2.new.places.items c.loop-made.invariant.going
+          refl refl refl (subst (λ z. HasCompeted c.args.held.lane c.args.held.cell (z + n) c.loop-made.claim t (g.R.Rng.stream c.loop-made.rng) from (holding c.args.held.lane c.args.held.cell c.args.held.claim (consumer_with c.loop-made.reader c.args.seat.now c.loop-made.places.items c.loop-made.notes.items)) c.loop-made.seat) all (c.loop-made.invariant.competed from n t m)) c.stay-2.ensures;
       wide = start.wide;
     }

@@ -10,14 +10,14 @@ use Rattle.mb_mailbox.proofs.consumer.pursuing.pursue.Given as goal
 
 abbrev pub invariant-loop-made : goal.invariant-loop-made
 invariant-loop-made g l = record {
-  start : Start l.mailbox l.lane l.k l.initial.claim l.reader l.initial.seat l.places.items l.notes.items;
+  start : Start l.mailbox l.fn.held.lane l.fn.held.cell l.fn.held.claim l.reader l.initial.seat l.places.items l.notes.items;
   going : claim_stage l.claim ≡ stage.Going;
   table : l.seat.table ≡ name_of l.mailbox.claims;
   own : consumer_of l.claim ≡ l.seat.consumer;
-  turns : IsClaimIn l.mailbox.claims.layout l.claim (part_on l.seat.consumer l.k l.seat.part);
+  turns : IsClaimIn l.mailbox.claims.layout l.claim (part_on l.seat.consumer l.fn.held.cell l.seat.part);
   competed : (from : ConsumerView) (n : ℕ) (t : Stream)
-      → AreSteps l.lane n None t (g.R.Rng.stream l.initial.rng) from
-      (holding l.lane l.k l.initial.claim (consumer_with l.initial.reader l.initial.seat l.initial.places.items l.initial.notes.items))
-      → HasCompeted l.lane l.k (l.made + n) l.claim t (g.R.Rng.stream l.rng) from
-      (holding l.lane l.k l.initial.claim (consumer_with l.reader l.initial.seat l.places.items l.notes.items)) l.seat;
+      → AreSteps l.fn.held.lane n None t (g.R.Rng.stream l.initial.rng) from
+      (holding l.fn.held.lane l.fn.held.cell l.fn.held.claim (consumer_with l.initial.reader l.initial.seat l.initial.places.items l.initial.notes.items))
+      → HasCompeted l.fn.held.lane l.fn.held.cell (l.made + n) l.claim t (g.R.Rng.stream l.rng) from
+      (holding l.fn.held.lane l.fn.held.cell l.fn.held.claim (consumer_with l.reader l.initial.seat l.places.items l.notes.items)) l.seat;
 }

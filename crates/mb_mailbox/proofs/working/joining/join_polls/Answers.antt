@@ -1,4 +1,4 @@
-use Rattle.std.proofs.Common.{arith, rules}
+use Rattle.std.proofs.Common.{arith}
 use Rattle.std.proofs.lemmas.Grind.{common_steps}
 use Rattle.mb_mailbox.specs.Begun.{PollKeeps}
 use Rattle.mb_mailbox.proofs.Zips.{next_seen, zip_more}
@@ -10,5 +10,5 @@ loop-one-preserved g c = record {
   left = grind (arith, common_steps);
   room = grind (arith, common_steps);
   kept = rw c.push_reserved.ensures.items
-      (zip_more PollKeeps c.loop-one.yielded c.loop-one.done.items c.in-Some.one c.poll_end.result c.loop-one.invariant.kept c.poll_end.ensures);
+      (zip_more (PollKeeps g.G.Gate.may_stop) c.loop-one.yielded c.loop-one.done.items c.in-Some.one c.poll_end.result c.loop-one.invariant.kept c.poll_end.ensures);
 }

@@ -1,4 +1,4 @@
-use Rattle.std.proofs.Common.{arith, rules}
+use Rattle.std.proofs.Common.{arith}
 use Rattle.std.proofs.lemmas.Grind.{common_steps}
 use Rattle.mb_mailbox.specs.Begun.{PutKeeps}
 use Rattle.mb_mailbox.proofs.Zips.{next_seen, zip_more}
@@ -10,5 +10,5 @@ loop-one-preserved g c = record {
   left = grind (arith, common_steps);
   room = grind (arith, common_steps);
   kept = rw c.push_reserved.ensures.items
-      (zip_more PutKeeps c.loop-one.yielded c.loop-one.done.items c.in-Some.one c.put_end.result c.loop-one.invariant.kept c.put_end.ensures);
+      (zip_more (PutKeeps g.G.Gate.may_stop) c.loop-one.yielded c.loop-one.done.items c.in-Some.one c.put_end.result c.loop-one.invariant.kept c.put_end.ensures);
 }

@@ -1,6 +1,7 @@
-use Rattle.std.proofs.Common.{◌≡◌, ◌++◌, map, false}
+use Rattle.std.proofs.Common.{◌≡◌, ◌++◌, ◌-◌, ◌^◌, map, min}
+use Rattle.std.specs.Int.{from_bool}
 use Rattle.std.specs.Vec.Iter.{into_iter_items}
-use Rattle.std.specs.List.{All}
+use Rattle.std.specs.List.{All, sum_by}
 use Rattle.mb_mailbox.specs.Consumers.{IsConsumerOf}
 use Rattle.mb_mailbox.specs.Hubs.{IsHubOf}
 use Rattle.mb_mailbox.specs.HubRuns.{with_taken_consumers}
@@ -10,7 +11,7 @@ abbrev pub invariant-loop-end : goal.invariant-loop-end
 invariant-loop-end g l = record {
   rest : l.yielded ++ into_iter_items l.end-iterator ≡ l.fn.ends.items;
   to_take : All (λ d. IsConsumerOf l.mailbox d.consumer) (into_iter_items l.end-iterator);
-  stopped : l.stopped ≡ 0 → All (λ d. d.stopped ≡ false) l.yielded;
+  stopped : l.stopped ≡ min (2 ^ 64 - 1) (sum_by (λ d. from_bool d.stopped) l.yielded);
   hub : l.hub ≡ with_taken_consumers (map (λ d. d.consumer) l.yielded) l.fn.hub;
   all_of : IsHubOf l.mailbox l.hub;
 }

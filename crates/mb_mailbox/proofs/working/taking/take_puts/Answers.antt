@@ -1,9 +1,9 @@
-use Rattle.std.proofs.Common.{◌≡◌, ◌^◌, ◌-◌, arith, false, subst, sym, ◌∙◌}
+use Rattle.std.proofs.Common.{ℕ, ◌^◌, ◌+◌, ◌-◌, ap, min, subst, ◌∙◌}
+use Rattle.std.specs.Int.{from_bool}
 use Rattle.std.specs.List.{All}
-use Rattle.std.proofs.lemmas.Grind.{common_steps}
-use Rattle.std.proofs.lemmas.List.Elements.{All-head, All-push, All-rest}
+use Rattle.std.proofs.lemmas.List.Elements.{All-head, All-rest}
 use Rattle.mb_mailbox.specs.Producers.{IsProducerOf}
-use Rattle.mb_mailbox.proofs.Loops.{full_more, going, no_count, took_producer_more}
+use Rattle.mb_mailbox.proofs.Loops.{full_more, took_producer_more}
 use Rattle.mb_mailbox.proofs.Zips.{next_seen}
 use Rattle.mb_mailbox.proofs.working.taking.take_puts.Goals as goal
 
@@ -17,10 +17,8 @@ loop-end-preserved g c = record {
   rest = next_seen _ _ _ _ _ c.loop-end.invariant.rest c.in-Some.ensures.steps.0;
   to_take = All-rest (λ d. IsProducerOf c.args.mailbox.now d.producer) c.in-Some.end _ _ c.in-Some.ensures.steps.0 c.loop-end.invariant.to_take;
   full = full_more (λ d. d.full) (2 ^ 64 - 1) _ _ c.loop-end.yielded c.in-Some.end c.loop-end.invariant.full c.saturating_add-full.ensures;
-  stopped = λ z.
-      let t = no_count 18446744073709551615 c.loop-end.stopped c.from.result c.saturating_add-stopped.result c.saturating_add-stopped.ensures (omega arith) z in
-      All-push (λ d. d.stopped ≡ false) c.loop-end.yielded c.in-Some.end (c.loop-end.invariant.stopped t.0)
-      (going c.in-Some.end.stopped (sym c.from.ensures ∙ t.1));
+  stopped = full_more (λ d. from_bool d.stopped) (2 ^ 64 - 1) _ _ c.loop-end.yielded c.in-Some.end c.loop-end.invariant.stopped
+      (c.saturating_add-stopped.ensures ∙ ap (λ (n : ℕ). min (c.loop-end.stopped + n) (2 ^ 64 - 1)) c.from.ensures);
   hub = took_producer_more (λ d. d.producer) c.args.hub.now c.loop-end.yielded c.in-Some.end _ _ c.loop-end.invariant.hub c.take_producer.ensures.hub;
   all_of = c.take_producer.ensures.of;
 }

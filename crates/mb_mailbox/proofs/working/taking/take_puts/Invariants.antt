@@ -1,4 +1,5 @@
-use Rattle.std.proofs.Common.{◌≡◌, ◌++◌, ◌-◌, ◌^◌, map, min, false}
+use Rattle.std.proofs.Common.{◌≡◌, ◌++◌, ◌-◌, ◌^◌, map, min}
+use Rattle.std.specs.Int.{from_bool}
 use Rattle.std.specs.Vec.Iter.{into_iter_items}
 use Rattle.std.specs.List.{All, sum_by}
 use Rattle.mb_mailbox.specs.Hubs.{IsHubOf}
@@ -11,7 +12,7 @@ invariant-loop-end g l = record {
   rest : l.yielded ++ into_iter_items l.end-iterator ≡ l.fn.ends.items;
   to_take : All (λ d. IsProducerOf l.mailbox d.producer) (into_iter_items l.end-iterator);
   full : l.full ≡ min (2 ^ 64 - 1) (sum_by (λ d. d.full) l.yielded);
-  stopped : l.stopped ≡ 0 → All (λ d. d.stopped ≡ false) l.yielded;
+  stopped : l.stopped ≡ min (2 ^ 64 - 1) (sum_by (λ d. from_bool d.stopped) l.yielded);
   hub : l.hub ≡ with_taken_producers (map (λ d. d.producer) l.yielded) l.fn.hub;
   all_of : IsHubOf l.mailbox l.hub;
 }

@@ -1,8 +1,9 @@
-use Rattle.std.proofs.Common.{◌≡◌, ◌≢◌, ◌⊎◌, ℕ, Bool, List, true, false, ⊎_elim, ap, arith, subst, sym, ◌∙◌}
+use Rattle.std.proofs.Common.{◌≡◌, ◌≢◌, ℕ, Bool, List, true, false, ⊎_elim, ap, arith, subst, sym}
 use Rattle.std.specs.Prelude.{slice_index_or}
 use Rattle.mb_mailbox.specs.Jobs.{HasReadToEnd}
 use Rattle.mb_mailbox.specs.Steps.{outcome}
 use Rattle.mb_mailbox.specs.declared.consumer.Poll.TheVariants as poll
+use Rattle.mb_mailbox.proofs.Endings.{made_by}
 use Rattle.mb_mailbox.proofs.Marks.{apart, marked}
 use Rattle.mb_mailbox.proofs.working.workers.poll_lane.Goals as goal
 
@@ -25,3 +26,13 @@ returns-in_default-clause-read g c = λ p e.
     let there : c.poll-poll.result ≢ poll.NoLane = λ z. (let far = c.poll-poll.ensures.no_lane.0 z in omega (arith, far, c.requires.few.0)) in
     c.ends_are_kept.ensures.kept c.args.lane p c.args.budget c.poll-poll.result _ _ c.args.consumer.now c.poll-poll.new.self
     (c.poll-poll.ensures.polled there) (apart c.args.ended.now c.args.lane p c.requires.unmarked e) (c.requires.read p e)
+
+pub returns-in-Ended-clause-made : goal.returns-in-Ended-clause-made
+returns-in-Ended-clause-made g c =
+    let there : c.poll-poll.result ≢ poll.NoLane = λ z. (let far = c.poll-poll.ensures.no_lane.0 z in omega (arith, far, c.requires.few.0)) in
+    made_by c.args.lane c.args.budget c.poll-poll.result _ _ c.args.consumer.now c.poll-poll.new.self c.requires.able (c.poll-poll.ensures.polled there)
+
+pub returns-in_default-clause-made : goal.returns-in_default-clause-made
+returns-in_default-clause-made g c =
+    let there : c.poll-poll.result ≢ poll.NoLane = λ z. (let far = c.poll-poll.ensures.no_lane.0 z in omega (arith, far, c.requires.few.0)) in
+    made_by c.args.lane c.args.budget c.poll-poll.result _ _ c.args.consumer.now c.poll-poll.new.self c.requires.able (c.poll-poll.ensures.polled there)

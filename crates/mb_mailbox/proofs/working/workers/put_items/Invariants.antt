@@ -1,5 +1,5 @@
 use Rattle.std.proofs.Common.{◌≡◌, false, take}
-use Rattle.mb_mailbox.specs.Producers.{IsProducerOf, IsSameLane, is_over}
+use Rattle.mb_mailbox.specs.Producers.{FoundNoCell, IsProducerOf, IsSameLane, is_over}
 use Rattle.mb_mailbox.proofs.working.workers.put_items.Given as goal
 
 abbrev pub invariant-loop-i : goal.invariant-loop-i
@@ -8,4 +8,5 @@ invariant-loop-i g l = record {
   items : l.producer.items ≡ take l.i l.items;
   lane : IsSameLane l.initial.producer l.producer;
   begun : is_over l.producer ≡ false;
+  had_cells : FoundNoCell l.producer → FoundNoCell l.initial.producer;
 }

@@ -1,7 +1,7 @@
-use Rattle.std.proofs.Common.{◌≡◌, ◌≢◌, ◌+◌, ◌≤◌, ℕ, List, ap, arith, false, length, length-take, subst, sym, take, ◌∙◌}
-use Rattle.mb_mailbox.specs.Jobs.{IsFront}
-use Rattle.mb_mailbox.specs.Producers.{FoundNoCell}
-use Rattle.mb_mailbox.proofs.PutEnds.{found_still, front_take}
+use Rattle.std.proofs.Common.{◌≡◌, ◌<◌, ◌≤◌, ℕ, suc, List, ap, arith, length, length-take, subst, sym, take, ◌∙◌}
+use Rattle.mb_mailbox.specs.Jobs.{IsFront, IsStopBefore}
+use Rattle.mb_mailbox.specs.declared.gate.Who.TheVariants as who
+use Rattle.mb_mailbox.proofs.PutEnds.{found_before, found_still, front_take}
 use Rattle.mb_mailbox.proofs.working.workers.put_list.Goals as goal
 use Rattle.mb_mailbox.proofs.working.workers.put_list.Goals.{then-stopped, else-stopped}
 
@@ -13,6 +13,7 @@ returns g c =
     c.finish.ensures.items ∙ c.put_items-linked.ensures.items ∙ ap (take n) c.deref.ensures.value in
     let low : n ≤ length list = rw c.deref.ensures.value at c.put_items-linked.ensures.linked in
     let found = c.put_items-linked.ensures.found in
+    let count : n ≡ length c.finish.new.self.items = rw items (rw length-take (omega (arith, low))) in
     record {
       same = record {
         table = c.finish.ensures.lane.table ∙ c.put_items-linked.ensures.lane.table;
@@ -26,4 +27,14 @@ returns g c =
         | else-stopped w ↦ found_still c.finish.result c.put_items-linked.new.producer c.finish.new.self c.finish.ensures.ended c.finish.ensures.closed_same
             c.finish.ensures.never_busy (found h (λ z. some (omega (arith, c.args.job.list.ok.0, w.full-is, w.len.ensures, z, ap length c.deref.ensures.value))))
       ];
+      none = λ t. elim c.if-stopped.branch [ then-stopped w ↦ cc | else-stopped w ↦ absurd (cc) ];
+      short = λ t o.
+          let few : n < length list = rw c.deref.ensures.value at c.put_items-linked.ensures.stopped t in
+          subst (λ (k : ℕ). k < length list) count few;
+      had_cells = λ t o none.
+          c.put_items-linked.ensures.had_cells t
+          (found_before c.finish.result c.put_items-linked.new.producer c.finish.new.self c.finish.ensures.ended c.finish.ensures.closed_same c.finish.ensures.never_busy none);
+      stop = λ t o.
+          subst (λ (k : ℕ). IsStopBefore (g.G.Gate.may_stop c.args.gate.now) (who.Producer c.args.job.producer.seat.lane) (suc k)) count
+          (c.put_items-linked.ensures.stop t o);
     }

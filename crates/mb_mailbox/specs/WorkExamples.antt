@@ -1,0 +1,48 @@
+-- A producer in a pool of one lane and one cell, and what workers leave, by example.
+use Rattle.std.specs.Prelude.{ℕ, List, Some, [], ◌∷◌, false, true}
+use Rattle.mb_cells.specs.Vocabulary.{fetch, new_lane, pool_size, store}
+use Rattle.mb_cells.specs.declared.lane.Lane.{Lane}
+use Rattle.mb_cells.specs.declared.lane.LaneStage.TheVariants as stage
+use Rattle.mb_mailbox.specs.Below.{CellsName, Head, History, Item, Note}
+use Rattle.mb_mailbox.specs.Hubs.{LedgerView}
+use Rattle.mb_mailbox.specs.Producers.{ProducerView}
+use Rattle.mb_mailbox.specs.Worked.{LaneLeft}
+
+-- the producer of lane 0, which stands at this place, has done this and put these items
+abbrev pub producer_of_one : CellsName → Lane → History → List ℕ → ProducerView
+producer_of_one name place done items = record {
+  seat = record { table = record name { size = pool_size 1 1 }; lane = 0; place = place; part = done };
+  items = items;
+}
+
+-- it has done nothing
+abbrev pub idle_producer : CellsName → ProducerView
+idle_producer name = producer_of_one name new_lane [] []
+
+-- the place of a producer that has linked cell 0
+abbrev pub has_linked : Lane
+has_linked = record { last = Some 0; stage = stage.Open }
+
+-- a fetch-add for this item, which found this number
+abbrev pub fetched : ℕ → ℕ → History
+fetched n x = fetch 0 (record { cell = n; value = x }) ∷ []
+
+-- 7 is put into cell 0
+abbrev pub seven_put : History
+seven_put = store 0 (Head 0) 1 ∷ store 0 (Item 0) 7 ∷ fetched 0 7
+
+-- the cell is linked before its item is stored
+abbrev pub linked_early : History
+linked_early = store 0 (Item 0) 7 ∷ store 0 (Head 0) 1 ∷ fetched 0 7
+
+-- what the producer of a lane left that was not stopped: these items, and what it did
+abbrev pub lane_left : List ℕ → History → LaneLeft
+lane_left items done = record { put = items; part = done; stopped = false }
+
+-- what one left that was stopped
+abbrev pub stopped_lane : List ℕ → History → LaneLeft
+stopped_lane items done = record { put = items; part = done; stopped = true }
+
+-- a ledger with these notes on lane 0
+abbrev pub ledger_with : List Note → LedgerView
+ledger_with notes = record { places = []; notes = notes ∷ [] }
