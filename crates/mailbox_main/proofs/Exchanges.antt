@@ -8,9 +8,9 @@ use Rattle.mailbox_main.specs.declared.fault.RatifyFault.TheVariants.{TooLong, N
 use Rattle.mb_script.specs.declared.transfer.ReadEnd.{ReadEnd}
 use Rattle.mb_script.specs.declared.transfer.ReadEnd.TheVariants as end
 use Rattle.mb_script.specs.declared.transfer.TheConstants.{MAX_SCRIPT_LEN}
-use Rattle.mb_script.specs.Vocabulary.{ConsumesCount, ConsumesUpTo, Had, IsExchange, Meter, one_more}
+use Rattle.mb_script.specs.Vocabulary.{AppendsFront, ConsumesCount, ConsumesUpTo, Had, IsExchange, Meter, one_more}
 use Rattle.mailbox_main.specs.Refusal.{fault_at}
-use Rattle.mailbox_main.specs.Answer.{fault_of, ratifying}
+use Rattle.mailbox_main.specs.Answer.{IsAnswer, fault_of, ratifying}
 use Rattle.mailbox_main.proofs.LongScripts.{only_long, too_long}
 
 -- where one byte past the limit was read, the fault is TooLong
@@ -116,5 +116,29 @@ refused_script source sink reader reader' writer r e bytes is taken none short w
       too_long = λ is. let same : e ≡ TooLong = cc in
           absurd (omega (arith, short, only_long bytes (subst (λ f. fault_of bytes ≡ Some f) same (first (λ o. let both : TooLong ≡ NoMemory = sym same ∙ o in cc)))));
       stopped = λ is. absurd (no_read (cc));
+      bound = (bytes, omega (arith, short), taken);
+    })
+
+-- ---- where a write failed
+pub cut_short : {X R W : Type 0} (source : Meter R) (sink : Meter W) (reader reader' : R) (writer writer' : W)
+    (r : Result X RatifyFault) (bytes text : List ℕ) → IsErrAnd r (λ f. f ≡ WriteFault)
+    → Consumes (source.bytes reader) (source.bytes reader') bytes → IsAtEnd (source.bytes reader')
+    → length bytes ≤ MAX_SCRIPT_LEN → source.failures reader' ≡ source.failures reader → IsAnswer bytes text
+    → AppendsFront (sink.bytes writer) (sink.bytes writer') text
+    → sink.failures writer' ≡ one_more (sink.failures writer)
+    → IsExchange ratifying source sink reader reader' writer writer' r
+cut_short source sink reader reader' writer writer' r bytes text is taken none short worked answered front failed =
+    from_err (λ r. IsExchange ratifying source sink reader reader' writer writer' r) r WriteFault is (record {
+      answered = tt;
+      fault = λ lies. absurd (lies.2 refl);
+      read_failed = λ is. absurd (cc);
+      read_worked = λ _. worked;
+      write_failed = λ _. failed;
+      write_worked = λ other. absurd (other refl);
+      front = λ _. (bytes, text, all_had _ _ bytes taken none, answered, front);
+      untouched = λ other. absurd (other refl);
+      whole = λ _ _ _. none;
+      too_long = λ is. absurd (cc);
+      stopped = λ is. absurd (cc);
       bound = (bytes, omega (arith, short), taken);
     })

@@ -4,6 +4,8 @@ pub mod LongScripts
 pub mod NumbersGiven
 pub mod RunEnds
 pub mod RunItems
+pub mod RunLanes
+pub mod RunNotes
 pub mod RunReports
 pub mod RunSetups
 pub mod ScriptSpelling

@@ -4,6 +4,7 @@ pub mod RunOptions
 pub mod Running
 pub mod Source
 pub mod Outcome
+pub mod Program
 pub mod RatifyScript
 pub mod Refusal
 pub mod Spelling

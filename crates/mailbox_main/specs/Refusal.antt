@@ -2,7 +2,8 @@
 use Rattle.mb_deciding.specs.declared.trace.Fault.{Fault}
 use Rattle.mb_deciding.specs.declared.trace.Fault.TheVariants as ratify
 use Rattle.mailbox_main.specs.declared.fault.RatifyFault.{RatifyFault}
-use Rattle.mailbox_main.specs.declared.fault.RatifyFault.TheVariants.{TooLong, BadValues, BadInput, NoSuchProcess, NoMemory, ReadFault}
+use Rattle.mailbox_main.specs.declared.fault.RatifyFault.TheVariants.{TooLong, BadValues, BadInput}
+use Rattle.mailbox_main.specs.declared.fault.RatifyFault.TheVariants.{NoSuchProcess, NoMemory, ReadFault}
 use Rattle.mb_script.specs.declared.transfer.ReadEnd.{ReadEnd}
 use Rattle.mb_script.specs.declared.transfer.ReadEnd.TheVariants as end
 

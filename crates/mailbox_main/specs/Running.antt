@@ -1,16 +1,18 @@
 -- What the command `run` answers.
-use Rattle.std.specs.Prelude.{◌≡◌, ◌≢◌, ◌<◌, ◌≤◌, ◌↔◌, ◌+◌, ◌*◌, ◌++◌, ℕ, List, Option, Some, Result, Err, IfErr, OnOk, map, slice_get, true}
+use Rattle.std.specs.Prelude.{◌≡◌, ◌≢◌, ◌<◌, ◌≤◌, ◌⊎◌, ◌↔◌, ◌+◌, ◌-◌, ◌*◌, ◌^◌, ℕ, List, Option}
+use Rattle.std.specs.Prelude.{Some, Result, Err, IfErr, OnOk, length, map, slice_get, true}
 use Rattle.std.specs.List.{range_with_len}
 use Rattle.std.specs.Io.KnownBytes.{Appends}
 use Rattle.mb_quorum.specs.declared.table.TableName.TheVariants.{Bits}
 use Rattle.mb_world.specs.declared.setup.SetupFault.{SetupFault}
 use Rattle.mb_world.specs.Headline.{IsHonest}
 use Rattle.mb_world.specs.Plan.{Histories, Plan}
-use Rattle.mb_world.specs.Report.{LaneView, ReportView}
+use Rattle.mb_world.specs.Report.{LaneView, ReportView, notes}
 use Rattle.mb_world.specs.Reporting.{IsReportOf}
 use Rattle.mb_world.specs.Setups.{plan_of, setup_refusal}
 use Rattle.mb_world.specs.Sound.{AreSound}
 use Rattle.mb_script.specs.Vocabulary.{AppendsFront, Meter, one_more, report_text}
+use Rattle.mb_mailbox.specs.Below.{Reader, consumer_part, part}
 use Rattle.mailbox_main.specs.declared.fault.RunFault.{RunFault}
 use Rattle.mailbox_main.specs.declared.fault.RunFault.TheVariants.{BadSetup, WriteFault}
 use Rattle.mailbox_main.specs.declared.options.Options.{Options}
@@ -39,24 +41,31 @@ abbrev pub item_lists : ℕ → ℕ → List (List ℕ)
 item_lists producers count = map (λ p. items_of p count) (range_with_len 0 producers)
 
 -- ---- the report
--- lane p has ended, and begins as the items of producer p do
+-- lane p has ended, and all items of producer p are put on it
 pub record IsLaneOf (p count : ℕ) (l : LaneView) : Type 0 where
   pub ended : l.ended ≡ true
-  pub rest : List ℕ
-  pub whole : l.put ++ rest ≡ items_of p count
+  pub whole : l.put ≡ items_of p count
 
--- the report of a mailbox of these options in which all have worked
+-- how many accesses consumer c has made, to the words of the cells and to those of the claims
+abbrev pub accesses_by : ℕ → Histories → ℕ
+accesses_by c hs = length (part (Reader (hs.reader_of c)) hs.pool) + length (consumer_part c hs.claims)
+
+-- the report of a mailbox of these options, in which each producer has put all its items
 pub record IsRunReport (o : Options) (r : ReportView) : Type 0 where
   -- all accesses to the words of the claims, and all to those of the cells: they are lawful, and each consumer's
-  -- parts fit
+  -- parts fit. Consumer c is reader c
   pub histories : Histories
+  pub reader : (c : ℕ) → histories.reader_of c ≡ c
   pub sound : AreSound (plan_asked o) histories
   -- the report is theirs, and one assignment stands behind it
   pub report : IsReportOf (plan_asked o) histories r
   pub honest : IsHonest (plan_asked o) histories r
-  -- each producer has put its items, or a beginning of them, and nothing else
+  -- each producer has put its items, and nothing else
   pub lanes : (p : ℕ) → p < o.producers
       → (l : LaneView) × (slice_get r.lanes p ≡ Some l) × IsLaneOf p o.items l
+  -- each consumer has a note at each item of each lane, or has made 2^64 - 2 accesses
+  pub noted : (c p : ℕ) → c < o.consumers → p < o.producers
+      → (length (notes c p r) ≡ o.items) ⊎ (2 ^ 64 - 2 ≤ accesses_by c histories)
 
 -- the text is that of such a report
 abbrev pub IsRunText : Options → List ℕ → Type 0

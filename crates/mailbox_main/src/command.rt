@@ -1,6 +1,5 @@
 //! The command line.
-ghost use Rattle.std.specs.Prelude.{◌≡◌, true, [], ◌∷◌, List, ℕ, Some, IfOk, IfErr, IfSome, OnOk, map, option_map};
-ghost use Rattle.std.specs.Prelude.{IsSome};
+ghost use Rattle.std.specs.Prelude.{◌≡◌, true, [], ◌∷◌, List, ℕ, Some, IfOk, IfErr, IfSome, OnOk, IsSome, map};
 ghost use Rattle.clap.specs.Words.{app_of, fault_of, kind_of, subcommand_name_of, subcommand_rows_of, takes};
 ghost use Rattle.mailbox_main.specs.CommandLine.{program, program_alone, command_in, choice_name};
 ghost use Rattle.mailbox_main.specs.RunOptions.{HasBudget, HasOptions, HasToldOptions};

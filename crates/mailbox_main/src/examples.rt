@@ -1,6 +1,6 @@
 //! The definitions by example: what they let in, and what only looks so. The functions compute nothing: their contracts
 //! are the examples. Those that are not proved by their contract alone have their proofs in `proofs/examples`.
-ghost use Rattle.std.specs.Prelude.{◌≡◌, ℕ, ◌-◌, ◌^◌, true, false, List, [], ◌∷◌, codes, Some, None, Err};
+ghost use Rattle.std.specs.Prelude.{◌≡◌, ℕ, ◌-◌, ◌^◌, true, false, [], ◌∷◌, codes, Some, None, Err};
 ghost use Rattle.clap.specs.Words.{takes};
 ghost use Rattle.mb_quorum.specs.declared.table.TableName.TheVariants.{Unary};
 ghost use Rattle.mailbox_main.specs.declared.fault.RatifyFault.TheVariants.{TooLong, BadLine, NoMemory, ReadFault};
@@ -8,9 +8,17 @@ ghost use Rattle.mailbox_main.specs.declared.fault.RatifyFault.TheVariants.{Writ
 ghost use Rattle.mb_script.specs.declared.transfer.TheConstants.{MAX_SCRIPT_LEN};
 ghost use Rattle.mailbox_main.specs.Answer.{IsAnswer, ratifying};
 ghost use Rattle.mailbox_main.specs.CommandLine.{program, command_in};
-ghost use Rattle.mb_script.specs.Vocabulary.{AppendsFront, ConsumesCount, ConsumesUpTo, Had, LiesIn};
+ghost use Rattle.mb_script.specs.Vocabulary.{AppendsFront, ConsumesCount, ConsumesUpTo, CountGrowsUpTo, Had, LiesIn};
 ghost use Rattle.mailbox_main.specs.Spelling.{HasSpelling};
 ghost use Rattle.mailbox_main.specs.Steps.{Gives};
+ghost use Rattle.std.specs.Prelude.{replicate, ◌++◌};
+ghost use Rattle.mb_world.specs.declared.setup.SetupFault.TheVariants.{BadCells, BadConsumers};
+ghost use Rattle.mailbox_main.specs.declared.command.Choice.TheVariants.{Run};
+ghost use Rattle.mailbox_main.specs.declared.options.Options.{Options};
+ghost use Rattle.mailbox_main.specs.declared.options.TheConstants.{MAX_BUDGET};
+ghost use Rattle.mailbox_main.specs.RunOptions.{HasBudget, HasToldOptions};
+ghost use Rattle.mailbox_main.specs.Running.{IsLaneOf, items_of, setup_refused};
+ghost use Rattle.mailbox_main.specs.Source.{seed_bytes, source_from};
 
 /// A writer gets a prefix of the text behind what it had, and nothing else.
 pub fn writers_get_a_prefix()
@@ -28,6 +36,16 @@ pub fn readers_lose_their_front()
     ensures other_end { ConsumesUpTo 2 (Some (codes "abc")) (Some (codes "b")) → ⊥ }
     ensures had { Had (Some (codes "ab")) (codes "ab") }
     ensures had_more { Had (Some (codes "ab")) (codes "a") → ⊥ }
+{}
+
+/// A count modulo 2^64 grows by what is added, and by no more than so many.
+pub fn counts_grow()
+    ensures two { CountGrowsUpTo 2 5 7 }
+    ensures none { CountGrowsUpTo 2 5 5 }
+    ensures three { CountGrowsUpTo 2 5 8 → ⊥ }
+    ensures back { CountGrowsUpTo 2 7 5 → ⊥ }
+    ensures past_the_last { CountGrowsUpTo 2 (2 ^ 64 - 1) 1 }
+    ensures too_far_past { CountGrowsUpTo 2 (2 ^ 64 - 1) 2 → ⊥ }
 {}
 
 /// A script of numbers that are too large has no spelling.
@@ -75,4 +93,43 @@ pub fn one_command_is_named()
     ensures taken { takes program (codes "mailbox" ∷ codes "ratify" ∷ []) ≡ true }
     ensures required { takes program (codes "mailbox" ∷ []) ≡ false }
     ensures no_more { takes program (codes "mailbox" ∷ codes "ratify" ∷ codes "now" ∷ []) ≡ false }
+{}
+
+/// The options that the words of `run` give, and the defaults of the others.
+pub fn options_are_told()
+    ensures limit { MAX_BUDGET ≡ 1000000 }
+    ensures defaults { HasToldOptions (codes "mailbox" ∷ codes "run" ∷ [])
+        (Run (record { producers = 2; consumers = 2; items = 8; pairs = 4; budget = 64; seed = 0 })) }
+    ensures other_budget { HasToldOptions (codes "mailbox" ∷ codes "run" ∷ [])
+        (Run (record { producers = 2; consumers = 2; items = 8; pairs = 4; budget = 65; seed = 0 })) → ⊥ }
+    ensures given { HasToldOptions (codes "mailbox" ∷ codes "run" ∷ codes "--items" ∷ codes "3" ∷ [])
+        (Run (record { producers = 2; consumers = 2; items = 3; pairs = 4; budget = 64; seed = 0 })) }
+    ensures passed_over { HasToldOptions (codes "mailbox" ∷ codes "run" ∷ codes "--items" ∷ codes "3" ∷ [])
+        (Run (record { producers = 2; consumers = 2; items = 8; pairs = 4; budget = 64; seed = 0 })) → ⊥ }
+    ensures no_budget { HasBudget
+        (Run (record { producers = 2; consumers = 2; items = 8; pairs = 4; budget = 0; seed = 0 })) → ⊥ }
+{}
+
+/// What the options ask for, and how a lane of a run ends.
+pub fn lanes_have_their_lists()
+    ensures items { items_of 1 3 ≡ 1000 ∷ 1001 ∷ 1002 ∷ [] }
+    ensures cells { setup_refused
+        (record { producers = 16; consumers = 2; items = 2 ^ 60; pairs = 4; budget = 64; seed = 0 }) ≡ Some BadCells }
+    ensures consumers { setup_refused
+        (record { producers = 2; consumers = 0; items = 2 ^ 63; pairs = 4; budget = 64; seed = 0 }) ≡ Some BadConsumers }
+    ensures none { setup_refused
+        (record { producers = 2; consumers = 2; items = 8; pairs = 4; budget = 64; seed = 0 }) ≡ None }
+    ensures whole { IsLaneOf 0 2 (record { put = 0 ∷ 1 ∷ []; ended = true; left = [] }) }
+    ensures begun { IsLaneOf 0 2 (record { put = 0 ∷ []; ended = true; left = [] }) → ⊥ }
+    ensures empty { IsLaneOf 0 2 (record { put = []; ended = true; left = [] }) → ⊥ }
+    ensures other_order { IsLaneOf 0 2 (record { put = 1 ∷ 0 ∷ []; ended = true; left = [] }) → ⊥ }
+    ensures too_many { IsLaneOf 0 2 (record { put = 0 ∷ 1 ∷ 2 ∷ []; ended = true; left = [] }) → ⊥ }
+    ensures open { IsLaneOf 0 2 (record { put = 0 ∷ 1 ∷ []; ended = false; left = [] }) → ⊥ }
+{}
+
+/// The bytes of a seed, and the stream of a consumer.
+pub fn sources_have_their_seeds()
+    ensures low_first { seed_bytes 258 ≡ 2 ∷ 1 ∷ replicate 30 0 }
+    ensures high_first { seed_bytes 258 ≡ replicate 6 0 ++ 1 ∷ 2 ∷ replicate 24 0 → ⊥ }
+    ensures stream { (source_from 258 3).stream ≡ 3 }
 {}

@@ -49,7 +49,7 @@ lanes in turn until all have ended. All threads go on at once, so who takes what
 a cell for each item, and 256 cells at most. The report has for each lane two lines, for each consumer and lane one:
   lane <p> ended put <item> ..      what producer p put, in order
   left <p> <item> ..                what nobody took
-  diary <c> <p> ..                  of each item of lane p: took <item>, lost <winner> or undecided
+  diary <c> <p> ..                  of each item of lane p: took <item>, lost <w> or undecided
 
 For example:
   mailbox run --producers 1 --consumers 1 --items 2 --pairs 1

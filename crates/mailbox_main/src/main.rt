@@ -20,12 +20,18 @@ pub mod source;
 mod tests;
 pub mod trace_text;
 
+use mb_script::Counting;
 use outcome::{Ending, status_of_ending};
 
 fn main(rt: HostRuntime) -> ExitCode {
+    let mut reader = Counting::new(rt.reader());
+    let mut writer = Counting::new(rt.stdout());
+    let mut errors = Counting::new(rt.stderr());
     let ending = match std::env::args(&rt) {
         Ok(args) => match args.collect::<Vec<String>>(rt.alloc()) {
-            Ok(words) => program::run(&rt, words.as_slice()),
+            Ok(words) => {
+                program::run(&rt, words.as_slice(), &mut reader, &mut writer, &mut errors)
+            }
             Err(_) => Ending::NoWords,
         },
         Err(error) if error.kind() == io::ErrorKind::InvalidData => Ending::NoText,

@@ -2,7 +2,7 @@
 ghost use Rattle.std.specs.Prelude.{◌≡◌, ◌≤◌, false, IfOk};
 ghost use Rattle.clap.specs.Words.{app_of, found_of, new_app, rows_of, rule_of};
 ghost use Rattle.clap.specs.declared.builder.command.Command.TheViews.{out-Command as fields_of};
-ghost use Rattle.mailbox_main.specs.CommandLine.{number_rule, run_app};
+ghost use Rattle.mailbox_main.specs.CommandLine.{any_number, number_rule, run_app};
 ghost use Rattle.mailbox_main.specs.RunOptions.{budget_in, number_in, options_in};
 
 use crate::help;
@@ -74,42 +74,42 @@ fn number<'a>(
         .default_value(default)
 }
 
+/// An option that takes any number.
+fn any_number<'a>(alloc: Global, name: &'a str, default: &'a str, meaning: &'a str) -> Arg<'a>
+    ensures rule { rule_of result ≡ any_number name.entry.now default.entry.now }
+    ensures local { result.global ≡ false }
+{
+    number(alloc, name, default, 0, u64::MAX, meaning)
+}
+
 /// The command `run` in clap's words.
 pub(crate) fn run_command<'a>(alloc: Global) -> Result<Command<'a>, AllocError>
     ensures app { IfOk result (λ c. app_of c ≡ run_app) }
     ensures local { IfOk result (λ c. (fields_of c).has_globals ≡ false) }
 {
     command_named(alloc, "run", help::RUN_ABOUT, help::RUN)
-        .arg(number(
+        .arg(any_number(
             alloc,
             "producers",
             "2",
-            0,
-            u64::MAX,
             "How many producers put items, 1 to 16",
         ))?
-        .arg(number(
+        .arg(any_number(
             alloc,
             "consumers",
             "2",
-            0,
-            u64::MAX,
             "How many consumers compete for them, 1 to 16",
         ))?
-        .arg(number(
+        .arg(any_number(
             alloc,
             "items",
             "8",
-            0,
-            u64::MAX,
             "How many items each producer puts; all together at most 256",
         ))?
-        .arg(number(
+        .arg(any_number(
             alloc,
             "pairs",
             "4",
-            0,
-            u64::MAX,
             "How many pairs of deciding objects each item has, 1 to 8",
         ))?
         .arg(number(
@@ -120,12 +120,10 @@ pub(crate) fn run_command<'a>(alloc: Global) -> Result<Command<'a>, AllocError>
             MAX_BUDGET,
             "The most accesses of one poll, 1 to 1000000",
         ))?
-        .arg(number(
+        .arg(any_number(
             alloc,
             "seed",
             "0",
-            0,
-            u64::MAX,
             "The seed of the consumers' random words",
         ))
 }

@@ -1,6 +1,10 @@
 //! What the program does between its command line and its status.
-ghost use Rattle.std.specs.Prelude.{◌≡◌, Bool};
+ghost use Rattle.std.specs.Prelude.{◌≡◌, ◌≢◌, ◌⊎◌, Bool, map};
 ghost use Rattle.clap.specs.Words.{kind_of};
+ghost use Rattle.clap.specs.declared.error.ErrorKind.TheVariants.{DisplayHelp, DisplayVersion};
+ghost use Rattle.mb_script.specs.Vocabulary.{AppendsFront, meter};
+ghost use Rattle.mailbox_main.specs.Outcome.{fault_line};
+ghost use Rattle.mailbox_main.specs.Program.{IsProgramRun, WasCarriedOut, ended_by};
 ghost use Rattle.mailbox_main.specs.RunOptions.{HasBudget};
 ghost use Rattle.mailbox_main.specs.declared.outcome.Ending.TheVariants as ending;
 
@@ -9,61 +13,81 @@ use crate::fault::Failed;
 use crate::outcome::{Ending, fault_text};
 use crate::ratify::ratify_text;
 use crate::run::run_threads;
-use mb_script::Counting;
+use mb_script::{Sink, Source, write_all};
 use std::convert::AsStr;
-use std::io;
 use std::sync::Wait;
 use std::thread::Threads;
 
-/// Does what the words of the command line ask for.
-pub fn run<R: Input + Print + Eprint + AllocGlobal + Threads + Wait + Sync, S: AsStr>(
+/// Does what the words of the command line ask for, from `reader` to `writer`.
+///
+/// The line of a fault goes to `errors`, and so does why clap refuses the words; help that was asked for goes to `writer`.
+pub fn run<R: AllocGlobal + Threads + Wait + Sync, S: AsStr, I: Source, O: Sink, E: Sink>(
     rt: &R,
     words: &[S],
-) -> Ending {
+    reader: &mut I,
+    writer: &mut O,
+    errors: &mut E,
+) -> Ending
+    ensures { IsProgramRun (map S.text words.now) (meter I.left I.failures)
+        (meter O.held O.failures) (meter E.held E.failures)
+        reader.old reader.new writer.old writer.new errors.old errors.new result }
+{
     match command_of(rt.alloc(), words) {
-        Ok(choice) => match carry_out(rt, choice) {
+        Ok(choice) => match carry_out(rt, choice, reader, writer) {
             Ok(()) => Ending::Done,
-            Err(failed) => end_with_fault(rt, failed),
+            Err(failed) => end_with_fault(rt, failed, errors),
         },
-        Err(error) => end_with_refusal(rt, &error),
+        Err(error) => end_with_refusal(rt, &error, writer, errors),
     }
 }
 
-/// Does what was chosen, from standard input to standard output.
-fn carry_out<R: Input + Print + AllocGlobal + Threads + Wait + Sync>(
+/// Does what was chosen.
+fn carry_out<R: AllocGlobal + Threads + Wait + Sync, I: Source, O: Sink>(
     rt: &R,
     choice: Choice,
+    reader: &mut I,
+    writer: &mut O,
 ) -> Result<(), Failed>
     requires { HasBudget choice }
+    ensures { WasCarriedOut choice (meter I.left I.failures) (meter O.held O.failures)
+        reader.old reader.new writer.old writer.new (ended_by (λ failed. failed) result) }
 {
-    let mut reader = Counting::new(rt.reader());
-    let mut writer = Counting::new(io::writer(rt));
     match choice {
-        Choice::Ratify => ratify_text(rt.alloc(), &mut reader, &mut writer).map_err(Failed::Ratify),
-        Choice::Replay => {
-            mb_script::run(rt.alloc(), &mut reader, &mut writer).map_err(Failed::Replay)
-        }
+        Choice::Ratify => ratify_text(rt.alloc(), reader, writer).map_err(Failed::Ratify),
+        Choice::Replay => mb_script::run(rt.alloc(), reader, writer).map_err(Failed::Replay),
         Choice::Run(options) => {
-            run_threads(rt.alloc(), rt, options, &mut writer).map_err(Failed::Run)
+            run_threads(rt.alloc(), rt, options, writer).map_err(Failed::Run)
         }
     }
 }
 
-/// Prints the line of a fault, where there is memory for it.
-fn end_with_fault<R: Eprint + AllocGlobal>(rt: &R, failed: Failed) -> Ending
-    ensures { result ≡ ending.Failed failed }
+/// Writes the line of a fault, where there is memory for it.
+fn end_with_fault<R: AllocGlobal, E: Sink>(rt: &R, failed: Failed, errors: &mut E) -> Ending
+    ensures ending { result ≡ ending.Failed failed }
+    ensures line { AppendsFront (E.held errors.old) (E.held errors.new) (fault_line failed) }
 {
     if let Ok(text) = fault_text(rt.alloc(), &failed) {
-        let _ = rt.eprint(text);
+        let _ = write_all(errors, text.as_bytes());
     }
     Ending::Failed(failed)
 }
 
-/// Prints clap's help or refusal.
-fn end_with_refusal<R: Print + Eprint>(rt: &R, error: &clap::Error) -> Ending
-    ensures { (printed : Bool) × (result ≡ ending.Refused (kind_of error.now) printed) }
+/// Writes clap's help to `writer`, or its refusal to `errors`, where there is memory for it.
+fn end_with_refusal<R: AllocGlobal, O: Sink, E: Sink>(
+    rt: &R,
+    error: &clap::Error,
+    writer: &mut O,
+    errors: &mut E,
+) -> Ending
+    ensures ending { (printed : Bool) × (result ≡ ending.Refused (kind_of error.now) printed) }
+    ensures help { (kind_of error.now ≡ DisplayHelp) ⊎ (kind_of error.now ≡ DisplayVersion) → errors.new ≡ errors.old }
+    ensures refusal { kind_of error.now ≢ DisplayHelp → kind_of error.now ≢ DisplayVersion → writer.new ≡ writer.old }
 {
-    let printed = error.print(rt).is_ok();
+    let printed = match format!(in rt.alloc(); "{error}") {
+        Ok(text) if error.use_stderr() => write_all(errors, text.as_bytes()).is_ok(),
+        Ok(text) => write_all(writer, text.as_bytes()).is_ok(),
+        Err(_) => false,
+    };
     Ending::Refused {
         kind: error.kind(),
         printed,

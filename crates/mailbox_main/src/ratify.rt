@@ -1,7 +1,8 @@
 //! The command `ratify`: from a script to the trace of its ratifier.
-ghost use Rattle.std.specs.Prelude.{◌≡◌, ◌≢◌, Some, IfOk, IfErr, string_bytes};
+ghost use Rattle.std.specs.Prelude.{◌≡◌, ◌≢◌, ◌+◌, Some, IfOk, IfErr, string_bytes};
 ghost use Rattle.mailbox_main.specs.declared.fault.RatifyFault.TheVariants.{NoMemory, ReadFault, WriteFault};
-ghost use Rattle.mb_script.specs.Vocabulary.{IsExchange, meter};
+ghost use Rattle.mb_script.specs.declared.transfer.TheConstants.{MAX_SCRIPT_LEN};
+ghost use Rattle.mb_script.specs.Vocabulary.{CountGrowsUpTo, IsExchange, meter};
 ghost use Rattle.mailbox_main.specs.Answer.{IsAnswer, fault_of, ratifying};
 
 use crate::fault::RatifyFault;
@@ -35,8 +36,11 @@ pub fn ratify_text<A: Allocator + Copy, R: Source, W: Sink>(
     reader: &mut R,
     writer: &mut W,
 ) -> Result<(), RatifyFault>
-    ensures { IsExchange ratifying (meter R.left R.failures) (meter W.held W.failures)
+    ensures exchange { IsExchange ratifying (meter R.left R.failures) (meter W.held W.failures)
         reader.old reader.new writer.old writer.new result }
+
+    // Of every reader, also of one whose bytes are not known.
+    ensures given { CountGrowsUpTo (MAX_SCRIPT_LEN + 1) (R.given reader.old) (R.given reader.new) }
 {
     let bytes = read_all(alloc, reader)?;
     let text = answer(alloc, &bytes)?;

@@ -103,7 +103,7 @@ fn fault_of_work(fault: WorkFault) -> RunFault
     }
 }
 
-/// The report of a mailbox in which all have worked.
+/// The report of a mailbox whose producers have put all their items.
 fn report_of<A: Allocator + Copy + Drop + Send + Sync, T: Threads + Wait + Sync>(
     alloc: A,
     rt: &T,

@@ -1,9 +1,9 @@
-//! The command `ratify` on worked scripts, over devices that fail, and with refused memory.
+//! The examples; the command `ratify` on further scripts, over devices that fail, and with refused memory.
 
 mod command_line;
 mod devices;
+mod examples;
 mod replay;
-mod replays;
 mod run;
 
 use crate::fault::{Failed, RatifyFault};
@@ -11,71 +11,11 @@ use crate::outcome::{fault_text, status_of};
 use crate::ratify::ratify_text;
 use crate::reading::read_script;
 use devices::{Letters, NarrowWriter, SlowReader};
+use examples::ratifiers::LATE_INPUT;
 use linked_list_allocator::LocalHeap;
 use mb_quorum::TableName;
 use mb_script::Counting;
 use std::test::Fail;
-
-const LATE_INPUT: &str = "ratify unary 2\ninputs 0 1\nturns 0 0 0 0 1 1 1\n";
-
-const LATE_INPUT_TEXT: &str = "0 store q0 1\n0 load p 0\n0 store p 1\n0 load q1 0 out 1 0\n\
-    1 store q1 1\n1 load p 1\n1 load q1 1 out 0 0\nprocess 0: 1 0\nprocess 1: 0 0\n";
-
-const NO_DECISION: &str = "ratify unary 2\ninputs 0 1\nturns 0 1 0 1 0 0 1 1\n";
-
-const NO_DECISION_TEXT: &str = "0 store q0 1\n1 store q1 1\n0 load p 0\n1 load p 0\n0 store p 1\n\
-    0 load q1 1 out 0 0\n1 store p 2\n1 load q0 1 out 0 1\nprocess 0: 0 0\nprocess 1: 0 1\n";
-
-const ONE_INPUT: &str = "ratify unary 2\ninputs 1 1\nturns 0 1 0 1 0 1 0 1\n";
-
-const ONE_INPUT_TEXT: &str =
-    "0 store q1 1\n1 store q1 1\n0 load p 0\n1 load p 0\n0 store p 2\n1 store p 2\n\
-    0 load q0 0 out 1 1\n1 load q0 0 out 1 1\nprocess 0: 1 1\nprocess 1: 1 1\n";
-
-const NO_TURNS: &str = "ratify unary 2\ninputs 0 1\nturns\n";
-
-const NO_TURNS_TEXT: &str = "process 0: none\nprocess 1: none\n";
-
-const TURN_AFTER_OUTPUT: &str = "ratify unary 1\ninputs 0\nturns 0 0 0 0";
-
-const TURN_AFTER_OUTPUT_TEXT: &str =
-    "0 store q0 1\n0 load p 0\n0 store p 1 out 1 0\n0 done\nprocess 0: 1 0\n";
-
-const NO_PROCESSES: &str = "ratify unary 2\ninputs\nturns\n";
-
-const BIT_TABLE: &str = "ratify bits 3\ninputs 2 1\nturns 0 0 0 0 0 0 1 1 1 1\n";
-
-const BIT_TABLE_TEXT: &str = "0 store q0 1\n0 store q3 1\n0 load p 0\n0 store p 3\n0 load q1 0\n\
-    0 load q2 0 out 1 2\n1 store q1 1\n1 store q2 1\n1 load p 3\n1 load q1 1 out 0 2\n\
-    process 0: 1 2\nprocess 1: 0 2\n";
-
-const NO_REGISTERS: &str = "ratify bits 1\ninputs 0\nturns 0 0\n";
-
-const NO_REGISTERS_TEXT: &str = "0 load p 0\n0 store p 1 out 1 0\nprocess 0: 1 0\n";
-
-#[test]
-fn scripts_are_answered(rt: HostRuntime) -> Result<(), Fail> {
-    for (script, want) in [
-        (LATE_INPUT, LATE_INPUT_TEXT),
-        (NO_DECISION, NO_DECISION_TEXT),
-        (ONE_INPUT, ONE_INPUT_TEXT),
-        (NO_TURNS, NO_TURNS_TEXT),
-        (TURN_AFTER_OUTPUT, TURN_AFTER_OUTPUT_TEXT),
-        (NO_PROCESSES, ""),
-        (BIT_TABLE, BIT_TABLE_TEXT),
-        (NO_REGISTERS, NO_REGISTERS_TEXT),
-    ] {
-        let mut reader = Counting::new(script.as_bytes());
-        let mut writer = Counting::new(Vec::<u8>::new(rt.alloc()));
-        assert_eq!(rt;
-            ratify_text(rt.alloc(), &mut reader, &mut writer),
-            Ok(()),
-            "{script}"
-        );
-        assert_eq!(rt; writer.device.as_slice(), want.as_bytes(), "{script}");
-    }
-    Ok(())
-}
 
 // Ten thousand turns of sixteen processes with one value, which has an empty read quorum.
 #[test]
@@ -114,7 +54,7 @@ fn ten_thousand_turns_are_answered(rt: HostRuntime) -> Result<(), Fail> {
 
 #[test]
 fn a_script_is_read(rt: HostRuntime) -> Result<(), Fail> {
-    let Ok(script) = read_script(rt.alloc(), LATE_INPUT.as_bytes()) else {
+    let Ok(script) = read_script(rt.alloc(), LATE_INPUT.input.as_bytes()) else {
         return Err(Fail::from("a script that is refused"));
     };
     assert!(rt; script.table == TableName::Unary);
@@ -127,16 +67,6 @@ fn a_script_is_read(rt: HostRuntime) -> Result<(), Fail> {
 #[test]
 fn faults_have_a_line_and_a_status(rt: HostRuntime) -> Result<(), Fail> {
     for (script, line) in [
-        ("ratify unary 2\ninputs 0 1\n", "fault 3 BadLine 3\n"),
-        (
-            "ratify unary 2\ninputs 2\nturns 5\n",
-            "fault 6 BadInput 0\n",
-        ),
-        (
-            "ratify unary 2\ninputs 0\nturns 0 1\n",
-            "fault 7 NoSuchProcess 1\n",
-        ),
-        ("ratify unary 0\ninputs\nturns\n", "fault 5 BadValues\n"),
         ("ratify unary 02\ninputs\nturns\n", "fault 4 BadNumber 1\n"),
         ("ratify unary 2\ninputs \nturns\n", "fault 3 BadLine 2\n"),
         ("ratify unary 2\ninputs\nturns\n\n", "fault 3 BadLine 4\n"),
@@ -222,11 +152,25 @@ fn devices_fail(rt: HostRuntime) -> Result<(), Fail> {
     let read_fault = Err(RatifyFault::ReadFault);
     let write_fault = Err(RatifyFault::WriteFault);
     for (script, reader_fails, room, writer_fails, want, written) in [
-        (LATE_INPUT, false, 1000, false, Ok(()), LATE_INPUT_TEXT),
-        (LATE_INPUT, true, 1000, false, read_fault, ""),
+        (
+            LATE_INPUT.input,
+            false,
+            1000,
+            false,
+            Ok(()),
+            LATE_INPUT.output,
+        ),
+        (LATE_INPUT.input, true, 1000, false, read_fault, ""),
         ("", true, 1000, false, read_fault, ""),
-        (LATE_INPUT, false, 10, true, write_fault, "0 store q0"),
-        (LATE_INPUT, false, 10, false, write_fault, "0 store q0"),
+        (LATE_INPUT.input, false, 10, true, write_fault, "0 store q0"),
+        (
+            LATE_INPUT.input,
+            false,
+            10,
+            false,
+            write_fault,
+            "0 store q0",
+        ),
     ] {
         let mut reader = Counting::new(SlowReader {
             script: script.as_bytes(),
@@ -268,12 +212,12 @@ fn reading_stops_past_the_limit(rt: HostRuntime) -> Result<(), Fail> {
 fn growths_are_refused(rt: HostRuntime) -> Result<(), Fail> {
     for size in 0..4096usize {
         let heap = LocalHeap::new(rt.alloc(), size * 16)?;
-        let mut reader = Counting::new(LATE_INPUT.as_bytes());
+        let mut reader = Counting::new(LATE_INPUT.input.as_bytes());
         let mut writer = Counting::new(Vec::<u8>::new(rt.alloc()));
         let result = ratify_text(&heap, &mut reader, &mut writer);
         assert_eq!(rt; heap.used(), 0, "a call keeps memory");
         if result.is_ok() {
-            assert_eq!(rt; writer.device.as_slice(), LATE_INPUT_TEXT.as_bytes());
+            assert_eq!(rt; writer.device.as_slice(), LATE_INPUT.output.as_bytes());
             assert!(rt; size > 10, "{size} sizes were refused");
             return Ok(());
         }

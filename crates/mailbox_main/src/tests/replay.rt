@@ -1,7 +1,7 @@
-//! The command `replay` on worked scripts, over devices that fail, and with refused memory.
+//! The command `replay` on further scripts, over devices that fail, and with refused memory.
 
 use super::devices::{Letters, NarrowWriter, SlowReader};
-use super::replays::*;
+use super::examples::claims::{ITEM_TAKEN, ONE_LOSES};
 use crate::fault::Failed;
 use crate::outcome::{fault_text, status_of};
 use linked_list_allocator::LocalHeap;
@@ -90,12 +90,13 @@ fn a_script_has_a_limit_of_events(rt: HostRuntime) -> Result<(), Fail> {
 fn devices_fail(rt: HostRuntime) -> Result<(), Fail> {
     let read_fault = Err(Fault::ReadFault);
     let write_fault = Err(Fault::WriteFault);
+    let (taken, taken_text) = (ITEM_TAKEN.input, ITEM_TAKEN.output);
     for (script, reader_fails, room, writer_fails, want, written) in [
-        (TAKEN, false, 1000, false, Ok(()), TAKEN_TEXT),
-        (TAKEN, true, 1000, false, read_fault, ""),
+        (taken, false, 1000, false, Ok(()), taken_text),
+        (taken, true, 1000, false, read_fault, ""),
         ("", true, 1000, false, read_fault, ""),
-        (TAKEN, false, 10, true, write_fault, "offer 0 7 "),
-        (TAKEN, false, 10, false, write_fault, "offer 0 7 "),
+        (taken, false, 10, true, write_fault, "offer 0 7 "),
+        (taken, false, 10, false, write_fault, "offer 0 7 "),
     ] {
         let mut reader = Counting::new(SlowReader {
             script: script.as_bytes(),
@@ -138,12 +139,12 @@ fn reading_stops_past_the_limit(rt: HostRuntime) -> Result<(), Fail> {
 fn growths_are_refused(rt: HostRuntime) -> Result<(), Fail> {
     for size in 0..4096usize {
         let heap = LocalHeap::new(rt.alloc(), size * 16)?;
-        let mut reader = Counting::new(LOST.as_bytes());
+        let mut reader = Counting::new(ONE_LOSES.input.as_bytes());
         let mut writer = Counting::new(Vec::<u8>::new(rt.alloc()));
         let result = run(&heap, &mut reader, &mut writer);
         assert_eq!(rt; heap.used(), 0, "a call keeps memory");
         if result.is_ok() {
-            assert_eq!(rt; writer.device.as_slice(), LOST_TEXT.as_bytes());
+            assert_eq!(rt; writer.device.as_slice(), ONE_LOSES.output.as_bytes());
             assert!(rt; size > 10, "{size} sizes were refused");
             return Ok(());
         }

@@ -1,6 +1,7 @@
 //! The command `run`: its report where that does not depend on the order of the threads, its faults, over writers that fail.
 
 use super::devices::NarrowWriter;
+use super::examples::runs::TWO_ITEMS;
 use crate::fault::{Failed, RunFault};
 use crate::options::Options;
 use crate::outcome::{fault_text, status_of};
@@ -13,7 +14,7 @@ use std::sync::Wait;
 use std::test::Fail;
 use std::thread::Threads;
 
-// One producer, one consumer, two items, one pair.
+// What the example with two items asks for.
 const ALONE: Options = Options {
     producers: 1,
     consumers: 1,
@@ -22,8 +23,6 @@ const ALONE: Options = Options {
     budget: 64,
     seed: 0,
 };
-
-const ALONE_TEXT: &str = "lane 0 ended put 0 1\nleft 0\ndiary 0 0 took 0 took 1\n";
 
 // What the call answered, and what was written.
 fn reported<R: AllocGlobal + Threads + Wait + Sync>(
@@ -43,14 +42,14 @@ fn reported<R: AllocGlobal + Threads + Wait + Sync>(
 #[test]
 fn workers_are_reported(rt: HostRuntime) {
     for (options, want) in [
-        (ALONE, ALONE_TEXT),
+        (ALONE, TWO_ITEMS.output),
         (
             Options {
                 budget: 1,
                 seed: u64::MAX,
                 ..ALONE
             },
-            ALONE_TEXT,
+            TWO_ITEMS.output,
         ),
         (
             Options {
@@ -58,7 +57,7 @@ fn workers_are_reported(rt: HostRuntime) {
                 pairs: 8,
                 ..ALONE
             },
-            ALONE_TEXT,
+            TWO_ITEMS.output,
         ),
         (
             Options { items: 0, ..ALONE },
@@ -165,7 +164,7 @@ fn faults_have_a_line_and_a_status(rt: HostRuntime) -> Result<(), Fail> {
 #[test]
 fn writers_fail(rt: HostRuntime) {
     for (room, fails, want, written) in [
-        (1000, false, Ok(()), ALONE_TEXT),
+        (1000, false, Ok(()), TWO_ITEMS.output),
         (10, true, Err(RunFault::WriteFault), "lane 0 end"),
         (10, false, Err(RunFault::WriteFault), "lane 0 end"),
         (0, false, Err(RunFault::WriteFault), ""),

@@ -1,17 +1,27 @@
-use Rattle.std.proofs.Common.{ℕ, List, ◌≡◌, Some, subst}
-use Rattle.mailbox_main.specs.Answer.{fault_of}
-use Rattle.mailbox_main.proofs.Exchanges.{refused_script, stopped_early}
+use Rattle.std.proofs.Common.{ℕ, List, ◌≡◌, Some, subst, string_bytes}
+use Rattle.mb_script.specs.Vocabulary.{AppendsFront}
+use Rattle.mailbox_main.specs.Answer.{IsAnswer, fault_of}
+use Rattle.mailbox_main.proofs.Exchanges.{cut_short, refused_script, stopped_early}
 use Rattle.mailbox_main.proofs.ratify.ratify_text.Goals as goal
 
-pub returns-in_err-bytes : goal.returns-in_err-bytes
-returns-in_err-bytes g c =
+pub returns-in_err-bytes-clause-exchange : goal.returns-in_err-bytes-clause-exchange
+returns-in_err-bytes-clause-exchange g c =
     let read = c.in_err-bytes.ensures in
     stopped_early _ _ _ _ _ _ _ c.from_residual.ensures.1 read.early
     (λ is. read.long (cc)) (λ is. read.failed (cc)) (λ is. read.fault (cc)) (λ other. read.works (λ is. other (cc)))
 
-pub returns-in_err-text : goal.returns-in_err-text
-returns-in_err-text g c =
+pub returns-in_err-text-clause-exchange : goal.returns-in_err-text-clause-exchange
+returns-in_err-text-clause-exchange g c =
     let read = c.in_ok-bytes.ensures in
     let said = c.in_err-text.ensures in
     refused_script _ _ _ _ _ _ _ _ c.from_residual-in_err-text.ensures.1 read.whole read.end read.limit (read.works (λ is. absurd (cc)))
     (λ other. subst (λ (l : List ℕ). fault_of l ≡ Some c.in_err-text.field-0.0) c.deref.ensures.value (said.fault other)) said.no_device.0 said.no_device.1
+
+pub returns-in_err-write_all-clause-exchange : goal.returns-in_err-write_all-clause-exchange
+returns-in_err-write_all-clause-exchange g c =
+    let read = c.in_ok-bytes.ensures in
+    let wrote = c.in_err-write_all.ensures in
+    cut_short _ _ _ _ _ _ _ _ _ c.from_residual-in_err-write_all.ensures.1 read.whole read.end read.limit (read.works (λ is. absurd (cc)))
+    (subst (λ (l : List ℕ). IsAnswer l (string_bytes c.in_ok-text.text)) c.deref.ensures.value c.in_ok-text.ensures.text)
+    (subst (λ (l : List ℕ). AppendsFront (g.W.Sink.held c.args.writer.now) (g.W.Sink.held c.write_all.new.writer) l) c.as_bytes.ensures.value wrote.err)
+    wrote.fault

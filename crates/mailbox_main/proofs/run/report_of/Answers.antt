@@ -1,4 +1,5 @@
 use Rattle.std.proofs.Common.{◌≡◌, ◌≤◌, ◌∙◌, Err, ap, arith}
+use Rattle.mb_world.specs.Plan.{size_of}
 use Rattle.mailbox_main.proofs.RunEnds.{fault_behind, same_err}
 use Rattle.mailbox_main.proofs.RunReports.{asks_enough, not_missing, nothing_missing, run_report}
 use Rattle.mailbox_main.proofs.run.report_of.Goals as goal
@@ -25,9 +26,10 @@ returns-in-Err-clause-no_device g c = λ is. c.fault_of_work.ensures.no_device (
 
 pub returns-in-Ok-clause-report : goal.returns-in-Ok-clause-report
 returns-in-Ok-clause-report g c =
-    run_report c.args.options c.in_ok-mailbox.mailbox c.in_ok-mailbox.hub c.work-worked.new.hub c.in-Ok.report _ _ c.in_default.field-0
-    (c.in_ok-mailbox.ensures.plan ∙ c.in_ok-setup.ensures.made) c.in_ok-mailbox.ensures.empty c.in_ok-lists.ensures.lists c.in_default.ensures.worked
-    c.in-Ok.ensures.lists c.in-Ok.ensures.headline
+    run_report _ (λ w n stops. stops) c.args.options c.in_ok-mailbox.mailbox c.in_ok-mailbox.hub c.work-worked.new.hub c.in-Ok.report _ _ c.in_default.field-0
+    c.in_ok-setup.ensures.few (c.in_ok-mailbox.ensures.plan ∙ c.in_ok-setup.ensures.made)
+    (c.in_ok-mailbox.ensures.size ∙ ap size_of c.in_ok-setup.ensures.made) c.in_ok-mailbox.ensures.empty c.in_ok-lists.ensures.lists
+    c.in_ok-rngs.ensures.count c.in_default.ensures.worked c.work-worked.ensures.of c.in-Ok.ensures.lists c.in-Ok.ensures.headline c.in-Ok.ensures.full
 
 pub unreachable-requires : goal.unreachable-requires
 unreachable-requires g c =

@@ -1,0 +1,229 @@
+//! Replays in which consumers claim items.
+
+use super::Example;
+
+pub const CLAIMS: &[Example] = &[
+    ITEM_TAKEN,
+    ONE_LOSES,
+    Example {
+        name: "claim_begun",
+        words: &["mailbox", "replay"],
+        input: "\
+setup 1 2 1 1 bits
+offer 0 5
+push 0
+push 0
+step 0 0 0
+step 0 0 0
+step 0 0 0
+step 0 0 0
+step 0 0 0
+step 0 0 0
+step 0 0 0
+step 0 0 0
+step 1 0 0
+step 1 0 0
+step 1 0 0
+step 1 0 0
+step 1 0 0
+",
+        output: "\
+offer 0 5 cell 0
+push 0 item 0
+push 0 link 0
+step 0 0 found 0
+step 0 0 cell 0 o0 load c 0
+step 0 0 cell 0 o0 store c 1
+step 0 0 cell 0 o0 load c 1
+step 0 0 cell 0 o1 store q0 1
+step 0 0 cell 0 o1 load p 0
+step 0 0 cell 0 o1 store p 1
+step 0 0 cell 0 o1 load q1 0 won
+step 1 0 found 0
+step 1 0 cell 0 o0 load c 1
+step 1 0 cell 0 o1 store q0 1
+step 1 0 cell 0 o1 load p 1
+step 1 0 cell 0 o1 load q1 0 lost 0
+lane 0 open put 5
+left 0 5
+diary 0 0 begun
+diary 1 0 lost 0
+",
+        error: "",
+        status: 0,
+    },
+    Example {
+        name: "both_undecided",
+        words: &["mailbox", "replay"],
+        input: "\
+setup 1 2 1 1 bits
+offer 0 5
+push 0
+push 0
+step 0 0 0
+step 1 0 0
+step 0 0 0
+step 1 0 0
+step 0 0 0
+step 0 0 0
+step 1 0 0
+step 1 0 0
+step 0 0 0
+step 1 0 0
+step 0 0 0
+step 1 0 0
+step 0 0 0
+step 0 0 0
+step 1 0 0
+step 1 0 0
+",
+        output: "\
+offer 0 5 cell 0
+push 0 item 0
+push 0 link 0
+step 0 0 found 0
+step 1 0 found 0
+step 0 0 cell 0 o0 load c 0
+step 1 0 cell 0 o0 load c 0
+step 0 0 cell 0 o0 store c 1
+step 0 0 cell 0 o0 load c 1
+step 1 0 cell 0 o0 store c 2
+step 1 0 cell 0 o0 load c 2
+step 0 0 cell 0 o1 store q0 1
+step 1 0 cell 0 o1 store q1 1
+step 0 0 cell 0 o1 load p 0
+step 1 0 cell 0 o1 load p 0
+step 0 0 cell 0 o1 store p 1
+step 0 0 cell 0 o1 load q1 1 undecided
+step 1 0 cell 0 o1 store p 2
+step 1 0 cell 0 o1 load q0 1 undecided
+lane 0 open put 5
+left 0 5
+diary 0 0 undecided
+diary 1 0 undecided
+",
+        error: "",
+        status: 0,
+    },
+    Example {
+        name: "unary_table",
+        words: &["mailbox", "replay"],
+        input: "\
+setup 1 1 1 1 unary
+offer 0 7
+push 0
+push 0
+step 0 0 0
+step 0 0 0
+step 0 0 0
+step 0 0 0
+step 0 0 0
+step 0 0 0
+step 0 0 0
+step 0 0 0
+",
+        output: "\
+offer 0 7 cell 0
+push 0 item 0
+push 0 link 0
+step 0 0 found 0
+step 0 0 cell 0 o0 load c 0
+step 0 0 cell 0 o0 store c 1
+step 0 0 cell 0 o0 load c 1
+step 0 0 cell 0 o1 store q0 1
+step 0 0 cell 0 o1 load p 0
+step 0 0 cell 0 o1 store p 1 won
+step 0 0 took 7
+lane 0 open put 7
+left 0
+diary 0 0 took 7
+",
+        error: "",
+        status: 0,
+    },
+];
+
+pub const ITEM_TAKEN: Example = Example {
+    name: "item_taken",
+    words: &["mailbox", "replay"],
+    input: "\
+setup 1 1 1 1 bits
+offer 0 7
+push 0
+push 0
+step 0 0 0
+step 0 0 0
+step 0 0 0
+step 0 0 0
+step 0 0 0
+step 0 0 0
+step 0 0 0
+",
+    output: "\
+offer 0 7 cell 0
+push 0 item 0
+push 0 link 0
+step 0 0 found 0
+step 0 0 cell 0 o0 load c 0
+step 0 0 cell 0 o0 store c 1
+step 0 0 cell 0 o0 load c 1
+step 0 0 cell 0 o1 load p 0
+step 0 0 cell 0 o1 store p 1 won
+step 0 0 took 7
+lane 0 open put 7
+left 0
+diary 0 0 took 7
+",
+    error: "",
+    status: 0,
+};
+
+pub const ONE_LOSES: Example = Example {
+    name: "one_loses",
+    words: &["mailbox", "replay"],
+    input: "\
+setup 1 2 1 1 bits
+offer 0 5
+push 0
+push 0
+step 0 0 0
+step 0 0 0
+step 0 0 0
+step 0 0 0
+step 0 0 0
+step 0 0 0
+step 0 0 0
+step 0 0 0
+step 1 0 0
+step 1 0 0
+step 1 0 0
+step 1 0 0
+step 1 0 0
+step 0 0 0
+",
+    output: "\
+offer 0 5 cell 0
+push 0 item 0
+push 0 link 0
+step 0 0 found 0
+step 0 0 cell 0 o0 load c 0
+step 0 0 cell 0 o0 store c 1
+step 0 0 cell 0 o0 load c 1
+step 0 0 cell 0 o1 store q0 1
+step 0 0 cell 0 o1 load p 0
+step 0 0 cell 0 o1 store p 1
+step 0 0 cell 0 o1 load q1 0 won
+step 1 0 found 0
+step 1 0 cell 0 o0 load c 1
+step 1 0 cell 0 o1 store q0 1
+step 1 0 cell 0 o1 load p 1
+step 1 0 cell 0 o1 load q1 0 lost 0
+step 0 0 took 5
+lane 0 open put 5
+left 0
+diary 0 0 took 5
+diary 1 0 lost 0
+",
+    error: "",
+    status: 0,
+};

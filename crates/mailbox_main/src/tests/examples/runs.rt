@@ -1,0 +1,50 @@
+//! Threads, where their report does not depend on their order.
+
+use super::Example;
+
+pub const RUNS: &[Example] = &[
+    Example {
+        name: "too_many_items",
+        words: &[
+            "mailbox",
+            "run",
+            "--producers",
+            "1",
+            "--consumers",
+            "1",
+            "--items",
+            "257",
+            "--pairs",
+            "1",
+        ],
+        input: "",
+        output: "",
+        error: "fault 1 BadSetup 3 BadCells\n",
+        status: 2,
+    },
+    TWO_ITEMS,
+];
+
+pub const TWO_ITEMS: Example = Example {
+    name: "two_items",
+    words: &[
+        "mailbox",
+        "run",
+        "--producers",
+        "1",
+        "--consumers",
+        "1",
+        "--items",
+        "2",
+        "--pairs",
+        "1",
+    ],
+    input: "",
+    output: "\
+lane 0 ended put 0 1
+left 0
+diary 0 0 took 0 took 1
+",
+    error: "",
+    status: 0,
+};
