@@ -1,0 +1,62 @@
+//! What was asked for so far, and what is out.
+
+use std::sync::atomic::{AtomicU64, Ordering};
+
+/// Which requests are refused. They are numbered from 0 on, over all threads.
+#[derive(Clone, Copy, PartialEq, Eq, Debug)]
+pub enum Refuse {
+    /// The request of this number and all later ones.
+    From(u64),
+    /// The request of this number alone.
+    Only(u64),
+    /// None.
+    Never,
+}
+
+/// Which requests are refused, how many there were, and how many blocks are out.
+#[derive(Drop)]
+pub(crate) struct Book {
+    refuse: Refuse,
+    asked: AtomicU64,
+    out: AtomicU64,
+}
+
+impl Book {
+    /// A book of no request.
+    pub(crate) fn new(refuse: Refuse) -> Book {
+        Book {
+            refuse,
+            asked: AtomicU64::new(0),
+            out: AtomicU64::new(0),
+        }
+    }
+
+    /// How many requests there were.
+    pub(crate) fn asked(&self) -> u64 {
+        self.asked.load(Ordering::SeqCst)
+    }
+
+    /// How many blocks are out.
+    pub(crate) fn out(&self) -> u64 {
+        self.out.load(Ordering::SeqCst)
+    }
+}
+
+/// Counts a request, and a block where it is granted: whether it is refused.
+pub(crate) fn refuses(book: &Book) -> bool {
+    let number = book.asked.fetch_add(1, Ordering::SeqCst);
+    let refused = match book.refuse {
+        Refuse::From(first) => number >= first,
+        Refuse::Only(one) => number == one,
+        Refuse::Never => false,
+    };
+    if !refused {
+        book.out.fetch_add(1, Ordering::SeqCst);
+    }
+    refused
+}
+
+/// Counts a block that comes back.
+pub(crate) fn takes_back(book: &Book) {
+    book.out.fetch_sub(1, Ordering::SeqCst);
+}

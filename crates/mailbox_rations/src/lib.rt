@@ -1,0 +1,11 @@
+//! An allocator that refuses chosen requests and counts the blocks that are out, and that threads may share: a call that
+//! moves its lists into threads is tried with each of its growths refused in turn.
+#![tactic(auto)]
+
+mod book;
+mod rations;
+#[cfg(test)]
+mod tests;
+
+pub use book::Refuse;
+pub use rations::Rations;

@@ -1,0 +1,49 @@
+//! The allocator.
+
+use crate::book::{Book, Refuse, refuses, takes_back};
+use std::alloc::{AllocError, Allocator};
+
+/// An allocator over another one, which refuses chosen requests itself. A `&` to it is the handle that collections hold,
+/// in one thread or in many.
+#[derive(Drop)]
+pub struct Rations<B: Allocator> {
+    inner: B,
+    book: Book,
+}
+
+impl<B: Allocator> Rations<B> {
+    /// Nothing was asked for, and no block is out.
+    pub fn new(inner: B, refuse: Refuse) -> Rations<B> {
+        Rations {
+            inner,
+            book: Book::new(refuse),
+        }
+    }
+
+    /// How many requests there were, with those that were refused.
+    pub fn asked(&self) -> u64 {
+        self.book.asked()
+    }
+
+    /// How many requests were granted, less the blocks that came back. A request that is granted here and refused by the
+    /// inner allocator counts as a block that never comes back.
+    pub fn out(&self) -> u64 {
+        self.book.out()
+    }
+}
+
+unsafe impl<B: Allocator> Allocator for Rations<B> {
+    ghost dealloc_token = { λ rations ty ptr. B.dealloc_token rations.inner ty ptr };
+
+    fn allocate(&self, size: usize, align: usize) -> Result<*mut u8, AllocError> {
+        if refuses(&self.book) {
+            return Err(AllocError);
+        }
+        self.inner.allocate(size, align)
+    }
+
+    unsafe fn deallocate(&self, ptr: *mut u8, size: usize, align: usize) {
+        takes_back(&self.book);
+        self.inner.deallocate(ptr, size, align);
+    }
+}
