@@ -4,6 +4,7 @@ use mailbox_audit::{Flaw, Tally, audit};
 use mb_world::Note::{Lost, Took, Undecided};
 use mb_world::{Diary, LaneReport, Note, Report};
 use std::alloc::Global;
+use std::process::Abort;
 use std::test::Fail;
 
 /// A report with these lanes (items put, items left) and these diaries (consumer, lane, notes, begun).
@@ -58,96 +59,110 @@ fn a_report_without_a_flaw_is_counted(rt: HostRuntime) -> Result<(), Fail> {
     Ok(())
 }
 
+/// The report with these lanes and diaries has this flaw.
+fn has_flaw<R: Abort + AllocGlobal>(
+    rt: &R,
+    lanes: &[(&[u64], &[u64])],
+    diaries: &[(u32, u32, &[Note], bool)],
+    flaw: Flaw,
+) -> Result<(), Fail> {
+    let report = made_up(rt.alloc(), lanes, diaries)?;
+    assert_eq!(rt; audit(&report), Err(flaw));
+    Ok(())
+}
+
+/// With these notes of three consumers on an only item, which nobody has left, the report has this flaw.
+fn has_flaw_of_three<R: Abort + AllocGlobal>(
+    rt: &R,
+    first: &[Note],
+    second: &[Note],
+    third: &[Note],
+    flaw: Flaw,
+) -> Result<(), Fail> {
+    has_flaw(
+        rt,
+        &[(&[5], &[])],
+        &[
+            (0, 0, first, false),
+            (1, 0, second, false),
+            (2, 0, third, false),
+        ],
+        flaw,
+    )
+}
+
+#[test]
+fn two_do_not_take_one_item(rt: HostRuntime) -> Result<(), Fail> {
+    has_flaw_of_three(&rt, &[Took(5)], &[Took(5)], &[], Flaw::TwoTakers)?;
+    has_flaw_of_three(&rt, &[Took(6)], &[], &[], Flaw::OtherItem)?;
+    has_flaw_of_three(&rt, &[], &[Undecided], &[], Flaw::UndecidedAlone)
+}
+
 #[test]
 fn takers_and_winners_are_one(rt: HostRuntime) -> Result<(), Fail> {
-    for (first, second, third, flaw) in [
-        (Some(Took(5)), Some(Took(5)), None, Flaw::TwoTakers),
-        (Some(Took(6)), None, None, Flaw::OtherItem),
-        (Some(Took(5)), Some(Lost(1)), None, Flaw::OtherWinner),
-        (Some(Took(5)), Some(Lost(2)), None, Flaw::OtherWinner),
-        (
-            Some(Took(5)),
-            Some(Lost(2)),
-            Some(Undecided),
-            Flaw::OtherWinner,
-        ),
-        (Some(Took(5)), Some(Lost(7)), None, Flaw::OtherWinner),
-        (Some(Lost(1)), Some(Lost(0)), None, Flaw::OtherWinner),
-        (
-            Some(Lost(2)),
-            Some(Lost(0)),
-            Some(Undecided),
-            Flaw::OtherWinner,
-        ),
-        (None, Some(Undecided), None, Flaw::UndecidedAlone),
-    ] {
-        let (first, second, third) = (first.as_slice(), second.as_slice(), third.as_slice());
-        let report = made_up(
-            rt.alloc(),
-            &[(&[5], &[])],
-            &[
-                (0, 0, first, false),
-                (1, 0, second, false),
-                (2, 0, third, false),
-            ],
-        )?;
-        assert_eq!(rt; audit(&report), Err(flaw), "{first:?} {second:?} {third:?}");
-    }
-    Ok(())
+    let other = Flaw::OtherWinner;
+    has_flaw_of_three(&rt, &[Took(5)], &[Lost(1)], &[], other)?;
+    has_flaw_of_three(&rt, &[Took(5)], &[Lost(2)], &[], other)?;
+    has_flaw_of_three(&rt, &[Took(5)], &[Lost(2)], &[Undecided], other)?;
+    has_flaw_of_three(&rt, &[Took(5)], &[Lost(7)], &[], other)?;
+    has_flaw_of_three(&rt, &[Lost(1)], &[Lost(0)], &[], other)?;
+    has_flaw_of_three(&rt, &[Lost(2)], &[Lost(0)], &[Undecided], other)
+}
+
+/// With these items left of three, of which consumer 0 took the first, the report has the flaw of other items left.
+fn has_other_left<R: Abort + AllocGlobal>(rt: &R, left: &[u64]) -> Result<(), Fail> {
+    has_flaw(
+        rt,
+        &[(&[5, 6, 7], left)],
+        &[(0, 0, &[Took(5)], true)],
+        Flaw::OtherLeft,
+    )
 }
 
 #[test]
 fn what_is_left_is_what_nobody_took(rt: HostRuntime) -> Result<(), Fail> {
-    for left in [
-        [].as_slice(),
-        [5].as_slice(),
-        [6].as_slice(),
-        [7].as_slice(),
-        [7, 6].as_slice(),
-        [6, 7, 7].as_slice(),
-        [5, 6, 7].as_slice(),
-    ] {
-        let report = made_up(
-            rt.alloc(),
-            &[(&[5, 6, 7], left)],
-            &[(0, 0, &[Took(5)], true)],
-        )?;
-        assert_eq!(rt; audit(&report), Err(Flaw::OtherLeft), "{left:?}");
-    }
-    Ok(())
+    has_other_left(&rt, &[])?;
+    has_other_left(&rt, &[5])?;
+    has_other_left(&rt, &[6])?;
+    has_other_left(&rt, &[7])?;
+    has_other_left(&rt, &[7, 6])?;
+    has_other_left(&rt, &[6, 7, 7])?;
+    has_other_left(&rt, &[5, 6, 7])
 }
 
 #[test]
 fn notes_are_on_items(rt: HostRuntime) -> Result<(), Fail> {
-    for (notes, begun) in [
-        ([Took(5), Took(6)].as_slice(), false),
-        ([Took(5)].as_slice(), true),
-    ] {
-        let report = made_up(rt.alloc(), &[(&[5], &[])], &[(0, 0, notes, begun)])?;
-        assert_eq!(rt; audit(&report), Err(Flaw::TooManyNotes), "{notes:?}");
+    let lanes: [(&[u64], &[u64]); 1] = [(&[5], &[])];
+    has_flaw(
+        &rt,
+        &lanes,
+        &[(0, 0, &[Took(5), Took(6)], false)],
+        Flaw::TooManyNotes,
+    )?;
+    has_flaw(&rt, &lanes, &[(0, 0, &[Took(5)], true)], Flaw::TooManyNotes)
+}
+
+/// With empty diaries of these consumers on these lanes, of two lanes without items, the report has the flaw of another
+/// diary.
+fn has_other_diary<R: Abort + AllocGlobal>(rt: &R, numbers: &[(u32, u32)]) -> Result<(), Fail> {
+    let mut report = made_up(rt.alloc(), &[(&[], &[]), (&[], &[])], &[])?;
+    for (consumer, lane) in numbers {
+        report.diaries.push(Diary {
+            consumer: *consumer,
+            lane: *lane,
+            notes: Vec::new(rt.alloc()),
+            begun: false,
+        })?;
     }
+    assert_eq!(rt; audit(&report), Err(Flaw::OtherDiary));
     Ok(())
 }
 
 #[test]
 fn there_is_a_diary_for_each_consumer_and_lane(rt: HostRuntime) -> Result<(), Fail> {
-    for numbers in [
-        [(0, 0)].as_slice(),
-        [(0, 1), (0, 0)].as_slice(),
-        [(1, 0), (1, 1)].as_slice(),
-        [(0, 0), (1, 0), (0, 1), (1, 1)].as_slice(),
-        [(0, 0), (0, 1), (1, 0)].as_slice(),
-    ] {
-        let mut report = made_up(rt.alloc(), &[(&[], &[]), (&[], &[])], &[])?;
-        for (consumer, lane) in numbers {
-            report.diaries.push(Diary {
-                consumer: *consumer,
-                lane: *lane,
-                notes: Vec::new(rt.alloc()),
-                begun: false,
-            })?;
-        }
-        assert_eq!(rt; audit(&report), Err(Flaw::OtherDiary), "{numbers:?}");
-    }
-    Ok(())
+    has_other_diary(&rt, &[(0, 0)])?;
+    has_other_diary(&rt, &[(0, 1), (0, 0)])?;
+    has_other_diary(&rt, &[(1, 0), (1, 1)])?;
+    has_other_diary(&rt, &[(0, 0), (1, 0), (0, 1), (1, 1)])?;
+    has_other_diary(&rt, &[(0, 0), (0, 1), (1, 0)])
 }

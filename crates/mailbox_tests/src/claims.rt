@@ -3,6 +3,7 @@
 use mb_claim::{BadLayout, Claim, ClaimEntry, Layout, PlayFault, Stage, play};
 use mb_deciding::{Act, Op, Reg};
 use mb_quorum::TableName;
+use std::process::Abort;
 use std::test::Fail;
 
 /// A load of a consumer.
@@ -159,26 +160,34 @@ fn a_step_of_no_consumer(rt: HostRuntime) -> Result<(), Fail> {
 /// So many steps: more than a run of all claims takes, so that most of them are `Done`.
 const STEPS: usize = 2048;
 
-#[test]
-fn two_thousand_steps_of_sixteen_consumers(rt: HostRuntime) -> Result<(), Fail> {
-    let layout = Layout::new(16, 8, TableName::Bits)?;
+/// So many steps of sixteen consumers in order, with the random word 0.
+fn steps_in_order() -> [(u64, u64); STEPS] {
     let mut steps = [(0, 0); STEPS];
     for place in 0..STEPS {
         steps[place] = (place as u64 % 16, 0);
     }
-    let run = play(rt.alloc(), &layout, &steps)?;
-    assert_eq!(rt; run.entries.len(), STEPS);
-    assert_eq!(rt; run.stages.len(), 16);
-    // All find the conciliator's word empty, and the last to store there wins.
-    for consumer in 0..15 {
-        assert_eq!(rt; run.stages.get(consumer).copied(), Some(Stage::Lost(15)));
-    }
-    assert_eq!(rt; run.stages.get(15).copied(), Some(Stage::Won));
-    for place in 0..STEPS {
+    steps
+}
+
+/// Of steps that sixteen consumers have in order, those from `first` on are of claims that had come to their end before.
+fn are_done_from(rt: &impl Abort, entries: &[ClaimEntry], first: usize) {
+    for (place, entry) in entries.iter().enumerate() {
         let done = ClaimEntry::Done {
-            consumer: place as u32 % 16,
+            consumer: (place % 16) as u32,
         };
-        assert_eq!(rt; run.entries.get(place).copied() == Some(done), 208 <= place);
+        assert_eq!(rt; *entry == done, first <= place);
     }
+}
+
+#[test]
+fn two_thousand_steps_of_sixteen_consumers(rt: HostRuntime) -> Result<(), Fail> {
+    let layout = Layout::new(16, 8, TableName::Bits)?;
+    let run = play(rt.alloc(), &layout, &steps_in_order())?;
+    assert_eq!(rt; run.entries.len(), STEPS);
+    // All find the conciliator's word empty, and the last to store there wins.
+    let mut stages = [Stage::Lost(15); 16];
+    stages[15] = Stage::Won;
+    assert_eq!(rt; run.stages.as_slice(), stages.as_slice());
+    are_done_from(&rt, run.entries.as_slice(), 208);
     Ok(())
 }

@@ -1,6 +1,6 @@
 //! Schedules of one conciliator.
 
-use crate::entries::{ending, last_turn, loaded, shows, stored};
+use crate::entries::{are_done_from, ending, last_turn, loaded, shows, stored};
 use mb_deciding::{Entry, Fault, Out, Reg, conciliate};
 use std::test::Fail;
 
@@ -92,29 +92,25 @@ fn first_reason_refuses(rt: HostRuntime) {
 /// So many turns: more than all processes take to their outputs, so that most of them are `Done`.
 const TURNS: usize = 2048;
 
-#[test]
-fn two_thousand_turns_of_sixteen_processes(rt: HostRuntime) -> Result<(), Fail> {
-    let inputs = [0, 1, 2, 3, 4, 5, 6, 7, 8, 9, 10, 11, 12, 13, 14, 15];
+/// So many turns of sixteen processes in order, with the random word 0.
+fn turns_in_order() -> [(u64, u64); TURNS] {
     let mut turns = [(0, 0); TURNS];
     for place in 0..TURNS {
         turns[place] = (place as u64 % 16, 0);
     }
-    let trace = conciliate(rt.alloc(), 16, &inputs, &turns)?;
+    turns
+}
+
+#[test]
+fn two_thousand_turns_of_sixteen_processes(rt: HostRuntime) -> Result<(), Fail> {
+    let inputs = [0, 1, 2, 3, 4, 5, 6, 7, 8, 9, 10, 11, 12, 13, 14, 15];
+    let trace = conciliate(rt.alloc(), 16, &inputs, &turns_in_order())?;
     assert_eq!(rt; trace.entries.len(), TURNS);
-    assert_eq!(rt; trace.outputs.len(), 16);
     // All find the word empty and store, and then all find what the last one stored.
-    for process in 0..16 {
-        let output = trace.outputs.get(process).copied();
-        assert_eq!(rt; output, Some(Some(Out::undecided(15))));
-    }
-    for place in 0..TURNS {
-        let done = Entry::Done {
-            process: place % 16,
-        };
-        assert_eq!(rt;
-            trace.entries.get(place).copied() == Some(done),
-            48 <= place
-        );
-    }
+    assert_eq!(rt;
+        trace.outputs.as_slice(),
+        [Some(Out::undecided(15)); 16].as_slice()
+    );
+    are_done_from(&rt, trace.entries.as_slice(), 48);
     Ok(())
 }

@@ -3,7 +3,7 @@
 use mb_script::{Counting, ReadEnd, WriteFailed, read_all, write_all};
 use std::io;
 use std::io::{Read, Write};
-use std::test::Fail;
+use std::process::Abort;
 
 // Fails in its nth call, and works in every other.
 #[derive(Drop)]
@@ -45,48 +45,59 @@ impl<W: Write + Drop> Write for FailsOnce<W> {
     }
 }
 
-#[test]
-fn no_failed_read_is_tried_again(rt: HostRuntime) -> Result<(), Fail> {
-    for bad in 0..4 {
-        let mut reader = Counting::new(FailsOnce {
-            device: b"abcde".as_slice(),
-            calls: 0,
-            bad,
-        });
-        let result = read_all(rt.alloc(), &mut reader);
-        assert!(rt; matches!(result, Err(ReadEnd::ReadFault)), "{bad}");
-        assert_eq!(rt; reader.failures, 1);
-        assert_eq!(rt; reader.device.calls, bad + 1);
-    }
+/// Five bytes are read by a reader whose call `bad` fails: this comes of it, after so many calls.
+fn reads_five<R: Abort + AllocGlobal>(
+    rt: &R,
+    bad: usize,
+    want: Result<&[u8], ReadEnd>,
+    failures: u64,
+    calls: usize,
+) {
     let mut reader = Counting::new(FailsOnce {
         device: b"abcde".as_slice(),
         calls: 0,
-        bad: 4,
+        bad,
     });
-    let Ok(bytes) = read_all(rt.alloc(), &mut reader) else {
-        return Err(Fail::from("a read that works"));
+    let same = match read_all(rt.alloc(), &mut reader) {
+        Ok(bytes) => want == Ok(bytes.as_slice()),
+        Err(fault) => want == Err(fault),
     };
-    assert_eq!(rt; bytes.as_slice(), b"abcde".as_slice());
-    assert_eq!(rt; reader.failures, 0);
-    Ok(())
+    assert!(rt; same, "call {bad}");
+    assert_eq!(rt; reader.failures, failures);
+    assert_eq!(rt; reader.device.calls, calls);
 }
 
 #[test]
-fn no_failed_write_is_tried_again(rt: HostRuntime) -> Result<(), Fail> {
-    for (bad, want, written, failures) in [
-        (0, Err(WriteFailed), b"".as_slice(), 1),
-        (1, Err(WriteFailed), b"ab".as_slice(), 1),
-        (2, Err(WriteFailed), b"abcd".as_slice(), 1),
-        (3, Ok(()), b"abcde".as_slice(), 0),
-    ] {
-        let mut writer = Counting::new(FailsOnce {
-            device: Vec::<u8>::new(rt.alloc()),
-            calls: 0,
-            bad,
-        });
-        assert_eq!(rt; write_all(&mut writer, b"abcde"), want, "{bad}");
-        assert_eq!(rt; writer.device.device.as_slice(), written, "{bad}");
-        assert_eq!(rt; writer.failures, failures, "{bad}");
+fn no_failed_read_is_tried_again(rt: HostRuntime) {
+    for bad in 0..4 {
+        reads_five(&rt, bad, Err(ReadEnd::ReadFault), 1, bad + 1);
     }
-    Ok(())
+    // Two bytes, two, one, and the end.
+    reads_five(&rt, 4, Ok(b"abcde".as_slice()), 0, 4);
+}
+
+/// Five bytes are written by a writer whose call `bad` fails: this comes of it, and these were written.
+fn writes_five<R: Abort + AllocGlobal>(
+    rt: &R,
+    bad: usize,
+    want: Result<(), WriteFailed>,
+    written: &[u8],
+    failures: u64,
+) {
+    let mut writer = Counting::new(FailsOnce {
+        device: Vec::<u8>::new(rt.alloc()),
+        calls: 0,
+        bad,
+    });
+    assert_eq!(rt; write_all(&mut writer, b"abcde"), want, "{bad}");
+    assert_eq!(rt; writer.device.device.as_slice(), written);
+    assert_eq!(rt; writer.failures, failures);
+}
+
+#[test]
+fn no_failed_write_is_tried_again(rt: HostRuntime) {
+    writes_five(&rt, 0, Err(WriteFailed), b"", 1);
+    writes_five(&rt, 1, Err(WriteFailed), b"ab", 1);
+    writes_five(&rt, 2, Err(WriteFailed), b"abcd", 1);
+    writes_five(&rt, 3, Ok(()), b"abcde", 0);
 }

@@ -70,3 +70,13 @@ pub(crate) fn shows(
     assert_eq!(rt; trace.outputs.as_slice(), outputs);
     Ok(())
 }
+
+/// Of turns that sixteen processes have in order, those from `first` on are of processes that had their output before.
+pub(crate) fn are_done_from(rt: &impl Abort, entries: &[Entry], first: usize) {
+    for (place, entry) in entries.iter().enumerate() {
+        let done = Entry::Done {
+            process: place % 16,
+        };
+        assert_eq!(rt; *entry == done, first <= place);
+    }
+}

@@ -1,7 +1,5 @@
 //! Workers run at one time: a gate at which all of them wait for the others.
 
-ghost use Rattle.std.specs.Prelude.{◌≤◌};
-
 use crate::trial::Trial;
 use crate::workers::{ALL_DONE, works};
 use mailbox_audit::audit;
@@ -45,14 +43,12 @@ impl Gate for AllCome {
 fn come_to_the_gate<R: Abort + AllocGlobal + Threads + Wait + Sync>(
     rt: &R,
     consumers: u64,
-) -> Result<(), Fail>
-    requires { consumers ≤ 16 }
-{
+) -> Result<(), Fail> {
     let setup = Setup::new(1, consumers, 4, 4, TableName::Bits)?;
     let mut trial = Trial::new(rt.alloc(), setup)?;
     let gate = AllCome {
         come: AtomicU64::new(0),
-        workers: consumers + 1,
+        workers: consumers.wrapping_add(1),
     };
     let worked = works(
         rt,

@@ -32,6 +32,8 @@ mod own_table;
 #[cfg(test)]
 mod polls;
 #[cfg(test)]
+mod pools;
+#[cfg(test)]
 mod ratifiers;
 #[cfg(test)]
 mod refused_mailboxes;

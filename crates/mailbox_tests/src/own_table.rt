@@ -1,41 +1,82 @@
 //! A ratifier over a quorum table of one's own.
 
-ghost use Rattle.std.specs.Prelude.{◌≡◌, IfOk};
-ghost use Rattle.mb_deciding.specs.declared.place.pc.Next.TheVariants.{Go};
-
 use crate::mirrored::Mirrored;
 use mb_deciding::{Next, Op, Out, Pc, Reg};
+use mb_quorum::Quorums;
+use std::marker::Model;
+use std::process::Abort;
 use std::test::Fail;
 
-/// The place after an access that is not the last one.
-fn going(next: Next) -> Result<Pc, Out>
-    ensures { IfOk result (λ pc. next ≡ Go pc) }
-{
-    match next {
-        Next::Go(pc) => Ok(pc),
-        Next::Out(out) => Err(out),
+/// A process in a ratifier over the mirrored table, and where it stands: nowhere once it has its output.
+#[derive(Drop)]
+struct Process {
+    q: Mirrored,
+    place: Option<Pc>,
+}
+
+impl Model for Process {
+    ghost use Rattle.std.specs.Prelude.{IfSome};
+    ghost use Rattle.mb_deciding.specs.Vocabulary.{IsPlace};
+
+    ghost Value = { Unit {0} };
+
+    ghost view = { λ _. tt };
+
+    ghost invariant = { λ p. IfSome p.place (IsPlace (⟦<Mirrored as Quorums>⟧.table p.q)) };
+}
+
+impl Process {
+    /// A process that begins with this input, or stands nowhere where the table has no such value.
+    fn new(q: Mirrored, input: u32) -> Process {
+        if input < q.values() {
+            return Process {
+                q,
+                place: Some(Pc::ratifier(input)),
+            };
+        }
+        Process { q, place: None }
+    }
+
+    /// The access that comes next, with the output that it gives after finding this value.
+    fn access(&mut self, seen: u64) -> Option<(Op, Option<Out>)> {
+        let place = self.place?;
+        let op = place.next(&self.q);
+        match place.after(&self.q, seen, 0) {
+            Next::Go(next) => {
+                self.place = Some(next);
+                Some((op, None))
+            }
+            Next::Out(out) => {
+                self.place = None;
+                Some((op, Some(out)))
+            }
+        }
+    }
+}
+
+/// A process with this input makes these accesses, each with the value that it finds and the output that it gives.
+fn makes(rt: &impl Abort, q: Mirrored, input: u32, accesses: &[(Op, u64, Option<Out>)]) {
+    let mut process = Process::new(q, input);
+    for (op, seen, out) in accesses {
+        assert_eq!(rt; process.access(*seen), Some((*op, *out)));
     }
 }
 
 #[test]
 fn one_after_the_other(rt: HostRuntime) -> Result<(), Fail> {
     let q = Mirrored::new(2)?;
-    let first = Pc::ratifier(0);
-    assert_eq!(rt; first.next(&q), Op::Store(Reg::Quorum(1), 1));
-    let first = going(first.after(&q, 0, 0))?;
-    assert_eq!(rt; first.next(&q), Op::Load(Reg::Proposal));
-    let first = going(first.after(&q, 0, 0))?;
-    assert_eq!(rt; first.next(&q), Op::Store(Reg::Proposal, 1));
-    let first = going(first.after(&q, 0, 0))?;
-    assert_eq!(rt; first.next(&q), Op::Load(Reg::Quorum(0)));
-    assert_eq!(rt; first.after(&q, 0, 0), Next::Out(Out::decided(0)));
-
-    let second = Pc::ratifier(1);
-    assert_eq!(rt; second.next(&q), Op::Store(Reg::Quorum(0), 1));
-    let second = going(second.after(&q, 0, 0))?;
-    assert_eq!(rt; second.next(&q), Op::Load(Reg::Proposal));
-    let second = going(second.after(&q, 1, 0))?;
-    assert_eq!(rt; second.next(&q), Op::Load(Reg::Quorum(0)));
-    assert_eq!(rt; second.after(&q, 1, 0), Next::Out(Out::undecided(0)));
+    let first = [
+        (Op::Store(Reg::Quorum(1), 1), 0, None),
+        (Op::Load(Reg::Proposal), 0, None),
+        (Op::Store(Reg::Proposal, 1), 0, None),
+        (Op::Load(Reg::Quorum(0)), 0, Some(Out::decided(0))),
+    ];
+    makes(&rt, q, 0, &first);
+    let second = [
+        (Op::Store(Reg::Quorum(0), 1), 0, None),
+        (Op::Load(Reg::Proposal), 1, None),
+        (Op::Load(Reg::Quorum(0)), 1, Some(Out::undecided(0))),
+    ];
+    makes(&rt, q, 1, &second);
     Ok(())
 }

@@ -1,12 +1,11 @@
 //! Polls of one thread: what they answer with small budgets, and how many words they draw.
-ghost use Rattle.std.specs.Prelude.{◌<◌};
 
 use crate::trial::Trial;
 use crate::trials::{all_given, ends, new_trial};
 use crate::words::{Zeros, words_0};
 use mb_mailbox::{Poll, Put};
 use mb_world::Note;
-use std::alloc::{Allocator, Global};
+use std::alloc::Allocator;
 use std::process::Abort;
 use std::test::Fail;
 
@@ -55,10 +54,12 @@ fn a_budget_cuts_polls_short(rt: HostRuntime) -> Result<(), Fail> {
     Ok(())
 }
 
-/// Another consumer is given after so many polls of eight that are spent, and the next one takes the item.
-fn one_is_given_after<R: Abort + AllocGlobal>(rt: &R, before: u64) -> Result<Trial<Global>, Fail>
-    requires { before < 9 }
-{
+/// Another consumer is given after so many polls that are spent, then so many are spent, and the next one takes the item.
+fn one_is_given_between<R: Abort + AllocGlobal>(
+    rt: &R,
+    before: u64,
+    after: u64,
+) -> Result<(), Fail> {
     let mut trial = new_trial(rt.alloc(), 1, 2, 1)?;
     trial.producer(rt.alloc())?;
     trial.consumer(rt.alloc())?;
@@ -66,24 +67,33 @@ fn one_is_given_after<R: Abort + AllocGlobal>(rt: &R, before: u64) -> Result<Tri
     assert_eq!(rt; trial.put(0, 7), Some(Put::Linked));
     are_spent(rt, &mut trial, &mut words, 1, before);
     trial.consumer(rt.alloc())?;
-    are_spent(rt, &mut trial, &mut words, 1, 8 - before);
+    are_spent(rt, &mut trial, &mut words, 1, after);
     assert_eq!(rt; trial.poll(0, 0, 1, &mut words), Some(Poll::Took(7)));
     // The claim has seven accesses.
     assert_eq!(rt; words.given, 7);
-    Ok(trial)
+    ends(
+        rt,
+        rt.alloc(),
+        trial,
+        &[(&[7], false, &[])],
+        &[(0, 0, &[Note::Took(7)], false), (1, 0, &[], false)],
+    )
 }
 
 #[test]
 fn another_consumer_is_given_between_two_polls(rt: HostRuntime) -> Result<(), Fail> {
-    for before in 1..9 {
-        let trial = one_is_given_after(&rt, before)?;
-        ends(
-            &rt,
-            rt.alloc(),
-            trial,
-            &[(&[7], false, &[])],
-            &[(0, 0, &[Note::Took(7)], false), (1, 0, &[], false)],
-        )?;
+    // Eight polls are spent in all.
+    for (before, after) in [
+        (1, 7),
+        (2, 6),
+        (3, 5),
+        (4, 4),
+        (5, 3),
+        (6, 2),
+        (7, 1),
+        (8, 0),
+    ] {
+        one_is_given_between(&rt, before, after)?;
     }
     Ok(())
 }

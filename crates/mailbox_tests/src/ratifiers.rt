@@ -1,8 +1,9 @@
 //! Schedules of one ratifier.
 
-use crate::entries::{ending, late_input, loaded, shows, stored};
+use crate::entries::{are_done_from, ending, late_input, loaded, shows, stored};
 use mb_deciding::{Entry, Fault, Out, Reg, ratify};
 use mb_quorum::TableName;
+use std::alloc::Global;
 use std::test::Fail;
 
 #[test]
@@ -131,29 +132,21 @@ fn no_processes_have_an_empty_trace(rt: HostRuntime) -> Result<(), Fail> {
     Ok(())
 }
 
+/// Why a ratifier over the unary table is refused.
+fn fault(alloc: Global, m: u64, inputs: &[u64], schedule: &[u64]) -> Option<Fault> {
+    ratify(alloc, TableName::Unary, m, inputs, schedule).err()
+}
+
 #[test]
 fn first_reason_refuses(rt: HostRuntime) {
     let a = rt.alloc();
-    let name = TableName::Unary;
-    assert_eq!(rt; ratify(a, name, 0, &[], &[]).err(), Some(Fault::BadValues));
+    assert_eq!(rt; fault(a, 0, &[], &[]), Some(Fault::BadValues));
+    assert_eq!(rt; fault(a, 17, &[17], &[9]), Some(Fault::BadValues));
+    assert_eq!(rt; fault(a, 2, &[2], &[5]), Some(Fault::BadInput(0)));
+    assert_eq!(rt; fault(a, 2, &[0], &[0, 1]), Some(Fault::NoSuchProcess(1)));
+    assert_eq!(rt; fault(a, 2, &[0, 3, 2], &[5]), Some(Fault::BadInput(1)));
     assert_eq!(rt;
-        ratify(a, name, 17, &[17], &[9]).err(),
-        Some(Fault::BadValues)
-    );
-    assert_eq!(rt;
-        ratify(a, name, 2, &[2], &[5]).err(),
-        Some(Fault::BadInput(0))
-    );
-    assert_eq!(rt;
-        ratify(a, name, 2, &[0], &[0, 1]).err(),
-        Some(Fault::NoSuchProcess(1))
-    );
-    assert_eq!(rt;
-        ratify(a, name, 2, &[0, 3, 2], &[5]).err(),
-        Some(Fault::BadInput(1))
-    );
-    assert_eq!(rt;
-        ratify(a, name, 2, &[0], &[0, 2, 1]).err(),
+        fault(a, 2, &[0], &[0, 2, 1]),
         Some(Fault::NoSuchProcess(1))
     );
 }
@@ -161,29 +154,31 @@ fn first_reason_refuses(rt: HostRuntime) {
 /// So many turns: more than all processes take to their outputs, so that most of them are `Done`.
 const TURNS: usize = 2048;
 
-#[test]
-fn two_thousand_turns_of_sixteen_processes(rt: HostRuntime) -> Result<(), Fail> {
+/// So many turns of sixteen processes in order.
+fn turns_in_order() -> [u64; TURNS] {
     let mut turns = [0; TURNS];
     for place in 0..TURNS {
         turns[place] = place as u64 % 16;
     }
-    let trace = ratify(rt.alloc(), TableName::Unary, 16, &[3; 16], &turns)?;
+    turns
+}
+
+#[test]
+fn two_thousand_turns_of_sixteen_processes(rt: HostRuntime) -> Result<(), Fail> {
+    let trace = ratify(
+        rt.alloc(),
+        TableName::Unary,
+        16,
+        &[3; 16],
+        &turns_in_order(),
+    )?;
     assert_eq!(rt; trace.entries.len(), TURNS);
-    assert_eq!(rt; trace.outputs.len(), 16);
     // All have one input, so all decide it.
-    for process in 0..16 {
-        let output = trace.outputs.get(process).copied();
-        assert_eq!(rt; output, Some(Some(Out::decided(3))));
-    }
+    assert_eq!(rt;
+        trace.outputs.as_slice(),
+        [Some(Out::decided(3)); 16].as_slice()
+    );
     // Each announces in one register, finds the proposal empty, stores it, and checks the 15 others.
-    for place in 0..TURNS {
-        let done = Entry::Done {
-            process: place % 16,
-        };
-        assert_eq!(rt;
-            trace.entries.get(place).copied() == Some(done),
-            288 <= place
-        );
-    }
+    are_done_from(&rt, trace.entries.as_slice(), 288);
     Ok(())
 }

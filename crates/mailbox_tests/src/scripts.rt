@@ -3,60 +3,67 @@
 use crate::heaps::refusals;
 use mb_quorum::TableName;
 use mb_script::{
-    Fault, Words, has_empty_word, number, numbers, parse, split_line, split_word, table_named,
+    Fault, Script, Words, has_empty_word, number, numbers, parse, split_line, split_word,
+    table_named,
 };
 use mb_world::{Event, SetupFault};
+use std::alloc::Global;
 use std::test::Fail;
+
+/// The script of a text.
+fn script(alloc: Global, text: &str) -> Result<Script<Global>, Fail> {
+    match parse(alloc, text.as_bytes()) {
+        Ok(script) => Ok(script),
+        Err(_) => Err(Fail::from("a script that is refused")),
+    }
+}
+
+/// How many events the script of a text has, or its fault.
+fn events(alloc: Global, text: &str) -> Result<usize, Fault> {
+    let script = parse(alloc, text.as_bytes())?;
+    Ok(script.events.len())
+}
 
 #[test]
 fn a_script_is_read(rt: HostRuntime) -> Result<(), Fail> {
     let text = "setup 2 3 4 5 unary\noffer 1 18446744073709551615\npush 1\nfinish 0\nstep 2 1 7";
-    let Ok(script) = parse(rt.alloc(), text.as_bytes()) else {
-        return Err(Fail::from("a script that is refused"));
-    };
+    let script = script(rt.alloc(), text)?;
     assert_eq!(rt; script.setup.producers(), 2);
     assert_eq!(rt; script.setup.consumers(), 3);
     assert_eq!(rt; script.setup.cells(), 4);
     // Three consumers: a conciliator has at most 6 accesses, a ratifier 1 + 2 + 2.
     assert_eq!(rt; script.setup.layout().max_steps(), 55);
-    assert!(rt;
-        script.events.as_slice()
-            == [
-                Event::Offer {
-                    lane: 1,
-                    item: u64::MAX,
-                },
-                Event::Push { lane: 1 },
-                Event::Finish { lane: 0 },
-                Event::Step {
-                    consumer: 2,
-                    lane: 1,
-                    word: 7,
-                },
-            ]
-            .as_slice()
-    );
+    let events = [
+        Event::Offer {
+            lane: 1,
+            item: u64::MAX,
+        },
+        Event::Push { lane: 1 },
+        Event::Finish { lane: 0 },
+        Event::Step {
+            consumer: 2,
+            lane: 1,
+            word: 7,
+        },
+    ];
+    assert!(rt; script.events.as_slice() == events.as_slice());
     Ok(())
 }
 
 #[test]
-fn the_last_line_needs_no_end(rt: HostRuntime) -> Result<(), Fail> {
-    for (text, events) in [
+fn the_last_line_needs_no_end(rt: HostRuntime) {
+    for (text, want) in [
         ("setup 1 1 0 1 bits", 0),
         ("setup 1 1 0 1 bits\n", 0),
         ("setup 1 1 0 1 bits\npush 0", 1),
         ("setup 1 16 256 8 unary\nstep 15 0 0\n", 1),
     ] {
-        let Ok(script) = parse(rt.alloc(), text.as_bytes()) else {
-            return Err(Fail::from("a script that is refused"));
-        };
-        assert_eq!(rt; script.events.len(), events, "{text}");
+        assert_eq!(rt; events(rt.alloc(), text), Ok(want), "{text}");
     }
-    Ok(())
 }
 
 #[test]
-fn the_first_fault_decides(rt: HostRuntime) -> Result<(), Fail> {
+fn the_first_fault_decides(rt: HostRuntime) {
     for (text, want) in [
         ("", Fault::NoSetup),
         ("\n", Fault::NoSetup),
@@ -120,47 +127,46 @@ fn the_first_fault_decides(rt: HostRuntime) -> Result<(), Fail> {
         ),
         ("setup 1 1 1 1 bits\npush\npush \u{80}\n", Fault::NotAscii),
     ] {
-        let Err(fault) = parse(rt.alloc(), text.as_bytes()) else {
-            return Err(Fail::from("a script with a fault"));
-        };
-        assert_eq!(rt; fault, want, "{text}");
+        assert_eq!(rt; events(rt.alloc(), text), Err(want), "{text}");
     }
-    Ok(())
+}
+
+/// A text of so many letters.
+fn letters(alloc: Global, amount: usize) -> Result<String, Fail> {
+    let mut text = String::new(alloc);
+    for _ in 0..amount {
+        text.push_str("a")?;
+    }
+    Ok(text)
 }
 
 #[test]
-fn scripts_have_limits(rt: HostRuntime) -> Result<(), Fail> {
-    let mut letters = Vec::new(rt.alloc());
-    for _ in 0..1_048_576 {
-        letters.push(b'a')?;
-    }
-    assert!(rt; matches!(parse(rt.alloc(), &letters), Err(Fault::NoSetup)));
-    letters.push(b'a')?;
-    assert!(rt; matches!(parse(rt.alloc(), &letters), Err(Fault::TooLong)));
+fn texts_have_a_limit(rt: HostRuntime) -> Result<(), Fail> {
+    let text = letters(rt.alloc(), 1_048_576)?;
+    assert_eq!(rt; events(rt.alloc(), &text), Err(Fault::NoSetup));
+    let text = letters(rt.alloc(), 1_048_577)?;
+    assert_eq!(rt; events(rt.alloc(), &text), Err(Fault::TooLong));
+    Ok(())
+}
 
-    let mut lines = String::new(rt.alloc());
-    lines.push_str("setup 1 1 1 1 bits\n")?;
+/// A text that begins so, then has 20,000 lines of a push, and ends so.
+fn with_pushes(alloc: Global, start: &str, end: &str) -> Result<String, Fail> {
+    let mut text = start.to_string(alloc)?;
     for _ in 0..20_000 {
-        lines.push_str("push 0\n")?;
+        text.push_str("push 0\n")?;
     }
-    let Ok(script) = parse(rt.alloc(), lines.as_bytes()) else {
-        return Err(Fail::from("a script that is refused"));
-    };
-    assert_eq!(rt; script.events.len(), 20_000);
-    lines.push_str("x\n")?;
-    assert!(rt;
-        matches!(
-            parse(rt.alloc(), lines.as_bytes()),
-            Err(Fault::TooManyEvents)
-        )
-    );
+    text.push_str(end)?;
+    Ok(text)
+}
 
-    let mut late = String::new(rt.alloc());
-    late.push_str("setup 1 1 1 1 bits\npush 0\npush\n")?;
-    for _ in 0..20_000 {
-        late.push_str("push 0\n")?;
-    }
-    assert!(rt; matches!(parse(rt.alloc(), late.as_bytes()), Err(Fault::BadLine(3))));
+#[test]
+fn events_have_a_limit(rt: HostRuntime) -> Result<(), Fail> {
+    let text = with_pushes(rt.alloc(), "setup 1 1 1 1 bits\n", "")?;
+    assert_eq!(rt; events(rt.alloc(), &text), Ok(20_000));
+    let text = with_pushes(rt.alloc(), "setup 1 1 1 1 bits\n", "x\n")?;
+    assert_eq!(rt; events(rt.alloc(), &text), Err(Fault::TooManyEvents));
+    let text = with_pushes(rt.alloc(), "setup 1 1 1 1 bits\npush 0\npush\n", "")?;
+    assert_eq!(rt; events(rt.alloc(), &text), Err(Fault::BadLine(3)));
     Ok(())
 }
 
@@ -198,7 +204,7 @@ fn a_line_without_events_takes_no_memory(rt: HostRuntime) -> Result<(), Fail> {
 }
 
 #[test]
-fn texts_are_cut(rt: HostRuntime) -> Result<(), Fail> {
+fn lines_are_cut_off(rt: HostRuntime) {
     for (text, want) in [
         ("", None),
         ("\n", Some(("", ""))),
@@ -207,6 +213,34 @@ fn texts_are_cut(rt: HostRuntime) -> Result<(), Fail> {
     ] {
         assert!(rt; split_line(text) == want, "{text}");
     }
+}
+
+/// Whether the words that are cut off a line are these, and no more.
+fn has_words(line: &str, want: &[&str]) -> bool {
+    let mut rest = Some(line);
+    for word in want {
+        let Some(text) = rest else {
+            return false;
+        };
+        let (first, behind) = split_word(text);
+        if first != *word {
+            return false;
+        }
+        rest = behind;
+    }
+    rest.is_none()
+}
+
+/// Whether the few words of a line are these, where none of them is empty, and else none.
+fn has_few_words(line: &str, want: &[&str], empty: bool) -> bool {
+    match Words::of_line(line) {
+        Some(few) => !empty && few.as_slice() == want,
+        None => empty,
+    }
+}
+
+#[test]
+fn words_are_cut_off(rt: HostRuntime) {
     for (line, want, empty) in [
         ("", [""].as_slice(), true),
         ("a b\tc", ["a", "b\tc"].as_slice(), false),
@@ -218,23 +252,15 @@ fn texts_are_cut(rt: HostRuntime) -> Result<(), Fail> {
             false,
         ),
     ] {
-        let mut rest = Some(line);
-        for word in want {
-            let Some(text) = rest else {
-                return Err(Fail::from("a word more"));
-            };
-            let (first, behind) = split_word(text);
-            assert!(rt; first == *word, "{line}");
-            rest = behind;
-        }
-        assert!(rt; rest.is_none(), "{line}");
+        assert!(rt; has_words(line, want), "{line}");
         assert_eq!(rt; has_empty_word(line), empty, "{line}");
-        match Words::of_line(line) {
-            Some(few) => assert!(rt; !empty && few.as_slice() == want, "{line}"),
-            None => assert!(rt; empty, "{line}"),
-        }
+        assert!(rt; has_few_words(line, want, empty), "{line}");
     }
     assert!(rt; Words::of_line("1 2 3 4 5 6 7 8 9").is_none());
+}
+
+#[test]
+fn numbers_are_decimal(rt: HostRuntime) {
     for (word, want) in [
         ("0", Some(0)),
         ("9", Some(9)),
@@ -251,6 +277,16 @@ fn texts_are_cut(rt: HostRuntime) -> Result<(), Fail> {
     ] {
         assert_eq!(rt; number(word), want, "{word}");
     }
+}
+
+/// Whether the numbers of these words are these.
+fn has_numbers(alloc: Global, words: Option<&str>, want: Option<&[u64]>) -> Result<bool, Fail> {
+    let read = numbers(alloc, words)?;
+    Ok(read.as_ref().map(|list| list.as_slice()) == want)
+}
+
+#[test]
+fn lists_of_numbers_are_read(rt: HostRuntime) -> Result<(), Fail> {
     for (words, want) in [
         (None, Some([].as_slice())),
         (Some("0"), Some([0].as_slice())),
@@ -258,11 +294,14 @@ fn texts_are_cut(rt: HostRuntime) -> Result<(), Fail> {
         (Some("3 x 0"), None),
         (Some("3 "), None),
     ] {
-        let read = numbers(rt.alloc(), words)?;
-        assert!(rt; read.as_ref().map(|list| list.as_slice()) == want);
+        assert!(rt; has_numbers(rt.alloc(), words, want)?);
     }
+    Ok(())
+}
+
+#[test]
+fn tables_have_names(rt: HostRuntime) {
     assert!(rt; table_named("unary") == Some(TableName::Unary));
     assert!(rt; table_named("bits") == Some(TableName::Bits));
     assert!(rt; table_named("middle").is_none());
-    Ok(())
 }

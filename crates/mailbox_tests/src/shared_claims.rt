@@ -12,6 +12,7 @@ use mb_deciding::{Op, Reg};
 use mb_quorum::TableName;
 use mb_shared_claims::{AllGiven, ClaimHub, ClaimSeat, SharedClaims};
 use std::alloc::Allocator;
+use std::process::Abort;
 use std::test::Fail;
 use std::thread::{Threads, join, map_vec};
 
@@ -201,16 +202,40 @@ fn another_goes_on_where_one_stopped(rt: HostRuntime) -> Result<(), Fail> {
     Ok(())
 }
 
+/// Whether both claims on a cell have come to an end, where not both have won and not both have lost.
+fn are_ends(mine: Stage, theirs: Stage) -> bool {
+    match (mine, theirs) {
+        (Stage::Going, _) | (_, Stage::Going) => false,
+        (Stage::Won, Stage::Won) | (Stage::Lost(_), Stage::Lost(_)) => false,
+        _ => true,
+    }
+}
+
 #[test]
 fn two_threads_claim_a_hundred_cells(rt: HostRuntime) -> Result<(), Fail> {
     let (mine, theirs) = claimed_by_two(&rt, rt.alloc())?;
     for cell in 0..CELLS as usize {
-        let ends = (mine[cell], theirs[cell]);
-        assert!(rt; !matches!(ends, (Stage::Going, _) | (_, Stage::Going)));
-        assert!(rt; !matches!(ends, (Stage::Won, Stage::Won)));
-        assert!(rt; !matches!(ends, (Stage::Lost(_), Stage::Lost(_))));
+        assert!(rt; are_ends(mine[cell], theirs[cell]), "cell {cell}");
     }
     Ok(())
+}
+
+/// Whether all claims on a cell have come to an end, and name one winner where they name any.
+fn name_one_winner(ends: &[Stage]) -> bool {
+    let mut winner = None;
+    for (consumer, end) in ends.iter().enumerate() {
+        let named = match *end {
+            Stage::Going => return false,
+            Stage::Won => consumer,
+            Stage::Lost(other) => other as usize,
+            Stage::Undecided => continue,
+        };
+        if winner.is_some() && winner != Some(named) {
+            return false;
+        }
+        winner = Some(named);
+    }
+    true
 }
 
 #[test]
@@ -218,36 +243,29 @@ fn sixteen_threads_claim_one_cell(rt: HostRuntime) -> Result<(), Fail> {
     for _ in 0..ROUNDS {
         let ends = claimed_by_sixteen(&rt, rt.alloc())?;
         assert_eq!(rt; ends.len(), 16);
-        let mut winner = None;
-        for consumer in 0..16u32 {
-            let named = match ends[consumer as usize] {
-                Stage::Going => return Err(Fail::new("a claim goes on")),
-                Stage::Won => consumer,
-                Stage::Lost(other) => other,
-                Stage::Undecided => continue,
-            };
-            assert!(rt; winner.is_none() || winner == Some(named));
-            winner = Some(named);
-        }
+        assert!(rt; name_one_winner(ends.as_slice()));
     }
     Ok(())
 }
 
+/// Whether the allocator serves new claims, of which one is then won.
+fn new_is_served<A: Allocator + Clone + Drop>(rt: &impl Abort, alloc: A) -> Result<bool, Fail> {
+    let layout = Layout::new(2, 1, TableName::Bits)?;
+    let Ok((table, mut hub)) = SharedClaims::new(alloc, layout, 1) else {
+        return Ok(false);
+    };
+    let mut seat = table.enroll(&mut hub)?;
+    let mut claim = Claim::new(table.layout(), seat.consumer());
+    assert_eq!(rt; step_on(&table, &mut seat, &mut claim, 0, 7), 7);
+    assert_eq!(rt; claim.stage(), Stage::Won);
+    table.take_in(&mut hub, seat);
+    table.close(hub);
+    Ok(true)
+}
+
 #[test]
 fn each_growth_of_new_refused(rt: HostRuntime) -> Result<(), Fail> {
-    let refused = refusals(&rt, |heap| {
-        let layout = Layout::new(2, 1, TableName::Bits)?;
-        let Ok((table, mut hub)) = SharedClaims::new(heap, layout, 1) else {
-            return Ok(false);
-        };
-        let mut seat = table.enroll(&mut hub)?;
-        let mut claim = Claim::new(table.layout(), seat.consumer());
-        assert_eq!(rt; step_on(&table, &mut seat, &mut claim, 0, 7), 7);
-        assert_eq!(rt; claim.stage(), Stage::Won);
-        table.take_in(&mut hub, seat);
-        table.close(hub);
-        Ok(true)
-    })?;
+    let refused = refusals(&rt, |heap| new_is_served(&rt, heap))?;
     // The zeros, and the words.
     assert!(rt; 2 <= refused);
     Ok(())

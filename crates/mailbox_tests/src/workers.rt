@@ -1,7 +1,5 @@
 //! Workers: what `work` answers, and what is reported then.
 
-ghost use Rattle.std.specs.Prelude.{◌<◌};
-
 use crate::trial::Trial;
 use crate::trials::{ends, new_trial};
 use crate::words::{Zeros, words_0};
@@ -175,15 +173,13 @@ fn a_consumer_without_lanes_polls_none(rt: HostRuntime) -> Result<(), Fail> {
     )
 }
 
-/// The items of producer `p`, as in a list of its own.
-fn sixteen_from(alloc: Global, first: u64) -> Result<Vec<u64>, Fail>
-    requires { first < 1000000 }
-{
-    let mut items = Vec::new(alloc);
-    for i in 0..16 {
-        items.push(first + i)?;
+/// Sixteen items in order, from this one on.
+fn sixteen_from(first: u64) -> [u64; 16] {
+    let mut items = [first; 16];
+    for place in 0..16 {
+        items[place] = first.wrapping_add(place as u64);
     }
-    Ok(items)
+    items
 }
 
 /// The report of a run of four producers and four consumers, which share 64 cells.
@@ -192,27 +188,33 @@ fn four_and_four<R: Abort + AllocGlobal + Threads + Wait + Sync>(
 ) -> Result<Report<Global>, Fail> {
     let setup = Setup::new(4, 4, 64, 4, TableName::Bits)?;
     let mut trial = Trial::new(rt.alloc(), setup)?;
-    let mut items = Vec::new(rt.alloc());
-    for p in 0..4 {
-        items.push(sixteen_from(rt.alloc(), 100 * p)?)?;
-    }
-    let rngs = sources(rt.alloc(), 4)?;
-    let worked = trial.work(rt.alloc(), rt, items, 3, rngs, &OpenGate);
+    let items = [0, 100, 200, 300].map(sixteen_from);
+    let items = [
+        items[0].as_slice(),
+        items[1].as_slice(),
+        items[2].as_slice(),
+        items[3].as_slice(),
+    ];
+    let worked = works(rt, &mut trial, &items, 3, 4, &OpenGate)?;
     assert_eq!(rt; worked, Ok(ALL_DONE));
     trial.gather(rt.alloc()).map_err(|_| Fail::new("no report"))
+}
+
+/// Each lane has the items of its producer in order, and each diary has notes on all of them.
+fn tells_of_all(rt: &impl Abort, report: &Report<Global>) {
+    assert_eq!(rt; (report.lanes.len(), report.diaries.len()), (4, 16));
+    for (lane, first) in report.lanes.iter().zip([0u64, 100, 200, 300]) {
+        assert_eq!(rt; lane.put.as_slice(), sixteen_from(first).as_slice());
+    }
+    for diary in &report.diaries {
+        assert_eq!(rt; (diary.notes.len(), diary.begun), (16, false));
+    }
 }
 
 #[test]
 fn four_producers_and_four_consumers_share_64_cells(rt: HostRuntime) -> Result<(), Fail> {
     let report = four_and_four(&rt)?;
-    assert_eq!(rt; (report.lanes.len(), report.diaries.len()), (4, 16));
-    for (lane, first) in report.lanes.iter().zip([0u64, 100, 200, 300]) {
-        let put = sixteen_from(rt.alloc(), first)?;
-        assert_eq!(rt; lane.put.as_slice(), put.as_slice());
-    }
-    for diary in &report.diaries {
-        assert_eq!(rt; (diary.notes.len(), diary.begun), (16, false));
-    }
+    tells_of_all(&rt, &report);
     // Among others: no item has two who took it.
     let tally = audit(&report)?;
     assert_eq!(rt; tally.put, 64);

@@ -1,9 +1,0 @@
-use Rattle.std.proofs.Common.{◌≡◌}
-use Rattle.mailbox_tests.proofs.cells.sixteen_lanes_until_full.Given as goal
-use Rattle.mb_cells.specs.Vocabulary.{cell_count, lane_count}
-
-abbrev pub invariant-loop-cell : goal.invariant-loop-cell
-invariant-loop-cell g l = (lane_count l.pool ≡ 16) × (cell_count l.pool ≡ 40)
-
-abbrev pub invariant-loop-p : goal.invariant-loop-p
-invariant-loop-p g l = (lane_count l.pool ≡ 16) × (cell_count l.pool ≡ 40)

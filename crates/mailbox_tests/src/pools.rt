@@ -1,0 +1,100 @@
+//! Pools that are called by lists of calls, so that a test owes no premise.
+
+use mb_cells::{Cursor, Finish, Look, NoMemory, Offer, Pool, Push};
+use std::alloc::Allocator;
+use std::marker::Model;
+use std::process::Abort;
+
+/// A call of a pool, with its lane, cell or cursor, and what it answers.
+#[derive(Clone, Copy)]
+pub(crate) enum PoolCall {
+    /// This item is offered on a lane.
+    Offer(u32, u64, Offer),
+    Push(u32, Push),
+    Finish(u32, Finish),
+    Look(Cursor, Look),
+    /// The item of a cell.
+    Item(u32, u64),
+}
+
+/// A pool that knows how many lanes and cells it has.
+#[derive(Drop)]
+pub(crate) struct Calls<A: Allocator + Drop> {
+    pool: Pool<A>,
+    lanes: u32,
+    cells: u32,
+}
+
+impl<A: Allocator + Drop> Model for Calls<A> {
+    ghost use Rattle.std.specs.Prelude.{◌≡◌};
+    ghost use Rattle.mb_cells.specs.Vocabulary.{cell_count, lane_count};
+
+    ghost Value = { Unit {0} };
+
+    ghost view = { λ _. tt };
+
+    ghost invariant = { λ c. (lane_count c.pool ≡ c.lanes) × (cell_count c.pool ≡ c.cells) };
+}
+
+impl<A: Allocator + Clone + Drop> Calls<A> {
+    /// A new pool with so many lanes and cells.
+    pub(crate) fn new(alloc: A, lanes: u32, cells: u32) -> Result<Calls<A>, NoMemory> {
+        let pool = Pool::new(alloc, lanes, cells)?;
+        Ok(Calls { pool, lanes, cells })
+    }
+}
+
+impl<A: Allocator + Drop> Calls<A> {
+    /// Makes these calls, each of which has its answer.
+    pub(crate) fn make(&mut self, rt: &impl Abort, calls: &[PoolCall]) {
+        for (place, call) in calls.iter().enumerate() {
+            let same = match *call {
+                PoolCall::Offer(p, x, answer) => self.offer(p, x) == Some(answer),
+                PoolCall::Push(p, answer) => self.push(p) == Some(answer),
+                PoolCall::Finish(p, answer) => self.finish(p) == Some(answer),
+                PoolCall::Look(cursor, answer) => self.look(cursor) == Some(answer),
+                PoolCall::Item(k, x) => self.item(k) == Some(x),
+            };
+            assert!(rt; same, "call {place}");
+        }
+    }
+
+    fn offer(&mut self, p: u32, x: u64) -> Option<Offer> {
+        if self.lanes <= p {
+            return None;
+        }
+        Some(self.pool.offer(p, x))
+    }
+
+    fn push(&mut self, p: u32) -> Option<Push> {
+        if self.lanes <= p {
+            return None;
+        }
+        Some(self.pool.push(p))
+    }
+
+    fn finish(&mut self, p: u32) -> Option<Finish> {
+        if self.lanes <= p {
+            return None;
+        }
+        Some(self.pool.finish(p))
+    }
+
+    fn look(&self, cursor: Cursor) -> Option<Look> {
+        let is_within = match cursor {
+            Cursor::Head(p) => p < self.lanes,
+            Cursor::Past(k) => k < self.cells,
+        };
+        if !is_within {
+            return None;
+        }
+        Some(self.pool.look(cursor))
+    }
+
+    fn item(&self, k: u32) -> Option<u64> {
+        if self.cells <= k {
+            return None;
+        }
+        Some(self.pool.item(k))
+    }
+}
