@@ -5,6 +5,7 @@ ghost use Rattle.mb_claim.specs.declared.access.ClaimAccess.{ClaimAccess};
 ghost use Rattle.mb_claim.specs.declared.claim.Claim.{Claim};
 ghost use Rattle.mb_claim.specs.declared.layout.Layout.{Layout};
 ghost use Rattle.mb_claim.specs.Vocabulary.{IsMemoryOf, consumer_of, words_in};
+ghost use Rattle.mailbox_bench.specs.Shifts.{word_after};
 ghost use Rattle.mailbox_bench.specs.UnderWay.{ChangesOnly, IsBefore, IsContest, IsUnderWay, all_claims, looked};
 
 use mb_claim::steps::histories_begin_with_zeros;
@@ -42,4 +43,11 @@ pub fn contests_are_of_all()
         → IsContest layout 3 (claim ∷ claim ∷ []) words h → ⊥ }
     ensures another { (layout : Layout) (claim : Claim) (words : List ℕ) (h : List ClaimAccess)
         → consumer_of claim ≡ 1 → IsContest layout 3 (claim ∷ []) words h → ⊥ }
+{}
+
+/// The words that follow 1 and 0 by shifts, and what one shift alone would give.
+pub fn words_are_shifted()
+    ensures first { word_after 1 ≡ (1082269761, 1082269761) }
+    ensures none { word_after 0 ≡ (0, 0) }
+    ensures one_shift { word_after 1 ≡ (8193, 8193) → ⊥ }
 {}
