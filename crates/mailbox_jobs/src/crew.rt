@@ -84,7 +84,7 @@ fn run_jobs(
                     board.run(job);
                     taken += 1;
                 }
-                // Another worker has won it, whose number this is: nothing to do here.
+                // No worker but the one of this number can win it: nothing to do here.
                 Poll::Lost(_) => {}
                 // This worker does not know who has won it, if anybody has. It must not run it: the report will tell.
                 Poll::Undecided => {}
