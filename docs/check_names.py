@@ -57,7 +57,7 @@ class Sources:
         self.crates = sorted(os.listdir(f"{TOP}/crates"))
         self.texts = {}
         self.paths = set()
-        for path in [*files_below(TOP), *files_below(f"{TOP}/examples")]:
+        for path in files_below(TOP):
             parts = os.path.relpath(path, TOP).split(os.sep)
             self.paths.update("/".join(parts[:n]) for n in range(1, len(parts) + 1))
         self.words = {crate: set() for crate in self.crates}
@@ -92,7 +92,7 @@ class Sources:
 
 def pages():
     yield f"{TOP}/README.md"
-    for folder in ("docs", "bench", "crates"):
+    for folder in ("docs", "bench", "examples", "crates"):
         for path in files_below(f"{TOP}/{folder}"):
             if path.endswith(".md"):
                 yield path
