@@ -1,5 +1,5 @@
 -- What devices count, and what they give and take, where their bytes are known.
-use Rattle.std.specs.Prelude.{◌≡◌, ℕ, ◌+◌, ◌%◌, ◌^◌, ◌≤◌, List, length, take, Some, None}
+use Rattle.std.specs.Prelude.{◌≡◌, ℕ, ◌+◌, ◌-◌, ◌%◌, ◌^◌, ◌≤◌, min, List, length, take, Some, None}
 use Rattle.std.specs.declared.option.Option.{Option}
 use Rattle.std.specs.Io.KnownBytes.{Appends, Consumes}
 
@@ -7,11 +7,11 @@ use Rattle.std.specs.Io.KnownBytes.{Appends, Consumes}
 abbrev pub one_more : ℕ → ℕ
 one_more failures = (failures + 1) % 2 ^ 64
 
--- a count modulo 2^64 grows by n
+-- a count that stops at 2^64 - 1 grows by n
 abbrev pub CountGrows : ℕ → ℕ → ℕ → Type 0
-CountGrows n old new = new % 2 ^ 64 ≡ (old + n) % 2 ^ 64
+CountGrows n old new = min (2 ^ 64 - 1) new ≡ min (2 ^ 64 - 1) (old + n)
 
--- a count modulo 2^64 grows by at most so many
+-- a count that stops at 2^64 - 1 grows by at most so many
 abbrev pub CountGrowsUpTo : ℕ → ℕ → ℕ → Type 0
 CountGrowsUpTo most old new = (n : ℕ) × (n ≤ most) × CountGrows n old new
 

@@ -12,14 +12,14 @@ ghost use Rattle.mb_script.specs.Devices.{CountGrows, one_more};
 use std::io;
 use std::io::{Read, Write};
 
-/// A reader that counts its failures and the bytes that its reads give, both modulo 2^64.
+/// A reader that counts its failures, modulo 2^64, and the bytes that its reads give, up to 2^64 - 1.
 pub trait Source {
     // The bytes that reads will give from here on, where they are known.
     ghost left: { Self → Option (List ℕ) };
 
     ghost failures: { Self → ℕ };
 
-    // How many bytes its reads gave, whether they are known or not.
+    // How many bytes its reads gave, whether they are known or not. It stops at 2^64 - 1.
     ghost given: { Self → ℕ };
 
     /// Reads some bytes, at most the buffer's length, and none only at the end or with no room.
@@ -56,7 +56,7 @@ pub struct Counting<D: Drop> {
     pub device: D,
     /// How many of its reads or writes failed, modulo 2^64.
     pub failures: u64,
-    /// How many bytes its reads gave, modulo 2^64. Of a writer it stays as it is.
+    /// How many bytes its reads gave; where they are more, 2^64 - 1. Of a writer it stays as it is.
     pub given: u64,
 }
 
@@ -93,7 +93,7 @@ impl<R: Read + Drop> Source for Counting<R> {
     fn read(&mut self, buf: &mut [u8]) -> io::Result<usize> {
         let result = self.device.read(buf);
         match &result {
-            Ok(n) => self.given = self.given.wrapping_add(*n as u64),
+            Ok(n) => self.given = self.given.saturating_add(*n as u64),
             Err(_) => self.count_failure(),
         }
         result

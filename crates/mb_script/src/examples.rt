@@ -1,6 +1,6 @@
-//! The definitions by example: how answers and reports are written. The functions compute nothing: their contracts are
-//! the examples, and their proofs stand in `proofs/examples`.
-ghost use Rattle.std.specs.Prelude.{◌≡◌, true, false, [], ◌∷◌, ◌++◌, codes};
+//! The definitions by example: what devices give and take, and how answers and reports are written. The functions
+//! compute nothing: their contracts are the examples, and their proofs stand in `proofs/examples`.
+ghost use Rattle.std.specs.Prelude.{◌≡◌, ◌-◌, ◌^◌, true, false, [], ◌∷◌, ◌++◌, codes, Some};
 ghost use Rattle.mb_claim.specs.declared.access.Stage.TheVariants as stage;
 ghost use Rattle.mb_cells.specs.declared.answer.Finish.TheVariants as finish;
 ghost use Rattle.mb_cells.specs.declared.answer.Look.TheVariants as look;
@@ -11,8 +11,38 @@ ghost use Rattle.mb_deciding.specs.declared.access.Reg.TheVariants.{Value, Propo
 ghost use Rattle.mb_world.specs.declared.event.Answer.TheVariants as answer;
 ghost use Rattle.mb_world.specs.declared.event.Event.TheVariants.{Offer, Push, Finish, Step};
 ghost use Rattle.mb_world.specs.declared.report.Note.TheVariants.{Took, Lost, Undecided};
+ghost use Rattle.mb_script.specs.Devices.{AppendsFront, ConsumesCount, ConsumesUpTo, CountGrowsUpTo, Had};
 ghost use Rattle.mb_script.specs.ReportText.{report_text};
 ghost use Rattle.mb_script.specs.Transcript.{entry_text, transcript_text};
+
+/// A writer gets a prefix of the text behind what it had, and nothing else.
+pub fn writers_get_a_prefix()
+    ensures some { AppendsFront (Some (codes "ab")) (Some (codes "abc")) (codes "cd") }
+    ensures other_byte { AppendsFront (Some (codes "ab")) (Some (codes "abd")) (codes "cd") → ⊥ }
+    ensures lost_byte { AppendsFront (Some (codes "ab")) (Some (codes "a")) (codes "cd") → ⊥ }
+{}
+
+/// A reader loses bytes from its front, and is asked for no more than so many.
+pub fn readers_lose_their_front()
+    ensures two { ConsumesCount 2 (Some (codes "abc")) (Some (codes "c")) }
+    ensures not_three { ConsumesCount 3 (Some (codes "abc")) (Some (codes "c")) → ⊥ }
+    ensures up_to_two { ConsumesUpTo 2 (Some (codes "abc")) (Some (codes "c")) }
+    ensures up_to_one { ConsumesUpTo 1 (Some (codes "abc")) (Some (codes "c")) → ⊥ }
+    ensures other_end { ConsumesUpTo 2 (Some (codes "abc")) (Some (codes "b")) → ⊥ }
+    ensures had { Had (Some (codes "ab")) (codes "ab") }
+    ensures had_more { Had (Some (codes "ab")) (codes "a") → ⊥ }
+{}
+
+/// A count grows by what is added, by no more than so many, and stops at 2^64 - 1.
+pub fn counts_grow()
+    ensures two { CountGrowsUpTo 2 5 7 }
+    ensures none { CountGrowsUpTo 2 5 5 }
+    ensures three { CountGrowsUpTo 2 5 8 → ⊥ }
+    ensures back { CountGrowsUpTo 2 7 5 → ⊥ }
+    ensures at_the_last { CountGrowsUpTo 2 (2 ^ 64 - 2) (2 ^ 64 - 1) }
+    ensures past_the_last { CountGrowsUpTo 2 (2 ^ 64 - 1) (2 ^ 64 - 1) }
+    ensures around { CountGrowsUpTo 2 (2 ^ 64 - 1) 1 → ⊥ }
+{}
 
 /// The events of a producer with their answers.
 pub fn producers_are_answered()

@@ -1,6 +1,6 @@
 //! What holds of every text, every script and every device. The functions compute nothing: their contracts are the laws. Their proofs stand in
 //! `proofs/laws`, in a folder of the law's name.
-ghost use Rattle.std.specs.Prelude.{◌≡◌, ◌≢◌, ℕ, suc, ◌<◌, ◌≤◌, ◌^◌, List, ◌∷◌, ◌++◌, codes, length, map, take};
+ghost use Rattle.std.specs.Prelude.{◌≡◌, ◌≢◌, ℕ, suc, ◌+◌, ◌-◌, ◌<◌, ◌≤◌, ◌^◌, List, ◌∷◌, ◌++◌, codes, length, map, take};
 ghost use Rattle.std.specs.Prelude.{Some, Err, true, false};
 ghost use Rattle.std.specs.Char.{is_ascii};
 ghost use Rattle.std.specs.Fmt.{decimal};
@@ -104,8 +104,8 @@ pub fn failures_are_seen()
     ensures { (failures : ℕ) → one_more failures ≢ failures }
 {}
 
-/// A count that grows by at most so many shows that no more bytes were given, unless these are 2^64 or more.
+/// A count that grows by at most so many, and does not come to its end by that, shows that no more bytes were given.
 pub fn counts_bound_what_is_given()
-    ensures { (most n old new : ℕ) → n < 2 ^ 64 → most < 2 ^ 64 → CountGrows n old new
+    ensures { (most n old new : ℕ) → old + most < 2 ^ 64 - 1 → CountGrows n old new
         → CountGrowsUpTo most old new → n ≤ most }
 {}

@@ -1,8 +1,8 @@
 //! The command `replay`: from a script to its transcript and its report.
-ghost use Rattle.std.specs.Prelude.{◌≡◌, ◌≢◌, ◌+◌, Some, IfOk, IfErr, string_bytes};
-ghost use Rattle.mb_script.specs.declared.fault.Fault.TheVariants.{NoMemory, ReadFault, WriteFault};
+ghost use Rattle.std.specs.Prelude.{◌≡◌, ◌≢◌, ◌+◌, Some, Err, IfOk, IfErr, string_bytes};
+ghost use Rattle.mb_script.specs.declared.fault.Fault.TheVariants.{TooLong, NoMemory, ReadFault, WriteFault};
 ghost use Rattle.mb_script.specs.declared.transfer.TheConstants.{MAX_SCRIPT_LEN};
-ghost use Rattle.mb_script.specs.Devices.{CountGrowsUpTo};
+ghost use Rattle.mb_script.specs.Devices.{CountGrows, CountGrowsUpTo};
 ghost use Rattle.mb_script.specs.Exchange.{IsExchange, meter};
 ghost use Rattle.mb_script.specs.Replaying.{IsAnswer, fault_of, replaying};
 
@@ -37,6 +37,10 @@ pub fn run<A: Allocator + Copy, R: Source, W: Sink>(
 
     // Of every reader, also of one whose bytes are not known.
     ensures given { CountGrowsUpTo (MAX_SCRIPT_LEN + 1) (R.given reader.old) (R.given reader.new) }
+    ensures given_long { result ≡ Err TooLong
+        → CountGrows (MAX_SCRIPT_LEN + 1) (R.given reader.old) (R.given reader.new) }
+    ensures given_failed { result ≡ Err ReadFault
+        → CountGrowsUpTo MAX_SCRIPT_LEN (R.given reader.old) (R.given reader.new) }
 {
     let bytes = read_all(alloc, reader)?;
     let text = answer(alloc, &bytes)?;

@@ -1,7 +1,8 @@
 //! All that a reader has, up to a limit, and a text into a writer.
 ghost use Rattle.std.specs.Prelude.{◌≡◌, ◌≢◌, ◌+◌, ◌≤◌, IfOk, OnOk, OnErr, Err, length};
 ghost use Rattle.std.specs.Io.KnownBytes.{Appends, Consumes, IsAtEnd};
-ghost use Rattle.mb_script.specs.Devices.{AppendsFront, ConsumesCount, ConsumesUpTo, CountGrowsUpTo, one_more};
+ghost use Rattle.mb_script.specs.Devices.{AppendsFront, ConsumesCount, ConsumesUpTo, CountGrows};
+ghost use Rattle.mb_script.specs.Devices.{CountGrowsUpTo, one_more};
 
 use crate::device::{Sink, Source};
 use std::alloc::Allocator;
@@ -48,6 +49,12 @@ pub fn read_all<R: Source, A: Allocator + Drop>(
 
     // Of every reader, also of one whose bytes are not known.
     ensures given { CountGrowsUpTo (MAX_SCRIPT_LEN + 1) (R.given reader.old) (R.given reader.new) }
+    ensures given_whole { IfOk result
+        (λ v. CountGrows (length v.items) (R.given reader.old) (R.given reader.new)) }
+    ensures given_long { result ≡ Err ReadEnd.TooLong
+        → CountGrows (MAX_SCRIPT_LEN + 1) (R.given reader.old) (R.given reader.new) }
+    ensures given_failed { result ≡ Err ReadEnd.ReadFault
+        → CountGrowsUpTo MAX_SCRIPT_LEN (R.given reader.old) (R.given reader.new) }
 
     // It answers ReadFault exactly where the reader failed.
     ensures fault { result ≡ Err ReadEnd.ReadFault

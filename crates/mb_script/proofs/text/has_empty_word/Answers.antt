@@ -1,4 +1,4 @@
-use Rattle.std.proofs.Common.{rules, tests, lit<, length, List, ℕ, nat_eq}
+use Rattle.std.proofs.Common.{rules, tests, lit<, length, nat_eq}
 use Rattle.std.proofs.lemmas.Iterator.Search.{any_from_yields_List}
 use Rattle.std.proofs.lemmas.Iterator.Splits.{YieldsList-from_str_split}
 use Rattle.mb_script.proofs.text.has_empty_word.Goals as goal

@@ -1,4 +1,4 @@
-use Rattle.std.proofs.Common.{◌≡◌, List, ℕ, ◌∙◌, sym, Option, None}
+use Rattle.std.proofs.Common.{◌∙◌, sym}
 use Rattle.mb_script.proofs.Cuts.{number_fails, number_works, numbers_end}
 use Rattle.mb_script.proofs.text.numbers.Goals as goal
 

@@ -1,4 +1,4 @@
-use Rattle.std.proofs.Common.{◌≡◌, ◌<◌, ◌+◌, ℕ, List, ◌∷◌, lit<, arith, length, drop, length-drop, ap, sym, ◌∙◌}
+use Rattle.std.proofs.Common.{◌≡◌, ◌+◌, ℕ, List, ◌∷◌, lit<, arith, length, length-drop, ap, ◌∙◌}
 use Rattle.std.specs.List.{position_or_len}
 use Rattle.mb_script.specs.Text.{words_of}
 use Rattle.mb_script.proofs.Cuts.{parts, some_word, words_cut, words_last}
