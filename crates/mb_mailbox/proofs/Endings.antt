@@ -1,5 +1,5 @@
 -- A consumer that has read a lane to its end.
-use Rattle.std.proofs.Common.{◌≡◌, ◌≢◌, ℕ, zero, suc, ◌+◌, ◌<◌, List, [], ◌∷◌, ◌++◌, length, map, refl, sym, ap, ◌∙◌, subst, inr, arith}
+use Rattle.std.proofs.Common.{◌≡◌, ◌≢◌, ℕ, zero, suc, ◌+◌, ◌<◌, ◌≤◌, List, [], ◌∷◌, ◌++◌, length, map, refl, sym, ap, ◌∙◌, subst, inr, arith}
 use Rattle.std.specs.Prelude.{Option, Some, None, slice_get, slice_set}
 use Rattle.std.specs.Option.{option_map_or}
 use Rattle.std.proofs.lemmas.List.{length-append, length-map, length-reverse}
@@ -90,6 +90,15 @@ made_by p budget answer s t old new able i =
     let claimed = ap (λ (c : SeatView). length c.part) i.done.seat ∙ length-append (claim_accesses i.accesses) old.seat.part in
     let all = both i.accesses in
     omega (arith, some, reads, claimed, all)
+
+pub most_by : (p budget : ℕ) (answer : Poll) (s t : Stream) (old new : ConsumerView) → IsPollOf p budget answer s t old new
+    → accesses_made new ≤ accesses_made old + budget
+most_by p budget answer s t old new i =
+    let within = i.within in
+    let reads = ap (λ (r : ReaderSeatView). length r.part) i.done.reader ∙ length-append (pool_accesses i.accesses) old.reader.part in
+    let claimed = ap (λ (c : SeatView). length c.part) i.done.seat ∙ length-append (claim_accesses i.accesses) old.seat.part in
+    let all = both i.accesses in
+    omega (arith, within, reads, claimed, all)
 
 -- ---- from its loads
 module _ (met : (q p : ℕ) (h : History) → HasMet q p (cells_met p (part (Reader q) h)) h)

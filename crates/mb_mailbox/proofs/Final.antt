@@ -15,7 +15,7 @@ use Rattle.mb_mailbox.specs.Consumers.{ConsumerView, IsConsumerOf}
 use Rattle.mb_mailbox.specs.Given.{AreAllGiven, AreGiven}
 use Rattle.mb_mailbox.specs.HubRuns.{ArePollJobs, ArePutJobs}
 use Rattle.mb_mailbox.specs.Hubs.{HubView, IsHub, IsHubOf}
-use Rattle.mb_mailbox.specs.Jobs.{HasReadToEnd, IsPollEnd, IsPutEnd}
+use Rattle.mb_mailbox.specs.Jobs.{HasReadToEnd, IsOnLanes, IsPollEnd, IsPutEnd, ends_met}
 use Rattle.mb_mailbox.specs.Mailboxes.{MailboxView}
 use Rattle.mb_mailbox.specs.Producers.{IsProducerOf, ProducerView}
 use Rattle.mb_mailbox.specs.Rooms.{HasRoom}
@@ -32,7 +32,7 @@ use Rattle.mb_mailbox.specs.declared.working.room.Ends.{Ends}
 use Rattle.mb_mailbox.specs.declared.working.room.Jobs.{Jobs}
 use Rattle.mb_mailbox.specs.declared.working.room.Room.{Room}
 use Rattle.mb_mailbox.proofs.Noted.{all_noted}
-use Rattle.mb_mailbox.proofs.Runs.{lane_left, lanes_of, left_by, left_of, nums, run_beyond, run_cut, run_of, run_poll_stops, run_stops}
+use Rattle.mb_mailbox.proofs.Runs.{lane_left, lanes_of, left_by, left_of, nums, run_beyond, run_cut, run_of, run_only, run_poll_stops, run_stops, run_unread}
 use Rattle.mb_mailbox.proofs.Zips.{zip_length}
 
 nothing : {X : Type 0} (P : X → Type 0) → All P []
@@ -70,22 +70,22 @@ module _ {R Z : Type 0} (m : MailboxView) where
     polls = polls_at (length h.ledgers) jobs.polls.items g.polls;
   }
 
-  poll_ends_at : (may_stop : Who → ℕ → Type 0) (from end : ℕ) (js : List (PollJob R Z)) (ds : List (PollDone Z)) → All (λ (j : PollJob R Z). IsConsumerOf m j.consumer) js
-      → AllZip (λ (j : PollJob R Z) (d : PollDone Z). IsPollEnd may_stop from end j.consumer d) js ds → All (λ (d : PollDone Z). IsConsumerOf m d.consumer) ds
-  poll_ends_at may_stop from end [] [] a z = nothing (λ (d : PollDone Z). IsConsumerOf m d.consumer)
-  poll_ends_at may_stop from end [] (d ∷ ds) a z = absurd z
-  poll_ends_at may_stop from end (j ∷ js) [] a z = absurd z
-  poll_ends_at may_stop from end (j ∷ js) (d ∷ ds) a z =
+  poll_ends_at : (may_stop : Who → ℕ → Type 0) (from end budget : ℕ) (js : List (PollJob R Z)) (ds : List (PollDone Z)) → All (λ (j : PollJob R Z). IsConsumerOf m j.consumer) js
+      → AllZip (λ (j : PollJob R Z) (d : PollDone Z). IsPollEnd may_stop from end budget j.consumer d) js ds → All (λ (d : PollDone Z). IsConsumerOf m d.consumer) ds
+  poll_ends_at may_stop from end budget [] [] a z = nothing (λ (d : PollDone Z). IsConsumerOf m d.consumer)
+  poll_ends_at may_stop from end budget [] (d ∷ ds) a z = absurd z
+  poll_ends_at may_stop from end budget (j ∷ js) [] a z = absurd z
+  poll_ends_at may_stop from end budget (j ∷ js) (d ∷ ds) a z =
       let P = λ (j : PollJob R Z). IsConsumerOf m j.consumer in
       All-cons (λ (d : PollDone Z). IsConsumerOf m d.consumer) d ds
       (record { cells = z.0.same.cells ∙ (All-head P j js a).cells; claims = z.0.same.claims ∙ (All-head P j js a).claims })
-      (poll_ends_at may_stop from end js ds (All-tail P j js a) z.1)
+      (poll_ends_at may_stop from end budget js ds (All-tail P j js a) z.1)
 
-  pub ends_at : (may_stop : Who → ℕ → Type 0) (from end : ℕ) (jobs : Jobs R Z) (ends : Ends Z) → AreOf m jobs → AreEndsOf may_stop from end jobs ends
+  pub ends_at : (may_stop : Who → ℕ → Type 0) (from end budget : ℕ) (jobs : Jobs R Z) (ends : Ends Z) → AreOf m jobs → AreEndsOf may_stop from end budget jobs ends
       → AreEndsAt m ends
-  ends_at may_stop from end jobs ends a e = record {
+  ends_at may_stop from end budget jobs ends a e = record {
     puts = put_ends_at m may_stop jobs.puts.items ends.puts.items a.puts e.puts;
-    polls = poll_ends_at may_stop from end jobs.polls.items ends.polls.items a.polls e.polls;
+    polls = poll_ends_at may_stop from end budget jobs.polls.items ends.polls.items a.polls e.polls;
   }
 
 -- there is room for fewer
@@ -148,14 +148,14 @@ at_most_each f (x ∷ xs) =
     omega (arith, all, one, rest)
 
 -- ---- the end of a run
-module _ {R Z : Type 0} (m : MailboxView) (may_stop : Who → ℕ → Type 0) (items : List (Vec ℕ Z)) (sources from end : ℕ) (jobs : Jobs R Z) (ends : Ends Z) (h mid now : HubView)
-    (hub : IsHub h) (given : AreGiven m items sources jobs h mid) (came : AreEndsOf may_stop from end jobs ends) (is : now ≡ with_taken ends mid) where
+module _ {R Z : Type 0} (m : MailboxView) (may_stop : Who → ℕ → Type 0) (items : List (Vec ℕ Z)) (sources from end budget : ℕ) (jobs : Jobs R Z) (ends : Ends Z) (h mid now : HubView)
+    (hub : IsHub h) (given : AreGiven m items sources jobs h mid) (came : AreEndsOf may_stop from end budget jobs ends) (is : now ≡ with_taken ends mid) where
   its : (vs : List (Vec ℕ Z)) → ArePutJobs m (length h.puts) vs jobs.puts.items
       → IsRunOf (lists_in vs) (length jobs.polls.items) (lanes_of m may_stop ends.puts.items) (left_of m may_stop ends.polls.items) h now
   its vs are =
       subst (λ (n : HubView). IsRunOf (lists_in vs) (length jobs.polls.items) (lanes_of m may_stop ends.puts.items) (left_of m may_stop ends.polls.items) h n)
       (sym (is ∙ ap (with_taken ends) given.hub))
-      (run_of m may_stop h from end vs jobs.puts.items ends.puts.items jobs.polls.items ends.polls.items hub are given.polls came.puts came.polls)
+      (run_of m may_stop h from end budget vs jobs.puts.items ends.puts.items jobs.polls.items ends.polls.items hub are given.polls came.puts came.polls)
 
   pub early : WereTakenInEarly (lists_in items) sources h now
   early = record {
@@ -210,24 +210,33 @@ module _ {R Z : Type 0} (m : MailboxView) (may_stop : Who → ℕ → Type 0) (i
           let lanes = few in
           omega (arith, stopped, puts, polls, most, others, lanes, count, small)
 
+      far : end ≡ length h.puts + length (lists_in items)
+      far = last ∙ ap (λ (n : ℕ). length h.puts + n) (sym (length-map items (λ (v : Vec ℕ Z). v.items)))
+
       cells : m.cells.size.cells ≡ now.cells.table.size.cells
       cells = ap (λ t. t.size.cells) (sym of.cells)
 
-      pub worked : IsWorked may_stop (lists_in items) sources w h now
+      pub worked : IsWorked may_stop budget (lists_in items) sources w h now
       worked = record {
         lanes = lanes_of m may_stop ends.puts.items;
         consumers = left_of m may_stop ends.polls.items;
         run = run;
         stopped = total;
         stopped_puts = subst (λ (n : ℕ). AreStoppedPuts may_stop n (length h.puts) (lists_in items) (lanes_of m may_stop ends.puts.items)) cells
-            (run_stops m may_stop h from end items jobs.puts.items ends.puts.items jobs.polls.items ends.polls.items hub all.puts given.polls came.puts came.polls puts_on);
+            (run_stops m may_stop h from end budget items jobs.puts.items ends.puts.items jobs.polls.items ends.polls.items hub all.puts given.polls came.puts came.polls puts_on);
         stopped_polls =
-            run_poll_stops m may_stop h from end items jobs.puts.items ends.puts.items jobs.polls.items ends.polls.items hub all.puts given.polls came.puts came.polls polls_on;
+            run_poll_stops m may_stop h from end budget items jobs.puts.items ends.puts.items jobs.polls.items ends.polls.items hub all.puts given.polls came.puts came.polls polls_on;
+        unread = subst (λ (n : ℕ). All (λ (x : ConsumerLeft). x.stopped ≡ true → ends_met x.reads < n) (left_of m may_stop ends.polls.items))
+            (omega (arith, first, far))
+            (run_unread m may_stop h from end budget items jobs.puts.items ends.puts.items jobs.polls.items ends.polls.items hub all.puts given.polls came.puts came.polls polls_on);
+        only = subst (λ (z : ℕ × ℕ). All (λ (x : ConsumerLeft). IsOnLanes z.0 z.1 x.reads) (left_of m may_stop ends.polls.items))
+            (λ i. (first i, far i))
+            (run_only m may_stop h from end budget items jobs.puts.items ends.puts.items jobs.polls.items ends.polls.items hub all.puts given.polls came.puts came.polls polls_on);
         full = full ∙ ap (λ (n : ℕ). min (2 ^ 64 - 1) n)
-            (run_beyond m may_stop h from end items jobs.puts.items ends.puts.items jobs.polls.items ends.polls.items hub all.puts given.polls came.puts came.polls);
+            (run_beyond m may_stop h from end budget items jobs.puts.items ends.puts.items jobs.polls.items ends.polls.items hub all.puts given.polls came.puts came.polls);
         cut = subst (λ (n : ℕ). AreCutByCells n (length h.puts) (lists_in items) (lanes_of m may_stop ends.puts.items)) cells
-            (run_cut m may_stop h from end items jobs.puts.items ends.puts.items jobs.polls.items ends.polls.items hub all.puts given.polls came.puts came.polls);
-        noted = all_noted now later pool roll tell m may_stop h.puts (lanes_of m may_stop ends.puts.items) run.puts from end first
+            (run_cut m may_stop h from end budget items jobs.puts.items ends.puts.items jobs.polls.items ends.polls.items hub all.puts given.polls came.puts came.polls);
+        noted = all_noted now later pool roll tell m may_stop h.puts (lanes_of m may_stop ends.puts.items) run.puts from end budget first
             (last ∙ ap (λ (n : ℕ). length h.puts + n) (sym few)) ends.polls.items h.cells.roll.readers (length h.ledgers) (sym hub.readers) run.reads
-            (nums m may_stop h from end items jobs.puts.items ends.puts.items jobs.polls.items ends.polls.items hub all.puts given.polls came.puts came.polls);
+            (nums m may_stop h from end budget items jobs.puts.items ends.puts.items jobs.polls.items ends.polls.items hub all.puts given.polls came.puts came.polls);
       }

@@ -1,10 +1,9 @@
 -- What a hub has after it has given or taken in several.
-use Rattle.std.proofs.Common.{◌≡◌, ℕ, zero, suc, ◌+◌, List, [], ◌∷◌, ◌++◌, length, map, refl, sym, ap, ◌∙◌, subst, append_assoc, arith}
+use Rattle.std.proofs.Common.{◌≡◌, ℕ, zero, suc, List, [], ◌∷◌, ◌++◌, length, map, refl, sym, ap, ◌∙◌, subst, append_assoc, arith}
 use Rattle.std.specs.Prelude.{Option, Some, None, slice_set}
 use Rattle.std.proofs.lemmas.List.{length-append}
 use Rattle.mb_mailbox.specs.Consumers.{ConsumerView}
-use Rattle.mb_mailbox.specs.Hubs.{HubView, LedgerView, PutListView, put_list_of, with_consumer, with_producer, with_taken_consumer, with_taken_producer}
-use Rattle.mb_mailbox.specs.Below.{History}
+use Rattle.mb_mailbox.specs.Hubs.{HubView, LedgerView, put_list_of, with_consumer, with_producer, with_taken_consumer, with_taken_producer}
 use Rattle.mb_mailbox.specs.HubRuns.{with_consumers, with_producers, with_taken_consumers, with_taken_producers}
 use Rattle.mb_mailbox.specs.Producers.{ProducerView}
 

@@ -19,6 +19,8 @@ pub mod ExampleParts
 pub mod HubRuns
 pub mod Zips
 pub mod Endings
+pub mod Looks
+pub mod EndsMet
 pub mod Runs
 pub mod Noted
 pub mod Final

@@ -1,8 +1,10 @@
 -- What the loops of a run keep, one element later.
-use Rattle.std.proofs.Common.{◌≡◌, ℕ, suc, ◌+◌, List, [], ◌∷◌, ◌++◌, length, map, min, sym, ap, ◌∙◌, subst, arith}
+use Rattle.std.proofs.Common.{◌≡◌, ℕ, suc, ◌+◌, ◌<◌, ◌||◌, Bool, true, false, refl, List, [], ◌∷◌, ◌++◌, ◌-◌, ◌*◌, ◌≤◌, length, map, min, sym, ap, ◌∙◌, subst, arith}
 use Rattle.std.specs.Prelude.{Vec}
-use Rattle.std.specs.List.{sum_by}
-use Rattle.std.proofs.lemmas.List.{map-append}
+use Rattle.std.proofs.Math.Nat.{mul-suc}
+use Rattle.std.specs.List.{All, sum_by}
+use Rattle.std.proofs.lemmas.List.{length-append, map-append}
+use Rattle.std.proofs.lemmas.List.Elements.{All-push}
 use Rattle.std.proofs.lemmas.List.Sums.{sum_by-append, sum_by-cons}
 use Rattle.mb_mailbox.specs.Consumers.{ConsumerView}
 use Rattle.mb_mailbox.specs.HubRuns.{ArePollJobs, ArePutJobs, HasNumber, with_taken_consumers, with_taken_producers}
@@ -34,6 +36,7 @@ new_number m h s i = record {
   reader = ap (λ r. r.reader) i.reader;
   claims = ap (λ r. r.table) i.seat;
   consumer = ap (λ r. r.consumer) i.seat;
+  none = λ j. length (i.reader j).part + length (i.seat j).part;
 }
 
 -- ---- what is taken in
@@ -58,3 +61,25 @@ full_more f most was now xs x e is =
     let whole = sum_by-append f xs (x ∷ []) in
     let last = sum_by-cons f x [] in
     omega (arith, e, is, whole, last)
+
+-- ---- accesses with a budget for each call
+pub budget_more : (budget call base old new : ℕ) → 1 ≤ call → old ≤ base + budget * (call - 1) → new ≤ old + budget
+    → new ≤ base + budget * (call + 1 - 1)
+budget_more budget call base old new first was step =
+    let next : call + 1 - 1 ≡ suc (call - 1) = omega (arith, first) in
+    let more = ap (λ (n : ℕ). budget * n) next ∙ mul-suc budget (call - 1) in
+    omega (arith, was, step, more)
+
+-- ---- whether the run is off
+on_yet : {X : Type 0} (f : X → Bool) (was off : Bool) (xs : List X) (x : X) → (was ≡ false → All (λ x. f x ≡ false) xs) → f x ≡ off
+    → (was || off) ≡ false → All (λ x. f x ≡ false) (xs ++ x ∷ [])
+on_yet f true off xs x e is h = absurd (cc)
+on_yet f false true xs x e is h = absurd (cc)
+on_yet f false false xs x e is h = All-push (λ x. f x ≡ false) xs x (e refl) is
+
+pub on_more : {X : Type 0} (f : X → Bool) (was now : Bool) (xs : List X) (x : X) → (was ≡ false → All (λ x. f x ≡ false) xs)
+    → now ≡ (was || f x) → now ≡ false → All (λ x. f x ≡ false) (xs ++ x ∷ [])
+on_more f was now xs x e is h = on_yet f was (f x) xs x e refl (sym is ∙ h)
+
+pub some_seen : {X : Type 0} (xs : List X) (x : X) → 0 < length (xs ++ x ∷ [])
+some_seen xs x = let all = length-append xs (x ∷ []) in omega (arith, all)

@@ -1,6 +1,7 @@
 -- Marks at some places of a list.
-use Rattle.std.proofs.Common.{◌≡◌, ◌≢◌, ◌⊎◌, ℕ, zero, suc, ◌<◌, Bool, true, false, List, [], ◌∷◌, length, refl, sym, ap, ◌∙◌, inl, inr, slice_set, arith}
+use Rattle.std.proofs.Common.{◌≡◌, ◌≢◌, ◌⊎◌, ⊎_elim, ℕ, zero, suc, ◌+◌, ◌-◌, ◌≤◌, ◌<◌, Bool, true, false, List, [], ◌∷◌, length, refl, ap, inl, inr, slice_set, arith}
 use Rattle.std.specs.Prelude.{slice_index_or}
+use Rattle.mb_mailbox.specs.Jobs.{count_marks}
 
 -- a place that is marked after one more mark is that one, or was marked
 pub marked : (xs : List Bool) (k p : ℕ) → slice_index_or (slice_set xs k true) p false ≡ true → (p ≡ k) ⊎ ((p ≢ k) × (slice_index_or xs p false ≡ true))
@@ -39,3 +40,32 @@ pub within : (xs : List Bool) (p : ℕ) → p < length xs → slice_index_or xs 
 within [] p low e = absurd (omega (arith, low))
 within (x ∷ xs) zero low e = e
 within (x ∷ xs) (suc p) low e = within xs p (omega (arith, low)) e
+
+-- ---- how many are marked
+pub marks_more : (xs : List Bool) (k : ℕ) → slice_index_or xs k true ≡ false → count_marks (slice_set xs k true) ≡ count_marks xs + 1
+marks_more [] k e = absurd (cc)
+marks_more (true ∷ xs) zero e = absurd (cc)
+marks_more (false ∷ xs) zero e = omega arith
+marks_more (x ∷ xs) (suc k) e = let rest = marks_more xs k e in omega (arith, rest)
+
+marks_most : (xs : List Bool) (from end : ℕ) → ((p : ℕ) → slice_index_or xs p false ≡ true → (from ≤ p) × (p < end)) → count_marks xs ≤ end - from
+marks_most [] from end m = omega arith
+marks_most (true ∷ xs) from end m =
+    let low = (m 0 refl).0 in
+    let high = (m 0 refl).1 in
+    let rest = marks_most xs 0 (end - 1) (λ p e. (omega arith, let t = (m (suc p) e).1 in omega (arith, t))) in
+    omega (arith, low, high, rest)
+marks_most (false ∷ xs) from end m =
+    let rest = marks_most xs (from - 1) (end - 1)
+    (λ p e. (let t = (m (suc p) e).0 in omega (arith, t), let t = (m (suc p) e).1 in omega (arith, t))) in
+    omega (arith, rest)
+
+-- where marks stand there alone, and one place there has none, there are fewer
+pub marks_fewer : (xs : List Bool) (from end k : ℕ) → ((p : ℕ) → slice_index_or xs p false ≡ true → (from ≤ p) × (p < end))
+    → slice_index_or xs k true ≡ false → from ≤ k → k < end → count_marks xs < end - from
+marks_fewer xs from end k m e low high =
+    let more = marks_more xs k e in
+    let most = marks_most (slice_set xs k true) from end
+    (λ p f. ⊎_elim (λ (same : p ≡ k). (omega (arith, same, low), omega (arith, same, high)))
+    (λ (t : (p ≢ k) × (slice_index_or xs p false ≡ true)). m p t.1) (marked xs k p f)) in
+    omega (arith, more, most)

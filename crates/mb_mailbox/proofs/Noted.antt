@@ -52,9 +52,9 @@ module _ (now : HubView) (hub : IsHub now) (pool : History) (roll : IsRollOf now
       )
 
   module _ {Z : Type 0} (m : MailboxView) (may_stop : Who → ℕ → Type 0) (old : List (Option PutListView)) (ls : List LaneLeft) (is : now.puts ≡ old ++ map (λ (l : LaneLeft). Some (ended_list l)) ls)
-      (from end : ℕ) (first : from ≡ length old) (last : end ≡ length old + length ls) where
+      (from end budget : ℕ) (first : from ≡ length old) (last : end ≡ length old + length ls) where
     pub all_noted : (es : List (PollDone Z)) (base : List (Option History)) (c : ℕ) → length base ≡ c
-        → now.cells.roll.readers ≡ base ++ map (λ (x : ConsumerLeft). Some x.reads) (left_of m may_stop es) → AreNumbered m may_stop from end c es
+        → now.cells.roll.readers ≡ base ++ map (λ (x : ConsumerLeft). Some x.reads) (left_of m may_stop es) → AreNumbered m may_stop from end budget c es
         → All (λ (x : ConsumerLeft). x.stopped ≡ false → HasNoteAtEach (length old) ls x.ledger) (left_of m may_stop es)
     all_noted [] base c e there a = λ k d low. absurd (omega (arith, low))
     all_noted (d ∷ es) base c e there a =

@@ -29,7 +29,7 @@ found_still finish.Closed old new ended closed busy none = subst FoundNoCell (sy
 found_still finish.Busy old new ended closed busy none = absurd (busy refl)
 
 -- what it has found then it had found before
-abbrev is_fetch : PoolAct → Bool
+abbrev pub is_fetch : PoolAct → Bool
 is_fetch (FetchAdd v k) = true
 is_fetch (Store v) = false
 is_fetch (Load v) = false

@@ -1,24 +1,20 @@
 -- A producer moves on by its calls.
-use Rattle.std.proofs.Common.{◌≡◌, ◌≢◌, ◌↔◌, ℕ, ◌+◌, ◌<◌, ◌≤◌, Bool, true, false, cond, List, [], ◌∷◌, ◌++◌, length, map, refl, sym, ap, ◌∙◌, subst, arith}
+use Rattle.std.proofs.Common.{◌≡◌, ◌≢◌, ℕ, ◌+◌, ◌<◌, Bool, true, false, cond, List, [], ◌∷◌, ◌++◌, length, map, refl, sym, ap, ◌∙◌, subst, arith}
 use Rattle.std.specs.Prelude.{Option, Some, None, nat_lt}
 use Rattle.std.proofs.lemmas.Bool.{ltb-true, eq-eqb, ne_eqb}
 use Rattle.std.proofs.lemmas.List.{length-append, length-map, map-append}
-use Rattle.mb_cells.specs.declared.access.PoolAccess.{PoolAccess}
-use Rattle.mb_cells.specs.declared.access.Process.{Process}
-use Rattle.mb_cells.specs.declared.answer.Finish.TheVariants as finish
 use Rattle.mb_cells.specs.declared.answer.Offer.{Offer}
 use Rattle.mb_cells.specs.declared.answer.Offer.TheVariants as offer
 use Rattle.mb_cells.specs.declared.answer.Push.{Push}
-use Rattle.mb_cells.specs.declared.lane.Lane.{Lane}
 use Rattle.mb_cells.specs.declared.lane.LaneStage.{LaneStage}
 use Rattle.mb_cells.specs.declared.lane.LaneStage.TheVariants as stage
-use Rattle.mb_cells.specs.Vocabulary.{Entry, HasFoundNone, IsLaneAfter, entry_at, fetch, finish_refusal, item_of, link_after, next_link, offer_refusal, push_store, put_list, stage_offer_refusal, stage_push_store, store}
+use Rattle.mb_cells.specs.Vocabulary.{Entry, IsLaneAfter, entry_at, fetch, item_of, link_after, next_link, offer_refusal, push_store, put_list, stage_offer_refusal, stage_push_store, store}
 use Rattle.mb_shared_cells.specs.Vocabulary.{IsAccessAfter, LaneMakes, LaneSeatView, OfferBy, OfferMakes, PushMakes}
 use Rattle.mb_world.specs.Reporting.{values_put}
 use Rattle.mb_mailbox.specs.Below.{Counter, END, Head, History, Item, Link, Word, has_ended}
 use Rattle.mb_cells.specs.Vocabulary.{IsLinkWord}
 use Rattle.mb_mailbox.specs.PartPlaces.{HasPart}
-use Rattle.mb_mailbox.specs.Producers.{FoundNoCell, IsProducer, IsPutInto, ProducerView, is_over}
+use Rattle.mb_mailbox.specs.Producers.{IsProducer, IsPutInto, ProducerView, is_over}
 use Rattle.mb_mailbox.specs.PutLaws.{PutLaws}
 
 -- the producer with this seat and these items

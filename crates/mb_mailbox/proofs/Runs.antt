@@ -1,16 +1,16 @@
 -- From the jobs of a run through their ends to what the hub has then.
-use Rattle.std.proofs.Common.{◌≡◌, ◌≢◌, ℕ, suc, ◌+◌, ◌<◌, ◌≤◌, Bool, true, false, List, [], ◌∷◌, ◌++◌, length, map, refl, sym, ap, ◌∙◌, subst, arith}
+use Rattle.std.proofs.Common.{◌≡◌, ◌≢◌, ℕ, suc, ◌+◌, ◌-◌, ◌<◌, ◌≤◌, Bool, true, false, List, [], ◌∷◌, ◌++◌, length, map, refl, sym, ap, ◌∙◌, subst, arith}
 use Rattle.std.specs.Prelude.{Some, Vec}
 use Rattle.std.specs.List.{All, AllZip, sum_by}
 use Rattle.std.proofs.lemmas.List.{length-map}
 use Rattle.std.proofs.lemmas.List.Sums.{sum_by-cons}
-use Rattle.std.proofs.lemmas.List.Elements.{All-head, All-tail}
+use Rattle.std.proofs.lemmas.List.Elements.{All-cons, All-head, All-tail}
 use Rattle.mb_cells.specs.Vocabulary.{HasFoundNone}
 use Rattle.mb_shared_cells.specs.Vocabulary.{CellsName}
 use Rattle.mb_mailbox.specs.Consumers.{ConsumerView}
 use Rattle.mb_mailbox.specs.HubRuns.{ArePollJobs, ArePutJobs}
 use Rattle.mb_mailbox.specs.Hubs.{HubView, IsHub, new_producer, put_list_of}
-use Rattle.mb_mailbox.specs.Jobs.{HasReadToEnd, IsFront, IsPollEnd, IsPutEnd, IsStopBefore, IsStoppedPoll, accesses_made}
+use Rattle.mb_mailbox.specs.Jobs.{HasReadToEnd, IsFront, IsOnLanes, IsPollEnd, IsPutEnd, IsStopBefore, IsStoppedPoll, accesses_made, ends_met}
 use Rattle.mb_mailbox.specs.Mailboxes.{MailboxView}
 use Rattle.mb_mailbox.specs.Producers.{FoundNoCell, ProducerView, is_over}
 use Rattle.mb_mailbox.specs.Worked.{AreCutByCells, AreStoppedPolls, AreStoppedPuts, ConsumerLeft, IsRunOf, IsStoppedPut, LaneLeft, ended_list, items_behind, items_beyond, lists_in}
@@ -143,68 +143,88 @@ module _ {Z : Type 0} (m : MailboxView) (may_stop : Who → ℕ → Type 0) wher
   consumers ds = map (λ d. d.consumer) ds
 
   -- the end of the job of consumer c, which read the lanes from `from` on and below `end`
-  pub record IsPollEndAt (from end c : ℕ) (d : PollDone Z) : Type 0 where
+  pub record IsPollEndAt (from end budget c : ℕ) (d : PollDone Z) : Type 0 where
     pub reader : d.consumer.reader.reader ≡ c
     pub consumer : d.consumer.seat.consumer ≡ c
     pub read : d.stopped ≡ false → (p : ℕ) → from ≤ p → p < end → HasReadToEnd p d.consumer
-    pub stop : d.stopped ≡ true → d.off ≡ false → IsStoppedPoll may_stop c (accesses_made d.consumer)
+    pub stop : d.stopped ≡ true → d.off ≡ false → IsStoppedPoll may_stop budget c (accesses_made d.consumer)
+    pub unread : d.stopped ≡ true → d.off ≡ false → ends_met d.consumer.reader.part < end - from
+    pub only : d.off ≡ false → IsOnLanes from end d.consumer.reader.part
 
-  abbrev pub AreNumbered : ℕ → ℕ → ℕ → List (PollDone Z) → Type 0
-  AreNumbered from end c [] = Unit {0}
-  AreNumbered from end c (d ∷ ds) = IsPollEndAt from end c d × AreNumbered from end (suc c) ds
+  abbrev pub AreNumbered : ℕ → ℕ → ℕ → ℕ → List (PollDone Z) → Type 0
+  AreNumbered from end budget c [] = Unit {0}
+  AreNumbered from end budget c (d ∷ ds) = IsPollEndAt from end budget c d × AreNumbered from end budget (suc c) ds
 
-  numbered : {R : Type 0} (from end c : ℕ) (js : List (PollJob R Z)) (ds : List (PollDone Z)) → ArePollJobs m c js
-      → AllZip (λ (j : PollJob R Z) (d : PollDone Z). IsPollEnd may_stop from end j.consumer d) js ds → AreNumbered from end c ds
-  numbered from end c [] [] a z = tt
-  numbered from end c [] (d ∷ ds) a z = absurd z
-  numbered from end c (j ∷ js) [] a z = absurd z
-  numbered from end c (j ∷ js) (d ∷ ds) a z = (
+  numbered : {R : Type 0} (from end budget c : ℕ) (js : List (PollJob R Z)) (ds : List (PollDone Z)) → ArePollJobs m c js
+      → AllZip (λ (j : PollJob R Z) (d : PollDone Z). IsPollEnd may_stop from end budget j.consumer d) js ds → AreNumbered from end budget c ds
+  numbered from end budget c [] [] a z = tt
+  numbered from end budget c [] (d ∷ ds) a z = absurd z
+  numbered from end budget c (j ∷ js) [] a z = absurd z
+  numbered from end budget c (j ∷ js) (d ∷ ds) a z = (
     record {
       reader = z.0.same.reader ∙ a.0.reader;
       consumer = z.0.same.consumer ∙ a.0.consumer;
       read = z.0.read;
-      stop = λ t o. subst (λ (c : ℕ). IsStoppedPoll may_stop c (accesses_made d.consumer)) a.0.consumer (z.0.stop t o);
+      stop = λ t o. subst (λ (c : ℕ). IsStoppedPoll may_stop budget c (accesses_made d.consumer)) a.0.consumer (z.0.stop t o a.0.none);
+      unread = λ t o. z.0.unread t o a.0.none;
+      only = λ o. z.0.only o a.0.none;
     },
-    numbered from end (suc c) js ds a.1 z.1,
+    numbered from end budget (suc c) js ds a.1 z.1,
   )
 
-  count_seats : (from end c : ℕ) (ds : List (PollDone Z)) → AreNumbered from end c ds → CountFrom (λ (s : ConsumerView). s.seat.consumer) c (consumers ds)
-  count_seats from end c [] a = tt
-  count_seats from end c (d ∷ ds) a = (a.0.consumer, count_seats from end (suc c) ds a.1)
+  count_seats : (from end budget c : ℕ) (ds : List (PollDone Z)) → AreNumbered from end budget c ds → CountFrom (λ (s : ConsumerView). s.seat.consumer) c (consumers ds)
+  count_seats from end budget c [] a = tt
+  count_seats from end budget c (d ∷ ds) a = (a.0.consumer, count_seats from end budget (suc c) ds a.1)
 
-  count_readers : (from end c : ℕ) (ds : List (PollDone Z)) → AreNumbered from end c ds → CountFrom (λ (s : ConsumerView). s.reader.reader) c (consumers ds)
-  count_readers from end c [] a = tt
-  count_readers from end c (d ∷ ds) a = (a.0.reader, count_readers from end (suc c) ds a.1)
+  count_readers : (from end budget c : ℕ) (ds : List (PollDone Z)) → AreNumbered from end budget c ds → CountFrom (λ (s : ConsumerView). s.reader.reader) c (consumers ds)
+  count_readers from end budget c [] a = tt
+  count_readers from end budget c (d ∷ ds) a = (a.0.reader, count_readers from end budget (suc c) ds a.1)
 
   abbrev pub left_of : List (PollDone Z) → List ConsumerLeft
   left_of ds = map (λ d. left_by d.consumer d.stopped) ds
 
-  poll_stops_of : (from end c : ℕ) (ds : List (PollDone Z)) → AreNumbered from end c ds → All (λ (d : PollDone Z). d.off ≡ false) ds
-      → AreStoppedPolls may_stop c (left_of ds)
-  poll_stops_of from end c [] a on = tt
-  poll_stops_of from end c (d ∷ ds) a on =
+  poll_stops_of : (from end budget c : ℕ) (ds : List (PollDone Z)) → AreNumbered from end budget c ds → All (λ (d : PollDone Z). d.off ≡ false) ds
+      → AreStoppedPolls may_stop budget c (left_of ds)
+  poll_stops_of from end budget c [] a on = tt
+  poll_stops_of from end budget c (d ∷ ds) a on =
       let F = λ (d : PollDone Z). d.off ≡ false in
-      (λ t. a.0.stop t (All-head F d ds on), poll_stops_of from end (suc c) ds a.1 (All-tail F d ds on))
+      (λ t. a.0.stop t (All-head F d ds on), poll_stops_of from end budget (suc c) ds a.1 (All-tail F d ds on))
+
+  only_of : (from end budget c : ℕ) (ds : List (PollDone Z)) → AreNumbered from end budget c ds → All (λ (d : PollDone Z). d.off ≡ false) ds
+      → All (λ (x : ConsumerLeft). IsOnLanes from end x.reads) (left_of ds)
+  only_of from end budget c [] a on = λ k d low. absurd (omega (arith, low))
+  only_of from end budget c (d ∷ ds) a on =
+      let F = λ (d : PollDone Z). d.off ≡ false in
+      All-cons (λ (x : ConsumerLeft). IsOnLanes from end x.reads) (left_by d.consumer d.stopped) (left_of ds) (a.0.only (All-head F d ds on))
+      (only_of from end budget (suc c) ds a.1 (All-tail F d ds on))
+
+  unread_of : (from end budget c : ℕ) (ds : List (PollDone Z)) → AreNumbered from end budget c ds → All (λ (d : PollDone Z). d.off ≡ false) ds
+      → All (λ (x : ConsumerLeft). x.stopped ≡ true → ends_met x.reads < end - from) (left_of ds)
+  unread_of from end budget c [] a on = λ k d low. absurd (omega (arith, low))
+  unread_of from end budget c (d ∷ ds) a on =
+      let F = λ (d : PollDone Z). d.off ≡ false in
+      All-cons (λ (x : ConsumerLeft). x.stopped ≡ true → ends_met x.reads < end - from) (left_by d.consumer d.stopped) (left_of ds)
+      (λ t. a.0.unread t (All-head F d ds on)) (unread_of from end budget (suc c) ds a.1 (All-tail F d ds on))
 
   -- ---- a whole run
-  module _ {R : Type 0} (h : HubView) (from end : ℕ) (vs : List (Vec ℕ Z)) (js : List (PutJob Z)) (ds : List (PutDone Z))
+  module _ {R : Type 0} (h : HubView) (from end budget : ℕ) (vs : List (Vec ℕ Z)) (js : List (PutJob Z)) (ds : List (PutDone Z))
       (ks : List (PollJob R Z)) (es : List (PollDone Z)) (i : IsHub h) (putting : ArePutJobs m (length h.puts) vs js)
       (polling : ArePollJobs m (length h.ledgers) ks) (put : AllZip (IsPutEnd may_stop) js ds)
-      (polled : AllZip (λ (j : PollJob R Z) (d : PollDone Z). IsPollEnd may_stop from end j.consumer d) ks es) where
+      (polled : AllZip (λ (j : PollJob R Z) (d : PollDone Z). IsPollEnd may_stop from end budget j.consumer d) ks es) where
     abbrev pub now : HubView
     now = after js ks (producers ds) (consumers es) h
 
     ats : AreAt (length h.puts) vs ds
     ats = are_at (length h.puts) vs js ds putting put
 
-    pub nums : AreNumbered from end (length h.ledgers) es
-    nums = numbered from end (length h.ledgers) ks es polling polled
+    pub nums : AreNumbered from end budget (length h.ledgers) es
+    nums = numbered from end budget (length h.ledgers) ks es polling polled
 
     puts_count : length js ≡ length (producers ds)
     puts_count = zip_length (IsPutEnd may_stop) js ds put ∙ sym (length-map ds (λ (d : PutDone Z). d.producer))
 
     polls_count : length ks ≡ length (consumers es)
-    polls_count = zip_length (λ (j : PollJob R Z) (d : PollDone Z). IsPollEnd may_stop from end j.consumer d) ks es polled
+    polls_count = zip_length (λ (j : PollJob R Z) (d : PollDone Z). IsPollEnd may_stop from end budget j.consumer d) ks es polled
         ∙ sym (length-map es (λ (d : PollDone Z). d.consumer))
 
     pub run_of : IsRunOf (lists_in vs) (length ks) (lanes_of ds) (left_of es) h now
@@ -214,11 +234,11 @@ module _ {Z : Type 0} (m : MailboxView) (may_stop : Who → ℕ → Type 0) wher
       parts = run_parts js ks (producers ds) (consumers es) h puts_count (count_lanes (length h.puts) vs ds ats) i.lanes
           ∙ ap (λ l. h.cells.roll.lanes ++ l) (parts_of_lanes ds);
       fronts = fronts_of (length h.puts) vs ds ats;
-      ledgers = run_ledgers js ks (producers ds) (consumers es) h polls_count (count_seats from end (length h.ledgers) es nums)
+      ledgers = run_ledgers js ks (producers ds) (consumers es) h polls_count (count_seats from end budget (length h.ledgers) es nums)
           ∙ ap (λ l. h.ledgers ++ l) (turned (λ (s : ConsumerView). Some (left_by s true).ledger) (λ (x : ConsumerLeft). Some x.ledger) (λ s b. refl) es);
-      reads = run_readers js ks (producers ds) (consumers es) h polls_count i.readers (count_readers from end (length h.ledgers) es nums)
+      reads = run_readers js ks (producers ds) (consumers es) h polls_count i.readers (count_readers from end budget (length h.ledgers) es nums)
           ∙ ap (λ l. h.cells.roll.readers ++ l) (turned (λ (s : ConsumerView). Some s.reader.part) (λ (x : ConsumerLeft). Some x.reads) (λ s b. refl) es);
-      claimed = run_claimed js ks (producers ds) (consumers es) h polls_count i.seats (count_seats from end (length h.ledgers) es nums)
+      claimed = run_claimed js ks (producers ds) (consumers es) h polls_count i.seats (count_seats from end budget (length h.ledgers) es nums)
           ∙ ap (λ l. h.claims.roll ++ l) (turned (λ (s : ConsumerView). Some s.seat.part) (λ (x : ConsumerLeft). Some x.claimed) (λ s b. refl) es);
       count = length-map es (λ (d : PollDone Z). left_by d.consumer d.stopped) ∙ sym (length-map es (λ (d : PollDone Z). d.consumer)) ∙ sym polls_count;
     }
@@ -237,5 +257,12 @@ module _ {Z : Type 0} (m : MailboxView) (may_stop : Who → ℕ → Type 0) wher
     pub run_stops : All (λ (d : PutDone Z). d.off ≡ false) ds → AreStoppedPuts may_stop m.cells.size.cells (length h.puts) (lists_in vs) (lanes_of ds)
     run_stops on = stops_of (length h.puts) vs ds ats on
 
-    pub run_poll_stops : All (λ (d : PollDone Z). d.off ≡ false) es → AreStoppedPolls may_stop (length h.ledgers) (left_of es)
-    run_poll_stops on = poll_stops_of from end (length h.ledgers) es nums on
+    pub run_poll_stops : All (λ (d : PollDone Z). d.off ≡ false) es → AreStoppedPolls may_stop budget (length h.ledgers) (left_of es)
+    run_poll_stops on = poll_stops_of from end budget (length h.ledgers) es nums on
+
+    pub run_only : All (λ (d : PollDone Z). d.off ≡ false) es → All (λ (x : ConsumerLeft). IsOnLanes from end x.reads) (left_of es)
+    run_only on = only_of from end budget (length h.ledgers) es nums on
+
+    pub run_unread : All (λ (d : PollDone Z). d.off ≡ false) es
+        → All (λ (x : ConsumerLeft). x.stopped ≡ true → ends_met x.reads < end - from) (left_of es)
+    run_unread on = unread_of from end budget (length h.ledgers) es nums on

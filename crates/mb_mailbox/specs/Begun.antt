@@ -11,10 +11,12 @@ use Rattle.mb_mailbox.specs.declared.working.jobs.PollDone.{PollDone}
 use Rattle.mb_mailbox.specs.declared.working.jobs.PutDone.{PutDone}
 use Rattle.mb_mailbox.specs.declared.working.jobs.PutJob.{PutJob}
 
--- the lanes, the consumer and the gate of a promise are these
-pub record IsPromiseOf {G : Type 0} (g : G) (f e : ℕ) (s : ConsumerView) (from end : ℕ) (promised : ConsumerView) (its : G) : Type 0 where
+-- the lanes, the budget, the consumer and the gate of a promise are these
+pub record IsPromiseOf {G : Type 0} (g : G) (f e b : ℕ) (s : ConsumerView) (from end budget : ℕ) (promised : ConsumerView)
+    (its : G) : Type 0 where
   pub first : from ≡ f
   pub last : end ≡ e
+  pub most : budget ≡ b
   pub consumer : promised ≡ s
   pub gate : its ≡ g
 
@@ -29,11 +31,12 @@ module _ {G Z : Type 0} (may_stop : G → Who → ℕ → Type 0) where
   PutKeeps (put.Apart h) d = IsPutEnd (may_stop h.promise.gate.value) h.promise.job.value d
   PutKeeps (put.Here e) d = d ≡ e
 
-  abbrev pub PollPromises : G → ℕ → ℕ → ConsumerView → PollBegun G Z → Type 0
-  PollPromises gate from end s (poll.Apart h) =
-      IsPromiseOf gate from end s h.promise.from h.promise.end h.promise.consumer.value h.promise.gate.value
-  PollPromises gate from end s (poll.Here d) = IsPollEnd (may_stop gate) from end s d
+  abbrev pub PollPromises : G → ℕ → ℕ → ℕ → ConsumerView → PollBegun G Z → Type 0
+  PollPromises gate from end budget s (poll.Apart h) =
+      IsPromiseOf gate from end budget s h.promise.from h.promise.end h.promise.budget h.promise.consumer.value h.promise.gate.value
+  PollPromises gate from end budget s (poll.Here d) = IsPollEnd (may_stop gate) from end budget s d
 
   abbrev pub PollKeeps : PollBegun G Z → PollDone Z → Type 0
-  PollKeeps (poll.Apart h) d = IsPollEnd (may_stop h.promise.gate.value) h.promise.from h.promise.end h.promise.consumer.value d
+  PollKeeps (poll.Apart h) d =
+      IsPollEnd (may_stop h.promise.gate.value) h.promise.from h.promise.end h.promise.budget h.promise.consumer.value d
   PollKeeps (poll.Here e) d = d ≡ e

@@ -3,6 +3,7 @@ use Rattle.std.specs.Prelude.{ℕ, suc, ◌≡◌, ◌++◌, List, [], ◌∷◌
 use Rattle.mb_mailbox.specs.Below.{name_of}
 use Rattle.mb_mailbox.specs.Consumers.{ConsumerView}
 use Rattle.mb_mailbox.specs.Hubs.{HubView, new_producer, with_consumer, with_producer, with_taken_consumer, with_taken_producer}
+use Rattle.mb_mailbox.specs.Jobs.{accesses_made}
 use Rattle.mb_mailbox.specs.Mailboxes.{MailboxView}
 use Rattle.mb_mailbox.specs.Producers.{ProducerView}
 use Rattle.mb_mailbox.specs.declared.working.jobs.PollJob.{PollJob}
@@ -27,12 +28,13 @@ with_taken_consumers [] h = h
 with_taken_consumers (s ∷ ss) h = with_taken_consumers ss (with_taken_consumer s h)
 
 -- ---- jobs
--- a consumer of the mailbox with this number
+-- a consumer of the mailbox with this number, which has made no access
 pub record HasNumber (m : MailboxView) (c : ℕ) (s : ConsumerView) : Type 0 where
   pub cells : s.reader.table ≡ m.cells
   pub reader : s.reader.reader ≡ c
   pub claims : s.seat.table ≡ name_of m.claims
   pub consumer : s.seat.consumer ≡ c
+  pub none : accesses_made s ≡ 0
 
 module _ {Z : Type 0} where
   -- the jobs are those of these lists, and of new producers with the numbers from p on

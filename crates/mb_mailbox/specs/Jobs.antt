@@ -1,6 +1,8 @@
 -- What the workers of a run are given, and what they give back.
-use Rattle.std.specs.Prelude.{ℕ, suc, ◌≡◌, ◌≢◌, ◌+◌, ◌-◌, ◌^◌, ◌<◌, ◌≤◌, ◌⊎◌, ◌++◌, Bool, List, false, length, slice_index_or, true}
-use Rattle.mb_mailbox.specs.Below.{END, HasLoaded, HasMet, place_past}
+use Rattle.std.specs.Prelude.{ℕ, suc, ◌≡◌, ◌≢◌, ◌+◌, ◌-◌, ◌*◌, ◌^◌, ◌<◌, ◌≤◌, ◌⊎◌, ◌++◌, Bool, List, [], ◌∷◌, false, length, slice_index_or, true}
+use Rattle.mb_mailbox.specs.Below.{END, Has, HasLoaded, HasMet, Head, History, Link, Load, Look, PoolAccess, PoolAct, Word, look_of, place_past}
+use Rattle.mb_cells.specs.declared.answer.Look.TheVariants as look
+use Rattle.std.specs.Int.{from_bool}
 use Rattle.mb_mailbox.specs.Consumers.{ConsumerView}
 use Rattle.mb_mailbox.specs.Producers.{FoundNoCell, IsSameLane, is_over}
 use Rattle.mb_mailbox.specs.Steps.{notes_on}
@@ -40,11 +42,38 @@ pub record HasReadToEnd (p : ℕ) (s : ConsumerView) : Type 0 where
 abbrev pub HasReadMarked : List Bool → ConsumerView → Type 0
 HasReadMarked marks s = (p : ℕ) → slice_index_or marks p false ≡ true → HasReadToEnd p s
 
--- it was stopped before a call, and made an access at least in each call before
-pub record IsStoppedPoll (may_stop : Who → ℕ → Type 0) (c made : ℕ) : Type 0 where
+-- how many lanes are marked
+abbrev pub count_marks : List Bool → ℕ
+count_marks [] = 0
+count_marks (b ∷ bs) = from_bool b + count_marks bs
+
+-- a load of a head or a link that tells the end of a lane
+abbrev pub is_ended : Look → Bool
+is_ended look.Nothing = false
+is_ended look.Ended = true
+is_ended (look.Cell k) = false
+
+abbrev pub tells_end : Word → PoolAct → Bool
+tells_end (Head p) (Load v) = is_ended (look_of v)
+tells_end (Link k) (Load v) = is_ended (look_of v)
+tells_end _ _ = false
+
+-- how many end marks were loaded by these accesses
+abbrev pub ends_met : History → ℕ
+ends_met [] = 0
+ends_met (a ∷ older) = from_bool (tells_end a.word a.act) + ends_met older
+
+-- each head that was loaded by these accesses is that of a lane from `from` on and below `end`
+abbrev pub IsOnLanes : ℕ → ℕ → History → Type 0
+IsOnLanes from end reads = (a : PoolAccess) (p : ℕ) → Has reads a → a.word ≡ Head p → (from ≤ p) × (p < end)
+
+-- it was stopped before a call, and has made at least as many accesses as it had calls before that one, and at most the
+-- budget in each
+pub record IsStoppedPoll (may_stop : Who → ℕ → Type 0) (budget c made : ℕ) : Type 0 where
   pub call : ℕ
   pub first : 1 ≤ call
   pub within : call ≤ suc made
+  pub most : made ≤ budget * (call - 1)
   pub stop : IsStopBefore may_stop (who.Consumer c) call
 
 module _ {Z : Type 0} (may_stop : Who → ℕ → Type 0) where
@@ -63,8 +92,13 @@ module _ {Z : Type 0} (may_stop : Who → ℕ → Type 0) where
     pub stop : d.stopped ≡ true → d.off ≡ false
         → IsStopBefore may_stop (who.Producer j.producer.seat.lane) (suc (length d.producer.items))
 
-  -- the consumer, where it was not stopped, has read each lane from `from` on and below `end` to its end mark
-  pub record IsPollEnd (from end : ℕ) (s : ConsumerView) (d : PollDone Z) : Type 0 where
+  -- the consumer, where it was not stopped, has read each lane from `from` on and below `end` to its end mark; where the run
+  -- is not off, one that had made no access has looked at these lanes alone, and where it was stopped it was so before a call, and
+  -- has loaded fewer end marks than there are of these lanes
+  pub record IsPollEnd (from end budget : ℕ) (s : ConsumerView) (d : PollDone Z) : Type 0 where
     pub same : IsSameConsumer s d.consumer
     pub read : d.stopped ≡ false → (p : ℕ) → from ≤ p → p < end → HasReadToEnd p d.consumer
-    pub stop : d.stopped ≡ true → d.off ≡ false → IsStoppedPoll may_stop s.seat.consumer (accesses_made d.consumer)
+    pub stop : d.stopped ≡ true → d.off ≡ false → accesses_made s ≡ 0
+        → IsStoppedPoll may_stop budget s.seat.consumer (accesses_made d.consumer)
+    pub unread : d.stopped ≡ true → d.off ≡ false → accesses_made s ≡ 0 → ends_met d.consumer.reader.part < end - from
+    pub only : d.off ≡ false → accesses_made s ≡ 0 → IsOnLanes from end d.consumer.reader.part

@@ -5,7 +5,7 @@ use Rattle.std.specs.List.{All, AllZip, sum_by}
 use Rattle.mb_cells.specs.Vocabulary.{HasFoundNone}
 use Rattle.mb_mailbox.specs.Below.{ClaimAccess, History, consumer_count}
 use Rattle.mb_mailbox.specs.Hubs.{HubView, LedgerView, PutListView}
-use Rattle.mb_mailbox.specs.Jobs.{IsFront, IsStopBefore, IsStoppedPoll}
+use Rattle.mb_mailbox.specs.Jobs.{IsFront, IsOnLanes, IsStopBefore, IsStoppedPoll, ends_met}
 use Rattle.mb_mailbox.specs.Mailboxes.{MailboxView}
 use Rattle.mb_mailbox.specs.Steps.{notes_on}
 use Rattle.mb_mailbox.specs.declared.gate.Who.{Who}
@@ -106,22 +106,28 @@ AreStoppedPuts may_stop cells p (list ∷ lists) (l ∷ ls) =
     (l.stopped ≡ true → IsStoppedPut may_stop cells p list l) × AreStoppedPuts may_stop cells (suc p) lists ls
 AreStoppedPuts may_stop cells p _ _ = ⊥
 
--- each consumer from number c on that was stopped was stopped before a call, and made an access at least in each before
-abbrev pub AreStoppedPolls : (Who → ℕ → Type 0) → ℕ → List ConsumerLeft → Type 0
-AreStoppedPolls may_stop c [] = Unit {0}
-AreStoppedPolls may_stop c (l ∷ ls) =
-    (l.stopped ≡ true → IsStoppedPoll may_stop c (length l.reads + length l.claimed)) × AreStoppedPolls may_stop (suc c) ls
+-- each consumer from number c on that was stopped was stopped before a call, and has made at least as many accesses as
+-- it had calls before that one, and at most the budget in each
+abbrev pub AreStoppedPolls : (Who → ℕ → Type 0) → ℕ → ℕ → List ConsumerLeft → Type 0
+AreStoppedPolls may_stop budget c [] = Unit {0}
+AreStoppedPolls may_stop budget c (l ∷ ls) =
+    (l.stopped ≡ true → IsStoppedPoll may_stop budget c (length l.reads + length l.claimed)) × AreStoppedPolls may_stop budget (suc c) ls
 
--- all that was given was taken in, and these are the counts, where the gate may stop these workers before these calls
-pub record IsWorked (may_stop : Who → ℕ → Type 0) (lists : List (List ℕ)) (sources : ℕ) (w : Worked) (old new : HubView)
+-- all that was given was taken in, and these are the counts, where the gate may stop these workers before these calls, and
+-- a poll makes at most `budget` accesses
+pub record IsWorked (may_stop : Who → ℕ → Type 0) (budget : ℕ) (lists : List (List ℕ)) (sources : ℕ) (w : Worked) (old new : HubView)
     : Type 0 where
   pub lanes : List LaneLeft
   pub consumers : List ConsumerLeft
   pub run : IsRunOf lists sources lanes consumers old new
-  -- `stopped` counts who was stopped; each of them was stopped by the gate, or at call 2^64 - 1
+  -- `stopped` counts who was stopped, each before a call at which the gate may stop it, or before call 2^64 - 1
   pub stopped : w.stopped ≡ sum_by (λ l. from_bool l.stopped) lanes + sum_by (λ c. from_bool c.stopped) consumers
   pub stopped_puts : AreStoppedPuts may_stop new.cells.table.size.cells (length old.puts) lists lanes
-  pub stopped_polls : AreStoppedPolls may_stop (length old.ledgers) consumers
+  pub stopped_polls : AreStoppedPolls may_stop budget (length old.ledgers) consumers
+  -- A consumer that was stopped has loaded fewer end marks than there are lanes
+  pub unread : All (λ c. c.stopped ≡ true → ends_met c.reads < length lists) consumers
+  -- No consumer has looked at the head of a lane that was not given in this call
+  pub only : All (λ c. IsOnLanes (length old.puts) (length old.puts + length lists) c.reads) consumers
   -- Of those who were not stopped: `full` counts the items that they did not put, no further than 2^64 - 1,
   pub full : w.full ≡ min (2 ^ 64 - 1) (items_beyond lists lanes)
   -- a producer that put less than its list has a fetch-add that found no cell,

@@ -28,7 +28,7 @@ pub enum Poll {
     Lost(u32),
     /// This consumer's claim on the lane's next item ended undecided: another may have won it, or nobody.
     Undecided,
-    /// No further item is linked yet.
+    /// The consumer found no further item linked. Beside a producer that was not taken in before, one may be linked by now.
     Nothing,
     /// The lane has ended: no further item comes.
     Ended,

@@ -3,19 +3,21 @@
 ghost use Rattle.std.specs.Prelude.{◌≡◌, List, None, Option, Some, [], ◌∷◌};
 ghost use Rattle.mb_quorum.specs.Vocabulary.{IsQuorumTable};
 ghost use Rattle.mb_claim.specs.declared.access.Stage.TheVariants as stage;
-ghost use Rattle.mb_cells.specs.Vocabulary.{new_lane};
+ghost use Rattle.mb_cells.specs.Vocabulary.{fetch, new_lane};
 ghost use Rattle.mb_mailbox.specs.Below.{CellsName, Claims, END, IsClaimPrefix, ObjectTurn, Stream, Took, WorldAccess};
 ghost use Rattle.mb_mailbox.specs.Below.{claim_step, item_load, link_load};
 ghost use Rattle.mb_mailbox.specs.declared.consumer.Poll.{Poll};
 ghost use Rattle.mb_mailbox.specs.declared.consumer.Poll.TheVariants as poll;
+ghost use Rattle.mb_mailbox.specs.declared.gate.Who.TheVariants as who;
 ghost use Rattle.mb_mailbox.specs.Consumers.{ConsumerView};
 ghost use Rattle.mb_mailbox.specs.ConsumerStep.{ConsumerStep};
 ghost use Rattle.mb_mailbox.specs.Examples.{head_loaded, link_loaded, met_four, nothing_done};
+ghost use Rattle.mb_mailbox.specs.Jobs.{IsStoppedPoll};
 ghost use Rattle.mb_mailbox.specs.Producers.{HasNoCellFor, IsEndOfLane, IsFirstPastCells, IsPutInto};
 ghost use Rattle.mb_mailbox.specs.Steps.{IsPollOf, LeadTo};
 ghost use Rattle.mb_mailbox.specs.WorkExamples.{fetched, has_linked, idle_producer, lane_left, ledger_with, linked_early};
 ghost use Rattle.mb_mailbox.specs.WorkExamples.{producer_of_one, seven_put, stopped_lane};
-ghost use Rattle.mb_mailbox.specs.Worked.{AreCutByCells, HasNoteAtEach, items_beyond};
+ghost use Rattle.mb_mailbox.specs.Worked.{AreCutByCells, HasNoteAtEach, IsStoppedPut, items_beyond};
 
 use mb_claim::laws::prefixes_have_one_stage;
 
@@ -84,7 +86,7 @@ pub fn polls_end_with_their_answer()
         → IsPollOf 0 2 (poll.Took 5) s t old old → ⊥ }
 {}
 
-/// What a put adds that is linked.
+/// What a put adds whose item is linked.
 pub fn puts_make_three_accesses()
     ensures linked { (name : CellsName) → IsPutInto 0 7 (idle_producer name) (producer_of_one name has_linked seven_put (7 ∷ [])) }
     ensures link_first { (name : CellsName)
@@ -94,7 +96,7 @@ pub fn puts_make_three_accesses()
         → IsPutInto 1 7 (idle_producer name) (producer_of_one name has_linked seven_put (7 ∷ [])) → ⊥ }
 {}
 
-/// A put without a cell, and an end mark that was not stored.
+/// A put is full only behind a fetch-add that found no cell; and a lane ends only with its mark.
 pub fn puts_are_full_for_a_reason()
     ensures always_full { (name : CellsName) → HasNoCellFor 8 (idle_producer name) (idle_producer name) → ⊥ }
     ensures found_one { (name : CellsName)
@@ -110,4 +112,20 @@ pub fn workers_are_counted()
     ensures cut_short { AreCutByCells 1 0 ((7 ∷ 8 ∷ []) ∷ []) (lane_left (7 ∷ []) [] ∷ []) → ⊥ }
     ensures noted { HasNoteAtEach 0 (lane_left (7 ∷ []) [] ∷ []) (ledger_with (Took 7 ∷ [])) }
     ensures not_noted { HasNoteAtEach 0 (lane_left (7 ∷ []) [] ∷ []) (ledger_with []) → ⊥ }
+{}
+
+/// Who counts as stopped: a producer before the put of its next item, that found a cell each time; and a consumer before a
+/// call that it has come to, with no more accesses in each call before that one than its budget.
+pub fn workers_are_stopped_by_the_gate()
+    ensures put { IsStoppedPut (λ _ n. n ≡ 2) 1 0 (7 ∷ 8 ∷ []) (stopped_lane (7 ∷ []) seven_put) }
+    ensures put_other_call { IsStoppedPut (λ _ n. n ≡ 3) 1 0 (7 ∷ 8 ∷ []) (stopped_lane (7 ∷ []) seven_put) → ⊥ }
+    ensures put_other_worker { IsStoppedPut (λ w _. w ≡ who.Producer 1) 1 0 (7 ∷ 8 ∷ []) (stopped_lane (7 ∷ []) seven_put) → ⊥ }
+    ensures put_all { IsStoppedPut (λ _ _. Unit {0}) 1 0 (7 ∷ []) (stopped_lane (7 ∷ []) seven_put) → ⊥ }
+    ensures put_found_none { IsStoppedPut (λ _ _. Unit {0}) 1 0 (7 ∷ 8 ∷ [])
+        (stopped_lane (7 ∷ []) (fetch 0 (record { cell = 1; value = 8 }) ∷ seven_put)) → ⊥ }
+    ensures poll { IsStoppedPoll (λ _ n. n ≡ 2) 5 0 3 }
+    ensures poll_not_come_to { IsStoppedPoll (λ _ n. n ≡ 5) 5 0 3 → ⊥ }
+    ensures poll_too_many { IsStoppedPoll (λ _ n. n ≡ 1) 5 0 1 → ⊥ }
+    ensures poll_past_its_budget { IsStoppedPoll (λ _ n. n ≡ 2) 5 0 6 → ⊥ }
+    ensures poll_other_worker { IsStoppedPoll (λ w _. w ≡ who.Consumer 1) 5 0 3 → ⊥ }
 {}

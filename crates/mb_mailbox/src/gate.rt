@@ -18,7 +18,8 @@ pub trait Gate: Sync {
     // Before which calls it may stop which worker. Where an implementation says nothing, it may stop each before any.
     ghost may_stop: { Self → Who → ℕ → Type 0 } = { λ _ _ _. Unit {0} };
 
-    /// Whether the worker may make its call of this number. Where it may not, the worker stops.
+    /// Whether the worker may make its call of this number. Where it may not, the worker stops. It answers `false` only
+    /// where `may_stop` holds.
     fn enter(&self, who: Who, call: u64) -> bool
         ensures { result ≡ false → may_stop self.now who call };
 

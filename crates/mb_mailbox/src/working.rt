@@ -32,14 +32,14 @@ use std::fmt;
 use std::sync::Wait;
 use std::sync::atomic::AtomicBool;
 use std::thread::Threads;
-use taking::{is_off, take_all};
+use taking::{Told, take_all};
 
 /// What the workers of a run came to.
 #[derive(Clone, Copy, PartialEq, Eq, Debug)]
 pub struct Worked {
     /// Items that were answered `Full`, or not offered because of such an answer. It stays at 2^64 - 1 once there.
     pub full: u64,
-    /// Workers that were stopped: by the gate, or at call 2^64 - 1.
+    /// Workers that were stopped, each before a call at which the gate may stop it, or before call 2^64 - 1.
     pub stopped: u64,
 }
 
@@ -52,8 +52,8 @@ pub enum WorkFault {
     BadBudget,
     /// The allocator refused what the run needs. Each producer given has ended its lane, and all that was given is taken in.
     NoMemory,
-    /// A thread could not be started, where there is a list or a source. Each producer given has ended its lane, and all that
-    /// was given is taken in.
+    /// A thread could not be started. It comes only where there is a list or a source. Each producer given has ended its lane,
+    /// and all that was given is taken in.
     NoThread,
 }
 
@@ -73,7 +73,7 @@ impl Error for WorkFault {}
 /// Runs one thread for each list, and one for each source of random words. The first are producers, which put their lists
 /// in order up to the first `Full`, and then end their lanes. The others are consumers, which poll the lanes given in this
 /// call in rising order, round and round, each until it has ended. Numbers are given in the order of the lists and of the
-/// sources. Before its n-th put or poll each worker asks the gate, and stops where that lets it not through.
+/// sources. Before its n-th put or poll each worker asks the gate, and stops where the gate does not let it through.
 ///
 /// It hands items out and runs none: each `Took` note of the report that [`Mailbox::gather`] gives is an item to be run, once,
 /// and so is each item left there. What was not put is in no report: it is what stands in a list behind the items that its lane
@@ -108,7 +108,7 @@ pub fn work<
 
     // Whatever comes else, all that was given is taken in, and each producer given has ended its lane.
     ensures worked { IfOk result (λ w.
-        IsWorked (G.may_stop gate.now) (lists_in items.items) (vec_len rngs) w hub.old hub.new) }
+        IsWorked (G.may_stop gate.now) budget (lists_in items.items) (vec_len rngs) w hub.old hub.new) }
     ensures no_thread { result ≡ Err NoThread
         → WereTakenIn (lists_in items.items) (vec_len rngs) hub.old hub.new }
     ensures some_thread { result ≡ Err NoThread → 0 < vec_len items + vec_len rngs }
@@ -179,6 +179,7 @@ fn next_lanes(given: usize, lists: usize, budget: u64) -> Lanes
     requires able { 0 < budget }
     ensures from { result.from ≡ given }
     ensures end { result.end ≡ given + lists }
+    ensures budget { result.budget ≡ budget }
 {
     Lanes {
         from: given as u32,
@@ -214,7 +215,7 @@ fn work_with<
     ensures all_given { result ≢ Err AllGiven }
     ensures bad_budget { result ≢ Err BadBudget }
     ensures worked { IfOk result (λ w.
-        IsWorked (G.may_stop gate.now) (lists_in items.items) (vec_len rngs) w hub.old hub.new) }
+        IsWorked (G.may_stop gate.now) budget (lists_in items.items) (vec_len rngs) w hub.old hub.new) }
     ensures no_thread { result ≡ Err NoThread
         → WereTakenIn (lists_in items.items) (vec_len rngs) hub.old hub.new }
     ensures some_thread { result ≡ Err NoThread → 0 < vec_len items + vec_len rngs }
@@ -233,13 +234,12 @@ fn work_with<
     }
     let going = AtomicBool::new(true);
     let ends = run(rt, mailbox, jobs, lanes, gate, &going, room);
-    let off = is_off(&ends);
-    let worked = take_all(mailbox, hub, ends);
+    let Told { full, stopped, off } = take_all(mailbox, hub, ends);
     ends_tell_notes();
     hub.has_history();
     if off {
         Err(WorkFault::NoThread)
     } else {
-        Ok(worked)
+        Ok(Worked { full, stopped })
     }
 }

@@ -68,17 +68,18 @@ pub(crate) struct PollDone<A: Allocator + Drop> {
     pub(crate) off: bool,
 }
 
-/// What a consumer's thread promises, by the consumer, the lanes and the gate.
+/// What a consumer's thread promises, by the consumer, the lanes, the budget and the gate.
 #[derive(Drop)]
 pub(crate) struct Polls<G: Gate, A: Allocator + Drop> {
     pub(crate) consumer: Snapshot<Consumer<A>>,
     pub(crate) from: u32,
     pub(crate) end: u32,
+    pub(crate) budget: u64,
     pub(crate) gate: Snapshot<G>,
 }
 
 impl<G: Gate, A: Allocator + Drop> Promise<PollDone<A>> for Polls<G, A> {
     ghost use Rattle.mb_mailbox.specs.Jobs.{IsPollEnd};
 
-    ghost kept_by = { λ p d. IsPollEnd (G.may_stop p.gate.value) p.from p.end p.consumer.value d };
+    ghost kept_by = { λ p d. IsPollEnd (G.may_stop p.gate.value) p.from p.end p.budget p.consumer.value d };
 }

@@ -41,7 +41,7 @@ fn run_in<
     requires of { AreOf mailbox.now jobs }
     requires few { lanes.end ≤ mailbox.now.cells.size.lanes }
     requires room { HasRoom (vec_len jobs.puts) (vec_len jobs.polls) room }
-    ensures { AreEndsOf (G.may_stop gate.now) lanes.from lanes.end jobs result }
+    ensures { AreEndsOf (G.may_stop gate.now) lanes.from lanes.end lanes.budget jobs result }
 {
     let Jobs { puts, polls } = jobs;
     let Room {
@@ -78,7 +78,7 @@ pub(super) fn run<
     requires of { AreOf mailbox.now jobs }
     requires few { lanes.end ≤ mailbox.now.cells.size.lanes }
     requires room { HasRoom (vec_len jobs.puts) (vec_len jobs.polls) room }
-    ensures { AreEndsOf (G.may_stop gate.now) lanes.from lanes.end jobs result }
+    ensures { AreEndsOf (G.may_stop gate.now) lanes.from lanes.end lanes.budget jobs result }
 {
     thread::scope(
         thread::scope_env(),
@@ -87,7 +87,7 @@ pub(super) fn run<
             requires of { AreOf mailbox.now jobs }
             requires few { lanes.end ≤ mailbox.now.cells.size.lanes }
             requires room { HasRoom (vec_len jobs.puts) (vec_len jobs.polls) room }
-            ensures { AreEndsOf (G.may_stop gate.entry.now) lanes.from lanes.end jobs result }
+            ensures { AreEndsOf (G.may_stop gate.entry.now) lanes.from lanes.end lanes.budget jobs result }
         { run_in(scope, rt, mailbox, jobs, lanes, gate, going, room) },
     )
 }
@@ -133,7 +133,7 @@ pub(super) fn end_all<R: Drop, G: Gate, A: Allocator + Drop, B: Allocator + Drop
 ) -> Ends<A>
     requires of { AreOf mailbox.now jobs }
     requires room { HasRoom (vec_len jobs.puts) (vec_len jobs.polls) room }
-    ensures { (from end : ℕ) → AreEndsOf (λ _ _. ⊥) from end jobs result }
+    ensures { (from end budget : ℕ) → AreEndsOf (λ _ _. ⊥) from end budget jobs result }
 {
     let Jobs { puts, polls } = jobs;
     let Ends {

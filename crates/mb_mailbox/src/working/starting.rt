@@ -85,18 +85,19 @@ fn start_poll<
 ) -> PollBegun<G, A>
     requires of { IsConsumerOf mailbox.now job.consumer }
     requires few { lanes.end ≤ mailbox.now.cells.size.lanes }
-    ensures { PollPromises G.may_stop gate.now lanes.from lanes.end job.consumer result }
+    ensures { PollPromises G.may_stop gate.now lanes.from lanes.end lanes.budget job.consumer result }
 {
     let promise = Polls {
         consumer: Snapshot::of(&job.consumer),
         from: lanes.from,
         end: lanes.end,
+        budget: lanes.budget,
         gate: Snapshot::of(gate),
     };
     let body = move || -> PollDone<A>
         requires of { IsConsumerOf mailbox.now job.consumer }
         requires few { lanes.end ≤ mailbox.now.cells.size.lanes }
-        ensures { IsPollEnd (G.may_stop gate.entry.now) lanes.from lanes.end job.consumer result }
+        ensures { IsPollEnd (G.may_stop gate.entry.now) lanes.from lanes.end lanes.budget job.consumer result }
     { poll_lanes(mailbox, job, lanes, gate, going) };
     match scope.spawn_with(promise, body) {
         Ok(handle) => PollBegun::Apart(handle),
@@ -130,7 +131,7 @@ pub(super) fn start_polls<
     requires few { lanes.end ≤ mailbox.now.cells.size.lanes }
     requires none { begun.items ≡ [] }
     requires room { vec_len jobs ≤ vec_capacity begun }
-    ensures { AllZip (λ j b. PollPromises G.may_stop gate.now lanes.from lanes.end j.consumer b)
+    ensures { AllZip (λ j b. PollPromises G.may_stop gate.now lanes.from lanes.end lanes.budget j.consumer b)
         jobs.items result.items }
 {
     for job in jobs {

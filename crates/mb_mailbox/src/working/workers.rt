@@ -1,8 +1,8 @@
 //! The bodies of the workers.
-ghost use Rattle.std.specs.Prelude.{ℕ, suc, ◌≡◌, ◌≢◌, ◌+◌, ◌<◌, ◌≤◌, [], IfNone, IfSome, false, length, slice_index_or, slice_set, take, true};
+ghost use Rattle.std.specs.Prelude.{ℕ, suc, ◌≡◌, ◌≢◌, ◌+◌, ◌<◌, ◌≤◌, ◌⊎◌, [], IfNone, IfSome, false, length, slice_index_or, slice_set, take, true};
 ghost use Rattle.mb_mailbox.specs.Consumers.{IsConsumerOf};
 ghost use Rattle.mb_mailbox.specs.declared.gate.Who.TheVariants as who;
-ghost use Rattle.mb_mailbox.specs.Jobs.{HasReadMarked, IsPollEnd, IsPutEnd, IsSameConsumer, IsStopBefore, accesses_made};
+ghost use Rattle.mb_mailbox.specs.Jobs.{HasReadMarked, IsOnLanes, IsPollEnd, IsPutEnd, IsSameConsumer, IsStopBefore, accesses_made, count_marks, ends_met};
 ghost use Rattle.mb_mailbox.specs.Producers.{FoundNoCell, IsProducerOf, IsSameLane, is_over};
 
 use super::ending::ends_are_kept;
@@ -15,47 +15,68 @@ use rand_core::Rng;
 use std::alloc::Allocator;
 use std::sync::atomic::{AtomicBool, Ordering};
 
-/// Puts items up to the first that is refused: how many were linked, whether the producer was stopped, and whether the run
-/// is off.
+/// How many items were linked, whether the producer was stopped before it came to the end of its list, and whether because
+/// the run is off.
+#[derive(Clone, Copy)]
+struct Linked {
+    count: usize,
+    stopped: bool,
+    off: bool,
+}
+
+/// Puts items up to the first that is refused.
 fn put_items<A: Allocator + Drop, B: Allocator + Drop, G: Gate>(
     mailbox: &Mailbox<B>,
     producer: &mut Producer<A>,
     items: &[u64],
     gate: &G,
     going: &AtomicBool,
-) -> (usize, bool, bool)
+) -> Linked
     requires of { IsProducerOf mailbox.now producer.old }
     requires fresh { producer.old.items ≡ [] }
     requires begun { is_over producer.old ≡ false }
-    ensures linked { result.0 ≤ length items.now }
-    ensures items { producer.new.items ≡ take result.0 items.now }
+    ensures linked { result.count ≤ length items.now }
+    ensures items { producer.new.items ≡ take result.count items.now }
     ensures lane { IsSameLane producer.old producer.new }
     ensures begun { is_over producer.new ≡ false }
-    ensures found { result.1 ≡ false → result.0 ≢ length items.now → FoundNoCell producer.new }
-    ensures stopped { result.1 ≡ true → result.0 < length items.now }
-    ensures stop { result.1 ≡ true → result.2 ≡ false
-        → IsStopBefore (G.may_stop gate.now) (who.Producer producer.old.seat.lane) (suc result.0) }
-    ensures had_cells { result.1 ≡ true → FoundNoCell producer.new → FoundNoCell producer.old }
+    ensures found { result.stopped ≡ false → result.count ≢ length items.now → FoundNoCell producer.new }
+    ensures stopped { result.stopped ≡ true → result.count < length items.now }
+    ensures stop { result.stopped ≡ true → result.off ≡ false
+        → IsStopBefore (G.may_stop gate.now) (who.Producer producer.old.seat.lane) (suc result.count) }
+    ensures had_cells { result.stopped ≡ true → FoundNoCell producer.new → FoundNoCell producer.old }
 {
     let who = Who::Producer(producer.seat.lane());
     for (i, item) in items.iter().enumerate() {
         if !going.load(Ordering::SeqCst) {
-            return (i, true, true);
+            return Linked {
+                count: i,
+                stopped: true,
+                off: true,
+            };
         }
         let call = i as u64 + 1;
-        if call == u64::MAX {
-            return (i, true, false);
-        }
-        if !gate.enter(who, call) {
-            return (i, true, false);
+        if call == u64::MAX || !gate.enter(who, call) {
+            return Linked {
+                count: i,
+                stopped: true,
+                off: false,
+            };
         }
         let put = producer.put(mailbox, *item);
         gate.leave(who, call);
         if put != Put::Linked {
-            return (i, false, false);
+            return Linked {
+                count: i,
+                stopped: false,
+                off: false,
+            };
         }
     }
-    (items.len(), false, false)
+    Linked {
+        count: items.len(),
+        stopped: false,
+        off: false,
+    }
 }
 
 /// Puts the list in order up to the first item that finds no cell, and ends the lane.
@@ -69,12 +90,16 @@ pub(super) fn put_list<A: Allocator + Drop, B: Allocator + Drop, G: Gate>(
     ensures { IsPutEnd (G.may_stop gate.now) job result }
 {
     let PutJob { mut producer, list } = job;
-    let (linked, stopped, off) = put_items(mailbox, &mut producer, &list, gate, going);
+    let Linked {
+        count,
+        stopped,
+        off,
+    } = put_items(mailbox, &mut producer, &list, gate, going);
     producer.finish(mailbox);
     let full = if stopped {
         0
     } else {
-        (list.len() - linked) as u64
+        (list.len() - count) as u64
     };
     PutDone {
         producer,
@@ -110,6 +135,7 @@ fn next_lane(ended: &[bool], at: u32, from: u32, end: u32) -> Option<u32>
     requires at { at ≤ end }
     requires few { end ≤ length ended.now }
     ensures some { IfSome result (λ p. (p < end) × (slice_index_or ended.now p true ≡ false)) }
+    ensures low { IfSome result (λ p. from ≤ p) }
     ensures none { IfNone result ((p : ℕ) → from ≤ p → p < end → slice_index_or ended.now p true ≡ true) }
 {
     for lane in at.max(from)..end {
@@ -148,7 +174,14 @@ fn poll_lane<A: Allocator + Drop, B: Allocator + Drop, R: Rng>(
     requires read { HasReadMarked ended.old consumer.old }
     requires able { 0 < budget }
     ensures made { accesses_made consumer.old < accesses_made consumer.new }
+    ensures most { accesses_made consumer.new ≤ accesses_made consumer.old + budget }
     ensures read { HasReadMarked ended.new consumer.new }
+    ensures only { (from end : ℕ) → from ≤ lane → lane < end → IsOnLanes from end consumer.old.reader.part
+        → IsOnLanes from end consumer.new.reader.part }
+    ensures marks { (p : ℕ) → slice_index_or ended.new p false ≡ true
+        → (p ≡ lane) ⊎ (slice_index_or ended.old p false ≡ true) }
+    ensures ends { ends_met consumer.new.reader.part + count_marks ended.old
+        ≤ ends_met consumer.old.reader.part + count_marks ended.new }
     ensures same { IsSameConsumer consumer.old consumer.new }
     ensures of { IsConsumerOf mailbox.now consumer.new }
 {
@@ -170,7 +203,7 @@ pub(super) fn poll_lanes<A: Allocator + Drop, B: Allocator + Drop, R: Rng + Drop
 ) -> PollDone<A>
     requires of { IsConsumerOf mailbox.now job.consumer }
     requires few { lanes.end ≤ mailbox.now.cells.size.lanes }
-    ensures { IsPollEnd (G.may_stop gate.now) lanes.from lanes.end job.consumer result }
+    ensures { IsPollEnd (G.may_stop gate.now) lanes.from lanes.end lanes.budget job.consumer result }
 {
     let Lanes { from, end, budget } = lanes;
     let PollJob {
@@ -202,10 +235,18 @@ pub(super) fn poll_lanes<A: Allocator + Drop, B: Allocator + Drop, R: Rng + Drop
         gate.leave(who, call);
         at = lane + 1;
     }
-    PollDone {
-        consumer,
-        stopped: true,
-        off: false,
+    // The last call may have read what was left.
+    match next_lane(&ended, at, from, end) {
+        None => PollDone {
+            consumer,
+            stopped: false,
+            off: false,
+        },
+        Some(_) => PollDone {
+            consumer,
+            stopped: true,
+            off: false,
+        },
     }
 }
 

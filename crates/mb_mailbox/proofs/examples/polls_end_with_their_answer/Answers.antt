@@ -1,6 +1,6 @@
-use Rattle.std.proofs.Common.{None, Option, Some, [], ap, arith, length, sym, ◌∷◌, ◌++◌, ◌≡◌, ◌∙◌, ◌+◌, ℕ, List, refl, subst}
+use Rattle.std.proofs.Common.{None, Option, Some, [], ap, arith, length, sym, ◌∷◌, ◌≡◌, ◌∙◌, ℕ, refl, subst}
 use Rattle.std.proofs.lemmas.List.{length-append}
-use Rattle.mb_mailbox.specs.Below.{ClaimAccess, History, ReaderSeatView, SeatView, ToCells, ToClaims, WorldAccess, WorldHistory, claim_accesses, link_load, look_of, pool_accesses}
+use Rattle.mb_mailbox.specs.Below.{ReaderSeatView, SeatView, ToCells, ToClaims, WorldHistory, claim_accesses, link_load, look_of, pool_accesses}
 use Rattle.mb_mailbox.specs.declared.consumer.Poll.{Poll}
 use Rattle.mb_mailbox.specs.Consumers.{ConsumerView}
 use Rattle.mb_mailbox.specs.ConsumerStep.{ConsumerStep, competes, link_answer, looks, takes}

@@ -1,9 +1,9 @@
-use Rattle.std.proofs.Common.{◌≡◌, ◌≤◌, ap, arith, length, subst, sym, ◌∙◌}
+use Rattle.std.proofs.Common.{◌≡◌, ap, arith, length, subst, ◌∙◌}
 use Rattle.mb_mailbox.specs.Hubs.{HubView}
 use Rattle.mb_mailbox.specs.HubRuns.{ArePollJobs, with_consumers}
 use Rattle.mb_mailbox.proofs.HubRuns.{same_by_producers}
 use Rattle.mb_mailbox.proofs.working.giving.give.Goals as goal
-use Rattle.std.proofs.Common.{refl, ℕ, vec_len}
+use Rattle.std.proofs.Common.{refl, ℕ}
 
 pub give_consumers-requires-clause-left : goal.give_consumers-requires-clause-left
 give_consumers-requires-clause-left g c =

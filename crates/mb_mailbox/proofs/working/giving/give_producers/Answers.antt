@@ -1,4 +1,4 @@
-use Rattle.std.proofs.Common.{◌≡◌, arith, ap, refl, sym, ◌∙◌, length, None, [], ◌∷◌}
+use Rattle.std.proofs.Common.{arith, ap, refl, sym, ◌∙◌, length, None, [], ◌∷◌}
 use Rattle.std.proofs.lemmas.Grind.{common_steps}
 use Rattle.std.proofs.lemmas.List.{length-append}
 use Rattle.mb_mailbox.specs.Hubs.{HubView, with_producer}

@@ -1,4 +1,4 @@
-use Rattle.std.proofs.Common.{◌≡◌, ◌++◌, ◌-◌, ◌^◌, map, min}
+use Rattle.std.proofs.Common.{◌≡◌, ◌++◌, ◌-◌, ◌^◌, ◌<◌, false, length, map, min, true}
 use Rattle.std.specs.Int.{from_bool}
 use Rattle.std.specs.Vec.Iter.{into_iter_items}
 use Rattle.std.specs.List.{All, sum_by}
@@ -13,6 +13,8 @@ invariant-loop-end g l = record {
   to_take : All (λ d. IsProducerOf l.mailbox d.producer) (into_iter_items l.end-iterator);
   full : l.full ≡ min (2 ^ 64 - 1) (sum_by (λ d. d.full) l.yielded);
   stopped : l.stopped ≡ min (2 ^ 64 - 1) (sum_by (λ d. from_bool d.stopped) l.yielded);
+  on : l.off ≡ false → All (λ d. d.off ≡ false) l.yielded;
+  off : l.off ≡ true → 0 < length l.yielded;
   hub : l.hub ≡ with_taken_producers (map (λ d. d.producer) l.yielded) l.fn.hub;
   all_of : IsHubOf l.mailbox l.hub;
 }

@@ -1,6 +1,6 @@
-use Rattle.std.proofs.Common.{suc, ◌≤◌}
+use Rattle.std.proofs.Common.{◌≡◌, ℕ, true, false, slice_index_or, ◌<◌, suc, ◌+◌, ◌-◌, ◌*◌, ◌≤◌}
 use Rattle.mb_mailbox.specs.Consumers.{IsConsumerOf}
-use Rattle.mb_mailbox.specs.Jobs.{HasReadMarked, IsSameConsumer, accesses_made}
+use Rattle.mb_mailbox.specs.Jobs.{HasReadMarked, IsOnLanes, IsSameConsumer, accesses_made, count_marks, ends_met}
 use Rattle.mb_mailbox.proofs.working.workers.poll_lanes.Given as goal
 
 abbrev pub invariant-loop-call : goal.invariant-loop-call
@@ -9,5 +9,9 @@ invariant-loop-call g l = record {
   all_of : IsConsumerOf l.mailbox l.consumer;
   same : IsSameConsumer l.fn.job.consumer l.consumer;
   read : HasReadMarked l.ended l.consumer;
+  only : accesses_made l.fn.job.consumer ≡ 0 → IsOnLanes l.from l.end l.consumer.reader.part;
+  marks : (p : ℕ) → slice_index_or l.ended p false ≡ true → (l.from ≤ p) × (p < l.end);
+  ends : accesses_made l.fn.job.consumer ≡ 0 → ends_met l.consumer.reader.part ≤ count_marks l.ended;
   made : l.call ≤ suc (accesses_made l.consumer);
+  most : accesses_made l.consumer ≤ accesses_made l.fn.job.consumer + l.budget * (l.call - 1);
 }

@@ -1,0 +1,88 @@
+-- A poll loads one end mark where it is answered `Ended`, and none elsewhere.
+use Rattle.std.proofs.Common.{◌≡◌, ◌≢◌, ℕ, ◌+◌, ◌≤◌, Bool, true, false, List, [], ◌∷◌, ◌++◌, Option, Some, None, length, refl, ap, ◌∙◌, arith}
+use Rattle.std.specs.Int.{from_bool}
+use Rattle.mb_cells.specs.declared.answer.Look.TheVariants as look
+use Rattle.mb_mailbox.specs.Below.{Claims, History, Look, Parts, PoolAccess, ReaderSeatView, Stream, ToCells, ToClaims, WorldAccess, WorldHistory, cells_met, link_load, look_of, pool_accesses}
+use Rattle.mb_mailbox.specs.ConsumerStep.{ConsumerStep, competes, link_answer, looks, takes}
+use Rattle.mb_mailbox.specs.Consumers.{ConsumerView}
+use Rattle.mb_mailbox.specs.Jobs.{accesses_made, ends_met, is_ended, tells_end}
+use Rattle.mb_mailbox.specs.Steps.{IsPollOf, LeadTo, outcome}
+use Rattle.mb_mailbox.specs.declared.consumer.Poll.{Poll}
+use Rattle.mb_mailbox.specs.declared.consumer.Poll.TheVariants as poll
+
+abbrev told_by : WorldAccess → Bool
+told_by (ToCells a) = tells_end a.word a.act
+told_by (ToClaims a) = false
+
+not_ended : (l : Look) → (link_answer l ≡ Some poll.Ended → ⊥) → is_ended l ≡ false
+not_ended look.Nothing n = refl
+not_ended look.Ended n = absurd (n refl)
+not_ended (look.Cell k) n = refl
+
+past_told : (c p : ℕ) (ks : List ℕ) (v : ℕ) → told_by (link_load c p ks v) ≡ is_ended (look_of v)
+past_told c p [] v = refl
+past_told c p (k ∷ ks) v = refl
+
+step_told : (cs : Claims) (c p : ℕ) (x : Parts) (b : PoolAccess) (answer : Option Poll) → ConsumerStep cs c p x (ToCells b) answer
+    → (answer ≡ Some poll.Ended → ⊥) → tells_end b.word b.act ≡ false
+step_told cs c p x b answer (looks v past e is) n = ap told_by e ∙ past_told c p (cells_met p x.reads) v ∙ not_ended (look_of v) (λ z. n (is ∙ z))
+step_told cs c p x b answer (competes k t now last going after e is) n = ap told_by e
+step_told cs c p x b answer (takes k v last won e is) n = ap told_by e
+
+none_told : (p : ℕ) (answer : Option Poll) (done : WorldHistory) (s : ConsumerView) → LeadTo p answer done s → (answer ≡ Some poll.Ended → ⊥)
+    → ends_met (pool_accesses done) ≡ 0
+none_told p answer [] s lead n = refl
+none_told p answer (ToCells b ∷ older) s lead n =
+    let one : from_bool (tells_end b.word b.act) ≡ 0 = ap from_bool (step_told _ _ p _ b answer lead.0 n) in
+    let rest = none_told p None older s lead.1 (λ z. cc) in
+    omega (arith, one, rest)
+none_told p answer (ToClaims b ∷ older) s lead n = none_told p None older s lead.1 (λ z. cc)
+
+at_most_one : (b : Bool) → from_bool b ≤ 1
+at_most_one true = omega arith
+at_most_one false = omega arith
+
+most_told : (p : ℕ) (answer : Option Poll) (done : WorldHistory) (s : ConsumerView) → LeadTo p answer done s → ends_met (pool_accesses done) ≤ 1
+most_told p answer [] s lead = omega arith
+most_told p answer (ToCells b ∷ older) s lead =
+    let one = at_most_one (tells_end b.word b.act) in
+    let rest = none_told p None older s lead.1 (λ z. cc) in
+    omega (arith, one, rest)
+most_told p answer (ToClaims b ∷ older) s lead = let rest = none_told p None older s lead.1 (λ z. cc) in omega (arith, rest)
+
+ends_append : (xs ys : History) → ends_met (xs ++ ys) ≡ ends_met xs + ends_met ys
+ends_append [] ys = omega arith
+ends_append (x ∷ xs) ys = let rest = ends_append xs ys in omega (arith, rest)
+
+ended : (answer : Poll) → outcome answer ≡ Some poll.Ended → answer ≡ poll.Ended
+ended poll.Spent e = absurd (cc)
+ended (poll.Took x) e = absurd (cc)
+ended (poll.Lost w) e = absurd (cc)
+ended poll.Undecided e = absurd (cc)
+ended poll.Nothing e = absurd (cc)
+ended poll.Ended e = refl
+ended poll.NoLane e = absurd (cc)
+
+module _ (p budget : ℕ) (answer : Poll) (s t : Stream) (old new : ConsumerView) (i : IsPollOf p budget answer s t old new) where
+  all : ends_met new.reader.part ≡ ends_met (pool_accesses i.accesses) + ends_met old.reader.part
+  all = ap (λ (r : ReaderSeatView). ends_met r.part) i.done.reader ∙ ends_append (pool_accesses i.accesses) old.reader.part
+
+  pub no_end_by : answer ≢ poll.Ended → ends_met new.reader.part ≤ ends_met old.reader.part
+  no_end_by n =
+      let sum = all in
+      let none = none_told p (outcome answer) i.accesses old i.lead (λ z. n (ended answer z)) in
+      omega (arith, sum, none)
+
+  pub one_end_by : ends_met new.reader.part ≤ ends_met old.reader.part + 1
+  one_end_by =
+      let sum = all in
+      let most = most_told p (outcome answer) i.accesses old i.lead in
+      omega (arith, sum, most)
+
+-- who has made no access has met no end
+no_end : (h : History) (n : ℕ) → length h + n ≡ 0 → ends_met h ≡ 0
+no_end [] n e = refl
+no_end (x ∷ h) n e = absurd (omega (arith, e))
+
+pub none_met : (s : ConsumerView) → accesses_made s ≡ 0 → ends_met s.reader.part ≡ 0
+none_met s none = no_end s.reader.part (length s.seat.part) none
