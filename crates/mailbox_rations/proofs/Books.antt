@@ -1,4 +1,4 @@
--- `refuses` and `takes_back` at a call: what each is handed, and what its caller has then. Assumes `Logic`.
+-- `refuses`, `gives` and `takes_back` at a call: what each is handed, and what its caller has then. Assumes `Logic`.
 use Rattle.std.proofs.Common.{◌≡◌, ℕ, List, [], ◌∷◌, refl, ap, Bool}
 use seplogic.Ra.Ura.{Ura}
 use mir.Val.{Val, vbool, vunit, vptr}
@@ -16,8 +16,9 @@ use denote.Triple.Spec.{triple_of}
 use denote.Triple.Statement.{Contract}
 use Rattle.mailbox_rations.specs.declared.book.Book.{Book}
 use Rattle.mailbox_rations.specs.contracts.book.Book as row
-use Rattle.mailbox_rations.specs.contracts.book.refuses as refusing
-use Rattle.mailbox_rations.specs.contracts.book.takes_back as taking
+use Rattle.mailbox_rations.specs.contracts.book.Book.gives as giving
+use Rattle.mailbox_rations.specs.contracts.book.Book.refuses as refusing
+use Rattle.mailbox_rations.specs.contracts.book.Book.takes_back as taking
 
 -- a `&` to a book at the place p
 abbrev pub seen_book : Lft → ℕ × ℕ → Book → Fml
@@ -27,12 +28,18 @@ module _ {M : Type 1} {𝓤 : Ura M} (𝓛 : Logic 𝓤) (at_mem : Memory → SP
   abbrev pub Refuses : Contract 𝓤
   Refuses = triple_of 𝓛 refusing.signature (refusing.spec 𝓛 at_mem run)
 
+  abbrev pub Gives : Contract 𝓤
+  Gives = triple_of 𝓛 giving.signature (giving.spec 𝓛 at_mem run)
+
   abbrev pub TakesBack : Contract 𝓤
   TakesBack = triple_of 𝓛 taking.signature (taking.spec 𝓛 at_mem run)
 
   module _ (κ : Lft) (q : Share) (p : ℕ × ℕ) (b : Book) where
     abbrev pub at_refuses : Refuses.Ghost
     at_refuses = (((κ, tt), (q, tt), tt, (record { ref_ptr = p; now = b }, tt), (vptr p.0 p.1 ∷ [], tt)), tt)
+
+    abbrev pub at_gives : Gives.Ghost
+    at_gives = (((κ, tt), (q, tt), tt, (record { ref_ptr = p; now = b }, tt), (vptr p.0 p.1 ∷ [], tt)), tt)
 
     abbrev pub at_takes_back : TakesBack.Ghost
     at_takes_back = (((κ, tt), (q, tt), tt, (record { ref_ptr = p; now = b }, tt), (vptr p.0 p.1 ∷ [], tt)), tt)
@@ -41,6 +48,11 @@ module _ {M : Type 1} {𝓤 : Ura M} (𝓛 : Logic 𝓤) (at_mem : Memory → SP
 
     pub Refuses-goes : ent 𝓤 (sep 𝓤 (sem 𝓛 (seen_book κ p b)) (A.lft κ q)) (Refuses.pre at_refuses)
     Refuses-goes =
+        qed 𝓛 (‵ (seen_book κ p b) ∷ ‵ (flft κ q) ∷ []) ∵ feq_i ! (List Val) (vptr p.0 p.1 ∷ []) (vptr p.0 p.1 ∷ []) refl $ fjoin ! $
+        nothing ! $ move ! (1 ∷ []) $ fjoin ! $ nothing ! $ move ! (2 ∷ []) $ join ! $ join ! $ nothing ! $ move ! (1 ∷ []) $ done !
+
+    pub Gives-goes : ent 𝓤 (sep 𝓤 (sem 𝓛 (seen_book κ p b)) (A.lft κ q)) (Gives.pre at_gives)
+    Gives-goes =
         qed 𝓛 (‵ (seen_book κ p b) ∷ ‵ (flft κ q) ∷ []) ∵ feq_i ! (List Val) (vptr p.0 p.1 ∷ []) (vptr p.0 p.1 ∷ []) refl $ fjoin ! $
         nothing ! $ move ! (1 ∷ []) $ fjoin ! $ nothing ! $ move ! (2 ∷ []) $ join ! $ join ! $ nothing ! $ move ! (1 ∷ []) $ done !
 
@@ -58,6 +70,12 @@ module _ {M : Type 1} {𝓤 : Ura M} (𝓛 : Logic 𝓤) (at_mem : Memory → SP
         qed 𝓛 (raw (Refuses.post at_refuses v) ∷ []) ∵ updating ! $
         use1 𝓛 (later (some (λ (y : Bool). ((‵ (flft κ q) ⊛ ‵ ftrue) ⊛ ‵ (bool.own_val y (v ∷ []))) ⊛ some (λ (ws : Unit {0} × Unit {0}). ‵ (fsep ftrue ftrue) ⊛ ‵ ftrue)))) (id⊢ 𝓤 _) $ await ! tt $ pick ! (λ y.
         split ! $ split ! $ move ! (1 ∷ []) $ feq_l ! (λ e. split ! $ at_once ! $ show ! (λ (z : Bool). guard 𝓤 (v ≡ vbool z) (A.lft κ q)) y $ check ! (ap only e) $ keep ! (0 ∷ []) $ done !))
+
+    pub Gives-gives : (v : Val) → ent 𝓤 (Gives.post at_gives v) (H.⇛ (guard 𝓤 (v ≡ vunit) (A.lft κ q)))
+    Gives-gives v =
+        qed 𝓛 (raw (Gives.post at_gives v) ∷ []) ∵ updating ! $
+        use1 𝓛 (later (some (λ (u : Unit {0}). ((‵ (flft κ q) ⊛ ‵ ftrue) ⊛ ‵ (unit.own_val u (v ∷ []))) ⊛ some (λ (ws : Unit {0} × Unit {0}). ‵ (fsep ftrue ftrue) ⊛ ‵ ftrue)))) (id⊢ 𝓤 _) $ await ! tt $ pick ! (λ u.
+        split ! $ split ! $ move ! (1 ∷ []) $ feq_l ! (λ e. split ! $ at_once ! $ check ! (ap only e) $ keep ! (0 ∷ []) $ done !))
 
     pub TakesBack-gives : (v : Val) → ent 𝓤 (TakesBack.post at_takes_back v) (H.⇛ (guard 𝓤 (v ≡ vunit) (A.lft κ q)))
     TakesBack-gives v =

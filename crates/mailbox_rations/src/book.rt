@@ -40,23 +40,24 @@ impl Book {
     pub(crate) fn out(&self) -> u64 {
         self.out.load(Ordering::SeqCst)
     }
-}
 
-/// Counts a request, and a block where it is granted: whether it is refused.
-pub(crate) fn refuses(book: &Book) -> bool {
-    let number = book.asked.fetch_add(1, Ordering::SeqCst);
-    let refused = match book.refuse {
-        Refuse::From(first) => number >= first,
-        Refuse::Only(one) => number == one,
-        Refuse::Never => false,
-    };
-    if !refused {
-        book.out.fetch_add(1, Ordering::SeqCst);
+    /// Counts a request: whether it is refused.
+    pub(crate) fn refuses(&self) -> bool {
+        let number = self.asked.fetch_add(1, Ordering::SeqCst);
+        match self.refuse {
+            Refuse::From(first) => number >= first,
+            Refuse::Only(one) => number == one,
+            Refuse::Never => false,
+        }
     }
-    refused
-}
 
-/// Counts a block that comes back.
-pub(crate) fn takes_back(book: &Book) {
-    book.out.fetch_sub(1, Ordering::SeqCst);
+    /// Counts a block that goes out.
+    pub(crate) fn gives(&self) {
+        self.out.fetch_add(1, Ordering::SeqCst);
+    }
+
+    /// Counts a block that comes back.
+    pub(crate) fn takes_back(&self) {
+        self.out.fetch_sub(1, Ordering::SeqCst);
+    }
 }

@@ -3,9 +3,11 @@
 #![tactic(auto)]
 
 mod book;
+mod growths;
 mod rations;
 #[cfg(test)]
 mod tests;
 
 pub use book::Refuse;
+pub use growths::growths_refused;
 pub use rations::Rations;

@@ -1,6 +1,6 @@
 //! The allocator.
 
-use crate::book::{Book, Refuse, refuses, takes_back};
+use crate::book::{Book, Refuse};
 use std::alloc::{AllocError, Allocator};
 
 /// An allocator over another one, which refuses chosen requests itself. A `&` to it is the handle that collections hold,
@@ -25,8 +25,7 @@ impl<B: Allocator> Rations<B> {
         self.book.asked()
     }
 
-    /// How many requests were granted, less the blocks that came back. A request that is granted here and refused by the
-    /// inner allocator counts as a block that never comes back.
+    /// How many requests were granted, less the blocks that came back.
     pub fn out(&self) -> u64 {
         self.book.out()
     }
@@ -36,14 +35,18 @@ unsafe impl<B: Allocator> Allocator for Rations<B> {
     ghost dealloc_token = { λ rations ty ptr. B.dealloc_token rations.inner ty ptr };
 
     fn allocate(&self, size: usize, align: usize) -> Result<*mut u8, AllocError> {
-        if refuses(&self.book) {
+        if self.book.refuses() {
             return Err(AllocError);
         }
-        self.inner.allocate(size, align)
+        let answer = self.inner.allocate(size, align);
+        if let Ok(_) = answer {
+            self.book.gives();
+        }
+        answer
     }
 
     unsafe fn deallocate(&self, ptr: *mut u8, size: usize, align: usize) {
-        takes_back(&self.book);
+        self.book.takes_back();
         self.inner.deallocate(ptr, size, align);
     }
 }

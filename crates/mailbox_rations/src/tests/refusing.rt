@@ -40,6 +40,17 @@ fn one_alone_is_refused(rt: HostRuntime) -> Result<(), Fail> {
     Ok(())
 }
 
+// The allocator below refuses what this one would grant.
+#[test]
+fn what_is_refused_below_is_not_out(rt: HostRuntime) -> Result<(), Fail> {
+    let below = Rations::new(rt.alloc(), Refuse::From(0));
+    let rations = Rations::new(&below, Refuse::Never);
+    assert!(rt; Box::new(&rations, 7u64).is_err());
+    assert_eq!(rt; (rations.asked(), rations.out()), (1, 0));
+    assert_eq!(rt; (below.asked(), below.out()), (1, 0));
+    Ok(())
+}
+
 // The list asks for more room as it grows: what it had comes back.
 #[test]
 fn lists_grow(rt: HostRuntime) -> Result<(), Fail> {

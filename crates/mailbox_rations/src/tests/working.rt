@@ -1,47 +1,19 @@
 //! `work` with each of its growths refused in turn, and then made again with memory.
 
 use crate::tests::trial::{Alloc, Trial};
-use crate::{Rations, Refuse};
+use crate::{Rations, Refuse, growths_refused};
 use mb_mailbox::{WorkFault, Worked};
 use mb_world::{Note, Report};
-use std::alloc::Global;
 use std::process::Abort;
 use std::sync::Wait;
 use std::test::Fail;
 use std::thread::Threads;
-
-/// No call of these tests grows so often.
-const MANY: u64 = 100;
 
 /// Each item was put, and nobody was stopped.
 const ALL_DONE: Worked = Worked {
     full: 0,
     stopped: 0,
 };
-
-/// How many growths the call makes: each is refused in its turn, together with all later ones and alone, and then the
-/// call is served. It says whether it was served, and keeps nothing.
-fn refusals<R: Abort + AllocGlobal, F: Fn(&Rations<Global>) -> Result<bool, Fail>>(
-    rt: &R,
-    call: F,
-) -> Result<u64, Fail>
-    requires { F.IsAlwaysCallable call }
-{
-    for number in 0..MANY {
-        let from = Rations::new(rt.alloc(), Refuse::From(number));
-        let only = Rations::new(rt.alloc(), Refuse::Only(number));
-        let served = call(&from)?;
-        assert_eq!(rt; call(&only)?, served);
-        // Want of memory is answered just where a growth was refused.
-        assert_eq!(rt; from.asked() <= number, served);
-        assert_eq!(rt; only.asked() <= number, served);
-        assert_eq!(rt; (from.out(), only.out()), (0, 0), "the call keeps memory");
-        if served {
-            return Ok(number);
-        }
-    }
-    Err(Fail::new("it never succeeds"))
-}
 
 /// Whether all was done, where nothing but memory may be wanting.
 fn is_done(rt: &impl Abort, answer: Result<Worked, WorkFault>) -> bool {
@@ -100,7 +72,7 @@ fn two_are_served<'r, R: Abort + Threads + Wait + Sync>(
 
 #[test]
 fn each_growth_of_two_workers_refused(rt: HostRuntime) -> Result<(), Fail> {
-    let refused = refusals(&rt, |alloc| {
+    let refused = growths_refused(&rt, |alloc| {
         let ample = Rations::new(rt.alloc(), Refuse::Never);
         let served = two_are_served(&rt, alloc, &ample)?;
         assert!(&rt; two_are_served(&rt, &ample, &ample)?);
@@ -147,7 +119,7 @@ fn second_call_is_done<'r, R: Abort + Threads + Wait + Sync>(
 
 #[test]
 fn a_refused_call_is_made_again(rt: HostRuntime) -> Result<(), Fail> {
-    let refused = refusals(&rt, |alloc| {
+    let refused = growths_refused(&rt, |alloc| {
         let ample = Rations::new(rt.alloc(), Refuse::Never);
         let served = second_call_is_done(&rt, alloc, &ample)?;
         assert_eq!(&rt; ample.out(), 0, "the mailbox keeps memory");
@@ -193,7 +165,7 @@ fn four_are_served<'r, R: Abort + Threads + Wait + Sync>(
 
 #[test]
 fn each_growth_of_four_workers_refused(rt: HostRuntime) -> Result<(), Fail> {
-    let refused = refusals(&rt, |alloc| {
+    let refused = growths_refused(&rt, |alloc| {
         let ample = Rations::new(rt.alloc(), Refuse::Never);
         let served = four_are_served(&rt, alloc, &ample)?;
         assert!(&rt; four_are_served(&rt, &ample, &ample)?);

@@ -35,8 +35,8 @@ use denote.Triple.Table.{entered, cited}
 use denote.Triple.Walked.{Stays, stay_dropped, walk_of, ends_at, walked, Goes-dropped, walk_Meets}
 use Rattle.std.proofs.alloc.Calls.{Al, α, seen, token, gives_key, Gives, at_gives, Gives-goes, Gives-Gives}
 use Rattle.mailbox_rations.proofs.Books.{TakesBack, at_takes_back, TakesBack-goes, TakesBack-gives}
-use Rattle.mailbox_rations.proofs.book.takes_back.Symbol as told
-use Rattle.mailbox_rations.proofs.book.takes_back.Met as told_met
+use Rattle.mailbox_rations.proofs.book.Book.takes_back.Symbol as told
+use Rattle.mailbox_rations.proofs.book.Book.takes_back.Met as told_met
 use Rattle.mailbox_rations.specs.contracts.rations.Rations as row
 use Rattle.mailbox_rations.specs.contracts.rations.RationsAllocator.deallocate as F
 use Rattle.mailbox_rations.specs.contracts.rations.RationsAllocator.deallocate.Key as key
@@ -127,5 +127,5 @@ deallocate_spec 𝓤 𝓛 𝓜 𝓡 wired Y L g d d' met _ =
     (walk_Meets 𝓛 (ended Z) (stayed Z) (Goes-dropped 𝓛 2 (self Z) yes (λ κs x f. refl), (Goes-dropped 𝓛 2 (pointer Z) yes (λ κs x f. refl), (goes, (goes, tt)))) c (WpFn 𝓤 𝓛.H 𝓣.C 𝓣.Λ (here Z)) (WpFn-mono 𝓤 𝓛.H 𝓛.laws 𝓣 (here Z))
     (walked 𝓛 (ended Z) (stayed Z) c (WpFn 𝓤 𝓛.H 𝓣.C 𝓣.Λ (here Z)) (λ κs. (shr_vals, (rawptr_vals, (uint_vals w64, (uint_vals w64, tt))))) (λ κs. ((λ r vs s. s.0), (rawptr_Tells, (uint_Tells w64, (uint_Tells w64, tt)))))
     (λ κs qs bounds a τ are. walk Z 𝓛 𝓜.mem 𝓡.returns 𝓣 (met.deallocate d')
-    (cited 𝓤 𝓛.H _ 𝓜 𝓡 𝓡.env told.name (𝓡.env told.name) refl (told_met.met 𝓤 𝓛 𝓜 𝓡 (code.calls-mailbox_rations::book::takes_back 𝓡.env wired)))
+    (cited 𝓤 𝓛.H _ 𝓜 𝓡 𝓡.env told.name (𝓡.env told.name) refl (told_met.met 𝓤 𝓛 𝓜 𝓡 (code.calls-mailbox_rations::book::Book::takes_back 𝓡.env wired)))
     κs.0 κs.1.0 qs.0 qs.1.0 bounds.0 a.0 a.1.1.0 a.1.1.1.0 τ are.1.1.0.1 are.1.1.1.0.1 a.1.0)))
