@@ -1,15 +1,16 @@
 -- A command that stands alone on the command line.
-use Rattle.std.proofs.Common.{◌≡◌, Bool, false, List, [], ◌∷◌, true, Option, Some, None, option_map, refl, sym, ap, ap₂, ◌∙◌, arith, Result, Ok, Err}
+use Rattle.std.proofs.Common.{◌≡◌, ◌⊎◌, inl, inr, subst, Bool, false, List, [], ◌∷◌, true, Option, Some, None, option_map, refl, sym, ap, ap₂, ◌∙◌, arith, Result, Ok, Err}
 use Rattle.std.proofs.lemmas.Grind.{common_steps}
 use Rattle.std.specs.Prelude.{IfErr, IsErrAnd, IsSome}
-use Rattle.clap.specs.Words.{App, Text, HasMatchesOf, is_simple, is_simple_and_free, kind_of, subcommand_name_of, subcommand_of, subcommand_rows_of, takes}
+use Rattle.clap.specs.Words.{App, HasKind, IsAmong, Text, HasMatchesOf, fault_of, is_simple, is_simple_and_free, kind_of, subcommand_name_of, subcommand_of, subcommand_rows_of, takes}
 use Rattle.clap.specs.declared.parser.matches.ArgMatches.{ArgMatches}
 use Rattle.clap.specs.declared.error.Error.{Error}
-use Rattle.clap.specs.declared.error.ErrorKind.TheVariants.{OutOfMemory}
+use Rattle.clap.specs.declared.error.ErrorKind.{ErrorKind}
+use Rattle.clap.specs.declared.error.ErrorKind.TheVariants.{InvalidSubcommand, OutOfMemory}
 use Rattle.clap.proofs.OnLiterals.{clap_on_literals}
 use Rattle.mailbox_main.specs.declared.command.Choice.{Choice}
 use Rattle.mailbox_main.specs.declared.command.Choice.TheVariants.{Ratify, Replay, Run}
-use Rattle.mailbox_main.specs.CommandLine.{program, command_in, choice_name}
+use Rattle.mailbox_main.specs.CommandLine.{IsRefusalOf, program, command_in, choice_name}
 
 -- clap's rules say which words the program takes
 pub program_is_simple : is_simple_and_free program ≡ true
@@ -69,3 +70,23 @@ pub told_in : (app : App) (words : List Text) (m : ArgMatches) (choice : Choice)
     → subcommand_name_of m ≡ Some (choice_name choice) → command_in words ≡ Some (choice_name choice)
 told_in app words m choice is_program matches named =
     sym (ap (option_map (λ found. found.0)) (found_in app words m is_program matches)) ∙ rows_name m ∙ named
+
+-- ---- the kind of a refusal
+-- an error that `?` hands on is as it was
+pub error_kept : {X : Type 0} (P : ErrorKind → Type 0) (r : Result X Error) (e : Error) → IsErrAnd r (λ f. f ≡ e) → P (kind_of e)
+    → IfErr r (λ f. P (kind_of f))
+error_kept P (Ok x) e same kind = tt
+error_kept P (Err f) e same kind = subst (λ (g : Error). P (kind_of g)) (sym same) kind
+
+-- the kinds of clap's rules are those of the program's words
+pub refused_by : (words : List Text) (app : App) (e : Error) → app ≡ program → HasKind (fault_of app words) e → IsRefusalOf words (kind_of e)
+refused_by words app e is has = elim has [
+  | inl none ↦ inl none
+  | inr among ↦ inr (inl (subst (λ (a : App). IsAmong (kind_of e) (fault_of a words)) is among))
+]
+
+-- words whose matches are no choice name no command
+pub unnamed : (words : List Text) (app : App) (m : ArgMatches) (kind : ErrorKind) (r : Option Choice) → app ≡ program → HasMatchesOf app words m
+    → r ≡ None → ((choice : Choice) → subcommand_name_of m ≡ Some (choice_name choice) → IsSome r) → kind ≡ InvalidSubcommand → IsRefusalOf words kind
+unnamed words app m kind r is_program matches none each is =
+    inr (inr (is, λ choice named. not_some r none (each choice (named_in app words m choice is_program matches named))))

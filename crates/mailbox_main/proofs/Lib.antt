@@ -1,6 +1,7 @@
 pub mod Commands
 pub mod Exchanges
 pub mod LongScripts
+pub mod Nobody
 pub mod NumbersGiven
 pub mod RunEnds
 pub mod RunItems
@@ -9,3 +10,4 @@ pub mod RunNotes
 pub mod RunReports
 pub mod RunSetups
 pub mod ScriptSpelling
+pub mod Told

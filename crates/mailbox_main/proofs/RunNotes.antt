@@ -24,18 +24,18 @@ taken_at [] c one at = absurd (cc)
 taken_at (x ∷ xs) zero one at = ap (λ (y : ConsumerLeft). y.claimed) (same_some at)
 taken_at (x ∷ xs) (suc c) one at = taken_at xs c one at
 
-stopped_at : (may_stop : Who → ℕ → Type 0) (from : ℕ) (cs : List ConsumerLeft) (c : ℕ) (one : ConsumerLeft) → AreStoppedPolls may_stop from cs
-    → slice_get cs c ≡ Some one → one.stopped ≡ true → IsStoppedPoll may_stop (from + c) (length one.reads + length one.claimed)
-stopped_at may_stop from [] c one all at = absurd (cc)
-stopped_at may_stop from (x ∷ xs) zero one all at =
+stopped_at : (may_stop : Who → ℕ → Type 0) (budget from : ℕ) (cs : List ConsumerLeft) (c : ℕ) (one : ConsumerLeft) → AreStoppedPolls may_stop budget from cs
+    → slice_get cs c ≡ Some one → one.stopped ≡ true → IsStoppedPoll may_stop budget (from + c) (length one.reads + length one.claimed)
+stopped_at may_stop budget from [] c one all at = absurd (cc)
+stopped_at may_stop budget from (x ∷ xs) zero one all at =
     let e : x ≡ one = same_some at in
     let here : from ≡ from + 0 = omega arith in
-    subst (λ (k : ℕ). one.stopped ≡ true → IsStoppedPoll may_stop k (length one.reads + length one.claimed)) here
-    (subst (λ (y : ConsumerLeft). y.stopped ≡ true → IsStoppedPoll may_stop from (length y.reads + length y.claimed)) e all.0)
-stopped_at may_stop from (x ∷ xs) (suc c) one all at =
+    subst (λ (k : ℕ). one.stopped ≡ true → IsStoppedPoll may_stop budget k (length one.reads + length one.claimed)) here
+    (subst (λ (y : ConsumerLeft). y.stopped ≡ true → IsStoppedPoll may_stop budget from (length y.reads + length y.claimed)) e all.0)
+stopped_at may_stop budget from (x ∷ xs) (suc c) one all at =
     let next : suc from + c ≡ from + suc c = omega arith in
-    subst (λ (k : ℕ). one.stopped ≡ true → IsStoppedPoll may_stop k (length one.reads + length one.claimed)) next
-    (stopped_at may_stop (suc from) xs c one all.1 at)
+    subst (λ (k : ℕ). one.stopped ≡ true → IsStoppedPoll may_stop budget k (length one.reads + length one.claimed)) next
+    (stopped_at may_stop budget (suc from) xs c one all.1 at)
 
 noted_at : (from : ℕ) (lanes : List LaneLeft) (p : ℕ) (l : LaneLeft) (ledger : LedgerView) → HasNoteAtEach from lanes ledger → slice_get lanes p ≡ Some l
     → length (notes_on (from + p) ledger.notes) ≡ length l.put
@@ -58,8 +58,8 @@ of_one : {X : Type 0} (P : X → Type 0) (xs : List X) (k : ℕ) (x : X) → All
 of_one P xs k x all low at = subst P (same_some (sym (slice_get-get_or xs k x low) ∙ at)) (all k x low)
 
 -- where the gate stops nobody, a consumer that was stopped has come to call 2^64 - 1
-come_to_last : (may_stop : Who → ℕ → Type 0) → ((w : Who) (n : ℕ) → may_stop w n → ⊥) → (c made : ℕ) → IsStoppedPoll may_stop c made → 2 ^ 64 - 2 ≤ made
-come_to_last may_stop never c made was =
+come_to_last : (may_stop : Who → ℕ → Type 0) → ((w : Who) (n : ℕ) → may_stop w n → ⊥) → (budget c made : ℕ) → IsStoppedPoll may_stop budget c made → 2 ^ 64 - 2 ≤ made
+come_to_last may_stop never budget c made was =
     let within = was.within in
     elim was.stop [
       | inl stops ↦ absurd (never _ _ stops)
@@ -67,14 +67,14 @@ come_to_last may_stop never c made was =
     ]
 
 -- ---- the notes of the report
-pub notes_told : (may_stop : Who → ℕ → Type 0) → ((w : Who) (n : ℕ) → may_stop w n → ⊥) → (count : ℕ) (m : MailboxView) (h : HubView) (r : ReportView)
+pub notes_told : (may_stop : Who → ℕ → Type 0) (budget : ℕ) → ((w : Who) (n : ℕ) → may_stop w n → ⊥) → (count : ℕ) (m : MailboxView) (h : HubView) (r : ReportView)
     (left : List LaneLeft) (cs : List ConsumerLeft) (g : IsGathered m h r) → IsReportIn m.cells.size.lanes (consumer_count m.claims.layout) h r
     → h.ledgers ≡ map (λ x. Some x.ledger) cs → h.cells.roll.readers ≡ map (λ x. Some x.reads) cs → h.claims.roll ≡ map (λ x. Some x.claimed) cs
-    → length cs ≡ consumer_count m.claims.layout → AreStoppedPolls may_stop 0 cs → All (λ x. x.stopped ≡ false → HasNoteAtEach 0 left x.ledger) cs
+    → length cs ≡ consumer_count m.claims.layout → AreStoppedPolls may_stop budget 0 cs → All (λ x. x.stopped ≡ false → HasNoteAtEach 0 left x.ledger) cs
     → ((p : ℕ) → p < m.cells.size.lanes → (l : LaneLeft) × (slice_get left p ≡ Some l) × (length l.put ≡ count))
     → (c p : ℕ) → c < consumer_count m.claims.layout → p < m.cells.size.lanes
     → (length (notes c p r) ≡ count) ⊎ (2 ^ 64 - 2 ≤ accesses_by c g.histories)
-notes_told may_stop never count m h r left cs g told ledgers readers claims many stopped noted lanes c p low_c low_p = go one.stopped refl
+notes_told may_stop budget never count m h r left cs g told ledgers readers claims many stopped noted lanes c p low_c low_p = go one.stopped refl
   where
     there : c < length cs
     there = omega (arith, low_c, many)
@@ -115,5 +115,5 @@ notes_told may_stop never count m h r left cs g told ledgers readers claims many
         inl (ap length (in_report ∙ in_ledger) ∙ ap (λ (k : ℕ). length (notes_on k one.ledger.notes)) here
         ∙ noted_at 0 left p l.0 one.ledger has l.1 ∙ l.2)
     go true e =
-        let most = come_to_last may_stop never (0 + c) (length one.reads + length one.claimed) (stopped_at may_stop 0 cs c one stopped at e) in
+        let most = come_to_last may_stop never budget (0 + c) (length one.reads + length one.claimed) (stopped_at may_stop budget 0 cs c one stopped at e) in
         inr (omega (arith, most, made))

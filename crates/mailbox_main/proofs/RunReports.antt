@@ -122,11 +122,11 @@ lanes_told producers count lanes consumers h left r same told puts fronts full p
 
 -- ---- the report is that of a run
 -- where the gate stops nobody
-pub run_report : (may_stop : Who → ℕ → Type 0) → ((w : Who) (n : ℕ) → may_stop w n → ⊥) → (o : Options) (m : MailboxView) (old h : HubView) (r : ReportView) (lists : List (List ℕ)) (n : ℕ) (w : Worked)
+pub run_report : {budget : ℕ} (may_stop : Who → ℕ → Type 0) → ((w : Who) (n : ℕ) → may_stop w n → ⊥) → (o : Options) (m : MailboxView) (old h : HubView) (r : ReportView) (lists : List (List ℕ)) (n : ℕ) (w : Worked)
     → AreFew o → plan_at m ≡ plan_asked o → m.cells.size ≡ size_of (plan_asked o) → old ≡ hub_empty m → lists ≡ item_lists o.producers o.items → n ≡ o.consumers
-    → IsWorked may_stop lists n w old h → IsHubOf m h
+    → IsWorked may_stop budget lists n w old h → IsHubOf m h
     → IsReportIn m.cells.size.lanes (consumer_count m.claims.layout) h r → IsGathered m h r → FullTakesAll m h r → IsRunReport o r
-run_report may_stop never o m old h r lists n w few plan size empty are sources worked of told gathered full = record {
+run_report {budget} may_stop never o m old h r lists n w few plan size empty are sources worked of told gathered full = record {
   histories = gathered.histories;
   reader = gathered.reader;
   sound = subst (λ p. AreSound p gathered.histories) plan gathered.sound;
@@ -134,7 +134,7 @@ run_report may_stop never o m old h r lists n w few plan size empty are sources 
   honest = subst (λ p. IsHonest p gathered.histories r) plan gathered.honest;
   lanes = lanes_told o.producers o.items m.cells.size.lanes (consumer_count m.claims.layout) h worked.lanes r same told puts
       (subst (λ ls. AllZip (λ list l. IsFront l.put list) ls worked.lanes) are worked.run.fronts) all_put;
-  noted = λ c p low_c low_p. notes_told may_stop never o.items m h r worked.lanes worked.consumers gathered told ledgers readers claims many
+  noted = λ c p low_c low_p. notes_told may_stop budget never o.items m h r worked.lanes worked.consumers gathered told ledgers readers claims many
       polls noted whole c p (omega (arith, low_c, consumers)) (omega (arith, low_p, same));
 }
   where
@@ -189,8 +189,8 @@ run_report may_stop never o m old h r lists n w few plan size empty are sources 
     many : length worked.consumers ≡ consumer_count m.claims.layout
     many = worked.run.count ∙ sources ∙ consumers
 
-    polls : AreStoppedPolls may_stop 0 worked.consumers
-    polls = subst (λ (g : HubView). AreStoppedPolls may_stop (length g.ledgers) worked.consumers) empty worked.stopped_polls
+    polls : AreStoppedPolls may_stop budget 0 worked.consumers
+    polls = subst (λ (g : HubView). AreStoppedPolls may_stop budget (length g.ledgers) worked.consumers) empty worked.stopped_polls
 
     noted : All (λ x. x.stopped ≡ false → HasNoteAtEach 0 worked.lanes x.ledger) worked.consumers
     noted = subst (λ (g : HubView). All (λ x. x.stopped ≡ false → HasNoteAtEach (length g.puts) worked.lanes x.ledger) worked.consumers) empty worked.noted
@@ -208,8 +208,8 @@ run_report may_stop never o m old h r lists n w few plan size empty are sources 
         (t.one, t.there, ap length (sym (ap (λ (v : LaneView). v.put) is ∙ put) ∙ lane.2.whole) ∙ long)
 
 -- all that was given is there
-pub nothing_missing : {may_stop : Who → ℕ → Type 0} (m : MailboxView) (old h : HubView) (lists : List (List ℕ)) (n : ℕ) (w : Worked)
-    → old ≡ hub_empty m → IsWorked may_stop lists n w old h → count_missing h.puts + count_missing h.ledgers ≡ 0
+pub nothing_missing : {may_stop : Who → ℕ → Type 0} {budget : ℕ} (m : MailboxView) (old h : HubView) (lists : List (List ℕ)) (n : ℕ) (w : Worked)
+    → old ≡ hub_empty m → IsWorked may_stop budget lists n w old h → count_missing h.puts + count_missing h.ledgers ≡ 0
 nothing_missing m old h lists n w empty worked =
     let puts = worked.run.puts ∙ ap (λ (g : HubView). g.puts ++ map (λ l. Some (ended_list l)) worked.lanes) empty in
     let ledgers = worked.run.ledgers ∙ ap (λ (g : HubView). g.ledgers ++ map (λ c. Some c.ledger) worked.consumers) empty in

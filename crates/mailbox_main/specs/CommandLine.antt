@@ -1,6 +1,8 @@
 -- The command line, in clap's words.
-use Rattle.std.specs.Prelude.{ℕ, ◌-◌, ◌^◌, List, [], ◌∷◌, codes, true, Option, Some, option_map}
-use Rattle.clap.specs.Words.{App, Rule, Text, new_app, new_rule, subcommand_of, with_rule, with_subcommand}
+use Rattle.std.specs.Prelude.{◌≡◌, ◌≢◌, ◌⊎◌, ℕ, ◌-◌, ◌^◌, List, [], ◌∷◌, codes, true, Option, Some, option_map}
+use Rattle.clap.specs.Words.{App, IsAmong, Rule, Text, fault_of, new_app, new_rule, subcommand_of, with_rule, with_subcommand}
+use Rattle.clap.specs.declared.error.ErrorKind.{ErrorKind}
+use Rattle.clap.specs.declared.error.ErrorKind.TheVariants.{InvalidSubcommand, OutOfMemory}
 use Rattle.clap.specs.Simple.{on_top}
 use Rattle.clap.specs.declared.builder.action.ArgAction.TheVariants.{Set}
 use Rattle.clap.specs.declared.builder.value_parser.ValueParser.TheVariants.{Unsigned}
@@ -49,3 +51,10 @@ abbrev pub choice_name : Choice → Text
 choice_name Ratify = codes "ratify"
 choice_name Replay = codes "replay"
 choice_name (Run options) = codes "run"
+
+-- why clap may give no choice at these words: want of memory, one of the kinds that its rules give, or that the words name
+-- none of the commands
+abbrev pub IsRefusalOf : List Text → ErrorKind → Type 0
+IsRefusalOf words kind =
+    (kind ≡ OutOfMemory) ⊎ IsAmong kind (fault_of program words)
+    ⊎ ((kind ≡ InvalidSubcommand) × ((choice : Choice) → command_in words ≢ Some (choice_name choice)))

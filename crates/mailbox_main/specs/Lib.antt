@@ -1,5 +1,6 @@
 pub mod Answer
 pub mod CommandLine
+pub mod RunExamples
 pub mod RunOptions
 pub mod Running
 pub mod Source

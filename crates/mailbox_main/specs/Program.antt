@@ -1,11 +1,12 @@
 -- What the program does from its command line to its end.
-use Rattle.std.specs.Prelude.{◌≡◌, ◌≢◌, ◌⊎◌, List, Result, Ok, Err, Some, true}
-use Rattle.clap.specs.Words.{Text, takes}
+use Rattle.std.specs.Prelude.{◌≡◌, ◌≢◌, ◌⊎◌, ℕ, List, [], Bool, Result, Ok, Err, Some, true, false}
+use Rattle.std.specs.Io.KnownBytes.{Appends}
+use Rattle.clap.specs.Words.{Text, fault_of, takes}
 use Rattle.clap.specs.declared.error.ErrorKind.{ErrorKind}
 use Rattle.clap.specs.declared.error.ErrorKind.TheVariants.{DisplayHelp, DisplayVersion, OutOfMemory}
 use Rattle.mb_script.specs.declared.fault.Fault.{Fault}
 use Rattle.mb_script.specs.Replaying.{replaying}
-use Rattle.mb_script.specs.Vocabulary.{AppendsFront, IsExchange, Meter}
+use Rattle.mb_script.specs.Vocabulary.{AppendsFront, IsExchange, Meter, one_more}
 use Rattle.mailbox_main.specs.declared.command.Choice.{Choice}
 use Rattle.mailbox_main.specs.declared.command.Choice.TheVariants.{Ratify, Replay, Run}
 use Rattle.mailbox_main.specs.declared.fault.Failed.{Failed}
@@ -15,12 +16,12 @@ use Rattle.mailbox_main.specs.declared.fault.RunFault.{RunFault}
 use Rattle.mailbox_main.specs.declared.outcome.Ending.{Ending}
 use Rattle.mailbox_main.specs.declared.outcome.Ending.TheVariants as ending
 use Rattle.mailbox_main.specs.Answer.{ratifying}
-use Rattle.mailbox_main.specs.CommandLine.{choice_name, command_in, program}
+use Rattle.mailbox_main.specs.CommandLine.{IsRefusalOf, choice_name, command_in, program}
 use Rattle.mailbox_main.specs.Outcome.{fault_line}
 use Rattle.mailbox_main.specs.RunOptions.{HasToldOptions}
 use Rattle.mailbox_main.specs.Running.{IsRun}
 
--- how the program ends after a command with this result, whose faults are faults of the program so
+-- how the program ends after a command with this result, where `fault` makes the command's faults faults of the program
 abbrev pub ended_by : {X F : Type 0} → (F → Failed) → Result X F → Ending
 ended_by fault (Ok done) = ending.Done
 ended_by fault (Err e) = ending.Failed (fault e)
@@ -37,9 +38,27 @@ WasCarriedOut (Run options) source sink reader reader' writer writer' end =
     (r : Result (Unit {0}) RunFault) × IsRun options sink writer writer' r × (reader' ≡ reader)
     × (end ≡ ended_by failed.Run r)
 
--- the words name a command, with these options
+-- clap refuses none of the words, and they name a command, with these options
 abbrev pub Names : List Text → Choice → Type 0
-Names words choice = (command_in words ≡ Some (choice_name choice)) × HasToldOptions words choice
+Names words choice =
+    (fault_of program words ≡ []) × (command_in words ≡ Some (choice_name choice)) × HasToldOptions words choice
+
+-- a text was written whole; or a prefix of it, and the writer failed once; or the writer was left as it was
+abbrev pub IsPrinted : {D : Type 0} → Meter D → D → D → List ℕ → Bool → Type 0
+IsPrinted sink old new text true =
+    Appends (sink.bytes old) (sink.bytes new) text × (sink.failures new ≡ sink.failures old)
+IsPrinted sink old new text false =
+    (AppendsFront (sink.bytes old) (sink.bytes new) text × (sink.failures new ≡ one_more (sink.failures old)))
+    ⊎ (new ≡ old)
+
+-- clap's text went to the writer that this kind asks for, and the other writer is as it was: help to the first, any other
+-- text to the second
+abbrev pub IsTold : {W E : Type 0} → Meter W → Meter E → W → W → E → E → ErrorKind → Bool → Type 0
+IsTold sink errs writer writer' errors errors' kind printed =
+    ((kind ≡ DisplayHelp) ⊎ (kind ≡ DisplayVersion)
+    → (errors' ≡ errors) × ((text : List ℕ) × IsPrinted sink writer writer' text printed))
+    × (kind ≢ DisplayHelp → kind ≢ DisplayVersion
+    → (writer' ≡ writer) × ((text : List ℕ) × IsPrinted errs errors errors' text printed))
 
 -- ---- one run of the program, that found a reader and two writers, and left them
 abbrev pub IsProgramRun : {R W E : Type 0} → List Text → Meter R → Meter W → Meter E → R → R → W → W → E → E → Ending → Type 0
@@ -48,18 +67,18 @@ IsProgramRun words source sink errs reader reader' writer writer' errors errors'
     ((choice : Choice) × Names words choice
     × WasCarriedOut choice source sink reader reader' writer writer' ending.Done)
     × (errors' ≡ errors)
--- it failed, and of the line of its fault all was written to the second writer, or a prefix
+-- It failed, and the line of its fault was written to the second writer: whole, or a prefix where that writer failed.
+-- Nothing is written where there is no memory for the line.
 IsProgramRun words source sink errs reader reader' writer writer' errors errors' (ending.Failed fault) =
     ((choice : Choice) × Names words choice
     × WasCarriedOut choice source sink reader reader' writer writer' (ending.Failed fault))
-    × AppendsFront (errs.bytes errors) (errs.bytes errors') (fault_line fault)
--- Clap refused the words, and so nothing was read. Help goes to the first writer alone, a refusal to the second alone,
--- and words that clap takes and that name a command are refused only for want of memory.
+    × ((whole : Bool) × IsPrinted errs errors errors' (fault_line fault) whole)
+-- Clap refused the words, for a reason that they give, and so nothing was read. Help goes to the first writer alone, a
+-- refusal to the second alone, and words that clap takes and that name a command are refused only for want of memory.
 IsProgramRun words source sink errs reader reader' writer writer' errors errors' (ending.Refused kind printed) =
-    (reader' ≡ reader)
-    × ((kind ≡ DisplayHelp) ⊎ (kind ≡ DisplayVersion) → errors' ≡ errors)
-    × (kind ≢ DisplayHelp → kind ≢ DisplayVersion → writer' ≡ writer)
+    (reader' ≡ reader) × IsRefusalOf words kind
+    × IsTold sink errs writer writer' errors errors' kind printed
     × ((choice : Choice) → takes program words ≡ true → command_in words ≡ Some (choice_name choice) → kind ≡ OutOfMemory)
--- whoever has the words does not want for them
+-- the words are there, so the program does not end for want of them
 IsProgramRun words source sink errs reader reader' writer writer' errors errors' ending.NoText = ⊥
 IsProgramRun words source sink errs reader reader' writer writer' errors errors' ending.NoWords = ⊥

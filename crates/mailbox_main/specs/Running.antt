@@ -50,12 +50,20 @@ pub record IsLaneOf (p count : ℕ) (l : LaneView) : Type 0 where
 abbrev pub accesses_by : ℕ → Histories → ℕ
 accesses_by c hs = length (part (Reader (hs.reader_of c)) hs.pool) + length (consumer_part c hs.claims)
 
+-- each consumer is the reader of its own number
+abbrev pub AreOwnReaders : Histories → Type 0
+AreOwnReaders hs = (c : ℕ) → hs.reader_of c ≡ c
+
+-- consumer c has a note at each of so many items of lane p, or these histories have 2^64 - 2 accesses of it
+abbrev pub HasNotedAll : ℕ → ℕ → ℕ → Histories → ReportView → Type 0
+HasNotedAll count c p hs r = (length (notes c p r) ≡ count) ⊎ (2 ^ 64 - 2 ≤ accesses_by c hs)
+
 -- the report of a mailbox of these options, in which each producer has put all its items
 pub record IsRunReport (o : Options) (r : ReportView) : Type 0 where
   -- all accesses to the words of the claims, and all to those of the cells: they are lawful, and each consumer's
   -- parts fit. Consumer c is reader c
   pub histories : Histories
-  pub reader : (c : ℕ) → histories.reader_of c ≡ c
+  pub reader : AreOwnReaders histories
   pub sound : AreSound (plan_asked o) histories
   -- the report is theirs, and one assignment stands behind it
   pub report : IsReportOf (plan_asked o) histories r
@@ -63,9 +71,9 @@ pub record IsRunReport (o : Options) (r : ReportView) : Type 0 where
   -- each producer has put its items, and nothing else
   pub lanes : (p : ℕ) → p < o.producers
       → (l : LaneView) × (slice_get r.lanes p ≡ Some l) × IsLaneOf p o.items l
-  -- each consumer has a note at each item of each lane, or has made 2^64 - 2 accesses
-  pub noted : (c p : ℕ) → c < o.consumers → p < o.producers
-      → (length (notes c p r) ≡ o.items) ⊎ (2 ^ 64 - 2 ≤ accesses_by c histories)
+  -- Each consumer has a note at each item of each lane, or these histories have 2^64 - 2 accesses of it. They may have
+  -- accesses that no thread made, so of the text alone this says nothing; of a run of `work` it is `IsWorked` that tells.
+  pub noted : (c p : ℕ) → c < o.consumers → p < o.producers → HasNotedAll o.items c p histories r
 
 -- the text is that of such a report
 abbrev pub IsRunText : Options → List ℕ → Type 0

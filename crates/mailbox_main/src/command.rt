@@ -1,7 +1,7 @@
 //! The command line.
 ghost use Rattle.std.specs.Prelude.{◌≡◌, true, [], ◌∷◌, List, ℕ, Some, IfOk, IfErr, IfSome, OnOk, IsSome, map};
 ghost use Rattle.clap.specs.Words.{app_of, fault_of, kind_of, subcommand_name_of, subcommand_rows_of, takes};
-ghost use Rattle.mailbox_main.specs.CommandLine.{program, program_alone, command_in, choice_name};
+ghost use Rattle.mailbox_main.specs.CommandLine.{program, program_alone, command_in, choice_name, IsRefusalOf};
 ghost use Rattle.mailbox_main.specs.RunOptions.{HasBudget, HasOptions, HasToldOptions};
 
 use crate::help;
@@ -72,6 +72,9 @@ pub fn command_of<'a, S: AsStr>(alloc: Global, words: &'a [S]) -> Result<Choice,
     // The options of `run` are those that the words give, and the budget lies in its range.
     ensures options { IfOk result (HasToldOptions (map S.text words.entry.now)) }
     ensures budget { IfOk result HasBudget }
+
+    // A refusal has a kind that the words give: help comes only where they ask for it.
+    ensures kinds { IfErr result (λ e. IsRefusalOf (map S.text words.entry.now) (kind_of e)) }
 
     // Words that clap takes and that name a command are refused only for want of memory, and so is a command alone.
     ensures refused { (choice : Choice) → takes program (map S.text words.entry.now) ≡ true

@@ -1,52 +1,30 @@
 //! The definitions by example: what they let in, and what only looks so. The functions compute nothing: their contracts
 //! are the examples. Those that are not proved by their contract alone have their proofs in `proofs/examples`.
-ghost use Rattle.std.specs.Prelude.{◌≡◌, ℕ, ◌-◌, ◌^◌, true, false, [], ◌∷◌, codes, Some, None, Err};
+ghost use Rattle.std.specs.Prelude.{◌≡◌, ℕ, ◌+◌, ◌-◌, ◌<◌, ◌^◌, length, ◌++◌, true, false, [], ◌∷◌, codes, replicate, Some, None, Err};
 ghost use Rattle.clap.specs.Words.{takes};
+ghost use Rattle.clap.specs.declared.error.ErrorKind.TheVariants.{DisplayHelp, MissingSubcommand};
 ghost use Rattle.mb_quorum.specs.declared.table.TableName.TheVariants.{Unary};
 ghost use Rattle.mailbox_main.specs.declared.fault.RatifyFault.TheVariants.{TooLong, BadLine, NoMemory, ReadFault};
 ghost use Rattle.mailbox_main.specs.declared.fault.RatifyFault.TheVariants.{WriteFault};
 ghost use Rattle.mb_script.specs.declared.transfer.TheConstants.{MAX_SCRIPT_LEN};
 ghost use Rattle.mailbox_main.specs.Answer.{IsAnswer, ratifying};
 ghost use Rattle.mailbox_main.specs.CommandLine.{program, command_in};
-ghost use Rattle.mb_script.specs.Vocabulary.{AppendsFront, ConsumesCount, ConsumesUpTo, CountGrowsUpTo, Had, LiesIn};
+ghost use Rattle.mb_script.specs.Vocabulary.{LiesIn};
 ghost use Rattle.mailbox_main.specs.Spelling.{HasSpelling};
 ghost use Rattle.mailbox_main.specs.Steps.{Gives};
-ghost use Rattle.std.specs.Prelude.{replicate, ◌++◌};
 ghost use Rattle.mb_world.specs.declared.setup.SetupFault.TheVariants.{BadCells, BadConsumers};
 ghost use Rattle.mailbox_main.specs.declared.command.Choice.TheVariants.{Run};
 ghost use Rattle.mailbox_main.specs.declared.options.Options.{Options};
 ghost use Rattle.mailbox_main.specs.declared.options.TheConstants.{MAX_BUDGET};
 ghost use Rattle.mailbox_main.specs.RunOptions.{HasBudget, HasToldOptions};
-ghost use Rattle.mailbox_main.specs.Running.{IsLaneOf, items_of, setup_refused};
+ghost use Rattle.mailbox_main.specs.Running.{AreOwnReaders, HasNotedAll, IsLaneOf, IsRunReport};
+ghost use Rattle.mailbox_main.specs.Running.{items_of, setup_refused};
+ghost use Rattle.mailbox_main.specs.RunExamples.{IsRunOver, nobody_script, nothing_done, one_item};
+ghost use Rattle.mailbox_main.specs.RunExamples.{ratify_now, ratify_words, report_with};
+ghost use Rattle.mailbox_main.specs.declared.fault.Failed.TheVariants as failed;
+ghost use Rattle.mailbox_main.specs.declared.outcome.Ending.TheVariants as ending;
+ghost use Rattle.mb_world.specs.declared.report.Note.TheVariants.{Took, Undecided};
 ghost use Rattle.mailbox_main.specs.Source.{seed_bytes, source_from};
-
-/// A writer gets a prefix of the text behind what it had, and nothing else.
-pub fn writers_get_a_prefix()
-    ensures some { AppendsFront (Some (codes "ab")) (Some (codes "abc")) (codes "cd") }
-    ensures other_byte { AppendsFront (Some (codes "ab")) (Some (codes "abd")) (codes "cd") → ⊥ }
-    ensures lost_byte { AppendsFront (Some (codes "ab")) (Some (codes "a")) (codes "cd") → ⊥ }
-{}
-
-/// A reader loses bytes from its front, and is asked for no more than so many.
-pub fn readers_lose_their_front()
-    ensures two { ConsumesCount 2 (Some (codes "abc")) (Some (codes "c")) }
-    ensures not_three { ConsumesCount 3 (Some (codes "abc")) (Some (codes "c")) → ⊥ }
-    ensures up_to_two { ConsumesUpTo 2 (Some (codes "abc")) (Some (codes "c")) }
-    ensures up_to_one { ConsumesUpTo 1 (Some (codes "abc")) (Some (codes "c")) → ⊥ }
-    ensures other_end { ConsumesUpTo 2 (Some (codes "abc")) (Some (codes "b")) → ⊥ }
-    ensures had { Had (Some (codes "ab")) (codes "ab") }
-    ensures had_more { Had (Some (codes "ab")) (codes "a") → ⊥ }
-{}
-
-/// A count modulo 2^64 grows by what is added, and by no more than so many.
-pub fn counts_grow()
-    ensures two { CountGrowsUpTo 2 5 7 }
-    ensures none { CountGrowsUpTo 2 5 5 }
-    ensures three { CountGrowsUpTo 2 5 8 → ⊥ }
-    ensures back { CountGrowsUpTo 2 7 5 → ⊥ }
-    ensures past_the_last { CountGrowsUpTo 2 (2 ^ 64 - 1) 1 }
-    ensures too_far_past { CountGrowsUpTo 2 (2 ^ 64 - 1) 2 → ⊥ }
-{}
 
 /// A script of numbers that are too large has no spelling.
 pub fn numbers_are_words()
@@ -132,4 +110,36 @@ pub fn sources_have_their_seeds()
     ensures low_first { seed_bytes 258 ≡ 2 ∷ 1 ∷ replicate 30 0 }
     ensures high_first { seed_bytes 258 ≡ replicate 6 0 ++ 1 ∷ 2 ∷ replicate 24 0 → ⊥ }
     ensures stream { (source_from 258 3).stream ≡ 3 }
+{}
+
+/// A consumer of a run has a note at each item, or the histories have many accesses of it; and it reads as the reader of its
+/// own number.
+pub fn consumers_note_all_items()
+    ensures noted { HasNotedAll 1 0 0 nothing_done (report_with (Took 0 ∷ []) []) }
+    ensures undecided { HasNotedAll 1 0 0 nothing_done (report_with (Undecided ∷ []) (0 ∷ [])) }
+    ensures not_noted { HasNotedAll 1 0 0 nothing_done (report_with [] (0 ∷ [])) → ⊥ }
+    ensures own { AreOwnReaders nothing_done }
+    ensures one_reader_for_all { AreOwnReaders (record nothing_done { reader_of = λ _. 0 }) → ⊥ }
+
+    // Of a whole report: behind one without a note the histories are long.
+    ensures short_run { (x : IsRunReport one_item (report_with [] (0 ∷ [])))
+        → length x.histories.pool + length x.histories.claims < 2 ^ 64 - 2 → ⊥ }
+{}
+
+/// What the program does with its words: a script of no process, one with a fault, and words that clap refuses.
+pub fn runs_do_what_the_words_ask()
+    ensures done { IsRunOver ratify_words nobody_script [] [] [] ending.Done }
+    ensures done_and_told { IsRunOver ratify_words nobody_script [] [] (codes "x") ending.Done → ⊥ }
+    ensures fault { IsRunOver ratify_words (codes "x\n") [] [] (codes "fault 3 BadLine 1\n")
+        (ending.Failed (failed.Ratify (BadLine 1))) }
+    ensures half_a_line { IsRunOver ratify_words (codes "x\n") [] [] (codes "fault")
+        (ending.Failed (failed.Ratify (BadLine 1))) → ⊥ }
+    ensures refused { IsRunOver (codes "mailbox" ∷ []) (codes "a") (codes "a") [] (codes "usage")
+        (ending.Refused MissingSubcommand true) }
+    ensures refused_and_read { IsRunOver (codes "mailbox" ∷ []) (codes "a") [] [] (codes "usage")
+        (ending.Refused MissingSubcommand true) → ⊥ }
+    ensures refused_on_the_output { IsRunOver (codes "mailbox" ∷ []) [] [] (codes "usage") []
+        (ending.Refused MissingSubcommand true) → ⊥ }
+    ensures refused_and_done { IsRunOver ratify_now nobody_script [] [] [] ending.Done → ⊥ }
+    ensures help_not_asked { IsRunOver ratify_now [] [] (codes "help") [] (ending.Refused DisplayHelp true) → ⊥ }
 {}

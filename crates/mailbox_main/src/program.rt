@@ -1,10 +1,11 @@
 //! What the program does between its command line and its status.
-ghost use Rattle.std.specs.Prelude.{◌≡◌, ◌≢◌, ◌⊎◌, Bool, map};
+ghost use Rattle.std.specs.Prelude.{◌≡◌, ◌≢◌, ◌⊎◌, ◌+◌, Bool, map};
 ghost use Rattle.clap.specs.Words.{kind_of};
 ghost use Rattle.clap.specs.declared.error.ErrorKind.TheVariants.{DisplayHelp, DisplayVersion};
-ghost use Rattle.mb_script.specs.Vocabulary.{AppendsFront, meter};
+ghost use Rattle.mb_script.specs.declared.transfer.TheConstants.{MAX_SCRIPT_LEN};
+ghost use Rattle.mb_script.specs.Vocabulary.{CountGrowsUpTo, meter};
 ghost use Rattle.mailbox_main.specs.Outcome.{fault_line};
-ghost use Rattle.mailbox_main.specs.Program.{IsProgramRun, WasCarriedOut, ended_by};
+ghost use Rattle.mailbox_main.specs.Program.{IsPrinted, IsProgramRun, IsTold, WasCarriedOut, ended_by};
 ghost use Rattle.mailbox_main.specs.RunOptions.{HasBudget};
 ghost use Rattle.mailbox_main.specs.declared.outcome.Ending.TheVariants as ending;
 
@@ -21,6 +22,7 @@ use std::thread::Threads;
 /// Does what the words of the command line ask for, from `reader` to `writer`.
 ///
 /// The line of a fault goes to `errors`, and so does why clap refuses the words; help that was asked for goes to `writer`.
+/// `words` begin with the program's name. The answer is how the program ends: `Done`, `Failed` or `Refused`.
 pub fn run<R: AllocGlobal + Threads + Wait + Sync, S: AsStr, I: Source, O: Sink, E: Sink>(
     rt: &R,
     words: &[S],
@@ -28,9 +30,12 @@ pub fn run<R: AllocGlobal + Threads + Wait + Sync, S: AsStr, I: Source, O: Sink,
     writer: &mut O,
     errors: &mut E,
 ) -> Ending
-    ensures { IsProgramRun (map S.text words.now) (meter I.left I.failures)
+    ensures done { IsProgramRun (map S.text words.now) (meter I.left I.failures)
         (meter O.held O.failures) (meter E.held E.failures)
         reader.old reader.new writer.old writer.new errors.old errors.new result }
+
+    // Of every reader, also of one whose bytes are not known, as those of standard input are not.
+    ensures given { CountGrowsUpTo (MAX_SCRIPT_LEN + 1) (I.given reader.old) (I.given reader.new) }
 {
     match command_of(rt.alloc(), words) {
         Ok(choice) => match carry_out(rt, choice, reader, writer) {
@@ -49,8 +54,9 @@ fn carry_out<R: AllocGlobal + Threads + Wait + Sync, I: Source, O: Sink>(
     writer: &mut O,
 ) -> Result<(), Failed>
     requires { HasBudget choice }
-    ensures { WasCarriedOut choice (meter I.left I.failures) (meter O.held O.failures)
+    ensures done { WasCarriedOut choice (meter I.left I.failures) (meter O.held O.failures)
         reader.old reader.new writer.old writer.new (ended_by (λ failed. failed) result) }
+    ensures given { CountGrowsUpTo (MAX_SCRIPT_LEN + 1) (I.given reader.old) (I.given reader.new) }
 {
     match choice {
         Choice::Ratify => ratify_text(rt.alloc(), reader, writer).map_err(Failed::Ratify),
@@ -64,10 +70,11 @@ fn carry_out<R: AllocGlobal + Threads + Wait + Sync, I: Source, O: Sink>(
 /// Writes the line of a fault, where there is memory for it.
 fn end_with_fault<R: AllocGlobal, E: Sink>(rt: &R, failed: Failed, errors: &mut E) -> Ending
     ensures ending { result ≡ ending.Failed failed }
-    ensures line { AppendsFront (E.held errors.old) (E.held errors.new) (fault_line failed) }
+    ensures line { (whole : Bool)
+        × IsPrinted (meter E.held E.failures) errors.old errors.new (fault_line failed) whole }
 {
     if let Ok(text) = fault_text(rt.alloc(), &failed) {
-        let _ = write_all(errors, text.as_bytes());
+        let _whole = print(errors, text.as_bytes());
     }
     Ending::Failed(failed)
 }
@@ -79,17 +86,24 @@ fn end_with_refusal<R: AllocGlobal, O: Sink, E: Sink>(
     writer: &mut O,
     errors: &mut E,
 ) -> Ending
-    ensures ending { (printed : Bool) × (result ≡ ending.Refused (kind_of error.now) printed) }
-    ensures help { (kind_of error.now ≡ DisplayHelp) ⊎ (kind_of error.now ≡ DisplayVersion) → errors.new ≡ errors.old }
-    ensures refusal { kind_of error.now ≢ DisplayHelp → kind_of error.now ≢ DisplayVersion → writer.new ≡ writer.old }
+    ensures { (printed : Bool) × (result ≡ ending.Refused (kind_of error.now) printed)
+        × IsTold (meter O.held O.failures) (meter E.held E.failures)
+        writer.old writer.new errors.old errors.new (kind_of error.now) printed }
 {
     let printed = match format!(in rt.alloc(); "{error}") {
-        Ok(text) if error.use_stderr() => write_all(errors, text.as_bytes()).is_ok(),
-        Ok(text) => write_all(writer, text.as_bytes()).is_ok(),
+        Ok(text) if error.use_stderr() => print(errors, text.as_bytes()),
+        Ok(text) => print(writer, text.as_bytes()),
         Err(_) => false,
     };
     Ending::Refused {
         kind: error.kind(),
         printed,
     }
+}
+
+/// Writes the text: whether the whole of it was written.
+fn print<W: Sink>(writer: &mut W, text: &[u8]) -> bool
+    ensures { IsPrinted (meter W.held W.failures) writer.old writer.new text.now result }
+{
+    write_all(writer, text).is_ok()
 }

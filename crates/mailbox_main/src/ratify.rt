@@ -1,8 +1,8 @@
 //! The command `ratify`: from a script to the trace of its ratifier.
-ghost use Rattle.std.specs.Prelude.{◌≡◌, ◌≢◌, ◌+◌, Some, IfOk, IfErr, string_bytes};
-ghost use Rattle.mailbox_main.specs.declared.fault.RatifyFault.TheVariants.{NoMemory, ReadFault, WriteFault};
+ghost use Rattle.std.specs.Prelude.{◌≡◌, ◌≢◌, ◌+◌, Some, Err, IfOk, IfErr, string_bytes};
+ghost use Rattle.mailbox_main.specs.declared.fault.RatifyFault.TheVariants.{TooLong, NoMemory, ReadFault, WriteFault};
 ghost use Rattle.mb_script.specs.declared.transfer.TheConstants.{MAX_SCRIPT_LEN};
-ghost use Rattle.mb_script.specs.Vocabulary.{CountGrowsUpTo, IsExchange, meter};
+ghost use Rattle.mb_script.specs.Vocabulary.{CountGrows, CountGrowsUpTo, IsExchange, meter};
 ghost use Rattle.mailbox_main.specs.Answer.{IsAnswer, fault_of, ratifying};
 
 use crate::fault::RatifyFault;
@@ -41,6 +41,10 @@ pub fn ratify_text<A: Allocator + Copy, R: Source, W: Sink>(
 
     // Of every reader, also of one whose bytes are not known.
     ensures given { CountGrowsUpTo (MAX_SCRIPT_LEN + 1) (R.given reader.old) (R.given reader.new) }
+    ensures given_long { result ≡ Err TooLong
+        → CountGrows (MAX_SCRIPT_LEN + 1) (R.given reader.old) (R.given reader.new) }
+    ensures given_failed { result ≡ Err ReadFault
+        → CountGrowsUpTo MAX_SCRIPT_LEN (R.given reader.old) (R.given reader.new) }
 {
     let bytes = read_all(alloc, reader)?;
     let text = answer(alloc, &bytes)?;

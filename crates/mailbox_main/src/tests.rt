@@ -1,8 +1,9 @@
-//! The examples; the command `ratify` on further scripts, over devices that fail, and with refused memory.
+//! The examples; the command `ratify` on further scripts, and over devices that fail.
 
 mod command_line;
 mod devices;
 mod examples;
+mod refused_memory;
 mod replay;
 mod run;
 
@@ -12,7 +13,6 @@ use crate::ratify::ratify_text;
 use crate::reading::read_script;
 use devices::{Letters, NarrowWriter, SlowReader};
 use examples::ratifiers::LATE_INPUT;
-use linked_list_allocator::LocalHeap;
 use mb_quorum::TableName;
 use mb_script::Counting;
 use std::test::Fail;
@@ -203,26 +203,4 @@ fn reading_stops_past_the_limit(rt: HostRuntime) -> Result<(), Fail> {
         assert_eq!(rt; writer.device.len(), 0, "{left}");
     }
     Ok(())
-}
-
-// Each size of heap below the least that serves refuses a growth: the first, the second, and so on. Ten lists grow, some
-// more than once: the script's bytes, the words of each line, the inputs, the turns, the ratifier's processes, entries
-// and outputs, and the text.
-#[test]
-fn growths_are_refused(rt: HostRuntime) -> Result<(), Fail> {
-    for size in 0..4096usize {
-        let heap = LocalHeap::new(rt.alloc(), size * 16)?;
-        let mut reader = Counting::new(LATE_INPUT.input.as_bytes());
-        let mut writer = Counting::new(Vec::<u8>::new(rt.alloc()));
-        let result = ratify_text(&heap, &mut reader, &mut writer);
-        assert_eq!(rt; heap.used(), 0, "a call keeps memory");
-        if result.is_ok() {
-            assert_eq!(rt; writer.device.as_slice(), LATE_INPUT.output.as_bytes());
-            assert!(rt; size > 10, "{size} sizes were refused");
-            return Ok(());
-        }
-        assert_eq!(rt; result, Err(RatifyFault::NoMemory));
-        assert_eq!(rt; writer.device.len(), 0, "nothing is written");
-    }
-    Err(Fail::from("no size served"))
 }

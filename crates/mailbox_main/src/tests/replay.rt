@@ -1,12 +1,11 @@
-//! The command `replay` on further scripts, over devices that fail, and with refused memory.
+//! The command `replay` on further scripts, and over devices that fail.
 
 use super::devices::{Letters, NarrowWriter, SlowReader};
-use super::examples::claims::{ITEM_TAKEN, ONE_LOSES};
+use super::examples::claims::ITEM_TAKEN;
 use crate::fault::Failed;
 use crate::outcome::{fault_text, status_of};
-use linked_list_allocator::LocalHeap;
-use mb_script::{Counting, Fault, report_text, run};
-use mb_world::{Diary, LaneReport, Note, Report, SetupFault};
+use mb_script::{Counting, Fault, run};
+use mb_world::SetupFault;
 use std::test::Fail;
 
 // The script, replayed: how the call ended, and what was written.
@@ -17,53 +16,23 @@ fn replayed(rt: &HostRuntime, script: &str) -> (Result<(), Fault>, Vec<u8>) {
     (result, writer.device)
 }
 
+// Which fault a script has is tested with the reading of scripts. Here it has lines before and behind it that could be
+// answered, and nothing is written.
 #[test]
-fn the_first_fault_decides(rt: HostRuntime) -> Result<(), Fail> {
+fn a_fault_leaves_nothing_written(rt: HostRuntime) {
     for (script, want) in [
-        ("", Fault::NoSetup),
-        ("\n", Fault::NoSetup),
-        (" setup 1 1 1 1 bits\n", Fault::NoSetup),
-        ("setup 1 1 1 1\n", Fault::BadLine(1)),
-        ("setup 1 1 1 1 bits\r\n", Fault::BadLine(1)),
-        ("setup 1 1 1 1 middle\n", Fault::BadLine(1)),
-        ("setup 0 17 300 x bits\n", Fault::BadNumber(1)),
         (
             "setup 0 0 300 0 bits\npush\n",
             Fault::BadSetup(1, SetupFault::BadProducers),
         ),
-        (
-            "setup 1 1 257 0 bits\n",
-            Fault::BadSetup(1, SetupFault::BadCells),
-        ),
-        ("setup 1 1 1 1 bits\noffer 0\n", Fault::BadLine(2)),
-        ("setup 1 1 1 1 bits\npush  0\n", Fault::BadLine(2)),
-        ("setup 1 1 1 1 bits\npush 0 \n", Fault::BadLine(2)),
-        ("setup 1 1 1 1 bits\n\n", Fault::BadLine(2)),
-        (
-            "setup 1 1 1 1 bits\nsetup 1 1 1 1 bits\n",
-            Fault::BadLine(2),
-        ),
-        ("setup 1 1 0 1 bits\npush 00\n", Fault::BadNumber(2)),
-        (
-            "setup 1 1 1 1 bits\npush 18446744073709551616\n",
-            Fault::BadNumber(2),
-        ),
-        (
-            "setup 1 1 1 1 bits\npush 18446744073709551615\n",
-            Fault::NoLane(2),
-        ),
-        ("setup 1 1 1 1 bits\nstep 5 5 0\n", Fault::NoLane(2)),
-        ("setup 1 1 1 1 bits\nstep 0 1x 0\n", Fault::BadNumber(2)),
-        ("setup 1 16 0 1 bits\nstep 16 0 0\n", Fault::NoConsumer(2)),
-        ("setup 1 16 0 1 bits\nstep 16 1 0\n", Fault::NoLane(2)),
-        ("setup 1 1 1 1 bits\npush\npush \u{80}\n", Fault::NotAscii),
+        ("setup 1 1 1 1 bits\npush 0\npush\n", Fault::BadLine(3)),
         ("setup 1 1 1 1 bits\npush 1\npush\n", Fault::NoLane(2)),
+        ("setup 1 1 1 1 bits\npush\npush \u{80}\n", Fault::NotAscii),
     ] {
         let (result, text) = replayed(&rt, script);
         assert_eq!(rt; result, Err(want), "{script}");
         assert_eq!(rt; text.len(), 0, "{script}");
     }
-    Ok(())
 }
 
 #[test]
@@ -131,59 +100,6 @@ fn reading_stops_past_the_limit(rt: HostRuntime) -> Result<(), Fail> {
         assert_eq!(rt; writer.device.len(), 0, "{left}");
     }
     Ok(())
-}
-
-// Each size of heap below the least that serves refuses a growth: the first, the second, and so on. So it is for the
-// script's bytes, its events, the words of the world, its report and the text.
-#[test]
-fn growths_are_refused(rt: HostRuntime) -> Result<(), Fail> {
-    for size in 0..4096usize {
-        let heap = LocalHeap::new(rt.alloc(), size * 16)?;
-        let mut reader = Counting::new(ONE_LOSES.input.as_bytes());
-        let mut writer = Counting::new(Vec::<u8>::new(rt.alloc()));
-        let result = run(&heap, &mut reader, &mut writer);
-        assert_eq!(rt; heap.used(), 0, "a call keeps memory");
-        if result.is_ok() {
-            assert_eq!(rt; writer.device.as_slice(), ONE_LOSES.output.as_bytes());
-            assert!(rt; size > 10, "{size} sizes were refused");
-            return Ok(());
-        }
-        assert_eq!(rt; result, Err(Fault::NoMemory));
-        assert_eq!(rt; writer.device.len(), 0, "nothing is written");
-    }
-    Err(Fail::from("no size served"))
-}
-
-#[test]
-fn a_report_is_a_text(rt: HostRuntime) -> Result<(), Fail> {
-    let lane = LaneReport {
-        put: vec![in rt.alloc(); 5]?,
-        ended: true,
-        left: Vec::new(rt.alloc()),
-    };
-    let diary = Diary {
-        consumer: 0,
-        lane: 0,
-        notes: vec![in rt.alloc(); Note::Took(5)]?,
-        begun: false,
-    };
-    let report = Report {
-        lanes: vec![in rt.alloc(); lane]?,
-        diaries: vec![in rt.alloc(); diary]?,
-    };
-    for size in 0..64usize {
-        let heap = LocalHeap::new(rt.alloc(), size * 16)?;
-        if let Ok(text) = report_text(&heap, &report) {
-            assert_eq!(rt;
-                text.as_str(),
-                "lane 0 ended put 5\nleft 0\ndiary 0 0 took 5\n"
-            );
-            assert!(rt; size > 2, "{size} sizes were refused");
-            return Ok(());
-        }
-        assert_eq!(rt; heap.used(), 0, "a call keeps memory");
-    }
-    Err(Fail::from("no size served"))
 }
 
 #[test]

@@ -15,7 +15,7 @@ use std::test::Fail;
 use std::thread::Threads;
 
 // What the example with two items asks for.
-const ALONE: Options = Options {
+pub const ALONE: Options = Options {
     producers: 1,
     consumers: 1,
     items: 2,

@@ -1,6 +1,7 @@
 use Rattle.std.proofs.Common.{map, subst, sym, ap, ap₂, ◌∙◌}
 use Rattle.clap.specs.Words.{fault_of, is_simple_and_free, takes}
-use Rattle.mailbox_main.proofs.Commands.{alone_taken, alone_named, found_in, kind_kept, named_in, not_some, program_is_simple, told_in}
+use Rattle.mailbox_main.proofs.Commands.{alone_taken, alone_named, error_kept, found_in, kind_kept, named_in, not_some, program_is_simple, refused_by, told_in, unnamed}
+use Rattle.mailbox_main.specs.CommandLine.{IsRefusalOf}
 use Rattle.mailbox_main.specs.RunOptions.{HasOptions}
 use Rattle.mailbox_main.proofs.command.command_of.Goals as goal
 
@@ -41,3 +42,15 @@ pub returns-clause-options : goal.returns-clause-options
 returns-clause-options g c =
     let found = found_in _ _ c.in_ok-matches.matches c.in_ok-command.ensures c.in_ok-matches.ensures.ok.2 in
     subst (λ at. HasOptions at c.in-Some.choice) found c.in-Some.ensures.options
+
+pub returns-in_err-matches-clause-kinds : goal.returns-in_err-matches-clause-kinds
+returns-in_err-matches-clause-kinds g c =
+    let words = map g.S.AsStr.text c.args.words.now in
+    error_kept (λ kind. IsRefusalOf words kind) _ c.in_err-matches.field-0.0 c.from_residual-in_err-matches.ensures.1
+    (refused_by words _ c.in_err-matches.field-0.0 c.in_ok-command.ensures
+    (c.in_err-matches.ensures.kinds (ap is_simple_and_free c.in_ok-command.ensures ∙ program_is_simple)))
+
+pub returns-in_default-clause-kinds : goal.returns-in_default-clause-kinds
+returns-in_default-clause-kinds g c =
+    unnamed _ _ c.in_ok-matches.matches _ c.choice_of.result c.in_ok-command.ensures c.in_ok-matches.ensures.ok.2 c.in_default.is
+    c.choice_of.ensures.each c.in_ok-error.ensures.kind

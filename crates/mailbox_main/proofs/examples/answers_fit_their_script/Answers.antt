@@ -8,17 +8,10 @@ use Rattle.mailbox_main.specs.declared.fault.RatifyFault.TheVariants.{BadValues}
 use Rattle.mailbox_main.specs.RatifyScript.{Script, script_of, three_lines, line_words, head_of, list_of}
 use Rattle.mb_script.specs.Vocabulary.{number_of, numbers_of}
 use Rattle.mailbox_main.specs.TraceText.{trace_text}
+use Rattle.mailbox_main.proofs.Nobody.{nobody, nobody_answered, reads_two}
 use Rattle.mailbox_main.proofs.examples.answers_fit_their_script.Goals as goal
 
--- a script of nobody, for so many values
-abbrev nobody : ℕ → Script
-nobody m = record { table = Unary; values = m; inputs = []; turns = [] }
-
--- its bytes say so
-reads_two : script_of (codes "ratify unary 2\ninputs\nturns\n") ≡ Ok (nobody 2)
-unfolding script_of three_lines line_words head_of list_of number_of numbers_of
-reads_two = refl
-
+-- a script for no value
 reads_none : script_of (codes "ratify unary 0\ninputs\nturns\n") ≡ Ok (nobody 0)
 unfolding script_of three_lines line_words head_of list_of number_of numbers_of
 reads_none = refl
@@ -34,21 +27,7 @@ no_text (e ∷ entries) outputs made = absurd made.entries
 no_text [] (out ∷ outputs) made = let none = made.processes in absurd (cc)
 
 pub returns-clause-nobody : goal.returns-clause-nobody
-returns-clause-nobody c = record {
-  script = nobody 2;
-  read = reads_two;
-  accepted = refl;
-  entries = [];
-  outputs = [];
-  made = record {
-    known = λ k d low. absurd (omega (arith, low));
-    lawful = record { memory = tt; words = tt; parts = λ p some. absurd (some refl) };
-    entries = tt;
-    processes = refl;
-    outputs = λ p d low. absurd (omega (arith, low));
-  };
-  written = refl;
-}
+returns-clause-nobody c = nobody_answered
 
 pub returns-clause-stranger : goal.returns-clause-stranger
 returns-clause-stranger c =

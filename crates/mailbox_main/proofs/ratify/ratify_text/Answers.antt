@@ -1,7 +1,8 @@
-use Rattle.std.proofs.Common.{ℕ, List, ◌≡◌, Some, subst, string_bytes}
+use Rattle.std.proofs.Common.{ℕ, List, ◌≡◌, ◌≢◌, Some, Err, subst, string_bytes}
+use Rattle.mailbox_main.specs.declared.fault.RatifyFault.TheVariants.{TooLong}
 use Rattle.mb_script.specs.Vocabulary.{AppendsFront}
 use Rattle.mailbox_main.specs.Answer.{IsAnswer, fault_of}
-use Rattle.mailbox_main.proofs.Exchanges.{cut_short, refused_script, stopped_early}
+use Rattle.mailbox_main.proofs.Exchanges.{cut_short, from_err, not_too_long, refused_script, stopped_early}
 use Rattle.mailbox_main.proofs.ratify.ratify_text.Goals as goal
 
 pub returns-in_err-bytes-clause-exchange : goal.returns-in_err-bytes-clause-exchange
@@ -25,3 +26,10 @@ returns-in_err-write_all-clause-exchange g c =
     (subst (λ (l : List ℕ). IsAnswer l (string_bytes c.in_ok-text.text)) c.deref.ensures.value c.in_ok-text.ensures.text)
     (subst (λ (l : List ℕ). AppendsFront (g.W.Sink.held c.args.writer.now) (g.W.Sink.held c.write_all.new.writer) l) c.as_bytes.ensures.value wrote.err)
     wrote.fault
+
+pub returns-in_err-text-clause-given_long : goal.returns-in_err-text-clause-given_long
+returns-in_err-text-clause-given_long g c is =
+    let said = c.in_err-text.ensures in
+    let other_fault = not_too_long _ _ c.in_ok-bytes.ensures.limit
+    (λ other. subst (λ (l : List ℕ). fault_of l ≡ Some c.in_err-text.field-0.0) c.deref.ensures.value (said.fault other)) in
+    absurd (from_err (λ r. r ≢ Err TooLong) _ _ c.from_residual-in_err-text.ensures.1 (λ same. other_fault (cc)) is)

@@ -1,0 +1,131 @@
+//! Each growth of a call refused in turn: the call wants memory, keeps none and writes nothing, and is then served.
+
+use super::examples::claims::ONE_LOSES;
+use super::examples::ratifiers::LATE_INPUT;
+use super::examples::runs::TWO_ITEMS;
+use super::run::ALONE;
+use crate::fault::{Failed, RatifyFault, RunFault};
+use crate::outcome::fault_text;
+use crate::ratify::ratify_text;
+use crate::run::run_threads;
+use mailbox_rations::growths_refused;
+use mb_script::{Counting, Fault, report_text, run};
+use mb_world::{Diary, LaneReport, Note, Report, SetupFault};
+use std::test::Fail;
+
+#[test]
+fn each_growth_of_ratify_text_refused(rt: HostRuntime) -> Result<(), Fail> {
+    let refused = growths_refused(&rt, |alloc| {
+        let mut reader = Counting::new(LATE_INPUT.input.as_bytes());
+        let mut writer = Counting::new(Vec::<u8>::new(rt.alloc()));
+        let result = ratify_text(alloc, &mut reader, &mut writer);
+        if result == Err(RatifyFault::NoMemory) {
+            assert_eq!(&rt; writer.device.len(), 0, "nothing is written");
+            return Ok(false);
+        }
+        assert_eq!(&rt; result, Ok(()));
+        assert_eq!(&rt; writer.device.as_slice(), LATE_INPUT.output.as_bytes());
+        Ok(true)
+    })?;
+    // The script's bytes, the inputs, the turns, the ratifier's processes, entries and outputs, and the text.
+    assert!(rt; 7 <= refused);
+    Ok(())
+}
+
+#[test]
+fn each_growth_of_run_refused(rt: HostRuntime) -> Result<(), Fail> {
+    let refused = growths_refused(&rt, |alloc| {
+        let mut reader = Counting::new(ONE_LOSES.input.as_bytes());
+        let mut writer = Counting::new(Vec::<u8>::new(rt.alloc()));
+        let result = run(alloc, &mut reader, &mut writer);
+        if result == Err(Fault::NoMemory) {
+            assert_eq!(&rt; writer.device.len(), 0, "nothing is written");
+            return Ok(false);
+        }
+        assert_eq!(&rt; result, Ok(()));
+        assert_eq!(&rt; writer.device.as_slice(), ONE_LOSES.output.as_bytes());
+        Ok(true)
+    })?;
+    // The script's bytes and its events, seven lists of the world, five of its report, its lane's cells for the lane and
+    // for each of the two diaries, and the text.
+    assert!(rt; 18 <= refused);
+    Ok(())
+}
+
+#[test]
+fn each_growth_of_run_threads_refused(rt: HostRuntime) -> Result<(), Fail> {
+    let refused = growths_refused(&rt, |alloc| {
+        let mut writer = Counting::new(Vec::<u8>::new(rt.alloc()));
+        let result = run_threads(alloc, &rt, ALONE, &mut writer);
+        if result == Err(RunFault::NoMemory) {
+            assert_eq!(&rt; writer.device.len(), 0, "nothing is written");
+            return Ok(false);
+        }
+        assert_eq!(&rt; result, Ok(()));
+        assert_eq!(&rt; writer.device.as_slice(), TWO_ITEMS.output.as_bytes());
+        Ok(true)
+    })?;
+    // The items and their list, the sources, two lists of the hub and two of each table's words, nine growths of `work`, four
+    // lists of the report, and the text.
+    assert!(rt; 23 <= refused);
+    Ok(())
+}
+
+#[test]
+fn each_growth_of_report_text_refused(rt: HostRuntime) -> Result<(), Fail> {
+    let lane = LaneReport {
+        put: vec![in rt.alloc(); 5]?,
+        ended: true,
+        left: Vec::new(rt.alloc()),
+    };
+    let diary = Diary {
+        consumer: 0,
+        lane: 0,
+        notes: vec![in rt.alloc(); Note::Took(5)]?,
+        begun: false,
+    };
+    let report = Report {
+        lanes: vec![in rt.alloc(); lane]?,
+        diaries: vec![in rt.alloc(); diary]?,
+    };
+    let refused = growths_refused(&rt, |alloc| match report_text(alloc, &report) {
+        Ok(text) => {
+            assert_eq!(&rt;
+                text.as_str(),
+                "lane 0 ended put 5\nleft 0\ndiary 0 0 took 5\n"
+            );
+            Ok(true)
+        }
+        Err(_) => Ok(false),
+    })?;
+    assert!(rt; 1 <= refused);
+    Ok(())
+}
+
+#[test]
+fn each_growth_of_fault_text_refused(rt: HostRuntime) -> Result<(), Fail> {
+    for (failed, line) in [
+        (
+            Failed::Ratify(RatifyFault::BadInput(1_048_575)),
+            "fault 6 BadInput 1048575\n",
+        ),
+        (
+            Failed::Replay(Fault::BadSetup(1, SetupFault::BadProducers)),
+            "fault 6 BadSetup 1 1 BadProducers\n",
+        ),
+        (
+            Failed::Run(RunFault::BadSetup(SetupFault::BadConsumers)),
+            "fault 1 BadSetup 2 BadConsumers\n",
+        ),
+    ] {
+        let refused = growths_refused(&rt, |alloc| match fault_text(alloc, &failed) {
+            Ok(text) => {
+                assert_eq!(&rt; text.as_str(), line);
+                Ok(true)
+            }
+            Err(_) => Ok(false),
+        })?;
+        assert!(rt; 1 <= refused, "{line}");
+    }
+    Ok(())
+}
