@@ -15,7 +15,7 @@ use std::alloc::Global;
 use std::random::RandomSource;
 use std::thread::yield_now;
 
-/// How many accesses a worker makes before it looks up from a lane.
+/// How many accesses a worker makes at most before it looks up from a lane.
 const BUDGET: u64 = 64;
 
 /// After how many jobs a worker goes home. All together they do fewer than there are, so some are left at the end.

@@ -23,6 +23,11 @@ struct AllCome {
 }
 
 impl Gate for AllCome {
+    ghost use Rattle.std.specs.Prelude.{◌≡◌};
+
+    // It stops nobody but at the first call.
+    ghost may_stop = { λ _ _ call. call ≡ 1 };
+
     fn enter(&self, _who: Who, call: u64) -> bool {
         if call != 1 {
             return true;

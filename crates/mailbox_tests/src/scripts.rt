@@ -79,7 +79,7 @@ fn the_first_fault_decides(rt: HostRuntime) {
         ("setup 0 17 300 x bits\n", Fault::BadNumber(1)),
         ("setup 1 1 01 1 bits\n", Fault::BadNumber(1)),
         (
-            "setup 0 0 300 0 bits\n",
+            "setup 0 0 300 0 bits\npush\n",
             Fault::BadSetup(1, SetupFault::BadProducers),
         ),
         (
@@ -125,6 +125,7 @@ fn the_first_fault_decides(rt: HostRuntime) {
             "setup 1 1 1 1 bits\npush 0\npush 1\npush\n",
             Fault::NoLane(3),
         ),
+        ("setup 1 1 1 1 bits\npush 1\npush\n", Fault::NoLane(2)),
         ("setup 1 1 1 1 bits\npush\npush \u{80}\n", Fault::NotAscii),
     ] {
         assert_eq!(rt; events(rt.alloc(), text), Err(want), "{text}");

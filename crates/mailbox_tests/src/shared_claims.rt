@@ -202,31 +202,14 @@ fn another_goes_on_where_one_stopped(rt: HostRuntime) -> Result<(), Fail> {
     Ok(())
 }
 
-/// Whether both claims on a cell have come to an end, where not both have won and not both have lost.
-fn are_ends(mine: Stage, theirs: Stage) -> bool {
-    match (mine, theirs) {
-        (Stage::Going, _) | (_, Stage::Going) => false,
-        (Stage::Won, Stage::Won) | (Stage::Lost(_), Stage::Lost(_)) => false,
-        _ => true,
-    }
-}
-
-#[test]
-fn two_threads_claim_a_hundred_cells(rt: HostRuntime) -> Result<(), Fail> {
-    let (mine, theirs) = claimed_by_two(&rt, rt.alloc())?;
-    for cell in 0..CELLS as usize {
-        assert!(rt; are_ends(mine[cell], theirs[cell]), "cell {cell}");
-    }
-    Ok(())
-}
-
-/// Whether all claims on a cell have come to an end, and name one winner where they name any.
+/// Whether all claims on a cell have come to an end, and name one winner where they name any; who lost names another.
 fn name_one_winner(ends: &[Stage]) -> bool {
     let mut winner = None;
     for (consumer, end) in ends.iter().enumerate() {
         let named = match *end {
             Stage::Going => return false,
             Stage::Won => consumer,
+            Stage::Lost(other) if other as usize == consumer => return false,
             Stage::Lost(other) => other as usize,
             Stage::Undecided => continue,
         };
@@ -236,6 +219,15 @@ fn name_one_winner(ends: &[Stage]) -> bool {
         winner = Some(named);
     }
     true
+}
+
+#[test]
+fn two_threads_claim_a_hundred_cells(rt: HostRuntime) -> Result<(), Fail> {
+    let (mine, theirs) = claimed_by_two(&rt, rt.alloc())?;
+    for cell in 0..CELLS as usize {
+        assert!(rt; name_one_winner(&[mine[cell], theirs[cell]]), "cell {cell}");
+    }
+    Ok(())
 }
 
 #[test]
