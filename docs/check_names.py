@@ -9,16 +9,17 @@ code, the definitions, the proofs, the examples or the names of files have it, c
   - in "`name` in `specs/File.antt`" one of the files named there has to have the name;
   - in "`function`: `clause`" a function of that name has to have that clause;
   - a block of Rust has to stand, line by line, in a source file.
-The status is 0 where all was found, and else 1.
+It also looks whether `examples/script` prints the script of each example. The status is 0 where all was found, and else 1.
 """
 import os
 import re
+import subprocess
 import sys
 from fnmatch import fnmatch
 
 TOP = os.path.dirname(os.path.dirname(os.path.abspath(__file__)))
 PARTS = ("src", "specs", "proofs")
-PATH = re.compile(r"[\w.<>*-]+(?:/[\w.<>*-]+)+/?|[\w*-]+\.(?:rt|antt|md|py|txt|replay|ratify|out|err|edit)")
+PATH = re.compile(r"[\w.<>*-]+(?:/[\w.<>*-]+)+/?|[\w*-]+\.(?:rt|antt|md|py|txt|edit)")
 WORD = re.compile(r"[A-Za-z_]\w*")
 # A function with what stands up to its body, and a clause of it.
 FUNCTION = re.compile(r"^ *(?:pub(?:\(\w+\))? )?(?:const )?(?:final )?fn (\w+)(.*?)(?=^ *\}?\{|^ *(?:pub |#\[|fn )|\Z)", re.M | re.S)
@@ -77,7 +78,7 @@ class Sources:
         for path in (f"{TOP}/crates.txt", f"{TOP}/HANDLES", f"{TOP}/mailbox", *files_below(f"{TOP}/bench")):
             self.all.update(WORD.findall(read(path)))
         for folder in ("examples", "docs"):
-            for path in files_below(os.path.realpath(f"{TOP}/{folder}")):
+            for path in files_below(f"{TOP}/{folder}"):
                 self.all.update(WORD.findall(os.path.basename(path)))
                 if not path.endswith(".md"):
                     self.all.update(WORD.findall(open(path, encoding="latin-1").read()))
@@ -173,8 +174,20 @@ def below(crate):
     return set()
 
 
+def scripts_not_printed():
+    """The examples whose script `examples/script` does not print as it stands in the tests."""
+    for path in files_below(f"{TOP}/crates/mailbox_main/src/tests/examples"):
+        for name, script in re.findall(r'name: "(\w+)",.*?input: "(.*?)",$', read(path), re.M | re.S):
+            want = script.removeprefix("\\\n").replace("\\n", "\n")
+            if subprocess.run([f"{TOP}/examples/script", name], stdout=subprocess.PIPE, text=True).stdout != want:
+                yield name
+
+
 def main():
     sources, count = Sources(), 0
+    for name in scripts_not_printed():
+        print(f"examples/script: not printed: {name}")
+        count += 1
     for page in pages():
         for fault in dict.fromkeys(faults_of(page, sources)):
             print(f"{os.path.relpath(page, TOP)}: not found: {fault}")
