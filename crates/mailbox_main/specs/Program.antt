@@ -67,8 +67,8 @@ IsProgramRun words source sink errs reader reader' writer writer' errors errors'
     ((choice : Choice) × Names words choice
     × WasCarriedOut choice source sink reader reader' writer writer' ending.Done)
     × (errors' ≡ errors)
--- It failed, and the line of its fault was written to the second writer: whole, or a prefix where that writer failed.
--- Nothing is written where there is no memory for the line.
+-- It failed, and the line of its fault was written to the second writer: whole, or a prefix where that writer failed, or
+-- nothing at all, which is for want of memory, though no clause can tell that.
 IsProgramRun words source sink errs reader reader' writer writer' errors errors' (ending.Failed fault) =
     ((choice : Choice) × Names words choice
     × WasCarriedOut choice source sink reader reader' writer writer' (ending.Failed fault))

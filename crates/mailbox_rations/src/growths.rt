@@ -2,7 +2,6 @@
 
 use crate::{Rations, Refuse};
 use std::alloc::Global;
-use std::process::Abort;
 use std::test::Fail;
 
 /// No call that is tried grows so often.
@@ -11,8 +10,9 @@ const MANY: u64 = 100;
 /// How many growths the call makes: each is refused in its turn, together with all later ones and alone, and then the
 /// call is served.
 ///
-/// The call says whether it was served, and keeps nothing. It has to be refused just where a growth was.
-pub fn growths_refused<R: Abort + AllocGlobal, F: Fn(&Rations<Global>) -> Result<bool, Fail>>(
+/// The call says whether it was served, and keeps nothing. It has to be refused just where a growth was. It fails where it
+/// does otherwise, where it keeps memory, and where it makes a hundred growths.
+pub fn growths_refused<R: AllocGlobal, F: Fn(&Rations<Global>) -> Result<bool, Fail>>(
     rt: &R,
     call: F,
 ) -> Result<u64, Fail>
@@ -22,14 +22,18 @@ pub fn growths_refused<R: Abort + AllocGlobal, F: Fn(&Rations<Global>) -> Result
         let from = Rations::new(rt.alloc(), Refuse::From(number));
         let only = Rations::new(rt.alloc(), Refuse::Only(number));
         let served = call(&from)?;
-        assert_eq!(rt; call(&only)?, served);
-        // Want of memory is answered just where a growth was refused.
-        assert_eq!(rt; from.asked() <= number, served);
-        assert_eq!(rt; only.asked() <= number, served);
-        assert_eq!(rt; (from.out(), only.out()), (0, 0), "the call keeps memory");
+        if call(&only)? != served {
+            return Err(Fail::new("one refused growth is not as all later ones"));
+        }
+        if served != (from.asked() <= number) || served != (only.asked() <= number) {
+            return Err(Fail::new("it is not refused just where a growth is"));
+        }
+        if from.out() != 0 || only.out() != 0 {
+            return Err(Fail::new("it keeps memory"));
+        }
         if served {
             return Ok(number);
         }
     }
-    Err(Fail::new("it never succeeds"))
+    Err(Fail::new("it is never served"))
 }

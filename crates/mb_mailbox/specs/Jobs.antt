@@ -47,12 +47,13 @@ abbrev pub count_marks : List Bool → ℕ
 count_marks [] = 0
 count_marks (b ∷ bs) = from_bool b + count_marks bs
 
--- a load of a head or a link that tells the end of a lane
+-- a look that tells the end of a lane
 abbrev pub is_ended : Look → Bool
 is_ended look.Nothing = false
 is_ended look.Ended = true
 is_ended (look.Cell k) = false
 
+-- a load of a head or a link that finds it
 abbrev pub tells_end : Word → PoolAct → Bool
 tells_end (Head p) (Load v) = is_ended (look_of v)
 tells_end (Link k) (Load v) = is_ended (look_of v)
@@ -63,12 +64,12 @@ abbrev pub ends_met : History → ℕ
 ends_met [] = 0
 ends_met (a ∷ older) = from_bool (tells_end a.word a.act) + ends_met older
 
--- each head that was loaded by these accesses is that of a lane from `from` on and below `end`
+-- each head that these accesses touch is that of a lane from `from` on and below `end`
 abbrev pub IsOnLanes : ℕ → ℕ → History → Type 0
 IsOnLanes from end reads = (a : PoolAccess) (p : ℕ) → Has reads a → a.word ≡ Head p → (from ≤ p) × (p < end)
 
 -- it was stopped before a call, and has made at least as many accesses as it had calls before that one, and at most the
--- budget in each
+-- budget times as many
 pub record IsStoppedPoll (may_stop : Who → ℕ → Type 0) (budget c made : ℕ) : Type 0 where
   pub call : ℕ
   pub first : 1 ≤ call

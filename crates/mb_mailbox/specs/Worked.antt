@@ -107,7 +107,7 @@ AreStoppedPuts may_stop cells p (list ∷ lists) (l ∷ ls) =
 AreStoppedPuts may_stop cells p _ _ = ⊥
 
 -- each consumer from number c on that was stopped was stopped before a call, and has made at least as many accesses as
--- it had calls before that one, and at most the budget in each
+-- it had calls before that one, and at most the budget times as many
 abbrev pub AreStoppedPolls : (Who → ℕ → Type 0) → ℕ → ℕ → List ConsumerLeft → Type 0
 AreStoppedPolls may_stop budget c [] = Unit {0}
 AreStoppedPolls may_stop budget c (l ∷ ls) =
@@ -124,7 +124,7 @@ pub record IsWorked (may_stop : Who → ℕ → Type 0) (budget : ℕ) (lists : 
   pub stopped : w.stopped ≡ sum_by (λ l. from_bool l.stopped) lanes + sum_by (λ c. from_bool c.stopped) consumers
   pub stopped_puts : AreStoppedPuts may_stop new.cells.table.size.cells (length old.puts) lists lanes
   pub stopped_polls : AreStoppedPolls may_stop budget (length old.ledgers) consumers
-  -- A consumer that was stopped has loaded fewer end marks than there are lanes
+  -- A consumer that was stopped has loaded fewer end marks than lanes were given in this call
   pub unread : All (λ c. c.stopped ≡ true → ends_met c.reads < length lists) consumers
   -- No consumer has looked at the head of a lane that was not given in this call
   pub only : All (λ c. IsOnLanes (length old.puts) (length old.puts + length lists) c.reads) consumers

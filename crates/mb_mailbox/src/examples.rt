@@ -115,7 +115,7 @@ pub fn workers_are_counted()
 {}
 
 /// Who counts as stopped: a producer before the put of its next item, that found a cell each time; and a consumer before a
-/// call that it has come to, with no more accesses in each call before that one than its budget.
+/// call that it has come to, with no more accesses than its budget allows the calls before that one.
 pub fn workers_are_stopped_by_the_gate()
     ensures put { IsStoppedPut (λ _ n. n ≡ 2) 1 0 (7 ∷ 8 ∷ []) (stopped_lane (7 ∷ []) seven_put) }
     ensures put_other_call { IsStoppedPut (λ _ n. n ≡ 3) 1 0 (7 ∷ 8 ∷ []) (stopped_lane (7 ∷ []) seven_put) → ⊥ }
