@@ -1,7 +1,8 @@
 -- A poll loads one end mark where it is answered `Ended`, and none elsewhere.
-use Rattle.std.proofs.Common.{◌≡◌, ◌≢◌, ℕ, ◌+◌, ◌≤◌, Bool, true, false, List, [], ◌∷◌, ◌++◌, Option, Some, None, length, refl, ap, ◌∙◌, arith}
+use Rattle.std.proofs.Common.{◌≡◌, ◌≢◌, ℕ, ◌+◌, Bool, true, false, List, [], ◌∷◌, ◌++◌, Option, Some, None, length, refl, subst, ap, ◌∙◌, arith}
 use Rattle.std.specs.Int.{from_bool}
 use Rattle.mb_cells.specs.declared.answer.Look.TheVariants as look
+use Rattle.mb_claim.specs.declared.access.Stage.TheVariants as stage
 use Rattle.mb_mailbox.specs.Below.{Claims, History, Look, Parts, PoolAccess, ReaderSeatView, Stream, ToCells, ToClaims, WorldAccess, WorldHistory, cells_met, link_load, look_of, pool_accesses}
 use Rattle.mb_mailbox.specs.ConsumerStep.{ConsumerStep, competes, link_answer, looks, takes}
 use Rattle.mb_mailbox.specs.Consumers.{ConsumerView}
@@ -38,17 +39,26 @@ none_told p answer (ToCells b ∷ older) s lead n =
     omega (arith, one, rest)
 none_told p answer (ToClaims b ∷ older) s lead n = none_told p None older s lead.1 (λ z. cc)
 
-at_most_one : (b : Bool) → from_bool b ≤ 1
-at_most_one true = omega arith
-at_most_one false = omega arith
+told_end : (l : Look) → Some poll.Ended ≡ link_answer l → is_ended l ≡ true
+told_end look.Nothing e = absurd (cc)
+told_end look.Ended e = refl
+told_end (look.Cell k) e = absurd (cc)
 
-most_told : (p : ℕ) (answer : Option Poll) (done : WorldHistory) (s : ConsumerView) → LeadTo p answer done s → ends_met (pool_accesses done) ≤ 1
-most_told p answer [] s lead = omega arith
-most_told p answer (ToCells b ∷ older) s lead =
-    let one = at_most_one (tells_end b.word b.act) in
+step_end : (cs : Claims) (c p : ℕ) (x : Parts) (a : WorldAccess) → ConsumerStep cs c p x a (Some poll.Ended) → told_by a ≡ true
+step_end cs c p x a (looks v past e is) = ap told_by e ∙ past_told c p (cells_met p x.reads) v ∙ told_end (look_of v) is
+step_end cs c p x a (competes k t stage.Going last going after e is) = absurd (cc)
+step_end cs c p x a (competes k t stage.Won last going after e is) = absurd (cc)
+step_end cs c p x a (competes k t (stage.Lost w) last going after e is) = absurd (cc)
+step_end cs c p x a (competes k t stage.Undecided last going after e is) = absurd (cc)
+step_end cs c p x a (takes k v last won e is) = absurd (cc)
+
+one_told : (p : ℕ) (done : WorldHistory) (s : ConsumerView) → LeadTo p (Some poll.Ended) done s → ends_met (pool_accesses done) ≡ 1
+one_told p [] s lead = absurd (cc)
+one_told p (ToCells b ∷ older) s lead =
+    let one : from_bool (tells_end b.word b.act) ≡ 1 = ap from_bool (step_end _ _ p _ (ToCells b) lead.0) in
     let rest = none_told p None older s lead.1 (λ z. cc) in
     omega (arith, one, rest)
-most_told p answer (ToClaims b ∷ older) s lead = let rest = none_told p None older s lead.1 (λ z. cc) in omega (arith, rest)
+one_told p (ToClaims b ∷ older) s lead = let no : false ≡ true = step_end _ _ p _ (ToClaims b) lead.0 in absurd (cc)
 
 ends_append : (xs ys : History) → ends_met (xs ++ ys) ≡ ends_met xs + ends_met ys
 ends_append [] ys = omega arith
@@ -67,17 +77,17 @@ module _ (p budget : ℕ) (answer : Poll) (s t : Stream) (old new : ConsumerView
   all : ends_met new.reader.part ≡ ends_met (pool_accesses i.accesses) + ends_met old.reader.part
   all = ap (λ (r : ReaderSeatView). ends_met r.part) i.done.reader ∙ ends_append (pool_accesses i.accesses) old.reader.part
 
-  pub no_end_by : answer ≢ poll.Ended → ends_met new.reader.part ≤ ends_met old.reader.part
+  pub no_end_by : answer ≢ poll.Ended → ends_met new.reader.part ≡ ends_met old.reader.part
   no_end_by n =
       let sum = all in
       let none = none_told p (outcome answer) i.accesses old i.lead (λ z. n (ended answer z)) in
       omega (arith, sum, none)
 
-  pub one_end_by : ends_met new.reader.part ≤ ends_met old.reader.part + 1
-  one_end_by =
+  pub one_end_by : answer ≡ poll.Ended → ends_met new.reader.part ≡ ends_met old.reader.part + 1
+  one_end_by is =
       let sum = all in
-      let most = most_told p (outcome answer) i.accesses old i.lead in
-      omega (arith, sum, most)
+      let one = one_told p i.accesses old (subst (λ (a : Poll). LeadTo p (outcome a) i.accesses old) is i.lead) in
+      omega (arith, sum, one)
 
 -- who has made no access has met no end
 no_end : (h : History) (n : ℕ) → length h + n ≡ 0 → ends_met h ≡ 0

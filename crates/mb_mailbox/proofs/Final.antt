@@ -32,7 +32,7 @@ use Rattle.mb_mailbox.specs.declared.working.room.Ends.{Ends}
 use Rattle.mb_mailbox.specs.declared.working.room.Jobs.{Jobs}
 use Rattle.mb_mailbox.specs.declared.working.room.Room.{Room}
 use Rattle.mb_mailbox.proofs.Noted.{all_noted}
-use Rattle.mb_mailbox.proofs.Runs.{lane_left, lanes_of, left_by, left_of, nums, run_beyond, run_cut, run_of, run_only, run_poll_stops, run_stops, run_unread}
+use Rattle.mb_mailbox.proofs.Runs.{lane_left, lanes_of, left_by, left_of, nums, run_beyond, run_cut, run_ends, run_of, run_only, run_poll_stops, run_stops, run_unread}
 use Rattle.mb_mailbox.proofs.Zips.{zip_length}
 
 nothing : {X : Type 0} (P : X → Type 0) → All P []
@@ -226,6 +226,9 @@ module _ {R Z : Type 0} (m : MailboxView) (may_stop : Who → ℕ → Type 0) (i
             (run_stops m may_stop h from end budget items jobs.puts.items ends.puts.items jobs.polls.items ends.polls.items hub all.puts given.polls came.puts came.polls puts_on);
         stopped_polls =
             run_poll_stops m may_stop h from end budget items jobs.puts.items ends.puts.items jobs.polls.items ends.polls.items hub all.puts given.polls came.puts came.polls polls_on;
+        ends = subst (λ (n : ℕ). All (λ (x : ConsumerLeft). x.stopped ≡ false → ends_met x.reads ≡ n) (left_of m may_stop ends.polls.items))
+            (omega (arith, first, far))
+            (run_ends m may_stop h from end budget items jobs.puts.items ends.puts.items jobs.polls.items ends.polls.items hub all.puts given.polls came.puts came.polls);
         unread = subst (λ (n : ℕ). All (λ (x : ConsumerLeft). x.stopped ≡ true → ends_met x.reads < n) (left_of m may_stop ends.polls.items))
             (omega (arith, first, far))
             (run_unread m may_stop h from end budget items jobs.puts.items ends.puts.items jobs.polls.items ends.polls.items hub all.puts given.polls came.puts came.polls polls_on);

@@ -42,6 +42,7 @@ not_run may_stop from end budget s d is stopped off = record {
     consumer = ap (λ (t : ConsumerView). t.seat.consumer) is;
   };
   read = λ f. let no : true ≡ false = sym stopped ∙ f in absurd (cc);
+  ends = λ f none. let no : true ≡ false = sym stopped ∙ f in absurd (cc);
   stop = λ t f none. let no : true ≡ false = sym off ∙ f in absurd (cc);
   unread = λ t f none. let no : true ≡ false = sym off ∙ f in absurd (cc);
   only = λ f none. let no : true ≡ false = sym off ∙ f in absurd (cc);
@@ -53,6 +54,7 @@ pub still_off : {Z : Type 0} (may_stop : Who → ℕ → Type 0) (from end budge
 still_off may_stop from end budget s d i = record {
   same = i.same;
   read = i.read;
+  ends = i.ends;
   stop = λ t o none. absurd (cc);
   unread = λ t o none. absurd (cc);
   only = λ o none. absurd (cc);

@@ -1,5 +1,6 @@
 -- Marks at some places of a list.
 use Rattle.std.proofs.Common.{◌≡◌, ◌≢◌, ◌⊎◌, ⊎_elim, ℕ, zero, suc, ◌+◌, ◌-◌, ◌≤◌, ◌<◌, Bool, true, false, List, [], ◌∷◌, length, refl, ap, inl, inr, slice_set, arith}
+use Rattle.std.specs.Int.{from_bool}
 use Rattle.std.specs.Prelude.{slice_index_or}
 use Rattle.mb_mailbox.specs.Jobs.{count_marks}
 
@@ -59,6 +60,28 @@ marks_most (false ∷ xs) from end m =
     let rest = marks_most xs (from - 1) (end - 1)
     (λ p e. (let t = (m (suc p) e).0 in omega (arith, t), let t = (m (suc p) e).1 in omega (arith, t))) in
     omega (arith, rest)
+
+marks_least : (xs : List Bool) (from end : ℕ) → ((p : ℕ) → from ≤ p → p < end → slice_index_or xs p false ≡ true) → end ≤ from + count_marks xs
+marks_least xs from zero m = omega arith
+marks_least [] zero (suc end) m = let no : false ≡ true = m 0 (omega arith) (omega arith) in absurd (cc)
+marks_least [] (suc from) (suc end) m =
+    let rest = marks_least [] from end (λ p low high. m (suc p) (omega (arith, low)) (omega (arith, high))) in
+    omega (arith, rest)
+marks_least (x ∷ xs) zero (suc end) m =
+    let one : from_bool x ≡ 1 = ap from_bool (m 0 (omega arith) (omega arith)) in
+    let rest = marks_least xs 0 end (λ p low high. m (suc p) (omega arith) (omega (arith, high))) in
+    omega (arith, one, rest)
+marks_least (x ∷ xs) (suc from) (suc end) m =
+    let rest = marks_least xs from end (λ p low high. m (suc p) (omega (arith, low)) (omega (arith, high))) in
+    omega (arith, rest)
+
+-- where marks stand there alone, and each place there has one, there are as many
+pub marks_all : (xs : List Bool) (from end : ℕ) → ((p : ℕ) → slice_index_or xs p false ≡ true → (from ≤ p) × (p < end))
+    → ((p : ℕ) → from ≤ p → p < end → slice_index_or xs p false ≡ true) → count_marks xs ≡ end - from
+marks_all xs from end only all =
+    let most = marks_most xs from end only in
+    let least = marks_least xs from end all in
+    omega (arith, most, least)
 
 -- where marks stand there alone, and one place there has none, there are fewer
 pub marks_fewer : (xs : List Bool) (from end k : ℕ) → ((p : ℕ) → slice_index_or xs p false ≡ true → (from ≤ p) × (p < end))

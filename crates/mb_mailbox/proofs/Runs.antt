@@ -147,6 +147,7 @@ module _ {Z : Type 0} (m : MailboxView) (may_stop : Who → ℕ → Type 0) wher
     pub reader : d.consumer.reader.reader ≡ c
     pub consumer : d.consumer.seat.consumer ≡ c
     pub read : d.stopped ≡ false → (p : ℕ) → from ≤ p → p < end → HasReadToEnd p d.consumer
+    pub ends : d.stopped ≡ false → ends_met d.consumer.reader.part ≡ end - from
     pub stop : d.stopped ≡ true → d.off ≡ false → IsStoppedPoll may_stop budget c (accesses_made d.consumer)
     pub unread : d.stopped ≡ true → d.off ≡ false → ends_met d.consumer.reader.part < end - from
     pub only : d.off ≡ false → IsOnLanes from end d.consumer.reader.part
@@ -165,6 +166,7 @@ module _ {Z : Type 0} (m : MailboxView) (may_stop : Who → ℕ → Type 0) wher
       reader = z.0.same.reader ∙ a.0.reader;
       consumer = z.0.same.consumer ∙ a.0.consumer;
       read = z.0.read;
+      ends = λ f. z.0.ends f a.0.none;
       stop = λ t o. subst (λ (c : ℕ). IsStoppedPoll may_stop budget c (accesses_made d.consumer)) a.0.consumer (z.0.stop t o a.0.none);
       unread = λ t o. z.0.unread t o a.0.none;
       only = λ o. z.0.only o a.0.none;
@@ -197,6 +199,13 @@ module _ {Z : Type 0} (m : MailboxView) (may_stop : Who → ℕ → Type 0) wher
       let F = λ (d : PollDone Z). d.off ≡ false in
       All-cons (λ (x : ConsumerLeft). IsOnLanes from end x.reads) (left_by d.consumer d.stopped) (left_of ds) (a.0.only (All-head F d ds on))
       (only_of from end budget (suc c) ds a.1 (All-tail F d ds on))
+
+  ends_of : (from end budget c : ℕ) (ds : List (PollDone Z)) → AreNumbered from end budget c ds
+      → All (λ (x : ConsumerLeft). x.stopped ≡ false → ends_met x.reads ≡ end - from) (left_of ds)
+  ends_of from end budget c [] a = λ k d low. absurd (omega (arith, low))
+  ends_of from end budget c (d ∷ ds) a =
+      All-cons (λ (x : ConsumerLeft). x.stopped ≡ false → ends_met x.reads ≡ end - from) (left_by d.consumer d.stopped) (left_of ds)
+      a.0.ends (ends_of from end budget (suc c) ds a.1)
 
   unread_of : (from end budget c : ℕ) (ds : List (PollDone Z)) → AreNumbered from end budget c ds → All (λ (d : PollDone Z). d.off ≡ false) ds
       → All (λ (x : ConsumerLeft). x.stopped ≡ true → ends_met x.reads < end - from) (left_of ds)
@@ -262,6 +271,9 @@ module _ {Z : Type 0} (m : MailboxView) (may_stop : Who → ℕ → Type 0) wher
 
     pub run_only : All (λ (d : PollDone Z). d.off ≡ false) es → All (λ (x : ConsumerLeft). IsOnLanes from end x.reads) (left_of es)
     run_only on = only_of from end budget (length h.ledgers) es nums on
+
+    pub run_ends : All (λ (x : ConsumerLeft). x.stopped ≡ false → ends_met x.reads ≡ end - from) (left_of es)
+    run_ends = ends_of from end budget (length h.ledgers) es nums
 
     pub run_unread : All (λ (d : PollDone Z). d.off ≡ false) es
         → All (λ (x : ConsumerLeft). x.stopped ≡ true → ends_met x.reads < end - from) (left_of es)

@@ -93,12 +93,13 @@ module _ {Z : Type 0} (may_stop : Who → ℕ → Type 0) where
     pub stop : d.stopped ≡ true → d.off ≡ false
         → IsStopBefore may_stop (who.Producer j.producer.seat.lane) (suc (length d.producer.items))
 
-  -- the consumer, where it was not stopped, has read each lane from `from` on and below `end` to its end mark; where the run
-  -- is not off, one that had made no access has looked at these lanes alone, and where it was stopped it was so before a call, and
-  -- has loaded fewer end marks than there are of these lanes
+  -- the consumer, where it was not stopped, has read each lane from `from` on and below `end` to its end mark. One that had
+  -- made no access has then loaded as many end marks as there are of these lanes. Where the run is not off, it has looked at these
+  -- lanes alone, and where it was stopped it was so before a call, and has loaded fewer end marks
   pub record IsPollEnd (from end budget : ℕ) (s : ConsumerView) (d : PollDone Z) : Type 0 where
     pub same : IsSameConsumer s d.consumer
     pub read : d.stopped ≡ false → (p : ℕ) → from ≤ p → p < end → HasReadToEnd p d.consumer
+    pub ends : d.stopped ≡ false → accesses_made s ≡ 0 → ends_met d.consumer.reader.part ≡ end - from
     pub stop : d.stopped ≡ true → d.off ≡ false → accesses_made s ≡ 0
         → IsStoppedPoll may_stop budget s.seat.consumer (accesses_made d.consumer)
     pub unread : d.stopped ≡ true → d.off ≡ false → accesses_made s ≡ 0 → ends_met d.consumer.reader.part < end - from

@@ -3,16 +3,16 @@
 ghost use Rattle.std.specs.Prelude.{◌≡◌, List, None, Option, Some, [], ◌∷◌};
 ghost use Rattle.mb_quorum.specs.Vocabulary.{IsQuorumTable};
 ghost use Rattle.mb_claim.specs.declared.access.Stage.TheVariants as stage;
-ghost use Rattle.mb_cells.specs.Vocabulary.{fetch, new_lane};
-ghost use Rattle.mb_mailbox.specs.Below.{CellsName, Claims, END, IsClaimPrefix, ObjectTurn, Stream, Took, WorldAccess};
-ghost use Rattle.mb_mailbox.specs.Below.{claim_step, item_load, link_load};
+ghost use Rattle.mb_cells.specs.Vocabulary.{fetch, new_lane, store};
+ghost use Rattle.mb_mailbox.specs.Below.{CellsName, Claims, END, Head, IsClaimPrefix, Item, Link, ObjectTurn, Stream, Took, WorldAccess};
+ghost use Rattle.mb_mailbox.specs.Below.{claim_step, item_load, link_load, load};
 ghost use Rattle.mb_mailbox.specs.declared.consumer.Poll.{Poll};
 ghost use Rattle.mb_mailbox.specs.declared.consumer.Poll.TheVariants as poll;
 ghost use Rattle.mb_mailbox.specs.declared.gate.Who.TheVariants as who;
 ghost use Rattle.mb_mailbox.specs.Consumers.{ConsumerView};
 ghost use Rattle.mb_mailbox.specs.ConsumerStep.{ConsumerStep};
 ghost use Rattle.mb_mailbox.specs.Examples.{head_loaded, link_loaded, met_four, nothing_done};
-ghost use Rattle.mb_mailbox.specs.Jobs.{IsStoppedPoll};
+ghost use Rattle.mb_mailbox.specs.Jobs.{IsOnLanes, IsStoppedPoll, ends_met};
 ghost use Rattle.mb_mailbox.specs.Producers.{HasNoCellFor, IsEndOfLane, IsFirstPastCells, IsPutInto};
 ghost use Rattle.mb_mailbox.specs.Steps.{IsPollOf, LeadTo};
 ghost use Rattle.mb_mailbox.specs.WorkExamples.{fetched, has_linked, idle_producer, lane_left, ledger_with, linked_early};
@@ -112,6 +112,16 @@ pub fn workers_are_counted()
     ensures cut_short { AreCutByCells 1 0 ((7 ∷ 8 ∷ []) ∷ []) (lane_left (7 ∷ []) [] ∷ []) → ⊥ }
     ensures noted { HasNoteAtEach 0 (lane_left (7 ∷ []) [] ∷ []) (ledger_with (Took 7 ∷ [])) }
     ensures not_noted { HasNoteAtEach 0 (lane_left (7 ∷ []) [] ∷ []) (ledger_with []) → ⊥ }
+{}
+
+/// Which lanes a consumer has looked at, and how many end marks it has loaded: from heads and links alone.
+pub fn consumers_look_at_lanes()
+    ensures within { IsOnLanes 1 3 (load 0 (Link 4) 0 ∷ load 0 (Head 2) 0 ∷ load 0 (Head 1) 5 ∷ []) }
+    ensures none { IsOnLanes 1 1 [] }
+    ensures below { IsOnLanes 1 3 (load 0 (Head 0) 0 ∷ []) → ⊥ }
+    ensures past { IsOnLanes 1 3 (load 0 (Head 3) 0 ∷ []) → ⊥ }
+    ensures ends { ends_met (load 0 (Link 4) END ∷ load 0 (Head 1) END ∷ load 0 (Head 1) 5 ∷ []) ≡ 2 }
+    ensures no_ends { ends_met (store 0 (Head 0) END ∷ load 0 (Item 4) END ∷ load 0 (Link 4) 0 ∷ []) ≡ 0 }
 {}
 
 /// Who counts as stopped: a producer before the put of its next item, that found a cell each time; and a consumer before a

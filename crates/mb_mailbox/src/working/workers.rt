@@ -181,7 +181,7 @@ fn poll_lane<A: Allocator + Drop, B: Allocator + Drop, R: Rng>(
     ensures marks { (p : ℕ) → slice_index_or ended.new p false ≡ true
         → (p ≡ lane) ⊎ (slice_index_or ended.old p false ≡ true) }
     ensures ends { ends_met consumer.new.reader.part + count_marks ended.old
-        ≤ ends_met consumer.old.reader.part + count_marks ended.new }
+        ≡ ends_met consumer.old.reader.part + count_marks ended.new }
     ensures same { IsSameConsumer consumer.old consumer.new }
     ensures of { IsConsumerOf mailbox.now consumer.new }
 {
@@ -235,7 +235,7 @@ pub(super) fn poll_lanes<A: Allocator + Drop, B: Allocator + Drop, R: Rng + Drop
         gate.leave(who, call);
         at = lane + 1;
     }
-    // The last call may have read what was left.
+    // The gate refused a call, or call 2^64 - 2 was made, and may have read the last lane to its end.
     match next_lane(&ended, at, from, end) {
         None => PollDone {
             consumer,

@@ -67,7 +67,8 @@ returns-in-Ended-clause-marks g c = λ p e.
 pub returns-in-Ended-clause-ends : goal.returns-in-Ended-clause-ends
 returns-in-Ended-clause-ends g c =
     let there : c.poll-poll.result ≢ poll.NoLane = λ z. (let far = c.poll-poll.ensures.no_lane.0 z in omega (arith, far, c.requires.few.0)) in
-    let one = one_end_by c.args.lane c.args.budget c.poll-poll.result _ _ c.args.consumer.now c.poll-poll.new.self (c.poll-poll.ensures.polled there) in
+    let one = one_end_by c.args.lane c.args.budget c.poll-poll.result _ _ c.args.consumer.now c.poll-poll.new.self (c.poll-poll.ensures.polled there)
+    c.in-Ended.is in
     let more = ap count_marks c.mark.ensures ∙ marks_more c.args.ended.now c.args.lane c.requires.unmarked in
     omega (arith, one, more)
 

@@ -2,7 +2,7 @@ use Rattle.std.proofs.Common.{⊎_elim, inl, inr, rules, ◌≡◌, ◌∙◌, B
 use Rattle.mb_mailbox.proofs.Loops.{budget_more}
 use Rattle.mb_mailbox.proofs.EndsMet.{none_met}
 use Rattle.mb_mailbox.proofs.Looks.{none_on}
-use Rattle.mb_mailbox.proofs.Marks.{clear, marks_fewer, within}
+use Rattle.mb_mailbox.proofs.Marks.{clear, marks_all, marks_fewer, within}
 use Rattle.mb_mailbox.proofs.working.workers.poll_lanes.Goals as goal
 use Rattle.mb_mailbox.proofs.working.workers.poll_lanes.Goals.{else-loop-call-test, then-loop-call-test+in-Some+else-not-load+then-not-enter}
 
@@ -17,7 +17,7 @@ loop-call-init g c = record {
   read = λ p e. absurd (clear sixteen p (tt {0}) e);
   only = none_on c.args.lanes.from c.args.lanes.end c.args.job.consumer;
   marks = λ p e. absurd (clear sixteen p (tt {0}) e);
-  ends = λ none. let zero = none_met c.args.job.consumer none in omega (arith, zero);
+  ends = λ none. none_met c.args.job.consumer none;
   made = omega arith;
   most = omega arith;
 }
@@ -54,6 +54,11 @@ returns-in_default g c = record {
   same = c.loop-call.invariant.same;
   read = λ f p low high. c.loop-call.invariant.read p
       (within c.loop-call.ended p (omega (arith, high, c.args.lanes.few, c.loop-call-test.array_long)) (c.in_default.ensures.none p low high));
+  ends = λ f none.
+      let met = c.loop-call.invariant.ends none in
+      let all = marks_all c.loop-call.ended c.args.lanes.from c.args.lanes.end c.loop-call.invariant.marks
+      (λ p low high. within c.loop-call.ended p (omega (arith, high, c.args.lanes.few, c.loop-call-test.array_long)) (c.in_default.ensures.none p low high)) in
+      omega (arith, met, all);
   stop = λ t o none. absurd (cc);
   unread = λ t o none. absurd (cc);
   only = λ o. c.loop-call.invariant.only;
@@ -64,6 +69,11 @@ returns-in-None g c = record {
   same = c.loop-call.invariant.same;
   read = λ f p low high. c.loop-call.invariant.read p
       (within c.loop-call.ended p (omega (arith, high, c.args.lanes.few, c.loop-call-test.array_long)) (c.in-None.ensures.none p low high));
+  ends = λ f none.
+      let met = c.loop-call.invariant.ends none in
+      let all = marks_all c.loop-call.ended c.args.lanes.from c.args.lanes.end c.loop-call.invariant.marks
+      (λ p low high. within c.loop-call.ended p (omega (arith, high, c.args.lanes.few, c.loop-call-test.array_long)) (c.in-None.ensures.none p low high)) in
+      omega (arith, met, all);
   stop = λ t o none. absurd (cc);
   unread = λ t o none. absurd (cc);
   only = λ o. c.loop-call.invariant.only;
@@ -76,6 +86,7 @@ returns g c =
     record {
       same = i.same;
       read = λ f. absurd (cc);
+      ends = λ f none. absurd (cc);
       stop = λ t o none. record {
         call = c.loop-call.call;
         first = omega (arith, c.loop-call.auto.call);

@@ -11,7 +11,7 @@ invariant-loop-call g l = record {
   read : HasReadMarked l.ended l.consumer;
   only : accesses_made l.fn.job.consumer ≡ 0 → IsOnLanes l.from l.end l.consumer.reader.part;
   marks : (p : ℕ) → slice_index_or l.ended p false ≡ true → (l.from ≤ p) × (p < l.end);
-  ends : accesses_made l.fn.job.consumer ≡ 0 → ends_met l.consumer.reader.part ≤ count_marks l.ended;
+  ends : accesses_made l.fn.job.consumer ≡ 0 → ends_met l.consumer.reader.part ≡ count_marks l.ended;
   made : l.call ≤ suc (accesses_made l.consumer);
   most : accesses_made l.consumer ≤ accesses_made l.fn.job.consumer + l.budget * (l.call - 1);
 }
