@@ -35,6 +35,9 @@ IsRunOver words found left output errors end = IsProgramRun words plain plain pl
 abbrev pub ratify_words : List Text
 ratify_words = codes "mailbox" ∷ codes "ratify" ∷ []
 
+abbrev pub help_words : List Text
+help_words = codes "mailbox" ∷ codes "--help" ∷ []
+
 -- with a word that no command takes
 abbrev pub ratify_now : List Text
 ratify_now = codes "mailbox" ∷ codes "ratify" ∷ codes "now" ∷ []

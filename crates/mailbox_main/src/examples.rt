@@ -20,7 +20,7 @@ ghost use Rattle.mailbox_main.specs.RunOptions.{HasBudget, HasToldOptions};
 ghost use Rattle.mailbox_main.specs.Running.{AreOwnReaders, HasNotedAll, IsLaneOf, IsRunReport};
 ghost use Rattle.mailbox_main.specs.Running.{items_of, setup_refused};
 ghost use Rattle.mailbox_main.specs.RunExamples.{IsRunOver, nobody_script, nothing_done, one_item};
-ghost use Rattle.mailbox_main.specs.RunExamples.{ratify_now, ratify_words, report_with};
+ghost use Rattle.mailbox_main.specs.RunExamples.{help_words, ratify_now, ratify_words, report_with};
 ghost use Rattle.mailbox_main.specs.declared.fault.Failed.TheVariants as failed;
 ghost use Rattle.mailbox_main.specs.declared.outcome.Ending.TheVariants as ending;
 ghost use Rattle.mb_world.specs.declared.report.Note.TheVariants.{Took, Undecided};
@@ -126,7 +126,7 @@ pub fn consumers_note_all_items()
         → length x.histories.pool + length x.histories.claims < 2 ^ 64 - 2 → ⊥ }
 {}
 
-/// What the program does with its words: a script of no process, one with a fault, and words that clap refuses.
+/// What the program does with its words: a script of no process, one with a fault, words that clap refuses, and help.
 pub fn runs_do_what_the_words_ask()
     ensures done { IsRunOver ratify_words nobody_script [] [] [] ending.Done }
     ensures done_and_told { IsRunOver ratify_words nobody_script [] [] (codes "x") ending.Done → ⊥ }
@@ -141,5 +141,7 @@ pub fn runs_do_what_the_words_ask()
     ensures refused_on_the_output { IsRunOver (codes "mailbox" ∷ []) [] [] (codes "usage") []
         (ending.Refused MissingSubcommand true) → ⊥ }
     ensures refused_and_done { IsRunOver ratify_now nobody_script [] [] [] ending.Done → ⊥ }
+    ensures help { IsRunOver help_words (codes "a") (codes "a") (codes "help") [] (ending.Refused DisplayHelp true) }
+    ensures help_on_the_errors { IsRunOver help_words [] [] [] (codes "help") (ending.Refused DisplayHelp true) → ⊥ }
     ensures help_not_asked { IsRunOver ratify_now [] [] (codes "help") [] (ending.Refused DisplayHelp true) → ⊥ }
 {}

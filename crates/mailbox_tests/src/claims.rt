@@ -71,15 +71,19 @@ fn layouts_out_of_range(rt: HostRuntime) {
 fn two_consumers_and_three_pairs(rt: HostRuntime) -> Result<(), Fail> {
     let layout = Layout::new(2, 3, TableName::Bits)?;
     assert_eq!(rt; layout.consumers(), 2);
+    // A conciliator has one word, a ratifier its proposal and two registers: four a pair, and twelve a cell.
     assert_eq!(rt; layout.words(1), 12);
     assert_eq!(rt; layout.words(2), 24);
+    // Behind two cells, the objects 0 to 2 with 1, 3 and 1 words, the proposal and register 0.
     assert_eq!(rt; layout.address(2, 3, Reg::Quorum(1)), 31);
+    // Three pairs, each a conciliator of 2 + 3 accesses at most and a ratifier of 1 + 2 + 1.
     assert_eq!(rt; layout.max_steps(), 27);
     Ok(())
 }
 
 #[test]
 fn most_accesses_of_sixteen_consumers(rt: HostRuntime) -> Result<(), Fail> {
+    // Eight pairs, each a conciliator of 5 + 3 accesses at most and a ratifier of 4 + 2 + 4, or over the unary table 1 + 2 + 15.
     assert_eq!(rt; Layout::new(16, 8, TableName::Bits)?.max_steps(), 144);
     assert_eq!(rt; Layout::new(16, 8, TableName::Unary)?.max_steps(), 208);
     Ok(())
@@ -188,6 +192,7 @@ fn two_thousand_steps_of_sixteen_consumers(rt: HostRuntime) -> Result<(), Fail> 
     let mut stages = [Stage::Lost(15); 16];
     stages[15] = Stage::Won;
     assert_eq!(rt; run.stages.as_slice(), stages.as_slice());
-    are_done_from(&rt, run.entries.as_slice(), 208);
+    // Each makes 3 accesses to the conciliator, and 4 + 1 + 1 + 4 to the ratifier.
+    are_done_from(&rt, run.entries.as_slice(), 16 * 13);
     Ok(())
 }

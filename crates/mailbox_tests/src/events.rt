@@ -1,4 +1,4 @@
-//! Worlds: what their events answer, and what is reported then.
+//! Worlds: what their events answer, and what is reported then. The worked scripts are examples of the program.
 
 use crate::answers::{
     cell, finish, found, item, link, loads, make, offer, push, step, stores, took,
@@ -14,7 +14,7 @@ use std::process::Abort;
 use std::test::Fail;
 
 /// An item is put into the first lane and taken by the only consumer.
-fn take_seven() -> [(Event, Answer); 10] {
+pub(crate) fn take_seven() -> [(Event, Answer); 10] {
     [
         (offer(0, 7), cell(0)),
         (push(0), item(0)),
@@ -27,111 +27,6 @@ fn take_seven() -> [(Event, Answer); 10] {
         (step(0, 0), stores(0, 1, Reg::Proposal, 1, Stage::Won)),
         (step(0, 0), took(0, 7)),
     ]
-}
-
-#[test]
-fn one_consumer_takes_an_item(rt: HostRuntime) -> Result<(), Fail> {
-    let mut world = one_pair(&rt, 1, 1, 1)?;
-    make(&rt, &mut world, &take_seven());
-    tells(
-        &rt,
-        &world.report(rt.alloc())?,
-        &[(&[7], false, &[])],
-        &[(0, 0, &[Note::Took(7)], false)],
-    );
-    Ok(())
-}
-
-#[test]
-fn a_lone_consumer_sets_a_register_of_the_unary_table(rt: HostRuntime) -> Result<(), Fail> {
-    let mut world = World::new(rt.alloc(), Setup::new(1, 1, 1, 1, TableName::Unary)?)?;
-    let events = [
-        (offer(0, 7), cell(0)),
-        (push(0), item(0)),
-        (push(0), link(0)),
-        (step(0, 0), found(0)),
-        (step(0, 0), loads(0, 0, Reg::Value, 0, Stage::Going)),
-        (step(0, 0), stores(0, 0, Reg::Value, 1, Stage::Going)),
-        (step(0, 0), loads(0, 0, Reg::Value, 1, Stage::Going)),
-        (step(0, 0), stores(0, 1, Reg::Quorum(0), 1, Stage::Going)),
-        (step(0, 0), loads(0, 1, Reg::Proposal, 0, Stage::Going)),
-        (step(0, 0), stores(0, 1, Reg::Proposal, 1, Stage::Won)),
-        (step(0, 0), took(0, 7)),
-    ];
-    make(&rt, &mut world, &events);
-    tells(
-        &rt,
-        &world.report(rt.alloc())?,
-        &[(&[7], false, &[])],
-        &[(0, 0, &[Note::Took(7)], false)],
-    );
-    Ok(())
-}
-
-#[test]
-fn no_cell_is_left(rt: HostRuntime) -> Result<(), Fail> {
-    let mut world = one_pair(&rt, 1, 1, 0)?;
-    let events = [
-        (offer(0, 5), Answer::Offered(Offer::Full)),
-        (offer(0, 5), Answer::Offered(Offer::Full)),
-        (finish(0), Answer::Finished(Finish::Ended)),
-        (step(0, 0), Answer::Looked(Look::Ended)),
-    ];
-    make(&rt, &mut world, &events);
-    tells(
-        &rt,
-        &world.report(rt.alloc())?,
-        &[(&[], true, &[])],
-        &[(0, 0, &[], false)],
-    );
-    Ok(())
-}
-
-#[test]
-fn two_lanes_draw_from_one_pool(rt: HostRuntime) -> Result<(), Fail> {
-    let mut world = one_pair(&rt, 2, 1, 4)?;
-    let events = [
-        (offer(0, 10), cell(0)),
-        (push(0), item(0)),
-        (push(0), link(0)),
-        (offer(1, 20), cell(1)),
-        (push(1), item(1)),
-        (push(1), link(1)),
-        (offer(0, 11), cell(2)),
-        (push(0), item(2)),
-        (push(0), link(2)),
-        (offer(1, 21), cell(3)),
-        (push(1), item(3)),
-        (push(1), link(3)),
-    ];
-    make(&rt, &mut world, &events);
-    tells(
-        &rt,
-        &world.report(rt.alloc())?,
-        &[(&[10, 11], false, &[10, 11]), (&[20, 21], false, &[20, 21])],
-        &[(0, 0, &[], false), (0, 1, &[], false)],
-    );
-    Ok(())
-}
-
-#[test]
-fn nothing_is_found_before_the_link(rt: HostRuntime) -> Result<(), Fail> {
-    let mut world = one_pair(&rt, 1, 1, 1)?;
-    let events = [
-        (offer(0, 9), cell(0)),
-        (push(0), item(0)),
-        (step(0, 0), Answer::Looked(Look::Nothing)),
-        (push(0), link(0)),
-        (step(0, 0), found(0)),
-    ];
-    make(&rt, &mut world, &events);
-    tells(
-        &rt,
-        &world.report(rt.alloc())?,
-        &[(&[9], false, &[9])],
-        &[(0, 0, &[], false)],
-    );
-    Ok(())
 }
 
 /// Consumer 0 has won the item 5 and not loaded it, and consumer 1 has lost it.
@@ -154,134 +49,6 @@ fn lose_five() -> [(Event, Answer); 16] {
         (step(1, 0), loads(0, 1, Reg::Proposal, 1, Stage::Going)),
         (step(1, 0), loads(0, 1, Reg::Quorum(1), 0, Stage::Lost(0))),
     ]
-}
-
-#[test]
-fn one_wins_and_the_other_loses(rt: HostRuntime) -> Result<(), Fail> {
-    let mut world = one_pair(&rt, 1, 2, 1)?;
-    make(&rt, &mut world, &lose_five());
-    tells(
-        &rt,
-        &world.report(rt.alloc())?,
-        &[(&[5], false, &[5])],
-        &[(0, 0, &[], true), (1, 0, &[Note::Lost(0)], false)],
-    );
-    make(&rt, &mut world, &[(step(0, 0), took(0, 5))]);
-    tells(
-        &rt,
-        &world.report(rt.alloc())?,
-        &[(&[5], false, &[])],
-        &[
-            (0, 0, &[Note::Took(5)], false),
-            (1, 0, &[Note::Lost(0)], false),
-        ],
-    );
-    Ok(())
-}
-
-#[test]
-fn both_stay_undecided(rt: HostRuntime) -> Result<(), Fail> {
-    let mut world = one_pair(&rt, 1, 2, 1)?;
-    let events = [
-        (offer(0, 5), cell(0)),
-        (push(0), item(0)),
-        (push(0), link(0)),
-        (step(0, 0), found(0)),
-        (step(1, 0), found(0)),
-        (step(0, 0), loads(0, 0, Reg::Value, 0, Stage::Going)),
-        (step(1, 0), loads(0, 0, Reg::Value, 0, Stage::Going)),
-        (step(0, 0), stores(0, 0, Reg::Value, 1, Stage::Going)),
-        (step(0, 0), loads(0, 0, Reg::Value, 1, Stage::Going)),
-        (step(1, 0), stores(0, 0, Reg::Value, 2, Stage::Going)),
-        (step(1, 0), loads(0, 0, Reg::Value, 2, Stage::Going)),
-        (step(0, 0), stores(0, 1, Reg::Quorum(0), 1, Stage::Going)),
-        (step(1, 0), stores(0, 1, Reg::Quorum(1), 1, Stage::Going)),
-        (step(0, 0), loads(0, 1, Reg::Proposal, 0, Stage::Going)),
-        (step(1, 0), loads(0, 1, Reg::Proposal, 0, Stage::Going)),
-        (step(0, 0), stores(0, 1, Reg::Proposal, 1, Stage::Going)),
-        (step(0, 0), loads(0, 1, Reg::Quorum(1), 1, Stage::Undecided)),
-        (step(1, 0), stores(0, 1, Reg::Proposal, 2, Stage::Going)),
-        (step(1, 0), loads(0, 1, Reg::Quorum(0), 1, Stage::Undecided)),
-    ];
-    make(&rt, &mut world, &events);
-    tells(
-        &rt,
-        &world.report(rt.alloc())?,
-        &[(&[5], false, &[5])],
-        &[
-            (0, 0, &[Note::Undecided], false),
-            (1, 0, &[Note::Undecided], false),
-        ],
-    );
-    Ok(())
-}
-
-#[test]
-fn the_greatest_item_is_taken(rt: HostRuntime) -> Result<(), Fail> {
-    let mut world = one_pair(&rt, 1, 1, 2)?;
-    let events = [
-        (offer(0, 18446744073709551615), cell(0)),
-        (push(0), item(0)),
-        (push(0), link(0)),
-        (offer(0, 0), cell(1)),
-        (push(0), item(1)),
-        (push(0), link(1)),
-        (finish(0), Answer::Finished(Finish::Ended)),
-        (step(0, 0), found(0)),
-        (step(0, 0), loads(0, 0, Reg::Value, 0, Stage::Going)),
-        (step(0, 0), stores(0, 0, Reg::Value, 1, Stage::Going)),
-        (step(0, 0), loads(0, 0, Reg::Value, 1, Stage::Going)),
-        (step(0, 0), loads(0, 1, Reg::Proposal, 0, Stage::Going)),
-        (step(0, 0), stores(0, 1, Reg::Proposal, 1, Stage::Won)),
-        (step(0, 0), took(0, 18446744073709551615)),
-        (step(0, 0), found(1)),
-        (step(0, 0), loads(1, 0, Reg::Value, 0, Stage::Going)),
-        (step(0, 0), stores(1, 0, Reg::Value, 1, Stage::Going)),
-        (step(0, 0), loads(1, 0, Reg::Value, 1, Stage::Going)),
-        (step(0, 0), loads(1, 1, Reg::Proposal, 0, Stage::Going)),
-        (step(0, 0), stores(1, 1, Reg::Proposal, 1, Stage::Won)),
-        (step(0, 0), took(1, 0)),
-        (step(0, 0), Answer::Looked(Look::Ended)),
-    ];
-    make(&rt, &mut world, &events);
-    tells(
-        &rt,
-        &world.report(rt.alloc())?,
-        &[(&[18446744073709551615, 0], true, &[])],
-        &[(
-            0,
-            0,
-            &[Note::Took(18446744073709551615), Note::Took(0)],
-            false,
-        )],
-    );
-    Ok(())
-}
-
-#[test]
-fn a_lane_refuses_in_order(rt: HostRuntime) -> Result<(), Fail> {
-    let mut world = one_pair(&rt, 1, 1, 1)?;
-    let events = [
-        (offer(0, 3), cell(0)),
-        (finish(0), Answer::Finished(Finish::Busy)),
-        (offer(0, 4), Answer::Offered(Offer::Busy)),
-        (push(0), item(0)),
-        (finish(0), Answer::Finished(Finish::Busy)),
-        (push(0), link(0)),
-        (push(0), Answer::Pushed(Push::Idle)),
-        (finish(0), Answer::Finished(Finish::Ended)),
-        (offer(0, 4), Answer::Offered(Offer::Closed)),
-        (finish(0), Answer::Finished(Finish::Closed)),
-        (push(0), Answer::Pushed(Push::Idle)),
-    ];
-    make(&rt, &mut world, &events);
-    tells(
-        &rt,
-        &world.report(rt.alloc())?,
-        &[(&[3], true, &[3])],
-        &[(0, 0, &[], false)],
-    );
-    Ok(())
 }
 
 #[test]

@@ -1,11 +1,12 @@
-//! Workers run at one time: a gate at which all of them wait for the others.
+//! What a gate is asked: that workers run at one time, come with their calls in order, and poll the lanes in turn.
 
 use crate::trial::Trial;
+use crate::trials::{ends, new_trial};
 use crate::workers::{ALL_DONE, works};
 use mailbox_audit::audit;
-use mb_mailbox::{Gate, Who};
+use mb_mailbox::{Gate, Who, Worked};
 use mb_quorum::TableName;
-use mb_world::Setup;
+use mb_world::{Note, Setup};
 use std::process::Abort;
 use std::sync::Wait;
 use std::sync::atomic::{AtomicU64, Ordering};
@@ -69,6 +70,8 @@ fn come_to_the_gate<R: Abort + AllocGlobal + Threads + Wait + Sync>(
     };
     let tally = audit(&report)?;
     assert_eq!(rt; tally.put, 4);
+    // Alone a consumer always decides, and takes each item.
+    assert!(rt; consumers != 1 || tally.took == 4);
     Ok(())
 }
 
@@ -78,4 +81,112 @@ fn all_workers_come_to_the_gate_at_one_time(rt: HostRuntime) -> Result<(), Fail>
     come_to_the_gate(&rt, 2)?;
     come_to_the_gate(&rt, 4)?;
     come_to_the_gate(&rt, 16)
+}
+
+/// A gate that lets each call in, and looks whether a worker's calls come as 1, 2 and so on, each told before the next.
+#[derive(Drop)]
+struct Record {
+    /// How often it was asked or told by each of two producers and two consumers.
+    times: [AtomicU64; 4],
+    /// How often that was out of turn.
+    flaws: AtomicU64,
+}
+
+impl Record {
+    /// Counts that it is asked or told by this worker, which is to be the next after so many times.
+    fn note(&self, who: Who, times: u64) {
+        let place = match who {
+            Who::Producer(lane) => lane as usize,
+            Who::Consumer(consumer) => (consumer as usize).wrapping_add(2),
+        };
+        let is_next = match self.times.get(place) {
+            Some(worker) => worker.fetch_add(1, Ordering::SeqCst) == times,
+            None => false,
+        };
+        if !is_next {
+            self.flaws.fetch_add(1, Ordering::SeqCst);
+        }
+    }
+}
+
+impl Gate for Record {
+    fn enter(&self, who: Who, call: u64) -> bool {
+        self.note(who, call.wrapping_sub(1).wrapping_mul(2));
+        true
+    }
+
+    fn leave(&self, who: Who, call: u64) {
+        self.note(who, call.wrapping_mul(2).wrapping_sub(1));
+    }
+}
+
+#[test]
+fn a_gate_is_asked_before_each_call_and_told_after_it(rt: HostRuntime) -> Result<(), Fail> {
+    let mut trial = new_trial(rt.alloc(), 2, 2, 5)?;
+    let gate = Record {
+        times: [0; 4].map(AtomicU64::new),
+        flaws: AtomicU64::new(0),
+    };
+    let worked = works(&rt, &mut trial, &[&[1, 2], &[3, 4, 5]], 5, 2, &gate)?;
+    assert_eq!(rt; worked, Ok(ALL_DONE));
+    assert_eq!(rt; gate.flaws.load(Ordering::SeqCst), 0);
+    // One call for each item.
+    assert_eq!(rt; gate.times[0].load(Ordering::SeqCst), 4);
+    assert_eq!(rt; gate.times[1].load(Ordering::SeqCst), 6);
+    // At least one for each item and each end, and each was told.
+    for consumer in 2..4 {
+        let times = gate.times[consumer].load(Ordering::SeqCst);
+        assert!(rt; 14 <= times && times % 2 == 0);
+    }
+    Ok(())
+}
+
+/// A gate that lets a consumer in once four puts were made, or not at all after `TURNS` looks, and for three calls.
+#[derive(Drop)]
+struct ThreeCalls {
+    made: AtomicU64,
+}
+
+impl Gate for ThreeCalls {
+    fn enter(&self, who: Who, call: u64) -> bool {
+        if let Who::Producer(_) = who {
+            return true;
+        }
+        for _ in 0..TURNS {
+            if 4 <= self.made.load(Ordering::SeqCst) {
+                return call <= 3;
+            }
+        }
+        false
+    }
+
+    fn leave(&self, who: Who, _call: u64) {
+        if let Who::Producer(_) = who {
+            self.made.fetch_add(1, Ordering::SeqCst);
+        }
+    }
+}
+
+#[test]
+fn lanes_are_polled_in_turn(rt: HostRuntime) -> Result<(), Fail> {
+    let mut trial = new_trial(rt.alloc(), 2, 1, 4)?;
+    let gate = ThreeCalls {
+        made: AtomicU64::new(0),
+    };
+    let worked = works(&rt, &mut trial, &[&[10, 11], &[20, 21]], 100, 1, &gate)?;
+    let one_stopped = Worked {
+        full: 0,
+        stopped: 1,
+    };
+    assert_eq!(rt; worked, Ok(one_stopped));
+    ends(
+        &rt,
+        rt.alloc(),
+        trial,
+        &[(&[10, 11], true, &[]), (&[20, 21], true, &[21])],
+        &[
+            (0, 0, &[Note::Took(10), Note::Took(11)], false),
+            (0, 1, &[Note::Took(20)], false),
+        ],
+    )
 }

@@ -5,6 +5,7 @@ use crate::trials::{all_given, ends, new_trial};
 use crate::words::words_0;
 use mb_cells::Finish;
 use mb_mailbox::{GatherFault, HubFault, Poll, Put};
+use mb_script::report_text;
 use mb_world::Note;
 use rand_core::Rng;
 use std::alloc::{Allocator, Global};
@@ -106,13 +107,16 @@ fn a_later_consumer_loses_to_one_that_went_away(rt: HostRuntime) -> Result<(), F
         return Err(Fail::new("a consumer is out"));
     };
     assert_eq!(rt; fault, GatherFault::Missing(0, 1));
-    ends(
-        &rt,
-        rt.alloc(),
-        trial,
-        &[(&[5], false, &[5])],
-        &[(0, 0, &[], true), (1, 0, &[Note::Lost(0)], false)],
-    )
+    let mut trial = trial;
+    trial.take_consumer(0);
+    let Ok(report) = trial.gather(rt.alloc()) else {
+        return Err(Fail::new("no report"));
+    };
+    assert_eq!(rt;
+        report_text(rt.alloc(), &report)?.as_str(),
+        "lane 0 open put 5\nleft 0 5\ndiary 0 0 begun\ndiary 1 0 lost 0\n"
+    );
+    Ok(())
 }
 
 #[test]

@@ -16,6 +16,28 @@ use std::test::Fail;
 /// A heap that serves every call of these tests.
 const PLENTY: usize = 1 << 16;
 
+/// The only item is put and taken.
+fn put_and_take(rt: &impl Abort, trial: &mut Trial<&LocalHeap>) {
+    assert_eq!(rt; trial.put(0, 7), Some(Put::Linked));
+    assert_eq!(rt; trial.poll(0, 0, 100, &mut words_0()), Some(Poll::Took(7)));
+}
+
+/// The same, and the report tells it.
+fn takes_seven<'a>(
+    rt: &impl Abort,
+    plenty: &'a LocalHeap,
+    mut trial: Trial<&'a LocalHeap>,
+) -> Result<(), Fail> {
+    put_and_take(rt, &mut trial);
+    ends(
+        rt,
+        plenty,
+        trial,
+        &[(&[7], false, &[])],
+        &[(0, 0, &[Note::Took(7)], false)],
+    )
+}
+
 /// Whether the heap serves a new mailbox, in which an item is then put and taken.
 fn new_is_served<'a>(
     rt: &impl Abort,
@@ -28,15 +50,7 @@ fn new_is_served<'a>(
     };
     trial.producer(plenty)?;
     trial.consumer(plenty)?;
-    assert_eq!(rt; trial.put(0, 7), Some(Put::Linked));
-    assert_eq!(rt; trial.poll(0, 0, 100, &mut words_0()), Some(Poll::Took(7)));
-    ends(
-        rt,
-        plenty,
-        trial,
-        &[(&[7], false, &[])],
-        &[(0, 0, &[Note::Took(7)], false)],
-    )?;
+    takes_seven(rt, plenty, trial)?;
     Ok(true)
 }
 
@@ -80,24 +94,18 @@ fn next_consumer<'a>(
     Ok(false)
 }
 
-/// Whether the heap serves a producer. A refusal uses no number up: the next is still 0, and one is left.
+/// Whether the heap serves the only producer, of four cells, since the smallest heap serves a list of one item. A refusal
+/// uses no number up: it is given then, and after it none.
 fn producer_is_served<'a>(
     rt: &impl Abort,
     heap: &'a LocalHeap,
     plenty: &'a LocalHeap,
 ) -> Result<bool, Fail> {
-    let mut trial = new_trial(plenty, 2, 1, 4)?;
+    let mut trial = new_trial(plenty, 1, 1, 4)?;
     let served = next_producer(rt, &mut trial, heap, plenty)?;
-    trial.producer(plenty)?;
     assert_eq!(rt; trial.producer(plenty), Err(HubFault::AllGiven));
-    assert_eq!(rt; trial.put(0, 7), Some(Put::Linked));
-    ends(
-        rt,
-        plenty,
-        trial,
-        &[(&[7], false, &[7]), (&[], false, &[])],
-        &[(0, 0, &[], false), (0, 1, &[], false)],
-    )?;
+    trial.consumer(plenty)?;
+    takes_seven(rt, plenty, trial)?;
     Ok(served)
 }
 
@@ -111,39 +119,17 @@ fn each_growth_of_a_producer_refused(rt: HostRuntime) -> Result<(), Fail> {
     Ok(())
 }
 
-/// The only item is put, taken by consumer 0 and lost by consumer 1.
-fn first_takes<'a>(
-    rt: &impl Abort,
-    plenty: &'a LocalHeap,
-    mut trial: Trial<&'a LocalHeap>,
-) -> Result<(), Fail> {
-    assert_eq!(rt; trial.put(0, 7), Some(Put::Linked));
-    assert_eq!(rt; trial.poll(0, 0, 100, &mut words_0()), Some(Poll::Took(7)));
-    assert_eq!(rt; trial.poll(1, 0, 100, &mut words_0()), Some(Poll::Lost(0)));
-    ends(
-        rt,
-        plenty,
-        trial,
-        &[(&[7], false, &[])],
-        &[
-            (0, 0, &[Note::Took(7)], false),
-            (1, 0, &[Note::Lost(0)], false),
-        ],
-    )
-}
-
-/// Whether the heap serves a consumer. A refusal uses no number up: the next is still 0, and one is left.
+/// Whether the heap serves the only consumer, in the same way.
 fn consumer_is_served<'a>(
     rt: &impl Abort,
     heap: &'a LocalHeap,
     plenty: &'a LocalHeap,
 ) -> Result<bool, Fail> {
-    let mut trial = new_trial(plenty, 1, 2, 1)?;
+    let mut trial = new_trial(plenty, 1, 1, 1)?;
     trial.producer(plenty)?;
     let served = next_consumer(rt, &mut trial, heap, plenty)?;
-    trial.consumer(plenty)?;
     assert_eq!(rt; trial.consumer(plenty), Err(HubFault::AllGiven));
-    first_takes(rt, plenty, trial)?;
+    takes_seven(rt, plenty, trial)?;
     Ok(served)
 }
 
@@ -155,6 +141,24 @@ fn each_growth_of_a_consumer_refused(rt: HostRuntime) -> Result<(), Fail> {
     assert!(rt; 2 <= refused);
     assert_eq!(rt; plenty.used(), 0);
     Ok(())
+}
+
+/// One item was put and taken, and both are taken in.
+fn seven_taken<'a>(rt: &impl Abort, heap: &'a LocalHeap) -> Result<Trial<&'a LocalHeap>, Fail> {
+    let mut trial = all_given(heap, 1, 1, 1)?;
+    put_and_take(rt, &mut trial);
+    take_all(&mut trial);
+    Ok(trial)
+}
+
+/// The report of that.
+fn tells_seven(rt: &impl Abort, report: &Report<&LocalHeap>) {
+    tells(
+        rt,
+        report,
+        &[(&[7], false, &[])],
+        &[(0, 0, &[Note::Took(7)], false)],
+    );
 }
 
 /// Two lanes and two consumers, all taken in: consumer 0 has taken the item of lane 0, which consumer 1 has lost, and
@@ -186,24 +190,21 @@ fn tells_two_lanes(rt: &impl Abort, report: &Report<&LocalHeap>) {
     );
 }
 
-/// Whether the heap serves the report. Where it does not, another one serves the same report.
-fn gather_is_served<'a>(
+/// The report that the heap serves, with `true`; where it refuses, both values come back, and another heap serves it.
+fn gather_twice<'a>(
     rt: &impl Abort,
+    trial: Trial<&'a LocalHeap>,
     heap: &'a LocalHeap,
     plenty: &'a LocalHeap,
-) -> Result<bool, Fail> {
-    match two_lanes(rt, plenty)?.gather(heap) {
-        Ok(report) => {
-            tells_two_lanes(rt, &report);
-            Ok(true)
-        }
+) -> Result<(Report<&'a LocalHeap>, bool), Fail> {
+    match trial.gather(heap) {
+        Ok(report) => Ok((report, true)),
         Err((fault, trial)) => {
             assert_eq!(rt; fault, GatherFault::NoMemory);
             let Ok(report) = trial.gather(plenty) else {
                 return Err(Fail::new("no report"));
             };
-            tells_two_lanes(rt, &report);
-            Ok(false)
+            Ok((report, false))
         }
     }
 }
@@ -211,7 +212,18 @@ fn gather_is_served<'a>(
 #[test]
 fn each_growth_of_gather_refused(rt: HostRuntime) -> Result<(), Fail> {
     let plenty = LocalHeap::new(rt.alloc(), PLENTY)?;
-    let refused = refusals(&rt, |heap| gather_is_served(&rt, heap, &plenty))?;
+    let refused = refusals(&rt, |heap| {
+        let (report, served) = gather_twice(&rt, seven_taken(&rt, &plenty)?, heap, &plenty)?;
+        tells_seven(&rt, &report);
+        Ok(served)
+    })?;
+    // The lane and its item, the diary and its note.
+    assert!(rt; 4 <= refused);
+    let refused = refusals(&rt, |heap| {
+        let (report, served) = gather_twice(&rt, two_lanes(&rt, &plenty)?, heap, &plenty)?;
+        tells_two_lanes(&rt, &report);
+        Ok(served)
+    })?;
     // The lanes, the items of each and the item left; the diaries, and the notes of two.
     assert!(rt; 7 <= refused);
     assert_eq!(rt; plenty.used(), 0);

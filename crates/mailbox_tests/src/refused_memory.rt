@@ -3,12 +3,15 @@
 use crate::answers::make;
 use crate::claims::{WON_AND_LOST, won_and_lost};
 use crate::entries::{last_turn, late_input};
-use crate::events::{share_two, tells_two};
+use crate::events::take_seven;
 use crate::heaps::refusals;
+use crate::worlds::tells;
+use linked_list_allocator::LocalHeap;
 use mb_claim::{Layout, PlayFault, Stage, play};
 use mb_deciding::{Fault, conciliate, ratify};
 use mb_quorum::TableName;
-use mb_world::{Setup, World};
+use mb_world::{Note, Report, Setup, World};
+use std::process::Abort;
 use std::test::Fail;
 
 #[test]
@@ -73,24 +76,39 @@ fn each_growth_of_play_refused(rt: HostRuntime) -> Result<(), Fail> {
     Ok(())
 }
 
+/// The only item was taken by the only consumer.
+fn tells_seven(rt: &impl Abort, report: &Report<&LocalHeap>) {
+    tells(
+        rt,
+        report,
+        &[(&[7], false, &[])],
+        &[(0, 0, &[Note::Took(7)], false)],
+    );
+}
+
 #[test]
 fn each_growth_of_a_world_and_its_report_refused(rt: HostRuntime) -> Result<(), Fail> {
+    let plenty = LocalHeap::new(rt.alloc(), 1 << 16)?;
     let refused = refusals(&rt, |heap| {
-        let setup = Setup::new(2, 2, 2, 1, TableName::Bits)?;
+        let setup = Setup::new(1, 1, 1, 1, TableName::Bits)?;
         let Ok(mut world) = World::new(heap, setup) else {
             return Ok(false);
         };
-        make(&rt, &mut world, &share_two());
+        make(&rt, &mut world, &take_seven());
         match world.report(heap) {
             Ok(report) => {
-                tells_two(&rt, &report);
+                tells_seven(&rt, &report);
                 Ok(true)
             }
-            Err(_) => Ok(false),
+            Err(_) => {
+                tells_seven(&rt, &world.report(&plenty)?);
+                Ok(false)
+            }
         }
     })?;
-    // The four lists of the pool, the words of the claims, the seats and the notes; then the lanes with the items of
-    // each, the diaries with the notes of three, and the cells of the lane that is read.
-    assert!(rt; 16 <= refused);
+    // The four lists of the pool, the words of the claims, the seats and the notes; then the lane and its item, the diary
+    // and its note, and the cells of the lane that is read.
+    assert!(rt; 12 <= refused);
+    assert_eq!(rt; plenty.used(), 0);
     Ok(())
 }

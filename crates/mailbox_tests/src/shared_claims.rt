@@ -153,10 +153,13 @@ fn claimed_by_sixteen<R: Threads + Sync, A: Allocator + Clone + Drop + Send + Sy
     Ok(map_vec(rt, seats, &claim)?)
 }
 
-#[test]
-fn numbers_and_ends(rt: HostRuntime) -> Result<(), Fail> {
+/// Whether the allocator serves a table of one cell for two consumers. Then both numbers are given, the first consumer wins
+/// the cell and the second loses it.
+fn one_wins<A: Allocator + Clone + Drop>(rt: &impl Abort, alloc: A) -> Result<bool, Fail> {
     let layout = Layout::new(2, 1, TableName::Bits)?;
-    let (table, mut hub) = SharedClaims::new(rt.alloc(), layout, 1)?;
+    let Ok((table, mut hub)) = SharedClaims::new(alloc, layout, 1) else {
+        return Ok(false);
+    };
     let mut a = table.enroll(&mut hub)?;
     let mut b = table.enroll(&mut hub)?;
     assert!(rt; matches!(table.enroll(&mut hub), Err(AllGiven)));
@@ -172,6 +175,12 @@ fn numbers_and_ends(rt: HostRuntime) -> Result<(), Fail> {
     table.take_in(&mut hub, a);
     assert_eq!(rt; (hub.given(), hub.out()), (2, 0));
     table.close(hub);
+    Ok(true)
+}
+
+#[test]
+fn numbers_and_ends(rt: HostRuntime) -> Result<(), Fail> {
+    assert!(rt; one_wins(&rt, rt.alloc())?);
     Ok(())
 }
 
@@ -240,24 +249,9 @@ fn sixteen_threads_claim_one_cell(rt: HostRuntime) -> Result<(), Fail> {
     Ok(())
 }
 
-/// Whether the allocator serves new claims, of which one is then won.
-fn new_is_served<A: Allocator + Clone + Drop>(rt: &impl Abort, alloc: A) -> Result<bool, Fail> {
-    let layout = Layout::new(2, 1, TableName::Bits)?;
-    let Ok((table, mut hub)) = SharedClaims::new(alloc, layout, 1) else {
-        return Ok(false);
-    };
-    let mut seat = table.enroll(&mut hub)?;
-    let mut claim = Claim::new(table.layout(), seat.consumer());
-    assert_eq!(rt; step_on(&table, &mut seat, &mut claim, 0, 7), 7);
-    assert_eq!(rt; claim.stage(), Stage::Won);
-    table.take_in(&mut hub, seat);
-    table.close(hub);
-    Ok(true)
-}
-
 #[test]
 fn each_growth_of_new_refused(rt: HostRuntime) -> Result<(), Fail> {
-    let refused = refusals(&rt, |heap| new_is_served(&rt, heap))?;
+    let refused = refusals(&rt, |heap| one_wins(&rt, heap))?;
     // The zeros, and the words.
     assert!(rt; 2 <= refused);
     Ok(())

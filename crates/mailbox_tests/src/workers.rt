@@ -128,7 +128,7 @@ fn no_numbers_are_left_for_more_workers(rt: HostRuntime) -> Result<(), Fail> {
     assert_eq!(rt; worked, Err(WorkFault::AllGiven));
     let worked = works(&rt, &mut trial, &[], 5, 1, &OpenGate)?;
     assert_eq!(rt; worked, Err(WorkFault::AllGiven));
-    // Nobody has nothing to do.
+    // Without lists and without sources there is nobody, and nothing to do.
     let worked = works(&rt, &mut trial, &[], 5, 0, &OpenGate)?;
     assert_eq!(rt; worked, Ok(ALL_DONE));
     ends(

@@ -129,7 +129,7 @@ fn options_are_refused(rt: HostRuntime) -> Result<(), Fail> {
 }
 
 #[test]
-fn the_command_line_is_read(rt: HostRuntime) -> Result<(), Fail> {
+fn commands_are_named(rt: HostRuntime) {
     let ratify = ["mailbox", "ratify"];
     assert!(rt;
         matches!(
@@ -144,6 +144,10 @@ fn the_command_line_is_read(rt: HostRuntime) -> Result<(), Fail> {
             Ok(Choice::Replay)
         )
     );
+}
+
+#[test]
+fn lines_are_refused(rt: HostRuntime) -> Result<(), Fail> {
     for (words, want, status) in [
         (["mailbox", "--help"].as_slice(), ErrorKind::DisplayHelp, 0),
         (
@@ -180,6 +184,11 @@ fn the_command_line_is_read(rt: HostRuntime) -> Result<(), Fail> {
             assert_eq!(rt; status_of_ending(&Ending::Refused { kind, printed }), want);
         }
     }
+    Ok(())
+}
+
+#[test]
+fn endings_have_a_status(rt: HostRuntime) {
     for (ending, status) in [
         (Ending::Done, 0),
         (Ending::Failed(Failed::Ratify(RatifyFault::BadLine(1))), 2),
@@ -201,5 +210,4 @@ fn the_command_line_is_read(rt: HostRuntime) -> Result<(), Fail> {
     ] {
         assert_eq!(rt; status_of_ending(&ending), status);
     }
-    Ok(())
 }

@@ -1,6 +1,6 @@
 //! Each growth of a call refused in turn: the call wants memory, keeps none and writes nothing, and is then served.
 
-use super::examples::claims::ONE_LOSES;
+use super::examples::claims::{ITEM_TAKEN, ONE_LOSES};
 use super::examples::ratifiers::LATE_INPUT;
 use super::examples::runs::TWO_ITEMS;
 use super::run::ALONE;
@@ -34,21 +34,23 @@ fn each_growth_of_ratify_text_refused(rt: HostRuntime) -> Result<(), Fail> {
 
 #[test]
 fn each_growth_of_run_refused(rt: HostRuntime) -> Result<(), Fail> {
-    let refused = growths_refused(&rt, |alloc| {
-        let mut reader = Counting::new(ONE_LOSES.input.as_bytes());
-        let mut writer = Counting::new(Vec::<u8>::new(rt.alloc()));
-        let result = run(alloc, &mut reader, &mut writer);
-        if result == Err(Fault::NoMemory) {
-            assert_eq!(&rt; writer.device.len(), 0, "nothing is written");
-            return Ok(false);
-        }
-        assert_eq!(&rt; result, Ok(()));
-        assert_eq!(&rt; writer.device.as_slice(), ONE_LOSES.output.as_bytes());
-        Ok(true)
-    })?;
-    // The script's bytes and its events, seven lists of the world, five of its report, its lane's cells for the lane and
-    // for each of the two diaries, and the text.
-    assert!(rt; 18 <= refused);
+    // The script's bytes and its events, seven lists of the world, four or five of its report, its lane's cells for the lane
+    // and for each diary, and the text.
+    for (example, growths) in [(ITEM_TAKEN, 16), (ONE_LOSES, 18)] {
+        let refused = growths_refused(&rt, |alloc| {
+            let mut reader = Counting::new(example.input.as_bytes());
+            let mut writer = Counting::new(Vec::<u8>::new(rt.alloc()));
+            let result = run(alloc, &mut reader, &mut writer);
+            if result == Err(Fault::NoMemory) {
+                assert_eq!(&rt; writer.device.len(), 0, "nothing is written");
+                return Ok(false);
+            }
+            assert_eq!(&rt; result, Ok(()));
+            assert_eq!(&rt; writer.device.as_slice(), example.output.as_bytes());
+            Ok(true)
+        })?;
+        assert!(rt; growths <= refused, "{}", example.name);
+    }
     Ok(())
 }
 
@@ -74,14 +76,14 @@ fn each_growth_of_run_threads_refused(rt: HostRuntime) -> Result<(), Fail> {
 #[test]
 fn each_growth_of_report_text_refused(rt: HostRuntime) -> Result<(), Fail> {
     let lane = LaneReport {
-        put: vec![in rt.alloc(); 5]?,
+        put: vec![in rt.alloc(); 0, 1]?,
         ended: true,
         left: Vec::new(rt.alloc()),
     };
     let diary = Diary {
         consumer: 0,
         lane: 0,
-        notes: vec![in rt.alloc(); Note::Took(5)]?,
+        notes: vec![in rt.alloc(); Note::Took(0), Note::Took(1)]?,
         begun: false,
     };
     let report = Report {
@@ -90,10 +92,7 @@ fn each_growth_of_report_text_refused(rt: HostRuntime) -> Result<(), Fail> {
     };
     let refused = growths_refused(&rt, |alloc| match report_text(alloc, &report) {
         Ok(text) => {
-            assert_eq!(&rt;
-                text.as_str(),
-                "lane 0 ended put 5\nleft 0\ndiary 0 0 took 5\n"
-            );
+            assert_eq!(&rt; text.as_str(), TWO_ITEMS.output);
             Ok(true)
         }
         Err(_) => Ok(false),
@@ -114,8 +113,8 @@ fn each_growth_of_fault_text_refused(rt: HostRuntime) -> Result<(), Fail> {
             "fault 6 BadSetup 1 1 BadProducers\n",
         ),
         (
-            Failed::Run(RunFault::BadSetup(SetupFault::BadConsumers)),
-            "fault 1 BadSetup 2 BadConsumers\n",
+            Failed::Run(RunFault::BadSetup(SetupFault::BadCells)),
+            "fault 1 BadSetup 3 BadCells\n",
         ),
     ] {
         let refused = growths_refused(&rt, |alloc| match fault_text(alloc, &failed) {

@@ -108,6 +108,21 @@ pub returns-clause-refused_and_done : goal.returns-clause-refused_and_done
 returns-clause-refused_and_done c = λ run.
     let both : ◌≡◌ {A = Kinds} (UnknownArgument ∷ []) [] = sym one_word_more ∙ run.0.1.0 in absurd (cc)
 
+-- ---- help
+told_help : IsTold plain plain [] (codes "help") [] [] DisplayHelp true
+told_help = (
+  λ _. (refl, (codes "help", (refl, refl))),
+  λ other _. absurd (other refl),
+)
+
+pub returns-clause-help : goal.returns-clause-help
+unfolding clap_on_literals
+returns-clause-help c = (refl, inr (inl (inl refl)), told_help, λ choice taken named. absurd (cc))
+
+pub returns-clause-help_on_the_errors : goal.returns-clause-help_on_the_errors
+returns-clause-help_on_the_errors c = λ run.
+    let long : 4 ≡ 0 = ap (λ (l : List ℕ). length l) (run.2.0 (inl refl)).0 in absurd (omega (arith, long))
+
 pub returns-clause-help_not_asked : goal.returns-clause-help_not_asked
 returns-clause-help_not_asked c = λ run. elim run.1 [
   | inl is ↦ absurd (cc)
