@@ -29,6 +29,7 @@ impl Board {
         let Some(runs) = self.runs.get(number as usize) else {
             return;
         };
+        // The sum would wrap only for a job past 2^32, and there are few.
         let mut sum = 0u64;
         for n in 0..number {
             sum = sum.wrapping_add(n + 1);
@@ -39,13 +40,9 @@ impl Board {
 
     /// How many jobs were run at least so often.
     fn run_at_least(&self, times: u64) -> usize {
-        let mut count = 0usize;
-        for runs in self.runs.iter() {
-            if runs.load(Ordering::SeqCst) >= times {
-                count = count.wrapping_add(1);
-            }
-        }
-        count
+        let runs = self.runs.iter();
+        runs.filter(|runs| runs.load(Ordering::SeqCst) >= times)
+            .count()
     }
 }
 

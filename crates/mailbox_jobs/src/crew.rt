@@ -19,12 +19,12 @@ use std::thread::yield_now;
 const BUDGET: u64 = 64;
 
 /// After how many jobs a worker goes home. All together they do fewer than there are, so some are left at the end.
-const SHIFT: u64 = 5;
+const JOBS_PER_WORKER: u64 = 5;
 
 /// One of those who work.
 #[derive(Drop)]
 pub enum Member {
-    /// Puts so many jobs, from this number on.
+    /// Puts `JOBS_EACH` jobs, from this number on.
     Producer(Producer<Global>, u64),
     /// Takes jobs, with random words from this source.
     Worker(Consumer<Global>, ChaCha8Rng),
@@ -72,8 +72,9 @@ fn run_jobs(
     let mut ended = [false; PRODUCERS as usize];
     let mut lane = 0;
     let mut taken = 0;
+    // Rattle asks of every loop that it comes to an end: this one would after more turns than anybody lives to see.
     for turn in 0..u64::MAX {
-        if taken == SHIFT || ended == [true; PRODUCERS as usize] {
+        if taken == JOBS_PER_WORKER || ended == [true; PRODUCERS as usize] {
             break;
         }
         if !ended[lane] {
@@ -92,7 +93,7 @@ fn run_jobs(
                 Poll::Spent => {}
                 // No further job is linked yet: time for something else, such as the next lane.
                 Poll::Nothing => yield_now(),
-                // No job follows on this lane.
+                // No job follows on this lane. `NoLane` does not come, since there are as many lanes as producers.
                 Poll::Ended | Poll::NoLane => ended[lane] = true,
             }
         }
@@ -100,9 +101,9 @@ fn run_jobs(
     }
 }
 
-/// All producers and workers of the mailbox. The producers come first, so that they are through where no thread can be
+/// Hires all producers and workers of the mailbox. The producers come first, so that they are through where no thread can be
 /// made and one works after the other.
-pub fn hired<R: RandomSource + AllocGlobal>(
+pub fn hire<R: RandomSource + AllocGlobal>(
     rt: &R,
     mailbox: &Mailbox<Global>,
     hub: &mut Hub<Global>,

@@ -34,7 +34,7 @@ fn main(rt: HostRuntime) -> Result<()> {
     let board = Board::new(rt.alloc(), jobs)?;
 
     // The crew works, each member in a thread of its own.
-    let mut crew = crew::hired(&rt, &mailbox, &mut hub)?;
+    let mut crew = crew::hire(&rt, &mailbox, &mut hub)?;
     for_each_mut(
         &rt,
         &mut crew,
@@ -44,10 +44,9 @@ fn main(rt: HostRuntime) -> Result<()> {
     crew::take_in(&mailbox, &mut hub, crew);
 
     // All are taken in, so nobody can take a job any more: what is left is for whoever has the report.
-    let report = match mailbox.gather(rt.alloc(), hub) {
-        Ok(report) => report,
-        Err((fault, _, _)) => return Err(Error::from(fault)),
-    };
+    let report = mailbox
+        .gather(rt.alloc(), hub)
+        .map_err(|(fault, _, _)| Error::from(fault))?;
     for lane in report.lanes.iter() {
         for job in lane.left.iter() {
             board.run(*job);

@@ -18,7 +18,7 @@ use std::thread::Threads;
 pub enum Fault {
     /// The setup was refused.
     Setup,
-    /// The workers were not let loose, and all that was given was taken in, its lanes ended.
+    /// `work` was refused with this fault. All that was given was taken in, its lanes ended.
     Work(WorkFault),
     /// Memory was refused.
     NoMemory,
@@ -102,15 +102,11 @@ fn all_is_met(report: &Report<Global>) -> bool {
 fn check(plan: &Plan, report: &Report<Global>, worked: &Worked) -> Result<Totals, Fault> {
     let tally = audit(report).map_err(Fault::Report)?;
     let lacking = lacking(plan, report)?;
-    if worked.stopped == 0 && (worked.full != lacking || !all_is_met(report)) {
-        return Err(if worked.full == lacking {
-            Fault::NotMet
-        } else {
-            Fault::OtherFull
-        });
-    }
-    if lacking < worked.full {
+    if lacking < worked.full || (worked.stopped == 0 && worked.full < lacking) {
         return Err(Fault::OtherFull);
+    }
+    if worked.stopped == 0 && !all_is_met(report) {
+        return Err(Fault::NotMet);
     }
     if 0 < worked.full && tally.put != plan.cells {
         return Err(Fault::FullTooEarly);

@@ -1,7 +1,7 @@
 use Rattle.std.specs.Prelude.{All}
 use Rattle.mb_mailbox.specs.Hubs.{IsHubOf}
 use Rattle.mailbox_jobs.specs.Crew.{IsOf}
-use Rattle.mailbox_jobs.proofs.crew.hired.Given as goal
+use Rattle.mailbox_jobs.proofs.crew.hire.Given as goal
 
 abbrev pub invariant-loop-number : goal.invariant-loop-number
 invariant-loop-number g l = record { hub : IsHubOf l.mailbox l.hub; crew : All (IsOf l.mailbox) l.crew.items }
