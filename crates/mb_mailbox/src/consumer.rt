@@ -22,11 +22,12 @@ use std::marker::Model;
 /// What a poll comes to.
 #[derive(Clone, Copy, PartialEq, Eq, Debug)]
 pub enum Poll {
-    /// The consumer has won the lane's next item, and has loaded this value.
+    /// The consumer has won the item at which it stood, and has loaded this value.
     Took(u64),
-    /// No consumer but this other one can win the lane's next item; it may not have won it yet, or may end undecided.
+    /// No consumer but this other one can win the item at which it stood; that one may not have won it yet, or may end
+    /// undecided.
     Lost(u32),
-    /// This consumer's claim on the lane's next item ended undecided: another may have won it, or nobody.
+    /// This consumer's claim on the item at which it stood ended undecided: another may have won it, or nobody.
     Undecided,
     /// The consumer found no further item linked. Beside a producer that was not taken in before, one may be linked by now.
     Nothing,
@@ -79,7 +80,8 @@ impl<A: Allocator + Drop> Consumer<A> {
 
     /// Makes accesses on a lane until one has an answer, or as many were made as the budget allows. One word is drawn from
     /// the source for each access of a claim. A claim that is held then stays with the consumer, and the next poll of the
-    /// lane goes on with it. [`Poll::NoLane`] comes first, where there is no such lane, and changes nothing.
+    /// lane goes on with it. [`Poll::NoLane`] comes first, where there is no such lane, and changes nothing. It waits for
+    /// nobody and takes no memory.
     pub fn poll<B: Allocator + Drop, R: Rng>(
         &mut self,
         mailbox: &Mailbox<B>,

@@ -122,7 +122,8 @@ impl<A: Allocator + Drop> Hub<A> {
         Ok(Producer { seat, items })
     }
 
-    /// Takes a producer in: its part and its items are the hub's then, as they are.
+    /// Takes a producer in, also before its lane has ended: its part and its items are the hub's then, as they are, for the
+    /// report. Its number is not given again.
     pub fn take_producer<B: Allocator + Drop>(
         &mut self,
         mailbox: &Mailbox<B>,
@@ -145,7 +146,8 @@ impl<A: Allocator + Drop> Hub<A> {
         self.puts[lane as usize] = Some(PutList { items, ended });
     }
 
-    /// Takes a consumer in: its parts, its places and its notes are the hub's then, as they are.
+    /// Takes a consumer in, also while it holds claims: its parts, its places and its notes are the hub's then, as they are,
+    /// for the report. Its number is not given again.
     pub fn take_consumer<B: Allocator + Drop>(
         &mut self,
         mailbox: &Mailbox<B>,

@@ -13,9 +13,10 @@ use std::marker::Model;
 pub enum Put {
     /// The item was linked: it is the last of the lane.
     Linked,
-    /// No cell was left for the item.
+    /// No cell was left for the item: it is still the caller's, and in no report. No cell comes back, so each further put
+    /// of this producer is answered so, up to its finish.
     Full,
-    /// The lane has ended.
+    /// The lane has ended, by this producer's own finish.
     Closed,
 }
 
@@ -46,7 +47,8 @@ impl<A: Allocator + Drop> Producer<A> {
     ghost use Rattle.mb_mailbox.specs.Producers.{FoundNoCell, HasNoCellFor, IsEndOfLane, IsProducer, IsProducerOf};
     ghost use Rattle.mb_mailbox.specs.Producers.{IsPutInto, IsSameLane, is_over};
 
-    /// Puts an item at the end of the lane: takes a cell, stores the item there, and links the cell.
+    /// Puts an item, any number, at the end of the lane: takes a cell, stores the item there, and links the cell. It makes at
+    /// most these three accesses, waits for nobody and takes no memory.
     pub fn put<B: Allocator + Drop>(&mut self, mailbox: &Mailbox<B>, x: u64) -> Put
         requires of { IsProducerOf mailbox.now self.old }
         ensures linked { result ≡ Linked → (k : ℕ) × IsPutInto k x self.old self.new }

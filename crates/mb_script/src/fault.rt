@@ -20,7 +20,7 @@ pub enum Fault {
     BadNumber(usize),
     /// There is no line, or the first word of the first line is not `setup`.
     NoSetup,
-    /// The line of this number, which is 1, asks for a world that there is not.
+    /// On the line of this number, which is 1, a number is out of its range.
     BadSetup(usize, SetupFault),
     /// On the line of this number, the lane is not of this world.
     NoLane(usize),

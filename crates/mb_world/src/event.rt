@@ -8,9 +8,9 @@ use mb_deciding::Act;
 pub enum Event {
     /// The producer of this lane takes a cell for this item.
     Offer { lane: u64, item: u64 },
-    /// It stores the item that was offered, or links its cell.
+    /// The producer of this lane stores the item that it offered, or links its cell.
     Push { lane: u64 },
-    /// It stores the end mark.
+    /// The producer of this lane stores the end mark.
     Finish { lane: u64 },
     /// This consumer makes its next access on this lane, with this random word.
     Step { consumer: u64, lane: u64, word: u64 },

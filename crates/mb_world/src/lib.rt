@@ -1,4 +1,9 @@
-//! The world: lanes and claims together, and what is reported of them.
+//! The world: lanes and claims together, in the hands of one caller who says which process makes its next access.
+//!
+//! An [`Event`] is one step of a producer or of a consumer: one access of one word, or none where it is refused, and its
+//! [`Answer`] names that access. [`World::apply`] makes it in a number of instructions that does not grow with what was done
+//! before; [`World::report`] reads the lanes and the notes at any time. [`laws`] has the headline, over all histories: also
+//! those of threads, of which no world is made.
 #![tactic(auto)]
 
 mod event;

@@ -26,11 +26,11 @@ pub struct Setup {
 pub enum SetupFault {
     /// The number of producers is not in `1..=MAX_PRODUCERS`.
     BadProducers,
-    /// The number of consumers is out of the layout's range.
+    /// The number of consumers is 0 or above 16.
     BadConsumers,
     /// There are more cells than `MAX_CELLS`.
     BadCells,
-    /// The number of pairs of deciding objects is out of the layout's range.
+    /// The number of pairs of deciding objects is 0 or above 8.
     BadRounds,
 }
 
@@ -52,8 +52,8 @@ impl Setup {
     ghost use Rattle.mb_world.specs.Plan.{consumers_of};
     ghost use Rattle.mb_world.specs.Setups.{layout_of, pairs_in, plan_in, plan_of, setup_refusal};
 
-    /// The setup of so many producers, consumers and cells, with so many pairs of deciding objects for each cell over
-    /// the quorum table of this name. Where several numbers are out of range, the first of them is told, in the order
+    /// The setup of so many producers (1 to 16), consumers (1 to 16) and cells (0 to 256), with so many pairs of deciding
+    /// objects (1 to 8) for each cell over the quorum table of this name. Where several numbers are out of range, the first of them is told, in the order
     /// of [`SetupFault`].
     pub fn new(
         producers: u64,
@@ -127,7 +127,7 @@ impl Setup {
         self.layout.copy()
     }
 
-    /// The same, where it stands.
+    /// The same, borrowed.
     #[inline(always)]
     pub(crate) fn as_layout(&self) -> &Layout
         ensures { result.now ≡ layout_of self.now }

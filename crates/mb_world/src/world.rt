@@ -22,7 +22,9 @@ pub struct World<A: Allocator + Drop> {
     setup: Setup,
     pool: Pool<A>,
     words: ClaimWords<A>,
+    /// Where each consumer stands on each lane, consumer by consumer.
     seats: Vec<Seat, A>,
+    /// What each consumer noted of each cell, consumer by consumer.
     notes: Vec<Option<Note>, A>,
 }
 
