@@ -9,7 +9,11 @@ code, the definitions, the proofs, the examples or the names of files have it, c
   - in "`name` in `specs/File.antt`" one of the files named there has to have the name;
   - in "`function`: `clause`" a function of that name has to have that clause;
   - a block of Rust has to stand, line by line, in a source file.
-It also looks whether `examples/script` prints the script of each example. The status is 0 where all was found, and else 1.
+It also looks whether `examples/script` prints the script of each example, and whether each sample of a page, and of the
+program's help, is what an example has:
+  - behind a line `$ COMMAND` stands what that command prints, be it a script, an output, or the first or last lines of one;
+  - lines that are set in and begin with a word of scripts or reports are lines of one example, in their order.
+The status is 0 where all was found, and else 1.
 """
 import os
 import re
@@ -24,6 +28,10 @@ WORD = re.compile(r"[A-Za-z_]\w*")
 # A function with what stands up to its body, and a clause of it.
 FUNCTION = re.compile(r"^ *(?:pub(?:\(\w+\))? )?(?:const )?(?:final )?fn (\w+)(.*?)(?=^ *\}?\{|^ *(?:pub |#\[|fn )|\Z)", re.M | re.S)
 CLAUSE = re.compile(r"^ *ensures (\w+) \{", re.M)
+# An example of the tests: its name, its words, its script and its output.
+EXAMPLE = re.compile(r'name: "(\w+)",\s*words: &\[(.*?)\],\s*input: "(.*?)",$\s*output: "(.*?)",$', re.M | re.S)
+# The words with which lines of scripts and of reports begin.
+SPELLED = "ratify inputs turns process setup offer push finish step lane left diary".split()
 NAMES = r"(?:`[\w:]+`(?:, | and ))*`[\w:]+`"
 # Words that are said of the world outside: commands, the library below, placeholders of formats.
 OUTSIDE = set(
@@ -174,20 +182,67 @@ def below(crate):
     return set()
 
 
-def scripts_not_printed():
-    """The examples whose script `examples/script` does not print as it stands in the tests."""
+def examples():
+    """The examples by their names: the words of each, its script and its output."""
+    found = {}
     for path in files_below(f"{TOP}/crates/mailbox_main/src/tests/examples"):
-        for name, script in re.findall(r'name: "(\w+)",.*?input: "(.*?)",$', read(path), re.M | re.S):
-            want = script.removeprefix("\\\n").replace("\\n", "\n")
-            if subprocess.run([f"{TOP}/examples/script", name], stdout=subprocess.PIPE, text=True).stdout != want:
-                yield name
+        for name, words, script, output in EXAMPLE.findall(read(path)):
+            texts = [it.removeprefix("\\\n").replace("\\n", "\n") for it in (script, output)]
+            found[name] = (re.findall(r'"([^"]*)"', words), *texts)
+    return found
+
+
+def scripts_not_printed(known):
+    """The examples whose script `examples/script` does not print as it stands in the tests."""
+    for name, (_, script, _) in known.items():
+        if subprocess.run([f"{TOP}/examples/script", name], stdout=subprocess.PIPE, text=True).stdout != script:
+            yield name
+
+
+def printed_by(command, known):
+    """The lines that a command of a page prints by the examples, or None where they have no such command."""
+    name, text = None, None
+    for part in command.split("|"):
+        words = part.split()
+        if words[0] == "examples/script" and words[1] in known:
+            name, text = words[1], known[words[1]][1].splitlines()
+        elif words[0] == "./mailbox":
+            run = ["mailbox", *words[1:]]
+            fits = [output for it, (words, _, output) in known.items() if words == run and name in (None, it)]
+            text = fits[0].splitlines() if fits else None
+        elif words[0] in ("head", "tail") and text is not None:
+            count = int(words[1].removeprefix("-"))
+            text = text[:count] if words[0] == "head" else text[-count:]
+        else:
+            return None
+    return text
+
+
+def false_samples(path, known):
+    """The samples of a page or of the help that no example has."""
+    text = read(path)
+    for block in re.findall(r"^```\n(\$ .*?)^```$", text, re.M | re.S):
+        for sample in re.split(r"^\$ ", block, flags=re.M)[1:]:
+            command, *shown = sample.splitlines()
+            if shown != printed_by(command, known):
+                yield f"the sample of {command}"
+    texts = [it.splitlines() for _, script, output in known.values() for it in (script, output)]
+    block_of = r"(?<=\n\n)(?:^ {4}\S.*\n)+" if path.endswith(".md") else r"(?:^  \S.*\n)+"
+    for block in re.findall(block_of, text.replace('";', "\n"), re.M):
+        shown = lines(block)
+        if shown[0].split()[0] in SPELLED and "<" not in block and not any(stands_in(shown, it) for it in texts):
+            yield f"the sample that begins with {shown[0]}"
 
 
 def main():
-    sources, count = Sources(), 0
-    for name in scripts_not_printed():
+    sources, known, count = Sources(), examples(), 0
+    for name in scripts_not_printed(known):
         print(f"examples/script: not printed: {name}")
         count += 1
+    for path in (*pages(), f"{TOP}/crates/mailbox_main/src/help.rt"):
+        for fault in false_samples(path, known):
+            print(f"{os.path.relpath(path, TOP)}: not found: {fault}")
+            count += 1
     for page in pages():
         for fault in dict.fromkeys(faults_of(page, sources)):
             print(f"{os.path.relpath(page, TOP)}: not found: {fault}")

@@ -124,8 +124,8 @@ pub record IsWorked (may_stop : Who → ℕ → Type 0) (budget : ℕ) (lists : 
   pub stopped : w.stopped ≡ sum_by (λ l. from_bool l.stopped) lanes + sum_by (λ c. from_bool c.stopped) consumers
   pub stopped_puts : AreStoppedPuts may_stop new.cells.table.size.cells (length old.puts) lists lanes
   pub stopped_polls : AreStoppedPolls may_stop budget (length old.ledgers) consumers
-  -- A consumer that was not stopped has loaded as many end marks as lanes were given in this call, so that it looked at none
-  -- again that had ended; one that was stopped has loaded fewer
+  -- A consumer that was not stopped has loaded as many end marks as lanes were given in this call; one that was stopped has
+  -- loaded fewer
   pub ends : All (λ c. c.stopped ≡ false → ends_met c.reads ≡ length lists) consumers
   pub unread : All (λ c. c.stopped ≡ true → ends_met c.reads < length lists) consumers
   -- No consumer has looked at the head of a lane that was not given in this call
