@@ -12,7 +12,7 @@ code, the definitions, the proofs, the examples or the names of files have it, c
 It also looks whether `examples/script` prints the script of each example, and whether each sample of a page, and of the
 program's help, is what an example has:
   - behind a line `$ COMMAND` stands what that command prints, be it a script, an output, or the first or last lines of one;
-  - lines that are set in and begin with a word of scripts or reports are lines of one example, in their order.
+  - lines without a command, of which one begins with a word of scripts or outputs, are the first or last lines of one.
 The status is 0 where all was found, and else 1.
 """
 import os
@@ -28,9 +28,11 @@ WORD = re.compile(r"[A-Za-z_]\w*")
 # A function with what stands up to its body, and a clause of it.
 FUNCTION = re.compile(r"^ *(?:pub(?:\(\w+\))? )?(?:const )?(?:final )?fn (\w+)(.*?)(?=^ *\}?\{|^ *(?:pub |#\[|fn )|\Z)", re.M | re.S)
 CLAUSE = re.compile(r"^ *ensures (\w+) \{", re.M)
-# An example of the tests: its name, its words, its script and its output.
-EXAMPLE = re.compile(r'name: "(\w+)",\s*words: &\[(.*?)\],\s*input: "(.*?)",$\s*output: "(.*?)",$', re.M | re.S)
-# The words with which lines of scripts and of reports begin.
+# An example of the tests: its name, its words, its script, its output and what stands on standard error.
+EXAMPLE = re.compile(
+    r'name: "(\w+)",\s*words: &\[(.*?)\],\s*input: "(.*?)",$\s*output: "(.*?)",$\s*error: "(.*?)",$', re.M | re.S
+)
+# The words with which lines of scripts and outputs begin.
 SPELLED = "ratify inputs turns process setup offer push finish step lane left diary".split()
 NAMES = r"(?:`[\w:]+`(?:, | and ))*`[\w:]+`"
 # Words that are said of the world outside: commands, the library below, placeholders of formats.
@@ -183,54 +185,70 @@ def below(crate):
 
 
 def examples():
-    """The examples by their names: the words of each, its script and its output."""
+    """The examples by their names: the words of each, its script, its output and what stands on standard error."""
     found = {}
     for path in files_below(f"{TOP}/crates/mailbox_main/src/tests/examples"):
-        for name, words, script, output in EXAMPLE.findall(read(path)):
-            texts = [it.removeprefix("\\\n").replace("\\n", "\n") for it in (script, output)]
+        text = read(path)
+        matches = EXAMPLE.findall(text)
+        assert len(matches) == len(re.findall(r'\bname: "', text)), f"an example of {path} is not read"
+        for name, words, *texts in matches:
+            texts = [it.removeprefix("\\\n").replace("\\n", "\n") for it in texts]
             found[name] = (re.findall(r'"([^"]*)"', words), *texts)
     return found
 
 
 def scripts_not_printed(known):
     """The examples whose script `examples/script` does not print as it stands in the tests."""
-    for name, (_, script, _) in known.items():
+    for name, (_, script, *_) in known.items():
         if subprocess.run([f"{TOP}/examples/script", name], stdout=subprocess.PIPE, text=True).stdout != script:
             yield name
 
 
 def printed_by(command, known):
     """The lines that a command of a page prints by the examples, or None where they have no such command."""
-    name, text = None, None
+    text = []
     for part in command.split("|"):
-        words = part.split()
-        if words[0] == "examples/script" and words[1] in known:
-            name, text = words[1], known[words[1]][1].splitlines()
-        elif words[0] == "./mailbox":
-            run = ["mailbox", *words[1:]]
-            fits = [output for it, (words, _, output) in known.items() if words == run and name in (None, it)]
-            text = fits[0].splitlines() if fits else None
-        elif words[0] in ("head", "tail") and text is not None:
-            count = int(words[1].removeprefix("-"))
-            text = text[:count] if words[0] == "head" else text[-count:]
+        program, *options = part.split()
+        if program == "examples/script" and options and options[0] in known:
+            text = known[options[0]][1].splitlines()
+        elif program in ("./mailbox", "mailbox"):
+            runs = ((words[1:], script.splitlines(), output + error) for words, script, output, error in known.values())
+            fits = [printed for words, script, printed in runs if (words, script) == (options, text)]
+            if not fits:
+                return None
+            text = fits[0].splitlines()
+        elif program in ("head", "tail"):
+            count = int(options[0].removeprefix("-"))
+            text = text[:count] if program == "head" else text[-count:]
         else:
             return None
     return text
 
 
+def blocks_shown(path):
+    """The blocks of a page, fenced or set in, or those of the help."""
+    text = read(path)
+    if not path.endswith(".md"):
+        return re.findall(r"(?:^  \S.*\n)+", text.replace('";', "\n"), re.M)
+    fenced, rest = blocks_of(text)
+    return [block for language, block in fenced if language != "rust"] + re.findall(r"(?<=\n\n)(?:^ {4}.+\n)+", rest, re.M)
+
+
 def false_samples(path, known):
     """The samples of a page or of the help that no example has."""
-    text = read(path)
-    for block in re.findall(r"^```\n(\$ .*?)^```$", text, re.M | re.S):
-        for sample in re.split(r"^\$ ", block, flags=re.M)[1:]:
-            command, *shown = sample.splitlines()
-            if shown != printed_by(command, known):
+    texts = [it.splitlines() for _, script, output, _ in known.values() for it in (script, output)]
+    for block in blocks_shown(path):
+        shown, *samples = re.split(r"^\$ ", block, flags=re.M)
+        for sample in samples:
+            command, *printed = sample.splitlines()
+            if printed != printed_by(command, known):
                 yield f"the sample of {command}"
-    texts = [it.splitlines() for _, script, output in known.values() for it in (script, output)]
-    block_of = r"(?<=\n\n)(?:^ {4}\S.*\n)+" if path.endswith(".md") else r"(?:^  \S.*\n)+"
-    for block in re.findall(block_of, text.replace('";', "\n"), re.M):
-        shown = lines(block)
-        if shown[0].split()[0] in SPELLED and "<" not in block and not any(stands_in(shown, it) for it in texts):
+        shown = lines(shown)
+        for command in (it.partition(" #")[0] for it in shown):
+            if command.startswith(("examples/script ", "mailbox ")) and printed_by(command, known) is None:
+                yield f"the command {command}"
+        is_sample = "<" not in block and any(it.split()[0] in SPELLED for it in shown)
+        if is_sample and not any(shown in (it[:len(shown)], it[-len(shown):]) for it in texts):
             yield f"the sample that begins with {shown[0]}"
 
 

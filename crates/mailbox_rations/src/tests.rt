@@ -1,5 +1,6 @@
-//! The allocator by itself, and `work` with its growths refused.
+//! The allocator by itself, and `work` and a hub with their growths refused.
 
+mod giving;
 mod refusing;
 mod trial;
 mod working;

@@ -16,6 +16,8 @@ mod conciliators;
 #[cfg(test)]
 mod devices;
 #[cfg(test)]
+mod draws;
+#[cfg(test)]
 mod entries;
 #[cfg(test)]
 mod events;

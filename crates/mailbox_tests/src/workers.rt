@@ -21,7 +21,7 @@ pub(crate) const ALL_DONE: Worked = Worked {
 };
 
 /// A list of items for each producer.
-fn lists(alloc: Global, items: &[&[u64]]) -> Result<Vec<Vec<u64>>, Fail> {
+pub(crate) fn lists(alloc: Global, items: &[&[u64]]) -> Result<Vec<Vec<u64>>, Fail> {
     let mut lists = Vec::new(alloc);
     for list in items {
         lists.push(list.to_vec(alloc)?)?;

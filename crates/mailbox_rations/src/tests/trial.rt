@@ -1,12 +1,13 @@
-//! A mailbox together with its hub, so that a test calls `work` and owes no premise.
+//! A mailbox together with its hub, so that a test works, puts and polls, and owes no premise.
 
 use crate::Rations;
 use crate::tests::zeros::Zeros;
-use mb_mailbox::{Hub, Mailbox, OpenGate, WorkFault, Worked, work};
+use mb_mailbox::{Hub, HubFault, Mailbox, OpenGate, Poll, Put, WorkFault, Worked, work};
 use mb_quorum::TableName;
 use mb_world::{Report, Setup};
 use std::alloc::Global;
 use std::marker::Model;
+use std::process::Abort;
 use std::sync::Wait;
 use std::test::Fail;
 use std::thread::Threads;
@@ -70,6 +71,38 @@ impl<'r> Trial<'r> {
             }
             Err(_) => false,
         }
+    }
+
+    /// Whether the allocator serves the next producer; if not, its number is left, and is given over the second allocator.
+    /// It puts 7, ends its lane, and is taken in.
+    pub(crate) fn put_seven(
+        &mut self,
+        rt: &impl Abort,
+        alloc: Alloc<'r>,
+        ample: Alloc<'r>,
+    ) -> Result<bool, Fail> {
+        let (mut producer, served) = match self.hub.producer(alloc, &self.mailbox) {
+            Ok(producer) => (producer, true),
+            Err(fault) => {
+                assert_eq!(rt; fault, HubFault::NoMemory);
+                (self.hub.producer(ample, &self.mailbox)?, false)
+            }
+        };
+        assert_eq!(rt; producer.put(&self.mailbox, 7), Put::Linked);
+        producer.finish(&self.mailbox);
+        self.hub.take_producer(&self.mailbox, producer);
+        Ok(served)
+    }
+
+    /// The next consumer takes 7 of lane 0, and is taken in.
+    pub(crate) fn take_seven(&mut self, rt: &impl Abort, alloc: Alloc<'r>) -> Result<(), Fail> {
+        let mut consumer = self.hub.consumer(alloc, &self.mailbox)?;
+        assert_eq!(rt;
+            consumer.poll(&self.mailbox, 0, 100, &mut Zeros),
+            Poll::Took(7)
+        );
+        self.hub.take_consumer(&self.mailbox, consumer);
+        Ok(())
     }
 
     /// The report.

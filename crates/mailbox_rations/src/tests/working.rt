@@ -25,7 +25,7 @@ fn is_done(rt: &impl Abort, answer: Result<Worked, WorkFault>) -> bool {
 }
 
 /// The report has these lanes, with the items put, whether the lane has ended and the items left, and these notes.
-fn tells(
+pub(crate) fn tells(
     rt: &impl Abort,
     report: &Report<Alloc<'_>>,
     lanes: &[(&[u64], bool, &[u64])],
