@@ -21,7 +21,7 @@ use Rattle.mb_mailbox.specs.Producers.{IsProducerOf, ProducerView}
 use Rattle.mb_mailbox.specs.Rooms.{HasRoom}
 use Rattle.mb_mailbox.specs.Runs.{AreEndsAt, AreEndsOf, AreOf, count_stopped, with_taken}
 use Rattle.mb_mailbox.specs.Steps.{notes_on}
-use Rattle.mb_mailbox.specs.Worked.{AreCutByCells, AreStoppedPuts, ConsumerLeft, IsRunOf, IsWorked, LaneLeft, WereTakenIn, WereTakenInEarly, lists_in}
+use Rattle.mb_mailbox.specs.Worked.{AreCutByCells, AreStoppedPuts, ConsumerLeft, HaveMetEnds, IsRunOf, IsWorked, LaneLeft, WereTakenIn, WereTakenInEarly, lists_in}
 use Rattle.mb_mailbox.specs.declared.gate.Who.{Who}
 use Rattle.mb_mailbox.specs.declared.working.Worked.{Worked}
 use Rattle.mb_mailbox.specs.declared.working.jobs.PollDone.{PollDone}
@@ -32,7 +32,7 @@ use Rattle.mb_mailbox.specs.declared.working.room.Ends.{Ends}
 use Rattle.mb_mailbox.specs.declared.working.room.Jobs.{Jobs}
 use Rattle.mb_mailbox.specs.declared.working.room.Room.{Room}
 use Rattle.mb_mailbox.proofs.Noted.{all_noted}
-use Rattle.mb_mailbox.proofs.Runs.{lane_left, lanes_of, left_by, left_of, nums, run_beyond, run_cut, run_ends, run_of, run_only, run_poll_stops, run_stops, run_unread}
+use Rattle.mb_mailbox.proofs.Runs.{lane_left, lanes_of, left_by, left_of, nums, run_beyond, run_cut, run_ends, run_met, run_of, run_only, run_poll_stops, run_stops, run_unread}
 use Rattle.mb_mailbox.proofs.Zips.{zip_length}
 
 nothing : {X : Type 0} (P : X → Type 0) → All P []
@@ -229,6 +229,9 @@ module _ {R Z : Type 0} (m : MailboxView) (may_stop : Who → ℕ → Type 0) (i
         ends = subst (λ (n : ℕ). All (λ (x : ConsumerLeft). x.stopped ≡ false → ends_met x.reads ≡ n) (left_of m may_stop ends.polls.items))
             (omega (arith, first, far))
             (run_ends m may_stop h from end budget items jobs.puts.items ends.puts.items jobs.polls.items ends.polls.items hub all.puts given.polls came.puts came.polls);
+        met = subst (λ (z : ℕ × ℕ). HaveMetEnds z.0 z.1 (length h.ledgers) (left_of m may_stop ends.polls.items))
+            (λ i. (first i, far i))
+            (run_met m may_stop h from end budget items jobs.puts.items ends.puts.items jobs.polls.items ends.polls.items hub all.puts given.polls came.puts came.polls);
         unread = subst (λ (n : ℕ). All (λ (x : ConsumerLeft). x.stopped ≡ true → ends_met x.reads < n) (left_of m may_stop ends.polls.items))
             (omega (arith, first, far))
             (run_unread m may_stop h from end budget items jobs.puts.items ends.puts.items jobs.polls.items ends.polls.items hub all.puts given.polls came.puts came.polls polls_on);

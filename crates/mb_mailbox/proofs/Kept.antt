@@ -1,8 +1,8 @@
 -- From the jobs through what was begun to the ends.
-use Rattle.std.proofs.Common.{◌≡◌, ℕ, false, true, sym, ap, ◌∙◌, subst}
+use Rattle.std.proofs.Common.{◌≡◌, ℕ, [], false, true, sym, ap, ◌∙◌, subst}
 use Rattle.mb_mailbox.specs.Begun.{PollKeeps, PollPromises, PutKeeps, PutPromises}
 use Rattle.mb_mailbox.specs.Consumers.{ConsumerView}
-use Rattle.mb_mailbox.specs.Jobs.{IsPollEnd, IsPutEnd}
+use Rattle.mb_mailbox.specs.Jobs.{IsPollEnd, IsPutEnd, ends_met}
 use Rattle.mb_mailbox.specs.declared.gate.Who.{Who}
 use Rattle.mb_mailbox.specs.declared.working.begun.PollBegun.{PollBegun}
 use Rattle.mb_mailbox.specs.declared.working.begun.PollBegun.TheVariants as poll
@@ -11,6 +11,8 @@ use Rattle.mb_mailbox.specs.declared.working.begun.PutBegun.TheVariants as put
 use Rattle.mb_mailbox.specs.declared.working.jobs.PollDone.{PollDone}
 use Rattle.mb_mailbox.specs.declared.working.jobs.PutDone.{PutDone}
 use Rattle.mb_mailbox.specs.declared.working.jobs.PutJob.{PutJob}
+use Rattle.mb_mailbox.proofs.EndsMet.{none_met}
+use Rattle.mb_mailbox.proofs.Marks.{clear}
 
 module _ {G Z : Type 0} (may_stop : G → Who → ℕ → Type 0) (gate : G) where
   pub put_kept : (j : PutJob Z) (b : PutBegun G Z) (d : PutDone Z) → PutPromises may_stop gate j b → PutKeeps may_stop b d
@@ -43,6 +45,12 @@ not_run may_stop from end budget s d is stopped off = record {
   };
   read = λ f. let no : true ≡ false = sym stopped ∙ f in absurd (cc);
   ends = λ f none. let no : true ≡ false = sym stopped ∙ f in absurd (cc);
+  marked = λ none. record {
+    marks = [];
+    within = λ p e. absurd (clear [] p (tt {0}) e);
+    read = λ p e. absurd (clear [] p (tt {0}) e);
+    once = ap (λ (t : ConsumerView). ends_met t.reader.part) is ∙ none_met s none;
+  };
   stop = λ t f none. let no : true ≡ false = sym off ∙ f in absurd (cc);
   unread = λ t f none. let no : true ≡ false = sym off ∙ f in absurd (cc);
   only = λ f none. let no : true ≡ false = sym off ∙ f in absurd (cc);
@@ -55,6 +63,7 @@ still_off may_stop from end budget s d i = record {
   same = i.same;
   read = i.read;
   ends = i.ends;
+  marked = i.marked;
   stop = λ t o none. absurd (cc);
   unread = λ t o none. absurd (cc);
   only = λ o none. absurd (cc);

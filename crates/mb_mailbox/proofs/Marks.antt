@@ -49,7 +49,7 @@ marks_more (true ∷ xs) zero e = absurd (cc)
 marks_more (false ∷ xs) zero e = omega arith
 marks_more (x ∷ xs) (suc k) e = let rest = marks_more xs k e in omega (arith, rest)
 
-marks_most : (xs : List Bool) (from end : ℕ) → ((p : ℕ) → slice_index_or xs p false ≡ true → (from ≤ p) × (p < end)) → count_marks xs ≤ end - from
+pub marks_most : (xs : List Bool) (from end : ℕ) → ((p : ℕ) → slice_index_or xs p false ≡ true → (from ≤ p) × (p < end)) → count_marks xs ≤ end - from
 marks_most [] from end m = omega arith
 marks_most (true ∷ xs) from end m =
     let low = (m 0 refl).0 in

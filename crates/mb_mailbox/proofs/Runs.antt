@@ -10,10 +10,10 @@ use Rattle.mb_shared_cells.specs.Vocabulary.{CellsName}
 use Rattle.mb_mailbox.specs.Consumers.{ConsumerView}
 use Rattle.mb_mailbox.specs.HubRuns.{ArePollJobs, ArePutJobs}
 use Rattle.mb_mailbox.specs.Hubs.{HubView, IsHub, new_producer, put_list_of}
-use Rattle.mb_mailbox.specs.Jobs.{HasReadToEnd, IsFront, IsOnLanes, IsPollEnd, IsPutEnd, IsStopBefore, IsStoppedPoll, accesses_made, ends_met}
+use Rattle.mb_mailbox.specs.Jobs.{HasReadEnds, HasReadToEnd, IsFront, IsOnLanes, IsPollEnd, IsPutEnd, IsStopBefore, IsStoppedPoll, accesses_made, ends_met}
 use Rattle.mb_mailbox.specs.Mailboxes.{MailboxView}
 use Rattle.mb_mailbox.specs.Producers.{FoundNoCell, ProducerView, is_over}
-use Rattle.mb_mailbox.specs.Worked.{AreCutByCells, AreStoppedPolls, AreStoppedPuts, ConsumerLeft, IsRunOf, IsStoppedPut, LaneLeft, ended_list, items_behind, items_beyond, lists_in}
+use Rattle.mb_mailbox.specs.Worked.{AreCutByCells, AreStoppedPolls, AreStoppedPuts, ConsumerLeft, HasMetEnd, HasMetEnds, HaveMetEnds, IsRunOf, IsStoppedPut, LaneLeft, ended_list, items_behind, items_beyond, lists_in}
 use Rattle.mb_mailbox.specs.declared.gate.Who.{Who}
 use Rattle.mb_mailbox.specs.declared.gate.Who.TheVariants as who
 use Rattle.mb_mailbox.specs.declared.working.jobs.PollDone.{PollDone}
@@ -28,6 +28,17 @@ lane_left s stopped = record { put = s.items; part = s.seat.part; stopped = stop
 
 abbrev pub left_by : ConsumerView → Bool → ConsumerLeft
 left_by s stopped = record { ledger = record { places = s.places; notes = s.notes }; reads = s.reader.part; claimed = s.seat.part; stopped = stopped }
+
+-- the end marks that it has loaded, by its number
+met_at : (from end c : ℕ) (s : ConsumerView) → s.reader.reader ≡ c → HasReadEnds from end s → HasMetEnds from end c s.reader.part
+met_at from end c s is r = record {
+  marks = r.marks;
+  within = r.within;
+  met = λ p e.
+      let to_end = r.read p e in
+      subst (λ (n : ℕ). HasMetEnd n p s.reader.part) is (record { cells = to_end.cells; met = to_end.met; end = to_end.end });
+  once = r.once;
+}
 
 behind : (stopped : Bool) (list put : List ℕ) (full : ℕ) → (stopped ≡ false → length put + full ≡ length list) → (stopped ≡ true → full ≡ 0)
     → full ≡ items_behind stopped list put
@@ -148,6 +159,7 @@ module _ {Z : Type 0} (m : MailboxView) (may_stop : Who → ℕ → Type 0) wher
     pub consumer : d.consumer.seat.consumer ≡ c
     pub read : d.stopped ≡ false → (p : ℕ) → from ≤ p → p < end → HasReadToEnd p d.consumer
     pub ends : d.stopped ≡ false → ends_met d.consumer.reader.part ≡ end - from
+    pub marked : HasReadEnds from end d.consumer
     pub stop : d.stopped ≡ true → d.off ≡ false → IsStoppedPoll may_stop budget c (accesses_made d.consumer)
     pub unread : d.stopped ≡ true → d.off ≡ false → ends_met d.consumer.reader.part < end - from
     pub only : d.off ≡ false → IsOnLanes from end d.consumer.reader.part
@@ -167,6 +179,7 @@ module _ {Z : Type 0} (m : MailboxView) (may_stop : Who → ℕ → Type 0) wher
       consumer = z.0.same.consumer ∙ a.0.consumer;
       read = z.0.read;
       ends = λ f. z.0.ends f a.0.none;
+      marked = z.0.marked a.0.none;
       stop = λ t o. subst (λ (c : ℕ). IsStoppedPoll may_stop budget c (accesses_made d.consumer)) a.0.consumer (z.0.stop t o a.0.none);
       unread = λ t o. z.0.unread t o a.0.none;
       only = λ o. z.0.only o a.0.none;
@@ -206,6 +219,10 @@ module _ {Z : Type 0} (m : MailboxView) (may_stop : Who → ℕ → Type 0) wher
   ends_of from end budget c (d ∷ ds) a =
       All-cons (λ (x : ConsumerLeft). x.stopped ≡ false → ends_met x.reads ≡ end - from) (left_by d.consumer d.stopped) (left_of ds)
       a.0.ends (ends_of from end budget (suc c) ds a.1)
+
+  mets_of : (from end budget c : ℕ) (ds : List (PollDone Z)) → AreNumbered from end budget c ds → HaveMetEnds from end c (left_of ds)
+  mets_of from end budget c [] a = tt
+  mets_of from end budget c (d ∷ ds) a = (met_at from end c d.consumer a.0.reader a.0.marked, mets_of from end budget (suc c) ds a.1)
 
   unread_of : (from end budget c : ℕ) (ds : List (PollDone Z)) → AreNumbered from end budget c ds → All (λ (d : PollDone Z). d.off ≡ false) ds
       → All (λ (x : ConsumerLeft). x.stopped ≡ true → ends_met x.reads < end - from) (left_of ds)
@@ -274,6 +291,9 @@ module _ {Z : Type 0} (m : MailboxView) (may_stop : Who → ℕ → Type 0) wher
 
     pub run_ends : All (λ (x : ConsumerLeft). x.stopped ≡ false → ends_met x.reads ≡ end - from) (left_of es)
     run_ends = ends_of from end budget (length h.ledgers) es nums
+
+    pub run_met : HaveMetEnds from end (length h.ledgers) (left_of es)
+    run_met = mets_of from end budget (length h.ledgers) es nums
 
     pub run_unread : All (λ (d : PollDone Z). d.off ≡ false) es
         → All (λ (x : ConsumerLeft). x.stopped ≡ true → ends_met x.reads < end - from) (left_of es)

@@ -64,6 +64,14 @@ abbrev pub ends_met : History → ℕ
 ends_met [] = 0
 ends_met (a ∷ older) = from_bool (tells_end a.word a.act) + ends_met older
 
+-- the consumer is done with the lanes that some marks name: each of them from `from` on and below `end`, read to its end mark,
+-- and no end mark was loaded twice
+pub record HasReadEnds (from end : ℕ) (s : ConsumerView) : Type 0 where
+  pub marks : List Bool
+  pub within : (p : ℕ) → slice_index_or marks p false ≡ true → (from ≤ p) × (p < end)
+  pub read : HasReadMarked marks s
+  pub once : ends_met s.reader.part ≡ count_marks marks
+
 -- each head that these accesses touch is that of a lane from `from` on and below `end`
 abbrev pub IsOnLanes : ℕ → ℕ → History → Type 0
 IsOnLanes from end reads = (a : PoolAccess) (p : ℕ) → Has reads a → a.word ≡ Head p → (from ≤ p) × (p < end)
@@ -94,12 +102,14 @@ module _ {Z : Type 0} (may_stop : Who → ℕ → Type 0) where
         → IsStopBefore may_stop (who.Producer j.producer.seat.lane) (suc (length d.producer.items))
 
   -- the consumer, where it was not stopped, has read each lane from `from` on and below `end` to its end mark. One that had
-  -- made no access has then loaded as many end marks as there are of these lanes. Where the run is not off, it has looked at these
+  -- made no access has then loaded as many end marks as there are of these lanes; stopped or not, it has loaded no end mark
+  -- but of those of these lanes that it has read to their ends, and each once. Where the run is not off, it has looked at these
   -- lanes alone, and where it was stopped it was so before a call, and has loaded fewer end marks
   pub record IsPollEnd (from end budget : ℕ) (s : ConsumerView) (d : PollDone Z) : Type 0 where
     pub same : IsSameConsumer s d.consumer
     pub read : d.stopped ≡ false → (p : ℕ) → from ≤ p → p < end → HasReadToEnd p d.consumer
     pub ends : d.stopped ≡ false → accesses_made s ≡ 0 → ends_met d.consumer.reader.part ≡ end - from
+    pub marked : accesses_made s ≡ 0 → HasReadEnds from end d.consumer
     pub stop : d.stopped ≡ true → d.off ≡ false → accesses_made s ≡ 0
         → IsStoppedPoll may_stop budget s.seat.consumer (accesses_made d.consumer)
     pub unread : d.stopped ≡ true → d.off ≡ false → accesses_made s ≡ 0 → ends_met d.consumer.reader.part < end - from

@@ -6,7 +6,7 @@ use Rattle.mb_cells.specs.declared.lane.LaneStage.TheVariants as stage
 use Rattle.mb_mailbox.specs.Below.{CellsName, Head, History, Item, Note}
 use Rattle.mb_mailbox.specs.Hubs.{LedgerView}
 use Rattle.mb_mailbox.specs.Producers.{ProducerView}
-use Rattle.mb_mailbox.specs.Worked.{LaneLeft}
+use Rattle.mb_mailbox.specs.Worked.{ConsumerLeft, LaneLeft}
 
 -- the producer of lane 0, which stands at this place, has done this and put these items
 abbrev pub producer_of_one : CellsName → Lane → History → List ℕ → ProducerView
@@ -46,3 +46,7 @@ stopped_lane items done = record { put = items; part = done; stopped = true }
 -- a ledger with these notes on lane 0
 abbrev pub ledger_with : List Note → LedgerView
 ledger_with notes = record { places = []; notes = notes ∷ [] }
+
+-- what a consumer left that has loaded this of the cells
+abbrev pub reader_left : History → ConsumerLeft
+reader_left reads = record { ledger = ledger_with []; reads = reads; claimed = []; stopped = true }

@@ -1,11 +1,11 @@
 -- What a run of workers makes of a hub.
-use Rattle.std.specs.Prelude.{ℕ, suc, ◌≡◌, ◌+◌, ◌-◌, ◌^◌, ◌<◌, ◌≤◌, ◌⊎◌, ◌++◌, Bool, List, [], ◌∷◌, Some, Vec, false, length, map, min, true}
+use Rattle.std.specs.Prelude.{ℕ, suc, ◌≡◌, ◌+◌, ◌-◌, ◌^◌, ◌<◌, ◌≤◌, ◌⊎◌, ◌++◌, Bool, List, [], ◌∷◌, Some, Vec, false, length, map, min, slice_index_or, true}
 use Rattle.std.specs.Int.{from_bool}
 use Rattle.std.specs.List.{All, AllZip, sum_by}
 use Rattle.mb_cells.specs.Vocabulary.{HasFoundNone}
-use Rattle.mb_mailbox.specs.Below.{ClaimAccess, History, consumer_count}
+use Rattle.mb_mailbox.specs.Below.{ClaimAccess, END, HasLoaded, HasMet, History, consumer_count, place_past}
 use Rattle.mb_mailbox.specs.Hubs.{HubView, LedgerView, PutListView}
-use Rattle.mb_mailbox.specs.Jobs.{IsFront, IsOnLanes, IsStopBefore, IsStoppedPoll, ends_met}
+use Rattle.mb_mailbox.specs.Jobs.{IsFront, IsOnLanes, IsStopBefore, IsStoppedPoll, count_marks, ends_met}
 use Rattle.mb_mailbox.specs.Mailboxes.{MailboxView}
 use Rattle.mb_mailbox.specs.Steps.{notes_on}
 use Rattle.mb_mailbox.specs.declared.gate.Who.{Who}
@@ -91,6 +91,25 @@ abbrev pub HasNoteAtEach : ℕ → List LaneLeft → LedgerView → Type 0
 HasNoteAtEach p [] ledger = Unit {0}
 HasNoteAtEach p (l ∷ ls) ledger = (length (notes_on p ledger.notes) ≡ length l.put) × HasNoteAtEach (suc p) ls ledger
 
+-- ---- end marks
+-- consumer c has loaded the end mark of lane p, past cells of this lane that it met
+pub record HasMetEnd (c p : ℕ) (reads : History) : Type 0 where
+  pub cells : List ℕ
+  pub met : HasMet c p cells reads
+  pub end : HasLoaded c (place_past p cells) END reads
+
+-- it has loaded just the end marks of some lanes, each of them from `from` on and below `end`, and each end mark once
+pub record HasMetEnds (from end c : ℕ) (reads : History) : Type 0 where
+  pub marks : List Bool
+  pub within : (p : ℕ) → slice_index_or marks p false ≡ true → (from ≤ p) × (p < end)
+  pub met : (p : ℕ) → slice_index_or marks p false ≡ true → HasMetEnd c p reads
+  pub once : ends_met reads ≡ count_marks marks
+
+-- so has each consumer from number c on
+abbrev pub HaveMetEnds : ℕ → ℕ → ℕ → List ConsumerLeft → Type 0
+HaveMetEnds from end c [] = Unit {0}
+HaveMetEnds from end c (l ∷ ls) = HasMetEnds from end c l.reads × HaveMetEnds from end (suc c) ls
+
 -- ---- who was stopped
 -- the producer of lane p was stopped before the call that was to put the next item of its list, and each of its fetch-adds
 -- found a cell
@@ -128,6 +147,8 @@ pub record IsWorked (may_stop : Who → ℕ → Type 0) (budget : ℕ) (lists : 
   -- loaded fewer
   pub ends : All (λ c. c.stopped ≡ false → ends_met c.reads ≡ length lists) consumers
   pub unread : All (λ c. c.stopped ≡ true → ends_met c.reads < length lists) consumers
+  -- Each consumer, stopped or not, has loaded the end marks of some of these lanes, each once, and no other end mark
+  pub met : HaveMetEnds (length old.puts) (length old.puts + length lists) (length old.ledgers) consumers
   -- No consumer has looked at the head of a lane that was not given in this call
   pub only : All (λ c. IsOnLanes (length old.puts) (length old.puts + length lists) c.reads) consumers
   -- Of those who were not stopped: `full` counts the items that they did not put, no further than 2^64 - 1,

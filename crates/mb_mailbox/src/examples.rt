@@ -16,8 +16,8 @@ ghost use Rattle.mb_mailbox.specs.Jobs.{IsOnLanes, IsStoppedPoll, ends_met};
 ghost use Rattle.mb_mailbox.specs.Producers.{HasNoCellFor, IsEndOfLane, IsFirstPastCells, IsPutInto};
 ghost use Rattle.mb_mailbox.specs.Steps.{IsPollOf, LeadTo};
 ghost use Rattle.mb_mailbox.specs.WorkExamples.{fetched, has_linked, idle_producer, lane_left, ledger_with, linked_early};
-ghost use Rattle.mb_mailbox.specs.WorkExamples.{producer_of_one, seven_put, stopped_lane};
-ghost use Rattle.mb_mailbox.specs.Worked.{AreCutByCells, HasNoteAtEach, IsStoppedPut, items_beyond};
+ghost use Rattle.mb_mailbox.specs.WorkExamples.{producer_of_one, reader_left, seven_put, stopped_lane};
+ghost use Rattle.mb_mailbox.specs.Worked.{AreCutByCells, HasMetEnd, HasMetEnds, HasNoteAtEach, HaveMetEnds, IsStoppedPut, items_beyond};
 
 use mb_claim::laws::prefixes_have_one_stage;
 
@@ -122,6 +122,16 @@ pub fn consumers_look_at_lanes()
     ensures past { IsOnLanes 1 3 (load 0 (Head 3) 0 ∷ []) → ⊥ }
     ensures ends { ends_met (load 0 (Link 4) END ∷ load 0 (Head 1) END ∷ load 0 (Head 1) 5 ∷ []) ≡ 2 }
     ensures no_ends { ends_met (store 0 (Head 0) END ∷ load 0 (Item 4) END ∷ load 0 (Link 4) 0 ∷ []) ≡ 0 }
+{}
+
+/// Which end marks consumers have loaded: each by itself, past the cells of their lane, and each once.
+pub fn consumers_read_to_the_end()
+    ensures past_a_cell { HasMetEnd 0 1 (load 0 (Link 4) END ∷ load 0 (Head 1) 5 ∷ []) }
+    ensures other_lane { HasMetEnd 0 2 (load 0 (Link 4) END ∷ load 0 (Head 1) 5 ∷ []) → ⊥ }
+    ensures other_reader { HasMetEnd 1 1 (load 0 (Link 4) END ∷ load 0 (Head 1) 5 ∷ []) → ⊥ }
+    ensures both { HaveMetEnds 0 2 0 (reader_left (load 0 (Head 1) END ∷ load 0 (Head 0) END ∷ []) ∷ []) }
+    ensures one_twice { HaveMetEnds 0 2 0 (reader_left (load 0 (Head 0) END ∷ load 0 (Head 0) END ∷ []) ∷ []) → ⊥ }
+    ensures again { HasMetEnds 0 1 0 (load 0 (Head 0) END ∷ load 0 (Head 0) END ∷ []) → ⊥ }
 {}
 
 /// Who counts as stopped: a producer before the put of its next item, that found a cell each time; and a consumer before a

@@ -59,6 +59,12 @@ returns-in_default g c = record {
       let all = marks_all c.loop-call.ended c.args.lanes.from c.args.lanes.end c.loop-call.invariant.marks
       (λ p low high. within c.loop-call.ended p (omega (arith, high, c.args.lanes.few, c.loop-call-test.array_long)) (c.in_default.ensures.none p low high)) in
       omega (arith, met, all);
+  marked = λ none. record {
+    marks = c.loop-call.ended;
+    within = c.loop-call.invariant.marks;
+    read = c.loop-call.invariant.read;
+    once = c.loop-call.invariant.ends none;
+  };
   stop = λ t o none. absurd (cc);
   unread = λ t o none. absurd (cc);
   only = λ o. c.loop-call.invariant.only;
@@ -74,6 +80,12 @@ returns-in-None g c = record {
       let all = marks_all c.loop-call.ended c.args.lanes.from c.args.lanes.end c.loop-call.invariant.marks
       (λ p low high. within c.loop-call.ended p (omega (arith, high, c.args.lanes.few, c.loop-call-test.array_long)) (c.in-None.ensures.none p low high)) in
       omega (arith, met, all);
+  marked = λ none. record {
+    marks = c.loop-call.ended;
+    within = c.loop-call.invariant.marks;
+    read = c.loop-call.invariant.read;
+    once = c.loop-call.invariant.ends none;
+  };
   stop = λ t o none. absurd (cc);
   unread = λ t o none. absurd (cc);
   only = λ o. c.loop-call.invariant.only;
@@ -87,6 +99,7 @@ returns g c =
       same = i.same;
       read = λ f. absurd (cc);
       ends = λ f none. absurd (cc);
+      marked = λ none. record { marks = c.loop-call.ended; within = i.marks; read = i.read; once = i.ends none };
       stop = λ t o none. record {
         call = c.loop-call.call;
         first = omega (arith, c.loop-call.auto.call);

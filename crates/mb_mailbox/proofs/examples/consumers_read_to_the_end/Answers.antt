@@ -1,0 +1,121 @@
+use Rattle.std.proofs.Common.{◌≡◌, ◌≢◌, ℕ, zero, suc, ◌+◌, ◌<◌, ◌≤◌, true, false, List, [], ◌∷◌, sym, ap, arith, inl, inr, refl}
+use Rattle.std.specs.Prelude.{slice_index_or}
+use Rattle.mb_cells.specs.declared.access.PoolAccess.{PoolAccess}
+use Rattle.mb_cells.specs.declared.access.PoolAct.{PoolAct}
+use Rattle.mb_cells.specs.declared.access.Process.{Process}
+use Rattle.mb_mailbox.specs.Below.{END, HasLoaded, HasMet, Head, History, Link, Load, Producer, Reader, Word, load, place_past}
+use Rattle.mb_mailbox.specs.Worked.{HasMetEnd, HasMetEnds}
+use Rattle.mb_mailbox.proofs.Marks.{marks_most}
+use Rattle.mb_mailbox.proofs.examples.consumers_read_to_the_end.Goals as goal
+
+abbrev lane_of : Word → ℕ
+lane_of (Head p) = p
+lane_of _ = 0
+
+abbrev reader_of : Process → ℕ
+reader_of (Reader r) = r
+reader_of (Producer p) = 0
+
+abbrev value_of : PoolAct → ℕ
+value_of (Load v) = v
+value_of _ = 0
+
+abbrev past_four : History
+past_four = load 0 (Link 4) END ∷ load 0 (Head 1) 5 ∷ []
+
+abbrev twice : History
+twice = load 0 (Head 0) END ∷ load 0 (Head 0) END ∷ []
+
+-- lane 2 has no link, and no head that was loaded
+no_link : (ks : List ℕ) (v : ℕ) → v ≢ END → HasLoaded 0 (place_past 2 ks) v past_four → ⊥
+no_link [] v ne has = elim has [
+  | inl same ↦ (let no : Link 4 ≡ Head 2 = ap (λ (x : PoolAccess). x.word) same in absurd (cc))
+  | inr (inl same) ↦ (let no : 1 ≡ 2 = ap (λ (x : PoolAccess). lane_of x.word) same in absurd (omega (arith, no)))
+  | inr (inr none) ↦ none
+]
+no_link (k ∷ ks) v ne has = elim has [
+  | inl same ↦ (let is : END ≡ v = ap (λ (x : PoolAccess). value_of x.act) same in absurd (ne (sym is)))
+  | inr (inl same) ↦ (let no : Head 1 ≡ Link k = ap (λ (x : PoolAccess). x.word) same in absurd (cc))
+  | inr (inr none) ↦ none
+]
+
+no_end : (ks : List ℕ) → HasMet 0 2 ks past_four → HasLoaded 0 (place_past 2 ks) END past_four → ⊥
+no_end [] met has = elim has [
+  | inl same ↦ (let no : Link 4 ≡ Head 2 = ap (λ (x : PoolAccess). x.word) same in absurd (cc))
+  | inr (inl same) ↦ (let no : 1 ≡ 2 = ap (λ (x : PoolAccess). lane_of x.word) same in absurd (omega (arith, no)))
+  | inr (inr none) ↦ none
+]
+no_end (k ∷ ks) met has = no_link ks (k + 1) met.1 met.0
+
+-- the reader is another
+other : (w : Word) → HasLoaded 1 w END past_four → ⊥
+other w has = elim has [
+  | inl same ↦ (let no : 0 ≡ 1 = ap (λ (x : PoolAccess). reader_of x.process) same in absurd (omega (arith, no)))
+  | inr (inl same) ↦ (let no : 0 ≡ 1 = ap (λ (x : PoolAccess). reader_of x.process) same in absurd (omega (arith, no)))
+  | inr (inr none) ↦ none
+]
+
+-- the end of lane 1 is not met by loads of the head of lane 0
+elsewhere : (ks : List ℕ) → HasLoaded 0 (place_past 1 ks) END twice → ⊥
+elsewhere [] has = elim has [
+  | inl same ↦ (let no : 0 ≡ 1 = ap (λ (x : PoolAccess). lane_of x.word) same in absurd (omega (arith, no)))
+  | inr (inl same) ↦ (let no : 0 ≡ 1 = ap (λ (x : PoolAccess). lane_of x.word) same in absurd (omega (arith, no)))
+  | inr (inr none) ↦ none
+]
+elsewhere (k ∷ ks) has = elim has [
+  | inl same ↦ (let no : Head 0 ≡ Link k = ap (λ (x : PoolAccess). x.word) same in absurd (cc))
+  | inr (inl same) ↦ (let no : Head 0 ≡ Link k = ap (λ (x : PoolAccess). x.word) same in absurd (cc))
+  | inr (inr none) ↦ none
+]
+
+-- marks of which one end is met twice
+first_alone : (h : HasMetEnds 0 2 0 twice) (p : ℕ) → slice_index_or h.marks p false ≡ true → p < 2 → p < 1
+first_alone h zero e low = omega arith
+first_alone h (suc zero) e low = absurd (let at = h.met 1 e in elsewhere at.cells at.end)
+first_alone h (suc (suc p)) e low = absurd (omega (arith, low))
+
+pub returns-clause-past_a_cell : goal.returns-clause-past_a_cell
+returns-clause-past_a_cell c = record {
+  cells = 4 ∷ [];
+  met = (inr (inl refl), (λ e. omega (arith, e)), tt);
+  end = inl refl;
+}
+
+pub returns-clause-other_lane : goal.returns-clause-other_lane
+returns-clause-other_lane c = λ m. no_end m.cells m.met m.end
+
+pub returns-clause-other_reader : goal.returns-clause-other_reader
+returns-clause-other_reader c = λ m. other (place_past 1 m.cells) m.end
+
+pub returns-clause-both : goal.returns-clause-both
+returns-clause-both c = (
+  record {
+    marks = true ∷ true ∷ [];
+    within = within;
+    met = met;
+    once = refl;
+  },
+  tt,
+)
+  where
+    within : (p : ℕ) → slice_index_or (true ∷ true ∷ []) p false ≡ true → (0 ≤ p) × (p < 2)
+    within zero e = (omega arith, omega arith)
+    within (suc zero) e = (omega arith, omega arith)
+    within (suc (suc p)) e = absurd (cc)
+
+    met : (p : ℕ) → slice_index_or (true ∷ true ∷ []) p false ≡ true → HasMetEnd 0 p (load 0 (Head 1) END ∷ load 0 (Head 0) END ∷ [])
+    met zero e = record { cells = []; met = tt; end = inr (inl refl) }
+    met (suc zero) e = record { cells = []; met = tt; end = inl refl }
+    met (suc (suc p)) e = absurd (cc)
+
+pub returns-clause-one_twice : goal.returns-clause-one_twice
+returns-clause-one_twice c = λ h.
+    let once = h.0.once in
+    let most = marks_most h.0.marks 0 1 (λ p e. (omega arith, first_alone h.0 p e (h.0.within p e).1)) in
+    omega (arith, once, most)
+
+pub returns-clause-again : goal.returns-clause-again
+returns-clause-again c = λ h.
+    let once = h.once in
+    let most = marks_most h.marks 0 1 h.within in
+    omega (arith, once, most)
