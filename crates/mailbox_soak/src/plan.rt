@@ -1,5 +1,7 @@
 //! What a run is made of.
 
+ghost use Rattle.std.specs.Prelude.{◌+◌, ◌*◌, ◌^◌, ◌<◌, ◌≤◌};
+
 use crate::sources::chacha;
 use mb_quorum::TableName;
 use rand_core::Rng;
@@ -34,9 +36,12 @@ pub struct Plan {
 }
 
 /// A number from `least` on, one of so many.
-fn drawn<R: Rng>(rng: &mut R, least: u64, amount: u64) -> u64 {
-    let word = rng.next_u64();
-    least.wrapping_add(word.checked_rem(amount).unwrap_or(0))
+fn drawn<R: Rng>(rng: &mut R, least: u64, amount: u64) -> u64
+    requires some { 0 < amount }
+    requires fits { least + amount < 2 ^ 64 }
+    ensures range { (least ≤ result) × (result < least + amount) }
+{
+    least + rng.next_u64() % amount
 }
 
 /// Whether the next word is even.
@@ -46,7 +51,14 @@ fn is_even<R: Rng>(rng: &mut R) -> bool {
 
 impl Plan {
     /// The plan of a run of a seed.
-    pub fn of(seed: u64, number: u64) -> Plan {
+    pub fn of(seed: u64, number: u64) -> Plan
+        ensures producers { (1 ≤ result.producers) × (result.producers ≤ 16) }
+        ensures consumers { (1 ≤ result.consumers) × (result.consumers ≤ 16) }
+        ensures cells { result.cells ≤ 256 }
+        ensures pairs { (1 ≤ result.pairs) × (result.pairs ≤ 8) }
+        ensures budget { (1 ≤ result.budget) × (result.budget ≤ 64) }
+        ensures items { result.items ≤ 2 * result.cells + 1 }
+    {
         let mut rng = chacha(seed, number, 0);
         let producers = drawn(&mut rng, 1, 16);
         let consumers = drawn(&mut rng, 1, 16);
@@ -55,11 +67,11 @@ impl Plan {
         } else {
             drawn(&mut rng, 0, 257)
         };
-        let share = cells.checked_div(producers).unwrap_or(0);
+        let share = cells / producers;
         let items = if is_even(&mut rng) {
             share
         } else {
-            drawn(&mut rng, 0, share.wrapping_mul(2).wrapping_add(2))
+            drawn(&mut rng, 0, 2 * share + 2)
         };
         let stops = match drawn(&mut rng, 0, 4) {
             0 => Stops::Anybody(drawn(&mut rng, 2, 200)),
