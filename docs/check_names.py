@@ -8,7 +8,7 @@ code, the definitions, the proofs, the examples or the names of files have it, c
   - in `crate::..::name`, and in `Type::name` of a crate's own page, that crate has to have the last word;
   - in "`name` in `specs/File.antt`" one of the files named there has to have the name;
   - in "`function`: `clause`" a function of that name has to have that clause;
-  - a block of Rust has to stand, line by line, in a source file.
+  - a block of Rust has to stand, line by line, in a source file; where it has signatures alone, each of them has to.
 It also looks whether `examples/script` prints the script of each example, and whether each sample of a page, and of the
 program's help, is what an example has:
   - behind a line `$ COMMAND` stands what that command prints, be it a script, an output, or the first or last lines of one;
@@ -150,8 +150,22 @@ def faults_of(page, sources):
             if functions[-1] in sources.clauses and clause not in known:
                 yield f"the clause {clause} of {names}"
     for language, block in blocks:
-        if language == "rust" and not any(stands_in(lines(block), lines(read(it))) for it in sources.texts):
-            yield f"the block that begins with {lines(block)[0]}"
+        for part in parts_of(block) if language == "rust" else []:
+            if not any(stands_in(part, lines(read(it))) for it in sources.texts):
+                yield f"the block that begins with {part[0]}"
+
+
+def parts_of(block):
+    """Of a block of signatures, which begins with an `impl`, each of them; any other block as it is."""
+    if not block.startswith("impl"):
+        return [lines(block)]
+    parts = []
+    for line in lines(block):
+        if line.startswith(("impl", "pub ", "fn ")):
+            parts.append([])
+        if line != "}":
+            parts[-1].append(line)
+    return parts
 
 
 def stands_in(few, many):
