@@ -59,13 +59,13 @@ tells_end (Head p) (Load v) = is_ended (look_of v)
 tells_end (Link k) (Load v) = is_ended (look_of v)
 tells_end _ _ = false
 
--- how many end marks were loaded by these accesses
+-- how many of these accesses load an end mark
 abbrev pub ends_met : History → ℕ
 ends_met [] = 0
 ends_met (a ∷ older) = from_bool (tells_end a.word a.act) + ends_met older
 
--- the consumer is done with the lanes that some marks name: each of them from `from` on and below `end`, read to its end mark,
--- and no end mark was loaded twice
+-- some lanes are marked, perhaps none, each of them from `from` on and below `end`: the consumer has read each to its end mark,
+-- and it has loaded end marks as many times as lanes are marked. Since a cell stands in one lane, that is each once, and no other
 pub record HasReadEnds (from end : ℕ) (s : ConsumerView) : Type 0 where
   pub marks : List Bool
   pub within : (p : ℕ) → slice_index_or marks p false ≡ true → (from ≤ p) × (p < end)
@@ -102,9 +102,9 @@ module _ {Z : Type 0} (may_stop : Who → ℕ → Type 0) where
         → IsStopBefore may_stop (who.Producer j.producer.seat.lane) (suc (length d.producer.items))
 
   -- the consumer, where it was not stopped, has read each lane from `from` on and below `end` to its end mark. One that had
-  -- made no access has then loaded as many end marks as there are of these lanes; stopped or not, it has loaded no end mark
-  -- but of those of these lanes that it has read to their ends, and each once. Where the run is not off, it has looked at these
-  -- lanes alone, and where it was stopped it was so before a call, and has loaded fewer end marks
+  -- made no access has then loaded as many end marks as there are of these lanes; stopped or not, it has loaded end marks
+  -- just as many times as there are lanes among these that it has read to their ends. Where the run is not off, it has looked at
+  -- the heads of these lanes alone, and where it was stopped it was so before a call, and has loaded fewer end marks
   pub record IsPollEnd (from end budget : ℕ) (s : ConsumerView) (d : PollDone Z) : Type 0 where
     pub same : IsSameConsumer s d.consumer
     pub read : d.stopped ≡ false → (p : ℕ) → from ≤ p → p < end → HasReadToEnd p d.consumer

@@ -47,6 +47,6 @@ stopped_lane items done = record { put = items; part = done; stopped = true }
 abbrev pub ledger_with : List Note → LedgerView
 ledger_with notes = record { places = []; notes = notes ∷ [] }
 
--- what a consumer left that has loaded this of the cells
+-- what a consumer left that was stopped, and has loaded this of the cells
 abbrev pub reader_left : History → ConsumerLeft
 reader_left reads = record { ledger = ledger_with []; reads = reads; claimed = []; stopped = true }

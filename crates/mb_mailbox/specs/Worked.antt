@@ -92,20 +92,21 @@ HasNoteAtEach p [] ledger = Unit {0}
 HasNoteAtEach p (l ∷ ls) ledger = (length (notes_on p ledger.notes) ≡ length l.put) × HasNoteAtEach (suc p) ls ledger
 
 -- ---- end marks
--- consumer c has loaded the end mark of lane p, past cells of this lane that it met
+-- consumer c has loaded the end mark of lane p, past cells of this lane that it met (before that, as its path has it)
 pub record HasMetEnd (c p : ℕ) (reads : History) : Type 0 where
   pub cells : List ℕ
   pub met : HasMet c p cells reads
   pub end : HasLoaded c (place_past p cells) END reads
 
--- it has loaded just the end marks of some lanes, each of them from `from` on and below `end`, and each end mark once
+-- some lanes are marked, perhaps none, each of them from `from` on and below `end`: it has loaded the end mark of each, and has
+-- loaded end marks as many times as lanes are marked. Since a cell stands in one lane, that is each once, and no other
 pub record HasMetEnds (from end c : ℕ) (reads : History) : Type 0 where
   pub marks : List Bool
   pub within : (p : ℕ) → slice_index_or marks p false ≡ true → (from ≤ p) × (p < end)
   pub met : (p : ℕ) → slice_index_or marks p false ≡ true → HasMetEnd c p reads
   pub once : ends_met reads ≡ count_marks marks
 
--- so has each consumer from number c on
+-- so has each of these consumers, the first of which is number c
 abbrev pub HaveMetEnds : ℕ → ℕ → ℕ → List ConsumerLeft → Type 0
 HaveMetEnds from end c [] = Unit {0}
 HaveMetEnds from end c (l ∷ ls) = HasMetEnds from end c l.reads × HaveMetEnds from end (suc c) ls
@@ -147,7 +148,8 @@ pub record IsWorked (may_stop : Who → ℕ → Type 0) (budget : ℕ) (lists : 
   -- loaded fewer
   pub ends : All (λ c. c.stopped ≡ false → ends_met c.reads ≡ length lists) consumers
   pub unread : All (λ c. c.stopped ≡ true → ends_met c.reads < length lists) consumers
-  -- Each consumer, stopped or not, has loaded the end marks of some of these lanes, each once, and no other end mark
+  -- Each consumer, stopped or not, has loaded the end marks of none, some or all of these lanes, past cells of the lane that it
+  -- met, and no more end marks
   pub met : HaveMetEnds (length old.puts) (length old.puts + length lists) (length old.ledgers) consumers
   -- No consumer has looked at the head of a lane that was not given in this call
   pub only : All (λ c. IsOnLanes (length old.puts) (length old.puts + length lists) c.reads) consumers

@@ -127,9 +127,17 @@ pub fn consumers_look_at_lanes()
 /// Which end marks consumers have loaded: each by itself, past the cells of their lane, and each once.
 pub fn consumers_read_to_the_end()
     ensures past_a_cell { HasMetEnd 0 1 (load 0 (Link 4) END ∷ load 0 (Head 1) 5 ∷ []) }
+    ensures not_met { HasMetEnd 0 1 (load 0 (Link 4) END ∷ []) → ⊥ }
     ensures other_lane { HasMetEnd 0 2 (load 0 (Link 4) END ∷ load 0 (Head 1) 5 ∷ []) → ⊥ }
     ensures other_reader { HasMetEnd 1 1 (load 0 (Link 4) END ∷ load 0 (Head 1) 5 ∷ []) → ⊥ }
     ensures both { HaveMetEnds 0 2 0 (reader_left (load 0 (Head 1) END ∷ load 0 (Head 0) END ∷ []) ∷ []) }
+    ensures one_of_two { HasMetEnds 0 2 0 (load 0 (Head 1) END ∷ []) }
+    ensures below { HasMetEnds 1 2 0 (load 0 (Head 0) END ∷ []) → ⊥ }
+    ensures nothing { HasMetEnds 0 0 0 [] }
+    ensures numbers { HaveMetEnds 0 1 3
+        (reader_left (load 3 (Head 0) END ∷ []) ∷ reader_left (load 4 (Head 0) END ∷ []) ∷ []) }
+    ensures same_number { HaveMetEnds 0 1 3
+        (reader_left (load 3 (Head 0) END ∷ []) ∷ reader_left (load 3 (Head 0) END ∷ []) ∷ []) → ⊥ }
     ensures one_twice { HaveMetEnds 0 2 0 (reader_left (load 0 (Head 0) END ∷ load 0 (Head 0) END ∷ []) ∷ []) → ⊥ }
     ensures again { HasMetEnds 0 1 0 (load 0 (Head 0) END ∷ load 0 (Head 0) END ∷ []) → ⊥ }
 {}

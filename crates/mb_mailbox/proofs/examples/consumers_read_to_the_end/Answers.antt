@@ -81,6 +81,19 @@ returns-clause-past_a_cell c = record {
   end = inl refl;
 }
 
+unmet : (ks : List ℕ) → HasMet 0 1 ks (load 0 (Link 4) END ∷ []) → HasLoaded 0 (place_past 1 ks) END (load 0 (Link 4) END ∷ []) → ⊥
+unmet [] met has = elim has [
+  | inl same ↦ (let no : Link 4 ≡ Head 1 = ap (λ (x : PoolAccess). x.word) same in absurd (cc))
+  | inr none ↦ none
+]
+unmet (k ∷ ks) met has = elim met.0 [
+  | inl same ↦ (let is : END ≡ k + 1 = ap (λ (x : PoolAccess). value_of x.act) same in absurd (met.1 (sym is)))
+  | inr none ↦ none
+]
+
+pub returns-clause-not_met : goal.returns-clause-not_met
+returns-clause-not_met c = λ m. unmet m.cells m.met m.end
+
 pub returns-clause-other_lane : goal.returns-clause-other_lane
 returns-clause-other_lane c = λ m. no_end m.cells m.met m.end
 
@@ -107,6 +120,76 @@ returns-clause-both c = (
     met zero e = record { cells = []; met = tt; end = inr (inl refl) }
     met (suc zero) e = record { cells = []; met = tt; end = inl refl }
     met (suc (suc p)) e = absurd (cc)
+
+-- the marks of one lane alone, and of none
+only_second : (p : ℕ) → slice_index_or (false ∷ true ∷ []) p false ≡ true → (0 ≤ p) × (p < 2)
+only_second zero e = absurd (cc)
+only_second (suc zero) e = (omega arith, omega arith)
+only_second (suc (suc p)) e = absurd (cc)
+
+second_met : (p : ℕ) → slice_index_or (false ∷ true ∷ []) p false ≡ true → HasMetEnd 0 p (load 0 (Head 1) END ∷ [])
+second_met zero e = absurd (cc)
+second_met (suc zero) e = record { cells = []; met = tt; end = inl refl }
+second_met (suc (suc p)) e = absurd (cc)
+
+pub returns-clause-one_of_two : goal.returns-clause-one_of_two
+returns-clause-one_of_two c = record { marks = false ∷ true ∷ []; within = only_second; met = second_met; once = refl }
+
+-- a load of the head of lane 0 is not one of the end of lane 1
+not_below : (ks : List ℕ) → HasLoaded 0 (place_past 1 ks) END (load 0 (Head 0) END ∷ []) → ⊥
+not_below [] has = elim has [
+  | inl same ↦ (let no : 0 ≡ 1 = ap (λ (x : PoolAccess). lane_of x.word) same in absurd (omega (arith, no)))
+  | inr none ↦ none
+]
+not_below (k ∷ ks) has = elim has [
+  | inl same ↦ (let no : Head 0 ≡ Link k = ap (λ (x : PoolAccess). x.word) same in absurd (cc))
+  | inr none ↦ none
+]
+
+none_below : (h : HasMetEnds 1 2 0 (load 0 (Head 0) END ∷ [])) (p : ℕ) → slice_index_or h.marks p false ≡ true → (1 ≤ p) × (p < 1)
+none_below h zero e = absurd (let low = (h.within 0 e).0 in omega (arith, low))
+none_below h (suc zero) e = absurd (let at = h.met 1 e in not_below at.cells at.end)
+none_below h (suc (suc p)) e = absurd (let high = (h.within (suc (suc p)) e).1 in omega (arith, high))
+
+pub returns-clause-below : goal.returns-clause-below
+returns-clause-below c = λ h.
+    let once = h.once in
+    let most = marks_most h.marks 1 1 (none_below h) in
+    omega (arith, once, most)
+
+pub returns-clause-nothing : goal.returns-clause-nothing
+returns-clause-nothing c = record { marks = []; within = λ p e. absurd (cc); met = λ p e. absurd (cc); once = refl }
+
+first_alone_marked : (p : ℕ) → slice_index_or (true ∷ []) p false ≡ true → (0 ≤ p) × (p < 1)
+first_alone_marked zero e = (omega arith, omega arith)
+first_alone_marked (suc p) e = absurd (cc)
+
+head_met : (c p : ℕ) → slice_index_or (true ∷ []) p false ≡ true → HasMetEnd c p (load c (Head 0) END ∷ [])
+head_met c zero e = record { cells = []; met = tt; end = inl refl }
+head_met c (suc p) e = absurd (cc)
+
+by_itself : (c : ℕ) → HasMetEnds 0 1 c (load c (Head 0) END ∷ [])
+by_itself c = record { marks = true ∷ []; within = first_alone_marked; met = head_met c; once = refl }
+
+pub returns-clause-numbers : goal.returns-clause-numbers
+returns-clause-numbers c = (by_itself 3, (by_itself 4, tt))
+
+-- what another reader has loaded is not its own
+of_another : (w : Word) → HasLoaded 4 w END (load 3 (Head 0) END ∷ []) → ⊥
+of_another w has = elim has [
+  | inl same ↦ (let no : 3 ≡ 4 = ap (λ (x : PoolAccess). reader_of x.process) same in absurd (omega (arith, no)))
+  | inr none ↦ none
+]
+
+none_of_it : (h : HasMetEnds 0 1 4 (load 3 (Head 0) END ∷ [])) (p : ℕ) → slice_index_or h.marks p false ≡ true → (0 ≤ p) × (p < 0)
+none_of_it h p e = absurd (let at = h.met p e in of_another (place_past p at.cells) at.end)
+
+pub returns-clause-same_number : goal.returns-clause-same_number
+returns-clause-same_number c = λ h.
+    let second = h.1.0 in
+    let once = second.once in
+    let most = marks_most second.marks 0 0 (none_of_it second) in
+    omega (arith, once, most)
 
 pub returns-clause-one_twice : goal.returns-clause-one_twice
 returns-clause-one_twice c = λ h.
