@@ -28,6 +28,8 @@ mod ratifiers;
 #[cfg(test)]
 mod refused_memory;
 #[cfg(test)]
+mod reports;
+#[cfg(test)]
 mod scripts;
 #[cfg(test)]
 mod shared_cells;
