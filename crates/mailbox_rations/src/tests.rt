@@ -4,4 +4,3 @@ mod giving;
 mod refusing;
 mod trial;
 mod working;
-mod zeros;

@@ -3,7 +3,7 @@
 use crate::gates::RandomGate;
 use crate::plan::{Plan, Stops};
 use crate::refused::check_refused;
-use crate::sources::{Zeros, chacha};
+use crate::sources::chacha;
 use crate::totals::Totals;
 use mailbox_audit::{Flaw, audit};
 use mb_mailbox::{Mailbox, WorkFault, Worked, work};
@@ -12,6 +12,7 @@ use rand_core::Rng;
 use std::alloc::{AllocError, Global};
 use std::sync::Wait;
 use std::thread::Threads;
+use test_tools::Zeros;
 
 /// How a run went wrong.
 #[derive(Clone, Copy, PartialEq, Eq, Debug)]
@@ -179,7 +180,7 @@ pub fn run<W: Threads + Wait + Sync>(
     if plan.zeros {
         let mut rngs = Vec::new(alloc);
         for _ in 0..plan.consumers {
-            rngs.push(Zeros).map_err(|_| Fault::NoMemory)?;
+            rngs.push(Zeros::default()).map_err(|_| Fault::NoMemory)?;
         }
         run_with(rt, alloc, plan, rngs)
     } else {

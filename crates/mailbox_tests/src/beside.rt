@@ -4,7 +4,7 @@ ghost use Rattle.mb_mailbox.specs.Consumers.{IsConsumerOf};
 ghost use Rattle.mb_mailbox.specs.Hubs.{IsHubOf};
 ghost use Rattle.mb_mailbox.specs.Producers.{IsProducerOf};
 
-use crate::words::{chacha, words_0};
+use crate::words::chacha;
 use mailbox_audit::audit;
 use mb_mailbox::{Consumer, Hub, Mailbox, Poll, Producer, Put};
 use mb_quorum::TableName;
@@ -13,6 +13,7 @@ use std::alloc::Global;
 use std::process::Abort;
 use std::test::Fail;
 use std::thread::{Threads, join};
+use test_tools::Zeros;
 
 /// How many items each producer puts.
 const ITEMS: u64 = 32;
@@ -85,7 +86,7 @@ fn is_read_back<R: Threads + Sync + Abort>(
 {
     let (producer, put) = put_elsewhere(rt, mailbox, producer, x);
     assert_eq!(rt; put, Put::Linked);
-    let mut words = words_0();
+    let mut words = Zeros::default();
     let poll = consumer.poll(mailbox, 0, 100, &mut words);
     assert_eq!(rt; poll, Poll::Took(x));
     let poll = consumer.poll(mailbox, 0, 100, &mut words);

@@ -4,37 +4,12 @@ use crate::trials::{ends, new_trial};
 use crate::workers::lists;
 use mb_mailbox::{Gate, Who, Worked};
 use mb_world::Note;
-use rand_core::Rng;
 use std::process::Abort;
 use std::sync::Wait;
 use std::sync::atomic::{AtomicU64, Ordering};
 use std::test::Fail;
 use std::thread::Threads;
-
-/// A source of words 0, which counts the words of 64 bits that it gave where others see it.
-#[derive(Drop)]
-struct SeenZeros<'a> {
-    given: &'a AtomicU64,
-}
-
-impl<'a> Rng for SeenZeros<'a> {
-    ghost use Rattle.mailbox_tests.specs.Zeros.{zeros};
-
-    ghost stream = { λ _. zeros };
-
-    fn next_u32(&mut self) -> u32 {
-        0
-    }
-
-    fn next_u64(&mut self) -> u64 {
-        self.given.fetch_add(1, Ordering::SeqCst);
-        0
-    }
-
-    fn fill_bytes(&mut self, dst: &mut [u8]) {
-        dst.fill(0);
-    }
-}
+use test_tools::SeenZeros;
 
 /// A gate that stops one consumer before its first call, and nobody else.
 #[derive(Drop)]
@@ -76,7 +51,6 @@ fn words_drawn<R: Abort + AllocGlobal + Threads + Wait + Sync>(
     };
     assert_eq!(rt; worked, Ok(one_stopped));
     ends(
-        rt,
         rt.alloc(),
         trial,
         &[(&[5], true, &[])],

@@ -121,7 +121,7 @@ impl Gate for Record {
 }
 
 #[test]
-fn a_gate_is_asked_before_each_call_and_told_after_it(rt: HostRuntime) -> Result<(), Fail> {
+fn asks_and_tells_of_a_gate_alternate(rt: HostRuntime) -> Result<(), Fail> {
     let mut trial = new_trial(rt.alloc(), 2, 2, 5)?;
     let gate = Record {
         times: [0; 4].map(AtomicU64::new),
@@ -180,7 +180,6 @@ fn lanes_are_polled_in_turn(rt: HostRuntime) -> Result<(), Fail> {
     };
     assert_eq!(rt; worked, Ok(one_stopped));
     ends(
-        &rt,
         rt.alloc(),
         trial,
         &[(&[10, 11], true, &[]), (&[20, 21], true, &[21])],

@@ -1,56 +1,18 @@
-//! Tests that the libraries are proved without: worked examples, and calls whose memory is refused.
+//! Tests of the mailbox, which is proved without them: worked examples, threads, and calls whose memory is refused.
 #![tactic(auto)]
 
 #[cfg(test)]
-mod answers;
-#[cfg(test)]
-mod audits;
-#[cfg(test)]
 mod beside;
-#[cfg(test)]
-mod cells;
-#[cfg(test)]
-mod claims;
-#[cfg(test)]
-mod conciliators;
-#[cfg(test)]
-mod devices;
 #[cfg(test)]
 mod draws;
 #[cfg(test)]
-mod entries;
-#[cfg(test)]
-mod events;
-#[cfg(test)]
 mod gates;
-#[cfg(test)]
-mod heaps;
 #[cfg(test)]
 mod mailboxes;
 #[cfg(test)]
-mod mirrored;
-#[cfg(test)]
-mod own_table;
-#[cfg(test)]
 mod polls;
 #[cfg(test)]
-mod pools;
-#[cfg(test)]
-mod ratifiers;
-#[cfg(test)]
 mod refused_mailboxes;
-#[cfg(test)]
-mod refused_memory;
-#[cfg(test)]
-mod scripts;
-#[cfg(test)]
-mod shared_cells;
-#[cfg(test)]
-mod shared_claims;
-#[cfg(test)]
-mod spoiled_words;
-#[cfg(test)]
-mod tables;
 #[cfg(test)]
 mod texts;
 #[cfg(test)]
@@ -61,5 +23,3 @@ mod trials;
 mod words;
 #[cfg(test)]
 mod workers;
-#[cfg(test)]
-mod worlds;

@@ -2,7 +2,6 @@
 
 use crate::trial::Trial;
 use crate::trials::{all_given, ends, new_trial};
-use crate::words::words_0;
 use mb_cells::Finish;
 use mb_mailbox::{GatherFault, HubFault, Poll, Put};
 use mb_script::report_text;
@@ -11,6 +10,7 @@ use rand_core::Rng;
 use std::alloc::{Allocator, Global};
 use std::process::Abort;
 use std::test::Fail;
+use test_tools::Zeros;
 
 /// Puts an item, ends the lane and polls it. It is handed nothing that it could wait with.
 fn put_finish_and_poll<A: Allocator + Clone + Drop, R: Rng>(
@@ -27,9 +27,11 @@ fn put_finish_and_poll<A: Allocator + Clone + Drop, R: Rng>(
 fn an_item_is_put_and_taken(rt: HostRuntime) -> Result<(), Fail> {
     let mut trial = all_given(rt.alloc(), 1, 1, 1)?;
     assert_eq!(rt; trial.put(0, 7), Some(Put::Linked));
-    assert_eq!(rt; trial.poll(0, 0, 100, &mut words_0()), Some(Poll::Took(7)));
+    assert_eq!(rt;
+        trial.poll(0, 0, 100, &mut Zeros::default()),
+        Some(Poll::Took(7))
+    );
     ends(
-        &rt,
         rt.alloc(),
         trial,
         &[(&[7], false, &[])],
@@ -40,7 +42,7 @@ fn an_item_is_put_and_taken(rt: HostRuntime) -> Result<(), Fail> {
 #[test]
 fn nothing_is_waited_for(rt: HostRuntime) -> Result<(), Fail> {
     let mut trial = all_given(rt.alloc(), 1, 1, 1)?;
-    let mut words = words_0();
+    let mut words = Zeros::default();
     let (put, finish, poll) = put_finish_and_poll(&mut trial, &mut words);
     assert_eq!(rt; put, Some(Put::Linked));
     assert_eq!(rt; finish, Some(Finish::Ended));
@@ -63,7 +65,6 @@ fn all_numbers_are_given(rt: HostRuntime) -> Result<(), Fail> {
     };
     assert_eq!(rt; fault, GatherFault::Missing(0, 1));
     ends(
-        &rt,
         rt.alloc(),
         trial,
         &[(&[], false, &[])],
@@ -74,14 +75,13 @@ fn all_numbers_are_given(rt: HostRuntime) -> Result<(), Fail> {
 #[test]
 fn a_poll_of_no_lane_or_no_budget_draws_nothing(rt: HostRuntime) -> Result<(), Fail> {
     let mut trial = all_given(rt.alloc(), 1, 1, 1)?;
-    let mut words = words_0();
+    let mut words = Zeros::default();
     assert_eq!(rt; trial.poll(0, 1, 100, &mut words), Some(Poll::NoLane));
     assert_eq!(rt; trial.poll(0, 1, 0, &mut words), Some(Poll::NoLane));
     assert_eq!(rt; trial.poll(0, u64::MAX, 1, &mut words), Some(Poll::NoLane));
     assert_eq!(rt; trial.poll(0, 0, 0, &mut words), Some(Poll::Spent));
     assert_eq!(rt; words.given, 0);
     ends(
-        &rt,
         rt.alloc(),
         trial,
         &[(&[], false, &[])],
@@ -93,8 +93,14 @@ fn a_poll_of_no_lane_or_no_budget_draws_nothing(rt: HostRuntime) -> Result<(), F
 fn one_went_away<R: Abort + AllocGlobal>(rt: &R) -> Result<Trial<Global>, Fail> {
     let mut trial = all_given(rt.alloc(), 1, 2, 1)?;
     assert_eq!(rt; trial.put(0, 5), Some(Put::Linked));
-    assert_eq!(rt; trial.poll(0, 0, 8, &mut words_0()), Some(Poll::Spent));
-    assert_eq!(rt; trial.poll(1, 0, 100, &mut words_0()), Some(Poll::Lost(0)));
+    assert_eq!(rt;
+        trial.poll(0, 0, 8, &mut Zeros::default()),
+        Some(Poll::Spent)
+    );
+    assert_eq!(rt;
+        trial.poll(1, 0, 100, &mut Zeros::default()),
+        Some(Poll::Lost(0))
+    );
     Ok(trial)
 }
 
@@ -133,7 +139,6 @@ fn nobody_is_taken_in(rt: HostRuntime) -> Result<(), Fail> {
 fn nobody_is_given(rt: HostRuntime) -> Result<(), Fail> {
     let trial = new_trial(rt.alloc(), 1, 2, 1)?;
     ends(
-        &rt,
         rt.alloc(),
         trial,
         &[(&[], false, &[])],
@@ -152,7 +157,6 @@ fn two_producers_want_the_only_cell(rt: HostRuntime) -> Result<(), Fail> {
     assert_eq!(rt; trial.finish(1), Some(Finish::Closed));
     assert_eq!(rt; trial.put(0, 9), Some(Put::Full));
     ends(
-        &rt,
         rt.alloc(),
         trial,
         &[(&[5], false, &[5]), (&[], true, &[])],
@@ -168,7 +172,7 @@ fn an_ended_lane_is_read_by_a_consumer_given_later(rt: HostRuntime) -> Result<()
     assert_eq!(rt; trial.finish(0), Some(Finish::Ended));
     assert!(rt; trial.take_producer(0));
     trial.consumer(rt.alloc())?;
-    let mut words = words_0();
+    let mut words = Zeros::default();
     assert_eq!(rt; trial.poll(0, 0, 100, &mut words), Some(Poll::Took(7)));
     assert_eq!(rt; trial.poll(0, 0, 100, &mut words), Some(Poll::Ended));
     Ok(())

@@ -2,12 +2,12 @@
 
 use crate::trial::Trial;
 use crate::trials::{all_given, ends, new_trial};
-use crate::words::{Zeros, words_0};
 use mb_mailbox::{Poll, Put};
 use mb_world::Note;
 use std::alloc::Allocator;
 use std::process::Abort;
 use std::test::Fail;
+use test_tools::Zeros;
 
 /// Consumer 0 polls lane 0 so many times with this budget. Each poll is to be spent.
 fn are_spent<A: Allocator + Clone + Drop>(
@@ -30,7 +30,7 @@ fn are_spent<A: Allocator + Clone + Drop>(
 /// With this budget, so many polls are spent, and the next one takes the item.
 fn is_cut_short<R: Abort + AllocGlobal>(rt: &R, budget: u64, spent: u64) -> Result<(), Fail> {
     let mut trial = all_given(rt.alloc(), 1, 1, 1)?;
-    let mut words = words_0();
+    let mut words = Zeros::default();
     assert_eq!(rt; trial.put(0, 7), Some(Put::Linked));
     are_spent(rt, &mut trial, &mut words, budget, spent);
     let answer = trial.poll(0, 0, budget, &mut words);
@@ -38,7 +38,6 @@ fn is_cut_short<R: Abort + AllocGlobal>(rt: &R, budget: u64, spent: u64) -> Resu
     // The claim has five accesses.
     assert_eq!(rt; words.given, 5);
     ends(
-        rt,
         rt.alloc(),
         trial,
         &[(&[7], false, &[])],
@@ -63,7 +62,7 @@ fn one_is_given_between<R: Abort + AllocGlobal>(
     let mut trial = new_trial(rt.alloc(), 1, 2, 1)?;
     trial.producer(rt.alloc())?;
     trial.consumer(rt.alloc())?;
-    let mut words = words_0();
+    let mut words = Zeros::default();
     assert_eq!(rt; trial.put(0, 7), Some(Put::Linked));
     are_spent(rt, &mut trial, &mut words, 1, before);
     trial.consumer(rt.alloc())?;
@@ -72,7 +71,6 @@ fn one_is_given_between<R: Abort + AllocGlobal>(
     // The claim has seven accesses.
     assert_eq!(rt; words.given, 7);
     ends(
-        rt,
         rt.alloc(),
         trial,
         &[(&[7], false, &[])],

@@ -1,10 +1,7 @@
 //! Calls of a mailbox whose memory is refused: each growth in turn, and then the same call with memory.
 
-use crate::heaps::refusals;
 use crate::trial::Trial;
 use crate::trials::{all_given, ends, new_trial, take_all};
-use crate::words::words_0;
-use crate::worlds::tells;
 use linked_list_allocator::LocalHeap;
 use mb_cells::Finish;
 use mb_mailbox::{GatherFault, HubFault, Poll, Put};
@@ -12,6 +9,7 @@ use mb_quorum::TableName;
 use mb_world::{Note, Report, Setup};
 use std::process::Abort;
 use std::test::Fail;
+use test_tools::{Difference, Zeros, refusals, tells};
 
 /// A heap that serves every call of these tests.
 const PLENTY: usize = 1 << 16;
@@ -19,7 +17,10 @@ const PLENTY: usize = 1 << 16;
 /// The only item is put and taken.
 fn put_and_take(rt: &impl Abort, trial: &mut Trial<&LocalHeap>) {
     assert_eq!(rt; trial.put(0, 7), Some(Put::Linked));
-    assert_eq!(rt; trial.poll(0, 0, 100, &mut words_0()), Some(Poll::Took(7)));
+    assert_eq!(rt;
+        trial.poll(0, 0, 100, &mut Zeros::default()),
+        Some(Poll::Took(7))
+    );
 }
 
 /// The same, and the report tells it.
@@ -30,7 +31,6 @@ fn takes_seven<'a>(
 ) -> Result<(), Fail> {
     put_and_take(rt, &mut trial);
     ends(
-        rt,
         plenty,
         trial,
         &[(&[7], false, &[])],
@@ -152,13 +152,12 @@ fn seven_taken<'a>(rt: &impl Abort, heap: &'a LocalHeap) -> Result<Trial<&'a Loc
 }
 
 /// The report of that.
-fn tells_seven(rt: &impl Abort, report: &Report<&LocalHeap>) {
+fn tells_seven(report: &Report<&LocalHeap>) -> Result<(), Difference> {
     tells(
-        rt,
         report,
         &[(&[7], false, &[])],
         &[(0, 0, &[Note::Took(7)], false)],
-    );
+    )
 }
 
 /// Two lanes and two consumers, all taken in: consumer 0 has taken the item of lane 0, which consumer 1 has lost, and
@@ -168,17 +167,25 @@ fn two_lanes<'a>(rt: &impl Abort, heap: &'a LocalHeap) -> Result<Trial<&'a Local
     assert_eq!(rt; trial.put(0, 5), Some(Put::Linked));
     assert_eq!(rt; trial.put(1, 6), Some(Put::Linked));
     assert_eq!(rt; trial.finish(1), Some(Finish::Ended));
-    assert_eq!(rt; trial.poll(0, 0, 100, &mut words_0()), Some(Poll::Took(5)));
-    assert_eq!(rt; trial.poll(1, 0, 100, &mut words_0()), Some(Poll::Lost(0)));
-    assert_eq!(rt; trial.poll(1, 1, 2, &mut words_0()), Some(Poll::Spent));
+    assert_eq!(rt;
+        trial.poll(0, 0, 100, &mut Zeros::default()),
+        Some(Poll::Took(5))
+    );
+    assert_eq!(rt;
+        trial.poll(1, 0, 100, &mut Zeros::default()),
+        Some(Poll::Lost(0))
+    );
+    assert_eq!(rt;
+        trial.poll(1, 1, 2, &mut Zeros::default()),
+        Some(Poll::Spent)
+    );
     take_all(&mut trial);
     Ok(trial)
 }
 
 /// The report of that.
-fn tells_two_lanes(rt: &impl Abort, report: &Report<&LocalHeap>) {
+fn tells_two_lanes(report: &Report<&LocalHeap>) -> Result<(), Difference> {
     tells(
-        rt,
         report,
         &[(&[5], false, &[]), (&[6], true, &[6])],
         &[
@@ -187,7 +194,7 @@ fn tells_two_lanes(rt: &impl Abort, report: &Report<&LocalHeap>) {
             (1, 0, &[Note::Lost(0)], false),
             (1, 1, &[], true),
         ],
-    );
+    )
 }
 
 /// The report that the heap serves, with `true`; where it refuses, both values come back, and another heap serves it.
@@ -214,14 +221,14 @@ fn each_growth_of_gather_refused(rt: HostRuntime) -> Result<(), Fail> {
     let plenty = LocalHeap::new(rt.alloc(), PLENTY)?;
     let refused = refusals(&rt, |heap| {
         let (report, served) = gather_twice(&rt, seven_taken(&rt, &plenty)?, heap, &plenty)?;
-        tells_seven(&rt, &report);
+        tells_seven(&report)?;
         Ok(served)
     })?;
     // The lane and its item, the diary and its note.
     assert!(rt; 4 <= refused);
     let refused = refusals(&rt, |heap| {
         let (report, served) = gather_twice(&rt, two_lanes(&rt, &plenty)?, heap, &plenty)?;
-        tells_two_lanes(&rt, &report);
+        tells_two_lanes(&report)?;
         Ok(served)
     })?;
     // The lanes, the items of each and the item left; the diaries, and the notes of two.

@@ -1,12 +1,11 @@
 //! Trials of one pair for each cell, and how they end.
 
 use crate::trial::Trial;
-use crate::worlds::tells;
 use mb_quorum::TableName;
-use mb_world::{Note, Setup};
+use mb_world::Setup;
 use std::alloc::Allocator;
-use std::process::Abort;
 use std::test::Fail;
+use test_tools::{DiaryTold, LaneTold, tells};
 
 /// The bit table's mailbox of so many producers, consumers and cells, with one pair for each cell.
 pub(crate) fn new_trial<A: Allocator + Clone + Drop>(
@@ -46,16 +45,15 @@ pub(crate) fn take_all<A: Allocator + Clone + Drop>(trial: &mut Trial<A>) {
 
 /// Takes in all that are out. Then the report has these lanes and these diaries, as [`tells`] has them.
 pub(crate) fn ends<A: Allocator + Clone + Drop>(
-    rt: &impl Abort,
     alloc: A,
     mut trial: Trial<A>,
-    lanes: &[(&[u64], bool, &[u64])],
-    diaries: &[(u32, u32, &[Note], bool)],
+    lanes: &[LaneTold<'_>],
+    diaries: &[DiaryTold<'_>],
 ) -> Result<(), Fail> {
     take_all(&mut trial);
     let Ok(report) = trial.gather(alloc) else {
         return Err(Fail::new("no report"));
     };
-    tells(rt, &report, lanes, diaries);
+    tells(&report, lanes, diaries)?;
     Ok(())
 }

@@ -2,7 +2,6 @@
 
 use crate::trial::Trial;
 use crate::trials::{ends, new_trial};
-use crate::words::{Zeros, words_0};
 use mailbox_audit::audit;
 use mb_mailbox::{Gate, OpenGate, Who, WorkFault, Worked};
 use mb_quorum::TableName;
@@ -13,6 +12,7 @@ use std::sync::Wait;
 use std::sync::atomic::{AtomicU64, Ordering};
 use std::test::Fail;
 use std::thread::Threads;
+use test_tools::Zeros;
 
 /// Each item was put, and nobody was stopped.
 pub(crate) const ALL_DONE: Worked = Worked {
@@ -33,7 +33,7 @@ pub(crate) fn lists(alloc: Global, items: &[&[u64]]) -> Result<Vec<Vec<u64>>, Fa
 fn sources(alloc: Global, amount: usize) -> Result<Vec<Zeros>, Fail> {
     let mut sources = Vec::new(alloc);
     for _ in 0..amount {
-        sources.push(words_0())?;
+        sources.push(Zeros::default())?;
     }
     Ok(sources)
 }
@@ -74,7 +74,6 @@ fn two_are_taken<R: Abort + AllocGlobal + Threads + Wait + Sync>(
     let worked = works(rt, &mut trial, &[items], 5, 1, &OpenGate)?;
     assert_eq!(rt; worked, Ok(Worked { full, stopped: 0 }));
     ends(
-        rt,
         rt.alloc(),
         trial,
         &[(&[1, 2], true, &[])],
@@ -110,7 +109,6 @@ fn nobody_comes_through_a_closed_gate(rt: HostRuntime) -> Result<(), Fail> {
     };
     assert_eq!(rt; worked, Ok(both));
     ends(
-        &rt,
         rt.alloc(),
         trial,
         &[(&[], true, &[])],
@@ -132,7 +130,6 @@ fn no_numbers_are_left_for_more_workers(rt: HostRuntime) -> Result<(), Fail> {
     let worked = works(&rt, &mut trial, &[], 5, 0, &OpenGate)?;
     assert_eq!(rt; worked, Ok(ALL_DONE));
     ends(
-        &rt,
         rt.alloc(),
         trial,
         &[(&[1, 2], true, &[])],
@@ -165,7 +162,6 @@ fn a_consumer_without_lanes_polls_none(rt: HostRuntime) -> Result<(), Fail> {
     assert_eq!(rt; worked, Ok(ALL_DONE));
     assert_eq!(rt; gate.calls.load(Ordering::SeqCst), 0);
     ends(
-        &rt,
         rt.alloc(),
         trial,
         &[(&[], false, &[])],

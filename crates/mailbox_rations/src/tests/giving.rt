@@ -1,11 +1,11 @@
 //! A hub whose next producer is refused its memory, and then given with memory.
 
 use crate::tests::trial::{Alloc, Trial};
-use crate::tests::working::tells;
 use crate::{Rations, Refuse, growths_refused};
 use mb_world::Note;
 use std::process::Abort;
 use std::test::Fail;
+use test_tools::tells;
 
 /// Whether the allocator serves the only producer of a mailbox of one cell. Its item is taken all the same, and after it no
 /// number is left.
@@ -19,11 +19,10 @@ fn one_item_is_served<'r>(
     assert!(rt; !trial.has_lane(ample));
     trial.take_seven(rt, ample)?;
     tells(
-        rt,
         &trial.gather(ample)?,
         &[(&[7], true, &[])],
-        &[&[Note::Took(7)]],
-    );
+        &[(0, 0, &[Note::Took(7)], false)],
+    )?;
     Ok(served)
 }
 

@@ -1,7 +1,6 @@
 //! A mailbox together with its hub, so that a test works, puts and polls, and owes no premise.
 
 use crate::Rations;
-use crate::tests::zeros::Zeros;
 use mb_mailbox::{Hub, HubFault, Mailbox, OpenGate, Poll, Put, WorkFault, Worked, work};
 use mb_quorum::TableName;
 use mb_world::{Report, Setup};
@@ -11,6 +10,7 @@ use std::process::Abort;
 use std::sync::Wait;
 use std::test::Fail;
 use std::thread::Threads;
+use test_tools::Zeros;
 
 /// The allocator of all lists of a trial.
 pub(crate) type Alloc<'r> = &'r Rations<Global>;
@@ -56,7 +56,7 @@ impl<'r> Trial<'r> {
         }
         let mut rngs = Vec::new(ample);
         for _ in 0..consumers {
-            rngs.push(Zeros)?;
+            rngs.push(Zeros::default())?;
         }
         let Trial { mailbox, hub } = self;
         Ok(work(alloc, rt, mailbox, hub, lists, 5, rngs, &OpenGate))
@@ -98,7 +98,7 @@ impl<'r> Trial<'r> {
     pub(crate) fn take_seven(&mut self, rt: &impl Abort, alloc: Alloc<'r>) -> Result<(), Fail> {
         let mut consumer = self.hub.consumer(alloc, &self.mailbox)?;
         assert_eq!(rt;
-            consumer.poll(&self.mailbox, 0, 100, &mut Zeros),
+            consumer.poll(&self.mailbox, 0, 100, &mut Zeros::default()),
             Poll::Took(7)
         );
         self.hub.take_consumer(&self.mailbox, consumer);

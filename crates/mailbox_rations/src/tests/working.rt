@@ -3,11 +3,12 @@
 use crate::tests::trial::{Alloc, Trial};
 use crate::{Rations, Refuse, growths_refused};
 use mb_mailbox::{WorkFault, Worked};
-use mb_world::{Note, Report};
+use mb_world::Note;
 use std::process::Abort;
 use std::sync::Wait;
 use std::test::Fail;
 use std::thread::Threads;
+use test_tools::{DiaryTold, tells};
 
 /// Each item was put, and nobody was stopped.
 const ALL_DONE: Worked = Worked {
@@ -24,28 +25,6 @@ fn is_done(rt: &impl Abort, answer: Result<Worked, WorkFault>) -> bool {
     true
 }
 
-/// The report has these lanes, with the items put, whether the lane has ended and the items left, and these notes.
-pub(crate) fn tells(
-    rt: &impl Abort,
-    report: &Report<Alloc<'_>>,
-    lanes: &[(&[u64], bool, &[u64])],
-    notes: &[&[Note]],
-) {
-    assert_eq!(rt;
-        (report.lanes.len(), report.diaries.len()),
-        (lanes.len(), notes.len())
-    );
-    for (lane, (put, ended, left)) in report.lanes.iter().zip(lanes) {
-        assert_eq!(rt;
-            (lane.put.as_slice(), lane.ended, lane.left.as_slice()),
-            (*put, *ended, *left)
-        );
-    }
-    for (diary, notes) in report.diaries.iter().zip(notes) {
-        assert_eq!(rt; (diary.notes.as_slice(), diary.begun), (*notes, false));
-    }
-}
-
 /// One worker puts two items and another takes both, in a mailbox of these two: whether the allocator serves them. If
 /// not, all that was given is taken in, and its lane has ended.
 fn two_are_served<'r, R: Abort + Threads + Wait + Sync>(
@@ -59,13 +38,12 @@ fn two_are_served<'r, R: Abort + Threads + Wait + Sync>(
     let report = trial.gather(ample)?;
     if served {
         tells(
-            rt,
             &report,
             &[(&[1, 2], true, &[])],
-            &[&[Note::Took(1), Note::Took(2)]],
-        );
+            &[(0, 0, &[Note::Took(1), Note::Took(2)], false)],
+        )?;
     } else {
-        tells(rt, &report, &[(&[], given, &[])], &[&[]]);
+        tells(&report, &[(&[], given, &[])], &[(0, 0, &[], false)])?;
     }
     Ok(served)
 }
@@ -82,6 +60,16 @@ fn each_growth_of_two_workers_refused(rt: HostRuntime) -> Result<(), Fail> {
     // Three lists for each kind of worker, the producer's items, and the consumer's lanes with one list of notes.
     assert!(rt; 9 <= refused);
     Ok(())
+}
+
+/// These are the notes of two consumers on two lanes, with no claim begun.
+fn notes_of_two(notes: [&[Note]; 4]) -> [DiaryTold<'_>; 4] {
+    [
+        (0, 0, notes[0], false),
+        (0, 1, notes[1], false),
+        (1, 0, notes[2], false),
+        (1, 1, notes[3], false),
+    ]
 }
 
 /// The same two workers in a mailbox of two more, twice where the allocator does not serve the first call: the second,
@@ -101,18 +89,16 @@ fn second_call_is_done<'r, R: Abort + Threads + Wait + Sync>(
     let both: &[Note] = &[Note::Took(1), Note::Took(2)];
     if given_before {
         tells(
-            rt,
             &report,
             &[(&[], true, &[]), (&[1, 2], true, &[])],
-            &[&[], both, &[], &[]],
-        );
+            &notes_of_two([&[], both, &[], &[]]),
+        )?;
     } else {
         tells(
-            rt,
             &report,
             &[(&[1, 2], true, &[]), (&[], false, &[])],
-            &[both, &[], &[], &[]],
-        );
+            &notes_of_two([both, &[], &[], &[]]),
+        )?;
     }
     Ok(served)
 }
@@ -144,11 +130,10 @@ fn four_are_served<'r, R: Abort + Threads + Wait + Sync>(
     let report = trial.gather(ample)?;
     if !served {
         tells(
-            rt,
             &report,
             &[(&[], !two_are_left, &[]), (&[], !one_is_left, &[])],
-            &[&[], &[], &[], &[]],
-        );
+            &notes_of_two([&[], &[], &[], &[]]),
+        )?;
         return Ok(false);
     }
     assert!(rt; !one_is_left);

@@ -1,2 +1,0 @@
-pub mod Mirrored
-pub mod Zeros

@@ -1,0 +1,45 @@
+//! Tests of the libraries below the mailbox, which are proved without them: worked examples, and calls whose memory is refused.
+#![tactic(auto)]
+
+#[cfg(test)]
+mod answers;
+#[cfg(test)]
+mod audits;
+#[cfg(test)]
+mod cells;
+#[cfg(test)]
+mod claims;
+#[cfg(test)]
+mod conciliators;
+#[cfg(test)]
+mod devices;
+#[cfg(test)]
+mod entries;
+#[cfg(test)]
+mod events;
+#[cfg(test)]
+mod mirrored;
+#[cfg(test)]
+mod own_table;
+#[cfg(test)]
+mod pools;
+#[cfg(test)]
+mod ratifiers;
+#[cfg(test)]
+mod refused_memory;
+#[cfg(test)]
+mod reports;
+#[cfg(test)]
+mod scripts;
+#[cfg(test)]
+mod shared_cells;
+#[cfg(test)]
+mod shared_claims;
+#[cfg(test)]
+mod spoiled_words;
+#[cfg(test)]
+mod tables;
+#[cfg(test)]
+mod texts;
+#[cfg(test)]
+mod worlds;

@@ -1,0 +1,111 @@
+//! Calls whose memory is refused: each growth in turn, and at last the same call with memory.
+
+use crate::answers::make;
+use crate::claims::{WON_AND_LOST, won_and_lost};
+use crate::entries::{last_turn, late_input};
+use crate::events::take_seven;
+use linked_list_allocator::LocalHeap;
+use mb_claim::{Layout, PlayFault, Stage, play};
+use mb_deciding::{Fault, conciliate, ratify};
+use mb_quorum::TableName;
+use mb_world::{Note, Report, Setup, World};
+use std::test::Fail;
+use test_tools::{Difference, refusals, tells};
+
+#[test]
+fn each_growth_of_ratify_refused(rt: HostRuntime) -> Result<(), Fail> {
+    let refused = refusals(
+        &rt,
+        |heap| match ratify(heap, TableName::Unary, 2, &[0, 1], &[0, 0, 0, 0, 1, 1, 1]) {
+            Ok(trace) => {
+                assert_eq!(rt; trace.entries.as_slice(), late_input().as_slice());
+                Ok(true)
+            }
+            Err(fault) => {
+                assert_eq!(rt; fault, Fault::NoMemory);
+                Ok(false)
+            }
+        },
+    )?;
+    // The processes, the entries and the outputs.
+    assert!(rt; 3 <= refused);
+    Ok(())
+}
+
+#[test]
+fn each_growth_of_conciliate_refused(rt: HostRuntime) -> Result<(), Fail> {
+    let refused = refusals(
+        &rt,
+        |heap| match conciliate(heap, 2, &[0], &[(0, 3), (0, 3), (0, 3), (0, 3), (0, 3)]) {
+            Ok(trace) => {
+                assert_eq!(rt; trace.entries.as_slice(), last_turn().as_slice());
+                Ok(true)
+            }
+            Err(fault) => {
+                assert_eq!(rt; fault, Fault::NoMemory);
+                Ok(false)
+            }
+        },
+    )?;
+    // The processes, the entries and the outputs.
+    assert!(rt; 3 <= refused);
+    Ok(())
+}
+
+#[test]
+fn each_growth_of_play_refused(rt: HostRuntime) -> Result<(), Fail> {
+    let layout = Layout::new(2, 1, TableName::Bits)?;
+    let refused = refusals(&rt, |heap| match play(heap, &layout, &WON_AND_LOST) {
+        Ok(run) => {
+            assert_eq!(rt; run.entries.as_slice(), won_and_lost().as_slice());
+            assert_eq!(rt;
+                run.stages.as_slice(),
+                [Stage::Won, Stage::Lost(0)].as_slice()
+            );
+            Ok(true)
+        }
+        Err(fault) => {
+            assert_eq!(rt; fault, PlayFault::NoMemory);
+            Ok(false)
+        }
+    })?;
+    // The words, the claims, the entries and the stages.
+    assert!(rt; 4 <= refused);
+    Ok(())
+}
+
+/// The only item was taken by the only consumer.
+fn tells_seven(report: &Report<&LocalHeap>) -> Result<(), Difference> {
+    tells(
+        report,
+        &[(&[7], false, &[])],
+        &[(0, 0, &[Note::Took(7)], false)],
+    )
+}
+
+#[test]
+fn each_growth_of_a_world_and_its_report_refused(rt: HostRuntime) -> Result<(), Fail> {
+    let plenty = LocalHeap::new(rt.alloc(), 1 << 16)?;
+    let refused = refusals(&rt, |heap| {
+        let setup = Setup::new(1, 1, 1, 1, TableName::Bits)?;
+        let Ok(mut world) = World::new(heap, setup) else {
+            return Ok(false);
+        };
+        make(&rt, &mut world, &take_seven());
+        match world.report(heap) {
+            Ok(report) => {
+                tells_seven(&report)?;
+                Ok(true)
+            }
+            Err(_) => {
+                tells_seven(&world.report(&plenty)?)?;
+                Ok(false)
+            }
+        }
+    })?;
+    // The four lists of the pool, the words of the claims, the seats and the notes; then the lane and its item, the diary
+    // and its note, and the cells of the lane that is read.
+    assert!(rt; 12 <= refused);
+    assert_eq!(rt; plenty.used(), 0);
+    Ok(())
+}

@@ -1,0 +1,34 @@
+//! What `tells` finds in a report.
+
+use crate::answers::make;
+use crate::events::take_seven;
+use crate::worlds::one_pair;
+use mb_world::Note;
+use std::test::Fail;
+use test_tools::{DiaryTold, Difference, LaneTold, tells};
+
+#[test]
+fn each_difference_is_found(rt: HostRuntime) -> Result<(), Fail> {
+    let mut world = one_pair(&rt, 1, 1, 1)?;
+    make(&rt, &mut world, &take_seven());
+    let report = world.report(rt.alloc())?;
+    let lane: LaneTold<'_> = (&[7], false, &[]);
+    let took: &[Note] = &[Note::Took(7)];
+    let diary: DiaryTold<'_> = (0, 0, took, false);
+    assert_eq!(rt; tells(&report, &[lane], &[diary]), Ok(()));
+    let others: [(LaneTold<'_>, DiaryTold<'_>, Difference); 7] = [
+        ((&[8], false, &[]), diary, Difference::Put(0)),
+        ((&[7], true, &[]), diary, Difference::Ended(0)),
+        ((&[7], false, &[7]), diary, Difference::Left(0)),
+        (lane, (1, 0, took, false), Difference::Owner(0)),
+        (lane, (0, 1, took, false), Difference::Owner(0)),
+        (lane, (0, 0, &[], false), Difference::Notes(0)),
+        (lane, (0, 0, took, true), Difference::Begun(0)),
+    ];
+    for (lane, diary, difference) in others {
+        assert_eq!(rt; tells(&report, &[lane], &[diary]), Err(difference));
+    }
+    assert_eq!(rt; tells(&report, &[], &[]), Err(Difference::Lanes));
+    assert_eq!(rt; tells(&report, &[lane], &[]), Err(Difference::Diaries));
+    Ok(())
+}

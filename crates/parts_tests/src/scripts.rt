@@ -1,0 +1,308 @@
+//! Replay scripts: what is read, and the first fault of what is not.
+
+use mb_quorum::TableName;
+use mb_script::{
+    Fault, Script, Words, has_empty_word, number, numbers, parse, split_line, split_word,
+    table_named,
+};
+use mb_world::{Event, SetupFault};
+use std::alloc::Global;
+use std::test::Fail;
+use test_tools::refusals;
+
+/// The script of a text.
+fn script(alloc: Global, text: &str) -> Result<Script<Global>, Fail> {
+    match parse(alloc, text.as_bytes()) {
+        Ok(script) => Ok(script),
+        Err(_) => Err(Fail::from("a script that is refused")),
+    }
+}
+
+/// How many events the script of a text has, or its fault.
+fn events(alloc: Global, text: &str) -> Result<usize, Fault> {
+    let script = parse(alloc, text.as_bytes())?;
+    Ok(script.events.len())
+}
+
+#[test]
+fn a_script_is_read(rt: HostRuntime) -> Result<(), Fail> {
+    let text = "setup 2 3 4 5 unary\noffer 1 18446744073709551615\npush 1\nfinish 0\nstep 2 1 7";
+    let script = script(rt.alloc(), text)?;
+    assert_eq!(rt; script.setup.producers(), 2);
+    assert_eq!(rt; script.setup.consumers(), 3);
+    assert_eq!(rt; script.setup.cells(), 4);
+    // Three consumers: a conciliator has at most 6 accesses, a ratifier 1 + 2 + 2.
+    assert_eq!(rt; script.setup.layout().max_steps(), 55);
+    let events = [
+        Event::Offer {
+            lane: 1,
+            item: u64::MAX,
+        },
+        Event::Push { lane: 1 },
+        Event::Finish { lane: 0 },
+        Event::Step {
+            consumer: 2,
+            lane: 1,
+            word: 7,
+        },
+    ];
+    assert!(rt; script.events.as_slice() == events.as_slice());
+    Ok(())
+}
+
+#[test]
+fn the_last_line_needs_no_end(rt: HostRuntime) {
+    for (text, want) in [
+        ("setup 1 1 0 1 bits", 0),
+        ("setup 1 1 0 1 bits\n", 0),
+        ("setup 1 1 0 1 bits\npush 0", 1),
+        ("setup 1 16 256 8 unary\nstep 15 0 0\n", 1),
+    ] {
+        assert_eq!(rt; events(rt.alloc(), text), Ok(want), "{text}");
+    }
+}
+
+#[test]
+fn the_first_fault_decides(rt: HostRuntime) {
+    for (text, want) in [
+        ("", Fault::NoSetup),
+        ("\n", Fault::NoSetup),
+        (" setup 1 1 1 1 bits\n", Fault::NoSetup),
+        ("offer 0 1\n", Fault::NoSetup),
+        ("setups x  \n", Fault::NoSetup),
+        ("setup 1 1 1 1\n", Fault::BadLine(1)),
+        ("setup 1 1 1 1 bits \n", Fault::BadLine(1)),
+        ("setup 1 1 1 1 bits bits\n", Fault::BadLine(1)),
+        ("setup 1 1 1 1 bits\r\n", Fault::BadLine(1)),
+        ("setup 1 1 1 1 middle\n", Fault::BadLine(1)),
+        ("setup x 1 1 1 middle\n", Fault::BadLine(1)),
+        ("setup 0 17 300 x bits\n", Fault::BadNumber(1)),
+        ("setup 1 1 01 1 bits\n", Fault::BadNumber(1)),
+        (
+            "setup 0 0 300 0 bits\npush\n",
+            Fault::BadSetup(1, SetupFault::BadProducers),
+        ),
+        (
+            "setup 1 17 300 0 bits\n",
+            Fault::BadSetup(1, SetupFault::BadConsumers),
+        ),
+        (
+            "setup 1 1 257 0 bits\n",
+            Fault::BadSetup(1, SetupFault::BadCells),
+        ),
+        (
+            "setup 1 1 256 9 bits\n",
+            Fault::BadSetup(1, SetupFault::BadRounds),
+        ),
+        ("setup 1 1 1 1 bits\noffer 0\n", Fault::BadLine(2)),
+        ("setup 1 1 1 1 bits\npush  0\n", Fault::BadLine(2)),
+        ("setup 1 1 1 1 bits\npush 0 \n", Fault::BadLine(2)),
+        ("setup 1 1 1 1 bits\n\n", Fault::BadLine(2)),
+        (
+            "setup 1 1 1 1 bits\nsetup 1 1 1 1 bits\n",
+            Fault::BadLine(2),
+        ),
+        ("setup 1 1 1 1 bits\npull 0\n", Fault::BadLine(2)),
+        (
+            "setup 1 1 1 1 bits\npush 0 0 0 0 0 0 0 0 0 0\n",
+            Fault::BadLine(2),
+        ),
+        ("setup 1 1 0 1 bits\npush 00\n", Fault::BadNumber(2)),
+        (
+            "setup 1 1 1 1 bits\npush 18446744073709551616\n",
+            Fault::BadNumber(2),
+        ),
+        (
+            "setup 1 1 1 1 bits\npush 18446744073709551615\n",
+            Fault::NoLane(2),
+        ),
+        ("setup 1 1 1 1 bits\nstep 5 5 0\n", Fault::NoLane(2)),
+        ("setup 1 1 1 1 bits\nstep 0 1x 0\n", Fault::BadNumber(2)),
+        ("setup 1 1 1 1 bits\nstep 5 5 x\n", Fault::BadNumber(2)),
+        ("setup 1 16 0 1 bits\nstep 16 0 0\n", Fault::NoConsumer(2)),
+        ("setup 1 16 0 1 bits\nstep 16 1 0\n", Fault::NoLane(2)),
+        (
+            "setup 1 1 1 1 bits\npush 0\npush 1\npush\n",
+            Fault::NoLane(3),
+        ),
+        ("setup 1 1 1 1 bits\npush 1\npush\n", Fault::NoLane(2)),
+        ("setup 1 1 1 1 bits\npush\npush \u{80}\n", Fault::NotAscii),
+    ] {
+        assert_eq!(rt; events(rt.alloc(), text), Err(want), "{text}");
+    }
+}
+
+/// A text of so many letters.
+fn letters(alloc: Global, amount: usize) -> Result<String, Fail> {
+    let mut text = String::new(alloc);
+    for _ in 0..amount {
+        text.push_str("a")?;
+    }
+    Ok(text)
+}
+
+#[test]
+fn texts_have_a_limit(rt: HostRuntime) -> Result<(), Fail> {
+    let text = letters(rt.alloc(), 1_048_576)?;
+    assert_eq!(rt; events(rt.alloc(), &text), Err(Fault::NoSetup));
+    let text = letters(rt.alloc(), 1_048_577)?;
+    assert_eq!(rt; events(rt.alloc(), &text), Err(Fault::TooLong));
+    Ok(())
+}
+
+/// A text that begins so, then has 20,000 lines of a push, and ends so.
+fn with_pushes(alloc: Global, start: &str, end: &str) -> Result<String, Fail> {
+    let mut text = start.to_string(alloc)?;
+    for _ in 0..20_000 {
+        text.push_str("push 0\n")?;
+    }
+    text.push_str(end)?;
+    Ok(text)
+}
+
+#[test]
+fn events_have_a_limit(rt: HostRuntime) -> Result<(), Fail> {
+    let text = with_pushes(rt.alloc(), "setup 1 1 1 1 bits\n", "")?;
+    assert_eq!(rt; events(rt.alloc(), &text), Ok(20_000));
+    let text = with_pushes(rt.alloc(), "setup 1 1 1 1 bits\n", "x\n")?;
+    assert_eq!(rt; events(rt.alloc(), &text), Err(Fault::TooManyEvents));
+    let text = with_pushes(rt.alloc(), "setup 1 1 1 1 bits\npush 0\npush\n", "")?;
+    assert_eq!(rt; events(rt.alloc(), &text), Err(Fault::BadLine(3)));
+    Ok(())
+}
+
+#[test]
+fn each_growth_of_parse_refused(rt: HostRuntime) -> Result<(), Fail> {
+    let text = "setup 1 1 0 1 bits\npush 0\npush 0\npush 0\npush 0\npush 0\n";
+    let refused = refusals(&rt, |heap| match parse(heap, text.as_bytes()) {
+        Ok(script) => {
+            assert_eq!(rt; script.events.len(), 5);
+            Ok(true)
+        }
+        Err(fault) => {
+            assert_eq!(rt; fault, Fault::NoMemory);
+            Ok(false)
+        }
+    })?;
+    // The events, twice.
+    assert!(rt; 2 <= refused);
+    Ok(())
+}
+
+#[test]
+fn a_line_without_events_takes_no_memory(rt: HostRuntime) -> Result<(), Fail> {
+    for text in [
+        "setup 1 1 0 1 bits\n",
+        "setup 1 1 0 1 bits\npush 0 0 0 0 0 0 0 0 0 0 0 0 0 0\n",
+    ] {
+        let refused = refusals(&rt, |heap| match parse(heap, text.as_bytes()) {
+            Err(Fault::NoMemory) => Ok(false),
+            _ => Ok(true),
+        })?;
+        assert_eq!(rt; refused, 0, "{text}");
+    }
+    Ok(())
+}
+
+#[test]
+fn lines_are_cut_off(rt: HostRuntime) {
+    for (text, want) in [
+        ("", None),
+        ("\n", Some(("", ""))),
+        ("a b", Some(("a b", ""))),
+        ("a\r\n\nb", Some(("a\r", "\nb"))),
+    ] {
+        assert!(rt; split_line(text) == want, "{text}");
+    }
+}
+
+/// Whether the words that are cut off a line are these, and no more.
+fn has_words(line: &str, want: &[&str]) -> bool {
+    let mut rest = Some(line);
+    for word in want {
+        let Some(text) = rest else {
+            return false;
+        };
+        let (first, behind) = split_word(text);
+        if first != *word {
+            return false;
+        }
+        rest = behind;
+    }
+    rest.is_none()
+}
+
+/// Whether the few words of a line are these, where none of them is empty, and else none.
+fn has_few_words(line: &str, want: &[&str], empty: bool) -> bool {
+    match Words::of_line(line) {
+        Some(few) => !empty && few.as_slice() == want,
+        None => empty,
+    }
+}
+
+#[test]
+fn words_are_cut_off(rt: HostRuntime) {
+    for (line, want, empty) in [
+        ("", [""].as_slice(), true),
+        ("a b\tc", ["a", "b\tc"].as_slice(), false),
+        (" a  b", ["", "a", "", "b"].as_slice(), true),
+        ("a ", ["a", ""].as_slice(), true),
+        (
+            "1 2 3 4 5 6 7 8",
+            ["1", "2", "3", "4", "5", "6", "7", "8"].as_slice(),
+            false,
+        ),
+    ] {
+        assert!(rt; has_words(line, want), "{line}");
+        assert_eq!(rt; has_empty_word(line), empty, "{line}");
+        assert!(rt; has_few_words(line, want, empty), "{line}");
+    }
+    assert!(rt; Words::of_line("1 2 3 4 5 6 7 8 9").is_none());
+}
+
+#[test]
+fn numbers_are_decimal(rt: HostRuntime) {
+    for (word, want) in [
+        ("0", Some(0)),
+        ("9", Some(9)),
+        ("10", Some(10)),
+        ("18446744073709551615", Some(u64::MAX)),
+        ("18446744073709551616", None),
+        ("00", None),
+        ("01", None),
+        ("+1", None),
+        ("-1", None),
+        ("1x", None),
+        ("1\r", None),
+        ("", None),
+    ] {
+        assert_eq!(rt; number(word), want, "{word}");
+    }
+}
+
+/// Whether the numbers of these words are these.
+fn has_numbers(alloc: Global, words: Option<&str>, want: Option<&[u64]>) -> Result<bool, Fail> {
+    let read = numbers(alloc, words)?;
+    Ok(read.as_ref().map(|list| list.as_slice()) == want)
+}
+
+#[test]
+fn lists_of_numbers_are_read(rt: HostRuntime) -> Result<(), Fail> {
+    for (words, want) in [
+        (None, Some([].as_slice())),
+        (Some("0"), Some([0].as_slice())),
+        (Some("3 10 0"), Some([3, 10, 0].as_slice())),
+        (Some("3 x 0"), None),
+        (Some("3 "), None),
+    ] {
+        assert!(rt; has_numbers(rt.alloc(), words, want)?);
+    }
+    Ok(())
+}
+
+#[test]
+fn tables_have_names(rt: HostRuntime) {
+    assert!(rt; table_named("unary") == Some(TableName::Unary));
+    assert!(rt; table_named("bits") == Some(TableName::Bits));
+    assert!(rt; table_named("middle").is_none());
+}

@@ -1,0 +1,258 @@
+//! Claims on words that threads share: the worked examples, and threads that step their claims at one time.
+ghost use Rattle.std.specs.Prelude.{◌≡◌, ◌≢◌, ◌<◌, ◌≤◌, ℕ, [], All, IfOk};
+ghost use Rattle.mb_claim.specs.declared.access.Stage.TheVariants.{Going};
+ghost use Rattle.mb_claim.specs.Vocabulary.{IsClaimIn, claim_stage, consumer_of, part_on};
+ghost use Rattle.mb_shared_claims.specs.Vocabulary.{name_of};
+
+use mb_claim::laws::layouts_are_sound;
+use mb_claim::steps::{accesses_lengthen_one_part, claims_make_steps};
+use mb_claim::{Claim, ClaimOp, Layout, Stage};
+use mb_deciding::{Op, Reg};
+use mb_quorum::TableName;
+use mb_shared_claims::{AllGiven, ClaimHub, ClaimSeat, SharedClaims};
+use std::alloc::Allocator;
+use std::process::Abort;
+use std::test::Fail;
+use std::thread::{Threads, join, map_vec};
+use test_tools::refusals;
+
+/// How many cells two threads claim.
+const CELLS: u32 = 100;
+
+/// How often 16 threads claim a cell.
+const ROUNDS: u32 = 200;
+
+/// Makes so many steps of a claim, or fewer where it ends before, with the random word 0. The answer is how many.
+fn step_on<A: Allocator + Drop>(
+    table: &SharedClaims<A>,
+    seat: &mut ClaimSeat,
+    claim: &mut Claim,
+    cell: u32,
+    most: u32,
+) -> u32
+    requires table { seat.old.table ≡ name_of table.now }
+    requires cell { cell < table.now.cells }
+    requires consumer { consumer_of claim.old ≡ seat.old.consumer }
+    requires standing { IsClaimIn table.now.layout claim.old
+        (part_on seat.old.consumer cell seat.old.part) }
+    ensures table { seat.new.table ≡ seat.old.table }
+    ensures same { seat.new.consumer ≡ seat.old.consumer }
+    ensures consumer { consumer_of claim.new ≡ seat.new.consumer }
+    ensures standing { IsClaimIn table.now.layout claim.new
+        (part_on seat.new.consumer cell seat.new.part) }
+    ensures others { (k : ℕ) → k ≢ cell
+        → part_on seat.new.consumer k seat.new.part ≡ part_on seat.old.consumer k seat.old.part }
+{
+    accesses_lengthen_one_part();
+    let mut made = 0u32;
+    for turn in 0..most {
+        if claim.stage() != Stage::Going {
+            break;
+        }
+        table.step(seat, claim, cell, 0);
+        made = made.wrapping_add(1);
+    }
+    made
+}
+
+/// A claim of a seat on a cell that its consumer has not claimed, to its end or a thousand steps.
+fn claim_to_its_end<A: Allocator + Drop>(
+    table: &SharedClaims<A>,
+    seat: &mut ClaimSeat,
+    cell: u32,
+) -> Stage
+    requires table { seat.old.table ≡ name_of table.now }
+    requires cell { cell < table.now.cells }
+    requires fresh { part_on seat.old.consumer cell seat.old.part ≡ [] }
+    ensures table { seat.new.table ≡ seat.old.table }
+    ensures same { seat.new.consumer ≡ seat.old.consumer }
+    ensures others { (k : ℕ) → k ≢ cell
+        → part_on seat.new.consumer k seat.new.part ≡ part_on seat.old.consumer k seat.old.part }
+{
+    let mut claim = Claim::new(table.layout(), seat.consumer());
+    step_on(table, seat, &mut claim, cell, 1000);
+    claim.stage()
+}
+
+/// Claims of a seat that has made no access on each of `CELLS` cells, one after the other.
+fn claim_each<A: Allocator + Drop>(
+    table: &SharedClaims<A>,
+    mut seat: ClaimSeat,
+) -> (ClaimSeat, [Stage; CELLS as usize])
+    requires table { seat.table ≡ name_of table.now }
+    requires cells { table.now.cells ≡ CELLS }
+    requires fresh { seat.part ≡ [] }
+    ensures table { result.0.table ≡ seat.table }
+{
+    let mut stages = [Stage::Going; CELLS as usize];
+    for cell in 0..CELLS {
+        stages[cell as usize] = claim_to_its_end(table, &mut seat, cell);
+    }
+    (seat, stages)
+}
+
+/// Two threads claim each of `CELLS` cells, and this is how it ended for each.
+fn claimed_by_two<R: Threads + Sync, A: Allocator + Clone + Drop + Send + Sync>(
+    rt: &R,
+    alloc: A,
+) -> Result<([Stage; CELLS as usize], [Stage; CELLS as usize]), Fail> {
+    let layout = Layout::new(2, 1, TableName::Bits)?;
+    let (table, mut hub) = SharedClaims::new(alloc, layout, CELLS)?;
+    let first = table.enroll(&mut hub)?;
+    let second = table.enroll(&mut hub)?;
+    let (front, back) = join(
+        rt,
+        || -> (ClaimSeat, [Stage; CELLS as usize])
+            requires { (first.table ≡ name_of table) × (table.cells ≡ CELLS) × (first.part ≡ []) }
+            ensures { result.0.table ≡ first.table }
+        { claim_each(&table, first) },
+        || -> (ClaimSeat, [Stage; CELLS as usize])
+            requires { (second.table ≡ name_of table) × (table.cells ≡ CELLS) × (second.part ≡ []) }
+            ensures { result.0.table ≡ second.table }
+        { claim_each(&table, second) },
+    );
+    let (first, mine) = front;
+    let (second, theirs) = back;
+    table.take_in(&mut hub, first);
+    table.take_in(&mut hub, second);
+    table.close(hub);
+    Ok((mine, theirs))
+}
+
+/// The seats of all numbers that are left.
+fn all_seats<A: Allocator + Drop, B: Allocator + Drop>(
+    table: &SharedClaims<A>,
+    hub: &mut ClaimHub,
+    alloc: B,
+) -> Result<Vec<ClaimSeat, B>, Fail>
+    requires { hub.old.table ≡ name_of table.now }
+    ensures { IfOk result (λ seats. All (λ seat. (seat.table ≡ name_of table.now) × (seat.part ≡ []))
+        seats.items) }
+{
+    let mut seats = Vec::new(alloc);
+    for _ in 0..table.layout().consumers() {
+        seats.push(table.enroll(hub)?)?;
+    }
+    Ok(seats)
+}
+
+/// 16 threads claim one cell, and this is how it ended for each.
+fn claimed_by_sixteen<R: Threads + Sync, A: Allocator + Clone + Drop + Send + Sync>(
+    rt: &R,
+    alloc: A,
+) -> Result<Vec<Stage, A>, Fail> {
+    let layout = Layout::new(16, 1, TableName::Bits)?;
+    let (table, mut hub) = SharedClaims::new(alloc.clone()?, layout, 1)?;
+    let seats = all_seats(&table, &mut hub, alloc)?;
+    let claim = |seat: ClaimSeat| -> Stage
+        requires { (seat.table ≡ name_of table) × (table.cells ≡ 1) × (seat.part ≡ []) }
+    {
+        let mut seat = seat;
+        claim_to_its_end(&table, &mut seat, 0)
+    };
+    Ok(map_vec(rt, seats, &claim)?)
+}
+
+/// Whether the allocator serves a table of one cell for two consumers. Then both numbers are given, the first consumer wins
+/// the cell and the second loses it.
+fn one_wins<A: Allocator + Clone + Drop>(rt: &impl Abort, alloc: A) -> Result<bool, Fail> {
+    let layout = Layout::new(2, 1, TableName::Bits)?;
+    let Ok((table, mut hub)) = SharedClaims::new(alloc, layout, 1) else {
+        return Ok(false);
+    };
+    let mut a = table.enroll(&mut hub)?;
+    let mut b = table.enroll(&mut hub)?;
+    assert!(rt; matches!(table.enroll(&mut hub), Err(AllGiven)));
+    assert_eq!(rt; (a.consumer(), b.consumer()), (0, 1));
+    assert_eq!(rt; (hub.given(), hub.out()), (2, 2));
+    let mut first = Claim::new(table.layout(), a.consumer());
+    let mut second = Claim::new(table.layout(), b.consumer());
+    assert_eq!(rt; step_on(&table, &mut a, &mut first, 0, 7), 7);
+    assert_eq!(rt; first.stage(), Stage::Won);
+    assert_eq!(rt; step_on(&table, &mut b, &mut second, 0, 4), 4);
+    assert_eq!(rt; second.stage(), Stage::Lost(0));
+    table.take_in(&mut hub, b);
+    table.take_in(&mut hub, a);
+    assert_eq!(rt; (hub.given(), hub.out()), (2, 0));
+    table.close(hub);
+    Ok(true)
+}
+
+#[test]
+fn numbers_and_ends(rt: HostRuntime) -> Result<(), Fail> {
+    assert!(rt; one_wins(&rt, rt.alloc())?);
+    Ok(())
+}
+
+#[test]
+fn another_goes_on_where_one_stopped(rt: HostRuntime) -> Result<(), Fail> {
+    claims_make_steps();
+    let layout = Layout::new(2, 1, TableName::Bits)?;
+    let (table, mut hub) = SharedClaims::new(rt.alloc(), layout, 1)?;
+    let mut a = table.enroll(&mut hub)?;
+    let mut b = table.enroll(&mut hub)?;
+    assert!(rt; matches!(table.enroll(&mut hub), Err(AllGiven)));
+    let announcing = ClaimOp {
+        object: 1,
+        op: Op::Store(Reg::Quorum(0), 1),
+    };
+    let mut first = Claim::new(table.layout(), a.consumer());
+    step_on(&table, &mut a, &mut first, 0, 3);
+    assert_eq!(rt; first.stage(), Stage::Going);
+    assert_eq!(rt; first.next(table.layout()), announcing);
+    let mut second = Claim::new(table.layout(), b.consumer());
+    step_on(&table, &mut b, &mut second, 0, 1);
+    assert_eq!(rt; second.stage(), Stage::Going);
+    assert_eq!(rt; second.next(table.layout()), announcing);
+    table.take_in(&mut hub, a);
+    table.take_in(&mut hub, b);
+    assert_eq!(rt; hub.out(), 0);
+    table.close(hub);
+    Ok(())
+}
+
+/// Whether all claims on a cell have come to an end, and name one winner where they name any; who lost names another.
+fn name_one_winner(ends: &[Stage]) -> bool {
+    let mut winner = None;
+    for (consumer, end) in ends.iter().enumerate() {
+        let named = match *end {
+            Stage::Going => return false,
+            Stage::Won => consumer,
+            Stage::Lost(other) if other as usize == consumer => return false,
+            Stage::Lost(other) => other as usize,
+            Stage::Undecided => continue,
+        };
+        if winner.is_some() && winner != Some(named) {
+            return false;
+        }
+        winner = Some(named);
+    }
+    true
+}
+
+#[test]
+fn two_threads_claim_a_hundred_cells(rt: HostRuntime) -> Result<(), Fail> {
+    let (mine, theirs) = claimed_by_two(&rt, rt.alloc())?;
+    for cell in 0..CELLS as usize {
+        assert!(rt; name_one_winner(&[mine[cell], theirs[cell]]), "cell {cell}");
+    }
+    Ok(())
+}
+
+#[test]
+fn sixteen_threads_claim_one_cell(rt: HostRuntime) -> Result<(), Fail> {
+    for _ in 0..ROUNDS {
+        let ends = claimed_by_sixteen(&rt, rt.alloc())?;
+        assert_eq!(rt; ends.len(), 16);
+        assert!(rt; name_one_winner(ends.as_slice()));
+    }
+    Ok(())
+}
+
+#[test]
+fn each_growth_of_new_refused(rt: HostRuntime) -> Result<(), Fail> {
+    let refused = refusals(&rt, |heap| one_wins(&rt, heap))?;
+    // The zeros, and the words.
+    assert!(rt; 2 <= refused);
+    Ok(())
+}

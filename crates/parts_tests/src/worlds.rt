@@ -1,0 +1,54 @@
+//! Setups, new worlds and their reports.
+
+use mb_quorum::TableName;
+use mb_world::{Setup, SetupFault, World};
+use std::alloc::Global;
+use std::test::Fail;
+use test_tools::tells;
+
+/// The bit table's world of so many producers, consumers and cells, with one pair for each cell.
+pub(crate) fn one_pair(rt: &HostRuntime, p: u64, c: u64, m: u64) -> Result<World<Global>, Fail> {
+    let setup = Setup::new(p, c, m, 1, TableName::Bits)?;
+    Ok(World::new(rt.alloc(), setup)?)
+}
+
+#[test]
+fn the_first_number_out_of_range_refuses(rt: HostRuntime) {
+    let bits = TableName::Bits;
+    assert_eq!(rt;
+        Setup::new(0, 0, 300, 0, bits),
+        Err(SetupFault::BadProducers)
+    );
+    assert_eq!(rt;
+        Setup::new(1, 17, 300, 0, bits),
+        Err(SetupFault::BadConsumers)
+    );
+    assert_eq!(rt; Setup::new(1, 1, 257, 0, bits), Err(SetupFault::BadCells));
+    assert_eq!(rt; Setup::new(1, 1, 256, 9, bits), Err(SetupFault::BadRounds));
+}
+
+#[test]
+fn a_setup_tells_its_numbers(rt: HostRuntime) -> Result<(), Fail> {
+    let setup = Setup::new(16, 3, 256, 8, TableName::Bits)?;
+    assert_eq!(rt; setup.producers(), 16);
+    assert_eq!(rt; setup.consumers(), 3);
+    assert_eq!(rt; setup.cells(), 256);
+    assert_eq!(rt; setup.layout().consumers(), 3);
+    Ok(())
+}
+
+#[test]
+fn nothing_is_done_in_a_new_world(rt: HostRuntime) -> Result<(), Fail> {
+    let world = one_pair(&rt, 2, 2, 4)?;
+    tells(
+        &world.report(rt.alloc())?,
+        &[(&[], false, &[]), (&[], false, &[])],
+        &[
+            (0, 0, &[], false),
+            (0, 1, &[], false),
+            (1, 0, &[], false),
+            (1, 1, &[], false),
+        ],
+    )?;
+    Ok(())
+}

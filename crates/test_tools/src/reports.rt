@@ -1,0 +1,90 @@
+//! What a report is to tell, and where it tells something else.
+
+use mb_world::{Diary, LaneReport, Note, Report};
+use std::alloc::Allocator;
+
+/// What is to be told of a lane: the items put, whether it has ended, and the items left.
+pub type LaneTold<'a> = (&'a [u64], bool, &'a [u64]);
+
+/// What is to be told of a consumer on a lane: the consumer, the lane, the notes, and whether a claim has begun.
+pub type DiaryTold<'a> = (u32, u32, &'a [Note], bool);
+
+/// Where a report tells something else, with the place of the lane or of the diary, from 0 on.
+#[derive(Clone, Copy, PartialEq, Eq, Debug)]
+pub enum Difference {
+    /// How many lanes there are.
+    Lanes,
+    /// The items put.
+    Put(usize),
+    /// Whether the lane has ended.
+    Ended(usize),
+    /// The items left.
+    Left(usize),
+    /// How many diaries there are.
+    Diaries,
+    /// Whose diary it is, and of which lane.
+    Owner(usize),
+    /// The notes.
+    Notes(usize),
+    /// Whether a claim has begun.
+    Begun(usize),
+}
+
+/// The report has these lanes and these diaries, in their order; else the first difference, lanes before diaries.
+pub fn tells<A: Allocator + Drop>(
+    report: &Report<A>,
+    lanes: &[LaneTold<'_>],
+    diaries: &[DiaryTold<'_>],
+) -> Result<(), Difference> {
+    if report.lanes.len() != lanes.len() {
+        return Err(Difference::Lanes);
+    }
+    for (place, (lane, told)) in report.lanes.iter().zip(lanes).enumerate() {
+        tells_lane(lane, *told, place)?;
+    }
+    if report.diaries.len() != diaries.len() {
+        return Err(Difference::Diaries);
+    }
+    for (place, (diary, told)) in report.diaries.iter().zip(diaries).enumerate() {
+        tells_diary(diary, *told, place)?;
+    }
+    Ok(())
+}
+
+/// The lane at this place is so.
+fn tells_lane<A: Allocator + Drop>(
+    lane: &LaneReport<A>,
+    told: LaneTold<'_>,
+    place: usize,
+) -> Result<(), Difference> {
+    let (put, ended, left) = told;
+    if lane.put.as_slice() != put {
+        return Err(Difference::Put(place));
+    }
+    if lane.ended != ended {
+        return Err(Difference::Ended(place));
+    }
+    if lane.left.as_slice() != left {
+        return Err(Difference::Left(place));
+    }
+    Ok(())
+}
+
+/// The diary at this place is so.
+fn tells_diary<A: Allocator + Drop>(
+    diary: &Diary<A>,
+    told: DiaryTold<'_>,
+    place: usize,
+) -> Result<(), Difference> {
+    let (consumer, lane, notes, begun) = told;
+    if (diary.consumer, diary.lane) != (consumer, lane) {
+        return Err(Difference::Owner(place));
+    }
+    if diary.notes.as_slice() != notes {
+        return Err(Difference::Notes(place));
+    }
+    if diary.begun != begun {
+        return Err(Difference::Begun(place));
+    }
+    Ok(())
+}
