@@ -12,6 +12,7 @@ code, the definitions, the proofs, the examples or the names of files have it, c
 It also looks whether `examples/script` prints the script of each example, and whether each sample of a page, and of the
 program's help, is what an example has:
   - behind a line `$ COMMAND` stands what that command prints, be it a script, an output, or the first or last lines of one;
+    and behind `$ cd crates/NAME && rt run` what the `stdout` of that program has;
   - lines without a command, of which one begins with a word of scripts or outputs, are the first or last lines of one.
 The status is 0 where all was found, and else 1.
 """
@@ -225,6 +226,8 @@ def printed_by(command, known):
         program, *options = part.split()
         if program == "examples/script" and options and options[0] in known:
             text = known[options[0]][1].splitlines()
+        elif re.fullmatch(r"cd crates/\w+ && rt run", part.strip()):
+            text = read(f"{TOP}/{options[0]}/stdout").splitlines()
         elif program in ("./mailbox", "mailbox"):
             runs = ((words[1:], script.splitlines(), output + error) for words, script, output, error in known.values())
             fits = [printed for words, script, printed in runs if (words, script) == (options, text)]

@@ -1,17 +1,17 @@
 //! A producer puts an item, and two consumers compete for it.
 #![tactic(auto)]
 
-use anyhow::{Error, Result};
+use anyhow::Result;
 use mb_mailbox::Mailbox;
 use mb_quorum::TableName;
+use mb_script::report_text;
 use mb_world::Setup;
 use rand::make_rng;
 use rand_chacha::ChaCha8Rng;
 
 fn main(rt: HostRuntime) -> Result<()> {
     // One producer, two consumers, four cells with two pairs of deciding objects each, over the table of bits.
-    let setup = Setup::new(1, 2, 4, 2, TableName::Bits)?;
-    let (mailbox, mut hub) = Mailbox::new(rt.alloc(), setup)?;
+    let (mailbox, mut hub) = Mailbox::new(rt.alloc(), Setup::new(1, 2, 4, 2, TableName::Bits)?)?;
     let mut producer = hub.producer(rt.alloc(), &mailbox)?;
     let mut one = hub.consumer(rt.alloc(), &mailbox)?;
     let mut two = hub.consumer(rt.alloc(), &mailbox)?;
@@ -21,17 +21,13 @@ fn main(rt: HostRuntime) -> Result<()> {
     let put = producer.put(&mailbox, 7);
     let first = one.poll(&mailbox, 0, 1000, &mut source);
     let second = two.poll(&mailbox, 0, 1000, &mut source);
-    println!(rt; "{put:?} {first:?} {second:?}")?;
 
     // What was given out is taken in again, and then the mailbox is closed and reported.
     hub.take_producer(&mailbox, producer);
     hub.take_consumer(&mailbox, one);
     hub.take_consumer(&mailbox, two);
-    let report = mailbox
-        .gather(rt.alloc(), hub)
-        .map_err(|(fault, _, _)| Error::from(fault))?;
-    for lane in report.lanes.iter() {
-        println!(rt; "put {:?}, left {:?}", lane.put, lane.left)?;
-    }
+    let report = mailbox.gather(rt.alloc(), hub).map_err(|(why, _, _)| why)?;
+    let text = report_text(rt.alloc(), &report)?;
+    print!(rt; "{put:?}\n{first:?}\n{second:?}\n{text}")?;
     Ok(())
 }

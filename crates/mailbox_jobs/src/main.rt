@@ -21,7 +21,8 @@ const WORKERS: u64 = 4;
 /// How many jobs each producer puts.
 const JOBS_EACH: u64 = 8;
 
-/// How many pairs of deciding objects each job's cell has: the more there are, the fewer claims end undecided.
+/// How many pairs of deciding objects each job's cell has: the more there are, the fewer claims are likely to
+/// end undecided.
 const PAIRS: u64 = 4;
 
 /// How many threads work at one time: one for each of them.
