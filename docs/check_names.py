@@ -39,7 +39,7 @@ NAMES = r"(?:`[\w:]+`(?:, | and ))*`[\w:]+`"
 # Words that are said of the world outside: commands, the library below, placeholders of formats.
 OUTSIDE = set(
     """
-    rt ci run test check try plant fmt doc version cd grep rnE rn l LF CR TAB usr bin time a b i k m n o p q s u v w x y
+    rt ci run test check try start holes plant fmt doc version cd grep rnE rn l LF CR TAB usr bin time a b i k m n o p q s u v w x y
     Rust std HostRuntime Vec String Option Result Some None Ok Err usize u32 u64 Drop Send Sync Clone Copy Allocator
     Threads Wait Rng ChaCha8 ChaCha8Rng Display Debug stdin stdout stderr sh git clone crossbeam_queue SegQueue mpsc main fn use mod mb_NAME earlier widths
     """.split()
