@@ -15,6 +15,7 @@ use devices::{Letters, NarrowWriter, SlowReader};
 use examples::ratifiers::LATE_INPUT;
 use mb_quorum::TableName;
 use mb_script::Counting;
+use std::process::Abort;
 use std::test::Fail;
 
 // Ten thousand turns of sixteen processes with one value, which has an empty read quorum.
@@ -64,6 +65,30 @@ fn a_script_is_read(rt: HostRuntime) -> Result<(), Fail> {
     Ok(())
 }
 
+// The script is refused with this line and status 2, and nothing is written.
+fn is_refused<R: Abort + AllocGlobal>(rt: &R, script: &str, line: &str) -> Result<(), Fail> {
+    let mut reader = Counting::new(script.as_bytes());
+    let mut writer = Counting::new(Vec::<u8>::new(rt.alloc()));
+    let Err(fault) = ratify_text(rt.alloc(), &mut reader, &mut writer) else {
+        return Err(Fail::from("a script with a fault"));
+    };
+    assert_eq!(rt; writer.device.len(), 0, "{script}");
+    has_line(rt, fault, line, 2)
+}
+
+// The fault has this line and this status.
+fn has_line<R: Abort + AllocGlobal>(
+    rt: &R,
+    fault: RatifyFault,
+    line: &str,
+    status: u8,
+) -> Result<(), Fail> {
+    let failed = Failed::Ratify(fault);
+    assert_eq!(rt; fault_text(rt.alloc(), &failed)?.as_str(), line);
+    assert_eq!(rt; status_of(&failed), status, "{line}");
+    Ok(())
+}
+
 #[test]
 fn faults_have_a_line_and_a_status(rt: HostRuntime) -> Result<(), Fail> {
     for (script, line) in [
@@ -72,15 +97,7 @@ fn faults_have_a_line_and_a_status(rt: HostRuntime) -> Result<(), Fail> {
         ("ratify unary 2\ninputs\nturns\n\n", "fault 3 BadLine 4\n"),
         ("", "fault 3 BadLine 1\n"),
     ] {
-        let mut reader = Counting::new(script.as_bytes());
-        let mut writer = Counting::new(Vec::<u8>::new(rt.alloc()));
-        let Err(fault) = ratify_text(rt.alloc(), &mut reader, &mut writer) else {
-            return Err(Fail::from("a script with a fault"));
-        };
-        let failed = Failed::Ratify(fault);
-        assert_eq!(rt; fault_text(rt.alloc(), &failed)?.as_str(), line, "{script}");
-        assert_eq!(rt; status_of(&failed), 2, "{script}");
-        assert_eq!(rt; writer.device.len(), 0, "{script}");
+        is_refused(&rt, script, line)?;
     }
     for (fault, line, status) in [
         (RatifyFault::TooLong, "fault 1 TooLong\n", 2),
@@ -89,9 +106,7 @@ fn faults_have_a_line_and_a_status(rt: HostRuntime) -> Result<(), Fail> {
         (RatifyFault::ReadFault, "fault 9 ReadFault\n", 3),
         (RatifyFault::WriteFault, "fault 10 WriteFault\n", 3),
     ] {
-        let failed = Failed::Ratify(fault);
-        assert_eq!(rt; fault_text(rt.alloc(), &failed)?.as_str(), line);
-        assert_eq!(rt; status_of(&failed), status, "{line}");
+        has_line(&rt, fault, line, status)?;
     }
     Ok(())
 }
@@ -147,8 +162,29 @@ fn the_first_fault_decides(rt: HostRuntime) -> Result<(), Fail> {
     Ok(())
 }
 
+// What is answered over these devices, and what is written.
+fn answered(
+    rt: &HostRuntime,
+    script: &'static str,
+    reader_fails: bool,
+    room: usize,
+    writer_fails: bool,
+) -> (Result<(), RatifyFault>, Vec<u8>) {
+    let mut reader = Counting::new(SlowReader {
+        script: script.as_bytes(),
+        fails: reader_fails,
+    });
+    let mut writer = Counting::new(NarrowWriter {
+        taken: Vec::new(rt.alloc()),
+        room,
+        fails: writer_fails,
+    });
+    let result = ratify_text(rt.alloc(), &mut reader, &mut writer);
+    (result, writer.device.taken)
+}
+
 #[test]
-fn devices_fail(rt: HostRuntime) -> Result<(), Fail> {
+fn devices_fail(rt: HostRuntime) {
     let read_fault = Err(RatifyFault::ReadFault);
     let write_fault = Err(RatifyFault::WriteFault);
     for (script, reader_fails, room, writer_fails, want, written) in [
@@ -172,19 +208,10 @@ fn devices_fail(rt: HostRuntime) -> Result<(), Fail> {
             "0 store q0",
         ),
     ] {
-        let mut reader = Counting::new(SlowReader {
-            script: script.as_bytes(),
-            fails: reader_fails,
-        });
-        let mut writer = Counting::new(NarrowWriter {
-            taken: Vec::new(rt.alloc()),
-            room,
-            fails: writer_fails,
-        });
-        assert_eq!(rt; ratify_text(rt.alloc(), &mut reader, &mut writer), want);
-        assert_eq!(rt; writer.device.taken.as_slice(), written.as_bytes());
+        let (result, text) = answered(&rt, script, reader_fails, room, writer_fails);
+        assert_eq!(rt; result, want);
+        assert_eq!(rt; text.as_slice(), written.as_bytes());
     }
-    Ok(())
 }
 
 #[test]

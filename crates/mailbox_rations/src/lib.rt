@@ -6,7 +6,7 @@ mod book;
 mod growths;
 mod rations;
 #[cfg(test)]
-mod tests;
+mod refusing;
 
 pub use book::Refuse;
 pub use growths::growths_refused;

@@ -7,6 +7,7 @@ use mailbox_audit::audit;
 use mb_mailbox::{Gate, Who, Worked};
 use mb_quorum::TableName;
 use mb_world::{Note, Setup};
+use std::alloc::Global;
 use std::process::Abort;
 use std::sync::Wait;
 use std::sync::atomic::{AtomicU64, Ordering};
@@ -45,26 +46,29 @@ impl Gate for AllCome {
     fn leave(&self, _who: Who, _call: u64) {}
 }
 
-/// So many consumers and one producer come to the gate at one time, and the items put are audited.
+/// So many consumers and one producer come to the gate at one time.
 fn come_to_the_gate<R: Abort + AllocGlobal + Threads + Wait + Sync>(
+    rt: &R,
+    trial: &mut Trial<Global>,
+    consumers: u64,
+) -> Result<(), Fail> {
+    let gate = AllCome {
+        come: AtomicU64::new(0),
+        workers: consumers.wrapping_add(1),
+    };
+    let worked = works(rt, trial, &[&[1, 2, 3, 4]], 5, consumers as usize, &gate)?;
+    assert_eq!(rt; worked, Ok(ALL_DONE), "{consumers} consumers");
+    Ok(())
+}
+
+/// They do, and the items put are audited.
+fn come_and_put<R: Abort + AllocGlobal + Threads + Wait + Sync>(
     rt: &R,
     consumers: u64,
 ) -> Result<(), Fail> {
     let setup = Setup::new(1, consumers, 4, 4, TableName::Bits)?;
     let mut trial = Trial::new(rt.alloc(), setup)?;
-    let gate = AllCome {
-        come: AtomicU64::new(0),
-        workers: consumers.wrapping_add(1),
-    };
-    let worked = works(
-        rt,
-        &mut trial,
-        &[&[1, 2, 3, 4]],
-        5,
-        consumers as usize,
-        &gate,
-    )?;
-    assert_eq!(rt; worked, Ok(ALL_DONE), "{consumers} consumers");
+    come_to_the_gate(rt, &mut trial, consumers)?;
     let Ok(report) = trial.gather(rt.alloc()) else {
         return Err(Fail::new("no report"));
     };
@@ -77,10 +81,10 @@ fn come_to_the_gate<R: Abort + AllocGlobal + Threads + Wait + Sync>(
 
 #[test]
 fn all_workers_come_to_the_gate_at_one_time(rt: HostRuntime) -> Result<(), Fail> {
-    come_to_the_gate(&rt, 1)?;
-    come_to_the_gate(&rt, 2)?;
-    come_to_the_gate(&rt, 4)?;
-    come_to_the_gate(&rt, 16)
+    come_and_put(&rt, 1)?;
+    come_and_put(&rt, 2)?;
+    come_and_put(&rt, 4)?;
+    come_and_put(&rt, 16)
 }
 
 /// A gate that lets each call in, and looks whether a worker's calls come as 1, 2 and so on, each told before the next.
@@ -120,15 +124,8 @@ impl Gate for Record {
     }
 }
 
-#[test]
-fn asks_and_tells_of_a_gate_alternate(rt: HostRuntime) -> Result<(), Fail> {
-    let mut trial = new_trial(rt.alloc(), 2, 2, 5)?;
-    let gate = Record {
-        times: [0; 4].map(AtomicU64::new),
-        flaws: AtomicU64::new(0),
-    };
-    let worked = works(&rt, &mut trial, &[&[1, 2], &[3, 4, 5]], 5, 2, &gate)?;
-    assert_eq!(rt; worked, Ok(ALL_DONE));
+/// Nothing was out of turn, where two producers put two items and three.
+fn alternates(rt: &impl Abort, gate: &Record) {
     assert_eq!(rt; gate.flaws.load(Ordering::SeqCst), 0);
     // One call for each item.
     assert_eq!(rt; gate.times[0].load(Ordering::SeqCst), 4);
@@ -138,6 +135,18 @@ fn asks_and_tells_of_a_gate_alternate(rt: HostRuntime) -> Result<(), Fail> {
         let times = gate.times[consumer].load(Ordering::SeqCst);
         assert!(rt; 14 <= times && times % 2 == 0);
     }
+}
+
+#[test]
+fn asks_and_tells_of_a_gate_alternate(rt: HostRuntime) -> Result<(), Fail> {
+    let mut trial = new_trial(rt.alloc(), 2, 2, 5)?;
+    let gate = Record {
+        times: [0; 4].map(AtomicU64::new),
+        flaws: AtomicU64::new(0),
+    };
+    let worked = works(&rt, &mut trial, &[&[1, 2], &[3, 4, 5]], 5, 2, &gate)?;
+    assert_eq!(rt; worked, Ok(ALL_DONE));
+    alternates(&rt, &gate);
     Ok(())
 }
 

@@ -12,6 +12,8 @@ mod mailboxes;
 #[cfg(test)]
 mod polls;
 #[cfg(test)]
+mod rationed;
+#[cfg(test)]
 mod refused_mailboxes;
 #[cfg(test)]
 mod texts;

@@ -5,7 +5,7 @@ use crate::trials::{all_given, ends, new_trial};
 use mb_cells::Finish;
 use mb_mailbox::{GatherFault, HubFault, Poll, Put};
 use mb_script::report_text;
-use mb_world::Note;
+use mb_world::{Note, Report};
 use rand_core::Rng;
 use std::alloc::{Allocator, Global};
 use std::process::Abort;
@@ -39,19 +39,45 @@ fn an_item_is_put_and_taken(rt: HostRuntime) -> Result<(), Fail> {
     )
 }
 
+/// It comes to these.
+fn comes_to(
+    rt: &impl Abort,
+    trial: &mut Trial<Global>,
+    answers: (Option<Put>, Option<Finish>, Option<Poll>),
+) {
+    let (put, finish, poll) = put_finish_and_poll(trial, &mut Zeros::default());
+    assert_eq!(rt; put, answers.0);
+    assert_eq!(rt; finish, answers.1);
+    assert_eq!(rt; poll, answers.2);
+}
+
 #[test]
 fn nothing_is_waited_for(rt: HostRuntime) -> Result<(), Fail> {
     let mut trial = all_given(rt.alloc(), 1, 1, 1)?;
-    let mut words = Zeros::default();
-    let (put, finish, poll) = put_finish_and_poll(&mut trial, &mut words);
-    assert_eq!(rt; put, Some(Put::Linked));
-    assert_eq!(rt; finish, Some(Finish::Ended));
-    assert_eq!(rt; poll, Some(Poll::Took(7)));
-    let (put, finish, poll) = put_finish_and_poll(&mut trial, &mut words);
-    assert_eq!(rt; put, Some(Put::Closed));
-    assert_eq!(rt; finish, Some(Finish::Closed));
-    assert_eq!(rt; poll, Some(Poll::Ended));
+    comes_to(
+        &rt,
+        &mut trial,
+        (Some(Put::Linked), Some(Finish::Ended), Some(Poll::Took(7))),
+    );
+    comes_to(
+        &rt,
+        &mut trial,
+        (Some(Put::Closed), Some(Finish::Closed), Some(Poll::Ended)),
+    );
     Ok(())
+}
+
+/// No report is made while a consumer is out, and all comes back as it was.
+fn one_consumer_is_out(
+    rt: &impl Abort,
+    trial: Trial<Global>,
+    alloc: Global,
+) -> Result<Trial<Global>, Fail> {
+    let Err((fault, trial)) = trial.gather(alloc) else {
+        return Err(Fail::new("a consumer is out"));
+    };
+    assert_eq!(rt; fault, GatherFault::Missing(0, 1));
+    Ok(trial)
 }
 
 #[test]
@@ -60,13 +86,9 @@ fn all_numbers_are_given(rt: HostRuntime) -> Result<(), Fail> {
     assert_eq!(rt; trial.producer(rt.alloc()), Err(HubFault::AllGiven));
     assert_eq!(rt; trial.consumer(rt.alloc()), Err(HubFault::AllGiven));
     trial.take_producer(0);
-    let Err((fault, trial)) = trial.gather(rt.alloc()) else {
-        return Err(Fail::new("a consumer is out"));
-    };
-    assert_eq!(rt; fault, GatherFault::Missing(0, 1));
     ends(
         rt.alloc(),
-        trial,
+        one_consumer_is_out(&rt, trial, rt.alloc())?,
         &[(&[], false, &[])],
         &[(0, 0, &[], false)],
     )
@@ -89,9 +111,8 @@ fn a_poll_of_no_lane_or_no_budget_draws_nothing(rt: HostRuntime) -> Result<(), F
     )
 }
 
-/// Consumer 0 has begun a claim on the only item, and consumer 1 has lost it to consumer 0.
-fn one_went_away<R: Abort + AllocGlobal>(rt: &R) -> Result<Trial<Global>, Fail> {
-    let mut trial = all_given(rt.alloc(), 1, 2, 1)?;
+/// Consumer 0 begins a claim on the only item, and consumer 1 loses it to consumer 0.
+fn begin_and_lose(rt: &impl Abort, trial: &mut Trial<Global>) {
     assert_eq!(rt; trial.put(0, 5), Some(Put::Linked));
     assert_eq!(rt;
         trial.poll(0, 0, 8, &mut Zeros::default()),
@@ -101,23 +122,26 @@ fn one_went_away<R: Abort + AllocGlobal>(rt: &R) -> Result<Trial<Global>, Fail> 
         trial.poll(1, 0, 100, &mut Zeros::default()),
         Some(Poll::Lost(0))
     );
-    Ok(trial)
+}
+
+/// The report, once consumer 0 is taken in.
+fn last_is_taken_in(mut trial: Trial<Global>, alloc: Global) -> Result<Report<Global>, Fail> {
+    trial.take_consumer(0);
+    trial.gather(alloc).map_err(|_| Fail::new("no report"))
+}
+
+/// The report after that, where consumer 0 is taken in last.
+fn one_went_away(rt: &impl Abort, alloc: Global) -> Result<Report<Global>, Fail> {
+    let mut trial = all_given(alloc, 1, 2, 1)?;
+    begin_and_lose(rt, &mut trial);
+    trial.take_consumer(1);
+    trial.take_producer(0);
+    last_is_taken_in(one_consumer_is_out(rt, trial, alloc)?, alloc)
 }
 
 #[test]
 fn a_later_consumer_loses_to_one_that_went_away(rt: HostRuntime) -> Result<(), Fail> {
-    let mut trial = one_went_away(&rt)?;
-    trial.take_consumer(1);
-    trial.take_producer(0);
-    let Err((fault, trial)) = trial.gather(rt.alloc()) else {
-        return Err(Fail::new("a consumer is out"));
-    };
-    assert_eq!(rt; fault, GatherFault::Missing(0, 1));
-    let mut trial = trial;
-    trial.take_consumer(0);
-    let Ok(report) = trial.gather(rt.alloc()) else {
-        return Err(Fail::new("no report"));
-    };
+    let report = one_went_away(&rt, rt.alloc())?;
     assert_eq!(rt;
         report_text(rt.alloc(), &report)?.as_str(),
         "lane 0 open put 5\nleft 0 5\ndiary 0 0 begun\ndiary 1 0 lost 0\n"
@@ -164,16 +188,21 @@ fn two_producers_want_the_only_cell(rt: HostRuntime) -> Result<(), Fail> {
     )
 }
 
-#[test]
-fn an_ended_lane_is_read_by_a_consumer_given_later(rt: HostRuntime) -> Result<(), Fail> {
-    let mut trial = new_trial(rt.alloc(), 1, 1, 1)?;
-    trial.producer(rt.alloc())?;
+/// A producer puts an item, ends its lane and is taken in, and only then a consumer is given, who reads both.
+fn is_read_later(rt: &impl Abort, trial: &mut Trial<Global>, alloc: Global) -> Result<(), Fail> {
+    trial.producer(alloc)?;
     assert_eq!(rt; trial.put(0, 7), Some(Put::Linked));
     assert_eq!(rt; trial.finish(0), Some(Finish::Ended));
     assert!(rt; trial.take_producer(0));
-    trial.consumer(rt.alloc())?;
+    trial.consumer(alloc)?;
     let mut words = Zeros::default();
     assert_eq!(rt; trial.poll(0, 0, 100, &mut words), Some(Poll::Took(7)));
     assert_eq!(rt; trial.poll(0, 0, 100, &mut words), Some(Poll::Ended));
     Ok(())
+}
+
+#[test]
+fn an_ended_lane_is_read_by_a_consumer_given_later(rt: HostRuntime) -> Result<(), Fail> {
+    let mut trial = new_trial(rt.alloc(), 1, 1, 1)?;
+    is_read_later(&rt, &mut trial, rt.alloc())
 }

@@ -1,10 +1,10 @@
 //! Polls of one thread: what they answer with small budgets, and how many words they draw.
 
 use crate::trial::Trial;
-use crate::trials::{all_given, ends, new_trial};
+use crate::trials::{all_given, both_are_given, ends, new_trial};
 use mb_mailbox::{Poll, Put};
 use mb_world::Note;
-use std::alloc::Allocator;
+use std::alloc::{Allocator, Global};
 use std::process::Abort;
 use std::test::Fail;
 use test_tools::Zeros;
@@ -53,23 +53,35 @@ fn a_budget_cuts_polls_short(rt: HostRuntime) -> Result<(), Fail> {
     Ok(())
 }
 
-/// Another consumer is given after so many polls that are spent, then so many are spent, and the next one takes the item.
+/// Of an item that is put, so many polls are spent, then another consumer is given, so many more are spent, and the next one
+/// takes it.
+fn takes_after(
+    rt: &impl Abort,
+    trial: &mut Trial<Global>,
+    alloc: Global,
+    before: u64,
+    after: u64,
+) -> Result<(), Fail> {
+    both_are_given(trial, alloc)?;
+    assert_eq!(rt; trial.put(0, 7), Some(Put::Linked));
+    let mut words = Zeros::default();
+    are_spent(rt, trial, &mut words, 1, before);
+    trial.consumer(alloc)?;
+    are_spent(rt, trial, &mut words, 1, after);
+    assert_eq!(rt; trial.poll(0, 0, 1, &mut words), Some(Poll::Took(7)));
+    // The claim has seven accesses.
+    assert_eq!(rt; words.given, 7);
+    Ok(())
+}
+
+/// The report tells it.
 fn one_is_given_between<R: Abort + AllocGlobal>(
     rt: &R,
     before: u64,
     after: u64,
 ) -> Result<(), Fail> {
     let mut trial = new_trial(rt.alloc(), 1, 2, 1)?;
-    trial.producer(rt.alloc())?;
-    trial.consumer(rt.alloc())?;
-    let mut words = Zeros::default();
-    assert_eq!(rt; trial.put(0, 7), Some(Put::Linked));
-    are_spent(rt, &mut trial, &mut words, 1, before);
-    trial.consumer(rt.alloc())?;
-    are_spent(rt, &mut trial, &mut words, 1, after);
-    assert_eq!(rt; trial.poll(0, 0, 1, &mut words), Some(Poll::Took(7)));
-    // The claim has seven accesses.
-    assert_eq!(rt; words.given, 7);
+    takes_after(rt, &mut trial, rt.alloc(), before, after)?;
     ends(
         rt.alloc(),
         trial,

@@ -1,7 +1,7 @@
 //! Calls of a mailbox whose memory is refused: each growth in turn, and then the same call with memory.
 
 use crate::trial::Trial;
-use crate::trials::{all_given, ends, new_trial, take_all};
+use crate::trials::{all_given, both_are_given, ends, new_trial, take_all};
 use linked_list_allocator::LocalHeap;
 use mb_cells::Finish;
 use mb_mailbox::{GatherFault, HubFault, Poll, Put};
@@ -48,8 +48,7 @@ fn new_is_served<'a>(
     let Ok(mut trial) = Trial::new(heap, setup) else {
         return Ok(false);
     };
-    trial.producer(plenty)?;
-    trial.consumer(plenty)?;
+    both_are_given(&mut trial, plenty)?;
     takes_seven(rt, plenty, trial)?;
     Ok(true)
 }
@@ -94,6 +93,32 @@ fn next_consumer<'a>(
     Ok(false)
 }
 
+/// The same, where no producer is given after it. Then a consumer is given.
+fn only_producer<'a>(
+    rt: &impl Abort,
+    trial: &mut Trial<&'a LocalHeap>,
+    heap: &'a LocalHeap,
+    plenty: &'a LocalHeap,
+) -> Result<bool, Fail> {
+    let served = next_producer(rt, trial, heap, plenty)?;
+    assert_eq!(rt; trial.producer(plenty), Err(HubFault::AllGiven));
+    trial.consumer(plenty)?;
+    Ok(served)
+}
+
+/// The same of the only consumer, where a producer is given before it.
+fn only_consumer<'a>(
+    rt: &impl Abort,
+    trial: &mut Trial<&'a LocalHeap>,
+    heap: &'a LocalHeap,
+    plenty: &'a LocalHeap,
+) -> Result<bool, Fail> {
+    trial.producer(plenty)?;
+    let served = next_consumer(rt, trial, heap, plenty)?;
+    assert_eq!(rt; trial.consumer(plenty), Err(HubFault::AllGiven));
+    Ok(served)
+}
+
 /// Whether the heap serves the only producer, of four cells, since the smallest heap serves a list of one item. A refusal
 /// uses no number up: it is given then, and after it none.
 fn producer_is_served<'a>(
@@ -102,9 +127,7 @@ fn producer_is_served<'a>(
     plenty: &'a LocalHeap,
 ) -> Result<bool, Fail> {
     let mut trial = new_trial(plenty, 1, 1, 4)?;
-    let served = next_producer(rt, &mut trial, heap, plenty)?;
-    assert_eq!(rt; trial.producer(plenty), Err(HubFault::AllGiven));
-    trial.consumer(plenty)?;
+    let served = only_producer(rt, &mut trial, heap, plenty)?;
     takes_seven(rt, plenty, trial)?;
     Ok(served)
 }
@@ -126,9 +149,7 @@ fn consumer_is_served<'a>(
     plenty: &'a LocalHeap,
 ) -> Result<bool, Fail> {
     let mut trial = new_trial(plenty, 1, 1, 1)?;
-    trial.producer(plenty)?;
-    let served = next_consumer(rt, &mut trial, heap, plenty)?;
-    assert_eq!(rt; trial.consumer(plenty), Err(HubFault::AllGiven));
+    let served = only_consumer(rt, &mut trial, heap, plenty)?;
     takes_seven(rt, plenty, trial)?;
     Ok(served)
 }
@@ -160,10 +181,9 @@ fn tells_seven(report: &Report<&LocalHeap>) -> Result<(), Difference> {
     )
 }
 
-/// Two lanes and two consumers, all taken in: consumer 0 has taken the item of lane 0, which consumer 1 has lost, and
-/// consumer 1 has begun a claim on the item of lane 1, which has ended.
-fn two_lanes<'a>(rt: &impl Abort, heap: &'a LocalHeap) -> Result<Trial<&'a LocalHeap>, Fail> {
-    let mut trial = all_given(heap, 2, 2, 2)?;
+/// Consumer 0 takes the item of lane 0, which consumer 1 loses, and consumer 1 begins a claim on the item of lane 1, which
+/// has ended.
+fn take_lose_and_begin(rt: &impl Abort, trial: &mut Trial<&LocalHeap>) {
     assert_eq!(rt; trial.put(0, 5), Some(Put::Linked));
     assert_eq!(rt; trial.put(1, 6), Some(Put::Linked));
     assert_eq!(rt; trial.finish(1), Some(Finish::Ended));
@@ -179,6 +199,12 @@ fn two_lanes<'a>(rt: &impl Abort, heap: &'a LocalHeap) -> Result<Trial<&'a Local
         trial.poll(1, 1, 2, &mut Zeros::default()),
         Some(Poll::Spent)
     );
+}
+
+/// Two lanes and two consumers, all taken in after that.
+fn two_lanes<'a>(rt: &impl Abort, heap: &'a LocalHeap) -> Result<Trial<&'a LocalHeap>, Fail> {
+    let mut trial = all_given(heap, 2, 2, 2)?;
+    take_lose_and_begin(rt, &mut trial);
     take_all(&mut trial);
     Ok(trial)
 }

@@ -35,6 +35,16 @@ pub(crate) fn all_given<A: Allocator + Clone + Drop>(
     Ok(trial)
 }
 
+/// A producer and then a consumer are given.
+pub(crate) fn both_are_given<A: Allocator + Clone + Drop>(
+    trial: &mut Trial<A>,
+    alloc: A,
+) -> Result<(), Fail> {
+    trial.producer(alloc.clone()?)?;
+    trial.consumer(alloc)?;
+    Ok(())
+}
+
 /// Takes in all that are out.
 pub(crate) fn take_all<A: Allocator + Clone + Drop>(trial: &mut Trial<A>) {
     for place in 0..2 {

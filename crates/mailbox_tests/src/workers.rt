@@ -1,12 +1,12 @@
 //! Workers: what `work` answers, and what is reported then.
 
 use crate::trial::Trial;
-use crate::trials::{ends, new_trial};
+use crate::trials::{both_are_given, ends, new_trial};
 use mailbox_audit::audit;
 use mb_mailbox::{Gate, OpenGate, Who, WorkFault, Worked};
 use mb_quorum::TableName;
 use mb_world::{Note, Report, Setup};
-use std::alloc::Global;
+use std::alloc::{Allocator, Global};
 use std::process::Abort;
 use std::sync::Wait;
 use std::sync::atomic::{AtomicU64, Ordering};
@@ -21,16 +21,19 @@ pub(crate) const ALL_DONE: Worked = Worked {
 };
 
 /// A list of items for each producer.
-pub(crate) fn lists(alloc: Global, items: &[&[u64]]) -> Result<Vec<Vec<u64>>, Fail> {
-    let mut lists = Vec::new(alloc);
+pub(crate) fn lists<A: Allocator + Clone + Drop>(
+    alloc: A,
+    items: &[&[u64]],
+) -> Result<Vec<Vec<u64, A>, A>, Fail> {
+    let mut lists = Vec::new(alloc.clone()?);
     for list in items {
-        lists.push(list.to_vec(alloc)?)?;
+        lists.push(list.to_vec(alloc.clone()?)?)?;
     }
     Ok(lists)
 }
 
 /// So many sources of words 0.
-fn sources(alloc: Global, amount: usize) -> Result<Vec<Zeros>, Fail> {
+pub(crate) fn sources<A: Allocator + Drop>(alloc: A, amount: usize) -> Result<Vec<Zeros, A>, Fail> {
     let mut sources = Vec::new(alloc);
     for _ in 0..amount {
         sources.push(Zeros::default())?;
@@ -94,9 +97,7 @@ fn a_budget_of_0_is_refused(rt: HostRuntime) -> Result<(), Fail> {
     let worked = works(&rt, &mut trial, &[&[1, 2]], 0, 1, &OpenGate)?;
     assert_eq!(rt; worked, Err(WorkFault::BadBudget));
     // No number was given: both are left.
-    trial.producer(rt.alloc())?;
-    trial.consumer(rt.alloc())?;
-    Ok(())
+    both_are_given(&mut trial, rt.alloc())
 }
 
 #[test]
@@ -116,19 +117,37 @@ fn nobody_comes_through_a_closed_gate(rt: HostRuntime) -> Result<(), Fail> {
     )
 }
 
+/// Workers with these lists, this budget and so many consumers come to this, where no gate stops them.
+fn come_to<R: Abort + AllocGlobal + Threads + Wait + Sync>(
+    rt: &R,
+    trial: &mut Trial<Global>,
+    items: &[&[u64]],
+    budget: u64,
+    consumers: usize,
+    want: Result<Worked, WorkFault>,
+) -> Result<(), Fail> {
+    let worked = works(rt, trial, items, budget, consumers, &OpenGate)?;
+    assert_eq!(rt; worked, want);
+    Ok(())
+}
+
+/// After the only numbers were given, calls that want one more are refused.
+fn more_are_refused<R: Abort + AllocGlobal + Threads + Wait + Sync>(
+    rt: &R,
+    trial: &mut Trial<Global>,
+) -> Result<(), Fail> {
+    // That no number is left is told before the budget.
+    come_to(rt, trial, &[&[3]], 0, 0, Err(WorkFault::AllGiven))?;
+    come_to(rt, trial, &[], 5, 1, Err(WorkFault::AllGiven))?;
+    // Without lists and without sources there is nobody, and nothing to do.
+    come_to(rt, trial, &[], 5, 0, Ok(ALL_DONE))
+}
+
 #[test]
 fn no_numbers_are_left_for_more_workers(rt: HostRuntime) -> Result<(), Fail> {
     let mut trial = new_trial(rt.alloc(), 1, 1, 2)?;
-    let worked = works(&rt, &mut trial, &[&[1, 2]], 5, 1, &OpenGate)?;
-    assert_eq!(rt; worked, Ok(ALL_DONE));
-    // That no number is left is told before the budget.
-    let worked = works(&rt, &mut trial, &[&[3]], 0, 0, &OpenGate)?;
-    assert_eq!(rt; worked, Err(WorkFault::AllGiven));
-    let worked = works(&rt, &mut trial, &[], 5, 1, &OpenGate)?;
-    assert_eq!(rt; worked, Err(WorkFault::AllGiven));
-    // Without lists and without sources there is nobody, and nothing to do.
-    let worked = works(&rt, &mut trial, &[], 5, 0, &OpenGate)?;
-    assert_eq!(rt; worked, Ok(ALL_DONE));
+    come_to(&rt, &mut trial, &[&[1, 2]], 5, 1, Ok(ALL_DONE))?;
+    more_are_refused(&rt, &mut trial)?;
     ends(
         rt.alloc(),
         trial,

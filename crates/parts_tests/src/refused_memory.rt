@@ -9,6 +9,7 @@ use mb_claim::{Layout, PlayFault, Stage, play};
 use mb_deciding::{Fault, conciliate, ratify};
 use mb_quorum::TableName;
 use mb_world::{Note, Report, Setup, World};
+use std::process::Abort;
 use std::test::Fail;
 use test_tools::{Difference, refusals, tells};
 
@@ -83,26 +84,38 @@ fn tells_seven(report: &Report<&LocalHeap>) -> Result<(), Difference> {
     )
 }
 
+/// Whether the heap serves the report of that. If not, another serves it.
+fn report_is_served<'a>(
+    world: &World<&'a LocalHeap>,
+    heap: &'a LocalHeap,
+    plenty: &'a LocalHeap,
+) -> Result<bool, Fail> {
+    if let Ok(report) = world.report(heap) {
+        tells_seven(&report)?;
+        return Ok(true);
+    }
+    tells_seven(&world.report(plenty)?)?;
+    Ok(false)
+}
+
+/// Whether the heap serves the world and its report.
+fn world_is_served<'a>(
+    rt: &impl Abort,
+    heap: &'a LocalHeap,
+    plenty: &'a LocalHeap,
+) -> Result<bool, Fail> {
+    let setup = Setup::new(1, 1, 1, 1, TableName::Bits)?;
+    let Ok(mut world) = World::new(heap, setup) else {
+        return Ok(false);
+    };
+    make(rt, &mut world, &take_seven());
+    report_is_served(&world, heap, plenty)
+}
+
 #[test]
 fn each_growth_of_a_world_and_its_report_refused(rt: HostRuntime) -> Result<(), Fail> {
     let plenty = LocalHeap::new(rt.alloc(), 1 << 16)?;
-    let refused = refusals(&rt, |heap| {
-        let setup = Setup::new(1, 1, 1, 1, TableName::Bits)?;
-        let Ok(mut world) = World::new(heap, setup) else {
-            return Ok(false);
-        };
-        make(&rt, &mut world, &take_seven());
-        match world.report(heap) {
-            Ok(report) => {
-                tells_seven(&report)?;
-                Ok(true)
-            }
-            Err(_) => {
-                tells_seven(&world.report(&plenty)?)?;
-                Ok(false)
-            }
-        }
-    })?;
+    let refused = refusals(&rt, |heap| world_is_served(&rt, heap, &plenty))?;
     // The four lists of the pool, the words of the claims, the seats and the notes; then the lane and its item, the diary
     // and its note, and the cells of the lane that is read.
     assert!(rt; 12 <= refused);

@@ -3,19 +3,29 @@
 use crate::answers::make;
 use crate::events::take_seven;
 use crate::worlds::one_pair;
-use mb_world::Note;
+use mb_world::{Note, Report};
+use std::alloc::Global;
+use std::process::Abort;
 use std::test::Fail;
 use test_tools::{DiaryTold, Difference, LaneTold, tells};
 
-#[test]
-fn each_difference_is_found(rt: HostRuntime) -> Result<(), Fail> {
-    let mut world = one_pair(&rt, 1, 1, 1)?;
-    make(&rt, &mut world, &take_seven());
-    let report = world.report(rt.alloc())?;
+/// What is told is so, or this is the first difference.
+fn is_found(
+    rt: &impl Abort,
+    report: &Report<Global>,
+    lane: LaneTold<'_>,
+    diary: DiaryTold<'_>,
+    found: Result<(), Difference>,
+) {
+    assert_eq!(rt; tells(report, &[lane], &[diary]), found);
+}
+
+/// Each difference from a report that tells of one item, which the only consumer took.
+fn are_found(rt: &impl Abort, report: &Report<Global>) {
     let lane: LaneTold<'_> = (&[7], false, &[]);
     let took: &[Note] = &[Note::Took(7)];
     let diary: DiaryTold<'_> = (0, 0, took, false);
-    assert_eq!(rt; tells(&report, &[lane], &[diary]), Ok(()));
+    is_found(rt, report, lane, diary, Ok(()));
     let others: [(LaneTold<'_>, DiaryTold<'_>, Difference); 7] = [
         ((&[8], false, &[]), diary, Difference::Put(0)),
         ((&[7], true, &[]), diary, Difference::Ended(0)),
@@ -26,9 +36,17 @@ fn each_difference_is_found(rt: HostRuntime) -> Result<(), Fail> {
         (lane, (0, 0, took, true), Difference::Begun(0)),
     ];
     for (lane, diary, difference) in others {
-        assert_eq!(rt; tells(&report, &[lane], &[diary]), Err(difference));
+        is_found(rt, report, lane, diary, Err(difference));
     }
-    assert_eq!(rt; tells(&report, &[], &[]), Err(Difference::Lanes));
-    assert_eq!(rt; tells(&report, &[lane], &[]), Err(Difference::Diaries));
+    assert_eq!(rt; tells(report, &[], &[]), Err(Difference::Lanes));
+    assert_eq!(rt; tells(report, &[lane], &[]), Err(Difference::Diaries));
+}
+
+#[test]
+fn each_difference_is_found(rt: HostRuntime) -> Result<(), Fail> {
+    let mut world = one_pair(&rt, 1, 1, 1)?;
+    make(&rt, &mut world, &take_seven());
+    let report = world.report(rt.alloc())?;
+    are_found(&rt, &report);
     Ok(())
 }

@@ -11,7 +11,28 @@ use std::test::Fail;
 use std::thread::{Threads, join};
 use test_tools::refusals;
 
-/// The item of an only lane, from the first look to the end mark.
+/// The item of an only lane is linked, and before that nothing is found.
+fn link_one_item<A: Allocator + Drop>(
+    rt: &impl Abort,
+    table: &SharedCells<A>,
+    lane: &mut LaneSeat,
+    reader: &mut ReaderSeat,
+)
+    requires lane { lane.old.table ≡ table.now }
+    requires reader { reader.old.table ≡ table.now }
+    requires some { 0 < table.now.size.lanes }
+    ensures lane { lane.new.table ≡ table.now }
+    ensures reader { reader.new.table ≡ table.now }
+{
+    assert_eq!(rt; lane.lane(), 0);
+    assert_eq!(rt; table.look(reader, Cursor::head(0)), Look::Nothing);
+    assert_eq!(rt; table.offer(lane, 8), Offer::Cell(0));
+    assert_eq!(rt; table.push(lane), Push::Item(0));
+    assert_eq!(rt; table.look(reader, Cursor::head(0)), Look::Nothing);
+    assert_eq!(rt; table.push(lane), Push::Link(0));
+}
+
+/// That item, from the first look to the end mark.
 fn put_one_item<A: Allocator + Drop>(
     rt: &impl Abort,
     table: &SharedCells<A>,
@@ -22,12 +43,7 @@ fn put_one_item<A: Allocator + Drop>(
     requires reader { reader.old.table ≡ table.now }
     requires some { 0 < table.now.size.lanes }
 {
-    assert_eq!(rt; lane.lane(), 0);
-    assert_eq!(rt; table.look(reader, Cursor::head(0)), Look::Nothing);
-    assert_eq!(rt; table.offer(lane, 8), Offer::Cell(0));
-    assert_eq!(rt; table.push(lane), Push::Item(0));
-    assert_eq!(rt; table.look(reader, Cursor::head(0)), Look::Nothing);
-    assert_eq!(rt; table.push(lane), Push::Link(0));
+    link_one_item(rt, table, lane, reader);
     let Look::Cell(k) = table.look(reader, Cursor::head(0)) else {
         return Err(Fail::new("no cell"));
     };

@@ -153,6 +153,27 @@ fn claimed_by_sixteen<R: Threads + Sync, A: Allocator + Clone + Drop + Send + Sy
     Ok(map_vec(rt, seats, &claim)?)
 }
 
+/// The first claim on cell 0 wins in seven steps, and the second loses to it in four.
+fn win_and_lose<A: Allocator + Drop>(
+    rt: &impl Abort,
+    table: &SharedClaims<A>,
+    a: &mut ClaimSeat,
+    b: &mut ClaimSeat,
+)
+    requires first { (a.old.table ≡ name_of table.now) × (a.old.part ≡ []) }
+    requires second { (b.old.table ≡ name_of table.now) × (b.old.part ≡ []) }
+    requires cell { 0 < table.now.cells }
+    ensures first { a.new.table ≡ a.old.table }
+    ensures second { b.new.table ≡ b.old.table }
+{
+    let mut first = Claim::new(table.layout(), a.consumer());
+    let mut second = Claim::new(table.layout(), b.consumer());
+    assert_eq!(rt; step_on(table, a, &mut first, 0, 7), 7);
+    assert_eq!(rt; first.stage(), Stage::Won);
+    assert_eq!(rt; step_on(table, b, &mut second, 0, 4), 4);
+    assert_eq!(rt; second.stage(), Stage::Lost(0));
+}
+
 /// Whether the allocator serves a table of one cell for two consumers. Then both numbers are given, the first consumer wins
 /// the cell and the second loses it.
 fn one_wins<A: Allocator + Clone + Drop>(rt: &impl Abort, alloc: A) -> Result<bool, Fail> {
@@ -165,12 +186,7 @@ fn one_wins<A: Allocator + Clone + Drop>(rt: &impl Abort, alloc: A) -> Result<bo
     assert!(rt; matches!(table.enroll(&mut hub), Err(AllGiven)));
     assert_eq!(rt; (a.consumer(), b.consumer()), (0, 1));
     assert_eq!(rt; (hub.given(), hub.out()), (2, 2));
-    let mut first = Claim::new(table.layout(), a.consumer());
-    let mut second = Claim::new(table.layout(), b.consumer());
-    assert_eq!(rt; step_on(&table, &mut a, &mut first, 0, 7), 7);
-    assert_eq!(rt; first.stage(), Stage::Won);
-    assert_eq!(rt; step_on(&table, &mut b, &mut second, 0, 4), 4);
-    assert_eq!(rt; second.stage(), Stage::Lost(0));
+    win_and_lose(rt, &table, &mut a, &mut b);
     table.take_in(&mut hub, b);
     table.take_in(&mut hub, a);
     assert_eq!(rt; (hub.given(), hub.out()), (2, 0));
@@ -184,26 +200,37 @@ fn numbers_and_ends(rt: HostRuntime) -> Result<(), Fail> {
     Ok(())
 }
 
+/// After so many steps of a claim on cell 0 it goes on, and announces consumer 0 in the ratifier next.
+fn comes_to_announce<A: Allocator + Drop>(
+    rt: &impl Abort,
+    table: &SharedClaims<A>,
+    seat: &mut ClaimSeat,
+    steps: u32,
+)
+    requires table { (seat.old.table ≡ name_of table.now) × (seat.old.part ≡ []) }
+    requires cell { 0 < table.now.cells }
+    ensures { seat.new.table ≡ seat.old.table }
+{
+    claims_make_steps();
+    let mut claim = Claim::new(table.layout(), seat.consumer());
+    step_on(table, seat, &mut claim, 0, steps);
+    assert_eq!(rt; claim.stage(), Stage::Going);
+    let announcing = ClaimOp {
+        object: 1,
+        op: Op::Store(Reg::Quorum(0), 1),
+    };
+    assert_eq!(rt; claim.next(table.layout()), announcing);
+}
+
 #[test]
 fn another_goes_on_where_one_stopped(rt: HostRuntime) -> Result<(), Fail> {
-    claims_make_steps();
     let layout = Layout::new(2, 1, TableName::Bits)?;
     let (table, mut hub) = SharedClaims::new(rt.alloc(), layout, 1)?;
     let mut a = table.enroll(&mut hub)?;
     let mut b = table.enroll(&mut hub)?;
     assert!(rt; matches!(table.enroll(&mut hub), Err(AllGiven)));
-    let announcing = ClaimOp {
-        object: 1,
-        op: Op::Store(Reg::Quorum(0), 1),
-    };
-    let mut first = Claim::new(table.layout(), a.consumer());
-    step_on(&table, &mut a, &mut first, 0, 3);
-    assert_eq!(rt; first.stage(), Stage::Going);
-    assert_eq!(rt; first.next(table.layout()), announcing);
-    let mut second = Claim::new(table.layout(), b.consumer());
-    step_on(&table, &mut b, &mut second, 0, 1);
-    assert_eq!(rt; second.stage(), Stage::Going);
-    assert_eq!(rt; second.next(table.layout()), announcing);
+    comes_to_announce(&rt, &table, &mut a, 3);
+    comes_to_announce(&rt, &table, &mut b, 1);
     table.take_in(&mut hub, a);
     table.take_in(&mut hub, b);
     assert_eq!(rt; hub.out(), 0);

@@ -15,6 +15,8 @@ use mb_script::Counting;
 use ratifiers::RATIFIERS;
 use refused_replays::REFUSED_REPLAYS;
 use runs::RUNS;
+use std::sync::Wait;
+use std::thread::Threads;
 
 /// One run of the program: its command line and standard input, what goes to standard output and standard error, and
 /// the exit status.
@@ -28,26 +30,28 @@ pub struct Example {
     pub status: u8,
 }
 
+/// What both streams got, and the status.
+fn ended<R: AllocGlobal + Threads + Wait + Sync>(
+    rt: &R,
+    words: &[&str],
+    input: &str,
+) -> (Vec<u8>, Vec<u8>, u8) {
+    let mut reader = Counting::new(input.as_bytes());
+    let mut writer = Counting::new(Vec::<u8>::new(rt.alloc()));
+    let mut errors = Counting::new(Vec::<u8>::new(rt.alloc()));
+    let ending = run(rt, words, &mut reader, &mut writer, &mut errors);
+    (writer.device, errors.device, status_of_ending(&ending))
+}
+
 #[test]
 fn examples_are_as_they_stand(rt: HostRuntime) {
     for examples in [CLAIMS, LANES, REFUSED_REPLAYS, RATIFIERS, RUNS] {
         for example in examples {
             let name = example.name;
-            let mut reader = Counting::new(example.input.as_bytes());
-            let mut writer = Counting::new(Vec::<u8>::new(rt.alloc()));
-            let mut errors = Counting::new(Vec::<u8>::new(rt.alloc()));
-            let ending = run(&rt, example.words, &mut reader, &mut writer, &mut errors);
-            assert_eq!(rt;
-                writer.device.as_slice(),
-                example.output.as_bytes(),
-                "{name}"
-            );
-            assert_eq!(rt;
-                errors.device.as_slice(),
-                example.error.as_bytes(),
-                "{name}"
-            );
-            assert_eq!(rt; status_of_ending(&ending), example.status, "{name}");
+            let (output, error, status) = ended(&rt, example.words, example.input);
+            assert_eq!(rt; output.as_slice(), example.output.as_bytes(), "{name}");
+            assert_eq!(rt; error.as_slice(), example.error.as_bytes(), "{name}");
+            assert_eq!(rt; status, example.status, "{name}");
         }
     }
 }
@@ -61,12 +65,9 @@ fn clap_has_a_stream_for_each_text(rt: HostRuntime) {
         (["mailbox"].as_slice(), false),
         (["mailbox", "run", "--budget", "0"].as_slice(), false),
     ] {
-        let mut reader = Counting::new("".as_bytes());
-        let mut writer = Counting::new(Vec::<u8>::new(rt.alloc()));
-        let mut errors = Counting::new(Vec::<u8>::new(rt.alloc()));
-        let ending = run(&rt, words, &mut reader, &mut writer, &mut errors);
-        assert_eq!(rt; writer.device.is_empty(), !is_help);
-        assert_eq!(rt; errors.device.is_empty(), is_help);
-        assert_eq!(rt; status_of_ending(&ending), if is_help { 0 } else { 2 });
+        let (output, error, status) = ended(&rt, words, "");
+        assert_eq!(rt; output.is_empty(), !is_help);
+        assert_eq!(rt; error.is_empty(), is_help);
+        assert_eq!(rt; status, if is_help { 0 } else { 2 });
     }
 }
