@@ -124,12 +124,16 @@ fn two_are_served<'r, R: Abort + Threads + Wait + Sync>(
     let mut trial = new_trial(ample, 1, 1, 2)?;
     let served = is_done(rt, &mut trial, alloc, ample, &[&[1, 2]], 1)?;
     let given = !has_lane(&mut trial, ample);
-    let (put, notes): (&[u64], &[Note]) = if served {
-        (&[1, 2], &[Note::Took(1), Note::Took(2)])
+    if served {
+        ends(
+            ample,
+            trial,
+            &[(&[1, 2], true, &[])],
+            &[(0, 0, &[Note::Took(1), Note::Took(2)], false)],
+        )?;
     } else {
-        (&[], &[])
-    };
-    ends(ample, trial, &[(put, given, &[])], &[(0, 0, notes, false)])?;
+        ends(ample, trial, &[(&[], given, &[])], &[(0, 0, &[], false)])?;
+    }
     Ok(served)
 }
 
