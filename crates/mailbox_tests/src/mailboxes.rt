@@ -39,7 +39,7 @@ fn an_item_is_put_and_taken(rt: HostRuntime) -> Result<(), Fail> {
     )
 }
 
-/// It comes to these.
+/// `put_finish_and_poll` comes to these answers.
 fn comes_to(
     rt: &impl Abort,
     trial: &mut Trial<Global>,

@@ -94,8 +94,8 @@ fn each_growth_of_a_lone_producer_refused(rt: HostRuntime) -> Result<(), Fail> {
     Ok(())
 }
 
-/// Whether workers over the first allocator put these lists and so many others take all, where nothing but memory may be
-/// wanting. What they are handed is over the second allocator.
+/// Whether workers over the first allocator put these lists and so many others poll them to their ends, where nothing but
+/// memory may be wanting. What they are handed is over the second allocator.
 fn is_done<'r, R: Abort + Threads + Wait + Sync>(
     rt: &R,
     trial: &mut Trial<Alloc<'r>>,

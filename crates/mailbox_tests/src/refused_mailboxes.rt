@@ -93,7 +93,7 @@ fn next_consumer<'a>(
     Ok(false)
 }
 
-/// The same, where no producer is given after it. Then a consumer is given.
+/// The only producer is given as by `next_producer`, with none behind it. Then a consumer is given.
 fn only_producer<'a>(
     rt: &impl Abort,
     trial: &mut Trial<&'a LocalHeap>,

@@ -131,7 +131,7 @@ fn come_to<R: Abort + AllocGlobal + Threads + Wait + Sync>(
     Ok(())
 }
 
-/// After the only numbers were given, calls that want one more are refused.
+/// After the only numbers were given, calls that want one more are refused, and one that wants none is done.
 fn more_are_refused<R: Abort + AllocGlobal + Threads + Wait + Sync>(
     rt: &R,
     trial: &mut Trial<Global>,
