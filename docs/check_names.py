@@ -221,6 +221,8 @@ def scripts_not_printed(known):
 
 def printed_by(command, known):
     """The lines that a command of a page prints by the examples, or None where they have no such command."""
+    # The program that is run without a proof prints the same.
+    command = re.sub(r"\(cd crates/mailbox_main && rt try -- ([^)]*)\)", r"./mailbox \1", command)
     text = []
     for part in command.split("|"):
         program, *options = part.split()
