@@ -10,8 +10,8 @@ use rand::make_rng;
 use rand_chacha::ChaCha8Rng;
 
 fn main(rt: HostRuntime) -> Result<()> {
-    // One producer, two consumers, four cells with two pairs of deciding objects each, over the table of bits.
-    let (mailbox, mut hub) = Mailbox::new(rt.alloc(), Setup::new(1, 2, 4, 2, TableName::Bits)?)?;
+    // One producer, two consumers, four cells with four pairs of deciding objects each, over the table of bits.
+    let (mailbox, mut hub) = Mailbox::new(rt.alloc(), Setup::new(1, 2, 4, 4, TableName::Bits)?)?;
     let mut producer = hub.producer(rt.alloc(), &mailbox)?;
     let mut one = hub.consumer(rt.alloc(), &mailbox)?;
     let mut two = hub.consumer(rt.alloc(), &mailbox)?;
