@@ -1,1 +1,3 @@
+pub mod Heaps
+pub mod Telling
 pub mod Zeros

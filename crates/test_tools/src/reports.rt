@@ -1,4 +1,12 @@
 //! What a report is to tell, and where it tells something else.
+ghost use Rattle.std.specs.Prelude.{◌≡◌, IfErr, IfOk, map};
+ghost use Rattle.test_tools.specs.Telling.{
+  DiaryDiffers,
+  IsFirstDifference,
+  LaneDiffers,
+  diary_told,
+  lane_told,
+};
 
 use mb_world::{Diary, LaneReport, Note, Report};
 use std::alloc::Allocator;
@@ -35,18 +43,22 @@ pub fn tells<A: Allocator + Drop>(
     report: &Report<A>,
     lanes: &[LaneTold<'_>],
     diaries: &[DiaryTold<'_>],
-) -> Result<(), Difference> {
+) -> Result<(), Difference>
+    ensures lanes { IfOk result (λ _. report.now.lanes ≡ map lane_told lanes.now) }
+    ensures diaries { IfOk result (λ _. report.now.diaries ≡ map diary_told diaries.now) }
+    ensures differs { IfErr result (IsFirstDifference report.now (map lane_told lanes.now) (map diary_told diaries.now)) }
+{
     if report.lanes.len() != lanes.len() {
         return Err(Difference::Lanes);
     }
-    for (place, (lane, told)) in report.lanes.iter().zip(lanes).enumerate() {
-        tells_lane(lane, *told, place)?;
+    for (place, lane) in report.lanes.iter().enumerate() {
+        tells_lane(lane, lanes[place], place)?;
     }
     if report.diaries.len() != diaries.len() {
         return Err(Difference::Diaries);
     }
-    for (place, (diary, told)) in report.diaries.iter().zip(diaries).enumerate() {
-        tells_diary(diary, *told, place)?;
+    for (place, diary) in report.diaries.iter().enumerate() {
+        tells_diary(diary, diaries[place], place)?;
     }
     Ok(())
 }
@@ -56,7 +68,10 @@ fn tells_lane<A: Allocator + Drop>(
     lane: &LaneReport<A>,
     told: LaneTold<'_>,
     place: usize,
-) -> Result<(), Difference> {
+) -> Result<(), Difference>
+    ensures same { IfOk result (λ _. lane.now ≡ lane_told told.entry) }
+    ensures differs { IfErr result (LaneDiffers lane.now (lane_told told.entry) place) }
+{
     let (put, ended, left) = told;
     if lane.put.as_slice() != put {
         return Err(Difference::Put(place));
@@ -75,7 +90,10 @@ fn tells_diary<A: Allocator + Drop>(
     diary: &Diary<A>,
     told: DiaryTold<'_>,
     place: usize,
-) -> Result<(), Difference> {
+) -> Result<(), Difference>
+    ensures same { IfOk result (λ _. diary.now ≡ diary_told told.entry) }
+    ensures differs { IfErr result (DiaryDiffers diary.now (diary_told told.entry) place) }
+{
     let (consumer, lane, notes, begun) = told;
     if (diary.consumer, diary.lane) != (consumer, lane) {
         return Err(Difference::Owner(place));

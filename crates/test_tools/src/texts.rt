@@ -1,10 +1,14 @@
 //! What a value says of itself.
 
+ghost use Rattle.std.specs.Prelude.{◌≡◌, IfSome, IsOk};
+
 use std::fmt::Display;
 use std::test::Fail;
 
 /// Fails where a value does not say this of itself, with what it says.
-pub fn says<R: AllocGlobal, F: Display>(rt: &R, value: &F, want: &str) -> Result<(), Fail> {
+pub fn says<R: AllocGlobal, F: Display>(rt: &R, value: &F, want: &str) -> Result<(), Fail>
+    ensures { IsOk result → IfSome (F.output value.now) (λ text. text ≡ want.now) }
+{
     let text = format!(in rt.alloc(); "{value}")?;
     if text.as_str() == want {
         Ok(())

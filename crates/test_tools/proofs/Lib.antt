@@ -1,0 +1,2 @@
+mod FirstDifferences
+mod Notes
