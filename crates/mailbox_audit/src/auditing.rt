@@ -1,5 +1,8 @@
 //! The audit of a whole report.
 
+ghost use Rattle.std.specs.Prelude.{◌≡◌, IfOk};
+ghost use Rattle.mailbox_audit.specs.Tallies.{IsLaneCount, IsReportCount, both, counts};
+
 use crate::meeting::{all_said_of, diary_of};
 use mb_world::{LaneReport, Report};
 use std::alloc::Allocator;
@@ -42,7 +45,9 @@ pub struct Tally {
 
 impl Tally {
     /// Nothing.
-    pub fn none() -> Tally {
+    pub fn none() -> Tally
+        ensures { result ≡ counts 0 0 0 0 0 0 }
+    {
         Tally {
             put: 0,
             took: 0,
@@ -54,7 +59,9 @@ impl Tally {
     }
 
     /// Both together, modulo 2^64.
-    pub fn with(&self, other: Tally) -> Tally {
+    pub fn with(&self, other: Tally) -> Tally
+        ensures { result ≡ both self.now other }
+    {
         Tally {
             put: self.put.wrapping_add(other.put),
             took: self.took.wrapping_add(other.took),
@@ -112,7 +119,9 @@ fn audit_lane<A: Allocator + Drop>(
     consumers: u32,
     number: usize,
     lane: &LaneReport<A>,
-) -> Result<Tally, Flaw> {
+) -> Result<Tally, Flaw>
+    ensures { IfOk result (IsLaneCount lane.now) }
+{
     have_few_notes(report, consumers, number, lane.put.len())?;
     let mut tally = Tally::none();
     let mut left = 0usize;
@@ -142,7 +151,9 @@ fn audit_lane<A: Allocator + Drop>(
 }
 
 /// What a report comes to, where nothing in it is a flaw.
-pub fn audit<A: Allocator + Drop>(report: &Report<A>) -> Result<Tally, Flaw> {
+pub fn audit<A: Allocator + Drop>(report: &Report<A>) -> Result<Tally, Flaw>
+    ensures counts { IfOk result (IsReportCount report.now) }
+{
     let consumers = consumers_of(report)?;
     let mut tally = Tally::none();
     for (number, lane) in report.lanes.iter().enumerate() {
