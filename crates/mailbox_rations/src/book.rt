@@ -1,4 +1,5 @@
 //! What was asked for so far, and what is out.
+ghost use Rattle.std.specs.Prelude.{◌≡◌};
 
 use std::sync::atomic::{AtomicU64, Ordering};
 
@@ -23,7 +24,9 @@ pub(crate) struct Book {
 
 impl Book {
     /// A book of no request.
-    pub(crate) fn new(refuse: Refuse) -> Book {
+    pub(crate) fn new(refuse: Refuse) -> Book
+        ensures { result.refuse ≡ refuse }
+    {
         Book {
             refuse,
             asked: AtomicU64::new(0),

@@ -1,5 +1,8 @@
 //! Each growth of a call refused in its turn.
 
+ghost use Rattle.std.specs.Prelude.{◌<◌, IfOk, false, true};
+ghost use Rattle.mailbox_rations.specs.Trials.{MaySay};
+
 use crate::{Rations, Refuse};
 use std::alloc::Global;
 use std::test::Fail;
@@ -17,6 +20,9 @@ pub fn growths_refused<R: AllocGlobal, F: Fn(&Rations<Global>) -> Result<bool, F
     call: F,
 ) -> Result<u64, Fail>
     requires { F.IsAlwaysCallable call }
+    ensures few { IfOk result (λ growths. growths < 100) }
+    ensures served { IfOk result (λ _. MaySay F.Fn call true) }
+    ensures refused { IfOk result (λ growths. 0 < growths → MaySay F.Fn call false) }
 {
     for number in 0..MANY {
         let from = Rations::new(rt.alloc(), Refuse::From(number));

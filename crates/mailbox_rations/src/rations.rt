@@ -1,4 +1,5 @@
 //! The allocator.
+ghost use Rattle.std.specs.Prelude.{◌≡◌};
 
 use crate::book::{Book, Refuse};
 use std::alloc::{AllocError, Allocator};
@@ -13,7 +14,9 @@ pub struct Rations<B: Allocator> {
 
 impl<B: Allocator> Rations<B> {
     /// Nothing was asked for, and no block is out.
-    pub fn new(inner: B, refuse: Refuse) -> Rations<B> {
+    pub fn new(inner: B, refuse: Refuse) -> Rations<B>
+        ensures { result.book.refuse ≡ refuse }
+    {
         Rations {
             inner,
             book: Book::new(refuse),
