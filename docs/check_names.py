@@ -9,8 +9,9 @@ code, the definitions, the proofs, the examples or the names of files have it, c
   - in "`name` in `specs/File.antt`" one of the files named there has to have the name;
   - in "`function`: `clause`" a function of that name has to have that clause;
   - a block of Rust has to stand, line by line, in a source file; where it has signatures alone, each of them has to.
-It also looks whether `examples/script` prints the script of each example, and whether each sample of a page, and of the
-program's help, is what an example has:
+It also looks whether docs/ARCHITECTURE.md names each wrong body of crates/*/must-fail and crates/*/mutants, whether
+`examples/script` prints the script of each example, and whether each sample of a page, and of the program's help, is what
+an example has:
   - behind a line `$ COMMAND` stands what that command prints, be it a script, an output, or the first or last lines of one;
     and behind `$ cd crates/NAME && rt run` what the `stdout` of that program has;
   - lines without a command, of which one begins with a word of scripts or outputs, are the first or last lines of one.
@@ -24,7 +25,7 @@ from fnmatch import fnmatch
 
 TOP = os.path.dirname(os.path.dirname(os.path.abspath(__file__)))
 PARTS = ("src", "specs", "proofs")
-PATH = re.compile(r"[\w.<>*-]+(?:/[\w.<>*-]+)+/?|[\w*-]+\.(?:rt|antt|md|py|txt|edit)")
+PATH = re.compile(r"[\w.<>*-]+(?:/[\w.<>*-]+)+/?|[\w*-]+\.(?:rt|antt|md|py|txt|edit|control)")
 WORD = re.compile(r"[A-Za-z_]\w*")
 # A function with what stands up to its body, and a clause of it.
 FUNCTION = re.compile(r"^ *(?:pub(?:\(\w+\))? )?(?:const )?(?:final )?fn (\w+)(.*?)(?=^ *\}?\{|^ *(?:pub |#\[|fn )|\Z)", re.M | re.S)
@@ -86,7 +87,7 @@ class Sources:
                 for function, head in FUNCTION.findall(text):
                     self.clauses.setdefault(function, set()).update(CLAUSE.findall(head))
         self.all = set().union(*self.words.values(), self.crates, OUTSIDE)
-        for path in (f"{TOP}/crates.txt", f"{TOP}/HANDLES", f"{TOP}/mailbox", *files_below(f"{TOP}/bench")):
+        for path in (f"{TOP}/crates.txt", f"{TOP}/HANDLES", f"{TOP}/mailbox", *files_below(f"{TOP}/bench"), *files_below(f"{TOP}/ci")):
             self.all.update(WORD.findall(read(path)))
         for folder in ("examples", "docs"):
             for path in files_below(f"{TOP}/{folder}"):
@@ -202,7 +203,7 @@ def below(crate):
 def examples():
     """The examples by their names: the words of each, its script, its output and what stands on standard error."""
     found = {}
-    for path in files_below(f"{TOP}/crates/mailbox_main/src/tests/examples"):
+    for path in files_below(f"{TOP}/crates/test_program/src/examples"):
         text = read(path)
         matches = EXAMPLE.findall(text)
         assert len(matches) == len(re.findall(r'\bname: "', text)), f"an example of {path} is not read"
@@ -271,12 +272,24 @@ def false_samples(path, known):
             yield f"the sample that begins with {shown[0]}"
 
 
+def edits_not_named():
+    """The wrong bodies that docs/ARCHITECTURE.md does not name."""
+    text = read(f"{TOP}/docs/ARCHITECTURE.md")
+    for path in files_below(f"{TOP}/crates"):
+        name, end = os.path.splitext(os.path.basename(path))
+        if end == ".edit" and f"`{name}`" not in text:
+            yield os.path.relpath(path, TOP)
+
+
 def main():
     sources, known, count = Sources(), examples(), 0
     for name in scripts_not_printed(known):
         print(f"examples/script: not printed: {name}")
         count += 1
-    for path in (*pages(), f"{TOP}/crates/mailbox_main/src/help.rt"):
+    for path in edits_not_named():
+        print(f"docs/ARCHITECTURE.md: does not name {path}")
+        count += 1
+    for path in (*pages(), f"{TOP}/crates/mb_program/src/help.rt"):
         for fault in false_samples(path, known):
             print(f"{os.path.relpath(path, TOP)}: not found: {fault}")
             count += 1

@@ -1,27 +1,13 @@
-//! The program: it reads a command line, and does what it asks over standard input and output.
+//! The program: it hands the words of the command line and the standard streams to `mb_program`, and ends with its status.
 #![tactic(auto)]
 
 use std::io;
 use std::process::ExitCode;
 
-pub mod command;
-pub mod examples;
-pub mod fault;
-mod help;
-pub mod options;
-pub mod outcome;
-pub mod program;
-pub mod ratify;
-pub mod reading;
-pub mod run;
-pub mod script;
-pub mod source;
-#[cfg(test)]
-mod tests;
-pub mod trace_text;
+pub use mb_program::{command_of, fault_text, ratify_text, run_threads, source_of, status_of};
 
+use mb_program::{Ending, program, status_of_ending};
 use mb_script::Counting;
-use outcome::{Ending, status_of_ending};
 
 fn main(rt: HostRuntime) -> ExitCode {
     let mut reader = Counting::new(rt.reader());

@@ -85,12 +85,13 @@ fn is_read_back<R: Threads + Sync + Abort>(
     ensures consumer { IsConsumerOf mailbox.now consumer.new }
 {
     let (producer, put) = put_elsewhere(rt, mailbox, producer, x);
-    assert_eq!(rt; put, Put::Linked);
     let mut words = Zeros::default();
-    let poll = consumer.poll(mailbox, 0, 100, &mut words);
-    assert_eq!(rt; poll, Poll::Took(x));
-    let poll = consumer.poll(mailbox, 0, 100, &mut words);
-    assert_eq!(rt; poll, Poll::Nothing);
+    let first = consumer.poll(mailbox, 0, 100, &mut words);
+    let second = consumer.poll(mailbox, 0, 100, &mut words);
+    assert_eq!(rt;
+        (put, first, second),
+        (Put::Linked, Poll::Took(x), Poll::Nothing)
+    );
     producer
 }
 
@@ -275,8 +276,7 @@ fn is_whole(rt: &impl Abort, report: &Report<Global>) {
         are_all(rt, lane.put.as_slice(), *first);
     }
     for diary in &report.diaries {
-        assert_eq!(rt; diary.notes.len(), ITEMS as usize);
-        assert!(rt; !diary.begun);
+        assert_eq!(rt; (diary.notes.len(), diary.begun), (ITEMS as usize, false));
     }
 }
 

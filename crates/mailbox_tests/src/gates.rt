@@ -84,7 +84,8 @@ fn all_workers_come_to_the_gate_at_one_time(rt: HostRuntime) -> Result<(), Fail>
     come_and_put(&rt, 1)?;
     come_and_put(&rt, 2)?;
     come_and_put(&rt, 4)?;
-    come_and_put(&rt, 16)
+    come_and_put(&rt, 16)?;
+    come_and_put(&rt, 64)
 }
 
 /// A gate that lets each call in, and looks whether a worker's calls come as 1, 2 and so on, each told before the next.
@@ -126,10 +127,11 @@ impl Gate for Record {
 
 /// Nothing was out of turn, where two producers put two items and three.
 fn alternates(rt: &impl Abort, gate: &Record) {
-    assert_eq!(rt; gate.flaws.load(Ordering::SeqCst), 0);
+    let flaws = gate.flaws.load(Ordering::SeqCst);
     // One call for each item.
-    assert_eq!(rt; gate.times[0].load(Ordering::SeqCst), 4);
-    assert_eq!(rt; gate.times[1].load(Ordering::SeqCst), 6);
+    let first = gate.times[0].load(Ordering::SeqCst);
+    let second = gate.times[1].load(Ordering::SeqCst);
+    assert_eq!(rt; (flaws, first, second), (0, 4, 6));
     // At least one for each item and each end, and each was told.
     for consumer in 2..4 {
         let times = gate.times[consumer].load(Ordering::SeqCst);

@@ -45,10 +45,8 @@ fn comes_to(
     trial: &mut Trial<Global>,
     answers: (Option<Put>, Option<Finish>, Option<Poll>),
 ) {
-    let (put, finish, poll) = put_finish_and_poll(trial, &mut Zeros::default());
-    assert_eq!(rt; put, answers.0);
-    assert_eq!(rt; finish, answers.1);
-    assert_eq!(rt; poll, answers.2);
+    let told = put_finish_and_poll(trial, &mut Zeros::default());
+    assert_eq!(rt; told, answers);
 }
 
 #[test]
@@ -98,11 +96,15 @@ fn all_numbers_are_given(rt: HostRuntime) -> Result<(), Fail> {
 fn a_poll_of_no_lane_or_no_budget_draws_nothing(rt: HostRuntime) -> Result<(), Fail> {
     let mut trial = all_given(rt.alloc(), 1, 1, 1)?;
     let mut words = Zeros::default();
-    assert_eq!(rt; trial.poll(0, 1, 100, &mut words), Some(Poll::NoLane));
-    assert_eq!(rt; trial.poll(0, 1, 0, &mut words), Some(Poll::NoLane));
-    assert_eq!(rt; trial.poll(0, u64::MAX, 1, &mut words), Some(Poll::NoLane));
-    assert_eq!(rt; trial.poll(0, 0, 0, &mut words), Some(Poll::Spent));
-    assert_eq!(rt; words.given, 0);
+    for (lane, budget, want) in [
+        (1, 100, Poll::NoLane),
+        (1, 0, Poll::NoLane),
+        (u64::MAX, 1, Poll::NoLane),
+        (0, 0, Poll::Spent),
+    ] {
+        let told = trial.poll(0, lane, budget, &mut words);
+        assert_eq!(rt; (told, words.given), (Some(want), 0));
+    }
     ends(
         rt.alloc(),
         trial,
@@ -113,14 +115,14 @@ fn a_poll_of_no_lane_or_no_budget_draws_nothing(rt: HostRuntime) -> Result<(), F
 
 /// Consumer 0 begins a claim on the only item, and consumer 1 loses it to consumer 0.
 fn begin_and_lose(rt: &impl Abort, trial: &mut Trial<Global>) {
-    assert_eq!(rt; trial.put(0, 5), Some(Put::Linked));
-    assert_eq!(rt;
+    let told = (
+        trial.put(0, 5),
         trial.poll(0, 0, 8, &mut Zeros::default()),
-        Some(Poll::Spent)
+        trial.poll(1, 0, 100, &mut Zeros::default()),
     );
     assert_eq!(rt;
-        trial.poll(1, 0, 100, &mut Zeros::default()),
-        Some(Poll::Lost(0))
+        told,
+        (Some(Put::Linked), Some(Poll::Spent), Some(Poll::Lost(0)),)
     );
 }
 
@@ -173,13 +175,25 @@ fn nobody_is_given(rt: HostRuntime) -> Result<(), Fail> {
 #[test]
 fn two_producers_want_the_only_cell(rt: HostRuntime) -> Result<(), Fail> {
     let mut trial = all_given(rt.alloc(), 2, 1, 1)?;
-    assert_eq!(rt; trial.put(0, 5), Some(Put::Linked));
-    assert_eq!(rt; trial.put(1, 6), Some(Put::Full));
-    assert_eq!(rt; trial.put(1, 7), Some(Put::Full));
-    assert_eq!(rt; trial.finish(1), Some(Finish::Ended));
-    assert_eq!(rt; trial.put(1, 8), Some(Put::Closed));
-    assert_eq!(rt; trial.finish(1), Some(Finish::Closed));
-    assert_eq!(rt; trial.put(0, 9), Some(Put::Full));
+    let first = (trial.put(0, 5), trial.put(1, 6), trial.put(1, 7));
+    let second = (
+        trial.finish(1),
+        trial.put(1, 8),
+        trial.finish(1),
+        trial.put(0, 9),
+    );
+    assert_eq!(rt;
+        (first, second),
+        (
+            (Some(Put::Linked), Some(Put::Full), Some(Put::Full)),
+            (
+                Some(Finish::Ended),
+                Some(Put::Closed),
+                Some(Finish::Closed),
+                Some(Put::Full),
+            ),
+        )
+    );
     ends(
         rt.alloc(),
         trial,
@@ -191,13 +205,13 @@ fn two_producers_want_the_only_cell(rt: HostRuntime) -> Result<(), Fail> {
 /// A producer puts an item, ends its lane and is taken in, and only then a consumer is given, who reads both.
 fn is_read_later(rt: &impl Abort, trial: &mut Trial<Global>, alloc: Global) -> Result<(), Fail> {
     trial.producer(alloc)?;
-    assert_eq!(rt; trial.put(0, 7), Some(Put::Linked));
-    assert_eq!(rt; trial.finish(0), Some(Finish::Ended));
-    assert!(rt; trial.take_producer(0));
+    let told = (trial.put(0, 7), trial.finish(0), trial.take_producer(0));
+    assert_eq!(rt; told, (Some(Put::Linked), Some(Finish::Ended), true));
     trial.consumer(alloc)?;
     let mut words = Zeros::default();
-    assert_eq!(rt; trial.poll(0, 0, 100, &mut words), Some(Poll::Took(7)));
-    assert_eq!(rt; trial.poll(0, 0, 100, &mut words), Some(Poll::Ended));
+    let first = trial.poll(0, 0, 100, &mut words);
+    let second = trial.poll(0, 0, 100, &mut words);
+    assert_eq!(rt; (first, second), (Some(Poll::Took(7)), Some(Poll::Ended)));
     Ok(())
 }
 

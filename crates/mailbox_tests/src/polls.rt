@@ -31,12 +31,12 @@ fn are_spent<A: Allocator + Clone + Drop>(
 fn is_cut_short<R: Abort + AllocGlobal>(rt: &R, budget: u64, spent: u64) -> Result<(), Fail> {
     let mut trial = all_given(rt.alloc(), 1, 1, 1)?;
     let mut words = Zeros::default();
-    assert_eq!(rt; trial.put(0, 7), Some(Put::Linked));
+    let put = trial.put(0, 7);
     are_spent(rt, &mut trial, &mut words, budget, spent);
-    let answer = trial.poll(0, 0, budget, &mut words);
-    assert_eq!(rt; answer, Some(Poll::Took(7)), "with budget {budget}");
+    let poll = trial.poll(0, 0, budget, &mut words);
     // The claim has five accesses.
-    assert_eq!(rt; words.given, 5);
+    let want = (Some(Put::Linked), Some(Poll::Took(7)), 5);
+    assert_eq!(rt; (put, poll, words.given), want, "with budget {budget}");
     ends(
         rt.alloc(),
         trial,
@@ -63,14 +63,17 @@ fn takes_after(
     after: u64,
 ) -> Result<(), Fail> {
     both_are_given(trial, alloc)?;
-    assert_eq!(rt; trial.put(0, 7), Some(Put::Linked));
+    let put = trial.put(0, 7);
     let mut words = Zeros::default();
     are_spent(rt, trial, &mut words, 1, before);
     trial.consumer(alloc)?;
     are_spent(rt, trial, &mut words, 1, after);
-    assert_eq!(rt; trial.poll(0, 0, 1, &mut words), Some(Poll::Took(7)));
+    let poll = trial.poll(0, 0, 1, &mut words);
     // The claim has seven accesses.
-    assert_eq!(rt; words.given, 7);
+    assert_eq!(rt;
+        (put, poll, words.given),
+        (Some(Put::Linked), Some(Poll::Took(7)), 7)
+    );
     Ok(())
 }
 

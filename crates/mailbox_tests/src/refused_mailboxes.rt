@@ -184,20 +184,18 @@ fn tells_seven(report: &Report<&LocalHeap>) -> Result<(), Difference> {
 /// Consumer 0 takes the item of lane 0, which consumer 1 loses, and consumer 1 begins a claim on the item of lane 1, which
 /// has ended.
 fn take_lose_and_begin(rt: &impl Abort, trial: &mut Trial<&LocalHeap>) {
-    assert_eq!(rt; trial.put(0, 5), Some(Put::Linked));
-    assert_eq!(rt; trial.put(1, 6), Some(Put::Linked));
-    assert_eq!(rt; trial.finish(1), Some(Finish::Ended));
-    assert_eq!(rt;
+    let puts = (trial.put(0, 5), trial.put(1, 6), trial.finish(1));
+    let polls = (
         trial.poll(0, 0, 100, &mut Zeros::default()),
-        Some(Poll::Took(5))
-    );
-    assert_eq!(rt;
         trial.poll(1, 0, 100, &mut Zeros::default()),
-        Some(Poll::Lost(0))
+        trial.poll(1, 1, 2, &mut Zeros::default()),
     );
     assert_eq!(rt;
-        trial.poll(1, 1, 2, &mut Zeros::default()),
-        Some(Poll::Spent)
+        (puts, polls),
+        (
+            (Some(Put::Linked), Some(Put::Linked), Some(Finish::Ended)),
+            (Some(Poll::Took(5)), Some(Poll::Lost(0)), Some(Poll::Spent)),
+        )
     );
 }
 

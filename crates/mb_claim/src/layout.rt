@@ -21,7 +21,7 @@ pub const MAX_CELLS: u32 = 256;
 const MAX_OBJECTS: usize = 2 * MAX_PAIRS as usize;
 
 /// The deciding objects that each cell has: so many pairs of a conciliator and a ratifier, over a
-/// quorum table with a value for each consumer. It keeps their row and where each one's words begin, so it has some 500
+/// quorum table with a value for each consumer. It keeps their row and where each one's words begin, so it has some 1,300
 /// bytes and is not `Copy`: [`Layout::copy`] says where one more is made.
 #[derive(PartialEq, Eq, Debug, Drop)]
 pub struct Layout {

@@ -105,7 +105,7 @@ impl<A: Allocator + Clone + Drop> Mailbox<A> {
 
 /// How many of these are not there.
 fn missing<T: Drop>(given: &[Option<T>]) -> u32
-    requires { length given.now ≤ 16 }
+    requires { length given.now ≤ 64 }
     ensures { result ≡ count_missing given.now }
 {
     let mut count = 0;

@@ -1,3 +1,5 @@
 mod Disjoint
 mod Masks
 mod LeastWidth
+mod Sets
+mod SetOrder

@@ -3,6 +3,8 @@ pub mod BitsLaw
 pub mod Chosen
 pub mod Mask
 pub mod MaskLaw
+pub mod Middle
+pub mod MiddleLaw
 pub mod Quorum
 pub mod Tables
 pub mod TablesLaw

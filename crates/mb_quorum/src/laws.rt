@@ -4,13 +4,14 @@
 //! that say that a table is lawful stand beside the tables, in `specs/UnaryLaw.antt`, `BitsLaw.antt` and
 //! `TablesLaw.antt`.
 
-ghost use Rattle.std.specs.Prelude.{◌≡◌, ◌≢◌, ℕ, ◌+◌, ◌-◌, ◌*◌, ◌<◌, ◌≤◌, ◌↔◌, bit_and};
+ghost use Rattle.std.specs.Prelude.{◌≡◌, ◌≢◌, ℕ, ◌+◌, ◌-◌, ◌*◌, ◌/◌, ◌^◌, ◌<◌, ◌≤◌, ◌↔◌, bit_and, count_ones};
 ghost use Rattle.std.specs.Int.{bit_at};
 ghost use Rattle.mb_quorum.specs.declared.table.Table.{Table};
 ghost use Rattle.mb_quorum.specs.declared.table.TableName.{TableName};
 ghost use Rattle.mb_quorum.specs.declared.values.TheConstants.{MAX_VALUES};
 ghost use Rattle.mb_quorum.specs.Vocabulary.{QuorumTable, IsQuorumTable, IsMember, table_of, chosen_table};
-ghost use Rattle.mb_quorum.specs.Vocabulary.{unary_table, bits_table, width_of, IsLeastWidth};
+ghost use Rattle.mb_quorum.specs.Vocabulary.{unary_table, bits_table, middle_table, width_of, IsLeastWidth};
+ghost use Rattle.mb_quorum.specs.Vocabulary.{choose, set_number, IsLeastBreadth};
 
 use crate::Quorums;
 
@@ -54,12 +55,28 @@ pub fn bits_quorums_follow_the_bits()
         ↔ ((i : ℕ) × (i < width_of m) × (r ≡ 2 * i + 1 - bit_at v i)) }
 {}
 
+/// The quorums of the middle table. The sets of h registers among n are numbered from 0, by rising mask, each once.
+/// The write quorum of v is set number v of the sets of half of the registers, rounded down. Its read quorum holds
+/// all others. No fewer registers have a set for each value.
+pub fn middle_quorums_are_sets_by_rising_mask()
+    ensures within { (n h v : ℕ) → set_number n h v < 2 ^ n }
+    ensures size { (n h v : ℕ) → v < choose n h → count_ones (set_number n h v) ≡ h }
+    ensures rise { (n h v w : ℕ) → v < w → w < choose n h → set_number n h v < set_number n h w }
+    ensures all { (n h x : ℕ) → x < 2 ^ n → count_ones x ≡ h
+        → (v : ℕ) × (v < choose n h) × (x ≡ set_number n h v) }
+    ensures registers { (m : ℕ) → IsLeastBreadth m (middle_table m).registers }
+    ensures write { (m v : ℕ) → v < m → (middle_table m).write v
+        ≡ set_number (middle_table m).registers ((middle_table m).registers / 2) v }
+    ensures read { (m v r : ℕ) → v < m → IsMember ((middle_table m).read v) r
+        ↔ ((r < (middle_table m).registers) × (IsMember ((middle_table m).write v) r → ⊥)) }
+{}
+
 /// The width of the bit table is the least number b with `m <= 2^b`.
 pub fn width_is_the_least()
     ensures { (m : ℕ) → IsLeastWidth m (width_of m) }
 {}
 
 /// The most values that a table can have.
-pub fn max_values_is_sixteen()
-    ensures { MAX_VALUES ≡ 16 }
+pub fn max_values_is_sixty_four()
+    ensures { MAX_VALUES ≡ 64 }
 {}

@@ -9,12 +9,14 @@
 
 mod bits;
 pub mod laws;
+mod middle;
 mod quorums;
 mod table;
 mod unary;
 mod values;
 
 pub use bits::Bits;
+pub use middle::Middle;
 pub use quorums::Quorums;
 pub use table::{Table, TableName};
 pub use unary::Unary;

@@ -2,7 +2,7 @@ ghost use Rattle.std.specs.Prelude.{◌≡◌, ◌<◌, ◌≤◌, ℕ, slice_in
 ghost use Rattle.mb_quorum.specs.declared.values.TheConstants.{MAX_VALUES};
 ghost use Rattle.mb_quorum.specs.Tables.{table_of};
 
-use crate::{BadValues, Bits, MAX_VALUES, Quorums, Unary, checked_values};
+use crate::{BadValues, Bits, MAX_VALUES, Middle, Quorums, Unary, checked_values};
 
 /// The name of a table of this crate.
 #[derive(Clone, Copy, Debug, PartialEq, Eq, Hash)]
@@ -12,11 +12,14 @@ pub enum TableName {
 
     /// [`Bits`](crate::Bits)
     Bits,
+
+    /// [`Middle`](crate::Middle)
+    Middle,
 }
 
 /// A table chosen by its name when the program runs.
 ///
-/// It keeps the quorums of each value, so that they are made once. With them it has some 270 bytes, so it is not `Copy`:
+/// It keeps the quorums of each value, so that they are made once. With them it has some 1,040 bytes, so it is not `Copy`:
 /// [`Table::copy`] says where one more is made.
 #[derive(Debug, PartialEq, Eq, Hash, Drop)]
 pub struct Table {
@@ -112,6 +115,7 @@ impl TableName {
         match self {
             TableName::Unary => Unary::of(values).registers(),
             TableName::Bits => Bits::of(values).registers(),
+            TableName::Middle => Middle::of(values).registers(),
         }
     }
 
@@ -125,6 +129,7 @@ impl TableName {
         match self {
             TableName::Unary => Unary::of(values).write_quorum(v),
             TableName::Bits => Bits::of(values).write_quorum(v),
+            TableName::Middle => Middle::of(values).write_quorum(v),
         }
     }
 
@@ -138,6 +143,7 @@ impl TableName {
         match self {
             TableName::Unary => Unary::of(values).read_quorum(v),
             TableName::Bits => Bits::of(values).read_quorum(v),
+            TableName::Middle => Middle::of(values).read_quorum(v),
         }
     }
 }

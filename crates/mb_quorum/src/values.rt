@@ -5,7 +5,7 @@ use std::error::Error;
 use std::fmt;
 
 /// The most values that a table of this crate can have. The least is 1.
-pub const MAX_VALUES: u64 = 16;
+pub const MAX_VALUES: u64 = 64;
 
 /// The number of values is not in `1..=MAX_VALUES`.
 #[derive(Clone, Copy, Debug, PartialEq, Eq, Hash)]

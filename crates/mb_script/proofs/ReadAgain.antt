@@ -6,7 +6,7 @@ use Rattle.std.specs.Fmt.{decimal}
 use Rattle.std.proofs.lemmas.Bool.{lt-ltb, le-ltb}
 use Rattle.std.proofs.lemmas.Bool.Decides.{nat_tests}
 use Rattle.mb_quorum.specs.declared.table.TableName.{TableName}
-use Rattle.mb_quorum.specs.declared.table.TableName.TheVariants.{Unary, Bits}
+use Rattle.mb_quorum.specs.declared.table.TableName.TheVariants.{Unary, Bits, Middle}
 use Rattle.mb_world.specs.declared.event.Event.{Event}
 use Rattle.mb_world.specs.declared.event.Event.TheVariants.{Offer, Push, Finish, Step}
 use Rattle.mb_world.specs.declared.setup.SetupFault.{SetupFault}
@@ -44,9 +44,9 @@ small_by most n low e = let small : n ≤ most = grind (arith, nat_tests, e) in 
 pub sizes_small : (p c m k : ℕ) → setup_refusal p c m k ≡ None
     → (p < 2 ^ 64) × (c < 2 ^ 64) × (m < 2 ^ 64) × (k < 2 ^ 64)
 sizes_small p c m k e =
-    let a = none_of (nat_lt p 1 || nat_lt 16 p) (nat_lt c 1 || nat_lt 16 c) (nat_lt 256 m) (nat_lt k 1 || nat_lt 8 k) _ _ _ _ e in (
+    let a = none_of (nat_lt p 1 || nat_lt 16 p) (nat_lt c 1 || nat_lt 64 c) (nat_lt 256 m) (nat_lt k 1 || nat_lt 8 k) _ _ _ _ e in (
       small_by 16 p (omega arith) (second (nat_lt p 1) _ a.0),
-      small_by 16 c (omega arith) (second (nat_lt c 1) _ a.1),
+      small_by 64 c (omega arith) (second (nat_lt c 1) _ a.1),
       small_by 256 m (omega arith) a.2,
       small_by 8 k (omega arith) (second (nat_lt k 1) _ a.3),
     )
@@ -55,6 +55,7 @@ sizes_small p c m k e =
 pub consumers_are : (p c m k : ℕ) (t : TableName) → consumers_of (plan_of p c m k t) ≡ c
 consumers_are p c m k Unary = refl
 consumers_are p c m k Bits = refl
+consumers_are p c m k Middle = refl
 
 -- the plan of sizes
 abbrev pub plan_for : Sizes → Plan
@@ -70,11 +71,15 @@ sizes_again p c m k Unary e =
 sizes_again p c m k Bits e =
     let s = sizes_small p c m k e in
     rw (number_again p s.0, number_again c s.1, number_again m s.2, number_again k s.3, e) refl
+sizes_again p c m k Middle e =
+    let s = sizes_small p c m k e in
+    rw (number_again p s.0, number_again c s.1, number_again m s.2, number_again k s.3, e) refl
 
 -- the name of a table is a word
 table_word : (t : TableName) → IsWord (table_name t)
 table_word Unary = search rules
 table_word Bits = search rules
+table_word Middle = search rules
 
 -- the words of a first line are words
 setup_fit : (z : Sizes) → setup_refusal z.producers z.consumers z.cells z.pairs ≡ None → AllByRecursion IsWord (setup_words z)

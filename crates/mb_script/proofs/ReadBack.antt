@@ -11,7 +11,7 @@ use Rattle.std.proofs.lemmas.Bool.Decides.{nat_tests}
 use Rattle.std.proofs.lemmas.Slice.Eq.{bytes_eq-Decides}
 use Rattle.std.proofs.lemmas.List.Splits.{join_with_byte-slice_split}
 use Rattle.mb_quorum.specs.declared.table.TableName.{TableName}
-use Rattle.mb_quorum.specs.declared.table.TableName.TheVariants.{Unary, Bits}
+use Rattle.mb_quorum.specs.declared.table.TableName.TheVariants.{Unary, Bits, Middle}
 use Rattle.mb_world.specs.declared.event.Event.{Event}
 use Rattle.mb_world.specs.declared.event.Event.TheVariants.{Offer, Push, Finish, Step}
 use Rattle.mb_world.specs.declared.setup.SetupFault.{SetupFault}
@@ -33,13 +33,19 @@ use Rattle.mb_script.proofs.ReadAgain.{consumers_are, plan_for}
 use Rattle.mb_script.proofs.Spelled.{number_takes}
 
 -- a name that was read is the name of its table
-table_takes : (word : List ℕ) (t : TableName) (u b : Bool) → bytes_eq word (codes "unary") ≡ u → bytes_eq word (codes "bits") ≡ b
-    → cond u (Some Unary) (cond b (Some Bits) None) ≡ Some t → word ≡ table_name t
-table_takes word Unary true b p q e = (bytes_eq-Decides word (codes "unary")).0 p
-table_takes word Bits true b p q e = absurd (cc)
-table_takes word Bits false true p q e = (bytes_eq-Decides word (codes "bits")).0 q
-table_takes word Unary false true p q e = absurd (cc)
-table_takes word t false false p q e = absurd (cc)
+table_takes : (word : List ℕ) (t : TableName) (u b m : Bool)
+    → bytes_eq word (codes "unary") ≡ u → bytes_eq word (codes "bits") ≡ b → bytes_eq word (codes "middle") ≡ m
+    → cond u (Some Unary) (cond b (Some Bits) (cond m (Some Middle) None)) ≡ Some t → word ≡ table_name t
+table_takes word Unary true b m p q r e = (bytes_eq-Decides word (codes "unary")).0 p
+table_takes word Bits true b m p q r e = absurd (cc)
+table_takes word Middle true b m p q r e = absurd (cc)
+table_takes word Bits false true m p q r e = (bytes_eq-Decides word (codes "bits")).0 q
+table_takes word Unary false true m p q r e = absurd (cc)
+table_takes word Middle false true m p q r e = absurd (cc)
+table_takes word Middle false false true p q r e = (bytes_eq-Decides word (codes "middle")).0 r
+table_takes word Unary false false true p q r e = absurd (cc)
+table_takes word Bits false false true p q r e = absurd (cc)
+table_takes word t false false false p q r e = absurd (cc)
 
 -- a number that was read was spelled so
 at_takes : (n : ℕ) (w : List ℕ) (x : ℕ) → number_at n w ≡ Ok x → (w ≡ decimal x) × (x < 2 ^ 64)
@@ -140,7 +146,7 @@ sizes_take (producers ∷ consumers ∷ cells ∷ pairs ∷ name ∷ []) made e 
     let k = bind_ok (number_at 1 pairs) (with_pairs p.0 c.0 m.0 t.0) made m.2 in
     let z : Sizes = record { producers = p.0; consumers = c.0; cells = m.0; pairs = k.0; table = t.0 } in
     let sized = made_takes (setup_refusal p.0 c.0 m.0 k.0) (plan_for z, k.0) made k.2 in
-    let named = table_takes name t.0 _ _ refl refl (some_from _ _ _ t.1) in
+    let named = table_takes name t.0 _ _ _ refl refl refl (some_from _ _ _ t.1) in
     let whole : codes "setup" ∷ producers ∷ consumers ∷ cells ∷ pairs ∷ name ∷ [] ≡ setup_words z =
     ap (λ (w : List ℕ). codes "setup" ∷ w ∷ consumers ∷ cells ∷ pairs ∷ name ∷ []) (at_takes 1 producers p.0 p.1).0
     ∙ ap (λ (w : List ℕ). codes "setup" ∷ decimal p.0 ∷ w ∷ cells ∷ pairs ∷ name ∷ []) (at_takes 1 consumers c.0 c.1).0

@@ -11,6 +11,7 @@ pub fn table_named(word: &str) -> Option<TableName>
     match word {
         "unary" => Some(TableName::Unary),
         "bits" => Some(TableName::Bits),
+        "middle" => Some(TableName::Middle),
         _ => None,
     }
 }

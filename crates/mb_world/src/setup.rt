@@ -26,7 +26,7 @@ pub struct Setup {
 pub enum SetupFault {
     /// The number of producers is not in `1..=MAX_PRODUCERS`.
     BadProducers,
-    /// The number of consumers is 0 or above 16.
+    /// The number of consumers is 0 or above 64.
     BadConsumers,
     /// There are more cells than `MAX_CELLS`.
     BadCells,
@@ -52,7 +52,7 @@ impl Setup {
     ghost use Rattle.mb_world.specs.Plan.{consumers_of};
     ghost use Rattle.mb_world.specs.Setups.{layout_of, pairs_in, plan_in, plan_of, setup_refusal};
 
-    /// The setup of so many producers (1 to 16), consumers (1 to 16) and cells (0 to 256), with so many pairs of deciding
+    /// The setup of so many producers (1 to 16), consumers (1 to 64) and cells (0 to 256), with so many pairs of deciding
     /// objects (1 to 8) for each cell over the quorum table of this name. Where several numbers are out of range, the first of them is told, in the order
     /// of [`SetupFault`].
     pub fn new(

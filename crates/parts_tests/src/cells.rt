@@ -72,10 +72,10 @@ fn put_and_end<A: Allocator + Drop>(
 fn calls_join_a_list(rt: HostRuntime) -> Result<(), Fail> {
     let mut pool = Pool::new(rt.alloc(), 1, 1)?;
     let (offered, stored, linked, ended) = put_and_end(&mut pool, 0, 8);
-    assert_eq!(rt; offered, Offer::Cell(0));
-    assert_eq!(rt; stored, Push::Item(0));
-    assert_eq!(rt; linked, Push::Link(0));
-    assert_eq!(rt; ended, Finish::Ended);
+    assert_eq!(rt;
+        (offered, stored, linked, ended),
+        (Offer::Cell(0), Push::Item(0), Push::Link(0), Finish::Ended,)
+    );
     Ok(())
 }
 

@@ -61,23 +61,31 @@ pub(crate) fn won_and_lost() -> [ClaimEntry; 12] {
 #[test]
 fn layouts_out_of_range(rt: HostRuntime) {
     let (consumers, pairs) = (BadLayout::BadConsumers, BadLayout::BadRounds);
-    assert_eq!(rt; Layout::new(0, 0, TableName::Bits), Err(consumers));
-    assert_eq!(rt; Layout::new(17, 1, TableName::Unary), Err(consumers));
-    assert_eq!(rt; Layout::new(1, 0, TableName::Bits), Err(pairs));
-    assert_eq!(rt; Layout::new(16, 9, TableName::Bits), Err(pairs));
+    for (c, k, name, want) in [
+        (0, 0, TableName::Bits, consumers),
+        (65, 1, TableName::Middle, consumers),
+        (65, 9, TableName::Unary, consumers),
+        (1, 0, TableName::Bits, pairs),
+        (16, 9, TableName::Bits, pairs),
+        (64, 9, TableName::Middle, pairs),
+    ] {
+        assert_eq!(rt; Layout::new(c, k, name), Err(want), "{c} {k}");
+    }
 }
 
 #[test]
 fn two_consumers_and_three_pairs(rt: HostRuntime) -> Result<(), Fail> {
     let layout = Layout::new(2, 3, TableName::Bits)?;
-    assert_eq!(rt; layout.consumers(), 2);
     // A conciliator has one word, a ratifier its proposal and two registers: four a pair, and twelve a cell.
-    assert_eq!(rt; layout.words(1), 12);
-    assert_eq!(rt; layout.words(2), 24);
-    // Behind two cells, the objects 0 to 2 with 1, 3 and 1 words, the proposal and register 0.
-    assert_eq!(rt; layout.address(2, 3, Reg::Quorum(1)), 31);
+    let words = (layout.words(1), layout.words(2));
+    // After two cells, the objects 0 to 2 with 1, 3 and 1 words, the proposal and register 0.
+    let address = layout.address(2, 3, Reg::Quorum(1));
     // Three pairs, each a conciliator of 2 + 3 accesses at most and a ratifier of 1 + 2 + 1.
-    assert_eq!(rt; layout.max_steps(), 27);
+    let most = layout.max_steps();
+    assert_eq!(rt;
+        (layout.consumers(), words, address, most),
+        (2, (12, 24), 31, 27)
+    );
     Ok(())
 }
 
@@ -90,14 +98,28 @@ fn most_accesses_of_sixteen_consumers(rt: HostRuntime) -> Result<(), Fail> {
 }
 
 #[test]
+fn most_accesses_of_sixty_four_consumers(rt: HostRuntime) -> Result<(), Fail> {
+    // Eight pairs, each a conciliator of 7 + 3 accesses at most and a ratifier of 6 + 2 + 6, 1 + 2 + 63 or 4 + 2 + 4.
+    let bits = Layout::new(64, 8, TableName::Bits)?.max_steps();
+    let unary = Layout::new(64, 8, TableName::Unary)?.max_steps();
+    let middle = Layout::new(64, 8, TableName::Middle)?.max_steps();
+    assert_eq!(rt; (bits, unary, middle), (192, 608, 160));
+    Ok(())
+}
+
+#[test]
 fn first_access_of_a_claim(rt: HostRuntime) -> Result<(), Fail> {
     let layout = Layout::new(2, 1, TableName::Bits)?;
     let mut claim = Claim::new(&layout, 1);
-    assert!(rt; !claim.begun());
-    assert_eq!(rt; claim.next(&layout).op, Op::Load(Reg::Value));
-    assert_eq!(rt; claim.after(&layout, 0, 0), Stage::Going);
-    assert!(rt; claim.begun());
-    assert_eq!(rt; claim.stage(), Stage::Going);
+    let before = (claim.begun(), claim.next(&layout).op);
+    let after = (claim.after(&layout, 0, 0), claim.begun(), claim.stage());
+    assert_eq!(rt;
+        (before, after),
+        (
+            (false, Op::Load(Reg::Value)),
+            (Stage::Going, true, Stage::Going),
+        )
+    );
     Ok(())
 }
 
@@ -142,9 +164,12 @@ fn the_first_random_word_does_not_store(rt: HostRuntime) -> Result<(), Fail> {
         stored(0, 1, Reg::Proposal, 1),
         ClaimEntry::Done { consumer: 0 },
     ];
-    assert_eq!(rt; run.entries.as_slice(), entries.as_slice());
-    assert_eq!(rt; run.stages.as_slice(), [Stage::Won].as_slice());
-    assert_eq!(rt; layout.max_steps(), 6);
+    let told = (
+        run.entries.as_slice(),
+        run.stages.as_slice(),
+        layout.max_steps(),
+    );
+    assert_eq!(rt; told, (entries.as_slice(), [Stage::Won].as_slice(), 6));
     Ok(())
 }
 

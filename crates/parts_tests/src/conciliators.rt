@@ -74,19 +74,20 @@ fn one_value(rt: HostRuntime) -> Result<(), Fail> {
 #[test]
 fn first_reason_refuses(rt: HostRuntime) {
     let a = rt.alloc();
-    assert_eq!(rt;
-        conciliate(a, 0, &[5], &[(9, 0)]).err(),
-        Some(Fault::BadValues)
-    );
-    assert_eq!(rt; conciliate(a, 17, &[], &[]).err(), Some(Fault::BadValues));
-    assert_eq!(rt;
-        conciliate(a, 2, &[0, 2], &[]).err(),
-        Some(Fault::BadInput(1))
-    );
-    assert_eq!(rt;
-        conciliate(a, 2, &[0], &[(1, 0)]).err(),
-        Some(Fault::NoSuchProcess(0))
-    );
+    for (m, inputs, turns, want) in [
+        (0, [5].as_slice(), [(9, 0)].as_slice(), Fault::BadValues),
+        (65, &[], &[], Fault::BadValues),
+        (2, &[0, 2], &[], Fault::BadInput(1)),
+        (2, &[0], &[(1, 0)], Fault::NoSuchProcess(0)),
+    ] {
+        assert_eq!(rt; conciliate(a, m, inputs, turns).err(), Some(want));
+    }
+}
+
+#[test]
+fn nobody_makes_no_turn(rt: HostRuntime) -> Result<(), Fail> {
+    shows(&rt, conciliate(rt.alloc(), 17, &[], &[]), &[], &[])?;
+    Ok(())
 }
 
 /// So many turns: more than all processes take to their outputs, so that most of them are `Done`.

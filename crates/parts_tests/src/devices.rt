@@ -62,9 +62,8 @@ fn reads_five<R: Abort + AllocGlobal>(
         Ok(bytes) => want == Ok(bytes.as_slice()),
         Err(fault) => want == Err(fault),
     };
-    assert!(rt; same, "call {bad}");
-    assert_eq!(rt; reader.failures, failures);
-    assert_eq!(rt; reader.device.calls, calls);
+    let told = (same, reader.failures, reader.device.calls);
+    assert_eq!(rt; told, (true, failures, calls), "call {bad}");
 }
 
 #[test]
@@ -89,9 +88,9 @@ fn writes_five<R: Abort + AllocGlobal>(
         calls: 0,
         bad,
     });
-    assert_eq!(rt; write_all(&mut writer, b"abcde"), want, "{bad}");
-    assert_eq!(rt; writer.device.device.as_slice(), written);
-    assert_eq!(rt; writer.failures, failures);
+    let answer = write_all(&mut writer, b"abcde");
+    let told = (answer, writer.device.device.as_slice(), writer.failures);
+    assert_eq!(rt; told, (want, written, failures), "{bad}");
 }
 
 #[test]

@@ -32,15 +32,16 @@ fn fault(alloc: Global, m: u64, inputs: &[u64], schedule: &[u64]) -> Option<Faul
 #[test]
 fn first_reason_refuses(rt: HostRuntime) {
     let a = rt.alloc();
-    assert_eq!(rt; fault(a, 0, &[], &[]), Some(Fault::BadValues));
-    assert_eq!(rt; fault(a, 17, &[17], &[9]), Some(Fault::BadValues));
-    assert_eq!(rt; fault(a, 2, &[2], &[5]), Some(Fault::BadInput(0)));
-    assert_eq!(rt; fault(a, 2, &[0], &[0, 1]), Some(Fault::NoSuchProcess(1)));
-    assert_eq!(rt; fault(a, 2, &[0, 3, 2], &[5]), Some(Fault::BadInput(1)));
-    assert_eq!(rt;
-        fault(a, 2, &[0], &[0, 2, 1]),
-        Some(Fault::NoSuchProcess(1))
-    );
+    for (m, inputs, turns, want) in [
+        (0, [].as_slice(), [].as_slice(), Fault::BadValues),
+        (65, &[65], &[9], Fault::BadValues),
+        (2, &[2], &[5], Fault::BadInput(0)),
+        (2, &[0], &[0, 1], Fault::NoSuchProcess(1)),
+        (2, &[0, 3, 2], &[5], Fault::BadInput(1)),
+        (2, &[0], &[0, 2, 1], Fault::NoSuchProcess(1)),
+    ] {
+        assert_eq!(rt; fault(a, m, inputs, turns), Some(want));
+    }
 }
 
 /// So many turns: more than all processes take to their outputs, so that most of them are `Done`.

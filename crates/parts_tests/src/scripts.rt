@@ -28,11 +28,10 @@ fn events(alloc: Global, text: &str) -> Result<usize, Fault> {
 fn a_script_is_read(rt: HostRuntime) -> Result<(), Fail> {
     let text = "setup 2 3 4 5 unary\noffer 1 18446744073709551615\npush 1\nfinish 0\nstep 2 1 7";
     let script = script(rt.alloc(), text)?;
-    assert_eq!(rt; script.setup.producers(), 2);
-    assert_eq!(rt; script.setup.consumers(), 3);
-    assert_eq!(rt; script.setup.cells(), 4);
+    let setup = &script.setup;
+    let sizes = (setup.producers(), setup.consumers(), setup.cells());
     // Three consumers: a conciliator has at most 6 accesses, a ratifier 1 + 2 + 2.
-    assert_eq!(rt; script.setup.layout().max_steps(), 55);
+    assert_eq!(rt; (sizes, setup.layout().max_steps()), ((2, 3, 4), 55));
     let events = [
         Event::Offer {
             lane: 1,
@@ -57,6 +56,8 @@ fn the_last_line_needs_no_end(rt: HostRuntime) {
         ("setup 1 1 0 1 bits\n", 0),
         ("setup 1 1 0 1 bits\npush 0", 1),
         ("setup 1 16 256 8 unary\nstep 15 0 0\n", 1),
+        ("setup 1 1 1 1 middle\n", 0),
+        ("setup 1 64 1 1 middle\nstep 63 0 0\n", 1),
     ] {
         assert_eq!(rt; events(rt.alloc(), text), Ok(want), "{text}");
     }
@@ -74,8 +75,9 @@ fn the_first_fault_decides(rt: HostRuntime) {
         ("setup 1 1 1 1 bits \n", Fault::BadLine(1)),
         ("setup 1 1 1 1 bits bits\n", Fault::BadLine(1)),
         ("setup 1 1 1 1 bits\r\n", Fault::BadLine(1)),
-        ("setup 1 1 1 1 middle\n", Fault::BadLine(1)),
-        ("setup x 1 1 1 middle\n", Fault::BadLine(1)),
+        ("setup 1 1 1 1 middles\n", Fault::BadLine(1)),
+        ("setup x 1 1 1 edge\n", Fault::BadLine(1)),
+        ("setup x 1 1 1 middle\n", Fault::BadNumber(1)),
         ("setup 0 17 300 x bits\n", Fault::BadNumber(1)),
         ("setup 1 1 01 1 bits\n", Fault::BadNumber(1)),
         (
@@ -83,8 +85,12 @@ fn the_first_fault_decides(rt: HostRuntime) {
             Fault::BadSetup(1, SetupFault::BadProducers),
         ),
         (
-            "setup 1 17 300 0 bits\n",
+            "setup 1 65 300 0 bits\n",
             Fault::BadSetup(1, SetupFault::BadConsumers),
+        ),
+        (
+            "setup 1 17 300 0 bits\n",
+            Fault::BadSetup(1, SetupFault::BadCells),
         ),
         (
             "setup 1 1 257 0 bits\n",
@@ -162,12 +168,18 @@ fn with_pushes(alloc: Global, start: &str, end: &str) -> Result<String, Fail> {
 
 #[test]
 fn events_have_a_limit(rt: HostRuntime) -> Result<(), Fail> {
-    let text = with_pushes(rt.alloc(), "setup 1 1 1 1 bits\n", "")?;
-    assert_eq!(rt; events(rt.alloc(), &text), Ok(20_000));
-    let text = with_pushes(rt.alloc(), "setup 1 1 1 1 bits\n", "x\n")?;
-    assert_eq!(rt; events(rt.alloc(), &text), Err(Fault::TooManyEvents));
-    let text = with_pushes(rt.alloc(), "setup 1 1 1 1 bits\npush 0\npush\n", "")?;
-    assert_eq!(rt; events(rt.alloc(), &text), Err(Fault::BadLine(3)));
+    for (first, last, want) in [
+        ("setup 1 1 1 1 bits\n", "", Ok(20_000)),
+        ("setup 1 1 1 1 bits\n", "x\n", Err(Fault::TooManyEvents)),
+        (
+            "setup 1 1 1 1 bits\npush 0\npush\n",
+            "",
+            Err(Fault::BadLine(3)),
+        ),
+    ] {
+        let text = with_pushes(rt.alloc(), first, last)?;
+        assert_eq!(rt; events(rt.alloc(), &text), want);
+    }
     Ok(())
 }
 
@@ -253,9 +265,12 @@ fn words_are_cut_off(rt: HostRuntime) {
             false,
         ),
     ] {
-        assert!(rt; has_words(line, want), "{line}");
-        assert_eq!(rt; has_empty_word(line), empty, "{line}");
-        assert!(rt; has_few_words(line, want, empty), "{line}");
+        let told = (
+            has_words(line, want),
+            has_empty_word(line),
+            has_few_words(line, want, empty),
+        );
+        assert_eq!(rt; told, (true, empty, true), "{line}");
     }
     assert!(rt; Words::of_line("1 2 3 4 5 6 7 8 9").is_none());
 }
@@ -302,7 +317,12 @@ fn lists_of_numbers_are_read(rt: HostRuntime) -> Result<(), Fail> {
 
 #[test]
 fn tables_have_names(rt: HostRuntime) {
-    assert!(rt; table_named("unary") == Some(TableName::Unary));
-    assert!(rt; table_named("bits") == Some(TableName::Bits));
-    assert!(rt; table_named("middle").is_none());
+    for (word, want) in [
+        ("unary", Some(TableName::Unary)),
+        ("bits", Some(TableName::Bits)),
+        ("middle", Some(TableName::Middle)),
+        ("middles", None),
+    ] {
+        assert_eq!(rt; table_named(word), want, "{word}");
+    }
 }

@@ -24,12 +24,25 @@ fn link_one_item<A: Allocator + Drop>(
     ensures lane { lane.new.table ≡ table.now }
     ensures reader { reader.new.table ≡ table.now }
 {
-    assert_eq!(rt; lane.lane(), 0);
-    assert_eq!(rt; table.look(reader, Cursor::head(0)), Look::Nothing);
-    assert_eq!(rt; table.offer(lane, 8), Offer::Cell(0));
-    assert_eq!(rt; table.push(lane), Push::Item(0));
-    assert_eq!(rt; table.look(reader, Cursor::head(0)), Look::Nothing);
-    assert_eq!(rt; table.push(lane), Push::Link(0));
+    let told = (
+        lane.lane(),
+        table.look(reader, Cursor::head(0)),
+        table.offer(lane, 8),
+        table.push(lane),
+        table.look(reader, Cursor::head(0)),
+        table.push(lane),
+    );
+    assert_eq!(rt;
+        told,
+        (
+            0,
+            Look::Nothing,
+            Offer::Cell(0),
+            Push::Item(0),
+            Look::Nothing,
+            Push::Link(0),
+        )
+    );
 }
 
 /// That item, from the first look to the end mark.
@@ -47,10 +60,13 @@ fn put_one_item<A: Allocator + Drop>(
     let Look::Cell(k) = table.look(reader, Cursor::head(0)) else {
         return Err(Fail::new("no cell"));
     };
-    assert_eq!(rt; k, 0);
-    assert_eq!(rt; table.item(reader, k), 8);
-    assert_eq!(rt; table.finish(lane), Finish::Ended);
-    assert_eq!(rt; table.look(reader, Cursor::past(k)), Look::Ended);
+    let told = (
+        k,
+        table.item(reader, k),
+        table.finish(lane),
+        table.look(reader, Cursor::past(k)),
+    );
+    assert_eq!(rt; told, (0, 8, Finish::Ended, Look::Ended));
     Ok(())
 }
 
@@ -103,9 +119,11 @@ fn put<A: Allocator + Drop>(
     requires { lane.old.table ≡ table.now }
     ensures { lane.new.table ≡ table.now }
 {
-    assert_eq!(rt; table.offer(lane, x), Offer::Cell(cell));
-    assert_eq!(rt; table.push(lane), Push::Item(cell));
-    assert_eq!(rt; table.push(lane), Push::Link(cell));
+    let told = (table.offer(lane, x), table.push(lane), table.push(lane));
+    assert_eq!(rt;
+        told,
+        (Offer::Cell(cell), Push::Item(cell), Push::Link(cell))
+    );
     Ok(())
 }
 
@@ -124,12 +142,15 @@ fn read_two<A: Allocator + Drop>(
     let Look::Cell(first) = table.look(reader, Cursor::head(lane)) else {
         return Err(Fail::new("no first cell"));
     };
-    assert_eq!(rt; table.item(reader, first), items.0);
     let Look::Cell(second) = table.look(reader, Cursor::past(first)) else {
         return Err(Fail::new("no second cell"));
     };
-    assert_eq!(rt; table.item(reader, second), items.1);
-    assert_eq!(rt; table.look(reader, Cursor::past(second)), Look::Nothing);
+    let told = (
+        table.item(reader, first),
+        table.item(reader, second),
+        table.look(reader, Cursor::past(second)),
+    );
+    assert_eq!(rt; told, (items.0, items.1, Look::Nothing));
     Ok(())
 }
 

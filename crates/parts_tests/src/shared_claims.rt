@@ -168,10 +168,9 @@ fn win_and_lose<A: Allocator + Drop>(
 {
     let mut first = Claim::new(table.layout(), a.consumer());
     let mut second = Claim::new(table.layout(), b.consumer());
-    assert_eq!(rt; step_on(table, a, &mut first, 0, 7), 7);
-    assert_eq!(rt; first.stage(), Stage::Won);
-    assert_eq!(rt; step_on(table, b, &mut second, 0, 4), 4);
-    assert_eq!(rt; second.stage(), Stage::Lost(0));
+    let wins = (step_on(table, a, &mut first, 0, 7), first.stage());
+    let loses = (step_on(table, b, &mut second, 0, 4), second.stage());
+    assert_eq!(rt; (wins, loses), ((7, Stage::Won), (4, Stage::Lost(0))));
 }
 
 /// Whether the allocator serves a table of one cell for two consumers. Then both numbers are given, the first consumer wins
@@ -183,9 +182,12 @@ fn one_wins<A: Allocator + Clone + Drop>(rt: &impl Abort, alloc: A) -> Result<bo
     };
     let mut a = table.enroll(&mut hub)?;
     let mut b = table.enroll(&mut hub)?;
-    assert!(rt; matches!(table.enroll(&mut hub), Err(AllGiven)));
-    assert_eq!(rt; (a.consumer(), b.consumer()), (0, 1));
-    assert_eq!(rt; (hub.given(), hub.out()), (2, 2));
+    let is_refused = matches!(table.enroll(&mut hub), Err(AllGiven));
+    let numbers = (a.consumer(), b.consumer());
+    assert_eq!(rt;
+        (is_refused, numbers, (hub.given(), hub.out())),
+        (true, (0, 1), (2, 2))
+    );
     win_and_lose(rt, &table, &mut a, &mut b);
     table.take_in(&mut hub, b);
     table.take_in(&mut hub, a);

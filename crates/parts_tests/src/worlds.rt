@@ -14,26 +14,29 @@ pub(crate) fn one_pair(rt: &HostRuntime, p: u64, c: u64, m: u64) -> Result<World
 
 #[test]
 fn the_first_number_out_of_range_refuses(rt: HostRuntime) {
-    let bits = TableName::Bits;
-    assert_eq!(rt;
-        Setup::new(0, 0, 300, 0, bits),
-        Err(SetupFault::BadProducers)
-    );
-    assert_eq!(rt;
-        Setup::new(1, 17, 300, 0, bits),
-        Err(SetupFault::BadConsumers)
-    );
-    assert_eq!(rt; Setup::new(1, 1, 257, 0, bits), Err(SetupFault::BadCells));
-    assert_eq!(rt; Setup::new(1, 1, 256, 9, bits), Err(SetupFault::BadRounds));
+    let (bits, middle) = (TableName::Bits, TableName::Middle);
+    for (p, c, m, k, name, want) in [
+        (0, 0, 300, 0, bits, SetupFault::BadProducers),
+        (1, 65, 300, 0, bits, SetupFault::BadConsumers),
+        (1, 65, 0, 1, middle, SetupFault::BadConsumers),
+        (1, 17, 300, 0, bits, SetupFault::BadCells),
+        (1, 1, 257, 0, bits, SetupFault::BadCells),
+        (1, 1, 256, 9, bits, SetupFault::BadRounds),
+    ] {
+        assert_eq!(rt; Setup::new(p, c, m, k, name), Err(want), "{p} {c} {m} {k}");
+    }
 }
 
 #[test]
 fn a_setup_tells_its_numbers(rt: HostRuntime) -> Result<(), Fail> {
     let setup = Setup::new(16, 3, 256, 8, TableName::Bits)?;
-    assert_eq!(rt; setup.producers(), 16);
-    assert_eq!(rt; setup.consumers(), 3);
-    assert_eq!(rt; setup.cells(), 256);
-    assert_eq!(rt; setup.layout().consumers(), 3);
+    let told = (
+        setup.producers(),
+        setup.consumers(),
+        setup.cells(),
+        setup.layout().consumers(),
+    );
+    assert_eq!(rt; told, (16, 3, 256, 3));
     Ok(())
 }
 

@@ -82,7 +82,7 @@ impl<A: Allocator + Clone + Drop> Hub<A> {
     /// The report of what was taken in, for so many lanes and consumers.
     pub(super) fn report(&self, alloc: A, lanes: u32, consumers: u32) -> Result<Report<A>, NoMemory>
         requires lanes { lanes ≤ 16 }
-        requires consumers { consumers ≤ 16 }
+        requires consumers { consumers ≤ 64 }
         ensures { IfOk result (λ r. IsReportIn lanes consumers self.now r) }
     {
         Ok(Report {
@@ -110,7 +110,7 @@ impl<A: Allocator + Clone + Drop> Hub<A> {
     /// The diaries of all consumers on all lanes.
     fn diaries(&self, alloc: A, lanes: u32, consumers: u32) -> Result<Vec<Diary<A>, A>, NoMemory>
         requires lanes { lanes ≤ 16 }
-        requires consumers { consumers ≤ 16 }
+        requires consumers { consumers ≤ 64 }
         ensures { IfOk result (λ ds. AreDiariesIn lanes self.now (consumers * lanes) ds.items) }
     {
         let mut diaries = Vec::with_capacity(alloc.clone()?, consumers as usize * lanes as usize)?;

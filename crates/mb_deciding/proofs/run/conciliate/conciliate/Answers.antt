@@ -36,7 +36,7 @@ pub invariant_of-machine : goal.invariant_of-machine
 invariant_of-machine g c =
     let m = c.args.m in
     let range = c.in_ok-values.ensures.range.0 refl in
-    let small : width_of m ≤ 4 = (width_is_least m).least 4 (omega (arith, range.1)) in
+    let small : width_of m ≤ 6 = (width_is_least m).least 6 (omega (arith, range.1)) in
     omega (arith, c.spread.ensures.exact)
 
 pub returns-clause-trace : goal.returns-clause-trace

@@ -8,7 +8,7 @@ use Rattle.mb_mailbox.proofs.mailbox.Mailbox.gather.Goals as goal
 
 pub report-requires-clause-consumers : goal.report-requires-clause-consumers
 report-requires-clause-consumers g c =
-    let few : consumer_count c.self.inside.claims.layout ≤ 16 = (c.layouts_are_sound.ensures.consumers c.self.inside.claims.layout).1 in
+    let few : consumer_count c.self.inside.claims.layout ≤ 64 = (c.layouts_are_sound.ensures.consumers c.self.inside.claims.layout).1 in
     let is = c.consumers-competitors.ensures ∙ ap consumer_count c.layout.ensures in
     omega arith
 

@@ -1,0 +1,46 @@
+"""What the output of a check says of one mutant or control. docs/CI.md has the rules."""
+import re
+
+# What the prover says if a proof file names what the edit took away: this tells nothing of the contract.
+NAMES = re.compile(r"has no field|is not in scope|has no `|was not admitted|which was rejected, was not checked")
+# What it says if it cannot read a text at all.
+UNREAD = re.compile(r"is not in scope|has no field|is no name|operand is missing|expected the end|cannot continue")
+
+
+def errors_in(place, said):
+    """The prover's errors in the files whose names begin so, each with the lines that go on with it."""
+    return re.findall(rf"^(?:\./)?({re.escape(place)}\S*?:\d+:\d+: error.*(?:\n  .*)*)", said, re.M)
+
+
+def unread_lines(said, edit):
+    """The errors that say that a text of src/ or specs/ cannot be read, if the edit may be the cause."""
+    found = []
+    for place in {"specs/", *(path for path, _, _ in edit.changes)}:
+        for line in errors_in(place, said):
+            about, why = re.match(r"\S+ error\S* (`[^`]*`: )?(.*)", line).groups()
+            if not about or UNREAD.search(re.sub(r"`[^`]*`", "", why)):
+                found.append(line)
+    return found
+
+
+def judged(edit, said):
+    """Whether the check's output has the function come out as the edit says, and the prover's line that says so."""
+    unread = unread_lines(said, edit)
+    if unread:
+        return False, f"the edited text cannot be read: {unread[0]}"
+    line = re.search(rf"^fn {re.escape(edit.function)}: (.*)$", said, re.M)
+    if not line:
+        return False, f"the check says nothing of {edit.function}: {said.strip()}"
+    verdict = line[1]
+    if edit.is_control:
+        return verdict == "proved", line[0]
+    own = "proofs/" + "/".join(edit.function.split("::")[1:]) + "/"
+    errors = errors_in(own, said)
+    told = [it for it in errors if not NAMES.search(it)]
+    if errors and not told:
+        return False, f"only a proof file names what the edit took away: {errors[0]}"
+    if verdict.startswith("no proof: ") and "`search` did not prove" in verdict:
+        return True, line[0]
+    if told and re.match(r"not proved(;|$)", verdict):
+        return True, told[0]
+    return False, line[0]

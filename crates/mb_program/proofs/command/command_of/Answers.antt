@@ -1,0 +1,56 @@
+use Rattle.std.proofs.Common.{map, subst, sym, ap, ap₂, ◌∙◌}
+use Rattle.clap.specs.Words.{fault_of, is_simple_and_free, takes}
+use Rattle.mb_program.proofs.Commands.{alone_taken, alone_named, error_kept, found_in, kind_kept, named_in, not_some, program_is_simple, refused_by, told_in, unnamed}
+use Rattle.mb_program.specs.CommandLine.{IsRefusalOf}
+use Rattle.mb_program.specs.RunOptions.{HasOptions}
+use Rattle.mb_program.proofs.command.command_of.Goals as goal
+
+pub returns-in_err-matches-clause-alone : goal.returns-in_err-matches-clause-alone
+returns-in_err-matches-clause-alone g c =
+    λ name choice alone.
+    let taken = ap₂ takes c.in_ok-command.ensures alone ∙ alone_taken name choice in
+    kind_kept _ _ c.from_residual-in_err-matches.ensures.1 (c.in_err-matches.ensures.passes taken)
+
+pub returns-in_err-matches-clause-refused : goal.returns-in_err-matches-clause-refused
+returns-in_err-matches-clause-refused g c =
+    λ choice taken named.
+    let same = ap (λ app. takes app (map g.S.AsStr.text c.args.words.now)) c.in_ok-command.ensures in
+    kind_kept _ _ c.from_residual-in_err-matches.ensures.1 (c.in_err-matches.ensures.passes (same ∙ taken))
+
+pub returns-in_default-clause-alone : goal.returns-in_default-clause-alone
+returns-in_default-clause-alone g c =
+    λ name choice alone.
+    let named = alone_named _ _ c.in_ok-matches.matches name choice c.in_ok-command.ensures alone c.in_ok-matches.ensures.ok.2 in
+    absurd (not_some _ c.in_default.is (c.choice_of.ensures.each choice named))
+
+pub returns-in_default-clause-refused : goal.returns-in_default-clause-refused
+returns-in_default-clause-refused g c =
+    λ choice taken named.
+    let found = named_in _ _ c.in_ok-matches.matches choice c.in_ok-command.ensures c.in_ok-matches.ensures.ok.2 named in
+    absurd (not_some _ c.in_default.is (c.choice_of.ensures.each choice found))
+
+pub returns-clause-choice : goal.returns-clause-choice
+returns-clause-choice g c =
+    told_in _ _ c.in_ok-matches.matches c.in-Some.choice c.in_ok-command.ensures c.in_ok-matches.ensures.ok.2 c.in-Some.ensures.named
+
+pub returns-clause-taken : goal.returns-clause-taken
+returns-clause-taken g c =
+    let same = ap (λ app. fault_of app (map g.S.AsStr.text c.args.words.now)) c.in_ok-command.ensures in
+    sym same ∙ c.in_ok-matches.ensures.kinds (ap is_simple_and_free c.in_ok-command.ensures ∙ program_is_simple)
+
+pub returns-clause-options : goal.returns-clause-options
+returns-clause-options g c =
+    let found = found_in _ _ c.in_ok-matches.matches c.in_ok-command.ensures c.in_ok-matches.ensures.ok.2 in
+    subst (λ at. HasOptions at c.in-Some.choice) found c.in-Some.ensures.options
+
+pub returns-in_err-matches-clause-kinds : goal.returns-in_err-matches-clause-kinds
+returns-in_err-matches-clause-kinds g c =
+    let words = map g.S.AsStr.text c.args.words.now in
+    error_kept (λ kind. IsRefusalOf words kind) _ c.in_err-matches.field-0.0 c.from_residual-in_err-matches.ensures.1
+    (refused_by words _ c.in_err-matches.field-0.0 c.in_ok-command.ensures
+    (c.in_err-matches.ensures.kinds (ap is_simple_and_free c.in_ok-command.ensures ∙ program_is_simple)))
+
+pub returns-in_default-clause-kinds : goal.returns-in_default-clause-kinds
+returns-in_default-clause-kinds g c =
+    unnamed _ _ c.in_ok-matches.matches _ c.choice_of.result c.in_ok-command.ensures c.in_ok-matches.ensures.ok.2 c.in_default.is
+    c.choice_of.ensures.each c.in_ok-error.ensures.kind

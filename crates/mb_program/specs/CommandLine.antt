@@ -1,0 +1,60 @@
+-- The command line, in clap's words.
+use Rattle.std.specs.Prelude.{◌≡◌, ◌≢◌, ◌⊎◌, ℕ, ◌-◌, ◌^◌, List, [], ◌∷◌, codes, true, Option, Some, option_map}
+use Rattle.clap.specs.Words.{App, IsAmong, Rule, Text, fault_of, new_app, new_rule, subcommand_of, with_rule, with_subcommand}
+use Rattle.clap.specs.declared.error.ErrorKind.{ErrorKind}
+use Rattle.clap.specs.declared.error.ErrorKind.TheVariants.{InvalidSubcommand, OutOfMemory}
+use Rattle.clap.specs.Simple.{on_top}
+use Rattle.clap.specs.declared.builder.action.ArgAction.TheVariants.{Set}
+use Rattle.clap.specs.declared.builder.value_parser.ValueParser.TheVariants.{Unsigned}
+use Rattle.mb_program.specs.declared.command.Choice.{Choice}
+use Rattle.mb_program.specs.declared.command.Choice.TheVariants.{Ratify, Replay, Run}
+use Rattle.mb_program.specs.declared.options.TheConstants.{MAX_BUDGET}
+
+-- an option that takes a number from `low` to `high`
+abbrev pub number_rule : Text → Text → ℕ → ℕ → Rule
+number_rule name default low high = record (new_rule name) {
+  long = Some name;
+  action = Some Set;
+  value_names = 1;
+  defaults = default ∷ [];
+  parser = Some (Unsigned low high);
+}
+
+-- an option that takes any number below 2^64
+abbrev pub any_number : Text → Text → Rule
+any_number name default = number_rule name default 0 (2 ^ 64 - 1)
+
+-- the command `run`: it takes six options
+abbrev pub run_app : App
+run_app =
+    with_rule (with_rule (with_rule (with_rule (with_rule (with_rule (new_app (codes "run"))
+    (any_number (codes "producers") (codes "2"))) (any_number (codes "consumers") (codes "2")))
+    (any_number (codes "items") (codes "8"))) (any_number (codes "pairs") (codes "4")))
+    (number_rule (codes "budget") (codes "64") 1 MAX_BUDGET)) (any_number (codes "seed") (codes "0"))
+
+-- the program, of which one command has to be named
+abbrev pub program_alone : App
+program_alone = on_top (λ top. record top { subcommand_required = true }) (new_app (codes "mailbox"))
+
+-- its commands: `ratify` and `replay`, which take nothing more, and `run`
+abbrev pub program : App
+program =
+    with_subcommand (with_subcommand (with_subcommand program_alone (new_app (codes "ratify")).top)
+    (new_app (codes "replay")).top) run_app.top
+
+-- the name of the command that clap finds in the words, of which the first is the program's name
+abbrev pub command_in : List Text → Option Text
+command_in words = option_map (λ found. found.0) (subcommand_of program words)
+
+-- the name of a choice
+abbrev pub choice_name : Choice → Text
+choice_name Ratify = codes "ratify"
+choice_name Replay = codes "replay"
+choice_name (Run options) = codes "run"
+
+-- why clap may give no choice at these words: want of memory, one of the kinds that its rules give, or that the words name
+-- none of the commands
+abbrev pub IsRefusalOf : List Text → ErrorKind → Type 0
+IsRefusalOf words kind =
+    (kind ≡ OutOfMemory) ⊎ IsAmong kind (fault_of program words)
+    ⊎ ((kind ≡ InvalidSubcommand) × ((choice : Choice) → command_in words ≢ Some (choice_name choice)))

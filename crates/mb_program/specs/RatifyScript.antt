@@ -1,0 +1,61 @@
+-- What the bytes of a ratifier script say.
+use Rattle.std.specs.Prelude.{ℕ, List, [], ◌∷◌, length, codes, Result, Ok, Err, nat_lt, ◌==◌, if◌then◌else◌}
+use Rattle.std.specs.List.{list_all}
+use Rattle.std.specs.Char.{is_ascii}
+use Rattle.std.specs.Option.{ok_or}
+use Rattle.std.specs.Str.{bytes_eq}
+use Rattle.mb_quorum.specs.declared.table.TableName.{TableName}
+use Rattle.mb_program.specs.declared.fault.RatifyFault.{RatifyFault}
+use Rattle.mb_program.specs.declared.fault.RatifyFault.TheVariants.{TooLong, NotAscii, BadLine, BadNumber}
+use Rattle.mb_program.specs.declared.script.RatifyScript as code
+use Rattle.mb_script.specs.declared.transfer.TheConstants.{MAX_SCRIPT_LEN}
+use Rattle.mb_script.specs.Vocabulary.{◌>>=◌, table_named, lines_of, words_of, has_empty, number_of, numbers_of}
+
+-- a script without where it lies in memory
+pub record Script : Type 0 where
+  pub table : TableName
+  pub values : ℕ
+  pub inputs : List ℕ
+  pub turns : List ℕ
+
+-- a script of the code
+abbrev pub view : {A : Type 0} → code.RatifyScript A → Script
+view s = record { table = s.table; values = s.values; inputs = s.inputs.items; turns = s.turns.items }
+
+-- the words of line n, which is the first of these, and the lines after it
+unfoldable pub line_words : ℕ → List (List ℕ) → Result (List (List ℕ) × List (List ℕ)) RatifyFault
+line_words n [] = Err (BadLine n)
+line_words n (line ∷ rest) = if has_empty (words_of line) then Err (BadLine n) else Ok (words_of line, rest)
+
+-- `ratify`, a table and a number
+unfoldable pub head_of : List (List ℕ) → Result (TableName × ℕ) RatifyFault
+head_of (key ∷ name ∷ values ∷ []) =
+    if bytes_eq key (codes "ratify")
+    then ok_or (table_named name) (BadLine 1) >>= (λ t. ok_or (number_of values) (BadNumber 1) >>= (λ m. Ok (t, m)))
+    else Err (BadLine 1)
+head_of words = Err (BadLine 1)
+
+-- a key and numbers, on line n
+unfoldable pub list_of : ℕ → List ℕ → List (List ℕ) → Result (List ℕ) RatifyFault
+list_of n key [] = Err (BadLine n)
+list_of n key (word ∷ words) = if bytes_eq word key then ok_or (numbers_of words) (BadNumber n) else Err (BadLine n)
+
+-- the three lines in turn, so that the first faulty line decides
+unfoldable pub three_lines : List (List ℕ) → Result Script RatifyFault
+three_lines lines = do
+  first ← line_words 1 lines
+  head ← head_of first.0
+  second ← line_words 2 first.1
+  inputs ← list_of 2 (codes "inputs") second.0
+  third ← line_words 3 second.1
+  turns ← list_of 3 (codes "turns") third.0
+  if length third.1 == 0
+      then Ok (record { table = head.0; values = head.1; inputs = inputs; turns = turns })
+      else Err (BadLine 4)
+
+-- what the bytes say: a script, or the first fault
+unfoldable pub script_of : List ℕ → Result Script RatifyFault
+script_of bytes =
+    if nat_lt MAX_SCRIPT_LEN (length bytes) then Err TooLong
+    else if list_all is_ascii bytes then three_lines (lines_of bytes)
+    else Err NotAscii

@@ -1,0 +1,47 @@
+-- Small runs for the examples.
+use Rattle.std.specs.Prelude.{◌≡◌, ℕ, List, [], ◌∷◌, Some, true, false, codes}
+use Rattle.clap.specs.Words.{Text}
+use Rattle.mb_world.specs.Plan.{Histories}
+use Rattle.mb_world.specs.Report.{ReportView}
+use Rattle.mb_world.specs.declared.report.Note.{Note}
+use Rattle.mb_script.specs.Vocabulary.{Meter, meter}
+use Rattle.mb_program.specs.Program.{IsProgramRun}
+use Rattle.mb_program.specs.declared.options.Options.{Options}
+use Rattle.mb_program.specs.declared.outcome.Ending.{Ending}
+
+-- ---- reports
+abbrev pub nothing_done : Histories
+nothing_done = record { claims = []; pool = []; reader_of = λ c. c }
+
+-- one lane on which item 0 was put, and one consumer
+abbrev pub report_with : List Note → List ℕ → ReportView
+report_with notes left = record {
+  lanes = record { put = 0 ∷ []; ended = true; left = left } ∷ [];
+  diaries = record { consumer = 0; lane = 0; notes = notes; begun = false } ∷ [];
+}
+
+abbrev pub one_item : Options
+one_item = record { producers = 1; consumers = 1; items = 1; pairs = 1; budget = 64; seed = 0 }
+
+-- ---- runs of the program
+-- a device that is a list of bytes, and never fails
+abbrev pub plain : Meter (List ℕ)
+plain = meter (λ bytes. Some bytes) (λ _. 0)
+
+-- a run that found these bytes and left those, and wrote to two empty writers
+abbrev pub IsRunOver : List Text → List ℕ → List ℕ → List ℕ → List ℕ → Ending → Type 0
+IsRunOver words found left output errors end = IsProgramRun words plain plain plain found left [] output [] errors end
+
+abbrev pub ratify_words : List Text
+ratify_words = codes "mailbox" ∷ codes "ratify" ∷ []
+
+abbrev pub help_words : List Text
+help_words = codes "mailbox" ∷ codes "--help" ∷ []
+
+-- with a word that no command takes
+abbrev pub ratify_now : List Text
+ratify_now = codes "mailbox" ∷ codes "ratify" ∷ codes "now" ∷ []
+
+-- a script of no process
+abbrev pub nobody_script : List ℕ
+nobody_script = codes "ratify unary 2\ninputs\nturns\n"

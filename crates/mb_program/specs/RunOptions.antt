@@ -1,0 +1,51 @@
+-- The options of `run` that the words of a command line give.
+use Rattle.std.specs.Prelude.{ℕ, ◌≡◌, ◌≤◌, ◌-◌, ◌^◌, ◌||◌, nat_lt, List, codes, Option, Some, None, option_map, if◌then◌else◌}
+use Rattle.std.specs.Str.Parse.{digits_value, without_leading_plus}
+use Rattle.clap.specs.Words.{Row, Text, one_of, subcommand_of}
+use Rattle.clap.specs.ValueTests.{is_unsigned_in}
+use Rattle.mb_program.specs.declared.command.Choice.{Choice}
+use Rattle.mb_program.specs.declared.command.Choice.TheVariants.{Run}
+use Rattle.mb_program.specs.declared.options.Options.{Options}
+use Rattle.mb_program.specs.declared.options.TheConstants.{DEFAULTS, MAX_BUDGET}
+use Rattle.mb_program.specs.CommandLine.{program}
+
+-- the number from `low` to `high` that a text writes, else the default
+abbrev pub number_from : ℕ → ℕ → ℕ → Option Text → ℕ
+number_from low high default None = default
+number_from low high default (Some text) =
+    if is_unsigned_in low high text then digits_value 10 (without_leading_plus text) else default
+
+-- the number of the option of this name in what clap found
+abbrev pub number_in : Text → ℕ → List Row → ℕ
+number_in name default rows = number_from 0 (2 ^ 64 - 1) default (one_of name rows)
+
+-- the budget, which lies in its range
+abbrev pub budget_in : List Row → ℕ
+budget_in rows =
+    let budget = number_in (codes "budget") DEFAULTS.budget rows in
+    if nat_lt budget 1 || nat_lt MAX_BUDGET budget then DEFAULTS.budget else budget
+
+-- all options
+abbrev pub options_in : List Row → Options
+options_in rows = record {
+  producers = number_in (codes "producers") DEFAULTS.producers rows;
+  consumers = number_in (codes "consumers") DEFAULTS.consumers rows;
+  items = number_in (codes "items") DEFAULTS.items rows;
+  pairs = number_in (codes "pairs") DEFAULTS.pairs rows;
+  budget = budget_in rows;
+  seed = number_in (codes "seed") DEFAULTS.seed rows;
+}
+
+-- the options of `run` are those that clap found with the command's name
+abbrev pub HasOptions : Option (Text × List Row) → Choice → Type 0
+HasOptions found (Run options) = option_map (λ f. options_in f.1) found ≡ Some options
+HasOptions found _ = Unit {0}
+
+-- they are those that the words give
+abbrev pub HasToldOptions : List Text → Choice → Type 0
+HasToldOptions words choice = HasOptions (subcommand_of program words) choice
+
+-- the budget of `run` lies in its range
+abbrev pub HasBudget : Choice → Type 0
+HasBudget (Run options) = (1 ≤ options.budget) × (options.budget ≤ MAX_BUDGET)
+HasBudget _ = Unit {0}

@@ -1,0 +1,96 @@
+-- What the command `run` answers.
+use Rattle.std.specs.Prelude.{◌≡◌, ◌≢◌, ◌<◌, ◌≤◌, ◌⊎◌, ◌↔◌, ◌+◌, ◌-◌, ◌*◌, ◌^◌, ℕ, List, Option}
+use Rattle.std.specs.Prelude.{Some, Result, Err, IfErr, OnOk, length, map, slice_get, true}
+use Rattle.std.specs.List.{range_with_len}
+use Rattle.std.specs.Io.KnownBytes.{Appends}
+use Rattle.mb_quorum.specs.declared.table.TableName.TheVariants.{Bits}
+use Rattle.mb_world.specs.declared.setup.SetupFault.{SetupFault}
+use Rattle.mb_world.specs.Headline.{IsHonest}
+use Rattle.mb_world.specs.Plan.{Histories, Plan}
+use Rattle.mb_world.specs.Report.{LaneView, ReportView, notes}
+use Rattle.mb_world.specs.Reporting.{IsReportOf}
+use Rattle.mb_world.specs.Setups.{plan_of, setup_refusal}
+use Rattle.mb_world.specs.Sound.{AreSound}
+use Rattle.mb_script.specs.Vocabulary.{AppendsFront, Meter, one_more, report_text}
+use Rattle.mb_mailbox.specs.Below.{Reader, consumer_part, part}
+use Rattle.mb_program.specs.declared.fault.RunFault.{RunFault}
+use Rattle.mb_program.specs.declared.fault.RunFault.TheVariants.{BadSetup, WriteFault}
+use Rattle.mb_program.specs.declared.options.Options.{Options}
+
+-- ---- the mailbox that the options ask for
+-- why there is none, if so: it would have a cell for each item
+abbrev pub setup_refused : Options → Option SetupFault
+setup_refused o = setup_refusal o.producers o.consumers (o.producers * o.items) o.pairs
+
+abbrev pub plan_asked : Options → Plan
+plan_asked o = plan_of o.producers o.consumers (o.producers * o.items) o.pairs Bits
+
+-- what a mailbox that there is has at most
+pub record AreFew (o : Options) : Type 0 where
+  pub producers : o.producers ≤ 16
+  pub consumers : o.consumers ≤ 64
+  pub items : o.items ≤ 256
+
+-- ---- the items
+-- what producer p puts, in order
+abbrev pub items_of : ℕ → ℕ → List ℕ
+items_of p count = map (λ i. 1000 * p + i) (range_with_len 0 count)
+
+-- what each of the producers puts
+abbrev pub item_lists : ℕ → ℕ → List (List ℕ)
+item_lists producers count = map (λ p. items_of p count) (range_with_len 0 producers)
+
+-- ---- the report
+-- lane p has ended, and all items of producer p are put on it
+pub record IsLaneOf (p count : ℕ) (l : LaneView) : Type 0 where
+  pub ended : l.ended ≡ true
+  pub whole : l.put ≡ items_of p count
+
+-- how many accesses consumer c has made, to the words of the cells and to those of the claims
+abbrev pub accesses_by : ℕ → Histories → ℕ
+accesses_by c hs = length (part (Reader (hs.reader_of c)) hs.pool) + length (consumer_part c hs.claims)
+
+-- each consumer is the reader of its own number
+abbrev pub AreOwnReaders : Histories → Type 0
+AreOwnReaders hs = (c : ℕ) → hs.reader_of c ≡ c
+
+-- consumer c has a note at each of so many items of lane p, or these histories have 2^64 - 2 accesses of it
+abbrev pub HasNotedAll : ℕ → ℕ → ℕ → Histories → ReportView → Type 0
+HasNotedAll count c p hs r = (length (notes c p r) ≡ count) ⊎ (2 ^ 64 - 2 ≤ accesses_by c hs)
+
+-- the report of a mailbox of these options, in which each producer has put all its items
+pub record IsRunReport (o : Options) (r : ReportView) : Type 0 where
+  -- all accesses to the words of the claims, and all to those of the cells: they are lawful, and each consumer's
+  -- parts fit. Consumer c is reader c
+  pub histories : Histories
+  pub reader : AreOwnReaders histories
+  pub sound : AreSound (plan_asked o) histories
+  -- the report is theirs, and one assignment stands behind it
+  pub report : IsReportOf (plan_asked o) histories r
+  pub honest : IsHonest (plan_asked o) histories r
+  -- each producer has put its items, and nothing else
+  pub lanes : (p : ℕ) → p < o.producers
+      → (l : LaneView) × (slice_get r.lanes p ≡ Some l) × IsLaneOf p o.items l
+  -- Each consumer has a note at each item of each lane, or these histories have 2^64 - 2 accesses of it. They may have
+  -- accesses that no thread made, so of the text alone this says nothing; of a run of `work` it is `IsWorked` that tells.
+  pub noted : (c p : ℕ) → c < o.consumers → p < o.producers → HasNotedAll o.items c p histories r
+
+-- the text is that of such a report
+abbrev pub IsRunText : Options → List ℕ → Type 0
+IsRunText o text = (r : ReportView) × IsRunReport o r × (text ≡ report_text r)
+
+-- ---- one call, that found a writer and left it
+pub record IsRun {X W : Type 0} (o : Options) (sink : Meter W) (writer writer' : W)
+    (result : Result X RunFault) : Type 0 where
+  -- the text of such a report was written, and nothing else
+  pub answered : OnOk result ((text : List ℕ) × IsRunText o text
+      × Appends (sink.bytes writer) (sink.bytes writer') text)
+  -- the setup is refused exactly where there is none, for the first reason
+  pub refused : (why : SetupFault) → (result ≡ Err (BadSetup why)) ↔ (setup_refused o ≡ Some why)
+  -- a failed write comes exactly where the writer failed in this call, and it failed once
+  pub write_failed : result ≡ Err WriteFault → sink.failures writer' ≡ one_more (sink.failures writer)
+  pub write_worked : result ≢ Err WriteFault → sink.failures writer' ≡ sink.failures writer
+  -- after it a prefix of such a text was written, after any other fault nothing
+  pub front : result ≡ Err WriteFault →
+      (text : List ℕ) × IsRunText o text × AppendsFront (sink.bytes writer) (sink.bytes writer') text
+  pub untouched : IfErr result (λ e. e ≢ WriteFault → writer' ≡ writer)

@@ -1,0 +1,92 @@
+//! The command line.
+ghost use Rattle.std.specs.Prelude.{◌≡◌, true, [], ◌∷◌, List, ℕ, Some, IfOk, IfErr, IfSome, OnOk, IsSome, map};
+ghost use Rattle.clap.specs.Words.{app_of, fault_of, kind_of, subcommand_name_of, subcommand_rows_of, takes};
+ghost use Rattle.mb_program.specs.CommandLine.{program, program_alone, command_in, choice_name, IsRefusalOf};
+ghost use Rattle.mb_program.specs.RunOptions.{HasBudget, HasOptions, HasToldOptions};
+
+use crate::help;
+use crate::options::{Options, command_named, options_of, run_command};
+use clap::error::ErrorKind;
+use clap::{ArgMatches, Command, Error};
+use std::alloc::{AllocError, Global};
+use std::convert::AsStr;
+
+/// What a command line asks for.
+#[derive(Clone, Copy, Debug, PartialEq, Eq, Hash)]
+pub enum Choice {
+    /// Run one ratifier: a script from standard input, its trace to standard output.
+    Ratify,
+    /// Replay a script from standard input: its transcript and its report to standard output.
+    Replay,
+    /// Let producers and consumers work in threads, as these options ask: the report to standard output.
+    Run(Options),
+}
+
+/// The program without its commands, of which one has to be named.
+fn program_alone<'a>(alloc: Global) -> Result<Command<'a>, AllocError>
+    ensures { IfOk result (λ c. app_of c ≡ program_alone) }
+{
+    Ok(
+        Command::new(alloc, "mailbox")
+            .bin_name("mailbox")?
+            .about("Replays single atomic steps, or lets threads work")
+            .after_help(help::PROGRAM)
+            .subcommand_required(true),
+    )
+}
+
+/// The program in clap's words.
+fn program<'a>(alloc: Global) -> Result<Command<'a>, AllocError>
+    ensures { IfOk result (λ c. app_of c ≡ program) }
+{
+    program_alone(alloc)?
+        .subcommand(command_named(alloc, "ratify", help::RATIFY_ABOUT, help::RATIFY))?
+        .subcommand(command_named(alloc, "replay", help::REPLAY_ABOUT, help::REPLAY))?
+        .subcommand(run_command(alloc)?)
+}
+
+/// The choice of the command that clap has found.
+fn choice_of(matches: &ArgMatches) -> Option<Choice>
+    ensures named { IfSome result (λ choice. subcommand_name_of matches.now ≡ Some (choice_name choice)) }
+    ensures options { IfSome result (HasOptions (subcommand_rows_of matches.now)) }
+    ensures budget { IfSome result HasBudget }
+    ensures each { (choice : Choice) → subcommand_name_of matches.now ≡ Some (choice_name choice) → IsSome result }
+{
+    let (name, given) = matches.subcommand()?;
+    match name {
+        "ratify" => Some(Choice::Ratify),
+        "replay" => Some(Choice::Replay),
+        "run" => Some(Choice::Run(options_of(given))),
+        _ => None,
+    }
+}
+
+/// Reads the command line, whose first word is the program's name.
+///
+/// Which lines are refused, and the text that says so, is clap's. A call for help is such a refusal.
+pub fn command_of<'a, S: AsStr>(alloc: Global, words: &'a [S]) -> Result<Choice, Error>
+    // What is chosen is the command that the words name, and clap refuses none of them.
+    ensures choice { IfOk result (λ choice. command_in (map S.text words.entry.now) ≡ Some (choice_name choice)) }
+    ensures taken { OnOk result (fault_of program (map S.text words.entry.now) ≡ []) }
+
+    // The options of `run` are those that the words give, and the budget lies in its range.
+    ensures options { IfOk result (HasToldOptions (map S.text words.entry.now)) }
+    ensures budget { IfOk result HasBudget }
+
+    // A refusal has a kind that the words give: help comes only where they ask for it.
+    ensures kinds { IfErr result (λ e. IsRefusalOf (map S.text words.entry.now) (kind_of e)) }
+
+    // Words that clap takes and that name a command are refused only for want of memory, and so is a command alone.
+    ensures refused { (choice : Choice) → takes program (map S.text words.entry.now) ≡ true
+        → command_in (map S.text words.entry.now) ≡ Some (choice_name choice)
+        → IfErr result (λ e. kind_of e ≡ ErrorKind.OutOfMemory) }
+    ensures alone { (name : List ℕ) (choice : Choice) → map S.text words.entry.now ≡ name ∷ choice_name choice ∷ []
+        → IfErr result (λ e. kind_of e ≡ ErrorKind.OutOfMemory) }
+{
+    let mut command = program(alloc)?;
+    let matches = command.try_get_matches_from_mut(words)?;
+    let Some(choice) = choice_of(&matches) else {
+        return Err(command.error(ErrorKind::InvalidSubcommand, "no such command")?);
+    };
+    Ok(choice)
+}

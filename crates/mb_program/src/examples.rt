@@ -1,0 +1,147 @@
+//! The definitions by example: what they let in, and what only looks so. The functions compute nothing: their contracts
+//! are the examples. Those that are not proved by their contract alone have their proofs in `proofs/examples`.
+ghost use Rattle.std.specs.Prelude.{◌≡◌, ℕ, ◌+◌, ◌-◌, ◌<◌, ◌^◌, length, ◌++◌, true, false, [], ◌∷◌, codes, replicate, Some, None, Err};
+ghost use Rattle.clap.specs.Words.{takes};
+ghost use Rattle.clap.specs.declared.error.ErrorKind.TheVariants.{DisplayHelp, MissingSubcommand};
+ghost use Rattle.mb_quorum.specs.declared.table.TableName.TheVariants.{Unary};
+ghost use Rattle.mb_program.specs.declared.fault.RatifyFault.TheVariants.{TooLong, BadLine, NoMemory, ReadFault};
+ghost use Rattle.mb_program.specs.declared.fault.RatifyFault.TheVariants.{WriteFault};
+ghost use Rattle.mb_script.specs.declared.transfer.TheConstants.{MAX_SCRIPT_LEN};
+ghost use Rattle.mb_program.specs.Answer.{IsAnswer, ratifying};
+ghost use Rattle.mb_program.specs.CommandLine.{program, command_in};
+ghost use Rattle.mb_script.specs.Vocabulary.{LiesIn};
+ghost use Rattle.mb_program.specs.Spelling.{HasSpelling};
+ghost use Rattle.mb_program.specs.Steps.{Gives};
+ghost use Rattle.mb_world.specs.declared.setup.SetupFault.TheVariants.{BadCells, BadConsumers};
+ghost use Rattle.mb_program.specs.declared.command.Choice.TheVariants.{Run};
+ghost use Rattle.mb_program.specs.declared.options.Options.{Options};
+ghost use Rattle.mb_program.specs.declared.options.TheConstants.{MAX_BUDGET};
+ghost use Rattle.mb_program.specs.RunOptions.{HasBudget, HasToldOptions};
+ghost use Rattle.mb_program.specs.Running.{AreOwnReaders, HasNotedAll, IsLaneOf, IsRunReport};
+ghost use Rattle.mb_program.specs.Running.{items_of, setup_refused};
+ghost use Rattle.mb_program.specs.RunExamples.{IsRunOver, nobody_script, nothing_done, one_item};
+ghost use Rattle.mb_program.specs.RunExamples.{help_words, ratify_now, ratify_words, report_with};
+ghost use Rattle.mb_program.specs.declared.fault.Failed.TheVariants as failed;
+ghost use Rattle.mb_program.specs.declared.outcome.Ending.TheVariants as ending;
+ghost use Rattle.mb_world.specs.declared.report.Note.TheVariants.{Took, Undecided};
+ghost use Rattle.mb_program.specs.Source.{seed_bytes, source_from};
+
+/// A script of numbers that are too large has no spelling.
+pub fn numbers_are_words()
+    ensures largest { HasSpelling (record { table = Unary; values = 2 ^ 64 - 1; inputs = 0 ∷ []; turns = [] }) }
+    ensures values { HasSpelling (record { table = Unary; values = 2 ^ 64; inputs = []; turns = [] }) → ⊥ }
+    ensures input { HasSpelling (record { table = Unary; values = 2; inputs = 0 ∷ 2 ^ 64 ∷ []; turns = [] }) → ⊥ }
+    ensures turn { HasSpelling (record { table = Unary; values = 2; inputs = []; turns = 2 ^ 64 ∷ [] }) → ⊥ }
+{}
+
+/// A script has at most so many bytes.
+pub fn scripts_have_a_limit()
+    ensures { MAX_SCRIPT_LEN ≡ 1048576 }
+{}
+
+/// Only a script without fault has an answer, and it has one line for each process.
+pub fn answers_fit_their_script()
+    ensures nobody { IsAnswer (codes "ratify unary 2\ninputs\nturns\n") [] }
+    ensures stranger { IsAnswer (codes "ratify unary 2\ninputs\nturns\n") (codes "process 0: none\n") → ⊥ }
+    ensures bad_line { IsAnswer (codes "ratify unary 2\ninputs\nturns\n\n") [] → ⊥ }
+    ensures bad_values { IsAnswer (codes "ratify unary 0\ninputs\nturns\n") [] → ⊥ }
+{}
+
+/// Want of memory and what devices do are no faults of a script.
+pub fn faults_lie_in_the_script()
+    ensures line { LiesIn ratifying (BadLine 2) }
+    ensures memory { LiesIn ratifying NoMemory → ⊥ }
+    ensures read { LiesIn ratifying ReadFault → ⊥ }
+    ensures write { LiesIn ratifying WriteFault → ⊥ }
+{}
+
+/// A call that reads gives what was to be read, or wants memory, and gives no fault of a device.
+pub fn reading_gives_what_is_there()
+    ensures same { Gives (λ (n : ℕ). n) (Err TooLong) (Err TooLong) }
+    ensures no_memory { Gives (λ (n : ℕ). n) (Err NoMemory) (Err TooLong) }
+    ensures other_fault { Gives (λ (n : ℕ). n) (Err (BadLine 1)) (Err TooLong) → ⊥ }
+    ensures device { Gives (λ (n : ℕ). n) (Err ReadFault) (Err ReadFault) → ⊥ }
+{}
+
+/// One command has to be named, and takes no word more.
+pub fn one_command_is_named()
+    ensures named { command_in (codes "mailbox" ∷ codes "ratify" ∷ []) ≡ Some (codes "ratify") }
+    ensures not_named { command_in (codes "mailbox" ∷ []) ≡ None }
+    ensures other_name { command_in (codes "mailbox" ∷ codes "ratifier" ∷ []) ≡ None }
+    ensures taken { takes program (codes "mailbox" ∷ codes "ratify" ∷ []) ≡ true }
+    ensures required { takes program (codes "mailbox" ∷ []) ≡ false }
+    ensures no_more { takes program (codes "mailbox" ∷ codes "ratify" ∷ codes "now" ∷ []) ≡ false }
+{}
+
+/// The options that the words of `run` give, and the defaults of the others.
+pub fn options_are_told()
+    ensures limit { MAX_BUDGET ≡ 1000000 }
+    ensures defaults { HasToldOptions (codes "mailbox" ∷ codes "run" ∷ [])
+        (Run (record { producers = 2; consumers = 2; items = 8; pairs = 4; budget = 64; seed = 0 })) }
+    ensures other_budget { HasToldOptions (codes "mailbox" ∷ codes "run" ∷ [])
+        (Run (record { producers = 2; consumers = 2; items = 8; pairs = 4; budget = 65; seed = 0 })) → ⊥ }
+    ensures given { HasToldOptions (codes "mailbox" ∷ codes "run" ∷ codes "--items" ∷ codes "3" ∷ [])
+        (Run (record { producers = 2; consumers = 2; items = 3; pairs = 4; budget = 64; seed = 0 })) }
+    ensures passed_over { HasToldOptions (codes "mailbox" ∷ codes "run" ∷ codes "--items" ∷ codes "3" ∷ [])
+        (Run (record { producers = 2; consumers = 2; items = 8; pairs = 4; budget = 64; seed = 0 })) → ⊥ }
+    ensures no_budget { HasBudget
+        (Run (record { producers = 2; consumers = 2; items = 8; pairs = 4; budget = 0; seed = 0 })) → ⊥ }
+{}
+
+/// What the options ask for, and how a lane of a run ends.
+pub fn lanes_have_their_lists()
+    ensures items { items_of 1 3 ≡ 1000 ∷ 1001 ∷ 1002 ∷ [] }
+    ensures cells { setup_refused
+        (record { producers = 16; consumers = 2; items = 2 ^ 60; pairs = 4; budget = 64; seed = 0 }) ≡ Some BadCells }
+    ensures consumers { setup_refused
+        (record { producers = 2; consumers = 0; items = 2 ^ 63; pairs = 4; budget = 64; seed = 0 }) ≡ Some BadConsumers }
+    ensures none { setup_refused
+        (record { producers = 2; consumers = 2; items = 8; pairs = 4; budget = 64; seed = 0 }) ≡ None }
+    ensures whole { IsLaneOf 0 2 (record { put = 0 ∷ 1 ∷ []; ended = true; left = [] }) }
+    ensures begun { IsLaneOf 0 2 (record { put = 0 ∷ []; ended = true; left = [] }) → ⊥ }
+    ensures empty { IsLaneOf 0 2 (record { put = []; ended = true; left = [] }) → ⊥ }
+    ensures other_order { IsLaneOf 0 2 (record { put = 1 ∷ 0 ∷ []; ended = true; left = [] }) → ⊥ }
+    ensures too_many { IsLaneOf 0 2 (record { put = 0 ∷ 1 ∷ 2 ∷ []; ended = true; left = [] }) → ⊥ }
+    ensures open { IsLaneOf 0 2 (record { put = 0 ∷ 1 ∷ []; ended = false; left = [] }) → ⊥ }
+{}
+
+/// The bytes of a seed, and the stream of a consumer.
+pub fn sources_have_their_seeds()
+    ensures low_first { seed_bytes 258 ≡ 2 ∷ 1 ∷ replicate 30 0 }
+    ensures high_first { seed_bytes 258 ≡ replicate 6 0 ++ 1 ∷ 2 ∷ replicate 24 0 → ⊥ }
+    ensures stream { (source_from 258 3).stream ≡ 3 }
+{}
+
+/// A consumer of a run has a note at each item, or the histories have many accesses of it; and it reads as the reader of its
+/// own number.
+pub fn consumers_note_all_items()
+    ensures noted { HasNotedAll 1 0 0 nothing_done (report_with (Took 0 ∷ []) []) }
+    ensures undecided { HasNotedAll 1 0 0 nothing_done (report_with (Undecided ∷ []) (0 ∷ [])) }
+    ensures not_noted { HasNotedAll 1 0 0 nothing_done (report_with [] (0 ∷ [])) → ⊥ }
+    ensures own { AreOwnReaders nothing_done }
+    ensures one_reader_for_all { AreOwnReaders (record nothing_done { reader_of = λ _. 0 }) → ⊥ }
+
+    // Of a whole report: behind one without a note the histories are long.
+    ensures short_run { (x : IsRunReport one_item (report_with [] (0 ∷ [])))
+        → length x.histories.pool + length x.histories.claims < 2 ^ 64 - 2 → ⊥ }
+{}
+
+/// What the program does with its words: a script of no process, one with a fault, words that clap refuses, and help.
+pub fn runs_do_what_the_words_ask()
+    ensures done { IsRunOver ratify_words nobody_script [] [] [] ending.Done }
+    ensures done_and_told { IsRunOver ratify_words nobody_script [] [] (codes "x") ending.Done → ⊥ }
+    ensures fault { IsRunOver ratify_words (codes "x\n") [] [] (codes "fault 3 BadLine 1\n")
+        (ending.Failed (failed.Ratify (BadLine 1))) }
+    ensures half_a_line { IsRunOver ratify_words (codes "x\n") [] [] (codes "fault")
+        (ending.Failed (failed.Ratify (BadLine 1))) → ⊥ }
+    ensures refused { IsRunOver (codes "mailbox" ∷ []) (codes "a") (codes "a") [] (codes "usage")
+        (ending.Refused MissingSubcommand true) }
+    ensures refused_and_read { IsRunOver (codes "mailbox" ∷ []) (codes "a") [] [] (codes "usage")
+        (ending.Refused MissingSubcommand true) → ⊥ }
+    ensures refused_on_the_output { IsRunOver (codes "mailbox" ∷ []) [] [] (codes "usage") []
+        (ending.Refused MissingSubcommand true) → ⊥ }
+    ensures refused_and_done { IsRunOver ratify_now nobody_script [] [] [] ending.Done → ⊥ }
+    ensures help { IsRunOver help_words (codes "a") (codes "a") (codes "help") [] (ending.Refused DisplayHelp true) }
+    ensures help_on_the_errors { IsRunOver help_words [] [] [] (codes "help") (ending.Refused DisplayHelp true) → ⊥ }
+    ensures help_not_asked { IsRunOver ratify_now [] [] (codes "help") [] (ending.Refused DisplayHelp true) → ⊥ }
+{}

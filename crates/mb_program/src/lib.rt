@@ -1,0 +1,26 @@
+//! What the program does: it reads a command line, and does what that asks over a reader and two writers.
+#![tactic(auto)]
+
+mod command;
+pub mod examples;
+mod fault;
+mod help;
+mod options;
+mod outcome;
+pub mod program;
+mod ratify;
+mod reading;
+mod run;
+mod script;
+mod source;
+pub mod trace_text;
+
+pub use command::{Choice, command_of};
+pub use fault::{Failed, NoMemory, RatifyFault, RunFault};
+pub use options::{DEFAULTS, MAX_BUDGET, Options};
+pub use outcome::{DONE, Ending, FAILED, REFUSED, fault_text, status_of, status_of_ending};
+pub use ratify::ratify_text;
+pub use reading::read_script;
+pub use run::run_threads;
+pub use script::RatifyScript;
+pub use source::source_of;

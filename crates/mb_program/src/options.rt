@@ -1,0 +1,163 @@
+//! The options of the command `run`, on the command line.
+ghost use Rattle.std.specs.Prelude.{◌≡◌, ◌≤◌, false, IfOk};
+ghost use Rattle.clap.specs.Words.{app_of, found_of, new_app, rows_of, rule_of};
+ghost use Rattle.clap.specs.declared.builder.command.Command.TheViews.{out-Command as fields_of};
+ghost use Rattle.mb_program.specs.CommandLine.{any_number, number_rule, run_app};
+ghost use Rattle.mb_program.specs.RunOptions.{budget_in, number_in, options_in};
+
+use crate::help;
+use clap::builder::ValueParser;
+use clap::{Arg, ArgAction, ArgMatches, Command};
+use std::alloc::{AllocError, Global};
+
+/// What `run` is asked for.
+#[derive(Clone, Copy, Debug, PartialEq, Eq, Hash)]
+pub struct Options {
+    /// How many producers there are, 1 to 16.
+    pub producers: u64,
+    /// How many consumers there are, 1 to 64.
+    pub consumers: u64,
+    /// How many items each producer puts. All producers together put at most 256.
+    pub items: u64,
+    /// How many pairs of deciding objects each item has, 1 to 8.
+    pub pairs: u64,
+    /// The most accesses that one poll makes, 1 to [`MAX_BUDGET`].
+    pub budget: u64,
+    /// The seed of the consumers' random words.
+    pub seed: u64,
+}
+
+/// The largest budget that a command line can ask for. The least is 1.
+pub const MAX_BUDGET: u64 = 1_000_000;
+
+/// What `run` does where the command line says nothing.
+pub const DEFAULTS: Options = Options {
+    producers: 2,
+    consumers: 2,
+    items: 8,
+    pairs: 4,
+    budget: 64,
+    seed: 0,
+};
+
+/// A command without options.
+pub(crate) fn command_named<'a>(
+    alloc: Global,
+    name: &'a str,
+    about: &'a str,
+    more: &'a str,
+) -> Command<'a>
+    ensures app { app_of result ≡ new_app name.entry.now }
+    ensures local { (fields_of result).has_globals ≡ false }
+{
+    Command::new(alloc, name).about(about).after_help(more)
+}
+
+/// An option that takes a number from `low` to `high`.
+fn number<'a>(
+    alloc: Global,
+    name: &'a str,
+    default: &'a str,
+    low: u64,
+    high: u64,
+    meaning: &'a str,
+) -> Arg<'a>
+    ensures rule { rule_of result ≡ number_rule name.entry.now default.entry.now low high }
+    ensures local { result.global ≡ false }
+{
+    Arg::new(alloc, name)
+        .long(name)
+        .value_name("N")
+        .help(meaning)
+        .action(ArgAction::Set)
+        .value_parser(ValueParser::unsigned(low, high))
+        .default_value(default)
+}
+
+/// An option that takes any number.
+fn any_number<'a>(alloc: Global, name: &'a str, default: &'a str, meaning: &'a str) -> Arg<'a>
+    ensures rule { rule_of result ≡ any_number name.entry.now default.entry.now }
+    ensures local { result.global ≡ false }
+{
+    number(alloc, name, default, 0, u64::MAX, meaning)
+}
+
+/// The command `run` in clap's words.
+pub(crate) fn run_command<'a>(alloc: Global) -> Result<Command<'a>, AllocError>
+    ensures app { IfOk result (λ c. app_of c ≡ run_app) }
+    ensures local { IfOk result (λ c. (fields_of c).has_globals ≡ false) }
+{
+    command_named(alloc, "run", help::RUN_ABOUT, help::RUN)
+        .arg(any_number(
+            alloc,
+            "producers",
+            "2",
+            "How many producers put items, 1 to 16",
+        ))?
+        .arg(any_number(
+            alloc,
+            "consumers",
+            "2",
+            "How many consumers compete for them, 1 to 64",
+        ))?
+        .arg(any_number(
+            alloc,
+            "items",
+            "8",
+            "How many items each producer puts; all together at most 256",
+        ))?
+        .arg(any_number(
+            alloc,
+            "pairs",
+            "4",
+            "How many pairs of deciding objects each item has, 1 to 8",
+        ))?
+        .arg(number(
+            alloc,
+            "budget",
+            "64",
+            1,
+            MAX_BUDGET,
+            "The most accesses of one poll, 1 to 1000000",
+        ))?
+        .arg(any_number(
+            alloc,
+            "seed",
+            "0",
+            "The seed of the consumers' random words",
+        ))
+}
+
+/// The number of an option; `default` where there is none.
+fn number_given(given: &ArgMatches, name: &str, default: u64) -> u64
+    ensures { result ≡ number_in name.now default (rows_of (found_of given.now)) }
+{
+    given.get_one::<u64>(name).unwrap_or(default)
+}
+
+/// The budget, which clap gives in its range alone.
+fn budget_given(given: &ArgMatches) -> u64
+    ensures number { result ≡ budget_in (rows_of (found_of given.now)) }
+    ensures range { (1 ≤ result) × (result ≤ MAX_BUDGET) }
+{
+    let budget = number_given(given, "budget", DEFAULTS.budget);
+    if budget < 1 || MAX_BUDGET < budget {
+        return DEFAULTS.budget;
+    }
+    budget
+}
+
+/// The options that the words of `run` give, and the defaults of the others.
+pub(crate) fn options_of(given: &ArgMatches) -> Options
+    ensures options { result ≡ options_in (rows_of (found_of given.now)) }
+    ensures budget { (1 ≤ result.budget) × (result.budget ≤ MAX_BUDGET) }
+{
+    Options {
+        producers: number_given(given, "producers", DEFAULTS.producers),
+        consumers: number_given(given, "consumers", DEFAULTS.consumers),
+        items: number_given(given, "items", DEFAULTS.items),
+        pairs: number_given(given, "pairs", DEFAULTS.pairs),
+        budget: budget_given(given),
+        seed: number_given(given, "seed", DEFAULTS.seed),
+    }
+}

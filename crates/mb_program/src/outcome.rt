@@ -1,0 +1,159 @@
+//! How the program ends: the line of a fault, and the exit statuses.
+ghost use Rattle.std.specs.Prelude.{◌≡◌, ◌++◌, IfOk, OnOk, string_bytes};
+ghost use Rattle.mb_program.specs.declared.fault.Failed.TheVariants.{Ratify, Replay, Run};
+ghost use Rattle.mb_program.specs.Outcome.{end_status, fault_line, fault_status, refusal_status, setup_fault_text};
+
+use crate::fault::{Failed, NoMemory, RatifyFault, RunFault};
+use clap::error::ErrorKind;
+use mb_script::Fault;
+use mb_world::SetupFault;
+use std::alloc::Allocator;
+
+/// The status where all went well, and after help that was asked for.
+pub const DONE: u8 = 0;
+
+/// The status after a fault of the script or of the options, or a command line that is refused.
+pub const REFUSED: u8 = 2;
+
+/// The status after want of memory, a thread that could not be started, or a failed read or write.
+pub const FAILED: u8 = 3;
+
+/// How the program comes to its end.
+#[derive(Clone, Copy, Debug, PartialEq, Eq)]
+pub enum Ending {
+    /// The command did what was asked.
+    Done,
+    /// The command failed.
+    Failed(Failed),
+    /// Clap did not read the command line, for a reason of this kind. Its text was printed, or it could not be.
+    Refused { kind: ErrorKind, printed: bool },
+    /// A word of the command line is no UTF-8.
+    NoText,
+    /// The words of the command line could not be had.
+    NoWords,
+}
+
+fn push_setup_fault<A: Allocator>(text: &mut String<A>, fault: SetupFault) -> Result<(), NoMemory>
+    ensures { OnOk result
+        (string_bytes text.new ≡ string_bytes text.old ++ setup_fault_text fault) }
+{
+    text.push_str(match fault {
+        SetupFault::BadProducers => "1 BadProducers",
+        SetupFault::BadConsumers => "2 BadConsumers",
+        SetupFault::BadCells => "3 BadCells",
+        SetupFault::BadRounds => "4 BadRounds",
+    })
+}
+
+fn ratify_fault_text<A: Allocator>(alloc: A, fault: RatifyFault) -> Result<String<A>, NoMemory>
+    ensures { IfOk result (λ text. string_bytes text ≡ fault_line (Ratify fault)) }
+{
+    let mut text = String::new(alloc);
+    match fault {
+        RatifyFault::TooLong => text.push_str("fault 1 TooLong\n")?,
+        RatifyFault::NotAscii => text.push_str("fault 2 NotAscii\n")?,
+        RatifyFault::BadLine(line) => write!(text, "fault 3 BadLine {line}\n")?,
+        RatifyFault::BadNumber(line) => write!(text, "fault 4 BadNumber {line}\n")?,
+        RatifyFault::BadValues => text.push_str("fault 5 BadValues\n")?,
+        RatifyFault::BadInput(place) => write!(text, "fault 6 BadInput {place}\n")?,
+        RatifyFault::NoSuchProcess(place) => write!(text, "fault 7 NoSuchProcess {place}\n")?,
+        RatifyFault::NoMemory => text.push_str("fault 8 NoMemory\n")?,
+        RatifyFault::ReadFault => text.push_str("fault 9 ReadFault\n")?,
+        RatifyFault::WriteFault => text.push_str("fault 10 WriteFault\n")?,
+    }
+    Ok(text)
+}
+
+fn replay_fault_text<A: Allocator>(alloc: A, fault: Fault) -> Result<String<A>, NoMemory>
+    ensures { IfOk result (λ text. string_bytes text ≡ fault_line (Replay fault)) }
+{
+    let mut text = String::new(alloc);
+    match fault {
+        Fault::TooLong => text.push_str("fault 1 TooLong\n")?,
+        Fault::NotAscii => text.push_str("fault 2 NotAscii\n")?,
+        Fault::BadLine(line) => write!(text, "fault 3 BadLine {line}\n")?,
+        Fault::BadNumber(line) => write!(text, "fault 4 BadNumber {line}\n")?,
+        Fault::NoSetup => text.push_str("fault 5 NoSetup\n")?,
+        Fault::BadSetup(line, why) => {
+            write!(text, "fault 6 BadSetup {line} ")?;
+            push_setup_fault(&mut text, why)?;
+            text.push_str("\n")?;
+        }
+        Fault::NoLane(line) => write!(text, "fault 7 NoLane {line}\n")?,
+        Fault::NoConsumer(line) => write!(text, "fault 8 NoConsumer {line}\n")?,
+        Fault::TooManyEvents => text.push_str("fault 9 TooManyEvents\n")?,
+        Fault::NoMemory => text.push_str("fault 10 NoMemory\n")?,
+        Fault::ReadFault => text.push_str("fault 11 ReadFault\n")?,
+        Fault::WriteFault => text.push_str("fault 12 WriteFault\n")?,
+    }
+    Ok(text)
+}
+
+fn run_fault_text<A: Allocator>(alloc: A, fault: RunFault) -> Result<String<A>, NoMemory>
+    ensures { IfOk result (λ text. string_bytes text ≡ fault_line (Run fault)) }
+{
+    let mut text = String::new(alloc);
+    match fault {
+        RunFault::BadSetup(why) => {
+            text.push_str("fault 1 BadSetup ")?;
+            push_setup_fault(&mut text, why)?;
+            text.push_str("\n")?;
+        }
+        RunFault::NoMemory => text.push_str("fault 2 NoMemory\n")?,
+        RunFault::NoThread => text.push_str("fault 3 NoThread\n")?,
+        RunFault::WriteFault => text.push_str("fault 4 WriteFault\n")?,
+    }
+    Ok(text)
+}
+
+/// The line of a fault, with its LF: `fault`, the fault's number and name, and what it is about, if anything: the number
+/// of a line or a place, and behind the line of a setup the number and name of the setup's fault.
+pub fn fault_text<A: Allocator>(alloc: A, failed: &Failed) -> Result<String<A>, NoMemory>
+    ensures { IfOk result (λ text. string_bytes text ≡ fault_line failed.now) }
+{
+    match *failed {
+        Failed::Ratify(fault) => ratify_fault_text(alloc, fault),
+        Failed::Replay(fault) => replay_fault_text(alloc, fault),
+        Failed::Run(fault) => run_fault_text(alloc, fault),
+    }
+}
+
+/// The exit status of a fault: `FAILED` for want of memory, for a thread that could not be started and for a failed read
+/// or write, else `REFUSED`.
+pub fn status_of(failed: &Failed) -> u8
+    ensures { result ≡ fault_status failed.now }
+{
+    match failed {
+        Failed::Ratify(RatifyFault::NoMemory | RatifyFault::ReadFault | RatifyFault::WriteFault) =>
+            FAILED,
+        Failed::Replay(Fault::NoMemory | Fault::ReadFault | Fault::WriteFault) => FAILED,
+        Failed::Run(RunFault::NoMemory | RunFault::NoThread | RunFault::WriteFault) => FAILED,
+        _ => REFUSED,
+    }
+}
+
+fn status_of_refusal(kind: ErrorKind, printed: bool) -> u8
+    ensures { result ≡ refusal_status kind printed }
+{
+    match kind {
+        ErrorKind::DisplayHelp | ErrorKind::DisplayVersion if printed => DONE,
+        ErrorKind::DisplayHelp | ErrorKind::DisplayVersion => FAILED,
+        ErrorKind::OutOfMemory => FAILED,
+        _ => REFUSED,
+    }
+}
+
+/// The exit status of the program: `DONE` where the command did what was asked, and after help that was asked for and
+/// printed; `FAILED` for help that could not be printed, for want of memory, for a thread that could not be started, and
+/// for a failed read or write; else `REFUSED`.
+pub fn status_of_ending(ending: &Ending) -> u8
+    ensures { result ≡ end_status ending.now }
+{
+    match ending {
+        Ending::Done => DONE,
+        Ending::Failed(failed) => status_of(failed),
+        Ending::Refused { kind, printed } => status_of_refusal(*kind, *printed),
+        Ending::NoText => REFUSED,
+        Ending::NoWords => FAILED,
+    }
+}

@@ -1,0 +1,109 @@
+//! What the program does between its command line and its status.
+ghost use Rattle.std.specs.Prelude.{◌≡◌, ◌≢◌, ◌⊎◌, ◌+◌, Bool, map};
+ghost use Rattle.clap.specs.Words.{kind_of};
+ghost use Rattle.clap.specs.declared.error.ErrorKind.TheVariants.{DisplayHelp, DisplayVersion};
+ghost use Rattle.mb_script.specs.declared.transfer.TheConstants.{MAX_SCRIPT_LEN};
+ghost use Rattle.mb_script.specs.Vocabulary.{CountGrowsUpTo, meter};
+ghost use Rattle.mb_program.specs.Outcome.{fault_line};
+ghost use Rattle.mb_program.specs.Program.{IsPrinted, IsProgramRun, IsTold, WasCarriedOut, ended_by};
+ghost use Rattle.mb_program.specs.RunOptions.{HasBudget};
+ghost use Rattle.mb_program.specs.declared.outcome.Ending.TheVariants as ending;
+
+use crate::command::{Choice, command_of};
+use crate::fault::Failed;
+use crate::outcome::{Ending, fault_text};
+use crate::ratify::ratify_text;
+use crate::run::run_threads;
+use mb_script::{Sink, Source, write_all};
+use std::convert::AsStr;
+use std::sync::Wait;
+use std::thread::Threads;
+
+/// Does what the words of the command line ask for, from `reader` to `writer`.
+///
+/// The line of a fault goes to `errors`, and so does why clap refuses the words; help that was asked for goes to `writer`.
+/// `words` begin with the program's name. The answer is how the program ends: `Done`, `Failed` or `Refused`.
+pub fn run<R: AllocGlobal + Threads + Wait + Sync, S: AsStr, I: Source, O: Sink, E: Sink>(
+    rt: &R,
+    words: &[S],
+    reader: &mut I,
+    writer: &mut O,
+    errors: &mut E,
+) -> Ending
+    ensures done { IsProgramRun (map S.text words.now) (meter I.left I.failures)
+        (meter O.held O.failures) (meter E.held E.failures)
+        reader.old reader.new writer.old writer.new errors.old errors.new result }
+
+    // Of every reader, also of one whose bytes are not known, as those of standard input are not.
+    ensures given { CountGrowsUpTo (MAX_SCRIPT_LEN + 1) (I.given reader.old) (I.given reader.new) }
+{
+    match command_of(rt.alloc(), words) {
+        Ok(choice) => match carry_out(rt, choice, reader, writer) {
+            Ok(()) => Ending::Done,
+            Err(failed) => end_with_fault(rt, failed, errors),
+        },
+        Err(error) => end_with_refusal(rt, &error, writer, errors),
+    }
+}
+
+/// Does what was chosen.
+fn carry_out<R: AllocGlobal + Threads + Wait + Sync, I: Source, O: Sink>(
+    rt: &R,
+    choice: Choice,
+    reader: &mut I,
+    writer: &mut O,
+) -> Result<(), Failed>
+    requires { HasBudget choice }
+    ensures done { WasCarriedOut choice (meter I.left I.failures) (meter O.held O.failures)
+        reader.old reader.new writer.old writer.new (ended_by (λ failed. failed) result) }
+    ensures given { CountGrowsUpTo (MAX_SCRIPT_LEN + 1) (I.given reader.old) (I.given reader.new) }
+{
+    match choice {
+        Choice::Ratify => ratify_text(rt.alloc(), reader, writer).map_err(Failed::Ratify),
+        Choice::Replay => mb_script::run(rt.alloc(), reader, writer).map_err(Failed::Replay),
+        Choice::Run(options) => {
+            run_threads(rt.alloc(), rt, options, writer).map_err(Failed::Run)
+        }
+    }
+}
+
+/// Writes the line of a fault, where there is memory for it.
+fn end_with_fault<R: AllocGlobal, E: Sink>(rt: &R, failed: Failed, errors: &mut E) -> Ending
+    ensures ending { result ≡ ending.Failed failed }
+    ensures line { (whole : Bool)
+        × IsPrinted (meter E.held E.failures) errors.old errors.new (fault_line failed) whole }
+{
+    if let Ok(text) = fault_text(rt.alloc(), &failed) {
+        let _whole = print(errors, text.as_bytes());
+    }
+    Ending::Failed(failed)
+}
+
+/// Writes clap's help to `writer`, or its refusal to `errors`, where there is memory for it.
+fn end_with_refusal<R: AllocGlobal, O: Sink, E: Sink>(
+    rt: &R,
+    error: &clap::Error,
+    writer: &mut O,
+    errors: &mut E,
+) -> Ending
+    ensures { (printed : Bool) × (result ≡ ending.Refused (kind_of error.now) printed)
+        × IsTold (meter O.held O.failures) (meter E.held E.failures)
+        writer.old writer.new errors.old errors.new (kind_of error.now) printed }
+{
+    let printed = match format!(in rt.alloc(); "{error}") {
+        Ok(text) if error.use_stderr() => print(errors, text.as_bytes()),
+        Ok(text) => print(writer, text.as_bytes()),
+        Err(_) => false,
+    };
+    Ending::Refused {
+        kind: error.kind(),
+        printed,
+    }
+}
+
+/// Writes the text: whether the whole of it was written.
+fn print<W: Sink>(writer: &mut W, text: &[u8]) -> bool
+    ensures { IsPrinted (meter W.held W.failures) writer.old writer.new text.now result }
+{
+    write_all(writer, text).is_ok()
+}

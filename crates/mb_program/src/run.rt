@@ -1,0 +1,162 @@
+//! The command `run`: producers and consumers in threads, and the report of what they did.
+ghost use Rattle.std.specs.Prelude.{◌≡◌, ◌≢◌, ◌≤◌, ◌↔◌, Err, IfOk, IsOk, MatchOption, OnOk, Some, map, vec_len};
+ghost use Rattle.std.specs.List.{range_with_len};
+ghost use Rattle.mb_script.specs.Vocabulary.{meter};
+ghost use Rattle.mb_world.specs.Setups.{plan_in};
+ghost use Rattle.mb_mailbox.specs.Worked.{lists_in};
+ghost use Rattle.mb_mailbox.specs.declared.working.WorkFault.TheVariants as work;
+ghost use Rattle.mb_program.specs.declared.fault.RunFault.TheVariants as run;
+ghost use Rattle.mb_program.specs.declared.fault.RunFault.TheVariants.{BadSetup, WriteFault};
+ghost use Rattle.mb_program.specs.Running.{AreFew, IsRun, IsRunReport, item_lists, items_of};
+ghost use Rattle.mb_program.specs.Running.{plan_asked, setup_refused};
+ghost use Rattle.mb_program.specs.Source.{source_from};
+
+use crate::fault::RunFault;
+use crate::options::Options;
+use crate::source::source_of;
+use mb_mailbox::{GatherFault, Mailbox, OpenGate, WorkFault, work};
+use mb_quorum::TableName;
+use mb_script::{Sink, report_text, write_all};
+use mb_world::{Report, Setup, SetupFault};
+use rand_chacha::ChaCha8Rng;
+use std::alloc::{AllocError, Allocator};
+use std::sync::Wait;
+use std::thread::Threads;
+
+/// The setup that the options ask for: a cell for each item, over the quorum table of bits.
+fn setup_of(options: Options) -> Result<Setup, SetupFault>
+    ensures refused { MatchOption (setup_refused options) (IsOk result) (λ why. result ≡ Err why) }
+    ensures made { IfOk result (λ setup. plan_in setup ≡ plan_asked options) }
+    ensures few { OnOk result (AreFew options) }
+{
+    // A product past the range of numbers is refused as the largest number is.
+    let cells = options.producers.saturating_mul(options.items);
+    Setup::new(
+        options.producers,
+        options.consumers,
+        cells,
+        options.pairs,
+        TableName::Bits,
+    )
+}
+
+/// The items of producer `p`, in the order in which it puts them.
+fn item_list<A: Allocator + Drop>(alloc: A, p: u64, items: u64) -> Result<Vec<u64, A>, AllocError>
+    requires { (p ≤ 16) × (items ≤ 256) }
+    ensures { IfOk result (λ list. list.items ≡ items_of p items) }
+{
+    let mut list = Vec::with_capacity(alloc, items as usize)?;
+    for i in 0..items {
+        list.push(1000 * p + i)?;
+    }
+    Ok(list)
+}
+
+/// The items of each producer.
+fn item_lists<A: Allocator + Copy + Drop>(
+    alloc: A,
+    producers: u64,
+    items: u64,
+) -> Result<Vec<Vec<u64, A>, A>, AllocError>
+    requires { (producers ≤ 16) × (items ≤ 256) }
+    ensures lists { IfOk result (λ lists. lists_in lists.items ≡ item_lists producers items) }
+    ensures count { IfOk result (λ lists. vec_len lists ≡ producers) }
+{
+    let mut lists = Vec::with_capacity(alloc, producers as usize)?;
+    for p in 0..producers {
+        lists.push(item_list(alloc, p, items)?)?;
+    }
+    Ok(lists)
+}
+
+/// The source of each consumer.
+fn sources<A: Allocator + Drop>(
+    alloc: A,
+    seed: u64,
+    consumers: u64,
+) -> Result<Vec<ChaCha8Rng, A>, AllocError>
+    requires { consumers ≤ 64 }
+    ensures words { IfOk result (λ rngs.
+        rngs.items ≡ map (source_from seed) (range_with_len 0 consumers)) }
+    ensures count { IfOk result (λ rngs. vec_len rngs ≡ consumers) }
+{
+    let mut rngs = Vec::with_capacity(alloc, consumers as usize)?;
+    for c in 0..consumers {
+        rngs.push(source_of(seed, c as u32))?;
+    }
+    Ok(rngs)
+}
+
+/// The fault of workers for whom there are numbers, and a budget.
+fn fault_of_work(fault: WorkFault) -> RunFault
+    requires numbers { fault ≢ work.AllGiven }
+    requires budget { fault ≢ work.BadBudget }
+    ensures no_memory { fault ≡ work.NoMemory → result ≡ run.NoMemory }
+    ensures no_thread { fault ≡ work.NoThread → result ≡ run.NoThread }
+    ensures refusal { (why : SetupFault) → result ≢ BadSetup why }
+    ensures no_device { result ≢ WriteFault }
+{
+    match fault {
+        WorkFault::NoMemory => RunFault::NoMemory,
+        WorkFault::NoThread => RunFault::NoThread,
+        WorkFault::AllGiven | WorkFault::BadBudget => unreachable!(),
+    }
+}
+
+/// The report of a mailbox whose producers have put all their items.
+fn report_of<A: Allocator + Copy + Drop + Send + Sync, T: Threads + Wait + Sync>(
+    alloc: A,
+    rt: &T,
+    options: Options,
+) -> Result<Report<A>, RunFault>
+    requires budget { 1 ≤ options.budget }
+    ensures report { IfOk result (λ r. IsRunReport options r) }
+    ensures refused { (why : SetupFault) → (result ≡ Err (BadSetup why))
+        ↔ (setup_refused options ≡ Some why) }
+    ensures no_device { result ≢ Err WriteFault }
+{
+    let setup = setup_of(options)?;
+    let lists = item_lists(alloc, options.producers, options.items)?;
+    let rngs = sources(alloc, options.seed, options.consumers)?;
+    let (mailbox, mut hub) = Mailbox::new(alloc, setup)?;
+    let worked = work(
+        alloc,
+        rt,
+        &mailbox,
+        &mut hub,
+        lists,
+        options.budget,
+        rngs,
+        &OpenGate,
+    );
+    if let Err(fault) = worked {
+        return Err(fault_of_work(fault));
+    }
+    match mailbox.gather(alloc, hub) {
+        Ok(report) => Ok(report),
+        Err((GatherFault::NoMemory, _, _)) => Err(RunFault::NoMemory),
+        Err((GatherFault::Missing(_, _), _, _)) => unreachable!(),
+    }
+}
+
+/// Lets producers and consumers work in threads, one for each, and writes the report of what they did and nothing else.
+///
+/// Producer `p` puts `1000 * p + i` for `i` from 0 below the number of items, and ends its lane; the consumers poll until
+/// all lanes have ended, each with the random words of its [`source_of`]. There is a cell for each item, and a number of
+/// cells past 2^64 - 1 is refused as every one above 256 is.
+///
+/// The whole text is made before the first write, and no failed write is tried again.
+pub fn run_threads<A: Allocator + Copy + Drop + Send + Sync, T: Threads + Wait + Sync, W: Sink>(
+    alloc: A,
+    rt: &T,
+    options: Options,
+    writer: &mut W,
+) -> Result<(), RunFault>
+    requires budget { 1 ≤ options.budget }
+    ensures { IsRun options (meter W.held W.failures) writer.old writer.new result }
+{
+    let report = report_of(alloc, rt, options)?;
+    let text = report_text(alloc, &report)?;
+    write_all(writer, text.as_bytes())?;
+    Ok(())
+}

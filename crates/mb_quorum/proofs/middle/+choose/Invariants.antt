@@ -1,0 +1,4 @@
+use Rattle.mb_quorum.proofs.middle.+choose.Given as goal
+
+abbrev pub decreases-choose : goal.decreases-choose
+decreases-choose l = l.registers

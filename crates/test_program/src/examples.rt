@@ -1,0 +1,80 @@
+//! The examples of the program: each is run as it stands, and both streams and the status are compared.
+//! `examples/README.md` says what each shows.
+
+pub mod claims;
+mod lanes;
+pub mod ratifiers;
+mod refused_replays;
+pub mod runs;
+
+use claims::CLAIMS;
+use lanes::LANES;
+use mb_program::program::run;
+use mb_program::status_of_ending;
+use mb_script::Counting;
+use ratifiers::RATIFIERS;
+use refused_replays::REFUSED_REPLAYS;
+use runs::RUNS;
+use std::sync::Wait;
+use std::thread::Threads;
+
+/// One run of the program: its command line and standard input, what goes to standard output and standard error, and
+/// the exit status.
+#[derive(Clone, Copy)]
+pub struct Example {
+    pub name: &'static str,
+    pub words: &'static [&'static str],
+    pub input: &'static str,
+    pub output: &'static str,
+    pub error: &'static str,
+    pub status: u8,
+}
+
+/// What both streams got, and the status.
+fn ended<R: AllocGlobal + Threads + Wait + Sync>(
+    rt: &R,
+    words: &[&str],
+    input: &str,
+) -> (Vec<u8>, Vec<u8>, u8) {
+    let mut reader = Counting::new(input.as_bytes());
+    let mut writer = Counting::new(Vec::<u8>::new(rt.alloc()));
+    let mut errors = Counting::new(Vec::<u8>::new(rt.alloc()));
+    let ending = run(rt, words, &mut reader, &mut writer, &mut errors);
+    (writer.device, errors.device, status_of_ending(&ending))
+}
+
+#[test]
+fn examples_are_as_they_stand(rt: HostRuntime) {
+    for examples in [CLAIMS, LANES, REFUSED_REPLAYS, RATIFIERS, RUNS] {
+        for example in examples {
+            let name = example.name;
+            let (output, error, status) = ended(&rt, example.words, example.input);
+            assert_eq!(rt;
+                (output.as_slice(), error.as_slice(), status),
+                (
+                    example.output.as_bytes(),
+                    example.error.as_bytes(),
+                    example.status
+                ),
+                "{name}"
+            );
+        }
+    }
+}
+
+// Help that was asked for goes to standard output, and why the words are refused to standard error.
+#[test]
+fn clap_has_a_stream_for_each_text(rt: HostRuntime) {
+    for (words, is_help) in [
+        (["mailbox", "--help"].as_slice(), true),
+        (["mailbox", "replay", "--help"].as_slice(), true),
+        (["mailbox"].as_slice(), false),
+        (["mailbox", "run", "--budget", "0"].as_slice(), false),
+    ] {
+        let (output, error, status) = ended(&rt, words, "");
+        assert_eq!(rt;
+            (output.is_empty(), error.is_empty(), status),
+            (!is_help, is_help, if is_help { 0 } else { 2 })
+        );
+    }
+}

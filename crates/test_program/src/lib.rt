@@ -1,0 +1,18 @@
+//! Tests of the program, which is proved without them: its examples, further scripts and command lines, devices that fail, and
+//! calls whose memory is refused.
+#![tactic(auto)]
+
+#[cfg(test)]
+mod command_line;
+#[cfg(test)]
+mod devices;
+#[cfg(test)]
+mod examples;
+#[cfg(test)]
+mod ratify;
+#[cfg(test)]
+mod refused_memory;
+#[cfg(test)]
+mod replay;
+#[cfg(test)]
+mod run;

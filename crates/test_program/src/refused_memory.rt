@@ -1,0 +1,127 @@
+//! Each growth of a call refused in turn: the call wants memory, keeps none and writes nothing, and is then served.
+
+use crate::examples::claims::{ITEM_TAKEN, ONE_LOSES};
+use crate::examples::ratifiers::LATE_INPUT;
+use crate::examples::runs::TWO_ITEMS;
+use crate::run::ALONE;
+use mailbox_rations::growths_refused;
+use mb_program::{Failed, RatifyFault, RunFault, fault_text, ratify_text, run_threads};
+use mb_script::{Counting, Fault, report_text, run};
+use mb_world::{Diary, LaneReport, Note, Report, SetupFault};
+use std::test::Fail;
+
+#[test]
+fn each_growth_of_ratify_text_refused(rt: HostRuntime) -> Result<(), Fail> {
+    let refused = growths_refused(&rt, |alloc| {
+        let mut reader = Counting::new(LATE_INPUT.input.as_bytes());
+        let mut writer = Counting::new(Vec::<u8>::new(rt.alloc()));
+        let result = ratify_text(alloc, &mut reader, &mut writer);
+        if result == Err(RatifyFault::NoMemory) {
+            assert_eq!(&rt; writer.device.len(), 0, "nothing is written");
+            return Ok(false);
+        }
+        assert_eq!(&rt; result, Ok(()));
+        assert_eq!(&rt; writer.device.as_slice(), LATE_INPUT.output.as_bytes());
+        Ok(true)
+    })?;
+    // The script's bytes, the inputs, the turns, the ratifier's processes, entries and outputs, and the text.
+    assert!(rt; 7 <= refused);
+    Ok(())
+}
+
+#[test]
+fn each_growth_of_run_refused(rt: HostRuntime) -> Result<(), Fail> {
+    // The script's bytes and its events, seven lists of the world, four or five of its report, its lane's cells for the lane
+    // and for each diary, and the text.
+    for (example, growths) in [(ITEM_TAKEN, 16), (ONE_LOSES, 18)] {
+        let refused = growths_refused(&rt, |alloc| {
+            let mut reader = Counting::new(example.input.as_bytes());
+            let mut writer = Counting::new(Vec::<u8>::new(rt.alloc()));
+            let result = run(alloc, &mut reader, &mut writer);
+            if result == Err(Fault::NoMemory) {
+                assert_eq!(&rt; writer.device.len(), 0, "nothing is written");
+                return Ok(false);
+            }
+            assert_eq!(&rt; result, Ok(()));
+            assert_eq!(&rt; writer.device.as_slice(), example.output.as_bytes());
+            Ok(true)
+        })?;
+        assert!(rt; growths <= refused, "{}", example.name);
+    }
+    Ok(())
+}
+
+#[test]
+fn each_growth_of_run_threads_refused(rt: HostRuntime) -> Result<(), Fail> {
+    let refused = growths_refused(&rt, |alloc| {
+        let mut writer = Counting::new(Vec::<u8>::new(rt.alloc()));
+        let result = run_threads(alloc, &rt, ALONE, &mut writer);
+        if result == Err(RunFault::NoMemory) {
+            assert_eq!(&rt; writer.device.len(), 0, "nothing is written");
+            return Ok(false);
+        }
+        assert_eq!(&rt; result, Ok(()));
+        assert_eq!(&rt; writer.device.as_slice(), TWO_ITEMS.output.as_bytes());
+        Ok(true)
+    })?;
+    // The items and their list, the sources, two lists of the hub and two of each table's words, nine growths of `work`, four
+    // lists of the report, and the text.
+    assert!(rt; 23 <= refused);
+    Ok(())
+}
+
+#[test]
+fn each_growth_of_report_text_refused(rt: HostRuntime) -> Result<(), Fail> {
+    let lane = LaneReport {
+        put: vec![in rt.alloc(); 0, 1]?,
+        ended: true,
+        left: Vec::new(rt.alloc()),
+    };
+    let diary = Diary {
+        consumer: 0,
+        lane: 0,
+        notes: vec![in rt.alloc(); Note::Took(0), Note::Took(1)]?,
+        begun: false,
+    };
+    let report = Report {
+        lanes: vec![in rt.alloc(); lane]?,
+        diaries: vec![in rt.alloc(); diary]?,
+    };
+    let refused = growths_refused(&rt, |alloc| match report_text(alloc, &report) {
+        Ok(text) => {
+            assert_eq!(&rt; text.as_str(), TWO_ITEMS.output);
+            Ok(true)
+        }
+        Err(_) => Ok(false),
+    })?;
+    assert!(rt; 1 <= refused);
+    Ok(())
+}
+
+#[test]
+fn each_growth_of_fault_text_refused(rt: HostRuntime) -> Result<(), Fail> {
+    for (failed, line) in [
+        (
+            Failed::Ratify(RatifyFault::BadInput(1_048_575)),
+            "fault 6 BadInput 1048575\n",
+        ),
+        (
+            Failed::Replay(Fault::BadSetup(1, SetupFault::BadProducers)),
+            "fault 6 BadSetup 1 1 BadProducers\n",
+        ),
+        (
+            Failed::Run(RunFault::BadSetup(SetupFault::BadCells)),
+            "fault 1 BadSetup 3 BadCells\n",
+        ),
+    ] {
+        let refused = growths_refused(&rt, |alloc| match fault_text(alloc, &failed) {
+            Ok(text) => {
+                assert_eq!(&rt; text.as_str(), line);
+                Ok(true)
+            }
+            Err(_) => Ok(false),
+        })?;
+        assert!(rt; 1 <= refused, "{line}");
+    }
+    Ok(())
+}

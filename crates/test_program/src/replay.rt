@@ -1,0 +1,157 @@
+//! The command `replay` on further scripts, and over devices that fail.
+
+use crate::devices::{Letters, NarrowWriter, SlowReader};
+use crate::examples::claims::ITEM_TAKEN;
+use mb_program::{Failed, fault_text, status_of};
+use mb_script::{Counting, Fault, run};
+use mb_world::SetupFault;
+use std::test::Fail;
+
+// The script, replayed: how the call ended, and what was written.
+fn replayed(rt: &HostRuntime, script: &str) -> (Result<(), Fault>, Vec<u8>) {
+    let mut reader = Counting::new(script.as_bytes());
+    let mut writer = Counting::new(Vec::<u8>::new(rt.alloc()));
+    let result = run(rt.alloc(), &mut reader, &mut writer);
+    (result, writer.device)
+}
+
+// Which fault a script has is tested with the reading of scripts. Here it has lines before and behind it that could be
+// answered, and nothing is written.
+#[test]
+fn a_fault_leaves_nothing_written(rt: HostRuntime) {
+    for (script, want) in [
+        (
+            "setup 0 0 300 0 bits\npush\n",
+            Fault::BadSetup(1, SetupFault::BadProducers),
+        ),
+        ("setup 1 1 1 1 bits\npush 0\npush\n", Fault::BadLine(3)),
+        ("setup 1 1 1 1 bits\npush 1\npush\n", Fault::NoLane(2)),
+        ("setup 1 1 1 1 bits\npush\npush \u{80}\n", Fault::NotAscii),
+    ] {
+        let (result, text) = replayed(&rt, script);
+        assert_eq!(rt; result, Err(want), "{script}");
+        assert_eq!(rt; text.len(), 0, "{script}");
+    }
+}
+
+#[test]
+fn a_script_has_a_limit_of_events(rt: HostRuntime) -> Result<(), Fail> {
+    let mut script = String::new(rt.alloc());
+    let mut want = String::new(rt.alloc());
+    script.push_str("setup 1 1 1 1 bits\n")?;
+    for _ in 0..20_000 {
+        script.push_str("push 0\n")?;
+        want.push_str("push 0 idle\n")?;
+    }
+    want.push_str("lane 0 open put\nleft 0\ndiary 0 0\n")?;
+    let (result, text) = replayed(&rt, script.as_str());
+    assert_eq!(rt; result, Ok(()));
+    assert!(rt; text.as_slice() == want.as_bytes());
+    script.push_str("x\n")?;
+    let (result, text) = replayed(&rt, script.as_str());
+    assert_eq!(rt; result, Err(Fault::TooManyEvents));
+    assert_eq!(rt; text.len(), 0);
+    Ok(())
+}
+
+#[test]
+fn devices_fail(rt: HostRuntime) -> Result<(), Fail> {
+    let read_fault = Err(Fault::ReadFault);
+    let write_fault = Err(Fault::WriteFault);
+    let (taken, taken_text) = (ITEM_TAKEN.input, ITEM_TAKEN.output);
+    for (script, reader_fails, room, writer_fails, want, written) in [
+        (taken, false, 1000, false, Ok(()), taken_text),
+        (taken, true, 1000, false, read_fault, ""),
+        ("", true, 1000, false, read_fault, ""),
+        (taken, false, 10, true, write_fault, "offer 0 7 "),
+        (taken, false, 10, false, write_fault, "offer 0 7 "),
+    ] {
+        let mut reader = Counting::new(SlowReader {
+            script: script.as_bytes(),
+            fails: reader_fails,
+        });
+        let mut writer = Counting::new(NarrowWriter {
+            taken: Vec::new(rt.alloc()),
+            room,
+            fails: writer_fails,
+        });
+        let result = run(rt.alloc(), &mut reader, &mut writer);
+        assert_eq!(rt;
+            (
+                result,
+                writer.device.taken.as_slice(),
+                reader.failures,
+                writer.failures
+            ),
+            (
+                want,
+                written.as_bytes(),
+                u64::from(reader_fails),
+                u64::from(want == write_fault)
+            )
+        );
+    }
+    Ok(())
+}
+
+#[test]
+fn reading_stops_past_the_limit(rt: HostRuntime) -> Result<(), Fail> {
+    for (left, fails, want) in [
+        (1_048_576, false, Fault::NoSetup),
+        (1_048_576, true, Fault::ReadFault),
+        (1_048_577, true, Fault::TooLong),
+        (1_048_578, false, Fault::TooLong),
+    ] {
+        let mut reader = Counting::new(Letters { left, fails });
+        let mut writer = Counting::new(Vec::<u8>::new(rt.alloc()));
+        let result = run(rt.alloc(), &mut reader, &mut writer);
+        assert_eq!(rt;
+            (result, reader.device.left, writer.device.len()),
+            (Err(want), left.saturating_sub(1_048_577), 0),
+            "{left}"
+        );
+    }
+    Ok(())
+}
+
+#[test]
+fn faults_have_a_line_and_a_status(rt: HostRuntime) -> Result<(), Fail> {
+    for (fault, line, status) in [
+        (Fault::TooLong, "fault 1 TooLong\n", 2),
+        (Fault::NotAscii, "fault 2 NotAscii\n", 2),
+        (Fault::BadLine(3), "fault 3 BadLine 3\n", 2),
+        (Fault::BadNumber(20_001), "fault 4 BadNumber 20001\n", 2),
+        (Fault::NoSetup, "fault 5 NoSetup\n", 2),
+        (
+            Fault::BadSetup(1, SetupFault::BadProducers),
+            "fault 6 BadSetup 1 1 BadProducers\n",
+            2,
+        ),
+        (
+            Fault::BadSetup(1, SetupFault::BadConsumers),
+            "fault 6 BadSetup 1 2 BadConsumers\n",
+            2,
+        ),
+        (
+            Fault::BadSetup(1, SetupFault::BadCells),
+            "fault 6 BadSetup 1 3 BadCells\n",
+            2,
+        ),
+        (
+            Fault::BadSetup(1, SetupFault::BadRounds),
+            "fault 6 BadSetup 1 4 BadRounds\n",
+            2,
+        ),
+        (Fault::NoLane(2), "fault 7 NoLane 2\n", 2),
+        (Fault::NoConsumer(2), "fault 8 NoConsumer 2\n", 2),
+        (Fault::TooManyEvents, "fault 9 TooManyEvents\n", 2),
+        (Fault::NoMemory, "fault 10 NoMemory\n", 3),
+        (Fault::ReadFault, "fault 11 ReadFault\n", 3),
+        (Fault::WriteFault, "fault 12 WriteFault\n", 3),
+    ] {
+        let failed = Failed::Replay(fault);
+        assert_eq!(rt; fault_text(rt.alloc(), &failed)?.as_str(), line);
+        assert_eq!(rt; status_of(&failed), status, "{line}");
+    }
+    Ok(())
+}

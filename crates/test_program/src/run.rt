@@ -1,0 +1,187 @@
+//! The command `run`: its report where that does not depend on the order of the threads, its faults, over writers that fail.
+
+use crate::devices::NarrowWriter;
+use crate::examples::runs::TWO_ITEMS;
+use mb_program::{Failed, Options, RunFault, fault_text, run_threads, source_of, status_of};
+use mb_script::Counting;
+use mb_world::SetupFault;
+use rand_core::Rng;
+use std::sync::Wait;
+use std::test::Fail;
+use std::thread::Threads;
+
+// What the example with two items asks for.
+pub const ALONE: Options = Options {
+    producers: 1,
+    consumers: 1,
+    items: 2,
+    pairs: 1,
+    budget: 64,
+    seed: 0,
+};
+
+// What the call answered, and what was written.
+fn reported<R: AllocGlobal + Threads + Wait + Sync>(
+    rt: &R,
+    options: Options,
+) -> (Result<(), RunFault>, Vec<u8>) {
+    // Each budget here is 1 or more, as the call asks, but a loop over options does not tell.
+    let options = Options {
+        budget: options.budget.max(1),
+        ..options
+    };
+    let mut writer = Counting::new(Vec::<u8>::new(rt.alloc()));
+    let result = run_threads(rt.alloc(), rt, options, &mut writer);
+    (result, writer.device)
+}
+
+#[test]
+fn workers_are_reported(rt: HostRuntime) {
+    for (options, want) in [
+        (ALONE, TWO_ITEMS.output),
+        (
+            Options {
+                budget: 1,
+                seed: u64::MAX,
+                ..ALONE
+            },
+            TWO_ITEMS.output,
+        ),
+        (
+            Options {
+                budget: u64::MAX,
+                pairs: 8,
+                ..ALONE
+            },
+            TWO_ITEMS.output,
+        ),
+        (
+            Options { items: 0, ..ALONE },
+            "lane 0 ended put\nleft 0\ndiary 0 0\n",
+        ),
+        (
+            Options {
+                producers: 2,
+                items: 1,
+                ..ALONE
+            },
+            "lane 0 ended put 0\nleft 0\nlane 1 ended put 1000\nleft 1\ndiary 0 0 took 0\ndiary 0 1 took 1000\n",
+        ),
+        (
+            Options {
+                producers: 2,
+                consumers: 2,
+                items: 0,
+                ..ALONE
+            },
+            "lane 0 ended put\nleft 0\nlane 1 ended put\nleft 1\ndiary 0 0\ndiary 0 1\ndiary 1 0\ndiary 1 1\n",
+        ),
+    ] {
+        let (result, text) = reported(&rt, options);
+        assert_eq!(rt; result, Ok(()));
+        assert_eq!(rt; text.as_slice(), want.as_bytes());
+    }
+}
+
+// Whoever takes them, all items are put and all lanes have ended.
+#[test]
+fn items_are_put(rt: HostRuntime) -> Result<(), Fail> {
+    let options = Options {
+        producers: 3,
+        consumers: 4,
+        items: 3,
+        pairs: 2,
+        budget: 5,
+        seed: 7,
+    };
+    let (result, text) = reported(&rt, options);
+    let Ok(text) = str::from_utf8(text.as_slice()) else {
+        return Err(Fail::from("a report is a text"));
+    };
+    let lane_0 = text.starts_with("lane 0 ended put 0 1 2\nleft 0");
+    let lane_1 = text.contains("\nlane 1 ended put 1000 1001 1002\nleft 1");
+    let lane_2 = text.contains("\nlane 2 ended put 2000 2001 2002\nleft 2");
+    let last_diary = text.contains("\ndiary 3 2 ");
+    assert_eq!(rt;
+        (result, lane_0, lane_1, lane_2, last_diary),
+        (Ok(()), true, true, true, true)
+    );
+    Ok(())
+}
+
+#[test]
+fn setups_are_refused(rt: HostRuntime) -> Result<(), Fail> {
+    let most = u64::MAX;
+    for (producers, consumers, items, pairs, why, line) in [
+        (0, 1, 2, 1, SetupFault::BadProducers, "1 BadProducers"),
+        (17, 0, 257, 0, SetupFault::BadProducers, "1 BadProducers"),
+        (most, 1, most, 1, SetupFault::BadProducers, "1 BadProducers"),
+        (1, 0, 257, 0, SetupFault::BadConsumers, "2 BadConsumers"),
+        (1, 65, 1, 1, SetupFault::BadConsumers, "2 BadConsumers"),
+        (1, 1, 257, 0, SetupFault::BadCells, "3 BadCells"),
+        (1, 1, 257, 1, SetupFault::BadCells, "3 BadCells"),
+        (2, 1, 129, 1, SetupFault::BadCells, "3 BadCells"),
+        (16, 1, 1 << 60, 1, SetupFault::BadCells, "3 BadCells"),
+        (16, 1, most, 1, SetupFault::BadCells, "3 BadCells"),
+        (1, 1, 256, 0, SetupFault::BadRounds, "4 BadRounds"),
+        (2, 1, 128, 9, SetupFault::BadRounds, "4 BadRounds"),
+    ] {
+        let options = Options {
+            producers,
+            consumers,
+            items,
+            pairs,
+            budget: 64,
+            seed: 0,
+        };
+        let (result, written) = reported(&rt, options);
+        let fault = RunFault::BadSetup(why);
+        let failed = Failed::Run(fault);
+        let text = fault_text(rt.alloc(), &failed)?;
+        let want = format!(in rt.alloc(); "fault 1 BadSetup {line}\n")?;
+        assert_eq!(rt;
+            (result, written.len(), text.as_str(), status_of(&failed)),
+            (Err(fault), 0, want.as_str(), 2)
+        );
+    }
+    Ok(())
+}
+
+#[test]
+fn faults_have_a_line_and_a_status(rt: HostRuntime) -> Result<(), Fail> {
+    for (fault, line) in [
+        (RunFault::NoMemory, "fault 2 NoMemory\n"),
+        (RunFault::NoThread, "fault 3 NoThread\n"),
+        (RunFault::WriteFault, "fault 4 WriteFault\n"),
+    ] {
+        let failed = Failed::Run(fault);
+        assert_eq!(rt; fault_text(rt.alloc(), &failed)?.as_str(), line);
+        assert_eq!(rt; status_of(&failed), 3, "{line}");
+    }
+    Ok(())
+}
+
+// A writer that takes 10 bytes, and then fails or takes none, and one that takes none from the first on.
+#[test]
+fn writers_fail(rt: HostRuntime) {
+    for (room, fails, want, written) in [
+        (1000, false, Ok(()), TWO_ITEMS.output),
+        (10, true, Err(RunFault::WriteFault), "lane 0 end"),
+        (10, false, Err(RunFault::WriteFault), "lane 0 end"),
+        (0, false, Err(RunFault::WriteFault), ""),
+    ] {
+        let mut writer = Counting::new(NarrowWriter {
+            taken: Vec::new(rt.alloc()),
+            room,
+            fails,
+        });
+        assert_eq!(rt; run_threads(rt.alloc(), &rt, ALONE, &mut writer), want);
+        assert_eq!(rt; writer.device.taken.as_slice(), written.as_bytes());
+    }
+}
+
+// The first block of ChaCha with 8 rounds, a key of zeros and stream 0 begins with the bytes 3e 00 ef 2f 89 5f 40 d6.
+#[test]
+fn sources_have_known_words(rt: HostRuntime) {
+    assert_eq!(rt; source_of(0, 0).next_u64(), 0xd640_5f89_2fef_003e);
+}
