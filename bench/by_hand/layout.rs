@@ -5,6 +5,46 @@ use std::sync::atomic::AtomicU64;
 /// The cells of a block of words, and of a mailbox.
 pub const CELLS: usize = 256;
 
+/// The most consumers of a layout.
+pub const MAX_CONSUMERS: usize = 64;
+
+/// The table of the ratifiers' quorums.
+#[derive(Clone, Copy)]
+pub enum Table {
+    Unary,
+    Bits,
+    Middle,
+}
+
+impl Table {
+    pub fn of(name: &str) -> Option<Table> {
+        match name {
+            "unary" => Some(Table::Unary),
+            "bits" => Some(Table::Bits),
+            "middle" => Some(Table::Middle),
+            _ => None,
+        }
+    }
+
+    /// How many registers there are, and the write quorum of each value. A read quorum is the other registers.
+    fn quorums(self, values: u32, width: u32) -> (u32, Vec<u64>) {
+        match self {
+            Table::Unary => (values, (0..values).map(|value| 1 << value).collect()),
+            Table::Bits => {
+                let quorum = |value: u32| (0..width).map(|i| 1 << (2 * i + (value >> i & 1))).sum();
+                (2 * width, (0..values).map(quorum).collect())
+            }
+            Table::Middle => {
+                let halves = |registers: u32| {
+                    (0..1u64 << registers).filter(move |mask| mask.count_ones() == registers / 2)
+                };
+                let registers = (0..).find(|&it| halves(it).count() >= values as usize).unwrap();
+                (registers, halves(registers).take(values as usize).collect())
+            }
+        }
+    }
+}
+
 pub struct Layout {
     pub consumers: u32,
     pub pairs: usize,
@@ -12,27 +52,19 @@ pub struct Layout {
     pub modulus: u64,
     pub pair_words: usize,
     pub cell_words: usize,
-    pub write: [u64; 16],
-    pub read: [u64; 16],
+    pub write: [u64; MAX_CONSUMERS],
+    pub read: [u64; MAX_CONSUMERS],
 }
 
 impl Layout {
-    pub fn new(consumers: u32, pairs: usize, bits: bool) -> Layout {
+    pub fn new(consumers: u32, pairs: usize, table: Table) -> Layout {
         let width = u64::BITS - u64::from(consumers - 1).leading_zeros();
-        let registers = if bits { 2 * width } else { consumers };
-        let (mut write, mut read) = ([0; 16], [0; 16]);
-        for value in 0..consumers {
-            let at = value as usize;
-            if bits {
-                for i in 0..width {
-                    let bit = value >> i & 1;
-                    write[at] |= 1 << (2 * i + bit);
-                    read[at] |= 1 << (2 * i + 1 - bit);
-                }
-            } else {
-                write[at] = 1 << value;
-                read[at] = ((1 << consumers) - 1) & !(1 << value);
-            }
+        let (registers, quorums) = table.quorums(consumers, width);
+        let all = u64::MAX.checked_shr(u64::BITS - registers).unwrap_or(0);
+        let (mut write, mut read) = ([0; MAX_CONSUMERS], [0; MAX_CONSUMERS]);
+        for (value, quorum) in quorums.into_iter().enumerate() {
+            write[value] = quorum;
+            read[value] = all & !quorum;
         }
         let pair_words = 2 + registers as usize;
         Layout {

@@ -14,7 +14,7 @@ mod play;
 mod ratify;
 mod source;
 
-use layout::Layout;
+use layout::{Layout, MAX_CONSUMERS, Table};
 
 /// How many pairs of objects each cell has.
 const PAIRS: usize = 4;
@@ -22,13 +22,14 @@ const PAIRS: usize = 4;
 fn main() {
     let words: Vec<String> = std::env::args().skip(1).collect();
     let [shape, table, consumers, times] = &words[..] else {
-        eprintln!("usage: by_hand words|lone|contended|tables|shared|mail|mailboxes|puts|mailbox|play|ratify bits|unary CONSUMERS TIMES");
+        eprintln!("usage: by_hand words|lone|contended|tables|shared|mail|mailboxes|puts|mailbox|play|ratify bits|unary|middle CONSUMERS TIMES");
         std::process::exit(2);
     };
     let number = |text: &String| text.parse::<u64>().expect("a number");
     let (consumers, times) = (number(consumers), number(times));
-    assert!((1..=16).contains(&consumers), "1 to 16 consumers");
-    let layout = Layout::new(consumers as u32, PAIRS, table == "bits");
+    assert!((1..=MAX_CONSUMERS as u64).contains(&consumers), "1 to {MAX_CONSUMERS} consumers");
+    let table_name = Table::of(table).expect("a table");
+    let layout = Layout::new(consumers as u32, PAIRS, table_name);
     let said = match shape.as_str() {
         "words" => format!("{} words", loops::words_alone(&layout, times)),
         "lone" => loops::lone(&layout, times).to_string(),

@@ -124,6 +124,7 @@ impl fmt::Display for Choice {
         let name = match self.name {
             TableName::Unary => "unary",
             TableName::Bits => "bits",
+            TableName::Middle => "middle",
         };
         let consumers = self.layout.consumers();
         let times = self.times;
@@ -158,6 +159,7 @@ fn name_of(text: &str) -> Option<TableName> {
     match text {
         "unary" => Some(TableName::Unary),
         "bits" => Some(TableName::Bits),
+        "middle" => Some(TableName::Middle),
         _ => None,
     }
 }

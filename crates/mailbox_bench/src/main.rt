@@ -37,7 +37,7 @@ fn main(rt: HostRuntime) -> io::Result<ExitCode> {
         return Ok(ExitCode::SUCCESS);
     }
     let Some(choice) = Choice::of(words) else {
-        eprintln!(rt; "usage: mailbox_bench [SHAPE bits|unary CONSUMERS TIMES]")?;
+        eprintln!(rt; "usage: mailbox_bench [SHAPE bits|unary|middle CONSUMERS TIMES]")?;
         return Ok(ExitCode::from(REFUSED));
     };
     run(&rt, &choice)?;

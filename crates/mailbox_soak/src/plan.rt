@@ -53,7 +53,7 @@ impl Plan {
     /// The plan of a run of a seed.
     pub fn of(seed: u64, number: u64) -> Plan
         ensures producers { (1 ≤ result.producers) × (result.producers ≤ 16) }
-        ensures consumers { (1 ≤ result.consumers) × (result.consumers ≤ 16) }
+        ensures consumers { (1 ≤ result.consumers) × (result.consumers ≤ 64) }
         ensures cells { result.cells ≤ 256 }
         ensures pairs { (1 ≤ result.pairs) × (result.pairs ≤ 8) }
         ensures budget { (1 ≤ result.budget) × (result.budget ≤ 64) }
@@ -61,7 +61,7 @@ impl Plan {
     {
         let mut rng = chacha(seed, number, 0);
         let producers = drawn(&mut rng, 1, 16);
-        let consumers = drawn(&mut rng, 1, 16);
+        let consumers = drawn(&mut rng, 1, 64);
         let cells = if is_even(&mut rng) {
             256
         } else {
@@ -83,10 +83,10 @@ impl Plan {
             consumers,
             cells,
             pairs: drawn(&mut rng, 1, 8),
-            table: if is_even(&mut rng) {
-                TableName::Bits
-            } else {
-                TableName::Unary
+            table: match drawn(&mut rng, 0, 3) {
+                0 => TableName::Unary,
+                1 => TableName::Bits,
+                _ => TableName::Middle,
             },
             items,
             budget: drawn(&mut rng, 1, 64),
