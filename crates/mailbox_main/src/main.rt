@@ -1,13 +1,11 @@
 //! The program: it hands the words of the command line and the standard streams to `mb_program`, and ends with its status.
 #![tactic(auto)]
 
-use std::io;
-use std::process::ExitCode;
-
 pub use mb_program::{command_of, fault_text, ratify_text, run_threads, source_of, status_of};
-
 use mb_program::{Ending, program, status_of_ending};
 use mb_script::Counting;
+use std::io;
+use std::process::ExitCode;
 
 fn main(rt: HostRuntime) -> ExitCode {
     let mut reader = Counting::new(rt.reader());
