@@ -1,7 +1,7 @@
 #!/usr/bin/env python3
 """Runs `mailbox run` many times with random options, and checks what each report says by itself.
 
-    bench/check_reports.py                      # 200 runs, of up to 16 producers and consumers and up to 256 items
+    bench/check_reports.py                      # 200 runs, of up to 16 producers, 64 consumers and 256 items
     bench/check_reports.py --items 1000000      # runs until so many items were put
     bench/check_reports.py --program PATH --seed N
 
@@ -91,7 +91,7 @@ def main():
     pick = random.Random(given.seed)
     counts, runs, items, slowest, begin = collections.Counter(), 0, 0, 0.0, time.time()
     while runs < given.runs or items < given.items:
-        producers, consumers = pick.randint(1, 16), pick.randint(1, 16)
+        producers, consumers = pick.randint(1, 16), pick.randint(1, 64)
         each = 256 // producers if pick.random() < 0.5 else pick.randint(0, 256 // producers)
         options = dict(producers=producers, consumers=consumers, items=each, pairs=pick.randint(1, 8),
                        budget=pick.randint(1, 64), seed=pick.randrange(2**64))

@@ -1,7 +1,7 @@
 #!/usr/bin/env python3
 """Counts the instructions of the libraries' loops and of the same loops by hand, and prints a table of both.
 
-usage: bench/count.py [--shapes lone,mail] [--tables bits,unary] [--consumers 2,4,16] [--keep]
+usage: bench/count.py [--shapes lone,mail] [--tables bits,unary,middle] [--consumers 2,4,16,64] [--keep]
 
 Both programs are built first: `mailbox_bench` by `rt run`, which proves it, and `by_hand` by rustc. Then callgrind counts
 the instructions of each at two sizes, so that the start of the program falls out; the counts repeat exactly. Both have to
@@ -76,8 +76,8 @@ def row(shape, table, consumers):
 def main():
     parser = argparse.ArgumentParser()
     parser.add_argument("--shapes", default="lone,contended,shared,mail,puts,mailbox,play,ratify")
-    parser.add_argument("--tables", default="bits,unary")
-    parser.add_argument("--consumers", default="1,2,4,16")
+    parser.add_argument("--tables", default="bits,unary,middle")
+    parser.add_argument("--consumers", default="1,2,4,16,64")
     parser.add_argument("--keep", action="store_true")
     options = parser.parse_args()
     if not options.keep:

@@ -17,11 +17,11 @@ pub fn mailboxes_alone<A: Allocator + Copy + Drop>(
     choice: &Choice,
 ) -> Result<u64, AllocError> {
     let mut made = 0u64;
+    let Some(setup) = setup_of(choice) else {
+        return Ok(made);
+    };
     for _ in 0..choice.times {
-        let Some(setup) = setup_of(choice) else {
-            break;
-        };
-        let (mailbox, mut hub) = Mailbox::new(alloc, setup)?;
+        let (mailbox, mut hub) = Mailbox::new(alloc, setup.copy())?;
         if hub.producer(alloc, &mailbox).is_err() {
             return Err(AllocError);
         }
@@ -33,11 +33,11 @@ pub fn mailboxes_alone<A: Allocator + Copy + Drop>(
 /// So many mailboxes that are filled, and nothing else. The answer is how many items were put.
 pub fn puts<A: Allocator + Copy + Drop>(alloc: A, choice: &Choice) -> Result<u64, AllocError> {
     let mut items = 0u64;
+    let Some(setup) = setup_of(choice) else {
+        return Ok(items);
+    };
     for time in 0..choice.times {
-        let Some(setup) = setup_of(choice) else {
-            break;
-        };
-        let (mailbox, mut hub) = Mailbox::new(alloc, setup)?;
+        let (mailbox, mut hub) = Mailbox::new(alloc, setup.copy())?;
         let Ok(mut producer) = hub.producer(alloc, &mailbox) else {
             return Err(AllocError);
         };
@@ -53,11 +53,11 @@ pub fn mailboxes<A: Allocator + Copy + Drop, R: Rng>(
     rng: &mut R,
 ) -> Result<Post, AllocError> {
     let mut post = Post::new();
+    let Some(setup) = setup_of(choice) else {
+        return Ok(post);
+    };
     for time in 0..choice.times {
-        let Some(setup) = setup_of(choice) else {
-            break;
-        };
-        let (mailbox, mut hub) = Mailbox::new(alloc, setup)?;
+        let (mailbox, mut hub) = Mailbox::new(alloc, setup.copy())?;
         let Ok(mut producer) = hub.producer(alloc, &mailbox) else {
             return Err(AllocError);
         };

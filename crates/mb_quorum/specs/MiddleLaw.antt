@@ -52,7 +52,7 @@ last_in n x small =
     let same : n - n ≡ 0 = omega arith in
     ap (λ k. bit_at k n) shape ∙ bit_at_cat_high 1 n x n small (omega arith) ∙ ap (bit_at 1) same ∙ bit_at_lowest 1
 
--- another register is in it exactly where it is in the rest
+-- another register is in it exactly if it is in the rest
 other_in : (n x r : ℕ) → r < n → bit_at (2 ^ n + x) r ≡ bit_at x r
 other_in n x r below =
     let shape : 2 ^ n + x ≡ 1 * 2 ^ n + x = omega arith in
@@ -63,7 +63,7 @@ other_in n x r below =
 abbrev IsWithin : ℕ → ℕ → Type 0
 IsWithin a b = (r : ℕ) → IsMember a r → IsMember b r
 
--- where the last register is in neither or in both, the rests lie within each other
+-- if the last register is in neither or in both, the rests lie within each other
 rests_within :
     (n x y : ℕ) → x < 2 ^ n → y < 2 ^ n → ((r : ℕ) → r < n → IsMember x r → IsMember y r) → IsWithin x y
 rests_within n x y small little within r member =
@@ -72,7 +72,7 @@ rests_within n x y small little within r member =
       | inr above ↦ absurd (omega (arith, member, bit_at_above x n r small above))
     ]
 
--- a set within another is no larger, and where it is as large it is the same one
+-- a set within another is no larger, and if it is as large it is the same one
 pub one_within :
     (n a b v w : ℕ) → v < choose n a → w < choose n b → IsWithin (set_number n a v) (set_number n b w)
     → (a ≤ b) × (a ≡ b → v ≡ w)
@@ -237,7 +237,7 @@ halves_below-le (suc n) m =
       | inr h ↦ omega (arith, passed_over n m h, halves_below-le n m)
     ]
 
--- where the largest is below m, all are
+-- if the largest is below m, all are
 all_below : (n m : ℕ) → halves n < m → halves_below n m ≡ n
 all_below zero m h = refl
 all_below (suc n) m h =
@@ -284,7 +284,7 @@ breadth_is_least m = record { enough = enough_halves m m (self_within m); least 
 pub one_breadth : (m a b : ℕ) → IsLeastBreadth m a → IsLeastBreadth m b → a ≡ b
 one_breadth m a b x y = omega (arith, x.least b y.enough, y.least a x.enough)
 
--- where all that are smaller are below m, a number that is enough is the least
+-- if all that are smaller are below m, a number that is enough is the least
 pub least_so_far : (m n : ℕ) → m ≤ halves n → ((c : ℕ) → c < n → halves c < m) → n ≡ breadth_of m
 least_so_far m n enough smaller =
     one_breadth m n (breadth_of m)
@@ -346,7 +346,7 @@ apart m v w one r in_write in_read =
     let written : IsMember x r = subst (λ u. IsMember (set_number k (k / 2) u) r) one in_write in
     omega (arith, other, written, in_read)
 
--- where the quorums of two values share no register, the values are one
+-- if the quorums of two values share no register, the values are one
 meet : (m v w : ℕ) → v < m → w < m → AreDisjoint ((middle_table m).write v) ((middle_table m).read w) → v ≡ w
 meet m v w written seen disjoint =
     let k : ℕ = breadth_of m in

@@ -18,7 +18,7 @@ named_lawful Bits m most = bits_lawful m most
 named_lawful Middle m most = middle_lawful m most
 
 -- it has so many values
-named_values : (name : TableName) (m : ℕ) → (table_of name m).values ≡ m
+pub named_values : (name : TableName) (m : ℕ) → (table_of name m).values ≡ m
 named_values Unary m = refl
 named_values Bits m = refl
 named_values Middle m = refl

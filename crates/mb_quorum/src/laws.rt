@@ -1,8 +1,8 @@
 //! Facts about the tables, each the contract of a function that computes nothing, for proofs that stand on them.
 //!
 //! A law that is not proved by its contract alone has its proof in `proofs/laws`, in a folder of its name; the lemmas
-//! that say that a table is lawful stand beside the tables, in `specs/UnaryLaw.antt`, `BitsLaw.antt` and
-//! `TablesLaw.antt`.
+//! that say that a table is lawful stand beside the tables, in `specs/UnaryLaw.antt`, `BitsLaw.antt`, `MiddleLaw.antt`
+//! and `TablesLaw.antt`.
 
 ghost use Rattle.std.specs.Prelude.{◌≡◌, ◌≢◌, ℕ, ◌+◌, ◌-◌, ◌*◌, ◌/◌, ◌^◌, ◌<◌, ◌≤◌, ◌↔◌, bit_and, count_ones};
 ghost use Rattle.std.specs.Int.{bit_at};

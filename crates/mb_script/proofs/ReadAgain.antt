@@ -7,6 +7,7 @@ use Rattle.std.proofs.lemmas.Bool.{lt-ltb, le-ltb}
 use Rattle.std.proofs.lemmas.Bool.Decides.{nat_tests}
 use Rattle.mb_quorum.specs.declared.table.TableName.{TableName}
 use Rattle.mb_quorum.specs.declared.table.TableName.TheVariants.{Unary, Bits, Middle}
+use Rattle.mb_quorum.specs.TablesLaw.{named_values}
 use Rattle.mb_world.specs.declared.event.Event.{Event}
 use Rattle.mb_world.specs.declared.event.Event.TheVariants.{Offer, Push, Finish, Step}
 use Rattle.mb_world.specs.declared.setup.SetupFault.{SetupFault}
@@ -53,9 +54,7 @@ sizes_small p c m k e =
 
 -- the consumers of a plan are those it was made of
 pub consumers_are : (p c m k : ℕ) (t : TableName) → consumers_of (plan_of p c m k t) ≡ c
-consumers_are p c m k Unary = refl
-consumers_are p c m k Bits = refl
-consumers_are p c m k Middle = refl
+consumers_are p c m k t = named_values t c
 
 -- the plan of sizes
 abbrev pub plan_for : Sizes → Plan

@@ -53,8 +53,8 @@ impl Setup {
     ghost use Rattle.mb_world.specs.Setups.{layout_of, pairs_in, plan_in, plan_of, setup_refusal};
 
     /// The setup of so many producers (1 to 16), consumers (1 to 64) and cells (0 to 256), with so many pairs of deciding
-    /// objects (1 to 8) for each cell over the quorum table of this name. Where several numbers are out of range, the first of them is told, in the order
-    /// of [`SetupFault`].
+    /// objects (1 to 8) for each cell over the quorum table of this name. If several numbers are out of range, the fault
+    /// is the first of them, in the order of [`SetupFault`].
     pub fn new(
         producers: u64,
         consumers: u64,

@@ -61,8 +61,8 @@ fn most_accesses(consumers: u64, pairs: u64, name: TableName) -> Result<(u64, u6
 
 #[test]
 fn claims_on_spoiled_words_end_within_their_bound(rt: HostRuntime) -> Result<(), Fail> {
-    for name in [TableName::Unary, TableName::Bits] {
-        for (consumers, pairs) in [(1, 1), (2, 1), (3, 2), (16, 8)] {
+    for name in [TableName::Unary, TableName::Bits, TableName::Middle] {
+        for (consumers, pairs) in [(1, 1), (2, 1), (3, 2), (64, 8)] {
             let (made, bound) = most_accesses(consumers, pairs, name)?;
             assert!(rt;
                 made <= bound,

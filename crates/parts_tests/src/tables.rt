@@ -18,10 +18,14 @@ fn shape<Q: Quorums>(table: &Q, v: u32) -> (u32, u32, Option<(u64, u64)>) {
 }
 
 #[test]
-fn unary_of_three_values(rt: HostRuntime) -> Result<(), Fail> {
+fn unary_of_three_values_and_of_seventeen(rt: HostRuntime) -> Result<(), Fail> {
     let want = (3, 3, Some((2, 5)));
     assert_eq!(rt; shape(&Unary::new(3)?, 1), want);
     assert_eq!(rt; shape(&Table::new(TableName::Unary, 3)?, 1), want);
+    assert_eq!(rt;
+        shape(&Unary::new(17)?, 16),
+        (17, 17, Some((0x10000, 0xffff)))
+    );
     Ok(())
 }
 
@@ -117,7 +121,7 @@ fn most_values(rt: HostRuntime) -> Result<(), Fail> {
         )
     );
     let table = Middle::new(64)?;
-    // Sets of four of eight registers: 0 to 3, and then 0, 1, 3 and 4, which no other order of these sets has third.
+    // Sets 0 and 2 of four of eight registers: 0 to 3, and 0, 1, 3 and 4. By lists the third would be 0, 1, 2 and 5.
     assert_eq!(rt; (table.write_quorum(0), table.write_quorum(2)), (15, 27));
     Ok(())
 }

@@ -68,7 +68,7 @@ impl<A: Allocator + Clone + Drop> World<A> {
             (consumers_of (plan_in self.now.setup) * (plan_in self.now.setup).lanes) ds.items) }
     {
         let lanes = self.setup.producers() as u32;
-        let consumers = self.setup.layout().consumers();
+        let consumers = self.setup.as_layout().consumers();
         let mut diaries = Vec::with_capacity(alloc.clone()?, consumers as usize * lanes as usize)?;
         for c in 0..consumers {
             for p in 0..lanes {
@@ -154,7 +154,7 @@ impl<A: Allocator + Clone + Drop> World<A> {
         requires { k < (plan_in self.now.setup).claims.cells }
         ensures { result ≡ is_taken_on self.now k }
     {
-        for c in 0..self.setup.layout().consumers() {
+        for c in 0..self.setup.as_layout().consumers() {
             if let Some(Note::Took(_)) = self.note(c, k) {
                 return true;
             }
