@@ -12,7 +12,7 @@ pub returns-in-Some-Took : goal.returns-in-Some-Took
 returns-in-Some-Took g c =
     let s = c.args.self.now in
     let count : c.consumers-c-end.result ≡ consumers_of (plan_in s.setup) =
-    c.consumers-c-end.ensures ∙ (ap consumer_count c.layout.ensures
+    c.consumers-c-end.ensures ∙ (ap consumer_count c.as_layout.ensures
     ∙ ap (λ (w : WorldState). consumers_of (plan_in w.setup)) c.self.view_is) in
     sym (any_below-some (consumers_of (plan_in s.setup)) c.loop-c.c (λ d. is_took (note_on s d c.args.k))
     (subst (λ n. c.loop-c.c < n) count c.loop-c-test.true)
