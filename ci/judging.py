@@ -7,6 +7,19 @@ NAMES = re.compile(r"has no field|is not in scope|has no `|was not admitted|whic
 UNREAD = re.compile(r"is not in scope|has no field|is no name|operand is missing|expected the end|cannot continue")
 
 
+# The last line of a check that came to its end.
+ENDED = re.compile(r"only=\d+ proved=\d+\b")
+
+
+def unended(status, said):
+    """Why the check's output judges nothing, or nothing: it has to end by itself, with the prover's last line."""
+    last = said.rstrip().rpartition("\n")[2]
+    if status in (0, 1) and ENDED.match(last):
+        return ""
+    how = f"was killed by signal {-status}" if status < 0 else f"ended with status {status}"
+    return f"its check {how}, and said at last: {last}"
+
+
 def errors_in(place, said):
     """The prover's errors in the files whose names begin so, each with the lines that go on with it."""
     return re.findall(rf"^(?:\./)?({re.escape(place)}\S*?:\d+:\d+: error.*(?:\n  .*)*)", said, re.M)

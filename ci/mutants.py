@@ -4,9 +4,11 @@
 A mutant is a crate with one mistake in it, written as a file NAME.edit of these lines:
     refuses: CRATE::MODULE::FUNCTION   the function whose own contract has to refuse the mistake
     alone: WHY                         only if it cannot be judged beside other mutants
-    file: src/FILE.rt                  then `old: TEXT` and `new: TEXT`; the old text stands in that file once
-A control is a file NAME.control with `proves:` in place of `refuses:`. It changes nothing that matters, so the
-function has to come out proved. Each crate with mutants has one: it shows that a check does not refuse everything.
+    file: src/FILE.rt                  then `old: TEXT` and `new: TEXT`: the old text stands once in that file,
+                                       and in that function, or in an import, if there is no `alone:`
+A control is a file NAME.control with `proves:` in place of `refuses:`. It changes nothing that matters, so its
+function has to come out proved. Each crate with mutants has one, and it stands in each check but those of mutants that
+go alone. It shows that the check does not refuse everything.
 
 The mutants of different functions share one check, since a proof reads the contracts of what is called and no bodies.
 A check reads the libraries below its crate from their out/rlib. They are built if they are missing or old.
@@ -17,7 +19,6 @@ import dataclasses
 import importlib.machinery
 import importlib.util
 import os
-import re
 import shutil
 import subprocess
 import sys
@@ -25,111 +26,17 @@ import tempfile
 import threading
 from concurrent.futures import ThreadPoolExecutor
 
-from judging import judged
+import edits
+import machine
+from judging import judged, unended
 
 TOP = os.path.dirname(os.path.dirname(os.path.abspath(__file__)))
 # The most that one check has been seen to take, with some room, in bytes.
 MEMORY = 2_000_000_000
 
 
-class Fault(Exception):
-    """Why a mutant cannot be tried."""
-
-
-@dataclasses.dataclass(frozen=True)
-class Edit:
-    """A mutant or a control: where it stands, the function that it speaks of, and what it changes."""
-
-    label: str
-    function: str
-    is_control: bool
-    alone: str
-    changes: tuple  # of (file, old text, new text)
-
-    def applied(self, folder, texts):
-        """The texts of the changed files by their names, on top of `texts`, which other edits have changed."""
-        texts = dict(texts)
-        for path, old, new in self.changes:
-            if path not in texts:
-                try:
-                    with open(f"{folder}/{path}", encoding="utf-8") as file:
-                        texts[path] = file.read()
-                except OSError:
-                    raise Fault(f"there is no file {path}") from None
-            if texts[path].count(old) != 1:
-                raise Fault(f"the text `{old}` is in {path} {texts[path].count(old)} times, and not once")
-            texts[path] = texts[path].replace(old, new)
-        return texts
-
-
-def read_edit(label, text):
-    """The mutant or control that a file says, by its lines."""
-    said, changes, path, old = {}, [], "", ""
-    for line in filter(None, text.split("\n")):
-        word, _, rest = line.partition(":")
-        rest = rest.removeprefix(" ")
-        if word in ("refuses", "proves", "alone"):
-            said[word] = rest.strip()
-        elif word == "file":
-            path = rest.strip()
-        elif word == "old":
-            old = rest
-        elif word == "new" and path.startswith("src/") and old:
-            changes.append((path, old, rest))
-            old = ""
-        else:
-            raise Fault(f"this line has no place: {line}")
-    is_control = label.endswith(".control")
-    function = said.get("proves" if is_control else "refuses", "")
-    if not function.startswith(label.split("/")[0] + "::"):
-        raise Fault(f"it has no line `{'proves' if is_control else 'refuses'}: CRATE::..::FUNCTION` of its crate")
-    if not changes or old:
-        raise Fault("it has no `old:` and `new:` pair, or one without its end")
-    return Edit(label, function, is_control, said.get("alone", ""), tuple(changes))
-
-
-def edits_of(crate):
-    """The edits of a crate, and what is wrong with those that cannot be tried, by their labels."""
-    edits, faults = [], {}
-    folder = f"{crate.folder}/mutants"
-    for name in sorted(os.listdir(folder)):
-        label = f"{crate.name}/{name}"
-        try:
-            if not name.endswith((".edit", ".control")):
-                raise Fault("a file of mutants/ ends in .edit or .control")
-            with open(f"{folder}/{name}", encoding="utf-8") as file:
-                edit = read_edit(label, file.read())
-            edit.applied(crate.folder, {})
-            edits.append(edit)
-        except Fault as fault:
-            faults[label] = str(fault)
-    if not any(it.is_control for it in edits):
-        faults[f"{crate.name}/mutants"] = "no control can be tried, so nothing shows that a check can pass"
-    return edits, faults
-
-
-def grouped(edits, folder):
-    """The edits in groups for one check each: no function twice, and each edit applies on top of the others."""
-    groups = []
-    for edit in edits:
-        if edit.alone:
-            groups.append(([edit], edit.applied(folder, {})))
-            continue
-        for at, (group, texts) in enumerate(groups):
-            if any(it.alone or it.function == edit.function for it in group):
-                continue
-            try:
-                groups[at] = ([*group, edit], edit.applied(folder, texts))
-                break
-            except Fault:
-                continue
-        else:
-            groups.append(([edit], edit.applied(folder, {})))
-    return [group for group, _ in groups]
-
-
 def load_kit():
-    """The kit's rtlib.py, which stands beside rt and knows rattle's command line."""
+    """The kit's rtlib.py, which stands beside rt and knows rattle's command line, and the crates by their names."""
     path = os.path.join(os.path.dirname(os.path.realpath(shutil.which("rt") or "")), "rtlib.py")
     if not os.path.isfile(path):
         sys.exit("ci/mutants.py: there is no rt on the PATH with an rtlib.py beside it")
@@ -144,9 +51,11 @@ def load_kit():
         crates = {it.name: it for it in kit.crates_below(TOP)}
         for crate in crates.values():
             command(kit, crate)
-            assert callable(crate.build_rlib) and crate.rlib and crate.below() is not None and kit.PARTS
+            assert callable(crate.build_rlib) and crate.rlib and crate.below() is not None
+        assert callable(kit.lock) and kit.PARTS
     except (AttributeError, TypeError, AssertionError) as error:
-        sys.exit(f"ci/mutants.py: {path} is not as in rattle-kit-13b, for which this script was written: {error}")
+        kits = "rattle-kit-13b and rattle-kit-13f, for which this script was written"
+        sys.exit(f"ci/mutants.py: {path} is not as in {kits}: {error}")
     return kit, crates
 
 
@@ -157,12 +66,12 @@ def command(kit, crate):
 
 @dataclasses.dataclass
 class Check:
-    """One run of `rattle check`: what it printed, its processor seconds, the most memory it took in bytes, and its end."""
+    """One `rattle check`: what it printed, its exit status, its processor seconds, and the most memory in bytes."""
 
     said: str
+    status: int
     seconds: float
     peak: int
-    was_killed: bool = False
 
 
 def check(kit, crate, group):
@@ -180,11 +89,12 @@ def check(kit, crate, group):
         # (a function's name without that of its crate)
         only = [word for edit in group for word in ("--only", edit.function.partition("::")[2])]
         with open(f"{room}/said", "w+", encoding="utf-8", errors="replace") as out:
-            run = subprocess.Popen([*command(kit, crate), *only], cwd=room, stdin=subprocess.DEVNULL, stdout=out, stderr=out)
+            how = {"cwd": room, "stdin": subprocess.DEVNULL, "stdout": out, "stderr": out}
+            run = subprocess.Popen([*command(kit, crate), *only], **how)
             _, status, used = os.wait4(run.pid, 0)
-            run.returncode = status
+            run.returncode = os.waitstatus_to_exitcode(status)
             out.seek(0)
-            return Check(out.read(), used.ru_utime + used.ru_stime, 1024 * used.ru_maxrss, os.WIFSIGNALED(status))
+            return Check(out.read(), run.returncode, used.ru_utime + used.ru_stime, 1024 * used.ru_maxrss)
 
 
 def cut(why):
@@ -205,6 +115,10 @@ class Report:
             self.passed, self.failed = self.passed + is_well, self.failed + (not is_well)
             print(f"{label}: {word}: {cut(why)}", flush=True)
 
+    def note(self, label, why):
+        with self.printing:
+            print(f"{label}: {cut(why)}", flush=True)
+
     def add(self, crate, ran):
         with self.printing:
             checks, seconds, peak = self.used.get(crate.name, (0, 0, 0))
@@ -219,63 +133,113 @@ class Report:
         return 1 if self.failed or not self.passed else 0
 
 
-def try_group(kit, crate, group, report):
-    """Checks a group and tells of each edit. What its group does not settle is tried once more, alone."""
-    ran = check(kit, crate, group)
-    report.add(crate, ran)
-    if ran.was_killed:
-        print(f"{crate.name}: a check was killed, most likely for memory: once more", flush=True)
-        ran = check(kit, crate, group)
-    for edit in group:
-        is_well, why = judged(edit, ran.said)
-        word = "proved" if edit.is_control else "refused"
-        if not is_well and len(group) > 1:
-            print(f"{edit.label}: not {word} in its group, so it is tried alone: {cut(why)}", flush=True)
-            again = check(kit, crate, [edit])
-            report.add(crate, again)
-            is_well, why = judged(edit, again.said)
-            word += " alone"
-        report.tell(edit.label, is_well, word if is_well else f"NOT {word.upper()}", why)
+class Trials:
+    """Tries groups of mutants, and remembers what became of each control and which checks were killed."""
+
+    def __init__(self, kit, report):
+        self.kit, self.report = kit, report
+        self.controls, self.killed = {}, []  # (for each control, whether each of its checks proved it)
+
+    def run(self, tasks, jobs):
+        """Tries the groups side by side, and then each whose check was killed, one at a time."""
+        with ThreadPoolExecutor(jobs) as pool:
+            for it in [pool.submit(self.try_group, *task) for task in tasks]:
+                it.result()
+        for task in self.killed[:]:
+            self.try_group(*task, is_last=True)
+        for label, ends in sorted(self.controls.items()):
+            word = "proved" if any(ends) else "NOT PROVED"
+            self.report.tell(label, any(ends), word, f"in {sum(ends)} of the {len(ends)} checks that it stood in")
+
+    def try_group(self, crate, control, mutants, word="refused", is_last=False):
+        """Checks mutants and control together. A mutant that is not refused so is tried without the others."""
+        ran = check(self.kit, crate, [*([control] if control else []), *mutants])
+        self.report.add(crate, ran)
+        if ran.status < 0 and not is_last:
+            self.report.note(crate.name, "a check was killed, most likely for memory: it is repeated at the end")
+            self.killed.append((crate, control, mutants, word))
+            return
+        void = unended(ran.status, ran.said) or self.unproved(control, ran)
+        for it in mutants:
+            is_well, why = (False, void) if void else judged(it, ran.said)
+            if not is_well and len(mutants) > 1:
+                self.report.note(it.label, f"not refused in its group, so it is tried alone: {why}")
+                self.try_group(crate, control, [it], "refused alone", is_last)
+            else:
+                self.report.tell(it.label, is_well, word if is_well else "NOT TRIED" if void else "NOT REFUSED", why)
+
+    def unproved(self, control, ran):
+        """Why the check judges nothing if its control is not proved."""
+        is_well, why = judged(control, ran.said) if control else (True, "")
+        if control:
+            self.controls[control.label].append(is_well)
+        return "" if is_well else f"the control beside it is not proved: {why}"
+
+    def tasks_of(self, crate, is_proved):
+        """The groups of a crate, each with a guess of its time, after a word on the edits that cannot be tried."""
+        control, mutants, faults = edits.edits_of(crate)
+        for label, why in faults.items():
+            self.report.tell(label, False, "BAD EDIT", why)
+        lacking = [it for it in crate.below() if not (is_proved and os.path.isdir(it.rlib))]
+        if any(it.build_rlib(["--jobs", "1"], anew=False) for it in lacking):
+            self.report.tell(crate.name, False, "NOT TRIED", "a library below it is not proved")
+            return []
+        if control:
+            self.controls[control.label] = []
+        folders = os.walk(f"{crate.folder}/src")
+        size = sum(os.path.getsize(f"{at}/{it}") for at, _, names in folders for it in names)
+        groups = edits.grouped(control, mutants, crate.folder)
+        return [(len(group) * size, (crate, beside, group)) for beside, group in groups]
 
 
-def at_once():
-    """How many checks run side by side: one for each processor, and no more than memory holds."""
-    with open("/proc/meminfo", encoding="utf-8") as file:
-        free = 1024 * int(re.search(r"MemAvailable:\s+(\d+)", file.read())[1])
-    return max(1, min(len(os.sched_getaffinity(0)), free // MEMORY))
+def texts_that_fail(crates):
+    """What is wrong with the edits that do not apply, by their labels, and how many mutants do."""
+    faults, count = edits.strays(TOP, crates), 0
+    for crate in crates:
+        tried, wrong = edits.must_fail_of(crate)
+        faults.update(wrong)
+        count += len(tried)
+        if os.path.lexists(f"{crate.folder}/mutants"):
+            _, mutants, wrong = edits.edits_of(crate)
+            faults.update(wrong)
+            count += len(mutants)
+    return faults, count
 
 
-def tasks_of(kit, crate, is_proved, report):
-    """The groups of a crate, each with a guess of how long it takes, after a word on those that cannot be tried."""
-    edits, faults = edits_of(crate)
-    for label, why in faults.items():
-        report.tell(label, False, "BAD EDIT", why)
-    lacking = [it for it in crate.below() if not (is_proved and os.path.isdir(it.rlib))]
-    if any(it.build_rlib(["--jobs", "1"], anew=False) for it in lacking):
-        report.tell(crate.name, False, "NOT TRIED", "a library below it is not proved")
-        return []
-    size = sum(os.path.getsize(f"{at}/{it}") for at, _, files in os.walk(f"{crate.folder}/src") for it in files)
-    return [(len(it) * size, crate, it) for it in grouped(edits, crate.folder)]
+def asked_of(words):
+    """What the command line asks for."""
+    asked = argparse.ArgumentParser(description=__doc__, formatter_class=argparse.RawDescriptionHelpFormatter)
+    asked.add_argument("--proved", action="store_true", help="take the libraries as they are, right after rt ci")
+    asked.add_argument("--texts", action="store_true", help="look only whether each edit applies, and run no prover")
+    asked.add_argument("--jobs", type=int, default=machine.at_once(MEMORY), help="how many checks run side by side")
+    asked.add_argument("crate", nargs="*", help="a crate whose mutants are tried (none: all crates)")
+    return asked.parse_args(words)
 
 
 def main(words):
-    asked = argparse.ArgumentParser(description=__doc__, formatter_class=argparse.RawDescriptionHelpFormatter)
-    asked.add_argument("--proved", action="store_true", help="take the libraries as they are, right after rt ci has proved them")
-    asked.add_argument("--jobs", type=int, default=at_once(), help="how many checks run side by side")
-    asked.add_argument("crate", nargs="*", help="a crate whose mutants are tried (none: all crates)")
-    asked = asked.parse_args(words)
+    asked = asked_of(words)
     (kit, crates), report, tasks = load_kit(), Report(), []
-    with_mutants = [it for it in sorted(os.listdir(f"{TOP}/crates")) if os.path.isdir(f"{TOP}/crates/{it}/mutants")]
-    for name in asked.crate or with_mutants:
-        if name in crates and name in with_mutants:
-            tasks += tasks_of(kit, crates[name], asked.proved, report)
+    faults, count = ({}, 0) if asked.crate else texts_that_fail(crates.values())
+    for label, why in faults.items():
+        report.tell(label, False, "BAD EDIT", why)
+    if faults:
+        return report.close()
+    if asked.texts:
+        print(f"all {count} mutants apply")
+        return 0
+    trials = Trials(kit, report)
+    wanted = asked.crate or [name for name, it in crates.items() if os.path.isdir(f"{it.folder}/mutants")]
+    named = [crates[it] for it in wanted if it in crates]
+    # (as rt does, so that no other command changes the libraries meanwhile)
+    held = kit.lock({below for it in named for below in [it, *it.below()]})
+    for name in wanted:
+        if name in crates and os.path.isdir(f"{crates[name].folder}/mutants"):
+            tasks += trials.tasks_of(crates[name], asked.proved)
         else:
             report.tell(name, False, "NOT TRIED", "crates.txt does not name this crate, or it has no folder mutants")
     # The longest first.
-    tasks.sort(key=lambda it: -it[0])
-    with ThreadPoolExecutor(asked.jobs) as pool:
-        for it in [pool.submit(try_group, kit, crate, group, report) for _, crate, group in tasks]:
-            it.result()
+    trials.run([it for _, it in sorted(tasks, key=lambda it: -it[0])], asked.jobs)
+    del held
     return report.close()
 
 

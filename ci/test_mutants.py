@@ -1,228 +1,243 @@
-"""Tests of ci/mutants.py, ci/judging.py and ci/parts.py, over lines that the prover once printed. They run no prover."""
+"""Tests of ci/mutants.py over a kit that is not real: its prover takes a function for proved by a word of its body."""
 import contextlib
 import io
 import os
+import sys
 import tempfile
-import types
 import unittest
 from unittest import mock
 
-import judging
 import mutants
-import parts
 
-# What a check said of a group. The first function fails by its own contract, and so does the second, which has a proof file. The third
-# calls one that is not proved. The fourth has a proof file that names what the edit took away. The fifth is well.
-SAID = """\
-./proofs/unary/UnaryQuorums/read_quorum/Answers.antt:18:5: error: `returns`: `omega`: the goal does not follow from what it read
-./proofs/values/width/Answers.antt:10:37: error: `returns-clause-exact`: record `Rattle.Start` has no field `saturating_sub`
-  the fields that can be named here are `args`, `well_formed`, `ranges`, `requires`
-./proofs/values/width/Answers.antt:12:26: error: `returns-clause-small`: `goal.returns-clause-small`: module `Rattle.mb_quorum.proofs.Goals`
-  has no `returns-clause-small` that can be named from here
-./proofs/values/width/Answers.antt:13:5: error: 1 declaration that depends on `returns-clause-exact`, which was rejected, was not checked: returns-clause-least
-note: src/values.rt:23:1: it is not proved that what the function ensures holds when it returns
-fn mb_quorum::values::checked_values: no proof: expected answers in ./proofs/values/checked_values/Answers.antt; `search` did not prove `returns-clause-range`
-fn mb_quorum::unary::UnaryQuorums::read_quorum: not proved; it calls `mb_quorum::bits::Bits::width`, which is not proved
-fn mb_quorum::bits::Bits::width: no proof: it calls `mb_quorum::values::width`, which is not proved
-fn mb_quorum::values::width: not proved
-fn mb_quorum::table::Table::copy: proved
-only=5 proved=1
-"""
-UNREAD = "src/table.rt:85:26: error[non-exhaustive-match]: non-exhaustive patterns: `TableName::Middle` not covered\n"
-NO_FUNCTION = "rattle: error: `mb_quorum` has no function `values::gone`: help: write the name that a check prints after `fn`\n"
-
-
-def edit(function, name="one.edit", path="src/values.rt", old="1", new="2", alone=""):
-    is_control = name.endswith(".control")
-    return mutants.Edit(f"mb_quorum/{name}", f"mb_quorum::{function}", is_control, alone, ((path, old, new),))
-
-
-class Judging(unittest.TestCase):
-    def judged(self, function, said=SAID, **more):
-        return judging.judged(edit(function, **more), said)
-
-    def test_own_contract_refuses(self):
-        self.assertEqual(self.judged("values::checked_values")[0], True)
-
-    def test_own_proof_file_refuses(self):
-        is_well, why = self.judged("unary::UnaryQuorums::read_quorum")
-        self.assertTrue(is_well)
-        self.assertIn("the goal does not follow", why)
-
-    def test_a_callee_alone_refuses_nothing(self):
-        self.assertEqual(self.judged("bits::Bits::width")[0], False)
-        called = "fn mb_quorum::a::f: not proved; it calls `mb_quorum::a::g`, which is not proved\n"
-        self.assertEqual(self.judged("a::f", called)[0], False)
-
-    def test_a_lost_name_refuses_nothing(self):
-        is_well, why = self.judged("values::width")
-        self.assertFalse(is_well)
-        self.assertIn("names what the edit took away", why)
-
-    def test_what_is_proved_is_not_refused(self):
-        self.assertEqual(self.judged("table::Table::copy")[0], False)
-        self.assertEqual(self.judged("table::Table::copy", "fn mb_quorum::table::Table::copy: could not tell\n")[0], False)
-
-    def test_a_function_that_is_gone(self):
-        is_well, why = self.judged("values::gone", NO_FUNCTION)
-        self.assertFalse(is_well)
-        self.assertIn("has no function `values::gone`", why)
-
-    def test_a_name_is_whole(self):
-        self.assertEqual(self.judged("checked_values")[0], False)
-
-    def test_a_text_that_cannot_be_read(self):
-        is_well, why = self.judged("values::checked_values", UNREAD + SAID, path="src/table.rt")
-        self.assertFalse(is_well)
-        self.assertIn("cannot be read", why)
-        # The edit of another file is not to blame.
-        self.assertEqual(self.judged("values::checked_values", UNREAD + SAID)[0], True)
-
-    def test_a_control_has_to_be_proved(self):
-        self.assertEqual(self.judged("table::Table::copy", name="harmless.control")[0], True)
-        for function in ("values::checked_values", "values::width", "values::gone"):
-            self.assertEqual(self.judged(function, name="harmless.control")[0], False)
-
-    def test_other_words_of_the_prover_pass_nothing(self):
-        other = SAID.replace("not proved", "unproven").replace("no proof", "without proof").replace(": proved", ": well")
-        for function in ("values::checked_values", "unary::UnaryQuorums::read_quorum"):
-            self.assertEqual(self.judged(function, other)[0], False)
-        self.assertEqual(self.judged("table::Table::copy", other, name="harmless.control")[0], False)
+# As far as ci/mutants.py asks for it.
+KIT = '''
+import os
+RATTLE = os.path.dirname(os.path.abspath(__file__)) + "/rattle"
+PARTS = ("src", "specs")
+class Crate:
+    def __init__(self, top, line, known):
+        self.name, _, self.uses = line.partition(":")
+        self.folder, self.known = f"{top}/crates/{self.name}", known
+        self.rlib = f"{self.folder}/out/rlib"
+    def words(self, flags, keeps):
+        return [self.name, *flags]
+    def below(self):
+        return [self.known[it] for it in self.uses.split()]
+    def build_rlib(self, flags, anew):
+        return int(os.path.exists(f"{self.folder}/is_not_proved"))
+def guarded():
+    return []
+def lock(crates):
+    return sorted(it.name for it in crates)
+def crates_below(top):
+    known = {}
+    with open(f"{top}/crates.txt") as file:
+        for line in file:
+            crate = Crate(top, line.strip(), known)
+            known[crate.name] = crate
+    return known.values()
+'''
+# The word `wrong` has its function refused, and `spoils` has every function refused. `dies` has the check killed, and
+# so has `heavy`, if it is asked for more than two functions, and `once`, the first time. `babbles` ends it otherwise.
+RATTLE = f'''#!{sys.executable} -IS
+''' + r'''
+import os, re, signal, sys
+crate, only = sys.argv[2], [it for it in sys.argv if "::" in it]
+with open("src/values.rt") as file:
+    text = file.read()
+room = os.path.dirname(os.path.abspath(__file__))
+with open(f"{room}/log", "a") as log:
+    log.write(" ".join(sys.argv[1:]) + chr(10) + text)
+is_first = not os.path.exists(f"{room}/was_here")
+if "dies" in text or "heavy" in text and len(only) > 2 or "once" in text and is_first:
+    open(f"{room}/was_here", "w").close()
+    os.kill(os.getpid(), signal.SIGKILL)
+proved = 0
+for name in only:
+    found = name.startswith("values::") and re.search(rf"fn {name[8:]}.. . (.*) .", text)
+    if not found:
+        print(f"rattle: error: `{crate}` has no function `{name}`")
+        sys.exit(2)
+    is_well = "wrong" not in found[1] and "spoils" not in text
+    print(f"fn {crate}::{name}: {'proved' if is_well else 'no proof: `search` did not prove `returns`'}")
+    proved += is_well
+print(f"only={len(only)} proved={proved}")
+if "babbles" in text:
+    print("and more")
+sys.exit(proved < len(only))
+'''
+SOURCE = "fn f() { 1 }\nfn g() { 2 }\nfn h() { 3 }\nconst FOUR: u64 = 4;\n"
 
 
-class Reading(unittest.TestCase):
-    TEXT = "refuses: mb_quorum::values::width\nfile: src/values.rt\nold: m - 1\nnew: m\n"
-
-    def faulty(self, text, label="mb_quorum/one.edit"):
-        with self.assertRaises(mutants.Fault):
-            mutants.read_edit(label, text)
-
-    def test_a_mutant(self):
-        made = mutants.read_edit("mb_quorum/one.edit", "alone: it is a constant\n" + self.TEXT)
-        self.assertEqual(made.function, "mb_quorum::values::width")
-        self.assertEqual(made.changes, (("src/values.rt", "m - 1", "m"),))
-        self.assertEqual((made.alone, made.is_control), ("it is a constant", False))
-
-    def test_an_empty_new_text(self):
-        self.assertEqual(mutants.read_edit("mb_quorum/one.edit", self.TEXT.replace("new: m", "new:")).changes[0][2], "")
-
-    def test_what_is_no_mutant(self):
-        self.faulty(self.TEXT.replace("refuses:", "proves:"))
-        self.faulty(self.TEXT.replace("refuses:", "refuse:"))
-        self.faulty(self.TEXT.replace("mb_quorum::", "mb_cells::"))
-        self.faulty(self.TEXT.replace("file: src/", "file: specs/"))
-        self.faulty(self.TEXT.replace("new: m\n", ""))
-        self.faulty(self.TEXT.replace("old: m - 1\n", ""))
-        self.faulty(self.TEXT, label="mb_quorum/one.control")
+def text_of(function, old, new, word="refuses"):
+    return f"{word}: mb_a::{function}\nfile: src/values.rt\nold: {old}\nnew: {new}\n"
 
 
-class WithCrate(unittest.TestCase):
-    """Tests over a crate of one file."""
+class WithKit(unittest.TestCase):
+    """A repository of one crate, mb_a, with a mutant of f, one of g, and a control of h."""
 
     def setUp(self):
         room = tempfile.TemporaryDirectory()
         self.addCleanup(room.cleanup)
-        self.folder = room.name
-        os.makedirs(f"{self.folder}/src")
-        os.makedirs(f"{self.folder}/mutants")
-        self.write("src/values.rt", "fn f() { 1 }\nfn g() { 3 }\n")
-        self.crate = types.SimpleNamespace(name="mb_quorum", folder=self.folder)
+        self.top = f"{room.name}/top"
+        self.kit = f"{room.name}/kit"
+        for path, text in (("rt", ""), ("rtlib.py", KIT), ("rattle", RATTLE)):
+            self.write(f"{self.kit}/{path}", text)
+            os.chmod(f"{self.kit}/{path}", 0o755)
+        self.write(f"{self.top}/crates.txt", "mb_low:\nmb_a: mb_low\n")
+        self.crate = f"{self.top}/crates/mb_a"
+        self.write(f"{self.crate}/src/values.rt", SOURCE)
+        self.mutant("f.edit", text_of("values::f", "1", "wrong"))
+        self.mutant("g.edit", text_of("values::g", "2", "wrong"))
+        self.mutant("harmless.control", text_of("values::h", "3", "3 + 0", "proves"))
+        self.patch(mock.patch.object(mutants, "TOP", self.top))
+        self.patch(mock.patch.dict(os.environ, {"PATH": f"{self.kit}:{os.environ['PATH']}"}))
+
+    def patch(self, patch):
+        patch.start()
+        self.addCleanup(patch.stop)
 
     def write(self, path, text):
-        with open(f"{self.folder}/{path}", "w", encoding="utf-8") as file:
+        os.makedirs(os.path.dirname(path), exist_ok=True)
+        with open(path, "w", encoding="utf-8") as file:
             file.write(text)
 
-    def groups(self, *edits):
-        return [[it.label.split("/")[1] for it in group] for group in mutants.grouped(edits, self.folder)]
+    def mutant(self, name, text):
+        self.write(f"{self.crate}/mutants/{name}", text)
 
+    def log(self):
+        with open(f"{self.kit}/log", encoding="utf-8") as file:
+            return file.read()
 
-class Applying(WithCrate):
-    def test_texts(self):
-        self.assertEqual(edit("f").applied(self.folder, {}), {"src/values.rt": "fn f() { 2 }\nfn g() { 3 }\n"})
-
-    def test_what_does_not_apply(self):
-        for wrong in (edit("f", old="9"), edit("f", old="fn"), edit("f", path="src/valeus.rt")):
-            with self.assertRaises(mutants.Fault):
-                wrong.applied(self.folder, {})
-
-    def test_a_folder(self):
-        text = "refuses: mb_quorum::values::f\nfile: src/values.rt\nold: 1\nnew: 2\n"
-        self.write("mutants/good.edit", text)
-        self.write("mutants/old.edit", text.replace("old: 1", "old: 9"))
-        self.write("mutants/misspelt.edti", text)
-        self.write("mutants/lost.edit", text.replace("values.rt", "valeus.rt"))
-        edits, faults = mutants.edits_of(self.crate)
-        self.assertEqual([it.label for it in edits], ["mb_quorum/good.edit"])
-        wrong = ["lost.edit", "misspelt.edti", "mutants", "old.edit"]  # (mutants: it has no control)
-        self.assertEqual(sorted(faults), [f"mb_quorum/{it}" for it in wrong])
-
-
-class Grouping(WithCrate):
-    def test_two_functions_share_a_group(self):
-        self.assertEqual(self.groups(edit("f", "a.edit"), edit("g", "b.edit", old="3")), [["a.edit", "b.edit"]])
-
-    def test_no_function_twice(self):
-        self.assertEqual(self.groups(edit("f", "a.edit"), edit("f", "b.edit", old="3")), [["a.edit"], ["b.edit"]])
-
-    def test_each_applies_on_top_of_the_others(self):
-        self.assertEqual(self.groups(edit("f", "a.edit"), edit("g", "b.edit")), [["a.edit"], ["b.edit"]])
-
-    def test_alone(self):
-        groups = self.groups(edit("f", "a.edit", alone="a constant"), edit("g", "b.edit", old="3"), edit("h", "c.edit"))
-        self.assertEqual(groups, [["a.edit"], ["b.edit", "c.edit"]])
-
-
-class Trying(unittest.TestCase):
-    """What is told of a group, with these outputs of its check and of those of single edits."""
-
-    def told(self, group, *said):
-        runs = iter([mutants.Check(it, 60, 10**9) for it in said])
-        report, out = mutants.Report(), io.StringIO()
-        with mock.patch.object(mutants, "check", lambda *_: next(runs)), contextlib.redirect_stdout(out):
-            mutants.try_group(None, types.SimpleNamespace(name="mb_quorum"), group, report)
-            status = report.close()
-        self.assertEqual(list(runs), [])
+    def run_main(self, *words):
+        with contextlib.redirect_stdout(io.StringIO()) as out:
+            status = mutants.main([*words, "--jobs", "2"])
         return status, out.getvalue().splitlines()
 
+    def ends(self, status, last, *lines, words=()):
+        """Runs the script, and looks for its status, its last line, and what else it said."""
+        found, said = self.run_main(*words)
+        self.assertEqual((found, said[-1]), (status, last), "\n".join(said))
+        for line in lines:
+            self.assertTrue(any(it.startswith(line) for it in said), f"{line} is not in\n" + "\n".join(said))
+
+
+class Trying(WithKit):
     def test_all_is_well(self):
-        status, lines = self.told([edit("values::checked_values"), edit("table::Table::copy", "x.control")], SAID)
-        self.assertEqual((status, lines[-1]), (0, "2 passed, 0 failed"))
-        self.assertIn("mb_quorum: 1 checks, 1.0 processor minutes, at most 1.0 GB", lines)
+        self.ends(0, "3 passed, 0 failed", "mb_a/f.edit: refused: fn mb_a::values::f: no proof", "mb_a: 1 checks",
+                  "mb_a/harmless.control: proved: in 1 of the 1 checks that it stood in")
 
-    def test_a_mutant_that_survives_is_tried_alone(self):
-        survives = "fn mb_quorum::table::Table::new: proved\n"
-        group = [edit("values::checked_values"), edit("table::Table::new", "b.edit")]
-        status, lines = self.told(group, SAID + survives, survives)
-        self.assertEqual((status, lines[-1]), (1, "1 passed, 1 failed"))
-        self.assertIn("mb_quorum/b.edit: NOT REFUSED ALONE: fn mb_quorum::table::Table::new: proved", lines)
+    def test_what_the_prover_is_given(self):
+        self.run_main()
+        asked, text = self.log().split("\n", 1)
+        self.assertEqual(asked, "check mb_a --jobs 1 --only values::h --only values::f --only values::g")
+        self.assertEqual(text, SOURCE.replace("1", "wrong").replace("2", "wrong").replace("3", "3 + 0"))
 
-    def test_a_mutant_in_the_wrong_group_is_refused_alone(self):
-        group = [edit("bits::Bits::width"), edit("values::checked_values", "b.edit")]
-        alone = "fn mb_quorum::bits::Bits::width: no proof: `search` did not prove `returns`\n"
-        status, lines = self.told(group, SAID, alone)
-        self.assertEqual((status, lines[-1]), (0, "2 passed, 0 failed"))
-        self.assertTrue(any("refused alone" in it for it in lines))
+    def test_a_mutant_that_survives(self):
+        self.mutant("g.edit", text_of("values::g", "2", "5"))
+        self.ends(1, "2 passed, 1 failed", "mb_a/g.edit: NOT REFUSED: fn mb_a::values::g: proved", "mb_a: 2 checks")
 
-    def test_nothing_tried_is_a_failure(self):
-        self.assertEqual(self.told([edit("values::gone")], NO_FUNCTION)[0], 1)
-        with contextlib.redirect_stdout(io.StringIO()):
-            self.assertEqual(mutants.Report().close(), 1)
+    def test_a_function_that_is_no_longer_there(self):
+        self.mutant("g.edit", text_of("old_values::g", "2", "wrong"))
+        self.ends(1, "2 passed, 1 failed", "mb_a/g.edit: NOT TRIED: its check ended with status 2", "mb_a: 3 checks",
+                  "mb_a/f.edit: refused alone")
+
+    def test_a_group_that_refuses_its_control_is_void(self):
+        self.mutant("g.edit", text_of("values::g", "2", "spoils"))
+        self.ends(1, "2 passed, 1 failed", "mb_a/f.edit: refused alone", "mb_a/g.edit: NOT TRIED: the control beside",
+                  "mb_a/harmless.control: proved: in 1 of the 3 checks")
+
+    def test_a_control_that_is_proved_nowhere(self):
+        self.write(f"{self.crate}/src/values.rt", SOURCE + "// spoils\n")
+        self.ends(1, "0 passed, 3 failed", "mb_a/harmless.control: NOT PROVED: in 0 of the 3 checks")
+
+    def test_one_that_goes_alone(self):
+        self.mutant("four.edit", "alone: a constant\n" + text_of("values::f", "u64 = 4;", "u64 = 5; // spoils"))
+        self.ends(0, "4 passed, 0 failed", "mb_a/four.edit: refused: ", "mb_a: 2 checks",
+                  "mb_a/harmless.control: proved: in 1 of the 1 checks")
+        self.assertIn("--jobs 1 --only values::f\n", self.log())
+
+    def test_a_control_with_nothing_to_guard(self):
+        os.remove(f"{self.crate}/mutants/g.edit")
+        self.mutant("f.edit", "alone: why\n" + text_of("values::f", "1", "wrong"))
+        self.ends(1, "1 passed, 1 failed", "mb_a/harmless.control: NOT PROVED: in 0 of the 0 checks")
+
+    def test_a_check_that_is_killed_once(self):
+        self.mutant("g.edit", text_of("values::g", "2", "wrong once"))
+        self.ends(0, "3 passed, 0 failed", "mb_a: a check was killed", "mb_a/g.edit: refused: ", "mb_a: 2 checks")
+
+    def test_a_check_that_is_killed_for_its_size(self):
+        self.mutant("g.edit", text_of("values::g", "2", "wrong heavy"))
+        self.ends(0, "3 passed, 0 failed", "mb_a/g.edit: refused alone: ", "mb_a: 4 checks")
+
+    def test_a_check_that_is_killed_each_time(self):
+        self.mutant("g.edit", text_of("values::g", "2", "wrong dies"))
+        self.ends(1, "2 passed, 1 failed", "mb_a/g.edit: NOT TRIED: its check was killed by signal 9",
+                  "mb_a/f.edit: refused alone", "mb_a: 4 checks")
+
+    def test_a_check_that_ends_otherwise(self):
+        self.mutant("g.edit", text_of("values::g", "2", "wrong babbles"))
+        self.ends(1, "2 passed, 1 failed", "mb_a/g.edit: NOT TRIED: its check ended with status 1, and said at last: ")
 
 
-class Parts(unittest.TestCase):
-    def run_parts(self, *commands):
-        with contextlib.redirect_stdout(io.StringIO()) as out:
-            status = parts.main(commands)
-        return status, out.getvalue().splitlines()[-1]
+class Finding(WithKit):
+    """What stops a run before a prover starts, with --texts and without."""
 
-    def test_counts_are_added(self):
-        self.assertEqual(self.run_parts("a: echo 3 passed, 0 failed", "b: echo OK"), (0, "4 passed, 0 failed"))
+    def stops(self, line, count=1):
+        self.ends(1, f"0 passed, {count} failed", line)
+        self.ends(1, f"0 passed, {count} failed", line, words=["--texts"])
+        self.assertFalse(os.path.exists(f"{self.kit}/log"))
 
-    def test_a_part_that_fails_is_the_last(self):
-        self.assertEqual(self.run_parts("a: false", "b: echo 3 passed, 0 failed"), (1, "0 passed, 2 failed"))
+    def test_all_is_well(self):
+        self.write(f"{self.crate}/must-fail/a.edit", text_of("values::f", "1", "2"))
+        self.ends(0, "all 3 mutants apply", words=["--texts"])
 
-    def test_a_bad_status_fails_whatever_is_printed(self):
-        self.assertEqual(self.run_parts("a: echo 3 passed, 0 failed; exit 1"), (1, "3 passed, 1 failed"))
+    def test_an_old_text_that_is_gone(self):
+        self.mutant("g.edit", text_of("values::g", "9", "wrong"))
+        self.stops("mb_a/g.edit: BAD EDIT: the text `9` is in src/values.rt 0 times")
+
+    def test_an_old_text_of_must_fail_that_is_gone(self):
+        self.write(f"{self.crate}/must-fail/a.edit", text_of("values::f", "9", "wrong"))
+        self.stops("mb_a/a.edit: BAD EDIT: the text `9` is in src/values.rt 0 times")
+
+    def test_a_file_name_misspelt(self):
+        self.mutant("g.edti", text_of("values::g", "2", "wrong"))
+        self.stops("mb_a/g.edti: BAD EDIT: a file of mutants/ ends in .edit or .control")
+
+    def test_a_function_misspelt(self):
+        self.mutant("g.edit", text_of("values::gg", "2", "wrong"))
+        self.stops("mb_a/g.edit: BAD EDIT: `2` is in or below `fn g`, and not in mb_a::values::gg")
+
+    def test_an_edit_outside_the_folders(self):
+        self.write(f"{self.crate}/mutant/g.edit", text_of("values::g", "2", "wrong"))
+        self.stops("crates/mb_a/mutant/g.edit: BAD EDIT: it stands in no folder must-fail/ or mutants/")
+
+    def test_an_unlisted_crate(self):
+        self.write(f"{self.top}/crates/mb_b/mutants/g.edit", text_of("values::g", "2", "wrong"))
+        self.stops("crates/mb_b/mutants/g.edit: BAD EDIT: it stands in no folder")
+        self.ends(1, "0 passed, 1 failed", "mb_b: NOT TRIED: crates.txt does not name this crate", words=["mb_b"])
+
+    def test_a_library_below_that_is_not_proved(self):
+        self.write(f"{self.top}/crates/mb_low/is_not_proved", "")
+        self.ends(1, "0 passed, 1 failed", "mb_a: NOT TRIED: a library below it is not proved")
+        # With --proved, one that stands there is taken as it is.
+        os.makedirs(f"{self.top}/crates/mb_low/out/rlib")
+        self.ends(0, "3 passed, 0 failed", words=["--proved"])
+
+    def test_no_mutants_at_all(self):
+        for name in os.listdir(f"{self.crate}/mutants"):
+            os.remove(f"{self.crate}/mutants/{name}")
+        os.rmdir(f"{self.crate}/mutants")
+        self.ends(1, "0 passed, 0 failed")
+
+    def test_another_kit(self):
+        self.write(f"{self.kit}/rtlib.py", KIT.replace("def lock", "def locked"))
+        with self.assertRaisesRegex(SystemExit, "is not as in rattle-kit-13b and rattle-kit-13f"):
+            mutants.load_kit()
+
+    def test_no_kit(self):
+        with mock.patch.dict(os.environ, {"PATH": "/nowhere"}), self.assertRaisesRegex(SystemExit, "there is no rt"):
+            mutants.load_kit()
 
 
 if __name__ == "__main__":

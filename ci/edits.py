@@ -1,0 +1,171 @@
+"""Reads the mutants and controls of the crates, and says which cannot be tried. ci/mutants.py tells their form."""
+import dataclasses
+import os
+import re
+
+FUNCTION = re.compile(r"^ *(?:pub(?:\([\w ]+\))? )?(?:const |final |ghost )*fn (\w+)", re.M)
+
+
+class Fault(Exception):
+    """Why a mutant cannot be tried."""
+
+
+@dataclasses.dataclass(frozen=True)
+class Edit:
+    """A mutant or a control: where it stands, the function that it speaks of, and what it changes."""
+
+    label: str
+    function: str  # (none in must-fail/)
+    is_control: bool
+    alone: str
+    changes: tuple  # of (file, old text, new text)
+
+    def applied(self, folder, texts):
+        """The texts of the changed files by their names, on top of `texts`, which other edits have changed."""
+        texts = dict(texts)
+        for path, old, new in self.changes:
+            if path not in texts:
+                try:
+                    with open(f"{folder}/{path}", encoding="utf-8") as file:
+                        texts[path] = file.read()
+                except OSError:
+                    raise Fault(f"there is no file {path}") from None
+            if texts[path].count(old) != 1:
+                raise Fault(f"the text `{old}` is in {path} {texts[path].count(old)} times, and not once")
+            if self.function and not self.alone:
+                self.stay_inside(texts[path], old)
+            texts[path] = texts[path].replace(old, new)
+        return texts
+
+    def stay_inside(self, text, old):
+        """Stops at an old text of another function, unless it is of an import."""
+        start = text.index(old)
+        if text[text.rfind("\n", 0, start) + 1 :].startswith("use "):
+            return
+        above = FUNCTION.findall(text[: start + len(old)])
+        if above[-1:] != self.function.split("::")[-1:]:
+            near = f"in or below `fn {above[-1]}`" if above else "above each function"
+            raise Fault(f"`{old}` is {near}, and not in {self.function}: correct the name, or say `alone: WHY`")
+
+
+def read_lines(text, words):
+    """What a file says after each of these words, and its changes."""
+    said, changes, path, old = {}, [], "", ""
+    for line in filter(None, text.split("\n")):
+        word, _, rest = line.partition(":")
+        rest = rest.removeprefix(" ")
+        if word in words:
+            said[word] = rest.strip()
+        elif word == "file" and not old:
+            path = rest.strip()
+        elif word == "old" and not old:
+            old = rest
+        elif word == "new" and path.startswith("src/") and old:
+            if old == rest:
+                raise Fault(f"`{old}` is old and new, so it changes nothing")
+            changes.append((path, old, rest))
+            old = ""
+        else:
+            raise Fault(f"this line has no place: {line}")
+    if not changes or old:
+        raise Fault("it has no `old:` and `new:` pair, or one without its end")
+    return said, tuple(changes)
+
+
+def read_edit(label, text):
+    """The mutant or control that a file of mutants/ says, by its lines."""
+    is_control = label.endswith(".control")
+    word = "proves" if is_control else "refuses"
+    said, changes = read_lines(text, (word,) if is_control else (word, "alone"))
+    function = said.get(word, "")
+    if not function.startswith(label.split("/")[0] + "::"):
+        raise Fault(f"it has no line `{word}: CRATE::..::FUNCTION` of its crate")
+    return Edit(label, function, is_control, said.get("alone", ""), changes)
+
+
+def read_must_fail(label, text):
+    """The mutant that a file of must-fail/ says. rt passes over lines of other words, and so hides a misspelt one."""
+    return Edit(label, "", False, "", read_lines(text, ("refuses",))[1])
+
+
+def read_folder(crate, part, ends, read):
+    """The edits in a folder of the crate, and what is wrong with those that cannot be tried, by their labels."""
+    edits, faults, folder = [], {}, f"{crate.folder}/{part}"
+    if os.path.lexists(folder) and not os.path.isdir(folder):
+        return [], {f"{crate.name}/{part}": "it is no folder"}
+    for name in sorted(os.listdir(folder)) if os.path.isdir(folder) else ():
+        label = f"{crate.name}/{name}"
+        try:
+            if not name.endswith(ends):
+                raise Fault(f"a file of {part}/ ends in {' or '.join(ends)}")
+            with open(f"{folder}/{name}", encoding="utf-8") as file:
+                edit = read(label, file.read())
+            edit.applied(crate.folder, {})
+            edits.append(edit)
+        except (Fault, OSError, ValueError) as fault:
+            faults[label] = str(fault)
+    return edits, faults
+
+
+def must_fail_of(crate):
+    """The edits of the crate that rt ci tries, and what is wrong with the others, by their labels."""
+    edits, faults = read_folder(crate, "must-fail", (".edit", ".md"), read_or_pass)
+    return [it for it in edits if it.changes], faults
+
+
+def read_or_pass(label, text):
+    return Edit(label, "", False, "", ()) if label.endswith(".md") else read_must_fail(label, text)
+
+
+def edits_of(crate):
+    """The control of the crate, the mutants that can be tried with it, and what is wrong with the others."""
+    edits, faults = read_folder(crate, "mutants", (".edit", ".control"), read_edit)
+    controls = [it for it in edits if it.is_control]
+    if len(controls) != 1:
+        faults[f"{crate.name}/mutants"] = f"{len(controls)} controls apply, and not one, so no mutant is tried"
+        return None, [], faults
+    mutants, control = [], controls[0]
+    for edit in edits:
+        try:
+            if edit.is_control:
+                continue
+            if edit.function == control.function:
+                raise Fault(f"its function is that of {control.label}, so the one or the other is judged wrongly")
+            if not edit.alone:
+                edit.applied(crate.folder, control.applied(crate.folder, {}))
+            mutants.append(edit)
+        except Fault as fault:
+            faults[edit.label] = str(fault)
+    return control, mutants, faults
+
+
+def strays(top, crates):
+    """What no script would ever try: each edit and control outside the two folders of a crate that is listed."""
+    known = {f"{it.folder}/{part}" for it in crates for part in ("must-fail", "mutants")}
+    faults = {}
+    for at, folders, names in os.walk(top):
+        folders[:] = sorted(it for it in folders if it not in (".git", "out"))
+        for name in sorted(names):
+            if name.endswith((".edit", ".control")) and at not in known:
+                why = "it stands in no folder must-fail/ or mutants/ of a crate that crates.txt names"
+                faults[os.path.relpath(f"{at}/{name}", top)] = why
+    return faults
+
+
+def grouped(control, mutants, folder):
+    """The control and the mutants of each check: no function twice, and each applies on top of the others."""
+    groups = []  # of (mutants, texts)
+    for edit in mutants:
+        if edit.alone:
+            continue
+        for at, (group, texts) in enumerate(groups):
+            if any(it.function == edit.function for it in group):
+                continue
+            try:
+                groups[at] = ([*group, edit], edit.applied(folder, texts))
+                break
+            except Fault:
+                continue
+        else:
+            groups.append(([edit], edit.applied(folder, control.applied(folder, {}))))
+    return [(control, group) for group, _ in groups] + [(None, [it]) for it in mutants if it.alone]
