@@ -3,7 +3,9 @@
 use crate::devices::NarrowWriter;
 use crate::examples::ended;
 use crate::examples::runs::TWO_ITEMS;
-use mb_program::{Failed, Options, RunFault, fault_text, run_threads, source_of, status_of};
+use mb_program::{
+    Failed, Options, RunFault, fault_text, run_threads, source_of, status_of, workload_of,
+};
 use mb_script::Counting;
 use mb_world::SetupFault;
 use rand_core::Rng;
@@ -193,6 +195,29 @@ fn sources_have_known_words(rt: HostRuntime) {
     ] {
         assert_eq!(rt; source_of(seed, consumer).next_u64(), word);
     }
+}
+
+// A report does not tell seeds or budgets apart. What the workers are handed does.
+#[test]
+fn workers_are_handed_what_is_asked(rt: HostRuntime) -> Result<(), Fail> {
+    for (seed, budget, want) in [
+        (0, 64, [0xd640_5f89_2fef_003e, 0xca06_8379_b34b_8f2b]),
+        (1, 1, [0x61a9_4a49_a0e9_5ecf, 0x1a81_25d4_8c6f_ea14]),
+    ] {
+        let options = Options {
+            consumers: 2,
+            seed,
+            budget,
+            ..ALONE
+        };
+        let mut load = workload_of(rt.alloc(), options)?;
+        let mut words = Vec::new(rt.alloc());
+        for rng in load.rngs.iter_mut() {
+            words.push(rng.next_u64())?;
+        }
+        assert_eq!(rt; (words.as_slice(), load.budget), (want.as_slice(), budget));
+    }
+    Ok(())
 }
 
 // How many lines a text has, and how many notes.
