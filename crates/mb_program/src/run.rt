@@ -150,17 +150,14 @@ fn report_of<A: Allocator + Copy + Drop + Send + Sync, T: Threads + Wait + Sync>
     ensures no_device { result ≢ Err WriteFault }
 {
     let setup = setup_of(options)?;
-    let load = workload_of(alloc, options)?;
+    let Workload {
+        lists,
+        budget,
+        rngs,
+    } = workload_of(alloc, options)?;
     let (mailbox, mut hub) = Mailbox::new(alloc, setup)?;
     let worked = work(
-        alloc,
-        rt,
-        &mailbox,
-        &mut hub,
-        load.lists,
-        load.budget,
-        load.rngs,
-        &OpenGate,
+        alloc, rt, &mailbox, &mut hub, lists, budget, rngs, &OpenGate,
     );
     if let Err(fault) = worked {
         return Err(fault_of_work(fault));
