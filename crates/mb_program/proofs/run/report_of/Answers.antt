@@ -12,7 +12,7 @@ fault_of_work-requires-clause-numbers g c =
 
 pub fault_of_work-requires-clause-budget : goal.fault_of_work-requires-clause-budget
 fault_of_work-requires-clause-budget g c =
-    λ is. let refused = c.work-worked.ensures.bad_budget.0 (c.in-Err.is ∙ ap (λ e. Err e) same) in
+    λ is. let refused = c.work-worked.ensures.bad_budget.0 (c.in-Err.is ∙ ap (λ e. Err e) is) in
     let none = refused.0 in
     let same = c.in_ok-lists.ensures.budget in
     let some = c.requires.budget in
