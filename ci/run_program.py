@@ -5,8 +5,8 @@
     ci/run_program.py --program PATH      # another build
 
 `main` has no contract: it hands the words of the command line and the standard streams to a function that has one, and ends with
-the status of its answer. So each example of crates/test_program/src/examples is run here once more, from `main` on; and then what
-only a process can meet: a device that is full, a directory to read from, a word that is no UTF-8, a thread that is refused.
+the status of its answer. So each example of crates/test_program/src/examples is run here once more, from `main` on. Then comes
+what only a process can meet: a full device, a directory to read from, a word that is no UTF-8, a thread that is refused.
 The last line is `N passed, N failed`, and the status is 0 if none failed.
 """
 import argparse
