@@ -1,5 +1,5 @@
--- In a run each consumer has a note at each item, or has made 2^64 - 2 accesses.
-use Rattle.std.proofs.Common.{◌≡◌, ◌+◌, ◌-◌, ◌^◌, ◌<◌, ◌≤◌, ◌⊎◌, ℕ, zero, suc, Bool, true, false, List, [], ◌∷◌, Option, Some, None, inl, inr, length, map, slice_get, refl, sym, ap, ◌∙◌, subst, arith}
+-- In a run each consumer has a note at each item, or has made 2^64 - 2 accesses, and at most the budget times as many.
+use Rattle.std.proofs.Common.{◌≡◌, ◌+◌, ◌-◌, ◌*◌, ◌^◌, ◌<◌, ◌≤◌, ◌⊎◌, ℕ, zero, suc, Bool, true, false, List, [], ◌∷◌, Option, Some, None, inl, inr, length, map, slice_get, refl, sym, ap, ◌∙◌, subst, arith}
 use Rattle.std.specs.List.{All}
 use Rattle.std.proofs.lemmas.Bool.{lt-ltb}
 use Rattle.std.proofs.lemmas.Option.{slice_get-get_or, slice_get-map}
@@ -13,7 +13,7 @@ use Rattle.mb_mailbox.specs.Mailboxes.{MailboxView}
 use Rattle.mb_mailbox.specs.Steps.{notes_on}
 use Rattle.mb_mailbox.specs.Worked.{AreStoppedPolls, ConsumerLeft, HasNoteAtEach, LaneLeft}
 use Rattle.mb_mailbox.specs.declared.gate.Who.{Who}
-use Rattle.mb_program.specs.Running.{accesses_by}
+use Rattle.mb_program.specs.Running.{HasNotedAll, accesses_by}
 
 same_some : {X : Type 0} {x y : X} → ◌≡◌ {A = Option X} (Some x) (Some y) → x ≡ y
 same_some e = cc
@@ -58,12 +58,16 @@ of_one : {X : Type 0} (P : X → Type 0) (xs : List X) (k : ℕ) (x : X) → All
 of_one P xs k x all low at = subst P (same_some (sym (slice_get-get_or xs k x low) ∙ at)) (all k x low)
 
 -- where the gate stops nobody, a consumer that was stopped has come to call 2^64 - 1
-come_to_last : (may_stop : Who → ℕ → Type 0) → ((w : Who) (n : ℕ) → may_stop w n → ⊥) → (budget c made : ℕ) → IsStoppedPoll may_stop budget c made → 2 ^ 64 - 2 ≤ made
+come_to_last : (may_stop : Who → ℕ → Type 0) → ((w : Who) (n : ℕ) → may_stop w n → ⊥) → (budget c made : ℕ) → IsStoppedPoll may_stop budget c made
+    → (2 ^ 64 - 2 ≤ made) × (made ≤ budget * (2 ^ 64 - 2))
 come_to_last may_stop never budget c made was =
     let within = was.within in
     elim was.stop [
       | inl stops ↦ absurd (never _ _ stops)
-      | inr last ↦ omega (arith, last, within)
+      | inr last ↦ (
+        omega (arith, last, within),
+        (let e : was.call - 1 ≡ 2 ^ 64 - 2 = omega (arith, last) in subst (λ (k : ℕ). made ≤ budget * k) e was.most),
+      )
     ]
 
 -- ---- the notes of the report
@@ -73,7 +77,7 @@ pub notes_told : (may_stop : Who → ℕ → Type 0) (budget : ℕ) → ((w : Wh
     → length cs ≡ consumer_count m.claims.layout → AreStoppedPolls may_stop budget 0 cs → All (λ x. x.stopped ≡ false → HasNoteAtEach 0 left x.ledger) cs
     → ((p : ℕ) → p < m.cells.size.lanes → (l : LaneLeft) × (slice_get left p ≡ Some l) × (length l.put ≡ count))
     → (c p : ℕ) → c < consumer_count m.claims.layout → p < m.cells.size.lanes
-    → (length (notes c p r) ≡ count) ⊎ (2 ^ 64 - 2 ≤ accesses_by c g.histories)
+    → HasNotedAll count budget c p g.histories r
 notes_told may_stop budget never count m h r left cs g told ledgers readers claims many stopped noted lanes c p low_c low_p = go one.stopped refl
   where
     there : c < length cs
@@ -107,7 +111,7 @@ notes_told may_stop budget never count m h r left cs g told ledgers readers clai
     made : accesses_by c g.histories ≡ length one.reads + length one.claimed
     made = rw (reads, claimed) refl
 
-    go : (b : Bool) → one.stopped ≡ b → (length (notes c p r) ≡ count) ⊎ (2 ^ 64 - 2 ≤ accesses_by c g.histories)
+    go : (b : Bool) → one.stopped ≡ b → HasNotedAll count budget c p g.histories r
     go false e =
         let l = lanes p low_p in
         let has = of_one (λ x. x.stopped ≡ false → HasNoteAtEach 0 left x.ledger) cs c one noted there at e in
@@ -115,5 +119,8 @@ notes_told may_stop budget never count m h r left cs g told ledgers readers clai
         inl (ap length (in_report ∙ in_ledger) ∙ ap (λ (k : ℕ). length (notes_on k one.ledger.notes)) here
         ∙ noted_at 0 left p l.0 one.ledger has l.1 ∙ l.2)
     go true e =
-        let most = come_to_last may_stop never budget (0 + c) (length one.reads + length one.claimed) (stopped_at may_stop budget 0 cs c one stopped at e) in
-        inr (omega (arith, most, made))
+        let last = come_to_last may_stop never budget (0 + c) (length one.reads + length one.claimed) (stopped_at may_stop budget 0 cs c one stopped at e) in
+        inr (
+          subst (λ (k : ℕ). 2 ^ 64 - 2 ≤ k) (sym made) last.0,
+          subst (λ (k : ℕ). k ≤ budget * (2 ^ 64 - 2)) (sym made) last.1,
+        )

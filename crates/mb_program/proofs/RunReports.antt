@@ -21,7 +21,7 @@ use Rattle.mb_mailbox.specs.Hubs.{HubView, IsHubOf, hub_empty}
 use Rattle.mb_mailbox.specs.Mailboxes.{MailboxView, plan_at}
 use Rattle.mb_mailbox.specs.Jobs.{IsFront}
 use Rattle.mb_mailbox.specs.Worked.{AreCutByCells, AreStoppedPolls, AreStoppedPuts, AsksTooMany, HasNoteAtEach, IsWorked, LaneLeft, ended_list}
-use Rattle.mb_program.specs.Running.{AreFew, IsLaneOf, IsRunReport, item_lists, items_of, plan_asked}
+use Rattle.mb_program.specs.Running.{AreFew, HasNotedAll, IsLaneOf, IsRunReport, item_lists, items_of, plan_asked}
 use Rattle.mb_program.specs.declared.options.Options.{Options}
 use Rattle.mb_program.proofs.RunLanes.{found_none, front_whole, front_within, sum_short}
 use Rattle.mb_program.proofs.RunNotes.{notes_told}
@@ -123,10 +123,10 @@ lanes_told producers count lanes consumers h left r same told puts fronts full p
 -- ---- the report is that of a run
 -- where the gate stops nobody
 pub run_report : {budget : ℕ} (may_stop : Who → ℕ → Type 0) → ((w : Who) (n : ℕ) → may_stop w n → ⊥) → (o : Options) (m : MailboxView) (old h : HubView) (r : ReportView) (lists : List (List ℕ)) (n : ℕ) (w : Worked)
-    → AreFew o → plan_at m ≡ plan_asked o → m.cells.size ≡ size_of (plan_asked o) → old ≡ hub_empty m → lists ≡ item_lists o.producers o.items → n ≡ o.consumers
+    → AreFew o → budget ≡ o.budget → plan_at m ≡ plan_asked o → m.cells.size ≡ size_of (plan_asked o) → old ≡ hub_empty m → lists ≡ item_lists o.producers o.items → n ≡ o.consumers
     → IsWorked may_stop budget lists n w old h → IsHubOf m h
     → IsReportIn m.cells.size.lanes (consumer_count m.claims.layout) h r → IsGathered m h r → FullTakesAll m h r → IsRunReport o r
-run_report {budget} may_stop never o m old h r lists n w few plan size empty are sources worked of told gathered full = record {
+run_report {budget} may_stop never o m old h r lists n w few asked plan size empty are sources worked of told gathered full = record {
   histories = gathered.histories;
   reader = gathered.reader;
   sound = subst (λ p. AreSound p gathered.histories) plan gathered.sound;
@@ -134,8 +134,9 @@ run_report {budget} may_stop never o m old h r lists n w few plan size empty are
   honest = subst (λ p. IsHonest p gathered.histories r) plan gathered.honest;
   lanes = lanes_told o.producers o.items m.cells.size.lanes (consumer_count m.claims.layout) h worked.lanes r same told puts
       (subst (λ ls. AllZip (λ list l. IsFront l.put list) ls worked.lanes) are worked.run.fronts) all_put;
-  noted = λ c p low_c low_p. notes_told may_stop budget never o.items m h r worked.lanes worked.consumers gathered told ledgers readers claims many
-      polls noted whole c p (omega (arith, low_c, consumers)) (omega (arith, low_p, same));
+  noted = λ c p low_c low_p. subst (λ (b : ℕ). HasNotedAll o.items b c p gathered.histories r) asked
+      (notes_told may_stop budget never o.items m h r worked.lanes worked.consumers gathered told ledgers readers claims many
+      polls noted whole c p (omega (arith, low_c, consumers)) (omega (arith, low_p, same)));
 }
   where
     same : o.producers ≡ m.cells.size.lanes

@@ -54,9 +54,12 @@ accesses_by c hs = length (part (Reader (hs.reader_of c)) hs.pool) + length (con
 abbrev pub AreOwnReaders : Histories → Type 0
 AreOwnReaders hs = (c : ℕ) → hs.reader_of c ≡ c
 
--- consumer c has a note at each of so many items of lane p, or these histories have 2^64 - 2 accesses of it
-abbrev pub HasNotedAll : ℕ → ℕ → ℕ → Histories → ReportView → Type 0
-HasNotedAll count c p hs r = (length (notes c p r) ≡ count) ⊎ (2 ^ 64 - 2 ≤ accesses_by c hs)
+-- consumer c has a note at each of so many items of lane p; or these histories have 2^64 - 2 accesses of it, and no more than
+-- so many polls of this budget make
+abbrev pub HasNotedAll : ℕ → ℕ → ℕ → ℕ → Histories → ReportView → Type 0
+HasNotedAll count budget c p hs r =
+    (length (notes c p r) ≡ count)
+    ⊎ ((2 ^ 64 - 2 ≤ accesses_by c hs) × (accesses_by c hs ≤ budget * (2 ^ 64 - 2)))
 
 -- the report of a mailbox of these options, in which each producer has put all its items
 pub record IsRunReport (o : Options) (r : ReportView) : Type 0 where
@@ -71,9 +74,9 @@ pub record IsRunReport (o : Options) (r : ReportView) : Type 0 where
   -- each producer has put its items, and nothing else
   pub lanes : (p : ℕ) → p < o.producers
       → (l : LaneView) × (slice_get r.lanes p ≡ Some l) × IsLaneOf p o.items l
-  -- Each consumer has a note at each item of each lane, or these histories have 2^64 - 2 accesses of it. They may have
-  -- accesses that no thread made, so of the text alone this says nothing; of a run of `work` it is `IsWorked` that tells.
-  pub noted : (c p : ℕ) → c < o.consumers → p < o.producers → HasNotedAll o.items c p histories r
+  -- Each consumer has a note at each item of each lane, or these histories have 2^64 - 2 accesses of it, and at most the budget
+  -- times as many. They may have accesses that no thread made, so of the text alone this says nothing; of a run of `work` it is `IsWorked` that tells.
+  pub noted : (c p : ℕ) → c < o.consumers → p < o.producers → HasNotedAll o.items o.budget c p histories r
 
 -- the text is that of such a report
 abbrev pub IsRunText : Options → List ℕ → Type 0

@@ -1,6 +1,6 @@
 //! The definitions by example: what they let in, and what only looks so. The functions compute nothing: their contracts
 //! are the examples. Those that are not proved by their contract alone have their proofs in `proofs/examples`.
-ghost use Rattle.std.specs.Prelude.{◌≡◌, ℕ, ◌+◌, ◌-◌, ◌<◌, ◌^◌, length, ◌++◌, true, false, [], ◌∷◌, codes, replicate, Some, None, Err};
+ghost use Rattle.std.specs.Prelude.{◌≡◌, ℕ, ◌+◌, ◌-◌, ◌*◌, ◌<◌, ◌^◌, length, ◌++◌, true, false, [], ◌∷◌, codes, replicate, Some, None, Err};
 ghost use Rattle.clap.specs.Words.{takes};
 ghost use Rattle.clap.specs.declared.error.ErrorKind.TheVariants.{DisplayHelp, MissingSubcommand};
 ghost use Rattle.mb_quorum.specs.declared.table.TableName.TheVariants.{Unary};
@@ -17,12 +17,13 @@ ghost use Rattle.mb_program.specs.declared.command.Choice.TheVariants.{Run};
 ghost use Rattle.mb_program.specs.declared.options.Options.{Options};
 ghost use Rattle.mb_program.specs.declared.options.TheConstants.{MAX_BUDGET};
 ghost use Rattle.mb_program.specs.RunOptions.{HasBudget, HasToldOptions};
-ghost use Rattle.mb_program.specs.Running.{AreOwnReaders, HasNotedAll, IsLaneOf, IsRunReport};
+ghost use Rattle.mb_program.specs.Running.{AreOwnReaders, HasNotedAll, IsLaneOf, IsRunReport, accesses_by};
 ghost use Rattle.mb_program.specs.Running.{items_of, setup_refused};
 ghost use Rattle.mb_program.specs.RunExamples.{IsRunOver, nobody_script, nothing_done, one_item};
 ghost use Rattle.mb_program.specs.RunExamples.{help_words, ratify_now, ratify_words, report_with};
 ghost use Rattle.mb_program.specs.declared.fault.Failed.TheVariants as failed;
 ghost use Rattle.mb_program.specs.declared.outcome.Ending.TheVariants as ending;
+ghost use Rattle.mb_world.specs.Plan.{Histories};
 ghost use Rattle.mb_world.specs.declared.report.Note.TheVariants.{Took, Undecided};
 ghost use Rattle.mb_program.specs.Source.{seed_bytes, source_from};
 
@@ -115,9 +116,11 @@ pub fn sources_have_their_seeds()
 /// A consumer of a run has a note at each item, or the histories have many accesses of it; and it reads as the reader of its
 /// own number.
 pub fn consumers_note_all_items()
-    ensures noted { HasNotedAll 1 0 0 nothing_done (report_with (Took 0 ∷ []) []) }
-    ensures undecided { HasNotedAll 1 0 0 nothing_done (report_with (Undecided ∷ []) (0 ∷ [])) }
-    ensures not_noted { HasNotedAll 1 0 0 nothing_done (report_with [] (0 ∷ [])) → ⊥ }
+    ensures noted { HasNotedAll 1 64 0 0 nothing_done (report_with (Took 0 ∷ []) []) }
+    ensures undecided { HasNotedAll 1 64 0 0 nothing_done (report_with (Undecided ∷ []) (0 ∷ [])) }
+    ensures not_noted { HasNotedAll 1 64 0 0 nothing_done (report_with [] (0 ∷ [])) → ⊥ }
+    ensures past_the_budget { (hs : Histories) → 64 * (2 ^ 64 - 2) < accesses_by 0 hs
+        → HasNotedAll 1 64 0 0 hs (report_with [] (0 ∷ [])) → ⊥ }
     ensures own { AreOwnReaders nothing_done }
     ensures one_reader_for_all { AreOwnReaders (record nothing_done { reader_of = λ _. 0 }) → ⊥ }
 

@@ -21,6 +21,6 @@ pub use options::{DEFAULTS, MAX_BUDGET, Options};
 pub use outcome::{DONE, Ending, FAILED, REFUSED, fault_text, status_of, status_of_ending};
 pub use ratify::ratify_text;
 pub use reading::read_script;
-pub use run::run_threads;
+pub use run::{Workload, fault_of_work, run_threads, workload_of};
 pub use script::RatifyScript;
 pub use source::source_of;

@@ -11,7 +11,7 @@ ghost use Rattle.mb_program.specs.Running.{AreFew, IsRun, IsRunReport, item_list
 ghost use Rattle.mb_program.specs.Running.{plan_asked, setup_refused};
 ghost use Rattle.mb_program.specs.Source.{source_from};
 
-use crate::fault::RunFault;
+use crate::fault::{NoMemory, RunFault};
 use crate::options::Options;
 use crate::source::source_of;
 use mb_mailbox::{GatherFault, Mailbox, OpenGate, WorkFault, work};
@@ -87,8 +87,42 @@ fn sources<A: Allocator + Drop>(
     Ok(rngs)
 }
 
+/// What the workers of a run are handed.
+#[derive(Drop)]
+pub struct Workload<A: Allocator + Drop> {
+    /// The items of each producer, in the order in which it puts them.
+    pub lists: Vec<Vec<u64, A>, A>,
+    /// The most accesses that one poll makes.
+    pub budget: u64,
+    /// The source of each consumer's random words.
+    pub rngs: Vec<ChaCha8Rng, A>,
+}
+
+/// What the workers of these options are handed: `run_threads` hands it to `work`.
+pub fn workload_of<A: Allocator + Copy + Drop>(
+    alloc: A,
+    options: Options,
+) -> Result<Workload<A>, NoMemory>
+    requires { AreFew options }
+    ensures lists { IfOk result (λ load.
+        lists_in load.lists.items ≡ item_lists options.producers options.items) }
+    ensures producers { IfOk result (λ load. vec_len load.lists ≡ options.producers) }
+    ensures budget { IfOk result (λ load. load.budget ≡ options.budget) }
+    ensures words { IfOk result (λ load.
+        load.rngs.items ≡ map (source_from options.seed) (range_with_len 0 options.consumers)) }
+    ensures consumers { IfOk result (λ load. vec_len load.rngs ≡ options.consumers) }
+{
+    let lists = item_lists(alloc, options.producers, options.items)?;
+    let rngs = sources(alloc, options.seed, options.consumers)?;
+    Ok(Workload {
+        lists,
+        budget: options.budget,
+        rngs,
+    })
+}
+
 /// The fault of workers for whom there are numbers, and a budget.
-fn fault_of_work(fault: WorkFault) -> RunFault
+pub fn fault_of_work(fault: WorkFault) -> RunFault
     requires numbers { fault ≢ work.AllGiven }
     requires budget { fault ≢ work.BadBudget }
     ensures no_memory { fault ≡ work.NoMemory → result ≡ run.NoMemory }
@@ -116,18 +150,14 @@ fn report_of<A: Allocator + Copy + Drop + Send + Sync, T: Threads + Wait + Sync>
     ensures no_device { result ≢ Err WriteFault }
 {
     let setup = setup_of(options)?;
-    let lists = item_lists(alloc, options.producers, options.items)?;
-    let rngs = sources(alloc, options.seed, options.consumers)?;
+    let Workload {
+        lists,
+        budget,
+        rngs,
+    } = workload_of(alloc, options)?;
     let (mailbox, mut hub) = Mailbox::new(alloc, setup)?;
     let worked = work(
-        alloc,
-        rt,
-        &mailbox,
-        &mut hub,
-        lists,
-        options.budget,
-        rngs,
-        &OpenGate,
+        alloc, rt, &mailbox, &mut hub, lists, budget, rngs, &OpenGate,
     );
     if let Err(fault) = worked {
         return Err(fault_of_work(fault));

@@ -6,6 +6,7 @@ mod lanes;
 pub mod ratifiers;
 mod refused_replays;
 pub mod runs;
+mod texts;
 
 use claims::CLAIMS;
 use lanes::LANES;
@@ -17,6 +18,7 @@ use refused_replays::REFUSED_REPLAYS;
 use runs::RUNS;
 use std::sync::Wait;
 use std::thread::Threads;
+use texts::TEXTS;
 
 /// One run of the program: its command line and standard input, what goes to standard output and standard error, and
 /// the exit status.
@@ -31,7 +33,7 @@ pub struct Example {
 }
 
 /// What both streams got, and the status.
-fn ended<R: AllocGlobal + Threads + Wait + Sync>(
+pub fn ended<R: AllocGlobal + Threads + Wait + Sync>(
     rt: &R,
     words: &[&str],
     input: &str,
@@ -45,7 +47,7 @@ fn ended<R: AllocGlobal + Threads + Wait + Sync>(
 
 #[test]
 fn examples_are_as_they_stand(rt: HostRuntime) {
-    for examples in [CLAIMS, LANES, REFUSED_REPLAYS, RATIFIERS, RUNS] {
+    for examples in [CLAIMS, LANES, REFUSED_REPLAYS, RATIFIERS, RUNS, TEXTS] {
         for example in examples {
             let name = example.name;
             let (output, error, status) = ended(&rt, example.words, example.input);
@@ -59,22 +61,5 @@ fn examples_are_as_they_stand(rt: HostRuntime) {
                 "{name}"
             );
         }
-    }
-}
-
-// Help that was asked for goes to standard output, and why the words are refused to standard error.
-#[test]
-fn clap_has_a_stream_for_each_text(rt: HostRuntime) {
-    for (words, is_help) in [
-        (["mailbox", "--help"].as_slice(), true),
-        (["mailbox", "replay", "--help"].as_slice(), true),
-        (["mailbox"].as_slice(), false),
-        (["mailbox", "run", "--budget", "0"].as_slice(), false),
-    ] {
-        let (output, error, status) = ended(&rt, words, "");
-        assert_eq!(rt;
-            (output.is_empty(), error.is_empty(), status),
-            (!is_help, is_help, if is_help { 0 } else { 2 })
-        );
     }
 }

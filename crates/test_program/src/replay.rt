@@ -3,8 +3,8 @@
 use crate::devices::{Letters, NarrowWriter, SlowReader};
 use crate::examples::claims::ITEM_TAKEN;
 use mb_program::{Failed, fault_text, status_of};
-use mb_script::{Counting, Fault, run};
-use mb_world::SetupFault;
+use mb_script::{Counting, Fault, report_text, run};
+use mb_world::{Diary, LaneReport, Note, Report, SetupFault};
 use std::test::Fail;
 
 // The script, replayed: how the call ended, and what was written.
@@ -27,6 +27,9 @@ fn a_fault_leaves_nothing_written(rt: HostRuntime) {
         ("setup 1 1 1 1 bits\npush 0\npush\n", Fault::BadLine(3)),
         ("setup 1 1 1 1 bits\npush 1\npush\n", Fault::NoLane(2)),
         ("setup 1 1 1 1 bits\npush\npush \u{80}\n", Fault::NotAscii),
+        ("setup 1 1 0 1 bits\npush 00\n", Fault::BadNumber(2)),
+        ("setup 1 16 0 1 bits\nstep 16 1 0\n", Fault::NoLane(2)),
+        ("", Fault::NoSetup),
     ] {
         let (result, text) = replayed(&rt, script);
         assert_eq!(rt; result, Err(want), "{script}");
@@ -34,23 +37,62 @@ fn a_fault_leaves_nothing_written(rt: HostRuntime) {
     }
 }
 
-#[test]
-fn a_script_has_a_limit_of_events(rt: HostRuntime) -> Result<(), Fail> {
+// A script of so many pushes on a lane where nothing was offered, and its answer.
+fn pushes(rt: &HostRuntime, count: usize) -> Result<(String, String), Fail> {
     let mut script = String::new(rt.alloc());
     let mut want = String::new(rt.alloc());
     script.push_str("setup 1 1 1 1 bits\n")?;
-    for _ in 0..20_000 {
+    for _ in 0..count {
         script.push_str("push 0\n")?;
         want.push_str("push 0 idle\n")?;
     }
     want.push_str("lane 0 open put\nleft 0\ndiary 0 0\n")?;
-    let (result, text) = replayed(&rt, script.as_str());
-    assert_eq!(rt; result, Ok(()));
-    assert!(rt; text.as_slice() == want.as_bytes());
+    Ok((script, want))
+}
+
+#[test]
+fn many_events_are_replayed(rt: HostRuntime) -> Result<(), Fail> {
+    for count in [1_000, 19_999, 20_000] {
+        let (script, want) = pushes(&rt, count)?;
+        let (result, text) = replayed(&rt, script.as_str());
+        let is_whole = text.as_slice() == want.as_bytes();
+        assert_eq!(rt; (result, is_whole), (Ok(()), true), "{count}");
+    }
+    Ok(())
+}
+
+#[test]
+fn a_script_has_a_limit_of_events(rt: HostRuntime) -> Result<(), Fail> {
+    let (mut script, _) = pushes(&rt, 20_000)?;
     script.push_str("x\n")?;
     let (result, text) = replayed(&rt, script.as_str());
-    assert_eq!(rt; result, Err(Fault::TooManyEvents));
-    assert_eq!(rt; text.len(), 0);
+    assert_eq!(rt; (result, text.len()), (Err(Fault::TooManyEvents), 0));
+    Ok(())
+}
+
+// A report of one item, which a consumer took.
+#[test]
+fn a_report_has_its_text(rt: HostRuntime) -> Result<(), Fail> {
+    let lane = LaneReport {
+        put: vec![in rt.alloc(); 5]?,
+        ended: true,
+        left: Vec::new(rt.alloc()),
+    };
+    let diary = Diary {
+        consumer: 0,
+        lane: 0,
+        notes: vec![in rt.alloc(); Note::Took(5)]?,
+        begun: false,
+    };
+    let report = Report {
+        lanes: vec![in rt.alloc(); lane]?,
+        diaries: vec![in rt.alloc(); diary]?,
+    };
+    let text = report_text(rt.alloc(), &report)?;
+    assert_eq!(rt;
+        text.as_str(),
+        "lane 0 ended put 5\nleft 0\ndiary 0 0 took 5\n"
+    );
     Ok(())
 }
 

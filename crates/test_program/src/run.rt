@@ -1,8 +1,11 @@
 //! The command `run`: its report where that does not depend on the order of the threads, its faults, over writers that fail.
 
 use crate::devices::NarrowWriter;
+use crate::examples::ended;
 use crate::examples::runs::TWO_ITEMS;
-use mb_program::{Failed, Options, RunFault, fault_text, run_threads, source_of, status_of};
+use mb_program::{
+    Failed, Options, RunFault, fault_text, run_threads, source_of, status_of, workload_of,
+};
 use mb_script::Counting;
 use mb_world::SetupFault;
 use rand_core::Rng;
@@ -180,8 +183,93 @@ fn writers_fail(rt: HostRuntime) {
     }
 }
 
-// The first block of ChaCha with 8 rounds, a key of zeros and stream 0 begins with the bytes 3e 00 ef 2f 89 5f 40 d6.
+// The first block of ChaCha with 8 rounds, a key of zeros and stream 0 begins with the bytes 3e 00 ef 2f 89 5f 40 d6. A program
+// of a few lines that gives these gives the others.
 #[test]
 fn sources_have_known_words(rt: HostRuntime) {
-    assert_eq!(rt; source_of(0, 0).next_u64(), 0xd640_5f89_2fef_003e);
+    for (seed, consumer, word) in [
+        (0, 0, 0xd640_5f89_2fef_003e),
+        (0, 1, 0xca06_8379_b34b_8f2b),
+        (1, 0, 0x61a9_4a49_a0e9_5ecf),
+        (u64::MAX, 0, 0xb44e_8639_2271_48c7),
+    ] {
+        assert_eq!(rt; source_of(seed, consumer).next_u64(), word);
+    }
+}
+
+// A report does not tell seeds or budgets apart. What the workers are handed does.
+#[test]
+fn workers_are_handed_what_is_asked(rt: HostRuntime) -> Result<(), Fail> {
+    for (seed, budget, want) in [
+        (0, 64, [0xd640_5f89_2fef_003e, 0xca06_8379_b34b_8f2b]),
+        (1, 1, [0x61a9_4a49_a0e9_5ecf, 0x1a81_25d4_8c6f_ea14]),
+    ] {
+        let options = Options {
+            consumers: 2,
+            seed,
+            budget,
+            ..ALONE
+        };
+        let mut load = workload_of(rt.alloc(), options)?;
+        let mut words = Vec::new(rt.alloc());
+        for rng in load.rngs.iter_mut() {
+            words.push(rng.next_u64())?;
+        }
+        assert_eq!(rt; (words.as_slice(), load.budget), (want.as_slice(), budget));
+    }
+    Ok(())
+}
+
+// How many lines a text has, and how many notes.
+fn lines_and_notes(text: &str) -> (u64, u64) {
+    let (mut lines, mut notes) = (0u64, 0u64);
+    for byte in text.bytes() {
+        lines = lines.saturating_add(u64::from(byte == b'\n'));
+    }
+    for word in text.split_whitespace() {
+        let is_note = matches!(word, "took" | "lost" | "undecided");
+        notes = notes.saturating_add(u64::from(is_note));
+    }
+    (lines, notes)
+}
+
+// By default, and with as much as sixteen of each can do: all items are put, all lanes end, and each consumer has a note at
+// each item.
+#[test]
+fn words_are_run(rt: HostRuntime) -> Result<(), Fail> {
+    for (words, first, last, counts) in [
+        (
+            ["mailbox", "run"].as_slice(),
+            "lane 0 ended put 0 1 2 3 4 5 6 7\nleft 0",
+            "\nlane 1 ended put 1000 1001 1002 1003 1004 1005 1006 1007\nleft 1",
+            (8, 32),
+        ),
+        (
+            [
+                "mailbox",
+                "run",
+                "--producers",
+                "16",
+                "--consumers",
+                "16",
+                "--items",
+                "16",
+            ]
+            .as_slice(),
+            "lane 0 ended put 0 1 2 3 4 5 6 7 8 9 10 11 12 13 14 15\nleft 0",
+            "\nlane 15 ended put 15000 15001 15002 15003 15004 15005 15006 15007 15008 15009 15010 15011 15012 15013 15014 15015\nleft 15",
+            (288, 4096),
+        ),
+    ] {
+        let (output, error, status) = ended(&rt, words, "");
+        let Ok(text) = str::from_utf8(output.as_slice()) else {
+            return Err(Fail::from("a report is a text"));
+        };
+        let is_put = text.starts_with(first) && text.contains(last);
+        assert_eq!(rt;
+            (error.len(), status, is_put, lines_and_notes(text)),
+            (0, 0, true, counts)
+        );
+    }
+    Ok(())
 }

@@ -23,6 +23,46 @@ pub const RUNS: &[Example] = &[
         status: 2,
     },
     TWO_ITEMS,
+    Example {
+        name: "no_items",
+        words: &[
+            "mailbox",
+            "run",
+            "--producers",
+            "1",
+            "--consumers",
+            "1",
+            "--items",
+            "0",
+        ],
+        input: "",
+        output: "lane 0 ended put\nleft 0\ndiary 0 0\n",
+        error: "",
+        status: 0,
+    },
+    Example {
+        name: "no_consumers",
+        words: &["mailbox", "run", "--consumers", "0"],
+        input: "",
+        output: "",
+        error: "fault 1 BadSetup 2 BadConsumers\n",
+        status: 2,
+    },
+    Example {
+        name: "cells_past_all_numbers",
+        words: &[
+            "mailbox",
+            "run",
+            "--producers",
+            "16",
+            "--items",
+            "1152921504606846976",
+        ],
+        input: "",
+        output: "",
+        error: "fault 1 BadSetup 3 BadCells\n",
+        status: 2,
+    },
 ];
 
 pub const TWO_ITEMS: Example = Example {

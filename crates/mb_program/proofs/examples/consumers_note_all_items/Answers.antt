@@ -32,7 +32,13 @@ returns-clause-undecided c = inl refl
 pub returns-clause-not_noted : goal.returns-clause-not_noted
 returns-clause-not_noted c = λ noted. elim noted [
   | inl is ↦ (let none : 0 ≡ 1 = is in absurd (omega (arith, none)))
-  | inr many ↦ (let few : 2 ^ 64 - 2 ≤ 0 = many in absurd (omega (arith, few)))
+  | inr many ↦ (let few : 2 ^ 64 - 2 ≤ 0 = many.0 in absurd (omega (arith, few)))
+]
+
+pub returns-clause-past_the_budget : goal.returns-clause-past_the_budget
+returns-clause-past_the_budget c = λ hs long noted. elim noted [
+  | inl is ↦ (let none : 0 ≡ 1 = is in absurd (omega (arith, none)))
+  | inr many ↦ (let most = many.1 in absurd (omega (arith, most, long)))
 ]
 
 pub returns-clause-own : goal.returns-clause-own
@@ -47,5 +53,5 @@ returns-clause-short_run c = λ x short.
     let claims : length (consumer_part 0 x.histories.claims) ≤ length x.histories.claims = mapped _ _ in
     elim (x.noted 0 0 (omega arith) (omega arith)) [
       | inl is ↦ (let none : 0 ≡ 1 = is in absurd (omega (arith, none)))
-      | inr many ↦ absurd (omega (arith, many, short, reads, claims))
+      | inr many ↦ (let least = many.0 in absurd (omega (arith, least, short, reads, claims)))
     ]

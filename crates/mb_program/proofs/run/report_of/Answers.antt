@@ -7,15 +7,16 @@ use Rattle.mb_program.proofs.run.report_of.Goals as goal
 pub fault_of_work-requires-clause-numbers : goal.fault_of_work-requires-clause-numbers
 fault_of_work-requires-clause-numbers g c =
     λ same. asks_enough c.args.options c.in_ok-mailbox.mailbox c.in_ok-mailbox.hub _ _ (c.in_ok-mailbox.ensures.plan ∙ c.in_ok-setup.ensures.made)
-    c.in_ok-mailbox.ensures.empty c.in_ok-lists.ensures.count c.in_ok-rngs.ensures.count
+    c.in_ok-mailbox.ensures.empty c.in_ok-lists.ensures.producers c.in_ok-lists.ensures.consumers
     (c.work-worked.ensures.all_given.0 (c.in-Err.is ∙ ap (λ e. Err e) same))
 
 pub fault_of_work-requires-clause-budget : goal.fault_of_work-requires-clause-budget
 fault_of_work-requires-clause-budget g c =
-    λ same. let refused = c.work-worked.ensures.bad_budget.0 (c.in-Err.is ∙ ap (λ e. Err e) same) in
+    λ is. let refused = c.work-worked.ensures.bad_budget.0 (c.in-Err.is ∙ ap (λ e. Err e) is) in
     let none = refused.0 in
+    let same = c.in_ok-lists.ensures.budget in
     let some = c.requires.budget in
-    omega (arith, none, some)
+    omega (arith, none, same, some)
 
 pub returns-in-Err-clause-refused : goal.returns-in-Err-clause-refused
 returns-in-Err-clause-refused g c =
@@ -27,9 +28,9 @@ returns-in-Err-clause-no_device g c = λ is. c.fault_of_work.ensures.no_device (
 pub returns-in-Ok-clause-report : goal.returns-in-Ok-clause-report
 returns-in-Ok-clause-report g c =
     run_report _ (λ w n stops. stops) c.args.options c.in_ok-mailbox.mailbox c.in_ok-mailbox.hub c.work-worked.new.hub c.in-Ok.report _ _ c.in_default.field-0
-    c.in_ok-setup.ensures.few (c.in_ok-mailbox.ensures.plan ∙ c.in_ok-setup.ensures.made)
+    c.in_ok-setup.ensures.few c.in_ok-lists.ensures.budget (c.in_ok-mailbox.ensures.plan ∙ c.in_ok-setup.ensures.made)
     (c.in_ok-mailbox.ensures.size ∙ ap size_of c.in_ok-setup.ensures.made) c.in_ok-mailbox.ensures.empty c.in_ok-lists.ensures.lists
-    c.in_ok-rngs.ensures.count c.in_default.ensures.worked c.work-worked.ensures.of c.in-Ok.ensures.lists c.in-Ok.ensures.headline c.in-Ok.ensures.full
+    c.in_ok-lists.ensures.consumers c.in_default.ensures.worked c.work-worked.ensures.of c.in-Ok.ensures.lists c.in-Ok.ensures.headline c.in-Ok.ensures.full
 
 pub unreachable-requires : goal.unreachable-requires
 unreachable-requires g c =

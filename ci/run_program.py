@@ -1,0 +1,132 @@
+#!/usr/bin/env python3
+"""Runs the built program as a process, and compares both streams and the status of each run with what they must be.
+
+    ci/run_program.py                     # the programs that `rt ci` leaves in crates/mailbox_main/out
+    ci/run_program.py --program PATH      # another build
+
+`main` has no contract: it hands the words of the command line and the standard streams to a function that has one, and ends with
+the status of its answer. So each example of crates/test_program/src/examples is run here once more, from `main` on. Then comes
+what only a process can meet: a full device, a directory to read from, a word that is no UTF-8, a thread that is refused.
+The last line is `N passed, N failed`, and the status is 0 if none failed.
+"""
+import argparse
+import dataclasses
+import glob
+import os
+import re
+import resource
+import subprocess
+import sys
+
+TOP = os.path.dirname(os.path.dirname(os.path.abspath(__file__)))
+OUT = f"{TOP}/crates/mailbox_main/out"
+# As LLVM builds it, and as Rattle's own compiler does.
+BUILDS = ("mailbox_main", "mailbox_main.by-rattle")
+LIMIT = 60  # seconds for one run
+EXAMPLE = re.compile(
+    r'name: "(\w+)",\s*words: &\[(.*?)\],\s*input: "(.*?)",$\s*output: "(.*?)",$\s*error: "(.*?)",$\s*status: (\d+),', re.M | re.S
+)
+# The stack that each thread asks for then. No process has so many addresses free, and all else goes on as ever.
+TOO_LARGE = 1 << 46
+
+BAD_SCRIPT = b"setup 1 1 1 1 bits\npush  0\n"
+GOOD_SCRIPT = b"setup 1 1 0 1 bits\n"
+RATIFIER = b"ratify unary 1\ninputs 0\nturns 0\n"
+RUN = ("run", "--producers", "1", "--consumers", "1", "--items", "2", "--pairs", "1")
+
+
+@dataclasses.dataclass(frozen=True)
+class Run:
+    """One run: its words behind the program's name, what it reads, and what it must write and end with."""
+
+    name: str
+    words: tuple
+    status: int
+    input: object = b""  # bytes, or the path of what stands for standard input
+    output: object = b""  # bytes that must be written, or the path of a device that stands for standard output
+    error: object = b""
+    stack: int = 0  # how large the stacks of its threads are to be, if not as ever
+
+
+def text_of(literal):
+    """What a string of Rust is: a backslash before the end of a line takes the spaces behind it too."""
+    return re.sub(r"\\\n\s*", "", literal).replace(r"\n", "\n").encode()
+
+
+def examples():
+    """The examples of the tests, as runs."""
+    found = []
+    for path in sorted(glob.glob(f"{TOP}/crates/test_program/src/examples/*.rt")):
+        with open(path, encoding="utf-8") as file:
+            for name, words, *texts, status in EXAMPLE.findall(file.read()):
+                said = re.findall(r'"([^"]*)"', words)
+                found.append(Run(name, tuple(said[1:]), int(status), *map(text_of, texts)))
+    return found
+
+
+def ends():
+    """What only a process meets."""
+    return [
+        Run("a replay, its output full", ("replay",), 3, GOOD_SCRIPT, "/dev/full", b"fault 12 WriteFault\n"),
+        Run("a ratifier, its output full", ("ratify",), 3, RATIFIER, "/dev/full", b"fault 10 WriteFault\n"),
+        Run("threads, their output full", RUN, 3, b"", "/dev/full", b"fault 4 WriteFault\n"),
+        Run("help, its output full", ("--help",), 3, b"", "/dev/full", b""),
+        Run("a fault, the errors full", ("replay",), 2, BAD_SCRIPT, b"", "/dev/full"),
+        Run("a refusal, the errors full", (), 2, b"", b"", "/dev/full"),
+        Run("a replay of a directory", ("replay",), 3, "/", b"", b"fault 11 ReadFault\n"),
+        Run("a ratifier of a directory", ("ratify",), 3, "/", b"", b"fault 9 ReadFault\n"),
+        Run("a word that is no UTF-8", (b"replay", b"\xff"), 2, GOOD_SCRIPT),
+        Run("no thread", RUN, 3, error=b"fault 3 NoThread\n", stack=TOO_LARGE),
+    ]
+
+
+def opened(stream, how):
+    """What a process is handed for a stream: a pipe for bytes, and for a path what stands there, also if it is a directory."""
+    return os.open(stream, how) if isinstance(stream, str) else subprocess.PIPE
+
+
+def differences(program, run):
+    """What the program does otherwise than the run says, in words."""
+    def limit():
+        if run.stack:
+            resource.setrlimit(resource.RLIMIT_STACK, (run.stack, resource.getrlimit(resource.RLIMIT_STACK)[1]))
+
+    streams = [opened(run.input, os.O_RDONLY), opened(run.output, os.O_WRONLY), opened(run.error, os.O_WRONLY)]
+    try:
+        started = subprocess.Popen([program, *run.words], stdin=streams[0], stdout=streams[1], stderr=streams[2], preexec_fn=limit)
+        try:
+            wrote = started.communicate(run.input if isinstance(run.input, bytes) else None, timeout=LIMIT)
+        except subprocess.TimeoutExpired:
+            started.kill()
+            started.communicate()
+            return [f"no end after {LIMIT} seconds"]
+    finally:
+        for it in streams:
+            if it != subprocess.PIPE:
+                os.close(it)
+    told = [] if started.returncode == run.status else [f"status {started.returncode}, and not {run.status}"]
+    for stream, want, found in (("output", run.output, wrote[0]), ("error", run.error, wrote[1])):
+        if isinstance(want, bytes) and found != want:
+            told.append(f"standard {stream} {found[:80]!r}, and not {want[:80]!r}")
+    return told
+
+
+def main(words):
+    asked = argparse.ArgumentParser(description=__doc__, formatter_class=argparse.RawDescriptionHelpFormatter)
+    asked.add_argument("--program", action="append", help="a build of the program")
+    programs = asked.parse_args(words).program or [it for it in (f"{OUT}/{name}" for name in BUILDS) if os.path.isfile(it)]
+    if not programs:
+        print(f"there is no program in {OUT}: `rt ci` leaves it there, and so does a first ./mailbox")
+    passed = failed = 0
+    for program in programs:
+        for run in [*examples(), *ends()]:
+            told = differences(program, run)
+            if told:
+                print(f"{os.path.basename(program)}: {run.name}: {'; '.join(told)}")
+            passed, failed = passed + (not told), failed + bool(told)
+    print(f"{passed} passed, {failed or not passed:d} failed")
+    return 0 if passed and not failed else 1
+
+
+if __name__ == "__main__":
+    sys.exit(main(sys.argv[1:]))
