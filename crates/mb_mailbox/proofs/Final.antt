@@ -11,6 +11,7 @@ use Rattle.mb_shared_cells.specs.declared.views.Roll.{Roll}
 use Rattle.mb_cells.specs.declared.size.PoolSize.{PoolSize}
 use Rattle.mb_world.specs.Reporting.{values_put}
 use Rattle.mb_mailbox.specs.Below.{History}
+use Rattle.mb_mailbox.specs.Called.{IsCalled, WerePolled}
 use Rattle.mb_mailbox.specs.Consumers.{ConsumerView, IsConsumerOf}
 use Rattle.mb_mailbox.specs.Given.{AreAllGiven, AreGiven}
 use Rattle.mb_mailbox.specs.HubRuns.{ArePollJobs, ArePutJobs}
@@ -32,7 +33,7 @@ use Rattle.mb_mailbox.specs.declared.working.room.Ends.{Ends}
 use Rattle.mb_mailbox.specs.declared.working.room.Jobs.{Jobs}
 use Rattle.mb_mailbox.specs.declared.working.room.Room.{Room}
 use Rattle.mb_mailbox.proofs.Noted.{all_noted}
-use Rattle.mb_mailbox.proofs.Runs.{lane_left, lanes_of, left_by, left_of, nums, run_beyond, run_cut, run_ends, run_met, run_of, run_only, run_poll_stops, run_stops, run_unread}
+use Rattle.mb_mailbox.proofs.Runs.{lane_left, lanes_of, left_by, left_of, nums, run_beyond, run_cut, run_ends, run_met, run_of, run_only, run_passes, run_poll_stops, run_polled, run_stops, run_unread}
 use Rattle.mb_mailbox.proofs.Zips.{zip_length}
 
 nothing : {X : Type 0} (P : X → Type 0) → All P []
@@ -47,16 +48,16 @@ module _ {Z : Type 0} (m : MailboxView) where
   puts_at p (v ∷ vs) (j ∷ js) a =
       All-cons (λ (j : PutJob Z). IsProducerOf m j.producer) j js (record { table = ap (λ (s : ProducerView). s.seat.table) a.0 }) (puts_at (suc p) vs js a.2)
 
-  put_ends_at : (may_stop : Who → ℕ → Type 0) (js : List (PutJob Z)) (ds : List (PutDone Z)) → All (λ (j : PutJob Z). IsProducerOf m j.producer) js
-      → AllZip (IsPutEnd may_stop) js ds
+  put_ends_at : (may_stop may_pass : Who → ℕ → Type 0) (js : List (PutJob Z)) (ds : List (PutDone Z)) → All (λ (j : PutJob Z). IsProducerOf m j.producer) js
+      → AllZip (IsPutEnd may_stop may_pass) js ds
       → All (λ (d : PutDone Z). IsProducerOf m d.producer) ds
-  put_ends_at may_stop [] [] a z = nothing (λ (d : PutDone Z). IsProducerOf m d.producer)
-  put_ends_at may_stop [] (d ∷ ds) a z = absurd z
-  put_ends_at may_stop (j ∷ js) [] a z = absurd z
-  put_ends_at may_stop (j ∷ js) (d ∷ ds) a z =
+  put_ends_at may_stop may_pass [] [] a z = nothing (λ (d : PutDone Z). IsProducerOf m d.producer)
+  put_ends_at may_stop may_pass [] (d ∷ ds) a z = absurd z
+  put_ends_at may_stop may_pass (j ∷ js) [] a z = absurd z
+  put_ends_at may_stop may_pass (j ∷ js) (d ∷ ds) a z =
       let P = λ (j : PutJob Z). IsProducerOf m j.producer in
       All-cons (λ (d : PutDone Z). IsProducerOf m d.producer) d ds (record { table = z.0.same.table ∙ (All-head P j js a).table })
-      (put_ends_at may_stop js ds (All-tail P j js a) z.1)
+      (put_ends_at may_stop may_pass js ds (All-tail P j js a) z.1)
 
 module _ {R Z : Type 0} (m : MailboxView) where
   polls_at : (c : ℕ) (js : List (PollJob R Z)) → ArePollJobs m c js → All (λ (j : PollJob R Z). IsConsumerOf m j.consumer) js
@@ -70,22 +71,22 @@ module _ {R Z : Type 0} (m : MailboxView) where
     polls = polls_at (length h.ledgers) jobs.polls.items g.polls;
   }
 
-  poll_ends_at : (may_stop : Who → ℕ → Type 0) (from end budget : ℕ) (js : List (PollJob R Z)) (ds : List (PollDone Z)) → All (λ (j : PollJob R Z). IsConsumerOf m j.consumer) js
-      → AllZip (λ (j : PollJob R Z) (d : PollDone Z). IsPollEnd may_stop from end budget j.consumer d) js ds → All (λ (d : PollDone Z). IsConsumerOf m d.consumer) ds
-  poll_ends_at may_stop from end budget [] [] a z = nothing (λ (d : PollDone Z). IsConsumerOf m d.consumer)
-  poll_ends_at may_stop from end budget [] (d ∷ ds) a z = absurd z
-  poll_ends_at may_stop from end budget (j ∷ js) [] a z = absurd z
-  poll_ends_at may_stop from end budget (j ∷ js) (d ∷ ds) a z =
+  poll_ends_at : (may_stop may_pass : Who → ℕ → Type 0) (from end budget : ℕ) (js : List (PollJob R Z)) (ds : List (PollDone Z)) → All (λ (j : PollJob R Z). IsConsumerOf m j.consumer) js
+      → AllZip (λ (j : PollJob R Z) (d : PollDone Z). IsPollEnd may_stop may_pass from end budget j.consumer d) js ds → All (λ (d : PollDone Z). IsConsumerOf m d.consumer) ds
+  poll_ends_at may_stop may_pass from end budget [] [] a z = nothing (λ (d : PollDone Z). IsConsumerOf m d.consumer)
+  poll_ends_at may_stop may_pass from end budget [] (d ∷ ds) a z = absurd z
+  poll_ends_at may_stop may_pass from end budget (j ∷ js) [] a z = absurd z
+  poll_ends_at may_stop may_pass from end budget (j ∷ js) (d ∷ ds) a z =
       let P = λ (j : PollJob R Z). IsConsumerOf m j.consumer in
       All-cons (λ (d : PollDone Z). IsConsumerOf m d.consumer) d ds
       (record { cells = z.0.same.cells ∙ (All-head P j js a).cells; claims = z.0.same.claims ∙ (All-head P j js a).claims })
-      (poll_ends_at may_stop from end budget js ds (All-tail P j js a) z.1)
+      (poll_ends_at may_stop may_pass from end budget js ds (All-tail P j js a) z.1)
 
-  pub ends_at : (may_stop : Who → ℕ → Type 0) (from end budget : ℕ) (jobs : Jobs R Z) (ends : Ends Z) → AreOf m jobs → AreEndsOf may_stop from end budget jobs ends
+  pub ends_at : (may_stop may_pass : Who → ℕ → Type 0) (from end budget : ℕ) (jobs : Jobs R Z) (ends : Ends Z) → AreOf m jobs → AreEndsOf may_stop may_pass from end budget jobs ends
       → AreEndsAt m ends
-  ends_at may_stop from end budget jobs ends a e = record {
-    puts = put_ends_at m may_stop jobs.puts.items ends.puts.items a.puts e.puts;
-    polls = poll_ends_at may_stop from end budget jobs.polls.items ends.polls.items a.polls e.polls;
+  ends_at may_stop may_pass from end budget jobs ends a e = record {
+    puts = put_ends_at m may_stop may_pass jobs.puts.items ends.puts.items a.puts e.puts;
+    polls = poll_ends_at may_stop may_pass from end budget jobs.polls.items ends.polls.items a.polls e.polls;
   }
 
 -- there is room for fewer
@@ -148,14 +149,14 @@ at_most_each f (x ∷ xs) =
     omega (arith, all, one, rest)
 
 -- ---- the end of a run
-module _ {R Z : Type 0} (m : MailboxView) (may_stop : Who → ℕ → Type 0) (items : List (Vec ℕ Z)) (sources from end budget : ℕ) (jobs : Jobs R Z) (ends : Ends Z) (h mid now : HubView)
-    (hub : IsHub h) (given : AreGiven m items sources jobs h mid) (came : AreEndsOf may_stop from end budget jobs ends) (is : now ≡ with_taken ends mid) where
+module _ {R Z : Type 0} (m : MailboxView) (may_stop may_pass : Who → ℕ → Type 0) (items : List (Vec ℕ Z)) (sources from end budget : ℕ) (jobs : Jobs R Z) (ends : Ends Z) (h mid now : HubView)
+    (hub : IsHub h) (given : AreGiven m items sources jobs h mid) (came : AreEndsOf may_stop may_pass from end budget jobs ends) (is : now ≡ with_taken ends mid) where
   its : (vs : List (Vec ℕ Z)) → ArePutJobs m (length h.puts) vs jobs.puts.items
-      → IsRunOf (lists_in vs) (length jobs.polls.items) (lanes_of m may_stop ends.puts.items) (left_of m may_stop ends.polls.items) h now
+      → IsRunOf (lists_in vs) (length jobs.polls.items) (lanes_of m may_stop may_pass ends.puts.items) (left_of m may_stop may_pass ends.polls.items) h now
   its vs are =
-      subst (λ (n : HubView). IsRunOf (lists_in vs) (length jobs.polls.items) (lanes_of m may_stop ends.puts.items) (left_of m may_stop ends.polls.items) h n)
+      subst (λ (n : HubView). IsRunOf (lists_in vs) (length jobs.polls.items) (lanes_of m may_stop may_pass ends.puts.items) (left_of m may_stop may_pass ends.polls.items) h n)
       (sym (is ∙ ap (with_taken ends) given.hub))
-      (run_of m may_stop h from end budget vs jobs.puts.items ends.puts.items jobs.polls.items ends.polls.items hub are given.polls came.puts came.polls)
+      (run_of m may_stop may_pass h from end budget vs jobs.puts.items ends.puts.items jobs.polls.items ends.polls.items hub are given.polls came.puts came.polls)
 
   pub early : WereTakenInEarly (lists_in items) sources h now
   early = record {
@@ -164,19 +165,19 @@ module _ {R Z : Type 0} (m : MailboxView) (may_stop : Who → ℕ → Type 0) (i
     whole = sym (map-append (λ (v : Vec ℕ Z). v.items) given.puts.front given.puts.rest) ∙ ap lists_in given.puts.whole;
     given = length jobs.polls.items;
     few = subst (λ (n : ℕ). n ≤ sources) jobs.polls.ok.0 given.few;
-    taken = record { lanes = lanes_of m may_stop ends.puts.items; consumers = left_of m may_stop ends.polls.items; run = its given.puts.front given.puts.are };
+    taken = record { lanes = lanes_of m may_stop may_pass ends.puts.items; consumers = left_of m may_stop may_pass ends.polls.items; run = its given.puts.front given.puts.are };
   }
 
   module _ (all : AreAllGiven m items sources jobs h) where
-    run : IsRunOf (lists_in items) sources (lanes_of m may_stop ends.puts.items) (left_of m may_stop ends.polls.items) h now
-    run = subst (λ (n : ℕ). IsRunOf (lists_in items) n (lanes_of m may_stop ends.puts.items) (left_of m may_stop ends.polls.items) h now)
+    run : IsRunOf (lists_in items) sources (lanes_of m may_stop may_pass ends.puts.items) (left_of m may_stop may_pass ends.polls.items) h now
+    run = subst (λ (n : ℕ). IsRunOf (lists_in items) n (lanes_of m may_stop may_pass ends.puts.items) (left_of m may_stop may_pass ends.polls.items) h now)
         (sym jobs.polls.ok.0 ∙ all.polls) (its items all.puts)
 
     pub taken : WereTakenIn (lists_in items) sources h now
-    taken = record { lanes = lanes_of m may_stop ends.puts.items; consumers = left_of m may_stop ends.polls.items; run = run }
+    taken = record { lanes = lanes_of m may_stop may_pass ends.puts.items; consumers = left_of m may_stop may_pass ends.polls.items; run = run }
 
-    few : length (lanes_of m may_stop ends.puts.items) ≡ length items
-    few = sym (zip_length _ (lists_in items) (lanes_of m may_stop ends.puts.items) run.fronts) ∙ length-map items (λ (v : Vec ℕ Z). v.items)
+    few : length (lanes_of m may_stop may_pass ends.puts.items) ≡ length items
+    few = sym (zip_length _ (lists_in items) (lanes_of m may_stop may_pass ends.puts.items) run.fronts) ∙ length-map items (λ (v : Vec ℕ Z). v.items)
 
     -- where a worker has come to an end, there was a list or a source
     pub some_worker : 0 < length ends.puts.items + length ends.polls.items → 0 < length items + sources
@@ -197,15 +198,15 @@ module _ {R Z : Type 0} (m : MailboxView) (may_stop : Who → ℕ → Type 0) (i
         → slice_get roll.lanes p ≡ Some (Some done) → slice_get roll.readers s.reader.reader ≡ Some (Some s.reader.part)
         → HasReadToEnd p s → length (notes_on p s.notes) ≡ length (values_put p done)) where
       -- no more are stopped than there are
-      total : w.stopped ≡ sum_by (λ (l : LaneLeft). from_bool l.stopped) (lanes_of m may_stop ends.puts.items)
-          + sum_by (λ (c : ConsumerLeft). from_bool c.stopped) (left_of m may_stop ends.polls.items)
+      total : w.stopped ≡ sum_by (λ (l : LaneLeft). from_bool l.stopped) (lanes_of m may_stop may_pass ends.puts.items)
+          + sum_by (λ (c : ConsumerLeft). from_bool c.stopped) (left_of m may_stop may_pass ends.polls.items)
       total =
           let puts = sum_same (λ (d : PutDone Z). from_bool d.stopped) (λ (l : LaneLeft). from_bool l.stopped)
           (λ (d : PutDone Z). lane_left d.producer d.stopped) (λ d. refl) ends.puts.items in
           let polls = sum_same (λ (d : PollDone Z). from_bool d.stopped) (λ (c : ConsumerLeft). from_bool c.stopped)
           (λ (d : PollDone Z). left_by d.consumer d.stopped) (λ d. refl) ends.polls.items in
-          let most = at_most_each (λ (l : LaneLeft). l.stopped) (lanes_of m may_stop ends.puts.items) in
-          let others = at_most_each (λ (c : ConsumerLeft). c.stopped) (left_of m may_stop ends.polls.items) in
+          let most = at_most_each (λ (l : LaneLeft). l.stopped) (lanes_of m may_stop may_pass ends.puts.items) in
+          let others = at_most_each (λ (c : ConsumerLeft). c.stopped) (left_of m may_stop may_pass ends.polls.items) in
           let count = run.count in
           let lanes = few in
           omega (arith, stopped, puts, polls, most, others, lanes, count, small)
@@ -218,31 +219,43 @@ module _ {R Z : Type 0} (m : MailboxView) (may_stop : Who → ℕ → Type 0) (i
 
       pub worked : IsWorked may_stop budget (lists_in items) sources w h now
       worked = record {
-        lanes = lanes_of m may_stop ends.puts.items;
-        consumers = left_of m may_stop ends.polls.items;
+        lanes = lanes_of m may_stop may_pass ends.puts.items;
+        consumers = left_of m may_stop may_pass ends.polls.items;
         run = run;
         stopped = total;
-        stopped_puts = subst (λ (n : ℕ). AreStoppedPuts may_stop n (length h.puts) (lists_in items) (lanes_of m may_stop ends.puts.items)) cells
-            (run_stops m may_stop h from end budget items jobs.puts.items ends.puts.items jobs.polls.items ends.polls.items hub all.puts given.polls came.puts came.polls puts_on);
+        stopped_puts = subst (λ (n : ℕ). AreStoppedPuts may_stop n (length h.puts) (lists_in items) (lanes_of m may_stop may_pass ends.puts.items)) cells
+            (run_stops m may_stop may_pass h from end budget items jobs.puts.items ends.puts.items jobs.polls.items ends.polls.items hub all.puts given.polls came.puts came.polls puts_on);
         stopped_polls =
-            run_poll_stops m may_stop h from end budget items jobs.puts.items ends.puts.items jobs.polls.items ends.polls.items hub all.puts given.polls came.puts came.polls polls_on;
-        ends = subst (λ (n : ℕ). All (λ (x : ConsumerLeft). x.stopped ≡ false → ends_met x.reads ≡ n) (left_of m may_stop ends.polls.items))
+            run_poll_stops m may_stop may_pass h from end budget items jobs.puts.items ends.puts.items jobs.polls.items ends.polls.items hub all.puts given.polls came.puts came.polls polls_on;
+        ends = subst (λ (n : ℕ). All (λ (x : ConsumerLeft). x.stopped ≡ false → ends_met x.reads ≡ n) (left_of m may_stop may_pass ends.polls.items))
             (omega (arith, first, far))
-            (run_ends m may_stop h from end budget items jobs.puts.items ends.puts.items jobs.polls.items ends.polls.items hub all.puts given.polls came.puts came.polls);
-        met = subst (λ (z : ℕ × ℕ). HaveMetEnds z.0 z.1 (length h.ledgers) (left_of m may_stop ends.polls.items))
+            (run_ends m may_stop may_pass h from end budget items jobs.puts.items ends.puts.items jobs.polls.items ends.polls.items hub all.puts given.polls came.puts came.polls);
+        met = subst (λ (z : ℕ × ℕ). HaveMetEnds z.0 z.1 (length h.ledgers) (left_of m may_stop may_pass ends.polls.items))
             (λ i. (first i, far i))
-            (run_met m may_stop h from end budget items jobs.puts.items ends.puts.items jobs.polls.items ends.polls.items hub all.puts given.polls came.puts came.polls);
-        unread = subst (λ (n : ℕ). All (λ (x : ConsumerLeft). x.stopped ≡ true → ends_met x.reads < n) (left_of m may_stop ends.polls.items))
+            (run_met m may_stop may_pass h from end budget items jobs.puts.items ends.puts.items jobs.polls.items ends.polls.items hub all.puts given.polls came.puts came.polls);
+        unread = subst (λ (n : ℕ). All (λ (x : ConsumerLeft). x.stopped ≡ true → ends_met x.reads < n) (left_of m may_stop may_pass ends.polls.items))
             (omega (arith, first, far))
-            (run_unread m may_stop h from end budget items jobs.puts.items ends.puts.items jobs.polls.items ends.polls.items hub all.puts given.polls came.puts came.polls polls_on);
-        only = subst (λ (z : ℕ × ℕ). All (λ (x : ConsumerLeft). IsOnLanes z.0 z.1 x.reads) (left_of m may_stop ends.polls.items))
+            (run_unread m may_stop may_pass h from end budget items jobs.puts.items ends.puts.items jobs.polls.items ends.polls.items hub all.puts given.polls came.puts came.polls polls_on);
+        only = subst (λ (z : ℕ × ℕ). All (λ (x : ConsumerLeft). IsOnLanes z.0 z.1 x.reads) (left_of m may_stop may_pass ends.polls.items))
             (λ i. (first i, far i))
-            (run_only m may_stop h from end budget items jobs.puts.items ends.puts.items jobs.polls.items ends.polls.items hub all.puts given.polls came.puts came.polls polls_on);
+            (run_only m may_stop may_pass h from end budget items jobs.puts.items ends.puts.items jobs.polls.items ends.polls.items hub all.puts given.polls came.puts came.polls polls_on);
         full = full ∙ ap (λ (n : ℕ). min (2 ^ 64 - 1) n)
-            (run_beyond m may_stop h from end budget items jobs.puts.items ends.puts.items jobs.polls.items ends.polls.items hub all.puts given.polls came.puts came.polls);
-        cut = subst (λ (n : ℕ). AreCutByCells n (length h.puts) (lists_in items) (lanes_of m may_stop ends.puts.items)) cells
-            (run_cut m may_stop h from end budget items jobs.puts.items ends.puts.items jobs.polls.items ends.polls.items hub all.puts given.polls came.puts came.polls);
-        noted = all_noted now later pool roll tell m may_stop h.puts (lanes_of m may_stop ends.puts.items) run.puts from end budget first
+            (run_beyond m may_stop may_pass h from end budget items jobs.puts.items ends.puts.items jobs.polls.items ends.polls.items hub all.puts given.polls came.puts came.polls);
+        cut = subst (λ (n : ℕ). AreCutByCells n (length h.puts) (lists_in items) (lanes_of m may_stop may_pass ends.puts.items)) cells
+            (run_cut m may_stop may_pass h from end budget items jobs.puts.items ends.puts.items jobs.polls.items ends.polls.items hub all.puts given.polls came.puts came.polls);
+        noted = all_noted now later pool roll tell m may_stop may_pass h.puts (lanes_of m may_stop may_pass ends.puts.items) run.puts from end budget first
             (last ∙ ap (λ (n : ℕ). length h.puts + n) (sym few)) ends.polls.items h.cells.roll.readers (length h.ledgers) (sym hub.readers) run.reads
-            (nums m may_stop h from end budget items jobs.puts.items ends.puts.items jobs.polls.items ends.polls.items hub all.puts given.polls came.puts came.polls);
+            (nums m may_stop may_pass h from end budget items jobs.puts.items ends.puts.items jobs.polls.items ends.polls.items hub all.puts given.polls came.puts came.polls);
+      }
+
+      pub called : IsCalled may_stop may_pass budget (lists_in items) sources w h now
+      called = record {
+        lanes = lanes_of m may_stop may_pass ends.puts.items;
+        consumers = left_of m may_stop may_pass ends.polls.items;
+        run = run;
+        stopped = total;
+        puts = run_passes m may_stop may_pass h from end budget items jobs.puts.items ends.puts.items jobs.polls.items ends.polls.items hub all.puts given.polls came.puts came.polls;
+        polls = subst (λ (z : ℕ × ℕ). WerePolled may_stop may_pass z.0 z.1 budget (length h.ledgers) (left_of m may_stop may_pass ends.polls.items))
+            (λ i. (first i, far i))
+            (run_polled m may_stop may_pass h from end budget items jobs.puts.items ends.puts.items jobs.polls.items ends.polls.items hub all.puts given.polls came.puts came.polls polls_on);
       }

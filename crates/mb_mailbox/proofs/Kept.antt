@@ -14,29 +14,30 @@ use Rattle.mb_mailbox.specs.declared.working.jobs.PutJob.{PutJob}
 use Rattle.mb_mailbox.proofs.EndsMet.{none_met}
 use Rattle.mb_mailbox.proofs.Marks.{clear}
 
-module _ {G Z : Type 0} (may_stop : G → Who → ℕ → Type 0) (gate : G) where
-  pub put_kept : (j : PutJob Z) (b : PutBegun G Z) (d : PutDone Z) → PutPromises may_stop gate j b → PutKeeps may_stop b d
-      → IsPutEnd (may_stop gate) j d
+module _ {G Z : Type 0} (may_stop may_pass : G → Who → ℕ → Type 0) (gate : G) where
+  pub put_kept : (j : PutJob Z) (b : PutBegun G Z) (d : PutDone Z) → PutPromises may_stop may_pass gate j b → PutKeeps may_stop may_pass b d
+      → IsPutEnd (may_stop gate) (may_pass gate) j d
   put_kept j (put.Apart h) d p k =
-      subst (λ (g : G). IsPutEnd (may_stop g) j d) p.1 (subst (λ (i : PutJob Z). IsPutEnd (may_stop h.promise.gate.value) i d) p.0 k)
-  put_kept j (put.Here e) d p k = subst (λ (e : PutDone Z). IsPutEnd (may_stop gate) j e) (sym k) p
+      subst (λ (g : G). IsPutEnd (may_stop g) (may_pass g) j d) p.1 (subst (λ (i : PutJob Z). IsPutEnd (may_stop h.promise.gate.value) (may_pass h.promise.gate.value) i d) p.0 k)
+  put_kept j (put.Here e) d p k = subst (λ (e : PutDone Z). IsPutEnd (may_stop gate) (may_pass gate) j e) (sym k) p.0
 
-  pub poll_kept : (from end budget : ℕ) (s : ConsumerView) (b : PollBegun G Z) (d : PollDone Z) → PollPromises may_stop gate from end budget s b → PollKeeps may_stop b d
-      → IsPollEnd (may_stop gate) from end budget s d
+  pub poll_kept : (from end budget : ℕ) (s : ConsumerView) (b : PollBegun G Z) (d : PollDone Z) → PollPromises may_stop may_pass gate from end budget s b → PollKeeps may_stop may_pass b d
+      → IsPollEnd (may_stop gate) (may_pass gate) from end budget s d
   poll_kept from end budget s (poll.Apart h) d p k =
       let its = may_stop h.promise.gate.value in
+      let lets = may_pass h.promise.gate.value in
       let one = h.promise.consumer.value in
-      subst (λ (g : G). IsPollEnd (may_stop g) from end budget s d) p.gate
-      (subst (λ (t : ConsumerView). IsPollEnd its from end budget t d) p.consumer
-      (subst (λ (n : ℕ). IsPollEnd its from end n one d) p.most
-      (subst (λ (n : ℕ). IsPollEnd its from n h.promise.budget one d) p.last
-      (subst (λ (n : ℕ). IsPollEnd its n h.promise.end h.promise.budget one d) p.first k))))
-  poll_kept from end budget s (poll.Here e) d p k = subst (λ (e : PollDone Z). IsPollEnd (may_stop gate) from end budget s e) (sym k) p
+      subst (λ (g : G). IsPollEnd (may_stop g) (may_pass g) from end budget s d) p.gate
+      (subst (λ (t : ConsumerView). IsPollEnd its lets from end budget t d) p.consumer
+      (subst (λ (n : ℕ). IsPollEnd its lets from end n one d) p.most
+      (subst (λ (n : ℕ). IsPollEnd its lets from n h.promise.budget one d) p.last
+      (subst (λ (n : ℕ). IsPollEnd its lets n h.promise.end h.promise.budget one d) p.first k))))
+  poll_kept from end budget s (poll.Here e) d p k = subst (λ (e : PollDone Z). IsPollEnd (may_stop gate) (may_pass gate) from end budget s e) (sym k) p.0
 
 -- a consumer that was not run
-pub not_run : {Z : Type 0} (may_stop : Who → ℕ → Type 0) (from end budget : ℕ) (s : ConsumerView) (d : PollDone Z) → d.consumer ≡ s
-    → d.stopped ≡ true → d.off ≡ true → IsPollEnd may_stop from end budget s d
-not_run may_stop from end budget s d is stopped off = record {
+pub not_run : {Z : Type 0} (may_stop may_pass : Who → ℕ → Type 0) (from end budget : ℕ) (s : ConsumerView) (d : PollDone Z) → d.consumer ≡ s
+    → d.stopped ≡ true → d.off ≡ true → IsPollEnd may_stop may_pass from end budget s d
+not_run may_stop may_pass from end budget s d is stopped off = record {
   same = record {
     cells = ap (λ (t : ConsumerView). t.reader.table) is;
     reader = ap (λ (t : ConsumerView). t.reader.reader) is;
@@ -54,12 +55,13 @@ not_run may_stop from end budget s d is stopped off = record {
   stop = λ t f none. let no : true ≡ false = sym off ∙ f in absurd (cc);
   unread = λ t f none. let no : true ≡ false = sym off ∙ f in absurd (cc);
   only = λ f none. let no : true ≡ false = sym off ∙ f in absurd (cc);
+  polled = λ f. let no : true ≡ false = sym off ∙ f in absurd (cc);
 }
 
 -- where the run is off, less is said of the end
-pub still_off : {Z : Type 0} (may_stop : Who → ℕ → Type 0) (from end budget : ℕ) (s : ConsumerView) (d : PollDone Z)
-    → IsPollEnd may_stop from end budget s d → IsPollEnd {Z = Z} may_stop from end budget s (record d { off = true })
-still_off may_stop from end budget s d i = record {
+pub still_off : {Z : Type 0} (may_stop may_pass : Who → ℕ → Type 0) (from end budget : ℕ) (s : ConsumerView) (d : PollDone Z)
+    → IsPollEnd may_stop may_pass from end budget s d → IsPollEnd {Z = Z} may_stop may_pass from end budget s (record d { off = true })
+still_off may_stop may_pass from end budget s d i = record {
   same = i.same;
   read = i.read;
   ends = i.ends;
@@ -67,4 +69,5 @@ still_off may_stop from end budget s d i = record {
   stop = λ t o none. absurd (cc);
   unread = λ t o none. absurd (cc);
   only = λ o none. absurd (cc);
+  polled = λ o. absurd (cc);
 }

@@ -25,6 +25,7 @@ pub mod Runs
 pub mod Noted
 pub mod Final
 pub mod Loops
+pub mod Called
 pub mod Marks
 pub mod PutEnds
 pub mod Kept

@@ -51,21 +51,21 @@ module _ (now : HubView) (hub : IsHub now) (pool : History) (roll : IsRollOf now
             (λ q low high. read q (omega (arith, low)) (omega (arith, high))),
       )
 
-  module _ {Z : Type 0} (m : MailboxView) (may_stop : Who → ℕ → Type 0) (old : List (Option PutListView)) (ls : List LaneLeft) (is : now.puts ≡ old ++ map (λ (l : LaneLeft). Some (ended_list l)) ls)
+  module _ {Z : Type 0} (m : MailboxView) (may_stop may_pass : Who → ℕ → Type 0) (old : List (Option PutListView)) (ls : List LaneLeft) (is : now.puts ≡ old ++ map (λ (l : LaneLeft). Some (ended_list l)) ls)
       (from end budget : ℕ) (first : from ≡ length old) (last : end ≡ length old + length ls) where
     pub all_noted : (es : List (PollDone Z)) (base : List (Option History)) (c : ℕ) → length base ≡ c
-        → now.cells.roll.readers ≡ base ++ map (λ (x : ConsumerLeft). Some x.reads) (left_of m may_stop es) → AreNumbered m may_stop from end budget c es
-        → All (λ (x : ConsumerLeft). x.stopped ≡ false → HasNoteAtEach (length old) ls x.ledger) (left_of m may_stop es)
+        → now.cells.roll.readers ≡ base ++ map (λ (x : ConsumerLeft). Some x.reads) (left_of m may_stop may_pass es) → AreNumbered m may_stop may_pass from end budget c es
+        → All (λ (x : ConsumerLeft). x.stopped ≡ false → HasNoteAtEach (length old) ls x.ledger) (left_of m may_stop may_pass es)
     all_noted [] base c e there a = λ k d low. absurd (omega (arith, low))
     all_noted (d ∷ es) base c e there a =
         let P = λ (x : ConsumerLeft). x.stopped ≡ false → HasNoteAtEach (length old) ls x.ledger in
         let s = d.consumer in
-        let rest = map (λ (x : ConsumerLeft). Some x.reads) (left_of m may_stop es) in
+        let rest = map (λ (x : ConsumerLeft). Some x.reads) (left_of m may_stop may_pass es) in
         let here : slice_get now.cells.roll.readers s.reader.reader ≡ Some (Some s.reader.part) =
         ap (λ (n : ℕ). slice_get now.cells.roll.readers n) a.0.reader
         ∙ ap (λ (xs : List (Option History)). slice_get xs c) there ∙ get_next base rest (Some s.reader.part) c e in
         let one : P (left_by s d.stopped) = λ f. noted_by s here ls old (length old) refl is
         (λ q low high. a.0.read f q (omega (arith, low, first)) (omega (arith, high, last))) in
-        All-cons P (left_by s d.stopped) (left_of m may_stop es) one
+        All-cons P (left_by s d.stopped) (left_of m may_stop may_pass es) one
         (all_noted es (base ++ Some s.reader.part ∷ []) (suc c) (longer base (Some s.reader.part) c e)
         (there ∙ sym (append_assoc base (Some s.reader.part ∷ []) rest)) a.1)

@@ -7,6 +7,8 @@ use Rattle.std.proofs.lemmas.List.Sums.{sum_by-cons}
 use Rattle.std.proofs.lemmas.List.Elements.{All-cons, All-head, All-tail}
 use Rattle.mb_cells.specs.Vocabulary.{HasFoundNone}
 use Rattle.mb_shared_cells.specs.Vocabulary.{CellsName}
+use Rattle.mb_mailbox.specs.Called.{WasPassed, WasPolled, WerePassed, WerePolled}
+use Rattle.mb_mailbox.specs.Calls.{ArePassed}
 use Rattle.mb_mailbox.specs.Consumers.{ConsumerView}
 use Rattle.mb_mailbox.specs.HubRuns.{ArePollJobs, ArePutJobs}
 use Rattle.mb_mailbox.specs.Hubs.{HubView, IsHub, new_producer, put_list_of}
@@ -45,7 +47,7 @@ behind : (stopped : Bool) (list put : List ℕ) (full : ℕ) → (stopped ≡ fa
 behind true list put full rest none = none refl
 behind false list put full rest none = let e = rest refl in omega (arith, e)
 
-module _ {Z : Type 0} (m : MailboxView) (may_stop : Who → ℕ → Type 0) where
+module _ {Z : Type 0} (m : MailboxView) (may_stop may_pass : Who → ℕ → Type 0) where
   abbrev pub producers : List (PutDone Z) → List ProducerView
   producers ds = map (λ d. d.producer) ds
 
@@ -62,13 +64,14 @@ module _ {Z : Type 0} (m : MailboxView) (may_stop : Who → ℕ → Type 0) wher
     pub found : d.stopped ≡ false → d.full ≢ 0 → HasFoundNone m.cells.size.cells p d.producer.seat.part
     pub none : d.stopped ≡ true → d.full ≡ 0
     pub stop : d.stopped ≡ true → d.off ≡ false → IsStoppedPut may_stop m.cells.size.cells p v.items (lane_left d.producer d.stopped)
+    pub passed : WasPassed may_pass p v.items (lane_left d.producer d.stopped)
 
   abbrev pub AreAt : ℕ → List (Vec ℕ Z) → List (PutDone Z) → Type 0
   AreAt p [] [] = Unit {0}
   AreAt p (v ∷ vs) (d ∷ ds) = IsPutEndAt p v d × AreAt (suc p) vs ds
   AreAt p _ _ = ⊥
 
-  end_at : (p : ℕ) (v : Vec ℕ Z) (j : PutJob Z) (d : PutDone Z) → j.producer ≡ new_producer m p → j.list ≡ v → IsPutEnd may_stop j d → IsPutEndAt p v d
+  end_at : (p : ℕ) (v : Vec ℕ Z) (j : PutJob Z) (d : PutDone Z) → j.producer ≡ new_producer m p → j.list ≡ v → IsPutEnd may_stop may_pass j d → IsPutEndAt p v d
   end_at p v j d is list e =
       let lane : d.producer.seat.lane ≡ p = e.same.lane ∙ ap (λ (s : ProducerView). s.seat.lane) is in
       let table : d.producer.seat.table ≡ m.cells = e.same.table ∙ ap (λ (s : ProducerView). s.seat.table) is in
@@ -88,9 +91,16 @@ module _ {Z : Type 0} (m : MailboxView) (may_stop : Who → ℕ → Type 0) wher
               absurd ((subst FoundNoCell is (e.had_cells t o mine)).offered);
           stop = subst (λ (q : ℕ). IsStopBefore may_stop (who.Producer q) (suc (length d.producer.items))) (ap (λ (s : ProducerView). s.seat.lane) is) (e.stop t o);
         };
+        passed = record {
+          put = subst (λ (q : ℕ). ArePassed may_pass (who.Producer q) (length d.producer.items)) (ap (λ (s : ProducerView). s.seat.lane) is) e.passed;
+          full = λ f short.
+              let here = e.full f ∙ ap (λ (w : Vec ℕ Z). length w.items) list in
+              subst (λ (q : ℕ). may_pass (who.Producer q) (suc (length d.producer.items))) (ap (λ (s : ProducerView). s.seat.lane) is)
+              (e.passed_full f (λ z. omega (arith, here, z, short)));
+        };
       }
 
-  are_at : (p : ℕ) (vs : List (Vec ℕ Z)) (js : List (PutJob Z)) (ds : List (PutDone Z)) → ArePutJobs m p vs js → AllZip (IsPutEnd may_stop) js ds → AreAt p vs ds
+  are_at : (p : ℕ) (vs : List (Vec ℕ Z)) (js : List (PutJob Z)) (ds : List (PutDone Z)) → ArePutJobs m p vs js → AllZip (IsPutEnd may_stop may_pass) js ds → AreAt p vs ds
   are_at p [] [] [] a z = tt
   are_at p [] [] (d ∷ ds) a z = absurd z
   are_at p [] (j ∷ js) ds a z = absurd a
@@ -149,6 +159,13 @@ module _ {Z : Type 0} (m : MailboxView) (may_stop : Who → ℕ → Type 0) wher
       let F = λ (d : PutDone Z). d.off ≡ false in
       (λ t. a.0.stop t (All-head F d ds on), stops_of (suc p) vs ds a.1 (All-tail F d ds on))
 
+  -- who was let through
+  passes_of : (p : ℕ) (vs : List (Vec ℕ Z)) (ds : List (PutDone Z)) → AreAt p vs ds → WerePassed may_pass p (lists_in vs) (lanes_of ds)
+  passes_of p [] [] a = tt
+  passes_of p [] (d ∷ ds) a = absurd a
+  passes_of p (v ∷ vs) [] a = absurd a
+  passes_of p (v ∷ vs) (d ∷ ds) a = (a.0.passed, passes_of (suc p) vs ds a.1)
+
   -- ---- consumers
   abbrev pub consumers : List (PollDone Z) → List ConsumerView
   consumers ds = map (λ d. d.consumer) ds
@@ -163,13 +180,14 @@ module _ {Z : Type 0} (m : MailboxView) (may_stop : Who → ℕ → Type 0) wher
     pub stop : d.stopped ≡ true → d.off ≡ false → IsStoppedPoll may_stop budget c (accesses_made d.consumer)
     pub unread : d.stopped ≡ true → d.off ≡ false → ends_met d.consumer.reader.part < end - from
     pub only : d.off ≡ false → IsOnLanes from end d.consumer.reader.part
+    pub polled : d.off ≡ false → WasPolled may_stop may_pass from end budget c (left_by d.consumer d.stopped)
 
   abbrev pub AreNumbered : ℕ → ℕ → ℕ → ℕ → List (PollDone Z) → Type 0
   AreNumbered from end budget c [] = Unit {0}
   AreNumbered from end budget c (d ∷ ds) = IsPollEndAt from end budget c d × AreNumbered from end budget (suc c) ds
 
   numbered : {R : Type 0} (from end budget c : ℕ) (js : List (PollJob R Z)) (ds : List (PollDone Z)) → ArePollJobs m c js
-      → AllZip (λ (j : PollJob R Z) (d : PollDone Z). IsPollEnd may_stop from end budget j.consumer d) js ds → AreNumbered from end budget c ds
+      → AllZip (λ (j : PollJob R Z) (d : PollDone Z). IsPollEnd may_stop may_pass from end budget j.consumer d) js ds → AreNumbered from end budget c ds
   numbered from end budget c [] [] a z = tt
   numbered from end budget c [] (d ∷ ds) a z = absurd z
   numbered from end budget c (j ∷ js) [] a z = absurd z
@@ -183,6 +201,17 @@ module _ {Z : Type 0} (m : MailboxView) (may_stop : Who → ℕ → Type 0) wher
       stop = λ t o. subst (λ (c : ℕ). IsStoppedPoll may_stop budget c (accesses_made d.consumer)) a.0.consumer (z.0.stop t o a.0.none);
       unread = λ t o. z.0.unread t o a.0.none;
       only = λ o. z.0.only o a.0.none;
+      polled = λ o. record {
+        first = j.consumer;
+        last = d.consumer;
+        reader = a.0.reader;
+        consumer = a.0.consumer;
+        none = a.0.none;
+        polled = z.0.polled o;
+        reads = refl;
+        claimed = refl;
+        ledger = refl;
+      };
     },
     numbered from end budget (suc c) js ds a.1 z.1,
   )
@@ -204,6 +233,13 @@ module _ {Z : Type 0} (m : MailboxView) (may_stop : Who → ℕ → Type 0) wher
   poll_stops_of from end budget c (d ∷ ds) a on =
       let F = λ (d : PollDone Z). d.off ≡ false in
       (λ t. a.0.stop t (All-head F d ds on), poll_stops_of from end budget (suc c) ds a.1 (All-tail F d ds on))
+
+  polled_of : (from end budget c : ℕ) (ds : List (PollDone Z)) → AreNumbered from end budget c ds → All (λ (d : PollDone Z). d.off ≡ false) ds
+      → WerePolled may_stop may_pass from end budget c (left_of ds)
+  polled_of from end budget c [] a on = tt
+  polled_of from end budget c (d ∷ ds) a on =
+      let F = λ (d : PollDone Z). d.off ≡ false in
+      (a.0.polled (All-head F d ds on), polled_of from end budget (suc c) ds a.1 (All-tail F d ds on))
 
   only_of : (from end budget c : ℕ) (ds : List (PollDone Z)) → AreNumbered from end budget c ds → All (λ (d : PollDone Z). d.off ≡ false) ds
       → All (λ (x : ConsumerLeft). IsOnLanes from end x.reads) (left_of ds)
@@ -235,8 +271,8 @@ module _ {Z : Type 0} (m : MailboxView) (may_stop : Who → ℕ → Type 0) wher
   -- ---- a whole run
   module _ {R : Type 0} (h : HubView) (from end budget : ℕ) (vs : List (Vec ℕ Z)) (js : List (PutJob Z)) (ds : List (PutDone Z))
       (ks : List (PollJob R Z)) (es : List (PollDone Z)) (i : IsHub h) (putting : ArePutJobs m (length h.puts) vs js)
-      (polling : ArePollJobs m (length h.ledgers) ks) (put : AllZip (IsPutEnd may_stop) js ds)
-      (polled : AllZip (λ (j : PollJob R Z) (d : PollDone Z). IsPollEnd may_stop from end budget j.consumer d) ks es) where
+      (polling : ArePollJobs m (length h.ledgers) ks) (put : AllZip (IsPutEnd may_stop may_pass) js ds)
+      (polled : AllZip (λ (j : PollJob R Z) (d : PollDone Z). IsPollEnd may_stop may_pass from end budget j.consumer d) ks es) where
     abbrev pub now : HubView
     now = after js ks (producers ds) (consumers es) h
 
@@ -247,10 +283,10 @@ module _ {Z : Type 0} (m : MailboxView) (may_stop : Who → ℕ → Type 0) wher
     nums = numbered from end budget (length h.ledgers) ks es polling polled
 
     puts_count : length js ≡ length (producers ds)
-    puts_count = zip_length (IsPutEnd may_stop) js ds put ∙ sym (length-map ds (λ (d : PutDone Z). d.producer))
+    puts_count = zip_length (IsPutEnd may_stop may_pass) js ds put ∙ sym (length-map ds (λ (d : PutDone Z). d.producer))
 
     polls_count : length ks ≡ length (consumers es)
-    polls_count = zip_length (λ (j : PollJob R Z) (d : PollDone Z). IsPollEnd may_stop from end budget j.consumer d) ks es polled
+    polls_count = zip_length (λ (j : PollJob R Z) (d : PollDone Z). IsPollEnd may_stop may_pass from end budget j.consumer d) ks es polled
         ∙ sym (length-map es (λ (d : PollDone Z). d.consumer))
 
     pub run_of : IsRunOf (lists_in vs) (length ks) (lanes_of ds) (left_of es) h now
@@ -282,6 +318,12 @@ module _ {Z : Type 0} (m : MailboxView) (may_stop : Who → ℕ → Type 0) wher
 
     pub run_stops : All (λ (d : PutDone Z). d.off ≡ false) ds → AreStoppedPuts may_stop m.cells.size.cells (length h.puts) (lists_in vs) (lanes_of ds)
     run_stops on = stops_of (length h.puts) vs ds ats on
+
+    pub run_passes : WerePassed may_pass (length h.puts) (lists_in vs) (lanes_of ds)
+    run_passes = passes_of (length h.puts) vs ds ats
+
+    pub run_polled : All (λ (d : PollDone Z). d.off ≡ false) es → WerePolled may_stop may_pass from end budget (length h.ledgers) (left_of es)
+    run_polled on = polled_of from end budget (length h.ledgers) es nums on
 
     pub run_poll_stops : All (λ (d : PollDone Z). d.off ≡ false) es → AreStoppedPolls may_stop budget (length h.ledgers) (left_of es)
     run_poll_stops on = poll_stops_of from end budget (length h.ledgers) es nums on

@@ -1,8 +1,9 @@
 -- What the workers of a run are given, and what they give back.
 use Rattle.std.specs.Prelude.{ℕ, suc, ◌≡◌, ◌≢◌, ◌+◌, ◌-◌, ◌*◌, ◌^◌, ◌<◌, ◌≤◌, ◌⊎◌, ◌++◌, Bool, List, [], ◌∷◌, false, length, slice_index_or, true}
-use Rattle.mb_mailbox.specs.Below.{END, Has, HasLoaded, HasMet, Head, History, Link, Load, Look, PoolAccess, PoolAct, Word, look_of, place_past}
+use Rattle.mb_mailbox.specs.Below.{END, Has, HasLoaded, HasMet, Head, History, Link, Load, Look, PoolAccess, PoolAct, Stream, Word, look_of, place_past}
 use Rattle.mb_cells.specs.declared.answer.Look.TheVariants as look
 use Rattle.std.specs.Int.{from_bool}
+use Rattle.mb_mailbox.specs.Calls.{ArePassed, HasCalled}
 use Rattle.mb_mailbox.specs.Consumers.{ConsumerView}
 use Rattle.mb_mailbox.specs.Producers.{FoundNoCell, IsSameLane, is_over}
 use Rattle.mb_mailbox.specs.Steps.{notes_on}
@@ -85,10 +86,20 @@ pub record IsStoppedPoll (may_stop : Who → ℕ → Type 0) (budget c made : �
   pub most : made ≤ budget * (call - 1)
   pub stop : IsStopBefore may_stop (who.Consumer c) call
 
-module _ {Z : Type 0} (may_stop : Who → ℕ → Type 0) where
+-- a consumer has made calls, each of which the gate let through, and where it was stopped, it was so before the next one
+pub record HasPolled (may_stop may_pass : Who → ℕ → Type 0) (from end budget : ℕ) (stopped : Bool) (old new : ConsumerView)
+    : Type 0 where
+  pub calls : ℕ
+  pub source : Stream
+  pub left : Stream
+  pub called : HasCalled may_pass from end budget calls source left old new
+  pub stop : stopped ≡ true → IsStopBefore may_stop (who.Consumer old.seat.consumer) (suc calls)
+
+module _ {Z : Type 0} (may_stop may_pass : Who → ℕ → Type 0) where
   -- the producer put a beginning of its list, and ended its lane. Where it was not stopped, `full` counts the rest of the
   -- list, and if there is any, a fetch-add of its own found no cell. Where it was, there is a rest, each of its fetch-adds
-  -- found a cell, and it was stopped before the call of the next item, or the run is off
+  -- found a cell, and it was stopped before the call of the next item, or the run is off. The gate let each of its calls
+  -- through: one for each item that it put, and one for the item that found no cell
   pub record IsPutEnd (j : PutJob Z) (d : PutDone Z) : Type 0 where
     pub same : IsSameLane j.producer d.producer
     pub over : is_over d.producer ≡ true
@@ -100,11 +111,15 @@ module _ {Z : Type 0} (may_stop : Who → ℕ → Type 0) where
     pub had_cells : d.stopped ≡ true → d.off ≡ false → FoundNoCell d.producer → FoundNoCell j.producer
     pub stop : d.stopped ≡ true → d.off ≡ false
         → IsStopBefore may_stop (who.Producer j.producer.seat.lane) (suc (length d.producer.items))
+    pub passed : ArePassed may_pass (who.Producer j.producer.seat.lane) (length d.producer.items)
+    pub passed_full : d.stopped ≡ false → d.full ≢ 0
+        → may_pass (who.Producer j.producer.seat.lane) (suc (length d.producer.items))
 
   -- the consumer, where it was not stopped, has read each lane from `from` on and below `end` to its end mark. One that had
   -- made no access has then loaded as many end marks as there are of these lanes; stopped or not, it has loaded end marks
   -- just as many times as there are lanes among these that it has read to their ends. Where the run is not off, it has looked at
-  -- the heads of these lanes alone, and where it was stopped it was so before a call, and has loaded fewer end marks
+  -- the heads of these lanes alone, it has made its calls with this budget and nothing else, and where it was stopped it was so
+  -- before a call, and has loaded fewer end marks
   pub record IsPollEnd (from end budget : ℕ) (s : ConsumerView) (d : PollDone Z) : Type 0 where
     pub same : IsSameConsumer s d.consumer
     pub read : d.stopped ≡ false → (p : ℕ) → from ≤ p → p < end → HasReadToEnd p d.consumer
@@ -114,3 +129,4 @@ module _ {Z : Type 0} (may_stop : Who → ℕ → Type 0) where
         → IsStoppedPoll may_stop budget s.seat.consumer (accesses_made d.consumer)
     pub unread : d.stopped ≡ true → d.off ≡ false → accesses_made s ≡ 0 → ends_met d.consumer.reader.part < end - from
     pub only : d.off ≡ false → accesses_made s ≡ 0 → IsOnLanes from end d.consumer.reader.part
+    pub polled : d.off ≡ false → HasPolled may_stop may_pass from end budget d.stopped s d.consumer

@@ -15,9 +15,11 @@ pub mod NewConsumers
 pub mod Examples
 pub mod Jobs
 pub mod Begun
+pub mod Calls
 pub mod Rooms
 pub mod Runs
 pub mod Worked
+pub mod Called
 pub mod HubRuns
 pub mod Given
 pub mod Gathering

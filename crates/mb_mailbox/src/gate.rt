@@ -1,5 +1,5 @@
 //! The gate that workers pass at each call.
-ghost use Rattle.std.specs.Prelude.{ℕ, ◌≡◌, false};
+ghost use Rattle.std.specs.Prelude.{ℕ, ◌≡◌, false, true};
 
 /// A worker.
 #[derive(Clone, Copy, PartialEq, Eq, Debug)]
@@ -18,10 +18,14 @@ pub trait Gate: Sync {
     // Before which calls it may stop which worker. Where an implementation says nothing, it may stop each before any.
     ghost may_stop: { Self → Who → ℕ → Type 0 } = { λ _ _ _. Unit {0} };
 
+    // Before which calls it may let which worker pass. Where an implementation says nothing, it may let each pass before any.
+    ghost may_pass: { Self → Who → ℕ → Type 0 } = { λ _ _ _. Unit {0} };
+
     /// Whether the worker may make its call of this number. Where it may not, the worker stops. It answers `false` only
-    /// where `may_stop` holds.
+    /// where `may_stop` holds, and `true` only where `may_pass` does.
     fn enter(&self, who: Who, call: u64) -> bool
-        ensures { result ≡ false → may_stop self.now who call };
+        ensures stop { result ≡ false → may_stop self.now who call }
+        ensures pass { result ≡ true → may_pass self.now who call };
 
     /// The worker has made its call of this number.
     fn leave(&self, who: Who, call: u64);

@@ -2,6 +2,7 @@
 ghost use Rattle.std.specs.Prelude.{◌≡◌, ◌≢◌, ◌↔◌, ◌+◌, ◌-◌, ◌^◌, ◌<◌, ◌≤◌, ◌⊎◌, Err, IfOk, length, vec_len};
 ghost use Rattle.mb_mailbox.specs.declared.working.WorkFault.TheVariants.{AllGiven, BadBudget, NoMemory, NoThread};
 ghost use Rattle.mb_mailbox.specs.Below.{consumer_count};
+ghost use Rattle.mb_mailbox.specs.Called.{IsCalled};
 ghost use Rattle.mb_mailbox.specs.Hubs.{HubView, IsHubOf};
 ghost use Rattle.mb_mailbox.specs.Rooms.{HasJobRoom, HasRoom};
 ghost use Rattle.mb_mailbox.specs.Worked.{AsksTooMany, IsWorked, WereTakenIn, WereTakenInEarly, lists_in};
@@ -109,6 +110,10 @@ pub fn work<
     // Whatever comes else, all that was given is taken in, and each producer given has ended its lane.
     ensures worked { IfOk result (λ w.
         IsWorked (G.may_stop gate.now) budget (lists_in items.items) (vec_len rngs) w hub.old hub.new) }
+
+    // Each call of a worker comes where the gate may let it pass, and one of a consumer is a poll with this budget.
+    ensures called { IfOk result (λ w. IsCalled (G.may_stop gate.now) (G.may_pass gate.now) budget
+        (lists_in items.items) (vec_len rngs) w hub.old hub.new) }
     ensures no_thread { result ≡ Err NoThread
         → WereTakenIn (lists_in items.items) (vec_len rngs) hub.old hub.new }
     ensures some_thread { result ≡ Err NoThread → 0 < vec_len items + vec_len rngs }
@@ -216,6 +221,8 @@ fn work_with<
     ensures bad_budget { result ≢ Err BadBudget }
     ensures worked { IfOk result (λ w.
         IsWorked (G.may_stop gate.now) budget (lists_in items.items) (vec_len rngs) w hub.old hub.new) }
+    ensures called { IfOk result (λ w. IsCalled (G.may_stop gate.now) (G.may_pass gate.now) budget
+        (lists_in items.items) (vec_len rngs) w hub.old hub.new) }
     ensures no_thread { result ≡ Err NoThread
         → WereTakenIn (lists_in items.items) (vec_len rngs) hub.old hub.new }
     ensures some_thread { result ≡ Err NoThread → 0 < vec_len items + vec_len rngs }

@@ -49,7 +49,7 @@ pub(crate) struct Puts<G: Gate, A: Allocator + Drop> {
 impl<G: Gate, A: Allocator + Drop> Promise<PutDone<A>> for Puts<G, A> {
     ghost use Rattle.mb_mailbox.specs.Jobs.{IsPutEnd};
 
-    ghost kept_by = { λ p d. IsPutEnd (G.may_stop p.gate.value) p.job.value d };
+    ghost kept_by = { λ p d. IsPutEnd (G.may_stop p.gate.value) (G.may_pass p.gate.value) p.job.value d };
 }
 
 /// A consumer and its source of random words.
@@ -81,5 +81,5 @@ pub(crate) struct Polls<G: Gate, A: Allocator + Drop> {
 impl<G: Gate, A: Allocator + Drop> Promise<PollDone<A>> for Polls<G, A> {
     ghost use Rattle.mb_mailbox.specs.Jobs.{IsPollEnd};
 
-    ghost kept_by = { λ p d. IsPollEnd (G.may_stop p.gate.value) p.from p.end p.budget p.consumer.value d };
+    ghost kept_by = { λ p d. IsPollEnd (G.may_stop p.gate.value) (G.may_pass p.gate.value) p.from p.end p.budget p.consumer.value d };
 }

@@ -11,7 +11,7 @@ use std::thread::Threads;
 
 /// The end of a producer's worker, whose thread is joined where it has one.
 fn put_end<W: Threads, G: Gate, A: Allocator + Drop>(rt: &W, one: PutBegun<G, A>) -> PutDone<A>
-    ensures { PutKeeps G.may_stop one result }
+    ensures { PutKeeps G.may_stop G.may_pass one result }
 {
     match one {
         PutBegun::Apart(handle) => handle.join(rt),
@@ -27,7 +27,7 @@ pub(super) fn join_puts<W: Threads, G: Gate, A: Allocator + Drop>(
 ) -> Vec<PutDone<A>, A>
     requires none { done.items ≡ [] }
     requires room { vec_len begun ≤ vec_capacity done }
-    ensures { AllZip (PutKeeps G.may_stop) begun.items result.items }
+    ensures { AllZip (PutKeeps G.may_stop G.may_pass) begun.items result.items }
 {
     for one in begun {
         done.push_reserved(put_end(rt, one));
@@ -37,7 +37,7 @@ pub(super) fn join_puts<W: Threads, G: Gate, A: Allocator + Drop>(
 
 /// The end of a consumer's worker, whose thread is joined where it has one.
 fn poll_end<W: Threads, G: Gate, A: Allocator + Drop>(rt: &W, one: PollBegun<G, A>) -> PollDone<A>
-    ensures { PollKeeps G.may_stop one result }
+    ensures { PollKeeps G.may_stop G.may_pass one result }
 {
     match one {
         PollBegun::Apart(handle) => handle.join(rt),
@@ -53,7 +53,7 @@ pub(super) fn join_polls<W: Threads, G: Gate, A: Allocator + Drop>(
 ) -> Vec<PollDone<A>, A>
     requires none { done.items ≡ [] }
     requires room { vec_len begun ≤ vec_capacity done }
-    ensures { AllZip (PollKeeps G.may_stop) begun.items result.items }
+    ensures { AllZip (PollKeeps G.may_stop G.may_pass) begun.items result.items }
 {
     for one in begun {
         done.push_reserved(poll_end(rt, one));

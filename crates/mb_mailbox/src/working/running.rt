@@ -41,7 +41,7 @@ fn run_in<
     requires of { AreOf mailbox.now jobs }
     requires few { lanes.end ≤ mailbox.now.cells.size.lanes }
     requires room { HasRoom (vec_len jobs.puts) (vec_len jobs.polls) room }
-    ensures { AreEndsOf (G.may_stop gate.now) lanes.from lanes.end lanes.budget jobs result }
+    ensures { AreEndsOf (G.may_stop gate.now) (G.may_pass gate.now) lanes.from lanes.end lanes.budget jobs result }
 {
     let Jobs { puts, polls } = jobs;
     let Room {
@@ -78,7 +78,7 @@ pub(super) fn run<
     requires of { AreOf mailbox.now jobs }
     requires few { lanes.end ≤ mailbox.now.cells.size.lanes }
     requires room { HasRoom (vec_len jobs.puts) (vec_len jobs.polls) room }
-    ensures { AreEndsOf (G.may_stop gate.now) lanes.from lanes.end lanes.budget jobs result }
+    ensures { AreEndsOf (G.may_stop gate.now) (G.may_pass gate.now) lanes.from lanes.end lanes.budget jobs result }
 {
     thread::scope(
         thread::scope_env(),
@@ -87,7 +87,7 @@ pub(super) fn run<
             requires of { AreOf mailbox.now jobs }
             requires few { lanes.end ≤ mailbox.now.cells.size.lanes }
             requires room { HasRoom (vec_len jobs.puts) (vec_len jobs.polls) room }
-            ensures { AreEndsOf (G.may_stop gate.entry.now) lanes.from lanes.end lanes.budget jobs result }
+            ensures { AreEndsOf (G.may_stop gate.entry.now) (G.may_pass gate.entry.now) lanes.from lanes.end lanes.budget jobs result }
         { run_in(scope, rt, mailbox, jobs, lanes, gate, going, room) },
     )
 }
@@ -101,7 +101,7 @@ pub(super) fn end_puts<A: Allocator + Drop, B: Allocator + Drop>(
     requires of { All (λ j. IsProducerOf mailbox.now j.producer) jobs.items }
     requires none { done.items ≡ [] }
     requires room { vec_len jobs ≤ vec_capacity done }
-    ensures { AllZip (IsPutEnd (λ _ _. ⊥)) jobs.items result.items }
+    ensures { AllZip (IsPutEnd (λ _ _. ⊥) (λ _ _. ⊥)) jobs.items result.items }
 {
     for job in jobs {
         done.push_reserved(put_nothing(mailbox, job));
@@ -133,7 +133,7 @@ pub(super) fn end_all<R: Drop, G: Gate, A: Allocator + Drop, B: Allocator + Drop
 ) -> Ends<A>
     requires of { AreOf mailbox.now jobs }
     requires room { HasRoom (vec_len jobs.puts) (vec_len jobs.polls) room }
-    ensures { (from end budget : ℕ) → AreEndsOf (λ _ _. ⊥) from end budget jobs result }
+    ensures { (from end budget : ℕ) → AreEndsOf (λ _ _. ⊥) (λ _ _. ⊥) from end budget jobs result }
 {
     let Jobs { puts, polls } = jobs;
     let Ends {

@@ -26,7 +26,7 @@ fn start_put<'s, E: 's, A: Allocator + Drop + Send + Sync + 's, G: Gate + 's>(
     going: &'s AtomicBool,
 ) -> PutBegun<G, A>
     requires of { IsProducerOf mailbox.now job.producer }
-    ensures { PutPromises G.may_stop gate.now job result }
+    ensures { PutPromises G.may_stop G.may_pass gate.now job result }
 {
     let promise = Puts {
         job: Snapshot::of(&job),
@@ -34,7 +34,7 @@ fn start_put<'s, E: 's, A: Allocator + Drop + Send + Sync + 's, G: Gate + 's>(
     };
     let body = move || -> PutDone<A>
         requires { IsProducerOf mailbox.now job.producer }
-        ensures { IsPutEnd (G.may_stop gate.entry.now) job result }
+        ensures { IsPutEnd (G.may_stop gate.entry.now) (G.may_pass gate.entry.now) job result }
     { put_list(mailbox, job, gate, going) };
     match scope.spawn_with(promise, body) {
         Ok(handle) => PutBegun::Apart(handle),
@@ -60,7 +60,7 @@ pub(super) fn start_puts<'s, E: 's, A: Allocator + Drop + Send + Sync + 's, G: G
     requires of { All (λ j. IsProducerOf mailbox.now j.producer) jobs.items }
     requires none { begun.items ≡ [] }
     requires room { vec_len jobs ≤ vec_capacity begun }
-    ensures { AllZip (PutPromises G.may_stop gate.now) jobs.items result.items }
+    ensures { AllZip (PutPromises G.may_stop G.may_pass gate.now) jobs.items result.items }
 {
     for job in jobs {
         begun.push_reserved(start_put(scope, mailbox, job, gate, going));
@@ -85,7 +85,7 @@ fn start_poll<
 ) -> PollBegun<G, A>
     requires of { IsConsumerOf mailbox.now job.consumer }
     requires few { lanes.end ≤ mailbox.now.cells.size.lanes }
-    ensures { PollPromises G.may_stop gate.now lanes.from lanes.end lanes.budget job.consumer result }
+    ensures { PollPromises G.may_stop G.may_pass gate.now lanes.from lanes.end lanes.budget job.consumer result }
 {
     let promise = Polls {
         consumer: Snapshot::of(&job.consumer),
@@ -97,7 +97,7 @@ fn start_poll<
     let body = move || -> PollDone<A>
         requires of { IsConsumerOf mailbox.now job.consumer }
         requires few { lanes.end ≤ mailbox.now.cells.size.lanes }
-        ensures { IsPollEnd (G.may_stop gate.entry.now) lanes.from lanes.end lanes.budget job.consumer result }
+        ensures { IsPollEnd (G.may_stop gate.entry.now) (G.may_pass gate.entry.now) lanes.from lanes.end lanes.budget job.consumer result }
     { poll_lanes(mailbox, job, lanes, gate, going) };
     match scope.spawn_with(promise, body) {
         Ok(handle) => PollBegun::Apart(handle),
@@ -131,7 +131,7 @@ pub(super) fn start_polls<
     requires few { lanes.end ≤ mailbox.now.cells.size.lanes }
     requires none { begun.items ≡ [] }
     requires room { vec_len jobs ≤ vec_capacity begun }
-    ensures { AllZip (λ j b. PollPromises G.may_stop gate.now lanes.from lanes.end lanes.budget j.consumer b)
+    ensures { AllZip (λ j b. PollPromises G.may_stop G.may_pass gate.now lanes.from lanes.end lanes.budget j.consumer b)
         jobs.items result.items }
 {
     for job in jobs {

@@ -1,9 +1,11 @@
 //! The bodies of the workers.
 ghost use Rattle.std.specs.Prelude.{ℕ, suc, ◌≡◌, ◌≢◌, ◌+◌, ◌<◌, ◌≤◌, ◌⊎◌, [], IfNone, IfSome, false, length, slice_index_or, slice_set, take, true};
+ghost use Rattle.mb_mailbox.specs.Calls.{ArePassed};
 ghost use Rattle.mb_mailbox.specs.Consumers.{IsConsumerOf};
 ghost use Rattle.mb_mailbox.specs.declared.gate.Who.TheVariants as who;
 ghost use Rattle.mb_mailbox.specs.Jobs.{HasReadMarked, IsOnLanes, IsPollEnd, IsPutEnd, IsSameConsumer, IsStopBefore, accesses_made, count_marks, ends_met};
 ghost use Rattle.mb_mailbox.specs.Producers.{FoundNoCell, IsProducerOf, IsSameLane, is_over};
+ghost use Rattle.mb_mailbox.specs.Steps.{IsPollOf};
 
 use super::ending::ends_are_kept;
 use super::jobs::{Lanes, PollDone, PollJob, PutDone, PutJob};
@@ -44,6 +46,9 @@ fn put_items<A: Allocator + Drop, B: Allocator + Drop, G: Gate>(
     ensures stop { result.stopped ≡ true → result.off ≡ false
         → IsStopBefore (G.may_stop gate.now) (who.Producer producer.old.seat.lane) (suc result.count) }
     ensures had_cells { result.stopped ≡ true → FoundNoCell producer.new → FoundNoCell producer.old }
+    ensures passed { ArePassed (G.may_pass gate.now) (who.Producer producer.old.seat.lane) result.count }
+    ensures passed_full { result.stopped ≡ false → result.count ≢ length items.now
+        → G.may_pass gate.now (who.Producer producer.old.seat.lane) (suc result.count) }
 {
     let who = Who::Producer(producer.seat.lane());
     for (i, item) in items.iter().enumerate() {
@@ -87,7 +92,7 @@ pub(super) fn put_list<A: Allocator + Drop, B: Allocator + Drop, G: Gate>(
     going: &AtomicBool,
 ) -> PutDone<A>
     requires of { IsProducerOf mailbox.now job.producer }
-    ensures { IsPutEnd (G.may_stop gate.now) job result }
+    ensures { IsPutEnd (G.may_stop gate.now) (G.may_pass gate.now) job result }
 {
     let PutJob { mut producer, list } = job;
     let Linked {
@@ -115,7 +120,7 @@ pub(super) fn put_nothing<A: Allocator + Drop, B: Allocator + Drop>(
     job: PutJob<A>,
 ) -> PutDone<A>
     requires of { IsProducerOf mailbox.now job.producer }
-    ensures { IsPutEnd (λ _ _. ⊥) job result }
+    ensures { IsPutEnd (λ _ _. ⊥) (λ _ _. ⊥) job result }
 {
     let PutJob {
         producer: mut idle,
@@ -182,6 +187,8 @@ fn poll_lane<A: Allocator + Drop, B: Allocator + Drop, R: Rng>(
         → (p ≡ lane) ⊎ (slice_index_or ended.old p false ≡ true) }
     ensures ends { ends_met consumer.new.reader.part + count_marks ended.old
         ≡ ends_met consumer.old.reader.part + count_marks ended.new }
+    ensures polled { (answer : _)
+        × IsPollOf lane budget answer (R.stream rng.old) (R.stream rng.new) consumer.old consumer.new }
     ensures same { IsSameConsumer consumer.old consumer.new }
     ensures of { IsConsumerOf mailbox.now consumer.new }
 {
@@ -203,7 +210,7 @@ pub(super) fn poll_lanes<A: Allocator + Drop, B: Allocator + Drop, R: Rng + Drop
 ) -> PollDone<A>
     requires of { IsConsumerOf mailbox.now job.consumer }
     requires few { lanes.end ≤ mailbox.now.cells.size.lanes }
-    ensures { IsPollEnd (G.may_stop gate.now) lanes.from lanes.end lanes.budget job.consumer result }
+    ensures { IsPollEnd (G.may_stop gate.now) (G.may_pass gate.now) lanes.from lanes.end lanes.budget job.consumer result }
 {
     let Lanes { from, end, budget } = lanes;
     let PollJob {

@@ -14,7 +14,7 @@ loop-job-preserved g c = record {
   left = grind (arith, common_steps);
   room = grind (arith, common_steps);
   ends = rw c.push_reserved.ensures.items
-      (zip_more (IsPutEnd (λ _ _. ⊥)) c.loop-job.yielded c.loop-job.done.items c.in-Some.job c.put_nothing.result c.loop-job.invariant.ends c.put_nothing.ensures);
+      (zip_more (IsPutEnd (λ _ _. ⊥) (λ _ _. ⊥)) c.loop-job.yielded c.loop-job.done.items c.in-Some.job c.put_nothing.result c.loop-job.invariant.ends c.put_nothing.ensures);
 }
 
 pub put_nothing-requires : goal.put_nothing-requires

@@ -11,5 +11,5 @@ invariant-loop-job g l = record {
   all_of : All (λ j. IsProducerOf l.mailbox j.producer) (into_iter_items l.job-iterator);
   left : vec_len l.done + into_iter_len l.job-iterator ≡ vec_len l.fn.jobs;
   room : vec_len l.fn.jobs ≤ vec_capacity l.done;
-  ends : AllZip (IsPutEnd (λ _ _. ⊥)) l.yielded l.done.items;
+  ends : AllZip (IsPutEnd (λ _ _. ⊥) (λ _ _. ⊥)) l.yielded l.done.items;
 }

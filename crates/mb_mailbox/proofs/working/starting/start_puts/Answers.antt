@@ -14,7 +14,7 @@ loop-job-preserved g c = record {
   left = grind (arith, common_steps);
   room = grind (arith, common_steps);
   promised = rw c.push_reserved.ensures.items
-      (zip_more (PutPromises g.G.Gate.may_stop c.args.gate.now) c.loop-job.yielded c.loop-job.begun.items c.in-Some.job c.start_put.result c.loop-job.invariant.promised c.start_put.ensures);
+      (zip_more (PutPromises g.G.Gate.may_stop g.G.Gate.may_pass c.args.gate.now) c.loop-job.yielded c.loop-job.begun.items c.in-Some.job c.start_put.result c.loop-job.invariant.promised c.start_put.ensures);
 }
 
 pub start_put-requires-clause-of : goal.start_put-requires-clause-of

@@ -11,5 +11,5 @@ invariant-loop-job g l = record {
   all_of : All (λ j. IsProducerOf l.mailbox j.producer) (into_iter_items l.job-iterator);
   left : vec_len l.begun + into_iter_len l.job-iterator ≡ vec_len l.fn.jobs;
   room : vec_len l.fn.jobs ≤ vec_capacity l.begun;
-  promised : AllZip (PutPromises g.G.Gate.may_stop l.gate) l.yielded l.begun.items;
+  promised : AllZip (PutPromises g.G.Gate.may_stop g.G.Gate.may_pass l.gate) l.yielded l.begun.items;
 }

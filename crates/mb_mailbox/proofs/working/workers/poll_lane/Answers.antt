@@ -78,3 +78,13 @@ returns-in_default-clause-ends g c =
     let none = no_end_by c.args.lane c.args.budget c.poll-poll.result _ _ c.args.consumer.now c.poll-poll.new.self (c.poll-poll.ensures.polled there)
     c.in_default.not-Ended in
     omega (arith, none)
+
+pub returns-in-Ended-clause-polled : goal.returns-in-Ended-clause-polled
+returns-in-Ended-clause-polled g c =
+    let there : c.poll-poll.result ≢ poll.NoLane = λ z. (let far = c.poll-poll.ensures.no_lane.0 z in omega (arith, far, c.requires.few.0)) in
+    (c.poll-poll.result, c.poll-poll.ensures.polled there)
+
+pub returns-in_default-clause-polled : goal.returns-in_default-clause-polled
+returns-in_default-clause-polled g c =
+    let there : c.poll-poll.result ≢ poll.NoLane = λ z. (let far = c.poll-poll.ensures.no_lane.0 z in omega (arith, far, c.requires.few.0)) in
+    (c.poll-poll.result, c.poll-poll.ensures.polled there)

@@ -1,4 +1,7 @@
-use Rattle.std.proofs.Common.{⊎_elim, inl, inr, rules, ◌≡◌, ◌∙◌, Bool, List, [], ◌∷◌, arith, false, refl}
+use Rattle.std.proofs.Common.{⊎_elim, inl, inr, rules, ◌≡◌, ◌∙◌, ◌-◌, ℕ, Bool, List, [], ◌∷◌, arith, false, refl, subst}
+use Rattle.mb_mailbox.specs.Jobs.{IsStopBefore}
+use Rattle.mb_mailbox.specs.declared.gate.Who.TheVariants as who
+use Rattle.mb_mailbox.proofs.Called.{called_more, none_called}
 use Rattle.mb_mailbox.proofs.Loops.{budget_more}
 use Rattle.mb_mailbox.proofs.EndsMet.{none_met}
 use Rattle.mb_mailbox.proofs.Looks.{none_on}
@@ -20,6 +23,7 @@ loop-call-init g c = record {
   ends = λ none. none_met c.args.job.consumer none;
   made = omega arith;
   most = omega arith;
+  called = none_called (g.G.Gate.may_pass c.args.gate.now) _ _ _ _ _ c.args.job.consumer (omega arith);
 }
 
 pub loop-call-preserved : goal.loop-call-preserved
@@ -47,6 +51,8 @@ loop-call-preserved g c =
           omega (arith, met, next);
       made = omega (arith, made, more);
       most = budget_more c.args.lanes.budget c.loop-call.call _ _ _ (omega (arith, c.loop-call.auto.call)) was.most c.poll_lane.ensures.most;
+      called = called_more (g.G.Gate.may_pass c.args.gate.now) _ _ _ (c.loop-call.call - 1) _ c.in-Some.lane c.poll_lane.ensures.polled.0 _ _ _ _ _ _
+          (omega (arith, c.loop-call.auto.call)) was.called c.in-Some.ensures.low c.in-Some.ensures.some.0 c.poll_lane.ensures.polled.1 (search rules);
     }
 
 pub returns-in_default : goal.returns-in_default
@@ -68,6 +74,13 @@ returns-in_default g c = record {
   stop = λ t o none. absurd (cc);
   unread = λ t o none. absurd (cc);
   only = λ o. c.loop-call.invariant.only;
+  polled = λ o. record {
+    calls = c.loop-call.call - 1;
+    source = g.R.Rng.stream c.args.job.rng;
+    left = g.R.Rng.stream c.loop-call.rng;
+    called = c.loop-call.invariant.called;
+    stop = λ t. absurd (cc);
+  };
 }
 
 pub returns-in-None : goal.returns-in-None
@@ -89,12 +102,23 @@ returns-in-None g c = record {
   stop = λ t o none. absurd (cc);
   unread = λ t o none. absurd (cc);
   only = λ o. c.loop-call.invariant.only;
+  polled = λ o. record {
+    calls = c.loop-call.call - 1;
+    source = g.R.Rng.stream c.args.job.rng;
+    left = g.R.Rng.stream c.loop-call.rng;
+    called = c.loop-call.invariant.called;
+    stop = λ t. absurd (cc);
+  };
 }
 
 pub returns : goal.returns
 returns g c =
     let i = c.loop-call.invariant in
     let most = i.most in
+    let stop : IsStopBefore (g.G.Gate.may_stop c.args.gate.now) (who.Consumer c.args.job.consumer.seat.consumer) c.loop-call.call = elim c.loop-call-test.branch [
+      | else-loop-call-test w ↦ inr (omega (arith, w.loop-call-test.false, c.loop-call.auto.call))
+      | then-loop-call-test+in-Some+else-not-load+then-not-enter w ↦ inl (search rules)
+    ] in
     record {
       same = i.same;
       read = λ f. absurd (cc);
@@ -105,10 +129,7 @@ returns g c =
         first = omega (arith, c.loop-call.auto.call);
         within = i.made;
         most = omega (arith, most, none);
-        stop = elim c.loop-call-test.branch [
-          | else-loop-call-test w ↦ inr (omega (arith, w.loop-call-test.false, c.loop-call.auto.call))
-          | then-loop-call-test+in-Some+else-not-load+then-not-enter w ↦ inl (search rules)
-        ];
+        stop = stop;
       };
       unread = λ t o none.
           let met = i.ends none in
@@ -117,4 +138,12 @@ returns g c =
           let fewer = marks_fewer c.loop-call.ended c.args.lanes.from c.args.lanes.end c.in-Some-next_lane.field-0 i.marks some.1 low some.0 in
           omega (arith, met, fewer);
       only = λ o. i.only;
+      polled = λ o. record {
+        calls = c.loop-call.call - 1;
+        source = g.R.Rng.stream c.args.job.rng;
+        left = g.R.Rng.stream c.loop-call.rng;
+        called = i.called;
+        stop = λ t. subst (λ (n : ℕ). IsStopBefore (g.G.Gate.may_stop c.args.gate.now) (who.Consumer c.args.job.consumer.seat.consumer) n)
+            (omega (arith, c.loop-call.auto.call)) stop;
+      };
     }

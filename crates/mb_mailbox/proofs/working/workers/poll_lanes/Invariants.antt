@@ -1,4 +1,5 @@
 use Rattle.std.proofs.Common.{◌≡◌, ℕ, true, false, slice_index_or, ◌<◌, suc, ◌+◌, ◌-◌, ◌*◌, ◌≤◌}
+use Rattle.mb_mailbox.specs.Calls.{HasCalled}
 use Rattle.mb_mailbox.specs.Consumers.{IsConsumerOf}
 use Rattle.mb_mailbox.specs.Jobs.{HasReadMarked, IsOnLanes, IsSameConsumer, accesses_made, count_marks, ends_met}
 use Rattle.mb_mailbox.proofs.working.workers.poll_lanes.Given as goal
@@ -14,4 +15,5 @@ invariant-loop-call g l = record {
   ends : accesses_made l.fn.job.consumer ≡ 0 → ends_met l.consumer.reader.part ≡ count_marks l.ended;
   made : l.call ≤ suc (accesses_made l.consumer);
   most : accesses_made l.consumer ≤ accesses_made l.fn.job.consumer + l.budget * (l.call - 1);
+  called : HasCalled (g.G.Gate.may_pass l.gate) l.from l.end l.budget (l.call - 1) (g.R.Rng.stream l.fn.job.rng) (g.R.Rng.stream l.rng) l.fn.job.consumer l.consumer;
 }

@@ -1,4 +1,5 @@
 use Rattle.std.proofs.Common.{◌≡◌, ◌<◌, ◌≤◌, ℕ, suc, List, ap, arith, length, length-take, subst, sym, take, ◌∙◌}
+use Rattle.mb_mailbox.specs.Calls.{ArePassed}
 use Rattle.mb_mailbox.specs.Jobs.{IsFront, IsStopBefore}
 use Rattle.mb_mailbox.specs.declared.gate.Who.TheVariants as who
 use Rattle.mb_mailbox.proofs.PutEnds.{found_before, found_still, front_take}
@@ -37,4 +38,12 @@ returns g c =
       stop = λ t o.
           subst (λ (k : ℕ). IsStopBefore (g.G.Gate.may_stop c.args.gate.now) (who.Producer c.args.job.producer.seat.lane) (suc k)) count
           (c.put_items-count.ensures.stop t o);
+      passed = subst (λ (k : ℕ). ArePassed (g.G.Gate.may_pass c.args.gate.now) (who.Producer c.args.job.producer.seat.lane) k) count c.put_items-count.ensures.passed;
+      passed_full = λ h some. elim c.if-stopped.branch [
+        | then-stopped w ↦ absurd (cc)
+        | else-stopped w ↦
+            subst (λ (k : ℕ). g.G.Gate.may_pass c.args.gate.now (who.Producer c.args.job.producer.seat.lane) (suc k)) count
+            (c.put_items-count.ensures.passed_full h
+            (λ z. some (omega (arith, c.args.job.list.ok.0, w.full-is, w.len.ensures, z, ap length c.deref.ensures.value))))
+      ];
     }
