@@ -9,6 +9,8 @@ use std::io;
 use std::process::ExitCode;
 use std::time::Instant;
 
+#[cfg(test)]
+mod checks;
 pub mod gates;
 pub mod plan;
 pub mod refused;
