@@ -61,6 +61,6 @@ fn main(rt: HostRuntime) -> io::Result<ExitCode> {
         }
     }
     eprintln!(rt; "{totals}")?;
-    println!(rt; "no flaw")?;
+    println!(rt; "no flaw in {} runs", totals.runs)?;
     Ok(ExitCode::SUCCESS)
 }

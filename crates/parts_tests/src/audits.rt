@@ -1,4 +1,4 @@
-//! Audits of made-up reports: each flaw is found, and what has none is counted.
+//! Audits of made-up reports: what has no flaw is counted, and for each rule there is a report that breaks that rule alone.
 
 use mailbox_audit::{Flaw, Tally, audit};
 use mb_world::Note;
@@ -63,11 +63,18 @@ fn three_come_to<R: Abort + AllocGlobal>(
 #[test]
 fn an_item_has_one_winner(rt: HostRuntime) -> Result<(), Fail> {
     let other = Some(Flaw::OtherWinner);
-    let cases: [(bool, [&[Note]; 3], Option<Flaw>); 7] = [
+    let cases: [(bool, [&[Note]; 3], Option<Flaw>); 11] = [
         (false, [&[Lost(1)], &[Took(5)], &[Lost(1)]], None),
         (true, [&[Lost(2)], &[Lost(2)], &[Undecided]], None),
         (false, [&[Took(5)], &[Took(5)], &[]], Some(Flaw::TwoTakers)),
         (false, [&[], &[Took(6)], &[]], Some(Flaw::OtherItem)),
+        // A loser does not name itself.
+        (true, [&[], &[Lost(1)], &[]], other),
+        // Losers name one.
+        (true, [&[Lost(1)], &[Lost(2)], &[Undecided]], other),
+        // The one that they name competed, and there is such a consumer.
+        (true, [&[Lost(1)], &[], &[]], other),
+        (true, [&[Lost(3)], &[], &[]], other),
         // It is the taker.
         (false, [&[Took(5)], &[Lost(2)], &[Undecided]], other),
         // Who is alone decides.
