@@ -1,6 +1,6 @@
 -- What a tally counts.
-use Rattle.std.specs.Prelude.{ℕ, ◌≡◌, ◌+◌, ◌%◌, ◌^◌, List, length}
-use Rattle.std.specs.List.{sum_by}
+use Rattle.std.specs.Prelude.{ℕ, ◌≡◌, ◌+◌, ◌%◌, ◌^◌, ◌≤◌, List, length}
+use Rattle.std.specs.List.{All, sum_by}
 use Rattle.mb_world.specs.Report.{LaneView, ReportView}
 use Rattle.mailbox_audit.specs.declared.auditing.Tally.{Tally}
 
@@ -20,8 +20,9 @@ pub record IsLaneCount (lane : LaneView) (t : Tally) : Type 0 where
   pub left : t.left ≡ length lane.left
   pub took : t.took + t.left ≡ t.put
 
--- the same over all lanes of a report, modulo 2^64
+-- no lane has more items left than put, and it counts the same over all lanes of a report, modulo 2^64
 pub record IsReportCount (report : ReportView) (t : Tally) : Type 0 where
   pub put : t.put ≡ sum_by (λ (l : LaneView). length l.put) report.lanes % 2 ^ 64
   pub left : t.left ≡ sum_by (λ (l : LaneView). length l.left) report.lanes % 2 ^ 64
   pub took : (t.took + t.left) % 2 ^ 64 ≡ t.put
+  pub few : All (λ (l : LaneView). length l.left ≤ length l.put) report.lanes

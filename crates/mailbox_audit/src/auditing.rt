@@ -1,6 +1,7 @@
 //! The audit of a whole report.
 
 ghost use Rattle.std.specs.Prelude.{◌≡◌, IfOk};
+ghost use Rattle.mailbox_audit.specs.Asked.{HasAsked};
 ghost use Rattle.mailbox_audit.specs.Tallies.{IsLaneCount, IsReportCount, both, counts};
 
 use crate::meeting::{all_said_of, diary_of};
@@ -10,6 +11,8 @@ use std::alloc::Allocator;
 /// What in a report cannot be.
 #[derive(Clone, Copy, PartialEq, Eq, Debug)]
 pub enum Flaw {
+    /// There are more or fewer lanes than were asked for.
+    OtherLanes,
     /// The diaries are not one for each consumer and lane, in their order.
     OtherDiary,
     /// A diary has more notes than its lane has items, or as many and a claim that is under way.
@@ -73,31 +76,34 @@ impl Tally {
     }
 }
 
-/// How many consumers a report has, where its diaries are one for each consumer and lane, in their order.
-fn consumers_of<A: Allocator + Drop>(report: &Report<A>) -> Result<u32, Flaw> {
-    let mut consumer = 0u32;
-    let mut lane = 0u32;
-    for diary in &report.diaries {
-        if diary.consumer != consumer || diary.lane != lane {
+/// There are so many lanes, and a diary for each consumer and lane, in their order.
+fn are_asked_for<A: Allocator + Drop>(
+    report: &Report<A>,
+    producers: u64,
+    consumers: u64,
+) -> Result<(), Flaw>
+    ensures { IfOk result (λ _. HasAsked producers consumers report.now) }
+{
+    if report.lanes.len() as u64 != producers {
+        return Err(Flaw::OtherLanes);
+    }
+    if producers.checked_mul(consumers) != Some(report.diaries.len() as u64) {
+        return Err(Flaw::OtherDiary);
+    }
+    for (place, diary) in report.diaries.iter().enumerate() {
+        let consumer = (place as u64).checked_div(producers);
+        let lane = (place as u64).checked_rem(producers);
+        if Some(u64::from(diary.consumer)) != consumer || Some(u64::from(diary.lane)) != lane {
             return Err(Flaw::OtherDiary);
         }
-        lane = lane.wrapping_add(1);
-        if lane as usize == report.lanes.len() {
-            lane = 0;
-            consumer = consumer.wrapping_add(1);
-        }
     }
-    if lane == 0 {
-        Ok(consumer)
-    } else {
-        Err(Flaw::OtherDiary)
-    }
+    Ok(())
 }
 
 /// The diaries of a lane have no more notes than it has items, and fewer where a claim is under way.
 fn have_few_notes<A: Allocator + Drop>(
     report: &Report<A>,
-    consumers: u32,
+    consumers: u64,
     lane: usize,
     items: usize,
 ) -> Result<(), Flaw> {
@@ -116,7 +122,7 @@ fn have_few_notes<A: Allocator + Drop>(
 /// One lane and all diaries of it.
 fn audit_lane<A: Allocator + Drop>(
     report: &Report<A>,
-    consumers: u32,
+    consumers: u64,
     number: usize,
     lane: &LaneReport<A>,
 ) -> Result<Tally, Flaw>
@@ -150,11 +156,16 @@ fn audit_lane<A: Allocator + Drop>(
     }
 }
 
-/// What a report comes to, where nothing in it is a flaw.
-pub fn audit<A: Allocator + Drop>(report: &Report<A>) -> Result<Tally, Flaw>
+/// What a report of so many producers and consumers comes to, where nothing in it is a flaw.
+pub fn audit<A: Allocator + Drop>(
+    report: &Report<A>,
+    producers: u64,
+    consumers: u64,
+) -> Result<Tally, Flaw>
+    ensures asked { IfOk result (λ _. HasAsked producers consumers report.now) }
     ensures counts { IfOk result (IsReportCount report.now) }
 {
-    let consumers = consumers_of(report)?;
+    are_asked_for(report, producers, consumers)?;
     let mut tally = Tally::none();
     for (number, lane) in report.lanes.iter().enumerate() {
         tally = tally.with(audit_lane(report, consumers, number, lane)?);

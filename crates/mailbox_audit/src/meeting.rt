@@ -21,9 +21,9 @@ pub(crate) struct Meetings {
     /// How many consumers competed for it.
     pub(crate) competitors: u64,
     /// The consumer that took it.
-    pub(crate) taker: Option<u32>,
+    pub(crate) taker: Option<u64>,
     /// The winner that the losers name.
-    pub(crate) winner: Option<u32>,
+    pub(crate) winner: Option<u64>,
     pub(crate) lost: u64,
     pub(crate) undecided: u64,
     pub(crate) under_way: u64,
@@ -56,7 +56,7 @@ fn said_of<A: Allocator + Drop>(diary: &Diary<A>, j: usize) -> Meeting {
 /// What one consumer's diary says of the item, beside what those before it said.
 fn with_meeting(
     before: Meetings,
-    consumer: u32,
+    consumer: u64,
     item: u64,
     said: Meeting,
 ) -> Result<Meetings, Flaw> {
@@ -75,6 +75,7 @@ fn with_meeting(
             met.taker = Some(consumer);
         }
         Meeting::Noted(Note::Lost(winner)) => {
+            let winner = u64::from(winner);
             if winner == consumer || (met.winner.is_some() && met.winner != Some(winner)) {
                 return Err(Flaw::OtherWinner);
             }
@@ -91,7 +92,7 @@ fn may_have_won<A: Allocator + Drop>(
     report: &Report<A>,
     lane: usize,
     j: usize,
-    winner: u32,
+    winner: u64,
     met: &Meetings,
 ) -> bool {
     let Some(diary) = diary_of(report, winner as usize, lane) else {
@@ -107,7 +108,7 @@ fn may_have_won<A: Allocator + Drop>(
 /// lost to one of them.
 pub(crate) fn all_said_of<A: Allocator + Drop>(
     report: &Report<A>,
-    consumers: u32,
+    consumers: u64,
     lane: usize,
     j: usize,
     item: u64,

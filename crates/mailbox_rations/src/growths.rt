@@ -1,7 +1,8 @@
 //! Each growth of a call refused in its turn.
 
-ghost use Rattle.std.specs.Prelude.{◌<◌, IfOk, false, true};
+ghost use Rattle.std.specs.Prelude.{ℕ, ◌<◌, IfOk, false, true};
 ghost use Rattle.mailbox_rations.specs.Trials.{MaySay};
+ghost use Rattle.mailbox_rations.specs.declared.book.Refuse.TheVariants.{From, Only};
 
 use crate::{Rations, Refuse};
 use std::alloc::Global;
@@ -21,8 +22,10 @@ pub fn growths_refused<R: AllocGlobal, F: Fn(&Rations<Global>) -> Result<bool, F
 ) -> Result<u64, Fail>
     requires { F.IsAlwaysCallable call }
     ensures few { IfOk result (λ growths. growths < 100) }
-    ensures served { IfOk result (λ _. MaySay F.Fn call true) }
-    ensures refused { IfOk result (λ growths. 0 < growths → MaySay F.Fn call false) }
+    ensures served { IfOk result (λ growths. MaySay F.Fn call (From growths) true
+        × MaySay F.Fn call (Only growths) true) }
+    ensures refused { IfOk result (λ growths. (k : ℕ) → k < growths
+        → MaySay F.Fn call (From k) false × MaySay F.Fn call (Only k) false) }
 {
     for number in 0..MANY {
         let from = Rations::new(rt.alloc(), Refuse::From(number));

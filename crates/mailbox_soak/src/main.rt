@@ -9,6 +9,8 @@ use std::io;
 use std::process::ExitCode;
 use std::time::Instant;
 
+#[cfg(test)]
+mod checks;
 pub mod gates;
 pub mod plan;
 pub mod refused;
@@ -59,6 +61,6 @@ fn main(rt: HostRuntime) -> io::Result<ExitCode> {
         }
     }
     eprintln!(rt; "{totals}")?;
-    println!(rt; "no flaw")?;
+    println!(rt; "no flaw in {} runs", totals.runs)?;
     Ok(ExitCode::SUCCESS)
 }

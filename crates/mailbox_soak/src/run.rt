@@ -1,5 +1,8 @@
 //! One run: workers on a mailbox of its own, and what its report has to be.
 
+ghost use Rattle.std.specs.Prelude.{IfOk};
+ghost use Rattle.mailbox_audit.specs.Asked.{HasAsked};
+
 use crate::gates::RandomGate;
 use crate::plan::{Plan, Stops};
 use crate::refused::check_refused;
@@ -100,8 +103,10 @@ fn all_is_met(report: &Report<Global>) -> bool {
 }
 
 /// The report is one of this plan, and of what its workers came to.
-fn check(plan: &Plan, report: &Report<Global>, worked: &Worked) -> Result<Totals, Fault> {
-    let tally = audit(report).map_err(Fault::Report)?;
+pub fn check(plan: &Plan, report: &Report<Global>, worked: &Worked) -> Result<Totals, Fault>
+    ensures { IfOk result (λ _. HasAsked plan.now.producers plan.now.consumers report.now) }
+{
+    let tally = audit(report, plan.producers, plan.consumers).map_err(Fault::Report)?;
     let lacking = lacking(plan, report)?;
     if lacking < worked.full || (worked.stopped == 0 && worked.full < lacking) {
         return Err(Fault::OtherFull);

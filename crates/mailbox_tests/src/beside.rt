@@ -285,7 +285,7 @@ fn two_threads_put_while_two_poll(rt: HostRuntime) -> Result<(), Fail> {
     let report = report_all(&rt, rt.alloc())?;
     assert_eq!(rt; (report.lanes.len(), report.diaries.len()), (2, 4));
     is_whole(&rt, &report);
-    let tally = audit(&report)?;
+    let tally = audit(&report, 2, 2)?;
     assert_eq!(rt; tally.put, 2 * ITEMS);
     Ok(())
 }

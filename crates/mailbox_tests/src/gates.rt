@@ -72,7 +72,7 @@ fn come_and_put<R: Abort + AllocGlobal + Threads + Wait + Sync>(
     let Ok(report) = trial.gather(rt.alloc()) else {
         return Err(Fail::new("no report"));
     };
-    let tally = audit(&report)?;
+    let tally = audit(&report, 1, consumers)?;
     assert_eq!(rt; tally.put, 4);
     // Alone a consumer always decides, and takes each item.
     assert!(rt; consumers != 1 || tally.took == 4);

@@ -217,6 +217,7 @@ fn a_refused_call_is_made_again(rt: HostRuntime) -> Result<(), Fail> {
 
 /// Both lanes have their items and have ended, and each consumer was told of each item, whoever took it.
 fn tells_of_four(rt: &impl Abort, report: &Report<Alloc<'_>>) {
+    assert_eq!(rt; (report.lanes.len(), report.diaries.len()), (2, 4));
     let lists: [&[u64]; 2] = [&[1, 2], &[3, 4]];
     for (lane, list) in report.lanes.iter().zip(lists) {
         assert_eq!(rt; (lane.put.as_slice(), lane.ended), (list, true));

@@ -231,7 +231,7 @@ fn four_producers_and_four_consumers_share_64_cells(rt: HostRuntime) -> Result<(
     let report = four_and_four(&rt)?;
     tells_of_all(&rt, &report);
     // Among others: no item has two who took it.
-    let tally = audit(&report)?;
+    let tally = audit(&report, 4, 4)?;
     assert_eq!(rt; tally.put, 64);
     Ok(())
 }

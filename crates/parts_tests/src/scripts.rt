@@ -1,5 +1,6 @@
 //! Replay scripts: what is read, and the first fault of what is not.
 
+use mailbox_rations::growths_refused;
 use mb_quorum::TableName;
 use mb_script::{
     Fault, Script, Words, has_empty_word, number, numbers, parse, split_line, split_word,
@@ -203,13 +204,20 @@ fn each_growth_of_parse_refused(rt: HostRuntime) -> Result<(), Fail> {
 
 #[test]
 fn a_line_without_events_takes_no_memory(rt: HostRuntime) -> Result<(), Fail> {
-    for text in [
-        "setup 1 1 0 1 bits\n",
-        "setup 1 1 0 1 bits\npush 0 0 0 0 0 0 0 0 0 0 0 0 0 0\n",
+    for (text, want) in [
+        ("setup 1 1 0 1 bits\n", Ok(0)),
+        (
+            "setup 1 1 0 1 bits\npush 0 0 0 0 0 0 0 0 0 0 0 0 0 0\n",
+            Err(Fault::BadLine(2)),
+        ),
     ] {
-        let refused = refusals(&rt, |heap| match parse(heap, text.as_bytes()) {
-            Err(Fault::NoMemory) => Ok(false),
-            _ => Ok(true),
+        let refused = growths_refused(&rt, |alloc| {
+            let read = parse(alloc, text.as_bytes()).map(|script| script.events.len());
+            if read == Err(Fault::NoMemory) {
+                return Ok(false);
+            }
+            assert_eq!(&rt; read, want, "{text}");
+            Ok(true)
         })?;
         assert_eq!(rt; refused, 0, "{text}");
     }

@@ -8,6 +8,6 @@ mod texts;
 mod zeros;
 
 pub use heaps::refusals;
-pub use reports::{DiaryTold, Difference, LaneTold, tells};
+pub use reports::{DiaryTold, Difference, LaneTold, made_up, tells};
 pub use texts::says;
 pub use zeros::{SeenZeros, Zeros};

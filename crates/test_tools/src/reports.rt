@@ -9,7 +9,7 @@ ghost use Rattle.test_tools.specs.Telling.{
 };
 
 use mb_world::{Diary, LaneReport, Note, Report};
-use std::alloc::Allocator;
+use std::alloc::{AllocError, Allocator};
 
 /// What is to be told of a lane: the items put, whether it has ended, and the items left.
 pub type LaneTold<'a> = (&'a [u64], bool, &'a [u64]);
@@ -36,6 +36,34 @@ pub enum Difference {
     Notes(usize),
     /// Whether a claim has begun.
     Begun(usize),
+}
+
+/// A report of these lanes and these diaries, made up.
+pub fn made_up<A: Allocator + Clone + Drop>(
+    alloc: A,
+    lanes: &[LaneTold<'_>],
+    diaries: &[DiaryTold<'_>],
+) -> Result<Report<A>, AllocError> {
+    let mut report = Report {
+        lanes: Vec::new(alloc.clone()?),
+        diaries: Vec::new(alloc.clone()?),
+    };
+    for (put, ended, left) in lanes {
+        report.lanes.push(LaneReport {
+            put: put.to_vec(alloc.clone()?)?,
+            ended: *ended,
+            left: left.to_vec(alloc.clone()?)?,
+        })?;
+    }
+    for (consumer, lane, notes, begun) in diaries {
+        report.diaries.push(Diary {
+            consumer: *consumer,
+            lane: *lane,
+            notes: notes.to_vec(alloc.clone()?)?,
+            begun: *begun,
+        })?;
+    }
+    Ok(report)
 }
 
 /// The report has these lanes and these diaries, in their order; else the first difference, lanes before diaries.
