@@ -80,6 +80,12 @@ pub fn further_lines_are_too_many()
         → list_all is_ascii bytes ≡ true → script_of bytes ≡ Err TooManyEvents }
 {}
 
+/// A script has at most so many bytes, and so many events.
+pub fn scripts_have_limits()
+    ensures bytes { MAX_SCRIPT_LEN ≡ 1048576 }
+    ensures events { MAX_EVENTS ≡ 20000 }
+{}
+
 /// A script has one answer: its events have one replay, and what they did has one report.
 pub fn scripts_have_one_answer()
     ensures { (bytes text other : List ℕ) → IsAnswer bytes text → IsAnswer bytes other → text ≡ other }
