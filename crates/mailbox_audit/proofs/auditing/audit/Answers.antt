@@ -13,11 +13,10 @@ loop-number-preserved g c =
     let within : c.loop-number.number < length lanes = rw (← items) c.loop-number-test.true in
     let here : lane ≡ slice_index_or lanes c.loop-number.number lane = rw (← items) c.lane-item.is in
     let told = c.in_ok-audit_lane.ensures in
-    let few : length lane.left ≤ length lane.put = omega (arith, told.put, told.left, told.took) in
-    (
+    let few : length lane.left ≤ length lane.put = omega (arith, told.put, told.left, told.took) in (
       grind (arith, common_steps),
       grind (arith, common_steps),
       search rules,
       All-more (λ (l : LaneView). length l.left ≤ length l.put) lanes c.loop-number.number lane within c.loop-number.invariant.3
-      (subst (λ (l : LaneView). length l.left ≤ length l.put) here few)
+          (subst (λ (l : LaneView). length l.left ≤ length l.put) here few),
     )
