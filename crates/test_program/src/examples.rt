@@ -33,7 +33,7 @@ pub struct Example {
 }
 
 /// What both streams got, and the status.
-pub fn ended<R: AllocGlobal + Threads + Wait + Sync>(
+pub(crate) fn ended<R: AllocGlobal + Threads + Wait + Sync>(
     rt: &R,
     words: &[&str],
     input: &str,
