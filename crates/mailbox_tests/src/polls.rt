@@ -2,8 +2,10 @@
 
 use crate::trial::Trial;
 use crate::trials::{all_given, both_are_given, ends, new_trial};
+use mb_claim::Shape;
 use mb_mailbox::{Poll, Put};
-use mb_world::Note;
+use mb_quorum::TableName;
+use mb_world::{Note, Setup};
 use std::alloc::{Allocator, Global};
 use std::process::Abort;
 use std::test::Fail;
@@ -108,5 +110,39 @@ fn another_consumer_is_given_between_two_polls(rt: HostRuntime) -> Result<(), Fa
     ] {
         one_is_given_between(&rt, before, after)?;
     }
+    Ok(())
+}
+
+/// A mailbox with a fast path and a last object, of two consumers and one cell with one pair, into which 5 is put. A claim
+/// there makes at most 18 accesses.
+fn fast_and_last<A: Allocator + Clone + Drop>(rt: &impl Abort, alloc: A) -> Result<Trial<A>, Fail> {
+    let shape = Shape {
+        fast: true,
+        last: true,
+    };
+    let setup = Setup::new(1, 2, 1, 1, TableName::Bits)?.shaped(shape);
+    let mut trial = Trial::new(alloc.clone()?, setup)?;
+    both_are_given(&mut trial, alloc)?;
+    assert_eq!(rt; trial.put(0, 5), Some(Put::Linked));
+    Ok(trial)
+}
+
+#[test]
+fn an_item_is_taken_on_the_fast_path(rt: HostRuntime) -> Result<(), Fail> {
+    let mut words = Zeros::default();
+    let mut trial = fast_and_last(&rt, rt.alloc())?;
+    let polls = (
+        trial.poll(0, 0, 5, &mut words),
+        trial.poll(0, 0, 1, &mut words),
+    );
+    let mut other = fast_and_last(&rt, rt.alloc())?;
+    let whole = other.poll(0, 0, 20, &mut words);
+    assert_eq!(rt;
+        (polls, whole),
+        (
+            (Some(Poll::Spent), Some(Poll::Took(5))),
+            Some(Poll::Took(5))
+        )
+    );
     Ok(())
 }

@@ -5,7 +5,7 @@ use Rattle.std.proofs.Common.{arith, mul-le-mul_right, suc-mul}
 use Rattle.std.proofs.lemmas.Bool.{cases_order}
 use Rattle.std.proofs.lemmas.Option.{none-some, same_Some}
 use Rattle.mb_deciding.specs.Vocabulary.{HasReg}
-use Rattle.mb_claim.specs.{Reg, Kind, Value, Proposal, Quorum, Conciliator, Ratifier, width, offset, words_before}
+use Rattle.mb_claim.specs.{Reg, Kind, Value, Proposal, Quorum, Last, Conciliator, Ratifier, LastObject, width, offset, words_before}
 use Rattle.mb_claim.specs.{words_of, address_of, pairs_of, IsWordOf}
 
 -- a word lies within its object
@@ -16,6 +16,12 @@ in_object r (Conciliator s) (Quorum i) h = absurd h
 in_object r Ratifier Value h = absurd h
 in_object r Ratifier Proposal h = omega arith
 in_object r Ratifier (Quorum i) h = omega arith
+in_object r (Conciliator s) Last h = absurd h
+in_object r Ratifier Last h = absurd h
+in_object r LastObject Last h = omega arith
+in_object r LastObject Value h = absurd h
+in_object r LastObject Proposal h = absurd h
+in_object r LastObject (Quorum i) h = absurd h
 
 -- two words of an object lie in two places
 same_word : (r : ℕ) (k : Kind) (p q : Reg) → HasReg r k p → HasReg r k q → offset p ≡ offset q → p ≡ q
@@ -31,6 +37,18 @@ same_word r Ratifier (Quorum i) (Quorum j) h g e = ap Quorum (omega arith)
 same_word r Ratifier (Quorum i) Proposal h g e = absurd (omega arith)
 same_word r Ratifier (Quorum i) Value h g e = absurd g
 same_word r Ratifier Value q h g e = absurd h
+same_word r (Conciliator s) Value Last h g e = absurd g
+same_word r (Conciliator s) Last q h g e = absurd h
+same_word r Ratifier Proposal Last h g e = absurd g
+same_word r Ratifier (Quorum i) Last h g e = absurd g
+same_word r Ratifier Last q h g e = absurd h
+same_word r LastObject Last Last h g e = refl
+same_word r LastObject Last Value h g e = absurd g
+same_word r LastObject Last Proposal h g e = absurd g
+same_word r LastObject Last (Quorum i) h g e = absurd g
+same_word r LastObject Value q h g e = absurd h
+same_word r LastObject Proposal q h g e = absurd h
+same_word r LastObject (Quorum i) q h g e = absurd h
 
 -- a word of the first object
 first_word : (r : ℕ) (k : Kind) (ks : List Kind) (reg : Reg) → IsWordOf r (k ∷ ks) 0 reg → HasReg r k reg
@@ -98,6 +116,7 @@ within r kinds cells k o reg p l =
 pub width_few : (r : ℕ) (k : Kind) → width r k ≤ 1 + r
 width_few r (Conciliator s) = omega arith
 width_few r Ratifier = omega arith
+width_few r LastObject = omega arith
 
 -- no words come before the first object
 pub words_before-first : (r : ℕ) (kinds : List Kind) → words_before r kinds 0 ≡ 0

@@ -1,9 +1,9 @@
 -- How many accesses a claim makes.
-use Rattle.std.proofs.Common.{◌≡◌, ◌+◌, ◌≤◌, ℕ, zero, suc, List, [], ◌∷◌, length, ap, inl, inr, suc-mul, arith}
+use Rattle.std.proofs.Common.{◌≡◌, ◌+◌, ◌≤◌, ℕ, zero, suc, Bool, true, false, List, [], ◌∷◌, ◌++◌, length, ap, inl, inr, suc-mul, arith}
 use Rattle.mb_quorum.specs.Vocabulary.{QuorumTable}
 use Rattle.mb_deciding.specs.Vocabulary.{largest_quorum, spread}
 use Rattle.mb_claim.specs.{Claims, Access, Kind, ObjectTurn, ClaimAccess, Stage, part_on, object_history, IsClaimLawful}
-use Rattle.mb_claim.specs.{pairs_of, most_on_objects, max_steps}
+use Rattle.mb_claim.specs.{Shape, pairs_of, fast_row, last_row, row_of, most_on_objects, max_steps, fast_steps, last_steps, shaped_steps}
 use Rattle.mb_claim.proofs.KindLaws.{AreDeciding}
 use Rattle.mb_claim.proofs.Parts.{Member}
 use Rattle.mb_claim.proofs.Family.{Family, step, here, lawful_here, next}
@@ -46,4 +46,34 @@ pairs_steps t (suc n) =
       arith,
       pairs_steps t n,
       suc-mul n (spread t.values + 3 + largest_quorum t.write t.values + 2 + largest_quorum t.read t.values),
+    )
+
+-- two rows joined take what both take
+pub most-append :
+    (t : QuorumTable) (xs ys : List Kind)
+    → most_on_objects t (xs ++ ys) ≡ most_on_objects t xs + most_on_objects t ys
+most-append t [] ys = omega arith
+most-append t (kind ∷ xs) ys = omega (arith, most-append t xs ys)
+
+fast_most : (t : QuorumTable) (b : Bool) → most_on_objects t (fast_row b) ≡ fast_steps t b
+fast_most t true = omega arith
+fast_most t false = omega arith
+
+last_most : (t : QuorumTable) (b : Bool) → most_on_objects t (last_row b) ≡ last_steps b
+last_most t true = omega arith
+last_most t false = omega arith
+
+-- so a row of any shape takes what its shape says
+pub row_steps :
+    (t : QuorumTable) (shape : Shape) (n : ℕ)
+    → most_on_objects t (row_of shape (spread t.values) n) ≡ shaped_steps t shape n
+row_steps t shape n =
+    let s = spread t.values in
+    omega (
+      arith,
+      most-append t (fast_row shape.fast) (pairs_of s n ++ last_row shape.last),
+      most-append t (pairs_of s n) (last_row shape.last),
+      fast_most t shape.fast,
+      last_most t shape.last,
+      pairs_steps t n,
     )

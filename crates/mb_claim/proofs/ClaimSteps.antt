@@ -6,7 +6,7 @@ use Rattle.std.proofs.lemmas.Bool.{eq-eqb, ne_eqb}
 use Rattle.std.proofs.lemmas.Option.{slice_get_within}
 use Rattle.mb_quorum.specs.Vocabulary.{QuorumTable}
 use Rattle.mb_deciding.specs.Vocabulary.{answer, IsPath, IsAt, IsPlace}
-use Rattle.mb_claim.specs.{Turn, Kind, Conciliator, Ratifier, Pc, InConciliator, InRatifier, ClaimOp, ObjectTurn, Going}
+use Rattle.mb_claim.specs.{Turn, Kind, Conciliator, Ratifier, LastObject, Pc, InConciliator, InLast, InRatifier, ClaimOp, ObjectTurn, Going}
 use Rattle.mb_claim.specs.{Won, Lost, Undecided, Claim, Layout, IsOnObject, IsNextOp, quorums_of, kinds_of}
 use Rattle.mb_claim.specs.{turns_on, stage_for, IsClaimPrefixFrom, PassesAll, StandsAt, IsClaimOf}
 use Rattle.mb_claim.proofs.Lists.{not_empty, get_behind, first_of, none_of, length-push}
@@ -212,6 +212,11 @@ at_place t Ratifier v (InRatifier place) turns at = at.0
 at_place t (Conciliator s) v (InConciliator place) turns at = at.0
 at_place t Ratifier v (InConciliator place) turns at = absurd at
 at_place t (Conciliator s) v (InRatifier place) turns at = absurd at
+at_place t LastObject v (InLast place) turns at = at.0
+at_place t LastObject v (InRatifier place) turns at = absurd at
+at_place t LastObject v (InConciliator place) turns at = absurd at
+at_place t Ratifier v (InLast place) turns at = absurd at
+at_place t (Conciliator s) v (InLast place) turns at = absurd at
 
 -- the claim of a consumer stands on one of the layout's objects
 pub on_object :

@@ -4,8 +4,8 @@ use Rattle.std.proofs.Common.{◌∙◌, ap, subst, inl, arith}
 use Rattle.mb_quorum.specs.Vocabulary.{QuorumTable}
 use Rattle.mb_deciding.specs.declared.access.Op.TheVariants as to
 use Rattle.mb_deciding.specs.Vocabulary.{answer, IsAt, IsOpAt, CanFind, spread}
-use Rattle.mb_claim.specs.{Op, Value, Turn, Draw, Put, Look, Kind, Conciliator, Ratifier, Pc, InRatifier, InConciliator}
-use Rattle.mb_claim.specs.{ObjectTurn, Going, Claim, Layout, pairs_of, quorums_of, kinds_of, turns_on}
+use Rattle.mb_claim.specs.{Op, Value, Turn, Draw, Put, Look, Kind, Conciliator, Ratifier, Pc, InRatifier, InConciliator, InLast}
+use Rattle.mb_claim.specs.{ObjectTurn, Going, Claim, Layout, pairs_of, fast_row, last_row, quorums_of, kinds_of, turns_on}
 use Rattle.mb_claim.specs.{IsClaimPrefixFrom, PassesAll, StandsAt, IsClaimOf}
 use Rattle.mb_claim.proofs.KindLaws.{AreDeciding}
 use Rattle.mb_claim.proofs.Lists.{not_empty, append_nil_parts, append_nil_rest, heads}
@@ -17,15 +17,22 @@ no_turns_on o [] none = refl
 no_turns_on o (x ∷ turns) none = absurd (not_empty _ _ none)
 
 -- a layout has a first object, a conciliator
-first_object : (s n : ℕ) → 1 ≤ n → (rest : List Kind) × (pairs_of s n ≡ Conciliator s ∷ rest)
-first_object s zero some = absurd (omega arith)
-first_object s (suc n) some = (Ratifier ∷ pairs_of s n, refl)
+first_object : (s n : ℕ) (ys : List Kind) → 1 ≤ n → (rest : List Kind) × (pairs_of s n ++ ys ≡ Conciliator s ∷ rest)
+first_object s zero ys some = absurd (omega (arith, some))
+first_object s (suc n) ys some = (Ratifier ∷ (pairs_of s n ++ ys), refl)
+
+-- with a fast path that is a ratifier
+first_kind : (b : Bool) (kind : Kind) (rest ys : List Kind) → ys ≡ kind ∷ rest
+    → (first : Kind) × (behind : List Kind) × (fast_row b ++ ys ≡ first ∷ behind)
+first_kind true kind rest ys is = (Ratifier, Ratifier ∷ ys, refl)
+first_kind false kind rest ys is = (kind, rest, is)
 
 -- what the place of a process in a conciliator without turns does next, and what it may find
 first_load :
     (t : QuorumTable) (s v : ℕ) (pc : Pc) (op : Op) → IsAt t (Conciliator s) v pc [] → IsOpAt t pc op
     → (op ≡ to.Load Value) × ((seen : ℕ) → CanFind t pc op seen → seen ≤ t.values)
 first_load t s v (InRatifier place) op at is = absurd at
+first_load t s v (InLast place) op at is = absurd at
 first_load t s v (InConciliator (Draw input limit modulus)) op at is =
     (is, λ seen can. subst (λ o. CanFind t (InConciliator (Draw input limit modulus)) o seen) is can)
 first_load t s v (InConciliator (Put input)) op at is = absurd at.1.1.2
@@ -60,6 +67,13 @@ module _ (t : QuorumTable) (law : AreDeciding t) (c : ℕ) (known : c < t.values
       let load = first_load t s at.input pc op place is in
       (at.number ∙ ap length before, load.0, load.1)
 
+  -- whatever its first object is, it stands there
+  stands_at_first :
+      (kinds : List Kind) (object : ℕ) (pc : Pc) → StandsAt t kinds c object pc [] → object ≡ 0
+  stands_at_first kinds object pc at =
+      let front : at.front ≡ [] = append_nil_rest (turns_on object at.turns) at.front (sym at.all) in
+      at.number ∙ ap length (none_passed at.before at.front at.input front at.passed)
+
 -- what is not true is false
 not_true : (b : Bool) → (b ≡ true → ⊥) → b ≡ false
 not_true true never = absurd (never refl)
@@ -67,21 +81,27 @@ not_true false never = refl
 
 module _ (layout : Layout) (law : AreDeciding (quorums_of layout)) (claim : Claim)
     (of : IsClaimOf (quorums_of layout) (kinds_of layout) claim []) where
+  -- its pairs and what comes after them
+  abbrev behind_fast : List Kind
+  behind_fast = pairs_of (spread (quorums_of layout).values) layout.pairs ++ last_row layout.shape.last
+
+  abbrev first : (rest : List Kind) × (behind_fast ≡ Conciliator (spread (quorums_of layout).values) ∷ rest)
+  first = first_object (spread (quorums_of layout).values) layout.pairs (last_row layout.shape.last) layout.some
+
   -- its first object, and those after it
-  abbrev first : (rest : List Kind) × (kinds_of layout ≡ Conciliator (spread (quorums_of layout).values) ∷ rest)
-  first = first_object (spread (quorums_of layout).values) layout.pairs layout.some
+  abbrev any_first : (kind : Kind) × (rest : List Kind) × (kinds_of layout ≡ kind ∷ rest)
+  any_first = first_kind layout.shape.fast (Conciliator (spread (quorums_of layout).values)) first.0 behind_fast first.1
 
   -- the claim goes on
   pub fresh_going : claim.stage ≡ Going
   fresh_going =
       one_stage_lem (quorums_of layout) law claim.consumer
       (kinds_of layout) 0 claim.consumer [] claim.stage Going of.prefix
-      (subst (λ ks. IsClaimPrefixFrom (quorums_of layout) claim.consumer ks 0 claim.consumer [] Going) (sym first.1)
+      (subst (λ ks. IsClaimPrefixFrom (quorums_of layout) claim.consumer ks 0 claim.consumer [] Going) (sym any_first.2)
       (inl (record {
         turns = [];
         all = refl;
-        going = (law (Conciliator (spread (quorums_of layout).values))
-            (λ p. p)).opens claim.consumer of.known;
+        going = (law any_first.0 (λ p. p)).opens claim.consumer of.known;
         is = refl;
       })))
 
@@ -89,13 +109,21 @@ module _ (layout : Layout) (law : AreDeciding (quorums_of layout)) (claim : Clai
   pub fresh_begun : claim.begun ≡ false
   fresh_begun = not_true claim.begun (λ e. of.begun.0 e refl)
 
+  -- it stands on the first object
+  pub fresh_object : claim.object ≡ 0
+  fresh_object =
+      stands_at_first (quorums_of layout) law claim.consumer of.known (kinds_of layout) claim.object claim.place
+      (of.stands fresh_going)
+
   -- its next access, and what that may find
   pub fresh_next :
-      (op : Op) → IsOpAt (quorums_of layout) claim.place op
+      layout.shape.fast ≡ false → (op : Op) → IsOpAt (quorums_of layout) claim.place op
       → (claim.object ≡ 0) × (op ≡ to.Load Value)
       × ((seen : ℕ) → CanFind (quorums_of layout) claim.place op seen → seen ≤ (quorums_of layout).values)
-  fresh_next op is =
+  fresh_next slow op is =
+      let row : kinds_of layout ≡ Conciliator (spread (quorums_of layout).values) ∷ first.0 =
+      ap (λ b. fast_row b ++ behind_fast) slow ∙ first.1 in
       stands_first (quorums_of layout) law claim.consumer of.known (spread
       (quorums_of layout).values) claim.object first.0 claim.place op
-      (subst (λ ks. StandsAt (quorums_of layout) ks claim.consumer claim.object claim.place []) first.1
+      (subst (λ ks. StandsAt (quorums_of layout) ks claim.consumer claim.object claim.place []) row
       (of.stands fresh_going)) is

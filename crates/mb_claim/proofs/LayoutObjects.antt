@@ -1,6 +1,6 @@
 -- The objects of a layout.
-use Rattle.std.proofs.Common.{◌≡◌, ◌<◌, ◌≤◌, ◌+◌, ◌*◌, ℕ, zero, suc, Some, List, [], ◌∷◌, drop, length, slice_get, set}
-use Rattle.std.proofs.Common.{refl, ◌∙◌, sym, ap, subst, get_or, arith}
+use Rattle.std.proofs.Common.{◌≡◌, ◌<◌, ◌≤◌, ◌+◌, ◌*◌, ℕ, zero, suc, Bool, true, false, Some, List, [], ◌∷◌, ◌++◌, drop, length, slice_get, set}
+use Rattle.std.proofs.Common.{refl, ◌∙◌, sym, ap, subst, get_or, append-nil, length-append, arith}
 use Rattle.std.proofs.lemmas.Option.{none-some, same_Some, slice_get-get_or, get_or_from_slice_get}
 use Rattle.std.proofs.lemmas.Nat.{mul-le}
 use Rattle.mb_quorum.specs.declared.values.TheConstants.{MAX_VALUES}
@@ -10,7 +10,7 @@ use Rattle.mb_quorum.specs.Width.{width_of}
 use Rattle.mb_quorum.specs.WidthLaw.{width_is_least}
 use Rattle.mb_deciding.specs.Run.{IsFitKind}
 use Rattle.mb_deciding.specs.Vocabulary.{spread}
-use Rattle.mb_claim.specs.{Conciliator, Ratifier, Kind, Layout, pairs_of, most_on_objects, quorums_of, kinds_of}
+use Rattle.mb_claim.specs.{Conciliator, Ratifier, LastObject, Kind, Layout, Shape, pairs_of, fast_row, last_row, row_of, most_on_objects, quorums_of, kinds_of}
 use Rattle.mb_claim.specs.{consumer_count, cell_words}
 use Rattle.mb_claim.specs.declared.layout.TheConstants.{MAX_OBJECTS, MAX_PAIRS}
 use Rattle.mb_claim.proofs.Addresses.{words_of-few}
@@ -36,6 +36,76 @@ second_of_pair s (suc n) i (suc zero) e h = refl
 second_of_pair s (suc n) zero (suc (suc o)) e h = absurd (omega arith)
 second_of_pair s (suc n) (suc i) (suc (suc o)) e h = second_of_pair s n i o (omega arith) (omega arith)
 
+-- ---- rows
+-- what stands in front of others
+get_ahead : (xs ys : List Kind) (o : ℕ) → o < length xs → slice_get (xs ++ ys) o ≡ slice_get xs o
+get_ahead [] ys o h = absurd (omega (arith, h))
+get_ahead (x ∷ xs) ys zero h = refl
+get_ahead (x ∷ xs) ys (suc o) h = get_ahead xs ys o (omega (arith, h))
+
+-- and after them
+get_behind : (xs ys : List Kind) (n o : ℕ) → n ≡ length xs + o → slice_get (xs ++ ys) n ≡ slice_get ys o
+get_behind [] ys n o e = let same : n ≡ o = omega (arith, e) in ap (slice_get ys) same
+get_behind (x ∷ xs) ys zero o e = absurd (omega (arith, e))
+get_behind (x ∷ xs) ys (suc n) o e = get_behind xs ys n o (omega (arith, e))
+
+-- a fast path has two objects at most, and after the pairs there is one at most
+fast_few : (b : Bool) → length (fast_row b) ≤ 2
+fast_few true = omega arith
+fast_few false = omega arith
+
+pub last_few : (b : Bool) → length (last_row b) ≤ 1
+last_few true = omega arith
+last_few false = omega arith
+
+-- so many objects in a row
+pub length-row_of :
+    (shape : Shape) (s n : ℕ)
+    → length (row_of shape s n) ≡ length (fast_row shape.fast) + 2 * n + length (last_row shape.last)
+length-row_of shape s n =
+    omega (
+      arith,
+      length-append (fast_row shape.fast) (pairs_of s n ++ last_row shape.last),
+      length-append (pairs_of s n) (last_row shape.last),
+      length-pairs_of s n,
+    )
+
+-- a row of pairs alone
+pub row_plain : (s n : ℕ) → pairs_of s n ++ [] ≡ pairs_of s n
+row_plain s n = append-nil (pairs_of s n)
+
+-- an object of the fast path
+fast_kind : (b : Bool) (ys : List Kind) (o : ℕ) → o < length (fast_row b) → slice_get (fast_row b ++ ys) o ≡ Some Ratifier
+fast_kind true ys zero h = refl
+fast_kind true ys (suc zero) h = refl
+fast_kind true ys (suc (suc o)) h = absurd (omega (arith, h))
+fast_kind false ys o h = absurd (omega (arith, h))
+
+pub in_fast :
+    (shape : Shape) (s n o : ℕ) → o < length (fast_row shape.fast) → slice_get (row_of shape s n) o ≡ Some Ratifier
+in_fast shape s n o h = fast_kind shape.fast (pairs_of s n ++ last_row shape.last) o h
+
+-- an object of a pair
+pub in_pairs :
+    (shape : Shape) (s n o place : ℕ) → o ≡ length (fast_row shape.fast) + place → place < 2 * n
+    → slice_get (row_of shape s n) o ≡ slice_get (pairs_of s n) place
+in_pairs shape s n o place e h =
+    get_behind (fast_row shape.fast) (pairs_of s n ++ last_row shape.last) o place e
+    ∙ get_ahead (pairs_of s n) (last_row shape.last) place (omega (arith, length-pairs_of s n, h))
+
+-- the last
+last_kind : (b : Bool) → 0 < length (last_row b) → slice_get (last_row b) 0 ≡ Some LastObject
+last_kind true h = refl
+last_kind false h = absurd (omega (arith, h))
+
+pub at_last :
+    (shape : Shape) (s n o : ℕ) → o ≡ length (fast_row shape.fast) + 2 * n → o < length (row_of shape s n)
+    → slice_get (row_of shape s n) o ≡ Some LastObject
+at_last shape s n o e h =
+    get_behind (fast_row shape.fast) (pairs_of s n ++ last_row shape.last) o (2 * n) e
+    ∙ get_behind (pairs_of s n) (last_row shape.last) (2 * n) 0 (omega (arith, length-pairs_of s n))
+    ∙ last_kind shape.last (omega (arith, length-row_of shape s n, e, h))
+
 -- the quorum table of a layout is one
 pub quorums_lawful : (layout : Layout) → IsQuorumTable (quorums_of layout)
 quorums_lawful layout = chosen_lawful layout.table
@@ -51,6 +121,32 @@ fit_in_pairs s (suc n) zero kind h e = subst IsFitKind (same_Some (Conciliator s
 fit_in_pairs s (suc n) (suc zero) kind h e = subst IsFitKind (same_Some Ratifier kind e) tt
 fit_in_pairs s (suc n) (suc (suc o)) kind h e = fit_in_pairs s n o kind h e
 
+-- and those of a list all of whose kinds fit
+fit_behind :
+    (xs ys : List Kind) → ((o : ℕ) (kind : Kind) → slice_get xs o ≡ Some kind → IsFitKind kind)
+    → ((o : ℕ) (kind : Kind) → slice_get ys o ≡ Some kind → IsFitKind kind) → (o : ℕ) (kind : Kind)
+    → slice_get (xs ++ ys) o ≡ Some kind → IsFitKind kind
+fit_behind [] ys f g o kind e = g o kind e
+fit_behind (x ∷ xs) ys f g zero kind e = f 0 kind e
+fit_behind (x ∷ xs) ys f g (suc o) kind e = fit_behind xs ys (λ n k h. f (suc n) k h) g o kind e
+
+fit_fast : (b : Bool) (o : ℕ) (kind : Kind) → slice_get (fast_row b) o ≡ Some kind → IsFitKind kind
+fit_fast true zero kind e = subst IsFitKind (same_Some Ratifier kind e) tt
+fit_fast true (suc zero) kind e = subst IsFitKind (same_Some Ratifier kind e) tt
+fit_fast true (suc (suc o)) kind e = absurd (none-some kind e)
+fit_fast false o kind e = absurd (none-some kind e)
+
+fit_last : (b : Bool) (o : ℕ) (kind : Kind) → slice_get (last_row b) o ≡ Some kind → IsFitKind kind
+fit_last true zero kind e = subst IsFitKind (same_Some LastObject kind e) tt
+fit_last true (suc o) kind e = absurd (none-some kind e)
+fit_last false o kind e = absurd (none-some kind e)
+
+pub fit_in_row :
+    (shape : Shape) (s n o : ℕ) (kind : Kind) → s ≤ 63 → slice_get (row_of shape s n) o ≡ Some kind → IsFitKind kind
+fit_in_row shape s n o kind h e =
+    fit_behind (fast_row shape.fast) (pairs_of s n ++ last_row shape.last) (fit_fast shape.fast)
+    (fit_behind (pairs_of s n) (last_row shape.last) (λ p k f. fit_in_pairs s n p k h f) (fit_last shape.last)) o kind e
+
 -- the last turn of a conciliator of a layout is small
 pub last_turn_small : (layout : Layout) → spread (quorums_of layout).values ≤ 63
 last_turn_small layout =
@@ -60,8 +156,9 @@ last_turn_small layout =
     omega (arith, narrow)
 
 -- a cell has no more objects than any can have
-pub objects_few : (s n : ℕ) → n ≤ MAX_PAIRS → length (pairs_of s n) ≤ MAX_OBJECTS
-objects_few s n few = let all = length-pairs_of s n in omega (arith, all, few)
+pub objects_few : (shape : Shape) (s n : ℕ) → n ≤ MAX_PAIRS → length (row_of shape s n) ≤ MAX_OBJECTS
+objects_few shape s n few =
+    omega (arith, length-row_of shape s n, fast_few shape.fast, last_few shape.last, few)
 
 -- a cell of a layout has few words
 pub cell_small : (layout : Layout) → cell_words layout ≤ 65 * MAX_OBJECTS
@@ -69,7 +166,7 @@ cell_small layout =
     let kinds = kinds_of layout in
     let r = (quorums_of layout).registers in
     let quorum = quorums_lawful layout in
-    let few = objects_few (spread (quorums_of layout).values) layout.pairs layout.few in
+    let few = objects_few layout.shape (spread (quorums_of layout).values) layout.pairs layout.few in
     omega (arith, words_of-few r kinds, mul-le (length kinds) (1 + r) MAX_OBJECTS 65 few (omega (arith, quorum.limit)))
 
 -- where two rows have the same object, either tells it

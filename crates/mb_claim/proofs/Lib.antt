@@ -26,9 +26,11 @@ pub mod LawfulExamples
 pub mod LayoutObjects
 pub mod ClaimSteps
 pub mod StepsLeft
+pub mod MostSteps
 pub mod RunSteps
 pub mod Counterexamples
 pub mod PlayedExamples
 pub mod FirstAccess
 pub mod NextSteps
 pub mod OneRun
+pub mod LastObjects

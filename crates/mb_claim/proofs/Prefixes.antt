@@ -4,7 +4,7 @@ use Rattle.std.proofs.Common.{ap₂, subst, inl, inr, append_assoc, arith}
 use Rattle.std.proofs.lemmas.List.{map-append}
 use Rattle.mb_quorum.specs.Vocabulary.{QuorumTable}
 use Rattle.mb_deciding.specs.Vocabulary.{answer, IsPath, IsOpen, zeros_below, announcement}
-use Rattle.mb_claim.specs.{Act, Turn, Kind, Out, Value, Proposal, Load, Conciliator, Ratifier, ObjectTurn, Stage, Going}
+use Rattle.mb_claim.specs.{Act, Turn, Kind, Out, Value, Proposal, Last, Load, Exchange, Conciliator, Ratifier, LastObject, ObjectTurn, Stage, Going}
 use Rattle.mb_claim.specs.{Undecided, turns_on, stage_for, stage_of, IsClaimPath, IsClaimPrefixFrom}
 use Rattle.mb_claim.proofs.Turns.{turns_for, acts-turns_for}
 use Rattle.mb_claim.proofs.Lists.{not_empty, append_nil_left, append_nil_rest, heads, tails}
@@ -20,6 +20,8 @@ some_path t Ratifier v =
     let begin : List Act = Load Proposal (v + 1) ∷ announcement t v in
     let made : List Act = zeros_below t.registers (t.read v) ++ begin in
     (turns_for made, true, v, (begin, inr refl, acts-turns_for made))
+some_path t LastObject v =
+    (record { act = Exchange Last (v + 1) 0; word = 0 } ∷ [], true, v, (refl, inl (refl, refl)))
 
 -- a whole path of an object leads to a whole path of it and the objects behind it, where these have one of each input
 path_on :

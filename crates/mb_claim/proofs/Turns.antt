@@ -34,6 +34,7 @@ has_turns turns act has e = has_some (acts turns) act has (ap acts e)
 pub reads_seen : (op : Op) (h : List Access) → ReadsLast (act_of op (seen_by op h)) h
 reads_seen (to.Load reg) h = refl
 reads_seen (to.Store reg value) h = tt
+reads_seen (to.Exchange reg value) h = refl
 
 -- an op that found what the history leaves in its word has found what it may find there
 pub told_find :
@@ -41,3 +42,4 @@ pub told_find :
     → CanFind t pc op (seen_by op h) → CanFind t pc op seen
 told_find t pc (to.Load reg) seen h same can = subst (CanFind t pc (to.Load reg)) (sym same) can
 told_find t pc (to.Store reg value) seen h same can = tt
+told_find t pc (to.Exchange reg value) seen h same can = subst (CanFind t pc (to.Exchange reg value)) (sym same) can

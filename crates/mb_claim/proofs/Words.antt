@@ -7,7 +7,8 @@ use Rattle.mb_quorum.specs.Vocabulary.{QuorumTable}
 use Rattle.mb_deciding.specs.declared.access.Op.TheVariants as to
 use Rattle.mb_deciding.specs.Vocabulary.{value_in, value_after, is_same_reg, reg_of_act, stored_by, CanFind, IsOpAt}
 use Rattle.mb_deciding.specs.Vocabulary.{act_of, seen_by, reg_of}
-use Rattle.mb_claim.specs.{Reg, Access, Op, Pc, Value, Proposal, Quorum, Load as Loaded}
+use Rattle.mb_claim.specs.{Reg, Access, Op, Pc, Value, Proposal, Quorum, Last, Load as Loaded}
+use Rattle.mb_claim.specs.{Exchange as Exchanged}
 use Rattle.mb_claim.specs.{after_op}
 
 -- a name of a word is itself
@@ -15,6 +16,7 @@ same_reg-refl : (p : Reg) → is_same_reg p p ≡ true
 same_reg-refl Value = refl
 same_reg-refl Proposal = refl
 same_reg-refl (Quorum i) = eq-eqb i i refl
+same_reg-refl Last = refl
 
 -- names that are one are equal
 same_reg-true : (p q : Reg) → is_same_reg p q ≡ true → p ≡ q
@@ -27,11 +29,19 @@ same_reg-true Proposal Value e = absurd (false≢true e)
 same_reg-true Proposal (Quorum j) e = absurd (false≢true e)
 same_reg-true (Quorum i) Value e = absurd (false≢true e)
 same_reg-true (Quorum i) Proposal e = absurd (false≢true e)
+same_reg-true Last Last e = refl
+same_reg-true Last Value e = absurd (false≢true e)
+same_reg-true Last Proposal e = absurd (false≢true e)
+same_reg-true Last (Quorum j) e = absurd (false≢true e)
+same_reg-true Value Last e = absurd (false≢true e)
+same_reg-true Proposal Last e = absurd (false≢true e)
+same_reg-true (Quorum i) Last e = absurd (false≢true e)
 
 -- the act of an op goes to its word
 reg_of-act_of : (op : Op) (s : ℕ) → reg_of_act (act_of op s) ≡ reg_of op
 reg_of-act_of (to.Load q) s = refl
 reg_of-act_of (to.Store q m) s = refl
+reg_of-act_of (to.Exchange q m) s = refl
 
 -- what is stored stays where the word is the same
 stored_here : (b : Bool) (stored : Option ℕ) (n : ℕ) → b ≡ true
@@ -85,6 +95,7 @@ other_place k o s n op j m q ne =
 pub same_act : (op : Op) (n : ℕ) (h : List Access) → n ≡ value_in (reg_of op) h → act_of op (seen_by op h) ≡ act_of op n
 same_act (to.Load q) n h e = ap (λ m. Loaded q m) (sym e)
 same_act (to.Store q m) n h e = refl
+same_act (to.Exchange q m) n h e = ap (λ k. Exchanged q m k) (sym e)
 
 -- what an op may find in its word does not hang on how the word is named
 pub same_find :
@@ -92,3 +103,4 @@ pub same_find :
     → CanFind t pc op (seen_by op h) → CanFind t pc op n
 same_find t pc (to.Load reg) n h is e fits = subst (CanFind t pc (to.Load reg)) (sym e) fits
 same_find t pc (to.Store reg value) n h is e fits = tt
+same_find t pc (to.Exchange reg value) n h is e fits = subst (CanFind t pc (to.Exchange reg value)) (sym e) fits

@@ -1,11 +1,11 @@
 -- Layouts: the objects that each cell has, where their words lie, and how many turns a claim takes at most.
-use Rattle.std.specs.Prelude.{ℕ, ◌+◌, ◌*◌, List, [], ◌∷◌}
+use Rattle.std.specs.Prelude.{ℕ, ◌+◌, ◌*◌, Bool, true, false, List, [], ◌∷◌}
 use Rattle.mb_quorum.specs.Vocabulary.{QuorumTable, chosen_table}
 use Rattle.mb_deciding.specs.Vocabulary.{largest_quorum, most_turns, spread}
 use Rattle.mb_claim.specs.AllClaims.{Claims, claims_of}
-use Rattle.mb_claim.specs.ObjectTypes.{Reg, Kind}
-pub use Rattle.mb_claim.specs.Rows.{pairs_of, width, offset, words_before, words_of, address_of, IsWordOf}
-use Rattle.mb_claim.specs.Types.{Layout}
+use Rattle.mb_claim.specs.ObjectTypes.{Reg, Kind, Ratifier}
+pub use Rattle.mb_claim.specs.Rows.{pairs_of, fast_row, last_row, row_of, plain, width, offset, words_before, words_of, address_of, IsWordOf}
+use Rattle.mb_claim.specs.Types.{Layout, Shape}
 
 -- ---- the objects of a cell
 -- the quorum table of a layout; its values are the consumers
@@ -16,9 +16,13 @@ quorums_of layout = chosen_table layout.table
 abbrev pub pair_count : Layout → ℕ
 pair_count layout = layout.pairs
 
+-- what it has beside them
+abbrev pub shape_of : Layout → Shape
+shape_of layout = layout.shape
+
 -- the objects of each cell in their order
 abbrev pub kinds_of : Layout → List Kind
-kinds_of layout = pairs_of (spread (quorums_of layout).values) (pair_count layout)
+kinds_of layout = row_of (shape_of layout) (spread (quorums_of layout).values) (pair_count layout)
 
 -- ---- the same of claims
 -- how many words they have
@@ -45,6 +49,19 @@ abbrev pub max_steps : QuorumTable → ℕ → ℕ
 max_steps t pairs =
     pairs * (spread t.values + 3 + largest_quorum t.write t.values + 2 + largest_quorum t.read t.values)
 
+-- what the fast path adds, and what the last object adds
+abbrev pub fast_steps : QuorumTable → Bool → ℕ
+fast_steps t true = 2 * most_turns t Ratifier
+fast_steps t false = 0
+
+abbrev pub last_steps : Bool → ℕ
+last_steps true = 1
+last_steps false = 0
+
+-- of a row of this shape
+abbrev pub shaped_steps : QuorumTable → Shape → ℕ → ℕ
+shaped_steps t shape pairs = fast_steps t shape.fast + (max_steps t pairs + last_steps shape.last)
+
 -- ---- the same of a layout
 -- its claims on so many cells
 abbrev pub claims_in : Layout → ℕ → Claims
@@ -68,4 +85,4 @@ word_address layout k o reg = address_of (quorums_of layout).registers (kinds_of
 
 -- the most accesses of a claim
 abbrev pub most_accesses : Layout → ℕ
-most_accesses layout = max_steps (quorums_of layout) (pair_count layout)
+most_accesses layout = shaped_steps (quorums_of layout) (shape_of layout) (pair_count layout)

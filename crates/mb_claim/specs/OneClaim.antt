@@ -46,10 +46,10 @@ FitsLayout layout claim = claim_stage claim ≡ Going → IsOnObject layout clai
 pub record IsNextOp (layout : Layout) (claim : Claim) (next : ClaimOp) : Type 0 where
   -- on the object on which it stands
   pub object : next.object ≡ claim.object
-  -- the load or store of its place there
+  -- the load, store or exchange of its place there
   pub op : IsOpAt (quorums_of layout) claim.place next.op
 
--- what that access may find: a load gives a value that the word can hold, and what the claim has stored is not empty
+-- what that access may find: a load or an exchange gives a value that the word can hold, and what the claim has stored is not empty
 abbrev pub CanClaimFind : Layout → Claim → ClaimOp → ℕ → Type 0
 CanClaimFind layout claim next seen = CanFind (quorums_of layout) claim.place next.op seen
 

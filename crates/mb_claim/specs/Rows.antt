@@ -1,7 +1,8 @@
 -- The rows of objects: which objects a cell has, how many words these have, and where the words lie.
-use Rattle.std.specs.Prelude.{ℕ, zero, suc, ◌≡◌, ◌+◌, ◌*◌, List, [], ◌∷◌, slice_get, Some}
+use Rattle.std.specs.Prelude.{ℕ, zero, suc, ◌≡◌, ◌+◌, ◌*◌, Bool, true, false, List, [], ◌∷◌, ◌++◌, slice_get, Some}
 use Rattle.mb_deciding.specs.Vocabulary.{HasReg}
-use Rattle.mb_claim.specs.ObjectTypes.{Reg, Value, Proposal, Quorum, Kind, Conciliator, Ratifier}
+use Rattle.mb_claim.specs.ObjectTypes.{Reg, Value, Proposal, Quorum, Last, Kind, Conciliator, Ratifier, LastObject}
+use Rattle.mb_claim.specs.declared.shape.Shape.{Shape}
 
 -- ---- the objects of a cell
 -- so many pairs of a conciliator and a ratifier
@@ -9,17 +10,37 @@ abbrev pub pairs_of : ℕ → ℕ → List Kind
 pairs_of s zero = []
 pairs_of s (suc n) = Conciliator s ∷ Ratifier ∷ pairs_of s n
 
+-- what comes before the pairs: with a fast path two ratifiers
+abbrev pub fast_row : Bool → List Kind
+fast_row true = Ratifier ∷ Ratifier ∷ []
+fast_row false = []
+
+-- and what comes after them: the last object, if there is one
+abbrev pub last_row : Bool → List Kind
+last_row true = LastObject ∷ []
+last_row false = []
+
+-- the objects of a cell of this shape: the fast path, so many pairs, and the last object
+abbrev pub row_of : Shape → ℕ → ℕ → List Kind
+row_of shape s n = fast_row shape.fast ++ (pairs_of s n ++ last_row shape.last)
+
+-- pairs alone
+abbrev pub plain : Shape
+plain = record { fast = false; last = false }
+
 -- ---- addresses
 -- how many words an object has, with r quorum registers
 abbrev pub width : ℕ → Kind → ℕ
 width r (Conciliator s) = 1
 width r Ratifier = 1 + r
+width r LastObject = 1
 
 -- the place of a word within its object
 abbrev pub offset : Reg → ℕ
 offset Value = 0
 offset Proposal = 0
 offset (Quorum i) = 1 + i
+offset Last = 0
 
 -- how many words the objects before object o have
 abbrev pub words_before : ℕ → List Kind → ℕ → ℕ

@@ -26,7 +26,7 @@ pub struct ClaimAccess {
 pub struct ClaimOp {
     /// The number of the object in its cell, from 0 on.
     pub object: u32,
-    /// The load or store that comes next.
+    /// The load, store or exchange that comes next.
     pub op: Op,
 }
 

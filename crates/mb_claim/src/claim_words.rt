@@ -139,5 +139,6 @@ fn word_after(op: Op, seen: u64) -> u64
     match op {
         Op::Load(_) => seen,
         Op::Store(_, value) => value,
+        Op::Exchange(_, value) => { if seen == 0 { value } else { seen } }
     }
 }

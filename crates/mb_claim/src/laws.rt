@@ -2,18 +2,18 @@
 //! contracts are the laws, and their bodies name the laws of deciding objects on which they stand. A law that is not proved
 //! by its contract alone has its proof in `proofs/laws`, in a folder of its name. Laws of one access more, for those who
 //! keep words and histories of their own, are in `steps`.
-ghost use Rattle.std.specs.Prelude.{ℕ, ◌≡◌, ◌≢◌, ◌<◌, ◌≤◌, List, [], ◌∷◌, ◌++◌, true, false, length};
+ghost use Rattle.std.specs.Prelude.{ℕ, ◌≡◌, ◌≢◌, ◌<◌, ◌≤◌, List, [], ◌∷◌, ◌++◌, true, false, length, slice_get, Some};
 ghost use Rattle.mb_quorum.specs.Vocabulary.{QuorumTable, IsQuorumTable};
 ghost use Rattle.mb_quorum.specs.declared.values.TheConstants.{MAX_VALUES};
 ghost use Rattle.mb_deciding.specs.declared.access.Op.TheVariants as to;
 ghost use Rattle.mb_deciding.specs.Vocabulary.{IsPath, answer, spread};
-ghost use Rattle.mb_claim.specs.{Reg, Value, Kind, Ratifier, Out, Claims, claims_of, IsSound, ClaimAccess, ObjectTurn};
-ghost use Rattle.mb_claim.specs.{Stage, Going, MAX_CELLS, MAX_PAIRS};
+ghost use Rattle.mb_claim.specs.{Reg, Value, Kind, Conciliator, Ratifier, LastObject, Out, Claims, claims_of, IsSound, ClaimAccess, ObjectTurn};
+ghost use Rattle.mb_claim.specs.{Stage, Going, Undecided, kinds_of, MAX_CELLS, MAX_PAIRS};
 ghost use Rattle.mb_claim.specs.{IsClaimLawful, HasStage, HasOneWinner, IsWholeClaim};
 ghost use Rattle.mb_claim.specs.{IsClaimPrefix, stage_of, part_on, part_at, left_at, on_cell, most_on_objects};
-ghost use Rattle.mb_claim.specs.{max_steps, pairs_of, Layout, quorums_of, pair_count, consumer_count, claims_in, Claim};
+ghost use Rattle.mb_claim.specs.{max_steps, pairs_of, row_of, shaped_steps, Shape, shape_of, Layout, quorums_of, pair_count, consumer_count, claims_in, Claim};
 ghost use Rattle.mb_claim.specs.{ClaimOp, consumer_of, claim_stage, is_begun, IsClaimIn, IsNextOp, CanClaimFind};
-ghost use Rattle.mb_claim.specs.{FitsLayout, steps_left, ClaimEntry, IsPlayed};
+ghost use Rattle.mb_claim.specs.{FitsLayout, most_accesses, steps_left, ClaimEntry, IsPlayed};
 
 use mb_deciding::laws::{objects_keep_their_promises, ratifiers_decide_unless_contested};
 use mb_deciding::steps::{places_have_turns_left, turns_name_the_next_op};
@@ -36,6 +36,10 @@ pub fn claims_are_bounded()
         → IsQuorumTable t
         → IsClaimLawful (claims_of t (pairs_of (spread t.values) n) cells) h
         → length (part_on c k h) ≤ max_steps t n }
+    ensures rows { (t : QuorumTable) (shape : Shape) (n cells : ℕ) (h : List ClaimAccess) (c k : ℕ)
+        → IsQuorumTable t
+        → IsClaimLawful (claims_of t (row_of shape (spread t.values) n) cells) h
+        → length (part_on c k h) ≤ shaped_steps t shape n }
 {
     objects_keep_their_promises();
 }
@@ -78,6 +82,10 @@ pub fn claims_have_steps_left()
         → FitsLayout layout claim → claim_stage claim ≡ Going → 0 < steps_left layout claim }
     ensures ended { (layout : Layout) (claim : Claim) → claim_stage claim ≢ Going
         → steps_left layout claim ≡ 0 }
+
+    // A claim that was held for a while has no more left, either.
+    ensures most { (layout : Layout) (claim : Claim) (xs : List ObjectTurn)
+        → IsClaimIn layout claim xs → steps_left layout claim ≤ most_accesses layout }
 {
     places_have_turns_left();
 }
@@ -112,6 +120,35 @@ pub fn fast_paths_take_two_ratifiers()
     ratifiers_decide_unless_contested();
 }
 
+/// A claim in a row that ends with a last object is never undecided.
+pub fn last_objects_decide_claims()
+    ensures rows { (t : QuorumTable) (front : List Kind) (cells c k : ℕ) (h : List ClaimAccess)
+        → HasStage (claims_of t (front ++ LastObject ∷ []) cells) c k Undecided h → ⊥ }
+    ensures layouts { (layout : Layout) (claim : Claim) (xs : List ObjectTurn)
+        → (shape_of layout).last ≡ true → IsClaimIn layout claim xs → claim_stage claim ≢ Undecided }
+    ensures stages { (layout : Layout) (cells c k : ℕ) (h : List ClaimAccess)
+        → (shape_of layout).last ≡ true
+        → HasStage (claims_in layout cells) c k Undecided h → ⊥ }
+{}
+
+/// In a layout with a fast path: if object 0 has decided for one consumer, nobody comes to a conciliator of that cell. So
+/// it is if a consumer has ended its claim before the first access of any other.
+pub fn fast_layouts_avoid_conciliators()
+    ensures decided { (layout : Layout) (cells k c u : ℕ) (h : List ClaimAccess)
+        → (shape_of layout).fast ≡ true → IsClaimLawful (claims_in layout cells) h
+        → IsPath (quorums_of layout) Ratifier c (part_at c k 0 h) (answer true u)
+        → (d o s : ℕ) → slice_get (kinds_of layout) o ≡ Some (Conciliator s)
+        → part_at d k o h ≡ [] }
+    ensures alone { (layout : Layout) (cells k c : ℕ) (s : Stage) (later h : List ClaimAccess)
+        → (shape_of layout).fast ≡ true → let cs = claims_in layout cells in
+        IsClaimLawful cs (later ++ h) → ((d : ℕ) → d ≢ c → part_on d k h ≡ [])
+        → IsClaimPrefix cs c (part_on c k h) s → s ≢ Going
+        → (d o i : ℕ) → slice_get (kinds_of layout) o ≡ Some (Conciliator i)
+        → part_at d k o (later ++ h) ≡ [] }
+{
+    fast_paths_take_two_ratifiers();
+}
+
 /// What came before in a lawful history is lawful.
 pub fn older_histories_are_lawful()
     ensures { (cs : Claims) (later h : List ClaimAccess) → IsClaimLawful cs (later ++ h)
@@ -142,17 +179,20 @@ pub fn limits_have_their_numbers()
     ensures cells { MAX_CELLS ≡ 256 }
 {}
 
-/// The claim of a consumer that has made no access goes on, and first loads the word of its first object, a
-/// conciliator.
-pub fn claims_begin_with_a_load()
+/// The claim of a consumer that has made no access goes on, on the first object. Without a fast path that is a
+/// conciliator, and its word is loaded first.
+pub fn claims_begin_on_the_first_object()
     ensures fresh { (layout : Layout) (claim : Claim) → IsClaimIn layout claim []
         → (claim_stage claim ≡ Going) × (is_begun claim ≡ false) }
-    ensures next { (layout : Layout) (claim : Claim) (next : ClaimOp) → IsClaimIn layout claim []
-        → IsNextOp layout claim next → (next.object ≡ 0) × (next.op ≡ to.Load Value) }
+    ensures object { (layout : Layout) (claim : Claim) (next : ClaimOp)
+        → IsClaimIn layout claim [] → IsNextOp layout claim next → next.object ≡ 0 }
+    ensures next { (layout : Layout) (claim : Claim) (next : ClaimOp)
+        → (shape_of layout).fast ≡ false → IsClaimIn layout claim []
+        → IsNextOp layout claim next → next.op ≡ to.Load Value }
 
     // It may find no more than the number of consumers there.
     ensures found { (layout : Layout) (claim : Claim) (next : ClaimOp) (seen : ℕ)
-        → IsClaimIn layout claim []
+        → (shape_of layout).fast ≡ false → IsClaimIn layout claim []
         → IsNextOp layout claim next → CanClaimFind layout claim next seen
         → seen ≤ consumer_count layout }
 {

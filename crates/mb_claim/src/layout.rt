@@ -2,9 +2,10 @@
 ghost use Rattle.std.specs.Prelude.{◌≡◌, ◌<◌, ◌≤◌, ◌+◌, ◌*◌, ℕ, length, slice_get, slice_index};
 ghost use Rattle.mb_quorum.specs.Vocabulary.{chosen_table};
 ghost use Rattle.mb_deciding.specs.Vocabulary.{spread};
-ghost use Rattle.mb_claim.specs.Rows.{pairs_of, words_before, words_of};
+ghost use Rattle.mb_claim.specs.Rows.{row_of, words_before, words_of};
 ghost use Rattle.mb_claim.specs.declared.layout.TheConstants.{MAX_PAIRS};
 
+use crate::shape::Shape;
 use crate::steps::addresses_are_apart;
 use mb_deciding::{Kind, Reg, spread};
 use mb_quorum::{Quorums, Table, TableName};
@@ -17,29 +18,30 @@ pub const MAX_PAIRS: u64 = 8;
 /// The most cells whose words can be addressed.
 pub const MAX_CELLS: u32 = 256;
 
-/// The most objects of a cell: those of `MAX_PAIRS` pairs.
-const MAX_OBJECTS: usize = 2 * MAX_PAIRS as usize;
+/// The most objects of a cell: those of `MAX_PAIRS` pairs, of a fast path and a last object.
+const MAX_OBJECTS: usize = 2 * MAX_PAIRS as usize + 3;
 
-/// The deciding objects that each cell has: so many pairs of a conciliator and a ratifier, over a
-/// quorum table with a value for each consumer. It keeps their row and where each one's words begin, so it has some 1,300
+/// The deciding objects that each cell has: so many pairs of a conciliator and a ratifier, and what its [`Shape`] says
+/// beside them, over a quorum table with a value for each consumer. It keeps their row and where each one's words begin, so it has some 1,300
 /// bytes and is not `Copy`: [`Layout::copy`] says where one more is made.
 #[derive(PartialEq, Eq, Debug, Drop)]
 pub struct Layout {
     pub(crate) table: Table,
     pairs: u32,
+    shape: Shape,
     objects: u32,
     kinds: [Kind; MAX_OBJECTS],
     begins: [u32; MAX_OBJECTS],
     cell_size: u32,
     pub ghost some: { 1 ≤ pairs },
     pub ghost few: { pairs ≤ MAX_PAIRS },
-    pub ghost counted: { objects ≡ length (pairs_of (spread (chosen_table table).values) pairs) },
+    pub ghost counted: { objects ≡ length (row_of shape (spread (chosen_table table).values) pairs) },
     pub ghost row: { (o : ℕ) → o < objects
-        → slice_get (pairs_of (spread (chosen_table table).values) pairs) o ≡ slice_get kinds o },
+        → slice_get (row_of shape (spread (chosen_table table).values) pairs) o ≡ slice_get kinds o },
     pub ghost begin: { (o : ℕ) → o < objects → slice_index begins o ≡ words_before
-        (chosen_table table).registers (pairs_of (spread (chosen_table table).values) pairs) o },
+        (chosen_table table).registers (row_of shape (spread (chosen_table table).values) pairs) o },
     pub ghost size: { cell_size ≡ words_of
-        (chosen_table table).registers (pairs_of (spread (chosen_table table).values) pairs) },
+        (chosen_table table).registers (row_of shape (spread (chosen_table table).values) pairs) },
 }
 
 /// Why there is no layout.
@@ -68,11 +70,12 @@ impl Layout {
     ghost use Rattle.mb_quorum.specs.Tables.{table_of};
     ghost use Rattle.mb_deciding.specs.Run.{IsFitKind};
     ghost use Rattle.mb_deciding.specs.Vocabulary.{spread};
-    ghost use Rattle.mb_claim.specs.{Reg, width, quorums_of, kinds_of, pairs_of, pair_count, offset};
+    ghost use Rattle.mb_claim.specs.{Reg, width, quorums_of, kinds_of, pairs_of, row_of, plain, pair_count, shape_of, offset};
     ghost use Rattle.mb_claim.specs.{consumer_count, cell_words, word_address, HasWord, most_accesses, layout_refusal};
     ghost use Rattle.mb_claim.specs.declared.layout.TheConstants.{MAX_CELLS, MAX_OBJECTS};
 
-    /// The layout for so many consumers, with so many pairs of objects over the quorum table of this name.
+    /// The layout for so many consumers, with so many pairs of objects and nothing beside them, over the quorum table of
+    /// this name.
     /// It is refused with `BadConsumers` if the number of consumers is not in `1..=MAX_VALUES`, and
     /// else with `BadRounds` if the number of pairs is not in `1..=MAX_PAIRS`.
     pub fn new(consumers: u64, pairs: u64, name: TableName) -> Result<Layout, BadLayout>
@@ -82,6 +85,7 @@ impl Layout {
         ensures pairs { IfOk result (λ layout. pair_count layout ≡ pairs) }
         ensures kinds { IfOk result
             (λ layout. kinds_of layout ≡ pairs_of (spread consumers) pairs) }
+        ensures shape { IfOk result (λ layout. shape_of layout ≡ plain) }
     {
         let Ok(table) = Table::new(name, consumers) else {
             return Err(BadLayout::BadConsumers);
@@ -89,27 +93,54 @@ impl Layout {
         if !(1..=MAX_PAIRS).contains(&pairs) {
             return Err(BadLayout::BadRounds);
         }
-        let pairs = pairs as u32;
-        let last_turn = spread(consumers);
+        Ok(Layout::of(table, pairs as u32, Shape::PLAIN))
+    }
+
+    /// The layout of these, with the row and where each of its objects begins.
+    fn of(table: Table, pairs: u32, shape: Shape) -> Layout
+        requires some { 1 ≤ pairs }
+        requires few { pairs ≤ MAX_PAIRS }
+        ensures quorums { quorums_of result ≡ chosen_table table }
+        ensures pairs { pair_count result ≡ pairs }
+        ensures shape { shape_of result ≡ shape }
+    {
+        let last_turn = spread(u64::from(table.values()));
         let registers = table.registers();
-        let objects = Layout::objects_of(pairs);
+        let objects = Layout::objects_of(shape, pairs);
         let mut kinds = [Kind::Ratifier; MAX_OBJECTS];
         let mut begins = [0; MAX_OBJECTS];
         let mut cell_size = 0;
         for object in 0..objects {
-            let kind = Layout::kind_in_row(last_turn, object);
+            let kind = Layout::kind_in_row(shape, pairs, last_turn, object);
             kinds[object as usize] = kind;
             begins[object as usize] = cell_size;
             cell_size += Layout::width(registers, kind);
         }
-        Ok(Layout {
+        Layout {
             table,
             pairs,
+            shape,
             objects,
             kinds,
             begins,
             cell_size,
-        })
+        }
+    }
+
+    /// The layout of the same table and pairs that has this shape.
+    pub fn shaped(&self, shape: Shape) -> Layout
+        ensures quorums { quorums_of result ≡ quorums_of self.now }
+        ensures pairs { pair_count result ≡ pair_count self.now }
+        ensures shape { shape_of result ≡ shape }
+    {
+        Layout::of(self.table.copy(), self.pairs, shape)
+    }
+
+    /// What its cells have beside their pairs.
+    pub fn shape(&self) -> Shape
+        ensures { result ≡ shape_of self.now }
+    {
+        self.shape
     }
 
     /// The same layout once more.
@@ -119,6 +150,7 @@ impl Layout {
         Layout {
             table: self.table.copy(),
             pairs: self.pairs,
+            shape: self.shape,
             objects: self.objects,
             kinds: self.kinds,
             begins: self.begins,
@@ -126,20 +158,28 @@ impl Layout {
         }
     }
 
-    /// How many objects so many pairs have. This function and the next are all that know the row.
-    fn objects_of(pairs: u32) -> u32
+    /// How many objects a row of this shape has. This function and the next are all that know the row.
+    fn objects_of(shape: Shape, pairs: u32) -> u32
         requires { pairs ≤ MAX_PAIRS }
-        ensures { (s : ℕ) → result ≡ length (pairs_of s pairs) }
+        ensures { (s : ℕ) → result ≡ length (row_of shape s pairs) }
     {
-        2 * pairs
+        shape.before() + 2 * pairs + shape.after()
     }
 
-    /// The kind of an object of the row: in turn a conciliator, with this last turn, and a ratifier.
-    fn kind_in_row(last_turn: u32, object: u32) -> Kind
-        ensures { (n : ℕ) → object < length (pairs_of last_turn n)
-            → slice_get (pairs_of last_turn n) object ≡ Some result }
+    /// The kind of an object of the row: of the fast path, of a pair, or the last.
+    fn kind_in_row(shape: Shape, pairs: u32, last_turn: u32, object: u32) -> Kind
+        requires few { pairs ≤ MAX_PAIRS }
+        requires within { object < length (row_of shape last_turn pairs) }
+        ensures { slice_get (row_of shape last_turn pairs) object ≡ Some result }
     {
-        if object % 2 == 0 {
+        let before = shape.before();
+        if object < before {
+            return Kind::Ratifier;
+        }
+        let place = object - before;
+        if place == 2 * pairs {
+            Kind::LastObject
+        } else if place % 2 == 0 {
             Kind::Conciliator { s: last_turn }
         } else {
             Kind::Ratifier
@@ -154,6 +194,7 @@ impl Layout {
         match kind {
             Kind::Conciliator { .. } => 1,
             Kind::Ratifier => 1 + registers,
+            Kind::LastObject => 1,
         }
     }
 
@@ -207,6 +248,7 @@ impl Layout {
             steps += match self.kind_of(object) {
                 Kind::Conciliator { s } => u64::from(s) + 3,
                 Kind::Ratifier => u64::from(write + 2 + read),
+                Kind::LastObject => 1,
             };
         }
         steps
@@ -249,7 +291,7 @@ impl Layout {
         ensures { result ≡ offset reg }
     {
         match reg {
-            Reg::Value | Reg::Proposal => 0,
+            Reg::Value | Reg::Proposal | Reg::Last => 0,
             Reg::Quorum(register) => 1 + register,
         }
     }

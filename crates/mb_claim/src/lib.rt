@@ -2,15 +2,17 @@
 //!
 //! # How a claim goes
 //!
-//! Each cell has deciding objects of [`mb_deciding`] in a row: so many pairs of a conciliator and a ratifier.
+//! Each cell has deciding objects of [`mb_deciding`] in a row: so many pairs of a conciliator and a ratifier. Its [`Shape`]
+//! may add two ratifiers before them, a *fast path*, and a last object after them.
 //! A consumer goes through them in their order, to the first with its own number, to each next one with the value
 //! that the one before gave out. The first object that decides ends the claim: it is *won* where the value is the
-//! consumer's own number, and else *lost* to that number. Behind the last object it is *undecided*.
+//! consumer's own number, and else *lost* to that number. After the last one of the row it is *undecided*, if that has not decided.
 //!
 //! A ratifier that decides a value for one consumer gives that value to all who use it. So those who go on do so with
 //! one value, no later object gives out another, and all who win or lose name one winner. Each value is the input of
 //! somebody who came, so the winner has competed. A conciliator before each ratifier makes it likely that all
-//! come to it with one value, and then it decides. A consumer that is alone is always decided.
+//! come to it with one value, and then it decides. A consumer that is alone is always decided. On a fast path it is decided
+//! before it comes to a conciliator. With a last object every claim is decided.
 //!
 //! # What is here
 //!
@@ -34,6 +36,7 @@ pub mod laws;
 mod layout;
 mod playing;
 mod run;
+mod shape;
 pub mod steps;
 
 pub use access::{ClaimAccess, ClaimOp, ClaimStep, ObjectTurn, Stage};
@@ -42,3 +45,4 @@ pub use claim_words::ClaimWords;
 pub use layout::{BadLayout, Layout, MAX_CELLS, MAX_PAIRS};
 pub use playing::play;
 pub use run::{ClaimEntry, ClaimRun, PlayFault};
+pub use shape::Shape;

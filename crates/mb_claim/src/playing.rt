@@ -1,10 +1,11 @@
 //! Claims of all consumers on one cell, step by step.
-ghost use Rattle.std.specs.Prelude.{◌≡◌, ◌<◌, ◌≤◌, ℕ, All, IfOk, IfErr, Err, MatchOption, length};
+ghost use Rattle.std.specs.Prelude.{◌≡◌, ◌≢◌, ◌<◌, ◌≤◌, ℕ, All, IfOk, IfErr, Err, MatchOption, length};
+ghost use Rattle.std.specs.Prelude.{slice_index_or, true};
 ghost use Rattle.mb_claim.specs.{NoConsumer, NoMemory, IsPlayed, HasOneWinner, history_of, part_on, stranger_in};
-ghost use Rattle.mb_claim.specs.{claims_in, consumer_count, most_accesses};
+ghost use Rattle.mb_claim.specs.{claims_in, consumer_count, most_accesses, shape_of, Stage, Undecided};
 
 use crate::board::Board;
-use crate::laws::{claims_are_bounded, claims_have_one_winner};
+use crate::laws::{claims_are_bounded, claims_have_one_winner, last_objects_decide_claims};
 use crate::layout::Layout;
 use crate::run::{ClaimRun, PlayFault};
 use std::alloc::{AllocError, Allocator};
@@ -28,11 +29,14 @@ pub fn play<A: Allocator + Copy + Drop>(
     ensures bound { IfOk result (λ run. (c : ℕ)
         → length (part_on c 0
         (history_of steps.now run.entries.items)) ≤ most_accesses layout.now) }
+    ensures decided { IfOk result (λ run. (shape_of layout.now).last ≡ true → (c : ℕ) (s : Stage)
+        → c < length run.stages.items → slice_index_or run.stages.items c s ≢ Undecided) }
     ensures refused { MatchOption (stranger_in (consumer_count layout.now) steps.now)
         (IfErr result (λ fault. fault ≡ NoMemory)) (λ place. result ≡ Err (NoConsumer place)) }
 {
     claims_have_one_winner();
     claims_are_bounded();
+    last_objects_decide_claims();
     if let Some(place) = stranger(steps, layout.consumers()) {
         return Err(PlayFault::NoConsumer(place));
     }

@@ -3,7 +3,7 @@ use Rattle.std.proofs.Common.{◌≡◌, ◌≢◌, ℕ, ◌+◌, ◌<◌, ◌�
 use Rattle.std.proofs.Common.{subst, arith}
 use Rattle.std.proofs.lemmas.Bool.{cases_order}
 use Rattle.mb_quorum.specs.Quorum.{QuorumTable, IsQuorumTable, IsMember}
-use Rattle.mb_deciding.specs.{Value, Proposal, Quorum, Act, Load, Store, Op, RatifierPlace, Begin, Announce, Propose}
+use Rattle.mb_deciding.specs.{Value, Proposal, Quorum, Last, Act, Load, Store, Op, RatifierPlace, Begin, Announce, Propose}
 use Rattle.mb_deciding.specs.{Check, InRatifier, stores_below, zeros_below, announcement, ReadsClear, ReadsOne, IsLeast}
 use Rattle.mb_deciding.specs.{IsRest, IsInRatifier, IsRatifierOp, CanFind, act_of}
 use Rattle.mb_deciding.specs.declared.access.Op.TheVariants as to
@@ -20,6 +20,9 @@ pub announce_op :
     (t : QuorumTable) (input left : ℕ) (op : Op) → IsRatifierOp t (Announce input left) op
     → ((r : ℕ) × (op ≡ to.Store (Quorum r) 1) × IsLeast left r) ⊎ ((op ≡ to.Load Proposal) × (left ≡ 0))
 announce_op t input left (to.Load Value) is = absurd is
+announce_op t input left (to.Load Last) is = absurd is
+announce_op t input left (to.Store Last w) is = absurd is
+announce_op t input left (to.Exchange reg w) is = absurd is
 announce_op t input left (to.Load Proposal) is = inr (refl, is)
 announce_op t input left (to.Load (Quorum r)) is = absurd is
 announce_op t input left (to.Store Value w) is = absurd is
@@ -31,6 +34,9 @@ pub begin_op :
     (t : QuorumTable) (input : ℕ) (op : Op)
     → IsRatifierOp t (Begin input) op ↔ IsRatifierOp t (Announce input (t.write input)) op
 begin_op t input (to.Load Value) = ((λ is. is), (λ is. is))
+begin_op t input (to.Load Last) = ((λ is. is), (λ is. is))
+begin_op t input (to.Store Last w) = ((λ is. is), (λ is. is))
+begin_op t input (to.Exchange reg w) = ((λ is. is), (λ is. is))
 begin_op t input (to.Load Proposal) = ((λ is. is), (λ is. is))
 begin_op t input (to.Load (Quorum r)) = ((λ is. is), (λ is. is))
 begin_op t input (to.Store Value w) = ((λ is. is), (λ is. is))
@@ -45,11 +51,16 @@ find_anywhere t a b (to.Load Value) seen can = tt
 find_anywhere t a b (to.Load Proposal) seen can = can
 find_anywhere t a b (to.Load (Quorum r)) seen can = can
 find_anywhere t a b (to.Store reg w) seen can = tt
+find_anywhere t a b (to.Load Last) seen can = tt
+find_anywhere t a b (to.Exchange reg w) seen can = tt
 
 -- a process that proposes stores its input
 pub propose_op :
     (t : QuorumTable) (input : ℕ) (op : Op) → IsRatifierOp t (Propose input) op → op ≡ to.Store Proposal (input + 1)
 propose_op t input (to.Load Value) is = absurd is
+propose_op t input (to.Load Last) is = absurd is
+propose_op t input (to.Store Last w) is = absurd is
+propose_op t input (to.Exchange reg w) is = absurd is
 propose_op t input (to.Load Proposal) is = absurd is
 propose_op t input (to.Load (Quorum r)) is = absurd is
 propose_op t input (to.Store Value w) is = absurd is
@@ -61,6 +72,9 @@ pub check_op :
     (t : QuorumTable) (u left : ℕ) (op : Op) → IsRatifierOp t (Check u left) op
     → (r : ℕ) × (op ≡ to.Load (Quorum r)) × IsLeast left r
 check_op t u left (to.Load Value) is = absurd is
+check_op t u left (to.Load Last) is = absurd is
+check_op t u left (to.Store Last w) is = absurd is
+check_op t u left (to.Exchange reg w) is = absurd is
 check_op t u left (to.Load Proposal) is = absurd is
 check_op t u left (to.Load (Quorum r)) is = (r, refl, is)
 check_op t u left (to.Store Value w) is = absurd is

@@ -1,6 +1,6 @@
 -- The next act of a conciliator's path: what was made names its word, and what it stores.
 use Rattle.std.proofs.Common.{◌≡◌, ℕ, zero, suc, ◌+◌, ◌⊎◌, List, [], ◌∷◌, ◌++◌, inl, inr, sym, refl, ◌∙◌, subst}
-use Rattle.mb_deciding.specs.{IsSameOp, Value, Proposal, Quorum, Act, Load, Store, Turn, StoresOn, IsMissing, IsDrawn}
+use Rattle.mb_deciding.specs.{IsSameOp, Value, Proposal, Quorum, Last, Act, Load, Store, Exchange, Turn, StoresOn, IsMissing, IsDrawn}
 use Rattle.mb_deciding.specs.{IsPut, IsConciliatorPath}
 use Rattle.mb_deciding.proofs.ConciliatorPaths.{missing_before}
 
@@ -12,6 +12,9 @@ Follows s v (Load Proposal x) made = ⊥
 Follows s v (Load (Quorum r) x) made = ⊥
 Follows s v (Store Proposal w) made = ⊥
 Follows s v (Store (Quorum r) w) made = ⊥
+Follows s v (Load Last x) made = ⊥
+Follows s v (Store Last w) made = ⊥
+Follows s v (Exchange reg w f) made = ⊥
 
 -- so it is with each of the turns
 abbrev AllFollow : ℕ → ℕ → List Turn → Type 0
@@ -94,6 +97,15 @@ one_op s v turns (Store Value w) (Load Proposal y) h k = absurd k
 one_op s v turns (Store Value w) (Load (Quorum r) y) h k = absurd k
 one_op s v turns (Store Value w) (Store Proposal y) h k = absurd k
 one_op s v turns (Store Value w) (Store (Quorum r) y) h k = absurd k
+one_op s v turns (Load Value x) (Load Last y) h k = absurd k
+one_op s v turns (Load Value x) (Store Last y) h k = absurd k
+one_op s v turns (Load Value x) (Exchange reg y f) h k = absurd k
+one_op s v turns (Store Value w) (Load Last y) h k = absurd k
+one_op s v turns (Store Value w) (Store Last y) h k = absurd k
+one_op s v turns (Store Value w) (Exchange reg y f) h k = absurd k
+one_op s v turns (Load Last x) b h k = absurd h
+one_op s v turns (Store Last w) b h k = absurd h
+one_op s v turns (Exchange reg w f) b h k = absurd h
 one_op s v turns (Load Proposal x) b h k = absurd h
 one_op s v turns (Load (Quorum r) x) b h k = absurd h
 one_op s v turns (Store Proposal w) b h k = absurd h

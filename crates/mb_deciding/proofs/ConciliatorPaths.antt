@@ -1,7 +1,7 @@
 -- What a process does on its path through a conciliator.
 use Rattle.std.proofs.Common.{◌≡◌, ℕ, zero, suc, ◌+◌, ◌≤◌, List, [], ◌∷◌, ◌++◌, length, inl, inr, sym, refl, ap, ◌∙◌}
 use Rattle.std.proofs.Common.{subst, arith}
-use Rattle.mb_deciding.specs.{Value, Proposal, Quorum, Act, Load, Store, Turn, IsMissing, IsDrawn, IsPut}
+use Rattle.mb_deciding.specs.{Value, Proposal, Quorum, Last, Act, Load, Store, Exchange, Turn, IsMissing, IsDrawn, IsPut}
 use Rattle.mb_deciding.specs.{IsConciliatorPath}
 
 -- before its end a process with input v loads 0 or stores v
@@ -10,6 +10,8 @@ IsBefore v (Load reg x) = x ≡ 0
 IsBefore v (Store Value w) = w ≡ v + 1
 IsBefore v (Store Proposal w) = ⊥
 IsBefore v (Store (Quorum r) w) = ⊥
+IsBefore v (Store Last w) = ⊥
+IsBefore v (Exchange reg w f) = ⊥
 
 -- each of the turns is such
 abbrev AreBefore : ℕ → List Turn → Type 0
@@ -88,6 +90,8 @@ StoresInput v (Load reg x) = Unit {0}
 StoresInput v (Store Value w) = w ≡ v + 1
 StoresInput v (Store Proposal w) = ⊥
 StoresInput v (Store (Quorum r) w) = ⊥
+StoresInput v (Store Last w) = ⊥
+StoresInput v (Exchange reg w f) = ⊥
 
 -- so does each act before the end
 before_stores : (v : ℕ) (act : Act) → IsBefore v act → StoresInput v act
@@ -95,6 +99,8 @@ before_stores v (Load reg x) h = tt
 before_stores v (Store Value w) h = h
 before_stores v (Store Proposal w) h = h
 before_stores v (Store (Quorum r) w) h = h
+before_stores v (Store Last w) h = h
+before_stores v (Exchange reg w f) h = h
 
 -- and each act of a path
 pub path_stores :

@@ -1,9 +1,9 @@
 -- What holds of every lawful history of one conciliator.
-use Rattle.std.proofs.Common.{◌≡◌, ◌≢◌, ℕ, ◌+◌, ◌-◌, ◌<◌, ◌≤◌, ◌⊎◌, List, [], ◌∷◌, inl, inr, sym, refl, ap, ◌∙◌, subst}
+use Rattle.std.proofs.Common.{◌≡◌, ◌≢◌, ℕ, ◌+◌, ◌-◌, ◌<◌, ◌≤◌, ◌⊎◌, Option, Some, None, List, [], ◌∷◌, inl, inr, sym, refl, ap, ◌∙◌, subst}
 use Rattle.std.proofs.Common.{arith}
 use Rattle.std.specs.List.{cons_option}
 use Rattle.std.proofs.lemmas.Bool.{cases_eq}
-use Rattle.mb_deciding.specs.{Reg, Value, Proposal, Quorum, Act, Load, Store, Turn, Access, Conciliator, Object}
+use Rattle.mb_deciding.specs.{Reg, Value, Proposal, Quorum, Last, Act, Load, Store, Exchange, Turn, Access, Conciliator, Object}
 use Rattle.mb_deciding.specs.{object_of, conciliator_of, value_after, value_in, stored_by, ReadsLast, part, IsPut}
 use Rattle.mb_deciding.specs.{IsPrefix, IsObjectLawful, CanHold, IsValid, IsFirstMover, stores_in}
 use Rattle.mb_quorum.specs.Quorum.{QuorumTable}
@@ -23,6 +23,8 @@ act_value v u (Load at x) n b e = inl e
 act_value v u (Store Value w) n b e = let same : w ≡ v + 1 = b in inr (omega arith)
 act_value v u (Store Proposal w) n b e = inl e
 act_value v u (Store (Quorum r) w) n b e = inl e
+act_value v u (Store Last w) n b e = absurd b
+act_value v u (Exchange reg w f) n b e = absurd b
 
 -- a value in the word was there before, or was stored
 act_stored :
@@ -32,11 +34,16 @@ act_stored v u (Load at x) n stored b f e = f e
 act_stored v u (Store Value w) n stored b f e = inl (sym e)
 act_stored v u (Store Proposal w) n stored b f e = absurd b
 act_stored v u (Store (Quorum r) w) n stored b f e = absurd b
+act_stored v u (Store Last w) n stored b f e = absurd b
+act_stored v u (Exchange reg w m) n stored b f e = absurd b
 
 -- what was stored stays among the stores
+among_longer : (o : Option ℕ) (n : ℕ) (stored : List ℕ) → IsAmong stored n → IsAmong (cons_option o stored) n
+among_longer None n stored h = h
+among_longer (Some w) n stored h = inr h
+
 among_kept : (act : Act) (n : ℕ) (stored : List ℕ) → IsAmong stored n → IsAmong (cons_option (stored_by act) stored) n
-among_kept (Load reg x) n stored h = h
-among_kept (Store reg w) n stored h = inr h
+among_kept act n stored h = among_longer (stored_by act) n stored h
 
 -- a word that is not empty stays so
 filled_after : (v : ℕ) (act : Act) (n : ℕ) → StoresInput v act → 0 < n → 0 < value_after Value act n
@@ -44,6 +51,8 @@ filled_after v (Load reg x) n b e = e
 filled_after v (Store Value w) n b e = let k : w ≡ v + 1 = b in omega arith
 filled_after v (Store Proposal w) n b e = absurd b
 filled_after v (Store (Quorum r) w) n b e = absurd b
+filled_after v (Store Last w) n b e = absurd b
+filled_after v (Exchange reg w f) n b e = absurd b
 
 -- a proposal stays empty
 proposal_kept : (v : ℕ) (act : Act) (n : ℕ) → StoresInput v act → n ≡ 0 → value_after Proposal act n ≡ 0
@@ -51,6 +60,8 @@ proposal_kept v (Load at x) n b e = e
 proposal_kept v (Store Value w) n b e = e
 proposal_kept v (Store Proposal w) n b e = absurd b
 proposal_kept v (Store (Quorum r) w) n b e = absurd b
+proposal_kept v (Store Last w) n b e = absurd b
+proposal_kept v (Exchange reg w f) n b e = absurd b
 
 -- and so do quorum registers
 register_kept : (v r : ℕ) (act : Act) (n : ℕ) → StoresInput v act → n ≡ 0 → value_after (Quorum r) act n ≡ 0
@@ -58,6 +69,17 @@ register_kept v r (Load at x) n b e = e
 register_kept v r (Store Value w) n b e = e
 register_kept v r (Store Proposal w) n b e = absurd b
 register_kept v r (Store (Quorum i) w) n b e = absurd b
+register_kept v r (Store Last w) n b e = absurd b
+register_kept v r (Exchange reg w f) n b e = absurd b
+
+-- and so does a last object's word
+last_kept : (v : ℕ) (act : Act) (n : ℕ) → StoresInput v act → n ≡ 0 → value_after Last act n ≡ 0
+last_kept v (Load at x) n b e = e
+last_kept v (Store Value w) n b e = e
+last_kept v (Store Proposal w) n b e = absurd b
+last_kept v (Store (Quorum r) w) n b e = absurd b
+last_kept v (Store Last w) n b e = absurd b
+last_kept v (Exchange reg w f) n b e = absurd b
 
 -- ---- histories
 module _ (t : QuorumTable) (s : ℕ) (inputs : ℕ → ℕ) where
@@ -168,11 +190,19 @@ module _ (t : QuorumTable) (s : ℕ) (inputs : ℕ → ℕ) where
       register_kept (inputs a.process) r a.turn.act (value_in (Quorum r) h) (newest_stores a h l)
       (no_register r h (lawful_older (conciliator_of t s inputs) a h l))
 
+  -- and no last word
+  no_last : (h : List Access) → L h → value_in Last h ≡ 0
+  no_last [] l = refl
+  no_last (a ∷ h) l =
+      last_kept (inputs a.process) a.turn.act (value_in Last h) (newest_stores a h l)
+      (no_last h (lawful_older (conciliator_of t s inputs) a h l))
+
   -- each word holds what it can
   pub fits : (h : List Access) (reg : Reg) → L h → CanHold t reg (value_in reg h)
   fits h Value l = value_small h l
   fits h Proposal l = omega (arith, no_proposal h l)
   fits h (Quorum r) l = omega (arith, no_register r h l)
+  fits h Last l = omega (arith, no_last h l)
 
 -- where one store was made to a conciliator, every output is its value
 pub one_mover :

@@ -4,7 +4,7 @@ use Rattle.std.proofs.Common.{inl, inr, sym, refl, ap, subst, arith}
 use Rattle.std.specs.Int.{bit_at}
 use Rattle.std.proofs.lemmas.Bool.{cases_eq, eqb-true, eq-eqb}
 use Rattle.mb_quorum.specs.Quorum.{QuorumTable, IsMember}
-use Rattle.mb_deciding.specs.{Value, Proposal, Quorum, Act, Load, Store, Turn, Ratifier, acts, Has, acts_below}
+use Rattle.mb_deciding.specs.{Value, Proposal, Quorum, Last, Act, Load, Store, Exchange, Turn, Ratifier, acts, Has, acts_below}
 use Rattle.mb_deciding.specs.{stores_below, zeros_below, announcement, Prefers, ReadsClear, ReadsOne, IsRatifierPath}
 use Rattle.mb_deciding.specs.{IsPrefix}
 use Rattle.mb_deciding.proofs.Acts.{acts-append, has_later}
@@ -21,6 +21,9 @@ Behind t v (Store (Quorum r) w) older = (w ≡ 1) × IsMember (t.write v) r
 Behind t v (Load Value x) older = ⊥
 Behind t v (Load Proposal x) older = (r : ℕ) → r < t.registers → IsMember (t.write v) r → Has older (Store (Quorum r) 1)
 Behind t v (Load (Quorum r) x) older = HasPreference v older
+Behind t v (Store Last w) older = ⊥
+Behind t v (Load Last x) older = ⊥
+Behind t v (Exchange reg w f) older = ⊥
 
 -- it lies behind each act of the list
 abbrev pub AllBehind : QuorumTable → ℕ → List Act → Type 0

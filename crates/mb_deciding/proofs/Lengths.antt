@@ -5,7 +5,7 @@ use Rattle.std.specs.Int.{bit_at}
 use Rattle.std.proofs.Math.Numerals.{add-one}
 use Rattle.std.proofs.lemmas.Bool.{cases_eq, eq-eqb}
 use Rattle.mb_quorum.specs.Quorum.{QuorumTable, IsMember}
-use Rattle.mb_deciding.specs.{Value, Proposal, Quorum, Act, Load, Store, acts_below, zeros_below, announcement, Prefers}
+use Rattle.mb_deciding.specs.{Value, Proposal, Quorum, Last, Act, Load, Store, Exchange, acts_below, zeros_below, announcement, Prefers}
 use Rattle.mb_deciding.specs.{ReadsClear, ReadsOne, IsRatifierPath}
 use Rattle.mb_deciding.proofs.Acts.{has_later}
 use Rattle.mb_deciding.proofs.Grammar.{IsChosen, one_chosen, prefers_chosen, chosen_later}
@@ -134,7 +134,9 @@ loads-append [] ys = refl
 loads-append (Load Proposal x ∷ xs) ys = ap (λ zs. x ∷ zs) (loads-append xs ys)
 loads-append (Load Value x ∷ xs) ys = loads-append xs ys
 loads-append (Load (Quorum r) x ∷ xs) ys = loads-append xs ys
+loads-append (Load Last x ∷ xs) ys = loads-append xs ys
 loads-append (Store reg w ∷ xs) ys = loads-append xs ys
+loads-append (Exchange reg w f ∷ xs) ys = loads-append xs ys
 
 -- a list of length 0 is empty
 no_length : {A : Type 0} (xs : List A) → length xs ≡ 0 → xs ≡ []

@@ -14,7 +14,8 @@ pub mod ConciliatorPaths
 pub mod Conciliators
 pub mod Owed
 pub mod ConciliatorPlaces
-pub mod OneStep
+pub mod Lasts
+mod OneStep
 pub mod RatifierStepping
 pub mod ConciliatorStepping
 pub mod Stepping
@@ -28,4 +29,5 @@ pub mod ConciliatorNext
 pub mod OneTrace
 pub mod FirstPlaces
 pub mod TurnsLeft
+pub mod MostLeft
 pub mod OnePlace

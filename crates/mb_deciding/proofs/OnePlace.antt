@@ -1,13 +1,15 @@
 -- Two places with the same turns go on with one op.
 use Rattle.std.proofs.Common.{◌≡◌, ℕ, ◌+◌, List, [], ◌∷◌, false, refl, sym, ap, ap₂, subst, arith}
 use Rattle.mb_quorum.specs.Quorum.{QuorumTable, IsQuorumTable}
-use Rattle.mb_deciding.specs.{Value, Proposal, Quorum, Kind, Conciliator, Ratifier, Pc, InRatifier, InConciliator, Draw}
+use Rattle.mb_deciding.specs.{Value, Proposal, Quorum, Last, Kind, Conciliator, Ratifier, LastObject, Pc, InRatifier}
+use Rattle.mb_deciding.specs.{InConciliator, InLast, Draw}
 use Rattle.mb_deciding.specs.{Put, Look, RatifierPlace}
 use Rattle.mb_deciding.specs.{Load, Store, Op, Turn, answer, acts, IsPrefix, IsSameOp, IsAt, IsOpAt, CanFind}
 use Rattle.mb_deciding.specs.{act_of}
 use Rattle.mb_deciding.specs.declared.access.Op.TheVariants as to
 use Rattle.mb_deciding.proofs.ConciliatorPlaces.{put_looks, look_ends, drawing_open}
 use Rattle.mb_deciding.proofs.OneTrace.{next_op}
+use Rattle.mb_deciding.proofs.Lasts.{last_prefix}
 use Rattle.mb_deciding.proofs.Prefixes.{part_by_turns}
 use Rattle.mb_deciding.proofs.RatifierStepping.{checking_next}
 use Rattle.mb_deciding.proofs.ConciliatorStepping.{missed_open, open_turns}
@@ -18,13 +20,20 @@ same_ops (to.Load reg) (to.Load other) x y e = ap to.Load e
 same_ops (to.Load reg) (to.Store other w) x y e = absurd e
 same_ops (to.Store reg w) (to.Load other) x y e = absurd e
 same_ops (to.Store reg w) (to.Store other n) x y e = ap₂ to.Store e.0 e.1
+same_ops (to.Exchange reg w) (to.Exchange other n) x y e = ap₂ to.Exchange e.0 e.1
+same_ops (to.Exchange reg w) (to.Load other) x y e = absurd e
+same_ops (to.Exchange reg w) (to.Store other n) x y e = absurd e
+same_ops (to.Load reg) (to.Exchange other n) x y e = absurd e
+same_ops (to.Store reg w) (to.Exchange other n) x y e = absurd e
 
 -- each op of a ratifier can find a 0
 zero_found : (t : QuorumTable) (place : RatifierPlace) (op : Op) → CanFind t (InRatifier place) op 0
 zero_found t place (to.Load Value) = tt
 zero_found t place (to.Load Proposal) = omega arith
 zero_found t place (to.Load (Quorum r)) = omega arith
+zero_found t place (to.Load Last) = tt
 zero_found t place (to.Store reg w) = tt
+zero_found t place (to.Exchange reg w) = tt
 
 -- what the next op of a place finds there goes on with a path, for some value
 some_part :
@@ -37,6 +46,11 @@ some_part t Ratifier v turns (InRatifier place) op q at is = (
       (checking_next t q v place (acts turns) op 0 at.0 at.1 is (zero_found t place op)),
 )
 some_part t Ratifier v turns (InConciliator place) op q at is = absurd at
+some_part t Ratifier v turns (InLast place) op q at is = absurd at
+some_part t (Conciliator s) v turns (InLast place) op q at is = absurd at
+some_part t LastObject v turns (InRatifier place) op q at is = absurd at
+some_part t LastObject v turns (InConciliator place) op q at is = absurd at
+some_part t LastObject v turns (InLast place) op q at is = (0, last_prefix t v place turns op 0 0 at is)
 some_part t (Conciliator s) v turns (InRatifier place) op q at is = absurd at
 some_part t (Conciliator s) v turns (InConciliator (Draw input limit modulus)) op q at is = (
   0,

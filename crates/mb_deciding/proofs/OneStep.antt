@@ -1,9 +1,9 @@
 -- An access that was made at a place, and what it leads to, as one step.
 use Rattle.std.proofs.Common.{◌≡◌, ℕ, List, ◌∷◌, subst, sym}
 use Rattle.mb_quorum.specs.Quorum.{QuorumTable}
-use Rattle.mb_deciding.specs.{Op, Turn, Kind, Conciliator, Ratifier, InConciliator, InRatifier, Next, ConciliatorPlace}
+use Rattle.mb_deciding.specs.{Op, Turn, Kind, Conciliator, Ratifier, LastObject, InConciliator, InRatifier, InLast, Next, ConciliatorPlace, LastPlace}
 use Rattle.mb_deciding.specs.{RatifierPlace, Begin, Announce, IsAt, IsConciliatorOp, IsRatifierOp, IsReached, IsInRatifier, acts, CanFind, act_of}
-use Rattle.mb_deciding.specs.{ConciliatorReaches, RatifierReaches, IsStep}
+use Rattle.mb_deciding.specs.{ConciliatorReaches, RatifierReaches, LastReaches, IsLastOp, IsStep}
 use Rattle.mb_deciding.proofs.Advances.{find_anywhere, begin_op, begin_announces}
 
 -- in a conciliator
@@ -20,6 +20,7 @@ conciliator_step t place makes op seen word follows is made reaches =
         → IsReached t kind v follows (record { act = act_of op seen; word = word } ∷ turns)
     reached (Conciliator s) v turns at can = reaches s v turns op at is can
     reached Ratifier v turns at can = absurd at
+    reached LastObject v turns at can = absurd at
 
 -- in a ratifier
 pub ratifier_step :
@@ -34,7 +35,24 @@ ratifier_step t place makes op seen word follows is made reaches =
         → CanFind t (InRatifier place) op seen
         → IsReached t kind v follows (record { act = act_of op seen; word = word } ∷ turns)
     reached (Conciliator s) v turns at can = absurd at
+    reached LastObject v turns at can = absurd at
     reached Ratifier v turns at can = reaches v turns op word at is can
+
+-- in a last object
+pub last_step :
+    (t : QuorumTable) (place : LastPlace) (makes : Op → ℕ → Type 0) (op : Op) (seen word : ℕ) (follows : Next)
+    → IsLastOp place op → makes op seen → LastReaches t place seen follows
+    → IsStep t (InLast place) makes word follows
+last_step t place makes op seen word follows is made reaches =
+    record { op = op; seen = seen; is = is; made = made; reached = reached }
+  where
+    reached :
+        (kind : Kind) (v : ℕ) (turns : List Turn) → IsAt t kind v (InLast place) turns
+        → CanFind t (InLast place) op seen
+        → IsReached t kind v follows (record { act = act_of op seen; word = word } ∷ turns)
+    reached (Conciliator s) v turns at can = absurd at
+    reached Ratifier v turns at can = absurd at
+    reached LastObject v turns at can = reaches v turns op word at is can
 
 -- before the first access it is the same with and without the mask of the write quorum
 pub begin_step :
@@ -52,6 +70,7 @@ begin_step t input left makes word follows is step =
         → CanFind t (InRatifier (Begin input)) step.op step.seen
         → IsReached t kind v follows (record { act = act_of step.op step.seen; word = word } ∷ turns)
     reached (Conciliator s) v turns at can = absurd at
+    reached LastObject v turns at can = absurd at
     reached Ratifier v turns at can =
         let begins = subst (λ mask. IsInRatifier t v (Announce input mask) (acts turns)) (sym is)
         (begin_announces t v input (acts turns) at.1) in

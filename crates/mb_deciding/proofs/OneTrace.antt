@@ -3,13 +3,14 @@ use Rattle.std.proofs.Common.{◌≡◌, ℕ, ◌<◌, Some, None, List, [], ◌
 use Rattle.std.proofs.Common.{◌∙◌, subst}
 use Rattle.std.specs.List.{slice_index_or}
 use Rattle.std.proofs.lemmas.List.{ext_get_or}
-use Rattle.mb_deciding.specs.{IsSameOp, Act, Turn, Access, Out, Kind, Conciliator, Ratifier, Entry, Object, ObjectSetup}
+use Rattle.mb_deciding.specs.{IsSameOp, Act, Turn, Access, Out, Kind, Conciliator, Ratifier, LastObject, Entry, Object, ObjectSetup}
 use Rattle.mb_deciding.specs.{object_in, acts, part, IsRatifierPath, IsPrefix, IsObjectLawful, process_of, with_entry}
 use Rattle.mb_deciding.specs.{history_from, history_of, HasEnded, IsOutputOf, IsEntryAfter, AreEntriesOf, IsTrace}
 use Rattle.mb_quorum.specs.Quorum.{QuorumTable}
 use Rattle.mb_deciding.specs.declared.trace.Entry.TheVariants as entry
 use Rattle.mb_deciding.proofs.Acts.{acts-append}
 use Rattle.mb_deciding.proofs.Histories.{lawful_older, own_turns, own_some}
+use Rattle.mb_deciding.proofs.Lasts.{last_op}
 use Rattle.mb_deciding.proofs.Owed.{one_end}
 use Rattle.mb_deciding.proofs.SameOp.{same_act}
 use Rattle.mb_deciding.proofs.RatifierNext.{Follows, act_follows, one_op}
@@ -33,6 +34,7 @@ next_op t Ratifier v turns a b p q =
 next_op t (Conciliator s) v turns a b p q =
     conciliator_op s v turns a.act b.act (turn_follows s v p.0 turns a p.1.value p.2.1)
     (turn_follows s v q.0 turns b q.1.value q.2.1)
+next_op t LastObject v turns a b p q = last_op t v turns a b p q
 
 -- an access of process p with this random word
 abbrev access : ℕ → ℕ → Act → Access

@@ -3,7 +3,7 @@ use Rattle.std.proofs.Common.{◌≡◌, ℕ, zero, suc, ◌+◌, ◌<◌, ◌==
 use Rattle.std.proofs.Common.{inr, sym, refl, ap, ◌∙◌, subst, arith}
 use Rattle.std.specs.Int.{bit_at}
 use Rattle.mb_quorum.specs.Quorum.{QuorumTable}
-use Rattle.mb_deciding.specs.{Value, Proposal, Quorum, Act, Load, Store, Has, acts_below, stores_below, zeros_below}
+use Rattle.mb_deciding.specs.{Value, Proposal, Quorum, Last, Act, Load, Store, Exchange, Has, acts_below, stores_below, zeros_below}
 use Rattle.mb_deciding.specs.{announcement, Prefers, ReadsClear, ReadsOne, IsRatifierPath}
 use Rattle.mb_deciding.proofs.Grammar.{has_cond_cases, one_chosen}
 
@@ -13,7 +13,9 @@ proposal_loads [] = []
 proposal_loads (Load Proposal x ∷ older) = x ∷ proposal_loads older
 proposal_loads (Load Value x ∷ older) = proposal_loads older
 proposal_loads (Load (Quorum r) x ∷ older) = proposal_loads older
+proposal_loads (Load Last x ∷ older) = proposal_loads older
 proposal_loads (Store reg w ∷ older) = proposal_loads older
+proposal_loads (Exchange reg w f ∷ older) = proposal_loads older
 
 -- an act of a list that has an act for each register
 has_each_cases :

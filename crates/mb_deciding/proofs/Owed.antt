@@ -1,8 +1,8 @@
 -- What both kinds of object owe.
 use Rattle.std.proofs.Common.{◌≡◌, ◌≢◌, ℕ, ◌+◌, ◌<◌, ◌≤◌, Bool, true, false, List, [], ◌∷◌, ◌++◌, length, inl, inr, sym}
 use Rattle.std.proofs.Common.{refl, ap, ap₂, ◌∙◌, subst, append-nil, length-append, true≢false, arith}
-use Rattle.mb_deciding.specs.{Value, Proposal, Act, Load, Store, Turn, Access, Out, Kind, Conciliator, Ratifier, Object}
-use Rattle.mb_deciding.specs.{IsSound, object_of, ratifier_of, conciliator_of, acts, part, zeros_below, announcement}
+use Rattle.mb_deciding.specs.{Value, Proposal, Act, Load, Store, Turn, Access, Out, Kind, Conciliator, Ratifier, LastObject, Object}
+use Rattle.mb_deciding.specs.{IsSound, object_of, ratifier_of, conciliator_of, last_of, acts, part, zeros_below, announcement}
 use Rattle.mb_deciding.specs.{IsRatifierPath, answer, IsPath, IsPrefix, IsOpen, IsObjectLawful, most_turns, IsDeciding}
 use Rattle.mb_quorum.specs.Quorum.{QuorumTable, IsQuorumTable}
 use Rattle.mb_deciding.proofs.Histories.{not_empty, nil_or}
@@ -12,6 +12,7 @@ use Rattle.mb_deciding.proofs.Outputs.{same_output}
 use Rattle.mb_deciding.proofs.RatifierWords.{fits, chosen_founded, founded_within}
 use Rattle.mb_deciding.proofs.Winner.{valid, coherent}
 use Rattle.mb_deciding.proofs.Lengths.{path_ends, part_length}
+use Rattle.mb_deciding.proofs.Lasts.{unique_last, last_turns, opens_last, last_fits, last_valid, last_coherent}
 use Rattle.mb_deciding.proofs.Sizes.{largest_bound}
 use Rattle.mb_deciding.proofs.ConciliatorPaths.{path_ends as conciliator_ends, path_length as conciliator_length}
 use Rattle.mb_deciding.proofs.Conciliators.{valid as conciliator_valid, fits as conciliator_fits}
@@ -87,6 +88,7 @@ pub one_end :
     → IsPath t kind v (later ++ turns) b → (later ≡ []) × (a ≡ b)
 one_end t (Conciliator s) = unique_conciliator t s
 one_end t Ratifier = unique_ratifier t
+one_end t LastObject = unique_last t
 
 -- a process with an input of the table has no more turns on a ratifier
 ratifier_turns :
@@ -128,6 +130,7 @@ bounded o h p l =
         → length (part p h) ≤ most_turns o.table k
     by_kind (Conciliator s) lawful within prefix = conciliator_turns o.table s (o.inputs p) (part p h) prefix
     by_kind Ratifier lawful within prefix = ratifier_turns o.table o.inputs h p lawful within prefix
+    by_kind LastObject lawful within prefix = last_turns o.table (o.inputs p) (part p h) prefix
 
 -- what each kind of object owes
 promises_kept_by : (t : QuorumTable) (kind : Kind) (inputs : ℕ → ℕ) → IsQuorumTable t → IsDeciding
@@ -149,6 +152,15 @@ promises_kept_by t Ratifier inputs law =
       fits = fits t inputs;
       validity = valid t inputs;
       coherence = coherent t law inputs;
+    }
+promises_kept_by t LastObject inputs law =
+    record {
+      opens = λ v below. opens_last t v;
+      unique = unique_last t;
+      bounded = bounded (last_of t inputs);
+      fits = last_fits t inputs;
+      validity = last_valid t inputs;
+      coherence = last_coherent t inputs;
     }
 
 -- so does every object

@@ -4,7 +4,7 @@ use Rattle.std.proofs.Common.{length, inl, inr, sym, refl, ap, ◌∙◌, subst,
 use Rattle.std.specs.Int.{bit_at}
 use Rattle.std.proofs.lemmas.Bool.{cases_order, eqb-true}
 use Rattle.mb_quorum.specs.Quorum.{QuorumTable, IsMember}
-use Rattle.mb_deciding.specs.{IsSameOp, Value, Proposal, Quorum, Act, Load, Store, acts_below, stores_below}
+use Rattle.mb_deciding.specs.{IsSameOp, Value, Proposal, Quorum, Last, Act, Load, Store, Exchange, acts_below, stores_below}
 use Rattle.mb_deciding.specs.{zeros_below, announcement, Prefers, ReadsClear, IsRatifierPath}
 use Rattle.mb_deciding.proofs.Lengths.{each_more, clear_same, empty_unclear}
 use Rattle.mb_deciding.proofs.Outputs.{proposal_loads, clear_from, from_unique}
@@ -16,6 +16,9 @@ Follows t v (Store Proposal w) made = (w ≡ v + 1) × (made ≡ Load Proposal 0
 Follows t v (Store (Quorum r) w) made =
     (w ≡ 1) × (r < t.registers) × IsMember (t.write v) r × (made ≡ stores_below r (t.write v))
 Follows t v (Load Value x) made = ⊥
+Follows t v (Store Last w) made = ⊥
+Follows t v (Load Last x) made = ⊥
+Follows t v (Exchange reg w f) made = ⊥
 Follows t v (Load Proposal x) made = made ≡ announcement t v
 Follows t v (Load (Quorum r) x) made = (u : ℕ) × IsMember (t.read u) r × ReadsClear t v u r made
 
@@ -140,7 +143,13 @@ pub one_op :
     (t : QuorumTable) (v : ℕ) (made : List Act) (a b : Act) → Follows t v a made → Follows t v b made → IsSameOp a b
 one_op t v made (Store Value w) b h k = absurd h
 one_op t v made (Load Value x) b h k = absurd h
+one_op t v made (Store Last w) b h k = absurd h
+one_op t v made (Load Last x) b h k = absurd h
+one_op t v made (Exchange reg w f) b h k = absurd h
 one_op t v made (Store Proposal w) (Store Value y) h k = absurd k
+one_op t v made (Store Proposal w) (Store Last y) h k = absurd k
+one_op t v made (Store Proposal w) (Load Last y) h k = absurd k
+one_op t v made (Store Proposal w) (Exchange reg y f) h k = absurd k
 one_op t v made (Store Proposal w) (Load Value y) h k = absurd k
 one_op t v made (Store Proposal w) (Store Proposal y) h k = (refl, h.0 ∙ sym k.0)
 one_op t v made (Store Proposal w) (Store (Quorum s) y) h k =
@@ -148,6 +157,9 @@ one_op t v made (Store Proposal w) (Store (Quorum s) y) h k =
 one_op t v made (Store Proposal w) (Load Proposal y) h k = absurd (omega (arith, ap length h.1, ap length k))
 one_op t v made (Store Proposal w) (Load (Quorum s) y) h k = absurd (put_unchecked t v k.0 s made h.1 k.2)
 one_op t v made (Store (Quorum r) w) (Store Value y) h k = absurd k
+one_op t v made (Store (Quorum r) w) (Store Last y) h k = absurd k
+one_op t v made (Store (Quorum r) w) (Load Last y) h k = absurd k
+one_op t v made (Store (Quorum r) w) (Exchange reg y f) h k = absurd k
 one_op t v made (Store (Quorum r) w) (Load Value y) h k = absurd k
 one_op t v made (Store (Quorum r) w) (Store Proposal y) h k =
     absurd (omega (arith, ap length k.1, store_early t v r w made h))
@@ -160,6 +172,9 @@ one_op t v made (Store (Quorum r) w) (Load Proposal y) h k =
 one_op t v made (Store (Quorum r) w) (Load (Quorum s) y) h k =
     absurd (omega (arith, store_early t v r w made h, check_late t v k.0 s made k.2))
 one_op t v made (Load Proposal x) (Store Value y) h k = absurd k
+one_op t v made (Load Proposal x) (Store Last y) h k = absurd k
+one_op t v made (Load Proposal x) (Load Last y) h k = absurd k
+one_op t v made (Load Proposal x) (Exchange reg y f) h k = absurd k
 one_op t v made (Load Proposal x) (Load Value y) h k = absurd k
 one_op t v made (Load Proposal x) (Store Proposal y) h k = absurd (omega (arith, ap length h, ap length k.1))
 one_op t v made (Load Proposal x) (Store (Quorum s) y) h k =
@@ -168,6 +183,9 @@ one_op t v made (Load Proposal x) (Load Proposal y) h k = refl
 one_op t v made (Load Proposal x) (Load (Quorum s) y) h k =
     absurd (omega (arith, ap length h, check_late t v k.0 s made k.2))
 one_op t v made (Load (Quorum r) x) (Store Value y) h k = absurd k
+one_op t v made (Load (Quorum r) x) (Store Last y) h k = absurd k
+one_op t v made (Load (Quorum r) x) (Load Last y) h k = absurd k
+one_op t v made (Load (Quorum r) x) (Exchange reg y f) h k = absurd k
 one_op t v made (Load (Quorum r) x) (Load Value y) h k = absurd k
 one_op t v made (Load (Quorum r) x) (Store Proposal y) h k = absurd (put_unchecked t v h.0 r made k.1 h.2)
 one_op t v made (Load (Quorum r) x) (Store (Quorum s) y) h k =

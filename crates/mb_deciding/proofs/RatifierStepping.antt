@@ -3,7 +3,7 @@ use Rattle.std.proofs.Common.{◌≡◌, ap, ◌∙◌, ℕ, zero, suc, ◌+◌,
 use Rattle.std.proofs.Common.{sym, subst, arith}
 use Rattle.std.proofs.Math.Numerals.{add-one}
 use Rattle.std.proofs.lemmas.Bool.{cases_eq}
-use Rattle.mb_deciding.specs.{Value, Proposal, Quorum, Act, Load, Op, Access}
+use Rattle.mb_deciding.specs.{Value, Proposal, Quorum, Last, Act, Load, Op, Access}
 use Rattle.mb_deciding.specs.{Ratifier, InRatifier, RatifierPlace, Begin, Announce, Propose, Check}
 use Rattle.mb_deciding.specs.{ratifier_of}
 use Rattle.mb_deciding.specs.{stores_below, announcement, IsObjectLawful}
@@ -84,7 +84,9 @@ pub checking_found :
 checking_found t inputs h l place (to.Load Value) = tt
 checking_found t inputs h l place (to.Load Proposal) = fits t inputs h Proposal l
 checking_found t inputs h l place (to.Load (Quorum r)) = fits t inputs h (Quorum r) l
+checking_found t inputs h l place (to.Load Last) = tt
 checking_found t inputs h l place (to.Store reg w) = tt
+checking_found t inputs h l place (to.Exchange reg w) = tt
 
 -- the next op of an announcement is on a word of a ratifier
 announcing_word :

@@ -3,7 +3,7 @@ use Rattle.std.proofs.Common.{◌≡◌, ℕ, ◌+◌, ◌-◌, ◌<◌, ◌≤�
 use Rattle.std.proofs.Common.{inl, inr, sym, refl, ap, subst, arith}
 use Rattle.std.specs.List.{cons_option}
 use Rattle.std.proofs.lemmas.Bool.{cases_eq, eqb-true, eq-eqb}
-use Rattle.mb_deciding.specs.{Reg, Value, Proposal, Quorum, Act, Load, Store, Turn, Access, ratifier_of}
+use Rattle.mb_deciding.specs.{Reg, Value, Proposal, Quorum, Last, Act, Load, Store, Exchange, Turn, Access, ratifier_of}
 use Rattle.mb_deciding.specs.{value_after, value_in, ReadsLast, part, acts, Has, IsObjectLawful, CanHold}
 use Rattle.mb_quorum.specs.Quorum.{QuorumTable}
 use Rattle.mb_deciding.proofs.Histories.{lawful_older, own_turns, own_some}
@@ -74,6 +74,8 @@ one_kept :
     → value_after (Quorum r) act n ≡ 1
 one_kept t v r (Load reg x) older n b e = e
 one_kept t v r (Store Value w) older n b e = e
+one_kept t v r (Store Last w) older n b e = absurd b
+one_kept t v r (Exchange reg w f) older n b e = absurd b
 one_kept t v r (Store Proposal w) older n b e = e
 one_kept t v r (Store (Quorum i) w) older n b e = cond_one (i == r) w n b.0 e
 
@@ -83,6 +85,8 @@ filled_kept :
     → 0 < value_after Proposal act n
 filled_kept t v (Load reg x) older n b e = e
 filled_kept t v (Store Value w) older n b e = e
+filled_kept t v (Store Last w) older n b e = absurd b
+filled_kept t v (Exchange reg w f) older n b e = absurd b
 filled_kept t v (Store Proposal w) older n b e = let k : w ≡ v + 1 = b.0 in omega arith
 filled_kept t v (Store (Quorum i) w) older n b e = e
 
@@ -92,6 +96,8 @@ proposal_origin :
     → value_after Proposal act n ≡ u + 1 → (n ≡ u + 1) ⊎ ((v ≡ u) × Has older (Load Proposal 0))
 proposal_origin t v u (Load reg x) older n b e = inl e
 proposal_origin t v u (Store Value w) older n b e = inl e
+proposal_origin t v u (Store Last w) older n b e = absurd b
+proposal_origin t v u (Exchange reg w f) older n b e = absurd b
 proposal_origin t v u (Store Proposal w) older n b e = let k : w ≡ v + 1 = b.0 in inr (omega arith, b.1)
 proposal_origin t v u (Store (Quorum i) w) older n b e = inl e
 
@@ -106,6 +112,8 @@ register_origin :
     → 0 < value_after (Quorum r) act n → (0 < n) ⊎ (Store (Quorum r) 1 ≡ act)
 register_origin t v r (Load reg x) older n b h = inl h
 register_origin t v r (Store Value w) older n b h = inl h
+register_origin t v r (Store Last w) older n b h = absurd b
+register_origin t v r (Exchange reg w f) older n b h = absurd b
 register_origin t v r (Store Proposal w) older n b h = inl h
 register_origin t v r (Store (Quorum i) w) older n b h =
     elim (cond_origin (i == r) w n h) [
@@ -258,6 +266,8 @@ small_kept :
     → value_after (Quorum r) act n ≤ 1
 small_kept t v r (Load reg x) older n b e = e
 small_kept t v r (Store Value w) older n b e = e
+small_kept t v r (Store Last w) older n b e = absurd b
+small_kept t v r (Exchange reg w f) older n b e = absurd b
 small_kept t v r (Store Proposal w) older n b e = e
 small_kept t v r (Store (Quorum i) w) older n b e = cond_small (i == r) w n b.0 e
 
@@ -292,6 +302,28 @@ no_value t v (Load reg x) older n b e = e
 no_value t v (Store Value w) older n b e = absurd b
 no_value t v (Store Proposal w) older n b e = e
 no_value t v (Store (Quorum i) w) older n b e = e
+no_value t v (Store Last w) older n b e = absurd b
+no_value t v (Exchange reg w f) older n b e = absurd b
+
+-- nor in a last object's
+no_last :
+    (t : QuorumTable) (v : ℕ) (act : Act) (older : List Act) (n : ℕ) → Behind t v act older → n ≤ 0
+    → value_after Last act n ≤ 0
+no_last t v (Load reg x) older n b e = e
+no_last t v (Store Value w) older n b e = absurd b
+no_last t v (Store Proposal w) older n b e = e
+no_last t v (Store (Quorum i) w) older n b e = e
+no_last t v (Store Last w) older n b e = absurd b
+no_last t v (Exchange reg w f) older n b e = absurd b
+
+-- so that one is empty, too
+last_empty :
+    (t : QuorumTable) (inputs : ℕ → ℕ) (h : List Access) → IsObjectLawful (ratifier_of t inputs) h
+    → value_in Last h ≤ 0
+last_empty t inputs [] l = omega arith
+last_empty t inputs (a ∷ h) l =
+    no_last t (inputs a.process) a.turn.act (acts (part a.process h)) (value_in Last h) (newest_behind t inputs a h l)
+    (last_empty t inputs h (lawful_older (ratifier_of t inputs) a h l))
 
 -- so that word is empty
 value_empty :
@@ -309,3 +341,4 @@ pub fits :
 fits t inputs h Value l = omega (arith, value_empty t inputs h l)
 fits t inputs h Proposal l = proposal_small t inputs h l
 fits t inputs h (Quorum r) l = register_small t inputs h l r
+fits t inputs h Last l = omega (arith, last_empty t inputs h l)

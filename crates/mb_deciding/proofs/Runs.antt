@@ -47,6 +47,7 @@ entries_push o h (x ∷ schedule) (y ∷ entries) turn e all is here =
 pub reads_seen : (op : Op) (h : List Access) → ReadsLast (act_of op (seen_by op h)) h
 reads_seen (to.Load reg) h = refl
 reads_seen (to.Store reg value) h = tt
+reads_seen (to.Exchange reg value) h = refl
 
 -- a turn of one process is none of another's
 other_turns : (p k : ℕ) (turn : Turn) (h : List Access) → k ≢ p

@@ -1,8 +1,8 @@
 -- A run over each table that does for its kind: a ratifier has one, a conciliator looks at none.
 use Rattle.std.proofs.Common.{◌≡◌, ℕ, ◌≤◌, List, ◌∷◌, refl, ap, subst, sym, arith}
 use Rattle.mb_quorum.specs.Quorum.{QuorumTable}
-use Rattle.mb_deciding.specs.{Turn, Access, Op, Reg, Value, Proposal, Quorum, Kind, Conciliator, Ratifier, Out, Pc}
-use Rattle.mb_deciding.specs.{InRatifier, InConciliator}
+use Rattle.mb_deciding.specs.{Turn, Access, Op, Reg, Value, Proposal, Quorum, Last, Kind, Conciliator, Ratifier, LastObject, Out, Pc}
+use Rattle.mb_deciding.specs.{InRatifier, InConciliator, InLast}
 use Rattle.mb_deciding.specs.{object_of, part, IsPath, IsPrefix, IsOpen, IsObjectLawful, IsAt, IsOpAt, CanFind, HasReg}
 use Rattle.mb_deciding.specs.{reg_of, seen_by, turn_after, IsPlace, IsTableFor, IsSameFor, IsReg}
 use Rattle.mb_deciding.proofs.Owed.{one_end}
@@ -14,16 +14,19 @@ use Rattle.mb_deciding.proofs.Stepping.{next_part, next_found, at_open, at_word}
 pub same_self : (kind : Kind) (t : QuorumTable) → IsSameFor kind t t
 same_self (Conciliator s) t = refl
 same_self Ratifier t = refl
+same_self LastObject t = refl
 
 -- tables that are the same for a kind have as many values
 pub same_values : (kind : Kind) (t u : QuorumTable) → IsSameFor kind t u → t.values ≡ u.values
 same_values (Conciliator s) t u same = same
 same_values Ratifier t u same = ap (λ (x : QuorumTable). x.values) same
+same_values LastObject t u same = ap (λ (x : QuorumTable). x.values) same
 
 -- and where one is a table for the kind, the other is
 pub same_table : (kind : Kind) (t u : QuorumTable) → IsSameFor kind t u → IsTableFor kind u → IsTableFor kind t
 same_table (Conciliator s) t u same q = tt
 same_table Ratifier t u same q = subst (λ x. IsTableFor Ratifier x) (sym same) q
+same_table LastObject t u same q = subst (λ x. IsTableFor LastObject x) (sym same) q
 
 -- ---- a process at a place
 -- in a ratifier it fits the table
@@ -31,6 +34,7 @@ pub ratifier_place :
     (t : QuorumTable) (v : ℕ) (pc : Pc) (turns : List Turn) → IsAt t Ratifier v pc turns → IsPlace t pc
 ratifier_place t v (InRatifier place) turns at = at.0
 ratifier_place t v (InConciliator place) turns at = absurd at
+ratifier_place t v (InLast place) turns at = absurd at
 
 -- its next turn goes on with a path
 pub place_leads :
@@ -42,6 +46,8 @@ place_leads t Ratifier inputs h p pc op word q l at is = next_part t Ratifier in
 place_leads t (Conciliator s) inputs h p (InConciliator place) op word q l at is =
     drawing_next t s inputs h p place op word l at.1 is
 place_leads t (Conciliator s) inputs h p (InRatifier place) op word q l at is = absurd at
+place_leads t (Conciliator s) inputs h p (InLast place) op word q l at is = absurd at
+place_leads t LastObject inputs h p pc op word q l at is = next_part t LastObject inputs h p pc op word q l at is
 
 -- what it finds is a value with which the place can go on
 pub place_finds :
@@ -52,6 +58,8 @@ place_finds t Ratifier inputs h p pc op q l at is = next_found t Ratifier inputs
 place_finds t (Conciliator s) inputs h p (InConciliator place) op q l at is =
     drawing_found t s inputs h p place op l at.1 is
 place_finds t (Conciliator s) inputs h p (InRatifier place) op q l at is = absurd at
+place_finds t (Conciliator s) inputs h p (InLast place) op q l at is = absurd at
+place_finds t LastObject inputs h p pc op q l at is = next_found t LastObject inputs h p pc op q l at is
 
 -- what was made there is an open prefix
 place_open :
@@ -60,6 +68,8 @@ place_open :
 place_open t Ratifier v pc turns q at = at_open t Ratifier v pc turns q at
 place_open t (Conciliator s) v (InConciliator place) turns q at = drawing_open t s v place turns at.1
 place_open t (Conciliator s) v (InRatifier place) turns q at = absurd at
+place_open t (Conciliator s) v (InLast place) turns q at = absurd at
+place_open t LastObject v pc turns q at = at_open t LastObject v pc turns q at
 
 -- so it is no whole path
 pub place_unfinished :
@@ -75,6 +85,8 @@ has_reg r kind Value few has = tt
 has_reg r kind Proposal few has = tt
 has_reg r Ratifier (Quorum i) few has = omega arith
 has_reg r (Conciliator s) (Quorum i) few has = absurd has
+has_reg r LastObject (Quorum i) few has = absurd has
+has_reg r kind Last few has = tt
 
 -- a run keeps the word of its next op
 pub place_word :
@@ -85,3 +97,6 @@ place_word t Ratifier v pc turns op q at is =
 place_word t (Conciliator s) v (InConciliator place) turns op q at is =
     has_reg 0 (Conciliator s) (reg_of op) (omega arith) (drawing_word 0 s place op is)
 place_word t (Conciliator s) v (InRatifier place) turns op q at is = absurd at
+place_word t (Conciliator s) v (InLast place) turns op q at is = absurd at
+place_word t LastObject v pc turns op q at is =
+    has_reg t.registers LastObject (reg_of op) q.limit (at_word t LastObject v pc turns op q at is)

@@ -1,13 +1,14 @@
 -- A process at its place: what it made is an open prefix of a path, and its next turn goes on with it.
-use Rattle.std.proofs.Common.{ℕ, List, ◌∷◌}
+use Rattle.std.proofs.Common.{ℕ, List, ◌∷◌, sym, subst}
 use Rattle.mb_deciding.specs.{Op, Turn, Access, Out, Kind, Conciliator}
-use Rattle.mb_deciding.specs.{Ratifier, Pc, InRatifier, InConciliator}
+use Rattle.mb_deciding.specs.{Ratifier, LastObject, Pc, InRatifier, InConciliator, InLast}
 use Rattle.mb_deciding.specs.{object_of, part}
 use Rattle.mb_deciding.specs.{acts, IsPath, IsPrefix, IsOpen, IsObjectLawful, IsAt}
 use Rattle.mb_deciding.specs.{IsOpAt}
 use Rattle.mb_deciding.specs.{CanFind, HasReg, reg_of, seen_by, turn_after}
 use Rattle.mb_quorum.specs.Quorum.{QuorumTable, IsQuorumTable}
 use Rattle.mb_deciding.proofs.Owed.{one_end}
+use Rattle.mb_deciding.proofs.Lasts.{last_prefix, last_found, opens_last}
 use Rattle.mb_deciding.proofs.Prefixes.{part_by_turns, open_by_turns}
 use Rattle.mb_deciding.proofs.ConciliatorPlaces.{drawing_open}
 use Rattle.mb_deciding.proofs.RatifierStepping.{checking_open, checking_next, checking_found, checking_word}
@@ -27,6 +28,12 @@ next_part t Ratifier inputs h p (InConciliator place) op word q l at is = absurd
 next_part t (Conciliator s) inputs h p (InConciliator place) op word q l at is =
     drawing_next t s inputs h p place op word l at.1 is
 next_part t (Conciliator s) inputs h p (InRatifier place) op word q l at is = absurd at
+next_part t Ratifier inputs h p (InLast place) op word q l at is = absurd at
+next_part t (Conciliator s) inputs h p (InLast place) op word q l at is = absurd at
+next_part t LastObject inputs h p (InRatifier place) op word q l at is = absurd at
+next_part t LastObject inputs h p (InConciliator place) op word q l at is = absurd at
+next_part t LastObject inputs h p (InLast place) op word q l at is =
+    last_prefix t (inputs p) place (part p h) op (seen_by op h) word at is
 
 -- what it finds is a value with which the place can go on
 pub next_found :
@@ -38,6 +45,11 @@ next_found t Ratifier inputs h p (InConciliator place) op q l at is = absurd at
 next_found t (Conciliator s) inputs h p (InConciliator place) op q l at is =
     drawing_found t s inputs h p place op l at.1 is
 next_found t (Conciliator s) inputs h p (InRatifier place) op q l at is = absurd at
+next_found t Ratifier inputs h p (InLast place) op q l at is = absurd at
+next_found t (Conciliator s) inputs h p (InLast place) op q l at is = absurd at
+next_found t LastObject inputs h p (InRatifier place) op q l at is = absurd at
+next_found t LastObject inputs h p (InConciliator place) op q l at is = absurd at
+next_found t LastObject inputs h p (InLast place) op q l at is = last_found t inputs h l place op is
 
 -- what was made at a place is an open prefix
 pub at_open :
@@ -48,6 +60,12 @@ at_open t Ratifier v (InRatifier place) turns q at =
 at_open t Ratifier v (InConciliator place) turns q at = absurd at
 at_open t (Conciliator s) v (InConciliator place) turns q at = drawing_open t s v place turns at.1
 at_open t (Conciliator s) v (InRatifier place) turns q at = absurd at
+at_open t Ratifier v (InLast place) turns q at = absurd at
+at_open t (Conciliator s) v (InLast place) turns q at = absurd at
+at_open t LastObject v (InRatifier place) turns q at = absurd at
+at_open t LastObject v (InConciliator place) turns q at = absurd at
+at_open t LastObject v (InLast place) turns q at =
+    subst (λ xs. IsOpen t LastObject v xs) (sym at.1.1) (opens_last t v)
 
 -- so it is a prefix
 pub at_part :
@@ -71,3 +89,9 @@ at_word t Ratifier v (InRatifier place) turns op q at is = checking_word t q v p
 at_word t Ratifier v (InConciliator place) turns op q at is = absurd at
 at_word t (Conciliator s) v (InConciliator place) turns op q at is = drawing_word t.registers s place op is
 at_word t (Conciliator s) v (InRatifier place) turns op q at is = absurd at
+at_word t Ratifier v (InLast place) turns op q at is = absurd at
+at_word t (Conciliator s) v (InLast place) turns op q at is = absurd at
+at_word t LastObject v (InRatifier place) turns op q at is = absurd at
+at_word t LastObject v (InConciliator place) turns op q at is = absurd at
+at_word t LastObject v (InLast place) turns op q at is =
+    subst (λ o. HasReg t.registers LastObject (reg_of o)) (sym is) tt

@@ -10,7 +10,7 @@ use Rattle.std.proofs.lemmas.Nat.{zero_from_ones}
 use Rattle.mb_quorum.specs.Quorum.{QuorumTable, IsMember}
 use Rattle.mb_quorum.specs.Width.{width_of}
 use Rattle.mb_quorum.specs.WidthLaw.{width_is_least}
-use Rattle.mb_deciding.specs.{Quorum, Act, Load, Pc, InRatifier, InConciliator, Begin, Announce, Propose, Check, Draw}
+use Rattle.mb_deciding.specs.{Quorum, Act, Load, Pc, InRatifier, InConciliator, InLast, Begin, Announce, Propose, Check, Draw}
 use Rattle.mb_deciding.specs.{Put, Look, acts_below, IsPlace, HasLimits, turns_left}
 use Rattle.mb_deciding.proofs.Sizes.{each_exact}
 
@@ -128,3 +128,4 @@ some_left t (InRatifier (Check preference left)) fit = some_ones left fit.1
 some_left t (InConciliator (Draw input limit modulus)) fit = omega arith
 some_left t (InConciliator (Put input)) fit = omega arith
 some_left t (InConciliator (Look input)) fit = omega arith
+some_left t (InLast place) fit = omega arith

@@ -3,7 +3,7 @@ use Rattle.std.specs.Prelude.{ℕ, ◌+◌, ◌-◌, count_ones}
 use Rattle.mb_quorum.specs.Quorum.{QuorumTable}
 use Rattle.mb_quorum.specs.Width.{width_of}
 use Rattle.mb_deciding.specs.Types.{Pc, InRatifier, InConciliator, Begin, Announce, Propose, Check, Draw, Put, Look}
-use Rattle.mb_deciding.specs.Types.{Next}
+use Rattle.mb_deciding.specs.Types.{Next, InLast}
 use Rattle.mb_deciding.specs.declared.place.pc.Next.TheVariants as leads
 use Rattle.mb_deciding.specs.Objects.{largest_quorum}
 
@@ -19,6 +19,7 @@ turns_left t (InRatifier (Check preference left)) = count_ones left
 turns_left t (InConciliator (Draw input limit modulus)) = width_of modulus - width_of limit + 3
 turns_left t (InConciliator (Put input)) = 2
 turns_left t (InConciliator (Look input)) = 1
+turns_left t (InLast place) = 1
 
 -- from where an access leads
 abbrev pub turns_after : QuorumTable → Next → ℕ

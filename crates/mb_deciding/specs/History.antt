@@ -3,7 +3,7 @@
 use Rattle.std.specs.Prelude.{◌≡◌, ℕ, ◌^◌, ◌<◌, Bool, true, false, ◌==◌, if◌then◌else◌, Option, Some, None, IfSome}
 use Rattle.std.specs.Prelude.{List, [], ◌∷◌, ◌⊎◌, map, filter_map}
 use Rattle.std.specs.Option.{option_map_or}
-use Rattle.mb_deciding.specs.Types.{Reg, Value, Proposal, Quorum, Act, Load, Store, Turn, Access}
+use Rattle.mb_deciding.specs.Types.{Reg, Value, Proposal, Quorum, Last, Act, Load, Store, Exchange, Turn, Access}
 
 -- whether two names of words are one
 abbrev pub is_same_reg : Reg → Reg → Bool
@@ -16,21 +16,31 @@ is_same_reg Proposal Value = false
 is_same_reg Proposal (Quorum j) = false
 is_same_reg (Quorum i) Value = false
 is_same_reg (Quorum i) Proposal = false
+is_same_reg Last Last = true
+is_same_reg Last Value = false
+is_same_reg Last Proposal = false
+is_same_reg Last (Quorum j) = false
+is_same_reg Value Last = false
+is_same_reg Proposal Last = false
+is_same_reg (Quorum i) Last = false
 
 -- the word that an act went to
 abbrev pub reg_of_act : Act → Reg
 reg_of_act (Load reg value) = reg
 reg_of_act (Store reg value) = reg
+reg_of_act (Exchange reg value found) = reg
 
 -- the value that an act loaded, if it loaded one
 abbrev pub loaded_by : Act → Option ℕ
 loaded_by (Load reg value) = Some value
 loaded_by (Store reg value) = None
+loaded_by (Exchange reg value found) = Some found
 
--- the value that an act stored, if it stored one
+-- the value that an act stored, if it stored one: an exchange stores if it found 0
 abbrev pub stored_by : Act → Option ℕ
 stored_by (Load reg value) = None
 stored_by (Store reg value) = Some value
+stored_by (Exchange reg value found) = if found == 0 then Some value else None
 
 -- ---- memory: by what an act loads and by what it stores, and by nothing else
 -- what a word that held n holds after an act
@@ -52,12 +62,18 @@ abbrev pub IsMemoryTrue : List Access → Type 0
 IsMemoryTrue [] = Unit {0}
 IsMemoryTrue (a ∷ older) = ReadsLast a.turn.act older × IsMemoryTrue older
 
--- both load one word, or both store one value in one word: before memory answers they are one
+-- both load one word, or both store one value in one word, or both exchange it for one value: before memory answers they
+-- are one
 abbrev pub IsSameOp : Act → Act → Type 0
 IsSameOp (Load reg x) (Load other y) = reg ≡ other
 IsSameOp (Load reg x) (Store other y) = ⊥
 IsSameOp (Store reg x) (Load other y) = ⊥
 IsSameOp (Store reg x) (Store other y) = (reg ≡ other) × (x ≡ y)
+IsSameOp (Exchange reg x found) (Exchange other y seen) = (reg ≡ other) × (x ≡ y)
+IsSameOp (Exchange reg x found) (Load other y) = ⊥
+IsSameOp (Exchange reg x found) (Store other y) = ⊥
+IsSameOp (Load reg x) (Exchange other y seen) = ⊥
+IsSameOp (Store reg x) (Exchange other y seen) = ⊥
 
 -- what an act loads and stores are words of 64 bits
 abbrev pub IsActInWords : Act → Type 0

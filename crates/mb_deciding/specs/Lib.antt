@@ -2,6 +2,7 @@ pub mod Types
 pub mod History
 pub mod ConciliatorPaths
 pub mod RatifierPaths
+pub mod LastPaths
 pub mod OneObject
 pub mod Objects
 pub mod Deciding
@@ -19,6 +20,7 @@ pub use Types.*
 pub use History.*
 pub use ConciliatorPaths.*
 pub use RatifierPaths.*
+pub use LastPaths.*
 pub use OneObject.*
 pub use Objects.*
 pub use Deciding.*

@@ -1,6 +1,6 @@
 -- The words of one object, as a run keeps them.
 use Rattle.std.specs.Prelude.{◌≡◌, ℕ, ◌<◌, List, ◌∷◌, slice_index}
-use Rattle.mb_deciding.specs.Types.{Reg, Value, Proposal, Quorum, Op, Access, Words}
+use Rattle.mb_deciding.specs.Types.{Reg, Value, Proposal, Quorum, Last, Op, Access, Words}
 use Rattle.mb_deciding.specs.History.{value_in, IsActInWords}
 use Rattle.mb_deciding.specs.Place.{act_of, seen_by}
 
@@ -9,12 +9,14 @@ abbrev pub IsReg : Reg → Type 0
 IsReg Value = Unit {0}
 IsReg Proposal = Unit {0}
 IsReg (Quorum r) = r < 64
+IsReg Last = Unit {0}
 
 -- what a word holds
 abbrev pub word_of : Words → Reg → ℕ
 word_of words Value = words.value
 word_of words Proposal = words.proposal
 word_of words (Quorum r) = slice_index words.quorum r
+word_of words Last = words.last
 
 -- each word holds what the history leaves in it
 abbrev pub IsMemory : Words → List Access → Type 0

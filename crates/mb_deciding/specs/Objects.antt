@@ -1,22 +1,26 @@
 -- Deciding objects: whole paths of one process, their prefixes, and lawful histories of one object.
-use Rattle.std.specs.Prelude.{◌≡◌, ◌≢◌, ℕ, zero, suc, ◌+◌, ◌<◌, ◌≤◌, max, count_ones, Bool, false, List, [], ◌++◌}
+use Rattle.std.specs.Prelude.{◌≡◌, ◌≢◌, ℕ, zero, suc, ◌+◌, ◌<◌, ◌≤◌, max, count_ones, Bool, true, false, List, [], ◌++◌}
 use Rattle.mb_deciding.specs.OneObject.{Object}
 use Rattle.mb_quorum.specs.Quorum.{QuorumTable, IsMember}
-use Rattle.mb_deciding.specs.Types.{Reg, Value, Proposal, Quorum, Store, Turn, Access, Out, Kind, Conciliator, Ratifier}
+use Rattle.mb_deciding.specs.Types.{Reg, Value, Proposal, Quorum, Last, Store, Turn, Access, Out, Kind, Conciliator}
+use Rattle.mb_deciding.specs.Types.{Ratifier, LastObject}
 use Rattle.mb_deciding.specs.History.{IsMemoryTrue, AreInWords, part, acts, Has}
 use Rattle.mb_deciding.specs.RatifierPaths.{IsRatifierPath}
 use Rattle.mb_deciding.specs.ConciliatorPaths.{IsConciliatorPath}
+use Rattle.mb_deciding.specs.LastPaths.{IsLastPath}
 
 -- the answer (d, u)
 abbrev pub answer : Bool → ℕ → Out
 answer d u = record { decided = d; value = u }
 
--- the whole path of one process through an object, and its output; a conciliator never decides
+-- the whole path of one process through an object, and its output; a conciliator never decides, and a last object always does
 abbrev pub IsPath : QuorumTable → Kind → ℕ → List Turn → Out → Type 0
 IsPath t (Conciliator s) input turns output =
     (output.decided ≡ false) × IsConciliatorPath s input turns output.value
 IsPath t Ratifier input turns output =
     IsRatifierPath t input (acts turns) output.decided output.value
+IsPath t LastObject input turns output =
+    (output.decided ≡ true) × IsLastPath input turns output.value
 
 -- a prefix of a path: later turns, or none, complete it
 abbrev pub IsPrefix : QuorumTable → Kind → ℕ → List Turn → Type 0
@@ -53,6 +57,7 @@ abbrev pub CanHold : QuorumTable → Reg → ℕ → Type 0
 CanHold t Value n = n ≤ t.values
 CanHold t Proposal n = n ≤ t.values
 CanHold t (Quorum r) n = n ≤ 1
+CanHold t Last n = n ≤ t.values
 
 -- the most registers that a quorum of one of the first n values has
 abbrev pub largest_quorum : (ℕ → ℕ) → ℕ → ℕ
@@ -63,3 +68,4 @@ largest_quorum quorum (suc v) = max (count_ones (quorum v)) (largest_quorum quor
 abbrev pub most_turns : QuorumTable → Kind → ℕ
 most_turns t (Conciliator s) = s + 3
 most_turns t Ratifier = largest_quorum t.write t.values + 2 + largest_quorum t.read t.values
+most_turns t LastObject = 1

@@ -1,7 +1,7 @@
 -- One object with the inputs of its processes, as plain data.
 use Rattle.std.specs.Prelude.{ℕ, List, slice_index}
 use Rattle.mb_quorum.specs.Quorum.{QuorumTable, IsQuorumTable}
-use Rattle.mb_deciding.specs.Types.{Kind, Conciliator, Ratifier}
+use Rattle.mb_deciding.specs.Types.{Kind, Conciliator, Ratifier, LastObject}
 
 -- an object of a kind over a quorum table, and for each process its input
 pub record Object : Type 0 where
@@ -20,6 +20,10 @@ ratifier_of t inputs = object_of t Ratifier inputs
 -- a conciliator with s + 1 attempts
 abbrev pub conciliator_of : QuorumTable → ℕ → (ℕ → ℕ) → Object
 conciliator_of t s inputs = object_of t (Conciliator s) inputs
+
+-- a last object
+abbrev pub last_of : QuorumTable → (ℕ → ℕ) → Object
+last_of t inputs = object_of t LastObject inputs
 
 -- its table is one
 abbrev pub IsSound : Object → Type 0

@@ -1,10 +1,10 @@
 -- What an access leads to, whatever it finds: the next access of a place as one step.
 use Rattle.std.specs.Prelude.{ℕ, List, ◌∷◌, Option, None, Some}
 use Rattle.mb_quorum.specs.Quorum.{QuorumTable}
-use Rattle.mb_deciding.specs.Types.{Op, Turn, Kind, Conciliator, Ratifier, Pc, InConciliator, InRatifier, Next, Out}
-use Rattle.mb_deciding.specs.Types.{RatifierPlace, ConciliatorPlace}
+use Rattle.mb_deciding.specs.Types.{Op, Turn, Kind, Conciliator, Ratifier, Pc, InConciliator, InRatifier, InLast, Next, Out}
+use Rattle.mb_deciding.specs.Types.{RatifierPlace, ConciliatorPlace, LastPlace, LastObject}
 use Rattle.mb_deciding.specs.declared.place.pc.Next.TheVariants as leads
-use Rattle.mb_deciding.specs.Place.{IsAt, IsOpAt, IsRatifierOp, IsConciliatorOp, IsReached, CanFind, act_of}
+use Rattle.mb_deciding.specs.Place.{IsAt, IsOpAt, IsRatifierOp, IsConciliatorOp, IsLastOp, IsReached, CanFind, act_of}
 
 -- what follows, where a process has its output, or else is at this place
 abbrev pub next_from : Option Out → Pc → Next
@@ -29,6 +29,13 @@ ConciliatorReaches t place seen word follows =
     (s v : ℕ) (turns : List Turn) (op : Op) → IsAt t (Conciliator s) v (InConciliator place) turns
     → IsConciliatorOp place op → CanFind t (InConciliator place) op seen
     → IsReached t (Conciliator s) v follows (record { act = act_of op seen; word = word } ∷ turns)
+
+-- and one at the place in a last object
+abbrev pub LastReaches : QuorumTable → LastPlace → ℕ → Next → Type 0
+LastReaches t place seen follows =
+    (v : ℕ) (turns : List Turn) (op : Op) (word : ℕ) → IsAt t LastObject v (InLast place) turns
+    → IsLastOp place op → CanFind t (InLast place) op seen
+    → IsReached t LastObject v follows (record { act = act_of op seen; word = word } ∷ turns)
 
 -- the next access of a process at the place was made with the random word, where `makes` says what was made and what
 -- it found, and leads to what follows

@@ -1,7 +1,8 @@
 -- The place of one process in an object, what it has made so far, and what it does next.
 use Rattle.std.specs.Prelude.{◌≡◌, ◌≢◌, ℕ, ◌+◌, ◌<◌, ◌≤◌, ◌^◌, ◌↔◌, List, [], ◌∷◌}
 use Rattle.mb_quorum.specs.Quorum.{QuorumTable, IsMember}
-use Rattle.mb_deciding.specs.Types.{Reg, Value, Proposal, Quorum, Act, Load, Store, Op, Turn, Access, Kind, Conciliator}
+use Rattle.mb_deciding.specs.Types.{Reg, Value, Proposal, Quorum, Last, Act, Load, Store, Exchange, Op, Turn, Access}
+use Rattle.mb_deciding.specs.Types.{Kind, Conciliator, LastObject, InLast, LastPlace}
 use Rattle.mb_deciding.specs.Types.{Ratifier, Pc, InRatifier, InConciliator, RatifierPlace, Begin, Announce, Propose}
 use Rattle.mb_deciding.specs.Types.{Check, ConciliatorPlace, Draw, Put, Look, Next}
 use Rattle.mb_deciding.specs.declared.access.Op.TheVariants as to
@@ -42,6 +43,7 @@ IsConciliatorPlace values (Look input) = input < values
 abbrev pub IsPlace : QuorumTable → Pc → Type 0
 IsPlace t (InRatifier place) = IsRatifierPlace t place
 IsPlace t (InConciliator place) = IsConciliatorPlace t.values place
+IsPlace t (InLast place) = place.input < t.values
 
 -- a process with input v that has made these acts on a ratifier is at the place
 abbrev pub IsInRatifier : QuorumTable → ℕ → RatifierPlace → List Act → Type 0
@@ -70,6 +72,12 @@ IsAt t (Conciliator s) v (InConciliator place) turns =
     IsPlace t (InConciliator place) × IsInConciliator s v place turns
 IsAt t Ratifier v (InConciliator place) turns = ⊥
 IsAt t (Conciliator s) v (InRatifier place) turns = ⊥
+IsAt t LastObject v (InLast place) turns =
+    IsPlace t (InLast place) × ((place.input ≡ v) × (turns ≡ []))
+IsAt t LastObject v (InConciliator place) turns = ⊥
+IsAt t LastObject v (InRatifier place) turns = ⊥
+IsAt t Ratifier v (InLast place) turns = ⊥
+IsAt t (Conciliator s) v (InLast place) turns = ⊥
 
 -- the access that comes next in a ratifier
 abbrev pub IsRatifierOp : QuorumTable → RatifierPlace → Op → Type 0
@@ -87,26 +95,34 @@ IsConciliatorOp (Draw input limit modulus) op = op ≡ to.Load Value
 IsConciliatorOp (Put input) op = op ≡ to.Store Value (input + 1)
 IsConciliatorOp (Look input) op = op ≡ to.Load Value
 
+-- the only access in a last object
+abbrev pub IsLastOp : LastPlace → Op → Type 0
+IsLastOp place op = op ≡ to.Exchange Last (place.input + 1)
+
 -- the access that comes next
 abbrev pub IsOpAt : QuorumTable → Pc → Op → Type 0
 IsOpAt t (InRatifier place) op = IsRatifierOp t place op
 IsOpAt t (InConciliator place) op = IsConciliatorOp place op
+IsOpAt t (InLast place) op = IsLastOp place op
 
 -- the act, with the value that was loaded
 abbrev pub act_of : Op → ℕ → Act
 act_of (to.Load reg) seen = Load reg seen
 act_of (to.Store reg value) seen = Store reg value
+act_of (to.Exchange reg value) seen = Exchange reg value seen
 
 -- the word that an op goes to
 abbrev pub reg_of : Op → Reg
 reg_of (to.Load reg) = reg
 reg_of (to.Store reg value) = reg
+reg_of (to.Exchange reg value) = reg
 
 -- an object of this kind, with r quorum registers, has the word
 abbrev pub HasReg : ℕ → Kind → Reg → Type 0
 HasReg r (Conciliator s) Value = Unit {0}
 HasReg r Ratifier Proposal = Unit {0}
 HasReg r Ratifier (Quorum i) = i < r
+HasReg r LastObject Last = Unit {0}
 HasReg r _ _ = ⊥
 
 -- what a load of a conciliator's word may find: a value of so many, or none where the process itself has not stored
@@ -115,14 +131,19 @@ CanMeet values (Draw input limit modulus) seen = seen ≤ values
 CanMeet values (Put input) seen = Unit {0}
 CanMeet values (Look input) seen = (0 < seen) × (seen ≤ values)
 
--- what the op of a process at the place may find: a store finds nothing, whatever is said; a load finds a value that
--- the word can hold, and in a conciliator one that is not empty where the process itself has stored
+-- what the op of a process at the place may find: a store finds nothing, whatever is said. A load or an exchange finds a
+-- value that the word can hold, and in a conciliator one that is not empty if the process itself has stored
 abbrev pub CanFind : QuorumTable → Pc → Op → ℕ → Type 0
 CanFind t pc (to.Store reg value) seen = Unit {0}
 CanFind t (InRatifier place) (to.Load Proposal) seen = seen ≤ t.values
 CanFind t (InRatifier place) (to.Load (Quorum r)) seen = seen ≤ 1
 CanFind t (InRatifier place) (to.Load Value) seen = Unit {0}
+CanFind t (InRatifier place) (to.Load Last) seen = Unit {0}
+CanFind t (InRatifier place) (to.Exchange reg value) seen = Unit {0}
 CanFind t (InConciliator place) (to.Load reg) seen = CanMeet t.values place seen
+CanFind t (InConciliator place) (to.Exchange reg value) seen = Unit {0}
+CanFind t (InLast place) (to.Load reg) seen = Unit {0}
+CanFind t (InLast place) (to.Exchange reg value) seen = seen ≤ t.values
 
 -- a process with input v that has made these turns has come to the place, or to its output
 abbrev pub IsReached : QuorumTable → Kind → ℕ → Next → List Turn → Type 0
@@ -134,10 +155,11 @@ abbrev pub IsNext : QuorumTable → Next → Type 0
 IsNext t (leads.Go pc) = IsPlace t pc
 IsNext t (leads.Out out) = out.value < t.values
 
--- the value that a history leaves in the word of a load
+-- the value that a history leaves in the word of a load or of an exchange
 abbrev pub seen_by : Op → List Access → ℕ
 seen_by (to.Load reg) h = value_in reg h
 seen_by (to.Store reg value) h = 0
+seen_by (to.Exchange reg value) h = value_in reg h
 
 -- the turn that an op makes after a history
 abbrev pub turn_after : Op → ℕ → List Access → Turn

@@ -2,7 +2,7 @@
 use Rattle.std.specs.Prelude.{◌≡◌, ℕ, ◌<◌, ◌≤◌, List, [], length, slice_index, slice_index_or, Option, Some, None}
 use Rattle.mb_quorum.specs.Quorum.{QuorumTable, IsQuorumTable}
 use Rattle.mb_deciding.specs.OneObject.{ObjectSetup, object_in}
-use Rattle.mb_deciding.specs.Types.{Out, Kind, Conciliator, Ratifier, Next, Entry, Words}
+use Rattle.mb_deciding.specs.Types.{Out, Kind, Conciliator, Ratifier, LastObject, Next, Entry, Words}
 use Rattle.mb_deciding.specs.declared.place.pc.Next.TheVariants as leads
 use Rattle.mb_deciding.specs.History.{part}
 use Rattle.mb_deciding.specs.Objects.{IsObjectLawful}
@@ -14,17 +14,20 @@ use Rattle.mb_deciding.specs.Memory.{IsMemory}
 abbrev pub IsFitKind : Kind → Type 0
 IsFitKind (Conciliator s) = s ≤ 63
 IsFitKind Ratifier = Unit {0}
+IsFitKind LastObject = Unit {0}
 
 -- an object of this kind can have the table: a conciliator has none, so any one does
 abbrev pub IsTableFor : Kind → QuorumTable → Type 0
 IsTableFor (Conciliator s) t = Unit {0}
 IsTableFor Ratifier t = IsQuorumTable t
+IsTableFor LastObject t = IsQuorumTable t
 
 -- an object of this kind does over one table what it does over the other: a conciliator looks at their numbers of
 -- values alone
 abbrev pub IsSameFor : Kind → QuorumTable → QuorumTable → Type 0
 IsSameFor (Conciliator s) t u = t.values ≡ u.values
 IsSameFor Ratifier t u = t ≡ u
+IsSameFor LastObject t u = t ≡ u
 
 -- a table of so many values, without registers
 abbrev pub bare_table : ℕ → QuorumTable

@@ -9,6 +9,8 @@ pub enum Reg {
     Proposal,
     /// A ratifier's quorum register: 0 or 1.
     Quorum(u32),
+    /// The last object's word: 0 while it is empty, v + 1 for value v.
+    Last,
 }
 
 /// An access that a process is about to make.
@@ -18,6 +20,8 @@ pub enum Op {
     Load(Reg),
     /// Store this value in the word.
     Store(Reg, u64),
+    /// Load the word, and store this value in it if it is 0, in one access.
+    Exchange(Reg, u64),
 }
 
 /// An access that was made.
@@ -27,6 +31,8 @@ pub enum Act {
     Load { reg: Reg, value: u64 },
     /// This value was stored in the word.
     Store { reg: Reg, value: u64 },
+    /// The word was loaded and had the value `found`. If that is 0, `value` was stored there in the same access.
+    Exchange { reg: Reg, value: u64, found: u64 },
 }
 
 /// A turn of one process: its act, and the random word of this turn.
@@ -57,17 +63,22 @@ impl Op {
         ensures { result ≡ reg_of self }
     {
         match self {
-            Op::Load(reg) | Op::Store(reg, _) => reg,
+            Op::Load(reg) | Op::Store(reg, _) | Op::Exchange(reg, _) => reg,
         }
     }
 
-    /// The access that was made, where a load found `seen`.
+    /// The access that was made, if a load or an exchange found `seen`.
     pub fn act(self, seen: u64) -> Act
         ensures { result ≡ act_of self seen }
     {
         match self {
             Op::Load(reg) => Act::Load { reg, value: seen },
             Op::Store(reg, value) => Act::Store { reg, value },
+            Op::Exchange(reg, value) => Act::Exchange {
+                reg,
+                value,
+                found: seen,
+            },
         }
     }
 }

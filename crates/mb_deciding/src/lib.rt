@@ -1,5 +1,5 @@
-//! Deciding objects: ratifiers and conciliators, from which processes that share only words to load and to store
-//! choose one of their inputs.
+//! Deciding objects: ratifiers, conciliators and last objects, by which processes that share words choose one of their
+//! inputs.
 //!
 //! # Deciding objects
 //!
@@ -20,6 +20,10 @@
 //! input with a chance that doubles each time: it becomes impatient. So most often the first that stores is the only
 //! one, and then every output is its input. Chance comes as *random words* that the caller hands in, and all that is
 //! promised holds for all of them.
+//!
+//! A **last object** has one word, which each process exchanges once: it stores its input there if it finds the word
+//! empty, in the same access. What stands there then is every output, and it is decided. The other two kinds need no more
+//! than loads and stores.
 //!
 //! A conciliator and then a ratifier, again and again, make consensus. The objects and their names are those of James
 //! Aspnes, "A modular approach to shared-memory consensus, with applications to the probabilistic-write model" (PODC
@@ -50,7 +54,7 @@ pub use access::{Access, Act, Op, Reg, Turn};
 pub use attempts::spread;
 pub use memory::Memory;
 pub use object::{Kind, Out};
-pub use place::{ConciliatorPlace, Next, Pc, RatifierPlace};
+pub use place::{ConciliatorPlace, LastPlace, Next, Pc, RatifierPlace};
 pub use run::conciliate::conciliate;
 pub use run::ratify::ratify;
 pub use trace::{Entry, Fault, Trace};

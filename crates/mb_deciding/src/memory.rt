@@ -13,7 +13,7 @@ pub trait Memory {
     /// name here what a load found: all that a step promises of the place after it rests on that.
     ghost makes: { Self → ℕ → Op → ℕ → Self → Type 0 };
 
-    /// Makes the access. The answer is the value that a load finds, and any value after a store.
+    /// Makes the access. The answer is the value that a load or an exchange finds, and any value after a store.
     fn perform(&mut self, object: u32, op: Op) -> u64
         requires { can_make self.old object op }
         ensures { makes self.old object op result self.new };

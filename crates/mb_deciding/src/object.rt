@@ -11,6 +11,8 @@ pub enum Kind {
     },
     /// A ratifier over a quorum table.
     Ratifier,
+    /// The last object: one word, in which the first process puts its input by an exchange, and that is decided.
+    LastObject,
 }
 
 /// What a deciding object answers to a process.

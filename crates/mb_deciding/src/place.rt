@@ -6,19 +6,21 @@ use mb_quorum::Quorums;
 
 mod conciliating;
 mod conciliator;
+mod last;
 mod mask;
 mod pc;
 mod ratifier;
 mod ratifying;
 
 pub use conciliator::ConciliatorPlace;
+pub use last::LastPlace;
 pub use pc::{Next, Pc};
 pub use ratifier::RatifierPlace;
 
 impl Pc {
     ghost use Rattle.std.specs.Prelude.{◌≡◌, ◌<◌, ◌≤◌, ℕ, List, [], ◌∷◌};
     ghost use Rattle.mb_quorum.specs.Quorum.{QuorumTable};
-    ghost use Rattle.mb_deciding.specs.{Op, Turn, Kind, Conciliator, Ratifier, IsAt, IsPlace, IsOpAt, IsNext};
+    ghost use Rattle.mb_deciding.specs.{Op, Turn, Kind, Conciliator, Ratifier, LastObject, IsAt, IsPlace, IsOpAt, IsNext};
     ghost use Rattle.mb_deciding.specs.{IsReached, CanFind, act_of, IsStep, next_from, turns_left, turns_after, most_turns};
 
     /// The place of a process with this input before its first access to a ratifier.
@@ -59,6 +61,16 @@ impl Pc {
         })
     }
 
+    /// The place of a process with this input before its access to a last object.
+    #[inline(always)]
+    pub fn last(input: u32) -> Pc
+        ensures begins { (t : QuorumTable) → input < t.values → IsAt t LastObject input result [] }
+        ensures fits { (t : QuorumTable) → input < t.values → IsPlace t result }
+        ensures bound { (t : QuorumTable) → turns_left t result ≤ most_turns t LastObject }
+    {
+        Pc::InLast(LastPlace { input })
+    }
+
     /// The access that comes next.
     #[inline(always)]
     pub fn next<Q: Quorums>(self, q: &Q) -> Op
@@ -68,10 +80,12 @@ impl Pc {
         match self {
             Pc::InConciliator(place) => place.next(),
             Pc::InRatifier(place) => place.next(q),
+            Pc::InLast(place) => place.next(),
         }
     }
 
-    /// What the access leads to. `seen` is the loaded value and is not looked at after a store; the random
+    /// What the access leads to. `seen` is the value that a load or an exchange found, and counts for nothing after a
+    /// store; the random
     /// `word` counts after a load of a conciliator's word alone. After a value that the word cannot hold the
     /// result is still a place of the table or one of its values.
     #[inline(always)]
@@ -98,6 +112,7 @@ impl Pc {
                 let out = place.after(q, seen);
                 Next::from_place(Pc::InRatifier(place), out)
             }
+            Pc::InLast(place) => Next::Out(place.after(q.values(), seen)),
         }
     }
 
@@ -127,6 +142,7 @@ impl Pc {
         match self {
             Pc::InConciliator(place) => place.step(q.values(), memory, object, word),
             Pc::InRatifier(place) => place.step(q, memory, object),
+            Pc::InLast(place) => Some(place.step(q.values(), memory, object)),
         }
     }
 }
@@ -147,6 +163,7 @@ impl Kind {
         match self {
             Kind::Conciliator { s } => Pc::conciliator(input, s),
             Kind::Ratifier => Pc::announcing(q, input),
+            Kind::LastObject => Pc::last(input),
         }
     }
 }

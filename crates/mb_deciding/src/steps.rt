@@ -1,12 +1,12 @@
 //! What builders of worlds and of tables of shared words need: one more step of a lawful history, and the places of
 //! processes. Who keeps the words of an object in a table takes `one_step` for its rule, and `places_lead_on` for the
 //! step that a place makes there. The proofs begin in `proofs/steps`, in a folder of the law's name.
-ghost use Rattle.std.specs.Prelude.{ℕ, ◌≡◌, ◌<◌, List, [], ◌∷◌};
+ghost use Rattle.std.specs.Prelude.{ℕ, ◌≡◌, ◌<◌, ◌≤◌, List, [], ◌∷◌};
 ghost use Rattle.mb_quorum.specs.Quorum.{QuorumTable, IsQuorumTable};
 ghost use Rattle.mb_deciding.specs.{Object, IsSound, Kind, Access, Turn, Act, Op, Pc, Out};
 ghost use Rattle.mb_deciding.specs.{ReadsLast, IsInWords, part, IsObjectLawful, IsPrefix, IsOpen, IsPath};
 ghost use Rattle.mb_deciding.specs.{HasReg, IsAt, IsOpAt, CanFind, turn_after, seen_by, reg_of};
-ghost use Rattle.mb_deciding.specs.{IsSameOp, IsPlace, turns_left};
+ghost use Rattle.mb_deciding.specs.{IsSameOp, IsPlace, most_turns, turns_left};
 
 /// The empty history is lawful, and one more turn of a process whose path goes on keeps a history lawful.
 pub fn one_step()
@@ -69,5 +69,9 @@ pub fn turns_name_the_next_op()
 /// A process at a place has an access to make, and no more than the number that falls with each access, whatever its
 /// loads find ([`crate::Pc::after`] says so, and the first places say with how many it begins).
 pub fn places_have_turns_left()
-    ensures { (t : QuorumTable) (pc : Pc) → IsPlace t pc → 0 < turns_left t pc }
+    ensures some { (t : QuorumTable) (pc : Pc) → IsPlace t pc → 0 < turns_left t pc }
+
+    // It is no more than a whole path through its object may have.
+    ensures most { (t : QuorumTable) (kind : Kind) (v : ℕ) (pc : Pc) (turns : List Turn)
+        → v < t.values → IsAt t kind v pc turns → turns_left t pc ≤ most_turns t kind }
 {}

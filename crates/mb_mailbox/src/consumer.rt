@@ -71,8 +71,9 @@ impl<A: Allocator + Drop> Model for Consumer<A> {
 }
 
 impl<A: Allocator + Drop> Consumer<A> {
-    ghost use Rattle.std.specs.Prelude.{◌≡◌, ◌≢◌, ◌↔◌, ◌≤◌};
-    ghost use Rattle.mb_mailbox.specs.declared.consumer.Poll.TheVariants.{NoLane};
+    ghost use Rattle.std.specs.Prelude.{◌≡◌, ◌≢◌, ◌↔◌, ◌≤◌, ◌+◌, true};
+    ghost use Rattle.mb_claim.specs.Vocabulary.{most_accesses, shape_of};
+    ghost use Rattle.mb_mailbox.specs.declared.consumer.Poll.TheVariants.{NoLane, Spent, Undecided};
     ghost use Rattle.mb_mailbox.specs.Below.{IsLawfulPart, claims_at};
     ghost use Rattle.mb_mailbox.specs.Consumers.{IsConsumer, IsConsumerOf};
     ghost use Rattle.mb_mailbox.specs.Moves.{HasLoads};
@@ -97,6 +98,11 @@ impl<A: Allocator + Drop> Consumer<A> {
         // Each access is the next one on that lane, and the first that comes to an answer is the last.
         ensures polled { result ≢ NoLane
             → IsPollOf lane budget result (R.stream rng.old) (R.stream rng.new) self.old self.new }
+
+        // With a budget for a whole claim, its link and its item it is never spent. So it leaves no claim held on the lane
+        // (`told: noted`). If each cell has a last object, it is never undecided.
+        ensures unspent { most_accesses mailbox.now.claims.layout + 2 ≤ budget → result ≢ Spent }
+        ensures decided { (shape_of mailbox.now.claims.layout).last ≡ true → result ≢ Undecided }
 
         // What the answer tells of the lane, also where its producer was taken in before the consumer was given.
         ensures told { result ≢ NoLane → AnswerTells lane (outcome result) self.old self.new }

@@ -6,12 +6,13 @@ use Rattle.std.specs.Str.{bytes_eq}
 use Rattle.mb_world.specs.declared.event.Event.{Event}
 use Rattle.mb_world.specs.declared.setup.SetupFault.{SetupFault}
 use Rattle.mb_world.specs.Plan.{Plan}
-use Rattle.mb_world.specs.Setups.{plan_of, setup_refusal}
+use Rattle.mb_world.specs.Setups.{setup_refusal}
 use Rattle.mb_script.specs.declared.fault.Fault.{Fault}
 use Rattle.mb_script.specs.declared.fault.Fault.TheVariants.{BadLine, BadNumber, BadSetup}
 use Rattle.mb_script.specs.FirstFault.{line_of}
-use Rattle.mb_script.specs.Scripts.{number_at, one_number, two_numbers, three_numbers, made_of, sizes_of, setup_of, event_of, lane_of, consumer_in, has_consumer, placed, event_at}
+use Rattle.mb_script.specs.Scripts.{Made, made_from, number_at, one_number, two_numbers, three_numbers, made_of, sizes_of, setup_of, event_of, lane_of, consumer_in, has_consumer, placed, event_at}
 use Rattle.mb_script.specs.Steps.{◌>>=◌}
+use Rattle.mb_script.specs.Shapes.{shape_named}
 use Rattle.mb_script.specs.Tables.{table_named}
 use Rattle.mb_script.specs.Text.{has_empty, words_of}
 
@@ -87,7 +88,7 @@ at_line plan n line =
     (for_bind (About n) (event_of n (words_of line)) (placed plan n) (at_event n (words_of line)) (at_placed plan n))
 
 -- the same of the first line
-for_made : (P : Fault → Type 0) (o : Option SetupFault) (made : Plan × ℕ) → ((f : SetupFault) → P (BadSetup 1 f)) → For P (made_of o made)
+for_made : (P : Fault → Type 0) (o : Option SetupFault) (made : Made) → ((f : SetupFault) → P (BadSetup 1 f)) → For P (made_of o made)
 for_made P None made bad = tt
 for_made P (Some fault) made bad = bad fault
 
@@ -99,15 +100,15 @@ for_sizes P (a ∷ []) line number bad = line
 for_sizes P (a ∷ b ∷ []) line number bad = line
 for_sizes P (a ∷ b ∷ c ∷ []) line number bad = line
 for_sizes P (a ∷ b ∷ c ∷ d ∷ []) line number bad = line
-for_sizes P (a ∷ b ∷ c ∷ d ∷ f ∷ g ∷ ws) line number bad = line
-for_sizes P (producers ∷ consumers ∷ cells ∷ pairs ∷ name ∷ []) line number bad =
+for_sizes P (producers ∷ consumers ∷ cells ∷ pairs ∷ name ∷ shape) line number bad =
     let read : (w : List ℕ) → For P (number_at 1 w) = λ w. for_option P _ (BadNumber 1) number in
     for_bind P (ok_or (table_named name) (BadLine 1)) _ (for_option P _ (BadLine 1) line)
-    (λ t. for_bind P (number_at 1 producers) _ (read producers)
+    (λ t. for_bind P (ok_or (shape_named shape) (BadLine 1)) _ (for_option P _ (BadLine 1) line)
+    (λ f. for_bind P (number_at 1 producers) _ (read producers)
     (λ p. for_bind P (number_at 1 consumers) _ (read consumers)
     (λ c. for_bind P (number_at 1 cells) _ (read cells)
     (λ m. for_bind P (number_at 1 pairs) _ (read pairs)
-    (λ k. for_made P (setup_refusal p c m k) (plan_of p c m k t, k) bad)))))
+    (λ k. for_made P (setup_refusal p c m k) (made_from f p c m k t) bad))))))
 
 pub at_setup : (ws : List (List ℕ)) → At 1 (setup_of ws)
 unfolding setup_of

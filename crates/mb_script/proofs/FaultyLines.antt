@@ -11,7 +11,7 @@ use Rattle.mb_script.specs.declared.fault.Fault.TheVariants.{TooLong, NotAscii, 
 use Rattle.mb_script.specs.declared.script.TheConstants.{MAX_EVENTS}
 use Rattle.mb_script.specs.declared.transfer.TheConstants.{MAX_SCRIPT_LEN}
 use Rattle.mb_script.specs.FirstFault.{line_of}
-use Rattle.mb_script.specs.Scripts.{Script, setup_of, event_at, events_of, script_with, lines_script, script_of}
+use Rattle.mb_script.specs.Scripts.{Made, Script, setup_of, event_at, events_of, script_with, lines_script, script_of}
 use Rattle.mb_script.specs.Steps.{◌>>=◌}
 use Rattle.mb_script.specs.Text.{lines_of, words_of}
 use Rattle.mb_script.specs.Spelling.{Spells}
@@ -84,10 +84,7 @@ events_same plan n (suc k) m (line ∷ lines) bs e low is about count same =
     (λ few fails. events_same plan (suc n) k m lines h.0 e (below_by n few) fails about (omega (arith, count)) h.2) in
     subst (λ (t : List (List ℕ)). events_of plan n t ≡ Err e) (sym h.1) further
 
--- what was made, and a fault behind it
-abbrev pub Made : Type 0
-Made = Plan × ℕ
-
+-- a fault after what was made
 events_step : (made : Made) (r s : Result (List Event) Fault) (e : Fault) → (r >>= (λ es. Ok (script_with made es))) ≡ Err e
     → (r ≡ Err e → s ≡ Err e) → (s >>= (λ es. Ok (script_with made es))) ≡ Err e
 events_step made (Ok ys) s e is on = absurd (cc)
@@ -122,13 +119,13 @@ lines_same m [] (b ∷ bs) e is about same =
     let one = one_line NoSetup e 1 m refl (err_is NoSetup e is) about in
     let none : take 1 [] ≡ take 1 (b ∷ bs) = subst (λ (k : ℕ). take k [] ≡ take k (b ∷ bs)) (sym one) same in absurd (cc)
 lines_same zero (line ∷ lines) bs e is about same =
-    let least = setup_least (setup_of (words_of line)) (λ made. events_of made.0 2 lines) 0 e (at_setup (words_of line)) about is
-    (λ made fails. events_least made.0 2 0 lines e (omega arith) fails about) in
+    let least = setup_least (setup_of (words_of line)) (λ made. events_of made.plan 2 lines) 0 e (at_setup (words_of line)) about is
+    (λ made fails. events_least made.plan 2 0 lines e (omega arith) fails about) in
     absurd (omega (arith, least))
 lines_same (suc k) (line ∷ lines) bs e is about same =
     let h = same_head k line lines bs same in
-    let further = setup_step (setup_of (words_of line)) (λ made. events_of made.0 2 lines) (λ made. events_of made.0 2 h.0) e is
-    (λ made fails. events_same made.0 2 k (suc k) lines h.0 e (omega arith) fails about (omega arith) h.2) in
+    let further = setup_step (setup_of (words_of line)) (λ made. events_of made.plan 2 lines) (λ made. events_of made.plan 2 h.0) e is
+    (λ made fails. events_same made.plan 2 k (suc k) lines h.0 e (omega arith) fails about (omega arith) h.2) in
     subst (λ (t : List (List ℕ)). lines_script t ≡ Err e) (sym h.1) further
 
 -- a fault about a line lies in the lines
@@ -212,10 +209,10 @@ lines_before n [] e is about some =
     let one = one_line NoSetup e 1 (suc n) refl (err_is NoSetup e is) about in absurd (omega (arith, one, some))
 lines_before zero (line ∷ lines) e is about some = absurd (omega (arith, some))
 lines_before (suc k) (line ∷ lines) e is about some =
-    setup_well (setup_of (words_of line)) (λ made. events_of made.0 2 lines) (λ made. events_of made.0 2 (take k lines)) e
+    setup_well (setup_of (words_of line)) (λ made. events_of made.plan 2 lines) (λ made. events_of made.plan 2 (take k lines)) e
     (suc (suc k)) (at_setup (words_of line)) about (omega arith) is
-    (λ made fails. events_before made.0 2 k (suc (suc k)) lines e
-    (events_last made.0 2 (suc (suc k)) lines e (omega arith) fails about) fails about (omega arith))
+    (λ made fails. events_before made.plan 2 k (suc (suc k)) lines e
+    (events_last made.plan 2 (suc (suc k)) lines e (omega arith) fails about) fails about (omega arith))
 
 -- what stands before the first faulty line was spelled as a script
 pub script_before : (bytes : List ℕ) (e : Fault) (n : ℕ) → script_of bytes ≡ Err e → line_of e ≡ Some (suc n) → 0 < n

@@ -10,11 +10,11 @@ use Rattle.mb_script.specs.declared.fault.Fault.{Fault}
 use Rattle.mb_script.specs.declared.fault.Fault.TheVariants.{BadLine, NoSetup}
 use Rattle.mb_script.specs.declared.transfer.TheConstants.{MAX_SCRIPT_LEN}
 use Rattle.mb_script.specs.FirstFault.{first_of, first_word_in}
-use Rattle.mb_script.specs.Scripts.{sizes_of, setup_of, events_of, script_with, lines_script, script_of}
+use Rattle.mb_script.specs.Scripts.{Made, sizes_of, setup_of, events_of, script_with, lines_script, script_of}
 use Rattle.mb_script.specs.Steps.{◌>>=◌}
 use Rattle.mb_script.specs.Text.{has_empty, lines_of, words_of}
 use Rattle.mb_script.proofs.AboutLines.{For, for_cond, for_sizes}
-use Rattle.mb_script.proofs.FaultyLines.{Made, by_lines, err_is, events_least}
+use Rattle.mb_script.proofs.FaultyLines.{by_lines, err_is, events_least}
 
 -- other words behind `setup` are no reason for NoSetup
 not_behind : (ws : List (List ℕ)) → For (λ e. e ≢ NoSetup) (setup_of (codes "setup" ∷ ws))
@@ -38,13 +38,13 @@ word_is : (w v : List ℕ) → ◌≡◌ {A = Option (List ℕ)} (Some w) (Some 
 word_is w v e = cc
 
 no_setup_by : (ws lines : List (List ℕ)) → first_of ws ≡ Some (codes "setup")
-    → (setup_of ws >>= (λ made. events_of made.0 2 lines >>= (λ es. Ok (script_with made es)))) ≢ Err NoSetup
+    → (setup_of ws >>= (λ made. events_of made.plan 2 lines >>= (λ es. Ok (script_with made es)))) ≢ Err NoSetup
 no_setup_by [] lines e = absurd (cc)
 no_setup_by (key ∷ ws) lines e =
     let is : key ≡ codes "setup" = word_is key (codes "setup") e in
-    never_step (setup_of (key ∷ ws)) (λ made. events_of made.0 2 lines)
+    never_step (setup_of (key ∷ ws)) (λ made. events_of made.plan 2 lines)
     (subst (λ (k : List ℕ). For (λ e. e ≢ NoSetup) (setup_of (k ∷ ws))) (sym is) (not_behind ws))
-    (λ made fails. let least = events_least made.0 2 1 lines NoSetup (omega arith) fails refl in omega (arith, least))
+    (λ made fails. let least = events_least made.plan 2 1 lines NoSetup (omega arith) fails refl in omega (arith, least))
 
 -- so NoSetup comes only where the first word is no `setup`
 no_setup_lines : (us : List (List ℕ)) → lines_script us ≡ Err NoSetup → first_word_in us ≢ Some (codes "setup")

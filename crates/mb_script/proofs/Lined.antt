@@ -1,8 +1,10 @@
 -- Lines of a replay script, one after the other.
-use Rattle.std.proofs.Common.{◌≡◌, ◌≢◌, ℕ, suc, ◌+◌, ◌<◌, ◌≤◌, Bool, true, false, cond, nat_lt, ◌||◌, List, [], ◌∷◌, ◌++◌, length, codes, Result, Ok, Err, refl, ap, sym, subst, ◌∙◌, arith, append_assoc, append-nil}
+use Rattle.std.proofs.Common.{◌≡◌, ◌≢◌, ℕ, suc, ◌+◌, ◌<◌, ◌≤◌, Bool, true, false, cond, nat_lt, ◌||◌, List, [], ◌∷◌, ◌++◌, length, codes, Option, Some, None, Result, Ok, Err, refl, ap, sym, subst, ◌∙◌, arith, append_assoc, append-nil}
 use Rattle.std.specs.Prelude.{IsErrAnd}
+use Rattle.std.specs.Option.{ok_or}
 use Rattle.std.specs.Str.{bytes_eq}
 use Rattle.std.proofs.lemmas.Bool.{ltb-true, lt-ltb, le-ltb}
+use Rattle.mb_quorum.specs.declared.table.TableName.{TableName}
 use Rattle.mb_world.specs.declared.event.Event.{Event}
 use Rattle.mb_world.specs.Plan.{Plan}
 use Rattle.mb_script.specs.declared.fault.Fault.{Fault}
@@ -10,7 +12,8 @@ use Rattle.mb_script.specs.declared.fault.Fault.TheVariants.{BadLine, TooManyEve
 use Rattle.mb_script.specs.declared.script.TheConstants.{MAX_EVENTS}
 use Rattle.mb_script.specs.Faults.{Gives}
 use Rattle.mb_script.specs.Steps.{◌>>=◌}
-use Rattle.mb_script.specs.Scripts.{one_number, two_numbers, three_numbers, event_of, event_at, events_of, sizes_of, setup_of}
+use Rattle.mb_script.specs.Scripts.{Made, one_number, two_numbers, three_numbers, event_of, event_at, events_of, sizes_of, setup_of}
+use Rattle.mb_script.specs.Tables.{table_named}
 use Rattle.mb_script.specs.Text.{words_of, has_empty}
 
 -- events in front of those of the further lines, if these have no fault
@@ -50,6 +53,12 @@ pub bad_event : (plan : Plan) (n : ℕ) (line : List ℕ)
     → (has_empty (words_of line) || nat_lt 8 (length (words_of line))) ≡ true → event_at plan n line ≡ Err (BadLine n)
 bad_event plan n line bad = bad_by plan n line _ refl bad
 
+-- whatever the table
+bad_either : (o : Option TableName)
+    → ◌≡◌ {A = Result Made Fault} (ok_or o (BadLine 1) >>= (λ t. Err (BadLine 1))) (Err (BadLine 1))
+bad_either None = refl
+bad_either (Some t) = refl
+
 -- no setup has so many words
 long_setup : (ws : List (List ℕ)) → 7 < length ws → sizes_of ws ≡ Err (BadLine 1)
 unfolding sizes_of
@@ -59,7 +68,8 @@ long_setup (a ∷ b ∷ []) long = absurd (omega (arith, long))
 long_setup (a ∷ b ∷ c ∷ []) long = absurd (omega (arith, long))
 long_setup (a ∷ b ∷ c ∷ d ∷ []) long = absurd (omega (arith, long))
 long_setup (a ∷ b ∷ c ∷ d ∷ e ∷ []) long = absurd (omega (arith, long))
-long_setup (a ∷ b ∷ c ∷ d ∷ e ∷ f ∷ ws) long = refl
+long_setup (a ∷ b ∷ c ∷ d ∷ e ∷ f ∷ []) long = absurd (omega (arith, long))
+long_setup (a ∷ b ∷ c ∷ d ∷ e ∷ f ∷ g ∷ ws) long = bad_either (table_named e)
 
 -- the same of the first line
 bad_setup_by : (ws : List (List ℕ)) (empty : Bool) → has_empty ws ≡ empty

@@ -14,10 +14,11 @@ use Rattle.mb_script.specs.declared.fault.Fault.TheVariants.{TooLong, NotAscii, 
 use Rattle.mb_script.specs.declared.script.TheConstants.{MAX_EVENTS}
 use Rattle.mb_script.specs.declared.transfer.TheConstants.{MAX_SCRIPT_LEN}
 use Rattle.mb_script.specs.Steps.{◌>>=◌}
+use Rattle.mb_script.specs.Shapes.{shape_named}
 use Rattle.mb_script.specs.Tables.{table_named}
 use Rattle.mb_script.specs.Text.{has_empty, lines_of, number_of, words_of}
-use Rattle.mb_world.specs.Setups.{plan_of, setup_refusal}
-use Rattle.mb_script.specs.Scripts.{Script, consumer_in, event_at, event_of, events_of, has_consumer, lane_of, lines_script, made_of, number_at, one_number, placed, script_of, setup_of, sizes_of, three_numbers, two_numbers}
+use Rattle.mb_world.specs.Setups.{setup_refusal}
+use Rattle.mb_script.specs.Scripts.{Made, Script, made_from, consumer_in, event_at, event_of, events_of, has_consumer, lane_of, lines_script, made_of, number_at, one_number, placed, script_of, setup_of, sizes_of, three_numbers, two_numbers}
 use Rattle.mb_script.specs.Replaying.{fault_in, fault_of}
 
 -- bytes past the limit are too long a script
@@ -70,7 +71,7 @@ three_short n (a ∷ b ∷ c ∷ []) =
     (λ y. bind_short (number_at n c) _ (number_short n c) (λ z. λ is. absurd (cc))))
 three_short n (a ∷ b ∷ c ∷ d ∷ words) = λ is. absurd (cc)
 
-made_short : (o : Option SetupFault) (made : Plan × ℕ) → IsShort (made_of o made)
+made_short : (o : Option SetupFault) (made : Made) → IsShort (made_of o made)
 made_short None made = λ is. absurd (cc)
 made_short (Some fault) made = λ is. absurd (cc)
 
@@ -81,12 +82,12 @@ sizes_short (a ∷ []) = λ is. absurd (cc)
 sizes_short (a ∷ b ∷ []) = λ is. absurd (cc)
 sizes_short (a ∷ b ∷ c ∷ []) = λ is. absurd (cc)
 sizes_short (a ∷ b ∷ c ∷ d ∷ []) = λ is. absurd (cc)
-sizes_short (a ∷ b ∷ c ∷ d ∷ name ∷ []) =
+sizes_short (a ∷ b ∷ c ∷ d ∷ name ∷ shape) =
     bind_short (ok_or (table_named name) (BadLine 1)) _ (ok_or_short (table_named name) (BadLine 1) (λ e. absurd (cc)))
-    (λ t. bind_short (number_at 1 a) _ (number_short 1 a) (λ p. bind_short (number_at 1 b) _ (number_short 1 b)
+    (λ t. bind_short (ok_or (shape_named shape) (BadLine 1)) _ (ok_or_short (shape_named shape) (BadLine 1) (λ e. absurd (cc)))
+    (λ f. bind_short (number_at 1 a) _ (number_short 1 a) (λ p. bind_short (number_at 1 b) _ (number_short 1 b)
     (λ q. bind_short (number_at 1 c) _ (number_short 1 c) (λ m. bind_short (number_at 1 d) _ (number_short 1 d)
-    (λ k. made_short (setup_refusal p q m k) (plan_of p q m k t, k))))))
-sizes_short (a ∷ b ∷ c ∷ d ∷ name ∷ e ∷ words) = λ is. absurd (cc)
+    (λ k. made_short (setup_refusal p q m k) (made_from f p q m k t)))))))
 
 setup_short : (words : List (List ℕ)) → IsShort (setup_of words)
 unfolding setup_of
@@ -128,7 +129,7 @@ unfolding lines_script
 lines_short [] = λ is. absurd (cc)
 lines_short (line ∷ lines) =
     bind_short (setup_of (words_of line)) _ (setup_short (words_of line))
-    (λ made. bind_short (events_of made.0 2 lines) _ (events_short made.0 2 lines) (λ es. λ is. absurd (cc)))
+    (λ made. bind_short (events_of made.plan 2 lines) _ (events_short made.plan 2 lines) (λ es. λ is. absurd (cc)))
 
 -- so a script that is too long has more bytes than the limit
 fault_short : (r : Result Script Fault) → IsShort r → fault_in r ≡ Some TooLong → ⊥

@@ -12,12 +12,14 @@ use Rattle.mb_world.specs.declared.event.Event.{Event}
 use Rattle.mb_world.specs.declared.event.Event.TheVariants.{Offer, Push, Finish, Step}
 use Rattle.mb_world.specs.declared.setup.SetupFault.{SetupFault}
 use Rattle.mb_world.specs.Plan.{Plan, consumers_of}
-use Rattle.mb_world.specs.Setups.{plan_of, setup_refusal}
+use Rattle.mb_claim.specs.declared.shape.Shape.{Shape}
+use Rattle.mb_world.specs.Setups.{setup_refusal, shaped_plan}
 use Rattle.mb_script.specs.declared.script.TheConstants.{MAX_EVENTS}
 use Rattle.mb_script.specs.declared.transfer.TheConstants.{MAX_SCRIPT_LEN}
-use Rattle.mb_script.specs.Scripts.{one_number, two_numbers, three_numbers, sizes_of, setup_of, event_of, placed, event_at, events_of, lines_script, script_of}
-use Rattle.mb_script.specs.Spelling.{IsEventOf, IsScript, Sizes, event_words, script_in, script_lines, setup_words}
+use Rattle.mb_script.specs.Scripts.{made_from, one_number, two_numbers, three_numbers, sizes_of, setup_of, event_of, placed, event_at, events_of, lines_script, script_of}
+use Rattle.mb_script.specs.Spelling.{IsEventOf, IsScript, Sizes, event_words, made_for, script_in, script_lines, setup_words}
 use Rattle.mb_script.specs.Steps.{◌>>=◌}
+use Rattle.mb_script.specs.Shapes.{shape_named, shape_with, shape_words, words_with}
 use Rattle.mb_script.specs.Tables.{table_name}
 use Rattle.mb_script.specs.Text.{IsWord, IsWordLine, has_empty, lines_of, words_of}
 use Rattle.mb_script.proofs.Spelled.{ascii_lines, decimal_word, none_empty, number_again, words_ascii, words_join}
@@ -53,26 +55,37 @@ sizes_small p c m k e =
     )
 
 -- the consumers of a plan are those it was made of
-pub consumers_are : (p c m k : ℕ) (t : TableName) → consumers_of (plan_of p c m k t) ≡ c
-consumers_are p c m k t = named_values t c
+pub consumers_are : (shape : Shape) (p c m k : ℕ) (t : TableName) → consumers_of (shaped_plan shape p c m k t) ≡ c
+consumers_are shape p c m k t = named_values t c
 
 -- the plan of sizes
 abbrev pub plan_for : Sizes → Plan
-plan_for z = plan_of z.producers z.consumers z.cells z.pairs z.table
+plan_for z = (made_for z).plan
 
--- the words behind `setup`
-sizes_again : (p c m k : ℕ) (t : TableName) → setup_refusal p c m k ≡ None
-    → sizes_of (decimal p ∷ decimal c ∷ decimal m ∷ decimal k ∷ table_name t ∷ []) ≡ Ok (plan_of p c m k t, k)
+-- the word of a shape
+shape_again : (fast last : Bool) → shape_named (words_with fast last) ≡ Some (shape_with fast last)
+shape_again false false = refl
+shape_again true false = refl
+shape_again false true = refl
+shape_again true true = refl
+
+-- the words after `setup`
+sizes_again : (shape : Shape) (p c m k : ℕ) (t : TableName) → setup_refusal p c m k ≡ None
+    → sizes_of (decimal p ∷ decimal c ∷ decimal m ∷ decimal k ∷ table_name t ∷ shape_words shape)
+    ≡ Ok (made_from shape p c m k t)
 unfolding sizes_of
-sizes_again p c m k Unary e =
+sizes_again shape p c m k Unary e =
     let s = sizes_small p c m k e in
-    rw (number_again p s.0, number_again c s.1, number_again m s.2, number_again k s.3, e) refl
-sizes_again p c m k Bits e =
+    rw (shape_again shape.fast shape.last, number_again p s.0, number_again c s.1, number_again m s.2, number_again k s.3, e)
+    refl
+sizes_again shape p c m k Bits e =
     let s = sizes_small p c m k e in
-    rw (number_again p s.0, number_again c s.1, number_again m s.2, number_again k s.3, e) refl
-sizes_again p c m k Middle e =
+    rw (shape_again shape.fast shape.last, number_again p s.0, number_again c s.1, number_again m s.2, number_again k s.3, e)
+    refl
+sizes_again shape p c m k Middle e =
     let s = sizes_small p c m k e in
-    rw (number_again p s.0, number_again c s.1, number_again m s.2, number_again k s.3, e) refl
+    rw (shape_again shape.fast shape.last, number_again p s.0, number_again c s.1, number_again m s.2, number_again k s.3, e)
+    refl
 
 -- the name of a table is a word
 table_word : (t : TableName) → IsWord (table_name t)
@@ -80,11 +93,18 @@ table_word Unary = search rules
 table_word Bits = search rules
 table_word Middle = search rules
 
+-- and that of a shape
+shape_fit : (fast last : Bool) → AllByRecursion IsWord (words_with fast last)
+shape_fit false false = tt
+shape_fit true false = (search rules, tt)
+shape_fit false true = (search rules, tt)
+shape_fit true true = (search rules, tt)
+
 -- the words of a first line are words
 setup_fit : (z : Sizes) → setup_refusal z.producers z.consumers z.cells z.pairs ≡ None → AllByRecursion IsWord (setup_words z)
 setup_fit z e =
     let s = sizes_small z.producers z.consumers z.cells z.pairs e in
-    (search rules, (decimal_word _ s.0, (decimal_word _ s.1, (decimal_word _ s.2, (decimal_word _ s.3, (table_word z.table, tt))))))
+    (search rules, (decimal_word _ s.0, (decimal_word _ s.1, (decimal_word _ s.2, (decimal_word _ s.3, (table_word z.table, shape_fit z.shape.fast z.shape.last))))))
 
 -- a key and words none of which is empty
 setup_is : (ws : List (List ℕ)) → has_empty ws ≡ false → setup_of (codes "setup" ∷ ws) ≡ sizes_of ws
@@ -93,13 +113,13 @@ setup_is ws e = rw e refl
 
 -- the first line
 pub setup_again : (z : Sizes) → setup_refusal z.producers z.consumers z.cells z.pairs ≡ None
-    → setup_of (words_of (join_with_byte 32 (setup_words z))) ≡ Ok (plan_for z, z.pairs)
+    → setup_of (words_of (join_with_byte 32 (setup_words z))) ≡ Ok (made_for z)
 setup_again z e =
     let fit = setup_fit z e in
     let cut : words_of (join_with_byte 32 (setup_words z)) ≡ setup_words z = words_join _ _ fit in
     let behind : List (List ℕ) =
-    decimal z.producers ∷ decimal z.consumers ∷ decimal z.cells ∷ decimal z.pairs ∷ table_name z.table ∷ [] in
-    rw cut (setup_is behind (none_empty behind fit.1) ∙ sizes_again z.producers z.consumers z.cells z.pairs z.table e)
+    decimal z.producers ∷ decimal z.consumers ∷ decimal z.cells ∷ decimal z.pairs ∷ table_name z.table ∷ shape_words z.shape in
+    rw cut (setup_is behind (none_empty behind fit.1) ∙ sizes_again z.shape z.producers z.consumers z.cells z.pairs z.table e)
 
 -- a line of words
 line_is : (plan : Plan) (n : ℕ) (w : List ℕ) (ws : List (List ℕ)) → AllByRecursion IsWord (w ∷ ws)
@@ -138,7 +158,7 @@ event_again z n (Step consumer lane word) sized is =
       number_again lane l,
       number_again word is.2,
       lt-ltb lane z.producers is.0,
-      consumers_are z.producers z.consumers z.cells z.pairs z.table,
+      consumers_are z.shape z.producers z.consumers z.cells z.pairs z.table,
       lt-ltb consumer z.consumers is.1,
     ) refl
 

@@ -16,16 +16,18 @@ use Rattle.mb_world.specs.declared.event.Event.{Event}
 use Rattle.mb_world.specs.declared.event.Event.TheVariants.{Offer, Push, Finish, Step}
 use Rattle.mb_world.specs.declared.setup.SetupFault.{SetupFault}
 use Rattle.mb_world.specs.Plan.{Plan}
-use Rattle.mb_world.specs.Setups.{plan_of, setup_refusal}
+use Rattle.mb_claim.specs.declared.shape.Shape.{Shape}
+use Rattle.mb_world.specs.Setups.{setup_refusal}
 use Rattle.mb_script.specs.declared.fault.Fault.{Fault}
 use Rattle.mb_script.specs.declared.fault.Fault.TheVariants.{TooLong, NotAscii, BadLine, NoSetup, NoLane, NoConsumer, TooManyEvents}
 use Rattle.mb_script.specs.declared.script.TheConstants.{MAX_EVENTS}
 use Rattle.mb_script.specs.declared.transfer.TheConstants.{MAX_SCRIPT_LEN}
 use Rattle.mb_script.specs.declared.script.Script as code
 use Rattle.mb_script.specs.Faults.{Gives}
-use Rattle.mb_script.specs.Scripts.{Script, view, number_at, one_number, two_numbers, three_numbers, made_of, sizes_of, setup_of, event_of, lane_of, consumer_in, has_consumer, placed, event_at, events_of, script_with, lines_script, script_of}
-use Rattle.mb_script.specs.Spelling.{IsEventOf, Spells, Sizes, event_words, script_in, setup_words}
+use Rattle.mb_script.specs.Scripts.{Made, Script, made_from, view, number_at, one_number, two_numbers, three_numbers, made_of, sizes_of, setup_of, event_of, lane_of, consumer_in, has_consumer, placed, event_at, events_of, script_with, lines_script, script_of}
+use Rattle.mb_script.specs.Spelling.{IsEventOf, Spells, Sizes, event_words, made_for, script_in, setup_words}
 use Rattle.mb_script.specs.Steps.{◌>>=◌}
+use Rattle.mb_script.specs.Shapes.{shape_named, shape_with, shape_words}
 use Rattle.mb_script.specs.Tables.{table_name, table_named}
 use Rattle.mb_script.specs.Text.{has_empty, lines_of, words_of}
 use Rattle.mb_script.proofs.Bound.{avoided, bind_ok, ok_is, passed, some_from}
@@ -46,6 +48,27 @@ table_takes word Middle false false true p q r e = (bytes_eq-Decides word (codes
 table_takes word Unary false false true p q r e = absurd (cc)
 table_takes word Bits false false true p q r e = absurd (cc)
 table_takes word t false false false p q r e = absurd (cc)
+
+-- so is the word of a shape
+word_takes : (word : List ℕ) (f : Shape) (a b c : Bool)
+    → bytes_eq word (codes "fast") ≡ a → bytes_eq word (codes "last") ≡ b → bytes_eq word (codes "fastlast") ≡ c
+    → cond a (Some (shape_with true false)) (cond b (Some (shape_with false true)) (cond c (Some (shape_with true true)) None))
+    ≡ Some f → word ∷ [] ≡ shape_words f
+word_takes word f true b c p q r e =
+    let same : shape_with true false ≡ f = cc in
+    subst (λ g. word ∷ [] ≡ shape_words g) same (ap (λ (w : List ℕ). w ∷ []) ((bytes_eq-Decides word (codes "fast")).0 p))
+word_takes word f false true c p q r e =
+    let same : shape_with false true ≡ f = cc in
+    subst (λ g. word ∷ [] ≡ shape_words g) same (ap (λ (w : List ℕ). w ∷ []) ((bytes_eq-Decides word (codes "last")).0 q))
+word_takes word f false false true p q r e =
+    let same : shape_with true true ≡ f = cc in
+    subst (λ g. word ∷ [] ≡ shape_words g) same (ap (λ (w : List ℕ). w ∷ []) ((bytes_eq-Decides word (codes "fastlast")).0 r))
+word_takes word f false false false p q r e = absurd (cc)
+
+shape_takes : (words : List (List ℕ)) (f : Shape) → shape_named words ≡ Some f → words ≡ shape_words f
+shape_takes [] f e = let same : shape_with false false ≡ f = cc in subst (λ g. [] ≡ shape_words g) same refl
+shape_takes (word ∷ []) f e = word_takes word f _ _ _ refl refl refl e
+shape_takes (word ∷ other ∷ words) f e = absurd (cc)
 
 -- a number that was read was spelled so
 at_takes : (n : ℕ) (w : List ℕ) (x : ℕ) → number_at n w ≡ Ok x → (w ≡ decimal x) × (x < 2 ^ 64)
@@ -102,23 +125,24 @@ three_takes n (a ∷ b ∷ c ∷ []) x e =
     )
 
 -- ---- the first line; what is done after each step of `sizes_of` stands below, the last first
-abbrev Made : Type 0
-Made = Plan × ℕ
+abbrev with_pairs : ℕ → ℕ → ℕ → Shape → TableName → ℕ → Result Made Fault
+with_pairs p c m f t k = made_of (setup_refusal p c m k) (made_from f p c m k t)
 
-abbrev with_pairs : ℕ → ℕ → ℕ → TableName → ℕ → Result Made Fault
-with_pairs p c m t k = made_of (setup_refusal p c m k) (plan_of p c m k t, k)
+abbrev with_cells : ℕ → ℕ → List ℕ → Shape → TableName → ℕ → Result Made Fault
+with_cells p c pairs f t m = number_at 1 pairs >>= with_pairs p c m f t
 
-abbrev with_cells : ℕ → ℕ → List ℕ → TableName → ℕ → Result Made Fault
-with_cells p c pairs t m = number_at 1 pairs >>= with_pairs p c m t
+abbrev with_consumers : ℕ → List ℕ → List ℕ → Shape → TableName → ℕ → Result Made Fault
+with_consumers p cells pairs f t c = number_at 1 cells >>= with_cells p c pairs f t
 
-abbrev with_consumers : ℕ → List ℕ → List ℕ → TableName → ℕ → Result Made Fault
-with_consumers p cells pairs t c = number_at 1 cells >>= with_cells p c pairs t
+abbrev with_producers : List ℕ → List ℕ → List ℕ → Shape → TableName → ℕ → Result Made Fault
+with_producers consumers cells pairs f t p = number_at 1 consumers >>= with_consumers p cells pairs f t
 
-abbrev with_producers : List ℕ → List ℕ → List ℕ → TableName → ℕ → Result Made Fault
-with_producers consumers cells pairs t p = number_at 1 consumers >>= with_consumers p cells pairs t
+abbrev with_shape : List ℕ → List ℕ → List ℕ → List ℕ → TableName → Shape → Result Made Fault
+with_shape producers consumers cells pairs t f = number_at 1 producers >>= with_producers consumers cells pairs f t
 
-abbrev with_table : List ℕ → List ℕ → List ℕ → List ℕ → TableName → Result Made Fault
-with_table producers consumers cells pairs t = number_at 1 producers >>= with_producers consumers cells pairs t
+abbrev with_table : List ℕ → List ℕ → List ℕ → List ℕ → List (List ℕ) → TableName → Result Made Fault
+with_table producers consumers cells pairs shape t =
+    ok_or (shape_named shape) (BadLine 1) >>= with_shape producers consumers cells pairs t
 
 -- what was not refused
 made_takes : (o : Option SetupFault) (x y : Made) → made_of o x ≡ Ok y → (o ≡ None) × (x ≡ y)
@@ -127,7 +151,7 @@ made_takes (Some f) x y e = absurd (cc)
 
 -- sizes of a world that make this
 abbrev pub Sized : Made → Sizes → Type 0
-Sized made z = (setup_refusal z.producers z.consumers z.cells z.pairs ≡ None) × ((plan_for z, z.pairs) ≡ made)
+Sized made z = (setup_refusal z.producers z.consumers z.cells z.pairs ≡ None) × (made_for z ≡ made)
 
 sizes_take : (ws : List (List ℕ)) (made : Made) → sizes_of ws ≡ Ok made
     → (z : Sizes) × (codes "setup" ∷ ws ≡ setup_words z) × Sized made z
@@ -137,22 +161,25 @@ sizes_take (a ∷ []) made e = absurd (cc)
 sizes_take (a ∷ b ∷ []) made e = absurd (cc)
 sizes_take (a ∷ b ∷ c ∷ []) made e = absurd (cc)
 sizes_take (a ∷ b ∷ c ∷ d ∷ []) made e = absurd (cc)
-sizes_take (a ∷ b ∷ c ∷ d ∷ f ∷ g ∷ ws) made e = absurd (cc)
-sizes_take (producers ∷ consumers ∷ cells ∷ pairs ∷ name ∷ []) made e =
-    let t = bind_ok (ok_or (table_named name) (BadLine 1)) (with_table producers consumers cells pairs) made e in
-    let p = bind_ok (number_at 1 producers) (with_producers consumers cells pairs t.0) made t.2 in
-    let c = bind_ok (number_at 1 consumers) (with_consumers p.0 cells pairs t.0) made p.2 in
-    let m = bind_ok (number_at 1 cells) (with_cells p.0 c.0 pairs t.0) made c.2 in
-    let k = bind_ok (number_at 1 pairs) (with_pairs p.0 c.0 m.0 t.0) made m.2 in
-    let z : Sizes = record { producers = p.0; consumers = c.0; cells = m.0; pairs = k.0; table = t.0 } in
-    let sized = made_takes (setup_refusal p.0 c.0 m.0 k.0) (plan_for z, k.0) made k.2 in
+sizes_take (producers ∷ consumers ∷ cells ∷ pairs ∷ name ∷ shape) made e =
+    let t = bind_ok (ok_or (table_named name) (BadLine 1)) (with_table producers consumers cells pairs shape) made e in
+    let f = bind_ok (ok_or (shape_named shape) (BadLine 1)) (with_shape producers consumers cells pairs t.0) made t.2 in
+    let p = bind_ok (number_at 1 producers) (with_producers consumers cells pairs f.0 t.0) made f.2 in
+    let c = bind_ok (number_at 1 consumers) (with_consumers p.0 cells pairs f.0 t.0) made p.2 in
+    let m = bind_ok (number_at 1 cells) (with_cells p.0 c.0 pairs f.0 t.0) made c.2 in
+    let k = bind_ok (number_at 1 pairs) (with_pairs p.0 c.0 m.0 f.0 t.0) made m.2 in
+    let z : Sizes =
+    record { producers = p.0; consumers = c.0; cells = m.0; pairs = k.0; table = t.0; shape = f.0 } in
+    let sized = made_takes (setup_refusal p.0 c.0 m.0 k.0) (made_for z) made k.2 in
     let named = table_takes name t.0 _ _ _ refl refl refl (some_from _ _ _ t.1) in
-    let whole : codes "setup" ∷ producers ∷ consumers ∷ cells ∷ pairs ∷ name ∷ [] ≡ setup_words z =
-    ap (λ (w : List ℕ). codes "setup" ∷ w ∷ consumers ∷ cells ∷ pairs ∷ name ∷ []) (at_takes 1 producers p.0 p.1).0
-    ∙ ap (λ (w : List ℕ). codes "setup" ∷ decimal p.0 ∷ w ∷ cells ∷ pairs ∷ name ∷ []) (at_takes 1 consumers c.0 c.1).0
-    ∙ ap (λ (w : List ℕ). codes "setup" ∷ decimal p.0 ∷ decimal c.0 ∷ w ∷ pairs ∷ name ∷ []) (at_takes 1 cells m.0 m.1).0
-    ∙ ap (λ (w : List ℕ). codes "setup" ∷ decimal p.0 ∷ decimal c.0 ∷ decimal m.0 ∷ w ∷ name ∷ []) (at_takes 1 pairs k.0 k.1).0
-    ∙ ap (λ (w : List ℕ). codes "setup" ∷ decimal p.0 ∷ decimal c.0 ∷ decimal m.0 ∷ decimal k.0 ∷ w ∷ []) named in
+    let shaped = shape_takes shape f.0 (some_from _ _ _ f.1) in
+    let whole : codes "setup" ∷ producers ∷ consumers ∷ cells ∷ pairs ∷ name ∷ shape ≡ setup_words z =
+    ap (λ (w : List ℕ). codes "setup" ∷ w ∷ consumers ∷ cells ∷ pairs ∷ name ∷ shape) (at_takes 1 producers p.0 p.1).0
+    ∙ ap (λ (w : List ℕ). codes "setup" ∷ decimal p.0 ∷ w ∷ cells ∷ pairs ∷ name ∷ shape) (at_takes 1 consumers c.0 c.1).0
+    ∙ ap (λ (w : List ℕ). codes "setup" ∷ decimal p.0 ∷ decimal c.0 ∷ w ∷ pairs ∷ name ∷ shape) (at_takes 1 cells m.0 m.1).0
+    ∙ ap (λ (w : List ℕ). codes "setup" ∷ decimal p.0 ∷ decimal c.0 ∷ decimal m.0 ∷ w ∷ name ∷ shape) (at_takes 1 pairs k.0 k.1).0
+    ∙ ap (λ (w : List ℕ). codes "setup" ∷ decimal p.0 ∷ decimal c.0 ∷ decimal m.0 ∷ decimal k.0 ∷ w ∷ shape) named
+    ∙ ap (λ (ws : List (List ℕ)). codes "setup" ∷ decimal p.0 ∷ decimal c.0 ∷ decimal m.0 ∷ decimal k.0 ∷ table_name t.0 ∷ ws) shaped in
     (z, whole, sized)
 
 setup_take : (ws : List (List ℕ)) (made : Made) → setup_of ws ≡ Ok made → (z : Sizes) × (ws ≡ setup_words z) × Sized made z
@@ -220,7 +247,7 @@ place_takes z n (Push lane) low has small = ltb-true _ _ low
 place_takes z n (Finish lane) low has small = ltb-true _ _ low
 place_takes z n (Step consumer lane word) low has small = (
   ltb-true _ _ low,
-  subst (λ (c : ℕ). consumer < c) (consumers_are z.producers z.consumers z.cells z.pairs z.table) (ltb-true _ _ has),
+  subst (λ (c : ℕ). consumer < c) (consumers_are z.shape z.producers z.consumers z.cells z.pairs z.table) (ltb-true _ _ has),
   small.2,
 )
 
@@ -275,7 +302,7 @@ events_take z n (line ∷ lines) events read =
     (line_before _ _ _ _ first.0 rest.0, (first.1, rest.1), λ h. omega (arith, few))
 
 -- a plan with pairs, and events, as one script
-script_is : (z : Sizes) (made : Made) (events : List Event) → (plan_for z, z.pairs) ≡ made
+script_is : (z : Sizes) (made : Made) (events : List Event) → made_for z ≡ made
     → script_with made events ≡ script_in z events
 script_is z made events e = ap (λ (m : Made). script_with m events) (sym e)
 
@@ -283,12 +310,12 @@ pub lines_take : (lines : List (List ℕ)) (s : Script) → lines_script lines �
 unfolding lines_script
 lines_take [] s read = absurd (cc)
 lines_take (line ∷ lines) s read =
-    let further = λ (m : Made). events_of m.0 2 lines >>= (λ events. Ok (script_with m events)) in
+    let further = λ (m : Made). events_of m.plan 2 lines >>= (λ events. Ok (script_with m events)) in
     let a = bind_ok (setup_of (words_of line)) further s read in
-    let b = bind_ok (events_of a.0.0 2 lines) (λ events. Ok (script_with a.0 events)) s a.2 in
+    let b = bind_ok (events_of a.0.plan 2 lines) (λ events. Ok (script_with a.0 events)) s a.2 in
     let set = setup_take (words_of line) a.0 a.1 in
     let z = set.0 in
-    let plan : a.0.0 ≡ plan_for z = ap (λ (m : Made). m.0) (sym set.2.1) in
+    let plan : a.0.plan ≡ plan_for z = ap (λ (m : Made). m.plan) (sym set.2.1) in
     let events = events_take z 2 lines b.0 (subst (λ (p : Plan). events_of p 2 lines ≡ Ok b.0) plan b.1) in
     let first : line ≡ join_with_byte 32 (setup_words z) =
     sym (join_with_byte-slice_split 32 line) ∙ ap (join_with_byte 32) set.1 in

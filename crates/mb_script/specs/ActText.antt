@@ -2,17 +2,20 @@
 use Rattle.std.specs.Prelude.{ℕ, List, ◌++◌, codes}
 use Rattle.std.specs.Fmt.{decimal}
 use Rattle.mb_deciding.specs.declared.access.Reg.{Reg}
-use Rattle.mb_deciding.specs.declared.access.Reg.TheVariants.{Value, Proposal, Quorum}
+use Rattle.mb_deciding.specs.declared.access.Reg.TheVariants.{Value, Proposal, Quorum, Last}
 use Rattle.mb_deciding.specs.declared.access.Act.{Act}
-use Rattle.mb_deciding.specs.declared.access.Act.TheVariants.{Load, Store}
+use Rattle.mb_deciding.specs.declared.access.Act.TheVariants.{Load, Store, Exchange}
 
--- a conciliator's word, the proposal, or a quorum register by its index
+-- a conciliator's word, the proposal, a quorum register by its index, or the word of a last object
 abbrev pub reg_text : Reg → List ℕ
 reg_text Value = codes "c"
 reg_text Proposal = codes "p"
 reg_text (Quorum i) = codes "q" ++ decimal i
+reg_text Last = codes "l"
 
--- what was done, where, and the value of the word
+-- what was done, where, and the value of the word; of an exchange the value that it was for, and the one found
 abbrev pub act_text : Act → List ℕ
 act_text (Load reg value) = codes "load " ++ reg_text reg ++ codes " " ++ decimal value
 act_text (Store reg value) = codes "store " ++ reg_text reg ++ codes " " ++ decimal value
+act_text (Exchange reg value found) =
+    codes "exchange " ++ reg_text reg ++ codes " " ++ decimal value ++ codes " " ++ decimal found

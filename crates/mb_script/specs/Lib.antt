@@ -11,6 +11,7 @@ pub mod Scripts
 pub mod Spelling
 pub mod Steps
 pub mod Tables
+pub mod Shapes
 pub mod Text
 pub mod Transcribed
 pub mod Transcript

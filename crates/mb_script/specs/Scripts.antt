@@ -4,29 +4,53 @@ use Rattle.std.specs.List.{list_all}
 use Rattle.std.specs.Char.{is_ascii}
 use Rattle.std.specs.Option.{ok_or}
 use Rattle.std.specs.Str.{bytes_eq}
+use Rattle.mb_quorum.specs.declared.table.TableName.{TableName}
 use Rattle.mb_world.specs.declared.event.Event.{Event}
 use Rattle.mb_world.specs.declared.event.Event.TheVariants.{Offer, Push, Finish, Step}
 use Rattle.mb_world.specs.declared.setup.SetupFault.{SetupFault}
 use Rattle.mb_world.specs.Plan.{Plan, consumers_of}
-use Rattle.mb_world.specs.Setups.{pairs_in, plan_in, plan_of, setup_refusal}
+use Rattle.mb_claim.specs.declared.shape.Shape.{Shape}
+use Rattle.mb_world.specs.declared.setup.Setup.{Setup}
+use Rattle.mb_world.specs.Setups.{pairs_in, plan_in, setup_refusal, shape_in, shaped_plan}
 use Rattle.mb_script.specs.declared.fault.Fault.{Fault}
 use Rattle.mb_script.specs.declared.fault.Fault.TheVariants.{TooLong, NotAscii, BadLine, BadNumber, NoSetup, BadSetup, NoLane, NoConsumer, TooManyEvents}
 use Rattle.mb_script.specs.declared.script.Script as code
 use Rattle.mb_script.specs.declared.script.TheConstants.{MAX_EVENTS}
 use Rattle.mb_script.specs.declared.transfer.TheConstants.{MAX_SCRIPT_LEN}
 use Rattle.mb_script.specs.Steps.{◌>>=◌}
+use Rattle.mb_script.specs.Shapes.{shape_named}
 use Rattle.mb_script.specs.Tables.{table_named}
 use Rattle.mb_script.specs.Text.{lines_of, words_of, has_empty, number_of}
 
--- what a world is made of, how many pairs of deciding objects each cell has, and what is to happen, the first first
+-- what a first line makes: what a world is made of, how many pairs of deciding objects each cell has, and what it has
+-- beside them
+pub record Made : Type 0 where
+  pub plan : Plan
+  pub pairs : ℕ
+  pub shape : Shape
+
+-- the same of a setup of the code
+abbrev pub made_in : Setup → Made
+made_in setup = record { plan = plan_in setup; pairs = pairs_in setup; shape = shape_in setup }
+
+-- of these numbers, over the quorum table of this name, with cells of this shape
+abbrev pub made_from : Shape → ℕ → ℕ → ℕ → ℕ → TableName → Made
+made_from shape p c m k t = record { plan = shaped_plan shape p c m k t; pairs = k; shape = shape }
+
+-- what a world is made of, and what is to happen, the first first
 pub record Script : Type 0 where
   pub plan : Plan
   pub pairs : ℕ
+  pub shape : Shape
   pub events : List Event
+
+-- the script of a world and its events
+abbrev pub script_with : Made → List Event → Script
+script_with made events = record { plan = made.plan; pairs = made.pairs; shape = made.shape; events = events }
 
 -- a script of the code
 abbrev pub view : {A : Type 0} → code.Script A → Script
-view s = record { plan = plan_in s.setup; pairs = pairs_in s.setup; events = s.events.items }
+view s = script_with (made_in s.setup) s.events.items
 
 -- ---- the numbers of line n, where there are as many as there should be
 abbrev pub number_at : ℕ → List ℕ → Result ℕ Fault
@@ -45,25 +69,26 @@ three_numbers n (a ∷ b ∷ c ∷ []) =
     number_at n a >>= (λ x. number_at n b >>= (λ y. number_at n c >>= (λ z. Ok (x, y, z))))
 three_numbers n words = Err (BadLine n)
 
--- ---- the first line: `setup`, four numbers and the name of a table
+-- ---- the first line: `setup`, four numbers, the name of a table and, if cells have more than pairs, their shape
 -- what they make, or why they make nothing
-abbrev pub made_of : Option SetupFault → Plan × ℕ → Result (Plan × ℕ) Fault
+abbrev pub made_of : Option SetupFault → Made → Result Made Fault
 made_of None made = Ok made
 made_of (Some fault) made = Err (BadSetup 1 fault)
 
--- the words behind `setup`
-unfoldable pub sizes_of : List (List ℕ) → Result (Plan × ℕ) Fault
-sizes_of (producers ∷ consumers ∷ cells ∷ pairs ∷ name ∷ []) = do
+-- the words after `setup`
+unfoldable pub sizes_of : List (List ℕ) → Result Made Fault
+sizes_of (producers ∷ consumers ∷ cells ∷ pairs ∷ name ∷ shape) = do
   t ← ok_or (table_named name) (BadLine 1)
+  f ← ok_or (shape_named shape) (BadLine 1)
   p ← number_at 1 producers
   c ← number_at 1 consumers
   m ← number_at 1 cells
   k ← number_at 1 pairs
-  made_of (setup_refusal p c m k) (plan_of p c m k t, k)
+  made_of (setup_refusal p c m k) (made_from f p c m k t)
 sizes_of words = Err (BadLine 1)
 
 -- the words of the line: what else is wrong with it counts only where its first word is `setup`
-unfoldable pub setup_of : List (List ℕ) → Result (Plan × ℕ) Fault
+unfoldable pub setup_of : List (List ℕ) → Result Made Fault
 setup_of [] = Err NoSetup
 setup_of (key ∷ words) =
     if bytes_eq key (codes "setup")
@@ -119,14 +144,10 @@ events_of plan n (line ∷ lines) =
     else event_at plan n line >>= (λ event. events_of plan (suc n) lines >>= (λ events. Ok (event ∷ events)))
 
 -- ---- the whole
--- the script of a world and its events
-abbrev pub script_with : Plan × ℕ → List Event → Script
-script_with made events = record { plan = made.0; pairs = made.1; events = events }
-
 unfoldable pub lines_script : List (List ℕ) → Result Script Fault
 lines_script [] = Err NoSetup
 lines_script (line ∷ lines) =
-    setup_of (words_of line) >>= (λ made. events_of made.0 2 lines >>= (λ events. Ok (script_with made events)))
+    setup_of (words_of line) >>= (λ made. events_of made.plan 2 lines >>= (λ events. Ok (script_with made events)))
 
 -- what the bytes say: a script, or the first fault
 unfoldable pub script_of : List ℕ → Result Script Fault

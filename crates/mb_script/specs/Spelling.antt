@@ -5,24 +5,27 @@ use Rattle.std.specs.Fmt.{decimal}
 use Rattle.mb_quorum.specs.declared.table.TableName.{TableName}
 use Rattle.mb_world.specs.declared.event.Event.{Event}
 use Rattle.mb_world.specs.declared.event.Event.TheVariants.{Offer, Push, Finish, Step}
-use Rattle.mb_world.specs.Setups.{plan_of, setup_refusal}
+use Rattle.mb_claim.specs.declared.shape.Shape.{Shape}
+use Rattle.mb_world.specs.Setups.{setup_refusal}
 use Rattle.mb_script.specs.declared.script.TheConstants.{MAX_EVENTS}
-use Rattle.mb_script.specs.Scripts.{Script}
+use Rattle.mb_script.specs.Scripts.{Made, Script, made_from, script_with}
+use Rattle.mb_script.specs.Shapes.{shape_words}
 use Rattle.mb_script.specs.Tables.{table_name}
 
--- the numbers of a setup, and its table
+-- the numbers of a setup, its table, and the shape of its cells
 pub record Sizes : Type 0 where
   pub producers : ℕ
   pub consumers : ℕ
   pub cells : ℕ
   pub pairs : ℕ
   pub table : TableName
+  pub shape : Shape
 
 -- the words of the first line
 abbrev pub setup_words : Sizes → List (List ℕ)
 setup_words z =
     codes "setup" ∷ decimal z.producers ∷ decimal z.consumers ∷ decimal z.cells ∷ decimal z.pairs
-    ∷ table_name z.table ∷ []
+    ∷ table_name z.table ∷ shape_words z.shape
 
 -- the words of the line of an event
 abbrev pub event_words : Event → List (List ℕ)
@@ -48,13 +51,13 @@ pub record IsScript (z : Sizes) (events : List Event) : Type 0 where
   pub known : AllByRecursion (IsEventOf z) events
   pub few : length events ≤ MAX_EVENTS
 
+-- what the first line makes
+abbrev pub made_for : Sizes → Made
+made_for z = made_from z.shape z.producers z.consumers z.cells z.pairs z.table
+
 -- what the lines say
 abbrev pub script_in : Sizes → List Event → Script
-script_in z events = record {
-  plan = plan_of z.producers z.consumers z.cells z.pairs z.table;
-  pairs = z.pairs;
-  events = events;
-}
+script_in z events = script_with (made_for z) events
 
 -- these lines spell this script
 abbrev pub Spells : List (List ℕ) → Script → Type 0

@@ -8,6 +8,7 @@ pub use Rattle.mb_script.specs.Transcript.{answer_text, entry_text, event_text, 
 pub use Rattle.mb_script.specs.ReportText.{diary_text, lanes_text, note_text, report_text}
 pub use Rattle.mb_script.specs.Steps.{◌>>=◌, GivesUnless}
 pub use Rattle.mb_script.specs.Tables.{table_name, table_named}
+pub use Rattle.mb_script.specs.Shapes.{shape_named, shape_of_word, shape_with, shape_words}
 pub use Rattle.mb_script.specs.Faults.{Gives, LiesInScript, fault_at}
 pub use Rattle.mb_script.specs.Scripts.{Script, consumer_in, has_consumer, lane_of, view}
 unfoldable pub use Rattle.mb_script.specs.Scripts.{event_at, event_of, events_of, lines_script, one_number, placed, script_of, setup_of, sizes_of, three_numbers, two_numbers}

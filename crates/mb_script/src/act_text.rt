@@ -1,5 +1,6 @@
 //! The text of an act.
-ghost use Rattle.std.specs.Prelude.{◌≡◌, ◌++◌, OnOk, string_bytes};
+ghost use Rattle.std.specs.Prelude.{◌≡◌, ◌++◌, OnOk, codes, string_bytes};
+ghost use Rattle.std.specs.Fmt.{decimal};
 ghost use Rattle.mb_script.specs.ActText.{act_text, reg_text};
 
 use mb_deciding::{Act, Reg};
@@ -12,19 +13,37 @@ fn push_reg<A: Allocator>(text: &mut String<A>, reg: Reg) -> Result<(), AllocErr
         Reg::Value => text.push_str("c"),
         Reg::Proposal => text.push_str("p"),
         Reg::Quorum(i) => write!(text, "q{i}"),
+        Reg::Last => text.push_str("l"),
     }
 }
 
-/// Appends what was done, to which word, and its value: `load` or `store`; `c` for a conciliator's word, `p` for the
-/// proposal or `q` and its index for a quorum register; and the value that was loaded or stored.
-pub fn push_act<A: Allocator>(text: &mut String<A>, act: Act) -> Result<(), AllocError>
-    ensures { OnOk result (string_bytes text.new ≡ string_bytes text.old ++ act_text act) }
+/// Appends what was done, to which word, and its value.
+fn push_access<A: Allocator>(
+    text: &mut String<A>,
+    name: &str,
+    reg: Reg,
+    value: u64,
+) -> Result<(), AllocError>
+    ensures { OnOk result (string_bytes text.new ≡ string_bytes text.old
+        ++ (name.now ++ reg_text reg ++ codes " " ++ decimal value)) }
 {
-    let (name, reg, value) = match act {
-        Act::Load { reg, value } => ("load ", reg, value),
-        Act::Store { reg, value } => ("store ", reg, value),
-    };
     text.push_str(name)?;
     push_reg(text, reg)?;
     write!(text, " {value}")
+}
+
+/// Appends what was done, to which word, and its value. That is `load`, `store` or `exchange`, and then `c` for a
+/// conciliator's word, `p` for the proposal, `q` and its index for a quorum register or `l` for a last object's word. The
+/// value is the one loaded or stored. After that of an exchange comes the value that it found.
+pub fn push_act<A: Allocator>(text: &mut String<A>, act: Act) -> Result<(), AllocError>
+    ensures { OnOk result (string_bytes text.new ≡ string_bytes text.old ++ act_text act) }
+{
+    match act {
+        Act::Load { reg, value } => push_access(text, "load ", reg, value),
+        Act::Store { reg, value } => push_access(text, "store ", reg, value),
+        Act::Exchange { reg, value, found } => {
+            push_access(text, "exchange ", reg, value)?;
+            write!(text, " {found}")
+        }
+    }
 }

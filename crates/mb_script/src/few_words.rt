@@ -1,7 +1,7 @@
 //! The words of one line, without memory.
 ghost use Rattle.std.specs.Prelude.{◌≤◌};
 
-/// Room for the words of one line: `setup` has the most of a replay script, six, and a line with more is a bad line.
+/// Room for the words of one line: `setup` has the most of a replay script, seven, and a line with more is a bad line.
 pub const MAX_WORDS: usize = 8;
 
 /// The words of a line that has no empty word, and not more than [`MAX_WORDS`].

@@ -1,16 +1,17 @@
 //! Reading a replay script.
 ghost use Rattle.std.specs.Prelude.{◌≡◌, ◌≤◌, ℕ, List, length, map, Ok, IfOk};
-ghost use Rattle.mb_world.specs.Setups.{pairs_in, plan_in};
 ghost use Rattle.mb_script.specs.Text.{lines_of, words_of};
 ghost use Rattle.mb_script.specs.Faults.{Gives};
 ghost use Rattle.mb_script.specs.Spelling.{IsScript, Spells, Sizes, script_in, script_lines};
 ghost use Rattle.mb_script.specs.Scripts.{number_at as number_read, one_number as one_read, two_numbers as two_read};
-ghost use Rattle.mb_script.specs.Scripts.{three_numbers as three_read, setup_of, sizes_of, event_of, placed};
+ghost use Rattle.mb_script.specs.Scripts.{three_numbers as three_read, made_in, setup_of, sizes_of};
+ghost use Rattle.mb_script.specs.Scripts.{event_of, placed};
 ghost use Rattle.mb_script.specs.Scripts.{event_at as event_read, events_of, lines_script, script_of, view};
 
 use crate::fault::Fault;
 use crate::few_words::Words;
 use crate::script::{MAX_EVENTS, Script};
+use crate::shape::shape_named;
 use crate::table::table_named;
 use crate::text::{ascii_text, number, split_line, split_word};
 use crate::transfer::MAX_SCRIPT_LEN;
@@ -57,21 +58,22 @@ fn three_numbers(n: usize, words: &[&str]) -> Result<(u64, u64, u64), Fault>
     ))
 }
 
-/// The words behind `setup`.
+/// The words after `setup`.
 #[tactic(auto, unfolding(crate::specs::Scripts::sizes_of))]
 fn sizes(words: &[&str]) -> Result<Setup, Fault>
-    ensures { Gives (λ s. (plan_in s, pairs_in s)) result (sizes_of (map (λ w. w.now) words.now)) }
+    ensures { Gives made_in result (sizes_of (map (λ w. w.now) words.now)) }
 {
-    let [producers, consumers, cells, pairs, name] = words else {
+    let [producers, consumers, cells, pairs, name, shape @ ..] = words else {
         return Err(Fault::BadLine(1));
     };
     let table = table_named(name).ok_or(Fault::BadLine(1))?;
+    let shape = shape_named(shape).ok_or(Fault::BadLine(1))?;
     let producers = number_at(1, producers)?;
     let consumers = number_at(1, consumers)?;
     let cells = number_at(1, cells)?;
     let pairs = number_at(1, pairs)?;
     match Setup::new(producers, consumers, cells, pairs, table) {
-        Ok(setup) => Ok(setup),
+        Ok(setup) => Ok(setup.shaped(shape)),
         Err(fault) => Err(Fault::BadSetup(1, fault)),
     }
 }
@@ -79,7 +81,7 @@ fn sizes(words: &[&str]) -> Result<Setup, Fault>
 /// The first line.
 #[tactic(auto, unfolding(crate::specs::Scripts::setup_of))]
 fn setup(line: &str) -> Result<Setup, Fault>
-    ensures { Gives (λ s. (plan_in s, pairs_in s)) result (setup_of (words_of line.now)) }
+    ensures { Gives made_in result (setup_of (words_of line.now)) }
 {
     if split_word(line).0 != "setup" {
         return Err(Fault::NoSetup);

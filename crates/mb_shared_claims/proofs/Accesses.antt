@@ -1,5 +1,8 @@
 -- A load or a store of a claim's access, in the words of a table and from a seat.
-use Rattle.std.proofs.Common.{◌≡◌, ◌+◌, ◌*◌, ◌<◌, ℕ, [], ◌∷◌, refl, sym, ap, ◌∙◌, subst, arith}
+use Rattle.std.proofs.Common.{◌≡◌, ◌+◌, ◌*◌, ◌<◌, ◌==◌, ℕ, Bool, true, false, cond, None, Some, [], ◌∷◌, refl, sym, ap, ◌∙◌, subst, arith}
+use Rattle.std.specs.Prelude.{IfSome}
+use Rattle.std.specs.Option.{option_map_or}
+use prog.Atomic.{either}
 use Rattle.mb_deciding.specs.declared.access.Op.TheVariants as to
 use Rattle.atomic_table.specs.Table.{Allows}
 use Rattle.mb_deciding.specs.Vocabulary.{IsInWords, reg_of}
@@ -26,6 +29,27 @@ pub store_small :
     → word < 18446744073709551616 → IsInWords (step_of object op n word).turn
 store_small object word n value op reg e small fits =
     subst (λ (o : Op). IsInWords (step_of object o n word).turn) (sym e) ((tt, small), fits)
+
+-- and an exchange: what it finds and what it puts there
+stored_small : (b : Bool) (w : ℕ) → w < 18446744073709551616 → IfSome (cond b (Some w) None) (λ value. value < 18446744073709551616)
+stored_small true w small = small
+stored_small false w small = tt
+
+pub exchange_small :
+    (object word n value : ℕ) (op : Op) (reg : Reg) → op ≡ to.Exchange reg value → value < 18446744073709551616
+    → n < 18446744073709551616 → word < 18446744073709551616 → IsInWords (step_of object op n word).turn
+exchange_small object word n value op reg e put small fits =
+    subst (λ (o : Op). IsInWords (step_of object o n word).turn) (sym e) ((small, stored_small (n == 0) value put), fits)
+
+-- it leaves its value where it found 0, and else what it found
+exchanged : (b : Bool) (w n : ℕ) → either b w n ≡ option_map_or (λ value. value) (cond b (Some w) None) n
+exchanged true w n = refl
+exchanged false w n = refl
+
+pub exchange_after :
+    (value n : ℕ) (op : Op) (reg : Reg) → op ≡ to.Exchange reg value → either (n == 0) value n ≡ after_op op n
+exchange_after value n op reg e =
+    subst (λ (o : Op). either (n == 0) value n ≡ after_op o n) (sym e) (exchanged (n == 0) value n)
 
 -- two stores of one value are one access
 pub store_same :

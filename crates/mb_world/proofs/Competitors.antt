@@ -14,7 +14,8 @@ use Rattle.mb_world.specs.Reporting.{IsDiaryOf, IsReportOf}
 use Rattle.mb_world.proofs.Diaries.{met_at, note_at, open_last, placed}
 use Rattle.mb_world.proofs.Known.{Known}
 use Rattle.mb_world.proofs.Places.{IsAt, at_one, at_reverse, has_at}
-use Rattle.mb_world.proofs.Recorded.{begun_is, competed_in, notes_is}
+use Rattle.mb_world.proofs.Recorded.{competed_in}
+use Rattle.mb_world.proofs.ReportPlaces.{begun_is, notes_is}
 use Rattle.mb_world.proofs.Diaries as diaries
 
 module _ (plan : Plan) (hs : Histories) (known : Known plan hs)
@@ -66,8 +67,8 @@ module _ (plan : Plan) (hs : Histories) (known : Known plan hs)
   )
     where
       by : HasCompeted c p j r → (j < length d.notes) ⊎ ((length d.notes ≡ j) × (d.begun ≡ true))
-      by (inl before) = inl (subst (λ (ns : List Note). j < length ns) (notes_is plan hs known r is c p cs ps) before)
+      by (inl before) = inl (subst (λ (ns : List Note). j < length ns) (notes_is plan hs r is c p cs ps) before)
       by (inr next) = inr (
-        subst (λ (ns : List Note). length ns ≡ j) (notes_is plan hs known r is c p cs ps) next.0,
-        sym (begun_is plan hs known r is c p cs ps) ∙ next.1,
+        subst (λ (ns : List Note). length ns ≡ j) (notes_is plan hs r is c p cs ps) next.0,
+        sym (begun_is plan hs r is c p cs ps) ∙ next.1,
       )

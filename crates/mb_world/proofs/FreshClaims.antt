@@ -1,11 +1,12 @@
 -- A claim on some objects goes on before its first access.
-use Rattle.std.proofs.Common.{◌≢◌, ℕ, zero, suc, ◌<◌, ◌≤◌, List, [], ◌∷◌, refl, inl, arith}
+use Rattle.std.proofs.Common.{◌≢◌, ℕ, zero, suc, ◌<◌, ◌≤◌, Bool, true, false, List, [], ◌∷◌, ◌++◌, refl, inl, arith}
 use Rattle.mb_quorum.specs.Quorum.{IsQuorumTable, QuorumTable}
 use Rattle.mb_deciding.specs.Deciding.{IsDeciding}
 use Rattle.mb_deciding.specs.Objects.{IsOpen}
 use Rattle.mb_deciding.specs.OneObject.{Object, object_of}
 use Rattle.mb_claim.specs.declared.access.Stage.TheVariants as stage
-use Rattle.mb_claim.specs.Layouts.{pairs_of}
+use Rattle.mb_claim.specs.Layouts.{fast_row, last_row, pairs_of, row_of}
+use Rattle.mb_claim.specs.declared.shape.Shape.{Shape}
 use Rattle.mb_claim.specs.Paths.{IsClaimPrefixFrom}
 use Rattle.mb_world.specs.Below.{Claims, IsClaimPrefix, Kind}
 
@@ -20,7 +21,15 @@ pub fresh_goes : (cs : Claims) → IsQuorumTable cs.table → ((o : Object) → 
 fresh_goes cs table promises some c known =
     goes_from cs.table cs.kinds c some (λ kind. (promises (object_of cs.table kind (λ i. i)) table).opens c known)
 
--- so many pairs are some objects
-pub some_pairs : (s n : ℕ) → 1 ≤ n → pairs_of s n ≢ []
-some_pairs s zero less e = omega (arith, less)
-some_pairs s (suc n) less e = cc
+-- a row with so many pairs has some objects, with a fast path and without
+some_with : (fast : Bool) (rest : List Kind) → rest ≢ [] → fast_row fast ++ rest ≢ []
+some_with true rest some e = cc
+some_with false rest some e = some e
+
+some_pairs : (s n : ℕ) (rest : List Kind) → 1 ≤ n → pairs_of s n ++ rest ≢ []
+some_pairs s zero rest less e = omega (arith, less)
+some_pairs s (suc n) rest less e = cc
+
+pub some_row : (shape : Shape) (s n : ℕ) → 1 ≤ n → row_of shape s n ≢ []
+some_row shape s n less =
+    some_with shape.fast (pairs_of s n ++ last_row shape.last) (some_pairs s n (last_row shape.last) less)

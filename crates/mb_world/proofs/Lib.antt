@@ -1,4 +1,5 @@
 pub mod Settled
+pub mod LastObjects
 pub mod Lists
 pub mod Assigned
 pub mod Places
@@ -8,6 +9,7 @@ pub mod Known
 pub mod Cells
 pub mod Diaries
 pub mod LaneEnds
+pub mod ReportPlaces
 pub mod Recorded
 pub mod Claimed
 pub mod Tracks

@@ -23,6 +23,7 @@ use Rattle.mb_world.proofs.Diaries.{begun_within, competes_at, met_at, note_at, 
 use Rattle.mb_world.proofs.Known.{Known}
 use Rattle.mb_world.proofs.LaneEnds.{ends_noted}
 use Rattle.mb_world.proofs.Places.{at_one}
+use Rattle.mb_world.proofs.ReportPlaces.{IsInside, begun_is, diary_none, inside, left_is, no_lane, note_in, notes_is, put_is}
 
 module _ (plan : Plan) (hs : Histories) (known : Known plan hs) where
   abbrev Diary : ℕ → ℕ → DiaryView → Type 0
@@ -69,77 +70,18 @@ module _ (plan : Plan) (hs : Histories) (known : Known plan hs) where
 
   -- ---- the whole report
   module _ (r : ReportView) (is : IsReportOf plan hs r) where
-    no_lane : (p : ℕ) → plan.lanes ≤ p → slice_get r.lanes p ≡ None
-    no_lane p past = slice_get_past r.lanes p (omega (arith, is.lanes_count))
-
-    diary_none : (c p : ℕ) → (plan.lanes ≤ p) ⊎ (consumers_of plan ≤ c) → diary c p r ≡ None
-    diary_none c p (inl past) = rw (le-ltb p (length r.lanes) (omega (arith, is.lanes_count))) refl
-    diary_none c p (inr past) = by_lane (nat_lt p (length r.lanes))
-      where
-        size : consumers_of plan * plan.lanes ≤ c * plan.lanes
-        size = mul-le-mul_right plan.lanes past
-
-        beyond : length r.diaries ≤ c * length r.lanes + p
-        beyond = rw (is.lanes_count, is.diaries_count) (omega (arith, size))
-
-        by_lane : (b : Bool) → cond b (slice_get r.diaries (c * length r.lanes + p)) None ≡ None
-        by_lane true = slice_get_past r.diaries (c * length r.lanes + p) beyond
-        by_lane false = refl
-
-    diary_is : (c p : ℕ) (cs : c < consumers_of plan) (ps : p < plan.lanes) → diary c p r ≡ Some (is.diary c p cs ps).0
-    diary_is c p cs ps = rw (is.lanes_count, lt-ltb p plan.lanes ps) (is.diary c p cs ps).1
-
-    pub notes_is : (c p : ℕ) (cs : c < consumers_of plan) (ps : p < plan.lanes)
-        → notes c p r ≡ (is.diary c p cs ps).0.notes
-    notes_is c p cs ps = ap (λ (o : Option DiaryView). option_map_or (λ d. d.notes) o []) (diary_is c p cs ps)
-
-    pub begun_is : (c p : ℕ) (cs : c < consumers_of plan) (ps : p < plan.lanes)
-        → is_begun c p r ≡ (is.diary c p cs ps).0.begun
-    begun_is c p cs ps = ap (λ (o : Option DiaryView). option_map_or (λ d. d.begun) o false) (diary_is c p cs ps)
-
-    put_is : (p : ℕ) → p < plan.lanes → items_put p r ≡ values_put p hs.pool
-    put_is p ps = rw (is.lane p ps) refl
-
-    left_is : (p : ℕ) → p < plan.lanes → items_left p r ≡ (lane_view plan p hs r).left
-    left_is p ps = rw (is.lane p ps) refl
-
-    -- where a note is, or a claim is begun, there are the consumer and the lane
-    abbrev IsInside : ℕ → ℕ → Type 0
-    IsInside c p = (c < consumers_of plan) × (p < plan.lanes)
-
-    inside : (c p : ℕ) → (diary c p r ≡ None → ⊥) → IsInside c p
-    inside c p some = by_cases (cases_lt c (consumers_of plan)) (cases_lt p plan.lanes)
-      where
-        by_cases : (c < consumers_of plan) ⊎ (consumers_of plan ≤ c) → (p < plan.lanes) ⊎ (plan.lanes ≤ p)
-            → IsInside c p
-        by_cases (inl cs) (inl ps) = (cs, ps)
-        by_cases (inr past) o = absurd (some (diary_none c p (inr past)))
-        by_cases (inl cs) (inr past) = absurd (some (diary_none c p (inl past)))
-
-    note_in : (c p j : ℕ) (n : Note) → note c p j r ≡ Some n
-        → (cs : c < consumers_of plan) × (ps : p < plan.lanes) × (slice_get (is.diary c p cs ps).0.notes j ≡ Some n)
-    note_in c p j n e = (
-      there.0,
-      there.1,
-      subst (λ (ns : List Note). slice_get ns j ≡ Some n)
-          (notes_is c p there.0 there.1) e,
-    )
-      where
-        there : IsInside c p
-        there = inside c p (λ none. let q : slice_get {X = Note} [] j ≡ Some n = rw none at e in cc)
-
     -- a competitor by its diary is one by the report
     pub competed_in : (c p j : ℕ) (cs : c < consumers_of plan) (ps : p < plan.lanes) →
         let d = (is.diary c p cs ps).0 in
         (j < length d.notes) ⊎ ((length d.notes ≡ j) × (d.begun ≡ true)) → HasCompeted c p j r
-    competed_in c p j cs ps (inl before) = inl (rw (notes_is c p cs ps) before)
-    competed_in c p j cs ps (inr next) = inr (rw (notes_is c p cs ps) next.0, rw (begun_is c p cs ps) next.1)
+    competed_in c p j cs ps (inl before) = inl (rw (notes_is plan hs r is c p cs ps) before)
+    competed_in c p j cs ps (inr next) = inr (rw (notes_is plan hs r is c p cs ps) next.0, rw (begun_is plan hs r is c p cs ps) next.1)
 
     value : (c p j x : ℕ) → note c p j r ≡ Some (Took x) → slice_get (items_put p r) j ≡ Some x
     value c p j x e =
-        let i = note_in c p j (Took x) e in
+        let i = note_in plan hs r is c p j (Took x) e in
         let d = is.diary c p i.0 i.1 in
-        rw (put_is p i.1) (value_of plan hs known c p i.0 d.0 d.2 j x i.2)
+        rw (put_is plan hs r is p i.1) (value_of plan hs known c p i.0 d.0 d.2 j x i.2)
 
     notes_within : (c p : ℕ) → length (notes c p r) ≤ length (items_put p r)
     notes_within c p = by_cases (cases_lt p plan.lanes) (cases_lt c (consumers_of plan))
@@ -148,25 +90,25 @@ module _ (plan : Plan) (hs : Histories) (known : Known plan hs) where
             → length (notes c p r) ≤ length (items_put p r)
         by_cases (inl ps) (inl cs) =
             let d = is.diary c p cs ps in
-            rw (notes_is c p cs ps, put_is p ps) (within plan hs known c p cs d.0 d.2)
-        by_cases (inr past) o = rw (diary_none c p (inl past)) (omega arith)
-        by_cases (inl ps) (inr past) = rw (diary_none c p (inr past)) (omega arith)
+            rw (notes_is plan hs r is c p cs ps, put_is plan hs r is p ps) (within plan hs known c p cs d.0 d.2)
+        by_cases (inr past) o = rw (diary_none plan hs r is c p (inl past)) (omega arith)
+        by_cases (inl ps) (inr past) = rw (diary_none plan hs r is c p (inr past)) (omega arith)
 
     claims_within : (c p : ℕ) → is_begun c p r ≡ true → length (notes c p r) < length (items_put p r)
     claims_within c p b =
         let d = is.diary c p there.0 there.1 in
-        rw (notes_is c p there.0 there.1, put_is p there.1)
-        (begun_within plan hs known c p there.0 d.0 d.2 (rw (begun_is c p there.0 there.1) at b))
+        rw (notes_is plan hs r is c p there.0 there.1, put_is plan hs r is p there.1)
+        (begun_within plan hs known c p there.0 d.0 d.2 (rw (begun_is plan hs r is c p there.0 there.1) at b))
       where
-        there : IsInside c p
-        there = inside c p (λ none. let q : false ≡ true = rw none at b in cc)
+        there : IsInside plan c p
+        there = inside plan hs r is c p (λ none. let q : false ≡ true = rw none at b in cc)
 
     lost : (c w p j : ℕ) → note c p j r ≡ Some (Lost w) → (w ≢ c) × HasCompeted w p j r
     lost c w p j e = by_winner (cases_lt w (consumers_of plan))
       where
         i : (cs : c < consumers_of plan) × (ps : p < plan.lanes)
             × (slice_get (is.diary c p cs ps).0.notes j ≡ Some (Lost w))
-        i = note_in c p j (Lost w) e
+        i = note_in plan hs r is c p j (Lost w) e
 
         by_winner : (w < consumers_of plan) ⊎ (consumers_of plan ≤ w) → (w ≢ c) × HasCompeted w p j r
         by_winner (inl ws) =
@@ -183,8 +125,8 @@ module _ (plan : Plan) (hs : Histories) (known : Known plan hs) where
     one : (c d p j : ℕ) (n m : Note) (u w : ℕ) → note c p j r ≡ Some n → note d p j r ≡ Some m
         → winner_named c n ≡ Some u → winner_named d m ≡ Some w → u ≡ w
     one c d p j n m u w e f en fm =
-        let i = note_in c p j n e in
-        let k = note_in d p j m f in
+        let i = note_in plan hs r is c p j n e in
+        let k = note_in plan hs r is d p j m f in
         let x = is.diary c p i.0 i.1 in
         let y = is.diary d p k.0 k.1 in
         one_winner c d p j x.0 y.0 n m u w i.0 k.0 x.2 y.2 i.2 k.2 en fm
@@ -194,8 +136,8 @@ module _ (plan : Plan) (hs : Histories) (known : Known plan hs) where
       where
         by_lane : (p < plan.lanes) ⊎ (plan.lanes ≤ p)
             → items_left p r ≡ items_where (λ j. not (is_taken (consumers_of plan) p j r)) (items_put p r)
-        by_lane (inl ps) = rw (put_is p ps) (left_is p ps)
-        by_lane (inr past) = rw (no_lane p past) refl
+        by_lane (inl ps) = rw (put_is plan hs r is p ps) (left_is plan hs r is p ps)
+        by_lane (inr past) = rw (no_lane plan hs r is p past) refl
 
     pub right : AreNotesRight (consumers_of plan) r
     right = record {
@@ -205,7 +147,7 @@ module _ (plan : Plan) (hs : Histories) (known : Known plan hs) where
       one = one;
       lost = lost;
       left = left_all;
-      below = λ c p j n e. (note_in c p j n e).0;
+      below = λ c p j n e. (note_in plan hs r is c p j n e).0;
     }
 
     -- past an end mark there are all notes
@@ -213,5 +155,5 @@ module _ (plan : Plan) (hs : Histories) (known : Known plan hs) where
         → j < length (items_put p r) → IsSome (note c p j r)
     noted c p j cs ps end before =
         let d = is.diary c p cs ps in
-        let less = ends_noted plan hs known c p cs d.0 d.2 j end (rw (put_is p ps) at before) in
-        rw (notes_is c p cs ps, slice_get-get_or d.0.notes j Undecided less) refl
+        let less = ends_noted plan hs known c p cs d.0 d.2 j end (rw (put_is plan hs r is p ps) at before) in
+        rw (notes_is plan hs r is c p cs ps, slice_get-get_or d.0.notes j Undecided less) refl

@@ -71,3 +71,17 @@ abbrev pub IsSettled : ReportView → Type 0
 IsSettled r =
     (c p j : ℕ) → j < length (items_put p r) → HasCompeted c p j r → ((d : ℕ) → HasTaken d p j r → ⊥) →
     (d : ℕ) × HasCompeted d p j r × (IsFinished d p j r → ⊥)
+
+-- an item that was competed for and that nobody took is left beside a diary whose notes end just before it and whose
+-- claim there is begun
+abbrev pub IsLeftBesideBegun : ReportView → Type 0
+IsLeftBesideBegun r =
+    (c p j : ℕ) → j < length (items_put p r) → HasCompeted c p j r
+    → ((d : ℕ) → HasTaken d p j r → ⊥)
+    → (d : ℕ) × (length (notes d p r) ≡ j) × (is_begun d p r ≡ true)
+
+-- on each lane on which no claim is begun, each item that was competed for is taken
+abbrev pub AreAllTaken : ReportView → Type 0
+AreAllTaken r =
+    (p : ℕ) → ((d : ℕ) → is_begun d p r ≡ true → ⊥) → (c j : ℕ) → j < length (items_put p r)
+    → HasCompeted c p j r → (d : ℕ) × HasTaken d p j r

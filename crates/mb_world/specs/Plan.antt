@@ -1,5 +1,7 @@
 -- What a mailbox is made of, and what was done to its words, as plain data.
-use Rattle.std.specs.Prelude.{ℕ, List}
+use Rattle.std.specs.Prelude.{ℕ, ◌≡◌, List, [], ◌∷◌, ◌++◌}
+use Rattle.mb_deciding.specs.declared.object.Kind.{Kind}
+use Rattle.mb_deciding.specs.declared.object.Kind.TheVariants.{LastObject}
 use Rattle.mb_world.specs.Below.{ClaimAccess, Claims, History, PoolSize, pool_size}
 
 -- the claims on its cells, whose quorum table has the consumers as its values, and how many lanes it has
@@ -10,6 +12,10 @@ pub record Plan : Type 0 where
 -- how many consumers it has
 abbrev pub consumers_of : Plan → ℕ
 consumers_of plan = plan.claims.table.values
+
+-- each cell ends with a last object
+abbrev pub HasLastObject : Plan → Type 0
+HasLastObject plan = (front : List Kind) × (plan.claims.kinds ≡ front ++ LastObject ∷ [])
 
 -- how many lanes and cells it has
 abbrev pub size_of : Plan → PoolSize

@@ -7,19 +7,24 @@ use Rattle.mb_deciding.specs.Spread.{spread}
 use Rattle.mb_claim.specs.declared.layout.Layout.{Layout}
 use Rattle.mb_claim.specs.declared.layout.TheConstants.{MAX_CELLS, MAX_PAIRS}
 use Rattle.mb_claim.specs.AllClaims.{claims_of}
-use Rattle.mb_claim.specs.Layouts.{claims_in, pair_count, pairs_of}
+use Rattle.mb_claim.specs.Layouts.{claims_in, pair_count, plain, row_of, shape_of}
+use Rattle.mb_claim.specs.declared.shape.Shape.{Shape}
 use Rattle.mb_world.specs.declared.setup.Setup.{Setup}
 use Rattle.mb_world.specs.declared.setup.SetupFault.{SetupFault}
 use Rattle.mb_world.specs.declared.setup.SetupFault.TheVariants.{BadCells, BadConsumers, BadProducers, BadRounds}
 use Rattle.mb_world.specs.declared.setup.TheConstants.{MAX_PRODUCERS}
 use Rattle.mb_world.specs.Plan.{Plan}
 
--- what so many producers, consumers, cells and pairs over the quorum table of this name make
-abbrev pub plan_of : ℕ → ℕ → ℕ → ℕ → TableName → Plan
-plan_of producers consumers cells pairs name = record {
-  claims = claims_of (table_of name consumers) (pairs_of (spread consumers) pairs) cells;
+-- what so many producers, consumers, cells and pairs over the quorum table of this name make, if each cell has this shape
+abbrev pub shaped_plan : Shape → ℕ → ℕ → ℕ → ℕ → TableName → Plan
+shaped_plan shape producers consumers cells pairs name = record {
+  claims = claims_of (table_of name consumers) (row_of shape (spread consumers) pairs) cells;
   lanes = producers;
 }
+
+-- and if each cell has pairs alone
+abbrev pub plan_of : ℕ → ℕ → ℕ → ℕ → TableName → Plan
+plan_of = shaped_plan plain
 
 -- the layout of a setup
 abbrev pub layout_of : Setup → Layout
@@ -32,6 +37,10 @@ plan_in setup = record { claims = claims_in setup.layout setup.cells; lanes = se
 -- how many pairs of deciding objects each cell has
 abbrev pub pairs_in : Setup → ℕ
 pairs_in setup = pair_count setup.layout
+
+-- what each cell has beside them
+abbrev pub shape_in : Setup → Shape
+shape_in setup = shape_of setup.layout
 
 -- the first reason to refuse a setup, if there is one
 abbrev pub setup_refusal : ℕ → ℕ → ℕ → ℕ → Option SetupFault

@@ -2,16 +2,21 @@
 //! name the laws of claims and of cells on which they stand. Their proofs stand in `proofs/laws/`, one folder for each,
 //! over the lemmas of `proofs/`.
 ghost use Rattle.std.specs.Prelude.{ℕ, ◌+◌, ◌^◌, ◌≡◌, ◌≢◌, ◌↔◌, ◌<◌, List, [], ◌∷◌, ◌++◌, Option, Some, true, false, reverse, slice_get};
-ghost use Rattle.mb_world.specs.Report.{ReportView};
+ghost use Rattle.mb_world.specs.Report.{ReportView, note};
 ghost use Rattle.mb_world.specs.Assignment.{Assignment};
-ghost use Rattle.mb_world.specs.Agreement.{AgreesWith, HasCompeted, IsSettled};
-ghost use Rattle.mb_world.specs.Plan.{Histories, Plan, consumers_of};
+ghost use Rattle.mb_world.specs.Agreement.{AgreesWith, AreAllTaken, HasCompeted, IsLeftBesideBegun, IsSettled};
+ghost use Rattle.mb_world.specs.Plan.{HasLastObject, Histories, Plan, consumers_of};
 ghost use Rattle.mb_world.specs.Fitting.{cells_met, parts_of};
 ghost use Rattle.mb_world.specs.Sound.{AreSound};
 ghost use Rattle.mb_world.specs.Reporting.{HasMetAll, IsDiaryOf, IsReportOf};
 ghost use Rattle.mb_world.specs.Headline.{IsHonest};
 ghost use Rattle.mb_world.specs.Below.{Claims, IsQuorumTable, ObjectTurn, claim_part, linked_cells};
 ghost use Rattle.mb_world.specs.declared.report.Note.{Note};
+ghost use Rattle.mb_world.specs.declared.report.Note.TheVariants.{Undecided};
+ghost use Rattle.mb_world.specs.declared.setup.Setup.{Setup};
+ghost use Rattle.mb_world.specs.Setups.{plan_in, shape_in, shaped_plan};
+ghost use Rattle.mb_claim.specs.declared.shape.Shape.{Shape};
+ghost use Rattle.mb_quorum.specs.declared.table.TableName.{TableName};
 ghost use Rattle.mb_world.specs.ConsumerPath.{ConsumerPath, diary_at};
 ghost use Rattle.mb_cells.specs.declared.answer.Finish.TheVariants as finish;
 ghost use Rattle.mb_cells.specs.declared.answer.Look.TheVariants as look;
@@ -35,7 +40,7 @@ use mb_cells::laws::{
     words_lead_through_lanes,
 };
 use mb_cells::steps::{accesses_stay_within, lanes_lead_on, one_step as one_pool_step};
-use mb_claim::laws::{claims_have_one_winner, prefixes_have_one_stage};
+use mb_claim::laws::{claims_have_one_winner, last_objects_decide_claims, prefixes_have_one_stage};
 use mb_claim::steps::claims_have_one_next_op;
 use mb_deciding::laws::objects_keep_their_promises;
 
@@ -70,6 +75,27 @@ pub fn histories_have_one_report()
 /// A report that agrees with an assignment is settled: what was competed for is left only beside an unfinished claim.
 pub fn agreeing_reports_are_settled()
     ensures { (t : Assignment) (r : ReportView) → AgreesWith t r → IsSettled r }
+{}
+
+/// If each cell has a last object, no claim is undecided. So an item that was competed for is left only beside a claim
+/// that is begun, and on a lane on which none is begun, each item that was competed for is taken.
+pub fn last_objects_settle_items()
+    ensures notes { (plan : Plan) (hs : Histories) (r : ReportView) (c p j : ℕ) → HasLastObject plan
+        → AreSound plan hs → IsReportOf plan hs r → note c p j r ≢ Some Undecided }
+    ensures beside { (plan : Plan) (hs : Histories) (r : ReportView) → HasLastObject plan
+        → AreSound plan hs → IsReportOf plan hs r → IsLeftBesideBegun r }
+    ensures taken { (plan : Plan) (hs : Histories) (r : ReportView) → HasLastObject plan
+        → AreSound plan hs → IsReportOf plan hs r → AreAllTaken r }
+{
+    last_objects_decide_claims();
+    reports_have_one_assignment();
+}
+
+/// The cells of a setup, or of a plan, whose shape has a last object end with one.
+pub fn shaped_setups_have_last_objects()
+    ensures setups { (setup : Setup) → (shape_in setup).last ≡ true → HasLastObject (plan_in setup) }
+    ensures plans { (shape : Shape) (p c m k : ℕ) (t : TableName) → shape.last ≡ true
+        → HasLastObject (shaped_plan shape p c m k t) }
 {}
 
 /// A report agrees with one assignment at most, point by point.

@@ -1,7 +1,7 @@
 //! How large a world is.
 ghost use Rattle.std.specs.Prelude.{◌≤◌};
 
-use mb_claim::{BadLayout, Layout, MAX_CELLS};
+use mb_claim::{BadLayout, Layout, MAX_CELLS, Shape};
 use mb_quorum::TableName;
 use std::error::Error;
 use std::fmt;
@@ -49,12 +49,17 @@ impl Error for SetupFault {}
 
 impl Setup {
     ghost use Rattle.std.specs.Prelude.{◌≡◌, IsOk, IfOk, Err, MatchOption};
+    ghost use Rattle.std.specs.Prelude.{ℕ};
+    ghost use Rattle.mb_quorum.specs.declared.table.TableName.{TableName};
+    ghost use Rattle.mb_claim.specs.Layouts.{plain};
+    ghost use Rattle.mb_claim.specs.declared.shape.Shape.{Shape};
     ghost use Rattle.mb_world.specs.Plan.{consumers_of};
     ghost use Rattle.mb_world.specs.Setups.{layout_of, pairs_in, plan_in, plan_of, setup_refusal};
+    ghost use Rattle.mb_world.specs.Setups.{shape_in, shaped_plan};
 
     /// The setup of so many producers (1 to 16), consumers (1 to 64) and cells (0 to 256), with so many pairs of deciding
-    /// objects (1 to 8) for each cell over the quorum table of this name. If several numbers are out of range, the fault
-    /// is the first of them, in the order of [`SetupFault`].
+    /// objects (1 to 8) for each cell over the quorum table of this name. Its cells have pairs alone. If several numbers
+    /// are out of range, the fault is the first of them, in the order of [`SetupFault`].
     pub fn new(
         producers: u64,
         consumers: u64,
@@ -67,6 +72,7 @@ impl Setup {
         ensures made { IfOk result
             (λ setup. plan_in setup ≡ plan_of producers consumers cells pairs name) }
         ensures pairs { IfOk result (λ setup. pairs_in setup ≡ pairs) }
+        ensures shape { IfOk result (λ setup. shape_in setup ≡ plain) }
     {
         if !(1..=MAX_PRODUCERS).contains(&producers) {
             return Err(SetupFault::BadProducers);
@@ -85,6 +91,24 @@ impl Setup {
                 layout,
             }),
             Err(_) => Err(SetupFault::BadRounds),
+        }
+    }
+
+    /// The same setup, but that each cell has this shape. What shape it had before makes no difference.
+    pub fn shaped(&self, shape: Shape) -> Setup
+        ensures table { (plan_in result).claims.table ≡ (plan_in self.now).claims.table }
+        ensures cells { (plan_in result).claims.cells ≡ (plan_in self.now).claims.cells }
+        ensures lanes { (plan_in result).lanes ≡ (plan_in self.now).lanes }
+        ensures plan { (s : Shape) (p c m k : ℕ) (t : TableName)
+            → plan_in self.now ≡ shaped_plan s p c m k t → pairs_in self.now ≡ k
+            → plan_in result ≡ shaped_plan shape p c m k t }
+        ensures pairs { pairs_in result ≡ pairs_in self.now }
+        ensures shape { shape_in result ≡ shape }
+    {
+        Setup {
+            producers: self.producers,
+            cells: self.cells,
+            layout: self.layout.shaped(shape),
         }
     }
 

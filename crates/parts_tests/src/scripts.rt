@@ -59,6 +59,9 @@ fn the_last_line_needs_no_end(rt: HostRuntime) {
         ("setup 1 16 256 8 unary\nstep 15 0 0\n", 1),
         ("setup 1 1 1 1 middle\n", 0),
         ("setup 1 64 1 1 middle\nstep 63 0 0\n", 1),
+        ("setup 1 1 1 1 bits fast\n", 0),
+        ("setup 1 1 1 1 bits last\n", 0),
+        ("setup 1 1 1 1 middle fastlast\npush 0\n", 1),
     ] {
         assert_eq!(rt; events(rt.alloc(), text), Ok(want), "{text}");
     }
@@ -75,6 +78,10 @@ fn the_first_fault_decides(rt: HostRuntime) {
         ("setup 1 1 1 1\n", Fault::BadLine(1)),
         ("setup 1 1 1 1 bits \n", Fault::BadLine(1)),
         ("setup 1 1 1 1 bits bits\n", Fault::BadLine(1)),
+        ("setup 1 1 1 1 bits plain\n", Fault::BadLine(1)),
+        ("setup x 1 1 1 bits other\n", Fault::BadLine(1)),
+        ("setup x 1 1 1 bits fast\n", Fault::BadNumber(1)),
+        ("setup 1 1 1 1 bits fast last\n", Fault::BadLine(1)),
         ("setup 1 1 1 1 bits\r\n", Fault::BadLine(1)),
         ("setup 1 1 1 1 middles\n", Fault::BadLine(1)),
         ("setup x 1 1 1 edge\n", Fault::BadLine(1)),

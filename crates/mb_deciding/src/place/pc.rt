@@ -1,5 +1,6 @@
 //! The place of one process in an object of any kind, and what an access leads to.
 use super::conciliator::ConciliatorPlace;
+use super::last::LastPlace;
 use super::ratifier::RatifierPlace;
 use crate::object::Out;
 
@@ -11,6 +12,8 @@ pub enum Pc {
     InConciliator(ConciliatorPlace),
     /// In a ratifier.
     InRatifier(RatifierPlace),
+    /// In a last object.
+    InLast(LastPlace),
 }
 
 /// What an access leads to.

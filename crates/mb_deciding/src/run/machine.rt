@@ -106,7 +106,7 @@ impl Machine for ConciliatorMachine {
     fn step<W: Memory>(&self, pc: &mut Pc, memory: &mut W, word: u64) -> Option<Out> {
         match pc {
             Pc::InConciliator(place) => place.step(self.values, memory, 0, word),
-            Pc::InRatifier(_) => unreachable!(),
+            Pc::InRatifier(_) | Pc::InLast(_) => unreachable!(),
         }
     }
 

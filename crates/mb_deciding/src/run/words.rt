@@ -2,12 +2,13 @@
 use crate::access::{Act, Op, Reg};
 use crate::memory::Memory;
 
-/// The words of one object. A conciliator uses the first, a ratifier the others.
+/// The words of one object. A conciliator uses the first, a last object the last, and a ratifier the others.
 #[derive(Drop)]
 pub struct Words {
     value: u64,
     proposal: u64,
     quorum: [u64; 64],
+    last: u64,
 }
 
 impl Words {
@@ -23,10 +24,11 @@ impl Words {
             value: 0,
             proposal: 0,
             quorum: [0; 64],
+            last: 0,
         }
     }
 
-    /// Makes the access, and answers the value that a load finds, or 0 after a store.
+    /// Makes the access, and returns the value that a load or an exchange finds, or 0 after a store.
     #[inline(always)]
     pub fn perform(&mut self, op: Op) -> u64
         requires { IsReg (reg_of op) }
@@ -43,6 +45,13 @@ impl Words {
                 self.store(reg, value);
                 0
             }
+            Op::Exchange(reg, value) => {
+                let found = self.load(reg);
+                if found == 0 {
+                    self.store(reg, value);
+                }
+                found
+            }
         }
     }
 
@@ -56,6 +65,7 @@ impl Words {
             Reg::Value => self.value,
             Reg::Proposal => self.proposal,
             Reg::Quorum(r) => self.quorum[r as usize],
+            Reg::Last => self.last,
         }
     }
 
@@ -70,6 +80,7 @@ impl Words {
             Reg::Value => self.value = value,
             Reg::Proposal => self.proposal = value,
             Reg::Quorum(r) => self.quorum[r as usize] = value,
+            Reg::Last => self.last = value,
         }
     }
 }

@@ -1,8 +1,9 @@
 //! What a poll does with a claim: it keeps the claim in a variable of its own, and writes the consumer's place once. With
 //! four consumers an item so costs 1,879 instructions, and 2,179 where each step writes the claim into its place.
-ghost use Rattle.std.specs.Prelude.{ℕ, ◌≡◌, ◌<◌, None, Some, slice_set};
+ghost use Rattle.std.specs.Prelude.{ℕ, ◌≡◌, ◌≢◌, ◌<◌, ◌≤◌, None, Some, slice_set, true};
 ghost use Rattle.arrayvec.specs.ArrayVec.{array_vec_len};
 ghost use Rattle.mb_claim.specs.declared.access.Stage.TheVariants as stage;
+ghost use Rattle.mb_claim.specs.Vocabulary.{most_accesses, shape_of};
 ghost use Rattle.mb_cells.specs.declared.cursor.Cursor.TheVariants.{Past};
 ghost use Rattle.mb_shared_cells.specs.Vocabulary.{ItemMakes};
 ghost use Rattle.mb_mailbox.specs.Below.{Gave, Stream, Took, claim_stage};
@@ -10,6 +11,7 @@ ghost use Rattle.mb_mailbox.specs.Consumers.{ConsumerView, IsConsumer, IsConsume
 ghost use Rattle.mb_mailbox.specs.NoteLists.{HasRoom, NotesGrow};
 ghost use Rattle.mb_mailbox.specs.Pursuits.{HasWideLists, IsPursuit, consumer_with, holding};
 ghost use Rattle.mb_mailbox.specs.Steps.{AreSteps};
+ghost use Rattle.mb_mailbox.specs.declared.consumer.Poll.TheVariants as poll;
 ghost use Rattle.mb_mailbox.specs.declared.place.Place.TheVariants.{Before};
 
 use super::Poll;
@@ -18,6 +20,7 @@ use super::places::{leave, stay};
 use crate::mailbox::Mailbox;
 use crate::place::Place;
 use arrayvec::ArrayVec;
+use mb_claim::laws::{claims_have_steps_left, last_objects_decide_claims};
 use mb_claim::{Claim, Stage};
 use mb_shared_cells::ReaderSeat;
 use mb_shared_claims::ClaimSeat;
@@ -84,9 +87,15 @@ pub(super) fn pursue<A: Allocator + Drop, B: Allocator + Drop, R: Rng>(
         → IsPursuit held.lane n most result t (R.stream rng.new) from
         (consumer_with reader.new seat.new places.new.items notes.new.items) }
     ensures wide { HasWideLists reader.new.table.size.cells notes.new.items }
+
+    // A claim comes to its end by no more accesses than its layout allows, and with a last object it is decided then.
+    ensures few { result ≡ poll.Spent → most ≤ most_accesses mailbox.now.claims.layout }
+    ensures decided { (shape_of mailbox.now.claims.layout).last ≡ true → result ≢ poll.Undecided }
 {
     consumers_move_on();
     places_tell_steps();
+    claims_have_steps_left();
+    last_objects_decide_claims();
     reader.has_history();
     let Held {
         lane,

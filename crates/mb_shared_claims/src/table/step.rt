@@ -81,6 +81,12 @@ impl<A: Allocator + Drop> SharedClaims<A> {
                     .store::<Makes<W>>(&mut seat.seat, address, value);
                 value
             }
+            Op::Exchange(_, value) => {
+                is_word(value);
+                self.table
+                    .shared
+                    .compare_exchange::<Makes<W>>(&mut seat.seat, address, 0, value)
+            }
         }
     }
 }

@@ -1,7 +1,7 @@
 use Rattle.std.proofs.Common.{◌≤◌, length, subst}
 use Rattle.mb_deciding.specs.Vocabulary.{object_of}
 use Rattle.mb_claim.specs.{part_on}
-use Rattle.mb_claim.proofs.Bounds.{claim_bounded, pairs_steps}
+use Rattle.mb_claim.proofs.Bounds.{claim_bounded, pairs_steps, row_steps}
 use Rattle.mb_claim.proofs.laws.claims_are_bounded.Goals as goal
 
 pub returns-clause-objects : goal.returns-clause-objects
@@ -12,5 +12,11 @@ returns-clause-objects c cs h d k quorum =
 pub returns-clause-pairs : goal.returns-clause-pairs
 returns-clause-pairs c t n cells h d k quorum lawful =
     subst (λ most. length (part_on d k h) ≤ most) (pairs_steps t n)
+    (claim_bounded _ (λ kind inputs. c.objects_keep_their_promises.ensures
+    (object_of t kind inputs) quorum) h d k lawful)
+
+pub returns-clause-rows : goal.returns-clause-rows
+returns-clause-rows c t shape n cells h d k quorum lawful =
+    subst (λ most. length (part_on d k h) ≤ most) (row_steps t shape n)
     (claim_bounded _ (λ kind inputs. c.objects_keep_their_promises.ensures
     (object_of t kind inputs) quorum) h d k lawful)

@@ -1,7 +1,7 @@
-use Rattle.std.proofs.Common.{◌≡◌, ℕ, ◌<◌, ◌≤◌, Bool, nat_le, None, List, length, get_or, arith}
+use Rattle.std.proofs.Common.{◌≡◌, ℕ, ◌<◌, ◌≤◌, subst, Bool, nat_le, None, List, length, get_or, arith}
 use Rattle.std.specs.List.{position_or_len}
 use Rattle.std.proofs.lemmas.List.Sums.{fails_before_first}
-use Rattle.mb_claim.specs.{claims_in, quorums_of, pair_count, stranger_in}
+use Rattle.mb_claim.specs.{claims_in, history_of, HasStage, quorums_of, pair_count, shape_of, Stage, stranger_in}
 use Rattle.mb_claim.proofs.FirstPlaces.{below_by_test, none_inside}
 use Rattle.mb_claim.proofs.LayoutObjects.{quorums_lawful}
 use Rattle.mb_claim.proofs.playing.play.Goals as goal
@@ -28,5 +28,12 @@ returns-clause-winner g c =
 pub returns-clause-bound : goal.returns-clause-bound
 returns-clause-bound g c d =
     let layout = c.args.layout.now in
-    c.claims_are_bounded.ensures.pairs (quorums_of layout) (pair_count layout) 1 _ d 0 (quorums_lawful layout)
+    c.claims_are_bounded.ensures.rows (quorums_of layout) (shape_of layout) (pair_count layout) 1 _ d 0 (quorums_lawful layout)
     c.in_ok-played.ensures.lawful
+
+pub returns-clause-decided : goal.returns-clause-decided
+returns-clause-decided g c last d s inside undecided =
+    let cs = claims_in c.args.layout.now 1 in
+    let run = c.in_ok-played.ensures in
+    c.last_objects_decide_claims.ensures.stages c.args.layout.now 1 d 0 _ last
+    (subst (λ (r : Stage). HasStage cs d 0 r (history_of c.args.steps.now c.in_ok-played.field-0.entries.items)) undecided (run.reached d s inside))

@@ -1,8 +1,8 @@
-use Rattle.std.proofs.Common.{◌≡◌, ℕ, Bool, true, false, ◌∷◌, List, Option, None, Some, slice_get, refl, sym, ap, ◌∙◌}
+use Rattle.std.proofs.Common.{◌≡◌, ℕ, Bool, true, false, ◌∷◌, List, Option, Some, slice_get, refl, sym, ap, ◌∙◌}
 use Rattle.std.proofs.Common.{subst, ◌+◌, ◌<◌}
 use Rattle.std.proofs.lemmas.Bool.{not-true, not-false}
 use Rattle.mb_quorum.specs.Quorum.{QuorumTable}
-use Rattle.mb_claim.specs.ObjectTypes.{Kind, Pc, Turn, Out}
+use Rattle.mb_claim.specs.ObjectTypes.{Kind, Turn, Out}
 use Rattle.mb_deciding.specs.Vocabulary.{IsNext, IsReached, next_from, turns_after, turns_left}
 use Rattle.mb_deciding.specs.declared.place.pc.Next.TheVariants as leads
 use Rattle.mb_deciding.specs.Objects.{answer, IsPath}

@@ -1,17 +1,17 @@
 use Rattle.std.proofs.Common.{[], refl, arith}
 use Rattle.std.proofs.lemmas.Bool.{false≢true}
 use Rattle.mb_claim.specs.{quorums_of, kinds_of, claims_in}
-use Rattle.mb_claim.proofs.Bounds.{pairs_steps}
+use Rattle.mb_claim.proofs.Bounds.{row_steps}
 use Rattle.mb_claim.proofs.ClaimSteps.{stands_first}
 use Rattle.mb_deciding.specs.Vocabulary.{spread}
-use Rattle.mb_claim.proofs.LayoutObjects.{quorums_lawful, length-pairs_of}
+use Rattle.mb_claim.proofs.LayoutObjects.{quorums_lawful, length-row_of}
 use Rattle.mb_claim.proofs.StepsLeft.{most_from}
 use Rattle.mb_claim.proofs.claim.Claim.new.Goals as goal
 
 pub kind_of-requires : goal.kind_of-requires
 kind_of-requires c =
     let layout = c.args.layout.now in
-    let all = length-pairs_of (spread (quorums_of layout).values) layout.pairs in omega (arith, all, layout.some)
+    let all = length-row_of layout.shape (spread (quorums_of layout).values) layout.pairs in omega (arith, all, layout.some)
 
 pub returns-clause-path : goal.returns-clause-path
 returns-clause-path c =
@@ -35,5 +35,5 @@ returns-clause-bound c =
       arith,
       most_from t (kinds_of layout) 0 c.kind_of.result c.kind_of.ensures.exact,
       c.place.ensures.bound,
-      pairs_steps t layout.pairs,
+      row_steps t layout.shape layout.pairs,
     )

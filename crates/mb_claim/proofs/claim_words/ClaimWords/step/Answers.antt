@@ -1,5 +1,4 @@
-use Rattle.std.proofs.Common.{◌≡◌, ◌<◌, ℕ, List, length, ◌∷◌, sym, ◌∙◌, ap, subst, slice_index, arith}
-use Rattle.std.proofs.lemmas.List.{get_or_read}
+use Rattle.std.proofs.Common.{◌≡◌, ◌∷◌, sym, ◌∙◌, ap, subst, arith}
 use Rattle.mb_deciding.specs.Vocabulary.{IsActInWords, act_of}
 use Rattle.mb_claim.specs.{ClaimAccess, part_on, claims_in, consumer_of, IsClaimIn, CanClaimFind, IsMemoryOf, found_in}
 use Rattle.mb_claim.specs.{access_in, step_of}

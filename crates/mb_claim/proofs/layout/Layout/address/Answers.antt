@@ -28,7 +28,7 @@ pub bounds-self-object : goal.bounds-self-object
 bounds-self-object c =
     let layout = c.args.self.now in
     let below = in_row layout c.args.object c.args.reg c.requires.word in
-    let few = objects_few (spread (quorums_of layout).values) layout.pairs layout.few in
+    let few = objects_few layout.shape (spread (quorums_of layout).values) layout.pairs layout.few in
     omega (arith, below, few)
 
 pub place_in_object-requires : goal.place_in_object-requires

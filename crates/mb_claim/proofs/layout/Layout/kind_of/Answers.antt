@@ -1,7 +1,7 @@
 use Rattle.std.proofs.Common.{arith}
 use Rattle.mb_deciding.specs.Vocabulary.{spread}
 use Rattle.mb_claim.specs.{Conciliator, quorums_of, kinds_of}
-use Rattle.mb_claim.proofs.LayoutObjects.{told_by_row, fit_in_pairs, last_turn_small}
+use Rattle.mb_claim.proofs.LayoutObjects.{told_by_row, fit_in_row, last_turn_small}
 use Rattle.mb_claim.proofs.layout.Layout.kind_of.Goals as goal
 
 pub returns-clause-exact : goal.returns-clause-exact
@@ -13,5 +13,5 @@ returns-clause-exact c =
 pub returns-clause-fit : goal.returns-clause-fit
 returns-clause-fit c =
     let layout = c.args.self.now in
-    fit_in_pairs (spread (quorums_of layout).values) layout.pairs c.args.object _ (last_turn_small layout)
+    fit_in_row layout.shape (spread (quorums_of layout).values) layout.pairs c.args.object _ (last_turn_small layout)
     (returns-clause-exact c)

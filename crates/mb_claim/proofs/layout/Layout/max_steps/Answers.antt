@@ -2,10 +2,10 @@ use Rattle.std.proofs.Common.{◌≡◌, ◌≤◌, ◌+◌, suc, drop, arith, a
 use Rattle.mb_deciding.specs.Vocabulary.{most_turns, largest_quorum}
 use Rattle.mb_deciding.specs.Run.{IsFitKind}
 use Rattle.mb_claim.specs.{quorums_of, kinds_of, most_on_objects}
-use Rattle.mb_claim.proofs.Bounds.{pairs_steps}
+use Rattle.mb_claim.proofs.Bounds.{row_steps}
 use Rattle.mb_claim.proofs.StepsLeft.{most_from}
 use Rattle.mb_claim.proofs.LayoutObjects.{none_left}
-use Rattle.mb_claim.proofs.layout.Layout.max_steps.Goals.{in-Conciliator, in-Ratifier}
+use Rattle.mb_claim.proofs.layout.Layout.max_steps.Goals.{in-Conciliator, in-Ratifier, in-LastObject}
 use Rattle.mb_claim.proofs.layout.Layout.max_steps.Goals as goal
 
 pub kind_of-requires : goal.kind_of-requires
@@ -23,12 +23,14 @@ loop-object-preserved c =
     elim c.match-kind_of.branch [
       | in-Conciliator w ↦ omega (arith, ap (most_turns t) w.in-Conciliator.is, w.steps-is)
       | in-Ratifier w ↦ omega (arith, ap (most_turns t) w.in-Ratifier.is, w.steps-is, write, read)
+      | in-LastObject w ↦ omega (arith, ap (most_turns t) w.in-LastObject.is, w.steps-is)
     ] in
     let few = c.loop-consumer.invariant in
     let small : c.match-kind_of.steps ≤ 130 =
     elim c.match-kind_of.branch [
       | in-Conciliator w ↦ omega (arith, subst IsFitKind w.in-Conciliator.is c.kind_of.ensures.fit, w.steps-is)
       | in-Ratifier w ↦ omega (arith, few.write_small, few.read_small, w.steps-is)
+      | in-LastObject w ↦ omega (arith, w.steps-is)
     ] in
     let one : suc c.loop-object.object ≡ c.loop-object.object + 1 = omega arith in
     record {
@@ -46,4 +48,4 @@ pub returns : goal.returns
 returns c =
     let layout = c.args.self.now in
     let none = none_left (quorums_of layout) (kinds_of layout) c.loop-object.object (omega (arith, layout.counted)) in
-    omega (arith, none, c.loop-object.invariant.sum, pairs_steps (quorums_of layout) layout.pairs)
+    omega (arith, none, c.loop-object.invariant.sum, row_steps (quorums_of layout) layout.shape layout.pairs)

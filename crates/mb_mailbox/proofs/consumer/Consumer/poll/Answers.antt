@@ -272,3 +272,16 @@ returns-clause-of g c =
     let so = c.pursue-2.ensures.pursued c.args.self.now 1 (g.R.Rng.stream c.args.rng.now) (one_step c.args.lane None (g.R.Rng.stream c.args.rng.now) (g.R.Rng.stream c.args.rng.now) c.args.self.now mid step) in
     let new = at_views c.pursue-2.new.reader c.pursue-2.new.seat c.pursue-2.new.places.items (lists c.pursue-2.new.notes.items) in
     still_of c.args.mailbox.now c.args.lane 1 (c.args.budget - 1) c.pursue-2.result (g.R.Rng.stream c.args.rng.now) (g.R.Rng.stream c.pursue-2.new.rng) c.args.self.now new so c.requires.of
+
+pub returns-in-At-clause-unspent : goal.returns-in-At-clause-unspent
+returns-in-At-clause-unspent g c = λ more spent. let few = c.pursue.ensures.few spent in absurd (omega (arith, more, few))
+
+pub returns-in-At-clause-decided : goal.returns-in-At-clause-decided
+returns-in-At-clause-decided g c = c.pursue.ensures.decided
+
+pub returns-clause-unspent : goal.returns-clause-unspent
+returns-clause-unspent g c = λ more spent.
+    let few = c.pursue-2.ensures.few spent in let some = c.if-budget-eq0.false in absurd (omega (arith, more, few, some))
+
+pub returns-clause-decided : goal.returns-clause-decided
+returns-clause-decided g c = c.pursue-2.ensures.decided

@@ -1,6 +1,7 @@
 use Rattle.std.proofs.Common.{◌≡◌, ◌∙◌, ◌+◌, ◌<◌, ◌≤◌, arith, ap, refl, subst, sym}
 use Rattle.std.specs.Prelude.{None, Some}
 use Rattle.mb_claim.specs.declared.access.Stage.TheVariants as stage
+use Rattle.mb_claim.specs.Vocabulary.{most_accesses, steps_left}
 use Rattle.mb_mailbox.specs.declared.consumer.Poll.TheVariants as poll
 use Rattle.mb_mailbox.specs.declared.place.Place.TheVariants.{At}
 use Rattle.mb_mailbox.specs.Below.{CellsName, IsClaimIn, Lost, ReaderSeatView, SeatView, TableSize, Took, Undecided, name_of, part_on}
@@ -75,12 +76,15 @@ loop-made-init g c =
     } in
     let s = holding c.args.held.lane c.args.held.cell c.args.held.claim (consumer_with c.args.reader.now c.args.seat.now c.args.places.now.items c.args.notes.now.items) in
     let size : TableSize = record { layout = c.args.mailbox.now.claims.layout; cells = c.args.mailbox.now.claims.cells } in
+    let turns : IsClaimIn c.args.mailbox.now.claims.layout c.args.held.claim (part_on c.args.seat.now.consumer c.args.held.cell c.args.seat.now.part) =
+    c.consumers_move_on.ensures.turns s c.args.held.lane c.args.held.cell c.args.held.claim start.held (here c.args.mailbox.now c.args.held.lane c.args.held.cell c.args.held.claim c.args.reader.now c.args.seat.now c.args.places.now.items c.args.notes.now.items start) size (table c.args.mailbox.now c.args.held.lane c.args.held.cell c.args.held.claim c.args.reader.now c.args.seat.now c.args.places.now.items c.args.notes.now.items start) in
     record {
       start = start;
+      left = omega (arith, c.claims_have_steps_left.ensures.most c.args.mailbox.now.claims.layout c.args.held.claim (part_on c.args.seat.now.consumer c.args.held.cell c.args.seat.now.part) turns);
       going = c.consumers_move_on.ensures.going s c.args.held.lane c.args.held.cell c.args.held.claim start.held (here c.args.mailbox.now c.args.held.lane c.args.held.cell c.args.held.claim c.args.reader.now c.args.seat.now c.args.places.now.items c.args.notes.now.items start) (λ won. c.in_default.not-Won (c.stage.ensures ∙ won));
       table = c.requires.of.claims;
       own = c.consumers_move_on.ensures.own s c.args.held.lane c.args.held.cell c.args.held.claim start.held (here c.args.mailbox.now c.args.held.lane c.args.held.cell c.args.held.claim c.args.reader.now c.args.seat.now c.args.places.now.items c.args.notes.now.items start);
-      turns = c.consumers_move_on.ensures.turns s c.args.held.lane c.args.held.cell c.args.held.claim start.held (here c.args.mailbox.now c.args.held.lane c.args.held.cell c.args.held.claim c.args.reader.now c.args.seat.now c.args.places.now.items c.args.notes.now.items start) size (table c.args.mailbox.now c.args.held.lane c.args.held.cell c.args.held.claim c.args.reader.now c.args.seat.now c.args.places.now.items c.args.notes.now.items start);
+      turns = turns;
       competed = λ from n t m.
           let none : n ≡ 0 + n = omega arith in
           subst (λ z. HasCompeted c.args.held.lane c.args.held.cell z c.args.held.claim t (g.R.Rng.stream c.args.rng.now) from s c.args.seat.now) none (begun c.args.mailbox.now c.args.held.lane c.args.held.cell c.args.held.claim c.args.reader.now c.args.seat.now c.args.places.now.items c.args.notes.now.items start from n t (g.R.Rng.stream c.args.rng.now) m);
@@ -127,6 +131,8 @@ returns-then-made-most g c =
           pursued_took (consumer_with c.loop-made.reader c.args.seat.now c.loop-made.places.items c.loop-made.notes.items) c.args.held.lane c.args.held.cell c.args.held.claim c.take-then-made-most.result c.step.new.claim c.step.new.seat c.take-then-made-most.new.reader c.take-then-made-most.new.places.items (lists c.take-then-made-most.new.notes.items) t (g.R.Rng.stream c.next_u64-word.new.self) from ((c.loop-made.made + 1) + n) (there c.args.mailbox.now c.args.held.lane c.args.held.cell c.args.held.claim c.loop-made.reader c.args.seat.now c.loop-made.places.items c.loop-made.notes.items start).0 (there c.args.mailbox.now c.args.held.lane c.args.held.cell c.args.held.claim c.loop-made.reader c.args.seat.now c.loop-made.places.items c.loop-made.notes.items start).1 (sym c.step.ensures.stage ∙ c.in-Won-step.is) so c.take-then-made-most.ensures.makes c.take-then-made-most.ensures.place grow c.args.most (c.loop-made.made + 1) n (refl) (omega (arith, c.if-made-most.true))
           (c.places_tell_steps.ensures.takes (moved_to c.args.held.lane (At c.args.held.cell c.step.new.claim) None (consumer_with c.loop-made.reader c.args.seat.now c.loop-made.places.items c.loop-made.notes.items).reader.part c.step.new.seat.part (holding c.args.held.lane c.args.held.cell c.args.held.claim (consumer_with c.loop-made.reader c.args.seat.now c.loop-made.places.items c.loop-made.notes.items))) c.args.held.lane c.args.held.cell c.take-then-made-most.result c.step.new.claim mid at (sym c.step.ensures.stage ∙ c.in-Won-step.is))
           (c.consumers_move_on.ensures.takes (moved_to c.args.held.lane (At c.args.held.cell c.step.new.claim) None (consumer_with c.loop-made.reader c.args.seat.now c.loop-made.places.items c.loop-made.notes.items).reader.part c.step.new.seat.part (holding c.args.held.lane c.args.held.cell c.args.held.claim (consumer_with c.loop-made.reader c.args.seat.now c.loop-made.places.items c.loop-made.notes.items))) c.args.held.lane c.args.held.cell c.take-then-made-most.result c.step.new.claim mid start.loads at (sym c.step.ensures.stage ∙ c.in-Won-step.is));
+      few = λ e. cc;
+      decided = λ last e. cc;
       wide = λ q w at. subst (λ (r : ReaderSeatView). r.table.size.cells ≤ w.cap) (sym c.take-then-made-most.ensures.makes.1)
           (room_grows c.args.held.lane c.loop-made.reader.table.size.cells (Some (Took c.take-then-made-most.result)) c.loop-made.notes.items c.take-then-made-most.new.notes.items c.take-then-made-most.ensures.notes start.wide q w at);
     }
@@ -138,6 +144,7 @@ stay-requires g c =
 pub returns-in-Won-step : goal.returns-in-Won-step
 returns-in-Won-step g c =
     let start = c.loop-made.invariant.start in
+    let all : c.loop-made.made + 1 ≡ c.args.most = omega (arith, c.if-made-most.false, c.loop-made-test.true) in
     record {
       pursued = λ from n t m.
           let so = stepped c.args.mailbox.now c.args.held.lane c.args.held.cell c.args.held.claim c.loop-made.reader c.args.seat.now c.loop-made.places.items c.loop-made.notes.items start c.consumers_move_on.ensures.competes c.places_tell_steps.ensures.competes
@@ -148,6 +155,8 @@ returns-in-Won-step g c =
           let all : c.loop-made.made + 1 ≡ c.args.most = omega (arith, c.if-made-most.false, c.loop-made-test.true) in
           pursued_spent (consumer_with c.loop-made.reader c.args.seat.now c.loop-made.places.items c.loop-made.notes.items) c.args.held.lane c.args.held.cell c.args.held.claim c.args.most n c.step.new.claim stage.Won t (g.R.Rng.stream c.next_u64-word.new.self) from c.step.new.seat c.stay.new.places.items (sym c.step.ensures.stage ∙ c.in-Won-step.is)
           refl refl refl (subst (λ z. HasCompeted c.args.held.lane c.args.held.cell (z + n) c.step.new.claim t (g.R.Rng.stream c.next_u64-word.new.self) from (holding c.args.held.lane c.args.held.cell c.args.held.claim (consumer_with c.loop-made.reader c.args.seat.now c.loop-made.places.items c.loop-made.notes.items)) c.step.new.seat) all so) c.stay.ensures;
+      few = λ e. omega (arith, all, c.loop-made.invariant.left, (subst (λ (y : MailboxView). steps_left y.claims.layout c.step.new.claim < steps_left y.claims.layout c.loop-made.claim) c.mailbox.view_is c.step.ensures.fewer));
+      decided = λ last e. cc;
       wide = start.wide;
     }
 
@@ -173,6 +182,8 @@ returns-in-Lost g c =
           c.leave.new.places.items (lists c.leave.new.notes.items) (there c.args.mailbox.now c.args.held.lane c.args.held.cell c.args.held.claim c.loop-made.reader c.args.seat.now c.loop-made.places.items c.loop-made.notes.items start).0 (there c.args.mailbox.now c.args.held.lane c.args.held.cell c.args.held.claim c.loop-made.reader c.args.seat.now c.loop-made.places.items c.loop-made.notes.items start).1 (sym c.step.ensures.stage ∙ c.in-Lost.is) refl refl tt (λ f. cc) refl
           (omega (arith, c.loop-made-test.true)) so c.leave.ensures.place
           (lists_grow c.args.held.lane (Some (Lost c.in-Lost.w)) c.loop-made.notes.items c.leave.new.notes.items c.leave.ensures.notes);
+      few = λ e. cc;
+      decided = λ last e. cc;
       wide = room_grows c.args.held.lane c.loop-made.reader.table.size.cells (Some (Lost c.in-Lost.w)) c.loop-made.notes.items c.leave.new.notes.items c.leave.ensures.notes start.wide;
     }
 
@@ -198,6 +209,11 @@ returns-in-Undecided g c =
           c.leave-in-Undecided.new.places.items (lists c.leave-in-Undecided.new.notes.items) (there c.args.mailbox.now c.args.held.lane c.args.held.cell c.args.held.claim c.loop-made.reader c.args.seat.now c.loop-made.places.items c.loop-made.notes.items start).0 (there c.args.mailbox.now c.args.held.lane c.args.held.cell c.args.held.claim c.loop-made.reader c.args.seat.now c.loop-made.places.items c.loop-made.notes.items start).1 (sym c.step.ensures.stage ∙ c.in-Undecided.is) refl refl tt (λ f. cc) refl
           (omega (arith, c.loop-made-test.true)) so c.leave-in-Undecided.ensures.place
           (lists_grow c.args.held.lane (Some Undecided) c.loop-made.notes.items c.leave-in-Undecided.new.notes.items c.leave-in-Undecided.ensures.notes);
+      few = λ e. cc;
+      decided = λ last e.
+          c.last_objects_decide_claims.ensures.layouts c.args.mailbox.now.claims.layout c.step.new.claim (part_on c.step.new.seat.consumer c.args.held.cell c.step.new.seat.part) last
+          (subst (λ (y : MailboxView). IsClaimIn y.claims.layout c.step.new.claim (part_on c.step.new.seat.consumer c.args.held.cell c.step.new.seat.part)) c.mailbox.view_is c.step.ensures.standing)
+          (sym c.step.ensures.stage ∙ c.in-Undecided.is);
       wide = room_grows c.args.held.lane c.loop-made.reader.table.size.cells (Some Undecided) c.loop-made.notes.items c.leave-in-Undecided.new.notes.items c.leave-in-Undecided.ensures.notes start.wide;
     }
 
@@ -211,6 +227,7 @@ loop-made-preserved g c =
       going = sym c.step.ensures.stage ∙ c.in-Going.is;
       table = ap (λ (z : SeatView). z.table) a.adds ∙ inv.table;
       own = c.step.ensures.consumer ∙ inv.own ∙ sym (ap (λ (z : SeatView). z.consumer) a.adds);
+      left = omega (arith, inv.left, (subst (λ (y : MailboxView). steps_left y.claims.layout c.step.new.claim < steps_left y.claims.layout c.loop-made.claim) c.mailbox.view_is c.step.ensures.fewer));
       turns = subst (λ (y : MailboxView). IsClaimIn y.claims.layout c.step.new.claim (part_on c.step.new.seat.consumer c.args.held.cell c.step.new.seat.part)) c.mailbox.view_is c.step.ensures.standing;
       competed = λ from n t m.
           let so = stepped c.args.mailbox.now c.args.held.lane c.args.held.cell c.args.held.claim c.loop-made.reader c.args.seat.now c.loop-made.places.items c.loop-made.notes.items start c.consumers_move_on.ensures.competes c.places_tell_steps.ensures.competes
@@ -233,5 +250,7 @@ returns g c =
       pursued = λ from n t m.
           pursued_spent (consumer_with c.loop-made.reader c.args.seat.now c.loop-made.places.items c.loop-made.notes.items) c.args.held.lane c.args.held.cell c.args.held.claim c.args.most n c.loop-made.claim stage.Going t (g.R.Rng.stream c.loop-made.rng) from c.loop-made.seat c.stay-2.new.places.items c.loop-made.invariant.going
           refl refl refl (subst (λ z. HasCompeted c.args.held.lane c.args.held.cell (z + n) c.loop-made.claim t (g.R.Rng.stream c.loop-made.rng) from (holding c.args.held.lane c.args.held.cell c.args.held.claim (consumer_with c.loop-made.reader c.args.seat.now c.loop-made.places.items c.loop-made.notes.items)) c.loop-made.seat) all (c.loop-made.invariant.competed from n t m)) c.stay-2.ensures;
+      few = λ e. omega (arith, all, c.loop-made.invariant.left);
+      decided = λ last e. cc;
       wide = start.wide;
     }

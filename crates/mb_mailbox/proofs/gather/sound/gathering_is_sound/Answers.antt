@@ -1,7 +1,8 @@
-use Rattle.std.proofs.Common.{◌≡◌, ◌≢◌, ℕ, zero, suc, ◌<◌, ◌≤◌, List, [], ◌∷◌, refl, sym, ◌∙◌, subst, inl, arith}
+use Rattle.std.proofs.Common.{◌≡◌, ◌≢◌, ℕ, zero, suc, ◌<◌, ◌≤◌, Bool, true, false, List, [], ◌∷◌, ◌++◌, refl, sym, ◌∙◌, subst, inl, arith}
 use Rattle.std.specs.Prelude.{Some, reverse, slice_get}
-use Rattle.mb_claim.specs.Rows.{pairs_of}
-use Rattle.mb_claim.specs.Vocabulary.{pair_count}
+use Rattle.mb_claim.specs.Rows.{fast_row, last_row, pairs_of, row_of}
+use Rattle.mb_claim.specs.Vocabulary.{pair_count, shape_of}
+use Rattle.mb_claim.specs.declared.shape.Shape.{Shape}
 use Rattle.mb_deciding.specs.declared.object.Kind.{Kind}
 use Rattle.mb_deciding.specs.declared.object.Kind.TheVariants.{Ratifier}
 use Rattle.mb_deciding.specs.Vocabulary.{spread}
@@ -79,10 +80,15 @@ returns-clause-full c m h r i of puts g p done e found =
     counted (plan_at m) g.histories r g.report
     ∙ c.lanes_share_cells.ensures.all size pool p found.entry g.pool.lawful has found.past (λ q entry got low. (tell q).linked entry got low)
 
--- a layout has a ratifier
-ratifier : (s n : ℕ) → 1 ≤ n → slice_get (pairs_of s n) 1 ≡ Some Ratifier
-ratifier s zero some = absurd (omega arith)
-ratifier s (suc n) some = refl
+-- the second object of a cell is a ratifier, with a fast path and without
+second_of : (fast : Bool) (s n : ℕ) (rest : List Kind) → 1 ≤ n
+    → slice_get (fast_row fast ++ (pairs_of s n ++ rest)) 1 ≡ Some Ratifier
+second_of fast s zero rest some = absurd (omega arith)
+second_of true s (suc n) rest some = refl
+second_of false s (suc n) rest some = refl
+
+ratifier : (shape : Shape) (s n : ℕ) → 1 ≤ n → slice_get (row_of shape s n) 1 ≡ Some Ratifier
+ratifier shape s n some = second_of shape.fast s n (last_row shape.last) some
 
 some_kinds : (kinds : List Kind) → slice_get kinds 1 ≡ Some Ratifier → kinds ≢ []
 some_kinds [] e none = absurd (cc)
@@ -94,7 +100,7 @@ returns-clause-undecided c m h r g d p j e =
     let hs = g.histories in
     let table = c.layouts_are_sound.ensures.table m.claims.layout in
     let second : slice_get plan.claims.kinds 1 ≡ Some Ratifier =
-    ratifier (spread (consumer_count m.claims.layout)) (pair_count m.claims.layout) (c.layouts_are_sound.ensures.pairs m.claims.layout).0 in
+    ratifier (shape_of m.claims.layout) (spread (consumer_count m.claims.layout)) (pair_count m.claims.layout) (c.layouts_are_sound.ensures.pairs m.claims.layout).0 in
     let at = is_noted plan hs r g.report d p j Undecided e in
     let t = g.report.diary d p at.consumer at.lane in
     let same = some_same at.diary t.0 (sym at.there ∙ t.1) in

@@ -1,9 +1,10 @@
-use Rattle.std.proofs.Common.{[], sym, ap, ◌∙◌}
+use Rattle.std.proofs.Common.{[], sym, ap, ◌∙◌, ◌==◌}
+use prog.Atomic.{either}
 use Rattle.mb_deciding.specs.Vocabulary.{reg_of}
 use Rattle.mb_claim.specs.Vocabulary.{quorums_of, kinds_of, after_op}
 use Rattle.mb_shared_claims.specs.Types.{ClaimAccess, Op, Standing}
 use Rattle.mb_shared_claims.specs.Seats.{TableView, SeatView, ClaimTable}
-use Rattle.mb_shared_claims.proofs.Accesses.{load_small, store_small, store_same, access_may, seat_after}
+use Rattle.mb_shared_claims.proofs.Accesses.{load_small, exchange_small, exchange_after, store_small, store_same, access_may, seat_after}
 use Rattle.mb_shared_claims.proofs.table.SharedClaims.make.Goals as goal
 
 pub load-requires : goal.load-requires
@@ -25,6 +26,28 @@ load-requires g c =
     next.object (reg_of next.op) c.requires.word c.requires.cell)
     c.requires.next (λ n. sym (ap (λ (o : Op). after_op o n) op)) c.requires.access
     (λ n small. load_small next.object c.args.word n next.op _ op small c.ranges.word.fits) in
+    (same, may.0, may.1)
+
+pub compare_exchange-requires : goal.compare_exchange-requires
+compare_exchange-requires g c =
+    let t = c.args.self.now in
+    let seat = c.args.seat.now in
+    let next = c.args.next in
+    let op = c.in-Exchange.is in
+    let value = c.in-Exchange.value in
+    let same = ap (λ (v : SeatView). v.table.id) c.seat.view_is ∙ ap (λ (z : ClaimTable). z.id) c.requires.table
+    ∙ sym (ap (λ (v : TableView). v.id) c.self.view_is) in
+    let may = access_may c.accesses_lengthen_one_part.ensures.own c.accesses_lengthen_one_part.ensures.others t seat _ _
+    c.seat.invariant.size _ _ _ _ c.address-address.result c.args.cell c.args.word next _ (λ n. either (n == 0) value n) g.W.Made.access
+    c.self.invariant.told
+    (ap (λ (v : TableView). record { layout = v.layout; cells = v.cells }) c.self.view_is) c.self.invariant.words
+    (c.seat.invariant.is
+    ∙ ap (λ (v : SeatView). (Standing c.seat.invariant.size v.consumer v.part, [])) c.seat.view_is)
+    c.address-address.ensures.exact c.reg.ensures
+    (c.addresses_are_apart.ensures.within (quorums_of t.layout).registers (kinds_of t.layout) t.cells c.args.cell
+    next.object (reg_of next.op) c.requires.word c.requires.cell)
+    c.requires.next (λ n. exchange_after value n next.op _ op) c.requires.access
+    (λ n small. exchange_small next.object c.args.word n value next.op _ op c.is_word-in-Exchange.ensures small c.ranges.word.fits) in
     (same, may.0, may.1)
 
 pub store-requires : goal.store-requires
@@ -63,3 +86,10 @@ invariant_of-seat-in-Store g c =
     c.seat.inside.seat.me _ c.seat.invariant
     (ap (λ (a : ClaimAccess). a.consumer) (c.requires.access c.in-Store.value)
     ∙ sym (ap (λ (v : SeatView). v.consumer) c.seat.view_is)) c.store.ensures.2
+
+pub invariant_of-seat-in-Exchange : goal.invariant_of-seat-in-Exchange
+invariant_of-seat-in-Exchange g c =
+    seat_after c.accesses_lengthen_one_part.ensures.own c.seat.inside.consumer (g.W.Made.access c.compare_exchange.result)
+    c.seat.inside.seat.me _ c.seat.invariant
+    (ap (λ (a : ClaimAccess). a.consumer) (c.requires.access c.compare_exchange.result)
+    ∙ sym (ap (λ (v : SeatView). v.consumer) c.seat.view_is)) c.compare_exchange.ensures.2

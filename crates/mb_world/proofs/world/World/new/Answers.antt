@@ -1,6 +1,6 @@
 use Rattle.std.proofs.Common.{◌≡◌, ◌≢◌, ◌<◌, [], None, ◌*◌, ◌∙◌, ap, ap₂, subst, arith}
 use Rattle.std.proofs.Math.ListN.{replicate}
-use Rattle.mb_claim.specs.Layouts.{claims_in, consumer_count, kinds_of, pair_count}
+use Rattle.mb_claim.specs.Layouts.{claims_in, consumer_count, kinds_of, pair_count, shape_of}
 use Rattle.mb_deciding.specs.Spread.{spread}
 use Rattle.mb_claim.specs.States.{IsMemoryOf}
 use Rattle.mb_cells.specs.State.{cell_count, lane_count}
@@ -8,7 +8,7 @@ use Rattle.mb_world.specs.Below.{END}
 use Rattle.mb_world.specs.declared.seat.Seat.TheVariants as seat
 use Rattle.mb_world.specs.Plan.{consumers_of}
 use Rattle.mb_world.specs.Setups.{plan_in}
-use Rattle.mb_world.proofs.FreshClaims.{fresh_goes, some_pairs}
+use Rattle.mb_world.proofs.FreshClaims.{fresh_goes, some_row}
 use Rattle.mb_world.proofs.NewWorlds.{empty_after, none_alone}
 use Rattle.mb_world.proofs.world.World.new.Goals as goal
 
@@ -34,7 +34,7 @@ returns-clause-empty g c =
     ∙ ap₂ (λ m n. replicate (m * n) None) consumers c.cells-cells.ensures in
     let table = c.layouts_are_sound.ensures.table setup.layout in
     let some : kinds_of setup.layout ≢ [] =
-    some_pairs (spread (consumers_of plan)) (pair_count setup.layout)
+    some_row (shape_of setup.layout) (spread (consumers_of plan)) (pair_count setup.layout)
     (c.layouts_are_sound.ensures.pairs setup.layout).0 in
     let sized : setup.cells < END = omega (arith, setup.small) in
     empty_after setup (fresh_goes plan.claims table c.objects_keep_their_promises.ensures some)

@@ -1,11 +1,11 @@
 use Rattle.std.proofs.Common.{◌≢◌, []}
-use Rattle.mb_claim.specs.Layouts.{kinds_of, pair_count}
+use Rattle.mb_claim.specs.Layouts.{kinds_of, pair_count, shape_of}
 use Rattle.mb_deciding.specs.Spread.{spread}
 use Rattle.mb_world.specs.Below.{IsPoolLawful}
 use Rattle.mb_world.specs.Plan.{consumers_of, size_of}
 use Rattle.mb_world.specs.Setups.{plan_in}
 use Rattle.mb_world.specs.World.{pool_accesses}
-use Rattle.mb_world.proofs.FreshClaims.{fresh_goes, some_pairs}
+use Rattle.mb_world.proofs.FreshClaims.{fresh_goes, some_row}
 use Rattle.mb_world.proofs.StateReports.{report_is}
 use Rattle.mb_world.proofs.WorldKnown.{WorldKnown}
 use Rattle.mb_world.proofs.world.World.report.Goals as goal
@@ -26,7 +26,7 @@ returns-clause-exact g c h is =
       stage = λ e xs z r. c.prefixes_have_one_stage.ensures plan.claims e xs z r table;
     } in
     let some : kinds_of s.setup.layout ≢ [] =
-    some_pairs (spread (consumers_of plan)) (pair_count s.setup.layout)
+    some_row (shape_of s.setup.layout) (spread (consumers_of plan)) (pair_count s.setup.layout)
     (c.layouts_are_sound.ensures.pairs s.setup.layout).0 in
     report_is s h is known sound
     (fresh_goes plan.claims table c.objects_keep_their_promises.ensures some)

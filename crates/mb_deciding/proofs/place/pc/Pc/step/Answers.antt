@@ -7,3 +7,8 @@ returns-in-InConciliator-clause-step g c =
 
 pub returns-in-InRatifier-clause-step : goal.returns-in-InRatifier-clause-step
 returns-in-InRatifier-clause-step g c = rw (c.in-InRatifier.is) (c.step-in-InRatifier.ensures.step c.args.word)
+
+pub returns-in-InLast-clause-step : goal.returns-in-InLast-clause-step
+returns-in-InLast-clause-step g c =
+    rw (c.in-InLast.is) (c.step-in-InLast.ensures.step (g.Q.Quorums.table c.args.q.now) c.args.word
+    (sym c.values-in-InLast.ensures))

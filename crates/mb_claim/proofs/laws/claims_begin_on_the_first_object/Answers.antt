@@ -2,9 +2,9 @@ use Rattle.std.proofs.Common.{◌∙◌}
 use Rattle.mb_deciding.specs.Vocabulary.{object_of}
 use Rattle.mb_claim.specs.{Layout, quorums_of}
 use Rattle.mb_claim.proofs.KindLaws.{AreDeciding}
-use Rattle.mb_claim.proofs.FirstAccess.{fresh_going, fresh_begun, fresh_next}
+use Rattle.mb_claim.proofs.FirstAccess.{fresh_going, fresh_begun, fresh_next, fresh_object}
 use Rattle.mb_claim.proofs.LayoutObjects.{quorums_lawful}
-use Rattle.mb_claim.proofs.laws.claims_begin_with_a_load.Goals as goal
+use Rattle.mb_claim.proofs.laws.claims_begin_on_the_first_object.Goals as goal
 
 -- the laws of the layout's objects
 law : goal.After-objects_keep_their_promises → (layout : Layout) → AreDeciding (quorums_of layout)
@@ -18,10 +18,12 @@ returns-clause-fresh c layout claim of = (
       (law c layout) claim of,
 )
 
+pub returns-clause-object : goal.returns-clause-object
+returns-clause-object c layout claim next of is = is.object ∙ fresh_object layout (law c layout) claim of
+
 pub returns-clause-next : goal.returns-clause-next
-returns-clause-next c layout claim next of is =
-    let first = fresh_next layout (law c layout) claim of next.op is.op in (is.object ∙ first.0, first.1)
+returns-clause-next c layout claim next slow of is = (fresh_next layout (law c layout) claim of slow next.op is.op).1
 
 pub returns-clause-found : goal.returns-clause-found
-returns-clause-found c layout claim next seen of is can = (fresh_next layout
-    (law c layout) claim of next.op is.op).2 seen can
+returns-clause-found c layout claim next seen slow of is can = (fresh_next layout
+    (law c layout) claim of slow next.op is.op).2 seen can

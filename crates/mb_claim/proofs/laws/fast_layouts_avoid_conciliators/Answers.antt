@@ -1,0 +1,31 @@
+use Rattle.std.proofs.Common.{◌≡◌, ◌≤◌, true, ◌∷◌, ◌++◌, ℕ, List, Some, sym, ap, ◌∙◌, subst, slice_get}
+use Rattle.mb_deciding.specs.Vocabulary.{spread}
+use Rattle.mb_claim.specs.{Kind, Conciliator, Ratifier, Layout, pairs_of, last_row, quorums_of, kinds_of, claims_of}
+use Rattle.mb_claim.specs.{IsClaimLawful, IsClaimPrefix, part_on}
+use Rattle.mb_claim.proofs.LayoutObjects.{quorums_lawful}
+use Rattle.mb_claim.proofs.LastObjects.{begins_fast, conciliator_behind}
+use Rattle.mb_claim.proofs.laws.fast_layouts_avoid_conciliators.Goals as goal
+
+-- the objects behind the fast path
+abbrev behind : Layout → List Kind
+behind layout = pairs_of (spread (quorums_of layout).values) layout.pairs ++ last_row layout.shape.last
+
+row : (layout : Layout) → layout.shape.fast ≡ true → kinds_of layout ≡ Ratifier ∷ Ratifier ∷ behind layout
+row layout fast = begins_fast layout.shape (spread (quorums_of layout).values) layout.pairs fast
+
+past : (layout : Layout) (o s : ℕ) → layout.shape.fast ≡ true → slice_get (kinds_of layout) o ≡ Some (Conciliator s) → 2 ≤ o
+past layout o s fast is =
+    conciliator_behind (behind layout) o s (ap (λ ks. slice_get ks o) (sym (row layout fast)) ∙ is)
+
+pub returns-clause-decided : goal.returns-clause-decided
+returns-clause-decided c layout cells k d u h fast lawful path e o s is =
+    let t = quorums_of layout in
+    c.fast_paths_take_two_ratifiers.ensures.decided t (behind layout) cells k d u h (quorums_lawful layout)
+    (subst (λ ks. IsClaimLawful (claims_of t ks cells) h) (row layout fast) lawful) path e o (past layout o s fast is)
+
+pub returns-clause-alone : goal.returns-clause-alone
+returns-clause-alone c layout cells k d s later h fast lawful alone prefix ended e o i is =
+    let t = quorums_of layout in
+    c.fast_paths_take_two_ratifiers.ensures.alone t (behind layout) cells k d s later h (quorums_lawful layout)
+    (subst (λ ks. IsClaimLawful (claims_of t ks cells) (later ++ h)) (row layout fast) lawful) alone
+    (subst (λ ks. IsClaimPrefix (claims_of t ks cells) d (part_on d k h) s) (row layout fast) prefix) ended e o (past layout o i fast is)

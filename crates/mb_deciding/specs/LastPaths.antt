@@ -1,0 +1,10 @@
+-- The paths of one process through a last object.
+use Rattle.std.specs.Prelude.{◌≡◌, ℕ, ◌+◌, List, [], ◌∷◌, ◌⊎◌}
+use Rattle.mb_deciding.specs.Types.{Last, Exchange, Turn}
+
+-- a whole path of input v with the value u: one exchange for v + 1, which found 0, and u is v; or which found u + 1
+abbrev pub IsLastPath : ℕ → List Turn → ℕ → Type 0
+IsLastPath v [] u = ⊥
+IsLastPath v (turn ∷ []) u =
+    ((u ≡ v) × (turn.act ≡ Exchange Last (v + 1) 0)) ⊎ (turn.act ≡ Exchange Last (v + 1) (u + 1))
+IsLastPath v (turn ∷ other ∷ older) u = ⊥

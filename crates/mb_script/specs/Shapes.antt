@@ -1,0 +1,32 @@
+-- The shapes of cells in a script: the word that may end its first line.
+use Rattle.std.specs.Prelude.{ℕ, Bool, true, false, List, [], ◌∷◌, codes, Option, Some, None, if◌then◌else◌}
+use Rattle.std.specs.Str.{bytes_eq}
+use Rattle.mb_claim.specs.declared.shape.Shape.{Shape}
+
+-- with a fast path or not, and with a last object or not
+abbrev pub shape_with : Bool → Bool → Shape
+shape_with fast last = record { fast = fast; last = last }
+
+-- the words of a shape: none, or one
+abbrev pub words_with : Bool → Bool → List (List ℕ)
+words_with false false = []
+words_with true false = codes "fast" ∷ []
+words_with false true = codes "last" ∷ []
+words_with true true = codes "fastlast" ∷ []
+
+abbrev pub shape_words : Shape → List (List ℕ)
+shape_words shape = words_with shape.fast shape.last
+
+-- the shape of a word
+abbrev pub shape_of_word : List ℕ → Option Shape
+shape_of_word word =
+    if bytes_eq word (codes "fast") then Some (shape_with true false)
+    else if bytes_eq word (codes "last") then Some (shape_with false true)
+    else if bytes_eq word (codes "fastlast") then Some (shape_with true true)
+    else None
+
+-- the shape of the words after a table's name
+abbrev pub shape_named : List (List ℕ) → Option Shape
+shape_named [] = Some (shape_with false false)
+shape_named (word ∷ []) = shape_of_word word
+shape_named (word ∷ other ∷ words) = None
