@@ -8,7 +8,8 @@ code, the definitions, the proofs, the examples or the names of files have it, c
   - in `crate::..::name`, and in `Type::name` of a crate's own page, that crate has to have the last word;
   - in "`name` in `specs/File.antt`" one of the files named there has to have the name;
   - in "`function`: `clause`" a function of that name has to have that clause;
-  - a block of Rust has to stand, line by line, in a source file; where it has signatures alone, each of them has to.
+  - a block of Rust has to stand, line by line, in a source file, with all comments of that file or with none; where it
+    has signatures alone, each of them has to.
 It also looks whether docs/ARCHITECTURE.md names each wrong body of crates/*/must-fail and crates/*/mutants, whether
 `examples/script` prints the script of each example, and whether each sample of a page, and of the program's help, is what
 an example has:
@@ -153,7 +154,7 @@ def faults_of(page, sources):
                 yield f"the clause {clause} of {names}"
     for language, block in blocks:
         for part in parts_of(block) if language == "rust" else []:
-            if not any(stands_in(part, lines(read(it))) for it in sources.texts):
+            if not any(shows(part, lines(read(it))) for it in sources.texts):
                 yield f"the block that begins with {part[0]}"
 
 
@@ -168,6 +169,11 @@ def parts_of(block):
         if line != "}":
             parts[-1].append(line)
     return parts
+
+
+def shows(part, source):
+    """Whether a source has these lines, with its comments or without them."""
+    return stands_in(part, source) or stands_in(part, [it for it in source if not it.startswith("//")])
 
 
 def stands_in(few, many):
@@ -301,4 +307,5 @@ def main():
     return 1 if count else 0
 
 
-sys.exit(main())
+if __name__ == "__main__":
+    sys.exit(main())

@@ -1,0 +1,40 @@
+"""Tests of docs/check_names.py, as far as its functions stand alone."""
+import os
+import sys
+import unittest
+
+sys.path.insert(0, os.path.join(os.path.dirname(os.path.abspath(__file__)), "..", "docs"))
+
+from check_names import lines, parts_of, shows
+
+SOURCE = """fn main() {
+    // One.
+    let one = 1;
+    // Two.
+    let two = 2;
+}
+"""
+
+
+class Shown(unittest.TestCase):
+    def shows(self, block):
+        return shows(lines(block), lines(SOURCE))
+
+    def test_a_block_with_all_comments_or_with_none_is_shown(self):
+        self.assertTrue(self.shows("let one = 1;\n// Two.\nlet two = 2;\n"))
+        self.assertTrue(self.shows("let one = 1;\n\nlet two = 2;\n"))
+
+    def test_another_comment_or_another_line_is_not(self):
+        self.assertFalse(self.shows("let one = 1;\n// Zwei.\nlet two = 2;\n"))
+        self.assertFalse(self.shows("let one = 1;\nlet two = 3;\n"))
+
+    def test_a_line_that_is_left_out_is_not(self):
+        self.assertFalse(self.shows("fn main() {\nlet two = 2;\n"))
+
+    def test_signatures_stand_each_by_itself(self):
+        block = "impl One {\n    pub fn one(\n        it: u64,\n    )\n    fn two()\n}\n"
+        self.assertEqual(parts_of(block), [["impl One {"], ["pub fn one(", "it: u64,", ")"], ["fn two()"]])
+
+
+if __name__ == "__main__":
+    unittest.main()
