@@ -16,6 +16,7 @@ an example has:
   - behind a line `$ COMMAND` stands what that command prints, be it a script, an output, or the first or last lines of one;
     and behind `$ cd crates/NAME && rt run` what the `stdout` of that program has;
   - lines without a command, of which one begins with a word of scripts or outputs, are the first or last lines of one.
+Of README.md it counts the lines, and of README.md and docs/GUIDE.md the words of each sentence (`ci/lengths.py`).
 The status is 0 where all was found, and else 1.
 """
 import os
@@ -25,6 +26,10 @@ import sys
 from fnmatch import fnmatch
 
 TOP = os.path.dirname(os.path.dirname(os.path.abspath(__file__)))
+sys.path.insert(0, f"{TOP}/ci")
+
+from lengths import long_sentences, too_many_lines
+
 PARTS = ("src", "specs", "proofs")
 PATH = re.compile(r"[\w.<>*-]+(?:/[\w.<>*-]+)+/?|[\w*-]+\.(?:rt|antt|md|py|txt|edit|control)")
 WORD = re.compile(r"[A-Za-z_]\w*")
@@ -287,8 +292,20 @@ def edits_not_named():
             yield os.path.relpath(path, TOP)
 
 
+def lengths_over():
+    """What is too long on the pages that are read first."""
+    for it in too_many_lines(read(f"{TOP}/README.md")):
+        yield f"README.md: {it}"
+    for page in ("README.md", "docs/GUIDE.md"):
+        for it in long_sentences(read(f"{TOP}/{page}")):
+            yield f"{page}: {it}"
+
+
 def main():
     sources, known, count = Sources(), examples(), 0
+    for it in lengths_over():
+        print(it)
+        count += 1
     for name in scripts_not_printed(known):
         print(f"examples/script: not printed: {name}")
         count += 1
@@ -303,7 +320,7 @@ def main():
         for fault in dict.fromkeys(faults_of(page, sources)):
             print(f"{os.path.relpath(page, TOP)}: not found: {fault}")
             count += 1
-    print(f"{count} not found")
+    print(f"{count} not found or too long")
     return 1 if count else 0
 
 
