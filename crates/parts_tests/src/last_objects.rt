@@ -18,7 +18,9 @@ impl Memory for Word {
 
     fn perform(&mut self, _object: u32, op: Op) -> u64 {
         let found = self.held;
-        if let Op::Exchange(Reg::Last, value) = op && found == 0 {
+        if let Op::Exchange(Reg::Last, value) = op
+            && found == 0
+        {
             self.held = value;
         }
         found

@@ -164,8 +164,7 @@ fn a_conciliator_comes_after_the_fast_path(rt: HostRuntime) -> Result<(), Fail> 
 #[test]
 fn a_last_object_decides(rt: HostRuntime) -> Result<(), Fail> {
     let layout = Layout::new(2, 1, TableName::Bits)?.shaped(LAST);
-    let steps =
-        [0, 1, 0, 0, 1, 1, 0, 1, 0, 1, 0, 0, 1, 1, 0, 1, 0].map(|consumer| (consumer, 0));
+    let steps = [0, 1, 0, 0, 1, 1, 0, 1, 0, 1, 0, 0, 1, 1, 0, 1, 0].map(|consumer| (consumer, 0));
     let run = play(rt.alloc(), &layout, &steps)?;
     let entries = [
         loaded(0, 1, Reg::Quorum(1), 1),
