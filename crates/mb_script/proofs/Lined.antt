@@ -71,6 +71,16 @@ long_setup (a ∷ b ∷ c ∷ d ∷ e ∷ []) long = absurd (omega (arith, long)
 long_setup (a ∷ b ∷ c ∷ d ∷ e ∷ f ∷ []) long = absurd (omega (arith, long))
 long_setup (a ∷ b ∷ c ∷ d ∷ e ∷ f ∷ g ∷ ws) long = bad_either (table_named e)
 
+-- and none has so few
+pub short_setup : (ws : List (List ℕ)) → length ws < 5 → sizes_of ws ≡ Err (BadLine 1)
+unfolding sizes_of
+short_setup [] short = refl
+short_setup (a ∷ []) short = refl
+short_setup (a ∷ b ∷ []) short = refl
+short_setup (a ∷ b ∷ c ∷ []) short = refl
+short_setup (a ∷ b ∷ c ∷ d ∷ []) short = refl
+short_setup (a ∷ b ∷ c ∷ d ∷ e ∷ ws) short = absurd (omega (arith, short))
+
 -- the same of the first line
 bad_setup_by : (ws : List (List ℕ)) (empty : Bool) → has_empty ws ≡ empty
     → (empty || nat_lt 8 (suc (length ws))) ≡ true → setup_of (codes "setup" ∷ ws) ≡ Err (BadLine 1)

@@ -8,10 +8,10 @@ pub mod ReplayText
 pub mod Replaying
 pub mod ReportText
 pub mod Scripts
+pub mod Shapes
 pub mod Spelling
 pub mod Steps
 pub mod Tables
-pub mod Shapes
 pub mod Text
 pub mod Transcribed
 pub mod Transcript

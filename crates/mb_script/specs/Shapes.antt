@@ -2,12 +2,13 @@
 use Rattle.std.specs.Prelude.{ℕ, Bool, true, false, List, [], ◌∷◌, codes, Option, Some, None, if◌then◌else◌}
 use Rattle.std.specs.Str.{bytes_eq}
 use Rattle.mb_claim.specs.declared.shape.Shape.{Shape}
+use Rattle.mb_claim.specs.Rows.{plain}
 
 -- with a fast path or not, and with a last object or not
 abbrev pub shape_with : Bool → Bool → Shape
 shape_with fast last = record { fast = fast; last = last }
 
--- the words of a shape: none, or one
+-- the words of a shape: none if cells have pairs alone, and else one
 abbrev pub words_with : Bool → Bool → List (List ℕ)
 words_with false false = []
 words_with true false = codes "fast" ∷ []
@@ -25,8 +26,8 @@ shape_of_word word =
     else if bytes_eq word (codes "fastlast") then Some (shape_with true true)
     else None
 
--- the shape of the words after a table's name
+-- the shape of the words after a table's name: no word says that cells have pairs alone
 abbrev pub shape_named : List (List ℕ) → Option Shape
-shape_named [] = Some (shape_with false false)
+shape_named [] = Some plain
 shape_named (word ∷ []) = shape_of_word word
 shape_named (word ∷ other ∷ words) = None

@@ -1,18 +1,20 @@
-//! The definitions by example: what devices give and take, and how answers and reports are written. The functions
-//! compute nothing: their contracts are the examples, and their proofs stand in `proofs/examples`.
-ghost use Rattle.std.specs.Prelude.{◌≡◌, ◌-◌, ◌^◌, true, false, [], ◌∷◌, ◌++◌, codes, Some};
+//! The definitions by example: what devices give and take, how answers and reports are written, and the words of shapes.
+//! The functions compute nothing: their contracts are the examples, and their proofs stand in `proofs/examples`.
+ghost use Rattle.std.specs.Prelude.{◌≡◌, ◌-◌, ◌^◌, true, false, [], ◌∷◌, ◌++◌, codes, Some, None};
+ghost use Rattle.mb_claim.specs.Rows.{plain};
 ghost use Rattle.mb_claim.specs.declared.access.Stage.TheVariants as stage;
 ghost use Rattle.mb_cells.specs.declared.answer.Finish.TheVariants as finish;
 ghost use Rattle.mb_cells.specs.declared.answer.Look.TheVariants as look;
 ghost use Rattle.mb_cells.specs.declared.answer.Offer.TheVariants as offer;
 ghost use Rattle.mb_cells.specs.declared.answer.Push.TheVariants as push;
-ghost use Rattle.mb_deciding.specs.declared.access.Act.TheVariants.{Load, Store};
-ghost use Rattle.mb_deciding.specs.declared.access.Reg.TheVariants.{Value, Proposal, Quorum};
+ghost use Rattle.mb_deciding.specs.declared.access.Act.TheVariants.{Load, Store, Exchange};
+ghost use Rattle.mb_deciding.specs.declared.access.Reg.TheVariants.{Value, Proposal, Quorum, Last};
 ghost use Rattle.mb_world.specs.declared.event.Answer.TheVariants as answer;
 ghost use Rattle.mb_world.specs.declared.event.Event.TheVariants.{Offer, Push, Finish, Step};
 ghost use Rattle.mb_world.specs.declared.report.Note.TheVariants.{Took, Lost, Undecided};
 ghost use Rattle.mb_script.specs.Devices.{AppendsFront, ConsumesCount, ConsumesUpTo, CountGrowsUpTo, Had};
 ghost use Rattle.mb_script.specs.ReportText.{report_text};
+ghost use Rattle.mb_script.specs.Shapes.{shape_named};
 ghost use Rattle.mb_script.specs.Transcript.{entry_text, transcript_text};
 
 /// A writer gets a prefix of the text behind what it had, and nothing else.
@@ -73,7 +75,26 @@ pub fn consumers_are_answered()
     ensures undecided { entry_text (Step 1 0 9)
         (answer.Claimed 3 1 (Load (Quorum 0) 1) stage.Undecided)
         ≡ codes "step 1 0 cell 3 o1 load q0 1 undecided\n" }
+    ensures exchanged { entry_text (Step 1 0 9)
+        (answer.Claimed 3 2 (Exchange Last 2 0) stage.Won)
+        ≡ codes "step 1 0 cell 3 o2 exchange l 2 0 won\n" }
+    ensures found_exchanged { entry_text (Step 1 0 9)
+        (answer.Claimed 3 2 (Exchange Last 2 1) (stage.Lost 0))
+        ≡ codes "step 1 0 cell 3 o2 exchange l 2 1 lost 0\n" }
     ensures took { entry_text (Step 1 0 9) (answer.Took 3 7) ≡ codes "step 1 0 took 7\n" }
+{}
+
+/// The words of shapes: one at most, and none if cells have pairs alone.
+pub fn shapes_have_words()
+    ensures none { shape_named [] ≡ Some plain }
+    ensures fast { shape_named (codes "fast" ∷ [])
+        ≡ Some (record { fast = true; last = false }) }
+    ensures last { shape_named (codes "last" ∷ [])
+        ≡ Some (record { fast = false; last = true }) }
+    ensures both { shape_named (codes "fastlast" ∷ [])
+        ≡ Some (record { fast = true; last = true }) }
+    ensures no_word { shape_named (codes "plain" ∷ []) ≡ None }
+    ensures two_words { shape_named (codes "fast" ∷ codes "last" ∷ []) ≡ None }
 {}
 
 /// The lines stand in the order of the events.

@@ -1,5 +1,6 @@
 //! Reading a replay script.
 ghost use Rattle.std.specs.Prelude.{◌≡◌, ◌≤◌, ℕ, List, length, map, Ok, IfOk};
+ghost use Rattle.mb_world.specs.Setups.{plan_in};
 ghost use Rattle.mb_script.specs.Text.{lines_of, words_of};
 ghost use Rattle.mb_script.specs.Faults.{Gives};
 ghost use Rattle.mb_script.specs.Spelling.{IsScript, Spells, Sizes, script_in, script_lines};

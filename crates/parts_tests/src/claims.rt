@@ -1,13 +1,13 @@
 //! Claims of consumers on one cell: worked examples.
 
-use mb_claim::{BadLayout, Claim, ClaimEntry, Layout, PlayFault, Shape, Stage, play};
+use mb_claim::{BadLayout, Claim, ClaimEntry, Layout, PlayFault, Stage, play};
 use mb_deciding::{Act, Op, Reg};
 use mb_quorum::TableName;
 use std::process::Abort;
 use std::test::Fail;
 
 /// A load of a consumer.
-fn loaded(consumer: u32, object: u32, reg: Reg, value: u64) -> ClaimEntry {
+pub(crate) fn loaded(consumer: u32, object: u32, reg: Reg, value: u64) -> ClaimEntry {
     ClaimEntry::Access {
         consumer,
         object,
@@ -16,7 +16,7 @@ fn loaded(consumer: u32, object: u32, reg: Reg, value: u64) -> ClaimEntry {
 }
 
 /// A store of a consumer.
-fn stored(consumer: u32, object: u32, reg: Reg, value: u64) -> ClaimEntry {
+pub(crate) fn stored(consumer: u32, object: u32, reg: Reg, value: u64) -> ClaimEntry {
     ClaimEntry::Access {
         consumer,
         object,
@@ -85,28 +85,6 @@ fn two_consumers_and_three_pairs(rt: HostRuntime) -> Result<(), Fail> {
     assert_eq!(rt;
         (layout.consumers(), words, address, most),
         (2, (12, 24), 31, 27)
-    );
-    Ok(())
-}
-
-#[test]
-fn a_layout_with_a_fast_path_and_a_last_object(rt: HostRuntime) -> Result<(), Fail> {
-    let shape = Shape {
-        fast: true,
-        last: true,
-    };
-    let layout = Layout::new(2, 3, TableName::Bits)?.shaped(shape);
-    // Two ratifiers with three words each, the twelve words of three pairs, and one word.
-    let words = layout.words(1);
-    let addresses = (
-        layout.address(2, 1, Reg::Proposal),
-        layout.address(2, 5, Reg::Quorum(1)),
-        layout.address(2, 8, Reg::Last),
-    );
-    // Two ratifiers of 1 + 2 + 1 accesses at most, and one exchange, beside the 27 of the pairs.
-    assert_eq!(rt;
-        (layout.shape(), words, addresses, layout.max_steps()),
-        (shape, 19, (41, 51, 56), 36)
     );
     Ok(())
 }

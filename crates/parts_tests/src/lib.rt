@@ -18,6 +18,8 @@ mod entries;
 #[cfg(test)]
 mod events;
 #[cfg(test)]
+mod last_objects;
+#[cfg(test)]
 mod mirrored;
 #[cfg(test)]
 mod own_table;
@@ -31,6 +33,8 @@ mod refused_memory;
 mod reports;
 #[cfg(test)]
 mod scripts;
+#[cfg(test)]
+mod shapes;
 #[cfg(test)]
 mod shared_cells;
 #[cfg(test)]

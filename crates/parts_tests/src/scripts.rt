@@ -1,10 +1,12 @@
 //! Replay scripts: what is read, and the first fault of what is not.
 
+use crate::shapes::{BOTH, FAST, LAST};
 use mailbox_rations::growths_refused;
+use mb_claim::Shape;
 use mb_quorum::TableName;
 use mb_script::{
-    Fault, Script, Words, has_empty_word, number, numbers, parse, split_line, split_word,
-    table_named,
+    Fault, Script, Words, has_empty_word, number, numbers, parse, shape_of_word, split_line,
+    split_word, table_named,
 };
 use mb_world::{Event, SetupFault};
 use std::alloc::Global;
@@ -50,6 +52,49 @@ fn a_script_is_read(rt: HostRuntime) -> Result<(), Fail> {
     Ok(())
 }
 
+// Two consumers and one pair: a claim has at most 9 accesses, 8 more with a fast path and 1 more with a last object.
+#[test]
+fn the_last_word_is_a_shape(rt: HostRuntime) -> Result<(), Fail> {
+    for (text, shape, most) in [
+        ("setup 1 2 1 1 bits", Shape::PLAIN, 9),
+        ("setup 1 2 1 1 bits fast", FAST, 17),
+        ("setup 1 2 1 1 bits last", LAST, 10),
+        ("setup 1 2 1 1 bits fastlast", BOTH, 18),
+    ] {
+        let layout = script(rt.alloc(), text)?.setup.layout();
+        assert_eq!(rt;
+            (layout.shape(), layout.max_steps()),
+            (shape, most),
+            "{text}"
+        );
+    }
+    Ok(())
+}
+
+#[test]
+fn a_bad_shape_comes_before_a_bad_number(rt: HostRuntime) {
+    for (text, want) in [
+        ("setup 1 1 1 1 bits plain", Fault::BadLine(1)),
+        ("setup 1 1 1 1 bits lastfast", Fault::BadLine(1)),
+        ("setup 1 1 1 1 fast", Fault::BadLine(1)),
+        ("setup 1 1 1 1 bits fast ", Fault::BadLine(1)),
+        ("setup 1 1 1 1 bits fast last", Fault::BadLine(1)),
+        ("setup 1 1 1 1 bits fast fast fast", Fault::BadLine(1)),
+        ("setup 1 1 1 1 bits bits fast", Fault::BadLine(1)),
+        ("setup x 1 1 1 bits other", Fault::BadLine(1)),
+        ("setup x 1 1 1 edge fast", Fault::BadLine(1)),
+        ("setup x 1 1 1 bits fast last", Fault::BadLine(1)),
+        ("setup x 1 1 1 bits fast", Fault::BadNumber(1)),
+        ("setup 0 1 1 x bits last", Fault::BadNumber(1)),
+        (
+            "setup 0 1 1 1 bits fastlast",
+            Fault::BadSetup(1, SetupFault::BadProducers),
+        ),
+    ] {
+        assert_eq!(rt; events(rt.alloc(), text), Err(want), "{text}");
+    }
+}
+
 #[test]
 fn the_last_line_needs_no_end(rt: HostRuntime) {
     for (text, want) in [
@@ -59,9 +104,7 @@ fn the_last_line_needs_no_end(rt: HostRuntime) {
         ("setup 1 16 256 8 unary\nstep 15 0 0\n", 1),
         ("setup 1 1 1 1 middle\n", 0),
         ("setup 1 64 1 1 middle\nstep 63 0 0\n", 1),
-        ("setup 1 1 1 1 bits fast\n", 0),
-        ("setup 1 1 1 1 bits last\n", 0),
-        ("setup 1 1 1 1 middle fastlast\npush 0\n", 1),
+        ("setup 1 1 1 1 middle fastlast\npush 0", 1),
     ] {
         assert_eq!(rt; events(rt.alloc(), text), Ok(want), "{text}");
     }
@@ -78,10 +121,6 @@ fn the_first_fault_decides(rt: HostRuntime) {
         ("setup 1 1 1 1\n", Fault::BadLine(1)),
         ("setup 1 1 1 1 bits \n", Fault::BadLine(1)),
         ("setup 1 1 1 1 bits bits\n", Fault::BadLine(1)),
-        ("setup 1 1 1 1 bits plain\n", Fault::BadLine(1)),
-        ("setup x 1 1 1 bits other\n", Fault::BadLine(1)),
-        ("setup x 1 1 1 bits fast\n", Fault::BadNumber(1)),
-        ("setup 1 1 1 1 bits fast last\n", Fault::BadLine(1)),
         ("setup 1 1 1 1 bits\r\n", Fault::BadLine(1)),
         ("setup 1 1 1 1 middles\n", Fault::BadLine(1)),
         ("setup x 1 1 1 edge\n", Fault::BadLine(1)),
@@ -339,5 +378,18 @@ fn tables_have_names(rt: HostRuntime) {
         ("middles", None),
     ] {
         assert_eq!(rt; table_named(word), want, "{word}");
+    }
+}
+
+#[test]
+fn shapes_have_words(rt: HostRuntime) {
+    for (word, want) in [
+        ("fast", Some(FAST)),
+        ("last", Some(LAST)),
+        ("fastlast", Some(BOTH)),
+        ("plain", None),
+        ("", None),
+    ] {
+        assert_eq!(rt; shape_of_word(word), want, "{word}");
     }
 }

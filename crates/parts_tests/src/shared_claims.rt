@@ -4,9 +4,10 @@ ghost use Rattle.mb_claim.specs.declared.access.Stage.TheVariants.{Going};
 ghost use Rattle.mb_claim.specs.Vocabulary.{IsClaimIn, claim_stage, consumer_of, part_on};
 ghost use Rattle.mb_shared_claims.specs.Vocabulary.{name_of};
 
+use crate::shapes::BOTH;
 use mb_claim::laws::layouts_are_sound;
 use mb_claim::steps::{accesses_lengthen_one_part, claims_make_steps};
-use mb_claim::{Claim, ClaimOp, Layout, Stage};
+use mb_claim::{Claim, ClaimOp, Layout, Shape, Stage};
 use mb_deciding::{Op, Reg};
 use mb_quorum::TableName;
 use mb_shared_claims::{AllGiven, ClaimHub, ClaimSeat, SharedClaims};
@@ -91,12 +92,13 @@ fn claim_each<A: Allocator + Drop>(
     (seat, stages)
 }
 
-/// Two threads claim each of `CELLS` cells, and this is how it ended for each.
+/// Two threads claim each of `CELLS` cells of this shape, and this is how it ended for each.
 fn claimed_by_two<R: Threads + Sync, A: Allocator + Clone + Drop + Send + Sync>(
     rt: &R,
     alloc: A,
+    shape: Shape,
 ) -> Result<([Stage; CELLS as usize], [Stage; CELLS as usize]), Fail> {
-    let layout = Layout::new(2, 1, TableName::Bits)?;
+    let layout = Layout::new(2, 1, TableName::Bits)?.shaped(shape);
     let (table, mut hub) = SharedClaims::new(alloc, layout, CELLS)?;
     let first = table.enroll(&mut hub)?;
     let second = table.enroll(&mut hub)?;
@@ -136,12 +138,13 @@ fn all_seats<A: Allocator + Drop, B: Allocator + Drop>(
     Ok(seats)
 }
 
-/// 16 threads claim one cell, and this is how it ended for each.
+/// 16 threads claim one cell of this shape, and this is how it ended for each.
 fn claimed_by_sixteen<R: Threads + Sync, A: Allocator + Clone + Drop + Send + Sync>(
     rt: &R,
     alloc: A,
+    shape: Shape,
 ) -> Result<Vec<Stage, A>, Fail> {
-    let layout = Layout::new(16, 1, TableName::Bits)?;
+    let layout = Layout::new(16, 1, TableName::Bits)?.shaped(shape);
     let (table, mut hub) = SharedClaims::new(alloc.clone()?, layout, 1)?;
     let seats = all_seats(&table, &mut hub, alloc)?;
     let claim = |seat: ClaimSeat| -> Stage
@@ -259,9 +262,14 @@ fn name_one_winner(ends: &[Stage]) -> bool {
     true
 }
 
+/// Whether all claims on a cell name one winner, so that none is undecided, and one of them has won it.
+fn have_one_winner(ends: &[Stage]) -> bool {
+    name_one_winner(ends) && !ends.contains(&Stage::Undecided) && ends.contains(&Stage::Won)
+}
+
 #[test]
 fn two_threads_claim_a_hundred_cells(rt: HostRuntime) -> Result<(), Fail> {
-    let (mine, theirs) = claimed_by_two(&rt, rt.alloc())?;
+    let (mine, theirs) = claimed_by_two(&rt, rt.alloc(), Shape::PLAIN)?;
     for cell in 0..CELLS as usize {
         assert!(rt; name_one_winner(&[mine[cell], theirs[cell]]), "cell {cell}");
     }
@@ -269,11 +277,30 @@ fn two_threads_claim_a_hundred_cells(rt: HostRuntime) -> Result<(), Fail> {
 }
 
 #[test]
+fn two_threads_claim_a_hundred_cells_with_a_last_object(rt: HostRuntime) -> Result<(), Fail> {
+    let (mine, theirs) = claimed_by_two(&rt, rt.alloc(), BOTH)?;
+    for cell in 0..CELLS as usize {
+        assert!(rt; have_one_winner(&[mine[cell], theirs[cell]]), "cell {cell}");
+    }
+    Ok(())
+}
+
+#[test]
 fn sixteen_threads_claim_one_cell(rt: HostRuntime) -> Result<(), Fail> {
     for _ in 0..ROUNDS {
-        let ends = claimed_by_sixteen(&rt, rt.alloc())?;
+        let ends = claimed_by_sixteen(&rt, rt.alloc(), Shape::PLAIN)?;
         assert_eq!(rt; ends.len(), 16);
         assert!(rt; name_one_winner(ends.as_slice()));
+    }
+    Ok(())
+}
+
+#[test]
+fn sixteen_threads_claim_one_cell_with_a_last_object(rt: HostRuntime) -> Result<(), Fail> {
+    for _ in 0..ROUNDS {
+        let ends = claimed_by_sixteen(&rt, rt.alloc(), BOTH)?;
+        assert_eq!(rt; ends.len(), 16);
+        assert!(rt; have_one_winner(ends.as_slice()));
     }
     Ok(())
 }

@@ -2,9 +2,11 @@
 ghost use Rattle.std.specs.Prelude.{◌<◌, ⊤};
 ghost use Rattle.mb_claim.specs.Vocabulary.{consumer_count};
 
-use mb_claim::{Claim, Layout, Stage};
+use crate::shapes::SHAPES;
+use mb_claim::{Claim, Layout, Shape, Stage};
 use mb_deciding::{Memory, Op};
 use mb_quorum::TableName;
+use std::process::Abort;
 use std::test::Fail;
 
 /// Words in which somebody else stores before each access: a load finds a small value, the largest one, or any.
@@ -48,26 +50,33 @@ fn accesses(layout: &Layout, consumer: u32, seed: u64) -> u64
 }
 
 /// Claims of the first and of the last consumer of a layout, on words that are spoiled in a hundred ways.
-fn most_accesses(consumers: u64, pairs: u64, name: TableName) -> Result<(u64, u64), Fail> {
-    let layout = Layout::new(consumers, pairs, name)?;
+fn most_accesses(layout: &Layout) -> (u64, u64) {
     let mut most = 0;
     for seed in 0..100 {
         most = most
-            .max(accesses(&layout, 0, seed))
-            .max(accesses(&layout, layout.consumers() - 1, seed));
+            .max(accesses(layout, 0, seed))
+            .max(accesses(layout, layout.consumers() - 1, seed));
     }
-    Ok((most, layout.max_steps()))
+    (most, layout.max_steps())
+}
+
+/// No claim of these layouts makes more than its most accesses, whatever shape their cells have.
+fn end_within_their_bound(rt: &impl Abort, layout: &Layout) {
+    for shape in SHAPES {
+        let (made, bound) = most_accesses(&layout.shaped(shape));
+        let consumers = layout.consumers();
+        assert!(rt;
+            made <= bound,
+            "{made} accesses, {consumers} consumers, at most {bound}"
+        );
+    }
 }
 
 #[test]
 fn claims_on_spoiled_words_end_within_their_bound(rt: HostRuntime) -> Result<(), Fail> {
     for name in [TableName::Unary, TableName::Bits, TableName::Middle] {
         for (consumers, pairs) in [(1, 1), (2, 1), (3, 2), (64, 8)] {
-            let (made, bound) = most_accesses(consumers, pairs, name)?;
-            assert!(rt;
-                made <= bound,
-                "{made} accesses, {consumers} consumers, {pairs} pairs"
-            );
+            end_within_their_bound(&rt, &Layout::new(consumers, pairs, name)?);
         }
     }
     Ok(())

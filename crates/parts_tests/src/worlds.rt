@@ -1,5 +1,6 @@
 //! Setups, new worlds and their reports.
 
+use crate::shapes::BOTH;
 use mb_quorum::TableName;
 use mb_world::{Setup, SetupFault, World};
 use std::alloc::Global;
@@ -37,6 +38,19 @@ fn a_setup_tells_its_numbers(rt: HostRuntime) -> Result<(), Fail> {
         setup.layout().consumers(),
     );
     assert_eq!(rt; told, (16, 3, 256, 3));
+    Ok(())
+}
+
+#[test]
+fn a_setup_is_shaped(rt: HostRuntime) -> Result<(), Fail> {
+    let setup = Setup::new(16, 2, 256, 1, TableName::Bits)?.shaped(BOTH);
+    let layout = setup.layout();
+    let told = (
+        (setup.producers(), setup.consumers(), setup.cells()),
+        (layout.shape(), layout.max_steps()),
+    );
+    // Nine accesses in a pair, twice four in a fast path, and one in a last object.
+    assert_eq!(rt; told, ((16, 2, 256), (BOTH, 18)));
     Ok(())
 }
 

@@ -30,6 +30,14 @@ pub returns-clause-undecided : goal.returns-clause-undecided
 unfolding digits
 returns-clause-undecided c = refl
 
+pub returns-clause-exchanged : goal.returns-clause-exchanged
+unfolding digits
+returns-clause-exchanged c = refl
+
+pub returns-clause-found_exchanged : goal.returns-clause-found_exchanged
+unfolding digits
+returns-clause-found_exchanged c = refl
+
 pub returns-clause-took : goal.returns-clause-took
 unfolding digits
 returns-clause-took c = refl

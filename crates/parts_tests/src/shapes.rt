@@ -1,0 +1,183 @@
+//! Layouts of each shape, and claims on their cells: worked examples.
+
+use crate::claims::{loaded, stored};
+use mb_claim::{ClaimEntry, Layout, Shape, Stage, play};
+use mb_deciding::{Act, Reg};
+use mb_quorum::TableName;
+use std::test::Fail;
+
+/// A fast path alone.
+pub(crate) const FAST: Shape = Shape {
+    fast: true,
+    last: false,
+};
+
+/// A last object alone.
+pub(crate) const LAST: Shape = Shape {
+    fast: false,
+    last: true,
+};
+
+/// Both.
+pub(crate) const BOTH: Shape = Shape {
+    fast: true,
+    last: true,
+};
+
+/// All shapes.
+pub(crate) const SHAPES: [Shape; 4] = [Shape::PLAIN, FAST, LAST, BOTH];
+
+/// An exchange of a consumer in a last object.
+fn exchanged(consumer: u32, object: u32, value: u64, found: u64) -> ClaimEntry {
+    ClaimEntry::Access {
+        consumer,
+        object,
+        act: Act::Exchange {
+            reg: Reg::Last,
+            value,
+            found,
+        },
+    }
+}
+
+/// So many steps of two consumers in turns, with the random word 0.
+fn in_turns(steps: &mut [(u64, u64)]) {
+    for place in 0..steps.len() {
+        steps[place] = (place as u64 % 2, 0);
+    }
+}
+
+#[test]
+fn words_of_both_and_three_pairs(rt: HostRuntime) -> Result<(), Fail> {
+    let layout = Layout::new(2, 3, TableName::Bits)?.shaped(BOTH);
+    // Two ratifiers with three words each, the twelve words of three pairs, and one word.
+    let words = layout.words(1);
+    let addresses = (
+        layout.address(2, 1, Reg::Proposal),
+        layout.address(2, 5, Reg::Quorum(1)),
+        layout.address(2, 8, Reg::Last),
+    );
+    // Two ratifiers of 1 + 2 + 1 accesses at most, and one exchange, beside the 27 of the pairs.
+    assert_eq!(rt;
+        (layout.shape(), words, addresses, layout.max_steps()),
+        (BOTH, 19, (41, 51, 56), 36)
+    );
+    Ok(())
+}
+
+// A pair has four words and at most nine accesses, a fast path six and eight, a last object one and one.
+#[test]
+fn words_and_most_accesses_of_each_shape(rt: HostRuntime) -> Result<(), Fail> {
+    let mut layout = Layout::new(2, 1, TableName::Bits)?;
+    assert_eq!(rt; layout.shape(), Shape::PLAIN);
+    // Each is made of the one before, whose shape makes no difference.
+    for (shape, words, most) in [
+        (BOTH, 11, 18),
+        (FAST, 10, 17),
+        (LAST, 5, 10),
+        (Shape::PLAIN, 4, 9),
+    ] {
+        layout = layout.shaped(shape);
+        assert_eq!(rt;
+            (layout.shape(), layout.words(1), layout.max_steps()),
+            (shape, words, most)
+        );
+    }
+    Ok(())
+}
+
+#[test]
+fn one_consumer_takes_the_fast_path(rt: HostRuntime) -> Result<(), Fail> {
+    let layout = Layout::new(1, 1, TableName::Bits)?.shaped(FAST);
+    let run = play(rt.alloc(), &layout, &[(0, 0), (0, 0), (0, 0)])?;
+    let entries = [
+        loaded(0, 0, Reg::Proposal, 0),
+        stored(0, 0, Reg::Proposal, 1),
+        ClaimEntry::Done { consumer: 0 },
+    ];
+    assert_eq!(rt; run.entries.as_slice(), entries.as_slice());
+    assert_eq!(rt; run.stages.as_slice(), [Stage::Won].as_slice());
+    Ok(())
+}
+
+// The second consumer announced its own number, so object 0 passes it on to object 1 with the winner's.
+#[test]
+fn one_after_the_other_on_a_fast_path(rt: HostRuntime) -> Result<(), Fail> {
+    let layout = Layout::new(2, 1, TableName::Bits)?.shaped(BOTH);
+    let steps = [0, 0, 0, 0, 1, 1, 1, 1, 1, 1, 1].map(|consumer| (consumer, 0));
+    let run = play(rt.alloc(), &layout, &steps)?;
+    let entries = [
+        stored(0, 0, Reg::Quorum(0), 1),
+        loaded(0, 0, Reg::Proposal, 0),
+        stored(0, 0, Reg::Proposal, 1),
+        loaded(0, 0, Reg::Quorum(1), 0),
+        stored(1, 0, Reg::Quorum(1), 1),
+        loaded(1, 0, Reg::Proposal, 1),
+        loaded(1, 0, Reg::Quorum(1), 1),
+        stored(1, 1, Reg::Quorum(0), 1),
+        loaded(1, 1, Reg::Proposal, 0),
+        stored(1, 1, Reg::Proposal, 1),
+        loaded(1, 1, Reg::Quorum(1), 0),
+    ];
+    assert_eq!(rt; run.entries.as_slice(), entries.as_slice());
+    assert_eq!(rt;
+        run.stages.as_slice(),
+        [Stage::Won, Stage::Lost(0)].as_slice()
+    );
+    Ok(())
+}
+
+// Both ratifiers of the fast path pass each consumer on with its own number.
+#[test]
+fn a_conciliator_comes_after_the_fast_path(rt: HostRuntime) -> Result<(), Fail> {
+    let layout = Layout::new(2, 1, TableName::Bits)?.shaped(FAST);
+    let mut steps = [(0, 0); 27];
+    in_turns(&mut steps[..16]);
+    for place in [19, 24, 25, 26] {
+        steps[place] = (1, 0);
+    }
+    let run = play(rt.alloc(), &layout, &steps)?;
+    let entries = [
+        loaded(0, 1, Reg::Quorum(1), 1),
+        loaded(1, 1, Reg::Quorum(0), 1),
+        loaded(0, 2, Reg::Value, 0),
+        stored(0, 2, Reg::Value, 1),
+        loaded(0, 2, Reg::Value, 1),
+        loaded(1, 2, Reg::Value, 1),
+        stored(0, 3, Reg::Quorum(0), 1),
+        loaded(0, 3, Reg::Proposal, 0),
+        stored(0, 3, Reg::Proposal, 1),
+        loaded(0, 3, Reg::Quorum(1), 0),
+        stored(1, 3, Reg::Quorum(0), 1),
+        loaded(1, 3, Reg::Proposal, 1),
+        loaded(1, 3, Reg::Quorum(1), 0),
+    ];
+    assert_eq!(rt; &run.entries.as_slice()[14..], entries.as_slice());
+    assert_eq!(rt;
+        run.stages.as_slice(),
+        [Stage::Won, Stage::Lost(0)].as_slice()
+    );
+    Ok(())
+}
+
+// With pairs alone both stay undecided after the first fourteen of these steps.
+#[test]
+fn a_last_object_decides(rt: HostRuntime) -> Result<(), Fail> {
+    let layout = Layout::new(2, 1, TableName::Bits)?.shaped(LAST);
+    let steps = [0, 1, 0, 0, 1, 1, 0, 1, 0, 1, 0, 0, 1, 1, 0, 1, 0].map(|consumer| (consumer, 0));
+    let run = play(rt.alloc(), &layout, &steps)?;
+    let entries = [
+        loaded(0, 1, Reg::Quorum(1), 1),
+        stored(1, 1, Reg::Proposal, 2),
+        loaded(1, 1, Reg::Quorum(0), 1),
+        exchanged(0, 2, 1, 0),
+        exchanged(1, 2, 2, 1),
+        ClaimEntry::Done { consumer: 0 },
+    ];
+    assert_eq!(rt; &run.entries.as_slice()[11..], entries.as_slice());
+    assert_eq!(rt;
+        run.stages.as_slice(),
+        [Stage::Won, Stage::Lost(0)].as_slice()
+    );
+    Ok(())
+}
