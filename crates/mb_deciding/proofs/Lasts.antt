@@ -29,7 +29,7 @@ last_act v x u (inl h) = (0, h.1)
 last_act v x u (inr h) = (u + 1, h)
 
 -- the two values of one turn are one
-same_value : (v : ℕ) (x : Turn) (u w : ℕ) → IsLastPath v (x ∷ []) u → IsLastPath v (x ∷ []) w → u ≡ w
+pub same_value : (v : ℕ) (x : Turn) (u w : ℕ) → IsLastPath v (x ∷ []) u → IsLastPath v (x ∷ []) w → u ≡ w
 same_value v x u w (inl h) (inl k) = h.0 ∙ sym k.0
 same_value v x u w (inl h) (inr k) =
     let e : Exchange Last (v + 1) 0 ≡ Exchange Last (v + 1) (w + 1) = sym h.1 ∙ k in
