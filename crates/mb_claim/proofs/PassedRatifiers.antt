@@ -2,7 +2,7 @@
 use Rattle.std.proofs.Common.{◌≡◌, ◌≢◌, ◌<◌, ◌≤◌, ℕ, suc, false, List, [], ◌∷◌, inl, inr, sym, ◌∙◌, ap, subst, arith}
 use Rattle.mb_quorum.specs.Vocabulary.{QuorumTable}
 use Rattle.mb_deciding.specs.Vocabulary.{answer, IsPath}
-use Rattle.mb_claim.specs.{Turn, Kind, Ratifier, ObjectTurn, Stage, turns_on, IsClaimPrefixFrom}
+use Rattle.mb_claim.specs.{Kind, Ratifier, ObjectTurn, Stage, turns_on, IsClaimPrefixFrom}
 use Rattle.mb_claim.proofs.ObjectHistories.{turns_at}
 use Rattle.mb_claim.proofs.Lists.{append_nil_right}
 use Rattle.mb_claim.proofs.Parts.{passed_turns, turns_at-append, turns_at-turns_on_other}

@@ -1,9 +1,9 @@
 -- The examples with a fast path or a last object.
-use Rattle.std.proofs.Common.{◌≡◌, ◌≢◌, ℕ, true, false, List, [], ◌∷◌, ◌++◌, refl, sym, ap, ◌∙◌, inl, inr}
+use Rattle.std.proofs.Common.{◌≡◌, ℕ, true, false, List, [], ◌∷◌, ◌++◌, refl, sym, ap, ◌∙◌, inl, inr}
 use Rattle.std.proofs.Common.{append_assoc, arith}
 use Rattle.mb_quorum.specs.Unary.{unary_table}
 use Rattle.mb_deciding.specs.Vocabulary.{IsInWords, answer, IsPath}
-use Rattle.mb_claim.specs.{Value, Proposal, Quorum, Last, Load, Store, Exchange, Kind, Conciliator, Ratifier, LastObject}
+use Rattle.mb_claim.specs.{Proposal, Quorum, Last, Load, Store, Exchange, Kind, Conciliator, Ratifier, LastObject}
 use Rattle.mb_claim.specs.{ObjectTurn, ClaimAccess, Stage, Going, Won, Lost, part_on, turns_on, IsClaimPrefixFrom}
 use Rattle.mb_claim.specs.{IsClaimPart, IsClaimLawful, both_undecided, two_consumers, two_with, lost_at_second}
 use Rattle.mb_claim.specs.{past_both_ratifiers, past_one_ratifier, last_decides, last_found_empty_twice, last_comes_first}
@@ -75,8 +75,47 @@ pub fast_lawful : IsClaimLawful (two_with true false) lost_at_second
 fast_lawful =
     record {
       memory = (refl, (tt, (refl, (tt, (refl, (refl, (tt, (refl, (tt, (refl, (tt, tt)))))))))));
-      words = (zero_word, (one_put, (zero_word, (one_put, (one_word, (one_word, (one_put, (zero_word, (one_put, (zero_word, (one_put, tt)))))))))));
-      parts = λ c k some. known IsFastPart c k lost_at_second (second, (second, (second, (second, (second, (second, (second, (first, (first, (first, (first, tt))))))))))) some;
+      words = (
+        zero_word,
+        (
+          one_put,
+          (
+            zero_word,
+            (
+              one_put,
+              (
+                one_word,
+                (
+                  one_word,
+                  (one_put, (zero_word, (one_put, (zero_word, (one_put, tt))))),
+                ),
+              ),
+            ),
+          ),
+        ),
+      );
+      parts = λ c k some. known IsFastPart c k lost_at_second (
+        second,
+        (
+          second,
+          (
+            second,
+            (
+              second,
+              (
+                second,
+                (
+                  second,
+                  (
+                    second,
+                    (first, (first, (first, (first, tt)))),
+                  ),
+                ),
+              ),
+            ),
+          ),
+        ),
+      ) some;
     }
 
 -- who comes to the conciliator has passed the first ratifier
@@ -234,7 +273,55 @@ last_lawful =
     record {
       memory = (refl, (refl, undecided_lawful.memory));
       words = (found_word, (put_word, undecided_lawful.words));
-      parts = λ c k some. known IsLastPart c k last_decides (one_here, (zero_here, (one_here, (one_here, (zero_here, (zero_here, (one_here, (zero_here, (one_here, (zero_here, (one_here, (one_here, (zero_here, (zero_here, (one_here, (zero_here, tt)))))))))))))))) some;
+      parts = λ c k some. known IsLastPart c k last_decides (
+        one_here,
+        (
+          zero_here,
+          (
+            one_here,
+            (
+              one_here,
+              (
+                zero_here,
+                (
+                  zero_here,
+                  (
+                    one_here,
+                    (
+                      zero_here,
+                      (
+                        one_here,
+                        (
+                          zero_here,
+                          (
+                            one_here,
+                            (
+                              one_here,
+                              (
+                                zero_here,
+                                (
+                                  zero_here,
+                                  (
+                                    one_here,
+                                    (
+                                      zero_here,
+                                      tt,
+                                    ),
+                                  ),
+                                ),
+                              ),
+                            ),
+                          ),
+                        ),
+                      ),
+                    ),
+                  ),
+                ),
+              ),
+            ),
+          ),
+        ),
+      ) some;
     }
 
 -- an exchange that found 0 has stored

@@ -1,6 +1,6 @@
 -- Histories of claims on one cell, for two consumers and one pair over the unary table, with a fast path or a last object:
 -- some that are lawful, and some that are not.
-use Rattle.std.specs.Prelude.{Bool, true, false, List, [], ◌∷◌}
+use Rattle.std.specs.Prelude.{Bool, List, [], ◌∷◌}
 use Rattle.mb_quorum.specs.Unary.{unary_table}
 use Rattle.mb_claim.specs.AllClaims.{Claims, claims_of}
 use Rattle.mb_claim.specs.ObjectTypes.{Value, Proposal, Quorum, Last, Load, Store, Exchange}

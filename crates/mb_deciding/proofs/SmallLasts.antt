@@ -1,13 +1,13 @@
 -- The examples of a last object: which histories and paths there are.
-use Rattle.std.proofs.Common.{◌≡◌, ◌≢◌, ℕ, zero, suc, ◌+◌, ◌<◌, Bool, true, cond, Some, None, List, [], ◌∷◌, ◌++◌}
-use Rattle.std.proofs.Common.{inl, inr, sym, refl, ap, ◌∙◌, arith}
+use Rattle.std.proofs.Common.{◌≡◌, ◌≢◌, ℕ, zero, suc, ◌+◌, ◌<◌, Bool, true, cond, Some, None, List, [], ◌∷◌}
+use Rattle.std.proofs.Common.{inl, inr, refl, ap, ◌∙◌, arith}
 use Rattle.std.specs.List.{cons_option}
 use Rattle.std.proofs.lemmas.Bool.{ne_eqb}
 use Rattle.mb_quorum.specs.Unary.{unary_table}
-use Rattle.mb_deciding.specs.{Last, Load, Store, Exchange, Access, Turn, LastObject, part, IsLastPath, IsPath, IsPrefix, answer}
+use Rattle.mb_deciding.specs.{Last, Load, Store, Exchange, Access, LastObject, part, IsPath, IsPrefix, answer}
 use Rattle.mb_deciding.specs.{IsObjectLawful, small_last, first_decides, found_empty_twice, stored_over, exchange_by, turn}
 use Rattle.mb_deciding.specs.{loaded_then_stored}
-use Rattle.mb_deciding.proofs.Lasts.{last_only, last_alone, last_act, same_value}
+use Rattle.mb_deciding.proofs.Lasts.{last_alone, same_value}
 
 -- ---- lawful
 -- an access of another process adds nothing to a part
