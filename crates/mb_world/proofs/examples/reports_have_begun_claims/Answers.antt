@@ -1,10 +1,10 @@
-use Rattle.std.proofs.Common.{◌≡◌, ℕ, zero, suc, ◌+◌, ◌<◌, true, false, None, [], ◌∷◌, refl, sym, ap, ◌∙◌, inl, arith}
+use Rattle.std.proofs.Common.{◌≡◌, ℕ, zero, suc, true, false, None, [], ◌∷◌, refl, sym, ap, ◌∙◌, inl, arith}
 use Rattle.std.specs.Option.{option_map_or}
 use Rattle.std.proofs.lemmas.Bool.{false≢true}
-use Rattle.std.specs.Prelude.{Option, length}
+use Rattle.std.specs.Prelude.{Option}
 use Rattle.mb_world.specs.declared.report.Note.TheVariants.{Took, Undecided}
 use Rattle.mb_world.specs.Agreement.{AreAllTaken, HasTaken, IsLeftBesideBegun}
-use Rattle.mb_world.specs.Report.{DiaryView, diary, is_begun, notes}
+use Rattle.mb_world.specs.Report.{DiaryView, diary, is_begun}
 use Rattle.mb_world.specs.ReportExamples.{both_undecided, diary_of, taken_and_lost, won_not_loaded}
 use Rattle.mb_world.proofs.ReportLists.{no_diary, not_noted}
 use Rattle.mb_world.proofs.examples.reports_have_begun_claims.Goals as goal
