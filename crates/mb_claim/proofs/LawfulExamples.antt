@@ -12,7 +12,7 @@ use Rattle.mb_claim.proofs.ObjectHistories.{turns_at}
 
 -- ---- which parts there are
 -- what holds of the consumer and the cell of each access
-abbrev AreAll : (ℕ → ℕ → Type 0) → List ClaimAccess → Type 0
+abbrev pub AreAll : (ℕ → ℕ → Type 0) → List ClaimAccess → Type 0
 AreAll P [] = Unit {0}
 AreAll P (a ∷ h) = P a.consumer a.cell × AreAll P h
 
@@ -26,7 +26,7 @@ known_by P c k a xs true false e f this older some = older some
 known_by P c k a xs false q e f this older some = older some
 
 -- it holds of each consumer and cell with a part
-known : (P : ℕ → ℕ → Type 0) (c k : ℕ) (h : List ClaimAccess) → AreAll P h → part_on c k h ≢ [] → P c k
+pub known : (P : ℕ → ℕ → Type 0) (c k : ℕ) (h : List ClaimAccess) → AreAll P h → part_on c k h ≢ [] → P c k
 known P c k [] all some = absurd (some refl)
 known P c k (a ∷ h) all some =
     known_by P c k a (part_on c k h) (eqb a.consumer c) (eqb a.cell k) refl refl all.0 (known P c k h all.1) some
@@ -92,15 +92,15 @@ second : IsMine won_and_lost 1 0
 second = ((omega arith), (omega arith), (Lost 0, lost))
 
 -- 0 is a word
-zero_word : IsInWords (record { act = Load Value 0; word = 0 })
+pub zero_word : IsInWords (record { act = Load Value 0; word = 0 })
 zero_word = ((omega arith, tt), (omega arith))
 
 -- and so is 1
-one_word : IsInWords (record { act = Load Value 1; word = 0 })
+pub one_word : IsInWords (record { act = Load Value 1; word = 0 })
 one_word = ((omega arith, tt), (omega arith))
 
 -- and it is stored as one
-one_put : IsInWords (record { act = Store Value 1; word = 0 })
+pub one_put : IsInWords (record { act = Store Value 1; word = 0 })
 one_put = ((tt, omega arith), (omega arith))
 
 -- that history is lawful
@@ -212,11 +212,11 @@ one_here : IsMine both_undecided 1 0
 one_here = ((omega arith), (omega arith), (Undecided, second_undecided))
 
 -- 2 is a word
-two_word : IsInWords (record { act = Load Value 2; word = 0 })
+pub two_word : IsInWords (record { act = Load Value 2; word = 0 })
 two_word = ((omega arith, tt), (omega arith))
 
 -- and is stored as one
-two_put : IsInWords (record { act = Store Value 2; word = 0 })
+pub two_put : IsInWords (record { act = Store Value 2; word = 0 })
 two_put = ((tt, omega arith), (omega arith))
 
 -- that history is lawful, too

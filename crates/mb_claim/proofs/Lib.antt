@@ -21,9 +21,12 @@ pub mod States
 pub mod ConsumerParts
 pub mod Cells
 pub mod FastPath
+pub mod PassedRatifiers
 pub mod Bounds
 pub mod LawfulExamples
+pub mod ShapedExamples
 pub mod LayoutObjects
+pub mod ShapedAddresses
 pub mod ClaimSteps
 pub mod StepsLeft
 pub mod MostSteps

@@ -14,6 +14,7 @@ pub mod Refusals
 pub mod Plays
 pub mod Boards
 pub mod Examples
+pub mod ShapedExamples
 pub mod Vocabulary
 -- what clauses name stands here, too
 pub use ObjectTypes.*
@@ -31,3 +32,4 @@ pub use Refusals.*
 pub use Plays.*
 pub use Boards.*
 pub use Examples.*
+pub use ShapedExamples.*

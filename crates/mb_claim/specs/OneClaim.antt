@@ -49,7 +49,8 @@ pub record IsNextOp (layout : Layout) (claim : Claim) (next : ClaimOp) : Type 0 
   -- the load, store or exchange of its place there
   pub op : IsOpAt (quorums_of layout) claim.place next.op
 
--- what that access may find: a load or an exchange gives a value that the word can hold, and what the claim has stored is not empty
+-- what that access may find: a load or an exchange gives a value that the word can hold, and what the claim has stored
+-- is not empty
 abbrev pub CanClaimFind : Layout → Claim → ClaimOp → ℕ → Type 0
 CanClaimFind layout claim next seen = CanFind (quorums_of layout) claim.place next.op seen
 

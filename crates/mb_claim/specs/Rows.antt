@@ -1,5 +1,5 @@
 -- The rows of objects: which objects a cell has, how many words these have, and where the words lie.
-use Rattle.std.specs.Prelude.{ℕ, zero, suc, ◌≡◌, ◌+◌, ◌*◌, Bool, true, false, List, [], ◌∷◌, ◌++◌, slice_get, Some}
+use Rattle.std.specs.Prelude.{ℕ, zero, suc, ◌≡◌, ◌+◌, ◌*◌, Bool, true, false, List, [], ◌∷◌, ◌++◌, length, slice_get, Some}
 use Rattle.mb_deciding.specs.Vocabulary.{HasReg}
 use Rattle.mb_claim.specs.ObjectTypes.{Reg, Value, Proposal, Quorum, Last, Kind, Conciliator, Ratifier, LastObject}
 use Rattle.mb_claim.specs.declared.shape.Shape.{Shape}
@@ -52,6 +52,12 @@ words_before r (kind ∷ kinds) (suc o) = width r kind + words_before r kinds o
 abbrev pub words_of : ℕ → List Kind → ℕ
 words_of r [] = 0
 words_of r (kind ∷ kinds) = width r kind + words_of r kinds
+
+-- how many of a row of this shape, object by object: on the fast path each ratifier has its proposal and registers, then
+-- come the words of the pairs, and the last word
+abbrev pub shaped_words : ℕ → Shape → ℕ → ℕ
+shaped_words r shape n =
+    length (fast_row shape.fast) * (1 + r) + n * (2 + r) + length (last_row shape.last)
 
 -- where a word of object o of cell k lies
 abbrev pub address_of : ℕ → List Kind → ℕ → ℕ → Reg → ℕ

@@ -9,7 +9,7 @@ pub use Rattle.mb_claim.specs.Winner.{Names, IsClaimAnnounced, IsClaimContested,
 pub use Rattle.mb_claim.specs.Standing.{PassesAll, HasPlace, access_after, StandsAt, IsClaimOf}
 pub use Rattle.mb_claim.specs.Layouts.{pairs_of, fast_row, last_row, row_of, plain, shape_of, fast_steps, last_steps, shaped_steps}
 pub use Rattle.mb_claim.specs.Layouts.{quorums_of, pair_count, kinds_of, width, offset, words_before}
-pub use Rattle.mb_claim.specs.Layouts.{words_of, address_of, IsWordOf, words_in, IsWordIn, address_in, most_on_objects}
+pub use Rattle.mb_claim.specs.Layouts.{words_of, shaped_words, address_of, IsWordOf, words_in, IsWordIn, address_in, most_on_objects}
 pub use Rattle.mb_claim.specs.Layouts.{max_steps, claims_in, consumer_count, cell_words, HasWord, word_address}
 pub use Rattle.mb_claim.specs.Layouts.{most_accesses}
 pub use Rattle.mb_claim.specs.States.{after_op, step_of, found_in, access_in, words_after, IsMemoryOf}

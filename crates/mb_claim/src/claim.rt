@@ -57,8 +57,8 @@ impl Claim {
     }
 
     /// Makes the next access, and tells how far the claim has come then. `seen` is the value that a load or an exchange
-    /// found, and counts for nothing after a store; the random `word` counts after a load of a conciliator's word alone. After a
-    /// value that the word cannot hold the stage is left open, and the claim can be called on.
+    /// found, and counts for nothing after a store. The random `word` counts after a load of a conciliator's word alone.
+    /// After a value that the word cannot hold the stage is left open, and the claim can be called on.
     #[inline(always)]
     pub fn after(&mut self, layout: &Layout, seen: u64, word: u64) -> Stage
         requires going { claim_stage self.old ≡ Going }

@@ -1,12 +1,14 @@
 //! Small histories and runs of the claims of two consumers on one cell: what the definitions let in, and what they keep
 //! out. The functions compute nothing. The proofs begin in `proofs/examples`.
-ghost use Rattle.std.specs.Prelude.{[], ◌∷◌};
+ghost use Rattle.std.specs.Prelude.{true, false, [], ◌∷◌};
 ghost use Rattle.mb_claim.specs.declared.run.ClaimEntry.TheVariants as entry;
 ghost use Rattle.mb_claim.specs.{Load, Store, Value, Quorum, IsClaimLawful, HasStage, IsClaimContested, Going, Won};
 ghost use Rattle.mb_claim.specs.{Lost, Undecided, two_consumers, won_and_lost, both_undecided, begun_again};
 ghost use Rattle.mb_claim.specs.{after_winning, own_number_again, of_a_stranger, IsPlayedByTwo, step, eight_steps};
-ghost use Rattle.mb_claim.specs.{won_and};
+ghost use Rattle.mb_claim.specs.{won_and, two_with, lost_at_second, past_both_ratifiers, past_one_ratifier};
+ghost use Rattle.mb_claim.specs.{last_decides, last_found_empty_twice, last_comes_first};
 
+use crate::laws::last_objects_decide_claims;
 use mb_deciding::examples::small_histories;
 use mb_deciding::laws::{objects_keep_their_promises, ratifiers_decide_unless_contested};
 
@@ -42,6 +44,41 @@ pub fn counterexamples_are_unlawful()
     ensures stranger { IsClaimLawful two_consumers of_a_stranger → ⊥ }
 {
     objects_keep_their_promises();
+}
+
+/// Histories with a fast path before the pair.
+pub fn fast_paths_come_first()
+    // Consumer 0 wins on the first ratifier. Then consumer 1 comes, and loses on the second.
+    ensures lawful { IsClaimLawful (two_with true false) lost_at_second }
+    ensures won { HasStage (two_with true false) 0 0 Won lost_at_second }
+    ensures lost { HasStage (two_with true false) 1 0 (Lost 0) lost_at_second }
+
+    // Who begins with the conciliator, and who goes there after the first ratifier.
+    ensures none { IsClaimLawful (two_with true false) past_both_ratifiers → ⊥ }
+    ensures one { IsClaimLawful (two_with true false) past_one_ratifier → ⊥ }
+{}
+
+/// Histories with a last object after the pair.
+pub fn last_objects_come_last()
+    // Who would be undecided without it goes on. Consumer 0 is the first there and wins, and consumer 1 loses to it.
+    ensures going { HasStage (two_with false true) 0 0 Going both_undecided }
+    ensures lawful { IsClaimLawful (two_with false true) last_decides }
+    ensures won { HasStage (two_with false true) 0 0 Won last_decides }
+    ensures lost { HasStage (two_with false true) 1 0 (Lost 0) last_decides }
+
+    // It is not undecided.
+    ensures undecided { HasStage (two_with false true) 0 0 Undecided both_undecided → ⊥ }
+
+    // An exchange that found 0 and did not store.
+    ensures empty { IsClaimLawful (two_with false true) last_found_empty_twice → ⊥ }
+
+    // Who begins with the last object.
+    ensures first { IsClaimLawful (two_with false true) last_comes_first → ⊥ }
+
+    // Without a last object there is none.
+    ensures absent { IsClaimLawful two_consumers last_decides → ⊥ }
+{
+    last_objects_decide_claims();
 }
 
 /// Runs, and entries and stages that are none.

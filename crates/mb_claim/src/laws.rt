@@ -2,16 +2,18 @@
 //! contracts are the laws, and their bodies name the laws of deciding objects on which they stand. A law that is not proved
 //! by its contract alone has its proof in `proofs/laws`, in a folder of its name. Laws of one access more, for those who
 //! keep words and histories of their own, are in `steps`.
-ghost use Rattle.std.specs.Prelude.{ℕ, ◌≡◌, ◌≢◌, ◌<◌, ◌≤◌, List, [], ◌∷◌, ◌++◌, true, false, length, slice_get, Some};
+ghost use Rattle.std.specs.Prelude.{ℕ, ◌≡◌, ◌≢◌, ◌+◌, ◌*◌, ◌<◌, ◌≤◌, List, [], ◌∷◌, ◌++◌, Bool, true, false, length};
+ghost use Rattle.std.specs.Prelude.{slice_get, Some};
 ghost use Rattle.mb_quorum.specs.Vocabulary.{QuorumTable, IsQuorumTable};
 ghost use Rattle.mb_quorum.specs.declared.values.TheConstants.{MAX_VALUES};
 ghost use Rattle.mb_deciding.specs.declared.access.Op.TheVariants as to;
-ghost use Rattle.mb_deciding.specs.Vocabulary.{IsPath, answer, spread};
-ghost use Rattle.mb_claim.specs.{Reg, Value, Kind, Conciliator, Ratifier, LastObject, Out, Claims, claims_of, IsSound, ClaimAccess, ObjectTurn};
+ghost use Rattle.mb_deciding.specs.Vocabulary.{IsPath, answer, largest_quorum, spread};
+ghost use Rattle.mb_claim.specs.{Reg, Value, Kind, Conciliator, Ratifier, LastObject, Out, Claims, claims_of, IsSound};
+ghost use Rattle.mb_claim.specs.{ClaimAccess, ObjectTurn, Shape, plain, row_of, shaped_steps, shape_of};
 ghost use Rattle.mb_claim.specs.{Stage, Going, Undecided, kinds_of, MAX_CELLS, MAX_PAIRS};
 ghost use Rattle.mb_claim.specs.{IsClaimLawful, HasStage, HasOneWinner, IsWholeClaim};
 ghost use Rattle.mb_claim.specs.{IsClaimPrefix, stage_of, part_on, part_at, left_at, on_cell, most_on_objects};
-ghost use Rattle.mb_claim.specs.{max_steps, pairs_of, row_of, shaped_steps, Shape, shape_of, Layout, quorums_of, pair_count, consumer_count, claims_in, Claim};
+ghost use Rattle.mb_claim.specs.{max_steps, pairs_of, Layout, quorums_of, pair_count, consumer_count, claims_in, Claim};
 ghost use Rattle.mb_claim.specs.{ClaimOp, consumer_of, claim_stage, is_begun, IsClaimIn, IsNextOp, CanClaimFind};
 ghost use Rattle.mb_claim.specs.{FitsLayout, most_accesses, steps_left, ClaimEntry, IsPlayed};
 
@@ -40,6 +42,16 @@ pub fn claims_are_bounded()
         → IsQuorumTable t
         → IsClaimLawful (claims_of t (row_of shape (spread t.values) n) cells) h
         → length (part_on c k h) ≤ shaped_steps t shape n }
+
+    // A row of pairs alone allows `max_steps`. A fast path adds two ratifiers to that, and a last object one access.
+    ensures plain { (t : QuorumTable) (n : ℕ) → shaped_steps t plain n ≡ max_steps t n }
+    ensures fast { (t : QuorumTable) (n : ℕ) (last : Bool)
+        → shaped_steps t (record { fast = true; last = last }) n
+        ≡ shaped_steps t (record { fast = false; last = last }) n
+        + 2 * (largest_quorum t.write t.values + 2 + largest_quorum t.read t.values) }
+    ensures last { (t : QuorumTable) (n : ℕ) (fast : Bool)
+        → shaped_steps t (record { fast = fast; last = true }) n
+        ≡ shaped_steps t (record { fast = fast; last = false }) n + 1 }
 {
     objects_keep_their_promises();
 }
@@ -145,6 +157,15 @@ pub fn fast_layouts_avoid_conciliators()
         → IsClaimPrefix cs c (part_on c k h) s → s ≢ Going
         → (d o i : ℕ) → slice_get (kinds_of layout) o ≡ Some (Conciliator i)
         → part_at d k o (later ++ h) ≡ [] }
+
+    // Who comes to a conciliator there was left undecided by both ratifiers of the fast path: by the first with its own
+    // number as input, and by the second with the first one's value.
+    ensures undecided { (layout : Layout) (cells k d o s : ℕ) (h : List ClaimAccess)
+        → (shape_of layout).fast ≡ true → IsClaimLawful (claims_in layout cells) h
+        → slice_get (kinds_of layout) o ≡ Some (Conciliator s) → part_at d k o h ≢ []
+        → let t = quorums_of layout in
+        (u w : ℕ) × IsPath t Ratifier d (part_at d k 0 h) (answer false u)
+        × IsPath t Ratifier u (part_at d k 1 h) (answer false w) }
 {
     fast_paths_take_two_ratifiers();
 }

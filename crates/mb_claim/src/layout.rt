@@ -22,8 +22,8 @@ pub const MAX_CELLS: u32 = 256;
 const MAX_OBJECTS: usize = 2 * MAX_PAIRS as usize + 3;
 
 /// The deciding objects that each cell has: so many pairs of a conciliator and a ratifier, and what its [`Shape`] says
-/// beside them, over a quorum table with a value for each consumer. It keeps their row and where each one's words begin, so it has some 1,300
-/// bytes and is not `Copy`: [`Layout::copy`] says where one more is made.
+/// beside them, over a quorum table with a value for each consumer. It keeps their row and where each one's words begin,
+/// so it has some 1,300 bytes and is not `Copy`: [`Layout::copy`] says where one more is made.
 #[derive(PartialEq, Eq, Debug, Drop)]
 pub struct Layout {
     pub(crate) table: Table,
@@ -127,7 +127,7 @@ impl Layout {
         }
     }
 
-    /// The layout of the same table and pairs that has this shape.
+    /// The layout of the same table and pairs that has this shape. What shape this one has makes no difference.
     pub fn shaped(&self, shape: Shape) -> Layout
         ensures quorums { quorums_of result ≡ quorums_of self.now }
         ensures pairs { pair_count result ≡ pair_count self.now }

@@ -6,7 +6,7 @@
 //! may add two ratifiers before them, a *fast path*, and a last object after them.
 //! A consumer goes through them in their order, to the first with its own number, to each next one with the value
 //! that the one before gave out. The first object that decides ends the claim: it is *won* where the value is the
-//! consumer's own number, and else *lost* to that number. After the last one of the row it is *undecided*, if that has not decided.
+//! consumer's own number, and else *lost* to that number. If no object of the row has decided, it is *undecided*.
 //!
 //! A ratifier that decides a value for one consumer gives that value to all who use it. So those who go on do so with
 //! one value, no later object gives out another, and all who win or lose name one winner. Each value is the input of

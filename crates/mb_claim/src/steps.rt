@@ -8,10 +8,11 @@
 ghost use Rattle.std.specs.Prelude.{ℕ, ◌≡◌, ◌≢◌, ◌+◌, ◌*◌, ◌<◌, ◌≤◌, List, [], ◌∷◌, length, slice_index, slice_set};
 ghost use Rattle.mb_deciding.specs.declared.access.Op.TheVariants as to;
 ghost use Rattle.mb_deciding.specs.Vocabulary.{IsInWords, IsSameOp, IsOpAt, CanFind, reg_of, seen_by};
-ghost use Rattle.mb_claim.specs.{Op, Reg, Value, Proposal, Quorum, Kind, Pc, Claims, IsSound, ClaimAccess, ObjectTurn};
+ghost use Rattle.mb_claim.specs.{Op, Reg, Value, Proposal, Quorum, Last, Shape, Kind, Pc, Claims, IsSound, ClaimAccess, ObjectTurn};
 ghost use Rattle.mb_claim.specs.{Stage, Going, IsClaimLawful, MayFollow, Adds, IsClaimPrefix, part, part_on};
 ghost use Rattle.mb_claim.specs.{object_history, StandsAt, HasPlace, access_after, words_in, address_in, IsWordIn};
-ghost use Rattle.mb_claim.specs.{address_of, words_of, IsWordOf, pairs_of, IsMemoryOf, found_in, access_in};
+ghost use Rattle.mb_claim.specs.{address_of, words_of, IsWordOf, pairs_of, fast_row, row_of, shaped_words};
+ghost use Rattle.mb_claim.specs.{IsMemoryOf, found_in, access_in};
 ghost use Rattle.mb_claim.specs.{words_after, Layout, Claim, ClaimOp, claims_in, consumer_of, claim_stage, FitsLayout};
 ghost use Rattle.mb_claim.specs.{HasWord, IsClaimIn, IsNextOp, CanClaimFind, claim_access, step_of};
 
@@ -182,8 +183,9 @@ pub fn claims_make_steps()
     words_follow_steps();
 }
 
-/// Different words have different addresses, the words of so many cells lie below their count, and in a layout
-/// of pairs the words lie cell by cell, pair by pair: the conciliator's word, the proposal, the quorum registers.
+/// Different words have different addresses, and the words of so many cells lie below their count. In a row of pairs the
+/// words lie cell by cell, pair by pair: the conciliator's word, the proposal, the quorum registers. In a row of any
+/// shape the words of the fast path come first, and the last word comes after those of the pairs.
 pub fn addresses_are_apart()
     ensures apart { (r : ℕ) (kinds : List Kind) (j k o p : ℕ) (reg other : Reg)
         → IsWordOf r kinds o reg → IsWordOf r kinds p other
@@ -200,4 +202,32 @@ pub fn addresses_are_apart()
         → address_of r (pairs_of s n) k (2 * i + 1) (Quorum q) ≡ k * (n * (2 + r)) + i * (2 + r) +
         (2 + q) }
     ensures words { (r s n : ℕ) → words_of r (pairs_of s n) ≡ n * (2 + r) }
+
+    // With a fast path the objects 0 and 1 are its ratifiers.
+    ensures fast_proposal { (r s n k i : ℕ) (shape : Shape) → i < length (fast_row shape.fast)
+        → address_of r (row_of shape s n) k i Proposal ≡ k * shaped_words r shape n + i * (1 + r) }
+    ensures fast_register { (r s n k i q : ℕ) (shape : Shape) → i < length (fast_row shape.fast)
+        → address_of r (row_of shape s n) k i (Quorum q)
+        ≡ k * shaped_words r shape n + i * (1 + r) + (1 + q) }
+
+    // After them come the pairs.
+    ensures shaped_conciliator { (r s n k i : ℕ) (shape : Shape) → i < n
+        → let f = length (fast_row shape.fast) in
+        address_of r (row_of shape s n) k (f + 2 * i) Value
+        ≡ k * shaped_words r shape n + f * (1 + r) + i * (2 + r) }
+    ensures shaped_proposal { (r s n k i : ℕ) (shape : Shape) → i < n
+        → let f = length (fast_row shape.fast) in
+        address_of r (row_of shape s n) k (f + 2 * i + 1) Proposal
+        ≡ k * shaped_words r shape n + f * (1 + r) + i * (2 + r) + 1 }
+    ensures shaped_register { (r s n k i q : ℕ) (shape : Shape) → i < n
+        → let f = length (fast_row shape.fast) in
+        address_of r (row_of shape s n) k (f + 2 * i + 1) (Quorum q)
+        ≡ k * shaped_words r shape n + f * (1 + r) + i * (2 + r) + (2 + q) }
+
+    // And after the pairs the last object.
+    ensures last { (r s n k : ℕ) (shape : Shape) → let f = length (fast_row shape.fast) in
+        address_of r (row_of shape s n) k (f + 2 * n) Last
+        ≡ k * shaped_words r shape n + f * (1 + r) + n * (2 + r) }
+    ensures shaped { (r s n : ℕ) (shape : Shape)
+        → words_of r (row_of shape s n) ≡ shaped_words r shape n }
 {}

@@ -1,15 +1,14 @@
 -- What holds of every lawful history of one last object.
-use Rattle.std.proofs.Common.{◌≡◌, ◌≢◌, ℕ, zero, suc, ◌+◌, ◌-◌, ◌<◌, ◌≤◌, ◌==◌, ◌⊎◌, cond, Bool, true, false, Option, Some}
-use Rattle.std.proofs.Common.{None, List, [], ◌∷◌, ◌++◌, length, inl, inr, sym, refl, ap, ap₂, ◌∙◌, subst, length-append}
+use Rattle.std.proofs.Common.{◌≡◌, ◌≢◌, ℕ, zero, suc, ◌+◌, ◌-◌, ◌<◌, ◌≤◌, ◌==◌, cond, Bool, true, false, Option, Some}
+use Rattle.std.proofs.Common.{None, List, [], ◌∷◌, ◌++◌, length, inl, inr, sym, refl, ap, ap₂, ◌∙◌, subst}
 use Rattle.std.proofs.Common.{arith}
 use Rattle.std.specs.Option.{option_map_or}
 use Rattle.std.proofs.lemmas.Bool.{cases_eq, eq-eqb, ne_eqb}
 use Rattle.mb_quorum.specs.Quorum.{QuorumTable}
-use Rattle.mb_deciding.specs.{Reg, Value, Proposal, Quorum, Last, Act, Exchange, Op, Turn, Access, Out, LastObject, InLast}
+use Rattle.mb_deciding.specs.{Reg, Value, Proposal, Quorum, Last, Exchange, Op, Turn, Access, Out, LastObject, InLast}
 use Rattle.mb_deciding.specs.{LastPlace, last_of, value_after, value_in, ReadsLast, IsSameOp, part, IsLastPath, answer, IsPath}
-use Rattle.mb_deciding.specs.{IsPrefix, IsOpen, IsObjectLawful, HasOutput, CanHold, IsValid, IsCoherent, IsAt, IsLastOp}
+use Rattle.mb_deciding.specs.{IsPrefix, IsOpen, IsObjectLawful, CanHold, IsValid, IsCoherent, IsAt, IsLastOp}
 use Rattle.mb_deciding.specs.{CanFind, act_of, seen_by, most_turns}
-use Rattle.mb_deciding.specs.declared.access.Op.TheVariants as to
 use Rattle.mb_deciding.proofs.Histories.{not_empty, lawful_older, own_turns, own_some, some_kept, since_newest}
 
 -- ---- paths
@@ -29,7 +28,7 @@ last_act v x u (inl h) = (0, h.1)
 last_act v x u (inr h) = (u + 1, h)
 
 -- the two values of one turn are one
-same_value : (v : ℕ) (x : Turn) (u w : ℕ) → IsLastPath v (x ∷ []) u → IsLastPath v (x ∷ []) w → u ≡ w
+pub same_value : (v : ℕ) (x : Turn) (u w : ℕ) → IsLastPath v (x ∷ []) u → IsLastPath v (x ∷ []) w → u ≡ w
 same_value v x u w (inl h) (inl k) = h.0 ∙ sym k.0
 same_value v x u w (inl h) (inr k) =
     let e : Exchange Last (v + 1) 0 ≡ Exchange Last (v + 1) (w + 1) = sym h.1 ∙ k in

@@ -22,6 +22,7 @@ pub mod Stepping
 pub mod Refused
 pub mod RunsTables
 pub mod SmallHistories
+pub mod SmallLasts
 pub mod SmallTraces
 pub mod SameOp
 pub mod RatifierNext

@@ -1,5 +1,5 @@
 -- No more accesses are left at a place than its object allows.
-use Rattle.std.proofs.Common.{◌≡◌, ℕ, zero, suc, ◌+◌, ◌-◌, ◌<◌, ◌≤◌, ◌==◌, count_ones, cond, Bool, true, false, List}
+use Rattle.std.proofs.Common.{◌≡◌, ℕ, zero, suc, ◌<◌, ◌≤◌, ◌==◌, count_ones, cond, Bool, true, false, List}
 use Rattle.std.proofs.Common.{◌∷◌, length, sym, refl, ap, ◌∙◌, arith}
 use Rattle.std.specs.Int.{bit_at}
 use Rattle.std.proofs.Math.Nat.{mod-eq_of_lt}
@@ -8,7 +8,7 @@ use Rattle.mb_quorum.specs.Quorum.{QuorumTable, IsMember}
 use Rattle.mb_quorum.specs.WidthLaw.{self_below}
 use Rattle.mb_deciding.specs.{Quorum, Act, Load, Turn, Kind, Conciliator, Ratifier, LastObject, Pc, InRatifier, InConciliator}
 use Rattle.mb_deciding.specs.{InLast, Begin, Announce, Propose, Check, Draw, Put, Look, acts_below, IsRest, IsAt}
-use Rattle.mb_deciding.specs.{largest_quorum, most_turns, turns_left}
+use Rattle.mb_deciding.specs.{most_turns, turns_left}
 use Rattle.mb_deciding.proofs.Sizes.{each_exact, each_size, largest_bound}
 use Rattle.mb_deciding.proofs.TurnsLeft.{attempts_left}
 

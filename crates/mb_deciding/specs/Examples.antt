@@ -1,9 +1,10 @@
--- Small histories of process 0 alone, with the input 0: some are lawful, and some are not. And its traces.
-use Rattle.std.specs.Prelude.{ℕ, zero, suc, true, false, List, [], ◌∷◌, map, Option, Some, None}
+-- Small histories of process 0 alone, with the input 0: some are lawful, and some are not. And its traces. And histories of
+-- a last object to which several processes come.
+use Rattle.std.specs.Prelude.{ℕ, zero, suc, ◌+◌, true, false, List, [], ◌∷◌, map, Option, Some, None}
 use Rattle.mb_quorum.specs.Unary.{unary_table}
-use Rattle.mb_deciding.specs.Types.{Value, Proposal, Quorum, Act, Load, Store, Turn, Access, Out, Kind, Entry}
+use Rattle.mb_deciding.specs.Types.{Value, Proposal, Quorum, Last, Act, Load, Store, Exchange, Turn, Access, Out, Kind, Entry}
 use Rattle.mb_deciding.specs.declared.trace.Entry.TheVariants as entry
-use Rattle.mb_deciding.specs.OneObject.{Object, ratifier_of, conciliator_of, setup_of}
+use Rattle.mb_deciding.specs.OneObject.{Object, ratifier_of, conciliator_of, last_of, setup_of}
 use Rattle.mb_deciding.specs.Objects.{answer}
 use Rattle.mb_deciding.specs.Trace.{IsTrace}
 
@@ -53,6 +54,35 @@ patient_run =
 -- it stores on attempt 0
 abbrev pub impatient_run : List Turn
 impatient_run = turn 3 (Store Value 1) ∷ turn 3 (Load Value 0) ∷ []
+
+-- ---- a last object
+-- each process has its own number as its input
+abbrev pub own_inputs : ℕ → ℕ
+own_inputs process = process
+
+-- a last object for three values
+abbrev pub small_last : Object
+small_last = last_of (unary_table 3) own_inputs
+
+-- the process exchanges the word for its input, and finds this
+abbrev pub exchange_by : ℕ → ℕ → Access
+exchange_by process found = record { process = process; turn = turn 0 (Exchange Last (process + 1) found) }
+
+-- process 0 comes first, and the others find its value
+abbrev pub first_decides : List Access
+first_decides = exchange_by 2 1 ∷ exchange_by 1 1 ∷ exchange_by 0 0 ∷ []
+
+-- process 1 finds the word empty after process 0 has put its value there
+abbrev pub found_empty_twice : List Access
+found_empty_twice = exchange_by 1 0 ∷ exchange_by 0 0 ∷ []
+
+-- process 2 finds the value of process 1, which found the word filled
+abbrev pub stored_over : List Access
+stored_over = exchange_by 2 2 ∷ exchange_by 1 1 ∷ exchange_by 0 0 ∷ []
+
+-- the word is loaded, and then stored by an access of its own
+abbrev pub loaded_then_stored : List Turn
+loaded_then_stored = turn 0 (Store Last 1) ∷ turn 0 (Load Last 0) ∷ []
 
 -- ---- traces
 -- so many turns of process 0, each with this random word

@@ -13,7 +13,8 @@ use Rattle.mb_deciding.specs.LastPaths.{IsLastPath}
 abbrev pub answer : Bool → ℕ → Out
 answer d u = record { decided = d; value = u }
 
--- the whole path of one process through an object, and its output; a conciliator never decides, and a last object always does
+-- the whole path of one process through an object, and its output; a conciliator never decides, and a last object always
+-- does
 abbrev pub IsPath : QuorumTable → Kind → ℕ → List Turn → Out → Type 0
 IsPath t (Conciliator s) input turns output =
     (output.decided ≡ false) × IsConciliatorPath s input turns output.value

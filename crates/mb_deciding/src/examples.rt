@@ -1,8 +1,11 @@
-//! Small histories and traces of one process: what the definitions let in, and what they keep out. The functions compute
-//! nothing. The proofs begin in `proofs/examples`; the lemmas are in `proofs/SmallHistories.antt` and `SmallTraces.antt`.
-ghost use Rattle.std.specs.Prelude.{ℕ, ◌≡◌, true, false, Some, None, [], ◌∷◌, ◌++◌};
+//! Small histories and traces of one process, and histories of a last object: what the definitions let in, and what they
+//! keep out. The functions compute nothing. The proofs begin in `proofs/examples`; the lemmas are in
+//! `proofs/SmallHistories.antt`, `SmallLasts.antt` and `SmallTraces.antt`.
+ghost use Rattle.std.specs.Prelude.{ℕ, ◌≡◌, Bool, true, false, Some, None, [], ◌∷◌, ◌++◌};
 ghost use Rattle.mb_quorum.specs.Unary.{unary_table};
-ghost use Rattle.mb_deciding.specs.{Words, Conciliator, Ratifier, Proposal, Quorum, Load, Store, setup_of};
+ghost use Rattle.mb_deciding.specs.{Words, Conciliator, Ratifier, LastObject, Proposal, Quorum, Last, Load, Store};
+ghost use Rattle.mb_deciding.specs.{Exchange, setup_of, value_in, IsPath, small_last, first_decides, turn};
+ghost use Rattle.mb_deciding.specs.{found_empty_twice, stored_over, loaded_then_stored};
 ghost use Rattle.mb_deciding.specs.{IsObjectLawful, HasOutput, IsPrefix, IsTrace, IsMemory, word_of, answer};
 ghost use Rattle.mb_deciding.specs.{small_ratifier, small_conciliator, history_of_one, clear_run, hasty_run};
 ghost use Rattle.mb_deciding.specs.{invented_run, patient_run, impatient_run, IsTraceOfOne, entry_of_one};
@@ -26,6 +29,37 @@ pub fn small_histories()
     // It stores on attempt 0, where the random word 3 does not.
     ensures impatient { IsObjectLawful small_conciliator (history_of_one impatient_run) → ⊥ }
     ensures impatient_part { IsPrefix (unary_table 2) (Conciliator 2) 0 impatient_run → ⊥ }
+{}
+
+/// Small histories of a last object, where each process has its own number as its input.
+pub fn small_last_objects()
+    // Process 0 puts its value into the empty word. The others find that, and leave it there.
+    ensures lawful { IsObjectLawful small_last first_decides }
+    ensures first { HasOutput small_last 0 true 0 first_decides }
+    ensures second { HasOutput small_last 1 true 0 first_decides }
+    ensures third { HasOutput small_last 2 true 0 first_decides }
+    ensures left { value_in Last first_decides ≡ 1 }
+
+    // An exchange that found 0 and did not store.
+    ensures empty { IsObjectLawful small_last found_empty_twice → ⊥ }
+
+    // An exchange that found a value and stored over it.
+    ensures over { IsObjectLawful small_last stored_over → ⊥ }
+
+    // A load and then a store, in place of the exchange.
+    ensures torn { IsPrefix (unary_table 3) LastObject 0 loaded_then_stored → ⊥ }
+
+    // An exchange for another value than the input, and a second one.
+    ensures another { IsPrefix (unary_table 3) LastObject 0 (turn 0 (Exchange Last 2 0) ∷ [])
+        → ⊥ }
+    ensures twice { IsPrefix (unary_table 3) LastObject 0
+        (turn 0 (Exchange Last 1 1) ∷ turn 0 (Exchange Last 1 0) ∷ []) → ⊥ }
+
+    // Who found 0 has its own input, who found a value has that, and nobody is undecided.
+    ensures own { (d : Bool) (u : ℕ) → IsPath (unary_table 3) LastObject 1
+        (turn 0 (Exchange Last 2 0) ∷ []) (answer d u) → (d ≡ true) × (u ≡ 1) }
+    ensures met { (d : Bool) (u : ℕ) → IsPath (unary_table 3) LastObject 1
+        (turn 0 (Exchange Last 2 1) ∷ []) (answer d u) → (d ≡ true) × (u ≡ 0) }
 {}
 
 /// Small traces of one process with the input 0.

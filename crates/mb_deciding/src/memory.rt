@@ -9,8 +9,8 @@ pub trait Memory {
     /// This access to the object with this number may be made.
     ghost can_make: { Self → ℕ → Op → Type 0 };
 
-    /// It was made and found this value, which is left open where it stores. At last the memory with it. A memory has to
-    /// name here what a load found: all that a step promises of the place after it rests on that.
+    /// It was made and found this value, which is left open if it only stores. At last the memory with it. A memory has to
+    /// name here what a load or an exchange found: all that a step promises of the place after it rests on that.
     ghost makes: { Self → ℕ → Op → ℕ → Self → Type 0 };
 
     /// Makes the access. The answer is the value that a load or an exchange finds, and any value after a store.

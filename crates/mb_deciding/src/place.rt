@@ -85,9 +85,8 @@ impl Pc {
     }
 
     /// What the access leads to. `seen` is the value that a load or an exchange found, and counts for nothing after a
-    /// store; the random
-    /// `word` counts after a load of a conciliator's word alone. After a value that the word cannot hold the
-    /// result is still a place of the table or one of its values.
+    /// store. The random `word` counts after a load of a conciliator's word alone. After a value that the word cannot hold
+    /// the result is still a place of the table or one of its values.
     #[inline(always)]
     pub fn after<Q: Quorums>(self, q: &Q, seen: u64, word: u64) -> Next
         requires { IsPlace (Q.table q.now) self }

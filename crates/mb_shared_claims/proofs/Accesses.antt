@@ -1,4 +1,4 @@
--- A load or a store of a claim's access, in the words of a table and from a seat.
+-- A load, a store or an exchange of a claim's access, in the words of a table and from a seat.
 use Rattle.std.proofs.Common.{◌≡◌, ◌+◌, ◌*◌, ◌<◌, ◌==◌, ℕ, Bool, true, false, cond, None, Some, [], ◌∷◌, refl, sym, ap, ◌∙◌, subst, arith}
 use Rattle.std.specs.Prelude.{IfSome}
 use Rattle.std.specs.Option.{option_map_or}

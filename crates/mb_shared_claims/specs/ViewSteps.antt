@@ -38,7 +38,7 @@ abbrev pub ComesAfterView : ClaimAccess → View → Type 0
 ComesAfterView a (Standing size own done) = ComesAfter (claims_of_size size) a done
 ComesAfterView a v = Unit {0}
 
--- what a load or a store tells
+-- what an access of a claim tells: a load, a store or an exchange
 abbrev pub makes : ClaimAccess → Seated → Seated → Type 0
 makes a me now = (now ≡ (with_one_more a me.0, me.1)) × ComesAfterView a me.0
 

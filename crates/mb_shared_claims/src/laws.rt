@@ -46,7 +46,7 @@ pub fn steps_keep_states()
     ensures new { (k : TableSize)
         → IsClaimsState k (replicate (roster k + 1) 0) (Handing k [] ∷ []) }
 
-    // An access, whichever load or store it is: by one law, with no case for another seat.
+    // An access, whichever load, store or exchange it is: by one law, with no case for another seat.
     ensures access { (k size : TableSize) (words : List ℕ) (views : List View)
         (id own cell word : ℕ) (done : List ClaimAccess)
         (next : ClaimOp) → let cs = claims_of_size k in

@@ -7,8 +7,8 @@
 //! accesses with. A seat carries what its consumer has done, its *part*, as plain data that proofs alone see; it takes no
 //! room and no time. In the end the hub takes the seats in again, each with its part.
 //!
-//! Each step is one atomic load or store of one word, and keeps the table's rule: some lawful history of claims leaves all
-//! words as they are, and the parts of the seats are the parts of that history. So whatever the threads do and in whatever
+//! Each step is one atomic load, store or compare-exchange of one word, and keeps the table's rule: some lawful history of
+//! claims leaves all words as they are, and the parts of the seats are the parts of that history. So whatever the threads do and in whatever
 //! order, what the laws of [`mb_claim`] say of every lawful history holds of what they did: of all who claim a cell at
 //! most one wins it.
 //!

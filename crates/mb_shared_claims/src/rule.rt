@@ -35,7 +35,7 @@ impl Made for Brand {
     } };
 }
 
-/// A load or a store of a claim: one access more in the part of the seat that makes it.
+/// A load, a store or an exchange of a claim: one access more in the part of the seat that makes it.
 pub struct Makes<W> {
     of: PhantomData<W>,
 }

@@ -1,10 +1,8 @@
 -- The notes of a report of lawful histories whose consumers' parts fit are right.
-use Rattle.std.proofs.Common.{◌≡◌, ◌≢◌, ◌⊎◌, ℕ, ◌+◌, ◌*◌, ◌<◌, ◌≤◌, Bool, true, false, not, cond, List, [], length, Option, Some, None, refl, ap, subst, inl, inr, arith}
-use Rattle.std.specs.Prelude.{slice_get, IsSome, nat_lt}
-use Rattle.std.specs.Option.{option_map_or}
-use Rattle.std.proofs.lemmas.Bool.{cases_lt, lt-ltb, le-ltb}
-use Rattle.std.proofs.lemmas.Option.{slice_get_past, slice_get-get_or}
-use Rattle.std.proofs.Math.Nat.{mul-le-mul_right}
+use Rattle.std.proofs.Common.{◌≡◌, ◌≢◌, ◌⊎◌, ℕ, ◌<◌, ◌≤◌, true, false, not, length, Some, refl, subst, inl, inr, arith}
+use Rattle.std.specs.Prelude.{slice_get, IsSome}
+use Rattle.std.proofs.lemmas.Bool.{cases_lt}
+use Rattle.std.proofs.lemmas.Option.{slice_get-get_or}
 use Rattle.mb_claim.specs.declared.access.Stage.TheVariants as stage
 use Rattle.mb_claim.specs.Claiming.{HasStage}
 use Rattle.mb_claim.specs.Winner.{Names}
@@ -12,11 +10,11 @@ use Rattle.mb_world.specs.declared.report.Note.{Note}
 use Rattle.mb_world.specs.declared.report.Note.TheVariants.{Took, Lost, Undecided}
 use Rattle.mb_world.specs.Below.{Stage, linked_cells}
 use Rattle.mb_world.specs.Plan.{Histories, Plan, consumers_of}
-use Rattle.mb_world.specs.Report.{DiaryView, ReportView, diary, is_begun, items_left, items_put, note, notes}
+use Rattle.mb_world.specs.Report.{DiaryView, ReportView, is_begun, items_left, items_put, note, notes}
 use Rattle.mb_world.specs.Assignment.{items_where}
 use Rattle.mb_world.specs.Agreement.{HasCompeted}
 use Rattle.mb_world.specs.Fitting.{EndsAs, parts_of}
-use Rattle.mb_world.specs.Reporting.{IsDiaryOf, IsReportOf, is_taken, lane_view, values_put}
+use Rattle.mb_world.specs.Reporting.{IsDiaryOf, IsReportOf, is_taken}
 use Rattle.mb_world.specs.Headline.{HasMetEnd}
 use Rattle.mb_world.proofs.Assigned.{AreNotesRight, winner_named}
 use Rattle.mb_world.proofs.Diaries.{begun_within, competes_at, met_at, note_at, placed, value_of, within}

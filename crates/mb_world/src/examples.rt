@@ -4,7 +4,7 @@ ghost use Rattle.std.specs.Prelude.{◌≡◌, [], ◌∷◌, Some, None};
 ghost use Rattle.mb_world.specs.declared.report.Note.TheVariants.{Took, Lost};
 ghost use Rattle.mb_world.specs.Report.{notes};
 ghost use Rattle.mb_world.specs.Assignment.{Assignment};
-ghost use Rattle.mb_world.specs.Agreement.{AgreesWith, IsSettled};
+ghost use Rattle.mb_world.specs.Agreement.{AgreesWith, AreAllTaken, IsLeftBesideBegun, IsSettled};
 ghost use Rattle.mb_world.specs.ReportExamples.{first_to, to_nobody, taken_and_lost, won_not_loaded, both_undecided};
 ghost use Rattle.mb_world.specs.ReportExamples.{nobody_came, taken_on_both, turned_places, lost_to_a_third};
 ghost use Rattle.mb_world.specs.ReportExamples.{left_out_of_order, left_omitted, left_and_taken};
@@ -107,6 +107,18 @@ pub fn reports_disagree()
 /// A report that is not settled: its item was competed for, nobody took it, and all claims on it are finished.
 pub fn reports_stay_unsettled()
     ensures { IsSettled lost_to_each_other → ⊥ }
+{}
+
+/// What last objects promise of reports: which small reports keep it.
+pub fn reports_have_begun_claims()
+    ensures taken { IsLeftBesideBegun taken_and_lost }
+    ensures not_loaded { IsLeftBesideBegun won_not_loaded }
+    ensures all { AreAllTaken taken_and_lost }
+    ensures waiting { AreAllTaken won_not_loaded }
+
+    // An item left beside undecided claims alone.
+    ensures undecided { IsLeftBesideBegun both_undecided → ⊥ }
+    ensures not_all { AreAllTaken both_undecided → ⊥ }
 {}
 
 /// The path of a consumer on its lane, from a link that leads nowhere yet to an item taken.

@@ -4,6 +4,7 @@ ghost use Rattle.std.specs.Prelude.{◌<◌, ◌^◌};
 use crate::rule::{Made, Makes};
 use crate::seat::ClaimSeat;
 use crate::table::SharedClaims;
+use mb_claim::laws::last_objects_decide_claims;
 use mb_claim::steps::{accesses_lengthen_one_part, addresses_are_apart, claims_make_steps};
 use mb_claim::{Claim, ClaimOp, Stage};
 use mb_deciding::{Memory, Op};
@@ -11,10 +12,11 @@ use std::alloc::Allocator;
 use std::marker::Brand;
 
 impl<A: Allocator + Drop> SharedClaims<A> {
-    ghost use Rattle.std.specs.Prelude.{◌≡◌, ◌<◌, ℕ, true};
+    ghost use Rattle.std.specs.Prelude.{◌≡◌, ◌≢◌, ◌<◌, ℕ, true};
     ghost use Rattle.mb_deciding.specs.Vocabulary.{reg_of};
     ghost use Rattle.mb_claim.specs.Vocabulary.{HasWord, IsClaimIn, claim_stage, claims_in, consumer_of, is_begun};
-    ghost use Rattle.mb_claim.specs.Vocabulary.{part_on, steps_left};
+    ghost use Rattle.mb_claim.specs.Vocabulary.{part_on, shape_of, steps_left};
+    ghost use Rattle.mb_claim.specs.declared.access.Stage.TheVariants.{Undecided};
     ghost use Rattle.mb_shared_claims.specs.{Going, name_of, IsSeatStep, MayComeNext, ComesAfter, access_of, with_access};
 
     /// Makes the next access of a claim of the seat's consumer on a cell, with the random word of this step, and tells how
@@ -38,11 +40,15 @@ impl<A: Allocator + Drop> SharedClaims<A> {
         ensures consumer { consumer_of claim.new ≡ consumer_of claim.old }
         ensures begun { is_begun claim.new ≡ true }
         ensures stage { result ≡ claim_stage claim.new }
+
+        // With a last object no claim is undecided.
+        ensures decided { (shape_of self.now.layout).last ≡ true → result ≢ Undecided }
         ensures fewer { steps_left self.now.layout claim.new
             < steps_left self.now.layout claim.old }
     {
         claims_make_steps();
         accesses_lengthen_one_part();
+        last_objects_decide_claims();
         let mut memory = SeatWords {
             table: self,
             seat: &mut *seat,
@@ -52,7 +58,8 @@ impl<A: Allocator + Drop> SharedClaims<A> {
         claim.step(&self.size.layout, &mut memory, word)
     }
 
-    /// Makes an access of a claim that may come next, and answers the value that a load found, or any value after a store.
+    /// Makes an access of a claim that may come next, and returns the value that a load or an exchange found, or any value
+    /// after a store.
     #[inline(always)]
     fn make<W: Made>(&self, seat: &mut ClaimSeat, cell: u32, next: ClaimOp, word: u64) -> u64
         requires table { seat.old.table ≡ name_of self.now }

@@ -1,6 +1,6 @@
 //! The report of a world, read off its words, its seats and its notes.
 use super::World;
-use crate::laws::worlds_are_sound;
+use crate::laws::{last_objects_settle_items, shaped_setups_have_last_objects, worlds_are_sound};
 use crate::report::{Diary, LaneReport, Note, Report};
 use crate::seat::Seat;
 use mb_cells::laws::{cells_stand_once, pools_show_lanes, readers_follow_lanes};
@@ -17,11 +17,12 @@ struct LaneCells<A: Allocator + Drop> {
 }
 
 impl<A: Allocator + Clone + Drop> World<A> {
-    ghost use Rattle.std.specs.Prelude.{ℕ, ◌≡◌, ◌<◌, ◌*◌, IfOk, All};
+    ghost use Rattle.std.specs.Prelude.{ℕ, ◌≡◌, ◌<◌, ◌*◌, true, IfOk, All};
+    ghost use Rattle.mb_world.specs.Agreement.{AreAllTaken, IsLeftBesideBegun};
     ghost use Rattle.mb_world.specs.WorldState.{IsWorldAfter};
     ghost use Rattle.mb_world.specs.World.{WorldHistory, histories_of};
     ghost use Rattle.mb_world.specs.Plan.{consumers_of};
-    ghost use Rattle.mb_world.specs.Setups.{plan_in};
+    ghost use Rattle.mb_world.specs.Setups.{plan_in, shape_in};
     ghost use Rattle.mb_world.specs.Reporting.{IsReportOf};
     ghost use Rattle.mb_world.specs.Headline.{IsHonest};
     ghost use Rattle.mb_world.specs.StateReport.{AreDiariesTold, AreLanesTold, IsDiaryTold, IsLaneTold};
@@ -36,6 +37,11 @@ impl<A: Allocator + Clone + Drop> World<A> {
         // One assignment stands behind it, and nothing follows an end mark.
         ensures honest { IfOk result (λ r. (h : WorldHistory) → IsWorldAfter h self.now
             → IsHonest (plan_in self.now.setup) (histories_of h) r) }
+
+        // If each cell has a last object, an item that was competed for is left only beside a claim that is begun, and on
+        // a lane on which none is begun each such item is taken.
+        ensures settled { IfOk result (λ r. (shape_in self.now.setup).last ≡ true
+            → (h : WorldHistory) → IsWorldAfter h self.now → IsLeftBesideBegun r × AreAllTaken r) }
     {
         layouts_are_sound();
         objects_keep_their_promises();
@@ -43,6 +49,8 @@ impl<A: Allocator + Clone + Drop> World<A> {
         cells_stand_once();
         worlds_are_sound();
         readers_follow_lanes();
+        last_objects_settle_items();
+        shaped_setups_have_last_objects();
         Ok(Report {
             lanes: self.lanes(alloc.clone()?)?,
             diaries: self.diaries(alloc)?,

@@ -1,4 +1,4 @@
-use Rattle.std.proofs.Common.{◌≤◌, length, subst}
+use Rattle.std.proofs.Common.{◌≤◌, length, subst, arith}
 use Rattle.mb_deciding.specs.Vocabulary.{object_of}
 use Rattle.mb_claim.specs.{part_on}
 use Rattle.mb_claim.proofs.Bounds.{claim_bounded, pairs_steps, row_steps}
@@ -20,3 +20,12 @@ returns-clause-rows c t shape n cells h d k quorum lawful =
     subst (λ most. length (part_on d k h) ≤ most) (row_steps t shape n)
     (claim_bounded _ (λ kind inputs. c.objects_keep_their_promises.ensures
     (object_of t kind inputs) quorum) h d k lawful)
+
+pub returns-clause-plain : goal.returns-clause-plain
+returns-clause-plain c t n = omega arith
+
+pub returns-clause-fast : goal.returns-clause-fast
+returns-clause-fast c t n last = omega arith
+
+pub returns-clause-last : goal.returns-clause-last
+returns-clause-last c t n fast = omega arith

@@ -1,9 +1,11 @@
-use Rattle.std.proofs.Common.{◌≡◌, ◌≤◌, true, ◌∷◌, ◌++◌, ℕ, List, Some, sym, ap, ◌∙◌, subst, slice_get}
-use Rattle.mb_deciding.specs.Vocabulary.{spread}
+use Rattle.std.proofs.Common.{◌≡◌, ◌≤◌, true, false, ◌∷◌, ◌++◌, ℕ, List, Some, sym, ap, ◌∙◌, subst, slice_get}
+use Rattle.mb_deciding.specs.Vocabulary.{answer, IsPath, spread}
 use Rattle.mb_claim.specs.{Kind, Conciliator, Ratifier, Layout, pairs_of, last_row, quorums_of, kinds_of, claims_of}
 use Rattle.mb_claim.specs.{IsClaimLawful, IsClaimPrefix, part_on}
 use Rattle.mb_claim.proofs.LayoutObjects.{quorums_lawful}
 use Rattle.mb_claim.proofs.LastObjects.{begins_fast, conciliator_behind}
+use Rattle.mb_claim.proofs.ObjectHistories.{turns_at, part-object_history}
+use Rattle.mb_claim.proofs.PassedRatifiers.{left_by_both}
 use Rattle.mb_claim.proofs.laws.fast_layouts_avoid_conciliators.Goals as goal
 
 -- the objects behind the fast path
@@ -29,3 +31,19 @@ returns-clause-alone c layout cells k d s later h fast lawful alone prefix ended
     c.fast_paths_take_two_ratifiers.ensures.alone t (behind layout) cells k d s later h (quorums_lawful layout)
     (subst (λ ks. IsClaimLawful (claims_of t ks cells) (later ++ h)) (row layout fast) lawful) alone
     (subst (λ ks. IsClaimPrefix (claims_of t ks cells) d (part_on d k h) s) (row layout fast) prefix) ended e o (past layout o i fast is)
+
+pub returns-clause-undecided : goal.returns-clause-undecided
+returns-clause-undecided c layout cells k d o s h fast lawful is some =
+    let t = quorums_of layout in
+    let xs = part_on d k h in
+    let here = part-object_history d k in
+    let mine = lawful.parts d k (λ none. some (here o h ∙ ap (turns_at o) none)) in
+    let left =
+    left_by_both t d (behind layout) d o xs mine.2.0 (past layout o s fast is)
+    (subst (λ ks. IsClaimPrefix (claims_of t ks cells) d xs mine.2.0) (row layout fast) mine.2.1)
+    (λ none. some (here o h ∙ none)) in (
+      left.0,
+      left.1,
+      subst (λ ts. IsPath t Ratifier d ts (answer false left.0)) (sym (here 0 h)) left.2,
+      subst (λ ts. IsPath t Ratifier left.0 ts (answer false left.1)) (sym (here 1 h)) left.3,
+    )

@@ -1,6 +1,7 @@
-use Rattle.std.proofs.Common.{◌≡◌, ◌+◌, ◌*◌, ap, arith}
-use Rattle.mb_claim.specs.{Value, Proposal, Quorum, address_of, pairs_of}
+use Rattle.std.proofs.Common.{◌≡◌, ◌+◌, ◌*◌, length, ap, arith}
+use Rattle.mb_claim.specs.{Value, Proposal, Quorum, Last, address_of, pairs_of, fast_row}
 use Rattle.mb_claim.proofs.Addresses.{distinct, within, words_of-pairs_of, pair_address}
+use Rattle.mb_claim.proofs.ShapedAddresses.{words_of-row_of, fast_address, shaped_address, last_address}
 use Rattle.mb_claim.proofs.steps.addresses_are_apart.Goals as goal
 
 pub returns-clause-apart : goal.returns-clause-apart
@@ -22,3 +23,30 @@ returns-clause-register c r s n k i q h = omega (arith, pair_address r s n k i 1
 
 pub returns-clause-words : goal.returns-clause-words
 returns-clause-words c = words_of-pairs_of
+
+pub returns-clause-fast_proposal : goal.returns-clause-fast_proposal
+returns-clause-fast_proposal c r s n k i shape h = omega (arith, fast_address r s n k i shape Proposal h)
+
+pub returns-clause-fast_register : goal.returns-clause-fast_register
+returns-clause-fast_register c r s n k i q shape h = omega (arith, fast_address r s n k i shape (Quorum q) h)
+
+pub returns-clause-shaped_conciliator : goal.returns-clause-shaped_conciliator
+returns-clause-shaped_conciliator c r s n k i shape h =
+    let f = length (fast_row shape.fast) in
+    omega (arith, shaped_address r s n k i 0 (f + 2 * i) shape Value h (omega arith) (omega arith))
+
+pub returns-clause-shaped_proposal : goal.returns-clause-shaped_proposal
+returns-clause-shaped_proposal c r s n k i shape h =
+    let f = length (fast_row shape.fast) in
+    omega (arith, shaped_address r s n k i 1 (f + 2 * i + 1) shape Proposal h (omega arith) (omega arith))
+
+pub returns-clause-shaped_register : goal.returns-clause-shaped_register
+returns-clause-shaped_register c r s n k i q shape h =
+    let f = length (fast_row shape.fast) in
+    omega (arith, shaped_address r s n k i 1 (f + 2 * i + 1) shape (Quorum q) h (omega arith) (omega arith))
+
+pub returns-clause-last : goal.returns-clause-last
+returns-clause-last c r s n k shape = omega (arith, last_address r s n k shape Last)
+
+pub returns-clause-shaped : goal.returns-clause-shaped
+returns-clause-shaped c = words_of-row_of

@@ -1,4 +1,4 @@
-use Rattle.std.proofs.Common.{◌≡◌, ℕ, Bool, true, List, sym, ap, ◌∙◌, [], ◌∷◌, ◌++◌, append_assoc}
+use Rattle.std.proofs.Common.{◌≡◌, ℕ, true, List, sym, ap, ◌∙◌, [], ◌∷◌, ◌++◌, append_assoc}
 use Rattle.mb_deciding.specs.Spread.{spread}
 use Rattle.mb_deciding.specs.declared.object.Kind.{Kind}
 use Rattle.mb_deciding.specs.declared.object.Kind.TheVariants.{LastObject}

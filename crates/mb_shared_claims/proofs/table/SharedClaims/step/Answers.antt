@@ -1,4 +1,4 @@
-use Rattle.std.proofs.Common.{rules, ◌≡◌, List, ◌∷◌, ap, ◌∙◌, subst}
+use Rattle.std.proofs.Common.{rules, ◌≡◌, List, ◌∷◌, sym, ap, ◌∙◌, subst}
 use Rattle.mb_claim.specs.Vocabulary.{part_on, step_of, IsNextOp, IsClaimIn, CanClaimFind}
 use Rattle.mb_shared_claims.specs.Types.{Layout, ObjectTurn}
 use Rattle.mb_shared_claims.specs.Seats.{TableView}
@@ -41,3 +41,9 @@ returns-clause-standing g c =
     let t = c.args.self.now in
     stands_on c.accesses_lengthen_one_part.ensures.own_cell t.layout c.args.cell c.args.word c.args.claim.now
     c.step.new.self c.args.seat.now c.seat-1.given.0 (returns-clause-step g c) c.requires.standing
+
+pub returns-clause-decided : goal.returns-clause-decided
+returns-clause-decided g c has undecided =
+    c.last_objects_decide_claims.ensures.layouts c.args.self.now.layout c.step.new.self
+    (part_on c.seat-1.given.0.consumer c.args.cell c.seat-1.given.0.part) has (returns-clause-standing g c)
+    (sym c.step.ensures.stage ∙ undecided)

@@ -4,7 +4,8 @@ use Rattle.mb_deciding.specs.Spread.{spread}
 use Rattle.mb_world.specs.Below.{IsPoolLawful}
 use Rattle.mb_world.specs.Plan.{consumers_of, size_of}
 use Rattle.mb_world.specs.Setups.{plan_in}
-use Rattle.mb_world.specs.World.{pool_accesses}
+use Rattle.mb_world.specs.Report.{ReportView}
+use Rattle.mb_world.specs.World.{histories_of, pool_accesses}
 use Rattle.mb_world.proofs.FreshClaims.{fresh_goes, some_row}
 use Rattle.mb_world.proofs.StateReports.{report_is}
 use Rattle.mb_world.proofs.WorldKnown.{WorldKnown}
@@ -39,3 +40,17 @@ returns-clause-honest g c h is =
     c.worlds_are_sound.ensures.honest (plan_in s.setup) h
     (record { lanes = c.in_ok-lanes.field-0.items; diaries = c.in_ok-diaries.field-0.items })
     (c.layouts_are_sound.ensures.table s.setup.layout) is.lawful (returns-clause-exact g c h is)
+
+pub returns-clause-settled : goal.returns-clause-settled
+returns-clause-settled g c last h is =
+    let s = c.args.self.now in
+    let plan = plan_in s.setup in
+    let r : ReportView =
+    record { lanes = c.in_ok-lanes.field-0.items; diaries = c.in_ok-diaries.field-0.items } in
+    let has = c.shaped_setups_have_last_objects.ensures.setups s.setup last in
+    let sound =
+    c.worlds_are_sound.ensures.sound plan h (c.layouts_are_sound.ensures.table s.setup.layout) is.lawful in
+    let told = returns-clause-exact g c h is in (
+      c.last_objects_settle_items.ensures.beside plan (histories_of h) r has sound told,
+      c.last_objects_settle_items.ensures.taken plan (histories_of h) r has sound told,
+    )

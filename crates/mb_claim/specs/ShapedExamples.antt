@@ -1,0 +1,53 @@
+-- Histories of claims on one cell, for two consumers and one pair over the unary table, with a fast path or a last object:
+-- some that are lawful, and some that are not.
+use Rattle.std.specs.Prelude.{Bool, List, [], ◌∷◌}
+use Rattle.mb_quorum.specs.Unary.{unary_table}
+use Rattle.mb_claim.specs.AllClaims.{Claims, claims_of}
+use Rattle.mb_claim.specs.ObjectTypes.{Value, Proposal, Quorum, Last, Load, Store, Exchange}
+use Rattle.mb_claim.specs.Types.{ClaimAccess}
+use Rattle.mb_claim.specs.Rows.{row_of}
+use Rattle.mb_claim.specs.Examples.{access_at, both_undecided}
+
+-- the claims of two consumers on one cell with one pair over the unary table, and what this shape has beside it
+abbrev pub two_with : Bool → Bool → Claims
+two_with fast last = claims_of (unary_table 2) (row_of (record { fast = fast; last = last }) 2 1) 1
+
+-- ---- a fast path
+-- consumer 0 comes alone, and the first ratifier decides
+abbrev pub won_at_once : List ClaimAccess
+won_at_once =
+    access_at 0 0 (Load (Quorum 1) 0) ∷ access_at 0 0 (Store Proposal 1) ∷ access_at 0 0 (Load Proposal 0)
+    ∷ access_at 0 0 (Store (Quorum 0) 1) ∷ []
+
+-- then consumer 1 comes: the first ratifier leaves it undecided with the winner's number, and the second decides that
+abbrev pub lost_at_second : List ClaimAccess
+lost_at_second =
+    access_at 1 1 (Load (Quorum 1) 0) ∷ access_at 1 1 (Store Proposal 1) ∷ access_at 1 1 (Load Proposal 0)
+    ∷ access_at 1 1 (Store (Quorum 0) 1)
+    ∷ access_at 1 0 (Load (Quorum 1) 1) ∷ access_at 1 0 (Load Proposal 1) ∷ access_at 1 0 (Store
+    (Quorum 1) 1) ∷ won_at_once
+
+-- consumer 0 begins with the conciliator
+abbrev pub past_both_ratifiers : List ClaimAccess
+past_both_ratifiers = access_at 0 2 (Load Value 0) ∷ []
+
+-- consumer 1 goes to the conciliator after the first ratifier
+abbrev pub past_one_ratifier : List ClaimAccess
+past_one_ratifier =
+    access_at 1 2 (Load Value 0) ∷ access_at 1 0 (Load (Quorum 1) 1) ∷ access_at 1 0 (Load Proposal 1)
+    ∷ access_at 1 0 (Store (Quorum 1) 1) ∷ won_at_once
+
+-- ---- a last object
+-- the pair has left both undecided; consumer 0 comes first to the last object and wins, and consumer 1 finds its number
+abbrev pub last_decides : List ClaimAccess
+last_decides =
+    access_at 1 2 (Exchange Last 2 1) ∷ access_at 0 2 (Exchange Last 1 0) ∷ both_undecided
+
+-- consumer 1 finds the word empty, too
+abbrev pub last_found_empty_twice : List ClaimAccess
+last_found_empty_twice =
+    access_at 1 2 (Exchange Last 2 0) ∷ access_at 0 2 (Exchange Last 1 0) ∷ both_undecided
+
+-- consumer 0 begins with the last object
+abbrev pub last_comes_first : List ClaimAccess
+last_comes_first = access_at 0 2 (Exchange Last 1 0) ∷ []
