@@ -16,6 +16,8 @@ mod rationed;
 #[cfg(test)]
 mod refused_mailboxes;
 #[cfg(test)]
+mod settling;
+#[cfg(test)]
 mod texts;
 #[cfg(test)]
 mod trial;

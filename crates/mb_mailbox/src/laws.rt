@@ -1,14 +1,21 @@
 //! Laws of what a hub has taken in, and of what is gathered. The functions compute nothing: their contracts are the laws.
-ghost use Rattle.std.specs.Prelude.{ℕ, ◌≡◌, ◌≤◌, List, [], ◌∷◌, Some, None, false, length, slice_get};
-ghost use Rattle.mb_mailbox.specs.Below.{Note, has_ended};
-ghost use Rattle.mb_mailbox.specs.Consumers.{ConsumerView};
+ghost use Rattle.std.specs.Prelude.{ℕ, ◌≡◌, ◌≢◌, ◌≤◌, List, [], ◌∷◌, Some, None, false, true, length, slice_get};
+ghost use Rattle.mb_claim.specs.Vocabulary.{shape_of};
+ghost use Rattle.mb_mailbox.specs.Below.{Claim, Note, Undecided, has_ended};
+ghost use Rattle.mb_mailbox.specs.Consumers.{ConsumerView, IsConsumer};
 ghost use Rattle.mb_mailbox.specs.Gathering.{UndecidedHasCompany, begun_in, count_missing, ended_in, has_begun_at};
-ghost use Rattle.mb_mailbox.specs.Gathering.{IsReportIn, items_in, notes_in};
-ghost use Rattle.mb_world.specs.Report.{ReportView};
+ghost use Rattle.mb_mailbox.specs.Gathering.{IsGathered, IsReportIn, items_in, notes_in};
+ghost use Rattle.mb_mailbox.specs.Mailboxes.{MailboxView};
+ghost use Rattle.mb_mailbox.specs.Steps.{HasNoteOnEach};
+ghost use Rattle.mb_world.specs.Agreement.{AreAllTaken, IsLeftBesideBegun};
+ghost use Rattle.mb_world.specs.Report.{ReportView, note};
 ghost use Rattle.mb_mailbox.specs.GatheringExamples.{alone_undecided, two_undecided};
 ghost use Rattle.mb_mailbox.specs.Hubs.{HubView, with_taken_consumer, with_taken_producer};
 ghost use Rattle.mb_mailbox.specs.Producers.{ProducerView};
 ghost use Rattle.mb_mailbox.specs.declared.place.Place.{Place};
+ghost use Rattle.mb_mailbox.specs.declared.place.Place.TheVariants.{At};
+
+use mb_world::laws::{last_objects_settle_items, shaped_setups_have_last_objects};
 
 /// A lane that was never given is open and empty, and a consumer that was never given has noted and begun nothing.
 pub fn what_was_not_given_is_empty()
@@ -33,6 +40,30 @@ pub fn what_was_taken_in_is_told()
         → slice_get h.ledgers s.seat.consumer ≡ Some None → slice_get s.places p ≡ Some place
         → begun_in s.seat.consumer p (with_taken_consumer s h) ≡ has_begun_at place }
 {}
+
+/// A consumer that has a note on each cell that it met on a lane holds no claim there. So it is after each poll of the lane
+/// that is not spent. If it is taken in then, its diary of the lane has no claim begun.
+pub fn noted_lanes_hold_no_claim()
+    ensures place { (s : ConsumerView) (p k : ℕ) (claim : Claim) → IsConsumer s → HasNoteOnEach p s
+        → slice_get s.places p ≢ Some (At k claim) }
+    ensures begun { (h : HubView) (s : ConsumerView) (p : ℕ) → IsConsumer s → HasNoteOnEach p s
+        → begun_in s.seat.consumer p (with_taken_consumer s h) ≡ false }
+{}
+
+/// If each cell of a mailbox has a last object, its report has no undecided note. An item that was competed for and that
+/// nobody took is left beside a diary whose claim there is begun. On a lane on which no claim is begun, each item that was
+/// competed for is taken.
+pub fn last_objects_settle_what_is_gathered()
+    ensures notes { (m : MailboxView) (h : HubView) (r : ReportView) (c p j : ℕ)
+        → (shape_of m.claims.layout).last ≡ true → IsGathered m h r → note c p j r ≢ Some Undecided }
+    ensures beside { (m : MailboxView) (h : HubView) (r : ReportView)
+        → (shape_of m.claims.layout).last ≡ true → IsGathered m h r → IsLeftBesideBegun r }
+    ensures taken { (m : MailboxView) (h : HubView) (r : ReportView)
+        → (shape_of m.claims.layout).last ≡ true → IsGathered m h r → AreAllTaken r }
+{
+    last_objects_settle_items();
+    shaped_setups_have_last_objects();
+}
 
 /// What was taken in has one report.
 pub fn hubs_have_one_report()

@@ -2,7 +2,7 @@
 use Rattle.std.proofs.Common.{◌≡◌, ◌⊎◌, inl, inr, subst, Bool, false, List, [], ◌∷◌, true, Option, Some, None, option_map, refl, sym, ap, ap₂, ◌∙◌, arith, Result, Ok, Err}
 use Rattle.std.proofs.lemmas.Grind.{common_steps}
 use Rattle.std.specs.Prelude.{IfErr, IsErrAnd, IsSome}
-use Rattle.clap.specs.Words.{App, HasKind, IsAmong, Text, HasMatchesOf, fault_of, is_simple, is_simple_and_free, kind_of, subcommand_name_of, subcommand_of, subcommand_rows_of, takes}
+use Rattle.clap.specs.Words.{App, HasKind, IsAmong, Kinds, Text, HasMatchesOf, fault_of, is_simple, is_simple_and_free, kind_of, subcommand_name_of, subcommand_of, subcommand_rows_of, takes}
 use Rattle.clap.specs.declared.parser.matches.ArgMatches.{ArgMatches}
 use Rattle.clap.specs.declared.error.Error.{Error}
 use Rattle.clap.specs.declared.error.ErrorKind.{ErrorKind}
@@ -10,12 +10,8 @@ use Rattle.clap.specs.declared.error.ErrorKind.TheVariants.{InvalidSubcommand, O
 use Rattle.clap.proofs.OnLiterals.{clap_on_literals}
 use Rattle.mb_program.specs.declared.command.Choice.{Choice}
 use Rattle.mb_program.specs.declared.command.Choice.TheVariants.{Ratify, Replay, Run}
-use Rattle.mb_program.specs.CommandLine.{IsRefusalOf, program, command_in, choice_name}
-
--- clap's rules say which words the program takes
-pub program_is_simple : is_simple_and_free program ≡ true
-unfolding clap_on_literals
-program_is_simple = refl
+use Rattle.mb_program.specs.CommandLine.{IsProgramApp, IsRefusalOf, program, command_in, choice_name}
+use Rattle.mb_program.proofs.Programs.{commands_same, faults_alike, program_is_simple}
 
 -- clap takes a command alone
 pub alone_taken : (name : Text) (choice : Choice) → takes program (name ∷ choice_name choice ∷ []) ≡ true
@@ -36,10 +32,11 @@ rows_name : (m : ArgMatches) → option_map (λ (found : _). found.0) (subcomman
 rows_name m = grind (arith, common_steps)
 
 -- so the matches name it
-pub alone_named : (app : App) (words : List Text) (m : ArgMatches) (name : Text) (choice : Choice) → app ≡ program
+pub alone_named : (app : App) (words : List Text) (m : ArgMatches) (name : Text) (choice : Choice) → IsProgramApp app
     → words ≡ name ∷ choice_name choice ∷ [] → HasMatchesOf app words m → subcommand_name_of m ≡ Some (choice_name choice)
 alone_named app words m name choice is_program alone matches =
-    sym (rows_name m) ∙ ap (option_map (λ found. found.0)) ((matches (ap is_simple is_program)).1 ∙ ap₂ subcommand_of is_program alone)
+    sym (rows_name m)
+    ∙ ap (option_map (λ found. found.0)) ((matches (program_is_simple app is_program)).1 ∙ commands_same app words is_program ∙ ap (subcommand_of program) alone)
     ∙ alone_found name choice
 
 -- an error that `?` hands on is of its kind
@@ -54,19 +51,19 @@ not_some {X} (Some x) e is = let both : ◌≡◌ {A = Option X} (Some x) None =
 not_some None e is = let both : ◌≡◌ {A = Bool} false true = is in absurd (cc)
 
 -- what the matches have is what clap finds in the words
-pub found_in : (app : App) (words : List Text) (m : ArgMatches) → app ≡ program → HasMatchesOf app words m
+pub found_in : (app : App) (words : List Text) (m : ArgMatches) → IsProgramApp app → HasMatchesOf app words m
     → subcommand_rows_of m ≡ subcommand_of program words
 found_in app words m is_program matches =
-    (matches (ap is_simple is_program)).1 ∙ ap (λ (a : App). subcommand_of a words) is_program
+    (matches (program_is_simple app is_program)).1 ∙ commands_same app words is_program
 
 -- so they name the command that clap finds
-pub named_in : (app : App) (words : List Text) (m : ArgMatches) (choice : Choice) → app ≡ program → HasMatchesOf app words m
+pub named_in : (app : App) (words : List Text) (m : ArgMatches) (choice : Choice) → IsProgramApp app → HasMatchesOf app words m
     → command_in words ≡ Some (choice_name choice) → subcommand_name_of m ≡ Some (choice_name choice)
 named_in app words m choice is_program matches named =
     sym (rows_name m) ∙ ap (option_map (λ found. found.0)) (found_in app words m is_program matches) ∙ named
 
 -- and no other
-pub told_in : (app : App) (words : List Text) (m : ArgMatches) (choice : Choice) → app ≡ program → HasMatchesOf app words m
+pub told_in : (app : App) (words : List Text) (m : ArgMatches) (choice : Choice) → IsProgramApp app → HasMatchesOf app words m
     → subcommand_name_of m ≡ Some (choice_name choice) → command_in words ≡ Some (choice_name choice)
 told_in app words m choice is_program matches named =
     sym (ap (option_map (λ found. found.0)) (found_in app words m is_program matches)) ∙ rows_name m ∙ named
@@ -79,14 +76,14 @@ error_kept P (Ok x) e same kind = tt
 error_kept P (Err f) e same kind = subst (λ (g : Error). P (kind_of g)) (sym same) kind
 
 -- the kinds of clap's rules are those of the program's words
-pub refused_by : (words : List Text) (app : App) (e : Error) → app ≡ program → HasKind (fault_of app words) e → IsRefusalOf words (kind_of e)
+pub refused_by : (words : List Text) (app : App) (e : Error) → IsProgramApp app → HasKind (fault_of app words) e → IsRefusalOf words (kind_of e)
 refused_by words app e is has = elim has [
   | inl none ↦ inl none
-  | inr among ↦ inr (inl (subst (λ (a : App). IsAmong (kind_of e) (fault_of a words)) is among))
+  | inr among ↦ inr (inl (subst (λ (kinds : Kinds). IsAmong (kind_of e) kinds) (faults_alike app words is) among))
 ]
 
 -- words whose matches are no choice name no command
-pub unnamed : (words : List Text) (app : App) (m : ArgMatches) (kind : ErrorKind) (r : Option Choice) → app ≡ program → HasMatchesOf app words m
+pub unnamed : (words : List Text) (app : App) (m : ArgMatches) (kind : ErrorKind) (r : Option Choice) → IsProgramApp app → HasMatchesOf app words m
     → r ≡ None → ((choice : Choice) → subcommand_name_of m ≡ Some (choice_name choice) → IsSome r) → kind ≡ InvalidSubcommand → IsRefusalOf words kind
 unnamed words app m kind r is_program matches none each is =
     inr (inr (is, λ choice named. not_some r none (each choice (named_in app words m choice is_program matches named))))

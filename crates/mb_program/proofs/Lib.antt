@@ -3,11 +3,17 @@ pub mod Exchanges
 pub mod LongScripts
 pub mod Nobody
 pub mod NumbersGiven
+pub mod Programs
 pub mod RunEnds
 pub mod RunItems
 pub mod RunLanes
 pub mod RunNotes
 pub mod RunReports
 pub mod RunSetups
+pub mod SameFaults
+pub mod SameProgram
+pub mod SameTakes
+pub mod SameWalk
 pub mod ScriptSpelling
+pub mod ShapesGiven
 pub mod Told

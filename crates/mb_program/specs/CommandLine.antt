@@ -1,11 +1,12 @@
 -- The command line, in clap's words.
-use Rattle.std.specs.Prelude.{◌≡◌, ◌≢◌, ◌⊎◌, ℕ, ◌-◌, ◌^◌, List, [], ◌∷◌, codes, true, Option, Some, option_map}
+use Rattle.std.specs.Prelude.{◌≡◌, ◌≢◌, ◌⊎◌, ℕ, ◌-◌, ◌^◌, List, [], ◌∷◌, codes, map, true, Option, Some, option_map}
+use Rattle.std.specs.Borrow.{Bor}
 use Rattle.clap.specs.Words.{App, IsAmong, Rule, Text, fault_of, new_app, new_rule, subcommand_of, with_rule, with_subcommand}
 use Rattle.clap.specs.declared.error.ErrorKind.{ErrorKind}
 use Rattle.clap.specs.declared.error.ErrorKind.TheVariants.{InvalidSubcommand, OutOfMemory}
 use Rattle.clap.specs.Simple.{on_top}
 use Rattle.clap.specs.declared.builder.action.ArgAction.TheVariants.{Set}
-use Rattle.clap.specs.declared.builder.value_parser.ValueParser.TheVariants.{Unsigned}
+use Rattle.clap.specs.declared.builder.value_parser.ValueParser.TheVariants.{Names, Unsigned}
 use Rattle.mb_program.specs.declared.command.Choice.{Choice}
 use Rattle.mb_program.specs.declared.command.Choice.TheVariants.{Ratify, Replay, Run}
 use Rattle.mb_program.specs.declared.options.TheConstants.{MAX_BUDGET}
@@ -24,23 +25,63 @@ number_rule name default low high = record (new_rule name) {
 abbrev pub any_number : Text → Text → Rule
 any_number name default = number_rule name default 0 (2 ^ 64 - 1)
 
--- the command `run`: it takes six options
-abbrev pub run_app : App
-run_app =
-    with_rule (with_rule (with_rule (with_rule (with_rule (with_rule (new_app (codes "run"))
+-- references to texts, as clap is handed them
+abbrev pub TextsAt : Type 0
+TextsAt = Bor (List (Bor Text))
+
+-- the texts with a place in memory, which is the same for all: clap reads what they say, and not where they lie
+abbrev pub somewhere : {X : Type 0} → X → Bor X
+somewhere x = record { ref_ptr = (0, 0); now = x }
+
+abbrev pub texts_at : List Text → TextsAt
+texts_at texts = somewhere (map somewhere texts)
+
+-- an option that takes one of these names
+abbrev pub named_rule : Text → Text → TextsAt → Rule
+named_rule name default names = record (new_rule name) {
+  long = Some name;
+  action = Some Set;
+  value_names = 1;
+  defaults = default ∷ [];
+  parser = Some (Names names);
+}
+
+-- the names of shapes
+abbrev pub shape_names : List Text
+shape_names = codes "plain" ∷ codes "fast" ∷ codes "last" ∷ codes "fastlast" ∷ []
+
+-- the command `run`: it takes six numbers, and the name of a shape
+abbrev pub run_with : TextsAt → App
+run_with names =
+    with_rule (with_rule (with_rule (with_rule (with_rule (with_rule (with_rule (new_app (codes "run"))
     (any_number (codes "producers") (codes "2"))) (any_number (codes "consumers") (codes "2")))
     (any_number (codes "items") (codes "8"))) (any_number (codes "pairs") (codes "4")))
-    (number_rule (codes "budget") (codes "64") 1 MAX_BUDGET)) (any_number (codes "seed") (codes "0"))
+    (number_rule (codes "budget") (codes "64") 1 MAX_BUDGET)) (any_number (codes "seed") (codes "0")))
+    (named_rule (codes "shape") (codes "plain") names)
 
 -- the program, of which one command has to be named
 abbrev pub program_alone : App
 program_alone = on_top (λ top. record top { subcommand_required = true }) (new_app (codes "mailbox"))
 
 -- its commands: `ratify` and `replay`, which take nothing more, and `run`
-abbrev pub program : App
-program =
+abbrev pub program_with : TextsAt → App
+program_with names =
     with_subcommand (with_subcommand (with_subcommand program_alone (new_app (codes "ratify")).top)
-    (new_app (codes "replay")).top) run_app.top
+    (new_app (codes "replay")).top) (run_with names).top
+
+abbrev pub program : App
+program = program_with (texts_at shape_names)
+
+-- the app is made with these texts, wherever they lie
+abbrev pub IsHanded : (TextsAt → App) → List Text → App → Type 0
+IsHanded app_with texts app =
+    (names : TextsAt) × (map (λ (n : Bor Text). n.now) names.now ≡ texts) × (app ≡ app_with names)
+
+abbrev pub IsRunApp : App → Type 0
+IsRunApp = IsHanded run_with shape_names
+
+abbrev pub IsProgramApp : App → Type 0
+IsProgramApp = IsHanded program_with shape_names
 
 -- the name of the command that clap finds in the words, of which the first is the program's name
 abbrev pub command_in : List Text → Option Text

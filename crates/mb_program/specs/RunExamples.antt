@@ -9,6 +9,23 @@ use Rattle.mb_program.specs.Program.{IsProgramRun}
 use Rattle.mb_program.specs.declared.options.Options.{Options}
 use Rattle.mb_program.specs.declared.outcome.Ending.{Ending}
 
+-- ---- options
+-- those of `run` alone
+abbrev pub asked : Options
+asked = record {
+  producers = 2;
+  consumers = 2;
+  items = 8;
+  pairs = 4;
+  budget = 64;
+  seed = 0;
+  shape = record { fast = false; last = false };
+}
+
+-- `run`, and what stands after it
+abbrev pub run_words : List Text → List Text
+run_words more = codes "mailbox" ∷ codes "run" ∷ more
+
 -- ---- reports
 abbrev pub nothing_done : Histories
 nothing_done = record { claims = []; pool = []; reader_of = λ c. c }
@@ -21,7 +38,7 @@ report_with notes left = record {
 }
 
 abbrev pub one_item : Options
-one_item = record { producers = 1; consumers = 1; items = 1; pairs = 1; budget = 64; seed = 0 }
+one_item = record asked { producers = 1; consumers = 1; items = 1; pairs = 1 }
 
 -- ---- runs of the program
 -- a device that is a list of bytes, and never fails

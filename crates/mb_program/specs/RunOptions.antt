@@ -1,8 +1,10 @@
 -- The options of `run` that the words of a command line give.
-use Rattle.std.specs.Prelude.{ℕ, ◌≡◌, ◌≤◌, ◌-◌, ◌^◌, ◌||◌, nat_lt, List, codes, Option, Some, None, option_map, if◌then◌else◌}
+use Rattle.std.specs.Prelude.{ℕ, ◌≡◌, ◌≤◌, ◌-◌, ◌^◌, ◌||◌, nat_lt, List, codes, Option, Some, None, option_map, unwrap_or, if◌then◌else◌}
 use Rattle.std.specs.Str.Parse.{digits_value, without_leading_plus}
-use Rattle.clap.specs.Words.{Row, Text, one_of, subcommand_of}
+use Rattle.clap.specs.Words.{Row, Text, first_of, one_of, subcommand_of}
 use Rattle.clap.specs.ValueTests.{is_unsigned_in}
+use Rattle.mb_claim.specs.declared.shape.Shape.{Shape}
+use Rattle.mb_script.specs.Vocabulary.{shape_of_word}
 use Rattle.mb_program.specs.declared.command.Choice.{Choice}
 use Rattle.mb_program.specs.declared.command.Choice.TheVariants.{Run}
 use Rattle.mb_program.specs.declared.options.Options.{Options}
@@ -25,6 +27,14 @@ budget_in rows =
     let budget = number_in (codes "budget") DEFAULTS.budget rows in
     if nat_lt budget 1 || nat_lt MAX_BUDGET budget then DEFAULTS.budget else budget
 
+-- the shape that a word names as on a setup line, else plain
+abbrev pub shape_from : Option Text → Shape
+shape_from None = DEFAULTS.shape
+shape_from (Some word) = unwrap_or (shape_of_word word) DEFAULTS.shape
+
+abbrev pub shape_in : List Row → Shape
+shape_in rows = shape_from (first_of (codes "shape") rows)
+
 -- all options
 abbrev pub options_in : List Row → Options
 options_in rows = record {
@@ -34,6 +44,7 @@ options_in rows = record {
   pairs = number_in (codes "pairs") DEFAULTS.pairs rows;
   budget = budget_in rows;
   seed = number_in (codes "seed") DEFAULTS.seed rows;
+  shape = shape_in rows;
 }
 
 -- the options of `run` are those that clap found with the command's name

@@ -9,7 +9,7 @@ use Rattle.mb_world.specs.Headline.{IsHonest}
 use Rattle.mb_world.specs.Plan.{Histories, Plan}
 use Rattle.mb_world.specs.Report.{LaneView, ReportView, notes}
 use Rattle.mb_world.specs.Reporting.{IsReportOf}
-use Rattle.mb_world.specs.Setups.{plan_of, setup_refusal}
+use Rattle.mb_world.specs.Setups.{setup_refusal, shaped_plan}
 use Rattle.mb_world.specs.Sound.{AreSound}
 use Rattle.mb_script.specs.Vocabulary.{AppendsFront, Meter, one_more, report_text}
 use Rattle.mb_mailbox.specs.Below.{Reader, consumer_part, part}
@@ -22,8 +22,9 @@ use Rattle.mb_program.specs.declared.options.Options.{Options}
 abbrev pub setup_refused : Options → Option SetupFault
 setup_refused o = setup_refusal o.producers o.consumers (o.producers * o.items) o.pairs
 
+-- and if there is one, its cells have the shape that is asked for
 abbrev pub plan_asked : Options → Plan
-plan_asked o = plan_of o.producers o.consumers (o.producers * o.items) o.pairs Bits
+plan_asked o = shaped_plan o.shape o.producers o.consumers (o.producers * o.items) o.pairs Bits
 
 -- what a mailbox that there is has at most
 pub record AreFew (o : Options) : Type 0 where

@@ -1,7 +1,7 @@
 //! The command line.
 ghost use Rattle.std.specs.Prelude.{◌≡◌, true, [], ◌∷◌, List, ℕ, Some, IfOk, IfErr, IfSome, OnOk, IsSome, map};
 ghost use Rattle.clap.specs.Words.{app_of, fault_of, kind_of, subcommand_name_of, subcommand_rows_of, takes};
-ghost use Rattle.mb_program.specs.CommandLine.{program, program_alone, command_in, choice_name, IsRefusalOf};
+ghost use Rattle.mb_program.specs.CommandLine.{program, program_alone, command_in, choice_name, IsProgramApp, IsRefusalOf};
 ghost use Rattle.mb_program.specs.RunOptions.{HasBudget, HasOptions, HasToldOptions};
 
 use crate::help;
@@ -37,7 +37,7 @@ fn program_alone<'a>(alloc: Global) -> Result<Command<'a>, AllocError>
 
 /// The program in clap's words.
 fn program<'a>(alloc: Global) -> Result<Command<'a>, AllocError>
-    ensures { IfOk result (λ c. app_of c ≡ program) }
+    ensures { IfOk result (λ c. IsProgramApp (app_of c)) }
 {
     program_alone(alloc)?
         .subcommand(command_named(alloc, "ratify", help::RATIFY_ABOUT, help::RATIFY))?

@@ -1,8 +1,10 @@
 //! The definitions by example: what they let in, and what only looks so. The functions compute nothing: their contracts
 //! are the examples. Those that are not proved by their contract alone have their proofs in `proofs/examples`.
 ghost use Rattle.std.specs.Prelude.{◌≡◌, ℕ, ◌+◌, ◌-◌, ◌*◌, ◌<◌, ◌^◌, length, ◌++◌, true, false, [], ◌∷◌, codes, replicate, Some, None, Err};
-ghost use Rattle.clap.specs.Words.{takes};
-ghost use Rattle.clap.specs.declared.error.ErrorKind.TheVariants.{DisplayHelp, MissingSubcommand};
+ghost use Rattle.clap.specs.Words.{fault_of, takes};
+ghost use Rattle.clap.specs.declared.error.ErrorKind.TheVariants.{DisplayHelp, InvalidValue, MissingSubcommand};
+ghost use Rattle.mb_claim.specs.Vocabulary.{row_of};
+ghost use Rattle.mb_deciding.specs.Spread.{spread};
 ghost use Rattle.mb_quorum.specs.declared.table.TableName.TheVariants.{Unary};
 ghost use Rattle.mb_program.specs.declared.fault.RatifyFault.TheVariants.{TooLong, BadLine, NoMemory, ReadFault};
 ghost use Rattle.mb_program.specs.declared.fault.RatifyFault.TheVariants.{WriteFault};
@@ -18,9 +20,10 @@ ghost use Rattle.mb_program.specs.declared.options.Options.{Options};
 ghost use Rattle.mb_program.specs.declared.options.TheConstants.{MAX_BUDGET};
 ghost use Rattle.mb_program.specs.RunOptions.{HasBudget, HasToldOptions};
 ghost use Rattle.mb_program.specs.Running.{AreOwnReaders, HasNotedAll, IsLaneOf, IsRunReport, accesses_by};
-ghost use Rattle.mb_program.specs.Running.{items_of, setup_refused};
+ghost use Rattle.mb_program.specs.Running.{items_of, plan_asked, setup_refused};
 ghost use Rattle.mb_program.specs.RunExamples.{IsRunOver, nobody_script, nothing_done, one_item};
-ghost use Rattle.mb_program.specs.RunExamples.{help_words, ratify_now, ratify_words, report_with};
+ghost use Rattle.mb_program.specs.RunExamples.{asked, help_words, ratify_now, ratify_words};
+ghost use Rattle.mb_program.specs.RunExamples.{report_with, run_words};
 ghost use Rattle.mb_program.specs.declared.fault.Failed.TheVariants as failed;
 ghost use Rattle.mb_program.specs.declared.outcome.Ending.TheVariants as ending;
 ghost use Rattle.mb_world.specs.Plan.{Histories};
@@ -77,27 +80,36 @@ pub fn one_command_is_named()
 /// The options that the words of `run` give, and the defaults of the others.
 pub fn options_are_told()
     ensures limit { MAX_BUDGET ≡ 1000000 }
-    ensures defaults { HasToldOptions (codes "mailbox" ∷ codes "run" ∷ [])
-        (Run (record { producers = 2; consumers = 2; items = 8; pairs = 4; budget = 64; seed = 0 })) }
-    ensures other_budget { HasToldOptions (codes "mailbox" ∷ codes "run" ∷ [])
-        (Run (record { producers = 2; consumers = 2; items = 8; pairs = 4; budget = 65; seed = 0 })) → ⊥ }
-    ensures given { HasToldOptions (codes "mailbox" ∷ codes "run" ∷ codes "--items" ∷ codes "3" ∷ [])
-        (Run (record { producers = 2; consumers = 2; items = 3; pairs = 4; budget = 64; seed = 0 })) }
-    ensures passed_over { HasToldOptions (codes "mailbox" ∷ codes "run" ∷ codes "--items" ∷ codes "3" ∷ [])
-        (Run (record { producers = 2; consumers = 2; items = 8; pairs = 4; budget = 64; seed = 0 })) → ⊥ }
-    ensures no_budget { HasBudget
-        (Run (record { producers = 2; consumers = 2; items = 8; pairs = 4; budget = 0; seed = 0 })) → ⊥ }
+    ensures defaults { HasToldOptions (run_words []) (Run asked) }
+    ensures other_budget { HasToldOptions (run_words []) (Run (record asked { budget = 65 })) → ⊥ }
+    ensures given { HasToldOptions (run_words (codes "--items" ∷ codes "3" ∷ []))
+        (Run (record asked { items = 3 })) }
+    ensures passed_over { HasToldOptions (run_words (codes "--items" ∷ codes "3" ∷ [])) (Run asked) → ⊥ }
+    ensures no_budget { HasBudget (Run (record asked { budget = 0 })) → ⊥ }
+{}
+
+/// The word of `--shape`, and the shape that it asks for.
+pub fn shapes_are_told()
+    ensures plain { HasToldOptions (run_words (codes "--shape" ∷ codes "plain" ∷ [])) (Run asked) }
+    ensures fast { HasToldOptions (run_words (codes "--shape" ∷ codes "fast" ∷ []))
+        (Run (record asked { shape = record { fast = true; last = false } })) }
+    ensures last { HasToldOptions (run_words (codes "--shape" ∷ codes "last" ∷ []))
+        (Run (record asked { shape = record { fast = false; last = true } })) }
+    ensures both { HasToldOptions (run_words (codes "--shape" ∷ codes "fastlast" ∷ []))
+        (Run (record asked { shape = record { fast = true; last = true } })) }
+    ensures passed_over { HasToldOptions (run_words (codes "--shape" ∷ codes "fast" ∷ [])) (Run asked) → ⊥ }
+    ensures taken { takes program (run_words (codes "--shape" ∷ codes "fastlast" ∷ [])) ≡ true }
+    ensures other { takes program (run_words (codes "--shape" ∷ codes "other" ∷ [])) ≡ false }
+    ensures reason { fault_of program (run_words (codes "--shape" ∷ codes "other" ∷ [])) ≡ InvalidValue ∷ [] }
 {}
 
 /// What the options ask for, and how a lane of a run ends.
 pub fn lanes_have_their_lists()
     ensures items { items_of 1 3 ≡ 1000 ∷ 1001 ∷ 1002 ∷ [] }
-    ensures cells { setup_refused
-        (record { producers = 16; consumers = 2; items = 2 ^ 60; pairs = 4; budget = 64; seed = 0 }) ≡ Some BadCells }
-    ensures consumers { setup_refused
-        (record { producers = 2; consumers = 0; items = 2 ^ 63; pairs = 4; budget = 64; seed = 0 }) ≡ Some BadConsumers }
-    ensures none { setup_refused
-        (record { producers = 2; consumers = 2; items = 8; pairs = 4; budget = 64; seed = 0 }) ≡ None }
+    ensures cells { setup_refused (record asked { producers = 16; items = 2 ^ 60 }) ≡ Some BadCells }
+    ensures consumers { setup_refused (record asked { consumers = 0; items = 2 ^ 63 }) ≡ Some BadConsumers }
+    ensures none { setup_refused asked ≡ None }
+    ensures shape { (o : Options) → (plan_asked o).claims.kinds ≡ row_of o.shape (spread o.consumers) o.pairs }
     ensures whole { IsLaneOf 0 2 (record { put = 0 ∷ 1 ∷ []; ended = true; left = [] }) }
     ensures begun { IsLaneOf 0 2 (record { put = 0 ∷ []; ended = true; left = [] }) → ⊥ }
     ensures empty { IsLaneOf 0 2 (record { put = []; ended = true; left = [] }) → ⊥ }

@@ -28,8 +28,9 @@ pub(crate) const REPLAY_ABOUT: &str =
 /// What the help of `replay` says behind that.
 pub(crate) const REPLAY: &str = "\
 A script is lines of words, with one space between each two. The first is
-  setup <producers> <consumers> <cells> <pairs> <table>
-with 1 to 16, 1 to 64, 0 to 256, 1 to 8, and unary, bits or middle. Each line after it is an event:
+  setup <producers> <consumers> <cells> <pairs> <table> <shape>
+with 1 to 16, 1 to 64, 0 to 256, 1 to 8, unary, bits or middle, and fast, last or fastlast, or no shape at all if
+each cell has pairs alone. Each line after it is an event:
   offer <lane> <item>               push <lane>               finish <lane>
   step <consumer> <lane> <word>     where <word> is the random word of the step
 
@@ -46,7 +47,9 @@ pub(crate) const RUN_ABOUT: &str =
 pub(crate) const RUN: &str = "\
 Producer p puts the items 1000 * p, 1000 * p + 1 and so on into lane p, and ends it. Each consumer polls the
 lanes in turn until all have ended. All threads go on at once, so who takes what differs from run to run. There is
-a cell for each item, and 256 cells at most. The report has for each lane two lines, for each consumer and lane one:
+a cell for each item, and 256 cells at most. A fast path is two ratifiers before the pairs of an item, enough for a
+consumer that is alone. A last object comes after the pairs and always decides, so no item is undecided then.
+The report has for each lane two lines, for each consumer and lane one:
   lane <p> ended put <item> ..      what producer p put, in order
   left <p> <item> ..                what nobody took
   diary <c> <p> ..                  of each item of lane p: took <item>, lost <w> or undecided

@@ -2,12 +2,14 @@
 ghost use Rattle.std.specs.Prelude.{◌≡◌, ◌≤◌, false, IfOk};
 ghost use Rattle.clap.specs.Words.{app_of, found_of, new_app, rows_of, rule_of};
 ghost use Rattle.clap.specs.declared.builder.command.Command.TheViews.{out-Command as fields_of};
-ghost use Rattle.mb_program.specs.CommandLine.{any_number, number_rule, run_app};
-ghost use Rattle.mb_program.specs.RunOptions.{budget_in, number_in, options_in};
+ghost use Rattle.mb_program.specs.CommandLine.{IsRunApp, any_number, number_rule, named_rule};
+ghost use Rattle.mb_program.specs.RunOptions.{budget_in, number_in, options_in, shape_in};
 
 use crate::help;
 use clap::builder::ValueParser;
 use clap::{Arg, ArgAction, ArgMatches, Command};
+use mb_claim::Shape;
+use mb_script::shape_of_word;
 use std::alloc::{AllocError, Global};
 
 /// What `run` is asked for.
@@ -25,6 +27,8 @@ pub struct Options {
     pub budget: u64,
     /// The seed of the consumers' random words.
     pub seed: u64,
+    /// Which deciding objects each item has beside its pairs.
+    pub shape: Shape,
 }
 
 /// The largest budget that a command line can ask for. The least is 1.
@@ -38,7 +42,11 @@ pub const DEFAULTS: Options = Options {
     pairs: 4,
     budget: 64,
     seed: 0,
+    shape: Shape::PLAIN,
 };
+
+/// The names that `--shape` takes. With `plain` each item has pairs alone. The others are those of a setup line.
+const SHAPES: &[&str] = &["plain", "fast", "last", "fastlast"];
 
 /// A command without options.
 pub(crate) fn command_named<'a>(
@@ -82,9 +90,29 @@ fn any_number<'a>(alloc: Global, name: &'a str, default: &'a str, meaning: &'a s
     number(alloc, name, default, 0, u64::MAX, meaning)
 }
 
+/// An option that takes one of these names.
+fn named<'a>(
+    alloc: Global,
+    name: &'a str,
+    default: &'a str,
+    names: &'a [&'a str],
+    meaning: &'a str,
+) -> Arg<'a>
+    ensures rule { rule_of result ≡ named_rule name.entry.now default.entry.now names.entry }
+    ensures local { result.global ≡ false }
+{
+    Arg::new(alloc, name)
+        .long(name)
+        .value_name("NAME")
+        .help(meaning)
+        .action(ArgAction::Set)
+        .value_parser(ValueParser::Names(names))
+        .default_value(default)
+}
+
 /// The command `run` in clap's words.
 pub(crate) fn run_command<'a>(alloc: Global) -> Result<Command<'a>, AllocError>
-    ensures app { IfOk result (λ c. app_of c ≡ run_app) }
+    ensures app { IfOk result (λ c. IsRunApp (app_of c)) }
     ensures local { IfOk result (λ c. (fields_of c).has_globals ≡ false) }
 {
     command_named(alloc, "run", help::RUN_ABOUT, help::RUN)
@@ -125,6 +153,13 @@ pub(crate) fn run_command<'a>(alloc: Global) -> Result<Command<'a>, AllocError>
             "seed",
             "0",
             "The seed of the consumers' random words",
+        ))?
+        .arg(named(
+            alloc,
+            "shape",
+            "plain",
+            SHAPES,
+            "What each item has beside its pairs: a fast path, a last object or both",
         ))
 }
 
@@ -147,6 +182,16 @@ fn budget_given(given: &ArgMatches) -> u64
     budget
 }
 
+/// The shape that the option names: pairs alone for `plain`, and if there is none.
+fn shape_given(given: &ArgMatches) -> Shape
+    ensures { result ≡ shape_in (rows_of (found_of given.now)) }
+{
+    match given.get_str("shape") {
+        Some(name) => shape_of_word(name).unwrap_or(DEFAULTS.shape),
+        None => DEFAULTS.shape,
+    }
+}
+
 /// The options that the words of `run` give, and the defaults of the others.
 pub(crate) fn options_of(given: &ArgMatches) -> Options
     ensures options { result ≡ options_in (rows_of (found_of given.now)) }
@@ -159,5 +204,6 @@ pub(crate) fn options_of(given: &ArgMatches) -> Options
         pairs: number_given(given, "pairs", DEFAULTS.pairs),
         budget: budget_given(given),
         seed: number_given(given, "seed", DEFAULTS.seed),
+        shape: shape_given(given),
     }
 }

@@ -23,7 +23,7 @@ use std::alloc::{AllocError, Allocator};
 use std::sync::Wait;
 use std::thread::Threads;
 
-/// The setup that the options ask for: a cell for each item, over the quorum table of bits.
+/// The setup that the options ask for: a cell for each item, of the shape that is asked for, over the quorum table of bits.
 fn setup_of(options: Options) -> Result<Setup, SetupFault>
     ensures refused { MatchOption (setup_refused options) (IsOk result) (λ why. result ≡ Err why) }
     ensures made { IfOk result (λ setup. plan_in setup ≡ plan_asked options) }
@@ -31,13 +31,14 @@ fn setup_of(options: Options) -> Result<Setup, SetupFault>
 {
     // A product past the range of numbers is refused as the largest number is.
     let cells = options.producers.saturating_mul(options.items);
-    Setup::new(
+    let setup = Setup::new(
         options.producers,
         options.consumers,
         cells,
         options.pairs,
         TableName::Bits,
-    )
+    )?;
+    Ok(setup.shaped(options.shape))
 }
 
 /// The items of producer `p`, in the order in which it puts them.

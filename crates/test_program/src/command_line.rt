@@ -1,6 +1,7 @@
 //! The command line, and how the program ends.
 
 use clap::error::ErrorKind;
+use mb_claim::Shape;
 use mb_program::{
     Choice, DEFAULTS, Ending, Failed, Options, RatifyFault, RunFault, command_of, status_of_ending,
 };
@@ -8,7 +9,7 @@ use mb_script::Fault;
 use mb_world::SetupFault;
 use std::test::Fail;
 
-// The options of `run` by default: 2 producers, 2 consumers, 8 items each, 4 pairs, budget 64 and seed 0.
+// The options of `run` by default: 2 producers, 2 consumers, 8 items each, 4 pairs alone, budget 64 and seed 0.
 #[test]
 fn run_has_defaults(rt: HostRuntime) {
     let options = Options {
@@ -18,6 +19,7 @@ fn run_has_defaults(rt: HostRuntime) {
         pairs: 4,
         budget: 64,
         seed: 0,
+        shape: Shape::PLAIN,
     };
     let words = ["mailbox", "run"];
     assert_eq!(rt; DEFAULTS, options);
@@ -54,6 +56,7 @@ fn options_are_read(rt: HostRuntime) {
                 pairs: 0,
                 budget: 1,
                 seed: most,
+                shape: Shape::PLAIN,
             },
         ),
         (
@@ -80,6 +83,26 @@ fn options_are_read(rt: HostRuntime) {
 }
 
 #[test]
+fn shapes_are_read(rt: HostRuntime) {
+    for (name, fast, last) in [
+        ("plain", false, false),
+        ("fast", true, false),
+        ("last", false, true),
+        ("fastlast", true, true),
+    ] {
+        let words = ["mailbox", "run", "--shape", name];
+        let options = Options {
+            shape: Shape { fast, last },
+            ..DEFAULTS
+        };
+        assert!(rt;
+            matches!(command_of(rt.alloc(), words.as_slice()), Ok(choice) if choice == Choice::Run(options)),
+            "{name}"
+        );
+    }
+}
+
+#[test]
 fn options_are_refused(rt: HostRuntime) -> Result<(), Fail> {
     for (words, want) in [
         (
@@ -97,6 +120,10 @@ fn options_are_refused(rt: HostRuntime) -> Result<(), Fail> {
         (
             ["mailbox", "run", "--items", "many"].as_slice(),
             ErrorKind::ValueValidation,
+        ),
+        (
+            ["mailbox", "run", "--shape", "other"].as_slice(),
+            ErrorKind::InvalidValue,
         ),
         (
             ["mailbox", "run", "--items", "1", "--items", "2"].as_slice(),

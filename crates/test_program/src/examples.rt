@@ -6,6 +6,7 @@ mod lanes;
 pub mod ratifiers;
 mod refused_replays;
 pub mod runs;
+mod shapes;
 mod texts;
 
 use claims::CLAIMS;
@@ -16,6 +17,7 @@ use mb_script::Counting;
 use ratifiers::RATIFIERS;
 use refused_replays::REFUSED_REPLAYS;
 use runs::RUNS;
+use shapes::SHAPES;
 use std::sync::Wait;
 use std::thread::Threads;
 use texts::TEXTS;
@@ -47,7 +49,7 @@ pub(crate) fn ended<R: AllocGlobal + Threads + Wait + Sync>(
 
 #[test]
 fn examples_are_as_they_stand(rt: HostRuntime) {
-    for examples in [CLAIMS, LANES, REFUSED_REPLAYS, RATIFIERS, RUNS, TEXTS] {
+    for examples in [CLAIMS, SHAPES, LANES, REFUSED_REPLAYS, RATIFIERS, RUNS, TEXTS] {
         for example in examples {
             let name = example.name;
             let (output, error, status) = ended(&rt, example.words, example.input);

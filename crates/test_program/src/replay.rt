@@ -37,6 +37,40 @@ fn a_fault_leaves_nothing_written(rt: HostRuntime) {
     }
 }
 
+// A shape is a seventh word, and is known before any number is read.
+#[test]
+fn setup_lines_are_refused(rt: HostRuntime) -> Result<(), Fail> {
+    for (script, want, line) in [
+        (
+            "setup x 1 1 1 bits other\n",
+            Fault::BadLine(1),
+            "fault 3 BadLine 1\n",
+        ),
+        (
+            "setup 1 1 1 1 bits plain\n",
+            Fault::BadLine(1),
+            "fault 3 BadLine 1\n",
+        ),
+        (
+            "setup 1 1 1 1 bits fast last\n",
+            Fault::BadLine(1),
+            "fault 3 BadLine 1\n",
+        ),
+        (
+            "setup x 1 1 1 bits fast\n",
+            Fault::BadNumber(1),
+            "fault 4 BadNumber 1\n",
+        ),
+    ] {
+        let (result, text) = replayed(&rt, script);
+        let failed = Failed::Replay(want);
+        assert_eq!(rt; (result, text.len()), (Err(want), 0), "{script}");
+        assert_eq!(rt; fault_text(rt.alloc(), &failed)?.as_str(), line, "{script}");
+        assert_eq!(rt; status_of(&failed), 2, "{script}");
+    }
+    Ok(())
+}
+
 // A script of so many pushes on a lane where nothing was offered, and its answer.
 fn pushes(rt: &HostRuntime, count: usize) -> Result<(String, String), Fail> {
     let mut script = String::new(rt.alloc());

@@ -3,6 +3,7 @@
 use crate::devices::NarrowWriter;
 use crate::examples::ended;
 use crate::examples::runs::TWO_ITEMS;
+use mb_claim::Shape;
 use mb_program::{
     Failed, Options, RunFault, fault_text, run_threads, source_of, status_of, workload_of,
 };
@@ -21,6 +22,7 @@ pub const ALONE: Options = Options {
     pairs: 1,
     budget: 64,
     seed: 0,
+    shape: Shape::PLAIN,
 };
 
 // What the call answered, and what was written.
@@ -96,6 +98,7 @@ fn items_are_put(rt: HostRuntime) -> Result<(), Fail> {
         pairs: 2,
         budget: 5,
         seed: 7,
+        shape: Shape::PLAIN,
     };
     let (result, text) = reported(&rt, options);
     let Ok(text) = str::from_utf8(text.as_slice()) else {
@@ -136,6 +139,7 @@ fn setups_are_refused(rt: HostRuntime) -> Result<(), Fail> {
             pairs,
             budget: 64,
             seed: 0,
+            shape: Shape::PLAIN,
         };
         let (result, written) = reported(&rt, options);
         let fault = RunFault::BadSetup(why);

@@ -24,6 +24,24 @@ pub const RUNS: &[Example] = &[
     },
     TWO_ITEMS,
     Example {
+        name: "two_items_fast_last",
+        words: &[
+            "mailbox",
+            "run",
+            "--shape",
+            "fastlast",
+            "--producers",
+            "1",
+            "--consumers",
+            "1",
+            "--items",
+            "2",
+            "--pairs",
+            "1",
+        ],
+        ..TWO_ITEMS
+    },
+    Example {
         name: "no_items",
         words: &[
             "mailbox",

@@ -42,11 +42,14 @@ Options:
       --pairs <N>      How many pairs of deciding objects each item has, 1 to 8 [default: 4]
       --budget <N>     The most accesses of one poll, 1 to 1000000 [default: 64]
       --seed <N>       The seed of the consumers' random words [default: 0]
+      --shape <NAME>   What each item has beside its pairs: a fast path, a last object or both [default: plain] [possible values: plain, fast, last, fastlast]
   -h, --help           Print help
 
 Producer p puts the items 1000 * p, 1000 * p + 1 and so on into lane p, and ends it. Each consumer polls the
 lanes in turn until all have ended. All threads go on at once, so who takes what differs from run to run. There is
-a cell for each item, and 256 cells at most. The report has for each lane two lines, for each consumer and lane one:
+a cell for each item, and 256 cells at most. A fast path is two ratifiers before the pairs of an item, enough for a
+consumer that is alone. A last object comes after the pairs and always decides, so no item is undecided then.
+The report has for each lane two lines, for each consumer and lane one:
   lane <p> ended put <item> ..      what producer p put, in order
   left <p> <item> ..                what nobody took
   diary <c> <p> ..                  of each item of lane p: took <item>, lost <w> or undecided
@@ -99,8 +102,9 @@ Options:
   -h, --help  Print help
 
 A script is lines of words, with one space between each two. The first is
-  setup <producers> <consumers> <cells> <pairs> <table>
-with 1 to 16, 1 to 64, 0 to 256, 1 to 8, and unary, bits or middle. Each line after it is an event:
+  setup <producers> <consumers> <cells> <pairs> <table> <shape>
+with 1 to 16, 1 to 64, 0 to 256, 1 to 8, unary, bits or middle, and fast, last or fastlast, or no shape at all if
+each cell has pairs alone. Each line after it is an event:
   offer <lane> <item>               push <lane>               finish <lane>
   step <consumer> <lane> <word>     where <word> is the random word of the step
 
@@ -134,6 +138,19 @@ For more information, try '--help'.
         output: "",
         error: "\
 error: invalid value '0' for '--budget <N>': 0 is not in 1..=1000000
+
+For more information, try '--help'.
+",
+        status: 2,
+    },
+    Example {
+        name: "no_such_shape",
+        words: &["mailbox", "run", "--shape", "other"],
+        input: "",
+        output: "",
+        error: "\
+error: invalid value 'other' for '--shape <NAME>'
+  [possible values: plain, fast, last, fastlast]
 
 For more information, try '--help'.
 ",

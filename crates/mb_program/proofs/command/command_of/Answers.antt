@@ -1,20 +1,21 @@
-use Rattle.std.proofs.Common.{map, subst, sym, ap, ap₂, ◌∙◌}
-use Rattle.clap.specs.Words.{fault_of, is_simple_and_free, takes}
-use Rattle.mb_program.proofs.Commands.{alone_taken, alone_named, error_kept, found_in, kind_kept, named_in, not_some, program_is_simple, refused_by, told_in, unnamed}
-use Rattle.mb_program.specs.CommandLine.{IsRefusalOf}
+use Rattle.std.proofs.Common.{map, subst, sym, ap, ◌∙◌}
+use Rattle.clap.specs.Words.{takes}
+use Rattle.mb_program.proofs.Commands.{alone_taken, alone_named, error_kept, found_in, kind_kept, named_in, not_some, refused_by, told_in, unnamed}
+use Rattle.mb_program.proofs.Programs.{faults_alike, program_is_free, takes_alike}
+use Rattle.mb_program.specs.CommandLine.{IsRefusalOf, program}
 use Rattle.mb_program.specs.RunOptions.{HasOptions}
 use Rattle.mb_program.proofs.command.command_of.Goals as goal
 
 pub returns-in_err-matches-clause-alone : goal.returns-in_err-matches-clause-alone
 returns-in_err-matches-clause-alone g c =
     λ name choice alone.
-    let taken = ap₂ takes c.in_ok-command.ensures alone ∙ alone_taken name choice in
+    let taken = takes_alike _ _ c.in_ok-command.ensures ∙ ap (takes program) alone ∙ alone_taken name choice in
     kind_kept _ _ c.from_residual-in_err-matches.ensures.1 (c.in_err-matches.ensures.passes taken)
 
 pub returns-in_err-matches-clause-refused : goal.returns-in_err-matches-clause-refused
 returns-in_err-matches-clause-refused g c =
     λ choice taken named.
-    let same = ap (λ app. takes app (map g.S.AsStr.text c.args.words.now)) c.in_ok-command.ensures in
+    let same = takes_alike _ (map g.S.AsStr.text c.args.words.now) c.in_ok-command.ensures in
     kind_kept _ _ c.from_residual-in_err-matches.ensures.1 (c.in_err-matches.ensures.passes (same ∙ taken))
 
 pub returns-in_default-clause-alone : goal.returns-in_default-clause-alone
@@ -35,8 +36,8 @@ returns-clause-choice g c =
 
 pub returns-clause-taken : goal.returns-clause-taken
 returns-clause-taken g c =
-    let same = ap (λ app. fault_of app (map g.S.AsStr.text c.args.words.now)) c.in_ok-command.ensures in
-    sym same ∙ c.in_ok-matches.ensures.kinds (ap is_simple_and_free c.in_ok-command.ensures ∙ program_is_simple)
+    let same = faults_alike _ (map g.S.AsStr.text c.args.words.now) c.in_ok-command.ensures in
+    sym same ∙ c.in_ok-matches.ensures.kinds (program_is_free _ c.in_ok-command.ensures)
 
 pub returns-clause-options : goal.returns-clause-options
 returns-clause-options g c =
@@ -48,7 +49,7 @@ returns-in_err-matches-clause-kinds g c =
     let words = map g.S.AsStr.text c.args.words.now in
     error_kept (λ kind. IsRefusalOf words kind) _ c.in_err-matches.field-0.0 c.from_residual-in_err-matches.ensures.1
     (refused_by words _ c.in_err-matches.field-0.0 c.in_ok-command.ensures
-    (c.in_err-matches.ensures.kinds (ap is_simple_and_free c.in_ok-command.ensures ∙ program_is_simple)))
+    (c.in_err-matches.ensures.kinds (program_is_free _ c.in_ok-command.ensures)))
 
 pub returns-in_default-clause-kinds : goal.returns-in_default-clause-kinds
 returns-in_default-clause-kinds g c =

@@ -1,4 +1,4 @@
-use Rattle.std.proofs.Common.{◌≡◌, ◌||◌, ◌∙◌, ap₂}
+use Rattle.std.proofs.Common.{◌≡◌, ◌||◌, ◌∙◌, ap₂, refl}
 use Rattle.std.proofs.lemmas.Result.{IfOk-weaker}
 use Rattle.clap.specs.Words.{with_rule}
 use Rattle.mb_program.proofs.options.run_command.Goals as goal
@@ -10,17 +10,20 @@ returns c =
     let three = c.in_ok-arg-3.ensures in
     let four = c.in_ok-arg-4.ensures in
     let five = c.in_ok-arg-5.ensures in
+    let six = c.in_ok-arg-6.ensures in
     let rules_1 = one.shape c.any_number.ensures.local ∙ ap₂ with_rule c.command_named.ensures.app c.any_number.ensures.rule in
     let rules_2 = two.shape c.any_number-2.ensures.local ∙ ap₂ with_rule rules_1 c.any_number-2.ensures.rule in
     let rules_3 = three.shape c.any_number-3.ensures.local ∙ ap₂ with_rule rules_2 c.any_number-3.ensures.rule in
     let rules_4 = four.shape c.any_number-4.ensures.local ∙ ap₂ with_rule rules_3 c.any_number-4.ensures.rule in
     let rules_5 = five.shape c.number.ensures.local ∙ ap₂ with_rule rules_4 c.number.ensures.rule in
+    let rules_6 = six.shape c.any_number-5.ensures.local ∙ ap₂ with_rule rules_5 c.any_number-5.ensures.rule in
     let local_1 = one.globals ∙ ap₂ ◌||◌ c.command_named.ensures.local c.any_number.ensures.local in
     let local_2 = two.globals ∙ ap₂ ◌||◌ local_1 c.any_number-2.ensures.local in
     let local_3 = three.globals ∙ ap₂ ◌||◌ local_2 c.any_number-3.ensures.local in
     let local_4 = four.globals ∙ ap₂ ◌||◌ local_3 c.any_number-4.ensures.local in
     let local_5 = five.globals ∙ ap₂ ◌||◌ local_4 c.number.ensures.local in
+    let local_6 = six.globals ∙ ap₂ ◌||◌ local_5 c.any_number-5.ensures.local in
     record {
-      app = IfOk-weaker c.arg-6.result _ _ (λ r six. six.shape c.any_number-5.ensures.local ∙ ap₂ with_rule rules_5 c.any_number-5.ensures.rule) c.arg-6.ensures;
-      local = IfOk-weaker c.arg-6.result _ _ (λ r six. six.globals ∙ ap₂ ◌||◌ local_5 c.any_number-5.ensures.local) c.arg-6.ensures;
+      app = IfOk-weaker c.arg-7.result _ _ (λ r seven. (_, refl, seven.shape c.named.ensures.local ∙ ap₂ with_rule rules_6 c.named.ensures.rule)) c.arg-7.ensures;
+      local = IfOk-weaker c.arg-7.result _ _ (λ r seven. seven.globals ∙ ap₂ ◌||◌ local_6 c.named.ensures.local) c.arg-7.ensures;
     }
