@@ -84,7 +84,8 @@ sizes_short (a ∷ b ∷ c ∷ []) = λ is. absurd (cc)
 sizes_short (a ∷ b ∷ c ∷ d ∷ []) = λ is. absurd (cc)
 sizes_short (a ∷ b ∷ c ∷ d ∷ name ∷ shape) =
     bind_short (ok_or (table_named name) (BadLine 1)) _ (ok_or_short (table_named name) (BadLine 1) (λ e. absurd (cc)))
-    (λ t. bind_short (ok_or (shape_named shape) (BadLine 1)) _ (ok_or_short (shape_named shape) (BadLine 1) (λ e. absurd (cc)))
+    (λ t. bind_short (ok_or (shape_named shape) (BadLine 1)) _
+    (ok_or_short (shape_named shape) (BadLine 1) (λ e. absurd (cc)))
     (λ f. bind_short (number_at 1 a) _ (number_short 1 a) (λ p. bind_short (number_at 1 b) _ (number_short 1 b)
     (λ q. bind_short (number_at 1 c) _ (number_short 1 c) (λ m. bind_short (number_at 1 d) _ (number_short 1 d)
     (λ k. made_short (setup_refusal p q m k) (made_from f p q m k t)))))))

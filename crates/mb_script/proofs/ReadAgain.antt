@@ -55,7 +55,8 @@ sizes_small p c m k e =
     )
 
 -- the consumers of a plan are those it was made of
-pub consumers_are : (shape : Shape) (p c m k : ℕ) (t : TableName) → consumers_of (shaped_plan shape p c m k t) ≡ c
+pub consumers_are : (shape : Shape) (p c m k : ℕ) (t : TableName)
+    → consumers_of (shaped_plan shape p c m k t) ≡ c
 consumers_are shape p c m k t = named_values t c
 
 -- the plan of sizes
@@ -76,16 +77,16 @@ sizes_again : (shape : Shape) (p c m k : ℕ) (t : TableName) → setup_refusal 
 unfolding sizes_of
 sizes_again shape p c m k Unary e =
     let s = sizes_small p c m k e in
-    rw (shape_again shape.fast shape.last, number_again p s.0, number_again c s.1, number_again m s.2, number_again k s.3, e)
-    refl
+    let named = shape_again shape.fast shape.last in
+    rw (named, number_again p s.0, number_again c s.1, number_again m s.2, number_again k s.3, e) refl
 sizes_again shape p c m k Bits e =
     let s = sizes_small p c m k e in
-    rw (shape_again shape.fast shape.last, number_again p s.0, number_again c s.1, number_again m s.2, number_again k s.3, e)
-    refl
+    let named = shape_again shape.fast shape.last in
+    rw (named, number_again p s.0, number_again c s.1, number_again m s.2, number_again k s.3, e) refl
 sizes_again shape p c m k Middle e =
     let s = sizes_small p c m k e in
-    rw (shape_again shape.fast shape.last, number_again p s.0, number_again c s.1, number_again m s.2, number_again k s.3, e)
-    refl
+    let named = shape_again shape.fast shape.last in
+    rw (named, number_again p s.0, number_again c s.1, number_again m s.2, number_again k s.3, e) refl
 
 -- the name of a table is a word
 table_word : (t : TableName) → IsWord (table_name t)
@@ -103,8 +104,19 @@ shape_fit true true = (search rules, tt)
 -- the words of a first line are words
 setup_fit : (z : Sizes) → setup_refusal z.producers z.consumers z.cells z.pairs ≡ None → AllByRecursion IsWord (setup_words z)
 setup_fit z e =
-    let s = sizes_small z.producers z.consumers z.cells z.pairs e in
-    (search rules, (decimal_word _ s.0, (decimal_word _ s.1, (decimal_word _ s.2, (decimal_word _ s.3, (table_word z.table, shape_fit z.shape.fast z.shape.last))))))
+    let s = sizes_small z.producers z.consumers z.cells z.pairs e in (
+      search rules,
+      (
+        decimal_word _ s.0,
+        (
+          decimal_word _ s.1,
+          (
+            decimal_word _ s.2,
+            (decimal_word _ s.3, (table_word z.table, shape_fit z.shape.fast z.shape.last)),
+          ),
+        ),
+      ),
+    )
 
 -- a key and words none of which is empty
 setup_is : (ws : List (List ℕ)) → has_empty ws ≡ false → setup_of (codes "setup" ∷ ws) ≡ sizes_of ws
@@ -118,8 +130,10 @@ setup_again z e =
     let fit = setup_fit z e in
     let cut : words_of (join_with_byte 32 (setup_words z)) ≡ setup_words z = words_join _ _ fit in
     let behind : List (List ℕ) =
-    decimal z.producers ∷ decimal z.consumers ∷ decimal z.cells ∷ decimal z.pairs ∷ table_name z.table ∷ shape_words z.shape in
-    rw cut (setup_is behind (none_empty behind fit.1) ∙ sizes_again z.shape z.producers z.consumers z.cells z.pairs z.table e)
+    decimal z.producers ∷ decimal z.consumers ∷ decimal z.cells ∷ decimal z.pairs
+    ∷ table_name z.table ∷ shape_words z.shape in
+    rw cut (setup_is behind (none_empty behind fit.1)
+    ∙ sizes_again z.shape z.producers z.consumers z.cells z.pairs z.table e)
 
 -- a line of words
 line_is : (plan : Plan) (n : ℕ) (w : List ℕ) (ws : List (List ℕ)) → AllByRecursion IsWord (w ∷ ws)

@@ -16,6 +16,7 @@ use Rattle.mb_world.specs.declared.event.Event.{Event}
 use Rattle.mb_world.specs.declared.event.Event.TheVariants.{Offer, Push, Finish, Step}
 use Rattle.mb_world.specs.declared.setup.SetupFault.{SetupFault}
 use Rattle.mb_world.specs.Plan.{Plan}
+use Rattle.mb_claim.specs.Rows.{plain}
 use Rattle.mb_claim.specs.declared.shape.Shape.{Shape}
 use Rattle.mb_world.specs.Setups.{setup_refusal}
 use Rattle.mb_script.specs.declared.fault.Fault.{Fault}
@@ -51,22 +52,30 @@ table_takes word t false false false p q r e = absurd (cc)
 
 -- so is the word of a shape
 word_takes : (word : List ℕ) (f : Shape) (a b c : Bool)
-    → bytes_eq word (codes "fast") ≡ a → bytes_eq word (codes "last") ≡ b → bytes_eq word (codes "fastlast") ≡ c
-    → cond a (Some (shape_with true false)) (cond b (Some (shape_with false true)) (cond c (Some (shape_with true true)) None))
-    ≡ Some f → word ∷ [] ≡ shape_words f
+    → bytes_eq word (codes "fast") ≡ a → bytes_eq word (codes "last") ≡ b
+    → bytes_eq word (codes "fastlast") ≡ c
+    → cond a (Some (shape_with true false)) (cond b (Some (shape_with false true))
+    (cond c (Some (shape_with true true)) None)) ≡ Some f
+    → word ∷ [] ≡ shape_words f
 word_takes word f true b c p q r e =
     let same : shape_with true false ≡ f = cc in
-    subst (λ g. word ∷ [] ≡ shape_words g) same (ap (λ (w : List ℕ). w ∷ []) ((bytes_eq-Decides word (codes "fast")).0 p))
+    let is = (bytes_eq-Decides word (codes "fast")).0 p in
+    subst (λ g. word ∷ [] ≡ shape_words g) same (ap (λ (w : List ℕ). w ∷ []) is)
 word_takes word f false true c p q r e =
     let same : shape_with false true ≡ f = cc in
-    subst (λ g. word ∷ [] ≡ shape_words g) same (ap (λ (w : List ℕ). w ∷ []) ((bytes_eq-Decides word (codes "last")).0 q))
+    let is = (bytes_eq-Decides word (codes "last")).0 q in
+    subst (λ g. word ∷ [] ≡ shape_words g) same (ap (λ (w : List ℕ). w ∷ []) is)
 word_takes word f false false true p q r e =
     let same : shape_with true true ≡ f = cc in
-    subst (λ g. word ∷ [] ≡ shape_words g) same (ap (λ (w : List ℕ). w ∷ []) ((bytes_eq-Decides word (codes "fastlast")).0 r))
+    let is = (bytes_eq-Decides word (codes "fastlast")).0 r in
+    subst (λ g. word ∷ [] ≡ shape_words g) same (ap (λ (w : List ℕ). w ∷ []) is)
 word_takes word f false false false p q r e = absurd (cc)
 
-shape_takes : (words : List (List ℕ)) (f : Shape) → shape_named words ≡ Some f → words ≡ shape_words f
-shape_takes [] f e = let same : shape_with false false ≡ f = cc in subst (λ g. [] ≡ shape_words g) same refl
+shape_takes : (words : List (List ℕ)) (f : Shape) → shape_named words ≡ Some f
+    → words ≡ shape_words f
+shape_takes [] f e =
+    let same : plain ≡ f = cc in
+    subst (λ g. [] ≡ shape_words g) same refl
 shape_takes (word ∷ []) f e = word_takes word f _ _ _ refl refl refl e
 shape_takes (word ∷ other ∷ words) f e = absurd (cc)
 
@@ -162,8 +171,10 @@ sizes_take (a ∷ b ∷ []) made e = absurd (cc)
 sizes_take (a ∷ b ∷ c ∷ []) made e = absurd (cc)
 sizes_take (a ∷ b ∷ c ∷ d ∷ []) made e = absurd (cc)
 sizes_take (producers ∷ consumers ∷ cells ∷ pairs ∷ name ∷ shape) made e =
-    let t = bind_ok (ok_or (table_named name) (BadLine 1)) (with_table producers consumers cells pairs shape) made e in
-    let f = bind_ok (ok_or (shape_named shape) (BadLine 1)) (with_shape producers consumers cells pairs t.0) made t.2 in
+    let t = bind_ok (ok_or (table_named name) (BadLine 1))
+    (with_table producers consumers cells pairs shape) made e in
+    let f = bind_ok (ok_or (shape_named shape) (BadLine 1))
+    (with_shape producers consumers cells pairs t.0) made t.2 in
     let p = bind_ok (number_at 1 producers) (with_producers consumers cells pairs f.0 t.0) made f.2 in
     let c = bind_ok (number_at 1 consumers) (with_consumers p.0 cells pairs f.0 t.0) made p.2 in
     let m = bind_ok (number_at 1 cells) (with_cells p.0 c.0 pairs f.0 t.0) made c.2 in
@@ -179,7 +190,8 @@ sizes_take (producers ∷ consumers ∷ cells ∷ pairs ∷ name ∷ shape) made
     ∙ ap (λ (w : List ℕ). codes "setup" ∷ decimal p.0 ∷ decimal c.0 ∷ w ∷ pairs ∷ name ∷ shape) (at_takes 1 cells m.0 m.1).0
     ∙ ap (λ (w : List ℕ). codes "setup" ∷ decimal p.0 ∷ decimal c.0 ∷ decimal m.0 ∷ w ∷ name ∷ shape) (at_takes 1 pairs k.0 k.1).0
     ∙ ap (λ (w : List ℕ). codes "setup" ∷ decimal p.0 ∷ decimal c.0 ∷ decimal m.0 ∷ decimal k.0 ∷ w ∷ shape) named
-    ∙ ap (λ (ws : List (List ℕ)). codes "setup" ∷ decimal p.0 ∷ decimal c.0 ∷ decimal m.0 ∷ decimal k.0 ∷ table_name t.0 ∷ ws) shaped in
+    ∙ ap (λ (ws : List (List ℕ)). codes "setup" ∷ decimal p.0 ∷ decimal c.0 ∷ decimal m.0
+    ∷ decimal k.0 ∷ table_name t.0 ∷ ws) shaped in
     (z, whole, sized)
 
 setup_take : (ws : List (List ℕ)) (made : Made) → setup_of ws ≡ Ok made → (z : Sizes) × (ws ≡ setup_words z) × Sized made z
@@ -247,7 +259,8 @@ place_takes z n (Push lane) low has small = ltb-true _ _ low
 place_takes z n (Finish lane) low has small = ltb-true _ _ low
 place_takes z n (Step consumer lane word) low has small = (
   ltb-true _ _ low,
-  subst (λ (c : ℕ). consumer < c) (consumers_are z.shape z.producers z.consumers z.cells z.pairs z.table) (ltb-true _ _ has),
+  subst (λ (c : ℕ). consumer < c)
+      (consumers_are z.shape z.producers z.consumers z.cells z.pairs z.table) (ltb-true _ _ has),
   small.2,
 )
 

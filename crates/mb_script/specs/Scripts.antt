@@ -22,8 +22,8 @@ use Rattle.mb_script.specs.Shapes.{shape_named}
 use Rattle.mb_script.specs.Tables.{table_named}
 use Rattle.mb_script.specs.Text.{lines_of, words_of, has_empty, number_of}
 
--- what a first line makes: what a world is made of, how many pairs of deciding objects each cell has, and what it has
--- beside them
+-- what a first line makes: what a world is made of, how many pairs of deciding objects each cell has,
+-- and what it has beside them
 pub record Made : Type 0 where
   pub plan : Plan
   pub pairs : ℕ
@@ -37,7 +37,7 @@ made_in setup = record { plan = plan_in setup; pairs = pairs_in setup; shape = s
 abbrev pub made_from : Shape → ℕ → ℕ → ℕ → ℕ → TableName → Made
 made_from shape p c m k t = record { plan = shaped_plan shape p c m k t; pairs = k; shape = shape }
 
--- what a world is made of, and what is to happen, the first first
+-- the same, and what is to happen, the first first
 pub record Script : Type 0 where
   pub plan : Plan
   pub pairs : ℕ
@@ -46,7 +46,12 @@ pub record Script : Type 0 where
 
 -- the script of a world and its events
 abbrev pub script_with : Made → List Event → Script
-script_with made events = record { plan = made.plan; pairs = made.pairs; shape = made.shape; events = events }
+script_with made events = record {
+  plan = made.plan;
+  pairs = made.pairs;
+  shape = made.shape;
+  events = events;
+}
 
 -- a script of the code
 abbrev pub view : {A : Type 0} → code.Script A → Script
@@ -69,7 +74,8 @@ three_numbers n (a ∷ b ∷ c ∷ []) =
     number_at n a >>= (λ x. number_at n b >>= (λ y. number_at n c >>= (λ z. Ok (x, y, z))))
 three_numbers n words = Err (BadLine n)
 
--- ---- the first line: `setup`, four numbers, the name of a table and, if cells have more than pairs, their shape
+-- ---- the first line: `setup`, four numbers, the name of a table, and the shape of cells that have more
+-- than pairs
 -- what they make, or why they make nothing
 abbrev pub made_of : Option SetupFault → Made → Result Made Fault
 made_of None made = Ok made

@@ -5,5 +5,6 @@ use Rattle.mb_script.proofs.parsing.sizes.Goals as goal
 
 pub returns-in_default : goal.returns-in_default
 returns-in_default c =
-    let few = subst (λ (n : ℕ). n < 5) (sym (length-map c.args.words.now (λ w. w.now))) c.in_default.len_below in
+    let same = sym (length-map c.args.words.now (λ w. w.now)) in
+    let few = subst (λ (n : ℕ). n < 5) same c.in_default.len_below in
     (λ w. short_setup _ few, search rules, search rules)
