@@ -24,7 +24,7 @@ const CONSUMERS: u64 = 16;
 const ITEMS: u64 = 256;
 
 /// How many mailboxes there are, one after the other.
-const MAILBOXES: u64 = 110;
+const MAILBOXES: u64 = 32;
 
 /// How often a consumer looks whether all have come.
 const TURNS: u64 = 10_000_000;

@@ -1,8 +1,8 @@
 -- The calls of workers, one call later.
-use Rattle.std.proofs.Common.{◌≡◌, ℕ, suc, ◌+◌, ◌-◌, ◌<◌, ◌≤◌, ⊎_elim, List, [], ◌∷◌, length, refl, sym, ap, ◌∙◌, subst, arith}
+use Rattle.std.proofs.Common.{◌≡◌, ℕ, suc, ◌<◌, ◌≤◌, ⊎_elim, [], ◌∷◌, refl, sym, ap, ◌∙◌, subst, arith}
 use Rattle.std.proofs.Math.Nat.{le-suc_iff}
 use Rattle.mb_mailbox.specs.Below.{Stream}
-use Rattle.mb_mailbox.specs.Calls.{ArePassed, AreCalls, HasCalled}
+use Rattle.mb_mailbox.specs.Calls.{ArePassed, HasCalled}
 use Rattle.mb_mailbox.specs.Consumers.{ConsumerView}
 use Rattle.mb_mailbox.specs.Steps.{IsPollOf}
 use Rattle.mb_mailbox.specs.declared.consumer.Poll.{Poll}

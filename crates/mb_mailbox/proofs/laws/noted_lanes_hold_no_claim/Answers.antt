@@ -6,7 +6,6 @@ use Rattle.mb_mailbox.specs.Below.{Claim, Note, cells_met, claims_in}
 use Rattle.mb_mailbox.specs.Consumers.{ConsumerView, IsConsumer, parts_of}
 use Rattle.mb_mailbox.specs.Gathering.{has_begun_at, kept_at}
 use Rattle.mb_mailbox.specs.Hubs.{LedgerView, ledger_of}
-use Rattle.mb_mailbox.specs.Moves.{HasPlace}
 use Rattle.mb_mailbox.specs.Steps.{HasNoteOnEach, notes_on}
 use Rattle.mb_mailbox.specs.declared.place.Place.{Place}
 use Rattle.mb_mailbox.specs.declared.place.Place.TheVariants.{At, Before}
@@ -52,8 +51,8 @@ kept_there (y ∷ ys) (suc n) x = kept_there ys n x
 pub returns-clause-begun : goal.returns-clause-begun
 returns-clause-begun c h s p i each =
     elim (kept_there h.ledgers s.seat.consumer (ledger_of s)) [
-    | inl kept ↦ ap begun_by kept ∙ none_begun s p i each
-    | inr none ↦ ap begun_by none
+      | inl kept ↦ ap begun_by kept ∙ none_begun s p i each
+      | inr none ↦ ap begun_by none
     ]
   where
     begun_by : Option LedgerView → Bool

@@ -1,7 +1,7 @@
 use Rattle.std.proofs.Common.{◌≡◌, ◌∙◌, ◌+◌, ◌<◌, ◌≤◌, arith, ap, refl, subst, sym}
 use Rattle.std.specs.Prelude.{None, Some}
 use Rattle.mb_claim.specs.declared.access.Stage.TheVariants as stage
-use Rattle.mb_claim.specs.Vocabulary.{most_accesses, steps_left}
+use Rattle.mb_claim.specs.Vocabulary.{steps_left}
 use Rattle.mb_mailbox.specs.declared.consumer.Poll.TheVariants as poll
 use Rattle.mb_mailbox.specs.declared.place.Place.TheVariants.{At}
 use Rattle.mb_mailbox.specs.Below.{CellsName, IsClaimIn, Lost, ReaderSeatView, SeatView, TableSize, Took, Undecided, name_of, part_on}

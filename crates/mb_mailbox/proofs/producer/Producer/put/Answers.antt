@@ -28,9 +28,8 @@ returns-in-Cell-clause-linked g c = λ done.
     let now = c.push-in-Cell.new.seat in
     let s = producer_at c.self.inside.seat c.self.inside.items.items in
     let linked = c.producers_move_on.ensures.linked s c.args.x k c.push.result c.push-in-Cell.result c.offer.new.seat
-    c.push.new.seat now c.self.invariant.0 c.in-Cell.ensures.makes c.push.ensures.makes c.push-in-Cell.ensures.makes in
-    (
+    c.push.new.seat now c.self.invariant.0 c.in-Cell.ensures.makes c.push.ensures.makes c.push-in-Cell.ensures.makes in (
       k,
       subst (λ (o : ProducerView). IsPutInto k c.args.x o (producer_at now c.push_reserved.new.self.items)) c.self.view_is
-      (subst (λ (l : List ℕ). IsPutInto k c.args.x s (producer_at now l)) (sym c.push_reserved.ensures.items) linked),
+          (subst (λ (l : List ℕ). IsPutInto k c.args.x s (producer_at now l)) (sym c.push_reserved.ensures.items) linked),
     )
