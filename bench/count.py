@@ -1,13 +1,16 @@
 #!/usr/bin/env python3
 """Counts the instructions of the libraries' loops and of the same loops by hand, and prints a table of both.
 
-usage: bench/count.py [--shapes lone,mail] [--tables bits,unary,middle] [--consumers 2,4,16,64] [--keep]
+usage: bench/count.py [--loops lone,mail] [--shapes plain,fast,last,fastlast] [--tables bits,unary,middle]
+                      [--consumers 2,4,16,64] [--items] [--keep]
 
 Both programs are built first: `mailbox_bench` by `rt run`, which proves it, and `by_hand` by rustc. Then callgrind counts
 the instructions of each at two sizes, so that the start of the program falls out; the counts repeat exactly. Both have to
-print the same lines. With --keep the programs of the last run are taken as they are. It wants rt, rustc and valgrind.
+print the same lines. With --items the unit of a loop over claims is a cell with all claims on it, and not an access. With
+--keep the programs of the last run are taken as they are. It wants rt, rustc and valgrind.
 """
 import argparse
+import itertools
 import pathlib
 import re
 import subprocess
@@ -18,7 +21,7 @@ TOP = pathlib.Path(__file__).resolve().parent.parent
 PROGRAM = TOP / "crates" / "mailbox_bench" / "out" / "mailbox_bench"
 BY_HAND = pathlib.Path(tempfile.gettempdir()) / "mailbox_bench_by_hand"
 
-# How often a shape is done at either size.
+# How often a loop is done at either size.
 SIZES = {
     "words": (2, 6), "lone": (4, 12), "contended": (2, 6), "tables": (4, 12), "shared": (4, 12), "mail": (2, 6),
     "mailboxes": (2, 6), "puts": (2, 6), "mailbox": (2, 6), "chacha": (2, 6), "play": (100, 300), "ratify": (1, 3),
@@ -31,6 +34,9 @@ UNITS = {
 }
 # What these make at each time, words, tables, a mailbox or a world, is no part of their units.
 LESS = {"lone": "words", "contended": "words", "shared": "tables", "puts": "mailboxes", "events": "worlds"}
+# These make claims on so many cells at each time. With fewer accesses in another shape of the cells, an access tells little.
+CLAIMS = ("lone", "contended", "shared")
+CELLS = 256
 # These have no loop by hand.
 ALONE = ("chacha", "events", "reports")
 
@@ -43,30 +49,32 @@ def build():
     subprocess.run(["rustc", *flags, TOP / "bench" / "by_hand" / "main.rs", "-o", BY_HAND], check=True)
 
 
-def counted(program, shape, table, consumers, times):
+def counted(program, what, times):
     """The instructions of a run, and the line that it prints."""
+    loop, shape, table, consumers = what
     valgrind = ["valgrind", "--tool=callgrind", "--callgrind-out-file=/dev/null"]
-    words = [shape, table, str(consumers), str(times)]
+    words = [loop, table, consumers, str(times), *([] if shape == "plain" else [shape])]
     ran = subprocess.run([*valgrind, program, *words], capture_output=True, text=True, check=True)
     return int(re.search(r"Collected : (\d+)", ran.stderr).group(1)), ran.stdout
 
 
-def difference(program, shape, table, consumers):
+def difference(program, what):
     """The instructions of one time, the units that it makes, and the lines of both sizes."""
-    small, large = SIZES[shape]
-    (few, first), (many, last) = (counted(program, shape, table, consumers, times) for times in (small, large))
+    small, large = SIZES[what[0]]
+    (few, first), (many, last) = (counted(program, what, times) for times in (small, large))
     units = [int(re.search(r": (\d+)", line).group(1)) for line in (first, last)]
     return (many - few) / (large - small), (units[1] - units[0]) / (large - small), first + last
 
 
-def row(shape, table, consumers):
-    """What a unit of the shape takes, by the libraries and, where there is such a loop, by hand."""
+def row(what, by_item):
+    """What a unit of the loop takes, by the libraries and, if there is such a loop, by hand."""
+    loop, *others = what
     taken, lines = [], []
-    for program in (PROGRAM,) if shape in ALONE else (PROGRAM, BY_HAND):
-        instructions, units, line = difference(program, shape, table, consumers)
-        if shape in LESS:
-            instructions -= difference(program, LESS[shape], table, consumers)[0]
-        taken.append(instructions / units)
+    for program in (PROGRAM,) if loop in ALONE else (PROGRAM, BY_HAND):
+        instructions, units, line = difference(program, what)
+        if loop in LESS:
+            instructions -= difference(program, (LESS[loop], *others))[0]
+        taken.append(instructions / (CELLS if by_item else units))
         lines.append(line)
     if lines[0] != lines[-1]:
         sys.exit(f"the programs differ:\n{lines[0]}{lines[-1]}")
@@ -75,23 +83,28 @@ def row(shape, table, consumers):
 
 def main():
     parser = argparse.ArgumentParser()
-    parser.add_argument("--shapes", default="lone,contended,shared,mail,puts,mailbox,play,ratify")
+    parser.add_argument("--loops", default="lone,contended,shared,mail,puts,mailbox,play,ratify")
+    parser.add_argument("--shapes", default="plain")
     parser.add_argument("--tables", default="bits,unary,middle")
     parser.add_argument("--consumers", default="1,2,4,16,64")
+    parser.add_argument("--items", action="store_true")
     parser.add_argument("--keep", action="store_true")
     options = parser.parse_args()
     if not options.keep:
         build()
     cpu = re.search(r"Model name:\s*(.*)", subprocess.run(["lscpu"], capture_output=True, text=True).stdout)
     print(f"Machine: {cpu.group(1) if cpu else 'unknown'}\n")
-    print("| Shape | Table | Consumers | Libraries | By hand | Ratio |")
+    print("| Loop | Table | Consumers | Libraries | By hand | Ratio |")
     print("|---|---|---|---|---|---|")
-    for shape in options.shapes.split(","):
-        for table in options.tables.split(","):
-            for consumers in options.consumers.split(","):
-                ours, *hand = row(shape, table, int(consumers))
-                beside = f"{hand[0]:.1f} | {ours / hand[0]:.2f}" if hand else "- | -"
-                print(f"| {shape}, {UNITS[shape]} | {table} | {consumers} | {ours:.1f} | {beside} |", flush=True)
+    choices = (options.loops, options.shapes, options.tables, options.consumers)
+    for what in itertools.product(*(words.split(",") for words in choices)):
+        loop, shape, table, consumers = what
+        by_item = options.items and loop in CLAIMS
+        ours, *hand = row(what, by_item)
+        name = loop if shape == "plain" else f"{loop} {shape}"
+        unit = "an item" if by_item else UNITS[loop]
+        beside = f"{hand[0]:.1f} | {ours / hand[0]:.2f}" if hand else "- | -"
+        print(f"| {name}, {unit} | {table} | {consumers} | {ours:.1f} | {beside} |", flush=True)
 
 
 if __name__ == "__main__":

@@ -8,6 +8,9 @@ use std::sync::atomic::Ordering::SeqCst;
 pub trait Words {
     fn load(&self, at: usize) -> u64;
     fn store(&mut self, at: usize, value: u64);
+
+    /// Stores the value in an empty word, and returns what stood there before.
+    fn exchange(&mut self, at: usize, value: u64) -> u64;
 }
 
 impl Words for [u64] {
@@ -19,6 +22,16 @@ impl Words for [u64] {
     #[inline]
     fn store(&mut self, at: usize, value: u64) {
         self[at] = value
+    }
+
+    #[inline]
+    fn exchange(&mut self, at: usize, value: u64) -> u64 {
+        let word = &mut self[at];
+        let found = *word;
+        if found == 0 {
+            *word = value
+        }
+        found
     }
 }
 
@@ -32,6 +45,11 @@ impl Words for &[AtomicU64] {
     fn store(&mut self, at: usize, value: u64) {
         self[at].store(value, SeqCst)
     }
+
+    #[inline]
+    fn exchange(&mut self, at: usize, value: u64) -> u64 {
+        self[at].compare_exchange(0, value, SeqCst, SeqCst).unwrap_or_else(|found| found)
+    }
 }
 
 /// How far a claim has come.
@@ -43,7 +61,8 @@ pub enum Stage {
     Undecided,
 }
 
-/// Where a claim stands in its pair of objects. The words of a pair are the conciliator's, the proposal, the registers.
+/// Where a claim stands in its object. A conciliator has one word, a ratifier its proposal and then its registers, and the
+/// last object one word.
 #[derive(Clone, Copy)]
 enum Place {
     /// It looks into the conciliator's word, and stores there where a random word is below the limit.
@@ -56,20 +75,27 @@ enum Place {
     SetProposal,
     /// It looks for other values in these registers.
     Check { left: u64, preference: u32 },
+    /// It stores its value in the last object's word, if that is empty.
+    Exchange,
 }
 
 #[derive(Clone, Copy)]
 pub struct Claim {
     consumer: u32,
     value: u32,
-    pair: u32,
+    /// How many ratifiers it has passed.
+    passed: u32,
+    /// Where the words of its object begin, in those of all cells.
+    base: usize,
     place: Place,
     stage: Stage,
 }
 
 impl Claim {
-    pub fn new(consumer: u32) -> Claim {
-        Claim { consumer, value: consumer, pair: 0, place: Place::Look { limit: 1 }, stage: Stage::Going }
+    #[inline]
+    pub fn new(layout: &Layout, consumer: u32, cell: usize) -> Claim {
+        let place = if layout.fast { announcing(layout, consumer) } else { Place::Look { limit: 1 } };
+        Claim { consumer, value: consumer, passed: 0, base: cell * layout.cell_words, place, stage: Stage::Going }
     }
 
     #[inline]
@@ -79,13 +105,13 @@ impl Claim {
 
     /// One access, with its random word.
     #[inline]
-    pub fn step<W: Words + ?Sized>(&mut self, layout: &Layout, words: &mut W, cell: usize, word: u64) -> Stage {
-        let base = cell * layout.cell_words + self.pair as usize * layout.pair_words;
+    pub fn step<W: Words + ?Sized>(&mut self, layout: &Layout, words: &mut W, word: u64) -> Stage {
+        let base = self.base;
         match self.place {
             Place::Look { limit } => {
                 let seen = words.load(base);
                 if seen != 0 {
-                    self.announce(layout, (seen - 1) as u32)
+                    self.ratify(layout, (seen - 1) as u32)
                 } else if word & (layout.modulus - 1) < limit {
                     self.place = Place::Write
                 } else {
@@ -98,15 +124,15 @@ impl Claim {
             }
             Place::Again => {
                 let seen = words.load(base);
-                self.announce(layout, (seen - 1) as u32)
+                self.ratify(layout, (seen - 1) as u32)
             }
             Place::Announce { left } => {
-                words.store(base + 2 + left.trailing_zeros() as usize, 1);
+                words.store(base + 1 + left.trailing_zeros() as usize, 1);
                 let left = left & (left - 1);
                 self.place = if left == 0 { Place::Propose } else { Place::Announce { left } }
             }
             Place::Propose => {
-                let seen = words.load(base + 1);
+                let seen = words.load(base);
                 if seen == 0 {
                     self.place = Place::SetProposal
                 } else {
@@ -115,26 +141,30 @@ impl Claim {
                 }
             }
             Place::SetProposal => {
-                words.store(base + 1, u64::from(self.value) + 1);
+                words.store(base, u64::from(self.value) + 1);
                 self.check(layout.read[self.value as usize], self.value)
             }
             Place::Check { left, preference } => {
-                if words.load(base + 2 + left.trailing_zeros() as usize) != 0 {
+                if words.load(base + 1 + left.trailing_zeros() as usize) != 0 {
                     self.pass(layout, preference)
                 } else {
                     self.check(left & (left - 1), preference)
                 }
             }
+            Place::Exchange => match words.exchange(base, u64::from(self.value) + 1) {
+                0 => self.decide(self.value),
+                found => self.decide((found - 1) as u32),
+            },
         }
         self.stage
     }
 
-    /// On to the ratifier, with this value.
+    /// On from the conciliator to the ratifier after it, with this value.
     #[inline]
-    fn announce(&mut self, layout: &Layout, value: u32) {
+    fn ratify(&mut self, layout: &Layout, value: u32) {
+        self.base += 1;
         self.value = value;
-        let left = layout.write[value as usize];
-        self.place = if left == 0 { Place::Propose } else { Place::Announce { left } }
+        self.place = announcing(layout, value)
     }
 
     /// On to these registers, or decided where there is none.
@@ -142,22 +172,42 @@ impl Claim {
     fn check(&mut self, left: u64, preference: u32) {
         if left != 0 {
             self.place = Place::Check { left, preference }
-        } else if preference == self.consumer {
-            self.stage = Stage::Won
         } else {
-            self.stage = Stage::Lost(preference)
+            self.decide(preference)
         }
     }
 
-    /// On to the next pair, with this value, or undecided where there is none.
+    /// Ends with this value.
+    #[inline]
+    fn decide(&mut self, value: u32) {
+        self.stage = if value == self.consumer { Stage::Won } else { Stage::Lost(value) }
+    }
+
+    /// On from a ratifier to the object after it, with this value, or undecided if there is none.
     #[inline]
     fn pass(&mut self, layout: &Layout, value: u32) {
-        if self.pair as usize + 1 == layout.pairs {
-            self.stage = Stage::Undecided
+        self.base += layout.ratifier_words;
+        self.passed += 1;
+        self.value = value;
+        if self.passed == layout.ratifiers {
+            if layout.last {
+                self.place = Place::Exchange
+            } else {
+                self.stage = Stage::Undecided
+            }
+        } else if layout.fast && self.passed == 1 {
+            self.place = announcing(layout, value)
         } else {
-            self.value = value;
-            self.pair += 1;
             self.place = Place::Look { limit: 1 }
         }
+    }
+}
+
+/// The first place of a ratifier, with this value.
+#[inline]
+fn announcing(layout: &Layout, value: u32) -> Place {
+    match layout.write[value as usize] {
+        0 => Place::Propose,
+        left => Place::Announce { left },
     }
 }

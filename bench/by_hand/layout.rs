@@ -45,19 +45,43 @@ impl Table {
     }
 }
 
+/// What a cell has beside its pairs: two ratifiers before them, and an object after them that always decides.
+#[derive(Clone, Copy)]
+pub struct Shape {
+    pub fast: bool,
+    pub last: bool,
+}
+
+impl Shape {
+    pub fn of(name: &str) -> Option<Shape> {
+        match name {
+            "plain" => Some(Shape { fast: false, last: false }),
+            "fast" => Some(Shape { fast: true, last: false }),
+            "last" => Some(Shape { fast: false, last: true }),
+            "fastlast" => Some(Shape { fast: true, last: true }),
+            _ => None,
+        }
+    }
+}
+
 pub struct Layout {
     pub consumers: u32,
-    pub pairs: usize,
+    pub fast: bool,
+    pub last: bool,
     /// A conciliator goes on where a random word, modulo this, is below its limit.
     pub modulus: u64,
-    pub pair_words: usize,
+    /// How many ratifiers a cell has.
+    pub ratifiers: u32,
+    /// How many objects it has before the last one.
+    pub objects: u32,
+    pub ratifier_words: usize,
     pub cell_words: usize,
     pub write: [u64; MAX_CONSUMERS],
     pub read: [u64; MAX_CONSUMERS],
 }
 
 impl Layout {
-    pub fn new(consumers: u32, pairs: usize, table: Table) -> Layout {
+    pub fn new(consumers: u32, pairs: u32, table: Table, shape: Shape) -> Layout {
         let width = u64::BITS - u64::from(consumers - 1).leading_zeros();
         let (registers, quorums) = table.quorums(consumers, width);
         let all = u64::MAX.checked_shr(u64::BITS - registers).unwrap_or(0);
@@ -66,13 +90,19 @@ impl Layout {
             write[value] = quorum;
             read[value] = all & !quorum;
         }
-        let pair_words = 2 + registers as usize;
+        let Shape { fast, last } = shape;
+        let first = if fast { 2 } else { 0 };
+        let ratifiers = first + pairs;
+        let ratifier_words = 1 + registers as usize;
         Layout {
             consumers,
-            pairs,
+            fast,
+            last,
             modulus: 1 << (width + 1),
-            pair_words,
-            cell_words: pairs * pair_words,
+            ratifiers,
+            objects: first + 2 * pairs,
+            ratifier_words,
+            cell_words: ratifiers as usize * ratifier_words + pairs as usize + usize::from(last),
             write,
             read,
         }

@@ -65,11 +65,11 @@ pub fn claim_cell<W: Words + ?Sized>(
     cell: usize,
     source: &mut Source,
 ) -> (u64, Stage) {
-    let mut claim = Claim::new(consumer);
+    let mut claim = Claim::new(layout, consumer, cell);
     let mut made = 0;
     loop {
         made += 1;
-        let stage = claim.step(layout, words, cell, source.word());
+        let stage = claim.step(layout, words, source.word());
         if stage != Stage::Going {
             return (made, stage);
         }
@@ -105,14 +105,14 @@ pub fn shared(layout: &Layout, times: u64) -> Count {
 pub fn contended(layout: &Layout, times: u64) -> Count {
     let mut source = Source::new();
     let mut count = Count { accesses: 0, won: 0 };
-    let mut claims: Vec<Claim> = (0..layout.consumers).map(Claim::new).collect();
+    let mut claims: Vec<Claim> = (0..layout.consumers).map(|consumer| Claim::new(layout, consumer, 0)).collect();
     for _ in 0..times {
         let mut words = layout.words();
         for cell in 0..CELLS {
             for (consumer, claim) in (0..).zip(&mut claims) {
-                *claim = Claim::new(consumer)
+                *claim = Claim::new(layout, consumer, cell)
             }
-            while turn_each(layout, &mut words, cell, &mut claims, &mut source, &mut count) {}
+            while turn_each(layout, &mut words, &mut claims, &mut source, &mut count) {}
         }
     }
     count
@@ -123,7 +123,6 @@ pub fn contended(layout: &Layout, times: u64) -> Count {
 fn turn_each(
     layout: &Layout,
     words: &mut [u64],
-    cell: usize,
     claims: &mut [Claim],
     source: &mut Source,
     count: &mut Count,
@@ -131,7 +130,7 @@ fn turn_each(
     let mut going = false;
     for claim in claims {
         if claim.stage() == Stage::Going {
-            let stage = claim.step(layout, words, cell, source.word());
+            let stage = claim.step(layout, words, source.word());
             count.add(1, stage);
             going |= stage == Stage::Going
         }

@@ -172,11 +172,14 @@ impl Consumer {
             Place::Before(last) => match mailbox.link(p, last).load(SeqCst) {
                 0 => return Poll::Nothing,
                 END => return Poll::Ended,
-                link => (link as usize - 1, Claim::new(self.number), budget - 1),
+                link => {
+                    let cell = link as usize - 1;
+                    (cell, Claim::new(mailbox.layout, self.number, cell), budget - 1)
+                }
             },
         };
         for left in (0..left).rev() {
-            match claim.step(mailbox.layout, &mut &mailbox.claims[..], cell, source.word()) {
+            match claim.step(mailbox.layout, &mut &mailbox.claims[..], source.word()) {
                 Stage::Going => {}
                 Stage::Won if left == 0 => {
                     lane.place = Place::Won(cell);

@@ -1,6 +1,6 @@
 //! The claims, mailboxes and schedules of `mailbox_bench` in hand-written Rust, to compare with.
 //!
-//! usage: by_hand SHAPE TABLE CONSUMERS TIMES, as `mailbox_bench` takes them. It prints the same lines.
+//! usage: by_hand LOOP TABLE CONSUMERS TIMES [SHAPE], as `mailbox_bench` takes them. It prints the same lines.
 
 // Entries and notes are made, counted and dropped: nothing reads them.
 #![allow(dead_code)]
@@ -14,23 +14,29 @@ mod play;
 mod ratify;
 mod source;
 
-use layout::{Layout, MAX_CONSUMERS, Table};
+use layout::{Layout, MAX_CONSUMERS, Shape, Table};
 
 /// How many pairs of objects each cell has.
-const PAIRS: usize = 4;
+const PAIRS: u32 = 4;
+
+const USAGE: &str = "usage: by_hand \
+    words|lone|contended|tables|shared|mail|mailboxes|puts|mailbox|play|ratify \
+    bits|unary|middle CONSUMERS TIMES [plain|fast|last|fastlast]";
 
 fn main() {
     let words: Vec<String> = std::env::args().skip(1).collect();
-    let [shape, table, consumers, times] = &words[..] else {
-        eprintln!("usage: by_hand words|lone|contended|tables|shared|mail|mailboxes|puts|mailbox|play|ratify bits|unary|middle CONSUMERS TIMES");
+    let ([name, table, consumers, times] | [name, table, consumers, times, _]) = &words[..] else {
+        eprintln!("{USAGE}");
         std::process::exit(2);
     };
+    let shape = words.get(4).map_or("plain", String::as_str);
     let number = |text: &String| text.parse::<u64>().expect("a number");
     let (consumers, times) = (number(consumers), number(times));
     assert!((1..=MAX_CONSUMERS as u64).contains(&consumers), "1 to {MAX_CONSUMERS} consumers");
-    let table_name = Table::of(table).expect("a table");
-    let layout = Layout::new(consumers as u32, PAIRS, table_name);
-    let said = match shape.as_str() {
+    let its_table = Table::of(table).expect("a table");
+    let its_shape = Shape::of(shape).expect("a shape");
+    let layout = Layout::new(consumers as u32, PAIRS, its_table, its_shape);
+    let said = match name.as_str() {
         "words" => format!("{} words", loops::words_alone(&layout, times)),
         "lone" => loops::lone(&layout, times).to_string(),
         "contended" => loops::contended(&layout, times).to_string(),
@@ -42,7 +48,8 @@ fn main() {
         "mailbox" => mailbox::mailboxes(&layout, times).to_string(),
         "play" => play::plays(&layout, times).to_string(),
         "ratify" => ratify::ratifiers(&layout, times).to_string(),
-        _ => panic!("no such shape"),
+        _ => panic!("no such loop"),
     };
-    println!("{shape} {table} {consumers} {times}: {said}");
+    let shape = if shape == "plain" { String::new() } else { format!(" {shape}") };
+    println!("{name} {table} {consumers} {times}{shape}: {said}");
 }

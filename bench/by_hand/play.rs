@@ -14,6 +14,7 @@ const STEPS: u64 = 20;
 pub enum Act {
     Load { register: u32, value: u64 },
     Store { register: u32, value: u64 },
+    Exchange { value: u32, found: u64 },
 }
 
 #[derive(Clone, Copy)]
@@ -57,7 +58,7 @@ fn play(layout: &Layout, schedule: &[(u64, u64)]) -> Option<(Vec<Entry>, Vec<Sta
         return None;
     }
     let mut words = vec![0; layout.cell_words];
-    let mut claims: Vec<Claim> = (0..layout.consumers).map(Claim::new).collect();
+    let mut claims: Vec<Claim> = (0..layout.consumers).map(|consumer| Claim::new(layout, consumer)).collect();
     let mut entries = Vec::with_capacity(schedule.len());
     for &(consumer, word) in schedule {
         let claim = &mut claims[consumer as usize];
@@ -82,6 +83,7 @@ enum Place {
     Propose,
     SetProposal,
     Check { left: u64, preference: u32 },
+    Exchange,
 }
 
 /// A claim that tells what each of its accesses did.
@@ -89,23 +91,26 @@ struct Claim {
     consumer: u32,
     value: u32,
     object: u32,
+    /// Where the words of its object begin.
+    base: usize,
     place: Place,
     stage: Stage,
 }
 
 impl Claim {
-    fn new(consumer: u32) -> Claim {
-        Claim { consumer, value: consumer, object: 0, place: Place::Look { limit: 1 }, stage: Stage::Going }
+    fn new(layout: &Layout, consumer: u32) -> Claim {
+        let place = if layout.fast { announcing(layout, consumer) } else { Place::Look { limit: 1 } };
+        Claim { consumer, value: consumer, object: 0, base: 0, place, stage: Stage::Going }
     }
 
     #[inline]
     fn step(&mut self, layout: &Layout, words: &mut [u64], word: u64) -> Act {
-        let base = (self.object / 2) as usize * layout.pair_words;
+        let base = self.base;
         match self.place {
             Place::Look { limit } => {
                 let value = words[base];
                 if value != 0 {
-                    self.announce(layout, (value - 1) as u32)
+                    self.ratify(layout, (value - 1) as u32)
                 } else if word & (layout.modulus - 1) < limit {
                     self.place = Place::Write
                 } else {
@@ -121,68 +126,98 @@ impl Claim {
             }
             Place::Again => {
                 let value = words[base];
-                self.announce(layout, (value - 1) as u32);
+                self.ratify(layout, (value - 1) as u32);
                 Act::Load { register: 0, value }
             }
             Place::Announce { left } => {
-                let register = 2 + left.trailing_zeros();
+                let register = 1 + left.trailing_zeros();
                 words[base + register as usize] = 1;
                 let left = left & (left - 1);
                 self.place = if left == 0 { Place::Propose } else { Place::Announce { left } };
                 Act::Store { register, value: 1 }
             }
             Place::Propose => {
-                let value = words[base + 1];
+                let value = words[base];
                 if value == 0 {
                     self.place = Place::SetProposal
                 } else {
                     let preference = (value - 1) as u32;
                     self.check(layout.read[preference as usize], preference)
                 }
-                Act::Load { register: 1, value }
+                Act::Load { register: 0, value }
             }
             Place::SetProposal => {
                 let value = u64::from(self.value) + 1;
-                words[base + 1] = value;
+                words[base] = value;
                 self.check(layout.read[self.value as usize], self.value);
-                Act::Store { register: 1, value }
+                Act::Store { register: 0, value }
             }
             Place::Check { left, preference } => {
-                let register = 2 + left.trailing_zeros();
+                let register = 1 + left.trailing_zeros();
                 let value = words[base + register as usize];
                 if value != 0 { self.pass(layout, preference) } else { self.check(left & (left - 1), preference) }
                 Act::Load { register, value }
+            }
+            Place::Exchange => {
+                let value = self.value + 1;
+                let found = words[base];
+                if found == 0 {
+                    words[base] = u64::from(value);
+                    self.decide(self.value)
+                } else {
+                    self.decide((found - 1) as u32)
+                }
+                Act::Exchange { value, found }
             }
         }
     }
 
     #[inline]
-    fn announce(&mut self, layout: &Layout, value: u32) {
+    fn ratify(&mut self, layout: &Layout, value: u32) {
         self.value = value;
         self.object += 1;
-        let left = layout.write[value as usize];
-        self.place = if left == 0 { Place::Propose } else { Place::Announce { left } }
+        self.base += 1;
+        self.place = announcing(layout, value)
     }
 
     #[inline]
     fn check(&mut self, left: u64, preference: u32) {
         if left != 0 {
             self.place = Place::Check { left, preference }
-        } else if preference == self.consumer {
-            self.stage = Stage::Won
         } else {
-            self.stage = Stage::Lost(preference)
+            self.decide(preference)
         }
     }
 
     #[inline]
+    fn decide(&mut self, value: u32) {
+        self.stage = if value == self.consumer { Stage::Won } else { Stage::Lost(value) }
+    }
+
+    #[inline]
     fn pass(&mut self, layout: &Layout, value: u32) {
-        if self.object as usize + 1 == 2 * layout.pairs {
-            self.stage = Stage::Undecided
+        self.base += layout.ratifier_words;
+        self.object += 1;
+        self.value = value;
+        if self.object == layout.objects {
+            if layout.last {
+                self.place = Place::Exchange
+            } else {
+                self.stage = Stage::Undecided
+            }
+        } else if layout.fast && self.object == 1 {
+            self.place = announcing(layout, value)
         } else {
-            self.value = value;
-            self.object += 1;
             self.place = Place::Look { limit: 1 }
         }
+    }
+}
+
+/// The first place of a ratifier, with this value.
+#[inline]
+fn announcing(layout: &Layout, value: u32) -> Place {
+    match layout.write[value as usize] {
+        0 => Place::Propose,
+        left => Place::Announce { left },
     }
 }

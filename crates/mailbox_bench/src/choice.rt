@@ -1,5 +1,5 @@
 //! The command line.
-use mb_claim::Layout;
+use mb_claim::{Layout, Shape};
 use mb_quorum::TableName;
 use std::fmt;
 
@@ -8,7 +8,7 @@ pub const PAIRS: u64 = 4;
 
 /// What is done so many times.
 #[derive(Clone, Copy, PartialEq, Eq, Debug)]
-pub enum Shape {
+pub enum Loop {
     /// The words of `MAX_CELLS` cells are made, and nothing else.
     Words,
     /// One claim on each cell.
@@ -41,30 +41,58 @@ pub enum Shape {
     Reports,
 }
 
-/// All shapes.
-pub const SHAPES: [Shape; 15] = [
-    Shape::Words,
-    Shape::Lone,
-    Shape::Contended,
-    Shape::Tables,
-    Shape::Shared,
-    Shape::Mail,
-    Shape::Mailboxes,
-    Shape::Puts,
-    Shape::Mailbox,
-    Shape::Chacha,
-    Shape::Play,
-    Shape::Ratify,
-    Shape::Worlds,
-    Shape::Events,
-    Shape::Reports,
+/// All loops.
+pub const LOOPS: [Loop; 15] = [
+    Loop::Words,
+    Loop::Lone,
+    Loop::Contended,
+    Loop::Tables,
+    Loop::Shared,
+    Loop::Mail,
+    Loop::Mailboxes,
+    Loop::Puts,
+    Loop::Mailbox,
+    Loop::Chacha,
+    Loop::Play,
+    Loop::Ratify,
+    Loop::Worlds,
+    Loop::Events,
+    Loop::Reports,
 ];
 
-/// A shape with its table, its consumers, and how often it is done.
+/// The loops that are done with each shape of the cells, if no loop is named.
+pub const SHAPED: [Loop; 3] = [Loop::Lone, Loop::Contended, Loop::Mailbox];
+
+/// All shapes of the cells but the plain one, with their names.
+pub const SHAPES: [(&str, Shape); 3] = [
+    (
+        "fast",
+        Shape {
+            fast: true,
+            last: false,
+        },
+    ),
+    (
+        "last",
+        Shape {
+            fast: false,
+            last: true,
+        },
+    ),
+    (
+        "fastlast",
+        Shape {
+            fast: true,
+            last: true,
+        },
+    ),
+];
+
+/// A loop with its table, its consumers, the shape of its cells, and how often it is done.
 #[derive(Debug, Drop)]
 pub struct Choice {
     /// What is done.
-    pub shape: Shape,
+    pub what: Loop,
     /// The table of the ratifiers.
     pub name: TableName,
     /// The consumers and the objects of each cell.
@@ -74,29 +102,36 @@ pub struct Choice {
 }
 
 impl Choice {
-    /// The choice that the words after the program's name tell: a shape, a table, the consumers and the times.
+    /// The choice that the words after the program's name tell: a loop, a table, the consumers and the times, and then
+    /// the shape of the cells, or nothing more if that is plain.
     pub fn of(words: &[String]) -> Option<Choice> {
-        let [shape, name, consumers, times] = words else {
-            return None;
+        let (words, shape) = match words {
+            [what, name, consumers, times] => ([what, name, consumers, times], Shape::PLAIN),
+            [what, name, consumers, times, shape] => {
+                ([what, name, consumers, times], shape_of(shape.as_str())?)
+            }
+            _ => return None,
         };
-        let shape = shape_of(shape.as_str())?;
+        let [what, name, consumers, times] = words;
+        let what = loop_of(what.as_str())?;
         let name = name_of(name.as_str())?;
         let layout = Layout::new(consumers.as_str().parse::<u64>().ok()?, PAIRS, name).ok()?;
         let times = times.as_str().parse::<u64>().ok()?;
         Some(Choice {
-            shape,
+            what,
             name,
-            layout,
+            layout: layout.shaped(shape),
             times,
         })
     }
 
-    /// A short run of this shape.
-    pub fn short(shape: Shape) -> Option<Choice> {
+    /// A short run of this loop, over cells of this shape.
+    pub fn short(what: Loop, shape: Shape) -> Option<Choice> {
+        let layout = Layout::new(3, PAIRS, TableName::Bits).ok()?;
         Some(Choice {
-            shape,
+            what,
             name: TableName::Bits,
-            layout: Layout::new(3, PAIRS, TableName::Bits).ok()?,
+            layout: layout.shaped(shape),
             times: 1,
         })
     }
@@ -104,22 +139,22 @@ impl Choice {
 
 impl fmt::Display for Choice {
     fn fmt<W: fmt::Write>(&self, f: &mut fmt::Formatter<W>) -> fmt::Result {
-        let shape = match self.shape {
-            Shape::Words => "words",
-            Shape::Lone => "lone",
-            Shape::Contended => "contended",
-            Shape::Tables => "tables",
-            Shape::Shared => "shared",
-            Shape::Mail => "mail",
-            Shape::Mailboxes => "mailboxes",
-            Shape::Puts => "puts",
-            Shape::Mailbox => "mailbox",
-            Shape::Chacha => "chacha",
-            Shape::Play => "play",
-            Shape::Ratify => "ratify",
-            Shape::Worlds => "worlds",
-            Shape::Events => "events",
-            Shape::Reports => "reports",
+        let what = match self.what {
+            Loop::Words => "words",
+            Loop::Lone => "lone",
+            Loop::Contended => "contended",
+            Loop::Tables => "tables",
+            Loop::Shared => "shared",
+            Loop::Mail => "mail",
+            Loop::Mailboxes => "mailboxes",
+            Loop::Puts => "puts",
+            Loop::Mailbox => "mailbox",
+            Loop::Chacha => "chacha",
+            Loop::Play => "play",
+            Loop::Ratify => "ratify",
+            Loop::Worlds => "worlds",
+            Loop::Events => "events",
+            Loop::Reports => "reports",
         };
         let name = match self.name {
             TableName::Unary => "unary",
@@ -128,30 +163,49 @@ impl fmt::Display for Choice {
         };
         let consumers = self.layout.consumers();
         let times = self.times;
-        write!(f, "{shape} {name} {consumers} {times}")
+        write!(f, "{what} {name} {consumers} {times}")?;
+        for (name, shape) in SHAPES {
+            if self.layout.shape() == shape {
+                write!(f, " {name}")?;
+            }
+        }
+        Ok(())
+    }
+}
+
+/// The loop of this name.
+fn loop_of(text: &str) -> Option<Loop> {
+    match text {
+        "words" => Some(Loop::Words),
+        "lone" => Some(Loop::Lone),
+        "contended" => Some(Loop::Contended),
+        "tables" => Some(Loop::Tables),
+        "shared" => Some(Loop::Shared),
+        "mail" => Some(Loop::Mail),
+        "mailboxes" => Some(Loop::Mailboxes),
+        "puts" => Some(Loop::Puts),
+        "mailbox" => Some(Loop::Mailbox),
+        "chacha" => Some(Loop::Chacha),
+        "play" => Some(Loop::Play),
+        "ratify" => Some(Loop::Ratify),
+        "worlds" => Some(Loop::Worlds),
+        "events" => Some(Loop::Events),
+        "reports" => Some(Loop::Reports),
+        _ => None,
     }
 }
 
 /// The shape of this name.
 fn shape_of(text: &str) -> Option<Shape> {
-    match text {
-        "words" => Some(Shape::Words),
-        "lone" => Some(Shape::Lone),
-        "contended" => Some(Shape::Contended),
-        "tables" => Some(Shape::Tables),
-        "shared" => Some(Shape::Shared),
-        "mail" => Some(Shape::Mail),
-        "mailboxes" => Some(Shape::Mailboxes),
-        "puts" => Some(Shape::Puts),
-        "mailbox" => Some(Shape::Mailbox),
-        "chacha" => Some(Shape::Chacha),
-        "play" => Some(Shape::Play),
-        "ratify" => Some(Shape::Ratify),
-        "worlds" => Some(Shape::Worlds),
-        "events" => Some(Shape::Events),
-        "reports" => Some(Shape::Reports),
-        _ => None,
+    if text == "plain" {
+        return Some(Shape::PLAIN);
     }
+    for (name, shape) in SHAPES {
+        if text == name {
+            return Some(shape);
+        }
+    }
+    None
 }
 
 /// The table of this name.

@@ -69,10 +69,11 @@ pub fn mailboxes<A: Allocator + Copy + Drop, R: Rng>(
     Ok(post)
 }
 
-/// The setup of one lane and `MAX_CELLS` cells, with the choice's consumers.
+/// The setup of one lane and `MAX_CELLS` cells of the choice's shape, with its consumers.
 fn setup_of(choice: &Choice) -> Option<Setup> {
     let consumers = u64::from(choice.layout.consumers());
-    Setup::new(1, consumers, u64::from(MAX_CELLS), PAIRS, choice.name).ok()
+    let setup = Setup::new(1, consumers, u64::from(MAX_CELLS), PAIRS, choice.name).ok()?;
+    Some(setup.shaped(choice.layout.shape()))
 }
 
 /// Puts an item for each cell, numbered by how many mailboxes came before. The answer is how many were linked.

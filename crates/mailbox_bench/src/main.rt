@@ -1,7 +1,7 @@
 //! Claims, mailboxes and whole schedules in loops, for who counts their instructions.
 //!
-//! With the words SHAPE TABLE CONSUMERS TIMES it runs one loop and prints what that came to; with none, each shape
-//! once.
+//! With the words LOOP TABLE CONSUMERS TIMES, and the shape of the cells after them if it is not plain, it runs one loop
+//! and prints what that came to; with none, each loop once.
 #![tactic(auto)]
 
 use std::io;
@@ -24,6 +24,10 @@ pub mod world;
 use choice::Choice;
 use run::{run, run_all};
 
+/// What a command line may be.
+const USAGE: &str =
+    "usage: mailbox_bench [LOOP bits|unary|middle CONSUMERS TIMES [plain|fast|last|fastlast]]";
+
 /// The status of a command line that tells no choice.
 const REFUSED: u8 = 2;
 
@@ -37,7 +41,7 @@ fn main(rt: HostRuntime) -> io::Result<ExitCode> {
         return Ok(ExitCode::SUCCESS);
     }
     let Some(choice) = Choice::of(words) else {
-        eprintln!(rt; "usage: mailbox_bench [SHAPE bits|unary|middle CONSUMERS TIMES]")?;
+        eprintln!(rt; "{USAGE}")?;
         return Ok(ExitCode::from(REFUSED));
     };
     run(&rt, &choice)?;

@@ -1,5 +1,5 @@
 //! One run of a choice, and what is printed of it.
-use crate::choice::{Choice, SHAPES, Shape};
+use crate::choice::{Choice, LOOPS, Loop, SHAPED, SHAPES};
 use crate::contended::contended;
 use crate::count::Count;
 use crate::lone::{lone, words_alone};
@@ -9,6 +9,7 @@ use crate::schedules::{Runs, plays, ratifiers};
 use crate::shared::{shared, tables_alone};
 use crate::source::Source;
 use crate::world::{Deeds, events, reports, worlds_alone};
+use mb_claim::Shape;
 use rand_chacha::ChaCha8Rng;
 use rand_core::SeedableRng;
 use std::alloc::{AllocError, Allocator};
@@ -41,14 +42,25 @@ impl fmt::Display for Outcome {
     }
 }
 
-/// Each shape once.
+/// Each loop once, and those of [`SHAPED`] once more with each further shape of the cells.
 pub fn run_all<R: Print + AllocGlobal>(rt: &R) -> io::Result<()> {
-    for shape in SHAPES {
-        if let Some(choice) = Choice::short(shape) {
-            run(rt, &choice)?;
+    for what in LOOPS {
+        run_short(rt, what, Shape::PLAIN)?;
+    }
+    for (_, shape) in SHAPES {
+        for what in SHAPED {
+            run_short(rt, what, shape)?;
         }
     }
     Ok(())
+}
+
+/// A short run of this loop, over cells of this shape.
+fn run_short<R: Print + AllocGlobal>(rt: &R, what: Loop, shape: Shape) -> io::Result<()> {
+    match Choice::short(what, shape) {
+        Some(choice) => run(rt, &choice),
+        None => Ok(()),
+    }
 }
 
 /// Does what was chosen, and prints a line of what it came to.
@@ -61,24 +73,24 @@ pub fn run<R: Print + AllocGlobal>(rt: &R, choice: &Choice) -> io::Result<()> {
 fn done<A: Allocator + Copy + Drop>(alloc: A, choice: &Choice) -> Result<Outcome, AllocError> {
     let layout = &choice.layout;
     let times = choice.times;
-    Ok(match choice.shape {
-        Shape::Words => Outcome::Made(words_alone(alloc, layout, times)?, "words"),
-        Shape::Lone => Outcome::Claimed(lone(alloc, layout, times)?),
-        Shape::Contended => Outcome::Claimed(contended(alloc, layout, times)?),
-        Shape::Tables => Outcome::Made(tables_alone(alloc, layout, times)?, "tables"),
-        Shape::Shared => Outcome::Claimed(shared(alloc, layout, times)?),
-        Shape::Mail => Outcome::Posted(mail(alloc, layout, times)?),
-        Shape::Mailboxes => Outcome::Made(mailboxes_alone(alloc, choice)?, "mailboxes"),
-        Shape::Puts => Outcome::Made(puts(alloc, choice)?, "items"),
-        Shape::Mailbox => Outcome::Posted(mailboxes(alloc, choice, &mut Source::new())?),
-        Shape::Chacha => {
+    Ok(match choice.what {
+        Loop::Words => Outcome::Made(words_alone(alloc, layout, times)?, "words"),
+        Loop::Lone => Outcome::Claimed(lone(alloc, layout, times)?),
+        Loop::Contended => Outcome::Claimed(contended(alloc, layout, times)?),
+        Loop::Tables => Outcome::Made(tables_alone(alloc, layout, times)?, "tables"),
+        Loop::Shared => Outcome::Claimed(shared(alloc, layout, times)?),
+        Loop::Mail => Outcome::Posted(mail(alloc, layout, times)?),
+        Loop::Mailboxes => Outcome::Made(mailboxes_alone(alloc, choice)?, "mailboxes"),
+        Loop::Puts => Outcome::Made(puts(alloc, choice)?, "items"),
+        Loop::Mailbox => Outcome::Posted(mailboxes(alloc, choice, &mut Source::new())?),
+        Loop::Chacha => {
             let mut rng = ChaCha8Rng::from_seed([0; 32]);
             Outcome::Posted(mailboxes(alloc, choice, &mut rng)?)
         }
-        Shape::Play => Outcome::Ran(plays(alloc, layout, times)?),
-        Shape::Ratify => Outcome::Ran(ratifiers(alloc, layout, choice.name, times)?),
-        Shape::Worlds => Outcome::Made(worlds_alone(alloc, choice)?, "worlds"),
-        Shape::Events => Outcome::Lived(events(alloc, choice)?),
-        Shape::Reports => Outcome::Made(reports(alloc, choice)?, "notes"),
+        Loop::Play => Outcome::Ran(plays(alloc, layout, times)?),
+        Loop::Ratify => Outcome::Ran(ratifiers(alloc, layout, choice.name, times)?),
+        Loop::Worlds => Outcome::Made(worlds_alone(alloc, choice)?, "worlds"),
+        Loop::Events => Outcome::Lived(events(alloc, choice)?),
+        Loop::Reports => Outcome::Made(reports(alloc, choice)?, "notes"),
     })
 }

@@ -75,7 +75,7 @@ pub fn reports<A: Allocator + Copy + Drop>(alloc: A, choice: &Choice) -> Result<
     Ok(told)
 }
 
-/// A new world of so many lanes and `MAX_CELLS` cells, with the choice's consumers.
+/// A new world of so many lanes and `MAX_CELLS` cells of the choice's shape, with its consumers.
 fn world<A: Allocator + Copy + Drop>(
     alloc: A,
     choice: &Choice,
@@ -83,7 +83,7 @@ fn world<A: Allocator + Copy + Drop>(
 ) -> Result<Option<World<A>>, AllocError> {
     let consumers = u64::from(choice.layout.consumers());
     match Setup::new(lanes, consumers, u64::from(MAX_CELLS), PAIRS, choice.name) {
-        Ok(setup) => Ok(Some(World::new(alloc, setup)?)),
+        Ok(setup) => Ok(Some(World::new(alloc, setup.shaped(choice.layout.shape()))?)),
         Err(_) => Ok(None),
     }
 }

@@ -3,10 +3,12 @@
 use crate::plan::{Plan, Stops};
 use crate::refused::check_refused;
 use crate::run::{Fault, check};
+use crate::settled::check_settled;
 use mailbox_audit::Flaw;
+use mb_claim::Shape;
 use mb_mailbox::{Mailbox, Worked};
 use mb_quorum::TableName;
-use mb_world::Note::Took;
+use mb_world::Note::{Lost, Took, Undecided};
 use mb_world::Setup;
 use std::process::Abort;
 use std::test::Fail;
@@ -25,6 +27,8 @@ fn plan_of(producers: u64, consumers: u64, cells: u64, stops: Stops) -> Plan {
         zeros: true,
         stops,
         gate_seed: 0,
+        shape: Shape::PLAIN,
+        whole: false,
     }
 }
 
@@ -133,5 +137,43 @@ fn each_fault_after_a_refusal_is_found(rt: HostRuntime) -> Result<(), Fail> {
         after_refusal(&rt, true, false)?,
     );
     assert_eq!(rt; found, (Ok(()), Err(Fault::NotEnded), Err(Fault::NoReport)));
+    Ok(())
+}
+
+#[test]
+fn each_fault_of_an_item_that_is_not_settled_is_found(rt: HostRuntime) -> Result<(), Fail> {
+    let last = Shape {
+        fast: false,
+        last: true,
+    };
+    let took: DiaryTold<'_> = (0, 0, &[Took(0)], false);
+    let lost: DiaryTold<'_> = (0, 0, &[Lost(1)], false);
+    let undecided: DiaryTold<'_> = (0, 0, &[Undecided], false);
+    let begun: DiaryTold<'_> = (1, 0, &[], true);
+    let apart: DiaryTold<'_> = (1, 0, &[], false);
+    let cases: [(Shape, bool, DiaryTold<'_>, DiaryTold<'_>, Option<Fault>); 10] = [
+        (last, true, took, apart, None),
+        (last, true, apart, apart, None),
+        (last, false, took, begun, None),
+        (last, false, lost, begun, None),
+        (Shape::PLAIN, true, undecided, apart, None),
+        (Shape::PLAIN, true, lost, apart, None),
+        (last, true, took, begun, Some(Fault::Spent)),
+        (Shape::PLAIN, true, lost, begun, Some(Fault::Spent)),
+        (last, false, undecided, apart, Some(Fault::Undecided)),
+        (last, false, lost, apart, Some(Fault::NotSettled)),
+    ];
+    let other: LaneTold<'_> = (&[], true, &[]);
+    for (shape, is_whole, one, two, fault) in cases {
+        for lane in [0, 1] {
+            let lanes: [LaneTold<'_>; 2] = match lane {
+                0 => [(&[0], true, &[]), other],
+                _ => [other, (&[0], true, &[])],
+            };
+            let diaries = [(one.0, lane, one.2, one.3), (two.0, lane, two.2, two.3)];
+            let report = made_up(rt.alloc(), &lanes, &diaries)?;
+            assert_eq!(rt; check_settled(shape, is_whole, &report).err(), fault);
+        }
+    }
     Ok(())
 }

@@ -15,6 +15,7 @@ pub mod gates;
 pub mod plan;
 pub mod refused;
 pub mod run;
+pub mod settled;
 pub mod sources;
 pub mod totals;
 

@@ -3,6 +3,7 @@
 ghost use Rattle.std.specs.Prelude.{◌+◌, ◌*◌, ◌^◌, ◌<◌, ◌≤◌};
 
 use crate::sources::chacha;
+use mb_claim::Shape;
 use mb_quorum::TableName;
 use rand_core::Rng;
 
@@ -33,6 +34,10 @@ pub struct Plan {
     pub stops: Stops,
     /// What the gate draws from.
     pub gate_seed: u64,
+    /// What each cell has beside its pairs.
+    pub shape: Shape,
+    /// Whether each poll has a budget for a whole item, and not `budget`.
+    pub whole: bool,
 }
 
 /// A number from `least` on, one of so many.
@@ -78,21 +83,32 @@ impl Plan {
             1 => Stops::HalfOfTheConsumers(drawn(&mut rng, 2, 30)),
             _ => Stops::Nobody,
         };
+        let pairs = drawn(&mut rng, 1, 8);
+        let table = match drawn(&mut rng, 0, 3) {
+            0 => TableName::Unary,
+            1 => TableName::Bits,
+            _ => TableName::Middle,
+        };
+        let budget = drawn(&mut rng, 1, 64);
+        let zeros = is_even(&mut rng);
+        let gate_seed = rng.next_u64();
+        let shape = Shape {
+            fast: is_even(&mut rng),
+            last: is_even(&mut rng),
+        };
         Plan {
             producers,
             consumers,
             cells,
-            pairs: drawn(&mut rng, 1, 8),
-            table: match drawn(&mut rng, 0, 3) {
-                0 => TableName::Unary,
-                1 => TableName::Bits,
-                _ => TableName::Middle,
-            },
+            pairs,
+            table,
             items,
-            budget: drawn(&mut rng, 1, 64),
-            zeros: is_even(&mut rng),
+            budget,
+            zeros,
             stops,
-            gate_seed: rng.next_u64(),
+            gate_seed,
+            shape,
+            whole: shape.last && is_even(&mut rng),
         }
     }
 }

@@ -6,6 +6,7 @@ ghost use Rattle.mailbox_audit.specs.Asked.{HasAsked};
 use crate::gates::RandomGate;
 use crate::plan::{Plan, Stops};
 use crate::refused::check_refused;
+use crate::settled::check_settled;
 use crate::sources::chacha;
 use crate::totals::Totals;
 use mailbox_audit::{Flaw, audit};
@@ -42,6 +43,12 @@ pub enum Fault {
     Stopped,
     /// A consumer that was not stopped has not come to an item.
     NotMet,
+    /// A claim is under way, and each poll had a budget for a whole item.
+    Spent,
+    /// A consumer is undecided, and each cell has a last object.
+    Undecided,
+    /// Nobody took an item for which a consumer competed, and no claim on it is under way; and each cell has a last object.
+    NotSettled,
 }
 
 impl From<AllocError> for Fault {
@@ -144,6 +151,9 @@ fn run_with<W: Threads + Wait + Sync, R: Rng + Send + Drop>(
     ) else {
         return Err(Fault::Setup);
     };
+    let setup = setup.shaped(plan.shape);
+    let for_an_item = setup.layout().max_steps().saturating_add(2);
+    let budget = if plan.whole { for_an_item } else { plan.budget };
     let Ok((mailbox, mut hub)) = Mailbox::new(alloc, setup) else {
         return Err(Fault::NoMemory);
     };
@@ -152,16 +162,7 @@ fn run_with<W: Threads + Wait + Sync, R: Rng + Send + Drop>(
         seed: plan.gate_seed,
     };
     let items = lists_of(alloc, plan)?;
-    let worked = match work(
-        alloc,
-        rt,
-        &mailbox,
-        &mut hub,
-        items,
-        plan.budget,
-        rngs,
-        &gate,
-    ) {
+    let worked = match work(alloc, rt, &mailbox, &mut hub, items, budget, rngs, &gate) {
         Ok(worked) => worked,
         Err(fault) => {
             check_refused(alloc, plan, mailbox, hub)?;
@@ -171,7 +172,9 @@ fn run_with<W: Threads + Wait + Sync, R: Rng + Send + Drop>(
     let Ok(report) = mailbox.gather(alloc, hub) else {
         return Err(Fault::NoReport);
     };
-    check(plan, &report, &worked)
+    let totals = check(plan, &report, &worked)?;
+    check_settled(plan.shape, for_an_item <= budget, &report)?;
+    Ok(totals)
 }
 
 /// One run.

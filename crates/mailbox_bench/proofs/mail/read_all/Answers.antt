@@ -13,3 +13,8 @@ loop-consumer-preserved g c =
             made.2 d k (λ same. absurd (omega (arith, same, later))) ∙ (past.2 d (omega (arith, later))).untouched k all;
       },
     )
+
+pub read-requires-clause-before : goal.read-requires-clause-before
+read-requires-clause-before g c =
+    let past = c.loop-consumer.invariant in
+    (past.0, past.2 c.loop-consumer.consumer (omega arith))
