@@ -15,7 +15,7 @@ use std::test::Fail;
 use std::thread::Threads;
 
 /// How often a worker looks whether all have come.
-const TURNS: u64 = 1_000_000_000;
+pub(crate) const TURNS: u64 = 1_000_000_000;
 
 /// A gate at which each worker waits, at its first call, until so many have come, and not for ever.
 #[derive(Drop)]

@@ -8,6 +8,8 @@ mod draws;
 #[cfg(test)]
 mod gates;
 #[cfg(test)]
+mod leaves;
+#[cfg(test)]
 mod mailboxes;
 #[cfg(test)]
 mod polls;

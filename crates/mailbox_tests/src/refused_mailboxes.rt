@@ -2,20 +2,21 @@
 
 use crate::trial::Trial;
 use crate::trials::{all_given, both_are_given, ends, new_trial, take_all};
-use linked_list_allocator::LocalHeap;
+use mailbox_rations::{Rations, Refuse, growths_refused};
 use mb_cells::Finish;
 use mb_mailbox::{GatherFault, HubFault, Poll, Put};
 use mb_quorum::TableName;
 use mb_world::{Note, Report, Setup};
+use std::alloc::Global;
 use std::process::Abort;
 use std::test::Fail;
-use test_tools::{Difference, Zeros, refusals, tells};
+use test_tools::{Difference, Zeros, tells};
 
-/// A heap that serves every call of these tests.
-const PLENTY: usize = 1 << 16;
+/// The allocator of all lists of a trial.
+type Alloc<'r> = &'r Rations<Global>;
 
 /// The only item is put and taken.
-fn put_and_take(rt: &impl Abort, trial: &mut Trial<&LocalHeap>) {
+fn put_and_take(rt: &impl Abort, trial: &mut Trial<Alloc<'_>>) {
     assert_eq!(rt; trial.put(0, 7), Some(Put::Linked));
     assert_eq!(rt;
         trial.poll(0, 0, 100, &mut Zeros::default()),
@@ -26,154 +27,150 @@ fn put_and_take(rt: &impl Abort, trial: &mut Trial<&LocalHeap>) {
 /// The same, and the report tells it.
 fn takes_seven<'a>(
     rt: &impl Abort,
-    plenty: &'a LocalHeap,
-    mut trial: Trial<&'a LocalHeap>,
+    ample: Alloc<'a>,
+    mut trial: Trial<Alloc<'a>>,
 ) -> Result<(), Fail> {
     put_and_take(rt, &mut trial);
     ends(
-        plenty,
+        ample,
         trial,
         &[(&[7], false, &[])],
         &[(0, 0, &[Note::Took(7)], false)],
     )
 }
 
-/// Whether the heap serves a new mailbox, in which an item is then put and taken.
-fn new_is_served<'a>(
-    rt: &impl Abort,
-    heap: &'a LocalHeap,
-    plenty: &'a LocalHeap,
-) -> Result<bool, Fail> {
+/// Whether the allocator serves a new mailbox, in which an item is then put and taken.
+fn new_is_served<'a>(rt: &impl Abort, alloc: Alloc<'a>, ample: Alloc<'a>) -> Result<bool, Fail> {
     let setup = Setup::new(1, 1, 1, 1, TableName::Bits)?;
-    let Ok(mut trial) = Trial::new(heap, setup) else {
+    let Ok(mut trial) = Trial::new(alloc, setup) else {
         return Ok(false);
     };
-    both_are_given(&mut trial, plenty)?;
-    takes_seven(rt, plenty, trial)?;
+    both_are_given(&mut trial, ample)?;
+    takes_seven(rt, ample, trial)?;
     Ok(true)
 }
 
 #[test]
 fn each_growth_of_new_refused(rt: HostRuntime) -> Result<(), Fail> {
-    let plenty = LocalHeap::new(rt.alloc(), PLENTY)?;
-    let refused = refusals(&rt, |heap| new_is_served(&rt, heap, &plenty))?;
+    let ample = Rations::new(rt.alloc(), Refuse::Never);
+    let refused = growths_refused(&rt, |alloc| new_is_served(&rt, alloc, &ample))?;
     // The lists of what is taken in, the words of the cells, and the zeros and the words of the claims.
     assert!(rt; 5 <= refused);
-    assert_eq!(rt; plenty.used(), 0);
+    assert_eq!(rt; ample.out(), 0);
     Ok(())
 }
 
-/// The next producer is given, from a heap that may refuse it, and then from one that does not. Whether the first served.
+/// The next producer is given, from an allocator that may refuse it, and then from one that does not. Whether the first
+/// served.
 fn next_producer<'a>(
     rt: &impl Abort,
-    trial: &mut Trial<&'a LocalHeap>,
-    heap: &'a LocalHeap,
-    plenty: &'a LocalHeap,
+    trial: &mut Trial<Alloc<'a>>,
+    alloc: Alloc<'a>,
+    ample: Alloc<'a>,
 ) -> Result<bool, Fail> {
-    let Err(fault) = trial.producer(heap) else {
+    let Err(fault) = trial.producer(alloc) else {
         return Ok(true);
     };
     assert_eq!(rt; fault, HubFault::NoMemory);
-    trial.producer(plenty)?;
+    trial.producer(ample)?;
     Ok(false)
 }
 
 /// The next consumer is given, in the same way.
 fn next_consumer<'a>(
     rt: &impl Abort,
-    trial: &mut Trial<&'a LocalHeap>,
-    heap: &'a LocalHeap,
-    plenty: &'a LocalHeap,
+    trial: &mut Trial<Alloc<'a>>,
+    alloc: Alloc<'a>,
+    ample: Alloc<'a>,
 ) -> Result<bool, Fail> {
-    let Err(fault) = trial.consumer(heap) else {
+    let Err(fault) = trial.consumer(alloc) else {
         return Ok(true);
     };
     assert_eq!(rt; fault, HubFault::NoMemory);
-    trial.consumer(plenty)?;
+    trial.consumer(ample)?;
     Ok(false)
 }
 
 /// The only producer is given as by `next_producer`, with none behind it. Then a consumer is given.
 fn only_producer<'a>(
     rt: &impl Abort,
-    trial: &mut Trial<&'a LocalHeap>,
-    heap: &'a LocalHeap,
-    plenty: &'a LocalHeap,
+    trial: &mut Trial<Alloc<'a>>,
+    alloc: Alloc<'a>,
+    ample: Alloc<'a>,
 ) -> Result<bool, Fail> {
-    let served = next_producer(rt, trial, heap, plenty)?;
-    assert_eq!(rt; trial.producer(plenty), Err(HubFault::AllGiven));
-    trial.consumer(plenty)?;
+    let served = next_producer(rt, trial, alloc, ample)?;
+    assert_eq!(rt; trial.producer(ample), Err(HubFault::AllGiven));
+    trial.consumer(ample)?;
     Ok(served)
 }
 
 /// The same of the only consumer, where a producer is given before it.
 fn only_consumer<'a>(
     rt: &impl Abort,
-    trial: &mut Trial<&'a LocalHeap>,
-    heap: &'a LocalHeap,
-    plenty: &'a LocalHeap,
+    trial: &mut Trial<Alloc<'a>>,
+    alloc: Alloc<'a>,
+    ample: Alloc<'a>,
 ) -> Result<bool, Fail> {
-    trial.producer(plenty)?;
-    let served = next_consumer(rt, trial, heap, plenty)?;
-    assert_eq!(rt; trial.consumer(plenty), Err(HubFault::AllGiven));
+    trial.producer(ample)?;
+    let served = next_consumer(rt, trial, alloc, ample)?;
+    assert_eq!(rt; trial.consumer(ample), Err(HubFault::AllGiven));
     Ok(served)
 }
 
-/// Whether the heap serves the only producer, of four cells, since the smallest heap serves a list of one item. A refusal
-/// uses no number up: it is given then, and after it none.
+/// Whether the allocator serves the only producer. A refusal uses no number up: it is given then, and after it none.
 fn producer_is_served<'a>(
     rt: &impl Abort,
-    heap: &'a LocalHeap,
-    plenty: &'a LocalHeap,
+    alloc: Alloc<'a>,
+    ample: Alloc<'a>,
 ) -> Result<bool, Fail> {
-    let mut trial = new_trial(plenty, 1, 1, 4)?;
-    let served = only_producer(rt, &mut trial, heap, plenty)?;
-    takes_seven(rt, plenty, trial)?;
+    let mut trial = new_trial(ample, 1, 1, 1)?;
+    let served = only_producer(rt, &mut trial, alloc, ample)?;
+    takes_seven(rt, ample, trial)?;
     Ok(served)
 }
 
 #[test]
 fn each_growth_of_a_producer_refused(rt: HostRuntime) -> Result<(), Fail> {
-    let plenty = LocalHeap::new(rt.alloc(), PLENTY)?;
-    let refused = refusals(&rt, |heap| producer_is_served(&rt, heap, &plenty))?;
-    // The list of its items, of four words.
-    assert!(rt; 2 <= refused);
-    assert_eq!(rt; plenty.used(), 0);
+    let ample = Rations::new(rt.alloc(), Refuse::Never);
+    let refused = growths_refused(&rt, |alloc| producer_is_served(&rt, alloc, &ample))?;
+    // The list of its items.
+    assert!(rt; 1 <= refused);
+    assert_eq!(rt; ample.out(), 0);
     Ok(())
 }
 
-/// Whether the heap serves the only consumer, in the same way.
+/// Whether the allocator serves the only consumer, in the same way.
 fn consumer_is_served<'a>(
     rt: &impl Abort,
-    heap: &'a LocalHeap,
-    plenty: &'a LocalHeap,
+    alloc: Alloc<'a>,
+    ample: Alloc<'a>,
 ) -> Result<bool, Fail> {
-    let mut trial = new_trial(plenty, 1, 1, 1)?;
-    let served = only_consumer(rt, &mut trial, heap, plenty)?;
-    takes_seven(rt, plenty, trial)?;
+    let mut trial = new_trial(ample, 1, 1, 1)?;
+    let served = only_consumer(rt, &mut trial, alloc, ample)?;
+    takes_seven(rt, ample, trial)?;
     Ok(served)
 }
 
 #[test]
 fn each_growth_of_a_consumer_refused(rt: HostRuntime) -> Result<(), Fail> {
-    let plenty = LocalHeap::new(rt.alloc(), PLENTY)?;
-    let refused = refusals(&rt, |heap| consumer_is_served(&rt, heap, &plenty))?;
+    let ample = Rations::new(rt.alloc(), Refuse::Never);
+    let refused = growths_refused(&rt, |alloc| consumer_is_served(&rt, alloc, &ample))?;
     // The list of the lanes, and of the notes of each.
     assert!(rt; 2 <= refused);
-    assert_eq!(rt; plenty.used(), 0);
+    assert_eq!(rt; ample.out(), 0);
     Ok(())
 }
 
 /// One item was put and taken, and both are taken in.
-fn seven_taken<'a>(rt: &impl Abort, heap: &'a LocalHeap) -> Result<Trial<&'a LocalHeap>, Fail> {
-    let mut trial = all_given(heap, 1, 1, 1)?;
+fn seven_taken<'a>(rt: &impl Abort, alloc: Alloc<'a>) -> Result<Trial<Alloc<'a>>, Fail> {
+    let mut trial = all_given(alloc, 1, 1, 1)?;
     put_and_take(rt, &mut trial);
     take_all(&mut trial);
     Ok(trial)
 }
 
 /// The report of that.
-fn tells_seven(report: &Report<&LocalHeap>) -> Result<(), Difference> {
+fn tells_seven(report: &Report<Alloc<'_>>) -> Result<(), Difference> {
     tells(
         report,
         &[(&[7], false, &[])],
@@ -183,7 +180,7 @@ fn tells_seven(report: &Report<&LocalHeap>) -> Result<(), Difference> {
 
 /// Consumer 0 takes the item of lane 0, which consumer 1 loses, and consumer 1 begins a claim on the item of lane 1, which
 /// has ended.
-fn take_lose_and_begin(rt: &impl Abort, trial: &mut Trial<&LocalHeap>) {
+fn take_lose_and_begin(rt: &impl Abort, trial: &mut Trial<Alloc<'_>>) {
     let puts = (trial.put(0, 5), trial.put(1, 6), trial.finish(1));
     let polls = (
         trial.poll(0, 0, 100, &mut Zeros::default()),
@@ -200,15 +197,15 @@ fn take_lose_and_begin(rt: &impl Abort, trial: &mut Trial<&LocalHeap>) {
 }
 
 /// Two lanes and two consumers, all taken in after that.
-fn two_lanes<'a>(rt: &impl Abort, heap: &'a LocalHeap) -> Result<Trial<&'a LocalHeap>, Fail> {
-    let mut trial = all_given(heap, 2, 2, 2)?;
+fn two_lanes<'a>(rt: &impl Abort, alloc: Alloc<'a>) -> Result<Trial<Alloc<'a>>, Fail> {
+    let mut trial = all_given(alloc, 2, 2, 2)?;
     take_lose_and_begin(rt, &mut trial);
     take_all(&mut trial);
     Ok(trial)
 }
 
 /// The report of that.
-fn tells_two_lanes(report: &Report<&LocalHeap>) -> Result<(), Difference> {
+fn tells_two_lanes(report: &Report<Alloc<'_>>) -> Result<(), Difference> {
     tells(
         report,
         &[(&[5], false, &[]), (&[6], true, &[6])],
@@ -221,18 +218,18 @@ fn tells_two_lanes(report: &Report<&LocalHeap>) -> Result<(), Difference> {
     )
 }
 
-/// The report that the heap serves, with `true`; where it refuses, both values come back, and another heap serves it.
+/// The report that the allocator serves, with `true`; where it refuses, both values come back, and another serves it.
 fn gather_twice<'a>(
     rt: &impl Abort,
-    trial: Trial<&'a LocalHeap>,
-    heap: &'a LocalHeap,
-    plenty: &'a LocalHeap,
-) -> Result<(Report<&'a LocalHeap>, bool), Fail> {
-    match trial.gather(heap) {
+    trial: Trial<Alloc<'a>>,
+    alloc: Alloc<'a>,
+    ample: Alloc<'a>,
+) -> Result<(Report<Alloc<'a>>, bool), Fail> {
+    match trial.gather(alloc) {
         Ok(report) => Ok((report, true)),
         Err((fault, trial)) => {
             assert_eq!(rt; fault, GatherFault::NoMemory);
-            let Ok(report) = trial.gather(plenty) else {
+            let Ok(report) = trial.gather(ample) else {
                 return Err(Fail::new("no report"));
             };
             Ok((report, false))
@@ -242,21 +239,21 @@ fn gather_twice<'a>(
 
 #[test]
 fn each_growth_of_gather_refused(rt: HostRuntime) -> Result<(), Fail> {
-    let plenty = LocalHeap::new(rt.alloc(), PLENTY)?;
-    let refused = refusals(&rt, |heap| {
-        let (report, served) = gather_twice(&rt, seven_taken(&rt, &plenty)?, heap, &plenty)?;
+    let ample = Rations::new(rt.alloc(), Refuse::Never);
+    let refused = growths_refused(&rt, |alloc| {
+        let (report, served) = gather_twice(&rt, seven_taken(&rt, &ample)?, alloc, &ample)?;
         tells_seven(&report)?;
         Ok(served)
     })?;
     // The lane and its item, the diary and its note.
     assert!(rt; 4 <= refused);
-    let refused = refusals(&rt, |heap| {
-        let (report, served) = gather_twice(&rt, two_lanes(&rt, &plenty)?, heap, &plenty)?;
+    let refused = growths_refused(&rt, |alloc| {
+        let (report, served) = gather_twice(&rt, two_lanes(&rt, &ample)?, alloc, &ample)?;
         tells_two_lanes(&report)?;
         Ok(served)
     })?;
     // The lanes, the items of each and the item left; the diaries, and the notes of two.
     assert!(rt; 7 <= refused);
-    assert_eq!(rt; plenty.used(), 0);
+    assert_eq!(rt; ample.out(), 0);
     Ok(())
 }

@@ -8,10 +8,10 @@ use crate::pools::PoolCall::{
     Finish as Ends, Item, Look as Looks, Offer as Offers, Push as Pushes,
 };
 use crate::pools::{Calls, PoolCall};
+use mailbox_rations::growths_refused;
 use mb_cells::{Cursor, Finish, Look, Offer, Pool, Push};
 use std::alloc::Allocator;
 use std::test::Fail;
-use test_tools::refusals;
 
 /// The item of an only lane, from the first look to the end mark.
 fn one_item() -> [PoolCall; 9] {
@@ -30,7 +30,7 @@ fn one_item() -> [PoolCall; 9] {
 
 #[test]
 fn each_growth_of_new_refused(rt: HostRuntime) -> Result<(), Fail> {
-    let refused = refusals(&rt, |heap| match Calls::new(heap, 1, 1) {
+    let refused = growths_refused(&rt, |alloc| match Calls::new(alloc, 1, 1) {
         Ok(mut pool) => {
             pool.make(&rt, &one_item());
             Ok(true)

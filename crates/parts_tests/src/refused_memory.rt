@@ -4,20 +4,21 @@ use crate::answers::make;
 use crate::claims::{WON_AND_LOST, won_and_lost};
 use crate::entries::{last_turn, late_input};
 use crate::events::take_seven;
-use linked_list_allocator::LocalHeap;
+use mailbox_rations::{Rations, Refuse, growths_refused};
 use mb_claim::{Layout, PlayFault, Stage, play};
 use mb_deciding::{Fault, conciliate, ratify};
 use mb_quorum::TableName;
 use mb_world::{Note, Report, Setup, World};
+use std::alloc::Global;
 use std::process::Abort;
 use std::test::Fail;
-use test_tools::{Difference, refusals, tells};
+use test_tools::{Difference, tells};
 
 #[test]
 fn each_growth_of_ratify_refused(rt: HostRuntime) -> Result<(), Fail> {
-    let refused = refusals(
+    let refused = growths_refused(
         &rt,
-        |heap| match ratify(heap, TableName::Unary, 2, &[0, 1], &[0, 0, 0, 0, 1, 1, 1]) {
+        |alloc| match ratify(alloc, TableName::Unary, 2, &[0, 1], &[0, 0, 0, 0, 1, 1, 1]) {
             Ok(trace) => {
                 assert_eq!(rt; trace.entries.as_slice(), late_input().as_slice());
                 Ok(true)
@@ -35,9 +36,9 @@ fn each_growth_of_ratify_refused(rt: HostRuntime) -> Result<(), Fail> {
 
 #[test]
 fn each_growth_of_conciliate_refused(rt: HostRuntime) -> Result<(), Fail> {
-    let refused = refusals(
+    let refused = growths_refused(
         &rt,
-        |heap| match conciliate(heap, 2, &[0], &[(0, 3), (0, 3), (0, 3), (0, 3), (0, 3)]) {
+        |alloc| match conciliate(alloc, 2, &[0], &[(0, 3), (0, 3), (0, 3), (0, 3), (0, 3)]) {
             Ok(trace) => {
                 assert_eq!(rt; trace.entries.as_slice(), last_turn().as_slice());
                 Ok(true)
@@ -56,7 +57,7 @@ fn each_growth_of_conciliate_refused(rt: HostRuntime) -> Result<(), Fail> {
 #[test]
 fn each_growth_of_play_refused(rt: HostRuntime) -> Result<(), Fail> {
     let layout = Layout::new(2, 1, TableName::Bits)?;
-    let refused = refusals(&rt, |heap| match play(heap, &layout, &WON_AND_LOST) {
+    let refused = growths_refused(&rt, |alloc| match play(alloc, &layout, &WON_AND_LOST) {
         Ok(run) => {
             assert_eq!(rt; run.entries.as_slice(), won_and_lost().as_slice());
             assert_eq!(rt;
@@ -75,8 +76,11 @@ fn each_growth_of_play_refused(rt: HostRuntime) -> Result<(), Fail> {
     Ok(())
 }
 
+/// The allocator of all lists of a world.
+type Alloc<'r> = &'r Rations<Global>;
+
 /// The only item was taken by the only consumer.
-fn tells_seven(report: &Report<&LocalHeap>) -> Result<(), Difference> {
+fn tells_seven(report: &Report<Alloc<'_>>) -> Result<(), Difference> {
     tells(
         report,
         &[(&[7], false, &[])],
@@ -84,41 +88,37 @@ fn tells_seven(report: &Report<&LocalHeap>) -> Result<(), Difference> {
     )
 }
 
-/// Whether the heap serves the report of that. If not, another serves it.
+/// Whether the allocator serves the report of that. If not, another serves it.
 fn report_is_served<'a>(
-    world: &World<&'a LocalHeap>,
-    heap: &'a LocalHeap,
-    plenty: &'a LocalHeap,
+    world: &World<Alloc<'a>>,
+    alloc: Alloc<'a>,
+    ample: Alloc<'a>,
 ) -> Result<bool, Fail> {
-    if let Ok(report) = world.report(heap) {
+    if let Ok(report) = world.report(alloc) {
         tells_seven(&report)?;
         return Ok(true);
     }
-    tells_seven(&world.report(plenty)?)?;
+    tells_seven(&world.report(ample)?)?;
     Ok(false)
 }
 
-/// Whether the heap serves the world and its report.
-fn world_is_served<'a>(
-    rt: &impl Abort,
-    heap: &'a LocalHeap,
-    plenty: &'a LocalHeap,
-) -> Result<bool, Fail> {
+/// Whether the allocator serves the world and its report.
+fn world_is_served<'a>(rt: &impl Abort, alloc: Alloc<'a>, ample: Alloc<'a>) -> Result<bool, Fail> {
     let setup = Setup::new(1, 1, 1, 1, TableName::Bits)?;
-    let Ok(mut world) = World::new(heap, setup) else {
+    let Ok(mut world) = World::new(alloc, setup) else {
         return Ok(false);
     };
     make(rt, &mut world, &take_seven());
-    report_is_served(&world, heap, plenty)
+    report_is_served(&world, alloc, ample)
 }
 
 #[test]
 fn each_growth_of_a_world_and_its_report_refused(rt: HostRuntime) -> Result<(), Fail> {
-    let plenty = LocalHeap::new(rt.alloc(), 1 << 16)?;
-    let refused = refusals(&rt, |heap| world_is_served(&rt, heap, &plenty))?;
+    let ample = Rations::new(rt.alloc(), Refuse::Never);
+    let refused = growths_refused(&rt, |alloc| world_is_served(&rt, alloc, &ample))?;
     // The four lists of the pool, the words of the claims, the seats and the notes; then the lane and its item, the diary
     // and its note, and the cells of the lane that is read.
     assert!(rt; 12 <= refused);
-    assert_eq!(rt; plenty.used(), 0);
+    assert_eq!(rt; ample.out(), 0);
     Ok(())
 }

@@ -11,7 +11,6 @@ use mb_script::{
 use mb_world::{Event, SetupFault};
 use std::alloc::Global;
 use std::test::Fail;
-use test_tools::refusals;
 
 /// The script of a text.
 fn script(alloc: Global, text: &str) -> Result<Script<Global>, Fail> {
@@ -233,7 +232,7 @@ fn events_have_a_limit(rt: HostRuntime) -> Result<(), Fail> {
 #[test]
 fn each_growth_of_parse_refused(rt: HostRuntime) -> Result<(), Fail> {
     let text = "setup 1 1 0 1 bits\npush 0\npush 0\npush 0\npush 0\npush 0\n";
-    let refused = refusals(&rt, |heap| match parse(heap, text.as_bytes()) {
+    let refused = growths_refused(&rt, |alloc| match parse(alloc, text.as_bytes()) {
         Ok(script) => {
             assert_eq!(rt; script.events.len(), 5);
             Ok(true)

@@ -3,13 +3,13 @@ ghost use Rattle.std.specs.Prelude.{◌≡◌, ◌<◌};
 ghost use Rattle.mb_cells.specs.Vocabulary.{MayRead, word_of};
 ghost use Rattle.mb_cells.specs.declared.access.Word.TheVariants.{Head};
 
+use mailbox_rations::growths_refused;
 use mb_cells::{Cursor, Finish, Look, Offer, Push};
 use mb_shared_cells::{AllGiven, CellHub, LaneSeat, ReaderSeat, SharedCells};
 use std::alloc::Allocator;
 use std::process::Abort;
 use std::test::Fail;
 use std::thread::{Threads, join};
-use test_tools::refusals;
 
 /// The item of an only lane is linked, and before that nothing is found.
 fn link_one_item<A: Allocator + Drop>(
@@ -96,7 +96,7 @@ fn one_lane_and_one_cell(rt: HostRuntime) -> Result<(), Fail> {
 
 #[test]
 fn each_growth_of_new_refused(rt: HostRuntime) -> Result<(), Fail> {
-    let refused = refusals(&rt, |heap| match SharedCells::new(heap, 1, 1) {
+    let refused = growths_refused(&rt, |alloc| match SharedCells::new(alloc, 1, 1) {
         Ok((table, mut hub)) => {
             enroll_and_put(&rt, &table, &mut hub)?;
             Ok(true)

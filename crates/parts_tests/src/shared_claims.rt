@@ -5,6 +5,7 @@ ghost use Rattle.mb_claim.specs.Vocabulary.{IsClaimIn, claim_stage, consumer_of,
 ghost use Rattle.mb_shared_claims.specs.Vocabulary.{name_of};
 
 use crate::shapes::BOTH;
+use mailbox_rations::growths_refused;
 use mb_claim::laws::layouts_are_sound;
 use mb_claim::steps::{accesses_lengthen_one_part, claims_make_steps};
 use mb_claim::{Claim, ClaimOp, Layout, Shape, Stage};
@@ -15,7 +16,6 @@ use std::alloc::Allocator;
 use std::process::Abort;
 use std::test::Fail;
 use std::thread::{Threads, join, map_vec};
-use test_tools::refusals;
 
 /// How many cells two threads claim.
 const CELLS: u32 = 100;
@@ -307,7 +307,7 @@ fn sixteen_threads_claim_one_cell_with_a_last_object(rt: HostRuntime) -> Result<
 
 #[test]
 fn each_growth_of_new_refused(rt: HostRuntime) -> Result<(), Fail> {
-    let refused = refusals(&rt, |heap| one_wins(&rt, heap))?;
+    let refused = growths_refused(&rt, |alloc| one_wins(&rt, alloc))?;
     // The zeros, and the words.
     assert!(rt; 2 <= refused);
     Ok(())

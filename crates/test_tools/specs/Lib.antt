@@ -1,3 +1,2 @@
-pub mod Heaps
 pub mod Telling
 pub mod Zeros
