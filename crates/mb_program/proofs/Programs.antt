@@ -42,12 +42,14 @@ swap (Some p) = Some (moved_parser p)
 
 -- it accepts the same values
 same_words : (i : Bool) (t : Text) (names : List (Bor Text))
-    → list_any (λ (n : Bor Text). same_text i n.now t) (map somewhere (map (λ (n : Bor Text). n.now) names))
+    → list_any (λ (n : Bor Text). same_text i n.now t)
+    (map somewhere (map (λ (n : Bor Text). n.now) names))
     ≡ list_any (λ (n : Bor Text). same_text i n.now t) names
 same_words i t [] = refl
 same_words i t (n ∷ names) = ap (λ x. same_text i n.now t || x) (same_words i t names)
 
-same_accepts : (i : Bool) (p : ValueParser) (t : Text) → accepts i (moved_parser p) t ≡ accepts i p t
+same_accepts : (i : Bool) (p : ValueParser) (t : Text)
+    → accepts i (moved_parser p) t ≡ accepts i p t
 same_accepts i (vp.Names names) t = same_words i t names.now
 same_accepts i vp.String t = refl
 same_accepts i vp.NonEmptyString t = refl
@@ -86,15 +88,18 @@ same_kind vp.Float = refl
 same_kind vp.Char = refl
 same_kind (vp.Values values) = refl
 
-reading_kept : (o : Option ValueParser) → reading_of (parser_of_value (swap o)) ≡ reading_of (parser_of_value o)
+reading_kept : (o : Option ValueParser)
+    → reading_of (parser_of_value (swap o)) ≡ reading_of (parser_of_value o)
 reading_kept None = refl
 reading_kept (Some p) = same_reading p
 
-accepts_kept : (i : Bool) (o : Option ValueParser) (t : Text) → accepts i (parser_of_value (swap o)) t ≡ accepts i (parser_of_value o) t
+accepts_kept : (i : Bool) (o : Option ValueParser) (t : Text)
+    → accepts i (parser_of_value (swap o)) t ≡ accepts i (parser_of_value o) t
 accepts_kept i None t = refl
 accepts_kept i (Some p) t = same_accepts i p t
 
-kind_kept : (o : Option ValueParser) → refused_kind (parser_of_value (swap o)) ≡ refused_kind (parser_of_value o)
+kind_kept : (o : Option ValueParser)
+    → refused_kind (parser_of_value (swap o)) ≡ refused_kind (parser_of_value o)
 kind_kept None = refl
 kind_kept (Some p) = same_kind p
 
@@ -102,11 +107,14 @@ reads_same : ReadsSame swap
 reads_same = record { reading = reading_kept; accepts = accepts_kept; kind = kind_kept }
 
 -- the program, with the words put elsewhere
-built_moved : (names : TextsAt) → below_swapped swap (built (program_with names)) ≡ built (program_with (moved names))
+built_moved : (names : TextsAt)
+    → below_swapped swap (built (program_with names)) ≡ built (program_with (moved names))
 built_moved names = refl
 
-there : (names : TextsAt) → map (λ (n : Bor Text). n.now) names.now ≡ shape_names → below_swapped swap (built (program_with names)) ≡ built program
-there names says = built_moved names ∙ ap (λ (texts : List Text). built (program_with (texts_at texts))) says
+there : (names : TextsAt) → map (λ (n : Bor Text). n.now) names.now ≡ shape_names
+    → below_swapped swap (built (program_with names)) ≡ built program
+there names says =
+    built_moved names ∙ ap (λ (texts : List Text). built (program_with (texts_at texts))) says
 
 -- ---- clap's rules say which words the program takes
 pub program_is_simple : (app : App) → IsProgramApp app → is_simple app ≡ true
@@ -118,20 +126,26 @@ unfolding clap_on_literals
 program_is_free app is = ap is_simple_and_free is.2 ∙ refl
 
 -- ---- what clap makes of the words
-pub commands_same : (app : App) (words : List Text) → IsProgramApp app → subcommand_of app words ≡ subcommand_of program words
+pub commands_same : (app : App) (words : List Text) → IsProgramApp app
+    → subcommand_of app words ≡ subcommand_of program words
 commands_same app words is =
     let at = program_with is.0 in
     let stop = stop_after (built at).top.rules (names_of (built at)) (argument_words at words) in
-    ap (λ x. subcommand_of x words) is.2 ∙ sym (entered_same swap reads_same (built at) stop) ∙ ap (λ x. entered x stop) (there is.0 is.1)
+    ap (λ x. subcommand_of x words) is.2 ∙ sym (entered_same swap reads_same (built at) stop)
+    ∙ ap (λ x. entered x stop) (there is.0 is.1)
 
-pub takes_alike : (app : App) (words : List Text) → IsProgramApp app → takes app words ≡ takes program words
+pub takes_alike : (app : App) (words : List Text) → IsProgramApp app
+    → takes app words ≡ takes program words
 takes_alike app words is =
     let at = program_with is.0 in
     ap (λ x. takes x words) is.2
-    ∙ ap (λ x. is_simple at && x) (sym (takes_same swap reads_same (built at) nothing_held (argument_words at words)))
-    ∙ ap (λ x. is_simple at && built_takes x nothing_held (argument_words at words)) (there is.0 is.1)
+    ∙ ap (λ x. is_simple at && x)
+    (sym (takes_same swap reads_same (built at) nothing_held (argument_words at words)))
+    ∙ ap (λ x. is_simple at && built_takes x nothing_held (argument_words at words))
+    (there is.0 is.1)
 
-pub faults_alike : (app : App) (words : List Text) → IsProgramApp app → fault_of app words ≡ fault_of program words
+pub faults_alike : (app : App) (words : List Text) → IsProgramApp app
+    → fault_of app words ≡ fault_of program words
 faults_alike app words is =
     let at = program_with is.0 in
     ap (λ x. fault_of x words) is.2

@@ -1,4 +1,5 @@
--- Clap refuses words for the same reasons, if the parsers of some arguments are changed for ones that accept the same values.
+-- Clap refuses words for the same reasons, if the parsers of some arguments are changed for ones
+-- that accept the same values.
 use Rattle.std.proofs.Common.{◌≡◌, ◌∙◌, refl, sym, ap, ap₂, Bool, cond, true, false, not, ℕ, zero, suc, List, [], ◌∷◌, map, Option, Some, None}
 use Rattle.std.specs.Prelude.{◌&&◌, ◌||◌, codes, drop, encode_utf8, is_some, length, option_map, slice_get}
 use Rattle.std.specs.List.{list_any}
@@ -18,7 +19,8 @@ use Rattle.mb_program.proofs.SameTakes.{with_swapped}
 use Rattle.mb_program.proofs.SameWalk.{ReadsSame, Swap, finished_swapped, found_swapped, id_swapped, reacted_swapped, settled_swapped, swapped, walk_swapped, walked_swapped, with_default_swapped, word_met_swapped}
 
 -- a search for any argument that does not look at the parser
-any_swapped : (s : Swap) (p : Rule → Bool) → ((a : Rule) → p (swapped s a) ≡ p a) → (c : List Rule) → list_any p (map (swapped s) c) ≡ list_any p c
+any_swapped : (s : Swap) (p : Rule → Bool) → ((a : Rule) → p (swapped s a) ≡ p a) → (c : List Rule)
+    → list_any p (map (swapped s) c) ≡ list_any p c
 any_swapped s p same [] = refl
 any_swapped s p same (a ∷ c) = ap₂ (λ x y. x || y) (same a) (any_swapped s p same c)
 
@@ -30,16 +32,23 @@ module _ (s : Swap) (same : ReadsSame s) where
   values_same : (a : Rule) (values : List Text) → values_fault (f a) values ≡ values_fault a values
   values_same a [] = refl
   values_same a (v ∷ values) =
-      ap₂ (λ (x y : Kinds). or_else x y) (ap₂ (λ x k. cond x [] (k ∷ [])) (same.accepts a.ignore_case a.parser v) (same.kind a.parser)) (values_same a values)
+      ap₂ (λ (x y : Kinds). or_else x y)
+      (ap₂ (λ x k. cond x [] (k ∷ [])) (same.accepts a.ignore_case a.parser v) (same.kind a.parser))
+      (values_same a values)
 
-  set_same : (again : Bool) (a : Rule) (values : List Text) (rows : List Row) → set_fault again (f a) values rows ≡ set_fault again a values rows
-  set_same again a values rows = ap (λ x. or_else (repeat_fault again a.id rows) x) (values_same a values)
+  set_same : (again : Bool) (a : Rule) (values : List Text) (rows : List Row)
+      → set_fault again (f a) values rows ≡ set_fault again a values rows
+  set_same again a values rows =
+      ap (λ x. or_else (repeat_fault again a.id rows) x) (values_same a values)
 
-  count_same : (a : Rule) (values : List Text) (rows : List Row) → count_fault (f a) values rows ≡ count_fault a values rows
-  count_same a [] rows = ap₂ (λ x k. cond x [] (k ∷ [])) (same.accepts a.ignore_case a.parser _) (same.kind a.parser)
+  count_same : (a : Rule) (values : List Text) (rows : List Row)
+      → count_fault (f a) values rows ≡ count_fault a values rows
+  count_same a [] rows =
+      ap₂ (λ x k. cond x [] (k ∷ [])) (same.accepts a.ignore_case a.parser _) (same.kind a.parser)
   count_same a (v ∷ values) rows = values_same a (v ∷ values)
 
-  action_same : (action : ArgAction) (again : Bool) (a : Rule) (values : List Text) (rows : List Row)
+  action_same : (action : ArgAction) (again : Bool) (a : Rule) (values : List Text)
+      (rows : List Row)
       → action_fault action again (f a) values rows ≡ action_fault action again a values rows
   action_same Set again a values rows = set_same again a values rows
   action_same SetTrue again a values rows = set_same again a values rows
@@ -51,13 +60,16 @@ module _ (s : Swap) (same : ReadsSame s) where
   action_same HelpLong again a values rows = refl
   action_same Version again a values rows = refl
 
-  use_same : (again : Bool) (a : Rule) (values : List Text) (rows : List Row) → use_fault again (f a) values rows ≡ use_fault again a values rows
+  use_same : (again : Bool) (a : Rule) (values : List Text) (rows : List Row)
+      → use_fault again (f a) values rows ≡ use_fault again a values rows
   use_same again a values rows =
-      ap (λ x. or_else (range_kinds (unwrap_or_range a.range).start_inclusive (most_values a) (length values)) x)
+      ap (λ x. or_else
+      (range_kinds (unwrap_or_range a.range).start_inclusive (most_values a) (length values)) x)
       (action_same (action_of a) again a (values_or_missing a values) rows)
 
   by_id_same : (again : Bool) (values : List Text) (rows : List Row) (o : Option Rule)
-      → option_map_or (λ a. use_fault again a values rows) (option_map f o) [] ≡ option_map_or (λ a. use_fault again a values rows) o []
+      → option_map_or (λ a. use_fault again a values rows) (option_map f o) []
+      ≡ option_map_or (λ a. use_fault again a values rows) o []
   by_id_same again values rows None = refl
   by_id_same again values rows (Some a) = use_same again a values rows
 
@@ -67,132 +79,176 @@ module _ (s : Swap) (same : ReadsSame s) where
     d = map f c
 
     pending_same : (p : Option (Text × List Text)) (rows : List Row)
-        → option_map_or (λ p. option_map_or (λ a. use_fault again a p.1 rows) (arg_by_id d p.0) []) p []
-        ≡ option_map_or (λ p. option_map_or (λ a. use_fault again a p.1 rows) (arg_by_id c p.0) []) p []
+        → option_map_or
+        (λ p. option_map_or (λ a. use_fault again a p.1 rows) (arg_by_id d p.0) []) p []
+        ≡ option_map_or
+        (λ p. option_map_or (λ a. use_fault again a p.1 rows) (arg_by_id c p.0) []) p []
     pending_same None rows = refl
     pending_same (Some p) rows =
-        ap (λ o. option_map_or (λ a. use_fault again a p.1 rows) o []) (id_swapped s same c p.0) ∙ by_id_same again p.1 rows (arg_by_id c p.0)
+        ap (λ o. option_map_or (λ a. use_fault again a p.1 rows) o []) (id_swapped s same c p.0)
+        ∙ by_id_same again p.1 rows (arg_by_id c p.0)
 
     settle_same : (h : Held) → settle_fault d again h ≡ settle_fault c again h
     settle_same h = pending_same h.pending h.rows
 
-    react_same : (a : Rule) (values : List Text) (h : Held) → react_fault d again (f a) values h ≡ react_fault c again a values h
+    react_same : (a : Rule) (values : List Text) (h : Held)
+        → react_fault d again (f a) values h ≡ react_fault c again a values h
     react_same a values h =
         ap₂ (λ (x y : Kinds). or_else x y) (settle_same h)
-        (use_same again a values (settled d h).rows ∙ ap (λ (x : Held). use_fault again a values x.rows) (settled_swapped s same c h))
+        (use_same again a values (settled d h).rows
+        ∙ ap (λ (x : Held). use_fault again a values x.rows) (settled_swapped s same c h))
 
-    option_same : (a : Rule) (v : Option Text) (h : Held) → option_fault d again (f a) v h ≡ option_fault c again a v h
+    option_same : (a : Rule) (v : Option Text) (h : Held)
+        → option_fault d again (f a) v h ≡ option_fault c again a v h
     option_same a (Some v) h = react_same a (v ∷ []) h
     option_same a None h = settle_same h
 
-    long_same : (o : Option Rule) (v : Option Text) (h : Held) → long_fault d again (option_map f o) v h ≡ long_fault c again o v h
+    long_same : (o : Option Rule) (v : Option Text) (h : Held)
+        → long_fault d again (option_map f o) v h ≡ long_fault c again o v h
     long_same None v h = refl
     long_same (Some a) v h =
-        ap₂ (λ (x y : Kinds). cond (takes_values a) x (cond (is_some v) (kind.TooManyValues ∷ []) y)) (option_same a v h) (react_same a [] h)
+        ap₂ (λ (x y : Kinds). cond (takes_values a) x
+        (cond (is_some v) (kind.TooManyValues ∷ []) y)) (option_same a v h) (react_same a [] h)
 
-    short_same : (o : Option Rule) (rest : Text) (h : Held) (go other : Held → Kinds) → ((x : Held) → go x ≡ other x)
+    short_same : (o : Option Rule) (rest : Text) (h : Held) (go other : Held → Kinds)
+        → ((x : Held) → go x ≡ other x)
         → short_fault d again (option_map f o) rest h go ≡ short_fault c again o rest h other
     short_same None rest h go other e = refl
     short_same (Some a) rest h go other e =
         ap₂ (λ (x y : Kinds). cond (takes_values a) x y) (option_same a (attached_value rest) h)
-        (ap₂ (λ (x y : Kinds). or_else x y) (react_same a [] h) (e (reacted d (f a) [] h) ∙ ap other (reacted_swapped s same c a [] h)))
+        (ap₂ (λ (x y : Kinds). or_else x y) (react_same a [] h)
+        (e (reacted d (f a) [] h) ∙ ap other (reacted_swapped s same c a [] h)))
 
-    step_of_bundle_same : (o : Option ℕ) (flags : Text) (skip : ℕ) (h : Held) (go other : Text → ℕ → Held → Kinds)
+    step_of_bundle_same : (o : Option ℕ) (flags : Text) (skip : ℕ) (h : Held)
+        (go other : Text → ℕ → Held → Kinds)
         → ((t : Text) (n : ℕ) (x : Held) → go t n x ≡ other t n x)
-        → bundle_step_fault d again o flags skip h go ≡ bundle_step_fault c again o flags skip h other
+        → bundle_step_fault d again o flags skip h go
+        ≡ bundle_step_fault c again o flags skip h other
     step_of_bundle_same None flags skip h go other e = refl
     step_of_bundle_same (Some x) flags zero h go other e =
         let rest = drop (length (encode_utf8 x)) flags in
         ap (λ o. short_fault d again o rest h (go rest 0)) (found_swapped s _ (λ a. refl) c)
         ∙ short_same (arg_by_short c x) rest h (go rest 0) (other rest 0) (e rest 0)
-    step_of_bundle_same (Some x) flags (suc skip) h go other e = e (drop (length (encode_utf8 x)) flags) skip h
+    step_of_bundle_same (Some x) flags (suc skip) h go other e =
+        e (drop (length (encode_utf8 x)) flags) skip h
 
-    flags_same : (k : ℕ) (flags : Text) (skip : ℕ) (h : Held) → flags_fault d again k flags skip h ≡ flags_fault c again k flags skip h
+    flags_same : (k : ℕ) (flags : Text) (skip : ℕ) (h : Held)
+        → flags_fault d again k flags skip h ≡ flags_fault c again k flags skip h
     unfolding flags_fault
     flags_same zero flags skip h = refl
     flags_same (suc k) flags skip h =
-        step_of_bundle_same (slice_get (chars flags) 0) flags skip h (flags_fault d again k) (flags_fault c again k) (flags_same k)
+        step_of_bundle_same (slice_get (chars flags) 0) flags skip h (flags_fault d again k)
+        (flags_fault c again k) (flags_same k)
 
     shorts_same : (o : Option Text) (h : Held)
-        → option_map_or (λ flags. flags_fault d again (length flags) flags h.skip (record h { skip = 0 })) o []
-        ≡ option_map_or (λ flags. flags_fault c again (length flags) flags h.skip (record h { skip = 0 })) o []
+        → option_map_or
+        (λ flags. flags_fault d again (length flags) flags h.skip (record h { skip = 0 })) o []
+        ≡ option_map_or
+        (λ flags. flags_fault c again (length flags) flags h.skip (record h { skip = 0 })) o []
     shorts_same None h = refl
     shorts_same (Some flags) h = flags_same (length flags) flags h.skip (record h { skip = 0 })
 
-    flag_word_same : (o : Option (Text × Option Text)) (word : Text) (h : Held) → flag_word_fault d again o word h ≡ flag_word_fault c again o word h
+    flag_word_same : (o : Option (Text × Option Text)) (word : Text) (h : Held)
+        → flag_word_fault d again o word h ≡ flag_word_fault c again o word h
     flag_word_same (Some p) word h =
-        ap (λ o. long_fault d again o p.1 h) (found_swapped s _ (λ a. refl) c) ∙ long_same (arg_by_long c p.0) p.1 h
+        ap (λ o. long_fault d again o p.1 h) (found_swapped s _ (λ a. refl) c)
+        ∙ long_same (arg_by_long c p.0) p.1 h
     flag_word_same None word h = shorts_same (short_of word) h
 
     positional_same : (stray : Kinds) (o : Option Rule) (h : Held)
-        → option_map_or (λ a. positional_fault d again a h) (option_map f o) stray ≡ option_map_or (λ a. positional_fault c again a h) o stray
+        → option_map_or (λ a. positional_fault d again a h) (option_map f o) stray
+        ≡ option_map_or (λ a. positional_fault c again a h) o stray
     positional_same stray None h = refl
-    positional_same stray (Some a) h = ap (λ (x : Kinds). cond (is_pending a h.pending && takes_several a) [] x) (settle_same h)
+    positional_same stray (Some a) h =
+        ap (λ (x : Kinds). cond (is_pending a h.pending && takes_several a) [] x) (settle_same h)
 
   -- ---- defaults
   default_same : (rows : List Row) (a : Rule) → default_fault rows (f a) ≡ default_fault rows a
   default_same rows a =
-      ap (λ (x : Kinds). cond (has_row a.id rows || is_empty a.defaults) [] (or_else (request_kinds (action_of a)) x)) (values_same a a.defaults)
+      ap (λ (x : Kinds). cond (has_row a.id rows || is_empty a.defaults) []
+      (or_else (request_kinds (action_of a)) x)) (values_same a a.defaults)
 
-  defaults_same : (rows : List Row) (c : List Rule) → defaults_fault rows (map f c) ≡ defaults_fault rows c
+  defaults_same : (rows : List Row) (c : List Rule)
+      → defaults_fault rows (map f c) ≡ defaults_fault rows c
   unfolding defaults_fault
   defaults_same rows [] = refl
   defaults_same rows (a ∷ c) =
       ap₂ (λ (x y : Kinds). or_else x y) (default_same rows a)
-      (ap (λ x. defaults_fault x (map f c)) (with_default_swapped s same rows a) ∙ defaults_same (with_default rows a) c)
+      (ap (λ x. defaults_fault x (map f c)) (with_default_swapped s same rows a)
+      ∙ defaults_same (with_default rows a) c)
 
   -- ---- the walk of a command
   module _ (top : Shape) where
     abbrev other : Shape
     other = with_swapped s top
 
-    other_same : (o : Option Text) (word : Text) (h : Held) → other_fault other o word h ≡ other_fault top o word h
+    other_same : (o : Option Text) (word : Text) (h : Held)
+        → other_fault other o word h ≡ other_fault top o word h
     other_same (Some name) word h = refl
     other_same None word h =
-        ap (λ (x : Kinds). cond (bytes_eq word (45 ∷ 45 ∷ [])) [] x) (flag_word_same top.rules top.args_override_self (long_of word) word h)
+        ap (λ (x : Kinds). cond (bytes_eq word (45 ∷ 45 ∷ [])) [] x)
+        (flag_word_same top.rules top.args_override_self (long_of word) word h)
 
-    step_same : (position : ℕ) (h : Held) (step : Step) → step_fault other position h step ≡ step_fault top position h step
+    step_same : (position : ℕ) (h : Held) (step : Step)
+        → step_fault other position h step ≡ step_fault top position h step
     step_same position h (next waiting) = refl
     step_same position h (trailing n) = refl
     step_same position h (subcommand name) = refl
     step_same position h value =
-        ap (λ o. option_map_or (λ a. positional_fault other.rules top.args_override_self a h) o (stray_fault top)) (found_swapped s _ (λ a. refl) top.rules)
-        ∙ positional_same top.rules top.args_override_self (stray_fault top) (arg_by_index top.rules position) h
+        ap (λ o. option_map_or (λ a. positional_fault other.rules top.args_override_self a h) o
+        (stray_fault top)) (found_swapped s _ (λ a. refl) top.rules)
+        ∙ positional_same top.rules top.args_override_self (stray_fault top)
+        (arg_by_index top.rules position) h
 
-    turn_same : (names : Names) (w : Walk) (word : Text) → turn_fault other names w word ≡ turn_fault top names w word
+    turn_same : (names : Names) (w : Walk) (word : Text)
+        → turn_fault other names w word ≡ turn_fault top names w word
     turn_same names w word =
         let met = word_met top.rules names w.is_trailing w.waiting w.position word w.held in
-        ap₂ (λ (x y : Kinds). cond (is_some w.stopped) [] (or_else (cond w.is_trailing [] x) y)) (other_same (subcommand_met names w.waiting word) word w.held)
+        ap₂ (λ (x y : Kinds). cond (is_some w.stopped) [] (or_else (cond w.is_trailing [] x) y))
+        (other_same (subcommand_met names w.waiting word) word w.held)
         (ap (λ (x : Held × Step). step_fault other w.position x.0 x.1)
         (word_met_swapped s same top.rules names w.is_trailing w.waiting w.position word w.held)
         ∙ step_same w.position met.0 met.1)
 
-    walk_same : (names : Names) (w : Walk) (words : List Text) → walk_fault other names w words ≡ walk_fault top names w words
+    walk_same : (names : Names) (w : Walk) (words : List Text)
+        → walk_fault other names w words ≡ walk_fault top names w words
     unfolding walk_fault
     walk_same names w [] = refl
     walk_same names w (word ∷ words) =
         ap₂ (λ (x y : Kinds). or_else x y) (turn_same names w word)
-        (ap (λ x. walk_fault other names x words) (walked_swapped s same top.rules names w word) ∙ walk_same names (walked top.rules names w word) words)
+        (ap (λ x. walk_fault other names x words) (walked_swapped s same top.rules names w word)
+        ∙ walk_same names (walked top.rules names w word) words)
 
     -- ---- after the walk
-    check_same : (rows : List Row) (has_subcommand : Bool) → check_fault other rows has_subcommand ≡ check_fault top rows has_subcommand
+    check_same : (rows : List Row) (has_subcommand : Bool)
+        → check_fault other rows has_subcommand ≡ check_fault top rows has_subcommand
     check_same rows has_subcommand =
-        ap (λ x. check_kinds (not has_subcommand && (top.arg_required_else_help && not (list_any (λ (r : Row). explicit_source r.source) rows)))
-        (not has_subcommand && top.subcommand_required) (not (top.subcommand_negates_reqs && has_subcommand) && x))
+        ap (λ x. check_kinds
+        (not has_subcommand &&
+        (top.arg_required_else_help && not (list_any (λ (r : Row). explicit_source r.source) rows)))
+        (not has_subcommand && top.subcommand_required)
+        (not (top.subcommand_negates_reqs && has_subcommand) && x))
         (any_swapped s (λ a. a.required && not (is_given a.id rows)) (λ a. refl) top.rules)
 
-    pub level_fault_same : (names : Names) (h : Held) (words : List Text) (has_subcommand : Bool) (below : Kinds)
-        → level_fault other names h words has_subcommand below ≡ level_fault top names h words has_subcommand below
+    pub level_fault_same : (names : Names) (h : Held) (words : List Text) (has_subcommand : Bool)
+        (below : Kinds)
+        → level_fault other names h words has_subcommand below
+        ≡ level_fault top names h words has_subcommand below
     level_fault_same names h words has_subcommand below =
         let end = (walk top.rules names h words).held in
-        let ends : (walk other.rules names h words).held ≡ end = ap (λ (x : Walk). x.held) (walk_swapped s same top.rules names h words) in
-        let rows : (settled other.rules (walk other.rules names h words).held).rows ≡ (settled top.rules end).rows =
-        ap (λ (x : Held). (settled other.rules x).rows) ends ∙ ap (λ (x : Held). x.rows) (settled_swapped s same top.rules end) in
+        let ends : (walk other.rules names h words).held
+        ≡ end = ap (λ (x : Walk). x.held) (walk_swapped s same top.rules names h words) in
+        let rows : (settled other.rules (walk other.rules names h words).held).rows
+        ≡ (settled top.rules end).rows =
+        ap (λ (x : Held). (settled other.rules x).rows) ends
+        ∙ ap (λ (x : Held). x.rows) (settled_swapped s same top.rules end) in
         ap₂ (λ (x y : Kinds). or_else x (or_else below y)) (walk_same names (walk_from h) words)
         (ap₂ (λ (x y : Kinds). or_else x y)
-        (ap (λ x. settle_fault other.rules top.args_override_self x) ends ∙ settle_same top.rules top.args_override_self end)
+        (ap (λ x. settle_fault other.rules top.args_override_self x) ends
+        ∙ settle_same top.rules top.args_override_self end)
         (ap₂ (λ (x y : Kinds). or_else x y)
-        (ap (λ x. defaults_fault x other.rules) rows ∙ defaults_same (settled top.rules end).rows top.rules)
+        (ap (λ x. defaults_fault x other.rules) rows
+        ∙ defaults_same (settled top.rules end).rows top.rules)
         (ap (λ x. check_fault other (finished other.rules x) has_subcommand) ends
         ∙ ap (λ x. check_fault other x has_subcommand) (finished_swapped s same top.rules end)
         ∙ check_same (finished top.rules end) has_subcommand)))

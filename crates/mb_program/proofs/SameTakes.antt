@@ -1,4 +1,5 @@
--- Clap takes the same words, if the parsers of some arguments are changed for ones that accept the same values.
+-- Clap takes the same words, if the parsers of some arguments are changed for ones that accept the
+-- same values.
 use Rattle.std.proofs.Common.{◌≡◌, ◌∙◌, refl, sym, ap, ap₂, Bool, cond, true, false, not, ℕ, zero, suc, List, [], ◌∷◌, map, Option, Some, None}
 use Rattle.std.specs.Prelude.{◌&&◌, ◌||◌, codes, drop, encode_utf8, is_some, length, nat_le, option_map, slice_get}
 use Rattle.std.specs.List.{list_all, list_any}
@@ -19,7 +20,8 @@ abbrev pub with_swapped : Swap → Shape → Shape
 with_swapped s shape = record shape { rules = map (swapped s) shape.rules }
 
 -- a test of all arguments that does not look at the parser
-pub all_swapped : (s : Swap) (p q : Rule → Bool) → ((a : Rule) → p (swapped s a) ≡ q a) → (c : List Rule)
+pub all_swapped : (s : Swap) (p q : Rule → Bool) → ((a : Rule) → p (swapped s a) ≡ q a)
+    → (c : List Rule)
     → list_all p (map (swapped s) c) ≡ list_all q c
 all_swapped s p q same [] = refl
 all_swapped s p q same (a ∷ c) = ap₂ (λ x y. x && y) (same a) (all_swapped s p q same c)
@@ -31,16 +33,21 @@ module _ (s : Swap) (same : ReadsSame s) where
   -- ---- one use
   values_same : (a : Rule) (values : List Text) → values_pass (f a) values ≡ values_pass a values
   values_same a [] = refl
-  values_same a (v ∷ values) = ap₂ (λ x y. x && y) (same.accepts a.ignore_case a.parser v) (values_same a values)
+  values_same a (v ∷ values) =
+      ap₂ (λ x y. x && y) (same.accepts a.ignore_case a.parser v) (values_same a values)
 
-  set_same : (again : Bool) (a : Rule) (values : List Text) (rows : List Row) → set_passes again (f a) values rows ≡ set_passes again a values rows
-  set_same again a values rows = ap (λ x. (not (has_row a.id rows) || again) && x) (values_same a values)
+  set_same : (again : Bool) (a : Rule) (values : List Text) (rows : List Row)
+      → set_passes again (f a) values rows ≡ set_passes again a values rows
+  set_same again a values rows =
+      ap (λ x. (not (has_row a.id rows) || again) && x) (values_same a values)
 
-  count_same : (a : Rule) (values : List Text) (rows : List Row) → count_passes (f a) values rows ≡ count_passes a values rows
+  count_same : (a : Rule) (values : List Text) (rows : List Row)
+      → count_passes (f a) values rows ≡ count_passes a values rows
   count_same a [] rows = same.accepts a.ignore_case a.parser _
   count_same a (v ∷ values) rows = values_same a (v ∷ values)
 
-  action_same : (action : ArgAction) (again : Bool) (a : Rule) (values : List Text) (rows : List Row)
+  action_same : (action : ArgAction) (again : Bool) (a : Rule) (values : List Text)
+      (rows : List Row)
       → action_passes action again (f a) values rows ≡ action_passes action again a values rows
   action_same Set again a values rows = set_same again a values rows
   action_same SetTrue again a values rows = set_same again a values rows
@@ -52,18 +59,23 @@ module _ (s : Swap) (same : ReadsSame s) where
   action_same HelpLong again a values rows = refl
   action_same Version again a values rows = refl
 
-  use_same : (again : Bool) (a : Rule) (values : List Text) (rows : List Row) → use_passes again (f a) values rows ≡ use_passes again a values rows
+  use_same : (again : Bool) (a : Rule) (values : List Text) (rows : List Row)
+      → use_passes again (f a) values rows ≡ use_passes again a values rows
   use_same again a values rows =
-      ap (λ x. nat_le (unwrap_or_range a.range).start_inclusive (length values) && (nat_le (length values) (most_values a) && x))
+      ap (λ x. nat_le (unwrap_or_range a.range).start_inclusive (length values) &&
+      (nat_le (length values) (most_values a) && x))
       (action_same (action_of a) again a (values_or_missing a values) rows)
 
   by_id_same : (again : Bool) (values : List Text) (rows : List Row) (o : Option Rule)
-      → option_map_or (λ a. use_passes again a values rows) (option_map f o) true ≡ option_map_or (λ a. use_passes again a values rows) o true
+      → option_map_or (λ a. use_passes again a values rows) (option_map f o) true
+      ≡ option_map_or (λ a. use_passes again a values rows) o true
   by_id_same again values rows None = refl
   by_id_same again values rows (Some a) = use_same again a values rows
 
   default_same : (a : Rule) → default_passes (f a) ≡ default_passes a
-  default_same a = ap (λ x. is_empty a.defaults || (not (is_request (action_of a)) && x)) (values_same a a.defaults)
+  default_same a =
+      ap (λ x. is_empty a.defaults || (not (is_request (action_of a)) && x))
+      (values_same a a.defaults)
 
   -- ---- the walk, over the arguments c
   module _ (c : List Rule) (again : Bool) where
@@ -71,116 +83,154 @@ module _ (s : Swap) (same : ReadsSame s) where
     d = map f c
 
     pending_same : (p : Option (Text × List Text)) (rows : List Row)
-        → option_map_or (λ p. option_map_or (λ a. use_passes again a p.1 rows) (arg_by_id d p.0) true) p true
-        ≡ option_map_or (λ p. option_map_or (λ a. use_passes again a p.1 rows) (arg_by_id c p.0) true) p true
+        → option_map_or
+        (λ p. option_map_or (λ a. use_passes again a p.1 rows) (arg_by_id d p.0) true) p true
+        ≡ option_map_or
+        (λ p. option_map_or (λ a. use_passes again a p.1 rows) (arg_by_id c p.0) true) p true
     pending_same None rows = refl
     pending_same (Some p) rows =
-        ap (λ o. option_map_or (λ a. use_passes again a p.1 rows) o true) (id_swapped s same c p.0) ∙ by_id_same again p.1 rows (arg_by_id c p.0)
+        ap (λ o. option_map_or (λ a. use_passes again a p.1 rows) o true) (id_swapped s same c p.0)
+        ∙ by_id_same again p.1 rows (arg_by_id c p.0)
 
     settle_same : (h : Held) → settle_passes d again h ≡ settle_passes c again h
     settle_same h = pending_same h.pending h.rows
 
-    react_same : (a : Rule) (values : List Text) (h : Held) → react_passes d again (f a) values h ≡ react_passes c again a values h
+    react_same : (a : Rule) (values : List Text) (h : Held)
+        → react_passes d again (f a) values h ≡ react_passes c again a values h
     react_same a values h =
         ap₂ (λ x y. x && y) (settle_same h)
-        (use_same again a values (settled d h).rows ∙ ap (λ (x : Held). use_passes again a values x.rows) (settled_swapped s same c h))
+        (use_same again a values (settled d h).rows
+        ∙ ap (λ (x : Held). use_passes again a values x.rows) (settled_swapped s same c h))
 
-    option_same : (a : Rule) (v : Option Text) (h : Held) → option_passes d again (f a) v h ≡ option_passes c again a v h
+    option_same : (a : Rule) (v : Option Text) (h : Held)
+        → option_passes d again (f a) v h ≡ option_passes c again a v h
     option_same a (Some v) h = react_same a (v ∷ []) h
     option_same a None h = settle_same h
 
-    long_same : (o : Option Rule) (v : Option Text) (h : Held) → long_passes d again (option_map f o) v h ≡ long_passes c again o v h
+    long_same : (o : Option Rule) (v : Option Text) (h : Held)
+        → long_passes d again (option_map f o) v h ≡ long_passes c again o v h
     long_same None v h = refl
-    long_same (Some a) v h = ap₂ (λ x y. cond (takes_values a) x (not (is_some v) && y)) (option_same a v h) (react_same a [] h)
+    long_same (Some a) v h =
+        ap₂ (λ x y. cond (takes_values a) x (not (is_some v) && y)) (option_same a v h)
+        (react_same a [] h)
 
-    short_same : (o : Option Rule) (rest : Text) (h : Held) (go other : Held → Bool) → ((x : Held) → go x ≡ other x)
+    short_same : (o : Option Rule) (rest : Text) (h : Held) (go other : Held → Bool)
+        → ((x : Held) → go x ≡ other x)
         → short_passes d again (option_map f o) rest h go ≡ short_passes c again o rest h other
     short_same None rest h go other e = refl
     short_same (Some a) rest h go other e =
         ap₂ (λ x y. cond (takes_values a) x y) (option_same a (attached_value rest) h)
-        (ap₂ (λ x y. x && y) (react_same a [] h) (e (reacted d (f a) [] h) ∙ ap other (reacted_swapped s same c a [] h)))
+        (ap₂ (λ x y. x && y) (react_same a [] h)
+        (e (reacted d (f a) [] h) ∙ ap other (reacted_swapped s same c a [] h)))
 
-    step_of_bundle_same : (o : Option ℕ) (flags : Text) (skip : ℕ) (h : Held) (go other : Text → ℕ → Held → Bool)
+    step_of_bundle_same : (o : Option ℕ) (flags : Text) (skip : ℕ) (h : Held)
+        (go other : Text → ℕ → Held → Bool)
         → ((t : Text) (n : ℕ) (x : Held) → go t n x ≡ other t n x)
-        → bundle_step_passes d again o flags skip h go ≡ bundle_step_passes c again o flags skip h other
+        → bundle_step_passes d again o flags skip h go
+        ≡ bundle_step_passes c again o flags skip h other
     step_of_bundle_same None flags skip h go other e = refl
     step_of_bundle_same (Some x) flags zero h go other e =
         let rest = drop (length (encode_utf8 x)) flags in
         ap (λ o. short_passes d again o rest h (go rest 0)) (found_swapped s _ (λ a. refl) c)
         ∙ short_same (arg_by_short c x) rest h (go rest 0) (other rest 0) (e rest 0)
-    step_of_bundle_same (Some x) flags (suc skip) h go other e = e (drop (length (encode_utf8 x)) flags) skip h
+    step_of_bundle_same (Some x) flags (suc skip) h go other e =
+        e (drop (length (encode_utf8 x)) flags) skip h
 
-    flags_same : (k : ℕ) (flags : Text) (skip : ℕ) (h : Held) → flags_pass d again k flags skip h ≡ flags_pass c again k flags skip h
+    flags_same : (k : ℕ) (flags : Text) (skip : ℕ) (h : Held)
+        → flags_pass d again k flags skip h ≡ flags_pass c again k flags skip h
     unfolding flags_pass
     flags_same zero flags skip h = refl
     flags_same (suc k) flags skip h =
-        step_of_bundle_same (slice_get (chars flags) 0) flags skip h (flags_pass d again k) (flags_pass c again k) (flags_same k)
+        step_of_bundle_same (slice_get (chars flags) 0) flags skip h (flags_pass d again k)
+        (flags_pass c again k) (flags_same k)
 
     shorts_same : (o : Option Text) (h : Held)
-        → option_map_or (λ flags. flags_pass d again (length flags) flags h.skip (record h { skip = 0 })) o true
-        ≡ option_map_or (λ flags. flags_pass c again (length flags) flags h.skip (record h { skip = 0 })) o true
+        → option_map_or
+        (λ flags. flags_pass d again (length flags) flags h.skip (record h { skip = 0 })) o true
+        ≡ option_map_or
+        (λ flags. flags_pass c again (length flags) flags h.skip (record h { skip = 0 })) o true
     shorts_same None h = refl
     shorts_same (Some flags) h = flags_same (length flags) flags h.skip (record h { skip = 0 })
 
-    flag_word_same : (o : Option (Text × Option Text)) (word : Text) (h : Held) → flag_word_passes d again o word h ≡ flag_word_passes c again o word h
+    flag_word_same : (o : Option (Text × Option Text)) (word : Text) (h : Held)
+        → flag_word_passes d again o word h ≡ flag_word_passes c again o word h
     flag_word_same (Some p) word h =
-        ap (λ o. long_passes d again o p.1 h) (found_swapped s _ (λ a. refl) c) ∙ long_same (arg_by_long c p.0) p.1 h
+        ap (λ o. long_passes d again o p.1 h) (found_swapped s _ (λ a. refl) c)
+        ∙ long_same (arg_by_long c p.0) p.1 h
     flag_word_same None word h = shorts_same (short_of word) h
 
     positional_same : (o : Option Rule) (h : Held)
-        → option_map_or (λ a. positional_passes d again a h) (option_map f o) false ≡ option_map_or (λ a. positional_passes c again a h) o false
+        → option_map_or (λ a. positional_passes d again a h) (option_map f o) false
+        ≡ option_map_or (λ a. positional_passes c again a h) o false
     positional_same None h = refl
-    positional_same (Some a) h = ap (λ x. (is_pending a h.pending && takes_several a) || x) (settle_same h)
+    positional_same (Some a) h =
+        ap (λ x. (is_pending a h.pending && takes_several a) || x) (settle_same h)
 
   -- ---- the walk of a command
   module _ (top : Shape) where
     abbrev other : Shape
     other = with_swapped s top
 
-    other_same : (o : Option Text) (word : Text) (h : Held) → other_passes other o word h ≡ other_passes top o word h
+    other_same : (o : Option Text) (word : Text) (h : Held)
+        → other_passes other o word h ≡ other_passes top o word h
     other_same (Some name) word h = refl
     other_same None word h =
-        ap (λ x. bytes_eq word (45 ∷ 45 ∷ []) || x) (flag_word_same top.rules top.args_override_self (long_of word) word h)
+        ap (λ x. bytes_eq word (45 ∷ 45 ∷ []) || x)
+        (flag_word_same top.rules top.args_override_self (long_of word) word h)
 
-    step_same : (position : ℕ) (h : Held) (step : Step) → step_passes other position h step ≡ step_passes top position h step
+    step_same : (position : ℕ) (h : Held) (step : Step)
+        → step_passes other position h step ≡ step_passes top position h step
     step_same position h (next waiting) = refl
     step_same position h (trailing n) = refl
     step_same position h (subcommand name) = refl
     step_same position h value =
-        ap (λ o. option_map_or (λ a. positional_passes other.rules top.args_override_self a h) o false) (found_swapped s _ (λ a. refl) top.rules)
+        ap (λ o. option_map_or
+        (λ a. positional_passes other.rules top.args_override_self a h) o false)
+        (found_swapped s _ (λ a. refl) top.rules)
         ∙ positional_same top.rules top.args_override_self (arg_by_index top.rules position) h
 
-    turn_same : (names : Names) (w : Walk) (word : Text) → turn_passes other names w word ≡ turn_passes top names w word
+    turn_same : (names : Names) (w : Walk) (word : Text)
+        → turn_passes other names w word ≡ turn_passes top names w word
     turn_same names w word =
         let met = word_met top.rules names w.is_trailing w.waiting w.position word w.held in
-        ap₂ (λ x y. is_some w.stopped || ((w.is_trailing || x) && y)) (other_same (subcommand_met names w.waiting word) word w.held)
+        ap₂ (λ x y. is_some w.stopped || ((w.is_trailing || x) && y))
+        (other_same (subcommand_met names w.waiting word) word w.held)
         (ap (λ (x : Held × Step). step_passes other w.position x.0 x.1)
         (word_met_swapped s same top.rules names w.is_trailing w.waiting w.position word w.held)
         ∙ step_same w.position met.0 met.1)
 
-    walk_same : (names : Names) (w : Walk) (words : List Text) → walk_passes other names w words ≡ walk_passes top names w words
+    walk_same : (names : Names) (w : Walk) (words : List Text)
+        → walk_passes other names w words ≡ walk_passes top names w words
     unfolding walk_passes
     walk_same names w [] = refl
     walk_same names w (word ∷ words) =
         ap₂ (λ x y. x && y) (turn_same names w word)
-        (ap (λ x. walk_passes other names x words) (walked_swapped s same top.rules names w word) ∙ walk_same names (walked top.rules names w word) words)
+        (ap (λ x. walk_passes other names x words) (walked_swapped s same top.rules names w word)
+        ∙ walk_same names (walked top.rules names w word) words)
 
     -- ---- after the walk
-    valid_same : (rows : List Row) (has_subcommand : Bool) → is_valid other rows has_subcommand ≡ is_valid top rows has_subcommand
+    valid_same : (rows : List Row) (has_subcommand : Bool)
+        → is_valid other rows has_subcommand ≡ is_valid top rows has_subcommand
     valid_same rows has_subcommand =
-        ap₂ (λ x y. (not top.arg_required_else_help || (has_subcommand || list_any (λ (r : Row). explicit_source r.source) rows))
-        && ((not top.subcommand_required || has_subcommand) && (x && ((top.subcommand_negates_reqs && has_subcommand) || y))))
+        ap₂ (λ x y. (not top.arg_required_else_help ||
+        (has_subcommand || list_any (λ (r : Row). explicit_source r.source) rows))
+        && ((not top.subcommand_required || has_subcommand) &&
+        (x && ((top.subcommand_negates_reqs && has_subcommand) || y))))
         (all_swapped s (λ a. a.is_free) (λ a. a.is_free) (λ a. refl) top.rules)
-        (all_swapped s (λ a. not a.required || is_given a.id rows) (λ a. not a.required || is_given a.id rows) (λ a. refl) top.rules)
+        (all_swapped s (λ a. not a.required || is_given a.id rows)
+        (λ a. not a.required || is_given a.id rows) (λ a. refl) top.rules)
 
     pub level_same : (names : Names) (h : Held) (words : List Text) (has_subcommand : Bool)
-        → level_passes other names h words has_subcommand ≡ level_passes top names h words has_subcommand
+        → level_passes other names h words has_subcommand
+        ≡ level_passes top names h words has_subcommand
     level_same names h words has_subcommand =
         let end = (walk top.rules names h words).held in
-        let ends : (walk other.rules names h words).held ≡ end = ap (λ (x : Walk). x.held) (walk_swapped s same top.rules names h words) in
+        let ends : (walk other.rules names h words).held
+        ≡ end = ap (λ (x : Walk). x.held) (walk_swapped s same top.rules names h words) in
         ap₂ (λ x y. x && y) (walk_same names (walk_from h) words)
         (ap₂ (λ x y. x && y)
-        (ap (λ x. settle_passes other.rules top.args_override_self x) ends ∙ settle_same top.rules top.args_override_self end)
+        (ap (λ x. settle_passes other.rules top.args_override_self x) ends
+        ∙ settle_same top.rules top.args_override_self end)
         (ap₂ (λ x y. x && y) (all_swapped s default_passes default_passes default_same top.rules)
         (ap (λ x. is_valid other (finished other.rules x) has_subcommand) ends
         ∙ ap (λ x. is_valid other x has_subcommand) (finished_swapped s same top.rules end)

@@ -1,4 +1,5 @@
--- What clap's walk over the words makes of arguments whose parsers are changed, if the new parsers read values as the old ones do.
+-- Clap's walk over the words comes to the same, if the parsers of some arguments are changed for ones
+-- that read values as they do.
 use Rattle.std.proofs.Common.{◌≡◌, ◌∙◌, refl, sym, ap, ap₂, Bool, cond, true, false, ℕ, zero, suc, List, [], ◌∷◌, map, Option, Some, None}
 use Rattle.std.specs.Prelude.{◌&&◌, ◌||◌, drop, encode_utf8, find, fold, length, option_map, slice_get}
 use Rattle.std.specs.Str.{bytes_eq, chars}
@@ -18,19 +19,25 @@ swapped s a = record a { parser = s a.parser }
 
 -- they read, accept and refuse values as before
 pub record ReadsSame (s : Swap) : Type 0 where
-  pub reading : (o : Option ValueParser) → reading_of (parser_of_value (s o)) ≡ reading_of (parser_of_value o)
-  pub accepts : (i : Bool) (o : Option ValueParser) (t : Text) → accepts i (parser_of_value (s o)) t ≡ accepts i (parser_of_value o) t
-  pub kind : (o : Option ValueParser) → refused_kind (parser_of_value (s o)) ≡ refused_kind (parser_of_value o)
+  pub reading : (o : Option ValueParser)
+      → reading_of (parser_of_value (s o)) ≡ reading_of (parser_of_value o)
+  pub accepts : (i : Bool) (o : Option ValueParser) (t : Text)
+      → accepts i (parser_of_value (s o)) t ≡ accepts i (parser_of_value o) t
+  pub kind : (o : Option ValueParser)
+      → refused_kind (parser_of_value (s o)) ≡ refused_kind (parser_of_value o)
 
 -- a search that does not look at the parser
-pub found_swapped : (s : Swap) (p : Rule → Bool) → ((a : Rule) → p (swapped s a) ≡ p a) → (c : List Rule)
+pub found_swapped : (s : Swap) (p : Rule → Bool) → ((a : Rule) → p (swapped s a) ≡ p a)
+    → (c : List Rule)
     → find p (map (swapped s) c) ≡ option_map (swapped s) (find p c)
 found_swapped s p same [] = refl
 found_swapped s p same (a ∷ c) =
-    ap (λ b. cond b (Some (swapped s a)) (find p (map (swapped s) c))) (same a) ∙ go (p a) (found_swapped s p same c)
+    ap (λ b. cond b (Some (swapped s a)) (find p (map (swapped s) c))) (same a)
+    ∙ go (p a) (found_swapped s p same c)
   where
     go : (b : Bool) → find p (map (swapped s) c) ≡ option_map (swapped s) (find p c)
-        → cond b (Some (swapped s a)) (find p (map (swapped s) c)) ≡ option_map (swapped s) (cond b (Some a) (find p c))
+        → cond b (Some (swapped s a)) (find p (map (swapped s) c))
+        ≡ option_map (swapped s) (cond b (Some a) (find p c))
     go true e = refl
     go false e = e
 
@@ -39,10 +46,14 @@ module _ (s : Swap) (same : ReadsSame s) where
   f = swapped s
 
   -- ---- one use
-  pub used_swapped : (a : Rule) (values : List Text) (rows : List Row) → used (f a) values rows ≡ used a values rows
-  used_swapped a values rows = ap (λ how. used_as (action_of a) a.id how (values_or_missing a values) rows) (same.reading a.parser)
+  pub used_swapped : (a : Rule) (values : List Text) (rows : List Row)
+      → used (f a) values rows ≡ used a values rows
+  used_swapped a values rows =
+      ap (λ how. used_as (action_of a) a.id how (values_or_missing a values) rows)
+      (same.reading a.parser)
 
-  by_id_swapped : (o : Option Rule) (values : List Text) (rows : List Row) → used_by_id (option_map f o) values rows ≡ used_by_id o values rows
+  by_id_swapped : (o : Option Rule) (values : List Text) (rows : List Row)
+      → used_by_id (option_map f o) values rows ≡ used_by_id o values rows
   by_id_swapped None values rows = refl
   by_id_swapped (Some a) values rows = used_swapped a values rows
 
@@ -54,97 +65,134 @@ module _ (s : Swap) (same : ReadsSame s) where
     pub id_swapped : (id : Text) → arg_by_id d id ≡ option_map f (arg_by_id c id)
     id_swapped id = found_swapped s (λ a. bytes_eq a.id id) (λ a. refl) c
 
-    settled_rows_swapped : (p : Option (Text × List Text)) (rows : List Row) → settled_rows d p rows ≡ settled_rows c p rows
+    settled_rows_swapped : (p : Option (Text × List Text)) (rows : List Row)
+        → settled_rows d p rows ≡ settled_rows c p rows
     settled_rows_swapped None rows = refl
-    settled_rows_swapped (Some p) rows = ap (λ o. used_by_id o p.1 rows) (id_swapped p.0) ∙ by_id_swapped (arg_by_id c p.0) p.1 rows
+    settled_rows_swapped (Some p) rows =
+        ap (λ o. used_by_id o p.1 rows) (id_swapped p.0) ∙ by_id_swapped (arg_by_id c p.0) p.1 rows
 
     pub settled_swapped : (h : Held) → settled d h ≡ settled c h
-    settled_swapped h = ap (λ (rows : List Row). record h { rows = rows; pending = None }) (settled_rows_swapped h.pending h.rows)
+    settled_swapped h =
+        ap (λ (rows : List Row). record h { rows = rows; pending = None })
+        (settled_rows_swapped h.pending h.rows)
 
-    pub reacted_swapped : (a : Rule) (values : List Text) (h : Held) → reacted d (f a) values h ≡ reacted c a values h
+    pub reacted_swapped : (a : Rule) (values : List Text) (h : Held)
+        → reacted d (f a) values h ≡ reacted c a values h
     reacted_swapped a values h =
         ap (λ (rows : List Row). record h { rows = rows; pending = None })
-        (used_swapped a values (settled d h).rows ∙ ap (λ (x : Held). used a values x.rows) (settled_swapped h))
+        (used_swapped a values (settled d h).rows
+        ∙ ap (λ (x : Held). used a values x.rows) (settled_swapped h))
 
-    option_met_swapped : (a : Rule) (v : Option Text) (h : Held) → option_met d (f a) v h ≡ option_met c a v h
+    option_met_swapped : (a : Rule) (v : Option Text) (h : Held)
+        → option_met d (f a) v h ≡ option_met c a v h
     option_met_swapped a (Some v) h = ap (λ (x : Held). (x, done)) (reacted_swapped a (v ∷ []) h)
-    option_met_swapped a None h = ap (λ (x : Held). (record x { pending = Some (a.id, []) }, waits a.id)) (settled_swapped h)
+    option_met_swapped a None h =
+        ap (λ (x : Held). (record x { pending = Some (a.id, []) }, waits a.id)) (settled_swapped h)
 
-    flag_met_swapped : (a : Rule) (v : Option Text) (h : Held) → flag_met d (f a) v h ≡ flag_met c a v h
+    flag_met_swapped : (a : Rule) (v : Option Text) (h : Held)
+        → flag_met d (f a) v h ≡ flag_met c a v h
     flag_met_swapped a (Some v) h = refl
     flag_met_swapped a None h = ap (λ (x : Held). (x, done)) (reacted_swapped a [] h)
 
-    long_met_swapped : (o : Option Rule) (v : Option Text) (h : Held) → long_met d (option_map f o) v h ≡ long_met c o v h
+    long_met_swapped : (o : Option Rule) (v : Option Text) (h : Held)
+        → long_met d (option_map f o) v h ≡ long_met c o v h
     long_met_swapped None v h = refl
-    long_met_swapped (Some a) v h = ap₂ (λ x y. cond (takes_values a) x y) (option_met_swapped a v h) (flag_met_swapped a v h)
+    long_met_swapped (Some a) v h =
+        ap₂ (λ x y. cond (takes_values a) x y) (option_met_swapped a v h) (flag_met_swapped a v h)
 
-    short_met_swapped : (o : Option Rule) (rest : Text) (h : Held) (go other : Held → Held × Outcome) → ((x : Held) → go x ≡ other x)
+    short_met_swapped : (o : Option Rule) (rest : Text) (h : Held)
+        (go other : Held → Held × Outcome) → ((x : Held) → go x ≡ other x)
         → short_met d (option_map f o) rest h go ≡ short_met c o rest h other
     short_met_swapped None rest h go other e = refl
     short_met_swapped (Some a) rest h go other e =
         ap₂ (λ x y. cond (takes_values a) x y) (option_met_swapped a (attached_value rest) h)
         (e (reacted d (f a) [] h) ∙ ap other (reacted_swapped a [] h))
 
-    step_swapped : (o : Option ℕ) (flags : Text) (skip : ℕ) (so_far : Outcome) (h : Held) (go other : Text → ℕ → Outcome → Held → Held × Outcome)
+    step_swapped : (o : Option ℕ) (flags : Text) (skip : ℕ) (so_far : Outcome) (h : Held)
+        (go other : Text → ℕ → Outcome → Held → Held × Outcome)
         → ((t : Text) (n : ℕ) (x : Outcome) (y : Held) → go t n x y ≡ other t n x y)
         → bundle_step d o flags skip so_far h go ≡ bundle_step c o flags skip so_far h other
     step_swapped None flags skip so_far h go other e = refl
     step_swapped (Some x) flags zero so_far h go other e =
         let rest = drop (length (encode_utf8 x)) flags in
         ap (λ o. short_met d o rest h (go rest 0 done)) (found_swapped s _ (λ a. refl) c)
-        ∙ short_met_swapped (arg_by_short c x) rest h (go rest 0 done) (other rest 0 done) (e rest 0 done)
-    step_swapped (Some x) flags (suc skip) so_far h go other e = e (drop (length (encode_utf8 x)) flags) skip so_far h
+        ∙ short_met_swapped (arg_by_short c x) rest h (go rest 0 done) (other rest 0 done)
+        (e rest 0 done)
+    step_swapped (Some x) flags (suc skip) so_far h go other e =
+        e (drop (length (encode_utf8 x)) flags) skip so_far h
 
     bundle_met_swapped : (k : ℕ) (flags : Text) (skip : ℕ) (so_far : Outcome) (h : Held)
         → bundle_met d k flags skip so_far h ≡ bundle_met c k flags skip so_far h
     unfolding bundle_met
     bundle_met_swapped zero flags skip so_far h = refl
     bundle_met_swapped (suc k) flags skip so_far h =
-        step_swapped (slice_get (chars flags) 0) flags skip so_far h (bundle_met d k) (bundle_met c k) (bundle_met_swapped k)
+        step_swapped (slice_get (chars flags) 0) flags skip so_far h (bundle_met d k)
+        (bundle_met c k) (bundle_met_swapped k)
 
-    option_word_swapped : (o : Option Rule) (id word : Text) (h : Held) → option_word (option_map f o) id word h ≡ option_word o id word h
+    option_word_swapped : (o : Option Rule) (id word : Text) (h : Held)
+        → option_word (option_map f o) id word h ≡ option_word o id word h
     option_word_swapped None id word h = refl
     option_word_swapped (Some a) id word h = refl
 
-    plain_word_swapped : (waiting : Waiting) (word : Text) (h : Held) → plain_word d waiting word h ≡ plain_word c waiting word h
+    plain_word_swapped : (waiting : Waiting) (word : Text) (h : Held)
+        → plain_word d waiting word h ≡ plain_word c waiting word h
     plain_word_swapped idle word h = refl
     plain_word_swapped (option id) word h =
-        ap (λ (x : Held × Waiting). (x.0, next x.1)) (ap (λ o. option_word o id word h) (id_swapped id) ∙ option_word_swapped (arg_by_id c id) id word h)
+        ap (λ (x : Held × Waiting). (x.0, next x.1))
+        (ap (λ o. option_word o id word h) (id_swapped id)
+        ∙ option_word_swapped (arg_by_id c id) id word h)
     plain_word_swapped positional word h = refl
 
-    after_flag_swapped : (waiting : Waiting) (word : Text) (h : Held) (outcome : Outcome) → after_flag d waiting word h outcome ≡ after_flag c waiting word h outcome
+    after_flag_swapped : (waiting : Waiting) (word : Text) (h : Held) (outcome : Outcome)
+        → after_flag d waiting word h outcome ≡ after_flag c waiting word h outcome
     after_flag_swapped waiting word h done = refl
     after_flag_swapped waiting word h (waits id) = refl
     after_flag_swapped waiting word h plain = plain_word_swapped waiting word h
     after_flag_swapped waiting word h refused = plain_word_swapped waiting word h
 
-    met_swapped : (waiting : Waiting) (word : Text) (x y : Held × Outcome) → x ≡ y → after_flag d waiting word x.0 x.1 ≡ after_flag c waiting word y.0 y.1
-    met_swapped waiting word x y e = ap (λ (z : Held × Outcome). after_flag d waiting word z.0 z.1) e ∙ after_flag_swapped waiting word y.0 y.1
+    met_swapped : (waiting : Waiting) (word : Text) (x y : Held × Outcome) → x ≡ y
+        → after_flag d waiting word x.0 x.1 ≡ after_flag c waiting word y.0 y.1
+    met_swapped waiting word x y e =
+        ap (λ (z : Held × Outcome). after_flag d waiting word z.0 z.1) e
+        ∙ after_flag_swapped waiting word y.0 y.1
 
-    short_or_plain_swapped : (waiting : Waiting) (word : Text) (o : Option Text) (h : Held) → short_or_plain d waiting word o h ≡ short_or_plain c waiting word o h
+    short_or_plain_swapped : (waiting : Waiting) (word : Text) (o : Option Text) (h : Held)
+        → short_or_plain d waiting word o h ≡ short_or_plain c waiting word o h
     short_or_plain_swapped waiting word (Some flags) h =
-        met_swapped waiting word (bundle d flags h) (bundle c flags h) (bundle_met_swapped (length flags) flags h.skip plain (record h { skip = 0 }))
+        met_swapped waiting word (bundle d flags h) (bundle c flags h)
+        (bundle_met_swapped (length flags) flags h.skip plain (record h { skip = 0 }))
     short_or_plain_swapped waiting word None h = plain_word_swapped waiting word h
 
-    long_or_other_swapped : (waiting : Waiting) (word : Text) (o : Option (Text × Option Text)) (h : Held)
+    long_or_other_swapped : (waiting : Waiting) (word : Text) (o : Option (Text × Option Text))
+        (h : Held)
         → long_or_other d waiting word o h ≡ long_or_other c waiting word o h
     long_or_other_swapped waiting word (Some p) h =
-        met_swapped waiting word (long_met d (arg_by_long d p.0) p.1 h) (long_met c (arg_by_long c p.0) p.1 h)
-        (ap (λ o. long_met d o p.1 h) (found_swapped s _ (λ a. refl) c) ∙ long_met_swapped (arg_by_long c p.0) p.1 h)
-    long_or_other_swapped waiting word None h = short_or_plain_swapped waiting word (short_of word) h
+        met_swapped waiting word (long_met d (arg_by_long d p.0) p.1 h)
+        (long_met c (arg_by_long c p.0) p.1 h)
+        (ap (λ o. long_met d o p.1 h) (found_swapped s _ (λ a. refl) c)
+        ∙ long_met_swapped (arg_by_long c p.0) p.1 h)
+    long_or_other_swapped waiting word None h =
+        short_or_plain_swapped waiting word (short_of word) h
 
-    subcommand_or_other_swapped : (o : Option Text) (waiting : Waiting) (position : ℕ) (word : Text) (h : Held)
-        → subcommand_or_other d o waiting position word h ≡ subcommand_or_other c o waiting position word h
+    subcommand_or_other_swapped : (o : Option Text) (waiting : Waiting) (position : ℕ) (word : Text)
+        (h : Held)
+        → subcommand_or_other d o waiting position word h
+        ≡ subcommand_or_other c o waiting position word h
     subcommand_or_other_swapped (Some name) waiting position word h = refl
     subcommand_or_other_swapped None waiting position word h =
-        ap (λ x. cond (bytes_eq word (45 ∷ 45 ∷ [])) (h, trailing position) x) (long_or_other_swapped waiting word (long_of word) h)
+        ap (λ x. cond (bytes_eq word (45 ∷ 45 ∷ [])) (h, trailing position) x)
+        (long_or_other_swapped waiting word (long_of word) h)
 
-    pub word_met_swapped : (names : Names) (is_trailing : Bool) (waiting : Waiting) (position : ℕ) (word : Text) (h : Held)
-        → word_met d names is_trailing waiting position word h ≡ word_met c names is_trailing waiting position word h
+    pub word_met_swapped : (names : Names) (is_trailing : Bool) (waiting : Waiting) (position : ℕ)
+        (word : Text) (h : Held)
+        → word_met d names is_trailing waiting position word h
+        ≡ word_met c names is_trailing waiting position word h
     word_met_swapped names is_trailing waiting position word h =
-        ap (λ x. cond is_trailing (h, value) x) (subcommand_or_other_swapped (subcommand_met names waiting word) waiting position word h)
+        ap (λ x. cond is_trailing (h, value) x)
+        (subcommand_or_other_swapped (subcommand_met names waiting word) waiting position word h)
 
-    to_positional_swapped : (o : Option Rule) (word : Text) (w : Walk) (h : Held) → to_positional d (option_map f o) word w h ≡ to_positional c o word w h
+    to_positional_swapped : (o : Option Rule) (word : Text) (w : Walk) (h : Held)
+        → to_positional d (option_map f o) word w h ≡ to_positional c o word w h
     to_positional_swapped None word w h = refl
     to_positional_swapped (Some a) word w h =
         ap (λ (x : Held). record {
@@ -155,43 +203,62 @@ module _ (s : Swap) (same : ReadsSame s) where
           stopped = None;
         }) (settled_swapped h)
 
-    after_step_swapped : (word : Text) (w : Walk) (h : Held) (step : Step) → after_step d word w h step ≡ after_step c word w h step
+    after_step_swapped : (word : Text) (w : Walk) (h : Held) (step : Step)
+        → after_step d word w h step ≡ after_step c word w h step
     after_step_swapped word w h (next waiting) = refl
     after_step_swapped word w h (trailing position) = refl
     after_step_swapped word w h (subcommand name) = refl
     after_step_swapped word w h value =
-        ap (λ o. to_positional d o word w h) (found_swapped s _ (λ a. refl) c) ∙ to_positional_swapped (arg_by_index c w.position) word w h
+        ap (λ o. to_positional d o word w h) (found_swapped s _ (λ a. refl) c)
+        ∙ to_positional_swapped (arg_by_index c w.position) word w h
 
-    walked_from_swapped : (names : Names) (o : Option (Text × List Text)) (w : Walk) (word : Text) → walked_from d names o w word ≡ walked_from c names o w word
+    walked_from_swapped : (names : Names) (o : Option (Text × List Text)) (w : Walk) (word : Text)
+        → walked_from d names o w word ≡ walked_from c names o w word
     walked_from_swapped names (Some p) w word = refl
     walked_from_swapped names None w word =
-        ap (λ (x : Held × Step). after_step d word w x.0 x.1) (word_met_swapped names w.is_trailing w.waiting w.position word w.held)
-        ∙ after_step_swapped word w (word_met c names w.is_trailing w.waiting w.position word w.held).0
+        ap (λ (x : Held × Step). after_step d word w x.0 x.1)
+        (word_met_swapped names w.is_trailing w.waiting w.position word w.held)
+        ∙ after_step_swapped word w
+        (word_met c names w.is_trailing w.waiting w.position word w.held).0
         (word_met c names w.is_trailing w.waiting w.position word w.held).1
 
-    pub walked_swapped : (names : Names) (w : Walk) (word : Text) → walked d names w word ≡ walked c names w word
+    pub walked_swapped : (names : Names) (w : Walk) (word : Text)
+        → walked d names w word ≡ walked c names w word
     unfolding walked
     walked_swapped names w word = walked_from_swapped names w.stopped w word
 
-    steps_swapped : (names : Names) (w : Walk) (words : List Text) → fold (walked d names) w words ≡ fold (walked c names) w words
+    steps_swapped : (names : Names) (w : Walk) (words : List Text)
+        → fold (walked d names) w words ≡ fold (walked c names) w words
     steps_swapped names w [] = refl
     steps_swapped names w (word ∷ words) =
-        ap (λ x. fold (walked d names) x words) (walked_swapped names w word) ∙ steps_swapped names (walked c names w word) words
+        ap (λ x. fold (walked d names) x words) (walked_swapped names w word)
+        ∙ steps_swapped names (walked c names w word) words
 
-    pub walk_swapped : (names : Names) (h : Held) (words : List Text) → walk d names h words ≡ walk c names h words
+    pub walk_swapped : (names : Names) (h : Held) (words : List Text)
+        → walk d names h words ≡ walk c names h words
     walk_swapped names h words = steps_swapped names (walk_from h) words
 
   -- ---- after the walk
-  pub with_default_swapped : (rows : List Row) (a : Rule) → with_default rows (f a) ≡ with_default rows a
-  with_default_swapped rows a = ap (λ how. cond (has_row a.id rows) rows (default_rows a.id how a.defaults rows)) (same.reading a.parser)
+  pub with_default_swapped : (rows : List Row) (a : Rule)
+      → with_default rows (f a) ≡ with_default rows a
+  with_default_swapped rows a =
+      ap (λ how. cond (has_row a.id rows) rows (default_rows a.id how a.defaults rows))
+      (same.reading a.parser)
 
-  defaults_swapped : (rows : List Row) (c : List Rule) → fold with_default rows (map f c) ≡ fold with_default rows c
+  defaults_swapped : (rows : List Row) (c : List Rule)
+      → fold with_default rows (map f c) ≡ fold with_default rows c
   defaults_swapped rows [] = refl
-  defaults_swapped rows (a ∷ c) = ap (λ x. fold with_default x (map f c)) (with_default_swapped rows a) ∙ defaults_swapped (with_default rows a) c
+  defaults_swapped rows (a ∷ c) =
+      ap (λ x. fold with_default x (map f c)) (with_default_swapped rows a)
+      ∙ defaults_swapped (with_default rows a) c
 
   pub finished_swapped : (c : List Rule) (h : Held) → finished (map f c) h ≡ finished c h
-  finished_swapped c h = ap (λ (x : Held). fold with_default x.rows (map f c)) (settled_swapped c h) ∙ defaults_swapped (settled c h).rows c
+  finished_swapped c h =
+      ap (λ (x : Held). fold with_default x.rows (map f c)) (settled_swapped c h)
+      ∙ defaults_swapped (settled c h).rows c
 
-  pub rows_after_swapped : (c : List Rule) (names : Names) (words : List Text) → rows_after (map f c) names words ≡ rows_after c names words
+  pub rows_after_swapped : (c : List Rule) (names : Names) (words : List Text)
+      → rows_after (map f c) names words ≡ rows_after c names words
   rows_after_swapped c names words =
-      ap (λ (w : Walk). finished (map f c) w.held) (walk_swapped c names nothing_held words) ∙ finished_swapped c (walk c names nothing_held words).held
+      ap (λ (w : Walk). finished (map f c) w.held) (walk_swapped c names nothing_held words)
+      ∙ finished_swapped c (walk c names nothing_held words).held

@@ -11,16 +11,23 @@ use Rattle.mb_program.specs.declared.options.TheConstants.{DEFAULTS}
 use Rattle.mb_program.specs.RunOptions.{shape_from, shape_in}
 
 -- the shape of the text that it gives
-shape_read : (f : Found) (o p : Option (Bor Text)) → option_map (λ (s : Bor Text). s.now) o ≡ first_value f (codes "shape") → o ≡ p
+shape_read : (f : Found) (o p : Option (Bor Text))
+    → option_map (λ (s : Bor Text). s.now) o ≡ first_value f (codes "shape") → o ≡ p
     → shape_from (option_map (λ (s : Bor Text). s.now) p) ≡ shape_in (rows_of f)
 shape_read f o p gives is =
-    ap (λ (q : Option (Bor Text)). shape_from (option_map (λ (s : Bor Text). s.now) q)) (sym is) ∙ ap shape_from (gives ∙ first_value-rows f (codes "shape"))
+    ap (λ (q : Option (Bor Text)). shape_from (option_map (λ (s : Bor Text). s.now) q)) (sym is)
+    ∙ ap shape_from (gives ∙ first_value-rows f (codes "shape"))
 
-pub word_read : (f : Found) (o : Option (Bor Text)) (word : Bor Text) (named : Option Shape) (r : Shape)
-    → option_map (λ (s : Bor Text). s.now) o ≡ first_value f (codes "shape") → o ≡ Some word → named ≡ shape_of_word word.now
+pub word_read : (f : Found) (o : Option (Bor Text)) (word : Bor Text) (named : Option Shape)
+    (r : Shape)
+    → option_map (λ (s : Bor Text). s.now) o ≡ first_value f (codes "shape") → o ≡ Some word
+    → named ≡ shape_of_word word.now
     → r ≡ unwrap_or named DEFAULTS.shape → r ≡ shape_in (rows_of f)
-word_read f o word named r gives is found made = made ∙ ap (λ (q : Option Shape). unwrap_or q DEFAULTS.shape) found ∙ shape_read f o (Some word) gives is
+word_read f o word named r gives is found made =
+    made ∙ ap (λ (q : Option Shape). unwrap_or q DEFAULTS.shape) found
+    ∙ shape_read f o (Some word) gives is
 
-pub none_read : (f : Found) (o : Option (Bor Text)) → option_map (λ (s : Bor Text). s.now) o ≡ first_value f (codes "shape") → o ≡ None
+pub none_read : (f : Found) (o : Option (Bor Text))
+    → option_map (λ (s : Bor Text). s.now) o ≡ first_value f (codes "shape") → o ≡ None
     → DEFAULTS.shape ≡ shape_in (rows_of f)
 none_read f o gives is = shape_read f o None gives is

@@ -39,7 +39,14 @@ pub const RUNS: &[Example] = &[
             "--pairs",
             "1",
         ],
-        ..TWO_ITEMS
+        input: "",
+        output: "\
+lane 0 ended put 0 1
+left 0
+diary 0 0 took 0 took 1
+",
+        error: "",
+        status: 0,
     },
     Example {
         name: "no_items",
