@@ -55,7 +55,8 @@ pub fn noted_lanes_hold_no_claim()
 /// competed for is taken.
 pub fn last_objects_settle_what_is_gathered()
     ensures notes { (m : MailboxView) (h : HubView) (r : ReportView) (c p j : ℕ)
-        → (shape_of m.claims.layout).last ≡ true → IsGathered m h r → note c p j r ≢ Some Undecided }
+        → (shape_of m.claims.layout).last ≡ true → IsGathered m h r
+        → note c p j r ≢ Some Undecided }
     ensures beside { (m : MailboxView) (h : HubView) (r : ReportView)
         → (shape_of m.claims.layout).last ≡ true → IsGathered m h r → IsLeftBesideBegun r }
     ensures taken { (m : MailboxView) (h : HubView) (r : ReportView)

@@ -22,10 +22,12 @@ no_claim s p k claim i each at =
     let on : notes_on p s.notes ≡ held.0 =
     ap (λ (z : Option (List Note)). option_map_or (λ (l : List Note). l) z []) held.1 in
     let ends : length (reverse held.0) ≡ length held.2.cells =
-    same_length cs s.seat.consumer held.2.cells (reverse held.0) (parts_of s.reader s.seat) held.2.ended in
+    same_length cs s.seat.consumer held.2.cells (reverse held.0)
+    (parts_of s.reader s.seat) held.2.ended in
     let notes : length (notes_on p s.notes) ≡ length held.2.cells =
     ap length on ∙ sym (length-reverse held.0) ∙ ends in
-    let met : length (cells_met p s.reader.part) ≡ suc (length held.2.cells) = ap length held.2.met in
+    let met : length (cells_met p s.reader.part) ≡ suc (length held.2.cells) =
+    ap length held.2.met in
     omega (arith, each, notes, met)
 
 pub returns-clause-place : goal.returns-clause-place
@@ -56,4 +58,6 @@ returns-clause-begun c h s p i each =
     ]
   where
     begun_by : Option LedgerView → Bool
-    begun_by o = option_map_or (λ (l : LedgerView). option_map_or has_begun_at (slice_get l.places p) false) o false
+    begun_by o =
+        option_map_or (λ (l : LedgerView). option_map_or has_begun_at (slice_get l.places p) false)
+        o false
