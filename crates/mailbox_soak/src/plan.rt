@@ -54,6 +54,23 @@ fn is_even<R: Rng>(rng: &mut R) -> bool {
     rng.next_u64() % 2 == 0
 }
 
+/// One of the three tables.
+fn drawn_table<R: Rng>(rng: &mut R) -> TableName {
+    match drawn(rng, 0, 3) {
+        0 => TableName::Unary,
+        1 => TableName::Bits,
+        _ => TableName::Middle,
+    }
+}
+
+/// One of the four shapes.
+fn drawn_shape<R: Rng>(rng: &mut R) -> Shape {
+    Shape {
+        fast: is_even(rng),
+        last: is_even(rng),
+    }
+}
+
 impl Plan {
     /// The plan of a run of a seed.
     pub fn of(seed: u64, number: u64) -> Plan
@@ -84,18 +101,11 @@ impl Plan {
             _ => Stops::Nobody,
         };
         let pairs = drawn(&mut rng, 1, 8);
-        let table = match drawn(&mut rng, 0, 3) {
-            0 => TableName::Unary,
-            1 => TableName::Bits,
-            _ => TableName::Middle,
-        };
+        let table = drawn_table(&mut rng);
         let budget = drawn(&mut rng, 1, 64);
         let zeros = is_even(&mut rng);
         let gate_seed = rng.next_u64();
-        let shape = Shape {
-            fast: is_even(&mut rng),
-            last: is_even(&mut rng),
-        };
+        let shape = drawn_shape(&mut rng);
         Plan {
             producers,
             consumers,
