@@ -49,7 +49,15 @@ pub(crate) fn ended<R: AllocGlobal + Threads + Wait + Sync>(
 
 #[test]
 fn examples_are_as_they_stand(rt: HostRuntime) {
-    for examples in [CLAIMS, SHAPES, LANES, REFUSED_REPLAYS, RATIFIERS, RUNS, TEXTS] {
+    for examples in [
+        CLAIMS,
+        SHAPES,
+        LANES,
+        REFUSED_REPLAYS,
+        RATIFIERS,
+        RUNS,
+        TEXTS,
+    ] {
         for example in examples {
             let name = example.name;
             let (output, error, status) = ended(&rt, example.words, example.input);

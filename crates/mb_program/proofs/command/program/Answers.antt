@@ -1,4 +1,4 @@
-use Rattle.std.proofs.Common.{◌≡◌, ◌∙◌, ap, ap₂}
+use Rattle.std.proofs.Common.{◌∙◌, ap, ap₂}
 use Rattle.std.proofs.lemmas.Result.{IfOk-weaker}
 use Rattle.clap.specs.Words.{App, with_subcommand}
 use Rattle.mb_program.proofs.command.program.Goals as goal
@@ -10,6 +10,9 @@ returns c =
     let run = c.in_ok-run_command.ensures.app in
     let with_ratify = c.in_ok-subcommand.ensures.shape c.command_named.ensures.local ∙ ap₂ with_subcommand c.in_ok-program_alone.ensures ratify in
     let with_replay = c.in_ok-subcommand-2.ensures.shape c.command_named-2.ensures.local ∙ ap₂ with_subcommand with_ratify replay in
-    IfOk-weaker c.subcommand-3.result _ _ (λ r added. (run.0, run.1,
-    added.shape c.in_ok-run_command.ensures.local ∙ ap₂ with_subcommand with_replay (ap (λ (a : App). a.top) run.2)))
+    IfOk-weaker c.subcommand-3.result _ _ (λ r added. (
+      run.0,
+      run.1,
+      added.shape c.in_ok-run_command.ensures.local ∙ ap₂ with_subcommand with_replay (ap (λ (a : App). a.top) run.2),
+    ))
     c.subcommand-3.ensures
