@@ -1,5 +1,5 @@
 -- A ratifier script of nobody.
-use Rattle.std.proofs.Common.{◌≡◌, ℕ, List, [], codes, Ok, refl, arith}
+use Rattle.std.proofs.Common.{◌≡◌, ℕ, [], codes, Ok, refl, arith}
 use Rattle.mb_quorum.specs.declared.table.TableName.TheVariants.{Unary}
 use Rattle.mb_script.specs.Vocabulary.{number_of, numbers_of}
 use Rattle.mb_program.specs.Answer.{IsAnswer}

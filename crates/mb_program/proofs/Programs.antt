@@ -1,5 +1,5 @@
 -- Wherever the words for shapes lie, clap makes the same of the words of a command line.
-use Rattle.std.proofs.Common.{◌≡◌, ◌∙◌, refl, sym, ap, ap₂, Bool, true, false, List, [], ◌∷◌, map, Option, Some, None}
+use Rattle.std.proofs.Common.{◌≡◌, ◌∙◌, refl, sym, ap, Bool, true, List, [], ◌∷◌, map, Option, Some, None}
 use Rattle.std.specs.Prelude.{◌&&◌, ◌||◌}
 use Rattle.std.specs.Borrow.{Bor}
 use Rattle.std.specs.List.{list_any}
@@ -10,11 +10,10 @@ use Rattle.clap.specs.Takes.{built_takes}
 use Rattle.clap.specs.Values.{reading_of, refused_kind, same_text}
 use Rattle.clap.specs.ValueTests.{accepts}
 use Rattle.clap.specs.Walk.{nothing_held, stop_after}
-use Rattle.clap.specs.Words.{App, Kinds, Text, built, fault_of, is_simple, is_simple_and_free, subcommand_of, takes}
+use Rattle.clap.specs.Words.{App, Text, built, fault_of, is_simple, is_simple_and_free, subcommand_of, takes}
 use Rattle.clap.specs.declared.builder.value_parser.ValueParser.{ValueParser}
 use Rattle.clap.specs.declared.builder.value_parser.ValueParser.TheVariants as vp
 use Rattle.clap.proofs.OnLiterals.{clap_on_literals}
-use Rattle.clap.proofs.WalkLemmas.{list_any-map}
 use Rattle.mb_program.proofs.SameProgram.{below_swapped, entered_same, fault_same, takes_same}
 use Rattle.mb_program.proofs.SameWalk.{ReadsSame, Swap}
 use Rattle.mb_program.specs.CommandLine.{IsProgramApp, TextsAt, program, program_with, shape_names, somewhere, texts_at}

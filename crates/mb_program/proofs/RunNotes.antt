@@ -1,9 +1,8 @@
 -- In a run each consumer has a note at each item, or has made 2^64 - 2 accesses, and at most the budget times as many.
-use Rattle.std.proofs.Common.{◌≡◌, ◌+◌, ◌-◌, ◌*◌, ◌^◌, ◌<◌, ◌≤◌, ◌⊎◌, ℕ, zero, suc, Bool, true, false, List, [], ◌∷◌, Option, Some, None, inl, inr, length, map, slice_get, refl, sym, ap, ◌∙◌, subst, arith}
+use Rattle.std.proofs.Common.{◌≡◌, ◌+◌, ◌-◌, ◌*◌, ◌^◌, ◌<◌, ◌≤◌, ℕ, zero, suc, Bool, true, false, List, [], ◌∷◌, Option, Some, inl, inr, length, map, slice_get, refl, sym, ap, ◌∙◌, subst, arith}
 use Rattle.std.specs.List.{All}
 use Rattle.std.proofs.lemmas.Bool.{lt-ltb}
 use Rattle.std.proofs.lemmas.Option.{slice_get-get_or, slice_get-map}
-use Rattle.mb_world.specs.Plan.{Histories}
 use Rattle.mb_world.specs.Report.{ReportView, notes}
 use Rattle.mb_mailbox.specs.Below.{Reader, consumer_count, consumer_part, part, taken_part}
 use Rattle.mb_mailbox.specs.Gathering.{IsGathered, IsReportIn, kept_at, notes_in}

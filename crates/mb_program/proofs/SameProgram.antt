@@ -1,13 +1,13 @@
 -- Clap makes the same of a command and its subcommands, if the parsers of some of their arguments are
 -- changed for ones that read, accept and refuse values as they do.
-use Rattle.std.proofs.Common.{◌≡◌, ◌∙◌, refl, sym, ap, ap₂, Bool, cond, true, false, List, [], ◌∷◌, map, Option, Some, None}
-use Rattle.std.specs.Prelude.{◌&&◌, find, is_some, option_and_then, option_map}
+use Rattle.std.proofs.Common.{◌≡◌, ◌∙◌, refl, ap, ap₂, Bool, cond, true, false, List, [], ◌∷◌, map, Option, Some, None}
+use Rattle.std.specs.Prelude.{◌&&◌, find, is_some, option_map}
 use Rattle.std.specs.Option.{option_map_or}
 use Rattle.clap.specs.Faults.{built_fault, entered_fault, level_fault}
 use Rattle.clap.specs.Kinds.{Kinds}
 use Rattle.clap.specs.Simple.{App, Shape, entered, label_of, names_of, rows_at}
 use Rattle.clap.specs.Takes.{built_takes, entered_passes, level_passes}
-use Rattle.clap.specs.Walk.{Held, Row, Text, Walk, answers_to, nothing_held, walk}
+use Rattle.clap.specs.Walk.{Held, Row, Text, answers_to, nothing_held, walk}
 use Rattle.mb_program.proofs.SameFaults.{level_fault_same}
 use Rattle.mb_program.proofs.SameTakes.{level_same, with_swapped}
 use Rattle.mb_program.proofs.SameWalk.{ReadsSame, Swap, rows_after_swapped}

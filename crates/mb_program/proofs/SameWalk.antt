@@ -1,13 +1,13 @@
 -- Clap's walk over the words comes to the same, if the parsers of some arguments are changed for ones
 -- that read values as they do.
-use Rattle.std.proofs.Common.{◌≡◌, ◌∙◌, refl, sym, ap, ap₂, Bool, cond, true, false, ℕ, zero, suc, List, [], ◌∷◌, map, Option, Some, None}
+use Rattle.std.proofs.Common.{◌≡◌, ◌∙◌, refl, ap, ap₂, Bool, cond, true, false, ℕ, zero, suc, List, [], ◌∷◌, map, Option, Some, None}
 use Rattle.std.specs.Prelude.{◌&&◌, ◌||◌, drop, encode_utf8, find, fold, length, option_map, slice_get}
 use Rattle.std.specs.Str.{bytes_eq, chars}
 use Rattle.clap.specs.Facts.{parser_of_value}
 use Rattle.clap.specs.Lexer.{long_of, short_of}
 use Rattle.clap.specs.Values.{reading_of, refused_kind}
 use Rattle.clap.specs.ValueTests.{accepts}
-use Rattle.clap.specs.Walk.{Held, Names, Outcome, Row, Rule, Step, Text, Waiting, Walk, action_of, after_flag, after_step, arg_by_id, arg_by_index, arg_by_long, arg_by_short, attached_value, bundle, bundle_met, bundle_step, default_rows, done, finished, flag_met, has_row, idle, is_multiple, is_pending, long_met, long_or_other, long_word, next, next_position, nothing_held, option, option_met, option_word, plain, plain_word, positional, positional_held, pushed, reacted, refused, rows_after, settled, settled_rows, short_met, short_or_plain, short_word, stop_after, subcommand, subcommand_met, subcommand_or_other, takes_several, takes_values, to_positional, trailing, used, used_as, used_by_id, value, values_or_missing, waits, walk, walk_from, walked, walked_from, with_default, word_met}
+use Rattle.clap.specs.Walk.{Held, Names, Outcome, Row, Rule, Step, Text, Waiting, Walk, action_of, after_flag, after_step, arg_by_id, arg_by_index, arg_by_long, arg_by_short, attached_value, bundle, bundle_met, bundle_step, default_rows, done, finished, flag_met, has_row, idle, is_multiple, is_pending, long_met, long_or_other, next, next_position, nothing_held, option, option_met, option_word, plain, plain_word, positional, pushed, reacted, refused, rows_after, settled, settled_rows, short_met, short_or_plain, subcommand, subcommand_met, subcommand_or_other, takes_several, takes_values, to_positional, trailing, used, used_as, used_by_id, value, values_or_missing, waits, walk, walk_from, walked, walked_from, with_default, word_met}
 use Rattle.clap.specs.declared.builder.value_parser.ValueParser.{ValueParser}
 
 abbrev pub Swap : Type 0

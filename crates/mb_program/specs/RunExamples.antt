@@ -1,5 +1,5 @@
 -- Small runs for the examples.
-use Rattle.std.specs.Prelude.{◌≡◌, ℕ, List, [], ◌∷◌, Some, true, false, codes}
+use Rattle.std.specs.Prelude.{ℕ, List, [], ◌∷◌, Some, true, false, codes}
 use Rattle.clap.specs.Words.{Text}
 use Rattle.mb_world.specs.Plan.{Histories}
 use Rattle.mb_world.specs.Report.{ReportView}

@@ -1,5 +1,4 @@
-use Rattle.std.proofs.Common.{◌≡◌, ℕ, List, [], ◌∷◌, codes, Option, Some, None, Result, Ok, refl, ap, sym, ◌∙◌, subst, arith}
-use Rattle.mb_quorum.specs.declared.table.TableName.TheVariants.{Unary}
+use Rattle.std.proofs.Common.{◌≡◌, ℕ, List, [], ◌∷◌, codes, Option, Some, None, Result, Ok, refl, ap, sym, ◌∙◌, subst}
 use Rattle.mb_deciding.specs.declared.object.Out.{Out}
 use Rattle.mb_deciding.specs.declared.trace.Entry.{Entry}
 use Rattle.mb_program.specs.Answer.{IsTraceOf, refused_as}

@@ -1,4 +1,4 @@
-use Rattle.std.proofs.Common.{ap, Bool}
+use Rattle.std.proofs.Common.{ap}
 use Rattle.mb_script.specs.Vocabulary.{meter}
 use Rattle.mb_program.specs.declared.outcome.Ending.TheVariants as ending
 use Rattle.mb_program.proofs.Told.{told_errors, told_nobody, told_output}

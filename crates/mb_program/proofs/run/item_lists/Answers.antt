@@ -1,4 +1,4 @@
-use Rattle.std.proofs.Common.{◌≡◌, ◌+◌, ◌∙◌, ap, List, ℕ}
+use Rattle.std.proofs.Common.{◌+◌, ◌∙◌, ap, ℕ}
 use Rattle.mb_mailbox.specs.Worked.{lists_in}
 use Rattle.mb_program.proofs.RunItems.{lists_more}
 use Rattle.mb_program.proofs.run.item_lists.Goals as goal

@@ -1,4 +1,4 @@
-use Rattle.std.proofs.Common.{◌≡◌, ◌≤◌, ◌∙◌, Err, ap, arith}
+use Rattle.std.proofs.Common.{◌∙◌, Err, ap, arith}
 use Rattle.mb_world.specs.Plan.{size_of}
 use Rattle.mb_program.proofs.RunEnds.{fault_behind, same_err}
 use Rattle.mb_program.proofs.RunReports.{asks_enough, not_missing, nothing_missing, run_report}

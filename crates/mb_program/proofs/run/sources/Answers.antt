@@ -1,4 +1,4 @@
-use Rattle.std.proofs.Common.{◌≡◌, ◌+◌, ◌++◌, ◌∙◌, ap, ap₂, sym, List, ℕ, [], ◌∷◌}
+use Rattle.std.proofs.Common.{◌+◌, ◌++◌, ◌∙◌, ap, ap₂, sym, ℕ, [], ◌∷◌}
 use Rattle.mb_program.specs.Source.{source_from}
 use Rattle.mb_program.proofs.RunItems.{map_more}
 use Rattle.mb_program.proofs.run.sources.Goals as goal
