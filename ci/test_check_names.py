@@ -1,11 +1,12 @@
 """Tests of docs/check_names.py, as far as its functions stand alone."""
 import os
 import sys
+import tempfile
 import unittest
 
 sys.path.insert(0, os.path.join(os.path.dirname(os.path.abspath(__file__)), "..", "docs"))
 
-from check_names import lines, parts_of, shows
+from check_names import SHORT, lengths_over, lines, parts_of, shows
 
 SOURCE = """fn main() {
     // One.
@@ -34,6 +35,28 @@ class Shown(unittest.TestCase):
     def test_signatures_stand_each_by_itself(self):
         block = "impl One {\n    pub fn one(\n        it: u64,\n    )\n    fn two()\n}\n"
         self.assertEqual(parts_of(block), [["impl One {"], ["pub fn one(", "it: u64,", ")"], ["fn two()"]])
+
+
+class Lengths(unittest.TestCase):
+    def told(self, texts):
+        with tempfile.TemporaryDirectory() as top:
+            os.mkdir(f"{top}/docs")
+            for page in SHORT:
+                with open(f"{top}/{page}", "w", encoding="utf-8") as file:
+                    file.write(texts.get(page, "One.\n"))
+            return list(lengths_over(top))
+
+    def test_a_long_sentence_is_told_on_each_page_that_is_counted(self):
+        for name in ("README", "docs/GUIDE", "docs/MODEL", "docs/CALLS", "docs/CI", "docs/DECISIONS"):
+            told = self.told({f"{name}.md": "one " * 30 + "end.\n"})
+            self.assertEqual(told, [f"{name}.md: a sentence of 31 words: one one one one one one one one .."])
+
+    def test_of_lines_the_readme_alone_is_counted(self):
+        told = self.told({page: "a\n\n" * 76 for page in SHORT})
+        self.assertEqual(told, ["README.md: 152 lines, and at most 150 are allowed"])
+
+    def test_short_pages_pass(self):
+        self.assertEqual(self.told({}), [])
 
 
 if __name__ == "__main__":

@@ -16,7 +16,7 @@ an example has:
   - behind a line `$ COMMAND` stands what that command prints, be it a script, an output, or the first or last lines of one;
     and behind `$ cd crates/NAME && rt run` what the `stdout` of that program has;
   - lines without a command, of which one begins with a word of scripts or outputs, are the first or last lines of one.
-Of README.md it counts the lines, and of README.md and docs/GUIDE.md the words of each sentence (`ci/lengths.py`).
+Of README.md it counts the lines, and of each page of `SHORT` the words of each sentence (`ci/lengths.py`).
 The status is 0 where all was found, and else 1.
 """
 import os
@@ -43,6 +43,8 @@ EXAMPLE = re.compile(
 # The words with which lines of scripts and outputs begin.
 SPELLED = "ratify inputs turns process setup offer push finish step lane left diary".split()
 NAMES = r"(?:`[\w:]+`(?:, | and ))*`[\w:]+`"
+# The pages whose sentences are counted.
+SHORT = ("README.md", *(f"docs/{it}.md" for it in ("GUIDE", "MODEL", "CALLS", "CI", "DECISIONS")))
 # Words that are said of the world outside: commands, the library below, placeholders of formats.
 OUTSIDE = set(
     """
@@ -292,12 +294,12 @@ def edits_not_named():
             yield os.path.relpath(path, TOP)
 
 
-def lengths_over():
-    """What is too long on the pages that are read first."""
-    for it in too_many_lines(read(f"{TOP}/README.md")):
+def lengths_over(top=TOP):
+    """What is too long on the pages whose length is counted."""
+    for it in too_many_lines(read(f"{top}/README.md")):
         yield f"README.md: {it}"
-    for page in ("README.md", "docs/GUIDE.md"):
-        for it in long_sentences(read(f"{TOP}/{page}")):
+    for page in SHORT:
+        for it in long_sentences(read(f"{top}/{page}")):
             yield f"{page}: {it}"
 
 
