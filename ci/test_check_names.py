@@ -5,7 +5,7 @@ import unittest
 
 sys.path.insert(0, os.path.join(os.path.dirname(os.path.abspath(__file__)), "..", "docs"))
 
-from check_names import lines, parts_of, shows
+from check_names import edits_not_named, lines, parts_of, sections_of, shows
 
 SOURCE = """fn main() {
     // One.
@@ -34,6 +34,54 @@ class Shown(unittest.TestCase):
     def test_signatures_stand_each_by_itself(self):
         block = "impl One {\n    pub fn one(\n        it: u64,\n    )\n    fn two()\n}\n"
         self.assertEqual(parts_of(block), [["impl One {"], ["pub fn one(", "it: u64,", ")"], ["fn two()"]])
+
+
+PAGE = """# Promises
+
+`of_no_section`
+
+## mb_one
+
+`in_one`, `in_both`
+
+### Inside
+
+## mb_two
+
+`in_two`
+
+## The other crates
+
+`of_another`
+"""
+
+
+class Sections(unittest.TestCase):
+    def test_a_section_goes_up_to_the_next_heading_of_its_rank(self):
+        sections = sections_of(PAGE, ("mb_one", "mb_two"))
+        self.assertEqual(sections["mb_one"], "## mb_one\n\n`in_one`, `in_both`\n\n### Inside\n\n")
+        self.assertEqual(sections["mb_two"], "## mb_two\n\n`in_two`\n\n")
+
+    def test_all_other_text_stands_under_none(self):
+        other = "# Promises\n\n`of_no_section`\n\n## The other crates\n\n`of_another`\n"
+        self.assertEqual(sections_of(PAGE, ("mb_one", "mb_two"))[None], other)
+
+    def missing(self, *paths):
+        return list(edits_not_named(PAGE, paths))
+
+    def test_a_mutant_in_the_section_of_its_crate_is_named(self):
+        self.assertEqual(self.missing("crates/mb_one/mutants/in_one.edit", "crates/mb_two/must-fail/in_two.edit"), [])
+
+    def test_one_that_only_another_crate_names_is_not(self):
+        paths = ("crates/mb_one/mutants/in_both.edit", "crates/mb_two/mutants/in_both.edit")
+        self.assertEqual(self.missing(*paths), ["crates/mb_two/mutants/in_both.edit"])
+
+    def test_a_crate_without_a_section_has_the_rest_of_the_page(self):
+        self.assertEqual(self.missing("crates/bench/mutants/of_another.edit", "crates/bench/mutants/of_no_section.edit"), [])
+        self.assertEqual(self.missing("crates/mb_one/src/lib.rt", "crates/bench/mutants/in_one.edit"), ["crates/bench/mutants/in_one.edit"])
+
+    def test_only_edits_have_to_be_named(self):
+        self.assertEqual(self.missing("crates/mb_one/mutants/harmless.control", "crates/mb_one/src/lib.rt"), [])
 
 
 if __name__ == "__main__":

@@ -6,14 +6,14 @@ examples.
 A name is a word between backticks, but for words of capitals alone, which stand for others. It is found where the
 code, the definitions, the proofs, the examples or the names of files have it, comments aside. Further:
   - a path has to be the end of the path of a file or folder;
-  - in `crate::..::name`, and in `Type::name` of a crate's own page, that crate has to have the last word;
+  - in `crate::..::name`, and in `Type::name` of a crate's own page or section, that crate has to have the last word;
   - in "`name` in `specs/File.antt`" one of the files named there has to have the name;
   - in "`function`: `clause`" a function of that name has to have that clause;
   - a block of Rust has to stand, line by line, in a source file, with all comments of that file or with none; where it
     has signatures alone, each of them has to.
-It also looks whether docs/ARCHITECTURE.md names each wrong body of crates/*/must-fail and crates/*/mutants, whether
-`examples/script` prints the script of each example, and whether each sample of a page, and of the program's help, is what
-an example has:
+It also looks whether docs/PROMISES.md names each mutant of crates/*/must-fail and crates/*/mutants, in the section of its crate
+if there is one. It looks whether `examples/script` prints the script of each example, and whether each sample of a page, and of
+the program's help, is what an example has:
   - behind a line `$ COMMAND` stands what that command prints, be it a script, an output, or the first or last lines of one;
     and behind `$ cd crates/NAME && rt run` what the `stdout` of that program has;
   - lines without a command, of which one begins with a word of scripts or outputs, are the first or last lines of one.
@@ -130,6 +130,16 @@ def blocks_of(text):
     return blocks, re.sub(r"^```.*?^```$", "", text, flags=re.M | re.S)
 
 
+def sections_of(text, names):
+    """The sections of a page that are headed by one of these names, each by its name, and under None all other text."""
+    sections = {None: ""}
+    for part in re.split(r"^(?=## )", text, flags=re.M):
+        name = part.partition("\n")[0].removeprefix("## ").strip()
+        name = name if name in names else None
+        sections[name] = sections.get(name, "") + part
+    return sections
+
+
 def headings_of(path):
     """The headings of a page, as a link spells them."""
     return {re.sub(r"[^\w -]", "", it.lower()).replace(" ", "-") for it in re.findall(r"^#+ (.*)$", read(path), re.M)}
@@ -146,8 +156,9 @@ def faults_of(page, sources):
         path = f"{os.path.dirname(page)}/{target}"
         if "://" not in target and (not os.path.exists(path) or heading and heading not in headings_of(path)):
             yield f"the link {target}#{heading}"
-    for span in re.findall(r"`([^`\n]+)`", text):
-        yield from faults_of_span(span, crate, sources)
+    for section, part in sections_of(text, sources.words).items():
+        for span in re.findall(r"`([^`\n]+)`", part):
+            yield from faults_of_span(span, section or crate, sources)
     for names, paths in re.findall(r"((?:`\w+`(?:,\s| and ))*`\w+`) in ((?:`[\w/]+\.antt`(?:,\s| and )?)+)", text):
         files = [it for path in re.findall(r"`([^`]+)`", paths) for it in sources.files_named(path)]
         for name in re.findall(r"`(\w+)`", names):
@@ -285,13 +296,14 @@ def false_samples(path, known):
             yield f"the sample that begins with {shown[0]}"
 
 
-def edits_not_named():
-    """The wrong bodies that docs/ARCHITECTURE.md does not name."""
-    text = read(f"{TOP}/docs/ARCHITECTURE.md")
-    for path in files_below(f"{TOP}/crates"):
+def edits_not_named(text, paths):
+    """Of these paths, which begin with `crates/`, the mutants that the text does not name where it has to."""
+    crates = {path.split("/")[1] for path in paths}
+    sections = sections_of(text, crates)
+    for path in paths:
         name, end = os.path.splitext(os.path.basename(path))
-        if end == ".edit" and f"`{name}`" not in text:
-            yield os.path.relpath(path, TOP)
+        if end == ".edit" and f"`{name}`" not in sections.get(path.split("/")[1], sections[None]):
+            yield path
 
 
 def lengths_over():
@@ -311,8 +323,9 @@ def main():
     for name in scripts_not_printed(known):
         print(f"examples/script: not printed: {name}")
         count += 1
-    for path in edits_not_named():
-        print(f"docs/ARCHITECTURE.md: does not name {path}")
+    edits = [os.path.relpath(path, TOP) for path in files_below(f"{TOP}/crates")]
+    for path in edits_not_named(read(f"{TOP}/docs/PROMISES.md"), edits):
+        print(f"docs/PROMISES.md: does not name {path}")
         count += 1
     for path in (*pages(), f"{TOP}/crates/mb_program/src/help.rt"):
         for fault in false_samples(path, known):

@@ -152,7 +152,7 @@ fn a_conciliator_comes_after_the_fast_path(rt: HostRuntime) -> Result<(), Fail> 
         loaded(1, 3, Reg::Proposal, 1),
         loaded(1, 3, Reg::Quorum(1), 0),
     ];
-    assert_eq!(rt; &run.entries.as_slice()[14..], entries.as_slice());
+    assert_eq!(rt; run.entries.as_slice().get(14..), Some(entries.as_slice()));
     assert_eq!(rt;
         run.stages.as_slice(),
         [Stage::Won, Stage::Lost(0)].as_slice()
@@ -174,7 +174,7 @@ fn a_last_object_decides(rt: HostRuntime) -> Result<(), Fail> {
         exchanged(1, 2, 2, 1),
         ClaimEntry::Done { consumer: 0 },
     ];
-    assert_eq!(rt; &run.entries.as_slice()[11..], entries.as_slice());
+    assert_eq!(rt; run.entries.as_slice().get(11..), Some(entries.as_slice()));
     assert_eq!(rt;
         run.stages.as_slice(),
         [Stage::Won, Stage::Lost(0)].as_slice()
