@@ -1,7 +1,8 @@
 #!/usr/bin/env python3
 """Looks up each name and each link of the pages in the sources, and lists those that are not there.
 
-The pages are README.md, those of docs/ and bench/, and the README of each crate and of the examples.
+The pages are README.md, CONTRIBUTING.md and CHANGELOG.md, those of docs/ and bench/, and the README of each crate and of the
+examples.
 A name is a word between backticks, but for words of capitals alone, which stand for others. It is found where the
 code, the definitions, the proofs, the examples or the names of files have it, comments aside. Further:
   - a path has to be the end of the path of a file or folder;
@@ -112,7 +113,8 @@ class Sources:
 
 
 def pages():
-    yield f"{TOP}/README.md"
+    for name in ("README.md", "CONTRIBUTING.md", "CHANGELOG.md"):
+        yield f"{TOP}/{name}"
     for folder in ("docs", "bench", "examples", "crates"):
         for path in files_below(f"{TOP}/{folder}"):
             if path.endswith(".md"):
