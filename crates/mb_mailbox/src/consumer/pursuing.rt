@@ -1,5 +1,5 @@
-//! What a poll does with a claim: it keeps the claim in a variable of its own, and writes the consumer's place once. With
-//! four consumers an item so costs 1,879 instructions, and 2,179 where each step writes the claim into its place.
+//! What a poll does with a claim: it keeps the claim in a variable of its own, and writes the consumer's place once. So an
+//! item with four consumers costs a seventh fewer instructions than if each step wrote the claim into its place.
 ghost use Rattle.std.specs.Prelude.{ℕ, ◌≡◌, ◌≢◌, ◌<◌, ◌≤◌, None, Some, slice_set, true};
 ghost use Rattle.arrayvec.specs.ArrayVec.{array_vec_len};
 ghost use Rattle.mb_claim.specs.declared.access.Stage.TheVariants as stage;
