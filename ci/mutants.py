@@ -32,7 +32,7 @@ from judging import judged, unended
 
 TOP = os.path.dirname(os.path.dirname(os.path.abspath(__file__)))
 # The most that one check has been seen to take, with some room, in bytes.
-MEMORY = 2_000_000_000
+MEMORY = 3_000_000_000
 
 
 def load_kit():
