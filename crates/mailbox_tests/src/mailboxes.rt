@@ -1,11 +1,12 @@
 //! Mailboxes in one thread: what their calls answer, and what is reported at the end.
 
 use crate::trial::Trial;
-use crate::trials::{all_given, ends, new_trial};
+use crate::trials::{all_given, both_are_given, ends, new_trial};
 use mb_cells::Finish;
 use mb_mailbox::{GatherFault, HubFault, Poll, Put};
+use mb_quorum::TableName;
 use mb_script::report_text;
-use mb_world::{Note, Report};
+use mb_world::{Note, Report, Setup};
 use rand_core::Rng;
 use std::alloc::{Allocator, Global};
 use std::process::Abort;
@@ -219,4 +220,28 @@ fn is_read_later(rt: &impl Abort, trial: &mut Trial<Global>, alloc: Global) -> R
 fn an_ended_lane_is_read_by_a_consumer_given_later(rt: HostRuntime) -> Result<(), Fail> {
     let mut trial = new_trial(rt.alloc(), 1, 1, 1)?;
     is_read_later(&rt, &mut trial, rt.alloc())
+}
+
+#[test]
+fn a_large_mailbox_takes_more_items_than_a_script_has(rt: HostRuntime) -> Result<(), Fail> {
+    let setup = Setup::large(1, 1, 300, 1, TableName::Bits)?;
+    let mut trial = Trial::new(rt.alloc(), setup)?;
+    both_are_given(&mut trial, rt.alloc())?;
+    let mut items = Vec::new(rt.alloc());
+    let mut notes = Vec::new(rt.alloc());
+    for x in 0..300 {
+        assert_eq!(rt; trial.put(0, x), Some(Put::Linked));
+        items.push(x)?;
+    }
+    for x in 0..300 {
+        let told = trial.poll(0, 0, 100, &mut Zeros::default());
+        assert_eq!(rt; told, Some(Poll::Took(x)));
+        notes.push(Note::Took(x))?;
+    }
+    ends(
+        rt.alloc(),
+        trial,
+        &[(items.as_slice(), false, &[])],
+        &[(0, 0, notes.as_slice(), false)],
+    )
 }

@@ -9,7 +9,7 @@ pub use Rattle.mb_claim.specs.declared.claim.Claim.{Claim}
 pub use Rattle.mb_claim.specs.declared.layout.BadLayout.{BadLayout}
 pub use Rattle.mb_claim.specs.declared.layout.BadLayout.TheVariants.{BadConsumers, BadRounds}
 pub use Rattle.mb_claim.specs.declared.layout.Layout.{Layout}
-pub use Rattle.mb_claim.specs.declared.layout.TheConstants.{MAX_CELLS, MAX_PAIRS}
+pub use Rattle.mb_claim.specs.declared.layout.TheConstants.{MAX_CELLS, MAX_LARGE_CELLS, MAX_PAIRS}
 pub use Rattle.mb_claim.specs.declared.shape.Shape.{Shape}
 pub use Rattle.mb_claim.specs.declared.run.ClaimEntry.{ClaimEntry}
 pub use Rattle.mb_claim.specs.declared.run.PlayFault.TheVariants.{NoConsumer, NoMemory}

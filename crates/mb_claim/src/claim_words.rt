@@ -30,12 +30,12 @@ impl<A: Allocator + Drop> Model for ClaimWords<A> {
 impl<A: Allocator + Drop> ClaimWords<A> {
     ghost use Rattle.std.specs.Prelude.{◌≡◌, ◌<◌, ◌≤◌, ◌*◌, ℕ, List, [], ◌∷◌, IfOk, true, length};
     ghost use Rattle.mb_deciding.specs.Vocabulary.{reg_of};
-    ghost use Rattle.mb_claim.specs.{ClaimAccess, Going, MAX_CELLS, IsMemoryOf, IsClaimOn, claims_in, claim_access};
+    ghost use Rattle.mb_claim.specs.{ClaimAccess, Going, MAX_LARGE_CELLS, IsMemoryOf, IsClaimOn, claims_in, claim_access};
     ghost use Rattle.mb_claim.specs.{consumer_of, claim_stage, is_begun, steps_left, HasWord, word_address, cell_words};
 
     /// The words of so many cells, before the first access.
     pub fn new(alloc: A, layout: &Layout, cells: u32) -> Result<ClaimWords<A>, AllocError>
-        requires { cells ≤ MAX_CELLS }
+        requires { cells ≤ MAX_LARGE_CELLS }
         ensures { IfOk result (λ words. IsMemoryOf (claims_in layout.now cells) words []) }
     {
         histories_begin_with_zeros();
@@ -48,7 +48,7 @@ impl<A: Allocator + Drop> ClaimWords<A> {
     #[inline(always)]
     pub fn step(&mut self, layout: &Layout, claim: &mut Claim, cell: u32, word: u64) -> ClaimStep
         requires going { claim_stage claim.old ≡ Going }
-        requires cell { cell < MAX_CELLS }
+        requires cell { cell < MAX_LARGE_CELLS }
         requires held { (cells : ℕ) × (h : List ClaimAccess)
             × IsClaimOn layout.now cells cell claim.old self.old h }
 
@@ -103,10 +103,10 @@ struct CellWords<'a, A: Allocator + Drop> {
 impl<'a, A: Allocator + Drop> Memory for CellWords<'a, A> {
     ghost use Rattle.std.specs.Prelude.{◌≡◌, ◌<◌, ◌≤◌, ◌*◌, ℕ, length, slice_index, slice_set};
     ghost use Rattle.mb_deciding.specs.Vocabulary.{act_of, reg_of, IsActInWords};
-    ghost use Rattle.mb_claim.specs.{MAX_CELLS, HasWord, word_address, cell_words, after_op, step_of};
+    ghost use Rattle.mb_claim.specs.{MAX_LARGE_CELLS, HasWord, word_address, cell_words, after_op, step_of};
 
     ghost can_make = { λ m object op. HasWord m.layout.now object (reg_of op)
-        × (m.cell < MAX_CELLS)
+        × (m.cell < MAX_LARGE_CELLS)
         × ((cells : ℕ) × (m.cell < cells)
         × (cells * cell_words m.layout.now ≤ length m.words.now.items)) };
 

@@ -3,14 +3,14 @@
 //! by its contract alone has its proof in `proofs/laws`, in a folder of its name. Laws of one access more, for those who
 //! keep words and histories of their own, are in `steps`.
 ghost use Rattle.std.specs.Prelude.{ℕ, ◌≡◌, ◌≢◌, ◌+◌, ◌*◌, ◌<◌, ◌≤◌, List, [], ◌∷◌, ◌++◌, Bool, true, false, length};
-ghost use Rattle.std.specs.Prelude.{slice_get, Some};
+ghost use Rattle.std.specs.Prelude.{slice_get, Some, ◌^◌};
 ghost use Rattle.mb_quorum.specs.Vocabulary.{QuorumTable, IsQuorumTable};
 ghost use Rattle.mb_quorum.specs.declared.values.TheConstants.{MAX_VALUES};
 ghost use Rattle.mb_deciding.specs.declared.access.Op.TheVariants as to;
 ghost use Rattle.mb_deciding.specs.Vocabulary.{IsPath, answer, largest_quorum, spread};
 ghost use Rattle.mb_claim.specs.{Reg, Value, Kind, Conciliator, Ratifier, LastObject, Out, Claims, claims_of, IsSound};
 ghost use Rattle.mb_claim.specs.{ClaimAccess, ObjectTurn, Shape, plain, row_of, shaped_steps, shape_of};
-ghost use Rattle.mb_claim.specs.{Stage, Going, Undecided, kinds_of, MAX_CELLS, MAX_PAIRS};
+ghost use Rattle.mb_claim.specs.{Stage, Going, Undecided, kinds_of, MAX_CELLS, MAX_LARGE_CELLS, MAX_PAIRS};
 ghost use Rattle.mb_claim.specs.{IsClaimLawful, HasStage, HasOneWinner, IsWholeClaim};
 ghost use Rattle.mb_claim.specs.{IsClaimPrefix, stage_of, part_on, part_at, left_at, on_cell, most_on_objects};
 ghost use Rattle.mb_claim.specs.{max_steps, pairs_of, Layout, quorums_of, pair_count, consumer_count, claims_in, Claim};
@@ -198,6 +198,7 @@ pub fn layouts_are_sound()
 pub fn limits_have_their_numbers()
     ensures pairs { MAX_PAIRS ≡ 8 }
     ensures cells { MAX_CELLS ≡ 256 }
+    ensures large { MAX_LARGE_CELLS ≡ 2 ^ 24 }
 {}
 
 /// The claim of a consumer that has made no access goes on, on the first object. Without a fast path that is a

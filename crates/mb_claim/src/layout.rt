@@ -15,8 +15,11 @@ use std::fmt;
 /// The most pairs that a layout can have. The least is 1.
 pub const MAX_PAIRS: u64 = 8;
 
-/// The most cells whose words can be addressed.
+/// The most cells of a setup that is not a large one, as that of a script. No layout rests on it.
 pub const MAX_CELLS: u32 = 256;
+
+/// The most cells whose words can be addressed: 2^24, those of a large setup.
+pub const MAX_LARGE_CELLS: u32 = 16_777_216;
 
 /// The most objects of a cell: those of `MAX_PAIRS` pairs, of a fast path and a last object.
 const MAX_OBJECTS: usize = 2 * MAX_PAIRS as usize + 3;
@@ -72,7 +75,7 @@ impl Layout {
     ghost use Rattle.mb_deciding.specs.Vocabulary.{spread};
     ghost use Rattle.mb_claim.specs.{Reg, width, quorums_of, kinds_of, pairs_of, row_of, plain, pair_count, shape_of, offset};
     ghost use Rattle.mb_claim.specs.{consumer_count, cell_words, word_address, HasWord, most_accesses, layout_refusal};
-    ghost use Rattle.mb_claim.specs.declared.layout.TheConstants.{MAX_CELLS, MAX_OBJECTS};
+    ghost use Rattle.mb_claim.specs.declared.layout.TheConstants.{MAX_LARGE_CELLS, MAX_OBJECTS};
 
     /// The layout for so many consumers, with so many pairs of objects and nothing beside them, over the quorum table of
     /// this name.
@@ -207,7 +210,7 @@ impl Layout {
 
     /// How many words so many cells have.
     pub fn words(&self, cells: u32) -> usize
-        requires { cells ≤ MAX_CELLS }
+        requires { cells ≤ MAX_LARGE_CELLS }
         ensures exact { result ≡ cells * cell_words self.now }
         ensures within { (k o : ℕ) (reg : Reg) → HasWord self.now o reg → k < cells
             → word_address self.now k o reg < result }
@@ -219,7 +222,7 @@ impl Layout {
     /// Where a word of an object of a cell lies, counted from the first word of cell 0.
     #[inline(always)]
     pub fn address(&self, cell: u32, object: u32, reg: Reg) -> usize
-        requires cell { cell < MAX_CELLS }
+        requires cell { cell < MAX_LARGE_CELLS }
         requires word { HasWord self.now object reg }
         ensures exact { result ≡ word_address self.now cell object reg }
 

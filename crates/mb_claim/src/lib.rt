@@ -42,7 +42,7 @@ pub mod steps;
 pub use access::{ClaimAccess, ClaimOp, ClaimStep, ObjectTurn, Stage};
 pub use claim::Claim;
 pub use claim_words::ClaimWords;
-pub use layout::{BadLayout, Layout, MAX_CELLS, MAX_PAIRS};
+pub use layout::{BadLayout, Layout, MAX_CELLS, MAX_LARGE_CELLS, MAX_PAIRS};
 pub use playing::play;
 pub use run::{ClaimEntry, ClaimRun, PlayFault};
 pub use shape::Shape;

@@ -1,7 +1,7 @@
 -- What callers see of a table, its hub and its seats, and what each of these keeps.
 use Rattle.std.specs.Prelude.{ℕ, zero, suc, ◌≡◌, ◌+◌, ◌<◌, ◌≤◌, Option, Some, None, List, [], ◌∷◌, length}
 use Rattle.mb_claim.specs.Vocabulary.{Claims, claims_of, part, consumer_count, IsClaimLawful}
-use Rattle.mb_shared_claims.specs.Types.{TableId, ClaimAccess, Layout, MAX_CELLS, TableSize, View, Handing, Drawing}
+use Rattle.mb_shared_claims.specs.Types.{TableId, ClaimAccess, Layout, MAX_LARGE_CELLS, TableSize, View, Handing, Drawing}
 use Rattle.mb_shared_claims.specs.Types.{Standing, Taking, Spent}
 use Rattle.mb_shared_claims.specs.Views.{claims_of_size, Roll}
 use Rattle.mb_shared_claims.specs.ViewSteps.{Seated, roll_of, part_of}
@@ -83,7 +83,7 @@ pub record IsTable (id : TableId) (key size : TableSize) : Type 0 where
   pub told : key ≡ size
   pub words : id.words ≡ roster size + 1
   pub slots : id.slots ≡ 0
-  pub cells : size.cells ≤ MAX_CELLS
+  pub cells : size.cells ≤ MAX_LARGE_CELLS
 
 -- the hub's seat, and the numbers that it counts: those given, and those out
 pub record IsHubSeat (me : Seated) (given out : ℕ) : Type 0 where

@@ -9,7 +9,7 @@ pub use Rattle.mb_claim.specs.declared.access.Stage.{Stage}
 pub use Rattle.mb_claim.specs.declared.access.Stage.TheVariants.{Going}
 pub use Rattle.mb_claim.specs.declared.claim.Claim.{Claim}
 pub use Rattle.mb_claim.specs.declared.layout.Layout.{Layout}
-pub use Rattle.mb_claim.specs.declared.layout.TheConstants.{MAX_CELLS}
+pub use Rattle.mb_claim.specs.declared.layout.TheConstants.{MAX_LARGE_CELLS}
 pub use Rattle.mb_shared_claims.specs.declared.view.TableSize.{TableSize}
 pub use Rattle.mb_shared_claims.specs.declared.view.View.{View}
 pub use Rattle.mb_shared_claims.specs.declared.view.View.TheVariants.{Handing, Drawing, Standing, Taking, Spent}

@@ -39,7 +39,7 @@ impl<A: Allocator + Drop> Model for SharedClaims<A> {
 
 impl<A: Allocator + Clone + Drop> SharedClaims<A> {
     ghost use Rattle.std.specs.Prelude.{◌≡◌, ◌≤◌, [], IfOk};
-    ghost use Rattle.mb_shared_claims.specs.{MAX_CELLS, name_of};
+    ghost use Rattle.mb_shared_claims.specs.{MAX_LARGE_CELLS, name_of};
 
     /// A table of this layout with so many cells, whose words are all 0, and its hub, which has given no number. All
     /// memory that the table will ever need is taken here. [`NoMemory`] comes where the allocator refuses a part of it.
@@ -48,7 +48,7 @@ impl<A: Allocator + Clone + Drop> SharedClaims<A> {
         layout: Layout,
         cells: u32,
     ) -> Result<(SharedClaims<A>, ClaimHub), NoMemory>
-        requires { cells ≤ MAX_CELLS }
+        requires { cells ≤ MAX_LARGE_CELLS }
         ensures layout { IfOk result (λ made. made.0.layout ≡ layout) }
         ensures cells { IfOk result (λ made. made.0.cells ≡ cells) }
         ensures hub { IfOk result (λ made. made.1 ≡ record { table = name_of made.0; roll = [] }) }

@@ -5,7 +5,7 @@ use Rattle.mb_quorum.specs.declared.values.TheConstants.{MAX_VALUES}
 use Rattle.mb_quorum.specs.Tables.{table_of}
 use Rattle.mb_deciding.specs.Spread.{spread}
 use Rattle.mb_claim.specs.declared.layout.Layout.{Layout}
-use Rattle.mb_claim.specs.declared.layout.TheConstants.{MAX_CELLS, MAX_PAIRS}
+use Rattle.mb_claim.specs.declared.layout.TheConstants.{MAX_CELLS, MAX_LARGE_CELLS, MAX_PAIRS}
 use Rattle.mb_claim.specs.AllClaims.{claims_of}
 use Rattle.mb_claim.specs.Layouts.{claims_in, pair_count, plain, row_of, shape_of}
 use Rattle.mb_claim.specs.declared.shape.Shape.{Shape}
@@ -42,11 +42,19 @@ pairs_in setup = pair_count setup.layout
 abbrev pub shape_in : Setup → Shape
 shape_in setup = shape_of setup.layout
 
--- the first reason to refuse a setup, if there is one
-abbrev pub setup_refusal : ℕ → ℕ → ℕ → ℕ → Option SetupFault
-setup_refusal producers consumers cells pairs =
+-- the first reason to refuse a setup that is to have so many cells at most, if there is one
+abbrev pub refusal_above : ℕ → ℕ → ℕ → ℕ → ℕ → Option SetupFault
+refusal_above most producers consumers cells pairs =
     if nat_lt producers 1 || nat_lt MAX_PRODUCERS producers then Some BadProducers
     else if nat_lt consumers 1 || nat_lt MAX_VALUES consumers then Some BadConsumers
-    else if nat_lt MAX_CELLS cells then Some BadCells
+    else if nat_lt most cells then Some BadCells
     else if nat_lt pairs 1 || nat_lt MAX_PAIRS pairs then Some BadRounds
     else None
+
+-- of a script's setup
+abbrev pub setup_refusal : ℕ → ℕ → ℕ → ℕ → Option SetupFault
+setup_refusal = refusal_above MAX_CELLS
+
+-- and of a large one
+abbrev pub large_refusal : ℕ → ℕ → ℕ → ℕ → Option SetupFault
+large_refusal = refusal_above MAX_LARGE_CELLS

@@ -1,7 +1,8 @@
 //! How large a world is.
 ghost use Rattle.std.specs.Prelude.{◌≤◌};
+ghost use Rattle.mb_claim.specs.declared.layout.TheConstants.{MAX_LARGE_CELLS};
 
-use mb_claim::{BadLayout, Layout, MAX_CELLS, Shape};
+use mb_claim::{BadLayout, Layout, MAX_CELLS, MAX_LARGE_CELLS, Shape};
 use mb_quorum::TableName;
 use std::error::Error;
 use std::fmt;
@@ -18,7 +19,7 @@ pub struct Setup {
     layout: Layout,
     pub ghost some: { 1 ≤ producers },
     pub ghost few: { producers ≤ 16 },
-    pub ghost small: { cells ≤ 256 },
+    pub ghost small: { cells ≤ MAX_LARGE_CELLS },
 }
 
 /// Why there is no setup.
@@ -28,7 +29,7 @@ pub enum SetupFault {
     BadProducers,
     /// The number of consumers is 0 or above 64.
     BadConsumers,
-    /// There are more cells than `MAX_CELLS`.
+    /// There are more cells than the call takes: 256 for [`Setup::new`], 2^24 for [`Setup::large`].
     BadCells,
     /// The number of pairs of deciding objects is 0 or above 8.
     BadRounds,
@@ -48,14 +49,15 @@ impl fmt::Display for SetupFault {
 impl Error for SetupFault {}
 
 impl Setup {
-    ghost use Rattle.std.specs.Prelude.{◌≡◌, IsOk, IfOk, Err, MatchOption};
+    ghost use Rattle.std.specs.Prelude.{◌≡◌, ◌≤◌, IsOk, IfOk, Err, MatchOption};
     ghost use Rattle.std.specs.Prelude.{ℕ};
     ghost use Rattle.mb_quorum.specs.declared.table.TableName.{TableName};
     ghost use Rattle.mb_claim.specs.Layouts.{plain};
+    ghost use Rattle.mb_claim.specs.declared.layout.TheConstants.{MAX_LARGE_CELLS};
     ghost use Rattle.mb_claim.specs.declared.shape.Shape.{Shape};
     ghost use Rattle.mb_world.specs.Plan.{consumers_of};
-    ghost use Rattle.mb_world.specs.Setups.{layout_of, pairs_in, plan_in, plan_of, setup_refusal};
-    ghost use Rattle.mb_world.specs.Setups.{shape_in, shaped_plan};
+    ghost use Rattle.mb_world.specs.Setups.{layout_of, pairs_in, plan_in, plan_of, shape_in, shaped_plan};
+    ghost use Rattle.mb_world.specs.Setups.{large_refusal, refusal_above, setup_refusal};
 
     /// The setup of so many producers (1 to 16), consumers (1 to 64) and cells (0 to 256), with so many pairs of deciding
     /// objects (1 to 8) for each cell over the quorum table of this name. Its cells have pairs alone. If several numbers
@@ -74,6 +76,45 @@ impl Setup {
         ensures pairs { IfOk result (λ setup. pairs_in setup ≡ pairs) }
         ensures shape { IfOk result (λ setup. shape_in setup ≡ plain) }
     {
+        Setup::up_to(MAX_CELLS, producers, consumers, cells, pairs, name)
+    }
+
+    /// The same for up to 2^24 cells, and with the faults in the same order. The memory of a mailbox or a world grows with
+    /// the number of its cells. A script names 256 at most.
+    pub fn large(
+        producers: u64,
+        consumers: u64,
+        cells: u64,
+        pairs: u64,
+        name: TableName,
+    ) -> Result<Setup, SetupFault>
+        ensures refused { MatchOption (large_refusal producers consumers cells pairs) (IsOk result)
+            (λ fault. result ≡ Err fault) }
+        ensures made { IfOk result
+            (λ setup. plan_in setup ≡ plan_of producers consumers cells pairs name) }
+        ensures pairs { IfOk result (λ setup. pairs_in setup ≡ pairs) }
+        ensures shape { IfOk result (λ setup. shape_in setup ≡ plain) }
+    {
+        Setup::up_to(MAX_LARGE_CELLS, producers, consumers, cells, pairs, name)
+    }
+
+    /// The setup of these numbers, if it has so many cells at most.
+    fn up_to(
+        most: u32,
+        producers: u64,
+        consumers: u64,
+        cells: u64,
+        pairs: u64,
+        name: TableName,
+    ) -> Result<Setup, SetupFault>
+        requires { most ≤ MAX_LARGE_CELLS }
+        ensures refused { MatchOption (refusal_above most producers consumers cells pairs)
+            (IsOk result) (λ fault. result ≡ Err fault) }
+        ensures made { IfOk result
+            (λ setup. plan_in setup ≡ plan_of producers consumers cells pairs name) }
+        ensures pairs { IfOk result (λ setup. pairs_in setup ≡ pairs) }
+        ensures shape { IfOk result (λ setup. shape_in setup ≡ plain) }
+    {
         if !(1..=MAX_PRODUCERS).contains(&producers) {
             return Err(SetupFault::BadProducers);
         }
@@ -81,7 +122,7 @@ impl Setup {
         if let Err(BadLayout::BadConsumers) = layout {
             return Err(SetupFault::BadConsumers);
         }
-        if cells > u64::from(MAX_CELLS) {
+        if cells > u64::from(most) {
             return Err(SetupFault::BadCells);
         }
         match layout {

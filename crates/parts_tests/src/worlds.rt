@@ -22,10 +22,45 @@ fn the_first_number_out_of_range_refuses(rt: HostRuntime) {
         (1, 65, 0, 1, middle, SetupFault::BadConsumers),
         (1, 17, 300, 0, bits, SetupFault::BadCells),
         (1, 1, 257, 0, bits, SetupFault::BadCells),
+        (1, 1, 257, 1, bits, SetupFault::BadCells),
         (1, 1, 256, 9, bits, SetupFault::BadRounds),
     ] {
         assert_eq!(rt; Setup::new(p, c, m, k, name), Err(want), "{p} {c} {m} {k}");
     }
+}
+
+#[test]
+fn a_large_setup_is_refused_in_the_same_order(rt: HostRuntime) {
+    let bits = TableName::Bits;
+    let most = 1u64 << 24;
+    for (p, c, m, k, want) in [
+        (0, 0, most + 1, 0, SetupFault::BadProducers),
+        (17, 1, 257, 1, SetupFault::BadProducers),
+        (1, 65, most + 1, 0, SetupFault::BadConsumers),
+        (1, 1, most + 1, 0, SetupFault::BadCells),
+        (1, 1, most + 1, 1, SetupFault::BadCells),
+        (1, 1, u64::MAX, 1, SetupFault::BadCells),
+        (1, 1, most, 9, SetupFault::BadRounds),
+    ] {
+        assert_eq!(rt;
+            Setup::large(p, c, m, k, bits),
+            Err(want),
+            "{p} {c} {m} {k}"
+        );
+    }
+}
+
+#[test]
+fn a_large_setup_tells_its_numbers(rt: HostRuntime) -> Result<(), Fail> {
+    for cells in [0, 257, 1 << 24] {
+        let setup = Setup::large(1, 1, cells, 1, TableName::Bits)?;
+        let told = (setup.producers(), setup.consumers(), setup.cells());
+        assert_eq!(rt; told, (1, 1, cells));
+    }
+    let shaped = Setup::large(16, 64, 1 << 24, 8, TableName::Unary)?.shaped(BOTH);
+    let told = (shaped.consumers(), shaped.cells(), shaped.layout().shape());
+    assert_eq!(rt; told, (64, 1 << 24, BOTH));
+    Ok(())
 }
 
 #[test]

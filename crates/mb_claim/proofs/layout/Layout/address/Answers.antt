@@ -2,7 +2,7 @@ use Rattle.std.proofs.Common.{◌≡◌, ◌*◌, ◌+◌, ◌≤◌, ◌<◌, �
 use Rattle.std.proofs.lemmas.Nat.{mul-le}
 use Rattle.std.proofs.lemmas.Option.{slice_get_within}
 use Rattle.mb_deciding.specs.Vocabulary.{spread}
-use Rattle.mb_claim.specs.{Reg, Layout, quorums_of, kinds_of, words_of, words_before, offset, HasWord, MAX_CELLS}
+use Rattle.mb_claim.specs.{Reg, Layout, quorums_of, kinds_of, words_of, words_before, offset, HasWord, MAX_LARGE_CELLS}
 use Rattle.mb_claim.specs.declared.layout.TheConstants.{MAX_OBJECTS}
 use Rattle.mb_claim.proofs.Addresses.{within}
 use Rattle.mb_claim.proofs.LayoutObjects.{objects_few, cell_small}
@@ -38,8 +38,8 @@ place_in_object-requires c =
 
 pub overflow_mul-result : goal.overflow_mul-result
 overflow_mul-result c =
-    let few : c.args.cell * c.words_of_cell.result ≤ MAX_CELLS * (65 * MAX_OBJECTS) =
-    mul-le c.args.cell c.words_of_cell.result MAX_CELLS (65 * MAX_OBJECTS) (omega (arith, c.requires.cell))
+    let few : c.args.cell * c.words_of_cell.result ≤ MAX_LARGE_CELLS * (65 * MAX_OBJECTS) =
+    mul-le c.args.cell c.words_of_cell.result MAX_LARGE_CELLS (65 * MAX_OBJECTS) (omega (arith, c.requires.cell))
     c.words_of_cell.ensures.small in
     omega (arith, few)
 
@@ -50,8 +50,8 @@ overflow_add-result c =
 
 pub overflow_add-result-2 : goal.overflow_add-result-2
 overflow_add-result-2 c =
-    let few : c.args.cell * c.words_of_cell.result ≤ MAX_CELLS * (65 * MAX_OBJECTS) =
-    mul-le c.args.cell c.words_of_cell.result MAX_CELLS (65 * MAX_OBJECTS) (omega (arith, c.requires.cell))
+    let few : c.args.cell * c.words_of_cell.result ≤ MAX_LARGE_CELLS * (65 * MAX_OBJECTS) =
+    mul-le c.args.cell c.words_of_cell.result MAX_LARGE_CELLS (65 * MAX_OBJECTS) (omega (arith, c.requires.cell))
     c.words_of_cell.ensures.small in
     let h = in_cell c.args.self.now c.args.object c.args.reg c.requires.word in
     omega (arith, few, h, cell_small c.args.self.now, c.place_in_object.ensures)
