@@ -1,0 +1,86 @@
+"""Tests of the script `mailbox`, with a stand-in for the kit's `rt`."""
+import os
+import shutil
+import subprocess
+import tempfile
+import unittest
+
+TOP = os.path.dirname(os.path.dirname(os.path.abspath(__file__)))
+PROGRAM = "crates/mailbox_main/out/mailbox_main"
+# It says what it was asked, and `rt run` leaves a program that says what it is asked.
+RT = """#!/bin/sh
+if [ "$1" = run ]; then
+    echo 'rt: chose --jobs 4 for mb_quorum'
+    echo 'so far: 2 of 9 functions checked; the verdict comes last'
+    echo 'fn mb_quorum::table::Table::new: proved'
+    [ -z "${BROKEN-}" ] || exit 1
+    mkdir -p out
+    printf '#!/bin/sh\\necho "built $*"\\ncat\\n' >out/mailbox_main
+    chmod +x out/mailbox_main
+else
+    echo "rt $*"
+    cat
+    exit 2
+fi
+"""
+
+
+class TheScript(unittest.TestCase):
+    def setUp(self):
+        self.top = tempfile.mkdtemp(prefix="mailbox-")
+        self.addCleanup(shutil.rmtree, self.top)
+        shutil.copy(f"{TOP}/mailbox", self.top)
+        for folder in ("bin", "crates/mailbox_main/src", "crates/mb_quorum/src"):
+            os.makedirs(f"{self.top}/{folder}")
+        self.write("crates/mb_quorum/src/lib.rt", "")
+        self.write("bin/rt", RT)
+        os.chmod(f"{self.top}/bin/rt", 0o755)
+
+    def write(self, path, text):
+        with open(f"{self.top}/{path}", "w", encoding="utf-8") as file:
+            file.write(text)
+
+    def run_it(self, *words, path=None, **more):
+        env = {"PATH": path or f"{self.top}/bin:/usr/bin:/bin", **more}
+        how = {"input": "script\n", "capture_output": True, "text": True, "env": env}
+        ran = subprocess.run([f"{self.top}/mailbox", *words], check=False, **how)
+        return ran.returncode, ran.stdout, ran.stderr
+
+    def test_without_a_build_the_run_is_unproved(self):
+        status, said, errors = self.run_it("replay")
+        self.assertEqual((status, said), (2, "rt try -- replay\nscript\n"))
+        self.assertEqual(errors.count("\n"), 1)
+        self.assertIn("unproved", errors)
+
+    def test_a_build_is_kept_and_tells_how_far_it_is(self):
+        status, said, errors = self.run_it("--build")
+        self.assertEqual((status, said), (0, ""))
+        self.assertIn("mailbox: 2 of 9 functions of mb_quorum\n", errors)
+        self.assertIn("mailbox: mb_quorum is proved\n", errors)
+        self.assertIn("mailbox: built in ", errors)
+        self.assertEqual(self.run_it("replay", "now"), (0, "built replay now\nscript\n", ""))
+        self.assertIn("minutes the last time", self.run_it("--build")[2])
+
+    def test_a_later_source_makes_it_stale_and_builds_nothing(self):
+        self.run_it("--build")
+        later = os.path.getmtime(f"{self.top}/{PROGRAM}") + 10
+        os.utime(f"{self.top}/crates/mb_quorum/src/lib.rt", (later, later))
+        status, said, errors = self.run_it("ratify")
+        self.assertEqual((status, said), (0, "built ratify\nscript\n"))
+        self.assertIn("stale", errors)
+
+    def test_a_build_that_fails_leaves_none(self):
+        status, _, errors = self.run_it("--build", BROKEN="yes")
+        self.assertEqual(status, 1)
+        self.assertIn("could not be built", errors)
+        self.assertFalse(os.path.exists(f"{self.top}/{PROGRAM}"))
+
+    def test_it_says_what_is_lacking(self):
+        os.remove(f"{self.top}/bin/rt")
+        self.assertEqual(self.run_it("replay")[0], 1)
+        self.assertIn("Rattle kit", self.run_it("--build")[2])
+        self.assertEqual(self.run_it("--build", "now")[0], 1)
+
+
+if __name__ == "__main__":
+    unittest.main()
