@@ -25,6 +25,7 @@ pub mod PassedRatifiers
 pub mod Bounds
 pub mod LawfulExamples
 pub mod ShapedExamples
+pub mod BothExamples
 pub mod LayoutObjects
 pub mod ShapedAddresses
 pub mod ClaimSteps

@@ -6,7 +6,7 @@ ghost use Rattle.mb_claim.specs.{Load, Store, Value, Quorum, IsClaimLawful, HasS
 ghost use Rattle.mb_claim.specs.{Lost, Undecided, two_consumers, won_and_lost, both_undecided, begun_again};
 ghost use Rattle.mb_claim.specs.{after_winning, own_number_again, of_a_stranger, IsPlayedByTwo, step, eight_steps};
 ghost use Rattle.mb_claim.specs.{won_and, two_with, lost_at_second, past_both_ratifiers, past_one_ratifier};
-ghost use Rattle.mb_claim.specs.{last_decides, last_found_empty_twice, last_comes_first};
+ghost use Rattle.mb_claim.specs.{last_decides, last_found_empty_twice, last_comes_first, through_all, past_the_pair};
 
 use crate::laws::last_objects_decide_claims;
 use mb_deciding::examples::small_histories;
@@ -80,6 +80,17 @@ pub fn last_objects_come_last()
 {
     last_objects_decide_claims();
 }
+
+/// Histories with a fast path before the pair and a last object after it.
+pub fn both_ends_may_be_there()
+    // The fast path and the pair leave both undecided. Then consumer 0 is the first on the last object and wins.
+    ensures lawful { IsClaimLawful (two_with true true) through_all }
+    ensures won { HasStage (two_with true true) 0 0 Won through_all }
+    ensures lost { HasStage (two_with true true) 1 0 (Lost 0) through_all }
+
+    // Who goes from the fast path to the last object.
+    ensures past { IsClaimLawful (two_with true true) past_the_pair → ⊥ }
+{}
 
 /// Runs, and entries and stages that are none.
 pub fn runs_are_told_from_others()
