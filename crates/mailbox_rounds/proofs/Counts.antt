@@ -81,7 +81,7 @@ module _ (x n : ℕ) where
       let own = λ (c : ℕ). items_where (λ j. is_consumer c (t (suc j))) ys in
       let left = items_where (λ j. is_none (t (suc j))) ys in (
         sum_same n (λ c. times x (items_where (λ j. is_consumer c (t j)) (y ∷ ys))) (λ c. times x (own c))
-        (λ c low. ap (λ (z : Option ℕ). times x (if is_consumer c z then y ∷ own c else own c)) e),
+            (λ c low. ap (λ (z : Option ℕ). times x (if is_consumer c z then y ∷ own c else own c)) e),
         ap (λ (z : Option ℕ). times x (if is_none z then y ∷ left else left)) e ∙ times_first x y left,
       )
 
@@ -92,8 +92,8 @@ module _ (x n : ℕ) where
       let left = items_where (λ j. is_none (t (suc j))) ys in
       let is = λ (c : ℕ). ap (λ (z : Option ℕ). times x (if is_consumer c z then y ∷ own c else own c)) e in (
         sum_more n d (λ c. times x (items_where (λ j. is_consumer c (t j)) (y ∷ ys))) (λ c. times x (own c)) (one x y) known
-        (is d ∙ ap (λ b. times x (if b then y ∷ own d else own d)) (eq-eqb d d refl) ∙ times_first x y (own d))
-        (λ c ne. is c ∙ ap (λ b. times x (if b then y ∷ own c else own c)) (ne_eqb d c ne)),
+            (is d ∙ ap (λ b. times x (if b then y ∷ own d else own d)) (eq-eqb d d refl) ∙ times_first x y (own d))
+            (λ c ne. is c ∙ ap (λ b. times x (if b then y ∷ own c else own c)) (ne_eqb d c ne)),
         ap (λ (z : Option ℕ). times x (if is_none z then y ∷ left else left)) e,
       )
 

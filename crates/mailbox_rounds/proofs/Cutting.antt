@@ -10,6 +10,10 @@ pub lists_push : {Z : Type 0} (vs : List (Vec ℕ Z)) (v : Vec ℕ Z) → lists_
 lists_push [] v = refl
 lists_push (w ∷ vs) v = ap (λ ls. w.items ∷ ls) (lists_push vs v)
 
+pub count_lists : {Z : Type 0} (vs : List (Vec ℕ Z)) → length vs ≡ length (lists_in vs)
+count_lists [] = refl
+count_lists (v ∷ vs) = let t = count_lists vs in omega (arith, t)
+
 pub dealt_more : {Z : Type 0} (vs : List (Vec ℕ Z)) (v : Vec ℕ Z) (back rest items : List ℕ) (n : ℕ)
     → v.items ≡ take n rest → back ≡ drop n rest → concat (lists_in vs) ++ rest ≡ items
     → concat (lists_in (vs ++ v ∷ [])) ++ back ≡ items

@@ -48,16 +48,16 @@ zip_put (list ∷ lists) (l ∷ ls) (v ∷ vs) z count each =
     let put : l.put ≡ v.put = sym (ap (λ (w : LaneView). w.put) same ∙ here.2) in
     (subst (λ items. IsFront items list) put z.0, zip_put lists ls vs z.1 (omega arith) (λ p k e. each (suc p) k e))
 
-pub fronts_told : (consumers : ℕ) (lists : List (List ℕ)) (ls : List LaneLeft) (h : HubView) (r : ReportView)
-    → IsReportIn (length lists) consumers h r
+pub fronts_told : (lanes consumers : ℕ) (lists : List (List ℕ)) (ls : List LaneLeft) (h : HubView) (r : ReportView)
+    → lanes ≡ length lists → IsReportIn lanes consumers h r
     → h.puts ≡ map (λ l. Some (ended_list l)) ls
     → AllZip (λ list l. IsFront l.put list) lists ls → AllZip IsPutOf lists r.lanes
-fronts_told consumers lists ls h r is puts fronts =
+fronts_told lanes consumers lists ls h r all is puts fronts =
     let count = zip_length (λ list l. IsFront l.put list) lists ls fronts in
-    zip_put lists ls r.lanes fronts (is.lanes_count ∙ count)
+    zip_put lists ls r.lanes fronts (is.lanes_count ∙ all ∙ count)
     (λ p l e. (
       lane_in consumers p h,
-      is.lane p (let t = get_below ls p l e in omega (arith, t, count)),
+      is.lane p (let t = get_below ls p l e in omega (arith, t, count, all)),
       ap (λ (o : Option (Option PutListView)). option_map_or (λ (k : PutListView). k.items) (option_map_or (λ k. k) o None) [])
-      (ap (λ k. slice_get k p) puts ∙ get_map (λ (k : LaneLeft). Some (ended_list k)) ls p l e),
+          (ap (λ k. slice_get k p) puts ∙ get_map (λ (k : LaneLeft). Some (ended_list k)) ls p l e),
     ))

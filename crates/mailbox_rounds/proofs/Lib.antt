@@ -5,3 +5,4 @@ pub mod Fronts
 pub mod Turning
 pub mod Cutting
 pub mod Reading
+pub mod Played

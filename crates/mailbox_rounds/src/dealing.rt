@@ -6,10 +6,7 @@ ghost use Rattle.mb_mailbox.specs.Worked.{lists_in};
 use std::alloc::{AllocError, Allocator};
 
 /// The same items once more.
-fn copy_of<A: Allocator + Clone + Drop>(
-    alloc: &A,
-    items: &[u64],
-) -> Result<Vec<u64, A>, AllocError>
+fn copy_of<A: Allocator + Clone + Drop>(alloc: &A, items: &[u64]) -> Result<Vec<u64, A>, AllocError>
     ensures { IfOk result (λ v. v.items ≡ items.now) }
 {
     let mut copy = Vec::with_capacity(alloc.clone()?, items.len())?;

@@ -18,10 +18,7 @@ fn taken_item(note: Note) -> Option<u64>
 }
 
 /// Adds the items that these notes say were taken.
-fn add_taken<A: Allocator + Drop>(
-    items: &mut Vec<u64, A>,
-    notes: &[Note],
-) -> Result<(), AllocError>
+fn add_taken<A: Allocator + Drop>(items: &mut Vec<u64, A>, notes: &[Note]) -> Result<(), AllocError>
     ensures { IfOk result (λ _. items.new.items ≡ items.old.items ++ taken_in notes.now) }
 {
     for note in notes {

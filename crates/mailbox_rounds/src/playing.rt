@@ -60,7 +60,8 @@ pub(crate) fn play<
         // What is asked for was seen to be within the setup.
         Err(_) => return Err(RoundFault::NoMemory),
     }
-    mailbox
-        .gather(for_report, hub)
-        .map_err(|_| RoundFault::NoMemory)
+    let Ok(report) = mailbox.gather(for_report, hub) else {
+        return Err(RoundFault::NoMemory);
+    };
+    Ok(report)
 }

@@ -11,7 +11,6 @@ use mb_mailbox::OpenGate;
 use mb_quorum::TableName;
 use mb_world::Setup;
 use std::alloc::Global;
-
 use std::sync::Wait;
 use std::thread::{Threads, for_each_mut};
 

@@ -9,13 +9,13 @@ returns-clause-one_left c = (
   8 ∷ 7 ∷ 9 ∷ [],
   (8 ∷ 7 ∷ [], (7 ∷ 8 ∷ 7 ∷ [], ([], refl, refl), λ x. refl), refl),
   (λ x.
-    let a = times_first x 8 (7 ∷ 9 ∷ []) in
-    let b = times_first x 7 (9 ∷ []) in
-    let d = times_first x 7 (9 ∷ 8 ∷ []) in
-    let e = times_first x 9 (8 ∷ []) in
-    let f = times_first x 9 [] in
-    let g = times_first x 8 [] in
-    omega (arith, a, b, d, e, f, g)),
+      let a = times_first x 8 (7 ∷ 9 ∷ []) in
+      let b = times_first x 7 (9 ∷ []) in
+      let d = times_first x 7 (9 ∷ 8 ∷ []) in
+      let e = times_first x 9 (8 ∷ []) in
+      let f = times_first x 9 [] in
+      let g = times_first x 8 [] in
+      omega (arith, a, b, d, e, f, g)),
 )
 
 pub returns-clause-none_left : goal.returns-clause-none_left
