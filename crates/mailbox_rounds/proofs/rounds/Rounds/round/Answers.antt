@@ -1,0 +1,9 @@
+use Rattle.std.proofs.Common.{◌≡◌, ◌∙◌, ap}
+use Rattle.mb_mailbox.specs.Worked.{lists_in}
+use Rattle.mb_world.specs.Setups.{plan_in}
+use Rattle.mailbox_rounds.proofs.Whole.{round_adds_up}
+use Rattle.mailbox_rounds.proofs.rounds.Rounds.round.Goals as goal
+
+pub returns-clause-same_items : goal.returns-clause-same_items
+returns-clause-same_items g c =
+    round_adds_up (plan_in c.args.self.now.setup) c.args.self.now.carried _ _ _ c.in_ok-round.ensures.round

@@ -1,0 +1,4 @@
+pub mod Carried
+pub mod Round
+pub mod Turns
+pub mod TurnExamples
