@@ -2,7 +2,11 @@
 import dataclasses
 import os
 import re
+from collections import Counter
 
+# The most mutants of one check. Reading a large crate takes as long as one of them, and with many more a single check
+# would go on for long after all others.
+MOST = 8
 FUNCTION = re.compile(r"^ *(?:pub(?:\([\w ]+\))? )?(?:const |final |ghost )*fn (\w+)", re.M)
 
 
@@ -152,13 +156,18 @@ def strays(top, crates):
     return faults
 
 
-def grouped(control, mutants, folder):
-    """The control and the mutants of each check: no function twice, and each applies on top of the others."""
-    groups = []  # of (mutants, texts)
-    for edit in mutants:
-        if edit.alone:
-            continue
-        for at, (group, texts) in enumerate(groups):
+def grouped(control, mutants, folder, most=MOST):
+    """The control and the mutants of each check: no function twice, and each applies on top of the others.
+
+    No check has more than `most` mutants, or only if they do not fit otherwise, and all have about as many."""
+    together = [it for it in mutants if not it.alone]
+    times = Counter(it.function for it in together)
+    count = max([-(-len(together) // most), *times.values()])
+    groups = [([], control.applied(folder, {})) for _ in range(count)]  # of (mutants, texts)
+    # (the functions with the most mutants first, as each of these wants a group of its own)
+    for edit in sorted(together, key=lambda it: -times[it.function]):
+        for at in sorted(range(len(groups)), key=lambda it: len(groups[it][0])):
+            group, texts = groups[at]
             if any(it.function == edit.function for it in group):
                 continue
             try:
@@ -168,4 +177,4 @@ def grouped(control, mutants, folder):
                 continue
         else:
             groups.append(([edit], edit.applied(folder, control.applied(folder, {}))))
-    return [(control, group) for group, _ in groups] + [(None, [it]) for it in mutants if it.alone]
+    return [(control, group) for group, _ in groups if group] + [(None, [it]) for it in mutants if it.alone]

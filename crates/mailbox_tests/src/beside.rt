@@ -4,6 +4,7 @@ ghost use Rattle.mb_mailbox.specs.Consumers.{IsConsumerOf};
 ghost use Rattle.mb_mailbox.specs.Hubs.{IsHubOf};
 ghost use Rattle.mb_mailbox.specs.Producers.{IsProducerOf};
 
+use crate::compare::same;
 use crate::words::chacha;
 use mailbox_audit::audit;
 use mb_mailbox::{Consumer, Hub, Mailbox, Poll, Producer, Put};
@@ -88,9 +89,10 @@ fn is_read_back<R: Threads + Sync + Abort>(
     let mut words = Zeros::default();
     let first = consumer.poll(mailbox, 0, 100, &mut words);
     let second = consumer.poll(mailbox, 0, 100, &mut words);
-    assert_eq!(rt;
-        (put, first, second),
-        (Put::Linked, Poll::Took(x), Poll::Nothing)
+    same(
+        rt,
+        &(put, first, second),
+        &(Put::Linked, Poll::Took(x), Poll::Nothing),
     );
     producer
 }
@@ -260,10 +262,10 @@ fn report_all<R: Threads + Sync>(rt: &R, alloc: Global) -> Result<Report<Global>
 
 /// These are all items of the producer whose first item is this one, in order.
 fn are_all(rt: &impl Abort, items: &[u64], first: u64) {
-    assert_eq!(rt; items.len(), ITEMS as usize);
+    same(rt, &items.len(), &(ITEMS as usize));
     let mut next = first;
     for item in items {
-        assert_eq!(rt; *item, next);
+        same(rt, item, &next);
         next = next.wrapping_add(1);
     }
 }
@@ -276,16 +278,20 @@ fn is_whole(rt: &impl Abort, report: &Report<Global>) {
         are_all(rt, lane.put.as_slice(), *first);
     }
     for diary in &report.diaries {
-        assert_eq!(rt; (diary.notes.len(), diary.begun), (ITEMS as usize, false));
+        same(
+            rt,
+            &(diary.notes.len(), diary.begun),
+            &(ITEMS as usize, false),
+        );
     }
 }
 
 #[test]
 fn two_threads_put_while_two_poll(rt: HostRuntime) -> Result<(), Fail> {
     let report = report_all(&rt, rt.alloc())?;
-    assert_eq!(rt; (report.lanes.len(), report.diaries.len()), (2, 4));
     is_whole(&rt, &report);
     let tally = audit(&report, 2, 2)?;
-    assert_eq!(rt; tally.put, 2 * ITEMS);
+    let told = (report.lanes.len(), report.diaries.len(), tally.put);
+    same(&rt, &told, &(2, 4, 2 * ITEMS));
     Ok(())
 }

@@ -1,5 +1,6 @@
 //! Whose random words a consumer of `work` draws.
 
+use crate::compare::{same, same_at};
 use crate::trial::Trial;
 use crate::trials::{ends, new_trial};
 use crate::workers::lists;
@@ -50,7 +51,7 @@ fn one_is_stopped<R: Abort + AllocGlobal + Threads + Wait + Sync>(
         full: 0,
         stopped: 1,
     };
-    assert_eq!(rt; worked, Ok(one_stopped));
+    same(rt, &worked, &Ok(one_stopped));
     Ok(())
 }
 
@@ -79,7 +80,8 @@ fn words_drawn<R: Abort + AllocGlobal + Threads + Wait + Sync>(
 fn each_consumer_draws_from_its_own_source(rt: HostRuntime) -> Result<(), Fail> {
     let took: &[Note] = &[Note::Took(5)];
     // A claim alone makes seven accesses, three to the conciliator and four to the ratifier, and draws a word for each.
-    assert_eq!(&rt; words_drawn(&rt, 1, [took, &[]])?, (7, 0));
-    assert_eq!(&rt; words_drawn(&rt, 0, [&[], took])?, (0, 7));
+    for (stopped, notes, drawn) in [(1, [took, &[]], (7, 0)), (0, [&[], took], (0, 7))] {
+        same_at(&rt, &words_drawn(&rt, stopped, notes)?, &drawn, &stopped);
+    }
     Ok(())
 }

@@ -1,5 +1,6 @@
 //! What a gate is asked: that workers run at one time, come with their calls in order, and poll the lanes in turn.
 
+use crate::compare::{same, same_at};
 use crate::trial::Trial;
 use crate::trials::{ends, new_trial};
 use crate::workers::{ALL_DONE, works};
@@ -57,7 +58,7 @@ fn come_to_the_gate<R: Abort + AllocGlobal + Threads + Wait + Sync>(
         workers: consumers.wrapping_add(1),
     };
     let worked = works(rt, trial, &[&[1, 2, 3, 4]], 5, consumers as usize, &gate)?;
-    assert_eq!(rt; worked, Ok(ALL_DONE), "{consumers} consumers");
+    same_at(rt, &worked, &Ok(ALL_DONE), &consumers);
     Ok(())
 }
 
@@ -73,19 +74,18 @@ fn come_and_put<R: Abort + AllocGlobal + Threads + Wait + Sync>(
         return Err(Fail::new("no report"));
     };
     let tally = audit(&report, 1, consumers)?;
-    assert_eq!(rt; tally.put, 4);
     // Alone a consumer always decides, and takes each item.
-    assert!(rt; consumers != 1 || tally.took == 4);
+    let are_taken = consumers != 1 || tally.took == 4;
+    same_at(rt, &(tally.put, are_taken), &(4, true), &consumers);
     Ok(())
 }
 
 #[test]
 fn all_workers_come_to_the_gate_at_one_time(rt: HostRuntime) -> Result<(), Fail> {
-    come_and_put(&rt, 1)?;
-    come_and_put(&rt, 2)?;
-    come_and_put(&rt, 4)?;
-    come_and_put(&rt, 16)?;
-    come_and_put(&rt, 64)
+    for consumers in [1, 2, 4, 16, 64] {
+        come_and_put(&rt, consumers)?;
+    }
+    Ok(())
 }
 
 /// A gate that lets each call in, and looks whether a worker's calls come as 1, 2 and so on, each told before the next.
@@ -131,7 +131,7 @@ fn alternates(rt: &impl Abort, gate: &Record) {
     // One call for each item.
     let first = gate.times[0].load(Ordering::SeqCst);
     let second = gate.times[1].load(Ordering::SeqCst);
-    assert_eq!(rt; (flaws, first, second), (0, 4, 6));
+    same(rt, &(flaws, first, second), &(0, 4, 6));
     // At least one for each item and each end, and each was told.
     for consumer in 2..4 {
         let times = gate.times[consumer].load(Ordering::SeqCst);
@@ -147,7 +147,7 @@ fn asks_and_tells_of_a_gate_alternate(rt: HostRuntime) -> Result<(), Fail> {
         flaws: AtomicU64::new(0),
     };
     let worked = works(&rt, &mut trial, &[&[1, 2], &[3, 4, 5]], 5, 2, &gate)?;
-    assert_eq!(rt; worked, Ok(ALL_DONE));
+    same(&rt, &worked, &Ok(ALL_DONE));
     alternates(&rt, &gate);
     Ok(())
 }
@@ -189,7 +189,7 @@ fn lanes_are_polled_in_turn(rt: HostRuntime) -> Result<(), Fail> {
         full: 0,
         stopped: 1,
     };
-    assert_eq!(rt; worked, Ok(one_stopped));
+    same(&rt, &worked, &Ok(one_stopped));
     ends(
         rt.alloc(),
         trial,

@@ -1,5 +1,6 @@
 //! That a gate is told of a put and of a poll after their accesses, and not before.
 
+use crate::compare::same;
 use crate::gates::TURNS;
 use crate::trial::Trial;
 use crate::trials::{ends, new_trial};
@@ -80,7 +81,7 @@ fn polls_once<R: Abort + AllocGlobal + Threads + Wait + Sync>(
         full: 0,
         stopped: 1,
     };
-    assert_eq!(rt; worked, Ok(one_stopped));
+    same(rt, &worked, &Ok(one_stopped));
     Ok(())
 }
 
@@ -96,7 +97,7 @@ fn a_call_is_told_of_after_its_accesses(rt: HostRuntime) -> Result<(), Fail> {
     polls_once(&rt, &mut trial, &gate)?;
     // An only consumer's claim makes five accesses, three to the conciliator and two to the proposal, and draws a word for
     // each: all were made before the poll was told of.
-    assert_eq!(rt; gate.told.load(Ordering::SeqCst), 5);
+    same(&rt, &gate.told.load(Ordering::SeqCst), &5);
     // And the poll found the item, so this was put before the put was told of.
     ends(
         rt.alloc(),

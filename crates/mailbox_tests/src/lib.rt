@@ -4,6 +4,8 @@
 #[cfg(test)]
 mod beside;
 #[cfg(test)]
+mod compare;
+#[cfg(test)]
 mod draws;
 #[cfg(test)]
 mod gates;

@@ -1,5 +1,6 @@
 //! Polls of one thread: what they answer with small budgets, and how many words they draw.
 
+use crate::compare::{same, same_at};
 use crate::trial::Trial;
 use crate::trials::{all_given, both_are_given, ends, new_trial};
 use mb_claim::Shape;
@@ -21,11 +22,7 @@ fn are_spent<A: Allocator + Clone + Drop>(
 ) {
     for turn in 0..times {
         let answer = trial.poll(0, 0, budget, words);
-        assert_eq!(rt;
-            answer,
-            Some(Poll::Spent),
-            "poll {turn} with budget {budget}"
-        );
+        same_at(rt, &answer, &Some(Poll::Spent), &(turn, budget));
     }
 }
 
@@ -38,7 +35,7 @@ fn is_cut_short<R: Abort + AllocGlobal>(rt: &R, budget: u64, spent: u64) -> Resu
     let poll = trial.poll(0, 0, budget, &mut words);
     // The claim has five accesses.
     let want = (Some(Put::Linked), Some(Poll::Took(7)), 5);
-    assert_eq!(rt; (put, poll, words.given), want, "with budget {budget}");
+    same_at(rt, &(put, poll, words.given), &want, &budget);
     ends(
         rt.alloc(),
         trial,
@@ -72,9 +69,10 @@ fn takes_after(
     are_spent(rt, trial, &mut words, 1, after);
     let poll = trial.poll(0, 0, 1, &mut words);
     // The claim has seven accesses.
-    assert_eq!(rt;
-        (put, poll, words.given),
-        (Some(Put::Linked), Some(Poll::Took(7)), 7)
+    same(
+        rt,
+        &(put, poll, words.given),
+        &(Some(Put::Linked), Some(Poll::Took(7)), 7),
     );
     Ok(())
 }
@@ -123,7 +121,7 @@ fn fast_and_last<A: Allocator + Clone + Drop>(rt: &impl Abort, alloc: A) -> Resu
     let setup = Setup::new(1, 2, 1, 1, TableName::Bits)?.shaped(shape);
     let mut trial = Trial::new(alloc.clone()?, setup)?;
     both_are_given(&mut trial, alloc)?;
-    assert_eq!(rt; trial.put(0, 5), Some(Put::Linked));
+    same(rt, &trial.put(0, 5), &Some(Put::Linked));
     Ok(trial)
 }
 
@@ -137,12 +135,13 @@ fn an_item_is_taken_on_the_fast_path(rt: HostRuntime) -> Result<(), Fail> {
     );
     let mut other = fast_and_last(&rt, rt.alloc())?;
     let whole = other.poll(0, 0, 20, &mut words);
-    assert_eq!(rt;
-        (polls, whole),
-        (
+    same(
+        &rt,
+        &(polls, whole),
+        &(
             (Some(Poll::Spent), Some(Poll::Took(5))),
-            Some(Poll::Took(5))
-        )
+            Some(Poll::Took(5)),
+        ),
     );
     Ok(())
 }

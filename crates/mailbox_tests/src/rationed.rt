@@ -1,9 +1,11 @@
 //! `work` and a hub over an allocator that refuses chosen requests: each growth in turn, and then the call again with memory.
 
+use crate::compare::same;
 use crate::trial::Trial;
 use crate::trials::{ends, new_trial};
 use crate::workers::{ALL_DONE, lists, sources};
 use mailbox_rations::{Rations, Refuse, growths_refused};
+use mb_cells::Finish;
 use mb_mailbox::{HubFault, OpenGate, Poll, Put, WorkFault};
 use mb_world::{Note, Report};
 use std::alloc::Global;
@@ -37,14 +39,13 @@ fn put_seven<'r>(
     let served = match trial.producer(alloc) {
         Ok(()) => true,
         Err(fault) => {
-            assert_eq!(rt; fault, HubFault::NoMemory);
+            same(rt, &fault, &HubFault::NoMemory);
             trial.producer(ample)?;
             false
         }
     };
-    assert_eq!(rt; trial.put(0, 7), Some(Put::Linked));
-    trial.finish(0);
-    assert!(rt; trial.take_producer(0));
+    let told = (trial.put(0, 7), trial.finish(0), trial.take_producer(0));
+    same(rt, &told, &(Some(Put::Linked), Some(Finish::Ended), true));
     Ok(served)
 }
 
@@ -57,10 +58,10 @@ fn one_item_is_taken<'r>(
     ample: Alloc<'r>,
 ) -> Result<bool, Fail> {
     let served = put_seven(rt, trial, alloc, ample)?;
-    assert!(rt; !has_lane(trial, ample));
+    let is_left = has_lane(trial, ample);
     trial.consumer(ample)?;
     let poll = trial.poll(0, 0, 100, &mut Zeros::default());
-    assert_eq!(rt; poll, Some(Poll::Took(7)));
+    same(rt, &(is_left, poll), &(false, Some(Poll::Took(7))));
     Ok(served)
 }
 
@@ -86,7 +87,7 @@ fn each_growth_of_a_lone_producer_refused(rt: HostRuntime) -> Result<(), Fail> {
     let refused = growths_refused(&rt, |alloc| {
         let ample = Rations::new(rt.alloc(), Refuse::Never);
         let served = one_item_is_served(&rt, alloc, &ample)?;
-        assert_eq!(&rt; ample.out(), 0, "the mailbox keeps memory");
+        same(&rt, &ample.out(), &0);
         Ok(served)
     })?;
     // The list of its items.
@@ -110,7 +111,7 @@ fn is_done<'r, R: Abort + Threads + Wait + Sync>(
     if answer == Err(WorkFault::NoMemory) {
         return Ok(false);
     }
-    assert_eq!(rt; answer, Ok(ALL_DONE));
+    same(rt, &answer, &Ok(ALL_DONE));
     Ok(true)
 }
 
@@ -143,7 +144,7 @@ fn each_growth_of_two_workers_refused(rt: HostRuntime) -> Result<(), Fail> {
         let ample = Rations::new(rt.alloc(), Refuse::Never);
         let served = two_are_served(&rt, alloc, &ample)?;
         assert!(&rt; two_are_served(&rt, &ample, &ample)?);
-        assert_eq!(&rt; ample.out(), 0, "the mailbox keeps memory");
+        same(&rt, &ample.out(), &0);
         Ok(served)
     })?;
     // Three lists for each kind of worker, the producer's items, and the consumer's lanes with one list of notes.
@@ -207,7 +208,7 @@ fn a_refused_call_is_made_again(rt: HostRuntime) -> Result<(), Fail> {
     let refused = growths_refused(&rt, |alloc| {
         let ample = Rations::new(rt.alloc(), Refuse::Never);
         let served = second_call_is_done(&rt, alloc, &ample)?;
-        assert_eq!(&rt; ample.out(), 0, "the mailbox keeps memory");
+        same(&rt, &ample.out(), &0);
         Ok(served)
     })?;
     // As before, with a list of notes for one lane more.
@@ -217,13 +218,13 @@ fn a_refused_call_is_made_again(rt: HostRuntime) -> Result<(), Fail> {
 
 /// Both lanes have their items and have ended, and each consumer was told of each item, whoever took it.
 fn tells_of_four(rt: &impl Abort, report: &Report<Alloc<'_>>) {
-    assert_eq!(rt; (report.lanes.len(), report.diaries.len()), (2, 4));
+    same(rt, &(report.lanes.len(), report.diaries.len()), &(2, 4));
     let lists: [&[u64]; 2] = [&[1, 2], &[3, 4]];
     for (lane, list) in report.lanes.iter().zip(lists) {
-        assert_eq!(rt; (lane.put.as_slice(), lane.ended), (list, true));
+        same(rt, &(lane.put.as_slice(), lane.ended), &(list, true));
     }
     for diary in &report.diaries {
-        assert_eq!(rt; (diary.notes.len(), diary.begun), (2, false));
+        same(rt, &(diary.notes.len(), diary.begun), &(2, false));
     }
 }
 
@@ -268,7 +269,7 @@ fn each_growth_of_four_workers_refused(rt: HostRuntime) -> Result<(), Fail> {
         let ample = Rations::new(rt.alloc(), Refuse::Never);
         let served = four_are_served(&rt, alloc, &ample)?;
         assert!(&rt; four_are_served(&rt, &ample, &ample)?);
-        assert_eq!(&rt; ample.out(), 0, "the mailbox keeps memory");
+        same(&rt, &ample.out(), &0);
         Ok(served)
     })?;
     // Three lists for each kind of worker, the items of each producer, and three lists for each consumer.

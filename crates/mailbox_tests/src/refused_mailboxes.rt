@@ -1,5 +1,6 @@
 //! Calls of a mailbox whose memory is refused: each growth in turn, and then the same call with memory.
 
+use crate::compare::same;
 use crate::trial::Trial;
 use crate::trials::{all_given, both_are_given, ends, new_trial, take_all};
 use mailbox_rations::{Rations, Refuse, growths_refused};
@@ -17,11 +18,11 @@ type Alloc<'r> = &'r Rations<Global>;
 
 /// The only item is put and taken.
 fn put_and_take(rt: &impl Abort, trial: &mut Trial<Alloc<'_>>) {
-    assert_eq!(rt; trial.put(0, 7), Some(Put::Linked));
-    assert_eq!(rt;
+    let told = (
+        trial.put(0, 7),
         trial.poll(0, 0, 100, &mut Zeros::default()),
-        Some(Poll::Took(7))
     );
+    same(rt, &told, &(Some(Put::Linked), Some(Poll::Took(7))));
 }
 
 /// The same, and the report tells it.
@@ -55,8 +56,7 @@ fn each_growth_of_new_refused(rt: HostRuntime) -> Result<(), Fail> {
     let ample = Rations::new(rt.alloc(), Refuse::Never);
     let refused = growths_refused(&rt, |alloc| new_is_served(&rt, alloc, &ample))?;
     // The lists of what is taken in, the words of the cells, and the zeros and the words of the claims.
-    assert!(rt; 5 <= refused);
-    assert_eq!(rt; ample.out(), 0);
+    same(&rt, &(5 <= refused, ample.out()), &(true, 0));
     Ok(())
 }
 
@@ -71,7 +71,7 @@ fn next_producer<'a>(
     let Err(fault) = trial.producer(alloc) else {
         return Ok(true);
     };
-    assert_eq!(rt; fault, HubFault::NoMemory);
+    same(rt, &fault, &HubFault::NoMemory);
     trial.producer(ample)?;
     Ok(false)
 }
@@ -86,7 +86,7 @@ fn next_consumer<'a>(
     let Err(fault) = trial.consumer(alloc) else {
         return Ok(true);
     };
-    assert_eq!(rt; fault, HubFault::NoMemory);
+    same(rt, &fault, &HubFault::NoMemory);
     trial.consumer(ample)?;
     Ok(false)
 }
@@ -99,7 +99,7 @@ fn only_producer<'a>(
     ample: Alloc<'a>,
 ) -> Result<bool, Fail> {
     let served = next_producer(rt, trial, alloc, ample)?;
-    assert_eq!(rt; trial.producer(ample), Err(HubFault::AllGiven));
+    same(rt, &trial.producer(ample), &Err(HubFault::AllGiven));
     trial.consumer(ample)?;
     Ok(served)
 }
@@ -113,7 +113,7 @@ fn only_consumer<'a>(
 ) -> Result<bool, Fail> {
     trial.producer(ample)?;
     let served = next_consumer(rt, trial, alloc, ample)?;
-    assert_eq!(rt; trial.consumer(ample), Err(HubFault::AllGiven));
+    same(rt, &trial.consumer(ample), &Err(HubFault::AllGiven));
     Ok(served)
 }
 
@@ -134,8 +134,7 @@ fn each_growth_of_a_producer_refused(rt: HostRuntime) -> Result<(), Fail> {
     let ample = Rations::new(rt.alloc(), Refuse::Never);
     let refused = growths_refused(&rt, |alloc| producer_is_served(&rt, alloc, &ample))?;
     // The list of its items.
-    assert!(rt; 1 <= refused);
-    assert_eq!(rt; ample.out(), 0);
+    same(&rt, &(1 <= refused, ample.out()), &(true, 0));
     Ok(())
 }
 
@@ -156,8 +155,7 @@ fn each_growth_of_a_consumer_refused(rt: HostRuntime) -> Result<(), Fail> {
     let ample = Rations::new(rt.alloc(), Refuse::Never);
     let refused = growths_refused(&rt, |alloc| consumer_is_served(&rt, alloc, &ample))?;
     // The list of the lanes, and of the notes of each.
-    assert!(rt; 2 <= refused);
-    assert_eq!(rt; ample.out(), 0);
+    same(&rt, &(2 <= refused, ample.out()), &(true, 0));
     Ok(())
 }
 
@@ -187,12 +185,13 @@ fn take_lose_and_begin(rt: &impl Abort, trial: &mut Trial<Alloc<'_>>) {
         trial.poll(1, 0, 100, &mut Zeros::default()),
         trial.poll(1, 1, 2, &mut Zeros::default()),
     );
-    assert_eq!(rt;
-        (puts, polls),
-        (
+    same(
+        rt,
+        &(puts, polls),
+        &(
             (Some(Put::Linked), Some(Put::Linked), Some(Finish::Ended)),
             (Some(Poll::Took(5)), Some(Poll::Lost(0)), Some(Poll::Spent)),
-        )
+        ),
     );
 }
 
@@ -228,7 +227,7 @@ fn gather_twice<'a>(
     match trial.gather(alloc) {
         Ok(report) => Ok((report, true)),
         Err((fault, trial)) => {
-            assert_eq!(rt; fault, GatherFault::NoMemory);
+            same(rt, &fault, &GatherFault::NoMemory);
             let Ok(report) = trial.gather(ample) else {
                 return Err(Fail::new("no report"));
             };
@@ -253,7 +252,6 @@ fn each_growth_of_gather_refused(rt: HostRuntime) -> Result<(), Fail> {
         Ok(served)
     })?;
     // The lanes, the items of each and the item left; the diaries, and the notes of two.
-    assert!(rt; 7 <= refused);
-    assert_eq!(rt; ample.out(), 0);
+    same(&rt, &(7 <= refused, ample.out()), &(true, 0));
     Ok(())
 }

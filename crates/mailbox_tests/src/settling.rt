@@ -4,6 +4,7 @@ ghost use Rattle.mb_mailbox.specs.Consumers.{IsConsumerOf};
 ghost use Rattle.mb_mailbox.specs.Hubs.{IsHubOf};
 ghost use Rattle.mb_mailbox.specs.Producers.{IsProducerOf};
 
+use crate::compare::same;
 use crate::words::chacha;
 use mailbox_audit::{Tally, audit};
 use mb_claim::Shape;
@@ -97,7 +98,7 @@ fn put_all(rt: &impl Abort, mailbox: &Mailbox<Global>, producer: &mut Producer<G
     ensures { IsProducerOf mailbox.now producer.new }
 {
     for item in 0..ITEMS {
-        assert_eq!(rt; producer.put(mailbox, item), Put::Linked);
+        same(rt, &producer.put(mailbox, item), &Put::Linked);
     }
     producer.finish(mailbox);
 }
@@ -114,7 +115,7 @@ fn take_in(
     ensures { IsHubOf mailbox.now hub.new }
 {
     for settler in settlers {
-        assert_eq!(rt; (settler.settled, settler.ended), (256, 1));
+        same(rt, &(settler.settled, settler.ended), &(256, 1));
         hub.take_consumer(mailbox, settler.consumer);
     }
 }
@@ -166,7 +167,7 @@ fn are_all_taken<R: Abort + AllocGlobal + Threads + Sync>(rt: &R, seed: u64) -> 
         undecided: 0,
         under_way: 0,
     };
-    assert_eq!(rt; audit(&report, 1, CONSUMERS)?, all_taken);
+    same(rt, &audit(&report, 1, CONSUMERS)?, &all_taken);
     Ok(())
 }
 

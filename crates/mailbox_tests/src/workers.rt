@@ -1,5 +1,6 @@
 //! Workers: what `work` answers, and what is reported then.
 
+use crate::compare::same;
 use crate::trial::Trial;
 use crate::trials::{both_are_given, ends, new_trial};
 use mailbox_audit::audit;
@@ -75,7 +76,7 @@ fn two_are_taken<R: Abort + AllocGlobal + Threads + Wait + Sync>(
 ) -> Result<(), Fail> {
     let mut trial = new_trial(rt.alloc(), 1, 1, 2)?;
     let worked = works(rt, &mut trial, &[items], 5, 1, &OpenGate)?;
-    assert_eq!(rt; worked, Ok(Worked { full, stopped: 0 }));
+    same(rt, &worked, &Ok(Worked { full, stopped: 0 }));
     ends(
         rt.alloc(),
         trial,
@@ -95,7 +96,7 @@ fn a_worker_puts_and_another_takes(rt: HostRuntime) -> Result<(), Fail> {
 fn a_budget_of_0_is_refused(rt: HostRuntime) -> Result<(), Fail> {
     let mut trial = new_trial(rt.alloc(), 1, 1, 2)?;
     let worked = works(&rt, &mut trial, &[&[1, 2]], 0, 1, &OpenGate)?;
-    assert_eq!(rt; worked, Err(WorkFault::BadBudget));
+    same(&rt, &worked, &Err(WorkFault::BadBudget));
     // No number was given: both are left.
     both_are_given(&mut trial, rt.alloc())
 }
@@ -108,7 +109,7 @@ fn nobody_comes_through_a_closed_gate(rt: HostRuntime) -> Result<(), Fail> {
         full: 0,
         stopped: 2,
     };
-    assert_eq!(rt; worked, Ok(both));
+    same(&rt, &worked, &Ok(both));
     ends(
         rt.alloc(),
         trial,
@@ -127,7 +128,7 @@ fn come_to<R: Abort + AllocGlobal + Threads + Wait + Sync>(
     want: Result<Worked, WorkFault>,
 ) -> Result<(), Fail> {
     let worked = works(rt, trial, items, budget, consumers, &OpenGate)?;
-    assert_eq!(rt; worked, want);
+    same(rt, &worked, &want);
     Ok(())
 }
 
@@ -178,8 +179,8 @@ fn a_consumer_without_lanes_polls_none(rt: HostRuntime) -> Result<(), Fail> {
         calls: AtomicU64::new(0),
     };
     let worked = works(&rt, &mut trial, &[], 5, 1, &gate)?;
-    assert_eq!(rt; worked, Ok(ALL_DONE));
-    assert_eq!(rt; gate.calls.load(Ordering::SeqCst), 0);
+    same(&rt, &worked, &Ok(ALL_DONE));
+    same(&rt, &gate.calls.load(Ordering::SeqCst), &0);
     ends(
         rt.alloc(),
         trial,
@@ -211,18 +212,18 @@ fn four_and_four<R: Abort + AllocGlobal + Threads + Wait + Sync>(
         items[3].as_slice(),
     ];
     let worked = works(rt, &mut trial, &items, 3, 4, &OpenGate)?;
-    assert_eq!(rt; worked, Ok(ALL_DONE));
+    same(rt, &worked, &Ok(ALL_DONE));
     trial.gather(rt.alloc()).map_err(|_| Fail::new("no report"))
 }
 
 /// Each lane has the items of its producer in order, and each diary has notes on all of them.
 fn tells_of_all(rt: &impl Abort, report: &Report<Global>) {
-    assert_eq!(rt; (report.lanes.len(), report.diaries.len()), (4, 16));
+    same(rt, &(report.lanes.len(), report.diaries.len()), &(4, 16));
     for (lane, first) in report.lanes.iter().zip([0u64, 100, 200, 300]) {
-        assert_eq!(rt; lane.put.as_slice(), sixteen_from(first).as_slice());
+        same(rt, &lane.put.as_slice(), &sixteen_from(first).as_slice());
     }
     for diary in &report.diaries {
-        assert_eq!(rt; (diary.notes.len(), diary.begun), (16, false));
+        same(rt, &(diary.notes.len(), diary.begun), &(16, false));
     }
 }
 
@@ -232,6 +233,6 @@ fn four_producers_and_four_consumers_share_64_cells(rt: HostRuntime) -> Result<(
     tells_of_all(&rt, &report);
     // Among others: no item has two who took it.
     let tally = audit(&report, 4, 4)?;
-    assert_eq!(rt; tally.put, 64);
+    same(&rt, &tally.put, &64);
     Ok(())
 }

@@ -1,5 +1,6 @@
 //! Short words for events and their answers.
 
+use crate::compare::same;
 use mb_cells::{Look, Offer, Push};
 use mb_claim::Stage;
 use mb_deciding::{Act, Reg};
@@ -83,6 +84,6 @@ pub(crate) fn make<A: Allocator + Drop>(
     events: &[(Event, Answer)],
 ) {
     for (event, answer) in events {
-        assert_eq!(rt; world.apply(*event), *answer);
+        same(rt, &world.apply(*event), answer);
     }
 }

@@ -4,6 +4,7 @@ ghost use Rattle.mb_cells.specs.Vocabulary.{Call, Finished, HasMade, Offered, Pu
 ghost use Rattle.mb_cells.specs.declared.size.PoolSize.{PoolSize};
 ghost use Rattle.mb_cells.specs.Vocabulary.{lane_count};
 
+use crate::compare::same;
 use crate::pools::PoolCall::{
     Finish as Ends, Item, Look as Looks, Offer as Offers, Push as Pushes,
 };
@@ -72,9 +73,10 @@ fn put_and_end<A: Allocator + Drop>(
 fn calls_join_a_list(rt: HostRuntime) -> Result<(), Fail> {
     let mut pool = Pool::new(rt.alloc(), 1, 1)?;
     let (offered, stored, linked, ended) = put_and_end(&mut pool, 0, 8);
-    assert_eq!(rt;
-        (offered, stored, linked, ended),
-        (Offer::Cell(0), Push::Item(0), Push::Link(0), Finish::Ended,)
+    same(
+        &rt,
+        &(offered, stored, linked, ended),
+        &(Offer::Cell(0), Push::Item(0), Push::Link(0), Finish::Ended),
     );
     Ok(())
 }

@@ -1,8 +1,10 @@
 //! Claims of consumers on one cell: worked examples.
 
+use crate::compare::{same, same_at};
 use mb_claim::{BadLayout, Claim, ClaimEntry, Layout, PlayFault, Stage, play};
 use mb_deciding::{Act, Op, Reg};
 use mb_quorum::TableName;
+use std::alloc::Allocator;
 use std::process::Abort;
 use std::test::Fail;
 
@@ -40,6 +42,32 @@ pub(crate) const WON_AND_LOST: [(u64, u64); 12] = [
     (0, 0),
 ];
 
+/// Claims on one cell that make these steps have these stages, and these entries from this place on. Whether the allocator
+/// serves their run.
+pub(crate) fn is_played<A: Allocator + Copy + Drop>(
+    rt: &impl Abort,
+    alloc: A,
+    layout: &Layout,
+    steps: &[(u64, u64)],
+    entries: (usize, &[ClaimEntry]),
+    stages: &[Stage],
+) -> bool {
+    match play(alloc, layout, steps) {
+        Ok(run) => {
+            let told = (
+                run.entries.as_slice().get(entries.0..),
+                run.stages.as_slice(),
+            );
+            same(rt, &told, &(Some(entries.1), stages));
+            true
+        }
+        Err(fault) => {
+            same(rt, &fault, &PlayFault::NoMemory);
+            false
+        }
+    }
+}
+
 /// What these steps make of two consumers and one pair over the bit table.
 pub(crate) fn won_and_lost() -> [ClaimEntry; 12] {
     [
@@ -69,7 +97,7 @@ fn layouts_out_of_range(rt: HostRuntime) {
         (16, 9, TableName::Bits, pairs),
         (64, 9, TableName::Middle, pairs),
     ] {
-        assert_eq!(rt; Layout::new(c, k, name), Err(want), "{c} {k}");
+        same_at(&rt, &Layout::new(c, k, name), &Err(want), &(c, k));
     }
 }
 
@@ -82,28 +110,27 @@ fn two_consumers_and_three_pairs(rt: HostRuntime) -> Result<(), Fail> {
     let address = layout.address(2, 3, Reg::Quorum(1));
     // Three pairs, each a conciliator of 2 + 3 accesses at most and a ratifier of 1 + 2 + 1.
     let most = layout.max_steps();
-    assert_eq!(rt;
-        (layout.consumers(), words, address, most),
-        (2, (12, 24), 31, 27)
+    same(
+        &rt,
+        &(layout.consumers(), words, address, most),
+        &(2, (12, 24), 31, 27),
     );
     Ok(())
 }
 
 #[test]
-fn most_accesses_of_sixteen_consumers(rt: HostRuntime) -> Result<(), Fail> {
-    // Eight pairs, each a conciliator of 5 + 3 accesses at most and a ratifier of 4 + 2 + 4, or over the unary table 1 + 2 + 15.
-    assert_eq!(rt; Layout::new(16, 8, TableName::Bits)?.max_steps(), 144);
-    assert_eq!(rt; Layout::new(16, 8, TableName::Unary)?.max_steps(), 208);
-    Ok(())
-}
-
-#[test]
-fn most_accesses_of_sixty_four_consumers(rt: HostRuntime) -> Result<(), Fail> {
-    // Eight pairs, each a conciliator of 7 + 3 accesses at most and a ratifier of 6 + 2 + 6, 1 + 2 + 63 or 4 + 2 + 4.
-    let bits = Layout::new(64, 8, TableName::Bits)?.max_steps();
-    let unary = Layout::new(64, 8, TableName::Unary)?.max_steps();
-    let middle = Layout::new(64, 8, TableName::Middle)?.max_steps();
-    assert_eq!(rt; (bits, unary, middle), (192, 608, 160));
+fn most_accesses_of_eight_pairs(rt: HostRuntime) -> Result<(), Fail> {
+    for (consumers, name, most) in [
+        // Each pair is a conciliator of 5 + 3 accesses at most and a ratifier of 4 + 2 + 4, or over the unary table 1 + 2 + 15.
+        (16, TableName::Bits, 144),
+        (16, TableName::Unary, 208),
+        // A conciliator of 7 + 3 accesses at most and a ratifier of 6 + 2 + 6, 1 + 2 + 63 or 4 + 2 + 4.
+        (64, TableName::Bits, 192),
+        (64, TableName::Unary, 608),
+        (64, TableName::Middle, 160),
+    ] {
+        same(&rt, &Layout::new(consumers, 8, name)?.max_steps(), &most);
+    }
     Ok(())
 }
 
@@ -113,12 +140,13 @@ fn first_access_of_a_claim(rt: HostRuntime) -> Result<(), Fail> {
     let mut claim = Claim::new(&layout, 1);
     let before = (claim.begun(), claim.next(&layout).op);
     let after = (claim.after(&layout, 0, 0), claim.begun(), claim.stage());
-    assert_eq!(rt;
-        (before, after),
-        (
+    same(
+        &rt,
+        &(before, after),
+        &(
             (false, Op::Load(Reg::Value)),
             (Stage::Going, true, Stage::Going),
-        )
+        ),
     );
     Ok(())
 }
@@ -126,23 +154,34 @@ fn first_access_of_a_claim(rt: HostRuntime) -> Result<(), Fail> {
 #[test]
 fn one_wins_and_the_other_loses(rt: HostRuntime) -> Result<(), Fail> {
     let layout = Layout::new(2, 1, TableName::Bits)?;
-    let run = play(rt.alloc(), &layout, &WON_AND_LOST)?;
-    assert_eq!(rt; run.entries.as_slice(), won_and_lost().as_slice());
-    assert_eq!(rt;
-        run.stages.as_slice(),
-        [Stage::Won, Stage::Lost(0)].as_slice()
+    let (entries, stages) = (won_and_lost(), [Stage::Won, Stage::Lost(0)]);
+    assert!(rt;
+        is_played(
+            &rt,
+            rt.alloc(),
+            &layout,
+            &WON_AND_LOST,
+            (0, &entries),
+            &stages
+        )
     );
     Ok(())
 }
 
+// After the fourteen steps nobody makes an access.
 #[test]
 fn both_stay_undecided(rt: HostRuntime) -> Result<(), Fail> {
     let layout = Layout::new(2, 1, TableName::Bits)?;
     let steps = [0, 1, 0, 0, 1, 1, 0, 1, 0, 1, 0, 0, 1, 1].map(|consumer| (consumer, 0));
-    let run = play(rt.alloc(), &layout, &steps)?;
-    assert_eq!(rt;
-        run.stages.as_slice(),
-        [Stage::Undecided, Stage::Undecided].as_slice()
+    assert!(rt;
+        is_played(
+            &rt,
+            rt.alloc(),
+            &layout,
+            &steps,
+            (14, &[]),
+            &[Stage::Undecided; 2]
+        )
     );
     Ok(())
 }
@@ -150,11 +189,8 @@ fn both_stay_undecided(rt: HostRuntime) -> Result<(), Fail> {
 #[test]
 fn the_first_random_word_does_not_store(rt: HostRuntime) -> Result<(), Fail> {
     let layout = Layout::new(1, 1, TableName::Bits)?;
-    let run = play(
-        rt.alloc(),
-        &layout,
-        &[(0, 1), (0, 0), (0, 0), (0, 0), (0, 0), (0, 0), (0, 0)],
-    )?;
+    same(&rt, &layout.max_steps(), &6);
+    let steps = [(0, 1), (0, 0), (0, 0), (0, 0), (0, 0), (0, 0), (0, 0)];
     let entries = [
         loaded(0, 0, Reg::Value, 0),
         loaded(0, 0, Reg::Value, 0),
@@ -164,26 +200,25 @@ fn the_first_random_word_does_not_store(rt: HostRuntime) -> Result<(), Fail> {
         stored(0, 1, Reg::Proposal, 1),
         ClaimEntry::Done { consumer: 0 },
     ];
-    let told = (
-        run.entries.as_slice(),
-        run.stages.as_slice(),
-        layout.max_steps(),
+    assert!(rt;
+        is_played(
+            &rt,
+            rt.alloc(),
+            &layout,
+            &steps,
+            (0, &entries),
+            &[Stage::Won]
+        )
     );
-    assert_eq!(rt; told, (entries.as_slice(), [Stage::Won].as_slice(), 6));
     Ok(())
 }
 
 #[test]
 fn a_step_of_no_consumer(rt: HostRuntime) -> Result<(), Fail> {
     let layout = Layout::new(2, 1, TableName::Bits)?;
-    let steps = [(0, 0), (1, 0), (2, 0), (3, 0)];
-    match play(rt.alloc(), &layout, &steps) {
-        Ok(_) => Err(Fail::new("it is not refused")),
-        Err(fault) => {
-            assert_eq!(rt; fault, PlayFault::NoConsumer(2));
-            Ok(())
-        }
-    }
+    let fault = play(rt.alloc(), &layout, &[(0, 0), (1, 0), (2, 0), (3, 0)]).err();
+    same(&rt, &fault, &Some(PlayFault::NoConsumer(2)));
+    Ok(())
 }
 
 /// So many steps: more than a run of all claims takes, so that most of them are `Done`.
@@ -204,7 +239,7 @@ fn are_done_from(rt: &impl Abort, entries: &[ClaimEntry], first: usize) {
         let done = ClaimEntry::Done {
             consumer: (place % 16) as u32,
         };
-        assert_eq!(rt; *entry == done, first <= place);
+        same(rt, &(*entry == done), &(first <= place));
     }
 }
 
@@ -212,11 +247,14 @@ fn are_done_from(rt: &impl Abort, entries: &[ClaimEntry], first: usize) {
 fn two_thousand_steps_of_sixteen_consumers(rt: HostRuntime) -> Result<(), Fail> {
     let layout = Layout::new(16, 8, TableName::Bits)?;
     let run = play(rt.alloc(), &layout, &steps_in_order())?;
-    assert_eq!(rt; run.entries.len(), STEPS);
     // All find the conciliator's word empty, and the last to store there wins.
     let mut stages = [Stage::Lost(15); 16];
     stages[15] = Stage::Won;
-    assert_eq!(rt; run.stages.as_slice(), stages.as_slice());
+    same(
+        &rt,
+        &(run.entries.len(), run.stages.as_slice()),
+        &(STEPS, stages.as_slice()),
+    );
     // Each makes 3 accesses to the conciliator, and 4 + 1 + 1 + 4 to the ratifier.
     are_done_from(&rt, run.entries.as_slice(), 16 * 13);
     Ok(())

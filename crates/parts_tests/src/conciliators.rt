@@ -1,32 +1,24 @@
 //! Schedules of one conciliator.
 
+use crate::compare::same;
 use crate::entries::{are_done_from, ending, last_turn, loaded, shows, stored};
 use mb_deciding::{Entry, Fault, Out, Reg, conciliate};
 use std::test::Fail;
 
 #[test]
-fn last_turn_stores(rt: HostRuntime) -> Result<(), Fail> {
-    let answer = conciliate(
-        rt.alloc(),
-        2,
-        &[0],
-        &[(0, 3), (0, 3), (0, 3), (0, 3), (0, 3)],
-    );
-    shows(&rt, answer, &last_turn(), &[Some(Out::undecided(0))])?;
-
-    // The random words of the store and of the load after it count for nothing.
-    let other = conciliate(
-        rt.alloc(),
-        2,
-        &[0],
-        &[(0, 3), (0, 7), (0, 3), (0, 0), (0, u64::MAX)],
-    );
-    shows(&rt, other, &last_turn(), &[Some(Out::undecided(0))])?;
-    Ok(())
+fn last_turn_stores(rt: HostRuntime) {
+    for turns in [
+        [(0, 3), (0, 3), (0, 3), (0, 3), (0, 3)],
+        // The random words of the store and of the load after it count for nothing.
+        [(0, 3), (0, 7), (0, 3), (0, 0), (0, u64::MAX)],
+    ] {
+        let returned = conciliate(rt.alloc(), 2, &[0], &turns);
+        assert!(rt; shows(&rt, returned, &last_turn(), &[Some(Out::undecided(0))]));
+    }
 }
 
 #[test]
-fn two_stores_leave_two_values(rt: HostRuntime) -> Result<(), Fail> {
+fn two_stores_leave_two_values(rt: HostRuntime) {
     let entries = [
         loaded(0, Reg::Value, 0),
         loaded(1, Reg::Value, 0),
@@ -35,23 +27,14 @@ fn two_stores_leave_two_values(rt: HostRuntime) -> Result<(), Fail> {
         stored(1, Reg::Value, 2),
         ending(loaded(1, Reg::Value, 2), Out::undecided(1)),
     ];
-    let answer = conciliate(
-        rt.alloc(),
-        2,
-        &[0, 1],
-        &[(0, 0), (1, 0), (0, 0), (0, 0), (1, 0), (1, 0)],
-    );
-    shows(
-        &rt,
-        answer,
-        &entries,
-        &[Some(Out::undecided(0)), Some(Out::undecided(1))],
-    )?;
-    Ok(())
+    let turns = [(0, 0), (1, 0), (0, 0), (0, 0), (1, 0), (1, 0)];
+    let returned = conciliate(rt.alloc(), 2, &[0, 1], &turns);
+    let outputs = [Some(Out::undecided(0)), Some(Out::undecided(1))];
+    assert!(rt; shows(&rt, returned, &entries, &outputs));
 }
 
 #[test]
-fn one_value(rt: HostRuntime) -> Result<(), Fail> {
+fn one_value(rt: HostRuntime) {
     let entries = [
         loaded(0, Reg::Value, 0),
         loaded(0, Reg::Value, 0),
@@ -59,16 +42,10 @@ fn one_value(rt: HostRuntime) -> Result<(), Fail> {
         ending(loaded(0, Reg::Value, 1), Out::undecided(0)),
         Entry::Done { process: 0 },
     ];
-    let odd = conciliate(
-        rt.alloc(),
-        1,
-        &[0],
-        &[(0, 1), (0, 1), (0, 1), (0, 1), (0, 1)],
-    );
-    shows(&rt, odd, &entries, &[Some(Out::undecided(0))])?;
-    let even = conciliate(rt.alloc(), 1, &[0], &[(0, 0), (0, 0), (0, 0)]);
-    shows(&rt, even, &entries[1..4], &[Some(Out::undecided(0))])?;
-    Ok(())
+    let odd = conciliate(rt.alloc(), 1, &[0], &[(0, 1); 5]);
+    assert!(rt; shows(&rt, odd, &entries, &[Some(Out::undecided(0))]));
+    let even = conciliate(rt.alloc(), 1, &[0], &[(0, 0); 3]);
+    assert!(rt; shows(&rt, even, &entries[1..4], &[Some(Out::undecided(0))]));
 }
 
 #[test]
@@ -80,14 +57,13 @@ fn first_reason_refuses(rt: HostRuntime) {
         (2, &[0, 2], &[], Fault::BadInput(1)),
         (2, &[0], &[(1, 0)], Fault::NoSuchProcess(0)),
     ] {
-        assert_eq!(rt; conciliate(a, m, inputs, turns).err(), Some(want));
+        same(&rt, &conciliate(a, m, inputs, turns).err(), &Some(want));
     }
 }
 
 #[test]
-fn nobody_makes_no_turn(rt: HostRuntime) -> Result<(), Fail> {
-    shows(&rt, conciliate(rt.alloc(), 17, &[], &[]), &[], &[])?;
-    Ok(())
+fn nobody_makes_no_turn(rt: HostRuntime) {
+    assert!(rt; shows(&rt, conciliate(rt.alloc(), 17, &[], &[]), &[], &[]));
 }
 
 /// So many turns: more than all processes take to their outputs, so that most of them are `Done`.
@@ -106,11 +82,12 @@ fn turns_in_order() -> [(u64, u64); TURNS] {
 fn two_thousand_turns_of_sixteen_processes(rt: HostRuntime) -> Result<(), Fail> {
     let inputs = [0, 1, 2, 3, 4, 5, 6, 7, 8, 9, 10, 11, 12, 13, 14, 15];
     let trace = conciliate(rt.alloc(), 16, &inputs, &turns_in_order())?;
-    assert_eq!(rt; trace.entries.len(), TURNS);
     // All find the word empty and store, and then all find what the last one stored.
-    assert_eq!(rt;
-        trace.outputs.as_slice(),
-        [Some(Out::undecided(15)); 16].as_slice()
+    let outputs = [Some(Out::undecided(15)); 16];
+    same(
+        &rt,
+        &(trace.entries.len(), trace.outputs.as_slice()),
+        &(TURNS, outputs.as_slice()),
     );
     are_done_from(&rt, trace.entries.as_slice(), 48);
     Ok(())

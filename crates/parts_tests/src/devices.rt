@@ -1,5 +1,6 @@
 //! Readers and writers that fail once and would work if they were asked again.
 
+use crate::compare::same_at;
 use mb_script::{Counting, ReadEnd, WriteFailed, read_all, write_all};
 use std::io;
 use std::io::{Read, Write};
@@ -63,7 +64,7 @@ fn reads_five<R: Abort + AllocGlobal>(
         Err(fault) => want == Err(fault),
     };
     let told = (same, reader.failures, reader.device.calls);
-    assert_eq!(rt; told, (true, failures, calls), "call {bad}");
+    same_at(rt, &told, &(true, failures, calls), &bad);
 }
 
 #[test]
@@ -90,7 +91,7 @@ fn writes_five<R: Abort + AllocGlobal>(
     });
     let answer = write_all(&mut writer, b"abcde");
     let told = (answer, writer.device.device.as_slice(), writer.failures);
-    assert_eq!(rt; told, (want, written, failures), "{bad}");
+    same_at(rt, &told, &(want, written, failures), &bad);
 }
 
 #[test]

@@ -1,7 +1,8 @@
 //! Short words for the entries of a trace, and the traces that several tests expect.
 
+use crate::compare::same;
 use mb_deciding::{Act, Entry, Fault, Out, Reg, Trace};
-use std::alloc::Global;
+use std::alloc::Allocator;
 use std::process::Abort;
 
 /// A load of a process.
@@ -58,17 +59,24 @@ pub(crate) fn last_turn() -> [Entry; 5] {
     ]
 }
 
-/// The call answers a trace with these entries and outputs.
-pub(crate) fn shows(
+/// A call returned a trace with these entries and outputs, or that it is out of memory. Whether it is a trace.
+pub(crate) fn shows<A: Allocator + Drop>(
     rt: &impl Abort,
-    answer: Result<Trace<Global>, Fault>,
+    returned: Result<Trace<A>, Fault>,
     entries: &[Entry],
     outputs: &[Option<Out>],
-) -> Result<(), Fault> {
-    let trace = answer?;
-    assert_eq!(rt; trace.entries.as_slice(), entries);
-    assert_eq!(rt; trace.outputs.as_slice(), outputs);
-    Ok(())
+) -> bool {
+    match returned {
+        Ok(trace) => {
+            let told = (trace.entries.as_slice(), trace.outputs.as_slice());
+            same(rt, &told, &(entries, outputs));
+            true
+        }
+        Err(fault) => {
+            same(rt, &fault, &Fault::NoMemory);
+            false
+        }
+    }
 }
 
 /// Of turns that sixteen processes have in order, those from `first` on are of processes that had their output before.
@@ -77,6 +85,6 @@ pub(crate) fn are_done_from(rt: &impl Abort, entries: &[Entry], first: usize) {
         let done = Entry::Done {
             process: place % 16,
         };
-        assert_eq!(rt; *entry == done, first <= place);
+        same(rt, &(*entry == done), &(first <= place));
     }
 }

@@ -1,6 +1,7 @@
 //! A last object alone: two processes, each with its only access.
 ghost use Rattle.std.specs.Prelude.{⊤};
 
+use crate::compare::same;
 use mb_deciding::{Memory, Next, Op, Out, Pc, Reg};
 use mb_quorum::{Bits, Quorums};
 use std::test::Fail;
@@ -61,13 +62,14 @@ fn the_second_finds_the_value_of_the_first(rt: HostRuntime) -> Result<(), Fail> 
         let out = Out::decided(first);
         let stored = u64::from(first) + 1;
         let sought = u64::from(second) + 1;
-        assert_eq!(rt;
-            (made, found, word.held),
-            (
+        same(
+            &rt,
+            &(made, found, word.held),
+            &(
                 Some((Op::Exchange(Reg::Last, stored), out)),
                 Some((Op::Exchange(Reg::Last, sought), out)),
                 stored,
-            )
+            ),
         );
     }
     Ok(())
@@ -78,9 +80,10 @@ fn steps_give_the_same(rt: HostRuntime) -> Result<(), Fail> {
     let q = Bits::new(2)?;
     let mut word = Word { held: 0 };
     let outputs = (at_once(&q, &mut word, 1), at_once(&q, &mut word, 0));
-    assert_eq!(rt;
-        (outputs, word.held),
-        ((Some(Out::decided(1)), Some(Out::decided(1))), 2)
+    same(
+        &rt,
+        &(outputs, word.held),
+        &((Some(Out::decided(1)), Some(Out::decided(1))), 2),
     );
     Ok(())
 }

@@ -10,6 +10,8 @@ mod cells;
 #[cfg(test)]
 mod claims;
 #[cfg(test)]
+mod compare;
+#[cfg(test)]
 mod conciliators;
 #[cfg(test)]
 mod devices;

@@ -1,5 +1,6 @@
 //! A ratifier over a quorum table of one's own.
 
+use crate::compare::same;
 use crate::mirrored::Mirrored;
 use mb_deciding::{Next, Op, Out, Pc, Reg};
 use mb_quorum::Quorums;
@@ -58,7 +59,7 @@ impl Process {
 fn makes(rt: &impl Abort, q: Mirrored, input: u32, accesses: &[(Op, u64, Option<Out>)]) {
     let mut process = Process::new(q, input);
     for (op, seen, out) in accesses {
-        assert_eq!(rt; process.access(*seen), Some((*op, *out)));
+        same(rt, &process.access(*seen), &Some((*op, *out)));
     }
 }
 

@@ -1,12 +1,13 @@
 //! Calls whose memory is refused: each growth in turn, and at last the same call with memory.
 
 use crate::answers::make;
-use crate::claims::{WON_AND_LOST, won_and_lost};
-use crate::entries::{last_turn, late_input};
+use crate::claims::{WON_AND_LOST, is_played, won_and_lost};
+use crate::compare::same;
+use crate::entries::{last_turn, late_input, shows};
 use crate::events::take_seven;
 use mailbox_rations::{Rations, Refuse, growths_refused};
-use mb_claim::{Layout, PlayFault, Stage, play};
-use mb_deciding::{Fault, conciliate, ratify};
+use mb_claim::{Layout, Stage};
+use mb_deciding::{Out, conciliate, ratify};
 use mb_quorum::TableName;
 use mb_world::{Note, Report, Setup, World};
 use std::alloc::Global;
@@ -16,19 +17,11 @@ use test_tools::{Difference, tells};
 
 #[test]
 fn each_growth_of_ratify_refused(rt: HostRuntime) -> Result<(), Fail> {
-    let refused = growths_refused(
-        &rt,
-        |alloc| match ratify(alloc, TableName::Unary, 2, &[0, 1], &[0, 0, 0, 0, 1, 1, 1]) {
-            Ok(trace) => {
-                assert_eq!(rt; trace.entries.as_slice(), late_input().as_slice());
-                Ok(true)
-            }
-            Err(fault) => {
-                assert_eq!(rt; fault, Fault::NoMemory);
-                Ok(false)
-            }
-        },
-    )?;
+    let outputs = [Some(Out::decided(0)), Some(Out::undecided(0))];
+    let refused = growths_refused(&rt, |alloc| {
+        let returned = ratify(alloc, TableName::Unary, 2, &[0, 1], &[0, 0, 0, 0, 1, 1, 1]);
+        Ok(shows(&rt, returned, &late_input(), &outputs))
+    })?;
     // The processes, the entries and the outputs.
     assert!(rt; 3 <= refused);
     Ok(())
@@ -36,19 +29,10 @@ fn each_growth_of_ratify_refused(rt: HostRuntime) -> Result<(), Fail> {
 
 #[test]
 fn each_growth_of_conciliate_refused(rt: HostRuntime) -> Result<(), Fail> {
-    let refused = growths_refused(
-        &rt,
-        |alloc| match conciliate(alloc, 2, &[0], &[(0, 3), (0, 3), (0, 3), (0, 3), (0, 3)]) {
-            Ok(trace) => {
-                assert_eq!(rt; trace.entries.as_slice(), last_turn().as_slice());
-                Ok(true)
-            }
-            Err(fault) => {
-                assert_eq!(rt; fault, Fault::NoMemory);
-                Ok(false)
-            }
-        },
-    )?;
+    let refused = growths_refused(&rt, |alloc| {
+        let returned = conciliate(alloc, 2, &[0], &[(0, 3); 5]);
+        Ok(shows(&rt, returned, &last_turn(), &[Some(Out::undecided(0))]))
+    })?;
     // The processes, the entries and the outputs.
     assert!(rt; 3 <= refused);
     Ok(())
@@ -57,19 +41,9 @@ fn each_growth_of_conciliate_refused(rt: HostRuntime) -> Result<(), Fail> {
 #[test]
 fn each_growth_of_play_refused(rt: HostRuntime) -> Result<(), Fail> {
     let layout = Layout::new(2, 1, TableName::Bits)?;
-    let refused = growths_refused(&rt, |alloc| match play(alloc, &layout, &WON_AND_LOST) {
-        Ok(run) => {
-            assert_eq!(rt; run.entries.as_slice(), won_and_lost().as_slice());
-            assert_eq!(rt;
-                run.stages.as_slice(),
-                [Stage::Won, Stage::Lost(0)].as_slice()
-            );
-            Ok(true)
-        }
-        Err(fault) => {
-            assert_eq!(rt; fault, PlayFault::NoMemory);
-            Ok(false)
-        }
+    let (entries, stages) = (won_and_lost(), [Stage::Won, Stage::Lost(0)]);
+    let refused = growths_refused(&rt, |alloc| {
+        Ok(is_played(&rt, alloc, &layout, &WON_AND_LOST, (0, &entries), &stages))
     })?;
     // The words, the claims, the entries and the stages.
     assert!(rt; 4 <= refused);
@@ -119,6 +93,6 @@ fn each_growth_of_a_world_and_its_report_refused(rt: HostRuntime) -> Result<(), 
     // The four lists of the pool, the words of the claims, the seats and the notes; then the lane and its item, the diary
     // and its note, and the cells of the lane that is read.
     assert!(rt; 12 <= refused);
-    assert_eq!(rt; ample.out(), 0);
+    same(&rt, &ample.out(), &0);
     Ok(())
 }

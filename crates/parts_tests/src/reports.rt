@@ -1,6 +1,7 @@
 //! What `tells` finds in a report.
 
 use crate::answers::make;
+use crate::compare::same;
 use crate::events::take_seven;
 use crate::worlds::one_pair;
 use mb_world::{Note, Report};
@@ -17,7 +18,7 @@ fn is_found(
     diary: DiaryTold<'_>,
     found: Result<(), Difference>,
 ) {
-    assert_eq!(rt; tells(report, &[lane], &[diary]), found);
+    same(rt, &tells(report, &[lane], &[diary]), &found);
 }
 
 /// Each difference from a report that tells of one item, which the only consumer took.
@@ -38,8 +39,8 @@ fn are_found(rt: &impl Abort, report: &Report<Global>) {
     for (lane, diary, difference) in others {
         is_found(rt, report, lane, diary, Err(difference));
     }
-    assert_eq!(rt; tells(report, &[], &[]), Err(Difference::Lanes));
-    assert_eq!(rt; tells(report, &[lane], &[]), Err(Difference::Diaries));
+    same(rt, &tells(report, &[], &[]), &Err(Difference::Lanes));
+    same(rt, &tells(report, &[lane], &[]), &Err(Difference::Diaries));
 }
 
 #[test]

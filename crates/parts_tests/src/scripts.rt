@@ -1,5 +1,6 @@
 //! Replay scripts: what is read, and the first fault of what is not.
 
+use crate::compare::{same, same_at};
 use crate::shapes::{BOTH, FAST, LAST};
 use mailbox_rations::growths_refused;
 use mb_claim::Shape;
@@ -9,7 +10,8 @@ use mb_script::{
     split_word, table_named,
 };
 use mb_world::{Event, SetupFault};
-use std::alloc::Global;
+use std::alloc::{Allocator, Global};
+use std::process::Abort;
 use std::test::Fail;
 
 /// The script of a text.
@@ -21,7 +23,7 @@ fn script(alloc: Global, text: &str) -> Result<Script<Global>, Fail> {
 }
 
 /// How many events the script of a text has, or its fault.
-fn events(alloc: Global, text: &str) -> Result<usize, Fault> {
+fn events<A: Allocator + Clone + Drop>(alloc: A, text: &str) -> Result<usize, Fault> {
     let script = parse(alloc, text.as_bytes())?;
     Ok(script.events.len())
 }
@@ -33,7 +35,7 @@ fn a_script_is_read(rt: HostRuntime) -> Result<(), Fail> {
     let setup = &script.setup;
     let sizes = (setup.producers(), setup.consumers(), setup.cells());
     // Three consumers: a conciliator has at most 6 accesses, a ratifier 1 + 2 + 2.
-    assert_eq!(rt; (sizes, setup.layout().max_steps()), ((2, 3, 4), 55));
+    same(&rt, &(sizes, setup.layout().max_steps()), &((2, 3, 4), 55));
     let events = [
         Event::Offer {
             lane: 1,
@@ -61,10 +63,11 @@ fn the_last_word_is_a_shape(rt: HostRuntime) -> Result<(), Fail> {
         ("setup 1 2 1 1 bits fastlast", BOTH, 18),
     ] {
         let layout = script(rt.alloc(), text)?.setup.layout();
-        assert_eq!(rt;
-            (layout.shape(), layout.max_steps()),
-            (shape, most),
-            "{text}"
+        same_at(
+            &rt,
+            &(layout.shape(), layout.max_steps()),
+            &(shape, most),
+            &text,
         );
     }
     Ok(())
@@ -90,7 +93,7 @@ fn a_bad_shape_comes_before_a_bad_number(rt: HostRuntime) {
             Fault::BadSetup(1, SetupFault::BadProducers),
         ),
     ] {
-        assert_eq!(rt; events(rt.alloc(), text), Err(want), "{text}");
+        same_at(&rt, &events(rt.alloc(), text), &Err(want), &text);
     }
 }
 
@@ -105,7 +108,7 @@ fn the_last_line_needs_no_end(rt: HostRuntime) {
         ("setup 1 64 1 1 middle\nstep 63 0 0\n", 1),
         ("setup 1 1 1 1 middle fastlast\npush 0", 1),
     ] {
-        assert_eq!(rt; events(rt.alloc(), text), Ok(want), "{text}");
+        same_at(&rt, &events(rt.alloc(), text), &Ok(want), &text);
     }
 }
 
@@ -180,7 +183,7 @@ fn the_first_fault_decides(rt: HostRuntime) {
         ("setup 1 1 1 1 bits\npush 1\npush\n", Fault::NoLane(2)),
         ("setup 1 1 1 1 bits\npush\npush \u{80}\n", Fault::NotAscii),
     ] {
-        assert_eq!(rt; events(rt.alloc(), text), Err(want), "{text}");
+        same_at(&rt, &events(rt.alloc(), text), &Err(want), &text);
     }
 }
 
@@ -196,9 +199,9 @@ fn letters(alloc: Global, amount: usize) -> Result<String, Fail> {
 #[test]
 fn texts_have_a_limit(rt: HostRuntime) -> Result<(), Fail> {
     let text = letters(rt.alloc(), 1_048_576)?;
-    assert_eq!(rt; events(rt.alloc(), &text), Err(Fault::NoSetup));
+    same(&rt, &events(rt.alloc(), &text), &Err(Fault::NoSetup));
     let text = letters(rt.alloc(), 1_048_577)?;
-    assert_eq!(rt; events(rt.alloc(), &text), Err(Fault::TooLong));
+    same(&rt, &events(rt.alloc(), &text), &Err(Fault::TooLong));
     Ok(())
 }
 
@@ -224,24 +227,31 @@ fn events_have_a_limit(rt: HostRuntime) -> Result<(), Fail> {
         ),
     ] {
         let text = with_pushes(rt.alloc(), first, last)?;
-        assert_eq!(rt; events(rt.alloc(), &text), want);
+        same(&rt, &events(rt.alloc(), &text), &want);
     }
     Ok(())
+}
+
+/// Each growth is refused that the reading of a text makes, which then has so many events or this fault. How many these are.
+fn growths_of_reading<R: Abort + AllocGlobal>(
+    rt: &R,
+    text: &str,
+    want: Result<usize, Fault>,
+) -> Result<u64, Fail> {
+    growths_refused(rt, |alloc| {
+        let told = events(alloc, text);
+        if told == Err(Fault::NoMemory) {
+            return Ok(false);
+        }
+        same_at(rt, &told, &want, &text);
+        Ok(true)
+    })
 }
 
 #[test]
 fn each_growth_of_parse_refused(rt: HostRuntime) -> Result<(), Fail> {
     let text = "setup 1 1 0 1 bits\npush 0\npush 0\npush 0\npush 0\npush 0\n";
-    let refused = growths_refused(&rt, |alloc| match parse(alloc, text.as_bytes()) {
-        Ok(script) => {
-            assert_eq!(rt; script.events.len(), 5);
-            Ok(true)
-        }
-        Err(fault) => {
-            assert_eq!(rt; fault, Fault::NoMemory);
-            Ok(false)
-        }
-    })?;
+    let refused = growths_of_reading(&rt, text, Ok(5))?;
     // The events, twice.
     assert!(rt; 2 <= refused);
     Ok(())
@@ -256,15 +266,7 @@ fn a_line_without_events_takes_no_memory(rt: HostRuntime) -> Result<(), Fail> {
             Err(Fault::BadLine(2)),
         ),
     ] {
-        let refused = growths_refused(&rt, |alloc| {
-            let read = parse(alloc, text.as_bytes()).map(|script| script.events.len());
-            if read == Err(Fault::NoMemory) {
-                return Ok(false);
-            }
-            assert_eq!(&rt; read, want, "{text}");
-            Ok(true)
-        })?;
-        assert_eq!(rt; refused, 0, "{text}");
+        same_at(&rt, &growths_of_reading(&rt, text, want)?, &0, &text);
     }
     Ok(())
 }
@@ -323,7 +325,7 @@ fn words_are_cut_off(rt: HostRuntime) {
             has_empty_word(line),
             has_few_words(line, want, empty),
         );
-        assert_eq!(rt; told, (true, empty, true), "{line}");
+        same_at(&rt, &told, &(true, empty, true), &line);
     }
     assert!(rt; Words::of_line("1 2 3 4 5 6 7 8 9").is_none());
 }
@@ -344,7 +346,7 @@ fn numbers_are_decimal(rt: HostRuntime) {
         ("1\r", None),
         ("", None),
     ] {
-        assert_eq!(rt; number(word), want, "{word}");
+        same_at(&rt, &number(word), &want, &word);
     }
 }
 
@@ -376,7 +378,7 @@ fn tables_have_names(rt: HostRuntime) {
         ("middle", Some(TableName::Middle)),
         ("middles", None),
     ] {
-        assert_eq!(rt; table_named(word), want, "{word}");
+        same_at(&rt, &table_named(word), &want, &word);
     }
 }
 
@@ -389,6 +391,6 @@ fn shapes_have_words(rt: HostRuntime) {
         ("plain", None),
         ("", None),
     ] {
-        assert_eq!(rt; shape_of_word(word), want, "{word}");
+        same_at(&rt, &shape_of_word(word), &want, &word);
     }
 }

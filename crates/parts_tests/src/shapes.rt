@@ -1,7 +1,8 @@
 //! Layouts of each shape, and claims on their cells: worked examples.
 
-use crate::claims::{loaded, stored};
-use mb_claim::{ClaimEntry, Layout, Shape, Stage, play};
+use crate::claims::{is_played, loaded, stored};
+use crate::compare::same;
+use mb_claim::{ClaimEntry, Layout, Shape, Stage};
 use mb_deciding::{Act, Reg};
 use mb_quorum::TableName;
 use std::test::Fail;
@@ -26,6 +27,9 @@ pub(crate) const BOTH: Shape = Shape {
 
 /// All shapes.
 pub(crate) const SHAPES: [Shape; 4] = [Shape::PLAIN, FAST, LAST, BOTH];
+
+/// Consumer 0 wins, and consumer 1 loses to it.
+const WON_AND_LOST: [Stage; 2] = [Stage::Won, Stage::Lost(0)];
 
 /// An exchange of a consumer in a last object.
 fn exchanged(consumer: u32, object: u32, value: u64, found: u64) -> ClaimEntry {
@@ -58,9 +62,10 @@ fn words_of_both_and_three_pairs(rt: HostRuntime) -> Result<(), Fail> {
         layout.address(2, 8, Reg::Last),
     );
     // Two ratifiers of 1 + 2 + 1 accesses at most, and one exchange, beside the 27 of the pairs.
-    assert_eq!(rt;
-        (layout.shape(), words, addresses, layout.max_steps()),
-        (BOTH, 19, (41, 51, 56), 36)
+    same(
+        &rt,
+        &(layout.shape(), words, addresses, layout.max_steps()),
+        &(BOTH, 19, (41, 51, 56), 36),
     );
     Ok(())
 }
@@ -69,7 +74,7 @@ fn words_of_both_and_three_pairs(rt: HostRuntime) -> Result<(), Fail> {
 #[test]
 fn words_and_most_accesses_of_each_shape(rt: HostRuntime) -> Result<(), Fail> {
     let mut layout = Layout::new(2, 1, TableName::Bits)?;
-    assert_eq!(rt; layout.shape(), Shape::PLAIN);
+    same(&rt, &layout.shape(), &Shape::PLAIN);
     // Each is made of the one before, whose shape makes no difference.
     for (shape, words, most) in [
         (BOTH, 11, 18),
@@ -78,9 +83,10 @@ fn words_and_most_accesses_of_each_shape(rt: HostRuntime) -> Result<(), Fail> {
         (Shape::PLAIN, 4, 9),
     ] {
         layout = layout.shaped(shape);
-        assert_eq!(rt;
-            (layout.shape(), layout.words(1), layout.max_steps()),
-            (shape, words, most)
+        same(
+            &rt,
+            &(layout.shape(), layout.words(1), layout.max_steps()),
+            &(shape, words, most),
         );
     }
     Ok(())
@@ -89,14 +95,22 @@ fn words_and_most_accesses_of_each_shape(rt: HostRuntime) -> Result<(), Fail> {
 #[test]
 fn one_consumer_takes_the_fast_path(rt: HostRuntime) -> Result<(), Fail> {
     let layout = Layout::new(1, 1, TableName::Bits)?.shaped(FAST);
-    let run = play(rt.alloc(), &layout, &[(0, 0), (0, 0), (0, 0)])?;
     let entries = [
         loaded(0, 0, Reg::Proposal, 0),
         stored(0, 0, Reg::Proposal, 1),
         ClaimEntry::Done { consumer: 0 },
     ];
-    assert_eq!(rt; run.entries.as_slice(), entries.as_slice());
-    assert_eq!(rt; run.stages.as_slice(), [Stage::Won].as_slice());
+    let steps = [(0, 0), (0, 0), (0, 0)];
+    assert!(rt;
+        is_played(
+            &rt,
+            rt.alloc(),
+            &layout,
+            &steps,
+            (0, &entries),
+            &[Stage::Won]
+        )
+    );
     Ok(())
 }
 
@@ -105,7 +119,6 @@ fn one_consumer_takes_the_fast_path(rt: HostRuntime) -> Result<(), Fail> {
 fn one_after_the_other_on_a_fast_path(rt: HostRuntime) -> Result<(), Fail> {
     let layout = Layout::new(2, 1, TableName::Bits)?.shaped(BOTH);
     let steps = [0, 0, 0, 0, 1, 1, 1, 1, 1, 1, 1].map(|consumer| (consumer, 0));
-    let run = play(rt.alloc(), &layout, &steps)?;
     let entries = [
         stored(0, 0, Reg::Quorum(0), 1),
         loaded(0, 0, Reg::Proposal, 0),
@@ -119,10 +132,15 @@ fn one_after_the_other_on_a_fast_path(rt: HostRuntime) -> Result<(), Fail> {
         stored(1, 1, Reg::Proposal, 1),
         loaded(1, 1, Reg::Quorum(1), 0),
     ];
-    assert_eq!(rt; run.entries.as_slice(), entries.as_slice());
-    assert_eq!(rt;
-        run.stages.as_slice(),
-        [Stage::Won, Stage::Lost(0)].as_slice()
+    assert!(rt;
+        is_played(
+            &rt,
+            rt.alloc(),
+            &layout,
+            &steps,
+            (0, &entries),
+            &WON_AND_LOST
+        )
     );
     Ok(())
 }
@@ -136,7 +154,6 @@ fn a_conciliator_comes_after_the_fast_path(rt: HostRuntime) -> Result<(), Fail> 
     for place in [19, 24, 25, 26] {
         steps[place] = (1, 0);
     }
-    let run = play(rt.alloc(), &layout, &steps)?;
     let entries = [
         loaded(0, 1, Reg::Quorum(1), 1),
         loaded(1, 1, Reg::Quorum(0), 1),
@@ -152,10 +169,15 @@ fn a_conciliator_comes_after_the_fast_path(rt: HostRuntime) -> Result<(), Fail> 
         loaded(1, 3, Reg::Proposal, 1),
         loaded(1, 3, Reg::Quorum(1), 0),
     ];
-    assert_eq!(rt; run.entries.as_slice().get(14..), Some(entries.as_slice()));
-    assert_eq!(rt;
-        run.stages.as_slice(),
-        [Stage::Won, Stage::Lost(0)].as_slice()
+    assert!(rt;
+        is_played(
+            &rt,
+            rt.alloc(),
+            &layout,
+            &steps,
+            (14, &entries),
+            &WON_AND_LOST
+        )
     );
     Ok(())
 }
@@ -165,7 +187,6 @@ fn a_conciliator_comes_after_the_fast_path(rt: HostRuntime) -> Result<(), Fail> 
 fn a_last_object_decides(rt: HostRuntime) -> Result<(), Fail> {
     let layout = Layout::new(2, 1, TableName::Bits)?.shaped(LAST);
     let steps = [0, 1, 0, 0, 1, 1, 0, 1, 0, 1, 0, 0, 1, 1, 0, 1, 0].map(|consumer| (consumer, 0));
-    let run = play(rt.alloc(), &layout, &steps)?;
     let entries = [
         loaded(0, 1, Reg::Quorum(1), 1),
         stored(1, 1, Reg::Proposal, 2),
@@ -174,10 +195,15 @@ fn a_last_object_decides(rt: HostRuntime) -> Result<(), Fail> {
         exchanged(1, 2, 2, 1),
         ClaimEntry::Done { consumer: 0 },
     ];
-    assert_eq!(rt; run.entries.as_slice().get(11..), Some(entries.as_slice()));
-    assert_eq!(rt;
-        run.stages.as_slice(),
-        [Stage::Won, Stage::Lost(0)].as_slice()
+    assert!(rt;
+        is_played(
+            &rt,
+            rt.alloc(),
+            &layout,
+            &steps,
+            (11, &entries),
+            &WON_AND_LOST
+        )
     );
     Ok(())
 }

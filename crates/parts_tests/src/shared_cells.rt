@@ -3,6 +3,7 @@ ghost use Rattle.std.specs.Prelude.{◌≡◌, ◌<◌};
 ghost use Rattle.mb_cells.specs.Vocabulary.{MayRead, word_of};
 ghost use Rattle.mb_cells.specs.declared.access.Word.TheVariants.{Head};
 
+use crate::compare::same;
 use mailbox_rations::growths_refused;
 use mb_cells::{Cursor, Finish, Look, Offer, Push};
 use mb_shared_cells::{AllGiven, CellHub, LaneSeat, ReaderSeat, SharedCells};
@@ -32,16 +33,17 @@ fn link_one_item<A: Allocator + Drop>(
         table.look(reader, Cursor::head(0)),
         table.push(lane),
     );
-    assert_eq!(rt;
-        told,
-        (
+    same(
+        rt,
+        &told,
+        &(
             0,
             Look::Nothing,
             Offer::Cell(0),
             Push::Item(0),
             Look::Nothing,
             Push::Link(0),
-        )
+        ),
     );
 }
 
@@ -66,7 +68,7 @@ fn put_one_item<A: Allocator + Drop>(
         table.finish(lane),
         table.look(reader, Cursor::past(k)),
     );
-    assert_eq!(rt; told, (0, 8, Finish::Ended, Look::Ended));
+    same(rt, &told, &(0, 8, Finish::Ended, Look::Ended));
     Ok(())
 }
 
@@ -82,7 +84,7 @@ fn enroll_and_put<A: Allocator + Drop>(
     let Ok(mut lane) = table.enroll_lane(hub) else {
         return Err(Fail::new("no lane"));
     };
-    assert_eq!(rt; table.enroll_lane(hub).err(), Some(AllGiven));
+    same(rt, &table.enroll_lane(hub).err(), &Some(AllGiven));
     let mut reader = table.enroll_reader(hub);
     put_one_item(rt, table, &mut lane, &mut reader)?;
     Ok(())
@@ -120,9 +122,10 @@ fn put<A: Allocator + Drop>(
     ensures { lane.new.table ≡ table.now }
 {
     let told = (table.offer(lane, x), table.push(lane), table.push(lane));
-    assert_eq!(rt;
-        told,
-        (Offer::Cell(cell), Push::Item(cell), Push::Link(cell))
+    same(
+        rt,
+        &told,
+        &(Offer::Cell(cell), Push::Item(cell), Push::Link(cell)),
     );
     Ok(())
 }
@@ -150,7 +153,7 @@ fn read_two<A: Allocator + Drop>(
         table.item(reader, second),
         table.look(reader, Cursor::past(second)),
     );
-    assert_eq!(rt; told, (items.0, items.1, Look::Nothing));
+    same(rt, &told, &(items.0, items.1, Look::Nothing));
     Ok(())
 }
 
@@ -161,7 +164,7 @@ fn two_lanes_draw_from_one_table(rt: HostRuntime) -> Result<(), Fail> {
     else {
         return Err(Fail::new("no lane"));
     };
-    assert_eq!(rt; other.lane(), 1);
+    same(&rt, &other.lane(), &1);
     put(&rt, &table, &mut one, 10, 0)?;
     put(&rt, &table, &mut other, 20, 1)?;
     put(&rt, &table, &mut one, 11, 2)?;
@@ -178,15 +181,19 @@ fn an_offered_item_is_not_put(rt: HostRuntime) -> Result<(), Fail> {
         return Err(Fail::new("no lane"));
     };
     put(&rt, &table, &mut lane, 5, 0)?;
-    assert_eq!(rt; table.offer(&mut lane, 6), Offer::Cell(1));
-    assert_eq!(rt; table.push(&mut lane), Push::Item(1));
+    same(&rt, &table.offer(&mut lane, 6), &Offer::Cell(1));
+    same(&rt, &table.push(&mut lane), &Push::Item(1));
     table.take_lane(&mut hub, lane);
     let mut reader = table.enroll_reader(&mut hub);
     let Look::Cell(k) = table.look(&mut reader, Cursor::head(0)) else {
         return Err(Fail::new("no cell"));
     };
-    assert_eq!(rt; table.item(&mut reader, k), 5);
-    assert_eq!(rt; table.look(&mut reader, Cursor::past(k)), Look::Nothing);
+    same(&rt, &table.item(&mut reader, k), &5);
+    same(
+        &rt,
+        &table.look(&mut reader, Cursor::past(k)),
+        &Look::Nothing,
+    );
     table.take_reader(&mut hub, reader);
     table.close(hub);
     Ok(())

@@ -4,6 +4,7 @@ ghost use Rattle.mb_claim.specs.declared.access.Stage.TheVariants.{Going};
 ghost use Rattle.mb_claim.specs.Vocabulary.{IsClaimIn, claim_stage, consumer_of, part_on};
 ghost use Rattle.mb_shared_claims.specs.Vocabulary.{name_of};
 
+use crate::compare::same;
 use crate::shapes::BOTH;
 use mailbox_rations::growths_refused;
 use mb_claim::laws::layouts_are_sound;
@@ -173,7 +174,7 @@ fn win_and_lose<A: Allocator + Drop>(
     let mut second = Claim::new(table.layout(), b.consumer());
     let wins = (step_on(table, a, &mut first, 0, 7), first.stage());
     let loses = (step_on(table, b, &mut second, 0, 4), second.stage());
-    assert_eq!(rt; (wins, loses), ((7, Stage::Won), (4, Stage::Lost(0))));
+    same(rt, &(wins, loses), &((7, Stage::Won), (4, Stage::Lost(0))));
 }
 
 /// Whether the allocator serves a table of one cell for two consumers. Then both numbers are given, the first consumer wins
@@ -187,14 +188,15 @@ fn one_wins<A: Allocator + Clone + Drop>(rt: &impl Abort, alloc: A) -> Result<bo
     let mut b = table.enroll(&mut hub)?;
     let is_refused = matches!(table.enroll(&mut hub), Err(AllGiven));
     let numbers = (a.consumer(), b.consumer());
-    assert_eq!(rt;
-        (is_refused, numbers, (hub.given(), hub.out())),
-        (true, (0, 1), (2, 2))
+    same(
+        rt,
+        &(is_refused, numbers, (hub.given(), hub.out())),
+        &(true, (0, 1), (2, 2)),
     );
     win_and_lose(rt, &table, &mut a, &mut b);
     table.take_in(&mut hub, b);
     table.take_in(&mut hub, a);
-    assert_eq!(rt; (hub.given(), hub.out()), (2, 0));
+    same(rt, &(hub.given(), hub.out()), &(2, 0));
     table.close(hub);
     Ok(true)
 }
@@ -219,12 +221,12 @@ fn comes_to_announce<A: Allocator + Drop>(
     claims_make_steps();
     let mut claim = Claim::new(table.layout(), seat.consumer());
     step_on(table, seat, &mut claim, 0, steps);
-    assert_eq!(rt; claim.stage(), Stage::Going);
+    same(rt, &claim.stage(), &Stage::Going);
     let announcing = ClaimOp {
         object: 1,
         op: Op::Store(Reg::Quorum(0), 1),
     };
-    assert_eq!(rt; claim.next(table.layout()), announcing);
+    same(rt, &claim.next(table.layout()), &announcing);
 }
 
 #[test]
@@ -238,7 +240,7 @@ fn another_goes_on_where_one_stopped(rt: HostRuntime) -> Result<(), Fail> {
     comes_to_announce(&rt, &table, &mut b, 1);
     table.take_in(&mut hub, a);
     table.take_in(&mut hub, b);
-    assert_eq!(rt; hub.out(), 0);
+    same(&rt, &hub.out(), &0);
     table.close(hub);
     Ok(())
 }
@@ -289,7 +291,7 @@ fn two_threads_claim_a_hundred_cells_with_a_last_object(rt: HostRuntime) -> Resu
 fn sixteen_threads_claim_one_cell(rt: HostRuntime) -> Result<(), Fail> {
     for _ in 0..ROUNDS {
         let ends = claimed_by_sixteen(&rt, rt.alloc(), Shape::PLAIN)?;
-        assert_eq!(rt; ends.len(), 16);
+        same(&rt, &ends.len(), &16);
         assert!(rt; name_one_winner(ends.as_slice()));
     }
     Ok(())
@@ -299,7 +301,7 @@ fn sixteen_threads_claim_one_cell(rt: HostRuntime) -> Result<(), Fail> {
 fn sixteen_threads_claim_one_cell_with_a_last_object(rt: HostRuntime) -> Result<(), Fail> {
     for _ in 0..ROUNDS {
         let ends = claimed_by_sixteen(&rt, rt.alloc(), BOTH)?;
-        assert_eq!(rt; ends.len(), 16);
+        same(&rt, &ends.len(), &16);
         assert!(rt; have_one_winner(ends.as_slice()));
     }
     Ok(())

@@ -1,5 +1,6 @@
 //! The quorum tables.
 
+use crate::compare::{same, same_at};
 use mb_quorum::{BadValues, Bits, Middle, Quorums, Table, TableName, Unary};
 use std::test::Fail;
 
@@ -13,57 +14,75 @@ fn quorums<Q: Quorums>(table: &Q, v: u32) -> Option<(u64, u64)> {
 }
 
 /// How many registers and values there are, and the quorums of a value.
-fn shape<Q: Quorums>(table: &Q, v: u32) -> (u32, u32, Option<(u64, u64)>) {
+type Shape = (u32, u32, Option<(u64, u64)>);
+
+/// The last register of 64.
+const LAST: u64 = 1 << 63;
+
+/// The shape of a table, with the quorums of this value.
+fn shape<Q: Quorums>(table: &Q, v: u32) -> Shape {
     (table.registers(), table.values(), quorums(table, v))
 }
 
+/// The same of a table that is named, where it has so many values.
+fn named(name: TableName, m: u64, v: u32) -> Result<Shape, BadValues> {
+    Ok(shape(&Table::new(name, m)?, v))
+}
+
 #[test]
-fn unary_of_three_values_and_of_seventeen(rt: HostRuntime) -> Result<(), Fail> {
-    let want = (3, 3, Some((2, 5)));
-    assert_eq!(rt; shape(&Unary::new(3)?, 1), want);
-    assert_eq!(rt; shape(&Table::new(TableName::Unary, 3)?, 1), want);
-    assert_eq!(rt;
-        shape(&Unary::new(17)?, 16),
-        (17, 17, Some((0x10000, 0xffff)))
-    );
+fn named_tables(rt: HostRuntime) {
+    let (unary, bits, middle) = (TableName::Unary, TableName::Bits, TableName::Middle);
+    for (name, m, v, want) in [
+        (unary, 3, 1, (3, 3, Some((2, 5)))),
+        (bits, 5, 4, (6, 5, Some((37, 26)))),
+        (middle, 5, 4, (4, 5, Some((10, 5)))),
+    ] {
+        same(&rt, &named(name, m, v), &Ok(want));
+    }
+}
+
+#[test]
+fn unary_tables(rt: HostRuntime) -> Result<(), Fail> {
+    for (m, v, want) in [
+        (3, 1, (3, 3, Some((2, 5)))),
+        (17, 16, (17, 17, Some((0x10000, 0xffff)))),
+        (64, 63, (64, 64, Some((LAST, LAST - 1)))),
+    ] {
+        same(&rt, &shape(&Unary::new(m)?, v), &want);
+    }
     Ok(())
 }
 
 #[test]
-fn bits_of_five_values(rt: HostRuntime) -> Result<(), Fail> {
-    let want = (6, 5, Some((37, 26)));
-    assert_eq!(rt; shape(&Bits::new(5)?, 4), want);
-    assert_eq!(rt; shape(&Table::new(TableName::Bits, 5)?, 4), want);
+fn bit_tables(rt: HostRuntime) -> Result<(), Fail> {
+    for (m, v, want) in [
+        (5, 4, (6, 5, Some((37, 26)))),
+        (1, 0, (0, 1, Some((0, 0)))),
+        (64, 63, (12, 64, Some((0xaaa, 0x555)))),
+    ] {
+        same(&rt, &shape(&Bits::new(m)?, v), &want);
+    }
     Ok(())
 }
 
 #[test]
-fn bits_of_one_value(rt: HostRuntime) -> Result<(), Fail> {
-    assert_eq!(rt; shape(&Bits::new(1)?, 0), (0, 1, Some((0, 0))));
-    Ok(())
-}
-
-#[test]
-fn middle_of_five_values(rt: HostRuntime) -> Result<(), Fail> {
-    let want = (4, 5, Some((10, 5)));
-    assert_eq!(rt; shape(&Middle::new(5)?, 4), want);
-    assert_eq!(rt; shape(&Table::new(TableName::Middle, 5)?, 4), want);
-    Ok(())
-}
-
-#[test]
-fn middle_of_one_value(rt: HostRuntime) -> Result<(), Fail> {
-    assert_eq!(rt; shape(&Middle::new(1)?, 0), (0, 1, Some((0, 0))));
-    Ok(())
-}
-
-// The sets of two of four registers, by rising mask, and the other two.
-#[test]
-fn middle_of_six_values(rt: HostRuntime) -> Result<(), Fail> {
-    let table = Middle::new(6)?;
-    let sets = [(3, 12), (5, 10), (6, 9), (9, 6), (10, 5), (12, 3)];
-    for v in 0..6 {
-        assert_eq!(rt; quorums(&table, v), Some(sets[v as usize]), "{v}");
+fn middle_tables(rt: HostRuntime) -> Result<(), Fail> {
+    for (m, v, want) in [
+        (5, 4, (4, 5, Some((10, 5)))),
+        (1, 0, (0, 1, Some((0, 0)))),
+        (64, 63, (8, 64, Some((212, 43)))),
+        // Sets 0 and 2 of four of eight registers: 0 to 3, and 0, 1, 3 and 4. By lists the third would be 0, 1, 2 and 5.
+        (64, 0, (8, 64, Some((15, 240)))),
+        (64, 2, (8, 64, Some((27, 228)))),
+        // The sets of two of four registers, by rising mask, and the other two.
+        (6, 0, (4, 6, Some((3, 12)))),
+        (6, 1, (4, 6, Some((5, 10)))),
+        (6, 2, (4, 6, Some((6, 9)))),
+        (6, 3, (4, 6, Some((9, 6)))),
+        (6, 4, (4, 6, Some((10, 5)))),
+        (6, 5, (4, 6, Some((12, 3)))),
+    ] {
+        same(&rt, &shape(&Middle::new(m)?, v), &want);
     }
     Ok(())
 }
@@ -86,7 +105,7 @@ fn registers_of_middle_tables(rt: HostRuntime) -> Result<(), Fail> {
         (36, 8),
         (64, 8),
     ] {
-        assert_eq!(rt; Middle::new(m)?.registers(), registers, "{m}");
+        same_at(&rt, &Middle::new(m)?.registers(), &registers, &m);
     }
     Ok(())
 }
@@ -102,26 +121,6 @@ fn too_few_and_too_many_values(rt: HostRuntime) {
             Table::new(TableName::Bits, m).err(),
             Table::new(TableName::Middle, m).err(),
         ];
-        assert_eq!(rt; faults, [Some(BadValues); 6]);
+        same(&rt, &faults, &[Some(BadValues); 6]);
     }
-}
-
-#[test]
-fn most_values(rt: HostRuntime) -> Result<(), Fail> {
-    let last = 1 << 63;
-    let unary = shape(&Unary::new(64)?, 63);
-    let bits = shape(&Bits::new(64)?, 63);
-    let middle = shape(&Middle::new(64)?, 63);
-    assert_eq!(rt;
-        (unary, bits, middle),
-        (
-            (64, 64, Some((last, last - 1))),
-            (12, 64, Some((0xaaa, 0x555))),
-            (8, 64, Some((212, 43))),
-        )
-    );
-    let table = Middle::new(64)?;
-    // Sets 0 and 2 of four of eight registers: 0 to 3, and 0, 1, 3 and 4. By lists the third would be 0, 1, 2 and 5.
-    assert_eq!(rt; (table.write_quorum(0), table.write_quorum(2)), (15, 27));
-    Ok(())
 }

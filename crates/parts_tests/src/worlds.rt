@@ -1,5 +1,6 @@
 //! Setups, new worlds and their reports.
 
+use crate::compare::{same, same_at};
 use crate::shapes::BOTH;
 use mb_quorum::TableName;
 use mb_world::{Setup, SetupFault, World};
@@ -25,7 +26,12 @@ fn the_first_number_out_of_range_refuses(rt: HostRuntime) {
         (1, 1, 257, 1, bits, SetupFault::BadCells),
         (1, 1, 256, 9, bits, SetupFault::BadRounds),
     ] {
-        assert_eq!(rt; Setup::new(p, c, m, k, name), Err(want), "{p} {c} {m} {k}");
+        same_at(
+            &rt,
+            &Setup::new(p, c, m, k, name),
+            &Err(want),
+            &(p, c, m, k),
+        );
     }
 }
 
@@ -42,10 +48,11 @@ fn a_large_setup_is_refused_in_the_same_order(rt: HostRuntime) {
         (1, 1, u64::MAX, 1, SetupFault::BadCells),
         (1, 1, most, 9, SetupFault::BadRounds),
     ] {
-        assert_eq!(rt;
-            Setup::large(p, c, m, k, bits),
-            Err(want),
-            "{p} {c} {m} {k}"
+        same_at(
+            &rt,
+            &Setup::large(p, c, m, k, bits),
+            &Err(want),
+            &(p, c, m, k),
         );
     }
 }
@@ -55,11 +62,11 @@ fn a_large_setup_tells_its_numbers(rt: HostRuntime) -> Result<(), Fail> {
     for cells in [0, 257, 1 << 24] {
         let setup = Setup::large(1, 1, cells, 1, TableName::Bits)?;
         let told = (setup.producers(), setup.consumers(), setup.cells());
-        assert_eq!(rt; told, (1, 1, cells));
+        same(&rt, &told, &(1, 1, cells));
     }
     let shaped = Setup::large(16, 64, 1 << 24, 8, TableName::Unary)?.shaped(BOTH);
     let told = (shaped.consumers(), shaped.cells(), shaped.layout().shape());
-    assert_eq!(rt; told, (64, 1 << 24, BOTH));
+    same(&rt, &told, &(64, 1 << 24, BOTH));
     Ok(())
 }
 
@@ -72,7 +79,7 @@ fn a_setup_tells_its_numbers(rt: HostRuntime) -> Result<(), Fail> {
         setup.cells(),
         setup.layout().consumers(),
     );
-    assert_eq!(rt; told, (16, 3, 256, 3));
+    same(&rt, &told, &(16, 3, 256, 3));
     Ok(())
 }
 
@@ -85,7 +92,7 @@ fn a_setup_is_shaped(rt: HostRuntime) -> Result<(), Fail> {
         (layout.shape(), layout.max_steps()),
     );
     // Nine accesses in a pair, twice four in a fast path, and one in a last object.
-    assert_eq!(rt; told, ((16, 2, 256), (BOTH, 18)));
+    same(&rt, &told, &((16, 2, 256), (BOTH, 18)));
     Ok(())
 }
 

@@ -1,5 +1,6 @@
 //! The command line, and how the program ends.
 
+use crate::compare::{same, same_at};
 use clap::error::ErrorKind;
 use mb_claim::Shape;
 use mb_program::{
@@ -7,7 +8,14 @@ use mb_program::{
 };
 use mb_script::Fault;
 use mb_world::SetupFault;
+use std::process::Abort;
 use std::test::Fail;
+
+// These words are read as this choice.
+fn chooses<R: Abort + AllocGlobal>(rt: &R, words: &[&str], want: Choice) {
+    let is_chosen = matches!(command_of(rt.alloc(), words), Ok(choice) if choice == want);
+    same_at(rt, &is_chosen, &true, &words);
+}
 
 // The options of `run` by default: 2 producers, 2 consumers, 8 items each, 4 pairs alone, budget 64 and seed 0.
 #[test]
@@ -21,11 +29,8 @@ fn run_has_defaults(rt: HostRuntime) {
         seed: 0,
         shape: Shape::PLAIN,
     };
-    let words = ["mailbox", "run"];
-    assert_eq!(rt; DEFAULTS, options);
-    assert!(rt;
-        matches!(command_of(rt.alloc(), words.as_slice()), Ok(choice) if choice == Choice::Run(options))
-    );
+    same(&rt, &DEFAULTS, &options);
+    chooses(&rt, &["mailbox", "run"], Choice::Run(options));
 }
 
 #[test]
@@ -76,9 +81,7 @@ fn options_are_read(rt: HostRuntime) {
             },
         ),
     ] {
-        assert!(rt;
-            matches!(command_of(rt.alloc(), words), Ok(choice) if choice == Choice::Run(options))
-        );
+        chooses(&rt, words, Choice::Run(options));
     }
 }
 
@@ -95,120 +98,110 @@ fn shapes_are_read(rt: HostRuntime) {
             shape: Shape { fast, last },
             ..DEFAULTS
         };
-        assert!(rt;
-            matches!(command_of(rt.alloc(), words.as_slice()), Ok(choice) if choice == Choice::Run(options)),
-            "{name}"
-        );
+        chooses(&rt, &words, Choice::Run(options));
     }
-}
-
-#[test]
-fn options_are_refused(rt: HostRuntime) -> Result<(), Fail> {
-    for (words, want) in [
-        (
-            ["mailbox", "run", "--budget", "0"].as_slice(),
-            ErrorKind::ValueValidation,
-        ),
-        (
-            ["mailbox", "run", "--budget", "1000001"].as_slice(),
-            ErrorKind::ValueValidation,
-        ),
-        (
-            ["mailbox", "run", "--seed", "18446744073709551616"].as_slice(),
-            ErrorKind::ValueValidation,
-        ),
-        (
-            ["mailbox", "run", "--items", "many"].as_slice(),
-            ErrorKind::ValueValidation,
-        ),
-        (
-            ["mailbox", "run", "--shape", "other"].as_slice(),
-            ErrorKind::InvalidValue,
-        ),
-        (
-            ["mailbox", "run", "--items", "1", "--items", "2"].as_slice(),
-            ErrorKind::ArgumentConflict,
-        ),
-        (
-            ["mailbox", "run", "--lanes", "1"].as_slice(),
-            ErrorKind::UnknownArgument,
-        ),
-        (
-            ["mailbox", "ratify", "--items", "1"].as_slice(),
-            ErrorKind::UnknownArgument,
-        ),
-    ] {
-        let Err(error) = command_of(rt.alloc(), words) else {
-            return Err(Fail::from("options that are refused"));
-        };
-        assert!(rt; error.kind() == want);
-        let kind = error.kind();
-        assert_eq!(rt;
-            status_of_ending(&Ending::Refused {
-                kind,
-                printed: true
-            }),
-            2
-        );
-    }
-    Ok(())
 }
 
 #[test]
 fn commands_are_named(rt: HostRuntime) {
-    let ratify = ["mailbox", "ratify"];
-    assert!(rt;
-        matches!(
-            command_of(rt.alloc(), ratify.as_slice()),
-            Ok(Choice::Ratify)
-        )
-    );
-    let replay = ["mailbox", "replay"];
-    assert!(rt;
-        matches!(
-            command_of(rt.alloc(), replay.as_slice()),
-            Ok(Choice::Replay)
-        )
-    );
+    chooses(&rt, &["mailbox", "ratify"], Choice::Ratify);
+    chooses(&rt, &["mailbox", "replay"], Choice::Replay);
+}
+
+// The status of a refusal that is printed, and of one that cannot be.
+fn refusal(kind: ErrorKind) -> (u8, u8) {
+    let printed = Ending::Refused {
+        kind,
+        printed: true,
+    };
+    let unprinted = Ending::Refused {
+        kind,
+        printed: false,
+    };
+    (status_of_ending(&printed), status_of_ending(&unprinted))
 }
 
 #[test]
 fn lines_are_refused(rt: HostRuntime) -> Result<(), Fail> {
-    for (words, want, status) in [
-        (["mailbox", "--help"].as_slice(), ErrorKind::DisplayHelp, 0),
+    let (help, refused) = ((0, 3), (2, 2));
+    for (words, want, statuses) in [
+        (
+            ["mailbox", "--help"].as_slice(),
+            ErrorKind::DisplayHelp,
+            help,
+        ),
         (
             ["mailbox", "run", "--help"].as_slice(),
             ErrorKind::DisplayHelp,
-            0,
+            help,
         ),
-        (["mailbox"].as_slice(), ErrorKind::MissingSubcommand, 2),
+        (
+            ["mailbox"].as_slice(),
+            ErrorKind::MissingSubcommand,
+            refused,
+        ),
         (
             ["mailbox", "ratifier"].as_slice(),
             ErrorKind::InvalidSubcommand,
-            2,
+            refused,
         ),
         (
             ["mailbox", "--version"].as_slice(),
             ErrorKind::UnknownArgument,
-            2,
+            refused,
         ),
         (
             ["mailbox", "ratify", "now"].as_slice(),
             ErrorKind::UnknownArgument,
-            2,
+            refused,
+        ),
+        (
+            ["mailbox", "run", "--budget", "0"].as_slice(),
+            ErrorKind::ValueValidation,
+            refused,
+        ),
+        (
+            ["mailbox", "run", "--budget", "1000001"].as_slice(),
+            ErrorKind::ValueValidation,
+            refused,
+        ),
+        (
+            ["mailbox", "run", "--seed", "18446744073709551616"].as_slice(),
+            ErrorKind::ValueValidation,
+            refused,
+        ),
+        (
+            ["mailbox", "run", "--items", "many"].as_slice(),
+            ErrorKind::ValueValidation,
+            refused,
+        ),
+        (
+            ["mailbox", "run", "--shape", "other"].as_slice(),
+            ErrorKind::InvalidValue,
+            refused,
+        ),
+        (
+            ["mailbox", "run", "--items", "1", "--items", "2"].as_slice(),
+            ErrorKind::ArgumentConflict,
+            refused,
+        ),
+        (
+            ["mailbox", "run", "--lanes", "1"].as_slice(),
+            ErrorKind::UnknownArgument,
+            refused,
+        ),
+        (
+            ["mailbox", "ratify", "--items", "1"].as_slice(),
+            ErrorKind::UnknownArgument,
+            refused,
         ),
     ] {
         let Err(error) = command_of(rt.alloc(), words) else {
             return Err(Fail::from("a line that is refused"));
         };
-        assert!(rt; error.kind() == want);
         let kind = error.kind();
-        for (printed, want) in [
-            (true, status),
-            (false, if status == 0 { 3 } else { status }),
-        ] {
-            assert_eq!(rt; status_of_ending(&Ending::Refused { kind, printed }), want);
-        }
+        let told = (kind == want, refusal(kind));
+        same_at(&rt, &told, &(true, statuses), &words);
     }
     Ok(())
 }
@@ -234,6 +227,6 @@ fn endings_have_a_status(rt: HostRuntime) {
         (Ending::NoText, 2),
         (Ending::NoWords, 3),
     ] {
-        assert_eq!(rt; status_of_ending(&ending), status);
+        same(&rt, &status_of_ending(&ending), &status);
     }
 }

@@ -9,6 +9,7 @@ pub mod runs;
 mod shapes;
 mod texts;
 
+use crate::compare::same_at;
 use claims::CLAIMS;
 use lanes::LANES;
 use mb_program::program::run;
@@ -61,14 +62,15 @@ fn examples_are_as_they_stand(rt: HostRuntime) {
         for example in examples {
             let name = example.name;
             let (output, error, status) = ended(&rt, example.words, example.input);
-            assert_eq!(rt;
-                (output.as_slice(), error.as_slice(), status),
-                (
+            same_at(
+                &rt,
+                &(output.as_slice(), error.as_slice(), status),
+                &(
                     example.output.as_bytes(),
                     example.error.as_bytes(),
-                    example.status
+                    example.status,
                 ),
-                "{name}"
+                &name,
             );
         }
     }

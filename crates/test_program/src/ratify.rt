@@ -1,45 +1,53 @@
 //! The command `ratify` on further scripts, and over devices that fail.
 
+use crate::compare::{same, same_at};
 use crate::devices::{Letters, NarrowWriter, SlowReader};
 use crate::examples::ratifiers::LATE_INPUT;
-use mb_program::{Failed, RatifyFault, fault_text, ratify_text, read_script, status_of};
+use mb_program::{RatifyFault, ratify_text, read_script};
 use mb_quorum::TableName;
 use mb_script::Counting;
-use std::process::Abort;
 use std::test::Fail;
+
+// The script, run: how the call ended, and what was written.
+fn ratified(rt: &HostRuntime, script: &str) -> (Result<(), RatifyFault>, Vec<u8>) {
+    let mut reader = Counting::new(script.as_bytes());
+    let mut writer = Counting::new(Vec::<u8>::new(rt.alloc()));
+    let result = ratify_text(rt.alloc(), &mut reader, &mut writer);
+    (result, writer.device)
+}
+
+// Adds the number of each of sixteen processes, with these texts around it.
+fn push_each(text: &mut String, before: &str, after: &str) -> Result<(), Fail> {
+    for process in [
+        "0", "1", "2", "3", "4", "5", "6", "7", "8", "9", "10", "11", "12", "13", "14", "15",
+    ] {
+        text.push_str(before)?;
+        text.push_str(process)?;
+        text.push_str(after)?;
+    }
+    Ok(())
+}
 
 // Ten thousand turns of sixteen processes with one value, which has an empty read quorum.
 #[test]
 fn ten_thousand_turns_are_answered(rt: HostRuntime) -> Result<(), Fail> {
-    let processes = [
-        "0", "1", "2", "3", "4", "5", "6", "7", "8", "9", "10", "11", "12", "13", "14", "15",
-    ];
     let mut script = String::new(rt.alloc());
-    let mut want = String::new(rt.alloc());
     script.push_str("ratify unary 1\ninputs 0 0 0 0 0 0 0 0 0 0 0 0 0 0 0 0\nturns")?;
-    for round in 0..625 {
-        for process in processes {
-            script.push_str(" ")?;
-            script.push_str(process)?;
-            want.push_str(process)?;
-            want.push_str(match round {
-                0 => " store q0 1\n",
-                1 => " load p 0\n",
-                2 => " store p 1 out 1 0\n",
-                _ => " done\n",
-            })?;
-        }
+    for _ in 0..625 {
+        push_each(&mut script, " ", "")?;
     }
     script.push_str("\n")?;
-    for process in processes {
-        want.push_str("process ")?;
-        want.push_str(process)?;
-        want.push_str(": 1 0\n")?;
+    let mut want = String::new(rt.alloc());
+    for answer in [" store q0 1\n", " load p 0\n", " store p 1 out 1 0\n"] {
+        push_each(&mut want, "", answer)?;
     }
-    let mut reader = Counting::new(script.as_bytes());
-    let mut writer = Counting::new(Vec::<u8>::new(rt.alloc()));
-    assert_eq!(rt; ratify_text(rt.alloc(), &mut reader, &mut writer), Ok(()));
-    assert!(rt; writer.device.as_slice() == want.as_bytes());
+    for _ in 3..625 {
+        push_each(&mut want, "", " done\n")?;
+    }
+    push_each(&mut want, "process ", ": 1 0\n")?;
+    let (result, text) = ratified(&rt, script.as_str());
+    let is_whole = text.as_slice() == want.as_bytes();
+    same(&rt, &(result, is_whole), &(Ok(()), true));
     Ok(())
 }
 
@@ -49,71 +57,27 @@ fn a_script_is_read(rt: HostRuntime) -> Result<(), Fail> {
         return Err(Fail::from("a script that is refused"));
     };
     let (inputs, turns) = ([0, 1].as_slice(), [0, 0, 0, 0, 1, 1, 1].as_slice());
-    assert_eq!(rt;
-        (
+    same(
+        &rt,
+        &(
             script.table,
             script.values,
             script.inputs.as_slice(),
-            script.turns.as_slice()
+            script.turns.as_slice(),
         ),
-        (TableName::Unary, 2, inputs, turns)
+        &(TableName::Unary, 2, inputs, turns),
     );
     Ok(())
 }
 
-// The script is refused with this line and status 2, and nothing is written.
-fn is_refused<R: Abort + AllocGlobal>(rt: &R, script: &str, line: &str) -> Result<(), Fail> {
-    let mut reader = Counting::new(script.as_bytes());
-    let mut writer = Counting::new(Vec::<u8>::new(rt.alloc()));
-    let Err(fault) = ratify_text(rt.alloc(), &mut reader, &mut writer) else {
-        return Err(Fail::from("a script with a fault"));
-    };
-    assert_eq!(rt; writer.device.len(), 0, "{script}");
-    has_line(rt, fault, line, 2)
-}
-
-// The fault has this line and this status.
-fn has_line<R: Abort + AllocGlobal>(
-    rt: &R,
-    fault: RatifyFault,
-    line: &str,
-    status: u8,
-) -> Result<(), Fail> {
-    let failed = Failed::Ratify(fault);
-    assert_eq!(rt; fault_text(rt.alloc(), &failed)?.as_str(), line);
-    assert_eq!(rt; status_of(&failed), status, "{line}");
-    Ok(())
-}
-
 #[test]
-fn faults_have_a_line_and_a_status(rt: HostRuntime) -> Result<(), Fail> {
-    for (script, line) in [
-        ("ratify unary 02\ninputs\nturns\n", "fault 4 BadNumber 1\n"),
-        ("ratify unary 2\ninputs \nturns\n", "fault 3 BadLine 2\n"),
-        ("ratify unary 2\ninputs\nturns\n\n", "fault 3 BadLine 4\n"),
-        ("", "fault 3 BadLine 1\n"),
-    ] {
-        is_refused(&rt, script, line)?;
-    }
-    for (fault, line, status) in [
-        (RatifyFault::TooLong, "fault 1 TooLong\n", 2),
-        (RatifyFault::NotAscii, "fault 2 NotAscii\n", 2),
-        (RatifyFault::NoMemory, "fault 8 NoMemory\n", 3),
-        (RatifyFault::ReadFault, "fault 9 ReadFault\n", 3),
-        (RatifyFault::WriteFault, "fault 10 WriteFault\n", 3),
-    ] {
-        has_line(&rt, fault, line, status)?;
-    }
-    Ok(())
-}
-
-#[test]
-fn the_first_fault_decides(rt: HostRuntime) -> Result<(), Fail> {
+fn the_first_fault_decides(rt: HostRuntime) {
     for (script, want) in [
         (
             "ratify unary 2\ninput\nturns \u{80}\n",
             RatifyFault::NotAscii,
         ),
+        ("", RatifyFault::BadLine(1)),
         ("\n", RatifyFault::BadLine(1)),
         ("ratify unary 2 2\n", RatifyFault::BadLine(1)),
         ("ratify edge x\ninputs\nturns\n", RatifyFault::BadLine(1)),
@@ -127,6 +91,12 @@ fn the_first_fault_decides(rt: HostRuntime) -> Result<(), Fail> {
             RatifyFault::BadNumber(1),
         ),
         ("ratify unary 02\n", RatifyFault::BadNumber(1)),
+        (
+            "ratify unary 02\ninputs\nturns\n",
+            RatifyFault::BadNumber(1),
+        ),
+        ("ratify unary 2\ninputs \nturns\n", RatifyFault::BadLine(2)),
+        ("ratify unary 2\ninputs\nturns\n\n", RatifyFault::BadLine(4)),
         (
             "ratify unary 2\ninputs x \nturns\n",
             RatifyFault::BadLine(2),
@@ -153,13 +123,9 @@ fn the_first_fault_decides(rt: HostRuntime) -> Result<(), Fail> {
             RatifyFault::BadInput(1),
         ),
     ] {
-        let mut reader = Counting::new(script.as_bytes());
-        let mut writer = Counting::new(Vec::<u8>::new(rt.alloc()));
-        let result = ratify_text(rt.alloc(), &mut reader, &mut writer);
-        assert_eq!(rt; result, Err(want), "{script}");
-        assert_eq!(rt; writer.device.len(), 0, "{script}");
+        let (result, text) = ratified(&rt, script);
+        same_at(&rt, &(result, text.len()), &(Err(want), 0), &script);
     }
-    Ok(())
 }
 
 // What is answered over these devices, and what is written.
@@ -217,8 +183,7 @@ fn devices_fail(rt: HostRuntime) {
         ),
     ] {
         let (result, text) = answered(&rt, script, reader_fails, room, writer_fails);
-        assert_eq!(rt; result, want);
-        assert_eq!(rt; text.as_slice(), written.as_bytes());
+        same(&rt, &(result, text.as_slice()), &(want, written.as_bytes()));
     }
 }
 
@@ -233,10 +198,11 @@ fn reading_stops_past_the_limit(rt: HostRuntime) -> Result<(), Fail> {
         let mut reader = Counting::new(Letters { left, fails });
         let mut writer = Counting::new(Vec::<u8>::new(rt.alloc()));
         let result = ratify_text(rt.alloc(), &mut reader, &mut writer);
-        assert_eq!(rt;
-            (result, reader.device.left, writer.device.len()),
-            (Err(want), left.saturating_sub(1_048_577), 0),
-            "{left}"
+        same_at(
+            &rt,
+            &(result, reader.device.left, writer.device.len()),
+            &(Err(want), left.saturating_sub(1_048_577), 0),
+            &left,
         );
     }
     Ok(())

@@ -1,5 +1,6 @@
 //! Each growth of a call refused in turn: the call wants memory, keeps none and writes nothing, and is then served.
 
+use crate::compare::same;
 use crate::examples::claims::{ITEM_TAKEN, ONE_LOSES};
 use crate::examples::ratifiers::LATE_INPUT;
 use crate::examples::runs::TWO_ITEMS;
@@ -8,7 +9,25 @@ use mailbox_rations::growths_refused;
 use mb_program::{Failed, RatifyFault, RunFault, fault_text, ratify_text, run_threads};
 use mb_script::{Counting, Fault, report_text, run};
 use mb_world::{Diary, LaneReport, Note, Report, SetupFault};
+use std::fmt::Debug;
+use std::process::Abort;
 use std::test::Fail;
+
+/// A call that is out of memory wrote nothing, and any other is done and wrote this. Whether it was served.
+fn is_served<F: PartialEq + Debug + Copy>(
+    rt: &impl Abort,
+    ending: Result<(), F>,
+    no_memory: F,
+    written: &[u8],
+    want: &str,
+) -> bool {
+    if ending == Err(no_memory) {
+        same(rt, &written.len(), &0);
+        return false;
+    }
+    same(rt, &(ending, written), &(Ok(()), want.as_bytes()));
+    true
+}
 
 #[test]
 fn each_growth_of_ratify_text_refused(rt: HostRuntime) -> Result<(), Fail> {
@@ -16,13 +35,14 @@ fn each_growth_of_ratify_text_refused(rt: HostRuntime) -> Result<(), Fail> {
         let mut reader = Counting::new(LATE_INPUT.input.as_bytes());
         let mut writer = Counting::new(Vec::<u8>::new(rt.alloc()));
         let result = ratify_text(alloc, &mut reader, &mut writer);
-        if result == Err(RatifyFault::NoMemory) {
-            assert_eq!(&rt; writer.device.len(), 0, "nothing is written");
-            return Ok(false);
-        }
-        assert_eq!(&rt; result, Ok(()));
-        assert_eq!(&rt; writer.device.as_slice(), LATE_INPUT.output.as_bytes());
-        Ok(true)
+        let written = writer.device.as_slice();
+        Ok(is_served(
+            &rt,
+            result,
+            RatifyFault::NoMemory,
+            written,
+            LATE_INPUT.output,
+        ))
     })?;
     // The script's bytes, the inputs, the turns, the ratifier's processes, entries and outputs, and the text.
     assert!(rt; 7 <= refused);
@@ -38,13 +58,8 @@ fn each_growth_of_run_refused(rt: HostRuntime) -> Result<(), Fail> {
             let mut reader = Counting::new(example.input.as_bytes());
             let mut writer = Counting::new(Vec::<u8>::new(rt.alloc()));
             let result = run(alloc, &mut reader, &mut writer);
-            if result == Err(Fault::NoMemory) {
-                assert_eq!(&rt; writer.device.len(), 0, "nothing is written");
-                return Ok(false);
-            }
-            assert_eq!(&rt; result, Ok(()));
-            assert_eq!(&rt; writer.device.as_slice(), example.output.as_bytes());
-            Ok(true)
+            let written = writer.device.as_slice();
+            Ok(is_served(&rt, result, Fault::NoMemory, written, example.output))
         })?;
         assert!(rt; growths <= refused, "{}", example.name);
     }
@@ -56,13 +71,8 @@ fn each_growth_of_run_threads_refused(rt: HostRuntime) -> Result<(), Fail> {
     let refused = growths_refused(&rt, |alloc| {
         let mut writer = Counting::new(Vec::<u8>::new(rt.alloc()));
         let result = run_threads(alloc, &rt, ALONE, &mut writer);
-        if result == Err(RunFault::NoMemory) {
-            assert_eq!(&rt; writer.device.len(), 0, "nothing is written");
-            return Ok(false);
-        }
-        assert_eq!(&rt; result, Ok(()));
-        assert_eq!(&rt; writer.device.as_slice(), TWO_ITEMS.output.as_bytes());
-        Ok(true)
+        let written = writer.device.as_slice();
+        Ok(is_served(&rt, result, RunFault::NoMemory, written, TWO_ITEMS.output))
     })?;
     // The items and their list, the sources, two lists of the hub and two of each table's words, nine growths of `work`, four
     // lists of the report, and the text.
@@ -89,7 +99,7 @@ fn each_growth_of_report_text_refused(rt: HostRuntime) -> Result<(), Fail> {
     };
     let refused = growths_refused(&rt, |alloc| match report_text(alloc, &report) {
         Ok(text) => {
-            assert_eq!(&rt; text.as_str(), TWO_ITEMS.output);
+            same(&rt, &text.as_str(), &TWO_ITEMS.output);
             Ok(true)
         }
         Err(_) => Ok(false),
@@ -116,7 +126,7 @@ fn each_growth_of_fault_text_refused(rt: HostRuntime) -> Result<(), Fail> {
     ] {
         let refused = growths_refused(&rt, |alloc| match fault_text(alloc, &failed) {
             Ok(text) => {
-                assert_eq!(&rt; text.as_str(), line);
+                same(&rt, &text.as_str(), &line);
                 Ok(true)
             }
             Err(_) => Ok(false),

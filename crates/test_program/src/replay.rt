@@ -1,8 +1,8 @@
 //! The command `replay` on further scripts, and over devices that fail.
 
+use crate::compare::{same, same_at};
 use crate::devices::{Letters, NarrowWriter, SlowReader};
 use crate::examples::claims::ITEM_TAKEN;
-use mb_program::{Failed, fault_text, status_of};
 use mb_script::{Counting, Fault, report_text, run};
 use mb_world::{Diary, LaneReport, Note, Report, SetupFault};
 use std::test::Fail;
@@ -30,45 +30,15 @@ fn a_fault_leaves_nothing_written(rt: HostRuntime) {
         ("setup 1 1 0 1 bits\npush 00\n", Fault::BadNumber(2)),
         ("setup 1 16 0 1 bits\nstep 16 1 0\n", Fault::NoLane(2)),
         ("", Fault::NoSetup),
+        // A shape is a seventh word, and is known before any number is read.
+        ("setup x 1 1 1 bits other\n", Fault::BadLine(1)),
+        ("setup 1 1 1 1 bits plain\n", Fault::BadLine(1)),
+        ("setup 1 1 1 1 bits fast last\n", Fault::BadLine(1)),
+        ("setup x 1 1 1 bits fast\n", Fault::BadNumber(1)),
     ] {
         let (result, text) = replayed(&rt, script);
-        assert_eq!(rt; result, Err(want), "{script}");
-        assert_eq!(rt; text.len(), 0, "{script}");
+        same_at(&rt, &(result, text.len()), &(Err(want), 0), &script);
     }
-}
-
-// A shape is a seventh word, and is known before any number is read.
-#[test]
-fn setup_lines_are_refused(rt: HostRuntime) -> Result<(), Fail> {
-    for (script, want, line) in [
-        (
-            "setup x 1 1 1 bits other\n",
-            Fault::BadLine(1),
-            "fault 3 BadLine 1\n",
-        ),
-        (
-            "setup 1 1 1 1 bits plain\n",
-            Fault::BadLine(1),
-            "fault 3 BadLine 1\n",
-        ),
-        (
-            "setup 1 1 1 1 bits fast last\n",
-            Fault::BadLine(1),
-            "fault 3 BadLine 1\n",
-        ),
-        (
-            "setup x 1 1 1 bits fast\n",
-            Fault::BadNumber(1),
-            "fault 4 BadNumber 1\n",
-        ),
-    ] {
-        let (result, text) = replayed(&rt, script);
-        let failed = Failed::Replay(want);
-        assert_eq!(rt; (result, text.len()), (Err(want), 0), "{script}");
-        assert_eq!(rt; fault_text(rt.alloc(), &failed)?.as_str(), line, "{script}");
-        assert_eq!(rt; status_of(&failed), 2, "{script}");
-    }
-    Ok(())
 }
 
 // A script of so many pushes on a lane where nothing was offered, and its answer.
@@ -90,7 +60,7 @@ fn many_events_are_replayed(rt: HostRuntime) -> Result<(), Fail> {
         let (script, want) = pushes(&rt, count)?;
         let (result, text) = replayed(&rt, script.as_str());
         let is_whole = text.as_slice() == want.as_bytes();
-        assert_eq!(rt; (result, is_whole), (Ok(()), true), "{count}");
+        same_at(&rt, &(result, is_whole), &(Ok(()), true), &count);
     }
     Ok(())
 }
@@ -100,7 +70,7 @@ fn a_script_has_a_limit_of_events(rt: HostRuntime) -> Result<(), Fail> {
     let (mut script, _) = pushes(&rt, 20_000)?;
     script.push_str("x\n")?;
     let (result, text) = replayed(&rt, script.as_str());
-    assert_eq!(rt; (result, text.len()), (Err(Fault::TooManyEvents), 0));
+    same(&rt, &(result, text.len()), &(Err(Fault::TooManyEvents), 0));
     Ok(())
 }
 
@@ -123,9 +93,10 @@ fn a_report_has_its_text(rt: HostRuntime) -> Result<(), Fail> {
         diaries: vec![in rt.alloc(); diary]?,
     };
     let text = report_text(rt.alloc(), &report)?;
-    assert_eq!(rt;
-        text.as_str(),
-        "lane 0 ended put 5\nleft 0\ndiary 0 0 took 5\n"
+    same(
+        &rt,
+        &text.as_str(),
+        &"lane 0 ended put 5\nleft 0\ndiary 0 0 took 5\n",
     );
     Ok(())
 }
@@ -152,19 +123,20 @@ fn devices_fail(rt: HostRuntime) -> Result<(), Fail> {
             fails: writer_fails,
         });
         let result = run(rt.alloc(), &mut reader, &mut writer);
-        assert_eq!(rt;
-            (
+        same(
+            &rt,
+            &(
                 result,
                 writer.device.taken.as_slice(),
                 reader.failures,
-                writer.failures
+                writer.failures,
             ),
-            (
+            &(
                 want,
                 written.as_bytes(),
                 u64::from(reader_fails),
-                u64::from(want == write_fault)
-            )
+                u64::from(want == write_fault),
+            ),
         );
     }
     Ok(())
@@ -181,53 +153,12 @@ fn reading_stops_past_the_limit(rt: HostRuntime) -> Result<(), Fail> {
         let mut reader = Counting::new(Letters { left, fails });
         let mut writer = Counting::new(Vec::<u8>::new(rt.alloc()));
         let result = run(rt.alloc(), &mut reader, &mut writer);
-        assert_eq!(rt;
-            (result, reader.device.left, writer.device.len()),
-            (Err(want), left.saturating_sub(1_048_577), 0),
-            "{left}"
+        same_at(
+            &rt,
+            &(result, reader.device.left, writer.device.len()),
+            &(Err(want), left.saturating_sub(1_048_577), 0),
+            &left,
         );
-    }
-    Ok(())
-}
-
-#[test]
-fn faults_have_a_line_and_a_status(rt: HostRuntime) -> Result<(), Fail> {
-    for (fault, line, status) in [
-        (Fault::TooLong, "fault 1 TooLong\n", 2),
-        (Fault::NotAscii, "fault 2 NotAscii\n", 2),
-        (Fault::BadLine(3), "fault 3 BadLine 3\n", 2),
-        (Fault::BadNumber(20_001), "fault 4 BadNumber 20001\n", 2),
-        (Fault::NoSetup, "fault 5 NoSetup\n", 2),
-        (
-            Fault::BadSetup(1, SetupFault::BadProducers),
-            "fault 6 BadSetup 1 1 BadProducers\n",
-            2,
-        ),
-        (
-            Fault::BadSetup(1, SetupFault::BadConsumers),
-            "fault 6 BadSetup 1 2 BadConsumers\n",
-            2,
-        ),
-        (
-            Fault::BadSetup(1, SetupFault::BadCells),
-            "fault 6 BadSetup 1 3 BadCells\n",
-            2,
-        ),
-        (
-            Fault::BadSetup(1, SetupFault::BadRounds),
-            "fault 6 BadSetup 1 4 BadRounds\n",
-            2,
-        ),
-        (Fault::NoLane(2), "fault 7 NoLane 2\n", 2),
-        (Fault::NoConsumer(2), "fault 8 NoConsumer 2\n", 2),
-        (Fault::TooManyEvents, "fault 9 TooManyEvents\n", 2),
-        (Fault::NoMemory, "fault 10 NoMemory\n", 3),
-        (Fault::ReadFault, "fault 11 ReadFault\n", 3),
-        (Fault::WriteFault, "fault 12 WriteFault\n", 3),
-    ] {
-        let failed = Failed::Replay(fault);
-        assert_eq!(rt; fault_text(rt.alloc(), &failed)?.as_str(), line);
-        assert_eq!(rt; status_of(&failed), status, "{line}");
     }
     Ok(())
 }

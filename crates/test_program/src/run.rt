@@ -1,12 +1,11 @@
 //! The command `run`: its report where that does not depend on the order of the threads, its faults, over writers that fail.
 
+use crate::compare::{same, same_at};
 use crate::devices::NarrowWriter;
 use crate::examples::ended;
 use crate::examples::runs::TWO_ITEMS;
 use mb_claim::Shape;
-use mb_program::{
-    Failed, Options, RunFault, fault_text, run_threads, source_of, status_of, workload_of,
-};
+use mb_program::{Options, RunFault, run_threads, source_of, workload_of};
 use mb_script::Counting;
 use mb_world::SetupFault;
 use rand_core::Rng;
@@ -83,8 +82,7 @@ fn workers_are_reported(rt: HostRuntime) {
         ),
     ] {
         let (result, text) = reported(&rt, options);
-        assert_eq!(rt; result, Ok(()));
-        assert_eq!(rt; text.as_slice(), want.as_bytes());
+        same(&rt, &(result, text.as_slice()), &(Ok(()), want.as_bytes()));
     }
 }
 
@@ -108,64 +106,42 @@ fn items_are_put(rt: HostRuntime) -> Result<(), Fail> {
     let lane_1 = text.contains("\nlane 1 ended put 1000 1001 1002\nleft 1");
     let lane_2 = text.contains("\nlane 2 ended put 2000 2001 2002\nleft 2");
     let last_diary = text.contains("\ndiary 3 2 ");
-    assert_eq!(rt;
-        (result, lane_0, lane_1, lane_2, last_diary),
-        (Ok(()), true, true, true, true)
+    same(
+        &rt,
+        &(result, lane_0, lane_1, lane_2, last_diary),
+        &(Ok(()), true, true, true, true),
     );
     Ok(())
 }
 
 #[test]
-fn setups_are_refused(rt: HostRuntime) -> Result<(), Fail> {
+fn setups_are_refused(rt: HostRuntime) {
     let most = u64::MAX;
-    for (producers, consumers, items, pairs, why, line) in [
-        (0, 1, 2, 1, SetupFault::BadProducers, "1 BadProducers"),
-        (17, 0, 257, 0, SetupFault::BadProducers, "1 BadProducers"),
-        (most, 1, most, 1, SetupFault::BadProducers, "1 BadProducers"),
-        (1, 0, 257, 0, SetupFault::BadConsumers, "2 BadConsumers"),
-        (1, 65, 1, 1, SetupFault::BadConsumers, "2 BadConsumers"),
-        (1, 1, 257, 0, SetupFault::BadCells, "3 BadCells"),
-        (1, 1, 257, 1, SetupFault::BadCells, "3 BadCells"),
-        (2, 1, 129, 1, SetupFault::BadCells, "3 BadCells"),
-        (16, 1, 1 << 60, 1, SetupFault::BadCells, "3 BadCells"),
-        (16, 1, most, 1, SetupFault::BadCells, "3 BadCells"),
-        (1, 1, 256, 0, SetupFault::BadRounds, "4 BadRounds"),
-        (2, 1, 128, 9, SetupFault::BadRounds, "4 BadRounds"),
+    for (producers, consumers, items, pairs, why) in [
+        (0, 1, 2, 1, SetupFault::BadProducers),
+        (17, 0, 257, 0, SetupFault::BadProducers),
+        (most, 1, most, 1, SetupFault::BadProducers),
+        (1, 0, 257, 0, SetupFault::BadConsumers),
+        (1, 65, 1, 1, SetupFault::BadConsumers),
+        (1, 1, 257, 0, SetupFault::BadCells),
+        (1, 1, 257, 1, SetupFault::BadCells),
+        (2, 1, 129, 1, SetupFault::BadCells),
+        (16, 1, 1 << 60, 1, SetupFault::BadCells),
+        (16, 1, most, 1, SetupFault::BadCells),
+        (1, 1, 256, 0, SetupFault::BadRounds),
+        (2, 1, 128, 9, SetupFault::BadRounds),
     ] {
         let options = Options {
             producers,
             consumers,
             items,
             pairs,
-            budget: 64,
-            seed: 0,
-            shape: Shape::PLAIN,
+            ..ALONE
         };
         let (result, written) = reported(&rt, options);
-        let fault = RunFault::BadSetup(why);
-        let failed = Failed::Run(fault);
-        let text = fault_text(rt.alloc(), &failed)?;
-        let want = format!(in rt.alloc(); "fault 1 BadSetup {line}\n")?;
-        assert_eq!(rt;
-            (result, written.len(), text.as_str(), status_of(&failed)),
-            (Err(fault), 0, want.as_str(), 2)
-        );
+        let want = (Err(RunFault::BadSetup(why)), 0);
+        same_at(&rt, &(result, written.len()), &want, &options);
     }
-    Ok(())
-}
-
-#[test]
-fn faults_have_a_line_and_a_status(rt: HostRuntime) -> Result<(), Fail> {
-    for (fault, line) in [
-        (RunFault::NoMemory, "fault 2 NoMemory\n"),
-        (RunFault::NoThread, "fault 3 NoThread\n"),
-        (RunFault::WriteFault, "fault 4 WriteFault\n"),
-    ] {
-        let failed = Failed::Run(fault);
-        assert_eq!(rt; fault_text(rt.alloc(), &failed)?.as_str(), line);
-        assert_eq!(rt; status_of(&failed), 3, "{line}");
-    }
-    Ok(())
 }
 
 // A writer that takes 10 bytes, and then fails or takes none, and one that takes none from the first on.
@@ -182,8 +158,9 @@ fn writers_fail(rt: HostRuntime) {
             room,
             fails,
         });
-        assert_eq!(rt; run_threads(rt.alloc(), &rt, ALONE, &mut writer), want);
-        assert_eq!(rt; writer.device.taken.as_slice(), written.as_bytes());
+        let result = run_threads(rt.alloc(), &rt, ALONE, &mut writer);
+        let told = (result, writer.device.taken.as_slice());
+        same(&rt, &told, &(want, written.as_bytes()));
     }
 }
 
@@ -197,7 +174,7 @@ fn sources_have_known_words(rt: HostRuntime) {
         (1, 0, 0x61a9_4a49_a0e9_5ecf),
         (u64::MAX, 0, 0xb44e_8639_2271_48c7),
     ] {
-        assert_eq!(rt; source_of(seed, consumer).next_u64(), word);
+        same(&rt, &source_of(seed, consumer).next_u64(), &word);
     }
 }
 
@@ -219,7 +196,11 @@ fn workers_are_handed_what_is_asked(rt: HostRuntime) -> Result<(), Fail> {
         for rng in load.rngs.iter_mut() {
             words.push(rng.next_u64())?;
         }
-        assert_eq!(rt; (words.as_slice(), load.budget), (want.as_slice(), budget));
+        same(
+            &rt,
+            &(words.as_slice(), load.budget),
+            &(want.as_slice(), budget),
+        );
     }
     Ok(())
 }
@@ -270,9 +251,10 @@ fn words_are_run(rt: HostRuntime) -> Result<(), Fail> {
             return Err(Fail::from("a report is a text"));
         };
         let is_put = text.starts_with(first) && text.contains(last);
-        assert_eq!(rt;
-            (error.len(), status, is_put, lines_and_notes(text)),
-            (0, 0, true, counts)
+        same(
+            &rt,
+            &(error.len(), status, is_put, lines_and_notes(text)),
+            &(0, 0, true, counts),
         );
     }
     Ok(())
