@@ -1,0 +1,160 @@
+//! The calls that make a mailbox, its producers and its consumers.
+ghost use Rattle.std.specs.Prelude.{◌≡◌, ◌≢◌, ◌≤◌, IfErr, IfOk, Some, length};
+ghost use Rattle.mb_quorum.specs.declared.table.TableName.{TableName};
+ghost use Rattle.mb_world.specs.Setups.{plan_in, shaped_plan};
+ghost use Rattle.mb_mailbox.specs.Below.{consumer_count};
+ghost use Rattle.mb_mailbox.specs.Hubs.{IsNewConsumer, hub_empty, new_producer, with_consumer, with_producer};
+ghost use Rattle.mb_mailbox.specs.Mailboxes.{plan_at};
+ghost use Rattle.hazbultra.specs.Calls.{HubGave, HubGaveConsumer, HubMade, HubWent, table_numbered};
+ghost use Rattle.hazbultra.specs.declared.codes.TheConstants.{ALL_GIVEN, DONE};
+
+use crate::codes::{BAD_HANDLE, BAD_TABLE, DONE, NO_MEMORY, code_of_hub, code_of_setup, table_of};
+use crate::crossing::SetupIn;
+use crate::handle::Handle;
+use crate::thing::{SeededConsumer, Thing};
+use mb_bound::BoundHub;
+use mb_claim::Shape;
+use mb_world::Setup;
+use rand_chacha::ChaCha8Rng;
+use rand_core::SeedableRng;
+use std::alloc::Global;
+
+/// The setup that C asks for, or the code of its refusal.
+fn setup_of(wanted: &SetupIn) -> Result<Setup, u32>
+    ensures made { IfOk result (λ setup. (name : TableName)
+        → table_numbered wanted.now.table ≡ Some name
+        → plan_in setup ≡ shaped_plan
+        (record { fast = wanted.now.fast; last = wanted.now.last })
+        wanted.now.producers wanted.now.consumers wanted.now.cells wanted.now.pairs name) }
+    ensures refused { IfErr result (λ code. code ≢ DONE) }
+{
+    let Some(table) = table_of(wanted.table) else {
+        return Err(BAD_TABLE);
+    };
+    let shape = Shape {
+        fast: wanted.fast,
+        last: wanted.last,
+    };
+    match Setup::large(
+        wanted.producers,
+        wanted.consumers,
+        wanted.cells,
+        wanted.pairs,
+        table,
+    ) {
+        Ok(setup) => Ok(setup.shaped(shape)),
+        Err(why) => Err(code_of_setup(why)),
+    }
+}
+
+/// A mailbox of this setup and its hub. No other mailbox of the process has its number.
+#[unsafe(no_mangle)]
+pub extern "C" fn hz_mailbox_new(alloc: Global, id: u64, setup: &SetupIn, hub: &mut Handle) -> u32 {
+    if !hub.is_none() {
+        return BAD_HANDLE;
+    }
+    let setup = match setup_of(setup) {
+        Ok(setup) => setup,
+        Err(code) => return code,
+    };
+    let Ok(made) = BoundHub::new(alloc, id, setup) else {
+        return NO_MEMORY;
+    };
+    let Ok(room) = Box::new(alloc, Thing::OfHub(made)) else {
+        return NO_MEMORY;
+    };
+    hub.give(room);
+    DONE
+}
+
+/// The producer of the next lane. Its box is made first, so a refusal for memory gives no number away.
+#[unsafe(no_mangle)]
+pub extern "C" fn hz_producer_new(alloc: Global, hub: &mut Handle, producer: &mut Handle) -> u32
+    ensures given { result ≡ DONE
+        → HubGave (λ h p. p ≡ record {
+          id = h.id;
+          mailbox = h.mailbox;
+          producer = new_producer h.mailbox (length h.hub.puts);
+        }) hub.old.block.thing producer.new.block.thing }
+    ensures hub { result ≡ DONE
+        → HubWent (λ h k. k ≡ record h { hub = with_producer h.hub })
+        hub.old.block.thing hub.new.block.thing }
+    ensures all_given { result ≡ ALL_GIVEN
+        → HubMade (λ h. h.mailbox.cells.size.lanes ≤ length h.hub.puts) hub.old.block.thing }
+    ensures same_hub { result ≢ DONE → hub.new.block.thing ≡ hub.old.block.thing }
+    ensures same { result ≢ DONE → producer.new.block.thing ≡ producer.old.block.thing }
+{
+    if !producer.is_none() {
+        return BAD_HANDLE;
+    }
+    let Ok(mut room) = Box::new(alloc, Thing::OfNothing) else {
+        return NO_MEMORY;
+    };
+    let Some(mut opened) = hub.take() else {
+        return BAD_HANDLE;
+    };
+    let code = match &mut *opened {
+        Thing::OfHub(hub) => match hub.producer(alloc) {
+            Ok(made) => {
+                *room = Thing::OfProducer(made);
+                producer.give(room);
+                DONE
+            }
+            Err(why) => code_of_hub(why),
+        },
+        _ => BAD_HANDLE,
+    };
+    hub.give(opened);
+    code
+}
+
+/// The consumer of the next number, with the random words of ChaCha8 from this seed and stream.
+#[unsafe(no_mangle)]
+pub extern "C" fn hz_consumer_new(
+    alloc: Global,
+    hub: &mut Handle,
+    seed: &[u8; 32],
+    stream: u64,
+    consumer: &mut Handle,
+) -> u32
+    ensures given { result ≡ DONE
+        → HubGaveConsumer (λ h c. (c.consumer.id ≡ h.id) × (c.consumer.mailbox ≡ h.mailbox)
+        × IsNewConsumer h.mailbox h.hub c.consumer.consumer)
+        hub.old.block.thing consumer.new.block.thing }
+    ensures hub { result ≡ DONE
+        → HubWent (λ h k. k ≡ record h { hub = with_consumer h.hub })
+        hub.old.block.thing hub.new.block.thing }
+    ensures all_given { result ≡ ALL_GIVEN
+        → HubMade (λ h. consumer_count h.mailbox.claims.layout ≤ length h.hub.ledgers)
+        hub.old.block.thing }
+    ensures same_hub { result ≢ DONE → hub.new.block.thing ≡ hub.old.block.thing }
+    ensures same { result ≢ DONE → consumer.new.block.thing ≡ consumer.old.block.thing }
+{
+    if !consumer.is_none() {
+        return BAD_HANDLE;
+    }
+    let Ok(mut room) = Box::new(alloc, Thing::OfNothing) else {
+        return NO_MEMORY;
+    };
+    let Some(mut opened) = hub.take() else {
+        return BAD_HANDLE;
+    };
+    let code = match &mut *opened {
+        Thing::OfHub(hub) => match hub.consumer(alloc) {
+            Ok(made) => {
+                let mut source = ChaCha8Rng::from_seed(*seed);
+                source.set_stream(stream);
+                *room = Thing::OfConsumer(SeededConsumer {
+                    consumer: made,
+                    source,
+                });
+                consumer.give(room);
+                DONE
+            }
+            Err(why) => code_of_hub(why),
+        },
+        _ => BAD_HANDLE,
+    };
+    hub.give(opened);
+    code
+}
