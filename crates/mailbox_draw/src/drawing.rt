@@ -1,9 +1,7 @@
 //! From a reader to a writer: a script, its picture, and how the program ends.
 
 use crate::asked::USAGE;
-use crate::ratify::ratify_picture;
-use crate::replay::replay_picture;
-use crate::svg::svg_of;
+use mb_picture::{ratify_picture, replay_picture, svg_of};
 use mb_program::{DONE, FAILED, Failed, RatifyFault, fault_text, read_script, status_of};
 use mb_script::{Fault, Sink, Source, parse, read_all, write_all};
 use std::alloc::Allocator;
@@ -25,7 +23,7 @@ pub fn ratify_svg<A: Allocator + Copy>(alloc: A, bytes: &[u8]) -> Result<String<
         &script.inputs,
         &script.turns,
     )?;
-    let picture = ratify_picture(alloc, &script, &trace)?;
+    let picture = ratify_picture(alloc, script.values, &script.inputs, &trace)?;
     Ok(svg_of(alloc, &picture)?)
 }
 

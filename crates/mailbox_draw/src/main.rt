@@ -1,21 +1,10 @@
 //! Draws a replay or a ratifier: a script in, and a picture of it out, as SVG.
 //!
-//! [`drawing`] does what a command asks over a reader and a writer. A picture is data first ([`picture`]), which
-//! [`replay`] and [`ratify`] make of what the libraries say was done. [`layout`] says where all of it stands, and [`svg`]
-//! writes it.
+//! [`drawing`] does what a command asks over a reader and a writer. The picture is made by `mb_picture`.
 #![tactic(auto)]
 
 mod asked;
 mod drawing;
-mod escape;
-mod label;
-mod layout;
-mod picture;
-mod ratify;
-mod replay;
-mod report;
-mod style;
-mod svg;
 
 use asked::{Asked, asked_of};
 use drawing::{end_with, tell};

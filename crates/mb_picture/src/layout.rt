@@ -11,11 +11,11 @@ use std::alloc::Allocator;
 /// How far rows are apart, and other sizes, in units of the picture.
 pub const ROW: usize = 24;
 pub const PILL: usize = 19;
-pub const TOP: usize = 78;
-pub const LEFT: usize = 34;
-const GUTTER: usize = 14;
-const TRACK: usize = 7;
-const MIN_WIDTH: usize = 420;
+pub const TOP: usize = 76;
+pub const LEFT: usize = 28;
+const GUTTER: usize = 20;
+const TRACK: usize = 6;
+const MIN_WIDTH: usize = 444;
 
 /// Where the marks of a column stand.
 #[derive(Clone, Copy, Debug, PartialEq, Eq)]
@@ -29,10 +29,10 @@ pub struct Place {
 /// Where a line goes: from a mark to a track, down, and to another mark.
 #[derive(Clone, Copy, Debug, PartialEq, Eq)]
 pub struct Route {
-    /// The row of the store.
-    pub from: usize,
-    /// The row of the load.
-    pub to: usize,
+    /// How high the mark of the store is.
+    pub above: usize,
+    /// How high that of the load is.
+    pub below: usize,
     /// Where it leaves the mark of the store.
     pub start: usize,
     /// Where the track is.
@@ -63,6 +63,11 @@ pub struct Layout<A: Allocator + Drop> {
 /// How wide so many letters are.
 pub fn letters(count: usize) -> usize {
     count.saturating_mul(29) / 4
+}
+
+/// How wide a picture with a title of so many letters has to be.
+fn title_width(count: usize) -> usize {
+    letters(count).saturating_mul(7) / 6 + 24
 }
 
 /// Where row `row` has its middle.
@@ -171,7 +176,7 @@ fn width_of<A: Allocator + Copy>(
 fn track_of(trunks: &[Trunk], from: usize, gutter: usize) -> usize {
     for trunk in trunks {
         if trunk.from == from && trunk.gutter == gutter {
-            return trunk.track.saturating_mul(TRACK).saturating_add(GUTTER - 3);
+            return trunk.track.saturating_mul(TRACK).saturating_add(9);
         }
     }
     0
@@ -191,8 +196,8 @@ fn route_of(
     let begin = gutters.get(gutter)?;
     let to_the_right = gutter > column_at(marks, line.from);
     Some(Route {
-        from: line.from,
-        to: line.to,
+        above: middle(line.from),
+        below: middle(line.to),
         start: if to_the_right {
             store.left.saturating_add(store.width)
         } else {
@@ -236,6 +241,6 @@ pub fn layout_of<A: Allocator + Copy>(
     Ok(Layout {
         places,
         routes,
-        width: at.max(MIN_WIDTH),
+        width: at.max(title_width(picture.title.len())).max(MIN_WIDTH),
     })
 }

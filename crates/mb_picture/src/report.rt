@@ -40,10 +40,10 @@ pub fn push_shown<A: Allocator + Copy>(
         }
     }
     if empty > 0 {
-        write!(text, "{empty} diaries with nothing in them are not shown\n")?;
+        write!(text, "diaries with no note, not shown: {empty}\n")?;
     }
     if more > 0 {
-        write!(text, "{more} lines more are not shown\n")?;
+        write!(text, "further lines, not shown: {more}\n")?;
     }
     Ok(())
 }

@@ -105,3 +105,19 @@ pub fn push_where<A: Allocator>(text: &mut String<A>, who: Who) -> Result<(), No
         Who::Process { input, .. } => write!(text, "input {input}"),
     }
 }
+
+/// Appends how many of this there are, after a comma if it is not the first.
+pub fn push_count<A: Allocator>(
+    text: &mut String<A>,
+    count: u64,
+    name: &str,
+) -> Result<(), NoMemory> {
+    if !text.as_str().ends_with(": ") {
+        text.push_str(", ")?;
+    }
+    write!(text, "{count} {name}")?;
+    if count == 1 {
+        return Ok(());
+    }
+    text.push_str(if name.ends_with("s") { "es" } else { "s" })
+}

@@ -1,6 +1,7 @@
 //! The picture of a replay.
 
-use crate::picture::{Deed, Mark, Note, Picture, Value, Who, Word};
+use crate::label::push_count;
+use crate::picture::{Deed, Kind, MAX_ROWS, Mark, Note, Picture, Value, Who, Word};
 use crate::report::push_shown;
 use mb_cells::{Finish, Look, NoMemory, Offer, Push};
 use mb_claim::Stage;
@@ -204,7 +205,7 @@ fn draw_all<A: Allocator + Copy>(
     world: &mut World<A>,
     script: &Script<A>,
 ) -> Result<(), NoMemory> {
-    let drawn = script.events.len().min(crate::picture::MAX_ROWS);
+    let drawn = script.events.len().min(MAX_ROWS);
     let mut seats = seats_of(
         alloc,
         script.setup.producers(),
@@ -235,15 +236,12 @@ pub fn replay_picture<A: Allocator + Copy>(
     script: &Script<A>,
 ) -> Result<Picture<A>, NoMemory> {
     let mut world = World::new(alloc, script.setup.copy())?;
-    let mut picture = Picture::new(alloc);
-    write!(
-        picture.title,
-        "Replay of {} events: {} producers, {} consumers, {} cells",
-        script.events.len(),
-        script.setup.producers(),
-        script.setup.consumers(),
-        script.setup.cells()
-    )?;
+    let mut picture = Picture::new(alloc, Kind::Replay);
+    picture.title.push_str("Replay: ")?;
+    push_count(&mut picture.title, script.events.len() as u64, "event")?;
+    push_count(&mut picture.title, script.setup.producers(), "producer")?;
+    push_count(&mut picture.title, script.setup.consumers(), "consumer")?;
+    push_count(&mut picture.title, script.setup.cells(), "cell")?;
     draw_all(alloc, &mut picture, &mut world, script)?;
     let report = world.report(alloc)?;
     let text = report_text(alloc, &report)?;

@@ -10,6 +10,7 @@ fn push_byte<A: Allocator>(text: &mut String<A>, byte: u8) -> Result<(), NoMemor
         b'>' => text.push_str("&gt;"),
         b'&' => text.push_str("&amp;"),
         b'"' => text.push_str("&quot;"),
+        b'\'' => text.push_str("&#39;"),
         b' '..=b'~' => text.push(byte as char),
         _ => text.push_str("?"),
     }

@@ -1,10 +1,10 @@
 //! The picture of a ratifier.
 
-use crate::picture::{Deed, MAX_ROWS, Mark, Note, Picture, Value, Who, Word};
+use crate::label::push_count;
+use crate::picture::{Deed, Kind, MAX_ROWS, Mark, Note, Picture, Value, Who, Word};
 use crate::report::MAX_LINES;
 use mb_cells::NoMemory;
 use mb_deciding::{Act, Entry, Out, Trace};
-use mb_program::RatifyScript;
 use std::alloc::Allocator;
 
 /// The process that the entry is of.
@@ -102,7 +102,7 @@ fn push_outputs<A: Allocator + Copy>(
     for (process, out) in outputs.iter().enumerate() {
         if process >= MAX_LINES {
             let more = outputs.len().saturating_sub(process);
-            return write!(picture.report, "{more} processes more are not shown\n");
+            return write!(picture.report, "further processes, not shown: {more}\n");
         }
         match *out {
             Some(out) if out.decided => {
@@ -115,29 +115,28 @@ fn push_outputs<A: Allocator + Copy>(
     Ok(())
 }
 
-/// The picture of a ratifier's trace, with the output of each process.
+/// The picture of the trace of a ratifier for so many values, with the output of each process.
 pub fn ratify_picture<A: Allocator + Copy>(
     alloc: A,
-    script: &RatifyScript<A>,
+    values: u64,
+    inputs: &[u64],
     trace: &Trace<A>,
 ) -> Result<Picture<A>, NoMemory> {
-    let mut picture = Picture::new(alloc);
-    write!(
-        picture.title,
-        "Ratifier of {} values: {} processes, {} turns",
-        script.values,
-        script.inputs.len(),
-        script.turns.len()
-    )?;
-    let drawn = trace.entries.len().min(MAX_ROWS);
-    push_columns(&mut picture, &script.inputs, &trace.entries[..drawn])?;
+    let turns = trace.entries.len();
+    let drawn = turns.min(MAX_ROWS);
+    let mut picture = Picture::new(alloc, Kind::Ratifier);
+    picture.title.push_str("Ratifier: ")?;
+    push_count(&mut picture.title, turns as u64, "turn")?;
+    push_count(&mut picture.title, inputs.len() as u64, "process")?;
+    push_count(&mut picture.title, values, "value")?;
+    push_columns(&mut picture, inputs, &trace.entries[..drawn])?;
     for entry in &trace.entries[..drawn] {
         if let Some(column) = column_of(&picture.columns, process_of(*entry)) {
             let begun = has_mark(&picture.marks, column);
             picture.push(mark_of(column, *entry, begun))?;
         }
     }
-    picture.hidden = trace.entries.len() - drawn;
+    picture.hidden = turns - drawn;
     push_outputs(&mut picture, &trace.outputs)?;
     Ok(picture)
 }

@@ -27,7 +27,7 @@ pub const STYLE: &str = "\
 .hz .f.won{stroke:#0a4a85;stroke-width:2.4}
 .hz .f.lost{stroke:#b35900;stroke-width:2;stroke-dasharray:8 3}
 .hz .f.undecided{stroke:#c2699b;stroke-width:2;stroke-dasharray:2 3}
-.hz text.in{fill:#fff}
+.hz .in{fill:#fff}
 @media (prefers-color-scheme:dark){
 .hz text{fill:#e6edf3}
 .hz .n,.hz .g{fill:#9198a1}
@@ -46,7 +46,7 @@ pub const STYLE: &str = "\
 .hz .f.won{stroke:#8cc4ff}
 .hz .f.lost{stroke:#ffb04d}
 .hz .f.undecided{stroke:#d48ab8}
-.hz text.in{fill:#0d1117}
+.hz .in{fill:#0d1117}
 }
 </style>
 ";

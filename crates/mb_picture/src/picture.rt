@@ -7,6 +7,15 @@ use std::alloc::Allocator;
 /// The most events that are drawn.
 pub const MAX_ROWS: usize = 200;
 
+/// What a picture is of.
+#[derive(Clone, Copy, Debug, PartialEq, Eq)]
+pub enum Kind {
+    /// A replay.
+    Replay,
+    /// A ratifier.
+    Ratifier,
+}
+
 /// Whose column it is.
 #[derive(Clone, Copy, Debug, PartialEq, Eq)]
 pub enum Who {
@@ -165,7 +174,9 @@ pub struct Frame {
 /// What was done, to be drawn. Mark `i` stands in row `i`.
 #[derive(Drop)]
 pub struct Picture<A: Allocator + Drop> {
-    /// What it is a picture of.
+    /// Which of the two it is.
+    pub kind: Kind,
+    /// What it is a picture of, in words.
     pub title: String<A>,
     /// Whose columns there are, from the left.
     pub columns: Vec<Who, A>,
@@ -218,8 +229,9 @@ impl Note {
 
 impl<A: Allocator + Copy> Picture<A> {
     /// A picture with nothing in it.
-    pub fn new(alloc: A) -> Picture<A> {
+    pub fn new(alloc: A, kind: Kind) -> Picture<A> {
         Picture {
+            kind,
             title: String::new(alloc),
             columns: Vec::new(alloc),
             marks: Vec::new(alloc),
