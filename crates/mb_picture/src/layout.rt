@@ -10,11 +10,17 @@ use std::alloc::Allocator;
 
 /// How far rows are apart, and other sizes, in units of the picture.
 pub const ROW: usize = 24;
+
 pub const PILL: usize = 19;
+
 pub const TOP: usize = 76;
+
 pub const LEFT: usize = 28;
+
 const GUTTER: usize = 20;
+
 const TRACK: usize = 6;
+
 const MIN_WIDTH: usize = 444;
 
 /// Where the marks of a column stand.
@@ -165,8 +171,16 @@ fn width_of<A: Allocator + Copy>(
             push_deed(&mut label, mark.deed)?;
             let mut note = String::new(alloc);
             push_note(&mut note, mark.note)?;
-            let gap = if label.is_empty() || note.is_empty() { 0 } else { 2 };
-            widest = label.len().saturating_add(note.len()).saturating_add(gap).max(widest);
+            let gap = if label.is_empty() || note.is_empty() {
+                0
+            } else {
+                2
+            };
+            widest = label
+                .len()
+                .saturating_add(note.len())
+                .saturating_add(gap)
+                .max(widest);
         }
     }
     Ok(letters(widest).saturating_add(12))
@@ -224,14 +238,18 @@ pub fn layout_of<A: Allocator + Copy>(
     for column in 0..picture.columns.len() {
         gutters.push(at)?;
         let tracks = push_trunks(alloc, &mut trunks, picture, column)?;
-        let left = at.saturating_add(tracks.saturating_mul(TRACK)).saturating_add(GUTTER);
+        let left = at
+            .saturating_add(tracks.saturating_mul(TRACK))
+            .saturating_add(GUTTER);
         let width = width_of(alloc, picture, column)?;
         places.push(Place { left, width })?;
         at = left.saturating_add(width);
     }
     gutters.push(at)?;
     let tracks = push_trunks(alloc, &mut trunks, picture, picture.columns.len())?;
-    at = at.saturating_add(tracks.saturating_mul(TRACK)).saturating_add(GUTTER);
+    at = at
+        .saturating_add(tracks.saturating_mul(TRACK))
+        .saturating_add(GUTTER);
     let mut routes = Vec::new(alloc);
     for line in &picture.lines {
         if let Some(route) = route_of(&picture.marks, &places, &gutters, &trunks, *line) {

@@ -91,7 +91,10 @@ fn offered(seat: &mut Seat, answer: Offer, item: u64, added: u64) -> (Deed, Note
 
 fn pushed(seat: &mut Seat, answer: Push) -> (Deed, Note) {
     match answer {
-        Push::Item(cell) => (Deed::Store(Word::Item(cell), Value::Number(seat.item)), Note::Plain),
+        Push::Item(cell) => (
+            Deed::Store(Word::Item(cell), Value::Number(seat.item)),
+            Note::Plain,
+        ),
         Push::Link(cell) => {
             let word = seat.link;
             seat.link = Word::Link(cell);
@@ -165,7 +168,10 @@ fn told(seat: &mut Seat, event: Event, answer: Answer, added: u64) -> (Deed, Not
         }
         Answer::Took { cell, item } => {
             seat.link = Word::Link(cell);
-            (Deed::Load(Word::Item(cell), Value::Number(item)), Note::Took)
+            (
+                Deed::Load(Word::Item(cell), Value::Number(item)),
+                Note::Took,
+            )
         }
     }
 }

@@ -21,10 +21,7 @@ pub fn is_empty_diary(line: &str) -> bool {
 
 /// Appends the lines of a report, but for diaries in which nothing stands. Of those, and of lines past the first
 /// [`MAX_LINES`], it tells how many there are.
-pub fn push_shown<A: Allocator + Copy>(
-    text: &mut String<A>,
-    report: &str,
-) -> Result<(), NoMemory> {
+pub fn push_shown<A: Allocator + Copy>(text: &mut String<A>, report: &str) -> Result<(), NoMemory> {
     let (mut shown, mut empty, mut more) = (0usize, 0u64, 0u64);
     let mut rest = report;
     while let Some((line, behind)) = split_line(rest) {

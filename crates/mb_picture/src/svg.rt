@@ -48,7 +48,11 @@ fn push_rows<A: Allocator>(
         let below = y.saturating_add(4);
         let number = row.saturating_add(1);
         write!(text, "<path class='guide' d='M{LEFT} {y}H{right}'/>\n")?;
-        write!(text, "<text class='n' x='{}' y='{below}'>{number}</text>\n", LEFT - 6)?;
+        write!(
+            text,
+            "<text class='n' x='{}' y='{below}'>{number}</text>\n",
+            LEFT - 6
+        )?;
     }
     Ok(())
 }
@@ -187,15 +191,15 @@ fn push_opening<A: Allocator + Copy>(
     }
     text.push_str("</desc>\n")?;
     text.push_str(STYLE)?;
-    write!(text, "<rect class='bg' width='{width}' height='{height}'/>\n")?;
+    write!(
+        text,
+        "<rect class='bg' width='{width}' height='{height}'/>\n"
+    )?;
     push_text(text, "t", 12, 24, &picture.title)
 }
 
 /// The picture as SVG.
-pub fn svg_of<A: Allocator + Copy>(
-    alloc: A,
-    picture: &Picture<A>,
-) -> Result<String<A>, NoMemory> {
+pub fn svg_of<A: Allocator + Copy>(alloc: A, picture: &Picture<A>) -> Result<String<A>, NoMemory> {
     let layout = layout_of(alloc, picture)?;
     let mut body = String::new(alloc);
     push_heads(alloc, &mut body, picture, &layout)?;

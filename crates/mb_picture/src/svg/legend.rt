@@ -93,12 +93,17 @@ const RATIFIER: &[Entry] = &[
 
 /// What stands below the forms.
 const NO_LINE: &str = "A load without a line found a word that nobody stored.";
+
 const OBJECTS: &str = "o1 p: word p of deciding object 1 of the cell.";
+
 const COUNTER: &str = "counter = 0: an offer found 0, and stored 1.";
+
 const EXCHANGE: &str = "l = 0 := 1: an exchange found 0, and stored 1.";
 
 const WIDTH: usize = 56;
+
 const STEP: usize = 23;
+
 const SECOND: usize = 210;
 
 /// A form at this place, and what it says beside it.
@@ -139,7 +144,13 @@ fn push_entry<A: Allocator>(
             )?;
         }
     }
-    push_text(text, "d", left.saturating_add(WIDTH + 10), below, entry.says)
+    push_text(
+        text,
+        "d",
+        left.saturating_add(WIDTH + 10),
+        below,
+        entry.says,
+    )
 }
 
 /// The legend of a picture of this kind, from `y` on: where it ends.

@@ -64,7 +64,10 @@ pub fn push_box<A: Allocator>(
     };
     let left = place.left.saturating_sub(4);
     let right = place.left.saturating_add(place.width).saturating_add(4);
-    write!(text, "<path class='f {class}' d='M{left} {below}V{above}H{right}V{below}")?;
+    write!(
+        text,
+        "<path class='f {class}' d='M{left} {below}V{above}H{right}V{below}"
+    )?;
     text.push_str(if frame.ended { "Z'/>\n" } else { "'/>\n" })
 }
 
@@ -99,6 +102,12 @@ pub fn push_route<A: Allocator>(text: &mut String<A>, route: Route) -> Result<()
         end.saturating_sub(7)
     };
     let (high, low) = (below.saturating_sub(4), below.saturating_add(4));
-    write!(text, "<path class='line' d='M{start} {above}H{track}V{below}H{neck}'/>\n")?;
-    write!(text, "<path class='tip' d='M{end} {below}L{neck} {high}V{low}Z'/>\n")
+    write!(
+        text,
+        "<path class='line' d='M{start} {above}H{track}V{below}H{neck}'/>\n"
+    )?;
+    write!(
+        text,
+        "<path class='tip' d='M{end} {below}L{neck} {high}V{low}Z'/>\n"
+    )
 }
