@@ -176,14 +176,25 @@ fn told(seat: &mut Seat, event: Event, answer: Answer, added: u64) -> (Deed, Not
     }
 }
 
+/// How often the counter was added to.
+fn additions(marks: &[Mark]) -> u64 {
+    let mut count = 0u64;
+    for mark in marks {
+        if let Deed::Add(..) = mark.deed {
+            count = count.saturating_add(1);
+        }
+    }
+    count
+}
+
 /// Draws an event with its answer.
 fn draw<A: Allocator + Copy>(
     picture: &mut Picture<A>,
     seats: &mut [Seat],
     event: Event,
     answer: Answer,
-    added: u64,
 ) -> Result<(), NoMemory> {
+    let added = additions(&picture.marks);
     for (column, seat) in seats.iter_mut().enumerate() {
         if seat.who == maker(event) {
             let (deed, note) = told(seat, event, answer, added);
@@ -197,11 +208,6 @@ fn draw<A: Allocator + Copy>(
         }
     }
     Ok(())
-}
-
-/// Whether an offer with this answer may have added to the counter.
-fn adds(answer: Answer) -> bool {
-    matches!(answer, Answer::Offered(Offer::Cell(_) | Offer::Full))
 }
 
 /// Draws the first events, and makes all of them in the world.
@@ -221,16 +227,12 @@ fn draw_all<A: Allocator + Copy>(
     for seat in &seats {
         picture.columns.push(seat.who)?;
     }
-    let mut added = 0u64;
     for (row, event) in script.events.iter().enumerate() {
         let answer = world.apply(*event);
         if row < drawn {
-            draw(picture, &mut seats, *event, answer, added)?;
+            draw(picture, &mut seats, *event, answer)?;
         } else {
             picture.hidden = picture.hidden.saturating_add(1);
-        }
-        if adds(answer) {
-            added = added.saturating_add(1);
         }
     }
     Ok(())
