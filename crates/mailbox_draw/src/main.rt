@@ -1,0 +1,45 @@
+//! Draws a replay or a ratifier: a script in, and a picture of it out, as SVG.
+//!
+//! [`drawing`] does what a command asks over a reader and a writer. The picture is made by `mb_picture`.
+#![tactic(auto)]
+
+mod asked;
+mod drawing;
+
+use asked::{Asked, asked_of};
+use drawing::{end_with, tell};
+use mb_program::{DONE, FAILED, REFUSED};
+use mb_script::Counting;
+use std::io;
+use std::process::ExitCode;
+
+fn main(rt: HostRuntime) -> ExitCode {
+    let mut reader = Counting::new(rt.reader());
+    let mut writer = Counting::new(rt.stdout());
+    let mut errors = Counting::new(rt.stderr());
+    let status = match std::env::args(&rt) {
+        Ok(args) => match args.collect::<Vec<String>>(rt.alloc()) {
+            Ok(words) => match asked_of(words.as_slice()) {
+                Asked::Help => tell(&mut writer),
+                Asked::Unknown => {
+                    let _status = tell(&mut errors);
+                    REFUSED
+                }
+                Asked::Replay => end_with(
+                    rt.alloc(),
+                    drawing::draw_replay(rt.alloc(), &mut reader, &mut writer),
+                    &mut errors,
+                ),
+                Asked::Ratify => end_with(
+                    rt.alloc(),
+                    drawing::draw_ratify(rt.alloc(), &mut reader, &mut writer),
+                    &mut errors,
+                ),
+            },
+            Err(_) => FAILED,
+        },
+        Err(error) if error.kind() == io::ErrorKind::InvalidData => REFUSED,
+        Err(_) => FAILED,
+    };
+    ExitCode::from(status)
+}

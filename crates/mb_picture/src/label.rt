@@ -1,0 +1,123 @@
+//! What stands in a mark, and above a column.
+
+use crate::picture::{Deed, Note, Value, Who, Word};
+use mb_cells::NoMemory;
+use mb_deciding::Reg;
+use std::alloc::Allocator;
+
+fn push_reg<A: Allocator>(text: &mut String<A>, reg: Reg) -> Result<(), NoMemory> {
+    match reg {
+        Reg::Value => text.push_str("c"),
+        Reg::Proposal => text.push_str("p"),
+        Reg::Quorum(i) => write!(text, "q{i}"),
+        Reg::Last => text.push_str("l"),
+    }
+}
+
+fn push_word<A: Allocator>(text: &mut String<A>, word: Word) -> Result<(), NoMemory> {
+    match word {
+        Word::Counter => text.push_str("counter"),
+        Word::Item(cell) => write!(text, "item {cell}"),
+        Word::Head(_) => text.push_str("head"),
+        Word::Link(cell) => write!(text, "link {cell}"),
+        Word::Object { object, reg, .. } => {
+            write!(text, "o{object} ")?;
+            push_reg(text, reg)
+        }
+        Word::Ratifier(reg) => push_reg(text, reg),
+    }
+}
+
+fn push_value<A: Allocator>(text: &mut String<A>, value: Value) -> Result<(), NoMemory> {
+    match value {
+        Value::Number(number) => write!(text, "{number}"),
+        Value::Cell(cell) => write!(text, "cell {cell}"),
+        Value::End => text.push_str("end"),
+    }
+}
+
+/// Appends the word and its value: `=` and what was found there, `:=` and what was stored.
+pub fn push_deed<A: Allocator>(text: &mut String<A>, deed: Deed) -> Result<(), NoMemory> {
+    match deed {
+        Deed::Load(word, value) => {
+            push_word(text, word)?;
+            text.push_str(" = ")?;
+            push_value(text, value)
+        }
+        Deed::Store(word, value) => {
+            push_word(text, word)?;
+            text.push_str(" := ")?;
+            push_value(text, value)
+        }
+        Deed::Add(word, found) => {
+            push_word(text, word)?;
+            write!(text, " = {found}")
+        }
+        Deed::Exchange { word, value, found } => {
+            push_word(text, word)?;
+            write!(text, " = {found}")?;
+            if found == 0 {
+                write!(text, " := {value}")?;
+            }
+            Ok(())
+        }
+        Deed::Nothing => Ok(()),
+    }
+}
+
+/// Appends what the event came to, or nothing.
+pub fn push_note<A: Allocator>(text: &mut String<A>, note: Note) -> Result<(), NoMemory> {
+    match note {
+        Note::Plain => Ok(()),
+        Note::Offer(item) => write!(text, "offer {item}"),
+        Note::Put => text.push_str("put"),
+        Note::Ends | Note::Ended => text.push_str("ended"),
+        Note::Full => text.push_str("full"),
+        Note::Busy => text.push_str("busy"),
+        Note::Closed => text.push_str("closed"),
+        Note::Idle => text.push_str("idle"),
+        Note::Empty => text.push_str("nothing"),
+        Note::Found => text.push_str("found"),
+        Note::Won => text.push_str("won"),
+        Note::Lost(winner) => write!(text, "lost to {winner}"),
+        Note::Undecided => text.push_str("undecided"),
+        Note::Took => text.push_str("took"),
+        Note::Decided(value) => write!(text, "decided {value}"),
+        Note::Kept(value) => write!(text, "undecided {value}"),
+        Note::Done => text.push_str("done"),
+        Note::Refused => text.push_str("refused"),
+    }
+}
+
+/// Appends whose column it is.
+pub fn push_who<A: Allocator>(text: &mut String<A>, who: Who) -> Result<(), NoMemory> {
+    match who {
+        Who::Producer(lane) => write!(text, "producer {lane}"),
+        Who::Consumer { consumer, .. } => write!(text, "consumer {consumer}"),
+        Who::Process { process, .. } => write!(text, "process {process}"),
+    }
+}
+
+/// Appends what else is told above a column: the lane, or the input.
+pub fn push_where<A: Allocator>(text: &mut String<A>, who: Who) -> Result<(), NoMemory> {
+    match who {
+        Who::Producer(lane) | Who::Consumer { lane, .. } => write!(text, "lane {lane}"),
+        Who::Process { input, .. } => write!(text, "input {input}"),
+    }
+}
+
+/// Appends how many of this there are, after a comma if it is not the first.
+pub fn push_count<A: Allocator>(
+    text: &mut String<A>,
+    count: u64,
+    name: &str,
+) -> Result<(), NoMemory> {
+    if !text.as_str().ends_with(": ") {
+        text.push_str(", ")?;
+    }
+    write!(text, "{count} {name}")?;
+    if count == 1 {
+        return Ok(());
+    }
+    text.push_str(if name.ends_with("s") { "es" } else { "s" })
+}

@@ -1,0 +1,295 @@
+//! A picture as data: a column for each process, and a mark in a row of its own for each event.
+
+use mb_cells::NoMemory;
+use mb_deciding::Reg;
+use std::alloc::Allocator;
+
+/// The most events that are drawn.
+pub const MAX_ROWS: usize = 200;
+
+/// What a picture is of.
+#[derive(Clone, Copy, Debug, PartialEq, Eq)]
+pub enum Kind {
+    /// A replay.
+    Replay,
+    /// A ratifier.
+    Ratifier,
+}
+
+/// Whose column it is.
+#[derive(Clone, Copy, Debug, PartialEq, Eq)]
+pub enum Who {
+    /// The producer of this lane.
+    Producer(u64),
+    /// This consumer on this lane.
+    Consumer { consumer: u64, lane: u64 },
+    /// This process of a ratifier, with its input.
+    Process { process: u64, input: u64 },
+}
+
+/// A word that is shared.
+#[derive(Clone, Copy, Debug, PartialEq, Eq)]
+pub enum Word {
+    /// The counter of the cells that were handed out.
+    Counter,
+    /// The item of this cell.
+    Item(u32),
+    /// The head of this lane.
+    Head(u64),
+    /// The link of this cell.
+    Link(u32),
+    /// A word of a deciding object of this cell.
+    Object { cell: u32, object: u32, reg: Reg },
+    /// A word of the only ratifier.
+    Ratifier(Reg),
+}
+
+/// What a word holds.
+#[derive(Clone, Copy, Debug, PartialEq, Eq)]
+pub enum Value {
+    /// This number.
+    Number(u64),
+    /// The number of this cell, plus one.
+    Cell(u32),
+    /// The end mark.
+    End,
+}
+
+/// What an event did to a word.
+#[derive(Clone, Copy, Debug, PartialEq, Eq)]
+pub enum Deed {
+    /// It loaded the word, and found this.
+    Load(Word, Value),
+    /// It stored this in the word.
+    Store(Word, Value),
+    /// It found this, and stored one more in the same access.
+    Add(Word, u64),
+    /// It found `found`, and if that is 0 it stored `value` in the same access.
+    Exchange { word: Word, value: u64, found: u64 },
+    /// Nothing: it made no access.
+    Nothing,
+}
+
+/// What an event came to.
+#[derive(Clone, Copy, Debug, PartialEq, Eq)]
+pub enum Note {
+    /// Nothing that is to be told.
+    Plain,
+    /// This item has a cell.
+    Offer(u64),
+    /// The item is put.
+    Put,
+    /// The lane has ended.
+    Ends,
+    /// There is no cell left.
+    Full,
+    /// An item has a cell that is not linked yet.
+    Busy,
+    /// The lane had ended before.
+    Closed,
+    /// No item waits for a push.
+    Idle,
+    /// Nothing is linked yet.
+    Empty,
+    /// A cell is linked.
+    Found,
+    /// The end mark was found.
+    Ended,
+    /// The claim is won.
+    Won,
+    /// The claim is lost to this consumer.
+    Lost(u32),
+    /// The claim ended undecided.
+    Undecided,
+    /// The item that was won is taken.
+    Took,
+    /// The process has decided this value.
+    Decided(u32),
+    /// The process keeps this value and has not decided.
+    Kept(u32),
+    /// The process had its output before.
+    Done,
+    /// There is no such lane or consumer.
+    Refused,
+}
+
+/// How a mark and a box look.
+#[derive(Clone, Copy, Debug, PartialEq, Eq)]
+pub enum Tone {
+    /// As any access.
+    Plain,
+    /// As what led to nothing.
+    Quiet,
+    /// As a claim that is won, or a value that is decided.
+    Won,
+    /// As a claim that is lost.
+    Lost,
+    /// As a claim that is undecided.
+    Undecided,
+    /// As an item that is taken.
+    Took,
+    /// As an end mark.
+    Ended,
+}
+
+/// An event.
+#[derive(Clone, Copy, Debug, PartialEq, Eq)]
+pub struct Mark {
+    /// The number of its column.
+    pub column: usize,
+    /// What it did.
+    pub deed: Deed,
+    /// What it came to.
+    pub note: Note,
+    /// Whether a claim begins with it.
+    pub opens: bool,
+    /// Whether the claim ends with it.
+    pub ends: bool,
+}
+
+/// A line from the row of a store to the row of a load that read it.
+#[derive(Clone, Copy, Debug, PartialEq, Eq)]
+pub struct Line {
+    /// The row of the store.
+    pub from: usize,
+    /// The row of the load.
+    pub to: usize,
+}
+
+/// A box round a claim.
+#[derive(Clone, Copy, Debug, PartialEq, Eq)]
+pub struct Frame {
+    /// The number of its column.
+    pub column: usize,
+    /// The row in which the claim begins.
+    pub first: usize,
+    /// The last row that it has so far.
+    pub last: usize,
+    /// Whether the claim has ended there.
+    pub ended: bool,
+    /// What it came to.
+    pub tone: Tone,
+}
+
+/// What was done, to be drawn. Mark `i` stands in row `i`.
+#[derive(Drop)]
+pub struct Picture<A: Allocator + Drop> {
+    /// Which of the two it is.
+    pub kind: Kind,
+    /// What it is a picture of, in words.
+    pub title: String<A>,
+    /// Whose columns there are, from the left.
+    pub columns: Vec<Who, A>,
+    /// The events, in the order of time.
+    pub marks: Vec<Mark, A>,
+    /// From the stores to the loads that read them.
+    pub lines: Vec<Line, A>,
+    /// The claims.
+    pub frames: Vec<Frame, A>,
+    /// How many events more there are, which are not drawn.
+    pub hidden: usize,
+    /// The report of all events, lines of it.
+    pub report: String<A>,
+}
+
+impl Deed {
+    /// The word that it loaded.
+    pub fn loaded(self) -> Option<Word> {
+        match self {
+            Deed::Load(word, _) | Deed::Add(word, _) | Deed::Exchange { word, .. } => Some(word),
+            Deed::Store(..) | Deed::Nothing => None,
+        }
+    }
+
+    /// The word in which it stored.
+    pub fn stored(self) -> Option<Word> {
+        match self {
+            Deed::Store(word, _) | Deed::Add(word, _) => Some(word),
+            Deed::Exchange { word, found: 0, .. } => Some(word),
+            Deed::Load(..) | Deed::Exchange { .. } | Deed::Nothing => None,
+        }
+    }
+}
+
+impl Note {
+    /// How it looks.
+    pub fn tone(self) -> Tone {
+        match self {
+            Note::Plain | Note::Offer(_) | Note::Put | Note::Found => Tone::Plain,
+            Note::Full | Note::Busy | Note::Closed | Note::Idle | Note::Empty => Tone::Quiet,
+            Note::Done | Note::Refused => Tone::Quiet,
+            Note::Ends | Note::Ended => Tone::Ended,
+            Note::Won | Note::Decided(_) => Tone::Won,
+            Note::Lost(_) => Tone::Lost,
+            Note::Undecided | Note::Kept(_) => Tone::Undecided,
+            Note::Took => Tone::Took,
+        }
+    }
+}
+
+impl<A: Allocator + Copy> Picture<A> {
+    /// A picture with nothing in it.
+    pub fn new(alloc: A, kind: Kind) -> Picture<A> {
+        Picture {
+            kind,
+            title: String::new(alloc),
+            columns: Vec::new(alloc),
+            marks: Vec::new(alloc),
+            lines: Vec::new(alloc),
+            frames: Vec::new(alloc),
+            hidden: 0,
+            report: String::new(alloc),
+        }
+    }
+
+    /// The mark of the next row, with the line to what it loaded and the box that it begins, goes on with or ends. If the
+    /// picture is full it is counted only.
+    pub fn push(&mut self, mark: Mark) -> Result<(), NoMemory> {
+        let row = self.marks.len();
+        if row >= MAX_ROWS {
+            self.hidden = self.hidden.saturating_add(1);
+            return Ok(());
+        }
+        if let Some(word) = mark.deed.loaded() {
+            if let Some(from) = last_store(&self.marks, word) {
+                self.lines.push(Line { from, to: row })?;
+            }
+        }
+        self.marks.push(mark)?;
+        self.frame(row, mark)
+    }
+
+    /// The box of the mark in this row.
+    fn frame(&mut self, row: usize, mark: Mark) -> Result<(), NoMemory> {
+        if mark.opens {
+            self.frames.push(Frame {
+                column: mark.column,
+                first: row,
+                last: row,
+                ended: false,
+                tone: Tone::Plain,
+            })?;
+        }
+        for frame in &mut self.frames {
+            if frame.column == mark.column && !frame.ended {
+                frame.last = row;
+                frame.ended = mark.ends;
+                if let Tone::Won | Tone::Lost | Tone::Undecided = mark.note.tone() {
+                    frame.tone = mark.note.tone();
+                }
+            }
+        }
+        Ok(())
+    }
+}
+
+/// The row of the last mark that stored in this word.
+pub fn last_store(marks: &[Mark], word: Word) -> Option<usize> {
+    let mut found = None;
+    for (row, mark) in marks.iter().enumerate() {
+        if mark.deed.stored() == Some(word) {
+            found = Some(row);
+        }
+    }
+    found
+}

@@ -1,0 +1,142 @@
+//! The picture of a ratifier.
+
+use crate::label::push_count;
+use crate::picture::{Deed, Kind, MAX_ROWS, Mark, Note, Picture, Value, Who, Word};
+use crate::report::MAX_LINES;
+use mb_cells::NoMemory;
+use mb_deciding::{Act, Entry, Out, Trace};
+use std::alloc::Allocator;
+
+/// The process that the entry is of.
+fn process_of(entry: Entry) -> usize {
+    match entry {
+        Entry::Access { process, .. } | Entry::Done { process } => process,
+    }
+}
+
+fn access(act: Act) -> Deed {
+    match act {
+        Act::Load { reg, value } => Deed::Load(Word::Ratifier(reg), Value::Number(value)),
+        Act::Store { reg, value } => Deed::Store(Word::Ratifier(reg), Value::Number(value)),
+        Act::Exchange { reg, value, found } => Deed::Exchange {
+            word: Word::Ratifier(reg),
+            value,
+            found,
+        },
+    }
+}
+
+fn out_note(out: Option<Out>) -> Note {
+    match out {
+        None => Note::Plain,
+        Some(out) if out.decided => Note::Decided(out.value),
+        Some(out) => Note::Kept(out.value),
+    }
+}
+
+/// The mark of an entry in this column, in which some access was made before or not.
+fn mark_of(column: usize, entry: Entry, begun: bool) -> Mark {
+    let (deed, note) = match entry {
+        Entry::Access { act, out, .. } => (access(act), out_note(out)),
+        Entry::Done { .. } => (Deed::Nothing, Note::Done),
+    };
+    Mark {
+        column,
+        deed,
+        note,
+        opens: !begun,
+        ends: matches!(note, Note::Decided(_) | Note::Kept(_)),
+    }
+}
+
+/// Whether some mark stands in this column.
+fn has_mark(marks: &[Mark], column: usize) -> bool {
+    for mark in marks {
+        if mark.column == column {
+            return true;
+        }
+    }
+    false
+}
+
+/// A column for each process that is in these entries, in the order of processes.
+fn push_columns<A: Allocator + Copy>(
+    picture: &mut Picture<A>,
+    inputs: &[u64],
+    entries: &[Entry],
+) -> Result<(), NoMemory> {
+    for (process, input) in inputs.iter().enumerate() {
+        let mut acts = false;
+        for entry in entries {
+            if process_of(*entry) == process {
+                acts = true;
+            }
+        }
+        if acts {
+            picture.columns.push(Who::Process {
+                process: process as u64,
+                input: *input,
+            })?;
+        }
+    }
+    Ok(())
+}
+
+/// The column of a process.
+fn column_of(columns: &[Who], process: usize) -> Option<usize> {
+    for (column, who) in columns.iter().enumerate() {
+        if let Who::Process { process: p, .. } = *who {
+            if p == process as u64 {
+                return Some(column);
+            }
+        }
+    }
+    None
+}
+
+/// A line for each of the first processes: its output.
+fn push_outputs<A: Allocator + Copy>(
+    picture: &mut Picture<A>,
+    outputs: &[Option<Out>],
+) -> Result<(), NoMemory> {
+    for (process, out) in outputs.iter().enumerate() {
+        if process >= MAX_LINES {
+            let more = outputs.len().saturating_sub(process);
+            return write!(picture.report, "further processes, not shown: {more}\n");
+        }
+        match *out {
+            Some(out) if out.decided => {
+                write!(picture.report, "process {process}: 1 {}\n", out.value)?
+            }
+            Some(out) => write!(picture.report, "process {process}: 0 {}\n", out.value)?,
+            None => write!(picture.report, "process {process}: none\n")?,
+        }
+    }
+    Ok(())
+}
+
+/// The picture of the trace of a ratifier for so many values, with the output of each process.
+pub fn ratify_picture<A: Allocator + Copy>(
+    alloc: A,
+    values: u64,
+    inputs: &[u64],
+    trace: &Trace<A>,
+) -> Result<Picture<A>, NoMemory> {
+    let turns = trace.entries.len();
+    let drawn = turns.min(MAX_ROWS);
+    let mut picture = Picture::new(alloc, Kind::Ratifier);
+    picture.title.push_str("Ratifier: ")?;
+    push_count(&mut picture.title, turns as u64, "turn")?;
+    push_count(&mut picture.title, inputs.len() as u64, "process")?;
+    push_count(&mut picture.title, values, "value")?;
+    push_columns(&mut picture, inputs, &trace.entries[..drawn])?;
+    for entry in &trace.entries[..drawn] {
+        if let Some(column) = column_of(&picture.columns, process_of(*entry)) {
+            let begun = has_mark(&picture.marks, column);
+            picture.push(mark_of(column, *entry, begun))?;
+        }
+    }
+    picture.hidden = turns - drawn;
+    push_outputs(&mut picture, &trace.outputs)?;
+    Ok(picture)
+}
