@@ -3,8 +3,8 @@
 
 usage: bench/rounds.py [--jobs 10000000] [--workers 4] [--producers 2] [--cells 65536] [--each 1000000]
 
-The table has a row for about every million jobs run: the seconds since the start, and the resident memory in MiB. It wants
-the program built. It fails if the program does, or if a job was not run, or was run twice.
+The table has a row for about every million jobs run: the seconds since the start, and the resident memory in MiB, now and
+at most. It wants the program built. It fails if the program does, or if a job was not run, or was run twice.
 """
 import argparse
 import pathlib
@@ -16,10 +16,10 @@ import time
 PROGRAM = pathlib.Path(__file__).resolve().parent.parent / "crates" / "mailbox_scheduler" / "out" / "mailbox_scheduler"
 
 
-def resident(process):
-    """The resident memory of a process, in MiB."""
+def memory(process):
+    """The resident memory of a process now, and the most that it had, in MiB."""
     status = pathlib.Path(f"/proc/{process}/status").read_text()
-    return int(re.search(r"VmRSS:\s+(\d+) kB", status)[1]) / 1024
+    return [int(re.search(rf"{name}:\s+(\d+) kB", status)[1]) / 1024 for name in ("VmRSS", "VmHWM")]
 
 
 def main():
@@ -35,11 +35,12 @@ def main():
     start = time.perf_counter()
     run = subprocess.Popen([asked.program, *words, f"--progress={asked.each}"], stdout=subprocess.PIPE, stderr=subprocess.PIPE,
                            text=True)
-    print("| Jobs run | Seconds | Resident MiB |")
-    print("|---|---|---|")
+    print("| Jobs run | Seconds | Resident MiB | Most so far |")
+    print("|---|---|---|---|")
     for line in run.stderr:
         count = line.split()[0]
-        print(f"| {count} | {time.perf_counter() - start:.1f} | {resident(run.pid):.1f} |", flush=True)
+        now, most = memory(run.pid)
+        print(f"| {count} | {time.perf_counter() - start:.1f} | {now:.1f} | {most:.1f} |", flush=True)
     told = run.stdout.read()
     status = run.wait()
     print(f"{told}{time.perf_counter() - start:.1f} seconds, status {status}")

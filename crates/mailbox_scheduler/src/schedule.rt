@@ -17,6 +17,9 @@ use std::thread::{Threads, for_each_mut};
 /// The most accesses of one poll.
 const BUDGET: u64 = 64;
 
+/// How many threads run jobs at one time: one for each worker, of whom there are 64 at most.
+const THREADS: usize = 64;
+
 /// How many pairs of deciding objects each job's cell has.
 const PAIRS: u64 = 2;
 
@@ -74,7 +77,7 @@ pub fn run_all<R: AllocGlobal + Threads + Wait + Sync + Eprint>(
         for_each_mut(
             rt,
             &mut workers,
-            options.workers as usize,
+            THREADS,
             &|i, worker| {
                 if let Some(taken) = round.taken.get(i) {
                     worker.run(board, taken.as_slice(), options.jobs);
