@@ -7,6 +7,7 @@ ghost use Rattle.mb_mailbox.specs.Gathering.{count_missing};
 
 use crate::hub::Hub;
 use crate::mailbox::Mailbox;
+use mb_cells::NoMemory;
 use mb_claim::laws::layouts_are_sound;
 use mb_world::Report;
 use sound::gathering_is_sound;
@@ -75,17 +76,55 @@ impl<A: Allocator + Clone + Drop> Mailbox<A> {
         ensures full { IfOk result (λ r. FullTakesAll self hub r) }
         ensures undecided { IfOk result (λ r. UndecidedHasCompany r) }
     {
-        gathering_is_sound();
-        layouts_are_sound();
-        let producers = missing(hub.puts.as_slice());
-        let consumers = missing(hub.ledgers.as_slice());
+        let (producers, consumers) = self.missing(&hub);
         if producers > 0 || consumers > 0 {
             return Err((GatherFault::Missing(producers, consumers), self, hub));
         }
-        let competitors = self.claims.layout().consumers();
-        let Ok(report) = hub.report(alloc, self.lanes, competitors) else {
+        let Ok(draft) = self.draft(alloc, &hub) else {
             return Err((GatherFault::NoMemory, self, hub));
         };
+        Ok(self.gather_with(hub, draft))
+    }
+
+    /// How many producers, and how many consumers, were given and not taken in.
+    pub fn missing(&self, hub: &Hub<A>) -> (u32, u32)
+        requires of { IsHubOf self.now hub.now }
+        ensures producers { result.0 ≡ count_missing hub.now.puts }
+        ensures consumers { result.1 ≡ count_missing hub.now.ledgers }
+    {
+        layouts_are_sound();
+        hub.has_history();
+        let _ = &self.cells;
+        (
+            missing(hub.puts.as_slice()),
+            missing(hub.ledgers.as_slice()),
+        )
+    }
+
+    /// The report of what was taken in so far. It changes nothing, and takes all the room that a report needs.
+    pub fn draft(&self, alloc: A, hub: &Hub<A>) -> Result<Report<A>, NoMemory>
+        requires of { IsHubOf self.now hub.now }
+        ensures lists { IfOk result (λ r. IsReportIn self.now.cells.size.lanes
+            (consumer_count self.now.claims.layout) hub.now r) }
+    {
+        hub.report(alloc, self.lanes, self.claims.layout().consumers())
+    }
+
+    /// Ends the mailbox with a draft of its report, made when all were taken in. It takes no memory, so it cannot fail.
+    pub fn gather_with(self, hub: Hub<A>, draft: Report<A>) -> Report<A>
+        requires of { IsHubOf self hub }
+        requires all_in { count_missing hub.puts + count_missing hub.ledgers ≡ 0 }
+        requires draft { IsReportIn self.cells.size.lanes (consumer_count self.claims.layout) hub
+            draft }
+        ensures draft { result ≡ draft }
+
+        // What the draft says is so, as `gather` says it.
+        ensures headline { IsGathered self hub result }
+        ensures full { FullTakesAll self hub result }
+        ensures undecided { UndecidedHasCompany result }
+    {
+        gathering_is_sound();
+        hub.has_history();
         let Mailbox {
             lanes: _,
             cells,
@@ -99,7 +138,7 @@ impl<A: Allocator + Clone + Drop> Mailbox<A> {
         } = hub;
         cells.close(lanes_hub);
         claims.close(claims_hub);
-        Ok(report)
+        draft
     }
 }
 

@@ -1,0 +1,192 @@
+/* A mailbox for threads: producers put numbers into lanes of their own, consumers compete for each, and at most one
+ * consumer takes each item. A report at the end says who took what. There is no lock, and no call waits for another.
+ *
+ * Link libhazbultra.a and the three allocation functions (heap.c): gcc -pthread your.c heap.c libhazbultra.a
+ *
+ * WHAT A CALLER OWES. Nothing checks a C caller, and what is proved holds only if it keeps this:
+ *
+ *  1. Each hz_handle begins as HZ_NONE. After that only calls of this library write it. It is not copied: after a copy,
+ *     only one of the two may be used. It may be moved, as a struct is moved by memcpy.
+ *  2. No pointer parameter is null. Each leads to what its type says, initialised. Where a length stands beside it, to so
+ *     many. A bool is 0 or 1. Two pointers of one call lead to different objects.
+ *  3. A handle is in one call at a time. From call to call it may go from thread to thread, if a lock, the start or the
+ *     join of a thread, or a seq_cst atomic orders the calls. Handles of one mailbox may be in calls at the same time:
+ *     that is what it is for.
+ *  4. Each mailbox has a number (id) that no other mailbox of the process was given. Two static copies of this library in
+ *     one process count as one process.
+ *  5. malloc, realloc and free are of one allocator, and malloc and realloc align as the C standard says.
+ *  6. No call is made from a signal handler, or from the forked child of a process with threads.
+ *
+ * WHAT A CALL CHECKS ITSELF. A handle that leads to nothing (HZ_NONE), or to another kind of thing than the call wants, is
+ * HZ_BAD_HANDLE. So is a handle that the call is to fill and that leads to something. After each answer but HZ_DONE,
+ * HZ_LINKED, HZ_FULL and a poll's answers nothing has changed, if no line below says another thing. No call loses what a
+ * handle leads to, also if memory is refused.
+ */
+#ifndef HAZBULTRA_H
+#define HAZBULTRA_H
+
+#include <stdbool.h>
+#include <stddef.h>
+#include <stdint.h>
+
+#ifdef __cplusplus
+extern "C" {
+#endif
+
+/* What leads to a hub, a producer, a consumer or a report, or to nothing. */
+typedef struct {
+    bool full;
+    void *at;
+} hz_handle;
+
+/* A handle that leads to nothing: hz_handle hub = HZ_NONE; */
+#define HZ_NONE { false, NULL }
+
+/* The answers of all calls. No two mean different things by one number. */
+typedef enum {
+    HZ_DONE = 0,
+
+    /* of hz_poll, and the kind of a note (the first three) */
+    HZ_TOOK = 1,
+    HZ_LOST = 2,
+    HZ_UNDECIDED = 3,
+    HZ_NOTHING = 4,
+    HZ_ENDED = 5,
+    HZ_SPENT = 6,
+    HZ_NO_LANE = 7,
+
+    /* of hz_put and hz_finish */
+    HZ_LINKED = 8,
+    HZ_FULL = 9,
+    HZ_CLOSED = 10,
+
+    /* refusals */
+    HZ_NO_MEMORY = 16,
+    HZ_BAD_HANDLE = 17,
+    HZ_ALL_GIVEN = 18,
+    HZ_MISSING = 19,
+    HZ_OTHER_MAILBOX = 20,
+    HZ_NOT_THERE = 21,
+
+    /* refusals of a setup, the first of these that is so */
+    HZ_BAD_TABLE = 32,
+    HZ_BAD_PRODUCERS = 33,
+    HZ_BAD_CONSUMERS = 34,
+    HZ_BAD_CELLS = 35,
+    HZ_BAD_PAIRS = 36
+} hz_code;
+
+/* The quorum tables. HZ_BITS has the fewest registers for many consumers. */
+typedef enum {
+    HZ_UNARY = 0,
+    HZ_BITS = 1,
+    HZ_MIDDLE = 2
+} hz_table;
+
+/* How large a mailbox is, and what stands in each cell. */
+typedef struct {
+    uint64_t producers; /* 1 to 16: each has a lane of its own, from 0 on */
+    uint64_t consumers; /* 1 to 64 */
+    uint64_t cells;     /* 0 to 2^24: so many items can be put in all */
+    uint64_t pairs;     /* 1 to 8 pairs of deciding objects for each cell */
+    uint32_t table;     /* an hz_table */
+    bool fast;          /* two ratifiers before the pairs: faster if one consumer is alone */
+    bool last;          /* an object that always decides after the pairs: no poll is HZ_UNDECIDED then */
+} hz_setup;
+
+/* Of one lane of a report. */
+typedef struct {
+    uint64_t put;  /* how many items were put */
+    uint64_t left; /* how many of them nobody took */
+    bool ended;    /* whether the producer has finished */
+} hz_lane;
+
+/* Of one consumer on one lane. */
+typedef struct {
+    uint64_t notes; /* how many notes there are: note j is on item j of the lane */
+    bool begun;     /* whether its claim on the next item, which has no note, has an access */
+} hz_diary;
+
+/* The end of a consumer's claim on an item. */
+typedef struct {
+    uint64_t value; /* HZ_TOOK: the item. HZ_LOST: the one consumer that may have won it. HZ_UNDECIDED: 0 */
+    uint32_t kind;  /* HZ_TOOK, HZ_LOST or HZ_UNDECIDED */
+} hz_note;
+
+/* How many parts were given and not taken back. */
+typedef struct {
+    uint32_t producers;
+    uint32_t consumers;
+} hz_missing;
+
+/* A mailbox of this setup, and its hub.
+ * HZ_DONE: hub leads to the hub. HZ_BAD_HANDLE: hub is not HZ_NONE. HZ_NO_MEMORY. HZ_BAD_TABLE .. HZ_BAD_PAIRS. */
+uint32_t hz_mailbox_new(uint64_t id, const hz_setup *setup, hz_handle *hub);
+
+/* The producer of the next lane. Lanes are given in order, from 0 on.
+ * HZ_DONE: producer leads to it. HZ_BAD_HANDLE. HZ_ALL_GIVEN: every lane was given. HZ_NO_MEMORY. */
+uint32_t hz_producer_new(hz_handle *hub, hz_handle *producer);
+
+/* The consumer of the next number. Numbers are given in order, from 0 on. Its random words are those of ChaCha8 from this
+ * seed and stream: give each consumer of a mailbox another seed or another stream.
+ * HZ_DONE: consumer leads to it. HZ_BAD_HANDLE. HZ_ALL_GIVEN: every number was given. HZ_NO_MEMORY. */
+uint32_t hz_consumer_new(hz_handle *hub, const uint8_t (*seed)[32], uint64_t stream, hz_handle *consumer);
+
+/* Puts an item, any number, at the end of the producer's lane. It makes three accesses at most and takes no memory.
+ * HZ_LINKED: it is there. HZ_FULL: no cell is left, the item is still the caller's, and each further put is HZ_FULL too.
+ * HZ_CLOSED: the lane has ended. HZ_BAD_HANDLE. */
+uint32_t hz_put(hz_handle *producer, uint64_t item);
+
+/* Ends the lane: no item comes after those that it has.
+ * HZ_DONE. HZ_CLOSED: it had ended before. HZ_BAD_HANDLE. */
+uint32_t hz_finish(hz_handle *producer);
+
+/* Makes accesses on a lane until one has an answer, or budget of them were made. It takes no memory.
+ * HZ_TOOK: the item is this consumer's alone, and value is the item. HZ_LOST: no other consumer but number value can win
+ * the item. HZ_UNDECIDED: the claim on the item came to no end. HZ_NOTHING: no further item is linked yet. HZ_ENDED: no
+ * further item comes. HZ_SPENT: the budget is used up; the next poll of the lane goes on with the claim. HZ_NO_LANE: there
+ * is no such lane. HZ_BAD_HANDLE. value is written at HZ_TOOK and HZ_LOST only. */
+uint32_t hz_poll(hz_handle *consumer, uint64_t lane, uint64_t budget, uint64_t *value);
+
+/* Takes a producer or a consumer back, also before its lane has ended or while it holds a claim. What it did is kept for
+ * the report, and its number is not given again.
+ * HZ_DONE: part is HZ_NONE then. HZ_BAD_HANDLE: part is neither. HZ_OTHER_MAILBOX: it has another id than the hub. */
+uint32_t hz_take_back(hz_handle *hub, hz_handle *part);
+
+/* Ends the mailbox, and makes the report of all that was taken back.
+ * HZ_DONE: hub is HZ_NONE then, and report leads to the report. HZ_BAD_HANDLE. HZ_MISSING: so many producers and consumers
+ * were given and not taken back; missing is written at this answer only. HZ_NO_MEMORY: it may be called again. */
+uint32_t hz_gather(hz_handle *hub, hz_handle *report, hz_missing *missing);
+
+/* How many lanes and how many consumers a report has: those of the setup.
+ * HZ_DONE. HZ_BAD_HANDLE. */
+uint32_t hz_report_size(hz_handle *report, uint64_t *lanes, uint64_t *consumers);
+
+/* The numbers of one lane.
+ * HZ_DONE. HZ_BAD_HANDLE. HZ_NOT_THERE: there is no such lane. */
+uint32_t hz_report_lane(hz_handle *report, uint64_t lane, hz_lane *out);
+
+/* The numbers of one diary, that of this consumer on this lane.
+ * HZ_DONE. HZ_BAD_HANDLE. HZ_NOT_THERE: there is no such consumer or lane. */
+uint32_t hz_report_diary(hz_handle *report, uint64_t consumer, uint64_t lane, hz_diary *out);
+
+/* Copies items of a lane, in the order of the lane, from place from on: those put, or with left those that nobody took.
+ * copied is how many there were, room at most. The rest of items is as it was.
+ * HZ_DONE. HZ_BAD_HANDLE. HZ_NOT_THERE: there is no such lane. */
+uint32_t hz_report_items(hz_handle *report, uint64_t lane, bool left, uint64_t from, uint64_t *items, size_t room,
+                         uint64_t *copied);
+
+/* Copies notes of a diary, in the order of the lane, from place from on.
+ * copied is how many there were, room at most. The rest of notes is as it was.
+ * HZ_DONE. HZ_BAD_HANDLE. HZ_NOT_THERE: there is no such consumer or lane. */
+uint32_t hz_report_notes(hz_handle *report, uint64_t consumer, uint64_t lane, uint64_t from, hz_note *notes, size_t room,
+                         uint64_t *copied);
+
+/* Frees what the handle leads to, which is HZ_NONE then. HZ_NONE itself is left as it is. A producer or a consumer that is
+ * freed, and not taken back, is missing at each gather of its mailbox. */
+void hz_free(hz_handle *handle);
+
+#ifdef __cplusplus
+}
+#endif
+#endif

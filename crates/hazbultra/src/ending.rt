@@ -1,0 +1,106 @@
+//! The calls that take producers and consumers back, end a mailbox, and free what a handle leads to.
+ghost use Rattle.std.specs.Prelude.{◌≡◌};
+ghost use Rattle.hazbultra.specs.Apart.{AreApart, IsApartFrom};
+
+use crate::codes::{BAD_HANDLE, DONE, MISSING, NO_MEMORY, OTHER_MAILBOX};
+use crate::crossing::MissingOut;
+use crate::handle::Handle;
+use crate::thing::{SeededConsumer, Thing};
+use mb_bound::BoundHub;
+use mb_mailbox::GatherFault;
+use std::alloc::Global;
+use std::mem;
+
+/// Takes a producer or a consumer back, whose handle leads to nothing then.
+#[unsafe(no_mangle)]
+pub extern "C" fn hz_take_back(alloc: Global, hub: &mut Handle, part: &mut Handle) -> u32
+    requires { AreApart hub.old.block.thing part.old.block.thing }
+{
+    let Some(mut opened) = hub.take(alloc) else {
+        return BAD_HANDLE;
+    };
+    let code = match &mut *opened {
+        Thing::OfHub(bound) => take_back(alloc, bound, part),
+        _ => BAD_HANDLE,
+    };
+    *hub = Handle::of(opened);
+    code
+}
+
+/// The same for a hub that is opened.
+fn take_back(alloc: Global, hub: &mut BoundHub<Global>, part: &mut Handle) -> u32
+    requires { IsApartFrom hub.old part.old.block.thing }
+{
+    let Some(mut opened) = part.take(alloc) else {
+        return BAD_HANDLE;
+    };
+    let (thing, code) = match mem::replace(&mut *opened, Thing::OfNothing) {
+        Thing::OfProducer(producer) => match hub.take_producer(producer) {
+            Ok(()) => return DONE,
+            Err(producer) => (Thing::OfProducer(producer), OTHER_MAILBOX),
+        },
+        Thing::OfConsumer(SeededConsumer { consumer, source }) => {
+            match hub.take_consumer(consumer) {
+                Ok(()) => return DONE,
+                Err(consumer) => {
+                    let seeded = SeededConsumer { consumer, source };
+                    (Thing::OfConsumer(seeded), OTHER_MAILBOX)
+                }
+            }
+        }
+        thing => (thing, BAD_HANDLE),
+    };
+    *opened = thing;
+    *part = Handle::of(opened);
+    code
+}
+
+/// Ends the mailbox. The box of its hub is the report's then.
+#[unsafe(no_mangle)]
+pub extern "C" fn hz_gather(
+    alloc: Global,
+    hub: &mut Handle,
+    report: &mut Handle,
+    missing: &mut MissingOut,
+) -> u32 {
+    if !report.is_none() {
+        return BAD_HANDLE;
+    }
+    let Some(mut opened) = hub.take(alloc) else {
+        return BAD_HANDLE;
+    };
+    let (thing, code) = match mem::replace(&mut *opened, Thing::OfNothing) {
+        Thing::OfHub(bound) => match bound.gather(alloc) {
+            Ok(made) => {
+                *opened = Thing::OfReport(made);
+                *report = Handle::of(opened);
+                return DONE;
+            }
+            Err((why, bound)) => (Thing::OfHub(bound), tell(why, missing)),
+        },
+        thing => (thing, BAD_HANDLE),
+    };
+    *opened = thing;
+    *hub = Handle::of(opened);
+    code
+}
+
+/// The code of a refusal, whose counts are written.
+fn tell(why: GatherFault, missing: &mut MissingOut) -> u32 {
+    match why {
+        GatherFault::Missing(producers, consumers) => {
+            *missing = MissingOut {
+                producers,
+                consumers,
+            };
+            MISSING
+        }
+        GatherFault::NoMemory => NO_MEMORY,
+    }
+}
+
+/// Frees what the handle leads to.
+#[unsafe(no_mangle)]
+pub extern "C" fn hz_free(alloc: Global, handle: &mut Handle) {
+    drop(handle.take(alloc));
+}

@@ -1,0 +1,72 @@
+//! A handle: what C has of a thing, or of nothing.
+ghost use Rattle.std.specs.Prelude.{◌≡◌, Bool, None, Option, Some, is_some, not};
+ghost use Rattle.hazbultra.specs.Handles.{holds};
+
+mod block;
+
+use crate::thing::Thing;
+use block::Block;
+use std::alloc::Global;
+use std::mem;
+
+/// A box that holds a thing, or nothing. Its type does not say what is in it.
+#[repr(C)]
+pub struct Handle {
+    full: bool,
+    block: Block,
+    pub ghost agrees: { is_some block.thing ≡ full },
+}
+
+impl Handle {
+    /// It leads to nothing.
+    pub fn none(alloc: Global) -> Handle
+        ensures { result.block.thing ≡ None }
+    {
+        Handle {
+            full: false,
+            block: Block::none(alloc),
+        }
+    }
+
+    /// It leads to what is in the box.
+    pub fn of(thing: Box<Thing, Global>) -> Handle
+        ensures { result.block.thing ≡ Some thing.value }
+    {
+        Handle {
+            full: true,
+            block: Block::of(thing),
+        }
+    }
+
+    /// Whether it leads to nothing.
+    pub fn is_none(&self) -> bool
+        ensures { result ≡ not (is_some self.now.block.thing) }
+    {
+        !self.full
+    }
+
+    /// The box that it leads to, which is the caller's then.
+    pub fn take(&mut self, alloc: Global) -> Option<Box<Thing, Global>>
+        ensures none { self.new.block.thing ≡ None }
+        ensures box_back { holds result self.old.block.thing }
+    {
+        mem::replace(self, Handle::none(alloc)).into_box()
+    }
+
+    fn into_box(self) -> Option<Box<Thing, Global>>
+        ensures { holds result self.block.thing }
+    {
+        let Handle { full, block } = self;
+        if full {
+            Some(block.into_box())
+        } else {
+            None
+        }
+    }
+}
+
+impl Drop for Handle {
+    fn drop(self) {
+        drop(self.into_box());
+    }
+}

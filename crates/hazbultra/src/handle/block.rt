@@ -1,0 +1,70 @@
+//! The address of a box, whose type does not say what is in it, or no address.
+ghost use Rattle.std.specs.Prelude.{◌≡◌, IsSome, None, Option, Some};
+ghost use Rattle.hazbultra.specs.declared.thing.Thing.{Thing};
+ghost use Rattle.hazbultra.specs.Blocks.{block_owns, maybe_thing_coded};
+
+mod parts;
+
+use crate::thing::Thing;
+use parts::Parts;
+use std::alloc::Global;
+use std::marker::Model;
+use std::ptr::null_mut;
+
+/// It owns what a box of the thing owns, or nothing. If it is let go, that is not freed.
+#[repr(C)]
+#[derive(Drop)]
+pub struct Block {
+    at: *mut u8,
+    alloc: Global,
+    pub ghost thing: { Option Thing } by { maybe_thing_coded },
+}
+
+impl Model for Block {
+    ghost also_owns = { λ b. block_owns b.alloc b.at b.thing };
+}
+
+impl Block {
+    pub(super) fn none(alloc: Global) -> Block
+        ensures { result.thing ≡ None }
+    {
+        Block {
+            at: null_mut(),
+            alloc,
+        }
+    }
+
+    pub(super) fn of(thing: Box<Thing, Global>) -> Block
+        ensures { result.thing ≡ Some thing.value }
+    {
+        Block::of_parts(Parts::of(thing))
+    }
+
+    pub(super) fn into_box(self) -> Box<Thing, Global>
+        requires { IsSome self.thing }
+        ensures { self.thing ≡ Some result.value }
+    {
+        self.into_parts().into_box()
+    }
+
+    fn of_parts(parts: Parts<Thing, Global>) -> Block
+        ensures { result.thing ≡ Some parts.value }
+    {
+        let Parts { ptr, alloc } = parts;
+        Block {
+            at: ptr as *mut u8,
+            alloc,
+        }
+    }
+
+    fn into_parts(self) -> Parts<Thing, Global>
+        requires { IsSome self.thing }
+        ensures { self.thing ≡ Some result.value }
+    {
+        let Block { at, alloc } = self;
+        Parts {
+            ptr: at as *mut Thing,
+            alloc,
+        }
+    }
+}

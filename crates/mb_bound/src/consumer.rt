@@ -1,0 +1,73 @@
+//! A consumer with its mailbox.
+use mb_mailbox::{Consumer, Mailbox, Poll};
+use rand_core::Rng;
+use std::alloc::Allocator;
+use std::marker::Model;
+use std::sync::Arc;
+
+/// A consumer with its mailbox. It has no source of random words: each poll is handed one.
+#[derive(Drop)]
+pub struct BoundConsumer<A: Allocator + Drop> {
+    pub(crate) id: u64,
+    pub(crate) mailbox: Arc<Mailbox<A>, A>,
+    pub(crate) consumer: Consumer<A>,
+}
+
+impl<A: Allocator + Drop> Model for BoundConsumer<A> {
+    ghost use Rattle.std.specs.Arc.{arc_value};
+    ghost use Rattle.mb_bound.specs.Bound.{BoundConsumerView};
+    ghost use Rattle.mb_mailbox.specs.Consumers.{IsConsumerOf};
+
+    ghost Value = { BoundConsumerView };
+
+    ghost view = { λ c. record {
+      id = c.id;
+      mailbox = arc_value c.mailbox;
+      consumer = c.consumer;
+    } };
+
+    ghost invariant = { λ c. IsConsumerOf (arc_value c.mailbox) c.consumer };
+}
+
+impl<A: Allocator + Drop> BoundConsumer<A> {
+    ghost use Rattle.std.specs.Prelude.{◌≡◌, ◌≢◌, ◌↔◌, ◌≤◌, ◌+◌, true};
+    ghost use Rattle.mb_claim.specs.Vocabulary.{most_accesses, shape_of};
+    ghost use Rattle.mb_mailbox.specs.declared.consumer.Poll.TheVariants.{NoLane, Spent, Undecided};
+    ghost use Rattle.mb_mailbox.specs.Consumers.{IsConsumerOf};
+    ghost use Rattle.mb_mailbox.specs.Steps.{AnswerTells, IsPollOf, outcome};
+
+    /// The number of its mailbox.
+    pub fn id(&self) -> u64
+        ensures { result ≡ self.now.id }
+    {
+        self.id
+    }
+
+    /// It is a consumer of its mailbox. It computes nothing: its contract is a law of all of them.
+    pub fn is_bound(&self)
+        ensures { IsConsumerOf self.now.mailbox self.now.consumer }
+    {
+        let _ = &self.consumer;
+    }
+
+    /// Makes accesses on a lane until one has an answer, or as many were made as the budget allows, as [`Consumer::poll`]
+    /// does.
+    pub fn poll<R: Rng>(&mut self, lane: u64, budget: u64, rng: &mut R) -> Poll
+        ensures no_lane { (result ≡ NoLane) ↔ (self.old.mailbox.cells.size.lanes ≤ lane) }
+        ensures refused { result ≡ NoLane
+            → (self.new ≡ self.old) × (R.stream rng.new ≡ R.stream rng.old) }
+        ensures polled { result ≢ NoLane
+            → IsPollOf lane budget result (R.stream rng.old) (R.stream rng.new) self.old.consumer
+            self.new.consumer }
+        ensures unspent { most_accesses self.old.mailbox.claims.layout + 2 ≤ budget
+            → result ≢ Spent }
+        ensures decided { (shape_of self.old.mailbox.claims.layout).last ≡ true
+            → result ≢ Undecided }
+        ensures told { result ≢ NoLane
+            → AnswerTells lane (outcome result) self.old.consumer self.new.consumer }
+        ensures id { self.new.id ≡ self.old.id }
+        ensures mailbox { self.new.mailbox ≡ self.old.mailbox }
+    {
+        self.consumer.poll(&self.mailbox, lane, budget, rng)
+    }
+}

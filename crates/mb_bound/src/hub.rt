@@ -1,0 +1,212 @@
+//! A mailbox with its hub.
+use crate::consumer::BoundConsumer;
+use crate::producer::BoundProducer;
+use mb_cells::NoMemory;
+use mb_mailbox::{GatherFault, Hub, HubFault, Mailbox};
+use mb_world::{Report, Setup};
+use std::alloc::{AllocError, Allocator};
+use std::marker::Model;
+use std::sync::Arc;
+
+/// A mailbox with its hub, which gives producers and consumers and takes them back.
+#[derive(Drop)]
+pub struct BoundHub<A: Allocator + Drop> {
+    pub(crate) id: u64,
+    pub(crate) mailbox: Arc<Mailbox<A>, A>,
+    pub(crate) hub: Hub<A>,
+}
+
+impl<A: Allocator + Drop> Model for BoundHub<A> {
+    ghost use Rattle.std.specs.Arc.{arc_value};
+    ghost use Rattle.mb_bound.specs.Bound.{BoundHubView};
+    ghost use Rattle.mb_mailbox.specs.Hubs.{IsHubOf};
+
+    ghost Value = { BoundHubView };
+
+    ghost view = { λ h. record { id = h.id; mailbox = arc_value h.mailbox; hub = h.hub } };
+
+    ghost invariant = { λ h. IsHubOf (arc_value h.mailbox) h.hub };
+}
+
+impl<A: Allocator + Drop> BoundHub<A> {
+    ghost use Rattle.std.specs.Prelude.{◌≡◌, ◌≢◌, ◌↔◌, ◌≤◌, Err, IfErr, IfOk, IsOk, None, OnErr, Some, length, slice_get};
+    ghost use Rattle.mb_bound.specs.Bound.{AreNamedApart};
+    ghost use Rattle.mb_mailbox.specs.declared.hub.HubFault.TheVariants.{AllGiven};
+    ghost use Rattle.mb_mailbox.specs.Hubs.{IsHubOf, new_producer, with_producer};
+    ghost use Rattle.mb_mailbox.specs.Hubs.{with_taken_consumer, with_taken_producer};
+
+    /// The number of the mailbox.
+    pub fn id(&self) -> u64
+        ensures { result ≡ self.now.id }
+    {
+        self.id
+    }
+
+    /// It is the hub of its mailbox. It computes nothing: its contract is a law of all of them.
+    pub fn is_bound(&self)
+        ensures { IsHubOf self.now.mailbox self.now.hub }
+    {
+        let _ = &self.hub;
+    }
+
+    /// The producer of the next lane, as [`Hub::producer`] gives it.
+    pub fn producer(&mut self, alloc: A) -> Result<BoundProducer<A>, HubFault>
+        ensures all_given { result ≡ Err AllGiven
+            → self.old.mailbox.cells.size.lanes ≤ length self.old.hub.puts }
+        ensures none_left { self.old.mailbox.cells.size.lanes ≤ length self.old.hub.puts
+            → OnErr result (result ≡ Err AllGiven) }
+        ensures producer { IfOk result (λ given. given ≡ record {
+          id = self.old.id;
+          mailbox = self.old.mailbox;
+          producer = new_producer self.old.mailbox (length self.old.hub.puts);
+        }) }
+        ensures hub { IfOk result (λ _.
+            self.new ≡ record self.old { hub = with_producer self.old.hub }) }
+        ensures refused { OnErr result (self.new ≡ self.old) }
+    {
+        let Ok(mailbox) = Arc::try_clone(&self.mailbox) else {
+            return Err(HubFault::NoMemory);
+        };
+        let producer = self.hub.producer(alloc, &self.mailbox)?;
+        Ok(BoundProducer {
+            id: self.id,
+            mailbox,
+            producer,
+        })
+    }
+
+    /// Takes a producer back, as [`Hub::take_producer`] does. One of a mailbox of another number comes back.
+    pub fn take_producer(&mut self, producer: BoundProducer<A>) -> Result<(), BoundProducer<A>>
+        requires { AreNamedApart self.old.id self.old.mailbox producer.id producer.mailbox }
+        ensures taken { self.old.id ≡ producer.id → IsOk result }
+        ensures was_out { IfOk result (λ _.
+            slice_get self.old.hub.puts producer.producer.seat.lane ≡ Some None) }
+        ensures hub { IfOk result (λ _. self.new ≡ record self.old {
+          hub = with_taken_producer producer.producer self.old.hub;
+        }) }
+        ensures other { IfErr result (λ back. (back ≡ producer) × (self.old.id ≢ producer.id)) }
+        ensures refused { OnErr result (self.new ≡ self.old) }
+    {
+        if producer.id != self.id {
+            return Err(producer);
+        }
+        let BoundProducer {
+            id: _,
+            mailbox: _,
+            producer,
+        } = producer;
+        self.hub.take_producer(&self.mailbox, producer);
+        Ok(())
+    }
+
+    /// Takes a consumer back, as [`Hub::take_consumer`] does. One of a mailbox of another number comes back.
+    pub fn take_consumer(&mut self, consumer: BoundConsumer<A>) -> Result<(), BoundConsumer<A>>
+        requires { AreNamedApart self.old.id self.old.mailbox consumer.id consumer.mailbox }
+        ensures taken { self.old.id ≡ consumer.id → IsOk result }
+        ensures was_out { IfOk result (λ _.
+            slice_get self.old.hub.ledgers consumer.consumer.seat.consumer ≡ Some None) }
+        ensures hub { IfOk result (λ _. self.new ≡ record self.old {
+          hub = with_taken_consumer consumer.consumer self.old.hub;
+        }) }
+        ensures other { IfErr result (λ back. (back ≡ consumer) × (self.old.id ≢ consumer.id)) }
+        ensures refused { OnErr result (self.new ≡ self.old) }
+    {
+        if consumer.id != self.id {
+            return Err(consumer);
+        }
+        let BoundConsumer {
+            id: _,
+            mailbox: _,
+            consumer,
+        } = consumer;
+        self.hub.take_consumer(&self.mailbox, consumer);
+        Ok(())
+    }
+}
+
+impl<A: Allocator + Clone + Drop> BoundHub<A> {
+    ghost use Rattle.std.specs.Prelude.{◌≡◌, ◌+◌, ◌<◌, ◌≤◌, ◌⊎◌, Err, IfErr, IfOk, OnErr, length};
+    ghost use Rattle.mb_world.specs.Plan.{size_of};
+    ghost use Rattle.mb_world.specs.Setups.{layout_of, plan_in};
+    ghost use Rattle.mb_mailbox.specs.declared.gather.GatherFault.TheVariants.{Missing, NoMemory};
+    ghost use Rattle.mb_mailbox.specs.declared.hub.HubFault.TheVariants.{AllGiven};
+    ghost use Rattle.mb_mailbox.specs.Below.{consumer_count};
+    ghost use Rattle.mb_mailbox.specs.Gathering.{FullTakesAll, IsGathered, IsReportIn, UndecidedHasCompany, count_missing};
+    ghost use Rattle.mb_mailbox.specs.Hubs.{IsNewConsumer, hub_empty, with_consumer};
+    ghost use Rattle.mb_mailbox.specs.Mailboxes.{plan_at};
+
+    /// A mailbox of this setup, in which nothing was done, and its hub. `id` is its number: no other mailbox whose
+    /// producers or consumers may come to this hub has it. [`NoMemory`] comes if the allocator refuses a part.
+    pub fn new(alloc: A, id: u64, setup: Setup) -> Result<BoundHub<A>, NoMemory>
+        ensures id { IfOk result (λ made. made.id ≡ id) }
+        ensures plan { IfOk result (λ made. plan_at made.mailbox ≡ plan_in setup) }
+        ensures size { IfOk result (λ made. made.mailbox.cells.size ≡ size_of (plan_in setup)) }
+        ensures layout { IfOk result (λ made. made.mailbox.claims.layout ≡ layout_of setup) }
+        ensures empty { IfOk result (λ made. made.hub ≡ hub_empty made.mailbox) }
+    {
+        let (mailbox, hub) = Mailbox::new(alloc.clone()?, setup)?;
+        match Arc::new(alloc, mailbox) {
+            Ok(mailbox) => Ok(BoundHub { id, mailbox, hub }),
+            Err(_) => Err(AllocError),
+        }
+    }
+
+    /// The consumer of the next number, as [`Hub::consumer`] gives it.
+    pub fn consumer(&mut self, alloc: A) -> Result<BoundConsumer<A>, HubFault>
+        ensures all_given { result ≡ Err AllGiven
+            → consumer_count self.old.mailbox.claims.layout ≤ length self.old.hub.ledgers }
+        ensures none_left { consumer_count self.old.mailbox.claims.layout
+            ≤ length self.old.hub.ledgers → OnErr result (result ≡ Err AllGiven) }
+        ensures consumer { IfOk result (λ given.
+            IsNewConsumer self.old.mailbox self.old.hub given.consumer) }
+        ensures given { IfOk result (λ given.
+            (given.id ≡ self.old.id) × (given.mailbox ≡ self.old.mailbox)) }
+        ensures hub { IfOk result (λ _.
+            self.new ≡ record self.old { hub = with_consumer self.old.hub }) }
+        ensures refused { OnErr result (self.new ≡ self.old) }
+    {
+        let Ok(mailbox) = Arc::try_clone(&self.mailbox) else {
+            return Err(HubFault::NoMemory);
+        };
+        let consumer = self.hub.consumer(alloc, &self.mailbox)?;
+        Ok(BoundConsumer {
+            id: self.id,
+            mailbox,
+            consumer,
+        })
+    }
+
+    /// Ends the mailbox, and tells what all that were taken back did, as [`Mailbox::gather`] does. After a fault the hub
+    /// comes back as it was. [`GatherFault::Missing`] with two zeros would say that a copy of the mailbox is in use
+    /// elsewhere, though all were taken back: nothing makes one.
+    pub fn gather(self, alloc: A) -> Result<Report<A>, (GatherFault, BoundHub<A>)>
+        ensures missing { 0 < count_missing self.hub.puts + count_missing self.hub.ledgers
+            → result ≡ Err
+            (Missing (count_missing self.hub.puts) (count_missing self.hub.ledgers), self) }
+        ensures refused { count_missing self.hub.puts + count_missing self.hub.ledgers ≡ 0
+            → IfErr result (λ e. (e.0 ≡ NoMemory) ⊎ (e.0 ≡ Missing 0 0)) }
+        ensures same { IfErr result (λ e. e.1 ≡ self) }
+        ensures lists { IfOk result (λ r. IsReportIn self.mailbox.cells.size.lanes
+            (consumer_count self.mailbox.claims.layout) self.hub r) }
+        ensures headline { IfOk result (λ r. IsGathered self.mailbox self.hub r) }
+        ensures full { IfOk result (λ r. FullTakesAll self.mailbox self.hub r) }
+        ensures undecided { IfOk result (λ r. UndecidedHasCompany r) }
+    {
+        let BoundHub { id, mailbox, hub } = self;
+        let (producers, consumers) = mailbox.missing(&hub);
+        if producers > 0 || consumers > 0 {
+            let why = GatherFault::Missing(producers, consumers);
+            return Err((why, BoundHub { id, mailbox, hub }));
+        }
+        let Ok(draft) = mailbox.draft(alloc, &hub) else {
+            return Err((GatherFault::NoMemory, BoundHub { id, mailbox, hub }));
+        };
+        match Arc::try_unwrap(mailbox) {
+            Ok(mailbox) => Ok(mailbox.gather_with(hub, draft)),
+            Err(mailbox) => {
+                let why = GatherFault::Missing(0, 0);
+                Err((why, BoundHub { id, mailbox, hub }))
+            }
+        }
+    }
+}
