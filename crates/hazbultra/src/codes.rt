@@ -1,34 +1,61 @@
 //! The answers of the calls, as numbers. They are those of `bindings/c/hazbultra.h`.
-use mb_cells::Finish;
-use mb_mailbox::{HubFault, Put};
+ghost use Rattle.std.specs.Prelude.{◌≡◌, ◌≢◌};
+ghost use Rattle.mb_mailbox.specs.declared.hub.HubFault.TheVariants as hub;
+ghost use Rattle.hazbultra.specs.Calls.{table_numbered};
+ghost use Rattle.hazbultra.specs.declared.codes.TheConstants.{ALL_GIVEN, DONE};
+
+use mb_mailbox::HubFault;
 use mb_quorum::TableName;
 use mb_world::SetupFault;
 
 pub(crate) const DONE: u32 = 0;
+
 pub(crate) const TOOK: u32 = 1;
+
 pub(crate) const LOST: u32 = 2;
+
 pub(crate) const UNDECIDED: u32 = 3;
+
 pub(crate) const NOTHING: u32 = 4;
+
 pub(crate) const ENDED: u32 = 5;
+
 pub(crate) const SPENT: u32 = 6;
+
 pub(crate) const NO_LANE: u32 = 7;
+
 pub(crate) const LINKED: u32 = 8;
+
 pub(crate) const FULL: u32 = 9;
+
 pub(crate) const CLOSED: u32 = 10;
+
 pub(crate) const NO_MEMORY: u32 = 16;
+
 pub(crate) const BAD_HANDLE: u32 = 17;
+
 pub(crate) const ALL_GIVEN: u32 = 18;
+
 pub(crate) const MISSING: u32 = 19;
+
 pub(crate) const OTHER_MAILBOX: u32 = 20;
+
 pub(crate) const NOT_THERE: u32 = 21;
+
 pub(crate) const BAD_TABLE: u32 = 32;
+
 pub(crate) const BAD_PRODUCERS: u32 = 33;
+
 pub(crate) const BAD_CONSUMERS: u32 = 34;
+
 pub(crate) const BAD_CELLS: u32 = 35;
+
 pub(crate) const BAD_PAIRS: u32 = 36;
 
 /// The quorum table of this number.
-pub(crate) fn table_of(number: u32) -> Option<TableName> {
+pub(crate) fn table_of(number: u32) -> Option<TableName>
+    ensures { result ≡ table_numbered number }
+{
     match number {
         0 => Some(TableName::Unary),
         1 => Some(TableName::Bits),
@@ -37,7 +64,9 @@ pub(crate) fn table_of(number: u32) -> Option<TableName> {
     }
 }
 
-pub(crate) fn code_of_setup(why: SetupFault) -> u32 {
+pub(crate) fn code_of_setup(why: SetupFault) -> u32
+    ensures { result ≢ DONE }
+{
     match why {
         SetupFault::BadProducers => BAD_PRODUCERS,
         SetupFault::BadConsumers => BAD_CONSUMERS,
@@ -46,25 +75,12 @@ pub(crate) fn code_of_setup(why: SetupFault) -> u32 {
     }
 }
 
-pub(crate) fn code_of_hub(why: HubFault) -> u32 {
+pub(crate) fn code_of_hub(why: HubFault) -> u32
+    ensures all_given { result ≡ ALL_GIVEN → why ≡ hub.AllGiven }
+    ensures refused { result ≢ DONE }
+{
     match why {
         HubFault::AllGiven => ALL_GIVEN,
         HubFault::NoMemory => NO_MEMORY,
-    }
-}
-
-pub(crate) fn code_of_put(put: Put) -> u32 {
-    match put {
-        Put::Linked => LINKED,
-        Put::Full => FULL,
-        Put::Closed => CLOSED,
-    }
-}
-
-/// A bound producer is never busy, so the last line is dead.
-pub(crate) fn code_of_finish(finish: Finish) -> u32 {
-    match finish {
-        Finish::Ended => DONE,
-        Finish::Closed | Finish::Busy => CLOSED,
     }
 }

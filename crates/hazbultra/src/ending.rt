@@ -1,6 +1,11 @@
 //! The calls that take producers and consumers back, end a mailbox, and free what a handle leads to.
-ghost use Rattle.std.specs.Prelude.{◌≡◌};
+ghost use Rattle.std.specs.Prelude.{◌≡◌, ◌≢◌, None};
+ghost use Rattle.mb_mailbox.specs.Below.{consumer_count};
+ghost use Rattle.mb_mailbox.specs.Gathering.{FullTakesAll, IsGathered, IsReportIn, UndecidedHasCompany, count_missing};
+ghost use Rattle.mb_mailbox.specs.declared.gather.GatherFault.TheVariants.{Missing};
 ghost use Rattle.hazbultra.specs.Apart.{AreApart, IsApartFrom};
+ghost use Rattle.hazbultra.specs.Calls.{HasTakenBack, HubMade, HubTold, HubWent};
+ghost use Rattle.hazbultra.specs.declared.codes.TheConstants.{DONE, MISSING};
 
 use crate::codes::{BAD_HANDLE, DONE, MISSING, NO_MEMORY, OTHER_MAILBOX};
 use crate::crossing::MissingOut;
@@ -15,6 +20,11 @@ use std::mem;
 #[unsafe(no_mangle)]
 pub extern "C" fn hz_take_back(alloc: Global, hub: &mut Handle, part: &mut Handle) -> u32
     requires { AreApart hub.old.block.thing part.old.block.thing }
+    ensures taken { result ≡ DONE → HubWent (λ h k. HasTakenBack h part.old.block.thing k)
+        hub.old.block.thing hub.new.block.thing }
+    ensures gone { result ≡ DONE → part.new.block.thing ≡ None }
+    ensures same_hub { result ≢ DONE → hub.new.block.thing ≡ hub.old.block.thing }
+    ensures same { result ≢ DONE → part.new.block.thing ≡ part.old.block.thing }
 {
     let Some(mut opened) = hub.take(alloc) else {
         return BAD_HANDLE;
@@ -30,6 +40,10 @@ pub extern "C" fn hz_take_back(alloc: Global, hub: &mut Handle, part: &mut Handl
 /// The same for a hub that is opened.
 fn take_back(alloc: Global, hub: &mut BoundHub<Global>, part: &mut Handle) -> u32
     requires { IsApartFrom hub.old part.old.block.thing }
+    ensures taken { result ≡ DONE → HasTakenBack hub.old part.old.block.thing hub.new }
+    ensures gone { result ≡ DONE → part.new.block.thing ≡ None }
+    ensures same_hub { result ≢ DONE → hub.new ≡ hub.old }
+    ensures same { result ≢ DONE → part.new.block.thing ≡ part.old.block.thing }
 {
     let Some(mut opened) = part.take(alloc) else {
         return BAD_HANDLE;
@@ -62,7 +76,23 @@ pub extern "C" fn hz_gather(
     hub: &mut Handle,
     report: &mut Handle,
     missing: &mut MissingOut,
-) -> u32 {
+) -> u32
+    ensures headline { result ≡ DONE → HubTold (λ h r. IsGathered h.mailbox h.hub r)
+        hub.old.block.thing report.new.block.thing }
+    ensures lists { result ≡ DONE → HubTold (λ h r. IsReportIn h.mailbox.cells.size.lanes
+        (consumer_count h.mailbox.claims.layout) h.hub r)
+        hub.old.block.thing report.new.block.thing }
+    ensures full { result ≡ DONE → HubTold (λ h r. FullTakesAll h.mailbox h.hub r)
+        hub.old.block.thing report.new.block.thing }
+    ensures undecided { result ≡ DONE → HubTold (λ h r. UndecidedHasCompany r)
+        hub.old.block.thing report.new.block.thing }
+    ensures gone { result ≡ DONE → hub.new.block.thing ≡ None }
+    ensures missing { result ≡ MISSING
+        → HubMade (λ h. (missing.new.producers ≡ count_missing h.hub.puts)
+        × (missing.new.consumers ≡ count_missing h.hub.ledgers)) hub.old.block.thing }
+    ensures same_hub { result ≢ DONE → hub.new.block.thing ≡ hub.old.block.thing }
+    ensures same { result ≢ DONE → report.new.block.thing ≡ report.old.block.thing }
+{
     if !report.is_none() {
         return BAD_HANDLE;
     }
@@ -86,7 +116,11 @@ pub extern "C" fn hz_gather(
 }
 
 /// The code of a refusal, whose counts are written.
-fn tell(why: GatherFault, missing: &mut MissingOut) -> u32 {
+fn tell(why: GatherFault, missing: &mut MissingOut) -> u32
+    ensures missing { result ≡ MISSING
+        → why ≡ Missing missing.new.producers missing.new.consumers }
+    ensures refused { result ≢ DONE }
+{
     match why {
         GatherFault::Missing(producers, consumers) => {
             *missing = MissingOut {
@@ -101,6 +135,8 @@ fn tell(why: GatherFault, missing: &mut MissingOut) -> u32 {
 
 /// Frees what the handle leads to.
 #[unsafe(no_mangle)]
-pub extern "C" fn hz_free(alloc: Global, handle: &mut Handle) {
+pub extern "C" fn hz_free(alloc: Global, handle: &mut Handle)
+    ensures { handle.new.block.thing ≡ None }
+{
     drop(handle.take(alloc));
 }

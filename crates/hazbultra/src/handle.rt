@@ -57,11 +57,7 @@ impl Handle {
         ensures { holds result self.block.thing }
     {
         let Handle { full, block } = self;
-        if full {
-            Some(block.into_box())
-        } else {
-            None
-        }
+        if full { Some(block.into_box()) } else { None }
     }
 }
 

@@ -1,9 +1,14 @@
 //! The calls that make a mailbox, its producers and its consumers.
-ghost use Rattle.std.specs.Prelude.{◌≡◌, ◌≢◌};
+ghost use Rattle.std.specs.Prelude.{◌≡◌, ◌≢◌, ◌≤◌, IfErr, IfOk, Some, length};
+ghost use Rattle.mb_quorum.specs.declared.table.TableName.{TableName};
+ghost use Rattle.mb_world.specs.Setups.{plan_in, shaped_plan};
+ghost use Rattle.mb_mailbox.specs.Below.{consumer_count};
+ghost use Rattle.mb_mailbox.specs.Hubs.{IsNewConsumer, hub_empty, new_producer, with_consumer, with_producer};
+ghost use Rattle.mb_mailbox.specs.Mailboxes.{plan_at};
+ghost use Rattle.hazbultra.specs.Calls.{HubGave, HubGaveConsumer, HubMade, HubWent, table_numbered};
+ghost use Rattle.hazbultra.specs.declared.codes.TheConstants.{ALL_GIVEN, DONE};
 
-use crate::codes::{
-    BAD_HANDLE, BAD_TABLE, DONE, NO_MEMORY, code_of_hub, code_of_setup, table_of,
-};
+use crate::codes::{BAD_HANDLE, BAD_TABLE, DONE, NO_MEMORY, code_of_hub, code_of_setup, table_of};
 use crate::crossing::SetupIn;
 use crate::handle::Handle;
 use crate::thing::{SeededConsumer, Thing};
@@ -15,7 +20,14 @@ use rand_core::SeedableRng;
 use std::alloc::Global;
 
 /// The setup that C asks for, or the code of its refusal.
-fn setup_of(wanted: &SetupIn) -> Result<Setup, u32> {
+fn setup_of(wanted: &SetupIn) -> Result<Setup, u32>
+    ensures made { IfOk result (λ setup. (name : TableName)
+        → table_numbered wanted.now.table ≡ Some name
+        → plan_in setup ≡ shaped_plan
+        (record { fast = wanted.now.fast; last = wanted.now.last })
+        wanted.now.producers wanted.now.consumers wanted.now.cells wanted.now.pairs name) }
+    ensures refused { IfErr result (λ code. code ≢ DONE) }
+{
     let Some(table) = table_of(wanted.table) else {
         return Err(BAD_TABLE);
     };
@@ -37,12 +49,7 @@ fn setup_of(wanted: &SetupIn) -> Result<Setup, u32> {
 
 /// A mailbox of this setup and its hub. No other mailbox of the process has its number.
 #[unsafe(no_mangle)]
-pub extern "C" fn hz_mailbox_new(
-    alloc: Global,
-    id: u64,
-    setup: &SetupIn,
-    hub: &mut Handle,
-) -> u32 {
+pub extern "C" fn hz_mailbox_new(alloc: Global, id: u64, setup: &SetupIn, hub: &mut Handle) -> u32 {
     if !hub.is_none() {
         return BAD_HANDLE;
     }
@@ -62,7 +69,21 @@ pub extern "C" fn hz_mailbox_new(
 
 /// The producer of the next lane. Its box is made first, so a refusal for memory gives no number away.
 #[unsafe(no_mangle)]
-pub extern "C" fn hz_producer_new(alloc: Global, hub: &mut Handle, producer: &mut Handle) -> u32 {
+pub extern "C" fn hz_producer_new(alloc: Global, hub: &mut Handle, producer: &mut Handle) -> u32
+    ensures given { result ≡ DONE
+        → HubGave (λ h p. p ≡ record {
+          id = h.id;
+          mailbox = h.mailbox;
+          producer = new_producer h.mailbox (length h.hub.puts);
+        }) hub.old.block.thing producer.new.block.thing }
+    ensures hub { result ≡ DONE
+        → HubWent (λ h k. k ≡ record h { hub = with_producer h.hub })
+        hub.old.block.thing hub.new.block.thing }
+    ensures all_given { result ≡ ALL_GIVEN
+        → HubMade (λ h. h.mailbox.cells.size.lanes ≤ length h.hub.puts) hub.old.block.thing }
+    ensures same_hub { result ≢ DONE → hub.new.block.thing ≡ hub.old.block.thing }
+    ensures same { result ≢ DONE → producer.new.block.thing ≡ producer.old.block.thing }
+{
     if !producer.is_none() {
         return BAD_HANDLE;
     }
@@ -95,7 +116,20 @@ pub extern "C" fn hz_consumer_new(
     seed: &[u8; 32],
     stream: u64,
     consumer: &mut Handle,
-) -> u32 {
+) -> u32
+    ensures given { result ≡ DONE
+        → HubGaveConsumer (λ h c. (c.consumer.id ≡ h.id) × (c.consumer.mailbox ≡ h.mailbox)
+        × IsNewConsumer h.mailbox h.hub c.consumer.consumer)
+        hub.old.block.thing consumer.new.block.thing }
+    ensures hub { result ≡ DONE
+        → HubWent (λ h k. k ≡ record h { hub = with_consumer h.hub })
+        hub.old.block.thing hub.new.block.thing }
+    ensures all_given { result ≡ ALL_GIVEN
+        → HubMade (λ h. consumer_count h.mailbox.claims.layout ≤ length h.hub.ledgers)
+        hub.old.block.thing }
+    ensures same_hub { result ≢ DONE → hub.new.block.thing ≡ hub.old.block.thing }
+    ensures same { result ≢ DONE → consumer.new.block.thing ≡ consumer.old.block.thing }
+{
     if !consumer.is_none() {
         return BAD_HANDLE;
     }

@@ -1,5 +1,7 @@
 //! The calls that read a report.
 ghost use Rattle.std.specs.Prelude.{◌≡◌, ◌≤◌, length};
+ghost use Rattle.hazbultra.specs.Calls.{IsReport};
+ghost use Rattle.hazbultra.specs.declared.codes.TheConstants.{BAD_HANDLE};
 
 use crate::codes::{BAD_HANDLE, DONE, NOT_THERE};
 use crate::crossing::{DiaryOut, LaneOut, NoteOut};
@@ -25,7 +27,10 @@ pub extern "C" fn hz_report_size(
     report: &mut Handle,
     lanes: &mut u64,
     consumers: &mut u64,
-) -> u32 {
+) -> u32
+    ensures kept { report.new.block.thing ≡ report.old.block.thing }
+    ensures bad { result ≡ BAD_HANDLE → IsReport report.old.block.thing → ⊥ }
+{
     let Some(opened) = report.take(alloc) else {
         return BAD_HANDLE;
     };
@@ -49,7 +54,10 @@ pub extern "C" fn hz_report_lane(
     report: &mut Handle,
     lane: u64,
     out: &mut LaneOut,
-) -> u32 {
+) -> u32
+    ensures kept { report.new.block.thing ≡ report.old.block.thing }
+    ensures bad { result ≡ BAD_HANDLE → IsReport report.old.block.thing → ⊥ }
+{
     let Some(opened) = report.take(alloc) else {
         return BAD_HANDLE;
     };
@@ -79,7 +87,10 @@ pub extern "C" fn hz_report_diary(
     consumer: u64,
     lane: u64,
     out: &mut DiaryOut,
-) -> u32 {
+) -> u32
+    ensures kept { report.new.block.thing ≡ report.old.block.thing }
+    ensures bad { result ≡ BAD_HANDLE → IsReport report.old.block.thing → ⊥ }
+{
     let Some(opened) = report.take(alloc) else {
         return BAD_HANDLE;
     };
@@ -110,7 +121,10 @@ pub extern "C" fn hz_report_items(
     from: u64,
     items: &mut [u64],
     copied: &mut u64,
-) -> u32 {
+) -> u32
+    ensures kept { report.new.block.thing ≡ report.old.block.thing }
+    ensures bad { result ≡ BAD_HANDLE → IsReport report.old.block.thing → ⊥ }
+{
     let Some(opened) = report.take(alloc) else {
         return BAD_HANDLE;
     };
@@ -139,7 +153,10 @@ pub extern "C" fn hz_report_notes(
     from: u64,
     notes: &mut [NoteOut],
     copied: &mut u64,
-) -> u32 {
+) -> u32
+    ensures kept { report.new.block.thing ≡ report.old.block.thing }
+    ensures bad { result ≡ BAD_HANDLE → IsReport report.old.block.thing → ⊥ }
+{
     let Some(opened) = report.take(alloc) else {
         return BAD_HANDLE;
     };

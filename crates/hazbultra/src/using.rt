@@ -1,20 +1,47 @@
 //! The calls of a producer and of a consumer.
+ghost use Rattle.std.specs.Prelude.{◌≡◌, ◌≢◌, ◌⊎◌, ℕ, Some, true};
+ghost use Rattle.mb_mailbox.specs.declared.consumer.Poll.{Poll};
+ghost use Rattle.mb_mailbox.specs.declared.consumer.Poll.TheVariants.{NoLane};
+ghost use Rattle.mb_mailbox.specs.Producers.{HasNoCellFor, IsEndOfLane, IsPutInto, is_over};
+ghost use Rattle.mb_mailbox.specs.Steps.{AnswerTells, outcome};
+ghost use Rattle.hazbultra.specs.Calls.{ConsumerWent, IsConsumer, IsProducer, ProducerWent, answer_told};
+ghost use Rattle.hazbultra.specs.declared.codes.TheConstants.{BAD_HANDLE, CLOSED, DONE, FULL, LINKED, NO_LANE};
+
 use crate::codes::{
-    BAD_HANDLE, ENDED, LOST, NO_LANE, NOTHING, SPENT, TOOK, UNDECIDED, code_of_finish, code_of_put,
+    BAD_HANDLE, CLOSED, DONE, ENDED, FULL, LINKED, LOST, NO_LANE, NOTHING, SPENT, TOOK, UNDECIDED,
 };
 use crate::handle::Handle;
 use crate::thing::Thing;
-use mb_mailbox::Poll;
+use mb_cells::Finish;
+use mb_mailbox::{Poll, Put};
 use std::alloc::Global;
 
 /// Puts an item.
 #[unsafe(no_mangle)]
-pub extern "C" fn hz_put(alloc: Global, producer: &mut Handle, item: u64) -> u32 {
+pub extern "C" fn hz_put(alloc: Global, producer: &mut Handle, item: u64) -> u32
+    ensures linked { result ≡ LINKED
+        → ProducerWent (λ p q. (k : ℕ) × IsPutInto k item p.producer q.producer)
+        producer.old.block.thing producer.new.block.thing }
+    ensures full { result ≡ FULL
+        → ProducerWent (λ p q. HasNoCellFor item p.producer q.producer)
+        producer.old.block.thing producer.new.block.thing }
+    ensures closed { result ≡ CLOSED
+        → ProducerWent (λ p q. (q ≡ p) × (is_over p.producer ≡ true))
+        producer.old.block.thing producer.new.block.thing }
+    ensures bad { result ≡ BAD_HANDLE → IsProducer producer.old.block.thing → ⊥ }
+    ensures same { result ≡ BAD_HANDLE → producer.new.block.thing ≡ producer.old.block.thing }
+    ensures codes { (result ≡ LINKED) ⊎ (result ≡ FULL) ⊎ (result ≡ CLOSED)
+        ⊎ (result ≡ BAD_HANDLE) }
+{
     let Some(mut opened) = producer.take(alloc) else {
         return BAD_HANDLE;
     };
     let code = match &mut *opened {
-        Thing::OfProducer(bound) => code_of_put(bound.put(item)),
+        Thing::OfProducer(bound) => match bound.put(item) {
+            Put::Linked => LINKED,
+            Put::Full => FULL,
+            Put::Closed => CLOSED,
+        },
         _ => BAD_HANDLE,
     };
     *producer = Handle::of(opened);
@@ -23,12 +50,25 @@ pub extern "C" fn hz_put(alloc: Global, producer: &mut Handle, item: u64) -> u32
 
 /// Ends the lane.
 #[unsafe(no_mangle)]
-pub extern "C" fn hz_finish(alloc: Global, producer: &mut Handle) -> u32 {
+pub extern "C" fn hz_finish(alloc: Global, producer: &mut Handle) -> u32
+    ensures done { result ≡ DONE → ProducerWent (λ p q. IsEndOfLane p.producer q.producer)
+        producer.old.block.thing producer.new.block.thing }
+    ensures closed { result ≡ CLOSED
+        → ProducerWent (λ p q. (q ≡ p) × (is_over p.producer ≡ true))
+        producer.old.block.thing producer.new.block.thing }
+    ensures bad { result ≡ BAD_HANDLE → IsProducer producer.old.block.thing → ⊥ }
+    ensures same { result ≡ BAD_HANDLE → producer.new.block.thing ≡ producer.old.block.thing }
+    ensures codes { (result ≡ DONE) ⊎ (result ≡ CLOSED) ⊎ (result ≡ BAD_HANDLE) }
+{
     let Some(mut opened) = producer.take(alloc) else {
         return BAD_HANDLE;
     };
     let code = match &mut *opened {
-        Thing::OfProducer(bound) => code_of_finish(bound.finish()),
+        Thing::OfProducer(bound) => match bound.finish() {
+            Finish::Ended => DONE,
+            Finish::Closed => CLOSED,
+            Finish::Busy => unreachable!(),
+        },
         _ => BAD_HANDLE,
     };
     *producer = Handle::of(opened);
@@ -43,7 +83,20 @@ pub extern "C" fn hz_poll(
     lane: u64,
     budget: u64,
     value: &mut u64,
-) -> u32 {
+) -> u32
+    ensures told { (answer : Poll) → answer_told result value.new ≡ Some answer
+        → answer ≢ NoLane
+        → ConsumerWent (λ c d.
+        AnswerTells lane (outcome answer) c.consumer.consumer d.consumer.consumer)
+        consumer.old.block.thing consumer.new.block.thing }
+    ensures no_lane { result ≡ NO_LANE
+        → ConsumerWent (λ c d. d.consumer ≡ c.consumer) consumer.old.block.thing
+        consumer.new.block.thing }
+    ensures bad { result ≡ BAD_HANDLE → IsConsumer consumer.old.block.thing → ⊥ }
+    ensures same { result ≡ BAD_HANDLE → consumer.new.block.thing ≡ consumer.old.block.thing }
+    ensures codes { (result ≡ BAD_HANDLE)
+        ⊎ ((answer : Poll) × (answer_told result value.new ≡ Some answer)) }
+{
     let Some(mut opened) = consumer.take(alloc) else {
         return BAD_HANDLE;
     };
@@ -59,7 +112,9 @@ pub extern "C" fn hz_poll(
 }
 
 /// The code of an answer, whose value is written.
-fn tell(answer: Poll, value: &mut u64) -> u32 {
+fn tell(answer: Poll, value: &mut u64) -> u32
+    ensures { answer_told result value.new ≡ Some answer }
+{
     match answer {
         Poll::Took(item) => {
             *value = item;

@@ -2,7 +2,7 @@
 use crate::consumer::BoundConsumer;
 use crate::producer::BoundProducer;
 use mb_cells::NoMemory;
-use mb_mailbox::{GatherFault, Hub, HubFault, Mailbox};
+use mb_mailbox::{GatherFault, Hub, HubFault, Mailbox, consumers_left, lanes_left};
 use mb_world::{Report, Setup};
 use std::alloc::{AllocError, Allocator};
 use std::marker::Model;
@@ -51,10 +51,8 @@ impl<A: Allocator + Drop> BoundHub<A> {
 
     /// The producer of the next lane, as [`Hub::producer`] gives it.
     pub fn producer(&mut self, alloc: A) -> Result<BoundProducer<A>, HubFault>
-        ensures all_given { result ≡ Err AllGiven
-            → self.old.mailbox.cells.size.lanes ≤ length self.old.hub.puts }
-        ensures none_left { self.old.mailbox.cells.size.lanes ≤ length self.old.hub.puts
-            → OnErr result (result ≡ Err AllGiven) }
+        ensures all_given { (result ≡ Err AllGiven)
+            ↔ (self.old.mailbox.cells.size.lanes ≤ length self.old.hub.puts) }
         ensures producer { IfOk result (λ given. given ≡ record {
           id = self.old.id;
           mailbox = self.old.mailbox;
@@ -64,6 +62,9 @@ impl<A: Allocator + Drop> BoundHub<A> {
             self.new ≡ record self.old { hub = with_producer self.old.hub }) }
         ensures refused { OnErr result (self.new ≡ self.old) }
     {
+        if lanes_left(&self.mailbox, &self.hub) == 0 {
+            return Err(HubFault::AllGiven);
+        }
         let Ok(mailbox) = Arc::try_clone(&self.mailbox) else {
             return Err(HubFault::NoMemory);
         };
@@ -125,7 +126,7 @@ impl<A: Allocator + Drop> BoundHub<A> {
 }
 
 impl<A: Allocator + Clone + Drop> BoundHub<A> {
-    ghost use Rattle.std.specs.Prelude.{◌≡◌, ◌+◌, ◌<◌, ◌≤◌, ◌⊎◌, Err, IfErr, IfOk, OnErr, length};
+    ghost use Rattle.std.specs.Prelude.{◌≡◌, ◌↔◌, ◌+◌, ◌<◌, ◌≤◌, ◌⊎◌, Err, IfErr, IfOk, OnErr, length};
     ghost use Rattle.mb_world.specs.Plan.{size_of};
     ghost use Rattle.mb_world.specs.Setups.{layout_of, plan_in};
     ghost use Rattle.mb_mailbox.specs.declared.gather.GatherFault.TheVariants.{Missing, NoMemory};
@@ -153,10 +154,8 @@ impl<A: Allocator + Clone + Drop> BoundHub<A> {
 
     /// The consumer of the next number, as [`Hub::consumer`] gives it.
     pub fn consumer(&mut self, alloc: A) -> Result<BoundConsumer<A>, HubFault>
-        ensures all_given { result ≡ Err AllGiven
-            → consumer_count self.old.mailbox.claims.layout ≤ length self.old.hub.ledgers }
-        ensures none_left { consumer_count self.old.mailbox.claims.layout
-            ≤ length self.old.hub.ledgers → OnErr result (result ≡ Err AllGiven) }
+        ensures all_given { (result ≡ Err AllGiven)
+            ↔ (consumer_count self.old.mailbox.claims.layout ≤ length self.old.hub.ledgers) }
         ensures consumer { IfOk result (λ given.
             IsNewConsumer self.old.mailbox self.old.hub given.consumer) }
         ensures given { IfOk result (λ given.
@@ -165,6 +164,9 @@ impl<A: Allocator + Clone + Drop> BoundHub<A> {
             self.new ≡ record self.old { hub = with_consumer self.old.hub }) }
         ensures refused { OnErr result (self.new ≡ self.old) }
     {
+        if consumers_left(&self.mailbox, &self.hub) == 0 {
+            return Err(HubFault::AllGiven);
+        }
         let Ok(mailbox) = Arc::try_clone(&self.mailbox) else {
             return Err(HubFault::NoMemory);
         };

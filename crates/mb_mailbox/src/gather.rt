@@ -113,7 +113,8 @@ impl<A: Allocator + Clone + Drop> Mailbox<A> {
     /// Ends the mailbox with a draft of its report, made when all were taken in. It takes no memory, so it cannot fail.
     pub fn gather_with(self, hub: Hub<A>, draft: Report<A>) -> Report<A>
         requires of { IsHubOf self hub }
-        requires all_in { count_missing hub.puts + count_missing hub.ledgers ≡ 0 }
+        requires producers { count_missing hub.puts ≡ 0 }
+        requires consumers { count_missing hub.ledgers ≡ 0 }
         requires draft { IsReportIn self.cells.size.lanes (consumer_count self.claims.layout) hub
             draft }
         ensures draft { result ≡ draft }

@@ -48,4 +48,4 @@ pub use gather::GatherFault;
 pub use hub::{Hub, HubFault};
 pub use mailbox::Mailbox;
 pub use producer::{Producer, Put};
-pub use working::{WorkFault, Worked, work};
+pub use working::{WorkFault, Worked, consumers_left, lanes_left, work};

@@ -140,14 +140,17 @@ pub fn work<
 }
 
 /// How many lanes were not given yet.
-fn lanes_left<A: Allocator + Drop, B: Allocator + Drop>(mailbox: &Mailbox<B>, hub: &Hub<A>) -> usize
+pub fn lanes_left<A: Allocator + Drop, B: Allocator + Drop>(
+    mailbox: &Mailbox<B>,
+    hub: &Hub<A>,
+) -> usize
     ensures { result ≡ mailbox.now.cells.size.lanes - length hub.now.puts }
 {
     (mailbox.lanes as usize).saturating_sub(hub.puts.len())
 }
 
 /// How many numbers of consumers were not given yet.
-fn consumers_left<A: Allocator + Drop, B: Allocator + Drop>(
+pub fn consumers_left<A: Allocator + Drop, B: Allocator + Drop>(
     mailbox: &Mailbox<B>,
     hub: &Hub<A>,
 ) -> usize

@@ -1,0 +1,103 @@
+-- What a call does to what its handles lead to.
+use Rattle.std.specs.Prelude.{◌≡◌, ℕ, Option, None, Some}
+use Rattle.mb_quorum.specs.declared.table.TableName.{TableName}
+use Rattle.mb_quorum.specs.declared.table.TableName.TheVariants.{Bits, Middle, Unary}
+use Rattle.mb_world.specs.Report.{ReportView}
+use Rattle.mb_bound.specs.Bound.{BoundConsumerView, BoundHubView, BoundProducerView}
+use Rattle.mb_mailbox.specs.Hubs.{with_taken_consumer, with_taken_producer}
+use Rattle.mb_mailbox.specs.declared.consumer.Poll.{Poll}
+use Rattle.mb_mailbox.specs.declared.consumer.Poll.TheVariants as poll
+use Rattle.hazbultra.specs.declared.thing.Thing.{Thing}
+use Rattle.hazbultra.specs.declared.thing.Thing.TheVariants.{OfConsumer, OfHub, OfProducer, OfReport}
+use Rattle.hazbultra.specs.declared.thing.SeededConsumer.{SeededConsumer}
+
+-- ---- what a handle leads to
+abbrev pub IsHub : Option Thing → Type 0
+IsHub (Some (OfHub h)) = Unit {0}
+IsHub _ = ⊥
+
+abbrev pub IsProducer : Option Thing → Type 0
+IsProducer (Some (OfProducer p)) = Unit {0}
+IsProducer _ = ⊥
+
+abbrev pub IsConsumer : Option Thing → Type 0
+IsConsumer (Some (OfConsumer c)) = Unit {0}
+IsConsumer _ = ⊥
+
+abbrev pub IsReport : Option Thing → Type 0
+IsReport (Some (OfReport r)) = Unit {0}
+IsReport _ = ⊥
+
+-- ---- before and after
+-- a handle led to a hub, and leads to a hub of which this is so
+abbrev pub HubWent : (BoundHubView → BoundHubView → Type 0) → Option Thing → Option Thing → Type 0
+HubWent R (Some (OfHub h)) (Some (OfHub k)) = R h k
+HubWent R _ _ = ⊥
+
+-- the same of a producer, which stays one of its mailbox
+abbrev pub ProducerWent
+    : (BoundProducerView → BoundProducerView → Type 0) → Option Thing → Option Thing → Type 0
+ProducerWent R (Some (OfProducer p)) (Some (OfProducer q)) =
+    (q.id ≡ p.id) × (q.mailbox ≡ p.mailbox) × R p q
+ProducerWent R _ _ = ⊥
+
+-- and of a consumer
+abbrev pub ConsumerWent
+    : (SeededConsumer → SeededConsumer → Type 0) → Option Thing → Option Thing → Type 0
+ConsumerWent R (Some (OfConsumer c)) (Some (OfConsumer d)) =
+    (d.consumer.id ≡ c.consumer.id) × (d.consumer.mailbox ≡ c.consumer.mailbox) × R c d
+ConsumerWent R _ _ = ⊥
+
+-- a hub leads to a producer of which this is so
+abbrev pub HubGave : (BoundHubView → BoundProducerView → Type 0) → Option Thing → Option Thing → Type 0
+HubGave R (Some (OfHub h)) (Some (OfProducer p)) = R h p
+HubGave R _ _ = ⊥
+
+-- and to a consumer
+abbrev pub HubGaveConsumer
+    : (BoundHubView → SeededConsumer → Type 0) → Option Thing → Option Thing → Type 0
+HubGaveConsumer R (Some (OfHub h)) (Some (OfConsumer c)) = R h c
+HubGaveConsumer R _ _ = ⊥
+
+-- a hub ends, and a handle leads to a report of which this is so
+abbrev pub HubTold : (BoundHubView → ReportView → Type 0) → Option Thing → Option Thing → Type 0
+HubTold R (Some (OfHub h)) (Some (OfReport r)) = R h r
+HubTold R _ _ = ⊥
+
+-- a handle leads to a hub of which this is so
+abbrev pub HubMade : (BoundHubView → Type 0) → Option Thing → Type 0
+HubMade R (Some (OfHub h)) = R h
+HubMade R _ = ⊥
+
+-- and to a report
+abbrev pub ReportHas : (ReportView → Type 0) → Option Thing → Type 0
+ReportHas R (Some (OfReport r)) = R r
+ReportHas R _ = ⊥
+
+-- the hub has taken back what a handle led to
+abbrev pub HasTakenBack : BoundHubView → Option Thing → BoundHubView → Type 0
+HasTakenBack h (Some (OfProducer p)) k =
+    (p.id ≡ h.id) × (k ≡ record h { hub = with_taken_producer p.producer h.hub })
+HasTakenBack h (Some (OfConsumer c)) k =
+    (c.consumer.id ≡ h.id)
+    × (k ≡ record h { hub = with_taken_consumer c.consumer.consumer h.hub })
+HasTakenBack h _ k = ⊥
+
+-- ---- numbers of C
+-- the quorum table of this number
+abbrev pub table_numbered : ℕ → Option TableName
+table_numbered 0 = Some Unary
+table_numbered 1 = Some Bits
+table_numbered 2 = Some Middle
+table_numbered _ = None
+
+-- the answer of a poll that this code and this value tell
+abbrev pub answer_told : ℕ → ℕ → Option Poll
+answer_told 1 x = Some (poll.Took x)
+answer_told 2 x = Some (poll.Lost x)
+answer_told 3 x = Some poll.Undecided
+answer_told 4 x = Some poll.Nothing
+answer_told 5 x = Some poll.Ended
+answer_told 6 x = Some poll.Spent
+answer_told 7 x = Some poll.NoLane
+answer_told _ x = None
