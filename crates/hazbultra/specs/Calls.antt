@@ -1,8 +1,8 @@
 -- What a call does to what its handles lead to.
-use Rattle.std.specs.Prelude.{◌≡◌, ℕ, Option, None, Some}
+use Rattle.std.specs.Prelude.{◌≡◌, ℕ, Bool, true, false, List, Option, None, Some}
 use Rattle.mb_quorum.specs.declared.table.TableName.{TableName}
 use Rattle.mb_quorum.specs.declared.table.TableName.TheVariants.{Bits, Middle, Unary}
-use Rattle.mb_world.specs.Report.{ReportView}
+use Rattle.mb_world.specs.Report.{LaneView, ReportView}
 use Rattle.mb_bound.specs.Bound.{BoundConsumerView, BoundHubView, BoundProducerView}
 use Rattle.mb_mailbox.specs.Hubs.{with_taken_consumer, with_taken_producer}
 use Rattle.mb_mailbox.specs.declared.consumer.Poll.{Poll}
@@ -101,3 +101,8 @@ answer_told 5 x = Some poll.Ended
 answer_told 6 x = Some poll.Spent
 answer_told 7 x = Some poll.NoLane
 answer_told _ x = None
+
+-- the items of a lane that C asks for: those left, or those put
+abbrev pub items_asked : Bool → LaneView → List ℕ
+items_asked true l = l.left
+items_asked false l = l.put

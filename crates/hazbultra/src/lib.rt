@@ -5,6 +5,7 @@
 #![tactic(auto)]
 
 mod codes;
+mod copying;
 mod crossing;
 mod ending;
 mod handle;

@@ -1,22 +1,24 @@
 //! The calls that read a report.
-ghost use Rattle.std.specs.Prelude.{◌≡◌, ◌≤◌, length};
-ghost use Rattle.hazbultra.specs.Calls.{IsReport};
-ghost use Rattle.hazbultra.specs.declared.codes.TheConstants.{BAD_HANDLE};
+ghost use Rattle.std.specs.Prelude.{◌≡◌, ◌+◌, ◌*◌, ◌++◌, ◌<◌, ◌≤◌, IfSome, Some, drop, length, min, slice_get, take};
+ghost use Rattle.mb_world.specs.Report.{DiaryView, LaneView};
+ghost use Rattle.hazbultra.specs.Calls.{IsReport, ReportHas, items_asked};
+ghost use Rattle.hazbultra.specs.declared.codes.TheConstants.{BAD_HANDLE, DONE, NOT_THERE};
 
 use crate::codes::{BAD_HANDLE, DONE, NOT_THERE};
+use crate::copying::{copy_items, copy_notes, past, place_of};
 use crate::crossing::{DiaryOut, LaneOut, NoteOut};
 use crate::handle::Handle;
 use crate::thing::Thing;
-use mb_world::{Diary, Note, Report};
+use mb_world::{Diary, Report};
 use std::alloc::Global;
 
 /// The diary of this consumer on this lane, if there is one.
-fn diary_at(report: &Report<Global>, consumer: u64, lane: u64) -> Option<&Diary<Global>> {
-    let lanes = report.lanes.len() as u64;
-    if lane >= lanes {
-        return None;
-    }
-    let at = consumer.checked_mul(lanes)?.checked_add(lane)?;
+fn diary_at(report: &Report<Global>, consumer: u64, lane: u64) -> Option<&Diary<Global>>
+    ensures { IfSome result (λ d. (lane < length report.now.lanes)
+        × (slice_get report.now.diaries (consumer * length report.now.lanes + lane)
+        ≡ Some d.now)) }
+{
+    let at = place_of(report.lanes.len(), consumer, lane)?;
     report.diaries.as_slice().get(at as usize)
 }
 
@@ -28,6 +30,8 @@ pub extern "C" fn hz_report_size(
     lanes: &mut u64,
     consumers: &mut u64,
 ) -> u32
+    ensures lanes { result ≡ DONE → ReportHas (λ r. lanes.new ≡ length r.lanes)
+        report.old.block.thing }
     ensures kept { report.new.block.thing ≡ report.old.block.thing }
     ensures bad { result ≡ BAD_HANDLE → IsReport report.old.block.thing → ⊥ }
 {
@@ -55,6 +59,11 @@ pub extern "C" fn hz_report_lane(
     lane: u64,
     out: &mut LaneOut,
 ) -> u32
+    ensures told { result ≡ DONE → ReportHas (λ r. (l : LaneView)
+        × (slice_get r.lanes lane ≡ Some l) × (out.new.put ≡ length l.put)
+        × (out.new.left ≡ length l.left) × (out.new.ended ≡ l.ended)) report.old.block.thing }
+    ensures not_there { result ≡ NOT_THERE → ReportHas (λ r. length r.lanes ≤ lane)
+        report.old.block.thing }
     ensures kept { report.new.block.thing ≡ report.old.block.thing }
     ensures bad { result ≡ BAD_HANDLE → IsReport report.old.block.thing → ⊥ }
 {
@@ -88,6 +97,9 @@ pub extern "C" fn hz_report_diary(
     lane: u64,
     out: &mut DiaryOut,
 ) -> u32
+    ensures told { result ≡ DONE → ReportHas (λ r. (d : DiaryView) × (lane < length r.lanes)
+        × (slice_get r.diaries (consumer * length r.lanes + lane) ≡ Some d)
+        × (out.new.notes ≡ length d.notes) × (out.new.begun ≡ d.begun)) report.old.block.thing }
     ensures kept { report.new.block.thing ≡ report.old.block.thing }
     ensures bad { result ≡ BAD_HANDLE → IsReport report.old.block.thing → ⊥ }
 {
@@ -122,6 +134,13 @@ pub extern "C" fn hz_report_items(
     items: &mut [u64],
     copied: &mut u64,
 ) -> u32
+    ensures copied { result ≡ DONE → ReportHas (λ r. (l : LaneView)
+        × (slice_get r.lanes lane ≡ Some l)
+        × (copied.new ≡ min (length (drop from (items_asked left l))) (length items.old))
+        × (items.new ≡ take copied.new (drop from (items_asked left l))
+        ++ drop copied.new items.old)) report.old.block.thing }
+    ensures not_there { result ≡ NOT_THERE → ReportHas (λ r. length r.lanes ≤ lane)
+        report.old.block.thing }
     ensures kept { report.new.block.thing ≡ report.old.block.thing }
     ensures bad { result ≡ BAD_HANDLE → IsReport report.old.block.thing → ⊥ }
 {
@@ -154,6 +173,10 @@ pub extern "C" fn hz_report_notes(
     notes: &mut [NoteOut],
     copied: &mut u64,
 ) -> u32
+    ensures copied { result ≡ DONE → ReportHas (λ r. (d : DiaryView) × (lane < length r.lanes)
+        × (slice_get r.diaries (consumer * length r.lanes + lane) ≡ Some d)
+        × (copied.new ≡ min (length (drop from d.notes)) (length notes.old)))
+        report.old.block.thing }
     ensures kept { report.new.block.thing ≡ report.old.block.thing }
     ensures bad { result ≡ BAD_HANDLE → IsReport report.old.block.thing → ⊥ }
 {
@@ -172,29 +195,4 @@ pub extern "C" fn hz_report_notes(
     };
     *report = Handle::of(opened);
     code
-}
-
-/// What stands from this place on.
-fn past<T>(all: &[T], from: u64) -> &[T] {
-    all.get(from as usize..).unwrap_or(&[])
-}
-
-/// Copies as many items as there is room for, and returns how many.
-fn copy_items(from: &[u64], to: &mut [u64]) -> u64 {
-    let mut count = 0;
-    for (slot, item) in to.iter_mut().zip(from) {
-        *slot = *item;
-        count += 1;
-    }
-    count
-}
-
-/// The same for notes.
-fn copy_notes(from: &[Note], to: &mut [NoteOut]) -> u64 {
-    let mut count = 0;
-    for (slot, note) in to.iter_mut().zip(from) {
-        *slot = NoteOut::from(*note);
-        count += 1;
-    }
-    count
 }

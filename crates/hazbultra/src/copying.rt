@@ -1,0 +1,48 @@
+//! What the calls on a report compute: places, and copies into what C lends.
+ghost use Rattle.std.specs.Prelude.{◌≡◌, ◌+◌, ◌*◌, ◌/◌, ◌++◌, ◌<◌, IfSome, drop, length, min, take};
+
+use crate::crossing::NoteOut;
+use mb_world::Note;
+
+/// What stands from this place on.
+pub(crate) fn past<T>(all: &[T], from: u64) -> &[T]
+    ensures { result.now ≡ drop from all.now }
+{
+    if from < all.len() as u64 {
+        &all[from as usize..]
+    } else {
+        &[]
+    }
+}
+
+/// Copies as many items as there is room for, and returns how many.
+pub(crate) fn copy_items(from: &[u64], to: &mut [u64]) -> u64
+    ensures count { result ≡ min (length from.now) (length to.old) }
+    ensures items { to.new ≡ take result from.now ++ drop result to.old }
+{
+    let count = from.len().min(to.len());
+    let (front, _) = to.split_at_mut(count);
+    front.copy_from_slice(&from[..count]);
+    count as u64
+}
+
+/// The same for notes.
+pub(crate) fn copy_notes(from: &[Note], to: &mut [NoteOut]) -> u64
+    ensures count { result ≡ min (length from.now) (length to.old) }
+{
+    let count = from.len().min(to.len());
+    for (slot, note) in to.iter_mut().zip(from) {
+        *slot = NoteOut::from(*note);
+    }
+    count as u64
+}
+
+/// The place of the diary of this consumer on this lane, if there are so many lanes.
+pub(crate) fn place_of(lanes: usize, consumer: u64, lane: u64) -> Option<u64>
+    ensures { IfSome result (λ at. (lane < lanes) × (at ≡ consumer * lanes + lane)) }
+{
+    if lane >= lanes as u64 {
+        return None;
+    }
+    consumer.checked_mul(lanes as u64)?.checked_add(lane)
+}
