@@ -1,5 +1,5 @@
 -- What a call does to what its handles lead to.
-use Rattle.std.specs.Prelude.{◌≡◌, ℕ, Bool, true, false, List, Option, None, Some}
+use Rattle.std.specs.Prelude.{◌≡◌, ℕ, Bool, true, false, if◌then◌else◌, nat_eq, List, Option, None, Some}
 use Rattle.mb_quorum.specs.declared.table.TableName.{TableName}
 use Rattle.mb_quorum.specs.declared.table.TableName.TheVariants.{Bits, Middle, Unary}
 use Rattle.mb_world.specs.Report.{LaneView, ReportView}
@@ -77,30 +77,32 @@ ReportHas R _ = ⊥
 -- the hub has taken back what a handle led to
 abbrev pub HasTakenBack : BoundHubView → Option Thing → BoundHubView → Type 0
 HasTakenBack h (Some (OfProducer p)) k =
-    (p.id ≡ h.id) × (k ≡ record h { hub = with_taken_producer p.producer h.hub })
+    (h.id ≡ p.id) × (k ≡ record h { hub = with_taken_producer p.producer h.hub })
 HasTakenBack h (Some (OfConsumer c)) k =
-    (c.consumer.id ≡ h.id)
+    (h.id ≡ c.consumer.id)
     × (k ≡ record h { hub = with_taken_consumer c.consumer.consumer h.hub })
 HasTakenBack h _ k = ⊥
 
 -- ---- numbers of C
 -- the quorum table of this number
 abbrev pub table_numbered : ℕ → Option TableName
-table_numbered 0 = Some Unary
-table_numbered 1 = Some Bits
-table_numbered 2 = Some Middle
-table_numbered _ = None
+table_numbered n =
+    if nat_eq n 0 then Some Unary
+    else if nat_eq n 1 then Some Bits
+    else if nat_eq n 2 then Some Middle
+    else None
 
 -- the answer of a poll that this code and this value tell
 abbrev pub answer_told : ℕ → ℕ → Option Poll
-answer_told 1 x = Some (poll.Took x)
-answer_told 2 x = Some (poll.Lost x)
-answer_told 3 x = Some poll.Undecided
-answer_told 4 x = Some poll.Nothing
-answer_told 5 x = Some poll.Ended
-answer_told 6 x = Some poll.Spent
-answer_told 7 x = Some poll.NoLane
-answer_told _ x = None
+answer_told n x =
+    if nat_eq n 1 then Some (poll.Took x)
+    else if nat_eq n 2 then Some (poll.Lost x)
+    else if nat_eq n 3 then Some poll.Undecided
+    else if nat_eq n 4 then Some poll.Nothing
+    else if nat_eq n 5 then Some poll.Ended
+    else if nat_eq n 6 then Some poll.Spent
+    else if nat_eq n 7 then Some poll.NoLane
+    else None
 
 -- the items of a lane that C asks for: those left, or those put
 abbrev pub items_asked : Bool → LaneView → List ℕ

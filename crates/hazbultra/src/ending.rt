@@ -18,7 +18,7 @@ use std::mem;
 
 /// Takes a producer or a consumer back, whose handle leads to nothing then.
 #[unsafe(no_mangle)]
-pub extern "C" fn hz_take_back(alloc: Global, hub: &mut Handle, part: &mut Handle) -> u32
+pub extern "C" fn hz_take_back(hub: &mut Handle, part: &mut Handle) -> u32
     requires { AreApart hub.old.block.thing part.old.block.thing }
     ensures taken { result ≡ DONE → HubWent (λ h k. HasTakenBack h part.old.block.thing k)
         hub.old.block.thing hub.new.block.thing }
@@ -26,26 +26,26 @@ pub extern "C" fn hz_take_back(alloc: Global, hub: &mut Handle, part: &mut Handl
     ensures same_hub { result ≢ DONE → hub.new.block.thing ≡ hub.old.block.thing }
     ensures same { result ≢ DONE → part.new.block.thing ≡ part.old.block.thing }
 {
-    let Some(mut opened) = hub.take(alloc) else {
+    let Some(mut opened) = hub.take() else {
         return BAD_HANDLE;
     };
     let code = match &mut *opened {
-        Thing::OfHub(bound) => take_back(alloc, bound, part),
+        Thing::OfHub(bound) => take_back(bound, part),
         _ => BAD_HANDLE,
     };
-    *hub = Handle::of(opened);
+    hub.give(opened);
     code
 }
 
 /// The same for a hub that is opened.
-fn take_back(alloc: Global, hub: &mut BoundHub<Global>, part: &mut Handle) -> u32
+fn take_back(hub: &mut BoundHub<Global>, part: &mut Handle) -> u32
     requires { IsApartFrom hub.old part.old.block.thing }
     ensures taken { result ≡ DONE → HasTakenBack hub.old part.old.block.thing hub.new }
     ensures gone { result ≡ DONE → part.new.block.thing ≡ None }
     ensures same_hub { result ≢ DONE → hub.new ≡ hub.old }
     ensures same { result ≢ DONE → part.new.block.thing ≡ part.old.block.thing }
 {
-    let Some(mut opened) = part.take(alloc) else {
+    let Some(mut opened) = part.take() else {
         return BAD_HANDLE;
     };
     let (thing, code) = match mem::replace(&mut *opened, Thing::OfNothing) {
@@ -65,7 +65,7 @@ fn take_back(alloc: Global, hub: &mut BoundHub<Global>, part: &mut Handle) -> u3
         thing => (thing, BAD_HANDLE),
     };
     *opened = thing;
-    *part = Handle::of(opened);
+    part.give(opened);
     code
 }
 
@@ -96,14 +96,14 @@ pub extern "C" fn hz_gather(
     if !report.is_none() {
         return BAD_HANDLE;
     }
-    let Some(mut opened) = hub.take(alloc) else {
+    let Some(mut opened) = hub.take() else {
         return BAD_HANDLE;
     };
     let (thing, code) = match mem::replace(&mut *opened, Thing::OfNothing) {
         Thing::OfHub(bound) => match bound.gather(alloc) {
             Ok(made) => {
                 *opened = Thing::OfReport(made);
-                *report = Handle::of(opened);
+                report.give(opened);
                 return DONE;
             }
             Err((why, bound)) => (Thing::OfHub(bound), tell(why, missing)),
@@ -111,7 +111,7 @@ pub extern "C" fn hz_gather(
         thing => (thing, BAD_HANDLE),
     };
     *opened = thing;
-    *hub = Handle::of(opened);
+    hub.give(opened);
     code
 }
 
@@ -135,8 +135,8 @@ fn tell(why: GatherFault, missing: &mut MissingOut) -> u32
 
 /// Frees what the handle leads to.
 #[unsafe(no_mangle)]
-pub extern "C" fn hz_free(alloc: Global, handle: &mut Handle)
+pub extern "C" fn hz_free(handle: &mut Handle)
     ensures { handle.new.block.thing ≡ None }
 {
-    drop(handle.take(alloc));
+    drop(handle.take());
 }

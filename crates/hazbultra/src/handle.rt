@@ -13,6 +13,7 @@ use std::mem;
 #[repr(C)]
 pub struct Handle {
     full: bool,
+    alloc: Global,
     block: Block,
     pub ghost agrees: { is_some block.thing ≡ full },
 }
@@ -24,18 +25,27 @@ impl Handle {
     {
         Handle {
             full: false,
+            alloc,
             block: Block::none(alloc),
         }
     }
 
     /// It leads to what is in the box.
-    pub fn of(thing: Box<Thing, Global>) -> Handle
+    pub fn of(alloc: Global, thing: Box<Thing, Global>) -> Handle
         ensures { result.block.thing ≡ Some thing.value }
     {
         Handle {
             full: true,
+            alloc,
             block: Block::of(thing),
         }
+    }
+
+    /// Makes it lead to what is in the box. What it led to before is freed.
+    pub fn give(&mut self, thing: Box<Thing, Global>)
+        ensures { self.new.block.thing ≡ Some thing.value }
+    {
+        *self = Handle::of(self.alloc, thing);
     }
 
     /// Whether it leads to nothing.
@@ -46,17 +56,21 @@ impl Handle {
     }
 
     /// The box that it leads to, which is the caller's then.
-    pub fn take(&mut self, alloc: Global) -> Option<Box<Thing, Global>>
+    pub fn take(&mut self) -> Option<Box<Thing, Global>>
         ensures none { self.new.block.thing ≡ None }
         ensures box_back { holds result self.old.block.thing }
     {
-        mem::replace(self, Handle::none(alloc)).into_box()
+        mem::replace(self, Handle::none(self.alloc)).into_box()
     }
 
     fn into_box(self) -> Option<Box<Thing, Global>>
         ensures { holds result self.block.thing }
     {
-        let Handle { full, block } = self;
+        let Handle {
+            full,
+            alloc: _,
+            block,
+        } = self;
         if full { Some(block.into_box()) } else { None }
     }
 }

@@ -63,7 +63,7 @@ pub extern "C" fn hz_mailbox_new(alloc: Global, id: u64, setup: &SetupIn, hub: &
     let Ok(room) = Box::new(alloc, Thing::OfHub(made)) else {
         return NO_MEMORY;
     };
-    *hub = Handle::of(room);
+    hub.give(room);
     DONE
 }
 
@@ -90,21 +90,21 @@ pub extern "C" fn hz_producer_new(alloc: Global, hub: &mut Handle, producer: &mu
     let Ok(mut room) = Box::new(alloc, Thing::OfNothing) else {
         return NO_MEMORY;
     };
-    let Some(mut opened) = hub.take(alloc) else {
+    let Some(mut opened) = hub.take() else {
         return BAD_HANDLE;
     };
     let code = match &mut *opened {
         Thing::OfHub(hub) => match hub.producer(alloc) {
             Ok(made) => {
                 *room = Thing::OfProducer(made);
-                *producer = Handle::of(room);
+                producer.give(room);
                 DONE
             }
             Err(why) => code_of_hub(why),
         },
         _ => BAD_HANDLE,
     };
-    *hub = Handle::of(opened);
+    hub.give(opened);
     code
 }
 
@@ -136,7 +136,7 @@ pub extern "C" fn hz_consumer_new(
     let Ok(mut room) = Box::new(alloc, Thing::OfNothing) else {
         return NO_MEMORY;
     };
-    let Some(mut opened) = hub.take(alloc) else {
+    let Some(mut opened) = hub.take() else {
         return BAD_HANDLE;
     };
     let code = match &mut *opened {
@@ -148,13 +148,13 @@ pub extern "C" fn hz_consumer_new(
                     consumer: made,
                     source,
                 });
-                *consumer = Handle::of(room);
+                consumer.give(room);
                 DONE
             }
             Err(why) => code_of_hub(why),
         },
         _ => BAD_HANDLE,
     };
-    *hub = Handle::of(opened);
+    hub.give(opened);
     code
 }

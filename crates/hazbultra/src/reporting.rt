@@ -24,18 +24,13 @@ fn diary_at(report: &Report<Global>, consumer: u64, lane: u64) -> Option<&Diary<
 
 /// How many lanes and consumers a report has.
 #[unsafe(no_mangle)]
-pub extern "C" fn hz_report_size(
-    alloc: Global,
-    report: &mut Handle,
-    lanes: &mut u64,
-    consumers: &mut u64,
-) -> u32
+pub extern "C" fn hz_report_size(report: &mut Handle, lanes: &mut u64, consumers: &mut u64) -> u32
     ensures lanes { result ≡ DONE → ReportHas (λ r. lanes.new ≡ length r.lanes)
         report.old.block.thing }
     ensures kept { report.new.block.thing ≡ report.old.block.thing }
     ensures bad { result ≡ BAD_HANDLE → IsReport report.old.block.thing → ⊥ }
 {
-    let Some(opened) = report.take(alloc) else {
+    let Some(opened) = report.take() else {
         return BAD_HANDLE;
     };
     let code = match &*opened {
@@ -47,18 +42,13 @@ pub extern "C" fn hz_report_size(
         }
         _ => BAD_HANDLE,
     };
-    *report = Handle::of(opened);
+    report.give(opened);
     code
 }
 
 /// The numbers of one lane.
 #[unsafe(no_mangle)]
-pub extern "C" fn hz_report_lane(
-    alloc: Global,
-    report: &mut Handle,
-    lane: u64,
-    out: &mut LaneOut,
-) -> u32
+pub extern "C" fn hz_report_lane(report: &mut Handle, lane: u64, out: &mut LaneOut) -> u32
     ensures told { result ≡ DONE → ReportHas (λ r. (l : LaneView)
         × (slice_get r.lanes lane ≡ Some l) × (out.new.put ≡ length l.put)
         × (out.new.left ≡ length l.left) × (out.new.ended ≡ l.ended)) report.old.block.thing }
@@ -67,7 +57,7 @@ pub extern "C" fn hz_report_lane(
     ensures kept { report.new.block.thing ≡ report.old.block.thing }
     ensures bad { result ≡ BAD_HANDLE → IsReport report.old.block.thing → ⊥ }
 {
-    let Some(opened) = report.take(alloc) else {
+    let Some(opened) = report.take() else {
         return BAD_HANDLE;
     };
     let code = match &*opened {
@@ -84,14 +74,13 @@ pub extern "C" fn hz_report_lane(
         },
         _ => BAD_HANDLE,
     };
-    *report = Handle::of(opened);
+    report.give(opened);
     code
 }
 
 /// The numbers of one diary.
 #[unsafe(no_mangle)]
 pub extern "C" fn hz_report_diary(
-    alloc: Global,
     report: &mut Handle,
     consumer: u64,
     lane: u64,
@@ -103,7 +92,7 @@ pub extern "C" fn hz_report_diary(
     ensures kept { report.new.block.thing ≡ report.old.block.thing }
     ensures bad { result ≡ BAD_HANDLE → IsReport report.old.block.thing → ⊥ }
 {
-    let Some(opened) = report.take(alloc) else {
+    let Some(opened) = report.take() else {
         return BAD_HANDLE;
     };
     let code = match &*opened {
@@ -119,14 +108,13 @@ pub extern "C" fn hz_report_diary(
         },
         _ => BAD_HANDLE,
     };
-    *report = Handle::of(opened);
+    report.give(opened);
     code
 }
 
 /// Copies items of a lane from a place on.
 #[unsafe(no_mangle)]
 pub extern "C" fn hz_report_items(
-    alloc: Global,
     report: &mut Handle,
     lane: u64,
     left: bool,
@@ -144,7 +132,7 @@ pub extern "C" fn hz_report_items(
     ensures kept { report.new.block.thing ≡ report.old.block.thing }
     ensures bad { result ≡ BAD_HANDLE → IsReport report.old.block.thing → ⊥ }
 {
-    let Some(opened) = report.take(alloc) else {
+    let Some(opened) = report.take() else {
         return BAD_HANDLE;
     };
     let code = match &*opened {
@@ -158,14 +146,13 @@ pub extern "C" fn hz_report_items(
         },
         _ => BAD_HANDLE,
     };
-    *report = Handle::of(opened);
+    report.give(opened);
     code
 }
 
 /// Copies notes of a diary from a place on.
 #[unsafe(no_mangle)]
 pub extern "C" fn hz_report_notes(
-    alloc: Global,
     report: &mut Handle,
     consumer: u64,
     lane: u64,
@@ -180,7 +167,7 @@ pub extern "C" fn hz_report_notes(
     ensures kept { report.new.block.thing ≡ report.old.block.thing }
     ensures bad { result ≡ BAD_HANDLE → IsReport report.old.block.thing → ⊥ }
 {
-    let Some(opened) = report.take(alloc) else {
+    let Some(opened) = report.take() else {
         return BAD_HANDLE;
     };
     let code = match &*opened {
@@ -193,6 +180,6 @@ pub extern "C" fn hz_report_notes(
         },
         _ => BAD_HANDLE,
     };
-    *report = Handle::of(opened);
+    report.give(opened);
     code
 }

@@ -14,11 +14,10 @@ use crate::handle::Handle;
 use crate::thing::Thing;
 use mb_cells::Finish;
 use mb_mailbox::{Poll, Put};
-use std::alloc::Global;
 
 /// Puts an item.
 #[unsafe(no_mangle)]
-pub extern "C" fn hz_put(alloc: Global, producer: &mut Handle, item: u64) -> u32
+pub extern "C" fn hz_put(producer: &mut Handle, item: u64) -> u32
     ensures linked { result ≡ LINKED
         → ProducerWent (λ p q. (k : ℕ) × IsPutInto k item p.producer q.producer)
         producer.old.block.thing producer.new.block.thing }
@@ -33,7 +32,7 @@ pub extern "C" fn hz_put(alloc: Global, producer: &mut Handle, item: u64) -> u32
     ensures codes { (result ≡ LINKED) ⊎ (result ≡ FULL) ⊎ (result ≡ CLOSED)
         ⊎ (result ≡ BAD_HANDLE) }
 {
-    let Some(mut opened) = producer.take(alloc) else {
+    let Some(mut opened) = producer.take() else {
         return BAD_HANDLE;
     };
     let code = match &mut *opened {
@@ -44,13 +43,13 @@ pub extern "C" fn hz_put(alloc: Global, producer: &mut Handle, item: u64) -> u32
         },
         _ => BAD_HANDLE,
     };
-    *producer = Handle::of(opened);
+    producer.give(opened);
     code
 }
 
 /// Ends the lane.
 #[unsafe(no_mangle)]
-pub extern "C" fn hz_finish(alloc: Global, producer: &mut Handle) -> u32
+pub extern "C" fn hz_finish(producer: &mut Handle) -> u32
     ensures done { result ≡ DONE → ProducerWent (λ p q. IsEndOfLane p.producer q.producer)
         producer.old.block.thing producer.new.block.thing }
     ensures closed { result ≡ CLOSED
@@ -60,7 +59,7 @@ pub extern "C" fn hz_finish(alloc: Global, producer: &mut Handle) -> u32
     ensures same { result ≡ BAD_HANDLE → producer.new.block.thing ≡ producer.old.block.thing }
     ensures codes { (result ≡ DONE) ⊎ (result ≡ CLOSED) ⊎ (result ≡ BAD_HANDLE) }
 {
-    let Some(mut opened) = producer.take(alloc) else {
+    let Some(mut opened) = producer.take() else {
         return BAD_HANDLE;
     };
     let code = match &mut *opened {
@@ -71,19 +70,13 @@ pub extern "C" fn hz_finish(alloc: Global, producer: &mut Handle) -> u32
         },
         _ => BAD_HANDLE,
     };
-    *producer = Handle::of(opened);
+    producer.give(opened);
     code
 }
 
 /// Polls a lane. The value is the item taken, or the number of the consumer to whom it is lost.
 #[unsafe(no_mangle)]
-pub extern "C" fn hz_poll(
-    alloc: Global,
-    consumer: &mut Handle,
-    lane: u64,
-    budget: u64,
-    value: &mut u64,
-) -> u32
+pub extern "C" fn hz_poll(consumer: &mut Handle, lane: u64, budget: u64, value: &mut u64) -> u32
     ensures told { (answer : Poll) → answer_told result value.new ≡ Some answer
         → answer ≢ NoLane
         → ConsumerWent (λ c d.
@@ -97,7 +90,7 @@ pub extern "C" fn hz_poll(
     ensures codes { (result ≡ BAD_HANDLE)
         ⊎ ((answer : Poll) × (answer_told result value.new ≡ Some answer)) }
 {
-    let Some(mut opened) = consumer.take(alloc) else {
+    let Some(mut opened) = consumer.take() else {
         return BAD_HANDLE;
     };
     let code = match &mut *opened {
@@ -107,7 +100,7 @@ pub extern "C" fn hz_poll(
         }
         _ => BAD_HANDLE,
     };
-    *consumer = Handle::of(opened);
+    consumer.give(opened);
     code
 }
 

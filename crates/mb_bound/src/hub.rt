@@ -79,7 +79,7 @@ impl<A: Allocator + Drop> BoundHub<A> {
     /// Takes a producer back, as [`Hub::take_producer`] does. One of a mailbox of another number comes back.
     pub fn take_producer(&mut self, producer: BoundProducer<A>) -> Result<(), BoundProducer<A>>
         requires { AreNamedApart self.old.id self.old.mailbox producer.id producer.mailbox }
-        ensures taken { self.old.id ≡ producer.id → IsOk result }
+        ensures taken { IsOk result ↔ (self.old.id ≡ producer.id) }
         ensures was_out { IfOk result (λ _.
             slice_get self.old.hub.puts producer.producer.seat.lane ≡ Some None) }
         ensures hub { IfOk result (λ _. self.new ≡ record self.old {
@@ -103,7 +103,7 @@ impl<A: Allocator + Drop> BoundHub<A> {
     /// Takes a consumer back, as [`Hub::take_consumer`] does. One of a mailbox of another number comes back.
     pub fn take_consumer(&mut self, consumer: BoundConsumer<A>) -> Result<(), BoundConsumer<A>>
         requires { AreNamedApart self.old.id self.old.mailbox consumer.id consumer.mailbox }
-        ensures taken { self.old.id ≡ consumer.id → IsOk result }
+        ensures taken { IsOk result ↔ (self.old.id ≡ consumer.id) }
         ensures was_out { IfOk result (λ _.
             slice_get self.old.hub.ledgers consumer.consumer.seat.consumer ≡ Some None) }
         ensures hub { IfOk result (λ _. self.new ≡ record self.old {
