@@ -69,6 +69,16 @@ abbrev pub HubMade : (BoundHubView → Type 0) → Option Thing → Type 0
 HubMade R (Some (OfHub h)) = R h
 HubMade R _ = ⊥
 
+-- to a producer
+abbrev pub ProducerMade : (BoundProducerView → Type 0) → Option Thing → Type 0
+ProducerMade R (Some (OfProducer p)) = R p
+ProducerMade R _ = ⊥
+
+-- to a consumer
+abbrev pub ConsumerMade : (SeededConsumer → Type 0) → Option Thing → Type 0
+ConsumerMade R (Some (OfConsumer c)) = R c
+ConsumerMade R _ = ⊥
+
 -- and to a report
 abbrev pub ReportHas : (ReportView → Type 0) → Option Thing → Type 0
 ReportHas R (Some (OfReport r)) = R r

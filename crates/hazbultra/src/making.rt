@@ -1,14 +1,16 @@
 //! The calls that make a mailbox, its producers and its consumers.
-ghost use Rattle.std.specs.Prelude.{◌≡◌, ◌≢◌, ◌≤◌, IfErr, IfOk, Some, length};
+ghost use Rattle.std.specs.Prelude.{◌≡◌, ◌≢◌, ◌↔◌, ◌≤◌, IfErr, IfOk, Some, length};
 ghost use Rattle.mb_quorum.specs.declared.table.TableName.{TableName};
 ghost use Rattle.mb_world.specs.Setups.{plan_in, shaped_plan};
 ghost use Rattle.mb_mailbox.specs.Below.{consumer_count};
 ghost use Rattle.mb_mailbox.specs.Hubs.{IsNewConsumer, hub_empty, new_producer, with_consumer, with_producer};
 ghost use Rattle.mb_mailbox.specs.Mailboxes.{plan_at};
-ghost use Rattle.hazbultra.specs.Calls.{HubGave, HubGaveConsumer, HubMade, HubWent, table_numbered};
+ghost use Rattle.hazbultra.specs.Calls.{ConsumerMade, HubGave, HubGaveConsumer, HubMade, HubWent, ProducerMade, table_numbered};
 ghost use Rattle.hazbultra.specs.declared.codes.TheConstants.{ALL_GIVEN, DONE};
 
-use crate::codes::{BAD_HANDLE, BAD_TABLE, DONE, NO_MEMORY, code_of_hub, code_of_setup, table_of};
+use crate::codes::{
+    ALL_GIVEN, BAD_HANDLE, BAD_TABLE, DONE, NO_MEMORY, code_of_hub, code_of_setup, table_of,
+};
 use crate::crossing::SetupIn;
 use crate::handle::Handle;
 use crate::thing::{SeededConsumer, Thing};
@@ -67,7 +69,7 @@ pub extern "C" fn hz_mailbox_new(alloc: Global, id: u64, setup: &SetupIn, hub: &
     DONE
 }
 
-/// The producer of the next lane. Its box is made first, so a refusal for memory gives no number away.
+/// The producer of the next lane. Its box is made before it, so a refusal for memory gives no number away.
 #[unsafe(no_mangle)]
 pub extern "C" fn hz_producer_new(alloc: Global, hub: &mut Handle, producer: &mut Handle) -> u32
     ensures given { result ≡ DONE
@@ -87,25 +89,44 @@ pub extern "C" fn hz_producer_new(alloc: Global, hub: &mut Handle, producer: &mu
     if !producer.is_none() {
         return BAD_HANDLE;
     }
-    let Ok(mut room) = Box::new(alloc, Thing::OfNothing) else {
-        return NO_MEMORY;
-    };
     let Some(mut opened) = hub.take() else {
         return BAD_HANDLE;
     };
     let code = match &mut *opened {
-        Thing::OfHub(hub) => match hub.producer(alloc) {
-            Ok(made) => {
-                *room = Thing::OfProducer(made);
-                producer.give(room);
-                DONE
-            }
-            Err(why) => code_of_hub(why),
-        },
+        Thing::OfHub(bound) => give_producer(alloc, bound, producer),
         _ => BAD_HANDLE,
     };
     hub.give(opened);
     code
+}
+
+/// The same for a hub that is opened.
+fn give_producer(alloc: Global, hub: &mut BoundHub<Global>, producer: &mut Handle) -> u32
+    ensures given { result ≡ DONE → ProducerMade (λ p. p ≡ record {
+      id = hub.old.id;
+      mailbox = hub.old.mailbox;
+      producer = new_producer hub.old.mailbox (length hub.old.hub.puts);
+    }) producer.new.block.thing }
+    ensures hub { result ≡ DONE → hub.new ≡ record hub.old { hub = with_producer hub.old.hub } }
+    ensures all_given { (result ≡ ALL_GIVEN)
+        ↔ (hub.old.mailbox.cells.size.lanes ≤ length hub.old.hub.puts) }
+    ensures same_hub { result ≢ DONE → hub.new ≡ hub.old }
+    ensures same { result ≢ DONE → producer.new.block.thing ≡ producer.old.block.thing }
+{
+    if hub.lanes_left() == 0 {
+        return ALL_GIVEN;
+    }
+    let Ok(mut room) = Box::new(alloc, Thing::OfNothing) else {
+        return NO_MEMORY;
+    };
+    match hub.producer(alloc) {
+        Ok(made) => {
+            *room = Thing::OfProducer(made);
+            producer.give(room);
+            DONE
+        }
+        Err(why) => code_of_hub(why),
+    }
 }
 
 /// The consumer of the next number, with the random words of ChaCha8 from this seed and stream.
@@ -133,28 +154,51 @@ pub extern "C" fn hz_consumer_new(
     if !consumer.is_none() {
         return BAD_HANDLE;
     }
-    let Ok(mut room) = Box::new(alloc, Thing::OfNothing) else {
-        return NO_MEMORY;
-    };
     let Some(mut opened) = hub.take() else {
         return BAD_HANDLE;
     };
+    let mut source = ChaCha8Rng::from_seed(*seed);
+    source.set_stream(stream);
     let code = match &mut *opened {
-        Thing::OfHub(hub) => match hub.consumer(alloc) {
-            Ok(made) => {
-                let mut source = ChaCha8Rng::from_seed(*seed);
-                source.set_stream(stream);
-                *room = Thing::OfConsumer(SeededConsumer {
-                    consumer: made,
-                    source,
-                });
-                consumer.give(room);
-                DONE
-            }
-            Err(why) => code_of_hub(why),
-        },
+        Thing::OfHub(bound) => give_consumer(alloc, bound, source, consumer),
         _ => BAD_HANDLE,
     };
     hub.give(opened);
     code
+}
+
+/// The same for a hub that is opened.
+fn give_consumer(
+    alloc: Global,
+    hub: &mut BoundHub<Global>,
+    source: ChaCha8Rng,
+    consumer: &mut Handle,
+) -> u32
+    ensures given { result ≡ DONE → ConsumerMade (λ c. (c.consumer.id ≡ hub.old.id)
+        × (c.consumer.mailbox ≡ hub.old.mailbox) × (c.source ≡ source)
+        × IsNewConsumer hub.old.mailbox hub.old.hub c.consumer.consumer)
+        consumer.new.block.thing }
+    ensures hub { result ≡ DONE → hub.new ≡ record hub.old { hub = with_consumer hub.old.hub } }
+    ensures all_given { (result ≡ ALL_GIVEN)
+        ↔ (consumer_count hub.old.mailbox.claims.layout ≤ length hub.old.hub.ledgers) }
+    ensures same_hub { result ≢ DONE → hub.new ≡ hub.old }
+    ensures same { result ≢ DONE → consumer.new.block.thing ≡ consumer.old.block.thing }
+{
+    if hub.consumers_left() == 0 {
+        return ALL_GIVEN;
+    }
+    let Ok(mut room) = Box::new(alloc, Thing::OfNothing) else {
+        return NO_MEMORY;
+    };
+    match hub.consumer(alloc) {
+        Ok(made) => {
+            *room = Thing::OfConsumer(SeededConsumer {
+                consumer: made,
+                source,
+            });
+            consumer.give(room);
+            DONE
+        }
+        Err(why) => code_of_hub(why),
+    }
 }

@@ -29,8 +29,9 @@ impl<A: Allocator + Drop> Model for BoundHub<A> {
 }
 
 impl<A: Allocator + Drop> BoundHub<A> {
-    ghost use Rattle.std.specs.Prelude.{◌≡◌, ◌≢◌, ◌↔◌, ◌≤◌, Err, IfErr, IfOk, IsOk, None, OnErr, Some, length, slice_get};
+    ghost use Rattle.std.specs.Prelude.{◌≡◌, ◌≢◌, ◌↔◌, ◌≤◌, ◌-◌, Err, IfErr, IfOk, IsOk, None, OnErr, Some, length, slice_get};
     ghost use Rattle.mb_bound.specs.Bound.{AreNamedApart};
+    ghost use Rattle.mb_mailbox.specs.Below.{consumer_count};
     ghost use Rattle.mb_mailbox.specs.declared.hub.HubFault.TheVariants.{AllGiven};
     ghost use Rattle.mb_mailbox.specs.Hubs.{IsHubOf, new_producer, with_producer};
     ghost use Rattle.mb_mailbox.specs.Hubs.{with_taken_consumer, with_taken_producer};
@@ -40,6 +41,21 @@ impl<A: Allocator + Drop> BoundHub<A> {
         ensures { result ≡ self.now.id }
     {
         self.id
+    }
+
+    /// How many lanes were not given yet.
+    pub fn lanes_left(&self) -> usize
+        ensures { result ≡ self.now.mailbox.cells.size.lanes - length self.now.hub.puts }
+    {
+        lanes_left(&self.mailbox, &self.hub)
+    }
+
+    /// How many numbers of consumers were not given yet.
+    pub fn consumers_left(&self) -> usize
+        ensures { result ≡ consumer_count self.now.mailbox.claims.layout
+            - length self.now.hub.ledgers }
+    {
+        consumers_left(&self.mailbox, &self.hub)
     }
 
     /// It is the hub of its mailbox. It computes nothing: its contract is a law of all of them.
