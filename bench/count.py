@@ -1,12 +1,12 @@
 #!/usr/bin/env python3
-"""Counts the instructions of the libraries' loops and of the same loops by hand, and prints a table of both.
+"""Counts the instructions of the libraries' loops and of the same loops by hand, and prints a table of them all.
 
 usage: bench/count.py [--loops lone,mail] [--shapes plain,fast,last,fastlast] [--tables bits,unary,middle]
                       [--consumers 2,4,16,64] [--items] [--keep]
 
 Both programs are built first: `mailbox_bench` by `rt run`, which proves it, and `by_hand` by rustc. Then callgrind counts
-the instructions of each at two sizes, so that the start of the program falls out; the counts repeat exactly. Both have to
-print the same lines. With --items the unit of a loop over claims is a cell with all claims on it, and not an access. With
+the instructions of each at two sizes, so that the start of the program falls out; the counts repeat exactly. By hand a claim
+that goes to its end is counted twice, once by steps and once straight. All have to print the same lines. With --items the unit of a loop over claims is a cell with all claims on it, and not an access. With
 --keep the programs of the last run are taken as they are. It wants rt, rustc and valgrind.
 """
 import argparse
@@ -39,6 +39,8 @@ CLAIMS = ("lone", "contended", "shared")
 CELLS = 256
 # These have no loop by hand.
 ALONE = ("chacha", "events", "reports")
+# These have one more by hand, in which a claim goes straight, by plain loops.
+STRAIGHT = ("lone", "shared", "mail", "mailbox")
 
 
 def build():
@@ -50,11 +52,11 @@ def build():
 
 
 def counted(program, what, times):
-    """The instructions of a run, and the line that it prints."""
+    """The instructions of a run, and the line that it prints. The program comes with the words before the loop's."""
     loop, shape, table, consumers = what
     valgrind = ["valgrind", "--tool=callgrind", "--callgrind-out-file=/dev/null"]
     words = [loop, table, consumers, str(times), *([] if shape == "plain" else [shape])]
-    ran = subprocess.run([*valgrind, program, *words], capture_output=True, text=True, check=True)
+    ran = subprocess.run([*valgrind, *program, *words], capture_output=True, text=True, check=True)
     return int(re.search(r"Collected : (\d+)", ran.stderr).group(1)), ran.stdout
 
 
@@ -67,17 +69,23 @@ def difference(program, what):
 
 
 def row(what, by_item):
-    """What a unit of the loop takes, by the libraries and, if there is such a loop, by hand."""
+    """What a unit of the loop takes by the libraries and, if there is such a loop, by hand: by steps, and then straight."""
     loop, *others = what
+    programs = [(PROGRAM,)]
+    if loop not in ALONE:
+        programs.append((BY_HAND,))
+    if loop in STRAIGHT:
+        programs.append((BY_HAND, "straight"))
     taken, lines = [], []
-    for program in (PROGRAM,) if loop in ALONE else (PROGRAM, BY_HAND):
+    for program in programs:
         instructions, units, line = difference(program, what)
         if loop in LESS:
-            instructions -= difference(program, (LESS[loop], *others))[0]
+            instructions -= difference(program[:1], (LESS[loop], *others))[0]
         taken.append(instructions / (CELLS if by_item else units))
         lines.append(line)
-    if lines[0] != lines[-1]:
-        sys.exit(f"the programs differ:\n{lines[0]}{lines[-1]}")
+    for line in lines:
+        if line != lines[0]:
+            sys.exit(f"the programs differ:\n{lines[0]}{line}")
     return taken
 
 
@@ -94,8 +102,8 @@ def main():
         build()
     cpu = re.search(r"Model name:\s*(.*)", subprocess.run(["lscpu"], capture_output=True, text=True).stdout)
     print(f"Machine: {cpu.group(1) if cpu else 'unknown'}\n")
-    print("| Loop | Table | Consumers | Libraries | By hand | Ratio |")
-    print("|---|---|---|---|---|---|")
+    print("| Loop | Table | Consumers | Libraries | By hand, by steps | Ratio | By hand, straight | Ratio |")
+    print("|---|---|---|---|---|---|---|---|")
     choices = (options.loops, options.shapes, options.tables, options.consumers)
     for what in itertools.product(*(words.split(",") for words in choices)):
         loop, shape, table, consumers = what
@@ -103,8 +111,8 @@ def main():
         ours, *hand = row(what, by_item)
         name = loop if shape == "plain" else f"{loop} {shape}"
         unit = "an item" if by_item else UNITS[loop]
-        beside = f"{hand[0]:.1f} | {ours / hand[0]:.2f}" if hand else "- | -"
-        print(f"| {name}, {unit} | {table} | {consumers} | {ours:.1f} | {beside} |", flush=True)
+        beside = [f"{it:.1f} | {ours / it:.2f}" for it in hand] + ["- | -"] * (2 - len(hand))
+        print(f"| {name}, {unit} | {table} | {consumers} | {ours:.1f} | {' | '.join(beside)} |", flush=True)
 
 
 if __name__ == "__main__":

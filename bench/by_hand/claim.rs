@@ -63,8 +63,8 @@ pub enum Stage {
 
 /// Where a claim stands in its object. A conciliator has one word, a ratifier its proposal and then its registers, and the
 /// last object one word.
-#[derive(Clone, Copy)]
-enum Place {
+#[derive(Clone, Copy, PartialEq, Eq)]
+pub enum Place {
     /// It looks into the conciliator's word, and stores there where a random word is below the limit.
     Look { limit: u64 },
     Write,
@@ -81,14 +81,14 @@ enum Place {
 
 #[derive(Clone, Copy)]
 pub struct Claim {
-    consumer: u32,
-    value: u32,
+    pub consumer: u32,
+    pub value: u32,
     /// How many ratifiers it has passed.
-    passed: u32,
+    pub passed: u32,
     /// Where the words of its object begin, in those of all cells.
-    base: usize,
-    place: Place,
-    stage: Stage,
+    pub base: usize,
+    pub place: Place,
+    pub stage: Stage,
 }
 
 impl Claim {
@@ -205,7 +205,7 @@ impl Claim {
 
 /// The first place of a ratifier, with this value.
 #[inline]
-fn announcing(layout: &Layout, value: u32) -> Place {
+pub fn announcing(layout: &Layout, value: u32) -> Place {
     match layout.write[value as usize] {
         0 => Place::Propose,
         left => Place::Announce { left },

@@ -76,6 +76,8 @@ pub struct Layout {
     pub objects: u32,
     pub ratifier_words: usize,
     pub cell_words: usize,
+    /// The most accesses on a pair, or on a ratifier, with the last object after it.
+    pub most_on_pair: u64,
     pub write: [u64; MAX_CONSUMERS],
     pub read: [u64; MAX_CONSUMERS],
 }
@@ -103,6 +105,8 @@ impl Layout {
             objects: first + 2 * pairs,
             ratifier_words,
             cell_words: ratifiers as usize * ratifier_words + pairs as usize + usize::from(last),
+            // Of a conciliator s + 3, of a ratifier its registers and twice the proposal, and the last object's one.
+            most_on_pair: u64::from(width) + 4 + u64::from(registers) + 2 + 1,
             write,
             read,
         }

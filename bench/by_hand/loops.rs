@@ -38,14 +38,14 @@ pub fn words_alone(layout: &Layout, times: u64) -> u64 {
 }
 
 /// So many times, one claim on each cell, the consumers in turn.
-pub fn lone(layout: &Layout, times: u64) -> Count {
+pub fn lone<const STRAIGHT: bool>(layout: &Layout, times: u64) -> Count {
     let mut source = Source::new();
     let mut count = Count { accesses: 0, won: 0 };
     for _ in 0..times {
         let mut words = layout.words();
         let mut consumer = 0;
         for cell in 0..CELLS {
-            let (accesses, stage) = claim_cell(layout, &mut words[..], consumer, cell, &mut source);
+            let (accesses, stage) = claim_cell::<_, STRAIGHT>(layout, &mut words[..], consumer, cell, &mut source);
             count.add(accesses, stage);
             consumer += 1;
             if consumer == layout.consumers {
@@ -56,9 +56,9 @@ pub fn lone(layout: &Layout, times: u64) -> Count {
     count
 }
 
-/// A claim to its end: its accesses, and how it ended.
-#[inline]
-pub fn claim_cell<W: Words + ?Sized>(
+/// A claim to its end: its accesses, and how it ended. It goes on straight, or by steps.
+#[inline(always)]
+pub fn claim_cell<W: Words + ?Sized, const STRAIGHT: bool>(
     layout: &Layout,
     words: &mut W,
     consumer: u32,
@@ -66,6 +66,10 @@ pub fn claim_cell<W: Words + ?Sized>(
     source: &mut Source,
 ) -> (u64, Stage) {
     let mut claim = Claim::new(layout, consumer, cell);
+    if STRAIGHT {
+        let left = claim.run(layout, words, source, u64::MAX);
+        return (u64::MAX - left, claim.stage());
+    }
     let mut made = 0;
     loop {
         made += 1;
@@ -87,14 +91,14 @@ pub fn tables_alone(layout: &Layout, times: u64) -> u64 {
 }
 
 /// So many times, one claim on each cell, all of the first consumer, on words that threads can share.
-pub fn shared(layout: &Layout, times: u64) -> Count {
+pub fn shared<const STRAIGHT: bool>(layout: &Layout, times: u64) -> Count {
     let mut source = Source::new();
     let mut count = Count { accesses: 0, won: 0 };
     for _ in 0..times {
         let words = layout.atomic_words();
         let consumer = black_box(0);
         for cell in 0..CELLS {
-            let (accesses, stage) = claim_cell(layout, &mut &words[..], consumer, cell, &mut source);
+            let (accesses, stage) = claim_cell::<_, STRAIGHT>(layout, &mut &words[..], consumer, cell, &mut source);
             count.add(accesses, stage)
         }
     }

@@ -87,7 +87,7 @@ impl Producer {
 }
 
 /// So many mailboxes, one after the other.
-pub fn mail(layout: &Layout, times: u64) -> Post {
+pub fn mail<const STRAIGHT: bool>(layout: &Layout, times: u64) -> Post {
     let mut source = Source::new();
     let mut post = Post { items: 0, notes: 0, taken: 0 };
     for time in 0..times {
@@ -101,7 +101,7 @@ pub fn mail(layout: &Layout, times: u64) -> Post {
         post.items += producer.put.len() as u64;
         for consumer in 0..layout.consumers {
             let mut notes = Vec::with_capacity(CELLS);
-            post.taken += read(layout, &pool, &mut words, consumer, &mut source, &mut notes);
+            post.taken += read::<STRAIGHT>(layout, &pool, &mut words, consumer, &mut source, &mut notes);
             post.notes += notes.len() as u64
         }
     }
@@ -109,7 +109,7 @@ pub fn mail(layout: &Layout, times: u64) -> Post {
 }
 
 /// A consumer reads the mailbox to its end. The answer is the sum of the items that it took.
-fn read(
+fn read<const STRAIGHT: bool>(
     layout: &Layout,
     pool: &Pool,
     words: &mut [u64],
@@ -125,7 +125,7 @@ fn read(
             return taken;
         }
         let cell = link as usize - 1;
-        let note = match claim_cell(layout, words, consumer, cell, source).1 {
+        let note = match claim_cell::<_, STRAIGHT>(layout, words, consumer, cell, source).1 {
             Stage::Won => Note::Took(pool.items[cell]),
             Stage::Lost(winner) => Note::Lost(winner),
             Stage::Undecided | Stage::Going => Note::Undecided,

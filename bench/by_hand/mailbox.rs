@@ -158,15 +158,16 @@ impl Consumer {
         Consumer { number, lanes: (0..LANES).map(|_| lane()).collect() }
     }
 
-    /// Makes accesses on a lane until one has an answer, or as many were made as the budget allows.
-    fn poll(&mut self, mailbox: &Mailbox, p: usize, budget: u64, source: &mut Source) -> Poll {
+    /// Makes accesses on a lane until one has an answer, or as many were made as the budget allows. It goes on straight
+    /// as long as that has room for a pair, or always by steps.
+    fn poll<const STRAIGHT: bool>(&mut self, mailbox: &Mailbox, p: usize, budget: u64, source: &mut Source) -> Poll {
         let Some(lane) = self.lanes.get_mut(p) else {
             return Poll::NoLane;
         };
         if budget == 0 {
             return Poll::Spent;
         }
-        let (cell, mut claim, left) = match lane.place {
+        let (cell, mut claim, mut left) = match lane.place {
             Place::At { cell, claim } => (cell, claim, budget),
             Place::Won(cell) => return lane.take(mailbox, cell),
             Place::Before(last) => match mailbox.link(p, last).load(SeqCst) {
@@ -178,6 +179,15 @@ impl Consumer {
                 }
             },
         };
+        if STRAIGHT {
+            left = claim.run(mailbox.layout, &mut &mailbox.claims[..], source, left);
+            match claim.stage() {
+                Stage::Going => {}
+                Stage::Won => return lane.take(mailbox, cell),
+                Stage::Lost(winner) => return lane.noted(cell, Note::Lost(winner)),
+                Stage::Undecided => return lane.noted(cell, Note::Undecided),
+            }
+        }
         for left in (0..left).rev() {
             match claim.step(mailbox.layout, &mut &mailbox.claims[..], source.word()) {
                 Stage::Going => {}
@@ -196,14 +206,14 @@ impl Consumer {
 }
 
 /// So many mailboxes, one after the other, each filled and then polled to its end by each consumer.
-pub fn mailboxes(layout: &Layout, times: u64) -> Post {
+pub fn mailboxes<const STRAIGHT: bool>(layout: &Layout, times: u64) -> Post {
     let mut source = Source::new();
     let mut post = Post { items: 0, notes: 0, taken: 0 };
     for time in 0..times {
         let mailbox = Mailbox::new(layout);
         post.items += fill(&mailbox, time * CELLS as u64);
         for number in 0..layout.consumers {
-            read(&mailbox, &mut Consumer::new(number), &mut source, &mut post)
+            read::<STRAIGHT>(&mailbox, &mut Consumer::new(number), &mut source, &mut post)
         }
     }
     post
@@ -249,9 +259,9 @@ fn put_all(mailbox: &Mailbox, producer: &mut Producer, first: u64) -> u64 {
 }
 
 /// A consumer polls the lane to its end.
-fn read(mailbox: &Mailbox, consumer: &mut Consumer, source: &mut Source, post: &mut Post) {
+fn read<const STRAIGHT: bool>(mailbox: &Mailbox, consumer: &mut Consumer, source: &mut Source, post: &mut Post) {
     loop {
-        match consumer.poll(mailbox, 0, u64::MAX, source) {
+        match consumer.poll::<STRAIGHT>(mailbox, 0, u64::MAX, source) {
             Poll::Noted(note) => {
                 post.notes += 1;
                 if let Note::Took(item) = note {

@@ -1,0 +1,150 @@
+//! A claim gone through by plain loops: the same accesses with the same random words as by steps.
+
+use crate::claim::{Claim, Place, Stage, Words, announcing};
+use crate::layout::Layout;
+use crate::source::Source;
+
+/// Where a claim makes its accesses, the source of its random words, and how many accesses it may still make.
+struct Turns<'a, W: Words + ?Sized> {
+    words: &'a mut W,
+    source: &'a mut Source,
+    left: u64,
+}
+
+impl<W: Words + ?Sized> Turns<'_, W> {
+    /// The random word of the next access.
+    #[inline(always)]
+    fn draw(&mut self) -> u64 {
+        self.left -= 1;
+        self.source.word()
+    }
+
+    #[inline(always)]
+    fn load(&mut self, at: usize) -> u64 {
+        self.draw();
+        self.words.load(at)
+    }
+
+    #[inline(always)]
+    fn store(&mut self, at: usize, value: u64) {
+        self.draw();
+        self.words.store(at, value)
+    }
+}
+
+impl Claim {
+    /// Goes on from the first access of a pair, or of a ratifier of the fast path, pair by pair, as long as the budget has
+    /// room for all that one may take and an access more. The answer is what is left of the budget. A claim that stands
+    /// elsewhere does not move.
+    #[inline(always)]
+    pub fn run<W: Words + ?Sized>(
+        &mut self,
+        layout: &Layout,
+        words: &mut W,
+        source: &mut Source,
+        budget: u64,
+    ) -> u64 {
+        if self.place != first(layout, self.value, self.passed) {
+            return budget;
+        }
+        let mut turns = Turns { words, source, left: budget };
+        let (mut value, mut base, mut passed) = (self.value, self.base, self.passed);
+        self.stage = loop {
+            if turns.left <= layout.most_on_pair {
+                (self.value, self.base, self.passed) = (value, base, passed);
+                self.place = first(layout, value, passed);
+                break Stage::Going;
+            }
+            if passed >= fast_ratifiers(layout) {
+                value = conciliate(layout, &mut turns, base, value);
+                base += 1
+            }
+            let decided;
+            (decided, value) = ratify(layout, &mut turns, base, value);
+            if decided {
+                break ended(self.consumer, value);
+            }
+            base += layout.ratifier_words;
+            passed += 1;
+            if passed == layout.ratifiers {
+                break if layout.last {
+                    ended(self.consumer, exchange(&mut turns, base, value))
+                } else {
+                    Stage::Undecided
+                };
+            }
+        };
+        turns.left
+    }
+}
+
+/// How many ratifiers the fast path has.
+#[inline(always)]
+fn fast_ratifiers(layout: &Layout) -> u32 {
+    if layout.fast { 2 } else { 0 }
+}
+
+/// The first place on a pair, or on a ratifier of the fast path, with this value.
+#[inline(always)]
+fn first(layout: &Layout, value: u32, passed: u32) -> Place {
+    if passed < fast_ratifiers(layout) { announcing(layout, value) } else { Place::Look { limit: 1 } }
+}
+
+/// How the claim of a consumer ends with this value.
+#[inline(always)]
+fn ended(consumer: u32, value: u32) -> Stage {
+    if value == consumer { Stage::Won } else { Stage::Lost(value) }
+}
+
+/// A conciliator with this word and this input: its output.
+#[inline(always)]
+fn conciliate<W: Words + ?Sized>(layout: &Layout, turns: &mut Turns<W>, base: usize, input: u32) -> u32 {
+    let mut limit = 1;
+    loop {
+        let word = turns.draw();
+        let seen = turns.words.load(base);
+        if seen != 0 {
+            return (seen - 1) as u32;
+        }
+        if word & (layout.modulus - 1) < limit {
+            turns.store(base, u64::from(input) + 1);
+            return (turns.load(base) - 1) as u32;
+        }
+        limit *= 2
+    }
+}
+
+/// A ratifier whose words begin there, with this input: whether it decided, and its output.
+#[inline(always)]
+fn ratify<W: Words + ?Sized>(layout: &Layout, turns: &mut Turns<W>, base: usize, input: u32) -> (bool, u32) {
+    let mut left = layout.write[input as usize];
+    while left != 0 {
+        turns.store(base + 1 + left.trailing_zeros() as usize, 1);
+        left &= left - 1
+    }
+    let preference = match turns.load(base) {
+        0 => {
+            turns.store(base, u64::from(input) + 1);
+            input
+        }
+        seen => (seen - 1) as u32,
+    };
+    let mut left = layout.read[preference as usize];
+    while left != 0 {
+        if turns.load(base + 1 + left.trailing_zeros() as usize) != 0 {
+            return (false, preference);
+        }
+        left &= left - 1
+    }
+    (true, preference)
+}
+
+/// A last object with this word and this input: its output.
+#[inline(always)]
+fn exchange<W: Words + ?Sized>(turns: &mut Turns<W>, base: usize, input: u32) -> u32 {
+    turns.draw();
+    match turns.words.exchange(base, u64::from(input) + 1) {
+        0 => input,
+        found => (found - 1) as u32,
+    }
+}
