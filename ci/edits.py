@@ -7,7 +7,7 @@ from collections import Counter
 # The most mutants of one check. Reading a large crate takes as long as one of them, and with many more a single check
 # would go on for long after all others.
 MOST = 8
-FUNCTION = re.compile(r"^ *(?:pub(?:\([\w ]+\))? )?(?:const |final |ghost )*fn (\w+)", re.M)
+FUNCTION = re.compile(r'^ *(?:pub(?:\([\w ]+\))? )?(?:const |final |ghost |unsafe |extern "C" )*fn (\w+)', re.M)
 
 
 class Fault(Exception):

@@ -7,6 +7,7 @@ import unittest
 import edits
 
 TEXT = "refuses: mb_quorum::values::f\nfile: src/values.rt\nold: 1\nnew: 2\n"
+EXPORT = '#[unsafe(no_mangle)]\npub extern "C" fn i() { 8 }\n'
 CONTROL = "proves: mb_quorum::values::h\nfile: src/values.rt\nold: 5\nnew: 6\n"
 
 
@@ -57,7 +58,7 @@ class WithCrate(unittest.TestCase):
         self.addCleanup(room.cleanup)
         self.top, self.folder = room.name, f"{room.name}/crates/mb_quorum"
         above = "use a::seven;\nconst FOUR: u64 = 4;\n"
-        self.write("src/values.rt", above + "fn f() { 1 }\npub fn g() { 3 }\nfn h() { 5 }\n")
+        self.write("src/values.rt", above + "fn f() { 1 }\npub fn g() { 3 }\nfn h() { 5 }\n" + EXPORT)
         self.write("mutants/harmless.control", CONTROL)
         self.crate = types.SimpleNamespace(name="mb_quorum", folder=self.folder)
 
@@ -91,6 +92,7 @@ class Applying(WithCrate):
         self.stops(edit("f", old="FOUR: u64 = 4", new="FOUR: u64 = 5"))
         self.stops(edit("f", old="pub fn g()", new="fn g()"))
         edit("f", old="fn f()", new="final fn f()").applied(self.folder, {})
+        edit("i", old="8", new="7").applied(self.folder, {})
 
     def test_an_import_or_alone_stands_outside(self):
         edit("f", old="a::seven", new="a::eight").applied(self.folder, {})
