@@ -4,13 +4,14 @@ use Rattle.std.specs.Int.{from_bool}
 use Rattle.std.specs.Prelude.{Vec, Some, slice_get}
 use Rattle.std.specs.List.{All, AllZip, sum_by}
 use Rattle.std.proofs.lemmas.List.{length-map, map-append}
+use Rattle.std.proofs.lemmas.Simd.{map-map}
 use Rattle.std.proofs.lemmas.List.Elements.{All-cons, All-head, All-tail}
 use Rattle.std.proofs.lemmas.List.Sums.{sum_by-cons}
 use Rattle.mb_shared_cells.specs.Vocabulary.{IsRollOf}
 use Rattle.mb_shared_cells.specs.declared.views.Roll.{Roll}
 use Rattle.mb_cells.specs.declared.size.PoolSize.{PoolSize}
 use Rattle.mb_world.specs.Reporting.{values_put}
-use Rattle.mb_mailbox.specs.Below.{History}
+use Rattle.mb_mailbox.specs.Below.{History, Stream}
 use Rattle.mb_mailbox.specs.Called.{IsCalled, WerePolled}
 use Rattle.mb_mailbox.specs.Consumers.{ConsumerView, IsConsumerOf}
 use Rattle.mb_mailbox.specs.Given.{AreAllGiven, AreGiven}
@@ -71,26 +72,26 @@ module _ {R Z : Type 0} (m : MailboxView) where
     polls = polls_at (length h.ledgers) jobs.polls.items g.polls;
   }
 
-  poll_ends_at : (may_stop may_pass : Who → ℕ → Type 0) (from end budget : ℕ) (js : List (PollJob R Z)) (ds : List (PollDone Z)) → All (λ (j : PollJob R Z). IsConsumerOf m j.consumer) js
-      → AllZip (λ (j : PollJob R Z) (d : PollDone Z). IsPollEnd may_stop may_pass from end budget j.consumer d) js ds → All (λ (d : PollDone Z). IsConsumerOf m d.consumer) ds
-  poll_ends_at may_stop may_pass from end budget [] [] a z = nothing (λ (d : PollDone Z). IsConsumerOf m d.consumer)
-  poll_ends_at may_stop may_pass from end budget [] (d ∷ ds) a z = absurd z
-  poll_ends_at may_stop may_pass from end budget (j ∷ js) [] a z = absurd z
-  poll_ends_at may_stop may_pass from end budget (j ∷ js) (d ∷ ds) a z =
+  poll_ends_at : (may_stop may_pass : Who → ℕ → Type 0) (stream : R → Stream) (from end budget : ℕ) (js : List (PollJob R Z)) (ds : List (PollDone Z)) → All (λ (j : PollJob R Z). IsConsumerOf m j.consumer) js
+      → AllZip (λ (j : PollJob R Z) (d : PollDone Z). IsPollEnd may_stop may_pass from end budget (stream j.rng) j.consumer d) js ds → All (λ (d : PollDone Z). IsConsumerOf m d.consumer) ds
+  poll_ends_at may_stop may_pass stream from end budget [] [] a z = nothing (λ (d : PollDone Z). IsConsumerOf m d.consumer)
+  poll_ends_at may_stop may_pass stream from end budget [] (d ∷ ds) a z = absurd z
+  poll_ends_at may_stop may_pass stream from end budget (j ∷ js) [] a z = absurd z
+  poll_ends_at may_stop may_pass stream from end budget (j ∷ js) (d ∷ ds) a z =
       let P = λ (j : PollJob R Z). IsConsumerOf m j.consumer in
       All-cons (λ (d : PollDone Z). IsConsumerOf m d.consumer) d ds
       (record { cells = z.0.same.cells ∙ (All-head P j js a).cells; claims = z.0.same.claims ∙ (All-head P j js a).claims })
-      (poll_ends_at may_stop may_pass from end budget js ds (All-tail P j js a) z.1)
+      (poll_ends_at may_stop may_pass stream from end budget js ds (All-tail P j js a) z.1)
 
-  pub ends_at : (may_stop may_pass : Who → ℕ → Type 0) (from end budget : ℕ) (jobs : Jobs R Z) (ends : Ends Z) → AreOf m jobs → AreEndsOf may_stop may_pass from end budget jobs ends
+  pub ends_at : (may_stop may_pass : Who → ℕ → Type 0) (stream : R → Stream) (from end budget : ℕ) (jobs : Jobs R Z) (ends : Ends Z) → AreOf m jobs → AreEndsOf may_stop may_pass stream from end budget jobs ends
       → AreEndsAt m ends
-  ends_at may_stop may_pass from end budget jobs ends a e = record {
+  ends_at may_stop may_pass stream from end budget jobs ends a e = record {
     puts = put_ends_at m may_stop may_pass jobs.puts.items ends.puts.items a.puts e.puts;
-    polls = poll_ends_at may_stop may_pass from end budget jobs.polls.items ends.polls.items a.polls e.polls;
+    polls = poll_ends_at may_stop may_pass stream from end budget jobs.polls.items ends.polls.items a.polls e.polls;
   }
 
 -- there is room for fewer
-pub room_for : {G Z : Type 0} (a b c d : ℕ) (r : Room G Z) → c ≤ a → d ≤ b → HasRoom a b r → HasRoom c d r
+pub room_for : {G R Z : Type 0} (a b c d : ℕ) (r : Room G R Z) → c ≤ a → d ≤ b → HasRoom a b r → HasRoom c d r
 room_for a b c d r puts polls h =
     let p = h.puts in
     let q = h.polls in
@@ -149,14 +150,14 @@ at_most_each f (x ∷ xs) =
     omega (arith, all, one, rest)
 
 -- ---- the end of a run
-module _ {R Z : Type 0} (m : MailboxView) (may_stop may_pass : Who → ℕ → Type 0) (items : List (Vec ℕ Z)) (sources from end budget : ℕ) (jobs : Jobs R Z) (ends : Ends Z) (h mid now : HubView)
-    (hub : IsHub h) (given : AreGiven m items sources jobs h mid) (came : AreEndsOf may_stop may_pass from end budget jobs ends) (is : now ≡ with_taken ends mid) where
+module _ {R Z : Type 0} (m : MailboxView) (may_stop may_pass : Who → ℕ → Type 0) (stream : R → Stream) (items : List (Vec ℕ Z)) (sources from end budget : ℕ) (jobs : Jobs R Z) (ends : Ends Z) (h mid now : HubView)
+    (hub : IsHub h) (given : AreGiven m items sources jobs h mid) (came : AreEndsOf may_stop may_pass stream from end budget jobs ends) (is : now ≡ with_taken ends mid) where
   its : (vs : List (Vec ℕ Z)) → ArePutJobs m (length h.puts) vs jobs.puts.items
       → IsRunOf (lists_in vs) (length jobs.polls.items) (lanes_of m may_stop may_pass ends.puts.items) (left_of m may_stop may_pass ends.polls.items) h now
   its vs are =
       subst (λ (n : HubView). IsRunOf (lists_in vs) (length jobs.polls.items) (lanes_of m may_stop may_pass ends.puts.items) (left_of m may_stop may_pass ends.polls.items) h n)
       (sym (is ∙ ap (with_taken ends) given.hub))
-      (run_of m may_stop may_pass h from end budget vs jobs.puts.items ends.puts.items jobs.polls.items ends.polls.items hub are given.polls came.puts came.polls)
+      (run_of m may_stop may_pass stream h from end budget vs jobs.puts.items ends.puts.items jobs.polls.items ends.polls.items hub are given.polls came.puts came.polls)
 
   pub early : WereTakenInEarly (lists_in items) sources h now
   early = record {
@@ -168,10 +169,14 @@ module _ {R Z : Type 0} (m : MailboxView) (may_stop may_pass : Who → ℕ → T
     taken = record { lanes = lanes_of m may_stop may_pass ends.puts.items; consumers = left_of m may_stop may_pass ends.polls.items; run = its given.puts.front given.puts.are };
   }
 
-  module _ (all : AreAllGiven m items sources jobs h) where
+  module _ (rngs : List R) (count : length rngs ≡ sources) (all : AreAllGiven m items rngs jobs h) where
+    -- as many jobs as sources
+    polls_count : length jobs.polls.items ≡ sources
+    polls_count = sym (length-map jobs.polls.items (λ (j : PollJob R Z). j.rng)) ∙ ap length all.polls ∙ count
+
     run : IsRunOf (lists_in items) sources (lanes_of m may_stop may_pass ends.puts.items) (left_of m may_stop may_pass ends.polls.items) h now
     run = subst (λ (n : ℕ). IsRunOf (lists_in items) n (lanes_of m may_stop may_pass ends.puts.items) (left_of m may_stop may_pass ends.polls.items) h now)
-        (sym jobs.polls.ok.0 ∙ all.polls) (its items all.puts)
+        polls_count (its items all.puts)
 
     pub taken : WereTakenIn (lists_in items) sources h now
     taken = record { lanes = lanes_of m may_stop may_pass ends.puts.items; consumers = left_of m may_stop may_pass ends.polls.items; run = run }
@@ -224,38 +229,45 @@ module _ {R Z : Type 0} (m : MailboxView) (may_stop may_pass : Who → ℕ → T
         run = run;
         stopped = total;
         stopped_puts = subst (λ (n : ℕ). AreStoppedPuts may_stop n (length h.puts) (lists_in items) (lanes_of m may_stop may_pass ends.puts.items)) cells
-            (run_stops m may_stop may_pass h from end budget items jobs.puts.items ends.puts.items jobs.polls.items ends.polls.items hub all.puts given.polls came.puts came.polls puts_on);
+            (run_stops m may_stop may_pass stream h from end budget items jobs.puts.items ends.puts.items jobs.polls.items ends.polls.items hub all.puts given.polls came.puts came.polls puts_on);
         stopped_polls =
-            run_poll_stops m may_stop may_pass h from end budget items jobs.puts.items ends.puts.items jobs.polls.items ends.polls.items hub all.puts given.polls came.puts came.polls polls_on;
+            run_poll_stops m may_stop may_pass stream h from end budget items jobs.puts.items ends.puts.items jobs.polls.items ends.polls.items hub all.puts given.polls came.puts came.polls polls_on;
         ends = subst (λ (n : ℕ). All (λ (x : ConsumerLeft). x.stopped ≡ false → ends_met x.reads ≡ n) (left_of m may_stop may_pass ends.polls.items))
             (omega (arith, first, far))
-            (run_ends m may_stop may_pass h from end budget items jobs.puts.items ends.puts.items jobs.polls.items ends.polls.items hub all.puts given.polls came.puts came.polls);
+            (run_ends m may_stop may_pass stream h from end budget items jobs.puts.items ends.puts.items jobs.polls.items ends.polls.items hub all.puts given.polls came.puts came.polls);
         met = subst (λ (z : ℕ × ℕ). HaveMetEnds z.0 z.1 (length h.ledgers) (left_of m may_stop may_pass ends.polls.items))
             (λ i. (first i, far i))
-            (run_met m may_stop may_pass h from end budget items jobs.puts.items ends.puts.items jobs.polls.items ends.polls.items hub all.puts given.polls came.puts came.polls);
+            (run_met m may_stop may_pass stream h from end budget items jobs.puts.items ends.puts.items jobs.polls.items ends.polls.items hub all.puts given.polls came.puts came.polls);
         unread = subst (λ (n : ℕ). All (λ (x : ConsumerLeft). x.stopped ≡ true → ends_met x.reads < n) (left_of m may_stop may_pass ends.polls.items))
             (omega (arith, first, far))
-            (run_unread m may_stop may_pass h from end budget items jobs.puts.items ends.puts.items jobs.polls.items ends.polls.items hub all.puts given.polls came.puts came.polls polls_on);
+            (run_unread m may_stop may_pass stream h from end budget items jobs.puts.items ends.puts.items jobs.polls.items ends.polls.items hub all.puts given.polls came.puts came.polls polls_on);
         only = subst (λ (z : ℕ × ℕ). All (λ (x : ConsumerLeft). IsOnLanes z.0 z.1 x.reads) (left_of m may_stop may_pass ends.polls.items))
             (λ i. (first i, far i))
-            (run_only m may_stop may_pass h from end budget items jobs.puts.items ends.puts.items jobs.polls.items ends.polls.items hub all.puts given.polls came.puts came.polls polls_on);
+            (run_only m may_stop may_pass stream h from end budget items jobs.puts.items ends.puts.items jobs.polls.items ends.polls.items hub all.puts given.polls came.puts came.polls polls_on);
         full = full ∙ ap (λ (n : ℕ). min (2 ^ 64 - 1) n)
-            (run_beyond m may_stop may_pass h from end budget items jobs.puts.items ends.puts.items jobs.polls.items ends.polls.items hub all.puts given.polls came.puts came.polls);
+            (run_beyond m may_stop may_pass stream h from end budget items jobs.puts.items ends.puts.items jobs.polls.items ends.polls.items hub all.puts given.polls came.puts came.polls);
         cut = subst (λ (n : ℕ). AreCutByCells n (length h.puts) (lists_in items) (lanes_of m may_stop may_pass ends.puts.items)) cells
-            (run_cut m may_stop may_pass h from end budget items jobs.puts.items ends.puts.items jobs.polls.items ends.polls.items hub all.puts given.polls came.puts came.polls);
+            (run_cut m may_stop may_pass stream h from end budget items jobs.puts.items ends.puts.items jobs.polls.items ends.polls.items hub all.puts given.polls came.puts came.polls);
         noted = all_noted now later pool roll tell m may_stop may_pass h.puts (lanes_of m may_stop may_pass ends.puts.items) run.puts from end budget first
             (last ∙ ap (λ (n : ℕ). length h.puts + n) (sym few)) ends.polls.items h.cells.roll.readers (length h.ledgers) (sym hub.readers) run.reads
-            (nums m may_stop may_pass h from end budget items jobs.puts.items ends.puts.items jobs.polls.items ends.polls.items hub all.puts given.polls came.puts came.polls);
+            (nums m may_stop may_pass stream h from end budget items jobs.puts.items ends.puts.items jobs.polls.items ends.polls.items hub all.puts given.polls came.puts came.polls);
       }
 
-      pub called : IsCalled may_stop may_pass budget (lists_in items) sources w h now
+      -- the sources of the jobs are those that were given
+      streams : map (λ (j : PollJob R Z). stream j.rng) jobs.polls.items ≡ map stream rngs
+      streams = sym (map-map stream (λ (j : PollJob R Z). j.rng) jobs.polls.items) ∙ ap (λ (l : List R). map stream l) all.polls
+
+      many : length (map stream rngs) ≡ sources
+      many = length-map rngs stream ∙ count
+
+      pub called : IsCalled may_stop may_pass budget (lists_in items) (map stream rngs) w h now
       called = record {
         lanes = lanes_of m may_stop may_pass ends.puts.items;
         consumers = left_of m may_stop may_pass ends.polls.items;
-        run = run;
+        run = subst (λ (n : ℕ). IsRunOf (lists_in items) n (lanes_of m may_stop may_pass ends.puts.items) (left_of m may_stop may_pass ends.polls.items) h now) (sym many) run;
         stopped = total;
-        puts = run_passes m may_stop may_pass h from end budget items jobs.puts.items ends.puts.items jobs.polls.items ends.polls.items hub all.puts given.polls came.puts came.polls;
-        polls = subst (λ (z : ℕ × ℕ). WerePolled may_stop may_pass z.0 z.1 budget (length h.ledgers) (left_of m may_stop may_pass ends.polls.items))
-            (λ i. (first i, far i))
-            (run_polled m may_stop may_pass h from end budget items jobs.puts.items ends.puts.items jobs.polls.items ends.polls.items hub all.puts given.polls came.puts came.polls polls_on);
+        puts = run_passes m may_stop may_pass stream h from end budget items jobs.puts.items ends.puts.items jobs.polls.items ends.polls.items hub all.puts given.polls came.puts came.polls;
+        polls = subst (λ (z : (ℕ × ℕ) × List Stream). WerePolled may_stop may_pass z.0.0 z.0.1 budget (length h.ledgers) z.1 (left_of m may_stop may_pass ends.polls.items))
+            (λ i. ((first i, far i), streams i))
+            (run_polled m may_stop may_pass stream h from end budget items jobs.puts.items ends.puts.items jobs.polls.items ends.polls.items hub all.puts given.polls came.puts came.polls polls_on);
       }

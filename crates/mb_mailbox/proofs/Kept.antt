@@ -1,5 +1,6 @@
 -- From the jobs through what was begun to the ends.
 use Rattle.std.proofs.Common.{◌≡◌, ℕ, [], false, true, sym, ap, ◌∙◌, subst}
+use Rattle.mb_mailbox.specs.Below.{Stream}
 use Rattle.mb_mailbox.specs.Begun.{PollKeeps, PollPromises, PutKeeps, PutPromises}
 use Rattle.mb_mailbox.specs.Consumers.{ConsumerView}
 use Rattle.mb_mailbox.specs.Jobs.{IsPollEnd, IsPutEnd, ends_met}
@@ -9,6 +10,7 @@ use Rattle.mb_mailbox.specs.declared.working.begun.PollBegun.TheVariants as poll
 use Rattle.mb_mailbox.specs.declared.working.begun.PutBegun.{PutBegun}
 use Rattle.mb_mailbox.specs.declared.working.begun.PutBegun.TheVariants as put
 use Rattle.mb_mailbox.specs.declared.working.jobs.PollDone.{PollDone}
+use Rattle.mb_mailbox.specs.declared.working.jobs.PollJob.{PollJob}
 use Rattle.mb_mailbox.specs.declared.working.jobs.PutDone.{PutDone}
 use Rattle.mb_mailbox.specs.declared.working.jobs.PutJob.{PutJob}
 use Rattle.mb_mailbox.proofs.EndsMet.{none_met}
@@ -21,23 +23,27 @@ module _ {G Z : Type 0} (may_stop may_pass : G → Who → ℕ → Type 0) (gate
       subst (λ (g : G). IsPutEnd (may_stop g) (may_pass g) j d) p.1 (subst (λ (i : PutJob Z). IsPutEnd (may_stop h.promise.gate.value) (may_pass h.promise.gate.value) i d) p.0 k)
   put_kept j (put.Here e) d p k = subst (λ (e : PutDone Z). IsPutEnd (may_stop gate) (may_pass gate) j e) (sym k) p.0
 
-  pub poll_kept : (from end budget : ℕ) (s : ConsumerView) (b : PollBegun G Z) (d : PollDone Z) → PollPromises may_stop may_pass gate from end budget s b → PollKeeps may_stop may_pass b d
-      → IsPollEnd (may_stop gate) (may_pass gate) from end budget s d
-  poll_kept from end budget s (poll.Apart h) d p k =
+module _ {G R Z : Type 0} (may_stop may_pass : G → Who → ℕ → Type 0) (stream : R → Stream) (gate : G) where
+  pub poll_kept : (from end budget : ℕ) (j : PollJob R Z) (b : PollBegun G R Z) (d : PollDone Z) → PollPromises may_stop may_pass stream gate from end budget j b
+      → PollKeeps may_stop may_pass stream b d → IsPollEnd (may_stop gate) (may_pass gate) from end budget (stream j.rng) j.consumer d
+  poll_kept from end budget j (poll.Apart h) d p k =
       let its = may_stop h.promise.gate.value in
       let lets = may_pass h.promise.gate.value in
       let one = h.promise.consumer.value in
-      subst (λ (g : G). IsPollEnd (may_stop g) (may_pass g) from end budget s d) p.gate
-      (subst (λ (t : ConsumerView). IsPollEnd its lets from end budget t d) p.consumer
-      (subst (λ (n : ℕ). IsPollEnd its lets from end n one d) p.most
-      (subst (λ (n : ℕ). IsPollEnd its lets from n h.promise.budget one d) p.last
-      (subst (λ (n : ℕ). IsPollEnd its lets n h.promise.end h.promise.budget one d) p.first k))))
-  poll_kept from end budget s (poll.Here e) d p k = subst (λ (e : PollDone Z). IsPollEnd (may_stop gate) (may_pass gate) from end budget s e) (sym k) p.0
+      let rng = h.promise.rng.value in
+      subst (λ (g : G). IsPollEnd (may_stop g) (may_pass g) from end budget (stream j.rng) j.consumer d) p.gate
+      (subst (λ (t : ConsumerView). IsPollEnd its lets from end budget (stream j.rng) t d) p.consumer
+      (subst (λ (r : R). IsPollEnd its lets from end budget (stream r) one d) p.source
+      (subst (λ (n : ℕ). IsPollEnd its lets from end n (stream rng) one d) p.most
+      (subst (λ (n : ℕ). IsPollEnd its lets from n h.promise.budget (stream rng) one d) p.last
+      (subst (λ (n : ℕ). IsPollEnd its lets n h.promise.end h.promise.budget (stream rng) one d) p.first k)))))
+  poll_kept from end budget j (poll.Here e) d p k =
+      subst (λ (e : PollDone Z). IsPollEnd (may_stop gate) (may_pass gate) from end budget (stream j.rng) j.consumer e) (sym k) p.0
 
 -- a consumer that was not run
-pub not_run : {Z : Type 0} (may_stop may_pass : Who → ℕ → Type 0) (from end budget : ℕ) (s : ConsumerView) (d : PollDone Z) → d.consumer ≡ s
-    → d.stopped ≡ true → d.off ≡ true → IsPollEnd may_stop may_pass from end budget s d
-not_run may_stop may_pass from end budget s d is stopped off = record {
+pub not_run : {Z : Type 0} (may_stop may_pass : Who → ℕ → Type 0) (from end budget : ℕ) (source : Stream) (s : ConsumerView) (d : PollDone Z) → d.consumer ≡ s
+    → d.stopped ≡ true → d.off ≡ true → IsPollEnd may_stop may_pass from end budget source s d
+not_run may_stop may_pass from end budget source s d is stopped off = record {
   same = record {
     cells = ap (λ (t : ConsumerView). t.reader.table) is;
     reader = ap (λ (t : ConsumerView). t.reader.reader) is;
@@ -59,9 +65,9 @@ not_run may_stop may_pass from end budget s d is stopped off = record {
 }
 
 -- where the run is off, less is said of the end
-pub still_off : {Z : Type 0} (may_stop may_pass : Who → ℕ → Type 0) (from end budget : ℕ) (s : ConsumerView) (d : PollDone Z)
-    → IsPollEnd may_stop may_pass from end budget s d → IsPollEnd {Z = Z} may_stop may_pass from end budget s (record d { off = true })
-still_off may_stop may_pass from end budget s d i = record {
+pub still_off : {Z : Type 0} (may_stop may_pass : Who → ℕ → Type 0) (from end budget : ℕ) (source : Stream) (s : ConsumerView) (d : PollDone Z)
+    → IsPollEnd may_stop may_pass from end budget source s d → IsPollEnd {Z = Z} may_stop may_pass from end budget source s (record d { off = true })
+still_off may_stop may_pass from end budget source s d i = record {
   same = i.same;
   read = i.read;
   ends = i.ends;

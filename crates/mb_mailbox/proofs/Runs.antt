@@ -7,6 +7,7 @@ use Rattle.std.proofs.lemmas.List.Sums.{sum_by-cons}
 use Rattle.std.proofs.lemmas.List.Elements.{All-cons, All-head, All-tail}
 use Rattle.mb_cells.specs.Vocabulary.{HasFoundNone}
 use Rattle.mb_shared_cells.specs.Vocabulary.{CellsName}
+use Rattle.mb_mailbox.specs.Below.{Stream}
 use Rattle.mb_mailbox.specs.Called.{WasPassed, WasPolled, WerePassed, WerePolled}
 use Rattle.mb_mailbox.specs.Calls.{ArePassed}
 use Rattle.mb_mailbox.specs.Consumers.{ConsumerView}
@@ -180,18 +181,17 @@ module _ {Z : Type 0} (m : MailboxView) (may_stop may_pass : Who → ℕ → Typ
     pub stop : d.stopped ≡ true → d.off ≡ false → IsStoppedPoll may_stop budget c (accesses_made d.consumer)
     pub unread : d.stopped ≡ true → d.off ≡ false → ends_met d.consumer.reader.part < end - from
     pub only : d.off ≡ false → IsOnLanes from end d.consumer.reader.part
-    pub polled : d.off ≡ false → WasPolled may_stop may_pass from end budget c (left_by d.consumer d.stopped)
 
   abbrev pub AreNumbered : ℕ → ℕ → ℕ → ℕ → List (PollDone Z) → Type 0
   AreNumbered from end budget c [] = Unit {0}
   AreNumbered from end budget c (d ∷ ds) = IsPollEndAt from end budget c d × AreNumbered from end budget (suc c) ds
 
-  numbered : {R : Type 0} (from end budget c : ℕ) (js : List (PollJob R Z)) (ds : List (PollDone Z)) → ArePollJobs m c js
-      → AllZip (λ (j : PollJob R Z) (d : PollDone Z). IsPollEnd may_stop may_pass from end budget j.consumer d) js ds → AreNumbered from end budget c ds
-  numbered from end budget c [] [] a z = tt
-  numbered from end budget c [] (d ∷ ds) a z = absurd z
-  numbered from end budget c (j ∷ js) [] a z = absurd z
-  numbered from end budget c (j ∷ js) (d ∷ ds) a z = (
+  numbered : {R : Type 0} (stream : R → Stream) (from end budget c : ℕ) (js : List (PollJob R Z)) (ds : List (PollDone Z)) → ArePollJobs m c js
+      → AllZip (λ (j : PollJob R Z) (d : PollDone Z). IsPollEnd may_stop may_pass from end budget (stream j.rng) j.consumer d) js ds → AreNumbered from end budget c ds
+  numbered stream from end budget c [] [] a z = tt
+  numbered stream from end budget c [] (d ∷ ds) a z = absurd z
+  numbered stream from end budget c (j ∷ js) [] a z = absurd z
+  numbered stream from end budget c (j ∷ js) (d ∷ ds) a z = (
     record {
       reader = z.0.same.reader ∙ a.0.reader;
       consumer = z.0.same.consumer ∙ a.0.consumer;
@@ -201,19 +201,8 @@ module _ {Z : Type 0} (m : MailboxView) (may_stop may_pass : Who → ℕ → Typ
       stop = λ t o. subst (λ (c : ℕ). IsStoppedPoll may_stop budget c (accesses_made d.consumer)) a.0.consumer (z.0.stop t o a.0.none);
       unread = λ t o. z.0.unread t o a.0.none;
       only = λ o. z.0.only o a.0.none;
-      polled = λ o. record {
-        first = j.consumer;
-        last = d.consumer;
-        reader = a.0.reader;
-        consumer = a.0.consumer;
-        none = a.0.none;
-        polled = z.0.polled o;
-        reads = refl;
-        claimed = refl;
-        ledger = refl;
-      };
     },
-    numbered from end budget (suc c) js ds a.1 z.1,
+    numbered stream from end budget (suc c) js ds a.1 z.1,
   )
 
   count_seats : (from end budget c : ℕ) (ds : List (PollDone Z)) → AreNumbered from end budget c ds → CountFrom (λ (s : ConsumerView). s.seat.consumer) c (consumers ds)
@@ -234,12 +223,32 @@ module _ {Z : Type 0} (m : MailboxView) (may_stop may_pass : Who → ℕ → Typ
       let F = λ (d : PollDone Z). d.off ≡ false in
       (λ t. a.0.stop t (All-head F d ds on), poll_stops_of from end budget (suc c) ds a.1 (All-tail F d ds on))
 
-  polled_of : (from end budget c : ℕ) (ds : List (PollDone Z)) → AreNumbered from end budget c ds → All (λ (d : PollDone Z). d.off ≡ false) ds
-      → WerePolled may_stop may_pass from end budget c (left_of ds)
-  polled_of from end budget c [] a on = tt
-  polled_of from end budget c (d ∷ ds) a on =
-      let F = λ (d : PollDone Z). d.off ≡ false in
-      (a.0.polled (All-head F d ds on), polled_of from end budget (suc c) ds a.1 (All-tail F d ds on))
+  -- the sources of jobs
+  abbrev pub sources_of : {R : Type 0} → (R → Stream) → List (PollJob R Z) → List Stream
+  sources_of stream js = map (λ j. stream j.rng) js
+
+  -- each with the words of its own source
+  polled_of : {R : Type 0} (stream : R → Stream) (from end budget c : ℕ) (js : List (PollJob R Z)) (ds : List (PollDone Z)) → ArePollJobs m c js
+      → AllZip (λ (j : PollJob R Z) (d : PollDone Z). IsPollEnd may_stop may_pass from end budget (stream j.rng) j.consumer d) js ds
+      → All (λ (d : PollDone Z). d.off ≡ false) ds → WerePolled may_stop may_pass from end budget c (sources_of stream js) (left_of ds)
+  polled_of stream from end budget c [] [] a z on = tt
+  polled_of stream from end budget c [] (d ∷ ds) a z on = absurd z
+  polled_of stream from end budget c (j ∷ js) [] a z on = absurd z
+  polled_of stream from end budget c (j ∷ js) (d ∷ ds) a z on =
+      let F = λ (d : PollDone Z). d.off ≡ false in (
+        record {
+          first = j.consumer;
+          last = d.consumer;
+          reader = a.0.reader;
+          consumer = a.0.consumer;
+          none = a.0.none;
+          polled = z.0.polled (All-head F d ds on);
+          reads = refl;
+          claimed = refl;
+          ledger = refl;
+        },
+        polled_of stream from end budget (suc c) js ds a.1 z.1 (All-tail F d ds on),
+      )
 
   only_of : (from end budget c : ℕ) (ds : List (PollDone Z)) → AreNumbered from end budget c ds → All (λ (d : PollDone Z). d.off ≡ false) ds
       → All (λ (x : ConsumerLeft). IsOnLanes from end x.reads) (left_of ds)
@@ -269,10 +278,10 @@ module _ {Z : Type 0} (m : MailboxView) (may_stop may_pass : Who → ℕ → Typ
       (λ t. a.0.unread t (All-head F d ds on)) (unread_of from end budget (suc c) ds a.1 (All-tail F d ds on))
 
   -- ---- a whole run
-  module _ {R : Type 0} (h : HubView) (from end budget : ℕ) (vs : List (Vec ℕ Z)) (js : List (PutJob Z)) (ds : List (PutDone Z))
+  module _ {R : Type 0} (stream : R → Stream) (h : HubView) (from end budget : ℕ) (vs : List (Vec ℕ Z)) (js : List (PutJob Z)) (ds : List (PutDone Z))
       (ks : List (PollJob R Z)) (es : List (PollDone Z)) (i : IsHub h) (putting : ArePutJobs m (length h.puts) vs js)
       (polling : ArePollJobs m (length h.ledgers) ks) (put : AllZip (IsPutEnd may_stop may_pass) js ds)
-      (polled : AllZip (λ (j : PollJob R Z) (d : PollDone Z). IsPollEnd may_stop may_pass from end budget j.consumer d) ks es) where
+      (polled : AllZip (λ (j : PollJob R Z) (d : PollDone Z). IsPollEnd may_stop may_pass from end budget (stream j.rng) j.consumer d) ks es) where
     abbrev pub now : HubView
     now = after js ks (producers ds) (consumers es) h
 
@@ -280,13 +289,13 @@ module _ {Z : Type 0} (m : MailboxView) (may_stop may_pass : Who → ℕ → Typ
     ats = are_at (length h.puts) vs js ds putting put
 
     pub nums : AreNumbered from end budget (length h.ledgers) es
-    nums = numbered from end budget (length h.ledgers) ks es polling polled
+    nums = numbered stream from end budget (length h.ledgers) ks es polling polled
 
     puts_count : length js ≡ length (producers ds)
     puts_count = zip_length (IsPutEnd may_stop may_pass) js ds put ∙ sym (length-map ds (λ (d : PutDone Z). d.producer))
 
     polls_count : length ks ≡ length (consumers es)
-    polls_count = zip_length (λ (j : PollJob R Z) (d : PollDone Z). IsPollEnd may_stop may_pass from end budget j.consumer d) ks es polled
+    polls_count = zip_length (λ (j : PollJob R Z) (d : PollDone Z). IsPollEnd may_stop may_pass from end budget (stream j.rng) j.consumer d) ks es polled
         ∙ sym (length-map es (λ (d : PollDone Z). d.consumer))
 
     pub run_of : IsRunOf (lists_in vs) (length ks) (lanes_of ds) (left_of es) h now
@@ -322,8 +331,8 @@ module _ {Z : Type 0} (m : MailboxView) (may_stop may_pass : Who → ℕ → Typ
     pub run_passes : WerePassed may_pass (length h.puts) (lists_in vs) (lanes_of ds)
     run_passes = passes_of (length h.puts) vs ds ats
 
-    pub run_polled : All (λ (d : PollDone Z). d.off ≡ false) es → WerePolled may_stop may_pass from end budget (length h.ledgers) (left_of es)
-    run_polled on = polled_of from end budget (length h.ledgers) es nums on
+    pub run_polled : All (λ (d : PollDone Z). d.off ≡ false) es → WerePolled may_stop may_pass from end budget (length h.ledgers) (sources_of stream ks) (left_of es)
+    run_polled on = polled_of stream from end budget (length h.ledgers) ks es polling polled on
 
     pub run_poll_stops : All (λ (d : PollDone Z). d.off ≡ false) es → AreStoppedPolls may_stop budget (length h.ledgers) (left_of es)
     run_poll_stops on = poll_stops_of from end budget (length h.ledgers) es nums on

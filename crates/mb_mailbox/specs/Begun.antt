@@ -1,6 +1,7 @@
 -- What workers that were begun promise, and how their ends keep it.
 use Rattle.std.specs.Prelude.{ℕ, ◌≡◌, true}
 use Rattle.mb_mailbox.specs.declared.gate.Who.{Who}
+use Rattle.mb_mailbox.specs.Below.{Stream}
 use Rattle.mb_mailbox.specs.Consumers.{ConsumerView}
 use Rattle.mb_mailbox.specs.Jobs.{IsPollEnd, IsPutEnd}
 use Rattle.mb_mailbox.specs.declared.working.begun.PollBegun.{PollBegun}
@@ -8,15 +9,17 @@ use Rattle.mb_mailbox.specs.declared.working.begun.PollBegun.TheVariants as poll
 use Rattle.mb_mailbox.specs.declared.working.begun.PutBegun.{PutBegun}
 use Rattle.mb_mailbox.specs.declared.working.begun.PutBegun.TheVariants as put
 use Rattle.mb_mailbox.specs.declared.working.jobs.PollDone.{PollDone}
+use Rattle.mb_mailbox.specs.declared.working.jobs.PollJob.{PollJob}
 use Rattle.mb_mailbox.specs.declared.working.jobs.PutDone.{PutDone}
 use Rattle.mb_mailbox.specs.declared.working.jobs.PutJob.{PutJob}
 
--- the lanes, the budget, the consumer and the gate of a promise are these
-pub record IsPromiseOf {G : Type 0} (g : G) (f e b : ℕ) (s : ConsumerView) (from end budget : ℕ) (promised : ConsumerView)
-    (its : G) : Type 0 where
+-- the lanes, the budget, the source, the consumer and the gate of a promise are these
+pub record IsPromiseOf {G R : Type 0} (g : G) (f e b : ℕ) (r : R) (s : ConsumerView) (from end budget : ℕ) (rng : R)
+    (promised : ConsumerView) (its : G) : Type 0 where
   pub first : from ≡ f
   pub last : end ≡ e
   pub most : budget ≡ b
+  pub source : rng ≡ r
   pub consumer : promised ≡ s
   pub gate : its ≡ g
 
@@ -32,13 +35,16 @@ module _ {G Z : Type 0} (may_stop may_pass : G → Who → ℕ → Type 0) where
   PutKeeps (put.Apart h) d = IsPutEnd (may_stop h.promise.gate.value) (may_pass h.promise.gate.value) h.promise.job.value d
   PutKeeps (put.Here e) d = d ≡ e
 
-  abbrev pub PollPromises : G → ℕ → ℕ → ℕ → ConsumerView → PollBegun G Z → Type 0
-  PollPromises gate from end budget s (poll.Apart h) =
-      IsPromiseOf gate from end budget s h.promise.from h.promise.end h.promise.budget h.promise.consumer.value h.promise.gate.value
-  PollPromises gate from end budget s (poll.Here d) =
-      IsPollEnd (may_stop gate) (may_pass gate) from end budget s d × (d.off ≡ true)
+module _ {G R Z : Type 0} (may_stop may_pass : G → Who → ℕ → Type 0) (stream : R → Stream) where
+  abbrev pub PollPromises : G → ℕ → ℕ → ℕ → PollJob R Z → PollBegun G R Z → Type 0
+  PollPromises gate from end budget j (poll.Apart h) =
+      IsPromiseOf gate from end budget j.rng j.consumer
+      h.promise.from h.promise.end h.promise.budget h.promise.rng.value h.promise.consumer.value h.promise.gate.value
+  PollPromises gate from end budget j (poll.Here d) =
+      IsPollEnd (may_stop gate) (may_pass gate) from end budget (stream j.rng) j.consumer d × (d.off ≡ true)
 
-  abbrev pub PollKeeps : PollBegun G Z → PollDone Z → Type 0
+  abbrev pub PollKeeps : PollBegun G R Z → PollDone Z → Type 0
   PollKeeps (poll.Apart h) d =
-      IsPollEnd (may_stop h.promise.gate.value) (may_pass h.promise.gate.value) h.promise.from h.promise.end h.promise.budget h.promise.consumer.value d
+      IsPollEnd (may_stop h.promise.gate.value) (may_pass h.promise.gate.value) h.promise.from h.promise.end h.promise.budget
+      (stream h.promise.rng.value) h.promise.consumer.value d
   PollKeeps (poll.Here e) d = d ≡ e

@@ -2,6 +2,7 @@
 use Rattle.std.specs.Prelude.{ℕ, suc, ◌≡◌, ◌+◌, ◌<◌, List, [], ◌∷◌, false, length}
 use Rattle.std.specs.Int.{from_bool}
 use Rattle.std.specs.List.{sum_by}
+use Rattle.mb_mailbox.specs.Below.{Stream}
 use Rattle.mb_mailbox.specs.Calls.{ArePassed}
 use Rattle.mb_mailbox.specs.Consumers.{ConsumerView}
 use Rattle.mb_mailbox.specs.Hubs.{HubView}
@@ -23,31 +24,35 @@ WerePassed may_pass p [] [] = Unit {0}
 WerePassed may_pass p (list ∷ lists) (l ∷ ls) = WasPassed may_pass p list l × WerePassed may_pass (suc p) lists ls
 WerePassed may_pass p _ _ = ⊥
 
--- consumer c had made no access, made its calls, and left this
-pub record WasPolled (may_stop may_pass : Who → ℕ → Type 0) (from end budget c : ℕ) (l : ConsumerLeft) : Type 0 where
+-- consumer c had made no access, made its calls with the words of this source, and left this
+pub record WasPolled (may_stop may_pass : Who → ℕ → Type 0) (from end budget c : ℕ) (source : Stream) (l : ConsumerLeft)
+    : Type 0 where
   pub first : ConsumerView
   pub last : ConsumerView
   pub reader : first.reader.reader ≡ c
   pub consumer : first.seat.consumer ≡ c
   pub none : accesses_made first ≡ 0
-  pub polled : HasPolled may_stop may_pass from end budget l.stopped first last
+  pub polled : HasPolled may_stop may_pass from end budget source l.stopped first last
   pub reads : l.reads ≡ last.reader.part
   pub claimed : l.claimed ≡ last.seat.part
   pub ledger : l.ledger ≡ record { places = last.places; notes = last.notes }
 
--- so did each of these consumers, the first of which is number c
-abbrev pub WerePolled : (Who → ℕ → Type 0) → (Who → ℕ → Type 0) → ℕ → ℕ → ℕ → ℕ → List ConsumerLeft → Type 0
-WerePolled may_stop may_pass from end budget c [] = Unit {0}
-WerePolled may_stop may_pass from end budget c (l ∷ ls) =
-    WasPolled may_stop may_pass from end budget c l × WerePolled may_stop may_pass from end budget (suc c) ls
+-- so did each of these consumers, the first of which is number c: one for each of these sources, in their order
+abbrev pub WerePolled : (Who → ℕ → Type 0) → (Who → ℕ → Type 0) → ℕ → ℕ → ℕ → ℕ → List Stream → List ConsumerLeft → Type 0
+WerePolled may_stop may_pass from end budget c [] [] = Unit {0}
+WerePolled may_stop may_pass from end budget c (source ∷ sources) (l ∷ ls) =
+    WasPolled may_stop may_pass from end budget c source l × WerePolled may_stop may_pass from end budget (suc c) sources ls
+WerePolled may_stop may_pass from end budget c _ _ = ⊥
 
 -- all that was given was taken in, and made its calls where the gate may let it pass: each call of a consumer is a poll, with
--- this budget, of a lane that was given in this call. `stopped` counts who was stopped
-pub record IsCalled (may_stop may_pass : Who → ℕ → Type 0) (budget : ℕ) (lists : List (List ℕ)) (sources : ℕ) (w : Worked)
-    (old new : HubView) : Type 0 where
+-- this budget, of a lane that was given in this call, with the words of the consumer's own source: the source in the
+-- place of its number among those given in this call. `stopped` counts who was stopped
+pub record IsCalled (may_stop may_pass : Who → ℕ → Type 0) (budget : ℕ) (lists : List (List ℕ)) (sources : List Stream)
+    (w : Worked) (old new : HubView) : Type 0 where
   pub lanes : List LaneLeft
   pub consumers : List ConsumerLeft
-  pub run : IsRunOf lists sources lanes consumers old new
+  pub run : IsRunOf lists (length sources) lanes consumers old new
   pub stopped : w.stopped ≡ sum_by (λ l. from_bool l.stopped) lanes + sum_by (λ c. from_bool c.stopped) consumers
   pub puts : WerePassed may_pass (length old.puts) lists lanes
-  pub polls : WerePolled may_stop may_pass (length old.puts) (length old.puts + length lists) budget (length old.ledgers) consumers
+  pub polls : WerePolled may_stop may_pass (length old.puts) (length old.puts + length lists) budget (length old.ledgers) sources
+      consumers

@@ -1,5 +1,5 @@
 -- The jobs for which numbers were given.
-use Rattle.std.specs.Prelude.{ℕ, ◌≡◌, ◌≤◌, List, Vec, length, vec_len}
+use Rattle.std.specs.Prelude.{ℕ, ◌≡◌, ◌≤◌, List, Vec, length, map, vec_len}
 use Rattle.mb_mailbox.specs.HubRuns.{ArePollJobs, ArePutJobs, ArePutJobsOfFront, with_consumers, with_producers}
 use Rattle.mb_mailbox.specs.Hubs.{HubView}
 use Rattle.mb_mailbox.specs.Mailboxes.{MailboxView}
@@ -14,7 +14,7 @@ module _ {R Z : Type 0} where
     pub few : vec_len jobs.polls ≤ sources
     pub hub : new ≡ with_consumers jobs.polls.items (with_producers jobs.puts.items old)
 
-  -- and they are all
-  pub record AreAllGiven (m : MailboxView) (lists : List (Vec ℕ Z)) (sources : ℕ) (jobs : Jobs R Z) (old : HubView) : Type 0 where
+  -- and they are all: each consumer has the source in its place
+  pub record AreAllGiven (m : MailboxView) (lists : List (Vec ℕ Z)) (sources : List R) (jobs : Jobs R Z) (old : HubView) : Type 0 where
     pub puts : ArePutJobs m (length old.puts) lists jobs.puts.items
-    pub polls : vec_len jobs.polls ≡ sources
+    pub polls : map (λ j. j.rng) jobs.polls.items ≡ sources

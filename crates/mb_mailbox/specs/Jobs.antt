@@ -86,11 +86,11 @@ pub record IsStoppedPoll (may_stop : Who → ℕ → Type 0) (budget c made : �
   pub most : made ≤ budget * (call - 1)
   pub stop : IsStopBefore may_stop (who.Consumer c) call
 
--- a consumer has made calls, each of which the gate let through, and where it was stopped, it was so before the next one
-pub record HasPolled (may_stop may_pass : Who → ℕ → Type 0) (from end budget : ℕ) (stopped : Bool) (old new : ConsumerView)
-    : Type 0 where
+-- a consumer has made calls, each of which the gate let through: the first draws from this source, and each other one from
+-- what the one before it left there. Where it was stopped, it was so before the next call
+pub record HasPolled (may_stop may_pass : Who → ℕ → Type 0) (from end budget : ℕ) (source : Stream) (stopped : Bool)
+    (old new : ConsumerView) : Type 0 where
   pub calls : ℕ
-  pub source : Stream
   pub left : Stream
   pub called : HasCalled may_pass from end budget calls source left old new
   pub stop : stopped ≡ true → IsStopBefore may_stop (who.Consumer old.seat.consumer) (suc calls)
@@ -118,9 +118,9 @@ module _ {Z : Type 0} (may_stop may_pass : Who → ℕ → Type 0) where
   -- the consumer, where it was not stopped, has read each lane from `from` on and below `end` to its end mark. One that had
   -- made no access has then loaded as many end marks as there are of these lanes; stopped or not, it has loaded end marks
   -- just as many times as there are lanes among these that it has read to their ends. Where the run is not off, it has looked at
-  -- the heads of these lanes alone, it has made its calls with this budget and nothing else, and where it was stopped it was so
-  -- before a call, and has loaded fewer end marks
-  pub record IsPollEnd (from end budget : ℕ) (s : ConsumerView) (d : PollDone Z) : Type 0 where
+  -- the heads of these lanes alone, it has made its calls with this budget and the words of this source and nothing else, and
+  -- where it was stopped it was so before a call, and has loaded fewer end marks
+  pub record IsPollEnd (from end budget : ℕ) (source : Stream) (s : ConsumerView) (d : PollDone Z) : Type 0 where
     pub same : IsSameConsumer s d.consumer
     pub read : d.stopped ≡ false → (p : ℕ) → from ≤ p → p < end → HasReadToEnd p d.consumer
     pub ends : d.stopped ≡ false → accesses_made s ≡ 0 → ends_met d.consumer.reader.part ≡ end - from
@@ -129,4 +129,4 @@ module _ {Z : Type 0} (may_stop may_pass : Who → ℕ → Type 0) where
         → IsStoppedPoll may_stop budget s.seat.consumer (accesses_made d.consumer)
     pub unread : d.stopped ≡ true → d.off ≡ false → accesses_made s ≡ 0 → ends_met d.consumer.reader.part < end - from
     pub only : d.off ≡ false → accesses_made s ≡ 0 → IsOnLanes from end d.consumer.reader.part
-    pub polled : d.off ≡ false → HasPolled may_stop may_pass from end budget d.stopped s d.consumer
+    pub polled : d.off ≡ false → HasPolled may_stop may_pass from end budget source d.stopped s d.consumer

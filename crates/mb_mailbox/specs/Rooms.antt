@@ -19,7 +19,7 @@ module _ {Z : Type 0} where
     pub puts : lists ≤ vec_capacity e.puts
     pub polls : sources ≤ vec_capacity e.polls
 
-  pub record HasRoom {G : Type 0} (lists sources : ℕ) (r : Room G Z) : Type 0 where
+  pub record HasRoom {G R : Type 0} (lists sources : ℕ) (r : Room G R Z) : Type 0 where
     pub no_puts : r.puts.items ≡ []
     pub no_polls : r.polls.items ≡ []
     pub puts : lists ≤ vec_capacity r.puts

@@ -2,6 +2,7 @@
 use Rattle.std.specs.Prelude.{ℕ, ◌+◌, map}
 use Rattle.std.specs.Int.{from_bool}
 use Rattle.std.specs.List.{All, AllZip, sum_by}
+use Rattle.mb_mailbox.specs.Below.{Stream}
 use Rattle.mb_mailbox.specs.Consumers.{IsConsumerOf}
 use Rattle.mb_mailbox.specs.HubRuns.{with_taken_consumers, with_taken_producers}
 use Rattle.mb_mailbox.specs.Hubs.{HubView}
@@ -19,10 +20,11 @@ module _ {R Z : Type 0} where
     pub polls : All (λ j. IsConsumerOf m j.consumer) jobs.polls.items
 
   -- these are the ends of the jobs, in their order, where consumers read the lanes from `from` on and below `end` with this
-  -- budget, and the gate may stop them, or let them pass, before these calls
-  pub record AreEndsOf (may_stop may_pass : Who → ℕ → Type 0) (from end budget : ℕ) (jobs : Jobs R Z) (ends : Ends Z) : Type 0 where
+  -- budget, each with the words of its own source, and the gate may stop them, or let them pass, before these calls
+  pub record AreEndsOf (may_stop may_pass : Who → ℕ → Type 0) (stream : R → Stream) (from end budget : ℕ) (jobs : Jobs R Z) (ends : Ends Z)
+      : Type 0 where
     pub puts : AllZip (IsPutEnd may_stop may_pass) jobs.puts.items ends.puts.items
-    pub polls : AllZip (λ j d. IsPollEnd may_stop may_pass from end budget j.consumer d) jobs.polls.items ends.polls.items
+    pub polls : AllZip (λ j d. IsPollEnd may_stop may_pass from end budget (stream j.rng) j.consumer d) jobs.polls.items ends.polls.items
 
 module _ {Z : Type 0} where
   -- all ends are of the mailbox

@@ -4,9 +4,11 @@ use Rattle.mb_cells.specs.Vocabulary.{fetch, new_lane, pool_size, store}
 use Rattle.mb_cells.specs.declared.lane.Lane.{Lane}
 use Rattle.mb_cells.specs.declared.lane.LaneStage.TheVariants as stage
 use Rattle.mb_mailbox.specs.Below.{CellsName, Head, History, Item, Note}
+use Rattle.mb_mailbox.specs.Consumers.{ConsumerView}
 use Rattle.mb_mailbox.specs.Hubs.{LedgerView}
 use Rattle.mb_mailbox.specs.Producers.{ProducerView}
 use Rattle.mb_mailbox.specs.Worked.{ConsumerLeft, LaneLeft}
+use Rattle.mb_mailbox.specs.declared.gate.Who.{Who}
 
 -- the producer of lane 0, which stands at this place, has done this and put these items
 abbrev pub producer_of_one : CellsName → Lane → History → List ℕ → ProducerView
@@ -50,3 +52,16 @@ ledger_with notes = record { places = []; notes = notes ∷ [] }
 -- what a consumer left that was stopped, and has loaded this of the cells
 abbrev pub reader_left : History → ConsumerLeft
 reader_left reads = record { ledger = ledger_with []; reads = reads; claimed = []; stopped = true }
+
+-- what this consumer left, which was stopped
+abbrev pub stopped_as : ConsumerView → ConsumerLeft
+stopped_as s = record {
+  ledger = record { places = s.places; notes = s.notes };
+  reads = s.reader.part;
+  claimed = s.seat.part;
+  stopped = true;
+}
+
+-- a gate that may do anything before each call
+abbrev pub any_call : Who → ℕ → Type 0
+any_call w n = Unit {0}

@@ -1,24 +1,27 @@
 //! The definitions by example: what they let in, and what only looks right. The functions compute nothing: their contracts
 //! are the examples, and their proofs stand in `proofs/examples/`, one folder for each.
-ghost use Rattle.std.specs.Prelude.{◌≡◌, List, None, Option, Some, [], ◌∷◌};
+ghost use Rattle.std.specs.Prelude.{◌≡◌, ◌≢◌, List, None, Option, Some, [], ◌∷◌};
 ghost use Rattle.mb_quorum.specs.Vocabulary.{IsQuorumTable};
 ghost use Rattle.mb_claim.specs.declared.access.Stage.TheVariants as stage;
 ghost use Rattle.mb_cells.specs.Vocabulary.{fetch, new_lane, store};
 ghost use Rattle.mb_mailbox.specs.Below.{CellsName, Claims, END, Head, IsClaimPrefix, Item, Link, ObjectTurn, Stream, Took, WorldAccess};
 ghost use Rattle.mb_mailbox.specs.Below.{claim_step, item_load, link_load, load};
+ghost use Rattle.mb_mailbox.specs.Below.{ClaimAccess, next_u64};
+ghost use Rattle.mb_mailbox.specs.Called.{WerePolled};
 ghost use Rattle.mb_mailbox.specs.declared.consumer.Poll.{Poll};
 ghost use Rattle.mb_mailbox.specs.declared.consumer.Poll.TheVariants as poll;
 ghost use Rattle.mb_mailbox.specs.declared.gate.Who.TheVariants as who;
 ghost use Rattle.mb_mailbox.specs.Consumers.{ConsumerView};
 ghost use Rattle.mb_mailbox.specs.ConsumerStep.{ConsumerStep};
 ghost use Rattle.mb_mailbox.specs.Examples.{head_loaded, link_loaded, met_four, nothing_done};
-ghost use Rattle.mb_mailbox.specs.Jobs.{IsOnLanes, IsStoppedPoll, ends_met};
+ghost use Rattle.mb_mailbox.specs.Jobs.{IsOnLanes, IsStoppedPoll, accesses_made, ends_met};
 ghost use Rattle.mb_mailbox.specs.Producers.{HasNoCellFor, IsEndOfLane, IsFirstPastCells, IsPutInto};
 ghost use Rattle.mb_mailbox.specs.Steps.{IsPollOf, LeadTo};
-ghost use Rattle.mb_mailbox.specs.WorkExamples.{fetched, has_linked, idle_producer, lane_left, ledger_with, linked_early};
-ghost use Rattle.mb_mailbox.specs.WorkExamples.{producer_of_one, reader_left, seven_put, stopped_lane};
-ghost use Rattle.mb_mailbox.specs.Worked.{AreCutByCells, HasMetEnd, HasMetEnds, HasNoteAtEach, HaveMetEnds, IsStoppedPut, items_beyond};
+ghost use Rattle.mb_mailbox.specs.WorkExamples.{any_call, fetched, has_linked, idle_producer, lane_left, ledger_with, linked_early};
+ghost use Rattle.mb_mailbox.specs.WorkExamples.{producer_of_one, reader_left, seven_put, stopped_as, stopped_lane};
+ghost use Rattle.mb_mailbox.specs.Worked.{AreCutByCells, ConsumerLeft, HasMetEnd, HasMetEnds, HasNoteAtEach, HaveMetEnds, IsStoppedPut, items_beyond};
 
+use crate::laws::calls_draw_the_first_words;
 use mb_claim::laws::prefixes_have_one_stage;
 
 /// What a consumer does next on a lane, and what that comes to.
@@ -157,3 +160,19 @@ pub fn workers_are_stopped_by_the_gate()
     ensures poll_past_its_budget { IsStoppedPoll (λ _ n. n ≡ 2) 5 0 6 → ⊥ }
     ensures poll_other_worker { IsStoppedPoll (λ w _. w ≡ who.Consumer 1) 5 0 3 → ⊥ }
 {}
+
+/// Each consumer has a source of its own, and its first word is the first of that source.
+pub fn consumers_have_sources_of_their_own()
+    ensures nobody { WerePolled any_call any_call 0 1 5 0 [] [] }
+    ensures idle { (s : ConsumerView) (source : Stream) → s.reader.reader ≡ 3 → s.seat.consumer ≡ 3
+        → accesses_made s ≡ 0 → WerePolled any_call any_call 0 1 5 3 (source ∷ []) (stopped_as s ∷ []) }
+    ensures no_source { (l : ConsumerLeft) → WerePolled any_call any_call 0 1 5 0 [] (l ∷ []) → ⊥ }
+    ensures no_consumer { (s : Stream) → WerePolled any_call any_call 0 1 5 0 (s ∷ []) [] → ⊥ }
+    ensures other_word { (s : Stream) (l : ConsumerLeft) (a : ClaimAccess) → l.claimed ≡ a ∷ []
+        → a.step.turn.word ≢ (next_u64 s).0 → WerePolled any_call any_call 0 1 5 0 (s ∷ []) (l ∷ []) → ⊥ }
+    ensures places_changed { (s t : Stream) (k l : ConsumerLeft) (a : ClaimAccess) → l.claimed ≡ a ∷ []
+        → a.step.turn.word ≡ (next_u64 s).0 → (next_u64 s).0 ≢ (next_u64 t).0
+        → WerePolled any_call any_call 0 1 5 0 (s ∷ t ∷ []) (k ∷ l ∷ []) → ⊥ }
+{
+    calls_draw_the_first_words();
+}

@@ -1,12 +1,13 @@
 //! Laws of what a hub has taken in, and of what is gathered. The functions compute nothing: their contracts are the laws.
-ghost use Rattle.std.specs.Prelude.{ℕ, ◌≡◌, ◌≢◌, ◌≤◌, List, [], ◌∷◌, Some, None, false, true, length, slice_get};
+ghost use Rattle.std.specs.Prelude.{ℕ, ◌≡◌, ◌≢◌, ◌≤◌, List, [], ◌∷◌, Some, None, false, true, length, map, slice_get};
 ghost use Rattle.mb_claim.specs.Vocabulary.{shape_of};
-ghost use Rattle.mb_mailbox.specs.Below.{Claim, Note, Undecided, has_ended};
+ghost use Rattle.mb_mailbox.specs.Below.{Claim, Note, Stream, Undecided, has_ended};
+ghost use Rattle.mb_mailbox.specs.Calls.{AreCalls, Call};
 ghost use Rattle.mb_mailbox.specs.Consumers.{ConsumerView, IsConsumer};
 ghost use Rattle.mb_mailbox.specs.Gathering.{UndecidedHasCompany, begun_in, count_missing, ended_in, has_begun_at};
 ghost use Rattle.mb_mailbox.specs.Gathering.{IsGathered, IsReportIn, items_in, notes_in};
 ghost use Rattle.mb_mailbox.specs.Mailboxes.{MailboxView};
-ghost use Rattle.mb_mailbox.specs.Steps.{HasNoteOnEach};
+ghost use Rattle.mb_mailbox.specs.Steps.{AreDrawn, HasNoteOnEach};
 ghost use Rattle.mb_world.specs.Agreement.{AreAllTaken, IsLeftBesideBegun};
 ghost use Rattle.mb_world.specs.Report.{ReportView, note};
 ghost use Rattle.mb_mailbox.specs.GatheringExamples.{alone_undecided, two_undecided};
@@ -65,6 +66,13 @@ pub fn last_objects_settle_what_is_gathered()
     last_objects_settle_items();
     shaped_setups_have_last_objects();
 }
+
+/// The random words of a consumer's claims are the first words of the source from which its calls draw, in order.
+pub fn calls_draw_the_first_words()
+    ensures { (from end budget : ℕ) (made : List Call) (source left : Stream) (old new : ConsumerView)
+        → AreCalls from end budget made source left old new → old.seat.part ≡ []
+        → AreDrawn source (map (λ a. a.step.turn.word) new.seat.part) left }
+{}
 
 /// What was taken in has one report.
 pub fn hubs_have_one_report()

@@ -1,5 +1,5 @@
 //! Workers in threads: producers that each put a list, and consumers that poll until all those lanes have ended.
-ghost use Rattle.std.specs.Prelude.{◌≡◌, ◌≢◌, ◌↔◌, ◌+◌, ◌-◌, ◌^◌, ◌<◌, ◌≤◌, ◌⊎◌, Err, IfOk, length, vec_len};
+ghost use Rattle.std.specs.Prelude.{◌≡◌, ◌≢◌, ◌↔◌, ◌+◌, ◌-◌, ◌^◌, ◌<◌, ◌≤◌, ◌⊎◌, Err, IfOk, length, map, vec_len};
 ghost use Rattle.mb_mailbox.specs.declared.working.WorkFault.TheVariants.{AllGiven, BadBudget, NoMemory, NoThread};
 ghost use Rattle.mb_mailbox.specs.Below.{consumer_count};
 ghost use Rattle.mb_mailbox.specs.Called.{IsCalled};
@@ -80,7 +80,7 @@ impl Error for WorkFault {}
 /// and so is each item left there. What was not put is in no report: it is what stands in a list behind the items that its lane
 /// has put, so keep a copy of the lists. `budget` is the most accesses of one poll, at least 1; a claim that is cut short is
 /// kept and goes on at the next poll, so a small budget only means that the gate is asked more often. Each consumer draws its
-/// random words from one of `rngs`.
+/// random words from its own of `rngs`: the one in the place of its number among those given in this call.
 ///
 /// Faults are decided in the order of [`WorkFault`]; after `NoMemory` and `NoThread` some items may have been taken, and a
 /// report tells. The call may wait for its threads, and for nobody else.
@@ -111,9 +111,10 @@ pub fn work<
     ensures worked { IfOk result (λ w.
         IsWorked (G.may_stop gate.now) budget (lists_in items.items) (vec_len rngs) w hub.old hub.new) }
 
-    // Each call of a worker comes where the gate may let it pass, and one of a consumer is a poll with this budget.
+    // Each call of a worker comes where the gate may let it pass, and one of a consumer is a poll with this budget. The
+    // consumers draw from these sources: the first that is given in this call from the first, and so on.
     ensures called { IfOk result (λ w. IsCalled (G.may_stop gate.now) (G.may_pass gate.now) budget
-        (lists_in items.items) (vec_len rngs) w hub.old hub.new) }
+        (lists_in items.items) (map R.stream rngs.items) w hub.old hub.new) }
     ensures no_thread { result ≡ Err NoThread
         → WereTakenIn (lists_in items.items) (vec_len rngs) hub.old hub.new }
     ensures some_thread { result ≡ Err NoThread → 0 < vec_len items + vec_len rngs }
@@ -209,7 +210,7 @@ fn work_with<
     rngs: Vec<R, A>,
     gate: &G,
     mut jobs: Jobs<R, A>,
-    room: Room<G, A>,
+    room: Room<G, R, A>,
 ) -> Result<Worked, WorkFault>
     requires of { IsHubOf mailbox.now hub.old }
     requires lanes { length hub.old.puts + vec_len items ≤ mailbox.now.cells.size.lanes }
@@ -222,7 +223,7 @@ fn work_with<
     ensures worked { IfOk result (λ w.
         IsWorked (G.may_stop gate.now) budget (lists_in items.items) (vec_len rngs) w hub.old hub.new) }
     ensures called { IfOk result (λ w. IsCalled (G.may_stop gate.now) (G.may_pass gate.now) budget
-        (lists_in items.items) (vec_len rngs) w hub.old hub.new) }
+        (lists_in items.items) (map R.stream rngs.items) w hub.old hub.new) }
     ensures no_thread { result ≡ Err NoThread
         → WereTakenIn (lists_in items.items) (vec_len rngs) hub.old hub.new }
     ensures some_thread { result ≡ Err NoThread → 0 < vec_len items + vec_len rngs }

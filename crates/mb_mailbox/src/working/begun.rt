@@ -1,6 +1,7 @@
 //! Workers that were begun.
 use super::jobs::{PollDone, Polls, PutDone, Puts};
 use crate::gate::Gate;
+use rand_core::Rng;
 use std::alloc::Allocator;
 use std::thread::PromisedHandle;
 
@@ -13,7 +14,7 @@ pub(crate) enum PutBegun<G: Gate, A: Allocator + Drop> {
 
 /// A consumer's worker that was begun, in the same way.
 #[derive(Drop)]
-pub(crate) enum PollBegun<G: Gate, A: Allocator + Drop> {
-    Apart(PromisedHandle<PollDone<A>, Polls<G, A>>),
+pub(crate) enum PollBegun<G: Gate, R: Rng + Drop, A: Allocator + Drop> {
+    Apart(PromisedHandle<PollDone<A>, Polls<G, R, A>>),
     Here(PollDone<A>),
 }

@@ -1,5 +1,5 @@
 //! The numbers that are given to a run, in order.
-ghost use Rattle.std.specs.Prelude.{◌≡◌, ◌+◌, ◌≤◌, [], length, true, vec_capacity, vec_len};
+ghost use Rattle.std.specs.Prelude.{◌≡◌, ◌+◌, ◌≤◌, [], length, map, true, vec_capacity, vec_len};
 ghost use Rattle.mb_mailbox.specs.Given.{AreGiven, AreAllGiven};
 ghost use Rattle.mb_mailbox.specs.Rooms.{HasJobRoom};
 ghost use Rattle.mb_mailbox.specs.Below.{consumer_count};
@@ -60,7 +60,7 @@ pub(super) fn give_consumers<R: Rng + Drop, A: Allocator + Clone + Drop, B: Allo
     requires room { vec_len rngs ≤ vec_capacity jobs.old }
     ensures jobs { ArePollJobs mailbox.now (length hub.old.ledgers) jobs.new.items }
     ensures few { vec_len jobs.new ≤ vec_len rngs }
-    ensures all { result ≡ true → vec_len jobs.new ≡ vec_len rngs }
+    ensures all { result ≡ true → map (λ j. j.rng) jobs.new.items ≡ rngs.items }
     ensures hub { hub.new ≡ with_consumers jobs.new.items hub.old }
     ensures of { IsHubOf mailbox.now hub.new }
 {
@@ -91,7 +91,7 @@ pub(super) fn give<R: Rng + Drop, A: Allocator + Clone + Drop, B: Allocator + Dr
     requires consumers { length hub.old.ledgers + vec_len rngs ≤ consumer_count mailbox.now.claims.layout }
     requires room { HasJobRoom (vec_len items) (vec_len rngs) jobs.old }
     ensures given { AreGiven mailbox.now items.items (vec_len rngs) jobs.new hub.old hub.new }
-    ensures all { result ≡ true → AreAllGiven mailbox.now items.items (vec_len rngs) jobs.new hub.old }
+    ensures all { result ≡ true → AreAllGiven mailbox.now items.items rngs.items jobs.new hub.old }
     ensures of { IsHubOf mailbox.now hub.new }
 {
     if !give_producers(alloc, mailbox, hub, items, &mut jobs.puts) {

@@ -5,6 +5,7 @@ ghost use Rattle.mb_mailbox.specs.Producers.{is_over};
 use crate::consumer::Consumer;
 use crate::gate::Gate;
 use crate::producer::Producer;
+use rand_core::Rng;
 use std::alloc::Allocator;
 use std::snapshot::Snapshot;
 use std::thread::Promise;
@@ -68,18 +69,19 @@ pub(crate) struct PollDone<A: Allocator + Drop> {
     pub(crate) off: bool,
 }
 
-/// What a consumer's thread promises, by the consumer, the lanes, the budget and the gate.
+/// What a consumer's thread promises, by the consumer, its source, the lanes, the budget and the gate.
 #[derive(Drop)]
-pub(crate) struct Polls<G: Gate, A: Allocator + Drop> {
+pub(crate) struct Polls<G: Gate, R: Rng + Drop, A: Allocator + Drop> {
     pub(crate) consumer: Snapshot<Consumer<A>>,
+    pub(crate) rng: Snapshot<R>,
     pub(crate) from: u32,
     pub(crate) end: u32,
     pub(crate) budget: u64,
     pub(crate) gate: Snapshot<G>,
 }
 
-impl<G: Gate, A: Allocator + Drop> Promise<PollDone<A>> for Polls<G, A> {
+impl<G: Gate, R: Rng + Drop, A: Allocator + Drop> Promise<PollDone<A>> for Polls<G, R, A> {
     ghost use Rattle.mb_mailbox.specs.Jobs.{IsPollEnd};
 
-    ghost kept_by = { λ p d. IsPollEnd (G.may_stop p.gate.value) (G.may_pass p.gate.value) p.from p.end p.budget p.consumer.value d };
+    ghost kept_by = { λ p d. IsPollEnd (G.may_stop p.gate.value) (G.may_pass p.gate.value) p.from p.end p.budget (R.stream p.rng.value) p.consumer.value d };
 }

@@ -6,6 +6,7 @@ ghost use Rattle.mb_mailbox.specs.Begun.{PollKeeps, PutKeeps};
 use super::begun::{PollBegun, PutBegun};
 use super::jobs::{PollDone, PutDone};
 use crate::gate::Gate;
+use rand_core::Rng;
 use std::alloc::Allocator;
 use std::thread::Threads;
 
@@ -36,8 +37,11 @@ pub(super) fn join_puts<W: Threads, G: Gate, A: Allocator + Drop>(
 }
 
 /// The end of a consumer's worker, whose thread is joined where it has one.
-fn poll_end<W: Threads, G: Gate, A: Allocator + Drop>(rt: &W, one: PollBegun<G, A>) -> PollDone<A>
-    ensures { PollKeeps G.may_stop G.may_pass one result }
+fn poll_end<W: Threads, G: Gate, R: Rng + Drop, A: Allocator + Drop>(
+    rt: &W,
+    one: PollBegun<G, R, A>,
+) -> PollDone<A>
+    ensures { PollKeeps G.may_stop G.may_pass R.stream one result }
 {
     match one {
         PollBegun::Apart(handle) => handle.join(rt),
@@ -46,14 +50,14 @@ fn poll_end<W: Threads, G: Gate, A: Allocator + Drop>(rt: &W, one: PollBegun<G, 
 }
 
 /// Joins the consumers' threads. `done` has room for all.
-pub(super) fn join_polls<W: Threads, G: Gate, A: Allocator + Drop>(
+pub(super) fn join_polls<W: Threads, G: Gate, R: Rng + Drop, A: Allocator + Drop>(
     rt: &W,
-    begun: Vec<PollBegun<G, A>, A>,
+    begun: Vec<PollBegun<G, R, A>, A>,
     mut done: Vec<PollDone<A>, A>,
 ) -> Vec<PollDone<A>, A>
     requires none { done.items ≡ [] }
     requires room { vec_len begun ≤ vec_capacity done }
-    ensures { AllZip (PollKeeps G.may_stop G.may_pass) begun.items result.items }
+    ensures { AllZip (PollKeeps G.may_stop G.may_pass R.stream) begun.items result.items }
 {
     for one in begun {
         done.push_reserved(poll_end(rt, one));

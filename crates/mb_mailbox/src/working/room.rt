@@ -5,6 +5,7 @@ ghost use Rattle.mb_mailbox.specs.Rooms.{HasRoom, HasJobRoom};
 use super::begun::{PollBegun, PutBegun};
 use super::jobs::{PollDone, PollJob, PutDone, PutJob};
 use crate::gate::Gate;
+use rand_core::Rng;
 use std::alloc::{AllocError, Allocator};
 
 /// Room for the jobs.
@@ -16,9 +17,9 @@ pub(crate) struct Jobs<R: Drop, A: Allocator + Drop> {
 
 /// Room for the workers that were begun, and for their ends.
 #[derive(Drop)]
-pub(crate) struct Room<G: Gate, A: Allocator + Drop> {
+pub(crate) struct Room<G: Gate, R: Rng + Drop, A: Allocator + Drop> {
     pub(crate) puts: Vec<PutBegun<G, A>, A>,
-    pub(crate) polls: Vec<PollBegun<G, A>, A>,
+    pub(crate) polls: Vec<PollBegun<G, R, A>, A>,
     pub(crate) ends: Ends<A>,
 }
 
@@ -44,11 +45,11 @@ pub(super) fn room_for_jobs<R: Drop, A: Allocator + Clone + Drop>(
 }
 
 /// Room for so many workers and their ends.
-pub(super) fn room_for_workers<G: Gate, A: Allocator + Clone + Drop>(
+pub(super) fn room_for_workers<G: Gate, R: Rng + Drop, A: Allocator + Clone + Drop>(
     alloc: &A,
     puts: usize,
     polls: usize,
-) -> Result<Room<G, A>, AllocError>
+) -> Result<Room<G, R, A>, AllocError>
     ensures { IfOk result (λ r. HasRoom puts polls r) }
 {
     Ok(Room {

@@ -36,12 +36,12 @@ fn run_in<
     lanes: Lanes,
     gate: &'s G,
     going: &'s AtomicBool,
-    room: Room<G, A>,
+    room: Room<G, R, A>,
 ) -> Ends<A>
     requires of { AreOf mailbox.now jobs }
     requires few { lanes.end ≤ mailbox.now.cells.size.lanes }
     requires room { HasRoom (vec_len jobs.puts) (vec_len jobs.polls) room }
-    ensures { AreEndsOf (G.may_stop gate.now) (G.may_pass gate.now) lanes.from lanes.end lanes.budget jobs result }
+    ensures { AreEndsOf (G.may_stop gate.now) (G.may_pass gate.now) R.stream lanes.from lanes.end lanes.budget jobs result }
 {
     let Jobs { puts, polls } = jobs;
     let Room {
@@ -73,12 +73,12 @@ pub(super) fn run<
     lanes: Lanes,
     gate: &G,
     going: &AtomicBool,
-    room: Room<G, A>,
+    room: Room<G, R, A>,
 ) -> Ends<A>
     requires of { AreOf mailbox.now jobs }
     requires few { lanes.end ≤ mailbox.now.cells.size.lanes }
     requires room { HasRoom (vec_len jobs.puts) (vec_len jobs.polls) room }
-    ensures { AreEndsOf (G.may_stop gate.now) (G.may_pass gate.now) lanes.from lanes.end lanes.budget jobs result }
+    ensures { AreEndsOf (G.may_stop gate.now) (G.may_pass gate.now) R.stream lanes.from lanes.end lanes.budget jobs result }
 {
     thread::scope(
         thread::scope_env(),
@@ -87,7 +87,7 @@ pub(super) fn run<
             requires of { AreOf mailbox.now jobs }
             requires few { lanes.end ≤ mailbox.now.cells.size.lanes }
             requires room { HasRoom (vec_len jobs.puts) (vec_len jobs.polls) room }
-            ensures { AreEndsOf (G.may_stop gate.entry.now) (G.may_pass gate.entry.now) lanes.from lanes.end lanes.budget jobs result }
+            ensures { AreEndsOf (G.may_stop gate.entry.now) (G.may_pass gate.entry.now) R.stream lanes.from lanes.end lanes.budget jobs result }
         { run_in(scope, rt, mailbox, jobs, lanes, gate, going, room) },
     )
 }
@@ -126,14 +126,14 @@ pub(super) fn end_polls<R: Drop, A: Allocator + Drop>(
 }
 
 /// Ends jobs that are not to be run.
-pub(super) fn end_all<R: Drop, G: Gate, A: Allocator + Drop, B: Allocator + Drop>(
+pub(super) fn end_all<R: Rng + Drop, G: Gate, A: Allocator + Drop, B: Allocator + Drop>(
     mailbox: &Mailbox<B>,
     jobs: Jobs<R, A>,
-    room: Room<G, A>,
+    room: Room<G, R, A>,
 ) -> Ends<A>
     requires of { AreOf mailbox.now jobs }
     requires room { HasRoom (vec_len jobs.puts) (vec_len jobs.polls) room }
-    ensures { (from end budget : ℕ) → AreEndsOf (λ _ _. ⊥) (λ _ _. ⊥) from end budget jobs result }
+    ensures { (from end budget : ℕ) → AreEndsOf (λ _ _. ⊥) (λ _ _. ⊥) R.stream from end budget jobs result }
 {
     let Jobs { puts, polls } = jobs;
     let Ends {

@@ -82,13 +82,14 @@ fn start_poll<
     lanes: Lanes,
     gate: &'s G,
     going: &'s AtomicBool,
-) -> PollBegun<G, A>
+) -> PollBegun<G, R, A>
     requires of { IsConsumerOf mailbox.now job.consumer }
     requires few { lanes.end ≤ mailbox.now.cells.size.lanes }
-    ensures { PollPromises G.may_stop G.may_pass gate.now lanes.from lanes.end lanes.budget job.consumer result }
+    ensures { PollPromises G.may_stop G.may_pass R.stream gate.now lanes.from lanes.end lanes.budget job result }
 {
     let promise = Polls {
         consumer: Snapshot::of(&job.consumer),
+        rng: Snapshot::of(&job.rng),
         from: lanes.from,
         end: lanes.end,
         budget: lanes.budget,
@@ -97,7 +98,7 @@ fn start_poll<
     let body = move || -> PollDone<A>
         requires of { IsConsumerOf mailbox.now job.consumer }
         requires few { lanes.end ≤ mailbox.now.cells.size.lanes }
-        ensures { IsPollEnd (G.may_stop gate.entry.now) (G.may_pass gate.entry.now) lanes.from lanes.end lanes.budget job.consumer result }
+        ensures { IsPollEnd (G.may_stop gate.entry.now) (G.may_pass gate.entry.now) lanes.from lanes.end lanes.budget (R.stream job.rng) job.consumer result }
     { poll_lanes(mailbox, job, lanes, gate, going) };
     match scope.spawn_with(promise, body) {
         Ok(handle) => PollBegun::Apart(handle),
@@ -125,13 +126,13 @@ pub(super) fn start_polls<
     lanes: Lanes,
     gate: &'s G,
     going: &'s AtomicBool,
-    mut begun: Vec<PollBegun<G, A>, A>,
-) -> Vec<PollBegun<G, A>, A>
+    mut begun: Vec<PollBegun<G, R, A>, A>,
+) -> Vec<PollBegun<G, R, A>, A>
     requires of { All (λ j. IsConsumerOf mailbox.now j.consumer) jobs.items }
     requires few { lanes.end ≤ mailbox.now.cells.size.lanes }
     requires none { begun.items ≡ [] }
     requires room { vec_len jobs ≤ vec_capacity begun }
-    ensures { AllZip (λ j b. PollPromises G.may_stop G.may_pass gate.now lanes.from lanes.end lanes.budget j.consumer b)
+    ensures { AllZip (PollPromises G.may_stop G.may_pass R.stream gate.now lanes.from lanes.end lanes.budget)
         jobs.items result.items }
 {
     for job in jobs {

@@ -210,7 +210,8 @@ pub(super) fn poll_lanes<A: Allocator + Drop, B: Allocator + Drop, R: Rng + Drop
 ) -> PollDone<A>
     requires of { IsConsumerOf mailbox.now job.consumer }
     requires few { lanes.end ≤ mailbox.now.cells.size.lanes }
-    ensures { IsPollEnd (G.may_stop gate.now) (G.may_pass gate.now) lanes.from lanes.end lanes.budget job.consumer result }
+    ensures { IsPollEnd (G.may_stop gate.now) (G.may_pass gate.now) lanes.from lanes.end lanes.budget
+        (R.stream job.rng) job.consumer result }
 {
     let Lanes { from, end, budget } = lanes;
     let PollJob {

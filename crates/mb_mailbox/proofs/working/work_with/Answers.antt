@@ -1,4 +1,4 @@
-use Rattle.std.proofs.Common.{ℕ, arith, subst, vec_len}
+use Rattle.std.proofs.Common.{ℕ, arith, map, subst, sym, vec_len}
 use Rattle.mb_mailbox.specs.Called.{IsCalled}
 use Rattle.mb_mailbox.specs.Worked.{IsWorked, lists_in}
 use Rattle.mb_mailbox.specs.declared.working.Worked.{Worked}
@@ -23,17 +23,17 @@ run-ends-requires-clause-room g c κs within =
 
 pub take_all-requires-clause-ends : goal.take_all-requires-clause-ends
 take_all-requires-clause-ends g c =
-    ends_at c.args.mailbox.now (λ _ _. ⊥) (λ _ _. ⊥) 0 0 0 c.give.new.jobs c.end_all-ends.result
+    ends_at c.args.mailbox.now (λ _ _. ⊥) (λ _ _. ⊥) g.R.Rng.stream 0 0 0 c.give.new.jobs c.end_all-ends.result
     (jobs_at c.args.mailbox.now c.args.items.items _ c.give.new.jobs c.args.hub.now c.give.new.hub c.give.ensures.given) (c.end_all-ends.ensures 0 0 0)
 
 pub take_all-full-requires-clause-ends : goal.take_all-full-requires-clause-ends
 take_all-full-requires-clause-ends g c =
-    ends_at c.args.mailbox.now (g.G.Gate.may_stop c.args.gate.now) (g.G.Gate.may_pass c.args.gate.now) _ _ _ c.give.new.jobs c.run-ends.result
+    ends_at c.args.mailbox.now (g.G.Gate.may_stop c.args.gate.now) (g.G.Gate.may_pass c.args.gate.now) g.R.Rng.stream _ _ _ c.give.new.jobs c.run-ends.result
     (jobs_at c.args.mailbox.now c.args.items.items _ c.give.new.jobs c.args.hub.now c.give.new.hub c.give.ensures.given) c.run-ends.ensures
 
 pub returns-then-not-give-clause-no_memory : goal.returns-then-not-give-clause-no_memory
 returns-then-not-give-clause-no_memory g c = λ e.
-    early c.args.mailbox.now (λ _ _. ⊥) (λ _ _. ⊥) c.args.items.items _ 0 0 0 c.give.new.jobs c.end_all-ends.result c.args.hub.now c.give.new.hub c.take_all.new.hub
+    early c.args.mailbox.now (λ _ _. ⊥) (λ _ _. ⊥) g.R.Rng.stream c.args.items.items _ 0 0 0 c.give.new.jobs c.end_all-ends.result c.args.hub.now c.give.new.hub c.take_all.new.hub
     c.has_history.ensures.kept c.give.ensures.given (c.end_all-ends.ensures 0 0 0) c.take_all.ensures.hub
 
 pub returns-clause-worked : goal.returns-clause-worked
@@ -44,10 +44,10 @@ returns-clause-worked g c =
     let told : Worked = record { full = c.take_all-full.result.full; stopped = c.take_all-full.result.stopped } in
     subst (λ (b : ℕ). IsWorked (g.G.Gate.may_stop c.args.gate.now) b (lists_in c.args.items.items) (vec_len c.args.rngs)
     told c.args.hub.now c.take_all-full.new.hub) c.next_lanes-lanes.ensures.budget
-    (worked c.args.mailbox.now (g.G.Gate.may_stop c.args.gate.now) (g.G.Gate.may_pass c.args.gate.now) c.args.items.items (vec_len c.args.rngs) c.next_lanes-lanes.result.from c.next_lanes-lanes.result.end
+    (worked c.args.mailbox.now (g.G.Gate.may_stop c.args.gate.now) (g.G.Gate.may_pass c.args.gate.now) g.R.Rng.stream c.args.items.items (vec_len c.args.rngs) c.next_lanes-lanes.result.from c.next_lanes-lanes.result.end
     c.next_lanes-lanes.result.budget c.give.new.jobs
     c.run-ends.result c.args.hub.now c.give.new.hub c.take_all-full.new.hub c.has_history.ensures.kept c.give.ensures.given c.run-ends.ensures
-    c.take_all-full.ensures.hub (c.give.ensures.all c.if-not-give.false) told c.take_all-full.ensures.full
+    c.take_all-full.ensures.hub c.args.rngs.items (sym c.args.rngs.ok.0) (c.give.ensures.all c.if-not-give.false) told c.take_all-full.ensures.full
     c.take_all-full.ensures.stopped (c.take_all-full.ensures.puts_on c.if-off.false) (c.take_all-full.ensures.polls_on c.if-off.false)
     (omega (arith, c.requires.lanes, c.requires.consumers, c.lanes_are_few.ensures, c.consumers_are_few.ensures, c.args.items.ok.0)) c.has_history-2.ensures.kept c.take_all-full.ensures.of c.has_history-2.ensures.pool.0
     c.has_history-2.ensures.pool.1 (omega (arith, first, given)) (omega (arith, last, given, c.len.ensures, c.args.items.ok.0)) c.ends_tell_notes.ensures)
@@ -58,28 +58,28 @@ returns-clause-called g c =
     let last = c.next_lanes-lanes.ensures.end in
     let given = c.lanes_given.ensures in
     let told : Worked = record { full = c.take_all-full.result.full; stopped = c.take_all-full.result.stopped } in
-    subst (λ (b : ℕ). IsCalled (g.G.Gate.may_stop c.args.gate.now) (g.G.Gate.may_pass c.args.gate.now) b (lists_in c.args.items.items) (vec_len c.args.rngs)
+    subst (λ (b : ℕ). IsCalled (g.G.Gate.may_stop c.args.gate.now) (g.G.Gate.may_pass c.args.gate.now) b (lists_in c.args.items.items) (map g.R.Rng.stream c.args.rngs.items)
     told c.args.hub.now c.take_all-full.new.hub) c.next_lanes-lanes.ensures.budget
-    (called c.args.mailbox.now (g.G.Gate.may_stop c.args.gate.now) (g.G.Gate.may_pass c.args.gate.now) c.args.items.items (vec_len c.args.rngs) c.next_lanes-lanes.result.from c.next_lanes-lanes.result.end
+    (called c.args.mailbox.now (g.G.Gate.may_stop c.args.gate.now) (g.G.Gate.may_pass c.args.gate.now) g.R.Rng.stream c.args.items.items (vec_len c.args.rngs) c.next_lanes-lanes.result.from c.next_lanes-lanes.result.end
     c.next_lanes-lanes.result.budget c.give.new.jobs
     c.run-ends.result c.args.hub.now c.give.new.hub c.take_all-full.new.hub c.has_history.ensures.kept c.give.ensures.given c.run-ends.ensures
-    c.take_all-full.ensures.hub (c.give.ensures.all c.if-not-give.false) told c.take_all-full.ensures.full
+    c.take_all-full.ensures.hub c.args.rngs.items (sym c.args.rngs.ok.0) (c.give.ensures.all c.if-not-give.false) told c.take_all-full.ensures.full
     c.take_all-full.ensures.stopped (c.take_all-full.ensures.puts_on c.if-off.false) (c.take_all-full.ensures.polls_on c.if-off.false)
     (omega (arith, c.requires.lanes, c.requires.consumers, c.lanes_are_few.ensures, c.consumers_are_few.ensures, c.args.items.ok.0)) c.has_history-2.ensures.kept c.take_all-full.ensures.of c.has_history-2.ensures.pool.0
     c.has_history-2.ensures.pool.1 (omega (arith, first, given)) (omega (arith, last, given, c.len.ensures, c.args.items.ok.0)) c.ends_tell_notes.ensures)
 
 pub returns-then-off-clause-no_thread : goal.returns-then-off-clause-no_thread
 returns-then-off-clause-no_thread g c = λ e.
-    taken c.args.mailbox.now (g.G.Gate.may_stop c.args.gate.now) (g.G.Gate.may_pass c.args.gate.now) c.args.items.items (vec_len c.args.rngs) c.next_lanes-lanes.result.from c.next_lanes-lanes.result.end
+    taken c.args.mailbox.now (g.G.Gate.may_stop c.args.gate.now) (g.G.Gate.may_pass c.args.gate.now) g.R.Rng.stream c.args.items.items (vec_len c.args.rngs) c.next_lanes-lanes.result.from c.next_lanes-lanes.result.end
     c.next_lanes-lanes.result.budget c.give.new.jobs
     c.run-ends.result c.args.hub.now c.give.new.hub c.take_all-full.new.hub c.has_history.ensures.kept c.give.ensures.given c.run-ends.ensures
-    c.take_all-full.ensures.hub (c.give.ensures.all c.if-not-give.false)
+    c.take_all-full.ensures.hub c.args.rngs.items (sym c.args.rngs.ok.0) (c.give.ensures.all c.if-not-give.false)
 
 pub returns-then-off-clause-some_thread : goal.returns-then-off-clause-some_thread
 returns-then-off-clause-some_thread g c = λ e.
-    let some = some_worker c.args.mailbox.now (g.G.Gate.may_stop c.args.gate.now) (g.G.Gate.may_pass c.args.gate.now) c.args.items.items (vec_len c.args.rngs) c.next_lanes-lanes.result.from c.next_lanes-lanes.result.end
+    let some = some_worker c.args.mailbox.now (g.G.Gate.may_stop c.args.gate.now) (g.G.Gate.may_pass c.args.gate.now) g.R.Rng.stream c.args.items.items (vec_len c.args.rngs) c.next_lanes-lanes.result.from c.next_lanes-lanes.result.end
     c.next_lanes-lanes.result.budget c.give.new.jobs
     c.run-ends.result c.args.hub.now c.give.new.hub c.take_all-full.new.hub c.has_history.ensures.kept c.give.ensures.given c.run-ends.ensures
-    c.take_all-full.ensures.hub (c.give.ensures.all c.if-not-give.false)
+    c.take_all-full.ensures.hub c.args.rngs.items (sym c.args.rngs.ok.0) (c.give.ensures.all c.if-not-give.false)
     (c.take_all-full.ensures.off c.if-off.true) in
     omega (arith, some, c.args.items.ok.0)

@@ -9,5 +9,5 @@ invariant-loop-one g l = record {
   rest : l.yielded ++ into_iter_items l.one-iterator ≡ l.fn.begun.items;
   left : vec_len l.done + into_iter_len l.one-iterator ≡ vec_len l.fn.begun;
   room : vec_len l.fn.begun ≤ vec_capacity l.done;
-  kept : AllZip (PollKeeps g.G.Gate.may_stop g.G.Gate.may_pass) l.yielded l.done.items;
+  kept : AllZip (PollKeeps g.G.Gate.may_stop g.G.Gate.may_pass g.R.Rng.stream) l.yielded l.done.items;
 }
