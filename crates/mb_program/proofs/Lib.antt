@@ -9,6 +9,7 @@ pub mod RunItems
 pub mod RunLanes
 pub mod RunNotes
 pub mod RunReports
+pub mod RunsBehind
 pub mod RunSetups
 pub mod SameFaults
 pub mod SameProgram

@@ -21,7 +21,7 @@ use Rattle.mb_mailbox.specs.Hubs.{HubView, IsHubOf, hub_empty}
 use Rattle.mb_mailbox.specs.Mailboxes.{MailboxView, plan_at}
 use Rattle.mb_mailbox.specs.Jobs.{IsFront}
 use Rattle.mb_mailbox.specs.Worked.{AreCutByCells, AreStoppedPolls, AreStoppedPuts, AsksTooMany, HasNoteAtEach, IsWorked, LaneLeft, ended_list}
-use Rattle.mb_program.specs.Running.{AreFew, HasNotedAll, IsLaneOf, IsRunReport, item_lists, items_of, plan_asked}
+use Rattle.mb_program.specs.Running.{AreFew, HasNotedAll, IsLaneOf, IsRunBehind, IsRunReport, item_lists, items_of, plan_asked}
 use Rattle.mb_program.specs.declared.options.Options.{Options}
 use Rattle.mb_program.proofs.RunLanes.{found_none, front_whole, front_within, sum_short}
 use Rattle.mb_program.proofs.RunNotes.{notes_told}
@@ -32,7 +32,7 @@ none_missing f [] = refl
 none_missing f (x ∷ xs) = none_missing f xs
 
 -- the value at place p of a list made of numbers
-place_of : {X : Type 0} (f : ℕ → X) (a n p : ℕ) → p < n → slice_get (map f (range_with_len a n)) p ≡ Some (f (a + p))
+pub place_of : {X : Type 0} (f : ℕ → X) (a n p : ℕ) → p < n → slice_get (map f (range_with_len a n)) p ≡ Some (f (a + p))
 place_of f a zero p low = absurd (omega (arith, low))
 place_of f a (suc n) zero low = let e : a + 0 ≡ a = omega arith in rw e refl
 place_of f a (suc n) (suc p) low =
@@ -125,13 +125,15 @@ lanes_told producers count lanes consumers h left r same told puts fronts full p
 pub run_report : {budget : ℕ} (may_stop : Who → ℕ → Type 0) → ((w : Who) (n : ℕ) → may_stop w n → ⊥) → (o : Options) (m : MailboxView) (old h : HubView) (r : ReportView) (lists : List (List ℕ)) (n : ℕ) (w : Worked)
     → AreFew o → budget ≡ o.budget → plan_at m ≡ plan_asked o → m.cells.size ≡ size_of (plan_asked o) → old ≡ hub_empty m → lists ≡ item_lists o.producers o.items → n ≡ o.consumers
     → IsWorked may_stop budget lists n w old h → IsHubOf m h
-    → IsReportIn m.cells.size.lanes (consumer_count m.claims.layout) h r → IsGathered m h r → FullTakesAll m h r → IsRunReport o r
-run_report {budget} may_stop never o m old h r lists n w few asked plan size empty are sources worked of told gathered full = record {
+    → IsReportIn m.cells.size.lanes (consumer_count m.claims.layout) h r → (gathered : IsGathered m h r) → FullTakesAll m h r
+    → IsRunBehind o gathered.histories r → IsRunReport o r
+run_report {budget} may_stop never o m old h r lists n w few asked plan size empty are sources worked of told gathered full run = record {
   histories = gathered.histories;
   reader = gathered.reader;
   sound = subst (λ p. AreSound p gathered.histories) plan gathered.sound;
   report = subst (λ p. IsReportOf p gathered.histories r) plan gathered.report;
   honest = subst (λ p. IsHonest p gathered.histories r) plan gathered.honest;
+  run = run;
   lanes = lanes_told o.producers o.items m.cells.size.lanes (consumer_count m.claims.layout) h worked.lanes r same told puts
       (subst (λ ls. AllZip (λ list l. IsFront l.put list) ls worked.lanes) are worked.run.fronts) all_put;
   noted = λ c p low_c low_p. subst (λ (b : ℕ). HasNotedAll o.items b c p gathered.histories r) asked

@@ -12,7 +12,13 @@ use Rattle.mb_world.specs.Reporting.{IsReportOf}
 use Rattle.mb_world.specs.Setups.{setup_refusal, shaped_plan}
 use Rattle.mb_world.specs.Sound.{AreSound}
 use Rattle.mb_script.specs.Vocabulary.{AppendsFront, Meter, one_more, report_text}
-use Rattle.mb_mailbox.specs.Below.{Reader, consumer_part, part}
+use Rattle.mb_mailbox.specs.Below.{Reader, Stream, consumer_count, consumer_part, part}
+use Rattle.mb_mailbox.specs.Called.{IsCalled}
+use Rattle.mb_mailbox.specs.Gathering.{IsGathered, IsReportIn}
+use Rattle.mb_mailbox.specs.Hubs.{HubView, hub_empty}
+use Rattle.mb_mailbox.specs.Mailboxes.{MailboxView, plan_at}
+use Rattle.mb_mailbox.specs.declared.working.Worked.{Worked}
+use Rattle.mb_program.specs.Source.{source_from, words_from}
 use Rattle.mb_program.specs.declared.fault.RunFault.{RunFault}
 use Rattle.mb_program.specs.declared.fault.RunFault.TheVariants.{BadSetup, WriteFault}
 use Rattle.mb_program.specs.declared.options.Options.{Options}
@@ -41,6 +47,11 @@ items_of p count = map (λ i. 1000 * p + i) (range_with_len 0 count)
 abbrev pub item_lists : ℕ → ℕ → List (List ℕ)
 item_lists producers count = map (λ p. items_of p count) (range_with_len 0 producers)
 
+-- ---- the random words
+-- those of each consumer's source, from its beginning
+abbrev pub words_asked : Options → List Stream
+words_asked o = map (λ c. words_from (source_from o.seed c)) (range_with_len 0 o.consumers)
+
 -- ---- the report
 -- lane p has ended, and all items of producer p are put on it
 pub record IsLaneOf (p count : ℕ) (l : LaneView) : Type 0 where
@@ -62,6 +73,20 @@ HasNotedAll count budget c p hs r =
     (length (notes c p r) ≡ count)
     ⊎ ((2 ^ 64 - 2 ≤ accesses_by c hs) × (accesses_by c hs ≤ budget * (2 ^ 64 - 2)))
 
+-- workers that no gate stops came, in a mailbox of these options, from a hub that has issued nothing to this hub. Each call of
+-- a consumer is a poll with the budget that is asked for, and draws from the consumer's own source, of the seed that is asked
+-- for. The report is gathered from this hub, and these histories are all accesses that the hub has taken in
+pub record IsRunBehind (o : Options) (hs : Histories) (r : ReportView) : Type 0 where
+  pub mailbox : MailboxView
+  pub plan : plan_at mailbox ≡ plan_asked o
+  pub hub : HubView
+  pub worked : Worked
+  pub called : IsCalled (λ _ _. ⊥) (λ _ _. Unit {0}) o.budget (item_lists o.producers o.items) (words_asked o) worked
+      (hub_empty mailbox) hub
+  pub told : IsReportIn mailbox.cells.size.lanes (consumer_count mailbox.claims.layout) hub r
+  pub gathered : IsGathered mailbox hub r
+  pub histories : gathered.histories ≡ hs
+
 -- the report of a mailbox of these options, in which each producer has put all its items
 pub record IsRunReport (o : Options) (r : ReportView) : Type 0 where
   -- all accesses to the words of the claims, and all to those of the cells: they are lawful, and each consumer's
@@ -72,11 +97,14 @@ pub record IsRunReport (o : Options) (r : ReportView) : Type 0 where
   -- the report is theirs, and one assignment stands behind it
   pub report : IsReportOf (plan_asked o) histories r
   pub honest : IsHonest (plan_asked o) histories r
+  -- and they are those of a run with the budget and the seed that are asked for
+  pub run : IsRunBehind o histories r
   -- each producer has put its items, and nothing else
   pub lanes : (p : ℕ) → p < o.producers
       → (l : LaneView) × (slice_get r.lanes p ≡ Some l) × IsLaneOf p o.items l
   -- Each consumer has a note at each item of each lane, or these histories have 2^64 - 2 accesses of it, and at most the budget
-  -- times as many. They may have accesses that no thread made, so of the text alone this says nothing; of a run of `work` it is `IsWorked` that tells.
+  -- times as many. They need not be those that the threads made, so of the
+  -- text alone this says nothing; of a run of `work` it is `IsWorked` that tells.
   pub noted : (c p : ℕ) → c < o.consumers → p < o.producers → HasNotedAll o.items o.budget c p histories r
 
 -- the text is that of such a report

@@ -1,6 +1,6 @@
 //! The definitions by example: what they let in, and what only looks so. The functions compute nothing: their contracts
 //! are the examples. Those that are not proved by their contract alone have their proofs in `proofs/examples`.
-ghost use Rattle.std.specs.Prelude.{◌≡◌, ℕ, ◌+◌, ◌-◌, ◌*◌, ◌<◌, ◌^◌, length, ◌++◌, true, false, [], ◌∷◌, codes, replicate, Some, None, Err};
+ghost use Rattle.std.specs.Prelude.{◌≡◌, ◌≢◌, ℕ, ◌+◌, ◌-◌, ◌*◌, ◌<◌, ◌^◌, length, map, ◌++◌, true, false, [], ◌∷◌, codes, replicate, Some, None, Err};
 ghost use Rattle.clap.specs.Words.{fault_of, takes};
 ghost use Rattle.clap.specs.declared.error.ErrorKind.TheVariants.{DisplayHelp, InvalidValue, MissingSubcommand};
 ghost use Rattle.mb_claim.specs.Vocabulary.{row_of};
@@ -27,8 +27,13 @@ ghost use Rattle.mb_program.specs.RunExamples.{report_with, run_words};
 ghost use Rattle.mb_program.specs.declared.fault.Failed.TheVariants as failed;
 ghost use Rattle.mb_program.specs.declared.outcome.Ending.TheVariants as ending;
 ghost use Rattle.mb_world.specs.Plan.{Histories};
+ghost use Rattle.mb_world.specs.Report.{ReportView};
+ghost use Rattle.mb_mailbox.specs.Below.{ClaimAccess, Stream, consumer_part, next_u64};
+ghost use Rattle.mb_mailbox.specs.Steps.{AreDrawn};
 ghost use Rattle.mb_world.specs.declared.report.Note.TheVariants.{Took, Undecided};
-ghost use Rattle.mb_program.specs.Source.{seed_bytes, source_from};
+ghost use Rattle.mb_program.specs.Source.{seed_bytes, source_from, words_from};
+
+use mb_mailbox::laws::calls_draw_the_first_words;
 
 /// A script of numbers that are too large has no spelling.
 pub fn numbers_are_words()
@@ -140,6 +145,18 @@ pub fn consumers_note_all_items()
     ensures short_run { (x : IsRunReport one_item (report_with [] (0 ∷ [])))
         → length x.histories.pool + length x.histories.claims < 2 ^ 64 - 2 → ⊥ }
 {}
+
+/// The random words of each consumer of a run are the first words of its own source, in order.
+pub fn runs_draw_from_their_seed()
+    ensures words { (o : Options) (r : ReportView) (x : IsRunReport o r) (c : ℕ) → c < o.consumers
+        → (left : Stream) × AreDrawn (words_from (source_from o.seed c))
+        (map (λ a. a.step.turn.word) (consumer_part c x.histories.claims)) left }
+    ensures other_seed { (o : Options) (r : ReportView) (x : IsRunReport o r) (a : ClaimAccess) → 0 < o.consumers
+        → consumer_part 0 x.histories.claims ≡ a ∷ []
+        → a.step.turn.word ≢ (next_u64 (words_from (source_from o.seed 0))).0 → ⊥ }
+{
+    calls_draw_the_first_words();
+}
 
 /// What the program does with its words: a script of no process, one with a fault, words that clap refuses, and help.
 pub fn runs_do_what_the_words_ask()
