@@ -6,7 +6,8 @@
 
 `main` has no contract: it hands the words of the command line and the standard streams to a function that has one, and ends with
 the status of its answer. So each example of crates/test_program/src/examples is run here once more, from `main` on. Then comes
-what only a process can meet: a full device, a directory to read from, a word that is no UTF-8, a thread that is refused.
+what only a process can meet: a full device, a directory to read from, a word that is no UTF-8, a thread that is refused, and memory
+that is refused.
 The last line is `N passed, N failed`, and the status is 0 if none failed.
 """
 import argparse
@@ -28,11 +29,15 @@ EXAMPLE = re.compile(
 )
 # The stack that each thread asks for then. No process has so many addresses free, and all else goes on as ever.
 TOO_LARGE = 1 << 46
+# The most bytes of data that a process may have then. It starts within them, but has no room for a large mailbox or script.
+LITTLE = 384 << 10
 
 BAD_SCRIPT = b"setup 1 1 1 1 bits\npush  0\n"
 GOOD_SCRIPT = b"setup 1 1 0 1 bits\n"
 RATIFIER = b"ratify unary 1\ninputs 0\nturns 0\n"
 RUN = ("run", "--producers", "1", "--consumers", "1", "--items", "2", "--pairs", "1")
+LARGE_RUN = ("run", "--producers", "16", "--consumers", "64", "--items", "16")
+LONGEST = GOOD_SCRIPT.ljust(1 << 20, b"#")
 
 
 @dataclasses.dataclass(frozen=True)
@@ -46,6 +51,7 @@ class Run:
     output: object = b""  # bytes that must be written, or the path of a device that stands for standard output
     error: object = b""
     stack: int = 0  # how large the stacks of its threads are to be, if not as ever
+    data: int = 0  # how many bytes of data it may have, if not as ever
 
 
 def text_of(literal):
@@ -77,6 +83,8 @@ def ends():
         Run("a ratifier of a directory", ("ratify",), 3, "/", b"", b"fault 9 ReadFault\n"),
         Run("a word that is no UTF-8", (b"replay", b"\xff"), 2, GOOD_SCRIPT),
         Run("no thread", RUN, 3, error=b"fault 3 NoThread\n", stack=TOO_LARGE),
+        Run("no memory for a mailbox", LARGE_RUN, 3, error=b"fault 2 NoMemory\n", data=LITTLE),
+        Run("no memory for a script", ("replay",), 3, LONGEST, error=b"fault 10 NoMemory\n", data=LITTLE),
     ]
 
 
@@ -88,8 +96,9 @@ def opened(stream, how):
 def differences(program, run):
     """What the program does otherwise than the run says, in words."""
     def limit():
-        if run.stack:
-            resource.setrlimit(resource.RLIMIT_STACK, (run.stack, resource.getrlimit(resource.RLIMIT_STACK)[1]))
+        for kind, size in ((resource.RLIMIT_STACK, run.stack), (resource.RLIMIT_DATA, run.data)):
+            if size:
+                resource.setrlimit(kind, (size, resource.getrlimit(kind)[1]))
 
     streams = [opened(run.input, os.O_RDONLY), opened(run.output, os.O_WRONLY), opened(run.error, os.O_WRONLY)]
     try:

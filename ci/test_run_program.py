@@ -51,6 +51,13 @@ class Differences(unittest.TestCase):
         run = Run("directory", (), 3, "/", b"", b"fault 11 ReadFault\n")
         self.assertEqual(self.told('read line 2>/dev/null || { echo "fault 11 ReadFault" >&2; exit 3; }', run), [])
 
+    def test_memory_that_is_refused(self):
+        run = Run("no memory", (), 3, error=b"fault 2 NoMemory\n", data=run_program.LITTLE)
+        right = 'test "$(ulimit -d)" = 384 && echo "fault 2 NoMemory" >&2; exit 3'
+        self.assertEqual(self.told(right, run), [])
+        self.assertEqual(self.told(right.replace("exit 3", "exit 2"), run), ["status 2, and not 3"])
+        self.assertEqual(self.told(right.replace("echo", "echo x; echo"), run), ["standard output b'x\\n', and not b''"])
+
 
 class Whole(unittest.TestCase):
     def test_each_example_is_read(self):
