@@ -1,0 +1,55 @@
+//! Jobs are closures. Four workers run them, each job once. A job that panics ends its worker alone: the others go on, and
+//! the report still comes.
+use hazbultra::Mailbox;
+use std::error::Error;
+use std::sync::atomic::{AtomicU64, Ordering};
+use std::thread;
+
+type Job = Box<dyn FnOnce() + Send>;
+
+const JOBS: u64 = 500;
+const BAD_JOB: u64 = 250;
+const WORKERS: u64 = 4;
+
+static SUM: AtomicU64 = AtomicU64::new(0);
+
+fn job(number: u64) -> Job {
+    Box::new(move || {
+        assert_ne!(number, BAD_JOB, "this is the bad job, as it should be");
+        SUM.fetch_add(number, Ordering::Relaxed);
+    })
+}
+
+fn main() -> Result<(), Box<dyn Error>> {
+    let mailbox = Mailbox::<Job>::builder()
+        .consumers(WORKERS)
+        .cells(JOBS)
+        .build()?;
+    let mut producer = mailbox.producer()?;
+    for number in 1..=JOBS {
+        producer.put(job(number))?;
+    }
+    producer.finish();
+
+    let consumers = (0..WORKERS)
+        .map(|_| mailbox.consumer())
+        .collect::<Result<Vec<_>, _>>()?;
+    let workers: Vec<_> = consumers
+        .into_iter()
+        .map(|mut consumer| {
+            thread::spawn(move || consumer.values(thread::yield_now).for_each(|job| job()))
+        })
+        .collect();
+    let panics = workers
+        .into_iter()
+        .map(thread::JoinHandle::join)
+        .filter(Result::is_err)
+        .count();
+
+    // What is left is run here: nobody else can have it.
+    mailbox.gather()?.into_left().for_each(|job| job());
+    assert_eq!(panics, 1);
+    assert_eq!(SUM.load(Ordering::Relaxed), JOBS * (JOBS + 1) / 2 - BAD_JOB);
+    println!("{JOBS} jobs ran, each once, and one of them panicked");
+    Ok(())
+}

@@ -1,0 +1,146 @@
+//! How a mailbox is built.
+use crate::errors::BuildError;
+use crate::ffi::{Carrier, Setup, BITS, MIDDLE, UNARY};
+use crate::mailbox::Mailbox;
+use crate::seeds;
+use std::fmt;
+
+/// The quorum table of a mailbox's ratifiers. All promises hold over each. They differ in what an item costs.
+#[derive(Clone, Copy, PartialEq, Eq, Hash, Debug, Default)]
+pub enum Table {
+    /// One register for each consumer.
+    Unary,
+    /// Two registers for each bit of a consumer's number. This one is taken if you name none.
+    #[default]
+    Bits,
+    /// The fewest registers that can do. Take it for more than four consumers.
+    Middle,
+}
+
+/// What stands in each cell.
+#[derive(Clone, Copy, PartialEq, Eq, Hash, Debug, Default)]
+pub enum Shape {
+    /// Pairs of a conciliator and a ratifier alone, which load and store. A poll may be undecided.
+    Plain,
+    /// Two ratifiers before the pairs: a consumer that comes alone makes fewer accesses.
+    Fast,
+    /// An object after the pairs, which makes one compare-exchange: no poll is undecided.
+    Last,
+    /// Both. This one is taken if you name none.
+    #[default]
+    FastLast,
+}
+
+/// How large a mailbox is to be. [`Mailbox::builder`] and [`Mailbox::numbers`] make one, and [`build`](Builder::build) may
+/// be called again and again, as for a mailbox in each round.
+pub struct Builder<T> {
+    carrier: Carrier<T>,
+    producers: u64,
+    consumers: u64,
+    cells: u64,
+    pairs: u64,
+    table: Table,
+    shape: Shape,
+    seed: Option<[u8; 32]>,
+}
+
+impl<T> Builder<T> {
+    pub(crate) fn new(carrier: Carrier<T>) -> Builder<T> {
+        Builder {
+            carrier,
+            producers: 1,
+            consumers: 1,
+            cells: 256,
+            pairs: 4,
+            table: Table::default(),
+            shape: Shape::default(),
+            seed: None,
+        }
+    }
+
+    /// So many producers, 1 to 16. Each has a lane of its own. If you name none, it is 1.
+    #[must_use]
+    pub fn producers(self, producers: u64) -> Self {
+        Builder { producers, ..self }
+    }
+
+    /// So many consumers, 1 to 64. If you name none, it is 1.
+    #[must_use]
+    pub fn consumers(self, consumers: u64) -> Self {
+        Builder { consumers, ..self }
+    }
+
+    /// So many cells, 0 to 2^24. Each takes one item, and none is used again. If you name none, it is 256.
+    ///
+    /// Memory grows with it: some 16 bytes for each cell and consumer and lane, and the words of each cell.
+    #[must_use]
+    pub fn cells(self, cells: u64) -> Self {
+        Builder { cells, ..self }
+    }
+
+    /// So many pairs of deciding objects in each cell, 1 to 8. If you name none, it is 4.
+    #[must_use]
+    pub fn pairs(self, pairs: u64) -> Self {
+        Builder { pairs, ..self }
+    }
+
+    /// This quorum table.
+    #[must_use]
+    pub fn table(self, table: Table) -> Self {
+        Builder { table, ..self }
+    }
+
+    /// This shape of each cell.
+    #[must_use]
+    pub fn shape(self, shape: Shape) -> Self {
+        Builder { shape, ..self }
+    }
+
+    /// This seed for the random words of all consumers, each of which draws from a stream of its own. So in one thread all
+    /// goes the same way once more. If you give none, each mailbox gets a seed of the system's, as hash maps do.
+    #[must_use]
+    pub fn seed(self, seed: [u8; 32]) -> Self {
+        Builder {
+            seed: Some(seed),
+            ..self
+        }
+    }
+}
+
+impl<T: Send> Builder<T> {
+    /// Builds a mailbox.
+    ///
+    /// # Errors
+    /// The first number that is out of range, or that there is not enough memory.
+    pub fn build(&self) -> Result<Mailbox<T>, BuildError> {
+        let setup = Setup {
+            producers: self.producers,
+            consumers: self.consumers,
+            cells: self.cells,
+            pairs: self.pairs,
+            table: match self.table {
+                Table::Unary => UNARY,
+                Table::Bits => BITS,
+                Table::Middle => MIDDLE,
+            },
+            fast: matches!(self.shape, Shape::Fast | Shape::FastLast),
+            last: matches!(self.shape, Shape::Last | Shape::FastLast),
+        };
+        let seed = self.seed.unwrap_or_else(seeds::from_system);
+        Mailbox::new(&setup, self.carrier, seed)
+    }
+}
+
+impl<T> fmt::Debug for Builder<T> {
+    fn fmt(&self, f: &mut fmt::Formatter<'_>) -> fmt::Result {
+        f.debug_struct("Builder")
+            .field("producers", &self.producers)
+            .field("consumers", &self.consumers)
+            .field("cells", &self.cells)
+            .field("pairs", &self.pairs)
+            .field("table", &self.table)
+            .field("shape", &self.shape)
+            .field("seed", &self.seed)
+            .finish_non_exhaustive()
+    }
+}

@@ -1,0 +1,214 @@
+//! A consumer.
+use crate::ffi;
+use crate::mailbox::Home;
+use std::fmt;
+use std::iter::FusedIterator;
+use std::sync::Arc;
+
+/// What a poll comes to.
+#[derive(Clone, Copy, PartialEq, Eq, Hash, Debug)]
+#[must_use = "a value that was taken is in it"]
+pub enum Poll<T> {
+    /// This consumer has won the item, and this is its value. Nobody else gets it.
+    Took(T),
+    /// No consumer but this other one can win the item. It may not have won it yet.
+    Lost(u32),
+    /// This consumer does not know who has won the item, if anybody has. It comes only from the shapes
+    /// [`Plain`](crate::Shape::Plain) and [`Fast`](crate::Shape::Fast).
+    Undecided,
+    /// There is no further item on the lane, so far.
+    Nothing,
+    /// No further item comes on this lane.
+    Ended,
+    /// The budget was used up. The next poll of the lane goes on from there.
+    Spent,
+    /// The mailbox has no such lane.
+    NoLane,
+}
+
+impl<T> Poll<T> {
+    /// The value that was taken, if one was.
+    pub fn taken(self) -> Option<T> {
+        match self {
+            Poll::Took(value) => Some(value),
+            _ => None,
+        }
+    }
+}
+
+/// What going over all lanes comes to.
+#[derive(Clone, Copy, PartialEq, Eq, Hash, Debug)]
+#[must_use = "a value that was taken is in it"]
+pub enum Sweep<T> {
+    /// This consumer took this value.
+    Took(T),
+    /// Each lane had nothing further, so far, or has ended. At least one has not ended.
+    Nothing,
+    /// All lanes have ended, and this consumer was at the end of each.
+    Ended,
+}
+
+/// A consumer, which competes for the items of all lanes. [`Mailbox::consumer`](crate::Mailbox::consumer) gives it.
+///
+/// When it is dropped, also by a panic, it goes home to its mailbox. It may go to another thread, but no two threads share
+/// it, and it is not `Clone`.
+///
+/// An item that a consumer has begun to compete for may be left if it is dropped before the end. No other consumer gets it
+/// then, if this one had won it. The report has such an item.
+pub struct Consumer<T> {
+    number: u32,
+    next: u32,
+    /// Bit `lane` is set if the end of that lane was met. There are at most 16.
+    ended: u16,
+    part: ffi::Consumer<T>,
+    home: Arc<Home<T>>,
+}
+
+impl<T> Consumer<T> {
+    pub(crate) fn new(number: u32, part: ffi::Consumer<T>, home: Arc<Home<T>>) -> Consumer<T> {
+        Consumer {
+            number,
+            next: 0,
+            ended: 0,
+            part,
+            home,
+        }
+    }
+
+    /// Its number, from 0 on, by which others name it in [`Poll::Lost`].
+    pub fn number(&self) -> u32 {
+        self.number
+    }
+
+    /// Competes for the next item of a lane, up to the end. It makes a bounded number of accesses, waits for nobody and is
+    /// never [`Poll::Spent`].
+    ///
+    /// ```
+    /// # fn main() -> Result<(), Box<dyn std::error::Error>> {
+    /// use hazbultra::{Mailbox, Poll};
+    ///
+    /// let mailbox = Mailbox::builder().consumers(2).build()?;
+    /// let mut producer = mailbox.producer()?;
+    /// let (mut one, mut two) = (mailbox.consumer()?, mailbox.consumer()?);
+    /// producer.put("work")?;
+    /// producer.finish();
+    ///
+    /// assert_eq!(one.poll(0), Poll::Took("work"));
+    /// assert_eq!(two.poll(0), Poll::Lost(0));
+    /// assert_eq!(two.poll(0), Poll::Ended);
+    /// assert_eq!(two.poll(1), Poll::NoLane);
+    /// # Ok(())
+    /// # }
+    /// ```
+    pub fn poll(&mut self, lane: u32) -> Poll<T> {
+        self.poll_within(lane, u64::MAX)
+    }
+
+    /// The same with at most so many accesses (each a load, store or exchange of one word). After [`Poll::Spent`] the next
+    /// poll of the lane goes on.
+    pub fn poll_within(&mut self, lane: u32, budget: u64) -> Poll<T> {
+        let polled = self.part.poll(u64::from(lane), budget);
+        if let Poll::Ended = polled {
+            self.ended |= 1 << lane;
+        }
+        polled
+    }
+
+    /// Goes over the lanes until it takes an item, or finds nothing on any of them. It never blocks, and does not wait.
+    ///
+    /// It passes items that it loses, and takes the lanes in turn, so that none is kept from its turn by another.
+    pub fn sweep(&mut self) -> Sweep<T> {
+        let lanes = self.home.lanes;
+        let mut quiet = 0;
+        while quiet < lanes {
+            let lane = self.next;
+            self.next = (lane + 1) % lanes;
+            if self.ended & (1 << lane) != 0 {
+                quiet += 1;
+                continue;
+            }
+            match self.poll(lane) {
+                Poll::Took(value) => return Sweep::Took(value),
+                Poll::Nothing | Poll::Ended | Poll::NoLane => quiet += 1,
+                Poll::Lost(_) | Poll::Undecided | Poll::Spent => quiet = 0,
+            }
+        }
+        if self.ended.count_ones() == lanes {
+            Sweep::Ended
+        } else {
+            Sweep::Nothing
+        }
+    }
+
+    /// Iterates over the values that it takes, until all lanes have ended. Each time it finds nothing on any lane it calls
+    /// `idle`, and then looks again.
+    ///
+    /// It never sleeps by itself: that is what `idle` is for. [`std::thread::yield_now`] lets other threads go on. It ends
+    /// only if all lanes end: see [`Mailbox::end_free_lanes`](crate::Mailbox::end_free_lanes).
+    ///
+    /// ```
+    /// # fn main() -> Result<(), Box<dyn std::error::Error>> {
+    /// use std::thread;
+    ///
+    /// let mailbox = hazbultra::Mailbox::builder().build()?;
+    /// let (mut producer, mut consumer) = (mailbox.producer()?, mailbox.consumer()?);
+    /// let sum: u32 = thread::scope(|scope| {
+    ///     scope.spawn(move || (1..=4).for_each(|n| producer.put(n).unwrap()));
+    ///     consumer.values(thread::yield_now).sum()
+    /// });
+    /// assert_eq!(sum, 10);
+    /// # Ok(())
+    /// # }
+    /// ```
+    pub fn values<F: FnMut()>(&mut self, idle: F) -> Values<'_, T, F> {
+        Values {
+            consumer: self,
+            idle,
+        }
+    }
+}
+
+impl<T> Drop for Consumer<T> {
+    fn drop(&mut self) {
+        self.home.desk().hub.take_consumer(&mut self.part);
+    }
+}
+
+impl<T> fmt::Debug for Consumer<T> {
+    fn fmt(&self, f: &mut fmt::Formatter<'_>) -> fmt::Result {
+        f.debug_struct("Consumer")
+            .field("number", &self.number)
+            .finish_non_exhaustive()
+    }
+}
+
+/// The values that a consumer takes. [`Consumer::values`] makes it.
+#[must_use = "it does nothing until it is iterated over"]
+pub struct Values<'a, T, F> {
+    consumer: &'a mut Consumer<T>,
+    idle: F,
+}
+
+impl<T, F: FnMut()> Iterator for Values<'_, T, F> {
+    type Item = T;
+
+    fn next(&mut self) -> Option<T> {
+        loop {
+            match self.consumer.sweep() {
+                Sweep::Took(value) => return Some(value),
+                Sweep::Nothing => (self.idle)(),
+                Sweep::Ended => return None,
+            }
+        }
+    }
+}
+
+impl<T, F: FnMut()> FusedIterator for Values<'_, T, F> {}
+
+impl<T, F> fmt::Debug for Values<'_, T, F> {
+    fn fmt(&self, f: &mut fmt::Formatter<'_>) -> fmt::Result {
+        f.debug_struct("Values")
+            .field("consumer", &self.consumer)
+            .finish_non_exhaustive()
+    }
+}

@@ -1,0 +1,127 @@
+//! What can go wrong.
+use crate::mailbox::Mailbox;
+use std::error::Error;
+use std::fmt;
+
+/// Why no mailbox was built. If several numbers are out of range, it is the first of them in this order.
+#[derive(Clone, Copy, PartialEq, Eq, Hash, Debug)]
+pub enum BuildError {
+    /// The number of producers is not 1 to 16.
+    BadProducers,
+    /// The number of consumers is not 1 to 64.
+    BadConsumers,
+    /// There are more than 2^24 cells.
+    BadCells,
+    /// The number of pairs is not 1 to 8.
+    BadPairs,
+    /// There is not enough memory.
+    NoMemory,
+}
+
+impl fmt::Display for BuildError {
+    fn fmt(&self, f: &mut fmt::Formatter<'_>) -> fmt::Result {
+        f.write_str(match self {
+            BuildError::BadProducers => "the number of producers is not 1 to 16",
+            BuildError::BadConsumers => "the number of consumers is not 1 to 64",
+            BuildError::BadCells => "the number of cells is above 2^24",
+            BuildError::BadPairs => "the number of pairs is not 1 to 8",
+            BuildError::NoMemory => "there is not enough memory for the mailbox",
+        })
+    }
+}
+
+impl Error for BuildError {}
+
+/// Why no producer or consumer was given.
+#[derive(Clone, Copy, PartialEq, Eq, Hash, Debug)]
+pub enum IssueError {
+    /// As many as the mailbox was built for were given. A number is given once, also if its part went home.
+    AllGiven,
+    /// There is not enough memory.
+    NoMemory,
+}
+
+impl fmt::Display for IssueError {
+    fn fmt(&self, f: &mut fmt::Formatter<'_>) -> fmt::Result {
+        f.write_str(match self {
+            IssueError::AllGiven => "all numbers of the mailbox were given",
+            IssueError::NoMemory => "there is not enough memory for the part",
+        })
+    }
+}
+
+impl Error for IssueError {}
+
+/// No cell is left for a value, nor will be. This is the value.
+#[derive(Clone, Copy, PartialEq, Eq, Hash)]
+pub struct Full<T>(pub T);
+
+impl<T> fmt::Debug for Full<T> {
+    fn fmt(&self, f: &mut fmt::Formatter<'_>) -> fmt::Result {
+        f.write_str("Full(..)")
+    }
+}
+
+impl<T> fmt::Display for Full<T> {
+    fn fmt(&self, f: &mut fmt::Formatter<'_>) -> fmt::Result {
+        f.write_str("the mailbox has no cell left")
+    }
+}
+
+impl<T> Error for Full<T> {}
+
+/// Why there is no report. The mailbox is in it, as it was.
+pub enum GatherError<T> {
+    /// Some parts are not home: a producer or a consumer is still alive, or was forgotten.
+    Missing {
+        /// So many producers are out.
+        producers: u32,
+        /// So many consumers are out.
+        consumers: u32,
+        /// The mailbox, as it was.
+        mailbox: Mailbox<T>,
+    },
+    /// There is not enough memory for the report.
+    NoMemory(Mailbox<T>),
+}
+
+impl<T> GatherError<T> {
+    /// The mailbox, as it was.
+    pub fn into_mailbox(self) -> Mailbox<T> {
+        match self {
+            GatherError::Missing { mailbox, .. } | GatherError::NoMemory(mailbox) => mailbox,
+        }
+    }
+}
+
+impl<T> fmt::Debug for GatherError<T> {
+    fn fmt(&self, f: &mut fmt::Formatter<'_>) -> fmt::Result {
+        match self {
+            GatherError::Missing {
+                producers,
+                consumers,
+                ..
+            } => f
+                .debug_struct("Missing")
+                .field("producers", producers)
+                .field("consumers", consumers)
+                .finish_non_exhaustive(),
+            GatherError::NoMemory(_) => f.write_str("NoMemory(..)"),
+        }
+    }
+}
+
+impl<T> fmt::Display for GatherError<T> {
+    fn fmt(&self, f: &mut fmt::Formatter<'_>) -> fmt::Result {
+        match self {
+            GatherError::Missing {
+                producers,
+                consumers,
+                ..
+            } => write!(f, "{producers} producers and {consumers} consumers are out"),
+            GatherError::NoMemory(_) => f.write_str("there is not enough memory for the report"),
+        }
+    }
+}
+
+impl<T> Error for GatherError<T> {}

@@ -1,0 +1,117 @@
+//! The calls of the archive, as `bindings/c/hazbultra.h` declares them. CI compares the two, name by name.
+use super::handle::Handle;
+
+/// How large a mailbox is.
+#[repr(C)]
+pub(crate) struct Setup {
+    pub(crate) producers: u64,
+    pub(crate) consumers: u64,
+    pub(crate) cells: u64,
+    pub(crate) pairs: u64,
+    pub(crate) table: u32,
+    pub(crate) fast: bool,
+    pub(crate) last: bool,
+}
+
+/// Of one lane of a report.
+#[repr(C)]
+#[derive(Default)]
+pub(super) struct Lane {
+    pub(super) put: u64,
+    pub(super) left: u64,
+    pub(super) ended: bool,
+}
+
+/// Of one consumer on one lane.
+#[repr(C)]
+#[derive(Default)]
+pub(super) struct Diary {
+    pub(super) notes: u64,
+    pub(super) begun: bool,
+}
+
+/// The end of a claim.
+#[repr(C)]
+#[derive(Clone, Copy, Default)]
+pub(super) struct Note {
+    pub(super) value: u64,
+    pub(super) kind: u32,
+}
+
+/// How many parts are out.
+#[repr(C)]
+#[derive(Default)]
+pub(super) struct Missing {
+    pub(super) producers: u32,
+    pub(super) consumers: u32,
+}
+
+pub(super) const DONE: u32 = 0;
+pub(super) const TOOK: u32 = 1;
+pub(super) const LOST: u32 = 2;
+pub(super) const UNDECIDED: u32 = 3;
+pub(super) const NOTHING: u32 = 4;
+pub(super) const ENDED: u32 = 5;
+pub(super) const SPENT: u32 = 6;
+pub(super) const NO_LANE: u32 = 7;
+pub(super) const LINKED: u32 = 8;
+pub(super) const FULL: u32 = 9;
+pub(super) const NO_MEMORY: u32 = 16;
+pub(super) const ALL_GIVEN: u32 = 18;
+pub(super) const MISSING: u32 = 19;
+pub(super) const BAD_PRODUCERS: u32 = 33;
+pub(super) const BAD_CONSUMERS: u32 = 34;
+pub(super) const BAD_CELLS: u32 = 35;
+pub(super) const BAD_PAIRS: u32 = 36;
+
+pub(crate) const UNARY: u32 = 0;
+pub(crate) const BITS: u32 = 1;
+pub(crate) const MIDDLE: u32 = 2;
+
+unsafe extern "C" {
+    pub(super) fn hz_mailbox_new(id: u64, setup: &Setup, hub: &mut Handle) -> u32;
+    pub(super) fn hz_producer_new(hub: &mut Handle, producer: &mut Handle) -> u32;
+    pub(super) fn hz_consumer_new(
+        hub: &mut Handle,
+        seed: &[u8; 32],
+        stream: u64,
+        consumer: &mut Handle,
+    ) -> u32;
+    pub(super) fn hz_put(producer: &mut Handle, item: u64) -> u32;
+    pub(super) fn hz_finish(producer: &mut Handle) -> u32;
+    pub(super) fn hz_poll(consumer: &mut Handle, lane: u64, budget: u64, value: &mut u64) -> u32;
+    pub(super) fn hz_take_back(hub: &mut Handle, part: &mut Handle) -> u32;
+    pub(super) fn hz_gather(hub: &mut Handle, report: &mut Handle, missing: &mut Missing) -> u32;
+    pub(super) fn hz_report_size(report: &mut Handle, lanes: &mut u64, consumers: &mut u64) -> u32;
+    pub(super) fn hz_report_lane(report: &mut Handle, lane: u64, out: &mut Lane) -> u32;
+    pub(super) fn hz_report_diary(
+        report: &mut Handle,
+        consumer: u64,
+        lane: u64,
+        out: &mut Diary,
+    ) -> u32;
+    pub(super) fn hz_report_items(
+        report: &mut Handle,
+        lane: u64,
+        left: bool,
+        from: u64,
+        items: *mut u64,
+        room: usize,
+        copied: &mut u64,
+    ) -> u32;
+    pub(super) fn hz_report_notes(
+        report: &mut Handle,
+        consumer: u64,
+        lane: u64,
+        from: u64,
+        notes: *mut Note,
+        room: usize,
+        copied: &mut u64,
+    ) -> u32;
+    pub(super) fn hz_free(handle: &mut Handle);
+}
+
+/// For an answer that `hazbultra.h` excludes at this call.
+pub(super) fn excluded(call: &str, answer: u32) -> ! {
+    unreachable!("{call} returned {answer}, which its header excludes here")
+}

@@ -1,0 +1,58 @@
+//! How a value goes through a mailbox, whose items are words of 64 bits.
+use std::ptr;
+
+const _: () = assert!(size_of::<usize>() == size_of::<u64>());
+
+/// A way to make a word of a value, which then belongs to whoever has the word, and the value of the word again.
+pub(crate) struct Carrier<T> {
+    pack: fn(T) -> u64,
+    unpack: unsafe fn(u64) -> T,
+}
+
+impl<T> Clone for Carrier<T> {
+    fn clone(&self) -> Self {
+        *self
+    }
+}
+
+impl<T> Copy for Carrier<T> {}
+
+impl<T> Carrier<T> {
+    /// Each value is put into a box of its own, and the word is the box's address.
+    pub(crate) const BOXED: Carrier<T> = Carrier {
+        pack: |value| Box::into_raw(Box::new(value)).expose_provenance() as u64,
+        unpack: unboxed,
+    };
+
+    /// The word of a value.
+    pub(super) fn pack(self, value: T) -> u64 {
+        (self.pack)(value)
+    }
+
+    /// The value of a word.
+    ///
+    /// # Safety
+    /// A call of `pack` of this carrier made the word, and no other call of `unpack` gets what that call made.
+    pub(super) unsafe fn unpack(self, word: u64) -> T {
+        // SAFETY: the caller's promise.
+        unsafe { (self.unpack)(word) }
+    }
+}
+
+impl Carrier<u64> {
+    /// A number is its own word. Nothing is boxed.
+    pub(crate) const NUMBER: Carrier<u64> = Carrier {
+        pack: |number| number,
+        unpack: |word| word,
+    };
+}
+
+/// The value of the box at this address.
+///
+/// # Safety
+/// The word is the address of a box of a `T`, and the caller owns the box.
+unsafe fn unboxed<T>(word: u64) -> T {
+    let at: *mut T = ptr::with_exposed_provenance_mut(word as usize);
+    // SAFETY: the caller's promise. The address was exposed when the word was made.
+    *unsafe { Box::from_raw(at) }
+}

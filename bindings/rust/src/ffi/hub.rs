@@ -1,0 +1,130 @@
+//! A hub of the archive, with its mailbox.
+use super::calls::{self, excluded, hz_consumer_new, hz_gather, hz_mailbox_new};
+use super::calls::{hz_producer_new, hz_take_back, Missing, Setup};
+use super::carrier::Carrier;
+use super::handle::Handle;
+use super::parts::{Consumer, Producer};
+use super::report::read_report;
+use crate::errors::{BuildError, IssueError};
+use crate::report::Report;
+use std::cell::Cell;
+use std::marker::PhantomData;
+use std::sync::atomic::{AtomicU64, Ordering};
+
+/// The number of the next mailbox. No process makes 2^64 of them.
+static NUMBERS: AtomicU64 = AtomicU64::new(0);
+
+/// A mailbox with its hub. All its parts have the same carrier, so each item of it is a word that this carrier made.
+pub(crate) struct Hub<T> {
+    handle: Handle,
+    carrier: Carrier<T>,
+    values: PhantomData<Cell<T>>,
+}
+
+/// Why there is no report.
+pub(crate) enum Refusal {
+    /// So many producers and consumers are out.
+    Missing(u32, u32),
+    /// The report wants more memory than there is.
+    NoMemory,
+}
+
+impl<T> Hub<T> {
+    pub(crate) fn new(setup: &Setup, carrier: Carrier<T>) -> Result<Hub<T>, BuildError> {
+        let id = NUMBERS.fetch_add(1, Ordering::Relaxed);
+        let mut handle = Handle::empty();
+        // SAFETY: the rules of calls.
+        match unsafe { hz_mailbox_new(id, setup, &mut handle) } {
+            calls::DONE => Ok(Hub {
+                handle,
+                carrier,
+                values: PhantomData,
+            }),
+            calls::NO_MEMORY => Err(BuildError::NoMemory),
+            calls::BAD_PRODUCERS => Err(BuildError::BadProducers),
+            calls::BAD_CONSUMERS => Err(BuildError::BadConsumers),
+            calls::BAD_CELLS => Err(BuildError::BadCells),
+            calls::BAD_PAIRS => Err(BuildError::BadPairs),
+            other => excluded("hz_mailbox_new", other),
+        }
+    }
+
+    /// The producer of the next lane.
+    pub(crate) fn producer(&mut self) -> Result<Producer<T>, IssueError> {
+        let mut handle = Handle::empty();
+        // SAFETY: the rules of calls.
+        let answer = unsafe { hz_producer_new(&mut self.handle, &mut handle) };
+        issued("hz_producer_new", answer)?;
+        Ok(Producer {
+            handle,
+            carrier: self.carrier,
+            values: PhantomData,
+        })
+    }
+
+    /// The consumer of the next number, with the random words of this seed and stream.
+    pub(crate) fn consumer(
+        &mut self,
+        seed: &[u8; 32],
+        stream: u64,
+    ) -> Result<Consumer<T>, IssueError> {
+        let mut handle = Handle::empty();
+        // SAFETY: the rules of calls.
+        let answer = unsafe { hz_consumer_new(&mut self.handle, seed, stream, &mut handle) };
+        issued("hz_consumer_new", answer)?;
+        Ok(Consumer {
+            handle,
+            carrier: self.carrier,
+            values: PhantomData,
+        })
+    }
+
+    /// Takes a producer of this mailbox back.
+    pub(crate) fn take_producer(&mut self, producer: &mut Producer<T>) {
+        self.take_back(&mut producer.handle);
+    }
+
+    /// Takes a consumer of this mailbox back.
+    pub(crate) fn take_consumer(&mut self, consumer: &mut Consumer<T>) {
+        self.take_back(&mut consumer.handle);
+    }
+
+    fn take_back(&mut self, part: &mut Handle) {
+        // SAFETY: the rules of calls.
+        let answer = unsafe { hz_take_back(&mut self.handle, part) };
+        debug_assert_eq!(answer, calls::DONE, "a part comes back to its own hub");
+    }
+
+    /// Ends the mailbox and makes the report, with the values that are left. After that the hub leads to nothing.
+    pub(crate) fn gather(&mut self) -> Result<Report<T>, Refusal> {
+        let (mut report, mut missing) = (Handle::empty(), Missing::default());
+        // SAFETY: the rules of calls.
+        match unsafe { hz_gather(&mut self.handle, &mut report, &mut missing) } {
+            // SAFETY: all words of this mailbox are of its carrier, and it has ended now.
+            calls::DONE => Ok(unsafe { read_report(report, self.carrier) }),
+            calls::MISSING => Err(Refusal::Missing(missing.producers, missing.consumers)),
+            calls::NO_MEMORY => Err(Refusal::NoMemory),
+            other => excluded("hz_gather", other),
+        }
+    }
+}
+
+/// A mailbox that nobody gathered drops what is inside. If a part is out for ever, or there is no memory for the report, the
+/// values leak.
+impl<T> Drop for Hub<T> {
+    fn drop(&mut self) {
+        if self.handle.is_full() {
+            let _ = self.gather();
+        }
+    }
+}
+
+/// What an answer says that comes to a part being asked for.
+fn issued(call: &str, answer: u32) -> Result<(), IssueError> {
+    match answer {
+        calls::DONE => Ok(()),
+        calls::ALL_GIVEN => Err(IssueError::AllGiven),
+        calls::NO_MEMORY => Err(IssueError::NoMemory),
+        other => excluded(call, other),
+    }
+}

@@ -1,0 +1,63 @@
+//! A producer and a consumer of the archive.
+use super::calls::{self, excluded, hz_finish, hz_poll, hz_put};
+use super::carrier::Carrier;
+use super::handle::Handle;
+use crate::consumer::Poll;
+use std::cell::Cell;
+use std::marker::PhantomData;
+
+/// A producer, which turns values into items. The marker says that it stands for values of `T`: it is `Send` only if `T`
+/// is, it is never `Sync`, and no lifetime in `T` can be made shorter or longer.
+pub(crate) struct Producer<T> {
+    pub(super) handle: Handle,
+    pub(super) carrier: Carrier<T>,
+    pub(super) values: PhantomData<Cell<T>>,
+}
+
+/// A consumer, which turns the items that it takes into values again. The marker is that of a producer.
+pub(crate) struct Consumer<T> {
+    pub(super) handle: Handle,
+    pub(super) carrier: Carrier<T>,
+    pub(super) values: PhantomData<Cell<T>>,
+}
+
+impl<T> Producer<T> {
+    /// Puts a value, or gives it back if no cell is left for it.
+    pub(crate) fn put(&mut self, value: T) -> Result<(), T> {
+        let word = self.carrier.pack(value);
+        // SAFETY: the rules of calls.
+        match unsafe { hz_put(&mut self.handle, word) } {
+            calls::LINKED => Ok(()),
+            // SAFETY: ownership. After `Full` the item is in no lane, so the word is still ours alone.
+            calls::FULL => Err(unsafe { self.carrier.unpack(word) }),
+            // (`Closed` comes only after a finish, after which `crate::Producer` has no put)
+            other => excluded("hz_put", other),
+        }
+    }
+
+    /// Ends the lane.
+    pub(crate) fn finish(&mut self) {
+        // SAFETY: the rules of calls.
+        unsafe { hz_finish(&mut self.handle) };
+    }
+}
+
+impl<T> Consumer<T> {
+    /// Polls a lane.
+    pub(crate) fn poll(&mut self, lane: u64, budget: u64) -> Poll<T> {
+        let mut value = 0;
+        // SAFETY: the rules of calls.
+        match unsafe { hz_poll(&mut self.handle, lane, budget, &mut value) } {
+            // SAFETY: ownership. A producer of this mailbox, with this carrier, made the word of the item, and this
+            // consumer alone takes it, now.
+            calls::TOOK => Poll::Took(unsafe { self.carrier.unpack(value) }),
+            calls::LOST => Poll::Lost(value as u32),
+            calls::UNDECIDED => Poll::Undecided,
+            calls::NOTHING => Poll::Nothing,
+            calls::ENDED => Poll::Ended,
+            calls::SPENT => Poll::Spent,
+            calls::NO_LANE => Poll::NoLane,
+            other => excluded("hz_poll", other),
+        }
+    }
+}

@@ -1,0 +1,71 @@
+//! A mailbox for threads: each producer puts values into a lane of its own, all consumers compete for each value, and **at
+//! most one consumer takes it**. A report at the end says who took what, and gives back what is left. No put and no poll
+//! takes a lock or waits.
+//!
+//! The mailbox is written in Rattle, which is Rust with contracts, and proved for every run: every order of the threads'
+//! steps, and all random words. This crate links the archive that was built of it, and needs nothing else.
+//!
+//! ```
+//! use hazbultra::Mailbox;
+//! use std::thread;
+//!
+//! # fn main() -> Result<(), Box<dyn std::error::Error>> {
+//! let mailbox = Mailbox::builder().producers(1).consumers(2).build()?;
+//! let mut producer = mailbox.producer()?;
+//! let (mut one, mut two) = (mailbox.consumer()?, mailbox.consumer()?);
+//!
+//! let (ones, twos) = thread::scope(|scope| {
+//!     scope.spawn(move || (0..100).for_each(|n| producer.put(format!("letter {n}")).unwrap()));
+//!     let ones = scope.spawn(|| one.values(thread::yield_now).count());
+//!     let twos = scope.spawn(|| two.values(thread::yield_now).count());
+//!     (ones.join().unwrap(), twos.join().unwrap())
+//! });
+//! drop((one, two));
+//!
+//! let left = mailbox.gather()?.into_left().count();
+//! assert_eq!(ones + twos + left, 100);
+//! # Ok(())
+//! # }
+//! ```
+//!
+//! # Parts
+//!
+//! - [`Mailbox::builder`] takes values of any type that is [`Send`], each in a box of its own. [`Mailbox::numbers`] takes
+//!   `u64`, as they are.
+//! - A [`Producer`] puts values. It ends its lane and goes home when it is dropped, also by a panic.
+//! - A [`Consumer`] polls one lane, or goes over all of them. It goes home when it is dropped.
+//! - [`Mailbox::gather`] makes the [`Report`] after all parts are home.
+//!
+//! A mailbox takes as many items as it has cells, and uses none again. For a long-lived service build one in each round.
+//!
+//! # What is proved, and what the types add
+//!
+//! The archive is proved on condition that its caller keeps some rules. They stand at the head of
+//! `bindings/c/hazbultra.h`. The types of this crate keep them: a part has its mailbox with it, is in one thread at a time,
+//! is no `Clone`, and is gone after it was dropped. All `unsafe` code is in one module, and each block says why it is sound.
+//!
+//! That a value has one owner *is* the main theorem. A box goes through the mailbox as its address. Whoever is told that
+//! he took it owns it, and the report owns what nobody took. Were two consumers told that they took one item, it would be
+//! freed twice.
+//!
+//! Not promised: that each value is taken, that a consumer who took one does its work, and fairness.
+#![deny(missing_docs, unsafe_code, unsafe_op_in_unsafe_fn)]
+
+mod builder;
+mod consumer;
+mod errors;
+#[allow(unsafe_code)]
+mod ffi;
+mod mailbox;
+mod producer;
+#[cfg(doctest)]
+mod refused;
+mod report;
+mod seeds;
+
+pub use builder::{Builder, Shape, Table};
+pub use consumer::{Consumer, Poll, Sweep, Values};
+pub use errors::{BuildError, Full, GatherError, IssueError};
+pub use mailbox::Mailbox;
+pub use producer::Producer;
+pub use report::{Diary, LaneReport, Note, Report};

@@ -1,0 +1,169 @@
+//! A mailbox, and the home of its parts.
+use crate::builder::Builder;
+use crate::consumer::Consumer;
+use crate::errors::{BuildError, GatherError, IssueError};
+use crate::ffi::{self, Carrier, Refusal, Setup};
+use crate::producer::Producer;
+use crate::report::Report;
+use std::fmt;
+use std::sync::{Arc, Mutex, MutexGuard, PoisonError};
+
+/// A mailbox for values of `T`. It gives producers and consumers, and makes the report.
+///
+/// Each part has its mailbox with it. So no call takes a part and a mailbox, and none can be handed to another mailbox.
+///
+/// A mailbox that is dropped, and not gathered, drops what is left inside as soon as its last part is dropped too.
+pub struct Mailbox<T> {
+    home: Arc<Home<T>>,
+}
+
+/// The home of all parts of a mailbox. Only giving parts, taking them back and the report ask for its lock.
+pub(crate) struct Home<T> {
+    desk: Mutex<Desk<T>>,
+    seed: [u8; 32],
+    pub(crate) lanes: u32,
+}
+
+/// What the lock of a home guards.
+pub(crate) struct Desk<T> {
+    pub(crate) hub: ffi::Hub<T>,
+    producers: u32,
+    consumers: u32,
+}
+
+impl<T> Home<T> {
+    /// The desk, as soon as nobody else is at it. Whoever panicked there left it as it was between two calls.
+    pub(crate) fn desk(&self) -> MutexGuard<'_, Desk<T>> {
+        self.desk.lock().unwrap_or_else(PoisonError::into_inner)
+    }
+}
+
+impl<T: Send> Mailbox<T> {
+    /// Begins a mailbox for values of any type that may go from thread to thread. Each value is put in a box of its own.
+    ///
+    /// ```
+    /// # fn main() -> Result<(), Box<dyn std::error::Error>> {
+    /// let mailbox = hazbultra::Mailbox::builder().cells(10).build()?;
+    /// let (mut producer, mut consumer) = (mailbox.producer()?, mailbox.consumer()?);
+    /// producer.put(String::from("a letter"))?;
+    /// assert_eq!(consumer.poll(0).taken().as_deref(), Some("a letter"));
+    /// # Ok(())
+    /// # }
+    /// ```
+    pub fn builder() -> Builder<T> {
+        Builder::new(Carrier::BOXED)
+    }
+}
+
+impl Mailbox<u64> {
+    /// Begins a mailbox for numbers, which are put as they are: nothing is boxed, and a put takes no memory.
+    ///
+    /// ```
+    /// # fn main() -> Result<(), Box<dyn std::error::Error>> {
+    /// let mailbox = hazbultra::Mailbox::numbers().build()?;
+    /// let (mut producer, mut consumer) = (mailbox.producer()?, mailbox.consumer()?);
+    /// producer.put(7)?;
+    /// assert_eq!(consumer.poll(0).taken(), Some(7));
+    /// # Ok(())
+    /// # }
+    /// ```
+    pub fn numbers() -> Builder<u64> {
+        Builder::new(Carrier::NUMBER)
+    }
+}
+
+impl<T> Mailbox<T> {
+    pub(crate) fn new(
+        setup: &Setup,
+        carrier: Carrier<T>,
+        seed: [u8; 32],
+    ) -> Result<Mailbox<T>, BuildError> {
+        let desk = Mutex::new(Desk {
+            hub: ffi::Hub::new(setup, carrier)?,
+            producers: 0,
+            consumers: 0,
+        });
+        let lanes = setup.producers as u32;
+        Ok(Mailbox {
+            home: Arc::new(Home { desk, seed, lanes }),
+        })
+    }
+
+    /// The producer of the next lane. Lanes are given in order, from 0 on.
+    ///
+    /// # Errors
+    /// All lanes were given, or there is not enough memory.
+    pub fn producer(&self) -> Result<Producer<T>, IssueError> {
+        let mut desk = self.home.desk();
+        let part = desk.hub.producer()?;
+        let lane = desk.producers;
+        desk.producers += 1;
+        Ok(Producer::new(lane, part, Arc::clone(&self.home)))
+    }
+
+    /// The consumer of the next number. Numbers are given in order, from 0 on.
+    ///
+    /// # Errors
+    /// All numbers were given, or there is not enough memory.
+    pub fn consumer(&self) -> Result<Consumer<T>, IssueError> {
+        let mut desk = self.home.desk();
+        let number = desk.consumers;
+        let part = desk.hub.consumer(&self.home.seed, u64::from(number))?;
+        desk.consumers += 1;
+        Ok(Consumer::new(number, part, Arc::clone(&self.home)))
+    }
+
+    /// Ends each lane whose producer was not given yet. A consumer that goes over all lanes comes to an end only after
+    /// that, or after all producers were given.
+    ///
+    /// # Errors
+    /// There is not enough memory. Then some of these lanes have not ended.
+    pub fn end_free_lanes(&self) -> Result<(), IssueError> {
+        loop {
+            match self.producer() {
+                Ok(producer) => producer.finish(),
+                Err(IssueError::AllGiven) => return Ok(()),
+                Err(why) => return Err(why),
+            }
+        }
+    }
+
+    /// Ends the mailbox and makes the report, which has the values that nobody took.
+    ///
+    /// ```
+    /// # fn main() -> Result<(), Box<dyn std::error::Error>> {
+    /// let mailbox = hazbultra::Mailbox::builder().build()?;
+    /// let mut producer = mailbox.producer()?;
+    /// producer.put("nobody comes for it")?;
+    ///
+    /// let error = mailbox.gather().expect_err("the producer is out");
+    /// assert_eq!(error.to_string(), "1 producers and 0 consumers are out");
+    /// let mailbox = error.into_mailbox();
+    ///
+    /// drop(producer);
+    /// let report = mailbox.gather()?;
+    /// assert_eq!(report.lanes[0].left, ["nobody comes for it"]);
+    /// # Ok(())
+    /// # }
+    /// ```
+    ///
+    /// # Errors
+    /// A producer or a consumer is still alive, or there is not enough memory. The mailbox is in the error.
+    pub fn gather(self) -> Result<Report<T>, GatherError<T>> {
+        let gathered = self.home.desk().hub.gather();
+        gathered.map_err(|why| match why {
+            Refusal::Missing(producers, consumers) => GatherError::Missing {
+                producers,
+                consumers,
+                mailbox: self,
+            },
+            Refusal::NoMemory => GatherError::NoMemory(self),
+        })
+    }
+}
+
+impl<T> fmt::Debug for Mailbox<T> {
+    fn fmt(&self, f: &mut fmt::Formatter<'_>) -> fmt::Result {
+        f.debug_struct("Mailbox").finish_non_exhaustive()
+    }
+}

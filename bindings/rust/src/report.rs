@@ -1,0 +1,74 @@
+//! What a mailbox reports at its end.
+
+/// What became of all items of a mailbox.
+///
+/// The main theorem is about this report. One assignment explains it: each item goes to at most one consumer, who took it,
+/// and each item that nobody took is left.
+#[derive(Clone, PartialEq, Eq, Hash, Debug)]
+pub struct Report<T> {
+    /// One for each lane, in their order.
+    pub lanes: Vec<LaneReport<T>>,
+    /// One for each consumer and lane, by consumers, and for each by lanes.
+    pub diaries: Vec<Diary>,
+}
+
+/// What became of one lane.
+#[derive(Clone, PartialEq, Eq, Hash, Debug)]
+pub struct LaneReport<T> {
+    /// How many items were put.
+    pub put: usize,
+    /// Whether its producer was given, and has ended it.
+    pub ended: bool,
+    /// The values that nobody took, in the order put. They are yours: nobody can take them any more.
+    pub left: Vec<T>,
+}
+
+/// The notes of one consumer on one lane.
+#[derive(Clone, PartialEq, Eq, Hash, Debug)]
+pub struct Diary {
+    /// The consumer's number, from 0 on.
+    pub consumer: u32,
+    /// The lane, from 0 on.
+    pub lane: u32,
+    /// Its notes, the first on the first item put there, and so on.
+    pub notes: Vec<Note>,
+    /// Whether it had begun to compete for the next item, on which it has no note.
+    pub begun: bool,
+}
+
+/// How a consumer's attempt at an item ended.
+#[derive(Clone, Copy, PartialEq, Eq, Hash, Debug)]
+pub enum Note {
+    /// It took the item.
+    Took,
+    /// No consumer but this other one can have won the item.
+    Lost(u32),
+    /// It does not know who won the item, if anybody has.
+    Undecided,
+}
+
+impl<T> Report<T> {
+    /// The diary of this consumer on this lane, if the mailbox has both.
+    pub fn diary(&self, consumer: u32, lane: u32) -> Option<&Diary> {
+        self.diaries
+            .iter()
+            .find(|diary| diary.consumer == consumer && diary.lane == lane)
+    }
+
+    /// The consumer that took the item at this place of the lane, from 0 on. It is `None` for an item that is left, and if
+    /// there is no such lane or place.
+    ///
+    /// The places of a lane for which it is `None` are those of its values in `left`, in the same order.
+    pub fn taker(&self, lane: u32, place: usize) -> Option<u32> {
+        self.diaries
+            .iter()
+            .filter(|diary| diary.lane == lane)
+            .find(|diary| diary.notes.get(place) == Some(&Note::Took))
+            .map(|diary| diary.consumer)
+    }
+
+    /// All values that nobody took: those of lane 0 first, each lane's in the order put.
+    pub fn into_left(self) -> impl Iterator<Item = T> {
+        self.lanes.into_iter().flat_map(|lane| lane.left)
+    }
+}

@@ -1,0 +1,16 @@
+//! Where the random words of consumers come from.
+use std::collections::hash_map::RandomState;
+use std::hash::{BuildHasher, Hasher};
+
+/// A seed of the system's: that of the hash maps of the standard library, which never fails and opens no file. It is not
+/// meant to be secret. A seed decides who wins what, and no promise rests on it.
+pub(crate) fn from_system() -> [u8; 32] {
+    let mut seed = [0; 32];
+    let state = RandomState::new();
+    for (place, word) in seed.chunks_exact_mut(8).enumerate() {
+        let mut hasher = state.build_hasher();
+        hasher.write_usize(place);
+        word.copy_from_slice(&hasher.finish().to_le_bytes());
+    }
+    seed
+}
