@@ -92,7 +92,7 @@
 //!
 //! Values that may not go from thread to thread:
 //!
-//! ```compile_fail,E0277
+//! ```compile_fail,E0599
 //! use hazbultra::Mailbox;
 //! use std::rc::Rc;
 //!

@@ -14,3 +14,11 @@ pub(crate) fn from_system() -> [u8; 32] {
     }
     seed
 }
+
+#[cfg(test)]
+mod tests {
+    #[test]
+    fn seeds_differ() {
+        assert_ne!(super::from_system(), super::from_system());
+    }
+}

@@ -1,0 +1,138 @@
+//! Parts go home by themselves, and the report waits for them.
+use hazbultra::{BuildError, GatherError, IssueError, Mailbox, Poll, Sweep};
+use std::mem;
+use std::thread;
+
+#[test]
+fn a_report_waits_for_all_parts() {
+    let mailbox = Mailbox::builder()
+        .producers(2)
+        .consumers(2)
+        .build()
+        .unwrap();
+    let mut one = mailbox.producer().unwrap();
+    let (two, consumer) = (mailbox.producer().unwrap(), mailbox.consumer().unwrap());
+    one.put('a').unwrap();
+    let Err(GatherError::Missing {
+        producers: 2,
+        consumers: 1,
+        mailbox,
+    }) = mailbox.gather()
+    else {
+        panic!("three parts are out")
+    };
+    drop(two);
+    let Err(GatherError::Missing {
+        producers: 1,
+        consumers: 1,
+        mailbox,
+    }) = mailbox.gather()
+    else {
+        panic!("two parts are out")
+    };
+    // The mailbox is as it was: the item is there, and parts are given.
+    drop(consumer);
+    let mut consumer = mailbox.consumer().unwrap();
+    assert_eq!(consumer.number(), 1);
+    assert_eq!(consumer.poll(0), Poll::Took('a'));
+    drop((one, consumer));
+    assert!(mailbox.gather().is_ok());
+}
+
+#[test]
+fn a_part_that_is_forgotten_stays_missing() {
+    let mailbox = Mailbox::<u8>::builder().build().unwrap();
+    mem::forget(mailbox.consumer().unwrap());
+    let why = mailbox.gather().unwrap_err();
+    assert_eq!(why.to_string(), "0 producers and 1 consumers are out");
+    assert_eq!(
+        format!("{why:?}"),
+        "Missing { producers: 0, consumers: 1, .. }"
+    );
+}
+
+#[test]
+fn a_worker_that_panics_is_no_missing_part() {
+    let mailbox = Mailbox::numbers().consumers(2).build().unwrap();
+    let mut producer = mailbox.producer().unwrap();
+    let mut consumers = [mailbox.consumer().unwrap(), mailbox.consumer().unwrap()];
+    let put = thread::spawn(move || {
+        producer.put(1).unwrap();
+        producer.put(2).unwrap();
+        panic!("after two puts, as it should")
+    });
+    assert!(put.join().is_err());
+    let [mut bad, good] = consumers.each_mut().map(|it| it.values(thread::yield_now));
+    assert_eq!(bad.next(), Some(1));
+    // Its lane has ended, so this comes to an end.
+    assert_eq!(good.collect::<Vec<_>>(), [2]);
+    let [bad, good] = consumers;
+    assert!(thread::spawn(move || {
+        let _held = bad;
+        panic!("with a consumer, as it should")
+    })
+    .join()
+    .is_err());
+    drop(good);
+    let report = mailbox.gather().unwrap();
+    assert_eq!((report.lanes[0].put, report.lanes[0].ended), (2, true));
+}
+
+#[test]
+fn each_number_is_given_once() {
+    let mailbox = Mailbox::<u8>::builder()
+        .producers(2)
+        .consumers(2)
+        .build()
+        .unwrap();
+    assert_eq!(mailbox.producer().unwrap().lane(), 0);
+    assert_eq!(mailbox.producer().unwrap().lane(), 1);
+    assert_eq!(mailbox.producer().unwrap_err(), IssueError::AllGiven);
+    assert_eq!(mailbox.consumer().unwrap().number(), 0);
+    assert_eq!(mailbox.consumer().unwrap().number(), 1);
+    assert_eq!(mailbox.consumer().unwrap_err(), IssueError::AllGiven);
+}
+
+#[test]
+fn lanes_that_nobody_asked_for_can_be_ended() {
+    let mailbox = Mailbox::<u8>::builder().producers(3).build().unwrap();
+    let mut consumer = mailbox.consumer().unwrap();
+    mailbox.producer().unwrap().finish();
+    assert_eq!(consumer.sweep(), Sweep::Nothing);
+    mailbox.end_free_lanes().unwrap();
+    assert_eq!(consumer.sweep(), Sweep::Ended);
+    assert_eq!(consumer.sweep(), Sweep::Ended);
+}
+
+#[test]
+fn a_sweep_takes_the_lanes_in_turn() {
+    let mailbox = Mailbox::numbers().producers(3).build().unwrap();
+    let mut producers = [(); 3].map(|()| mailbox.producer().unwrap());
+    for item in [0, 10, 1, 11] {
+        producers[item as usize / 10].put(item).unwrap();
+    }
+    let mut consumer = mailbox.consumer().unwrap();
+    let taken: Vec<_> = (0..5).map(|_| consumer.sweep()).collect();
+    use Sweep::{Nothing, Took};
+    assert_eq!(taken, [Took(0), Took(10), Took(1), Took(11), Nothing]);
+    producers[2].put(20).unwrap();
+    assert_eq!(consumer.sweep(), Took(20));
+}
+
+#[test]
+fn numbers_out_of_range_are_refused_in_order() {
+    let built = |producers, consumers, cells, pairs| {
+        let builder = Mailbox::<u8>::builder()
+            .producers(producers)
+            .consumers(consumers);
+        builder.cells(cells).pairs(pairs).build().map(|_| ())
+    };
+    assert_eq!(built(0, 0, 1 << 25, 0), Err(BuildError::BadProducers));
+    assert_eq!(built(17, 65, 1, 1), Err(BuildError::BadProducers));
+    assert_eq!(built(16, 0, 1 << 25, 0), Err(BuildError::BadConsumers));
+    assert_eq!(built(1, 65, 1, 9), Err(BuildError::BadConsumers));
+    assert_eq!(built(1, 64, (1 << 24) + 1, 9), Err(BuildError::BadCells));
+    assert_eq!(built(1, 64, 0, 0), Err(BuildError::BadPairs));
+    assert_eq!(built(1, 1, 0, 9), Err(BuildError::BadPairs));
+    assert_eq!(built(16, 64, 0, 8), Ok(()));
+}
