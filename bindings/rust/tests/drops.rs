@@ -93,6 +93,7 @@ fn a_consumer_that_stops_midway_leaves_the_value() {
         for budget in 0.. {
             let drops = Drops::default();
             let mailbox = Mailbox::builder()
+                .consumers(2)
                 .shape(shape)
                 .seed([1; 32])
                 .build()
