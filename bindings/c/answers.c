@@ -1,0 +1,219 @@
+/* Each answer of hazbultra.h once, and each allocation refused in turn. The heap below takes the place of heap.c. */
+#include "hazbultra.h"
+
+#include <stdio.h>
+#include <stdlib.h>
+#include <string.h>
+
+#define EXPECT(so) ((so) ? (void)0 : fail(__LINE__, #so))
+
+static void fail(int line, const char *what) {
+    fprintf(stderr, "answers.c:%d: not so: %s\n", line, what);
+    exit(1);
+}
+
+struct tried {
+    bool there;
+    void *at;
+};
+
+struct tried rattle_alloc(size_t size, size_t align);
+struct tried rattle_realloc(void *at, size_t kept, size_t size, size_t align);
+void rattle_dealloc(void *at);
+
+static long blocks;         /* how many blocks are out */
+static long granted = -1;   /* so many allocations until one is refused; none if below 0 */
+static char nothing;
+
+static bool is_refused(void) {
+    return granted >= 0 && granted-- == 0;
+}
+
+struct tried rattle_alloc(size_t size, size_t align) {
+    if (is_refused())
+        return (struct tried){false, &nothing};
+    blocks++;
+    void *at = malloc(size ? size : align);
+    EXPECT(at);
+    return (struct tried){true, at};
+}
+
+struct tried rattle_realloc(void *at, size_t kept, size_t size, size_t align) {
+    (void)kept;
+    if (is_refused())
+        return (struct tried){false, &nothing};
+    void *moved = realloc(at, size ? size : align);
+    EXPECT(moved);
+    return (struct tried){true, moved};
+}
+
+void rattle_dealloc(void *at) {
+    blocks--;
+    free(at);
+}
+
+static const uint8_t SEED[32] = {1};
+
+static hz_setup setup_of(uint64_t producers, uint64_t consumers, uint64_t cells, uint64_t pairs, uint32_t table) {
+    return (hz_setup){producers, consumers, cells, pairs, table, true, true};
+}
+
+static uint32_t made(uint64_t producers, uint64_t consumers, uint64_t cells, uint64_t pairs, uint32_t table) {
+    hz_setup setup = setup_of(producers, consumers, cells, pairs, table);
+    hz_handle hub = HZ_NONE;
+    uint32_t answer = hz_mailbox_new(1, &setup, &hub);
+    EXPECT(hub.full == (answer == HZ_DONE));
+    hz_free(&hub);
+    EXPECT(!hub.full);
+    return answer;
+}
+
+/* The refusals of a setup, the first that is so. */
+static void setups(void) {
+    EXPECT(made(0, 0, 1 << 25, 0, 3) == HZ_BAD_TABLE);
+    EXPECT(made(0, 0, 1 << 25, 0, HZ_MIDDLE) == HZ_BAD_PRODUCERS);
+    EXPECT(made(17, 65, 1 << 25, 9, HZ_BITS) == HZ_BAD_PRODUCERS);
+    EXPECT(made(16, 0, 1 << 25, 0, HZ_BITS) == HZ_BAD_CONSUMERS);
+    EXPECT(made(1, 65, 1 << 25, 9, HZ_BITS) == HZ_BAD_CONSUMERS);
+    EXPECT(made(1, 64, (1 << 24) + 1, 0, HZ_BITS) == HZ_BAD_CELLS);
+    EXPECT(made(1, 64, 0, 0, HZ_BITS) == HZ_BAD_PAIRS);
+    EXPECT(made(1, 64, 0, 9, HZ_BITS) == HZ_BAD_PAIRS);
+    EXPECT(made(16, 64, 0, 8, HZ_UNARY) == HZ_DONE);
+}
+
+/* A handle of one kind to each call that wants another. */
+static void kinds(hz_handle *part, bool is_hub, bool is_producer, bool is_consumer, bool is_report) {
+    hz_setup setup = setup_of(1, 1, 1, 1, HZ_BITS);
+    hz_handle none = HZ_NONE;
+    hz_missing missing = {7, 7};
+    uint64_t word = 7, other = 7;
+    hz_lane lane;
+    hz_diary diary;
+    hz_note note;
+    if (part->full)
+        EXPECT(hz_mailbox_new(9, &setup, part) == HZ_BAD_HANDLE);
+    if (!is_hub) {
+        EXPECT(hz_producer_new(part, &none) == HZ_BAD_HANDLE);
+        EXPECT(hz_consumer_new(part, &SEED, 0, &none) == HZ_BAD_HANDLE);
+        EXPECT(hz_take_back(part, &none) == HZ_BAD_HANDLE);
+        EXPECT(hz_gather(part, &none, &missing) == HZ_BAD_HANDLE);
+    }
+    if (!is_producer) {
+        EXPECT(hz_put(part, 1) == HZ_BAD_HANDLE);
+        EXPECT(hz_finish(part) == HZ_BAD_HANDLE);
+    }
+    if (!is_consumer)
+        EXPECT(hz_poll(part, 0, 9, &word) == HZ_BAD_HANDLE);
+    if (!is_report) {
+        EXPECT(hz_report_size(part, &word, &other) == HZ_BAD_HANDLE);
+        EXPECT(hz_report_lane(part, 0, &lane) == HZ_BAD_HANDLE);
+        EXPECT(hz_report_diary(part, 0, 0, &diary) == HZ_BAD_HANDLE);
+        EXPECT(hz_report_items(part, 0, false, 0, &word, 1, &other) == HZ_BAD_HANDLE);
+        EXPECT(hz_report_notes(part, 0, 0, 0, &note, 1, &other) == HZ_BAD_HANDLE);
+    }
+    EXPECT(!none.full && missing.producers == 7 && missing.consumers == 7);
+}
+
+/* The answer of a call that takes memory. One refusal is told, and then the same call works. */
+static long told;
+#define AGAIN(call) again(call, 0) == HZ_DONE || again(call, 1) == HZ_DONE
+
+static uint32_t again(uint32_t answer, bool last) {
+    EXPECT(answer == HZ_DONE || (answer == HZ_NO_MEMORY && !last));
+    told += answer == HZ_NO_MEMORY;
+    return answer;
+}
+
+static void report_of_one(hz_handle *report) {
+    uint64_t lanes = 0, consumers = 0, copied = 0, items[4] = {9, 9, 9, 9};
+    hz_lane lane;
+    hz_diary diary;
+    hz_note notes[4] = {{9, 9}, {9, 9}, {9, 9}, {9, 9}};
+    kinds(report, false, false, false, true);
+    EXPECT(hz_report_size(report, &lanes, &consumers) == HZ_DONE && lanes == 2 && consumers == 2);
+    EXPECT(hz_report_lane(report, 2, &lane) == HZ_NOT_THERE);
+    EXPECT(hz_report_lane(report, 0, &lane) == HZ_DONE && lane.put == 3 && lane.left == 2 && lane.ended);
+    EXPECT(hz_report_lane(report, 1, &lane) == HZ_DONE && lane.put == 0 && lane.left == 0 && !lane.ended);
+    EXPECT(hz_report_diary(report, 0, 2, &diary) == HZ_NOT_THERE);
+    EXPECT(hz_report_diary(report, 2, 0, &diary) == HZ_NOT_THERE);
+    EXPECT(hz_report_diary(report, 0, 0, &diary) == HZ_DONE && diary.notes == 1 && diary.begun);
+    EXPECT(hz_report_diary(report, 1, 0, &diary) == HZ_DONE && diary.notes == 1 && !diary.begun);
+
+    /* In blocks: two items from place 1 on, and then what is left. */
+    EXPECT(hz_report_items(report, 2, false, 0, items, 4, &copied) == HZ_NOT_THERE);
+    EXPECT(hz_report_items(report, 0, false, 1, items, 2, &copied) == HZ_DONE && copied == 2);
+    EXPECT(items[0] == 20 && items[1] == 30 && items[2] == 9);
+    EXPECT(hz_report_items(report, 0, true, 0, items, 4, &copied) == HZ_DONE && copied == 2);
+    EXPECT(items[0] == 20 && items[1] == 30 && items[2] == 9);
+    EXPECT(hz_report_items(report, 0, true, 1, items, 4, &copied) == HZ_DONE && copied == 1 && items[0] == 30);
+    EXPECT(hz_report_items(report, 0, true, UINT64_MAX, items, 4, &copied) == HZ_DONE && copied == 0);
+    EXPECT(hz_report_items(report, 0, true, 0, items, 0, &copied) == HZ_DONE && copied == 0);
+
+    EXPECT(hz_report_notes(report, 0, 2, 0, notes, 4, &copied) == HZ_NOT_THERE);
+    EXPECT(hz_report_notes(report, 0, 0, 0, notes, 4, &copied) == HZ_DONE && copied == 1);
+    EXPECT(notes[0].kind == HZ_TOOK && notes[0].value == 10 && notes[1].kind == 9);
+    EXPECT(hz_report_notes(report, 1, 0, 0, notes, 4, &copied) == HZ_DONE && copied == 1);
+    EXPECT(notes[0].kind == HZ_LOST && notes[0].value == 0);
+    EXPECT(hz_report_notes(report, 1, 0, 1, notes, 4, &copied) == HZ_DONE && copied == 0);
+}
+
+/* The life of a mailbox with two lanes and two consumers, of whom one takes the first item and stops midway at the second. */
+static void life(void) {
+    hz_setup setup = setup_of(2, 2, 3, 4, HZ_BITS);
+    hz_handle hub = HZ_NONE, other = HZ_NONE, one = HZ_NONE, two = HZ_NONE, three = HZ_NONE, report = HZ_NONE;
+    hz_handle stranger = HZ_NONE;
+    hz_missing missing = {7, 7};
+    uint64_t value = 7;
+    EXPECT(AGAIN(hz_mailbox_new(1, &setup, &hub)));
+    EXPECT(AGAIN(hz_mailbox_new(2, &setup, &other)));
+    EXPECT(AGAIN(hz_producer_new(&hub, &one)));
+    EXPECT(AGAIN(hz_consumer_new(&hub, &SEED, 0, &two)));
+    EXPECT(AGAIN(hz_consumer_new(&hub, &SEED, 1, &three)));
+    EXPECT(hz_consumer_new(&hub, &SEED, 2, &stranger) == HZ_ALL_GIVEN && !stranger.full);
+    EXPECT(hz_producer_new(&hub, &one) == HZ_BAD_HANDLE);
+    kinds(&hub, true, false, false, false);
+    kinds(&one, false, true, false, false);
+    kinds(&two, false, false, true, false);
+
+    EXPECT(hz_put(&one, 10) == HZ_LINKED && hz_put(&one, 20) == HZ_LINKED && hz_put(&one, 30) == HZ_LINKED);
+    EXPECT(hz_put(&one, 40) == HZ_FULL && hz_put(&one, 40) == HZ_FULL);
+    EXPECT(hz_finish(&one) == HZ_DONE && hz_finish(&one) == HZ_CLOSED && hz_put(&one, 40) == HZ_CLOSED);
+    EXPECT(hz_poll(&two, 2, 9, &value) == HZ_NO_LANE && hz_poll(&two, 1, 9, &value) == HZ_NOTHING && value == 7);
+    EXPECT(hz_poll(&two, 0, 0, &value) == HZ_SPENT && value == 7);
+    EXPECT(hz_poll(&two, 0, UINT64_MAX, &value) == HZ_TOOK && value == 10);
+    EXPECT(hz_poll(&three, 0, UINT64_MAX, &value) == HZ_LOST && value == 0);
+    EXPECT(hz_poll(&two, 0, 2, &value) == HZ_SPENT);
+
+    EXPECT(AGAIN(hz_producer_new(&other, &stranger)));
+    EXPECT(hz_take_back(&hub, &stranger) == HZ_OTHER_MAILBOX && stranger.full);
+    EXPECT(hz_take_back(&hub, &other) == HZ_BAD_HANDLE && other.full);
+    EXPECT(hz_take_back(&other, &stranger) == HZ_DONE && !stranger.full);
+    EXPECT(hz_take_back(&hub, &one) == HZ_DONE && !one.full);
+    EXPECT(hz_gather(&hub, &report, &missing) == HZ_MISSING && missing.producers == 0 && missing.consumers == 2);
+    EXPECT(hz_take_back(&hub, &two) == HZ_DONE && hz_take_back(&hub, &three) == HZ_DONE);
+    EXPECT(hz_gather(&hub, &other, &missing) == HZ_BAD_HANDLE && hub.full && other.full);
+    EXPECT(AGAIN(hz_gather(&hub, &report, &missing)));
+    EXPECT(!hub.full && hz_gather(&hub, &report, &missing) == HZ_BAD_HANDLE);
+    report_of_one(&report);
+    hz_free(&report);
+    hz_free(&report);
+    hz_free(&other);
+}
+
+int main(void) {
+    hz_handle none = HZ_NONE;
+    kinds(&none, false, false, false, false);
+    hz_free(&none);
+    setups();
+    long refused = 0;
+    do {
+        told = 0;
+        granted = refused++;
+        life();
+        EXPECT(blocks == 0);
+        EXPECT(told == (granted < 0));
+    } while (granted < 0);
+    EXPECT(refused > 5);
+    puts("each answer is as the header says, also if memory is refused");
+    return 0;
+}

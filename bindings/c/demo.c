@@ -1,0 +1,119 @@
+/* Two producers and three consumers, in threads. Each item is the number of a job, and each job is done once.
+ *
+ * done[] is written without a lock or an atomic, since whoever took an item is the only one who did. A build with
+ * -fsanitize=thread would tell of a second one.
+ */
+#include "hazbultra.h"
+
+#include <pthread.h>
+#include <stdio.h>
+#include <stdlib.h>
+
+enum { PRODUCERS = 2, CONSUMERS = 3, EACH = 100, JOBS = PRODUCERS * EACH };
+
+/* A thread with its part of the mailbox. */
+struct worker {
+    pthread_t thread;
+    hz_handle part;
+    int number;
+};
+
+static int done[JOBS];
+
+static void expect(bool so, const char *what) {
+    if (!so) {
+        fprintf(stderr, "%s\n", what);
+        exit(1);
+    }
+}
+
+static void *produce(void *arg) {
+    struct worker *self = arg;
+    for (int job = self->number; job < JOBS; job += PRODUCERS)
+        expect(hz_put(&self->part, (uint64_t)job) == HZ_LINKED, "there is a cell for each job");
+    expect(hz_finish(&self->part) == HZ_DONE, "a lane ends once");
+    return NULL;
+}
+
+/* One poll of a lane. Returns whether the lane has ended. */
+static bool poll_lane(struct worker *self, uint64_t lane) {
+    uint64_t job = 0;
+    switch (hz_poll(&self->part, lane, UINT64_MAX, &job)) {
+    case HZ_TOOK:
+        done[job]++;
+        return false;
+    case HZ_LOST:
+    case HZ_NOTHING:
+        return false;
+    case HZ_ENDED:
+        return true;
+    default:
+        expect(false, "no other answer comes");
+        return true;
+    }
+}
+
+static void *consume(void *arg) {
+    struct worker *self = arg;
+    bool ended[PRODUCERS] = {false};
+    for (int open = PRODUCERS; open > 0;)
+        for (int lane = 0; lane < PRODUCERS; lane++)
+            if (!ended[lane] && poll_lane(self, (uint64_t)lane)) {
+                ended[lane] = true;
+                open--;
+            }
+    return NULL;
+}
+
+/* Does by himself what nobody took: nobody can take it any more. Returns how many these are. */
+static uint64_t do_what_is_left(hz_handle *report) {
+    uint64_t all = 0;
+    for (uint64_t lane = 0; lane < PRODUCERS; lane++) {
+        uint64_t jobs[JOBS], left = 0;
+        expect(hz_report_items(report, lane, true, 0, jobs, JOBS, &left) == HZ_DONE, "the lane is there");
+        for (uint64_t i = 0; i < left; i++)
+            done[jobs[i]]++;
+        all += left;
+    }
+    return all;
+}
+
+int main(void) {
+    hz_setup setup = {.producers = PRODUCERS, .consumers = CONSUMERS, .cells = JOBS, .pairs = 4};
+    setup.table = HZ_BITS;
+    setup.fast = setup.last = true;
+    hz_handle hub = HZ_NONE, report = HZ_NONE;
+    expect(hz_mailbox_new(1, &setup, &hub) == HZ_DONE, "the mailbox is made");
+
+    struct worker producers[PRODUCERS] = {0}, consumers[CONSUMERS] = {0};
+    const uint8_t seed[32] = "any 32 bytes do";
+    for (int c = 0; c < CONSUMERS; c++) {
+        struct worker *one = &consumers[c];
+        one->number = c;
+        expect(hz_consumer_new(&hub, &seed, (uint64_t)c, &one->part) == HZ_DONE, "a consumer is given");
+        expect(pthread_create(&one->thread, NULL, consume, one) == 0, "a thread starts");
+    }
+    for (int p = 0; p < PRODUCERS; p++) {
+        struct worker *one = &producers[p];
+        one->number = p;
+        expect(hz_producer_new(&hub, &one->part) == HZ_DONE, "a producer is given");
+        expect(pthread_create(&one->thread, NULL, produce, one) == 0, "a thread starts");
+    }
+    for (int p = 0; p < PRODUCERS; p++) {
+        expect(pthread_join(producers[p].thread, NULL) == 0, "a thread ends");
+        expect(hz_take_back(&hub, &producers[p].part) == HZ_DONE, "a producer comes back");
+    }
+    for (int c = 0; c < CONSUMERS; c++) {
+        expect(pthread_join(consumers[c].thread, NULL) == 0, "a thread ends");
+        expect(hz_take_back(&hub, &consumers[c].part) == HZ_DONE, "a consumer comes back");
+    }
+
+    hz_missing missing;
+    expect(hz_gather(&hub, &report, &missing) == HZ_DONE, "the report is made");
+    uint64_t left = do_what_is_left(&report);
+    hz_free(&report);
+    for (int job = 0; job < JOBS; job++)
+        expect(done[job] == 1, "each job is done once");
+    printf("%d jobs, each done once; nobody took %d of them\n", JOBS, (int)left);
+    return 0;
+}
