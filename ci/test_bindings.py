@@ -3,6 +3,7 @@ import contextlib
 import hashlib
 import io
 import os
+import shutil
 import tempfile
 import unittest
 from unittest import mock
@@ -49,6 +50,7 @@ class Steps(unittest.TestCase):
             bindings.run("sh", "-c", "echo why >&2; exit 3")
         self.assertEqual(bindings.run("sh", "-c", "echo $WORD", WORD="yes"), "yes\n")
 
+    @unittest.skipUnless(shutil.which("gcc"), "there is no gcc")
     def test_a_compiler_without_a_runtime(self):
         with tempfile.TemporaryDirectory() as room, self.assertRaisesRegex(Skipped, "cannot build with -fno-such-thing"):
             bindings.want_runtime(Place("", False, room), "gcc", ["-fno-such-thing", "-Werror", "-fsanitize=none-such"])
@@ -89,6 +91,7 @@ class Archives(unittest.TestCase):
         with mock.patch.dict(os.environ, PATH=""), self.assertRaisesRegex(Skipped, "no rt on the PATH"):
             bindings.built_archive()
 
+    @unittest.skipUnless(shutil.which("gcc") and shutil.which("nm"), "there is no gcc or nm")
     def test_symbols_of_an_archive(self):
         with tempfile.TemporaryDirectory() as room:
             code = "int hz_put(void) { return 1; } int hz_more(void); int hz_new(void) { return hz_more(); }"

@@ -63,6 +63,11 @@ mod refused;
 mod report;
 mod seeds;
 
+/// The program of the README, which is to compile and run.
+#[cfg(doctest)]
+#[doc = include_str!("../README.md")]
+struct Readme;
+
 pub use builder::{Builder, Shape, Table};
 pub use consumer::{Consumer, Poll, Sweep, Values};
 pub use errors::{BuildError, Full, GatherError, IssueError};

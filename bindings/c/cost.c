@@ -1,0 +1,24 @@
+/* So many puts and polls in one thread, to be counted. See bindings/rust/examples/cost.rs, which does the same. */
+#include "hazbultra.h"
+
+#include <stdio.h>
+#include <stdlib.h>
+
+int main(int count, char **words) {
+    uint64_t items = count > 1 ? strtoull(words[1], NULL, 10) : 1000, taken = 0, value;
+    hz_setup setup = {.producers = 1, .consumers = 4, .cells = 10000, .pairs = 8, .table = HZ_BITS};
+    hz_handle hub = HZ_NONE, producer = HZ_NONE, consumer = HZ_NONE;
+    const uint8_t seed[32] = {1};
+    if (hz_mailbox_new(1, &setup, &hub) || hz_producer_new(&hub, &producer) || hz_consumer_new(&hub, &seed, 0, &consumer))
+        return 1;
+    for (uint64_t item = 0; item < items; item++) {
+        if (hz_put(&producer, item) != HZ_LINKED)
+            return 1;
+        taken += hz_poll(&consumer, 0, UINT64_MAX, &value) == HZ_TOOK;
+    }
+    hz_free(&producer);
+    hz_free(&consumer);
+    hz_free(&hub);
+    printf("%d taken\n", (int)taken);
+    return 0;
+}
