@@ -172,19 +172,21 @@ def put_in_place():
 # The interface.
 
 
-def check_names(place):
+def differences_to(header, what, pattern):
+    """What the sources of this pattern declare otherwise than the header. They may have structs of their own, and lack codes."""
+    sources = sorted(glob.glob(pattern, recursive=True))
+    if not sources:
+        yield f"there is no {what}"
+    calls, structs, codes = interfaces.of_rust("\n".join(map(read, sources)))
+    yield from interfaces.differences(what, header[0], calls)
+    yield from interfaces.differences(what, header[1], {name: it for name, it in structs.items() if name in header[1]})
+    yield from interfaces.differences(what, header[2], codes, is_part=True)
+
+
+def check_names(_):
     header = interfaces.of_header(read(f"{C}/hazbultra.h"))
-    crate = interfaces.of_rust("\n".join(map(read, sorted(glob.glob(f"{RUST}/src/ffi/*.rs")))))
-    told = list(interfaces.differences("the extern block", header[0], crate[0]))
-    told += interfaces.differences("the crate", header[1], {name: it for name, it in crate[1].items() if name in header[1]})
-    told += interfaces.differences("the crate", header[2], crate[2], is_part=True)
-    sources = sorted(glob.glob(f"{CRATE}/src/**/*.rt", recursive=True))
-    if sources:
-        proved = interfaces.of_rust("\n".join(map(read, sources)))
-        told += interfaces.differences("the proved crate", header[0], proved[0])
-        told += interfaces.differences("the proved crate", header[1], {name: it for name, it in proved[1].items() if name in header[1]}, True)
-    elif place.is_prebuilt:
-        told.append("there is no crates/hazbultra")
+    told = [*differences_to(header, "the Rust crate", f"{RUST}/src/ffi/*.rs")]
+    told += differences_to(header, "the proved crate", f"{CRATE}/src/**/*.rt")
     expect_none(told)
 
 

@@ -6,7 +6,8 @@ Rattle's is a pointer and a length in C. A `Global` has no bytes, and is passed 
 """
 import re
 
-NUMBERS = {"uint64_t": "u64", "uint32_t": "u32", "uint8_t": "u8", "size_t": "usize", "void": "void", "c_void": "void"}
+# (what a pointer leads to that nobody else looks at are bytes)
+NUMBERS = {"uint64_t": "u64", "uint32_t": "u32", "uint8_t": "u8", "size_t": "usize", "void": "u8", "c_void": "u8"}
 HEADER_CALL = re.compile(r"^(\w+) (hz_\w+)\(([^;]*)\);", re.M)
 HEADER_STRUCT = re.compile(r"typedef struct \{(.*?)\} hz_(\w+);", re.S)
 HEADER_CODE = re.compile(r"\bHZ_(\w+) = (\d+)")
@@ -20,7 +21,8 @@ def without_comments(text):
 
 
 def plain(name):
-    return NUMBERS.get(name, name.lower().removeprefix("hz_"))
+    """The name of a type. Rattle's structs that cross to C end in `In` or `Out`."""
+    return NUMBERS.get(name, re.sub(r"(?<=\w)(In|Out)$", "", name).lower().removeprefix("hz_"))
 
 
 def parts_of(text):
@@ -75,13 +77,15 @@ def of_rust(text):
     calls = {}
     for name, given, back in RUST_CALL.findall(text):
         types = [it.partition(":")[2].strip() for it in parts_of(given)]
-        calls[name] = ([it for one in types for it in types_in_rust(one)], back or "void")
+        calls[name] = ([it for one in types for it in types_in_rust(one)], back or plain("void"))
     structs = {}
     for name, body in RUST_STRUCT.findall(text):
         fields = [it.rpartition(" pub(super) ")[2] for it in parts_of(body)]
         fields = [re.sub(r"^pub(\(\w+\))? ", "", it).partition(":") for it in fields if " ghost " not in f" {it}"]
         typed = [(field, it) for field, _, type_ in fields for it in types_in_rust(type_.strip())]
         structs[plain(name)] = typed
+    # A struct in a struct is its fields.
+    structs = {name: [it for one in fields for it in structs.get(one[1], [one])] for name, fields in structs.items()}
     return calls, structs, {name: int(number) for name, number in RUST_CODE.findall(text)}
 
 

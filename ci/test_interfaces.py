@@ -48,8 +48,33 @@ unsafe extern "C" {
 }
 """
 PROVED = """
+pub(crate) const TOOK: u32 = 1;
+
+#[repr(C)]
+pub struct Handle {
+    full: bool,
+    block: Block,
+    pub ghost agrees: { is_some block.thing ≡ full },
+}
+
+#[repr(C)]
+#[derive(Clone, Copy)]
+pub struct Block {
+    at: *mut u8,
+    alloc: Global,
+    pub ghost thing: { Option Thing } by { coded },
+}
+
+/// Of one lane.
+#[repr(C)]
+pub struct LaneOut {
+    /// How many.
+    pub put: u64,
+    pub ended: bool,
+}
+
 #[unsafe(no_mangle)]
-pub extern "C" fn hz_make(alloc: Global, id: u64, lane: &Lane, seed: &[u8; 32], hub: &mut Handle) -> u32
+pub extern "C" fn hz_make(alloc: Global, id: u64, lane: &LaneOut, seed: &[u8; 32], hub: &mut Handle) -> u32
     ensures made { result ≡ 0 }
 {
     0
@@ -72,14 +97,15 @@ class Interfaces(unittest.TestCase):
     def test_the_header_is_read(self):
         calls, structs, codes = interfaces.of_header(HEADER)
         self.assertEqual(calls["hz_make"], (["u64", "const lane", "const [u8; 32]", "mut handle"], "u32"))
-        self.assertEqual(calls["hz_free"], (["mut handle"], "void"))
+        self.assertEqual(calls["hz_free"], (["mut handle"], "u8"))
         self.assertEqual(sorted(calls), ["hz_free", "hz_items", "hz_make"])
-        self.assertEqual(structs["handle"], [("full", "bool"), ("at", "mut void")])
+        self.assertEqual(structs["handle"], [("full", "bool"), ("at", "mut u8")])
         self.assertEqual(codes, {"DONE": 0, "TOOK": 1})
 
     def test_those_that_agree(self):
         self.assertEqual([told(CRATE, of) for of in range(3)], [[], [], []])
-        self.assertEqual(told(PROVED, 0), [])
+        self.assertEqual([told(PROVED, of) for of in (0, 2)], [[], []])
+        self.assertEqual(told(PROVED, 1), ["it has block, and the header does not"])
 
     def test_another_type(self):
         for old, new in (("id: u64", "id: u32"), ("left: bool", "left: u8"), ("copied: &mut u64", "copied: &u64"), ("; 32]", "; 16]")):
