@@ -1,8 +1,8 @@
 #!/usr/bin/env python3
 """Looks up each name and each link of the pages in the sources, and lists those that are not there.
 
-The pages are README.md, CONTRIBUTING.md and CHANGELOG.md, those of docs/ and bench/, and the README of each crate and of the
-examples.
+The pages are README.md, CONTRIBUTING.md and CHANGELOG.md, those of docs/, bench/ and bindings/, and the README of each crate and of
+the examples.
 A name is a word between backticks, but for words of capitals alone, which stand for others. It is found where the
 code, the definitions, the proofs, the examples or the names of files have it, comments aside. Further:
   - a path has to be the end of the path of a file or folder;
@@ -10,7 +10,7 @@ code, the definitions, the proofs, the examples or the names of files have it, c
   - in "`name` in `specs/File.antt`" one of the files named there has to have the name;
   - in "`function`: `clause`" a function of that name has to have that clause;
   - a block of Rust has to stand, line by line, in a source file, with all comments of that file or with none; where it
-    has signatures alone, each of them has to.
+    has signatures alone, each of them has to. (Those of bindings/ are compiled and run by cargo.)
 It also looks whether docs/PROMISES.md names each mutant of crates/*/must-fail and crates/*/mutants, in the section of its crate
 if there is one. It looks whether `examples/script` prints the script of each example, and whether each sample of a page, and of
 the program's help, is what an example has:
@@ -63,7 +63,7 @@ def read(path):
 
 def files_below(folder):
     for at, folders, names in os.walk(folder):
-        folders[:] = sorted(it for it in folders if it not in ("out", ".git"))
+        folders[:] = sorted(it for it in folders if it not in ("out", ".git", "target", "build"))
         for name in sorted(names):
             yield os.path.join(at, name)
 
@@ -98,7 +98,7 @@ class Sources:
         self.all = set().union(*self.words.values(), self.crates, OUTSIDE)
         for path in (f"{TOP}/crates.txt", f"{TOP}/HANDLES", f"{TOP}/mailbox", *files_below(f"{TOP}/bench"), *files_below(f"{TOP}/ci")):
             self.all.update(WORD.findall(read(path)))
-        for folder in ("examples", "docs"):
+        for folder in ("examples", "docs", "bindings"):
             for path in files_below(f"{TOP}/{folder}"):
                 self.all.update(WORD.findall(os.path.basename(path)))
                 if not path.endswith(".md"):
@@ -115,7 +115,7 @@ class Sources:
 def pages():
     for name in ("README.md", "CONTRIBUTING.md", "CHANGELOG.md"):
         yield f"{TOP}/{name}"
-    for folder in ("docs", "bench", "examples", "crates"):
+    for folder in ("docs", "bench", "bindings", "examples", "crates"):
         for path in files_below(f"{TOP}/{folder}"):
             if path.endswith(".md"):
                 yield path
@@ -172,8 +172,9 @@ def faults_of(page, sources):
         for clause in re.findall(r"`([a-z]\w*)`", clauses):
             if functions[-1] in sources.clauses and clause not in known:
                 yield f"the clause {clause} of {names}"
+    is_tested = os.path.relpath(page, TOP).startswith("bindings")
     for language, block in blocks:
-        for part in parts_of(block) if language == "rust" else []:
+        for part in parts_of(block) if language == "rust" and not is_tested else []:
             if not any(shows(part, lines(read(it))) for it in sources.texts):
                 yield f"the block that begins with {part[0]}"
 

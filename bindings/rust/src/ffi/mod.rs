@@ -13,15 +13,16 @@
 //! # Why a value has one owner
 //!
 //! An item of the archive is a word. Here the word stands for a value, and mostly is the address of its box. Whoever turns
-//! the word back into the value has to be the only one. Three proved clauses say so, which the comments name `ownership`:
+//! the word back into the value has to be the only one. These proved clauses of the archive's calls say so. The comments
+//! name them `ownership`:
 //!
-//! - `Mailbox::gather`: `headline`, which the library below the archive repeats of its own `gather`. One assignment
-//!   explains the whole report: each item put goes to at most one consumer, and each that was not taken is left, once.
-//! - `Consumer::poll`: `polled`. A consumer is told `Took` of an item together with its note of it, which the report has.
-//! - `Producer::put`: `linked` and `full`. An item is put by `Linked` alone. After `Full` it is in no lane.
+//! - `hz_gather`: `headline`, which is that of `Mailbox::gather`. One assignment explains the whole report: each item put
+//!   goes to at most one consumer, and each that was not taken is left, once.
+//! - `hz_poll`: `told`. A consumer is told `HZ_TOOK` of an item together with its note of it, which the report has.
+//! - `hz_put`: `linked` and `full`. An item is put by `HZ_LINKED` alone. After `HZ_FULL` it is in no lane.
 //!
 //! The first speaks of a report. But at each moment of a run all parts might be handed back and a report made. So no two
-//! consumers are told `Took` of one item in any run, also if nobody makes a report.
+//! consumers are told `HZ_TOOK` of one item in any run, also if nobody makes a report.
 //!
 //! A word is an item of a place in a lane. Two places may hold equal words: a box that was taken and freed leaves its
 //! address to a later one, and boxes of no bytes share an address. Then each of the two is a value of its own.

@@ -28,9 +28,9 @@ impl<T> Producer<T> {
         // SAFETY: the rules of calls.
         match unsafe { hz_put(&mut self.handle, word) } {
             calls::LINKED => Ok(()),
-            // SAFETY: ownership. After `Full` the item is in no lane, so the word is still ours alone.
+            // SAFETY: ownership. After `HZ_FULL` the item is in no lane, so the word is still ours alone.
             calls::FULL => Err(unsafe { self.carrier.unpack(word) }),
-            // (`Closed` comes only after a finish, after which `crate::Producer` has no put)
+            // (`HZ_CLOSED` comes only after a finish, after which `crate::Producer` has no put)
             other => excluded("hz_put", other),
         }
     }
