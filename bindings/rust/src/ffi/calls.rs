@@ -68,6 +68,14 @@ pub(crate) const UNARY: u32 = 0;
 pub(crate) const BITS: u32 = 1;
 pub(crate) const MIDDLE: u32 = 2;
 
+// The sizes are those that a C compiler gives these structs.
+const _: () = {
+    assert!(size_of::<Handle>() == 16);
+    assert!(size_of::<Setup>() == 40);
+    assert!(size_of::<Lane>() == 24 && size_of::<Diary>() == 16);
+    assert!(size_of::<Note>() == 16 && size_of::<Missing>() == 8);
+};
+
 unsafe extern "C" {
     pub(super) fn hz_mailbox_new(id: u64, setup: &Setup, hub: &mut Handle) -> u32;
     pub(super) fn hz_producer_new(hub: &mut Handle, producer: &mut Handle) -> u32;
