@@ -1,46 +1,21 @@
 -- How many items a report has on all lanes together, and who competed for an item.
-use Rattle.std.proofs.Common.{◌≡◌, ℕ, zero, suc, ◌+◌, ◌*◌, ◌<◌, ◌≤◌, Bool, true, false, List, [], ◌∷◌, length, refl, sym, ◌∙◌, ap, subst, inl, inr, arith}
-use Rattle.std.specs.Prelude.{Option, Some, None, if◌then◌else◌, nat_lt, reverse, slice_get, sum_by}
+use Rattle.std.proofs.Common.{◌≡◌, ℕ, ◌+◌, ◌*◌, ◌<◌, ◌≤◌, Bool, true, false, List, [], length, refl, sym, ◌∙◌, ap, subst, inl, inr, arith}
+use Rattle.std.specs.Prelude.{Option, Some, None, if◌then◌else◌, nat_lt, reverse, slice_get}
 use Rattle.std.specs.Option.{option_map_or}
 use Rattle.std.proofs.lemmas.Bool.{cases_lt, ltb-true}
 use Rattle.std.proofs.lemmas.List.{length-map, reverse-append}
-use Rattle.std.proofs.lemmas.List.Sums.{sum_by-cons}
 use Rattle.std.proofs.Math.Nat.{mul-le-mul_right}
 use Rattle.mb_cells.specs.Vocabulary.{Entry, IsStart, items_put, put_list}
 use Rattle.mb_world.specs.Plan.{Histories, Plan, consumers_of}
 use Rattle.mb_world.specs.Report.{DiaryView, LaneView, ReportView, diary, note}
 use Rattle.mb_world.specs.Reporting.{IsReportOf, lane_view}
-use Rattle.mb_mailbox.specs.Below.{History, Note}
+use Rattle.mb_mailbox.specs.Below.{Note}
 use Rattle.mb_mailbox.specs.Gathering.{put_count}
 use Rattle.mb_mailbox.proofs.Lists.{get_within, some_same}
+use Rattle.mb_mailbox.proofs.Totals.{put_total, summed, total}
 use Rattle.mb_mailbox.proofs.Turned.{get_left}
 
 -- ---- sums
-total : (ℕ → ℕ) → ℕ → ℕ
-total f zero = 0
-total f (suc n) = f n + total f n
-
-shift : (f : ℕ → ℕ) (n : ℕ) → total f (suc n) ≡ f 0 + total (λ j. f (suc j)) n
-unfolding total
-shift f zero = refl
-shift f (suc n) = omega (arith, shift f n)
-
-summed : {X : Type 0} (g : X → ℕ) (f : ℕ → ℕ) (xs : List X) → ((j : ℕ) (x : X) → slice_get xs j ≡ Some x → g x ≡ f j)
-    → sum_by g xs ≡ total f (length xs)
-unfolding total
-summed g f [] each = refl
-summed g f (x ∷ xs) each =
-    let rest = summed g (λ j. f (suc j)) xs (λ j y e. each (suc j) y e) in
-    let here = each 0 x refl in
-    let whole = shift f (length xs) in
-    let next = sum_by-cons g x xs in
-    omega (arith, rest, here, whole, next)
-
-put_total : (n : ℕ) (pool : History) → items_put n pool ≡ total (λ p. length (put_list p pool)) n
-unfolding total
-put_total zero pool = refl
-put_total (suc n) pool = ap (λ k. length (put_list n pool) + k) (put_total n pool)
-
 pub counted : (plan : Plan) (hs : Histories) (r : ReportView) → IsReportOf plan hs r → put_count r ≡ items_put plan.lanes hs.pool
 counted plan hs r is =
     summed (λ (l : LaneView). length l.put) (λ p. length (put_list p hs.pool)) r.lanes each

@@ -1,6 +1,6 @@
 -- A consumer that holds a claim moves on by one access.
-use Rattle.std.proofs.Common.{◌≡◌, ◌≢◌, ℕ, ◌<◌, List, [], ◌∷◌, ◌++◌, length, reverse, cond, refl, sym, ap, ◌∙◌, subst, inl, ⊎_elim, arith}
-use Rattle.std.specs.Prelude.{Some, None, nat_eq, slice_get}
+use Rattle.std.proofs.Common.{◌≡◌, ◌≢◌, ℕ, ◌<◌, ◌≤◌, List, [], ◌∷◌, ◌++◌, length, reverse, cond, refl, sym, ap, ◌∙◌, subst, inl, ⊎_elim, arith}
+use Rattle.std.specs.Prelude.{Some, None, nat_eq, slice_get, sum_by}
 use Rattle.std.proofs.lemmas.Bool.{cases_eq, ne_eqb, eq-eqb}
 use Rattle.std.proofs.lemmas.List.{length-reverse, reverse-append}
 use Rattle.mb_claim.specs.declared.access.ClaimOp.{ClaimOp}
@@ -10,12 +10,14 @@ use Rattle.mb_mailbox.specs.Below.{Claim, ClaimAccess, Claims, EndsAs, Fits, Gav
 use Rattle.mb_mailbox.specs.Consumers.{AreEnds, ConsumerView, IsAt, IsBefore, IsConsumer, StandsOn, parts_of}
 use Rattle.mb_mailbox.specs.Moves.{HasLoads, HasPlace, HasTurns, reads_with_item, moved_to}
 use Rattle.mb_mailbox.specs.NoteLists.{place_after}
+use Rattle.mb_mailbox.specs.declared.place.Place.{Place}
 use Rattle.mb_mailbox.specs.declared.place.Place.TheVariants.{At, Before}
 use Rattle.mb_mailbox.specs.Laws.{Laws}
 use Rattle.mb_mailbox.proofs.KnownLoads.{Known, past_item, read-cases, read-more}
-use Rattle.mb_mailbox.proofs.Lists.{some_same}
+use Rattle.mb_mailbox.proofs.Lists.{get_some, get_within, some_same}
 use Rattle.mb_mailbox.proofs.Moving.{holds, loads_known}
 use Rattle.mb_mailbox.proofs.Standings.{Leaves, end_kept, ends_more, moves, same_length, with_one}
+use Rattle.mb_mailbox.proofs.Totals.{sum_less, total}
 
 -- a note behind others is the first of them backwards
 snoc_back : (ns : List Note) (n : Note) → reverse (ns ++ n ∷ []) ≡ n ∷ reverse ns
@@ -61,14 +63,39 @@ module _ (s : ConsumerView) (p k : ℕ) (claim : Claim) (i : IsConsumer s) (e : 
     pub within : k < s.reader.table.size.cells
     within = known.within p k has_here
 
-    pub room : (ns : List Note) → slice_get s.notes p ≡ Some ns → length ns < s.reader.table.size.cells
-    room ns f =
+    -- each list of notes has at most as many as cells were met on its lane, and this one has one less
+    noted : (q : ℕ) (ns : List Note) → slice_get s.notes q ≡ Some ns → length ns ≤ length (cells_met q s.reader.part)
+    noted q ns f = by t.0 (i.lanes q t.0 ns t.1 f)
+      where
+        t : (place : Place) × (slice_get s.places q ≡ Some place)
+        t = get_some s.places q (subst (λ n. q < n) (i.notes_count ∙ sym i.places_count) (get_within s.notes q ns f))
+
+        turned : length (reverse ns) ≡ length ns
+        turned = length-reverse ns
+
+        by : (place : Place) → StandsOn i.size.layout cs c q x ns place → length ns ≤ length (cells_met q s.reader.part)
+        by (Before at) b = let same = same_length cs c (cells_met q s.reader.part) (reverse ns) x b.ended in omega (arith, same, turned)
+        by (At j held) a =
+            let same = same_length cs c a.cells (reverse ns) x a.ended in
+            let long : length (cells_met q s.reader.part) ≡ length (j ∷ a.cells) = ap length a.met in
+            omega (arith, same, long, turned)
+
+    noted_here : (ns : List Note) → slice_get s.notes p ≡ Some ns → length ns < length (cells_met p s.reader.part)
+    noted_here ns f =
         let o : IsAt i.size.layout cs c p x ns k claim = i.lanes p (At k claim) ns e f in
-        let few = known.few p in
         let long : length (cells_met p s.reader.part) ≡ length (k ∷ o.cells) = ap length o.met in
         let same = same_length cs c o.cells (reverse ns) x o.ended in
         let turned : length (reverse ns) ≡ length ns = length-reverse ns in
-        omega arith
+        omega (arith, long, same, turned)
+
+    pub room : sum_by length s.notes < s.reader.table.size.cells
+    room =
+        let low : p < length s.notes = subst (λ n. p < n) (i.places_count ∙ sym i.notes_count) (get_within s.places p (At k claim) e) in
+        let less = sum_less length (λ q. length (cells_met q s.reader.part)) s.notes p low noted noted_here in
+        let share = known.share in
+        let same : total (λ q. length (cells_met q s.reader.part)) (length s.notes) ≡ total (λ q. length (cells_met q s.reader.part)) s.reader.table.size.lanes =
+        ap (total (λ q. length (cells_met q s.reader.part))) i.notes_count in
+        omega (arith, less, share, same)
 
     -- the claims' cells before this one are other cells
     before_else : (ns : List Note) (o : IsAt i.size.layout cs c p x ns k claim) (j : ℕ) → Has o.cells j → j ≡ k → ⊥

@@ -3,6 +3,9 @@ use Rattle.std.proofs.Common.{◌≡◌, ◌≢◌, ◌⊎◌, ℕ, zero, suc, �
 use Rattle.std.specs.Prelude.{Option, Some, None, slice_get, slice_set}
 use Rattle.std.proofs.lemmas.List.{length-append}
 use Rattle.mb_cells.specs.Vocabulary.{Entry, fetch}
+use Rattle.mb_shared_cells.specs.Vocabulary.{CellHubView, empty_roll}
+use Rattle.mb_shared_cells.specs.declared.views.Roll.{Roll}
+use Rattle.mb_shared_claims.specs.Vocabulary.{HubView as ClaimHubView}
 use Rattle.mb_mailbox.specs.Below.{CellsName, ClaimAccess, ClaimTable, Has, History, claims_at, linked_cells}
 use Rattle.mb_mailbox.specs.Hubs.{HubView, IsHub, IsLedger, IsPutList, LedgerView, PutListView, put_list_of, with_consumer, with_producer, with_taken_consumer, with_taken_producer}
 use Rattle.mb_mailbox.specs.Consumers.{ConsumerView, IsConsumer}
@@ -38,6 +41,29 @@ longer xs ys x y e =
     let a = length-append xs (x ∷ []) in
     let b = length-append ys (y ∷ []) in
     omega arith
+
+-- the hub that has given nothing
+none_there : {X : Type 0} (p : ℕ) (x : X) → slice_get [] p ≡ Some x → ⊥
+none_there p x e = cc
+
+none_at : {X : Type 0} (xs : List X) (p : ℕ) (x : X) → xs ≡ [] → slice_get xs p ≡ Some x → ⊥
+none_at {X} xs p x none e = none_there p x (subst (λ (ys : List X). slice_get ys p ≡ Some x) none e)
+
+pub new_hub : (cells : CellHubView) (claims : ClaimHubView) (puts : List (Option PutListView)) (ledgers : List (Option LedgerView))
+    → cells.roll ≡ empty_roll → claims.roll ≡ [] → puts ≡ [] → ledgers ≡ []
+    → IsHub (record { cells = cells; claims = claims; puts = puts; ledgers = ledgers })
+new_hub cells claims puts ledgers roll seats no_puts no_ledgers =
+    let lanes : length puts ≡ 0 = ap length no_puts in
+    let readers : length ledgers ≡ 0 = ap length no_ledgers in
+    record {
+      lanes = ap length no_puts ∙ sym (ap (λ (r : Roll). length r.lanes) roll);
+      readers = ap length no_ledgers ∙ sym (ap (λ (r : Roll). length r.readers) roll);
+      seats = ap length no_ledgers ∙ sym (ap length seats);
+      few_lanes = omega (arith, lanes);
+      few_consumers = omega (arith, readers);
+      put = λ p l e. absurd (none_at puts p (Some l) no_puts e);
+      taken = λ c l e. absurd (none_at ledgers c (Some l) no_ledgers e);
+    }
 
 -- the hub that has given one more
 pub gave_producer : (h : HubView) → IsHub h → length h.puts < h.cells.table.size.lanes → IsHub (with_producer h)

@@ -1,9 +1,10 @@
 -- What the laws of the cells give for what one reader loaded.
-use Rattle.std.proofs.Common.{◌≡◌, ◌≢◌, ◌⊎◌, ℕ, ◌+◌, ◌<◌, ◌≤◌, List, [], ◌∷◌, ◌++◌, length, refl, sym, ap, ◌∙◌, subst, inl, inr, arith}
-use Rattle.std.proofs.lemmas.List.{length-append}
-use Rattle.mb_cells.specs.Vocabulary.{HasLoaded}
+use Rattle.std.proofs.Common.{◌≡◌, ◌≢◌, ◌⊎◌, ℕ, ◌+◌, ◌<◌, ◌≤◌, List, [], ◌∷◌, ◌++◌, length, map, refl, sym, ap, ◌∙◌, subst, inl, inr, arith}
+use Rattle.std.proofs.lemmas.List.{length-append, length-map, length-reverse}
+use Rattle.mb_cells.specs.Vocabulary.{HasLoaded, entry_at, put_list}
 use Rattle.mb_mailbox.specs.Laws.{Laws}
 use Rattle.mb_mailbox.specs.Below.{END, FollowsLinks, Gave, Has, HasRead, History, IsOnceEach, IsPoolLawful, Item, Link, PoolAccess, PoolSize, Reader, Word, cells_met, linked_cells, load, part, place_past}
+use Rattle.mb_mailbox.proofs.Totals.{put_total, total, total_most}
 
 -- what the laws give for the loads of a reader in a lawful history
 pub record Known (size : PoolSize) (reads : History) : Type 0 where
@@ -12,6 +13,7 @@ pub record Known (size : PoolSize) (reads : History) : Type 0 where
   pub within : (p k : ℕ) → Has (cells_met p reads) k → k < size.cells
   pub given : (p k : ℕ) → Has (cells_met p reads) k → Gave k reads
   pub few : (p : ℕ) → length (cells_met p reads) ≤ size.cells
+  pub share : total (λ p. length (cells_met p reads)) size.lanes ≤ size.cells
   pub link : (k v : ℕ) → HasRead (Link k) v reads → Gave k reads
   pub item : (k v : ℕ) → HasRead (Item k) v reads → Gave k reads
 
@@ -25,6 +27,14 @@ loaded laws r v w h read =
 known_of : Laws → (size : PoolSize) (r : ℕ) (h : History) → IsPoolLawful size h → Known size (part (Reader r) h)
 known_of laws size r h lawful =
     let on : (p k : ℕ) → Has (cells_met p (part (Reader r) h)) k → Has (linked_cells p h) k = λ p k has. laws.on_lane size r p k h lawful has in
+    let met : (p : ℕ) → length (cells_met p (part (Reader r) h)) ≤ length (put_list p h) = λ p.
+    let ks = cells_met p (part (Reader r) h) in
+    let s = laws.start size h r p ks lawful (laws.met r p h) in
+    let long : length (s.0 ++ ks) ≡ length s.0 + length ks = length-append s.0 ks in
+    let same : length (s.0 ++ ks) ≡ length (linked_cells p h) = ap length s.1 in
+    let put : length (put_list p h) ≡ length (linked_cells p h) =
+    length-reverse (map (λ k. entry_at k h) (linked_cells p h)) ∙ length-map (linked_cells p h) (λ k. entry_at k h) in
+    omega (arith, long, same, put) in
     record {
       apart = λ p q k a b. laws.lane size h p q k lawful (on p k a) (on q k b);
       once = λ p. laws.once size r p h lawful;
@@ -37,6 +47,11 @@ known_of laws size r h lawful =
           let long : length (s.0 ++ ks) ≡ length s.0 + length ks = length-append s.0 ks in
           let same : length (s.0 ++ ks) ≡ length (linked_cells p h) = ap length s.1 in
           omega arith;
+      share =
+          let all = laws.share size h lawful in
+          let sum = put_total size.lanes h in
+          let most = total_most (λ p. length (cells_met p (part (Reader r) h))) (λ p. length (put_list p h)) size.lanes met in
+          omega (arith, all, sum, most);
       link = λ k v read. laws.link size h r k v lawful (loaded laws r v (Link k) h read);
       item = λ k v read. laws.item size h r k v lawful (loaded laws r v (Item k) h read);
     }

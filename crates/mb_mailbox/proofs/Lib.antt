@@ -1,4 +1,6 @@
 pub mod Lists
+pub mod LaneLists
+pub mod Totals
 pub mod KnownLoads
 pub mod Standings
 pub mod Moving

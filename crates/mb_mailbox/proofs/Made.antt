@@ -1,6 +1,6 @@
 -- What the steps of a consumer come to, from the contracts of the two tables.
-use Rattle.std.proofs.Common.{◌≡◌, ◌≢◌, ℕ, ◌<◌, ◌≤◌, List, [], ◌∷◌, ◌++◌, length, map, refl, sym, ap, ◌∙◌, subst, ⊎_elim, arith}
-use Rattle.std.specs.Prelude.{Option, Some, None, Vec, slice_get, slice_set, vec_capacity, vec_len}
+use Rattle.std.proofs.Common.{◌≡◌, ℕ, List, refl, sym, ap, ◌∙◌, subst, arith}
+use Rattle.std.specs.Prelude.{Option, Some, None, slice_set}
 use Rattle.mb_claim.specs.declared.access.Stage.TheVariants as stage
 use Rattle.mb_cells.specs.declared.answer.Look.{Look}
 use Rattle.mb_shared_cells.specs.Vocabulary.{ItemMakes, LookMakes}
@@ -10,12 +10,11 @@ use Rattle.mb_mailbox.specs.declared.consumer.Poll.TheVariants as poll
 use Rattle.mb_mailbox.specs.Consumers.{ConsumerView, IsConsumerOf, parts_of}
 use Rattle.mb_mailbox.specs.Mailboxes.{MailboxView}
 use Rattle.mb_mailbox.specs.Moves.{moved_to}
-use Rattle.mb_mailbox.specs.NoteLists.{HasRoom, NotesGrow}
+use Rattle.mb_mailbox.specs.LaneNotes.{NotesView}
+use Rattle.mb_mailbox.specs.NoteLists.{HasAllRoom, NotesGrow}
 use Rattle.mb_mailbox.specs.ConsumerStep.{ConsumerStep, link_answer, stage_answer}
-use Rattle.mb_mailbox.specs.Steps.{IsStep, note_with, notes_on, with_note}
+use Rattle.mb_mailbox.specs.Steps.{IsStep, note_with, with_note}
 use Rattle.mb_mailbox.specs.declared.place.Place.{Place}
-use Rattle.std.specs.Option.{option_map_or}
-use Rattle.mb_mailbox.proofs.Lists.{get_some, map_get, map_set, set_get}
 
 -- the consumer with these seats, places and notes
 abbrev pub at_views : ReaderSeatView → SeatView → List Place → List (List Note) → ConsumerView
@@ -88,50 +87,10 @@ claim_made s old p word a st seat places notes answer is made drawn_word tells p
       drawn = (t, refl, subst (λ w. (w, u) ≡ next_u64 t) (sym drawn_word) drawn);
     })
 
--- ---- the lists of notes
-module _ {Z : Type 0} where
-  abbrev pub lists : List (Vec Note Z) → List (List Note)
-  lists vs = map (λ (v : Vec Note Z). v.items) vs
-
-  -- there is room for a note
-  pub room_there : (p cells : ℕ) (vs : List (Vec Note Z)) → p < length (lists vs)
-      → ((q : ℕ) (v : Vec Note Z) → slice_get vs q ≡ Some v → cells ≤ vec_capacity v)
-      → ((ns : List Note) → slice_get (lists vs) p ≡ Some ns → length ns < cells) → HasRoom p vs
-  room_there p cells vs low wide few =
-      let t = get_some vs p (subst (λ n. p < n) (count vs) low) in
-      let v = t.0 in
-      let short = few v.items (map_get (λ (v : Vec Note Z). v.items) vs p v t.1) in
-      let large = wide p v t.1 in
-      let full : vec_len v ≡ length v.items = v.ok.0 in
-      (v, t.1, omega arith)
-    where
-      count : (vs : List (Vec Note Z)) → length (lists vs) ≡ length vs
-      count [] = refl
-      count (v ∷ vs) = omega (arith, count vs)
-
-  -- the lists then
-  pub lists_grow : (p : ℕ) (o : Option Note) (old new : List (Vec Note Z)) → NotesGrow p o old new → lists new ≡ with_note p o (lists old)
-  lists_grow p None old new g = ap lists g
-  lists_grow p (Some n) old new g =
-      let v = g.0 in
-      let w = g.1 in
-      let there : slice_get (lists old) p ≡ Some v.items = map_get (λ (v : Vec Note Z). v.items) old p v g.2 in
-      let on : notes_on p (lists old) ≡ v.items = ap (λ (z : Option (List Note)). option_map_or (λ (l : List Note). l) z []) there in
-      ap lists g.3 ∙ map_set (λ (v : Vec Note Z). v.items) old p w
-      ∙ ap (λ (l : List Note). slice_set (lists old) p l) (g.4 ∙ ap (λ (l : List Note). l ++ n ∷ []) (sym on))
-
-  pub room_grows : (p cells : ℕ) (o : Option Note) (old new : List (Vec Note Z)) → NotesGrow p o old new
-      → ((q : ℕ) (v : Vec Note Z) → slice_get old q ≡ Some v → cells ≤ vec_capacity v)
-      → (q : ℕ) (v : Vec Note Z) → slice_get new q ≡ Some v → cells ≤ vec_capacity v
-  room_grows p cells None old new g wide q v e = wide q v (ap (λ (l : List (Vec Note Z)). slice_get l q) (sym g) ∙ e)
-  room_grows p cells (Some n) old new g wide q v e =
-      ⊎_elim
-      (λ (t : (q ≡ p) × (g.1 ≡ v)).
-      let large = wide p g.0 g.2 in
-      let same : vec_capacity v ≡ vec_capacity g.0 = ap (λ (z : Vec Note Z). vec_capacity z) (sym t.1) ∙ g.5 in
-      omega arith)
-      (λ (t : (q ≢ p) × (slice_get old q ≡ Some v)). wide q v t.1)
-      (set_get old p q g.1 v (ap (λ (l : List (Vec Note Z)). slice_get l q) (sym g.3) ∙ e))
+-- ---- the notes
+-- there is as much room as before
+pub room_stays : (p cells : ℕ) (o : Option Note) (old new : NotesView) → NotesGrow p o old new → HasAllRoom cells old → HasAllRoom cells new
+room_stays p cells o old new g wide = let same = g.room in omega (arith, same, wide)
 
 -- ---- a consumer of the mailbox
 pub claims_size : (m : MailboxView) (s now : ConsumerView) → s ≡ now → IsConsumerOf m now

@@ -1,33 +1,33 @@
 -- Where a poll begins with a claim, and one access more of it.
 use Rattle.std.proofs.Common.{◌≡◌, ℕ, ◌+◌, ◌<◌, List, length, sym, ap, ◌∙◌, subst, arith}
-use Rattle.std.specs.Prelude.{Some, None, Vec, slice_get}
+use Rattle.std.specs.Prelude.{Some, None, slice_get, sum_by}
 use Rattle.mb_claim.specs.declared.access.Stage.TheVariants as stage
 use Rattle.mb_shared_claims.specs.Vocabulary.{IsSeatStep}
-use Rattle.mb_mailbox.specs.Below.{Claim, ClaimTable, IsClaimIn, Note, ReaderSeatView, SeatView, Stream, TableSize, claim_stage, consumer_of, next_u64, note_of, part_on}
+use Rattle.mb_mailbox.specs.Below.{Claim, ClaimTable, IsClaimIn, ReaderSeatView, SeatView, Stream, TableSize, claim_stage, consumer_of, next_u64, note_of, part_on}
 use Rattle.mb_mailbox.specs.declared.place.Place.{Place}
 use Rattle.mb_mailbox.specs.declared.place.Place.TheVariants.{At}
 use Rattle.mb_mailbox.specs.Consumers.{ConsumerView, IsConsumer, IsConsumerOf}
 use Rattle.mb_mailbox.specs.Mailboxes.{MailboxView}
 use Rattle.mb_mailbox.specs.Moves.{HasLoads, HasPlace}
-use Rattle.mb_mailbox.specs.NoteLists.{HasRoom}
-use Rattle.mb_mailbox.specs.Pursuits.{HasCompeted, HasWideLists, consumer_with, holding}
+use Rattle.mb_mailbox.specs.LaneNotes.{NotesView}
+use Rattle.mb_mailbox.specs.NoteLists.{HasAllRoom, HasRoom}
+use Rattle.mb_mailbox.specs.Pursuits.{HasCompeted, consumer_with, holding}
 use Rattle.mb_mailbox.specs.Steps.{AreSteps}
 use Rattle.mb_mailbox.proofs.Competing.{IsNext, MovesOn, competed_more, competed_none}
 use Rattle.mb_mailbox.proofs.Lists.{get_some, set_here, set_length}
-use Rattle.mb_mailbox.proofs.Made.{lists, room_there}
 use Rattle.mb_mailbox.proofs.Moving.{holds}
 
 -- the fields of a consumer which is to stand at this claim
-pub record Start {Z : Type 0} (m : MailboxView) (p k : ℕ) (claim : Claim) (reader : ReaderSeatView) (seat : SeatView) (places : List Place)
-    (notes : List (Vec Note Z)) : Type 0 where
+pub record Start (m : MailboxView) (p k : ℕ) (claim : Claim) (reader : ReaderSeatView) (seat : SeatView) (places : List Place)
+    (notes : NotesView) : Type 0 where
   pub held : IsConsumer (holding p k claim (consumer_with reader seat places notes))
   pub of : IsConsumerOf m (consumer_with reader seat places notes)
   pub lane : p < length places
-  pub wide : HasWideLists reader.table.size.cells notes
+  pub wide : HasAllRoom reader.table.size.cells notes
   pub loads : HasLoads (consumer_with reader seat places notes)
 
-module _ {Z : Type 0} (m : MailboxView) (p k : ℕ) (claim : Claim) (reader : ReaderSeatView) (seat : SeatView) (places : List Place)
-    (notes : List (Vec Note Z)) (start : Start m p k claim reader seat places notes) where
+module _ (m : MailboxView) (p k : ℕ) (claim : Claim) (reader : ReaderSeatView) (seat : SeatView) (places : List Place)
+    (notes : NotesView) (start : Start m p k claim reader seat places notes) where
   abbrev s : ConsumerView
   s = holding p k claim (consumer_with reader seat places notes)
 
@@ -37,11 +37,11 @@ module _ {Z : Type 0} (m : MailboxView) (p k : ℕ) (claim : Claim) (reader : Re
   pub here : HasPlace p (At k claim) s
   here = set_here places p (At k claim) there.0 there.1
 
-  pub start_room : ((ns : List Note) → slice_get s.notes p ≡ Some ns → length ns < reader.table.size.cells) → HasRoom p notes
-  start_room few =
-      let low : p < length (lists notes) =
-      subst (λ n. p < n) (sym (set_length places p (At k claim)) ∙ start.held.places_count ∙ sym start.held.notes_count) start.lane in
-      room_there p reader.table.size.cells notes low start.wide few
+  pub start_room : sum_by length s.notes < reader.table.size.cells → HasRoom p notes
+  start_room few = record {
+    lane = subst (λ n. p < n) (sym (set_length places p (At k claim)) ∙ start.held.places_count ∙ sym start.held.notes_count) start.lane;
+    room = let wide = start.wide in omega (arith, few, wide);
+  }
 
   pub table : seat.table.size ≡ Some (record { layout = m.claims.layout; cells = m.claims.cells })
   table = ap (λ (t : ClaimTable). t.size) start.of.claims

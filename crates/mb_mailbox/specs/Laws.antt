@@ -3,7 +3,7 @@ use Rattle.std.specs.Prelude.{ℕ, ◌≡◌, ◌≢◌, ◌⊎◌, ◌+◌, ◌
 use Rattle.mb_quorum.specs.Vocabulary.{IsQuorumTable}
 use Rattle.mb_claim.specs.Vocabulary.{quorums_of}
 use Rattle.mb_claim.specs.declared.access.Stage.TheVariants as stage
-use Rattle.mb_cells.specs.Vocabulary.{HasLoaded, IsStart}
+use Rattle.mb_cells.specs.Vocabulary.{HasLoaded, IsStart, items_put}
 use Rattle.mb_cells.specs.declared.access.Process.{Process}
 use Rattle.mb_world.specs.Reporting.{HasMetAll}
 use Rattle.mb_mailbox.specs.Below.{ClaimAccess, Claims, END, Fits, FollowsLinks, Gave, Has, HasMet, HasNotLeft}
@@ -27,6 +27,8 @@ pub record Laws : Type 0 where
       → Has (linked_cells p h) k → (p < size.lanes) × (k < size.cells)
   pub few : (size : PoolSize) (h : History) (p : ℕ) → IsPoolLawful size h
       → length (linked_cells p h) ≤ size.cells
+  pub share : (size : PoolSize) (h : History) → IsPoolLawful size h
+      → items_put size.lanes h ≤ size.cells
   pub older : (size : PoolSize) (later older : History) → IsPoolLawful size (later ++ older)
       → IsPoolLawful size older
   -- ---- parts

@@ -4,6 +4,7 @@ pub mod Consumers
 pub mod ConsumerStep
 pub mod Steps
 pub mod Laws
+pub mod LaneNotes
 pub mod NoteLists
 pub mod Pursuits
 pub mod Moves

@@ -1,7 +1,8 @@
--- The places and the lists of a consumer that has done nothing.
-use Rattle.std.specs.Prelude.{ℕ, ◌≡◌, ◌≤◌, List, [], Some, Vec, length, slice_get, vec_capacity}
+-- The places and the notes of a consumer that has done nothing.
+use Rattle.std.specs.Prelude.{ℕ, ◌≡◌, ◌≤◌, List, [], Some, Vec, length, slice_get}
 use Rattle.mb_cells.specs.declared.cursor.Cursor.TheVariants.{Head}
 use Rattle.mb_mailbox.specs.Below.{Note}
+use Rattle.mb_mailbox.specs.LaneNotes.{NotesView}
 use Rattle.mb_mailbox.specs.declared.place.Place.{Place}
 use Rattle.mb_mailbox.specs.declared.place.Place.TheVariants.{Before}
 
@@ -10,8 +11,13 @@ pub record AreHeads (lanes : ℕ) (places : List Place) : Type 0 where
   pub count : length places ≡ lanes
   pub each : (p : ℕ) (place : Place) → slice_get places p ≡ Some place → place ≡ Before (Head p)
 
--- an empty list for each of so many lanes, each with room for so many notes
-pub record AreEmptyLists {Z : Type 0} (lanes cells : ℕ) (lists : List (Vec Note Z)) : Type 0 where
+-- no note on each of so many lanes, and room for so many
+pub record AreNoNotes (lanes most : ℕ) (notes : NotesView) : Type 0 where
+  pub count : length notes.lists ≡ lanes
+  pub empty : (p : ℕ) (list : List Note) → slice_get notes.lists p ≡ Some list → list ≡ []
+  pub room : most ≤ notes.room
+
+-- an empty list for each of so many lanes
+pub record AreEmptyLists {Z : Type 0} (lanes : ℕ) (lists : List (Vec Note Z)) : Type 0 where
   pub count : length lists ≡ lanes
   pub empty : (p : ℕ) (v : Vec Note Z) → slice_get lists p ≡ Some v → v.items ≡ []
-  pub room : (p : ℕ) (v : Vec Note Z) → slice_get lists p ≡ Some v → cells ≤ vec_capacity v

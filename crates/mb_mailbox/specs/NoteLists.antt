@@ -1,24 +1,27 @@
--- The lists of notes, which have their room from the beginning; and where a consumer stands after an access
--- of a claim.
-use Rattle.std.specs.Prelude.{ℕ, ◌≡◌, ◌<◌, ◌++◌, List, [], ◌∷◌, Option, Some, None}
-use Rattle.std.specs.Prelude.{Vec, slice_get, slice_set, vec_capacity, vec_len}
+-- The notes of a consumer, which have their room from the beginning; and where a consumer stands after an access of a
+-- claim.
+use Rattle.std.specs.Prelude.{ℕ, ◌≡◌, ◌<◌, ◌≤◌, Option, length, sum_by}
 use Rattle.mb_claim.specs.declared.access.Stage.TheVariants as stage
 use Rattle.mb_cells.specs.declared.cursor.Cursor.TheVariants.{Past}
 use Rattle.mb_mailbox.specs.Below.{Claim, Note, Stage}
+use Rattle.mb_mailbox.specs.LaneNotes.{NotesView}
+use Rattle.mb_mailbox.specs.Steps.{with_note}
 use Rattle.mb_mailbox.specs.declared.place.Place.{Place}
 use Rattle.mb_mailbox.specs.declared.place.Place.TheVariants.{At, Before}
 
-module _ {Z : Type 0} where
-  -- there is room for one more note on lane p
-  abbrev pub HasRoom : ℕ → List (Vec Note Z) → Type 0
-  HasRoom p lists = (v : Vec Note Z) × (slice_get lists p ≡ Some v) × (vec_len v < vec_capacity v)
+-- there is such a lane, and room for one more note
+pub record HasRoom (p : ℕ) (notes : NotesView) : Type 0 where
+  pub lane : p < length notes.lists
+  pub room : sum_by length notes.lists < notes.room
 
-  -- the lists have one note more on lane p, if there is one, and their room stays
-  abbrev pub NotesGrow : ℕ → Option Note → List (Vec Note Z) → List (Vec Note Z) → Type 0
-  NotesGrow p None old new = new ≡ old
-  NotesGrow p (Some n) old new =
-      (v : Vec Note Z) × (w : Vec Note Z) × (slice_get old p ≡ Some v) × (new ≡ slice_set old p w)
-      × (w.items ≡ v.items ++ n ∷ []) × (vec_capacity w ≡ vec_capacity v)
+-- there is room for as many notes as there are cells, on all lanes together
+abbrev pub HasAllRoom : ℕ → NotesView → Type 0
+HasAllRoom cells notes = cells ≤ notes.room
+
+-- there is one note more on lane p, if there is one, and the room stays
+pub record NotesGrow (p : ℕ) (note : Option Note) (old new : NotesView) : Type 0 where
+  pub lists : new.lists ≡ with_note p note old.lists
+  pub room : new.room ≡ old.room
 
 -- where a consumer stands after an access of its claim on cell k, which has come to this stage
 abbrev pub place_after : ℕ → Claim → Stage → Place

@@ -1,27 +1,21 @@
 -- A poll that keeps the claim of its lane in a variable, while the place there is behind.
-use Rattle.std.specs.Prelude.{ℕ, ◌≡◌, ◌≢◌, ◌+◌, ◌≤◌, Some, List, Vec, map, slice_get, slice_set, vec_capacity}
-use Rattle.mb_mailbox.specs.Below.{Claim, Note, ReaderSeatView, SeatView, Stream, claim_stage, note_of}
+use Rattle.std.specs.Prelude.{ℕ, ◌≡◌, ◌≢◌, ◌+◌, ◌≤◌, List, slice_set}
+use Rattle.mb_mailbox.specs.Below.{Claim, ReaderSeatView, SeatView, Stream, claim_stage, note_of}
 use Rattle.mb_mailbox.specs.declared.consumer.Poll.{Poll}
 use Rattle.mb_mailbox.specs.declared.consumer.Poll.TheVariants as poll
 use Rattle.mb_mailbox.specs.declared.place.Place.{Place}
 use Rattle.mb_mailbox.specs.declared.place.Place.TheVariants.{At}
 use Rattle.mb_mailbox.specs.Consumers.{ConsumerView, IsConsumer}
 use Rattle.mb_mailbox.specs.ConsumerStep.{stage_answer}
+use Rattle.mb_mailbox.specs.LaneNotes.{NotesView}
 use Rattle.mb_mailbox.specs.Moves.{moved_to}
 use Rattle.mb_mailbox.specs.NoteLists.{place_after}
 use Rattle.mb_mailbox.specs.Steps.{AreSteps, HasNoteOnEach, outcome}
 
 -- ---- the consumer of these fields
-module _ {Z : Type 0} where
-  abbrev pub consumer_with : ReaderSeatView → SeatView → List Place → List (Vec Note Z)
-      → ConsumerView
-  consumer_with reader seat places notes =
-      record { reader = reader; seat = seat; places = places; notes = map (λ v. v.items) notes }
-
-  -- each list of notes has room for so many
-  abbrev pub HasWideLists : ℕ → List (Vec Note Z) → Type 0
-  HasWideLists cells notes =
-      (p : ℕ) (v : Vec Note Z) → slice_get notes p ≡ Some v → cells ≤ vec_capacity v
+abbrev pub consumer_with : ReaderSeatView → SeatView → List Place → NotesView → ConsumerView
+consumer_with reader seat places notes =
+    record { reader = reader; seat = seat; places = places; notes = notes.lists }
 
 -- the consumer, standing at cell k of lane p with this claim there
 abbrev pub holding : ℕ → ℕ → Claim → ConsumerView → ConsumerView

@@ -7,6 +7,7 @@ use self::moving::{answers_tell_lanes, consumers_move_on, places_tell_steps};
 use self::places::place_at;
 use self::pursuing::{Held, pursue};
 use crate::mailbox::Mailbox;
+use crate::notes::Notes;
 use crate::place::Place;
 use arrayvec::ArrayVec;
 use mb_cells::Look;
@@ -14,7 +15,6 @@ use mb_cells::laws::looks_tell_links;
 use mb_claim::Claim;
 use mb_shared_cells::ReaderSeat;
 use mb_shared_claims::ClaimSeat;
-use mb_world::Note;
 use rand_core::Rng;
 use std::alloc::Allocator;
 use std::marker::Model;
@@ -45,12 +45,12 @@ pub struct Consumer<A: Allocator + Drop> {
     pub(crate) reader: ReaderSeat,
     pub(crate) seat: ClaimSeat,
     pub(crate) places: ArrayVec<Place, 16>,
-    pub(crate) notes: Vec<Vec<Note, A>, A>,
+    pub(crate) notes: Notes<A>,
 }
 
 impl<A: Allocator + Drop> Model for Consumer<A> {
-    ghost use Rattle.std.specs.Prelude.{ℕ, ◌≡◌, ◌≤◌, Some, map, slice_get, vec_capacity};
     ghost use Rattle.mb_mailbox.specs.Consumers.{ConsumerView, IsConsumer};
+    ghost use Rattle.mb_mailbox.specs.NoteLists.{HasAllRoom};
 
     ghost Value = { ConsumerView };
 
@@ -58,16 +58,16 @@ impl<A: Allocator + Drop> Model for Consumer<A> {
       reader = c.reader;
       seat = c.seat;
       places = c.places.items;
-      notes = map (λ v. v.items) c.notes.items;
+      notes = c.notes.lists;
     } };
 
     ghost invariant = { λ c. IsConsumer (record {
       reader = c.reader;
       seat = c.seat;
       places = c.places.items;
-      notes = map (λ v. v.items) c.notes.items;
+      notes = c.notes.lists;
     })
-        × ((p : ℕ) (v : _) → slice_get c.notes.items p ≡ Some v → c.reader.table.size.cells ≤ vec_capacity v) };
+        × HasAllRoom c.reader.table.size.cells c.notes };
 }
 
 impl<A: Allocator + Drop> Consumer<A> {

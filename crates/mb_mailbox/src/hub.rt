@@ -1,19 +1,19 @@
 //! The hub of a mailbox, which gives producers and consumers and takes them in.
-ghost use Rattle.std.specs.Prelude.{◌≤◌, IfOk};
-ghost use Rattle.mb_mailbox.specs.NewConsumers.{AreEmptyLists, AreHeads};
+ghost use Rattle.std.specs.Prelude.{◌≤◌};
+ghost use Rattle.mb_mailbox.specs.NewConsumers.{AreHeads};
 
 use crate::consumer::Consumer;
 use crate::mailbox::Mailbox;
+use crate::notes::Notes;
 use crate::place::Place;
 use crate::producer::Producer;
 use crate::taken::{Ledger, PutList};
 use arrayvec::ArrayVec;
+use mb_cells::Cursor;
 use mb_cells::laws::{lanes_share_cells, parts_tell_lanes};
 use mb_cells::steps::parts_have_accesses;
-use mb_cells::{Cursor, NoMemory};
 use mb_shared_cells::CellHub;
 use mb_shared_claims::ClaimHub;
-use mb_world::Note;
 use mb_world::steps::parts_fit_on;
 use std::alloc::Allocator;
 use std::error::Error;
@@ -197,11 +197,7 @@ impl<A: Allocator + Clone + Drop> Hub<A> {
         if self.ledgers.len() >= mailbox.claims.layout().consumers() as usize {
             return Err(HubFault::AllGiven);
         }
-        let Ok(notes) = empty_lists(
-            alloc,
-            mailbox.lanes as usize,
-            mailbox.claims.cells() as usize,
-        ) else {
+        let Ok(notes) = Notes::new(alloc, mailbox.lanes, mailbox.claims.cells() as usize) else {
             return Err(HubFault::NoMemory);
         };
         let Ok(seat) = mailbox.claims.enroll(&mut self.claims) else {
@@ -228,19 +224,4 @@ fn before_heads(lanes: u32) -> ArrayVec<Place, 16>
         places.push(Place::Before(Cursor::head(p)));
     }
     places
-}
-
-/// So many empty lists of notes, each with room for as many notes as there are cells.
-fn empty_lists<A: Allocator + Clone + Drop>(
-    alloc: A,
-    lanes: usize,
-    cells: usize,
-) -> Result<Vec<Vec<Note, A>, A>, NoMemory>
-    ensures { IfOk result (λ lists. AreEmptyLists lanes cells lists.items) }
-{
-    let mut lists = Vec::with_capacity(alloc.clone()?, lanes)?;
-    for p in 0..lanes {
-        lists.push(Vec::with_capacity(alloc.clone()?, cells)?)?;
-    }
-    Ok(lists)
 }

@@ -37,6 +37,7 @@ mod gather;
 mod hub;
 pub mod laws;
 mod mailbox;
+mod notes;
 mod place;
 mod producer;
 mod taken;

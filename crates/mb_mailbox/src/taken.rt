@@ -1,7 +1,7 @@
 //! What a hub keeps of those that it took in.
+use crate::notes::Notes;
 use crate::place::Place;
 use arrayvec::ArrayVec;
-use mb_world::Note;
 use std::alloc::Allocator;
 use std::marker::Model;
 
@@ -24,17 +24,16 @@ impl<A: Allocator + Drop> Model for PutList<A> {
 #[derive(Drop)]
 pub(crate) struct Ledger<A: Allocator + Drop> {
     pub(crate) places: ArrayVec<Place, 16>,
-    pub(crate) notes: Vec<Vec<Note, A>, A>,
+    pub(crate) notes: Notes<A>,
 }
 
 impl<A: Allocator + Drop> Model for Ledger<A> {
-    ghost use Rattle.std.specs.Prelude.{map};
     ghost use Rattle.mb_mailbox.specs.Hubs.{LedgerView};
 
     ghost Value = { LedgerView };
 
     ghost view = { λ l. record {
       places = l.places.items;
-      notes = map (λ v. v.items) l.notes.items;
+      notes = l.notes.lists;
     } };
 }

@@ -1,6 +1,6 @@
 //! How a consumer moves on by one access. The functions compute nothing: their contracts are the laws on which the steps
 //! stand, and their bodies name the laws below.
-ghost use Rattle.std.specs.Prelude.{ℕ, ◌≡◌, ◌≢◌, ◌+◌, ◌<◌, ◌⊎◌, List, [], ◌∷◌, None, Some, length, slice_get};
+ghost use Rattle.std.specs.Prelude.{ℕ, ◌≡◌, ◌≢◌, ◌+◌, ◌<◌, ◌⊎◌, List, [], ◌∷◌, None, Some, length, sum_by};
 ghost use Rattle.mb_claim.specs.declared.access.ClaimOp.{ClaimOp};
 ghost use Rattle.mb_claim.specs.declared.access.Stage.TheVariants as stage;
 ghost use Rattle.mb_cells.specs.declared.cursor.Cursor.TheVariants.{Past};
@@ -18,7 +18,7 @@ ghost use Rattle.mb_shared_cells.specs.Vocabulary.{LookMakes};
 ghost use Rattle.mb_cells.specs.declared.answer.Look.TheVariants as look;
 ghost use Rattle.mb_mailbox.specs.declared.place.Place.TheVariants.{At, Before};
 
-use mb_cells::laws::{cells_stand_once, looks_tell_links, readers_follow_lanes};
+use mb_cells::laws::{cells_stand_once, lanes_share_cells, looks_tell_links, readers_follow_lanes};
 use mb_cells::steps::{
     accesses_lengthen_one_part as loads_lengthen_one_part, one_step, parts_have_accesses,
 };
@@ -32,6 +32,7 @@ fn laws_hold()
     ensures { Laws }
 {
     cells_stand_once();
+    lanes_share_cells();
     readers_follow_lanes();
     one_step();
     parts_have_accesses();
@@ -76,9 +77,8 @@ pub(super) fn consumers_move_on()
         → HasPlace p (At k claim) s → Gave k s.reader.part }
     ensures within { (s : ConsumerView) (p k : ℕ) (claim : Claim) → IsConsumer s → HasLoads s
         → HasPlace p (At k claim) s → k < s.reader.table.size.cells }
-    ensures room { (s : ConsumerView) (p k : ℕ) (claim : Claim) (notes : List Note) → IsConsumer s
-        → HasLoads s → HasPlace p (At k claim) s → slice_get s.notes p ≡ Some notes
-        → length notes < s.reader.table.size.cells }
+    ensures room { (s : ConsumerView) (p k : ℕ) (claim : Claim) → IsConsumer s → HasLoads s
+        → HasPlace p (At k claim) s → sum_by length s.notes < s.reader.table.size.cells }
 
     // It makes an access of that claim, whose stage then says where it stands, and its note.
     ensures competes { (s : ConsumerView) (p k word seen : ℕ) (claim now : Claim) (next : ClaimOp)

@@ -1,10 +1,11 @@
-//! The places and the notes of a consumer, by the numbers of lanes.
+//! The places of a consumer, by the numbers of lanes.
 ghost use Rattle.std.specs.Prelude.{◌≡◌, ◌<◌, Some, slice_get, slice_set};
 ghost use Rattle.arrayvec.specs.ArrayVec.{array_vec_len};
 ghost use Rattle.mb_cells.specs.declared.cursor.Cursor.TheVariants.{Past};
 ghost use Rattle.mb_mailbox.specs.NoteLists.{HasRoom, NotesGrow};
 ghost use Rattle.mb_mailbox.specs.declared.place.Place.TheVariants.{At, Before};
 
+use crate::notes::Notes;
 use crate::place::Place;
 use arrayvec::ArrayVec;
 use mb_cells::Cursor;
@@ -39,29 +40,20 @@ pub(super) fn stay(places: &mut ArrayVec<Place, 16>, p: usize, k: u32, claim: Cl
     set_place(places, p, Place::At { cell: k, claim });
 }
 
-/// Puts a note behind those of lane `p`, where there is room for it.
-#[inline(always)]
-fn add_note<A: Allocator + Drop>(notes: &mut Vec<Vec<Note, A>, A>, p: usize, note: Note)
-    requires { HasRoom p notes.old.items }
-    ensures { NotesGrow p (Some note) notes.old.items notes.new.items }
-{
-    notes[p].push_reserved(note);
-}
-
-/// Stands past cell `k` on lane `p`, with this note of it.
+/// Stands past cell `k` on this lane, with this note of it.
 #[inline(always)]
 pub(super) fn leave<A: Allocator + Drop>(
     places: &mut ArrayVec<Place, 16>,
-    notes: &mut Vec<Vec<Note, A>, A>,
-    p: usize,
+    notes: &mut Notes<A>,
+    lane: u32,
     k: u32,
     note: Note,
 )
-    requires place { p < array_vec_len places.old }
-    requires room { HasRoom p notes.old.items }
-    ensures place { places.new.items ≡ slice_set places.old.items p (Before (Past k)) }
-    ensures notes { NotesGrow p (Some note) notes.old.items notes.new.items }
+    requires place { lane < array_vec_len places.old }
+    requires room { HasRoom lane notes.old }
+    ensures place { places.new.items ≡ slice_set places.old.items lane (Before (Past k)) }
+    ensures notes { NotesGrow lane (Some note) notes.old notes.new }
 {
-    set_place(places, p, Place::Before(Cursor::past(k)));
-    add_note(notes, p, note);
+    set_place(places, lane as usize, Place::Before(Cursor::past(k)));
+    notes.push(lane, note);
 }

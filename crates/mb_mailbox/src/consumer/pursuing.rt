@@ -8,8 +8,8 @@ ghost use Rattle.mb_cells.specs.declared.cursor.Cursor.TheVariants.{Past};
 ghost use Rattle.mb_shared_cells.specs.Vocabulary.{ItemMakes};
 ghost use Rattle.mb_mailbox.specs.Below.{Gave, Stream, Took, claim_stage};
 ghost use Rattle.mb_mailbox.specs.Consumers.{ConsumerView, IsConsumer, IsConsumerOf};
-ghost use Rattle.mb_mailbox.specs.NoteLists.{HasRoom, NotesGrow};
-ghost use Rattle.mb_mailbox.specs.Pursuits.{HasWideLists, IsPursuit, consumer_with, holding};
+ghost use Rattle.mb_mailbox.specs.NoteLists.{HasAllRoom, HasRoom, NotesGrow};
+ghost use Rattle.mb_mailbox.specs.Pursuits.{IsPursuit, consumer_with, holding};
 ghost use Rattle.mb_mailbox.specs.Steps.{AreSteps};
 ghost use Rattle.mb_mailbox.specs.declared.consumer.Poll.TheVariants as poll;
 ghost use Rattle.mb_mailbox.specs.declared.place.Place.TheVariants.{Before};
@@ -18,6 +18,7 @@ use super::Poll;
 use super::moving::{consumers_move_on, places_tell_steps};
 use super::places::{leave, stay};
 use crate::mailbox::Mailbox;
+use crate::notes::Notes;
 use crate::place::Place;
 use arrayvec::ArrayVec;
 use mb_claim::laws::{claims_have_steps_left, last_objects_decide_claims};
@@ -28,26 +29,26 @@ use mb_world::Note;
 use rand_core::Rng;
 use std::alloc::Allocator;
 
-/// Loads the item of cell `k`, and stands past the cell on lane `p`.
+/// Loads the item of cell `k`, and stands past the cell on this lane.
 #[inline(always)]
 fn take<A: Allocator + Drop, B: Allocator + Drop>(
     places: &mut ArrayVec<Place, 16>,
-    notes: &mut Vec<Vec<Note, A>, A>,
+    notes: &mut Notes<A>,
     reader: &mut ReaderSeat,
     mailbox: &Mailbox<B>,
-    p: usize,
+    lane: u32,
     k: u32,
 ) -> u64
     requires table { reader.old.table ≡ mailbox.now.cells }
     requires may { Gave k reader.old.part }
-    requires place { p < array_vec_len places.old }
-    requires room { HasRoom p notes.old.items }
+    requires place { lane < array_vec_len places.old }
+    requires room { HasRoom lane notes.old }
     ensures makes { ItemMakes reader.old k result reader.new }
-    ensures place { places.new.items ≡ slice_set places.old.items p (Before (Past k)) }
-    ensures notes { NotesGrow p (Some (Took result)) notes.old.items notes.new.items }
+    ensures place { places.new.items ≡ slice_set places.old.items lane (Before (Past k)) }
+    ensures notes { NotesGrow lane (Some (Took result)) notes.old notes.new }
 {
     let item = mailbox.cells.item(reader, k);
-    leave(places, notes, p, k, Note::Took(item));
+    leave(places, notes, lane, k, Note::Took(item));
     item
 }
 
@@ -64,7 +65,7 @@ pub(super) struct Held {
 #[inline(always)]
 pub(super) fn pursue<A: Allocator + Drop, B: Allocator + Drop, R: Rng>(
     places: &mut ArrayVec<Place, 16>,
-    notes: &mut Vec<Vec<Note, A>, A>,
+    notes: &mut Notes<A>,
     reader: &mut ReaderSeat,
     seat: &mut ClaimSeat,
     mailbox: &Mailbox<B>,
@@ -73,20 +74,20 @@ pub(super) fn pursue<A: Allocator + Drop, B: Allocator + Drop, R: Rng>(
     rng: &mut R,
 ) -> Poll
     requires held { IsConsumer (holding held.lane held.cell held.claim
-        (consumer_with reader.old seat.old places.old.items notes.old.items)) }
+        (consumer_with reader.old seat.old places.old.items notes.old)) }
     requires won { claim_stage held.claim ≡ stage.Won → 0 < most }
     requires of { IsConsumerOf mailbox.now
-        (consumer_with reader.old seat.old places.old.items notes.old.items) }
+        (consumer_with reader.old seat.old places.old.items notes.old) }
     requires lane { held.lane < array_vec_len places.old }
-    requires wide { HasWideLists reader.old.table.size.cells notes.old.items }
+    requires wide { HasAllRoom reader.old.table.size.cells notes.old }
 
     // Whatever was done before came to no answer.
     ensures pursued { (from : ConsumerView) (n : ℕ) (t : Stream)
         → AreSteps held.lane n None t (R.stream rng.old) from (holding held.lane held.cell held.claim
-        (consumer_with reader.old seat.old places.old.items notes.old.items))
+        (consumer_with reader.old seat.old places.old.items notes.old))
         → IsPursuit held.lane n most result t (R.stream rng.new) from
-        (consumer_with reader.new seat.new places.new.items notes.new.items) }
-    ensures wide { HasWideLists reader.new.table.size.cells notes.new.items }
+        (consumer_with reader.new seat.new places.new.items notes.new) }
+    ensures wide { HasAllRoom reader.new.table.size.cells notes.new }
 
     // A claim comes to its end by no more accesses than its layout allows, and with a last object it is decided then.
     ensures few { result ≡ poll.Spent → most ≤ most_accesses mailbox.now.claims.layout }
@@ -104,7 +105,7 @@ pub(super) fn pursue<A: Allocator + Drop, B: Allocator + Drop, R: Rng>(
     } = held;
     let p = lane as usize;
     if let Stage::Won = claim.stage() {
-        return Poll::Took(take(places, notes, reader, mailbox, p, cell));
+        return Poll::Took(take(places, notes, reader, mailbox, lane, cell));
     }
     for made in 0..most {
         let word = rng.next_u64();
@@ -112,17 +113,17 @@ pub(super) fn pursue<A: Allocator + Drop, B: Allocator + Drop, R: Rng>(
             Stage::Going => {}
             Stage::Won => {
                 if made + 1 < most {
-                    return Poll::Took(take(places, notes, reader, mailbox, p, cell));
+                    return Poll::Took(take(places, notes, reader, mailbox, lane, cell));
                 }
                 stay(places, p, cell, claim);
                 return Poll::Spent;
             }
             Stage::Lost(w) => {
-                leave(places, notes, p, cell, Note::Lost(w));
+                leave(places, notes, lane, cell, Note::Lost(w));
                 return Poll::Lost(w);
             }
             Stage::Undecided => {
-                leave(places, notes, p, cell, Note::Undecided);
+                leave(places, notes, lane, cell, Note::Undecided);
                 return Poll::Undecided;
             }
         }

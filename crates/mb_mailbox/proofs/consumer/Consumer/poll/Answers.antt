@@ -12,33 +12,33 @@ use Rattle.mb_mailbox.specs.Steps.{AnswerTells, AreSteps, IsPollOf}
 use Rattle.mb_mailbox.specs.Pursuits.{holding}
 use Rattle.mb_mailbox.proofs.Ending.{holds_it, not_no_lane, poll_by, pursuit_tells, still_of}
 use Rattle.mb_mailbox.proofs.Lists.{set_same, some_same}
-use Rattle.mb_mailbox.proofs.Made.{at_views, cells_size, claims_size, lists, look_made, moved_has}
+use Rattle.mb_mailbox.proofs.Made.{at_views, cells_size, claims_size, look_made, moved_has}
 use Rattle.mb_mailbox.proofs.Polls.{no_steps, one_step, poll_of}
 use Rattle.mb_mailbox.proofs.consumer.Consumer.poll.Goals as goal
 
 pub pursue-requires-clause-held : goal.pursue-requires-clause-held
 pursue-requires-clause-held g c =
-    let s = at_views c.self.inside.reader c.self.inside.seat c.self.inside.places.items (lists c.self.inside.notes.items) in
+    let s = at_views c.self.inside.reader c.self.inside.seat c.self.inside.places.items c.self.inside.notes.lists in
     let e = c.place_at.ensures ∙ ap (λ (z : Place). Some z) c.in-At.is in
     let hold : holding c.args.lane c.in-At.cell c.in-At.claim s ≡ s = holds_it c.args.lane c.in-At.cell c.in-At.claim s e in
     subst IsConsumer (sym hold) c.self.invariant.0
 
 pub invariant_of-self : goal.invariant_of-self
 invariant_of-self g c =
-    let s = at_views c.self.inside.reader c.self.inside.seat c.self.inside.places.items (lists c.self.inside.notes.items) in
+    let s = at_views c.self.inside.reader c.self.inside.seat c.self.inside.places.items c.self.inside.notes.lists in
     let e = c.place_at.ensures ∙ ap (λ (z : Place). Some z) c.in-At.is in
     let hold : holding c.args.lane c.in-At.cell c.in-At.claim s ≡ s = holds_it c.args.lane c.in-At.cell c.in-At.claim s e in
     let so = c.pursue.ensures.pursued s 0 (g.R.Rng.stream c.args.rng.now) (subst (λ z. AreSteps c.args.lane 0 None (g.R.Rng.stream c.args.rng.now) (g.R.Rng.stream c.args.rng.now) s z) (sym hold) (no_steps c.args.lane (g.R.Rng.stream c.args.rng.now) s)) in
-    let new = at_views c.pursue.new.reader c.pursue.new.seat c.pursue.new.places.items (lists c.pursue.new.notes.items) in
+    let new = at_views c.pursue.new.reader c.pursue.new.seat c.pursue.new.places.items c.pursue.new.notes.lists in
     (so.is, c.pursue.ensures.wide)
 
 pub returns-in-At-clause-no_lane : goal.returns-in-At-clause-no_lane
 returns-in-At-clause-no_lane g c =
-    let s = at_views c.self.inside.reader c.self.inside.seat c.self.inside.places.items (lists c.self.inside.notes.items) in
+    let s = at_views c.self.inside.reader c.self.inside.seat c.self.inside.places.items c.self.inside.notes.lists in
     let e = c.place_at.ensures ∙ ap (λ (z : Place). Some z) c.in-At.is in
     let hold : holding c.args.lane c.in-At.cell c.in-At.claim s ≡ s = holds_it c.args.lane c.in-At.cell c.in-At.claim s e in
     let so = c.pursue.ensures.pursued s 0 (g.R.Rng.stream c.args.rng.now) (subst (λ z. AreSteps c.args.lane 0 None (g.R.Rng.stream c.args.rng.now) (g.R.Rng.stream c.args.rng.now) s z) (sym hold) (no_steps c.args.lane (g.R.Rng.stream c.args.rng.now) s)) in
-    let new = at_views c.pursue.new.reader c.pursue.new.seat c.pursue.new.places.items (lists c.pursue.new.notes.items) in
+    let new = at_views c.pursue.new.reader c.pursue.new.seat c.pursue.new.places.items c.pursue.new.notes.lists in
     let lanes : c.len.result ≡ c.args.mailbox.now.cells.size.lanes =
     c.len.ensures.value ∙ c.self.invariant.0.places_count
     ∙ ap (λ (z : PoolSize). z.lanes) (cells_size c.args.mailbox.now s c.args.self.now c.self.view_is c.requires.of) in (
@@ -48,46 +48,46 @@ returns-in-At-clause-no_lane g c =
 
 pub returns-in-At-clause-refused : goal.returns-in-At-clause-refused
 returns-in-At-clause-refused g c =
-    let s = at_views c.self.inside.reader c.self.inside.seat c.self.inside.places.items (lists c.self.inside.notes.items) in
+    let s = at_views c.self.inside.reader c.self.inside.seat c.self.inside.places.items c.self.inside.notes.lists in
     let e = c.place_at.ensures ∙ ap (λ (z : Place). Some z) c.in-At.is in
     let hold : holding c.args.lane c.in-At.cell c.in-At.claim s ≡ s = holds_it c.args.lane c.in-At.cell c.in-At.claim s e in
     let so = c.pursue.ensures.pursued s 0 (g.R.Rng.stream c.args.rng.now) (subst (λ z. AreSteps c.args.lane 0 None (g.R.Rng.stream c.args.rng.now) (g.R.Rng.stream c.args.rng.now) s z) (sym hold) (no_steps c.args.lane (g.R.Rng.stream c.args.rng.now) s)) in
-    let new = at_views c.pursue.new.reader c.pursue.new.seat c.pursue.new.places.items (lists c.pursue.new.notes.items) in
+    let new = at_views c.pursue.new.reader c.pursue.new.seat c.pursue.new.places.items c.pursue.new.notes.lists in
     λ f. absurd (not_no_lane c.args.lane 0 c.args.budget c.pursue.result (g.R.Rng.stream c.args.rng.now) (g.R.Rng.stream c.pursue.new.rng) s new so f)
 
 pub returns-in-At-clause-polled : goal.returns-in-At-clause-polled
 returns-in-At-clause-polled g c =
-    let s = at_views c.self.inside.reader c.self.inside.seat c.self.inside.places.items (lists c.self.inside.notes.items) in
+    let s = at_views c.self.inside.reader c.self.inside.seat c.self.inside.places.items c.self.inside.notes.lists in
     let e = c.place_at.ensures ∙ ap (λ (z : Place). Some z) c.in-At.is in
     let hold : holding c.args.lane c.in-At.cell c.in-At.claim s ≡ s = holds_it c.args.lane c.in-At.cell c.in-At.claim s e in
     let so = c.pursue.ensures.pursued s 0 (g.R.Rng.stream c.args.rng.now) (subst (λ z. AreSteps c.args.lane 0 None (g.R.Rng.stream c.args.rng.now) (g.R.Rng.stream c.args.rng.now) s z) (sym hold) (no_steps c.args.lane (g.R.Rng.stream c.args.rng.now) s)) in
-    let new = at_views c.pursue.new.reader c.pursue.new.seat c.pursue.new.places.items (lists c.pursue.new.notes.items) in
+    let new = at_views c.pursue.new.reader c.pursue.new.seat c.pursue.new.places.items c.pursue.new.notes.lists in
     let sum : c.args.budget + 0 ≡ c.args.budget = omega arith in
     λ _. subst (λ o. IsPollOf c.args.lane c.args.budget c.pursue.result (g.R.Rng.stream c.args.rng.now) (g.R.Rng.stream c.pursue.new.rng) o new) c.self.view_is
     (poll_by c.args.lane 0 c.args.budget c.args.budget c.pursue.result (g.R.Rng.stream c.args.rng.now) (g.R.Rng.stream c.pursue.new.rng) s new sum so)
 
 pub returns-in-At-clause-told : goal.returns-in-At-clause-told
 returns-in-At-clause-told g c =
-    let s = at_views c.self.inside.reader c.self.inside.seat c.self.inside.places.items (lists c.self.inside.notes.items) in
+    let s = at_views c.self.inside.reader c.self.inside.seat c.self.inside.places.items c.self.inside.notes.lists in
     let e = c.place_at.ensures ∙ ap (λ (z : Place). Some z) c.in-At.is in
     let hold : holding c.args.lane c.in-At.cell c.in-At.claim s ≡ s = holds_it c.args.lane c.in-At.cell c.in-At.claim s e in
     let so = c.pursue.ensures.pursued s 0 (g.R.Rng.stream c.args.rng.now) (subst (λ z. AreSteps c.args.lane 0 None (g.R.Rng.stream c.args.rng.now) (g.R.Rng.stream c.args.rng.now) s z) (sym hold) (no_steps c.args.lane (g.R.Rng.stream c.args.rng.now) s)) in
-    let new = at_views c.pursue.new.reader c.pursue.new.seat c.pursue.new.places.items (lists c.pursue.new.notes.items) in
+    let new = at_views c.pursue.new.reader c.pursue.new.seat c.pursue.new.places.items c.pursue.new.notes.lists in
     λ _. pursuit_tells c.args.lane 0 c.args.budget c.pursue.result (g.R.Rng.stream c.args.rng.now) (g.R.Rng.stream c.pursue.new.rng) s c.args.self.now new so
 
 pub returns-in-At-clause-of : goal.returns-in-At-clause-of
 returns-in-At-clause-of g c =
-    let s = at_views c.self.inside.reader c.self.inside.seat c.self.inside.places.items (lists c.self.inside.notes.items) in
+    let s = at_views c.self.inside.reader c.self.inside.seat c.self.inside.places.items c.self.inside.notes.lists in
     let e = c.place_at.ensures ∙ ap (λ (z : Place). Some z) c.in-At.is in
     let hold : holding c.args.lane c.in-At.cell c.in-At.claim s ≡ s = holds_it c.args.lane c.in-At.cell c.in-At.claim s e in
     let so = c.pursue.ensures.pursued s 0 (g.R.Rng.stream c.args.rng.now) (subst (λ z. AreSteps c.args.lane 0 None (g.R.Rng.stream c.args.rng.now) (g.R.Rng.stream c.args.rng.now) s z) (sym hold) (no_steps c.args.lane (g.R.Rng.stream c.args.rng.now) s)) in
-    let new = at_views c.pursue.new.reader c.pursue.new.seat c.pursue.new.places.items (lists c.pursue.new.notes.items) in
+    let new = at_views c.pursue.new.reader c.pursue.new.seat c.pursue.new.places.items c.pursue.new.notes.lists in
     still_of c.args.mailbox.now c.args.lane 0 c.args.budget c.pursue.result (g.R.Rng.stream c.args.rng.now) (g.R.Rng.stream c.pursue.new.rng) s new so
     (subst (λ o. IsConsumerOf c.args.mailbox.now o) (sym c.self.view_is) c.requires.of)
 
 pub look-requires-clause-may : goal.look-requires-clause-may
 look-requires-clause-may g c =
-    let s = at_views c.self.inside.reader c.self.inside.seat c.self.inside.places.items (lists c.self.inside.notes.items) in
+    let s = at_views c.self.inside.reader c.self.inside.seat c.self.inside.places.items c.self.inside.notes.lists in
     let e = c.place_at.ensures ∙ ap (λ (z : Place). Some z) c.in-Before.is in
     let size : s.reader.table.size ≡ c.mailbox.inside.cells.size =
     cells_size c.args.mailbox.now s c.args.self.now c.self.view_is c.requires.of
@@ -97,7 +97,7 @@ look-requires-clause-may g c =
 
 pub invariant_of-self-in-Nothing : goal.invariant_of-self-in-Nothing
 invariant_of-self-in-Nothing g c =
-    let s = at_views c.self.inside.reader c.self.inside.seat c.self.inside.places.items (lists c.self.inside.notes.items) in
+    let s = at_views c.self.inside.reader c.self.inside.seat c.self.inside.places.items c.self.inside.notes.lists in
     let e = c.place_at.ensures ∙ ap (λ (z : Place). Some z) c.in-Before.is in
     let m = c.in-Nothing.ensures.makes in
     let v = m.0 in
@@ -106,12 +106,12 @@ invariant_of-self-in-Nothing g c =
     let there : c.look.new.seat ≡ record s.reader { part = reads_with_link s c.in-Before.at v } = m.2.1 in (
       moved_has IsConsumer s c.args.lane (Before c.in-Before.at) None (reads_with_link s c.in-Before.at v) s.seat.part c.look.new.seat s.seat s.places s.notes done
           there refl (sym (set_same s.places c.args.lane (Before c.in-Before.at) e)) refl,
-      (λ q w at. subst (λ (r : ReaderSeatView). r.table.size.cells ≤ w.cap) (sym there) (c.self.invariant.1 q w at)),
+      subst (λ (r : ReaderSeatView). r.table.size.cells ≤ c.self.inside.notes.room) (sym there) c.self.invariant.1,
     )
 
 pub returns-in-Nothing-clause-polled : goal.returns-in-Nothing-clause-polled
 returns-in-Nothing-clause-polled g c =
-    let s = at_views c.self.inside.reader c.self.inside.seat c.self.inside.places.items (lists c.self.inside.notes.items) in
+    let s = at_views c.self.inside.reader c.self.inside.seat c.self.inside.places.items c.self.inside.notes.lists in
     let e = c.place_at.ensures ∙ ap (λ (z : Place). Some z) c.in-Before.is in
     let new = at_views c.look.new.seat s.seat s.places s.notes in
     let step = look_made s c.args.self.now c.args.lane c.in-Before.at c.look.new.seat s.places look.Nothing (Some poll.Nothing) c.self.view_is
@@ -122,14 +122,14 @@ returns-in-Nothing-clause-polled g c =
 
 pub returns-in-Nothing-clause-told : goal.returns-in-Nothing-clause-told
 returns-in-Nothing-clause-told g c =
-    let s = at_views c.self.inside.reader c.self.inside.seat c.self.inside.places.items (lists c.self.inside.notes.items) in
+    let s = at_views c.self.inside.reader c.self.inside.seat c.self.inside.places.items c.self.inside.notes.lists in
     let e = c.place_at.ensures ∙ ap (λ (z : Place). Some z) c.in-Before.is in
     λ _. subst (λ o. AnswerTells c.args.lane (Some poll.Nothing) o (at_views c.look.new.seat s.seat s.places s.notes)) c.self.view_is
     (c.answers_tell_lanes.ensures.nothing s c.args.lane c.in-Before.at c.look.new.seat c.self.invariant.0 c.has_history.ensures e c.in-Nothing.ensures.makes)
 
 pub invariant_of-self-in-Ended : goal.invariant_of-self-in-Ended
 invariant_of-self-in-Ended g c =
-    let s = at_views c.self.inside.reader c.self.inside.seat c.self.inside.places.items (lists c.self.inside.notes.items) in
+    let s = at_views c.self.inside.reader c.self.inside.seat c.self.inside.places.items c.self.inside.notes.lists in
     let e = c.place_at.ensures ∙ ap (λ (z : Place). Some z) c.in-Before.is in
     let m = c.in-Ended.ensures.makes in
     let v = m.0 in
@@ -138,12 +138,12 @@ invariant_of-self-in-Ended g c =
     let there : c.look.new.seat ≡ record s.reader { part = reads_with_link s c.in-Before.at v } = m.2.1 in (
       moved_has IsConsumer s c.args.lane (Before c.in-Before.at) None (reads_with_link s c.in-Before.at v) s.seat.part c.look.new.seat s.seat s.places s.notes done
           there refl (sym (set_same s.places c.args.lane (Before c.in-Before.at) e)) refl,
-      (λ q w at. subst (λ (r : ReaderSeatView). r.table.size.cells ≤ w.cap) (sym there) (c.self.invariant.1 q w at)),
+      subst (λ (r : ReaderSeatView). r.table.size.cells ≤ c.self.inside.notes.room) (sym there) c.self.invariant.1,
     )
 
 pub returns-in-Ended-clause-polled : goal.returns-in-Ended-clause-polled
 returns-in-Ended-clause-polled g c =
-    let s = at_views c.self.inside.reader c.self.inside.seat c.self.inside.places.items (lists c.self.inside.notes.items) in
+    let s = at_views c.self.inside.reader c.self.inside.seat c.self.inside.places.items c.self.inside.notes.lists in
     let e = c.place_at.ensures ∙ ap (λ (z : Place). Some z) c.in-Before.is in
     let new = at_views c.look.new.seat s.seat s.places s.notes in
     let step = look_made s c.args.self.now c.args.lane c.in-Before.at c.look.new.seat s.places look.Ended (Some poll.Ended) c.self.view_is
@@ -154,14 +154,14 @@ returns-in-Ended-clause-polled g c =
 
 pub returns-in-Ended-clause-told : goal.returns-in-Ended-clause-told
 returns-in-Ended-clause-told g c =
-    let s = at_views c.self.inside.reader c.self.inside.seat c.self.inside.places.items (lists c.self.inside.notes.items) in
+    let s = at_views c.self.inside.reader c.self.inside.seat c.self.inside.places.items c.self.inside.notes.lists in
     let e = c.place_at.ensures ∙ ap (λ (z : Place). Some z) c.in-Before.is in
     λ _. subst (λ o. AnswerTells c.args.lane (Some poll.Ended) o (at_views c.look.new.seat s.seat s.places s.notes)) c.self.view_is
     (c.answers_tell_lanes.ensures.ended s c.args.lane c.in-Before.at c.look.new.seat c.self.invariant.0 c.has_history.ensures e c.in-Ended.ensures.makes)
 
 pub pursue-requires-2-clause-held : goal.pursue-requires-2-clause-held
 pursue-requires-2-clause-held g c =
-    let s = at_views c.self.inside.reader c.self.inside.seat c.self.inside.places.items (lists c.self.inside.notes.items) in
+    let s = at_views c.self.inside.reader c.self.inside.seat c.self.inside.places.items c.self.inside.notes.lists in
     let e = c.place_at.ensures ∙ ap (λ (z : Place). Some z) c.in-Before.is in
     let m = c.in-Cell.ensures.makes in
     let k = c.in-Cell.cell in
@@ -184,7 +184,7 @@ pursue-requires-2-clause-held g c =
 
 pub invariant_of-self-2 : goal.invariant_of-self-2
 invariant_of-self-2 g c =
-    let s = at_views c.self.inside.reader c.self.inside.seat c.self.inside.places.items (lists c.self.inside.notes.items) in
+    let s = at_views c.self.inside.reader c.self.inside.seat c.self.inside.places.items c.self.inside.notes.lists in
     let e = c.place_at.ensures ∙ ap (λ (z : Place). Some z) c.in-Before.is in
     let m = c.in-Cell.ensures.makes in
     let k = c.in-Cell.cell in
@@ -193,12 +193,12 @@ invariant_of-self-2 g c =
     let step = look_made s c.args.self.now c.args.lane c.in-Before.at c.look.new.seat (slice_set s.places c.args.lane (At k claim)) (look.Cell k) None c.self.view_is
     m refl refl (λ v. c.places_tell_steps.ensures.looks s c.args.lane v c.in-Before.at c.self.invariant.0 e) (g.R.Rng.stream c.args.rng.now) in
     let so = c.pursue-2.ensures.pursued c.args.self.now 1 (g.R.Rng.stream c.args.rng.now) (one_step c.args.lane None (g.R.Rng.stream c.args.rng.now) (g.R.Rng.stream c.args.rng.now) c.args.self.now mid step) in
-    let new = at_views c.pursue-2.new.reader c.pursue-2.new.seat c.pursue-2.new.places.items (lists c.pursue-2.new.notes.items) in
+    let new = at_views c.pursue-2.new.reader c.pursue-2.new.seat c.pursue-2.new.places.items c.pursue-2.new.notes.lists in
     (so.is, c.pursue-2.ensures.wide)
 
 pub returns-clause-no_lane : goal.returns-clause-no_lane
 returns-clause-no_lane g c =
-    let s = at_views c.self.inside.reader c.self.inside.seat c.self.inside.places.items (lists c.self.inside.notes.items) in
+    let s = at_views c.self.inside.reader c.self.inside.seat c.self.inside.places.items c.self.inside.notes.lists in
     let e = c.place_at.ensures ∙ ap (λ (z : Place). Some z) c.in-Before.is in
     let m = c.in-Cell.ensures.makes in
     let k = c.in-Cell.cell in
@@ -207,7 +207,7 @@ returns-clause-no_lane g c =
     let step = look_made s c.args.self.now c.args.lane c.in-Before.at c.look.new.seat (slice_set s.places c.args.lane (At k claim)) (look.Cell k) None c.self.view_is
     m refl refl (λ v. c.places_tell_steps.ensures.looks s c.args.lane v c.in-Before.at c.self.invariant.0 e) (g.R.Rng.stream c.args.rng.now) in
     let so = c.pursue-2.ensures.pursued c.args.self.now 1 (g.R.Rng.stream c.args.rng.now) (one_step c.args.lane None (g.R.Rng.stream c.args.rng.now) (g.R.Rng.stream c.args.rng.now) c.args.self.now mid step) in
-    let new = at_views c.pursue-2.new.reader c.pursue-2.new.seat c.pursue-2.new.places.items (lists c.pursue-2.new.notes.items) in
+    let new = at_views c.pursue-2.new.reader c.pursue-2.new.seat c.pursue-2.new.places.items c.pursue-2.new.notes.lists in
     let lanes : c.len.result ≡ c.args.mailbox.now.cells.size.lanes =
     c.len.ensures.value ∙ c.self.invariant.0.places_count
     ∙ ap (λ (z : PoolSize). z.lanes) (cells_size c.args.mailbox.now s c.args.self.now c.self.view_is c.requires.of) in (
@@ -217,7 +217,7 @@ returns-clause-no_lane g c =
 
 pub returns-clause-refused : goal.returns-clause-refused
 returns-clause-refused g c =
-    let s = at_views c.self.inside.reader c.self.inside.seat c.self.inside.places.items (lists c.self.inside.notes.items) in
+    let s = at_views c.self.inside.reader c.self.inside.seat c.self.inside.places.items c.self.inside.notes.lists in
     let e = c.place_at.ensures ∙ ap (λ (z : Place). Some z) c.in-Before.is in
     let m = c.in-Cell.ensures.makes in
     let k = c.in-Cell.cell in
@@ -226,12 +226,12 @@ returns-clause-refused g c =
     let step = look_made s c.args.self.now c.args.lane c.in-Before.at c.look.new.seat (slice_set s.places c.args.lane (At k claim)) (look.Cell k) None c.self.view_is
     m refl refl (λ v. c.places_tell_steps.ensures.looks s c.args.lane v c.in-Before.at c.self.invariant.0 e) (g.R.Rng.stream c.args.rng.now) in
     let so = c.pursue-2.ensures.pursued c.args.self.now 1 (g.R.Rng.stream c.args.rng.now) (one_step c.args.lane None (g.R.Rng.stream c.args.rng.now) (g.R.Rng.stream c.args.rng.now) c.args.self.now mid step) in
-    let new = at_views c.pursue-2.new.reader c.pursue-2.new.seat c.pursue-2.new.places.items (lists c.pursue-2.new.notes.items) in
+    let new = at_views c.pursue-2.new.reader c.pursue-2.new.seat c.pursue-2.new.places.items c.pursue-2.new.notes.lists in
     λ f. absurd (not_no_lane c.args.lane 1 (c.args.budget - 1) c.pursue-2.result (g.R.Rng.stream c.args.rng.now) (g.R.Rng.stream c.pursue-2.new.rng) c.args.self.now new so f)
 
 pub returns-clause-polled : goal.returns-clause-polled
 returns-clause-polled g c =
-    let s = at_views c.self.inside.reader c.self.inside.seat c.self.inside.places.items (lists c.self.inside.notes.items) in
+    let s = at_views c.self.inside.reader c.self.inside.seat c.self.inside.places.items c.self.inside.notes.lists in
     let e = c.place_at.ensures ∙ ap (λ (z : Place). Some z) c.in-Before.is in
     let m = c.in-Cell.ensures.makes in
     let k = c.in-Cell.cell in
@@ -240,14 +240,14 @@ returns-clause-polled g c =
     let step = look_made s c.args.self.now c.args.lane c.in-Before.at c.look.new.seat (slice_set s.places c.args.lane (At k claim)) (look.Cell k) None c.self.view_is
     m refl refl (λ v. c.places_tell_steps.ensures.looks s c.args.lane v c.in-Before.at c.self.invariant.0 e) (g.R.Rng.stream c.args.rng.now) in
     let so = c.pursue-2.ensures.pursued c.args.self.now 1 (g.R.Rng.stream c.args.rng.now) (one_step c.args.lane None (g.R.Rng.stream c.args.rng.now) (g.R.Rng.stream c.args.rng.now) c.args.self.now mid step) in
-    let new = at_views c.pursue-2.new.reader c.pursue-2.new.seat c.pursue-2.new.places.items (lists c.pursue-2.new.notes.items) in
+    let new = at_views c.pursue-2.new.reader c.pursue-2.new.seat c.pursue-2.new.places.items c.pursue-2.new.notes.lists in
     let some = c.if-budget-eq0.false in
     let sum : c.args.budget - 1 + 1 ≡ c.args.budget = omega (arith, some) in
     λ _. poll_by c.args.lane 1 (c.args.budget - 1) c.args.budget c.pursue-2.result (g.R.Rng.stream c.args.rng.now) (g.R.Rng.stream c.pursue-2.new.rng) c.args.self.now new sum so
 
 pub returns-clause-told : goal.returns-clause-told
 returns-clause-told g c =
-    let s = at_views c.self.inside.reader c.self.inside.seat c.self.inside.places.items (lists c.self.inside.notes.items) in
+    let s = at_views c.self.inside.reader c.self.inside.seat c.self.inside.places.items c.self.inside.notes.lists in
     let e = c.place_at.ensures ∙ ap (λ (z : Place). Some z) c.in-Before.is in
     let m = c.in-Cell.ensures.makes in
     let k = c.in-Cell.cell in
@@ -256,12 +256,12 @@ returns-clause-told g c =
     let step = look_made s c.args.self.now c.args.lane c.in-Before.at c.look.new.seat (slice_set s.places c.args.lane (At k claim)) (look.Cell k) None c.self.view_is
     m refl refl (λ v. c.places_tell_steps.ensures.looks s c.args.lane v c.in-Before.at c.self.invariant.0 e) (g.R.Rng.stream c.args.rng.now) in
     let so = c.pursue-2.ensures.pursued c.args.self.now 1 (g.R.Rng.stream c.args.rng.now) (one_step c.args.lane None (g.R.Rng.stream c.args.rng.now) (g.R.Rng.stream c.args.rng.now) c.args.self.now mid step) in
-    let new = at_views c.pursue-2.new.reader c.pursue-2.new.seat c.pursue-2.new.places.items (lists c.pursue-2.new.notes.items) in
+    let new = at_views c.pursue-2.new.reader c.pursue-2.new.seat c.pursue-2.new.places.items c.pursue-2.new.notes.lists in
     λ _. pursuit_tells c.args.lane 1 (c.args.budget - 1) c.pursue-2.result (g.R.Rng.stream c.args.rng.now) (g.R.Rng.stream c.pursue-2.new.rng) c.args.self.now c.args.self.now new so
 
 pub returns-clause-of : goal.returns-clause-of
 returns-clause-of g c =
-    let s = at_views c.self.inside.reader c.self.inside.seat c.self.inside.places.items (lists c.self.inside.notes.items) in
+    let s = at_views c.self.inside.reader c.self.inside.seat c.self.inside.places.items c.self.inside.notes.lists in
     let e = c.place_at.ensures ∙ ap (λ (z : Place). Some z) c.in-Before.is in
     let m = c.in-Cell.ensures.makes in
     let k = c.in-Cell.cell in
@@ -270,7 +270,7 @@ returns-clause-of g c =
     let step = look_made s c.args.self.now c.args.lane c.in-Before.at c.look.new.seat (slice_set s.places c.args.lane (At k claim)) (look.Cell k) None c.self.view_is
     m refl refl (λ v. c.places_tell_steps.ensures.looks s c.args.lane v c.in-Before.at c.self.invariant.0 e) (g.R.Rng.stream c.args.rng.now) in
     let so = c.pursue-2.ensures.pursued c.args.self.now 1 (g.R.Rng.stream c.args.rng.now) (one_step c.args.lane None (g.R.Rng.stream c.args.rng.now) (g.R.Rng.stream c.args.rng.now) c.args.self.now mid step) in
-    let new = at_views c.pursue-2.new.reader c.pursue-2.new.seat c.pursue-2.new.places.items (lists c.pursue-2.new.notes.items) in
+    let new = at_views c.pursue-2.new.reader c.pursue-2.new.seat c.pursue-2.new.places.items c.pursue-2.new.notes.lists in
     still_of c.args.mailbox.now c.args.lane 1 (c.args.budget - 1) c.pursue-2.result (g.R.Rng.stream c.args.rng.now) (g.R.Rng.stream c.pursue-2.new.rng) c.args.self.now new so c.requires.of
 
 pub returns-in-At-clause-unspent : goal.returns-in-At-clause-unspent

@@ -35,8 +35,8 @@ returns-clause-within c s p k claim i h e =
     within s p k claim i e c.laws_hold.ensures h
 
 pub returns-clause-room : goal.returns-clause-room
-returns-clause-room c s p k claim ns i h e f =
-    room s p k claim i e c.laws_hold.ensures h ns f
+returns-clause-room c s p k claim i h e =
+    room s p k claim i e c.laws_hold.ensures h
 
 pub returns-clause-competes : goal.returns-clause-competes
 returns-clause-competes c s p k word seen claim now next i h e own turns =

@@ -9,6 +9,7 @@ returns c = record {
   lane = c.cells_stand_once.ensures.lane;
   within = c.cells_stand_once.ensures.within;
   few = c.cells_stand_once.ensures.few;
+  share = c.lanes_share_cells.ensures.few;
   older = c.one_step.ensures.older;
   of = c.parts_have_accesses.ensures.of;
   own = c.accesses_lengthen_one_part.ensures.own;

@@ -5,9 +5,9 @@ use Rattle.mb_mailbox.specs.Below.{ClaimTable, ReaderSeatView, claims_at, consum
 use Rattle.mb_mailbox.specs.Consumers.{IsConsumer}
 use Rattle.mb_mailbox.specs.Mailboxes.{MailboxView}
 use Rattle.mb_mailbox.specs.Hubs.{HubView, IsHub, IsNewConsumer, with_consumer}
-use Rattle.mb_mailbox.proofs.Made.{at_views, lists}
+use Rattle.mb_mailbox.proofs.Made.{at_views}
 use Rattle.mb_mailbox.proofs.HubMoves.{gave_consumer}
-use Rattle.mb_mailbox.proofs.NewConsumer.{is_new, new_reader, new_seat, no_notes}
+use Rattle.mb_mailbox.proofs.NewConsumer.{is_new, new_reader, new_seat}
 use Rattle.mb_mailbox.proofs.hub.Hub.consumer.Goals as goal
 
 pub invariant_of-result : goal.invariant_of-result
@@ -29,14 +29,14 @@ invariant_of-result g c =
     c.enroll_reader-reader.ensures.seat ∙ ap (λ (k : ℕ). new_reader m k h.cells.roll.lanes) (sym i.readers) in
     let seat : c.in-Ok-enroll.seat ≡ new_seat m n =
     c.in-Ok-enroll.ensures.seat ∙ (λ j. record { table = claims j; consumer = sym i.seats j; part = [] }) in
-    let empty = c.in-Ok.ensures in
-    let new = is_new c.mailbox.inside.lanes c.cells.result c.in-Ok.notes.items empty c.parts_fit_on.ensures.empty m n h.cells.roll.lanes c.before_heads.result.items
+    let none = c.in-Ok.ensures in
+    let new = is_new c.mailbox.inside.lanes c.cells.result c.in-Ok.notes none c.parts_fit_on.ensures.empty m n h.cells.roll.lanes c.before_heads.result.items
     c.before_heads.ensures c.mailbox.invariant.1 in
     let few = c.cells.ensures in
     let same = c.mailbox.invariant.0.cells in
     let its : c.enroll_reader-reader.result.table.size.cells ≡ m.cells.size.cells = ap (λ (r : ReaderSeatView). r.table.size.cells) reader in (
-      subst IsConsumer (λ j. at_views (sym reader j) (sym seat j) c.before_heads.result.items (lists c.in-Ok.notes.items)) new,
-      (λ p v e. let room = empty.room p v e in omega arith),
+      subst IsConsumer (λ j. at_views (sym reader j) (sym seat j) c.before_heads.result.items c.in-Ok.notes.lists) new,
+      (let room = none.room in omega arith),
     )
 
 pub invariant_of-self : goal.invariant_of-self
@@ -99,6 +99,6 @@ returns-clause-consumer g c =
     c.enroll_reader-reader.ensures.seat ∙ ap (λ (k : ℕ). new_reader m k h.cells.roll.lanes) (sym i.readers) in
     let seat : c.in-Ok-enroll.seat ≡ new_seat m n =
     c.in-Ok-enroll.ensures.seat ∙ (λ j. record { table = claims j; consumer = sym i.seats j; part = [] }) in
-    subst (λ (z : MailboxView × HubView). IsNewConsumer z.0 z.1 (at_views c.enroll_reader-reader.result c.in-Ok-enroll.seat c.before_heads.result.items (lists c.in-Ok.notes.items)))
+    subst (λ (z : MailboxView × HubView). IsNewConsumer z.0 z.1 (at_views c.enroll_reader-reader.result c.in-Ok-enroll.seat c.before_heads.result.items c.in-Ok.notes.lists))
     (λ j. (c.mailbox.view_is j, c.self.view_is j))
-    (record { reader = reader; seat = seat; notes = no_notes c.mailbox.inside.lanes c.cells.result c.in-Ok.notes.items c.in-Ok.ensures })
+    (record { reader = reader; seat = seat; notes = c.in-Ok.ensures.empty })

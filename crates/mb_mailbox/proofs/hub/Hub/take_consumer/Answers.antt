@@ -6,7 +6,7 @@ use Rattle.mb_mailbox.specs.Below.{claims_at, name_of, Reader}
 use Rattle.mb_mailbox.specs.Consumers.{ConsumerView}
 use Rattle.mb_mailbox.specs.Mailboxes.{MailboxView}
 use Rattle.mb_mailbox.specs.Hubs.{HubView, IsHub, LedgerView, with_taken_consumer}
-use Rattle.mb_mailbox.proofs.Made.{at_views, lists}
+use Rattle.mb_mailbox.proofs.Made.{at_views}
 use Rattle.mb_mailbox.proofs.HubMoves.{seat_is_out, took_consumer}
 use Rattle.mb_mailbox.proofs.hub.Hub.take_consumer.Goals as goal
 
@@ -18,7 +18,7 @@ invariant_of-self g c =
       puts = c.self.inside.puts.items;
       ledgers = c.self.inside.ledgers.items;
     } in
-    let s = at_views c.consumer.inside.reader c.consumer.inside.seat c.consumer.inside.places.items (lists c.consumer.inside.notes.items) in
+    let s = at_views c.consumer.inside.reader c.consumer.inside.seat c.consumer.inside.places.items c.consumer.inside.notes.lists in
     let table : h.cells.table ≡ c.mailbox.inside.cells =
     ap (λ (v : HubView). v.cells.table) c.self.view_is ∙ c.requires.hub.cells ∙ sym (ap (λ (m : MailboxView). m.cells) c.mailbox.view_is) in
     let claims : h.claims.table ≡ name_of c.mailbox.inside.claims =
@@ -54,6 +54,6 @@ returns-clause-was_out g c =
       puts = c.self.inside.puts.items;
       ledgers = c.self.inside.ledgers.items;
     } in
-    let s = at_views c.consumer.inside.reader c.consumer.inside.seat c.consumer.inside.places.items (lists c.consumer.inside.notes.items) in
+    let s = at_views c.consumer.inside.reader c.consumer.inside.seat c.consumer.inside.places.items c.consumer.inside.notes.lists in
     subst (λ (z : HubView × ConsumerView). slice_get z.0.ledgers z.1.seat.consumer ≡ Some None) (λ j. (c.self.view_is j, c.consumer.view_is j))
     (seat_is_out h s.seat.consumer c.self.invariant.0 c.take_in.ensures.was_out)
