@@ -146,8 +146,8 @@ fn each_growth_of_two_workers_refused(rt: HostRuntime) -> Result<(), Fail> {
         assert_eq!(&rt; ample.out(), 0, "the mailbox keeps memory");
         Ok(served)
     })?;
-    // Three lists for each kind of worker, the producer's items, and the consumer's lanes with one list of notes.
-    assert!(rt; 9 <= refused);
+    // Three lists for each kind of worker, the producer's items, and the consumer's notes.
+    assert!(rt; 8 <= refused);
     Ok(())
 }
 
@@ -210,8 +210,8 @@ fn a_refused_call_is_made_again(rt: HostRuntime) -> Result<(), Fail> {
         assert_eq!(&rt; ample.out(), 0, "the mailbox keeps memory");
         Ok(served)
     })?;
-    // As before, with a list of notes for one lane more.
-    assert!(rt; 10 <= refused);
+    // As before: a lane more asks for no further list.
+    assert!(rt; 8 <= refused);
     Ok(())
 }
 
@@ -271,7 +271,7 @@ fn each_growth_of_four_workers_refused(rt: HostRuntime) -> Result<(), Fail> {
         assert_eq!(&rt; ample.out(), 0, "the mailbox keeps memory");
         Ok(served)
     })?;
-    // Three lists for each kind of worker, the items of each producer, and three lists for each consumer.
-    assert!(rt; 14 <= refused);
+    // Three lists for each kind of worker, the items of each producer, and the notes of each consumer.
+    assert!(rt; 10 <= refused);
     Ok(())
 }
