@@ -8,20 +8,44 @@ use std::sync::atomic::{AtomicU64, Ordering};
 #[derive(Drop)]
 pub struct Board {
     runs: Vec<AtomicU64>,
+    count: AtomicU64,
     total: AtomicU64,
+    at_work: AtomicU64,
 }
 
 impl Board {
-    /// The board of the jobs 0 to `jobs - 1`, of which none was run.
-    pub fn new(alloc: Global, jobs: u64) -> Result<Board, AllocError> {
+    /// The board of the jobs 0 to `jobs - 1`, of which none was run, with so many workers at work.
+    pub fn new(alloc: Global, jobs: u64, workers: u64) -> Result<Board, AllocError> {
         let mut runs = Vec::new(alloc);
         for _ in 0..jobs {
             runs.push(AtomicU64::new(0))?;
         }
         Ok(Board {
             runs,
+            count: AtomicU64::new(0),
             total: AtomicU64::new(0),
+            at_work: AtomicU64::new(workers),
         })
+    }
+
+    /// How many jobs there are.
+    pub fn len(&self) -> usize {
+        self.runs.len()
+    }
+
+    /// How many jobs were run until now.
+    pub fn count(&self) -> u64 {
+        self.count.load(Ordering::SeqCst)
+    }
+
+    /// Another worker goes home.
+    pub fn go_home(&self) {
+        self.at_work.fetch_sub(1, Ordering::SeqCst);
+    }
+
+    /// Whether all workers are home.
+    pub fn is_over(&self) -> bool {
+        self.at_work.load(Ordering::SeqCst) == 0
     }
 
     /// Runs the job of this number. A number of no job is nothing to do.
@@ -36,6 +60,7 @@ impl Board {
         }
         self.total.fetch_add(sum, Ordering::SeqCst);
         runs.fetch_add(1, Ordering::SeqCst);
+        self.count.fetch_add(1, Ordering::SeqCst);
     }
 
     /// How many jobs were run at least so often.

@@ -5,51 +5,62 @@ ghost use Rattle.mb_mailbox.specs.Hubs.{IsHubOf};
 ghost use Rattle.mb_mailbox.specs.Producers.{IsProducerOf};
 ghost use Rattle.mailbox_jobs.specs.Crew.{IsOf};
 
+use crate::asked::{Asked, MAX_LANES};
 use crate::board::Board;
-use crate::{JOBS_EACH, PRODUCERS, WORKERS};
+use crate::progress::tell;
 use anyhow::Result;
 use mb_mailbox::{Consumer, Hub, Mailbox, Poll, Producer, Put};
-use rand::make_rng;
+use rand::{SeedableRng, make_rng};
 use rand_chacha::ChaCha8Rng;
 use std::alloc::Global;
 use std::random::RandomSource;
 use std::thread::yield_now;
+use std::time::Clock;
 
 /// How many accesses a worker makes at most before it looks up from a lane.
 const BUDGET: u64 = 64;
 
-/// After how many jobs a worker goes home. All together they do fewer than there are, so some are left at the end.
-const JOBS_PER_WORKER: u64 = 5;
-
 /// One of those who work.
 #[derive(Drop)]
 pub enum Member {
-    /// Puts `JOBS_EACH` jobs, from this number on.
-    Producer(Producer<Global>, u64),
+    /// Puts the jobs from the first of these numbers on and below the second.
+    Producer(Producer<Global>, (u64, u64)),
     /// Takes jobs, with random words from this source.
     Worker(Consumer<Global>, ChaCha8Rng),
+    /// Tells how far the work is.
+    Teller,
 }
 
 impl Member {
     /// Does what the member has to do, to its end.
-    pub fn work(&mut self, mailbox: &Mailbox<Global>, board: &Board)
+    pub fn work<R: Clock + Eprint>(
+        &mut self,
+        rt: &R,
+        mailbox: &Mailbox<Global>,
+        board: &Board,
+        asked: &Asked,
+    )
         requires of { IsOf mailbox.now self.old }
         ensures of { IsOf mailbox.now self.new }
     {
         match self {
-            Member::Producer(producer, first) => put_jobs(mailbox, producer, *first),
-            Member::Worker(consumer, source) => run_jobs(mailbox, consumer, source, board),
+            Member::Producer(producer, jobs) => put_jobs(mailbox, producer, *jobs),
+            Member::Worker(consumer, source) => {
+                run_jobs(mailbox, consumer, source, board, asked);
+                board.go_home();
+            }
+            Member::Teller => tell(rt, board),
         }
     }
 }
 
 /// Puts the jobs of one producer in their order, and then ends its lane, so that workers know that no job follows.
-fn put_jobs(mailbox: &Mailbox<Global>, producer: &mut Producer<Global>, first: u64)
+fn put_jobs(mailbox: &Mailbox<Global>, producer: &mut Producer<Global>, jobs: (u64, u64))
     requires of { IsProducerOf mailbox.now producer.old }
     ensures of { IsProducerOf mailbox.now producer.new }
 {
-    for job in 0..JOBS_EACH {
-        match producer.put(mailbox, first.wrapping_add(job)) {
+    for job in jobs.0..jobs.1 {
+        match producer.put(mailbox, job) {
             // Every worker can find the job from now on.
             Put::Linked => {}
             // There is no cell left, now and for ever: the job is not in the mailbox, and still the producer's.
@@ -65,16 +76,20 @@ fn run_jobs(
     consumer: &mut Consumer<Global>,
     source: &mut ChaCha8Rng,
     board: &Board,
+    asked: &Asked,
 )
     requires of { IsConsumerOf mailbox.now consumer.old }
     ensures of { IsConsumerOf mailbox.now consumer.new }
 {
-    let mut ended = [false; PRODUCERS as usize];
+    let lanes = asked.lanes();
+    let shift = asked.shift();
+    let mut ended = [false; MAX_LANES];
+    let mut open = lanes;
     let mut lane = 0;
     let mut taken = 0;
     // Rattle asks of every loop that it comes to an end: this one would after more turns than anybody lives to see.
     for turn in 0..u64::MAX {
-        if taken == JOBS_PER_WORKER || ended == [true; PRODUCERS as usize] {
+        if taken == shift || open == 0 {
             break;
         }
         if !ended[lane] {
@@ -94,10 +109,13 @@ fn run_jobs(
                 // No further job is linked yet: time for something else, such as the next lane.
                 Poll::Nothing => yield_now(),
                 // No job follows on this lane. `NoLane` does not come, since there are as many lanes as producers.
-                Poll::Ended | Poll::NoLane => ended[lane] = true,
+                Poll::Ended | Poll::NoLane => {
+                    ended[lane] = true;
+                    open = open.saturating_sub(1);
+                }
             }
         }
-        lane = if lane + 1 < ended.len() { lane + 1 } else { 0 };
+        lane = if lane + 1 < lanes { lane + 1 } else { 0 };
     }
 }
 
@@ -107,20 +125,29 @@ pub fn hire<R: RandomSource + AllocGlobal>(
     rt: &R,
     mailbox: &Mailbox<Global>,
     hub: &mut Hub<Global>,
+    asked: &Asked,
+    tells: bool,
 ) -> Result<Vec<Member>>
     requires of { IsHubOf mailbox.now hub.old }
     ensures hub { OnOk result (IsHubOf mailbox.now hub.new) }
     ensures crew { IfOk result (λ crew. All (IsOf mailbox.now) crew.items) }
 {
     let mut crew = Vec::new(rt.alloc());
-    for number in 0..PRODUCERS {
+    for number in 0..asked.producers {
         let producer = hub.producer(rt.alloc(), mailbox)?;
-        crew.push(Member::Producer(producer, number * JOBS_EACH))?;
+        crew.push(Member::Producer(producer, asked.jobs_of(number)))?;
     }
-    for _ in 0..WORKERS {
+    for worker in 0..asked.workers {
         let consumer = hub.consumer(rt.alloc(), mailbox)?;
-        // Each worker has random words of its own, seeded by the system.
-        crew.push(Member::Worker(consumer, make_rng(rt)?))?;
+        // Each worker has random words of its own.
+        let source = match asked.seed {
+            Some(seed) => ChaCha8Rng::seed_from_u64(seed.wrapping_add(worker)),
+            None => make_rng(rt)?,
+        };
+        crew.push(Member::Worker(consumer, source))?;
+    }
+    if tells {
+        crew.push(Member::Teller)?;
     }
     Ok(crew)
 }
@@ -135,6 +162,7 @@ pub fn take_in(mailbox: &Mailbox<Global>, hub: &mut Hub<Global>, crew: Vec<Membe
         match member {
             Member::Producer(producer, _) => hub.take_producer(mailbox, producer),
             Member::Worker(consumer, _) => hub.take_consumer(mailbox, consumer),
+            Member::Teller => {}
         }
     }
 }

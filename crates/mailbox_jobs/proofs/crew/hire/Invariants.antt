@@ -6,5 +6,5 @@ use Rattle.mailbox_jobs.proofs.crew.hire.Given as goal
 abbrev pub invariant-loop-number : goal.invariant-loop-number
 invariant-loop-number g l = record { hub : IsHubOf l.mailbox l.hub; crew : All (IsOf l.mailbox) l.crew.items }
 
-abbrev pub invariant-loop : goal.invariant-loop
-invariant-loop g l = record { hub : IsHubOf l.mailbox l.hub; crew : All (IsOf l.mailbox) l.crew.items }
+abbrev pub invariant-loop-worker : goal.invariant-loop-worker
+invariant-loop-worker g l = record { hub : IsHubOf l.mailbox l.hub; crew : All (IsOf l.mailbox) l.crew.items }

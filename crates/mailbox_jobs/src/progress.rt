@@ -1,0 +1,33 @@
+//! How far the work is, on standard error.
+
+use crate::board::Board;
+use std::thread::sleep;
+use std::time::{Clock, Duration, Instant};
+
+/// How many milliseconds the one who tells sleeps before it looks whether all are home.
+const NAP: u64 = 20;
+
+/// Tells once a second how many jobs were run, until all workers are home. A run of less than a second tells nothing.
+pub fn tell<R: Clock + Eprint>(rt: &R, board: &Board) {
+    let Ok(start) = Instant::now(rt) else {
+        return;
+    };
+    let mut told = 0;
+    for _ in 0..u64::MAX {
+        if board.is_over() {
+            return;
+        }
+        sleep(rt, Duration::from_millis(NAP));
+        let Ok(elapsed) = start.elapsed(rt) else {
+            return;
+        };
+        let seconds = elapsed.as_secs();
+        if seconds > told {
+            told = seconds;
+            let run = board.count();
+            let jobs = board.len();
+            // A line that cannot be written is no reason to stop the work.
+            let _ = eprintln!(rt; "{run} of {jobs} jobs were run");
+        }
+    }
+}
