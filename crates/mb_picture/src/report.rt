@@ -1,7 +1,7 @@
 //! The lines of a report that are shown.
 
 use mb_cells::NoMemory;
-use mb_script::{split_line, split_word};
+use mb_script::split_word;
 use std::alloc::Allocator;
 
 /// The most lines of a report that are shown.
@@ -23,9 +23,7 @@ pub fn is_empty_diary(line: &str) -> bool {
 /// [`MAX_LINES`], it tells how many there are.
 pub fn push_shown<A: Allocator + Copy>(text: &mut String<A>, report: &str) -> Result<(), NoMemory> {
     let (mut shown, mut empty, mut more) = (0usize, 0u64, 0u64);
-    let mut rest = report;
-    while let Some((line, behind)) = split_line(rest) {
-        rest = behind;
+    for line in report.lines() {
         if is_empty_diary(line) {
             empty = empty.saturating_add(1);
         } else if shown >= MAX_LINES {

@@ -10,7 +10,6 @@ use crate::picture::{Deed, Mark, Picture, Tone};
 use crate::style::STYLE;
 use legend::push_legend;
 use mb_cells::NoMemory;
-use mb_script::{split_line, split_word};
 use shapes::{class_of, push_frame, push_ground, push_route, push_text};
 use std::alloc::Allocator;
 
@@ -124,11 +123,8 @@ fn push_wrapped<A: Allocator>(
 ) -> Result<usize, NoMemory> {
     let mut at = y;
     let mut taken = 0usize;
-    let mut rest = Some(line);
     write!(text, "<text x='12' y='{at}'>")?;
-    while let Some(words) = rest {
-        let (word, behind) = split_word(words);
-        rest = behind;
+    for word in line.split(' ') {
         if taken > 0 && taken.saturating_add(word.len()) > most {
             at = at.saturating_add(LINE);
             write!(text, "</text>\n<text x='28' y='{at}'>")?;
@@ -161,9 +157,7 @@ fn push_foot<A: Allocator>(
     }
     push_text(text, "b", 12, at, "Report")?;
     at = at.saturating_add(LINE);
-    let mut rest = report;
-    while let Some((line, behind)) = split_line(rest) {
-        rest = behind;
+    for line in report.lines() {
         at = push_wrapped(text, line, most, at)?;
     }
     Ok(at)
@@ -183,9 +177,7 @@ fn push_opening<A: Allocator + Copy>(
     text.push_str("role='img' aria-labelledby='title desc'>\n<title id='title'>")?;
     push_escaped(text, &picture.title)?;
     text.push_str("</title>\n<desc id='desc'>Time runs downward, one event a row. The report: ")?;
-    let mut rest = picture.report.as_str();
-    while let Some((line, behind)) = split_line(rest) {
-        rest = behind;
+    for line in picture.report.as_str().lines() {
         push_escaped(text, line)?;
         text.push_str("; ")?;
     }
