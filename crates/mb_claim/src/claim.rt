@@ -1,8 +1,8 @@
 //! The claim of one consumer on one cell.
 use crate::access::{ClaimOp, Stage};
-use crate::layout::Layout;
+use crate::layout::{Layout, MAX_OBJECTS};
 use crate::steps::places_show_prefixes;
-use mb_deciding::{Memory, Next, Out, Pc};
+use mb_deciding::{Drawing, Memory, Next, Out, Pc};
 
 /// The claim of one consumer on one cell: the object on which it stands, its place there, and how
 /// far it has come. A plain value, which may be kept between calls.
@@ -16,12 +16,12 @@ pub struct Claim {
 }
 
 impl Claim {
-    ghost use Rattle.std.specs.Prelude.{◌≡◌, ◌≢◌, ◌<◌, ◌≤◌, ◌+◌, ℕ, true, List, [], ◌∷◌, length, slice_get, MatchOption};
+    ghost use Rattle.std.specs.Prelude.{◌≡◌, ◌≢◌, ◌<◌, ◌≤◌, ◌+◌, ℕ, Bool, true, List, [], ◌∷◌, length, slice_get, MatchOption};
     ghost use Rattle.mb_deciding.specs.Vocabulary.{IsAt, IsNext, IsReached, next_from, turns_left, turns_after};
     ghost use Rattle.mb_deciding.specs.Vocabulary.{most_turns};
     ghost use Rattle.mb_claim.specs.{Kind, Turn, ClaimOp, ObjectTurn, Going, Undecided, consumer_of, claim_stage, is_begun};
     ghost use Rattle.mb_claim.specs.{FitsLayout, IsClaimIn, IsNextOp, CanClaimFind, IsClaimStep, steps_left, step_of};
-    ghost use Rattle.mb_claim.specs.{Pc, stage_for, placed_at};
+    ghost use Rattle.mb_claim.specs.{Pc, stage_for, placed_at, stood_at, AreClaimSteps, DrawsAndMakesNext};
     ghost use Rattle.mb_claim.specs.{quorums_of, kinds_of, consumer_count, most_accesses};
 
     /// The claim of a consumer that has made no access.
@@ -107,6 +107,67 @@ impl Claim {
         self.follow(layout, out)
     }
 
+    /// Makes accesses on the claim's object, each with a random word that is drawn for it, until it leads to the next one or
+    /// to the claim's end, or nothing is left of the budget.
+    #[inline(always)]
+    fn run_object<M: Drawing>(&mut self, layout: &Layout, memory: &mut M, left: &mut u64)
+        requires going { claim_stage self.old ≡ Going }
+        requires fits { FitsLayout layout.now self.old }
+        requires may { (n word : ℕ) (at : Claim) (before mid : M) (next : ClaimOp)
+            → AreClaimSteps layout.now (DrawsAndMakesNext M.draws M.makes) self.old memory.old n at before
+            → claim_stage at ≡ Going → M.draws before word mid → IsNextOp layout.now at next
+            → M.can_make mid next.object next.op }
+        ensures fits { FitsLayout layout.now self.new }
+        ensures consumer { consumer_of self.new ≡ consumer_of self.old }
+        ensures steps { (n : ℕ) × (n + left.new ≡ left.old)
+            × AreClaimSteps layout.now (DrawsAndMakesNext M.draws M.makes) self.old memory.old n self.new memory.new }
+    {
+        places_show_prefixes();
+        let most = *left;
+        match self.place.run(&layout.table, memory, self.object, left) {
+            Next::Go(place) => {
+                self.place = place;
+                if *left != most {
+                    self.begun = true;
+                }
+            }
+            Next::Out(out) => {
+                self.follow(layout, Some(out));
+            }
+        }
+    }
+
+    /// Makes accesses, each with a random word that is drawn for it, until the claim has come to its end or so many were made.
+    /// The answer is how many: they are those of as many calls of [`Claim::step`].
+    #[inline(always)]
+    pub fn run<M: Drawing>(&mut self, layout: &Layout, memory: &mut M, most: u64) -> u64
+        requires fits { FitsLayout layout.now self.old }
+        requires may { (n word : ℕ) (at : Claim) (before mid : M) (next : ClaimOp)
+            → AreClaimSteps layout.now (DrawsAndMakesNext M.draws M.makes) self.old memory.old n at before
+            → claim_stage at ≡ Going → M.draws before word mid → IsNextOp layout.now at next
+            → M.can_make mid next.object next.op }
+        ensures fits { FitsLayout layout.now self.new }
+        ensures consumer { consumer_of self.new ≡ consumer_of self.old }
+        ensures within { result ≤ most }
+        ensures all { claim_stage self.new ≡ Going → result ≡ most }
+        ensures steps { AreClaimSteps layout.now (DrawsAndMakesNext M.draws M.makes) self.old memory.old
+            result self.new memory.new }
+    {
+        let mut left = most;
+        'objects: for _ in 0..MAX_OBJECTS {
+            if left == 0 || !self.stage.is_going() {
+                return most - left;
+            }
+            self.run_object(layout, memory, &mut left);
+        }
+        'steps: while left != 0 && self.stage.is_going() {
+            left -= 1;
+            let word = memory.draw();
+            self.step(layout, memory, word);
+        }
+        most - left
+    }
+
     /// How far the claim has come.
     #[inline(always)]
     pub fn stage(&self) -> Stage
@@ -138,8 +199,8 @@ impl Claim {
             → turns_after (quorums_of layout.now) (next_from out self.old.place)
             < turns_left (quorums_of layout.now) pc
             → steps_left layout.now self.new < steps_left layout.now (placed_at pc self.old) }
-        ensures path { (pc : Pc) (xs : List ObjectTurn) (turn : Turn)
-            → IsClaimIn layout.now (placed_at pc self.old) xs
+        ensures path { (pc : Pc) (begun : Bool) (xs : List ObjectTurn) (turn : Turn)
+            → IsClaimIn layout.now (stood_at pc begun self.old) xs
             → ((kind : Kind) (v : ℕ) (turns : List Turn)
             → IsAt (quorums_of layout.now) kind v pc turns
             → IsReached (quorums_of layout.now) kind v (next_from out self.old.place) (turn ∷ turns))

@@ -22,7 +22,7 @@ pub const MAX_CELLS: u32 = 256;
 pub const MAX_LARGE_CELLS: u32 = 16_777_216;
 
 /// The most objects of a cell: those of `MAX_PAIRS` pairs, of a fast path and a last object.
-const MAX_OBJECTS: usize = 2 * MAX_PAIRS as usize + 3;
+pub(crate) const MAX_OBJECTS: usize = 2 * MAX_PAIRS as usize + 3;
 
 /// The deciding objects that each cell has: so many pairs of a conciliator and a ratifier, and what its [`Shape`] says
 /// beside them, over a quorum table with a value for each consumer. It keeps their row and where each one's words begin,

@@ -1,8 +1,10 @@
 //! What one process does in a conciliator.
 use super::conciliator::ConciliatorPlace;
 use crate::access::{Op, Reg};
-use crate::memory::Memory;
+use super::pc::{Next, Pc};
+use crate::memory::{Drawing, Memory};
 use crate::object::Out;
+use mb_quorum::Quorums;
 
 impl ConciliatorPlace {
     ghost use Rattle.std.specs.Prelude.{◌≡◌, ◌<◌, ◌≤◌, ◌+◌, false, ℕ};
@@ -10,6 +12,8 @@ impl ConciliatorPlace {
     ghost use Rattle.mb_deciding.specs.{Op, Pc, InConciliator, Draw, Put, Look, next_from, turns_left};
     ghost use Rattle.mb_deciding.specs.{turns_after};
     ghost use Rattle.mb_deciding.specs.{IsConciliatorPlace, IsConciliatorOp, IsNext, ConciliatorReaches, IsStep};
+    ghost use Rattle.mb_deciding.specs.{IsOpAt, AreSteps, DrawsAndMakes};
+    ghost use Rattle.mb_deciding.specs.declared.place.pc.Next.TheVariants as leads;
 
     /// The access that comes next.
     #[inline(always)]
@@ -86,6 +90,59 @@ impl ConciliatorPlace {
                 Self::looked(values, input, seen)
             }
         }
+    }
+
+    /// Makes accesses in a conciliator until the process has its output or nothing is left of the budget.
+    #[inline(always)]
+    pub(crate) fn run<Q: Quorums, M: Drawing>(
+        self,
+        q: &Q,
+        memory: &mut M,
+        object: u32,
+        left: &mut u64,
+    ) -> Next
+        requires place { IsConciliatorPlace (Q.table q.now).values self }
+        requires may { (n word : ℕ) (at : Pc) (before mid : M) (op : Op)
+            → AreSteps (Q.table q.now) (DrawsAndMakes M.draws M.makes object) (InConciliator self)
+            memory.old n (leads.Go at) before
+            → M.draws before word mid → IsOpAt (Q.table q.now) at op → M.can_make mid object op }
+        ensures fits { IsNext (Q.table q.now) result }
+        ensures steps { (n : ℕ) × (n + left.new ≡ left.old)
+            × AreSteps (Q.table q.now) (DrawsAndMakes M.draws M.makes object) (InConciliator self)
+            memory.old n result memory.new }
+    {
+        let mut place = self;
+        'draws: while let Self::Draw { .. } = place {
+            if *left == 0 {
+                return Next::Go(Pc::InConciliator(place));
+            }
+            *left -= 1;
+            let word = memory.draw();
+            if let Some(out) = place.step(q.values(), memory, object, word) {
+                return Next::Out(out);
+            }
+        }
+        'puts: while let Self::Put { .. } = place {
+            if *left == 0 {
+                return Next::Go(Pc::InConciliator(place));
+            }
+            *left -= 1;
+            let word = memory.draw();
+            if let Some(out) = place.step(q.values(), memory, object, word) {
+                return Next::Out(out);
+            }
+        }
+        'looks: while let Self::Look { .. } = place {
+            if *left == 0 {
+                return Next::Go(Pc::InConciliator(place));
+            }
+            *left -= 1;
+            let word = memory.draw();
+            if let Some(out) = place.step(q.values(), memory, object, word) {
+                return Next::Out(out);
+            }
+        }
+        Next::Go(Pc::InConciliator(place))
     }
 
     /// After the load of a process that has not stored.

@@ -2,17 +2,20 @@
 use super::mask::{least, without};
 use super::ratifier::RatifierPlace;
 use crate::access::{Op, Reg};
-use crate::memory::Memory;
+use super::pc::{Next, Pc};
+use crate::memory::{Drawing, Memory};
 use crate::object::Out;
 use mb_quorum::Quorums;
 
 impl RatifierPlace {
-    ghost use Rattle.std.specs.Prelude.{◌≡◌, ◌≢◌, ◌<◌, ◌≤◌, ℕ, count_ones, List, ◌∷◌};
+    ghost use Rattle.std.specs.Prelude.{◌≡◌, ◌≢◌, ◌<◌, ◌≤◌, ◌+◌, ℕ, count_ones, List, ◌∷◌};
     ghost use Rattle.mb_quorum.specs.Quorum.{QuorumTable};
     ghost use Rattle.mb_deciding.specs.{Op, Turn, Ratifier, Announce, Propose, Check, InRatifier};
     ghost use Rattle.mb_deciding.specs.{acts, ReadsClear, IsAt, IsRatifierPlace, IsRatifierOp, IsRest, IsNext};
     ghost use Rattle.mb_deciding.specs.{IsReached, CanFind, act_of, RatifierReaches, IsStep, next_from};
     ghost use Rattle.mb_deciding.specs.{turns_left, turns_after};
+    ghost use Rattle.mb_deciding.specs.{Pc, IsOpAt, AreSteps, DrawsAndMakes};
+    ghost use Rattle.mb_deciding.specs.declared.place.pc.Next.TheVariants as leads;
 
     /// The access that comes next.
     #[inline(always)]
@@ -78,6 +81,60 @@ impl RatifierPlace {
                 self.checked(q, preference, left, seen)
             }
         }
+    }
+
+    /// Makes accesses in a ratifier, from the first one after `Begin` on, until the process has its output or nothing is
+    /// left of the budget. A process at `Begin` does not move.
+    #[inline(always)]
+    pub(crate) fn run<Q: Quorums, M: Drawing>(
+        self,
+        q: &Q,
+        memory: &mut M,
+        object: u32,
+        left: &mut u64,
+    ) -> Next
+        requires place { IsRatifierPlace (Q.table q.now) self }
+        requires may { (n word : ℕ) (at : Pc) (before mid : M) (op : Op)
+            → AreSteps (Q.table q.now) (DrawsAndMakes M.draws M.makes object) (InRatifier self)
+            memory.old n (leads.Go at) before
+            → M.draws before word mid → IsOpAt (Q.table q.now) at op → M.can_make mid object op }
+        ensures fits { IsNext (Q.table q.now) result }
+        ensures steps { (n : ℕ) × (n + left.new ≡ left.old)
+            × AreSteps (Q.table q.now) (DrawsAndMakes M.draws M.makes object) (InRatifier self)
+            memory.old n result memory.new }
+    {
+        let mut place = self;
+        'announces: while let Self::Announce { .. } = place {
+            if *left == 0 {
+                return Next::Go(Pc::InRatifier(place));
+            }
+            *left -= 1;
+            memory.draw();
+            if let Some(out) = place.step(q, memory, object) {
+                return Next::Out(out);
+            }
+        }
+        'proposes: while let Self::Propose { .. } = place {
+            if *left == 0 {
+                return Next::Go(Pc::InRatifier(place));
+            }
+            *left -= 1;
+            memory.draw();
+            if let Some(out) = place.step(q, memory, object) {
+                return Next::Out(out);
+            }
+        }
+        'checks: while let Self::Check { .. } = place {
+            if *left == 0 {
+                return Next::Go(Pc::InRatifier(place));
+            }
+            *left -= 1;
+            memory.draw();
+            if let Some(out) = place.step(q, memory, object) {
+                return Next::Out(out);
+            }
+        }
+        Next::Go(Pc::InRatifier(place))
     }
 
     /// The access of a process that still has these registers to announce its input in.

@@ -1,0 +1,24 @@
+use Rattle.std.proofs.Common.{◌≡◌, ◌+◌, ℕ}
+use Rattle.mb_claim.specs.{FitsLayout, consumer_of, AreClaimSteps, DrawsAndMakesNext}
+use Rattle.mb_claim.proofs.claim.Claim.run.Given as goal
+
+abbrev pub invariant-objects : goal.invariant-objects
+invariant-objects g l = record {
+  fits : FitsLayout l.layout l.self;
+  consumer : consumer_of l.self ≡ consumer_of l.fn.self;
+  made : ℕ;
+  count : made + l.left ≡ l.fn.most;
+  steps : AreClaimSteps l.layout (DrawsAndMakesNext g.M.Drawing.draws g.M.Memory.makes) l.fn.self l.fn.memory made l.self l.memory;
+}
+
+abbrev pub invariant-steps : goal.invariant-steps
+invariant-steps g l = record {
+  fits : FitsLayout l.layout l.self;
+  consumer : consumer_of l.self ≡ consumer_of l.fn.self;
+  made : ℕ;
+  count : made + l.left ≡ l.fn.most;
+  steps : AreClaimSteps l.layout (DrawsAndMakesNext g.M.Drawing.draws g.M.Memory.makes) l.fn.self l.fn.memory made l.self l.memory;
+}
+
+abbrev pub decreases-steps : goal.decreases-steps
+decreases-steps g l = l.left
