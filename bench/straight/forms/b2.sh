@@ -1,0 +1,1 @@
+for v in "$@"; do rustc --edition 2024 -C opt-level=3 -C target-cpu=x86-64-v2 -C codegen-units=1 -C panic=abort $v.rs -o $v 2>&1 | grep -E "^error" -A5; echo "== $v"; python3 /tmp/st_count2.py ./$v; done

@@ -1,0 +1,3 @@
+#![allow(unused)]
+include!("base_b.rs"); include!("mem6.rs"); 
+impl Claim { fn run<M: Runs>(&mut self, l: &Layout, m: &mut M, most: u64) -> u64 { 0 } }

@@ -1,0 +1,2 @@
+#![allow(unused)]
+include!("base.rs"); include!("mem6.rs"); include!("run20.rs");
