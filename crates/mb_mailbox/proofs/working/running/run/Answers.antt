@@ -13,14 +13,17 @@ scoped-requires g c =
         (
           c.requires.few,
           (
-            c.requires.room,
+            c.requires.lanes,
             (
-              record { owned = t.send-A.owned; leaving = λ k. Quiet-if (k (of_param 0)) (unseen {D = g.row.A.Denot}) unseen (λ x w. tt {0}) (λ x w. tt {0}) },
-              record { owned = t.send-R.owned; leaving = λ k. Quiet-if (k (of_param 2)) (unseen {D = g.row.R.Denot}) unseen (λ x w. tt {0}) (λ x w. tt {0}) },
-              search (sendable, t.sync-A),
-              search (sendable, t.sync-W),
-              search (sendable, t.sync-G),
-              t.frees-A-Allocator,
+              c.requires.room,
+              (
+                record { owned = t.send-A.owned; leaving = λ k. Quiet-if (k (of_param 0)) (unseen {D = g.row.A.Denot}) unseen (λ x w. tt {0}) (λ x w. tt {0}) },
+                record { owned = t.send-R.owned; leaving = λ k. Quiet-if (k (of_param 2)) (unseen {D = g.row.R.Denot}) unseen (λ x w. tt {0}) (λ x w. tt {0}) },
+                search (sendable, t.sync-A),
+                search (sendable, t.sync-W),
+                search (sendable, t.sync-G),
+                t.frees-A-Allocator,
+              ),
             ),
           ),
         ),
