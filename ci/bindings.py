@@ -33,7 +33,7 @@ OUTSIDE = HEAP | {"memcpy", "memset", "memmove", "memcmp", "bcmp"}
 WARNINGS = "-std=c11 -Wall -Wextra -Wpedantic -Werror -g -pthread".split()
 SANITIZED = "-O1 -fsanitize=address,undefined -fno-sanitize-recover=all".split()
 MEMCHECK = "valgrind --quiet --error-exitcode=9 --leak-check=full --fair-sched=yes".split()
-EXAMPLES = ("two_threads", "job_queue", "rounds", "many_boxes")
+EXAMPLES = ("one_letter", "two_threads", "job_queue", "rounds", "many_boxes")
 LIMIT = 1800  # seconds for one command
 
 

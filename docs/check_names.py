@@ -175,7 +175,7 @@ def faults_of(page, sources):
     is_tested = os.path.relpath(page, TOP).startswith("bindings")
     for language, block in blocks:
         for part in parts_of(block) if language == "rust" and not is_tested else []:
-            if not any(shows(part, lines(read(it))) for it in sources.texts):
+            if not any(shows(part, lines(read(it))) for it in [*sources.texts, *files_below(f"{TOP}/bindings/rust/examples")]):
                 yield f"the block that begins with {part[0]}"
 
 
