@@ -3,6 +3,7 @@
 
     ci/bindings.py                     # what CI runs, after the proofs
     ci/bindings.py --archive PATH      # the same over another archive, which is not compared with a build
+    ci/bindings.py --proved            # the same right after rt ci, whose libraries it takes as they are
     ci/bindings.py --place             # builds the archive, and puts it into bindings/prebuilt with its text file
 
 A step that cannot run here says that it was skipped, and why. It counts as neither passed nor failed. Nothing is fetched by network.
@@ -21,6 +22,7 @@ import tempfile
 import time
 
 import interfaces
+import mutants
 
 TOP = os.path.dirname(os.path.dirname(os.path.abspath(__file__)))
 CRATE = f"{TOP}/crates/hazbultra"
@@ -52,6 +54,7 @@ class Place:
     archive: str
     is_prebuilt: bool
     room: str
+    is_proved: bool = False  # whether the libraries below are those of rt ci
 
 
 def read(path):
@@ -130,6 +133,27 @@ def built_archive():
     return f"{CRATE}/out/libhazbultra.a"
 
 
+def archive_over_proved(room):
+    """Builds the archive over the libraries that rt ci left. `rt lib` would prove each of them once more."""
+    want("rt")
+    kit, crates = mutants.load_kit()
+    crate = crates["hazbultra"]
+    lacking = [it.name for it in crate.below() if not os.path.isdir(it.rlib)]
+    if lacking:
+        raise Failed(f"rt ci left no library {lacking[0]}")
+    held = kit.lock([*crate.below(), crate])
+    os.makedirs(f"{CRATE}/out", exist_ok=True)
+    with open(f"{room}/said", "w+", encoding="utf-8") as said:
+        crate.out = said
+        status = crate.build_static(["--jobs", os.environ.get("RT_JOBS", "1")])
+        said.seek(0)
+        told = said.read()
+    del held
+    if status:
+        raise Failed(f"the archive was not built: status {status}\n{told[-2000:]}")
+    return f"{CRATE}/out/libhazbultra.a"
+
+
 def kit_of():
     """The identity of the kit that is on the PATH."""
     folder = os.path.dirname(os.path.dirname(os.path.realpath(shutil.which("rt"))))
@@ -147,7 +171,8 @@ def first_difference(one, other):
 def check_build(place):
     if not place.is_prebuilt:
         raise Skipped("the archive is not the prebuilt one")
-    told = first_difference(bytes_of(place.archive), bytes_of(built_archive()))
+    built = archive_over_proved(place.room) if place.is_proved else built_archive()
+    told = first_difference(bytes_of(place.archive), bytes_of(built))
     if told:
         kit = record_of(read(place.archive.removesuffix(".a") + ".txt")).get("kit")
         raise Failed(f"the prebuilt archive is not what the sources build: {told}. It was built by {kit}, and now by {kit_of()}")
@@ -348,10 +373,11 @@ def carry_out(steps, place):
 def main(words):
     asked = argparse.ArgumentParser(description=__doc__, formatter_class=argparse.RawDescriptionHelpFormatter)
     asked.add_argument("--archive", help="another archive than the prebuilt one")
+    asked.add_argument("--proved", action="store_true", help="take the libraries as they are, right after rt ci")
     asked.add_argument("--place", action="store_true", help="put a new archive in place")
     given = asked.parse_args(words)
     with tempfile.TemporaryDirectory() as room:
-        place = Place(os.path.abspath(given.archive or PREBUILT), not given.archive, room)
+        place = Place(os.path.abspath(given.archive or PREBUILT), not given.archive, room, given.proved)
         steps = {"a new archive in place": lambda _: put_in_place()} if given.place else STEPS
         passed, failed = carry_out(steps, place)
     print(f"{passed} passed, {failed or not passed:d} failed")
