@@ -72,7 +72,7 @@ impl<T> Builder<T> {
 
     /// So many cells, 0 to 2^24. Each takes one item, and none is used again. If you name none, it is 256.
     ///
-    /// Memory grows with it: some 16 bytes for each cell and consumer and lane, and the words of each cell.
+    /// Memory grows with it: some 16 bytes for each cell and consumer, and the words of each cell.
     #[must_use]
     pub fn cells(self, cells: u64) -> Self {
         Builder { cells, ..self }

@@ -12,7 +12,8 @@ use std::sync::{Arc, Mutex, MutexGuard, PoisonError};
 ///
 /// Each part has its mailbox with it. So no call takes a part and a mailbox, and none can be handed to another mailbox.
 ///
-/// A mailbox that is dropped, and not gathered, drops what is left inside as soon as its last part is dropped too.
+/// A mailbox that is dropped, and not gathered, drops what is left inside as soon as its last part is dropped too. If there
+/// is no memory then for the report that this takes, what is left inside leaks.
 pub struct Mailbox<T> {
     home: Arc<Home<T>>,
 }

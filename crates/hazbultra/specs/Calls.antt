@@ -1,5 +1,8 @@
 -- What a call does to what its handles lead to.
 use Rattle.std.specs.Prelude.{◌≡◌, ℕ, Bool, true, false, if◌then◌else◌, nat_eq, List, Option, None, Some}
+use Rattle.rand_core.specs.Steps.{steps_u32, stream_of}
+use Rattle.rand_core.specs.Stream.{Stream}
+use Rattle.rand_chacha.specs.ChaCha.{ChaCha, next_word}
 use Rattle.mb_quorum.specs.declared.table.TableName.{TableName}
 use Rattle.mb_quorum.specs.declared.table.TableName.TheVariants.{Bits, Middle, Unary}
 use Rattle.mb_world.specs.Report.{LaneView, ReportView}
@@ -92,6 +95,10 @@ HasTakenBack h (Some (OfConsumer c)) k =
     (h.id ≡ c.consumer.id)
     × (k ≡ record h { hub = with_taken_consumer c.consumer.consumer h.hub })
 HasTakenBack h _ k = ⊥
+
+-- the words that a generator of eight rounds gives from now on
+abbrev pub words_of : ChaCha → Stream
+words_of rng = stream_of (steps_u32 (next_word 4)) rng
 
 -- ---- numbers of C
 -- the quorum table of this number

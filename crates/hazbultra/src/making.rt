@@ -1,5 +1,6 @@
 //! The calls that make a mailbox, its producers and its consumers.
 ghost use Rattle.std.specs.Prelude.{◌≡◌, ◌≢◌, ◌↔◌, ◌≤◌, IfErr, IfOk, Some, length};
+ghost use Rattle.rand_chacha.specs.ChaCha.{of_seed};
 ghost use Rattle.mb_quorum.specs.declared.table.TableName.{TableName};
 ghost use Rattle.mb_world.specs.Setups.{plan_in, shaped_plan};
 ghost use Rattle.mb_mailbox.specs.Below.{consumer_count};
@@ -51,7 +52,14 @@ fn setup_of(wanted: &SetupIn) -> Result<Setup, u32>
 
 /// A mailbox of this setup and its hub. No other mailbox of the process has its number.
 #[unsafe(no_mangle)]
-pub extern "C" fn hz_mailbox_new(alloc: Global, id: u64, setup: &SetupIn, hub: &mut Handle) -> u32 {
+pub extern "C" fn hz_mailbox_new(alloc: Global, id: u64, setup: &SetupIn, hub: &mut Handle) -> u32
+    ensures made { result ≡ DONE → (name : TableName) → table_numbered setup.now.table ≡ Some name
+        → HubMade (λ h. (h.id ≡ id) × (plan_at h.mailbox ≡ shaped_plan
+        (record { fast = setup.now.fast; last = setup.now.last })
+        setup.now.producers setup.now.consumers setup.now.cells setup.now.pairs name)
+        × (h.hub ≡ hub_empty h.mailbox)) hub.new.block.thing }
+    ensures same { result ≢ DONE → hub.new.block.thing ≡ hub.old.block.thing }
+{
     if !hub.is_none() {
         return BAD_HANDLE;
     }
@@ -140,6 +148,7 @@ pub extern "C" fn hz_consumer_new(
 ) -> u32
     ensures given { result ≡ DONE
         → HubGaveConsumer (λ h c. (c.consumer.id ≡ h.id) × (c.consumer.mailbox ≡ h.mailbox)
+        × (c.source ≡ record (of_seed seed.now) { stream = stream })
         × IsNewConsumer h.mailbox h.hub c.consumer.consumer)
         hub.old.block.thing consumer.new.block.thing }
     ensures hub { result ≡ DONE

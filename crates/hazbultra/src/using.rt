@@ -1,11 +1,13 @@
 //! The calls of a producer and of a consumer.
-ghost use Rattle.std.specs.Prelude.{◌≡◌, ◌≢◌, ◌⊎◌, ℕ, Some, true};
+ghost use Rattle.std.specs.Prelude.{◌≡◌, ◌≢◌, ◌⊎◌, ◌<◌, ◌+◌, ℕ, Some, false, true};
+ghost use Rattle.mb_claim.specs.Vocabulary.{most_accesses, shape_of};
 ghost use Rattle.mb_mailbox.specs.declared.consumer.Poll.{Poll};
-ghost use Rattle.mb_mailbox.specs.declared.consumer.Poll.TheVariants.{NoLane};
+ghost use Rattle.mb_mailbox.specs.declared.consumer.Poll.TheVariants.{NoLane, Spent, Undecided};
 ghost use Rattle.mb_mailbox.specs.Producers.{HasNoCellFor, IsEndOfLane, IsPutInto, is_over};
-ghost use Rattle.mb_mailbox.specs.Steps.{AnswerTells, outcome};
-ghost use Rattle.hazbultra.specs.Calls.{ConsumerWent, IsConsumer, IsProducer, ProducerWent, answer_told};
+ghost use Rattle.mb_mailbox.specs.Steps.{AnswerTells, IsPollOf, outcome};
+ghost use Rattle.hazbultra.specs.Calls.{ConsumerMade, ConsumerWent, words_of, IsConsumer, IsProducer, ProducerWent, answer_told};
 ghost use Rattle.hazbultra.specs.declared.codes.TheConstants.{BAD_HANDLE, CLOSED, DONE, FULL, LINKED, NO_LANE};
+ghost use Rattle.hazbultra.specs.declared.codes.TheConstants.{LOST, SPENT, TOOK, UNDECIDED};
 
 use crate::codes::{
     BAD_HANDLE, CLOSED, DONE, ENDED, FULL, LINKED, LOST, NO_LANE, NOTHING, SPENT, TOOK, UNDECIDED,
@@ -77,6 +79,17 @@ pub extern "C" fn hz_finish(producer: &mut Handle) -> u32
 /// Polls a lane. The value is the item taken, or the number of the consumer to whom it is lost.
 #[unsafe(no_mangle)]
 pub extern "C" fn hz_poll(consumer: &mut Handle, lane: u64, budget: u64, value: &mut u64) -> u32
+    // The answer is that of the poll, with the next words of the consumer's source.
+    ensures polled { (answer : Poll) → answer_told result value.new ≡ Some answer
+        → answer ≢ NoLane
+        → ConsumerWent (λ c d. IsPollOf lane budget answer (words_of c.source) (words_of d.source)
+        c.consumer.consumer d.consumer.consumer)
+        consumer.old.block.thing consumer.new.block.thing }
+    ensures unspent { result ≡ SPENT → ConsumerMade (λ c.
+        budget < most_accesses c.consumer.mailbox.claims.layout + 2) consumer.old.block.thing }
+    ensures decided { result ≡ UNDECIDED → ConsumerMade (λ c.
+        (shape_of c.consumer.mailbox.claims.layout).last ≡ false) consumer.old.block.thing }
+    ensures kept { result ≢ TOOK → result ≢ LOST → value.new ≡ value.old }
     ensures told { (answer : Poll) → answer_told result value.new ≡ Some answer
         → answer ≢ NoLane
         → ConsumerWent (λ c d.
@@ -106,7 +119,10 @@ pub extern "C" fn hz_poll(consumer: &mut Handle, lane: u64, budget: u64, value: 
 
 /// The code of an answer, whose value is written.
 fn tell(answer: Poll, value: &mut u64) -> u32
-    ensures { answer_told result value.new ≡ Some answer }
+    ensures told { answer_told result value.new ≡ Some answer }
+    ensures kept { result ≢ TOOK → result ≢ LOST → value.new ≡ value.old }
+    ensures spent { result ≡ SPENT → answer ≡ Spent }
+    ensures undecided { result ≡ UNDECIDED → answer ≡ Undecided }
 {
     match answer {
         Poll::Took(item) => {

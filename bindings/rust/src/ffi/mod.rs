@@ -5,8 +5,8 @@
 //! 1. A [`Handle`](handle::Handle) begins empty, has private fields and no `Clone`. So only calls of the archive write it.
 //! 2. Pointers are made of references to values of the declared types. Two `&mut` never lead to the same value.
 //! 3. Each call takes the handle by `&mut`. So it is in one call at a time, and whoever has it later was handed it.
-//! 4. [`Hub::new`] takes the number of the mailbox from the one counter of this crate, of which a program has one (`links`
-//!    in its `Cargo.toml`). So no two mailboxes have the same number.
+//! 4. [`Hub::new`] takes the number of the mailbox from the one counter of this crate, and parts never leave their copy of
+//!    it (`links` in its `Cargo.toml` allows one). So no two mailboxes that could meet have the same number.
 //! 5. [`heap`] takes memory from the one allocator of the C library.
 //! 6. A program without `unsafe` code makes no call from a signal handler or from a forked child.
 //!
@@ -18,7 +18,8 @@
 //!
 //! - `hz_gather`: `headline`, which is that of `Mailbox::gather`. One assignment explains the whole report: each item put
 //!   goes to at most one consumer, and each that was not taken is left, once.
-//! - `hz_poll`: `told`. A consumer is told `HZ_TOOK` of an item together with its note of it, which the report has.
+//! - `hz_poll`: `polled`. The answer is that of the poll. So a consumer is told `HZ_TOOK` of an item exactly if it gets the
+//!   note of it, which the report has.
 //! - `hz_put`: `linked` and `full`. An item is put by `HZ_LINKED` alone. After `HZ_FULL` it is in no lane.
 //!
 //! The first speaks of a report. But at each moment of a run all parts might be handed back and a report made. So no two
