@@ -6,13 +6,21 @@ links:
   - a block of code, fenced or set in by four spaces behind an empty line, has no sentence;
   - code between backticks is one word, whatever it has;
   - of a link the text counts, and its target does not.
+
+Of a whole page all words count, also those of its code. Of lines of prose the columns count, and not of those that cannot be
+broken: code, headings, pictures and rows of tables.
 """
 import re
 
 MOST_LINES = 150
+MOST_PAGE_WORDS = 1200
 MOST_WORDS = 30
+MOST_COLUMNS = 120
 FENCED = re.compile(r"^( *)```.*?^\1```$", re.M | re.S)
 SET_IN = re.compile(r"(?<=\n\n)(?: {4}.*\n|\n(?= {4}))+")
+LINK = re.compile(r"\[([^]]*)\]\([^)]*\)")
+# What begins a line that cannot be broken.
+WHOLE = ("|", "#", "![")
 # What begins a text of its own: a heading, or an item of a list.
 BEGIN = re.compile(r"^ *(?:#+|[-*]|\d+\.) ")
 END = re.compile(r"(?<=[.!?])[)\"*]*\s+")
@@ -45,7 +53,7 @@ def cells_of(line):
 def sentences_of(page):
     for text in texts_of(page):
         text = re.sub(r"`[^`]+`", "code", text)
-        text = re.sub(r"\[([^]]*)\]\([^)]*\)", r"\1", text)
+        text = LINK.sub(r"\1", text)
         yield from (it for it in END.split(text) if words_of(it))
 
 
@@ -65,3 +73,16 @@ def too_many_lines(page):
     count = len(page.splitlines())
     if count > MOST_LINES:
         yield f"{count} lines, and at most {MOST_LINES} are allowed"
+
+
+def too_many_words(page):
+    count = len(words_of(LINK.sub(r"\1", page)))
+    if count > MOST_PAGE_WORDS:
+        yield f"{count} words, and at most {MOST_PAGE_WORDS} are allowed"
+
+
+def wide_lines(page):
+    """The lines of prose of more than `MOST_COLUMNS` columns, each told by how it begins."""
+    for line in without_code(page).splitlines():
+        if len(line) > MOST_COLUMNS and not line.lstrip().startswith(WHOLE):
+            yield f"a line of {len(line)} columns: {line[:40].strip()} .."

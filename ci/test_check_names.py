@@ -1,12 +1,11 @@
 """Tests of docs/check_names.py, as far as its functions stand alone."""
 import os
 import sys
-import tempfile
 import unittest
 
 sys.path.insert(0, os.path.join(os.path.dirname(os.path.abspath(__file__)), "..", "docs"))
 
-from check_names import SHORT, edits_not_named, lengths_over, lines, parts_of, sections_of, shows
+from check_names import edits_not_named, lengths_over, lines, parts_of, sections_of, shows
 
 SOURCE = """fn main() {
     // One.
@@ -86,25 +85,25 @@ class Sections(unittest.TestCase):
 
 
 class Lengths(unittest.TestCase):
-    def told(self, texts):
-        with tempfile.TemporaryDirectory() as top:
-            os.mkdir(f"{top}/docs")
-            for page in SHORT:
-                with open(f"{top}/{page}", "w", encoding="utf-8") as file:
-                    file.write(texts.get(page, "One.\n"))
-            return list(lengths_over(top))
+    def test_a_long_sentence_is_told_of_every_page(self):
+        for name in ("README.md", "docs/GUIDE.md", "crates/mb_quorum/README.md"):
+            told = list(lengths_over(name, "one " * 29 + "two\nend.\n"))
+            self.assertEqual(told, ["a sentence of 31 words: one one one one one one one one .."])
 
-    def test_a_long_sentence_is_told_on_each_page_that_is_counted(self):
-        for name in ("README", "docs/GUIDE", "docs/MODEL", "docs/CALLS", "docs/CI", "docs/DECISIONS"):
-            told = self.told({f"{name}.md": "one " * 30 + "end.\n"})
-            self.assertEqual(told, [f"{name}.md: a sentence of 31 words: one one one one one one one one .."])
+    def test_so_is_a_wide_line(self):
+        for name in ("README.md", "docs/FORMATS.md"):
+            self.assertEqual(list(lengths_over(name, "a" * 121 + "\n")), [f"a line of 121 columns: {'a' * 40} .."])
 
-    def test_of_lines_the_readme_alone_is_counted(self):
-        told = self.told({page: "a\n\n" * 76 for page in SHORT})
-        self.assertEqual(told, ["README.md: 152 lines, and at most 150 are allowed"])
+    def test_lines_and_words_are_counted_of_the_readme_alone(self):
+        text = "one two.\n" * 601
+        self.assertEqual(
+            list(lengths_over("README.md", text)),
+            ["601 lines, and at most 150 are allowed", "1202 words, and at most 1200 are allowed"],
+        )
+        self.assertEqual(list(lengths_over("crates/mb_quorum/README.md", text)), [])
 
     def test_short_pages_pass(self):
-        self.assertEqual(self.told({}), [])
+        self.assertEqual(list(lengths_over("README.md", "One.\n")), [])
 
 
 if __name__ == "__main__":

@@ -1,7 +1,7 @@
 """Tests of ci/lengths.py."""
 import unittest
 
-from lengths import long_sentences, sentences_of, too_many_lines, words_of
+from lengths import long_sentences, sentences_of, too_many_lines, too_many_words, wide_lines, words_of
 
 
 def counts(page):
@@ -53,6 +53,25 @@ class Limits(unittest.TestCase):
     def test_a_hundred_and_fifty_lines_pass_and_one_more_is_told(self):
         self.assertEqual(list(too_many_lines("a\n" * 150)), [])
         self.assertEqual(list(too_many_lines("a\n" * 151)), ["151 lines, and at most 150 are allowed"])
+
+    def test_twelve_hundred_words_pass_and_one_more_is_told(self):
+        self.assertEqual(list(too_many_words("one " * 1200)), [])
+        self.assertEqual(list(too_many_words("one " * 1201)), ["1201 words, and at most 1200 are allowed"])
+
+    def test_of_a_page_the_words_of_code_count_and_signs_and_targets_do_not(self):
+        self.assertEqual(list(too_many_words("one " * 1196 + "| - [two](a b c)\n\n```\nthree `four five`\n```\n")), [])
+        told = list(too_many_words("one " * 1196 + "two\n\n```\nthree four `five six`\n```\n"))
+        self.assertEqual(told, ["1201 words, and at most 1200 are allowed"])
+
+    def test_a_hundred_and_twenty_columns_pass_and_one_more_is_told(self):
+        self.assertEqual(list(wide_lines("a" * 120 + "\n")), [])
+        told = list(wide_lines("One.\n\n- two " + "a" * 115 + "\n"))
+        self.assertEqual(told, ["a line of 121 columns: - two aaaaaaaaaaaaaaaaaaaaaaaaaaaaaaaaaa .."])
+
+    def test_lines_that_cannot_be_broken_may_be_wider(self):
+        wide = "a" * 130
+        page = f"# {wide}\n\n| {wide} |\n\n![{wide}](b)\n\n```\n{wide}\n```\n\n    {wide}\n"
+        self.assertEqual(list(wide_lines(page)), [])
 
 
 if __name__ == "__main__":

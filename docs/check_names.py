@@ -17,7 +17,8 @@ the program's help, is what an example has:
   - behind a line `$ COMMAND` stands what that command prints, be it a script, an output, or the first or last lines of one;
     and behind `$ cd crates/NAME && rt run` what the `stdout` of that program has;
   - lines without a command, of which one begins with a word of scripts or outputs, are the first or last lines of one.
-Of README.md it counts the lines, and of each page of `SHORT` the words of each sentence (`ci/lengths.py`).
+Of README.md it counts the lines and the words, and of every page the words of each sentence and the columns of each line of
+prose (`ci/lengths.py`).
 The status is 0 where all was found, and else 1.
 """
 import os
@@ -29,7 +30,7 @@ from fnmatch import fnmatch
 TOP = os.path.dirname(os.path.dirname(os.path.abspath(__file__)))
 sys.path.insert(0, f"{TOP}/ci")
 
-from lengths import long_sentences, too_many_lines
+from lengths import long_sentences, too_many_lines, too_many_words, wide_lines
 
 PARTS = ("src", "specs", "proofs")
 PATH = re.compile(r"[\w.<>*-]+(?:/[\w.<>*-]+)+/?|[\w*-]+\.(?:rt|antt|md|py|txt|edit|control)")
@@ -44,8 +45,6 @@ EXAMPLE = re.compile(
 # The words with which lines of scripts and outputs begin.
 SPELLED = "ratify inputs turns process setup offer push finish step lane left diary".split()
 NAMES = r"(?:`[\w:]+`(?:, | and ))*`[\w:]+`"
-# The pages whose sentences are counted.
-SHORT = ("README.md", *(f"docs/{it}.md" for it in ("GUIDE", "MODEL", "CALLS", "CI", "DECISIONS")))
 # Words that are said of the world outside: commands, the library below, placeholders of formats.
 OUTSIDE = set(
     """
@@ -309,20 +308,17 @@ def edits_not_named(text, paths):
             yield path
 
 
-def lengths_over(top=TOP):
-    """What is too long on the pages whose length is counted."""
-    for it in too_many_lines(read(f"{top}/README.md")):
-        yield f"README.md: {it}"
-    for page in SHORT:
-        for it in long_sentences(read(f"{top}/{page}")):
-            yield f"{page}: {it}"
+def lengths_over(name, text):
+    """What is too long on a page of this name."""
+    if name == "README.md":
+        yield from too_many_lines(text)
+        yield from too_many_words(text)
+    yield from long_sentences(text)
+    yield from wide_lines(text)
 
 
 def main():
     sources, known, count = Sources(), examples(), 0
-    for it in lengths_over():
-        print(it)
-        count += 1
     for name in scripts_not_printed(known):
         print(f"examples/script: not printed: {name}")
         count += 1
@@ -335,8 +331,12 @@ def main():
             print(f"{os.path.relpath(path, TOP)}: not found: {fault}")
             count += 1
     for page in pages():
+        name = os.path.relpath(page, TOP)
+        for it in lengths_over(name, read(page)):
+            print(f"{name}: {it}")
+            count += 1
         for fault in dict.fromkeys(faults_of(page, sources)):
-            print(f"{os.path.relpath(page, TOP)}: not found: {fault}")
+            print(f"{name}: not found: {fault}")
             count += 1
     print(f"{count} not found or too long")
     return 1 if count else 0
