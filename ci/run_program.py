@@ -6,14 +6,15 @@
 
 `main` has no contract: it hands the words of the command line and the standard streams to a function that has one, and ends with
 the status of its answer. So each example of crates/test_program/src/examples is run here once more, from `main` on. Then comes
-what only a process can meet: a full device, a directory to read from, a word that is no UTF-8, a thread that is refused, and memory
-that is refused.
+what only a process can meet: a full device, a directory to read from, a word that is no UTF-8, a thread that is refused, memory
+that is refused, and a terminal.
 The last line is `N passed, N failed`, and the status is 0 if none failed.
 """
 import argparse
 import dataclasses
 import glob
 import os
+import pty
 import re
 import resource
 import subprocess
@@ -33,6 +34,8 @@ TOO_LARGE = 1 << 46
 LITTLE = 384 << 10
 
 BAD_SCRIPT = b"setup 1 1 1 1 bits\npush  0\n"
+BAD_LINE = b"fault 3 BadLine 2\n"
+IN_WORDS = b"line 2: expected `offer <lane> <item>`, `push <lane>`, `finish <lane>` or `step <consumer> <lane> <word>`\n"
 GOOD_SCRIPT = b"setup 1 1 0 1 bits\n"
 RATIFIER = b"ratify unary 1\ninputs 0\nturns 0\n"
 RUN = ("run", "--producers", "1", "--consumers", "1", "--items", "2", "--pairs", "1")
@@ -73,6 +76,7 @@ def examples():
 def ends():
     """What only a process meets."""
     return [
+        Run("the version", ("--version",), 0, b"", b"mailbox 0.1.0\n"),
         Run("a replay, its output full", ("replay",), 3, GOOD_SCRIPT, "/dev/full", b"fault 12 WriteFault\n"),
         Run("a ratifier, its output full", ("ratify",), 3, RATIFIER, "/dev/full", b"fault 10 WriteFault\n"),
         Run("threads, their output full", RUN, 3, b"", "/dev/full", b"fault 4 WriteFault\n"),
@@ -120,6 +124,22 @@ def differences(program, run):
     return told
 
 
+def at_a_terminal(program):
+    """What the program does otherwise than it must if standard error is a terminal: there the words for a person follow."""
+    ours, its = pty.openpty()
+    started = subprocess.run([program, "replay"], input=BAD_SCRIPT, stdout=subprocess.PIPE, stderr=its, timeout=LIMIT)
+    os.close(its)
+    try:
+        said = os.read(ours, 4096).replace(b"\r\n", b"\n")
+    except OSError:  # (nothing was written)
+        said = b""
+    finally:
+        os.close(ours)
+    if (started.returncode, started.stdout, said) == (2, b"", BAD_LINE + IN_WORDS):
+        return []
+    return [f"status {started.returncode}, standard output {started.stdout[:80]!r}, standard error {said[:200]!r}"]
+
+
 def main(words):
     asked = argparse.ArgumentParser(description=__doc__, formatter_class=argparse.RawDescriptionHelpFormatter)
     asked.add_argument("--program", action="append", help="a build of the program")
@@ -128,10 +148,10 @@ def main(words):
         print(f"there is no program in {OUT}: `rt ci` leaves it there, and so does a first ./mailbox")
     passed = failed = 0
     for program in programs:
-        for run in [*examples(), *ends()]:
-            told = differences(program, run)
+        runs = [(run.name, differences(program, run)) for run in [*examples(), *ends()]]
+        for name, told in [*runs, ("a fault at a terminal", at_a_terminal(program))]:
             if told:
-                print(f"{os.path.basename(program)}: {run.name}: {'; '.join(told)}")
+                print(f"{os.path.basename(program)}: {name}: {'; '.join(told)}")
             passed, failed = passed + (not told), failed + bool(told)
     print(f"{passed} passed, {failed or not passed:d} failed")
     return 0 if passed and not failed else 1

@@ -78,10 +78,20 @@ class Whole(unittest.TestCase):
         run_program.BUILDS = old
         self.assertEqual((status, out.getvalue().splitlines()[-1]), (1, "0 passed, 1 failed"))
 
+    def test_a_terminal_gets_the_words(self):
+        both = (run_program.BAD_LINE + run_program.IN_WORDS).decode()
+        self.assertEqual(run_program.at_a_terminal("/bin/true"), ["status 0, standard output b'', standard error b''"])
+        with tempfile.TemporaryDirectory() as folder:
+            program = f"{folder}/program"
+            with open(program, "w", encoding="utf-8") as file:
+                file.write(f"#!/bin/sh\ncat >/dev/null\ncat >&2 <<'END'\n{both}END\nexit 2\n")
+            os.chmod(program, 0o755)
+            self.assertEqual(run_program.at_a_terminal(program), [])
+
     def test_what_failed_is_counted(self):
         with contextlib.redirect_stdout(io.StringIO()) as out:
             status = run_program.main(["--program", "/bin/false"])
-        runs = len(run_program.examples()) + len(run_program.ends())
+        runs = len(run_program.examples()) + len(run_program.ends()) + 1  # (at a terminal)
         self.assertEqual((status, out.getvalue().splitlines()[-1]), (1, f"0 passed, {runs} failed"))
 
 

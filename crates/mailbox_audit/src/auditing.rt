@@ -4,30 +4,10 @@ ghost use Rattle.std.specs.Prelude.{◌≡◌, IfOk};
 ghost use Rattle.mailbox_audit.specs.Asked.{HasAsked};
 ghost use Rattle.mailbox_audit.specs.Tallies.{IsLaneCount, IsReportCount, both, counts};
 
+use crate::flaw::Flaw;
 use crate::meeting::{all_said_of, diary_of};
 use mb_world::{LaneReport, Report};
 use std::alloc::Allocator;
-
-/// What in a report cannot be.
-#[derive(Clone, Copy, PartialEq, Eq, Debug)]
-pub enum Flaw {
-    /// There are more or fewer lanes than were asked for.
-    OtherLanes,
-    /// The diaries are not one for each consumer and lane, in their order.
-    OtherDiary,
-    /// A diary has more notes than its lane has items, or as many and a claim that is under way.
-    TooManyNotes,
-    /// Two consumers took one item.
-    TwoTakers,
-    /// A consumer took a value that was not put there.
-    OtherItem,
-    /// A loser names itself, or one that did not compete, or another than the taker or than another loser.
-    OtherWinner,
-    /// A consumer that alone competed for an item is undecided.
-    UndecidedAlone,
-    /// The items left are not those that nobody took, in their order.
-    OtherLeft,
-}
 
 /// How many there are of each in a report.
 #[derive(Clone, Copy, PartialEq, Eq, Debug)]

@@ -4,6 +4,8 @@
 #![tactic(auto)]
 
 mod auditing;
+mod flaw;
 mod meeting;
 
-pub use auditing::{Flaw, Tally, audit};
+pub use auditing::{Tally, audit};
+pub use flaw::Flaw;

@@ -1,6 +1,6 @@
 //! What the diaries say of one item.
 
-use crate::auditing::Flaw;
+use crate::flaw::Flaw;
 use mb_world::{Diary, Note, Report};
 use std::alloc::Allocator;
 

@@ -2,9 +2,9 @@
 #![tactic(auto)]
 
 pub use mb_program::{command_of, fault_text, ratify_text, run_threads, source_of, status_of};
-use mb_program::{Ending, program, status_of_ending};
-use mb_script::Counting;
-use std::io;
+use mb_program::{Ending, explanation, program, status_of_ending};
+use mb_script::{Counting, write_all};
+use std::io::{self, IsTerminal};
 use std::process::ExitCode;
 
 fn main(rt: HostRuntime) -> ExitCode {
@@ -21,5 +21,13 @@ fn main(rt: HostRuntime) -> ExitCode {
         Err(error) if error.kind() == io::ErrorKind::InvalidData => Ending::NoText,
         Err(_) => Ending::NoWords,
     };
+    // A person at a terminal gets a second line, in words.
+    if let Ending::Failed(failed) = ending {
+        if rt.stderr().is_terminal() {
+            if let Ok(text) = explanation(rt.alloc(), &failed) {
+                let _ = write_all(&mut errors, text.as_bytes());
+            }
+        }
+    }
     ExitCode::from(status_of_ending(&ending))
 }

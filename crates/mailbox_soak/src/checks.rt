@@ -1,8 +1,9 @@
 //! That the checks of a run find each fault, in reports that are made up and in mailboxes that are not left as they should be.
 
+use crate::fault::Fault;
 use crate::plan::{Plan, Stops};
 use crate::refused::check_refused;
-use crate::run::{Fault, check};
+use crate::run::check;
 use crate::settled::check_settled;
 use mailbox_audit::Flaw;
 use mb_claim::Shape;

@@ -11,6 +11,7 @@ use std::time::Instant;
 
 #[cfg(test)]
 mod checks;
+pub mod fault;
 pub mod gates;
 pub mod plan;
 pub mod refused;

@@ -1,8 +1,8 @@
 //! What workers leave whose memory was refused.
 ghost use Rattle.mb_mailbox.specs.Hubs.{IsHubOf};
 
+use crate::fault::Fault;
 use crate::plan::Plan;
-use crate::run::Fault;
 use mb_mailbox::{Hub, HubFault, Mailbox};
 use std::alloc::Global;
 

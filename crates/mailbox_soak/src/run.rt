@@ -3,59 +3,21 @@
 ghost use Rattle.std.specs.Prelude.{IfOk};
 ghost use Rattle.mailbox_audit.specs.Asked.{HasAsked};
 
+use crate::fault::Fault;
 use crate::gates::RandomGate;
 use crate::plan::{Plan, Stops};
 use crate::refused::check_refused;
 use crate::settled::check_settled;
 use crate::sources::chacha;
 use crate::totals::Totals;
-use mailbox_audit::{Flaw, audit};
-use mb_mailbox::{Mailbox, WorkFault, Worked, work};
+use mailbox_audit::audit;
+use mb_mailbox::{Mailbox, Worked, work};
 use mb_world::{Report, Setup};
 use rand_core::Rng;
 use std::alloc::{AllocError, Global};
 use std::sync::Wait;
 use std::thread::Threads;
 use test_tools::Zeros;
-
-/// How a run went wrong.
-#[derive(Clone, Copy, PartialEq, Eq, Debug)]
-pub enum Fault {
-    /// The setup was refused.
-    Setup,
-    /// `work` was refused with this fault. All that was given was taken in, its lanes ended.
-    Work(WorkFault),
-    /// Memory was refused.
-    NoMemory,
-    /// There was no report.
-    NoReport,
-    /// The report has this flaw.
-    Report(Flaw),
-    /// A lane has not ended.
-    NotEnded,
-    /// What a lane has is not what its list begins with.
-    OtherItems,
-    /// The items that found no cell are other than those that the lanes lack.
-    OtherFull,
-    /// An item found no cell, and there are cells without an item.
-    FullTooEarly,
-    /// A worker was stopped at an open gate.
-    Stopped,
-    /// A consumer that was not stopped has not come to an item.
-    NotMet,
-    /// A claim is under way, and each poll had a budget for a whole item.
-    Spent,
-    /// A consumer is undecided, and each cell has a last object.
-    Undecided,
-    /// Nobody took an item for which a consumer competed, and no claim on it is under way; and each cell has a last object.
-    NotSettled,
-}
-
-impl From<AllocError> for Fault {
-    fn from(_: AllocError) -> Fault {
-        Fault::NoMemory
-    }
-}
 
 /// The first item of a list.
 fn first_of(producer: u64) -> u64 {

@@ -1,6 +1,6 @@
 //! What a report has to be if each poll had a budget for a whole item, or if each cell has a last object.
 
-use crate::run::Fault;
+use crate::fault::Fault;
 use mb_claim::Shape;
 use mb_world::{Note, Report};
 use std::alloc::Global;

@@ -59,9 +59,10 @@ run_with names =
     (number_rule (codes "budget") (codes "64") 1 MAX_BUDGET)) (any_number (codes "seed") (codes "0")))
     (named_rule (codes "shape") (codes "plain") names)
 
--- the program, of which one command has to be named
+-- the program, of which one command has to be named, and which tells its version
 abbrev pub program_alone : App
-program_alone = on_top (λ top. record top { subcommand_required = true }) (new_app (codes "mailbox"))
+program_alone =
+    on_top (λ top. record top { subcommand_required = true; has_version = true }) (new_app (codes "mailbox"))
 
 -- its commands: `ratify` and `replay`, which take nothing more, and `run`
 abbrev pub program_with : TextsAt → App

@@ -11,6 +11,9 @@ use clap::{ArgMatches, Command, Error};
 use std::alloc::{AllocError, Global};
 use std::convert::AsStr;
 
+/// The version that `--version` tells.
+pub const VERSION: &str = "0.1.0";
+
 /// What a command line asks for.
 #[derive(Clone, Copy, Debug, PartialEq, Eq, Hash)]
 pub enum Choice {
@@ -29,6 +32,7 @@ fn program_alone<'a>(alloc: Global) -> Result<Command<'a>, AllocError>
     Ok(
         Command::new(alloc, "mailbox")
             .bin_name("mailbox")?
+            .version(VERSION)
             .about("Replays single atomic steps, or lets threads work")
             .after_help(help::PROGRAM)
             .subcommand_required(true),

@@ -5,6 +5,7 @@ mod command;
 pub mod examples;
 mod fault;
 mod help;
+mod meaning;
 mod options;
 mod outcome;
 pub mod program;
@@ -15,8 +16,9 @@ mod script;
 mod source;
 pub mod trace_text;
 
-pub use command::{Choice, command_of};
+pub use command::{Choice, VERSION, command_of};
 pub use fault::{Failed, NoMemory, RatifyFault, RunFault};
+pub use meaning::explanation;
 pub use options::{DEFAULTS, MAX_BUDGET, Options};
 pub use outcome::{DONE, Ending, FAILED, REFUSED, fault_text, status_of, status_of_ending};
 pub use ratify::ratify_text;

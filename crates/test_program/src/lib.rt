@@ -11,6 +11,8 @@ mod devices;
 #[cfg(test)]
 mod examples;
 #[cfg(test)]
+mod explanations;
+#[cfg(test)]
 mod faults;
 #[cfg(test)]
 mod ratify;

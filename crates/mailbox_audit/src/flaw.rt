@@ -1,0 +1,22 @@
+//! What an audit finds.
+
+/// What in a report cannot be.
+#[derive(Clone, Copy, PartialEq, Eq, Debug)]
+pub enum Flaw {
+    /// There are more or fewer lanes than were asked for.
+    OtherLanes,
+    /// The diaries are not one for each consumer and lane, in their order.
+    OtherDiary,
+    /// A diary has more notes than its lane has items, or as many and a claim that is under way.
+    TooManyNotes,
+    /// Two consumers took one item.
+    TwoTakers,
+    /// A consumer took a value that was not put there.
+    OtherItem,
+    /// A loser names itself, or one that did not compete, or another than the taker or than another loser.
+    OtherWinner,
+    /// A consumer that alone competed for an item is undecided.
+    UndecidedAlone,
+    /// The items left are not those that nobody took, in their order.
+    OtherLeft,
+}

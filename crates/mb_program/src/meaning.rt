@@ -1,0 +1,107 @@
+//! What a fault means, in words for a person. A program that reads the faults reads `fault_text`, whose format is fixed.
+use crate::fault::{Failed, NoMemory, RatifyFault, RunFault};
+use mb_script::Fault;
+use mb_world::SetupFault;
+use std::alloc::Allocator;
+
+/// Where the fault lies.
+#[derive(Clone, Copy)]
+enum Place {
+    /// In the whole, or outside of the script.
+    Whole,
+    /// On the line of this number, counted from 1.
+    Line(usize),
+    /// At the input of this place, counted from 0.
+    Input(usize),
+    /// At the turn of this place, counted from 0.
+    Turn(usize),
+}
+
+const TOO_LONG: &str = "the script is longer than 1048576 bytes";
+
+const NOT_ASCII: &str = "the script has a byte that is not ASCII";
+
+const BAD_NUMBER: &str =
+    "expected a number below 2^64, in digits alone and without zeros before it";
+
+const SETUP: &str =
+    "expected `setup <producers> <consumers> <cells> <pairs> <table>`, and no shape or one";
+
+const EVENT: &str =
+    "expected `offer <lane> <item>`, `push <lane>`, `finish <lane>` or `step <consumer> <lane> <word>`";
+
+const NO_MEMORY: &str = "out of memory";
+
+const NO_INPUT: &str = "standard input cannot be read";
+
+const NO_OUTPUT: &str = "standard output cannot be written";
+
+fn of_setup(fault: SetupFault) -> &'static str {
+    match fault {
+        SetupFault::BadProducers => "the number of producers is 1 to 16",
+        SetupFault::BadConsumers => "the number of consumers is 1 to 64",
+        SetupFault::BadCells => "the number of cells, one for each item, is at most 256",
+        SetupFault::BadRounds => "the number of pairs is 1 to 8",
+    }
+}
+
+fn of_ratify(fault: RatifyFault) -> (Place, &'static str) {
+    match fault {
+        RatifyFault::TooLong => (Place::Whole, TOO_LONG),
+        RatifyFault::NotAscii => (Place::Whole, NOT_ASCII),
+        RatifyFault::BadLine(1) => (Place::Line(1), "expected `ratify <table> <m>`"),
+        RatifyFault::BadLine(2) => (Place::Line(2), "expected `inputs <i0> <i1> ..`"),
+        RatifyFault::BadLine(3) => (Place::Line(3), "expected `turns <p> <p> ..`"),
+        RatifyFault::BadLine(n) => (Place::Line(n), "a script has three lines"),
+        RatifyFault::BadNumber(n) => (Place::Line(n), BAD_NUMBER),
+        RatifyFault::BadValues => (Place::Line(1), "the number of values is 1 to 64"),
+        RatifyFault::BadInput(i) => (Place::Input(i), "an input is below the number of values"),
+        RatifyFault::NoSuchProcess(i) => (Place::Turn(i), "there is no process of this number"),
+        RatifyFault::NoMemory => (Place::Whole, NO_MEMORY),
+        RatifyFault::ReadFault => (Place::Whole, NO_INPUT),
+        RatifyFault::WriteFault => (Place::Whole, NO_OUTPUT),
+    }
+}
+
+fn of_replay(fault: Fault) -> (Place, &'static str) {
+    match fault {
+        Fault::TooLong => (Place::Whole, TOO_LONG),
+        Fault::NotAscii => (Place::Whole, NOT_ASCII),
+        Fault::NoSetup | Fault::BadLine(1) => (Place::Line(1), SETUP),
+        Fault::BadLine(n) => (Place::Line(n), EVENT),
+        Fault::BadNumber(n) => (Place::Line(n), BAD_NUMBER),
+        Fault::BadSetup(n, why) => (Place::Line(n), of_setup(why)),
+        Fault::NoLane(n) => (Place::Line(n), "there is no lane of this number"),
+        Fault::NoConsumer(n) => (Place::Line(n), "there is no consumer of this number"),
+        Fault::TooManyEvents => (Place::Whole, "the script has more than 20000 events"),
+        Fault::NoMemory => (Place::Whole, NO_MEMORY),
+        Fault::ReadFault => (Place::Whole, NO_INPUT),
+        Fault::WriteFault => (Place::Whole, NO_OUTPUT),
+    }
+}
+
+fn of_run(fault: RunFault) -> &'static str {
+    match fault {
+        RunFault::BadSetup(why) => of_setup(why),
+        RunFault::NoMemory => NO_MEMORY,
+        RunFault::NoThread => "a thread could not be started",
+        RunFault::WriteFault => NO_OUTPUT,
+    }
+}
+
+/// What the fault means, in one line with its LF, for a person at a terminal.
+///
+/// It says where the fault lies, if it lies in a script, and what stands there in a good one.
+pub fn explanation<A: Allocator>(alloc: A, failed: &Failed) -> Result<String<A>, NoMemory> {
+    let (place, words) = match *failed {
+        Failed::Ratify(fault) => of_ratify(fault),
+        Failed::Replay(fault) => of_replay(fault),
+        Failed::Run(fault) => (Place::Whole, of_run(fault)),
+    };
+    match place {
+        Place::Whole => format!(in alloc; "{words}\n"),
+        Place::Line(n) => format!(in alloc; "line {n}: {words}\n"),
+        Place::Input(i) => format!(in alloc; "input {i}: {words}\n"),
+        Place::Turn(i) => format!(in alloc; "turn {i}: {words}\n"),
+    }
+}
