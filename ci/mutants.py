@@ -11,6 +11,7 @@ function has to come out proved. Each crate with mutants has one, and it stands 
 go alone. It shows that the check does not refuse everything.
 
 The mutants of different functions share one check, since a proof reads the contracts of what is called and no bodies.
+The first check of a crate keeps what it proved, and the others of the crate begin with that, but for the control's proof.
 A check reads the libraries below its crate from their out/rlib. They are built if they are missing or old.
 docs/CI.md says how a mutant is judged. The last line is `N passed, N failed`, and the status is 0 if none failed.
 """
@@ -24,7 +25,8 @@ import subprocess
 import sys
 import tempfile
 import threading
-from concurrent.futures import ThreadPoolExecutor
+from collections import Counter
+from concurrent.futures import FIRST_COMPLETED, ThreadPoolExecutor, wait
 
 import edits
 import machine
@@ -74,8 +76,8 @@ class Check:
     peak: int
 
 
-def check(kit, crate, group):
-    """Checks the functions of the group alone, in a copy of the crate with the group's edits."""
+def check(kit, crate, group, kept):
+    """Checks the functions of the group alone, in a copy of the crate with the group's edits, over what is in `kept`, if anything."""
     texts = {}
     for edit in group:
         texts = edit.applied(crate.folder, texts)
@@ -88,6 +90,7 @@ def check(kit, crate, group):
                 file.write(text)
         # (a function's name without that of its crate)
         only = [word for edit in group for word in ("--only", edit.function.partition("::")[2])]
+        only += ["--incremental", kept] if kept else []
         with open(f"{room}/said", "w+", encoding="utf-8", errors="replace") as out:
             how = {"cwd": room, "stdin": subprocess.DEVNULL, "stdout": out, "stderr": out}
             run = subprocess.Popen([*command(kit, crate), *only], **how)
@@ -95,6 +98,23 @@ def check(kit, crate, group):
             run.returncode = os.waitstatus_to_exitcode(status)
             out.seek(0)
             return Check(out.read(), run.returncode, used.ru_utime + used.ru_stime, 1024 * used.ru_maxrss)
+
+
+def link_or_copy(one, other):
+    """Gives a proof that was kept a second name. A check replaces such a file, and never writes into it."""
+    if not one.endswith(".oantt"):
+        return shutil.copy2(one, other)
+    return os.link(one, other)
+
+
+def handed_on(kept, folder, control):
+    """Copies what a check kept, but for its proof of the control, which each check has to make itself.
+
+    Returns the copy's folder, or nothing if no proof is found that it would leave out."""
+    mark = f"-proofs.{control.function.partition('::')[2].replace('::', '.')}." if control else "-proofs."
+    found = [it for _, _, names in os.walk(kept) for it in names if mark in it]
+    shutil.copytree(kept, folder, copy_function=link_or_copy, ignore=lambda *_: found if control else ())
+    return folder if found else None
 
 
 def cut(why):
@@ -141,19 +161,45 @@ class Trials:
         self.controls, self.killed = {}, []  # (for each control, whether each of its checks proved it)
 
     def run(self, tasks, jobs):
-        """Tries the groups side by side, and then each whose check was killed, one at a time."""
-        with ThreadPoolExecutor(jobs) as pool:
-            for it in [pool.submit(self.try_group, *task) for task in tasks]:
-                it.result()
+        """Tries the groups side by side in their order, and then each whose check was killed, one at a time.
+
+        A crate's other groups wait for its first, and begin with what that one proved."""
+        left, running, firsts, times = [*tasks], {}, {}, Counter(crate.name for crate, _, _ in tasks)
+        with tempfile.TemporaryDirectory(prefix="mutants-kept-") as room, ThreadPoolExecutor(jobs) as pool:
+            while left or running:
+                is_ready = lambda it: it[0].name not in firsts or firsts[it[0].name].done()
+                while len(running) < jobs and (task := next(filter(is_ready, left), None)):
+                    left.remove(task)
+                    name = task[0].name
+                    kept = f"{room}/{name}" if times[name] > 1 else None
+                    began = pool.submit(self.try_over if name in firsts else self.try_first, task, kept)
+                    firsts.setdefault(name, began)
+                    running[began] = name
+                for it in wait(running, return_when=FIRST_COMPLETED).done:
+                    name = running.pop(it)
+                    it.result()
+                    if name not in [*running.values(), *(crate.name for crate, _, _ in left)]:
+                        shutil.rmtree(f"{room}/{name}", ignore_errors=True)
         for task in self.killed[:]:
             self.try_group(*task, is_last=True)
         for label, ends in sorted(self.controls.items()):
             word = "proved" if any(ends) else "NOT PROVED"
             self.report.tell(label, any(ends), word, f"in {sum(ends)} of the {len(ends)} checks that it stood in")
 
-    def try_group(self, crate, control, mutants, word="refused", is_last=False):
-        """Checks mutants and control together. A mutant that is not refused so is tried without the others."""
-        ran = check(self.kit, crate, [*([control] if control else []), *mutants])
+    def try_first(self, task, kept):
+        """Tries the first group of a crate, whose proofs it keeps for the others, if there are any."""
+        if kept:
+            os.mkdir(kept)
+        self.try_group(*task, kept=kept)
+
+    def try_over(self, task, kept):
+        """Tries a group over what the first of its crate kept."""
+        with tempfile.TemporaryDirectory(prefix="over-", dir=os.path.dirname(kept)) as room:
+            self.try_group(*task, kept=handed_on(kept, f"{room}/kept", task[1]))
+
+    def try_group(self, crate, control, mutants, word="refused", is_last=False, kept=None):
+        """Checks mutants and control together. A mutant that is not refused so is tried without the others, over nothing."""
+        ran = check(self.kit, crate, [*([control] if control else []), *mutants], kept)
         self.report.add(crate, ran)
         if ran.status < 0 and not is_last:
             self.report.note(crate.name, "a check was killed, most likely for memory: it is repeated at the end")
@@ -162,7 +208,7 @@ class Trials:
         void = unended(ran.status, ran.said) or self.unproved(control, ran)
         for it in mutants:
             is_well, why = (False, void) if void else judged(it, ran.said)
-            if not is_well and len(mutants) > 1:
+            if not is_well and (len(mutants) > 1 or kept):
                 self.report.note(it.label, f"not refused in its group, so it is tried alone: {why}")
                 self.try_group(crate, control, [it], "refused alone", is_last)
             else:

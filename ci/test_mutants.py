@@ -49,6 +49,13 @@ room = os.path.dirname(os.path.abspath(__file__))
 with open(f"{room}/log", "a") as log:
     log.write(" ".join(sys.argv[1:]) + chr(10) + text)
 is_first = not os.path.exists(f"{room}/was_here")
+if "--incremental" in sys.argv:
+    kept = sys.argv[sys.argv.index("--incremental") + 1]
+    with open(f"{room}/kept", "a") as log:
+        log.write(" ".join(sorted(os.listdir(kept))) + chr(10))
+    for name in only:
+        for part in ("Code.oantt", "judged"):
+            open(f"{kept}/X-proofs.{name.replace('::', '.')}.{part}", "w").close()
 if "dies" in text or "heavy" in text and len(only) > 2 or "once" in text and is_first:
     open(f"{room}/was_here", "w").close()
     os.kill(os.getpid(), signal.SIGKILL)
@@ -151,11 +158,31 @@ class Trying(WithKit):
         self.write(f"{self.crate}/src/values.rt", SOURCE + "// spoils\n")
         self.ends(1, "0 passed, 3 failed", "mb_a/harmless.control: NOT PROVED: in 0 of the 3 checks")
 
+    def test_the_second_check_of_a_crate_begins_with_the_first_but_for_the_control(self):
+        self.mutant("f2.edit", text_of("values::f", "1", "also wrong"))
+        self.ends(0, "4 passed, 0 failed", "mb_a: 2 checks",
+                  "mb_a/harmless.control: proved: in 2 of the 2 checks")
+        with open(f"{self.kit}/kept", encoding="utf-8") as file:
+            first, second = file.read().splitlines()
+        parts = [f"X-proofs.values.{it}.{part}" for it in "fg" for part in ("Code.oantt", "judged")]
+        self.assertEqual((first, second), ("", " ".join(parts)))
+
+    def test_a_mutant_that_survives_is_tried_again_over_nothing(self):
+        self.mutant("f2.edit", text_of("values::f", "1", "5"))
+        self.ends(1, "3 passed, 1 failed", "mb_a/f2.edit: NOT REFUSED", "mb_a: 3 checks")
+        last = [it for it in self.log().splitlines() if it.startswith("check")][-1]
+        self.assertNotIn("--incremental", last)
+
+    def test_a_first_check_that_is_killed(self):
+        self.mutant("f2.edit", text_of("values::f", "1", "also wrong"))
+        self.mutant("f.edit", text_of("values::f", "1", "wrong once"))
+        self.ends(0, "4 passed, 0 failed", "mb_a: a check was killed", "mb_a/f.edit: refused: ", "mb_a: 3 checks")
+
     def test_one_that_goes_alone(self):
         self.mutant("four.edit", "alone: a constant\n" + text_of("values::f", "u64 = 4;", "u64 = 5; // spoils"))
         self.ends(0, "4 passed, 0 failed", "mb_a/four.edit: refused: ", "mb_a: 2 checks",
                   "mb_a/harmless.control: proved: in 1 of the 1 checks")
-        self.assertIn("--jobs 1 --only values::f\n", self.log())
+        self.assertRegex(self.log(), r"--jobs 1 --only values::f --incremental \S+\n")
 
     def test_a_control_with_nothing_to_guard(self):
         os.remove(f"{self.crate}/mutants/g.edit")

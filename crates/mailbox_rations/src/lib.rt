@@ -5,8 +5,6 @@
 mod book;
 mod growths;
 mod rations;
-#[cfg(test)]
-mod refusing;
 
 pub use book::Refuse;
 pub use growths::growths_refused;

@@ -24,7 +24,7 @@ const TRACK: usize = 6;
 const MIN_WIDTH: usize = 444;
 
 /// Where the marks of a column stand.
-#[derive(Clone, Copy, Debug, PartialEq, Eq)]
+#[derive(Clone, Copy)]
 pub struct Place {
     /// Their left side.
     pub left: usize,
@@ -33,7 +33,7 @@ pub struct Place {
 }
 
 /// Where a line goes: from a mark to a track, down, and to another mark.
-#[derive(Clone, Copy, Debug, PartialEq, Eq)]
+#[derive(Clone, Copy)]
 pub struct Route {
     /// How high the mark of the store is.
     pub above: usize,

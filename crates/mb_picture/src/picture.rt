@@ -8,7 +8,7 @@ use std::alloc::Allocator;
 pub const MAX_ROWS: usize = 200;
 
 /// What a picture is of.
-#[derive(Clone, Copy, Debug, PartialEq, Eq)]
+#[derive(Clone, Copy)]
 pub enum Kind {
     /// A replay.
     Replay,
@@ -17,7 +17,7 @@ pub enum Kind {
 }
 
 /// Whose column it is.
-#[derive(Clone, Copy, Debug, PartialEq, Eq)]
+#[derive(Clone, Copy, PartialEq)]
 pub enum Who {
     /// The producer of this lane.
     Producer(u64),
@@ -28,7 +28,7 @@ pub enum Who {
 }
 
 /// A word that is shared.
-#[derive(Clone, Copy, Debug, PartialEq, Eq)]
+#[derive(Clone, Copy, PartialEq)]
 pub enum Word {
     /// The counter of the cells that were handed out.
     Counter,
@@ -45,7 +45,7 @@ pub enum Word {
 }
 
 /// What a word holds.
-#[derive(Clone, Copy, Debug, PartialEq, Eq)]
+#[derive(Clone, Copy)]
 pub enum Value {
     /// This number.
     Number(u64),
@@ -56,7 +56,7 @@ pub enum Value {
 }
 
 /// What an event did to a word.
-#[derive(Clone, Copy, Debug, PartialEq, Eq)]
+#[derive(Clone, Copy)]
 pub enum Deed {
     /// It loaded the word, and found this.
     Load(Word, Value),
@@ -71,7 +71,7 @@ pub enum Deed {
 }
 
 /// What an event came to.
-#[derive(Clone, Copy, Debug, PartialEq, Eq)]
+#[derive(Clone, Copy)]
 pub enum Note {
     /// Nothing that is to be told.
     Plain,
@@ -114,7 +114,7 @@ pub enum Note {
 }
 
 /// How a mark and a box look.
-#[derive(Clone, Copy, Debug, PartialEq, Eq)]
+#[derive(Clone, Copy)]
 pub enum Tone {
     /// As any access.
     Plain,
@@ -133,7 +133,7 @@ pub enum Tone {
 }
 
 /// An event.
-#[derive(Clone, Copy, Debug, PartialEq, Eq)]
+#[derive(Clone, Copy)]
 pub struct Mark {
     /// The number of its column.
     pub column: usize,
@@ -148,7 +148,7 @@ pub struct Mark {
 }
 
 /// A line from the row of a store to the row of a load that read it.
-#[derive(Clone, Copy, Debug, PartialEq, Eq)]
+#[derive(Clone, Copy)]
 pub struct Line {
     /// The row of the store.
     pub from: usize,
@@ -157,7 +157,7 @@ pub struct Line {
 }
 
 /// A box round a claim.
-#[derive(Clone, Copy, Debug, PartialEq, Eq)]
+#[derive(Clone, Copy)]
 pub struct Frame {
     /// The number of its column.
     pub column: usize,

@@ -202,7 +202,7 @@ fn draw<A: Allocator + Copy>(
                 column,
                 deed,
                 note,
-                opens: note == Note::Found,
+                opens: matches!(note, Note::Found),
                 ends: matches!(note, Note::Lost(_) | Note::Undecided | Note::Took),
             });
         }

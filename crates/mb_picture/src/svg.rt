@@ -69,7 +69,7 @@ fn push_mark<A: Allocator + Copy>(
     let on_dark = matches!(tone, Tone::Took | Tone::Ended);
     let y = middle(row);
     let below = y.saturating_add(4);
-    if mark.deed != Deed::Nothing {
+    if !matches!(mark.deed, Deed::Nothing) {
         let stores = mark.deed.stored().is_some();
         push_ground(text, class_of(tone, stores), stores, place, y)?;
         let mut label = String::new(alloc);

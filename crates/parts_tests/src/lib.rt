@@ -32,6 +32,8 @@ mod ratifiers;
 #[cfg(test)]
 mod refused_memory;
 #[cfg(test)]
+mod refusing;
+#[cfg(test)]
 mod reports;
 #[cfg(test)]
 mod scripts;

@@ -1,18 +1,29 @@
-//! Which requests are refused, and which blocks are out.
+//! Rations: which requests are refused, and which blocks are out.
 
-use crate::{Rations, Refuse};
+use crate::compare::same;
+use mailbox_rations::{Rations, Refuse};
+use std::alloc::Allocator;
 use std::test::Fail;
+
+/// How many requests there were, and how many blocks are out.
+fn counts<B: Allocator>(rations: &Rations<B>) -> (u64, u64) {
+    (rations.asked(), rations.out())
+}
 
 #[test]
 fn each_request_is_granted(rt: HostRuntime) -> Result<(), Fail> {
     let rations = Rations::new(rt.alloc(), Refuse::Never);
     let one = Box::new(&rations, 7u64)?;
     let two = Box::new(&rations, 8u8)?;
-    assert_eq!(rt; (rations.asked(), rations.out()), (2, 2));
+    let both = counts(&rations);
     drop(one);
-    assert_eq!(rt; (rations.asked(), rations.out()), (2, 1));
+    let last = counts(&rations);
     drop(two);
-    assert_eq!(rt; (rations.asked(), rations.out()), (2, 0));
+    same(
+        &rt,
+        &(both, last, counts(&rations)),
+        &((2, 2), (2, 1), (2, 0)),
+    );
     Ok(())
 }
 
@@ -20,11 +31,15 @@ fn each_request_is_granted(rt: HostRuntime) -> Result<(), Fail> {
 fn all_from_one_on_are_refused(rt: HostRuntime) -> Result<(), Fail> {
     let rations = Rations::new(rt.alloc(), Refuse::From(1));
     let first = Box::new(&rations, 7u64)?;
-    assert!(rt; Box::new(&rations, 8u64).is_err());
-    assert!(rt; Box::new(&rations, 9u64).is_err());
-    assert_eq!(rt; (rations.asked(), rations.out()), (3, 1));
+    let second = Box::new(&rations, 8u64).is_err();
+    let third = Box::new(&rations, 9u64).is_err();
+    let held = counts(&rations);
     drop(first);
-    assert_eq!(rt; rations.out(), 0);
+    same(
+        &rt,
+        &((second, third), held, counts(&rations)),
+        &((true, true), (3, 1), (3, 0)),
+    );
     Ok(())
 }
 
@@ -32,11 +47,15 @@ fn all_from_one_on_are_refused(rt: HostRuntime) -> Result<(), Fail> {
 fn one_alone_is_refused(rt: HostRuntime) -> Result<(), Fail> {
     let rations = Rations::new(rt.alloc(), Refuse::Only(1));
     let first = Box::new(&rations, 7u64)?;
-    assert!(rt; Box::new(&rations, 8u64).is_err());
+    let second = Box::new(&rations, 8u64).is_err();
     let third = Box::new(&rations, 9u64)?;
-    assert_eq!(rt; (rations.asked(), rations.out()), (3, 2));
+    let held = counts(&rations);
     drop((first, third));
-    assert_eq!(rt; rations.out(), 0);
+    same(
+        &rt,
+        &(second, held, counts(&rations)),
+        &(true, (3, 2), (3, 0)),
+    );
     Ok(())
 }
 
@@ -45,9 +64,12 @@ fn one_alone_is_refused(rt: HostRuntime) -> Result<(), Fail> {
 fn what_is_refused_below_is_not_out(rt: HostRuntime) -> Result<(), Fail> {
     let below = Rations::new(rt.alloc(), Refuse::From(0));
     let rations = Rations::new(&below, Refuse::Never);
-    assert!(rt; Box::new(&rations, 7u64).is_err());
-    assert_eq!(rt; (rations.asked(), rations.out()), (1, 0));
-    assert_eq!(rt; (below.asked(), below.out()), (1, 0));
+    let refused = Box::new(&rations, 7u64).is_err();
+    same(
+        &rt,
+        &(refused, counts(&rations), counts(&below)),
+        &(true, (1, 0), (1, 0)),
+    );
     Ok(())
 }
 
@@ -59,9 +81,8 @@ fn lists_grow(rt: HostRuntime) -> Result<(), Fail> {
     for x in 0..100u64 {
         list.push(x)?;
     }
-    assert_eq!(rt; rations.out(), 1);
-    assert!(rt; rations.asked() > 1);
+    let (asked, held) = counts(&rations);
     drop(list);
-    assert_eq!(rt; rations.out(), 0);
+    same(&rt, &(1 < asked, held, rations.out()), &(true, 1, 0));
     Ok(())
 }
