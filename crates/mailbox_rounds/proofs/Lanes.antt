@@ -4,10 +4,12 @@ use Rattle.std.proofs.lemmas.Bool.{false≢true}
 use Rattle.std.proofs.lemmas.Nat.{mul-le}
 use Rattle.std.specs.Prelude.{if◌then◌else◌, nat_lt, slice_get}
 use Rattle.std.specs.Option.{is_none, option_map_or}
+use Rattle.mb_mailbox.specs.declared.gate.Who.{Who}
 use Rattle.mb_world.specs.Agreement.{HasCompeted, ledger}
 use Rattle.mb_world.specs.Assignment.{is_consumer, items_where}
 use Rattle.mb_world.specs.Plan.{Plan, consumers_of}
 use Rattle.mb_world.specs.Report.{DiaryView, LaneView, ReportView, diary, is_begun, items_left, items_put, notes}
+use Rattle.mailbox_rounds.specs.Behind.{Terms}
 use Rattle.mailbox_rounds.specs.Carried.{times}
 use Rattle.mailbox_rounds.specs.Round.{IsPlayed}
 use Rattle.mailbox_rounds.proofs.Counts.{given_and_left, rests, shares, sum_below, sum_same}
@@ -27,7 +29,11 @@ chosen_none : {X : Type 0} (b : Bool) (o : Option X) → o ≡ None → (if b th
 chosen_none true o e = e
 chosen_none false o e = refl
 
-module _ (plan : Plan) (lists : List (List ℕ)) (r : ReportView) (played : IsPlayed plan lists r) where
+module _ {may_stop may_pass : Who → ℕ → Type 0} (terms : Terms) (lists : List (List ℕ)) (r : ReportView)
+    (played : IsPlayed may_stop may_pass terms lists r) where
+  abbrev plan : Plan
+  plan = terms.plan
+
   -- a number of no consumer has no diary
   no_diary : (c p : ℕ) → consumers_of plan ≤ c → diary c p r ≡ None
   no_diary c p far =

@@ -2,27 +2,31 @@
 use Rattle.std.specs.Prelude.{ℕ, zero, suc, ◌≡◌, ◌++◌, List, [], ◌∷◌, drop, length, min}
 use Rattle.std.specs.List.{AllZip, concat, filter_map}
 use Rattle.mb_mailbox.specs.Jobs.{IsFront}
+use Rattle.mb_mailbox.specs.declared.gate.Who.{Who}
 use Rattle.mb_world.specs.Agreement.{item_taken, ledger}
 use Rattle.mb_world.specs.Headline.{IsHonest}
-use Rattle.mb_world.specs.Plan.{Histories, Plan, consumers_of}
+use Rattle.mb_world.specs.Plan.{Histories, consumers_of}
 use Rattle.mb_world.specs.Report.{LaneView, ReportView}
 use Rattle.mb_world.specs.Reporting.{IsReportOf}
 use Rattle.mb_world.specs.Sound.{AreSound}
 use Rattle.mb_world.specs.declared.report.Note.{Note}
+use Rattle.mailbox_rounds.specs.Behind.{IsRunBehind, Terms}
 
 -- what was put on a lane is a beginning of the list dealt to its producer
 abbrev pub IsPutOf : List ℕ → LaneView → Type 0
 IsPutOf list lane = IsFront lane.put list
 
--- these lists were put into a mailbox of this plan, each up to some item, and the report is that of the mailbox
-pub record IsPlayed (plan : Plan) (lists : List (List ℕ)) (r : ReportView) : Type 0 where
+-- these lists were put into a mailbox of these terms, each up to some item, and the report is that of the mailbox
+pub record IsPlayed (may_stop may_pass : Who → ℕ → Type 0) (terms : Terms) (lists : List (List ℕ)) (r : ReportView) : Type 0 where
   pub fronts : AllZip IsPutOf lists r.lanes
   -- what was done to the words of the claims and to those of the cells is lawful, and the report is of that
   pub histories : Histories
-  pub sound : AreSound plan histories
-  pub report : IsReportOf plan histories r
+  pub sound : AreSound terms.plan histories
+  pub report : IsReportOf terms.plan histories r
   -- one assignment of items to consumers stands behind the whole report
-  pub honest : IsHonest plan histories r
+  pub honest : IsHonest terms.plan histories r
+  -- it was done by a producer for each list and a consumer for each source, which go on until the gate stops them
+  pub run : IsRunBehind may_stop may_pass terms lists histories r
 
 -- the items that notes say were taken
 abbrev pub taken_in : List Note → List ℕ
@@ -44,13 +48,14 @@ staying [] _ = []
 staying _ [] = []
 staying (list ∷ lists) (lane ∷ lanes) = (lane.left ++ drop (length lane.put) list) ++ staying lists lanes
 
--- the oldest of the items carried, as many as there are cells, were dealt to the producers and went into a mailbox of this
--- plan. What each consumer took there is given out. What nobody took or nobody put is carried, before what was not dealt
-pub record IsRound (plan : Plan) (was : List ℕ) (taken : List (List ℕ)) (r : ReportView) (now : List ℕ) : Type 0 where
+-- the oldest of the items carried, as many as there are cells, were dealt to the producers and went into a mailbox of these
+-- terms. What each consumer took there is given out. What nobody took or nobody put is carried, before what was not dealt
+pub record IsRound (may_stop may_pass : Who → ℕ → Type 0) (terms : Terms) (was : List ℕ) (taken : List (List ℕ)) (r : ReportView)
+    (now : List ℕ) : Type 0 where
   pub lists : List (List ℕ)
   pub behind : List ℕ
   pub dealt : concat lists ++ behind ≡ was
-  pub amount : length (concat lists) ≡ min plan.claims.cells (length was)
-  pub played : IsPlayed plan lists r
-  pub given : taken ≡ ledgers_of (consumers_of plan) r
+  pub amount : length (concat lists) ≡ min terms.plan.claims.cells (length was)
+  pub played : IsPlayed may_stop may_pass terms lists r
+  pub given : taken ≡ ledgers_of (consumers_of terms.plan) r
   pub carried : now ≡ staying lists r.lanes ++ behind

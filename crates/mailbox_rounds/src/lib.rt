@@ -18,6 +18,7 @@
 #![tactic(auto)]
 
 mod dealing;
+pub mod examples;
 pub mod laws;
 mod ledgers;
 mod playing;

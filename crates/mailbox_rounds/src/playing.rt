@@ -1,8 +1,9 @@
 //! One mailbox, from its making to its report.
-ghost use Rattle.std.specs.Prelude.{◌≡◌, ◌<◌, ◌≤◌, ◌≢◌, Err, IfOk, vec_len};
+ghost use Rattle.std.specs.Prelude.{◌≡◌, ◌<◌, ◌≤◌, ◌≢◌, Err, IfOk, map, vec_len};
 ghost use Rattle.mb_mailbox.specs.Worked.{lists_in};
 ghost use Rattle.mb_world.specs.Plan.{consumers_of};
 ghost use Rattle.mb_world.specs.Setups.{plan_in};
+ghost use Rattle.mailbox_rounds.specs.Behind.{terms_of};
 ghost use Rattle.mailbox_rounds.specs.Round.{IsPlayed};
 ghost use Rattle.mailbox_rounds.specs.declared.rounds.RoundFault.TheVariants.{BadBudget, TooManySources};
 
@@ -41,7 +42,8 @@ pub(crate) fn play<
     gate: &G,
 ) -> Result<Report<A>, RoundFault>
     requires lists { vec_len lists ≡ (plan_in setup.now).lanes }
-    ensures played { IfOk result (IsPlayed (plan_in setup.now) (lists_in lists.items)) }
+    ensures played { IfOk result (IsPlayed (G.may_stop gate.now) (G.may_pass gate.now)
+        (terms_of setup.now means.budget (map R.stream means.sources.items)) (lists_in lists.items)) }
     ensures sources { result ≢ Err TooManySources }
     ensures budget { result ≢ Err BadBudget }
 {

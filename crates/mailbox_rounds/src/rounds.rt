@@ -99,11 +99,12 @@ impl<A: Allocator + Clone + Drop> Rounds<A> {
 }
 
 impl<A: Allocator + Clone + Drop + Send + Sync> Rounds<A> {
-    ghost use Rattle.std.specs.Prelude.{◌≡◌, ◌<◌, ◌≢◌, ◌↔◌, ◌++◌, Err, IfOk, OnErr, vec_len};
+    ghost use Rattle.std.specs.Prelude.{◌≡◌, ◌<◌, ◌≢◌, ◌↔◌, ◌++◌, Err, IfOk, OnErr, map, vec_len};
     ghost use Rattle.std.specs.List.{concat};
     ghost use Rattle.mb_mailbox.specs.Worked.{lists_in};
     ghost use Rattle.mb_world.specs.Plan.{consumers_of};
     ghost use Rattle.mb_world.specs.Setups.{plan_in};
+    ghost use Rattle.mailbox_rounds.specs.Behind.{terms_of};
     ghost use Rattle.mailbox_rounds.specs.Carried.{AreSameItems};
     ghost use Rattle.mailbox_rounds.specs.Round.{IsRound};
     ghost use Rattle.mailbox_rounds.specs.declared.rounds.RoundFault.TheVariants.{BadBudget, TooManySources};
@@ -134,7 +135,9 @@ impl<A: Allocator + Clone + Drop + Send + Sync> Rounds<A> {
         ensures setup { self.new.setup ≡ self.old.setup }
 
         // The oldest items went into a mailbox, whose report is honest. What its ledgers have is given out, and the rest stays.
-        ensures round { IfOk result (λ o. IsRound (plan_in self.old.setup) self.old.carried
+        // Who worked there, with this budget and these sources, put and polled until the gate stopped it or it was done.
+        ensures round { IfOk result (λ o. IsRound (G.may_stop gate.now) (G.may_pass gate.now)
+            (terms_of self.old.setup budget (map R.stream sources.items)) self.old.carried
             (lists_in o.taken.items) o.report self.new.carried) }
 
         // Each item that was carried is given out once or carried on, and there are no others.
@@ -161,8 +164,9 @@ impl<A: Allocator + Clone + Drop + Send + Sync> Rounds<A> {
     ) -> Result<(Round<A>, Vec<u64, A>), RoundFault>
         ensures sources { result ≢ Err TooManySources }
         ensures budget { result ≢ Err BadBudget }
-        ensures round { IfOk result (λ o. IsRound (plan_in self.now.setup) self.now.carried
-            (lists_in o.0.taken.items) o.0.report o.1.items) }
+        ensures round { IfOk result (λ o. IsRound (G.may_stop gate.now) (G.may_pass gate.now)
+            (terms_of self.now.setup means.budget (map R.stream means.sources.items))
+            self.now.carried (lists_in o.0.taken.items) o.0.report o.1.items) }
     {
         let cells = self.setup.cells() as usize;
         let dealt = cells.min(self.carried.len());

@@ -23,7 +23,7 @@ const THREADS: usize = 64;
 /// How many pairs of deciding objects each job's cell has.
 const PAIRS: u64 = 2;
 
-/// With a last object no claim ends undecided. So each round gives out every job that it was dealt.
+/// With a last object no claim ends undecided. A job that a round does not give out is carried, and goes into the next.
 const SHAPE: Shape = Shape {
     fast: true,
     last: true,

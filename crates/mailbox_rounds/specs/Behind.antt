@@ -1,0 +1,44 @@
+-- The run behind a round: under what it went, who worked in its mailbox, and what they left.
+use Rattle.std.specs.Prelude.{ℕ, ◌≡◌, List, length}
+use Rattle.mb_mailbox.specs.Below.{Stream, consumer_count}
+use Rattle.mb_mailbox.specs.Called.{IsCalled}
+use Rattle.mb_mailbox.specs.Gathering.{FullTakesAll, IsGathered, IsReportIn}
+use Rattle.mb_mailbox.specs.Hubs.{HubView, IsHubOf, hub_empty}
+use Rattle.mb_mailbox.specs.Mailboxes.{MailboxView, plan_at}
+use Rattle.mb_mailbox.specs.Worked.{IsWorked}
+use Rattle.mb_mailbox.specs.declared.gate.Who.{Who}
+use Rattle.mb_mailbox.specs.declared.working.Worked.{Worked}
+use Rattle.mb_world.specs.Plan.{Histories, Plan, size_of}
+use Rattle.mb_world.specs.Report.{ReportView}
+use Rattle.mb_world.specs.Setups.{plan_in}
+use Rattle.mb_world.specs.declared.setup.Setup.{Setup}
+
+-- under what a round goes: the plan of its mailbox, the most accesses of one poll, and each consumer's random words
+pub record Terms : Type 0 where
+  pub plan : Plan
+  pub budget : ℕ
+  pub sources : List Stream
+
+abbrev pub terms_of : Setup → ℕ → List Stream → Terms
+terms_of setup budget sources = record { plan = plan_in setup; budget = budget; sources = sources }
+
+-- workers came, in a mailbox of this plan, from a hub that had issued nothing to this hub: a producer for each list, and a
+-- consumer for each source
+pub record IsRunBehind (may_stop may_pass : Who → ℕ → Type 0) (terms : Terms) (lists : List (List ℕ)) (hs : Histories)
+    (r : ReportView) : Type 0 where
+  pub mailbox : MailboxView
+  pub plan : plan_at mailbox ≡ terms.plan
+  pub size : mailbox.cells.size ≡ size_of terms.plan
+  pub hub : HubView
+  pub of : IsHubOf mailbox hub
+  pub counts : Worked
+  -- who was stopped was so by the gate. Each other producer has put all of its list that found a cell, and each other
+  -- consumer has a note at each item
+  pub worked : IsWorked may_stop terms.budget lists (length terms.sources) counts (hub_empty mailbox) hub
+  -- each call of a consumer is a poll with this budget, and draws from the consumer's own source
+  pub called : IsCalled may_stop may_pass terms.budget lists terms.sources counts (hub_empty mailbox) hub
+  -- the report is gathered from this hub, and these histories are all accesses that the hub has taken in
+  pub told : IsReportIn mailbox.cells.size.lanes (consumer_count mailbox.claims.layout) hub r
+  pub gathered : IsGathered mailbox hub r
+  pub full : FullTakesAll mailbox hub r
+  pub histories : gathered.histories ≡ hs
