@@ -60,6 +60,7 @@ class Limits(unittest.TestCase):
     def test_proofs_have_lines_of_120_columns(self):
         self.assertEqual(found_in({"crates/a/proofs/A.antt": "a" * 120, "crates/a/specs/A.antt": "a" * 121}), [])
         self.assertEqual(found_in({"crates/a/proofs/A.antt": "a" * 121}), ["lines of proofs over 120 columns"])
+        self.assertEqual(found_in({"crates/a/proofs/A.antt": f"use A.{{{'b' * 120}}}"}), [])
 
     def test_files_have_four_hundred_lines(self):
         self.assertEqual(found_in({"crates/a/src/a.rt": "a\n" * 400}), [])
