@@ -6,7 +6,7 @@ use mathlib.Core.Bool.{Bool, true, false, ◌&&◌}
 use lib.Dec.{T}
 use denote.Signature.{Slot, plain}
 use Rattle.std.specs.Prelude.{Option, Some, None, IsSome}
-use Rattle.std_alloc.proofs.BoxSteps.Form.{Bx, D}
+use Rattle.std_alloc.proofs.BoxSteps.Form.{Bx}
 use Rattle.std_heap.specs.contracts.Global as heap_row
 use Rattle.std_heap.specs.contracts.GlobalAllocator.TheImpl.{ghosts, dict}
 use Rattle.std_heap.proofs.Global.TheLaws as heap_laws

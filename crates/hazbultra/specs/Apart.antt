@@ -1,5 +1,5 @@
 -- What the caller owes who hands a producer or a consumer back: of one number, one mailbox.
-use Rattle.std.specs.Prelude.{Option, None, Some}
+use Rattle.std.specs.Prelude.{Option, Some}
 use Rattle.mb_bound.specs.Bound.{AreNamedApart, BoundHubView}
 use Rattle.hazbultra.specs.declared.thing.Thing.{Thing}
 use Rattle.hazbultra.specs.declared.thing.Thing.TheVariants.{OfConsumer, OfHub, OfProducer}

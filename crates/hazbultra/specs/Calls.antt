@@ -1,17 +1,18 @@
 -- What a call does to what its handles lead to.
-use Rattle.std.specs.Prelude.{◌≡◌, ℕ, Bool, true, false, if◌then◌else◌, nat_eq, List, Option, None, Some}
+use Rattle.std.specs.Prelude.{◌≡◌, ℕ, if◌then◌else◌, nat_eq, Option, None, Some, slice_get}
 use Rattle.rand_core.specs.Steps.{steps_u32, stream_of}
 use Rattle.rand_core.specs.Stream.{Stream}
 use Rattle.rand_chacha.specs.ChaCha.{ChaCha, next_word}
 use Rattle.mb_quorum.specs.declared.table.TableName.{TableName}
 use Rattle.mb_quorum.specs.declared.table.TableName.TheVariants.{Bits, Middle, Unary}
-use Rattle.mb_world.specs.Report.{LaneView, ReportView}
-use Rattle.mb_bound.specs.Bound.{BoundConsumerView, BoundHubView, BoundProducerView}
+use Rattle.mb_world.specs.Report.{ReportView}
+use Rattle.mb_bound.specs.Bound.{BoundHubView, BoundProducerView}
 use Rattle.mb_mailbox.specs.Hubs.{with_taken_consumer, with_taken_producer}
 use Rattle.mb_mailbox.specs.declared.consumer.Poll.{Poll}
 use Rattle.mb_mailbox.specs.declared.consumer.Poll.TheVariants as poll
 use Rattle.hazbultra.specs.declared.thing.Thing.{Thing}
-use Rattle.hazbultra.specs.declared.thing.Thing.TheVariants.{OfConsumer, OfHub, OfProducer, OfReport}
+use Rattle.hazbultra.specs.declared.thing.Thing.TheVariants.{OfConsumer, OfHub}
+use Rattle.hazbultra.specs.declared.thing.Thing.TheVariants.{OfProducer, OfReport}
 use Rattle.hazbultra.specs.declared.thing.SeededConsumer.{SeededConsumer}
 
 -- ---- what a handle leads to
@@ -52,7 +53,8 @@ ConsumerWent R (Some (OfConsumer c)) (Some (OfConsumer d)) =
 ConsumerWent R _ _ = ⊥
 
 -- a hub leads to a producer of which this is so
-abbrev pub HubGave : (BoundHubView → BoundProducerView → Type 0) → Option Thing → Option Thing → Type 0
+abbrev pub HubGave
+    : (BoundHubView → BoundProducerView → Type 0) → Option Thing → Option Thing → Type 0
 HubGave R (Some (OfHub h)) (Some (OfProducer p)) = R h p
 HubGave R _ _ = ⊥
 
@@ -87,12 +89,14 @@ abbrev pub ReportHas : (ReportView → Type 0) → Option Thing → Type 0
 ReportHas R (Some (OfReport r)) = R r
 ReportHas R _ = ⊥
 
--- the hub has taken back what a handle led to
+-- the hub has taken back what a handle led to, whose number was out
 abbrev pub HasTakenBack : BoundHubView → Option Thing → BoundHubView → Type 0
 HasTakenBack h (Some (OfProducer p)) k =
-    (h.id ≡ p.id) × (k ≡ record h { hub = with_taken_producer p.producer h.hub })
+    (h.id ≡ p.id) × (slice_get h.hub.puts p.producer.seat.lane ≡ Some None)
+    × (k ≡ record h { hub = with_taken_producer p.producer h.hub })
 HasTakenBack h (Some (OfConsumer c)) k =
     (h.id ≡ c.consumer.id)
+    × (slice_get h.hub.ledgers c.consumer.consumer.seat.consumer ≡ Some None)
     × (k ≡ record h { hub = with_taken_consumer c.consumer.consumer h.hub })
 HasTakenBack h _ k = ⊥
 
@@ -120,8 +124,3 @@ answer_told n x =
     else if nat_eq n 6 then Some poll.Spent
     else if nat_eq n 7 then Some poll.NoLane
     else None
-
--- the items of a lane that C asks for: those left, or those put
-abbrev pub items_asked : Bool → LaneView → List ℕ
-items_asked true l = l.left
-items_asked false l = l.put

@@ -1,5 +1,5 @@
 -- What a handle gives.
-use Rattle.std.specs.Prelude.{◌≡◌, Bool, Box, Option, None, Some}
+use Rattle.std.specs.Prelude.{◌≡◌, Box, Option, None, Some}
 
 -- a box of what is there, or none if nothing is
 abbrev pub holds : {X A : Type 0} → Option (Box X A) → Option X → Type 0

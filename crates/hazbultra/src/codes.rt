@@ -1,8 +1,9 @@
 //! The answers of the calls, as numbers. They are those of `bindings/c/hazbultra.h`.
-ghost use Rattle.std.specs.Prelude.{◌≡◌, ◌≢◌};
+ghost use Rattle.std.specs.Prelude.{◌≡◌, ◌↔◌, ◌⊎◌};
 ghost use Rattle.mb_mailbox.specs.declared.hub.HubFault.TheVariants as hub;
 ghost use Rattle.hazbultra.specs.Calls.{table_numbered};
-ghost use Rattle.hazbultra.specs.declared.codes.TheConstants.{ALL_GIVEN, DONE};
+ghost use Rattle.hazbultra.specs.Refusals.{setup_code};
+ghost use Rattle.hazbultra.specs.declared.codes.TheConstants.{ALL_GIVEN, NO_MEMORY};
 
 use mb_mailbox::HubFault;
 use mb_quorum::TableName;
@@ -65,7 +66,7 @@ pub(crate) fn table_of(number: u32) -> Option<TableName>
 }
 
 pub(crate) fn code_of_setup(why: SetupFault) -> u32
-    ensures { result ≢ DONE }
+    ensures { result ≡ setup_code why }
 {
     match why {
         SetupFault::BadProducers => BAD_PRODUCERS,
@@ -76,8 +77,8 @@ pub(crate) fn code_of_setup(why: SetupFault) -> u32
 }
 
 pub(crate) fn code_of_hub(why: HubFault) -> u32
-    ensures all_given { result ≡ ALL_GIVEN → why ≡ hub.AllGiven }
-    ensures refused { result ≢ DONE }
+    ensures all_given { (result ≡ ALL_GIVEN) ↔ (why ≡ hub.AllGiven) }
+    ensures codes { (result ≡ ALL_GIVEN) ⊎ (result ≡ NO_MEMORY) }
 {
     match why {
         HubFault::AllGiven => ALL_GIVEN,

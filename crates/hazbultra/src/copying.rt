@@ -1,5 +1,7 @@
 //! What the calls on a report compute: places, and copies into what C lends.
-ghost use Rattle.std.specs.Prelude.{◌≡◌, ◌+◌, ◌*◌, ◌/◌, ◌++◌, ◌<◌, IfSome, drop, length, min, take};
+ghost use Rattle.std.specs.Prelude.{◌≡◌, ◌+◌, ◌*◌, ◌^◌, ◌++◌, ◌<◌, ◌≤◌, ◌⊎◌, MatchOption};
+ghost use Rattle.std.specs.Prelude.{drop, length, map, min, take};
+ghost use Rattle.hazbultra.specs.Reports.{note_out};
 
 use crate::crossing::NoteOut;
 use mb_world::Note;
@@ -29,17 +31,19 @@ pub(crate) fn copy_items(from: &[u64], to: &mut [u64]) -> u64
 /// The same for notes.
 pub(crate) fn copy_notes(from: &[Note], to: &mut [NoteOut]) -> u64
     ensures count { result ≡ min (length from.now) (length to.old) }
+    ensures notes { to.new ≡ take result (map note_out from.now) ++ drop result to.old }
 {
     let count = from.len().min(to.len());
-    for (slot, note) in to.iter_mut().zip(from) {
-        *slot = NoteOut::from(*note);
+    for place in 0..count {
+        to[place] = NoteOut::from(from[place]);
     }
     count as u64
 }
 
 /// The place of the diary of this consumer on this lane, if there are so many lanes.
 pub(crate) fn place_of(lanes: usize, consumer: u64, lane: u64) -> Option<u64>
-    ensures { IfSome result (λ at. (lane < lanes) × (at ≡ consumer * lanes + lane)) }
+    ensures { MatchOption result ((lanes ≤ lane) ⊎ (2 ^ 64 ≤ consumer * lanes + lane))
+        (λ at. (lane < lanes) × (at ≡ consumer * lanes + lane)) }
 {
     if lane >= lanes as u64 {
         return None;

@@ -65,6 +65,11 @@ pub struct MissingOut {
 }
 
 impl From<Note> for NoteOut {
+    ghost use Rattle.std.specs.Prelude.{◌≡◌};
+    ghost use Rattle.hazbultra.specs.Reports.{note_out};
+
+    ghost from_gives = { λ note out. out ≡ note_out note };
+
     fn from(note: Note) -> NoteOut {
         match note {
             Note::Took(item) => NoteOut {

@@ -1,11 +1,15 @@
-//! The calls that take producers and consumers back, end a mailbox, and free what a handle leads to.
-ghost use Rattle.std.specs.Prelude.{◌≡◌, ◌≢◌, None};
+//! The calls that take producers and consumers back, end a mailbox, and free what a handle leads
+//! to.
+ghost use Rattle.std.specs.Prelude.{◌≡◌, ◌≢◌, ◌↔◌, ◌⊎◌, ◌+◌, None};
 ghost use Rattle.mb_mailbox.specs.Below.{consumer_count};
-ghost use Rattle.mb_mailbox.specs.Gathering.{FullTakesAll, IsGathered, IsReportIn, UndecidedHasCompany, count_missing};
-ghost use Rattle.mb_mailbox.specs.declared.gather.GatherFault.TheVariants.{Missing};
+ghost use Rattle.mb_mailbox.specs.Gathering.{FullTakesAll, IsGathered, IsReportIn};
+ghost use Rattle.mb_mailbox.specs.Gathering.{UndecidedHasCompany, count_missing};
+ghost use Rattle.mb_mailbox.specs.declared.gather.GatherFault.TheVariants.{Missing, NoMemory};
 ghost use Rattle.hazbultra.specs.Apart.{AreApart, IsApartFrom};
-ghost use Rattle.hazbultra.specs.Calls.{HasTakenBack, HubMade, HubTold, HubWent};
-ghost use Rattle.hazbultra.specs.declared.codes.TheConstants.{DONE, MISSING};
+ghost use Rattle.hazbultra.specs.Calls.{HasTakenBack, HubMade, HubTold, HubWent, IsHub};
+ghost use Rattle.hazbultra.specs.Refusals.{IsOfAnother, IsPart};
+ghost use Rattle.hazbultra.specs.declared.codes.TheConstants.{BAD_HANDLE, DONE, MISSING};
+ghost use Rattle.hazbultra.specs.declared.codes.TheConstants.{NO_MEMORY, OTHER_MAILBOX};
 
 use crate::codes::{BAD_HANDLE, DONE, MISSING, NO_MEMORY, OTHER_MAILBOX};
 use crate::crossing::MissingOut;
@@ -23,6 +27,11 @@ pub extern "C" fn hz_take_back(hub: &mut Handle, part: &mut Handle) -> u32
     ensures taken { result ≡ DONE → HubWent (λ h k. HasTakenBack h part.old.block.thing k)
         hub.old.block.thing hub.new.block.thing }
     ensures gone { result ≡ DONE → part.new.block.thing ≡ None }
+    ensures bad { (result ≡ BAD_HANDLE)
+        ↔ (IsHub hub.old.block.thing × IsPart part.old.block.thing → ⊥) }
+    ensures other { (result ≡ OTHER_MAILBOX)
+        ↔ HubMade (λ h. IsOfAnother h part.old.block.thing) hub.old.block.thing }
+    ensures codes { (result ≡ DONE) ⊎ (result ≡ BAD_HANDLE) ⊎ (result ≡ OTHER_MAILBOX) }
     ensures same_hub { result ≢ DONE → hub.new.block.thing ≡ hub.old.block.thing }
     ensures same { result ≢ DONE → part.new.block.thing ≡ part.old.block.thing }
 {
@@ -42,6 +51,9 @@ fn take_back(hub: &mut BoundHub<Global>, part: &mut Handle) -> u32
     requires { IsApartFrom hub.old part.old.block.thing }
     ensures taken { result ≡ DONE → HasTakenBack hub.old part.old.block.thing hub.new }
     ensures gone { result ≡ DONE → part.new.block.thing ≡ None }
+    ensures bad { (result ≡ BAD_HANDLE) ↔ (IsPart part.old.block.thing → ⊥) }
+    ensures other { (result ≡ OTHER_MAILBOX) ↔ IsOfAnother hub.old part.old.block.thing }
+    ensures codes { (result ≡ DONE) ⊎ (result ≡ BAD_HANDLE) ⊎ (result ≡ OTHER_MAILBOX) }
     ensures same_hub { result ≢ DONE → hub.new ≡ hub.old }
     ensures same { result ≢ DONE → part.new.block.thing ≡ part.old.block.thing }
 {
@@ -90,6 +102,14 @@ pub extern "C" fn hz_gather(
     ensures missing { result ≡ MISSING
         → HubMade (λ h. (missing.new.producers ≡ count_missing h.hub.puts)
         × (missing.new.consumers ≡ count_missing h.hub.ledgers)) hub.old.block.thing }
+    ensures all_back { (result ≡ DONE) ⊎ (result ≡ NO_MEMORY)
+        → HubMade (λ h. count_missing h.hub.puts + count_missing h.hub.ledgers ≡ 0)
+        hub.old.block.thing }
+    ensures untold { result ≢ MISSING → missing.new ≡ missing.old }
+    ensures bad { (result ≡ BAD_HANDLE)
+        ↔ (IsHub hub.old.block.thing × (report.old.block.thing ≡ None) → ⊥) }
+    ensures codes { (result ≡ DONE) ⊎ (result ≡ MISSING) ⊎ (result ≡ NO_MEMORY)
+        ⊎ (result ≡ BAD_HANDLE) }
     ensures same_hub { result ≢ DONE → hub.new.block.thing ≡ hub.old.block.thing }
     ensures same { result ≢ DONE → report.new.block.thing ≡ report.old.block.thing }
 {
@@ -119,7 +139,9 @@ pub extern "C" fn hz_gather(
 fn tell(why: GatherFault, missing: &mut MissingOut) -> u32
     ensures missing { result ≡ MISSING
         → why ≡ Missing missing.new.producers missing.new.consumers }
-    ensures refused { result ≢ DONE }
+    ensures no_memory { result ≡ NO_MEMORY → why ≡ NoMemory }
+    ensures untold { result ≢ MISSING → missing.new ≡ missing.old }
+    ensures codes { (result ≡ MISSING) ⊎ (result ≡ NO_MEMORY) }
 {
     match why {
         GatherFault::Missing(producers, consumers) => {
@@ -133,7 +155,8 @@ fn tell(why: GatherFault, missing: &mut MissingOut) -> u32
     }
 }
 
-/// Frees what the handle leads to.
+/// Frees what the handle leads to, which leads to nothing then. It returns nothing. No clause says
+/// that the memory goes back to the allocator: the tests in C count the blocks that are out.
 #[unsafe(no_mangle)]
 pub extern "C" fn hz_free(handle: &mut Handle)
     ensures { handle.new.block.thing ≡ None }

@@ -1,13 +1,17 @@
 //! The calls that make a mailbox, its producers and its consumers.
-ghost use Rattle.std.specs.Prelude.{◌≡◌, ◌≢◌, ◌↔◌, ◌≤◌, IfErr, IfOk, Some, length};
+ghost use Rattle.std.specs.Prelude.{ℕ, ◌≡◌, ◌≢◌, ◌↔◌, ◌⊎◌, ◌≤◌, IfErr, IfOk, None, Some, length};
 ghost use Rattle.rand_chacha.specs.ChaCha.{of_seed};
 ghost use Rattle.mb_quorum.specs.declared.table.TableName.{TableName};
 ghost use Rattle.mb_world.specs.Setups.{plan_in, shaped_plan};
 ghost use Rattle.mb_mailbox.specs.Below.{consumer_count};
-ghost use Rattle.mb_mailbox.specs.Hubs.{IsNewConsumer, hub_empty, new_producer, with_consumer, with_producer};
+ghost use Rattle.mb_mailbox.specs.Hubs.{IsNewConsumer, hub_empty};
+ghost use Rattle.mb_mailbox.specs.Hubs.{new_producer, with_consumer, with_producer};
 ghost use Rattle.mb_mailbox.specs.Mailboxes.{plan_at};
-ghost use Rattle.hazbultra.specs.Calls.{ConsumerMade, HubGave, HubGaveConsumer, HubMade, HubWent, ProducerMade, table_numbered};
-ghost use Rattle.hazbultra.specs.declared.codes.TheConstants.{ALL_GIVEN, DONE};
+ghost use Rattle.hazbultra.specs.Calls.{ConsumerMade, HubGave, HubGaveConsumer, HubMade};
+ghost use Rattle.hazbultra.specs.Calls.{HubWent, IsHub, ProducerMade, table_numbered};
+ghost use Rattle.hazbultra.specs.Refusals.{refusal_of};
+ghost use Rattle.hazbultra.specs.declared.codes.TheConstants.{ALL_GIVEN, BAD_HANDLE};
+ghost use Rattle.hazbultra.specs.declared.codes.TheConstants.{DONE, NO_MEMORY};
 
 use crate::codes::{
     ALL_GIVEN, BAD_HANDLE, BAD_TABLE, DONE, NO_MEMORY, code_of_hub, code_of_setup, table_of,
@@ -29,7 +33,9 @@ fn setup_of(wanted: &SetupIn) -> Result<Setup, u32>
         → plan_in setup ≡ shaped_plan
         (record { fast = wanted.now.fast; last = wanted.now.last })
         wanted.now.producers wanted.now.consumers wanted.now.cells wanted.now.pairs name) }
-    ensures refused { IfErr result (λ code. code ≢ DONE) }
+    ensures accepted { IfOk result (λ _. refusal_of wanted.now ≡ None) }
+    ensures refused { IfErr result (λ code. (refusal_of wanted.now ≡ Some code)
+        × (code ≢ DONE) × (code ≢ BAD_HANDLE)) }
 {
     let Some(table) = table_of(wanted.table) else {
         return Err(BAD_TABLE);
@@ -58,6 +64,11 @@ pub extern "C" fn hz_mailbox_new(alloc: Global, id: u64, setup: &SetupIn, hub: &
         (record { fast = setup.now.fast; last = setup.now.last })
         setup.now.producers setup.now.consumers setup.now.cells setup.now.pairs name)
         × (h.hub ≡ hub_empty h.mailbox)) hub.new.block.thing }
+    ensures bad { (result ≡ BAD_HANDLE) ↔ (hub.old.block.thing ≢ None) }
+    ensures refused { hub.old.block.thing ≡ None → (code : ℕ) → refusal_of setup.now ≡ Some code
+        → result ≡ code }
+    ensures accepted { hub.old.block.thing ≡ None → refusal_of setup.now ≡ None
+        → (result ≡ DONE) ⊎ (result ≡ NO_MEMORY) }
     ensures same { result ≢ DONE → hub.new.block.thing ≡ hub.old.block.thing }
 {
     if !hub.is_none() {
@@ -77,7 +88,8 @@ pub extern "C" fn hz_mailbox_new(alloc: Global, id: u64, setup: &SetupIn, hub: &
     DONE
 }
 
-/// The producer of the next lane. Its box is made before it, so a refusal for memory gives no number away.
+/// The producer of the next lane. Its box is made before it, so a refusal for memory gives no number
+/// away.
 #[unsafe(no_mangle)]
 pub extern "C" fn hz_producer_new(alloc: Global, hub: &mut Handle, producer: &mut Handle) -> u32
     ensures given { result ≡ DONE
@@ -89,8 +101,13 @@ pub extern "C" fn hz_producer_new(alloc: Global, hub: &mut Handle, producer: &mu
     ensures hub { result ≡ DONE
         → HubWent (λ h k. k ≡ record h { hub = with_producer h.hub })
         hub.old.block.thing hub.new.block.thing }
-    ensures all_given { result ≡ ALL_GIVEN
-        → HubMade (λ h. h.mailbox.cells.size.lanes ≤ length h.hub.puts) hub.old.block.thing }
+    ensures bad { (result ≡ BAD_HANDLE)
+        ↔ (IsHub hub.old.block.thing × (producer.old.block.thing ≡ None) → ⊥) }
+    ensures all_given { (result ≡ ALL_GIVEN)
+        ↔ HubMade (λ h. h.mailbox.cells.size.lanes ≤ length h.hub.puts) hub.old.block.thing
+        × (producer.old.block.thing ≡ None) }
+    ensures codes { (result ≡ DONE) ⊎ (result ≡ BAD_HANDLE) ⊎ (result ≡ ALL_GIVEN)
+        ⊎ (result ≡ NO_MEMORY) }
     ensures same_hub { result ≢ DONE → hub.new.block.thing ≡ hub.old.block.thing }
     ensures same { result ≢ DONE → producer.new.block.thing ≡ producer.old.block.thing }
 {
@@ -118,6 +135,7 @@ fn give_producer(alloc: Global, hub: &mut BoundHub<Global>, producer: &mut Handl
     ensures hub { result ≡ DONE → hub.new ≡ record hub.old { hub = with_producer hub.old.hub } }
     ensures all_given { (result ≡ ALL_GIVEN)
         ↔ (hub.old.mailbox.cells.size.lanes ≤ length hub.old.hub.puts) }
+    ensures codes { (result ≡ DONE) ⊎ (result ≡ ALL_GIVEN) ⊎ (result ≡ NO_MEMORY) }
     ensures same_hub { result ≢ DONE → hub.new ≡ hub.old }
     ensures same { result ≢ DONE → producer.new.block.thing ≡ producer.old.block.thing }
 {
@@ -154,9 +172,13 @@ pub extern "C" fn hz_consumer_new(
     ensures hub { result ≡ DONE
         → HubWent (λ h k. k ≡ record h { hub = with_consumer h.hub })
         hub.old.block.thing hub.new.block.thing }
-    ensures all_given { result ≡ ALL_GIVEN
-        → HubMade (λ h. consumer_count h.mailbox.claims.layout ≤ length h.hub.ledgers)
-        hub.old.block.thing }
+    ensures bad { (result ≡ BAD_HANDLE)
+        ↔ (IsHub hub.old.block.thing × (consumer.old.block.thing ≡ None) → ⊥) }
+    ensures all_given { (result ≡ ALL_GIVEN)
+        ↔ HubMade (λ h. consumer_count h.mailbox.claims.layout ≤ length h.hub.ledgers)
+        hub.old.block.thing × (consumer.old.block.thing ≡ None) }
+    ensures codes { (result ≡ DONE) ⊎ (result ≡ BAD_HANDLE) ⊎ (result ≡ ALL_GIVEN)
+        ⊎ (result ≡ NO_MEMORY) }
     ensures same_hub { result ≢ DONE → hub.new.block.thing ≡ hub.old.block.thing }
     ensures same { result ≢ DONE → consumer.new.block.thing ≡ consumer.old.block.thing }
 {
@@ -190,6 +212,7 @@ fn give_consumer(
     ensures hub { result ≡ DONE → hub.new ≡ record hub.old { hub = with_consumer hub.old.hub } }
     ensures all_given { (result ≡ ALL_GIVEN)
         ↔ (consumer_count hub.old.mailbox.claims.layout ≤ length hub.old.hub.ledgers) }
+    ensures codes { (result ≡ DONE) ⊎ (result ≡ ALL_GIVEN) ⊎ (result ≡ NO_MEMORY) }
     ensures same_hub { result ≢ DONE → hub.new ≡ hub.old }
     ensures same { result ≢ DONE → consumer.new.block.thing ≡ consumer.old.block.thing }
 {

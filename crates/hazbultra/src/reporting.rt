@@ -1,7 +1,9 @@
 //! The calls that read a report.
-ghost use Rattle.std.specs.Prelude.{◌≡◌, ◌+◌, ◌*◌, ◌++◌, ◌<◌, ◌≤◌, IfSome, Some, drop, length, min, slice_get, take};
-ghost use Rattle.mb_world.specs.Report.{DiaryView, LaneView};
-ghost use Rattle.hazbultra.specs.Calls.{IsReport, ReportHas, items_asked};
+ghost use Rattle.std.specs.Prelude.{ℕ, ◌≡◌, ◌≢◌, ◌↔◌, ◌⊎◌, ◌++◌, ◌≤◌, MatchOption, None, Some};
+ghost use Rattle.std.specs.Prelude.{drop, length, map, min, slice_get, take};
+ghost use Rattle.mb_world.specs.Report.{DiaryView, LaneView, diary};
+ghost use Rattle.hazbultra.specs.Calls.{IsReport, ReportHas};
+ghost use Rattle.hazbultra.specs.Reports.{HasConsumers, items_asked, note_out};
 ghost use Rattle.hazbultra.specs.declared.codes.TheConstants.{BAD_HANDLE, DONE, NOT_THERE};
 
 use crate::codes::{BAD_HANDLE, DONE, NOT_THERE};
@@ -14,21 +16,24 @@ use std::alloc::Global;
 
 /// The diary of this consumer on this lane, if there is one.
 fn diary_at(report: &Report<Global>, consumer: u64, lane: u64) -> Option<&Diary<Global>>
-    ensures { IfSome result (λ d. (lane < length report.now.lanes)
-        × (slice_get report.now.diaries (consumer * length report.now.lanes + lane)
-        ≡ Some d.now)) }
+    ensures { MatchOption result (diary consumer lane report.now ≡ None)
+        (λ d. diary consumer lane report.now ≡ Some d.now) }
 {
     let at = place_of(report.lanes.len(), consumer, lane)?;
     report.diaries.as_slice().get(at as usize)
 }
 
-/// How many lanes and consumers a report has.
+/// How many lanes a report has, and how many consumers.
 #[unsafe(no_mangle)]
 pub extern "C" fn hz_report_size(report: &mut Handle, lanes: &mut u64, consumers: &mut u64) -> u32
     ensures lanes { result ≡ DONE → ReportHas (λ r. lanes.new ≡ length r.lanes)
         report.old.block.thing }
+    ensures consumers { result ≡ DONE → ReportHas (λ r. (n : ℕ) → HasConsumers n r
+        → consumers.new ≡ n) report.old.block.thing }
     ensures kept { report.new.block.thing ≡ report.old.block.thing }
-    ensures bad { result ≡ BAD_HANDLE → IsReport report.old.block.thing → ⊥ }
+    ensures bad { (result ≡ BAD_HANDLE) ↔ (IsReport report.old.block.thing → ⊥) }
+    ensures same { result ≢ DONE → (lanes.new ≡ lanes.old) × (consumers.new ≡ consumers.old) }
+    ensures codes { (result ≡ DONE) ⊎ (result ≡ BAD_HANDLE) }
 {
     let Some(opened) = report.take() else {
         return BAD_HANDLE;
@@ -55,7 +60,9 @@ pub extern "C" fn hz_report_lane(report: &mut Handle, lane: u64, out: &mut LaneO
     ensures not_there { result ≡ NOT_THERE → ReportHas (λ r. length r.lanes ≤ lane)
         report.old.block.thing }
     ensures kept { report.new.block.thing ≡ report.old.block.thing }
-    ensures bad { result ≡ BAD_HANDLE → IsReport report.old.block.thing → ⊥ }
+    ensures bad { (result ≡ BAD_HANDLE) ↔ (IsReport report.old.block.thing → ⊥) }
+    ensures same { result ≢ DONE → out.new ≡ out.old }
+    ensures codes { (result ≡ DONE) ⊎ (result ≡ NOT_THERE) ⊎ (result ≡ BAD_HANDLE) }
 {
     let Some(opened) = report.take() else {
         return BAD_HANDLE;
@@ -86,11 +93,15 @@ pub extern "C" fn hz_report_diary(
     lane: u64,
     out: &mut DiaryOut,
 ) -> u32
-    ensures told { result ≡ DONE → ReportHas (λ r. (d : DiaryView) × (lane < length r.lanes)
-        × (slice_get r.diaries (consumer * length r.lanes + lane) ≡ Some d)
+    ensures told { result ≡ DONE → ReportHas (λ r. (d : DiaryView)
+        × (diary consumer lane r ≡ Some d)
         × (out.new.notes ≡ length d.notes) × (out.new.begun ≡ d.begun)) report.old.block.thing }
+    ensures not_there { result ≡ NOT_THERE → ReportHas (λ r. diary consumer lane r ≡ None)
+        report.old.block.thing }
     ensures kept { report.new.block.thing ≡ report.old.block.thing }
-    ensures bad { result ≡ BAD_HANDLE → IsReport report.old.block.thing → ⊥ }
+    ensures bad { (result ≡ BAD_HANDLE) ↔ (IsReport report.old.block.thing → ⊥) }
+    ensures same { result ≢ DONE → out.new ≡ out.old }
+    ensures codes { (result ≡ DONE) ⊎ (result ≡ NOT_THERE) ⊎ (result ≡ BAD_HANDLE) }
 {
     let Some(opened) = report.take() else {
         return BAD_HANDLE;
@@ -130,7 +141,9 @@ pub extern "C" fn hz_report_items(
     ensures not_there { result ≡ NOT_THERE → ReportHas (λ r. length r.lanes ≤ lane)
         report.old.block.thing }
     ensures kept { report.new.block.thing ≡ report.old.block.thing }
-    ensures bad { result ≡ BAD_HANDLE → IsReport report.old.block.thing → ⊥ }
+    ensures bad { (result ≡ BAD_HANDLE) ↔ (IsReport report.old.block.thing → ⊥) }
+    ensures same { result ≢ DONE → (items.new ≡ items.old) × (copied.new ≡ copied.old) }
+    ensures codes { (result ≡ DONE) ⊎ (result ≡ NOT_THERE) ⊎ (result ≡ BAD_HANDLE) }
 {
     let Some(opened) = report.take() else {
         return BAD_HANDLE;
@@ -160,12 +173,17 @@ pub extern "C" fn hz_report_notes(
     notes: &mut [NoteOut],
     copied: &mut u64,
 ) -> u32
-    ensures copied { result ≡ DONE → ReportHas (λ r. (d : DiaryView) × (lane < length r.lanes)
-        × (slice_get r.diaries (consumer * length r.lanes + lane) ≡ Some d)
-        × (copied.new ≡ min (length (drop from d.notes)) (length notes.old)))
+    ensures copied { result ≡ DONE → ReportHas (λ r. (d : DiaryView)
+        × (diary consumer lane r ≡ Some d)
+        × (copied.new ≡ min (length (drop from d.notes)) (length notes.old))
+        × (notes.new ≡ take copied.new (map note_out (drop from d.notes))
+        ++ drop copied.new notes.old)) report.old.block.thing }
+    ensures not_there { result ≡ NOT_THERE → ReportHas (λ r. diary consumer lane r ≡ None)
         report.old.block.thing }
     ensures kept { report.new.block.thing ≡ report.old.block.thing }
-    ensures bad { result ≡ BAD_HANDLE → IsReport report.old.block.thing → ⊥ }
+    ensures bad { (result ≡ BAD_HANDLE) ↔ (IsReport report.old.block.thing → ⊥) }
+    ensures same { result ≢ DONE → (notes.new ≡ notes.old) × (copied.new ≡ copied.old) }
+    ensures codes { (result ≡ DONE) ⊎ (result ≡ NOT_THERE) ⊎ (result ≡ BAD_HANDLE) }
 {
     let Some(opened) = report.take() else {
         return BAD_HANDLE;

@@ -1,13 +1,16 @@
 //! The calls of a producer and of a consumer.
-ghost use Rattle.std.specs.Prelude.{◌≡◌, ◌≢◌, ◌⊎◌, ◌<◌, ◌+◌, ℕ, Some, false, true};
+ghost use Rattle.std.specs.Prelude.{◌≡◌, ◌≢◌, ◌↔◌, ◌⊎◌, ◌<◌, ◌≤◌, ◌+◌, ℕ, Some, false, true};
 ghost use Rattle.mb_claim.specs.Vocabulary.{most_accesses, shape_of};
 ghost use Rattle.mb_mailbox.specs.declared.consumer.Poll.{Poll};
 ghost use Rattle.mb_mailbox.specs.declared.consumer.Poll.TheVariants.{NoLane, Spent, Undecided};
-ghost use Rattle.mb_mailbox.specs.Producers.{HasNoCellFor, IsEndOfLane, IsPutInto, is_over};
+ghost use Rattle.mb_mailbox.specs.Producers.{FoundNoCell, HasNoCellFor, IsEndOfLane};
+ghost use Rattle.mb_mailbox.specs.Producers.{IsPutInto, is_over};
 ghost use Rattle.mb_mailbox.specs.Steps.{AnswerTells, IsPollOf, outcome};
-ghost use Rattle.hazbultra.specs.Calls.{ConsumerMade, ConsumerWent, words_of, IsConsumer, IsProducer, ProducerWent, answer_told};
-ghost use Rattle.hazbultra.specs.declared.codes.TheConstants.{BAD_HANDLE, CLOSED, DONE, FULL, LINKED, NO_LANE};
-ghost use Rattle.hazbultra.specs.declared.codes.TheConstants.{LOST, SPENT, TOOK, UNDECIDED};
+ghost use Rattle.hazbultra.specs.Calls.{ConsumerMade, ConsumerWent, IsConsumer, IsProducer};
+ghost use Rattle.hazbultra.specs.Calls.{ProducerMade, ProducerWent, answer_told, words_of};
+ghost use Rattle.hazbultra.specs.declared.codes.TheConstants.{BAD_HANDLE, CLOSED, DONE};
+ghost use Rattle.hazbultra.specs.declared.codes.TheConstants.{FULL, LINKED, LOST, NO_LANE};
+ghost use Rattle.hazbultra.specs.declared.codes.TheConstants.{SPENT, TOOK, UNDECIDED};
 
 use crate::codes::{
     BAD_HANDLE, CLOSED, DONE, ENDED, FULL, LINKED, LOST, NO_LANE, NOTHING, SPENT, TOOK, UNDECIDED,
@@ -29,6 +32,10 @@ pub extern "C" fn hz_put(producer: &mut Handle, item: u64) -> u32
     ensures closed { result ≡ CLOSED
         → ProducerWent (λ p q. (q ≡ p) × (is_over p.producer ≡ true))
         producer.old.block.thing producer.new.block.thing }
+    ensures over { ProducerMade (λ p. is_over p.producer ≡ true) producer.old.block.thing
+        → result ≡ CLOSED }
+    ensures stays_full { ProducerMade (λ p. FoundNoCell p.producer × (is_over p.producer ≡ false))
+        producer.old.block.thing → result ≡ FULL }
     ensures bad { result ≡ BAD_HANDLE → IsProducer producer.old.block.thing → ⊥ }
     ensures same { result ≡ BAD_HANDLE → producer.new.block.thing ≡ producer.old.block.thing }
     ensures codes { (result ≡ LINKED) ⊎ (result ≡ FULL) ⊎ (result ≡ CLOSED)
@@ -57,6 +64,8 @@ pub extern "C" fn hz_finish(producer: &mut Handle) -> u32
     ensures closed { result ≡ CLOSED
         → ProducerWent (λ p q. (q ≡ p) × (is_over p.producer ≡ true))
         producer.old.block.thing producer.new.block.thing }
+    ensures over { ProducerMade (λ p. is_over p.producer ≡ true) producer.old.block.thing
+        → result ≡ CLOSED }
     ensures bad { result ≡ BAD_HANDLE → IsProducer producer.old.block.thing → ⊥ }
     ensures same { result ≡ BAD_HANDLE → producer.new.block.thing ≡ producer.old.block.thing }
     ensures codes { (result ≡ DONE) ⊎ (result ≡ CLOSED) ⊎ (result ≡ BAD_HANDLE) }
@@ -95,9 +104,12 @@ pub extern "C" fn hz_poll(consumer: &mut Handle, lane: u64, budget: u64, value: 
         → ConsumerWent (λ c d.
         AnswerTells lane (outcome answer) c.consumer.consumer d.consumer.consumer)
         consumer.old.block.thing consumer.new.block.thing }
-    ensures no_lane { result ≡ NO_LANE
-        → ConsumerWent (λ c d. d.consumer ≡ c.consumer) consumer.old.block.thing
-        consumer.new.block.thing }
+    ensures no_lane { (result ≡ NO_LANE) ↔ ConsumerMade (λ c.
+        c.consumer.mailbox.cells.size.lanes ≤ lane) consumer.old.block.thing }
+    ensures refused { result ≡ NO_LANE
+        → ConsumerWent (λ c d. (d.consumer ≡ c.consumer)
+        × (words_of d.source ≡ words_of c.source))
+        consumer.old.block.thing consumer.new.block.thing }
     ensures bad { result ≡ BAD_HANDLE → IsConsumer consumer.old.block.thing → ⊥ }
     ensures same { result ≡ BAD_HANDLE → consumer.new.block.thing ≡ consumer.old.block.thing }
     ensures codes { (result ≡ BAD_HANDLE)
@@ -123,6 +135,7 @@ fn tell(answer: Poll, value: &mut u64) -> u32
     ensures kept { result ≢ TOOK → result ≢ LOST → value.new ≡ value.old }
     ensures spent { result ≡ SPENT → answer ≡ Spent }
     ensures undecided { result ≡ UNDECIDED → answer ≡ Undecided }
+    ensures no_lane { (result ≡ NO_LANE) ↔ (answer ≡ NoLane) }
 {
     match answer {
         Poll::Took(item) => {

@@ -9,6 +9,7 @@
 #![tactic(auto)]
 
 mod consumer;
+pub mod examples;
 mod hub;
 mod producer;
 

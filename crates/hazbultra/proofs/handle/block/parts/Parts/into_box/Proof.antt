@@ -1,5 +1,18 @@
 -- `into_box`: what the parts own is what `from_raw` asks for, and its box is the result.
-use Rattle.hazbultra.proofs.Steps.{◌≡◌, refl, sym, subst, ap, List, [], ◌∷◌, ◌++◌, T, Ura, Body, Fn, assign, copy, place, return, rv_opd, seq, inst_fn, Val, WT, has_ty, vptr, SProp, ent, id⊢, flft, fsep, ftrue, ◌⊑◌, Fun, fact, tables, tables_of, Memory, Routine, Tables, WpFn, WpFn-mono, fm_of, Logic, Item, ⋆, at_ret, ‵, raw, ◌⊛◌, some, later, ◌$◌, ◌∵◌, !, qed, by, move, drop, use1, join, split, split3, pick, rewrite, fsplit, fjoin, feq_i, suffices, await, done, sub, whole, and_then, blocks, enter, exec, first, fld, no_more, of_opd, returns, stop, alloc_all, env, free_all, get, get_in, lands_last, look_at, pass_all, sets, no, RattleType, block_ptr, plain, heard, nothing, only, calls_at_last, Clauses, Ended, triple_of, Contract, Triple, entered, Stays, ends_at, says, stay_dropped, walk_Meets, walk_of, Goes-blank, token, box_owns, B, Bx, D, P, R, args, box_ty, box_typed, word, box_in, box_out}
+use Rattle.hazbultra.proofs.Steps.{◌≡◌, refl, sym, subst, ap, List, [], ◌∷◌, ◌++◌, T, Ura, Body, Fn}
+use Rattle.hazbultra.proofs.Steps.{assign, copy, place, return, rv_opd, seq, inst_fn, Val, WT}
+use Rattle.hazbultra.proofs.Steps.{has_ty, vptr, SProp, ent, id⊢, flft, fsep, ftrue, ◌⊑◌, Fun, fact}
+use Rattle.hazbultra.proofs.Steps.{tables, tables_of, Memory, Routine, Tables, WpFn, WpFn-mono}
+use Rattle.hazbultra.proofs.Steps.{fm_of, Logic, Item, ⋆, at_ret, ‵, raw, ◌⊛◌, some, later, ◌$◌}
+use Rattle.hazbultra.proofs.Steps.{◌∵◌, !, qed, by, move, drop, use1, join, split, split3, pick}
+use Rattle.hazbultra.proofs.Steps.{rewrite, fsplit, fjoin, feq_i, suffices, await, done, sub, whole}
+use Rattle.hazbultra.proofs.Steps.{and_then, blocks, enter, exec, first, fld, no_more, of_opd}
+use Rattle.hazbultra.proofs.Steps.{returns, stop, alloc_all, env, free_all, get, get_in, lands_last}
+use Rattle.hazbultra.proofs.Steps.{look_at, pass_all, sets, no, RattleType, block_ptr, plain, heard}
+use Rattle.hazbultra.proofs.Steps.{nothing, only, calls_at_last, Clauses, Ended, triple_of}
+use Rattle.hazbultra.proofs.Steps.{Contract, Triple, entered, Stays, ends_at, says, stay_dropped}
+use Rattle.hazbultra.proofs.Steps.{walk_Meets, walk_of, Goes-blank, token, box_owns, B, Bx, D, P, R}
+use Rattle.hazbultra.proofs.Steps.{args, box_ty, box_typed, word, box_in, box_out}
 use Rattle.hazbultra.specs.contracts.handle.block.parts.Parts as parts
 use Rattle.hazbultra.specs.contracts.handle.block.parts.Parts.into_box as f
 use Rattle.hazbultra.specs.contracts.handle.block.parts.Parts.into_box.Key.{name as f_name}
@@ -26,59 +39,97 @@ module _ (E : Bx) where
   abbrev stayed : Stays over.signature.params over.kept
   stayed = (stay_dropped (plain (λ _. taken)) no, tt)
 
-  module _ {M : Type 1} {𝓤 : Ura M} (𝓛 : Logic 𝓤) (heap : Memory → SProp 𝓤) (run : Routine → Fun 𝓤) (𝓣 : Tables 𝓤 𝓛.H) where
+  module _ {M : Type 1} {𝓤 : Ura M} (𝓛 : Logic 𝓤) (heap : Memory → SProp 𝓤) (run : Routine → Fun 𝓤)
+      (𝓣 : Tables 𝓤 𝓛.H) where
     open 𝓛 use {H}
 
     abbrev promised : Clauses 𝓤 over
     promised = f.clauses E.row E.al.row E.al.g E.al.d E.al.drops 𝓛 heap run
 
     abbrev callee : Contract 𝓤
-    callee = triple_of 𝓛 (raw_box.signature E.row E.al.row E.al.g E.al.d E.al.drops) (raw_box.spec E.row E.al.row E.al.g E.al.d E.al.drops 𝓛 heap run)
+    callee = triple_of 𝓛 (raw_box.signature E.row E.al.row E.al.g E.al.d E.al.drops)
+        (raw_box.spec E.row E.al.row E.al.g E.al.d E.al.drops 𝓛 heap run)
 
-    walk : Triple 𝓤 (𝓣.C (raw_box_symbol.name (args E))) callee → (z : (walk_of 𝓛 over stayed promised).Ghost)
-        → ent 𝓤 ((walk_of 𝓛 over stayed promised).pre z) (WpFn 𝓤 H 𝓣.C 𝓣.Λ body_at (z.0.4.0 ++ []) ((walk_of 𝓛 over stayed promised).post z))
+    walk : Triple 𝓤 (𝓣.C (raw_box_symbol.name (args E))) callee
+        → (z : (walk_of 𝓛 over stayed promised).Ghost)
+        → ent 𝓤 ((walk_of 𝓛 over stayed promised).pre z)
+        (WpFn 𝓤 H 𝓣.C 𝓣.Λ body_at (z.0.4.0 ++ []) ((walk_of 𝓛 over stayed promised).post z))
     walk known z =
         let κs = z.0.0 in let qs = z.0.1 in let it = z.0.3.0 in let us = z.0.4.0 in
         let end = (walk_of 𝓛 over stayed promised).post z in
         let whole_box : D E = record { ptr = it.ptr; alloc = it.alloc; value = it.value } in
         let tokens : Item 𝓤 = ‵ (flft κs.0 qs.0) ⊛ ‵ (flft κs.1.0 qs.1.0) ⊛ ‵ ftrue in
-        let outlive : Item 𝓤 = raw (fact 𝓤 (κs.0 ⊑ E.row.lives)) ⊛ raw (fact 𝓤 (κs.1.0 ⊑ E.al.row.lives)) ⊛ ‵ ftrue in
+        let outlive : Item 𝓤 = raw (fact 𝓤 (κs.0 ⊑ E.row.lives)) ⊛
+        raw (fact 𝓤 (κs.1.0 ⊑ E.al.row.lives)) ⊛ ‵ ftrue in
         qed 𝓛 ((tokens ⊛ ‵ (fsep ((B E).own_val whole_box us) ftrue)) ∷ outlive ∷ []) ∵
-        split ! $ move ! (1 ∷ []) $ fsplit ! $ box_out E ! whole_box us (λ b o hv is_block is_word fits. fjoin ! $
-        -- [the value with the right to free it; the allocator; nothing; the tokens; what outlives them]
+        split ! $ move ! (1 ∷ []) $ fsplit ! $
+        box_out E ! whole_box us (λ b o hv is_block is_word fits. fjoin ! $
+        -- [the value with the right to free it; the allocator; nothing; the tokens; what outlives
+        -- them]
         let w = word E hv b o in
         let owned : Item 𝓤 = ‵ (box_owns (token E.al it.alloc) (R E) (block_ptr b o) it.value) in
-        let held : List (Item 𝓤) = owned ∷ ‵ ((P E).own_val it.alloc (hv ∷ [])) ∷ ‵ ftrue ∷ tokens ∷ outlive ∷ [] in
-        let y : callee.Ghost = ((κs, qs, tt, (it.alloc, (block_ptr b o, tt)), (hv ∷ [], (vptr b o ∷ [], tt))), it.value) in
-        by ! (subst (λ (vs : List Val). ent 𝓤 (⋆ 𝓛 held) (WpFn 𝓤 H 𝓣.C 𝓣.Λ body_at (vs ++ []) end)) (sym is_word)
-        (qed 𝓛 held ∵ enter ! 𝓣.C 𝓣.Λ body_at (w ∷ []) _ $ alloc_all ! (λ ls. pass_all ! refl (box_typed E hv b o fits, tt) $
+        let held : List (Item 𝓤) = owned ∷ ‵ ((P E).own_val it.alloc (hv ∷ [])) ∷ ‵ ftrue ∷ tokens ∷
+        outlive ∷ [] in
+        let y : callee.Ghost = (
+          (
+            κs,
+            qs,
+            tt,
+            (it.alloc, (block_ptr b o, tt)),
+            (hv ∷ [], (vptr b o ∷ [], tt)),
+          ),
+          it.value,
+        ) in
+        by ! (subst (λ (vs : List Val). ent 𝓤 (⋆ 𝓛 held) (WpFn 𝓤 H 𝓣.C 𝓣.Λ body_at (vs ++ []) end))
+        (sym is_word)
+        (qed 𝓛 held ∵ enter ! 𝓣.C 𝓣.Λ body_at (w ∷ []) _ $
+        alloc_all ! (λ ls. pass_all ! refl (box_typed E hv b o fits, tt) $
         -- let Parts { ptr, alloc } = self
         sets ! (of_opd ! (get_in ! (fld ! refl (stop !)) (sub ! 0 refl (whole !)))) refl (tt, tt) $
         sets ! (of_opd ! (get_in ! (fld ! refl (stop !)) (sub ! 1 refl (whole !)))) refl fits $
         -- the argument of the call, and what the call asks for
         first ! $ blocks ! $ sets ! (of_opd ! (get ! refl)) refl fits $
-        move ! (4 ∷ []) $ split3 ! $ move ! (2 ∷ []) $ drop ! $ move ! (1 ∷ 2 ∷ []) $ join ! $ move ! (1 ∷ 0 ∷ []) $ join ! $
-        move ! (2 ∷ []) $ feq_i ! (List Val) (vptr b o ∷ []) (vptr b o ∷ []) refl $ fjoin ! $ move ! (2 ∷ 0 ∷ []) $ fjoin ! $ move ! (2 ∷ 0 ∷ []) $ join ! $ join ! $
+        move ! (4 ∷ []) $ split3 ! $ move ! (2 ∷ []) $ drop ! $ move ! (1 ∷ 2 ∷ []) $ join ! $
+        move ! (1 ∷ 0 ∷ []) $ join ! $
+        move ! (2 ∷ []) $ feq_i ! (List Val) (vptr b o ∷ []) (vptr b o ∷ []) refl $ fjoin ! $
+        move ! (2 ∷ 0 ∷ []) $ fjoin ! $ move ! (2 ∷ 0 ∷ []) $ join ! $ join ! $
         use1 𝓛 (raw (callee.pre y)) (id⊢ 𝓤 _) $
-        calls_at_last ! (fm_of 𝓤 H 𝓛.laws 𝓣) callee known y (and_then ! (get ! refl) (and_then ! (get ! refl) (no_more !))) (λ u.
-        use1 𝓛 (later (some (λ (made : D E). (tokens ⊛ ‵ ((B E).own_val made (u ∷ []))) ⊛ some (λ (_ : Unit {0} × (Unit {0} × Unit {0})). ‵ (fsep ftrue (fsep ftrue ftrue)) ⊛ (raw (fact 𝓤 (made.value ≡ it.value)) ⊛ raw (fact 𝓤 (made.alloc ≡ it.alloc))))))) (id⊢ 𝓤 _) $
-        await ! tt $ pick ! (λ made. split ! $ move ! (1 ∷ []) $ pick ! (λ _. split3 ! $ drop ! $ heard ! (made.value ≡ it.value) (λ same. drop ! $ split ! $ move ! (1 ∷ []) $
+        calls_at_last ! (fm_of 𝓤 H 𝓛.laws 𝓣) callee known y
+        (and_then ! (get ! refl) (and_then ! (get ! refl) (no_more !))) (λ u.
+        use1 𝓛 (later (some (λ (made : D E).
+        (tokens ⊛ ‵ ((B E).own_val made (u ∷ []))) ⊛ some (λ (_ : Unit {0} × (Unit {0} × Unit {0})).
+        ‵ (fsep ftrue (fsep ftrue ftrue)) ⊛ (raw (fact 𝓤 (made.value ≡ it.value)) ⊛
+        raw (fact 𝓤 (made.alloc ≡ it.alloc))))))) (id⊢ 𝓤 _) $
+        await ! tt $ pick ! (λ made. split ! $ move ! (1 ∷ []) $ pick ! (λ _. split3 ! $ drop ! $
+        heard ! (made.value ≡ it.value) (λ same. drop ! $ split ! $ move ! (1 ∷ []) $
         -- [the box made; the tokens]
-        box_out E ! made (u ∷ []) (λ b' o' hv' is_block' is_word' fits'. box_in E ! made b' o' made.value is_block' refl $
+        box_out E ! made (u ∷ []) (λ b' o' hv' is_block' is_word' fits'. box_in E ! made b' o'
+        made.value is_block' refl $
         rewrite ! 0 (λ (vs : List Val). ‵ ((B E).own_val made vs)) (sym is_word') refl $
-        let typed : T (has_ty (box_ty E) u) × WT u = subst (λ (v : Val). T (has_ty (box_ty E) v) × WT v) (sym (ap only is_word')) (box_typed E hv' b' o' fits') in
-        lands_last ! refl typed $ exec ! 𝓣.C 𝓣.Λ (env body_at.locals ls) after_call (at_ret (env body_at.locals ls) end) $
+        let typed : T (has_ty (box_ty E) u) × WT u = subst
+        (λ (v : Val). T (has_ty (box_ty E) v) × WT v) (sym (ap only is_word'))
+        (box_typed E hv' b' o' fits') in
+        lands_last ! refl typed $ exec ! 𝓣.C 𝓣.Λ (env body_at.locals ls) after_call
+        (at_ret (env body_at.locals ls) end) $
         sets ! (of_opd ! (get ! refl)) refl typed $ returns ! (look_at ! 0 refl) $ free_all ! refl $
-        suffices ! _ (ends_at 𝓛 over stayed promised z u made ((tt, (tt, tt)), tt) (tt, tt)) $ says ! same $
+        suffices ! _ (ends_at 𝓛 over stayed promised z u made ((tt, (tt, tt)), tt) (tt, tt)) $
+        says ! same $
         nothing ! $ nothing ! $ fjoin ! $ join ! $ move ! (1 ∷ 0 ∷ []) $ join ! $ done !)))))))))
 
 pub into_box_spec : {M : Type 1} → statement M
 unfolding tables_of
 into_box_spec 𝓤 𝓛 𝓜 𝓡 wired X Z X-laws Z-laws g d drops allocator met_d =
-    let E : Bx = record { row = X; laws = X-laws; al = record { row = Z; laws = Z-laws; g = g; d = d; drops = drops } } in
+    let E : Bx = record {
+      row = X;
+      laws = X-laws;
+      al = record { row = Z; laws = Z-laws; g = g; d = d; drops = drops };
+    } in
     let 𝓣 : Tables 𝓤 𝓛.H = tables_of 𝓤 𝓛.H 𝓜 (tables 𝓤 𝓛.H 𝓜 𝓡 𝓡.env) in
     let fn = body_at E in
-    let known = raw_box_met.met 𝓤 𝓛 𝓜 𝓡 (code.calls-std_alloc::boxed::Box::from_raw 𝓡.env wired) X Z X-laws Z-laws g d drops allocator met_d in
-    entered 𝓤 𝓛.H (triple_of 𝓛 (over E).signature (f.spec X Z g d drops 𝓛 𝓜.mem 𝓡.returns)) 𝓣.C 𝓣.Λ (f_name (args E)) fn (code.unfolded 𝓤 𝓛.H 𝓜 𝓡 wired (X, (Z, tt)) d drops)
-    (walk_Meets 𝓛 (over E) (stayed E) (Goes-blank 𝓛 2 (plain (λ _. taken E)) no (λ κs x f. tt), tt) (promised E 𝓛 𝓜.mem 𝓡.returns 𝓣) (WpFn 𝓤 𝓛.H 𝓣.C 𝓣.Λ fn) (WpFn-mono 𝓤 𝓛.H 𝓛.laws 𝓣 fn)
+    let known = raw_box_met.met 𝓤 𝓛 𝓜 𝓡 (code.calls-std_alloc::boxed::Box::from_raw 𝓡.env wired) X Z
+    X-laws Z-laws g d drops allocator met_d in
+    entered 𝓤 𝓛.H (triple_of 𝓛 (over E).signature (f.spec X Z g d drops 𝓛 𝓜.mem 𝓡.returns)) 𝓣.C 𝓣.Λ
+    (f_name (args E)) fn (code.unfolded 𝓤 𝓛.H 𝓜 𝓡 wired (X, (Z, tt)) d drops)
+    (walk_Meets 𝓛 (over E) (stayed E) (Goes-blank 𝓛 2 (plain (λ _. taken E)) no (λ κs x f. tt), tt)
+    (promised E 𝓛 𝓜.mem 𝓡.returns 𝓣) (WpFn 𝓤 𝓛.H 𝓣.C 𝓣.Λ fn) (WpFn-mono 𝓤 𝓛.H 𝓛.laws 𝓣 fn)
     (walk E 𝓛 𝓜.mem 𝓡.returns 𝓣 known))

@@ -1,5 +1,20 @@
--- `of`: `into_raw_with_allocator` gives the pointer, the allocator and what the box owned, and the parts own it.
-use Rattle.hazbultra.proofs.Steps.{◌≡◌, refl, sym, subst, ap, ◌∙◌, List, [], ◌∷◌, ◌++◌, Ura, Args, Dict, Fn, a_type, dcons, dnil, inst_fn, bare, Val, of_list, vstruct, SProp, ent, fst∗, id⊢, never, flft, fsep, ftrue, ◌⊑◌, Fun, fact, tables, tables_of, Memory, Routine, Tables, WpFn, WpFn-mono, fm_of, Logic, sem, Item, ⋆, ‵, raw, ◌⊛◌, some, later, ◌$◌, ◌∵◌, !, qed, by, move, drop, use1, join, split, split3, pick, rewrite, fsplit, fjoin, fpick, feq_l, suffices, await, done, agg, sub, whole, and_then, enter, fld, no_more, of_opd, returns, stop, alloc_all, free_all, get, get_in, lands_as, look_at, pass_all, sets, no, bounded, RattleType, Ptr, RawPtr, block_ptr, in_a_block, null_ptr, ptr_val, plain, heard, nothing, only, Tuple, calls_at, Clauses, Ended, triple_of, Contract, Triple, entered, Stays, ends_at, says, stay_dropped, walk_Meets, walk_of, Goes-blank, handle_tells, token, box_owns, B, Bx, D, P, R, box_typed, word, τ, box_in, box_out}
+-- `of`: `into_raw_with_allocator` gives the pointer, the allocator and what the box owned, and the
+-- parts own it.
+use Rattle.hazbultra.proofs.Steps.{◌≡◌, refl, sym, subst, ap, ◌∙◌, List, [], ◌∷◌, ◌++◌, Ura, Args}
+use Rattle.hazbultra.proofs.Steps.{Dict, Fn, a_type, dcons, dnil, inst_fn, bare, Val, of_list}
+use Rattle.hazbultra.proofs.Steps.{vstruct, SProp, ent, fst∗, id⊢, never, flft, fsep, ftrue, ◌⊑◌}
+use Rattle.hazbultra.proofs.Steps.{Fun, fact, tables, tables_of, Memory, Routine, Tables, WpFn}
+use Rattle.hazbultra.proofs.Steps.{WpFn-mono, fm_of, Logic, sem, Item, ⋆, ‵, raw, ◌⊛◌, some, later}
+use Rattle.hazbultra.proofs.Steps.{◌$◌, ◌∵◌, !, qed, by, move, drop, use1, join, split, split3}
+use Rattle.hazbultra.proofs.Steps.{pick, rewrite, fsplit, fjoin, fpick, feq_l, suffices, await}
+use Rattle.hazbultra.proofs.Steps.{done, agg, sub, whole, and_then, enter, fld, no_more, of_opd}
+use Rattle.hazbultra.proofs.Steps.{returns, stop, alloc_all, free_all, get, get_in, lands_as}
+use Rattle.hazbultra.proofs.Steps.{look_at, pass_all, sets, no, bounded, RattleType, Ptr, RawPtr}
+use Rattle.hazbultra.proofs.Steps.{block_ptr, in_a_block, null_ptr, ptr_val, plain, heard, nothing}
+use Rattle.hazbultra.proofs.Steps.{only, Tuple, calls_at, Clauses, Ended, triple_of, Contract}
+use Rattle.hazbultra.proofs.Steps.{Triple, entered, Stays, ends_at, says, stay_dropped, walk_Meets}
+use Rattle.hazbultra.proofs.Steps.{walk_of, Goes-blank, handle_tells, token, box_owns, B, Bx, D, P}
+use Rattle.hazbultra.proofs.Steps.{R, box_typed, word, τ, box_in, box_out}
 use Rattle.hazbultra.specs.contracts.handle.block.parts.Parts as parts
 use Rattle.hazbultra.specs.contracts.handle.block.parts.Parts.of as f
 use Rattle.hazbultra.specs.contracts.handle.block.parts.Parts.of.Key.{name as f_name}
@@ -11,7 +26,8 @@ use Rattle.std_alloc.proofs.boxed.Box.into_raw_with_allocator.Met as raw_parts_m
 
 module _ (E : Bx) (drop_x : Dict) where
   abbrev passed : Args
-  passed = bounded (a_type ∷ a_type ∷ []) (E.row, (E.al.row, tt)) (dcons E.al.d (dcons E.al.drops (dcons drop_x dnil)))
+  passed = bounded (a_type ∷ a_type ∷ []) (E.row, (E.al.row, tt))
+      (dcons E.al.d (dcons E.al.drops (dcons drop_x dnil)))
 
   abbrev body_at : Fn
   body_at = inst_fn passed code.function
@@ -25,62 +41,101 @@ module _ (E : Bx) (drop_x : Dict) where
   abbrev given : RattleType
   given = parts.the_row (R E) (P E) E.al.g
 
-  module _ {M : Type 1} {𝓤 : Ura M} (𝓛 : Logic 𝓤) (heap : Memory → SProp 𝓤) (run : Routine → Fun 𝓤) (𝓣 : Tables 𝓤 𝓛.H) where
+  module _ {M : Type 1} {𝓤 : Ura M} (𝓛 : Logic 𝓤) (heap : Memory → SProp 𝓤) (run : Routine → Fun 𝓤)
+      (𝓣 : Tables 𝓤 𝓛.H) where
     open 𝓛 use {H}
 
     abbrev promised : Clauses 𝓤 over
     promised = f.clauses E.row E.al.row E.al.g E.al.d E.al.drops drop_x 𝓛 heap run
 
     abbrev callee : Contract 𝓤
-    callee = triple_of 𝓛 (raw_parts.signature E.row E.al.row E.al.g E.al.d E.al.drops drop_x) (raw_parts.spec E.row E.al.row E.al.g E.al.d E.al.drops drop_x 𝓛 heap run)
+    callee = triple_of 𝓛 (raw_parts.signature E.row E.al.row E.al.g E.al.d E.al.drops drop_x)
+        (raw_parts.spec E.row E.al.row E.al.g E.al.d E.al.drops drop_x 𝓛 heap run)
 
-    walk : Triple 𝓤 (𝓣.C (raw_parts_symbol.name passed)) callee → (z : (walk_of 𝓛 over stayed promised).Ghost)
-        → ent 𝓤 ((walk_of 𝓛 over stayed promised).pre z) (WpFn 𝓤 H 𝓣.C 𝓣.Λ body_at (z.0.4.0 ++ []) ((walk_of 𝓛 over stayed promised).post z))
+    walk : Triple 𝓤 (𝓣.C (raw_parts_symbol.name passed)) callee
+        → (z : (walk_of 𝓛 over stayed promised).Ghost)
+        → ent 𝓤 ((walk_of 𝓛 over stayed promised).pre z)
+        (WpFn 𝓤 H 𝓣.C 𝓣.Λ body_at (z.0.4.0 ++ []) ((walk_of 𝓛 over stayed promised).post z))
     walk known z =
         let κs = z.0.0 in let qs = z.0.1 in let it = z.0.3.0 in let us = z.0.4.0 in
         let end = (walk_of 𝓛 over stayed promised).post z in
         let tokens : Item 𝓤 = ‵ (flft κs.0 qs.0) ⊛ ‵ (flft κs.1.0 qs.1.0) ⊛ ‵ ftrue in
-        let outlive : Item 𝓤 = raw (fact 𝓤 (κs.0 ⊑ E.row.lives)) ⊛ raw (fact 𝓤 (κs.1.0 ⊑ E.al.row.lives)) ⊛ ‵ ftrue in
+        let outlive : Item 𝓤 = raw (fact 𝓤 (κs.0 ⊑ E.row.lives)) ⊛
+        raw (fact 𝓤 (κs.1.0 ⊑ E.al.row.lives)) ⊛ ‵ ftrue in
         let owned = λ (p : Ptr). box_owns (token E.al it.alloc) (R E) p it.value in
         qed 𝓛 ((tokens ⊛ ‵ (fsep ((B E).own_val it us) ftrue)) ∷ outlive ∷ []) ∵
-        split ! $ move ! (1 ∷ []) $ fsplit ! $ box_out E ! it us (λ b o hv is_block is_word fits. box_in E ! it b o it.value is_block refl $
+        split ! $ move ! (1 ∷ []) $ fsplit ! $
+        box_out E ! it us (λ b o hv is_block is_word fits. box_in E ! it b o it.value is_block
+        refl $
         -- [the box; nothing; the tokens; what outlives them]
         let w = word E hv b o in
-        let held : List (Item 𝓤) = ‵ ((B E).own_val it (w ∷ [])) ∷ ‵ ftrue ∷ tokens ∷ outlive ∷ [] in
+        let held : List (Item 𝓤) = ‵ ((B E).own_val it (w ∷ [])) ∷ ‵ ftrue ∷ tokens ∷ outlive ∷
+        [] in
         let y : callee.Ghost = ((κs, qs, tt, (it, tt), (w ∷ [], tt)), tt) in
-        by ! (subst (λ (vs : List Val). ent 𝓤 (⋆ 𝓛 held) (WpFn 𝓤 H 𝓣.C 𝓣.Λ body_at (vs ++ []) end)) (sym is_word)
-        (qed 𝓛 held ∵ enter ! 𝓣.C 𝓣.Λ body_at (w ∷ []) _ $ alloc_all ! (λ ls. pass_all ! refl (box_typed E hv b o fits, tt) $
+        by ! (subst (λ (vs : List Val). ent 𝓤 (⋆ 𝓛 held) (WpFn 𝓤 H 𝓣.C 𝓣.Λ body_at (vs ++ []) end))
+        (sym is_word)
+        (qed 𝓛 held ∵ enter ! 𝓣.C 𝓣.Λ body_at (w ∷ []) _ $
+        alloc_all ! (λ ls. pass_all ! refl (box_typed E hv b o fits, tt) $
         -- the call
         sets ! (of_opd ! (get ! refl)) refl (box_typed E hv b o fits) $
         fjoin ! $ move ! (1 ∷ 0 ∷ []) $ join ! $ join ! $ use1 𝓛 (raw (callee.pre y)) (id⊢ 𝓤 _) $
         calls_at ! (fm_of 𝓤 H 𝓛.laws 𝓣) callee known y (and_then ! (get ! refl) (no_more !)) (λ u.
-        use1 𝓛 (later (some (λ (pair : Ptr × E.al.row.Denot). (tokens ⊛ ‵ ((Tuple (RawPtr ∷ P E ∷ [])).own_val pair (u ∷ []))) ⊛ some (λ (_ : (Unit {0} × (Unit {0} × Unit {0})) × Unit {0}). ‵ (fsep (fsep ftrue (fsep ftrue ftrue)) ftrue) ⊛ (raw (fact 𝓤 (pair.1 ≡ it.alloc)) ⊛ ‵ (owned pair.0)))))) (id⊢ 𝓤 _) $
-        await ! tt $ pick ! (λ pair. split ! $ move ! (1 ∷ []) $ pick ! (λ _. split3 ! $ drop ! $ heard ! (pair.1 ≡ it.alloc) (λ same.
-        -- what is owned lies in a block, so the pointer is one into it; and the pair's second word is the allocator's
-        in_a_block ! pair.0 owned (fst∗ 𝓤 (never 𝓤) (sem 𝓛 (token E.al it.alloc (bare (τ E)) null_ptr))) (λ b' o' is_block'.
-        move ! (1 ∷ []) $ split ! $ move ! (1 ∷ []) $ fpick ! (λ vss. fsplit ! $ feq_l ! (λ is_pair. fsplit ! $ feq_l ! (λ is_ptr. fsplit ! $
-        rewrite ! 0 (λ (a : E.al.row.Denot). ‵ (E.al.row.own_val a vss.1.0)) same refl $ handle_tells E.al ! it.alloc vss.1.0 (λ hv' is_handle fits'.
+        use1 𝓛 (later (some (λ (pair : Ptr × E.al.row.Denot).
+        (tokens ⊛ ‵ ((Tuple (RawPtr ∷ P E ∷ [])).own_val pair (u ∷ []))) ⊛
+        some (λ (_ : (Unit {0} × (Unit {0} × Unit {0})) × Unit {0}).
+        ‵ (fsep (fsep ftrue (fsep ftrue ftrue)) ftrue) ⊛
+        (raw (fact 𝓤 (pair.1 ≡ it.alloc)) ⊛ ‵ (owned pair.0)))))) (id⊢ 𝓤 _) $
+        await ! tt $ pick ! (λ pair. split ! $ move ! (1 ∷ []) $ pick ! (λ _. split3 ! $ drop ! $
+        heard ! (pair.1 ≡ it.alloc) (λ same.
+        -- what is owned lies in a block, so the pointer is one into it; and the pair's second word
+        -- is the allocator's
+        in_a_block ! pair.0 owned (fst∗ 𝓤 (never 𝓤)
+        (sem 𝓛 (token E.al it.alloc (bare (τ E)) null_ptr))) (λ b' o' is_block'.
+        move ! (1 ∷ []) $ split ! $ move ! (1 ∷ []) $ fpick ! (λ vss. fsplit ! $
+        feq_l ! (λ is_pair. fsplit ! $ feq_l ! (λ is_ptr. fsplit ! $
+        rewrite ! 0 (λ (a : E.al.row.Denot). ‵ (E.al.row.own_val a vss.1.0)) same refl $
+        handle_tells E.al ! it.alloc vss.1.0 (λ hv' is_handle fits'.
         let again : D E = record { ptr = block_ptr b' o'; alloc = it.alloc; value = it.value } in
-        let made : given.Denot = record { ptr = block_ptr b' o'; alloc = it.alloc; value = it.value } in
+        let made : given.Denot = record {
+          ptr = block_ptr b' o';
+          alloc = it.alloc;
+          value = it.value;
+        } in
         let w' = word E hv' b' o' in
-        lands_as ! (ap only (is_pair ∙ (λ j. vstruct (of_list ((is_ptr ∙ ap (λ (p : Ptr). ptr_val p ∷ []) is_block') j ++ (is_handle j ++ []))) ∷ []))) refl (box_typed E hv' b' o' fits') $
+        lands_as ! (ap only (is_pair ∙
+        (λ j. vstruct (of_list ((is_ptr ∙ ap (λ (p : Ptr). ptr_val p ∷ []) is_block') j ++
+        (is_handle j ++ []))) ∷ []))) refl (box_typed E hv' b' o' fits') $
         -- let (ptr, alloc) = ..; Parts { ptr, alloc }
         sets ! (of_opd ! (get_in ! (fld ! refl (stop !)) (sub ! 0 refl (whole !)))) refl (tt, tt) $
         sets ! (of_opd ! (get_in ! (fld ! refl (stop !)) (sub ! 1 refl (whole !)))) refl fits' $
         sets ! (of_opd ! (get ! refl)) refl fits' $
-        sets ! (agg ! (and_then ! (get ! refl) (and_then ! (get ! refl) (no_more !)))) refl (box_typed E hv' b' o' fits') $ returns ! (look_at ! 0 refl) $ free_all ! refl $
+        sets ! (agg ! (and_then ! (get ! refl) (and_then ! (get ! refl) (no_more !)))) refl
+        (box_typed E hv' b' o' fits') $ returns ! (look_at ! 0 refl) $ free_all ! refl $
         -- [the allocator; nothing; the tokens; the value with the right to free it]
-        move ! (3 ∷ []) $ fsplit ! $ box_in E ! again b' o' it.value refl refl $ use1 𝓛 (‵ (given.own_val made (w' ∷ []))) (id⊢ 𝓤 _) $ move ! (1 ∷ []) $ drop ! $
-        suffices ! _ (ends_at 𝓛 over stayed promised z w' made ((tt, (tt, tt)), tt) (tt, tt)) $ says ! refl $
-        nothing ! $ nothing ! $ fjoin ! $ join ! $ move ! (1 ∷ 0 ∷ []) $ join ! $ done !)))))))))))))
+        move ! (3 ∷ []) $ fsplit ! $ box_in E ! again b' o' it.value refl refl $
+        use1 𝓛 (‵ (given.own_val made (w' ∷ []))) (id⊢ 𝓤 _) $ move ! (1 ∷ []) $ drop ! $
+        suffices ! _ (ends_at 𝓛 over stayed promised z w' made ((tt, (tt, tt)), tt) (tt, tt)) $
+        says ! refl $
+        nothing ! $ nothing ! $ fjoin ! $ join ! $ move ! (1 ∷ 0 ∷ []) $ join ! $
+        done !)))))))))))))
 
 pub of_spec : {M : Type 1} → statement M
 unfolding tables_of
 of_spec 𝓤 𝓛 𝓜 𝓡 wired X Z X-laws Z-laws g d drops drop_x allocator met_d met_drop =
-    let E : Bx = record { row = X; laws = X-laws; al = record { row = Z; laws = Z-laws; g = g; d = d; drops = drops } } in
+    let E : Bx = record {
+      row = X;
+      laws = X-laws;
+      al = record { row = Z; laws = Z-laws; g = g; d = d; drops = drops };
+    } in
     let 𝓣 : Tables 𝓤 𝓛.H = tables_of 𝓤 𝓛.H 𝓜 (tables 𝓤 𝓛.H 𝓜 𝓡 𝓡.env) in
     let fn = body_at E drop_x in
-    let known = raw_parts_met.met 𝓤 𝓛 𝓜 𝓡 (code.calls-std_alloc::boxed::Box::into_raw_with_allocator 𝓡.env wired) X Z X-laws Z-laws g d drops drop_x allocator met_d met_drop in
-    entered 𝓤 𝓛.H (triple_of 𝓛 (over E drop_x).signature (f.spec X Z g d drops drop_x 𝓛 𝓜.mem 𝓡.returns)) 𝓣.C 𝓣.Λ (f_name (passed E drop_x)) fn (code.unfolded 𝓤 𝓛.H 𝓜 𝓡 wired (X, (Z, tt)) d drops drop_x)
-    (walk_Meets 𝓛 (over E drop_x) (stayed E drop_x) (Goes-blank 𝓛 2 (plain (λ _. B E)) no (λ κs x f. tt), tt) (promised E drop_x 𝓛 𝓜.mem 𝓡.returns 𝓣) (WpFn 𝓤 𝓛.H 𝓣.C 𝓣.Λ fn) (WpFn-mono 𝓤 𝓛.H 𝓛.laws 𝓣 fn)
+    let known = raw_parts_met.met 𝓤 𝓛 𝓜 𝓡
+    (code.calls-std_alloc::boxed::Box::into_raw_with_allocator 𝓡.env wired) X Z X-laws Z-laws g d
+    drops drop_x allocator met_d met_drop in
+    entered 𝓤 𝓛.H (triple_of 𝓛 (over E drop_x).signature
+    (f.spec X Z g d drops drop_x 𝓛 𝓜.mem 𝓡.returns)) 𝓣.C 𝓣.Λ (f_name (passed E drop_x)) fn
+    (code.unfolded 𝓤 𝓛.H 𝓜 𝓡 wired (X, (Z, tt)) d drops drop_x)
+    (walk_Meets 𝓛 (over E drop_x) (stayed E drop_x)
+    (Goes-blank 𝓛 2 (plain (λ _. B E)) no (λ κs x f. tt), tt)
+    (promised E drop_x 𝓛 𝓜.mem 𝓡.returns 𝓣) (WpFn 𝓤 𝓛.H 𝓣.C 𝓣.Λ fn) (WpFn-mono 𝓤 𝓛.H 𝓛.laws 𝓣 fn)
     (walk E drop_x 𝓛 𝓜.mem 𝓡.returns 𝓣 known))

@@ -1,0 +1,24 @@
+-- How many consumers a report tells of.
+use Rattle.std.proofs.Common.{◌≡◌, ◌∙◌, ◌+◌, ◌*◌, ◌/◌, ◌<◌, ℕ, Option, None, Some, ap, arith, sym}
+use Rattle.std.proofs.Common.{length}
+use Rattle.std.proofs.lemmas.Nat.{div-mul-add}
+use Rattle.std.specs.Prelude.{SomeIff}
+use Rattle.std.specs.Option.{unwrap_or}
+use Rattle.mb_world.specs.Report.{ReportView}
+use Rattle.hazbultra.specs.Reports.{HasConsumers}
+
+-- a share that there is
+share_of : (share : Option ℕ) (all count : ℕ) → 0 < count → SomeIff share (0 < count) (all / count)
+    → unwrap_or share 0 ≡ all / count
+share_of None all count some is = absurd (is some)
+share_of (Some s) all count some is = is.1
+
+pub consumers_told : (n : ℕ) (r : ReportView) (share : Option ℕ) (all count : ℕ) → HasConsumers n r
+    → all ≡ length r.diaries → count ≡ length r.lanes
+    → SomeIff share (0 < count) (all / count) → unwrap_or share 0 ≡ n
+consumers_told n r share all count has diaries lanes is =
+    let some = has.some in
+    let whole : all ≡ n * count + 0 =
+    diaries ∙ has.diaries ∙ ap (λ k. n * k) (sym lanes) ∙ omega arith in
+    share_of share all count (omega (arith, some, lanes)) is
+    ∙ ap (λ k. k / count) whole ∙ div-mul-add n count 0 (omega (arith, some, lanes))

@@ -1,0 +1,11 @@
+//! What a caller owes, by example. The function computes nothing: its contract is the examples.
+ghost use Rattle.std.specs.Prelude.{◌≢◌};
+ghost use Rattle.mb_bound.specs.Bound.{AreNamedApart};
+ghost use Rattle.mb_mailbox.specs.Mailboxes.{MailboxView};
+
+/// Mailboxes of two numbers are named apart, whatever they are. Of one number there is one mailbox.
+pub fn numbers_name_mailboxes()
+    ensures two_numbers { (m n : MailboxView) → AreNamedApart 1 m 2 n }
+    ensures one_mailbox { (m : MailboxView) → AreNamedApart 1 m 1 m }
+    ensures one_number { (m n : MailboxView) → m ≢ n → AreNamedApart 1 m 1 n → ⊥ }
+{}
