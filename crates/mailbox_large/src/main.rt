@@ -5,8 +5,10 @@
 //! to standard error.
 #![tactic(auto)]
 
+ghost use Rattle.mb_mailbox.specs.Hubs.{IsHubOf};
+
 use mailbox_audit::{Flaw, Tally, audit};
-use mb_mailbox::{Mailbox, OpenGate, WorkFault, work};
+use mb_mailbox::{Hub, Mailbox, OpenGate, WorkFault, work};
 use mb_quorum::TableName;
 use mb_world::{Setup, SetupFault};
 use rand_chacha::ChaCha8Rng;
@@ -121,6 +123,44 @@ fn sources_of(alloc: Global, plan: &Plan) -> Result<Vec<ChaCha8Rng>, AllocError>
     Ok(rngs)
 }
 
+/// All items are put, and consumers take what they win: how long that took.
+fn work_all<W: Threads + Wait + Clock + Sync>(
+    rt: &W,
+    alloc: Global,
+    plan: &Plan,
+    mailbox: &Mailbox<Global>,
+    hub: &mut Hub<Global>,
+) -> Result<Duration, Fault>
+    requires { IsHubOf mailbox.now hub.old }
+    ensures { IsHubOf mailbox.now hub.new }
+{
+    let items = lists_of(alloc, plan)?;
+    let rngs = sources_of(alloc, plan)?;
+    let start = Instant::now(rt)?;
+    let worked = work(alloc, rt, mailbox, hub, items, BUDGET, rngs, &OpenGate);
+    worked.map_err(Fault::Work)?;
+    Ok(start.elapsed(rt)?)
+}
+
+/// What the report tells without a flaw, and how long it took to make it.
+fn gather<W: Clock>(
+    rt: &W,
+    alloc: Global,
+    plan: &Plan,
+    mailbox: Mailbox<Global>,
+    hub: Hub<Global>,
+) -> Result<(Tally, Duration), Fault>
+    requires { IsHubOf mailbox hub }
+{
+    let start = Instant::now(rt)?;
+    let Ok(report) = mailbox.gather(alloc, hub) else {
+        return Err(Fault::NoReport);
+    };
+    let gathered = start.elapsed(rt)?;
+    let tally = audit(&report, plan.producers, plan.consumers).map_err(Fault::Report)?;
+    Ok((tally, gathered))
+}
+
 /// One run.
 fn run<W: Threads + Wait + Clock + Sync>(
     rt: &W,
@@ -138,20 +178,8 @@ fn run<W: Threads + Wait + Clock + Sync>(
     .map_err(Fault::Setup)?;
     let (mailbox, mut hub) = Mailbox::new(alloc, setup)?;
     let made = start.elapsed(rt)?;
-    let items = lists_of(alloc, plan)?;
-    let rngs = sources_of(alloc, plan)?;
-    let start = Instant::now(rt)?;
-    let worked = work(
-        alloc, rt, &mailbox, &mut hub, items, BUDGET, rngs, &OpenGate,
-    );
-    worked.map_err(Fault::Work)?;
-    let worked = start.elapsed(rt)?;
-    let start = Instant::now(rt)?;
-    let Ok(report) = mailbox.gather(alloc, hub) else {
-        return Err(Fault::NoReport);
-    };
-    let gathered = start.elapsed(rt)?;
-    let tally = audit(&report, plan.producers, plan.consumers).map_err(Fault::Report)?;
+    let worked = work_all(rt, alloc, plan, &mailbox, &mut hub)?;
+    let (tally, gathered) = gather(rt, alloc, plan, mailbox, hub)?;
     if tally.put != plan.items {
         return Err(Fault::NotPut);
     }
@@ -165,11 +193,18 @@ fn run<W: Threads + Wait + Clock + Sync>(
 
 fn main(rt: HostRuntime) -> io::Result<ExitCode> {
     let words = std::env::args(&rt)?.collect::<Vec<String>>(rt.alloc())?;
-    let Some(plan) = plan_of(words.as_slice()) else {
-        eprintln!(rt; "usage: mailbox_large PRODUCERS CONSUMERS PAIRS ITEMS SEED")?;
-        return Ok(ExitCode::from(REFUSED));
-    };
-    match run(&rt, rt.alloc(), &plan) {
+    match plan_of(words.as_slice()) {
+        Some(plan) => tell(&rt, &plan),
+        None => refuse(&rt),
+    }
+}
+
+/// Makes a run, and tells what it came to.
+fn tell<R: AllocGlobal + Print + Eprint + Threads + Wait + Clock + Sync>(
+    rt: &R,
+    plan: &Plan,
+) -> io::Result<ExitCode> {
+    match run(rt, rt.alloc(), plan) {
         Ok(run) => {
             eprintln!(rt; "{run:?}")?;
             println!(rt;
@@ -183,4 +218,10 @@ fn main(rt: HostRuntime) -> io::Result<ExitCode> {
             Ok(ExitCode::from(FLAW))
         }
     }
+}
+
+/// Tells how the program is used.
+fn refuse<R: Eprint + AllocGlobal>(rt: &R) -> io::Result<ExitCode> {
+    eprintln!(rt; "usage: mailbox_large PRODUCERS CONSUMERS PAIRS ITEMS SEED")?;
+    Ok(ExitCode::from(REFUSED))
 }
