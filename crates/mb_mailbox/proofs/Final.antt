@@ -49,6 +49,13 @@ module _ {Z : Type 0} (m : MailboxView) where
   puts_at p (v ∷ vs) (j ∷ js) a =
       All-cons (λ (j : PutJob Z). IsProducerOf m j.producer) j js (record { table = ap (λ (s : ProducerView). s.seat.table) a.0 }) (puts_at (suc p) vs js a.2)
 
+  -- there is a job for each list
+  pub put_count : (p : ℕ) (vs : List (Vec ℕ Z)) (js : List (PutJob Z)) → ArePutJobs m p vs js → length vs ≡ length js
+  put_count p [] [] a = refl
+  put_count p [] (j ∷ js) a = absurd a
+  put_count p (v ∷ vs) [] a = absurd a
+  put_count p (v ∷ vs) (j ∷ js) a = ap suc (put_count (suc p) vs js a.2)
+
   put_ends_at : (may_stop may_pass : Who → ℕ → Type 0) (js : List (PutJob Z)) (ds : List (PutDone Z)) → All (λ (j : PutJob Z). IsProducerOf m j.producer) js
       → AllZip (IsPutEnd may_stop may_pass) js ds
       → All (λ (d : PutDone Z). IsProducerOf m d.producer) ds

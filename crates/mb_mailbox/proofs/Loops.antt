@@ -4,7 +4,7 @@ use Rattle.std.specs.Prelude.{Vec}
 use Rattle.std.proofs.Math.Nat.{mul-suc}
 use Rattle.std.specs.List.{All, sum_by}
 use Rattle.std.proofs.lemmas.List.{length-append, map-append}
-use Rattle.std.proofs.lemmas.List.Elements.{All-push}
+use Rattle.std.proofs.lemmas.List.Elements.{All-cons, All-head, All-push, All-tail}
 use Rattle.std.proofs.lemmas.List.Sums.{sum_by-append, sum_by-cons}
 use Rattle.mb_mailbox.specs.Consumers.{ConsumerView}
 use Rattle.mb_mailbox.specs.HubRuns.{ArePollJobs, ArePutJobs, HasNumber, with_taken_consumers, with_taken_producers}
@@ -83,3 +83,17 @@ on_more f was now xs x e is h = on_yet f was (f x) xs x e refl (sym is ∙ h)
 
 pub some_seen : {X : Type 0} (xs : List X) (x : X) → 0 < length (xs ++ x ∷ [])
 some_seen xs x = let all = length-append xs (x ∷ []) in omega (arith, all)
+
+-- what holds of all holds of those before the last, and of the last
+all_but_last : {X : Type 0} (P : X → Type 0) (xs : List X) (x : X) → All P (xs ++ x ∷ []) → All P xs × P x
+all_but_last P [] x a = (λ k d low. absurd (omega (arith, low)), All-head P x [] a)
+all_but_last P (y ∷ ys) x a =
+    let rest = all_but_last P ys x (All-tail P y (ys ++ x ∷ []) a) in (All-cons P y ys (All-head P y (ys ++ x ∷ []) a) rest.0, rest.1)
+
+neither : (was off now : Bool) → now ≡ (was || off) → was ≡ false → off ≡ false → now ≡ false
+neither was off now is a b = is ∙ (λ i. a i || b i)
+
+pub told_more : {X : Type 0} (f : X → Bool) (was now : Bool) (xs : List X) (x : X) → (All (λ x. f x ≡ false) xs → was ≡ false)
+    → now ≡ (was || f x) → All (λ x. f x ≡ false) (xs ++ x ∷ []) → now ≡ false
+told_more f was now xs x e is all =
+    let each = all_but_last (λ x. f x ≡ false) xs x all in neither was (f x) now is (e each.0) each.1

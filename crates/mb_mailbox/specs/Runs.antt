@@ -1,5 +1,5 @@
 -- The jobs of a run, and their ends.
-use Rattle.std.specs.Prelude.{ℕ, ◌+◌, map}
+use Rattle.std.specs.Prelude.{ℕ, ◌≡◌, ◌+◌, false, map}
 use Rattle.std.specs.Int.{from_bool}
 use Rattle.std.specs.List.{All, AllZip, sum_by}
 use Rattle.mb_mailbox.specs.Below.{Stream}
@@ -31,6 +31,11 @@ module _ {Z : Type 0} where
   pub record AreEndsAt (m : MailboxView) (ends : Ends Z) : Type 0 where
     pub puts : All (λ d. IsProducerOf m d.producer) ends.puts.items
     pub polls : All (λ d. IsConsumerOf m d.consumer) ends.polls.items
+
+  -- none of them tells that the run is off
+  pub record AreOn (ends : Ends Z) : Type 0 where
+    pub puts : All (λ d. d.off ≡ false) ends.puts.items
+    pub polls : All (λ d. d.off ≡ false) ends.polls.items
 
   -- how many were stopped
   abbrev pub count_stopped : Ends Z → ℕ

@@ -1,6 +1,6 @@
 //! The definitions by example: what they let in, and what only looks right. The functions compute nothing: their contracts
 //! are the examples, and their proofs stand in `proofs/examples/`, one folder for each.
-ghost use Rattle.std.specs.Prelude.{◌≡◌, ◌≢◌, List, None, Option, Some, [], ◌∷◌};
+ghost use Rattle.std.specs.Prelude.{◌≡◌, ◌≢◌, List, None, Option, Some, [], ◌∷◌, false, true};
 ghost use Rattle.mb_quorum.specs.Vocabulary.{IsQuorumTable};
 ghost use Rattle.mb_claim.specs.declared.access.Stage.TheVariants as stage;
 ghost use Rattle.mb_cells.specs.Vocabulary.{fetch, new_lane, store};
@@ -11,11 +11,13 @@ ghost use Rattle.mb_mailbox.specs.Called.{WerePolled};
 ghost use Rattle.mb_mailbox.specs.declared.consumer.Poll.{Poll};
 ghost use Rattle.mb_mailbox.specs.declared.consumer.Poll.TheVariants as poll;
 ghost use Rattle.mb_mailbox.specs.declared.gate.Who.TheVariants as who;
+ghost use Rattle.mb_mailbox.specs.declared.working.room.Ends.{Ends};
 ghost use Rattle.mb_mailbox.specs.Consumers.{ConsumerView};
 ghost use Rattle.mb_mailbox.specs.ConsumerStep.{ConsumerStep};
 ghost use Rattle.mb_mailbox.specs.Examples.{head_loaded, link_loaded, met_four, nothing_done};
 ghost use Rattle.mb_mailbox.specs.Jobs.{IsOnLanes, IsStoppedPoll, accesses_made, ends_met};
 ghost use Rattle.mb_mailbox.specs.Producers.{HasNoCellFor, IsEndOfLane, IsFirstPastCells, IsPutInto};
+ghost use Rattle.mb_mailbox.specs.Runs.{AreOn};
 ghost use Rattle.mb_mailbox.specs.Steps.{IsPollOf, LeadTo};
 ghost use Rattle.mb_mailbox.specs.WorkExamples.{any_call, fetched, has_linked, idle_producer, lane_left, ledger_with, linked_early};
 ghost use Rattle.mb_mailbox.specs.WorkExamples.{producer_of_one, reader_left, seven_put, stopped_as, stopped_lane};
@@ -159,6 +161,14 @@ pub fn workers_are_stopped_by_the_gate()
     ensures poll_too_many { IsStoppedPoll (λ _ n. n ≡ 1) 5 0 1 → ⊥ }
     ensures poll_past_its_budget { IsStoppedPoll (λ _ n. n ≡ 2) 5 0 6 → ⊥ }
     ensures poll_other_worker { IsStoppedPoll (λ w _. w ≡ who.Consumer 1) 5 0 3 → ⊥ }
+{}
+
+/// A run is off as soon as one end tells so. A worker that its gate stopped does not tell so.
+pub fn one_end_tells_that_a_run_is_off()
+    ensures stopped { (ends : Ends (Unit {0})) (s : ConsumerView) → ends.puts.items ≡ []
+        → ends.polls.items ≡ record { consumer = s; stopped = true; off = false } ∷ [] → AreOn ends }
+    ensures off { (ends : Ends (Unit {0})) (s : ConsumerView)
+        → ends.polls.items ≡ record { consumer = s; stopped = false; off = true } ∷ [] → AreOn ends → ⊥ }
 {}
 
 /// Each consumer has a source of its own, and its first word is the first of that source.

@@ -1,10 +1,12 @@
 //! Workers in threads: producers that each put a list, and consumers that poll until all those lanes have ended.
-ghost use Rattle.std.specs.Prelude.{◌≡◌, ◌≢◌, ◌↔◌, ◌+◌, ◌-◌, ◌^◌, ◌<◌, ◌≤◌, ◌⊎◌, Err, IfOk, length, map, vec_len};
+ghost use Rattle.std.specs.Prelude.{◌≡◌, ◌≢◌, ◌↔◌, ◌+◌, ◌-◌, ◌^◌, ◌<◌, ◌≤◌, ◌⊎◌, Err, IfErr, IfOk, IsOk, length, map, min, vec_len};
+ghost use Rattle.std.specs.List.{sum_by};
 ghost use Rattle.mb_mailbox.specs.declared.working.WorkFault.TheVariants.{AllGiven, BadBudget, NoMemory, NoThread};
 ghost use Rattle.mb_mailbox.specs.Below.{consumer_count};
 ghost use Rattle.mb_mailbox.specs.Called.{IsCalled};
 ghost use Rattle.mb_mailbox.specs.Hubs.{HubView, IsHubOf};
 ghost use Rattle.mb_mailbox.specs.Rooms.{HasJobRoom, HasRoom};
+ghost use Rattle.mb_mailbox.specs.Runs.{AreEndsAt, AreOn, count_stopped, with_taken};
 ghost use Rattle.mb_mailbox.specs.Worked.{AsksTooMany, IsWorked, WereTakenIn, WereTakenInEarly, lists_in};
 
 mod begun;
@@ -25,7 +27,7 @@ use ending::ends_tell_notes;
 use giving::give;
 use jobs::Lanes;
 use rand_core::Rng;
-use room::{Jobs, Room, room_for_jobs, room_for_workers};
+use room::{Ends, Jobs, Room, room_for_jobs, room_for_workers};
 use running::{end_all, run};
 use std::alloc::Allocator;
 use std::error::Error;
@@ -71,10 +73,11 @@ impl fmt::Display for WorkFault {
 
 impl Error for WorkFault {}
 
-/// Runs one thread for each list, and one for each source of random words. The first are producers, which put their lists
-/// in order up to the first `Full`, and then end their lanes. The others are consumers, which poll the lanes given in this
-/// call in rising order, round and round, each until it has ended. Numbers are given in the order of the lists and of the
-/// sources. Before its n-th put or poll each worker asks the gate, and stops where the gate does not let it through.
+/// Runs one thread for each list, and one for each source of random words. The first are producers, which put their lists in
+/// order up to the first `Full`, and then end their lanes. The others are consumers, which are started after them and poll
+/// the lanes given in this call in rising order, round and round, each until it has ended. Numbers are given in the order of
+/// the lists and of the sources. Before its n-th put or poll each worker asks the gate, and stops where the gate does not
+/// let it through.
 ///
 /// It hands items out and runs none: each `Took` note of the report that [`Mailbox::gather`] gives is an item to be run, once,
 /// and so is each item left there. What was not put is in no report: it is what stands in a list behind the items that its lane
@@ -245,9 +248,34 @@ fn work_with<
     }
     let going = AtomicBool::new(true);
     let ends = run(rt, mailbox, jobs, lanes, gate, &going, room);
+    match settle(mailbox, hub, ends) {
+        Ok(worked) => {
+            ends_tell_notes();
+            hub.has_history();
+            Ok(worked)
+        }
+        Err(fault) => Err(fault),
+    }
+}
+
+/// Takes all of them in, and tells what the run came to. There is a fault exactly if one of the ends tells that the run is off.
+fn settle<A: Allocator + Drop, B: Allocator + Drop>(
+    mailbox: &Mailbox<B>,
+    hub: &mut Hub<A>,
+    ends: Ends<A>,
+) -> Result<Worked, WorkFault>
+    requires hub { IsHubOf mailbox.now hub.old }
+    requires ends { AreEndsAt mailbox.now ends }
+    ensures full { IfOk result (λ w. w.full ≡ min (2 ^ 64 - 1) (sum_by (λ d. d.full) ends.puts.items)) }
+    ensures stopped { IfOk result (λ w. w.stopped ≡ min (2 ^ 64 - 1) (count_stopped ends)) }
+    ensures on { IfOk result (λ _. AreOn ends) }
+    ensures off { AreOn ends → IsOk result }
+    ensures fault { IfErr result (λ e. e ≡ NoThread) }
+    ensures some { IfErr result (λ _. 0 < length ends.puts.items + length ends.polls.items) }
+    ensures hub { hub.new ≡ with_taken ends hub.old }
+    ensures of { IsHubOf mailbox.now hub.new }
+{
     let Told { full, stopped, off } = take_all(mailbox, hub, ends);
-    ends_tell_notes();
-    hub.has_history();
     if off {
         Err(WorkFault::NoThread)
     } else {

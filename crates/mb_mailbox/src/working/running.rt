@@ -1,5 +1,5 @@
 //! The workers of a run, at the same time.
-ghost use Rattle.std.specs.Prelude.{ℕ, ◌≡◌, ◌≤◌, [], true, vec_capacity, vec_len};
+ghost use Rattle.std.specs.Prelude.{ℕ, ◌≡◌, ◌-◌, ◌≤◌, [], true, vec_capacity, vec_len};
 ghost use Rattle.std.specs.List.{All, AllZip};
 ghost use Rattle.mb_mailbox.specs.Jobs.{IsPutEnd};
 ghost use Rattle.mb_mailbox.specs.Producers.{IsProducerOf};
@@ -40,6 +40,7 @@ fn run_in<
 ) -> Ends<A>
     requires of { AreOf mailbox.now jobs }
     requires few { lanes.end ≤ mailbox.now.cells.size.lanes }
+    requires lanes { vec_len jobs.puts ≡ lanes.end - lanes.from }
     requires room { HasRoom (vec_len jobs.puts) (vec_len jobs.polls) room }
     ensures { AreEndsOf (G.may_stop gate.now) (G.may_pass gate.now) R.stream lanes.from lanes.end lanes.budget jobs result }
 {
@@ -53,7 +54,9 @@ fn run_in<
         },
     } = room;
     let putting = start_puts(scope, mailbox, puts, gate, going, put_room);
-    let polling = start_polls(scope, mailbox, polls, lanes, gate, going, poll_room);
+    let polling = start_polls(
+        scope, mailbox, polls, lanes, gate, going, poll_room, &putting,
+    );
     Ends {
         puts: join_puts(rt, putting, put_ends),
         polls: join_polls(rt, polling, poll_ends),
@@ -77,6 +80,7 @@ pub(super) fn run<
 ) -> Ends<A>
     requires of { AreOf mailbox.now jobs }
     requires few { lanes.end ≤ mailbox.now.cells.size.lanes }
+    requires lanes { vec_len jobs.puts ≡ lanes.end - lanes.from }
     requires room { HasRoom (vec_len jobs.puts) (vec_len jobs.polls) room }
     ensures { AreEndsOf (G.may_stop gate.now) (G.may_pass gate.now) R.stream lanes.from lanes.end lanes.budget jobs result }
 {
@@ -85,7 +89,8 @@ pub(super) fn run<
         rt,
         |scope| -> Ends<A>
             requires of { AreOf mailbox.now jobs }
-            requires few { lanes.end ≤ mailbox.now.cells.size.lanes }
+            requires lanes { (lanes.end ≤ mailbox.now.cells.size.lanes)
+                × (vec_len jobs.puts ≡ lanes.end - lanes.from) }
             requires room { HasRoom (vec_len jobs.puts) (vec_len jobs.polls) room }
             ensures { AreEndsOf (G.may_stop gate.entry.now) (G.may_pass gate.entry.now) R.stream lanes.from lanes.end lanes.budget jobs result }
         { run_in(scope, rt, mailbox, jobs, lanes, gate, going, room) },

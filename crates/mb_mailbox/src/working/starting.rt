@@ -1,5 +1,5 @@
 //! One thread for each worker.
-ghost use Rattle.std.specs.Prelude.{◌≡◌, ◌≤◌, [], vec_capacity, vec_len};
+ghost use Rattle.std.specs.Prelude.{◌≡◌, ◌-◌, ◌≤◌, [], vec_capacity, vec_len};
 ghost use Rattle.std.specs.List.{All, AllZip};
 ghost use Rattle.mb_mailbox.specs.Consumers.{IsConsumerOf};
 ghost use Rattle.mb_mailbox.specs.Jobs.{IsPollEnd, IsPutEnd};
@@ -60,7 +60,8 @@ pub(super) fn start_puts<'s, E: 's, A: Allocator + Drop + Send + Sync + 's, G: G
     requires of { All (λ j. IsProducerOf mailbox.now j.producer) jobs.items }
     requires none { begun.items ≡ [] }
     requires room { vec_len jobs ≤ vec_capacity begun }
-    ensures { AllZip (PutPromises G.may_stop G.may_pass gate.now) jobs.items result.items }
+    ensures promised { AllZip (PutPromises G.may_stop G.may_pass gate.now) jobs.items result.items }
+    ensures count { vec_len result ≡ vec_len jobs }
 {
     for job in jobs {
         begun.push_reserved(start_put(scope, mailbox, job, gate, going));
@@ -112,7 +113,7 @@ fn start_poll<
     }
 }
 
-/// Starts a thread for each job, in order. `begun` has room for all.
+/// Starts a thread for each job, in order, after the producers of all the lanes were begun. `begun` has room for all.
 pub(super) fn start_polls<
     's,
     E: 's,
@@ -127,11 +128,13 @@ pub(super) fn start_polls<
     gate: &'s G,
     going: &'s AtomicBool,
     mut begun: Vec<PollBegun<G, R, A>, A>,
+    producers: &Vec<PutBegun<G, A>, A>,
 ) -> Vec<PollBegun<G, R, A>, A>
     requires of { All (λ j. IsConsumerOf mailbox.now j.consumer) jobs.items }
     requires few { lanes.end ≤ mailbox.now.cells.size.lanes }
     requires none { begun.items ≡ [] }
     requires room { vec_len jobs ≤ vec_capacity begun }
+    requires after { vec_len producers.now ≡ lanes.end - lanes.from }
     ensures { AllZip (PollPromises G.may_stop G.may_pass R.stream gate.now lanes.from lanes.end lanes.budget)
         jobs.items result.items }
 {

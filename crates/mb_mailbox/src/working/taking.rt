@@ -34,6 +34,7 @@ pub(super) fn take_puts<A: Allocator + Drop, B: Allocator + Drop>(
     ensures full { result.full ≡ min (2 ^ 64 - 1) (sum_by (λ d. d.full) ends.items) }
     ensures stopped { result.stopped ≡ min (2 ^ 64 - 1) (sum_by (λ d. from_bool d.stopped) ends.items) }
     ensures on { result.off ≡ false → All (λ d. d.off ≡ false) ends.items }
+    ensures told { All (λ d. d.off ≡ false) ends.items → result.off ≡ false }
     ensures off { result.off ≡ true → 0 < length ends.items }
     ensures hub { hub.new ≡ with_taken_producers (map (λ d. d.producer) ends.items) hub.old }
     ensures of { IsHubOf mailbox.now hub.new }
@@ -66,6 +67,7 @@ pub(super) fn take_polls<A: Allocator + Drop, B: Allocator + Drop>(
     requires consumers { All (λ d. IsConsumerOf mailbox.now d.consumer) ends.items }
     ensures stopped { result.stopped ≡ min (2 ^ 64 - 1) (sum_by (λ d. from_bool d.stopped) ends.items) }
     ensures on { result.off ≡ false → All (λ d. d.off ≡ false) ends.items }
+    ensures told { All (λ d. d.off ≡ false) ends.items → result.off ≡ false }
     ensures off { result.off ≡ true → 0 < length ends.items }
     ensures hub { hub.new ≡ with_taken_consumers (map (λ d. d.consumer) ends.items) hub.old }
     ensures of { IsHubOf mailbox.now hub.new }
@@ -101,6 +103,8 @@ pub(super) fn take_all<A: Allocator + Drop, B: Allocator + Drop>(
     ensures stopped { result.stopped ≡ min (2 ^ 64 - 1) (count_stopped ends) }
     ensures puts_on { result.off ≡ false → All (λ d. d.off ≡ false) ends.puts.items }
     ensures polls_on { result.off ≡ false → All (λ d. d.off ≡ false) ends.polls.items }
+    ensures told { All (λ d. d.off ≡ false) ends.puts.items → All (λ d. d.off ≡ false) ends.polls.items
+        → result.off ≡ false }
     ensures off { result.off ≡ true → 0 < length ends.puts.items + length ends.polls.items }
     ensures hub { hub.new ≡ with_taken ends hub.old }
     ensures of { IsHubOf mailbox.now hub.new }

@@ -11,7 +11,7 @@ scoped-requires g c =
       at = λ a. (
         c.requires.of,
         (
-          c.requires.few,
+          (c.requires.few, c.requires.lanes),
           (
             c.requires.room,
             (

@@ -3,7 +3,7 @@ use Rattle.std.specs.Int.{from_bool}
 use Rattle.std.specs.List.{All}
 use Rattle.std.proofs.lemmas.List.Elements.{All-head, All-rest}
 use Rattle.mb_mailbox.specs.Producers.{IsProducerOf}
-use Rattle.mb_mailbox.proofs.Loops.{full_more, on_more, some_seen, took_producer_more}
+use Rattle.mb_mailbox.proofs.Loops.{full_more, on_more, some_seen, told_more, took_producer_more}
 use Rattle.mb_mailbox.proofs.Zips.{next_seen}
 use Rattle.mb_mailbox.proofs.working.taking.take_puts.Goals as goal
 
@@ -20,6 +20,7 @@ loop-end-preserved g c = record {
   stopped = full_more (λ d. from_bool d.stopped) (2 ^ 64 - 1) _ _ c.loop-end.yielded c.in-Some.end c.loop-end.invariant.stopped
       (c.saturating_add-stopped.ensures ∙ ap (λ (n : ℕ). min (c.loop-end.stopped + n) (2 ^ 64 - 1)) c.from.ensures);
   on = on_more (λ d. d.off) _ _ c.loop-end.yielded c.in-Some.end c.loop-end.invariant.on refl;
+  told = told_more (λ d. d.off) _ _ c.loop-end.yielded c.in-Some.end c.loop-end.invariant.told refl;
   off = λ o. some_seen c.loop-end.yielded c.in-Some.end;
   hub = took_producer_more (λ d. d.producer) c.args.hub.now c.loop-end.yielded c.in-Some.end _ _ c.loop-end.invariant.hub c.take_producer.ensures.hub;
   all_of = c.take_producer.ensures.of;

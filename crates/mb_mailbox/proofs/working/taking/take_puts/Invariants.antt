@@ -14,6 +14,7 @@ invariant-loop-end g l = record {
   full : l.full ≡ min (2 ^ 64 - 1) (sum_by (λ d. d.full) l.yielded);
   stopped : l.stopped ≡ min (2 ^ 64 - 1) (sum_by (λ d. from_bool d.stopped) l.yielded);
   on : l.off ≡ false → All (λ d. d.off ≡ false) l.yielded;
+  told : All (λ d. d.off ≡ false) l.yielded → l.off ≡ false;
   off : l.off ≡ true → 0 < length l.yielded;
   hub : l.hub ≡ with_taken_producers (map (λ d. d.producer) l.yielded) l.fn.hub;
   all_of : IsHubOf l.mailbox l.hub;

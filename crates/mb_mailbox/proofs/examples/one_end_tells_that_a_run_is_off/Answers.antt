@@ -1,0 +1,25 @@
+use Rattle.std.proofs.Common.{◌≡◌, Bool, List, [], ◌∷◌, arith, false, refl, subst, sym, true}
+use Rattle.std.specs.List.{All}
+use Rattle.std.proofs.lemmas.List.Elements.{All-cons, All-head}
+use Rattle.mb_mailbox.specs.declared.working.jobs.PollDone.{PollDone}
+use Rattle.mb_mailbox.specs.declared.working.jobs.PutDone.{PutDone}
+use Rattle.mb_mailbox.proofs.examples.one_end_tells_that_a_run_is_off.Goals as goal
+
+none_on : {X : Type 0} (f : X → Bool) → All (λ x. f x ≡ false) []
+none_on f k d low = absurd (omega (arith, low))
+
+one_on : {X : Type 0} (f : X → Bool) (x : X) → f x ≡ false → All (λ x. f x ≡ false) (x ∷ [])
+one_on f x e = All-cons (λ x. f x ≡ false) x [] e (none_on f)
+
+pub returns-clause-stopped : goal.returns-clause-stopped
+returns-clause-stopped c = λ ends s none one. record {
+  puts = subst (λ (ds : List (PutDone (Unit {0}))). All (λ d. d.off ≡ false) ds) (sym none) (none_on (λ (d : PutDone (Unit {0})). d.off));
+  polls = subst (λ (ds : List (PollDone (Unit {0}))). All (λ d. d.off ≡ false) ds) (sym one)
+      (one_on (λ (d : PollDone (Unit {0})). d.off) (record { consumer = s; stopped = true; off = false }) refl);
+}
+
+pub returns-clause-off : goal.returns-clause-off
+returns-clause-off c = λ ends s one on.
+    let all = subst (λ (ds : List (PollDone (Unit {0}))). All (λ d. d.off ≡ false) ds) one on.polls in
+    let no : true ≡ false = All-head (λ (d : PollDone (Unit {0})). d.off ≡ false) (record { consumer = s; stopped = false; off = true }) [] all in
+    absurd (cc)
