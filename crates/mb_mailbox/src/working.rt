@@ -73,10 +73,11 @@ impl fmt::Display for WorkFault {
 
 impl Error for WorkFault {}
 
-/// Runs one thread for each list, and one for each source of random words. The first are producers, which put their lists
-/// in order up to the first `Full`, and then end their lanes. The others are consumers, which poll the lanes given in this
-/// call in rising order, round and round, each until it has ended. Numbers are given in the order of the lists and of the
-/// sources. Before its n-th put or poll each worker asks the gate, and stops where the gate does not let it through.
+/// Runs one thread for each list, and one for each source of random words. The first are producers, which put their lists in
+/// order up to the first `Full`, and then end their lanes. The others are consumers, which are started after them and poll
+/// the lanes given in this call in rising order, round and round, each until it has ended. Numbers are given in the order of
+/// the lists and of the sources. Before its n-th put or poll each worker asks the gate, and stops where the gate does not
+/// let it through.
 ///
 /// It hands items out and runs none: each `Took` note of the report that [`Mailbox::gather`] gives is an item to be run, once,
 /// and so is each item left there. What was not put is in no report: it is what stands in a list behind the items that its lane
