@@ -55,12 +55,17 @@ impl Asked {
     }
 }
 
-/// An option that takes a number in this range.
-fn number<'a>(alloc: Global, name: &'a str, low: u64, high: u64, meaning: &'a str) -> Arg<'a> {
+/// An option that takes a number.
+fn option<'a>(alloc: Global, name: &'a str, meaning: &'a str) -> Arg<'a> {
     Arg::new(alloc, name)
         .long(name)
         .value_name("N")
         .help(meaning)
+}
+
+/// An option that takes a number in this range.
+fn number<'a>(alloc: Global, name: &'a str, low: u64, high: u64, meaning: &'a str) -> Arg<'a> {
+    option(alloc, name, meaning)
         .action(ArgAction::Set)
         .value_parser(ValueParser::unsigned(low, high))
 }

@@ -10,30 +10,42 @@ mod worker;
 
 use anyhow::Result;
 use board::Board;
+use clap::Error;
 use clap::error::ErrorKind;
-use options::options_of;
+use options::{Options, options_of};
 use schedule::run_all;
 use std::process::ExitCode;
+use std::sync::Wait;
+use std::thread::Threads;
 
 /// The status of a command line that is refused.
 const REFUSED: u8 = 2;
 
 fn main(rt: HostRuntime) -> Result<ExitCode> {
     let words = std::env::args(&rt)?.collect::<Vec<String>>(rt.alloc())?;
-    let options = match options_of(rt.alloc(), words.as_slice()) {
-        Ok(options) => options,
-        Err(error) if error.kind() == ErrorKind::DisplayHelp => {
-            print!(rt; "{error}")?;
-            return Ok(ExitCode::SUCCESS);
-        }
-        Err(error) => {
-            eprint!(rt; "{error}")?;
-            return Ok(ExitCode::from(REFUSED));
-        }
-    };
+    match options_of(rt.alloc(), words.as_slice()) {
+        Ok(options) => run(&rt, &options),
+        Err(error) => refuse(&rt, &error),
+    }
+}
+
+/// Runs all jobs, and tells what they came to.
+fn run<R: AllocGlobal + Print + Eprint + Threads + Wait + Sync>(
+    rt: &R,
+    options: &Options,
+) -> Result<ExitCode> {
     let board = Board::new(rt.alloc(), options.jobs)?;
-    let rounds = run_all(&rt, &options, &board)?;
-    println!(rt; "{rounds} rounds")?;
-    println!(rt; "{board}")?;
+    let rounds = run_all(rt, options, &board)?;
+    println!(rt; "{rounds} rounds\n{board}")?;
     Ok(ExitCode::SUCCESS)
+}
+
+/// Tells why a command line is refused, or how the program is used if it asks for that.
+fn refuse<R: AllocGlobal + Print + Eprint>(rt: &R, error: &Error) -> Result<ExitCode> {
+    if error.kind() == ErrorKind::DisplayHelp {
+        print!(rt; "{error}")?;
+        return Ok(ExitCode::SUCCESS);
+    }
+    eprint!(rt; "{error}")?;
+    Ok(ExitCode::from(REFUSED))
 }

@@ -6,7 +6,7 @@ use std::alloc::{AllocError, Global};
 use std::convert::AsStr;
 
 /// What is asked for.
-#[derive(Clone, Copy, Debug)]
+#[derive(Clone, Copy)]
 pub struct Options {
     /// How many jobs there are.
     pub jobs: u64,
@@ -22,6 +22,15 @@ pub struct Options {
     pub progress: u64,
 }
 
+/// An option that takes a number.
+fn option<'a>(alloc: Global, name: &'a str, meaning: &'a str) -> Arg<'a> {
+    Arg::new(alloc, name)
+        .long(name)
+        .value_name("N")
+        .help(meaning)
+        .action(ArgAction::Set)
+}
+
 /// An option that takes a number from `low` to `high`.
 fn number<'a>(
     alloc: Global,
@@ -31,11 +40,7 @@ fn number<'a>(
     high: u64,
     meaning: &'a str,
 ) -> Arg<'a> {
-    Arg::new(alloc, name)
-        .long(name)
-        .value_name("N")
-        .help(meaning)
-        .action(ArgAction::Set)
+    option(alloc, name, meaning)
         .value_parser(ValueParser::unsigned(low, high))
         .default_value(default)
 }

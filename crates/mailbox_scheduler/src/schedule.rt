@@ -65,32 +65,56 @@ pub fn run_all<R: AllocGlobal + Threads + Wait + Sync + Eprint>(
     board: &Board,
 ) -> Result<u64> {
     let (mut rounds, mut workers) = begin(rt.alloc(), options)?;
+    run_rounds(rt, options, board, &mut rounds, &mut workers)
+}
+
+/// Makes rounds until nothing is carried: how many there were.
+fn run_rounds<R: AllocGlobal + Threads + Wait + Sync + Eprint>(
+    rt: &R,
+    options: &Options,
+    board: &Board,
+    rounds: &mut Rounds<Global>,
+    workers: &mut [Worker],
+) -> Result<u64> {
     let mut first = 0;
     let mut told = 0;
     for number in 0..u64::MAX {
-        first = begin_chains(&mut rounds, options, first)?;
+        first = begin_chains(rounds, options, first)?;
         if rounds.carried().is_empty() {
             return Ok(number);
         }
-        let sources = sources(rt.alloc(), options.seed, number, options.workers)?;
-        let round = rounds.round(rt, sources, BUDGET, &OpenGate)?;
-        for_each_mut(
-            rt,
-            &mut workers,
-            THREADS,
-            &|i, worker| {
-                if let Some(taken) = round.taken.get(i) {
-                    worker.run(board, taken.as_slice(), options.jobs);
-                }
-            },
-        );
-        for worker in workers.iter_mut() {
-            rounds.hand_in(worker.put()?)?;
-            worker.forget();
-        }
+        run_round(rt, options, board, rounds, workers, number)?;
         told = tell(rt, options, board, told)?;
     }
     Ok(u64::MAX)
+}
+
+/// Makes the round of this number, and hands in the jobs that its jobs put.
+fn run_round<R: AllocGlobal + Threads + Wait + Sync>(
+    rt: &R,
+    options: &Options,
+    board: &Board,
+    rounds: &mut Rounds<Global>,
+    workers: &mut [Worker],
+    number: u64,
+) -> Result<()> {
+    let sources = sources(rt.alloc(), options.seed, number, options.workers)?;
+    let round = rounds.round(rt, sources, BUDGET, &OpenGate)?;
+    for_each_mut(
+        rt,
+        workers,
+        THREADS,
+        &|i, worker| {
+            if let Some(taken) = round.taken.get(i) {
+                worker.run(board, taken.as_slice(), options.jobs);
+            }
+        },
+    );
+    for worker in workers.iter_mut() {
+        rounds.hand_in(worker.put()?)?;
+        worker.forget();
+    }
+    Ok(())
 }
 
 /// Tells how many jobs were run, if so many more were run since it was told last.
