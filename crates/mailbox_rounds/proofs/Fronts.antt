@@ -3,7 +3,7 @@ use Rattle.std.proofs.Common.{◌≡◌, ℕ, zero, suc, ◌<◌, List, [], ◌�
 use Rattle.std.specs.Prelude.{slice_get}
 use Rattle.std.specs.Option.{option_map_or}
 use Rattle.std.specs.List.{AllZip}
-use Rattle.mb_mailbox.specs.Gathering.{IsReportIn, items_in, kept_at, lane_in}
+use Rattle.mb_mailbox.specs.Gathering.{IsReportIn, lane_in}
 use Rattle.mb_mailbox.specs.Hubs.{HubView, PutListView}
 use Rattle.mb_mailbox.specs.Jobs.{IsFront}
 use Rattle.mb_mailbox.specs.Worked.{LaneLeft, ended_list}

@@ -1,9 +1,9 @@
 -- What is given out of one lane, and what is left of it, is what was put there.
-use Rattle.std.proofs.Common.{◌≡◌, ℕ, zero, suc, ◌+◌, ◌*◌, ◌<◌, ◌≤◌, ◌⊎◌, Bool, true, false, List, [], ◌∷◌, length, refl, sym, ap, subst, ◌∙◌, arith, Option, Some, None, inl, inr, ⊎_elim}
+use Rattle.std.proofs.Common.{◌≡◌, ℕ, zero, suc, ◌+◌, ◌*◌, ◌<◌, ◌≤◌, Bool, true, false, List, [], ◌∷◌, length, refl, sym, ap, ◌∙◌, arith, Option, Some, None, ⊎_elim}
 use Rattle.std.proofs.lemmas.Bool.{false≢true}
 use Rattle.std.proofs.lemmas.Nat.{mul-le}
 use Rattle.std.specs.Prelude.{if◌then◌else◌, nat_lt, slice_get}
-use Rattle.std.specs.Option.{is_none, option_map_or}
+use Rattle.std.specs.Option.{option_map_or}
 use Rattle.mb_mailbox.specs.declared.gate.Who.{Who}
 use Rattle.mb_world.specs.Agreement.{HasCompeted, ledger}
 use Rattle.mb_world.specs.Assignment.{is_consumer, items_where}
@@ -12,7 +12,7 @@ use Rattle.mb_world.specs.Report.{DiaryView, LaneView, ReportView, diary, is_beg
 use Rattle.mailbox_rounds.specs.Behind.{Terms}
 use Rattle.mailbox_rounds.specs.Carried.{times}
 use Rattle.mailbox_rounds.specs.Round.{IsPlayed}
-use Rattle.mailbox_rounds.proofs.Counts.{given_and_left, rests, shares, sum_below, sum_same}
+use Rattle.mailbox_rounds.proofs.Counts.{given_and_left, sum_below, sum_same}
 
 get_none : {X : Type 0} (xs : List X) (i : ℕ) → length xs ≤ i → slice_get xs i ≡ None
 get_none [] i far = refl

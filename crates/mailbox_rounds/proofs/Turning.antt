@@ -1,5 +1,5 @@
 -- What was handed in, turn by turn, is what was given out and what is carried.
-use Rattle.std.proofs.Common.{◌≡◌, ℕ, ◌+◌, List, [], ◌∷◌, ap, ◌∙◌, arith}
+use Rattle.std.proofs.Common.{◌≡◌, ℕ, ◌+◌, List, [], ◌∷◌, ap, arith}
 use Rattle.std.specs.List.{concat}
 use Rattle.mailbox_rounds.specs.Carried.{times}
 use Rattle.mailbox_rounds.specs.Turns.{AreCarriedAfter, Gave, HandedIn, Turn, given_out, handed_in}

@@ -1,4 +1,4 @@
-use Rattle.std.proofs.Common.{◌≡◌, ◌∙◌, ◌++◌, ◌-◌, ◌/◌, ap, arith, length, refl}
+use Rattle.std.proofs.Common.{◌∙◌, ◌++◌, ◌-◌, ◌/◌, ap, arith, length, refl}
 use Rattle.std.specs.List.{concat}
 use Rattle.mb_mailbox.specs.Worked.{lists_in}
 use Rattle.mailbox_rounds.proofs.Cutting.{dealt_more, last_has_all}

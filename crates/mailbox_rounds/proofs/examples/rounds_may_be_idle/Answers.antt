@@ -1,7 +1,6 @@
 use Rattle.std.proofs.Common.{◌≡◌, ◌∙◌, ◌*◌, [], ap, arith, refl, sym}
 use Rattle.mb_mailbox.specs.Below.{consumer_count}
 use Rattle.mb_mailbox.specs.Hubs.{hub_empty}
-use Rattle.mb_mailbox.specs.Mailboxes.{MailboxView}
 use Rattle.mb_mailbox.specs.Worked.{IsRunOf}
 use Rattle.mailbox_rounds.specs.RoundExamples.{at_each_call, at_no_call, idle_terms, no_lanes}
 use Rattle.mailbox_rounds.proofs.Played.{played}

@@ -1,4 +1,4 @@
-use Rattle.std.proofs.Common.{ℕ, [], ◌∷◌, refl, arith}
+use Rattle.std.proofs.Common.{[], ◌∷◌, refl, arith}
 use Rattle.mailbox_rounds.specs.TurnExamples.{two_rounds}
 use Rattle.mailbox_rounds.proofs.Counts.{times_first}
 use Rattle.mailbox_rounds.proofs.Turning.{all_there}

@@ -1,6 +1,6 @@
 use Rattle.std.proofs.Common.{◌≡◌, ◌∙◌, ap, length, map, rules, sym, vec_len}
 use Rattle.mb_mailbox.specs.Worked.{lists_in}
-use Rattle.mb_world.specs.Plan.{Plan, size_of}
+use Rattle.mb_world.specs.Plan.{size_of}
 use Rattle.mb_world.specs.Setups.{plan_in}
 use Rattle.mailbox_rounds.specs.Behind.{terms_of}
 use Rattle.mailbox_rounds.proofs.Cutting.{count_lists}

@@ -1,6 +1,3 @@
-use Rattle.std.proofs.Common.{◌≡◌, ◌∙◌, ap}
-use Rattle.mb_mailbox.specs.Worked.{lists_in}
-use Rattle.mb_world.specs.Setups.{plan_in}
 use Rattle.mailbox_rounds.proofs.Whole.{round_adds_up}
 use Rattle.mailbox_rounds.proofs.rounds.Rounds.round.Goals as goal
 
