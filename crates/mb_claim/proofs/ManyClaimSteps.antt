@@ -92,6 +92,15 @@ module _ {M : Type 0} (layout : Layout) (parts : PartsOf (quorums_of layout) (ki
     moved_on zero follows now some steps = absurd (some refl)
     moved_on (suc n) follows now some steps = all_go_on (suc n) follows now steps
 
+    -- no access was made: the claim and its place are as they were
+    pub stayed :
+        (n : ℕ) (at : Pc) (now : M) → n ≡ 0
+        → AreSteps (quorums_of layout) (DrawsAndMakes draws makes claim.object) claim.place start n (leads.Go at) now
+        → AreClaimSteps layout (DrawsAndMakesNext draws makes) claim start 0 (stood_at at claim.begun claim) now
+    stayed zero at now none steps =
+        (ap (λ pc. stood_at pc claim.begun claim) (sym (place_after zero at now steps)), steps.1)
+    stayed (suc n) at now none steps = absurd (omega (arith, none))
+
     stands_there :
         (n : ℕ) (at : Pc) (before : M)
         → AreSteps (quorums_of layout) (DrawsAndMakes draws makes claim.object) claim.place start n (leads.Go at) before

@@ -21,7 +21,7 @@ impl Claim {
     ghost use Rattle.mb_deciding.specs.Vocabulary.{most_turns};
     ghost use Rattle.mb_claim.specs.{Kind, Turn, ClaimOp, ObjectTurn, Going, Undecided, consumer_of, claim_stage, is_begun};
     ghost use Rattle.mb_claim.specs.{FitsLayout, IsClaimIn, IsNextOp, CanClaimFind, IsClaimStep, steps_left, step_of};
-    ghost use Rattle.mb_deciding.specs.declared.place.pc.Pc.TheVariants.{InRatifier};
+    ghost use Rattle.mb_deciding.specs.declared.place.pc.Pc.TheVariants.{InConciliator, InRatifier};
     ghost use Rattle.mb_deciding.specs.declared.place.ratifier.RatifierPlace.TheVariants.{Announce};
     ghost use Rattle.mb_claim.specs.{Pc, stage_for, placed_at, stood_at, AreClaimSteps, DrawsAndMakesNext};
     ghost use Rattle.mb_claim.specs.{quorums_of, kinds_of, consumer_count, most_accesses};
@@ -115,7 +115,8 @@ impl Claim {
     pub fn run<M: Drawing>(&mut self, layout: &Layout, memory: &mut M, most: u64) -> u64
         requires fits { FitsLayout layout.now self.old }
         requires may { (n word : ℕ) (at : Claim) (before mid : M) (next : ClaimOp)
-            → AreClaimSteps layout.now (DrawsAndMakesNext M.draws M.makes) self.old memory.old n at before
+            → AreClaimSteps layout.now (DrawsAndMakesNext M.draws M.makes) self.old memory.old n
+            at before
             → claim_stage at ≡ Going → M.draws before word mid → IsNextOp layout.now at next
             → M.can_make mid next.object next.op }
         ensures fits { FitsLayout layout.now self.new }
@@ -147,7 +148,8 @@ impl Claim {
         requires going { claim_stage self.old ≡ Going }
         requires fits { FitsLayout layout.now self.old }
         requires may { (n word : ℕ) (at : Claim) (before mid : M) (next : ClaimOp)
-            → AreClaimSteps layout.now (DrawsAndMakesNext M.draws M.makes) self.old memory.old n at before
+            → AreClaimSteps layout.now (DrawsAndMakesNext M.draws M.makes) self.old memory.old n
+            at before
             → claim_stage at ≡ Going → M.draws before word mid → IsNextOp layout.now at next
             → M.can_make mid next.object next.op }
         ensures fits { FitsLayout layout.now self.new }
@@ -155,10 +157,23 @@ impl Claim {
         ensures goes { result ≡ true → claim_stage self.new ≡ Going }
         ensures ends { result ≡ false → claim_stage self.new ≡ Going → left.new ≡ 0 }
         ensures steps { (n : ℕ) × (n + left.new ≡ left.old)
-            × AreClaimSteps layout.now (DrawsAndMakesNext M.draws M.makes) self.old memory.old n self.new memory.new }
+            × AreClaimSteps layout.now (DrawsAndMakesNext M.draws M.makes) self.old memory.old n
+            self.new memory.new }
     {
-        if let Pc::InConciliator(ConciliatorPlace::Draw { .. }) = self.place {
-            return self.run_object(layout, memory, left);
+        if let Pc::InConciliator(
+            ConciliatorPlace::Draw {
+                input,
+                limit,
+                modulus,
+            },
+        ) = self.place
+        {
+            let place = ConciliatorPlace::Draw {
+                input,
+                limit,
+                modulus,
+            };
+            return self.run_conciliator(layout, memory, left, place);
         }
         true
     }
@@ -170,7 +185,8 @@ impl Claim {
         requires going { claim_stage self.old ≡ Going }
         requires fits { FitsLayout layout.now self.old }
         requires may { (n word : ℕ) (at : Claim) (before mid : M) (next : ClaimOp)
-            → AreClaimSteps layout.now (DrawsAndMakesNext M.draws M.makes) self.old memory.old n at before
+            → AreClaimSteps layout.now (DrawsAndMakesNext M.draws M.makes) self.old memory.old n
+            at before
             → claim_stage at ≡ Going → M.draws before word mid → IsNextOp layout.now at next
             → M.can_make mid next.object next.op }
         ensures fits { FitsLayout layout.now self.new }
@@ -179,10 +195,12 @@ impl Claim {
         ensures ends { result ≡ false → claim_stage self.new ≡ Going → left.new ≡ 0 }
         ensures moves { left.old ≢ 0 → left.new < left.old }
         ensures steps { (n : ℕ) × (n + left.new ≡ left.old)
-            × AreClaimSteps layout.now (DrawsAndMakesNext M.draws M.makes) self.old memory.old n self.new memory.new }
+            × AreClaimSteps layout.now (DrawsAndMakesNext M.draws M.makes) self.old memory.old n
+            self.new memory.new }
     {
-        if let Pc::InRatifier(RatifierPlace::Announce { .. }) = self.place {
-            return self.run_object(layout, memory, left);
+        if let Pc::InRatifier(RatifierPlace::Announce { input, left: mask }) = self.place {
+            let place = RatifierPlace::Announce { input, left: mask };
+            return self.run_ratifier(layout, memory, left, place);
         }
         if *left == 0 {
             return false;
@@ -192,30 +210,80 @@ impl Claim {
         self.step(layout, memory, word).is_going()
     }
 
-    /// Makes accesses on the claim's object until it leads to the next one or to the claim's end, or nothing is left of the
-    /// budget, and tells whether the claim can make more then.
+    /// Makes accesses on the claim's object, a conciliator, from this place on, until it leads to the next one or nothing is
+    /// left of the budget, and tells whether the claim can make more then.
     #[inline(always)]
-    fn run_object<M: Drawing>(&mut self, layout: &Layout, memory: &mut M, left: &mut u64) -> bool
+    fn run_conciliator<M: Drawing>(
+        &mut self,
+        layout: &Layout,
+        memory: &mut M,
+        left: &mut u64,
+        place: ConciliatorPlace,
+    ) -> bool
         requires going { claim_stage self.old ≡ Going }
+        requires place { self.old.place ≡ InConciliator place }
         requires fits { FitsLayout layout.now self.old }
         requires may { (n word : ℕ) (at : Claim) (before mid : M) (next : ClaimOp)
-            → AreClaimSteps layout.now (DrawsAndMakesNext M.draws M.makes) self.old memory.old n at before
+            → AreClaimSteps layout.now (DrawsAndMakesNext M.draws M.makes) self.old memory.old n
+            at before
             → claim_stage at ≡ Going → M.draws before word mid → IsNextOp layout.now at next
             → M.can_make mid next.object next.op }
         ensures fits { FitsLayout layout.now self.new }
         ensures consumer { consumer_of self.new ≡ consumer_of self.old }
         ensures goes { result ≡ true → claim_stage self.new ≡ Going }
         ensures ends { result ≡ false → claim_stage self.new ≡ Going → left.new ≡ 0 }
-        ensures moves { (input mask : ℕ) → self.old.place ≡ InRatifier (Announce input mask)
-            → left.old ≢ 0 → left.new < left.old }
         ensures steps { (n : ℕ) × (n + left.new ≡ left.old)
-            × AreClaimSteps layout.now (DrawsAndMakesNext M.draws M.makes) self.old memory.old n self.new memory.new }
+            × AreClaimSteps layout.now (DrawsAndMakesNext M.draws M.makes) self.old memory.old n
+            self.new memory.new }
     {
         places_show_prefixes();
         let most = *left;
-        match self.place.run(&layout.table, memory, self.object, left) {
-            Next::Go(place) => {
-                self.place = place;
+        match place.run(&layout.table, memory, self.object, left) {
+            Next::Go(at) => {
+                self.place = at;
+                if *left == most {
+                    return most != 0;
+                }
+                self.begun = true;
+                *left != 0
+            }
+            Next::Out(out) => self.follow(layout, Some(out)).is_going(),
+        }
+    }
+
+    /// Makes accesses on the claim's object, a ratifier, from this place on, until it leads to the next one or to the claim's
+    /// end, or nothing is left of the budget, and tells whether the claim can make more then.
+    #[inline(always)]
+    fn run_ratifier<M: Drawing>(
+        &mut self,
+        layout: &Layout,
+        memory: &mut M,
+        left: &mut u64,
+        place: RatifierPlace,
+    ) -> bool
+        requires going { claim_stage self.old ≡ Going }
+        requires place { self.old.place ≡ InRatifier place }
+        requires fits { FitsLayout layout.now self.old }
+        requires may { (n word : ℕ) (at : Claim) (before mid : M) (next : ClaimOp)
+            → AreClaimSteps layout.now (DrawsAndMakesNext M.draws M.makes) self.old memory.old n
+            at before
+            → claim_stage at ≡ Going → M.draws before word mid → IsNextOp layout.now at next
+            → M.can_make mid next.object next.op }
+        ensures fits { FitsLayout layout.now self.new }
+        ensures consumer { consumer_of self.new ≡ consumer_of self.old }
+        ensures goes { result ≡ true → claim_stage self.new ≡ Going }
+        ensures ends { result ≡ false → claim_stage self.new ≡ Going → left.new ≡ 0 }
+        ensures moves { (input mask : ℕ) → place ≡ Announce input mask → left.old ≢ 0
+            → left.new < left.old }
+        ensures steps { (n : ℕ) × (n + left.new ≡ left.old)
+            × AreClaimSteps layout.now (DrawsAndMakesNext M.draws M.makes) self.old memory.old n
+            self.new memory.new }
+    {
+        places_show_prefixes();
+        let most = *left;
+        match place.run(&layout.table, memory, self.object, left) {
+            Next::Go(at) => {
+                self.place = at;
                 if *left == most {
                     return most != 0;
                 }

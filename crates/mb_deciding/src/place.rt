@@ -1,6 +1,6 @@
 //! The places of processes in deciding objects: where one begins, what it does next, and where that leads.
 use crate::access::Op;
-use crate::memory::{Drawing, Memory};
+use crate::memory::Memory;
 use crate::object::{Kind, Out};
 use mb_quorum::Quorums;
 
@@ -18,9 +18,7 @@ pub use pc::{Next, Pc};
 pub use ratifier::RatifierPlace;
 
 impl Pc {
-    ghost use Rattle.std.specs.Prelude.{◌≡◌, ◌≢◌, ◌<◌, ◌≤◌, ◌+◌, ℕ, List, [], ◌∷◌};
-    ghost use Rattle.mb_deciding.specs.{AreSteps, DrawsAndMakes, InRatifier, Announce};
-    ghost use Rattle.mb_deciding.specs.declared.place.pc.Next.TheVariants as leads;
+    ghost use Rattle.std.specs.Prelude.{◌≡◌, ◌<◌, ◌≤◌, ℕ, List, [], ◌∷◌};
     ghost use Rattle.mb_quorum.specs.Quorum.{QuorumTable};
     ghost use Rattle.mb_deciding.specs.{Op, Turn, Kind, Conciliator, Ratifier, LastObject, IsAt, IsPlace, IsOpAt, IsNext};
     ghost use Rattle.mb_deciding.specs.{IsReached, CanFind, act_of, IsStep, next_from, turns_left, turns_after, most_turns};
@@ -144,38 +142,6 @@ impl Pc {
             Pc::InConciliator(place) => place.step(q.values(), memory, object, word),
             Pc::InRatifier(place) => place.step(q, memory, object),
             Pc::InLast(place) => Some(place.step(q.values(), memory, object)),
-        }
-    }
-
-    /// Makes accesses to the object with this number in this memory, each with a random word that is drawn for it, until
-    /// the process has its output or nothing is left of the budget. They are those of as many calls of [`Pc::step`]. From a
-    /// place other than the first of a conciliator or of a ratifier that has a table it may stop before.
-    #[inline(always)]
-    pub fn run<Q: Quorums, M: Drawing>(
-        self,
-        q: &Q,
-        memory: &mut M,
-        object: u32,
-        left: &mut u64,
-    ) -> Next
-        requires place { IsPlace (Q.table q.now) self }
-        requires may { (n word : ℕ) (at : Pc) (before mid : M) (op : Op)
-            → AreSteps (Q.table q.now) (DrawsAndMakes M.draws M.makes object) self
-            memory.old n (leads.Go at) before
-            → M.draws before word mid → IsOpAt (Q.table q.now) at op → M.can_make mid object op }
-        ensures fits { IsNext (Q.table q.now) result }
-        ensures steps { (n : ℕ) × (n + left.new ≡ left.old)
-            × AreSteps (Q.table q.now) (DrawsAndMakes M.draws M.makes object) self
-            memory.old n result memory.new }
-
-        // A process that is to announce its input makes one access at least, if the budget has one.
-        ensures moves { (input mask : ℕ) → self ≡ InRatifier (Announce input mask) → left.old ≢ 0
-            → left.new < left.old }
-    {
-        match self {
-            Pc::InConciliator(place) => place.run(q, memory, object, left),
-            Pc::InRatifier(place) => place.run(q, memory, object, left),
-            Pc::InLast(_) => Next::Go(self),
         }
     }
 }

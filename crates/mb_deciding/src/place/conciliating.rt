@@ -95,7 +95,7 @@ impl ConciliatorPlace {
     /// Makes accesses in a conciliator, from the first one on, until the process has its output or nothing is left of the
     /// budget. A process that has stored, or looks, does not move.
     #[inline(always)]
-    pub(crate) fn run<Q: Quorums, M: Drawing>(
+    pub fn run<Q: Quorums, M: Drawing>(
         self,
         q: &Q,
         memory: &mut M,

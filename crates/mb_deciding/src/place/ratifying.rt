@@ -86,7 +86,7 @@ impl RatifierPlace {
     /// Makes accesses in a ratifier, from the announcement on, until the process has its output or nothing is left of the
     /// budget. A process at another place does not move.
     #[inline(always)]
-    pub(crate) fn run<Q: Quorums, M: Drawing>(
+    pub fn run<Q: Quorums, M: Drawing>(
         self,
         q: &Q,
         memory: &mut M,
