@@ -1,3 +1,4 @@
+mod ManyClaimSteps
 pub mod Lists
 pub mod FirstPlaces
 pub mod Turns

@@ -10,6 +10,7 @@ pub mod Rows
 pub mod Layouts
 pub mod States
 pub mod OneClaim
+pub mod ManyClaimSteps
 pub mod Refusals
 pub mod Plays
 pub mod Boards
@@ -28,6 +29,7 @@ pub use Standing.*
 pub use Layouts.*
 pub use States.*
 pub use OneClaim.*
+pub use ManyClaimSteps.*
 pub use Refusals.*
 pub use Plays.*
 pub use Boards.*

@@ -16,6 +16,7 @@ pub use Rattle.mb_claim.specs.States.{after_op, step_of, found_in, access_in, wo
 pub use Rattle.mb_claim.specs.OneClaim.{consumer_of, claim_stage, is_begun, FitsLayout, CanClaimFind, IsClaimIn}
 pub use Rattle.mb_claim.specs.OneClaim.{steps_left_at, steps_left, claim_access, IsOnObject, IsNextOp, IsClaimOn}
 pub use Rattle.mb_claim.specs.OneClaim.{IsClaimStep}
+pub use Rattle.mb_claim.specs.ManyClaimSteps.{DrawsAndMakesNext, AreClaimSteps}
 pub use Rattle.mb_claim.specs.Refusals.{layout_refusal, stranger_in}
 pub use Rattle.mb_claim.specs.Plays.{entry_consumer, with_entry, history_from, history_of, IsEntryAfter, AreEntriesOf}
 pub use Rattle.mb_claim.specs.Plays.{IsPlayed}

@@ -42,6 +42,9 @@ pub fn claims_are_bounded()
         → IsQuorumTable t
         → IsClaimLawful (claims_of t (row_of shape (spread t.values) n) cells) h
         → length (part_on c k h) ≤ shaped_steps t shape n }
+    ensures layouts { (layout : Layout) (cells : ℕ) (h : List ClaimAccess) (c k : ℕ)
+        → IsClaimLawful (claims_in layout cells) h
+        → length (part_on c k h) ≤ most_accesses layout }
 
     // A row of pairs alone allows `max_steps`. A fast path adds two ratifiers to that, and a last object one access.
     ensures plain { (t : QuorumTable) (n : ℕ) → shaped_steps t plain n ≡ max_steps t n }

@@ -16,6 +16,7 @@ pub mod Owed
 pub mod ConciliatorPlaces
 pub mod Lasts
 mod OneStep
+mod ManySteps
 pub mod RatifierStepping
 pub mod ConciliatorStepping
 pub mod Stepping

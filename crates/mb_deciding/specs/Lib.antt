@@ -8,6 +8,7 @@ pub mod Objects
 pub mod Deciding
 pub mod Place
 pub mod OneStep
+pub mod ManySteps
 pub mod Bounds
 pub mod Trace
 pub mod Spread
@@ -26,6 +27,7 @@ pub use Objects.*
 pub use Deciding.*
 pub use Place.*
 pub use OneStep.*
+pub use ManySteps.*
 pub use Bounds.*
 pub use Trace.*
 pub use Spread.*

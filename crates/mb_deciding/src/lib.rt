@@ -52,7 +52,7 @@ mod trace;
 
 pub use access::{Access, Act, Op, Reg, Turn};
 pub use attempts::spread;
-pub use memory::Memory;
+pub use memory::{Drawing, Memory};
 pub use object::{Kind, Out};
 pub use place::{ConciliatorPlace, LastPlace, Next, Pc, RatifierPlace};
 pub use run::conciliate::conciliate;

@@ -18,3 +18,15 @@ pub trait Memory {
         requires { can_make self.old object op }
         ensures { makes self.old object op result self.new };
 }
+
+/// A memory with a source of random words.
+pub trait Drawing: Memory {
+    ghost use Rattle.std.specs.Prelude.{ℕ};
+
+    /// This word was drawn. At last the memory after it.
+    ghost draws: { Self → ℕ → Self → Type 0 };
+
+    /// Draws the random word of the next access.
+    fn draw(&mut self) -> u64
+        ensures { draws self.old result self.new };
+}

@@ -1,9 +1,9 @@
 -- Where a poll begins with a claim, and one access more of it.
-use Rattle.std.proofs.Common.{◌≡◌, ℕ, ◌+◌, ◌<◌, List, length, sym, ap, ◌∙◌, subst, arith}
+use Rattle.std.proofs.Common.{◌≡◌, ℕ, zero, suc, ◌+◌, ◌<◌, List, length, sym, ap, ◌∙◌, subst, arith}
 use Rattle.std.specs.Prelude.{Some, None, slice_get, sum_by}
 use Rattle.mb_claim.specs.declared.access.Stage.TheVariants as stage
-use Rattle.mb_shared_claims.specs.Vocabulary.{IsSeatStep}
-use Rattle.mb_mailbox.specs.Below.{Claim, ClaimTable, IsClaimIn, ReaderSeatView, SeatView, Stream, TableSize, claim_stage, consumer_of, next_u64, note_of, part_on}
+use Rattle.mb_shared_claims.specs.Vocabulary.{AreSeatSteps, IsSeatStep}
+use Rattle.mb_mailbox.specs.Below.{Claim, ClaimTable, IsClaimIn, Layout, ReaderSeatView, SeatView, Stream, TableSize, claim_stage, consumer_of, next_u64, note_of, part_on}
 use Rattle.mb_mailbox.specs.declared.place.Place.{Place}
 use Rattle.mb_mailbox.specs.declared.place.Place.TheVariants.{At}
 use Rattle.mb_mailbox.specs.Consumers.{ConsumerView, IsConsumer, IsConsumerOf}
@@ -66,3 +66,30 @@ module _ (m : MailboxView) (p k : ℕ) (claim : Claim) (reader : ReaderSeatView)
       start.loads table going so step.adds (still ∙ own) turned drawn in
       let count : made + n + 1 ≡ made + 1 + n = omega arith in
       subst (λ z. HasCompeted p k z next t v from s after) count more
+
+  -- the claim that accesses in a row leave is the consumer's
+  pub ran_own :
+      (layout : Layout) (u : Stream) → consumer_of claim ≡ seat.consumer → (made : ℕ) (follows : Claim) (after : SeatView) (v : Stream)
+      → AreSeatSteps layout k claim seat u made follows after v → consumer_of follows ≡ after.consumer
+  ran_own layout u own zero follows after v (is, keeps, e) =
+      ap consumer_of is ∙ own ∙ sym (ap (λ (z : SeatView). z.consumer) keeps)
+  ran_own layout u own (suc made) follows after v (at, before, w, word, older, going, drawn, step, still, stands) =
+      still ∙ ran_own layout u own made at before w older ∙ sym (ap (λ (z : SeatView). z.consumer) step.adds)
+
+  -- and they led the consumer on
+  pub ran :
+      MovesOn → IsNext → (now : MailboxView) → now ≡ m → consumer_of claim ≡ seat.consumer → (from : ConsumerView) (n : ℕ) (t u : Stream)
+      → AreSteps p n None t u from s → (made : ℕ) (follows : Claim) (after : SeatView) (v : Stream)
+      → AreSeatSteps now.claims.layout k claim seat u made follows after v → HasCompeted p k (made + n) follows t v from s after
+  ran moves nexts now same own from n t u so zero follows after v (is, keeps, e) =
+      let none : n ≡ 0 + n = omega arith in
+      subst (λ z. HasCompeted p k z follows t v from s after) none
+      (subst (λ c. HasCompeted p k n c t v from s after) (sym is)
+      (subst (λ x. HasCompeted p k n claim t v from s x) (sym keeps)
+      (subst (λ x. HasCompeted p k n claim t x from s seat) (sym e) (begun from n t u so))))
+  ran moves nexts now same own from n t u so (suc made) follows after v (at, before, w, word, older, going, drawn, step, still, stands) =
+      let count : made + 1 + n ≡ suc made + n = omega arith in
+      subst (λ z. HasCompeted p k z follows t v from s after) count
+      (stepped moves nexts now same from made n word at follows before after t w v going
+      (ran moves nexts now same own from n t u so made at before w older) step
+      (ran_own now.claims.layout u own made at before w older) still stands drawn)

@@ -4,5 +4,6 @@ pub mod Plans
 pub mod Moves
 pub mod Accesses
 pub mod ClaimMoves
+pub mod Running
 pub mod Names
 pub mod Closing

@@ -4,6 +4,7 @@ pub mod ViewSteps
 pub mod Rule
 pub mod Seats
 pub mod SeatSteps
+pub mod ManySeatSteps
 pub mod Vocabulary
 -- what clauses name stands here, too
 pub use Types.*
@@ -12,3 +13,4 @@ pub use ViewSteps.*
 pub use Rule.*
 pub use Seats.*
 pub use SeatSteps.*
+pub use ManySeatSteps.*

@@ -4,3 +4,4 @@ pub use Rattle.mb_shared_claims.specs.ViewSteps.{ComesAfter}
 pub use Rattle.mb_shared_claims.specs.Seats.{ClaimTable, TableView, name_of, claims_at, HubView, SeatView}
 pub use Rattle.mb_shared_claims.specs.Seats.{AreOfOneHistory, IsLawfulPart, count_out, taken_part}
 pub use Rattle.mb_shared_claims.specs.SeatSteps.{access_of, with_access, IsSeatStep}
+pub use Rattle.mb_shared_claims.specs.ManySeatSteps.{AreSeatSteps}

@@ -1,4 +1,5 @@
 //! The table: the words of the claims, and the roster.
+mod run;
 mod step;
 
 use crate::hub::{AllGiven, ClaimHub};

@@ -21,7 +21,6 @@ use crate::mailbox::Mailbox;
 use crate::notes::Notes;
 use crate::place::Place;
 use arrayvec::ArrayVec;
-use mb_claim::laws::{claims_have_steps_left, last_objects_decide_claims};
 use mb_claim::{Claim, Stage};
 use mb_shared_cells::ReaderSeat;
 use mb_shared_claims::ClaimSeat;
@@ -95,8 +94,6 @@ pub(super) fn pursue<A: Allocator + Drop, B: Allocator + Drop, R: Rng>(
 {
     consumers_move_on();
     places_tell_steps();
-    claims_have_steps_left();
-    last_objects_decide_claims();
     reader.has_history();
     let Held {
         lane,
@@ -107,27 +104,26 @@ pub(super) fn pursue<A: Allocator + Drop, B: Allocator + Drop, R: Rng>(
     if let Stage::Won = claim.stage() {
         return Poll::Took(take(places, notes, reader, mailbox, lane, cell));
     }
-    for made in 0..most {
-        let word = rng.next_u64();
-        match mailbox.claims.step(seat, &mut claim, cell, word) {
-            Stage::Going => {}
-            Stage::Won => {
-                if made + 1 < most {
-                    return Poll::Took(take(places, notes, reader, mailbox, lane, cell));
-                }
-                stay(places, p, cell, claim);
-                return Poll::Spent;
+    let made = mailbox.claims.run(seat, &mut claim, cell, rng, most);
+    match claim.stage() {
+        Stage::Going => {
+            stay(places, p, cell, claim);
+            Poll::Spent
+        }
+        Stage::Won => {
+            if made < most {
+                return Poll::Took(take(places, notes, reader, mailbox, lane, cell));
             }
-            Stage::Lost(w) => {
-                leave(places, notes, lane, cell, Note::Lost(w));
-                return Poll::Lost(w);
-            }
-            Stage::Undecided => {
-                leave(places, notes, lane, cell, Note::Undecided);
-                return Poll::Undecided;
-            }
+            stay(places, p, cell, claim);
+            Poll::Spent
+        }
+        Stage::Lost(w) => {
+            leave(places, notes, lane, cell, Note::Lost(w));
+            Poll::Lost(w)
+        }
+        Stage::Undecided => {
+            leave(places, notes, lane, cell, Note::Undecided);
+            Poll::Undecided
         }
     }
-    stay(places, p, cell, claim);
-    Poll::Spent
 }

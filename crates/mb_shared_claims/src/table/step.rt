@@ -61,7 +61,13 @@ impl<A: Allocator + Drop> SharedClaims<A> {
     /// Makes an access of a claim that may come next, and returns the value that a load or an exchange found, or any value
     /// after a store.
     #[inline(always)]
-    fn make<W: Made>(&self, seat: &mut ClaimSeat, cell: u32, next: ClaimOp, word: u64) -> u64
+    pub(super) fn make<W: Made>(
+        &self,
+        seat: &mut ClaimSeat,
+        cell: u32,
+        next: ClaimOp,
+        word: u64,
+    ) -> u64
         requires table { seat.old.table ≡ name_of self.now }
         requires cell { cell < self.now.cells }
         requires word { HasWord self.now.layout next.object (reg_of next.op) }

@@ -1,6 +1,7 @@
 use Rattle.std.proofs.Common.{◌≤◌, length, subst, arith}
 use Rattle.mb_deciding.specs.Vocabulary.{object_of}
-use Rattle.mb_claim.specs.{part_on}
+use Rattle.mb_claim.specs.{part_on, quorums_of}
+use Rattle.mb_claim.proofs.LayoutObjects.{quorums_lawful}
 use Rattle.mb_claim.proofs.Bounds.{claim_bounded, pairs_steps, row_steps}
 use Rattle.mb_claim.proofs.laws.claims_are_bounded.Goals as goal
 
@@ -20,6 +21,10 @@ returns-clause-rows c t shape n cells h d k quorum lawful =
     subst (λ most. length (part_on d k h) ≤ most) (row_steps t shape n)
     (claim_bounded _ (λ kind inputs. c.objects_keep_their_promises.ensures
     (object_of t kind inputs) quorum) h d k lawful)
+
+pub returns-clause-layouts : goal.returns-clause-layouts
+returns-clause-layouts c layout cells h d k =
+    returns-clause-rows c (quorums_of layout) layout.shape layout.pairs cells h d k (quorums_lawful layout)
 
 pub returns-clause-plain : goal.returns-clause-plain
 returns-clause-plain c t n = omega arith

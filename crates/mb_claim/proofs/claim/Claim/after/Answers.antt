@@ -8,7 +8,7 @@ pub returns-in-Go-clause-path : goal.returns-in-Go-clause-path
 returns-in-Go-clause-path c xs next of is finds =
     let turn : Turn = record { act = act_of next.op c.args.seen; word = c.args.word } in
     subst (λ o. IsClaimIn c.args.layout.now c.follow.new.self (record { object = o; turn = turn } ∷ xs)) (sym is.object)
-    (c.follow.ensures.path c.args.self.now.place xs turn of
+    (c.follow.ensures.path c.args.self.now.place c.args.self.now.begun xs turn of
     (λ kind v turns at. c.in-Go.ensures.reached kind v turns next.op at is.op finds))
 
 pub returns-in-Out-clause-path : goal.returns-in-Out-clause-path
@@ -16,5 +16,5 @@ returns-in-Out-clause-path c xs next of is finds =
     let turn : Turn = record { act = act_of next.op c.args.seen; word = c.args.word } in
     subst (λ o. IsClaimIn c.args.layout.now c.follow-in-Out.new.self (record { object = o; turn = turn } ∷ xs))
     (sym is.object)
-    (c.follow-in-Out.ensures.path c.args.self.now.place xs turn of
+    (c.follow-in-Out.ensures.path c.args.self.now.place c.args.self.now.begun xs turn of
     (λ kind v turns at. c.in-Out.ensures.reached kind v turns next.op at is.op finds))

@@ -24,7 +24,7 @@ as_answer : (t : QuorumTable) (kind : Kind) (v : ℕ) (turns : List Turn) (out :
 as_answer t kind v turns out d e path = subst (λ b. IsPath t kind v turns (answer b out.value)) e path
 
 pub returns-in-None-clause-path : goal.returns-in-None-clause-path
-returns-in-None-clause-path c pc xs x of reaches =
+returns-in-None-clause-path c pc begun xs x of reaches =
     let layout = c.args.layout.now in
     let t = quorums_of layout in
     let kinds = kinds_of layout in
@@ -40,7 +40,7 @@ returns-in-None-clause-path c pc xs x of reaches =
     (same_object t kinds old.consumer old.object pc xs p x old.place come)
 
 pub returns-in-Some-clause-path : goal.returns-in-Some-clause-path
-returns-in-Some-clause-path c pc xs x of reaches =
+returns-in-Some-clause-path c pc begun xs x of reaches =
     let layout = c.args.layout.now in
     let t = quorums_of layout in
     let kinds = kinds_of layout in
@@ -57,7 +57,7 @@ returns-in-Some-clause-path c pc xs x of reaches =
     (slice_get kinds (old.object + 1)) refl c.pass.ensures.next
 
 pub returns-in-Some-2-clause-path : goal.returns-in-Some-2-clause-path
-returns-in-Some-2-clause-path c pc xs x of reaches =
+returns-in-Some-2-clause-path c pc begun xs x of reaches =
     let layout = c.args.layout.now in
     let t = quorums_of layout in
     let kinds = kinds_of layout in

@@ -1,0 +1,26 @@
+-- Accesses of a claim, one after the other, in a memory with a source of random words.
+use Rattle.std.specs.Prelude.{ℕ, zero, suc, ◌≡◌, Bool, true}
+use Rattle.mb_claim.specs.ObjectTypes.{Pc}
+use Rattle.mb_claim.specs.Types.{Claim, ClaimOp, Going, Layout}
+use Rattle.mb_deciding.specs.declared.access.Op.{Op}
+use Rattle.mb_claim.specs.OneClaim.{claim_stage, consumer_of, IsClaimStep}
+
+-- the claim as it is at this place on its object, begun or not
+abbrev pub stood_at : Pc → Bool → Claim → Claim
+stood_at pc begun claim =
+    record { consumer = claim.consumer; object = claim.object; place = pc; stage = claim.stage; begun = begun }
+
+module _ {M : Type 0} where
+  -- a word was drawn, and an access was then made and found this value
+  abbrev pub DrawsAndMakesNext : (M → ℕ → M → Type 0) → (M → ℕ → Op → ℕ → M → Type 0) → M → ℕ → ClaimOp → ℕ → M → Type 0
+  DrawsAndMakesNext draws makes before word next seen now =
+      (mid : M) × draws before word mid × makes mid next.object next.op seen now
+
+  -- from a claim and a memory on, so many accesses led to the claim that follows, and to another memory: each is the next
+  -- one of a claim that goes on, with the random word that was drawn for it, and leaves the claim with its consumer
+  abbrev pub AreClaimSteps : Layout → (M → ℕ → ClaimOp → ℕ → M → Type 0) → Claim → M → ℕ → Claim → M → Type 0
+  AreClaimSteps layout makes claim start zero follows now = (follows ≡ claim) × (now ≡ start)
+  AreClaimSteps layout makes claim start (suc n) follows now =
+      (at : Claim) × (before : M) × (word : ℕ) × AreClaimSteps layout makes claim start n at before
+      × (claim_stage at ≡ Going) × (consumer_of follows ≡ consumer_of at)
+      × IsClaimStep layout at (λ next seen. makes before word next seen now) word follows

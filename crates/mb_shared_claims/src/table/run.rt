@@ -1,0 +1,122 @@
+//! Many steps of a claim on the words of a table, each with a random word of its own.
+ghost use Rattle.std.specs.Prelude.{◌<◌, ◌^◌};
+
+use crate::rule::Makes;
+use crate::seat::ClaimSeat;
+use crate::table::SharedClaims;
+use mb_claim::laws::{claims_are_bounded, last_objects_decide_claims};
+use mb_claim::steps::{accesses_lengthen_one_part, claims_make_steps};
+use mb_claim::{Claim, ClaimOp};
+use mb_deciding::{Drawing, Memory, Op};
+use rand_core::Rng;
+use std::alloc::Allocator;
+use std::marker::Brand;
+
+impl<A: Allocator + Drop> SharedClaims<A> {
+    ghost use Rattle.std.specs.Prelude.{◌≡◌, ◌≢◌, ◌<◌, ◌≤◌, true};
+    ghost use Rattle.mb_claim.specs.Vocabulary.{IsClaimIn, claim_stage, consumer_of, most_accesses, part_on, shape_of};
+    ghost use Rattle.mb_claim.specs.declared.access.Stage.TheVariants.{Undecided};
+    ghost use Rattle.mb_shared_claims.specs.{Going, name_of, AreSeatSteps};
+
+    /// Makes accesses of a claim of the seat's consumer on a cell, each with the next word of the source, until the claim has
+    /// come to its end or so many were made, and returns how many. They are those of as many calls of [`SharedClaims::step`].
+    #[inline(always)]
+    pub fn run<R: Rng>(
+        &self,
+        seat: &mut ClaimSeat,
+        claim: &mut Claim,
+        cell: u32,
+        rng: &mut R,
+        most: u64,
+    ) -> u64
+        requires table { seat.old.table ≡ name_of self.now }
+        requires cell { cell < self.now.cells }
+        requires consumer { consumer_of claim.old ≡ seat.old.consumer }
+        requires standing { IsClaimIn self.now.layout claim.old
+            (part_on seat.old.consumer cell seat.old.part) }
+
+        // Each access is the next one of the claim, with the next word of the source.
+        ensures steps { AreSeatSteps self.now.layout cell claim.old seat.old (R.stream rng.old) result
+            claim.new seat.new (R.stream rng.new) }
+        ensures within { result ≤ most }
+        ensures all { claim_stage claim.new ≡ Going → result ≡ most }
+
+        // So the claim has made what its consumer then has done on the cell, and no more than its layout allows.
+        ensures standing { IsClaimIn self.now.layout claim.new
+            (part_on seat.new.consumer cell seat.new.part) }
+        ensures consumer { consumer_of claim.new ≡ consumer_of claim.old }
+        ensures few { result ≤ most_accesses self.now.layout }
+
+        // With a last object no claim is undecided.
+        ensures decided { (shape_of self.now.layout).last ≡ true → claim_stage claim.new ≢ Undecided }
+    {
+        claims_make_steps();
+        claims_are_bounded();
+        accesses_lengthen_one_part();
+        last_objects_decide_claims();
+        let mut memory = DrawingWords {
+            table: self,
+            seat: &mut *seat,
+            cell,
+            word: 0,
+            rng: &mut *rng,
+        };
+        claim.run(&self.size.layout, &mut memory, most)
+    }
+}
+
+/// The words of a cell, as a seat makes accesses to them, each with the next word of a source.
+#[derive(Drop)]
+struct DrawingWords<'a, A: Allocator + Drop, R: Rng> {
+    table: &'a SharedClaims<A>,
+    seat: &'a mut ClaimSeat,
+    cell: u32,
+    word: u64,
+    rng: &'a mut R,
+}
+
+impl<'a, A: Allocator + Drop, R: Rng> Memory for DrawingWords<'a, A, R> {
+    ghost use Rattle.std.specs.Prelude.{◌≡◌, ◌<◌};
+    ghost use Rattle.mb_deciding.specs.Vocabulary.{reg_of};
+    ghost use Rattle.mb_claim.specs.Vocabulary.{HasWord, claims_in};
+    ghost use Rattle.mb_shared_claims.specs.{name_of, MayComeNext, ComesAfter, access_of, with_access};
+
+    ghost can_make = { λ m object op. (m.seat.now.table ≡ name_of m.table.now)
+        × (m.cell < m.table.now.cells)
+        × HasWord m.table.now.layout object (reg_of op)
+        × MayComeNext (claims_in m.table.now.layout m.table.now.cells) m.seat.now.consumer m.cell
+        m.seat.now.part (record { object = object; op = op }) };
+
+    ghost makes = { λ m object op seen after.
+        let a = access_of m.seat.now.consumer m.cell (record { object = object; op = op }) seen
+        m.word in
+        (after.seat.now ≡ with_access a m.seat.now)
+        × ComesAfter (claims_in m.table.now.layout m.table.now.cells) a m.seat.now.part
+        × (R.stream after.rng.now ≡ R.stream m.rng.now)
+        × (after.table.now ≡ m.table.now) × (after.cell ≡ m.cell)
+        × (after.seat.ghost_name ≡ m.seat.ghost_name) × (after.rng.ghost_name ≡ m.rng.ghost_name) };
+
+    #[inline(always)]
+    fn perform(&mut self, object: u32, op: Op) -> u64 {
+        self.table
+            .make::<Brand>(self.seat, self.cell, ClaimOp { object, op }, self.word)
+    }
+}
+
+impl<'a, A: Allocator + Drop, R: Rng> Drawing for DrawingWords<'a, A, R> {
+    ghost use Rattle.std.specs.Prelude.{◌≡◌};
+    ghost use Rattle.rand_core.specs.Stream.{next_u64};
+
+    ghost draws = { λ m word after.
+        ((word, R.stream after.rng.now) ≡ next_u64 (R.stream m.rng.now))
+        × (after.word ≡ word) × (after.seat.now ≡ m.seat.now)
+        × (after.table.now ≡ m.table.now) × (after.cell ≡ m.cell)
+        × (after.seat.ghost_name ≡ m.seat.ghost_name) × (after.rng.ghost_name ≡ m.rng.ghost_name) };
+
+    #[inline(always)]
+    fn draw(&mut self) -> u64 {
+        let word = self.rng.next_u64();
+        self.word = word;
+        word
+    }
+}
