@@ -1,7 +1,6 @@
 //! The options of the command `run`, on the command line.
-ghost use Rattle.std.specs.Prelude.{◌≡◌, ◌≤◌, Some, false, IfOk};
-ghost use Rattle.clap.specs.Words.{app_of, found_of, new_app, new_rule, rows_of, rule_of};
-ghost use Rattle.clap.specs.declared.builder.action.ArgAction.TheVariants.{Set};
+ghost use Rattle.std.specs.Prelude.{◌≡◌, ◌≤◌, false, IfOk};
+ghost use Rattle.clap.specs.Words.{app_of, found_of, new_app, rows_of, rule_of};
 ghost use Rattle.clap.specs.declared.builder.command.Command.TheViews.{out-Command as fields_of};
 ghost use Rattle.mb_program.specs.CommandLine.{IsRunApp, any_number, number_rule, named_rule};
 ghost use Rattle.mb_program.specs.RunOptions.{budget_in, number_in, options_in, shape_in};
@@ -62,22 +61,6 @@ pub(crate) fn command_named<'a>(
     Command::new(alloc, name).about(about).after_help(more)
 }
 
-/// An option that takes one value, of which the help speaks by this word.
-fn option<'a>(alloc: Global, name: &'a str, value: &'a str, meaning: &'a str) -> Arg<'a>
-    ensures rule { rule_of result ≡ record (new_rule name.entry.now) {
-      long = Some name.entry.now;
-      action = Some Set;
-      value_names = 1;
-    } }
-    ensures local { result.global ≡ false }
-{
-    Arg::new(alloc, name)
-        .long(name)
-        .value_name(value)
-        .help(meaning)
-        .action(ArgAction::Set)
-}
-
 /// An option that takes a number from `low` to `high`.
 fn number<'a>(
     alloc: Global,
@@ -90,7 +73,11 @@ fn number<'a>(
     ensures rule { rule_of result ≡ number_rule name.entry.now default.entry.now low high }
     ensures local { result.global ≡ false }
 {
-    option(alloc, name, "N", meaning)
+    Arg::new(alloc, name)
+        .long(name)
+        .value_name("N")
+        .help(meaning)
+        .action(ArgAction::Set)
         .value_parser(ValueParser::unsigned(low, high))
         .default_value(default)
 }
@@ -114,7 +101,11 @@ fn named<'a>(
     ensures rule { rule_of result ≡ named_rule name.entry.now default.entry.now names.entry }
     ensures local { result.global ≡ false }
 {
-    option(alloc, name, "NAME", meaning)
+    Arg::new(alloc, name)
+        .long(name)
+        .value_name("NAME")
+        .help(meaning)
+        .action(ArgAction::Set)
         .value_parser(ValueParser::Names(names))
         .default_value(default)
 }
