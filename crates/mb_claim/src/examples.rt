@@ -1,6 +1,7 @@
 //! Small histories and runs of the claims of two consumers on one cell: what the definitions let in, and what they keep
 //! out. The functions compute nothing. The proofs begin in `proofs/examples`.
-ghost use Rattle.std.specs.Prelude.{true, false, [], ◌∷◌};
+ghost use Rattle.std.specs.Prelude.{ℕ, ◌≡◌, ◌≢◌, ◌+◌, true, false, [], ◌∷◌};
+ghost use Rattle.mb_claim.specs.{AreClaimSteps, Claim, Layout, claim_stage};
 ghost use Rattle.mb_claim.specs.declared.run.ClaimEntry.TheVariants as entry;
 ghost use Rattle.mb_claim.specs.{Load, Store, Value, Quorum, IsClaimLawful, HasStage, IsClaimContested, Going, Won};
 ghost use Rattle.mb_claim.specs.{Lost, Undecided, two_consumers, won_and_lost, both_undecided, begun_again};
@@ -120,3 +121,15 @@ pub fn runs_are_told_from_others()
     objects_keep_their_promises();
     small_histories();
 }
+
+/// Rows of accesses of a claim, in a memory that counts them.
+pub fn rows_of_accesses()
+    // No access leaves the claim and the memory as they are.
+    ensures none { (layout : Layout) (claim : Claim) (m : ℕ)
+        → AreClaimSteps layout (λ before word next seen now. now ≡ before + 1) claim m 0 claim m }
+
+    // A claim that has come to its end makes none.
+    ensures ended { (layout : Layout) (claim follows : Claim) (m now : ℕ) → claim_stage claim ≢ Going
+        → AreClaimSteps layout (λ before word next seen now. now ≡ before + 1) claim m 1 follows now
+        → ⊥ }
+{}

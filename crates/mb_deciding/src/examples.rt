@@ -1,8 +1,11 @@
 //! Small histories and traces of one process, and histories of a last object: what the definitions let in, and what they
 //! keep out. The functions compute nothing. The proofs begin in `proofs/examples`; the lemmas are in
 //! `proofs/SmallHistories.antt`, `SmallLasts.antt` and `SmallTraces.antt`.
-ghost use Rattle.std.specs.Prelude.{ℕ, ◌≡◌, Bool, true, false, Some, None, [], ◌∷◌, ◌++◌};
+ghost use Rattle.std.specs.Prelude.{ℕ, ◌≡◌, ◌+◌, Bool, true, false, Some, None, [], ◌∷◌, ◌++◌};
 ghost use Rattle.mb_quorum.specs.Unary.{unary_table};
+ghost use Rattle.mb_quorum.specs.Quorum.{QuorumTable};
+ghost use Rattle.mb_deciding.specs.{AreSteps, Out, Pc};
+ghost use Rattle.mb_deciding.specs.declared.place.pc.Next.TheVariants as leads;
 ghost use Rattle.mb_deciding.specs.{Words, Conciliator, Ratifier, LastObject, Proposal, Quorum, Last, Load, Store};
 ghost use Rattle.mb_deciding.specs.{Exchange, setup_of, value_in, IsPath, small_last, first_decides, turn};
 ghost use Rattle.mb_deciding.specs.{found_empty_twice, stored_over, loaded_then_stored};
@@ -100,4 +103,20 @@ pub fn small_traces()
     ensures words { (words : Words) → IsMemory words (history_of_one clear_run)
         → (word_of words Proposal ≡ 1) × (word_of words (Quorum 0) ≡ 1) ×
         (word_of words (Quorum 1) ≡ 0) }
+{}
+
+/// Rows of accesses of a process, in a memory that counts them.
+pub fn rows_of_accesses()
+    // No access leaves the place and the memory as they are.
+    ensures none { (t : QuorumTable) (pc : Pc) (m : ℕ)
+        → AreSteps t (λ before word op seen now. now ≡ before + 1) pc m 0 (leads.Go pc) m }
+
+    // It gives no output.
+    ensures output { (t : QuorumTable) (pc : Pc) (out : Out) (m now : ℕ)
+        → AreSteps t (λ before word op seen now. now ≡ before + 1) pc m 0 (leads.Out out) now → ⊥ }
+
+    // One access is counted once.
+    ensures one { (t : QuorumTable) (pc : Pc) (out : Out) (m now : ℕ)
+        → AreSteps t (λ before word op seen now. now ≡ before + 1) pc m 1 (leads.Out out) now
+        → now ≡ m + 1 }
 {}

@@ -3,7 +3,8 @@
 ghost use Rattle.std.specs.Prelude.{ℕ, ◌≡◌, ◌+◌, ◌<◌, List, None, [], ◌∷◌, replicate, slice_index};
 ghost use Rattle.mb_claim.specs.declared.access.Stage.TheVariants.{Won};
 ghost use Rattle.mb_claim.specs.Vocabulary.{IsClaimLawful, IsClaimPrefix, IsWordIn, address_in, part_on};
-ghost use Rattle.mb_shared_claims.specs.{Claim, ClaimAccess, Handing, HasPartAt, IsClaimsState, IsSeatStep, Layout};
+ghost use Rattle.rand_core.specs.Stream.{Stream};
+ghost use Rattle.mb_shared_claims.specs.{AreSeatSteps, Claim, ClaimAccess, Handing, HasPartAt, IsClaimsState, IsSeatStep, Layout};
 ghost use Rattle.mb_shared_claims.specs.{Reg, SeatView, Standing, TableSize, View, claims_of_size, makes, roster};
 
 use crate::laws::{states_have_one_history, steps_keep_states};
@@ -71,4 +72,10 @@ pub fn steps_add_one_access()
     // A call of a seat that leaves the seat as it was.
     ensures stuck { (layout : Layout) (cell word : ℕ) (claim follows : Claim) (seat : SeatView)
         → IsSeatStep layout cell word claim seat follows seat → ⊥ }
+
+    // A row of no access leaves all as it was, and a row of one does not.
+    ensures none { (layout : Layout) (cell : ℕ) (claim : Claim) (seat : SeatView) (s : Stream)
+        → AreSeatSteps layout cell claim seat s 0 claim seat s }
+    ensures idle { (layout : Layout) (cell : ℕ) (claim follows : Claim) (seat : SeatView)
+        (s t : Stream) → AreSeatSteps layout cell claim seat s 1 follows seat t → ⊥ }
 {}

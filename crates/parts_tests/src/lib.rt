@@ -46,6 +46,8 @@ mod shared_claims;
 #[cfg(test)]
 mod spoiled_words;
 #[cfg(test)]
+mod straight_claims;
+#[cfg(test)]
 mod tables;
 #[cfg(test)]
 mod texts;

@@ -17,3 +17,12 @@ returns-clause-made_twice c = λ k a m.
 pub returns-clause-stuck : goal.returns-clause-stuck
 returns-clause-stuck c = λ layout cell word claim follows seat s.
     let e = ap (λ (x : SeatView). length x.part) s.adds in omega (arith, e)
+
+pub returns-clause-none : goal.returns-clause-none
+returns-clause-none c = λ layout cell claim seat s. (refl, refl, refl)
+
+pub returns-clause-idle : goal.returns-clause-idle
+returns-clause-idle c layout cell claim follows seat s t (at, before, u, word, older, going, drawn, step, own, stands) =
+    let e = ap (λ (x : SeatView). length x.part) step.adds in
+    let f = ap (λ (x : SeatView). length x.part) older.1 in
+    omega (arith, e, f)
