@@ -4,7 +4,7 @@
 usage: bench/count.py [--loops lone,mail] [--shapes plain,fast,last,fastlast] [--tables bits,unary,middle]
                       [--consumers 2,4,16,64] [--items] [--keep]
 
-Both programs are built first: `mailbox_bench` by `rt run`, which proves it, and `by_hand` by rustc. Then callgrind counts
+Both programs are built first: `bench_loops` by `rt run`, which proves it, and `by_hand` by rustc. Then callgrind counts
 the instructions of each at two sizes, so that the start of the program falls out; the counts repeat exactly. By hand a claim
 that goes to its end is counted twice, once by steps and once straight. All have to print the same lines. With --items the unit of a loop over claims is a cell with all claims on it, and not an access. With
 --keep the programs of the last run are taken as they are. It wants rt, rustc and valgrind.
@@ -18,7 +18,7 @@ import sys
 import tempfile
 
 TOP = pathlib.Path(__file__).resolve().parent.parent
-PROGRAM = TOP / "crates" / "mailbox_bench" / "out" / "mailbox_bench"
+PROGRAM = TOP / "crates" / "bench_loops" / "out" / "bench_loops"
 BY_HAND = pathlib.Path(tempfile.gettempdir()) / "mailbox_bench_by_hand"
 
 # How often a loop is done at either size.
@@ -45,7 +45,7 @@ STRAIGHT = ("lone", "shared", "mail", "mailbox")
 
 def build():
     """Builds both programs."""
-    bench = TOP / "crates" / "mailbox_bench"
+    bench = TOP / "crates" / "bench_loops"
     subprocess.run(["rt", "run", "--jobs", "1"], cwd=bench, check=True, stdout=subprocess.DEVNULL)
     flags = ["--edition", "2024", "-C", "opt-level=3", "-C", "target-cpu=x86-64-v2", "-C", "codegen-units=1", "-C", "panic=abort"]
     subprocess.run(["rustc", *flags, TOP / "bench" / "by_hand" / "main.rs", "-o", BY_HAND], check=True)

@@ -6,7 +6,7 @@ usage: bench/large.py [--limit WORDS] [PRODUCERS,CONSUMERS,PAIRS,ITEMS ...]
 Each run has 2^20 items in as many cells where nothing is said: with 1 producer and 1 consumer, 2 and 4, and 16 and 16, each
 with 4 pairs. "Touched" is the most memory that was resident, "reserved" the most address space, both in words of 8 bytes a
 cell, without the stacks of threads. `--limit` gives a run no more address space than so many words a cell and what its
-threads' stacks take. It wants the program built: `cd crates/mailbox_large && rt run -- 2 4 4 500 1`.
+threads' stacks take. It wants the program built: `cd crates/bench_large && rt run -- 2 4 4 500 1`.
 """
 import argparse
 import pathlib
@@ -16,7 +16,7 @@ import subprocess
 import threading
 import time
 
-PROGRAM = pathlib.Path(__file__).resolve().parent.parent / "crates" / "mailbox_large" / "out" / "mailbox_large"
+PROGRAM = pathlib.Path(__file__).resolve().parent.parent / "crates" / "bench_large" / "out" / "bench_large"
 RUNS = ["1,1,4,1048576", "2,4,4,1048576", "16,16,4,1048576"]
 STACK = 1 << 23
 

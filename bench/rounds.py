@@ -1,5 +1,5 @@
 #!/usr/bin/env python3
-"""Runs the scheduler of crates/mailbox_scheduler at full size, and measures its memory as it goes.
+"""Runs the scheduler of crates/example_scheduler at full size, and measures its memory as it goes.
 
 usage: bench/rounds.py [--jobs 10000000] [--workers 4] [--producers 2] [--cells 65536] [--each 1000000]
 
@@ -13,7 +13,7 @@ import subprocess
 import sys
 import time
 
-PROGRAM = pathlib.Path(__file__).resolve().parent.parent / "crates" / "mailbox_scheduler" / "out" / "mailbox_scheduler"
+PROGRAM = pathlib.Path(__file__).resolve().parent.parent / "crates" / "example_scheduler" / "out" / "example_scheduler"
 
 
 def memory(process):

@@ -1,6 +1,6 @@
-//! The claims, mailboxes and schedules of `mailbox_bench` in hand-written Rust, to compare with.
+//! The claims, mailboxes and schedules of `bench_loops` in hand-written Rust, to compare with.
 //!
-//! usage: by_hand LOOP TABLE CONSUMERS TIMES [SHAPE], as `mailbox_bench` takes them. It prints the same lines. Claims go by
+//! usage: by_hand LOOP TABLE CONSUMERS TIMES [SHAPE], as `bench_loops` takes them. It prints the same lines. Claims go by
 //! steps, an access at a time. With `straight ` before LOOP they go by plain loops.
 
 // Entries and notes are made, counted and dropped: nothing reads them.

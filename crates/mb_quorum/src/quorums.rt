@@ -5,7 +5,7 @@
 ///
 /// A table of one's own is a `QuorumTable`, a lemma that this is an `IsQuorumTable`, and the four calls. Here value v
 /// has the quorums that value m - 1 - v has in the unary table of m values. It stands whole in
-/// `parts_tests`: `src/mirrored.rt`, and `mirrored` and `mirrored_lawful` in `specs/Mirrored.antt`.
+/// `test_libraries`: `src/mirrored.rt`, and `mirrored` and `mirrored_lawful` in `specs/Mirrored.antt`.
 ///
 /// ```
 /// pub struct Mirrored {

@@ -5,7 +5,7 @@ use crate::examples::claims::{ITEM_TAKEN, ONE_LOSES};
 use crate::examples::ratifiers::LATE_INPUT;
 use crate::examples::runs::TWO_ITEMS;
 use crate::run::ALONE;
-use mailbox_rations::growths_refused;
+use test_alloc::growths_refused;
 use mb_program::{Failed, RatifyFault, RunFault, fault_text, ratify_text, run_threads};
 use mb_script::{Counting, Fault, report_text, run};
 use mb_world::{Diary, LaneReport, Note, Report, SetupFault};

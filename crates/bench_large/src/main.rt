@@ -1,0 +1,227 @@
+//! Lets workers loose on one large mailbox, and audits its report.
+//!
+//! The words are PRODUCERS CONSUMERS PAIRS ITEMS SEED: so many items in as many cells, shared among the producers. What
+//! it prints is the same whatever the order of the threads. What the consumers came to, and how long each part took, goes
+//! to standard error.
+#![tactic(auto)]
+
+ghost use Rattle.mb_mailbox.specs.Hubs.{IsHubOf};
+
+use test_audit::{Flaw, Tally, audit};
+use mb_mailbox::{Hub, Mailbox, OpenGate, WorkFault, work};
+use mb_quorum::TableName;
+use mb_world::{Setup, SetupFault};
+use rand_chacha::ChaCha8Rng;
+use rand_core::SeedableRng;
+use std::alloc::{AllocError, Global};
+use std::io;
+use std::process::ExitCode;
+use std::sync::Wait;
+use std::thread::Threads;
+use std::time::{Clock, Duration, Instant};
+
+/// How many accesses a consumer makes at most in a poll.
+const BUDGET: u64 = 64;
+
+/// The status of a run that has a flaw.
+const FLAW: u8 = 1;
+
+/// The status of a command line that tells no numbers.
+const REFUSED: u8 = 2;
+
+/// What is asked for.
+#[derive(Clone, Copy)]
+struct Plan {
+    producers: u64,
+    consumers: u64,
+    pairs: u64,
+    items: u64,
+    seed: u64,
+}
+
+/// What a run came to, and how long its parts took: the mailbox was made, the threads worked, the report was made.
+#[derive(Clone, Copy, Debug)]
+struct Outcome {
+    tally: Tally,
+    made: Duration,
+    worked: Duration,
+    gathered: Duration,
+}
+
+/// How a run went wrong.
+#[derive(Clone, Copy, Debug)]
+enum Fault {
+    /// The setup was refused.
+    Setup(SetupFault),
+    /// `work` was refused.
+    Work(WorkFault),
+    /// Memory was refused.
+    NoMemory,
+    /// There was no report.
+    NoReport,
+    /// The clock could not be read.
+    NoClock,
+    /// The report has this flaw.
+    Report(Flaw),
+    /// Of as many items as cells some found no cell.
+    NotPut,
+}
+
+impl From<AllocError> for Fault {
+    fn from(_: AllocError) -> Fault {
+        Fault::NoMemory
+    }
+}
+
+impl From<io::Error> for Fault {
+    fn from(_: io::Error) -> Fault {
+        Fault::NoClock
+    }
+}
+
+/// The numbers of the command line.
+fn plan_of(words: &[String]) -> Option<Plan> {
+    let [_, producers, consumers, pairs, items, seed] = words else {
+        return None;
+    };
+    Some(Plan {
+        producers: producers.parse::<u64>().ok()?,
+        consumers: consumers.parse::<u64>().ok()?,
+        pairs: pairs.parse::<u64>().ok()?,
+        items: items.parse::<u64>().ok()?,
+        seed: seed.parse::<u64>().ok()?,
+    })
+}
+
+/// The number of the first item of this producer.
+fn first_of(plan: &Plan, producer: u64) -> u64 {
+    let items = plan.items.wrapping_mul(producer);
+    items.checked_div(plan.producers).unwrap_or(0)
+}
+
+/// The lists of the producers: the items 0, 1, 2, .. cut into as many parts.
+fn lists_of(alloc: Global, plan: &Plan) -> Result<Vec<Vec<u64>>, AllocError> {
+    let mut lists = Vec::new(alloc);
+    for p in 0..plan.producers {
+        let (first, end) = (first_of(plan, p), first_of(plan, p.wrapping_add(1)));
+        let mut list = Vec::with_capacity(alloc, end.saturating_sub(first) as usize)?;
+        for item in first..end {
+            list.push(item)?;
+        }
+        lists.push(list)?;
+    }
+    Ok(lists)
+}
+
+/// The source of each consumer.
+fn sources_of(alloc: Global, plan: &Plan) -> Result<Vec<ChaCha8Rng>, AllocError> {
+    let mut rngs = Vec::new(alloc);
+    for c in 0..plan.consumers {
+        let seed = plan.seed.wrapping_add(c);
+        rngs.push(ChaCha8Rng::seed_from_u64(seed))?;
+    }
+    Ok(rngs)
+}
+
+/// All items are put, and consumers take what they win: how long that took.
+fn work_all<W: Threads + Wait + Clock + Sync>(
+    rt: &W,
+    alloc: Global,
+    plan: &Plan,
+    mailbox: &Mailbox<Global>,
+    hub: &mut Hub<Global>,
+) -> Result<Duration, Fault>
+    requires { IsHubOf mailbox.now hub.old }
+    ensures { IsHubOf mailbox.now hub.new }
+{
+    let items = lists_of(alloc, plan)?;
+    let rngs = sources_of(alloc, plan)?;
+    let start = Instant::now(rt)?;
+    let worked = work(alloc, rt, mailbox, hub, items, BUDGET, rngs, &OpenGate);
+    worked.map_err(Fault::Work)?;
+    Ok(start.elapsed(rt)?)
+}
+
+/// What the report tells without a flaw, and how long it took to make it.
+fn gather<W: Clock>(
+    rt: &W,
+    alloc: Global,
+    plan: &Plan,
+    mailbox: Mailbox<Global>,
+    hub: Hub<Global>,
+) -> Result<(Tally, Duration), Fault>
+    requires { IsHubOf mailbox hub }
+{
+    let start = Instant::now(rt)?;
+    let Ok(report) = mailbox.gather(alloc, hub) else {
+        return Err(Fault::NoReport);
+    };
+    let gathered = start.elapsed(rt)?;
+    let tally = audit(&report, plan.producers, plan.consumers).map_err(Fault::Report)?;
+    Ok((tally, gathered))
+}
+
+/// One run.
+fn run<W: Threads + Wait + Clock + Sync>(
+    rt: &W,
+    alloc: Global,
+    plan: &Plan,
+) -> Result<Outcome, Fault> {
+    let start = Instant::now(rt)?;
+    let setup = Setup::large(
+        plan.producers,
+        plan.consumers,
+        plan.items,
+        plan.pairs,
+        TableName::Bits,
+    )
+    .map_err(Fault::Setup)?;
+    let (mailbox, mut hub) = Mailbox::new(alloc, setup)?;
+    let made = start.elapsed(rt)?;
+    let worked = work_all(rt, alloc, plan, &mailbox, &mut hub)?;
+    let (tally, gathered) = gather(rt, alloc, plan, mailbox, hub)?;
+    if tally.put != plan.items {
+        return Err(Fault::NotPut);
+    }
+    Ok(Outcome {
+        tally,
+        made,
+        worked,
+        gathered,
+    })
+}
+
+fn main(rt: HostRuntime) -> io::Result<ExitCode> {
+    let words = std::env::args(&rt)?.collect::<Vec<String>>(rt.alloc())?;
+    match plan_of(words.as_slice()) {
+        Some(plan) => tell(&rt, &plan),
+        None => refuse(&rt),
+    }
+}
+
+/// Makes a run, and tells what it came to.
+fn tell<R: AllocGlobal + Print + Eprint + Threads + Wait + Clock + Sync>(
+    rt: &R,
+    plan: &Plan,
+) -> io::Result<ExitCode> {
+    match run(rt, rt.alloc(), plan) {
+        Ok(run) => {
+            eprintln!(rt; "{run:?}")?;
+            println!(rt;
+                "all of {} items were put, and the report has no flaw",
+                plan.items
+            )?;
+            Ok(ExitCode::SUCCESS)
+        }
+        Err(fault) => {
+            println!(rt; "{fault:?}")?;
+            Ok(ExitCode::from(FLAW))
+        }
+    }
+}
+
+/// Tells how the program is used.
+fn refuse<R: Eprint + AllocGlobal>(rt: &R) -> io::Result<ExitCode> {
+    eprintln!(rt; "usage: bench_large PRODUCERS CONSUMERS PAIRS ITEMS SEED")?;
+    Ok(ExitCode::from(REFUSED))
+}

@@ -1,0 +1,47 @@
+use Rattle.std.proofs.Common.{◌≡◌, ◌<◌, [], ℕ, List, ◌∙◌, length, sym, subst, slice_index_or, arith}
+use Rattle.mb_claim.specs.declared.access.ClaimAccess.{ClaimAccess}
+use Rattle.mb_claim.specs.declared.claim.Claim.{Claim}
+use Rattle.mb_claim.specs.declared.layout.Layout.{Layout}
+use Rattle.mb_claim.specs.Vocabulary.{IsClaimIn, consumer_of}
+use Rattle.bench_loops.specs.UnderWay.{IsBefore, IsContest}
+use Rattle.bench_loops.proofs.contended.contend_each.Goals as goal
+
+-- new claims on a cell that nobody has touched are a contest
+fresh_contest :
+    (layout : Layout) (cell : ℕ) (claims : List Claim) (words : List ℕ) (h : List ClaimAccess)
+    → ((c : ℕ) → IsBefore layout c cell words h)
+    → ((i : ℕ) (d : Claim) → i < length claims → consumer_of (slice_index_or claims i d) ≡ i)
+    → ((i : ℕ) (d : Claim) → i < length claims → IsClaimIn layout (slice_index_or claims i d) [])
+    → IsContest layout cell claims words h
+fresh_contest layout cell claims words h before whose stands =
+    record {
+      memory = (before 0).memory;
+      whose = whose;
+      stands = λ i d within.
+          subst (IsClaimIn layout (slice_index_or claims i d)) (sym ((before i).untouched cell (omega arith)))
+          (stands i d within);
+    }
+
+pub contend-requires-clause-contest : goal.contend-requires-clause-contest
+contend-requires-clause-contest g c =
+    let past = c.loop-cell.invariant in (
+      past.0,
+      fresh_contest c.args.layout.now c.loop-cell.cell c.loop-consumer.claims c.loop-cell.words past.0 past.1
+          (λ i d within. c.loop-consumer.invariant.whose i d (omega arith))
+          (λ i d within. c.loop-consumer.invariant.stands i d (omega arith)),
+    )
+
+pub loop-cell-preserved : goal.loop-cell-preserved
+loop-cell-preserved g c =
+    let past = c.loop-cell.invariant in
+    let made = c.contend.ensures.kept past.0
+    (fresh_contest c.args.layout.now c.loop-cell.cell c.loop-consumer.claims c.loop-cell.words past.0 past.1
+    (λ i d within. c.loop-consumer.invariant.whose i d (omega arith))
+    (λ i d within. c.loop-consumer.invariant.stands i d (omega arith))) in (
+      made.0,
+      λ d. record {
+        memory = made.1.memory;
+        untouched = λ k later.
+            made.2 d k (λ at. absurd (omega (arith, at, later))) ∙ (past.1 d).untouched k (omega (arith, later));
+      },
+    )

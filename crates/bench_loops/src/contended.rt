@@ -1,0 +1,101 @@
+//! Claims of all consumers on one cell, a step each in turn.
+ghost use Rattle.std.specs.Prelude.{◌≡◌, ◌<◌, [], ℕ, List, length};
+ghost use Rattle.mb_claim.specs.declared.access.ClaimAccess.{ClaimAccess};
+ghost use Rattle.mb_claim.specs.declared.layout.TheConstants.{MAX_CELLS};
+ghost use Rattle.mb_claim.specs.Vocabulary.{consumer_count, IsMemoryOf};
+ghost use Rattle.bench_loops.specs.UnderWay.{all_claims, ChangesOnly, IsContest};
+
+use crate::count::Count;
+use crate::source::Source;
+use crate::step::step;
+use mb_claim::laws::layouts_are_sound;
+use mb_claim::steps::accesses_lengthen_one_part;
+use mb_claim::{Claim, ClaimWords, Layout, MAX_CELLS, Stage};
+use std::alloc::{AllocError, Allocator};
+
+/// So many times, the claims of all consumers on each of `MAX_CELLS` cells.
+pub fn contended<A: Allocator + Copy + Drop>(
+    alloc: A,
+    layout: &Layout,
+    times: u64,
+) -> Result<Count, AllocError> {
+    layouts_are_sound();
+    let mut source = Source::new();
+    let mut count = Count::new();
+    let mut claims = vec![in alloc; Claim::new(layout, 0); layout.consumers() as usize]?;
+    for _ in 0..times {
+        let mut words = ClaimWords::new(alloc, layout, MAX_CELLS)?;
+        contend_each(layout, &mut words, &mut claims, &mut source, &mut count);
+    }
+    Ok(count)
+}
+
+/// The claims of all consumers on each cell, which are kept in `claims`.
+fn contend_each<A: Allocator + Drop>(
+    layout: &Layout,
+    words: &mut ClaimWords<A>,
+    claims: &mut [Claim],
+    source: &mut Source,
+    count: &mut Count,
+)
+    requires memory { IsMemoryOf (all_claims layout.now) words.old [] }
+    requires claims { length claims.old ≡ consumer_count layout.now }
+{
+    for cell in 0..MAX_CELLS {
+        for consumer in 0..layout.consumers() {
+            claims[consumer as usize] = Claim::new(layout, consumer);
+        }
+        contend(layout, words, cell, claims, source, count);
+    }
+}
+
+/// Steps of the claims in turn, until all have come to their ends.
+fn contend<A: Allocator + Drop>(
+    layout: &Layout,
+    words: &mut ClaimWords<A>,
+    cell: u32,
+    claims: &mut [Claim],
+    source: &mut Source,
+    count: &mut Count,
+)
+    requires cell { cell < MAX_CELLS }
+    requires contest { (h : List ClaimAccess) × IsContest layout.now cell claims.old words.old h }
+    ensures kept { (h : List ClaimAccess) → IsContest layout.now cell claims.old words.old h
+        → (later : List ClaimAccess) × IsContest layout.now cell claims.new words.new later
+        × ChangesOnly (λ c k. k ≡ cell) h later }
+{
+    for _ in 0..u64::MAX {
+        if !turn_each(layout, words, cell, claims, source, count) {
+            break;
+        }
+    }
+}
+
+/// A step of each claim that is going. The answer is whether one of them goes on.
+#[inline(always)]
+fn turn_each<A: Allocator + Drop>(
+    layout: &Layout,
+    words: &mut ClaimWords<A>,
+    cell: u32,
+    claims: &mut [Claim],
+    source: &mut Source,
+    count: &mut Count,
+) -> bool
+    requires cell { cell < MAX_CELLS }
+    requires contest { (h : List ClaimAccess) × IsContest layout.now cell claims.old words.old h }
+    ensures kept { (h : List ClaimAccess) → IsContest layout.now cell claims.old words.old h
+        → (later : List ClaimAccess) × IsContest layout.now cell claims.new words.new later
+        × ChangesOnly (λ c k. k ≡ cell) h later }
+{
+    accesses_lengthen_one_part();
+    let mut going = false;
+    for consumer in 0..claims.len() {
+        let claim = &mut claims[consumer];
+        if let Stage::Going = claim.stage() {
+            let stage = step(claim, layout, words, cell, source.word());
+            count.add(1, stage);
+            going |= stage == Stage::Going;
+        }
+    }
+    going
+}

@@ -1,0 +1,92 @@
+//! Claims that nobody disturbs, one on each cell.
+ghost use Rattle.std.specs.Prelude.{◌≡◌, ◌<◌, [], ℕ, List};
+ghost use Rattle.mb_claim.specs.declared.access.ClaimAccess.{ClaimAccess};
+ghost use Rattle.mb_claim.specs.declared.layout.TheConstants.{MAX_CELLS};
+ghost use Rattle.mb_claim.specs.Vocabulary.{part_on, consumer_count, IsMemoryOf};
+ghost use Rattle.bench_loops.specs.UnderWay.{all_claims, ChangesOnly};
+
+use crate::count::Count;
+use crate::source::Source;
+use crate::step::step;
+use mb_claim::steps::accesses_lengthen_one_part;
+use mb_claim::{Claim, ClaimWords, Layout, MAX_CELLS, Stage};
+use std::alloc::{AllocError, Allocator};
+
+/// So many times, one claim on each of `MAX_CELLS` cells, the consumers in turn.
+pub fn lone<A: Allocator + Copy + Drop>(
+    alloc: A,
+    layout: &Layout,
+    times: u64,
+) -> Result<Count, AllocError> {
+    let mut source = Source::new();
+    let mut count = Count::new();
+    for _ in 0..times {
+        let mut words = ClaimWords::new(alloc, layout, MAX_CELLS)?;
+        claim_each(layout, &mut words, &mut source, &mut count);
+    }
+    Ok(count)
+}
+
+/// So many times, the words alone. The answer is how many were made.
+pub fn words_alone<A: Allocator + Copy + Drop>(
+    alloc: A,
+    layout: &Layout,
+    times: u64,
+) -> Result<u64, AllocError> {
+    let mut made = 0u64;
+    for _ in 0..times {
+        let words = vec![in alloc; 0u64; layout.words(MAX_CELLS)]?;
+        made = made.wrapping_add(words.len() as u64);
+    }
+    Ok(made)
+}
+
+/// One claim on each cell.
+fn claim_each<A: Allocator + Drop>(
+    layout: &Layout,
+    words: &mut ClaimWords<A>,
+    source: &mut Source,
+    count: &mut Count,
+)
+    requires { IsMemoryOf (all_claims layout.now) words.old [] }
+{
+    let consumers = layout.consumers();
+    let mut consumer = 0;
+    for cell in 0..MAX_CELLS {
+        let (accesses, stage) = claim_cell(layout, words, consumer, cell, source);
+        count.add(accesses, stage);
+        consumer += 1;
+        if consumer == consumers {
+            consumer = 0;
+        }
+    }
+}
+
+/// The claim of a consumer on a cell that it has not touched, to its end: its accesses, and how it ended.
+#[inline(always)]
+pub fn claim_cell<A: Allocator + Drop>(
+    layout: &Layout,
+    words: &mut ClaimWords<A>,
+    consumer: u32,
+    cell: u32,
+    source: &mut Source,
+) -> (u64, Stage)
+    requires consumer { consumer < consumer_count layout.now }
+    requires cell { cell < MAX_CELLS }
+    requires fresh { (h : List ClaimAccess) × IsMemoryOf (all_claims layout.now) words.old h
+        × (part_on consumer cell h ≡ []) }
+    ensures kept { (h : List ClaimAccess) → IsMemoryOf (all_claims layout.now) words.old h
+        → part_on consumer cell h ≡ [] → (later : List ClaimAccess)
+        × IsMemoryOf (all_claims layout.now) words.new later
+        × ChangesOnly (λ c k. (c ≡ consumer) × (k ≡ cell)) h later }
+{
+    accesses_lengthen_one_part();
+    let mut claim = Claim::new(layout, consumer);
+    for made in 0..u64::MAX {
+        match step(&mut claim, layout, words, cell, source.word()) {
+            Stage::Going => {}
+            stage => return (made + 1, stage),
+        }
+    }
+    (u64::MAX, Stage::Going)
+}

@@ -1,0 +1,49 @@
+//! Claims, mailboxes and whole schedules in loops, for who counts their instructions.
+//!
+//! With the words LOOP TABLE CONSUMERS TIMES, and the shape of the cells after them if it is not plain, it runs one loop
+//! and prints what that came to; with none, each loop once.
+#![tactic(auto)]
+
+use std::io;
+use std::process::ExitCode;
+
+pub mod choice;
+pub mod contended;
+pub mod count;
+pub mod examples;
+pub mod lone;
+pub mod mail;
+pub mod mailbox;
+pub mod run;
+pub mod schedules;
+pub mod shared;
+pub mod source;
+pub mod step;
+pub mod world;
+
+use choice::Choice;
+use run::{run, run_all};
+
+/// What a command line may be.
+const USAGE: &str =
+    "usage: bench_loops [LOOP bits|unary|middle CONSUMERS TIMES [plain|fast|last|fastlast]]";
+
+/// The status of a command line that tells no choice.
+const REFUSED: u8 = 2;
+
+fn main(rt: HostRuntime) -> io::Result<ExitCode> {
+    let words = std::env::args(&rt)?.collect::<Vec<String>>(rt.alloc())?;
+    let Some((_, words)) = words.as_slice().split_first() else {
+        return Ok(ExitCode::from(REFUSED));
+    };
+    if words.is_empty() {
+        run_all(&rt)?;
+        return Ok(ExitCode::SUCCESS);
+    }
+    let Some(choice) = Choice::of(words) else {
+        eprintln!(rt; "{USAGE}")?;
+        return Ok(ExitCode::from(REFUSED));
+    };
+    run(&rt, &choice)?;
+    Ok(ExitCode::SUCCESS)
+}

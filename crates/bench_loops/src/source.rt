@@ -1,0 +1,75 @@
+//! Random words.
+ghost use Rattle.std.specs.Prelude.{◌<◌, ℕ};
+ghost use Rattle.rand_core.specs.Steps.{stream_of};
+ghost use Rattle.bench_loops.specs.Shifts.{shift_steps, word_after};
+
+use rand_core::utils::NextWord;
+use rand_core::{Rng, utils};
+use std::marker::Model;
+
+/// A source of random words, by shifts: cheap, and the same at each run.
+#[derive(Drop)]
+pub struct Source {
+    state: u64,
+}
+
+impl Model for Source {
+    ghost Value = { ℕ };
+
+    ghost view = { λ s. s.state };
+}
+
+impl Source {
+    /// The source at its first word.
+    pub fn new() -> Source {
+        Source {
+            state: 0x9E37_79B9_7F4A_7C15,
+        }
+    }
+
+    /// The next word.
+    #[inline(always)]
+    pub fn word(&mut self) -> u64 {
+        self.next_word()
+    }
+
+    /// A number below the bound.
+    pub fn below(&mut self, bound: u64) -> u64
+        requires { 0 < bound }
+        ensures { result < bound }
+    {
+        self.word() % bound
+    }
+}
+
+impl NextWord<u64> for Source {
+    ghost step = { word_after };
+
+    #[inline(always)]
+    fn next_word(&mut self) -> u64 {
+        let mut word = self.state;
+        word ^= word.wrapping_shl(13);
+        word ^= word >> 7;
+        word ^= word.wrapping_shl(17);
+        self.state = word;
+        word
+    }
+}
+
+impl Rng for Source {
+    ghost stream = { stream_of shift_steps };
+
+    #[inline(always)]
+    fn next_u32(&mut self) -> u32 {
+        (self.next_word() % 0x1_0000_0000) as u32
+    }
+
+    #[inline(always)]
+    fn next_u64(&mut self) -> u64 {
+        self.next_word()
+    }
+
+    fn fill_bytes(&mut self, dst: &mut [u8]) {
+        utils::fill_bytes_via_u64(self, dst)
+    }
+}

@@ -1,0 +1,31 @@
+//! The accesses of one claim on the words of `MAX_CELLS` cells.
+ghost use Rattle.std.specs.Prelude.{◌≡◌, ◌<◌, ◌∷◌, List};
+ghost use Rattle.mb_claim.specs.declared.access.ClaimAccess.{ClaimAccess};
+ghost use Rattle.mb_claim.specs.declared.access.Stage.TheVariants.{Going};
+ghost use Rattle.mb_claim.specs.declared.layout.TheConstants.{MAX_CELLS};
+ghost use Rattle.mb_claim.specs.Vocabulary.{claim_stage, consumer_of};
+ghost use Rattle.bench_loops.specs.UnderWay.{IsUnderWay};
+
+use mb_claim::{Claim, ClaimWords, Layout, Stage};
+use std::alloc::Allocator;
+
+/// One access of the claim, with its random word.
+#[inline(always)]
+pub fn step<A: Allocator + Drop>(
+    claim: &mut Claim,
+    layout: &Layout,
+    words: &mut ClaimWords<A>,
+    cell: u32,
+    word: u64,
+) -> Stage
+    requires going { claim_stage claim.old ≡ Going }
+    requires cell { cell < MAX_CELLS }
+    requires stands { (h : List ClaimAccess) × IsUnderWay layout.now cell claim.old words.old h }
+    ensures consumer { consumer_of claim.new ≡ consumer_of claim.old }
+    ensures stage { result ≡ claim_stage claim.new }
+    ensures stands { (h : List ClaimAccess) → IsUnderWay layout.now cell claim.old words.old h
+        → (a : ClaimAccess) × (a.consumer ≡ consumer_of claim.old) × (a.cell ≡ cell)
+        × IsUnderWay layout.now cell claim.new words.new (a ∷ h) }
+{
+    words.step(layout, claim, cell, word).stage
+}

@@ -1,0 +1,12 @@
+-- The crew of a mailbox.
+use Rattle.mb_mailbox.specs.Consumers.{IsConsumerOf}
+use Rattle.mb_mailbox.specs.Mailboxes.{MailboxView}
+use Rattle.mb_mailbox.specs.Producers.{IsProducerOf}
+use Rattle.example_jobs.specs.declared.crew.Member.{Member}
+use Rattle.example_jobs.specs.declared.crew.Member.TheVariants as member
+
+-- the member's producer or consumer is one of the mailbox; one that tells has neither
+abbrev pub IsOf : MailboxView → Member → Type 0
+IsOf m (member.Producer producer jobs) = IsProducerOf m producer
+IsOf m (member.Worker consumer source) = IsConsumerOf m consumer
+IsOf m member.Teller = Unit {0}

@@ -1,0 +1,168 @@
+//! Who puts jobs, and who takes them.
+ghost use Rattle.std.specs.Prelude.{All, IfOk, OnOk};
+ghost use Rattle.mb_mailbox.specs.Consumers.{IsConsumerOf};
+ghost use Rattle.mb_mailbox.specs.Hubs.{IsHubOf};
+ghost use Rattle.mb_mailbox.specs.Producers.{IsProducerOf};
+ghost use Rattle.example_jobs.specs.Crew.{IsOf};
+
+use crate::asked::{Asked, MAX_LANES};
+use crate::board::Board;
+use crate::progress::tell;
+use anyhow::Result;
+use mb_mailbox::{Consumer, Hub, Mailbox, Poll, Producer, Put};
+use rand::{SeedableRng, make_rng};
+use rand_chacha::ChaCha8Rng;
+use std::alloc::Global;
+use std::random::RandomSource;
+use std::thread::yield_now;
+use std::time::Clock;
+
+/// How many accesses a worker makes at most before it looks up from a lane.
+const BUDGET: u64 = 64;
+
+/// One of those who work.
+#[derive(Drop)]
+pub enum Member {
+    /// Puts the jobs from the first of these numbers on and below the second.
+    Producer(Producer<Global>, (u64, u64)),
+    /// Takes jobs, with random words from this source.
+    Worker(Consumer<Global>, ChaCha8Rng),
+    /// Tells how far the work is.
+    Teller,
+}
+
+impl Member {
+    /// Does what the member has to do, to its end.
+    pub fn work<R: Clock + Eprint>(
+        &mut self,
+        rt: &R,
+        mailbox: &Mailbox<Global>,
+        board: &Board,
+        asked: &Asked,
+    )
+        requires of { IsOf mailbox.now self.old }
+        ensures of { IsOf mailbox.now self.new }
+    {
+        match self {
+            Member::Producer(producer, jobs) => put_jobs(mailbox, producer, *jobs),
+            Member::Worker(consumer, source) => {
+                run_jobs(mailbox, consumer, source, board, asked);
+                board.go_home();
+            }
+            Member::Teller => tell(rt, board),
+        }
+    }
+}
+
+/// Puts the jobs of one producer in their order, and then ends its lane, so that workers know that no job follows.
+fn put_jobs(mailbox: &Mailbox<Global>, producer: &mut Producer<Global>, jobs: (u64, u64))
+    requires of { IsProducerOf mailbox.now producer.old }
+    ensures of { IsProducerOf mailbox.now producer.new }
+{
+    for job in jobs.0..jobs.1 {
+        match producer.put(mailbox, job) {
+            // Every worker can find the job from now on.
+            Put::Linked => {}
+            // There is no cell left, now and for ever: the job is not in the mailbox, and still the producer's.
+            Put::Full | Put::Closed => break,
+        }
+    }
+    producer.finish(mailbox);
+}
+
+/// Takes jobs until each lane has ended or the shift is over, and runs those that it takes.
+fn run_jobs(
+    mailbox: &Mailbox<Global>,
+    consumer: &mut Consumer<Global>,
+    source: &mut ChaCha8Rng,
+    board: &Board,
+    asked: &Asked,
+)
+    requires of { IsConsumerOf mailbox.now consumer.old }
+    ensures of { IsConsumerOf mailbox.now consumer.new }
+{
+    let lanes = asked.lanes();
+    let shift = asked.shift();
+    let mut ended = [false; MAX_LANES];
+    let mut open = lanes;
+    let mut lane = 0;
+    let mut taken = 0;
+    // Rattle asks of every loop that it comes to an end: this one would after more turns than anybody lives to see.
+    for turn in 0..u64::MAX {
+        if taken == shift || open == 0 {
+            break;
+        }
+        if !ended[lane] {
+            match consumer.poll(mailbox, lane as u64, BUDGET, source) {
+                // This worker has won the job, and nobody else ever will. Should it go away before it has run it, nobody
+                // does: at most once is not exactly once.
+                Poll::Took(job) => {
+                    board.run(job);
+                    taken += 1;
+                }
+                // No worker but the one of this number can win it: nothing to do here.
+                Poll::Lost(_) => {}
+                // This worker does not know who has won it, if anybody has. It must not run it: the report will tell.
+                Poll::Undecided => {}
+                // The budget was spent. A claim that is held is kept, and the next poll of the lane goes on with it.
+                Poll::Spent => {}
+                // No further job is linked yet: time for something else, such as the next lane.
+                Poll::Nothing => yield_now(),
+                // No job follows on this lane. `NoLane` does not come, since there are as many lanes as producers.
+                Poll::Ended | Poll::NoLane => {
+                    ended[lane] = true;
+                    open = open.saturating_sub(1);
+                }
+            }
+        }
+        lane = if lane + 1 < lanes { lane + 1 } else { 0 };
+    }
+}
+
+/// Hires all producers and workers of the mailbox. The producers come first, so that they are through where no thread can be
+/// made and one works after the other.
+pub fn hire<R: RandomSource + AllocGlobal>(
+    rt: &R,
+    mailbox: &Mailbox<Global>,
+    hub: &mut Hub<Global>,
+    asked: &Asked,
+    tells: bool,
+) -> Result<Vec<Member>>
+    requires of { IsHubOf mailbox.now hub.old }
+    ensures hub { OnOk result (IsHubOf mailbox.now hub.new) }
+    ensures crew { IfOk result (λ crew. All (IsOf mailbox.now) crew.items) }
+{
+    let mut crew = Vec::new(rt.alloc());
+    for number in 0..asked.producers {
+        let producer = hub.producer(rt.alloc(), mailbox)?;
+        crew.push(Member::Producer(producer, asked.jobs_of(number)))?;
+    }
+    for worker in 0..asked.workers {
+        let consumer = hub.consumer(rt.alloc(), mailbox)?;
+        // Each worker has random words of its own.
+        let source = match asked.seed {
+            Some(seed) => ChaCha8Rng::seed_from_u64(seed.wrapping_add(worker)),
+            None => make_rng(rt)?,
+        };
+        crew.push(Member::Worker(consumer, source))?;
+    }
+    if tells {
+        crew.push(Member::Teller)?;
+    }
+    Ok(crew)
+}
+
+/// Takes all of them in, with what they did.
+pub fn take_in(mailbox: &Mailbox<Global>, hub: &mut Hub<Global>, crew: Vec<Member>)
+    requires hub { IsHubOf mailbox.now hub.old }
+    requires crew { All (IsOf mailbox.now) crew.items }
+    ensures hub { IsHubOf mailbox.now hub.new }
+{
+    for member in crew {
+        match member {
+            Member::Producer(producer, _) => hub.take_producer(mailbox, producer),
+            Member::Worker(consumer, _) => hub.take_consumer(mailbox, consumer),
+            Member::Teller => {}
+        }
+    }
+}

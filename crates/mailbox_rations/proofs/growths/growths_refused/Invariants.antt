@@ -1,8 +1,0 @@
-use Rattle.std.specs.Prelude.{ℕ, ◌<◌, false}
-use Rattle.mailbox_rations.specs.Trials.{MaySay}
-use Rattle.mailbox_rations.specs.declared.book.Refuse.TheVariants.{From, Only}
-use Rattle.mailbox_rations.proofs.growths.growths_refused.Given as goal
-
-abbrev pub invariant-loop-number : goal.invariant-loop-number
-invariant-loop-number g l =
-    (k : ℕ) → k < l.number → MaySay g.F.Fn l.call (From k) false × MaySay g.F.Fn l.call (Only k) false

@@ -1,0 +1,63 @@
+-- What a run of workers put is what the report has of each lane.
+use Rattle.std.proofs.Common.{◌≡◌, ℕ, zero, suc, ◌<◌, List, [], ◌∷◌, map, length, get_or, refl, sym, ap, subst, ◌∙◌, arith, Option, Some, None}
+use Rattle.std.specs.Prelude.{slice_get}
+use Rattle.std.specs.Option.{option_map_or}
+use Rattle.std.specs.List.{AllZip}
+use Rattle.mb_mailbox.specs.Gathering.{IsReportIn, lane_in}
+use Rattle.mb_mailbox.specs.Hubs.{HubView, PutListView}
+use Rattle.mb_mailbox.specs.Jobs.{IsFront}
+use Rattle.mb_mailbox.specs.Worked.{LaneLeft, ended_list}
+use Rattle.mb_world.specs.Report.{LaneView, ReportView}
+use Rattle.mb_rounds.specs.Round.{IsPutOf}
+
+pub zip_length : {A B : Type 0} (R : A → B → Type 0) (xs : List A) (ys : List B) → AllZip R xs ys → length xs ≡ length ys
+zip_length R [] [] z = refl
+zip_length R [] (y ∷ ys) z = absurd z
+zip_length R (x ∷ xs) [] z = absurd z
+zip_length R (x ∷ xs) (y ∷ ys) z = let t = zip_length R xs ys z.1 in omega (arith, t)
+
+pub get_map : {A B : Type 0} (f : A → B) (xs : List A) (i : ℕ) (x : A) → slice_get xs i ≡ Some x → slice_get (map f xs) i ≡ Some (f x)
+get_map f [] i x e = absurd (cc)
+get_map f (y ∷ xs) zero x e = let f_same : y ≡ x = cc in ap (λ z. Some (f z)) f_same
+get_map f (y ∷ xs) (suc i) x e = get_map f xs i x e
+
+pub get_map_at : {A B : Type 0} (f : A → B) (xs : List A) (i : ℕ) (x : A) → i < length xs → get_or xs i x ≡ x
+    → slice_get (map f xs) i ≡ Some (f x)
+get_map_at f [] i x low e = absurd (omega arith)
+get_map_at f (y ∷ xs) zero x low e = ap (λ z. Some (f z)) e
+get_map_at f (y ∷ xs) (suc i) x low e = get_map_at f xs i x (omega arith) e
+
+get_below : {X : Type 0} (xs : List X) (i : ℕ) (x : X) → slice_get xs i ≡ Some x → i < length xs
+get_below [] i x e = absurd (cc)
+get_below (y ∷ xs) zero x e = omega arith
+get_below (y ∷ xs) (suc i) x e = let t = get_below xs i x e in omega (arith, t)
+
+-- place by place the lanes of the report have what the workers put
+zip_put : (lists : List (List ℕ)) (ls : List LaneLeft) (vs : List LaneView) → AllZip (λ list l. IsFront l.put list) lists ls
+    → length vs ≡ length ls
+    → ((p : ℕ) (l : LaneLeft) → slice_get ls p ≡ Some l → (v : LaneView) × (slice_get vs p ≡ Some v) × (v.put ≡ l.put))
+    → AllZip IsPutOf lists vs
+zip_put [] [] [] z count each = tt
+zip_put [] [] (v ∷ vs) z count each = absurd (omega arith)
+zip_put [] (l ∷ ls) vs z count each = absurd z
+zip_put (list ∷ lists) [] vs z count each = absurd z
+zip_put (list ∷ lists) (l ∷ ls) [] z count each = absurd (omega arith)
+zip_put (list ∷ lists) (l ∷ ls) (v ∷ vs) z count each =
+    let here = each 0 l refl in
+    let same : v ≡ here.0 = cc in
+    let put : l.put ≡ v.put = sym (ap (λ (w : LaneView). w.put) same ∙ here.2) in
+    (subst (λ items. IsFront items list) put z.0, zip_put lists ls vs z.1 (omega arith) (λ p k e. each (suc p) k e))
+
+pub fronts_told : (lanes consumers : ℕ) (lists : List (List ℕ)) (ls : List LaneLeft) (h : HubView) (r : ReportView)
+    → lanes ≡ length lists → IsReportIn lanes consumers h r
+    → h.puts ≡ map (λ l. Some (ended_list l)) ls
+    → AllZip (λ list l. IsFront l.put list) lists ls → AllZip IsPutOf lists r.lanes
+fronts_told lanes consumers lists ls h r all is puts fronts =
+    let count = zip_length (λ list l. IsFront l.put list) lists ls fronts in
+    zip_put lists ls r.lanes fronts (is.lanes_count ∙ all ∙ count)
+    (λ p l e. (
+      lane_in consumers p h,
+      is.lane p (let t = get_below ls p l e in omega (arith, t, count, all)),
+      ap (λ (o : Option (Option PutListView)). option_map_or (λ (k : PutListView). k.items) (option_map_or (λ k. k) o None) [])
+          (ap (λ k. slice_get k p) puts ∙ get_map (λ (k : LaneLeft). Some (ended_list k)) ls p l e),
+    ))

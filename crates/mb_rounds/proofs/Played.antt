@@ -1,0 +1,57 @@
+-- A mailbox in which workers worked, from its making to its report.
+use Rattle.std.proofs.Common.{◌≡◌, ◌++◌, ℕ, List, Some, length, map, refl, sym, ap, subst, ◌∙◌}
+use Rattle.std.proofs.lemmas.List.{length-map}
+use Rattle.mb_mailbox.specs.Below.{Stream, consumer_count}
+use Rattle.mb_mailbox.specs.Called.{IsCalled}
+use Rattle.mb_mailbox.specs.Gathering.{FullTakesAll, IsGathered, IsReportIn}
+use Rattle.mb_mailbox.specs.Hubs.{HubView, IsHubOf, hub_empty}
+use Rattle.mb_mailbox.specs.Mailboxes.{MailboxView, plan_at}
+use Rattle.mb_mailbox.specs.Worked.{IsWorked, ended_list}
+use Rattle.mb_mailbox.specs.declared.gate.Who.{Who}
+use Rattle.mb_mailbox.specs.declared.working.Worked.{Worked}
+use Rattle.mb_world.specs.Headline.{IsHonest}
+use Rattle.mb_world.specs.Plan.{Plan, size_of}
+use Rattle.mb_world.specs.Report.{ReportView}
+use Rattle.mb_world.specs.Reporting.{IsReportOf}
+use Rattle.mb_world.specs.Sound.{AreSound}
+use Rattle.mb_rounds.specs.Behind.{Terms}
+use Rattle.mb_rounds.specs.Round.{IsPlayed}
+use Rattle.mb_rounds.proofs.Fronts.{fronts_told}
+
+-- one source for each generator
+pub count_sources : {X : Type 0} (stream : X → Stream) (rngs : List X) → length rngs ≡ length (map stream rngs)
+count_sources stream rngs = sym (length-map rngs stream)
+
+pub played : (m : MailboxView) (old h : HubView) (r : ReportView) (terms : Terms) (lists : List (List ℕ))
+    (may_stop may_pass : Who → ℕ → Type 0) (sources : ℕ) (w : Worked)
+    → plan_at m ≡ terms.plan → m.cells.size ≡ size_of terms.plan → terms.plan.lanes ≡ length lists
+    → sources ≡ length terms.sources → old ≡ hub_empty m → IsHubOf m h
+    → IsWorked may_stop terms.budget lists sources w old h
+    → IsCalled may_stop may_pass terms.budget lists terms.sources w old h
+    → IsReportIn m.cells.size.lanes (consumer_count m.claims.layout) h r
+    → IsGathered m h r → FullTakesAll m h r → IsPlayed may_stop may_pass terms lists r
+played m old h r terms lists may_stop may_pass sources w same size all many empty of worked called told gathered full = record {
+  fronts = fronts_told m.cells.size.lanes (consumer_count m.claims.layout) lists worked.lanes h r
+      (ap (λ (q : Plan). q.lanes) same ∙ all) told
+      (worked.run.puts ∙ ap (λ (o : HubView). o.puts ++ map (λ l. Some (ended_list l)) worked.lanes) empty)
+      worked.run.fronts;
+  histories = gathered.histories;
+  sound = subst (λ (q : Plan). AreSound q gathered.histories) same gathered.sound;
+  report = subst (λ (q : Plan). IsReportOf q gathered.histories r) same gathered.report;
+  honest = subst (λ (q : Plan). IsHonest q gathered.histories r) same gathered.honest;
+  run = record {
+    mailbox = m;
+    plan = same;
+    size = size;
+    hub = h;
+    of = of;
+    counts = w;
+    worked = subst (λ (z : ℕ × HubView). IsWorked may_stop terms.budget lists z.0 w z.1 h)
+        (λ i. (many i, empty i)) worked;
+    called = subst (λ (o : HubView). IsCalled may_stop may_pass terms.budget lists terms.sources w o h) empty called;
+    told = told;
+    gathered = gathered;
+    full = full;
+    histories = refl;
+  };
+}

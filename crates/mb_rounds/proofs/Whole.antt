@@ -1,0 +1,74 @@
+-- What a round gives out, and what stays, is what was carried before it.
+use Rattle.std.proofs.Common.{◌≡◌, ℕ, zero, suc, ◌+◌, List, [], ◌∷◌, ◌++◌, length, refl, sym, ap, ◌∙◌, append_assoc, arith, Some}
+use Rattle.std.proofs.lemmas.List.{drop_at}
+use Rattle.std.specs.Prelude.{drop, slice_get}
+use Rattle.std.specs.List.{AllZip, concat}
+use Rattle.mb_mailbox.specs.declared.gate.Who.{Who}
+use Rattle.mb_world.specs.Agreement.{ledger}
+use Rattle.mb_world.specs.Plan.{consumers_of}
+use Rattle.mb_world.specs.Report.{LaneView, ReportView}
+use Rattle.mb_rounds.specs.Behind.{Terms}
+use Rattle.mb_rounds.specs.Carried.{AreSameItems, times}
+use Rattle.mb_rounds.specs.Round.{IsPutOf, IsRound, ledgers_of, staying, taken_below}
+use Rattle.mb_rounds.proofs.Counts.{sum_below, sum_first, sum_same, sum_swap, times_both}
+use Rattle.mb_rounds.proofs.Lanes.{lane_adds_up}
+
+pub concat_push : (lists : List (List ℕ)) (list : List ℕ) → concat (lists ++ list ∷ []) ≡ concat lists ++ list
+concat_push [] list = append_nothing list
+  where
+    append_nothing : (xs : List ℕ) → xs ++ [] ≡ xs
+    append_nothing [] = refl
+    append_nothing (x ∷ xs) = ap (λ l. x ∷ l) (append_nothing xs)
+concat_push (l ∷ lists) list = ap (λ z. l ++ z) (concat_push lists list) ∙ sym (append_assoc l (concat lists) list)
+
+taken_adds_up : (x n c : ℕ) (r : ReportView) → times x (taken_below n c r) ≡ sum_below n (λ p. times x (ledger c p r))
+taken_adds_up x zero c r = refl
+taken_adds_up x (suc n) c r =
+    let t = taken_adds_up x n c r in
+    let b = times_both x (taken_below n c r) (ledger c n r) in
+    omega (arith, t, b)
+
+ledgers_add_up : (x n : ℕ) (r : ReportView)
+    → times x (concat (ledgers_of n r)) ≡ sum_below n (λ c. times x (taken_below (length r.lanes) c r))
+ledgers_add_up x zero r = refl
+ledgers_add_up x (suc n) r =
+    let t = ledgers_add_up x n r in
+    let own = taken_below (length r.lanes) n r in
+    let b = ap (times x) (concat_push (ledgers_of n r) own) ∙ times_both x (concat (ledgers_of n r)) own in
+    omega (arith, t, b)
+
+-- lane by lane: what is given out of it, what is left there, and what was not put of its list
+lanes_add_up : (x : ℕ) (given : ℕ → ℕ) (lists : List (List ℕ)) (lanes : List LaneView) → AllZip IsPutOf lists lanes
+    → ((p : ℕ) (l : LaneView) → slice_get lanes p ≡ Some l → given p + times x l.left ≡ times x l.put)
+    → sum_below (length lanes) given + times x (staying lists lanes) ≡ times x (concat lists)
+lanes_add_up x given [] [] z each = refl
+lanes_add_up x given [] (l ∷ ls) z each = absurd z
+lanes_add_up x given (list ∷ lists) [] z each = absurd z
+lanes_add_up x given (list ∷ lists) (l ∷ ls) z each =
+    let rest = lanes_add_up x (λ p. given (suc p)) lists ls z.1 (λ p k e. each (suc p) k e) in
+    let here = each 0 l refl in
+    let front = z.0 in
+    let behind : drop (length l.put) list ≡ front.0 =
+    ap (drop (length l.put)) (sym front.1) ∙ drop_at l.put front.0 (length l.put) refl in
+    let own = ap (times x) (sym front.1) ∙ times_both x l.put front.0 in
+    let beyond = ap (times x) behind in
+    let first = sum_first (length ls) given in
+    let a = times_both x (l.left ++ drop (length l.put) list) (staying lists ls) in
+    let b = times_both x l.left (drop (length l.put) list) in
+    let c = times_both x list (concat lists) in
+    omega (arith, rest, here, own, beyond, first, a, b, c)
+
+pub round_adds_up : {may_stop may_pass : Who → ℕ → Type 0} (terms : Terms) (was : List ℕ) (taken : List (List ℕ)) (r : ReportView)
+    (now : List ℕ) → IsRound may_stop may_pass terms was taken r now → AreSameItems was (concat taken ++ now)
+round_adds_up terms was taken r now round x =
+    let n = consumers_of terms.plan in
+    let before = ap (times x) (sym round.dealt) ∙ times_both x (concat round.lists) round.behind in
+    let after = ap (times x) round.carried ∙ times_both x (staying round.lists r.lanes) round.behind in
+    let given = ap (λ ls. times x (concat ls)) round.given ∙ ledgers_add_up x n r
+    ∙ sum_same n (λ c. times x (taken_below (length r.lanes) c r)) (λ c. sum_below (length r.lanes) (λ p. times x (ledger c p r)))
+    (λ c low. taken_adds_up x (length r.lanes) c r)
+    ∙ sum_swap n (length r.lanes) (λ c p. times x (ledger c p r)) in
+    let lanes = lanes_add_up x (λ p. sum_below n (λ c. times x (ledger c p r))) round.lists r.lanes round.played.fronts
+    (lane_adds_up terms round.lists r round.played x) in
+    let both = times_both x (concat taken) now in
+    omega (arith, before, after, given, lanes, both)

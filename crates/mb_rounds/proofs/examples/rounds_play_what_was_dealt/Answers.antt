@@ -1,0 +1,70 @@
+use Rattle.std.proofs.Common.{◌≡◌, ◌∙◌, ℕ, Bool, true, false, List, [], ◌∷◌, Option, None, Some, ap, arith, get_or, inl, inr, length, map, refl, slice_get, subst, sym}
+use Rattle.std.specs.Option.{option_map_or}
+use Rattle.std.specs.List.{AllZip}
+use Rattle.mb_mailbox.specs.Below.{CellsName, History, PoolSize, consumer_count}
+use Rattle.mb_mailbox.specs.Gathering.{FullTakesAll, lane_in}
+use Rattle.mb_mailbox.specs.Hubs.{HubView, PutListView}
+use Rattle.mb_mailbox.specs.Jobs.{IsFront}
+use Rattle.mb_mailbox.specs.Mailboxes.{MailboxView}
+use Rattle.mb_mailbox.specs.Worked.{AreCutByCells, AreStoppedPuts, LaneLeft, ended_list}
+use Rattle.mb_world.specs.Report.{LaneView}
+use Rattle.mb_rounds.specs.RoundExamples.{at_no_call, one_lane}
+use Rattle.mb_rounds.proofs.Whole.{round_adds_up}
+use Rattle.mb_rounds.proofs.examples.rounds_play_what_was_dealt.Goals as goal
+
+pub returns-clause-other_item : goal.returns-clause-other_item
+returns-clause-other_item c = λ terms played.
+    let first : 8 ≡ 7 = ap (λ items. get_or items 0 0) played.fronts.0.1 in
+    omega (arith, first)
+
+abbrev dealt : List (List ℕ)
+dealt = (7 ∷ []) ∷ []
+
+-- a producer that nobody stops, of a list that has a cell
+puts_it : (m : MailboxView) (h : HubView) (n : ℕ) (left : List LaneLeft) → m.cells.size.cells ≡ 1
+    → h.puts ≡ map (λ l. Some (ended_list l)) left → h.cells.roll.lanes ≡ map (λ l. Some l.part) left
+    → AllZip (λ list l. IsFront l.put list) dealt left
+    → slice_get (one_lane []).lanes 0 ≡ Some (lane_in n 0 h)
+    → AreStoppedPuts at_no_call m.cells.size.cells 0 dealt left → AreCutByCells m.cells.size.cells 0 dealt left
+    → FullTakesAll m h (one_lane []) → ⊥
+puts_it m h n [] one puts parts fronts told stopped cut full = absurd fronts
+puts_it m h n (l ∷ x ∷ ls) one puts parts fronts told stopped cut full = absurd fronts.1
+puts_it m h n (l ∷ []) one puts parts fronts told stopped cut full = at l.stopped refl
+  where
+    kept : (lane_in n 0 h).put ≡ l.put
+    kept = ap (λ (ps : List (Option PutListView)). option_map_or (λ (k : PutListView). k.items)
+        (option_map_or (λ k. k) (slice_get ps 0) None) []) puts
+
+    none : l.put ≡ []
+    none = sym kept ∙ sym (ap (λ (o : Option LaneView). option_map_or (λ (v : LaneView). v.put) o []) told)
+
+    at : (b : Bool) → l.stopped ≡ b → ⊥
+    at true is =
+        let long = ap length none in
+        elim (stopped.0 is).stop [ inl stops ↦ stops | inr last ↦ omega (arith, last, long) ]
+    at false is =
+        let long = ap length none in
+        let all = full 0 l.part (ap (λ (ps : List (Option History)). slice_get ps 0) parts) (cut.0 is (omega (arith, long))) in
+        omega (arith, all, one)
+
+pub returns-clause-not_put : goal.returns-clause-not_put
+returns-clause-not_put c = λ terms cell played.
+    let run = played.run in
+    let m = run.mailbox in
+    let h = run.hub in
+    let lanes = run.worked.lanes in
+    let cells : h.cells.table.size.cells ≡ m.cells.size.cells = ap (λ (t : CellsName). t.size.cells) run.of.cells in
+    let one = ap (λ (s : PoolSize). s.cells) run.size ∙ cell in
+    let many : 1 ≡ m.cells.size.lanes = run.told.lanes_count in
+    puts_it m h (consumer_count m.claims.layout) lanes one run.worked.run.puts run.worked.run.parts run.worked.run.fronts
+    (run.told.lane 0 (omega (arith, many)))
+    (subst (λ k. AreStoppedPuts at_no_call k 0 dealt lanes) cells run.worked.stopped_puts)
+    (subst (λ k. AreCutByCells k 0 dealt lanes) cells run.worked.cut) run.full
+
+pub returns-clause-lost : goal.returns-clause-lost
+returns-clause-lost c = λ terms r round.
+    let t = round_adds_up terms (7 ∷ []) ([] ∷ []) r [] round 7 in omega (arith, t)
+
+pub returns-clause-twice : goal.returns-clause-twice
+returns-clause-twice c = λ terms r round.
+    let t = round_adds_up terms (7 ∷ []) ((7 ∷ []) ∷ []) r (7 ∷ []) round 7 in omega (arith, t)

@@ -1,0 +1,25 @@
+use Rattle.std.proofs.Common.{[], ◌∷◌, refl, arith}
+use Rattle.mb_rounds.specs.TurnExamples.{two_rounds}
+use Rattle.mb_rounds.proofs.Counts.{times_first}
+use Rattle.mb_rounds.proofs.Turning.{all_there}
+use Rattle.mb_rounds.proofs.laws.carried_by_example.Goals as goal
+
+pub returns-clause-one_left : goal.returns-clause-one_left
+returns-clause-one_left c = (
+  8 ∷ 7 ∷ 9 ∷ [],
+  (8 ∷ 7 ∷ [], (7 ∷ 8 ∷ 7 ∷ [], ([], refl, refl), λ x. refl), refl),
+  (λ x.
+      let a = times_first x 8 (7 ∷ 9 ∷ []) in
+      let b = times_first x 7 (9 ∷ []) in
+      let d = times_first x 7 (9 ∷ 8 ∷ []) in
+      let e = times_first x 9 (8 ∷ []) in
+      let f = times_first x 9 [] in
+      let g = times_first x 8 [] in
+      omega (arith, a, b, d, e, f, g)),
+)
+
+pub returns-clause-none_left : goal.returns-clause-none_left
+returns-clause-none_left c e = let t = all_there 8 two_rounds [] e in absurd (omega (arith, t))
+
+pub returns-clause-other_left : goal.returns-clause-other_left
+returns-clause-other_left c e = let t = all_there 8 two_rounds (7 ∷ []) e in absurd (omega (arith, t))

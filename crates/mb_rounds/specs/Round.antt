@@ -1,0 +1,61 @@
+-- One round: which items went in, what its report says of them, what was given out, and what stays.
+use Rattle.std.specs.Prelude.{ℕ, zero, suc, ◌≡◌, ◌++◌, List, [], ◌∷◌, drop, length, min}
+use Rattle.std.specs.List.{AllZip, concat, filter_map}
+use Rattle.mb_mailbox.specs.Jobs.{IsFront}
+use Rattle.mb_mailbox.specs.declared.gate.Who.{Who}
+use Rattle.mb_world.specs.Agreement.{item_taken, ledger}
+use Rattle.mb_world.specs.Headline.{IsHonest}
+use Rattle.mb_world.specs.Plan.{Histories, consumers_of}
+use Rattle.mb_world.specs.Report.{LaneView, ReportView}
+use Rattle.mb_world.specs.Reporting.{IsReportOf}
+use Rattle.mb_world.specs.Sound.{AreSound}
+use Rattle.mb_world.specs.declared.report.Note.{Note}
+use Rattle.mb_rounds.specs.Behind.{IsRunBehind, Terms}
+
+-- what was put on a lane is a beginning of the list dealt to its producer
+abbrev pub IsPutOf : List ℕ → LaneView → Type 0
+IsPutOf list lane = IsFront lane.put list
+
+-- these lists were put into a mailbox of these terms, each up to some item, and the report is that of the mailbox
+pub record IsPlayed (may_stop may_pass : Who → ℕ → Type 0) (terms : Terms) (lists : List (List ℕ)) (r : ReportView) : Type 0 where
+  pub fronts : AllZip IsPutOf lists r.lanes
+  -- what was done to the words of the claims and to those of the cells is lawful, and the report is of that
+  pub histories : Histories
+  pub sound : AreSound terms.plan histories
+  pub report : IsReportOf terms.plan histories r
+  -- one assignment of items to consumers stands behind the whole report
+  pub honest : IsHonest terms.plan histories r
+  -- it was done by a producer for each list and a consumer for each source, which go on until the gate stops them
+  pub run : IsRunBehind may_stop may_pass terms lists histories r
+
+-- the items that notes say were taken
+abbrev pub taken_in : List Note → List ℕ
+taken_in notes = filter_map item_taken notes
+
+-- what consumer c took on the first n lanes: its ledgers from them, lane by lane
+abbrev pub taken_below : ℕ → ℕ → ReportView → List ℕ
+taken_below zero c r = []
+taken_below (suc n) c r = taken_below n c r ++ ledger c n r
+
+-- what each of the first n consumers took on all lanes
+abbrev pub ledgers_of : ℕ → ReportView → List (List ℕ)
+ledgers_of zero r = []
+ledgers_of (suc n) r = ledgers_of n r ++ taken_below (length r.lanes) n r ∷ []
+
+-- of each lane the items that nobody took, and then those of its list that were not put
+abbrev pub staying : List (List ℕ) → List LaneView → List ℕ
+staying [] _ = []
+staying _ [] = []
+staying (list ∷ lists) (lane ∷ lanes) = (lane.left ++ drop (length lane.put) list) ++ staying lists lanes
+
+-- the oldest of the items carried, as many as there are cells, were dealt to the producers and went into a mailbox of these
+-- terms. What each consumer took there is given out. What nobody took or nobody put is carried, before what was not dealt
+pub record IsRound (may_stop may_pass : Who → ℕ → Type 0) (terms : Terms) (was : List ℕ) (taken : List (List ℕ)) (r : ReportView)
+    (now : List ℕ) : Type 0 where
+  pub lists : List (List ℕ)
+  pub behind : List ℕ
+  pub dealt : concat lists ++ behind ≡ was
+  pub amount : length (concat lists) ≡ min terms.plan.claims.cells (length was)
+  pub played : IsPlayed may_stop may_pass terms lists r
+  pub given : taken ≡ ledgers_of (consumers_of terms.plan) r
+  pub carried : now ≡ staying lists r.lanes ++ behind

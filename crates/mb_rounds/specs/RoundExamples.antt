@@ -1,0 +1,25 @@
+-- Rounds by example: over a mailbox with no lane, and over one lane.
+use Rattle.std.specs.Prelude.{ℕ, List, [], ◌∷◌, true}
+use Rattle.mb_mailbox.specs.Mailboxes.{MailboxView, plan_at}
+use Rattle.mb_mailbox.specs.declared.gate.Who.{Who}
+use Rattle.mb_world.specs.Report.{ReportView}
+use Rattle.mb_rounds.specs.Behind.{Terms}
+
+-- a gate that stops nobody, or lets each pass
+abbrev pub at_no_call : Who → ℕ → Type 0
+at_no_call who call = ⊥
+
+abbrev pub at_each_call : Who → ℕ → Type 0
+at_each_call who call = Unit {0}
+
+-- a round over this mailbox, with no consumer
+abbrev pub idle_terms : MailboxView → Terms
+idle_terms m = record { plan = plan_at m; budget = 1; sources = [] }
+
+-- the report of a mailbox with no lane
+abbrev pub no_lanes : ReportView
+no_lanes = record { lanes = []; diaries = [] }
+
+-- one of one lane, on which these items were put and nobody took any
+abbrev pub one_lane : List ℕ → ReportView
+one_lane items = record { lanes = record { put = items; ended = true; left = items } ∷ []; diaries = [] }

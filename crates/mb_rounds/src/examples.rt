@@ -1,0 +1,36 @@
+//! Rounds by example: what the definitions let in, and what only looks right. The functions compute nothing: their contracts
+//! are the examples.
+ghost use Rattle.std.specs.Prelude.{◌≡◌, [], ◌∷◌};
+ghost use Rattle.mb_mailbox.specs.Gathering.{IsGathered};
+ghost use Rattle.mb_mailbox.specs.Hubs.{hub_empty};
+ghost use Rattle.mb_mailbox.specs.Mailboxes.{MailboxView, plan_at};
+ghost use Rattle.mb_world.specs.Plan.{consumers_of, size_of};
+ghost use Rattle.mb_world.specs.Report.{ReportView};
+ghost use Rattle.mb_rounds.specs.Behind.{Terms};
+ghost use Rattle.mb_rounds.specs.Round.{IsPlayed, IsRound, ledgers_of};
+ghost use Rattle.mb_rounds.specs.RoundExamples.{at_each_call, at_no_call, idle_terms, no_lanes, one_lane};
+
+/// A round over a mailbox with no lane and no cell, with no consumer: nothing is given out, and both items stay.
+pub fn rounds_may_be_idle()
+    ensures { (m : MailboxView) → m.cells.size ≡ size_of (plan_at m)
+        → m.cells.size.lanes ≡ 0 → m.claims.cells ≡ 0 → IsGathered m (hub_empty m) no_lanes
+        → IsRound at_no_call at_each_call (idle_terms m) (7 ∷ 8 ∷ [])
+        (ledgers_of (consumers_of (plan_at m)) no_lanes) no_lanes (7 ∷ 8 ∷ []) }
+{}
+
+/// What is no round.
+pub fn rounds_play_what_was_dealt()
+    // The item 7 was dealt, and 8 was put.
+    ensures other_item { (terms : Terms)
+        → IsPlayed at_each_call at_each_call terms ((7 ∷ []) ∷ []) (one_lane (8 ∷ [])) → ⊥ }
+
+    // There is a cell for it, no gate stops its producer, and it was not put.
+    ensures not_put { (terms : Terms) → terms.plan.claims.cells ≡ 1
+        → IsPlayed at_no_call at_each_call terms ((7 ∷ []) ∷ []) (one_lane []) → ⊥ }
+
+    // It is neither given out nor carried, or both.
+    ensures lost { (terms : Terms) (r : ReportView)
+        → IsRound at_each_call at_each_call terms (7 ∷ []) ([] ∷ []) r [] → ⊥ }
+    ensures twice { (terms : Terms) (r : ReportView)
+        → IsRound at_each_call at_each_call terms (7 ∷ []) ((7 ∷ []) ∷ []) r (7 ∷ []) → ⊥ }
+{}

@@ -1,0 +1,12 @@
+use Rattle.std.proofs.Common.{ℕ, false, rules}
+use Rattle.test_alloc.specs.Trials.{MaySay}
+use Rattle.test_alloc.specs.declared.book.Refuse.TheVariants.{From, Only}
+use Rattle.test_alloc.proofs.Below.{below_next}
+use Rattle.test_alloc.proofs.growths.growths_refused.Goals as goal
+
+pub loop-number-preserved : goal.loop-number-preserved
+loop-number-preserved g c =
+    let from : MaySay g.F.Fn c.args.call (From c.loop-number.number) false = search rules in
+    let only : MaySay g.F.Fn c.args.call (Only c.loop-number.number) false = search rules in
+    below_next (λ k. MaySay g.F.Fn c.args.call (From k) false × MaySay g.F.Fn c.args.call (Only k) false)
+    c.loop-number.number c.loop-number.invariant (from, only)

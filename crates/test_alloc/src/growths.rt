@@ -1,0 +1,48 @@
+//! Each growth of a call refused in its turn.
+
+ghost use Rattle.std.specs.Prelude.{ℕ, ◌<◌, IfOk, false, true};
+ghost use Rattle.test_alloc.specs.Trials.{MaySay};
+ghost use Rattle.test_alloc.specs.declared.book.Refuse.TheVariants.{From, Only};
+
+use crate::{Rations, Refuse};
+use std::alloc::Global;
+use std::test::Fail;
+
+/// No call that is tried grows so often.
+const MANY: u64 = 100;
+
+/// How many growths the call makes: each is refused in its turn, together with all later ones and alone, and then the
+/// call is served.
+///
+/// The call says whether it was served, and keeps nothing. It has to be refused just where a growth was. It fails where it
+/// does otherwise, where it keeps memory, and where it makes a hundred growths.
+pub fn growths_refused<R: AllocGlobal, F: Fn(&Rations<Global>) -> Result<bool, Fail>>(
+    rt: &R,
+    call: F,
+) -> Result<u64, Fail>
+    requires { F.IsAlwaysCallable call }
+    ensures few { IfOk result (λ growths. growths < 100) }
+    ensures served { IfOk result (λ growths. MaySay F.Fn call (From growths) true
+        × MaySay F.Fn call (Only growths) true) }
+    ensures refused { IfOk result (λ growths. (k : ℕ) → k < growths
+        → MaySay F.Fn call (From k) false × MaySay F.Fn call (Only k) false) }
+{
+    for number in 0..MANY {
+        let from = Rations::new(rt.alloc(), Refuse::From(number));
+        let only = Rations::new(rt.alloc(), Refuse::Only(number));
+        let served = call(&from)?;
+        if call(&only)? != served {
+            return Err(Fail::new("one refused growth is not as all later ones"));
+        }
+        if served != (from.asked() <= number) || served != (only.asked() <= number) {
+            return Err(Fail::new("it is not refused just where a growth is"));
+        }
+        if from.out() != 0 || only.out() != 0 {
+            return Err(Fail::new("it keeps memory"));
+        }
+        if served {
+            return Ok(number);
+        }
+    }
+    Err(Fail::new("it is never served"))
+}

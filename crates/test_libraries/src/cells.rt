@@ -1,0 +1,274 @@
+//! A pool of linked cells.
+ghost use Rattle.std.specs.Prelude.{◌<◌, List, ◌∷◌};
+ghost use Rattle.mb_cells.specs.Vocabulary.{Call, Finished, HasMade, Offered, Pushed};
+ghost use Rattle.mb_cells.specs.declared.size.PoolSize.{PoolSize};
+ghost use Rattle.mb_cells.specs.Vocabulary.{lane_count};
+
+use crate::compare::same;
+use crate::pools::PoolCall::{
+    Finish as Ends, Item, Look as Looks, Offer as Offers, Push as Pushes,
+};
+use crate::pools::{Calls, PoolCall};
+use test_alloc::growths_refused;
+use mb_cells::{Cursor, Finish, Look, Offer, Pool, Push};
+use std::alloc::Allocator;
+use std::test::Fail;
+
+/// The item of an only lane, from the first look to the end mark.
+fn one_item() -> [PoolCall; 9] {
+    [
+        Looks(Cursor::head(0), Look::Nothing),
+        Offers(0, 8, Offer::Cell(0)),
+        Pushes(0, Push::Item(0)),
+        Looks(Cursor::head(0), Look::Nothing),
+        Pushes(0, Push::Link(0)),
+        Looks(Cursor::head(0), Look::Cell(0)),
+        Item(0, 8),
+        Ends(0, Finish::Ended),
+        Looks(Cursor::past(0), Look::Ended),
+    ]
+}
+
+#[test]
+fn each_growth_of_new_refused(rt: HostRuntime) -> Result<(), Fail> {
+    let refused = growths_refused(&rt, |alloc| match Calls::new(alloc, 1, 1) {
+        Ok(mut pool) => {
+            pool.make(&rt, &one_item());
+            Ok(true)
+        }
+        Err(_) => Ok(false),
+    })?;
+    // The heads, the links, the items and the lanes.
+    assert!(rt; 4 <= refused);
+    Ok(())
+}
+
+/// An item is offered, gets this cell, and is linked.
+fn put(p: u32, x: u64, cell: u32) -> [PoolCall; 3] {
+    [
+        Offers(p, x, Offer::Cell(cell)),
+        Pushes(p, Push::Item(cell)),
+        Pushes(p, Push::Link(cell)),
+    ]
+}
+
+/// Puts an item and ends its lane. The calls with their answers go on with any list that led to the pool.
+fn put_and_end<A: Allocator + Drop>(
+    pool: &mut Pool<A>,
+    p: u32,
+    x: u64,
+) -> (Offer, Push, Push, Finish)
+    requires { p < lane_count pool.old }
+    ensures { (size : PoolSize) (older : List Call) → HasMade size older pool.old
+        → HasMade size (Finished p result.3 ∷ Pushed p result.2 ∷ Pushed p result.1
+        ∷ Offered p x result.0 ∷ older) pool.new }
+{
+    let offered = pool.offer(p, x);
+    let stored = pool.push(p);
+    let linked = pool.push(p);
+    (offered, stored, linked, pool.finish(p))
+}
+
+#[test]
+fn calls_join_a_list(rt: HostRuntime) -> Result<(), Fail> {
+    let mut pool = Pool::new(rt.alloc(), 1, 1)?;
+    let (offered, stored, linked, ended) = put_and_end(&mut pool, 0, 8);
+    same(
+        &rt,
+        &(offered, stored, linked, ended),
+        &(Offer::Cell(0), Push::Item(0), Push::Link(0), Finish::Ended),
+    );
+    Ok(())
+}
+
+#[test]
+fn two_lanes_draw_from_one_pool(rt: HostRuntime) -> Result<(), Fail> {
+    let mut pool = Calls::new(rt.alloc(), 2, 4)?;
+    for (p, x, cell) in [(0, 10, 0), (1, 20, 1), (0, 11, 2), (1, 21, 3)] {
+        pool.make(&rt, &put(p, x, cell));
+    }
+    let calls = [
+        Looks(Cursor::head(0), Look::Cell(0)),
+        Looks(Cursor::past(0), Look::Cell(2)),
+        Looks(Cursor::past(2), Look::Nothing),
+        Looks(Cursor::head(1), Look::Cell(1)),
+        Looks(Cursor::past(1), Look::Cell(3)),
+        Looks(Cursor::past(3), Look::Nothing),
+        Item(3, 21),
+    ];
+    pool.make(&rt, &calls);
+    Ok(())
+}
+
+#[test]
+fn full_comes_with_one_access(rt: HostRuntime) -> Result<(), Fail> {
+    let mut pool = Calls::new(rt.alloc(), 2, 1)?;
+    let calls = [
+        Offers(0, 1, Offer::Cell(0)),
+        Offers(1, 2, Offer::Full),
+        Offers(1, 3, Offer::Full),
+        Ends(1, Finish::Ended),
+        Ends(0, Finish::Busy),
+    ];
+    pool.make(&rt, &calls);
+    Ok(())
+}
+
+#[test]
+fn a_pool_of_no_cells(rt: HostRuntime) -> Result<(), Fail> {
+    let mut pool = Calls::new(rt.alloc(), 1, 0)?;
+    let calls = [
+        Offers(0, 5, Offer::Full),
+        Offers(0, 5, Offer::Full),
+        Ends(0, Finish::Ended),
+        Looks(Cursor::head(0), Look::Ended),
+    ];
+    pool.make(&rt, &calls);
+    Ok(())
+}
+
+#[test]
+fn refusals_in_their_order(rt: HostRuntime) -> Result<(), Fail> {
+    let mut pool = Calls::new(rt.alloc(), 1, 1)?;
+    let calls = [
+        Offers(0, 3, Offer::Cell(0)),
+        Ends(0, Finish::Busy),
+        Offers(0, 4, Offer::Busy),
+        Pushes(0, Push::Item(0)),
+        Ends(0, Finish::Busy),
+        Pushes(0, Push::Link(0)),
+        Pushes(0, Push::Idle),
+        Ends(0, Finish::Ended),
+        Offers(0, 4, Offer::Closed),
+        Ends(0, Finish::Closed),
+        Pushes(0, Push::Idle),
+    ];
+    pool.make(&rt, &calls);
+    Ok(())
+}
+
+/// No cell is left for lane `p`, which ends, and whose first cell has its number.
+fn full_and_ended(p: u32) -> [PoolCall; 3] {
+    [
+        Offers(p, 7, Offer::Full),
+        Ends(p, Finish::Ended),
+        Looks(Cursor::head(p), Look::Cell(p)),
+    ]
+}
+
+/// The item of the last cell of lane `p`, behind which the lane ends, and the second cell.
+fn two_cells_on(p: u32, last: u32) -> [PoolCall; 3] {
+    [
+        Looks(Cursor::past(p), Look::Cell(p.wrapping_add(16))),
+        Item(last, u64::from(last) + 100),
+        Looks(Cursor::past(last), Look::Ended),
+    ]
+}
+
+#[test]
+fn sixteen_lanes_until_full(rt: HostRuntime) -> Result<(), Fail> {
+    let mut pool = Calls::new(rt.alloc(), 16, 40)?;
+    for cell in 0..40u32 {
+        pool.make(&rt, &put(cell % 16, u64::from(cell) + 100, cell));
+    }
+    for p in 0..16u32 {
+        let last = if p < 8 { p + 32 } else { p + 16 };
+        pool.make(&rt, &full_and_ended(p));
+        pool.make(&rt, &two_cells_on(p, last));
+    }
+    Ok(())
+}
+
+/// Cell `k` of 256 has the item of its number, and behind it stands the cell so many places on, or the end.
+fn read(k: u32, step: u32) -> [PoolCall; 2] {
+    let next = k.wrapping_add(step);
+    let behind = if next < 256 {
+        Look::Cell(next)
+    } else {
+        Look::Ended
+    };
+    [Item(k, u64::from(k) + 1000), Looks(Cursor::past(k), behind)]
+}
+
+#[test]
+fn sixteen_lanes_share_256_cells(rt: HostRuntime) -> Result<(), Fail> {
+    let mut pool = Calls::new(rt.alloc(), 16, 256)?;
+    for cell in 0..256u32 {
+        pool.make(&rt, &put(cell % 16, u64::from(cell) + 1000, cell));
+    }
+    for p in 0..16 {
+        pool.make(&rt, &full_and_ended(p));
+    }
+    for k in 0..256 {
+        pool.make(&rt, &read(k, 16));
+    }
+    Ok(())
+}
+
+#[test]
+fn one_lane_takes_all_256_cells(rt: HostRuntime) -> Result<(), Fail> {
+    let mut pool = Calls::new(rt.alloc(), 16, 256)?;
+    for cell in 0..256u32 {
+        pool.make(&rt, &put(5, u64::from(cell) + 1000, cell));
+        pool.make(&rt, &[Looks(Cursor::past(cell), Look::Nothing)]);
+    }
+    let calls = [
+        Offers(5, 7, Offer::Full),
+        Ends(5, Finish::Ended),
+        Looks(Cursor::head(5), Look::Cell(0)),
+    ];
+    pool.make(&rt, &calls);
+    for k in 0..256 {
+        pool.make(&rt, &[Pushes(5, Push::Idle)]);
+        pool.make(&rt, &read(k, 1));
+    }
+    Ok(())
+}
+
+/// The refusals of lane `p`, whose item is offered and not put.
+fn is_busy(p: u32) -> [PoolCall; 3] {
+    [
+        Offers(p, 9, Offer::Busy),
+        Ends(p, Finish::Busy),
+        Looks(Cursor::head(p), Look::Nothing),
+    ]
+}
+
+/// The item of lane `p` is put, and the lane ends.
+fn put_and_ended(p: u32) -> [PoolCall; 3] {
+    [
+        Pushes(p, Push::Item(p)),
+        Pushes(p, Push::Link(p)),
+        Ends(p, Finish::Ended),
+    ]
+}
+
+/// The refusals of lane `p`, which has ended after one item.
+fn is_closed(p: u32) -> [PoolCall; 6] {
+    [
+        Offers(p, 9, Offer::Closed),
+        Pushes(p, Push::Idle),
+        Ends(p, Finish::Closed),
+        Looks(Cursor::head(p), Look::Cell(p)),
+        Item(p, u64::from(p) + 1),
+        Looks(Cursor::past(p), Look::Ended),
+    ]
+}
+
+#[test]
+fn a_thousand_refusals_change_nothing(rt: HostRuntime) -> Result<(), Fail> {
+    let mut pool = Calls::new(rt.alloc(), 16, 256)?;
+    for p in 0..16u32 {
+        pool.make(&rt, &[Offers(p, u64::from(p) + 1, Offer::Cell(p))]);
+    }
+    for turn in 0..1024 {
+        pool.make(&rt, &is_busy(turn % 16));
+    }
+    for q in 0..16 {
+        pool.make(&rt, &put_and_ended(q));
+    }
+    for after in 0..1024 {
+        pool.make(&rt, &is_closed(after % 16));
+    }
+    Ok(())
+}

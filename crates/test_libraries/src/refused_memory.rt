@@ -1,0 +1,98 @@
+//! Calls whose memory is refused: each growth in turn, and at last the same call with memory.
+
+use crate::answers::make;
+use crate::claims::{WON_AND_LOST, is_played, won_and_lost};
+use crate::compare::same;
+use crate::entries::{last_turn, late_input, shows};
+use crate::events::take_seven;
+use test_alloc::{Rations, Refuse, growths_refused};
+use mb_claim::{Layout, Stage};
+use mb_deciding::{Out, conciliate, ratify};
+use mb_quorum::TableName;
+use mb_world::{Note, Report, Setup, World};
+use std::alloc::Global;
+use std::process::Abort;
+use std::test::Fail;
+use test_support::{Difference, tells};
+
+#[test]
+fn each_growth_of_ratify_refused(rt: HostRuntime) -> Result<(), Fail> {
+    let outputs = [Some(Out::decided(0)), Some(Out::undecided(0))];
+    let refused = growths_refused(&rt, |alloc| {
+        let returned = ratify(alloc, TableName::Unary, 2, &[0, 1], &[0, 0, 0, 0, 1, 1, 1]);
+        Ok(shows(&rt, returned, &late_input(), &outputs))
+    })?;
+    // The processes, the entries and the outputs.
+    assert!(rt; 3 <= refused);
+    Ok(())
+}
+
+#[test]
+fn each_growth_of_conciliate_refused(rt: HostRuntime) -> Result<(), Fail> {
+    let refused = growths_refused(&rt, |alloc| {
+        let returned = conciliate(alloc, 2, &[0], &[(0, 3); 5]);
+        Ok(shows(&rt, returned, &last_turn(), &[Some(Out::undecided(0))]))
+    })?;
+    // The processes, the entries and the outputs.
+    assert!(rt; 3 <= refused);
+    Ok(())
+}
+
+#[test]
+fn each_growth_of_play_refused(rt: HostRuntime) -> Result<(), Fail> {
+    let layout = Layout::new(2, 1, TableName::Bits)?;
+    let (entries, stages) = (won_and_lost(), [Stage::Won, Stage::Lost(0)]);
+    let refused = growths_refused(&rt, |alloc| {
+        Ok(is_played(&rt, alloc, &layout, &WON_AND_LOST, (0, &entries), &stages))
+    })?;
+    // The words, the claims, the entries and the stages.
+    assert!(rt; 4 <= refused);
+    Ok(())
+}
+
+/// The allocator of all lists of a world.
+type Alloc<'r> = &'r Rations<Global>;
+
+/// The only item was taken by the only consumer.
+fn tells_seven(report: &Report<Alloc<'_>>) -> Result<(), Difference> {
+    tells(
+        report,
+        &[(&[7], false, &[])],
+        &[(0, 0, &[Note::Took(7)], false)],
+    )
+}
+
+/// Whether the allocator serves the report of that. If not, another serves it.
+fn report_is_served<'a>(
+    world: &World<Alloc<'a>>,
+    alloc: Alloc<'a>,
+    ample: Alloc<'a>,
+) -> Result<bool, Fail> {
+    if let Ok(report) = world.report(alloc) {
+        tells_seven(&report)?;
+        return Ok(true);
+    }
+    tells_seven(&world.report(ample)?)?;
+    Ok(false)
+}
+
+/// Whether the allocator serves the world and its report.
+fn world_is_served<'a>(rt: &impl Abort, alloc: Alloc<'a>, ample: Alloc<'a>) -> Result<bool, Fail> {
+    let setup = Setup::new(1, 1, 1, 1, TableName::Bits)?;
+    let Ok(mut world) = World::new(alloc, setup) else {
+        return Ok(false);
+    };
+    make(rt, &mut world, &take_seven());
+    report_is_served(&world, alloc, ample)
+}
+
+#[test]
+fn each_growth_of_a_world_and_its_report_refused(rt: HostRuntime) -> Result<(), Fail> {
+    let ample = Rations::new(rt.alloc(), Refuse::Never);
+    let refused = growths_refused(&rt, |alloc| world_is_served(&rt, alloc, &ample))?;
+    // The four lists of the pool, the words of the claims, the seats and the notes; then the lane and its item, the diary
+    // and its note, and the cells of the lane that is read.
+    assert!(rt; 12 <= refused);
+    same(&rt, &ample.out(), &0);
+    Ok(())
+}

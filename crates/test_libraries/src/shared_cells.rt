@@ -1,0 +1,419 @@
+//! Lanes on words that threads share.
+ghost use Rattle.std.specs.Prelude.{◌≡◌, ◌<◌};
+ghost use Rattle.mb_cells.specs.Vocabulary.{MayRead, word_of};
+ghost use Rattle.mb_cells.specs.declared.access.Word.TheVariants.{Head};
+
+use crate::compare::same;
+use test_alloc::growths_refused;
+use mb_cells::{Cursor, Finish, Look, Offer, Push};
+use mb_shared_cells::{AllGiven, CellHub, LaneSeat, ReaderSeat, SharedCells};
+use std::alloc::Allocator;
+use std::process::Abort;
+use std::test::Fail;
+use std::thread::{Threads, join};
+
+/// The item of an only lane is linked, and before that nothing is found.
+fn link_one_item<A: Allocator + Drop>(
+    rt: &impl Abort,
+    table: &SharedCells<A>,
+    lane: &mut LaneSeat,
+    reader: &mut ReaderSeat,
+)
+    requires lane { lane.old.table ≡ table.now }
+    requires reader { reader.old.table ≡ table.now }
+    requires some { 0 < table.now.size.lanes }
+    ensures lane { lane.new.table ≡ table.now }
+    ensures reader { reader.new.table ≡ table.now }
+{
+    let told = (
+        lane.lane(),
+        table.look(reader, Cursor::head(0)),
+        table.offer(lane, 8),
+        table.push(lane),
+        table.look(reader, Cursor::head(0)),
+        table.push(lane),
+    );
+    same(
+        rt,
+        &told,
+        &(
+            0,
+            Look::Nothing,
+            Offer::Cell(0),
+            Push::Item(0),
+            Look::Nothing,
+            Push::Link(0),
+        ),
+    );
+}
+
+/// That item, from the first look to the end mark.
+fn put_one_item<A: Allocator + Drop>(
+    rt: &impl Abort,
+    table: &SharedCells<A>,
+    lane: &mut LaneSeat,
+    reader: &mut ReaderSeat,
+) -> Result<(), Fail>
+    requires lane { lane.old.table ≡ table.now }
+    requires reader { reader.old.table ≡ table.now }
+    requires some { 0 < table.now.size.lanes }
+{
+    link_one_item(rt, table, lane, reader);
+    let Look::Cell(k) = table.look(reader, Cursor::head(0)) else {
+        return Err(Fail::new("no cell"));
+    };
+    let told = (
+        k,
+        table.item(reader, k),
+        table.finish(lane),
+        table.look(reader, Cursor::past(k)),
+    );
+    same(rt, &told, &(0, 8, Finish::Ended, Look::Ended));
+    Ok(())
+}
+
+/// The only lane's number is given once, and with a reader beside it one item is put and read.
+fn enroll_and_put<A: Allocator + Drop>(
+    rt: &impl Abort,
+    table: &SharedCells<A>,
+    hub: &mut CellHub,
+) -> Result<(), Fail>
+    requires hub { hub.old.table ≡ table.now }
+    requires some { 0 < table.now.size.lanes }
+{
+    let Ok(mut lane) = table.enroll_lane(hub) else {
+        return Err(Fail::new("no lane"));
+    };
+    same(rt, &table.enroll_lane(hub).err(), &Some(AllGiven));
+    let mut reader = table.enroll_reader(hub);
+    put_one_item(rt, table, &mut lane, &mut reader)?;
+    Ok(())
+}
+
+#[test]
+fn one_lane_and_one_cell(rt: HostRuntime) -> Result<(), Fail> {
+    let (table, mut hub) = SharedCells::new(rt.alloc(), 1, 1)?;
+    enroll_and_put(&rt, &table, &mut hub)
+}
+
+#[test]
+fn each_growth_of_new_refused(rt: HostRuntime) -> Result<(), Fail> {
+    let refused = growths_refused(&rt, |alloc| match SharedCells::new(alloc, 1, 1) {
+        Ok((table, mut hub)) => {
+            enroll_and_put(&rt, &table, &mut hub)?;
+            Ok(true)
+        }
+        Err(_) => Ok(false),
+    })?;
+    // The words as they are at first, and the table's own.
+    assert!(rt; 2 <= refused);
+    Ok(())
+}
+
+/// Offers an item that gets this cell, and links it.
+fn put<A: Allocator + Drop>(
+    rt: &impl Abort,
+    table: &SharedCells<A>,
+    lane: &mut LaneSeat,
+    x: u64,
+    cell: u32,
+) -> Result<(), Fail>
+    requires { lane.old.table ≡ table.now }
+    ensures { lane.new.table ≡ table.now }
+{
+    let told = (table.offer(lane, x), table.push(lane), table.push(lane));
+    same(
+        rt,
+        &told,
+        &(Offer::Cell(cell), Push::Item(cell), Push::Link(cell)),
+    );
+    Ok(())
+}
+
+/// Reads two items of a lane, and nothing behind them.
+fn read_two<A: Allocator + Drop>(
+    rt: &impl Abort,
+    table: &SharedCells<A>,
+    reader: &mut ReaderSeat,
+    lane: u32,
+    items: (u64, u64),
+) -> Result<(), Fail>
+    requires table { reader.old.table ≡ table.now }
+    requires lane { lane < table.now.size.lanes }
+    ensures { reader.new.table ≡ table.now }
+{
+    let Look::Cell(first) = table.look(reader, Cursor::head(lane)) else {
+        return Err(Fail::new("no first cell"));
+    };
+    let Look::Cell(second) = table.look(reader, Cursor::past(first)) else {
+        return Err(Fail::new("no second cell"));
+    };
+    let told = (
+        table.item(reader, first),
+        table.item(reader, second),
+        table.look(reader, Cursor::past(second)),
+    );
+    same(rt, &told, &(items.0, items.1, Look::Nothing));
+    Ok(())
+}
+
+#[test]
+fn two_lanes_draw_from_one_table(rt: HostRuntime) -> Result<(), Fail> {
+    let (table, mut hub) = SharedCells::new(rt.alloc(), 2, 4)?;
+    let (Ok(mut one), Ok(mut other)) = (table.enroll_lane(&mut hub), table.enroll_lane(&mut hub))
+    else {
+        return Err(Fail::new("no lane"));
+    };
+    same(&rt, &other.lane(), &1);
+    put(&rt, &table, &mut one, 10, 0)?;
+    put(&rt, &table, &mut other, 20, 1)?;
+    put(&rt, &table, &mut one, 11, 2)?;
+    put(&rt, &table, &mut other, 21, 3)?;
+    let mut reader = table.enroll_reader(&mut hub);
+    read_two(&rt, &table, &mut reader, 0, (10, 11))?;
+    read_two(&rt, &table, &mut reader, 1, (20, 21))
+}
+
+#[test]
+fn an_offered_item_is_not_put(rt: HostRuntime) -> Result<(), Fail> {
+    let (table, mut hub) = SharedCells::new(rt.alloc(), 1, 2)?;
+    let Ok(mut lane) = table.enroll_lane(&mut hub) else {
+        return Err(Fail::new("no lane"));
+    };
+    put(&rt, &table, &mut lane, 5, 0)?;
+    same(&rt, &table.offer(&mut lane, 6), &Offer::Cell(1));
+    same(&rt, &table.push(&mut lane), &Push::Item(1));
+    table.take_lane(&mut hub, lane);
+    let mut reader = table.enroll_reader(&mut hub);
+    let Look::Cell(k) = table.look(&mut reader, Cursor::head(0)) else {
+        return Err(Fail::new("no cell"));
+    };
+    same(&rt, &table.item(&mut reader, k), &5);
+    same(
+        &rt,
+        &table.look(&mut reader, Cursor::past(k)),
+        &Look::Nothing,
+    );
+    table.take_reader(&mut hub, reader);
+    table.close(hub);
+    Ok(())
+}
+
+/// Puts a hundred items, from `first` on, and ends the lane. Answers how many were put.
+fn put_hundred<A: Allocator + Drop>(
+    table: &SharedCells<A>,
+    mut seat: LaneSeat,
+    first: u64,
+) -> (LaneSeat, u64)
+    requires table { seat.table ≡ table.now }
+    requires small { first < 1000000 }
+    ensures { result.0.table ≡ table.now }
+{
+    let mut done = 0;
+    for i in 0..100 {
+        if let Offer::Cell(_) = table.offer(&mut seat, first + i) {
+            table.push(&mut seat);
+            if let Push::Link(_) = table.push(&mut seat) {
+                done += 1;
+            }
+        }
+    }
+    if table.finish(&mut seat) == Finish::Ended {
+        (seat, done)
+    } else {
+        (seat, 0)
+    }
+}
+
+/// How far a lane was read.
+#[derive(Clone, Copy)]
+struct Bookmark {
+    cursor: Cursor,
+    /// The item that comes next, where the lane's items are numbers in their order.
+    next: u64,
+    ended: bool,
+    wrong: bool,
+}
+
+/// Reads a lane on, with at most so many looks.
+fn read_on<A: Allocator + Drop>(
+    table: &SharedCells<A>,
+    seat: &mut ReaderSeat,
+    from: Bookmark,
+    looks: u64,
+) -> Bookmark
+    requires table { seat.old.table ≡ table.now }
+    requires may { MayRead table.now.size.lanes (word_of from.cursor) seat.old.part }
+    ensures table { seat.new.table ≡ table.now }
+    ensures may { MayRead table.now.size.lanes (word_of result.cursor) seat.new.part }
+{
+    let mut at = from;
+    for turn in 0..looks {
+        if at.ended || at.wrong {
+            return at;
+        }
+        let _ = turn;
+        match table.look(seat, at.cursor) {
+            Look::Nothing => {}
+            Look::Ended => at.ended = true,
+            Look::Cell(k) => {
+                at.wrong = table.item(seat, k) != at.next;
+                at.next = at.next.wrapping_add(1);
+                at.cursor = Cursor::past(k);
+            }
+        }
+    }
+    at
+}
+
+/// Both lanes were read to their end, and had a hundred items each, from 1000 and from 2000 on.
+fn are_whole(one: Bookmark, other: Bookmark) -> bool {
+    one.ended && !one.wrong && one.next == 1100 && other.ended && !other.wrong && other.next == 2100
+}
+
+/// A lane that was not read yet.
+fn unread(lane: u32, first: u64) -> Bookmark
+    ensures word { word_of result.cursor ≡ Head lane }
+    ensures next { result.next ≡ first }
+{
+    Bookmark {
+        cursor: Cursor::head(lane),
+        next: first,
+        ended: false,
+        wrong: false,
+    }
+}
+
+/// Two threads put a hundred items each and end their lanes. A reader then reads both lanes.
+fn put_and_then_read<R: Threads + Sync, A: Allocator + Clone + Drop + Send + Sync>(
+    rt: &R,
+    alloc: A,
+) -> Result<bool, Fail> {
+    let (table, mut hub) = SharedCells::new(alloc, 2, 200)?;
+    let (Ok(one), Ok(other)) = (table.enroll_lane(&mut hub), table.enroll_lane(&mut hub)) else {
+        return Err(Fail::new("no lane"));
+    };
+    let ((one, first), (other, second)) = join(
+        rt,
+        || -> (LaneSeat, u64)
+            requires { one.table ≡ table }
+            ensures { result.0.table ≡ table }
+        { put_hundred(&table, one, 1000) },
+        || -> (LaneSeat, u64)
+            requires { other.table ≡ table }
+            ensures { result.0.table ≡ table }
+        { put_hundred(&table, other, 2000) },
+    );
+    table.take_lane(&mut hub, one);
+    table.take_lane(&mut hub, other);
+    let mut reader = table.enroll_reader(&mut hub);
+    let one = read_on(&table, &mut reader, unread(0, 1000), 101);
+    let other = read_on(&table, &mut reader, unread(1, 2000), 101);
+    table.take_reader(&mut hub, reader);
+    table.close(hub);
+    Ok(first == 100 && second == 100 && are_whole(one, other))
+}
+
+#[test]
+fn two_threads_put_a_hundred_each(rt: HostRuntime) -> Result<(), Fail> {
+    assert!(rt; put_and_then_read(&rt, rt.alloc())?);
+    Ok(())
+}
+
+/// How often a reader looks at a lane while its producer runs. What it has not met then it reads afterwards.
+const LOOKS: u64 = 1_000_000;
+
+/// The same, with a reader of each lane running beside.
+fn put_and_read_beside<R: Threads + Sync, A: Allocator + Clone + Drop + Send + Sync>(
+    rt: &R,
+    alloc: A,
+) -> Result<bool, Fail> {
+    let (table, mut hub) = SharedCells::new(alloc, 2, 200)?;
+    let (Ok(one), Ok(other)) = (table.enroll_lane(&mut hub), table.enroll_lane(&mut hub)) else {
+        return Err(Fail::new("no lane"));
+    };
+    let first = table.enroll_reader(&mut hub);
+    let second = table.enroll_reader(&mut hub);
+    let ((one, first, of_one), (other, second, of_other)) = join(
+        rt,
+        || -> (LaneSeat, ReaderSeat, Bookmark)
+            requires lane { one.table ≡ table }
+            requires reader { first.table ≡ table }
+            requires some { 0 < table.size.lanes }
+            ensures lane { result.0.table ≡ table }
+            ensures reader { result.1.table ≡ table }
+            ensures may { MayRead table.size.lanes (word_of result.2.cursor) result.1.part }
+        { put_beside(rt, &table, one, first, unread(0, 1000)) },
+        || -> (LaneSeat, ReaderSeat, Bookmark)
+            requires lane { other.table ≡ table }
+            requires reader { second.table ≡ table }
+            requires some { 1 < table.size.lanes }
+            ensures lane { result.0.table ≡ table }
+            ensures reader { result.1.table ≡ table }
+            ensures may { MayRead table.size.lanes (word_of result.2.cursor) result.1.part }
+        { put_beside(rt, &table, other, second, unread(1, 2000)) },
+    );
+    let (mut first, mut second) = (first, second);
+    let of_one = read_on(&table, &mut first, of_one, 101);
+    let of_other = read_on(&table, &mut second, of_other, 101);
+    table.take_lane(&mut hub, one);
+    table.take_lane(&mut hub, other);
+    table.take_reader(&mut hub, first);
+    table.take_reader(&mut hub, second);
+    table.close(hub);
+    Ok(are_whole(of_one, of_other))
+}
+
+/// One thread puts a hundred items, from the bookmark's on, while another reads them.
+fn put_beside<R: Threads + Sync, A: Allocator + Drop + Send + Sync>(
+    rt: &R,
+    table: &SharedCells<A>,
+    lane: LaneSeat,
+    reader: ReaderSeat,
+    from: Bookmark,
+) -> (LaneSeat, ReaderSeat, Bookmark)
+    requires lane { lane.table ≡ table.now }
+    requires reader { reader.table ≡ table.now }
+    requires may { MayRead table.now.size.lanes (word_of from.cursor) reader.part }
+    requires small { from.next < 1000000 }
+    ensures lane { result.0.table ≡ table.now }
+    ensures reader { result.1.table ≡ table.now }
+    ensures may { MayRead table.now.size.lanes (word_of result.2.cursor) result.1.part }
+{
+    let ((lane, _), (reader, at)) = join(
+        rt,
+        || -> (LaneSeat, u64)
+            requires lane { lane.table ≡ table.now }
+            requires small { from.next < 1000000 }
+            ensures { result.0.table ≡ table.entry.now }
+        { put_hundred(table, lane, from.next) },
+        || -> (ReaderSeat, Bookmark)
+            requires reader { reader.table ≡ table.now }
+            requires may { MayRead table.now.size.lanes (word_of from.cursor) reader.part }
+            ensures reader { result.0.table ≡ table.entry.now }
+            ensures may { MayRead table.entry.now.size.lanes (word_of result.1.cursor) result.0.part }
+        { read_from(table, reader, from) },
+    );
+    (lane, reader, at)
+}
+
+/// Reads a lane on while its producer runs.
+fn read_from<A: Allocator + Drop>(
+    table: &SharedCells<A>,
+    mut reader: ReaderSeat,
+    from: Bookmark,
+) -> (ReaderSeat, Bookmark)
+    requires reader { reader.table ≡ table.now }
+    requires may { MayRead table.now.size.lanes (word_of from.cursor) reader.part }
+    ensures reader { result.0.table ≡ table.now }
+    ensures may { MayRead table.now.size.lanes (word_of result.1.cursor) result.0.part }
+{
+    let at = read_on(table, &mut reader, from, LOOKS);
+    (reader, at)
+}
+
+#[test]
+fn two_readers_run_beside(rt: HostRuntime) -> Result<(), Fail> {
+    assert!(rt; put_and_read_beside(&rt, rt.alloc())?);
+    Ok(())
+}

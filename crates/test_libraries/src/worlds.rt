@@ -1,0 +1,113 @@
+//! Setups, new worlds and their reports.
+
+use crate::compare::{same, same_at};
+use crate::shapes::BOTH;
+use mb_quorum::TableName;
+use mb_world::{Setup, SetupFault, World};
+use std::alloc::Global;
+use std::test::Fail;
+use test_support::tells;
+
+/// The bit table's world of so many producers, consumers and cells, with one pair for each cell.
+pub(crate) fn one_pair(rt: &HostRuntime, p: u64, c: u64, m: u64) -> Result<World<Global>, Fail> {
+    let setup = Setup::new(p, c, m, 1, TableName::Bits)?;
+    Ok(World::new(rt.alloc(), setup)?)
+}
+
+#[test]
+fn the_first_number_out_of_range_refuses(rt: HostRuntime) {
+    let (bits, middle) = (TableName::Bits, TableName::Middle);
+    for (p, c, m, k, name, want) in [
+        (0, 0, 300, 0, bits, SetupFault::BadProducers),
+        (1, 65, 300, 0, bits, SetupFault::BadConsumers),
+        (1, 65, 0, 1, middle, SetupFault::BadConsumers),
+        (1, 17, 300, 0, bits, SetupFault::BadCells),
+        (1, 1, 257, 0, bits, SetupFault::BadCells),
+        (1, 1, 257, 1, bits, SetupFault::BadCells),
+        (1, 1, 256, 9, bits, SetupFault::BadRounds),
+    ] {
+        same_at(
+            &rt,
+            &Setup::new(p, c, m, k, name),
+            &Err(want),
+            &(p, c, m, k),
+        );
+    }
+}
+
+#[test]
+fn a_large_setup_is_refused_in_the_same_order(rt: HostRuntime) {
+    let bits = TableName::Bits;
+    let most = 1u64 << 24;
+    for (p, c, m, k, want) in [
+        (0, 0, most + 1, 0, SetupFault::BadProducers),
+        (17, 1, 257, 1, SetupFault::BadProducers),
+        (1, 65, most + 1, 0, SetupFault::BadConsumers),
+        (1, 1, most + 1, 0, SetupFault::BadCells),
+        (1, 1, most + 1, 1, SetupFault::BadCells),
+        (1, 1, u64::MAX, 1, SetupFault::BadCells),
+        (1, 1, most, 9, SetupFault::BadRounds),
+    ] {
+        same_at(
+            &rt,
+            &Setup::large(p, c, m, k, bits),
+            &Err(want),
+            &(p, c, m, k),
+        );
+    }
+}
+
+#[test]
+fn a_large_setup_tells_its_numbers(rt: HostRuntime) -> Result<(), Fail> {
+    for cells in [0, 257, 1 << 24] {
+        let setup = Setup::large(1, 1, cells, 1, TableName::Bits)?;
+        let told = (setup.producers(), setup.consumers(), setup.cells());
+        same(&rt, &told, &(1, 1, cells));
+    }
+    let shaped = Setup::large(16, 64, 1 << 24, 8, TableName::Unary)?.shaped(BOTH);
+    let told = (shaped.consumers(), shaped.cells(), shaped.layout().shape());
+    same(&rt, &told, &(64, 1 << 24, BOTH));
+    Ok(())
+}
+
+#[test]
+fn a_setup_tells_its_numbers(rt: HostRuntime) -> Result<(), Fail> {
+    let setup = Setup::new(16, 3, 256, 8, TableName::Bits)?;
+    let told = (
+        setup.producers(),
+        setup.consumers(),
+        setup.cells(),
+        setup.layout().consumers(),
+    );
+    same(&rt, &told, &(16, 3, 256, 3));
+    Ok(())
+}
+
+#[test]
+fn a_setup_is_shaped(rt: HostRuntime) -> Result<(), Fail> {
+    let setup = Setup::new(16, 2, 256, 1, TableName::Bits)?.shaped(BOTH);
+    let layout = setup.layout();
+    let told = (
+        (setup.producers(), setup.consumers(), setup.cells()),
+        (layout.shape(), layout.max_steps()),
+    );
+    // Nine accesses in a pair, twice four in a fast path, and one in a last object.
+    same(&rt, &told, &((16, 2, 256), (BOTH, 18)));
+    Ok(())
+}
+
+#[test]
+fn nothing_is_done_in_a_new_world(rt: HostRuntime) -> Result<(), Fail> {
+    let world = one_pair(&rt, 2, 2, 4)?;
+    tells(
+        &world.report(rt.alloc())?,
+        &[(&[], false, &[]), (&[], false, &[])],
+        &[
+            (0, 0, &[], false),
+            (0, 1, &[], false),
+            (1, 0, &[], false),
+            (1, 1, &[], false),
+        ],
+    )?;
+    Ok(())
+}

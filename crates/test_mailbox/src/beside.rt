@@ -1,0 +1,297 @@
+//! Threads that put and poll at one time, over one mailbox behind a `&`.
+ghost use Rattle.std.specs.Prelude.{◌<◌, IfOk};
+ghost use Rattle.mb_mailbox.specs.Consumers.{IsConsumerOf};
+ghost use Rattle.mb_mailbox.specs.Hubs.{IsHubOf};
+ghost use Rattle.mb_mailbox.specs.Producers.{IsProducerOf};
+
+use crate::compare::same;
+use crate::words::chacha;
+use test_audit::audit;
+use mb_mailbox::{Consumer, Hub, Mailbox, Poll, Producer, Put};
+use mb_quorum::TableName;
+use mb_world::{Report, Setup};
+use std::alloc::Global;
+use std::process::Abort;
+use std::test::Fail;
+use std::thread::{Threads, join};
+use test_support::Zeros;
+
+/// How many items each producer puts.
+const ITEMS: u64 = 32;
+
+/// How often a consumer polls at most.
+const POLLS: u64 = 1_000_000_000;
+
+/// Another thread puts an item.
+fn put_elsewhere<R: Threads + Sync>(
+    rt: &R,
+    mailbox: &Mailbox<Global>,
+    producer: Producer<Global>,
+    x: u64,
+) -> (Producer<Global>, Put)
+    requires { IsProducerOf mailbox.now producer }
+    ensures { IsProducerOf mailbox.now result.0 }
+{
+    let (put, ()) = join(
+        rt,
+        || -> (Producer<Global>, Put)
+            requires { IsProducerOf mailbox.now producer }
+            ensures { IsProducerOf mailbox.entry.now result.0 }
+        { put_one(mailbox, producer, x) },
+        || (),
+    );
+    put
+}
+
+/// Puts an item.
+fn put_one(
+    mailbox: &Mailbox<Global>,
+    mut producer: Producer<Global>,
+    x: u64,
+) -> (Producer<Global>, Put)
+    requires { IsProducerOf mailbox.now producer }
+    ensures { IsProducerOf mailbox.now result.0 }
+{
+    let put = producer.put(mailbox, x);
+    (producer, put)
+}
+
+/// A producer and a consumer are given.
+fn give_both(
+    alloc: Global,
+    mailbox: &Mailbox<Global>,
+    hub: &mut Hub<Global>,
+) -> Result<(Producer<Global>, Consumer<Global>), Fail>
+    requires { IsHubOf mailbox.now hub.old }
+    ensures hub { IsHubOf mailbox.now hub.new }
+    ensures producer { IfOk result (λ given. IsProducerOf mailbox.now given.0) }
+    ensures consumer { IfOk result (λ given. IsConsumerOf mailbox.now given.1) }
+{
+    let producer = hub.producer(alloc, mailbox)?;
+    let consumer = hub.consumer(alloc, mailbox)?;
+    Ok((producer, consumer))
+}
+
+/// An item that another thread puts is taken at once, and nothing is there then.
+fn is_read_back<R: Threads + Sync + Abort>(
+    rt: &R,
+    mailbox: &Mailbox<Global>,
+    producer: Producer<Global>,
+    consumer: &mut Consumer<Global>,
+    x: u64,
+) -> Producer<Global>
+    requires producer { IsProducerOf mailbox.now producer }
+    requires consumer { IsConsumerOf mailbox.now consumer.old }
+    ensures producer { IsProducerOf mailbox.now result }
+    ensures consumer { IsConsumerOf mailbox.now consumer.new }
+{
+    let (producer, put) = put_elsewhere(rt, mailbox, producer, x);
+    let mut words = Zeros::default();
+    let first = consumer.poll(mailbox, 0, 100, &mut words);
+    let second = consumer.poll(mailbox, 0, 100, &mut words);
+    same(
+        rt,
+        &(put, first, second),
+        &(Put::Linked, Poll::Took(x), Poll::Nothing),
+    );
+    producer
+}
+
+#[test]
+fn each_item_is_read_back_at_once(rt: HostRuntime) -> Result<(), Fail> {
+    let setup = Setup::new(1, 1, 4, 1, TableName::Bits)?;
+    let (mailbox, mut hub) = Mailbox::new(rt.alloc(), setup)?;
+    let (producer, mut consumer) = give_both(rt.alloc(), &mailbox, &mut hub)?;
+    let producer = is_read_back(&rt, &mailbox, producer, &mut consumer, 1);
+    let producer = is_read_back(&rt, &mailbox, producer, &mut consumer, 2);
+    let producer = is_read_back(&rt, &mailbox, producer, &mut consumer, 3);
+    is_read_back(&rt, &mailbox, producer, &mut consumer, 4);
+    Ok(())
+}
+
+/// Puts so many items, from `first` on, and ends the lane.
+fn put_all(
+    mailbox: &Mailbox<Global>,
+    mut producer: Producer<Global>,
+    first: u64,
+) -> Producer<Global>
+    requires of { IsProducerOf mailbox.now producer }
+    requires small { first < 1000000 }
+    ensures { IsProducerOf mailbox.now result }
+{
+    for i in 0..ITEMS {
+        producer.put(mailbox, first + i);
+    }
+    producer.finish(mailbox);
+    producer
+}
+
+/// Polls both lanes in turn until they have ended.
+fn poll_all(
+    mailbox: &Mailbox<Global>,
+    mut consumer: Consumer<Global>,
+    stream: u32,
+) -> Consumer<Global>
+    requires { IsConsumerOf mailbox.now consumer }
+    ensures { IsConsumerOf mailbox.now result }
+{
+    let mut words = chacha(1, stream);
+    let mut ended = [false; 2];
+    for turn in 0..POLLS {
+        let lane = turn % 2;
+        if consumer.poll(mailbox, lane, 3, &mut words) == Poll::Ended {
+            ended[lane as usize] = true;
+        }
+        if ended[0] && ended[1] {
+            return consumer;
+        }
+    }
+    consumer
+}
+
+/// One thread puts while another polls.
+fn put_and_poll<R: Threads + Sync>(
+    rt: &R,
+    mailbox: &Mailbox<Global>,
+    producer: Producer<Global>,
+    consumer: Consumer<Global>,
+    first: u64,
+    stream: u32,
+) -> (Producer<Global>, Consumer<Global>)
+    requires producer { IsProducerOf mailbox.now producer }
+    requires consumer { IsConsumerOf mailbox.now consumer }
+    requires small { first < 1000000 }
+    ensures producer { IsProducerOf mailbox.now result.0 }
+    ensures consumer { IsConsumerOf mailbox.now result.1 }
+{
+    join(
+        rt,
+        || -> Producer<Global>
+            requires of { IsProducerOf mailbox.now producer }
+            requires small { first < 1000000 }
+            ensures { IsProducerOf mailbox.entry.now result }
+        { put_all(mailbox, producer, first) },
+        || -> Consumer<Global>
+            requires { IsConsumerOf mailbox.now consumer }
+            ensures { IsConsumerOf mailbox.entry.now result }
+        { poll_all(mailbox, consumer, stream) },
+    )
+}
+
+/// Two threads put while two others poll.
+fn share_lanes<R: Threads + Sync>(
+    rt: &R,
+    mailbox: &Mailbox<Global>,
+    one: Producer<Global>,
+    first: Consumer<Global>,
+    other: Producer<Global>,
+    second: Consumer<Global>,
+) -> (
+    (Producer<Global>, Consumer<Global>),
+    (Producer<Global>, Consumer<Global>),
+)
+    requires one { IsProducerOf mailbox.now one }
+    requires first { IsConsumerOf mailbox.now first }
+    requires other { IsProducerOf mailbox.now other }
+    requires second { IsConsumerOf mailbox.now second }
+    ensures one { IsProducerOf mailbox.now result.0.0 }
+    ensures first { IsConsumerOf mailbox.now result.0.1 }
+    ensures other { IsProducerOf mailbox.now result.1.0 }
+    ensures second { IsConsumerOf mailbox.now result.1.1 }
+{
+    join(
+        rt,
+        || -> (Producer<Global>, Consumer<Global>)
+            requires producer { IsProducerOf mailbox.now one }
+            requires consumer { IsConsumerOf mailbox.now first }
+            ensures producer { IsProducerOf mailbox.entry.now result.0 }
+            ensures consumer { IsConsumerOf mailbox.entry.now result.1 }
+        { put_and_poll(rt, mailbox, one, first, 1000, 0) },
+        || -> (Producer<Global>, Consumer<Global>)
+            requires producer { IsProducerOf mailbox.now other }
+            requires consumer { IsConsumerOf mailbox.now second }
+            ensures producer { IsProducerOf mailbox.entry.now result.0 }
+            ensures consumer { IsConsumerOf mailbox.entry.now result.1 }
+        { put_and_poll(rt, mailbox, other, second, 2000, 1) },
+    )
+}
+
+/// A producer and a consumer are taken in.
+fn take_both(
+    mailbox: &Mailbox<Global>,
+    hub: &mut Hub<Global>,
+    producer: Producer<Global>,
+    consumer: Consumer<Global>,
+)
+    requires hub { IsHubOf mailbox.now hub.old }
+    requires producer { IsProducerOf mailbox.now producer }
+    requires consumer { IsConsumerOf mailbox.now consumer }
+    ensures { IsHubOf mailbox.now hub.new }
+{
+    hub.take_producer(mailbox, producer);
+    hub.take_consumer(mailbox, consumer);
+}
+
+/// Two producers and two consumers share two lanes, and are taken in.
+fn share_all<R: Threads + Sync>(
+    rt: &R,
+    alloc: Global,
+    mailbox: &Mailbox<Global>,
+    hub: &mut Hub<Global>,
+) -> Result<(), Fail>
+    requires { IsHubOf mailbox.now hub.old }
+    ensures { IsHubOf mailbox.now hub.new }
+{
+    let (one, first) = give_both(alloc, mailbox, hub)?;
+    let (other, second) = give_both(alloc, mailbox, hub)?;
+    let ((one, first), (other, second)) = share_lanes(rt, mailbox, one, first, other, second);
+    take_both(mailbox, hub, one, first);
+    take_both(mailbox, hub, other, second);
+    Ok(())
+}
+
+/// The report of that.
+fn report_all<R: Threads + Sync>(rt: &R, alloc: Global) -> Result<Report<Global>, Fail> {
+    let setup = Setup::new(2, 2, 64, 4, TableName::Bits)?;
+    let (mailbox, mut hub) = Mailbox::new(alloc, setup)?;
+    share_all(rt, alloc, &mailbox, &mut hub)?;
+    mailbox
+        .gather(alloc, hub)
+        .map_err(|_| Fail::new("no report"))
+}
+
+/// These are all items of the producer whose first item is this one, in order.
+fn are_all(rt: &impl Abort, items: &[u64], first: u64) {
+    same(rt, &items.len(), &(ITEMS as usize));
+    let mut next = first;
+    for item in items {
+        same(rt, item, &next);
+        next = next.wrapping_add(1);
+    }
+}
+
+/// Both lanes have all items in order and have ended, and both consumers have a note on each.
+fn is_whole(rt: &impl Abort, report: &Report<Global>) {
+    let firsts = [1000u64, 2000];
+    for (lane, first) in report.lanes.iter().zip(firsts.as_slice()) {
+        assert!(rt; lane.ended);
+        are_all(rt, lane.put.as_slice(), *first);
+    }
+    for diary in &report.diaries {
+        same(
+            rt,
+            &(diary.notes.len(), diary.begun),
+            &(ITEMS as usize, false),
+        );
+    }
+}
+
+#[test]
+fn two_threads_put_while_two_poll(rt: HostRuntime) -> Result<(), Fail> {
+    let report = report_all(&rt, rt.alloc())?;
+    is_whole(&rt, &report);
+    let tally = audit(&report, 2, 2)?;
+    let told = (report.lanes.len(), report.diaries.len(), tally.put);
+    same(&rt, &told, &(2, 4, 2 * ITEMS));
+    Ok(())
+}

@@ -1,0 +1,87 @@
+//! Whose random words a consumer of `work` draws.
+
+use crate::compare::{same, same_at};
+use crate::trial::Trial;
+use crate::trials::{ends, new_trial};
+use crate::workers::lists;
+use mb_mailbox::{Gate, Who, Worked};
+use mb_world::Note;
+use std::alloc::Global;
+use std::process::Abort;
+use std::sync::Wait;
+use std::sync::atomic::{AtomicU64, Ordering};
+use std::test::Fail;
+use std::thread::Threads;
+use test_support::SeenZeros;
+
+/// A gate that stops one consumer before its first call, and nobody else.
+#[derive(Drop)]
+struct AllBut {
+    consumer: u32,
+}
+
+impl Gate for AllBut {
+    fn enter(&self, who: Who, _call: u64) -> bool {
+        who != Who::Consumer(self.consumer)
+    }
+
+    fn leave(&self, _who: Who, _call: u64) {}
+}
+
+/// Two sources, which count here the words that they gave.
+fn two_sources<'a>(alloc: Global, given: &'a [AtomicU64; 2]) -> Result<Vec<SeenZeros<'a>>, Fail> {
+    let mut sources = Vec::new(alloc);
+    sources.push(SeenZeros { given: &given[0] })?;
+    sources.push(SeenZeros { given: &given[1] })?;
+    Ok(sources)
+}
+
+/// One worker puts an item, and two others draw from these sources, of whom this one is stopped.
+fn one_is_stopped<R: Abort + AllocGlobal + Threads + Wait + Sync>(
+    rt: &R,
+    trial: &mut Trial<Global>,
+    given: &[AtomicU64; 2],
+    stopped: u32,
+) -> Result<(), Fail> {
+    let items = lists(rt.alloc(), &[&[5]])?;
+    let rngs = two_sources(rt.alloc(), given)?;
+    let gate = AllBut { consumer: stopped };
+    let worked = trial.work(rt.alloc(), rt, items, 100, rngs, &gate);
+    let one_stopped = Worked {
+        full: 0,
+        stopped: 1,
+    };
+    same(rt, &worked, &Ok(one_stopped));
+    Ok(())
+}
+
+/// How many words each of two consumers draws for one item, where this one of them is stopped; and these are their notes.
+fn words_drawn<R: Abort + AllocGlobal + Threads + Wait + Sync>(
+    rt: &R,
+    stopped: u32,
+    notes: [&[Note]; 2],
+) -> Result<(u64, u64), Fail> {
+    let given = [AtomicU64::new(0), AtomicU64::new(0)];
+    let mut trial = new_trial(rt.alloc(), 1, 2, 1)?;
+    one_is_stopped(rt, &mut trial, &given, stopped)?;
+    ends(
+        rt.alloc(),
+        trial,
+        &[(&[5], true, &[])],
+        &[(0, 0, notes[0], false), (1, 0, notes[1], false)],
+    )?;
+    Ok((
+        given[0].load(Ordering::SeqCst),
+        given[1].load(Ordering::SeqCst),
+    ))
+}
+
+#[test]
+fn each_consumer_draws_from_its_own_source(rt: HostRuntime) -> Result<(), Fail> {
+    let took: &[Note] = &[Note::Took(5)];
+    // A claim alone makes seven accesses, three to the conciliator and four to the ratifier, and draws a word for each.
+    for (stopped, notes, drawn) in [(1, [took, &[]], (7, 0)), (0, [&[], took], (0, 7))] {
+        same_at(&rt, &words_drawn(&rt, stopped, notes)?, &drawn, &stopped);
+    }
+    Ok(())
+}

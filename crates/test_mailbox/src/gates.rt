@@ -1,0 +1,202 @@
+//! What a gate is asked: that workers run at one time, come with their calls in order, and poll the lanes in turn.
+
+use crate::compare::{same, same_at};
+use crate::trial::Trial;
+use crate::trials::{ends, new_trial};
+use crate::workers::{ALL_DONE, works};
+use test_audit::audit;
+use mb_mailbox::{Gate, Who, Worked};
+use mb_quorum::TableName;
+use mb_world::{Note, Setup};
+use std::alloc::Global;
+use std::process::Abort;
+use std::sync::Wait;
+use std::sync::atomic::{AtomicU64, Ordering};
+use std::test::Fail;
+use std::thread::Threads;
+
+/// How often a worker looks whether all have come.
+pub(crate) const TURNS: u64 = 1_000_000_000;
+
+/// A gate at which each worker waits, at its first call, until so many have come, and not for ever.
+#[derive(Drop)]
+struct AllCome {
+    come: AtomicU64,
+    workers: u64,
+}
+
+impl Gate for AllCome {
+    ghost use Rattle.std.specs.Prelude.{◌≡◌};
+
+    // It stops nobody but at the first call.
+    ghost may_stop = { λ _ _ call. call ≡ 1 };
+
+    fn enter(&self, _who: Who, call: u64) -> bool {
+        if call != 1 {
+            return true;
+        }
+        self.come.fetch_add(1, Ordering::SeqCst);
+        for _ in 0..TURNS {
+            if self.workers <= self.come.load(Ordering::SeqCst) {
+                return true;
+            }
+        }
+        false
+    }
+
+    fn leave(&self, _who: Who, _call: u64) {}
+}
+
+/// So many consumers and one producer come to the gate at one time.
+fn come_to_the_gate<R: Abort + AllocGlobal + Threads + Wait + Sync>(
+    rt: &R,
+    trial: &mut Trial<Global>,
+    consumers: u64,
+) -> Result<(), Fail> {
+    let gate = AllCome {
+        come: AtomicU64::new(0),
+        workers: consumers.wrapping_add(1),
+    };
+    let worked = works(rt, trial, &[&[1, 2, 3, 4]], 5, consumers as usize, &gate)?;
+    same_at(rt, &worked, &Ok(ALL_DONE), &consumers);
+    Ok(())
+}
+
+/// They do, and the items put are audited.
+fn come_and_put<R: Abort + AllocGlobal + Threads + Wait + Sync>(
+    rt: &R,
+    consumers: u64,
+) -> Result<(), Fail> {
+    let setup = Setup::new(1, consumers, 4, 4, TableName::Bits)?;
+    let mut trial = Trial::new(rt.alloc(), setup)?;
+    come_to_the_gate(rt, &mut trial, consumers)?;
+    let Ok(report) = trial.gather(rt.alloc()) else {
+        return Err(Fail::new("no report"));
+    };
+    let tally = audit(&report, 1, consumers)?;
+    // Alone a consumer always decides, and takes each item.
+    let are_taken = consumers != 1 || tally.took == 4;
+    same_at(rt, &(tally.put, are_taken), &(4, true), &consumers);
+    Ok(())
+}
+
+#[test]
+fn all_workers_come_to_the_gate_at_one_time(rt: HostRuntime) -> Result<(), Fail> {
+    for consumers in [1, 2, 4, 16, 64] {
+        come_and_put(&rt, consumers)?;
+    }
+    Ok(())
+}
+
+/// A gate that lets each call in, and looks whether a worker's calls come as 1, 2 and so on, each told before the next.
+#[derive(Drop)]
+struct Record {
+    /// How often it was asked or told by each of two producers and two consumers.
+    times: [AtomicU64; 4],
+    /// How often that was out of turn.
+    flaws: AtomicU64,
+}
+
+impl Record {
+    /// Counts that it is asked or told by this worker, which is to be the next after so many times.
+    fn note(&self, who: Who, times: u64) {
+        let place = match who {
+            Who::Producer(lane) => lane as usize,
+            Who::Consumer(consumer) => (consumer as usize).wrapping_add(2),
+        };
+        let is_next = match self.times.get(place) {
+            Some(worker) => worker.fetch_add(1, Ordering::SeqCst) == times,
+            None => false,
+        };
+        if !is_next {
+            self.flaws.fetch_add(1, Ordering::SeqCst);
+        }
+    }
+}
+
+impl Gate for Record {
+    fn enter(&self, who: Who, call: u64) -> bool {
+        self.note(who, call.wrapping_sub(1).wrapping_mul(2));
+        true
+    }
+
+    fn leave(&self, who: Who, call: u64) {
+        self.note(who, call.wrapping_mul(2).wrapping_sub(1));
+    }
+}
+
+/// Nothing was out of turn, where two producers put two items and three.
+fn alternates(rt: &impl Abort, gate: &Record) {
+    let flaws = gate.flaws.load(Ordering::SeqCst);
+    // One call for each item.
+    let first = gate.times[0].load(Ordering::SeqCst);
+    let second = gate.times[1].load(Ordering::SeqCst);
+    same(rt, &(flaws, first, second), &(0, 4, 6));
+    // At least one for each item and each end, and each was told.
+    for consumer in 2..4 {
+        let times = gate.times[consumer].load(Ordering::SeqCst);
+        assert!(rt; 14 <= times && times % 2 == 0);
+    }
+}
+
+#[test]
+fn asks_and_tells_of_a_gate_alternate(rt: HostRuntime) -> Result<(), Fail> {
+    let mut trial = new_trial(rt.alloc(), 2, 2, 5)?;
+    let gate = Record {
+        times: [0; 4].map(AtomicU64::new),
+        flaws: AtomicU64::new(0),
+    };
+    let worked = works(&rt, &mut trial, &[&[1, 2], &[3, 4, 5]], 5, 2, &gate)?;
+    same(&rt, &worked, &Ok(ALL_DONE));
+    alternates(&rt, &gate);
+    Ok(())
+}
+
+/// A gate that lets a consumer in once four puts were made, or not at all after `TURNS` looks, and for three calls.
+#[derive(Drop)]
+struct ThreeCalls {
+    made: AtomicU64,
+}
+
+impl Gate for ThreeCalls {
+    fn enter(&self, who: Who, call: u64) -> bool {
+        if let Who::Producer(_) = who {
+            return true;
+        }
+        for _ in 0..TURNS {
+            if 4 <= self.made.load(Ordering::SeqCst) {
+                return call <= 3;
+            }
+        }
+        false
+    }
+
+    fn leave(&self, who: Who, _call: u64) {
+        if let Who::Producer(_) = who {
+            self.made.fetch_add(1, Ordering::SeqCst);
+        }
+    }
+}
+
+#[test]
+fn lanes_are_polled_in_turn(rt: HostRuntime) -> Result<(), Fail> {
+    let mut trial = new_trial(rt.alloc(), 2, 1, 4)?;
+    let gate = ThreeCalls {
+        made: AtomicU64::new(0),
+    };
+    let worked = works(&rt, &mut trial, &[&[10, 11], &[20, 21]], 100, 1, &gate)?;
+    let one_stopped = Worked {
+        full: 0,
+        stopped: 1,
+    };
+    same(&rt, &worked, &Ok(one_stopped));
+    ends(
+        rt.alloc(),
+        trial,
+        &[(&[10, 11], true, &[]), (&[20, 21], true, &[21])],
+        &[
+            (0, 0, &[Note::Took(10), Note::Took(11)], false),
+            (0, 1, &[Note::Took(20)], false),
+        ],
+    )
+}

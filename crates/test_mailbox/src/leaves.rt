@@ -1,0 +1,108 @@
+//! That a gate is told of a put and of a poll after their accesses, and not before.
+
+use crate::compare::same;
+use crate::gates::TURNS;
+use crate::trial::Trial;
+use crate::trials::{ends, new_trial};
+use crate::workers::lists;
+use mb_mailbox::{Gate, Who, Worked};
+use mb_world::Note;
+use std::alloc::Global;
+use std::process::Abort;
+use std::sync::Wait;
+use std::sync::atomic::{AtomicBool, AtomicU64, Ordering};
+use std::test::Fail;
+use std::thread::Threads;
+use test_support::SeenZeros;
+
+/// A gate by which the only consumer polls once, while the only producer tells of its put: neither waits for ever.
+#[derive(Drop)]
+struct PollInALeave {
+    /// Whether the put was told of.
+    has_put: AtomicBool,
+    /// Whether the poll was told of.
+    has_polled: AtomicBool,
+    /// How many words the consumer has drawn.
+    drawn: AtomicU64,
+    /// How many it had drawn when its poll was told of.
+    told: AtomicU64,
+}
+
+/// Waits until this has come, for at most `TURNS` looks, and says whether it has.
+fn comes(flag: &AtomicBool) -> bool {
+    for _ in 0..TURNS {
+        if flag.load(Ordering::SeqCst) {
+            return true;
+        }
+    }
+    false
+}
+
+impl Gate for PollInALeave {
+    fn enter(&self, who: Who, call: u64) -> bool {
+        match who {
+            Who::Producer(_) => true,
+            Who::Consumer(_) => call == 1 && comes(&self.has_put),
+        }
+    }
+
+    fn leave(&self, who: Who, _call: u64) {
+        match who {
+            Who::Producer(_) => {
+                self.has_put.store(true, Ordering::SeqCst);
+                comes(&self.has_polled);
+            }
+            Who::Consumer(_) => {
+                let drawn = self.drawn.load(Ordering::SeqCst);
+                self.told.store(drawn, Ordering::SeqCst);
+                self.has_polled.store(true, Ordering::SeqCst);
+            }
+        }
+    }
+}
+
+/// A source that counts here the words that it gave.
+fn one_source<'a>(alloc: Global, given: &'a AtomicU64) -> Result<Vec<SeenZeros<'a>>, Fail> {
+    let mut sources = Vec::new(alloc);
+    sources.push(SeenZeros { given })?;
+    Ok(sources)
+}
+
+/// One worker puts an item, and another polls once, while that one tells of its put, and is stopped then.
+fn polls_once<R: Abort + AllocGlobal + Threads + Wait + Sync>(
+    rt: &R,
+    trial: &mut Trial<Global>,
+    gate: &PollInALeave,
+) -> Result<(), Fail> {
+    let items = lists(rt.alloc(), &[&[5]])?;
+    let rngs = one_source(rt.alloc(), &gate.drawn)?;
+    let worked = trial.work(rt.alloc(), rt, items, 100, rngs, gate);
+    let one_stopped = Worked {
+        full: 0,
+        stopped: 1,
+    };
+    same(rt, &worked, &Ok(one_stopped));
+    Ok(())
+}
+
+#[test]
+fn a_call_is_told_of_after_its_accesses(rt: HostRuntime) -> Result<(), Fail> {
+    let gate = PollInALeave {
+        has_put: AtomicBool::new(false),
+        has_polled: AtomicBool::new(false),
+        drawn: AtomicU64::new(0),
+        told: AtomicU64::new(0),
+    };
+    let mut trial = new_trial(rt.alloc(), 1, 1, 1)?;
+    polls_once(&rt, &mut trial, &gate)?;
+    // An only consumer's claim makes five accesses, three to the conciliator and two to the proposal, and draws a word for
+    // each: all were made before the poll was told of.
+    same(&rt, &gate.told.load(Ordering::SeqCst), &5);
+    // And the poll found the item, so this was put before the put was told of.
+    ends(
+        rt.alloc(),
+        trial,
+        &[(&[5], true, &[])],
+        &[(0, 0, &[Note::Took(5)], false)],
+    )
+}

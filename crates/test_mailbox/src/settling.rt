@@ -1,0 +1,180 @@
+//! Polls that settle their items: each cell has a last object, and each poll has a budget for a whole claim.
+ghost use Rattle.std.specs.Prelude.{All, IfOk, OnOk};
+ghost use Rattle.mb_mailbox.specs.Consumers.{IsConsumerOf};
+ghost use Rattle.mb_mailbox.specs.Hubs.{IsHubOf};
+ghost use Rattle.mb_mailbox.specs.Producers.{IsProducerOf};
+
+use crate::compare::same;
+use crate::words::chacha;
+use test_audit::{Tally, audit};
+use mb_claim::Shape;
+use mb_mailbox::{Consumer, Hub, Mailbox, Poll, Producer, Put};
+use mb_quorum::TableName;
+use mb_world::Setup;
+use rand_chacha::ChaCha8Rng;
+use std::alloc::Global;
+use std::process::Abort;
+use std::sync::atomic::{AtomicU64, Ordering};
+use std::test::Fail;
+use std::thread::{Threads, for_each_mut, yield_now};
+
+/// How many consumers compete for each item.
+const CONSUMERS: u64 = 16;
+
+/// How many items are put.
+const ITEMS: u64 = 256;
+
+/// How many mailboxes there are, one after the other.
+const MAILBOXES: u64 = 32;
+
+/// How often a consumer looks whether all have come.
+const TURNS: u64 = 10_000_000;
+
+/// One of those who poll: a consumer, its random words, and what its polls came to.
+#[derive(Drop)]
+struct Settler {
+    consumer: Consumer<Global>,
+    words: ChaCha8Rng,
+    /// Polls that were answered `Took` or `Lost`.
+    settled: u64,
+    /// Polls that were answered `Ended`.
+    ended: u64,
+}
+
+/// Waits until all consumers have come, and not for ever.
+fn wait_for_all(come: &AtomicU64) {
+    come.fetch_add(1, Ordering::SeqCst);
+    for _ in 0..TURNS {
+        if CONSUMERS <= come.load(Ordering::SeqCst) {
+            break;
+        }
+        yield_now();
+    }
+}
+
+impl Settler {
+    /// Once all consumers have come, it polls once for each item and once for the end.
+    fn poll_all(&mut self, mailbox: &Mailbox<Global>, budget: u64, come: &AtomicU64)
+        requires { IsConsumerOf mailbox.now self.old.consumer }
+        ensures { IsConsumerOf mailbox.now self.new.consumer }
+    {
+        wait_for_all(come);
+        for _ in 0..=ITEMS {
+            match self.consumer.poll(mailbox, 0, budget, &mut self.words) {
+                Poll::Took(_) | Poll::Lost(_) => self.settled = self.settled.wrapping_add(1),
+                Poll::Ended => self.ended = self.ended.wrapping_add(1),
+                Poll::Undecided | Poll::Nothing | Poll::Spent | Poll::NoLane => {}
+            }
+        }
+    }
+}
+
+/// All consumers of a mailbox, with random words of this seed.
+fn all_settlers(
+    alloc: Global,
+    mailbox: &Mailbox<Global>,
+    hub: &mut Hub<Global>,
+    seed: u64,
+) -> Result<Vec<Settler>, Fail>
+    requires { IsHubOf mailbox.now hub.old }
+    ensures hub { OnOk result (IsHubOf mailbox.now hub.new) }
+    ensures settlers { IfOk result (λ v. All (λ s. IsConsumerOf mailbox.now s.consumer) v.items) }
+{
+    let mut settlers = Vec::new(alloc);
+    for stream in 0..CONSUMERS {
+        settlers.push(Settler {
+            consumer: hub.consumer(alloc, mailbox)?,
+            words: chacha(seed, stream as u32),
+            settled: 0,
+            ended: 0,
+        })?;
+    }
+    Ok(settlers)
+}
+
+/// Puts all items, and ends the lane.
+fn put_all(rt: &impl Abort, mailbox: &Mailbox<Global>, producer: &mut Producer<Global>)
+    requires { IsProducerOf mailbox.now producer.old }
+    ensures { IsProducerOf mailbox.now producer.new }
+{
+    for item in 0..ITEMS {
+        same(rt, &producer.put(mailbox, item), &Put::Linked);
+    }
+    producer.finish(mailbox);
+}
+
+/// Each poll for an item was settled, and the last one found the end. Then all of them are taken in.
+fn take_in(
+    rt: &impl Abort,
+    mailbox: &Mailbox<Global>,
+    hub: &mut Hub<Global>,
+    settlers: Vec<Settler>,
+)
+    requires hub { IsHubOf mailbox.now hub.old }
+    requires settlers { All (λ s. IsConsumerOf mailbox.now s.consumer) settlers.items }
+    ensures { IsHubOf mailbox.now hub.new }
+{
+    for settler in settlers {
+        same(rt, &(settler.settled, settler.ended), &(256, 1));
+        hub.take_consumer(mailbox, settler.consumer);
+    }
+}
+
+/// All consumers poll at one time, each in a thread of its own, and are taken in.
+fn settle_all<R: Abort + AllocGlobal + Threads + Sync>(
+    rt: &R,
+    mailbox: &Mailbox<Global>,
+    hub: &mut Hub<Global>,
+    budget: u64,
+    seed: u64,
+) -> Result<(), Fail>
+    requires { IsHubOf mailbox.now hub.old }
+    ensures { OnOk result (IsHubOf mailbox.now hub.new) }
+{
+    let mut producer = hub.producer(rt.alloc(), mailbox)?;
+    let mut settlers = all_settlers(rt.alloc(), mailbox, hub, seed)?;
+    put_all(rt, mailbox, &mut producer);
+    let come = AtomicU64::new(0);
+    for_each_mut(
+        rt,
+        &mut settlers,
+        CONSUMERS as usize,
+        &|_, settler| settler.poll_all(mailbox, budget, &come),
+    );
+    hub.take_producer(mailbox, producer);
+    take_in(rt, mailbox, hub, settlers);
+    Ok(())
+}
+
+/// In a mailbox with a fast path and a last object on each cell they settle all, and the report tells that each item was taken.
+fn are_all_taken<R: Abort + AllocGlobal + Threads + Sync>(rt: &R, seed: u64) -> Result<(), Fail> {
+    let shape = Shape {
+        fast: true,
+        last: true,
+    };
+    let setup = Setup::new(1, CONSUMERS, ITEMS, 1, TableName::Bits)?.shaped(shape);
+    let budget = setup.layout().max_steps().wrapping_add(2);
+    let (mailbox, mut hub) = Mailbox::new(rt.alloc(), setup)?;
+    settle_all(rt, &mailbox, &mut hub, budget, seed)?;
+    let Ok(report) = mailbox.gather(rt.alloc(), hub) else {
+        return Err(Fail::new("no report"));
+    };
+    let all_taken = Tally {
+        put: 256,
+        took: 256,
+        left: 0,
+        lost: 3840,
+        undecided: 0,
+        under_way: 0,
+    };
+    same(rt, &audit(&report, 1, CONSUMERS)?, &all_taken);
+    Ok(())
+}
+
+#[test]
+fn each_poll_settles_its_item(rt: HostRuntime) -> Result<(), Fail> {
+    for seed in 0..MAILBOXES {
+        are_all_taken(&rt, seed)?;
+    }
+    Ok(())
+}
