@@ -7,7 +7,6 @@
 
 ghost use Rattle.mb_mailbox.specs.Hubs.{IsHubOf};
 
-use test_audit::{Flaw, Tally, audit};
 use mb_mailbox::{Hub, Mailbox, OpenGate, WorkFault, work};
 use mb_quorum::TableName;
 use mb_world::{Setup, SetupFault};
@@ -19,6 +18,7 @@ use std::process::ExitCode;
 use std::sync::Wait;
 use std::thread::Threads;
 use std::time::{Clock, Duration, Instant};
+use test_audit::{Flaw, Tally, audit};
 
 /// How many accesses a consumer makes at most in a poll.
 const BUDGET: u64 = 64;

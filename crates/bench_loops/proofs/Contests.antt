@@ -26,7 +26,8 @@ one_of_contest layout cell i claims words h d contest within =
     }
 
 -- a changed list has the same places
-within_set : (claims : List Claim) (c : ℕ) (claim : Claim) (i : ℕ) → i < length (slice_set claims c claim) → i < length claims
+within_set : (claims : List Claim) (c : ℕ) (claim : Claim) (i : ℕ)
+    → i < length (slice_set claims c claim) → i < length claims
 within_set claims c claim i below = subst (λ n. i < n) (length-set claims c claim) below
 
 -- and with its step the contest goes on
@@ -49,7 +50,8 @@ contest_goes_on layout cell c claims words left h claim a others contest within 
         | inr apart ↦ ap consumer_of (other i d apart) ∙ contest.whose i d (within_set claims c claim i below)
       ];
       stands = λ i d below. elim (cases_eq i c) [
-        | inl at ↦ subst (λ n. IsClaimIn layout (slice_index_or (slice_set claims c claim) n d) (part_on n cell (a ∷ h)))
+        | inl at ↦ subst (λ n. IsClaimIn layout (slice_index_or (slice_set claims c claim) n d)
+            (part_on n cell (a ∷ h)))
             (sym at)
             (subst (λ it. IsClaimIn layout it (part_on c cell (a ∷ h))) (sym (same d))
             (subst (λ n. IsClaimIn layout claim (part_on n cell (a ∷ h))) own under.stands))

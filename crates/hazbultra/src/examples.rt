@@ -33,7 +33,8 @@ pub fn handles_lead_to_things()
         → ⊥ }
 
     // A hub is no producer that it gave, and no report.
-    ensures not_given { (h : BoundHubView) → HubGave (λ h p. p.id ≡ h.id) (Some (OfHub h)) None → ⊥ }
+    ensures not_given { (h : BoundHubView) → HubGave (λ h p. p.id ≡ h.id) (Some (OfHub h)) None
+        → ⊥ }
     ensures not_told { (h : BoundHubView)
         → HubTold (λ h r. r.lanes ≡ []) (Some (OfHub h)) (Some (OfHub h)) → ⊥ }
 {}

@@ -1,7 +1,8 @@
 -- The words of a pool in one block.
 use Rattle.std.proofs.Common.{List, [], ap, arith, get_or-set_other, get_or-set_same, inl, inr, length, length-set, refl, slice_index, slice_set, subst, sym, ℕ, ◌<◌, ◌∙◌, ◌∷◌, ◌≡◌, ◌≤◌}
 use Rattle.std.specs.Prelude.{unwrap_or}
-use Rattle.mb_cells.specs.{Counter, END, Head, History, IsMemoryOf, IsPoolLawful, IsPoolWord, IsStateOf, Item, Link, PoolAccess, PoolSize, Process, Word, address_of, block_after, parts_after, stored_by, value_in, words_of}
+use Rattle.mb_cells.specs.{Counter, END, Head, History, IsMemoryOf, IsPoolLawful, IsPoolWord, IsStateOf, Item, Link, PoolAccess, PoolSize, Process, Word}
+use Rattle.mb_cells.specs.{address_of, block_after, parts_after, stored_by, value_in, words_of}
 use Rattle.mb_cells.proofs.Names.{cases_word, is_same_word-ne, is_same_word-refl, value_in-other}
 use Rattle.mb_cells.proofs.NextAccesses.{newest_within}
 use Rattle.mb_cells.proofs.OneStep.{empty_lawful}

@@ -8,7 +8,13 @@ use Rattle.mb_cells.specs.declared.answer.Push.TheVariants as push
 use Rattle.mb_cells.specs.declared.answer.Finish.TheVariants as finish
 use Rattle.mb_cells.specs.declared.lane.LaneStage.TheVariants as stage
 use Rattle.mb_cells.specs.Place as phase
-use Rattle.mb_cells.specs.{Call, Counter, END, Entry, Finish, Finished, History, IsLaneAfter, Item, Lane, LaneStage, Offer, Offered, Phase, PhaseFits, PoolAccess, Producer, Pushed, fetch, fetch_adds_by, fetch_adds_by_offer, finish_answer, finish_refusal, has_ended, has_ended_by, history_after_finish, history_after_offer, history_after_push, is_end, is_full, is_same_process, item_by, item_by_offer, item_of, lane_after_finish, lane_after_offer, lane_after_push, link_after, linked_cells, linked_cells_by, new_lane, next_link, offer_answer, offer_by_found, offer_refusal, part, push_answer, push_store, stage_after_push, stage_by, stage_by_finish, stage_by_offer, stage_by_push, stage_finish_refusal, stage_of, stage_offer_refusal, stage_push_answer, stage_push_store, store, value_in}
+use Rattle.mb_cells.specs.{Call, Counter, END, Entry, Finish, Finished, History, IsLaneAfter, Item, Lane, LaneStage, Offer, Offered, Phase, PhaseFits}
+use Rattle.mb_cells.specs.{PoolAccess, Producer, Pushed, fetch, fetch_adds_by, fetch_adds_by_offer, finish_answer, finish_refusal, has_ended}
+use Rattle.mb_cells.specs.{has_ended_by, history_after_finish, history_after_offer, history_after_push, is_end, is_full, is_same_process, item_by}
+use Rattle.mb_cells.specs.{item_by_offer, item_of, lane_after_finish, lane_after_offer, lane_after_push, link_after, linked_cells, linked_cells_by}
+use Rattle.mb_cells.specs.{new_lane, next_link, offer_answer, offer_by_found, offer_refusal, part, push_answer, push_store, stage_after_push, stage_by}
+use Rattle.mb_cells.specs.{stage_by_finish, stage_by_offer, stage_by_push, stage_finish_refusal, stage_of, stage_offer_refusal, stage_push_answer}
+use Rattle.mb_cells.specs.{stage_push_store, store, value_in}
 use Rattle.mb_cells.proofs.LaneSteps.{finished_lane, offered_lane, pushed_lane, same_lane, start_lane}
 use Rattle.mb_cells.proofs.Names.{own_process, same_twice}
 use Rattle.mb_cells.proofs.Parts.{part-other, part-own}

@@ -4,7 +4,11 @@ use Rattle.std.specs.Prelude.{if◌then◌else◌, map, reverse, slice_index_or,
 use Rattle.mb_cells.specs.declared.answer.Finish.TheVariants as finish
 use Rattle.mb_cells.specs.declared.cursor.Cursor.TheVariants as cursor
 use Rattle.mb_cells.specs.declared.answer.Look.TheVariants as look
-use Rattle.mb_cells.specs.{Call, Counter, Finished, Has, HasMade, Head, History, IsAfter, IsAnswerBy, IsOnceEach, Item, Link, Offered, PoolSize, PoolState, Pushed, Reads, cell_count, entry_of, has_ended, history_after_finish, history_after_offer, history_after_push, item_by, item_in, item_of, lane_count, lane_end, lane_end_by, linked_cells, linked_cells_by, look_in, look_of, new_lane, offer_by_found, place_past, put_list, put_list_by, size_of, stage_by, stage_finish_refusal, stage_offer_refusal, stage_push_answer, value_in, word_in, word_of}
+use Rattle.mb_cells.specs.{Call, Counter, Finished, Has, HasMade, Head, History, IsAfter, IsAnswerBy, IsOnceEach, Item, Link, Offered, PoolSize}
+use Rattle.mb_cells.specs.{PoolState, Pushed, Reads, cell_count, entry_of, has_ended, history_after_finish, history_after_offer, history_after_push}
+use Rattle.mb_cells.specs.{item_by, item_in, item_of, lane_count, lane_end, lane_end_by, linked_cells, linked_cells_by, look_in, look_of, new_lane}
+use Rattle.mb_cells.specs.{offer_by_found, place_past, put_list, put_list_by, size_of, stage_by, stage_finish_refusal, stage_offer_refusal}
+use Rattle.mb_cells.specs.{stage_push_answer, value_in, word_in, word_of}
 use Rattle.mb_cells.proofs.CallHistories.{Tells, told_finish, told_nothing, told_offer, told_push}
 use Rattle.mb_cells.proofs.EndMarks.{end_word}
 use Rattle.mb_cells.proofs.Items.{LeadThrough, cell_within, item_left, lead_through, once_each, one_lane, same_map}

@@ -5,7 +5,9 @@ use Rattle.std.proofs.lemmas.Bool.{cases_Bool, ltb-false, ltb-true}
 use Rattle.mb_cells.specs.declared.answer.Offer.TheVariants as offer
 use Rattle.mb_cells.specs.declared.lane.LaneStage.TheVariants as stage
 use Rattle.mb_cells.specs.Place as phase
-use Rattle.mb_cells.specs.{Call, Counter, Finished, Has, HasMade, History, IsAt, IsLaneAfter, Lane, LaneStage, Offered, Phase, PoolSize, PoolState, Producer, Pushed, WasGivenBy, cell_count, fetch, fetch_adds_by, new_lane, offer_by_found, part, size_of, stage_by, stage_of, stage_offer_refusal, value_in}
+use Rattle.mb_cells.specs.{Call, Counter, Finished, Has, HasMade, History, IsAt, IsLaneAfter, Lane, LaneStage, Offered, Phase, PoolSize, PoolState}
+use Rattle.mb_cells.specs.{Producer, Pushed, WasGivenBy, cell_count, fetch, fetch_adds_by, new_lane, offer_by_found, part, size_of, stage_by, stage_of}
+use Rattle.mb_cells.specs.{stage_offer_refusal, value_in}
 use Rattle.mb_cells.proofs.CallLaws.{calls_answer, made_stands}
 use Rattle.mb_cells.proofs.Counter.{IsCounted, fetch-below}
 use Rattle.mb_cells.proofs.Histories.{lawful-counted}

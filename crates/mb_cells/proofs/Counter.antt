@@ -1,7 +1,8 @@
 -- The counter: a fetch-add finds what the one before it stored, so each number is given once.
 use Rattle.std.proofs.Common.{None, Some, [], ap, arith, false, inl, inr, refl, subst, sym, true, ℕ, ◌+◌, ◌<◌, ◌∙◌, ◌∷◌, ◌≡◌, ◌≤◌, ◌⊎◌}
 use Rattle.std.proofs.lemmas.Bool.{cases_Bool, cond_both, false≢true}
-use Rattle.mb_cells.specs.{Counter, Entry, FetchAdd, Has, History, IsMemoryTrue, PoolAccess, PoolAct, Process, ReadsLast, fetch, fetch_adds_on, is_fetch_add, is_same_process, is_same_word, part, stored_by, value_in}
+use Rattle.mb_cells.specs.{Counter, Entry, FetchAdd, Has, History, IsMemoryTrue, PoolAccess, PoolAct, Process, ReadsLast, fetch, fetch_adds_on}
+use Rattle.mb_cells.specs.{is_fetch_add, is_same_process, is_same_word, part, stored_by, value_in}
 use Rattle.mb_cells.proofs.Names.{is_same_word-eq, stores_or_not, value_in-kept, value_in-other, value_in-stored}
 use Rattle.mb_cells.proofs.Parts.{Has-of_part}
 

@@ -2,7 +2,9 @@
 use Rattle.std.proofs.Common.{Bool, List, [], ap, arith, cond, eq-eqb, false, inl, inr, le-leb, refl, subst, suc, sym, true, zero, ℕ, ◌++◌, ◌+◌, ◌<◌, ◌||◌, ◌∙◌, ◌∷◌, ◌≡◌, ◌≤◌}
 use Rattle.std.specs.Prelude.{nat_le}
 use Rattle.std.proofs.lemmas.Bool.{cases_Bool, cases_eq, cases_lt, cond_both, lt-leb}
-use Rattle.mb_cells.specs.{AllCellsBelow, Counter, Entry, FetchAdd, Has, History, IsAt, IsLoad, IsPoolLawful, IsReaderPath, Phase, PoolAccess, PoolAct, PoolSize, Process, ProcessFits, Producer, Reader, Steps, Store, WasHandedOut, ends_lane, ends_refused, fetch, fetch_adds_on, fills_cell, finds_none, groups, is_same_process, links_cell, part, stored_by, takes_cell, value_in}
+use Rattle.mb_cells.specs.{AllCellsBelow, Counter, Entry, FetchAdd, Has, History, IsAt, IsLoad, IsPoolLawful, IsReaderPath, Phase, PoolAccess, PoolAct}
+use Rattle.mb_cells.specs.{PoolSize, Process, ProcessFits, Producer, Reader, Steps, Store, WasHandedOut, ends_lane, ends_refused, fetch, fetch_adds_on}
+use Rattle.mb_cells.specs.{fills_cell, finds_none, groups, is_same_process, links_cell, part, stored_by, takes_cell, value_in}
 use Rattle.mb_cells.proofs.Counter.{IsCounted, counted-tail, counter_count, counter_step, fetch-below, fetch-found}
 use Rattle.mb_cells.proofs.Histories.{lawful-counted, lawful-tail, place_of, storer_of}
 use Rattle.mb_cells.proofs.Names.{own_process}

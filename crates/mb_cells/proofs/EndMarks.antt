@@ -2,7 +2,9 @@
 use Rattle.std.proofs.Common.{Bool, List, [], ap, arith, cond, eq-eqb, false, inl, inr, ne_eqb, refl, subst, sym, true, ℕ, ◌++◌, ◌+◌, ◌<◌, ◌||◌, ◌∙◌, ◌∷◌, ◌≡◌}
 use Rattle.std.specs.Prelude.{nat_eq}
 use Rattle.std.proofs.lemmas.Bool.{cases_Bool, false≢true}
-use Rattle.mb_cells.specs.{AllCellsBelow, END, Entry, HasLoaded, HasMet, History, IsAt, IsLanePrefix, IsPoolLawful, Phase, PoolAccess, PoolSize, Process, Producer, Steps, Store, ends_lane, ends_refused, fills_cell, finds_none, groups, has_ended, is_same_process, linked_cells, links_cell, marks_end, part, part_at, place_after, place_past, takes_cell, value_in}
+use Rattle.mb_cells.specs.{AllCellsBelow, END, Entry, HasLoaded, HasMet, History, IsAt, IsLanePrefix, IsPoolLawful, Phase, PoolAccess, PoolSize, Process}
+use Rattle.mb_cells.specs.{Producer, Steps, Store, ends_lane, ends_refused, fills_cell, finds_none, groups, has_ended, is_same_process, linked_cells}
+use Rattle.mb_cells.specs.{links_cell, marks_end, part, part_at, place_after, place_past, takes_cell, value_in}
 use Rattle.mb_cells.specs.Place.{Ended, Full, Offered, Open, Stored}
 use Rattle.mb_cells.proofs.Histories.{cells_at, cells_of, lawful-tail, link-place, met_all, next_is, place_of, stays}
 use Rattle.mb_cells.proofs.Parts.{part-other, part-own}

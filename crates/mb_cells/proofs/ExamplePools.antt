@@ -4,7 +4,8 @@ use Rattle.mb_cells.specs.declared.answer.Finish.TheVariants as finish
 use Rattle.mb_cells.specs.declared.answer.Offer.TheVariants as offer
 use Rattle.mb_cells.specs.declared.answer.Push.TheVariants as push
 use Rattle.mb_cells.specs.declared.lane.LaneStage.TheVariants as stage
-use Rattle.mb_cells.specs.{END, FinishMeets, Head, IsAfter, IsSound, Item, Lane, Link, OfferMeets, PoolState, PushMeets, ended_pool, full_pool, new_lane, new_pool, no_cell, one_cell, one_put, one_taken, put_pool, store, taken_pool}
+use Rattle.mb_cells.specs.{END, FinishMeets, Head, IsAfter, IsSound, Item, Lane, Link, OfferMeets, PoolState, PushMeets, ended_pool, full_pool, new_lane}
+use Rattle.mb_cells.specs.{new_pool, no_cell, one_cell, one_put, one_taken, put_pool, store, taken_pool}
 use Rattle.mb_cells.proofs.PoolSteps.{empty_after, finish_made, offer_made, push_made}
 
 -- the place of the only producer that has taken the cell

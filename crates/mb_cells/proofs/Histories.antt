@@ -2,7 +2,11 @@
 use Rattle.std.proofs.Common.{List, None, Some, [], ap, append_assoc, arith, eq-eqb, false, inl, inr, ne_eqb, refl, subst, sym, ℕ, ◌++◌, ◌+◌, ◌-◌, ◌<◌, ◌∙◌, ◌∷◌, ◌≡◌, ◌⊎◌}
 use Rattle.std.specs.Prelude.{nat_eq}
 use Rattle.std.proofs.lemmas.Bool.{cases_Bool, cases_eq, cond_both}
-use Rattle.mb_cells.specs.{AllCellsBelow, Counter, END, Entry, Has, HasLoaded, HasMet, Head, History, IsAt, IsLanePrefix, IsLinkWord, IsLoad, IsPoolLawful, IsReaderPath, IsStart, Item, Link, Load, Phase, PoolAccess, PoolAct, PoolSize, Process, Producer, Reader, ReadsLast, Steps, Store, Word, ends_lane, ends_refused, fetch, fills_cell, finds_none, groups, is_fetch_add, is_same_process, is_same_word, link_of, linked_cells, links_cell, part, part_at, place_after, place_past, push_if, stored_by, takes_cell, value_in}
+use Rattle.mb_cells.specs.{AllCellsBelow, Counter, END, Entry, Has, HasLoaded, HasMet, Head, History, IsAt, IsLanePrefix, IsLinkWord, IsLoad}
+use Rattle.mb_cells.specs.{IsPoolLawful, IsReaderPath, IsStart, Item, Link, Load, Phase, PoolAccess, PoolAct, PoolSize, Process, Producer, Reader}
+use Rattle.mb_cells.specs.{ReadsLast, Steps, Store, Word, ends_lane, ends_refused, fetch, fills_cell, finds_none, groups, is_fetch_add, is_same_process}
+use Rattle.mb_cells.specs.{is_same_word, link_of, linked_cells, links_cell, part, part_at, place_after, place_past, push_if, stored_by, takes_cell}
+use Rattle.mb_cells.specs.{value_in}
 use Rattle.mb_cells.specs.Place.{Ended, Full, Offered, Open, Stored}
 use Rattle.mb_cells.proofs.Counter.{AreRising, IsCounted, fetch-one, rising, rising-part}
 use Rattle.mb_cells.proofs.Names.{is_same_word-eq, own_process, stores_or_not, value_in-kept, value_in-other}

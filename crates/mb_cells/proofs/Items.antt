@@ -2,7 +2,10 @@
 use Rattle.std.proofs.Common.{List, None, Option, Some, [], ap, arith, eq-eqb, false, inl, inr, ne_eqb, refl, subst, sym, ℕ, ◌+◌, ◌-◌, ◌<◌, ◌∙◌, ◌∷◌, ◌≡◌}
 use Rattle.std.specs.Prelude.{map, nat_eq, reverse}
 use Rattle.std.proofs.lemmas.Bool.{cases_Bool, cond_both}
-use Rattle.mb_cells.specs.{AllCellsBelow, AllFit, Counter, END, Entry, FetchAdd, Gave, Has, HasLoaded, Head, History, IsGift, IsLinkWord, IsOnceEach, IsPoolLawful, IsReaderPath, Item, Link, Load, MayRead, PoolAccess, PoolAct, PoolSize, ProcessFits, Producer, Reader, ReadsLast, Store, Word, entry_of, fetch, groups, is_same_process, is_same_word, item_after, item_of, link_of, linked_cells, part, place_past, push_if, put_list, stored_by, value_in}
+use Rattle.mb_cells.specs.{AllCellsBelow, AllFit, Counter, END, Entry, FetchAdd, Gave, Has, HasLoaded, Head, History, IsGift, IsLinkWord, IsOnceEach}
+use Rattle.mb_cells.specs.{IsPoolLawful, IsReaderPath, Item, Link, Load, MayRead, PoolAccess, PoolAct, PoolSize, ProcessFits, Producer, Reader, ReadsLast}
+use Rattle.mb_cells.specs.{Store, Word, entry_of, fetch, groups, is_same_process, is_same_word, item_after, item_of, link_of, linked_cells, part}
+use Rattle.mb_cells.specs.{place_past, push_if, put_list, stored_by, value_in}
 use Rattle.mb_cells.proofs.Counter.{IsCounted, counted-tail, fetch-below, fetch-one}
 use Rattle.mb_cells.proofs.Histories.{cells_at, cells_of, chained, falls, lawful-counted, lawful-tail, linked_cells-part, place_of, same-maker, stays, storer_of}
 use Rattle.mb_cells.proofs.Names.{access_is, is_same_word-eq, own_process, stores_or_not, value_in-kept, value_in-other, value_in-stored}

@@ -5,7 +5,8 @@ use Rattle.std.proofs.lemmas.Bool.{cases_Bool}
 use mathlib.Core.List.{reverse_aux}
 use Rattle.mb_cells.specs.declared.answer.Look.TheVariants as look
 use Rattle.mb_cells.specs.declared.cursor.Cursor.TheVariants as cursor
-use Rattle.mb_cells.specs.{AllCellsBelow, Cursor, END, Entry, Has, HasLoaded, History, IsPoolLawful, Item, Look, PoolSize, Reads, Word, entry_of, has_ended, item_of, lane_end, linked_cells, look_after, look_of, place_past, put_list, value_in, word_of}
+use Rattle.mb_cells.specs.{AllCellsBelow, Cursor, END, Entry, Has, HasLoaded, History, IsPoolLawful, Item, Look, PoolSize, Reads, Word, entry_of}
+use Rattle.mb_cells.specs.{has_ended, item_of, lane_end, linked_cells, look_after, look_of, place_past, put_list, value_in, word_of}
 use Rattle.mb_cells.proofs.EndMarks.{end_word}
 use Rattle.mb_cells.proofs.Histories.{cells_at, cells_of, link-place, link_load, place_of}
 use Rattle.mb_cells.proofs.Items.{LeadThrough, item_left, lead_through, lower}

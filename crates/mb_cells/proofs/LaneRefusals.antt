@@ -3,7 +3,10 @@ use Rattle.std.proofs.Common.{Bool, List, None, Some, [], ap, arith, false, inl,
 use Rattle.std.proofs.lemmas.Bool.{cases_Bool}
 use Rattle.mb_cells.specs.declared.answer.Finish.TheVariants as finish
 use Rattle.mb_cells.specs.declared.answer.Offer.TheVariants as offer
-use Rattle.mb_cells.specs.{AllCellsBelow, Entry, FetchAdd, Has, HasFoundNone, HasPending, History, IsAt, IsLaneAfter, IsPoolLawful, Item, Lane, Load, Phase, PoolAccess, PoolAct, PoolSize, Producer, Store, Word, fetch, finish_refusal, groups, has_ended, linked_cells, next_link, offer_refusal, part, part_at, place_after, push_store, stage_finish_refusal, stage_of, stage_offer_refusal, stage_push_store, store}
+use Rattle.mb_cells.specs.{AllCellsBelow, Entry, FetchAdd, Has, HasFoundNone, HasPending, History, IsAt, IsLaneAfter, IsPoolLawful, Item, Lane, Load}
+use Rattle.mb_cells.specs.{Phase, PoolAccess, PoolAct, PoolSize, Producer, Store, Word, fetch, finish_refusal, groups, has_ended, linked_cells, next_link}
+use Rattle.mb_cells.specs.{offer_refusal, part, part_at, place_after, push_store, stage_finish_refusal, stage_of, stage_offer_refusal, stage_push_store}
+use Rattle.mb_cells.specs.{store}
 use Rattle.mb_cells.specs.Place.{Ended, Full, Offered, Open, Stored}
 use Rattle.mb_cells.proofs.EndMarks.{ended_is, is_ended}
 use Rattle.mb_cells.proofs.Histories.{cells_at, cells_of, falls}
@@ -152,7 +155,8 @@ module _ (size : PoolSize) (h : History) (p : ℕ) (lawful : IsPoolLawful size h
     add_of : (e : Entry) → IsMade e → Has (linked_cells p h) e.cell ⊎ IsLast size.cells phase e.cell
     add_of e has =
         elim (add_at size.cells p es phase (part (Producer p) h) at e
-        (subst (λ d. Has d (fetch p e)) at.is (Has-part (Producer p) h (fetch p e) has (own_process (Producer p) (fetch p e) refl)))) [
+        (subst (λ d. Has d (fetch p e)) at.is
+        (Has-part (Producer p) h (fetch p e) has (own_process (Producer p) (fetch p e) refl)))) [
           | inl there ↦ inl (subst (λ ks. Has ks e.cell) (sym (cells_at size p h es phase lawful.sized at)) there)
           | inr last ↦ inr last
         ]

@@ -4,7 +4,10 @@ use Rattle.std.specs.Prelude.{nat_lt}
 use Rattle.std.proofs.lemmas.Bool.{cases_Bool, ltb-false, ltb-true}
 use Rattle.mb_cells.specs.declared.lane.LaneStage.TheVariants as stage
 use Rattle.mb_cells.specs.Place as phase
-use Rattle.mb_cells.specs.{END, Entry, History, IsAt, IsLaneAfter, IsLanePrefix, Item, Lane, Phase, Word, ends_lane, ends_refused, fetch, fills_cell, finds_none, finish_refusal, is_full, lane_after_finish, lane_after_offer, lane_after_push, last_after_push, last_of, link_after, links_cell, new_lane, next_link, offer_refusal, place_after, push_store, stage_after_push, stage_finish_refusal, stage_of, stage_offer_refusal, stage_push_store, store, takes_cell}
+use Rattle.mb_cells.specs.{END, Entry, History, IsAt, IsLaneAfter, IsLanePrefix, Item, Lane, Phase, Word, ends_lane, ends_refused, fetch, fills_cell}
+use Rattle.mb_cells.specs.{finds_none, finish_refusal, is_full, lane_after_finish, lane_after_offer, lane_after_push, last_after_push, last_of}
+use Rattle.mb_cells.specs.{link_after, links_cell, new_lane, next_link, offer_refusal, place_after, push_store, stage_after_push, stage_finish_refusal}
+use Rattle.mb_cells.specs.{stage_of, stage_offer_refusal, stage_push_store, store, takes_cell}
 use Rattle.mb_cells.proofs.OneStep.{start_at}
 use Rattle.mb_cells.proofs.Places.{goes_on, one_place, prefix_at, somewhere}
 

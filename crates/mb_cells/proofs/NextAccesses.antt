@@ -1,7 +1,11 @@
 -- What a producer and a reader may do next, and that it is in range.
 use Rattle.std.proofs.Common.{List, None, Some, [], ap, arith, inl, inr, refl, subst, sym, ℕ, ◌+◌, ◌<◌, ◌^◌, ◌∙◌, ◌∷◌, ◌≡◌, ◌⊎◌}
 use Rattle.mb_cells.specs.Place as phase
-use Rattle.mb_cells.specs.{ActFits, AllCellsBelow, AllFit, Counter, END, Entry, FetchAdd, Has, Head, History, IsAt, IsLaneAfter, IsLanePrefix, IsPoolLawful, IsPoolWord, IsReaderPath, IsLaneWord, Item, Lane, Link, MayRead, Phase, PhaseFits, PoolAccess, PoolSize, Process, ProcessFits, Producer, Reader, Steps, Store, Word, ends_lane, ends_refused, fetch, fills_cell, finds_none, finish_refusal, links_cell, next_link, offer_refusal, part, place_after, push_store, stage_finish_refusal, stage_of, stage_offer_refusal, stage_push_store, store, takes_cell}
+use Rattle.mb_cells.specs.{ActFits, AllCellsBelow, AllFit, Counter, END, Entry, FetchAdd, Has, Head, History, IsAt, IsLaneAfter, IsLanePrefix}
+use Rattle.mb_cells.specs.{IsPoolLawful, IsPoolWord, IsReaderPath, IsLaneWord, Item, Lane, Link, MayRead, Phase, PhaseFits, PoolAccess, PoolSize, Process}
+use Rattle.mb_cells.specs.{ProcessFits, Producer, Reader, Steps, Store, Word, ends_lane, ends_refused, fetch, fills_cell, finds_none, finish_refusal}
+use Rattle.mb_cells.specs.{links_cell, next_link, offer_refusal, part, place_after, push_store, stage_finish_refusal, stage_of, stage_offer_refusal}
+use Rattle.mb_cells.specs.{stage_push_store, store, takes_cell}
 use Rattle.mb_cells.proofs.Histories.{lawful-tail, place_of}
 use Rattle.mb_cells.proofs.Items.{cell_within, given}
 use Rattle.mb_cells.proofs.LaneSteps.{next_place}

@@ -1,7 +1,8 @@
 -- One more access of one process keeps a history lawful.
 use Rattle.std.proofs.Common.{[], ap, arith, false, inl, inr, refl, subst, sym, ℕ, ◌++◌, ◌<◌, ◌^◌, ◌∙◌, ◌∷◌, ◌≡◌}
 use Rattle.std.proofs.lemmas.Bool.{cases_Bool, cond_both}
-use Rattle.mb_cells.specs.{ActFits, Counter, END, History, IsAt, IsLanePrefix, IsPoolLawful, IsReaderPath, MayRead, PoolAccess, PoolSize, ProcessFits, Producer, Reader, ReadsLast, Word, is_same_process, is_same_word, load, part, value_in}
+use Rattle.mb_cells.specs.{ActFits, Counter, END, History, IsAt, IsLanePrefix, IsPoolLawful, IsReaderPath, MayRead, PoolAccess, PoolSize, ProcessFits}
+use Rattle.mb_cells.specs.{Producer, Reader, ReadsLast, Word, is_same_process, is_same_word, load, part, value_in}
 use Rattle.mb_cells.specs.Place.{Open}
 use Rattle.mb_cells.proofs.Histories.{lawful-tail, storer_of}
 use Rattle.mb_cells.proofs.Names.{is_same_process-eq, is_same_word-eq, stores_or_not, value_in-kept, value_in-other, value_in-stored}

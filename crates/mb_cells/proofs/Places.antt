@@ -1,6 +1,8 @@
 -- A prefix of a lane path puts its producer at one place, and at no other.
 use Rattle.std.proofs.Common.{Bool, List, None, Option, Some, [], ap, arith, false, inl, inr, refl, subst, sym, true, ℕ, ◌++◌, ◌+◌, ◌∙◌, ◌∷◌, ◌≡◌, ◌⊎◌}
-use Rattle.mb_cells.specs.{AllCellsBelow, END, Entry, FetchAdd, FindsNoCell, Has, History, IsAt, IsLanePrefix, Item, Phase, PoolAccess, Steps, Store, Word, ending, ends_lane, ends_refused, fetch, fills_cell, finds_none, groups, links_cell, part_at, place_after, refusal, store, takes_cell}
+use Rattle.mb_cells.specs.{AllCellsBelow, END, Entry, FetchAdd, FindsNoCell, Has, History, IsAt, IsLanePrefix, Item, Phase, PoolAccess, Steps, Store}
+use Rattle.mb_cells.specs.{Word, ending, ends_lane, ends_refused, fetch, fills_cell, finds_none, groups, links_cell, part_at, place_after, refusal, store}
+use Rattle.mb_cells.specs.{takes_cell}
 use Rattle.mb_cells.specs.Place.{Ended, Full, Offered, Open, Stored}
 
 -- where a producer stands that has done this

@@ -7,7 +7,11 @@ use Rattle.std.proofs.lemmas.List.{get_or-replicate, get_or-set_other, get_or-se
 use Rattle.std.specs.Option.{option_map_or}
 use Rattle.mb_cells.specs.declared.answer.Finish.TheVariants as finish
 use Rattle.mb_cells.specs.declared.cursor.Cursor.TheVariants as cursor
-use Rattle.mb_cells.specs.{ActFits, Counter, Cursor, END, Entry, FinishMeets, HasWord, Head, History, HoldsWords, IsAfter, IsLaneAfter, IsLinkWord, IsPoolLawful, IsPoolWord, IsSound, IsWithin, IsLaneWord, Item, Lane, Link, OfferMeets, PoolAccess, PoolSize, PoolState, PoolWords, Producer, PushMeets, ReadsLast, Word, cell_count, fetch, finish_refusal, is_same_process, is_same_word, lane_after_finish, lane_after_offer, lane_after_push, lane_count, new_lane, next_link, offer_by_found, offer_refusal, part, pool_size, push_answer, push_store, size_of, store, stored_by, value_in, word_in, word_of, words_with}
+use Rattle.mb_cells.specs.{ActFits, Counter, Cursor, END, Entry, FinishMeets, HasWord, Head, History, HoldsWords, IsAfter, IsLaneAfter, IsLinkWord}
+use Rattle.mb_cells.specs.{IsPoolLawful, IsPoolWord, IsSound, IsWithin, IsLaneWord, Item, Lane, Link, OfferMeets, PoolAccess, PoolSize, PoolState}
+use Rattle.mb_cells.specs.{PoolWords, Producer, PushMeets, ReadsLast, Word, cell_count, fetch, finish_refusal, is_same_process, is_same_word}
+use Rattle.mb_cells.specs.{lane_after_finish, lane_after_offer, lane_after_push, lane_count, new_lane, next_link, offer_by_found, offer_refusal, part}
+use Rattle.mb_cells.specs.{pool_size, push_answer, push_store, size_of, store, stored_by, value_in, word_in, word_of, words_with}
 use Rattle.mb_cells.proofs.Counts.{counter_bound}
 use Rattle.mb_cells.proofs.Items.{cell_within, leads_to}
 use Rattle.mb_cells.proofs.LaneSteps.{finished_lane, lane_prefix, offered_lane, pushed_lane, same_lane, start_lane}

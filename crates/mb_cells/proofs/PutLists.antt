@@ -1,7 +1,8 @@
 -- How the put list of a lane grows.
 use Rattle.std.proofs.Common.{None, Some, [], ap, arith, eq-eqb, false, map, nat_eq, ne_eqb, refl, reverse, sym, ℕ, ◌++◌, ◌+◌, ◌∙◌, ◌∷◌, ◌≡◌, ◌≢◌}
 use Rattle.std.proofs.lemmas.Grind.{reverse_onto}
-use Rattle.mb_cells.specs.{Counter, END, Entry, Has, Head, History, IsLinkWord, IsPoolLawful, Item, Link, PoolSize, Store, Word, entry_at, entry_of, fetch, is_same_word, item_of, link_of, linked_cells, load, put_list, store}
+use Rattle.mb_cells.specs.{Counter, END, Entry, Has, Head, History, IsLinkWord, IsPoolLawful, Item, Link, PoolSize, Store, Word, entry_at, entry_of}
+use Rattle.mb_cells.specs.{fetch, is_same_word, item_of, link_of, linked_cells, load, put_list, store}
 use Rattle.mb_cells.proofs.Counter.{fetch-below, fetch-found}
 use Rattle.mb_cells.proofs.Histories.{lawful-counted, lawful-tail}
 use Rattle.mb_cells.proofs.Items.{is_put_at, link_of-store, same_map}

@@ -2,7 +2,9 @@
 use Rattle.std.proofs.Common.{Bool, List, [], ap, eq-eqb, eqb-true, false, inl, inr, refl, subst, sym, true, ℕ, ◌++◌, ◌+◌, ◌||◌, ◌∙◌, ◌∷◌, ◌≡◌, ◌≢◌}
 use Rattle.std.specs.Prelude.{filter, nat_eq}
 use Rattle.std.proofs.lemmas.Bool.{cases_Bool, cond_both, false≢true}
-use Rattle.mb_cells.specs.{Counter, END, Gave, Has, HasLoaded, HasMet, Head, History, IsGift, IsLinkWord, IsOnceEach, IsPoolLawful, IsReaderPath, Item, Link, Load, MayRead, PoolAccess, PoolSize, Reader, Word, has_cell, is_of_lane, is_same_process, linked_cells, load, part, part_on, place_past}
+use Rattle.mb_cells.specs.{Counter, END, Gave, Has, HasLoaded, HasMet, Head, History, IsGift, IsLinkWord, IsOnceEach, IsPoolLawful, IsReaderPath, Item}
+use Rattle.mb_cells.specs.{Link, Load, MayRead, PoolAccess, PoolSize, Reader, Word, has_cell, is_of_lane, is_same_process, linked_cells, load, part}
+use Rattle.mb_cells.specs.{part_on, place_past}
 use Rattle.mb_cells.proofs.Histories.{met_all, met_start}
 use Rattle.mb_cells.proofs.Items.{gift-load, given, once_each, one_lane}
 use Rattle.mb_cells.proofs.Names.{access_is, is_same_process-refl}

@@ -1,9 +1,12 @@
 -- How many cells and items the lanes have.
-use Rattle.std.proofs.Common.{List, None, Some, [], ap, arith, cond, eq-eqb, eqb-true, inl, inr, length, length-append, refl, subst, suc, sym, zero, ℕ, ⊎_elim, ◌++◌, ◌+◌, ◌<◌, ◌∙◌, ◌∷◌, ◌≡◌, ◌≢◌, ◌≤◌, ◌⊎◌}
+use Rattle.std.proofs.Common.{List, None, Some, [], ap, arith, cond, eq-eqb, eqb-true, inl, inr, length, length-append, refl, subst, suc, sym, zero, ℕ}
+use Rattle.std.proofs.Common.{⊎_elim, ◌++◌, ◌+◌, ◌<◌, ◌∙◌, ◌∷◌, ◌≡◌, ◌≢◌, ◌≤◌, ◌⊎◌}
 use Rattle.std.specs.Prelude.{map, nat_eq}
 use Rattle.std.proofs.lemmas.Bool.{cases_eq, cond_both, false≢true}
 use Rattle.std.proofs.lemmas.List.{length-map, length-reverse}
-use Rattle.mb_cells.specs.{AllLinked, END, Entry, FetchAdd, Has, History, IsAt, IsLaneAfter, IsOnceEach, IsPoolLawful, Item, Lane, Phase, PoolAccess, PoolSize, Producer, Store, WasHandedOut, Word, entry_at, fetch, groups, items_put, linked_cells, next_link, part, part_at, place_after, push_store, put_list, stage_of, stage_push_store, store, stored_by}
+use Rattle.mb_cells.specs.{AllLinked, END, Entry, FetchAdd, Has, History, IsAt, IsLaneAfter, IsOnceEach, IsPoolLawful, Item, Lane, Phase, PoolAccess}
+use Rattle.mb_cells.specs.{PoolSize, Producer, Store, WasHandedOut, Word, entry_at, fetch, groups, items_put, linked_cells, next_link, part, part_at}
+use Rattle.mb_cells.specs.{place_after, push_store, put_list, stage_of, stage_push_store, store, stored_by}
 use Rattle.mb_cells.specs.Place.{Ended, Full, Offered, Open, Stored}
 use Rattle.mb_cells.proofs.Counts.{all_handed_out}
 use Rattle.mb_cells.proofs.Histories.{cells_at, cells_of, storer_of}
@@ -169,7 +172,8 @@ got_by size h k l (a, (has, (word, (x, act)))) =
     let s = storer_of size h a (k + 1) l has (ap stored_by act) in
     elim s.how [
       | inl add ↦
-          let acts : FetchAdd add.0.value add.0.cell ≡ FetchAdd x k = sym (ap (λ (z : PoolAccess). z.act) add.1) ∙ act in
+          let acts : FetchAdd add.0.value add.0.cell
+          ≡ FetchAdd x k = sym (ap (λ (z : PoolAccess). z.act) add.1) ∙ act in
           let same : add.0.cell ≡ k = cc in
           (s.maker, (add.0, (subst (Has h) add.1 has, same)))
       | inr own ↦ absurd (let acts : FetchAdd x k ≡ Store (k + 1) = sym act ∙ own.0 in cc)

@@ -75,7 +75,8 @@ pub row_plain : (s n : ℕ) → pairs_of s n ++ [] ≡ pairs_of s n
 row_plain s n = append-nil (pairs_of s n)
 
 -- an object of the fast path
-fast_kind : (b : Bool) (ys : List Kind) (o : ℕ) → o < length (fast_row b) → slice_get (fast_row b ++ ys) o ≡ Some Ratifier
+fast_kind : (b : Bool) (ys : List Kind) (o : ℕ) → o < length (fast_row b)
+    → slice_get (fast_row b ++ ys) o ≡ Some Ratifier
 fast_kind true ys zero h = refl
 fast_kind true ys (suc zero) h = refl
 fast_kind true ys (suc (suc o)) h = absurd (omega (arith, h))

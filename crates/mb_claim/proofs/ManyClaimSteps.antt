@@ -21,7 +21,8 @@ module _ {M : Type 0} (layout : Layout) (parts : PartsOf (quorums_of layout) (ki
   -- one access of a claim at this place
   goes_on :
       (claim : Claim) → claim_stage claim ≡ Going → (before now : M) (word : ℕ) (follows : Pc)
-      → IsStep (quorums_of layout) claim.place (λ op seen. DrawsAndMakes draws makes claim.object before word op seen now) word
+      → IsStep (quorums_of layout) claim.place
+      (λ op seen. DrawsAndMakes draws makes claim.object before word op seen now) word
       (leads.Go follows)
       → IsClaimStep layout claim (λ next seen. DrawsAndMakesNext draws makes before word next seen now) word
       (stood_at follows true claim)
@@ -34,7 +35,8 @@ module _ {M : Type 0} (layout : Layout) (parts : PartsOf (quorums_of layout) (ki
         made = step.made;
         path = λ xs of can.
             let p = of.stands going in
-            claim_going (quorums_of layout) (kinds_of layout) (stood_at follows true claim) (step_of claim.object step.op step.seen word) xs parts
+            claim_going (quorums_of layout) (kinds_of layout) (stood_at follows true claim)
+            (step_of claim.object step.op step.seen word) xs parts
             of.known going refl
             (same_object (quorums_of layout) (kinds_of layout) claim.consumer claim.object claim.place xs p _ follows
             (step.reached p.kind p.input p.turns p.place can));
@@ -60,13 +62,15 @@ module _ {M : Type 0} (layout : Layout) (parts : PartsOf (quorums_of layout) (ki
     consumer_after zero at = refl
     consumer_after (suc n) at = refl
 
-    moved_after : (n : ℕ) (at follows : Pc) → stood_at follows true (stood_after n at claim) ≡ stood_at follows true claim
+    moved_after : (n : ℕ) (at follows : Pc) → stood_at follows true (stood_after n at claim)
+        ≡ stood_at follows true claim
     moved_after zero at follows = refl
     moved_after (suc n) at follows = refl
 
     pub all_go_on :
         (n : ℕ) (follows : Pc) (now : M)
-        → AreSteps (quorums_of layout) (DrawsAndMakes draws makes claim.object) claim.place start n (leads.Go follows) now
+        → AreSteps (quorums_of layout) (DrawsAndMakes draws makes claim.object) claim.place start n
+        (leads.Go follows) now
         → AreClaimSteps layout (DrawsAndMakesNext draws makes) claim start n (stood_after n follows claim) now
     all_go_on zero follows now steps = (refl, steps.1)
     all_go_on (suc n) follows now (at, before, word, older, step) = (
@@ -76,18 +80,24 @@ module _ {M : Type 0} (layout : Layout) (parts : PartsOf (quorums_of layout) (ki
       all_go_on n at before older,
       stage_after n at,
       sym (consumer_after n at),
-      subst (λ c. IsClaimStep layout (stood_after n at claim) (λ next seen. DrawsAndMakesNext draws makes before word next seen now) word c)
+      subst (λ c. IsClaimStep layout (stood_after n at claim)
+          (λ next seen. DrawsAndMakesNext draws makes before word next seen now) word c)
           (moved_after n at follows)
           (goes_on (stood_after n at claim) (stage_after n at) before now word follows
-          (subst (λ o. IsStep (quorums_of layout) (stood_after n at claim).place (λ op seen. DrawsAndMakes draws makes o before word op seen now) word (leads.Go follows))
+          (subst (λ o. IsStep (quorums_of layout) (stood_after n at claim).place
+          (λ op seen. DrawsAndMakes draws makes o before word op seen now) word
+          (leads.Go follows))
           (sym (object_after n at))
-          (subst (λ pc. IsStep (quorums_of layout) pc (λ op seen. DrawsAndMakes draws makes claim.object before word op seen now) word (leads.Go follows))
+          (subst (λ pc. IsStep (quorums_of layout) pc
+          (λ op seen. DrawsAndMakes draws makes claim.object before word op seen now) word
+          (leads.Go follows))
           (sym (place_after n at before older)) step))),
     )
 
     pub moved_on :
         (n : ℕ) (follows : Pc) (now : M) → n ≢ 0
-        → AreSteps (quorums_of layout) (DrawsAndMakes draws makes claim.object) claim.place start n (leads.Go follows) now
+        → AreSteps (quorums_of layout) (DrawsAndMakes draws makes claim.object) claim.place start n
+        (leads.Go follows) now
         → AreClaimSteps layout (DrawsAndMakesNext draws makes) claim start n (stood_at follows true claim) now
     moved_on zero follows now some steps = absurd (some refl)
     moved_on (suc n) follows now some steps = all_go_on (suc n) follows now steps
@@ -138,7 +148,8 @@ module _ {M : Type 0} (layout : Layout) (parts : PartsOf (quorums_of layout) (ki
             made = step.made;
             path = λ xs of can. path at (stood_after n at claim).begun xs _
                 (subst (λ c. IsClaimIn layout c xs) (stands_there n at before older) of)
-                (λ kind v turns p. step.reached kind v turns p (subst (λ pc. CanFind (quorums_of layout) pc step.op step.seen) place can));
+                (λ kind v turns p. step.reached kind v turns p
+                (subst (λ pc. CanFind (quorums_of layout) pc step.op step.seen) place can));
           },
         )
 

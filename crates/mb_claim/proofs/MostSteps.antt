@@ -7,13 +7,15 @@ use Rattle.mb_claim.proofs.Bounds.{most-append, row_steps}
 use Rattle.mb_claim.proofs.StepsLeft.{ended_left, going_left, won_ended, lost_ended}
 
 -- of a row, what comes after one object
-past_one : (before : List Kind) (kind : Kind) (after : List Kind) → drop (suc (length before)) (before ++ kind ∷ after) ≡ after
+past_one : (before : List Kind) (kind : Kind) (after : List Kind)
+    → drop (suc (length before)) (before ++ kind ∷ after) ≡ after
 past_one [] kind after = refl
 past_one (k ∷ before) kind after = past_one before kind after
 
 module _ (layout : Layout) (claim : Claim) (xs : List ObjectTurn) (of : IsClaimIn layout claim xs)
     (most : (kind : Kind) (v : ℕ) (pc : Pc) (turns : List Turn) → v < (quorums_of layout).values
-    → IsAt (quorums_of layout) kind v pc turns → turns_left (quorums_of layout) pc ≤ most_turns (quorums_of layout) kind) where
+    → IsAt (quorums_of layout) kind v pc turns
+    → turns_left (quorums_of layout) pc ≤ most_turns (quorums_of layout) kind) where
   -- while it goes on
   going_most : claim.stage ≡ Going → steps_left layout claim ≤ most_accesses layout
   going_most goes =
@@ -34,7 +36,8 @@ module _ (layout : Layout) (claim : Claim) (xs : List ObjectTurn) (of : IsClaimI
   by_stage : (s : Stage) → claim.stage ≡ s → steps_left layout claim ≤ most_accesses layout
   by_stage Going e = going_most e
   by_stage Won e = let none = ended_left layout claim Won e won_ended in omega (arith, none)
-  by_stage (Lost winner) e = let none = ended_left layout claim (Lost winner) e (lost_ended winner) in omega (arith, none)
+  by_stage (Lost winner) e = let none = ended_left layout claim (Lost winner) e (lost_ended winner)
+      in omega (arith, none)
   by_stage Undecided e = let none = ended_left layout claim Undecided e (λ u. cc) in omega (arith, none)
 
   pub most_steps : steps_left layout claim ≤ most_accesses layout

@@ -68,7 +68,8 @@ won_ended e = cc
 alone_lawful : IsClaimLawful two_consumers won_alone
 alone_lawful =
     older_history_lawful two_consumers
-    (access_at 1 1 (Load (Quorum 1) 0) ∷ access_at 1 1 (Load Proposal 1) ∷ access_at 1 1 (Store (Quorum 0) 1) ∷ access_at 1 0
+    (access_at 1 1 (Load (Quorum 1) 0) ∷ access_at 1 1 (Load Proposal 1)
+    ∷ access_at 1 1 (Store (Quorum 0) 1) ∷ access_at 1 0
     (Load Value 1) ∷ [])
     won_alone lawful
 

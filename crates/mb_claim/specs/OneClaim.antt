@@ -94,7 +94,8 @@ abbrev pub claim_access : Claim → ℕ → ObjectTurn → ClaimAccess
 claim_access claim k step = record { consumer = consumer_of claim; cell = k; step = step }
 
 -- the words, and the claim on cell k, are those of one lawful history of the layout's claims on so many cells
-pub record IsClaimOn (layout : Layout) (cells k : ℕ) (claim : Claim) (words : List ℕ) (h : List ClaimAccess) : Type 0 where
+pub record IsClaimOn (layout : Layout) (cells k : ℕ) (claim : Claim) (words : List ℕ)
+    (h : List ClaimAccess) : Type 0 where
   -- the cell is one of them
   pub cell : k < cells
   -- the history leaves the words

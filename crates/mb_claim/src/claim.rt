@@ -123,7 +123,8 @@ impl Claim {
         ensures consumer { consumer_of self.new ≡ consumer_of self.old }
         ensures within { result ≤ most }
         ensures all { claim_stage self.new ≡ Going → result ≡ most }
-        ensures steps { AreClaimSteps layout.now (DrawsAndMakesNext M.draws M.makes) self.old memory.old
+        ensures steps { AreClaimSteps layout.now (DrawsAndMakesNext M.draws M.makes) self.old
+            memory.old
             result self.new memory.new }
     {
         if !self.stage.is_going() {
@@ -329,7 +330,8 @@ impl Claim {
             → IsClaimIn layout.now (stood_at pc begun self.old) xs
             → ((kind : Kind) (v : ℕ) (turns : List Turn)
             → IsAt (quorums_of layout.now) kind v pc turns
-            → IsReached (quorums_of layout.now) kind v (next_from out self.old.place) (turn ∷ turns))
+            → IsReached (quorums_of layout.now) kind v (next_from out self.old.place)
+            (turn ∷ turns))
             → IsClaimIn layout.now self.new
             (record { object = self.old.object; turn = turn } ∷ xs) }
     {

@@ -129,7 +129,8 @@ pub fn rows_of_accesses()
         → AreClaimSteps layout (λ before word next seen now. now ≡ before + 1) claim m 0 claim m }
 
     // A claim that has come to its end makes none.
-    ensures ended { (layout : Layout) (claim follows : Claim) (m now : ℕ) → claim_stage claim ≢ Going
+    ensures ended { (layout : Layout) (claim follows : Claim) (m now : ℕ)
+        → claim_stage claim ≢ Going
         → AreClaimSteps layout (λ before word next seen now. now ≡ before + 1) claim m 1 follows now
         → ⊥ }
 {}

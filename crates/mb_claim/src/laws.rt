@@ -140,7 +140,8 @@ pub fn last_objects_decide_claims()
     ensures rows { (t : QuorumTable) (front : List Kind) (cells c k : ℕ) (h : List ClaimAccess)
         → HasStage (claims_of t (front ++ LastObject ∷ []) cells) c k Undecided h → ⊥ }
     ensures layouts { (layout : Layout) (claim : Claim) (xs : List ObjectTurn)
-        → (shape_of layout).last ≡ true → IsClaimIn layout claim xs → claim_stage claim ≢ Undecided }
+        → (shape_of layout).last ≡ true → IsClaimIn layout claim xs
+        → claim_stage claim ≢ Undecided }
     ensures stages { (layout : Layout) (cells c k : ℕ) (h : List ClaimAccess)
         → (shape_of layout).last ≡ true
         → HasStage (claims_in layout cells) c k Undecided h → ⊥ }

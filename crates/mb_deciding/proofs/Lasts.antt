@@ -84,7 +84,8 @@ last_op t v turns a b p q =
     (subst (λ act. IsSameOp (Exchange Last (v + 1) x.0) act) (sym y.1) (refl, refl))
 
 -- whatever the exchange finds, it ends a path
-pub last_path : (v found word : ℕ) → (u : ℕ) × IsLastPath v (record { act = Exchange Last (v + 1) found; word = word } ∷ []) u
+pub last_path : (v found word : ℕ) → (u : ℕ)
+    × IsLastPath v (record { act = Exchange Last (v + 1) found; word = word } ∷ []) u
 last_path v zero word = (v, inl (refl, refl))
 last_path v (suc n) word =
     let e : suc n ≡ n + 1 = omega arith in
@@ -148,12 +149,14 @@ module _ (t : QuorumTable) (inputs : ℕ → ℕ) where
   after_newest a h l = ap (λ act. value_after Last act (value_in Last h)) (newest_exchange a h l)
 
   -- a value stays
-  pub value_stays : (a : Access) (h : List Access) → L (a ∷ h) → value_in Last h ≢ 0 → value_in Last (a ∷ h) ≡ value_in Last h
+  pub value_stays : (a : Access) (h : List Access) → L (a ∷ h) → value_in Last h ≢ 0
+      → value_in Last (a ∷ h) ≡ value_in Last h
   value_stays a h l some =
       after_newest a h l ∙ filled_exchanged (inputs a.process + 1) (value_in Last h) some
 
   -- into an empty word goes the input
-  pub value_comes : (a : Access) (h : List Access) → L (a ∷ h) → value_in Last h ≡ 0 → value_in Last (a ∷ h) ≡ inputs a.process + 1
+  pub value_comes : (a : Access) (h : List Access) → L (a ∷ h) → value_in Last h ≡ 0
+      → value_in Last (a ∷ h) ≡ inputs a.process + 1
   value_comes a h l none =
       after_newest a h l ∙ empty_exchanged (inputs a.process + 1) (value_in Last h) none
 
@@ -191,7 +194,8 @@ module _ (t : QuorumTable) (inputs : ℕ → ℕ) where
             value_stays a h l (λ none. omega (arith, none, holds)) ∙ holds
 
   -- so it is after any history in which a process has the output
-  output_holds : (h : List Access) → L h → (p u : ℕ) (turns : List Turn) → part p h ≡ turns → IsLastPath (inputs p) turns u
+  output_holds : (h : List Access) → L h → (p u : ℕ) (turns : List Turn) → part p h ≡ turns
+      → IsLastPath (inputs p) turns u
       → value_in Last h ≡ u + 1
   output_holds h l p u [] is path = absurd path
   output_holds h l p u (x ∷ y ∷ turns) is path = absurd path

@@ -16,7 +16,8 @@ skipped p q found h other =
     ap (λ b. cons_option (cond b (Some (turn 0 (Exchange Last (q + 1) found))) None) (part p h)) (ne_eqb q p other)
 
 -- each process has one turn, which is a whole path
-first_part : (p : ℕ) → part p first_decides ≢ [] → (p < 3) × IsPrefix (unary_table 3) LastObject p (part p first_decides)
+first_part : (p : ℕ) → part p first_decides ≢ [] → (p < 3)
+    × IsPrefix (unary_table 3) LastObject p (part p first_decides)
 first_part zero some = (omega arith, ([], answer true 0, (refl, inl (refl, refl))))
 first_part (suc zero) some = (omega arith, ([], answer true 0, (refl, inr refl)))
 first_part (suc (suc zero)) some = (omega arith, ([], answer true 0, (refl, inr refl)))
@@ -59,7 +60,8 @@ another_refused p =
     let same : Exchange Last 2 0 ≡ Exchange Last 1 x.0 = x.1 in
     let put : ◌≡◌ {A = ℕ} 2 1 = cc in absurd (omega (arith, put))
 
-pub twice_refused : IsPrefix (unary_table 3) LastObject 0 (turn 0 (Exchange Last 1 1) ∷ turn 0 (Exchange Last 1 0) ∷ []) → ⊥
+pub twice_refused : IsPrefix (unary_table 3) LastObject 0
+    (turn 0 (Exchange Last 1 1) ∷ turn 0 (Exchange Last 1 0) ∷ []) → ⊥
 twice_refused p =
     let none : turn 0 (Exchange Last 1 0) ∷ [] ≡ [] =
     (last_alone (unary_table 3) 0 (turn 0 (Exchange Last 1 0) ∷ []) (turn 0 (Exchange Last 1 1)) p).0 in cc

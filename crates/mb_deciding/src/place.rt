@@ -136,7 +136,8 @@ impl Pc {
         // The access that was made is the one that comes next, and a process that was at this place is now at the
         // next one, or has its output.
         ensures step { IsStep (Q.table q.now) self.old
-            (λ op seen. M.makes memory.old object op seen memory.new) word (next_from result self.new) }
+            (λ op seen. M.makes memory.old object op seen memory.new) word
+            (next_from result self.new) }
     {
         match self {
             Pc::InConciliator(place) => place.step(q.values(), memory, object, word),

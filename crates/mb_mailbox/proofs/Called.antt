@@ -13,7 +13,8 @@ module _ (may_pass : Who → ℕ → Type 0) where
   pub none_passed : (w : Who) (calls : ℕ) → calls ≡ 0 → ArePassed may_pass w calls
   none_passed w calls none n low high = absurd (omega (arith, none, low, high))
 
-  pub passed_more : (w : Who) (calls now : ℕ) → now ≡ suc calls → ArePassed may_pass w calls → may_pass w now → ArePassed may_pass w now
+  pub passed_more : (w : Who) (calls now : ℕ) → now ≡ suc calls → ArePassed may_pass w calls
+      → may_pass w now → ArePassed may_pass w now
   passed_more w calls now e was one n low high =
       ⊎_elim (λ (h : n ≤ calls). was n low h) (λ (h : n ≡ suc calls). subst (λ (k : ℕ). may_pass w k) (e ∙ sym h) one)
       (le-suc_iff.0 (subst (λ (k : ℕ). n ≤ k) e high))
@@ -29,7 +30,8 @@ module _ (may_pass : Who → ℕ → Type 0) where
   }
 
   -- and one that has made one more
-  pub called_more : (from end budget calls now lane : ℕ) (answer : Poll) (s u t : Stream) (old mid new : ConsumerView) → now ≡ suc calls
+  pub called_more : (from end budget calls now lane : ℕ) (answer : Poll) (s u t : Stream)
+      (old mid new : ConsumerView) → now ≡ suc calls
       → HasCalled may_pass from end budget calls s u old mid → from ≤ lane → lane < end
       → IsPollOf lane budget answer u t mid new → may_pass (who.Consumer old.seat.consumer) now
       → HasCalled may_pass from end budget now s t old new

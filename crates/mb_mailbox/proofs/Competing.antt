@@ -23,7 +23,8 @@ MovesOn = (s : ConsumerView) (p k word seen : ℕ) (claim now : Claim) (next : C
     → IsConsumer s → HasLoads s → HasPlace p (At k claim) s
     → consumer_of now ≡ s.seat.consumer
     → HasTurns s now (part_on s.seat.consumer k (access_of s.seat.consumer k next seen word ∷ s.seat.part))
-    → IsConsumer (moved_to p (place_after k now (claim_stage now)) (note_of (claim_stage now)) s.reader.part (access_of s.seat.consumer k next seen word ∷ s.seat.part) s)
+    → IsConsumer (moved_to p (place_after k now (claim_stage now)) (note_of (claim_stage now))
+    s.reader.part (access_of s.seat.consumer k next seen word ∷ s.seat.part) s)
 
 abbrev pub IsNext : Type 0
 IsNext = (s : ConsumerView) (p k word seen : ℕ) (claim now : Claim) (next : ClaimOp)
@@ -43,8 +44,10 @@ unnoted stage.Undecided e ne = absurd (cc)
 -- a consumer that stands at the claim has not moved by it
 still : (p k : ℕ) (claim : Claim) (st : Stage) (s : ConsumerView) → HasPlace p (At k claim) s → note_of st ≡ None
     → (moved_to p (place_after k claim st) (note_of st) s.reader.part s.seat.part s ≡ s) × (stage_answer st ≡ None)
-still p k claim stage.Going s e none = (ap (λ (ps : List Place). record s { places = ps }) (set_same s.places p (At k claim) e), refl)
-still p k claim stage.Won s e none = (ap (λ (ps : List Place). record s { places = ps }) (set_same s.places p (At k claim) e), refl)
+still p k claim stage.Going s e none =
+    (ap (λ (ps : List Place). record s { places = ps }) (set_same s.places p (At k claim) e), refl)
+still p k claim stage.Won s e none =
+    (ap (λ (ps : List Place). record s { places = ps }) (set_same s.places p (At k claim) e), refl)
 still p k claim (stage.Lost w) s e none = absurd (cc)
 still p k claim stage.Undecided s e none = absurd (cc)
 
@@ -55,25 +58,29 @@ competed_none p k n claim t u from s seat is e none i m =
     let same = still p k claim (claim_stage claim) s e none in
     subst (λ (z : SeatView). HasCompeted p k n claim t u from s z) is (record {
       same = refl;
-      steps = subst (λ (z : Option Poll × ConsumerView). AreSteps p n z.0 t u from z.1) (λ j. (sym same.1 j, sym same.0 j)) m;
+      steps = subst (λ (z : Option Poll × ConsumerView). AreSteps p n z.0 t u from z.1)
+          (λ j. (sym same.1 j, sym same.0 j)) m;
       is = subst IsConsumer (sym same.0) i;
     })
 
 -- one access more
-pub competed_more : MovesOn → IsNext → (s from : ConsumerView) (p k n word seen : ℕ) (was now : Claim) (next : ClaimOp) (seat new : SeatView) (size : TableSize)
+pub competed_more : MovesOn → IsNext → (s from : ConsumerView) (p k n word seen : ℕ)
+    (was now : Claim) (next : ClaimOp) (seat new : SeatView) (size : TableSize)
     (there : Place) (t u v : Stream) → slice_get s.places p ≡ Some there → HasLoads s → s.seat.table.size ≡ Some size
     → claim_stage was ≡ stage.Going → HasCompeted p k n was t u from s seat
     → new ≡ with_access (access_of seat.consumer k next seen word) seat → consumer_of now ≡ seat.consumer
     → IsClaimIn size.layout now (part_on new.consumer k new.part) → (word, v) ≡ next_u64 u
     → HasCompeted p k (n + 1) now t v from s new
-competed_more moves nexts s from p k n word seen was now next seat new size there t u v e h table going so adds own turns drawn =
+competed_more moves nexts s from p k n word seen was now next seat new size there t u v e h table
+    going so adds own turns drawn =
     let c = s.seat.consumer in
     let mid = moved_to p (At k was) None s.reader.part seat.part s in
     let a = access_of c k next seen word in
     let st = claim_stage now in
     let at : HasPlace p (At k was) mid = set_here s.places p (At k was) there e in
     let was_steps : AreSteps p n None t u from mid =
-    subst (λ z. AreSteps p n (stage_answer z) t u from (moved_to p (place_after k was z) (note_of z) s.reader.part seat.part s)) going so.steps in
+    subst (λ z. AreSteps p n (stage_answer z) t u from
+    (moved_to p (place_after k was z) (note_of z) s.reader.part seat.part s)) going so.steps in
     let was_is : IsConsumer mid =
     subst (λ z. IsConsumer (moved_to p (place_after k was z) (note_of z) s.reader.part seat.part s)) going so.is in
     let same : seat.consumer ≡ c = ap (λ (z : SeatView). z.consumer) so.same in
@@ -82,19 +89,37 @@ competed_more moves nexts s from p k n word seen was now next seat new size ther
     let path : IsClaimIn size.layout now (part_on c k (a ∷ seat.part)) =
     subst (λ (z : SeatView). IsClaimIn size.layout now (part_on z.consumer k z.part)) added turns in
     let turned : HasTurns mid now (part_on c k (a ∷ seat.part)) =
-    λ z is. subst (λ (y : TableSize). IsClaimIn y.layout now (part_on c k (a ∷ seat.part))) (some_same size z (sym table ∙ is)) path in
+    λ z is. subst (λ (y : TableSize). IsClaimIn y.layout now (part_on c k (a ∷ seat.part)))
+    (some_same size z (sym table ∙ is)) path in
     let mine : consumer_of now ≡ c = own ∙ same in
     let moved = moves mid p k word seen was now next was_is h at mine turned in
     let step = claim_made mid mid p word a st (record s.seat { part = a ∷ seat.part })
-    (slice_set mid.places p (place_after k now st)) (with_note p (note_of st) s.notes) (stage_answer st) refl refl refl refl refl
+    (slice_set mid.places p (place_after k now st)) (with_note p (note_of st) s.notes)
+    (stage_answer st) refl refl refl refl refl
     (nexts mid p k word seen was now next was_is at going mine turned) u v drawn in
     let twice : slice_set mid.places p (place_after k now st) ≡ slice_set s.places p (place_after k now st) =
     set_twice s.places p (At k was) (place_after k now st) in
     let steps = steps_more p n (stage_answer st) t u v from mid
-    (record { reader = s.reader; seat = record s.seat { part = a ∷ seat.part }; places = slice_set mid.places p (place_after k now st); notes = with_note p (note_of st) s.notes })
+    (record {
+      reader = s.reader;
+      seat = record s.seat { part = a ∷ seat.part };
+      places = slice_set mid.places p (place_after k now st);
+      notes = with_note p (note_of st) s.notes;
+    })
     was_steps step in
     subst (λ (z : SeatView). HasCompeted p k (n + 1) now t v from s z) (sym added) (record {
       same = refl;
-      steps = subst (λ (ps : List Place). AreSteps p (n + 1) (stage_answer st) t v from (record { reader = s.reader; seat = record s.seat { part = a ∷ seat.part }; places = ps; notes = with_note p (note_of st) s.notes })) twice steps;
-      is = subst (λ (ps : List Place). IsConsumer (record { reader = s.reader; seat = record s.seat { part = a ∷ seat.part }; places = ps; notes = with_note p (note_of st) s.notes })) twice moved;
+      steps = subst (λ (ps : List Place). AreSteps p (n + 1) (stage_answer st) t v from
+          (record {
+            reader = s.reader;
+            seat = record s.seat { part = a ∷ seat.part };
+            places = ps;
+            notes = with_note p (note_of st) s.notes;
+          })) twice steps;
+      is = subst (λ (ps : List Place). IsConsumer (record {
+        reader = s.reader;
+        seat = record s.seat { part = a ∷ seat.part };
+        places = ps;
+        notes = with_note p (note_of st) s.notes;
+      })) twice moved;
     })

@@ -16,7 +16,8 @@ use Rattle.mb_mailbox.proofs.Totals.{put_total, summed, total}
 use Rattle.mb_mailbox.proofs.Turned.{get_left}
 
 -- ---- sums
-pub counted : (plan : Plan) (hs : Histories) (r : ReportView) → IsReportOf plan hs r → put_count r ≡ items_put plan.lanes hs.pool
+pub counted : (plan : Plan) (hs : Histories) (r : ReportView) → IsReportOf plan hs r → put_count r
+    ≡ items_put plan.lanes hs.pool
 counted plan hs r is =
     summed (λ (l : LaneView). length l.put) (λ p. length (put_list p hs.pool)) r.lanes each
     ∙ ap (total (λ p. length (put_list p hs.pool))) is.lanes_count ∙ sym (put_total plan.lanes hs.pool)
@@ -28,12 +29,14 @@ counted plan hs r is =
         ap (λ (v : LaneView). length v.put) same ∙ length-map (put_list p hs.pool) (λ (z : Entry). z.value)
 
 -- ---- where a note stands
-some_chosen : {X : Type 0} (b : Bool) (o : Option X) (x : X) → (if b then o else None) ≡ Some x → (b ≡ true) × (o ≡ Some x)
+some_chosen : {X : Type 0} (b : Bool) (o : Option X) (x : X) → (if b then o else None) ≡ Some x
+    → (b ≡ true) × (o ≡ Some x)
 some_chosen true o x e = (refl, e)
 some_chosen false o x e = absurd (cc)
 
 -- a note is in a diary
-in_diary : (o : Option DiaryView) (j : ℕ) (n : Note) → slice_get (option_map_or (λ (d : DiaryView). d.notes) o []) j ≡ Some n
+in_diary : (o : Option DiaryView) (j : ℕ) (n : Note)
+    → slice_get (option_map_or (λ (d : DiaryView). d.notes) o []) j ≡ Some n
     → (d : DiaryView) × (o ≡ Some d) × (slice_get d.notes j ≡ Some n)
 in_diary None j n e = absurd (cc)
 in_diary (Some d) j n e = (d, refl, e)
@@ -45,20 +48,23 @@ pub record IsNoted (plan : Plan) (r : ReportView) (c p j : ℕ) (n : Note) : Typ
   pub there : slice_get r.diaries (c * plan.lanes + p) ≡ Some diary
   pub here : slice_get diary.notes j ≡ Some n
 
-pub is_noted : (plan : Plan) (hs : Histories) (r : ReportView) → IsReportOf plan hs r → (c p j : ℕ) (n : Note) → note c p j r ≡ Some n
+pub is_noted : (plan : Plan) (hs : Histories) (r : ReportView) → IsReportOf plan hs r
+    → (c p j : ℕ) (n : Note) → note c p j r ≡ Some n
     → IsNoted plan r c p j n
 is_noted plan hs r is c p j n e =
     let t = in_diary (diary c p r) j n e in
     let d = t.0 in
     let z = some_chosen (nat_lt p (length r.lanes)) (slice_get r.diaries (c * length r.lanes + p)) d t.1 in
     let low : p < plan.lanes = subst (λ w. p < w) is.lanes_count (ltb-true p (length r.lanes) z.0) in
-    let there : slice_get r.diaries (c * plan.lanes + p) ≡ Some d = ap (λ w. slice_get r.diaries (c * w + p)) (sym is.lanes_count) ∙ z.1 in
+    let there : slice_get r.diaries (c * plan.lanes + p)
+    ≡ Some d = ap (λ w. slice_get r.diaries (c * w + p)) (sym is.lanes_count) ∙ z.1 in
     let within : c * plan.lanes + p < consumers_of plan * plan.lanes =
     subst (λ w. c * plan.lanes + p < w) is.diaries_count (get_within r.diaries (c * plan.lanes + p) d there) in
     record {
       consumer = elim (cases_lt c (consumers_of plan)) [
         | inl less ↦ less
-        | inr not ↦ let most : consumers_of plan * plan.lanes ≤ c * plan.lanes = mul-le-mul_right plan.lanes not in absurd (omega (arith, most, within))
+        | inr not ↦ let most : consumers_of plan * plan.lanes ≤ c * plan.lanes = mul-le-mul_right
+            plan.lanes not in absurd (omega (arith, most, within))
       ];
       lane = low;
       diary = d;
@@ -67,7 +73,8 @@ is_noted plan hs r is c p j n e =
     }
 
 -- what a list began with keeps its places, from the first on
-pub at_start : (ks ls : List ℕ) (j k : ℕ) → IsStart ks ls → slice_get (reverse ks) j ≡ Some k → slice_get (reverse ls) j ≡ Some k
+pub at_start : (ks ls : List ℕ) (j k : ℕ) → IsStart ks ls → slice_get (reverse ks) j ≡ Some k
+    → slice_get (reverse ls) j ≡ Some k
 at_start ks ls j k s e =
     ap (λ l. slice_get (reverse l) j) (sym s.1) ∙ ap (λ l. slice_get l j) (reverse-append s.0 ks)
     ∙ get_left (reverse ks) (reverse s.0) j k e

@@ -16,20 +16,24 @@ use Rattle.mb_mailbox.proofs.Polls.{poll_of}
 use Rattle.mb_mailbox.proofs.Telling.{tells_item, tells_none}
 
 -- a consumer that stands at a claim holds it
-pub holds_it : (p k : ℕ) (claim : Claim) (s : ConsumerView) → slice_get s.places p ≡ Some (At k claim) → holding p k claim s ≡ s
+pub holds_it : (p k : ℕ) (claim : Claim) (s : ConsumerView) → slice_get s.places p
+    ≡ Some (At k claim) → holding p k claim s ≡ s
 holds_it p k claim s e = ap (λ (ps : List Place). record s { places = ps }) (set_same s.places p (At k claim) e)
 
 -- there was such a lane
-pub not_no_lane : (p n most : ℕ) (x : Poll) (t u : Stream) (from new : ConsumerView) → IsPursuit p n most x t u from new → x ≡ poll.NoLane → ⊥
+pub not_no_lane : (p n most : ℕ) (x : Poll) (t u : Stream) (from new : ConsumerView)
+    → IsPursuit p n most x t u from new → x ≡ poll.NoLane → ⊥
 not_no_lane p n most x t u from new so e = subst IsOfClaim e so.kind
 
-pub poll_by : (p n most budget : ℕ) (x : Poll) (t u : Stream) (from new : ConsumerView) → most + n ≡ budget → IsPursuit p n most x t u from new
+pub poll_by : (p n most budget : ℕ) (x : Poll) (t u : Stream) (from new : ConsumerView) → most + n
+    ≡ budget → IsPursuit p n most x t u from new
     → IsPollOf p budget x t u from new
 poll_by p n most budget x t u from new sum so =
     let few = so.within in
     poll_of p (so.made + n) budget x t u from new so.steps (omega arith) (λ e. ap (λ z. z + n) (so.spent e) ∙ sum)
 
-tells_by : (p : ℕ) (x : Poll) (old new : ConsumerView) → IsOfClaim x → (x ≢ poll.Spent → HasNoteOnEach p new) → AnswerTells p (outcome x) old new
+tells_by : (p : ℕ) (x : Poll) (old new : ConsumerView) → IsOfClaim x
+    → (x ≢ poll.Spent → HasNoteOnEach p new) → AnswerTells p (outcome x) old new
 tells_by p (poll.Took v) old new kind has = tells_item p v old new (has (λ f. cc))
 tells_by p (poll.Lost w) old new kind has = record {
   noted = λ _. has (λ f. cc);
@@ -48,12 +52,14 @@ tells_by p poll.Ended old new kind has = absurd kind
 tells_by p poll.Spent old new kind has = tells_none p old new
 tells_by p poll.NoLane old new kind has = absurd kind
 
-pub pursuit_tells : (p n most : ℕ) (x : Poll) (t u : Stream) (from old new : ConsumerView) → IsPursuit p n most x t u from new
+pub pursuit_tells : (p n most : ℕ) (x : Poll) (t u : Stream) (from old new : ConsumerView)
+    → IsPursuit p n most x t u from new
     → AnswerTells p (outcome x) old new
 pursuit_tells p n most x t u from old new so = tells_by p x old new so.kind so.noted
 
 -- it is of the same mailbox
-pub still_of : (m : MailboxView) (p n most : ℕ) (x : Poll) (t u : Stream) (from new : ConsumerView) → IsPursuit p n most x t u from new
+pub still_of : (m : MailboxView) (p n most : ℕ) (x : Poll) (t u : Stream) (from new : ConsumerView)
+    → IsPursuit p n most x t u from new
     → IsConsumerOf m from → IsConsumerOf m new
 still_of m p n most x t u from new so of = record {
   cells = ap (λ (r : ReaderSeatView). r.table) so.steps.done.reader ∙ of.cells;

@@ -10,7 +10,8 @@ use Rattle.mb_cells.specs.declared.size.PoolSize.{PoolSize}
 use Rattle.mb_shared_cells.specs.Vocabulary.{IsRollOf}
 use Rattle.mb_shared_cells.specs.declared.views.Roll.{Roll}
 use Rattle.mb_world.specs.Reporting.{values_put}
-use Rattle.mb_mailbox.specs.Below.{END, Has, HasMet, History, IsPoolLawful, Note, Producer, Reader, ReaderSeatView, SeatView, Stream, ToCells, ToClaims, WorldHistory, cells_met, claim_accesses, linked_cells, load, part, place_past, pool_accesses}
+use Rattle.mb_mailbox.specs.Below.{END, Has, HasMet, History, IsPoolLawful, Note, Producer, Reader, ReaderSeatView, SeatView, Stream, ToCells, ToClaims}
+use Rattle.mb_mailbox.specs.Below.{WorldHistory, cells_met, claim_accesses, linked_cells, load, part, place_past, pool_accesses}
 use Rattle.mb_mailbox.specs.Consumers.{ConsumerView}
 use Rattle.mb_mailbox.specs.Jobs.{HasReadToEnd, IsSameConsumer, accesses_made}
 use Rattle.mb_mailbox.specs.Moves.{HasLoads}
@@ -25,7 +26,12 @@ has_more (b ∷ later) h a has = inr (has_more later h a has)
 
 met_more : (r p : ℕ) (later : History) (ks : List ℕ) (h : History) → HasMet r p ks h → HasMet r p ks (later ++ h)
 met_more r p later [] h met = tt
-met_more r p later (k ∷ ks) h met = (has_more later h (load r (place_past p ks) (k + 1)) met.0, met.1, met_more r p later ks h met.2)
+met_more r p later (k ∷ ks) h met = (
+  has_more later h (load r (place_past p ks) (k + 1)) met.0,
+  met.1,
+  met_more r p later ks h
+      met.2,
+)
 
 -- ---- the notes of another lane
 get_other : {X : Type 0} (xs : List X) (i k : ℕ) (a : X) → k ≢ i → slice_get (slice_set xs i a) k ≡ slice_get xs k
@@ -35,12 +41,15 @@ get_other (x ∷ xs) zero (suc k) a ne = refl
 get_other (x ∷ xs) (suc i) zero a ne = refl
 get_other (x ∷ xs) (suc i) (suc k) a ne = get_other xs i k a (λ h. ne (ap suc h))
 
-notes_kept : (p q : ℕ) (o : Option Note) (notes : List (List Note)) → q ≢ p → notes_on q (with_note p o notes) ≡ notes_on q notes
+notes_kept : (p q : ℕ) (o : Option Note) (notes : List (List Note)) → q ≢ p
+    → notes_on q (with_note p o notes) ≡ notes_on q notes
 notes_kept p q None notes ne = refl
 notes_kept p q (Some n) notes ne =
-    ap (λ (o : Option (List Note)). option_map_or (λ (l : List Note). l) o []) (get_other notes p q (notes_on p notes ++ n ∷ []) ne)
+    ap (λ (o : Option (List Note)). option_map_or (λ (l : List Note). l) o [])
+    (get_other notes p q (notes_on p notes ++ n ∷ []) ne)
 
-pub same_by : (p budget : ℕ) (answer : Poll) (s t : Stream) (old new : ConsumerView) → IsPollOf p budget answer s t old new → IsSameConsumer old new
+pub same_by : (p budget : ℕ) (answer : Poll) (s t : Stream) (old new : ConsumerView)
+    → IsPollOf p budget answer s t old new → IsSameConsumer old new
 same_by p budget answer s t old new i = record {
   cells = ap (λ r. r.table) i.done.reader;
   reader = ap (λ r. r.reader) i.done.reader;
@@ -48,13 +57,15 @@ same_by p budget answer s t old new i = record {
   consumer = ap (λ r. r.consumer) i.done.seat;
 }
 
-pub kept_by : (p q budget : ℕ) (answer : Poll) (s t : Stream) (old new : ConsumerView) → IsPollOf p budget answer s t old new → q ≢ p
+pub kept_by : (p q budget : ℕ) (answer : Poll) (s t : Stream) (old new : ConsumerView)
+    → IsPollOf p budget answer s t old new → q ≢ p
     → HasReadToEnd q old → HasReadToEnd q new
 kept_by p q budget answer s t old new i ne o =
     let later = pool_accesses i.accesses in
     record {
       cells = o.cells;
-      met = subst (λ r. HasMet r.reader q o.cells r.part) (sym i.done.reader) (met_more old.reader.reader q later o.cells old.reader.part o.met);
+      met = subst (λ r. HasMet r.reader q o.cells r.part) (sym i.done.reader)
+          (met_more old.reader.reader q later o.cells old.reader.part o.met);
       end = subst (λ r. HasLoaded r.reader (place_past q o.cells) END r.part) (sym i.done.reader)
           (has_more later old.reader.part (load old.reader.reader (place_past q o.cells) END) o.end);
       notes = ap (λ (l : List (List Note)). length (notes_on q l)) i.done.notes
@@ -68,7 +79,8 @@ both (ToCells a ∷ older) = let e = both older in omega (arith, e)
 both (ToClaims a ∷ older) = let e = both older in omega (arith, e)
 
 -- a poll that is spent at once has a budget of 0
-none_made : (p budget : ℕ) (answer : Poll) (s : ConsumerView) → LeadTo p (outcome answer) [] s → (answer ≡ poll.Spent → 0 ≡ budget) → 0 ≡ budget
+none_made : (p budget : ℕ) (answer : Poll) (s : ConsumerView) → LeadTo p (outcome answer) [] s
+    → (answer ≡ poll.Spent → 0 ≡ budget) → 0 ≡ budget
 none_made p budget poll.Spent s lead spent = spent refl
 none_made p budget (poll.Took x) s lead spent = absurd (cc)
 none_made p budget (poll.Lost w) s lead spent = absurd (cc)
@@ -77,26 +89,34 @@ none_made p budget poll.Nothing s lead spent = absurd (cc)
 none_made p budget poll.Ended s lead spent = absurd (cc)
 none_made p budget poll.NoLane s lead spent = absurd (cc)
 
-some_made : (p budget : ℕ) (answer : Poll) (done : WorldHistory) (s : ConsumerView) → 0 < budget → LeadTo p (outcome answer) done s
+some_made : (p budget : ℕ) (answer : Poll) (done : WorldHistory) (s : ConsumerView) → 0 < budget
+    → LeadTo p (outcome answer) done s
     → (answer ≡ poll.Spent → length done ≡ budget) → 0 < length done
-some_made p budget answer [] s able lead spent = let none = none_made p budget answer s lead spent in omega (arith, able, none)
+some_made p budget answer [] s able lead spent = let none = none_made p budget answer s lead spent
+    in omega (arith, able, none)
 some_made p budget answer (a ∷ older) s able lead spent = omega arith
 
-pub made_by : (p budget : ℕ) (answer : Poll) (s t : Stream) (old new : ConsumerView) → 0 < budget → IsPollOf p budget answer s t old new
+pub made_by : (p budget : ℕ) (answer : Poll) (s t : Stream) (old new : ConsumerView) → 0 < budget
+    → IsPollOf p budget answer s t old new
     → accesses_made old < accesses_made new
 made_by p budget answer s t old new able i =
     let some = some_made p budget answer i.accesses old able i.lead i.spent in
-    let reads = ap (λ (r : ReaderSeatView). length r.part) i.done.reader ∙ length-append (pool_accesses i.accesses) old.reader.part in
-    let claimed = ap (λ (c : SeatView). length c.part) i.done.seat ∙ length-append (claim_accesses i.accesses) old.seat.part in
+    let reads = ap (λ (r : ReaderSeatView). length r.part) i.done.reader
+    ∙ length-append (pool_accesses i.accesses) old.reader.part in
+    let claimed = ap (λ (c : SeatView). length c.part) i.done.seat
+    ∙ length-append (claim_accesses i.accesses) old.seat.part in
     let all = both i.accesses in
     omega (arith, some, reads, claimed, all)
 
-pub most_by : (p budget : ℕ) (answer : Poll) (s t : Stream) (old new : ConsumerView) → IsPollOf p budget answer s t old new
+pub most_by : (p budget : ℕ) (answer : Poll) (s t : Stream) (old new : ConsumerView)
+    → IsPollOf p budget answer s t old new
     → accesses_made new ≤ accesses_made old + budget
 most_by p budget answer s t old new i =
     let within = i.within in
-    let reads = ap (λ (r : ReaderSeatView). length r.part) i.done.reader ∙ length-append (pool_accesses i.accesses) old.reader.part in
-    let claimed = ap (λ (c : SeatView). length c.part) i.done.seat ∙ length-append (claim_accesses i.accesses) old.seat.part in
+    let reads = ap (λ (r : ReaderSeatView). length r.part) i.done.reader
+    ∙ length-append (pool_accesses i.accesses) old.reader.part in
+    let claimed = ap (λ (c : SeatView). length c.part) i.done.seat
+    ∙ length-append (claim_accesses i.accesses) old.seat.part in
     let all = both i.accesses in
     omega (arith, within, reads, claimed, all)
 
@@ -110,10 +130,12 @@ module _ (met : (q p : ℕ) (h : History) → HasMet q p (cells_met p (part (Rea
       let h = loads.0 in
       let a = end.0 in
       let who : a.process ≡ Reader r = (of h (Reader r) a (subst (λ d. Has d a) (sym loads.2) end.1)).1 in
-      let is : a ≡ load r (place_past p (cells_met p s.reader.part)) END = λ i. record { process = who i; word = end.2 i; act = end.3 i } in
+      let is : a ≡ load r (place_past p (cells_met p s.reader.part)) END = λ i.
+      record { process = who i; word = end.2 i; act = end.3 i } in
       record {
         cells = cells_met p s.reader.part;
-        met = subst (λ d. HasMet r p (cells_met p d) d) loads.2 (own h r p (cells_met p (part (Reader r) h)) (met r p h));
+        met = subst (λ d. HasMet r p (cells_met p d) d) loads.2
+            (own h r p (cells_met p (part (Reader r) h)) (met r p h));
         end = subst (λ b. Has s.reader.part b) is end.1;
         notes = noted;
       }
@@ -124,7 +146,8 @@ module _ (whole : (h : History) (r p : ℕ) (ks : List ℕ) → HasMet r p ks (p
     (last : (size : PoolSize) (h : History) (r p : ℕ) (ks : List ℕ) → IsPoolLawful size h
     → HasMet r p ks h → HasLoaded r (place_past p ks) END h → ks ≡ linked_cells p h)
     (linked : (h : History) (p : ℕ) → linked_cells p h ≡ linked_cells p (part (Producer p) h)) where
-  pub notes_by : (size : PoolSize) (roll : Roll) (h : History) (p : ℕ) (done : History) (s : ConsumerView) → IsRollOf size roll h
+  pub notes_by : (size : PoolSize) (roll : Roll) (h : History) (p : ℕ) (done : History)
+      (s : ConsumerView) → IsRollOf size roll h
       → slice_get roll.lanes p ≡ Some (Some done) → slice_get roll.readers s.reader.reader ≡ Some (Some s.reader.part)
       → HasReadToEnd p s → length (notes_on p s.notes) ≡ length (values_put p done)
   notes_by size roll h p done s i theirs mine o =
@@ -134,8 +157,10 @@ module _ (whole : (h : History) (r p : ℕ) (ks : List ℕ) → HasMet r p ks (p
       let lane : part (Producer p) h ≡ done = i.parts (Producer p) done theirs in
       let met : HasMet r p ks h = whole h r p ks (subst (λ d. HasMet r p ks d) (sym is) o.met) in
       let end : HasLoaded r (place_past p ks) END h =
-      (of h (Reader r) (load r (place_past p ks) END) (subst (λ d. Has d (load r (place_past p ks) END)) (sym is) o.end)).0 in
-      let all : ks ≡ linked_cells p done = last size h r p ks i.lawful met end ∙ linked h p ∙ ap (linked_cells p) lane in
+      (of h (Reader r) (load r (place_past p ks) END)
+      (subst (λ d. Has d (load r (place_past p ks) END)) (sym is) o.end)).0 in
+      let all : ks ≡ linked_cells p done = last size h r p ks i.lawful met end ∙ linked h p
+      ∙ ap (linked_cells p) lane in
       o.notes ∙ ap length all ∙ sym (put_count p done)
     where
       put_count : (p : ℕ) (h : History) → length (values_put p h) ≡ length (linked_cells p h)

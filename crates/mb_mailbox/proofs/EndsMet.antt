@@ -24,13 +24,16 @@ past_told : (c p : ℕ) (ks : List ℕ) (v : ℕ) → told_by (link_load c p ks 
 past_told c p [] v = refl
 past_told c p (k ∷ ks) v = refl
 
-step_told : (cs : Claims) (c p : ℕ) (x : Parts) (b : PoolAccess) (answer : Option Poll) → ConsumerStep cs c p x (ToCells b) answer
+step_told : (cs : Claims) (c p : ℕ) (x : Parts) (b : PoolAccess) (answer : Option Poll)
+    → ConsumerStep cs c p x (ToCells b) answer
     → (answer ≡ Some poll.Ended → ⊥) → tells_end b.word b.act ≡ false
-step_told cs c p x b answer (looks v past e is) n = ap told_by e ∙ past_told c p (cells_met p x.reads) v ∙ not_ended (look_of v) (λ z. n (is ∙ z))
+step_told cs c p x b answer (looks v past e is) n = ap told_by e
+    ∙ past_told c p (cells_met p x.reads) v ∙ not_ended (look_of v) (λ z. n (is ∙ z))
 step_told cs c p x b answer (competes k t now last going after e is) n = ap told_by e
 step_told cs c p x b answer (takes k v last won e is) n = ap told_by e
 
-none_told : (p : ℕ) (answer : Option Poll) (done : WorldHistory) (s : ConsumerView) → LeadTo p answer done s → (answer ≡ Some poll.Ended → ⊥)
+none_told : (p : ℕ) (answer : Option Poll) (done : WorldHistory) (s : ConsumerView)
+    → LeadTo p answer done s → (answer ≡ Some poll.Ended → ⊥)
     → ends_met (pool_accesses done) ≡ 0
 none_told p answer [] s lead n = refl
 none_told p answer (ToCells b ∷ older) s lead n =
@@ -44,7 +47,8 @@ told_end look.Nothing e = absurd (cc)
 told_end look.Ended e = refl
 told_end (look.Cell k) e = absurd (cc)
 
-step_end : (cs : Claims) (c p : ℕ) (x : Parts) (a : WorldAccess) → ConsumerStep cs c p x a (Some poll.Ended) → told_by a ≡ true
+step_end : (cs : Claims) (c p : ℕ) (x : Parts) (a : WorldAccess)
+    → ConsumerStep cs c p x a (Some poll.Ended) → told_by a ≡ true
 step_end cs c p x a (looks v past e is) = ap told_by e ∙ past_told c p (cells_met p x.reads) v ∙ told_end (look_of v) is
 step_end cs c p x a (competes k t stage.Going last going after e is) = absurd (cc)
 step_end cs c p x a (competes k t stage.Won last going after e is) = absurd (cc)
@@ -52,7 +56,8 @@ step_end cs c p x a (competes k t (stage.Lost w) last going after e is) = absurd
 step_end cs c p x a (competes k t stage.Undecided last going after e is) = absurd (cc)
 step_end cs c p x a (takes k v last won e is) = absurd (cc)
 
-one_told : (p : ℕ) (done : WorldHistory) (s : ConsumerView) → LeadTo p (Some poll.Ended) done s → ends_met (pool_accesses done) ≡ 1
+one_told : (p : ℕ) (done : WorldHistory) (s : ConsumerView) → LeadTo p (Some poll.Ended) done s
+    → ends_met (pool_accesses done) ≡ 1
 one_told p [] s lead = absurd (cc)
 one_told p (ToCells b ∷ older) s lead =
     let one : from_bool (tells_end b.word b.act) ≡ 1 = ap from_bool (step_end _ _ p _ (ToCells b) lead.0) in
@@ -73,9 +78,11 @@ ended poll.Nothing e = absurd (cc)
 ended poll.Ended e = refl
 ended poll.NoLane e = absurd (cc)
 
-module _ (p budget : ℕ) (answer : Poll) (s t : Stream) (old new : ConsumerView) (i : IsPollOf p budget answer s t old new) where
+module _ (p budget : ℕ) (answer : Poll) (s t : Stream) (old new : ConsumerView)
+    (i : IsPollOf p budget answer s t old new) where
   all : ends_met new.reader.part ≡ ends_met (pool_accesses i.accesses) + ends_met old.reader.part
-  all = ap (λ (r : ReaderSeatView). ends_met r.part) i.done.reader ∙ ends_append (pool_accesses i.accesses) old.reader.part
+  all = ap (λ (r : ReaderSeatView). ends_met r.part) i.done.reader
+      ∙ ends_append (pool_accesses i.accesses) old.reader.part
 
   pub no_end_by : answer ≢ poll.Ended → ends_met new.reader.part ≡ ends_met old.reader.part
   no_end_by n =

@@ -42,12 +42,15 @@ nothing P k d low = absurd (omega (arith, low))
 
 -- ---- all of the mailbox
 module _ {Z : Type 0} (m : MailboxView) where
-  puts_at : (p : ℕ) (vs : List (Vec ℕ Z)) (js : List (PutJob Z)) → ArePutJobs m p vs js → All (λ (j : PutJob Z). IsProducerOf m j.producer) js
+  puts_at : (p : ℕ) (vs : List (Vec ℕ Z)) (js : List (PutJob Z)) → ArePutJobs m p vs js
+      → All (λ (j : PutJob Z). IsProducerOf m j.producer) js
   puts_at p [] [] a = nothing (λ (j : PutJob Z). IsProducerOf m j.producer)
   puts_at p [] (j ∷ js) a = absurd a
   puts_at p (v ∷ vs) [] a = absurd a
   puts_at p (v ∷ vs) (j ∷ js) a =
-      All-cons (λ (j : PutJob Z). IsProducerOf m j.producer) j js (record { table = ap (λ (s : ProducerView). s.seat.table) a.0 }) (puts_at (suc p) vs js a.2)
+      All-cons (λ (j : PutJob Z). IsProducerOf m j.producer) j js
+      (record { table = ap (λ (s : ProducerView). s.seat.table) a.0 })
+      (puts_at (suc p) vs js a.2)
 
   -- there is a job for each list
   pub put_count : (p : ℕ) (vs : List (Vec ℕ Z)) (js : List (PutJob Z)) → ArePutJobs m p vs js → length vs ≡ length js
@@ -56,7 +59,8 @@ module _ {Z : Type 0} (m : MailboxView) where
   put_count p (v ∷ vs) [] a = absurd a
   put_count p (v ∷ vs) (j ∷ js) a = ap suc (put_count (suc p) vs js a.2)
 
-  put_ends_at : (may_stop may_pass : Who → ℕ → Type 0) (js : List (PutJob Z)) (ds : List (PutDone Z)) → All (λ (j : PutJob Z). IsProducerOf m j.producer) js
+  put_ends_at : (may_stop may_pass : Who → ℕ → Type 0) (js : List (PutJob Z))
+      (ds : List (PutDone Z)) → All (λ (j : PutJob Z). IsProducerOf m j.producer) js
       → AllZip (IsPutEnd may_stop may_pass) js ds
       → All (λ (d : PutDone Z). IsProducerOf m d.producer) ds
   put_ends_at may_stop may_pass [] [] a z = nothing (λ (d : PutDone Z). IsProducerOf m d.producer)
@@ -64,33 +68,49 @@ module _ {Z : Type 0} (m : MailboxView) where
   put_ends_at may_stop may_pass (j ∷ js) [] a z = absurd z
   put_ends_at may_stop may_pass (j ∷ js) (d ∷ ds) a z =
       let P = λ (j : PutJob Z). IsProducerOf m j.producer in
-      All-cons (λ (d : PutDone Z). IsProducerOf m d.producer) d ds (record { table = z.0.same.table ∙ (All-head P j js a).table })
+      All-cons (λ (d : PutDone Z). IsProducerOf m d.producer) d ds
+      (record { table = z.0.same.table ∙ (All-head P j js a).table })
       (put_ends_at may_stop may_pass js ds (All-tail P j js a) z.1)
 
 module _ {R Z : Type 0} (m : MailboxView) where
-  polls_at : (c : ℕ) (js : List (PollJob R Z)) → ArePollJobs m c js → All (λ (j : PollJob R Z). IsConsumerOf m j.consumer) js
+  polls_at : (c : ℕ) (js : List (PollJob R Z)) → ArePollJobs m c js
+      → All (λ (j : PollJob R Z). IsConsumerOf m j.consumer) js
   polls_at c [] a = nothing (λ (j : PollJob R Z). IsConsumerOf m j.consumer)
   polls_at c (j ∷ js) a =
-      All-cons (λ (j : PollJob R Z). IsConsumerOf m j.consumer) j js (record { cells = a.0.cells; claims = a.0.claims }) (polls_at (suc c) js a.1)
+      All-cons (λ (j : PollJob R Z). IsConsumerOf m j.consumer) j js (record {
+        cells = a.0.cells;
+        claims = a.0.claims;
+      }) (polls_at (suc c) js a.1)
 
-  pub jobs_at : (vs : List (Vec ℕ Z)) (sources : ℕ) (jobs : Jobs R Z) (h mid : HubView) → AreGiven m vs sources jobs h mid → AreOf m jobs
+  pub jobs_at : (vs : List (Vec ℕ Z)) (sources : ℕ) (jobs : Jobs R Z) (h mid : HubView)
+      → AreGiven m vs sources jobs h mid → AreOf m jobs
   jobs_at vs sources jobs h mid g = record {
     puts = puts_at m (length h.puts) g.puts.front jobs.puts.items g.puts.are;
     polls = polls_at (length h.ledgers) jobs.polls.items g.polls;
   }
 
-  poll_ends_at : (may_stop may_pass : Who → ℕ → Type 0) (stream : R → Stream) (from end budget : ℕ) (js : List (PollJob R Z)) (ds : List (PollDone Z)) → All (λ (j : PollJob R Z). IsConsumerOf m j.consumer) js
-      → AllZip (λ (j : PollJob R Z) (d : PollDone Z). IsPollEnd may_stop may_pass from end budget (stream j.rng) j.consumer d) js ds → All (λ (d : PollDone Z). IsConsumerOf m d.consumer) ds
-  poll_ends_at may_stop may_pass stream from end budget [] [] a z = nothing (λ (d : PollDone Z). IsConsumerOf m d.consumer)
+  poll_ends_at : (may_stop may_pass : Who → ℕ → Type 0) (stream : R → Stream) (from end budget : ℕ)
+      (js : List (PollJob R Z)) (ds : List (PollDone Z))
+      → All (λ (j : PollJob R Z). IsConsumerOf m j.consumer) js
+      → AllZip (λ (j : PollJob R Z) (d : PollDone Z). IsPollEnd may_stop may_pass from end budget
+      (stream j.rng) j.consumer d) js ds → All (λ (d : PollDone Z). IsConsumerOf m d.consumer)
+      ds
+  poll_ends_at may_stop may_pass stream from end budget [] [] a z = nothing
+      (λ (d : PollDone Z). IsConsumerOf m d.consumer)
   poll_ends_at may_stop may_pass stream from end budget [] (d ∷ ds) a z = absurd z
   poll_ends_at may_stop may_pass stream from end budget (j ∷ js) [] a z = absurd z
   poll_ends_at may_stop may_pass stream from end budget (j ∷ js) (d ∷ ds) a z =
       let P = λ (j : PollJob R Z). IsConsumerOf m j.consumer in
       All-cons (λ (d : PollDone Z). IsConsumerOf m d.consumer) d ds
-      (record { cells = z.0.same.cells ∙ (All-head P j js a).cells; claims = z.0.same.claims ∙ (All-head P j js a).claims })
+      (record {
+        cells = z.0.same.cells ∙ (All-head P j js a).cells;
+        claims = z.0.same.claims ∙ (All-head P j js a).claims;
+      })
       (poll_ends_at may_stop may_pass stream from end budget js ds (All-tail P j js a) z.1)
 
-  pub ends_at : (may_stop may_pass : Who → ℕ → Type 0) (stream : R → Stream) (from end budget : ℕ) (jobs : Jobs R Z) (ends : Ends Z) → AreOf m jobs → AreEndsOf may_stop may_pass stream from end budget jobs ends
+  pub ends_at : (may_stop may_pass : Who → ℕ → Type 0) (stream : R → Stream) (from end budget : ℕ)
+      (jobs : Jobs R Z) (ends : Ends Z) → AreOf m jobs
+      → AreEndsOf may_stop may_pass stream from end budget jobs ends
       → AreEndsAt m ends
   ends_at may_stop may_pass stream from end budget jobs ends a e = record {
     puts = put_ends_at m may_stop may_pass jobs.puts.items ends.puts.items a.puts e.puts;
@@ -140,9 +160,11 @@ nothing_taken lists sources h = record {
 }
 
 -- ---- counts
-sum_same : {X Y : Type 0} (f : X → ℕ) (g : Y → ℕ) (h : X → Y) → ((x : X) → f x ≡ g (h x)) → (xs : List X) → sum_by f xs ≡ sum_by g (map h xs)
+sum_same : {X Y : Type 0} (f : X → ℕ) (g : Y → ℕ) (h : X → Y) → ((x : X) → f x ≡ g (h x))
+    → (xs : List X) → sum_by f xs ≡ sum_by g (map h xs)
 sum_same f g h e [] = refl
-sum_same f g h e (x ∷ xs) = sum_by-cons f x xs ∙ (λ i. e x i + sum_same f g h e xs i) ∙ sym (sum_by-cons g (h x) (map h xs))
+sum_same f g h e (x ∷ xs) = sum_by-cons f x xs ∙ (λ i. e x i + sum_same f g h e xs i)
+    ∙ sym (sum_by-cons g (h x) (map h xs))
 
 at_most_one : (b : Bool) → from_bool b ≤ 1
 at_most_one true = omega arith
@@ -157,14 +179,23 @@ at_most_each f (x ∷ xs) =
     omega (arith, all, one, rest)
 
 -- ---- the end of a run
-module _ {R Z : Type 0} (m : MailboxView) (may_stop may_pass : Who → ℕ → Type 0) (stream : R → Stream) (items : List (Vec ℕ Z)) (sources from end budget : ℕ) (jobs : Jobs R Z) (ends : Ends Z) (h mid now : HubView)
-    (hub : IsHub h) (given : AreGiven m items sources jobs h mid) (came : AreEndsOf may_stop may_pass stream from end budget jobs ends) (is : now ≡ with_taken ends mid) where
+module _ {R Z : Type 0} (m : MailboxView) (may_stop may_pass : Who → ℕ → Type 0)
+    (stream : R → Stream) (items : List (Vec ℕ Z)) (sources from end budget : ℕ) (jobs : Jobs R Z)
+    (ends : Ends Z) (h mid now : HubView)
+    (hub : IsHub h) (given : AreGiven m items sources jobs h mid)
+    (came : AreEndsOf may_stop may_pass stream from end budget jobs ends)
+    (is : now ≡ with_taken ends mid) where
   its : (vs : List (Vec ℕ Z)) → ArePutJobs m (length h.puts) vs jobs.puts.items
-      → IsRunOf (lists_in vs) (length jobs.polls.items) (lanes_of m may_stop may_pass ends.puts.items) (left_of m may_stop may_pass ends.polls.items) h now
+      → IsRunOf (lists_in vs) (length jobs.polls.items)
+      (lanes_of m may_stop may_pass ends.puts.items)
+      (left_of m may_stop may_pass ends.polls.items) h now
   its vs are =
-      subst (λ (n : HubView). IsRunOf (lists_in vs) (length jobs.polls.items) (lanes_of m may_stop may_pass ends.puts.items) (left_of m may_stop may_pass ends.polls.items) h n)
+      subst (λ (n : HubView). IsRunOf (lists_in vs) (length jobs.polls.items)
+      (lanes_of m may_stop may_pass ends.puts.items)
+      (left_of m may_stop may_pass ends.polls.items) h n)
       (sym (is ∙ ap (with_taken ends) given.hub))
-      (run_of m may_stop may_pass stream h from end budget vs jobs.puts.items ends.puts.items jobs.polls.items ends.polls.items hub are given.polls came.puts came.polls)
+      (run_of m may_stop may_pass stream h from end budget vs jobs.puts.items ends.puts.items
+      jobs.polls.items ends.polls.items hub are given.polls came.puts came.polls)
 
   pub early : WereTakenInEarly (lists_in items) sources h now
   early = record {
@@ -173,7 +204,11 @@ module _ {R Z : Type 0} (m : MailboxView) (may_stop may_pass : Who → ℕ → T
     whole = sym (map-append (λ (v : Vec ℕ Z). v.items) given.puts.front given.puts.rest) ∙ ap lists_in given.puts.whole;
     given = length jobs.polls.items;
     few = subst (λ (n : ℕ). n ≤ sources) jobs.polls.ok.0 given.few;
-    taken = record { lanes = lanes_of m may_stop may_pass ends.puts.items; consumers = left_of m may_stop may_pass ends.polls.items; run = its given.puts.front given.puts.are };
+    taken = record {
+      lanes = lanes_of m may_stop may_pass ends.puts.items;
+      consumers = left_of m may_stop may_pass ends.polls.items;
+      run = its given.puts.front given.puts.are;
+    };
   }
 
   module _ (rngs : List R) (count : length rngs ≡ sources) (all : AreAllGiven m items rngs jobs h) where
@@ -181,15 +216,23 @@ module _ {R Z : Type 0} (m : MailboxView) (may_stop may_pass : Who → ℕ → T
     polls_count : length jobs.polls.items ≡ sources
     polls_count = sym (length-map jobs.polls.items (λ (j : PollJob R Z). j.rng)) ∙ ap length all.polls ∙ count
 
-    run : IsRunOf (lists_in items) sources (lanes_of m may_stop may_pass ends.puts.items) (left_of m may_stop may_pass ends.polls.items) h now
-    run = subst (λ (n : ℕ). IsRunOf (lists_in items) n (lanes_of m may_stop may_pass ends.puts.items) (left_of m may_stop may_pass ends.polls.items) h now)
+    run : IsRunOf (lists_in items) sources (lanes_of m may_stop may_pass ends.puts.items)
+        (left_of m may_stop may_pass ends.polls.items) h now
+    run = subst (λ (n : ℕ). IsRunOf (lists_in items) n
+        (lanes_of m may_stop may_pass ends.puts.items)
+        (left_of m may_stop may_pass ends.polls.items) h now)
         polls_count (its items all.puts)
 
     pub taken : WereTakenIn (lists_in items) sources h now
-    taken = record { lanes = lanes_of m may_stop may_pass ends.puts.items; consumers = left_of m may_stop may_pass ends.polls.items; run = run }
+    taken = record {
+      lanes = lanes_of m may_stop may_pass ends.puts.items;
+      consumers = left_of m may_stop may_pass ends.polls.items;
+      run = run;
+    }
 
     few : length (lanes_of m may_stop may_pass ends.puts.items) ≡ length items
-    few = sym (zip_length _ (lists_in items) (lanes_of m may_stop may_pass ends.puts.items) run.fronts) ∙ length-map items (λ (v : Vec ℕ Z). v.items)
+    few = sym (zip_length _ (lists_in items) (lanes_of m may_stop may_pass ends.puts.items)
+        run.fronts) ∙ length-map items (λ (v : Vec ℕ Z). v.items)
 
     -- where a worker has come to an end, there was a list or a source
     pub some_worker : 0 < length ends.puts.items + length ends.polls.items → 0 < length items + sources
@@ -201,12 +244,14 @@ module _ {R Z : Type 0} (m : MailboxView) (may_stop may_pass : Who → ℕ → T
         omega (arith, some, puts, polls, lanes, count)
 
     module _ (w : Worked) (full : w.full ≡ min (2 ^ 64 - 1) (sum_by (λ (d : PutDone Z). d.full) ends.puts.items))
-        (stopped : w.stopped ≡ min (2 ^ 64 - 1) (count_stopped ends)) (puts_on : All (λ (d : PutDone Z). d.off ≡ false) ends.puts.items)
+        (stopped : w.stopped ≡ min (2 ^ 64 - 1) (count_stopped ends))
+        (puts_on : All (λ (d : PutDone Z). d.off ≡ false) ends.puts.items)
         (polls_on : All (λ (d : PollDone Z). d.off ≡ false) ends.polls.items) (small : length items + sources < 2 ^ 64)
         (later : IsHub now) (of : IsHubOf m now)
         (pool : History) (roll : IsRollOf now.cells.table.size now.cells.roll pool)
         (first : from ≡ length h.puts) (last : end ≡ length h.puts + length items)
-        (tell : (size : PoolSize) (roll : Roll) (h : History) (p : ℕ) (done : History) (s : ConsumerView) → IsRollOf size roll h
+        (tell : (size : PoolSize) (roll : Roll) (h : History) (p : ℕ) (done : History)
+        (s : ConsumerView) → IsRollOf size roll h
         → slice_get roll.lanes p ≡ Some (Some done) → slice_get roll.readers s.reader.reader ≡ Some (Some s.reader.part)
         → HasReadToEnd p s → length (notes_on p s.notes) ≡ length (values_put p done)) where
       -- no more are stopped than there are
@@ -235,34 +280,60 @@ module _ {R Z : Type 0} (m : MailboxView) (may_stop may_pass : Who → ℕ → T
         consumers = left_of m may_stop may_pass ends.polls.items;
         run = run;
         stopped = total;
-        stopped_puts = subst (λ (n : ℕ). AreStoppedPuts may_stop n (length h.puts) (lists_in items) (lanes_of m may_stop may_pass ends.puts.items)) cells
-            (run_stops m may_stop may_pass stream h from end budget items jobs.puts.items ends.puts.items jobs.polls.items ends.polls.items hub all.puts given.polls came.puts came.polls puts_on);
+        stopped_puts = subst (λ (n : ℕ). AreStoppedPuts may_stop n (length h.puts) (lists_in items)
+            (lanes_of m may_stop may_pass ends.puts.items)) cells
+            (run_stops m may_stop may_pass stream h from end budget items jobs.puts.items
+            ends.puts.items jobs.polls.items ends.polls.items hub all.puts given.polls came.puts
+            came.polls puts_on);
         stopped_polls =
-            run_poll_stops m may_stop may_pass stream h from end budget items jobs.puts.items ends.puts.items jobs.polls.items ends.polls.items hub all.puts given.polls came.puts came.polls polls_on;
-        ends = subst (λ (n : ℕ). All (λ (x : ConsumerLeft). x.stopped ≡ false → ends_met x.reads ≡ n) (left_of m may_stop may_pass ends.polls.items))
+            run_poll_stops m may_stop may_pass stream h from end budget items jobs.puts.items
+            ends.puts.items jobs.polls.items ends.polls.items hub all.puts given.polls came.puts
+            came.polls polls_on;
+        ends = subst (λ (n : ℕ). All (λ (x : ConsumerLeft). x.stopped ≡ false → ends_met x.reads
+            ≡ n) (left_of m may_stop may_pass ends.polls.items))
             (omega (arith, first, far))
-            (run_ends m may_stop may_pass stream h from end budget items jobs.puts.items ends.puts.items jobs.polls.items ends.polls.items hub all.puts given.polls came.puts came.polls);
-        met = subst (λ (z : ℕ × ℕ). HaveMetEnds z.0 z.1 (length h.ledgers) (left_of m may_stop may_pass ends.polls.items))
+            (run_ends m may_stop may_pass stream h from end budget items jobs.puts.items
+            ends.puts.items jobs.polls.items ends.polls.items hub all.puts given.polls came.puts
+            came.polls);
+        met = subst (λ (z : ℕ × ℕ). HaveMetEnds z.0 z.1 (length h.ledgers)
+            (left_of m may_stop may_pass ends.polls.items))
             (λ i. (first i, far i))
-            (run_met m may_stop may_pass stream h from end budget items jobs.puts.items ends.puts.items jobs.polls.items ends.polls.items hub all.puts given.polls came.puts came.polls);
-        unread = subst (λ (n : ℕ). All (λ (x : ConsumerLeft). x.stopped ≡ true → ends_met x.reads < n) (left_of m may_stop may_pass ends.polls.items))
+            (run_met m may_stop may_pass stream h from end budget items jobs.puts.items
+            ends.puts.items jobs.polls.items ends.polls.items hub all.puts given.polls came.puts
+            came.polls);
+        unread = subst (λ (n : ℕ). All (λ (x : ConsumerLeft). x.stopped ≡ true
+            → ends_met x.reads < n) (left_of m may_stop may_pass ends.polls.items))
             (omega (arith, first, far))
-            (run_unread m may_stop may_pass stream h from end budget items jobs.puts.items ends.puts.items jobs.polls.items ends.polls.items hub all.puts given.polls came.puts came.polls polls_on);
-        only = subst (λ (z : ℕ × ℕ). All (λ (x : ConsumerLeft). IsOnLanes z.0 z.1 x.reads) (left_of m may_stop may_pass ends.polls.items))
+            (run_unread m may_stop may_pass stream h from end budget items jobs.puts.items
+            ends.puts.items jobs.polls.items ends.polls.items hub all.puts given.polls came.puts
+            came.polls polls_on);
+        only = subst (λ (z : ℕ × ℕ). All (λ (x : ConsumerLeft). IsOnLanes z.0 z.1 x.reads)
+            (left_of m may_stop may_pass ends.polls.items))
             (λ i. (first i, far i))
-            (run_only m may_stop may_pass stream h from end budget items jobs.puts.items ends.puts.items jobs.polls.items ends.polls.items hub all.puts given.polls came.puts came.polls polls_on);
+            (run_only m may_stop may_pass stream h from end budget items jobs.puts.items
+            ends.puts.items jobs.polls.items ends.polls.items hub all.puts given.polls came.puts
+            came.polls polls_on);
         full = full ∙ ap (λ (n : ℕ). min (2 ^ 64 - 1) n)
-            (run_beyond m may_stop may_pass stream h from end budget items jobs.puts.items ends.puts.items jobs.polls.items ends.polls.items hub all.puts given.polls came.puts came.polls);
-        cut = subst (λ (n : ℕ). AreCutByCells n (length h.puts) (lists_in items) (lanes_of m may_stop may_pass ends.puts.items)) cells
-            (run_cut m may_stop may_pass stream h from end budget items jobs.puts.items ends.puts.items jobs.polls.items ends.polls.items hub all.puts given.polls came.puts came.polls);
-        noted = all_noted now later pool roll tell m may_stop may_pass h.puts (lanes_of m may_stop may_pass ends.puts.items) run.puts from end budget first
-            (last ∙ ap (λ (n : ℕ). length h.puts + n) (sym few)) ends.polls.items h.cells.roll.readers (length h.ledgers) (sym hub.readers) run.reads
-            (nums m may_stop may_pass stream h from end budget items jobs.puts.items ends.puts.items jobs.polls.items ends.polls.items hub all.puts given.polls came.puts came.polls);
+            (run_beyond m may_stop may_pass stream h from end budget items jobs.puts.items
+            ends.puts.items jobs.polls.items ends.polls.items hub all.puts given.polls came.puts
+            came.polls);
+        cut = subst (λ (n : ℕ). AreCutByCells n (length h.puts) (lists_in items)
+            (lanes_of m may_stop may_pass ends.puts.items)) cells
+            (run_cut m may_stop may_pass stream h from end budget items jobs.puts.items
+            ends.puts.items jobs.polls.items ends.polls.items hub all.puts given.polls came.puts
+            came.polls);
+        noted = all_noted now later pool roll tell m may_stop may_pass h.puts
+            (lanes_of m may_stop may_pass ends.puts.items) run.puts from end budget first
+            (last ∙ ap (λ (n : ℕ). length h.puts + n) (sym few)) ends.polls.items
+            h.cells.roll.readers (length h.ledgers) (sym hub.readers) run.reads
+            (nums m may_stop may_pass stream h from end budget items jobs.puts.items ends.puts.items
+            jobs.polls.items ends.polls.items hub all.puts given.polls came.puts came.polls);
       }
 
       -- the sources of the jobs are those that were given
       streams : map (λ (j : PollJob R Z). stream j.rng) jobs.polls.items ≡ map stream rngs
-      streams = sym (map-map stream (λ (j : PollJob R Z). j.rng) jobs.polls.items) ∙ ap (λ (l : List R). map stream l) all.polls
+      streams = sym (map-map stream (λ (j : PollJob R Z). j.rng) jobs.polls.items)
+          ∙ ap (λ (l : List R). map stream l) all.polls
 
       many : length (map stream rngs) ≡ sources
       many = length-map rngs stream ∙ count
@@ -271,10 +342,17 @@ module _ {R Z : Type 0} (m : MailboxView) (may_stop may_pass : Who → ℕ → T
       called = record {
         lanes = lanes_of m may_stop may_pass ends.puts.items;
         consumers = left_of m may_stop may_pass ends.polls.items;
-        run = subst (λ (n : ℕ). IsRunOf (lists_in items) n (lanes_of m may_stop may_pass ends.puts.items) (left_of m may_stop may_pass ends.polls.items) h now) (sym many) run;
+        run = subst (λ (n : ℕ). IsRunOf (lists_in items) n
+            (lanes_of m may_stop may_pass ends.puts.items)
+            (left_of m may_stop may_pass ends.polls.items) h now) (sym many) run;
         stopped = total;
-        puts = run_passes m may_stop may_pass stream h from end budget items jobs.puts.items ends.puts.items jobs.polls.items ends.polls.items hub all.puts given.polls came.puts came.polls;
-        polls = subst (λ (z : (ℕ × ℕ) × List Stream). WerePolled may_stop may_pass z.0.0 z.0.1 budget (length h.ledgers) z.1 (left_of m may_stop may_pass ends.polls.items))
+        puts = run_passes m may_stop may_pass stream h from end budget items jobs.puts.items
+            ends.puts.items jobs.polls.items ends.polls.items hub all.puts given.polls came.puts
+            came.polls;
+        polls = subst (λ (z : (ℕ × ℕ) × List Stream). WerePolled may_stop may_pass z.0.0 z.0.1
+            budget (length h.ledgers) z.1 (left_of m may_stop may_pass ends.polls.items))
             (λ i. ((first i, far i), streams i))
-            (run_polled m may_stop may_pass stream h from end budget items jobs.puts.items ends.puts.items jobs.polls.items ends.polls.items hub all.puts given.polls came.puts came.polls polls_on);
+            (run_polled m may_stop may_pass stream h from end budget items jobs.puts.items
+            ends.puts.items jobs.polls.items ends.polls.items hub all.puts given.polls came.puts
+            came.polls polls_on);
       }

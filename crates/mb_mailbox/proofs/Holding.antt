@@ -6,7 +6,9 @@ use Rattle.std.proofs.lemmas.List.{length-reverse, reverse-append}
 use Rattle.mb_claim.specs.declared.access.ClaimOp.{ClaimOp}
 use Rattle.mb_claim.specs.declared.access.Stage.TheVariants as stage
 use Rattle.mb_cells.specs.declared.cursor.Cursor.TheVariants.{Past}
-use Rattle.mb_mailbox.specs.Below.{Claim, ClaimAccess, Claims, EndsAs, Fits, Gave, Has, HasStageIn, IsClaimIn, IsClaimPrefix, IsOnceEach, Item, Link, Lost, Note, ObjectTurn, Parts, PoolAccess, Stage, TableSize, Took, Undecided, access_of, cells_met, claim_stage, claims_in, consumer_of, load, note_of, part_on, place_past, with_load}
+use Rattle.mb_mailbox.specs.Below.{Claim, ClaimAccess, Claims, EndsAs, Fits, Gave, Has, HasStageIn, IsClaimIn, IsClaimPrefix, IsOnceEach, Item, Link}
+use Rattle.mb_mailbox.specs.Below.{Lost, Note, ObjectTurn, Parts, PoolAccess, Stage, TableSize, Took, Undecided, access_of, cells_met, claim_stage}
+use Rattle.mb_mailbox.specs.Below.{claims_in, consumer_of, load, note_of, part_on, place_past, with_load}
 use Rattle.mb_mailbox.specs.Consumers.{AreEnds, ConsumerView, IsAt, IsBefore, IsConsumer, StandsOn, parts_of}
 use Rattle.mb_mailbox.specs.Moves.{HasLoads, HasPlace, HasTurns, reads_with_item, moved_to}
 use Rattle.mb_mailbox.specs.NoteLists.{place_after}
@@ -74,7 +76,8 @@ module _ (s : ConsumerView) (p k : ℕ) (claim : Claim) (i : IsConsumer s) (e : 
         turned = length-reverse ns
 
         by : (place : Place) → StandsOn i.size.layout cs c q x ns place → length ns ≤ length (cells_met q s.reader.part)
-        by (Before at) b = let same = same_length cs c (cells_met q s.reader.part) (reverse ns) x b.ended in omega (arith, same, turned)
+        by (Before at) b = let same = same_length cs c (cells_met q s.reader.part) (reverse ns) x
+            b.ended in omega (arith, same, turned)
         by (At j held) a =
             let same = same_length cs c a.cells (reverse ns) x a.ended in
             let long : length (cells_met q s.reader.part) ≡ length (j ∷ a.cells) = ap length a.met in
@@ -90,10 +93,12 @@ module _ (s : ConsumerView) (p k : ℕ) (claim : Claim) (i : IsConsumer s) (e : 
 
     pub room : sum_by length s.notes < s.reader.table.size.cells
     room =
-        let low : p < length s.notes = subst (λ n. p < n) (i.places_count ∙ sym i.notes_count) (get_within s.places p (At k claim) e) in
+        let low : p < length s.notes = subst (λ n. p < n) (i.places_count ∙ sym i.notes_count)
+        (get_within s.places p (At k claim) e) in
         let less = sum_less length (λ q. length (cells_met q s.reader.part)) s.notes p low noted noted_here in
         let share = known.share in
-        let same : total (λ q. length (cells_met q s.reader.part)) (length s.notes) ≡ total (λ q. length (cells_met q s.reader.part)) s.reader.table.size.lanes =
+        let same : total (λ q. length (cells_met q s.reader.part)) (length s.notes)
+        ≡ total (λ q. length (cells_met q s.reader.part)) s.reader.table.size.lanes =
         ap (total (λ q. length (cells_met q s.reader.part))) i.notes_count in
         omega (arith, less, share, same)
 
@@ -122,20 +127,25 @@ module _ (s : ConsumerView) (p k : ℕ) (claim : Claim) (i : IsConsumer s) (e : 
       stepped j = ⊎_elim
           (λ (same : j ≡ k).
           ap (λ b. cond b (a.step ∷ x.claimed j) (x.claimed j)) (eq-eqb j k same)
-          ∙ subst (λ (z : ℕ). a.step ∷ part_on c z s.seat.part ≡ part_on c z made) (sym same) (sym (laws.own_cell a s.seat.part)))
+          ∙ subst (λ (z : ℕ). a.step ∷ part_on c z s.seat.part ≡ part_on c z made) (sym same)
+          (sym (laws.own_cell a s.seat.part)))
           (λ (ne : j ≡ k → ⊥).
           ap (λ b. cond b (a.step ∷ x.claimed j) (x.claimed j)) (ne_eqb j k ne) ∙ sym (else j ne))
           (cases_eq j k)
 
       fits : Fits cs c y
       fits =
-          subst (λ (f : ℕ → List ObjectTurn). Fits cs c (record { reads = s.reader.part; claimed = f })) (λ z j. stepped j z)
+          subst (λ (f : ℕ → List ObjectTurn). Fits cs c (record {
+            reads = s.reader.part;
+            claimed = f;
+          })) (λ z j. stepped j z)
           (laws.claims cs c k a.step x i.fit given (holds s p k claim i e).2.left)
 
       others : (q : ℕ) → q ≢ p → Leaves q x y
       others q ne = record {
         met = refl;
-        claims = λ j has. sym (else j (λ f. ne (known.apart q p k (subst (Has (cells_met q s.reader.part)) f has) has_here)));
+        claims = λ j has. sym (else j (λ f. ne
+            (known.apart q p k (subst (Has (cells_met q s.reader.part)) f has) has_here)));
         more = λ j u r. r;
         left = λ j has l. l;
       }
@@ -154,33 +164,58 @@ module _ (s : ConsumerView) (p k : ℕ) (claim : Claim) (i : IsConsumer s) (e : 
           → StandsOn i.size.layout cs c p y (with_one (note_of st) ns) (place_after k now st)
       stands stage.Going is ns f = held ns f (ap note_of is)
         where
-          held : (ns : List Note) → slice_get s.notes p ≡ Some ns → note_of (claim_stage now) ≡ None → IsAt i.size.layout cs c p y ns k now
+          held : (ns : List Note) → slice_get s.notes p ≡ Some ns → note_of (claim_stage now) ≡ None
+              → IsAt i.size.layout cs c p y ns k now
           held ns f none = let o : IsAt i.size.layout cs c p x ns k claim = i.lanes p (At k claim) ns e f in
-              record { cells = o.cells; met = o.met; ended = ends ns o; own = own_now; path = path; unnoted = none; left = o.left }
+              record {
+                cells = o.cells;
+                met = o.met;
+                ended = ends ns o;
+                own = own_now;
+                path = path;
+                unnoted = none;
+                left = o.left;
+              }
       stands stage.Won is ns f = held ns f (ap note_of is)
         where
-          held : (ns : List Note) → slice_get s.notes p ≡ Some ns → note_of (claim_stage now) ≡ None → IsAt i.size.layout cs c p y ns k now
+          held : (ns : List Note) → slice_get s.notes p ≡ Some ns → note_of (claim_stage now) ≡ None
+              → IsAt i.size.layout cs c p y ns k now
           held ns f none = let o : IsAt i.size.layout cs c p x ns k claim = i.lanes p (At k claim) ns e f in
-              record { cells = o.cells; met = o.met; ended = ends ns o; own = own_now; path = path; unnoted = none; left = o.left }
-      stands (stage.Lost w) is ns f = passed (Lost w) ns f (subst (λ z. EndsAs cs c k (Lost w) y) is (subst (λ z. HasStageIn cs c k z y) is prefix))
+              record {
+                cells = o.cells;
+                met = o.met;
+                ended = ends ns o;
+                own = own_now;
+                path = path;
+                unnoted = none;
+                left = o.left;
+              }
+      stands (stage.Lost w) is ns f = passed (Lost w) ns f
+          (subst (λ z. EndsAs cs c k (Lost w) y) is (subst (λ z. HasStageIn cs c k z y) is prefix))
         where
-          passed : (n : Note) (ns : List Note) → slice_get s.notes p ≡ Some ns → EndsAs cs c k n y → IsBefore cs c p y (ns ++ n ∷ []) (Past k)
+          passed : (n : Note) (ns : List Note) → slice_get s.notes p ≡ Some ns → EndsAs cs c k n y
+              → IsBefore cs c p y (ns ++ n ∷ []) (Past k)
           passed n ns f end = let o : IsAt i.size.layout cs c p x ns k claim = i.lanes p (At k claim) ns e f in
               record {
                 word = ap (place_past p) (sym o.met);
-                ended = subst (λ (z : List ℕ × List Note). AreEnds cs c z.0 z.1 y) (λ j. (sym o.met j, sym (snoc_back ns n) j)) (end, ends ns o);
+                ended = subst (λ (z : List ℕ × List Note). AreEnds cs c z.0 z.1 y)
+                    (λ j. (sym o.met j, sym (snoc_back ns n) j)) (end, ends ns o);
               }
       stands stage.Undecided is ns f = passed Undecided ns f (subst (λ z. HasStageIn cs c k z y) is prefix)
         where
-          passed : (n : Note) (ns : List Note) → slice_get s.notes p ≡ Some ns → EndsAs cs c k n y → IsBefore cs c p y (ns ++ n ∷ []) (Past k)
+          passed : (n : Note) (ns : List Note) → slice_get s.notes p ≡ Some ns → EndsAs cs c k n y
+              → IsBefore cs c p y (ns ++ n ∷ []) (Past k)
           passed n ns f end = let o : IsAt i.size.layout cs c p x ns k claim = i.lanes p (At k claim) ns e f in
               record {
                 word = ap (place_past p) (sym o.met);
-                ended = subst (λ (z : List ℕ × List Note). AreEnds cs c z.0 z.1 y) (λ j. (sym o.met j, sym (snoc_back ns n) j)) (end, ends ns o);
+                ended = subst (λ (z : List ℕ × List Note). AreEnds cs c z.0 z.1 y)
+                    (λ j. (sym o.met j, sym (snoc_back ns n) j)) (end, ends ns o);
               }
 
-      pub competes : IsConsumer (moved_to p (place_after k now (claim_stage now)) (note_of (claim_stage now)) s.reader.part made s)
-      competes = moves s p (At k claim) (place_after k now (claim_stage now)) (note_of (claim_stage now)) s.reader.part made i e fits
+      pub competes : IsConsumer (moved_to p (place_after k now (claim_stage now))
+          (note_of (claim_stage now)) s.reader.part made s)
+      competes = moves s p (At k claim) (place_after k now (claim_stage now))
+          (note_of (claim_stage now)) s.reader.part made i e fits
           (stands (claim_stage now) refl) others
 
     -- ---- the load of the item
@@ -209,15 +244,19 @@ module _ (s : ConsumerView) (p k : ℕ) (claim : Claim) (i : IsConsumer s) (e : 
         claims = λ j has. refl;
         more = λ j u r. read-more b s.reader.part (Item j) u r;
         left = λ j has l. (
-          (λ u r. ⊎_elim (λ t. ne (known.apart q p k (subst (Has (cells_met q s.reader.part)) (sym (same_item j t)) has) has_here)) (λ old. l.0 u old)
+          (λ u r. ⊎_elim (λ t. ne (known.apart q p k
+              (subst (Has (cells_met q s.reader.part)) (sym (same_item j t)) has) has_here))
+              (λ old. l.0 u old)
               (read-cases b s.reader.part (Item j) u r)),
-          (λ u r. ⊎_elim (λ t. let f : Item k ≡ Link j = t in cc) (λ old. l.1 u old) (read-cases b s.reader.part (Link j) u r)),
+          (λ u r. ⊎_elim (λ t. let f : Item k ≡ Link j = t in cc) (λ old. l.1 u old)
+              (read-cases b s.reader.part (Link j) u r)),
         );
       }
 
       pub takes : IsConsumer (moved_to p (Before (Past k)) (Some (Took v)) (reads_with_item s k v) s.seat.part s)
       takes =
-          let same : cells_met p (b ∷ s.reader.part) ≡ cells_met p s.reader.part = laws.elsewhere p b s.reader.part (no_link p) in
+          let same : cells_met p (b ∷ s.reader.part)
+          ≡ cells_met p s.reader.part = laws.elsewhere p b s.reader.part (no_link p) in
           moves s p (At k claim) (Before (Past k)) (Some (Took v)) (b ∷ s.reader.part) s.seat.part i e
           (laws.takes cs c s.reader.reader k v x i.fit has_won)
           (λ ns f.
@@ -227,7 +266,8 @@ module _ (s : ConsumerView) (p k : ℕ) (claim : Claim) (i : IsConsumer s) (e : 
           (λ j n has. end_kept cs c j n x z refl (λ u r. read-more b s.reader.part (Item j) u r)) o.ended in
           record {
             word = ap (place_past p) (sym met);
-            ended = subst (λ (t : List ℕ × List Note). AreEnds cs c t.0 t.1 z) (λ j. (sym met j, sym (snoc_back ns (Took v)) j))
+            ended = subst (λ (t : List ℕ × List Note). AreEnds cs c t.0 t.1 z)
+                (λ j. (sym met j, sym (snoc_back ns (Took v)) j))
                 ((has_won, (b, inl refl, refl, refl)), before);
           })
           left_else

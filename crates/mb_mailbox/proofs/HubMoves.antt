@@ -13,30 +13,35 @@ use Rattle.mb_mailbox.specs.Producers.{IsProducer, ProducerView}
 use Rattle.mb_mailbox.proofs.Lists.{get_some, get_within, set_get, set_length, some_same}
 
 -- ---- lists with one more at their end
-get_more : {X : Type 0} (xs : List X) (x : X) (p : ℕ) (a : X) → slice_get xs p ≡ Some a → slice_get (xs ++ x ∷ []) p ≡ Some a
+get_more : {X : Type 0} (xs : List X) (x : X) (p : ℕ) (a : X) → slice_get xs p ≡ Some a
+    → slice_get (xs ++ x ∷ []) p ≡ Some a
 get_more [] x p a e = absurd (cc)
 get_more (y ∷ xs) x zero a e = e
 get_more (y ∷ xs) x (suc p) a e = get_more xs x p a e
 
-get_older : {X : Type 0} (xs : List X) (x : X) (p : ℕ) (a : X) → slice_get (xs ++ x ∷ []) p ≡ Some a → (slice_get xs p ≡ Some a) ⊎ (x ≡ a)
+get_older : {X : Type 0} (xs : List X) (x : X) (p : ℕ) (a : X) → slice_get (xs ++ x ∷ []) p ≡ Some a
+    → (slice_get xs p ≡ Some a) ⊎ (x ≡ a)
 get_older [] x zero a e = inr (some_same x a e)
 get_older [] x (suc p) a e = absurd (cc)
 get_older (y ∷ xs) x zero a e = inl e
 get_older (y ∷ xs) x (suc p) a e = get_older xs x p a e
 
-set_here : {X : Type 0} (xs : List X) (k : ℕ) (a b : X) → slice_get xs k ≡ Some b → slice_get (slice_set xs k a) k ≡ Some a
+set_here : {X : Type 0} (xs : List X) (k : ℕ) (a b : X) → slice_get xs k ≡ Some b
+    → slice_get (slice_set xs k a) k ≡ Some a
 set_here [] k a b e = absurd (cc)
 set_here (x ∷ xs) zero a b e = refl
 set_here (x ∷ xs) (suc k) a b e = set_here xs k a b e
 
-set_there : {X : Type 0} (xs : List X) (i k : ℕ) (a b : X) → k ≢ i → slice_get xs k ≡ Some b → slice_get (slice_set xs i a) k ≡ Some b
+set_there : {X : Type 0} (xs : List X) (i k : ℕ) (a b : X) → k ≢ i → slice_get xs k ≡ Some b
+    → slice_get (slice_set xs i a) k ≡ Some b
 set_there [] i k a b ne e = e
 set_there (x ∷ xs) zero zero a b ne e = absurd (ne refl)
 set_there (x ∷ xs) zero (suc k) a b ne e = e
 set_there (x ∷ xs) (suc i) zero a b ne e = e
 set_there (x ∷ xs) (suc i) (suc k) a b ne e = set_there xs i k a b (λ h. ne (ap suc h)) e
 
-longer : {X Y : Type 0} (xs : List X) (ys : List Y) (x : X) (y : Y) → length xs ≡ length ys → length (xs ++ x ∷ []) ≡ length (ys ++ y ∷ [])
+longer : {X Y : Type 0} (xs : List X) (ys : List Y) (x : X) (y : Y) → length xs ≡ length ys
+    → length (xs ++ x ∷ []) ≡ length (ys ++ y ∷ [])
 longer xs ys x y e =
     let a = length-append xs (x ∷ []) in
     let b = length-append ys (y ∷ []) in
@@ -49,7 +54,8 @@ none_there p x e = cc
 none_at : {X : Type 0} (xs : List X) (p : ℕ) (x : X) → xs ≡ [] → slice_get xs p ≡ Some x → ⊥
 none_at {X} xs p x none e = none_there p x (subst (λ (ys : List X). slice_get ys p ≡ Some x) none e)
 
-pub new_hub : (cells : CellHubView) (claims : ClaimHubView) (puts : List (Option PutListView)) (ledgers : List (Option LedgerView))
+pub new_hub : (cells : CellHubView) (claims : ClaimHubView) (puts : List (Option PutListView))
+    (ledgers : List (Option LedgerView))
     → cells.roll ≡ empty_roll → claims.roll ≡ [] → puts ≡ [] → ledgers ≡ []
     → IsHub (record { cells = cells; claims = claims; puts = puts; ledgers = ledgers })
 new_hub cells claims puts ledgers roll seats no_puts no_ledgers =
@@ -82,7 +88,8 @@ gave_producer h i low = record {
 }
 
 -- a producer whose seat is out is not taken in
-pub is_out : (h : HubView) (p : ℕ) → IsHub h → slice_get h.cells.roll.lanes p ≡ Some None → slice_get h.puts p ≡ Some None
+pub is_out : (h : HubView) (p : ℕ) → IsHub h → slice_get h.cells.roll.lanes p ≡ Some None
+    → slice_get h.puts p ≡ Some None
 is_out h p i out =
     let t = get_some h.puts p (subst (λ n. p < n) (sym i.lanes) (get_within h.cells.roll.lanes p None out)) in
     by t.0 t.1
@@ -131,7 +138,8 @@ took_producer h s i own out =
 
 -- ---- consumers
 -- the hub that has given one more
-pub gave_consumer : (h : HubView) → IsHub h → length h.ledgers < (claims_at h.claims.table).table.values → IsHub (with_consumer h)
+pub gave_consumer : (h : HubView) → IsHub h
+    → length h.ledgers < (claims_at h.claims.table).table.values → IsHub (with_consumer h)
 gave_consumer h i low = record {
   lanes = i.lanes;
   readers = longer h.ledgers h.cells.roll.readers None None i.readers;
@@ -140,15 +148,19 @@ gave_consumer h i low = record {
   few_consumers = let n = length-append h.ledgers (None ∷ []) in omega arith;
   taken = λ c ledger e. ⊎_elim
       (λ (old : slice_get h.ledgers c ≡ Some (Some ledger)).
-      let t = i.taken c ledger old in
-      (t.0, get_more h.cells.roll.readers None c (Some t.0) t.1, (t.2.0, get_more h.claims.roll None c (Some t.2.0) t.2.1, t.2.2)))
+      let t = i.taken c ledger old in (
+        t.0,
+        get_more h.cells.roll.readers None c (Some t.0) t.1,
+        (t.2.0, get_more h.claims.roll None c (Some t.2.0) t.2.1, t.2.2),
+      ))
       (λ (new : None ≡ Some ledger). absurd (cc))
       (get_older h.ledgers None c (Some ledger) e);
   put = i.put;
 }
 
 -- a consumer whose seat is out is not taken in
-pub seat_is_out : (h : HubView) (c : ℕ) → IsHub h → slice_get h.claims.roll c ≡ Some None → slice_get h.ledgers c ≡ Some None
+pub seat_is_out : (h : HubView) (c : ℕ) → IsHub h → slice_get h.claims.roll c ≡ Some None
+    → slice_get h.ledgers c ≡ Some None
 seat_is_out h c i out =
     let t = get_some h.ledgers c (subst (λ n. c < n) (sym i.seats) (get_within h.claims.roll c None out)) in
     by t.0 t.1
@@ -162,14 +174,19 @@ seat_is_out h c i out =
 
 -- the hub that has taken it in
 pub took_consumer : (h : HubView) (s : ConsumerView) → IsHub h → IsConsumer s → s.seat.table ≡ h.claims.table
-    → s.reader.table ≡ h.cells.table → slice_get h.cells.roll.readers s.reader.reader ≡ Some None → slice_get h.claims.roll s.seat.consumer ≡ Some None
+    → s.reader.table ≡ h.cells.table → slice_get h.cells.roll.readers s.reader.reader ≡ Some None
+    → slice_get h.claims.roll s.seat.consumer ≡ Some None
     → IsHub (with_taken_consumer s h)
 took_consumer h s i own table cells reader_out seat_out =
     let c = s.seat.consumer in
     let l : LedgerView = record { places = s.places; notes = s.notes } in
-    let out : slice_get h.cells.roll.readers c ≡ Some None = subst (λ (r : ℕ). slice_get h.cells.roll.readers r ≡ Some None) own.same reader_out in
-    let here : slice_get (slice_set h.cells.roll.readers s.reader.reader (Some s.reader.part)) c ≡ Some (Some s.reader.part) =
-    subst (λ (r : ℕ). slice_get (slice_set h.cells.roll.readers r (Some s.reader.part)) c ≡ Some (Some s.reader.part)) (sym own.same)
+    let out : slice_get h.cells.roll.readers c
+    ≡ Some None = subst (λ (r : ℕ). slice_get h.cells.roll.readers r ≡ Some None) own.same
+    reader_out in
+    let here : slice_get (slice_set h.cells.roll.readers s.reader.reader (Some s.reader.part)) c
+    ≡ Some (Some s.reader.part) =
+    subst (λ (r : ℕ). slice_get (slice_set h.cells.roll.readers r (Some s.reader.part)) c
+    ≡ Some (Some s.reader.part)) (sym own.same)
     (set_here h.cells.roll.readers c (Some s.reader.part) None out) in
     let lanes : s.reader.table.size.lanes ≡ h.cells.table.size.lanes = ap (λ (t : CellsName). t.size.lanes) cells in
     let n = set_length h.ledgers c (Some l) in
@@ -191,14 +208,16 @@ took_consumer h s i own table cells reader_out seat_out =
           (λ (t : (d ≡ c) × (Some l ≡ Some ledger)).
           subst (λ (z : ℕ × LedgerView). (reads : History)
           × (slice_get (slice_set h.cells.roll.readers s.reader.reader (Some s.reader.part)) z.0 ≡ Some (Some reads))
-          × ((done : List ClaimAccess) × (slice_get (slice_set h.claims.roll c (Some s.seat.part)) z.0 ≡ Some (Some done))
+          × ((done : List ClaimAccess) × (slice_get (slice_set h.claims.roll c (Some s.seat.part))
+          z.0 ≡ Some (Some done))
           × IsLedger h.claims.table h.cells.table.size.lanes z.0 reads done z.1))
           (λ j. (sym t.0 j, some_same l ledger t.1 j))
           (s.reader.part, here, (s.seat.part, set_here h.claims.roll c (Some s.seat.part) None seat_out, its)))
           (λ (t : (d ≢ c) × (slice_get h.ledgers d ≡ Some (Some ledger))).
           let x = i.taken d ledger t.1 in (
             x.0,
-            set_there h.cells.roll.readers s.reader.reader d (Some s.reader.part) (Some x.0) (λ f. t.0 (f ∙ own.same)) x.1,
+            set_there h.cells.roll.readers s.reader.reader d (Some s.reader.part) (Some x.0)
+                (λ f. t.0 (f ∙ own.same)) x.1,
             (x.2.0, set_there h.claims.roll c d (Some s.seat.part) (Some x.2.0) t.0 x.2.1, x.2.2),
           ))
           (set_get h.ledgers c d (Some l) (Some ledger) e);

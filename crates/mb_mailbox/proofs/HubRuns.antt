@@ -8,11 +8,13 @@ use Rattle.mb_mailbox.specs.HubRuns.{with_consumers, with_producers, with_taken_
 use Rattle.mb_mailbox.specs.Producers.{ProducerView}
 
 -- ---- one more at the end of the list
-pub producers_snoc : {X : Type 0} (xs : List X) (x : X) (h : HubView) → with_producers (xs ++ x ∷ []) h ≡ with_producer (with_producers xs h)
+pub producers_snoc : {X : Type 0} (xs : List X) (x : X) (h : HubView)
+    → with_producers (xs ++ x ∷ []) h ≡ with_producer (with_producers xs h)
 producers_snoc [] x h = refl
 producers_snoc (y ∷ ys) x h = producers_snoc ys x (with_producer h)
 
-pub consumers_snoc : {X : Type 0} (xs : List X) (x : X) (h : HubView) → with_consumers (xs ++ x ∷ []) h ≡ with_consumer (with_consumers xs h)
+pub consumers_snoc : {X : Type 0} (xs : List X) (x : X) (h : HubView)
+    → with_consumers (xs ++ x ∷ []) h ≡ with_consumer (with_consumers xs h)
 consumers_snoc [] x h = refl
 consumers_snoc (y ∷ ys) x h = consumers_snoc ys x (with_consumer h)
 
@@ -41,18 +43,21 @@ abbrev pub CountFrom : {X : Type 0} → (X → ℕ) → ℕ → List X → Type 
 CountFrom at n [] = Unit {0}
 CountFrom at n (x ∷ xs) = (at x ≡ n) × CountFrom at (suc n) xs
 
-set_next : {Y : Type 0} (base rest : List Y) (old new : Y) (n : ℕ) → length base ≡ n → slice_set (base ++ old ∷ rest) n new ≡ base ++ new ∷ rest
+set_next : {Y : Type 0} (base rest : List Y) (old new : Y) (n : ℕ) → length base ≡ n
+    → slice_set (base ++ old ∷ rest) n new ≡ base ++ new ∷ rest
 set_next [] rest old new zero e = refl
 set_next [] rest old new (suc n) e = absurd (cc)
 set_next (b ∷ base) rest old new zero e = absurd (cc)
 set_next (b ∷ base) rest old new (suc n) e = ap (λ l. b ∷ l) (set_next base rest old new n (omega (arith, e)))
 
-pub fills : {X Y : Type 0} (at : X → ℕ) (val : X → Option Y) (xs : List X) (base : List (Option Y)) (n : ℕ) → length base ≡ n → CountFrom at n xs
+pub fills : {X Y : Type 0} (at : X → ℕ) (val : X → Option Y) (xs : List X) (base : List (Option Y))
+    (n : ℕ) → length base ≡ n → CountFrom at n xs
     → filled at val xs (base ++ outs xs) ≡ base ++ map val xs
 fills at val [] base n e c = refl
 fills at val (x ∷ xs) base n e c =
     let longer : length (base ++ val x ∷ []) ≡ suc n = length-append base (val x ∷ []) ∙ omega (arith, e) in
-    ap (filled at val xs) (subst (λ k. slice_set (base ++ None ∷ outs xs) k (val x) ≡ base ++ val x ∷ outs xs) (sym c.0) (set_next base (outs xs) None (val x) n e)
+    ap (filled at val xs) (subst (λ k. slice_set (base ++ None ∷ outs xs) k (val x) ≡ base ++ val x
+    ∷ outs xs) (sym c.0) (set_next base (outs xs) None (val x) n e)
     ∙ sym (append_assoc base (val x ∷ []) (outs xs)))
     ∙ fills at val xs (base ++ val x ∷ []) (suc n) longer c.1
     ∙ append_assoc base (val x ∷ []) (map val xs)
@@ -70,15 +75,19 @@ append_none (y ∷ ys) = ap (λ l. y ∷ l) (append_none ys)
 
 -- ---- one field of a hub, over a whole list
 module _ {X Y : Type 0} (f : HubView → List (Option Y)) where
-  pub given_by_producers : ((h : HubView) → f (with_producer h) ≡ f h ++ None ∷ []) → (xs : List X) (h : HubView) → f (with_producers xs h) ≡ f h ++ outs xs
+  pub given_by_producers : ((h : HubView) → f (with_producer h) ≡ f h ++ None ∷ [])
+      → (xs : List X) (h : HubView) → f (with_producers xs h) ≡ f h ++ outs xs
   given_by_producers more [] h = append_none (f h)
   given_by_producers more (x ∷ xs) h =
-      given_by_producers more xs (with_producer h) ∙ ap (λ l. l ++ outs xs) (more h) ∙ append_assoc (f h) (None ∷ []) (outs xs)
+      given_by_producers more xs (with_producer h) ∙ ap (λ l. l ++ outs xs) (more h)
+      ∙ append_assoc (f h) (None ∷ []) (outs xs)
 
-  pub given_by_consumers : ((h : HubView) → f (with_consumer h) ≡ f h ++ None ∷ []) → (xs : List X) (h : HubView) → f (with_consumers xs h) ≡ f h ++ outs xs
+  pub given_by_consumers : ((h : HubView) → f (with_consumer h) ≡ f h ++ None ∷ [])
+      → (xs : List X) (h : HubView) → f (with_consumers xs h) ≡ f h ++ outs xs
   given_by_consumers more [] h = append_none (f h)
   given_by_consumers more (x ∷ xs) h =
-      given_by_consumers more xs (with_consumer h) ∙ ap (λ l. l ++ outs xs) (more h) ∙ append_assoc (f h) (None ∷ []) (outs xs)
+      given_by_consumers more xs (with_consumer h) ∙ ap (λ l. l ++ outs xs) (more h)
+      ∙ append_assoc (f h) (None ∷ []) (outs xs)
 
 module _ {Y : Type 0} (f : HubView → List (Option Y)) where
   pub taken_by_producers : (at : ProducerView → ℕ) (val : ProducerView → Option Y)
@@ -96,26 +105,31 @@ module _ {Y : Type 0} (f : HubView → List (Option Y)) where
       taken_by_consumers at val step ss (with_taken_consumer s h) ∙ ap (filled at val ss) (step s h)
 
 module _ {Y : Type 0} (f : HubView → Y) where
-  pub same_by_producers : {X : Type 0} → ((h : HubView) → f (with_producer h) ≡ f h) → (xs : List X) (h : HubView) → f (with_producers xs h) ≡ f h
+  pub same_by_producers : {X : Type 0} → ((h : HubView) → f (with_producer h) ≡ f h)
+      → (xs : List X) (h : HubView) → f (with_producers xs h) ≡ f h
   same_by_producers same [] h = refl
   same_by_producers same (x ∷ xs) h = same_by_producers same xs (with_producer h) ∙ same h
 
-  pub same_by_consumers : {X : Type 0} → ((h : HubView) → f (with_consumer h) ≡ f h) → (xs : List X) (h : HubView) → f (with_consumers xs h) ≡ f h
+  pub same_by_consumers : {X : Type 0} → ((h : HubView) → f (with_consumer h) ≡ f h)
+      → (xs : List X) (h : HubView) → f (with_consumers xs h) ≡ f h
   same_by_consumers same [] h = refl
   same_by_consumers same (x ∷ xs) h = same_by_consumers same xs (with_consumer h) ∙ same h
 
-  pub same_by_taken_producers : ((s : ProducerView) (h : HubView) → f (with_taken_producer s h) ≡ f h) → (ss : List ProducerView) (h : HubView)
+  pub same_by_taken_producers : ((s : ProducerView) (h : HubView) → f (with_taken_producer s h)
+      ≡ f h) → (ss : List ProducerView) (h : HubView)
       → f (with_taken_producers ss h) ≡ f h
   same_by_taken_producers same [] h = refl
   same_by_taken_producers same (s ∷ ss) h = same_by_taken_producers same ss (with_taken_producer s h) ∙ same s h
 
-  pub same_by_taken_consumers : ((s : ConsumerView) (h : HubView) → f (with_taken_consumer s h) ≡ f h) → (ss : List ConsumerView) (h : HubView)
+  pub same_by_taken_consumers : ((s : ConsumerView) (h : HubView) → f (with_taken_consumer s h)
+      ≡ f h) → (ss : List ConsumerView) (h : HubView)
       → f (with_taken_consumers ss h) ≡ f h
   same_by_taken_consumers same [] h = refl
   same_by_taken_consumers same (s ∷ ss) h = same_by_taken_consumers same ss (with_taken_consumer s h) ∙ same s h
 
 -- ---- a whole run: so many producers and consumers given, and all of them taken in
-module _ {J K : Type 0} (js : List J) (ks : List K) (ss : List ProducerView) (cs : List ConsumerView) (h : HubView) where
+module _ {J K : Type 0} (js : List J) (ks : List K) (ss : List ProducerView)
+    (cs : List ConsumerView) (h : HubView) where
   abbrev pub given : HubView
   given = with_consumers ks (with_producers js h)
 
@@ -128,54 +142,67 @@ module _ {J K : Type 0} (js : List J) (ks : List K) (ss : List ProducerView) (cs
         same_by_taken_consumers (λ v. v.puts) (λ s v. refl) cs (with_taken_producers ss given)
         ∙ taken_by_producers (λ v. v.puts) (λ s. s.seat.lane) (λ s. Some (put_list_of s)) (λ s v. refl) ss given
         ∙ ap (filled (λ (s : ProducerView). s.seat.lane) (λ s. Some (put_list_of s)) ss)
-        (same_by_consumers (λ v. v.puts) (λ v. refl) ks (with_producers js h) ∙ given_by_producers (λ v. v.puts) (λ v. refl) js h
+        (same_by_consumers (λ v. v.puts) (λ v. refl) ks (with_producers js h)
+        ∙ given_by_producers (λ v. v.puts) (λ v. refl) js h
         ∙ ap (λ l. h.puts ++ l) (outs_alike js ss count))
         ∙ fills (λ (s : ProducerView). s.seat.lane) (λ s. Some (put_list_of s)) ss h.puts (length h.puts) refl from
 
-    pub run_parts : length h.puts ≡ length h.cells.roll.lanes → after.cells.roll.lanes ≡ h.cells.roll.lanes ++ map (λ s. Some s.seat.part) ss
+    pub run_parts : length h.puts ≡ length h.cells.roll.lanes → after.cells.roll.lanes
+        ≡ h.cells.roll.lanes ++ map (λ s. Some s.seat.part) ss
     run_parts same =
         same_by_taken_consumers (λ v. v.cells.roll.lanes) (λ s v. refl) cs (with_taken_producers ss given)
         ∙ taken_by_producers (λ v. v.cells.roll.lanes) (λ s. s.seat.lane) (λ s. Some s.seat.part) (λ s v. refl) ss given
         ∙ ap (filled (λ (s : ProducerView). s.seat.lane) (λ s. Some s.seat.part) ss)
-        (same_by_consumers (λ v. v.cells.roll.lanes) (λ v. refl) ks (with_producers js h) ∙ given_by_producers (λ v. v.cells.roll.lanes) (λ v. refl) js h
+        (same_by_consumers (λ v. v.cells.roll.lanes) (λ v. refl) ks (with_producers js h)
+        ∙ given_by_producers (λ v. v.cells.roll.lanes) (λ v. refl) js h
         ∙ ap (λ l. h.cells.roll.lanes ++ l) (outs_alike js ss count))
-        ∙ fills (λ (s : ProducerView). s.seat.lane) (λ s. Some s.seat.part) ss h.cells.roll.lanes (length h.puts) (sym same) from
+        ∙ fills (λ (s : ProducerView). s.seat.lane) (λ s. Some s.seat.part) ss h.cells.roll.lanes
+        (length h.puts) (sym same) from
 
   abbrev pub ledger_of : ConsumerView → LedgerView
   ledger_of s = record { places = s.places; notes = s.notes }
 
   module _ (count : length ks ≡ length cs) where
-    pub run_ledgers : CountFrom (λ s. s.seat.consumer) (length h.ledgers) cs → after.ledgers ≡ h.ledgers ++ map (λ s. Some (ledger_of s)) cs
+    pub run_ledgers : CountFrom (λ s. s.seat.consumer) (length h.ledgers) cs → after.ledgers
+        ≡ h.ledgers ++ map (λ s. Some (ledger_of s)) cs
     run_ledgers from =
-        taken_by_consumers (λ v. v.ledgers) (λ s. s.seat.consumer) (λ s. Some (ledger_of s)) (λ s v. refl) cs (with_taken_producers ss given)
+        taken_by_consumers (λ v. v.ledgers) (λ s. s.seat.consumer) (λ s. Some (ledger_of s))
+        (λ s v. refl) cs (with_taken_producers ss given)
         ∙ ap (filled (λ (s : ConsumerView). s.seat.consumer) (λ s. Some (ledger_of s)) cs)
         (same_by_taken_producers (λ v. v.ledgers) (λ s v. refl) ss given
         ∙ given_by_consumers (λ v. v.ledgers) (λ v. refl) ks (with_producers js h)
         ∙ ap (λ l. l ++ outs ks) (same_by_producers (λ v. v.ledgers) (λ v. refl) js h)
         ∙ ap (λ l. h.ledgers ++ l) (outs_alike ks cs count))
-        ∙ fills (λ (s : ConsumerView). s.seat.consumer) (λ s. Some (ledger_of s)) cs h.ledgers (length h.ledgers) refl from
+        ∙ fills (λ (s : ConsumerView). s.seat.consumer) (λ s. Some (ledger_of s)) cs h.ledgers
+        (length h.ledgers) refl from
 
-    pub run_readers : length h.ledgers ≡ length h.cells.roll.readers → CountFrom (λ s. s.reader.reader) (length h.ledgers) cs
+    pub run_readers : length h.ledgers ≡ length h.cells.roll.readers
+        → CountFrom (λ s. s.reader.reader) (length h.ledgers) cs
         → after.cells.roll.readers ≡ h.cells.roll.readers ++ map (λ s. Some s.reader.part) cs
     run_readers same from =
-        taken_by_consumers (λ v. v.cells.roll.readers) (λ s. s.reader.reader) (λ s. Some s.reader.part) (λ s v. refl) cs (with_taken_producers ss given)
+        taken_by_consumers (λ v. v.cells.roll.readers) (λ s. s.reader.reader)
+        (λ s. Some s.reader.part) (λ s v. refl) cs (with_taken_producers ss given)
         ∙ ap (filled (λ (s : ConsumerView). s.reader.reader) (λ s. Some s.reader.part) cs)
         (same_by_taken_producers (λ v. v.cells.roll.readers) (λ s v. refl) ss given
         ∙ given_by_consumers (λ v. v.cells.roll.readers) (λ v. refl) ks (with_producers js h)
         ∙ ap (λ l. l ++ outs ks) (same_by_producers (λ v. v.cells.roll.readers) (λ v. refl) js h)
         ∙ ap (λ l. h.cells.roll.readers ++ l) (outs_alike ks cs count))
-        ∙ fills (λ (s : ConsumerView). s.reader.reader) (λ s. Some s.reader.part) cs h.cells.roll.readers (length h.ledgers) (sym same) from
+        ∙ fills (λ (s : ConsumerView). s.reader.reader) (λ s. Some s.reader.part) cs
+        h.cells.roll.readers (length h.ledgers) (sym same) from
 
-  pub run_claimed : length ks ≡ length cs → length h.ledgers ≡ length h.claims.roll → CountFrom (λ s. s.seat.consumer) (length h.ledgers) cs
+  pub run_claimed : length ks ≡ length cs → length h.ledgers ≡ length h.claims.roll
+      → CountFrom (λ s. s.seat.consumer) (length h.ledgers) cs
       → after.claims.roll ≡ h.claims.roll ++ map (λ s. Some s.seat.part) cs
   run_claimed count same from =
-      taken_by_consumers (λ v. v.claims.roll) (λ s. s.seat.consumer) (λ s. Some s.seat.part) (λ s v. refl) cs (with_taken_producers ss given)
+      taken_by_consumers (λ v. v.claims.roll) (λ s. s.seat.consumer) (λ s. Some s.seat.part)
+      (λ s v. refl) cs (with_taken_producers ss given)
       ∙ ap (filled (λ (s : ConsumerView). s.seat.consumer) (λ s. Some s.seat.part) cs)
       (same_by_taken_producers (λ v. v.claims.roll) (λ s v. refl) ss given
       ∙ given_by_consumers (λ v. v.claims.roll) (λ v. refl) ks (with_producers js h)
       ∙ ap (λ l. l ++ outs ks) (same_by_producers (λ v. v.claims.roll) (λ v. refl) js h)
       ∙ ap (λ l. h.claims.roll ++ l) (outs_alike ks cs count))
-      ∙ fills (λ (s : ConsumerView). s.seat.consumer) (λ s. Some s.seat.part) cs h.claims.roll (length h.ledgers) (sym same) from
+      ∙ fills (λ (s : ConsumerView). s.seat.consumer) (λ s. Some s.seat.part) cs h.claims.roll
+      (length h.ledgers) (sym same) from
 
   pub run_table : after.cells.table ≡ h.cells.table
   run_table =

@@ -17,15 +17,20 @@ use Rattle.mb_mailbox.proofs.EndsMet.{none_met}
 use Rattle.mb_mailbox.proofs.Marks.{clear}
 
 module _ {G Z : Type 0} (may_stop may_pass : G → Who → ℕ → Type 0) (gate : G) where
-  pub put_kept : (j : PutJob Z) (b : PutBegun G Z) (d : PutDone Z) → PutPromises may_stop may_pass gate j b → PutKeeps may_stop may_pass b d
+  pub put_kept : (j : PutJob Z) (b : PutBegun G Z) (d : PutDone Z)
+      → PutPromises may_stop may_pass gate j b → PutKeeps may_stop may_pass b d
       → IsPutEnd (may_stop gate) (may_pass gate) j d
   put_kept j (put.Apart h) d p k =
-      subst (λ (g : G). IsPutEnd (may_stop g) (may_pass g) j d) p.1 (subst (λ (i : PutJob Z). IsPutEnd (may_stop h.promise.gate.value) (may_pass h.promise.gate.value) i d) p.0 k)
+      subst (λ (g : G). IsPutEnd (may_stop g) (may_pass g) j d) p.1
+      (subst (λ (i : PutJob Z). IsPutEnd (may_stop h.promise.gate.value)
+      (may_pass h.promise.gate.value) i d) p.0 k)
   put_kept j (put.Here e) d p k = subst (λ (e : PutDone Z). IsPutEnd (may_stop gate) (may_pass gate) j e) (sym k) p.0
 
 module _ {G R Z : Type 0} (may_stop may_pass : G → Who → ℕ → Type 0) (stream : R → Stream) (gate : G) where
-  pub poll_kept : (from end budget : ℕ) (j : PollJob R Z) (b : PollBegun G R Z) (d : PollDone Z) → PollPromises may_stop may_pass stream gate from end budget j b
-      → PollKeeps may_stop may_pass stream b d → IsPollEnd (may_stop gate) (may_pass gate) from end budget (stream j.rng) j.consumer d
+  pub poll_kept : (from end budget : ℕ) (j : PollJob R Z) (b : PollBegun G R Z) (d : PollDone Z)
+      → PollPromises may_stop may_pass stream gate from end budget j b
+      → PollKeeps may_stop may_pass stream b d → IsPollEnd (may_stop gate) (may_pass gate) from end
+      budget (stream j.rng) j.consumer d
   poll_kept from end budget j (poll.Apart h) d p k =
       let its = may_stop h.promise.gate.value in
       let lets = may_pass h.promise.gate.value in
@@ -38,10 +43,12 @@ module _ {G R Z : Type 0} (may_stop may_pass : G → Who → ℕ → Type 0) (st
       (subst (λ (n : ℕ). IsPollEnd its lets from n h.promise.budget (stream rng) one d) p.last
       (subst (λ (n : ℕ). IsPollEnd its lets n h.promise.end h.promise.budget (stream rng) one d) p.first k)))))
   poll_kept from end budget j (poll.Here e) d p k =
-      subst (λ (e : PollDone Z). IsPollEnd (may_stop gate) (may_pass gate) from end budget (stream j.rng) j.consumer e) (sym k) p.0
+      subst (λ (e : PollDone Z). IsPollEnd (may_stop gate) (may_pass gate) from end budget
+      (stream j.rng) j.consumer e) (sym k) p.0
 
 -- a consumer that was not run
-pub not_run : {Z : Type 0} (may_stop may_pass : Who → ℕ → Type 0) (from end budget : ℕ) (source : Stream) (s : ConsumerView) (d : PollDone Z) → d.consumer ≡ s
+pub not_run : {Z : Type 0} (may_stop may_pass : Who → ℕ → Type 0) (from end budget : ℕ)
+    (source : Stream) (s : ConsumerView) (d : PollDone Z) → d.consumer ≡ s
     → d.stopped ≡ true → d.off ≡ true → IsPollEnd may_stop may_pass from end budget source s d
 not_run may_stop may_pass from end budget source s d is stopped off = record {
   same = record {
@@ -65,8 +72,10 @@ not_run may_stop may_pass from end budget source s d is stopped off = record {
 }
 
 -- where the run is off, less is said of the end
-pub still_off : {Z : Type 0} (may_stop may_pass : Who → ℕ → Type 0) (from end budget : ℕ) (source : Stream) (s : ConsumerView) (d : PollDone Z)
-    → IsPollEnd may_stop may_pass from end budget source s d → IsPollEnd {Z = Z} may_stop may_pass from end budget source s (record d { off = true })
+pub still_off : {Z : Type 0} (may_stop may_pass : Who → ℕ → Type 0) (from end budget : ℕ)
+    (source : Stream) (s : ConsumerView) (d : PollDone Z)
+    → IsPollEnd may_stop may_pass from end budget source s d
+    → IsPollEnd {Z = Z} may_stop may_pass from end budget source s (record d { off = true })
 still_off may_stop may_pass from end budget source s d i = record {
   same = i.same;
   read = i.read;

@@ -3,7 +3,8 @@ use Rattle.std.proofs.Common.{◌≡◌, ◌≢◌, ◌⊎◌, ℕ, ◌+◌, ◌
 use Rattle.std.proofs.lemmas.List.{length-append, length-map, length-reverse}
 use Rattle.mb_cells.specs.Vocabulary.{HasLoaded, entry_at, put_list}
 use Rattle.mb_mailbox.specs.Laws.{Laws}
-use Rattle.mb_mailbox.specs.Below.{END, FollowsLinks, Gave, Has, HasRead, History, IsOnceEach, IsPoolLawful, Item, Link, PoolAccess, PoolSize, Reader, Word, cells_met, linked_cells, load, part, place_past}
+use Rattle.mb_mailbox.specs.Below.{END, FollowsLinks, Gave, Has, HasRead, History, IsOnceEach, IsPoolLawful, Item, Link, PoolAccess, PoolSize, Reader}
+use Rattle.mb_mailbox.specs.Below.{Word, cells_met, linked_cells, load, part, place_past}
 use Rattle.mb_mailbox.proofs.Totals.{put_total, total, total_most}
 
 -- what the laws give for the loads of a reader in a lawful history
@@ -26,7 +27,8 @@ loaded laws r v w h read =
 
 known_of : Laws → (size : PoolSize) (r : ℕ) (h : History) → IsPoolLawful size h → Known size (part (Reader r) h)
 known_of laws size r h lawful =
-    let on : (p k : ℕ) → Has (cells_met p (part (Reader r) h)) k → Has (linked_cells p h) k = λ p k has. laws.on_lane size r p k h lawful has in
+    let on : (p k : ℕ) → Has (cells_met p (part (Reader r) h)) k
+    → Has (linked_cells p h) k = λ p k has. laws.on_lane size r p k h lawful has in
     let met : (p : ℕ) → length (cells_met p (part (Reader r) h)) ≤ length (put_list p h) = λ p.
     let ks = cells_met p (part (Reader r) h) in
     let s = laws.start size h r p ks lawful (laws.met r p h) in
@@ -50,13 +52,15 @@ known_of laws size r h lawful =
       share =
           let all = laws.share size h lawful in
           let sum = put_total size.lanes h in
-          let most = total_most (λ p. length (cells_met p (part (Reader r) h))) (λ p. length (put_list p h)) size.lanes met in
+          let most = total_most (λ p. length (cells_met p (part (Reader r) h)))
+          (λ p. length (put_list p h)) size.lanes met in
           omega (arith, all, sum, most);
       link = λ k v read. laws.link size h r k v lawful (loaded laws r v (Link k) h read);
       item = λ k v read. laws.item size h r k v lawful (loaded laws r v (Item k) h read);
     }
 
-pub known : Laws → (size : PoolSize) (r : ℕ) (h reads : History) → IsPoolLawful size h → part (Reader r) h ≡ reads → Known size reads
+pub known : Laws → (size : PoolSize) (r : ℕ) (h reads : History) → IsPoolLawful size h
+    → part (Reader r) h ≡ reads → Known size reads
 known laws size r h reads lawful is = subst (Known size) is (known_of laws size r h lawful)
 
 -- the link behind cells is no item, and if it is the link of a cell, the cell is the last of these
@@ -69,7 +73,8 @@ past_link p k [] e = absurd (cc)
 past_link p k (j ∷ ks) e = let same : j ≡ k = cc in inl same
 
 -- lanes have other links behind their cells
-pub past_apart : (p q : ℕ) (ks js : List ℕ) → ((k : ℕ) → Has ks k → Has js k → p ≡ q) → p ≢ q → place_past p ks ≡ place_past q js → ⊥
+pub past_apart : (p q : ℕ) (ks js : List ℕ) → ((k : ℕ) → Has ks k → Has js k → p ≡ q) → p ≢ q
+    → place_past p ks ≡ place_past q js → ⊥
 past_apart p q [] [] one ne e = ne (cc)
 past_apart p q [] (j ∷ js) one ne e = absurd (cc)
 past_apart p q (k ∷ ks) [] one ne e = absurd (cc)

@@ -60,7 +60,8 @@ on_end q (y ∷ ys) x = by (nat_eq q (lane_of y)) (on_end q ys x)
     by true rest = ap (λ zs. note_in y ∷ zs) rest
     by false rest = rest
 
-on_here : (q : ℕ) (xs : List Noted) (x : Noted) → lane_of x ≡ q → on_lane q (xs ++ x ∷ []) ≡ on_lane q xs ++ note_in x ∷ []
+on_here : (q : ℕ) (xs : List Noted) (x : Noted) → lane_of x ≡ q → on_lane q (xs ++ x ∷ [])
+    ≡ on_lane q xs ++ note_in x ∷ []
 on_here q xs x e =
     on_end q xs x
     ∙ ap (λ b. on_lane q xs ++ (if b then note_in x ∷ [] else [])) (eq-eqb q (lane_of x) (sym e))
@@ -87,10 +88,12 @@ on_more p (suc n) (suc q) xs x e =
     let other : lane_of x ≡ p → ⊥ = λ f. omega (arith, e, f) in
     λ i. on_other p xs x other i ∷ on_more (suc p) n q xs x (omega (arith, e)) i
 
-pub cut_more : (n : ℕ) (xs : List Noted) (x : Noted) → by_lane n (xs ++ x ∷ []) ≡ with_note (lane_of x) (Some (note_in x)) (by_lane n xs)
+pub cut_more : (n : ℕ) (xs : List Noted) (x : Noted) → by_lane n (xs ++ x ∷ [])
+    ≡ with_note (lane_of x) (Some (note_in x)) (by_lane n xs)
 cut_more n xs x = on_more 0 n (lane_of x) xs x (omega arith)
 
-pub noted_more : (n p : ℕ) (note : Note) (xs : List Noted) → by_lane n (xs ++ noted p note ∷ []) ≡ with_note p (Some note) (by_lane n xs)
+pub noted_more : (n p : ℕ) (note : Note) (xs : List Noted) → by_lane n (xs ++ noted p note ∷ [])
+    ≡ with_note p (Some note) (by_lane n xs)
 noted_more n p note xs =
     cut_more n xs (noted p note)
     ∙ (λ i. with_note (lane_noted p note i) (Some (note_noted p note i)) (by_lane n xs))
@@ -126,7 +129,8 @@ grown lanes p note x xs ys e f =
     ap (by_lane lanes) (e ∙ ap (λ (z : Noted). xs ++ z ∷ []) f) ∙ noted_more lanes p note xs
 
 pub counted_on : (lanes p : ℕ) (note : Note) (x : Noted) (xs ys : List Noted) → ys ≡ xs ++ x ∷ [] → x ≡ noted p note
-    → p < length (by_lane lanes xs) → length xs ≡ sum_by length (by_lane lanes xs) → length ys ≡ sum_by length (by_lane lanes ys)
+    → p < length (by_lane lanes xs) → length xs ≡ sum_by length (by_lane lanes xs) → length ys
+    ≡ sum_by length (by_lane lanes ys)
 counted_on lanes p note x xs ys e f low is =
     let more = sum_more (by_lane lanes xs) p note low in
     let new = ap (sum_by length) (grown lanes p note x xs ys e f) in
@@ -143,14 +147,16 @@ none_from p (suc n) [] e each = absurd (omega (arith, e))
 none_from p (suc n) (v ∷ vs) e each = λ i.
     each 0 v refl i ∷ none_from (suc p) n vs (omega (arith, e)) (λ q w f. each (suc q) w f) i
 
-pub none_cut : {Z : Type 0} (n : ℕ) (vs : List (Vec Note Z)) → AreEmptyLists n vs → map (λ (v : Vec Note Z). v.items) vs ≡ by_lane n []
+pub none_cut : {Z : Type 0} (n : ℕ) (vs : List (Vec Note Z)) → AreEmptyLists n vs
+    → map (λ (v : Vec Note Z). v.items) vs ≡ by_lane n []
 none_cut n vs none = none_from 0 n vs none.count none.empty
 
 -- the list of a lane
 on_own : {Z : Type 0} (vs : List (Vec Note Z)) (p : ℕ) (v : Vec Note Z) → slice_get vs p ≡ Some v
     → notes_on p (map (λ (v : Vec Note Z). v.items) vs) ≡ v.items
 on_own {Z} vs p v e =
-    ap (λ (o : Option (List Note)). option_map_or (λ (l : List Note). l) o []) (map_get (λ (v : Vec Note Z). v.items) vs p v e)
+    ap (λ (o : Option (List Note)). option_map_or (λ (l : List Note). l) o [])
+    (map_get (λ (v : Vec Note Z). v.items) vs p v e)
 
 -- a note goes to the list of its lane
 pub filed_on : {Z : Type 0} (vs : List (Vec Note Z)) (p : ℕ) (n : Note) (v w : Vec Note Z) → slice_get vs p ≡ Some v
@@ -164,11 +170,13 @@ filed_on {Z} vs p n v w e put =
 pub filed_past : {Z : Type 0} (vs : List (Vec Note Z)) (p : ℕ) (n : Note) → length vs ≤ p
     → map (λ (v : Vec Note Z). v.items) vs ≡ with_note p (Some n) (map (λ (v : Vec Note Z). v.items) vs)
 filed_past {Z} vs p n past =
-    let count : length (map (λ (v : Vec Note Z). v.items) vs) ≡ length vs = length-map vs (λ (v : Vec Note Z). v.items) in
+    let count : length (map (λ (v : Vec Note Z). v.items) vs)
+    ≡ length vs = length-map vs (λ (v : Vec Note Z). v.items) in
     sym (note_past p n (map (λ (v : Vec Note Z). v.items) vs) (omega (arith, count, past)))
 
 pub cut_next : (lanes i : ℕ) (xs : List Noted) (d : Noted) → i < length xs
-    → with_note (lane_of (get_or xs i d)) (Some (note_in (get_or xs i d))) (by_lane lanes (take i xs)) ≡ by_lane lanes (take (i + 1) xs)
+    → with_note (lane_of (get_or xs i d)) (Some (note_in (get_or xs i d)))
+    (by_lane lanes (take i xs)) ≡ by_lane lanes (take (i + 1) xs)
 cut_next lanes i xs d low =
     sym (cut_more lanes (take i xs) (get_or xs i d)) ∙ ap (by_lane lanes) (sym (take_more xs i d low))
 
@@ -181,7 +189,8 @@ set_else (x ∷ xs) (suc i) zero a ne = refl
 set_else (x ∷ xs) (suc i) (suc k) a ne = set_else xs i k a (λ e. ne (ap suc e))
 
 pub own_else : {Z : Type 0} (vs : List (Vec Note Z)) (p q : ℕ) (w : Vec Note Z) → q ≢ p
-    → notes_on q (map (λ (v : Vec Note Z). v.items) (slice_set vs p w)) ≡ notes_on q (map (λ (v : Vec Note Z). v.items) vs)
+    → notes_on q (map (λ (v : Vec Note Z). v.items) (slice_set vs p w))
+    ≡ notes_on q (map (λ (v : Vec Note Z). v.items) vs)
 own_else {Z} vs p q w ne =
     ap (λ (ls : List (List Note)). notes_on q ls) (map_set (λ (v : Vec Note Z). v.items) vs p w)
     ∙ ap (λ (o : Option (List Note)). option_map_or (λ (l : List Note). l) o [])
@@ -192,8 +201,10 @@ get_past [] p e = refl
 get_past (x ∷ xs) zero e = absurd (omega (arith, e))
 get_past (x ∷ xs) (suc p) e = get_past xs p (omega (arith, e))
 
-pub own_past : {Z : Type 0} (vs : List (Vec Note Z)) (p : ℕ) → length vs ≤ p → notes_on p (map (λ (v : Vec Note Z). v.items) vs) ≡ []
+pub own_past : {Z : Type 0} (vs : List (Vec Note Z)) (p : ℕ) → length vs ≤ p
+    → notes_on p (map (λ (v : Vec Note Z). v.items) vs) ≡ []
 own_past {Z} vs p past =
-    let count : length (map (λ (v : Vec Note Z). v.items) vs) ≡ length vs = length-map vs (λ (v : Vec Note Z). v.items) in
+    let count : length (map (λ (v : Vec Note Z). v.items) vs)
+    ≡ length vs = length-map vs (λ (v : Vec Note Z). v.items) in
     ap (λ (o : Option (List Note)). option_map_or (λ (l : List Note). l) o [])
     (get_past (map (λ (v : Vec Note Z). v.items) vs) p (omega (arith, count, past)))

@@ -13,7 +13,8 @@ use Rattle.mb_mailbox.specs.Hubs.{HubView}
 use Rattle.mb_mailbox.proofs.Turned.{get_end, get_left}
 
 -- ---- what is missing
-count_end : {X : Type 0} (xs : List (Option X)) (x : Option X) → count_missing (xs ++ x ∷ []) ≡ count_missing xs + count_missing (x ∷ [])
+count_end : {X : Type 0} (xs : List (Option X)) (x : Option X) → count_missing (xs ++ x ∷ [])
+    ≡ count_missing xs + count_missing (x ∷ [])
 count_end [] x = omega arith
 count_end (Some y ∷ xs) x = count_end xs x
 count_end (None ∷ xs) x = omega (arith, count_end xs x)
@@ -25,13 +26,16 @@ count_more xs i x low is =
     ∙ ap (λ y. count_missing (take i xs) + count_missing (y ∷ [])) (sym is)
 
 -- ---- items at chosen positions
-chosen_end : (f : ℕ → Bool) (xs : List ℕ) (x : ℕ) → items_where f (xs ++ x ∷ []) ≡ items_where f xs ++ (if f (length xs) then x ∷ [] else [])
+chosen_end : (f : ℕ → Bool) (xs : List ℕ) (x : ℕ) → items_where f (xs ++ x ∷ []) ≡ items_where f xs
+    ++ (if f (length xs) then x ∷ [] else [])
 chosen_end f [] x = refl
 chosen_end f (y ∷ xs) x = by (f 0) (chosen_end (λ j. f (suc j)) xs x)
   where
-    by : (b : Bool) → items_where (λ j. f (suc j)) (xs ++ x ∷ []) ≡ items_where (λ j. f (suc j)) xs ++ (if f (suc (length xs)) then x ∷ [] else [])
+    by : (b : Bool) → items_where (λ j. f (suc j)) (xs ++ x ∷ []) ≡ items_where (λ j. f (suc j)) xs
+        ++ (if f (suc (length xs)) then x ∷ [] else [])
         → (if b then y ∷ items_where (λ j. f (suc j)) (xs ++ x ∷ []) else items_where (λ j. f (suc j)) (xs ++ x ∷ []))
-        ≡ (if b then y ∷ items_where (λ j. f (suc j)) xs else items_where (λ j. f (suc j)) xs) ++ (if f (suc (length xs)) then x ∷ [] else [])
+        ≡ (if b then y ∷ items_where (λ j. f (suc j)) xs else items_where (λ j. f (suc j)) xs)
+        ++ (if f (suc (length xs)) then x ∷ [] else [])
     by true rest = ap (λ zs. y ∷ zs) rest
     by false rest = rest
 
@@ -41,15 +45,18 @@ chosen_more f xs left i low old =
     sym (ap (items_where f) (take_more xs i 0 low) ∙ chosen_end f (take i xs) (get_or xs i 0)
     ∙ (λ j. sym old j ++ (if f (length-take-le i xs (omega arith) j) then get_or xs i 0 ∷ [] else [])))
 
-pub chosen_one : (f : ℕ → Bool) (xs left : List ℕ) (i : ℕ) → i < length xs → left ≡ items_where f (take i xs) → f i ≡ true
+pub chosen_one : (f : ℕ → Bool) (xs left : List ℕ) (i : ℕ) → i < length xs → left
+    ≡ items_where f (take i xs) → f i ≡ true
     → left ++ get_or xs i 0 ∷ [] ≡ items_where f (take (i + 1) xs)
 chosen_one f xs left i low old e =
     ap (λ b. left ++ (if b then get_or xs i 0 ∷ [] else [])) (sym e) ∙ chosen_more f xs left i low old
 
-pub chosen_none : (f : ℕ → Bool) (xs left : List ℕ) (i : ℕ) → i < length xs → left ≡ items_where f (take i xs) → f i ≡ false
+pub chosen_none : (f : ℕ → Bool) (xs left : List ℕ) (i : ℕ) → i < length xs → left
+    ≡ items_where f (take i xs) → f i ≡ false
     → left ≡ items_where f (take (i + 1) xs)
 chosen_none f xs left i low old e =
-    sym (append-nil left) ∙ ap (λ b. left ++ (if b then get_or xs i 0 ∷ [] else [])) (sym e) ∙ chosen_more f xs left i low old
+    sym (append-nil left) ∙ ap (λ b. left ++ (if b then get_or xs i 0 ∷ [] else [])) (sym e)
+    ∙ chosen_more f xs left i low old
 
 -- ---- a consumer that took it
 pub any_below_some : (n c : ℕ) (test : ℕ → Bool) → c < n → test c ≡ true → any_below n test ≡ true

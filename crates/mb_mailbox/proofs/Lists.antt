@@ -29,7 +29,8 @@ set_twice [] i a b = refl
 set_twice (x ∷ xs) zero a b = refl
 set_twice (x ∷ xs) (suc i) a b = ap (λ ys. x ∷ ys) (set_twice xs i a b)
 
-pub set_here : {X : Type 0} (xs : List X) (i : ℕ) (a b : X) → slice_get xs i ≡ Some b → slice_get (slice_set xs i a) i ≡ Some a
+pub set_here : {X : Type 0} (xs : List X) (i : ℕ) (a b : X) → slice_get xs i ≡ Some b
+    → slice_get (slice_set xs i a) i ≡ Some a
 set_here [] i a b e = absurd (cc)
 set_here (x ∷ xs) zero a b e = refl
 set_here (x ∷ xs) (suc i) a b e = set_here xs i a b e

@@ -1,6 +1,7 @@
 -- A poll loads the head of no other lane.
 use Rattle.std.proofs.Common.{◌≡◌, ◌⊎◌, ⊎_elim, ℕ, ◌+◌, ◌<◌, ◌≤◌, List, [], ◌∷◌, ◌++◌, Option, Some, None, inl, inr, length, sym, ap, ◌∙◌, subst, arith}
-use Rattle.mb_mailbox.specs.Below.{Claims, Has, Head, History, Item, Parts, PoolAccess, ReaderSeatView, Stream, ToCells, ToClaims, Word, WorldAccess, WorldHistory, cells_met, place_past, pool_accesses}
+use Rattle.mb_mailbox.specs.Below.{Claims, Has, Head, History, Item, Parts, PoolAccess, ReaderSeatView, Stream, ToCells, ToClaims, Word, WorldAccess}
+use Rattle.mb_mailbox.specs.Below.{WorldHistory, cells_met, place_past, pool_accesses}
 use Rattle.mb_mailbox.specs.ConsumerStep.{ConsumerStep, competes, looks, takes}
 use Rattle.mb_mailbox.specs.Consumers.{ConsumerView}
 use Rattle.mb_mailbox.specs.Jobs.{IsOnLanes, accesses_made}
@@ -16,23 +17,27 @@ past_head : (p q : ℕ) (ks : List ℕ) → place_past p ks ≡ Head q → q ≡
 past_head p q [] e = cc
 past_head p q (k ∷ ks) e = absurd (cc)
 
-step_on : (cs : Claims) (c p : ℕ) (x : Parts) (b : PoolAccess) (answer : Option Poll) (q : ℕ) → ConsumerStep cs c p x (ToCells b) answer
+step_on : (cs : Claims) (c p : ℕ) (x : Parts) (b : PoolAccess) (answer : Option Poll) (q : ℕ)
+    → ConsumerStep cs c p x (ToCells b) answer
     → b.word ≡ Head q → q ≡ p
 step_on cs c p x b answer q (looks v past e told) w =
     let same : Some b.word ≡ Some (place_past p (cells_met p x.reads)) = ap word_in e in
     let word : b.word ≡ place_past p (cells_met p x.reads) = cc in
     past_head p q (cells_met p x.reads) (sym word ∙ w)
-step_on cs c p x b answer q (competes k t now last going after e told) w = let same : Some b.word ≡ None = ap word_in e in absurd (cc)
+step_on cs c p x b answer q (competes k t now last going after e told) w = let same : Some b.word
+    ≡ None = ap word_in e in absurd (cc)
 step_on cs c p x b answer q (takes k v last won e told) w =
     let same : Some b.word ≡ Some (Item k) = ap word_in e in
     let word : b.word ≡ Item k = cc in
     let no : Item k ≡ Head q = sym word ∙ w in
     absurd (cc)
 
-on_lane : (p : ℕ) (answer : Option Poll) (done : WorldHistory) (s : ConsumerView) (a : PoolAccess) (q : ℕ) → LeadTo p answer done s
+on_lane : (p : ℕ) (answer : Option Poll) (done : WorldHistory) (s : ConsumerView) (a : PoolAccess)
+    (q : ℕ) → LeadTo p answer done s
     → Has (pool_accesses done) a → a.word ≡ Head q → q ≡ p
 on_lane p answer [] s a q lead has w = absurd has
-on_lane p answer (ToCells b ∷ older) s a q lead (inl is) w = step_on _ _ p _ b answer q lead.0 (ap (λ (y : PoolAccess). y.word) is ∙ w)
+on_lane p answer (ToCells b ∷ older) s a q lead (inl is) w = step_on _ _ p _ b answer q lead.0
+    (ap (λ (y : PoolAccess). y.word) is ∙ w)
 on_lane p answer (ToCells b ∷ older) s a q lead (inr has) w = on_lane p None older s a q lead.1 has w
 on_lane p answer (ToClaims b ∷ older) s a q lead has w = on_lane p None older s a q lead.1 has w
 
@@ -41,13 +46,16 @@ had [] ys a h = inr h
 had (x ∷ xs) ys a (inl is) = inl (inl is)
 had (x ∷ xs) ys a (inr h) = ⊎_elim (λ (t : Has xs a). inl (inr t)) (λ (t : Has ys a). inr t) (had xs ys a h)
 
-pub only_by : (p budget : ℕ) (answer : Poll) (s t : Stream) (old new : ConsumerView) → IsPollOf p budget answer s t old new
+pub only_by : (p budget : ℕ) (answer : Poll) (s t : Stream) (old new : ConsumerView)
+    → IsPollOf p budget answer s t old new
     → (from end : ℕ) → from ≤ p → p < end → IsOnLanes from end old.reader.part → IsOnLanes from end new.reader.part
 only_by p budget answer s t old new i from end low high was a q has w =
-    let there : Has (pool_accesses i.accesses ++ old.reader.part) a = subst (λ (r : ReaderSeatView). Has r.part a) i.done.reader has in
+    let there : Has (pool_accesses i.accesses ++ old.reader.part) a =
+    subst (λ (r : ReaderSeatView). Has r.part a) i.done.reader has in
     ⊎_elim
     (λ (t : Has (pool_accesses i.accesses) a).
-    let same = on_lane p (outcome answer) i.accesses old a q i.lead t w in (omega (arith, same, low), omega (arith, same, high)))
+    let same = on_lane p (outcome answer) i.accesses old a q i.lead t w
+    in (omega (arith, same, low), omega (arith, same, high)))
     (λ (t : Has old.reader.part a). was a q t w)
     (had (pool_accesses i.accesses) old.reader.part a there)
 

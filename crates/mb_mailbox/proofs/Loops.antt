@@ -17,12 +17,15 @@ use Rattle.mb_mailbox.proofs.HubRuns.{taken_consumers_snoc, taken_producers_snoc
 
 -- ---- jobs
 module _ {Z : Type 0} (m : MailboxView) where
-  pub put_jobs_more : (p n : ℕ) (vs : List (Vec ℕ Z)) (js : List (PutJob Z)) (v : Vec ℕ Z) (j : PutJob Z) → ArePutJobs m p vs js
+  pub put_jobs_more : (p n : ℕ) (vs : List (Vec ℕ Z)) (js : List (PutJob Z)) (v : Vec ℕ Z)
+      (j : PutJob Z) → ArePutJobs m p vs js
       → n ≡ p + length js → j.producer ≡ new_producer m n → j.list ≡ v → ArePutJobs m p (vs ++ v ∷ []) (js ++ j ∷ [])
-  put_jobs_more p n [] [] v j a e is list = (subst (λ (k : ℕ). j.producer ≡ new_producer m k) (omega (arith, e)) is, list, tt)
+  put_jobs_more p n [] [] v j a e is list =
+      (subst (λ (k : ℕ). j.producer ≡ new_producer m k) (omega (arith, e)) is, list, tt)
   put_jobs_more p n [] (i ∷ is) v j a e is' list = absurd a
   put_jobs_more p n (w ∷ ws) [] v j a e is list = absurd a
-  put_jobs_more p n (w ∷ ws) (i ∷ js) v j a e is list = (a.0, a.1, put_jobs_more (suc p) n ws js v j a.2 (omega (arith, e)) is list)
+  put_jobs_more p n (w ∷ ws) (i ∷ js) v j a e is list =
+      (a.0, a.1, put_jobs_more (suc p) n ws js v j a.2 (omega (arith, e)) is list)
 
   pub poll_jobs_more : {R : Type 0} (c n : ℕ) (js : List (PollJob R Z)) (j : PollJob R Z) → ArePollJobs m c js
       → n ≡ c + length js → HasNumber m n j.consumer → ArePollJobs m c (js ++ j ∷ [])
@@ -30,7 +33,8 @@ module _ {Z : Type 0} (m : MailboxView) where
   poll_jobs_more c n (i ∷ js) j a e has = (a.0, poll_jobs_more (suc c) n js j a.1 (omega (arith, e)) has)
 
 -- a new consumer has the next number
-pub new_number : (m : MailboxView) (h : HubView) (s : ConsumerView) → IsNewConsumer m h s → HasNumber m (length h.ledgers) s
+pub new_number : (m : MailboxView) (h : HubView) (s : ConsumerView) → IsNewConsumer m h s
+    → HasNumber m (length h.ledgers) s
 new_number m h s i = record {
   cells = ap (λ r. r.table) i.reader;
   reader = ap (λ r. r.reader) i.reader;
@@ -41,14 +45,16 @@ new_number m h s i = record {
 
 -- ---- what is taken in
 module _ {X : Type 0} (f : X → ProducerView) (h : HubView) where
-  pub took_producer_more : (xs : List X) (x : X) (was now : HubView) → was ≡ with_taken_producers (map f xs) h → now ≡ with_taken_producer (f x) was
+  pub took_producer_more : (xs : List X) (x : X) (was now : HubView) → was
+      ≡ with_taken_producers (map f xs) h → now ≡ with_taken_producer (f x) was
       → now ≡ with_taken_producers (map f (xs ++ x ∷ [])) h
   took_producer_more xs x was now e is =
       is ∙ ap (with_taken_producer (f x)) e ∙ sym (taken_producers_snoc (map f xs) (f x) h)
       ∙ ap (λ (l : List ProducerView). with_taken_producers l h) (sym (map-append f xs (x ∷ [])))
 
 module _ {X : Type 0} (f : X → ConsumerView) (h : HubView) where
-  pub took_consumer_more : (xs : List X) (x : X) (was now : HubView) → was ≡ with_taken_consumers (map f xs) h → now ≡ with_taken_consumer (f x) was
+  pub took_consumer_more : (xs : List X) (x : X) (was now : HubView) → was
+      ≡ with_taken_consumers (map f xs) h → now ≡ with_taken_consumer (f x) was
       → now ≡ with_taken_consumers (map f (xs ++ x ∷ [])) h
   took_consumer_more xs x was now e is =
       is ∙ ap (with_taken_consumer (f x)) e ∙ sym (taken_consumers_snoc (map f xs) (f x) h)
@@ -71,13 +77,15 @@ budget_more budget call base old new first was step =
     omega (arith, was, step, more)
 
 -- ---- whether the run is off
-on_yet : {X : Type 0} (f : X → Bool) (was off : Bool) (xs : List X) (x : X) → (was ≡ false → All (λ x. f x ≡ false) xs) → f x ≡ off
+on_yet : {X : Type 0} (f : X → Bool) (was off : Bool) (xs : List X) (x : X)
+    → (was ≡ false → All (λ x. f x ≡ false) xs) → f x ≡ off
     → (was || off) ≡ false → All (λ x. f x ≡ false) (xs ++ x ∷ [])
 on_yet f true off xs x e is h = absurd (cc)
 on_yet f false true xs x e is h = absurd (cc)
 on_yet f false false xs x e is h = All-push (λ x. f x ≡ false) xs x (e refl) is
 
-pub on_more : {X : Type 0} (f : X → Bool) (was now : Bool) (xs : List X) (x : X) → (was ≡ false → All (λ x. f x ≡ false) xs)
+pub on_more : {X : Type 0} (f : X → Bool) (was now : Bool) (xs : List X) (x : X)
+    → (was ≡ false → All (λ x. f x ≡ false) xs)
     → now ≡ (was || f x) → now ≡ false → All (λ x. f x ≡ false) (xs ++ x ∷ [])
 on_more f was now xs x e is h = on_yet f was (f x) xs x e refl (sym is ∙ h)
 
@@ -88,12 +96,14 @@ some_seen xs x = let all = length-append xs (x ∷ []) in omega (arith, all)
 all_but_last : {X : Type 0} (P : X → Type 0) (xs : List X) (x : X) → All P (xs ++ x ∷ []) → All P xs × P x
 all_but_last P [] x a = (λ k d low. absurd (omega (arith, low)), All-head P x [] a)
 all_but_last P (y ∷ ys) x a =
-    let rest = all_but_last P ys x (All-tail P y (ys ++ x ∷ []) a) in (All-cons P y ys (All-head P y (ys ++ x ∷ []) a) rest.0, rest.1)
+    let rest = all_but_last P ys x (All-tail P y (ys ++ x ∷ []) a)
+    in (All-cons P y ys (All-head P y (ys ++ x ∷ []) a) rest.0, rest.1)
 
 neither : (was off now : Bool) → now ≡ (was || off) → was ≡ false → off ≡ false → now ≡ false
 neither was off now is a b = is ∙ (λ i. a i || b i)
 
-pub told_more : {X : Type 0} (f : X → Bool) (was now : Bool) (xs : List X) (x : X) → (All (λ x. f x ≡ false) xs → was ≡ false)
+pub told_more : {X : Type 0} (f : X → Bool) (was now : Bool) (xs : List X) (x : X)
+    → (All (λ x. f x ≡ false) xs → was ≡ false)
     → now ≡ (was || f x) → All (λ x. f x ≡ false) (xs ++ x ∷ []) → now ≡ false
 told_more f was now xs x e is all =
     let each = all_but_last (λ x. f x ≡ false) xs x all in neither was (f x) now is (e each.0) each.1

@@ -4,7 +4,8 @@ use Rattle.std.specs.Prelude.{Option, Some, None, slice_set}
 use Rattle.mb_claim.specs.declared.access.Stage.TheVariants as stage
 use Rattle.mb_cells.specs.declared.answer.Look.{Look}
 use Rattle.mb_shared_cells.specs.Vocabulary.{ItemMakes, LookMakes}
-use Rattle.mb_mailbox.specs.Below.{CellsName, ClaimAccess, ClaimTable, Cursor, History, Item, Look, Note, ReaderSeatView, SeatView, Stage, Stream, ToCells, ToClaims, Took, claims_at, load, look_of, next_u64, note_of, with_access, word_of}
+use Rattle.mb_mailbox.specs.Below.{CellsName, ClaimAccess, ClaimTable, Cursor, History, Item, Look, Note, ReaderSeatView, SeatView, Stage, Stream}
+use Rattle.mb_mailbox.specs.Below.{ToCells, ToClaims, Took, claims_at, load, look_of, next_u64, note_of, with_access, word_of}
 use Rattle.mb_mailbox.specs.declared.consumer.Poll.{Poll}
 use Rattle.mb_mailbox.specs.declared.consumer.Poll.TheVariants as poll
 use Rattle.mb_mailbox.specs.Consumers.{ConsumerView, IsConsumerOf, parts_of}
@@ -21,7 +22,9 @@ abbrev pub at_views : ReaderSeatView → SeatView → List Place → List (List 
 at_views reader seat places notes = record { reader = reader; seat = seat; places = places; notes = notes }
 
 -- what holds of the one that moved
-pub moved_has : (P : ConsumerView → Type 0) → (s : ConsumerView) (p : ℕ) (place : Place) (o : Option Note) (reads : History) (made : List ClaimAccess)
+pub moved_has : (P : ConsumerView → Type 0)
+    → (s : ConsumerView) (p : ℕ) (place : Place) (o : Option Note) (reads : History)
+    (made : List ClaimAccess)
     (reader : ReaderSeatView) (seat : SeatView) (places : List Place) (notes : List (List Note))
     → P (moved_to p place o reads made s)
     → reader ≡ record s.reader { part = reads } → seat ≡ record s.seat { part = made }
@@ -31,9 +34,11 @@ moved_has P s p place o reads made reader seat places notes done e f g h =
     subst P (λ i. at_views (sym e i) (sym f i) (sym g i) (sym h i)) done
 
 -- ---- looks
-pub look_made : (s old : ConsumerView) (p : ℕ) (at : Cursor) (reader : ReaderSeatView) (places : List Place) (l : Look) (answer : Option Poll)
+pub look_made : (s old : ConsumerView) (p : ℕ) (at : Cursor) (reader : ReaderSeatView)
+    (places : List Place) (l : Look) (answer : Option Poll)
     → s ≡ old → LookMakes s.reader at l reader → answer ≡ link_answer l → note_with answer ≡ None
-    → ((v : ℕ) → ConsumerStep (claims_at s.seat.table) s.seat.consumer p (parts_of s.reader s.seat) (ToCells (load s.reader.reader (word_of at) v)) (link_answer (look_of v)))
+    → ((v : ℕ) → ConsumerStep (claims_at s.seat.table) s.seat.consumer p (parts_of s.reader s.seat)
+    (ToCells (load s.reader.reader (word_of at) v)) (link_answer (look_of v)))
     → (t : Stream) → IsStep p answer t t old (at_views reader s.seat places s.notes)
 look_made s old p at reader places l answer is m e quiet next t =
     subst (λ o. IsStep p answer t t o (at_views reader s.seat places s.notes)) is
@@ -41,7 +46,8 @@ look_made s old p at reader places l answer is m e quiet next t =
       access = ToCells (load s.reader.reader (word_of at) m.0);
       done = record { reader = m.2.1; seat = refl; notes = sym (ap (λ o. with_note p o s.notes) quiet) };
       leads = (
-        subst (λ o. ConsumerStep (claims_at s.seat.table) s.seat.consumer p (parts_of s.reader s.seat) (ToCells (load s.reader.reader (word_of at) m.0)) o)
+        subst (λ o. ConsumerStep (claims_at s.seat.table) s.seat.consumer p
+            (parts_of s.reader s.seat) (ToCells (load s.reader.reader (word_of at) m.0)) o)
             (sym (e ∙ ap link_answer m.1)) (next m.0),
         refl,
       );
@@ -49,9 +55,11 @@ look_made s old p at reader places l answer is m e quiet next t =
     })
 
 -- ---- items
-pub item_made : (s old : ConsumerView) (p k v : ℕ) (reader : ReaderSeatView) (places : List Place) (notes : List (List Note))
+pub item_made : (s old : ConsumerView) (p k v : ℕ) (reader : ReaderSeatView) (places : List Place)
+    (notes : List (List Note))
     → s ≡ old → ItemMakes s.reader k v reader → notes ≡ with_note p (Some (Took v)) s.notes
-    → ConsumerStep (claims_at s.seat.table) s.seat.consumer p (parts_of s.reader s.seat) (ToCells (load s.reader.reader (Item k) v)) (Some (poll.Took v))
+    → ConsumerStep (claims_at s.seat.table) s.seat.consumer p (parts_of s.reader s.seat)
+    (ToCells (load s.reader.reader (Item k) v)) (Some (poll.Took v))
     → (t : Stream) → IsStep p (Some (poll.Took v)) t t old (at_views reader s.seat places notes)
 item_made s old p k v reader places notes is m put next t =
     subst (λ o. IsStep p (Some (poll.Took v)) t t o (at_views reader s.seat places notes)) is
@@ -69,7 +77,8 @@ note_of_answer stage.Won = refl
 note_of_answer (stage.Lost w) = refl
 note_of_answer stage.Undecided = refl
 
-pub claim_made : (s old : ConsumerView) (p word : ℕ) (a : ClaimAccess) (st : Stage) (seat : SeatView) (places : List Place)
+pub claim_made : (s old : ConsumerView) (p word : ℕ) (a : ClaimAccess) (st : Stage)
+    (seat : SeatView) (places : List Place)
     (notes : List (List Note)) (answer : Option Poll) → s ≡ old → seat ≡ with_access a s.seat → a.step.turn.word ≡ word
     → answer ≡ stage_answer st → notes ≡ with_note p (note_of st) s.notes
     → ConsumerStep (claims_at s.seat.table) s.seat.consumer p (parts_of s.reader s.seat) (ToClaims a) (stage_answer st)
@@ -79,9 +88,15 @@ claim_made s old p word a st seat places notes answer is made drawn_word tells p
     subst (λ o. IsStep p answer t u o (at_views s.reader seat places notes)) is
     (record {
       access = ToClaims a;
-      done = record { reader = refl; seat = made; notes = put ∙ ap (λ o. with_note p o s.notes) (sym (note_of_answer st) ∙ ap note_with (sym tells)) };
+      done = record {
+        reader = refl;
+        seat = made;
+        notes = put ∙ ap (λ o. with_note p o s.notes)
+            (sym (note_of_answer st) ∙ ap note_with (sym tells));
+      };
       leads = (
-        subst (λ o. ConsumerStep (claims_at s.seat.table) s.seat.consumer p (parts_of s.reader s.seat) (ToClaims a) o) (sym tells) next,
+        subst (λ o. ConsumerStep (claims_at s.seat.table) s.seat.consumer p
+            (parts_of s.reader s.seat) (ToClaims a) o) (sym tells) next,
         refl,
       );
       drawn = (t, refl, subst (λ w. (w, u) ≡ next_u64 t) (sym drawn_word) drawn);
@@ -89,7 +104,8 @@ claim_made s old p word a st seat places notes answer is made drawn_word tells p
 
 -- ---- the notes
 -- there is as much room as before
-pub room_stays : (p cells : ℕ) (o : Option Note) (old new : NotesView) → NotesGrow p o old new → HasAllRoom cells old → HasAllRoom cells new
+pub room_stays : (p cells : ℕ) (o : Option Note) (old new : NotesView) → NotesGrow p o old new
+    → HasAllRoom cells old → HasAllRoom cells new
 room_stays p cells o old new g wide = let same = g.room in omega (arith, same, wide)
 
 -- ---- a consumer of the mailbox
@@ -97,5 +113,6 @@ pub claims_size : (m : MailboxView) (s now : ConsumerView) → s ≡ now → IsC
     → s.seat.table.size ≡ Some (record { layout = m.claims.layout; cells = m.claims.cells })
 claims_size m s now is of = ap (λ (v : ConsumerView). v.seat.table.size) is ∙ ap (λ (t : ClaimTable). t.size) of.claims
 
-pub cells_size : (m : MailboxView) (s now : ConsumerView) → s ≡ now → IsConsumerOf m now → s.reader.table.size ≡ m.cells.size
+pub cells_size : (m : MailboxView) (s now : ConsumerView) → s ≡ now → IsConsumerOf m now
+    → s.reader.table.size ≡ m.cells.size
 cells_size m s now is of = ap (λ (v : ConsumerView). v.reader.table.size) is ∙ ap (λ (t : CellsName). t.size) of.cells

@@ -5,14 +5,16 @@ use Rattle.std.specs.Prelude.{slice_index_or}
 use Rattle.mb_mailbox.specs.Jobs.{count_marks}
 
 -- a place that is marked after one more mark is that one, or was marked
-pub marked : (xs : List Bool) (k p : ℕ) → slice_index_or (slice_set xs k true) p false ≡ true → (p ≡ k) ⊎ ((p ≢ k) × (slice_index_or xs p false ≡ true))
+pub marked : (xs : List Bool) (k p : ℕ) → slice_index_or (slice_set xs k true) p false ≡ true
+    → (p ≡ k) ⊎ ((p ≢ k) × (slice_index_or xs p false ≡ true))
 marked [] k p e = absurd (cc)
 marked (x ∷ xs) zero zero e = inl refl
 marked (x ∷ xs) zero (suc p) e = inr ((λ h. omega (arith, h)), e)
 marked (x ∷ xs) (suc k) zero e = inr ((λ h. omega (arith, h)), e)
 marked (x ∷ xs) (suc k) (suc p) e = by (marked xs k p e)
   where
-    by : (p ≡ k) ⊎ ((p ≢ k) × (slice_index_or xs p false ≡ true)) → (suc p ≡ suc k) ⊎ ((suc p ≢ suc k) × (slice_index_or xs p false ≡ true))
+    by : (p ≡ k) ⊎ ((p ≢ k) × (slice_index_or xs p false ≡ true)) → (suc p ≡ suc k)
+        ⊎ ((suc p ≢ suc k) × (slice_index_or xs p false ≡ true))
     by (inl h) = inl (ap suc h)
     by (inr t) = let ne = t.0 in inr ((λ h. ne (omega (arith, h))), t.1)
 
@@ -37,19 +39,23 @@ clear (false ∷ xs) zero a e = absurd (cc)
 clear (false ∷ xs) (suc p) a e = clear xs p a e
 
 -- what stands within the list does not hang on what stands past it
-pub within : (xs : List Bool) (p : ℕ) → p < length xs → slice_index_or xs p true ≡ true → slice_index_or xs p false ≡ true
+pub within : (xs : List Bool) (p : ℕ) → p < length xs → slice_index_or xs p true ≡ true
+    → slice_index_or xs p false ≡ true
 within [] p low e = absurd (omega (arith, low))
 within (x ∷ xs) zero low e = e
 within (x ∷ xs) (suc p) low e = within xs p (omega (arith, low)) e
 
 -- ---- how many are marked
-pub marks_more : (xs : List Bool) (k : ℕ) → slice_index_or xs k true ≡ false → count_marks (slice_set xs k true) ≡ count_marks xs + 1
+pub marks_more : (xs : List Bool) (k : ℕ) → slice_index_or xs k true ≡ false
+    → count_marks (slice_set xs k true) ≡ count_marks xs + 1
 marks_more [] k e = absurd (cc)
 marks_more (true ∷ xs) zero e = absurd (cc)
 marks_more (false ∷ xs) zero e = omega arith
 marks_more (x ∷ xs) (suc k) e = let rest = marks_more xs k e in omega (arith, rest)
 
-pub marks_most : (xs : List Bool) (from end : ℕ) → ((p : ℕ) → slice_index_or xs p false ≡ true → (from ≤ p) × (p < end)) → count_marks xs ≤ end - from
+pub marks_most : (xs : List Bool) (from end : ℕ)
+    → ((p : ℕ) → slice_index_or xs p false ≡ true → (from ≤ p) × (p < end))
+    → count_marks xs ≤ end - from
 marks_most [] from end m = omega arith
 marks_most (true ∷ xs) from end m =
     let low = (m 0 refl).0 in
@@ -61,7 +67,9 @@ marks_most (false ∷ xs) from end m =
     (λ p e. (let t = (m (suc p) e).0 in omega (arith, t), let t = (m (suc p) e).1 in omega (arith, t))) in
     omega (arith, rest)
 
-marks_least : (xs : List Bool) (from end : ℕ) → ((p : ℕ) → from ≤ p → p < end → slice_index_or xs p false ≡ true) → end ≤ from + count_marks xs
+marks_least : (xs : List Bool) (from end : ℕ)
+    → ((p : ℕ) → from ≤ p → p < end → slice_index_or xs p false ≡ true)
+    → end ≤ from + count_marks xs
 marks_least xs from zero m = omega arith
 marks_least [] zero (suc end) m = let no : false ≡ true = m 0 (omega arith) (omega arith) in absurd (cc)
 marks_least [] (suc from) (suc end) m =
@@ -84,7 +92,8 @@ marks_all xs from end only all =
     omega (arith, most, least)
 
 -- where marks stand there alone, and one place there has none, there are fewer
-pub marks_fewer : (xs : List Bool) (from end k : ℕ) → ((p : ℕ) → slice_index_or xs p false ≡ true → (from ≤ p) × (p < end))
+pub marks_fewer : (xs : List Bool) (from end k : ℕ)
+    → ((p : ℕ) → slice_index_or xs p false ≡ true → (from ≤ p) × (p < end))
     → slice_index_or xs k true ≡ false → from ≤ k → k < end → count_marks xs < end - from
 marks_fewer xs from end k m e low high =
     let more = marks_more xs k e in

@@ -2,7 +2,9 @@
 use Rattle.std.proofs.Common.{◌≡◌, ◌≢◌, ◌⊎◌, ℕ, ◌+◌, ◌<◌, List, [], ◌∷◌, reverse, refl, sym, ap, ◌∙◌, subst, inl, ⊎_elim}
 use Rattle.std.specs.Prelude.{Some, None, slice_get}
 use Rattle.mb_claim.specs.declared.access.Stage.TheVariants as stage
-use Rattle.mb_mailbox.specs.Below.{Claim, Claims, Cursor, END, EndsAs, Fits, Gave, Has, IsAccessAfter, IsClaimIn, IsDoneWith, IsOnceEach, Item, Layout, Link, Lost, MayLookPast, MayRead, Note, ObjectTurn, Parts, PoolAccess, Took, Undecided, cells_met, claim_stage, claims_in, consumer_of, load, note_of, place_past, with_load, word_of}
+use Rattle.mb_mailbox.specs.Below.{Claim, Claims, Cursor, END, EndsAs, Fits, Gave, Has, IsAccessAfter, IsClaimIn, IsDoneWith, IsOnceEach, Item, Layout}
+use Rattle.mb_mailbox.specs.Below.{Link, Lost, MayLookPast, MayRead, Note, ObjectTurn, Parts, PoolAccess, Took, Undecided, cells_met, claim_stage}
+use Rattle.mb_mailbox.specs.Below.{claims_in, consumer_of, load, note_of, place_past, with_load, word_of}
 use Rattle.mb_mailbox.specs.Consumers.{AreEnds, ConsumerView, IsAt, IsBefore, IsConsumer, parts_of}
 use Rattle.mb_mailbox.specs.Moves.{HasLoads, HasPlace, HasTurns, reads_with_link, moved_to}
 use Rattle.mb_mailbox.specs.declared.place.Place.{Place}
@@ -24,7 +26,9 @@ list_there s p place i e =
 
 -- where it stands there
 pub before : (s : ConsumerView) (p : ℕ) (at : Cursor) (i : IsConsumer s) → slice_get s.places p ≡ Some (Before at)
-    → (ns : List Note) × (slice_get s.notes p ≡ Some ns) × IsBefore (claims_in i.size.layout i.size.cells) s.seat.consumer p (parts_of s.reader s.seat) ns at
+    → (ns : List Note) × (slice_get s.notes p ≡ Some ns)
+    × IsBefore (claims_in i.size.layout i.size.cells) s.seat.consumer p
+    (parts_of s.reader s.seat) ns at
 before s p at i e = let l = list_there s p (Before at) i e in (l.0, l.1, i.lanes p (Before at) l.0 e l.1)
 
 pub holds : (s : ConsumerView) (p k : ℕ) (claim : Claim) (i : IsConsumer s) → slice_get s.places p ≡ Some (At k claim)
@@ -52,20 +56,24 @@ done_with : Laws → (layout : Layout) (cells c k : ℕ) (n : Note) (x : Parts) 
 done_with laws layout cells c k (Took v) x e = record { ended = (stage.Won, e.0, λ f. cc); taken = λ won. (v, e.1) }
 done_with laws layout cells c k (Lost w) x e = record {
   ended = (stage.Lost w, e, λ f. cc);
-  taken = λ won. let f : stage.Lost w ≡ stage.Won = laws.one_stage (claims_in layout cells) c (x.claimed k) (stage.Lost w) stage.Won (laws.table layout) e won in absurd (cc);
+  taken = λ won. let f : stage.Lost w ≡ stage.Won = laws.one_stage (claims_in layout cells) c
+      (x.claimed k) (stage.Lost w) stage.Won (laws.table layout) e won in absurd (cc);
 }
 done_with laws layout cells c k Undecided x e = record {
   ended = (stage.Undecided, e, λ f. cc);
-  taken = λ won. let f : stage.Undecided ≡ stage.Won = laws.one_stage (claims_in layout cells) c (x.claimed k) stage.Undecided stage.Won (laws.table layout) e won in absurd (cc);
+  taken = λ won. let f : stage.Undecided ≡ stage.Won = laws.one_stage (claims_in layout cells) c
+      (x.claimed k) stage.Undecided stage.Won (laws.table layout) e won in absurd (cc);
 }
 
-pub may_past : Laws → (layout : Layout) (cells c : ℕ) (ks : List ℕ) (ns : List Note) (x : Parts) → AreEnds (claims_in layout cells) c ks ns x
+pub may_past : Laws → (layout : Layout) (cells c : ℕ) (ks : List ℕ) (ns : List Note) (x : Parts)
+    → AreEnds (claims_in layout cells) c ks ns x
     → MayLookPast (claims_in layout cells) c ks x
 may_past laws layout cells c [] ns x e = tt
 may_past laws layout cells c (k ∷ ks) [] x e = absurd e
 may_past laws layout cells c (k ∷ ks) (n ∷ ns) x e = done_with laws layout cells c k n x e.0
 
-module _ (laws : Laws) (s : ConsumerView) (p : ℕ) (at : Cursor) (i : IsConsumer s) (h : HasLoads s) (e : HasPlace p (Before at) s) where
+module _ (laws : Laws) (s : ConsumerView) (p : ℕ) (at : Cursor) (i : IsConsumer s) (h : HasLoads s)
+    (e : HasPlace p (Before at) s) where
   abbrev cs : Claims
   cs = claims_in i.size.layout i.size.cells
 
@@ -86,10 +94,12 @@ module _ (laws : Laws) (s : ConsumerView) (p : ℕ) (at : Cursor) (i : IsConsume
 
   fits : (v : ℕ) → Fits cs c (y v)
   fits v = let b = before s p at i e in
-      laws.looks cs c s.reader.reader p v x i.fit (may_past laws i.size.layout i.size.cells c ks (reverse b.0) x b.2.ended)
+      laws.looks cs c s.reader.reader p v x i.fit
+      (may_past laws i.size.layout i.size.cells c ks (reverse b.0) x b.2.ended)
 
   elsewhere : (q : ℕ) → q ≢ p → place_past p ks ≡ place_past q (cells_met q s.reader.part) → ⊥
-  elsewhere q ne = past_apart p q ks (cells_met q s.reader.part) (λ k m n. (loads_known laws s h).apart p q k m n) (λ f. ne (sym f))
+  elsewhere q ne = past_apart p q ks (cells_met q s.reader.part)
+      (λ k m n. (loads_known laws s h).apart p q k m n) (λ f. ne (sym f))
 
   others : (v q : ℕ) → q ≢ p → Leaves q x (y v)
   others v q ne = record {
@@ -105,7 +115,9 @@ module _ (laws : Laws) (s : ConsumerView) (p : ℕ) (at : Cursor) (i : IsConsume
 
   ends : (v : ℕ) (ns : List Note) → slice_get s.notes p ≡ Some ns → AreEnds cs c ks (reverse ns) (y v)
   ends v ns f =
-      ends_more cs c x (y v) ks (reverse ns) (λ k n has. end_kept cs c k n x (y v) refl (λ u r. read-more (a v) s.reader.part (Item k) u r))
+      ends_more cs c x (y v) ks (reverse ns)
+      (λ k n has. end_kept cs c k n x (y v) refl
+      (λ u r. read-more (a v) s.reader.part (Item k) u r))
       (i.lanes p (Before at) ns e f).ended
 
   word : word_of at ≡ place_past p ks
@@ -114,9 +126,11 @@ module _ (laws : Laws) (s : ConsumerView) (p : ℕ) (at : Cursor) (i : IsConsume
   with_word : (v : ℕ) (place : Place) → IsConsumer (moved_to p place None (a v ∷ s.reader.part) s.seat.part s)
       → IsConsumer (moved_to p place None (reads_with_link s at v) s.seat.part s)
   with_word v place done =
-      subst (λ w. IsConsumer (moved_to p place None (load s.reader.reader w v ∷ s.reader.part) s.seat.part s)) (sym word) done
+      subst (λ w. IsConsumer (moved_to p place None (load s.reader.reader w v ∷ s.reader.part)
+      s.seat.part s)) (sym word) done
 
-  pub waits : (v : ℕ) → (v ≡ 0) ⊎ (v ≡ END) → IsConsumer (moved_to p (Before at) None (reads_with_link s at v) s.seat.part s)
+  pub waits : (v : ℕ) → (v ≡ 0) ⊎ (v ≡ END)
+      → IsConsumer (moved_to p (Before at) None (reads_with_link s at v) s.seat.part s)
   waits v says =
       let met : cells_met p (a v ∷ s.reader.part) ≡ ks = laws.none s.reader.reader p v s.reader.part says in
       with_word v (Before at)
@@ -135,8 +149,10 @@ module _ (laws : Laws) (s : ConsumerView) (p : ℕ) (at : Cursor) (i : IsConsume
       let v = k + 1 in
       let met : cells_met p (a v ∷ s.reader.part) ≡ k ∷ ks = laws.cell s.reader.reader p k s.reader.part real in
       let after : IsAccessAfter s.reader.table.size s.reader.known (a v) s.reader.part =
-      subst (λ w. IsAccessAfter s.reader.table.size s.reader.known (load s.reader.reader w v) s.reader.part) word comes in
-      let new = fresh laws s.reader.table.size s.reader.reader p k after.older s.reader.part i.fit.follows real after.lawful after.own in
+      subst (λ w. IsAccessAfter s.reader.table.size s.reader.known (load s.reader.reader w v)
+      s.reader.part) word comes in
+      let new = fresh laws s.reader.table.size s.reader.reader p k after.older s.reader.part
+      i.fit.follows real after.lawful after.own in
       let once : IsOnceEach (k ∷ ks) = subst IsOnceEach met (new.1.once p) in
       let none : x.claimed k ≡ [] = no_turns (x.claimed k) (λ some. new.0 (i.fit.met k some)) in
       with_word v (At k claim)
@@ -149,8 +165,12 @@ module _ (laws : Laws) (s : ConsumerView) (p : ℕ) (at : Cursor) (i : IsConsume
         path = subst (IsClaimIn i.size.layout claim) (sym none) (turns i.size i.table);
         unnoted = ap note_of going;
         left = (
-          (λ u r. ⊎_elim (λ t. past_item p k ks t) (λ old. new.0 ((loads_known laws s h).item k u old)) (read-cases (a v) s.reader.part (Item k) u r)),
-          (λ u r. ⊎_elim (λ t. once.0 (past_link p k ks t)) (λ old. new.0 ((loads_known laws s h).link k u old)) (read-cases (a v) s.reader.part (Link k) u r)),
+          (λ u r. ⊎_elim (λ t. past_item p k ks t)
+              (λ old. new.0 ((loads_known laws s h).item k u old))
+              (read-cases (a v) s.reader.part (Item k) u r)),
+          (λ u r. ⊎_elim (λ t. once.0 (past_link p k ks t))
+              (λ old. new.0 ((loads_known laws s h).link k u old))
+              (read-cases (a v) s.reader.part (Link k) u r)),
         );
       })
       (others v))

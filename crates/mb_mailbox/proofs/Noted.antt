@@ -30,7 +30,8 @@ longer : {X : Type 0} (base : List X) (x : X) (n : ℕ) → length base ≡ n �
 longer base x n e = length-append base (x ∷ []) ∙ omega (arith, e)
 
 module _ (now : HubView) (hub : IsHub now) (pool : History) (roll : IsRollOf now.cells.table.size now.cells.roll pool)
-    (tell : (size : PoolSize) (roll : Roll) (h : History) (p : ℕ) (done : History) (s : ConsumerView) → IsRollOf size roll h
+    (tell : (size : PoolSize) (roll : Roll) (h : History) (p : ℕ) (done : History)
+    (s : ConsumerView) → IsRollOf size roll h
     → slice_get roll.lanes p ≡ Some (Some done) → slice_get roll.readers s.reader.reader ≡ Some (Some s.reader.part)
     → HasReadToEnd p s → length (notes_on p s.notes) ≡ length (values_put p done)) where
   noted_by : (s : ConsumerView) → slice_get now.cells.roll.readers s.reader.reader ≡ Some (Some s.reader.part)
@@ -44,18 +45,23 @@ module _ (now : HubView) (hub : IsHub now) (pool : History) (roll : IsRollOf now
       let here : slice_get now.puts p ≡ Some (Some (ended_list l)) =
       ap (λ (xs : List (Option PutListView)). slice_get xs p) is ∙ get_next base rest (Some (ended_list l)) p e in
       let put = hub.put p (ended_list l) here in
-      let there : now.puts ≡ (base ++ Some (ended_list l) ∷ []) ++ rest = is ∙ sym (append_assoc base (Some (ended_list l) ∷ []) rest) in (
+      let there : now.puts ≡ (base ++ Some (ended_list l) ∷ []) ++ rest = is
+      ∙ sym (append_assoc base (Some (ended_list l) ∷ []) rest) in (
         tell now.cells.table.size now.cells.roll pool p put.0 s roll put.1 mine (read p (omega arith) (omega arith))
             ∙ ap length (sym put.2.items),
         noted_by s mine ls (base ++ Some (ended_list l) ∷ []) (suc p) (longer base (Some (ended_list l)) p e) there
             (λ q low high. read q (omega (arith, low)) (omega (arith, high))),
       )
 
-  module _ {Z : Type 0} (m : MailboxView) (may_stop may_pass : Who → ℕ → Type 0) (old : List (Option PutListView)) (ls : List LaneLeft) (is : now.puts ≡ old ++ map (λ (l : LaneLeft). Some (ended_list l)) ls)
+  module _ {Z : Type 0} (m : MailboxView) (may_stop may_pass : Who → ℕ → Type 0)
+      (old : List (Option PutListView)) (ls : List LaneLeft)
+      (is : now.puts ≡ old ++ map (λ (l : LaneLeft). Some (ended_list l)) ls)
       (from end budget : ℕ) (first : from ≡ length old) (last : end ≡ length old + length ls) where
     pub all_noted : (es : List (PollDone Z)) (base : List (Option History)) (c : ℕ) → length base ≡ c
-        → now.cells.roll.readers ≡ base ++ map (λ (x : ConsumerLeft). Some x.reads) (left_of m may_stop may_pass es) → AreNumbered m may_stop may_pass from end budget c es
-        → All (λ (x : ConsumerLeft). x.stopped ≡ false → HasNoteAtEach (length old) ls x.ledger) (left_of m may_stop may_pass es)
+        → now.cells.roll.readers ≡ base ++ map (λ (x : ConsumerLeft). Some x.reads)
+        (left_of m may_stop may_pass es) → AreNumbered m may_stop may_pass from end budget c es
+        → All (λ (x : ConsumerLeft). x.stopped ≡ false → HasNoteAtEach (length old) ls x.ledger)
+        (left_of m may_stop may_pass es)
     all_noted [] base c e there a = λ k d low. absurd (omega (arith, low))
     all_noted (d ∷ es) base c e there a =
         let P = λ (x : ConsumerLeft). x.stopped ≡ false → HasNoteAtEach (length old) ls x.ledger in

@@ -9,7 +9,8 @@ use Rattle.mb_mailbox.specs.ConsumerStep.{ConsumerStep}
 use Rattle.mb_mailbox.specs.Steps.{AnswerTells, AreDrawn, AreSteps, HasDone, IsPollOf, IsStep, LeadTo, note_with, outcome, with_note, words_of}
 
 -- one access more
-done_more : (p : ℕ) (a : WorldAccess) (done : WorldHistory) (answer : Option Poll) (old now new : ConsumerView) → HasDone p done None old now
+done_more : (p : ℕ) (a : WorldAccess) (done : WorldHistory) (answer : Option Poll)
+    (old now new : ConsumerView) → HasDone p done None old now
     → HasDone p (a ∷ []) answer now new → HasDone p (a ∷ done) answer old new
 done_more p (ToCells b) done answer old now new was h = record {
   reader = h.reader ∙ ap (λ (v : ReaderSeatView). record v { part = b ∷ v.part }) was.reader;
@@ -22,20 +23,24 @@ done_more p (ToClaims b) done answer old now new was h = record {
   notes = h.notes ∙ ap (with_note p (note_with answer)) was.notes;
 }
 
-lead_more : (p : ℕ) (a : WorldAccess) (done : WorldHistory) (answer : Option Poll) (old now : ConsumerView) → HasDone p done None old now
+lead_more : (p : ℕ) (a : WorldAccess) (done : WorldHistory) (answer : Option Poll)
+    (old now : ConsumerView) → HasDone p done None old now
     → LeadTo p None done old → LeadTo p answer (a ∷ []) now → LeadTo p answer (a ∷ done) old
 lead_more p a done answer old now was lead step = (
-  subst (λ (z : ReaderSeatView × SeatView). ConsumerStep (claims_at z.1.table) z.1.consumer p (parts_of z.0 z.1) a answer)
+  subst (λ (z : ReaderSeatView × SeatView). ConsumerStep (claims_at z.1.table) z.1.consumer p
+      (parts_of z.0 z.1) a answer)
       (λ j. (was.reader j, was.seat j)) step.0,
   lead,
 )
 
-drawn_more : (a : WorldAccess) (done : WorldHistory) (s t u : Stream) → AreDrawn s (words_of done) t → AreDrawn t (words_of (a ∷ [])) u
+drawn_more : (a : WorldAccess) (done : WorldHistory) (s t u : Stream) → AreDrawn s (words_of done) t
+    → AreDrawn t (words_of (a ∷ [])) u
     → AreDrawn s (words_of (a ∷ done)) u
 drawn_more (ToCells b) done s t u was d = subst (λ z. AreDrawn s (words_of done) z) (sym d) was
 drawn_more (ToClaims b) done s t u was d = (d.0, subst (λ z. AreDrawn s (words_of done) z) (sym d.1) was, d.2)
 
-pub steps_more : (p n : ℕ) (answer : Option Poll) (s t u : Stream) (old now new : ConsumerView) → AreSteps p n None s t old now → IsStep p answer t u now new
+pub steps_more : (p n : ℕ) (answer : Option Poll) (s t u : Stream) (old now new : ConsumerView)
+    → AreSteps p n None s t old now → IsStep p answer t u now new
     → AreSteps p (n + 1) answer s u old new
 steps_more p n answer s t u old now new m st =
     let count = m.count in
@@ -48,13 +53,25 @@ steps_more p n answer s t u old now new m st =
     }
 
 pub no_steps : (p : ℕ) (s : Stream) (old : ConsumerView) → AreSteps p 0 None s s old old
-no_steps p s old = record { accesses = []; done = record { reader = refl; seat = refl; notes = refl }; lead = refl; drawn = refl; count = refl }
+no_steps p s old = record {
+  accesses = [];
+  done = record {
+    reader = refl;
+    seat = refl;
+    notes = refl;
+  };
+  lead = refl;
+  drawn = refl;
+  count = refl;
+}
 
-pub one_step : (p : ℕ) (answer : Option Poll) (s t : Stream) (old new : ConsumerView) → IsStep p answer s t old new → AreSteps p 1 answer s t old new
+pub one_step : (p : ℕ) (answer : Option Poll) (s t : Stream) (old new : ConsumerView)
+    → IsStep p answer s t old new → AreSteps p 1 answer s t old new
 one_step p answer s t old new st = steps_more p 0 answer s s t old old new (no_steps p s old) st
 
 -- ---- polls
-pub poll_of : (p n budget : ℕ) (x : Poll) (s t : Stream) (old new : ConsumerView) → AreSteps p n (outcome x) s t old new → n ≤ budget
+pub poll_of : (p n budget : ℕ) (x : Poll) (s t : Stream) (old new : ConsumerView)
+    → AreSteps p n (outcome x) s t old new → n ≤ budget
     → (x ≡ poll.Spent → n ≡ budget) → IsPollOf p budget x s t old new
 poll_of p n budget x s t old new m few all = record {
   accesses = m.accesses;

@@ -26,16 +26,19 @@ module _ (b : ConsumerView) (p k : ℕ) (claim : Claim) where
   s = holding p k claim b
 
   -- where accesses of the claim led to this stage, the consumer stands there that these fields show
-  pub seen_at : (now : Claim) (st : Stage) (seat : SeatView) (places : List Place) (notes : List (List Note)) → claim_stage now ≡ st
+  pub seen_at : (now : Claim) (st : Stage) (seat : SeatView) (places : List Place)
+      (notes : List (List Note)) → claim_stage now ≡ st
       → seat ≡ record b.seat { part = seat.part }
       → places ≡ slice_set b.places p (place_after k now st) → notes ≡ with_note p (note_of st) b.notes
       → competed p k now seat s ≡ at_views b.reader seat places notes
   seen_at now st seat places notes is same e f =
       ap (λ z. moved_to p (place_after k now z) (note_of z) b.reader.part seat.part s) is
-      ∙ (λ j. at_views b.reader (sym same j) ((set_twice b.places p (At k claim) (place_after k now st) ∙ sym e) j) (sym f j))
+      ∙ (λ j. at_views b.reader (sym same j)
+      ((set_twice b.places p (At k claim) (place_after k now st) ∙ sym e) j) (sym f j))
 
   -- and the same after the item is loaded
-  module _ (v : ℕ) (now : Claim) (seat : SeatView) (reader : ReaderSeatView) (places : List Place) (notes : List (List Note)) (t u : Stream)
+  module _ (v : ℕ) (now : Claim) (seat : SeatView) (reader : ReaderSeatView) (places : List Place)
+      (notes : List (List Note)) (t u : Stream)
       (from : ConsumerView) (n : ℕ) (there : Place)
       (at : slice_get b.places p ≡ Some there)
       (won : claim_stage now ≡ stage.Won) (so : HasCompeted p k n now t u from s seat)
@@ -51,7 +54,8 @@ module _ (b : ConsumerView) (p k : ℕ) (claim : Claim) where
     mid_consumer = subst IsConsumer mid_is so.is
 
     pub mid_at : HasPlace p (At k now) mid
-    mid_at = set_here (slice_set b.places p (At k claim)) p (At k now) (At k claim) (set_here b.places p (At k claim) there at)
+    mid_at = set_here (slice_set b.places p (At k claim)) p (At k now) (At k claim)
+        (set_here b.places p (At k claim) there at)
 
     abbrev new : ConsumerView
     new = at_views reader seat places notes
@@ -59,16 +63,21 @@ module _ (b : ConsumerView) (p k : ℕ) (claim : Claim) where
     new_is : at_views reader (record b.seat { part = seat.part }) places notes ≡ new
     new_is = ap (λ (z : SeatView). at_views reader z places notes) (sym so.same)
 
-    pub took_steps : ConsumerStep (claims_at mid.seat.table) mid.seat.consumer p (parts_of mid.reader mid.seat) (ToCells (load mid.reader.reader (Item k) v)) (Some (poll.Took v))
+    pub took_steps : ConsumerStep (claims_at mid.seat.table) mid.seat.consumer p
+        (parts_of mid.reader mid.seat) (ToCells (load mid.reader.reader (Item k) v))
+        (Some (poll.Took v))
         → AreSteps p (n + 1) (Some (poll.Took v)) t u from new
     took_steps next =
         let was : AreSteps p n None t u from mid =
-        subst (λ (z : Option Poll × ConsumerView). AreSteps p n z.0 t u from z.1) (λ j. (ap stage_answer won j, mid_is j)) so.steps in
+        subst (λ (z : Option Poll × ConsumerView). AreSteps p n z.0 t u from z.1)
+        (λ j. (ap stage_answer won j, mid_is j)) so.steps in
         subst (λ z. AreSteps p (n + 1) (Some (poll.Took v)) t u from z) new_is
-        (steps_more p n (Some (poll.Took v)) t u u from mid (at_views reader (record b.seat { part = seat.part }) places notes) was
+        (steps_more p n (Some (poll.Took v)) t u u from mid
+        (at_views reader (record b.seat { part = seat.part }) places notes) was
         (item_made mid mid p k v reader places notes refl makes f next u))
 
-    pub took_is : IsConsumer (moved_to p (Before (Past k)) (Some (Took v)) (reads_with_item mid k v) mid.seat.part mid) → IsConsumer new
+    pub took_is : IsConsumer (moved_to p (Before (Past k)) (Some (Took v)) (reads_with_item mid k v)
+        mid.seat.part mid) → IsConsumer new
     took_is i =
         subst IsConsumer
         (λ j. at_views (sym makes.1 j) (sym so.same j)
@@ -80,7 +89,8 @@ module _ (b : ConsumerView) (p k : ℕ) (claim : Claim) where
 
     -- so the poll ends with the item
     pub pursued_took : (most made m : ℕ) → n ≡ made + m → made + 1 ≤ most
-        → ConsumerStep (claims_at mid.seat.table) mid.seat.consumer p (parts_of mid.reader mid.seat) (ToCells (load mid.reader.reader (Item k) v)) (Some (poll.Took v))
+        → ConsumerStep (claims_at mid.seat.table) mid.seat.consumer p (parts_of mid.reader mid.seat)
+        (ToCells (load mid.reader.reader (Item k) v)) (Some (poll.Took v))
         → IsConsumer (moved_to p (Before (Past k)) (Some (Took v)) (reads_with_item mid k v) mid.seat.part mid)
         → IsPursuit p m most (poll.Took v) t u from new
     pursued_took most made m count few next i =
@@ -96,39 +106,50 @@ module _ (b : ConsumerView) (p k : ℕ) (claim : Claim) where
         }
 
   -- where the claim has ended otherwise, the poll ends past the cell
-  pub pursued_past : (most made n : ℕ) (now : Claim) (st : Stage) (note : Note) (answer : Poll) (t u : Stream) (from : ConsumerView)
-      (seat : SeatView) (places : List Place) (notes : List (List Note)) (there : Place) → slice_get b.places p ≡ Some there
-      → claim_stage now ≡ st → note_of st ≡ Some note → stage_answer st ≡ outcome answer → IsOfClaim answer → answer ≢ poll.Spent
+  pub pursued_past : (most made n : ℕ) (now : Claim) (st : Stage) (note : Note) (answer : Poll)
+      (t u : Stream) (from : ConsumerView)
+      (seat : SeatView) (places : List Place) (notes : List (List Note)) (there : Place)
+      → slice_get b.places p ≡ Some there
+      → claim_stage now ≡ st → note_of st ≡ Some note → stage_answer st ≡ outcome answer
+      → IsOfClaim answer → answer ≢ poll.Spent
       → place_after k now st ≡ Before (Past k) → made ≤ most → HasCompeted p k (made + n) now t u from s seat
       → places ≡ slice_set b.places p (Before (Past k)) → notes ≡ with_note p (Some note) b.notes
       → IsPursuit p n most answer t u from (at_views b.reader seat places notes)
-  pursued_past most made n now st note answer t u from seat places notes there at is noting tells kind never past few so e f =
+  pursued_past most made n now st note answer t u from seat places notes there at is noting tells
+      kind never past few so e f =
       let view : competed p k now seat s ≡ at_views b.reader seat places notes =
-      seen_at now st seat places notes is so.same (e ∙ ap (λ z. slice_set b.places p z) (sym past)) (f ∙ ap (λ o. with_note p o b.notes) (sym noting)) in
+      seen_at now st seat places notes is so.same (e ∙ ap (λ z. slice_set b.places p z) (sym past))
+      (f ∙ ap (λ o. with_note p o b.notes) (sym noting)) in
       let end = subst IsConsumer view so.is in
       record {
         made = made;
         within = few;
         spent = λ z. absurd (never z);
-        steps = subst (λ (z : Option Poll × ConsumerView). AreSteps p (made + n) z.0 t u from z.1) (λ j. ((ap stage_answer is ∙ tells) j, view j)) so.steps;
+        steps = subst (λ (z : Option Poll × ConsumerView). AreSteps p (made + n) z.0 t u from z.1)
+            (λ j. ((ap stage_answer is ∙ tells) j, view j)) so.steps;
         kind = kind;
-        noted = λ _. noted (at_views b.reader seat places notes) p (Past k) end (ap (λ ps. slice_get ps p) e ∙ set_here b.places p (Before (Past k)) there at);
+        noted = λ _. noted (at_views b.reader seat places notes) p (Past k) end
+            (ap (λ ps. slice_get ps p) e ∙ set_here b.places p (Before (Past k)) there at);
         is = end;
       }
 
   -- where it goes on or is won, the poll leaves it
-  pub pursued_spent : (most n : ℕ) (now : Claim) (st : Stage) (t u : Stream) (from : ConsumerView) (seat : SeatView) (places : List Place)
+  pub pursued_spent : (most n : ℕ) (now : Claim) (st : Stage) (t u : Stream) (from : ConsumerView)
+      (seat : SeatView) (places : List Place)
       → claim_stage now ≡ st → note_of st ≡ None → stage_answer st ≡ None → place_after k now st ≡ At k now
       → HasCompeted p k (most + n) now t u from s seat → places ≡ slice_set b.places p (At k now)
       → IsPursuit p n most poll.Spent t u from (at_views b.reader seat places b.notes)
   pursued_spent most n now st t u from seat places is noting tells here so e =
       let view : competed p k now seat s ≡ at_views b.reader seat places b.notes =
-      seen_at now st seat places b.notes is so.same (e ∙ ap (λ z. slice_set b.places p z) (sym here)) (ap (λ o. with_note p o b.notes) (sym noting)) in
+      seen_at now st seat places b.notes is so.same
+      (e ∙ ap (λ z. slice_set b.places p z) (sym here))
+      (ap (λ o. with_note p o b.notes) (sym noting)) in
       record {
         made = most;
         within = omega arith;
         spent = λ _. refl;
-        steps = subst (λ (z : Option Poll × ConsumerView). AreSteps p (most + n) z.0 t u from z.1) (λ j. ((ap stage_answer is ∙ tells) j, view j)) so.steps;
+        steps = subst (λ (z : Option Poll × ConsumerView). AreSteps p (most + n) z.0 t u from z.1)
+            (λ j. ((ap stage_answer is ∙ tells) j, view j)) so.steps;
         kind = tt;
         noted = λ never. absurd (never refl);
         is = subst IsConsumer view so.is;

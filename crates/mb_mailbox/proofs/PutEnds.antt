@@ -16,13 +16,15 @@ pub front_take : (n : ℕ) (xs : List ℕ) → IsFront (take n xs) xs
 front_take n xs = (drop n xs, take-append-drop n xs)
 
 -- what it has found it has found after the end of its lane
-pub found_still : (r : Finish) (old new : ProducerView) → (r ≡ finish.Ended → IsEndOfLane old new) → (r ≡ finish.Closed → new ≡ old) → r ≢ finish.Busy
+pub found_still : (r : Finish) (old new : ProducerView) → (r ≡ finish.Ended → IsEndOfLane old new)
+    → (r ≡ finish.Closed → new ≡ old) → r ≢ finish.Busy
     → FoundNoCell old → FoundNoCell new
 found_still finish.Ended old new ended closed busy none =
     let e = ended refl in
     record {
       entry = none.entry;
-      offered = subst (λ (z : ℕ × History). Has z.1 (fetch z.0 none.entry)) (λ i. (sym e.same.lane i, sym e.part i)) (inr none.offered);
+      offered = subst (λ (z : ℕ × History). Has z.1 (fetch z.0 none.entry))
+          (λ i. (sym e.same.lane i, sym e.part i)) (inr none.offered);
       past = subst (λ (t : CellsName). t.size.cells ≤ none.entry.cell) (sym e.same.table) none.past;
     }
 found_still finish.Closed old new ended closed busy none = subst FoundNoCell (sym (closed refl)) none
@@ -34,14 +36,17 @@ is_fetch (FetchAdd v k) = true
 is_fetch (Store v) = false
 is_fetch (Load v) = false
 
-pub found_before : (r : Finish) (old new : ProducerView) → (r ≡ finish.Ended → IsEndOfLane old new) → (r ≡ finish.Closed → new ≡ old) → r ≢ finish.Busy
+pub found_before : (r : Finish) (old new : ProducerView) → (r ≡ finish.Ended → IsEndOfLane old new)
+    → (r ≡ finish.Closed → new ≡ old) → r ≢ finish.Busy
     → FoundNoCell new → FoundNoCell old
 found_before finish.Ended old new ended closed busy none =
     let e = ended refl in
     let it = fetch new.seat.lane none.entry in
     let end = store old.seat.lane (next_link old.seat.lane old.seat.place) END in
     let has : Has old.seat.part it =
-    ⊎_elim (λ (same : end ≡ it). (let no : false ≡ true = ap (λ (a : PoolAccess). is_fetch a.act) same in absurd (cc))) (λ (has : Has old.seat.part it). has)
+    ⊎_elim (λ (same : end ≡ it). (let no : false
+    ≡ true = ap (λ (a : PoolAccess). is_fetch a.act) same in absurd (cc)))
+    (λ (has : Has old.seat.part it). has)
     (subst (λ (h : History). Has h it) e.part none.offered) in
     record {
       entry = none.entry;

@@ -26,7 +26,8 @@ link_word p None = tt
 link_word p (Some k) = tt
 
 -- a link to a cell is no end mark
-no_mark : (p k : ℕ) (w : Word) (h : History) → IsLinkWord w → k + 1 ≢ END → has_ended p (store p w (k + 1) ∷ h) ≡ has_ended p h
+no_mark : (p k : ℕ) (w : Word) (h : History) → IsLinkWord w → k + 1 ≢ END
+    → has_ended p (store p w (k + 1) ∷ h) ≡ has_ended p h
 no_mark p k (Head q) h l ne = rw (eq-eqb p p refl) (rw (ne_eqb (k + 1) END ne) refl)
 no_mark p k (Link q) h l ne = rw (eq-eqb p p refl) (rw (ne_eqb (k + 1) END ne) refl)
 no_mark p k (Item q) h l ne = absurd l
@@ -35,19 +36,30 @@ no_mark p k Counter h l ne = absurd l
 -- an offer that was answered with a cell made its fetch-add
 record Took (old : LaneSeatView) (x k : ℕ) (new : LaneSeatView) : Type 0 where
   pub low : k < old.table.size.cells
-  pub is : new ≡ record old { place = record { last = old.place.last; stage = stage.Offered k x }; part = fetch old.lane (record { cell = k; value = x }) ∷ old.part }
+  pub is : new ≡ record old {
+    place = record { last = old.place.last; stage = stage.Offered k x };
+    part = fetch old.lane (record { cell = k; value = x }) ∷ old.part;
+  }
   pub after : IsAccessAfter old.table.size [] (fetch old.lane (record { cell = k; value = x })) old.part
 
 took_by : (old : LaneSeatView) (x k n : ℕ) (new : LaneSeatView) (b : Bool) → nat_lt n old.table.size.cells ≡ b
     → offer.Cell k ≡ cond b (offer.Cell n) offer.Full
-    → LaneMakes (fetch old.lane (record { cell = n; value = x })) (record { last = old.place.last; stage = cond b (stage.Offered n x) stage.Full }) old new
+    → LaneMakes (fetch old.lane (record { cell = n; value = x })) (record {
+      last = old.place.last;
+      stage = cond b (stage.Offered n x) stage.Full;
+    }) old new
     → Took old x k new
 took_by old x k n new true low told m =
     let same : n ≡ k = cc in
-    subst (λ (z : ℕ). Took old x z new) same (record { low = ltb-true n old.table.size.cells low; is = m.1; after = m.0 })
+    subst (λ (z : ℕ). Took old x z new) same (record {
+      low = ltb-true n old.table.size.cells low;
+      is = m.1;
+      after = m.0;
+    })
 took_by old x k n new false low told m = absurd (cc)
 
-took_at : (old : LaneSeatView) (x k : ℕ) (new : LaneSeatView) (at : LaneStage) → OfferBy (stage_offer_refusal at) old x (offer.Cell k) new → Took old x k new
+took_at : (old : LaneSeatView) (x k : ℕ) (new : LaneSeatView) (at : LaneStage)
+    → OfferBy (stage_offer_refusal at) old x (offer.Cell k) new → Took old x k new
 took_at old x k new stage.Open m = took_by old x k m.0 new (nat_lt m.0 old.table.size.cells) refl m.1 m.2
 took_at old x k new (stage.Offered c i) m = absurd (cc)
 took_at old x k new (stage.Stored c) m = absurd (cc)
@@ -55,7 +67,8 @@ took_at old x k new stage.Full m = absurd (cc)
 took_at old x k new (stage.Ended f) m = absurd (cc)
 
 -- a fetch-add puts nothing
-pub fetch_keeps : PutLaws → (old : LaneSeatView) (e : Entry) → IsAccessAfter old.table.size [] (fetch old.lane e) old.part
+pub fetch_keeps : PutLaws → (old : LaneSeatView) (e : Entry)
+    → IsAccessAfter old.table.size [] (fetch old.lane e) old.part
     → put_list old.lane (fetch old.lane e ∷ old.part) ≡ put_list old.lane old.part
 fetch_keeps laws old e a =
     let p = old.lane in
@@ -87,7 +100,10 @@ module _ (laws : PutLaws) (s : ProducerView) (x k : ℕ) (one two : Push) (a b n
   took = took_at s.seat x k a s.seat.place.stage o
 
   first : LaneMakes (store p (Item k) x) (record { last = s.seat.place.last; stage = stage.Stored k })
-      (record s.seat { place = record { last = s.seat.place.last; stage = stage.Offered k x }; part = fetch p e ∷ s.seat.part }) b
+      (record s.seat {
+        place = record { last = s.seat.place.last; stage = stage.Offered k x };
+        part = fetch p e ∷ s.seat.part;
+      }) b
   first = (subst (λ v. PushMakes v one b) took.is f).1
 
   second : LaneMakes (store p (next_link p s.seat.place) (k + 1)) (record { last = Some k; stage = stage.Open })
@@ -96,7 +112,10 @@ module _ (laws : PutLaws) (s : ProducerView) (x k : ℕ) (one two : Push) (a b n
 
   pub is_put : IsPutInto k x s (record { seat = now; items = s.items ++ x ∷ [] })
   is_put = record {
-    same = record { table = ap (λ (v : LaneSeatView). v.table) second.1; lane = ap (λ (v : LaneSeatView). v.lane) second.1 };
+    same = record {
+      table = ap (λ (v : LaneSeatView). v.table) second.1;
+      lane = ap (λ (v : LaneSeatView). v.lane) second.1;
+    };
     within = took.low;
     part = ap (λ (v : LaneSeatView). v.part) second.1;
     items = refl;
@@ -131,22 +150,26 @@ module _ (laws : PutLaws) (s : ProducerView) (x k : ℕ) (one two : Push) (a b n
       laws.put size longer p t.lawful ∙ ap (put_list p) (laws.own t.older (store p (next_link p s.seat.place) (k + 1)))
       ∙ ap (λ l. put_list p (store p (next_link p s.seat.place) (k + 1) ∷ l)) t.own ∙ grown in
       let few = laws.few size longer p t.lawful in
-      let long : length (put_list p longer) ≡ length (put_list p s.seat.part) + 1 = ap length same ∙ length-append (put_list p s.seat.part) (e ∷ []) in
-      let count : length s.items ≡ length (put_list p s.seat.part) = ap length i.items ∙ length-map (put_list p s.seat.part) (λ (z : Entry). z.value) in
+      let long : length (put_list p longer) ≡ length (put_list p s.seat.part) + 1 = ap length same
+      ∙ length-append (put_list p s.seat.part) (e ∷ []) in
+      let count : length s.items ≡ length (put_list p s.seat.part) = ap length i.items
+      ∙ length-map (put_list p s.seat.part) (λ (z : Entry). z.value) in
       omega arith
 
   -- the two links and the fetch-add are no end mark
   pub over_stays : is_over (record { seat = now; items = s.items ++ x ∷ [] }) ≡ is_over s
   over_stays =
       let no_end : k + 1 ≢ END = let low = took.low in let few = first.0.lawful.sized in λ z. omega arith in
-      ap (λ (v : LaneSeatView). has_ended v.lane v.part) second.1 ∙ no_mark p k (next_link p s.seat.place) h (link_word p s.seat.place.last) no_end
+      ap (λ (v : LaneSeatView). has_ended v.lane v.part) second.1
+      ∙ no_mark p k (next_link p s.seat.place) h (link_word p s.seat.place.last) no_end
       ∙ rw (eq-eqb p p refl) refl
 
 -- ---- other answers of an offer
 same_offer : (a b : Offer) → Some a ≡ Some b → a ≡ b
 same_offer a b e = cc
 
-refused_closed : (old : LaneSeatView) (x : ℕ) (now : LaneSeatView) (at : LaneStage) → OfferBy (stage_offer_refusal at) old x offer.Closed now
+refused_closed : (old : LaneSeatView) (x : ℕ) (now : LaneSeatView) (at : LaneStage)
+    → OfferBy (stage_offer_refusal at) old x offer.Closed now
     → (now ≡ old) × (stage_offer_refusal at ≡ Some offer.Closed)
 refused_closed old x now stage.Open m = absurd (by (nat_lt m.0 old.table.size.cells) m.1)
   where
@@ -161,27 +184,32 @@ refused_closed old x now (stage.Ended f) m = (m.1, refl)
 pub is_refused : (s : ProducerView) (x : ℕ) (now : LaneSeatView) → OfferMakes s.seat x offer.Closed now → now ≡ s.seat
 is_refused s x now m = (refused_closed s.seat x now s.seat.place.stage m).0
 
-pub is_closed : PutLaws → (s : ProducerView) (x : ℕ) (now : LaneSeatView) → HasPart s.seat → OfferMakes s.seat x offer.Closed now
+pub is_closed : PutLaws → (s : ProducerView) (x : ℕ) (now : LaneSeatView) → HasPart s.seat
+    → OfferMakes s.seat x offer.Closed now
     → has_ended s.seat.lane s.seat.part ≡ true
 is_closed laws s x now h m =
     let p = s.seat.lane in
     let g = h.history.0 in
     let place = subst (λ d. IsLaneAfter s.seat.table.size.cells p s.seat.place d) (sym h.history.2) h.place in
     ap (has_ended p) (sym h.history.2) ∙ sym (laws.ended g p)
-    ∙ (laws.closed s.seat.table.size g p s.seat.place h.history.1 place).0 (refused_closed s.seat x now s.seat.place.stage m).1
+    ∙ (laws.closed s.seat.table.size g p s.seat.place h.history.1 place).0
+    (refused_closed s.seat x now s.seat.place.stage m).1
 
-answered : (o : Option Offer) (r : Offer) (old : LaneSeatView) (x : ℕ) (answer : Offer) (now : LaneSeatView) → o ≡ Some r → OfferBy o old x answer now → answer ≡ r
+answered : (o : Option Offer) (r : Offer) (old : LaneSeatView) (x : ℕ) (answer : Offer)
+    (now : LaneSeatView) → o ≡ Some r → OfferBy o old x answer now → answer ≡ r
 answered (Some q) r old x answer now e m = m.0 ∙ same_offer q r e
 answered None r old x answer now e m = absurd (cc)
 
-pub offer_is_over : PutLaws → (s : ProducerView) (x : ℕ) (answer : Offer) (now : LaneSeatView) → HasPart s.seat → OfferMakes s.seat x answer now
+pub offer_is_over : PutLaws → (s : ProducerView) (x : ℕ) (answer : Offer) (now : LaneSeatView)
+    → HasPart s.seat → OfferMakes s.seat x answer now
     → has_ended s.seat.lane s.seat.part ≡ true → answer ≡ offer.Closed
 offer_is_over laws s x answer now h m over =
     let p = s.seat.lane in
     let g = h.history.0 in
     let place = subst (λ d. IsLaneAfter s.seat.table.size.cells p s.seat.place d) (sym h.history.2) h.place in
     answered (offer_refusal s.seat.place) offer.Closed s.seat x answer now
-    ((laws.closed s.seat.table.size g p s.seat.place h.history.1 place).1 (laws.ended g p ∙ ap (has_ended p) h.history.2 ∙ over)) m
+    ((laws.closed s.seat.table.size g p s.seat.place h.history.1 place).1
+    (laws.ended g p ∙ ap (has_ended p) h.history.2 ∙ over)) m
 
 pub not_busy : (s : ProducerView) (x : ℕ) (now : LaneSeatView) → IsProducer s → OfferMakes s.seat x offer.Busy now → ⊥
 not_busy s x now i m = by s.seat.place.stage m i.idle

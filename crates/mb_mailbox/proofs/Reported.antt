@@ -30,7 +30,8 @@ chosen : {X : Type 0} (b : Bool) (x y : X) → b ≡ true → (if b then x else 
 chosen b x y e = ap (λ z. if z then x else y) e
 
 -- what the report has of a consumer on a lane is what the hub has
-pub notes_are : (lanes consumers : ℕ) (h : HubView) (r : ReportView) → IsReportIn lanes consumers h r → (c p : ℕ) → c < consumers → p < lanes
+pub notes_are : (lanes consumers : ℕ) (h : HubView) (r : ReportView)
+    → IsReportIn lanes consumers h r → (c p : ℕ) → c < consumers → p < lanes
     → diary c p r ≡ Some (diary_in c p h)
 notes_are lanes consumers h r is c p known low =
     let n : length r.lanes ≡ lanes = is.lanes_count in
@@ -38,7 +39,8 @@ notes_are lanes consumers h r is c p known low =
     (lt-ltb p (length r.lanes) (subst (λ z. p < z) (sym n) low))
     ∙ ap (λ z. slice_get r.diaries (c * z + p)) n ∙ is.diary c p known low
 
-taken_same : (lanes consumers : ℕ) (h : HubView) (r : ReportView) → IsReportIn lanes consumers h r → (p j : ℕ) → p < lanes
+taken_same : (lanes consumers : ℕ) (h : HubView) (r : ReportView) → IsReportIn lanes consumers h r
+    → (p j : ℕ) → p < lanes
     → is_taken_in consumers p j h ≡ is_taken consumers p j r
 taken_same lanes consumers h r is p j low =
     any_same consumers (λ c. is_took (slice_get (notes_in c p h) j)) (λ c. is_took (note c p j r))
@@ -50,7 +52,8 @@ pub lane_is : (m : MailboxView) (h : HubView) (hs : Histories) (r : ReportView) 
     → lane_in (consumers_of (plan_at m)) p h ≡ lane_view (plan_at m) p hs r
 lane_is m h hs r p low is t =
     let n = consumers_of (plan_at m) in
-    let left : items_where (λ j. not (is_taken_in n p j h)) (items_in p h) ≡ items_where (λ j. not (is_taken n p j r)) (values_put p hs.pool) =
+    let left : items_where (λ j. not (is_taken_in n p j h)) (items_in p h)
+    ≡ items_where (λ j. not (is_taken n p j r)) (values_put p hs.pool) =
     where_same (λ j. not (is_taken_in n p j h)) (λ j. not (is_taken n p j r)) (items_in p h)
     (λ j. ap not (taken_same m.cells.size.lanes n h r is p j low))
     ∙ ap (items_where (λ j. not (is_taken n p j r))) t.items in
@@ -74,7 +77,8 @@ module _ (plan : Plan) (c p : ℕ) (hs : Histories) (empty : no_parts ≡ parts_
   }
 
 pub diary_told : (m : MailboxView) (h : HubView) (hs : Histories) (c p : ℕ) → p < m.cells.size.lanes
-    → ((xs : List ObjectTurn) (s r : Stage) → IsClaimPrefix (plan_at m).claims c xs s → IsClaimPrefix (plan_at m).claims c xs r → s ≡ r)
+    → ((xs : List ObjectTurn) (s r : Stage) → IsClaimPrefix (plan_at m).claims c xs s
+    → IsClaimPrefix (plan_at m).claims c xs r → s ≡ r)
     → ((claim : Claim) (xs : List ObjectTurn) → IsClaimIn m.claims.layout claim xs → consumer_of claim ≡ c
     → IsClaimPrefix (plan_at m).claims c xs (claim_stage claim))
     → HasMetAll (hs.reader_of c) p (cells_met p (parts_in c hs).reads) hs.pool
@@ -83,19 +87,25 @@ diary_told m h hs c p low one path met (Keeps.was_in l e places lists fit stands
     let place = get_some l.places p (subst (λ n. p < n) (sym places) low) in
     let list = get_some l.notes p (subst (λ n. p < n) (sym lists) low) in
     let noted : list.0 ≡ notes_in c p h =
-    sym (ap (λ (o : Option LedgerView). option_map_or (λ (z : LedgerView). option_map_or (λ (ns : List Note). ns) (slice_get z.notes p) []) o []) e
+    sym (ap (λ (o : Option LedgerView). option_map_or
+    (λ (z : LedgerView). option_map_or (λ (ns : List Note). ns) (slice_get z.notes p) []) o [])
+    e
     ∙ ap (λ (o : Option (List Note)). option_map_or (λ (ns : List Note). ns) o []) list.1) in
     let begun : has_begun_at place.0 ≡ begun_in c p h =
-    sym (ap (λ (o : Option LedgerView). option_map_or (λ (z : LedgerView). option_map_or has_begun_at (slice_get z.places p) false) o false) e
+    sym (ap (λ (o : Option LedgerView). option_map_or
+    (λ (z : LedgerView). option_map_or has_begun_at (slice_get z.places p) false) o false) e
     ∙ ap (λ (o : Option Place). option_map_or has_begun_at o false) place.1) in
     subst (λ (d : DiaryView). IsDiaryOf (plan_at m) c p hs d)
     (λ i. record { consumer = c; lane = p; notes = noted i; begun = begun i })
     (diary_is (plan_at m) m.claims.layout c p hs list.0 place.0 one path met (stands p place.0 list.0 place.1 list.1))
 diary_told m h hs c p low one path met (Keeps.never e empty) =
     let noted : [] ≡ notes_in c p h =
-    sym (ap (λ (o : Option LedgerView). option_map_or (λ (z : LedgerView). option_map_or (λ (ns : List Note). ns) (slice_get z.notes p) []) o []) e) in
+    sym (ap (λ (o : Option LedgerView). option_map_or
+    (λ (z : LedgerView). option_map_or (λ (ns : List Note). ns) (slice_get z.notes p) []) o [])
+    e) in
     let begun : false ≡ begun_in c p h =
-    sym (ap (λ (o : Option LedgerView). option_map_or (λ (z : LedgerView). option_map_or has_begun_at (slice_get z.places p) false) o false) e) in
+    sym (ap (λ (o : Option LedgerView). option_map_or
+    (λ (z : LedgerView). option_map_or has_begun_at (slice_get z.places p) false) o false) e) in
     subst (λ (d : DiaryView). IsDiaryOf (plan_at m) c p hs d)
     (λ i. record { consumer = c; lane = p; notes = noted i; begun = begun i })
     (silent_diary (plan_at m) c p hs empty met)
@@ -103,7 +113,8 @@ diary_told m h hs c p low one path met (Keeps.never e empty) =
 pub report_is : (m : MailboxView) (h : HubView) (hs : Histories) (r : ReportView)
     → IsReportIn m.cells.size.lanes (consumers_of (plan_at m)) h r
     → ((p : ℕ) → Tells m h hs.pool p)
-    → ((c p : ℕ) → c < consumers_of (plan_at m) → p < m.cells.size.lanes → IsDiaryOf (plan_at m) c p hs (diary_in c p h))
+    → ((c p : ℕ) → c < consumers_of (plan_at m) → p < m.cells.size.lanes
+    → IsDiaryOf (plan_at m) c p hs (diary_in c p h))
     → IsReportOf (plan_at m) hs r
 report_is m h hs r is tells diaries = record {
   lanes_count = is.lanes_count;

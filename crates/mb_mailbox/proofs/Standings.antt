@@ -3,7 +3,8 @@ use Rattle.std.proofs.Common.{◌≡◌, ◌≢◌, ℕ, ◌<◌, List, [], ◌�
 use Rattle.std.specs.Prelude.{Option, Some, None, slice_get}
 use Rattle.std.specs.Option.{option_map_or}
 use Rattle.mb_claim.specs.declared.access.Stage.TheVariants as stage
-use Rattle.mb_mailbox.specs.Below.{ClaimAccess, Claims, EndsAs, Fits, HasNotLeft, HasRead, HasStageIn, Has, History, IsClaimIn, IsClaimPrefix, Item, Layout, Lost, Note, Parts, Stage, Took, Undecided, cells_met, claims_in, note_of, part_on, place_past}
+use Rattle.mb_mailbox.specs.Below.{ClaimAccess, Claims, EndsAs, Fits, HasNotLeft, HasRead, HasStageIn, Has, History, IsClaimIn, IsClaimPrefix, Item}
+use Rattle.mb_mailbox.specs.Below.{Layout, Lost, Note, Parts, Stage, Took, Undecided, cells_met, claims_in, note_of, part_on, place_past}
 use Rattle.mb_mailbox.specs.Consumers.{AreEnds, ConsumerView, IsConsumer, StandsOn, parts_of}
 use Rattle.mb_mailbox.specs.Moves.{moved_to}
 use Rattle.mb_mailbox.specs.Steps.{notes_on, with_note}
@@ -13,7 +14,8 @@ use Rattle.mb_mailbox.proofs.Lists.{get_some, get_within, set_get, set_length, s
 
 -- ---- ends
 pub ends_more : (cs : Claims) (c : ℕ) (x y : Parts) (ks : List ℕ) (ns : List Note)
-    → ((k : ℕ) (n : Note) → Has ks k → EndsAs cs c k n x → EndsAs cs c k n y) → AreEnds cs c ks ns x → AreEnds cs c ks ns y
+    → ((k : ℕ) (n : Note) → Has ks k → EndsAs cs c k n x → EndsAs cs c k n y) → AreEnds cs c ks ns x
+    → AreEnds cs c ks ns y
 ends_more cs c x y [] [] more e = tt
 ends_more cs c x y [] (n ∷ ns) more e = absurd e
 ends_more cs c x y (k ∷ ks) [] more e = absurd e
@@ -26,14 +28,16 @@ end_kept cs c k (Took v) x y same more e = (subst (λ xs. IsClaimPrefix cs c xs 
 end_kept cs c k (Lost w) x y same more e = subst (λ xs. IsClaimPrefix cs c xs (stage.Lost w)) same e
 end_kept cs c k Undecided x y same more e = subst (λ xs. IsClaimPrefix cs c xs stage.Undecided) same e
 
-pub same_length : (cs : Claims) (c : ℕ) (ks : List ℕ) (ns : List Note) (x : Parts) → AreEnds cs c ks ns x → length ns ≡ length ks
+pub same_length : (cs : Claims) (c : ℕ) (ks : List ℕ) (ns : List Note) (x : Parts)
+    → AreEnds cs c ks ns x → length ns ≡ length ks
 same_length cs c [] [] x e = refl
 same_length cs c [] (n ∷ ns) x e = absurd e
 same_length cs c (k ∷ ks) [] x e = absurd e
 same_length cs c (k ∷ ks) (n ∷ ns) x e = omega (arith, same_length cs c ks ns x e.1)
 
 -- the note of a stage tells the end
-pub ends_by : (cs : Claims) (c k : ℕ) (s : Stage) (n : Note) (x : Parts) → note_of s ≡ Some n → HasStageIn cs c k s x → EndsAs cs c k n x
+pub ends_by : (cs : Claims) (c k : ℕ) (s : Stage) (n : Note) (x : Parts) → note_of s ≡ Some n
+    → HasStageIn cs c k s x → EndsAs cs c k n x
 ends_by cs c k stage.Going n x e has = absurd (cc)
 ends_by cs c k stage.Won n x e has = absurd (cc)
 ends_by cs c k (stage.Lost w) n x e has = subst (λ m. EndsAs cs c k m x) (some_same (Lost w) n e) has
@@ -46,7 +50,8 @@ pub record Leaves (q : ℕ) (x y : Parts) : Type 0 where
   pub more : (k v : ℕ) → HasRead (Item k) v x.reads → HasRead (Item k) v y.reads
   pub left : (k : ℕ) → Has (cells_met q x.reads) k → HasNotLeft k x → HasNotLeft k y
 
-pub stands_still : (layout : Layout) (cs : Claims) (c q : ℕ) (x y : Parts) (notes : List Note) (place : Place) → Leaves q x y
+pub stands_still : (layout : Layout) (cs : Claims) (c q : ℕ) (x y : Parts) (notes : List Note)
+    (place : Place) → Leaves q x y
     → StandsOn layout cs c q x notes place → StandsOn layout cs c q y notes place
 stands_still layout cs c q x y notes (Before at) l o = record {
   word = o.word ∙ ap (place_past q) (sym l.met);
@@ -55,7 +60,8 @@ stands_still layout cs c q x y notes (Before at) l o = record {
       (λ k n has. end_kept cs c k n x y (l.claims k has) (l.more k)) o.ended);
 }
 stands_still layout cs c q x y notes (At k claim) l o =
-    let has : (j : ℕ) → Has (k ∷ o.cells) j → Has (cells_met q x.reads) j = λ j h. subst (λ ks. Has ks j) (sym o.met) h in
+    let has : (j : ℕ) → Has (k ∷ o.cells) j → Has (cells_met q x.reads) j = λ j h.
+    subst (λ ks. Has ks j) (sym o.met) h in
     record {
       cells = o.cells;
       met = l.met ∙ o.met;
@@ -90,7 +96,8 @@ list_else p q None lists ms ne f = f
 list_else p q (Some n) lists ms ne f =
     ⊎_elim (λ t. absurd (ne t.0)) (λ t. t.1) (set_get lists p q (notes_on p lists ++ n ∷ []) ms f)
 
-pub moves : (s : ConsumerView) (p : ℕ) (was place : Place) (o : Option Note) (reads : History) (made : List ClaimAccess) (i : IsConsumer s)
+pub moves : (s : ConsumerView) (p : ℕ) (was place : Place) (o : Option Note) (reads : History)
+    (made : List ClaimAccess) (i : IsConsumer s)
     → slice_get s.places p ≡ Some was
     → let cs = claims_in i.size.layout i.size.cells in
     let c = s.seat.consumer in
@@ -115,9 +122,11 @@ moves s p was place o reads made i at fit own others =
       lanes = λ q other ns e f.
           ⊎_elim
           (λ (t : (q ≡ p) × (place ≡ other)).
-          let low : p < length s.notes = subst (λ n. p < n) (i.places_count ∙ sym i.notes_count) (get_within s.places p was at) in
+          let low : p < length s.notes = subst (λ n. p < n) (i.places_count ∙ sym i.notes_count)
+          (get_within s.places p was at) in
           let list = get_some s.notes p low in
-          let is : with_one o list.0 ≡ ns = list_with p o s.notes list.0 ns list.1 (subst (λ (z : ℕ). slice_get (with_note p o s.notes) z ≡ Some ns) t.0 f) in
+          let is : with_one o list.0 ≡ ns = list_with p o s.notes list.0 ns list.1
+          (subst (λ (z : ℕ). slice_get (with_note p o s.notes) z ≡ Some ns) t.0 f) in
           subst (λ (z : ℕ × (List Note × Place)). StandsOn i.size.layout cs c z.0 y z.1.0 z.1.1)
           (λ j. (sym t.0 j, (is j, t.1 j))) (own list.0 list.1))
           (λ (t : (q ≢ p) × (slice_get s.places q ≡ Some other)).

@@ -18,7 +18,8 @@ use Rattle.mb_mailbox.proofs.Lists.{get_some, set_here, set_length}
 use Rattle.mb_mailbox.proofs.Moving.{holds}
 
 -- the fields of a consumer which is to stand at this claim
-pub record Start (m : MailboxView) (p k : ℕ) (claim : Claim) (reader : ReaderSeatView) (seat : SeatView) (places : List Place)
+pub record Start (m : MailboxView) (p k : ℕ) (claim : Claim) (reader : ReaderSeatView)
+    (seat : SeatView) (places : List Place)
     (notes : NotesView) : Type 0 where
   pub held : IsConsumer (holding p k claim (consumer_with reader seat places notes))
   pub of : IsConsumerOf m (consumer_with reader seat places notes)
@@ -39,7 +40,8 @@ module _ (m : MailboxView) (p k : ℕ) (claim : Claim) (reader : ReaderSeatView)
 
   pub start_room : sum_by length s.notes < reader.table.size.cells → HasRoom p notes
   start_room few = record {
-    lane = subst (λ n. p < n) (sym (set_length places p (At k claim)) ∙ start.held.places_count ∙ sym start.held.notes_count) start.lane;
+    lane = subst (λ n. p < n) (sym (set_length places p (At k claim)) ∙ start.held.places_count
+        ∙ sym start.held.notes_count) start.lane;
     room = let wide = start.wide in omega (arith, few, wide);
   }
 
@@ -49,27 +51,32 @@ module _ (m : MailboxView) (p k : ℕ) (claim : Claim) (reader : ReaderSeatView)
   pub unnoted : note_of (claim_stage claim) ≡ None
   unnoted = (holds s p k claim start.held here).2.unnoted
 
-  pub begun : (from : ConsumerView) (n : ℕ) (t u : Stream) → AreSteps p n None t u from s → HasCompeted p k n claim t u from s seat
+  pub begun : (from : ConsumerView) (n : ℕ) (t u : Stream) → AreSteps p n None t u from s
+      → HasCompeted p k n claim t u from s seat
   begun from n t u so = competed_none p k n claim t u from s seat (λ j. seat) here unnoted start.held so
 
   -- one access more
-  pub stepped : MovesOn → IsNext → (now : MailboxView) → now ≡ m → (from : ConsumerView) (made n word : ℕ) (was next : Claim) (before after : SeatView)
+  pub stepped : MovesOn → IsNext → (now : MailboxView) → now ≡ m
+      → (from : ConsumerView) (made n word : ℕ) (was next : Claim) (before after : SeatView)
       (t u v : Stream) → claim_stage was ≡ stage.Going → HasCompeted p k (made + n) was t u from s before
-      → IsSeatStep now.claims.layout k word was before next after → consumer_of was ≡ before.consumer → consumer_of next ≡ consumer_of was
+      → IsSeatStep now.claims.layout k word was before next after → consumer_of was
+      ≡ before.consumer → consumer_of next ≡ consumer_of was
       → IsClaimIn now.claims.layout next (part_on after.consumer k after.part) → (word, v) ≡ next_u64 u
       → HasCompeted p k (made + 1 + n) next t v from s after
   stepped moves nexts now same from made n word was next before after t u v going so step own still turns drawn =
       let size : TableSize = record { layout = m.claims.layout; cells = m.claims.cells } in
       let turned : IsClaimIn m.claims.layout next (part_on after.consumer k after.part) =
       subst (λ (y : MailboxView). IsClaimIn y.claims.layout next (part_on after.consumer k after.part)) same turns in
-      let more = competed_more moves nexts s from p k (made + n) word step.seen was next step.next before after size (At k claim) t u v here
+      let more = competed_more moves nexts s from p k (made + n) word step.seen was next step.next
+      before after size (At k claim) t u v here
       start.loads table going so step.adds (still ∙ own) turned drawn in
       let count : made + n + 1 ≡ made + 1 + n = omega arith in
       subst (λ z. HasCompeted p k z next t v from s after) count more
 
   -- the claim that accesses in a row leave is the consumer's
   pub ran_own :
-      (layout : Layout) (u : Stream) → consumer_of claim ≡ seat.consumer → (made : ℕ) (follows : Claim) (after : SeatView) (v : Stream)
+      (layout : Layout) (u : Stream) → consumer_of claim ≡ seat.consumer
+      → (made : ℕ) (follows : Claim) (after : SeatView) (v : Stream)
       → AreSeatSteps layout k claim seat u made follows after v → consumer_of follows ≡ after.consumer
   ran_own layout u own zero follows after v (is, keeps, e) =
       ap consumer_of is ∙ own ∙ sym (ap (λ (z : SeatView). z.consumer) keeps)
@@ -78,16 +85,19 @@ module _ (m : MailboxView) (p k : ℕ) (claim : Claim) (reader : ReaderSeatView)
 
   -- and they led the consumer on
   pub ran :
-      MovesOn → IsNext → (now : MailboxView) → now ≡ m → consumer_of claim ≡ seat.consumer → (from : ConsumerView) (n : ℕ) (t u : Stream)
+      MovesOn → IsNext → (now : MailboxView) → now ≡ m → consumer_of claim ≡ seat.consumer
+      → (from : ConsumerView) (n : ℕ) (t u : Stream)
       → AreSteps p n None t u from s → (made : ℕ) (follows : Claim) (after : SeatView) (v : Stream)
-      → AreSeatSteps now.claims.layout k claim seat u made follows after v → HasCompeted p k (made + n) follows t v from s after
+      → AreSeatSteps now.claims.layout k claim seat u made follows after v
+      → HasCompeted p k (made + n) follows t v from s after
   ran moves nexts now same own from n t u so zero follows after v (is, keeps, e) =
       let none : n ≡ 0 + n = omega arith in
       subst (λ z. HasCompeted p k z follows t v from s after) none
       (subst (λ c. HasCompeted p k n c t v from s after) (sym is)
       (subst (λ x. HasCompeted p k n claim t v from s x) (sym keeps)
       (subst (λ x. HasCompeted p k n claim t x from s seat) (sym e) (begun from n t u so))))
-  ran moves nexts now same own from n t u so (suc made) follows after v (at, before, w, word, older, going, drawn, step, still, stands) =
+  ran moves nexts now same own from n t u so (suc made) follows after v
+      (at, before, w, word, older, going, drawn, step, still, stands) =
       let count : made + 1 + n ≡ suc made + n = omega arith in
       subst (λ z. HasCompeted p k z follows t v from s after) count
       (stepped moves nexts now same from made n word at follows before after t w v going

@@ -10,7 +10,8 @@ use Rattle.mb_world.specs.Fitting.{parts_of as parts_in}
 use Rattle.mb_world.specs.PartSteps.{no_parts}
 use Rattle.mb_world.specs.Plan.{Histories}
 use Rattle.mb_world.specs.Reporting.{values_put}
-use Rattle.mb_mailbox.specs.Below.{CellsName, ClaimAccess, ClaimTable, Fits, Has, History, Note, Parts, PoolAccess, Producer, Reader, TableSize, consumer_part, claims_in, has_ended, linked_cells, part_on}
+use Rattle.mb_mailbox.specs.Below.{CellsName, ClaimAccess, ClaimTable, Fits, Has, History, Note, Parts, PoolAccess, Producer, Reader, TableSize}
+use Rattle.mb_mailbox.specs.Below.{consumer_part, claims_in, has_ended, linked_cells, part_on}
 use Rattle.mb_mailbox.specs.Consumers.{StandsOn}
 use Rattle.mb_mailbox.specs.Gathering.{count_missing, ended_in, items_in, kept_at}
 use Rattle.mb_mailbox.specs.Hubs.{HubView, IsHub, IsHubOf, IsLedger, IsPutList, LedgerView, PutListView, parts_by}
@@ -40,7 +41,8 @@ nothing_there (x ∷ xs) zero low = absurd (omega arith)
 nothing_there (x ∷ xs) (suc n) low = nothing_there xs n (omega arith)
 
 -- the roll has all its parts
-pub none_out : (roll : Roll) → ((c : ℕ) → c < length roll → (done : List ClaimAccess) × (slice_get roll c ≡ Some (Some done)))
+pub none_out : (roll : Roll) → ((c : ℕ) → c < length roll → (done : List ClaimAccess)
+    × (slice_get roll c ≡ Some (Some done)))
     → count_out roll ≡ 0
 none_out [] all = refl
 none_out (Some done ∷ roll) all = none_out roll (λ c low. all (suc c) (omega arith))
@@ -49,7 +51,8 @@ none_out (None ∷ roll) all =
     let e : None ≡ Some t.0 = some_same None (Some t.0) t.1 in
     absurd (cc)
 
-taken_is : (roll : Roll) (c : ℕ) (done : List ClaimAccess) → slice_get roll c ≡ Some (Some done) → taken_part roll c ≡ done
+taken_is : (roll : Roll) (c : ℕ) (done : List ClaimAccess) → slice_get roll c ≡ Some (Some done)
+    → taken_part roll c ≡ done
 taken_is [] c done e = absurd (cc)
 taken_is (Some d ∷ roll) zero done e = some_same d done (some_same (Some d) (Some done) e)
 taken_is (None ∷ roll) zero done e = let f : None ≡ Some done = some_same None (Some done) e in absurd (cc)
@@ -72,7 +75,8 @@ pub data Keeps (m : MailboxView) (h : HubView) (hs : Histories) (c : ℕ) : Type
   was_in : (l : LedgerView) → kept_at h.ledgers c ≡ Some l
       → length l.places ≡ m.cells.size.lanes → length l.notes ≡ m.cells.size.lanes
       → Fits (plan_at m).claims c (parts_in c hs)
-      → ((p : ℕ) (place : Place) (notes : List Note) → slice_get l.places p ≡ Some place → slice_get l.notes p ≡ Some notes
+      → ((p : ℕ) (place : Place) (notes : List Note) → slice_get l.places p ≡ Some place
+      → slice_get l.notes p ≡ Some notes
       → StandsOn m.claims.layout (plan_at m).claims c p (parts_in c hs) notes place)
       → Keeps m h hs c
   never : kept_at h.ledgers c ≡ None → no_parts ≡ parts_in c hs → Keeps m h hs c
@@ -82,11 +86,13 @@ histories_in claims pool = record { claims = claims; pool = pool; reader_of = λ
 
 module _ (m : MailboxView) (h : HubView) (claims : List ClaimAccess) (pool : History) (i : IsHub h) (of : IsHubOf m h)
     (cut : (c k : ℕ) (h : List ClaimAccess) → part_on c k (consumer_part c h) ≡ part_on c k h)
-    (made : (c : ℕ) → consumer_part c claims ≡ taken_part h.claims.roll c) (is : IsRollOf m.cells.size h.cells.roll pool) where
+    (made : (c : ℕ) → consumer_part c claims ≡ taken_part h.claims.roll c)
+    (is : IsRollOf m.cells.size h.cells.roll pool) where
   abbrev hs : Histories
   hs = histories_in claims pool
 
-  steps : (c : ℕ) (done : List ClaimAccess) → taken_part h.claims.roll c ≡ done → (k : ℕ) → part_on c k done ≡ part_on c k claims
+  steps : (c : ℕ) (done : List ClaimAccess) → taken_part h.claims.roll c ≡ done → (k : ℕ)
+      → part_on c k done ≡ part_on c k claims
   steps c done e k = ap (λ l. part_on c k l) (sym (made c ∙ e)) ∙ cut c k claims
 
   kept : (c : ℕ) (l : LedgerView) (reads : History) (done : List ClaimAccess) → slice_get h.ledgers c ≡ Some (Some l)
@@ -95,8 +101,14 @@ module _ (m : MailboxView) (h : HubView) (claims : List ClaimAccess) (pool : His
   kept c l reads done e r d k =
       let lanes : h.cells.table.size.lanes ≡ m.cells.size.lanes = ap (λ t. t.size.lanes) of.cells in
       let size : k.size ≡ record { layout = m.claims.layout; cells = m.claims.cells } =
-      some_same k.size (record { layout = m.claims.layout; cells = m.claims.cells }) (sym k.of ∙ ap (λ (t : ClaimTable). t.size) of.claims) in
-      let parts : parts_by c reads done ≡ parts_in c hs = λ j. record { reads = sym r j; claimed = λ n. steps c done d n j } in
+      some_same k.size (record {
+        layout = m.claims.layout;
+        cells = m.claims.cells;
+      }) (sym k.of ∙ ap (λ (t : ClaimTable). t.size) of.claims) in
+      let parts : parts_by c reads done ≡ parts_in c hs = λ j. record {
+        reads = sym r j;
+        claimed = λ n. steps c done d n j;
+      } in
       was_in l (ap kept_of e) (k.places_count ∙ lanes) (k.notes_count ∙ lanes)
       (subst (λ (z : TableSize × Parts). Fits (claims_in z.0.layout z.0.cells) c z.1) (λ j. (size j, parts j)) k.fit)
       (λ p place notes f g.
@@ -119,7 +131,8 @@ module _ (m : MailboxView) (h : HubView) (claims : List ClaimAccess) (pool : His
 pub all_in : (h : HubView) → IsHub h → count_missing h.ledgers ≡ 0 → count_out h.claims.roll ≡ 0
 all_in h i all = none_out h.claims.roll (λ c low. by c low (at h.ledgers c all))
   where
-    by : (c : ℕ) → c < length h.claims.roll → At h.ledgers c → (done : List ClaimAccess) × (slice_get h.claims.roll c ≡ Some (Some done))
+    by : (c : ℕ) → c < length h.claims.roll → At h.ledgers c → (done : List ClaimAccess)
+        × (slice_get h.claims.roll c ≡ Some (Some done))
     by c low (here l e) = let t = i.taken c l e in (t.2.0, t.2.1)
     by c low (past e most) = let same = i.seats in absurd (omega arith)
 
@@ -130,7 +143,8 @@ pub record Tells (m : MailboxView) (h : HubView) (pool : History) (p : ℕ) : Ty
   pub ended : ended_in p h ≡ has_ended p pool
   pub linked : (e : Entry) → Has pool (fetch p e) → e.cell < m.cells.size.cells → Has (linked_cells p pool) e.cell
 
-module _ (m : MailboxView) (h : HubView) (pool : History) (i : IsHub h) (of : IsHubOf m h) (is : IsRollOf m.cells.size h.cells.roll pool)
+module _ (m : MailboxView) (h : HubView) (pool : History) (i : IsHub h) (of : IsHubOf m h)
+    (is : IsRollOf m.cells.size h.cells.roll pool)
     (put : (p : ℕ) → put_list p pool ≡ put_list p (part (Producer p) pool))
     (ended : (p : ℕ) → has_ended p pool ≡ has_ended p (part (Producer p) pool))
     (linked : (p : ℕ) → linked_cells p pool ≡ linked_cells p (part (Producer p) pool))
@@ -142,7 +156,8 @@ module _ (m : MailboxView) (h : HubView) (pool : History) (i : IsHub h) (of : Is
       → IsPutList h.cells.table.size.cells p done l → Tells m h pool p
   told p l done e d k = record {
     items = ap (λ o. option_map_or (λ (l : PutListView). l.items) (kept_of o) []) e ∙ k.items ∙ values p done d;
-    ended = ap (λ o. option_map_or (λ (l : PutListView). l.ended) (kept_of o) false) e ∙ k.ended ∙ ap (has_ended p) (sym d) ∙ sym (ended p);
+    ended = ap (λ o. option_map_or (λ (l : PutListView). l.ended) (kept_of o) false) e ∙ k.ended
+        ∙ ap (has_ended p) (sym d) ∙ sym (ended p);
     linked = λ entry has low.
         subst (λ ks. Has ks entry.cell) (ap (linked_cells p) (sym d) ∙ sym (linked p))
         (k.linked entry (subst (λ z. Has z (fetch p entry)) d (all (Producer p) (fetch p entry) has refl))
@@ -152,7 +167,8 @@ module _ (m : MailboxView) (h : HubView) (pool : History) (i : IsHub h) (of : Is
   silent : (p : ℕ) → slice_get h.puts p ≡ None → part (Producer p) pool ≡ [] → Tells m h pool p
   silent p e none = record {
     items = ap (λ o. option_map_or (λ (l : PutListView). l.items) (kept_of o) []) e ∙ values p [] none;
-    ended = ap (λ o. option_map_or (λ (l : PutListView). l.ended) (kept_of o) false) e ∙ ap (has_ended p) (sym none) ∙ sym (ended p);
+    ended = ap (λ o. option_map_or (λ (l : PutListView). l.ended) (kept_of o) false) e
+        ∙ ap (has_ended p) (sym none) ∙ sym (ended p);
     linked = λ entry has low.
         absurd (subst (λ z. Has z (fetch p entry)) none (all (Producer p) (fetch p entry) has refl));
   }

@@ -8,7 +8,8 @@ use Rattle.mb_cells.specs.declared.answer.Look.TheVariants as look
 use Rattle.mb_cells.specs.Vocabulary.{Entry, entry_at, put_list}
 use Rattle.mb_shared_cells.specs.Vocabulary.{LookMakes}
 use Rattle.mb_world.specs.Reporting.{values_put}
-use Rattle.mb_mailbox.specs.Below.{Claim, ClaimAccess, Cursor, END, HasMet, History, Note, Has, Load, ReaderSeatView, Reader, Stage, cells_met, claims_in, has_ended, linked_cells, load, look_of, part, place_past, word_of}
+use Rattle.mb_mailbox.specs.Below.{Claim, ClaimAccess, Cursor, END, HasMet, History, Note, Has, Load, ReaderSeatView, Reader, Stage, cells_met, claims_in}
+use Rattle.mb_mailbox.specs.Below.{has_ended, linked_cells, load, look_of, part, place_past, word_of}
 use Rattle.mb_mailbox.specs.declared.consumer.Poll.{Poll}
 use Rattle.mb_mailbox.specs.declared.consumer.Poll.TheVariants as poll
 use Rattle.mb_mailbox.specs.declared.place.Place.TheVariants.{Before}
@@ -28,9 +29,11 @@ use Rattle.mb_mailbox.proofs.Standings.{same_length}
 pub noted : (s : ConsumerView) (p : ℕ) (at : Cursor) → IsConsumer s → HasPlace p (Before at) s → HasNoteOnEach p s
 noted s p at i e =
     let b = before s p at i e in
-    let on : notes_on p s.notes ≡ b.0 = ap (λ (z : Option (List Note)). option_map_or (λ (l : List Note). l) z []) b.1 in
+    let on : notes_on p s.notes ≡ b.0 =
+    ap (λ (z : Option (List Note)). option_map_or (λ (l : List Note). l) z []) b.1 in
     ap length on ∙ sym (length-reverse b.0)
-    ∙ same_length (claims_in i.size.layout i.size.cells) s.seat.consumer (cells_met p s.reader.part) (reverse b.0) (parts_of s.reader s.seat) b.2.ended
+    ∙ same_length (claims_in i.size.layout i.size.cells) s.seat.consumer (cells_met p s.reader.part)
+    (reverse b.0) (parts_of s.reader s.seat) b.2.ended
 
 -- there are as many items as cells
 items_count : (p : ℕ) (h : History) → length (values_put p h) ≡ length (linked_cells p h)
@@ -40,13 +43,20 @@ items_count p h =
     ∙ length-map (linked_cells p h) (λ k. entry_at k h)
 
 -- what it met it met by its own part
-met_by_part : Laws → (s : ConsumerView) (p : ℕ) → HasLoads s → HasMet s.reader.reader p (cells_met p s.reader.part) s.reader.part
+met_by_part : Laws → (s : ConsumerView) (p : ℕ) → HasLoads s
+    → HasMet s.reader.reader p (cells_met p s.reader.part) s.reader.part
 met_by_part laws s p h =
     subst (λ (d : History). HasMet s.reader.reader p (cells_met p d) d) h.2
-    (laws.own_met h.0 s.reader.reader p (cells_met p (part (Reader s.reader.reader) h.0)) (laws.met s.reader.reader p h.0))
+    (laws.own_met h.0 s.reader.reader p (cells_met p (part (Reader s.reader.reader) h.0))
+    (laws.met s.reader.reader p h.0))
 
-module _ (laws : Laws) (s : ConsumerView) (p : ℕ) (at : Cursor) (now : ReaderSeatView) (i : IsConsumer s) (h : HasLoads s) (e : HasPlace p (Before at) s)
-    (v : ℕ) (none : (v ≡ 0) ⊎ (v ≡ END)) (is : now ≡ record s.reader { part = load s.reader.reader (word_of at) v ∷ s.reader.part }) where
+module _ (laws : Laws) (s : ConsumerView) (p : ℕ) (at : Cursor) (now : ReaderSeatView)
+    (i : IsConsumer s) (h : HasLoads s) (e : HasPlace p (Before at) s)
+    (v : ℕ) (none : (v ≡ 0) ⊎ (v ≡ END))
+    (is : now ≡ record s.reader {
+      part = load s.reader.reader (word_of at) v
+          ∷ s.reader.part;
+    }) where
   pub word : word_of at ≡ place_past p (cells_met p s.reader.part)
   word = (before s p at i e).2.word
 
@@ -59,7 +69,8 @@ module _ (laws : Laws) (s : ConsumerView) (p : ℕ) (at : Cursor) (now : ReaderS
   pub noted_still : HasNoteOnEach p (record s { reader = now })
   noted_still = noted s p at i e ∙ ap length (sym met_still)
 
-  pub read_whole : (theirs : History) (over : Bool) → (cells_met p s.reader.part ≡ linked_cells p theirs) × (has_ended p theirs ≡ over)
+  pub read_whole : (theirs : History) (over : Bool)
+      → (cells_met p s.reader.part ≡ linked_cells p theirs) × (has_ended p theirs ≡ over)
       → HasReadWhole p theirs over (record s { reader = now })
   read_whole theirs over so = record {
     cells = met_still ∙ so.0;
@@ -80,10 +91,13 @@ some_poll : (a b : Poll) → Some a ≡ Some b → a ≡ b
 some_poll a b e = cc
 
 pub tells_nothing : Laws → ((v : ℕ) → look_of v ≡ look.Nothing → v ≡ 0)
-    → (s : ConsumerView) (p : ℕ) (at : Cursor) (now : ReaderSeatView) → IsConsumer s → HasLoads s → HasPlace p (Before at) s
+    → (s : ConsumerView) (p : ℕ) (at : Cursor) (now : ReaderSeatView) → IsConsumer s → HasLoads s
+    → HasPlace p (Before at) s
     → LookMakes s.reader at look.Nothing now
-    → ((theirs : History) → slice_get s.reader.known p ≡ Some (Some theirs) → HasMet s.reader.reader p (cells_met p s.reader.part) s.reader.part
-    → word_of at ≡ place_past p (cells_met p s.reader.part) → (cells_met p s.reader.part ≡ linked_cells p theirs) × (has_ended p theirs ≡ false))
+    → ((theirs : History) → slice_get s.reader.known p ≡ Some (Some theirs)
+    → HasMet s.reader.reader p (cells_met p s.reader.part) s.reader.part
+    → word_of at ≡ place_past p (cells_met p s.reader.part)
+    → (cells_met p s.reader.part ≡ linked_cells p theirs) × (has_ended p theirs ≡ false))
     → AnswerTells p (Some poll.Nothing) s (record s { reader = now })
 tells_nothing laws zero_by s p at now i h e m whole =
     let none = inl (zero_by m.0 (sym m.1)) in record {
@@ -95,10 +109,13 @@ tells_nothing laws zero_by s p at now i h e m whole =
     }
 
 pub tells_end : Laws → ((v : ℕ) → look_of v ≡ look.Ended → v ≡ END)
-    → (s : ConsumerView) (p : ℕ) (at : Cursor) (now : ReaderSeatView) → IsConsumer s → HasLoads s → HasPlace p (Before at) s
+    → (s : ConsumerView) (p : ℕ) (at : Cursor) (now : ReaderSeatView) → IsConsumer s → HasLoads s
+    → HasPlace p (Before at) s
     → LookMakes s.reader at look.Ended now
-    → ((theirs : History) → slice_get s.reader.known p ≡ Some (Some theirs) → HasMet s.reader.reader p (cells_met p s.reader.part) s.reader.part
-    → word_of at ≡ place_past p (cells_met p s.reader.part) → (cells_met p s.reader.part ≡ linked_cells p theirs) × (has_ended p theirs ≡ true))
+    → ((theirs : History) → slice_get s.reader.known p ≡ Some (Some theirs)
+    → HasMet s.reader.reader p (cells_met p s.reader.part) s.reader.part
+    → word_of at ≡ place_past p (cells_met p s.reader.part)
+    → (cells_met p s.reader.part ≡ linked_cells p theirs) × (has_ended p theirs ≡ true))
     → AnswerTells p (Some poll.Ended) s (record s { reader = now })
 tells_end laws end_by s p at now i h e m whole =
     let end = end_by m.0 (sym m.1) in
@@ -129,7 +146,8 @@ tells_item p v old new has = record {
 }
 
 -- that of a claim, which has its note where it has an answer
-pub tells_stage : (p : ℕ) (st : Stage) (old new : ConsumerView) → (stage_answer st ≢ None → HasNoteOnEach p new) → AnswerTells p (stage_answer st) old new
+pub tells_stage : (p : ℕ) (st : Stage) (old new : ConsumerView)
+    → (stage_answer st ≢ None → HasNoteOnEach p new) → AnswerTells p (stage_answer st) old new
 tells_stage p stage.Going old new has = tells_none p old new
 tells_stage p stage.Won old new has = tells_none p old new
 tells_stage p (stage.Lost w) old new has = record {
@@ -146,8 +164,10 @@ tells_stage p stage.Undecided old new has = record {
 }
 
 -- a claim with an answer leads past its cell, where all cells met have their notes
-pub noted_after : (s : ConsumerView) (p k : ℕ) (claim : Claim) (st : Stage) (o : Option Note) (reads : History) (made : List ClaimAccess) (was : Place)
-    → slice_get s.places p ≡ Some was → stage_answer st ≢ None → IsConsumer (moved_to p (place_after k claim st) o reads made s)
+pub noted_after : (s : ConsumerView) (p k : ℕ) (claim : Claim) (st : Stage) (o : Option Note)
+    (reads : History) (made : List ClaimAccess) (was : Place)
+    → slice_get s.places p ≡ Some was → stage_answer st ≢ None
+    → IsConsumer (moved_to p (place_after k claim st) o reads made s)
     → HasNoteOnEach p (moved_to p (place_after k claim st) o reads made s)
 noted_after s p k claim stage.Going o reads made was e some i = absurd (some refl)
 noted_after s p k claim stage.Won o reads made was e some i = absurd (some refl)

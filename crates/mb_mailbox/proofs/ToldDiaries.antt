@@ -7,7 +7,8 @@ use Rattle.mb_claim.specs.declared.access.Stage.TheVariants as stage
 use Rattle.mb_world.specs.Fitting.{parts_of as parts_in}
 use Rattle.mb_world.specs.Plan.{Histories, Plan}
 use Rattle.mb_world.specs.Reporting.{HasMetAll, IsDiaryOf}
-use Rattle.mb_mailbox.specs.Below.{Claim, Claims, EndsAs, Has, IsClaimIn, IsClaimPrefix, Layout, Lost, Note, ObjectTurn, Parts, Stage, Took, Undecided, cells_met, claim_stage, consumer_of, is_begun, note_of}
+use Rattle.mb_mailbox.specs.Below.{Claim, Claims, EndsAs, Has, IsClaimIn, IsClaimPrefix, Layout, Lost, Note, ObjectTurn, Parts, Stage, Took, Undecided}
+use Rattle.mb_mailbox.specs.Below.{cells_met, claim_stage, consumer_of, is_begun, note_of}
 use Rattle.mb_mailbox.specs.Consumers.{AreEnds, IsAt, StandsOn}
 use Rattle.mb_mailbox.specs.Gathering.{has_begun_at}
 use Rattle.mb_mailbox.specs.declared.place.Place.{Place}
@@ -33,20 +34,24 @@ module _ (cs : Claims) (c : ℕ) (x : Parts) where
   has_end (j ∷ ks) (n ∷ ns) k e (inr has) = has_end ks ns k e.1 has
 
   -- the same in the order of time
-  noted : (ks : List ℕ) (notes : List Note) (j : ℕ) (n : Note) → AreEnds cs c ks (reverse notes) x → slice_get notes j ≡ Some n
+  noted : (ks : List ℕ) (notes : List Note) (j : ℕ) (n : Note) → AreEnds cs c ks (reverse notes) x
+      → slice_get notes j ≡ Some n
       → (k : ℕ) × FromEnd ks j k × EndsAs cs c k n x
   noted ks notes j n e at =
       note_end ks (reverse notes) j n e
-      (from_end (reverse notes) j n (subst (λ (l : List Note). slice_get l j ≡ Some n) (sym (reverse-reverse notes)) at))
+      (from_end (reverse notes) j n (subst (λ (l : List Note). slice_get l j ≡ Some n)
+      (sym (reverse-reverse notes)) at))
 
-  short : (ks : List ℕ) (notes : List Note) (j k : ℕ) → AreEnds cs c ks (reverse notes) x → FromEnd ks j k → j < length notes
+  short : (ks : List ℕ) (notes : List Note) (j k : ℕ) → AreEnds cs c ks (reverse notes) x
+      → FromEnd ks j k → j < length notes
   short ks notes j k e at =
       subst (λ n. j < n) (sym (same_length cs c ks (reverse notes) x e) ∙ length-reverse notes) (end_within ks j k at)
 
   -- a claim that is held has no end
   held_open : (layout : Layout) (p : ℕ) (notes : List Note) (k : ℕ) (claim : Claim) (n : Note)
       → ((xs : List ObjectTurn) (s r : Stage) → IsClaimPrefix cs c xs s → IsClaimPrefix cs c xs r → s ≡ r)
-      → ((xs : List ObjectTurn) → IsClaimIn layout claim xs → consumer_of claim ≡ c → IsClaimPrefix cs c xs (claim_stage claim))
+      → ((xs : List ObjectTurn) → IsClaimIn layout claim xs → consumer_of claim ≡ c
+      → IsClaimPrefix cs c xs (claim_stage claim))
       → IsAt layout cs c p x notes k claim → EndsAs cs c k n x → ⊥
   held_open layout p notes k claim (Took v) one path o e = o.left.0 v e.1
   held_open layout p notes k claim (Lost w) one path o e =
@@ -59,8 +64,10 @@ module _ (cs : Claims) (c : ℕ) (x : Parts) where
       absurd (cc)
 
 pub diary_is : (plan : Plan) (layout : Layout) (c p : ℕ) (hs : Histories) (notes : List Note) (place : Place)
-    → ((xs : List ObjectTurn) (s r : Stage) → IsClaimPrefix plan.claims c xs s → IsClaimPrefix plan.claims c xs r → s ≡ r)
-    → ((claim : Claim) (xs : List ObjectTurn) → IsClaimIn layout claim xs → consumer_of claim ≡ c → IsClaimPrefix plan.claims c xs (claim_stage claim))
+    → ((xs : List ObjectTurn) (s r : Stage) → IsClaimPrefix plan.claims c xs s
+    → IsClaimPrefix plan.claims c xs r → s ≡ r)
+    → ((claim : Claim) (xs : List ObjectTurn) → IsClaimIn layout claim xs → consumer_of claim ≡ c
+    → IsClaimPrefix plan.claims c xs (claim_stage claim))
     → HasMetAll (hs.reader_of c) p (cells_met p (parts_in c hs).reads) hs.pool
     → StandsOn layout plan.claims c p (parts_in c hs) notes place
     → IsDiaryOf plan c p hs (record { consumer = c; lane = p; notes = notes; begun = has_begun_at place })
@@ -92,16 +99,22 @@ diary_is plan layout c p hs notes (At k claim) one path met o =
       cells = ks;
       met = met;
       notes = λ j n e.
-          let t = noted cs c x o.cells notes j n o.ended e in
-          (t.0, subst (λ (l : List ℕ). slice_get (reverse l) j ≡ Some t.0) (sym o.met) (at_end (k ∷ o.cells) j t.0 (inr t.1)), t.2);
+          let t = noted cs c x o.cells notes j n o.ended e in (
+            t.0,
+            subst (λ (l : List ℕ). slice_get (reverse l) j ≡ Some t.0) (sym o.met)
+                (at_end (k ∷ o.cells) j t.0 (inr t.1)),
+            t.2,
+          );
       all = λ j i n e end.
-          ⊎_elim (λ (is : (j ≡ length o.cells) × (k ≡ i)). absurd (still n (subst (λ z. EndsAs cs c z n x) (sym is.1) end)))
+          ⊎_elim (λ (is : (j ≡ length o.cells) × (k ≡ i)). absurd
+          (still n (subst (λ z. EndsAs cs c z n x) (sym is.1) end)))
           (λ (older : FromEnd o.cells j i). short cs c x o.cells notes j i o.ended older)
           (from_end (k ∷ o.cells) j i (subst (λ (l : List ℕ). slice_get (reverse l) j ≡ Some i) o.met e));
       begun = (
         λ e. (k, subst (λ (l : List ℕ). Has l k) (sym o.met) (inl refl), begun.0 e, still),
         λ t. ⊎_elim (λ (is : k ≡ t.0). begun.1 (subst (λ i. x.claimed i ≢ []) (sym is) t.2))
-            (λ (has : Has o.cells t.0). let e = has_end cs c x o.cells (reverse notes) t.0 o.ended has in absurd (t.3 e.0 e.1))
+            (λ (has : Has o.cells t.0). let e = has_end cs c x o.cells (reverse notes) t.0 o.ended
+            has in absurd (t.3 e.0 e.1))
             (subst (λ (l : List ℕ). Has l t.0) o.met t.1),
       );
     }

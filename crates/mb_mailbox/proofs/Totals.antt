@@ -14,7 +14,8 @@ unfolding total
 shift f zero = refl
 shift f (suc n) = omega (arith, shift f n)
 
-pub summed : {X : Type 0} (g : X → ℕ) (f : ℕ → ℕ) (xs : List X) → ((j : ℕ) (x : X) → slice_get xs j ≡ Some x → g x ≡ f j)
+pub summed : {X : Type 0} (g : X → ℕ) (f : ℕ → ℕ) (xs : List X)
+    → ((j : ℕ) (x : X) → slice_get xs j ≡ Some x → g x ≡ f j)
     → sum_by g xs ≡ total f (length xs)
 unfolding total
 summed g f [] each = refl
@@ -36,7 +37,8 @@ unfolding total
 total_most f g zero each = omega arith
 total_most f g (suc n) each = let here = each n in let rest = total_most f g n each in omega (arith, here, rest)
 
-pub sum_most : {X : Type 0} (g : X → ℕ) (f : ℕ → ℕ) (xs : List X) → ((j : ℕ) (x : X) → slice_get xs j ≡ Some x → g x ≤ f j)
+pub sum_most : {X : Type 0} (g : X → ℕ) (f : ℕ → ℕ) (xs : List X)
+    → ((j : ℕ) (x : X) → slice_get xs j ≡ Some x → g x ≤ f j)
     → sum_by g xs ≤ total f (length xs)
 unfolding total
 sum_most g f [] each = omega arith

@@ -20,20 +20,23 @@ zip_through R S T step (x ∷ xs) [] zs r s = absurd r
 zip_through R S T step (x ∷ xs) (y ∷ ys) [] r s = absurd s
 zip_through R S T step (x ∷ xs) (y ∷ ys) (z ∷ zs) r s = (step x y z r.0 s.0, zip_through R S T step xs ys zs r.1 s.1)
 
-pub zip_as : {A B : Type 0} (R S : A → B → Type 0) → ((a : A) (b : B) → R a b → S a b) → (xs : List A) (ys : List B) → AllZip R xs ys → AllZip S xs ys
+pub zip_as : {A B : Type 0} (R S : A → B → Type 0) → ((a : A) (b : B) → R a b → S a b)
+    → (xs : List A) (ys : List B) → AllZip R xs ys → AllZip S xs ys
 zip_as R S step [] [] z = tt
 zip_as R S step [] (y ∷ ys) z = absurd z
 zip_as R S step (x ∷ xs) [] z = absurd z
 zip_as R S step (x ∷ xs) (y ∷ ys) z = (step x y z.0, zip_as R S step xs ys z.1)
 
-pub zip_length : {A B : Type 0} (R : A → B → Type 0) (xs : List A) (ys : List B) → AllZip R xs ys → length xs ≡ length ys
+pub zip_length : {A B : Type 0} (R : A → B → Type 0) (xs : List A) (ys : List B) → AllZip R xs ys
+    → length xs ≡ length ys
 zip_length R [] [] z = refl
 zip_length R [] (y ∷ ys) z = absurd z
 zip_length R (x ∷ xs) [] z = absurd z
 zip_length R (x ∷ xs) (y ∷ ys) z = let t = zip_length R xs ys z.1 in omega (arith, t)
 
 -- one more element has gone from the rest to those seen
-pub next_seen : {A : Type 0} (seen : List A) (x : A) (rest was all : List A) → seen ++ was ≡ all → was ≡ x ∷ rest → (seen ++ x ∷ []) ++ rest ≡ all
+pub next_seen : {A : Type 0} (seen : List A) (x : A) (rest was all : List A) → seen ++ was ≡ all
+    → was ≡ x ∷ rest → (seen ++ x ∷ []) ++ rest ≡ all
 next_seen seen x rest was all whole first = append_assoc seen (x ∷ []) rest ∙ ap (λ l. seen ++ l) (sym first) ∙ whole
 
 -- all have been seen where none is left

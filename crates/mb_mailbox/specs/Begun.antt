@@ -32,7 +32,8 @@ module _ {G Z : Type 0} (may_stop may_pass : G → Who → ℕ → Type 0) where
 
   -- this is the end of what was begun
   abbrev pub PutKeeps : PutBegun G Z → PutDone Z → Type 0
-  PutKeeps (put.Apart h) d = IsPutEnd (may_stop h.promise.gate.value) (may_pass h.promise.gate.value) h.promise.job.value d
+  PutKeeps (put.Apart h) d = IsPutEnd (may_stop h.promise.gate.value)
+      (may_pass h.promise.gate.value) h.promise.job.value d
   PutKeeps (put.Here e) d = d ≡ e
 
 module _ {G R Z : Type 0} (may_stop may_pass : G → Who → ℕ → Type 0) (stream : R → Stream) where
@@ -45,6 +46,7 @@ module _ {G R Z : Type 0} (may_stop may_pass : G → Who → ℕ → Type 0) (st
 
   abbrev pub PollKeeps : PollBegun G R Z → PollDone Z → Type 0
   PollKeeps (poll.Apart h) d =
-      IsPollEnd (may_stop h.promise.gate.value) (may_pass h.promise.gate.value) h.promise.from h.promise.end h.promise.budget
+      IsPollEnd (may_stop h.promise.gate.value) (may_pass h.promise.gate.value) h.promise.from
+      h.promise.end h.promise.budget
       (stream h.promise.rng.value) h.promise.consumer.value d
   PollKeeps (poll.Here e) d = d ≡ e

@@ -38,10 +38,12 @@ pub record WasPolled (may_stop may_pass : Who → ℕ → Type 0) (from end budg
   pub ledger : l.ledger ≡ record { places = last.places; notes = last.notes }
 
 -- so did each of these consumers, the first of which is number c: one for each of these sources, in their order
-abbrev pub WerePolled : (Who → ℕ → Type 0) → (Who → ℕ → Type 0) → ℕ → ℕ → ℕ → ℕ → List Stream → List ConsumerLeft → Type 0
+abbrev pub WerePolled : (Who → ℕ → Type 0) → (Who → ℕ → Type 0) → ℕ → ℕ → ℕ → ℕ → List Stream
+    → List ConsumerLeft → Type 0
 WerePolled may_stop may_pass from end budget c [] [] = Unit {0}
 WerePolled may_stop may_pass from end budget c (source ∷ sources) (l ∷ ls) =
-    WasPolled may_stop may_pass from end budget c source l × WerePolled may_stop may_pass from end budget (suc c) sources ls
+    WasPolled may_stop may_pass from end budget c source l
+    × WerePolled may_stop may_pass from end budget (suc c) sources ls
 WerePolled may_stop may_pass from end budget c _ _ = ⊥
 
 -- all that was given was taken in, and made its calls where the gate may let it pass: each call of a consumer is a poll, with
@@ -54,5 +56,6 @@ pub record IsCalled (may_stop may_pass : Who → ℕ → Type 0) (budget : ℕ) 
   pub run : IsRunOf lists (length sources) lanes consumers old new
   pub stopped : w.stopped ≡ sum_by (λ l. from_bool l.stopped) lanes + sum_by (λ c. from_bool c.stopped) consumers
   pub puts : WerePassed may_pass (length old.puts) lists lanes
-  pub polls : WerePolled may_stop may_pass (length old.puts) (length old.puts + length lists) budget (length old.ledgers) sources
+  pub polls : WerePolled may_stop may_pass (length old.puts) (length old.puts + length lists) budget
+      (length old.ledgers) sources
       consumers

@@ -27,7 +27,8 @@ pub record IsCall (from end budget : ℕ) (c : Call) (s t : Stream) (old new : C
 abbrev pub AreCalls : ℕ → ℕ → ℕ → List Call → Stream → Stream → ConsumerView → ConsumerView → Type 0
 AreCalls from end budget [] s t old new = (t ≡ s) × (new ≡ old)
 AreCalls from end budget (c ∷ older) s t old new =
-    (u : Stream) × (mid : ConsumerView) × AreCalls from end budget older s u old mid × IsCall from end budget c u t mid new
+    (u : Stream) × (mid : ConsumerView) × AreCalls from end budget older s u old mid
+    × IsCall from end budget c u t mid new
 
 -- so many calls were made so, and the gate let each through
 pub record HasCalled (may_pass : Who → ℕ → Type 0) (from end budget calls : ℕ) (s t : Stream) (old new : ConsumerView)

@@ -7,7 +7,8 @@ use Rattle.mb_mailbox.specs.declared.working.room.Jobs.{Jobs}
 
 module _ {R Z : Type 0} where
   -- the jobs are those of a front of these lists, and of so many consumers at most, with the next numbers
-  pub record AreGiven (m : MailboxView) (lists : List (Vec ℕ Z)) (sources : ℕ) (jobs : Jobs R Z) (old new : HubView) : Type 0 where
+  pub record AreGiven (m : MailboxView) (lists : List (Vec ℕ Z)) (sources : ℕ) (jobs : Jobs R Z)
+      (old new : HubView) : Type 0 where
     pub puts : ArePutJobsOfFront m (length old.puts) lists jobs.puts.items
     pub polls : ArePollJobs m (length old.ledgers) jobs.polls.items
     pub small : vec_len jobs.puts ≤ length lists
@@ -15,6 +16,7 @@ module _ {R Z : Type 0} where
     pub hub : new ≡ with_consumers jobs.polls.items (with_producers jobs.puts.items old)
 
   -- and they are all: each consumer has the source in its place
-  pub record AreAllGiven (m : MailboxView) (lists : List (Vec ℕ Z)) (sources : List R) (jobs : Jobs R Z) (old : HubView) : Type 0 where
+  pub record AreAllGiven (m : MailboxView) (lists : List (Vec ℕ Z)) (sources : List R)
+      (jobs : Jobs R Z) (old : HubView) : Type 0 where
     pub puts : ArePutJobs m (length old.puts) lists jobs.puts.items
     pub polls : map (λ j. j.rng) jobs.polls.items ≡ sources

@@ -44,7 +44,8 @@ module _ {Z : Type 0} where
   ArePutJobs m p _ _ = ⊥
 
   -- the jobs are those of the lists in front
-  pub record ArePutJobsOfFront (m : MailboxView) (p : ℕ) (lists : List (Vec ℕ Z)) (jobs : List (PutJob Z)) : Type 0 where
+  pub record ArePutJobsOfFront (m : MailboxView) (p : ℕ) (lists : List (Vec ℕ Z))
+      (jobs : List (PutJob Z)) : Type 0 where
     pub front : List (Vec ℕ Z)
     pub rest : List (Vec ℕ Z)
     pub whole : front ++ rest ≡ lists

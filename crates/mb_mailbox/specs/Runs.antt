@@ -21,10 +21,12 @@ module _ {R Z : Type 0} where
 
   -- these are the ends of the jobs, in their order, where consumers read the lanes from `from` on and below `end` with this
   -- budget, each with the words of its own source, and the gate may stop them, or let them pass, before these calls
-  pub record AreEndsOf (may_stop may_pass : Who → ℕ → Type 0) (stream : R → Stream) (from end budget : ℕ) (jobs : Jobs R Z) (ends : Ends Z)
+  pub record AreEndsOf (may_stop may_pass : Who → ℕ → Type 0) (stream : R → Stream)
+      (from end budget : ℕ) (jobs : Jobs R Z) (ends : Ends Z)
       : Type 0 where
     pub puts : AllZip (IsPutEnd may_stop may_pass) jobs.puts.items ends.puts.items
-    pub polls : AllZip (λ j d. IsPollEnd may_stop may_pass from end budget (stream j.rng) j.consumer d) jobs.polls.items ends.polls.items
+    pub polls : AllZip (λ j d. IsPollEnd may_stop may_pass from end budget (stream j.rng) j.consumer
+        d) jobs.polls.items ends.polls.items
 
 module _ {Z : Type 0} where
   -- all ends are of the mailbox
@@ -39,7 +41,8 @@ module _ {Z : Type 0} where
 
   -- how many were stopped
   abbrev pub count_stopped : Ends Z → ℕ
-  count_stopped ends = sum_by (λ d. from_bool d.stopped) ends.puts.items + sum_by (λ d. from_bool d.stopped) ends.polls.items
+  count_stopped ends = sum_by (λ d. from_bool d.stopped) ends.puts.items + sum_by
+      (λ d. from_bool d.stopped) ends.polls.items
 
   -- the hub with all of them taken in, in their order
   abbrev pub with_taken : Ends Z → HubView → HubView

@@ -82,7 +82,8 @@ items_beyond (list ∷ lists) (l ∷ ls) = items_behind l.stopped list l.put + i
 abbrev pub AreCutByCells : ℕ → ℕ → List (List ℕ) → List LaneLeft → Type 0
 AreCutByCells cells p [] [] = Unit {0}
 AreCutByCells cells p (list ∷ lists) (l ∷ ls) =
-    (l.stopped ≡ false → length l.put < length list → HasFoundNone cells p l.part) × AreCutByCells cells (suc p) lists ls
+    (l.stopped ≡ false → length l.put < length list → HasFoundNone cells p l.part)
+    × AreCutByCells cells (suc p) lists ls
 AreCutByCells cells p _ _ = ⊥
 
 -- ---- notes
@@ -131,11 +132,13 @@ AreStoppedPuts may_stop cells p _ _ = ⊥
 abbrev pub AreStoppedPolls : (Who → ℕ → Type 0) → ℕ → ℕ → List ConsumerLeft → Type 0
 AreStoppedPolls may_stop budget c [] = Unit {0}
 AreStoppedPolls may_stop budget c (l ∷ ls) =
-    (l.stopped ≡ true → IsStoppedPoll may_stop budget c (length l.reads + length l.claimed)) × AreStoppedPolls may_stop budget (suc c) ls
+    (l.stopped ≡ true → IsStoppedPoll may_stop budget c (length l.reads + length l.claimed))
+    × AreStoppedPolls may_stop budget (suc c) ls
 
 -- all that was given was taken in, and these are the counts, where the gate may stop these workers before these calls, and
 -- a poll makes at most `budget` accesses
-pub record IsWorked (may_stop : Who → ℕ → Type 0) (budget : ℕ) (lists : List (List ℕ)) (sources : ℕ) (w : Worked) (old new : HubView)
+pub record IsWorked (may_stop : Who → ℕ → Type 0) (budget : ℕ) (lists : List (List ℕ)) (sources : ℕ)
+    (w : Worked) (old new : HubView)
     : Type 0 where
   pub lanes : List LaneLeft
   pub consumers : List ConsumerLeft

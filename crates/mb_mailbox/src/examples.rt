@@ -93,20 +93,27 @@ pub fn polls_end_with_their_answer()
 
 /// What a put adds whose item is linked.
 pub fn puts_make_three_accesses()
-    ensures linked { (name : CellsName) → IsPutInto 0 7 (idle_producer name) (producer_of_one name has_linked seven_put (7 ∷ [])) }
+    ensures linked { (name : CellsName) → IsPutInto 0 7 (idle_producer name)
+        (producer_of_one name has_linked seven_put (7 ∷ [])) }
     ensures link_first { (name : CellsName)
-        → IsPutInto 0 7 (idle_producer name) (producer_of_one name has_linked linked_early (7 ∷ [])) → ⊥ }
-    ensures not_kept { (name : CellsName) → IsPutInto 0 7 (idle_producer name) (producer_of_one name has_linked seven_put []) → ⊥ }
+        → IsPutInto 0 7 (idle_producer name) (producer_of_one name has_linked linked_early (7 ∷ []))
+        → ⊥ }
+    ensures not_kept { (name : CellsName) → IsPutInto 0 7 (idle_producer name)
+        (producer_of_one name has_linked seven_put []) → ⊥ }
     ensures no_such_cell { (name : CellsName)
-        → IsPutInto 1 7 (idle_producer name) (producer_of_one name has_linked seven_put (7 ∷ [])) → ⊥ }
+        → IsPutInto 1 7 (idle_producer name) (producer_of_one name has_linked seven_put (7 ∷ []))
+        → ⊥ }
 {}
 
 /// A put is full only behind a fetch-add that found no cell; and a lane ends only with its mark.
 pub fn puts_are_full_for_a_reason()
-    ensures always_full { (name : CellsName) → HasNoCellFor 8 (idle_producer name) (idle_producer name) → ⊥ }
+    ensures always_full { (name : CellsName) → HasNoCellFor 8 (idle_producer name)
+        (idle_producer name) → ⊥ }
     ensures found_one { (name : CellsName)
-        → IsFirstPastCells 8 (idle_producer name) (producer_of_one name new_lane (fetched 0 8) []) → ⊥ }
-    ensures not_ended { (name : CellsName) → IsEndOfLane (idle_producer name) (idle_producer name) → ⊥ }
+        → IsFirstPastCells 8 (idle_producer name) (producer_of_one name new_lane (fetched 0 8) [])
+        → ⊥ }
+    ensures not_ended { (name : CellsName) → IsEndOfLane (idle_producer name) (idle_producer name)
+        → ⊥ }
 {}
 
 /// What workers leave: items that were not put, a lane that is cut short, and notes.
@@ -125,8 +132,10 @@ pub fn consumers_look_at_lanes()
     ensures none { IsOnLanes 1 1 [] }
     ensures below { IsOnLanes 1 3 (load 0 (Head 0) 0 ∷ []) → ⊥ }
     ensures past { IsOnLanes 1 3 (load 0 (Head 3) 0 ∷ []) → ⊥ }
-    ensures ends { ends_met (load 0 (Link 4) END ∷ load 0 (Head 1) END ∷ load 0 (Head 1) 5 ∷ []) ≡ 2 }
-    ensures no_ends { ends_met (store 0 (Head 0) END ∷ load 0 (Item 4) END ∷ load 0 (Link 4) 0 ∷ []) ≡ 0 }
+    ensures ends { ends_met (load 0 (Link 4) END ∷ load 0 (Head 1) END ∷ load 0 (Head 1) 5 ∷ [])
+        ≡ 2 }
+    ensures no_ends { ends_met (store 0 (Head 0) END ∷ load 0 (Item 4) END ∷ load 0 (Link 4) 0 ∷ [])
+        ≡ 0 }
 {}
 
 /// Which end marks consumers have loaded: each by itself, past the cells of their lane, and each once.
@@ -135,7 +144,8 @@ pub fn consumers_read_to_the_end()
     ensures not_met { HasMetEnd 0 1 (load 0 (Link 4) END ∷ []) → ⊥ }
     ensures other_lane { HasMetEnd 0 2 (load 0 (Link 4) END ∷ load 0 (Head 1) 5 ∷ []) → ⊥ }
     ensures other_reader { HasMetEnd 1 1 (load 0 (Link 4) END ∷ load 0 (Head 1) 5 ∷ []) → ⊥ }
-    ensures both { HaveMetEnds 0 2 0 (reader_left (load 0 (Head 1) END ∷ load 0 (Head 0) END ∷ []) ∷ []) }
+    ensures both { HaveMetEnds 0 2 0
+        (reader_left (load 0 (Head 1) END ∷ load 0 (Head 0) END ∷ []) ∷ []) }
     ensures one_of_two { HasMetEnds 0 2 0 (load 0 (Head 1) END ∷ []) }
     ensures below { HasMetEnds 1 2 0 (load 0 (Head 0) END ∷ []) → ⊥ }
     ensures nothing { HasMetEnds 0 0 0 [] }
@@ -143,7 +153,8 @@ pub fn consumers_read_to_the_end()
         (reader_left (load 3 (Head 0) END ∷ []) ∷ reader_left (load 4 (Head 0) END ∷ []) ∷ []) }
     ensures same_number { HaveMetEnds 0 1 3
         (reader_left (load 3 (Head 0) END ∷ []) ∷ reader_left (load 3 (Head 0) END ∷ []) ∷ []) → ⊥ }
-    ensures one_twice { HaveMetEnds 0 2 0 (reader_left (load 0 (Head 0) END ∷ load 0 (Head 0) END ∷ []) ∷ []) → ⊥ }
+    ensures one_twice { HaveMetEnds 0 2 0
+        (reader_left (load 0 (Head 0) END ∷ load 0 (Head 0) END ∷ []) ∷ []) → ⊥ }
     ensures again { HasMetEnds 0 1 0 (load 0 (Head 0) END ∷ load 0 (Head 0) END ∷ []) → ⊥ }
 {}
 
@@ -151,9 +162,12 @@ pub fn consumers_read_to_the_end()
 /// call that it has come to, with no more accesses than its budget allows the calls before that one.
 pub fn workers_are_stopped_by_the_gate()
     ensures put { IsStoppedPut (λ _ n. n ≡ 2) 1 0 (7 ∷ 8 ∷ []) (stopped_lane (7 ∷ []) seven_put) }
-    ensures put_other_call { IsStoppedPut (λ _ n. n ≡ 3) 1 0 (7 ∷ 8 ∷ []) (stopped_lane (7 ∷ []) seven_put) → ⊥ }
-    ensures put_other_worker { IsStoppedPut (λ w _. w ≡ who.Producer 1) 1 0 (7 ∷ 8 ∷ []) (stopped_lane (7 ∷ []) seven_put) → ⊥ }
-    ensures put_all { IsStoppedPut (λ _ _. Unit {0}) 1 0 (7 ∷ []) (stopped_lane (7 ∷ []) seven_put) → ⊥ }
+    ensures put_other_call { IsStoppedPut (λ _ n. n ≡ 3) 1 0 (7 ∷ 8 ∷ [])
+        (stopped_lane (7 ∷ []) seven_put) → ⊥ }
+    ensures put_other_worker { IsStoppedPut (λ w _. w ≡ who.Producer 1) 1 0 (7 ∷ 8 ∷ [])
+        (stopped_lane (7 ∷ []) seven_put) → ⊥ }
+    ensures put_all { IsStoppedPut (λ _ _. Unit {0}) 1 0 (7 ∷ []) (stopped_lane (7 ∷ []) seven_put)
+        → ⊥ }
     ensures put_found_none { IsStoppedPut (λ _ _. Unit {0}) 1 0 (7 ∷ 8 ∷ [])
         (stopped_lane (7 ∷ []) (fetch 0 (record { cell = 1; value = 8 }) ∷ seven_put)) → ⊥ }
     ensures poll { IsStoppedPoll (λ _ n. n ≡ 2) 5 0 3 }
@@ -166,21 +180,32 @@ pub fn workers_are_stopped_by_the_gate()
 /// A run is off as soon as one end tells so. A worker that its gate stopped does not tell so.
 pub fn one_end_tells_that_a_run_is_off()
     ensures stopped { (ends : Ends (Unit {0})) (s : ConsumerView) → ends.puts.items ≡ []
-        → ends.polls.items ≡ record { consumer = s; stopped = true; off = false } ∷ [] → AreOn ends }
+        → ends.polls.items ≡ record {
+          consumer = s;
+          stopped = true;
+          off = false;
+        } ∷ [] → AreOn ends }
     ensures off { (ends : Ends (Unit {0})) (s : ConsumerView)
-        → ends.polls.items ≡ record { consumer = s; stopped = false; off = true } ∷ [] → AreOn ends → ⊥ }
+        → ends.polls.items ≡ record {
+          consumer = s;
+          stopped = false;
+          off = true;
+        } ∷ [] → AreOn ends → ⊥ }
 {}
 
 /// Each consumer has a source of its own, and its first word is the first of that source.
 pub fn consumers_have_sources_of_their_own()
     ensures nobody { WerePolled any_call any_call 0 1 5 0 [] [] }
     ensures idle { (s : ConsumerView) (source : Stream) → s.reader.reader ≡ 3 → s.seat.consumer ≡ 3
-        → accesses_made s ≡ 0 → WerePolled any_call any_call 0 1 5 3 (source ∷ []) (stopped_as s ∷ []) }
+        → accesses_made s ≡ 0 → WerePolled any_call any_call 0 1 5 3 (source ∷ [])
+        (stopped_as s ∷ []) }
     ensures no_source { (l : ConsumerLeft) → WerePolled any_call any_call 0 1 5 0 [] (l ∷ []) → ⊥ }
     ensures no_consumer { (s : Stream) → WerePolled any_call any_call 0 1 5 0 (s ∷ []) [] → ⊥ }
     ensures other_word { (s : Stream) (l : ConsumerLeft) (a : ClaimAccess) → l.claimed ≡ a ∷ []
-        → a.step.turn.word ≢ (next_u64 s).0 → WerePolled any_call any_call 0 1 5 0 (s ∷ []) (l ∷ []) → ⊥ }
-    ensures places_changed { (s t : Stream) (k l : ConsumerLeft) (a : ClaimAccess) → l.claimed ≡ a ∷ []
+        → a.step.turn.word ≢ (next_u64 s).0 → WerePolled any_call any_call 0 1 5 0 (s ∷ []) (l ∷ [])
+        → ⊥ }
+    ensures places_changed { (s t : Stream) (k l : ConsumerLeft) (a : ClaimAccess) → l.claimed ≡ a
+        ∷ []
         → a.step.turn.word ≡ (next_u64 s).0 → (next_u64 s).0 ≢ (next_u64 t).0
         → WerePolled any_call any_call 0 1 5 0 (s ∷ t ∷ []) (k ∷ l ∷ []) → ⊥ }
 {

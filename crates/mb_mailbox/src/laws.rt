@@ -69,7 +69,8 @@ pub fn last_objects_settle_what_is_gathered()
 
 /// The random words of a consumer's claims are the first words of the source from which its calls draw, in order.
 pub fn calls_draw_the_first_words()
-    ensures { (from end budget : ℕ) (made : List Call) (source left : Stream) (old new : ConsumerView)
+    ensures { (from end budget : ℕ) (made : List Call) (source left : Stream)
+        (old new : ConsumerView)
         → AreCalls from end budget made source left old new → old.seat.part ≡ []
         → AreDrawn source (map (λ a. a.step.turn.word) new.seat.part) left }
 {}

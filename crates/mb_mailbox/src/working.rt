@@ -112,7 +112,8 @@ pub fn work<
 
     // Whatever comes else, all that was given is taken in, and each producer given has ended its lane.
     ensures worked { IfOk result (λ w.
-        IsWorked (G.may_stop gate.now) budget (lists_in items.items) (vec_len rngs) w hub.old hub.new) }
+        IsWorked (G.may_stop gate.now) budget (lists_in items.items) (vec_len rngs) w hub.old
+        hub.new) }
 
     // Each call of a worker comes where the gate may let it pass, and one of a consumer is a poll with this budget. The
     // consumers draw from these sources: the first that is given in this call from the first, and so on.
@@ -220,14 +221,16 @@ fn work_with<
 ) -> Result<Worked, WorkFault>
     requires of { IsHubOf mailbox.now hub.old }
     requires lanes { length hub.old.puts + vec_len items ≤ mailbox.now.cells.size.lanes }
-    requires consumers { length hub.old.ledgers + vec_len rngs ≤ consumer_count mailbox.now.claims.layout }
+    requires consumers { length hub.old.ledgers + vec_len rngs ≤ consumer_count
+        mailbox.now.claims.layout }
     requires able { 0 < budget }
     requires jobs { HasJobRoom (vec_len items) (vec_len rngs) jobs }
     requires room { HasRoom (vec_len items) (vec_len rngs) room }
     ensures all_given { result ≢ Err AllGiven }
     ensures bad_budget { result ≢ Err BadBudget }
     ensures worked { IfOk result (λ w.
-        IsWorked (G.may_stop gate.now) budget (lists_in items.items) (vec_len rngs) w hub.old hub.new) }
+        IsWorked (G.may_stop gate.now) budget (lists_in items.items) (vec_len rngs) w hub.old
+        hub.new) }
     ensures called { IfOk result (λ w. IsCalled (G.may_stop gate.now) (G.may_pass gate.now) budget
         (lists_in items.items) (map R.stream rngs.items) w hub.old hub.new) }
     ensures no_thread { result ≡ Err NoThread
@@ -266,7 +269,8 @@ fn settle<A: Allocator + Drop, B: Allocator + Drop>(
 ) -> Result<Worked, WorkFault>
     requires hub { IsHubOf mailbox.now hub.old }
     requires ends { AreEndsAt mailbox.now ends }
-    ensures full { IfOk result (λ w. w.full ≡ min (2 ^ 64 - 1) (sum_by (λ d. d.full) ends.puts.items)) }
+    ensures full { IfOk result (λ w. w.full ≡ min (2 ^ 64 - 1)
+        (sum_by (λ d. d.full) ends.puts.items)) }
     ensures stopped { IfOk result (λ w. w.stopped ≡ min (2 ^ 64 - 1) (count_stopped ends)) }
     ensures on { IfOk result (λ _. AreOn ends) }
     ensures off { AreOn ends → IsOk result }

@@ -33,10 +33,13 @@ rows_name m = grind (arith, common_steps)
 
 -- so the matches name it
 pub alone_named : (app : App) (words : List Text) (m : ArgMatches) (name : Text) (choice : Choice) → IsProgramApp app
-    → words ≡ name ∷ choice_name choice ∷ [] → HasMatchesOf app words m → subcommand_name_of m ≡ Some (choice_name choice)
+    → words ≡ name ∷ choice_name choice ∷ [] → HasMatchesOf app words m → subcommand_name_of m
+    ≡ Some (choice_name choice)
 alone_named app words m name choice is_program alone matches =
     sym (rows_name m)
-    ∙ ap (option_map (λ found. found.0)) ((matches (program_is_simple app is_program)).1 ∙ commands_same app words is_program ∙ ap (subcommand_of program) alone)
+    ∙ ap (option_map (λ found. found.0))
+    ((matches (program_is_simple app is_program)).1 ∙ commands_same app words is_program
+    ∙ ap (subcommand_of program) alone)
     ∙ alone_found name choice
 
 -- an error that `?` hands on is of its kind
@@ -57,33 +60,39 @@ found_in app words m is_program matches =
     (matches (program_is_simple app is_program)).1 ∙ commands_same app words is_program
 
 -- so they name the command that clap finds
-pub named_in : (app : App) (words : List Text) (m : ArgMatches) (choice : Choice) → IsProgramApp app → HasMatchesOf app words m
+pub named_in : (app : App) (words : List Text) (m : ArgMatches) (choice : Choice) → IsProgramApp app
+    → HasMatchesOf app words m
     → command_in words ≡ Some (choice_name choice) → subcommand_name_of m ≡ Some (choice_name choice)
 named_in app words m choice is_program matches named =
     sym (rows_name m) ∙ ap (option_map (λ found. found.0)) (found_in app words m is_program matches) ∙ named
 
 -- and no other
-pub told_in : (app : App) (words : List Text) (m : ArgMatches) (choice : Choice) → IsProgramApp app → HasMatchesOf app words m
+pub told_in : (app : App) (words : List Text) (m : ArgMatches) (choice : Choice) → IsProgramApp app
+    → HasMatchesOf app words m
     → subcommand_name_of m ≡ Some (choice_name choice) → command_in words ≡ Some (choice_name choice)
 told_in app words m choice is_program matches named =
     sym (ap (option_map (λ found. found.0)) (found_in app words m is_program matches)) ∙ rows_name m ∙ named
 
 -- ---- the kind of a refusal
 -- an error that `?` hands on is as it was
-pub error_kept : {X : Type 0} (P : ErrorKind → Type 0) (r : Result X Error) (e : Error) → IsErrAnd r (λ f. f ≡ e) → P (kind_of e)
+pub error_kept : {X : Type 0} (P : ErrorKind → Type 0) (r : Result X Error) (e : Error)
+    → IsErrAnd r (λ f. f ≡ e) → P (kind_of e)
     → IfErr r (λ f. P (kind_of f))
 error_kept P (Ok x) e same kind = tt
 error_kept P (Err f) e same kind = subst (λ (g : Error). P (kind_of g)) (sym same) kind
 
 -- the kinds of clap's rules are those of the program's words
-pub refused_by : (words : List Text) (app : App) (e : Error) → IsProgramApp app → HasKind (fault_of app words) e → IsRefusalOf words (kind_of e)
+pub refused_by : (words : List Text) (app : App) (e : Error) → IsProgramApp app
+    → HasKind (fault_of app words) e → IsRefusalOf words (kind_of e)
 refused_by words app e is has = elim has [
   | inl none ↦ inl none
   | inr among ↦ inr (inl (subst (λ (kinds : Kinds). IsAmong (kind_of e) kinds) (faults_alike app words is) among))
 ]
 
 -- words whose matches are no choice name no command
-pub unnamed : (words : List Text) (app : App) (m : ArgMatches) (kind : ErrorKind) (r : Option Choice) → IsProgramApp app → HasMatchesOf app words m
-    → r ≡ None → ((choice : Choice) → subcommand_name_of m ≡ Some (choice_name choice) → IsSome r) → kind ≡ InvalidSubcommand → IsRefusalOf words kind
+pub unnamed : (words : List Text) (app : App) (m : ArgMatches) (kind : ErrorKind)
+    (r : Option Choice) → IsProgramApp app → HasMatchesOf app words m
+    → r ≡ None → ((choice : Choice) → subcommand_name_of m ≡ Some (choice_name choice) → IsSome r)
+    → kind ≡ InvalidSubcommand → IsRefusalOf words kind
 unnamed words app m kind r is_program matches none each is =
     inr (inr (is, λ choice named. not_some r none (each choice (named_in app words m choice is_program matches named))))

@@ -28,9 +28,11 @@ too_long bytes above = rw (lt-ltb MAX_SCRIPT_LEN (length bytes) above) refl
 abbrev IsShort : {X : Type 0} → Result X RatifyFault → Type 0
 IsShort r = r ≡ Err TooLong → ⊥
 
-bind_short : {X Y : Type 0} (r : Result X RatifyFault) (f : X → Result Y RatifyFault) → IsShort r → ((x : X) → IsShort (f x)) → IsShort (r >>= f)
+bind_short : {X Y : Type 0} (r : Result X RatifyFault) (f : X → Result Y RatifyFault) → IsShort r
+    → ((x : X) → IsShort (f x)) → IsShort (r >>= f)
 bind_short (Ok x) f first next = next x
-bind_short {X} (Err e) f first next = λ is. let same : ◌≡◌ {A = Result X RatifyFault} (Err e) (Err TooLong) = cc in first same
+bind_short {X} (Err e) f first next = λ is. let same : ◌≡◌ {A = Result X RatifyFault} (Err e)
+    (Err TooLong) = cc in first same
 
 ok_or_short : {X : Type 0} (o : Option X) (e : RatifyFault) → (e ≡ TooLong → ⊥) → IsShort (ok_or o e)
 ok_or_short None e other = λ is. other (cc)
@@ -53,7 +55,8 @@ head_short (key ∷ name ∷ []) = λ is. absurd (cc)
 head_short (key ∷ name ∷ values ∷ []) =
     if_short (bytes_eq key (codes "ratify")) _ _
     (bind_short (ok_or (table_named name) (BadLine 1)) _ (ok_or_short (table_named name) (BadLine 1) (λ e. absurd (cc)))
-    (λ t. bind_short (ok_or (number_of values) (BadNumber 1)) _ (ok_or_short (number_of values) (BadNumber 1) (λ e. absurd (cc))) (λ m. λ is. absurd (cc))))
+    (λ t. bind_short (ok_or (number_of values) (BadNumber 1)) _
+    (ok_or_short (number_of values) (BadNumber 1) (λ e. absurd (cc))) (λ m. λ is. absurd (cc))))
     (λ is. absurd (cc))
 head_short (key ∷ name ∷ values ∷ more ∷ words) = λ is. absurd (cc)
 
@@ -61,14 +64,19 @@ list_short : (n : ℕ) (key : List ℕ) (words : List (List ℕ)) → IsShort (l
 unfolding list_of
 list_short n key [] = λ is. absurd (cc)
 list_short n key (word ∷ words) =
-    if_short (bytes_eq word key) _ _ (ok_or_short (numbers_of words) (BadNumber n) (λ e. absurd (cc))) (λ is. absurd (cc))
+    if_short (bytes_eq word key) _ _
+    (ok_or_short (numbers_of words) (BadNumber n) (λ e. absurd (cc))) (λ is. absurd (cc))
 
 lines_short : (lines : List (List ℕ)) → IsShort (three_lines lines)
 unfolding three_lines
 lines_short lines =
     bind_short (line_words 1 lines) _ (line_short 1 lines) (λ first. bind_short (head_of first.0) _ (head_short first.0)
-    (λ head. bind_short (line_words 2 first.1) _ (line_short 2 first.1) (λ second. bind_short (list_of 2 (codes "inputs") second.0) _ (list_short 2 (codes "inputs") second.0)
-    (λ inputs. bind_short (line_words 3 second.1) _ (line_short 3 second.1) (λ third. bind_short (list_of 3 (codes "turns") third.0) _ (list_short 3 (codes "turns") third.0)
+    (λ head. bind_short (line_words 2 first.1) _ (line_short 2 first.1)
+    (λ second. bind_short (list_of 2 (codes "inputs") second.0) _
+    (list_short 2 (codes "inputs") second.0)
+    (λ inputs. bind_short (line_words 3 second.1) _ (line_short 3 second.1)
+    (λ third. bind_short (list_of 3 (codes "turns") third.0) _
+    (list_short 3 (codes "turns") third.0)
     (λ turns. if_short (length third.1 == 0) _ _ (λ is. absurd (cc)) (λ is. absurd (cc))))))))
 
 -- and `ratify` does not refuse a script for its length
@@ -85,7 +93,8 @@ fault_short (Err e) short is = short (let same : ◌≡◌ {A = Option RatifyFau
 
 -- so a script that is too long has more bytes than the limit
 long_test : (long ascii : Bool) (lines : List (List ℕ))
-    → fault_in (if long then Err TooLong else if ascii then three_lines lines else Err NotAscii) ≡ Some TooLong → long ≡ true
+    → fault_in (if long then Err TooLong else if ascii then three_lines lines else Err NotAscii)
+    ≡ Some TooLong → long ≡ true
 long_test true ascii lines is = refl
 long_test false true lines is = absurd (fault_short (three_lines lines) (lines_short lines) is)
 long_test false false lines is = absurd (cc)

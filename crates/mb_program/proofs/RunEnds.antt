@@ -21,20 +21,24 @@ no_ok y e is = absurd (cc)
 pub same_err : {Y : Type 0} (e f : RunFault) → ◌≡◌ {A = Result Y RunFault} (Err e) (Err f) → e ≡ f
 same_err e f is = cc
 
-not_refused : {Y : Type 0} (o : Options) (y : Y) → Refuses o (Ok y) → (why : SetupFault) → setup_refused o ≡ Some why → ⊥
+not_refused : {Y : Type 0} (o : Options) (y : Y) → Refuses o (Ok y) → (why : SetupFault)
+    → setup_refused o ≡ Some why → ⊥
 not_refused o y refuses why is = no_ok y _ ((refuses why).1 is)
 
 -- a fault behind the setup
 pub fault_behind : {Y : Type 0} (o : Options) (s : Setup) (e : RunFault)
-    → MatchOption (setup_refused o) (IsOk {E = SetupFault} (Ok s)) (λ why. ◌≡◌ {A = Result Setup SetupFault} (Ok s) (Err why))
+    → MatchOption (setup_refused o) (IsOk {E = SetupFault} (Ok s))
+    (λ why. ◌≡◌ {A = Result Setup SetupFault} (Ok s) (Err why))
     → ((why : SetupFault) → e ≢ BadSetup why) → Refuses {Y = Y} o (Err e)
 fault_behind {Y} o s e made other = λ why. (
   λ is. absurd (other why (same_err {Y = Y} e _ is)),
-  λ refused. let both : ◌≡◌ {A = Option SetupFault} (Some why) None = sym refused ∙ no_refusal (setup_refused o) s made in absurd (cc),
+  λ refused. let both : ◌≡◌ {A = Option SetupFault} (Some why) None = sym refused
+      ∙ no_refusal (setup_refused o) s made in absurd (cc),
 )
 
 -- it never comes to write
-fault_first : {X Y W : Type 0} (o : Options) (sink : Meter W) (w : W) (e : RunFault) → e ≢ WriteFault → Refuses {Y = Y} o (Err e)
+fault_first : {X Y W : Type 0} (o : Options) (sink : Meter W) (w : W) (e : RunFault)
+    → e ≢ WriteFault → Refuses {Y = Y} o (Err e)
     → IsRun {X = X} o sink w w (Err e)
 fault_first {X} {Y} o sink w e other refuses = record {
   answered = tt;
@@ -55,21 +59,30 @@ from_err P (Err f) e is here = subst (λ f. P (Err f)) (sym is) here
 
 -- there is no report
 pub ends_without_report : {X Y W : Type 0} (o : Options) (sink : Meter W) (w : W) (r : Result X RunFault) (e : RunFault)
-    → IsErrAnd r (λ f. f ≡ e) → ◌≢◌ {A = Result Y RunFault} (Err e) (Err WriteFault) → Refuses {Y = Y} o (Err e) → IsRun o sink w w r
+    → IsErrAnd r (λ f. f ≡ e) → ◌≢◌ {A = Result Y RunFault} (Err e) (Err WriteFault)
+    → Refuses {Y = Y} o (Err e) → IsRun o sink w w r
 ends_without_report {X} {Y} {W} o sink w r e is other refuses =
-    from_err (λ r. IsRun o sink w w r) r e is (fault_first {X = X} {Y = Y} o sink w e (λ same. other (ap (λ f. Err f) same)) refuses)
+    from_err (λ r. IsRun o sink w w r) r e is
+    (fault_first {X = X} {Y = Y} o sink w e (λ same. other (ap (λ f. Err f) same)) refuses)
 
 -- there is no memory for its text
-pub ends_without_text : {X Y W : Type 0} (o : Options) (sink : Meter W) (w : W) (r : Result X RunFault) (e : RunFault) (y : Y)
+pub ends_without_text : {X Y W : Type 0} (o : Options) (sink : Meter W) (w : W)
+    (r : Result X RunFault) (e : RunFault) (y : Y)
     → IsErrAnd r (λ f. f ≡ e) → e ≡ NoMemory → Refuses o (Ok y) → IsRun o sink w w r
 ends_without_text {X} {Y} {W} o sink w r e y is none refuses =
     from_err (λ r. IsRun o sink w w r) r e is (subst (λ e. IsRun {X = X} o sink w w (Err e)) (sym none)
     (fault_first {X = X} {Y = Y} o sink w NoMemory (λ same. absurd (cc))
-    (λ why. (λ is. let same : NoMemory ≡ BadSetup why = same_err {Y = Y} NoMemory _ is in absurd (cc), λ is. absurd (not_refused o y refuses why is)))))
+    (λ why. (
+      λ is. let same : NoMemory ≡ BadSetup why = same_err {Y = Y} NoMemory _ is
+          in absurd (cc),
+      λ is. absurd (not_refused o y refuses why is),
+    ))))
 
 -- it is written
-pub ends_written : {X Y W : Type 0} (o : Options) (sink : Meter W) (w w' : W) (x : X) (y : Y) (text : List ℕ) → Refuses o (Ok y)
-    → IsRunText o text → Appends (sink.bytes w) (sink.bytes w') text → sink.failures w' ≡ sink.failures w → IsRun o sink w w' (Ok x)
+pub ends_written : {X Y W : Type 0} (o : Options) (sink : Meter W) (w w' : W) (x : X) (y : Y)
+    (text : List ℕ) → Refuses o (Ok y)
+    → IsRunText o text → Appends (sink.bytes w) (sink.bytes w') text → sink.failures w'
+    ≡ sink.failures w → IsRun o sink w w' (Ok x)
 ends_written {X} o sink w w' x y text refuses is appends worked = record {
   answered = (text, is, appends);
   refused = λ why. (λ is. absurd (no_ok x _ is), λ is. absurd (not_refused o y refuses why is));
@@ -80,13 +93,20 @@ ends_written {X} o sink w w' x y text refuses is appends worked = record {
 }
 
 -- a write failed
-pub ends_half_written : {X Y W : Type 0} (o : Options) (sink : Meter W) (w w' : W) (r : Result X RunFault) (e : RunFault) (y : Y) (text : List ℕ)
+pub ends_half_written : {X Y W : Type 0} (o : Options) (sink : Meter W) (w w' : W)
+    (r : Result X RunFault) (e : RunFault) (y : Y) (text : List ℕ)
     → IsErrAnd r (λ f. f ≡ e) → e ≡ WriteFault → Refuses o (Ok y) → IsRunText o text
-    → AppendsFront (sink.bytes w) (sink.bytes w') text → sink.failures w' ≡ one_more (sink.failures w) → IsRun o sink w w' r
+    → AppendsFront (sink.bytes w) (sink.bytes w') text → sink.failures w'
+    ≡ one_more (sink.failures w) → IsRun o sink w w' r
 ends_half_written {X} o sink w w' r e y text is write refuses run front failed =
     from_err (λ r. IsRun o sink w w' r) r e is (subst (λ e. IsRun {X = X} o sink w w' (Err e)) (sym write) (record {
       answered = tt;
-      refused = λ why. (λ is. let same : WriteFault ≡ BadSetup why = same_err {Y = X} WriteFault _ is in absurd (cc), λ is. absurd (not_refused o y refuses why is));
+      refused = λ why. (
+        λ is. let same : WriteFault
+            ≡ BadSetup why = same_err {Y = X} WriteFault _ is
+            in absurd (cc),
+        λ is. absurd (not_refused o y refuses why is),
+      );
       write_failed = λ _. failed;
       write_worked = λ other. absurd (other refl);
       front = λ _. (text, run, front);

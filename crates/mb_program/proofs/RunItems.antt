@@ -8,14 +8,17 @@ use Rattle.mb_program.specs.Running.{items_of, item_lists}
 
 range_more : (a n : ℕ) → range_with_len a (suc n) ≡ range_with_len a n ++ (a + n) ∷ []
 range_more a zero = let e : a + 0 ≡ a = omega arith in rw e refl
-range_more a (suc n) = ap (λ xs. a ∷ xs) (range_more (a + 1) n ∙ (let e : a + 1 + n ≡ a + suc n = omega arith in rw e refl))
+range_more a (suc n) = ap (λ xs. a ∷ xs)
+    (range_more (a + 1) n ∙ (let e : a + 1 + n ≡ a + suc n = omega arith in rw e refl))
 
 -- one value more
-pub map_more : {X : Type 0} (f : ℕ → X) (n : ℕ) → map f (range_with_len 0 (n + 1)) ≡ map f (range_with_len 0 n) ++ f n ∷ []
+pub map_more : {X : Type 0} (f : ℕ → X) (n : ℕ) → map f (range_with_len 0 (n + 1))
+    ≡ map f (range_with_len 0 n) ++ f n ∷ []
 map_more f n =
     let next : n + 1 ≡ suc n = omega arith in
     let last : 0 + n ≡ n = omega arith in
-    ap (λ k. map f (range_with_len 0 k)) next ∙ ap (map f) (range_more 0 n ∙ ap (λ k. range_with_len 0 n ++ k ∷ []) last)
+    ap (λ k. map f (range_with_len 0 k)) next
+    ∙ ap (map f) (range_more 0 n ∙ ap (λ k. range_with_len 0 n ++ k ∷ []) last)
     ∙ map-append f (range_with_len 0 n) (n ∷ [])
 
 -- one item more
@@ -23,8 +26,10 @@ pub items_more : (p n : ℕ) (xs : List ℕ) → xs ≡ items_of p n → xs ++ (
 items_more p n xs is = ap (λ ys. ys ++ (1000 * p + n) ∷ []) is ∙ sym (map_more (λ i. 1000 * p + i) n)
 
 -- one list more
-pub lists_more : {Z : Type 0} (p count : ℕ) (vs : List (Vec ℕ Z)) (v : Vec ℕ Z) → lists_in vs ≡ item_lists p count → v.items ≡ items_of p count
+pub lists_more : {Z : Type 0} (p count : ℕ) (vs : List (Vec ℕ Z)) (v : Vec ℕ Z) → lists_in vs
+    ≡ item_lists p count → v.items ≡ items_of p count
     → lists_in (vs ++ v ∷ []) ≡ item_lists (p + 1) count
 lists_more p count vs v are is =
-    map-append (λ v. v.items) vs (v ∷ []) ∙ ap (λ ys. ys ++ v.items ∷ []) are ∙ ap (λ (y : List ℕ). item_lists p count ++ y ∷ []) is
+    map-append (λ v. v.items) vs (v ∷ []) ∙ ap (λ ys. ys ++ v.items ∷ []) are
+    ∙ ap (λ (y : List ℕ). item_lists p count ++ y ∷ []) is
     ∙ sym (map_more (λ p. items_of p count) p)

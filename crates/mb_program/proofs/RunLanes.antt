@@ -12,7 +12,8 @@ use Rattle.mb_mailbox.specs.Worked.{AreCutByCells, AreStoppedPuts, IsStoppedPut,
 use Rattle.mb_mailbox.specs.declared.gate.Who.{Who}
 
 -- ---- what is told of all the lanes is told of each
-stopped_at : (may_stop : Who → ℕ → Type 0) (cells from : ℕ) (lists : List (List ℕ)) (lanes : List LaneLeft) (p : ℕ) (list : List ℕ) (l : LaneLeft)
+stopped_at : (may_stop : Who → ℕ → Type 0) (cells from : ℕ) (lists : List (List ℕ))
+    (lanes : List LaneLeft) (p : ℕ) (list : List ℕ) (l : LaneLeft)
     → AreStoppedPuts may_stop cells from lists lanes → slice_get lists p ≡ Some list → slice_get lanes p ≡ Some l
     → l.stopped ≡ true → IsStoppedPut may_stop cells (from + p) list l
 stopped_at may_stop cells from [] lanes p list l all at there = absurd (cc)
@@ -26,7 +27,8 @@ stopped_at may_stop cells from (x ∷ xs) (y ∷ ys) zero list l all at there =
     (subst (λ (z : LaneLeft). z.stopped ≡ true → IsStoppedPut may_stop cells from x z) f all.0))
 stopped_at may_stop cells from (x ∷ xs) (y ∷ ys) (suc p) list l all at there =
     let next : suc from + p ≡ from + suc p = omega arith in
-    subst (λ (k : ℕ). l.stopped ≡ true → IsStoppedPut may_stop cells k list l) next (stopped_at may_stop cells (suc from) xs ys p list l all.1 at there)
+    subst (λ (k : ℕ). l.stopped ≡ true → IsStoppedPut may_stop cells k list l) next
+    (stopped_at may_stop cells (suc from) xs ys p list l all.1 at there)
 
 cut_at : (cells from : ℕ) (lists : List (List ℕ)) (lanes : List LaneLeft) (p : ℕ) (list : List ℕ) (l : LaneLeft)
     → AreCutByCells cells from lists lanes → slice_get lists p ≡ Some list → slice_get lanes p ≡ Some l
@@ -46,7 +48,8 @@ cut_at cells from (x ∷ xs) (y ∷ ys) (suc p) list l all at there =
     (cut_at cells (suc from) xs ys p list l all.1 at there)
 
 -- where the gate stops nobody, the producer of a short list is not stopped
-not_stopped : (may_stop : Who → ℕ → Type 0) → ((w : Who) (n : ℕ) → may_stop w n → ⊥) → (cells p : ℕ) (list : List ℕ) (l : LaneLeft) → length list ≤ 256
+not_stopped : (may_stop : Who → ℕ → Type 0) → ((w : Who) (n : ℕ) → may_stop w n → ⊥)
+    → (cells p : ℕ) (list : List ℕ) (l : LaneLeft) → length list ≤ 256
     → (l.stopped ≡ true → IsStoppedPut may_stop cells p list l) → l.stopped ≡ false
 not_stopped may_stop never cells p list l few is = go l.stopped refl
   where
@@ -61,26 +64,32 @@ not_stopped may_stop never cells p list l few is = go l.stopped refl
         ] in absurd none
 
 -- so, where it put less than its list, a fetch-add of its found no cell
-pub found_none : (may_stop : Who → ℕ → Type 0) → ((w : Who) (n : ℕ) → may_stop w n → ⊥) → (cells : ℕ) (lists : List (List ℕ)) (lanes : List LaneLeft)
-    → AreStoppedPuts may_stop cells 0 lists lanes → AreCutByCells cells 0 lists lanes → (p : ℕ) (list : List ℕ) (l : LaneLeft)
-    → slice_get lists p ≡ Some list → slice_get lanes p ≡ Some l → length list ≤ 256 → length l.put < length list → HasFoundNone cells p l.part
+pub found_none : (may_stop : Who → ℕ → Type 0) → ((w : Who) (n : ℕ) → may_stop w n → ⊥)
+    → (cells : ℕ) (lists : List (List ℕ)) (lanes : List LaneLeft)
+    → AreStoppedPuts may_stop cells 0 lists lanes → AreCutByCells cells 0 lists lanes
+    → (p : ℕ) (list : List ℕ) (l : LaneLeft)
+    → slice_get lists p ≡ Some list → slice_get lanes p ≡ Some l → length list ≤ 256
+    → length l.put < length list → HasFoundNone cells p l.part
 found_none may_stop never cells lists lanes stopped cut p list l at there few short =
     let here : 0 + p ≡ p = omega arith in
     subst (λ (k : ℕ). HasFoundNone cells k l.part) here (cut_at cells 0 lists lanes p list l cut at there
-    (not_stopped may_stop never cells (0 + p) list l few (stopped_at may_stop cells 0 lists lanes p list l stopped at there)) short)
+    (not_stopped may_stop never cells (0 + p) list l few
+    (stopped_at may_stop cells 0 lists lanes p list l stopped at there)) short)
 
 -- ---- sums
 all_of : {X : Type 0} (P : X → Type 0) (xs : List X) → ((p : ℕ) (x : X) → slice_get xs p ≡ Some x → P x) → All P xs
 all_of P xs each = λ k d low. each k (slice_index_or xs k d) (slice_get-get_or xs k d low)
 
 -- where none is over b and one is under it, the sum is under that of as many b
-pub sum_short : {X : Type 0} (f : X → ℕ) (b : ℕ) (xs : List X) (p : ℕ) (x : X) → ((q : ℕ) (y : X) → slice_get xs q ≡ Some y → f y ≤ b)
+pub sum_short : {X : Type 0} (f : X → ℕ) (b : ℕ) (xs : List X) (p : ℕ) (x : X)
+    → ((q : ℕ) (y : X) → slice_get xs q ≡ Some y → f y ≤ b)
     → slice_get xs p ≡ Some x → f x < b → sum_by f xs < length xs * b
 sum_short f b [] p x each at less = absurd (cc)
 sum_short f b (y ∷ ys) zero x each at less =
     let e : x ≡ y = cc in
     let here : f y < b = subst (λ z. f z < b) e less in
-    let rest : sum_by f ys ≤ length ys * b = sum_by-le f b ys (all_of (λ z. f z ≤ b) ys (λ q z there. each (suc q) z there)) in
+    let rest : sum_by f ys ≤ length ys * b = sum_by-le f b ys
+    (all_of (λ z. f z ≤ b) ys (λ q z there. each (suc q) z there)) in
     let sum = sum_by-cons f y ys in
     let more = suc-mul (length ys) b in
     omega (arith, here, rest, sum, more)

@@ -18,25 +18,30 @@ same_some : {X : Type 0} {x y : X} → ◌≡◌ {A = Option X} (Some x) (Some y
 same_some e = cc
 
 -- ---- what is told of all is told of each
-taken_at : (cs : List ConsumerLeft) (c : ℕ) (one : ConsumerLeft) → slice_get cs c ≡ Some one → taken_part (map (λ x. Some x.claimed) cs) c ≡ one.claimed
+taken_at : (cs : List ConsumerLeft) (c : ℕ) (one : ConsumerLeft) → slice_get cs c ≡ Some one
+    → taken_part (map (λ x. Some x.claimed) cs) c ≡ one.claimed
 taken_at [] c one at = absurd (cc)
 taken_at (x ∷ xs) zero one at = ap (λ (y : ConsumerLeft). y.claimed) (same_some at)
 taken_at (x ∷ xs) (suc c) one at = taken_at xs c one at
 
-stopped_at : (may_stop : Who → ℕ → Type 0) (budget from : ℕ) (cs : List ConsumerLeft) (c : ℕ) (one : ConsumerLeft) → AreStoppedPolls may_stop budget from cs
-    → slice_get cs c ≡ Some one → one.stopped ≡ true → IsStoppedPoll may_stop budget (from + c) (length one.reads + length one.claimed)
+stopped_at : (may_stop : Who → ℕ → Type 0) (budget from : ℕ) (cs : List ConsumerLeft) (c : ℕ)
+    (one : ConsumerLeft) → AreStoppedPolls may_stop budget from cs
+    → slice_get cs c ≡ Some one → one.stopped ≡ true
+    → IsStoppedPoll may_stop budget (from + c) (length one.reads + length one.claimed)
 stopped_at may_stop budget from [] c one all at = absurd (cc)
 stopped_at may_stop budget from (x ∷ xs) zero one all at =
     let e : x ≡ one = same_some at in
     let here : from ≡ from + 0 = omega arith in
     subst (λ (k : ℕ). one.stopped ≡ true → IsStoppedPoll may_stop budget k (length one.reads + length one.claimed)) here
-    (subst (λ (y : ConsumerLeft). y.stopped ≡ true → IsStoppedPoll may_stop budget from (length y.reads + length y.claimed)) e all.0)
+    (subst (λ (y : ConsumerLeft). y.stopped ≡ true
+    → IsStoppedPoll may_stop budget from (length y.reads + length y.claimed)) e all.0)
 stopped_at may_stop budget from (x ∷ xs) (suc c) one all at =
     let next : suc from + c ≡ from + suc c = omega arith in
     subst (λ (k : ℕ). one.stopped ≡ true → IsStoppedPoll may_stop budget k (length one.reads + length one.claimed)) next
     (stopped_at may_stop budget (suc from) xs c one all.1 at)
 
-noted_at : (from : ℕ) (lanes : List LaneLeft) (p : ℕ) (l : LaneLeft) (ledger : LedgerView) → HasNoteAtEach from lanes ledger → slice_get lanes p ≡ Some l
+noted_at : (from : ℕ) (lanes : List LaneLeft) (p : ℕ) (l : LaneLeft) (ledger : LedgerView)
+    → HasNoteAtEach from lanes ledger → slice_get lanes p ≡ Some l
     → length (notes_on (from + p) ledger.notes) ≡ length l.put
 noted_at from [] p l ledger has at = absurd (cc)
 noted_at from (x ∷ xs) zero l ledger has at =
@@ -53,11 +58,13 @@ one_at (x ∷ xs) zero low = (x, refl)
 one_at (x ∷ xs) (suc k) low = one_at xs k (omega (arith, low))
 
 -- what holds of all holds of that one
-of_one : {X : Type 0} (P : X → Type 0) (xs : List X) (k : ℕ) (x : X) → All P xs → k < length xs → slice_get xs k ≡ Some x → P x
+of_one : {X : Type 0} (P : X → Type 0) (xs : List X) (k : ℕ) (x : X) → All P xs → k < length xs
+    → slice_get xs k ≡ Some x → P x
 of_one P xs k x all low at = subst P (same_some (sym (slice_get-get_or xs k x low) ∙ at)) (all k x low)
 
 -- where the gate stops nobody, a consumer that was stopped has come to call 2^64 - 1
-come_to_last : (may_stop : Who → ℕ → Type 0) → ((w : Who) (n : ℕ) → may_stop w n → ⊥) → (budget c made : ℕ) → IsStoppedPoll may_stop budget c made
+come_to_last : (may_stop : Who → ℕ → Type 0) → ((w : Who) (n : ℕ) → may_stop w n → ⊥)
+    → (budget c made : ℕ) → IsStoppedPoll may_stop budget c made
     → (2 ^ 64 - 2 ≤ made) × (made ≤ budget * (2 ^ 64 - 2))
 come_to_last may_stop never budget c made was =
     let within = was.within in
@@ -70,14 +77,19 @@ come_to_last may_stop never budget c made was =
     ]
 
 -- ---- the notes of the report
-pub notes_told : (may_stop : Who → ℕ → Type 0) (budget : ℕ) → ((w : Who) (n : ℕ) → may_stop w n → ⊥) → (count : ℕ) (m : MailboxView) (h : HubView) (r : ReportView)
-    (left : List LaneLeft) (cs : List ConsumerLeft) (g : IsGathered m h r) → IsReportIn m.cells.size.lanes (consumer_count m.claims.layout) h r
-    → h.ledgers ≡ map (λ x. Some x.ledger) cs → h.cells.roll.readers ≡ map (λ x. Some x.reads) cs → h.claims.roll ≡ map (λ x. Some x.claimed) cs
-    → length cs ≡ consumer_count m.claims.layout → AreStoppedPolls may_stop budget 0 cs → All (λ x. x.stopped ≡ false → HasNoteAtEach 0 left x.ledger) cs
+pub notes_told : (may_stop : Who → ℕ → Type 0) (budget : ℕ) → ((w : Who) (n : ℕ) → may_stop w n → ⊥)
+    → (count : ℕ) (m : MailboxView) (h : HubView) (r : ReportView)
+    (left : List LaneLeft) (cs : List ConsumerLeft) (g : IsGathered m h r)
+    → IsReportIn m.cells.size.lanes (consumer_count m.claims.layout) h r
+    → h.ledgers ≡ map (λ x. Some x.ledger) cs → h.cells.roll.readers ≡ map (λ x. Some x.reads) cs
+    → h.claims.roll ≡ map (λ x. Some x.claimed) cs
+    → length cs ≡ consumer_count m.claims.layout → AreStoppedPolls may_stop budget 0 cs
+    → All (λ x. x.stopped ≡ false → HasNoteAtEach 0 left x.ledger) cs
     → ((p : ℕ) → p < m.cells.size.lanes → (l : LaneLeft) × (slice_get left p ≡ Some l) × (length l.put ≡ count))
     → (c p : ℕ) → c < consumer_count m.claims.layout → p < m.cells.size.lanes
     → HasNotedAll count budget c p g.histories r
-notes_told may_stop budget never count m h r left cs g told ledgers readers claims many stopped noted lanes c p low_c low_p = go one.stopped refl
+notes_told may_stop budget never count m h r left cs g told ledgers readers claims many stopped
+    noted lanes c p low_c low_p = go one.stopped refl
   where
     there : c < length cs
     there = omega (arith, low_c, many)
@@ -101,7 +113,8 @@ notes_told may_stop budget never count m h r left cs g told ledgers readers clai
     in_ledger = rw kept refl
 
     reads : part (Reader (g.histories.reader_of c)) g.histories.pool ≡ one.reads
-    reads = ap (λ (k : ℕ). part (Reader k) g.histories.pool) (g.reader c) ∙ g.pool.parts (Reader c) one.reads (ap (λ xs. slice_get xs c) readers
+    reads = ap (λ (k : ℕ). part (Reader k) g.histories.pool) (g.reader c)
+        ∙ g.pool.parts (Reader c) one.reads (ap (λ xs. slice_get xs c) readers
         ∙ rw (slice_get-map (λ (x : ConsumerLeft). Some x.reads) cs c, at) refl)
 
     claimed : consumer_part c g.histories.claims ≡ one.claimed
@@ -118,7 +131,9 @@ notes_told may_stop budget never count m h r left cs g told ledgers readers clai
         inl (ap length (in_report ∙ in_ledger) ∙ ap (λ (k : ℕ). length (notes_on k one.ledger.notes)) here
         ∙ noted_at 0 left p l.0 one.ledger has l.1 ∙ l.2)
     go true e =
-        let last = come_to_last may_stop never budget (0 + c) (length one.reads + length one.claimed) (stopped_at may_stop budget 0 cs c one stopped at e) in
+        let last = come_to_last may_stop never budget (0 + c)
+        (length one.reads + length one.claimed)
+        (stopped_at may_stop budget 0 cs c one stopped at e) in
         inr (
           subst (λ (k : ℕ). 2 ^ 64 - 2 ≤ k) (sym made) last.0,
           subst (λ (k : ℕ). k ≤ budget * (2 ^ 64 - 2)) (sym made) last.1,

@@ -32,7 +32,8 @@ none_missing f [] = refl
 none_missing f (x ∷ xs) = none_missing f xs
 
 -- the value at place p of a list made of numbers
-pub place_of : {X : Type 0} (f : ℕ → X) (a n p : ℕ) → p < n → slice_get (map f (range_with_len a n)) p ≡ Some (f (a + p))
+pub place_of : {X : Type 0} (f : ℕ → X) (a n p : ℕ) → p < n
+    → slice_get (map f (range_with_len a n)) p ≡ Some (f (a + p))
 place_of f a zero p low = absurd (omega (arith, low))
 place_of f a (suc n) zero low = let e : a + 0 ≡ a = omega arith in rw e refl
 place_of f a (suc n) (suc p) low =
@@ -41,17 +42,22 @@ place_of f a (suc n) (suc p) low =
 -- the list of producer p
 list_of : (producers count p : ℕ) → p < producers → slice_get (item_lists producers count) p ≡ Some (items_of p count)
 list_of producers count p low =
-    let same : 0 + p ≡ p = omega arith in place_of (λ p. items_of p count) 0 producers p low ∙ ap (λ k. Some (items_of k count)) same
+    let same : 0 + p ≡ p = omega arith in place_of (λ p. items_of p count) 0 producers p low
+    ∙ ap (λ k. Some (items_of k count)) same
 
 same_some : {X : Type 0} {x y : X} → ◌≡◌ {A = Option X} (Some x) (Some y) → x ≡ y
 same_some e = cc
 
 -- the one beside it
-pub beside : {X Y : Type 0} (R : X → Y → Type 0) (xs : List X) (ys : List Y) (p : ℕ) (x : X) → AllZip R xs ys → slice_get xs p ≡ Some x
+pub beside : {X Y : Type 0} (R : X → Y → Type 0) (xs : List X) (ys : List Y) (p : ℕ) (x : X)
+    → AllZip R xs ys → slice_get xs p ≡ Some x
     → (y : Y) × (slice_get ys p ≡ Some y) × R x y
-beside {X} {Y} R xs ys p x zip at = go (slice_get ys p) refl (subst (λ o. MatchOption o (Unit {0}) (λ x. IsSomeAnd (slice_get ys p) (R x))) at (AllZip-left R xs ys zip p))
+beside {X} {Y} R xs ys p x zip at = go (slice_get ys p) refl
+    (subst (λ o. MatchOption o (Unit {0}) (λ x. IsSomeAnd (slice_get ys p) (R x))) at
+    (AllZip-left R xs ys zip p))
   where
-    go : (o : Option Y) → slice_get ys p ≡ o → IsSomeAnd (slice_get ys p) (R x) → (y : Y) × (slice_get ys p ≡ Some y) × R x y
+    go : (o : Option Y) → slice_get ys p ≡ o → IsSomeAnd (slice_get ys p) (R x) → (y : Y)
+        × (slice_get ys p ≡ Some y) × R x y
     go None none is = absurd (subst (λ o. IsSomeAnd o (R x)) none is)
     go (Some y) some is = (y, some, subst (λ o. IsSomeAnd o (R x)) some is)
 
@@ -69,7 +75,8 @@ is_told : (producers count lanes consumers : ℕ) (h : HubView) (left : List Lan
     → AllZip (λ list l. IsFront l.put list) (item_lists producers count) left
     → (p : ℕ) → p < producers → IsTold count lanes consumers h left r p
 is_told producers count lanes consumers h left r same told puts fronts p low =
-    let one = beside (λ list l. IsFront l.put list) (item_lists producers count) left p (items_of p count) fronts (list_of producers count p low) in
+    let one = beside (λ list l. IsFront l.put list) (item_lists producers count) left p
+    (items_of p count) fronts (list_of producers count p low) in
     record {
       one = one.0;
       there = one.1;
@@ -78,14 +85,16 @@ is_told producers count lanes consumers h left r same told puts fronts p low =
       kept = ap (λ xs. kept_at xs p) puts ∙ kept_of left p one.0 one.1;
     }
   where
-    kept_of : (left : List LaneLeft) (p : ℕ) (l : LaneLeft) → slice_get left p ≡ Some l → kept_at (map (λ l. Some (ended_list l)) left) p ≡ Some (ended_list l)
+    kept_of : (left : List LaneLeft) (p : ℕ) (l : LaneLeft) → slice_get left p ≡ Some l
+        → kept_at (map (λ l. Some (ended_list l)) left) p ≡ Some (ended_list l)
     kept_of left p l at = rw (slice_get-map (λ l. Some (ended_list l)) left p, at) refl
 
 -- each lane of the report has ended and has its whole list, where a lane that has less tells that all the cells are put
 pub lanes_told : (producers count lanes consumers : ℕ) (h : HubView) (left : List LaneLeft) (r : ReportView)
     → producers ≡ lanes → IsReportIn lanes consumers h r → h.puts ≡ map (λ l. Some (ended_list l)) left
     → AllZip (λ list l. IsFront l.put list) (item_lists producers count) left
-    → ((p : ℕ) (l : LaneLeft) → p < producers → slice_get left p ≡ Some l → length l.put < length (items_of p count) → put_count r ≡ producers * count)
+    → ((p : ℕ) (l : LaneLeft) → p < producers → slice_get left p ≡ Some l
+    → length l.put < length (items_of p count) → put_count r ≡ producers * count)
     → (p : ℕ) → p < producers → (l : LaneView) × (slice_get r.lanes p ≡ Some l) × IsLaneOf p count l
 lanes_told producers count lanes consumers h left r same told puts fronts full p low =
     let t = at p low in
@@ -94,7 +103,8 @@ lanes_told producers count lanes consumers h left r same told puts fronts full p
     let all = full p t.one low t.there short in
     let long = long_of p in
     let less : length (lane_in consumers p h).put < count = rw put (omega (arith, short, long)) in
-    let under : put_count r < length r.lanes * count = sum_short (λ l. length l.put) count r.lanes p (lane_in consumers p h) few t.told less in
+    let under : put_count r < length r.lanes * count = sum_short (λ l. length l.put) count r.lanes p
+    (lane_in consumers p h) few t.told less in
     let many : length r.lanes * count ≡ producers * count = ap (λ n. n * count) (told.lanes_count ∙ sym same) in
     omega (arith, all, under, many) in (
       lane_in consumers p h,
@@ -122,24 +132,32 @@ lanes_told producers count lanes consumers h left r same told puts fronts full p
 
 -- ---- the report is that of a run
 -- where the gate stops nobody
-pub run_report : {budget : ℕ} (may_stop : Who → ℕ → Type 0) → ((w : Who) (n : ℕ) → may_stop w n → ⊥) → (o : Options) (m : MailboxView) (old h : HubView) (r : ReportView) (lists : List (List ℕ)) (n : ℕ) (w : Worked)
-    → AreFew o → budget ≡ o.budget → plan_at m ≡ plan_asked o → m.cells.size ≡ size_of (plan_asked o) → old ≡ hub_empty m → lists ≡ item_lists o.producers o.items → n ≡ o.consumers
+pub run_report : {budget : ℕ} (may_stop : Who → ℕ → Type 0) → ((w : Who) (n : ℕ) → may_stop w n → ⊥)
+    → (o : Options) (m : MailboxView) (old h : HubView) (r : ReportView) (lists : List (List ℕ))
+    (n : ℕ) (w : Worked)
+    → AreFew o → budget ≡ o.budget → plan_at m ≡ plan_asked o → m.cells.size
+    ≡ size_of (plan_asked o) → old ≡ hub_empty m → lists ≡ item_lists o.producers o.items → n
+    ≡ o.consumers
     → IsWorked may_stop budget lists n w old h → IsHubOf m h
-    → IsReportIn m.cells.size.lanes (consumer_count m.claims.layout) h r → (gathered : IsGathered m h r) → FullTakesAll m h r
+    → IsReportIn m.cells.size.lanes (consumer_count m.claims.layout) h r
+    → (gathered : IsGathered m h r) → FullTakesAll m h r
     → IsRunBehind o gathered.histories r → IsRunReport o r
-run_report {budget} may_stop never o m old h r lists n w few asked plan size empty are sources worked of told gathered full run = record {
-  histories = gathered.histories;
-  reader = gathered.reader;
-  sound = subst (λ p. AreSound p gathered.histories) plan gathered.sound;
-  report = subst (λ p. IsReportOf p gathered.histories r) plan gathered.report;
-  honest = subst (λ p. IsHonest p gathered.histories r) plan gathered.honest;
-  run = run;
-  lanes = lanes_told o.producers o.items m.cells.size.lanes (consumer_count m.claims.layout) h worked.lanes r same told puts
-      (subst (λ ls. AllZip (λ list l. IsFront l.put list) ls worked.lanes) are worked.run.fronts) all_put;
-  noted = λ c p low_c low_p. subst (λ (b : ℕ). HasNotedAll o.items b c p gathered.histories r) asked
-      (notes_told may_stop budget never o.items m h r worked.lanes worked.consumers gathered told ledgers readers claims many
-      polls noted whole c p (omega (arith, low_c, consumers)) (omega (arith, low_p, same)));
-}
+run_report {budget} may_stop never o m old h r lists n w few asked plan size empty are sources
+    worked of told gathered full run = record {
+      histories = gathered.histories;
+      reader = gathered.reader;
+      sound = subst (λ p. AreSound p gathered.histories) plan gathered.sound;
+      report = subst (λ p. IsReportOf p gathered.histories r) plan gathered.report;
+      honest = subst (λ p. IsHonest p gathered.histories r) plan gathered.honest;
+      run = run;
+      lanes = lanes_told o.producers o.items m.cells.size.lanes (consumer_count m.claims.layout) h
+          worked.lanes r same told puts
+          (subst (λ ls. AllZip (λ list l. IsFront l.put list) ls worked.lanes) are worked.run.fronts) all_put;
+      noted = λ c p low_c low_p. subst (λ (b : ℕ). HasNotedAll o.items b c p gathered.histories r) asked
+          (notes_told may_stop budget never o.items m h r worked.lanes worked.consumers gathered told
+          ledgers readers claims many
+          polls noted whole c p (omega (arith, low_c, consumers)) (omega (arith, low_p, same)));
+    }
   where
     same : o.producers ≡ m.cells.size.lanes
     same = sym (ap (λ p. p.lanes) plan)
@@ -155,23 +173,30 @@ run_report {budget} may_stop never o m old h r lists n w few asked plan size emp
 
     stopped : AreStoppedPuts may_stop m.cells.size.cells 0 (item_lists o.producers o.items) worked.lanes
     stopped = subst (λ (k : ℕ). AreStoppedPuts may_stop k 0 (item_lists o.producers o.items) worked.lanes) cells
-        (subst (λ (g : HubView). AreStoppedPuts may_stop h.cells.table.size.cells (length g.puts) (item_lists o.producers o.items) worked.lanes) empty
-        (subst (λ (ls : List (List ℕ)). AreStoppedPuts may_stop h.cells.table.size.cells (length old.puts) ls worked.lanes) are worked.stopped_puts))
+        (subst (λ (g : HubView). AreStoppedPuts may_stop h.cells.table.size.cells (length g.puts)
+        (item_lists o.producers o.items) worked.lanes) empty
+        (subst (λ (ls : List (List ℕ)). AreStoppedPuts may_stop h.cells.table.size.cells
+        (length old.puts) ls worked.lanes) are worked.stopped_puts))
 
     cut : AreCutByCells m.cells.size.cells 0 (item_lists o.producers o.items) worked.lanes
     cut = subst (λ (k : ℕ). AreCutByCells k 0 (item_lists o.producers o.items) worked.lanes) cells
-        (subst (λ (g : HubView). AreCutByCells h.cells.table.size.cells (length g.puts) (item_lists o.producers o.items) worked.lanes) empty
-        (subst (λ (ls : List (List ℕ)). AreCutByCells h.cells.table.size.cells (length old.puts) ls worked.lanes) are worked.cut))
+        (subst (λ (g : HubView). AreCutByCells h.cells.table.size.cells (length g.puts)
+        (item_lists o.producers o.items) worked.lanes) empty
+        (subst (λ (ls : List (List ℕ)). AreCutByCells h.cells.table.size.cells (length old.puts) ls
+        worked.lanes) are worked.cut))
 
-    part_at : (left : List LaneLeft) (p : ℕ) (l : LaneLeft) → slice_get left p ≡ Some l → slice_get (map (λ l. Some l.part) left) p ≡ Some (Some l.part)
+    part_at : (left : List LaneLeft) (p : ℕ) (l : LaneLeft) → slice_get left p ≡ Some l
+        → slice_get (map (λ l. Some l.part) left) p ≡ Some (Some l.part)
     part_at left p l at = rw (slice_get-map (λ l. Some l.part) left p, at) refl
 
-    all_put : (p : ℕ) (l : LaneLeft) → p < o.producers → slice_get worked.lanes p ≡ Some l → length l.put < length (items_of p o.items)
+    all_put : (p : ℕ) (l : LaneLeft) → p < o.producers → slice_get worked.lanes p ≡ Some l
+        → length l.put < length (items_of p o.items)
         → put_count r ≡ o.producers * o.items
     all_put p l low there short =
         let long : length (items_of p o.items) ≡ o.items = length-map-range_with_len (λ i. 1000 * p + i) 0 o.items in
         let items = few.items in
-        let none = found_none may_stop never m.cells.size.cells (item_lists o.producers o.items) worked.lanes stopped cut p (items_of p o.items) l
+        let none = found_none may_stop never m.cells.size.cells (item_lists o.producers o.items)
+        worked.lanes stopped cut p (items_of p o.items) l
         (list_of o.producers o.items p low) there (omega (arith, long, items)) short in
         let part : slice_get h.cells.roll.lanes p ≡ Some (Some l.part) =
         ap (λ xs. slice_get xs p) parts ∙ part_at worked.lanes p l there in
@@ -184,38 +209,49 @@ run_report {budget} may_stop never o m old h r lists n w few asked plan size emp
     ledgers = worked.run.ledgers ∙ ap (λ (g : HubView). g.ledgers ++ map (λ x. Some x.ledger) worked.consumers) empty
 
     readers : h.cells.roll.readers ≡ map (λ x. Some x.reads) worked.consumers
-    readers = worked.run.reads ∙ ap (λ (g : HubView). g.cells.roll.readers ++ map (λ x. Some x.reads) worked.consumers) empty
+    readers = worked.run.reads ∙ ap (λ (g : HubView). g.cells.roll.readers
+        ++ map (λ x. Some x.reads) worked.consumers) empty
 
     claims : h.claims.roll ≡ map (λ x. Some x.claimed) worked.consumers
-    claims = worked.run.claimed ∙ ap (λ (g : HubView). g.claims.roll ++ map (λ x. Some x.claimed) worked.consumers) empty
+    claims = worked.run.claimed ∙ ap (λ (g : HubView). g.claims.roll
+        ++ map (λ x. Some x.claimed) worked.consumers) empty
 
     many : length worked.consumers ≡ consumer_count m.claims.layout
     many = worked.run.count ∙ sources ∙ consumers
 
     polls : AreStoppedPolls may_stop budget 0 worked.consumers
-    polls = subst (λ (g : HubView). AreStoppedPolls may_stop budget (length g.ledgers) worked.consumers) empty worked.stopped_polls
+    polls = subst (λ (g : HubView). AreStoppedPolls may_stop budget (length g.ledgers)
+        worked.consumers) empty worked.stopped_polls
 
     noted : All (λ x. x.stopped ≡ false → HasNoteAtEach 0 worked.lanes x.ledger) worked.consumers
-    noted = subst (λ (g : HubView). All (λ x. x.stopped ≡ false → HasNoteAtEach (length g.puts) worked.lanes x.ledger) worked.consumers) empty worked.noted
+    noted = subst (λ (g : HubView).
+        All (λ x. x.stopped ≡ false → HasNoteAtEach (length g.puts) worked.lanes x.ledger)
+        worked.consumers) empty worked.noted
 
     -- each producer has left as many items as are asked for
-    whole : (p : ℕ) → p < m.cells.size.lanes → (l : LaneLeft) × (slice_get worked.lanes p ≡ Some l) × (length l.put ≡ o.items)
+    whole : (p : ℕ) → p < m.cells.size.lanes → (l : LaneLeft) × (slice_get worked.lanes p ≡ Some l)
+        × (length l.put ≡ o.items)
     whole p low =
         let fronts = subst (λ ls. AllZip (λ list l. IsFront l.put list) ls worked.lanes) are worked.run.fronts in
         let inside : p < o.producers = omega (arith, low, same) in
-        let t = is_told o.producers o.items m.cells.size.lanes (consumer_count m.claims.layout) h worked.lanes r same told puts fronts p inside in
-        let lane = lanes_told o.producers o.items m.cells.size.lanes (consumer_count m.claims.layout) h worked.lanes r same told puts fronts all_put p inside in
+        let t = is_told o.producers o.items m.cells.size.lanes (consumer_count m.claims.layout) h
+        worked.lanes r same told puts fronts p inside in
+        let lane = lanes_told o.producers o.items m.cells.size.lanes
+        (consumer_count m.claims.layout) h worked.lanes r same told puts fronts all_put p
+        inside in
         let put : (lane_in (consumer_count m.claims.layout) p h).put ≡ t.one.put = rw (t.kept) refl in
         let is = same_some (sym lane.1 ∙ t.told) in
         let long : length (items_of p o.items) ≡ o.items = length-map-range_with_len (λ i. 1000 * p + i) 0 o.items in
         (t.one, t.there, ap length (sym (ap (λ (v : LaneView). v.put) is ∙ put) ∙ lane.2.whole) ∙ long)
 
 -- all that was given is there
-pub nothing_missing : {may_stop : Who → ℕ → Type 0} {budget : ℕ} (m : MailboxView) (old h : HubView) (lists : List (List ℕ)) (n : ℕ) (w : Worked)
+pub nothing_missing : {may_stop : Who → ℕ → Type 0} {budget : ℕ} (m : MailboxView) (old h : HubView)
+    (lists : List (List ℕ)) (n : ℕ) (w : Worked)
     → old ≡ hub_empty m → IsWorked may_stop budget lists n w old h → count_missing h.puts + count_missing h.ledgers ≡ 0
 nothing_missing m old h lists n w empty worked =
     let puts = worked.run.puts ∙ ap (λ (g : HubView). g.puts ++ map (λ l. Some (ended_list l)) worked.lanes) empty in
-    let ledgers = worked.run.ledgers ∙ ap (λ (g : HubView). g.ledgers ++ map (λ c. Some c.ledger) worked.consumers) empty in
+    let ledgers = worked.run.ledgers ∙
+    ap (λ (g : HubView). g.ledgers ++ map (λ c. Some c.ledger) worked.consumers) empty in
     let no_put = ap count_missing puts ∙ none_missing ended_list worked.lanes in
     let no_ledger = ap count_missing ledgers ∙ none_missing (λ c. c.ledger) worked.consumers in
     omega (arith, no_put, no_ledger)
@@ -224,7 +260,8 @@ pub not_missing : (f : GatherFault) (a b : ℕ) → f ≡ Missing a b → f ≡ 
 not_missing f a b e g = let both : Missing a b ≡ NoMemory = sym e ∙ g in cc
 
 -- there are as many numbers as are asked for
-pub asks_enough : (o : Options) (m : MailboxView) (old : HubView) (lists sources : ℕ) → plan_at m ≡ plan_asked o → old ≡ hub_empty m
+pub asks_enough : (o : Options) (m : MailboxView) (old : HubView) (lists sources : ℕ) → plan_at m
+    ≡ plan_asked o → old ≡ hub_empty m
     → lists ≡ o.producers → sources ≡ o.consumers → AsksTooMany m lists sources old → ⊥
 asks_enough o m old lists sources plan empty all each asks =
     let lanes : m.cells.size.lanes ≡ o.producers = ap (λ p. p.lanes) plan in

@@ -4,7 +4,9 @@ use Rattle.std.specs.Prelude.{IsOk, MatchOption}
 use Rattle.mb_world.specs.declared.setup.Setup.{Setup}
 use Rattle.mb_world.specs.declared.setup.SetupFault.{SetupFault}
 
-pub no_refusal : (refusal : Option SetupFault) (s : Setup) → MatchOption refusal (IsOk {E = SetupFault} (Ok s)) (λ why. ◌≡◌ {A = Result Setup SetupFault} (Ok s) (Err why))
+pub no_refusal : (refusal : Option SetupFault) (s : Setup)
+    → MatchOption refusal (IsOk {E = SetupFault} (Ok s))
+    (λ why. ◌≡◌ {A = Result Setup SetupFault} (Ok s) (Err why))
     → refusal ≡ None
 no_refusal None s is = refl
 no_refusal (Some why) s is = absurd (cc)

@@ -17,18 +17,23 @@ use Rattle.mb_program.specs.declared.options.Options.{Options}
 -- the words of the sources that are asked for
 pub words_given : (o : Options) (rngs : List ChaCha) → rngs ≡ map (source_from o.seed) (range_with_len 0 o.consumers)
     → map words_from rngs ≡ words_asked o
-words_given o rngs are = ap (map words_from) are ∙ map-map words_from (source_from o.seed) (range_with_len 0 o.consumers)
+words_given o rngs are = ap (map words_from) are
+    ∙ map-map words_from (source_from o.seed) (range_with_len 0 o.consumers)
 
-pub run_behind : {budget : ℕ} {lists : List (List ℕ)} {words : List Stream} (o : Options) (m : MailboxView) (old h : HubView) (r : ReportView) (w : Worked)
-    → budget ≡ o.budget → plan_at m ≡ plan_asked o → old ≡ hub_empty m → lists ≡ item_lists o.producers o.items → words ≡ words_asked o
+pub run_behind : {budget : ℕ} {lists : List (List ℕ)} {words : List Stream} (o : Options)
+    (m : MailboxView) (old h : HubView) (r : ReportView) (w : Worked)
+    → budget ≡ o.budget → plan_at m ≡ plan_asked o → old ≡ hub_empty m → lists
+    ≡ item_lists o.producers o.items → words ≡ words_asked o
     → IsCalled (λ _ _. ⊥) (λ _ _. Unit {0}) budget lists words w old h
-    → IsReportIn m.cells.size.lanes (consumer_count m.claims.layout) h r → (gathered : IsGathered m h r) → IsRunBehind o gathered.histories r
+    → IsReportIn m.cells.size.lanes (consumer_count m.claims.layout) h r
+    → (gathered : IsGathered m h r) → IsRunBehind o gathered.histories r
 run_behind o m old h r w most plan empty are drawn called told gathered = record {
   mailbox = m;
   plan = plan;
   hub = h;
   worked = w;
-  called = subst (λ (z : (ℕ × List (List ℕ)) × (List Stream × HubView)). IsCalled (λ _ _. ⊥) (λ _ _. Unit {0}) z.0.0 z.0.1 z.1.0 w z.1.1 h)
+  called = subst (λ (z : (ℕ × List (List ℕ)) × (List Stream × HubView)). IsCalled (λ _ _. ⊥)
+      (λ _ _. Unit {0}) z.0.0 z.0.1 z.1.0 w z.1.1 h)
       (λ i. ((most i, are i), (drawn i, empty i))) called;
   told = told;
   gathered = gathered;

@@ -8,9 +8,13 @@ use Rattle.std.specs.Str.{bytes_eq, chars}
 use Rattle.clap.specs.Facts.{explicit_source, unwrap_or_range}
 use Rattle.clap.specs.Lexer.{long_of, short_of}
 use Rattle.clap.specs.Simple.{Shape}
-use Rattle.clap.specs.Takes.{action_passes, bundle_step_passes, count_passes, default_passes, flag_word_passes, flags_pass, is_given, is_valid, level_passes, long_passes, option_passes, other_passes, positional_passes, react_passes, set_passes, settle_passes, short_passes, step_passes, turn_passes, use_passes, values_pass, walk_passes}
+use Rattle.clap.specs.Takes.{action_passes, bundle_step_passes, count_passes, default_passes, flag_word_passes, flags_pass, is_given, is_valid}
+use Rattle.clap.specs.Takes.{level_passes, long_passes, option_passes, other_passes, positional_passes, react_passes, set_passes, settle_passes}
+use Rattle.clap.specs.Takes.{short_passes, step_passes, turn_passes, use_passes, values_pass, walk_passes}
 use Rattle.clap.specs.Values.{is_request}
-use Rattle.clap.specs.Walk.{Held, Names, Row, Rule, Step, Text, Walk, action_of, arg_by_id, arg_by_index, arg_by_long, arg_by_short, attached_value, finished, has_row, is_empty, is_pending, most_values, next, reacted, settled, subcommand, subcommand_met, takes_several, takes_values, trailing, value, values_or_missing, walk, walk_from, walked, word_met}
+use Rattle.clap.specs.Walk.{Held, Names, Row, Rule, Step, Text, Walk, action_of, arg_by_id, arg_by_index, arg_by_long, arg_by_short, attached_value}
+use Rattle.clap.specs.Walk.{finished, has_row, is_empty, is_pending, most_values, next, reacted, settled, subcommand, subcommand_met, takes_several}
+use Rattle.clap.specs.Walk.{takes_values, trailing, value, values_or_missing, walk, walk_from, walked, word_met}
 use Rattle.clap.specs.declared.builder.action.ArgAction.{ArgAction}
 use Rattle.clap.specs.declared.builder.action.ArgAction.TheVariants.{Set, Append, SetTrue, SetFalse, Count, Help, HelpShort, HelpLong, Version}
 use Rattle.mb_program.proofs.SameWalk.{ReadsSame, Swap, finished_swapped, found_swapped, id_swapped, reacted_swapped, settled_swapped, swapped, walk_swapped, walked_swapped, word_met_swapped}

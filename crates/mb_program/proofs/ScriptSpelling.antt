@@ -23,15 +23,18 @@ use Rattle.mb_program.specs.Spelling.{HasSpelling, script_words, script_lines}
 
 -- the laws of texts on which the reading stands
 pub record TextLaws : Type 0 where
-  pub cut : (w : List ℕ) (ws : List (List ℕ)) → AllByRecursion IsWord (w ∷ ws) → words_of (join_with_byte 32 (w ∷ ws)) ≡ w ∷ ws
+  pub cut : (w : List ℕ) (ws : List (List ℕ)) → AllByRecursion IsWord (w ∷ ws)
+      → words_of (join_with_byte 32 (w ∷ ws)) ≡ w ∷ ws
   pub none_empty : (ws : List (List ℕ)) → AllByRecursion IsWord ws → has_empty ws ≡ false
   pub word : (n : ℕ) → n < 2 ^ 64 → IsWord (decimal n)
   pub words : (ns : List ℕ) → AllByRecursion (λ n. n < 2 ^ 64) ns → AllByRecursion IsWord (map decimal ns)
   pub read : (n : ℕ) → n < 2 ^ 64 → number_of (decimal n) ≡ Some n
   pub all_read : (ns : List ℕ) → AllByRecursion (λ n. n < 2 ^ 64) ns → numbers_of (map decimal ns) ≡ Some ns
   pub spelled : (w : List ℕ) (n : ℕ) → number_of w ≡ Some n → (w ≡ decimal n) × (n < 2 ^ 64)
-  pub all_spelled : (ws : List (List ℕ)) (ns : List ℕ) → numbers_of ws ≡ Some ns → (ws ≡ map decimal ns) × AllByRecursion (λ n. n < 2 ^ 64) ns
-  pub ascii : (bytes : List ℕ) (lines : List (List (List ℕ))) → AllByRecursion IsWordLine lines → lines_of bytes ≡ map (join_with_byte 32) lines → list_all is_ascii bytes ≡ true
+  pub all_spelled : (ws : List (List ℕ)) (ns : List ℕ) → numbers_of ws ≡ Some ns
+      → (ws ≡ map decimal ns) × AllByRecursion (λ n. n < 2 ^ 64) ns
+  pub ascii : (bytes : List ℕ) (lines : List (List (List ℕ))) → AllByRecursion IsWordLine lines
+      → lines_of bytes ≡ map (join_with_byte 32) lines → list_all is_ascii bytes ≡ true
 
 -- the step before one that succeeded
 bind_ok : {A B : Type 0} (r : Result A RatifyFault) (f : A → Result B RatifyFault) (y : B) → (r >>= f) ≡ Ok y
@@ -120,7 +123,8 @@ head_takes law (key ∷ name ∷ values ∷ []) x e =
     ap (λ (w : List ℕ). w ∷ name ∷ values ∷ []) k
     ∙ ap (λ (w : List ℕ). codes "ratify" ∷ w ∷ values ∷ []) t
     ∙ ap (λ (w : List ℕ). codes "ratify" ∷ table_name a.0 ∷ w ∷ []) v.0 in
-    subst (λ (y : TableName × ℕ). (key ∷ name ∷ values ∷ [] ≡ codes "ratify" ∷ table_name y.0 ∷ decimal y.1 ∷ []) × (y.1 < 2 ^ 64))
+    subst (λ (y : TableName × ℕ). (key ∷ name ∷ values ∷ [] ≡ codes "ratify" ∷ table_name y.0
+    ∷ decimal y.1 ∷ []) × (y.1 < 2 ^ 64))
     (ok_is made x b.2) (whole, v.1)
 
 -- what is spelled on the first line is read so
@@ -179,7 +183,8 @@ abbrev after_first : Lines × Lines → Result Script RatifyFault
 after_first first = head_of first.0 >>= after_head first.1
 
 -- lines that were read were spelled so
-lines_take : TextLaws → (lines : Lines) (s : Script) → three_lines lines ≡ Ok s → HasSpelling s × (lines ≡ script_lines s)
+lines_take : TextLaws → (lines : Lines) (s : Script) → three_lines lines ≡ Ok s → HasSpelling s
+    × (lines ≡ script_lines s)
 unfolding three_lines
 lines_take law lines s e =
     let a = bind_ok (line_words 1 lines) after_first s e in
@@ -236,11 +241,13 @@ lines_again law s h =
     ) refl
 
 -- what is read was spelled so
-script_takes : TextLaws → (bytes : List ℕ) (s : Script) → script_of bytes ≡ Ok s → HasSpelling s × (lines_of bytes ≡ script_lines s)
+script_takes : TextLaws → (bytes : List ℕ) (s : Script) → script_of bytes ≡ Ok s → HasSpelling s
+    × (lines_of bytes ≡ script_lines s)
 unfolding script_of
 script_takes law bytes s e =
     let read = three_lines (lines_of bytes) in
-    let a = avoided (nat_lt MAX_SCRIPT_LEN (length bytes)) TooLong (cond (list_all is_ascii bytes) read (Err NotAscii)) s e in
+    let a = avoided (nat_lt MAX_SCRIPT_LEN (length bytes)) TooLong
+    (cond (list_all is_ascii bytes) read (Err NotAscii)) s e in
     let b = passed (list_all is_ascii bytes) NotAscii read s a.1 in
     lines_take law (lines_of bytes) s b.1
 

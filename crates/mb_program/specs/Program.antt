@@ -61,7 +61,8 @@ IsTold sink errs writer writer' errors errors' kind printed =
     → (writer' ≡ writer) × ((text : List ℕ) × IsPrinted errs errors errors' text printed))
 
 -- ---- one run of the program, that found a reader and two writers, and left them
-abbrev pub IsProgramRun : {R W E : Type 0} → List Text → Meter R → Meter W → Meter E → R → R → W → W → E → E → Ending → Type 0
+abbrev pub IsProgramRun : {R W E : Type 0} → List Text → Meter R → Meter W → Meter E → R → R → W → W
+    → E → E → Ending → Type 0
 -- the command that the words name was carried out
 IsProgramRun words source sink errs reader reader' writer writer' errors errors' ending.Done =
     ((choice : Choice) × Names words choice
@@ -78,7 +79,8 @@ IsProgramRun words source sink errs reader reader' writer writer' errors errors'
 IsProgramRun words source sink errs reader reader' writer writer' errors errors' (ending.Refused kind printed) =
     (reader' ≡ reader) × IsRefusalOf words kind
     × IsTold sink errs writer writer' errors errors' kind printed
-    × ((choice : Choice) → takes program words ≡ true → command_in words ≡ Some (choice_name choice) → kind ≡ OutOfMemory)
+    × ((choice : Choice) → takes program words ≡ true → command_in words ≡ Some (choice_name choice)
+    → kind ≡ OutOfMemory)
 -- the words are there, so the program does not end for want of them
 IsProgramRun words source sink errs reader reader' writer writer' errors errors' ending.NoText = ⊥
 IsProgramRun words source sink errs reader reader' writer writer' errors errors' ending.NoWords = ⊥

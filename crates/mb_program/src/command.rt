@@ -51,10 +51,12 @@ fn program<'a>(alloc: Global) -> Result<Command<'a>, AllocError>
 
 /// The choice of the command that clap has found.
 fn choice_of(matches: &ArgMatches) -> Option<Choice>
-    ensures named { IfSome result (λ choice. subcommand_name_of matches.now ≡ Some (choice_name choice)) }
+    ensures named { IfSome result (λ choice. subcommand_name_of matches.now
+        ≡ Some (choice_name choice)) }
     ensures options { IfSome result (HasOptions (subcommand_rows_of matches.now)) }
     ensures budget { IfSome result HasBudget }
-    ensures each { (choice : Choice) → subcommand_name_of matches.now ≡ Some (choice_name choice) → IsSome result }
+    ensures each { (choice : Choice) → subcommand_name_of matches.now ≡ Some (choice_name choice)
+        → IsSome result }
 {
     let (name, given) = matches.subcommand()?;
     match name {
@@ -70,7 +72,8 @@ fn choice_of(matches: &ArgMatches) -> Option<Choice>
 /// Which lines are refused, and the text that says so, is clap's. A call for help is such a refusal.
 pub fn command_of<'a, S: AsStr>(alloc: Global, words: &'a [S]) -> Result<Choice, Error>
     // What is chosen is the command that the words name, and clap refuses none of them.
-    ensures choice { IfOk result (λ choice. command_in (map S.text words.entry.now) ≡ Some (choice_name choice)) }
+    ensures choice { IfOk result (λ choice. command_in (map S.text words.entry.now)
+        ≡ Some (choice_name choice)) }
     ensures taken { OnOk result (fault_of program (map S.text words.entry.now) ≡ []) }
 
     // The options of `run` are those that the words give, and the budget lies in its range.
@@ -84,7 +87,8 @@ pub fn command_of<'a, S: AsStr>(alloc: Global, words: &'a [S]) -> Result<Choice,
     ensures refused { (choice : Choice) → takes program (map S.text words.entry.now) ≡ true
         → command_in (map S.text words.entry.now) ≡ Some (choice_name choice)
         → IfErr result (λ e. kind_of e ≡ ErrorKind.OutOfMemory) }
-    ensures alone { (name : List ℕ) (choice : Choice) → map S.text words.entry.now ≡ name ∷ choice_name choice ∷ []
+    ensures alone { (name : List ℕ) (choice : Choice) → map S.text words.entry.now ≡ name
+        ∷ choice_name choice ∷ []
         → IfErr result (λ e. kind_of e ≡ ErrorKind.OutOfMemory) }
 {
     let mut command = program(alloc)?;

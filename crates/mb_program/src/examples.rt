@@ -37,10 +37,30 @@ use mb_mailbox::laws::calls_draw_the_first_words;
 
 /// A script of numbers that are too large has no spelling.
 pub fn numbers_are_words()
-    ensures largest { HasSpelling (record { table = Unary; values = 2 ^ 64 - 1; inputs = 0 ∷ []; turns = [] }) }
-    ensures values { HasSpelling (record { table = Unary; values = 2 ^ 64; inputs = []; turns = [] }) → ⊥ }
-    ensures input { HasSpelling (record { table = Unary; values = 2; inputs = 0 ∷ 2 ^ 64 ∷ []; turns = [] }) → ⊥ }
-    ensures turn { HasSpelling (record { table = Unary; values = 2; inputs = []; turns = 2 ^ 64 ∷ [] }) → ⊥ }
+    ensures largest { HasSpelling (record {
+      table = Unary;
+      values = 2 ^ 64 - 1;
+      inputs = 0 ∷ [];
+      turns = [];
+    }) }
+    ensures values { HasSpelling (record {
+      table = Unary;
+      values = 2 ^ 64;
+      inputs = [];
+      turns = [];
+    }) → ⊥ }
+    ensures input { HasSpelling (record {
+      table = Unary;
+      values = 2;
+      inputs = 0 ∷ 2 ^ 64 ∷ [];
+      turns = [];
+    }) → ⊥ }
+    ensures turn { HasSpelling (record {
+      table = Unary;
+      values = 2;
+      inputs = [];
+      turns = 2 ^ 64 ∷ [];
+    }) → ⊥ }
 {}
 
 /// A script has at most so many bytes.
@@ -51,7 +71,8 @@ pub fn scripts_have_a_limit()
 /// Only a script without fault has an answer, and it has one line for each process.
 pub fn answers_fit_their_script()
     ensures nobody { IsAnswer (codes "ratify unary 2\ninputs\nturns\n") [] }
-    ensures stranger { IsAnswer (codes "ratify unary 2\ninputs\nturns\n") (codes "process 0: none\n") → ⊥ }
+    ensures stranger { IsAnswer (codes "ratify unary 2\ninputs\nturns\n")
+        (codes "process 0: none\n") → ⊥ }
     ensures bad_line { IsAnswer (codes "ratify unary 2\ninputs\nturns\n\n") [] → ⊥ }
     ensures bad_values { IsAnswer (codes "ratify unary 0\ninputs\nturns\n") [] → ⊥ }
 {}
@@ -89,7 +110,8 @@ pub fn options_are_told()
     ensures other_budget { HasToldOptions (run_words []) (Run (record asked { budget = 65 })) → ⊥ }
     ensures given { HasToldOptions (run_words (codes "--items" ∷ codes "3" ∷ []))
         (Run (record asked { items = 3 })) }
-    ensures passed_over { HasToldOptions (run_words (codes "--items" ∷ codes "3" ∷ [])) (Run asked) → ⊥ }
+    ensures passed_over { HasToldOptions (run_words (codes "--items" ∷ codes "3" ∷ [])) (Run asked)
+        → ⊥ }
     ensures no_budget { HasBudget (Run (record asked { budget = 0 })) → ⊥ }
 {}
 
@@ -102,19 +124,28 @@ pub fn shapes_are_told()
         (Run (record asked { shape = record { fast = false; last = true } })) }
     ensures both { HasToldOptions (run_words (codes "--shape" ∷ codes "fastlast" ∷ []))
         (Run (record asked { shape = record { fast = true; last = true } })) }
-    ensures passed_over { HasToldOptions (run_words (codes "--shape" ∷ codes "fast" ∷ [])) (Run asked) → ⊥ }
+    ensures passed_over { HasToldOptions (run_words (codes "--shape" ∷ codes "fast" ∷ []))
+        (Run asked) → ⊥ }
     ensures taken { takes program (run_words (codes "--shape" ∷ codes "fastlast" ∷ [])) ≡ true }
     ensures other { takes program (run_words (codes "--shape" ∷ codes "other" ∷ [])) ≡ false }
-    ensures reason { fault_of program (run_words (codes "--shape" ∷ codes "other" ∷ [])) ≡ InvalidValue ∷ [] }
+    ensures reason { fault_of program (run_words (codes "--shape" ∷ codes "other" ∷ []))
+        ≡ InvalidValue ∷ [] }
 {}
 
 /// What the options ask for, and how a lane of a run ends.
 pub fn lanes_have_their_lists()
     ensures items { items_of 1 3 ≡ 1000 ∷ 1001 ∷ 1002 ∷ [] }
-    ensures cells { setup_refused (record asked { producers = 16; items = 2 ^ 60 }) ≡ Some BadCells }
-    ensures consumers { setup_refused (record asked { consumers = 0; items = 2 ^ 63 }) ≡ Some BadConsumers }
+    ensures cells { setup_refused (record asked {
+      producers = 16;
+      items = 2 ^ 60;
+    }) ≡ Some BadCells }
+    ensures consumers { setup_refused (record asked {
+      consumers = 0;
+      items = 2 ^ 63;
+    }) ≡ Some BadConsumers }
     ensures none { setup_refused asked ≡ None }
-    ensures shape { (o : Options) → (plan_asked o).claims.kinds ≡ row_of o.shape (spread o.consumers) o.pairs }
+    ensures shape { (o : Options) → (plan_asked o).claims.kinds
+        ≡ row_of o.shape (spread o.consumers) o.pairs }
     ensures whole { IsLaneOf 0 2 (record { put = 0 ∷ 1 ∷ []; ended = true; left = [] }) }
     ensures begun { IsLaneOf 0 2 (record { put = 0 ∷ []; ended = true; left = [] }) → ⊥ }
     ensures empty { IsLaneOf 0 2 (record { put = []; ended = true; left = [] }) → ⊥ }
@@ -151,7 +182,8 @@ pub fn runs_draw_from_their_seed()
     ensures words { (o : Options) (r : ReportView) (x : IsRunReport o r) (c : ℕ) → c < o.consumers
         → (left : Stream) × AreDrawn (words_from (source_from o.seed c))
         (map (λ a. a.step.turn.word) (consumer_part c x.histories.claims)) left }
-    ensures other_seed { (o : Options) (r : ReportView) (x : IsRunReport o r) (a : ClaimAccess) → 0 < o.consumers
+    ensures other_seed { (o : Options) (r : ReportView) (x : IsRunReport o r) (a : ClaimAccess)
+        → 0 < o.consumers
         → consumer_part 0 x.histories.claims ≡ a ∷ []
         → a.step.turn.word ≢ (next_u64 (words_from (source_from o.seed 0))).0 → ⊥ }
 {
@@ -173,7 +205,10 @@ pub fn runs_do_what_the_words_ask()
     ensures refused_on_the_output { IsRunOver (codes "mailbox" ∷ []) [] [] (codes "usage") []
         (ending.Refused MissingSubcommand true) → ⊥ }
     ensures refused_and_done { IsRunOver ratify_now nobody_script [] [] [] ending.Done → ⊥ }
-    ensures help { IsRunOver help_words (codes "a") (codes "a") (codes "help") [] (ending.Refused DisplayHelp true) }
-    ensures help_on_the_errors { IsRunOver help_words [] [] [] (codes "help") (ending.Refused DisplayHelp true) → ⊥ }
-    ensures help_not_asked { IsRunOver ratify_now [] [] (codes "help") [] (ending.Refused DisplayHelp true) → ⊥ }
+    ensures help { IsRunOver help_words (codes "a") (codes "a") (codes "help") []
+        (ending.Refused DisplayHelp true) }
+    ensures help_on_the_errors { IsRunOver help_words [] [] [] (codes "help")
+        (ending.Refused DisplayHelp true) → ⊥ }
+    ensures help_not_asked { IsRunOver ratify_now [] [] (codes "help") []
+        (ending.Refused DisplayHelp true) → ⊥ }
 {}

@@ -24,7 +24,8 @@ use std::alloc::Allocator;
 /// Line `n`, with which the text begins, and the text after it.
 #[tactic(auto, unfolding(crate::specs::RatifyScript::line_words))]
 fn line(n: usize, text: &str) -> Result<(&str, &str), RatifyFault>
-    ensures { Gives (λ x. (words_of x.0.now, lines_of x.1.now)) result (line_words n (lines_of text.now)) }
+    ensures { Gives (λ x. (words_of x.0.now, lines_of x.1.now)) result
+        (line_words n (lines_of text.now)) }
 {
     let Some((line, rest)) = split_line(text) else {
         return Err(RatifyFault::BadLine(n));
@@ -117,10 +118,12 @@ pub fn read_script<A: Allocator + Copy>(
     bytes: &[u8],
 ) -> Result<RatifyScript<A>, RatifyFault>
     // What is read is spelled so.
-    ensures found { IfOk result (λ s. HasSpelling (view s) × (lines_of bytes.now ≡ script_lines (view s))) }
+    ensures found { IfOk result (λ s. HasSpelling (view s)
+        × (lines_of bytes.now ≡ script_lines (view s))) }
 
     // What is spelled so is read so, unless memory runs out.
-    ensures only { (s : Script) → HasSpelling s → length bytes.now ≤ MAX_SCRIPT_LEN → lines_of bytes.now ≡ script_lines s
+    ensures only { (s : Script) → HasSpelling s → length bytes.now ≤ MAX_SCRIPT_LEN
+        → lines_of bytes.now ≡ script_lines s
         → Gives (λ s. view s) result (Ok s) }
 
     // Which fault it is.

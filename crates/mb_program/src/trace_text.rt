@@ -37,7 +37,8 @@ fn push_process<A: Allocator>(
     process: usize,
     out: Option<Out>,
 ) -> Result<(), AllocError>
-    ensures { OnOk result (string_bytes text.new ≡ string_bytes text.old ++ process_text process out) }
+    ensures { OnOk result (string_bytes text.new ≡ string_bytes text.old
+        ++ process_text process out) }
 {
     write!(text, "process {process}: ")?;
     match out {
@@ -48,7 +49,8 @@ fn push_process<A: Allocator>(
 }
 
 fn push_entries<A: Allocator>(text: &mut String<A>, entries: &[Entry]) -> Result<(), AllocError>
-    ensures { OnOk result (string_bytes text.new ≡ string_bytes text.old ++ flat_map entry_text entries.now) }
+    ensures { OnOk result (string_bytes text.new ≡ string_bytes text.old
+        ++ flat_map entry_text entries.now) }
 {
     for entry in entries {
         push_entry(text, *entry)?;
@@ -60,7 +62,8 @@ fn push_processes<A: Allocator>(
     text: &mut String<A>,
     outputs: &[Option<Out>],
 ) -> Result<(), AllocError>
-    ensures { OnOk result (string_bytes text.new ≡ string_bytes text.old ++ processes_text 0 outputs.now) }
+    ensures { OnOk result (string_bytes text.new ≡ string_bytes text.old
+        ++ processes_text 0 outputs.now) }
 {
     for (process, out) in outputs.iter().enumerate() {
         push_process(text, process, *out)?;
@@ -70,7 +73,8 @@ fn push_processes<A: Allocator>(
 
 /// A line for each entry of the trace, and then a line for the output of each process.
 pub fn trace_text<A: Allocator + Copy>(alloc: A, trace: &Trace<A>) -> Result<String<A>, AllocError>
-    ensures { IfOk result (λ text. string_bytes text ≡ trace_text trace.now.entries.items trace.now.outputs.items) }
+    ensures { IfOk result (λ text. string_bytes text
+        ≡ trace_text trace.now.entries.items trace.now.outputs.items) }
 {
     let mut text = String::new(alloc);
     push_entries(&mut text, &trace.entries)?;

@@ -42,7 +42,8 @@ sum_both zero f g = refl
 sum_both (suc n) f g = let t = sum_both n f g in omega (arith, t)
 
 -- rows first or columns first
-pub sum_swap : (n m : ℕ) (f : ℕ → ℕ → ℕ) → sum_below n (λ c. sum_below m (f c)) ≡ sum_below m (λ p. sum_below n (λ c. f c p))
+pub sum_swap : (n m : ℕ) (f : ℕ → ℕ → ℕ) → sum_below n (λ c. sum_below m (f c))
+    ≡ sum_below m (λ p. sum_below n (λ c. f c p))
 sum_swap n zero f = sum_none n
 sum_swap n (suc m) f =
     let t = sum_swap n m f in
@@ -62,7 +63,8 @@ sum_more (suc n) (suc d) f g v low here others =
     let a = sum_first n f in
     let b = sum_first n g in
     let head : f 0 ≡ g 0 = others 0 (λ e. omega arith) in
-    let tail = sum_more n d (λ k. f (suc k)) (λ k. g (suc k)) v (omega arith) here (λ k ne. others (suc k) (λ e. ne (omega arith))) in
+    let tail = sum_more n d (λ k. f (suc k)) (λ k. g (suc k)) v (omega arith) here
+    (λ k ne. others (suc k) (λ e. ne (omega arith))) in
     omega (arith, a, b, head, tail)
 
 -- ---- items that an assignment gives out
@@ -90,7 +92,8 @@ module _ (x n : ℕ) where
       let own = λ (c : ℕ). items_where (λ j. is_consumer c (t (suc j))) ys in
       let left = items_where (λ j. is_none (t (suc j))) ys in
       let is = λ (c : ℕ). ap (λ (z : Option ℕ). times x (if is_consumer c z then y ∷ own c else own c)) e in (
-        sum_more n d (λ c. times x (items_where (λ j. is_consumer c (t j)) (y ∷ ys))) (λ c. times x (own c)) (one x y) known
+        sum_more n d (λ c. times x (items_where (λ j. is_consumer c (t j)) (y ∷ ys)))
+            (λ c. times x (own c)) (one x y) known
             (is d ∙ ap (λ b. times x (if b then y ∷ own d else own d)) (eq-eqb d d refl) ∙ times_first x y (own d))
             (λ c ne. is c ∙ ap (λ b. times x (if b then y ∷ own c else own c)) (ne_eqb d c ne)),
         ap (λ (z : Option ℕ). times x (if is_none z then y ∷ left else left)) e,

@@ -6,7 +6,8 @@ use Rattle.std.specs.List.{concat}
 use Rattle.mb_mailbox.specs.Worked.{lists_in}
 use Rattle.mb_rounds.proofs.Whole.{concat_push}
 
-pub lists_push : {Z : Type 0} (vs : List (Vec ℕ Z)) (v : Vec ℕ Z) → lists_in (vs ++ v ∷ []) ≡ lists_in vs ++ v.items ∷ []
+pub lists_push : {Z : Type 0} (vs : List (Vec ℕ Z)) (v : Vec ℕ Z) → lists_in (vs ++ v ∷ [])
+    ≡ lists_in vs ++ v.items ∷ []
 lists_push [] v = refl
 lists_push (w ∷ vs) v = ap (λ ls. w.items ∷ ls) (lists_push vs v)
 

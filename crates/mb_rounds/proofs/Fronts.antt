@@ -10,13 +10,15 @@ use Rattle.mb_mailbox.specs.Worked.{LaneLeft, ended_list}
 use Rattle.mb_world.specs.Report.{LaneView, ReportView}
 use Rattle.mb_rounds.specs.Round.{IsPutOf}
 
-pub zip_length : {A B : Type 0} (R : A → B → Type 0) (xs : List A) (ys : List B) → AllZip R xs ys → length xs ≡ length ys
+pub zip_length : {A B : Type 0} (R : A → B → Type 0) (xs : List A) (ys : List B) → AllZip R xs ys
+    → length xs ≡ length ys
 zip_length R [] [] z = refl
 zip_length R [] (y ∷ ys) z = absurd z
 zip_length R (x ∷ xs) [] z = absurd z
 zip_length R (x ∷ xs) (y ∷ ys) z = let t = zip_length R xs ys z.1 in omega (arith, t)
 
-pub get_map : {A B : Type 0} (f : A → B) (xs : List A) (i : ℕ) (x : A) → slice_get xs i ≡ Some x → slice_get (map f xs) i ≡ Some (f x)
+pub get_map : {A B : Type 0} (f : A → B) (xs : List A) (i : ℕ) (x : A) → slice_get xs i ≡ Some x
+    → slice_get (map f xs) i ≡ Some (f x)
 get_map f [] i x e = absurd (cc)
 get_map f (y ∷ xs) zero x e = let f_same : y ≡ x = cc in ap (λ z. Some (f z)) f_same
 get_map f (y ∷ xs) (suc i) x e = get_map f xs i x e
@@ -33,7 +35,8 @@ get_below (y ∷ xs) zero x e = omega arith
 get_below (y ∷ xs) (suc i) x e = let t = get_below xs i x e in omega (arith, t)
 
 -- place by place the lanes of the report have what the workers put
-zip_put : (lists : List (List ℕ)) (ls : List LaneLeft) (vs : List LaneView) → AllZip (λ list l. IsFront l.put list) lists ls
+zip_put : (lists : List (List ℕ)) (ls : List LaneLeft) (vs : List LaneView)
+    → AllZip (λ list l. IsFront l.put list) lists ls
     → length vs ≡ length ls
     → ((p : ℕ) (l : LaneLeft) → slice_get ls p ≡ Some l → (v : LaneView) × (slice_get vs p ≡ Some v) × (v.put ≡ l.put))
     → AllZip IsPutOf lists vs
@@ -58,6 +61,7 @@ fronts_told lanes consumers lists ls h r all is puts fronts =
     (λ p l e. (
       lane_in consumers p h,
       is.lane p (let t = get_below ls p l e in omega (arith, t, count, all)),
-      ap (λ (o : Option (Option PutListView)). option_map_or (λ (k : PutListView). k.items) (option_map_or (λ k. k) o None) [])
+      ap (λ (o : Option (Option PutListView)). option_map_or (λ (k : PutListView). k.items)
+          (option_map_or (λ k. k) o None) [])
           (ap (λ k. slice_get k p) puts ∙ get_map (λ (k : LaneLeft). Some (ended_list k)) ls p l e),
     ))

@@ -41,7 +41,8 @@ module _ {may_stop may_pass : Who → ℕ → Type 0} (terms : Terms) (lists : L
       (get_none r.diaries (c * length r.lanes + p)
       (let count = played.report.diaries_count in
       let lanes = played.report.lanes_count in
-      let few : consumers_of plan * plan.lanes ≤ c * plan.lanes = mul-le (consumers_of plan) plan.lanes c plan.lanes far (omega arith) in
+      let few : consumers_of plan * plan.lanes ≤ c * plan.lanes = mul-le (consumers_of plan)
+      plan.lanes c plan.lanes far (omega arith) in
       let same : c * length r.lanes ≡ c * plan.lanes = ap (λ k. c * k) lanes in
       omega (arith, count, few, same)))
 
@@ -50,7 +51,8 @@ module _ {may_stop may_pass : Who → ℕ → Type 0} (terms : Terms) (lists : L
   competitor_is_known c p j competed far =
       let none = no_diary c p far in
       let no_notes : notes c p r ≡ [] = ap (λ (o : Option DiaryView). option_map_or (λ d. d.notes) o []) none in
-      let not_begun : is_begun c p r ≡ false = ap (λ (o : Option DiaryView). option_map_or (λ d. d.begun) o false) none in
+      let not_begun : is_begun c p r ≡ false =
+      ap (λ (o : Option DiaryView). option_map_or (λ d. d.begun) o false) none in
       ⊎_elim (λ low. let n = ap length no_notes in omega (arith, low, n))
       (λ t. false≢true (sym not_begun ∙ t.1)) competed
 
@@ -70,7 +72,8 @@ module _ {may_stop may_pass : Who → ℕ → Type 0} (terms : Terms) (lists : L
       let t = played.honest.assignment p in
       let put : items_put p r ≡ l.put = ap (λ (o : Option LaneView). option_map_or (λ z. z.put) o []) e in
       let left : items_left p r ≡ l.left = ap (λ (o : Option LaneView). option_map_or (λ z. z.left) o []) e in
-      let ledgers = sum_same (consumers_of plan) (λ c. times x (ledger c p r)) (λ c. times x (items_where (λ j. is_consumer c (t j)) (items_put p r)))
+      let ledgers = sum_same (consumers_of plan) (λ c. times x (ledger c p r))
+      (λ c. times x (items_where (λ j. is_consumer c (t j)) (items_put p r)))
       (λ c low. ap (times x) (given.ledgers c p)) in
       let rest = ap (times x) (sym left ∙ played.honest.left p) in
       let all = ap (times x) put in

@@ -30,28 +30,29 @@ pub played : (m : MailboxView) (old h : HubView) (r : ReportView) (terms : Terms
     → IsCalled may_stop may_pass terms.budget lists terms.sources w old h
     → IsReportIn m.cells.size.lanes (consumer_count m.claims.layout) h r
     → IsGathered m h r → FullTakesAll m h r → IsPlayed may_stop may_pass terms lists r
-played m old h r terms lists may_stop may_pass sources w same size all many empty of worked called told gathered full = record {
-  fronts = fronts_told m.cells.size.lanes (consumer_count m.claims.layout) lists worked.lanes h r
-      (ap (λ (q : Plan). q.lanes) same ∙ all) told
-      (worked.run.puts ∙ ap (λ (o : HubView). o.puts ++ map (λ l. Some (ended_list l)) worked.lanes) empty)
-      worked.run.fronts;
-  histories = gathered.histories;
-  sound = subst (λ (q : Plan). AreSound q gathered.histories) same gathered.sound;
-  report = subst (λ (q : Plan). IsReportOf q gathered.histories r) same gathered.report;
-  honest = subst (λ (q : Plan). IsHonest q gathered.histories r) same gathered.honest;
-  run = record {
-    mailbox = m;
-    plan = same;
-    size = size;
-    hub = h;
-    of = of;
-    counts = w;
-    worked = subst (λ (z : ℕ × HubView). IsWorked may_stop terms.budget lists z.0 w z.1 h)
-        (λ i. (many i, empty i)) worked;
-    called = subst (λ (o : HubView). IsCalled may_stop may_pass terms.budget lists terms.sources w o h) empty called;
-    told = told;
-    gathered = gathered;
-    full = full;
-    histories = refl;
-  };
-}
+played m old h r terms lists may_stop may_pass sources w same size all many empty of worked called
+    told gathered full = record {
+      fronts = fronts_told m.cells.size.lanes (consumer_count m.claims.layout) lists worked.lanes h r
+          (ap (λ (q : Plan). q.lanes) same ∙ all) told
+          (worked.run.puts ∙ ap (λ (o : HubView). o.puts ++ map (λ l. Some (ended_list l)) worked.lanes) empty)
+          worked.run.fronts;
+      histories = gathered.histories;
+      sound = subst (λ (q : Plan). AreSound q gathered.histories) same gathered.sound;
+      report = subst (λ (q : Plan). IsReportOf q gathered.histories r) same gathered.report;
+      honest = subst (λ (q : Plan). IsHonest q gathered.histories r) same gathered.honest;
+      run = record {
+        mailbox = m;
+        plan = same;
+        size = size;
+        hub = h;
+        of = of;
+        counts = w;
+        worked = subst (λ (z : ℕ × HubView). IsWorked may_stop terms.budget lists z.0 w z.1 h)
+            (λ i. (many i, empty i)) worked;
+        called = subst (λ (o : HubView). IsCalled may_stop may_pass terms.budget lists terms.sources w o h) empty called;
+        told = told;
+        gathered = gathered;
+        full = full;
+        histories = refl;
+      };
+    }

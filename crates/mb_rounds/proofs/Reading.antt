@@ -10,12 +10,14 @@ use Rattle.mb_rounds.specs.Round.{staying}
 next : (i : ℕ) → i + 1 ≡ suc i
 next i = omega arith
 
-one_after : {X : Type 0} (xs : List X) (i : ℕ) (x : X) → i < length xs → get_or xs i x ≡ x → take (suc i) xs ≡ take i xs ++ x ∷ []
+one_after : {X : Type 0} (xs : List X) (i : ℕ) (x : X) → i < length xs → get_or xs i x ≡ x
+    → take (suc i) xs ≡ take i xs ++ x ∷ []
 one_after [] i x low e = absurd (omega arith)
 one_after (y ∷ xs) zero x low e = ap (λ z. z ∷ []) e
 one_after (y ∷ xs) (suc i) x low e = ap (λ l. y ∷ l) (one_after xs i x (omega arith) e)
 
-one_more : {X : Type 0} (xs : List X) (i : ℕ) (x : X) → i < length xs → get_or xs i x ≡ x → take (i + 1) xs ≡ take i xs ++ x ∷ []
+one_more : {X : Type 0} (xs : List X) (i : ℕ) (x : X) → i < length xs → get_or xs i x ≡ x
+    → take (i + 1) xs ≡ take i xs ++ x ∷ []
 one_more xs i x low e = ap (λ k. take k xs) (next i) ∙ one_after xs i x low e
 
 -- an element for which there is a value adds it, and one for which there is none adds nothing
@@ -57,7 +59,8 @@ stays_after (l ∷ lists) (k ∷ lanes) zero list lane e low here =
     append-nil (k.left ++ drop (length k.put) l) ∙ (λ i. (here i).left ++ drop (length (here i).put) (same i))
 stays_after (l ∷ lists) (k ∷ lanes) (suc p) list lane e low here =
     ap (λ z. (k.left ++ drop (length k.put) l) ++ z) (stays_after lists lanes p list lane e (omega arith) here)
-    ∙ sym (append_assoc (k.left ++ drop (length k.put) l) (staying (take p lists) (take p lanes)) (lane.left ++ drop (length lane.put) list))
+    ∙ sym (append_assoc (k.left ++ drop (length k.put) l) (staying (take p lists) (take p lanes))
+    (lane.left ++ drop (length lane.put) list))
 
 pub stays_more : (lists : List (List ℕ)) (lanes : List LaneView) (p : ℕ) (list : List ℕ) (lane : LaneView)
     → slice_get lists p ≡ Some list → p < length lanes → get_or lanes p lane ≡ lane

@@ -58,14 +58,16 @@ lanes_add_up x given (list ∷ lists) (l ∷ ls) z each =
     let c = times_both x list (concat lists) in
     omega (arith, rest, here, own, beyond, first, a, b, c)
 
-pub round_adds_up : {may_stop may_pass : Who → ℕ → Type 0} (terms : Terms) (was : List ℕ) (taken : List (List ℕ)) (r : ReportView)
+pub round_adds_up : {may_stop may_pass : Who → ℕ → Type 0} (terms : Terms) (was : List ℕ)
+    (taken : List (List ℕ)) (r : ReportView)
     (now : List ℕ) → IsRound may_stop may_pass terms was taken r now → AreSameItems was (concat taken ++ now)
 round_adds_up terms was taken r now round x =
     let n = consumers_of terms.plan in
     let before = ap (times x) (sym round.dealt) ∙ times_both x (concat round.lists) round.behind in
     let after = ap (times x) round.carried ∙ times_both x (staying round.lists r.lanes) round.behind in
     let given = ap (λ ls. times x (concat ls)) round.given ∙ ledgers_add_up x n r
-    ∙ sum_same n (λ c. times x (taken_below (length r.lanes) c r)) (λ c. sum_below (length r.lanes) (λ p. times x (ledger c p r)))
+    ∙ sum_same n (λ c. times x (taken_below (length r.lanes) c r))
+    (λ c. sum_below (length r.lanes) (λ p. times x (ledger c p r)))
     (λ c low. taken_adds_up x (length r.lanes) c r)
     ∙ sum_swap n (length r.lanes) (λ c p. times x (ledger c p r)) in
     let lanes = lanes_add_up x (λ p. sum_below n (λ c. times x (ledger c p r))) round.lists r.lanes round.played.fronts

@@ -17,7 +17,8 @@ abbrev pub IsPutOf : List ℕ → LaneView → Type 0
 IsPutOf list lane = IsFront lane.put list
 
 -- these lists were put into a mailbox of these terms, each up to some item, and the report is that of the mailbox
-pub record IsPlayed (may_stop may_pass : Who → ℕ → Type 0) (terms : Terms) (lists : List (List ℕ)) (r : ReportView) : Type 0 where
+pub record IsPlayed (may_stop may_pass : Who → ℕ → Type 0) (terms : Terms) (lists : List (List ℕ))
+    (r : ReportView) : Type 0 where
   pub fronts : AllZip IsPutOf lists r.lanes
   -- what was done to the words of the claims and to those of the cells is lawful, and the report is of that
   pub histories : Histories
@@ -50,7 +51,8 @@ staying (list ∷ lists) (lane ∷ lanes) = (lane.left ++ drop (length lane.put)
 
 -- the oldest of the items carried, as many as there are cells, were dealt to the producers and went into a mailbox of these
 -- terms. What each consumer took there is given out. What nobody took or nobody put is carried, before what was not dealt
-pub record IsRound (may_stop may_pass : Who → ℕ → Type 0) (terms : Terms) (was : List ℕ) (taken : List (List ℕ)) (r : ReportView)
+pub record IsRound (may_stop may_pass : Who → ℕ → Type 0) (terms : Terms) (was : List ℕ)
+    (taken : List (List ℕ)) (r : ReportView)
     (now : List ℕ) : Type 0 where
   pub lists : List (List ℕ)
   pub behind : List ℕ

@@ -23,7 +23,8 @@ pub(crate) fn stay<A: Allocator + Clone + Drop>(
     behind: &[u64],
 ) -> Result<Vec<u64, A>, AllocError>
     requires same { length lists.now ≡ length report.now.lanes }
-    ensures { IfOk result (λ v. v.items ≡ staying (lists_in lists.now) report.now.lanes ++ behind.now) }
+    ensures { IfOk result (λ v. v.items ≡ staying (lists_in lists.now) report.now.lanes
+        ++ behind.now) }
 {
     let mut carried = Vec::new(alloc.clone()?);
     for (p, lane) in report.lanes.iter().enumerate() {

@@ -20,12 +20,14 @@ use Rattle.mb_script.specs.Text.{has_empty, words_of}
 abbrev pub For : {A : Type 0} → (Fault → Type 0) → Result A Fault → Type 0
 For P r = IfErr r P
 
-pub for_bind : {A B : Type 0} (P : Fault → Type 0) (r : Result A Fault) (f : A → Result B Fault) → For P r → ((x : A) → For P (f x))
+pub for_bind : {A B : Type 0} (P : Fault → Type 0) (r : Result A Fault) (f : A → Result B Fault)
+    → For P r → ((x : A) → For P (f x))
     → For P (r >>= f)
 for_bind P (Ok x) f first behind = behind x
 for_bind P (Err e) f first behind = first
 
-pub for_cond : {A : Type 0} (P : Fault → Type 0) (b : Bool) (r s : Result A Fault) → For P r → For P s → For P (cond b r s)
+pub for_cond : {A : Type 0} (P : Fault → Type 0) (b : Bool) (r s : Result A Fault) → For P r
+    → For P s → For P (cond b r s)
 for_cond P true r s p q = p
 for_cond P false r s p q = q
 
@@ -51,7 +53,8 @@ unfolding two_numbers
 at_two n [] = refl
 at_two n (a ∷ []) = refl
 at_two n (a ∷ b ∷ []) =
-    for_bind (About n) (number_at n a) (λ x. number_at n b >>= (λ y. Ok (x, y))) (for_option (About n) _ (BadNumber n) refl)
+    for_bind (About n) (number_at n a) (λ x. number_at n b >>= (λ y. Ok (x, y)))
+    (for_option (About n) _ (BadNumber n) refl)
     (λ x. for_bind (About n) (number_at n b) (λ y. Ok (x, y)) (for_option (About n) _ (BadNumber n) refl) (λ y. tt))
 at_two n (a ∷ b ∷ c ∷ ws) = refl
 
@@ -71,15 +74,20 @@ at_event : (n : ℕ) (ws : List (List ℕ)) → At n (event_of n ws)
 unfolding event_of
 at_event n [] = refl
 at_event n (key ∷ ws) =
-    for_cond (About n) (bytes_eq key (codes "offer")) _ _ (for_bind (About n) (two_numbers n ws) _ (at_two n ws) (λ x. tt))
-    (for_cond (About n) (bytes_eq key (codes "push")) _ _ (for_bind (About n) (one_number n ws) _ (at_one n ws) (λ x. tt))
-    (for_cond (About n) (bytes_eq key (codes "finish")) _ _ (for_bind (About n) (one_number n ws) _ (at_one n ws) (λ x. tt))
-    (for_cond (About n) (bytes_eq key (codes "step")) _ _ (for_bind (About n) (three_numbers n ws) _ (at_three n ws) (λ x. tt)) refl)))
+    for_cond (About n) (bytes_eq key (codes "offer")) _ _
+    (for_bind (About n) (two_numbers n ws) _ (at_two n ws) (λ x. tt))
+    (for_cond (About n) (bytes_eq key (codes "push")) _ _
+    (for_bind (About n) (one_number n ws) _ (at_one n ws) (λ x. tt))
+    (for_cond (About n) (bytes_eq key (codes "finish")) _ _
+    (for_bind (About n) (one_number n ws) _ (at_one n ws) (λ x. tt))
+    (for_cond (About n) (bytes_eq key (codes "step")) _ _
+    (for_bind (About n) (three_numbers n ws) _ (at_three n ws) (λ x. tt)) refl)))
 
 at_placed : (plan : Plan) (n : ℕ) (e : Event) → At n (placed plan n e)
 unfolding placed
 at_placed plan n e =
-    for_cond (About n) (nat_lt (lane_of e) plan.lanes) _ _ (for_cond (About n) (has_consumer plan (consumer_in e)) _ _ tt refl) refl
+    for_cond (About n) (nat_lt (lane_of e) plan.lanes) _ _
+    (for_cond (About n) (has_consumer plan (consumer_in e)) _ _ tt refl) refl
 
 pub at_line : (plan : Plan) (n : ℕ) (line : List ℕ) → At n (event_at plan n line)
 unfolding event_at
@@ -88,11 +96,13 @@ at_line plan n line =
     (for_bind (About n) (event_of n (words_of line)) (placed plan n) (at_event n (words_of line)) (at_placed plan n))
 
 -- the same of the first line
-for_made : (P : Fault → Type 0) (o : Option SetupFault) (made : Made) → ((f : SetupFault) → P (BadSetup 1 f)) → For P (made_of o made)
+for_made : (P : Fault → Type 0) (o : Option SetupFault) (made : Made)
+    → ((f : SetupFault) → P (BadSetup 1 f)) → For P (made_of o made)
 for_made P None made bad = tt
 for_made P (Some fault) made bad = bad fault
 
-pub for_sizes : (P : Fault → Type 0) (ws : List (List ℕ)) → P (BadLine 1) → P (BadNumber 1) → ((f : SetupFault) → P (BadSetup 1 f))
+pub for_sizes : (P : Fault → Type 0) (ws : List (List ℕ)) → P (BadLine 1) → P (BadNumber 1)
+    → ((f : SetupFault) → P (BadSetup 1 f))
     → For P (sizes_of ws)
 unfolding sizes_of
 for_sizes P [] line number bad = line
@@ -114,4 +124,6 @@ pub at_setup : (ws : List (List ℕ)) → At 1 (setup_of ws)
 unfolding setup_of
 at_setup [] = refl
 at_setup (key ∷ ws) =
-    for_cond (About 1) (bytes_eq key (codes "setup")) _ _ (for_cond (About 1) (has_empty ws) _ _ refl (for_sizes (About 1) ws refl refl (λ f. refl))) refl
+    for_cond (About 1) (bytes_eq key (codes "setup")) _ _
+    (for_cond (About 1) (has_empty ws) _ _ refl (for_sizes (About 1) ws refl refl (λ f. refl)))
+    refl

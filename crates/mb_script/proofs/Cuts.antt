@@ -1,5 +1,6 @@
 -- The first word of a line.
-use Rattle.std.proofs.Common.{append-nil, option_map, ◌≡◌, ℕ, suc, Option, Some, None, ◌+◌, ◌<◌, ◌≤◌, nat_lt, sym, ◌∙◌, Bor, append_assoc, length-append, slice_set, Bool, true, false, cond, nat_eq, List, [], ◌∷◌, ◌++◌, length, take, drop, map, ◌||◌, refl, ap, arith}
+use Rattle.std.proofs.Common.{append-nil, option_map, ◌≡◌, ℕ, suc, Option, Some, None, ◌+◌, ◌<◌, ◌≤◌, nat_lt, sym, ◌∙◌, Bor, append_assoc, length-append}
+use Rattle.std.proofs.Common.{slice_set, Bool, true, false, cond, nat_eq, List, [], ◌∷◌, ◌++◌, length, take, drop, map, ◌||◌, refl, ap, arith}
 use Rattle.std.specs.Prelude.{not, option_and_then}
 use Rattle.std.proofs.lemmas.Bool.{lt-ltb}
 use Rattle.std.proofs.lemmas.List.{length-map, length-take-le, map-append, take_more_set}
@@ -122,7 +123,8 @@ map_one done n None = refl
 map_one done n (Some ns) = ap (λ (l : List ℕ). Some l) (append_assoc done (n ∷ []) ns)
 
 -- a word that is one
-pub number_works : (done : List ℕ) (w : List ℕ) (ws : List (List ℕ)) (n : ℕ) (whole : Option (List ℕ)) → number_of w ≡ Some n
+pub number_works : (done : List ℕ) (w : List ℕ) (ws : List (List ℕ)) (n : ℕ)
+    (whole : Option (List ℕ)) → number_of w ≡ Some n
     → option_map (λ ns. done ++ ns) (numbers_of (w ∷ ws)) ≡ whole
     → option_map (λ (ns : List ℕ). (done ++ n ∷ []) ++ ns) (numbers_of ws) ≡ whole
 unfolding numbers_of

@@ -31,7 +31,8 @@ all_had (Some left) None bytes taken none = absurd taken
 all_had (Some left) (Some rest) bytes taken none = sym (taken ∙ ap (λ (l : List ℕ). bytes ++ l) none ∙ append-nil bytes)
 
 -- what holds of an error holds of a result that is this error
-pub from_err : {X F : Type 0} (P : Result X F → Type 0) (r : Result X F) (e : F) → IsErrAnd r (λ f. f ≡ e) → P (Err e) → P r
+pub from_err : {X F : Type 0} (P : Result X F → Type 0) (r : Result X F) (e : F)
+    → IsErrAnd r (λ f. f ≡ e) → P (Err e) → P r
 from_err P (Ok x) e is here = absurd is
 from_err P (Err f) e is here = subst (λ f. P (Err f)) (sym is) here
 
@@ -86,7 +87,8 @@ stopped_at {X} source sink reader reader' writer end.ReadFault bound long stop f
   bound = bound;
 }
 
-pub stopped_early : {X R W : Type 0} (source : Meter R) (sink : Meter W) (reader reader' : R) (writer : W) (r : Result X Fault) (at : ReadEnd)
+pub stopped_early : {X R W : Type 0} (source : Meter R) (sink : Meter W) (reader reader' : R)
+    (writer : W) (r : Result X Fault) (at : ReadEnd)
     → IsErrAnd r (λ e. e ≡ fault_at at)
     → ConsumesUpTo (MAX_SCRIPT_LEN + 1) (source.bytes reader) (source.bytes reader')
     → (at ≡ end.TooLong → ConsumesCount (MAX_SCRIPT_LEN + 1) (source.bytes reader) (source.bytes reader'))
@@ -100,13 +102,23 @@ stopped_early source sink reader reader' writer r at is bound long stop failed w
 
 -- ---- where the script has a fault, or a growth was refused
 -- a script that is within the limit has another fault than its length
-pub not_too_long : (e : Fault) (bytes : List ℕ) → length bytes ≤ MAX_SCRIPT_LEN → (e ≢ NoMemory → fault_of bytes ≡ Some e) → e ≢ TooLong
+pub not_too_long : (e : Fault) (bytes : List ℕ) → length bytes ≤ MAX_SCRIPT_LEN
+    → (e ≢ NoMemory → fault_of bytes ≡ Some e) → e ≢ TooLong
 not_too_long e bytes short first same =
-    omega (arith, short, only_long bytes (subst (λ f. fault_of bytes ≡ Some f) same (first (λ o. let both : TooLong ≡ NoMemory = sym same ∙ o in cc))))
+    omega (
+      arith,
+      short,
+      only_long bytes
+          (subst (λ f. fault_of bytes ≡ Some f) same
+          (first (λ o. let both : TooLong ≡ NoMemory = sym same ∙ o in cc))),
+    )
 
-pub refused_script : {X R W : Type 0} (source : Meter R) (sink : Meter W) (reader reader' : R) (writer : W) (r : Result X Fault) (e : Fault) (bytes : List ℕ)
-    → IsErrAnd r (λ f. f ≡ e) → Consumes (source.bytes reader) (source.bytes reader') bytes → IsAtEnd (source.bytes reader') → length bytes ≤ MAX_SCRIPT_LEN
-    → source.failures reader' ≡ source.failures reader → (e ≢ NoMemory → fault_of bytes ≡ Some e) → e ≢ ReadFault → e ≢ WriteFault
+pub refused_script : {X R W : Type 0} (source : Meter R) (sink : Meter W) (reader reader' : R)
+    (writer : W) (r : Result X Fault) (e : Fault) (bytes : List ℕ)
+    → IsErrAnd r (λ f. f ≡ e) → Consumes (source.bytes reader) (source.bytes reader') bytes
+    → IsAtEnd (source.bytes reader') → length bytes ≤ MAX_SCRIPT_LEN
+    → source.failures reader' ≡ source.failures reader → (e ≢ NoMemory → fault_of bytes ≡ Some e)
+    → e ≢ ReadFault → e ≢ WriteFault
     → IsExchange replaying source sink reader reader' writer writer r
 refused_script source sink reader reader' writer r e bytes is taken none short worked first no_read no_write =
     from_err (λ r. IsExchange replaying source sink reader reader' writer writer r) r e is (record {

@@ -41,10 +41,12 @@ abbrev from_line : Bool → Result Event Fault → Result (List Event) Fault →
 from_line many r rest = cond many (Err TooManyEvents) (r >>= (λ event. rest >>= (λ events. Ok (event ∷ events))))
 
 -- a fault is not about a line before
-least_step : (n m : ℕ) (many : Bool) (r : Result Event Fault) (rest : Result (List Event) Fault) (e : Fault) → n ≤ MAX_EVENTS + 2
+least_step : (n m : ℕ) (many : Bool) (r : Result Event Fault) (rest : Result (List Event) Fault)
+    (e : Fault) → n ≤ MAX_EVENTS + 2
     → At n r → line_of e ≡ Some m → from_line many r rest ≡ Err e → (many ≡ false → rest ≡ Err e → suc n ≤ m) → n ≤ m
 least_step n m true r rest e low at about is on =
-    let same = one_line TooManyEvents e (MAX_EVENTS + 2) m refl (err_is TooManyEvents e is) about in omega (arith, low, same)
+    let same = one_line TooManyEvents e (MAX_EVENTS + 2) m refl (err_is TooManyEvents e is) about
+    in omega (arith, low, same)
 least_step n m false (Err d) rest e low at about is on =
     let same = one_line d e n m at (err_is d e is) about in omega (arith, same)
 least_step n m false (Ok x) (Ok ys) e low at about is on = absurd (cc)
@@ -54,12 +56,14 @@ least_step n m false (Ok x) (Err d) e low at about is on = let more = on refl is
 below_by : (n : ℕ) → nat_lt (MAX_EVENTS + 1) n ≡ false → suc n ≤ MAX_EVENTS + 2
 below_by n test = let low : n ≤ MAX_EVENTS + 1 = grind (arith, nat_tests, test) in omega (arith, low)
 
-pub events_least : (plan : Plan) (n m : ℕ) (us : List (List ℕ)) (e : Fault) → n ≤ MAX_EVENTS + 2 → events_of plan n us ≡ Err e
+pub events_least : (plan : Plan) (n m : ℕ) (us : List (List ℕ)) (e : Fault) → n ≤ MAX_EVENTS + 2
+    → events_of plan n us ≡ Err e
     → line_of e ≡ Some m → n ≤ m
 unfolding events_of
 events_least plan n m [] e low is about = absurd (cc)
 events_least plan n m (line ∷ lines) e low is about =
-    least_step n m (nat_lt (MAX_EVENTS + 1) n) (event_at plan n line) (events_of plan (suc n) lines) e low (at_line plan n line) about is
+    least_step n m (nat_lt (MAX_EVENTS + 1) n) (event_at plan n line) (events_of plan (suc n) lines)
+    e low (at_line plan n line) about is
     (λ few fails. events_least plan (suc n) m lines e (below_by n few) fails about)
 
 -- the same line, and a fault behind it
@@ -71,7 +75,8 @@ same_step false (Ok x) (Ok ys) rest2 e is on = absurd (cc)
 same_step false (Ok x) (Err d) rest2 e is on = rw (on refl is) refl
 
 -- lines that begin alike have the same fault there
-events_same : (plan : Plan) (n k m : ℕ) (us bs : List (List ℕ)) (e : Fault) → n ≤ MAX_EVENTS + 2 → events_of plan n us ≡ Err e
+events_same : (plan : Plan) (n k m : ℕ) (us bs : List (List ℕ)) (e : Fault) → n ≤ MAX_EVENTS + 2
+    → events_of plan n us ≡ Err e
     → line_of e ≡ Some m → n + k ≡ suc m → take k us ≡ take k bs → events_of plan n bs ≡ Err e
 unfolding events_of
 events_same plan n zero m us bs e low is about count same =
@@ -85,7 +90,8 @@ events_same plan n (suc k) m (line ∷ lines) bs e low is about count same =
     subst (λ (t : List (List ℕ)). events_of plan n t ≡ Err e) (sym h.1) further
 
 -- a fault after what was made
-events_step : (made : Made) (r s : Result (List Event) Fault) (e : Fault) → (r >>= (λ es. Ok (script_with made es))) ≡ Err e
+events_step : (made : Made) (r s : Result (List Event) Fault) (e : Fault)
+    → (r >>= (λ es. Ok (script_with made es))) ≡ Err e
     → (r ≡ Err e → s ≡ Err e) → (s >>= (λ es. Ok (script_with made es))) ≡ Err e
 events_step made (Ok ys) s e is on = absurd (cc)
 events_step made (Err d) s e is on = rw (on (ap (λ (f : Fault). Err f) (err_is d e is))) refl
@@ -104,7 +110,8 @@ least_behind made (Err d) m e is on =
     let more = on (ap (λ (f : Fault). Err f) (err_is d e is)) in omega (arith, more)
 
 -- a fault is about line 1 or one behind
-setup_least : (r : Result Made Fault) (f : Made → Result (List Event) Fault) (m : ℕ) (e : Fault) → At 1 r → line_of e ≡ Some m
+setup_least : (r : Result Made Fault) (f : Made → Result (List Event) Fault) (m : ℕ) (e : Fault)
+    → At 1 r → line_of e ≡ Some m
     → (r >>= (λ made. f made >>= (λ es. Ok (script_with made es)))) ≡ Err e → ((x : Made) → f x ≡ Err e → 2 ≤ m) → 1 ≤ m
 setup_least (Err d) f m e at about is on =
     let same = one_line d e 1 m at (err_is d e is) about in omega (arith, same)
@@ -117,14 +124,17 @@ unfolding lines_script
 lines_same m [] [] e is about same = is
 lines_same m [] (b ∷ bs) e is about same =
     let one = one_line NoSetup e 1 m refl (err_is NoSetup e is) about in
-    let none : take 1 [] ≡ take 1 (b ∷ bs) = subst (λ (k : ℕ). take k [] ≡ take k (b ∷ bs)) (sym one) same in absurd (cc)
+    let none : take 1 [] ≡ take 1 (b ∷ bs) = subst (λ (k : ℕ). take k [] ≡ take k (b ∷ bs))
+    (sym one) same in absurd (cc)
 lines_same zero (line ∷ lines) bs e is about same =
-    let least = setup_least (setup_of (words_of line)) (λ made. events_of made.plan 2 lines) 0 e (at_setup (words_of line)) about is
+    let least = setup_least (setup_of (words_of line)) (λ made. events_of made.plan 2 lines) 0 e
+    (at_setup (words_of line)) about is
     (λ made fails. events_least made.plan 2 0 lines e (omega arith) fails about) in
     absurd (omega (arith, least))
 lines_same (suc k) (line ∷ lines) bs e is about same =
     let h = same_head k line lines bs same in
-    let further = setup_step (setup_of (words_of line)) (λ made. events_of made.plan 2 lines) (λ made. events_of made.plan 2 h.0) e is
+    let further = setup_step (setup_of (words_of line)) (λ made. events_of made.plan 2 lines)
+    (λ made. events_of made.plan 2 h.0) e is
     (λ made fails. events_same made.plan 2 k (suc k) lines h.0 e (omega arith) fails about (omega arith) h.2) in
     subst (λ (t : List (List ℕ)). lines_script t ≡ Err e) (sym h.1) further
 
@@ -141,11 +151,13 @@ pub script_same : (us bs : List ℕ) (e : Fault) (m : ℕ) → script_of us ≡ 
     → script_of bs ≡ Err e
 unfolding script_of
 script_same us bs e m is about same short ascii =
-    let read = by_lines (nat_lt MAX_SCRIPT_LEN (length us)) (list_all is_ascii us) (lines_script (lines_of us)) e m is about in
+    let read = by_lines (nat_lt MAX_SCRIPT_LEN (length us)) (list_all is_ascii us)
+    (lines_script (lines_of us)) e m is about in
     rw (le-ltb MAX_SCRIPT_LEN (length bs) short, ascii) (lines_same m (lines_of us) (lines_of bs) e read about same)
 
 -- a line before the faulty one
-before_step : (n m : ℕ) (many : Bool) (r : Result Event Fault) (rest rest2 : Result (List Event) Fault) (e : Fault) → At n r
+before_step : (n m : ℕ) (many : Bool) (r : Result Event Fault)
+    (rest rest2 : Result (List Event) Fault) (e : Fault) → At n r
     → line_of e ≡ Some m → nat_lt (MAX_EVENTS + 1) n ≡ many → n < m → m ≤ MAX_EVENTS + 2 → from_line many r rest ≡ Err e
     → (rest ≡ Err e → (es : List Event) × (rest2 ≡ Ok es)) → (es : List Event) × (from_line many r rest2 ≡ Ok es)
 before_step n m true r rest rest2 e at about test less low is on =
@@ -157,7 +169,8 @@ before_step n m false (Ok x) (Err d) rest2 e at about test less low is on =
     let so = on is in (x ∷ so.0, rw (so.1) refl)
 
 -- the lines before the faulty one have no fault
-events_before : (plan : Plan) (n k m : ℕ) (us : List (List ℕ)) (e : Fault) → m ≤ MAX_EVENTS + 2 → events_of plan n us ≡ Err e
+events_before : (plan : Plan) (n k m : ℕ) (us : List (List ℕ)) (e : Fault) → m ≤ MAX_EVENTS + 2
+    → events_of plan n us ≡ Err e
     → line_of e ≡ Some m → n + k ≡ m → (es : List Event) × (events_of plan n (take k us) ≡ Ok es)
 unfolding events_of
 events_before plan n zero m us e low is about count = ([], refl)
@@ -168,13 +181,15 @@ events_before plan n (suc k) m (line ∷ lines) e low is about count =
     (λ fails. events_before plan (suc n) k m lines e low fails about (omega (arith, count)))
 
 -- of the first line, and what stands behind it
-events_well : (made : Made) (r s : Result (List Event) Fault) (e : Fault) → (r >>= (λ es. Ok (script_with made es))) ≡ Err e
+events_well : (made : Made) (r s : Result (List Event) Fault) (e : Fault)
+    → (r >>= (λ es. Ok (script_with made es))) ≡ Err e
     → (r ≡ Err e → (es : List Event) × (s ≡ Ok es)) → (t : Script) × ((s >>= (λ es. Ok (script_with made es))) ≡ Ok t)
 events_well made (Ok ys) s e is on = absurd (cc)
 events_well made (Err d) s e is on =
     let so = on (ap (λ (f : Fault). Err f) (err_is d e is)) in (script_with made so.0, rw (so.1) refl)
 
-setup_well : (r : Result Made Fault) (f g : Made → Result (List Event) Fault) (e : Fault) (m : ℕ) → At 1 r → line_of e ≡ Some m
+setup_well : (r : Result Made Fault) (f g : Made → Result (List Event) Fault) (e : Fault) (m : ℕ)
+    → At 1 r → line_of e ≡ Some m
     → 1 < m → (r >>= (λ made. f made >>= (λ es. Ok (script_with made es)))) ≡ Err e
     → ((x : Made) → f x ≡ Err e → (es : List Event) × (g x ≡ Ok es))
     → (t : Script) × ((r >>= (λ made. g made >>= (λ es. Ok (script_with made es)))) ≡ Ok t)
@@ -183,7 +198,8 @@ setup_well (Err d) f g e m at about more is on =
 setup_well (Ok x) f g e m at about more is on = events_well x (f x) (g x) e is (on x)
 
 -- a fault is about no line behind the last that may be read
-last_step : (n m : ℕ) (many : Bool) (r : Result Event Fault) (rest : Result (List Event) Fault) (e : Fault) → n ≤ MAX_EVENTS + 2
+last_step : (n m : ℕ) (many : Bool) (r : Result Event Fault) (rest : Result (List Event) Fault)
+    (e : Fault) → n ≤ MAX_EVENTS + 2
     → At n r → line_of e ≡ Some m → from_line many r rest ≡ Err e → (many ≡ false → rest ≡ Err e → m ≤ MAX_EVENTS + 2)
     → m ≤ MAX_EVENTS + 2
 last_step n m true r rest e low at about is on =
@@ -193,12 +209,14 @@ last_step n m false (Err d) rest e low at about is on =
 last_step n m false (Ok x) (Ok ys) e low at about is on = absurd (cc)
 last_step n m false (Ok x) (Err d) e low at about is on = on refl is
 
-events_last : (plan : Plan) (n m : ℕ) (us : List (List ℕ)) (e : Fault) → n ≤ MAX_EVENTS + 2 → events_of plan n us ≡ Err e
+events_last : (plan : Plan) (n m : ℕ) (us : List (List ℕ)) (e : Fault) → n ≤ MAX_EVENTS + 2
+    → events_of plan n us ≡ Err e
     → line_of e ≡ Some m → m ≤ MAX_EVENTS + 2
 unfolding events_of
 events_last plan n m [] e low is about = absurd (cc)
 events_last plan n m (line ∷ lines) e low is about =
-    last_step n m (nat_lt (MAX_EVENTS + 1) n) (event_at plan n line) (events_of plan (suc n) lines) e low (at_line plan n line) about is
+    last_step n m (nat_lt (MAX_EVENTS + 1) n) (event_at plan n line) (events_of plan (suc n) lines)
+    e low (at_line plan n line) about is
     (λ few fails. events_last plan (suc n) m lines e (below_by n few) fails about)
 
 -- the lines before the faulty one are a script
@@ -209,7 +227,8 @@ lines_before n [] e is about some =
     let one = one_line NoSetup e 1 (suc n) refl (err_is NoSetup e is) about in absurd (omega (arith, one, some))
 lines_before zero (line ∷ lines) e is about some = absurd (omega (arith, some))
 lines_before (suc k) (line ∷ lines) e is about some =
-    setup_well (setup_of (words_of line)) (λ made. events_of made.plan 2 lines) (λ made. events_of made.plan 2 (take k lines)) e
+    setup_well (setup_of (words_of line)) (λ made. events_of made.plan 2 lines)
+    (λ made. events_of made.plan 2 (take k lines)) e
     (suc (suc k)) (at_setup (words_of line)) about (omega arith) is
     (λ made fails. events_before made.plan 2 k (suc (suc k)) lines e
     (events_last made.plan 2 (suc (suc k)) lines e (omega arith) fails about) fails about (omega arith))
@@ -219,6 +238,7 @@ pub script_before : (bytes : List ℕ) (e : Fault) (n : ℕ) → script_of bytes
     → (t : Script) × Spells (take n (lines_of bytes)) t
 unfolding script_of
 script_before bytes e n is about some =
-    let read = by_lines (nat_lt MAX_SCRIPT_LEN (length bytes)) (list_all is_ascii bytes) (lines_script (lines_of bytes)) e (suc n) is about in
+    let read = by_lines (nat_lt MAX_SCRIPT_LEN (length bytes)) (list_all is_ascii bytes)
+    (lines_script (lines_of bytes)) e (suc n) is about in
     let well = lines_before n (lines_of bytes) e read about some in
     (well.0, lines_take (take n (lines_of bytes)) well.0 well.1)

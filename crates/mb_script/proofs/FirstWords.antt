@@ -20,7 +20,8 @@ use Rattle.mb_script.proofs.FaultyLines.{by_lines, err_is, events_least}
 not_behind : (ws : List (List ℕ)) → For (λ e. e ≢ NoSetup) (setup_of (codes "setup" ∷ ws))
 unfolding setup_of
 not_behind ws =
-    for_cond (λ e. e ≢ NoSetup) (has_empty ws) _ _ (λ e. cc) (for_sizes (λ e. e ≢ NoSetup) ws (λ e. cc) (λ e. cc) (λ f e. cc))
+    for_cond (λ e. e ≢ NoSetup) (has_empty ws) _ _ (λ e. cc)
+    (for_sizes (λ e. e ≢ NoSetup) ws (λ e. cc) (λ e. cc) (λ f e. cc))
 
 -- nor are the other lines
 never_behind : (made : Made) (r : Result (List Event) Fault) → r ≢ Err NoSetup
@@ -44,7 +45,8 @@ no_setup_by (key ∷ ws) lines e =
     let is : key ≡ codes "setup" = word_is key (codes "setup") e in
     never_step (setup_of (key ∷ ws)) (λ made. events_of made.plan 2 lines)
     (subst (λ (k : List ℕ). For (λ e. e ≢ NoSetup) (setup_of (k ∷ ws))) (sym is) (not_behind ws))
-    (λ made fails. let least = events_least made.plan 2 1 lines NoSetup (omega arith) fails refl in omega (arith, least))
+    (λ made fails. let least = events_least made.plan 2 1 lines NoSetup (omega arith) fails refl
+    in omega (arith, least))
 
 -- so NoSetup comes only where the first word is no `setup`
 no_setup_lines : (us : List (List ℕ)) → lines_script us ≡ Err NoSetup → first_word_in us ≢ Some (codes "setup")
@@ -69,11 +71,13 @@ unfolding lines_script
 always_lines [] other = refl
 always_lines (line ∷ lines) other = rw (other_setup (words_of line) other) refl
 
-pub no_setup_told : (bytes : List ℕ) → script_of bytes ≡ Err NoSetup → first_word_in (lines_of bytes) ≢ Some (codes "setup")
+pub no_setup_told : (bytes : List ℕ) → script_of bytes ≡ Err NoSetup
+    → first_word_in (lines_of bytes) ≢ Some (codes "setup")
 unfolding script_of
 no_setup_told bytes is =
     no_setup_lines (lines_of bytes)
-    (by_lines (nat_lt MAX_SCRIPT_LEN (length bytes)) (list_all is_ascii bytes) (lines_script (lines_of bytes)) NoSetup 1 is refl)
+    (by_lines (nat_lt MAX_SCRIPT_LEN (length bytes)) (list_all is_ascii bytes)
+    (lines_script (lines_of bytes)) NoSetup 1 is refl)
 
 pub no_setup_always : (bytes : List ℕ) → length bytes ≤ MAX_SCRIPT_LEN → list_all is_ascii bytes ≡ true
     → first_word_in (lines_of bytes) ≢ Some (codes "setup") → script_of bytes ≡ Err NoSetup

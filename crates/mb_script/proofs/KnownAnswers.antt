@@ -54,7 +54,8 @@ IsEventIn plan (event.Push p) = p < plan.lanes
 IsEventIn plan (event.Finish p) = p < plan.lanes
 IsEventIn plan (event.Step c p word) = (p < plan.lanes) × (c < consumers_of plan)
 
-refused_known : (plan : Plan) (e : Event) (r : Answer) (h : WorldHistory) → IsEventIn plan e → IsRefused plan e r h → IsOfWorld r
+refused_known : (plan : Plan) (e : Event) (r : Answer) (h : WorldHistory) → IsEventIn plan e
+    → IsRefused plan e r h → IsOfWorld r
 refused_known plan (event.Offer p x) r h there (inl none) = absurd (omega (arith, there, none.0))
 refused_known plan (event.Offer p x) r h there (inr why) = let is = why.1.4 in (λ e. cc, λ e. cc)
 refused_known plan (event.Push p) r h there (inl none) = absurd (omega (arith, there, none.0))
@@ -74,27 +75,34 @@ replay_known : (plan : Plan) (es : List Event) (rs : List Answer) (was now : Wor
 replay_known plan [] [] was now there replay = tt
 replay_known plan [] (r ∷ rs) was now there replay = absurd replay
 replay_known plan (e ∷ es) [] was now there replay = absurd replay
-replay_known plan (e ∷ es) (r ∷ rs) was now there replay =
-    (entry_known plan e r replay.0 was there.0 replay.1, replay_known plan es rs (with_access replay.0 was) now there.1 replay.2)
+replay_known plan (e ∷ es) (r ∷ rs) was now there replay = (
+  entry_known plan e r replay.0 was there.0 replay.1,
+  replay_known plan es rs
+      (with_access replay.0 was) now there.1 replay.2,
+)
 
 -- ---- the events of a script
 abbrev pub TablesHaveTheirValues : Type 0
 TablesHaveTheirValues = (name : TableName) (m : ℕ) → (table_of name m).values ≡ m
 
-event_there : TablesHaveTheirValues → (z : Sizes) (events : List Event) (e : Event) → IsEventOf z e → IsEventIn (script_in z events).plan e
+event_there : TablesHaveTheirValues → (z : Sizes) (events : List Event) (e : Event) → IsEventOf z e
+    → IsEventIn (script_in z events).plan e
 event_there values z events (event.Offer p x) of = of.0
 event_there values z events (event.Push p) of = of
 event_there values z events (event.Finish p) of = of
-event_there values z events (event.Step c p word) of = (of.0, subst (λ n. c < n) (sym (values z.table z.consumers)) of.1)
+event_there values z events (event.Step c p word) of =
+    (of.0, subst (λ n. c < n) (sym (values z.table z.consumers)) of.1)
 
 all_there : TablesHaveTheirValues → (z : Sizes) (events es : List Event) → AllByRecursion (IsEventOf z) es
     → AllByRecursion (IsEventIn (script_in z events).plan) es
 all_there values z events [] of = tt
 all_there values z events (e ∷ es) of = (event_there values z events e of.0, all_there values z events es of.1)
 
-pub answers_known : TablesHaveTheirValues → (bytes text : List ℕ) (a : IsAnswer bytes text) → AllByRecursion IsOfWorld a.replayed.answers
+pub answers_known : TablesHaveTheirValues → (bytes text : List ℕ) (a : IsAnswer bytes text)
+    → AllByRecursion IsOfWorld a.replayed.answers
 answers_known values bytes text a =
     let spelled = script_takes bytes a.script a.read in
     let there = all_there values spelled.0 a.script.events a.script.events spelled.1.known in
     replay_known a.script.plan a.script.events a.replayed.answers [] a.replayed.history
-    (subst (λ (s : Script). AllByRecursion (IsEventIn s.plan) a.script.events) (sym spelled.3) there) a.replayed.replayed
+    (subst (λ (s : Script). AllByRecursion (IsEventIn s.plan) a.script.events) (sym spelled.3)
+    there) a.replayed.replayed

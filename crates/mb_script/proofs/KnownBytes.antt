@@ -4,14 +4,16 @@ use Rattle.std.proofs.Math.Seq.{take-add, take-length}
 use Rattle.std.specs.Io.KnownBytes.{Appends, Consumes}
 
 -- bytes that grow by xs and then by ys grow by both
-pub Appends-twice : (a b c : Option (List ℕ)) (xs ys : List ℕ) → Appends a b xs → Appends b c ys → Appends a c (xs ++ ys)
+pub Appends-twice : (a b c : Option (List ℕ)) (xs ys : List ℕ) → Appends a b xs → Appends b c ys
+    → Appends a c (xs ++ ys)
 Appends-twice None b c xs ys p q = tt
 Appends-twice (Some u) None c xs ys p q = absurd p
 Appends-twice (Some u) (Some v) None xs ys p q = absurd q
 Appends-twice (Some u) (Some v) (Some w) xs ys p q = q ∙ ap (λ l. l ++ ys) p ∙ append_assoc u xs ys
 
 -- bytes that lose xs and then ys lose both
-pub Consumes-twice : (a b c : Option (List ℕ)) (xs ys : List ℕ) → Consumes a b xs → Consumes b c ys → Consumes a c (xs ++ ys)
+pub Consumes-twice : (a b c : Option (List ℕ)) (xs ys : List ℕ) → Consumes a b xs → Consumes b c ys
+    → Consumes a c (xs ++ ys)
 Consumes-twice None b c xs ys p q = tt
 Consumes-twice (Some u) None c xs ys p q = absurd p
 Consumes-twice (Some u) (Some v) None xs ys p q = absurd q

@@ -1,5 +1,6 @@
 -- Lines of a replay script, one after the other.
-use Rattle.std.proofs.Common.{◌≡◌, ◌≢◌, ℕ, suc, ◌+◌, ◌<◌, ◌≤◌, Bool, true, false, cond, nat_lt, ◌||◌, List, [], ◌∷◌, ◌++◌, length, codes, Option, Some, None, Result, Ok, Err, refl, ap, sym, subst, ◌∙◌, arith, append_assoc, append-nil}
+use Rattle.std.proofs.Common.{◌≡◌, ◌≢◌, ℕ, suc, ◌+◌, ◌<◌, ◌≤◌, Bool, true, false, cond, nat_lt, ◌||◌, List, [], ◌∷◌, ◌++◌, length, codes, Option, Some}
+use Rattle.std.proofs.Common.{None, Result, Ok, Err, refl, ap, sym, subst, ◌∙◌, arith, append_assoc, append-nil}
 use Rattle.std.specs.Prelude.{IsErrAnd}
 use Rattle.std.specs.Option.{ok_or}
 use Rattle.std.specs.Str.{bytes_eq}
@@ -92,7 +93,8 @@ bad_setup_by ws false is bad =
 
 -- a first line with the right key and an empty word or too many is a bad line
 pub bad_setup : (line key : List ℕ) (ws : List (List ℕ)) → words_of line ≡ key ∷ ws → key ≡ codes "setup"
-    → (has_empty (words_of line) || nat_lt 8 (length (words_of line))) ≡ true → setup_of (words_of line) ≡ Err (BadLine 1)
+    → (has_empty (words_of line) || nat_lt 8 (length (words_of line))) ≡ true
+    → setup_of (words_of line) ≡ Err (BadLine 1)
 bad_setup line key ws cut is bad =
     let words : words_of line ≡ codes "setup" ∷ ws = cut ∙ ap (λ (k : List ℕ). k ∷ ws) is in
     rw words (bad_setup_by ws _ refl (rw words at bad))

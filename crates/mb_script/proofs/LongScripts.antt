@@ -18,7 +18,8 @@ use Rattle.mb_script.specs.Shapes.{shape_named}
 use Rattle.mb_script.specs.Tables.{table_named}
 use Rattle.mb_script.specs.Text.{has_empty, lines_of, number_of, words_of}
 use Rattle.mb_world.specs.Setups.{setup_refusal}
-use Rattle.mb_script.specs.Scripts.{Made, Script, made_from, consumer_in, event_at, event_of, events_of, has_consumer, lane_of, lines_script, made_of, number_at, one_number, placed, script_of, setup_of, sizes_of, three_numbers, two_numbers}
+use Rattle.mb_script.specs.Scripts.{Made, Script, made_from, consumer_in, event_at, event_of, events_of, has_consumer, lane_of, lines_script, made_of}
+use Rattle.mb_script.specs.Scripts.{number_at, one_number, placed, script_of, setup_of, sizes_of, three_numbers, two_numbers}
 use Rattle.mb_script.specs.Replaying.{fault_in, fault_of}
 
 -- bytes past the limit are too long a script
@@ -58,7 +59,8 @@ unfolding two_numbers
 two_short n [] = λ is. absurd (cc)
 two_short n (a ∷ []) = λ is. absurd (cc)
 two_short n (a ∷ b ∷ []) =
-    bind_short (number_at n a) _ (number_short n a) (λ x. bind_short (number_at n b) _ (number_short n b) (λ y. λ is. absurd (cc)))
+    bind_short (number_at n a) _ (number_short n a)
+    (λ x. bind_short (number_at n b) _ (number_short n b) (λ y. λ is. absurd (cc)))
 two_short n (a ∷ b ∷ c ∷ words) = λ is. absurd (cc)
 
 three_short : (n : ℕ) (words : List (List ℕ)) → IsShort (three_numbers n words)
@@ -94,22 +96,29 @@ setup_short : (words : List (List ℕ)) → IsShort (setup_of words)
 unfolding setup_of
 setup_short [] = λ is. absurd (cc)
 setup_short (key ∷ words) =
-    if_short (bytes_eq key (codes "setup")) _ _ (if_short (has_empty words) _ _ (λ is. absurd (cc)) (sizes_short words)) (λ is. absurd (cc))
+    if_short (bytes_eq key (codes "setup")) _ _
+    (if_short (has_empty words) _ _ (λ is. absurd (cc)) (sizes_short words)) (λ is. absurd (cc))
 
 event_short : (n : ℕ) (words : List (List ℕ)) → IsShort (event_of n words)
 unfolding event_of
 event_short n [] = λ is. absurd (cc)
 event_short n (key ∷ words) =
-    if_short (bytes_eq key (codes "offer")) _ _ (bind_short (two_numbers n words) _ (two_short n words) (λ x. λ is. absurd (cc)))
-    (if_short (bytes_eq key (codes "push")) _ _ (bind_short (one_number n words) _ (one_short n words) (λ x. λ is. absurd (cc)))
-    (if_short (bytes_eq key (codes "finish")) _ _ (bind_short (one_number n words) _ (one_short n words) (λ x. λ is. absurd (cc)))
-    (if_short (bytes_eq key (codes "step")) _ _ (bind_short (three_numbers n words) _ (three_short n words) (λ x. λ is. absurd (cc)))
+    if_short (bytes_eq key (codes "offer")) _ _
+    (bind_short (two_numbers n words) _ (two_short n words) (λ x. λ is. absurd (cc)))
+    (if_short (bytes_eq key (codes "push")) _ _
+    (bind_short (one_number n words) _ (one_short n words) (λ x. λ is. absurd (cc)))
+    (if_short (bytes_eq key (codes "finish")) _ _
+    (bind_short (one_number n words) _ (one_short n words) (λ x. λ is. absurd (cc)))
+    (if_short (bytes_eq key (codes "step")) _ _
+    (bind_short (three_numbers n words) _ (three_short n words) (λ x. λ is. absurd (cc)))
     (λ is. absurd (cc)))))
 
 placed_short : (plan : Plan) (n : ℕ) (e : Event) → IsShort (placed plan n e)
 unfolding placed
 placed_short plan n e =
-    if_short (nat_lt (lane_of e) plan.lanes) _ _ (if_short (has_consumer plan (consumer_in e)) _ _ (λ is. absurd (cc)) (λ is. absurd (cc))) (λ is. absurd (cc))
+    if_short (nat_lt (lane_of e) plan.lanes) _ _
+    (if_short (has_consumer plan (consumer_in e)) _ _ (λ is. absurd (cc)) (λ is. absurd (cc)))
+    (λ is. absurd (cc))
 
 at_short : (plan : Plan) (n : ℕ) (line : List ℕ) → IsShort (event_at plan n line)
 unfolding event_at
@@ -138,7 +147,8 @@ fault_short (Ok s) short is = absurd (cc)
 fault_short (Err e) short is = short (let same : ◌≡◌ {A = Option Fault} (Some e) (Some TooLong) = is in cc)
 
 long_test : (long ascii : Bool) (lines : List (List ℕ))
-    → fault_in (if long then Err TooLong else if ascii then lines_script lines else Err NotAscii) ≡ Some TooLong → long ≡ true
+    → fault_in (if long then Err TooLong else if ascii then lines_script lines else Err NotAscii)
+    ≡ Some TooLong → long ≡ true
 long_test true ascii lines is = refl
 long_test false true lines is = absurd (fault_short (lines_script lines) (lines_short lines) is)
 long_test false false lines is = absurd (cc)

@@ -36,7 +36,8 @@ WorldsBegin = (plan : Plan) → plan.claims.cells < END → IsWorldLawful plan [
 
 abbrev pub ReplaysDoNotDiffer : Type 0
 ReplaysDoNotDiffer = (plan : Plan) (es : List Event) (rs ss : List Answer) (was now other : WorldHistory)
-    → IsQuorumTable plan.claims.table → IsWorldLawful plan was → IsReplay plan es rs was now → IsReplay plan es ss was other
+    → IsQuorumTable plan.claims.table → IsWorldLawful plan was → IsReplay plan es rs was now
+    → IsReplay plan es ss was other
     → (rs ≡ ss) × (now ≡ other)
 
 abbrev pub ReplaysAreLawful : Type 0
@@ -60,7 +61,8 @@ few_consumers false false true rest is = absurd (cc)
 few_consumers false false false rest is = refl
 
 few_cells : (a b x : Bool) (rest : Option SetupFault)
-    → (if a then Some BadProducers else if b then Some BadConsumers else if x then Some BadCells else rest) ≡ None → x ≡ false
+    → (if a then Some BadProducers else if b then Some BadConsumers else if x then Some BadCells
+    else rest) ≡ None → x ≡ false
 few_cells true b x rest is = absurd (cc)
 few_cells false true x rest is = absurd (cc)
 few_cells false false true rest is = absurd (cc)
@@ -69,15 +71,18 @@ few_cells false false false rest is = refl
 consumers_fit : (p c m k : ℕ) → setup_refusal p c m k ≡ None → c ≤ MAX_VALUES
 consumers_fit p c m k is =
     ltb-false MAX_VALUES c (few_consumers (nat_lt p 1 || nat_lt MAX_PRODUCERS p) (nat_lt c 1) (nat_lt MAX_VALUES c)
-    (if nat_lt MAX_CELLS m then Some BadCells else if nat_lt k 1 || nat_lt MAX_PAIRS k then Some BadRounds else None) is)
+    (if nat_lt MAX_CELLS m then Some BadCells else if nat_lt k 1 || nat_lt MAX_PAIRS k then Some
+    BadRounds else None) is)
 
 cells_fit : (p c m k : ℕ) → setup_refusal p c m k ≡ None → m ≤ MAX_CELLS
 cells_fit p c m k is =
-    ltb-false MAX_CELLS m (few_cells (nat_lt p 1 || nat_lt MAX_PRODUCERS p) (nat_lt c 1 || nat_lt MAX_VALUES c) (nat_lt MAX_CELLS m)
+    ltb-false MAX_CELLS m (few_cells (nat_lt p 1 || nat_lt MAX_PRODUCERS p)
+    (nat_lt c 1 || nat_lt MAX_VALUES c) (nat_lt MAX_CELLS m)
     (if nat_lt k 1 || nat_lt MAX_PAIRS k then Some BadRounds else None) is)
 
 -- so a script's table is lawful, and its cells are few
-table_lawful : TablesAreLawful → (bytes : List ℕ) (s : Script) → script_of bytes ≡ Ok s → IsQuorumTable s.plan.claims.table
+table_lawful : TablesAreLawful → (bytes : List ℕ) (s : Script) → script_of bytes ≡ Ok s
+    → IsQuorumTable s.plan.claims.table
 table_lawful tables bytes s read =
     let spelled = script_takes bytes s read in
     let z = spelled.0 in
@@ -89,7 +94,8 @@ cells_few bytes s read =
     let spelled = script_takes bytes s read in
     let z = spelled.0 in
     let few = cells_fit z.producers z.consumers z.cells z.pairs spelled.1.sizes in
-    subst (λ (t : Script). t.plan.claims.cells < END) (sym spelled.3) (let below : z.cells < END = omega (arith, few) in below)
+    subst (λ (t : Script). t.plan.claims.cells < END) (sym spelled.3)
+    (let below : z.cells < END = omega (arith, few) in below)
 
 -- ---- the text
 pub one_text : (plan : Plan) (es : List Event) (t u : List ℕ) → ReplaysDoNotDiffer → ReplaysAreLawful → WorldsAreSound
@@ -100,9 +106,11 @@ one_text plan es t u same lawful sound reports table begins a b =
     let here = sound plan a.history table (lawful plan es a.answers [] a.history table begins a.replayed) in
     let other = subst (λ h. IsReportOf plan (histories_of h) b.report) (sym both.1) b.reported in
     let report = reports plan (histories_of a.history) a.report b.report here a.reported other in
-    a.written ∙ ap₂ (λ (rs : List Answer) (r : ReportView). transcript_text es rs ++ report_text r) both.0 report ∙ sym b.written
+    a.written ∙ ap₂ (λ (rs : List Answer) (r : ReportView). transcript_text es rs ++ report_text r)
+    both.0 report ∙ sym b.written
 
-pub one_answer : (bytes t u : List ℕ) (s : Script) → TablesAreLawful → WorldsBegin → ReplaysDoNotDiffer → ReplaysAreLawful
+pub one_answer : (bytes t u : List ℕ) (s : Script) → TablesAreLawful → WorldsBegin
+    → ReplaysDoNotDiffer → ReplaysAreLawful
     → WorldsAreSound → ReportsDoNotDiffer → script_of bytes ≡ Ok s → IsReplayText s.plan s.events t
     → IsReplayText s.plan s.events u → t ≡ u
 one_answer bytes t u s tables begins same lawful sound reports read a b =

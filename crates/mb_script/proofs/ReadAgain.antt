@@ -47,7 +47,8 @@ small_by most n low e = let small : n ≤ most = grind (arith, nat_tests, e) in 
 pub sizes_small : (p c m k : ℕ) → setup_refusal p c m k ≡ None
     → (p < 2 ^ 64) × (c < 2 ^ 64) × (m < 2 ^ 64) × (k < 2 ^ 64)
 sizes_small p c m k e =
-    let a = none_of (nat_lt p 1 || nat_lt 16 p) (nat_lt c 1 || nat_lt 64 c) (nat_lt 256 m) (nat_lt k 1 || nat_lt 8 k) _ _ _ _ e in (
+    let a = none_of (nat_lt p 1 || nat_lt 16 p) (nat_lt c 1 || nat_lt 64 c) (nat_lt 256 m)
+    (nat_lt k 1 || nat_lt 8 k) _ _ _ _ e in (
       small_by 16 p (omega arith) (second (nat_lt p 1) _ a.0),
       small_by 64 c (omega arith) (second (nat_lt c 1) _ a.1),
       small_by 256 m (omega arith) a.2,
@@ -102,7 +103,8 @@ shape_fit false true = (search rules, tt)
 shape_fit true true = (search rules, tt)
 
 -- the words of a first line are words
-setup_fit : (z : Sizes) → setup_refusal z.producers z.consumers z.cells z.pairs ≡ None → AllByRecursion IsWord (setup_words z)
+setup_fit : (z : Sizes) → setup_refusal z.producers z.consumers z.cells z.pairs ≡ None
+    → AllByRecursion IsWord (setup_words z)
 setup_fit z e =
     let s = sizes_small z.producers z.consumers z.cells z.pairs e in (
       search rules,
@@ -142,16 +144,19 @@ unfolding event_at
 line_is plan n w ws are = rw (words_join w ws are, none_empty (w ∷ ws) are) refl
 
 -- a lane's number is small
-lane_small : (z : Sizes) (l : ℕ) → setup_refusal z.producers z.consumers z.cells z.pairs ≡ None → l < z.producers → l < 2 ^ 64
+lane_small : (z : Sizes) (l : ℕ) → setup_refusal z.producers z.consumers z.cells z.pairs ≡ None
+    → l < z.producers → l < 2 ^ 64
 lane_small z l e low = let s = sizes_small z.producers z.consumers z.cells z.pairs e in omega (arith, low, s.0)
 
 -- the line of an event
-pub event_again : (z : Sizes) (n : ℕ) (e : Event) → setup_refusal z.producers z.consumers z.cells z.pairs ≡ None → IsEventOf z e
+pub event_again : (z : Sizes) (n : ℕ) (e : Event)
+    → setup_refusal z.producers z.consumers z.cells z.pairs ≡ None → IsEventOf z e
     → event_at (plan_for z) n (join_with_byte 32 (event_words e)) ≡ Ok e
 unfolding event_of one_number two_numbers three_numbers placed
 event_again z n (Offer lane item) sized is =
     let l = lane_small z lane sized is.0 in
-    line_is (plan_for z) n (codes "offer") (decimal lane ∷ decimal item ∷ []) (search rules, (decimal_word lane l, (decimal_word item is.1, tt)))
+    line_is (plan_for z) n (codes "offer") (decimal lane ∷ decimal item ∷ [])
+    (search rules, (decimal_word lane l, (decimal_word item is.1, tt)))
     ∙ rw (number_again lane l, number_again item is.1, lt-ltb lane z.producers is.0) refl
 event_again z n (Push lane) sized is =
     let l = lane_small z lane sized is in
@@ -177,7 +182,8 @@ event_again z n (Step consumer lane word) sized is =
     ) refl
 
 -- the lines from line n on
-pub events_again : (z : Sizes) (n : ℕ) (events : List Event) → setup_refusal z.producers z.consumers z.cells z.pairs ≡ None
+pub events_again : (z : Sizes) (n : ℕ) (events : List Event)
+    → setup_refusal z.producers z.consumers z.cells z.pairs ≡ None
     → AllByRecursion (IsEventOf z) events → n + length events ≤ MAX_EVENTS + 2
     → events_of (plan_for z) n (map (join_with_byte 32) (map event_words events)) ≡ Ok events
 unfolding events_of
@@ -205,8 +211,13 @@ event_fit z (Offer lane item) sized is =
 event_fit z (Push lane) sized is = (search rules, (decimal_word lane (lane_small z lane sized is), tt))
 event_fit z (Finish lane) sized is = (search rules, (decimal_word lane (lane_small z lane sized is), tt))
 event_fit z (Step consumer lane word) sized is =
-    let s = sizes_small z.producers z.consumers z.cells z.pairs sized in
-    (search rules, (decimal_word consumer (omega (arith, is.1, s.1)), (decimal_word lane (lane_small z lane sized is.0), (decimal_word word is.2, tt))))
+    let s = sizes_small z.producers z.consumers z.cells z.pairs sized in (
+      search rules,
+      (
+        decimal_word consumer (omega (arith, is.1, s.1)),
+        (decimal_word lane (lane_small z lane sized is.0), (decimal_word word is.2, tt)),
+      ),
+    )
 
 events_fit : (z : Sizes) (events : List Event) → setup_refusal z.producers z.consumers z.cells z.pairs ≡ None
     → AllByRecursion (IsEventOf z) events → AllByRecursion IsWordLine (map event_words events)
@@ -214,7 +225,8 @@ events_fit z [] sized are = tt
 events_fit z (e ∷ events) sized are = (event_fit z e sized are.0, events_fit z events sized are.1)
 
 -- what is spelled is read so
-pub script_again : (bytes : List ℕ) (z : Sizes) (events : List Event) → IsScript z events → length bytes ≤ MAX_SCRIPT_LEN
+pub script_again : (bytes : List ℕ) (z : Sizes) (events : List Event) → IsScript z events
+    → length bytes ≤ MAX_SCRIPT_LEN
     → lines_of bytes ≡ script_lines z events → script_of bytes ≡ Ok (script_in z events)
 unfolding script_of
 script_again bytes z events is short e =

@@ -1,5 +1,6 @@
 -- What is read of a replay script was spelled so.
-use Rattle.std.proofs.Common.{◌≡◌, ℕ, suc, ◌+◌, ◌<◌, ◌≤◌, ◌^◌, Bool, true, false, cond, nat_lt, List, [], ◌∷◌, length, codes, map, Option, Some, None, Result, Ok, Err, refl, ap, sym, ◌∙◌, subst, arith}
+use Rattle.std.proofs.Common.{◌≡◌, ℕ, suc, ◌+◌, ◌<◌, ◌≤◌, ◌^◌, Bool, true, false, cond, nat_lt, List, [], ◌∷◌, length, codes, map, Option, Some, None}
+use Rattle.std.proofs.Common.{Result, Ok, Err, refl, ap, sym, ◌∙◌, subst, arith}
 use Rattle.std.specs.Prelude.{IfOk}
 use Rattle.std.specs.Char.{is_ascii}
 use Rattle.std.specs.Option.{ok_or}
@@ -25,7 +26,8 @@ use Rattle.mb_script.specs.declared.script.TheConstants.{MAX_EVENTS}
 use Rattle.mb_script.specs.declared.transfer.TheConstants.{MAX_SCRIPT_LEN}
 use Rattle.mb_script.specs.declared.script.Script as code
 use Rattle.mb_script.specs.Faults.{Gives}
-use Rattle.mb_script.specs.Scripts.{Made, Script, made_from, view, number_at, one_number, two_numbers, three_numbers, made_of, sizes_of, setup_of, event_of, lane_of, consumer_in, has_consumer, placed, event_at, events_of, script_with, lines_script, script_of}
+use Rattle.mb_script.specs.Scripts.{Made, Script, made_from, view, number_at, one_number, two_numbers, three_numbers, made_of, sizes_of, setup_of}
+use Rattle.mb_script.specs.Scripts.{event_of, lane_of, consumer_in, has_consumer, placed, event_at, events_of, script_with, lines_script, script_of}
 use Rattle.mb_script.specs.Spelling.{IsEventOf, Spells, Sizes, event_words, made_for, script_in, setup_words}
 use Rattle.mb_script.specs.Steps.{◌>>=◌}
 use Rattle.mb_script.specs.Shapes.{shape_named, shape_with, shape_words}
@@ -124,7 +126,8 @@ three_takes n (a ∷ b ∷ c ∷ []) x e =
     let q = at_takes n b g.0 g.1 in
     let r = at_takes n c h.0 h.1 in
     let made : Three = (f.0, g.0, h.0) in
-    subst (λ (y : Three). (a ∷ b ∷ c ∷ [] ≡ decimal y.0 ∷ decimal y.1 ∷ decimal y.2 ∷ []) × (y.0 < 2 ^ 64) × (y.1 < 2 ^ 64) × (y.2 < 2 ^ 64))
+    subst (λ (y : Three). (a ∷ b ∷ c ∷ [] ≡ decimal y.0 ∷ decimal y.1 ∷ decimal y.2 ∷ [])
+    × (y.0 < 2 ^ 64) × (y.1 < 2 ^ 64) × (y.2 < 2 ^ 64))
     (ok_is made x h.2) (
       ap (λ (w : List ℕ). w ∷ b ∷ c ∷ []) p.0 ∙ ap (λ (w : List ℕ). decimal f.0 ∷ w ∷ c ∷ []) q.0
           ∙ ap (λ (w : List ℕ). decimal f.0 ∷ decimal g.0 ∷ w ∷ []) r.0,
@@ -186,19 +189,24 @@ sizes_take (producers ∷ consumers ∷ cells ∷ pairs ∷ name ∷ shape) made
     let shaped = shape_takes shape f.0 (some_from _ _ _ f.1) in
     let whole : codes "setup" ∷ producers ∷ consumers ∷ cells ∷ pairs ∷ name ∷ shape ≡ setup_words z =
     ap (λ (w : List ℕ). codes "setup" ∷ w ∷ consumers ∷ cells ∷ pairs ∷ name ∷ shape) (at_takes 1 producers p.0 p.1).0
-    ∙ ap (λ (w : List ℕ). codes "setup" ∷ decimal p.0 ∷ w ∷ cells ∷ pairs ∷ name ∷ shape) (at_takes 1 consumers c.0 c.1).0
-    ∙ ap (λ (w : List ℕ). codes "setup" ∷ decimal p.0 ∷ decimal c.0 ∷ w ∷ pairs ∷ name ∷ shape) (at_takes 1 cells m.0 m.1).0
-    ∙ ap (λ (w : List ℕ). codes "setup" ∷ decimal p.0 ∷ decimal c.0 ∷ decimal m.0 ∷ w ∷ name ∷ shape) (at_takes 1 pairs k.0 k.1).0
+    ∙ ap (λ (w : List ℕ). codes "setup" ∷ decimal p.0 ∷ w ∷ cells ∷ pairs ∷ name ∷ shape)
+    (at_takes 1 consumers c.0 c.1).0
+    ∙ ap (λ (w : List ℕ). codes "setup" ∷ decimal p.0 ∷ decimal c.0 ∷ w ∷ pairs ∷ name ∷ shape)
+    (at_takes 1 cells m.0 m.1).0
+    ∙ ap (λ (w : List ℕ). codes "setup" ∷ decimal p.0 ∷ decimal c.0 ∷ decimal m.0 ∷ w ∷ name
+    ∷ shape) (at_takes 1 pairs k.0 k.1).0
     ∙ ap (λ (w : List ℕ). codes "setup" ∷ decimal p.0 ∷ decimal c.0 ∷ decimal m.0 ∷ decimal k.0 ∷ w ∷ shape) named
     ∙ ap (λ (ws : List (List ℕ)). codes "setup" ∷ decimal p.0 ∷ decimal c.0 ∷ decimal m.0
     ∷ decimal k.0 ∷ table_name t.0 ∷ ws) shaped in
     (z, whole, sized)
 
-setup_take : (ws : List (List ℕ)) (made : Made) → setup_of ws ≡ Ok made → (z : Sizes) × (ws ≡ setup_words z) × Sized made z
+setup_take : (ws : List (List ℕ)) (made : Made) → setup_of ws ≡ Ok made → (z : Sizes)
+    × (ws ≡ setup_words z) × Sized made z
 unfolding setup_of
 setup_take [] made e = absurd (cc)
 setup_take (key ∷ ws) made e =
-    let a = passed (bytes_eq key (codes "setup")) NoSetup (cond (has_empty ws) (Err (BadLine 1)) (sizes_of ws)) made e in
+    let a = passed (bytes_eq key (codes "setup")) NoSetup
+    (cond (has_empty ws) (Err (BadLine 1)) (sizes_of ws)) made e in
     let b = avoided (has_empty ws) (BadLine 1) (sizes_of ws) made a.1 in
     let c = sizes_take ws made b.1 in
     (c.0, ap (λ (w : List ℕ). w ∷ ws) ((bytes_eq-Decides key (codes "setup")).0 a.0) ∙ c.1, c.2)
@@ -231,7 +239,8 @@ by_key : (n : ℕ) (key : List ℕ) (ws : List (List ℕ)) (e : Event) (o p f s 
 by_key n key ws e true p f s is_o is_p is_f is_s read =
     let a = bind_ok (two_numbers n ws) (λ x. Ok (Offer x.0 x.1)) e read in
     let t = two_takes n ws a.0 a.1 in
-    subst (SpellsOne (key ∷ ws)) (ok_is (Offer a.0.0 a.0.1) e a.2) (key_is key (codes "offer") ws _ is_o t.0, (t.1, t.2))
+    subst (SpellsOne (key ∷ ws)) (ok_is (Offer a.0.0 a.0.1) e a.2)
+    (key_is key (codes "offer") ws _ is_o t.0, (t.1, t.2))
 by_key n key ws e false true f s is_o is_p is_f is_s read =
     let a = bind_ok (one_number n ws) (λ x. Ok (Push x)) e read in
     let t = one_takes n ws a.0 a.1 in
@@ -243,7 +252,8 @@ by_key n key ws e false false true s is_o is_p is_f is_s read =
 by_key n key ws e false false false true is_o is_p is_f is_s read =
     let a = bind_ok (three_numbers n ws) (λ x. Ok (Step x.0 x.1 x.2)) e read in
     let t = three_takes n ws a.0 a.1 in
-    subst (SpellsOne (key ∷ ws)) (ok_is (Step a.0.0 a.0.1 a.0.2) e a.2) (key_is key (codes "step") ws _ is_s t.0, (t.1, t.2, t.3))
+    subst (SpellsOne (key ∷ ws)) (ok_is (Step a.0.0 a.0.1 a.0.2) e a.2)
+    (key_is key (codes "step") ws _ is_s t.0, (t.1, t.2, t.3))
 by_key n key ws e false false false false is_o is_p is_f is_s read = absurd (cc)
 
 event_takes : (n : ℕ) (ws : List (List ℕ)) (e : Event) → event_of n ws ≡ Ok e → SpellsOne ws e
@@ -277,7 +287,8 @@ pub line_takes : (z : Sizes) (n : ℕ) (line : List ℕ) (e : Event) → event_a
     → (line ≡ join_with_byte 32 (event_words e)) × IsEventOf z e
 unfolding event_at
 line_takes z n line e read =
-    let a = avoided (has_empty (words_of line)) (BadLine n) (event_of n (words_of line) >>= placed (plan_for z) n) e read in
+    let a = avoided (has_empty (words_of line)) (BadLine n)
+    (event_of n (words_of line) >>= placed (plan_for z) n) e read in
     let b = bind_ok (event_of n (words_of line)) (placed (plan_for z) n) e a.1 in
     let c = event_takes n (words_of line) b.0 b.1 in
     let d = placed_takes z n b.0 e b.2 c.1 in
@@ -287,7 +298,8 @@ line_takes z n line e read =
 
 -- ---- all lines
 -- one line in front of others
-line_before : (line line2 : List ℕ) (lines lines2 : List (List ℕ)) → line ≡ line2 → lines ≡ lines2 → line ∷ lines ≡ line2 ∷ lines2
+line_before : (line line2 : List ℕ) (lines lines2 : List (List ℕ)) → line ≡ line2 → lines ≡ lines2
+    → line ∷ lines ≡ line2 ∷ lines2
 line_before line line2 lines lines2 e f = ap (λ (l : List ℕ). l ∷ lines) e ∙ ap (λ (t : List (List ℕ)). line2 ∷ t) f
 
 -- what the lines from line n on are, where they have no fault
@@ -296,7 +308,8 @@ Lines z n lines events =
     (lines ≡ map (join_with_byte 32) (map event_words events)) × AllByRecursion (IsEventOf z) events
     × (n ≤ MAX_EVENTS + 2 → n + length events ≤ MAX_EVENTS + 2)
 
-pub events_take : (z : Sizes) (n : ℕ) (lines : List (List ℕ)) (events : List Event) → events_of (plan_for z) n lines ≡ Ok events
+pub events_take : (z : Sizes) (n : ℕ) (lines : List (List ℕ)) (events : List Event)
+    → events_of (plan_for z) n lines ≡ Ok events
     → Lines z n lines events
 unfolding events_of
 events_take z n [] events read =
@@ -345,12 +358,14 @@ pub script_takes : (bytes : List ℕ) (s : Script) → script_of bytes ≡ Ok s 
 unfolding script_of
 script_takes bytes s e =
     let read = lines_script (lines_of bytes) in
-    let a = avoided (nat_lt MAX_SCRIPT_LEN (length bytes)) TooLong (cond (list_all is_ascii bytes) read (Err NotAscii)) s e in
+    let a = avoided (nat_lt MAX_SCRIPT_LEN (length bytes)) TooLong
+    (cond (list_all is_ascii bytes) read (Err NotAscii)) s e in
     let b = passed (list_all is_ascii bytes) NotAscii read s a.1 in
     lines_take (lines_of bytes) s b.1
 
 -- the same of a call's result
-pub is_found : {A : Type 0} (bytes : List ℕ) (r : Result (code.Script A) Fault) → Gives (λ s. view s) r (script_of bytes)
+pub is_found : {A : Type 0} (bytes : List ℕ) (r : Result (code.Script A) Fault)
+    → Gives (λ s. view s) r (script_of bytes)
     → IfOk r (λ s. Spells (lines_of bytes) (view s))
 is_found bytes (Ok s) read = script_takes bytes (view s) read
 is_found bytes (Err e) read = tt

@@ -40,20 +40,23 @@ transcript_text-more plan e r (d ∷ es) (s ∷ rs) was now here =
     ∙ sym (append_assoc (entry_text d s) (transcript_text es rs) (entry_text e r))
 
 -- what an event adds to a replay
-pub IsTranscribed-more : (events more : List Event) (e : Event) (r : Answer) (was : WorldHistory) (then now : WorldState)
+pub IsTranscribed-more : (events more : List Event) (e : Event) (r : Answer) (was : WorldHistory)
+    (then now : WorldState)
     (old text new : List ℕ) → IsTranscribed events was then old text → more ≡ events ++ e ∷ [] → now.setup ≡ then.setup
     → ((h : WorldHistory) → IsWorldAfter h then → EventAdds e r now h) → new ≡ text ++ entry_text e r
     → IsTranscribed more was now old new
 IsTranscribed-more events more e r was then now old text new done last same adds written =
     let added = adds done.history done.left in
     let replayed = subst (λ s. IsReplay (plan_in s) events done.answers was done.history) (sym same) done.replayed in
-    let one_more = IsReplay-more (plan_in now.setup) e r added.access events done.answers was done.history replayed added.entry in
+    let one_more = IsReplay-more (plan_in now.setup) e r added.access events done.answers was
+    done.history replayed added.entry in
     let line = transcript_text-more (plan_in then.setup) e r events done.answers was done.history done.replayed in
     let all = ap (λ es. transcript_text es (done.answers ++ r ∷ [])) last ∙ line in
     record {
       answers = done.answers ++ r ∷ [];
       history = with_access added.access done.history;
-      replayed = subst (λ es. IsReplay (plan_in now.setup) es (done.answers ++ r ∷ []) was (with_access added.access done.history)) (sym last) one_more;
+      replayed = subst (λ es. IsReplay (plan_in now.setup) es (done.answers ++ r ∷ []) was
+          (with_access added.access done.history)) (sym last) one_more;
       left = added.left;
       written = written ∙ ap (λ (t : List ℕ). t ++ entry_text e r) done.written
           ∙ append_assoc old (transcript_text events done.answers) (entry_text e r)
@@ -61,7 +64,8 @@ IsTranscribed-more events more e r was then now old text new done last same adds
     }
 
 -- the report behind the transcript
-pub IsReplayText-made : (setup : Setup) (events : List Event) (world : WorldState) (report : ReportView) (none text all : List ℕ)
+pub IsReplayText-made : (setup : Setup) (events : List Event) (world : WorldState)
+    (report : ReportView) (none text all : List ℕ)
     → IsTranscribed events [] world none text → none ≡ [] → world.setup ≡ setup
     → ((h : WorldHistory) → IsWorldAfter h world → IsReportOf (plan_in world.setup) (histories_of h) report)
     → ((h : WorldHistory) → IsWorldAfter h world → IsHonest (plan_in world.setup) (histories_of h) report)
@@ -76,5 +80,6 @@ IsReplayText-made setup events world report none text all done empty same exact 
       reported = subst (λ plan. IsReportOf plan (histories_of done.history) report) plan (exact done.history done.left);
       honest = subst (λ plan. IsHonest plan (histories_of done.history) report) plan (honest done.history done.left);
       written = written
-          ∙ ap (λ (t : List ℕ). t ++ report_text report) (done.written ∙ ap (λ (t : List ℕ). t ++ transcript_text events done.answers) empty);
+          ∙ ap (λ (t : List ℕ). t ++ report_text report)
+          (done.written ∙ ap (λ (t : List ℕ). t ++ transcript_text events done.answers) empty);
     }

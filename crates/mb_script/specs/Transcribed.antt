@@ -9,7 +9,8 @@ use Rattle.mb_world.specs.WorldState.{IsWorldAfter, WorldState}
 use Rattle.mb_script.specs.Transcript.{transcript_text}
 
 -- after a history, the replay of these events has left the world so, and its transcript stands behind the text
-pub record IsTranscribed (events : List Event) (was : WorldHistory) (world : WorldState) (old new : List ℕ) : Type 0 where
+pub record IsTranscribed (events : List Event) (was : WorldHistory) (world : WorldState)
+    (old new : List ℕ) : Type 0 where
   pub answers : List Answer
   pub history : WorldHistory
   pub replayed : IsReplay (plan_in world.setup) events answers was history

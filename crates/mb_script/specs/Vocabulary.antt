@@ -11,7 +11,19 @@ pub use Rattle.mb_script.specs.Tables.{table_name, table_named}
 pub use Rattle.mb_script.specs.Shapes.{shape_named, shape_of_word, shape_with, shape_words}
 pub use Rattle.mb_script.specs.Faults.{Gives, LiesInScript, fault_at}
 pub use Rattle.mb_script.specs.Scripts.{Script, consumer_in, has_consumer, lane_of, view}
-unfoldable pub use Rattle.mb_script.specs.Scripts.{event_at, event_of, events_of, lines_script, one_number, placed, script_of, setup_of, sizes_of, three_numbers, two_numbers}
+unfoldable pub use Rattle.mb_script.specs.Scripts.{
+  event_at,
+  event_of,
+  events_of,
+  lines_script,
+  one_number,
+  placed,
+  script_of,
+  setup_of,
+  sizes_of,
+  three_numbers,
+  two_numbers,
+}
 pub use Rattle.mb_script.specs.Spelling.{IsEventOf, IsScript, Sizes, Spells, event_words, script_in, script_lines, setup_words}
 pub use Rattle.mb_script.specs.FirstFault.{first_word_in, line_of}
 pub use Rattle.mb_script.specs.ReplayText.{IsReplayText}

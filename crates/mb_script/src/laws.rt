@@ -88,7 +88,8 @@ pub fn scripts_have_limits()
 
 /// A script has one answer: its events have one replay, and what they did has one report.
 pub fn scripts_have_one_answer()
-    ensures { (bytes text other : List ℕ) → IsAnswer bytes text → IsAnswer bytes other → text ≡ other }
+    ensures { (bytes text other : List ℕ) → IsAnswer bytes text → IsAnswer bytes other → text
+        ≡ other }
 {
     named_tables_are_lawful();
     one_step();

@@ -3,7 +3,9 @@ use Rattle.std.proofs.Common.{List, [], ap, arith, inl, inr, subst, sym, true, â
 use Rattle.std.specs.Prelude.{None, Some, slice_get}
 use Rattle.std.proofs.lemmas.Bool.{eqb-true}
 use Rattle.std.proofs.lemmas.Bool.Decides.{eqb_tells}
-use Rattle.mb_cells.specs.Vocabulary.{Entry, Gave, Has, History, IsGift, IsLaneAfter, IsLanePrefix, IsLaneWord, IsPoolLawful, MayRead, fetch, finish_refusal, has_cell, is_of_lane, lane_after_finish, lane_after_offer, lane_after_push, linked_cells, next_link, offer_refusal, part, push_store, store, value_in, word_of}
+use Rattle.mb_cells.specs.Vocabulary.{Entry, Gave, Has, History, IsGift, IsLaneAfter, IsLanePrefix, IsLaneWord, IsPoolLawful, MayRead, fetch}
+use Rattle.mb_cells.specs.Vocabulary.{finish_refusal, has_cell, is_of_lane, lane_after_finish, lane_after_offer, lane_after_push, linked_cells, next_link}
+use Rattle.mb_cells.specs.Vocabulary.{offer_refusal, part, push_store, store, value_in, word_of}
 use Rattle.mb_cells.specs.declared.access.PoolAccess.{PoolAccess}
 use Rattle.mb_cells.specs.declared.access.PoolAct.TheVariants.{Load}
 use Rattle.mb_cells.specs.declared.access.Process.TheVariants.{Producer, Reader}

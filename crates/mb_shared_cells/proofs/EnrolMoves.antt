@@ -1,5 +1,6 @@
 -- The table at its start, and the hub's steps that give numbers out.
-use Rattle.std.proofs.Common.{List, [], ap, arith, get_or-set_other, get_or-set_same, inl, inr, le_refl, length, length-append, length-set, refl, replicate, slice_index, slice_set, subst, suc, sym, zero, ℕ, ⊎_elim, ◌%◌, ◌++◌, ◌+◌, ◌<◌, ◌^◌, ◌∙◌, ◌∷◌, ◌≡◌, ◌≢◌, ◌≤◌, ◌⊎◌}
+use Rattle.std.proofs.Common.{List, [], ap, arith, get_or-set_other, get_or-set_same, inl, inr, le_refl, length, length-append, length-set, refl}
+use Rattle.std.proofs.Common.{replicate, slice_index, slice_set, subst, suc, sym, zero, ℕ, ⊎_elim, ◌%◌, ◌++◌, ◌+◌, ◌<◌, ◌^◌, ◌∙◌, ◌∷◌, ◌≡◌, ◌≢◌, ◌≤◌, ◌⊎◌}
 use Rattle.std.specs.Prelude.{None, Some}
 use Rattle.std.proofs.lemmas.Bool.{cases_eq}
 use Rattle.std.proofs.lemmas.List.{length-replicate}
@@ -64,7 +65,8 @@ begins law size fits =
         drawn = omega arith;
         nobody_else = λ x none. refl;
         stands = nobody_yet t refl refl (Hub size empty_roll ∷ []);
-        fits = one (λ j v. FitsView size t (slice_index words (roster_of size)) j v) (Hub size empty_roll) (hub, roster);
+        fits = one (λ j v. FitsView size t (slice_index words (roster_of size)) j v)
+            (Hub size empty_roll) (hub, roster);
       },
     )
   where

@@ -3,7 +3,8 @@ use Rattle.std.proofs.Common.{Bool, None, Option, Some, [], ap, arith, eq-eqb, f
 use Rattle.std.specs.Prelude.{if◌then◌else◌, nat_lt}
 use Rattle.std.proofs.lemmas.Bool.{ltb-false, ltb-true}
 use Rattle.mb_cells.specs.Place as phase
-use Rattle.mb_cells.specs.Vocabulary.{Entry, Has, History, IsAt, IsLaneAfter, IsLinkWord, IsPoolLawful, Phase, entry_at, fetch, item_of, lane_after_offer, link_after, next_link, part, put_list, stage_finish_refusal, stage_of, stage_offer_refusal, store}
+use Rattle.mb_cells.specs.Vocabulary.{Entry, Has, History, IsAt, IsLaneAfter, IsLinkWord, IsPoolLawful, Phase, entry_at, fetch, item_of, lane_after_offer}
+use Rattle.mb_cells.specs.Vocabulary.{link_after, next_link, part, put_list, stage_finish_refusal, stage_of, stage_offer_refusal, store}
 use Rattle.mb_cells.specs.declared.access.PoolAccess.{PoolAccess}
 use Rattle.mb_cells.specs.declared.access.Process.TheVariants.{Producer}
 use Rattle.mb_cells.specs.declared.access.TheConstants.{END}

@@ -15,7 +15,8 @@ use Rattle.mb_shared_cells.specs.Views.{IsRollOf, PartList, SeatState, WasOut, h
 use Rattle.mb_shared_cells.specs.declared.views.Roll.{Roll}
 use Rattle.mb_shared_cells.specs.declared.views.View.{View}
 use Rattle.mb_shared_cells.specs.declared.views.View.TheVariants.{Empty, Hub, HubJoins, Member}
-use Rattle.mb_shared_cells.proofs.Seatings.{Spares, enrolled_out, fits_still, moved, moved-else, moved-here, moved-to, one_or_other, stands_then, with_part-had, with_part-has, with_part-here, with_part-lanes, with_part-readers}
+use Rattle.mb_shared_cells.proofs.Seatings.{Spares, enrolled_out, fits_still, moved, moved-else, moved-here, moved-to, one_or_other, stands_then}
+use Rattle.mb_shared_cells.proofs.Seatings.{with_part-had, with_part-has, with_part-here, with_part-lanes, with_part-readers}
 use Rattle.mb_shared_cells.proofs.ViewLists.{all_set, at_within, none_past}
 
 -- the hub joins the seat of a process to its own
@@ -189,5 +190,6 @@ pub load_asked : (key : PoolSize) (slots id : ℕ) (me : SeatState) (own : PoolS
     → Allows (KeepsCells key) slots id me 0 (λ n. n) (λ n w. WasOut me.0 × (w ≡ (hub_after_load me.0, me.1)))
 load_asked key slots id me own roll who done is =
     subst
-    (λ (z : SeatState). Allows (KeepsCells key) slots id z 0 (λ n. n) (λ n w. WasOut z.0 × (w ≡ (hub_after_load z.0, z.1))))
+    (λ (z : SeatState). Allows (KeepsCells key) slots id z 0 (λ n. n)
+    (λ n w. WasOut z.0 × (w ≡ (hub_after_load z.0, z.1))))
     (sym is) (load_allows key slots id own roll who done)

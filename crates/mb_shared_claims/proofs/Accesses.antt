@@ -31,7 +31,8 @@ store_small object word n value op reg e small fits =
     subst (λ (o : Op). IsInWords (step_of object o n word).turn) (sym e) ((tt, small), fits)
 
 -- and an exchange: what it finds and what it puts there
-stored_small : (b : Bool) (w : ℕ) → w < 18446744073709551616 → IfSome (cond b (Some w) None) (λ value. value < 18446744073709551616)
+stored_small : (b : Bool) (w : ℕ) → w < 18446744073709551616
+    → IfSome (cond b (Some w) None) (λ value. value < 18446744073709551616)
 stored_small true w small = small
 stored_small false w small = tt
 
@@ -39,7 +40,8 @@ pub exchange_small :
     (object word n value : ℕ) (op : Op) (reg : Reg) → op ≡ to.Exchange reg value → value < 18446744073709551616
     → n < 18446744073709551616 → word < 18446744073709551616 → IsInWords (step_of object op n word).turn
 exchange_small object word n value op reg e put small fits =
-    subst (λ (o : Op). IsInWords (step_of object o n word).turn) (sym e) ((small, stored_small (n == 0) value put), fits)
+    subst (λ (o : Op). IsInWords (step_of object o n word).turn) (sym e)
+    ((small, stored_small (n == 0) value put), fits)
 
 -- it leaves its value where it found 0, and else what it found
 exchanged : (b : Bool) (w n : ℕ) → either b w n ≡ option_map_or (λ value. value) (cond b (Some w) None) n
@@ -75,7 +77,8 @@ pub access_may :
     → ((n : ℕ) → n < 18446744073709551616 → IsInWords (step_of next.object next.op n word).turn)
     → (address < count)
     × Allows (rule_of key) slots id me address f (λ found now. makes (access found) me now)
-access_may own_part other_parts t seat key inside size me slots count id address cell word next reg f access told is wide
+access_may own_part other_parts t seat key inside size me slots count id address cell word next reg
+    f access told is wide
     stands at of_op within may is_f is_access small =
     let k : TableSize = record { layout = t.layout; cells = t.cells } in
     let place : address ≡ word_address t.layout cell next.object (reg_of next.op) =
@@ -83,7 +86,8 @@ access_may own_part other_parts t seat key inside size me slots count id address
     let low : address < roster k = subst (λ a. a < roster k) (sym place) within in
     let count_is : count ≡ roster k + 1 = wide ∙ ap (λ (z : TableSize). roster z + 1) is in (
       omega (arith, low, count_is),
-      access_asked own_part other_parts key k size slots id seat.consumer address me seat.part f access (told ∙ is) stands
+      access_asked own_part other_parts key k size slots id seat.consumer address me seat.part f
+          access (told ∙ is) stands
           low (subst (λ a. GoesOn k seat.consumer seat.part a f access) (sym place)
           (goes_on k seat.consumer cell word seat.part next f access may is_f is_access small)),
     )

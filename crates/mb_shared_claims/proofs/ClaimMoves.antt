@@ -47,7 +47,8 @@ module _ (cut : CutParts) (t : TableView) (seat : SeatView) (cell : ℕ) (claim 
       → IsClaimIn t.layout claim (part_on (consumer_of claim) cell h)
   in_history h all =
       subst (IsClaimIn t.layout claim)
-      (ap (part_on seat.consumer cell) (sym all) ∙ cut seat.consumer cell h ∙ ap (λ c. part_on c cell h) (sym own)) stands
+      (ap (part_on seat.consumer cell) (sym all) ∙ cut seat.consumer cell h
+      ∙ ap (λ c. part_on c cell h) (sym own)) stands
 
   -- so its next access may come
   pub may_come :

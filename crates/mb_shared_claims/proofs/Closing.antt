@@ -12,7 +12,8 @@ count_out-snoc (Some done ∷ rest) = count_out-snoc rest
 count_out-snoc (None ∷ rest) = let x = count_out-snoc rest in omega arith
 
 pub count_out-set :
-    (roll : Roll) (c : ℕ) (done : List ClaimAccess) → IsOut roll c → count_out (set roll c (Some done)) + 1 ≡ count_out roll
+    (roll : Roll) (c : ℕ) (done : List ClaimAccess) → IsOut roll c
+    → count_out (set roll c (Some done)) + 1 ≡ count_out roll
 count_out-set [] c done e = absurd (cc)
 count_out-set (None ∷ rest) zero done e = omega arith
 count_out-set (Some p ∷ rest) zero done e = absurd (cc)

@@ -33,7 +33,8 @@ GoesOn k own done at f access =
 
 -- an op that may come next goes on at its address
 pub goes_on :
-    (k : TableSize) (own cell word : ℕ) (done : List ClaimAccess) (next : ClaimOp) (f : ℕ → ℕ) (access : ℕ → ClaimAccess)
+    (k : TableSize) (own cell word : ℕ) (done : List ClaimAccess) (next : ClaimOp) (f : ℕ → ℕ)
+    (access : ℕ → ClaimAccess)
     → MayComeNext (claims_of_size k) own cell done next → ((n : ℕ) → f n ≡ after_op next.op n)
     → ((n : ℕ) → access n ≡ access_of own cell next n word)
     → ((n : ℕ) → n < 18446744073709551616 → IsInWords (step_of next.object next.op n word).turn)
@@ -64,7 +65,8 @@ access_allows own_part other_parts k size slots id own at done f access within g
       tt,
       (
         _,
-        after_access k state.words state.views plan s size id own at (f n) done a is on.1 own_part other_parts within on.0,
+        after_access k state.words state.views plan s size id own at (f n) done a is on.1 own_part
+            other_parts within on.0,
       ),
       (
         refl,
@@ -161,9 +163,11 @@ begins k empty = (
 )
   where
     nothing :
-        (seat : ℕ) (v : View) → IsViewAt (Handing k [] ∷ []) seat v → (c : ℕ) (xs : List ClaimAccess) → HasPart v c xs → ⊥
+        (seat : ℕ) (v : View) → IsViewAt (Handing k [] ∷ []) seat v
+        → (c : ℕ) (xs : List ClaimAccess) → HasPart v c xs → ⊥
     nothing zero v e c xs has =
-        let none : HasPart (Handing k []) c xs = subst (λ u. HasPart u c xs) (sym (some-injective _ _ e)) has in absurd (cc)
+        let none : HasPart (Handing k []) c xs = subst (λ u. HasPart u c xs)
+        (sym (some-injective _ _ e)) has in absurd (cc)
     nothing (suc seat) v e c xs has = absurd (some-ne-none v (sym e))
 
     first :

@@ -117,7 +117,8 @@ module _ (k : TableSize) (words : List ℕ) (views : List View) (plan : Plan) (s
         others = λ c past. let below = mine.0 in other_now c (λ e. omega arith) ∙ s.others c past;
         fits = subst (λ m. (j : ℕ) (u : View) → IsViewAt (set views id after) j u → FitsTable k (longer a plan) m j u)
             (sym same_count)
-            (all_set (FitsTable k (longer a plan) count) views id after (λ j u _ e. s.fits j u e) (s.fits id before is));
+            (all_set (FitsTable k (longer a plan) count) views id after (λ j u _ e. s.fits j u e)
+            (s.fits id before is));
       }
 
   -- ---- the hub draws a number
@@ -138,7 +139,8 @@ module _ (k : TableSize) (words : List ℕ) (views : List View) (plan : Plan) (s
       few = subst (λ m. m ≤ consumer_count k.layout) (sym count_now) (omega arith);
       drawn = let d = s.drawn in subst (λ m. plan.given ≤ m) (sym count_now) (omega arith);
       stands = λ c below.
-          kept_at views id (plan.place c) c (Handing size roll) (Drawing size roll) (part c plan.history) is (λ has. has)
+          kept_at views id (plan.place c) c (Handing size roll) (Drawing size roll)
+          (part c plan.history) is (λ has. has)
           (s.stands c below);
       parts = λ seat c xs has.
           all_set (λ j u. (d : ℕ) (ys : List ClaimAccess) → HasPart u d ys
@@ -361,7 +363,8 @@ module _ (k : TableSize) (words : List ℕ) (views : List View) (plan : Plan) (s
         (get-set_same roll own (Some done) None taking_fits.3)
     in_filled c xs (inr taken) =
         get-set_other roll own c (Some done)
-        (λ same. let none : slice_get roll c ≡ Some None = ap (slice_get roll) same ∙ taking_fits.3 in absurd (cc)) ∙ taken
+        (λ same. let none : slice_get roll c ≡ Some None = ap (slice_get roll) same ∙ taking_fits.3
+        in absurd (cc)) ∙ taken
 
     from_filled : (c : ℕ) (xs : List ClaimAccess) → WasTaken filled c xs → HasPart (Taking size roll own done) c xs
     from_filled c xs e =

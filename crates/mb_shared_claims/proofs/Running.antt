@@ -71,7 +71,8 @@ module _ (t : TableView) (cell : ℕ) {M : Type 0} {K : Type 0} (seat : M → Se
       (m now : M) (next : ClaimOp) (seen : ℕ) → kept m ≡ kept start → makes m next.object next.op seen now
       → IsMade t cell next seen (word m) (seat m) (seat now) × (stream now ≡ stream m) × (kept now ≡ kept m)
 
-  module _ (start : M) (claim : Claim) (drawn : Draws) (made : Makes start) (cut : CutParts) (own_cell : OwnCell) (finds : FindsTold)
+  module _ (start : M) (claim : Claim) (drawn : Draws) (made : Makes start) (cut : CutParts)
+      (own_cell : OwnCell) (finds : FindsTold)
       (low : cell < t.cells) (named : (seat start).table ≡ name_of t) (own : consumer_of claim ≡ (seat start).consumer)
       (stands : IsClaimIn t.layout claim (part_on (seat start).consumer cell (seat start).part)) where
     -- where so many accesses led
@@ -89,7 +90,14 @@ module _ (t : TableView) (cell : ℕ) {M : Type 0} {K : Type 0} (seat : M → Se
         → Arrived n at now
     arrives zero at now (is, same) =
         subst (λ c. Arrived 0 c now) (sym is) (subst (λ m. Arrived 0 claim m) (sym same)
-        (record { steps = (refl, refl, refl); keeps = refl; owned = own; names = named; rests = stands; count = omega arith }))
+        (record {
+          steps = (refl, refl, refl);
+          keeps = refl;
+          owned = own;
+          names = named;
+          rests = stands;
+          count = omega arith;
+        }))
     arrives (suc n) follows now (at, before, w, older, going, still, step) =
         let p = arrives n at before older in
         let mid = step.made.0 in
@@ -99,11 +107,13 @@ module _ (t : TableView) (cell : ℕ) {M : Type 0} {K : Type 0} (seat : M → Se
         subst (λ s. IsMade t cell step.next step.seen w s (seat now)) d.2
         (subst (λ x. IsMade t cell step.next step.seen x (seat mid) (seat now)) d.1 m.0) in
         let turn : IsSeatStep t.layout cell w at (seat before) follows (seat now) =
-        seat_step cut t (seat before) cell at low p.owned p.rests going finds (seat now) w follows step.next step.seen p.names
+        seat_step cut t (seat before) cell at low p.owned p.rests going finds (seat now) w follows
+        step.next step.seen p.names
         step.is is.0 is.1 step.path in
         let a = access_of (seat before).consumer cell step.next step.seen w in
         let adds : seat now ≡ with_access a (seat before) = is.0 in
-        let word_drawn : (w, stream now) ≡ next_u64 (stream before) = subst (λ u. (w, u) ≡ next_u64 (stream before)) (sym m.1) d.0 in
+        let word_drawn : (w, stream now) ≡ next_u64 (stream before) =
+        subst (λ u. (w, u) ≡ next_u64 (stream before)) (sym m.1) d.0 in
         let stands_then = stands_on own_cell t.layout cell w at follows (seat before) (seat now) turn p.rests in
         record {
           steps = (at, seat before, stream before, w, p.steps, going, word_drawn, turn, still, stands_then);
@@ -116,7 +126,8 @@ module _ (t : TableView) (cell : ℕ) {M : Type 0} {K : Type 0} (seat : M → Se
               let longer : length (part_on (seat now).consumer cell (seat now).part)
               ≡ length (part_on c cell (a ∷ (seat before).part)) =
               ap (λ (s : SeatView). length (part_on s.consumer cell s.part)) adds in
-              let one : length (part_on c cell (a ∷ (seat before).part)) ≡ suc (length (part_on c cell (seat before).part)) =
+              let one : length (part_on c cell (a ∷ (seat before).part))
+              ≡ suc (length (part_on c cell (seat before).part)) =
               ap length (own_cell a (seat before).part) in
               omega (arith, longer, one, p.count);
         }
@@ -140,7 +151,8 @@ module _ (t : TableView) (cell : ℕ) {M : Type 0} {K : Type 0} (seat : M → Se
 
     -- there are no more than a claim's layout allows
     pub few_steps :
-        ((h : List ClaimAccess) (c k : ℕ) → IsClaimLawful (claims_in t.layout t.cells) h → length (part_on c k h) ≤ most_accesses t.layout)
+        ((h : List ClaimAccess) (c k : ℕ) → IsClaimLawful (claims_in t.layout t.cells) h
+        → length (part_on c k h) ≤ most_accesses t.layout)
         → (n : ℕ) (at : Claim) (now : M) → AreClaimSteps t.layout (DrawsAndMakesNext draws makes) claim start n at now
         → n ≤ most_accesses t.layout
     few_steps bound zero at now steps = omega arith
@@ -167,7 +179,8 @@ module _ (t : TableView) (cell : ℕ) {M : Type 0} {K : Type 0} (seat : M → Se
       chain :
           (n : ℕ) (at : Claim) (now : M) → AreClaimSteps l (DrawsAndMakesNext draws makes) claim start n at now
           → AreClaimSteps t.layout (DrawsAndMakesNext draws makes) claim start n at now
-      chain n at now steps = subst (λ x. AreClaimSteps x (DrawsAndMakesNext draws makes) claim start n at now) same steps
+      chain n at now steps = subst (λ x. AreClaimSteps x (DrawsAndMakesNext draws makes) claim start
+          n at now) same steps
 
       pub arrives_in :
           (n : ℕ) (at : Claim) (now : M) → AreClaimSteps l (DrawsAndMakesNext draws makes) claim start n at now

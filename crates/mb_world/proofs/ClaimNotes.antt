@@ -91,7 +91,12 @@ module _ (s : WorldState) (h : WorldHistory) (c p word k object : ℕ) (act : Ac
       (slice_set s.notes (c * cells + k) (Some n))
   noted o n is some =
       let note = sym is ∙ some in
-      rw (lanes_is, cells_is, set-set s.seats (c * (plan_in s.setup).lanes + p) (seat.AtCell cell now) (seat.PastCell k))
+      rw (
+        lanes_is,
+        cells_is,
+        set-set s.seats (c * (plan_in s.setup).lanes + p)
+            (seat.AtCell cell now) (seat.PastCell k),
+      )
       (by_note (Some n) (seat.PastCell k) note (past_cell k now z n note))
 
   -- or it goes on

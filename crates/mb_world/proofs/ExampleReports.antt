@@ -9,7 +9,8 @@ use Rattle.mb_world.specs.Fitting.{EndsAs, HasRead, parts_of}
 use Rattle.mb_world.specs.Report.{DiaryView, LaneView}
 use Rattle.mb_world.specs.Reporting.{IsDiaryOf, IsReportOf, lane_view}
 use Rattle.mb_world.specs.PathExamples.{first_step, two_cells}
-use Rattle.mb_world.specs.WorldExamples.{IsNoDiary, IsNoReport, all_histories, all_reported, claim_left_out, diary_with, item_left_out, loss_left_out, loss_taken, lost_steps, nothing_told, report_with, two_by_two, unwon_taken}
+use Rattle.mb_world.specs.WorldExamples.{IsNoDiary, IsNoReport, all_histories, all_reported, claim_left_out, diary_with, item_left_out, loss_left_out}
+use Rattle.mb_world.specs.WorldExamples.{loss_taken, lost_steps, nothing_told, report_with, two_by_two, unwon_taken}
 use Rattle.mb_world.proofs.Places.{has_at, reverse_at}
 
 -- ---- the report

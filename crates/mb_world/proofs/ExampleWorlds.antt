@@ -48,7 +48,8 @@ pub record Laws : Type 0 where
 
 module _ (laws : Laws) where
   -- after so many steps of a claim
-  pub record Claiming (c p k : ℕ) (ks : List ℕ) (ns : List Note) (xs : List ObjectTurn) (h : WorldHistory) : Type 0 where
+  pub record Claiming (c p k : ℕ) (ks : List ℕ) (ns : List Note) (xs : List ObjectTurn)
+      (h : WorldHistory) : Type 0 where
     pub lawful : IsWorldLawful two_by_two (map (claim_step c k) xs ++ h)
     pub path : ConsumerPath two_cells c p (lane_part c p (map (claim_step c k) xs ++ h)) (k ∷ ks) ns (Some xs)
 
@@ -132,7 +133,8 @@ module _ (laws : Laws) where
   stored_too =
       let at : IsAt 2 1 [] (Stored six) (store 1 (Item 1) 6 ∷ fetch 1 six ∷ []) =
       record { below = tt; fits = omega arith; is = refl } in
-      laws.producer (ToCells (fetch 1 six) ∷ one_put) 1 (store 1 (Item 1) 6) taken_too refl (omega arith) (omega arith) tt
+      laws.producer (ToCells (fetch 1 six) ∷ one_put) 1 (store 1 (Item 1) 6) taken_too refl
+      (omega arith) (omega arith) tt
       (laws.prefix 1 [] (Stored six) (store 1 (Item 1) 6 ∷ fetch 1 six ∷ []) at)
 
   abbrev second_group : History
@@ -155,7 +157,8 @@ module _ (laws : Laws) where
 
   won_true : AreTrueTo 0 0 won_steps first_found
   won_true =
-      let loads : (v : ℕ) → v < 2 ^ 64 → ((v < 2 ^ 64) × Unit {0}) × (0 < 2 ^ 64) = λ v fits. ((fits, tt), omega arith) in
+      let loads : (v : ℕ) → v < 2 ^ 64 → ((v < 2 ^ 64) × Unit {0})
+      × (0 < 2 ^ 64) = λ v fits. ((fits, tt), omega arith) in
       let stores : (Unit {0} × (1 < 2 ^ 64)) × (0 < 2 ^ 64) = ((tt, omega arith), omega arith) in (
         (loads 0 (omega arith), refl),
         (
@@ -232,7 +235,8 @@ module _ (laws : Laws) where
 
   pub second_begun_lawful : IsWorldLawful two_by_two second_begun
   second_begun_lawful =
-      (laws.consumer second_met 1 1 (claim_step 1 1 first_step) (1 ∷ []) [] (Some (first_step ∷ [])) met_lawful (omega arith)
+      (laws.consumer second_met 1 1 (claim_step 1 1 first_step) (1 ∷ []) [] (Some (first_step ∷ []))
+      met_lawful (omega arith)
       (omega arith) (((omega arith, tt), omega arith), refl) begun_path).lawful
 
   -- ---- lane 0 ends

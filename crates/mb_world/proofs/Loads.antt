@@ -1,7 +1,8 @@
 -- What a reader was given by its loads, and whether it loaded a word.
 use Rattle.std.proofs.Common.{◌≡◌, ◌≢◌, ◌⊎◌, ℕ, suc, ◌+◌, ◌<◌, true, false, List, [], ◌∷◌, length, refl, sym, ◌∙◌, ap, subst, inl, inr, arith}
 use Rattle.std.proofs.lemmas.Bool.{cases_Bool}
-use Rattle.mb_world.specs.Below.{END, FetchAdd, Gave, Has, HasLoaded, HasMet, History, IsGift, IsReaderPath, Link, Load, MayRead, PoolAccess, PoolAct, Reader, Store, Word, is_same_word, load, part, place_past}
+use Rattle.mb_world.specs.Below.{END, FetchAdd, Gave, Has, HasLoaded, HasMet, History, IsGift, IsReaderPath, Link, Load, MayRead, PoolAccess, PoolAct}
+use Rattle.mb_world.specs.Below.{Reader, Store, Word, is_same_word, load, part, place_past}
 use Rattle.mb_world.specs.Fitting.{HasRead}
 use Rattle.mb_world.proofs.Places.{IsAt, at_within}
 use Rattle.mb_world.proofs.ReaderParts.{has_part, word_is, word_same}

@@ -40,7 +40,8 @@ module _ (plan : Plan) (h : WorldHistory) (p : ℕ) (ps : p < plan.lanes) (lane 
       offer_made = by_offer (offer_refusal lane) refl
 
     -- ---- a push
-    module _ (next : (s : Word × ℕ) → push_store p lane ≡ Some s → IsLanePrefix plan.claims.cells p (store p s.0 s.1 ∷ done))
+    module _ (next : (s : Word × ℕ) → push_store p lane ≡ Some s
+        → IsLanePrefix plan.claims.cells p (store p s.0 s.1 ∷ done))
         (fits : (w : Word) (v : ℕ) → push_store p lane ≡ Some (w, v) → v < 2 ^ 64)
         (within : (w : Word) (v : ℕ) → push_store p lane ≡ Some (w, v) → IsLaneWord (size_of plan) w)
         (no_mark : (w : Word) → push_store p lane ≡ Some (w, END) → IsLinkWord w → ⊥) where
@@ -48,10 +49,14 @@ module _ (plan : Plan) (h : WorldHistory) (p : ℕ) (ps : p < plan.lanes) (lane 
       pushed : (w : Word) (v : ℕ) → push_store p lane ≡ Some (w, v) → IsLaneWord (size_of plan) w
           → IsPushed w v × ((r : Answer) × (answer_to plan.claims.cells w (Store v) ≡ Some r))
       pushed Counter v e word = absurd word
-      pushed (Head q) v e word =
-          (λ f. no_mark (Head q) (subst (λ (i : ℕ). push_store p lane ≡ Some (Head q, i)) f e) tt, (answer_to_link v, refl))
-      pushed (Link k) v e word =
-          (λ f. no_mark (Link k) (subst (λ (i : ℕ). push_store p lane ≡ Some (Link k, i)) f e) tt, (answer_to_link v, refl))
+      pushed (Head q) v e word = (
+        λ f. no_mark (Head q) (subst (λ (i : ℕ). push_store p lane ≡ Some (Head q, i)) f e) tt,
+        (answer_to_link v, refl),
+      )
+      pushed (Link k) v e word = (
+        λ f. no_mark (Link k) (subst (λ (i : ℕ). push_store p lane ≡ Some (Link k, i)) f e) tt,
+        (answer_to_link v, refl),
+      )
       pushed (Item k) v e word = (tt, (answer.Pushed (push.Item k), refl))
 
       by_push : (z : Option (Word × ℕ)) → push_store p lane ≡ z → IsRefusedOrMade plan (event.Push p) h
@@ -68,7 +73,8 @@ module _ (plan : Plan) (h : WorldHistory) (p : ℕ) (ps : p < plan.lanes) (lane 
       push_made = by_push (push_store p lane) refl
 
     -- ---- a finish
-    module _ (next : finish_refusal lane ≡ None → IsLanePrefix plan.claims.cells p (store p (next_link p lane) END ∷ done))
+    module _ (next : finish_refusal lane ≡ None
+        → IsLanePrefix plan.claims.cells p (store p (next_link p lane) END ∷ done))
       where
         link : (last : Option ℕ) → IsLinkWord (link_after p last)
             × (answer_to plan.claims.cells (link_after p last) (Store END) ≡ Some (answer.Finished finish.Ended))

@@ -1,7 +1,8 @@
 -- The cells that a consumer's own loads met on a lane are all that it met there.
 use Rattle.std.proofs.Common.{◌≡◌, ◌≢◌, ◌⊎◌, ℕ, ◌+◌, ◌-◌, ◌<◌, true, false, List, [], ◌∷◌, ◌++◌, Option, Some, None, refl, sym, ◌∙◌, ap, subst, inl, inr, arith}
 use Rattle.std.proofs.lemmas.Bool.{cases_Bool, cases_eq, ne_eqb, eq-eqb}
-use Rattle.mb_world.specs.Below.{Counter, END, FetchAdd, Gave, Has, HasMet, Head, History, IsGift, IsLinkWord, IsOnceEach, IsStart, Item, Link, Load, PoolAccess, PoolAct, Reader, Store, Word, is_same_word, linked_cells, part, place_past, push_if}
+use Rattle.mb_world.specs.Below.{Counter, END, FetchAdd, Gave, Has, HasMet, Head, History, IsGift, IsLinkWord, IsOnceEach, IsStart, Item, Link, Load}
+use Rattle.mb_world.specs.Below.{PoolAccess, PoolAct, Reader, Store, Word, is_same_word, linked_cells, part, place_past, push_if}
 use Rattle.mb_world.specs.Plan.{Histories, Plan, consumers_of}
 use Rattle.mb_world.specs.Fitting.{FollowsLinks, cell_given, cells_met, parts_of}
 use Rattle.mb_world.specs.Reporting.{HasMetAll}
@@ -95,7 +96,8 @@ module _ (q : ℕ) (h : History)
       let s = start p (cells_met p (part (Reader q) h)) (met_in q p h) in
       let at = has_at (cells_met p (part (Reader q) h)) k has in
       subst (λ (ls : List ℕ). Has ls k) s.1
-      (at_has (s.0 ++ cells_met p (part (Reader q) h)) at.0 k (at_start s.0 (cells_met p (part (Reader q) h)) at.0 k at.1))
+      (at_has (s.0 ++ cells_met p (part (Reader q) h)) at.0 k
+      (at_start s.0 (cells_met p (part (Reader q) h)) at.0 k at.1))
 
   pub once_in : (p : ℕ) → IsOnceEach (linked_cells p h) → IsOnceEach (cells_met p (part (Reader q) h))
   once_in p once =

@@ -68,7 +68,8 @@ module _ (plan : Plan) (h : WorldHistory) (lawful : IsWorldLawful plan h) (known
       let y = longer.consumers c p cs ps in (
         place y.cells y.notes y.held,
         came_from plan.claims c p
-            (subst (λ (l : WorldHistory). ConsumerPath plan.claims c p l y.cells y.notes y.held) (front x own on) y.path),
+            (subst (λ (l : WorldHistory). ConsumerPath plan.claims c p l y.cells y.notes y.held)
+            (front x own on) y.path),
       )
 
   loaded : (x : WorldAccess) → IsWorldLawful plan (x ∷ h) → (ks : List ℕ) (v : ℕ) → x ≡ link_load c p ks v

@@ -65,7 +65,8 @@ module _ (s : WorldState) (h : WorldHistory) (is : IsWorldAfter h s) (p : ℕ) (
   module _ (a : PoolAccess) (maker : a.process ≡ Producer p) (after : IsAfter (a ∷ pool_accesses h) pool) where
     pub adds : ProducerAdds (plan s h is) a h
     adds =
-        goes a maker (subst₂ (λ l m. IsPoolLawful (pool_size l m) (a ∷ pool_accesses h)) lanes_now cells_now after.lawful)
+        goes a maker (subst₂ (λ l m. IsPoolLawful (pool_size l m) (a ∷ pool_accesses h)) lanes_now
+        cells_now after.lawful)
 
     -- no consumer loads anything by it
     loads_stay : (d : ℕ) → part (Reader d) (a ∷ pool_accesses h) ≡ part (Reader d) (pool_accesses h)

@@ -73,7 +73,8 @@ module _ (plan : Plan) (hs : Histories) (known : Known plan hs) where
         let d = (is.diary c p cs ps).0 in
         (j < length d.notes) ⊎ ((length d.notes ≡ j) × (d.begun ≡ true)) → HasCompeted c p j r
     competed_in c p j cs ps (inl before) = inl (rw (notes_is plan hs r is c p cs ps) before)
-    competed_in c p j cs ps (inr next) = inr (rw (notes_is plan hs r is c p cs ps) next.0, rw (begun_is plan hs r is c p cs ps) next.1)
+    competed_in c p j cs ps (inr next) = inr
+        (rw (notes_is plan hs r is c p cs ps) next.0, rw (begun_is plan hs r is c p cs ps) next.1)
 
     value : (c p j x : ℕ) → note c p j r ≡ Some (Took x) → slice_get (items_put p r) j ≡ Some x
     value c p j x e =

@@ -7,7 +7,8 @@ use Rattle.mb_world.specs.declared.report.Note.TheVariants.{Took}
 use Rattle.mb_world.specs.Below.{Counter, Head, IsClaimPrefix, Item, Link, ObjectTurn, Stage, Word}
 use Rattle.mb_world.specs.World.{ToCells, ToClaims, WorldAccess, WorldHistory}
 use Rattle.mb_world.specs.ConsumerPath.{ConsumerPath, begins, claim_step, finds, goes, item_load, link_load, note_of, takes, waits}
-use Rattle.mb_world.specs.PathExamples.{IsOnNoPath, begun, claimed_another, claimed_unmet, first_step, found, gone_back, passed_going, passed_unclaimed, passed_won, taken, taken_early, taken_twice, taken_unclaimed, two_cells, waited, won, won_last, won_steps}
+use Rattle.mb_world.specs.PathExamples.{IsOnNoPath, begun, claimed_another, claimed_unmet, first_step, found, gone_back, passed_going, passed_unclaimed}
+use Rattle.mb_world.specs.PathExamples.{passed_won, taken, taken_early, taken_twice, taken_unclaimed, two_cells, waited, won, won_last, won_steps}
 use Rattle.mb_world.proofs.LastAccess.{Leads, Place, came_from, place}
 use Rattle.mb_world.proofs.LastAccess as last
 use Rattle.mb_world.proofs.OnePlace.{one_place}

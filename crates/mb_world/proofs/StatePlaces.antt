@@ -51,6 +51,7 @@ module _ {X : Type 0} (rows columns : ℕ) where
               let old = all d q ds qs in (
                 old.0,
                 get_set_other xs (c * columns + p) (d * columns + q) y other ∙ old.1,
-                keeps d q old.0 ds qs (λ e f. other (ap (λ (i : ℕ). i * columns + q) e ∙ ap (λ (i : ℕ). c * columns + i) f))
+                keeps d q old.0 ds qs (λ e f. other
+                    (ap (λ (i : ℕ). i * columns + q) e ∙ ap (λ (i : ℕ). c * columns + i) f))
                     old.2,
               )

@@ -93,7 +93,8 @@ pub fn last_objects_settle_items()
 
 /// The cells of a setup, or of a plan, whose shape has a last object end with one.
 pub fn shaped_setups_have_last_objects()
-    ensures setups { (setup : Setup) → (shape_in setup).last ≡ true → HasLastObject (plan_in setup) }
+    ensures setups { (setup : Setup) → (shape_in setup).last ≡ true
+        → HasLastObject (plan_in setup) }
     ensures plans { (shape : Shape) (p c m k : ℕ) (t : TableName) → shape.last ≡ true
         → HasLastObject (shaped_plan shape p c m k t) }
 {}

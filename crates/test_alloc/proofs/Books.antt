@@ -48,18 +48,24 @@ module _ {M : Type 1} {𝓤 : Ura M} (𝓛 : Logic 𝓤) (at_mem : Memory → SP
 
     pub Refuses-goes : ent 𝓤 (sep 𝓤 (sem 𝓛 (seen_book κ p b)) (A.lft κ q)) (Refuses.pre at_refuses)
     Refuses-goes =
-        qed 𝓛 (‵ (seen_book κ p b) ∷ ‵ (flft κ q) ∷ []) ∵ feq_i ! (List Val) (vptr p.0 p.1 ∷ []) (vptr p.0 p.1 ∷ []) refl $ fjoin ! $
-        nothing ! $ move ! (1 ∷ []) $ fjoin ! $ nothing ! $ move ! (2 ∷ []) $ join ! $ join ! $ nothing ! $ move ! (1 ∷ []) $ done !
+        qed 𝓛 (‵ (seen_book κ p b) ∷ ‵ (flft κ q) ∷ []) ∵ feq_i ! (List Val) (vptr p.0 p.1 ∷ [])
+        (vptr p.0 p.1 ∷ []) refl $ fjoin ! $
+        nothing ! $ move ! (1 ∷ []) $ fjoin ! $ nothing ! $ move ! (2 ∷ []) $ join ! $ join ! $
+        nothing ! $ move ! (1 ∷ []) $ done !
 
     pub Gives-goes : ent 𝓤 (sep 𝓤 (sem 𝓛 (seen_book κ p b)) (A.lft κ q)) (Gives.pre at_gives)
     Gives-goes =
-        qed 𝓛 (‵ (seen_book κ p b) ∷ ‵ (flft κ q) ∷ []) ∵ feq_i ! (List Val) (vptr p.0 p.1 ∷ []) (vptr p.0 p.1 ∷ []) refl $ fjoin ! $
-        nothing ! $ move ! (1 ∷ []) $ fjoin ! $ nothing ! $ move ! (2 ∷ []) $ join ! $ join ! $ nothing ! $ move ! (1 ∷ []) $ done !
+        qed 𝓛 (‵ (seen_book κ p b) ∷ ‵ (flft κ q) ∷ []) ∵ feq_i ! (List Val) (vptr p.0 p.1 ∷ [])
+        (vptr p.0 p.1 ∷ []) refl $ fjoin ! $
+        nothing ! $ move ! (1 ∷ []) $ fjoin ! $ nothing ! $ move ! (2 ∷ []) $ join ! $ join ! $
+        nothing ! $ move ! (1 ∷ []) $ done !
 
     pub TakesBack-goes : ent 𝓤 (sep 𝓤 (sem 𝓛 (seen_book κ p b)) (A.lft κ q)) (TakesBack.pre at_takes_back)
     TakesBack-goes =
-        qed 𝓛 (‵ (seen_book κ p b) ∷ ‵ (flft κ q) ∷ []) ∵ feq_i ! (List Val) (vptr p.0 p.1 ∷ []) (vptr p.0 p.1 ∷ []) refl $ fjoin ! $
-        nothing ! $ move ! (1 ∷ []) $ fjoin ! $ nothing ! $ move ! (2 ∷ []) $ join ! $ join ! $ nothing ! $ move ! (1 ∷ []) $ done !
+        qed 𝓛 (‵ (seen_book κ p b) ∷ ‵ (flft κ q) ∷ []) ∵ feq_i ! (List Val) (vptr p.0 p.1 ∷ [])
+        (vptr p.0 p.1 ∷ []) refl $ fjoin ! $
+        nothing ! $ move ! (1 ∷ []) $ fjoin ! $ nothing ! $ move ! (2 ∷ []) $ join ! $ join ! $
+        nothing ! $ move ! (1 ∷ []) $ done !
 
     -- the answer is `true` or `false`
     abbrev pub Refused : Val → SProp 𝓤
@@ -69,16 +75,20 @@ module _ {M : Type 1} {𝓤 : Ura M} (𝓛 : Logic 𝓤) (at_mem : Memory → SP
     Refuses-gives v =
         qed 𝓛 (raw (Refuses.post at_refuses v) ∷ []) ∵ updating ! $
         use1 𝓛 (later (some (λ (y : Bool). ((‵ (flft κ q) ⊛ ‵ ftrue) ⊛ ‵ (bool.own_val y (v ∷ []))) ⊛ some (λ (ws : Unit {0} × Unit {0}). ‵ (fsep ftrue ftrue) ⊛ ‵ ftrue)))) (id⊢ 𝓤 _) $ await ! tt $ pick ! (λ y.
-        split ! $ split ! $ move ! (1 ∷ []) $ feq_l ! (λ e. split ! $ at_once ! $ show ! (λ (z : Bool). guard 𝓤 (v ≡ vbool z) (A.lft κ q)) y $ check ! (ap only e) $ keep ! (0 ∷ []) $ done !))
+        split ! $ split ! $ move ! (1 ∷ []) $ feq_l !
+        (λ e. split ! $ at_once ! $ show ! (λ (z : Bool). guard 𝓤 (v ≡ vbool z) (A.lft κ q)) y $
+        check ! (ap only e) $ keep ! (0 ∷ []) $ done !))
 
     pub Gives-gives : (v : Val) → ent 𝓤 (Gives.post at_gives v) (H.⇛ (guard 𝓤 (v ≡ vunit) (A.lft κ q)))
     Gives-gives v =
         qed 𝓛 (raw (Gives.post at_gives v) ∷ []) ∵ updating ! $
         use1 𝓛 (later (some (λ (u : Unit {0}). ((‵ (flft κ q) ⊛ ‵ ftrue) ⊛ ‵ (unit.own_val u (v ∷ []))) ⊛ some (λ (ws : Unit {0} × Unit {0}). ‵ (fsep ftrue ftrue) ⊛ ‵ ftrue)))) (id⊢ 𝓤 _) $ await ! tt $ pick ! (λ u.
-        split ! $ split ! $ move ! (1 ∷ []) $ feq_l ! (λ e. split ! $ at_once ! $ check ! (ap only e) $ keep ! (0 ∷ []) $ done !))
+        split ! $ split ! $ move ! (1 ∷ []) $ feq_l !
+        (λ e. split ! $ at_once ! $ check ! (ap only e) $ keep ! (0 ∷ []) $ done !))
 
     pub TakesBack-gives : (v : Val) → ent 𝓤 (TakesBack.post at_takes_back v) (H.⇛ (guard 𝓤 (v ≡ vunit) (A.lft κ q)))
     TakesBack-gives v =
         qed 𝓛 (raw (TakesBack.post at_takes_back v) ∷ []) ∵ updating ! $
         use1 𝓛 (later (some (λ (u : Unit {0}). ((‵ (flft κ q) ⊛ ‵ ftrue) ⊛ ‵ (unit.own_val u (v ∷ []))) ⊛ some (λ (ws : Unit {0} × Unit {0}). ‵ (fsep ftrue ftrue) ⊛ ‵ ftrue)))) (id⊢ 𝓤 _) $ await ! tt $ pick ! (λ u.
-        split ! $ split ! $ move ! (1 ∷ []) $ feq_l ! (λ e. split ! $ at_once ! $ check ! (ap only e) $ keep ! (0 ∷ []) $ done !))
+        split ! $ split ! $ move ! (1 ∷ []) $ feq_l !
+        (λ e. split ! $ at_once ! $ check ! (ap only e) $ keep ! (0 ∷ []) $ done !))

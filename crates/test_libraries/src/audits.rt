@@ -1,11 +1,11 @@
 //! Audits of made-up reports: what has no flaw is counted, and for each rule there is a report that breaks that rule alone.
 
 use crate::compare::same;
-use test_audit::{Flaw, Tally, audit};
 use mb_world::Note;
 use mb_world::Note::{Lost, Took, Undecided};
 use std::process::Abort;
 use std::test::Fail;
+use test_audit::{Flaw, Tally, audit};
 use test_support::{DiaryTold, LaneTold, made_up};
 
 #[test]

@@ -9,10 +9,10 @@ use crate::pools::PoolCall::{
     Finish as Ends, Item, Look as Looks, Offer as Offers, Push as Pushes,
 };
 use crate::pools::{Calls, PoolCall};
-use test_alloc::growths_refused;
 use mb_cells::{Cursor, Finish, Look, Offer, Pool, Push};
 use std::alloc::Allocator;
 use std::test::Fail;
+use test_alloc::growths_refused;
 
 /// The item of an only lane, from the first look to the end mark.
 fn one_item() -> [PoolCall; 9] {

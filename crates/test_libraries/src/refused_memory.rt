@@ -5,7 +5,6 @@ use crate::claims::{WON_AND_LOST, is_played, won_and_lost};
 use crate::compare::same;
 use crate::entries::{last_turn, late_input, shows};
 use crate::events::take_seven;
-use test_alloc::{Rations, Refuse, growths_refused};
 use mb_claim::{Layout, Stage};
 use mb_deciding::{Out, conciliate, ratify};
 use mb_quorum::TableName;
@@ -13,6 +12,7 @@ use mb_world::{Note, Report, Setup, World};
 use std::alloc::Global;
 use std::process::Abort;
 use std::test::Fail;
+use test_alloc::{Rations, Refuse, growths_refused};
 use test_support::{Difference, tells};
 
 #[test]

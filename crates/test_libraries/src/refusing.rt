@@ -1,9 +1,9 @@
 //! Rations: which requests are refused, and which blocks are out.
 
 use crate::compare::same;
-use test_alloc::{Rations, Refuse};
 use std::alloc::Allocator;
 use std::test::Fail;
+use test_alloc::{Rations, Refuse};
 
 /// How many requests there were, and how many blocks are out.
 fn counts<B: Allocator>(rations: &Rations<B>) -> (u64, u64) {

@@ -2,7 +2,6 @@
 
 use crate::compare::{same, same_at};
 use crate::shapes::{BOTH, FAST, LAST};
-use test_alloc::growths_refused;
 use mb_claim::Shape;
 use mb_quorum::TableName;
 use mb_script::{
@@ -13,6 +12,7 @@ use mb_world::{Event, SetupFault};
 use std::alloc::{Allocator, Global};
 use std::process::Abort;
 use std::test::Fail;
+use test_alloc::growths_refused;
 
 /// The script of a text.
 fn script(alloc: Global, text: &str) -> Result<Script<Global>, Fail> {

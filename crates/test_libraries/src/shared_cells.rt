@@ -4,13 +4,13 @@ ghost use Rattle.mb_cells.specs.Vocabulary.{MayRead, word_of};
 ghost use Rattle.mb_cells.specs.declared.access.Word.TheVariants.{Head};
 
 use crate::compare::same;
-use test_alloc::growths_refused;
 use mb_cells::{Cursor, Finish, Look, Offer, Push};
 use mb_shared_cells::{AllGiven, CellHub, LaneSeat, ReaderSeat, SharedCells};
 use std::alloc::Allocator;
 use std::process::Abort;
 use std::test::Fail;
 use std::thread::{Threads, join};
+use test_alloc::growths_refused;
 
 /// The item of an only lane is linked, and before that nothing is found.
 fn link_one_item<A: Allocator + Drop>(

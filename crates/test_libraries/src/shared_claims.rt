@@ -6,7 +6,6 @@ ghost use Rattle.mb_shared_claims.specs.Vocabulary.{name_of};
 
 use crate::compare::same;
 use crate::shapes::BOTH;
-use test_alloc::growths_refused;
 use mb_claim::laws::layouts_are_sound;
 use mb_claim::steps::{accesses_lengthen_one_part, claims_make_steps};
 use mb_claim::{Claim, ClaimOp, Layout, Shape, Stage};
@@ -17,6 +16,7 @@ use std::alloc::Allocator;
 use std::process::Abort;
 use std::test::Fail;
 use std::thread::{Threads, join, map_vec};
+use test_alloc::growths_refused;
 
 /// How many cells two threads claim.
 const CELLS: u32 = 100;
@@ -129,7 +129,8 @@ fn all_seats<A: Allocator + Drop, B: Allocator + Drop>(
     alloc: B,
 ) -> Result<Vec<ClaimSeat, B>, Fail>
     requires { hub.old.table ≡ name_of table.now }
-    ensures { IfOk result (λ seats. All (λ seat. (seat.table ≡ name_of table.now) × (seat.part ≡ []))
+    ensures { IfOk result (λ seats.
+        All (λ seat. (seat.table ≡ name_of table.now) × (seat.part ≡ []))
         seats.items) }
 {
     let mut seats = Vec::new(alloc);

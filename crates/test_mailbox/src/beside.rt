@@ -6,7 +6,6 @@ ghost use Rattle.mb_mailbox.specs.Producers.{IsProducerOf};
 
 use crate::compare::same;
 use crate::words::chacha;
-use test_audit::audit;
 use mb_mailbox::{Consumer, Hub, Mailbox, Poll, Producer, Put};
 use mb_quorum::TableName;
 use mb_world::{Report, Setup};
@@ -14,6 +13,7 @@ use std::alloc::Global;
 use std::process::Abort;
 use std::test::Fail;
 use std::thread::{Threads, join};
+use test_audit::audit;
 use test_support::Zeros;
 
 /// How many items each producer puts.

@@ -4,7 +4,6 @@ use crate::compare::{same, same_at};
 use crate::trial::Trial;
 use crate::trials::{ends, new_trial};
 use crate::workers::{ALL_DONE, works};
-use test_audit::audit;
 use mb_mailbox::{Gate, Who, Worked};
 use mb_quorum::TableName;
 use mb_world::{Note, Setup};
@@ -14,6 +13,7 @@ use std::sync::Wait;
 use std::sync::atomic::{AtomicU64, Ordering};
 use std::test::Fail;
 use std::thread::Threads;
+use test_audit::audit;
 
 /// How often a worker looks whether all have come.
 pub(crate) const TURNS: u64 = 1_000_000_000;

@@ -4,7 +4,6 @@ use crate::compare::same;
 use crate::trial::Trial;
 use crate::trials::{ends, new_trial};
 use crate::workers::{ALL_DONE, lists, sources};
-use test_alloc::{Rations, Refuse, growths_refused};
 use mb_cells::Finish;
 use mb_mailbox::{HubFault, OpenGate, Poll, Put, WorkFault};
 use mb_world::{Note, Report};
@@ -13,6 +12,7 @@ use std::process::Abort;
 use std::sync::Wait;
 use std::test::Fail;
 use std::thread::Threads;
+use test_alloc::{Rations, Refuse, growths_refused};
 use test_support::{DiaryTold, Zeros};
 
 /// The allocator of all lists of a trial.

@@ -3,7 +3,6 @@
 use crate::compare::same;
 use crate::trial::Trial;
 use crate::trials::{all_given, both_are_given, ends, new_trial, take_all};
-use test_alloc::{Rations, Refuse, growths_refused};
 use mb_cells::Finish;
 use mb_mailbox::{GatherFault, HubFault, Poll, Put};
 use mb_quorum::TableName;
@@ -11,6 +10,7 @@ use mb_world::{Note, Report, Setup};
 use std::alloc::Global;
 use std::process::Abort;
 use std::test::Fail;
+use test_alloc::{Rations, Refuse, growths_refused};
 use test_support::{Difference, Zeros, tells};
 
 /// The allocator of all lists of a trial.

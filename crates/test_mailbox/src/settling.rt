@@ -6,7 +6,6 @@ ghost use Rattle.mb_mailbox.specs.Producers.{IsProducerOf};
 
 use crate::compare::same;
 use crate::words::chacha;
-use test_audit::{Tally, audit};
 use mb_claim::Shape;
 use mb_mailbox::{Consumer, Hub, Mailbox, Poll, Producer, Put};
 use mb_quorum::TableName;
@@ -17,6 +16,7 @@ use std::process::Abort;
 use std::sync::atomic::{AtomicU64, Ordering};
 use std::test::Fail;
 use std::thread::{Threads, for_each_mut, yield_now};
+use test_audit::{Tally, audit};
 
 /// How many consumers compete for each item.
 const CONSUMERS: u64 = 16;

@@ -3,7 +3,6 @@
 use crate::compare::same;
 use crate::trial::Trial;
 use crate::trials::{both_are_given, ends, new_trial};
-use test_audit::audit;
 use mb_mailbox::{Gate, OpenGate, Who, WorkFault, Worked};
 use mb_quorum::TableName;
 use mb_world::{Note, Report, Setup};
@@ -13,6 +12,7 @@ use std::sync::Wait;
 use std::sync::atomic::{AtomicU64, Ordering};
 use std::test::Fail;
 use std::thread::Threads;
+use test_audit::audit;
 use test_support::Zeros;
 
 /// Each item was put, and nobody was stopped.

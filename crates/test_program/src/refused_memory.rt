@@ -5,13 +5,13 @@ use crate::examples::claims::{ITEM_TAKEN, ONE_LOSES};
 use crate::examples::ratifiers::LATE_INPUT;
 use crate::examples::runs::TWO_ITEMS;
 use crate::run::ALONE;
-use test_alloc::growths_refused;
 use mb_program::{Failed, RatifyFault, RunFault, fault_text, ratify_text, run_threads};
 use mb_script::{Counting, Fault, report_text, run};
 use mb_world::{Diary, LaneReport, Note, Report, SetupFault};
 use std::fmt::Debug;
 use std::process::Abort;
 use std::test::Fail;
+use test_alloc::growths_refused;
 
 /// A call that is out of memory wrote nothing, and any other is done and wrote this. Whether it was served.
 fn is_served<F: PartialEq + Debug + Copy>(

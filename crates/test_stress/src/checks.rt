@@ -5,7 +5,6 @@ use crate::plan::{Plan, Stops};
 use crate::refused::check_refused;
 use crate::run::check;
 use crate::settled::check_settled;
-use test_audit::Flaw;
 use mb_claim::Shape;
 use mb_mailbox::{Mailbox, Worked};
 use mb_quorum::TableName;
@@ -13,6 +12,7 @@ use mb_world::Note::{Lost, Took, Undecided};
 use mb_world::Setup;
 use std::process::Abort;
 use std::test::Fail;
+use test_audit::Flaw;
 use test_support::{DiaryTold, LaneTold, made_up};
 
 /// So many producers are to put two items each into so many cells, at a gate that stops these.

@@ -1,8 +1,8 @@
 //! How a run goes wrong.
 
-use test_audit::Flaw;
 use mb_mailbox::WorkFault;
 use std::alloc::AllocError;
+use test_audit::Flaw;
 
 /// How a run went wrong.
 #[derive(Clone, Copy, PartialEq, Eq, Debug)]

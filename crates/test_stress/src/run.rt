@@ -10,13 +10,13 @@ use crate::refused::check_refused;
 use crate::settled::check_settled;
 use crate::sources::chacha;
 use crate::totals::Totals;
-use test_audit::audit;
 use mb_mailbox::{Mailbox, Worked, work};
 use mb_world::{Report, Setup};
 use rand_core::Rng;
 use std::alloc::{AllocError, Global};
 use std::sync::Wait;
 use std::thread::Threads;
+use test_audit::audit;
 use test_support::Zeros;
 
 /// The first item of a list.

@@ -1,7 +1,7 @@
 //! What runs come to together.
 
-use test_audit::Tally;
 use std::fmt;
+use test_audit::Tally;
 
 /// What runs come to together.
 #[derive(Clone, Copy, Debug)]

@@ -16,7 +16,8 @@ handed_on P (Err e) d p h = subst P (sym h) p
 handed_on P (Ok x) d p h = elim h [ ]
 
 -- the lists are the same up to the place, and there they differ
-first : {X Y : Type 0} (Differ : X → X → ℕ → Difference → Type 0) (f : Y → X) (xs : List X) (ys : List Y) (place : ℕ) (x : X) (y : Y) (d : Difference)
+first : {X Y : Type 0} (Differ : X → X → ℕ → Difference → Type 0) (f : Y → X) (xs : List X)
+    (ys : List Y) (place : ℕ) (x : X) (y : Y) (d : Difference)
     → length xs ≡ length ys → take place xs ≡ map f (take place ys) → place < length xs → x ≡ get_or xs place x
     → Differ x (f (get_or ys place y)) place d → FirstDiffer Differ xs (map f ys) d
 first Differ f xs ys place x y d same before inside shown differs = record {
@@ -29,18 +30,32 @@ first Differ f xs ys place x y d same before inside shown differs = record {
   differ = differs;
 }
 
-module _ (r : ReportView) (lanes : List (Bor (List ℕ) × Bool × Bor (List ℕ))) (diaries : List (ℕ × ℕ × Bor (List Note) × Bool)) where
+module _ (r : ReportView) (lanes : List (Bor (List ℕ) × Bool × Bor (List ℕ)))
+    (diaries : List (ℕ × ℕ × Bor (List Note) × Bool)) where
   -- it is in a lane
   pub in_lane : (place : ℕ) (l : LaneView) (t : Bor (List ℕ) × Bool × Bor (List ℕ)) (d : Difference)
-      → length r.lanes ≡ length lanes → take place r.lanes ≡ map lane_told (take place lanes) → place < length r.lanes → l ≡ get_or r.lanes place l
+      → length r.lanes ≡ length lanes → take place r.lanes ≡ map lane_told (take place lanes)
+      → place < length r.lanes → l ≡ get_or r.lanes place l
       → LaneDiffers l (lane_told (get_or lanes place t)) place d
       → IsFirstDifference r (map lane_told lanes) (map diary_told diaries) d
   in_lane place l t (Put p) same before inside shown differs =
-      inl (same ∙ sym (length-map lanes lane_told), first LaneDiffers lane_told r.lanes lanes place l t (Put p) same before inside shown differs)
+      inl (
+        same ∙ sym (length-map lanes lane_told),
+        first LaneDiffers lane_told r.lanes lanes place
+            l t (Put p) same before inside shown differs,
+      )
   in_lane place l t (Ended p) same before inside shown differs =
-      inl (same ∙ sym (length-map lanes lane_told), first LaneDiffers lane_told r.lanes lanes place l t (Ended p) same before inside shown differs)
+      inl (
+        same ∙ sym (length-map lanes lane_told),
+        first LaneDiffers lane_told r.lanes lanes place
+            l t (Ended p) same before inside shown differs,
+      )
   in_lane place l t (Left p) same before inside shown differs =
-      inl (same ∙ sym (length-map lanes lane_told), first LaneDiffers lane_told r.lanes lanes place l t (Left p) same before inside shown differs)
+      inl (
+        same ∙ sym (length-map lanes lane_told),
+        first LaneDiffers lane_told r.lanes lanes place
+            l t (Left p) same before inside shown differs,
+      )
   in_lane place l t Lanes same before inside shown differs = elim differs [ ]
   in_lane place l t Diaries same before inside shown differs = elim differs [ ]
   in_lane place l t (Owner p) same before inside shown differs = elim differs [ ]
@@ -50,15 +65,32 @@ module _ (r : ReportView) (lanes : List (Bor (List ℕ) × Bool × Bor (List ℕ
   -- it is in a diary
   pub in_diary : (place : ℕ) (e : DiaryView) (t : ℕ × ℕ × Bor (List Note) × Bool) (d : Difference)
       → r.lanes ≡ map lane_told lanes
-      → length r.diaries ≡ length diaries → take place r.diaries ≡ map diary_told (take place diaries) → place < length r.diaries → e ≡ get_or r.diaries place e
+      → length r.diaries ≡ length diaries → take place r.diaries
+      ≡ map diary_told (take place diaries) → place < length r.diaries → e
+      ≡ get_or r.diaries place e
       → DiaryDiffers e (diary_told (get_or diaries place t)) place d
       → IsFirstDifference r (map lane_told lanes) (map diary_told diaries) d
   in_diary place e t (Owner p) told same before inside shown differs =
-      inr (told, same ∙ sym (length-map diaries diary_told), first DiaryDiffers diary_told r.diaries diaries place e t (Owner p) same before inside shown differs)
+      inr (
+        told,
+        same ∙ sym (length-map diaries diary_told),
+        first DiaryDiffers diary_told r.diaries
+            diaries place e t (Owner p) same before inside shown differs,
+      )
   in_diary place e t (Notes p) told same before inside shown differs =
-      inr (told, same ∙ sym (length-map diaries diary_told), first DiaryDiffers diary_told r.diaries diaries place e t (Notes p) same before inside shown differs)
+      inr (
+        told,
+        same ∙ sym (length-map diaries diary_told),
+        first DiaryDiffers diary_told r.diaries
+            diaries place e t (Notes p) same before inside shown differs,
+      )
   in_diary place e t (Begun p) told same before inside shown differs =
-      inr (told, same ∙ sym (length-map diaries diary_told), first DiaryDiffers diary_told r.diaries diaries place e t (Begun p) same before inside shown differs)
+      inr (
+        told,
+        same ∙ sym (length-map diaries diary_told),
+        first DiaryDiffers diary_told r.diaries
+            diaries place e t (Begun p) same before inside shown differs,
+      )
   in_diary place e t Lanes told same before inside shown differs = elim differs [ ]
   in_diary place e t (Put p) told same before inside shown differs = elim differs [ ]
   in_diary place e t (Ended p) told same before inside shown differs = elim differs [ ]

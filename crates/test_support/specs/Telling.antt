@@ -24,7 +24,8 @@ LaneDiffers lane told place difference = ⊥
 
 -- how a diary differs from what is told of it: the first part that does
 abbrev pub DiaryDiffers : DiaryView → DiaryView → ℕ → Difference → Type 0
-DiaryDiffers diary told place (Owner p) = (p ≡ place) × ((diary.consumer ≡ told.consumer) × (diary.lane ≡ told.lane) → ⊥)
+DiaryDiffers diary told place (Owner p) = (p ≡ place)
+    × ((diary.consumer ≡ told.consumer) × (diary.lane ≡ told.lane) → ⊥)
 DiaryDiffers diary told place (Notes p) =
     (p ≡ place) × (diary.consumer ≡ told.consumer) × (diary.lane ≡ told.lane) × (diary.notes ≢ told.notes)
 DiaryDiffers diary told place (Begun p) =
@@ -33,7 +34,8 @@ DiaryDiffers diary told place (Begun p) =
 DiaryDiffers diary told place difference = ⊥
 
 -- the lists agree before a place, and there they differ so
-pub record FirstDiffer {X : Type 0} (Differ : X → X → ℕ → Difference → Type 0) (xs told : List X) (difference : Difference) : Type 0 where
+pub record FirstDiffer {X : Type 0} (Differ : X → X → ℕ → Difference → Type 0) (xs told : List X)
+    (difference : Difference) : Type 0 where
   pub place : ℕ
   pub before : take place xs ≡ take place told
   pub shown : X

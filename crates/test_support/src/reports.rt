@@ -74,7 +74,8 @@ pub fn tells<A: Allocator + Drop>(
 ) -> Result<(), Difference>
     ensures lanes { IfOk result (λ _. report.now.lanes ≡ map lane_told lanes.now) }
     ensures diaries { IfOk result (λ _. report.now.diaries ≡ map diary_told diaries.now) }
-    ensures differs { IfErr result (IsFirstDifference report.now (map lane_told lanes.now) (map diary_told diaries.now)) }
+    ensures differs { IfErr result (IsFirstDifference report.now (map lane_told lanes.now)
+        (map diary_told diaries.now)) }
 {
     if report.lanes.len() != lanes.len() {
         return Err(Difference::Lanes);

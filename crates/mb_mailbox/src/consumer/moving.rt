@@ -92,7 +92,8 @@ pub(super) fn consumers_move_on()
     // It loads the item where the claim is won.
     ensures takes { (s : ConsumerView) (p k v : ℕ) (claim : Claim) → IsConsumer s → HasLoads s
         → HasPlace p (At k claim) s → claim_stage claim ≡ stage.Won
-        → IsConsumer (moved_to p (Before (Past k)) (Some (Took v)) (reads_with_item s k v) s.seat.part s) }
+        → IsConsumer (moved_to p (Before (Past k)) (Some (Took v)) (reads_with_item s k v)
+        s.seat.part s) }
 {
     laws_hold();
 }
@@ -100,7 +101,8 @@ pub(super) fn consumers_move_on()
 /// Which access of a consumer is the next one on a lane, by its place there.
 pub(super) fn places_tell_steps()
     // Before a link it is the load of that link.
-    ensures looks { (s : ConsumerView) (p v : ℕ) (at : Cursor) → IsConsumer s → HasPlace p (Before at) s
+    ensures looks { (s : ConsumerView) (p v : ℕ) (at : Cursor) → IsConsumer s
+        → HasPlace p (Before at) s
         → ConsumerStep (claims_at s.seat.table) s.seat.consumer p (parts_of s.reader s.seat)
         (ToCells (load s.reader.reader (word_of at) v)) (link_answer (look_of v)) }
 
@@ -125,7 +127,8 @@ pub(super) fn places_tell_steps()
 /// What the answers of a consumer's accesses tell of their lane.
 pub(super) fn answers_tell_lanes()
     // Before a link it has a note on each cell that it met on the lane.
-    ensures noted { (s : ConsumerView) (p : ℕ) (at : Cursor) → IsConsumer s → HasPlace p (Before at) s
+    ensures noted { (s : ConsumerView) (p : ℕ) (at : Cursor) → IsConsumer s
+        → HasPlace p (Before at) s
         → HasNoteOnEach p s }
 
     // A link that leads to no cell is the last, and on a lane that was taken in before it is that of the producer's list.

@@ -82,7 +82,8 @@ pub(super) fn pursue<A: Allocator + Drop, B: Allocator + Drop, R: Rng>(
 
     // Whatever was done before came to no answer.
     ensures pursued { (from : ConsumerView) (n : ℕ) (t : Stream)
-        → AreSteps held.lane n None t (R.stream rng.old) from (holding held.lane held.cell held.claim
+        → AreSteps held.lane n None t (R.stream rng.old) from
+        (holding held.lane held.cell held.claim
         (consumer_with reader.old seat.old places.old.items notes.old))
         → IsPursuit held.lane n most result t (R.stream rng.new) from
         (consumer_with reader.new seat.new places.new.items notes.new) }

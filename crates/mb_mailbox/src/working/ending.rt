@@ -33,7 +33,8 @@ pub(super) fn ends_are_kept()
 
 /// Where it was taken in, it has as many notes there as the lane has items.
 pub(super) fn ends_tell_notes()
-    ensures { (size : PoolSize) (roll : Roll) (h : History) (p : ℕ) (done : History) (s : ConsumerView)
+    ensures { (size : PoolSize) (roll : Roll) (h : History) (p : ℕ) (done : History)
+        (s : ConsumerView)
         → IsRollOf size roll h → slice_get roll.lanes p ≡ Some (Some done)
         → slice_get roll.readers s.reader.reader ≡ Some (Some s.reader.part) → HasReadToEnd p s
         → length (notes_on p s.notes) ≡ length (values_put p done) }

@@ -88,7 +88,8 @@ pub(super) fn give<R: Rng + Drop, A: Allocator + Clone + Drop, B: Allocator + Dr
 ) -> bool
     requires of { IsHubOf mailbox.now hub.old }
     requires lanes { length hub.old.puts + vec_len items ≤ mailbox.now.cells.size.lanes }
-    requires consumers { length hub.old.ledgers + vec_len rngs ≤ consumer_count mailbox.now.claims.layout }
+    requires consumers { length hub.old.ledgers + vec_len rngs ≤ consumer_count
+        mailbox.now.claims.layout }
     requires room { HasJobRoom (vec_len items) (vec_len rngs) jobs.old }
     ensures given { AreGiven mailbox.now items.items (vec_len rngs) jobs.new hub.old hub.new }
     ensures all { result ≡ true → AreAllGiven mailbox.now items.items rngs.items jobs.new hub.old }

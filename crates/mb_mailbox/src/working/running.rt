@@ -42,7 +42,8 @@ fn run_in<
     requires few { lanes.end ≤ mailbox.now.cells.size.lanes }
     requires lanes { vec_len jobs.puts ≡ lanes.end - lanes.from }
     requires room { HasRoom (vec_len jobs.puts) (vec_len jobs.polls) room }
-    ensures { AreEndsOf (G.may_stop gate.now) (G.may_pass gate.now) R.stream lanes.from lanes.end lanes.budget jobs result }
+    ensures { AreEndsOf (G.may_stop gate.now) (G.may_pass gate.now) R.stream lanes.from lanes.end
+        lanes.budget jobs result }
 {
     let Jobs { puts, polls } = jobs;
     let Room {
@@ -82,7 +83,8 @@ pub(super) fn run<
     requires few { lanes.end ≤ mailbox.now.cells.size.lanes }
     requires lanes { vec_len jobs.puts ≡ lanes.end - lanes.from }
     requires room { HasRoom (vec_len jobs.puts) (vec_len jobs.polls) room }
-    ensures { AreEndsOf (G.may_stop gate.now) (G.may_pass gate.now) R.stream lanes.from lanes.end lanes.budget jobs result }
+    ensures { AreEndsOf (G.may_stop gate.now) (G.may_pass gate.now) R.stream lanes.from lanes.end
+        lanes.budget jobs result }
 {
     thread::scope(
         thread::scope_env(),
@@ -92,7 +94,8 @@ pub(super) fn run<
             requires lanes { (lanes.end ≤ mailbox.now.cells.size.lanes)
                 × (vec_len jobs.puts ≡ lanes.end - lanes.from) }
             requires room { HasRoom (vec_len jobs.puts) (vec_len jobs.polls) room }
-            ensures { AreEndsOf (G.may_stop gate.entry.now) (G.may_pass gate.entry.now) R.stream lanes.from lanes.end lanes.budget jobs result }
+            ensures { AreEndsOf (G.may_stop gate.entry.now) (G.may_pass gate.entry.now) R.stream
+                lanes.from lanes.end lanes.budget jobs result }
         { run_in(scope, rt, mailbox, jobs, lanes, gate, going, room) },
     )
 }
@@ -138,7 +141,8 @@ pub(super) fn end_all<R: Rng + Drop, G: Gate, A: Allocator + Drop, B: Allocator 
 ) -> Ends<A>
     requires of { AreOf mailbox.now jobs }
     requires room { HasRoom (vec_len jobs.puts) (vec_len jobs.polls) room }
-    ensures { (from end budget : ℕ) → AreEndsOf (λ _ _. ⊥) (λ _ _. ⊥) R.stream from end budget jobs result }
+    ensures { (from end budget : ℕ) → AreEndsOf (λ _ _. ⊥) (λ _ _. ⊥) R.stream from end budget jobs
+        result }
 {
     let Jobs { puts, polls } = jobs;
     let Ends {

@@ -86,7 +86,8 @@ fn start_poll<
 ) -> PollBegun<G, R, A>
     requires of { IsConsumerOf mailbox.now job.consumer }
     requires few { lanes.end ≤ mailbox.now.cells.size.lanes }
-    ensures { PollPromises G.may_stop G.may_pass R.stream gate.now lanes.from lanes.end lanes.budget job result }
+    ensures { PollPromises G.may_stop G.may_pass R.stream gate.now lanes.from lanes.end lanes.budget
+        job result }
 {
     let promise = Polls {
         consumer: Snapshot::of(&job.consumer),
@@ -99,7 +100,8 @@ fn start_poll<
     let body = move || -> PollDone<A>
         requires of { IsConsumerOf mailbox.now job.consumer }
         requires few { lanes.end ≤ mailbox.now.cells.size.lanes }
-        ensures { IsPollEnd (G.may_stop gate.entry.now) (G.may_pass gate.entry.now) lanes.from lanes.end lanes.budget (R.stream job.rng) job.consumer result }
+        ensures { IsPollEnd (G.may_stop gate.entry.now) (G.may_pass gate.entry.now) lanes.from
+            lanes.end lanes.budget (R.stream job.rng) job.consumer result }
     { poll_lanes(mailbox, job, lanes, gate, going) };
     match scope.spawn_with(promise, body) {
         Ok(handle) => PollBegun::Apart(handle),
@@ -135,7 +137,8 @@ pub(super) fn start_polls<
     requires none { begun.items ≡ [] }
     requires room { vec_len jobs ≤ vec_capacity begun }
     requires after { vec_len producers.now ≡ lanes.end - lanes.from }
-    ensures { AllZip (PollPromises G.may_stop G.may_pass R.stream gate.now lanes.from lanes.end lanes.budget)
+    ensures { AllZip (PollPromises G.may_stop G.may_pass R.stream gate.now lanes.from lanes.end
+        lanes.budget)
         jobs.items result.items }
 {
     for job in jobs {

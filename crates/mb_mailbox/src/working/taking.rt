@@ -32,7 +32,8 @@ pub(super) fn take_puts<A: Allocator + Drop, B: Allocator + Drop>(
     requires hub { IsHubOf mailbox.now hub.old }
     requires producers { All (λ d. IsProducerOf mailbox.now d.producer) ends.items }
     ensures full { result.full ≡ min (2 ^ 64 - 1) (sum_by (λ d. d.full) ends.items) }
-    ensures stopped { result.stopped ≡ min (2 ^ 64 - 1) (sum_by (λ d. from_bool d.stopped) ends.items) }
+    ensures stopped { result.stopped ≡ min (2 ^ 64 - 1)
+        (sum_by (λ d. from_bool d.stopped) ends.items) }
     ensures on { result.off ≡ false → All (λ d. d.off ≡ false) ends.items }
     ensures told { All (λ d. d.off ≡ false) ends.items → result.off ≡ false }
     ensures off { result.off ≡ true → 0 < length ends.items }
@@ -65,7 +66,8 @@ pub(super) fn take_polls<A: Allocator + Drop, B: Allocator + Drop>(
 ) -> Told
     requires hub { IsHubOf mailbox.now hub.old }
     requires consumers { All (λ d. IsConsumerOf mailbox.now d.consumer) ends.items }
-    ensures stopped { result.stopped ≡ min (2 ^ 64 - 1) (sum_by (λ d. from_bool d.stopped) ends.items) }
+    ensures stopped { result.stopped ≡ min (2 ^ 64 - 1)
+        (sum_by (λ d. from_bool d.stopped) ends.items) }
     ensures on { result.off ≡ false → All (λ d. d.off ≡ false) ends.items }
     ensures told { All (λ d. d.off ≡ false) ends.items → result.off ≡ false }
     ensures off { result.off ≡ true → 0 < length ends.items }
@@ -103,7 +105,8 @@ pub(super) fn take_all<A: Allocator + Drop, B: Allocator + Drop>(
     ensures stopped { result.stopped ≡ min (2 ^ 64 - 1) (count_stopped ends) }
     ensures puts_on { result.off ≡ false → All (λ d. d.off ≡ false) ends.puts.items }
     ensures polls_on { result.off ≡ false → All (λ d. d.off ≡ false) ends.polls.items }
-    ensures told { All (λ d. d.off ≡ false) ends.puts.items → All (λ d. d.off ≡ false) ends.polls.items
+    ensures told { All (λ d. d.off ≡ false) ends.puts.items
+        → All (λ d. d.off ≡ false) ends.polls.items
         → result.off ≡ false }
     ensures off { result.off ≡ true → 0 < length ends.puts.items + length ends.polls.items }
     ensures hub { hub.new ≡ with_taken ends hub.old }

@@ -41,12 +41,16 @@ fn put_items<A: Allocator + Drop, B: Allocator + Drop, G: Gate>(
     ensures items { producer.new.items ≡ take result.count items.now }
     ensures lane { IsSameLane producer.old producer.new }
     ensures begun { is_over producer.new ≡ false }
-    ensures found { result.stopped ≡ false → result.count ≢ length items.now → FoundNoCell producer.new }
+    ensures found { result.stopped ≡ false → result.count ≢ length items.now
+        → FoundNoCell producer.new }
     ensures stopped { result.stopped ≡ true → result.count < length items.now }
     ensures stop { result.stopped ≡ true → result.off ≡ false
-        → IsStopBefore (G.may_stop gate.now) (who.Producer producer.old.seat.lane) (suc result.count) }
-    ensures had_cells { result.stopped ≡ true → FoundNoCell producer.new → FoundNoCell producer.old }
-    ensures passed { ArePassed (G.may_pass gate.now) (who.Producer producer.old.seat.lane) result.count }
+        → IsStopBefore (G.may_stop gate.now) (who.Producer producer.old.seat.lane)
+        (suc result.count) }
+    ensures had_cells { result.stopped ≡ true → FoundNoCell producer.new
+        → FoundNoCell producer.old }
+    ensures passed { ArePassed (G.may_pass gate.now) (who.Producer producer.old.seat.lane)
+        result.count }
     ensures passed_full { result.stopped ≡ false → result.count ≢ length items.now
         → G.may_pass gate.now (who.Producer producer.old.seat.lane) (suc result.count) }
 {
@@ -141,7 +145,8 @@ fn next_lane(ended: &[bool], at: u32, from: u32, end: u32) -> Option<u32>
     requires few { end ≤ length ended.now }
     ensures some { IfSome result (λ p. (p < end) × (slice_index_or ended.now p true ≡ false)) }
     ensures low { IfSome result (λ p. from ≤ p) }
-    ensures none { IfNone result ((p : ℕ) → from ≤ p → p < end → slice_index_or ended.now p true ≡ true) }
+    ensures none { IfNone result ((p : ℕ) → from ≤ p → p < end → slice_index_or ended.now p true
+        ≡ true) }
 {
     for lane in at.max(from)..end {
         if !ended[lane as usize] {
@@ -181,14 +186,16 @@ fn poll_lane<A: Allocator + Drop, B: Allocator + Drop, R: Rng>(
     ensures made { accesses_made consumer.old < accesses_made consumer.new }
     ensures most { accesses_made consumer.new ≤ accesses_made consumer.old + budget }
     ensures read { HasReadMarked ended.new consumer.new }
-    ensures only { (from end : ℕ) → from ≤ lane → lane < end → IsOnLanes from end consumer.old.reader.part
+    ensures only { (from end : ℕ) → from ≤ lane → lane < end
+        → IsOnLanes from end consumer.old.reader.part
         → IsOnLanes from end consumer.new.reader.part }
     ensures marks { (p : ℕ) → slice_index_or ended.new p false ≡ true
         → (p ≡ lane) ⊎ (slice_index_or ended.old p false ≡ true) }
     ensures ends { ends_met consumer.new.reader.part + count_marks ended.old
         ≡ ends_met consumer.old.reader.part + count_marks ended.new }
     ensures polled { (answer : _)
-        × IsPollOf lane budget answer (R.stream rng.old) (R.stream rng.new) consumer.old consumer.new }
+        × IsPollOf lane budget answer (R.stream rng.old) (R.stream rng.new) consumer.old
+        consumer.new }
     ensures same { IsSameConsumer consumer.old consumer.new }
     ensures of { IsConsumerOf mailbox.now consumer.new }
 {
@@ -210,7 +217,8 @@ pub(super) fn poll_lanes<A: Allocator + Drop, B: Allocator + Drop, R: Rng + Drop
 ) -> PollDone<A>
     requires of { IsConsumerOf mailbox.now job.consumer }
     requires few { lanes.end ≤ mailbox.now.cells.size.lanes }
-    ensures { IsPollEnd (G.may_stop gate.now) (G.may_pass gate.now) lanes.from lanes.end lanes.budget
+    ensures { IsPollEnd (G.may_stop gate.now) (G.may_pass gate.now) lanes.from lanes.end
+        lanes.budget
         (R.stream job.rng) job.consumer result }
 {
     let Lanes { from, end, budget } = lanes;

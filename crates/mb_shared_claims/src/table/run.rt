@@ -36,7 +36,8 @@ impl<A: Allocator + Drop> SharedClaims<A> {
             (part_on seat.old.consumer cell seat.old.part) }
 
         // Each access is the next one of the claim, with the next word of the source.
-        ensures steps { AreSeatSteps self.now.layout cell claim.old seat.old (R.stream rng.old) result
+        ensures steps { AreSeatSteps self.now.layout cell claim.old seat.old (R.stream rng.old)
+            result
             claim.new seat.new (R.stream rng.new) }
         ensures within { result ≤ most }
         ensures all { claim_stage claim.new ≡ Going → result ≡ most }
@@ -48,7 +49,8 @@ impl<A: Allocator + Drop> SharedClaims<A> {
         ensures few { result ≤ most_accesses self.now.layout }
 
         // With a last object no claim is undecided.
-        ensures decided { (shape_of self.now.layout).last ≡ true → claim_stage claim.new ≢ Undecided }
+        ensures decided { (shape_of self.now.layout).last ≡ true
+            → claim_stage claim.new ≢ Undecided }
     {
         claims_make_steps();
         claims_are_bounded();

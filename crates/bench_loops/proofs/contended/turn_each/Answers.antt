@@ -13,9 +13,11 @@ loop-consumer-preserved g c h start =
     let cell = c.args.cell in
     let i = c.loop-consumer.consumer in
     let past = c.loop-consumer.invariant h start in
-    let within : i < length c.loop-consumer.claims = omega (arith, c.loop-consumer-test.true, c.loop-consumer.auto.claims) in
+    let within : i < length c.loop-consumer.claims =
+    omega (arith, c.loop-consumer-test.true, c.loop-consumer.auto.claims) in
     let Goes : List Claim → List ℕ → Type 0 =
-    λ claims words. (later : List ClaimAccess) × IsContest layout cell claims words later × ChangesOnly (λ d k. k ≡ cell) h later in
+    λ claims words. (later : List ClaimAccess) × IsContest layout cell claims words later
+    × ChangesOnly (λ d k. k ≡ cell) h later in
     elim c.match-stage.branch [
       | in-Going w ↦
           (let own = past.1.whose i _ within in

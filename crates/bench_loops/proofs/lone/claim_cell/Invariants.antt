@@ -9,7 +9,8 @@ abbrev pub invariant-loop-made : goal.invariant-loop-made
 invariant-loop-made g l = record {
   going : claim_stage l.claim ≡ Going;
   whose : consumer_of l.claim ≡ l.consumer;
-  stands : (h : List ClaimAccess) → IsMemoryOf (all_claims l.layout) l.initial.words h → part_on l.consumer l.cell h ≡ []
+  stands : (h : List ClaimAccess) → IsMemoryOf (all_claims l.layout) l.initial.words h
+      → part_on l.consumer l.cell h ≡ []
       → (later : List ClaimAccess) × IsUnderWay l.layout l.cell l.claim l.words later
       × ChangesOnly (λ c k. (c ≡ l.consumer) × (k ≡ l.cell)) h later;
 }

@@ -17,14 +17,21 @@ loop-cell-preserved g c =
       consumer = elim c.if-consumer-consumers.branch [
         | then-consumer-consumers w ↦ omega (arith, w.consumer-is, c.loop-cell.invariant.consumer)
         | else-consumer-consumers w ↦
-            omega (arith, w.consumer-is, w.if-consumer-consumers.false, c.consumers-consumers.ensures, c.loop-cell.invariant.consumer)
+            omega (
+              arith,
+              w.consumer-is,
+              w.if-consumer-consumers.false,
+              c.consumers-consumers.ensures,
+              c.loop-cell.invariant.consumer,
+            )
       ];
       untouched = (
         made.0,
         λ d. record {
           memory = made.1;
           untouched = λ k later.
-              made.2 d k (λ same. absurd (omega (arith, same.1, later))) ∙ (past.1 d).untouched k (omega (arith, later));
+              made.2 d k (λ same. absurd (omega (arith, same.1, later)))
+              ∙ (past.1 d).untouched k (omega (arith, later));
         },
       );
     }

@@ -8,7 +8,8 @@ loop-next-preserved g c = record {
       let next = c.loop-next.next in
       let past = c.loop-next.invariant.before h start in
       let same : c.in-Cell.cell ≡ next = search rules in
-      let made = c.claim_cell-stage.ensures.kept past.0 past.1.memory (past.1.untouched c.in-Cell.cell (omega (arith, same))) in (
+      let made = c.claim_cell-stage.ensures.kept past.0 past.1.memory
+      (past.1.untouched c.in-Cell.cell (omega (arith, same))) in (
         made.0,
         record {
           memory = made.1;

@@ -10,7 +10,8 @@ loop-consumer-preserved g c =
       λ d later. record {
         memory = made.1;
         untouched = λ k all.
-            made.2 d k (λ same. absurd (omega (arith, same, later))) ∙ (past.2 d (omega (arith, later))).untouched k all;
+            made.2 d k (λ same. absurd (omega (arith, same, later)))
+            ∙ (past.2 d (omega (arith, later))).untouched k all;
       },
     )
 

@@ -18,7 +18,8 @@ pub returns-clause-lost : goal.returns-clause-lost
 returns-clause-lost c = ((omega arith), last_lost)
 
 pub returns-clause-undecided : goal.returns-clause-undecided
-returns-clause-undecided c = c.last_objects_decide_claims.ensures.rows (unary_table 2) (pairs_of 2 1) 1 0 0 both_undecided
+returns-clause-undecided c = c.last_objects_decide_claims.ensures.rows (unary_table 2)
+    (pairs_of 2 1) 1 0 0 both_undecided
 
 pub returns-clause-empty : goal.returns-clause-empty
 returns-clause-empty c = empty_refused

@@ -15,7 +15,8 @@ behind layout = pairs_of (spread (quorums_of layout).values) layout.pairs ++ las
 row : (layout : Layout) → layout.shape.fast ≡ true → kinds_of layout ≡ Ratifier ∷ Ratifier ∷ behind layout
 row layout fast = begins_fast layout.shape (spread (quorums_of layout).values) layout.pairs fast
 
-past : (layout : Layout) (o s : ℕ) → layout.shape.fast ≡ true → slice_get (kinds_of layout) o ≡ Some (Conciliator s) → 2 ≤ o
+past : (layout : Layout) (o s : ℕ) → layout.shape.fast ≡ true → slice_get (kinds_of layout) o
+    ≡ Some (Conciliator s) → 2 ≤ o
 past layout o s fast is =
     conciliator_behind (behind layout) o s (ap (λ ks. slice_get ks o) (sym (row layout fast)) ∙ is)
 
@@ -30,7 +31,8 @@ returns-clause-alone c layout cells k d s later h fast lawful alone prefix ended
     let t = quorums_of layout in
     c.fast_paths_take_two_ratifiers.ensures.alone t (behind layout) cells k d s later h (quorums_lawful layout)
     (subst (λ ks. IsClaimLawful (claims_of t ks cells) (later ++ h)) (row layout fast) lawful) alone
-    (subst (λ ks. IsClaimPrefix (claims_of t ks cells) d (part_on d k h) s) (row layout fast) prefix) ended e o (past layout o i fast is)
+    (subst (λ ks. IsClaimPrefix (claims_of t ks cells) d (part_on d k h) s) (row layout fast)
+    prefix) ended e o (past layout o i fast is)
 
 pub returns-clause-undecided : goal.returns-clause-undecided
 returns-clause-undecided c layout cells k d o s h fast lawful is some =

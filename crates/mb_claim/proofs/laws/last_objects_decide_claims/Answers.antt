@@ -14,11 +14,13 @@ returns-clause-layouts c layout claim xs has of undecided =
     let row = ends_with_last layout.shape s layout.pairs has in
     never_undecided t claim.consumer (fast_row layout.shape.fast ++ pairs_of s layout.pairs) 0 claim.consumer xs
     (subst (λ ks. IsClaimPrefixFrom t claim.consumer ks 0 claim.consumer xs Undecided) row
-    (subst (λ (r : Stage). IsClaimPrefixFrom t claim.consumer (kinds_of layout) 0 claim.consumer xs r) undecided of.prefix))
+    (subst (λ (r : Stage). IsClaimPrefixFrom t claim.consumer (kinds_of layout) 0 claim.consumer xs
+    r) undecided of.prefix))
 
 pub returns-clause-stages : goal.returns-clause-stages
 returns-clause-stages c layout cells d k h has stage =
     let t = quorums_of layout in
     let s = spread t.values in
     never_undecided t d (fast_row layout.shape.fast ++ pairs_of s layout.pairs) 0 d _
-    (subst (λ ks. IsClaimPrefixFrom t d ks 0 d (part_on d k h) Undecided) (ends_with_last layout.shape s layout.pairs has) stage.1)
+    (subst (λ ks. IsClaimPrefixFrom t d ks 0 d (part_on d k h) Undecided)
+    (ends_with_last layout.shape s layout.pairs has) stage.1)

@@ -16,7 +16,8 @@ all_known bound steps none k d inside =
     below_by_test bound (get_or steps k d).0 (fails_before_first test steps k d (omega arith))
 
 pub played-requires : goal.played-requires
-played-requires g c k d inside = let below = all_known c.consumers.result c.args.steps.now c.in_default.ensures k d inside in
+played-requires g c k d inside = let below = all_known c.consumers.result c.args.steps.now
+    c.in_default.ensures k d inside in
     omega (arith, c.consumers.ensures)
 
 pub returns-clause-winner : goal.returns-clause-winner
@@ -28,7 +29,8 @@ returns-clause-winner g c =
 pub returns-clause-bound : goal.returns-clause-bound
 returns-clause-bound g c d =
     let layout = c.args.layout.now in
-    c.claims_are_bounded.ensures.rows (quorums_of layout) (shape_of layout) (pair_count layout) 1 _ d 0 (quorums_lawful layout)
+    c.claims_are_bounded.ensures.rows (quorums_of layout) (shape_of layout) (pair_count layout) 1 _
+    d 0 (quorums_lawful layout)
     c.in_ok-played.ensures.lawful
 
 pub returns-clause-decided : goal.returns-clause-decided
@@ -36,4 +38,6 @@ returns-clause-decided g c last d s inside undecided =
     let cs = claims_in c.args.layout.now 1 in
     let run = c.in_ok-played.ensures in
     c.last_objects_decide_claims.ensures.stages c.args.layout.now 1 d 0 _ last
-    (subst (λ (r : Stage). HasStage cs d 0 r (history_of c.args.steps.now c.in_ok-played.field-0.entries.items)) undecided (run.reached d s inside))
+    (subst (λ (r : Stage). HasStage cs d 0 r
+    (history_of c.args.steps.now c.in_ok-played.field-0.entries.items)) undecided
+    (run.reached d s inside))

@@ -20,7 +20,8 @@ returns-clause-loses c = λ cs t xs going lost. competes 4 t (stage.Lost 1) (las
 pub returns-clause-looks_on : goal.returns-clause-looks_on
 returns-clause-looks_on c = λ cs xs table lost. looks 0 (record {
   ended = (stage.Lost 1, lost, λ e. absurd (cc));
-  taken = λ won. let e : stage.Won ≡ stage.Lost 1 = c.prefixes_have_one_stage.ensures cs 0 xs stage.Won (stage.Lost 1) table won lost in absurd (cc);
+  taken = λ won. let e : stage.Won ≡ stage.Lost 1 = c.prefixes_have_one_stage.ensures cs 0 xs
+      stage.Won (stage.Lost 1) table won lost in absurd (cc);
 }) refl refl
 
 pub returns-clause-takes : goal.returns-clause-takes

@@ -16,13 +16,15 @@ Law = (from end budget : ℕ) (made : List Call) (source left : Stream) (old new
     → AreDrawn source (map (λ a. a.step.turn.word) new.seat.part) left
 
 -- the one word that it has drawn is the first of its source
-first_word : Law → (c : ℕ) (s : Stream) (l : ConsumerLeft) (a : ClaimAccess) → l.claimed ≡ a ∷ [] → WasPolled any_call any_call 0 1 5 c s l
+first_word : Law → (c : ℕ) (s : Stream) (l : ConsumerLeft) (a : ClaimAccess) → l.claimed ≡ a ∷ []
+    → WasPolled any_call any_call 0 1 5 c s l
     → a.step.turn.word ≡ (next_u64 s).0
 first_word law c s l a is was =
     let none = was.none in
     let part = nil_from_length was.first.seat.part (omega (arith, none)) in
     let drawn = law 0 1 5 was.polled.called.made s was.polled.left was.first was.last was.polled.called.each part in
-    let one = subst (λ (done : List ClaimAccess). AreDrawn s (map (λ a. a.step.turn.word) done) was.polled.left) (sym was.claimed ∙ is) drawn in
+    let one = subst (λ (done : List ClaimAccess). AreDrawn s (map (λ a. a.step.turn.word) done)
+    was.polled.left) (sym was.claimed ∙ is) drawn in
     ap (λ z. z.0) one.2 ∙ ap (λ (u : Stream). (next_u64 u).0) one.1
 
 pub returns-clause-idle : goal.returns-clause-idle
@@ -47,7 +49,8 @@ returns-clause-idle c s source reader consumer none = (
 )
 
 pub returns-clause-other_word : goal.returns-clause-other_word
-returns-clause-other_word c s l a is other was = other (first_word c.calls_draw_the_first_words.ensures 0 s l a is was.0)
+returns-clause-other_word c s l a is other was = other
+    (first_word c.calls_draw_the_first_words.ensures 0 s l a is was.0)
 
 pub returns-clause-places_changed : goal.returns-clause-places_changed
 returns-clause-places_changed c s t k l a is word other was =

@@ -14,8 +14,10 @@ lane_in a b p same is = ap (λ (x : PoolAccess). lane_of x.word) same ∙ ap lan
 pub returns-clause-within : goal.returns-clause-within
 returns-clause-within c = λ a p has is. elim has [
   | inl same ↦ (let no : Link 4 ≡ Head p = ap (λ (x : PoolAccess). x.word) same ∙ is in absurd (cc))
-  | inr (inl same) ↦ (let at : 2 ≡ p = lane_in a (load 0 (Head 2) 0) p same is in (omega (arith, at), omega (arith, at)))
-  | inr (inr (inl same)) ↦ (let at : 1 ≡ p = lane_in a (load 0 (Head 1) 5) p same is in (omega (arith, at), omega (arith, at)))
+  | inr (inl same) ↦ (let at : 2 ≡ p = lane_in a (load 0 (Head 2) 0) p same is
+      in (omega (arith, at), omega (arith, at)))
+  | inr (inr (inl same)) ↦ (let at : 1 ≡ p = lane_in a (load 0 (Head 1) 5) p same is
+      in (omega (arith, at), omega (arith, at)))
   | inr (inr (inr none)) ↦ absurd none
 ]
 

@@ -81,7 +81,8 @@ returns-clause-past_a_cell c = record {
   end = inl refl;
 }
 
-unmet : (ks : List ℕ) → HasMet 0 1 ks (load 0 (Link 4) END ∷ []) → HasLoaded 0 (place_past 1 ks) END (load 0 (Link 4) END ∷ []) → ⊥
+unmet : (ks : List ℕ) → HasMet 0 1 ks (load 0 (Link 4) END ∷ [])
+    → HasLoaded 0 (place_past 1 ks) END (load 0 (Link 4) END ∷ []) → ⊥
 unmet [] met has = elim has [
   | inl same ↦ (let no : Link 4 ≡ Head 1 = ap (λ (x : PoolAccess). x.word) same in absurd (cc))
   | inr none ↦ none
@@ -116,7 +117,8 @@ returns-clause-both c = (
     within (suc zero) e = (omega arith, omega arith)
     within (suc (suc p)) e = absurd (cc)
 
-    met : (p : ℕ) → slice_index_or (true ∷ true ∷ []) p false ≡ true → HasMetEnd 0 p (load 0 (Head 1) END ∷ load 0 (Head 0) END ∷ [])
+    met : (p : ℕ) → slice_index_or (true ∷ true ∷ []) p false ≡ true
+        → HasMetEnd 0 p (load 0 (Head 1) END ∷ load 0 (Head 0) END ∷ [])
     met zero e = record { cells = []; met = tt; end = inr (inl refl) }
     met (suc zero) e = record { cells = []; met = tt; end = inl refl }
     met (suc (suc p)) e = absurd (cc)
@@ -146,7 +148,8 @@ not_below (k ∷ ks) has = elim has [
   | inr none ↦ none
 ]
 
-none_below : (h : HasMetEnds 1 2 0 (load 0 (Head 0) END ∷ [])) (p : ℕ) → slice_index_or h.marks p false ≡ true → (1 ≤ p) × (p < 1)
+none_below : (h : HasMetEnds 1 2 0 (load 0 (Head 0) END ∷ [])) (p : ℕ)
+    → slice_index_or h.marks p false ≡ true → (1 ≤ p) × (p < 1)
 none_below h zero e = absurd (let low = (h.within 0 e).0 in omega (arith, low))
 none_below h (suc zero) e = absurd (let at = h.met 1 e in not_below at.cells at.end)
 none_below h (suc (suc p)) e = absurd (let high = (h.within (suc (suc p)) e).1 in omega (arith, high))
@@ -181,7 +184,8 @@ of_another w has = elim has [
   | inr none ↦ none
 ]
 
-none_of_it : (h : HasMetEnds 0 1 4 (load 3 (Head 0) END ∷ [])) (p : ℕ) → slice_index_or h.marks p false ≡ true → (0 ≤ p) × (p < 0)
+none_of_it : (h : HasMetEnds 0 1 4 (load 3 (Head 0) END ∷ [])) (p : ℕ)
+    → slice_index_or h.marks p false ≡ true → (0 ≤ p) × (p < 0)
 none_of_it h p e = absurd (let at = h.met p e in of_another (place_past p at.cells) at.end)
 
 pub returns-clause-same_number : goal.returns-clause-same_number

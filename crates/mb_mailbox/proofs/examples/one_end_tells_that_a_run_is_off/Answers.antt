@@ -13,7 +13,8 @@ one_on f x e = All-cons (λ x. f x ≡ false) x [] e (none_on f)
 
 pub returns-clause-stopped : goal.returns-clause-stopped
 returns-clause-stopped c = λ ends s none one. record {
-  puts = subst (λ (ds : List (PutDone (Unit {0}))). All (λ d. d.off ≡ false) ds) (sym none) (none_on (λ (d : PutDone (Unit {0})). d.off));
+  puts = subst (λ (ds : List (PutDone (Unit {0}))). All (λ d. d.off ≡ false) ds) (sym none)
+      (none_on (λ (d : PutDone (Unit {0})). d.off));
   polls = subst (λ (ds : List (PollDone (Unit {0}))). All (λ d. d.off ≡ false) ds) (sym one)
       (one_on (λ (d : PollDone (Unit {0})). d.off) (record { consumer = s; stopped = true; off = false }) refl);
 }
@@ -21,5 +22,6 @@ returns-clause-stopped c = λ ends s none one. record {
 pub returns-clause-off : goal.returns-clause-off
 returns-clause-off c = λ ends s one on.
     let all = subst (λ (ds : List (PollDone (Unit {0}))). All (λ d. d.off ≡ false) ds) one on.polls in
-    let no : true ≡ false = All-head (λ (d : PollDone (Unit {0})). d.off ≡ false) (record { consumer = s; stopped = false; off = true }) [] all in
+    let no : true ≡ false = All-head (λ (d : PollDone (Unit {0})). d.off ≡ false)
+    (record { consumer = s; stopped = false; off = true }) [] all in
     absurd (cc)

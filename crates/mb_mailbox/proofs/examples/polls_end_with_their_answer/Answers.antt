@@ -12,7 +12,8 @@ use Rattle.mb_mailbox.proofs.examples.polls_end_with_their_answer.Goals as goal
 
 -- a look at the head that finds nothing has an answer
 answered : (s : ConsumerView)
-    → ConsumerStep (claims_at s.seat.table) s.seat.consumer 0 (parts_after [] s) (link_load s.seat.consumer 0 [] 0) None → ⊥
+    → ConsumerStep (claims_at s.seat.table) s.seat.consumer 0 (parts_after [] s)
+    (link_load s.seat.consumer 0 [] 0) None → ⊥
 answered s (looks v past e told) =
     let loaded : Some 0 ≡ Some v = ap value_loaded e in
     let same : 0 ≡ v = cc in
@@ -25,7 +26,8 @@ pub returns-clause-goes_on : goal.returns-clause-goes_on
 returns-clause-goes_on c = λ s a answer led. answered s led.1.0
 
 -- where nothing changed, no access was made
-no_access : (p : ℕ) (done : WorldHistory) (answer : Option Poll) (s : ConsumerView) → HasDone p done answer s s → done ≡ []
+no_access : (p : ℕ) (done : WorldHistory) (answer : Option Poll) (s : ConsumerView)
+    → HasDone p done answer s s → done ≡ []
 no_access p [] answer s d = refl
 no_access p (ToCells a ∷ older) answer s d =
     let e = ap (λ (r : ReaderSeatView). length r.part) d.reader in

@@ -17,7 +17,8 @@ found_one : HasFoundNone 1 0 seven_put → ⊥
 found_one f = elim f.offered [
   | inl is ↦ (let no : false ≡ true = ap (λ (a : PoolAccess). is_fetch a.act) is in absurd (cc))
   | inr (inl is) ↦ (let no : false ≡ true = ap (λ (a : PoolAccess). is_fetch a.act) is in absurd (cc))
-  | inr (inr (inl is)) ↦ (let at : 0 ≡ f.entry.cell = ap (λ (a : PoolAccess). number_of a.act) is in let past = f.past in absurd (omega (arith, at, past)))
+  | inr (inr (inl is)) ↦ (let at : 0 ≡ f.entry.cell = ap (λ (a : PoolAccess). number_of a.act) is
+      in let past = f.past in absurd (omega (arith, at, past)))
   | inr (inr (inr none)) ↦ absurd none
 ]
 
@@ -25,7 +26,8 @@ pub returns-clause-put : goal.returns-clause-put
 returns-clause-put c = record { short = omega arith; had_cells = found_one; stop = inl refl }
 
 pub returns-clause-put_other_call : goal.returns-clause-put_other_call
-returns-clause-put_other_call c = λ s. elim s.stop [ inl is ↦ absurd (omega (arith, is)) | inr last ↦ absurd (omega (arith, last)) ]
+returns-clause-put_other_call c = λ s. elim s.stop
+    [ inl is ↦ absurd (omega (arith, is)) | inr last ↦ absurd (omega (arith, last)) ]
 
 pub returns-clause-put_other_worker : goal.returns-clause-put_other_worker
 returns-clause-put_other_worker c = λ s. elim s.stop [ inl is ↦ absurd (cc) | inr last ↦ absurd (omega (arith, last)) ]
@@ -34,10 +36,20 @@ pub returns-clause-put_all : goal.returns-clause-put_all
 returns-clause-put_all c = λ s. let short = s.short in omega (arith, short)
 
 pub returns-clause-put_found_none : goal.returns-clause-put_found_none
-returns-clause-put_found_none c = λ s. s.had_cells (record { entry = record { cell = 1; value = 8 }; offered = inl refl; past = omega arith })
+returns-clause-put_found_none c = λ s. s.had_cells (record {
+  entry = record { cell = 1; value = 8 };
+  offered = inl refl;
+  past = omega arith;
+})
 
 pub returns-clause-poll : goal.returns-clause-poll
-returns-clause-poll c = record { call = 2; first = omega arith; within = omega arith; most = omega arith; stop = inl refl }
+returns-clause-poll c = record {
+  call = 2;
+  first = omega arith;
+  within = omega arith;
+  most = omega arith;
+  stop = inl refl;
+}
 
 pub returns-clause-poll_not_come_to : goal.returns-clause-poll_not_come_to
 returns-clause-poll_not_come_to c = λ s. let within = s.within in

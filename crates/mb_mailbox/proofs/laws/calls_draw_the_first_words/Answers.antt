@@ -14,7 +14,8 @@ drawn_after s t u ws (v ∷ vs) was now = (now.0, drawn_after s t now.0 ws vs wa
 abbrev words : List ClaimAccess → List ℕ
 words done = map (λ a. a.step.turn.word) done
 
-first_words : (from end budget : ℕ) (made : List Call) (s t : Stream) (old new : ConsumerView) → AreCalls from end budget made s t old new
+first_words : (from end budget : ℕ) (made : List Call) (s t : Stream) (old new : ConsumerView)
+    → AreCalls from end budget made s t old new
     → old.seat.part ≡ [] → AreDrawn s (words new.seat.part) t
 first_words from end budget [] s t old new calls none =
     let same : words new.seat.part ≡ [] = ap (λ (c : ConsumerView). words c.seat.part) calls.1 ∙ ap words none in
@@ -24,9 +25,11 @@ first_words from end budget (c ∷ older) s t old new calls none =
     let mid = calls.1 in
     let poll = calls.3.poll in
     let more : words new.seat.part ≡ words_of poll.accesses ++ words mid.seat.part =
-    ap (λ z. words z.part) poll.done.seat ∙ map-append (λ (a : ClaimAccess). a.step.turn.word) (claim_accesses poll.accesses) mid.seat.part in
+    ap (λ z. words z.part) poll.done.seat ∙ map-append (λ (a : ClaimAccess). a.step.turn.word)
+    (claim_accesses poll.accesses) mid.seat.part in
     subst (λ (ws : List ℕ). AreDrawn s ws t) (sym more)
-    (drawn_after s u t (words mid.seat.part) (words_of poll.accesses) (first_words from end budget older s u old mid calls.2 none) poll.drawn)
+    (drawn_after s u t (words mid.seat.part) (words_of poll.accesses)
+    (first_words from end budget older s u old mid calls.2 none) poll.drawn)
 
 pub returns : goal.returns
 returns c = first_words

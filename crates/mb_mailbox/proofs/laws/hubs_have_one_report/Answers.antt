@@ -5,7 +5,8 @@ use Rattle.std.proofs.Math.Nat.{mul-le-mul_right}
 use Rattle.mb_mailbox.proofs.Lists.{some_same}
 use Rattle.mb_mailbox.proofs.laws.hubs_have_one_report.Goals as goal
 
-lists_same : {X : Type 0} (xs ys : List X) → length xs ≡ length ys → ((i : ℕ) → i < length xs → slice_get xs i ≡ slice_get ys i) → xs ≡ ys
+lists_same : {X : Type 0} (xs ys : List X) → length xs ≡ length ys
+    → ((i : ℕ) → i < length xs → slice_get xs i ≡ slice_get ys i) → xs ≡ ys
 lists_same [] [] e each = refl
 lists_same [] (y ∷ ys) e each = absurd (omega arith)
 lists_same (x ∷ xs) [] e each = absurd (omega arith)
@@ -26,7 +27,8 @@ placed (suc w) n i low =
       p,
       elim (cases_lt c n) [
         | inl less ↦ less
-        | inr not ↦ let most : n * suc w ≤ c * suc w = mul-le-mul_right (suc w) not in absurd (omega (arith, most, is, low))
+        | inr not ↦ let most : n * suc w ≤ c * suc w = mul-le-mul_right (suc w) not
+            in absurd (omega (arith, most, is, low))
       ],
       below,
       is,
@@ -35,7 +37,8 @@ placed (suc w) n i low =
 pub returns : goal.returns
 returns c lanes consumers h r s one two =
     let same : r.lanes ≡ s.lanes = lists_same r.lanes s.lanes (one.lanes_count ∙ sym two.lanes_count)
-    (λ p low. let here : p < lanes = subst (λ n. p < n) one.lanes_count low in one.lane p here ∙ sym (two.lane p here)) in
+    (λ p low. let here : p < lanes = subst (λ n. p < n) one.lanes_count low in one.lane p here
+    ∙ sym (two.lane p here)) in
     let diaries : r.diaries ≡ s.diaries = lists_same r.diaries s.diaries (one.diaries_count ∙ sym two.diaries_count)
     (λ i low.
     let t = placed lanes consumers i (subst (λ n. i < n) one.diaries_count low) in

@@ -16,7 +16,8 @@ at_place d ds = let e : d * 1 + 0 ≡ d = omega arith in ap (slice_get ds) e
 abbrev HasCompetedBy : Option DiaryView → Type 0
 HasCompetedBy o =
     (0 < length (option_map_or (λ (d : DiaryView). d.notes) o []))
-    ⊎ ((length (option_map_or (λ (d : DiaryView). d.notes) o []) ≡ 0) × (option_map_or (λ (d : DiaryView). d.begun) o false ≡ true))
+    ⊎ ((length (option_map_or (λ (d : DiaryView). d.notes) o []) ≡ 0)
+    × (option_map_or (λ (d : DiaryView). d.begun) o false ≡ true))
 
 no_company : (d : ℕ) → d ≢ 0 → HasCompetedBy (slice_get (diary_of 0 (Undecided ∷ []) ∷ diary_of 1 [] ∷ []) d) → ⊥
 no_company zero ne h = ne refl
@@ -28,7 +29,8 @@ no_company (suc (suc d)) ne (inr h) = false≢true h.1
 pub returns-clause-alone : goal.returns-clause-alone
 returns-clause-alone c = λ h.
     let t = h 0 0 0 refl in
-    no_company t.1.0 t.1.1 (subst HasCompetedBy (at_place t.1.0 (diary_of 0 (Undecided ∷ []) ∷ diary_of 1 [] ∷ [])) t.1.2)
+    no_company t.1.0 t.1.1 (subst HasCompetedBy
+    (at_place t.1.0 (diary_of 0 (Undecided ∷ []) ∷ diary_of 1 [] ∷ [])) t.1.2)
 
 -- a note stands on lane 0
 no_lane : (d p : ℕ) (ds : List DiaryView) → diary d (suc p) (one_left ds) ≡ None

@@ -21,18 +21,21 @@ returns-in_err-matches-clause-refused g c =
 pub returns-in_default-clause-alone : goal.returns-in_default-clause-alone
 returns-in_default-clause-alone g c =
     λ name choice alone.
-    let named = alone_named _ _ c.in_ok-matches.matches name choice c.in_ok-command.ensures alone c.in_ok-matches.ensures.ok.2 in
+    let named = alone_named _ _ c.in_ok-matches.matches name choice c.in_ok-command.ensures alone
+    c.in_ok-matches.ensures.ok.2 in
     absurd (not_some _ c.in_default.is (c.choice_of.ensures.each choice named))
 
 pub returns-in_default-clause-refused : goal.returns-in_default-clause-refused
 returns-in_default-clause-refused g c =
     λ choice taken named.
-    let found = named_in _ _ c.in_ok-matches.matches choice c.in_ok-command.ensures c.in_ok-matches.ensures.ok.2 named in
+    let found = named_in _ _ c.in_ok-matches.matches choice c.in_ok-command.ensures
+    c.in_ok-matches.ensures.ok.2 named in
     absurd (not_some _ c.in_default.is (c.choice_of.ensures.each choice found))
 
 pub returns-clause-choice : goal.returns-clause-choice
 returns-clause-choice g c =
-    told_in _ _ c.in_ok-matches.matches c.in-Some.choice c.in_ok-command.ensures c.in_ok-matches.ensures.ok.2 c.in-Some.ensures.named
+    told_in _ _ c.in_ok-matches.matches c.in-Some.choice c.in_ok-command.ensures
+    c.in_ok-matches.ensures.ok.2 c.in-Some.ensures.named
 
 pub returns-clause-taken : goal.returns-clause-taken
 returns-clause-taken g c =
@@ -53,5 +56,6 @@ returns-in_err-matches-clause-kinds g c =
 
 pub returns-in_default-clause-kinds : goal.returns-in_default-clause-kinds
 returns-in_default-clause-kinds g c =
-    unnamed _ _ c.in_ok-matches.matches _ c.choice_of.result c.in_ok-command.ensures c.in_ok-matches.ensures.ok.2 c.in_default.is
+    unnamed _ _ c.in_ok-matches.matches _ c.choice_of.result c.in_ok-command.ensures
+    c.in_ok-matches.ensures.ok.2 c.in_default.is
     c.choice_of.ensures.each c.in_ok-error.ensures.kind

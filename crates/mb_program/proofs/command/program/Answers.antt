@@ -8,8 +8,10 @@ returns c =
     let ratify = ap (λ (a : App). a.top) c.command_named.ensures.app in
     let replay = ap (λ (a : App). a.top) c.command_named-2.ensures.app in
     let run = c.in_ok-run_command.ensures.app in
-    let with_ratify = c.in_ok-subcommand.ensures.shape c.command_named.ensures.local ∙ ap₂ with_subcommand c.in_ok-program_alone.ensures ratify in
-    let with_replay = c.in_ok-subcommand-2.ensures.shape c.command_named-2.ensures.local ∙ ap₂ with_subcommand with_ratify replay in
+    let with_ratify = c.in_ok-subcommand.ensures.shape c.command_named.ensures.local
+    ∙ ap₂ with_subcommand c.in_ok-program_alone.ensures ratify in
+    let with_replay = c.in_ok-subcommand-2.ensures.shape c.command_named-2.ensures.local
+    ∙ ap₂ with_subcommand with_ratify replay in
     IfOk-weaker c.subcommand-3.result _ _ (λ r added. (
       run.0,
       run.1,

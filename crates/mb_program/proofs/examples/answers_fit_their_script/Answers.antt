@@ -20,7 +20,8 @@ same : (bytes : List ℕ) (s t : Script) → script_of bytes ≡ Ok s → script
 same bytes s t e f = let both : ◌≡◌ {A = Result Script RatifyFault} (Ok s) (Ok t) = sym e ∙ f in cc
 
 -- a script of nobody has an empty text
-no_text : (entries : List Entry) (outputs : List (Option Out)) → IsTraceOf (nobody 2) entries outputs → trace_text entries outputs ≡ []
+no_text : (entries : List Entry) (outputs : List (Option Out))
+    → IsTraceOf (nobody 2) entries outputs → trace_text entries outputs ≡ []
 no_text [] [] made = refl
 no_text (e ∷ entries) outputs made = absurd made.entries
 no_text [] (out ∷ outputs) made = let none = made.processes in absurd (cc)
@@ -39,5 +40,6 @@ returns-clause-bad_line c = λ a. let read = a.read in absurd (cc)
 
 pub returns-clause-bad_values : goal.returns-clause-bad_values
 returns-clause-bad_values c =
-    λ a. let refused : ◌≡◌ {A = Option RatifyFault} (Some BadValues) None = ap refused_as (sym (same _ _ _ a.read reads_none)) ∙ a.accepted in
+    λ a. let refused : ◌≡◌ {A = Option RatifyFault} (Some BadValues) None = ap refused_as
+    (sym (same _ _ _ a.read reads_none)) ∙ a.accepted in
     absurd (cc)

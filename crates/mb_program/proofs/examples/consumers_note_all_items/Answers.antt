@@ -14,7 +14,8 @@ filtered : {X : Type 0} (f : X → Bool) (xs : List X) → length (filter f xs) 
 filtered f [] = omega arith
 filtered f (x ∷ xs) = filtered_on f x xs (f x) refl (filtered f xs)
 
-mapped_on : {X Y : Type 0} (f : X → Option Y) (x : X) (xs : List X) (o : Option Y) → f x ≡ o → length (filter_map f xs) ≤ length xs
+mapped_on : {X Y : Type 0} (f : X → Option Y) (x : X) (xs : List X) (o : Option Y) → f x ≡ o
+    → length (filter_map f xs) ≤ length xs
     → length (filter_map f (x ∷ xs)) ≤ suc (length xs)
 mapped_on f x xs (Some y) e rest = rw e (omega (arith, rest))
 mapped_on f x xs None e rest = rw e (omega (arith, rest))
@@ -49,7 +50,8 @@ returns-clause-one_reader_for_all c = λ own. let same : 0 ≡ 1 = own 1 in absu
 
 pub returns-clause-short_run : goal.returns-clause-short_run
 returns-clause-short_run c = λ x short.
-    let reads : length (part (Reader (x.histories.reader_of 0)) x.histories.pool) ≤ length x.histories.pool = filtered _ _ in
+    let reads : length (part (Reader (x.histories.reader_of 0)) x.histories.pool) ≤ length
+    x.histories.pool = filtered _ _ in
     let claims : length (consumer_part 0 x.histories.claims) ≤ length x.histories.claims = mapped _ _ in
     elim (x.noted 0 0 (omega arith) (omega arith)) [
       | inl is ↦ (let none : 0 ≡ 1 = is in absurd (omega (arith, none)))

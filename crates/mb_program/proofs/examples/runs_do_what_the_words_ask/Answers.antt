@@ -70,7 +70,8 @@ pub returns-clause-done : goal.returns-clause-done
 returns-clause-done c = ((Ratify, names_ratify, (Ok tt, answered, refl)), refl)
 
 pub returns-clause-done_and_told : goal.returns-clause-done_and_told
-returns-clause-done_and_told c = λ run. let long : 1 ≡ 0 = ap (λ (l : List ℕ). length l) run.1 in absurd (omega (arith, long))
+returns-clause-done_and_told c = λ run. let long : 1 ≡ 0 = ap (λ (l : List ℕ). length l) run.1
+    in absurd (omega (arith, long))
 
 pub returns-clause-fault : goal.returns-clause-fault
 unfolding digits
@@ -98,11 +99,13 @@ unfolding clap_on_literals
 returns-clause-refused c = (refl, inr (inl (inl refl)), told, λ choice taken named. absurd (cc))
 
 pub returns-clause-refused_and_read : goal.returns-clause-refused_and_read
-returns-clause-refused_and_read c = λ run. let long : 0 ≡ 1 = ap (λ (l : List ℕ). length l) run.0 in absurd (omega (arith, long))
+returns-clause-refused_and_read c = λ run. let long : 0 ≡ 1 = ap (λ (l : List ℕ). length l) run.0
+    in absurd (omega (arith, long))
 
 pub returns-clause-refused_on_the_output : goal.returns-clause-refused_on_the_output
 returns-clause-refused_on_the_output c = λ run.
-    let long : 5 ≡ 0 = ap (λ (l : List ℕ). length l) (run.2.1 (λ is. absurd (cc)) (λ is. absurd (cc))).0 in absurd (omega (arith, long))
+    let long : 5 ≡ 0 = ap (λ (l : List ℕ). length l)
+    (run.2.1 (λ is. absurd (cc)) (λ is. absurd (cc))).0 in absurd (omega (arith, long))
 
 pub returns-clause-refused_and_done : goal.returns-clause-refused_and_done
 returns-clause-refused_and_done c = λ run.
@@ -126,7 +129,8 @@ returns-clause-help_on_the_errors c = λ run.
 pub returns-clause-help_not_asked : goal.returns-clause-help_not_asked
 returns-clause-help_not_asked c = λ run. elim run.1 [
   | inl is ↦ absurd (cc)
-  | inr (inl among) ↦ (let one : IsAmong DisplayHelp (UnknownArgument ∷ []) = subst (λ kinds. IsAmong DisplayHelp kinds) one_word_more among in
+  | inr (inl among) ↦ (let one : IsAmong DisplayHelp (UnknownArgument ∷ []) =
+      subst (λ kinds. IsAmong DisplayHelp kinds) one_word_more among in
       elim one [ inl is ↦ absurd (cc) | inr none ↦ absurd none ])
   | inr (inr other) ↦ (let is : DisplayHelp ≡ InvalidSubcommand = other.0 in absurd (cc))
 ]

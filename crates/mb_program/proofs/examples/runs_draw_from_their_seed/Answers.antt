@@ -26,17 +26,21 @@ record HasDrawn (source : Stream) (done : List ClaimAccess) : Type 0 where
   drawn : AreDrawn source (map (λ a. a.step.turn.word) done) left
 
 module _ (law : Law) (may_stop may_pass : Who → ℕ → Type 0) where
-  drawn_by : (from end budget c : ℕ) (source : Stream) (l : ConsumerLeft) → WasPolled may_stop may_pass from end budget c source l → HasDrawn source l.claimed
+  drawn_by : (from end budget c : ℕ) (source : Stream) (l : ConsumerLeft)
+      → WasPolled may_stop may_pass from end budget c source l → HasDrawn source l.claimed
   drawn_by from end budget c source l was =
       let none = was.none in
       let part = nil_from_length was.first.seat.part (omega (arith, none)) in
       record {
         left = was.polled.left;
-        drawn = subst (λ (done : List ClaimAccess). AreDrawn source (map (λ a. a.step.turn.word) done) was.polled.left) (sym was.claimed)
-            (law from end budget was.polled.called.made source was.polled.left was.first was.last was.polled.called.each part);
+        drawn = subst (λ (done : List ClaimAccess). AreDrawn source
+            (map (λ a. a.step.turn.word) done) was.polled.left) (sym was.claimed)
+            (law from end budget was.polled.called.made source was.polled.left was.first was.last
+            was.polled.called.each part);
       }
 
-  drawn_at : (from end budget n : ℕ) (ss : List Stream) (ls : List ConsumerLeft) (c : ℕ) (source : Stream) → WerePolled may_stop may_pass from end budget n ss ls
+  drawn_at : (from end budget n : ℕ) (ss : List Stream) (ls : List ConsumerLeft) (c : ℕ)
+      (source : Stream) → WerePolled may_stop may_pass from end budget n ss ls
       → slice_get ss c ≡ Some source → HasDrawn source (taken_part (map (λ l. Some l.claimed) ls) c)
   drawn_at from end budget n [] [] c source were at = absurd (cc)
   drawn_at from end budget n [] (l ∷ ls) c source were at = absurd were
@@ -44,7 +48,8 @@ module _ (law : Law) (may_stop may_pass : Who → ℕ → Type 0) where
   drawn_at from end budget n (s ∷ ss) (l ∷ ls) zero source were at =
       let same : s ≡ source = cc in
       subst (λ (z : Stream). HasDrawn z l.claimed) same (drawn_by from end budget n s l were.0)
-  drawn_at from end budget n (s ∷ ss) (l ∷ ls) (suc c) source were at = drawn_at from end budget (suc n) ss ls c source were.1 at
+  drawn_at from end budget n (s ∷ ss) (l ∷ ls) (suc c) source were at = drawn_at from end budget
+      (suc n) ss ls c source were.1 at
 
 has_drawn : Law → (o : Options) (r : ReportView) (x : IsRunReport o r) (c : ℕ) → c < o.consumers
     → HasDrawn (words_from (source_from o.seed c)) (consumer_part c x.histories.claims)
@@ -52,9 +57,11 @@ has_drawn law o r x c low =
     let run = x.run in
     let at = place_of (λ c. words_from (source_from o.seed c)) 0 o.consumers c low in
     let source : 0 + c ≡ c = omega arith in
-    let words : slice_get _ c ≡ Some (words_from (source_from o.seed c)) = at ∙ ap (λ n. Some (words_from (source_from o.seed n))) source in
+    let words : slice_get _ c ≡ Some (words_from (source_from o.seed c)) = at
+    ∙ ap (λ n. Some (words_from (source_from o.seed n))) source in
     let drawn = drawn_at law (λ _ _. ⊥) (λ _ _. Unit {0}) _ _ _ _ _ run.called.consumers c _ run.called.polls words in
-    let taken = sym (ap (λ hs. consumer_part c hs.claims) run.histories) ∙ run.gathered.claims c ∙ ap (λ roll. taken_part roll c) run.called.run.claimed in
+    let taken = sym (ap (λ hs. consumer_part c hs.claims) run.histories) ∙ run.gathered.claims c
+    ∙ ap (λ roll. taken_part roll c) run.called.run.claimed in
     subst (λ (done : List ClaimAccess). HasDrawn (words_from (source_from o.seed c)) done) (sym taken) drawn
 
 pub returns-clause-words : goal.returns-clause-words
@@ -64,5 +71,6 @@ returns-clause-words k o r x c low =
 pub returns-clause-other_seed : goal.returns-clause-other_seed
 returns-clause-other_seed k o r x a some one other =
     let its = has_drawn k.calls_draw_the_first_words.ensures o r x 0 some in
-    let first = subst (λ (done : List ClaimAccess). AreDrawn (words_from (source_from o.seed 0)) (map (λ a. a.step.turn.word) done) its.left) one its.drawn in
+    let first = subst (λ (done : List ClaimAccess). AreDrawn (words_from (source_from o.seed 0))
+    (map (λ a. a.step.turn.word) done) its.left) one its.drawn in
     other (ap (λ z. z.0) first.2 ∙ ap (λ (u : Stream). (next_u64 u).0) first.1)

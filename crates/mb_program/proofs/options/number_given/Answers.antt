@@ -7,5 +7,6 @@ use Rattle.mb_program.proofs.options.number_given.Goals as goal
 pub returns : goal.returns
 returns c =
     c.unwrap_or.ensures
-    ∙ number_read _ (λ bs r. ParsesUnsigned 64 10 bs r × ExplainsUnsignedError 10 bs r × HasUnsignedDigitsIfOk bs r) c.args.default (found_of c.args.given.now) c.args.name.now _
+    ∙ number_read _ (λ bs r. ParsesUnsigned 64 10 bs r × ExplainsUnsignedError 10 bs r
+    × HasUnsignedDigitsIfOk bs r) c.args.default (found_of c.args.given.now) c.args.name.now _
     (λ u x g. g.0) c.get_one.ensures.none c.get_one.ensures.value

@@ -11,7 +11,8 @@ returns c =
     let four = c.in_ok-arg-4.ensures in
     let five = c.in_ok-arg-5.ensures in
     let six = c.in_ok-arg-6.ensures in
-    let rules_1 = one.shape c.any_number.ensures.local ∙ ap₂ with_rule c.command_named.ensures.app c.any_number.ensures.rule in
+    let rules_1 = one.shape c.any_number.ensures.local
+    ∙ ap₂ with_rule c.command_named.ensures.app c.any_number.ensures.rule in
     let rules_2 = two.shape c.any_number-2.ensures.local ∙ ap₂ with_rule rules_1 c.any_number-2.ensures.rule in
     let rules_3 = three.shape c.any_number-3.ensures.local ∙ ap₂ with_rule rules_2 c.any_number-3.ensures.rule in
     let rules_4 = four.shape c.any_number-4.ensures.local ∙ ap₂ with_rule rules_3 c.any_number-4.ensures.rule in
@@ -24,6 +25,13 @@ returns c =
     let local_5 = five.globals ∙ ap₂ ◌||◌ local_4 c.number.ensures.local in
     let local_6 = six.globals ∙ ap₂ ◌||◌ local_5 c.any_number-5.ensures.local in
     record {
-      app = IfOk-weaker c.arg-7.result _ _ (λ r seven. (_, refl, seven.shape c.named.ensures.local ∙ ap₂ with_rule rules_6 c.named.ensures.rule)) c.arg-7.ensures;
-      local = IfOk-weaker c.arg-7.result _ _ (λ r seven. seven.globals ∙ ap₂ ◌||◌ local_6 c.named.ensures.local) c.arg-7.ensures;
+      app = IfOk-weaker c.arg-7.result _ _
+          (λ r seven. (
+            _,
+            refl,
+            seven.shape c.named.ensures.local
+                ∙ ap₂ with_rule rules_6 c.named.ensures.rule,
+          )) c.arg-7.ensures;
+      local = IfOk-weaker c.arg-7.result _ _
+          (λ r seven. seven.globals ∙ ap₂ ◌||◌ local_6 c.named.ensures.local) c.arg-7.ensures;
     }

@@ -12,9 +12,11 @@ returns g c =
       c.match-format.printed,
       ap (λ kind. ending.Refused kind c.match-format.printed) c.kind.ensures,
       elim c.match-format.branch [
-        | in-Ok w ↦ told_errors output errors _ _ _ _ _ _ w.use_stderr.result w.print-printed.result _ w.as_bytes.result.now w.use_stderr.ensures
+        | in-Ok w ↦ told_errors output errors _ _ _ _ _ _ w.use_stderr.result w.print-printed.result
+            _ w.as_bytes.result.now w.use_stderr.ensures
             w.if-use_stderr.true w.writer-is w.errors-is w.printed-is w.print-printed.ensures
-        | in-Ok-2 w ↦ told_output output errors _ _ _ _ _ _ w.use_stderr.result w.print-printed-in-Ok-2.result _ w.as_bytes-in-Ok-2.result.now w.use_stderr.ensures
+        | in-Ok-2 w ↦ told_output output errors _ _ _ _ _ _ w.use_stderr.result
+            w.print-printed-in-Ok-2.result _ w.as_bytes-in-Ok-2.result.now w.use_stderr.ensures
             w.if-use_stderr.false w.writer-is w.errors-is w.printed-is w.print-printed-in-Ok-2.ensures
         | in-Err w ↦ told_nobody output errors _ _ _ _ _ _ w.writer-is w.errors-is w.printed-is
       ],

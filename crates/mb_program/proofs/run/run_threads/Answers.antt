@@ -10,13 +10,15 @@ returns-in_err-report g c =
 
 pub returns-in_err-text : goal.returns-in_err-text
 returns-in_err-text g c =
-    ends_without_text _ _ _ _ NoMemory c.in_ok-report.report c.from_residual-in_err-text.ensures.1 refl c.in_ok-report.ensures.refused
+    ends_without_text _ _ _ _ NoMemory c.in_ok-report.report c.from_residual-in_err-text.ensures.1
+    refl c.in_ok-report.ensures.refused
 
 pub returns-in_err-write_all : goal.returns-in_err-write_all
 returns-in_err-write_all g c =
     let made = c.in_ok-report.ensures in
     let wrote = c.in_err-write_all.ensures in
-    ends_half_written _ _ _ _ _ WriteFault c.in_ok-report.report c.as_bytes.result.now c.from_residual-in_err-write_all.ensures.1 refl made.refused
+    ends_half_written _ _ _ _ _ WriteFault c.in_ok-report.report c.as_bytes.result.now
+    c.from_residual-in_err-write_all.ensures.1 refl made.refused
     (c.in_ok-report.report, made.report, c.as_bytes.ensures.value ∙ c.in_ok-text.ensures) wrote.err wrote.fault
 
 pub returns : goal.returns

@@ -44,7 +44,8 @@ puts_it m h n (l ∷ []) one puts parts fronts told stopped cut full = at l.stop
         elim (stopped.0 is).stop [ inl stops ↦ stops | inr last ↦ omega (arith, last, long) ]
     at false is =
         let long = ap length none in
-        let all = full 0 l.part (ap (λ (ps : List (Option History)). slice_get ps 0) parts) (cut.0 is (omega (arith, long))) in
+        let all = full 0 l.part (ap (λ (ps : List (Option History)). slice_get ps 0) parts)
+        (cut.0 is (omega (arith, long))) in
         omega (arith, all, one)
 
 pub returns-clause-not_put : goal.returns-clause-not_put
@@ -56,7 +57,8 @@ returns-clause-not_put c = λ terms cell played.
     let cells : h.cells.table.size.cells ≡ m.cells.size.cells = ap (λ (t : CellsName). t.size.cells) run.of.cells in
     let one = ap (λ (s : PoolSize). s.cells) run.size ∙ cell in
     let many : 1 ≡ m.cells.size.lanes = run.told.lanes_count in
-    puts_it m h (consumer_count m.claims.layout) lanes one run.worked.run.puts run.worked.run.parts run.worked.run.fronts
+    puts_it m h (consumer_count m.claims.layout) lanes one run.worked.run.puts run.worked.run.parts
+    run.worked.run.fronts
     (run.told.lane 0 (omega (arith, many)))
     (subst (λ k. AreStoppedPuts at_no_call k 0 dealt lanes) cells run.worked.stopped_puts)
     (subst (λ k. AreCutByCells k 0 dealt lanes) cells run.worked.cut) run.full

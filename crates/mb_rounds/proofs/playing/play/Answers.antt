@@ -15,7 +15,8 @@ returns-clause-played g c =
     let long : length items ≡ (plan_in c.args.setup.now).lanes = search rules in
     let copied = ap plan_in c.copy.ensures in
     played c.in-Ok-new.mailbox c.in-Ok-new.hub c.work.new.hub c.in-Ok-gather.report
-    (terms_of c.args.setup.now c.args.means.budget (map g.R.Rng.stream rngs)) (lists_in items) _ _ (vec_len c.args.means.sources) _
+    (terms_of c.args.setup.now c.args.means.budget (map g.R.Rng.stream rngs)) (lists_in items) _ _
+    (vec_len c.args.means.sources) _
     (c.in-Ok-new.ensures.plan ∙ copied) (c.in-Ok-new.ensures.size ∙ ap size_of copied)
     (sym long ∙ count_lists items) (count ∙ count_sources g.R.Rng.stream rngs)
     c.in-Ok-new.ensures.empty c.work.ensures.of c.in-Ok-work.ensures.worked c.in-Ok-work.ensures.called

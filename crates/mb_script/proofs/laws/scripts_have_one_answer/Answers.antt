@@ -12,4 +12,5 @@ returns c =
     let same : b.script ≡ a.script = cc in
     one_answer bytes text other a.script c.named_tables_are_lawful.ensures.lawful c.one_step.ensures.empty
     c.replays_do_not_differ.ensures.replay c.replays_do_not_differ.ensures.lawful c.worlds_are_sound.ensures.sound
-    c.histories_have_one_report.ensures a.read a.replayed (subst (λ (s : Script). IsReplayText s.plan s.events other) same b.replayed)
+    c.histories_have_one_report.ensures a.read a.replayed
+    (subst (λ (s : Script). IsReplayText s.plan s.events other) same b.replayed)

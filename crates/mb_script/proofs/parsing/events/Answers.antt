@@ -11,8 +11,12 @@ returns-then-len-eq-MAX_EVENTS g c =
     let done = c.loop-line.events.items in
     let read = rw c.in-Some.ensures.lines at c.loop-line.invariant.read in
     let same : vec_len c.loop-line.events ≡ length done = c.loop-line.events.ok.0 in
-    let many : length done ≡ 20000 = sym same ∙ sym c.len.ensures ∙ c.if-len-eq-MAX_EVENTS.true in
-    (λ w. line_too_many plan done (length done + 2) c.in-Some.line.now _ _ (omega (arith, many)) read, search rules, search rules)
+    let many : length done ≡ 20000 = sym same ∙ sym c.len.ensures ∙ c.if-len-eq-MAX_EVENTS.true in (
+      λ w. line_too_many plan done (length done + 2) c.in-Some.line.now _ _ (omega (arith, many))
+          read,
+      search rules,
+      search rules,
+    )
 
 pub returns-in_err-event_at : goal.returns-in_err-event_at
 returns-in_err-event_at g c =
@@ -24,7 +28,8 @@ returns-in_err-event_at g c =
     let same : vec_len c.loop-line.events ≡ length done = c.loop-line.events.ok.0 in
     let len : c.len-in-Some.result ≡ length done = c.len-in-Some.ensures ∙ same in
     let below : n ≤ 20001 = omega (arith, few, same, c.len.ensures, c.if-len-eq-MAX_EVENTS.false) in
-    fails_whole _ _ _ (event_at plan n c.in-Some.line.now) _ c.from_residual.ensures.1 (rw len at c.in_err-event_at.ensures)
+    fails_whole _ _ _ (event_at plan n c.in-Some.line.now) _ c.from_residual.ensures.1
+    (rw len at c.in_err-event_at.ensures)
     (λ e. line_fails plan done n c.in-Some.line.now _ _ _ below read e)
 
 pub loop-line-preserved : goal.loop-line-preserved
@@ -44,7 +49,8 @@ loop-line-preserved g c =
     record {
       text = search rules;
       few = rw c.in_ok-push.ensures.items (omega (arith, more, below));
-      read = rw (c.in_ok-push.ensures.items, next) (line_works plan done n c.in-Some.line.now _ event _ below read works);
+      read = rw (c.in_ok-push.ensures.items, next)
+          (line_works plan done n c.in-Some.line.now _ event _ below read works);
     }
 
 pub returns : goal.returns

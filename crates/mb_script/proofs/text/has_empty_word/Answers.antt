@@ -7,4 +7,5 @@ pub returns : goal.returns
 returns c =
     let split = c.split.ensures in
     any_from_yields_List (λ w. nat_eq (length w) 0) _ _ _ c.any.ensures.ran
-    (YieldsList-from_str_split 32 c.args.line.now (lit< tt) split.text split.has_more split.pattern) (λ x b q k. search (rules, tests))
+    (YieldsList-from_str_split 32 c.args.line.now (lit< tt) split.text split.has_more split.pattern)
+    (λ x b q k. search (rules, tests))

@@ -13,4 +13,9 @@ returns-in-Some c =
     record { words = cut; some = some_word c.in-Some.rest.now; shorter = omega (arith, long, h.2) }
 
 pub returns-in-None : goal.returns-in-None
-returns-in-None c = record { words = words_last c.args.line.now (c.in-None.ensures.byte (lit< tt) (λ w o f. f)); some = tt; shorter = tt }
+returns-in-None c = record {
+  words = words_last c.args.line.now
+      (c.in-None.ensures.byte (lit< tt) (λ w o f. f));
+  some = tt;
+  shorter = tt;
+}

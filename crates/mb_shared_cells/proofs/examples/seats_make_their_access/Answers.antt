@@ -35,7 +35,8 @@ returns-clause-looked c = λ id. (
   (
     record {
       older = [];
-      lawful = c.one_step.ensures.reader one_by_one [] 0 (Head 0) (c.one_step.ensures.empty one_by_one (omega arith)) (omega arith);
+      lawful = c.one_step.ensures.reader one_by_one [] 0 (Head 0)
+          (c.one_step.ensures.empty one_by_one (omega arith)) (omega arith);
       own = refl;
       lanes = λ p theirs e. absurd (cc);
     },

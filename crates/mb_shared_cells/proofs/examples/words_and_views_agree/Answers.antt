@@ -42,7 +42,8 @@ new_hub = record { sized = refl; here = refl; lanes = refl; readers = refl; part
 
 new_fits : (seat : ℕ) (v : View) → get_elem? (first_view one_by_one ∷ []) seat ≡ some v
     → FitsView one_by_one nothing 0 seat v
-new_fits zero v e = subst (λ x. FitsView one_by_one nothing 0 0 x) (some-injective (first_view one_by_one) v e) (new_hub, refl)
+new_fits zero v e = subst (λ x. FitsView one_by_one nothing 0 0 x)
+    (some-injective (first_view one_by_one) v e) (new_hub, refl)
 new_fits (suc seat) v e = absurd (some-ne-none v (sym e))
 
 pub returns-clause-new : goal.returns-clause-new
@@ -100,12 +101,22 @@ put_hub : FitsView one_by_one putting 1 0 hub_of_one
 put_hub = (record { sized = refl; here = refl; lanes = refl; readers = refl; parts = none_taken }, refl)
 
 put_seat : FitsView one_by_one putting 1 1 (lane_with one_put)
-put_seat = (refl, (λ e. omega (arith, e)), record { here = refl; enrolled = omega arith; part = refl }, λ p theirs e. absurd (cc))
+put_seat = (
+  refl,
+  (λ e. omega (arith, e)),
+  record {
+    here = refl;
+    enrolled = omega arith;
+    part = refl;
+  },
+  λ p theirs e. absurd (cc),
+)
 
 put_fits : (seat : ℕ) (v : View) → get_elem? (hub_of_one ∷ lane_with one_put ∷ []) seat ≡ some v
     → FitsView one_by_one putting 1 seat v
 put_fits zero v e = subst (λ x. FitsView one_by_one putting 1 0 x) (some-injective hub_of_one v e) put_hub
-put_fits (suc zero) v e = subst (λ x. FitsView one_by_one putting 1 1 x) (some-injective (lane_with one_put) v e) put_seat
+put_fits (suc zero) v e = subst (λ x. FitsView one_by_one putting 1 1 x)
+    (some-injective (lane_with one_put) v e) put_seat
 put_fits (suc (suc seat)) v e = absurd (some-ne-none v (sym e))
 
 pub returns-clause-put : goal.returns-clause-put

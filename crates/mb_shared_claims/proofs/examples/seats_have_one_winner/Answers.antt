@@ -11,7 +11,8 @@ returns g = λ k words views i j c d cell xs ys state one other won too.
     let h = told.0 in
     let cs = claims_of_size k in
     let cut = g.accesses_lengthen_one_part.ensures.cells in
-    let winner = g.claims_have_one_winner.ensures cs h cell (g.layouts_are_sound.ensures.table k.layout) told.1.lawful in
+    let winner = g.claims_have_one_winner.ensures cs h cell
+    (g.layouts_are_sound.ensures.table k.layout) told.1.lawful in
     let few = laws.roster k words views state in
     let here : part_on c cell xs ≡ part_on c cell h = ap (part_on c cell) (told.2 i c xs one) ∙ cut c cell h in
     let there : part_on d cell ys ≡ part_on d cell h = ap (part_on d cell) (told.2 j d ys other) ∙ cut d cell h in

@@ -20,10 +20,12 @@ returns-clause-access g k size words views id own cell word done next held is lo
     let address = address_in cs cell next.object (reg_of next.op) in
     let mine = s.parts id own done (Standing size own done, is, (refl, refl)) in (
       _,
-      after_access k words views held.0 s size id own address (after_op next.op (found_in cs cell next.object next.op words))
+      after_access k words views held.0 s size id own address
+          (after_op next.op (found_in cs cell next.object next.op words))
           done (access_in cs own cell next.object next.op word words) is refl g.accesses_lengthen_one_part.ensures.own
           g.accesses_lengthen_one_part.ensures.others
-          (g.addresses_are_apart.ensures.within (quorums_of k.layout).registers (kinds_of k.layout) k.cells cell next.object
+          (g.addresses_are_apart.ensures.within (quorums_of k.layout).registers (kinds_of k.layout)
+          k.cells cell next.object
           (reg_of next.op) has low)
           (may word words held.0.history s.memory (sym mine.2) small),
     )
@@ -36,7 +38,8 @@ returns-clause-draw g k size words views id roll held is room =
     let counted : count ≡ length roll = fits.2 ∙ sym fits.1.1 in (
       held.0,
       after_drawing k words views held.0 s size id (suc count) roll is refl (omega arith)
-          (g.other_words_are_free.ensures (claims_of_size k) (roster k) (suc count) words held.0.history (le_refl (roster k))
+          (g.other_words_are_free.ensures (claims_of_size k) (roster k) (suc count) words
+          held.0.history (le_refl (roster k))
           s.memory),
     )
 

@@ -12,27 +12,42 @@ use Rattle.mb_world.proofs.examples.events_are_not_misanswered.Goals as goal
 
 pub returns-clause-nothing : goal.returns-clause-nothing
 returns-clause-nothing c (a, entry) =
-    let same = (c.replays_do_not_differ.ensures.entry two_by_two (event.Step 1 1 7) (answer.Looked look.Nothing) (answer.Looked (look.Cell 1)) a (Some (link_load 1 1 [] 2)) first_lost (c.named_tables_are_lawful.ensures.lawful Unary 2 (omega arith)) c.worlds_go_on.ensures.came entry c.events_are_replayed.ensures.found).0 in
+    let same = (c.replays_do_not_differ.ensures.entry two_by_two (event.Step 1 1 7)
+    (answer.Looked look.Nothing) (answer.Looked (look.Cell 1)) a (Some (link_load 1 1 [] 2))
+    first_lost (c.named_tables_are_lawful.ensures.lawful Unary 2 (omega arith))
+    c.worlds_go_on.ensures.came entry c.events_are_replayed.ensures.found).0 in
     cc
 
 pub returns-clause-unclaimed : goal.returns-clause-unclaimed
 returns-clause-unclaimed c (a, entry) =
-    let same = (c.replays_do_not_differ.ensures.entry two_by_two (event.Step 1 1 0) (answer.Took 1 6) (first_claimed) a (Some (claim_step 1 1 first_step)) second_met (c.named_tables_are_lawful.ensures.lawful Unary 2 (omega arith)) c.worlds_go_on.ensures.met entry c.events_are_replayed.ensures.claimed).0 in
+    let same = (c.replays_do_not_differ.ensures.entry two_by_two (event.Step 1 1 0)
+    (answer.Took 1 6) (first_claimed) a (Some (claim_step 1 1 first_step)) second_met
+    (c.named_tables_are_lawful.ensures.lawful Unary 2 (omega arith))
+    c.worlds_go_on.ensures.met entry c.events_are_replayed.ensures.claimed).0 in
     cc
 
 pub returns-clause-idle : goal.returns-clause-idle
 returns-clause-idle c (a, entry) =
-    let same = (c.replays_do_not_differ.ensures.entry two_by_two (event.Push 0) (answer.Pushed push.Idle) (answer.Pushed (push.Item 0)) a (Some (stores 0 (Item 0) 5)) offered (c.named_tables_are_lawful.ensures.lawful Unary 2 (omega arith)) c.worlds_go_on.ensures.offered entry c.events_are_replayed.ensures.pushed).0 in
+    let same = (c.replays_do_not_differ.ensures.entry two_by_two (event.Push 0)
+    (answer.Pushed push.Idle) (answer.Pushed (push.Item 0)) a (Some (stores 0 (Item 0) 5))
+    offered (c.named_tables_are_lawful.ensures.lawful Unary 2 (omega arith))
+    c.worlds_go_on.ensures.offered entry c.events_are_replayed.ensures.pushed).0 in
     cc
 
 pub returns-clause-unnamed : goal.returns-clause-unnamed
 returns-clause-unnamed c (a, entry) =
-    let same = (c.replays_do_not_differ.ensures.entry two_by_two (event.Step 1 1 0) (answer.NoConsumer) (first_claimed) a (Some (claim_step 1 1 first_step)) second_met (c.named_tables_are_lawful.ensures.lawful Unary 2 (omega arith)) c.worlds_go_on.ensures.met entry c.events_are_replayed.ensures.claimed).0 in
+    let same = (c.replays_do_not_differ.ensures.entry two_by_two (event.Step 1 1 0)
+    (answer.NoConsumer) (first_claimed) a (Some (claim_step 1 1 first_step)) second_met
+    (c.named_tables_are_lawful.ensures.lawful Unary 2 (omega arith))
+    c.worlds_go_on.ensures.met entry c.events_are_replayed.ensures.claimed).0 in
     cc
 
 pub returns-clause-order : goal.returns-clause-order
 returns-clause-order c (a, entry) =
-    let same = (c.replays_do_not_differ.ensures.entry two_by_two (event.Step 2 2 0) (answer.NoConsumer) (answer.NoLane) a None all_done (c.named_tables_are_lawful.ensures.lawful Unary 2 (omega arith)) c.worlds_go_on.ensures.all entry c.events_are_replayed.ensures.no_lane).0 in
+    let same = (c.replays_do_not_differ.ensures.entry two_by_two (event.Step 2 2 0)
+    (answer.NoConsumer) (answer.NoLane) a None all_done
+    (c.named_tables_are_lawful.ensures.lawful Unary 2 (omega arith))
+    c.worlds_go_on.ensures.all entry c.events_are_replayed.ensures.no_lane).0 in
     cc
 
 pub returns-clause-word : goal.returns-clause-word

@@ -1,7 +1,8 @@
 use Rattle.std.proofs.Common.{arith}
 use Rattle.mb_quorum.specs.declared.table.TableName.TheVariants.{Unary}
 use Rattle.mb_claim.specs.Examples.{two_consumers}
-use Rattle.mb_world.proofs.SmallPaths.{claimed_another_none, claimed_unmet_none, gone_back_none, passed_going_none, passed_unclaimed_none, passed_won_none, taken_early_none, taken_twice_none, taken_unclaimed_none}
+use Rattle.mb_world.proofs.SmallPaths.{claimed_another_none, claimed_unmet_none, gone_back_none, passed_going_none, passed_unclaimed_none}
+use Rattle.mb_world.proofs.SmallPaths.{passed_won_none, taken_early_none, taken_twice_none, taken_unclaimed_none}
 use Rattle.mb_world.proofs.examples.paths_lead_nowhere_else.Goals as goal
 
 pub returns-clause-unclaimed : goal.returns-clause-unclaimed

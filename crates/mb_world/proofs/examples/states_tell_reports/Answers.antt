@@ -9,7 +9,8 @@ returns-clause-walked c = record { cells = refl; values = refl; ended = refl }
 
 pub returns-clause-told : goal.returns-clause-told
 returns-clause-told c = λ s same told.
-    let walked : IsWalked put_pool 0 told.cells false = subst (λ (pool : PoolState). IsWalked pool 0 told.cells false) same told.walked in
+    let walked : IsWalked put_pool 0 told.cells false =
+    subst (λ (pool : PoolState). IsWalked pool 0 told.cells false) same told.walked in
     let walk = walked one_put c.pools_hold_what_was_done.ensures.put in
     let one : 1 ≡ length told.cells = ap (λ (ks : List ℕ). length ks) walk.cells in
     let none : [] ≡ map (λ k. item_in k s.pool) told.cells = told.put in

@@ -23,7 +23,9 @@ pub returns-clause-unwon : goal.returns-clause-unwon
 returns-clause-unwon c = no_unwon_taken
 
 pub returns-clause-open : goal.returns-clause-open
-returns-clause-open c = no_rest (λ xs s r. c.prefixes_have_one_stage.ensures two_cells 1 xs s r (c.named_tables_are_lawful.ensures.lawful Unary 2 (omega arith))) c.worlds_go_on.ensures.going
+returns-clause-open c = no_rest
+    (λ xs s r. c.prefixes_have_one_stage.ensures two_cells 1 xs s r
+    (c.named_tables_are_lawful.ensures.lawful Unary 2 (omega arith))) c.worlds_go_on.ensures.going
 
 pub returns-clause-other : goal.returns-clause-other
 returns-clause-other c = no_other

@@ -12,24 +12,55 @@ use Rattle.mb_world.proofs.ExampleLimits.{no_item, no_item_yet, no_link, no_step
 use Rattle.mb_world.proofs.examples.worlds_keep_out.Goals as goal
 
 pub returns-clause-unwon : goal.returns-clause-unwon
-returns-clause-unwon c = not_next (λ d xs s r. c.prefixes_have_one_stage.ensures two_cells d xs s r (c.named_tables_are_lawful.ensures.lawful Unary 2 (omega arith))) (c.claims_have_one_next_op.ensures.going two_cells) 1 1 (omega arith) (omega arith) taken_unwon all_done refl (place (1 ∷ []) [] (Some (first_step ∷ []))) c.worlds_go_on.ensures.begun
-    (no_item_yet (λ d xs s r. c.prefixes_have_one_stage.ensures two_cells d xs s r (c.named_tables_are_lawful.ensures.lawful Unary 2 (omega arith))) (c.claims_have_one_next_op.ensures.going two_cells) 1 1 1 6 (1 ∷ []) [] (first_step ∷ []) c.worlds_go_on.ensures.going)
+returns-clause-unwon c = not_next
+    (λ d xs s r. c.prefixes_have_one_stage.ensures two_cells d xs s r
+    (c.named_tables_are_lawful.ensures.lawful Unary 2 (omega arith)))
+    (c.claims_have_one_next_op.ensures.going two_cells) 1 1 (omega arith) (omega arith) taken_unwon
+    all_done refl (place (1 ∷ []) [] (Some (first_step ∷ []))) c.worlds_go_on.ensures.begun
+    (no_item_yet (λ d xs s r. c.prefixes_have_one_stage.ensures two_cells d xs s r
+    (c.named_tables_are_lawful.ensures.lawful Unary 2 (omega arith)))
+    (c.claims_have_one_next_op.ensures.going two_cells) 1 1 1 6 (1 ∷ []) [] (first_step ∷ [])
+    c.worlds_go_on.ensures.going)
 
 pub returns-clause-lost : goal.returns-clause-lost
-returns-clause-lost c = not_next (λ d xs s r. c.prefixes_have_one_stage.ensures two_cells d xs s r (c.named_tables_are_lawful.ensures.lawful Unary 2 (omega arith))) (c.claims_have_one_next_op.ensures.going two_cells) 1 0 (omega arith) (omega arith) taken_lost all_done refl (place (0 ∷ []) (Lost 0 ∷ []) None) c.worlds_go_on.ensures.lost
-    (no_item (λ d xs s r. c.prefixes_have_one_stage.ensures two_cells d xs s r (c.named_tables_are_lawful.ensures.lawful Unary 2 (omega arith))) (c.claims_have_one_next_op.ensures.going two_cells) 1 0 0 5 (0 ∷ []) (Lost 0 ∷ []))
+returns-clause-lost c = not_next
+    (λ d xs s r. c.prefixes_have_one_stage.ensures two_cells d xs s r
+    (c.named_tables_are_lawful.ensures.lawful Unary 2 (omega arith)))
+    (c.claims_have_one_next_op.ensures.going two_cells) 1 0 (omega arith) (omega arith) taken_lost
+    all_done refl (place (0 ∷ []) (Lost 0 ∷ []) None) c.worlds_go_on.ensures.lost
+    (no_item (λ d xs s r. c.prefixes_have_one_stage.ensures two_cells d xs s r
+    (c.named_tables_are_lawful.ensures.lawful Unary 2 (omega arith)))
+    (c.claims_have_one_next_op.ensures.going two_cells) 1 0 0 5 (0 ∷ []) (Lost 0 ∷ []))
 
 pub returns-clause-again : goal.returns-clause-again
-returns-clause-again c = not_next (λ d xs s r. c.prefixes_have_one_stage.ensures two_cells d xs s r (c.named_tables_are_lawful.ensures.lawful Unary 2 (omega arith))) (c.claims_have_one_next_op.ensures.going two_cells) 0 0 (omega arith) (omega arith) taken_again all_done refl (place (0 ∷ []) (Took 5 ∷ []) None) c.worlds_go_on.ensures.took
-    (no_item (λ d xs s r. c.prefixes_have_one_stage.ensures two_cells d xs s r (c.named_tables_are_lawful.ensures.lawful Unary 2 (omega arith))) (c.claims_have_one_next_op.ensures.going two_cells) 0 0 0 5 (0 ∷ []) (Took 5 ∷ []))
+returns-clause-again c = not_next
+    (λ d xs s r. c.prefixes_have_one_stage.ensures two_cells d xs s r
+    (c.named_tables_are_lawful.ensures.lawful Unary 2 (omega arith)))
+    (c.claims_have_one_next_op.ensures.going two_cells) 0 0 (omega arith) (omega arith) taken_again
+    all_done refl (place (0 ∷ []) (Took 5 ∷ []) None) c.worlds_go_on.ensures.took
+    (no_item (λ d xs s r. c.prefixes_have_one_stage.ensures two_cells d xs s r
+    (c.named_tables_are_lawful.ensures.lawful Unary 2 (omega arith)))
+    (c.claims_have_one_next_op.ensures.going two_cells) 0 0 0 5 (0 ∷ []) (Took 5 ∷ []))
 
 pub returns-clause-unmet : goal.returns-clause-unmet
-returns-clause-unmet c = not_next (λ d xs s r. c.prefixes_have_one_stage.ensures two_cells d xs s r (c.named_tables_are_lawful.ensures.lawful Unary 2 (omega arith))) (c.claims_have_one_next_op.ensures.going two_cells) 0 1 (omega arith) (omega arith) unmet_claimed all_done refl (place [] [] None) c.worlds_go_on.ensures.away
-    (no_step (λ d xs s r. c.prefixes_have_one_stage.ensures two_cells d xs s r (c.named_tables_are_lawful.ensures.lawful Unary 2 (omega arith))) (c.claims_have_one_next_op.ensures.going two_cells) 0 1 1 first_step [] [])
+returns-clause-unmet c = not_next
+    (λ d xs s r. c.prefixes_have_one_stage.ensures two_cells d xs s r
+    (c.named_tables_are_lawful.ensures.lawful Unary 2 (omega arith)))
+    (c.claims_have_one_next_op.ensures.going two_cells) 0 1 (omega arith) (omega arith)
+    unmet_claimed all_done refl (place [] [] None) c.worlds_go_on.ensures.away
+    (no_step (λ d xs s r. c.prefixes_have_one_stage.ensures two_cells d xs s r
+    (c.named_tables_are_lawful.ensures.lawful Unary 2 (omega arith)))
+    (c.claims_have_one_next_op.ensures.going two_cells) 0 1 1 first_step [] [])
 
 pub returns-clause-passed : goal.returns-clause-passed
-returns-clause-passed c = not_next (λ d xs s r. c.prefixes_have_one_stage.ensures two_cells d xs s r (c.named_tables_are_lawful.ensures.lawful Unary 2 (omega arith))) (c.claims_have_one_next_op.ensures.going two_cells) 1 1 (omega arith) (omega arith) claim_passed all_done refl (place (1 ∷ []) [] (Some (first_step ∷ []))) c.worlds_go_on.ensures.begun
-    (no_link (λ d xs s r. c.prefixes_have_one_stage.ensures two_cells d xs s r (c.named_tables_are_lawful.ensures.lawful Unary 2 (omega arith))) (c.claims_have_one_next_op.ensures.going two_cells) 1 1 1 0 [] [] (first_step ∷ []))
+returns-clause-passed c = not_next
+    (λ d xs s r. c.prefixes_have_one_stage.ensures two_cells d xs s r
+    (c.named_tables_are_lawful.ensures.lawful Unary 2 (omega arith)))
+    (c.claims_have_one_next_op.ensures.going two_cells) 1 1 (omega arith) (omega arith) claim_passed
+    all_done refl (place (1 ∷ []) [] (Some (first_step ∷ []))) c.worlds_go_on.ensures.begun
+    (no_link (λ d xs s r. c.prefixes_have_one_stage.ensures two_cells d xs s r
+    (c.named_tables_are_lawful.ensures.lawful Unary 2 (omega arith)))
+    (c.claims_have_one_next_op.ensures.going two_cells) 1 1 1 0 [] [] (first_step ∷ []))
 
 pub returns-clause-missed : goal.returns-clause-missed
 returns-clause-missed c lawful = let e : 0 ≡ END = lawful.cells_memory.0 in omega (arith, e)

@@ -15,7 +15,8 @@ pub returns-clause-offer : goal.returns-clause-offer
 returns-clause-offer c plan h p x table lawful ps xs few =
     let size = size_of plan in
     let pool = (c.worlds_are_sound.ensures.sound plan h table lawful).pool_lawful in
-    let place = c.lanes_lead_on.ensures.lane plan.claims.cells p (part (Producer p) (pool_accesses h)) (lawful.producers p) in
+    let place = c.lanes_lead_on.ensures.lane plan.claims.cells p
+    (part (Producer p) (pool_accesses h)) (lawful.producers p) in
     let goes : (a : PoolAccess) → a.process ≡ Producer p → ActFits a.act → ReadsLast a.word a.act (pool_accesses h)
     → IsLanePrefix plan.claims.cells p (a ∷ part (Producer p) (pool_accesses h)) → IsWorldLawful plan (ToCells a ∷ h) =
     λ a maker fits reads next. (c.one_step.ensures.producer plan h p a lawful maker
@@ -23,7 +24,8 @@ returns-clause-offer c plan h p x table lawful ps xs few =
     let bound = c.numbers_are_handed_out_once.ensures.bound size (pool_accesses h) pool in
     let small : value_in Counter (pool_accesses h) < 2 ^ 64 = omega (arith, bound, few) in
     offer_made plan h p ps place.0 place.1 goes x xs small
-    (λ e free. c.lanes_lead_on.ensures.prefix plan.claims.cells p (lane_after_offer plan.claims.cells e.value e.cell place.0)
+    (λ e free. c.lanes_lead_on.ensures.prefix plan.claims.cells p
+    (lane_after_offer plan.claims.cells e.value e.cell place.0)
     (fetch p e ∷ part (Producer p) (pool_accesses h))
     (c.lanes_lead_on.ensures.offered plan.claims.cells p place.0 (part (Producer p) (pool_accesses h)) e place.1 free))
 
@@ -31,13 +33,15 @@ pub returns-clause-push : goal.returns-clause-push
 returns-clause-push c plan h p table lawful ps =
     let size = size_of plan in
     let pool = (c.worlds_are_sound.ensures.sound plan h table lawful).pool_lawful in
-    let place = c.lanes_lead_on.ensures.lane plan.claims.cells p (part (Producer p) (pool_accesses h)) (lawful.producers p) in
+    let place = c.lanes_lead_on.ensures.lane plan.claims.cells p
+    (part (Producer p) (pool_accesses h)) (lawful.producers p) in
     let goes : (a : PoolAccess) → a.process ≡ Producer p → ActFits a.act → ReadsLast a.word a.act (pool_accesses h)
     → IsLanePrefix plan.claims.cells p (a ∷ part (Producer p) (pool_accesses h)) → IsWorldLawful plan (ToCells a ∷ h) =
     λ a maker fits reads next. (c.one_step.ensures.producer plan h p a lawful maker
     (c.one_step-2.ensures.producer size (pool_accesses h) a p pool maker ps fits reads next)).lawful in
     let known = event_known plan (λ g. c.worlds_are_sound.ensures.sound plan g table) c.lanes_lead_on.ensures.lane
-    c.lanes_lead_on.ensures.one c.lanes_lead_on.ensures.fetches c.lanes_lead_on.ensures.stores c.cells_stand_once.ensures.lane
+    c.lanes_lead_on.ensures.one c.lanes_lead_on.ensures.fetches c.lanes_lead_on.ensures.stores
+    c.cells_stand_once.ensures.lane
     (λ d xs s r. c.prefixes_have_one_stage.ensures plan.claims d xs s r table)
     (c.claims_have_one_next_op.ensures.going plan.claims)
     (λ a b g. c.claims_have_one_next_op.ensures.access plan.claims a b g table) h lawful in
@@ -46,14 +50,16 @@ returns-clause-push c plan h p table lawful ps =
     (store p s.0 s.1 ∷ part (Producer p) (pool_accesses h))
     (c.lanes_lead_on.ensures.pushed plan.claims.cells p place.0 (part (Producer p) (pool_accesses h)) s place.1 is))
     (λ w v is. c.accesses_stay_within.ensures.fits size (pool_accesses h) p place.0 w v pool place.1 is)
-    (λ w v is. c.accesses_stay_within.ensures.push size p place.0 (part (Producer p) (pool_accesses h)) w v ps place.1 is)
+    (λ w v is. c.accesses_stay_within.ensures.push size p place.0
+    (part (Producer p) (pool_accesses h)) w v ps place.1 is)
     (λ w is link. no_mark plan h known p place.0 w place.1 is link)
 
 pub returns-clause-finish : goal.returns-clause-finish
 returns-clause-finish c plan h p table lawful ps =
     let size = size_of plan in
     let pool = (c.worlds_are_sound.ensures.sound plan h table lawful).pool_lawful in
-    let place = c.lanes_lead_on.ensures.lane plan.claims.cells p (part (Producer p) (pool_accesses h)) (lawful.producers p) in
+    let place = c.lanes_lead_on.ensures.lane plan.claims.cells p
+    (part (Producer p) (pool_accesses h)) (lawful.producers p) in
     let goes : (a : PoolAccess) → a.process ≡ Producer p → ActFits a.act → ReadsLast a.word a.act (pool_accesses h)
     → IsLanePrefix plan.claims.cells p (a ∷ part (Producer p) (pool_accesses h)) → IsWorldLawful plan (ToCells a ∷ h) =
     λ a maker fits reads next. (c.one_step.ensures.producer plan h p a lawful maker

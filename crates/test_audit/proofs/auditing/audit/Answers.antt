@@ -17,6 +17,7 @@ loop-number-preserved g c =
       grind (arith, common_steps),
       grind (arith, common_steps),
       search rules,
-      All-more (λ (l : LaneView). length l.left ≤ length l.put) lanes c.loop-number.number lane within c.loop-number.invariant.3
+      All-more (λ (l : LaneView). length l.left ≤ length l.put) lanes c.loop-number.number lane
+          within c.loop-number.invariant.3
           (subst (λ (l : LaneView). length l.left ≤ length l.put) here few),
     )

@@ -14,7 +14,8 @@ returns g c = λ size older made.
     let fourth : p < lane_count c.push-linked.new.self = omega (arith, third, linked.size.0) in
     let by_offer : HasMade size (Offered p c.args.x c.offer-offered.result ∷ older) c.offer-offered.new.self =
     (c.args.pool.now, (made, (c.requires, offered.meets, offered.size))) in
-    let by_store : HasMade size (Pushed p c.push-stored.result ∷ Offered p c.args.x c.offer-offered.result ∷ older) c.push-stored.new.self =
+    let by_store : HasMade size (Pushed p c.push-stored.result
+    ∷ Offered p c.args.x c.offer-offered.result ∷ older) c.push-stored.new.self =
     (c.offer-offered.new.self, (by_offer, (second, stored.meets, stored.size))) in
     let by_link : HasMade size
     (Pushed p c.push-linked.result ∷ Pushed p c.push-stored.result ∷ Offered p c.args.x c.offer-offered.result ∷ older)

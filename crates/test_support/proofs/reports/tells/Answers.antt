@@ -20,7 +20,8 @@ returns-in_err-tells_diary-clause-differs g c =
     c.deref-diary-items.ensures.value ∙ ap (λ (r : ReportView). r.diaries) c.report.view_is in
     let same : length c.args.report.now.diaries ≡ length c.args.diaries.now =
     ap length (sym items) ∙ c.deref-diary-items.ensures.len ∙ sym c.len-2.ensures ∙ c.if-len-diaries.false in
-    let found = in_diary c.args.report.now c.args.lanes.now c.args.diaries.now c.loop-place-2.place c.diary-item.result _
+    let found = in_diary c.args.report.now c.args.lanes.now c.args.diaries.now c.loop-place-2.place
+    c.diary-item.result _
     c.in_err-tells_diary.field-0.0 c.loop-place-2.invariant.0 same c.loop-place-2.invariant.1
     (rw (← items) c.loop-place-2-test.true) (rw (← items) c.diary-item.is) c.in_err-tells_diary.ensures.differs in
     handed_on _ _ _ found c.from_residual-in_err-tells_diary.ensures.1

@@ -7,6 +7,8 @@ use Rattle.mb_bound.proofs.hub.BoundHub.gather.Goals as goal
 
 pub returns-in-Ok-try_unwrap-clause-full : goal.returns-in-Ok-try_unwrap-clause-full
 returns-in-Ok-try_unwrap-clause-full g c =
-    let m : c.in-Ok-try_unwrap.mailbox ≡ c.args.self.mailbox = c.in-Ok-try_unwrap.ensures.ok ∙ ap (λ (x : BoundHubView). x.mailbox) c.self.view_is in
+    let m : c.in-Ok-try_unwrap.mailbox ≡ c.args.self.mailbox = c.in-Ok-try_unwrap.ensures.ok
+    ∙ ap (λ (x : BoundHubView). x.mailbox) c.self.view_is in
     let h : c.self.inside.hub ≡ c.args.self.hub = ap (λ (x : BoundHubView). x.hub) c.self.view_is in
-    subst (λ (z : MailboxView × HubView). FullTakesAll z.0 z.1 c.gather_with.result) (λ j. (m j, h j)) c.gather_with.ensures.full
+    subst (λ (z : MailboxView × HubView). FullTakesAll z.0 z.1 c.gather_with.result)
+    (λ j. (m j, h j)) c.gather_with.ensures.full

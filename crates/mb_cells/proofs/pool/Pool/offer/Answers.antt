@@ -34,7 +34,8 @@ invariant_of-self-2 g c =
     let lane = c.index_mut-lane.result.now in
     let going = sym c.offer_refusal.ensures ∙ c.in_default.is in
     let small = counter_small s c.self.invariant in
-    let made = offer_made s c.args.p c.args.x lane lt c.index_mut-lane.ensures.value going c.ranges.x.fits (omega (arith, small)) in
+    let made = offer_made s c.args.p c.args.x lane lt c.index_mut-lane.ensures.value going
+    c.ranges.x.fits (omega (arith, small)) in
     let h = c.self.invariant.history.0 in
     let was = c.self.invariant.history.1 in
     let then = made h lane was (lane_here h s c.args.p lane lt was c.index_mut-lane.ensures.value) in

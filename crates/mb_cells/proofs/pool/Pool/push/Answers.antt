@@ -11,7 +11,8 @@ returns-clause-meets g c =
     let lane = c.index_mut-lane.result.now in
     let some = sym c.next_push.ensures ∙ c.in-Some.is in
     rw (← c.self.view_is, c.pushed.ensures.answer, c.pushed.ensures.lane, c.store.ensures)
-    (push_made s c.args.p lane (c.in-Some.word, c.in-Some.value) lt c.self.invariant c.index_mut-lane.ensures.value some)
+    (push_made s c.args.p lane (c.in-Some.word, c.in-Some.value) lt c.self.invariant
+    c.index_mut-lane.ensures.value some)
 
 pub invariant_of-self-2 : goal.invariant_of-self-2
 invariant_of-self-2 g c =
@@ -20,7 +21,8 @@ invariant_of-self-2 g c =
     subst (λ (z : PoolState). c.args.p < lane_count z) (sym c.self.view_is) c.requires in
     let lane = c.index_mut-lane.result.now in
     let some = sym c.next_push.ensures ∙ c.in-Some.is in
-    let made = push_made s c.args.p lane (c.in-Some.word, c.in-Some.value) lt c.self.invariant c.index_mut-lane.ensures.value some in
+    let made = push_made s c.args.p lane (c.in-Some.word, c.in-Some.value) lt c.self.invariant
+    c.index_mut-lane.ensures.value some in
     let h = c.self.invariant.history.0 in
     let was = c.self.invariant.history.1 in
     let then = made h lane was (lane_here h s c.args.p lane lt was c.index_mut-lane.ensures.value) in

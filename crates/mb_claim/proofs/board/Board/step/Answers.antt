@@ -25,7 +25,8 @@ returns-then-not-is_going g c = record {
       let ran = subst (λ (b : BoardState). IsBoard layout steps b) (sym c.self.view_is) old in
       rw (c.in_ok-push.ensures.items, kept)
       (board_done layout steps _ ran c.args.consumer c.args.word c.requires.consumer claim found
-      (is_ended c.is_going.result claim.stage c.stage.result c.stage.ensures c.is_going.ensures c.if-not-is_going.true));
+      (is_ended c.is_going.result claim.stage c.stage.result c.stage.ensures c.is_going.ensures
+      c.if-not-is_going.true));
 }
 
 pub returns : goal.returns

@@ -32,7 +32,8 @@ returns-in-None-clause-path c pc begun xs x of reaches =
     let p = of.stands c.requires.going in
     let reached = reaches p.kind p.input p.turns p.place in
     let parts : PartsOf t kinds =
-    λ d object pc ys. c.places_show_prefixes.ensures.prefix (claims_in layout 0) d object pc ys (quorums_lawful layout) in
+    λ d object pc ys. c.places_show_prefixes.ensures.prefix (claims_in layout 0) d object pc ys
+    (quorums_lawful layout) in
     let step : ObjectTurn = record { object = old.object; turn = x } in
     let come : IsReached t p.kind p.input (leads.Go old.place) (x ∷ p.turns) =
     subst (λ out. IsReached t p.kind p.input (next_from out old.place) (x ∷ p.turns)) c.in-None.is reached in
@@ -48,12 +49,15 @@ returns-in-Some-clause-path c pc begun xs x of reaches =
     let p = of.stands c.requires.going in
     let reached = reaches p.kind p.input p.turns p.place in
     let parts : PartsOf t kinds =
-    λ d object pc ys. c.places_show_prefixes.ensures.prefix (claims_in layout 0) d object pc ys (quorums_lawful layout) in
+    λ d object pc ys. c.places_show_prefixes.ensures.prefix (claims_in layout 0) d object pc ys
+    (quorums_lawful layout) in
     let come : IsReached t p.kind p.input (leads.Out c.in-Some.out) (x ∷ p.turns) =
     subst (λ out. IsReached t p.kind p.input (next_from out old.place) (x ∷ p.turns)) c.in-Some.is reached in
     claim_passed t kinds _ old.consumer old.object pc xs p x c.in-Some.out.value parts
-    c.pass.ensures.same.0 of.known c.pass.ensures.same.1 (subst (λ out. IsNext t (next_from out old.place)) c.in-Some.is c.requires.next)
-    (as_answer t p.kind p.input (x ∷ p.turns) c.in-Some.out false (not-true c.in-Some.out.decided c.if-not-out.true) come)
+    c.pass.ensures.same.0 of.known c.pass.ensures.same.1
+    (subst (λ out. IsNext t (next_from out old.place)) c.in-Some.is c.requires.next)
+    (as_answer t p.kind p.input (x ∷ p.turns) c.in-Some.out false
+    (not-true c.in-Some.out.decided c.if-not-out.true) come)
     (slice_get kinds (old.object + 1)) refl c.pass.ensures.next
 
 pub returns-in-Some-2-clause-path : goal.returns-in-Some-2-clause-path

@@ -11,13 +11,15 @@ use Rattle.mb_claim.proofs.claim.Claim.new.Goals as goal
 pub kind_of-requires : goal.kind_of-requires
 kind_of-requires c =
     let layout = c.args.layout.now in
-    let all = length-row_of layout.shape (spread (quorums_of layout).values) layout.pairs in omega (arith, all, layout.some)
+    let all = length-row_of layout.shape (spread (quorums_of layout).values) layout.pairs
+    in omega (arith, all, layout.some)
 
 pub returns-clause-path : goal.returns-clause-path
 returns-clause-path c =
     let layout = c.args.layout.now in
     let t = quorums_of layout in
-    let stands = stands_first t (kinds_of layout) c.kind_of.result c.args.consumer c.place.result c.kind_of.ensures.exact
+    let stands = stands_first t (kinds_of layout) c.kind_of.result c.args.consumer c.place.result
+    c.kind_of.ensures.exact
     c.requires c.place.ensures.begins in
     record {
       known = c.requires;

@@ -3,7 +3,8 @@ use Rattle.mb_claim.proofs.claim.Claim.ratify.Goals as goal
 
 pub step-requires-clause-may : goal.step-requires-clause-may
 step-requires-clause-may g c next is =
-    c.requires.may 0 c.draw-word.result c.args.self.now c.args.memory.now c.draw-word.new.self next (refl, refl) c.requires.going
+    c.requires.may 0 c.draw-word.result c.args.self.now c.args.memory.now c.draw-word.new.self next
+    (refl, refl) c.requires.going
     c.draw-word.ensures is
 
 pub returns-clause-steps : goal.returns-clause-steps

@@ -18,15 +18,19 @@ run-requires-clause-may g c n word at before mid op steps drawn is =
     let claim = c.args.self.now in
     let start = c.args.memory.now in
     let parts : PartsOf (quorums_of layout) (kinds_of layout) =
-    λ d object pc ys. c.places_show_prefixes.ensures.prefix (claims_in layout 0) d object pc ys (quorums_lawful layout) in
-    let all = (subst (λ pc. AreSteps (quorums_of layout) (DrawsAndMakes g.M.Drawing.draws g.M.Memory.makes claim.object) pc start
+    λ d object pc ys. c.places_show_prefixes.ensures.prefix (claims_in layout 0) d object pc ys
+    (quorums_lawful layout) in
+    let all = (subst (λ pc. AreSteps (quorums_of layout)
+    (DrawsAndMakes g.M.Drawing.draws g.M.Memory.makes claim.object) pc start
     (n) (leads.Go at) (before)) (sym c.requires.place) (steps)) in
     c.requires.may n word (stood_after n at claim) before mid (record { object = claim.object; op = op })
     (all_go_on layout parts g.M.Drawing.draws g.M.Memory.makes claim c.requires.going start n at before all)
     (stage_after layout parts g.M.Drawing.draws g.M.Memory.makes claim c.requires.going start n at) drawn
     (record {
       object = sym (object_after layout parts g.M.Drawing.draws g.M.Memory.makes claim c.requires.going start n at);
-      op = subst (λ pc. IsOpAt (quorums_of layout) pc op) (sym (place_after layout parts g.M.Drawing.draws g.M.Memory.makes claim c.requires.going start n at before all)) is;
+      op = subst (λ pc. IsOpAt (quorums_of layout) pc op)
+          (sym (place_after layout parts g.M.Drawing.draws g.M.Memory.makes claim c.requires.going
+          start n at before all)) is;
     })
 
 pub returns-then-left-most-clause-steps : goal.returns-then-left-most-clause-steps
@@ -35,13 +39,17 @@ returns-then-left-most-clause-steps g c =
     let claim = c.args.self.now in
     let start = c.args.memory.now in
     let parts : PartsOf (quorums_of layout) (kinds_of layout) =
-    λ d object pc ys. c.places_show_prefixes.ensures.prefix (claims_in layout 0) d object pc ys (quorums_lawful layout) in
-    let all = (subst (λ pc. AreSteps (quorums_of layout) (DrawsAndMakes g.M.Drawing.draws g.M.Memory.makes claim.object) pc start
-    (c.in-Go.ensures.steps.0) (leads.Go c.in-Go.at) (c.run.new.memory)) (sym c.requires.place) (c.in-Go.ensures.steps.2)) in
+    λ d object pc ys. c.places_show_prefixes.ensures.prefix (claims_in layout 0) d object pc ys
+    (quorums_lawful layout) in
+    let all = (subst (λ pc. AreSteps (quorums_of layout)
+    (DrawsAndMakes g.M.Drawing.draws g.M.Memory.makes claim.object) pc start
+    (c.in-Go.ensures.steps.0) (leads.Go c.in-Go.at) (c.run.new.memory)) (sym c.requires.place)
+    (c.in-Go.ensures.steps.2)) in
     let none : c.in-Go.ensures.steps.0 ≡ 0 = omega (arith, c.in-Go.ensures.steps.1, c.if-left-most.true) in (
       0,
       omega (arith, c.if-left-most.true),
-      stayed layout parts g.M.Drawing.draws g.M.Memory.makes claim c.requires.going start c.in-Go.ensures.steps.0 c.in-Go.at c.run.new.memory none all,
+      stayed layout parts g.M.Drawing.draws g.M.Memory.makes claim c.requires.going start
+          c.in-Go.ensures.steps.0 c.in-Go.at c.run.new.memory none all,
     )
 
 pub returns-else-left-most-clause-steps : goal.returns-else-left-most-clause-steps
@@ -50,14 +58,18 @@ returns-else-left-most-clause-steps g c =
     let claim = c.args.self.now in
     let start = c.args.memory.now in
     let parts : PartsOf (quorums_of layout) (kinds_of layout) =
-    λ d object pc ys. c.places_show_prefixes.ensures.prefix (claims_in layout 0) d object pc ys (quorums_lawful layout) in
-    let all = (subst (λ pc. AreSteps (quorums_of layout) (DrawsAndMakes g.M.Drawing.draws g.M.Memory.makes claim.object) pc start
-    (c.in-Go.ensures.steps.0) (leads.Go c.in-Go.at) (c.run.new.memory)) (sym c.requires.place) (c.in-Go.ensures.steps.2)) in
+    λ d object pc ys. c.places_show_prefixes.ensures.prefix (claims_in layout 0) d object pc ys
+    (quorums_lawful layout) in
+    let all = (subst (λ pc. AreSteps (quorums_of layout)
+    (DrawsAndMakes g.M.Drawing.draws g.M.Memory.makes claim.object) pc start
+    (c.in-Go.ensures.steps.0) (leads.Go c.in-Go.at) (c.run.new.memory)) (sym c.requires.place)
+    (c.in-Go.ensures.steps.2)) in
     let some : c.in-Go.ensures.steps.0 ≢ 0 =
     λ (e : c.in-Go.ensures.steps.0 ≡ 0). absurd (omega (arith, e, c.in-Go.ensures.steps.1, c.if-left-most.false)) in (
       c.in-Go.ensures.steps.0,
       c.in-Go.ensures.steps.1,
-      moved_on layout parts g.M.Drawing.draws g.M.Memory.makes claim c.requires.going start c.in-Go.ensures.steps.0 c.in-Go.at c.run.new.memory some all,
+      moved_on layout parts g.M.Drawing.draws g.M.Memory.makes claim c.requires.going start
+          c.in-Go.ensures.steps.0 c.in-Go.at c.run.new.memory some all,
     )
 
 pub returns-in-Out-clause-steps : goal.returns-in-Out-clause-steps
@@ -66,11 +78,16 @@ returns-in-Out-clause-steps g c =
     let claim = c.args.self.now in
     let start = c.args.memory.now in
     let parts : PartsOf (quorums_of layout) (kinds_of layout) =
-    λ d object pc ys. c.places_show_prefixes.ensures.prefix (claims_in layout 0) d object pc ys (quorums_lawful layout) in
-    let all = (subst (λ pc. AreSteps (quorums_of layout) (DrawsAndMakes g.M.Drawing.draws g.M.Memory.makes claim.object) pc start
-    (c.in-Out.ensures.steps.0) (leads.Out c.in-Out.out) (c.run.new.memory)) (sym c.requires.place) (c.in-Out.ensures.steps.2)) in (
+    λ d object pc ys. c.places_show_prefixes.ensures.prefix (claims_in layout 0) d object pc ys
+    (quorums_lawful layout) in
+    let all = (subst (λ pc. AreSteps (quorums_of layout)
+    (DrawsAndMakes g.M.Drawing.draws g.M.Memory.makes claim.object) pc start
+    (c.in-Out.ensures.steps.0) (leads.Out c.in-Out.out) (c.run.new.memory)) (sym c.requires.place)
+    (c.in-Out.ensures.steps.2)) in (
       c.in-Out.ensures.steps.0,
       c.in-Out.ensures.steps.1,
-      ended_on layout parts g.M.Drawing.draws g.M.Memory.makes claim c.requires.going start c.in-Out.ensures.steps.0 c.in-Out.out c.run.new.memory c.follow.new.self c.follow.ensures.consumer all
+      ended_on layout parts g.M.Drawing.draws g.M.Memory.makes claim c.requires.going start
+          c.in-Out.ensures.steps.0 c.in-Out.out c.run.new.memory c.follow.new.self
+          c.follow.ensures.consumer all
           c.follow.ensures.path,
     )

@@ -10,7 +10,8 @@ pub returns-then-value-self-clause-ended : goal.returns-then-value-self-clause-e
 returns-then-value-self-clause-ended c = won_ended
 
 pub returns-else-value-self-clause-exact : goal.returns-else-value-self-clause-exact
-returns-else-value-self-clause-exact c = sym (stage_for-other c.args.self.now.consumer c.args.value c.if-value-self.false)
+returns-else-value-self-clause-exact c =
+    sym (stage_for-other c.args.self.now.consumer c.args.value c.if-value-self.false)
 
 pub returns-else-value-self-clause-ended : goal.returns-else-value-self-clause-ended
 returns-else-value-self-clause-ended c = lost_ended c.args.value

@@ -19,5 +19,6 @@ returns-clause-step g c =
       seen = step.seen;
       is = record { object = refl; op = step.is };
       made = step.made;
-      path = λ xs of can. c.follow.ensures.path c.args.self.now.place c.args.self.now.begun xs turn of (λ kind v turns at. step.reached kind v turns at can);
+      path = λ xs of can. c.follow.ensures.path c.args.self.now.place c.args.self.now.begun xs
+          turn of (λ kind v turns at. step.reached kind v turns at can);
     }

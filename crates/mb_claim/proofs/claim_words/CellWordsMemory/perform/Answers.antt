@@ -10,7 +10,8 @@ use Rattle.mb_claim.proofs.claim_words.CellWordsMemory.perform.Goals as goal
 -- the word lies among those of so many cells
 inside :
     (layout : Layout) (cells cell object : ℕ) (reg : Reg) (words : List ℕ) (at : ℕ) → HasWord layout object reg
-    → cell < cells → cells * cell_words layout ≤ length words → at ≡ word_address layout cell object reg → at < length words
+    → cell < cells → cells * cell_words layout ≤ length words → at
+    ≡ word_address layout cell object reg → at < length words
 inside layout cells cell object reg words at word below room is =
     let lies = within (quorums_of layout).registers (kinds_of layout) cells cell object reg word below in
     rw is (omega (arith, lies, room))
@@ -23,7 +24,8 @@ pub index-seen-requires : goal.index-seen-requires
 index-seen-requires g c =
     let m = c.args.self.now in
     let room = c.requires.2 in
-    let below = inside m.layout.now room.0 m.cell c.args.object (reg_of c.args.op) m.words.now.items _ c.requires.0 room.1
+    let below = inside m.layout.now room.0 m.cell c.args.object (reg_of c.args.op) m.words.now.items
+    _ c.requires.0 room.1
     room.2 (rw (c.reg.ensures) at c.address-address.ensures.exact) in
     omega (arith, below, m.words.now.ok.0)
 
@@ -31,7 +33,8 @@ pub index_mut-requires : goal.index_mut-requires
 index_mut-requires g c =
     let m = c.args.self.now in
     let room = c.requires.2 in
-    let below = inside m.layout.now room.0 m.cell c.args.object (reg_of c.args.op) m.words.now.items _ c.requires.0 room.1
+    let below = inside m.layout.now room.0 m.cell c.args.object (reg_of c.args.op) m.words.now.items
+    _ c.requires.0 room.1
     room.2 (rw (c.reg.ensures) at c.address-address.ensures.exact) in
     omega (arith, below, m.words.now.ok.0)
 
@@ -42,7 +45,8 @@ returns g c =
     let room = c.requires.2 in
     let exact : c.address-address.result ≡ word_address m.layout.now m.cell c.args.object (reg_of c.args.op) =
     rw (c.reg.ensures) at c.address-address.ensures.exact in
-    let below = inside m.layout.now room.0 m.cell c.args.object (reg_of c.args.op) words _ c.requires.0 room.1 room.2 exact
+    let below = inside m.layout.now room.0 m.cell c.args.object (reg_of c.args.op) words _
+    c.requires.0 room.1 room.2 exact
     in (
       get_or_read words c.address-address.result c.index-seen.result.now below c.index-seen.ensures 0
           ∙ ap (slice_index words) exact,

@@ -18,7 +18,13 @@ kind_in_row-kind-requires-clause-within c =
 
 pub bounds-kinds-object : goal.bounds-kinds-object
 bounds-kinds-object c =
-    omega (arith, c.loop-object-test.true, c.objects_of-objects.ensures 0, objects_few c.args.shape 0 c.args.pairs c.requires.few)
+    omega (
+      arith,
+      c.loop-object-test.true,
+      c.objects_of-objects.ensures 0,
+      objects_few c.args.shape
+          0 c.args.pairs c.requires.few,
+    )
 
 pub bounds-begins-object : goal.bounds-begins-object
 bounds-begins-object c = bounds-kinds-object c
@@ -32,7 +38,13 @@ overflow_add-cell_size c =
     let r = c.registers-registers.result in
     let quorum = chosen_lawful c.args.table in
     let below : c.loop-object.object ≤ MAX_OBJECTS =
-    omega (arith, c.loop-object-test.true, c.objects_of-objects.ensures 0, objects_few c.args.shape 0 c.args.pairs c.requires.few) in
+    omega (
+      arith,
+      c.loop-object-test.true,
+      c.objects_of-objects.ensures 0,
+      objects_few c.args.shape
+          0 c.args.pairs c.requires.few,
+    ) in
     let narrow : 1 + r ≤ 65 = omega (arith, quorum.limit, c.registers-registers.ensures) in
     omega (
       arith,
@@ -102,5 +114,6 @@ invariant_of-result-clause-size c =
       c.loop-object-test.false,
       c.loop-object.auto.object-end,
     ) in
-    subst₂ (λ r s. c.loop-object.cell_size ≡ words_of r (row_of c.args.shape s c.args.pairs)) c.registers-registers.ensures
+    subst₂ (λ r s. c.loop-object.cell_size ≡ words_of r (row_of c.args.shape s c.args.pairs))
+    c.registers-registers.ensures
     (last_turn_is c) (c.loop-object.invariant.size ∙ ap (words_before r row) end ∙ words_before-all r row)

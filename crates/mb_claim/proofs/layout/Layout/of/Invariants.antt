@@ -8,6 +8,7 @@ invariant-loop-object l = record {
   all_kinds : length l.kinds ≡ MAX_OBJECTS;
   all_begins : length l.begins ≡ MAX_OBJECTS;
   kinds : (o : ℕ) → o < l.object → slice_get (row_of l.shape l.last_turn l.pairs) o ≡ slice_get l.kinds o;
-  begins : (o : ℕ) → o < l.object → slice_index l.begins o ≡ words_before l.registers (row_of l.shape l.last_turn l.pairs) o;
+  begins : (o : ℕ) → o < l.object → slice_index l.begins o
+      ≡ words_before l.registers (row_of l.shape l.last_turn l.pairs) o;
   size : l.cell_size ≡ words_before l.registers (row_of l.shape l.last_turn l.pairs) l.object;
 }

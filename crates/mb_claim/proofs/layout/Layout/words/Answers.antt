@@ -7,7 +7,8 @@ use Rattle.mb_claim.proofs.layout.Layout.words.Goals as goal
 pub overflow_mul-result : goal.overflow_mul-result
 overflow_mul-result c =
     let few : c.args.cells * c.words_of_cell.result ≤ MAX_LARGE_CELLS * (65 * MAX_OBJECTS) =
-    mul-le c.args.cells c.words_of_cell.result MAX_LARGE_CELLS (65 * MAX_OBJECTS) c.requires c.words_of_cell.ensures.small in
+    mul-le c.args.cells c.words_of_cell.result MAX_LARGE_CELLS (65 * MAX_OBJECTS) c.requires
+    c.words_of_cell.ensures.small in
     omega (arith, few)
 
 pub returns-clause-within : goal.returns-clause-within
@@ -15,4 +16,5 @@ returns-clause-within c k o reg word below =
     let layout = c.args.self.now in
     subst (λ w. address_of (quorums_of layout).registers (kinds_of layout) k o reg < c.args.cells * w)
     (sym c.words_of_cell.ensures.exact)
-    (c.addresses_are_apart.ensures.within (quorums_of layout).registers (kinds_of layout) c.args.cells k o reg word below)
+    (c.addresses_are_apart.ensures.within (quorums_of layout).registers (kinds_of layout)
+    c.args.cells k o reg word below)

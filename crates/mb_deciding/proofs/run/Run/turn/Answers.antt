@@ -47,7 +47,8 @@ returns-in_ok-push-in-Out g c = record {
       let own = run_same _ _ u schedule c.self.view_is run in
       let places = c.self.inside.places.items in
       let kept : set places c.args.process c.index_mut-next.result.now ≡ places =
-      ap (set places c.args.process) c.index_mut-next.ensures.value ∙ set-get_or places c.args.process c.index_mut-next.result.now in
+      ap (set places c.args.process) c.index_mut-next.ensures.value
+      ∙ set-get_or places c.args.process c.index_mut-next.result.now in
       rw (c.in_ok-push-in-Out.ensures.items, kept)
       (run_done u schedule _ own c.args.process c.args.word
       (ended_at u schedule _ own c.args.process c.index_mut-next.result.now c.in-Out.field-0
@@ -70,7 +71,8 @@ returns-in_ok-push-in-Go g c = record {
       let seen = step.seen in
       let access = step.made.0 in
       let input = λ (k : ℕ). get_or inputs k 0 in
-      let at = place_at u schedule _ run p c.index_mut-next.result.now pc below c.index_mut-next.ensures.value c.in-Go.is in
+      let at = place_at u schedule _ run p c.index_mut-next.result.now pc below
+      c.index_mut-next.ensures.value c.in-Go.is in
       let found : seen ≡ seen_by op h = access.found h run.memory in
       let can : CanFind t pc op seen = rw found (place_finds t kind input h p pc op q run.lawful at step.is) in
       let prefix : IsPrefix t kind (input p) (record { act = act_of op seen; word = c.args.word } ∷ part p h) =

@@ -32,7 +32,8 @@ fits : (m : MailboxView) (h : HubView) (hs : Histories) (d : ℕ) → Fits (plan
 fits m h hs d none (Keeps.was_in l e places lists fit stands) = fit
 fits m h hs d none (Keeps.never e empty) = subst (λ (x : Parts). Fits (plan_at m).claims d x) empty none
 
-path : (m : MailboxView) (d : ℕ) (claim : Claim) (xs : List ObjectTurn) → IsClaimIn m.claims.layout claim xs → consumer_of claim ≡ d
+path : (m : MailboxView) (d : ℕ) (claim : Claim) (xs : List ObjectTurn)
+    → IsClaimIn m.claims.layout claim xs → consumer_of claim ≡ d
     → IsClaimPrefix (plan_at m).claims d xs (claim_stage claim)
 path m d claim xs is own = subst (λ e. IsClaimPrefix (plan_at m).claims e xs (claim_stage claim)) own is.prefix
 
@@ -48,7 +49,10 @@ returns-clause-headline c m h r pool mailbox i of puts ledgers one is rep =
     let sound : AreSound plan hs = record {
       table = table;
       claims_lawful = one.1;
-      pool_lawful = subst (λ (cells : ℕ). IsPoolLawful (record { lanes = m.cells.size.lanes; cells = cells }) pool) (sym mailbox.cells) is.lawful;
+      pool_lawful = subst (λ (cells : ℕ). IsPoolLawful (record {
+        lanes = m.cells.size.lanes;
+        cells = cells;
+      }) pool) (sym mailbox.cells) is.lawful;
       fit = λ d low. fits m h hs d (c.parts_fit_on.ensures.empty plan.claims d) (kept d);
     } in
     let met : (d p : ℕ) → d < consumers_of plan → HasMetAll d p (cells_met p (parts_in d hs).reads) pool =
@@ -78,7 +82,8 @@ returns-clause-full c m h r i of puts g p done e found =
     (c.parts_have_accesses.ensures.of pool (Producer p) (fetch p found.entry)
     (subst (λ d. Has d (fetch p found.entry)) (sym own) found.offered)).0 in
     counted (plan_at m) g.histories r g.report
-    ∙ c.lanes_share_cells.ensures.all size pool p found.entry g.pool.lawful has found.past (λ q entry got low. (tell q).linked entry got low)
+    ∙ c.lanes_share_cells.ensures.all size pool p found.entry g.pool.lawful has found.past
+    (λ q entry got low. (tell q).linked entry got low)
 
 -- the second object of a cell is a ratifier, with a fast path and without
 second_of : (fast : Bool) (s n : ℕ) (rest : List Kind) → 1 ≤ n
@@ -100,16 +105,20 @@ returns-clause-undecided c m h r g d p j e =
     let hs = g.histories in
     let table = c.layouts_are_sound.ensures.table m.claims.layout in
     let second : slice_get plan.claims.kinds 1 ≡ Some Ratifier =
-    ratifier (shape_of m.claims.layout) (spread (consumer_count m.claims.layout)) (pair_count m.claims.layout) (c.layouts_are_sound.ensures.pairs m.claims.layout).0 in
+    ratifier (shape_of m.claims.layout) (spread (consumer_count m.claims.layout))
+    (pair_count m.claims.layout) (c.layouts_are_sound.ensures.pairs m.claims.layout).0 in
     let at = is_noted plan hs r g.report d p j Undecided e in
     let t = g.report.diary d p at.consumer at.lane in
     let same = some_same at.diary t.0 (sym at.there ∙ t.1) in
     let end = t.2.notes j Undecided (subst (λ v. slice_get v.notes j ≡ Some Undecided) same at.here) in
     let k = end.0 in
-    let start = c.readers_follow_lanes.ensures.met (size_of plan) hs.pool (hs.reader_of d) p t.2.cells g.sound.pool_lawful t.2.met.met in
-    let on : slice_get (reverse (linked_cells p hs.pool)) j ≡ Some k = at_start t.2.cells (linked_cells p hs.pool) j k start end.1 in
+    let start = c.readers_follow_lanes.ensures.met (size_of plan) hs.pool (hs.reader_of d) p
+    t.2.cells g.sound.pool_lawful t.2.met.met in
+    let on : slice_get (reverse (linked_cells p hs.pool)) j
+    ≡ Some k = at_start t.2.cells (linked_cells p hs.pool) j k start end.1 in
     let winner = c.claims_have_one_winner.ensures plan.claims hs.claims k table g.sound.claims_lawful in
     let other = winner.company d 1 (at.consumer, end.2) second in
     let known = (g.sound.claims_lawful.parts other.0 k other.2).0 in
-    let competes = c.competitors_have_accesses.ensures plan hs r other.0 p j k g.sound g.report (some_kinds plan.claims.kinds second) known at.lane on in
+    let competes = c.competitors_have_accesses.ensures plan hs r other.0 p j k g.sound g.report
+    (some_kinds plan.claims.kinds second) known at.lane on in
     (inl (get_within (notes d p r) j Undecided e), (other.0, other.1, competes.1 other.2))

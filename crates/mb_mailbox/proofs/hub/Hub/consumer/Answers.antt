@@ -20,9 +20,11 @@ invariant_of-result g c =
     } in
     let m : MailboxView = record { cells = c.mailbox.inside.cells; claims = c.mailbox.inside.claims } in
     let table : h.cells.table ≡ m.cells =
-    ap (λ (v : HubView). v.cells.table) c.self.view_is ∙ c.requires.of.cells ∙ sym (ap (λ (v : MailboxView). v.cells) c.mailbox.view_is) in
+    ap (λ (v : HubView). v.cells.table) c.self.view_is ∙ c.requires.of.cells
+    ∙ sym (ap (λ (v : MailboxView). v.cells) c.mailbox.view_is) in
     let claims : h.claims.table ≡ name_of m.claims =
-    ap (λ (v : HubView). v.claims.table) c.self.view_is ∙ c.requires.of.claims ∙ sym (ap (λ (v : MailboxView). name_of v.claims) c.mailbox.view_is) in
+    ap (λ (v : HubView). v.claims.table) c.self.view_is ∙ c.requires.of.claims
+    ∙ sym (ap (λ (v : MailboxView). name_of v.claims) c.mailbox.view_is) in
     let i = c.self.invariant.0 in
     let n = length h.ledgers in
     let reader : c.enroll_reader-reader.result ≡ new_reader m n h.cells.roll.lanes =
@@ -30,11 +32,13 @@ invariant_of-result g c =
     let seat : c.in-Ok-enroll.seat ≡ new_seat m n =
     c.in-Ok-enroll.ensures.seat ∙ (λ j. record { table = claims j; consumer = sym i.seats j; part = [] }) in
     let none = c.in-Ok.ensures in
-    let new = is_new c.mailbox.inside.lanes c.cells.result c.in-Ok.notes none c.parts_fit_on.ensures.empty m n h.cells.roll.lanes c.before_heads.result.items
+    let new = is_new c.mailbox.inside.lanes c.cells.result c.in-Ok.notes none
+    c.parts_fit_on.ensures.empty m n h.cells.roll.lanes c.before_heads.result.items
     c.before_heads.ensures c.mailbox.invariant.1 in
     let few = c.cells.ensures in
     let same = c.mailbox.invariant.0.cells in
-    let its : c.enroll_reader-reader.result.table.size.cells ≡ m.cells.size.cells = ap (λ (r : ReaderSeatView). r.table.size.cells) reader in (
+    let its : c.enroll_reader-reader.result.table.size.cells
+    ≡ m.cells.size.cells = ap (λ (r : ReaderSeatView). r.table.size.cells) reader in (
       subst IsConsumer (λ j. at_views (sym reader j) (sym seat j) c.before_heads.result.items c.in-Ok.notes.lists) new,
       (let room = none.room in omega arith),
     )
@@ -49,9 +53,11 @@ invariant_of-self g c =
     } in
     let m : MailboxView = record { cells = c.mailbox.inside.cells; claims = c.mailbox.inside.claims } in
     let table : h.cells.table ≡ m.cells =
-    ap (λ (v : HubView). v.cells.table) c.self.view_is ∙ c.requires.of.cells ∙ sym (ap (λ (v : MailboxView). v.cells) c.mailbox.view_is) in
+    ap (λ (v : HubView). v.cells.table) c.self.view_is ∙ c.requires.of.cells
+    ∙ sym (ap (λ (v : MailboxView). v.cells) c.mailbox.view_is) in
     let claims : h.claims.table ≡ name_of m.claims =
-    ap (λ (v : HubView). v.claims.table) c.self.view_is ∙ c.requires.of.claims ∙ sym (ap (λ (v : MailboxView). name_of v.claims) c.mailbox.view_is) in
+    ap (λ (v : HubView). v.claims.table) c.self.view_is ∙ c.requires.of.claims
+    ∙ sym (ap (λ (v : MailboxView). name_of v.claims) c.mailbox.view_is) in
     let i = c.self.invariant.0 in
     let n = length h.ledgers in
     let reader : c.enroll_reader-reader.result ≡ new_reader m n h.cells.roll.lanes =
@@ -59,21 +65,31 @@ invariant_of-self g c =
     let seat : c.in-Ok-enroll.seat ≡ new_seat m n =
     c.in-Ok-enroll.ensures.seat ∙ (λ j. record { table = claims j; consumer = sym i.seats j; part = [] }) in
     let cells : c.enroll_reader-reader.new.hub ≡ (with_consumer h).cells =
-    c.enroll_reader-reader.ensures.hub ∙ ap (λ (t : CellsName). record { table = t; roll = roll_with_reader h.cells.roll }) (sym table) in
+    c.enroll_reader-reader.ensures.hub ∙ ap (λ (t : CellsName). record {
+      table = t;
+      roll = roll_with_reader h.cells.roll;
+    }) (sym table) in
     let seats : c.enroll.new.hub ≡ (with_consumer h).claims = c.in-Ok-enroll.ensures.hub in
     let is : with_consumer h ≡ record {
       cells = c.enroll_reader-reader.new.hub;
       claims = c.enroll.new.hub;
       puts = h.puts;
       ledgers = c.push_reserved.new.self.items;
-    } = λ j. record { cells = sym cells j; claims = sym seats j; puts = h.puts; ledgers = sym c.push_reserved.ensures.items j } in
+    } = λ j. record {
+      cells = sym cells j;
+      claims = sym seats j;
+      puts = h.puts;
+      ledgers = sym c.push_reserved.ensures.items j;
+    } in
     let cap = c.push_reserved.ensures.capacity in
-    let wide = subst (λ (t : ClaimHubView). (claims_at t.table).table.values ≤ c.self.inside.ledgers.cap) (sym seats) c.self.invariant.2 in
+    let wide = subst (λ (t : ClaimHubView). (claims_at t.table).table.values ≤
+    c.self.inside.ledgers.cap) (sym seats) c.self.invariant.2 in
     let low : length h.ledgers < (claims_at h.claims.table).table.values =
     (let few = c.if-len-consumers.false in
     let n = c.len.ensures in
     let all : c.consumers.result ≡ (claims_at h.claims.table).table.values =
-    c.consumers.ensures ∙ ap consumer_count c.layout.ensures ∙ ap (λ (t : ClaimTable). (claims_at t).table.values) (sym claims) in
+    c.consumers.ensures ∙ ap consumer_count c.layout.ensures
+    ∙ ap (λ (t : ClaimTable). (claims_at t).table.values) (sym claims) in
     omega arith) in (
       subst IsHub is (gave_consumer h i low),
       subst (λ (t : CellHubView). t.table.size.lanes ≤ c.self.inside.puts.cap) (sym cells) c.self.invariant.1,
@@ -90,15 +106,19 @@ returns-clause-consumer g c =
     } in
     let m : MailboxView = record { cells = c.mailbox.inside.cells; claims = c.mailbox.inside.claims } in
     let table : h.cells.table ≡ m.cells =
-    ap (λ (v : HubView). v.cells.table) c.self.view_is ∙ c.requires.of.cells ∙ sym (ap (λ (v : MailboxView). v.cells) c.mailbox.view_is) in
+    ap (λ (v : HubView). v.cells.table) c.self.view_is ∙ c.requires.of.cells
+    ∙ sym (ap (λ (v : MailboxView). v.cells) c.mailbox.view_is) in
     let claims : h.claims.table ≡ name_of m.claims =
-    ap (λ (v : HubView). v.claims.table) c.self.view_is ∙ c.requires.of.claims ∙ sym (ap (λ (v : MailboxView). name_of v.claims) c.mailbox.view_is) in
+    ap (λ (v : HubView). v.claims.table) c.self.view_is ∙ c.requires.of.claims
+    ∙ sym (ap (λ (v : MailboxView). name_of v.claims) c.mailbox.view_is) in
     let i = c.self.invariant.0 in
     let n = length h.ledgers in
     let reader : c.enroll_reader-reader.result ≡ new_reader m n h.cells.roll.lanes =
     c.enroll_reader-reader.ensures.seat ∙ ap (λ (k : ℕ). new_reader m k h.cells.roll.lanes) (sym i.readers) in
     let seat : c.in-Ok-enroll.seat ≡ new_seat m n =
     c.in-Ok-enroll.ensures.seat ∙ (λ j. record { table = claims j; consumer = sym i.seats j; part = [] }) in
-    subst (λ (z : MailboxView × HubView). IsNewConsumer z.0 z.1 (at_views c.enroll_reader-reader.result c.in-Ok-enroll.seat c.before_heads.result.items c.in-Ok.notes.lists))
+    subst (λ (z : MailboxView × HubView). IsNewConsumer z.0 z.1
+    (at_views c.enroll_reader-reader.result c.in-Ok-enroll.seat c.before_heads.result.items
+    c.in-Ok.notes.lists))
     (λ j. (c.mailbox.view_is j, c.self.view_is j))
     (record { reader = reader; seat = seat; notes = c.in-Ok.ensures.empty })

@@ -14,7 +14,12 @@ loop-p-init g c = record {
 pub loop-p-preserved : goal.loop-p-preserved
 loop-p-preserved g c =
     let here = c.take_list.ensures.list ∙ c.loop-p.invariant.rest c.loop-p.p (omega arith) in
-    let made : DiaryView = record { consumer = c.loop-c.c; lane = c.loop-p.p; notes = c.take_list.result.items; begun = c.begun.result } in
+    let made : DiaryView = record {
+      consumer = c.loop-c.c;
+      lane = c.loop-p.p;
+      notes = c.take_list.result.items;
+      begun = c.begun.result;
+    } in
     let is : made ≡ diary_in c.loop-c.c c.loop-p.p c.args.self.now =
     λ j. record { consumer = c.loop-c.c; lane = c.loop-p.p; notes = here j; begun = c.begun.ensures j } in
     record {

@@ -15,11 +15,13 @@ loop-j-preserved g c =
       | then-not-is_taken+in_ok-push-2 w ↦ record {
         put = grind (arith, common_steps);
         left = ap (λ v. v.items) w.left-is ∙ w.in_ok-push-2.ensures.items
-            ∙ chosen_one f xs left c.loop-j.j c.loop-j-test.true old (ap not (sym c.is_taken.ensures ∙ w.if-not-is_taken.true));
+            ∙ chosen_one f xs left c.loop-j.j c.loop-j-test.true old
+            (ap not (sym c.is_taken.ensures ∙ w.if-not-is_taken.true));
       }
       | else-not-is_taken w ↦ record {
         put = grind (arith, common_steps);
         left = ap (λ v. v.items) w.left-is
-            ∙ chosen_none f xs left c.loop-j.j c.loop-j-test.true old (ap not (sym c.is_taken.ensures ∙ w.if-not-is_taken.false));
+            ∙ chosen_none f xs left c.loop-j.j c.loop-j-test.true old
+            (ap not (sym c.is_taken.ensures ∙ w.if-not-is_taken.false));
       }
     ]

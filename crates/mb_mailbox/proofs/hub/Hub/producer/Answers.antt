@@ -13,13 +13,16 @@ invariant_of-self g c =
       puts = c.self.inside.puts.items;
       ledgers = c.self.inside.ledgers.items;
     } in
-    let lists : c.push_reserved.new.self.items ≡ c.self.inside.puts.items ++ None ∷ [] = c.push_reserved.ensures.items in
+    let lists : c.push_reserved.new.self.items ≡ c.self.inside.puts.items ++ None
+    ∷ [] = c.push_reserved.ensures.items in
     let table : h.cells.table ≡ c.mailbox.inside.cells =
-    ap (λ (v : HubView). v.cells.table) c.self.view_is ∙ c.requires.of.cells ∙ sym (ap (λ (m : MailboxView). m.cells) c.mailbox.view_is) in
+    ap (λ (v : HubView). v.cells.table) c.self.view_is ∙ c.requires.of.cells
+    ∙ sym (ap (λ (m : MailboxView). m.cells) c.mailbox.view_is) in
     let hub = c.in-Ok-enroll_lane.ensures.hub in
     let cells : c.enroll_lane.new.hub ≡ (with_producer h).cells =
     hub ∙ ap (λ (t : CellsName). record { table = t; roll = roll_with_lane h.cells.roll }) (sym table) in
-    let lanes : c.enroll_lane.new.hub.table.size.lanes ≡ h.cells.table.size.lanes = ap (λ (v : CellHubView). v.table.size.lanes) cells in
+    let lanes : c.enroll_lane.new.hub.table.size.lanes
+    ≡ h.cells.table.size.lanes = ap (λ (v : CellHubView). v.table.size.lanes) cells in
     let wide = c.self.invariant.1 in
     let cap = c.push_reserved.ensures.capacity in
     let is : with_producer h ≡ record {
@@ -37,6 +40,7 @@ invariant_of-self g c =
     (let few = c.if-len-mailbox.false in
     let n = c.len.ensures in
     let m = c.mailbox.invariant.1 in
-    let its : h.cells.table.size.lanes ≡ c.mailbox.inside.cells.size.lanes = ap (λ (t : CellsName). t.size.lanes) table in
+    let its : h.cells.table.size.lanes ≡ c.mailbox.inside.cells.size.lanes =
+    ap (λ (t : CellsName). t.size.lanes) table in
     omega arith) in
     (subst IsHub is (gave_producer h c.self.invariant.0 low), omega arith, c.self.invariant.2)

@@ -6,5 +6,6 @@ returns g c = record {
   lanes_count = c.in_ok-reports.ensures.count;
   diaries_count = c.in_ok-diaries.ensures.count;
   lane = c.in_ok-reports.ensures.each;
-  diary = λ d p known low. c.in_ok-diaries.ensures.each d p low (within_grid c.args.lanes c.args.consumers d p known low);
+  diary = λ d p known low. c.in_ok-diaries.ensures.each d p low
+      (within_grid c.args.lanes c.args.consumers d p known low);
 }

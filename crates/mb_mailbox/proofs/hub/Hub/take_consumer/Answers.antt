@@ -18,13 +18,19 @@ invariant_of-self g c =
       puts = c.self.inside.puts.items;
       ledgers = c.self.inside.ledgers.items;
     } in
-    let s = at_views c.consumer.inside.reader c.consumer.inside.seat c.consumer.inside.places.items c.consumer.inside.notes.lists in
+    let s = at_views c.consumer.inside.reader c.consumer.inside.seat c.consumer.inside.places.items
+    c.consumer.inside.notes.lists in
     let table : h.cells.table ≡ c.mailbox.inside.cells =
-    ap (λ (v : HubView). v.cells.table) c.self.view_is ∙ c.requires.hub.cells ∙ sym (ap (λ (m : MailboxView). m.cells) c.mailbox.view_is) in
+    ap (λ (v : HubView). v.cells.table) c.self.view_is ∙ c.requires.hub.cells
+    ∙ sym (ap (λ (m : MailboxView). m.cells) c.mailbox.view_is) in
     let claims : h.claims.table ≡ name_of c.mailbox.inside.claims =
-    ap (λ (v : HubView). v.claims.table) c.self.view_is ∙ c.requires.hub.claims ∙ sym (ap (λ (m : MailboxView). name_of m.claims) c.mailbox.view_is) in
+    ap (λ (v : HubView). v.claims.table) c.self.view_is ∙ c.requires.hub.claims
+    ∙ sym (ap (λ (m : MailboxView). name_of m.claims) c.mailbox.view_is) in
     let cells : c.take_reader.new.hub ≡ (with_taken_consumer s h).cells =
-    c.take_reader.ensures.hub ∙ ap (λ (t : CellsName). record { table = t; roll = roll_with_part (Reader s.reader.reader) s.reader.part h.cells.roll }) (sym table) in
+    c.take_reader.ensures.hub ∙ ap (λ (t : CellsName). record {
+      table = t;
+      roll = roll_with_part (Reader s.reader.reader) s.reader.part h.cells.roll;
+    }) (sym table) in
     let seats : c.take_in.new.hub ≡ (with_taken_consumer s h).claims = c.take_in.ensures.hub in
     let number : c.consumer-number.result ≡ s.seat.consumer = c.consumer-number.ensures.exact in
     let l : LedgerView = record { places = s.places; notes = s.notes } in
@@ -37,13 +43,17 @@ invariant_of-self g c =
       ledgers = slice_set h.ledgers c.consumer-number.result (Some l);
     } = λ j. record { cells = sym cells j; claims = sym seats j; puts = h.puts; ledgers = sym ledgers j } in
     let same : s.seat.table ≡ h.claims.table =
-    ap (λ (v : ConsumerView). v.seat.table) c.consumer.view_is ∙ c.requires.consumer.claims ∙ sym (ap (λ (m : MailboxView). name_of m.claims) c.mailbox.view_is) ∙ sym claims in
+    ap (λ (v : ConsumerView). v.seat.table) c.consumer.view_is ∙ c.requires.consumer.claims
+    ∙ sym (ap (λ (m : MailboxView). name_of m.claims) c.mailbox.view_is) ∙ sym claims in
     let read : s.reader.table ≡ h.cells.table =
-    ap (λ (v : ConsumerView). v.reader.table) c.consumer.view_is ∙ c.requires.consumer.cells ∙ sym (ap (λ (m : MailboxView). m.cells) c.mailbox.view_is) ∙ sym table in
-    let took = took_consumer h s c.self.invariant.0 c.consumer.invariant.0 same read c.take_reader.ensures.was_out c.take_in.ensures.was_out in (
+    ap (λ (v : ConsumerView). v.reader.table) c.consumer.view_is ∙ c.requires.consumer.cells
+    ∙ sym (ap (λ (m : MailboxView). m.cells) c.mailbox.view_is) ∙ sym table in
+    let took = took_consumer h s c.self.invariant.0 c.consumer.invariant.0 same read
+    c.take_reader.ensures.was_out c.take_in.ensures.was_out in (
       subst IsHub is took,
       subst (λ (t : CellHubView). t.table.size.lanes ≤ c.self.inside.puts.cap) (sym cells) c.self.invariant.1,
-      subst (λ (t : ClaimHubView). (claims_at t.table).table.values ≤ c.self.inside.ledgers.cap) (sym seats) c.self.invariant.2,
+      subst (λ (t : ClaimHubView). (claims_at t.table).table.values ≤ c.self.inside.ledgers.cap)
+          (sym seats) c.self.invariant.2,
     )
 
 pub returns-clause-was_out : goal.returns-clause-was_out
@@ -54,6 +64,8 @@ returns-clause-was_out g c =
       puts = c.self.inside.puts.items;
       ledgers = c.self.inside.ledgers.items;
     } in
-    let s = at_views c.consumer.inside.reader c.consumer.inside.seat c.consumer.inside.places.items c.consumer.inside.notes.lists in
-    subst (λ (z : HubView × ConsumerView). slice_get z.0.ledgers z.1.seat.consumer ≡ Some None) (λ j. (c.self.view_is j, c.consumer.view_is j))
+    let s = at_views c.consumer.inside.reader c.consumer.inside.seat c.consumer.inside.places.items
+    c.consumer.inside.notes.lists in
+    subst (λ (z : HubView × ConsumerView). slice_get z.0.ledgers z.1.seat.consumer ≡ Some None)
+    (λ j. (c.self.view_is j, c.consumer.view_is j))
     (seat_is_out h s.seat.consumer c.self.invariant.0 c.take_in.ensures.was_out)

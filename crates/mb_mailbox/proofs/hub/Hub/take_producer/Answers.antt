@@ -19,10 +19,14 @@ invariant_of-self g c =
     } in
     let s : ProducerView = record { seat = c.producer.inside.seat; items = c.producer.inside.items.items } in
     let table : h.cells.table ≡ c.mailbox.inside.cells =
-    ap (λ (v : HubView). v.cells.table) c.self.view_is ∙ c.requires.hub.cells ∙ sym (ap (λ (m : MailboxView). m.cells) c.mailbox.view_is) in
+    ap (λ (v : HubView). v.cells.table) c.self.view_is ∙ c.requires.hub.cells
+    ∙ sym (ap (λ (m : MailboxView). m.cells) c.mailbox.view_is) in
     let lane : c.lane-lane.result ≡ s.seat.lane = c.lane-lane.ensures in
     let cells : c.take_lane.new.hub ≡ (with_taken_producer s h).cells =
-    c.take_lane.ensures.hub ∙ ap (λ (t : CellsName). record { table = t; roll = roll_with_part (Producer s.seat.lane) s.seat.part h.cells.roll }) (sym table) in
+    c.take_lane.ensures.hub ∙ ap (λ (t : CellsName). record {
+      table = t;
+      roll = roll_with_part (Producer s.seat.lane) s.seat.part h.cells.roll;
+    }) (sym table) in
     let kept : PutListView = record { items = s.items; ended = c.has_ended-ended.result } in
     let its : kept ≡ put_list_of s = λ j. record { items = s.items; ended = c.has_ended-ended.ensures j } in
     let lists : slice_set h.puts c.lane-lane.result (Some kept) ≡ slice_set h.puts s.seat.lane (Some (put_list_of s)) =
@@ -41,20 +45,26 @@ invariant_of-self g c =
     let pool = c.has_history.ensures.history.0 in
     let lawful = c.has_history.ensures.history.1 in
     let part_is = c.has_history.ensures.history.2 in
-    let place = subst (λ d. IsLaneAfter s.seat.table.size.cells s.seat.lane s.seat.place d) (sym part_is) c.has_history.ensures.place in
+    let place = subst (λ d. IsLaneAfter s.seat.table.size.cells s.seat.lane s.seat.place d)
+    (sym part_is) c.has_history.ensures.place in
     let linked : (e : Entry) → Has s.seat.part (fetch s.seat.lane e) → e.cell < s.seat.table.size.cells
     → Has (linked_cells s.seat.lane s.seat.part) e.cell =
-    (λ e has low. subst (λ ks. Has ks e.cell) (c.parts_tell_lanes.ensures.linked pool s.seat.lane ∙ ap (linked_cells s.seat.lane) part_is)
-    (c.lanes_share_cells.ensures.idle s.seat.table.size pool s.seat.lane s.seat.place e lawful place c.producer.invariant.0.idle
+    (λ e has low. subst (λ ks. Has ks e.cell)
+    (c.parts_tell_lanes.ensures.linked pool s.seat.lane ∙ ap (linked_cells s.seat.lane) part_is)
+    (c.lanes_share_cells.ensures.idle s.seat.table.size pool s.seat.lane s.seat.place e lawful place
+    c.producer.invariant.0.idle
     (c.parts_have_accesses.ensures.of pool (Producer s.seat.lane) (fetch s.seat.lane e)
     (subst (λ d. Has d (fetch s.seat.lane e)) (sym part_is) has)).0 low)) in
     let size : s.seat.table.size ≡ h.cells.table.size =
-    ap (λ (v : ProducerView). v.seat.table.size) c.producer.view_is ∙ ap (λ (t : CellsName). t.size) c.requires.producer.table
+    ap (λ (v : ProducerView). v.seat.table.size) c.producer.view_is
+    ∙ ap (λ (t : CellsName). t.size) c.requires.producer.table
     ∙ sym (ap (λ (m : MailboxView). m.cells.size) c.mailbox.view_is) ∙ sym (ap (λ (t : CellsName). t.size) table) in
     let own = kept_list s c.producer.invariant.0 linked in
     let took = took_producer h s c.self.invariant.0
-    (subst (λ (z : PoolSize). IsPutList z.cells s.seat.lane s.seat.part (put_list_of s)) size own) c.take_lane.ensures.was_out in
-    let lanes : c.take_lane.new.hub.table.size.lanes ≡ h.cells.table.size.lanes = ap (λ (v : CellHubView). v.table.size.lanes) cells in
+    (subst (λ (z : PoolSize). IsPutList z.cells s.seat.lane s.seat.part (put_list_of s)) size own)
+    c.take_lane.ensures.was_out in
+    let lanes : c.take_lane.new.hub.table.size.lanes
+    ≡ h.cells.table.size.lanes = ap (λ (v : CellHubView). v.table.size.lanes) cells in
     let wide = c.self.invariant.1 in
     (subst IsHub is took, omega arith, c.self.invariant.2)
 
@@ -67,7 +77,8 @@ returns-clause-was_out g c =
       ledgers = c.self.inside.ledgers.items;
     } in
     let s : ProducerView = record { seat = c.producer.inside.seat; items = c.producer.inside.items.items } in
-    subst (λ (z : HubView × ProducerView). slice_get z.0.puts z.1.seat.lane ≡ Some None) (λ j. (c.self.view_is j, c.producer.view_is j))
+    subst (λ (z : HubView × ProducerView). slice_get z.0.puts z.1.seat.lane ≡ Some None)
+    (λ j. (c.self.view_is j, c.producer.view_is j))
     (is_out h s.seat.lane c.self.invariant.0 c.take_lane.ensures.was_out)
 
 pub returns-clause-hub : goal.returns-clause-hub
@@ -80,10 +91,14 @@ returns-clause-hub g c =
     } in
     let s : ProducerView = record { seat = c.producer.inside.seat; items = c.producer.inside.items.items } in
     let table : h.cells.table ≡ c.mailbox.inside.cells =
-    ap (λ (v : HubView). v.cells.table) c.self.view_is ∙ c.requires.hub.cells ∙ sym (ap (λ (m : MailboxView). m.cells) c.mailbox.view_is) in
+    ap (λ (v : HubView). v.cells.table) c.self.view_is ∙ c.requires.hub.cells
+    ∙ sym (ap (λ (m : MailboxView). m.cells) c.mailbox.view_is) in
     let lane : c.lane-lane.result ≡ s.seat.lane = c.lane-lane.ensures in
     let cells : c.take_lane.new.hub ≡ (with_taken_producer s h).cells =
-    c.take_lane.ensures.hub ∙ ap (λ (t : CellsName). record { table = t; roll = roll_with_part (Producer s.seat.lane) s.seat.part h.cells.roll }) (sym table) in
+    c.take_lane.ensures.hub ∙ ap (λ (t : CellsName). record {
+      table = t;
+      roll = roll_with_part (Producer s.seat.lane) s.seat.part h.cells.roll;
+    }) (sym table) in
     let kept : PutListView = record { items = s.items; ended = c.has_ended-ended.result } in
     let its : kept ≡ put_list_of s = λ j. record { items = s.items; ended = c.has_ended-ended.ensures j } in
     let lists : slice_set h.puts c.lane-lane.result (Some kept) ≡ slice_set h.puts s.seat.lane (Some (put_list_of s)) =

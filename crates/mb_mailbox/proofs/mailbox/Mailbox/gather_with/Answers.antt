@@ -13,7 +13,8 @@ close-requires-2-clause-all_in g c =
       puts = c.hub.inside.puts.items;
       ledgers = c.hub.inside.ledgers.items;
     } in
-    let ledgers : count_missing h.ledgers ≡ 0 = ap (λ (x : HubView). count_missing x.ledgers) c.hub.view_is ∙ c.requires.consumers in
+    let ledgers : count_missing h.ledgers ≡ 0 = ap (λ (x : HubView). count_missing x.ledgers)
+    c.hub.view_is ∙ c.requires.consumers in
     c.gathering_is_sound.ensures.all_in h c.hub.invariant.0 ledgers
 
 pub returns-clause-headline : goal.returns-clause-headline
@@ -26,9 +27,12 @@ returns-clause-headline g c =
     } in
     let m : MailboxView = record { cells = c.self.inside.cells; claims = c.self.inside.claims } in
     let r = c.args.draft in
-    let of : IsHubOf m h = subst (λ (z : MailboxView × HubView). IsHubOf z.0 z.1) (λ j. (sym c.self.view_is j, sym c.hub.view_is j)) c.requires.of in
-    let ledgers : count_missing h.ledgers ≡ 0 = ap (λ (x : HubView). count_missing x.ledgers) c.hub.view_is ∙ c.requires.consumers in
-    let puts : count_missing h.puts ≡ 0 = ap (λ (x : HubView). count_missing x.puts) c.hub.view_is ∙ c.requires.producers in
+    let of : IsHubOf m h = subst (λ (z : MailboxView × HubView). IsHubOf z.0 z.1)
+    (λ j. (sym c.self.view_is j, sym c.hub.view_is j)) c.requires.of in
+    let ledgers : count_missing h.ledgers ≡ 0 = ap (λ (x : HubView). count_missing x.ledgers)
+    c.hub.view_is ∙ c.requires.consumers in
+    let puts : count_missing h.puts ≡ 0 = ap (λ (x : HubView). count_missing x.puts) c.hub.view_is
+    ∙ c.requires.producers in
     let rep : IsReportIn m.cells.size.lanes (consumer_count m.claims.layout) h r =
     subst (λ (z : MailboxView × HubView). IsReportIn z.0.cells.size.lanes (consumer_count z.0.claims.layout) z.1 r)
     (λ j. (sym c.self.view_is j, sym c.hub.view_is j)) c.requires.draft in
@@ -40,7 +44,8 @@ returns-clause-headline g c =
 pub returns-clause-full : goal.returns-clause-full
 returns-clause-full g c =
     let i : IsHub c.args.hub = subst IsHub c.hub.view_is c.hub.invariant.0 in
-    c.gathering_is_sound.ensures.full c.args.self c.args.hub c.args.draft i c.requires.of c.requires.producers (returns-clause-headline g c)
+    c.gathering_is_sound.ensures.full c.args.self c.args.hub c.args.draft i c.requires.of
+    c.requires.producers (returns-clause-headline g c)
 
 pub returns-clause-undecided : goal.returns-clause-undecided
 returns-clause-undecided g c =

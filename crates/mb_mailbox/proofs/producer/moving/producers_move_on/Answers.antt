@@ -1,18 +1,23 @@
-use Rattle.mb_mailbox.proofs.Closing.{ends_over, finish_is_closed, finish_is_over, finish_lane, finish_not_busy, finish_same, finish_still, found_none, full_lane, full_stays, full_still, is_end, is_full, stays_full}
+use Rattle.mb_mailbox.proofs.Closing.{ends_over, finish_is_closed, finish_is_over, finish_lane, finish_not_busy, finish_same, finish_still, found_none}
+use Rattle.mb_mailbox.proofs.Closing.{full_lane, full_stays, full_still, is_end, is_full, stays_full}
 use Rattle.mb_mailbox.proofs.Putting.{is_closed, is_put, offer_is_over, is_refused, not_busy, over_stays, room, still}
 use Rattle.mb_mailbox.proofs.producer.moving.producers_move_on.Goals as goal
 
 pub returns-clause-linked : goal.returns-clause-linked
-returns-clause-linked c s x k one two a b now i o f g = is_put c.lanes_keep_to_their_parts.ensures s x k one two a b now i o f g
+returns-clause-linked c s x k one two a b now i o f g = is_put c.lanes_keep_to_their_parts.ensures s
+    x k one two a b now i o f g
 
 pub returns-clause-kept : goal.returns-clause-kept
-returns-clause-kept c s x k one two a b now i o f g = still c.lanes_keep_to_their_parts.ensures s x k one two a b now i o f g
+returns-clause-kept c s x k one two a b now i o f g = still c.lanes_keep_to_their_parts.ensures s x
+    k one two a b now i o f g
 
 pub returns-clause-room : goal.returns-clause-room
-returns-clause-room c s x k one two a b now i o f g = room c.lanes_keep_to_their_parts.ensures s x k one two a b now i o f g
+returns-clause-room c s x k one two a b now i o f g = room c.lanes_keep_to_their_parts.ensures s x k
+    one two a b now i o f g
 
 pub returns-clause-linked_stays : goal.returns-clause-linked_stays
-returns-clause-linked_stays c s x k one two a b now i o f g = over_stays c.lanes_keep_to_their_parts.ensures s x k one two a b now i o f g
+returns-clause-linked_stays c s x k one two a b now i o f g = over_stays
+    c.lanes_keep_to_their_parts.ensures s x k one two a b now i o f g
 
 pub returns-clause-full : goal.returns-clause-full
 returns-clause-full c s x now i h m = is_full c.lanes_keep_to_their_parts.ensures s x now h m
@@ -21,7 +26,8 @@ pub returns-clause-full_stays : goal.returns-clause-full_stays
 returns-clause-full_stays c s x now m = full_stays s x now m
 
 pub returns-clause-stays_full : goal.returns-clause-stays_full
-returns-clause-stays_full c s x answer now h m none going = stays_full c.lanes_keep_to_their_parts.ensures s x answer now h m none going
+returns-clause-stays_full c s x answer now h m none going = stays_full
+    c.lanes_keep_to_their_parts.ensures s x answer now h m none going
 
 pub returns-clause-full_kept : goal.returns-clause-full_kept
 returns-clause-full_kept c s x now i m = full_still c.lanes_keep_to_their_parts.ensures s x now i m
@@ -33,7 +39,8 @@ pub returns-clause-closed : goal.returns-clause-closed
 returns-clause-closed c s x now h m = is_closed c.lanes_keep_to_their_parts.ensures s x now h m
 
 pub returns-clause-ended : goal.returns-clause-ended
-returns-clause-ended c s x answer now h m over = offer_is_over c.lanes_keep_to_their_parts.ensures s x answer now h m over
+returns-clause-ended c s x answer now h m over = offer_is_over c.lanes_keep_to_their_parts.ensures s
+    x answer now h m over
 
 pub returns-clause-never_busy : goal.returns-clause-never_busy
 returns-clause-never_busy c s x now i m = not_busy s x now i m
@@ -51,7 +58,8 @@ pub returns-clause-finish_closed : goal.returns-clause-finish_closed
 returns-clause-finish_closed c s now h m = finish_is_closed c.lanes_keep_to_their_parts.ensures s now h m
 
 pub returns-clause-finish_ended : goal.returns-clause-finish_ended
-returns-clause-finish_ended c s answer now h m over = finish_is_over c.lanes_keep_to_their_parts.ensures s answer now h m over
+returns-clause-finish_ended c s answer now h m over = finish_is_over
+    c.lanes_keep_to_their_parts.ensures s answer now h m over
 
 pub returns-clause-finish_idle : goal.returns-clause-finish_idle
 returns-clause-finish_idle c s now i m = finish_not_busy s now i m

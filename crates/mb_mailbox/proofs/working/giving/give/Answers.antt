@@ -19,8 +19,10 @@ returns-clause-given g c =
     ∙ ap length (same_by_producers (λ h. h.ledgers) (λ h. refl) c.give_producers.new.jobs.items c.args.hub.now) in
     record {
       puts = c.give_producers.ensures.jobs;
-      polls = subst (λ (n : ℕ). ArePollJobs c.args.mailbox.now n c.give_consumers.new.jobs.items) same c.give_consumers.ensures.jobs;
+      polls = subst (λ (n : ℕ). ArePollJobs c.args.mailbox.now n c.give_consumers.new.jobs.items)
+          same c.give_consumers.ensures.jobs;
       small = omega (arith, c.give_producers.ensures.few, c.args.items.ok.0);
       few = c.give_consumers.ensures.few;
-      hub = c.give_consumers.ensures.hub ∙ ap (with_consumers c.give_consumers.new.jobs.items) c.give_producers.ensures.hub;
+      hub = c.give_consumers.ensures.hub ∙ ap (with_consumers c.give_consumers.new.jobs.items)
+          c.give_producers.ensures.hub;
     }

@@ -22,14 +22,21 @@ loop-rng-preserved g c =
       left = grind (arith, common_steps);
       room = grind (arith, common_steps);
       jobs = rw c.push_reserved.ensures.items
-          (poll_jobs_more c.args.mailbox.now (length c.args.hub.now.ledgers) (length c.loop-rng.hub.ledgers) c.loop-rng.jobs.items _
-          i.jobs (omega (arith, count, jobs)) (new_number c.args.mailbox.now c.loop-rng.hub c.in-Ok-consumer.consumer c.in-Ok-consumer.ensures.consumer));
-      hub = rw c.push_reserved.ensures.items (hub ∙ ap with_consumer i.hub ∙ sym (consumers_snoc c.loop-rng.jobs.items _ c.args.hub.now));
+          (poll_jobs_more c.args.mailbox.now (length c.args.hub.now.ledgers)
+          (length c.loop-rng.hub.ledgers) c.loop-rng.jobs.items _
+          i.jobs (omega (arith, count, jobs))
+          (new_number c.args.mailbox.now c.loop-rng.hub c.in-Ok-consumer.consumer
+          c.in-Ok-consumer.ensures.consumer));
+      hub = rw c.push_reserved.ensures.items
+          (hub ∙ ap with_consumer i.hub ∙
+          sym (consumers_snoc c.loop-rng.jobs.items _ c.args.hub.now));
       all_of = c.in-Ok-consumer.ensures.of;
       ledgers = omega (arith, count, len, longer);
     }
 
 pub returns-clause-all : goal.returns-clause-all
 returns-clause-all g c = λ done.
-    let none = nil_from_length c.loop-rng.rng-iterator.rest.items (sym c.loop-rng.rng-iterator.rest.ok.0 ∙ c.in-None.ensures.steps.0) in
-    c.loop-rng.invariant.sources ∙ all_seen c.loop-rng.yielded c.loop-rng.rng-iterator.rest.items c.args.rngs.items c.loop-rng.invariant.rest none
+    let none = nil_from_length c.loop-rng.rng-iterator.rest.items
+    (sym c.loop-rng.rng-iterator.rest.ok.0 ∙ c.in-None.ensures.steps.0) in
+    c.loop-rng.invariant.sources ∙ all_seen c.loop-rng.yielded c.loop-rng.rng-iterator.rest.items
+    c.args.rngs.items c.loop-rng.invariant.rest none

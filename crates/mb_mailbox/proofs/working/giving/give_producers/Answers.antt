@@ -20,9 +20,13 @@ loop-list-preserved g c =
       left = grind (arith, common_steps);
       room = grind (arith, common_steps);
       jobs = rw c.push_reserved.ensures.items
-          (put_jobs_more c.args.mailbox.now (length c.args.hub.now.puts) (length c.loop-list.hub.puts) c.loop-list.yielded c.loop-list.jobs.items c.in-Some.list _
+          (put_jobs_more c.args.mailbox.now (length c.args.hub.now.puts)
+          (length c.loop-list.hub.puts) c.loop-list.yielded c.loop-list.jobs.items
+          c.in-Some.list _
           i.jobs (omega (arith, count, jobs)) c.in-Ok-producer.ensures.producer refl);
-      hub = rw c.push_reserved.ensures.items (hub ∙ ap with_producer i.hub ∙ sym (producers_snoc c.loop-list.jobs.items _ c.args.hub.now));
+      hub = rw c.push_reserved.ensures.items
+          (hub ∙ ap with_producer i.hub ∙
+          sym (producers_snoc c.loop-list.jobs.items _ c.args.hub.now));
       all_of = c.in-Ok-producer.ensures.of;
       puts = omega (arith, count, len, longer);
     }

@@ -10,5 +10,7 @@ loop-one-preserved g c = record {
   left = grind (arith, common_steps);
   room = grind (arith, common_steps);
   kept = rw c.push_reserved.ensures.items
-      (zip_more (PollKeeps g.G.Gate.may_stop g.G.Gate.may_pass g.R.Rng.stream) c.loop-one.yielded c.loop-one.done.items c.in-Some.one c.poll_end.result c.loop-one.invariant.kept c.poll_end.ensures);
+      (zip_more (PollKeeps g.G.Gate.may_stop g.G.Gate.may_pass g.R.Rng.stream) c.loop-one.yielded
+      c.loop-one.done.items c.in-Some.one c.poll_end.result c.loop-one.invariant.kept
+      c.poll_end.ensures);
 }

@@ -15,8 +15,16 @@ scoped-requires g c =
           (
             c.requires.room,
             (
-              record { owned = t.send-A.owned; leaving = λ k. Quiet-if (k (of_param 0)) (unseen {D = g.row.A.Denot}) unseen (λ x w. tt {0}) (λ x w. tt {0}) },
-              record { owned = t.send-R.owned; leaving = λ k. Quiet-if (k (of_param 2)) (unseen {D = g.row.R.Denot}) unseen (λ x w. tt {0}) (λ x w. tt {0}) },
+              record {
+                owned = t.send-A.owned;
+                leaving = λ k. Quiet-if (k (of_param 0))
+                    (unseen {D = g.row.A.Denot}) unseen (λ x w. tt {0}) (λ x w. tt {0});
+              },
+              record {
+                owned = t.send-R.owned;
+                leaving = λ k. Quiet-if (k (of_param 2))
+                    (unseen {D = g.row.R.Denot}) unseen (λ x w. tt {0}) (λ x w. tt {0});
+              },
               search (sendable, t.sync-A),
               search (sendable, t.sync-W),
               search (sendable, t.sync-G),

@@ -10,7 +10,8 @@ use Rattle.mb_mailbox.proofs.working.workers.poll_lanes.Goals as goal
 use Rattle.mb_mailbox.proofs.working.workers.poll_lanes.Goals.{else-loop-call-test, then-loop-call-test+in-Some+else-not-load+then-not-enter}
 
 abbrev sixteen : List Bool
-sixteen = false ∷ false ∷ false ∷ false ∷ false ∷ false ∷ false ∷ false ∷ false ∷ false ∷ false ∷ false ∷ false ∷ false ∷ false ∷ false ∷ []
+sixteen = false ∷ false ∷ false ∷ false ∷ false ∷ false ∷ false ∷ false ∷ false ∷ false ∷ false
+    ∷ false ∷ false ∷ false ∷ false ∷ false ∷ []
 
 pub loop-call-init : goal.loop-call-init
 loop-call-init g c = record {
@@ -42,28 +43,42 @@ loop-call-preserved g c =
       };
       read = c.poll_lane.ensures.read;
       only = λ none.
-          c.poll_lane.ensures.only c.args.lanes.from c.args.lanes.end c.in-Some.ensures.low c.in-Some.ensures.some.0 (was.only none);
+          c.poll_lane.ensures.only c.args.lanes.from c.args.lanes.end c.in-Some.ensures.low
+          c.in-Some.ensures.some.0 (was.only none);
       marks = λ p e. ⊎_elim
-          (λ (same : p ≡ c.in-Some.lane). (omega (arith, same, c.in-Some.ensures.low), omega (arith, same, c.in-Some.ensures.some.0)))
+          (λ (same : p ≡ c.in-Some.lane). (
+            omega (arith, same, c.in-Some.ensures.low),
+            omega (arith, same, c.in-Some.ensures.some.0),
+          ))
           (λ t. was.marks p t) (c.poll_lane.ensures.marks p e);
       ends = λ none. let met = was.ends none in
           let next = c.poll_lane.ensures.ends in
           omega (arith, met, next);
       made = omega (arith, made, more);
-      most = budget_more c.args.lanes.budget c.loop-call.call _ _ _ (omega (arith, c.loop-call.auto.call)) was.most c.poll_lane.ensures.most;
-      called = called_more (g.G.Gate.may_pass c.args.gate.now) _ _ _ (c.loop-call.call - 1) _ c.in-Some.lane c.poll_lane.ensures.polled.0 _ _ _ _ _ _
-          (omega (arith, c.loop-call.auto.call)) was.called c.in-Some.ensures.low c.in-Some.ensures.some.0 c.poll_lane.ensures.polled.1 (search rules);
+      most = budget_more c.args.lanes.budget c.loop-call.call _ _ _
+          (omega (arith, c.loop-call.auto.call)) was.most c.poll_lane.ensures.most;
+      called = called_more (g.G.Gate.may_pass c.args.gate.now) _ _ _ (c.loop-call.call - 1) _
+          c.in-Some.lane c.poll_lane.ensures.polled.0 _ _ _ _ _ _
+          (omega (arith, c.loop-call.auto.call)) was.called c.in-Some.ensures.low
+          c.in-Some.ensures.some.0 c.poll_lane.ensures.polled.1 (search rules);
     }
 
 pub returns-in_default : goal.returns-in_default
 returns-in_default g c = record {
   same = c.loop-call.invariant.same;
   read = λ f p low high. c.loop-call.invariant.read p
-      (within c.loop-call.ended p (omega (arith, high, c.args.lanes.few, c.loop-call-test.array_long)) (c.in_default.ensures.none p low high));
+      (within c.loop-call.ended p (omega (
+        arith,
+        high,
+        c.args.lanes.few,
+        c.loop-call-test.array_long,
+      )) (c.in_default.ensures.none p low high));
   ends = λ f none.
       let met = c.loop-call.invariant.ends none in
       let all = marks_all c.loop-call.ended c.args.lanes.from c.args.lanes.end c.loop-call.invariant.marks
-      (λ p low high. within c.loop-call.ended p (omega (arith, high, c.args.lanes.few, c.loop-call-test.array_long)) (c.in_default.ensures.none p low high)) in
+      (λ p low high. within c.loop-call.ended p
+      (omega (arith, high, c.args.lanes.few, c.loop-call-test.array_long))
+      (c.in_default.ensures.none p low high)) in
       omega (arith, met, all);
   marked = λ none. record {
     marks = c.loop-call.ended;
@@ -86,11 +101,18 @@ pub returns-in-None : goal.returns-in-None
 returns-in-None g c = record {
   same = c.loop-call.invariant.same;
   read = λ f p low high. c.loop-call.invariant.read p
-      (within c.loop-call.ended p (omega (arith, high, c.args.lanes.few, c.loop-call-test.array_long)) (c.in-None.ensures.none p low high));
+      (within c.loop-call.ended p (omega (
+        arith,
+        high,
+        c.args.lanes.few,
+        c.loop-call-test.array_long,
+      )) (c.in-None.ensures.none p low high));
   ends = λ f none.
       let met = c.loop-call.invariant.ends none in
       let all = marks_all c.loop-call.ended c.args.lanes.from c.args.lanes.end c.loop-call.invariant.marks
-      (λ p low high. within c.loop-call.ended p (omega (arith, high, c.args.lanes.few, c.loop-call-test.array_long)) (c.in-None.ensures.none p low high)) in
+      (λ p low high. within c.loop-call.ended p
+      (omega (arith, high, c.args.lanes.few, c.loop-call-test.array_long))
+      (c.in-None.ensures.none p low high)) in
       omega (arith, met, all);
   marked = λ none. record {
     marks = c.loop-call.ended;
@@ -113,7 +135,9 @@ pub returns : goal.returns
 returns g c =
     let i = c.loop-call.invariant in
     let most = i.most in
-    let stop : IsStopBefore (g.G.Gate.may_stop c.args.gate.now) (who.Consumer c.args.job.consumer.seat.consumer) c.loop-call.call = elim c.loop-call-test.branch [
+    let stop : IsStopBefore (g.G.Gate.may_stop c.args.gate.now)
+    (who.Consumer c.args.job.consumer.seat.consumer) c.loop-call.call = elim
+    c.loop-call-test.branch [
       | else-loop-call-test w ↦ inr (omega (arith, w.loop-call-test.false, c.loop-call.auto.call))
       | then-loop-call-test+in-Some+else-not-load+then-not-enter w ↦ inl (search rules)
     ] in
@@ -133,14 +157,16 @@ returns g c =
           let met = i.ends none in
           let low = c.in-Some-next_lane.ensures.low in
           let some = c.in-Some-next_lane.ensures.some in
-          let fewer = marks_fewer c.loop-call.ended c.args.lanes.from c.args.lanes.end c.in-Some-next_lane.field-0 i.marks some.1 low some.0 in
+          let fewer = marks_fewer c.loop-call.ended c.args.lanes.from c.args.lanes.end
+          c.in-Some-next_lane.field-0 i.marks some.1 low some.0 in
           omega (arith, met, fewer);
       only = λ o. i.only;
       polled = λ o. record {
         calls = c.loop-call.call - 1;
         left = g.R.Rng.stream c.loop-call.rng;
         called = i.called;
-        stop = λ t. subst (λ (n : ℕ). IsStopBefore (g.G.Gate.may_stop c.args.gate.now) (who.Consumer c.args.job.consumer.seat.consumer) n)
+        stop = λ t. subst (λ (n : ℕ). IsStopBefore (g.G.Gate.may_stop c.args.gate.now)
+            (who.Consumer c.args.job.consumer.seat.consumer) n)
             (omega (arith, c.loop-call.auto.call)) stop;
       };
     }

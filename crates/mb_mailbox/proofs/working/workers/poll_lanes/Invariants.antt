@@ -15,5 +15,6 @@ invariant-loop-call g l = record {
   ends : accesses_made l.fn.job.consumer ≡ 0 → ends_met l.consumer.reader.part ≡ count_marks l.ended;
   made : l.call ≤ suc (accesses_made l.consumer);
   most : accesses_made l.consumer ≤ accesses_made l.fn.job.consumer + l.budget * (l.call - 1);
-  called : HasCalled (g.G.Gate.may_pass l.gate) l.from l.end l.budget (l.call - 1) (g.R.Rng.stream l.fn.job.rng) (g.R.Rng.stream l.rng) l.fn.job.consumer l.consumer;
+  called : HasCalled (g.G.Gate.may_pass l.gate) l.from l.end l.budget (l.call - 1)
+      (g.R.Rng.stream l.fn.job.rng) (g.R.Rng.stream l.rng) l.fn.job.consumer l.consumer;
 }

@@ -22,11 +22,24 @@ returns g c =
       };
       over = c.finish.ensures.over;
       front = subst (λ (l : List ℕ). IsFront l list) (sym items) (front_take n list);
-      full = λ h. elim c.if-stopped.branch [ then-stopped w ↦ cc | else-stopped w ↦ rw items (rw length-take (omega (arith, c.args.job.list.ok.0))) ];
+      full = λ h. elim c.if-stopped.branch [
+        | then-stopped w ↦ cc
+        | else-stopped w ↦ rw items
+            (rw length-take (omega (arith, c.args.job.list.ok.0)))
+      ];
       found = λ h some. elim c.if-stopped.branch [
         | then-stopped w ↦ absurd (cc)
-        | else-stopped w ↦ found_still c.finish.result c.put_items-count.new.producer c.finish.new.self c.finish.ensures.ended c.finish.ensures.closed_same
-            c.finish.ensures.never_busy (found h (λ z. some (omega (arith, c.args.job.list.ok.0, w.full-is, w.len.ensures, z, ap length c.deref.ensures.value))))
+        | else-stopped w ↦ found_still c.finish.result c.put_items-count.new.producer
+            c.finish.new.self c.finish.ensures.ended c.finish.ensures.closed_same
+            c.finish.ensures.never_busy (found h
+            (λ z. some (omega (
+              arith,
+              c.args.job.list.ok.0,
+              w.full-is,
+              w.len.ensures,
+              z,
+              ap length c.deref.ensures.value,
+            ))))
       ];
       none = λ t. elim c.if-stopped.branch [ then-stopped w ↦ cc | else-stopped w ↦ absurd (cc) ];
       short = λ t o.
@@ -34,16 +47,28 @@ returns g c =
           subst (λ (k : ℕ). k < length list) count few;
       had_cells = λ t o none.
           c.put_items-count.ensures.had_cells t
-          (found_before c.finish.result c.put_items-count.new.producer c.finish.new.self c.finish.ensures.ended c.finish.ensures.closed_same c.finish.ensures.never_busy none);
+          (found_before c.finish.result c.put_items-count.new.producer c.finish.new.self
+          c.finish.ensures.ended c.finish.ensures.closed_same c.finish.ensures.never_busy none);
       stop = λ t o.
-          subst (λ (k : ℕ). IsStopBefore (g.G.Gate.may_stop c.args.gate.now) (who.Producer c.args.job.producer.seat.lane) (suc k)) count
+          subst (λ (k : ℕ). IsStopBefore (g.G.Gate.may_stop c.args.gate.now)
+          (who.Producer c.args.job.producer.seat.lane) (suc k)) count
           (c.put_items-count.ensures.stop t o);
-      passed = subst (λ (k : ℕ). ArePassed (g.G.Gate.may_pass c.args.gate.now) (who.Producer c.args.job.producer.seat.lane) k) count c.put_items-count.ensures.passed;
+      passed = subst (λ (k : ℕ). ArePassed (g.G.Gate.may_pass c.args.gate.now)
+          (who.Producer c.args.job.producer.seat.lane) k) count c.put_items-count.ensures.passed;
       passed_full = λ h some. elim c.if-stopped.branch [
         | then-stopped w ↦ absurd (cc)
         | else-stopped w ↦
-            subst (λ (k : ℕ). g.G.Gate.may_pass c.args.gate.now (who.Producer c.args.job.producer.seat.lane) (suc k)) count
+            subst (λ (k : ℕ). g.G.Gate.may_pass c.args.gate.now
+            (who.Producer c.args.job.producer.seat.lane) (suc k)) count
             (c.put_items-count.ensures.passed_full h
-            (λ z. some (omega (arith, c.args.job.list.ok.0, w.full-is, w.len.ensures, z, ap length c.deref.ensures.value))))
+            (λ z. some (omega (
+              arith,
+              c.args.job.list.ok.0,
+              w.full-is,
+              w.len.ensures,
+              z,
+              ap length
+                  c.deref.ensures.value,
+            ))))
       ];
     }

@@ -27,9 +27,12 @@ returns c =
     let me = c.self.inside.seat.me in
     let p = c.self.inside.number in
     let h : History = i.history.0 in
-    let place = subst (λ (d : History). IsLaneAfter (size_in me.0).cells p c.self.inside.place d) (sym i.history.2) i.stands in
-    let law = c.lanes_refuse_by_what_was_done.ensures.finish_closed (size_in me.0) h p c.self.inside.place i.history.1 place in
-    let ended : has_ended p h ≡ has_ended p (done_in me.0) = c.parts_tell_lanes.ensures.ended h p ∙ ap (has_ended p) i.history.2 in
+    let place = subst (λ (d : History). IsLaneAfter (size_in me.0).cells p c.self.inside.place d)
+    (sym i.history.2) i.stands in
+    let law = c.lanes_refuse_by_what_was_done.ensures.finish_closed (size_in me.0) h p
+    c.self.inside.place i.history.1 place in
+    let ended : has_ended p h ≡ has_ended p (done_in me.0) = c.parts_tell_lanes.ensures.ended h p
+    ∙ ap (has_ended p) i.history.2 in
     compared _ c.finish_refusal.result c.eq.result (has_ended p (done_in me.0)) c.eq.ensures refl refl refl
     (λ e. sym ended ∙ law.0 (sym c.finish_refusal.ensures ∙ e)) (λ e. c.finish_refusal.ensures ∙ law.1 (ended ∙ e))
     ∙ ap (λ (v : LaneSeatView). has_ended v.lane v.part) c.self.view_is

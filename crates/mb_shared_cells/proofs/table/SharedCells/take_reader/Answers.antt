@@ -9,7 +9,8 @@ pub join_seat-requires : goal.join_seat-requires
 join_seat-requires g c =
     let me = c.hub.inside.seat.me in
     let its = c.seat.inside.seat.me in
-    let same = ap (λ v. v.table.id) c.hub.view_is ∙ ap (λ v. v.id) c.requires.hub ∙ sym (ap (λ v. v.id) c.self.view_is) in
+    let same = ap (λ v. v.table.id) c.hub.view_is ∙ ap (λ v. v.id) c.requires.hub
+    ∙ sym (ap (λ v. v.id) c.self.view_is) in
     let theirs = ap (λ v. v.table.id) c.seat.view_is ∙ ap (λ v. v.id) c.requires.seat
     ∙ sym (ap (λ v. v.id) c.self.view_is) in
     let wide = c.self.invariant.1 in (
@@ -17,7 +18,8 @@ join_seat-requires g c =
       theirs,
       ap (λ (z : SeatState). z.1) c.seat.invariant.is,
       omega (arith, wide),
-      join_asked _ _ _ _ _ (size_in me.0) (size_in its.0) (roll_in me.0) (Reader (number_in its.0)) (known_in its.0) (done_in its.0)
+      join_asked _ _ _ _ _ (size_in me.0) (size_in its.0) (roll_in me.0) (Reader (number_in its.0))
+          (known_in its.0) (done_in its.0)
           (ap (λ (z : SeatState). z.0) c.hub.invariant.is) (ap (λ (z : SeatState). z.0) c.seat.invariant.is),
     )
 
@@ -25,10 +27,14 @@ pub load-requires : goal.load-requires
 load-requires g c =
     let me = c.hub.inside.seat.me in
     let its = c.seat.inside.seat.me in
-    let same = ap (λ v. v.table.id) c.hub.view_is ∙ ap (λ v. v.id) c.requires.hub ∙ sym (ap (λ v. v.id) c.self.view_is) in
+    let same = ap (λ v. v.table.id) c.hub.view_is ∙ ap (λ v. v.id) c.requires.hub
+    ∙ sym (ap (λ v. v.id) c.self.view_is) in
     let wide = c.self.invariant.1 in
     let joined = c.join_seat.ensures in
-    let is = joined.2 ∙ (λ i. (hub_after_join (c.hub.invariant.is i).0 (c.seat.invariant.is i).0, (c.hub.invariant.is i).1)) in (
+    let is = joined.2 ∙ (λ i. (
+      hub_after_join (c.hub.invariant.is i).0 (c.seat.invariant.is i).0,
+      (c.hub.invariant.is i).1,
+    )) in (
       joined.0 ∙ same,
       omega (arith, wide),
       load_asked _ _ _ _ (size_in me.0) (roll_in me.0) (Reader (number_in its.0)) (done_in its.0) is,

@@ -61,8 +61,10 @@ pub invariant_of-hub : goal.invariant_of-hub
 invariant_of-hub g c =
     let hub = c.hub.invariant in
     let roll = roll_of c.hub.inside.seat.me.0 in
-    let before = has_drawn hub.size c.hub.inside.seat.me c.fetch_add-number.new.seat.me hub.is c.fetch_add-number.ensures.2.1 in
-    let now = has_given hub.size c.hub.inside.seat.me c.fetch_add-number.new.seat.me c.split_seat-seat.new.seat.me before
+    let before = has_drawn hub.size c.hub.inside.seat.me c.fetch_add-number.new.seat.me hub.is
+    c.fetch_add-number.ensures.2.1 in
+    let now = has_given hub.size c.hub.inside.seat.me c.fetch_add-number.new.seat.me
+    c.split_seat-seat.new.seat.me before
     c.split_seat-seat.ensures.2 in
     let given = hub.all in
     let out = hub.absent in
@@ -78,7 +80,8 @@ pub invariant_of-result : goal.invariant_of-result
 invariant_of-result g c =
     let hub = c.hub.invariant in
     let roll = roll_of c.hub.inside.seat.me.0 in
-    let before = has_drawn hub.size c.hub.inside.seat.me c.fetch_add-number.new.seat.me hub.is c.fetch_add-number.ensures.2.1 in
+    let before = has_drawn hub.size c.hub.inside.seat.me c.fetch_add-number.new.seat.me hub.is
+    c.fetch_add-number.ensures.2.1 in
     let now : c.split_seat-seat.result.me ≡ (Standing hub.size (length roll) [], []) =
     c.split_seat-seat.ensures.4 ∙ ap (λ (z : Seated). (newcomer z.0, [])) before in
     let found : c.fetch_add-number.result ≡ length roll = c.fetch_add-number.ensures.2.0 in

@@ -38,7 +38,8 @@ compare_exchange-requires g c =
     let same = ap (λ (v : SeatView). v.table.id) c.seat.view_is ∙ ap (λ (z : ClaimTable). z.id) c.requires.table
     ∙ sym (ap (λ (v : TableView). v.id) c.self.view_is) in
     let may = access_may c.accesses_lengthen_one_part.ensures.own c.accesses_lengthen_one_part.ensures.others t seat _ _
-    c.seat.invariant.size _ _ _ _ c.address-address.result c.args.cell c.args.word next _ (λ n. either (n == 0) value n) g.W.Made.access
+    c.seat.invariant.size _ _ _ _ c.address-address.result c.args.cell c.args.word next _
+    (λ n. either (n == 0) value n) g.W.Made.access
     c.self.invariant.told
     (ap (λ (v : TableView). record { layout = v.layout; cells = v.cells }) c.self.view_is) c.self.invariant.words
     (c.seat.invariant.is
@@ -47,7 +48,8 @@ compare_exchange-requires g c =
     (c.addresses_are_apart.ensures.within (quorums_of t.layout).registers (kinds_of t.layout) t.cells c.args.cell
     next.object (reg_of next.op) c.requires.word c.requires.cell)
     c.requires.next (λ n. exchange_after value n next.op _ op) c.requires.access
-    (λ n small. exchange_small next.object c.args.word n value next.op _ op c.is_word-in-Exchange.ensures small c.ranges.word.fits) in
+    (λ n small. exchange_small next.object c.args.word n value next.op _ op
+    c.is_word-in-Exchange.ensures small c.ranges.word.fits) in
     (same, may.0, may.1)
 
 pub store-requires : goal.store-requires
@@ -89,7 +91,8 @@ invariant_of-seat-in-Store g c =
 
 pub invariant_of-seat-in-Exchange : goal.invariant_of-seat-in-Exchange
 invariant_of-seat-in-Exchange g c =
-    seat_after c.accesses_lengthen_one_part.ensures.own c.seat.inside.consumer (g.W.Made.access c.compare_exchange.result)
+    seat_after c.accesses_lengthen_one_part.ensures.own c.seat.inside.consumer
+    (g.W.Made.access c.compare_exchange.result)
     c.seat.inside.seat.me _ c.seat.invariant
     (ap (λ (a : ClaimAccess). a.consumer) (c.requires.access c.compare_exchange.result)
     ∙ sym (ap (λ (v : SeatView). v.consumer) c.seat.view_is)) c.compare_exchange.ensures.2

@@ -10,7 +10,8 @@ pub join_seat-requires : goal.join_seat-requires
 join_seat-requires g c =
     let id = sym (ap (λ (v : TableView). v.id) c.self.view_is) in
     let same = ap (λ (v : HubView). v.table.id) c.hub.view_is ∙ ap (λ (t : ClaimTable). t.id) c.requires.hub ∙ id in
-    let theirs = ap (λ (v : SeatView). v.table.id) c.seat.view_is ∙ ap (λ (t : ClaimTable). t.id) c.requires.seat ∙ id in
+    let theirs = ap (λ (v : SeatView). v.table.id) c.seat.view_is
+    ∙ ap (λ (t : ClaimTable). t.id) c.requires.seat ∙ id in
     let wide = c.self.invariant.words in (
       same,
       theirs,
@@ -34,7 +35,8 @@ overflow_sub-hub g c =
     let j = c.join_seat.ensures in
     let taking = j.2 ∙ (λ i. (took_in (c.hub.invariant.is i).0 (c.seat.invariant.is i).0, (c.hub.invariant.is i).1)) in
     let out = subst (λ (z : Seated). WasOut z.0) taking c.load.ensures.2.0 in
-    let less = count_out-set (roll_of c.hub.inside.seat.me.0) c.seat.inside.consumer (part_of c.seat.inside.seat.me.0) out
+    let less = count_out-set (roll_of c.hub.inside.seat.me.0) c.seat.inside.consumer
+    (part_of c.seat.inside.seat.me.0) out
     in
     let is = c.hub.invariant.absent in
     omega arith

@@ -16,7 +16,8 @@ returns-else-consumer-consumers-clause-nothing g c h d p word is same =
     let setup = c.args.self.now.setup in
     let made = c.step.ensures.adds h is in
     let entry = subst (λ (e : Event). IsEntry (plan_in setup) e c.step.result made.access h) (sym c.in-Step.is ∙ same)
-    (subst (λ (z : Setup). IsEntry (plan_in z) (event.Step c.in-Step.consumer c.in-Step.lane c.in-Step.word) c.step.result
+    (subst (λ (z : Setup). IsEntry (plan_in z)
+    (event.Step c.in-Step.consumer c.in-Step.lane c.in-Step.word) c.step.result
     made.access h) c.step.ensures.setup made.entry) in
     c.nothing_is_exact.ensures (plan_in setup) h d p word c.step.result made.access
     (c.layouts_are_sound.ensures.table (layout_of setup)) is.lawful entry

@@ -31,7 +31,8 @@ step-made-requires-clause-going g c =
     c.index_mut.result.now first c.producers.ensures c.index_mut.ensures.value c.in-AtCell.is in
     let has = subst (λ (x : Claim). HasSeat c.args.c c.args.p (seat.AtCell c.args.k x) s) (sym read.1) first in
     let not_won = subst (λ (x : Claim). claim_stage x ≢ stage.Won) (sym read.1) c.requires.2 in
-    c.claims_leave_states.ensures.going s c.self.invariant.0 c.args.c c.args.p c.args.k claim c.self.invariant.1 has not_won
+    c.claims_leave_states.ensures.going s c.self.invariant.0 c.args.c c.args.p c.args.k claim
+    c.self.invariant.1 has not_won
 
 pub step-made-requires-clause-cell : goal.step-made-requires-clause-cell
 step-made-requires-clause-cell g c =
@@ -48,7 +49,8 @@ step-made-requires-clause-cell g c =
     let read = seat_read s c.args.c c.args.p c.args.k c.in-AtCell.cell c.producers.result c.requires.0 claim
     c.index_mut.result.now first c.producers.ensures c.index_mut.ensures.value c.in-AtCell.is in
     let has = subst (λ (x : Claim). HasSeat c.args.c c.args.p (seat.AtCell c.args.k x) s) (sym read.1) first in
-    let on = c.claims_leave_states.ensures.on s c.self.invariant.0 c.args.c c.args.p c.args.k claim c.self.invariant.1 has in
+    let on = c.claims_leave_states.ensures.on s c.self.invariant.0 c.args.c c.args.p c.args.k claim
+    c.self.invariant.1 has in
     omega (arith, on.cell, s.setup.small)
 
 pub step-made-requires-clause-held : goal.step-made-requires-clause-held
@@ -195,11 +197,14 @@ returns-clause-adds g c h was =
     c.step-made.new.claim c.step-made.new.self c.step-made.result.step is has going made.consumer made.word now in
     elim c.match-end_note.branch [
       | in-Some w ↦ rw (w.self-is) (noted s h c.args.c c.args.p c.args.word c.args.k c.step-made.result.step.object
-          c.step-made.result.step.turn.act c.step-made.new.claim c.step-made.new.self c.step-made.result.stage made.stage
+          c.step-made.result.step.turn.act c.step-made.new.claim c.step-made.new.self
+          c.step-made.result.stage made.stage
           c.in-AtCell.cell c.producers.result w.cells.result read.0 c.producers.ensures w.cells.ensures adds
           c.end_note.result w.in-Some.note c.end_note.ensures w.in-Some.is)
-      | in_default-end_note w ↦ rw (w.self-is) (unnoted s h c.args.c c.args.p c.args.word c.args.k c.step-made.result.step.object
-          c.step-made.result.step.turn.act c.step-made.new.claim c.step-made.new.self c.step-made.result.stage made.stage
+      | in_default-end_note w ↦ rw (w.self-is)
+          (unnoted s h c.args.c c.args.p c.args.word c.args.k c.step-made.result.step.object
+          c.step-made.result.step.turn.act c.step-made.new.claim c.step-made.new.self
+          c.step-made.result.stage made.stage
           c.in-AtCell.cell c.producers.result cells read.0 c.producers.ensures refl adds
           c.end_note.result c.end_note.ensures w.in_default-end_note.not-Some)
     ]

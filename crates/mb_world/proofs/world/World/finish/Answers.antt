@@ -37,7 +37,8 @@ returns-clause-adds g c h is =
     let lt : c.args.p < (plan_in s.setup).lanes =
     subst (λ (w : WorldState). c.args.p < (plan_in w.setup).lanes) (sym c.self.view_is) c.requires in
     c.calls_leave_states.ensures.finished s h c.args.p c.finish.result c.finish.new.self
-    (subst (λ (w : WorldState). IsWorldAfter h w) (sym c.self.view_is) is) lt c.finish.ensures.meets c.finish.ensures.size
+    (subst (λ (w : WorldState). IsWorldAfter h w) (sym c.self.view_is) is) lt c.finish.ensures.meets
+    c.finish.ensures.size
 
 pub returns-clause-kept : goal.returns-clause-kept
 returns-clause-kept g c h is refused =

@@ -41,7 +41,8 @@ invariant_of-self g c =
     rw (c.producers.ensures)
     (still_sound (event.Step c.args.c c.args.p 0) (answer.Looked c.look-look.result)
     (with_seat c.args.c c.args.p (seat.AtCell k claim) s) h
-    (rw (c.in-Cell.is) (c.looks_leave_states.ensures.found s h c.args.c c.args.p 0 k c.requires.0 c.args.cursor claim is has
+    (rw (c.in-Cell.is) (c.looks_leave_states.ensures.found s h c.args.c c.args.p 0 k c.requires.0
+    c.args.cursor claim is has
     c.requires.2 (sym (c.look-look.ensures.after (pool_accesses h) is.pool) ∙ c.in-Cell.is)
     c.new-claim.ensures.consumer c.new-claim.ensures.going
     (subst (λ (l : Layout). IsClaimIn l claim []) c.as_layout.ensures c.new-claim.ensures.path))))

@@ -51,7 +51,9 @@ returns-clause-kept g c h is refused =
     let lt : c.args.p < (plan_in s.setup).lanes =
     subst (λ (w : WorldState). c.args.p < (plan_in w.setup).lanes) (sym c.self.view_is) c.requires in
     ap (λ (pool : PoolState). with_pool pool s)
-    (c.calls_leave_states.ensures.offer_refused s h c.args.p c.args.item (answer.Offered c.offer.result) c.offer.new.self
+    (c.calls_leave_states.ensures.offer_refused s h c.args.p c.args.item
+    (answer.Offered c.offer.result) c.offer.new.self
     (subst (λ (w : WorldState). IsWorldAfter h w) (sym c.self.view_is) is) lt
-    (subst (λ (w : WorldState). IsRefused (plan_in w.setup) (event.Offer c.args.p c.args.item) (answer.Offered c.offer.result) h)
+    (subst (λ (w : WorldState). IsRefused (plan_in w.setup) (event.Offer c.args.p c.args.item)
+    (answer.Offered c.offer.result) h)
     (sym c.self.view_is) refused) c.offer.ensures.kept) ∙ c.self.view_is

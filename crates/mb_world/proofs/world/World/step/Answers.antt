@@ -17,7 +17,8 @@ compete-requires g c =
       seats = c.self.inside.seats.items;
       notes = c.self.inside.notes.items;
     } in
-    let cs = subst (λ (w : WorldState). c.args.c < consumers_of (plan_in w.setup)) (sym c.self.view_is) c.requires.consumer
+    let cs = subst (λ (w : WorldState). c.args.c < consumers_of (plan_in w.setup))
+    (sym c.self.view_is) c.requires.consumer
     in
     let ps = subst (λ (w : WorldState). c.args.p < (plan_in w.setup).lanes) (sym c.self.view_is) c.requires.lane in
     let has = seat_found s c.self.invariant.0 c.self.invariant.1 c.args.c c.args.p c.producers.result cs ps

@@ -33,7 +33,8 @@ returns-in-Some-step g c =
         suc c.looks.invariant.made,
         omega (arith, c.looks.invariant.count, c.if-left-eq0-2.false),
         one_more t g.M.Drawing.draws g.M.Memory.makes c.args.object _ _ c.looks.invariant.made _ c.looks.memory
-            c.draw-word-in-Look.new.self c.step-in-Look.new.memory c.draw-word-in-Look.result _ c.looks.invariant.steps c.draw-word-in-Look.ensures
+            c.draw-word-in-Look.new.self c.step-in-Look.new.memory c.draw-word-in-Look.result _
+            c.looks.invariant.steps c.draw-word-in-Look.ensures
             (c.in-Some-step.ensures.step t (sym c.values-in-Look.ensures)),
       );
     }
@@ -46,6 +47,7 @@ looks-preserved g c =
       made = suc c.looks.invariant.made;
       count = omega (arith, c.looks.invariant.count, c.if-left-eq0-2.false);
       steps = one_more t g.M.Drawing.draws g.M.Memory.makes c.args.object _ _ c.looks.invariant.made _ c.looks.memory
-          c.draw-word-in-Look.new.self c.step-in-Look.new.memory c.draw-word-in-Look.result _ c.looks.invariant.steps c.draw-word-in-Look.ensures
+          c.draw-word-in-Look.new.self c.step-in-Look.new.memory c.draw-word-in-Look.result _
+          c.looks.invariant.steps c.draw-word-in-Look.ensures
           (c.in_default-step-2.ensures.step t (sym c.values-in-Look.ensures));
     }

@@ -13,10 +13,13 @@ returns-in-Some-clause-steps g c =
     let place = Draw c.in-Draw.input c.draws.limit c.in-Draw.modulus in (
       suc c.draws.invariant.made,
       omega (arith, c.draws.invariant.count, c.draws-test.true),
-      one_more t g.M.Drawing.draws g.M.Memory.makes c.args.object (InConciliator c.args.self) c.args.memory.now c.draws.invariant.made
-          (InConciliator place) c.draws.memory c.draw-word.new.self c.perform-seen.new.self c.draw-word.result (leads.Out c.in-Some.out)
+      one_more t g.M.Drawing.draws g.M.Memory.makes c.args.object (InConciliator c.args.self)
+          c.args.memory.now c.draws.invariant.made
+          (InConciliator place) c.draws.memory c.draw-word.new.self c.perform-seen.new.self
+          c.draw-word.result (leads.Out c.in-Some.out)
           c.draws.invariant.steps c.draw-word.ensures
-          (conciliator_step t place _ (to.Load Value) c.perform-seen.result c.draw-word.result (leads.Out c.in-Some.out) refl
+          (conciliator_step t place _ (to.Load Value) c.perform-seen.result c.draw-word.result
+          (leads.Out c.in-Some.out) refl
           c.perform-seen.ensures (c.in-Some.ensures.reached t (sym c.values-values.ensures))),
     )
 
@@ -25,7 +28,8 @@ finish-requires g c =
     let t : QuorumTable = g.Q.Quorums.table c.args.q.now in
     let place = Draw c.in-Draw.input c.draws.limit c.in-Draw.modulus in
     let first =
-    one_more t g.M.Drawing.draws g.M.Memory.makes c.args.object (InConciliator c.args.self) c.args.memory.now c.draws.invariant.made
+    one_more t g.M.Drawing.draws g.M.Memory.makes c.args.object (InConciliator c.args.self)
+    c.args.memory.now c.draws.invariant.made
     (InConciliator place) c.draws.memory c.draw-word.new.self c.perform-seen.new.self c.draw-word.result
     (leads.Go (InConciliator c.drawn.new.self)) c.draws.invariant.steps c.draw-word.ensures
     (conciliator_step t place _ (to.Load Value) c.perform-seen.result c.draw-word.result
@@ -35,8 +39,10 @@ finish-requires g c =
       place = c.in_default-drawn.ensures.fits t (sym c.values-values.ensures);
       may = λ n word at before mid op steps drawn is.
           c.requires.may (n + suc c.draws.invariant.made) word at before mid op
-          (joined t (DrawsAndMakes g.M.Drawing.draws g.M.Memory.makes c.args.object) (InConciliator c.args.self) c.args.memory.now
-          (suc c.draws.invariant.made) (InConciliator c.drawn.new.self) c.perform-seen.new.self first n (leads.Go at) before steps)
+          (joined t (DrawsAndMakes g.M.Drawing.draws g.M.Memory.makes c.args.object)
+          (InConciliator c.args.self) c.args.memory.now
+          (suc c.draws.invariant.made) (InConciliator c.drawn.new.self) c.perform-seen.new.self
+          first n (leads.Go at) before steps)
           drawn is;
     }
 
@@ -45,7 +51,8 @@ returns-in_default-place g c =
     let t : QuorumTable = g.Q.Quorums.table c.args.q.now in
     let place = Draw c.in-Draw.input c.draws.limit c.in-Draw.modulus in
     let first =
-    one_more t g.M.Drawing.draws g.M.Memory.makes c.args.object (InConciliator c.args.self) c.args.memory.now c.draws.invariant.made
+    one_more t g.M.Drawing.draws g.M.Memory.makes c.args.object (InConciliator c.args.self)
+    c.args.memory.now c.draws.invariant.made
     (InConciliator place) c.draws.memory c.draw-word.new.self c.perform-seen.new.self c.draw-word.result
     (leads.Go (InConciliator c.drawn.new.self)) c.draws.invariant.steps c.draw-word.ensures
     (conciliator_step t place _ (to.Load Value) c.perform-seen.result c.draw-word.result
@@ -57,8 +64,10 @@ returns-in_default-place g c =
       steps = (
         more.0 + suc c.draws.invariant.made,
         omega (arith, more.1, c.draws.invariant.count, c.draws-test.true),
-        joined t (DrawsAndMakes g.M.Drawing.draws g.M.Memory.makes c.args.object) (InConciliator c.args.self) c.args.memory.now
-            (suc c.draws.invariant.made) (InConciliator c.drawn.new.self) c.perform-seen.new.self first more.0 c.finish.result
+        joined t (DrawsAndMakes g.M.Drawing.draws g.M.Memory.makes c.args.object)
+            (InConciliator c.args.self) c.args.memory.now
+            (suc c.draws.invariant.made) (InConciliator c.drawn.new.self) c.perform-seen.new.self
+            first more.0 c.finish.result
             c.finish.new.memory more.2,
       );
     }
@@ -68,13 +77,15 @@ draws-preserved g c =
     let t : QuorumTable = g.Q.Quorums.table c.args.q.now in
     let place = Draw c.in-Draw.input c.draws.limit c.in-Draw.modulus in
     let first =
-    one_more t g.M.Drawing.draws g.M.Memory.makes c.args.object (InConciliator c.args.self) c.args.memory.now c.draws.invariant.made
+    one_more t g.M.Drawing.draws g.M.Memory.makes c.args.object (InConciliator c.args.self)
+    c.args.memory.now c.draws.invariant.made
     (InConciliator place) c.draws.memory c.draw-word.new.self c.perform-seen.new.self c.draw-word.result
     (leads.Go (InConciliator c.drawn.new.self)) c.draws.invariant.steps c.draw-word.ensures
     (conciliator_step t place _ (to.Load Value) c.perform-seen.result c.draw-word.result
     (leads.Go (InConciliator c.drawn.new.self)) refl
     c.perform-seen.ensures (c.in_default-drawn.ensures.reached t (sym c.values-values.ensures))) in
-    let same = c.drawn.ensures.same c.in-Draw-place.input c.in-Draw-place.next c.in-Draw-place.modulus c.in_default-drawn.is
+    let same = c.drawn.ensures.same c.in-Draw-place.input c.in-Draw-place.next
+    c.in-Draw-place.modulus c.in_default-drawn.is
     c.in-Draw-place.is in
     let there : c.drawn.new.self ≡ Draw c.in-Draw.input c.in-Draw-place.next c.in-Draw.modulus =
     let a = c.in-Draw-place.is in let b = same.0 in let d = same.1 in cc in
@@ -83,6 +94,8 @@ draws-preserved g c =
           (c.in_default-drawn.ensures.fits t (sym c.values-values.ensures));
       made = suc c.draws.invariant.made;
       count = omega (arith, c.draws.invariant.count, c.draws-test.true);
-      steps = subst (λ p. AreSteps t (DrawsAndMakes g.M.Drawing.draws g.M.Memory.makes c.args.object) (InConciliator c.args.self)
-          c.args.memory.now (suc c.draws.invariant.made) (leads.Go (InConciliator p)) c.perform-seen.new.self) there first;
+      steps = subst (λ p. AreSteps t (DrawsAndMakes g.M.Drawing.draws g.M.Memory.makes
+          c.args.object) (InConciliator c.args.self)
+          c.args.memory.now (suc c.draws.invariant.made) (leads.Go (InConciliator p))
+          c.perform-seen.new.self) there first;
     }

@@ -37,4 +37,5 @@ pub returns-in-Look-clause-step : goal.returns-in-Look-clause-step
 returns-in-Look-clause-step g c t same =
     rw (c.in-Look.is) (conciliator_step t (Look c.in-Look.input) _ (to.Load Value)
     c.perform-seen-in-Look.result c.args.word _
-    refl c.perform-seen-in-Look.ensures (c.looked.ensures.reached t (InConciliator (Look c.in-Look.input)) c.args.word same))
+    refl c.perform-seen-in-Look.ensures
+    (c.looked.ensures.reached t (InConciliator (Look c.in-Look.input)) c.args.word same))

@@ -19,7 +19,8 @@ proposes-preserved g c =
       place = c.in_default-step.ensures.fits;
       made = suc c.proposes.invariant.made;
       count = omega (arith, c.proposes.invariant.count, c.if-left-eq0.false);
-      steps = one_more t g.M.Drawing.draws g.M.Memory.makes c.args.object _ _ c.proposes.invariant.made _ c.proposes.memory
+      steps = one_more t g.M.Drawing.draws g.M.Memory.makes c.args.object _ _
+          c.proposes.invariant.made _ c.proposes.memory
           c.draw.new.self c.step.new.memory c.draw.result _ c.proposes.invariant.steps c.draw.ensures
           (c.in_default-step.ensures.step c.draw.result);
     }
@@ -33,7 +34,8 @@ returns-in-Some-step g c =
         suc c.checks.invariant.made,
         omega (arith, c.checks.invariant.count, c.if-left-eq0-2.false),
         one_more t g.M.Drawing.draws g.M.Memory.makes c.args.object _ _ c.checks.invariant.made _ c.checks.memory
-            c.draw-in-Check.new.self c.step-in-Check.new.memory c.draw-in-Check.result _ c.checks.invariant.steps c.draw-in-Check.ensures
+            c.draw-in-Check.new.self c.step-in-Check.new.memory c.draw-in-Check.result _
+            c.checks.invariant.steps c.draw-in-Check.ensures
             (c.in-Some-step.ensures.step c.draw-in-Check.result),
       );
     }
@@ -46,6 +48,7 @@ checks-preserved g c =
       made = suc c.checks.invariant.made;
       count = omega (arith, c.checks.invariant.count, c.if-left-eq0-2.false);
       steps = one_more t g.M.Drawing.draws g.M.Memory.makes c.args.object _ _ c.checks.invariant.made _ c.checks.memory
-          c.draw-in-Check.new.self c.step-in-Check.new.memory c.draw-in-Check.result _ c.checks.invariant.steps c.draw-in-Check.ensures
+          c.draw-in-Check.new.self c.step-in-Check.new.memory c.draw-in-Check.result _
+          c.checks.invariant.steps c.draw-in-Check.ensures
           (c.in_default-step-2.ensures.step c.draw-in-Check.result);
     }
