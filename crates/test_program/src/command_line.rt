@@ -147,6 +147,11 @@ fn lines_are_refused(rt: HostRuntime) -> Result<(), Fail> {
         ),
         (
             ["mailbox", "--version"].as_slice(),
+            ErrorKind::DisplayVersion,
+            help,
+        ),
+        (
+            ["mailbox", "--verbose"].as_slice(),
             ErrorKind::UnknownArgument,
             refused,
         ),

@@ -19,7 +19,8 @@ Commands:
   help    Print this message or the help of the given subcommand(s)
 
 Options:
-  -h, --help  Print help
+  -h, --help     Print help
+  -V, --version  Print version
 
 Each command has a help of its own, as `mailbox run --help`.
 ",
