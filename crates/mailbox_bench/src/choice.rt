@@ -7,7 +7,7 @@ use std::fmt;
 pub const PAIRS: u64 = 4;
 
 /// What is done so many times.
-#[derive(Clone, Copy, PartialEq, Eq, Debug)]
+#[derive(Clone, Copy)]
 pub enum Loop {
     /// The words of `MAX_CELLS` cells are made, and nothing else.
     Words,
@@ -89,7 +89,7 @@ pub const SHAPES: [(&str, Shape); 3] = [
 ];
 
 /// A loop with its table, its consumers, the shape of its cells, and how often it is done.
-#[derive(Debug, Drop)]
+#[derive(Drop)]
 pub struct Choice {
     /// What is done.
     pub what: Loop,

@@ -15,7 +15,7 @@ use std::alloc::{AllocError, Allocator};
 use std::fmt;
 
 /// What became of an item, as a consumer notes it.
-#[derive(Clone, Copy, Debug)]
+#[derive(Clone, Copy)]
 pub enum Note {
     /// The consumer took the item, and this is it.
     Took(u64),
@@ -26,7 +26,7 @@ pub enum Note {
 }
 
 /// What the mailboxes together came to.
-#[derive(Clone, Copy, Debug)]
+#[derive(Clone, Copy)]
 pub struct Post {
     /// The items that producers put.
     pub items: u64,

@@ -33,17 +33,22 @@ const REFUSED: u8 = 2;
 
 fn main(rt: HostRuntime) -> io::Result<ExitCode> {
     let words = std::env::args(&rt)?.collect::<Vec<String>>(rt.alloc())?;
-    let Some((_, words)) = words.as_slice().split_first() else {
-        return Ok(ExitCode::from(REFUSED));
-    };
+    match words.as_slice().split_first() {
+        Some((_, words)) => run_asked(&rt, words),
+        None => Ok(ExitCode::from(REFUSED)),
+    }
+}
+
+/// Runs what the words after the program's name ask for.
+fn run_asked<R: AllocGlobal + Print + Eprint>(rt: &R, words: &[String]) -> io::Result<ExitCode> {
     if words.is_empty() {
-        run_all(&rt)?;
+        run_all(rt)?;
         return Ok(ExitCode::SUCCESS);
     }
     let Some(choice) = Choice::of(words) else {
         eprintln!(rt; "{USAGE}")?;
         return Ok(ExitCode::from(REFUSED));
     };
-    run(&rt, &choice)?;
+    run(rt, &choice)?;
     Ok(ExitCode::SUCCESS)
 }

@@ -17,7 +17,7 @@ const TURNS: u64 = 100_000;
 const STEPS: u64 = 20;
 
 /// What runs came to.
-#[derive(Clone, Copy, Debug)]
+#[derive(Clone, Copy)]
 pub struct Runs {
     /// The entries of all runs.
     pub entries: u64,

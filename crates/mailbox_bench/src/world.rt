@@ -10,7 +10,7 @@ use std::alloc::{AllocError, Allocator};
 use std::fmt;
 
 /// What events came to.
-#[derive(Clone, Copy, Debug)]
+#[derive(Clone, Copy)]
 pub struct Deeds {
     /// How many events there were.
     pub events: u64,
