@@ -7,7 +7,9 @@
 
 use std::io;
 use std::process::ExitCode;
-use std::time::Instant;
+use std::sync::Wait;
+use std::thread::Threads;
+use std::time::{Clock, Instant};
 
 #[cfg(test)]
 mod checks;
@@ -42,18 +44,33 @@ fn numbers(words: &[String]) -> Option<(u64, u64, u64)> {
 
 fn main(rt: HostRuntime) -> io::Result<ExitCode> {
     let words = std::env::args(&rt)?.collect::<Vec<String>>(rt.alloc())?;
-    let Some((seed, runs, seconds)) = numbers(words.as_slice()) else {
-        eprintln!(rt; "usage: mailbox_soak SEED RUNS SECONDS")?;
-        return Ok(ExitCode::from(REFUSED));
-    };
-    let start = Instant::now(&rt)?;
+    match numbers(words.as_slice()) {
+        Some((seed, runs, seconds)) => soak(&rt, seed, runs, seconds),
+        None => refuse(&rt),
+    }
+}
+
+/// Tells how the program is used.
+fn refuse<R: AllocGlobal + Eprint>(rt: &R) -> io::Result<ExitCode> {
+    eprintln!(rt; "usage: mailbox_soak SEED RUNS SECONDS")?;
+    Ok(ExitCode::from(REFUSED))
+}
+
+/// Makes so many runs, and tells what they came to.
+fn soak<R: AllocGlobal + Print + Eprint + Threads + Wait + Clock + Sync>(
+    rt: &R,
+    seed: u64,
+    runs: u64,
+    seconds: u64,
+) -> io::Result<ExitCode> {
+    let start = Instant::now(rt)?;
     let mut totals = Totals::none();
     for number in 0..runs {
-        if start.elapsed(&rt)?.as_secs() >= seconds {
+        if start.elapsed(rt)?.as_secs() >= seconds {
             break;
         }
         let plan = Plan::of(seed, number);
-        match run(&rt, rt.alloc(), seed, number, &plan) {
+        match run(rt, rt.alloc(), seed, number, &plan) {
             Ok(one) => totals = totals.with(&one),
             Err(fault) => {
                 println!(rt; "run {number} of seed {seed}: {fault:?}, {plan:?}")?;

@@ -154,6 +154,7 @@ fn run_with<W: Threads + Wait + Sync, R: Rng + Send + Drop>(
     let setup = setup.shaped(plan.shape);
     let for_an_item = setup.layout().max_steps().saturating_add(2);
     let budget = if plan.whole { for_an_item } else { plan.budget };
+    let items = lists_of(alloc, plan)?;
     let Ok((mailbox, mut hub)) = Mailbox::new(alloc, setup) else {
         return Err(Fault::NoMemory);
     };
@@ -161,7 +162,6 @@ fn run_with<W: Threads + Wait + Sync, R: Rng + Send + Drop>(
         stops: plan.stops,
         seed: plan.gate_seed,
     };
-    let items = lists_of(alloc, plan)?;
     let worked = match work(alloc, rt, &mailbox, &mut hub, items, budget, rngs, &gate) {
         Ok(worked) => worked,
         Err(fault) => {

@@ -4,7 +4,7 @@ use mailbox_audit::Tally;
 use std::fmt;
 
 /// What runs come to together.
-#[derive(Clone, Copy, Debug)]
+#[derive(Clone, Copy)]
 pub struct Totals {
     pub runs: u64,
     pub tally: Tally,
