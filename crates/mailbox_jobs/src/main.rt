@@ -45,6 +45,7 @@ fn run<R: RandomSource + AllocGlobal + Clock + Print + Eprint + Threads + Sync>(
     asked: &Asked,
     tells: bool,
 ) -> Result<()> {
+    let board = Board::new(rt.alloc(), asked.jobs, asked.workers)?;
     let setup = Setup::large(
         asked.producers,
         asked.workers,
@@ -53,7 +54,6 @@ fn run<R: RandomSource + AllocGlobal + Clock + Print + Eprint + Threads + Sync>(
         TableName::Bits,
     )?;
     let (mailbox, mut hub) = Mailbox::new(rt.alloc(), setup)?;
-    let board = Board::new(rt.alloc(), asked.jobs, asked.workers)?;
 
     // The crew works, each member in a thread of its own.
     let mut crew = crew::hire(rt, &mailbox, &mut hub, asked, tells)?;
