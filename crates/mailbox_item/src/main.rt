@@ -10,12 +10,12 @@ use rand::make_rng;
 use rand_chacha::ChaCha8Rng;
 
 fn main(rt: HostRuntime) -> Result<()> {
+    let mut source: ChaCha8Rng = make_rng(&rt)?;
     // One producer, two consumers, four cells with four pairs of deciding objects each, over the table of bits.
     let (mailbox, mut hub) = Mailbox::new(rt.alloc(), Setup::new(1, 2, 4, 4, TableName::Bits)?)?;
     let mut producer = hub.producer(rt.alloc(), &mailbox)?;
     let mut one = hub.consumer(rt.alloc(), &mailbox)?;
     let mut two = hub.consumer(rt.alloc(), &mailbox)?;
-    let mut source: ChaCha8Rng = make_rng(&rt)?;
 
     // Each of the three may be in a thread of its own; here one comes after the other. Lane 0 is the first producer's.
     let put = producer.put(&mailbox, 7);
