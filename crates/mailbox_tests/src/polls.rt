@@ -113,13 +113,13 @@ fn another_consumer_is_given_between_two_polls(rt: HostRuntime) -> Result<(), Fa
 
 /// A mailbox with a fast path and a last object, of two consumers and one cell with one pair, into which 5 is put. A claim
 /// there makes at most 18 accesses.
-fn fast_and_last<A: Allocator + Clone + Drop>(rt: &impl Abort, alloc: A) -> Result<Trial<A>, Fail> {
+fn fast_and_last<A: Allocator + Copy>(rt: &impl Abort, alloc: A) -> Result<Trial<A>, Fail> {
     let shape = Shape {
         fast: true,
         last: true,
     };
     let setup = Setup::new(1, 2, 1, 1, TableName::Bits)?.shaped(shape);
-    let mut trial = Trial::new(alloc.clone()?, setup)?;
+    let mut trial = Trial::new(alloc, setup)?;
     both_are_given(&mut trial, alloc)?;
     same(rt, &trial.put(0, 5), &Some(Put::Linked));
     Ok(trial)

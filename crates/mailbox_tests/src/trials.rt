@@ -19,28 +19,28 @@ pub(crate) fn new_trial<A: Allocator + Clone + Drop>(
 }
 
 /// The same, whose producers and consumers are all given.
-pub(crate) fn all_given<A: Allocator + Clone + Drop>(
+pub(crate) fn all_given<A: Allocator + Copy>(
     alloc: A,
     p: u64,
     c: u64,
     m: u64,
 ) -> Result<Trial<A>, Fail> {
-    let mut trial = new_trial(alloc.clone()?, p, c, m)?;
+    let mut trial = new_trial(alloc, p, c, m)?;
     for _ in 0..p {
-        trial.producer(alloc.clone()?)?;
+        trial.producer(alloc)?;
     }
     for _ in 0..c {
-        trial.consumer(alloc.clone()?)?;
+        trial.consumer(alloc)?;
     }
     Ok(trial)
 }
 
 /// A producer and then a consumer are given.
-pub(crate) fn both_are_given<A: Allocator + Clone + Drop>(
+pub(crate) fn both_are_given<A: Allocator + Copy>(
     trial: &mut Trial<A>,
     alloc: A,
 ) -> Result<(), Fail> {
-    trial.producer(alloc.clone()?)?;
+    trial.producer(alloc)?;
     trial.consumer(alloc)?;
     Ok(())
 }

@@ -22,13 +22,13 @@ pub(crate) const ALL_DONE: Worked = Worked {
 };
 
 /// A list of items for each producer.
-pub(crate) fn lists<A: Allocator + Clone + Drop>(
+pub(crate) fn lists<A: Allocator + Copy>(
     alloc: A,
     items: &[&[u64]],
 ) -> Result<Vec<Vec<u64, A>, A>, Fail> {
-    let mut lists = Vec::new(alloc.clone()?);
+    let mut lists = Vec::new(alloc);
     for list in items {
-        lists.push(list.to_vec(alloc.clone()?)?)?;
+        lists.push(list.to_vec(alloc)?)?;
     }
     Ok(lists)
 }
