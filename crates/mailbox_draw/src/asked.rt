@@ -17,7 +17,7 @@ write, and out of memory, the status is 3.
 ";
 
 /// What a command line asks for.
-#[derive(Clone, Copy, Debug, PartialEq, Eq)]
+#[derive(Clone, Copy)]
 pub enum Asked {
     /// The picture of a replay.
     Replay,
