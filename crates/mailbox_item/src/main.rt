@@ -2,12 +2,13 @@
 #![tactic(auto)]
 
 use anyhow::Result;
-use mb_mailbox::Mailbox;
+use mb_mailbox::{Mailbox, Poll, Put};
 use mb_quorum::TableName;
 use mb_script::report_text;
-use mb_world::Setup;
+use mb_world::{Report, Setup};
 use rand::make_rng;
 use rand_chacha::ChaCha8Rng;
+use std::alloc::Global;
 
 fn main(rt: HostRuntime) -> Result<()> {
     let mut source: ChaCha8Rng = make_rng(&rt)?;
@@ -27,7 +28,18 @@ fn main(rt: HostRuntime) -> Result<()> {
     hub.take_consumer(&mailbox, one);
     hub.take_consumer(&mailbox, two);
     let report = mailbox.gather(rt.alloc(), hub).map_err(|(why, _, _)| why)?;
-    let text = report_text(rt.alloc(), &report)?;
+    tell(&rt, put, first, second, &report)
+}
+
+/// Prints what the put and the polls returned, and the report as text.
+fn tell<R: AllocGlobal + Print>(
+    rt: &R,
+    put: Put,
+    first: Poll,
+    second: Poll,
+    report: &Report<Global>,
+) -> Result<()> {
+    let text = report_text(rt.alloc(), report)?;
     print!(rt; "{put:?}\n{first:?}\n{second:?}\n{text}")?;
     Ok(())
 }
