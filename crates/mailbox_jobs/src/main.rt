@@ -12,7 +12,8 @@ use asked::{Asked, asked_in};
 use board::Board;
 use mb_mailbox::Mailbox;
 use mb_quorum::TableName;
-use mb_world::Setup;
+use mb_world::{Report, Setup};
+use std::alloc::Global;
 use std::io::IsTerminal;
 use std::process::ExitCode;
 use std::random::RandomSource;
@@ -69,11 +70,16 @@ fn run<R: RandomSource + AllocGlobal + Clock + Print + Eprint + Threads + Sync>(
     let report = mailbox
         .gather(rt.alloc(), hub)
         .map_err(|(fault, _, _)| Error::from(fault))?;
+    run_left(&board, &report);
+    println!(rt; "{board}")?;
+    Ok(())
+}
+
+/// Runs the jobs that nobody took.
+fn run_left(board: &Board, report: &Report<Global>) {
     for lane in report.lanes.iter() {
         for job in lane.left.iter() {
             board.run(*job);
         }
     }
-    println!(rt; "{board}")?;
-    Ok(())
 }
