@@ -1,4 +1,5 @@
 //! Who runs jobs.
+ghost use Rattle.std.specs.Prelude.{◌≡◌, ◌+◌, ◌<◌, IfSome};
 
 use crate::board::Board;
 use std::alloc::{AllocError, Global};
@@ -7,7 +8,9 @@ use std::alloc::{AllocError, Global};
 pub const CHAIN: u64 = 8;
 
 /// The job that this one puts, if it puts one.
-fn further(job: u64, jobs: u64) -> Option<u64> {
+fn further(job: u64, jobs: u64) -> Option<u64>
+    ensures { IfSome result (λ next. (next ≡ job + 1) × (next < jobs)) }
+{
     let next = job.checked_add(1)?;
     if next % CHAIN == 0 || next >= jobs {
         return None;
