@@ -1,4 +1,6 @@
-mod ManyClaimSteps
+-- In the order of reading: a file stands on files above it.
+
+-- Lists, turns and histories
 pub mod Lists
 pub mod FirstPlaces
 pub mod Turns
@@ -8,34 +10,42 @@ pub mod KindLaws
 pub mod Unique
 pub mod Prefixes
 pub mod OlderHistories
+pub mod Cells
+pub mod ConsumerParts
+-- One winner
 pub mod Family
 pub mod Agreeing
 pub mod Contest
 pub mod CellFamily
 pub mod Winner
+-- One more access
 pub mod HistorySteps
 pub mod PassedObjects
 pub mod Standing
-pub mod Addresses
+pub mod ClaimSteps
+mod ManyClaimSteps
+pub mod FirstAccess
+pub mod NextSteps
+-- The words of a claim
 pub mod Words
+pub mod Addresses
+pub mod LayoutObjects
+pub mod ShapedAddresses
 pub mod States
-pub mod ConsumerParts
-pub mod Cells
+-- How many accesses a claim makes
+pub mod Bounds
+pub mod StepsLeft
+pub mod MostSteps
+-- The fast path and the last object
 pub mod FastPath
 pub mod PassedRatifiers
-pub mod Bounds
+pub mod LastObjects
+-- Runs
+pub mod RunSteps
+pub mod OneRun
+-- Examples
 pub mod LawfulExamples
 pub mod ShapedExamples
 pub mod BothExamples
-pub mod LayoutObjects
-pub mod ShapedAddresses
-pub mod ClaimSteps
-pub mod StepsLeft
-pub mod MostSteps
-pub mod RunSteps
 pub mod Counterexamples
 pub mod PlayedExamples
-pub mod FirstAccess
-pub mod NextSteps
-pub mod OneRun
-pub mod LastObjects

@@ -1,35 +1,45 @@
+-- In the order of reading: a file stands on files above it.
+
+-- Registers, turns and histories
 pub mod Registers
+pub mod FirstPlaces
 pub mod Histories
-pub mod Advances
-pub mod Runs
 pub mod Acts
+-- Ratifiers
+pub mod Sizes
 pub mod Grammar
 pub mod RatifierWords
 pub mod Winner
 pub mod Prefixes
 pub mod Outputs
-pub mod Sizes
 pub mod Lengths
+-- Conciliators and last objects
 pub mod ConciliatorPaths
 pub mod Conciliators
-pub mod Owed
 pub mod ConciliatorPlaces
 pub mod Lasts
+-- What each kind of object owes
+pub mod Owed
+-- One access, and many
+pub mod Advances
 mod OneStep
 mod ManySteps
 pub mod RatifierStepping
 pub mod ConciliatorStepping
 pub mod Stepping
+-- How many accesses are left
+pub mod TurnsLeft
+pub mod MostLeft
+-- Runs and traces
 pub mod Refused
 pub mod RunsTables
-pub mod SmallHistories
-pub mod SmallLasts
-pub mod SmallTraces
+pub mod Runs
 pub mod SameOp
 pub mod RatifierNext
 pub mod ConciliatorNext
 pub mod OneTrace
-pub mod FirstPlaces
-pub mod TurnsLeft
-pub mod MostLeft
 pub mod OnePlace
+-- Examples
+pub mod SmallHistories
+pub mod SmallLasts
+pub mod SmallTraces

@@ -1,6 +1,14 @@
+-- In the order of reading: a file stands on files above it.
+
+-- Lists and sums
 pub mod Lists
 pub mod LaneLists
 pub mod Totals
+pub mod Marks
+pub mod Zips
+pub mod Turned
+pub mod Listed
+-- One access of a consumer
 pub mod KnownLoads
 pub mod Standings
 pub mod Moving
@@ -8,32 +16,34 @@ pub mod NextSteps
 pub mod Telling
 pub mod Holding
 pub mod Made
+pub mod NewConsumer
+-- A poll: many accesses
 pub mod Polls
+pub mod Looks
 pub mod Competing
 pub mod Pursuing
 pub mod Starts
 pub mod Ending
+-- A consumer at the end of a lane
+pub mod Endings
+pub mod EndsMet
+-- Producers and the hub
 pub mod Putting
 pub mod Closing
 pub mod HubMoves
-pub mod NewConsumer
-pub mod ExampleParts
 pub mod HubRuns
-pub mod Zips
-pub mod Endings
-pub mod Looks
-pub mod EndsMet
+-- A run of workers
 pub mod Runs
-pub mod Noted
-pub mod Final
 pub mod Loops
 pub mod Called
-pub mod Marks
 pub mod PutEnds
 pub mod Kept
-pub mod Turned
+pub mod Noted
+pub mod Final
+-- What is gathered
 pub mod ToldDiaries
 pub mod TakenIn
 pub mod Reported
-pub mod Listed
 pub mod Counted
+-- Examples
+pub mod ExampleParts

@@ -1,20 +1,25 @@
-pub mod Commands
-pub mod Exchanges
+-- In the order of reading: a file stands on files above it.
+
+-- Scripts of the command `ratify`
 pub mod LongScripts
+pub mod Exchanges
 pub mod Nobody
+pub mod ScriptSpelling
+pub mod Told
+-- The command line: what clap makes of it
 pub mod NumbersGiven
+pub mod ShapesGiven
+pub mod SameWalk
+pub mod SameTakes
+pub mod SameFaults
+pub mod SameProgram
 pub mod Programs
-pub mod RunEnds
+pub mod Commands
+-- The command `run`
+pub mod RunSetups
 pub mod RunItems
 pub mod RunLanes
 pub mod RunNotes
 pub mod RunReports
 pub mod RunsBehind
-pub mod RunSetups
-pub mod SameFaults
-pub mod SameProgram
-pub mod SameTakes
-pub mod SameWalk
-pub mod ScriptSpelling
-pub mod ShapesGiven
-pub mod Told
+pub mod RunEnds

@@ -1,59 +1,63 @@
-pub mod Settled
-pub mod LastObjects
+-- In the order of reading: a file stands on files above it.
+
+-- Lists, places and cells
 pub mod Lists
-pub mod Assigned
 pub mod Places
+pub mod Cells
+pub mod ReportPlaces
+pub mod ReportLists
+-- What one consumer loaded, and what its diary shows
 pub mod ReaderParts
 pub mod Loads
 pub mod Known
-pub mod Cells
 pub mod Diaries
 pub mod LaneEnds
-pub mod ReportPlaces
+-- A report has one assignment
+pub mod Settled
+pub mod Assigned
 pub mod Recorded
+pub mod LastObjects
+pub mod Competitors
+pub mod OneReport
+-- The path of one consumer on one lane
 pub mod Claimed
 pub mod Tracks
 pub mod PathLoads
 pub mod LaneParts
-pub mod WorldPool
+pub mod PathDiaries
+pub mod LastAccess
+pub mod OnePlace
+pub mod FitSteps
+-- Lawful histories of a world
 pub mod WorldKnown
+pub mod WorldPool
 pub mod WorldClaims
 pub mod WorldFollows
 pub mod WorldFits
-pub mod PathDiaries
 pub mod WorldDiaries
+pub mod MetCells
+-- One more access, and one replay
 pub mod ConsumerSteps
 pub mod ProducerSteps
-pub mod ReportLists
-pub mod LastAccess
-pub mod OneLaneReports
-pub mod AgreeingReports
-pub mod OnePlace
-pub mod SmallPaths
-pub mod ExampleWorlds
-pub mod ExampleLimits
-pub mod ExampleReports
-pub mod ExampleEvents
-pub mod OneReport
-pub mod RefusedEvents
-pub mod MadeEvents
-pub mod Competitors
 pub mod EventKnown
+pub mod MadeEvents
+pub mod RefusedEvents
 pub mod ProducerEvents
 pub mod ConsumerEvents
 pub mod OneReplay
-pub mod FitSteps
+pub mod NothingFound
+-- The state of a world, and its report
 pub mod NewWorlds
 pub mod FreshClaims
-pub mod LaneWalks
+pub mod StatePlaces
 pub mod StateNotes
+pub mod LaneWalks
 pub mod StateLists
 pub mod StateReports
-pub mod MetCells
-pub mod StatePlaces
+-- The state after one more access
+pub mod StepKnown
 pub mod StateEnds
 pub mod StateSteps
-pub mod StepKnown
 pub mod LoadStates
 pub mod LookStates
 pub mod HeldStates
@@ -61,4 +65,11 @@ pub mod TakeStates
 pub mod CompeteStates
 pub mod ProducerStates
 pub mod ClaimNotes
-pub mod NothingFound
+-- Examples
+pub mod OneLaneReports
+pub mod AgreeingReports
+pub mod SmallPaths
+pub mod ExampleWorlds
+pub mod ExampleLimits
+pub mod ExampleReports
+pub mod ExampleEvents
