@@ -109,7 +109,7 @@ def main():
     print(f"Machine: {cpu.group(1) if cpu else 'unknown'}\n")
     choices = (options.loops, options.shapes, options.tables)
     columns = options.consumers.split(",")
-    print("The libraries / by hand, by steps / by hand, straight, with so many consumers:\n")
+    print("The libraries/by hand by steps/by hand straight, with so many consumers:\n")
     print(f"| Loop, unit | Table | {' | '.join(columns)} |")
     print("|---" * (len(columns) + 2) + "|")
     for loop, shape, table in itertools.product(*(words.split(",") for words in choices)):
@@ -119,7 +119,7 @@ def main():
         print(f"| {name}, {unit} | {table} |", end="", flush=True)
         for consumers in columns:
             taken = row((loop, shape, table, consumers), by_item)
-            print(f" {' / '.join(told(it) for it in taken)} |", end="", flush=True)
+            print(f" {'/'.join(told(it) for it in taken)} |", end="", flush=True)
         print()
 
 
