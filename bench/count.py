@@ -89,6 +89,11 @@ def row(what, by_item):
     return taken
 
 
+def told(instructions):
+    """A number of instructions, as the page has it."""
+    return f"{instructions:.1f}" if instructions < 100 else f"{instructions:,.0f}"
+
+
 def main():
     parser = argparse.ArgumentParser()
     parser.add_argument("--loops", default="lone,contended,shared,mail,puts,mailbox,play,ratify")
@@ -102,17 +107,20 @@ def main():
         build()
     cpu = re.search(r"Model name:\s*(.*)", subprocess.run(["lscpu"], capture_output=True, text=True).stdout)
     print(f"Machine: {cpu.group(1) if cpu else 'unknown'}\n")
-    print("| Loop | Table | Consumers | Libraries | By hand, by steps | Ratio | By hand, straight | Ratio |")
-    print("|---|---|---|---|---|---|---|---|")
-    choices = (options.loops, options.shapes, options.tables, options.consumers)
-    for what in itertools.product(*(words.split(",") for words in choices)):
-        loop, shape, table, consumers = what
+    choices = (options.loops, options.shapes, options.tables)
+    columns = options.consumers.split(",")
+    print("The libraries/by hand by steps/by hand straight, with so many consumers:\n")
+    print(f"| Loop, unit | Table | {' | '.join(columns)} |")
+    print("|---" * (len(columns) + 2) + "|")
+    for loop, shape, table in itertools.product(*(words.split(",") for words in choices)):
         by_item = options.items and loop in CLAIMS
-        ours, *hand = row(what, by_item)
         name = loop if shape == "plain" else f"{loop} {shape}"
         unit = "an item" if by_item else UNITS[loop]
-        beside = [f"{it:.1f} | {ours / it:.2f}" for it in hand] + ["- | -"] * (2 - len(hand))
-        print(f"| {name}, {unit} | {table} | {consumers} | {ours:.1f} | {' | '.join(beside)} |", flush=True)
+        print(f"| {name}, {unit} | {table} |", end="", flush=True)
+        for consumers in columns:
+            taken = row((loop, shape, table, consumers), by_item)
+            print(f" {'/'.join(told(it) for it in taken)} |", end="", flush=True)
+        print()
 
 
 if __name__ == "__main__":
