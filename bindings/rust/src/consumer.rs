@@ -53,8 +53,9 @@ pub enum Sweep<T> {
 /// When it is dropped, also by a panic, it goes home to its mailbox. It may go to another thread, but no two threads share
 /// it, and it is not `Clone`.
 ///
-/// An item that a consumer has begun to compete for may be left if it is dropped before the end. No other consumer gets it
-/// then, if this one had won it. The report has such an item.
+/// If it is dropped after a [`poll_within`](Consumer::poll_within) that was [`Poll::Spent`], the item that it competed for
+/// may be left. No other consumer gets it, if this one had won it. The report has such an item. A consumer dropped between
+/// two other polls loses nothing. Its number is not given again.
 pub struct Consumer<T> {
     number: u32,
     next: u32,
@@ -143,8 +144,10 @@ impl<T> Consumer<T> {
     /// Iterates over the values that it takes, until all lanes have ended. Each time it finds nothing on any lane it calls
     /// `idle`, and then looks again.
     ///
-    /// It never sleeps by itself: that is what `idle` is for. [`std::thread::yield_now`] lets other threads go on. It ends
-    /// only if all lanes end: see [`Mailbox::end_free_lanes`](crate::Mailbox::end_free_lanes).
+    /// It never sleeps by itself: that is what `idle` is for. [`std::thread::yield_now`] lets other threads go on.
+    ///
+    /// **It goes on for ever if a producer is never dropped or finished, or was never given.**
+    /// [`Mailbox::end_free_lanes`](crate::Mailbox::end_free_lanes) ends the lanes of those that were not given.
     ///
     /// ```
     /// # fn main() -> Result<(), Box<dyn std::error::Error>> {

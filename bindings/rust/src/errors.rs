@@ -32,21 +32,36 @@ impl fmt::Display for BuildError {
 
 impl Error for BuildError {}
 
-/// Why no producer or consumer was given.
+/// Why no producer or consumer was given. A number is given once, also if its part went home.
 #[derive(Clone, Copy, PartialEq, Eq, Hash, Debug)]
 pub enum IssueError {
-    /// As many as the mailbox was built for were given. A number is given once, also if its part went home.
-    AllGiven,
+    /// So many producers were given, and the mailbox was built for no more
+    /// ([`Builder::producers`](crate::Builder::producers)).
+    AllProducersGiven(u32),
+    /// So many consumers were given, and the mailbox was built for no more
+    /// ([`Builder::consumers`](crate::Builder::consumers)).
+    AllConsumersGiven(u32),
     /// There is not enough memory.
     NoMemory,
 }
 
 impl fmt::Display for IssueError {
     fn fmt(&self, f: &mut fmt::Formatter<'_>) -> fmt::Result {
-        f.write_str(match self {
-            IssueError::AllGiven => "all numbers of the mailbox were given",
-            IssueError::NoMemory => "there is not enough memory for the part",
-        })
+        match self {
+            IssueError::AllProducersGiven(given) => {
+                write!(
+                    f,
+                    "the mailbox was built for {given} producers, and all were given"
+                )
+            }
+            IssueError::AllConsumersGiven(given) => {
+                write!(
+                    f,
+                    "the mailbox was built for {given} consumers, and all were given"
+                )
+            }
+            IssueError::NoMemory => f.write_str("there is not enough memory for the part"),
+        }
     }
 }
 

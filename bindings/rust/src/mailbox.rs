@@ -2,7 +2,7 @@
 use crate::builder::Builder;
 use crate::consumer::Consumer;
 use crate::errors::{BuildError, GatherError, IssueError};
-use crate::ffi::{self, Carrier, Refusal, Setup};
+use crate::ffi::{self, Carrier, NotIssued, Refusal, Setup};
 use crate::producer::Producer;
 use crate::report::Report;
 use std::fmt;
@@ -96,8 +96,11 @@ impl<T> Mailbox<T> {
     /// All lanes were given, or there is not enough memory.
     pub fn producer(&self) -> Result<Producer<T>, IssueError> {
         let mut desk = self.home.desk();
-        let part = desk.hub.producer()?;
         let lane = desk.producers;
+        let part = desk.hub.producer().map_err(|why| match why {
+            NotIssued::AllGiven => IssueError::AllProducersGiven(lane),
+            NotIssued::NoMemory => IssueError::NoMemory,
+        })?;
         desk.producers += 1;
         Ok(Producer::new(lane, part, Arc::clone(&self.home)))
     }
@@ -109,7 +112,13 @@ impl<T> Mailbox<T> {
     pub fn consumer(&self) -> Result<Consumer<T>, IssueError> {
         let mut desk = self.home.desk();
         let number = desk.consumers;
-        let part = desk.hub.consumer(&self.home.seed, u64::from(number))?;
+        let part = desk
+            .hub
+            .consumer(&self.home.seed, u64::from(number))
+            .map_err(|why| match why {
+                NotIssued::AllGiven => IssueError::AllConsumersGiven(number),
+                NotIssued::NoMemory => IssueError::NoMemory,
+            })?;
         desk.consumers += 1;
         Ok(Consumer::new(number, part, Arc::clone(&self.home)))
     }
@@ -123,7 +132,7 @@ impl<T> Mailbox<T> {
         loop {
             match self.producer() {
                 Ok(producer) => producer.finish(),
-                Err(IssueError::AllGiven) => return Ok(()),
+                Err(IssueError::AllProducersGiven(_)) => return Ok(()),
                 Err(why) => return Err(why),
             }
         }

@@ -67,6 +67,16 @@ impl<T> Report<T> {
             .map(|diary| diary.consumer)
     }
 
+    /// How many values this consumer took.
+    pub fn taken_by(&self, consumer: u32) -> usize {
+        self.diaries
+            .iter()
+            .filter(|diary| diary.consumer == consumer)
+            .flat_map(|diary| &diary.notes)
+            .filter(|note| **note == Note::Took)
+            .count()
+    }
+
     /// All values that nobody took: those of lane 0 first, each lane's in the order put.
     pub fn into_left(self) -> impl Iterator<Item = T> {
         self.lanes.into_iter().flat_map(|lane| lane.left)

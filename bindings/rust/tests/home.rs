@@ -87,10 +87,20 @@ fn each_number_is_given_once() {
         .unwrap();
     assert_eq!(mailbox.producer().unwrap().lane(), 0);
     assert_eq!(mailbox.producer().unwrap().lane(), 1);
-    assert_eq!(mailbox.producer().unwrap_err(), IssueError::AllGiven);
+    let error = mailbox.producer().unwrap_err();
+    assert_eq!(error, IssueError::AllProducersGiven(2));
+    assert_eq!(
+        error.to_string(),
+        "the mailbox was built for 2 producers, and all were given"
+    );
     assert_eq!(mailbox.consumer().unwrap().number(), 0);
     assert_eq!(mailbox.consumer().unwrap().number(), 1);
-    assert_eq!(mailbox.consumer().unwrap_err(), IssueError::AllGiven);
+    let error = mailbox.consumer().unwrap_err();
+    assert_eq!(error, IssueError::AllConsumersGiven(2));
+    assert_eq!(
+        error.to_string(),
+        "the mailbox was built for 2 consumers, and all were given"
+    );
 }
 
 #[test]

@@ -67,6 +67,7 @@ fn values_without_bytes_are_counted_too() {
         [0, 1, 2].map(|place| report.taker(0, place)),
         [Some(0), Some(1), None]
     );
+    assert_eq!([0, 1, 2].map(|who| report.taken_by(who)), [1, 1, 0]);
 }
 
 #[test]

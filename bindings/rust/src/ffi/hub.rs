@@ -5,7 +5,7 @@ use super::carrier::Carrier;
 use super::handle::Handle;
 use super::parts::{Consumer, Producer};
 use super::report::read_report;
-use crate::errors::{BuildError, IssueError};
+use crate::errors::BuildError;
 use crate::report::Report;
 use std::cell::Cell;
 use std::marker::PhantomData;
@@ -26,6 +26,14 @@ pub(crate) enum Refusal {
     /// So many producers and consumers are out.
     Missing(u32, u32),
     /// The report wants more memory than there is.
+    NoMemory,
+}
+
+/// Why no part was given.
+pub(crate) enum NotIssued {
+    /// As many as the mailbox was built for were given.
+    AllGiven,
+    /// The part wants more memory than there is.
     NoMemory,
 }
 
@@ -50,7 +58,7 @@ impl<T> Hub<T> {
     }
 
     /// The producer of the next lane.
-    pub(crate) fn producer(&mut self) -> Result<Producer<T>, IssueError> {
+    pub(crate) fn producer(&mut self) -> Result<Producer<T>, NotIssued> {
         let mut handle = Handle::empty();
         // SAFETY: the rules of calls.
         let answer = unsafe { hz_producer_new(&mut self.handle, &mut handle) };
@@ -67,7 +75,7 @@ impl<T> Hub<T> {
         &mut self,
         seed: &[u8; 32],
         stream: u64,
-    ) -> Result<Consumer<T>, IssueError> {
+    ) -> Result<Consumer<T>, NotIssued> {
         let mut handle = Handle::empty();
         // SAFETY: the rules of calls.
         let answer = unsafe { hz_consumer_new(&mut self.handle, seed, stream, &mut handle) };
@@ -120,11 +128,11 @@ impl<T> Drop for Hub<T> {
 }
 
 /// What an answer says that comes to a part being asked for.
-fn issued(call: &str, answer: u32) -> Result<(), IssueError> {
+fn issued(call: &str, answer: u32) -> Result<(), NotIssued> {
     match answer {
         calls::DONE => Ok(()),
-        calls::ALL_GIVEN => Err(IssueError::AllGiven),
-        calls::NO_MEMORY => Err(IssueError::NoMemory),
+        calls::ALL_GIVEN => Err(NotIssued::AllGiven),
+        calls::NO_MEMORY => Err(NotIssued::NoMemory),
         other => excluded(call, other),
     }
 }

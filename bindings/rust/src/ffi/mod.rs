@@ -40,5 +40,5 @@ mod report;
 
 pub(crate) use calls::{Setup, BITS, MIDDLE, UNARY};
 pub(crate) use carrier::Carrier;
-pub(crate) use hub::{Hub, Refusal};
+pub(crate) use hub::{Hub, NotIssued, Refusal};
 pub(crate) use parts::{Consumer, Producer};
