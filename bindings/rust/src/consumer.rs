@@ -54,8 +54,11 @@ pub enum Sweep<T> {
 /// it, and it is not `Clone`.
 ///
 /// If it is dropped after a [`poll_within`](Consumer::poll_within) that was [`Poll::Spent`], the item that it competed for
-/// may be left. No other consumer gets it, if this one had won it. The report has such an item. A consumer dropped between
-/// two other polls loses nothing. Its number is not given again.
+/// may be left. No other consumer gets it, if this one had won it. The report has such an item. After any other
+/// poll no item is left undecided by the drop. Its number is not given again.
+///
+/// A value that it took is the caller's. If a thread panics while it has one, the value is dropped, and the report says
+/// that it was taken ([`Report::taker`](crate::Report::taker)).
 pub struct Consumer<T> {
     number: u32,
     next: u32,
@@ -148,6 +151,7 @@ impl<T> Consumer<T> {
     ///
     /// **It goes on for ever if a producer is never dropped or finished, or was never given.**
     /// [`Mailbox::end_free_lanes`](crate::Mailbox::end_free_lanes) ends the lanes of those that were not given.
+    /// To stop early, use [`sweep`](Consumer::sweep) in a loop: an adapter that takes a value and rejects it drops it.
     ///
     /// ```
     /// # fn main() -> Result<(), Box<dyn std::error::Error>> {

@@ -68,6 +68,9 @@ impl fmt::Display for IssueError {
 impl Error for IssueError {}
 
 /// No cell is left for a value, nor will be. This is the value.
+///
+/// It is `Send` and `Sync` only if the value is. So `?` into a `Box<dyn Error + Send + Sync>` wants a `map_err` for a boxed
+/// closure.
 #[derive(Clone, Copy, PartialEq, Eq, Hash)]
 pub struct Full<T>(pub T);
 

@@ -1,6 +1,6 @@
 //! A mailbox for threads: each producer puts values into a lane of its own, all consumers compete for each value, and **at
 //! most one consumer takes it**. A report at the end says who took what, and gives back what is left. No put and no poll
-//! takes a lock or waits.
+//! takes a lock or waits, but for what the allocator does with a box.
 //!
 //! The mailbox is written in Rattle, which is Rust with contracts, and proved for every run: every order of the threads'
 //! steps, and all random words. This crate links the archive that was built of it, and needs nothing else.

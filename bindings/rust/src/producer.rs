@@ -39,6 +39,8 @@ impl<T> Producer<T> {
     /// # }
     /// ```
     ///
+    /// The report speaks of places: the first value that was put on a lane has place 0, the next place 1.
+    ///
     /// # Errors
     /// No cell is left, nor will be. The value is in the error.
     pub fn put(&mut self, value: T) -> Result<(), Full<T>> {
