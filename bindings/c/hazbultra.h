@@ -7,15 +7,18 @@
  *
  *  1. Each hz_handle begins as HZ_NONE. After that only calls of this library write it. It is not copied: after a copy,
  *     only one of the two may be used. It may be moved, as a struct is moved by memcpy.
- *  2. No pointer parameter is null. Each leads to what its type says, initialised. Where a length stands beside it, to so
- *     many. A bool is 0 or 1. Two pointers of one call lead to different objects.
+ *  2. No pointer parameter is null, also none of hz_free. Each leads to what its type says, initialised, and to so many if
+ *     a length stands beside it. A bool is 0 or 1. Two pointers of one call lead to different objects.
  *  3. A handle is in one call at a time. From call to call it may go from thread to thread, if a lock, the start or the
  *     join of a thread, or a seq_cst atomic orders the calls. Handles of one mailbox may be in calls at the same time:
  *     that is what it is for.
- *  4. Each mailbox has a number (id) that no other mailbox of the process was given. Two static copies of this library in
- *     one process count as one process.
+ *  4. Each mailbox has a number (id) that no other mailbox of the process was given, also none of another copy of this
+ *     library. Equal numbers are not noticed, and the reports may be wrong then. One counter for all mailboxes does.
  *  5. malloc, realloc and free are of one allocator, and malloc and realloc align as the C standard says.
  *  6. No call is made from a signal handler, or from the forked child of a process with threads.
+ *
+ * AN ITEM MAY BE A POINTER. Each access to a shared word is seq_cst. So what a thread wrote before it put an item is seen
+ * by the thread that is told HZ_TOOK. ThreadSanitizer does not see this, since the library is not built with it.
  *
  * WHAT A CALL CHECKS ITSELF. A handle that leads to nothing (HZ_NONE), or to another kind of thing than the call wants, is
  * HZ_BAD_HANDLE. So is a handle that the call is to fill and that leads to something. After each answer but HZ_DONE,
@@ -76,14 +79,15 @@ typedef enum {
     HZ_BAD_PAIRS = 36
 } hz_code;
 
-/* The quorum tables. HZ_BITS has the fewest registers for many consumers. */
+/* The quorum tables. Take HZ_MIDDLE for more than four consumers, else HZ_BITS. */
 typedef enum {
     HZ_UNARY = 0,
     HZ_BITS = 1,
     HZ_MIDDLE = 2
 } hz_table;
 
-/* How large a mailbox is, and what stands in each cell. */
+/* How large a mailbox is, and what stands in each cell. If nothing speaks against it: 4 pairs, fast and last true.
+ * docs/GUIDE.md tells which setup does what, and how much memory it takes. */
 typedef struct {
     uint64_t producers; /* 1 to 16: each has a lane of its own, from 0 on */
     uint64_t consumers; /* 1 to 64 */
@@ -128,7 +132,8 @@ uint32_t hz_mailbox_new(uint64_t id, const hz_setup *setup, hz_handle *hub);
 uint32_t hz_producer_new(hz_handle *hub, hz_handle *producer);
 
 /* The consumer of the next number. Numbers are given in order, from 0 on. Its random words are those of ChaCha8 from this
- * seed and stream: give each consumer of a mailbox another seed or another stream.
+ * seed and stream: give each consumer of a mailbox another seed or another stream. Equal words make polls longer, and
+ * never wrong.
  * HZ_DONE: consumer leads to it. HZ_BAD_HANDLE. HZ_ALL_GIVEN: every number was given. HZ_NO_MEMORY. */
 uint32_t hz_consumer_new(hz_handle *hub, const uint8_t (*seed)[32], uint64_t stream, hz_handle *consumer);
 
