@@ -4,9 +4,9 @@ import os
 import re
 from collections import Counter
 
-# The most mutants of one check. Reading a large crate takes as long as one of them, and with many more a single check
+# The most mutants of one check. Reading a large crate takes as long as two of them, and with many more a single check
 # would go on for long after all others.
-MOST = 8
+MOST = 12
 FUNCTION = re.compile(r'^ *(?:pub(?:\([\w ]+\))? )?(?:const |final |ghost |unsafe |extern "C" )*fn (\w+)', re.M)
 
 
@@ -157,7 +157,7 @@ def strays(top, crates):
 
 
 def grouped(control, mutants, folder, most=MOST):
-    """The control and the mutants of each check: no function twice, and each applies on top of the others.
+    """The control and the mutants of each check, the largest first: no function twice, and each applies on top of the others.
 
     No check has more than `most` mutants, or only if they do not fit otherwise, and all have about as many."""
     together = [it for it in mutants if not it.alone]
@@ -177,4 +177,5 @@ def grouped(control, mutants, folder, most=MOST):
                 continue
         else:
             groups.append(([edit], edit.applied(folder, control.applied(folder, {}))))
-    return [(control, group) for group, _ in groups if group] + [(None, [it]) for it in mutants if it.alone]
+    found = sorted((group for group, _ in groups if group), key=lambda it: -len(it))
+    return [(control, group) for group in found] + [(None, [it]) for it in mutants if it.alone]
