@@ -11,7 +11,8 @@ function has to come out proved. Each crate with mutants has one, and it stands 
 that a check does not refuse everything. The other checks show it by the functions that the mutants call.
 
 The mutants of different functions share one check, since a proof reads the contracts of what is called and no bodies.
-The first check of a crate keeps what it proved, and the others of the crate begin with that.
+The first check of a crate begins with what stands in its out/incremental. It keeps what it proved, and the others of the
+crate begin with that.
 A check reads the libraries below its crate from their out/rlib. They are built if they are missing or old.
 docs/CI.md says how a mutant is judged. The last line is `N passed, N failed`, and the status is 0 if none failed.
 """
@@ -31,6 +32,7 @@ from concurrent.futures import FIRST_COMPLETED, ThreadPoolExecutor, wait
 import edits
 import machine
 from judging import judged, spoiled, unended
+from keeping import handed_on
 
 TOP = os.path.dirname(os.path.dirname(os.path.abspath(__file__)))
 # The most that one check has been seen to take, with some room, in bytes.
@@ -117,16 +119,9 @@ def check(kit, crate, group, kept):
             return Check(out.read(), run.returncode, used.ru_utime + used.ru_stime, 1024 * used.ru_maxrss)
 
 
-def link_or_copy(one, other):
-    """Gives a proof that was kept a second name. A check replaces such a file, and never writes into it."""
-    if not one.endswith(".oantt"):
-        return shutil.copy2(one, other)
-    return os.link(one, other)
-
-
-def handed_on(kept, folder):
-    """Copies what a check kept, and returns the copy's folder."""
-    return shutil.copytree(kept, folder, copy_function=link_or_copy)
+def earlier(crate):
+    """The folder of what was proved of the crate before, if there is one: by rt ci, for the archive, or by hand."""
+    return f"{crate.folder}/out/incremental"
 
 
 def cut(why):
@@ -183,7 +178,7 @@ class Trials:
                 while len(running) < jobs and (task := next(filter(is_ready, left), None)):
                     left.remove(task)
                     name = task.crate.name
-                    kept = f"{room}/{name}" if times[name] > 1 else None
+                    kept = f"{room}/{name}" if times[name] > 1 or os.path.isdir(earlier(task.crate)) else None
                     began = pool.submit(self.try_over if name in firsts else self.try_first, task, kept)
                     firsts.setdefault(name, began)
                     running[began] = name
@@ -199,8 +194,10 @@ class Trials:
             self.report.tell(label, any(ends), word, f"in {sum(ends)} of the {len(ends)} checks that it stood in")
 
     def try_first(self, task, kept):
-        """Tries the first group of a crate, whose proofs it keeps for the others, if there are any."""
-        if kept:
+        """Tries the first group of a crate over what was proved of it before, and keeps its proofs for the others."""
+        if kept and os.path.isdir(earlier(task.crate)):
+            handed_on(earlier(task.crate), kept)
+        elif kept:
             os.mkdir(kept)
         self.try_task(task, kept=kept)
 

@@ -175,6 +175,13 @@ class Trying(WithKit):
         last = [it for it in self.log().splitlines() if it.startswith("check")][-1]
         self.assertRegex(last, r"--jobs 1 --only values::f --incremental \S+$")
 
+    def test_the_first_check_of_a_crate_begins_with_what_was_proved_before(self):
+        self.write(f"{self.crate}/out/incremental/X-proofs.values.k.oantt", "proved")
+        self.ends(0, "3 passed, 0 failed", "mb_a: 1 checks")
+        with open(f"{self.kit}/kept", encoding="utf-8") as file:
+            self.assertEqual(file.read(), "X-proofs.values.k.oantt\n")
+        self.assertEqual(os.listdir(f"{self.crate}/out/incremental"), ["X-proofs.values.k.oantt"])
+
     def test_a_check_that_proves_nothing_is_made_again_beside_the_control(self):
         self.mutant("g2.edit", text_of("values::g", "2", "also wrong"))
         again = "mb_a: a check is made once more, beside the control: no function beside its mutants is proved"
