@@ -159,14 +159,19 @@ def strays(top, crates):
 def grouped(control, mutants, folder, most=MOST):
     """The control and the mutants of each check, the largest first: no function twice, and each applies on top of the others.
 
-    No check has more than `most` mutants, or only if they do not fit otherwise, and all have about as many."""
+    No check has more than `most` mutants, or only if they do not fit otherwise, and all have about as many. Those of
+    functions without proof files stand together: the prover runs once more to print what files such a function wants."""
     together = [it for it in mutants if not it.alone]
     times = Counter(it.function for it in together)
     count = max([-(-len(together) // most), *times.values()])
+    share, more = divmod(len(together), max(count, 1))
+    is_bare = lambda it: not os.path.isdir(f"{folder}/proofs/{it.function.partition('::')[2].replace('::', '/')}")
     groups = [([], control.applied(folder, {})) for _ in range(count)]  # of (mutants, texts)
     # (the functions with the most mutants first, as each of these wants a group of its own)
-    for edit in sorted(together, key=lambda it: -times[it.function]):
-        for at in sorted(range(len(groups)), key=lambda it: len(groups[it][0])):
+    for edit in sorted(together, key=lambda it: (-times[it.function], not is_bare(it))):
+        near = lambda group: sum(map(is_bare, group)) if is_bare(edit) else 0
+        room = lambda at: (len(groups[at][0]) >= share + (at < more), -near(groups[at][0]), len(groups[at][0]))
+        for at in sorted(range(len(groups)), key=room):
             group, texts = groups[at]
             if any(it.function == edit.function for it in group):
                 continue
