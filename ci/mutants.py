@@ -64,8 +64,14 @@ def load_kit():
 
 
 def command(kit, crate):
-    """The words that check the crate in the current folder, over the libraries of the repository."""
-    return [*kit.guarded(), kit.RATTLE, "check", *crate.words(["--jobs", "1"], keeps=False)]
+    """The words that check the crate in the current folder, over the libraries of the repository.
+
+    A static library is checked as a library: the proofs of its functions are the same, and it reads no code of others."""
+    words = crate.words(["--jobs", "1"], keeps=False)
+    if "--crate-type" in words:
+        at = words.index("--crate-type")
+        words = [*words[:at], *words[at + 2 :]]
+    return [*kit.guarded(), kit.RATTLE, "check", *words]
 
 
 @dataclasses.dataclass(frozen=True)

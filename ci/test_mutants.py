@@ -4,6 +4,7 @@ import io
 import os
 import sys
 import tempfile
+import types
 import unittest
 from unittest import mock
 
@@ -145,6 +146,12 @@ class Trying(WithKit):
         asked, text = self.log().split("\n", 1)
         self.assertEqual(asked, "check mb_a --jobs 1 --only values::h --only values::f --only values::g")
         self.assertEqual(text, SOURCE.replace("1", "wrong").replace("2", "wrong").replace("3", "3 + 0"))
+
+    def test_a_static_library_is_checked_as_a_library(self):
+        kit = types.SimpleNamespace(guarded=list, RATTLE="rattle")
+        words = lambda flags, keeps: ["mb_a", "--crate-type", "staticlib", *flags]
+        crate = types.SimpleNamespace(words=words)
+        self.assertEqual(mutants.command(kit, crate), ["rattle", "check", "mb_a", "--jobs", "1"])
 
     def test_a_mutant_that_survives(self):
         self.mutant("g.edit", text_of("values::g", "2", "5"))
