@@ -19,8 +19,8 @@ import tempfile
 from collections import Counter
 
 TOP = os.path.dirname(os.path.dirname(os.path.abspath(__file__)))
-# How often the folders are looked for, in seconds. They stand for a minute at least.
-PAUSE = 2
+# How often the folders are looked for, in seconds. They stand for half a minute at least.
+PAUSE = 5
 
 
 def link_or_copy(one, other):
@@ -46,15 +46,18 @@ def crate_of(seed):
     return max(found, key=found.get, default="")
 
 
-def collect(process, kept):
-    """Gives the files of each folder that is whole a second name below `kept`: that is one with which a check has begun."""
-    for seed in glob.glob(f"{tempfile.gettempdir()}/rt-edits-{process}-*/seed"):
+def collect(process, kept, done):
+    """Gives the files of each folder that is whole a second name below `kept`: that is one with which a check has begun.
+
+    Those that are in `done` already it passes over, and it adds the others."""
+    for seed in {*glob.glob(f"{tempfile.gettempdir()}/rt-edits-{process}-*/seed")} - done:
         crate = ""
         try:
-            is_whole = len(os.listdir(os.path.dirname(seed))) > 1
-            crate = crate_of(seed) if is_whole else ""
-            if crate and not os.path.isdir(f"{kept}/{crate}"):
-                handed_on(seed, f"{kept}/{crate}")
+            if len(os.listdir(os.path.dirname(seed))) > 1:
+                done.add(seed)
+                crate = crate_of(seed)
+                if crate and not os.path.isdir(f"{kept}/{crate}"):
+                    handed_on(seed, f"{kept}/{crate}")
         except (OSError, shutil.Error):
             # (it was removed meanwhile)
             shutil.rmtree(f"{kept}/{crate or '-'}", ignore_errors=True)
@@ -71,13 +74,13 @@ def place(kept, top):
 
 def main(words, top=TOP, pause=PAUSE):
     with tempfile.TemporaryDirectory(prefix="keeping-") as kept:
-        started = subprocess.Popen(words)
+        started, done = subprocess.Popen(words), set()
         while True:
             try:
                 status = started.wait(timeout=pause)
                 break
             except subprocess.TimeoutExpired:
-                collect(started.pid, kept)
+                collect(started.pid, kept, done)
         if status == 0:
             place(kept, top)
         return status if status >= 0 else 128 - status
