@@ -4,9 +4,9 @@ import os
 import re
 from collections import Counter
 
-# The most mutants of one check. Reading a large crate takes as long as one of them, and with many more a single check
+# The most mutants of one check. Reading a large crate takes as long as two of them, and with many more a single check
 # would go on for long after all others.
-MOST = 8
+MOST = 12
 FUNCTION = re.compile(r'^ *(?:pub(?:\([\w ]+\))? )?(?:const |final |ghost |unsafe |extern "C" )*fn (\w+)', re.M)
 
 
@@ -157,16 +157,21 @@ def strays(top, crates):
 
 
 def grouped(control, mutants, folder, most=MOST):
-    """The control and the mutants of each check: no function twice, and each applies on top of the others.
+    """The control and the mutants of each check, the largest first: no function twice, and each applies on top of the others.
 
-    No check has more than `most` mutants, or only if they do not fit otherwise, and all have about as many."""
+    No check has more than `most` mutants, or only if they do not fit otherwise, and all have about as many. Those of
+    functions without proof files stand together: the prover runs once more to print what files such a function wants."""
     together = [it for it in mutants if not it.alone]
     times = Counter(it.function for it in together)
     count = max([-(-len(together) // most), *times.values()])
+    share, more = divmod(len(together), max(count, 1))
+    is_bare = lambda it: not os.path.isdir(f"{folder}/proofs/{it.function.partition('::')[2].replace('::', '/')}")
     groups = [([], control.applied(folder, {})) for _ in range(count)]  # of (mutants, texts)
     # (the functions with the most mutants first, as each of these wants a group of its own)
-    for edit in sorted(together, key=lambda it: -times[it.function]):
-        for at in sorted(range(len(groups)), key=lambda it: len(groups[it][0])):
+    for edit in sorted(together, key=lambda it: (-times[it.function], not is_bare(it))):
+        near = lambda group: sum(map(is_bare, group)) if is_bare(edit) else 0
+        room = lambda at: (len(groups[at][0]) >= share + (at < more), -near(groups[at][0]), len(groups[at][0]))
+        for at in sorted(range(len(groups)), key=room):
             group, texts = groups[at]
             if any(it.function == edit.function for it in group):
                 continue
@@ -177,4 +182,5 @@ def grouped(control, mutants, folder, most=MOST):
                 continue
         else:
             groups.append(([edit], edit.applied(folder, control.applied(folder, {}))))
-    return [(control, group) for group, _ in groups if group] + [(None, [it]) for it in mutants if it.alone]
+    found = sorted((group for group, _ in groups if group), key=lambda it: -len(it))
+    return [(control, group) for group in found] + [(None, [it]) for it in mutants if it.alone]

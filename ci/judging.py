@@ -36,6 +36,21 @@ def unread_lines(said, edit):
     return found
 
 
+def own_failure(function, verdict, said):
+    """The line that says that a proof of the function itself fails, or nothing, and whether a proof file lost a name.
+
+    That it calls another function which fails says nothing of its own proof."""
+    errors = errors_in("proofs/" + "/".join(function.split("::")[1:]) + "/", said)
+    told = [it for it in errors if not NAMES.search(it)]
+    if errors and not told:
+        return "", errors[0]
+    if verdict.startswith("no proof: ") and "`search` did not prove" in verdict:
+        return f"fn {function}: {verdict}", ""
+    if told and re.match(r"not proved(;|$)", verdict):
+        return told[0], ""
+    return "", ""
+
+
 def judged(edit, said):
     """Whether the check's output has the function come out as the edit says, and the prover's line that says so."""
     unread = unread_lines(said, edit)
@@ -44,16 +59,24 @@ def judged(edit, said):
     line = re.search(rf"^fn {re.escape(edit.function)}: (.*)$", said, re.M)
     if not line:
         return False, f"the check says nothing of {edit.function}: {said.strip()}"
-    verdict = line[1]
     if edit.is_control:
-        return verdict == "proved", line[0]
-    own = "proofs/" + "/".join(edit.function.split("::")[1:]) + "/"
-    errors = errors_in(own, said)
-    told = [it for it in errors if not NAMES.search(it)]
-    if errors and not told:
-        return False, f"only a proof file names what the edit took away: {errors[0]}"
-    if verdict.startswith("no proof: ") and "`search` did not prove" in verdict:
-        return True, line[0]
-    if told and re.match(r"not proved(;|$)", verdict):
-        return True, told[0]
-    return False, line[0]
+        return line[1] == "proved", line[0]
+    failure, lost = own_failure(edit.function, line[1], said)
+    if lost:
+        return False, f"only a proof file names what the edit took away: {lost}"
+    return bool(failure), failure or line[0]
+
+
+def spoiled(edits, said):
+    """Why a check of these mutants without a control judges nothing, or nothing.
+
+    Its mutants call other functions. One at least has to come out proved, and none may fail by its own proof."""
+    changed, count = {it.function for it in edits}, 0
+    for function, verdict in re.findall(r"^fn (\S+): (.*)$", said, re.M):
+        if function in changed:
+            continue
+        count += verdict == "proved"
+        failure, _ = own_failure(function, verdict, said)
+        if failure:
+            return f"{function} fails too, and no mutant is in it: {failure}"
+    return "" if count else "no function beside its mutants is proved in it"

@@ -7,11 +7,12 @@ A mutant is a crate with one mistake in it, written as a file NAME.edit of these
     file: src/FILE.rt                  then `old: TEXT` and `new: TEXT`: the old text stands once in that file,
                                        and in that function, or in an import, if there is no `alone:`
 A control is a file NAME.control with `proves:` in place of `refuses:`. It changes nothing that matters, so its
-function has to come out proved. Each crate with mutants has one, and it stands in each check but those of mutants that
-go alone. It shows that the check does not refuse everything.
+function has to come out proved. Each crate with mutants has one, and it stands in the first check of the crate. It shows
+that a check does not refuse everything. The other checks show it by the functions that the mutants call.
 
 The mutants of different functions share one check, since a proof reads the contracts of what is called and no bodies.
-The first check of a crate keeps what it proved, and the others of the crate begin with that, but for the control's proof.
+The first check of a crate begins with what stands in its out/incremental. It keeps what it proved, and the others of the
+crate begin with that.
 A check reads the libraries below its crate from their out/rlib. They are built if they are missing or old.
 docs/CI.md says how a mutant is judged. The last line is `N passed, N failed`, and the status is 0 if none failed.
 """
@@ -30,7 +31,8 @@ from concurrent.futures import FIRST_COMPLETED, ThreadPoolExecutor, wait
 
 import edits
 import machine
-from judging import judged, unended
+from judging import judged, spoiled, unended
+from keeping import handed_on
 
 TOP = os.path.dirname(os.path.dirname(os.path.abspath(__file__)))
 # The most that one check has been seen to take, with some room, in bytes.
@@ -62,8 +64,31 @@ def load_kit():
 
 
 def command(kit, crate):
-    """The words that check the crate in the current folder, over the libraries of the repository."""
-    return [*kit.guarded(), kit.RATTLE, "check", *crate.words(["--jobs", "1"], keeps=False)]
+    """The words that check the crate in the current folder, over the libraries of the repository.
+
+    A static library is checked as a library: the proofs of its functions are the same, and it reads no code of others."""
+    words = crate.words(["--jobs", "1"], keeps=False)
+    if "--crate-type" in words:
+        at = words.index("--crate-type")
+        words = [*words[:at], *words[at + 2 :]]
+    return [*kit.guarded(), kit.RATTLE, "check", *words]
+
+
+@dataclasses.dataclass(frozen=True)
+class Task:
+    """Mutants that share one check, with the control of their crate, if there is one for them, and whether it stands in it."""
+
+    crate: object
+    control: object
+    mutants: list
+    has_control: bool
+
+    def group(self):
+        return [*([self.control] if self.has_control else []), *self.mutants]
+
+    def again(self, mutants):
+        """The task to try these of its mutants once more, beside the control."""
+        return Task(self.crate, self.control, mutants, bool(self.control))
 
 
 @dataclasses.dataclass
@@ -100,21 +125,9 @@ def check(kit, crate, group, kept):
             return Check(out.read(), run.returncode, used.ru_utime + used.ru_stime, 1024 * used.ru_maxrss)
 
 
-def link_or_copy(one, other):
-    """Gives a proof that was kept a second name. A check replaces such a file, and never writes into it."""
-    if not one.endswith(".oantt"):
-        return shutil.copy2(one, other)
-    return os.link(one, other)
-
-
-def handed_on(kept, folder, control):
-    """Copies what a check kept, but for its proof of the control, which each check has to make itself.
-
-    Returns the copy's folder, or nothing if no proof is found that it would leave out."""
-    mark = f"-proofs.{control.function.partition('::')[2].replace('::', '.')}." if control else "-proofs."
-    found = [it for _, _, names in os.walk(kept) for it in names if mark in it]
-    shutil.copytree(kept, folder, copy_function=link_or_copy, ignore=lambda *_: found if control else ())
-    return folder if found else None
+def earlier(crate):
+    """The folder of what was proved of the crate before, if there is one: by rt ci, for the archive, or by hand."""
+    return f"{crate.folder}/out/incremental"
 
 
 def cut(why):
@@ -164,61 +177,69 @@ class Trials:
         """Tries the groups side by side in their order, and then each whose check was killed, one at a time.
 
         A crate's other groups wait for its first, and begin with what that one proved."""
-        left, running, firsts, times = [*tasks], {}, {}, Counter(crate.name for crate, _, _ in tasks)
+        left, running, firsts, times = [*tasks], {}, {}, Counter(it.crate.name for it in tasks)
         with tempfile.TemporaryDirectory(prefix="mutants-kept-") as room, ThreadPoolExecutor(jobs) as pool:
             while left or running:
-                is_ready = lambda it: it[0].name not in firsts or firsts[it[0].name].done()
+                is_ready = lambda it: it.crate.name not in firsts or firsts[it.crate.name].done()
                 while len(running) < jobs and (task := next(filter(is_ready, left), None)):
                     left.remove(task)
-                    name = task[0].name
-                    kept = f"{room}/{name}" if times[name] > 1 else None
+                    name = task.crate.name
+                    kept = f"{room}/{name}" if times[name] > 1 or os.path.isdir(earlier(task.crate)) else None
                     began = pool.submit(self.try_over if name in firsts else self.try_first, task, kept)
                     firsts.setdefault(name, began)
                     running[began] = name
                 for it in wait(running, return_when=FIRST_COMPLETED).done:
                     name = running.pop(it)
                     it.result()
-                    if name not in [*running.values(), *(crate.name for crate, _, _ in left)]:
+                    if name not in [*running.values(), *(other.crate.name for other in left)]:
                         shutil.rmtree(f"{room}/{name}", ignore_errors=True)
         for task in self.killed[:]:
-            self.try_group(*task, is_last=True)
+            self.try_task(task, is_last=True)
         for label, ends in sorted(self.controls.items()):
             word = "proved" if any(ends) else "NOT PROVED"
             self.report.tell(label, any(ends), word, f"in {sum(ends)} of the {len(ends)} checks that it stood in")
 
     def try_first(self, task, kept):
-        """Tries the first group of a crate, whose proofs it keeps for the others, if there are any."""
-        if kept:
+        """Tries the first group of a crate over what was proved of it before, and keeps its proofs for the others."""
+        if kept and os.path.isdir(earlier(task.crate)):
+            handed_on(earlier(task.crate), kept)
+        elif kept:
             os.mkdir(kept)
-        self.try_group(*task, kept=kept)
+        self.try_task(task, kept=kept)
 
     def try_over(self, task, kept):
         """Tries a group over what the first of its crate kept."""
         with tempfile.TemporaryDirectory(prefix="over-", dir=os.path.dirname(kept)) as room:
-            self.try_group(*task, kept=handed_on(kept, f"{room}/kept", task[1]))
+            self.try_task(task, kept=handed_on(kept, f"{room}/kept"))
 
-    def try_group(self, crate, control, mutants, word="refused", is_last=False, kept=None):
-        """Checks mutants and control together. A mutant that is not refused so is tried without the others, over nothing."""
-        ran = check(self.kit, crate, [*([control] if control else []), *mutants], kept)
-        self.report.add(crate, ran)
+    def try_task(self, task, word="refused", is_last=False, kept=None):
+        """Checks the mutants of a task. One that is not refused so is tried beside the control alone, over nothing."""
+        ran = check(self.kit, task.crate, task.group(), kept)
+        self.report.add(task.crate, ran)
         if ran.status < 0 and not is_last:
-            self.report.note(crate.name, "a check was killed, most likely for memory: it is repeated at the end")
-            self.killed.append((crate, control, mutants, word))
+            self.report.note(task.crate.name, "a check was killed, most likely for memory: it is repeated at the end")
+            self.killed.append(task)
             return
-        void = unended(ran.status, ran.said) or self.unproved(control, ran)
-        for it in mutants:
+        void = unended(ran.status, ran.said)
+        spoilt = "" if void or task.has_control or not task.control else spoiled(task.mutants, ran.said)
+        if spoilt:
+            self.report.note(task.crate.name, f"a check is made once more, beside the control: {spoilt}")
+            self.try_task(task.again(task.mutants), word, is_last)
+            return
+        void = void or self.unproved(task, ran.said)
+        for it in task.mutants:
             is_well, why = (False, void) if void else judged(it, ran.said)
-            if not is_well and (len(mutants) > 1 or kept):
+            if not is_well and task.again([it]) != task or not is_well and kept:
                 self.report.note(it.label, f"not refused in its group, so it is tried alone: {why}")
-                self.try_group(crate, control, [it], "refused alone", is_last)
+                self.try_task(task.again([it]), "refused alone", is_last)
             else:
                 self.report.tell(it.label, is_well, word if is_well else "NOT TRIED" if void else "NOT REFUSED", why)
 
-    def unproved(self, control, ran):
+    def unproved(self, task, said):
         """Why the check judges nothing if its control is not proved."""
-        is_well, why = judged(control, ran.said) if control else (True, "")
-        if control:
-            self.controls[control.label].append(is_well)
+        is_well, why = judged(task.control, said) if task.has_control else (True, "")
+        if task.has_control:
+            self.controls[task.control.label].append(is_well)
         return "" if is_well else f"the control beside it is not proved: {why}"
 
     def tasks_of(self, crate, is_proved):
@@ -234,8 +255,12 @@ class Trials:
             self.controls[control.label] = []
         folders = os.walk(f"{crate.folder}/src")
         size = sum(os.path.getsize(f"{at}/{it}") for at, _, names in folders for it in names)
-        groups = edits.grouped(control, mutants, crate.folder)
-        return [(len(group) * size, (crate, beside, group)) for beside, group in groups]
+        tasks = []
+        for beside, group in edits.grouped(control, mutants, crate.folder):
+            # (the first check of the crate is that of its first group)
+            has_control = bool(beside) and not tasks
+            tasks.append((len(group) * size, Task(crate, beside, group, has_control)))
+        return tasks
 
 
 def texts_that_fail(crates):

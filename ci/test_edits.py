@@ -186,6 +186,12 @@ class Grouping(WithCrate):
         self.assertEqual(sizes, [3, 2, 2])
         self.assertEqual([len(it) for _, it in self.groups(*self.many("abcdefg"))], [7])
 
+    def test_functions_without_proof_files_stand_together(self):
+        for name in "bdf":
+            self.write(f"proofs/values/{name}/Answers.antt", "")
+        groups = self.groups(*self.many("abcdef"), most=3)
+        self.assertEqual(groups, [(True, ["0.edit", "2.edit", "4.edit"]), (True, ["1.edit", "3.edit", "5.edit"])])
+
     def test_a_function_of_many_mutants_makes_no_small_groups(self):
         self.write("src/values.rt", "fn h() { 5 }\nfn f() { 1, 2, 3 }\nfn g() { 4 }\nfn k() { 7 }\nfn m() { 8 }\n")
         many = [("g", "4"), ("k", "7"), ("m", "8"), ("f", "1"), ("f", "2"), ("f", "3")]

@@ -100,6 +100,14 @@ class Judging(unittest.TestCase):
         for function in ("values::checked_values", "values::width", "values::gone"):
             self.assertEqual(self.judged(function, name="harmless.control")[0], False)
 
+    def test_the_functions_that_mutants_call_guard_a_check(self):
+        fail = [edit(it) for it in ("values::checked_values", "unary::UnaryQuorums::read_quorum")]
+        self.assertEqual(judging.spoiled(fail, SAID), "")
+        # One that fails by itself judges nothing, and no more does a check that proves nothing.
+        self.assertIn("read_quorum fails too", judging.spoiled(fail[:1], SAID))
+        self.assertIn("no function beside", judging.spoiled(fail, SAID.replace("copy: proved", "copy: not proved")))
+        self.assertIn("no function beside", judging.spoiled([*fail, edit("table::Table::copy")], SAID))
+
     def test_other_words_of_the_prover_pass_nothing(self):
         other = SAID.replace("not proved", "unproven").replace("no proof", "without proof")
         other = other.replace(": proved", ": well")

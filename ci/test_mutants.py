@@ -4,6 +4,7 @@ import io
 import os
 import sys
 import tempfile
+import types
 import unittest
 from unittest import mock
 
@@ -39,6 +40,7 @@ def crates_below(top):
 '''
 # The word `wrong` has its function refused, and `spoils` has every function refused. `dies` has the check killed, and
 # so has `heavy`, if it is asked for more than two functions, and `once`, the first time. `babbles` ends it otherwise.
+# It also speaks of the functions that those it is asked for call. `upsets` has these refused, too.
 RATTLE = f'''#!{sys.executable} -IS
 ''' + r'''
 import os, re, signal, sys
@@ -59,21 +61,26 @@ if "--incremental" in sys.argv:
 if "dies" in text or "heavy" in text and len(only) > 2 or "once" in text and is_first:
     open(f"{room}/was_here", "w").close()
     os.kill(os.getpid(), signal.SIGKILL)
-proved = 0
+proved, called = 0, []
+body = lambda name: name.startswith("values::") and re.search(rf"fn {name[8:]}.. . (.*) .", text)
+def tell(name, is_well):
+    print(f"fn {crate}::{name}: {'proved' if is_well else 'no proof: `search` did not prove `returns`'}")
+    return is_well
 for name in only:
-    found = name.startswith("values::") and re.search(rf"fn {name[8:]}.. . (.*) .", text)
+    found = body(name)
     if not found:
         print(f"rattle: error: `{crate}` has no function `{name}`")
         sys.exit(2)
-    is_well = "wrong" not in found[1] and "spoils" not in text
-    print(f"fn {crate}::{name}: {'proved' if is_well else 'no proof: `search` did not prove `returns`'}")
-    proved += is_well
+    proved += tell(name, "wrong" not in found[1] and "spoils" not in text)
+    called += [f"values::{it}" for it in re.findall(r"(\w)\(\)", found[1])]
+for name in {*called} - {*only}:
+    tell(name, "upsets" not in text and "wrong" not in body(name)[1])
 print(f"only={len(only)} proved={proved}")
 if "babbles" in text:
     print("and more")
 sys.exit(proved < len(only))
 '''
-SOURCE = "fn f() { 1 }\nfn g() { 2 }\nfn h() { 3 }\nconst FOUR: u64 = 4;\n"
+SOURCE = "fn f() { 1, k() }\nfn g() { 2 }\nfn h() { 3 }\nfn k() { 0 }\nconst FOUR: u64 = 4;\n"
 
 
 def text_of(function, old, new, word="refuses"):
@@ -140,6 +147,12 @@ class Trying(WithKit):
         self.assertEqual(asked, "check mb_a --jobs 1 --only values::h --only values::f --only values::g")
         self.assertEqual(text, SOURCE.replace("1", "wrong").replace("2", "wrong").replace("3", "3 + 0"))
 
+    def test_a_static_library_is_checked_as_a_library(self):
+        kit = types.SimpleNamespace(guarded=list, RATTLE="rattle")
+        words = lambda flags, keeps: ["mb_a", "--crate-type", "staticlib", *flags]
+        crate = types.SimpleNamespace(words=words)
+        self.assertEqual(mutants.command(kit, crate), ["rattle", "check", "mb_a", "--jobs", "1"])
+
     def test_a_mutant_that_survives(self):
         self.mutant("g.edit", text_of("values::g", "2", "5"))
         self.ends(1, "2 passed, 1 failed", "mb_a/g.edit: NOT REFUSED: fn mb_a::values::g: proved", "mb_a: 2 checks")
@@ -158,14 +171,38 @@ class Trying(WithKit):
         self.write(f"{self.crate}/src/values.rt", SOURCE + "// spoils\n")
         self.ends(1, "0 passed, 3 failed", "mb_a/harmless.control: NOT PROVED: in 0 of the 3 checks")
 
-    def test_the_second_check_of_a_crate_begins_with_the_first_but_for_the_control(self):
+    def test_the_second_check_of_a_crate_begins_with_the_first_and_has_no_control(self):
         self.mutant("f2.edit", text_of("values::f", "1", "also wrong"))
         self.ends(0, "4 passed, 0 failed", "mb_a: 2 checks",
-                  "mb_a/harmless.control: proved: in 2 of the 2 checks")
+                  "mb_a/harmless.control: proved: in 1 of the 1 checks")
         with open(f"{self.kit}/kept", encoding="utf-8") as file:
             first, second = file.read().splitlines()
-        parts = [f"X-proofs.values.{it}.{part}" for it in "fg" for part in ("Code.oantt", "judged")]
+        parts = [f"X-proofs.values.{it}.{part}" for it in "fgh" for part in ("Code.oantt", "judged")]
         self.assertEqual((first, second), ("", " ".join(parts)))
+        last = [it for it in self.log().splitlines() if it.startswith("check")][-1]
+        self.assertRegex(last, r"--jobs 1 --only values::f --incremental \S+$")
+
+    def test_the_first_check_of_a_crate_begins_with_what_was_proved_before(self):
+        self.write(f"{self.crate}/out/incremental/X-proofs.values.k.oantt", "proved")
+        self.ends(0, "3 passed, 0 failed", "mb_a: 1 checks")
+        with open(f"{self.kit}/kept", encoding="utf-8") as file:
+            self.assertEqual(file.read(), "X-proofs.values.k.oantt\n")
+        self.assertEqual(os.listdir(f"{self.crate}/out/incremental"), ["X-proofs.values.k.oantt"])
+
+    def test_a_check_that_proves_nothing_is_made_again_beside_the_control(self):
+        self.mutant("g2.edit", text_of("values::g", "2", "also wrong"))
+        again = "mb_a: a check is made once more, beside the control: no function beside its mutants is proved"
+        self.ends(0, "4 passed, 0 failed", again, "mb_a: 3 checks", "mb_a/harmless.control: proved: in 2 of the 2")
+
+    def test_a_check_in_which_another_function_fails_is_made_again_beside_the_control(self):
+        self.mutant("f2.edit", text_of("values::f", "1", "wrong upsets"))
+        again = "mb_a: a check is made once more, beside the control: mb_a::values::k fails too"
+        self.ends(0, "4 passed, 0 failed", again, "mb_a: 3 checks", "mb_a/harmless.control: proved: in 2 of the 2")
+
+    def test_a_later_check_that_refuses_everything_judges_nothing(self):
+        self.mutant("f2.edit", text_of("values::f", "1", "wrong spoils upsets"))
+        self.ends(1, "3 passed, 1 failed", "mb_a/f2.edit: NOT TRIED: the control beside it is not proved",
+                  "mb_a/harmless.control: proved: in 1 of the 2")
 
     def test_a_mutant_that_survives_is_tried_again_over_nothing(self):
         self.mutant("f2.edit", text_of("values::f", "1", "5"))
