@@ -348,7 +348,7 @@ module _ {R Z : Type 0} (m : MailboxView) (may_stop may_pass : Who → ℕ → T
         stopped = total;
         puts = run_passes m may_stop may_pass stream h from end budget items jobs.puts.items
             ends.puts.items jobs.polls.items ends.polls.items hub all.puts given.polls came.puts
-            came.polls;
+            came.polls puts_on;
         polls = subst (λ (z : (ℕ × ℕ) × List Stream). WerePolled may_stop may_pass z.0.0 z.0.1
             budget (length h.ledgers) z.1 (left_of m may_stop may_pass ends.polls.items))
             (λ i. ((first i, far i), streams i))

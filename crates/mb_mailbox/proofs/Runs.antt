@@ -65,7 +65,7 @@ module _ {Z : Type 0} (m : MailboxView) (may_stop may_pass : Who → ℕ → Typ
     pub found : d.stopped ≡ false → d.full ≢ 0 → HasFoundNone m.cells.size.cells p d.producer.seat.part
     pub none : d.stopped ≡ true → d.full ≡ 0
     pub stop : d.stopped ≡ true → d.off ≡ false → IsStoppedPut may_stop m.cells.size.cells p v.items (lane_left d.producer d.stopped)
-    pub passed : WasPassed may_pass p v.items (lane_left d.producer d.stopped)
+    pub passed : d.off ≡ false → WasPassed may_pass p v.items (lane_left d.producer d.stopped)
 
   abbrev pub AreAt : ℕ → List (Vec ℕ Z) → List (PutDone Z) → Type 0
   AreAt p [] [] = Unit {0}
@@ -92,12 +92,12 @@ module _ {Z : Type 0} (m : MailboxView) (may_stop may_pass : Who → ℕ → Typ
               absurd ((subst FoundNoCell is (e.had_cells t o mine)).offered);
           stop = subst (λ (q : ℕ). IsStopBefore may_stop (who.Producer q) (suc (length d.producer.items))) (ap (λ (s : ProducerView). s.seat.lane) is) (e.stop t o);
         };
-        passed = record {
-          put = subst (λ (q : ℕ). ArePassed may_pass (who.Producer q) (length d.producer.items)) (ap (λ (s : ProducerView). s.seat.lane) is) e.passed;
+        passed = λ o. record {
+          put = subst (λ (q : ℕ). ArePassed may_pass (who.Producer q) (length d.producer.items)) (ap (λ (s : ProducerView). s.seat.lane) is) (e.passed o);
           full = λ f short.
               let here = e.full f ∙ ap (λ (w : Vec ℕ Z). length w.items) list in
               subst (λ (q : ℕ). may_pass (who.Producer q) (suc (length d.producer.items))) (ap (λ (s : ProducerView). s.seat.lane) is)
-              (e.passed_full f (λ z. omega (arith, here, z, short)));
+              (e.passed_full o f (λ z. omega (arith, here, z, short)));
         };
       }
 
@@ -161,11 +161,14 @@ module _ {Z : Type 0} (m : MailboxView) (may_stop may_pass : Who → ℕ → Typ
       (λ t. a.0.stop t (All-head F d ds on), stops_of (suc p) vs ds a.1 (All-tail F d ds on))
 
   -- who was let through
-  passes_of : (p : ℕ) (vs : List (Vec ℕ Z)) (ds : List (PutDone Z)) → AreAt p vs ds → WerePassed may_pass p (lists_in vs) (lanes_of ds)
-  passes_of p [] [] a = tt
-  passes_of p [] (d ∷ ds) a = absurd a
-  passes_of p (v ∷ vs) [] a = absurd a
-  passes_of p (v ∷ vs) (d ∷ ds) a = (a.0.passed, passes_of (suc p) vs ds a.1)
+  passes_of : (p : ℕ) (vs : List (Vec ℕ Z)) (ds : List (PutDone Z)) → AreAt p vs ds
+      → All (λ (d : PutDone Z). d.off ≡ false) ds → WerePassed may_pass p (lists_in vs) (lanes_of ds)
+  passes_of p [] [] a on = tt
+  passes_of p [] (d ∷ ds) a on = absurd a
+  passes_of p (v ∷ vs) [] a on = absurd a
+  passes_of p (v ∷ vs) (d ∷ ds) a on =
+      let F = λ (d : PutDone Z). d.off ≡ false in
+      (a.0.passed (All-head F d ds on), passes_of (suc p) vs ds a.1 (All-tail F d ds on))
 
   -- ---- consumers
   abbrev pub consumers : List (PollDone Z) → List ConsumerView
@@ -328,8 +331,9 @@ module _ {Z : Type 0} (m : MailboxView) (may_stop may_pass : Who → ℕ → Typ
     pub run_stops : All (λ (d : PutDone Z). d.off ≡ false) ds → AreStoppedPuts may_stop m.cells.size.cells (length h.puts) (lists_in vs) (lanes_of ds)
     run_stops on = stops_of (length h.puts) vs ds ats on
 
-    pub run_passes : WerePassed may_pass (length h.puts) (lists_in vs) (lanes_of ds)
-    run_passes = passes_of (length h.puts) vs ds ats
+    pub run_passes : All (λ (d : PutDone Z). d.off ≡ false) ds
+        → WerePassed may_pass (length h.puts) (lists_in vs) (lanes_of ds)
+    run_passes on = passes_of (length h.puts) vs ds ats on
 
     pub run_polled : All (λ (d : PollDone Z). d.off ≡ false) es → WerePolled may_stop may_pass from end budget (length h.ledgers) (sources_of stream ks) (left_of es)
     run_polled on = polled_of stream from end budget (length h.ledgers) ks es polling polled on

@@ -98,8 +98,8 @@ pub record HasPolled (may_stop may_pass : Who → ℕ → Type 0) (from end budg
 module _ {Z : Type 0} (may_stop may_pass : Who → ℕ → Type 0) where
   -- the producer put a beginning of its list, and ended its lane. Where it was not stopped, `full` counts the rest of the
   -- list, and if there is any, a fetch-add of its own found no cell. Where it was, there is a rest, each of its fetch-adds
-  -- found a cell, and it was stopped before the call of the next item, or the run is off. The gate let each of its calls
-  -- through: one for each item that it put, and one for the item that found no cell
+  -- found a cell, and it was stopped before the call of the next item, or the run is off. Where the run is not off, the gate
+  -- let each of its calls through: one for each item that it put, and one for the item that found no cell
   pub record IsPutEnd (j : PutJob Z) (d : PutDone Z) : Type 0 where
     pub same : IsSameLane j.producer d.producer
     pub over : is_over d.producer ≡ true
@@ -111,8 +111,8 @@ module _ {Z : Type 0} (may_stop may_pass : Who → ℕ → Type 0) where
     pub had_cells : d.stopped ≡ true → d.off ≡ false → FoundNoCell d.producer → FoundNoCell j.producer
     pub stop : d.stopped ≡ true → d.off ≡ false
         → IsStopBefore may_stop (who.Producer j.producer.seat.lane) (suc (length d.producer.items))
-    pub passed : ArePassed may_pass (who.Producer j.producer.seat.lane) (length d.producer.items)
-    pub passed_full : d.stopped ≡ false → d.full ≢ 0
+    pub passed : d.off ≡ false → ArePassed may_pass (who.Producer j.producer.seat.lane) (length d.producer.items)
+    pub passed_full : d.off ≡ false → d.stopped ≡ false → d.full ≢ 0
         → may_pass (who.Producer j.producer.seat.lane) (suc (length d.producer.items))
 
   -- the consumer, where it was not stopped, has read each lane from `from` on and below `end` to its end mark. One that had

@@ -98,6 +98,13 @@ struct Record {
 }
 
 impl Record {
+    fn new() -> Record {
+        Record {
+            times: [0; 4].map(AtomicU64::new),
+            flaws: AtomicU64::new(0),
+        }
+    }
+
     /// Counts that it is asked or told by this worker, which is to be the next after so many times.
     fn note(&self, who: Who, times: u64) {
         let place = match who {
@@ -142,13 +149,26 @@ fn alternates(rt: &impl Abort, gate: &Record) {
 #[test]
 fn asks_and_tells_of_a_gate_alternate(rt: HostRuntime) -> Result<(), Fail> {
     let mut trial = new_trial(rt.alloc(), 2, 2, 5)?;
-    let gate = Record {
-        times: [0; 4].map(AtomicU64::new),
-        flaws: AtomicU64::new(0),
-    };
+    let gate = Record::new();
     let worked = works(&rt, &mut trial, &[&[1, 2], &[3, 4, 5]], 5, 2, &gate)?;
     same(&rt, &worked, &Ok(ALL_DONE));
     alternates(&rt, &gate);
+    Ok(())
+}
+
+#[test]
+fn a_put_that_finds_no_cell_is_told_of(rt: HostRuntime) -> Result<(), Fail> {
+    let mut trial = new_trial(rt.alloc(), 1, 1, 1)?;
+    let gate = Record::new();
+    let worked = works(&rt, &mut trial, &[&[1, 2, 3]], 5, 1, &gate)?;
+    let two_are_over = Worked {
+        full: 2,
+        stopped: 0,
+    };
+    same(&rt, &worked, &Ok(two_are_over));
+    // Two puts, each asked for and told of, and none after the one that found no cell.
+    let flaws = gate.flaws.load(Ordering::SeqCst);
+    same(&rt, &(flaws, gate.times[0].load(Ordering::SeqCst)), &(0, 4));
     Ok(())
 }
 

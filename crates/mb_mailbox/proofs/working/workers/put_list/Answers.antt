@@ -53,9 +53,9 @@ returns g c =
           subst (λ (k : ℕ). IsStopBefore (g.G.Gate.may_stop c.args.gate.now)
           (who.Producer c.args.job.producer.seat.lane) (suc k)) count
           (c.put_items-count.ensures.stop t o);
-      passed = subst (λ (k : ℕ). ArePassed (g.G.Gate.may_pass c.args.gate.now)
+      passed = λ o. subst (λ (k : ℕ). ArePassed (g.G.Gate.may_pass c.args.gate.now)
           (who.Producer c.args.job.producer.seat.lane) k) count c.put_items-count.ensures.passed;
-      passed_full = λ h some. elim c.if-stopped.branch [
+      passed_full = λ o h some. elim c.if-stopped.branch [
         | then-stopped w ↦ absurd (cc)
         | else-stopped w ↦
             subst (λ (k : ℕ). g.G.Gate.may_pass c.args.gate.now
