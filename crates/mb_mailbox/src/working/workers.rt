@@ -16,6 +16,7 @@ use crate::producer::{Producer, Put};
 use rand_core::Rng;
 use std::alloc::Allocator;
 use std::sync::atomic::{AtomicBool, Ordering};
+use std::thread::yield_now;
 
 /// How many items were linked, whether the producer was stopped before it came to the end of its list, and whether because
 /// the run is off.
@@ -169,7 +170,7 @@ fn mark(ended: &mut [bool; 16], lane: u32)
     ended[lane as usize] = true;
 }
 
-/// Polls a lane that has not ended, and marks it where it has.
+/// Polls a lane that has not ended, and marks it if it has.
 fn poll_lane<A: Allocator + Drop, B: Allocator + Drop, R: Rng>(
     mailbox: &Mailbox<B>,
     consumer: &mut Consumer<A>,
@@ -177,7 +178,7 @@ fn poll_lane<A: Allocator + Drop, B: Allocator + Drop, R: Rng>(
     budget: u64,
     rng: &mut R,
     ended: &mut [bool; 16],
-)
+) -> Poll
     requires of { IsConsumerOf mailbox.now consumer.old }
     requires few { (lane < mailbox.now.cells.size.lanes) × (lane < 16) }
     requires unmarked { slice_index_or ended.old lane true ≡ false }
@@ -193,9 +194,8 @@ fn poll_lane<A: Allocator + Drop, B: Allocator + Drop, R: Rng>(
         → (p ≡ lane) ⊎ (slice_index_or ended.old p false ≡ true) }
     ensures ends { ends_met consumer.new.reader.part + count_marks ended.old
         ≡ ends_met consumer.old.reader.part + count_marks ended.new }
-    ensures polled { (answer : _)
-        × IsPollOf lane budget answer (R.stream rng.old) (R.stream rng.new) consumer.old
-        consumer.new }
+    ensures polled { IsPollOf lane budget result (R.stream rng.old) (R.stream rng.new)
+        consumer.old consumer.new }
     ensures same { IsSameConsumer consumer.old consumer.new }
     ensures of { IsConsumerOf mailbox.now consumer.new }
 {
@@ -204,6 +204,19 @@ fn poll_lane<A: Allocator + Drop, B: Allocator + Drop, R: Rng>(
     consumer.keeps_its_parts();
     if let Poll::Ended = poll {
         mark(ended, lane);
+    }
+    poll
+}
+
+/// How many polls in a row found nothing, after `poll`. The thread yields after more of them than there are lanes.
+fn rest(poll: Poll, idle: u32, lanes: u32) -> u32 {
+    match poll {
+        Poll::Nothing if idle < lanes => idle + 1,
+        Poll::Nothing => {
+            yield_now();
+            0
+        }
+        _ => 0,
     }
 }
 
@@ -229,6 +242,7 @@ pub(super) fn poll_lanes<A: Allocator + Drop, B: Allocator + Drop, R: Rng + Drop
     let who = Who::Consumer(consumer.seat.consumer());
     let mut ended = [false; 16];
     let mut at = from;
+    let mut idle = 0;
     for call in 1..u64::MAX {
         let Some(lane) = next_lane(&ended, at, from, end) else {
             return PollDone {
@@ -247,8 +261,9 @@ pub(super) fn poll_lanes<A: Allocator + Drop, B: Allocator + Drop, R: Rng + Drop
         if !gate.enter(who, call) {
             break;
         }
-        poll_lane(mailbox, &mut consumer, lane, budget, &mut rng, &mut ended);
+        let poll = poll_lane(mailbox, &mut consumer, lane, budget, &mut rng, &mut ended);
         gate.leave(who, call);
+        idle = rest(poll, idle, end);
         at = lane + 1;
     }
     // The gate refused a call, or call 2^64 - 2 was made, and may have read the last lane to its end.

@@ -108,10 +108,10 @@ pub returns-in-Ended-clause-polled : goal.returns-in-Ended-clause-polled
 returns-in-Ended-clause-polled g c =
     let there : c.poll-poll.result ≢ poll.NoLane = λ z.
     (let far = c.poll-poll.ensures.no_lane.0 z in omega (arith, far, c.requires.few.0)) in
-    (c.poll-poll.result, c.poll-poll.ensures.polled there)
+    c.poll-poll.ensures.polled there
 
 pub returns-in_default-clause-polled : goal.returns-in_default-clause-polled
 returns-in_default-clause-polled g c =
     let there : c.poll-poll.result ≢ poll.NoLane = λ z.
     (let far = c.poll-poll.ensures.no_lane.0 z in omega (arith, far, c.requires.few.0)) in
-    (c.poll-poll.result, c.poll-poll.ensures.polled there)
+    c.poll-poll.ensures.polled there

@@ -31,36 +31,36 @@ pub loop-call-preserved : goal.loop-call-preserved
 loop-call-preserved g c =
     let was = c.loop-call.invariant in
     let made = was.made in
-    let more = c.poll_lane.ensures.made in
+    let more = c.poll_lane-poll.ensures.made in
     record {
       place = omega (arith, c.in-Some.ensures.some.0);
-      all_of = c.poll_lane.ensures.of;
+      all_of = c.poll_lane-poll.ensures.of;
       same = record {
-        cells = c.poll_lane.ensures.same.cells ∙ was.same.cells;
-        reader = c.poll_lane.ensures.same.reader ∙ was.same.reader;
-        claims = c.poll_lane.ensures.same.claims ∙ was.same.claims;
-        consumer = c.poll_lane.ensures.same.consumer ∙ was.same.consumer;
+        cells = c.poll_lane-poll.ensures.same.cells ∙ was.same.cells;
+        reader = c.poll_lane-poll.ensures.same.reader ∙ was.same.reader;
+        claims = c.poll_lane-poll.ensures.same.claims ∙ was.same.claims;
+        consumer = c.poll_lane-poll.ensures.same.consumer ∙ was.same.consumer;
       };
-      read = c.poll_lane.ensures.read;
+      read = c.poll_lane-poll.ensures.read;
       only = λ none.
-          c.poll_lane.ensures.only c.args.lanes.from c.args.lanes.end c.in-Some.ensures.low
+          c.poll_lane-poll.ensures.only c.args.lanes.from c.args.lanes.end c.in-Some.ensures.low
           c.in-Some.ensures.some.0 (was.only none);
       marks = λ p e. ⊎_elim
           (λ (same : p ≡ c.in-Some.lane). (
             omega (arith, same, c.in-Some.ensures.low),
             omega (arith, same, c.in-Some.ensures.some.0),
           ))
-          (λ t. was.marks p t) (c.poll_lane.ensures.marks p e);
+          (λ t. was.marks p t) (c.poll_lane-poll.ensures.marks p e);
       ends = λ none. let met = was.ends none in
-          let next = c.poll_lane.ensures.ends in
+          let next = c.poll_lane-poll.ensures.ends in
           omega (arith, met, next);
       made = omega (arith, made, more);
       most = budget_more c.args.lanes.budget c.loop-call.call _ _ _
-          (omega (arith, c.loop-call.auto.call)) was.most c.poll_lane.ensures.most;
+          (omega (arith, c.loop-call.auto.call)) was.most c.poll_lane-poll.ensures.most;
       called = called_more (g.G.Gate.may_pass c.args.gate.now) _ _ _ (c.loop-call.call - 1) _
-          c.in-Some.lane c.poll_lane.ensures.polled.0 _ _ _ _ _ _
+          c.in-Some.lane c.poll_lane-poll.result _ _ _ _ _ _
           (omega (arith, c.loop-call.auto.call)) was.called c.in-Some.ensures.low
-          c.in-Some.ensures.some.0 c.poll_lane.ensures.polled.1 (search rules);
+          c.in-Some.ensures.some.0 c.poll_lane-poll.ensures.polled (search rules);
     }
 
 pub returns-in_default : goal.returns-in_default
