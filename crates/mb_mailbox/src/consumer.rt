@@ -83,7 +83,6 @@ impl<A: Allocator + Drop> Consumer<A> {
     /// the source for each access of a claim. A claim that is held then stays with the consumer, and the next poll of the
     /// lane goes on with it. [`Poll::NoLane`] comes first, where there is no such lane, and changes nothing. It waits for
     /// nobody and takes no memory.
-    #[inline(always)]
     pub fn poll<B: Allocator + Drop, R: Rng>(
         &mut self,
         mailbox: &Mailbox<B>,
