@@ -1,1 +1,2 @@
 mod Contests
+mod Seats

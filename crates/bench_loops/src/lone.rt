@@ -82,11 +82,10 @@ pub fn claim_cell<A: Allocator + Drop>(
 {
     accesses_lengthen_one_part();
     let mut claim = Claim::new(layout, consumer);
-    for made in 0..u64::MAX {
-        match step(&mut claim, layout, words, cell, source.word()) {
-            Stage::Going => {}
-            stage => return (made + 1, stage),
-        }
+    let mut made = 0u64;
+    'steps: while let Stage::Going = claim.stage() {
+        step(&mut claim, layout, words, cell, source.word());
+        made = made.wrapping_add(1);
     }
-    (u64::MAX, Stage::Going)
+    (made, claim.stage())
 }

@@ -79,11 +79,6 @@ fn claim_cell<A: Allocator + Drop>(
 {
     accesses_lengthen_one_part();
     let mut claim = Claim::new(table.layout(), seat.consumer());
-    for made in 0..u64::MAX {
-        match table.step(seat, &mut claim, cell, source.word()) {
-            Stage::Going => {}
-            stage => return (made + 1, stage),
-        }
-    }
-    (u64::MAX, Stage::Going)
+    let made = table.run(seat, &mut claim, cell, source, u64::MAX);
+    (made, claim.stage())
 }

@@ -3,7 +3,7 @@ ghost use Rattle.std.specs.Prelude.{◌≡◌, ◌<◌, ◌∷◌, List};
 ghost use Rattle.mb_claim.specs.declared.access.ClaimAccess.{ClaimAccess};
 ghost use Rattle.mb_claim.specs.declared.access.Stage.TheVariants.{Going};
 ghost use Rattle.mb_claim.specs.declared.layout.TheConstants.{MAX_CELLS};
-ghost use Rattle.mb_claim.specs.Vocabulary.{claim_stage, consumer_of};
+ghost use Rattle.mb_claim.specs.Vocabulary.{claim_stage, consumer_of, steps_left};
 ghost use Rattle.bench_loops.specs.UnderWay.{IsUnderWay};
 
 use mb_claim::{Claim, ClaimWords, Layout, Stage};
@@ -23,6 +23,7 @@ pub fn step<A: Allocator + Drop>(
     requires stands { (h : List ClaimAccess) × IsUnderWay layout.now cell claim.old words.old h }
     ensures consumer { consumer_of claim.new ≡ consumer_of claim.old }
     ensures stage { result ≡ claim_stage claim.new }
+    ensures fewer { steps_left layout.now claim.new < steps_left layout.now claim.old }
     ensures stands { (h : List ClaimAccess) → IsUnderWay layout.now cell claim.old words.old h
         → (a : ClaimAccess) × (a.consumer ≡ consumer_of claim.old) × (a.cell ≡ cell)
         × IsUnderWay layout.now cell claim.new words.new (a ∷ h) }

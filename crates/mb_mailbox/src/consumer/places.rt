@@ -54,6 +54,10 @@ pub(super) fn leave<A: Allocator + Drop>(
     ensures place { places.new.items ≡ slice_set places.old.items lane (Before (Past k)) }
     ensures notes { NotesGrow lane (Some note) notes.old notes.new }
 {
-    set_place(places, lane as usize, Place::Before(Cursor::past(k)));
+    // A place that stands before a link already changes its cursor alone, not all the words of a place.
+    match &mut places.as_mut_slice()[lane as usize] {
+        Place::Before(at) => *at = Cursor::past(k),
+        place => *place = Place::Before(Cursor::past(k)),
+    }
     notes.push(lane, note);
 }

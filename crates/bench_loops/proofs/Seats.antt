@@ -1,0 +1,37 @@
+-- What steps of a claim from a seat leave as it was.
+use Rattle.std.proofs.Common.{◌≡◌, ◌≢◌, ℕ, List, ◌∷◌, zero, suc, ◌∙◌, refl, sym, ap}
+use Rattle.rand_core.specs.Stream.{Stream}
+use Rattle.mb_claim.specs.declared.access.ClaimAccess.{ClaimAccess}
+use Rattle.mb_claim.specs.declared.claim.Claim.{Claim}
+use Rattle.mb_claim.specs.declared.layout.Layout.{Layout}
+use Rattle.mb_claim.specs.Vocabulary.{part_on}
+use Rattle.mb_shared_claims.specs.Vocabulary.{AreSeatSteps, SeatView, access_of}
+use Rattle.bench_loops.proofs.Contests.{OthersStay}
+
+-- the seat is of the same table and the same consumer, which has done no more on another cell
+pub record Keeps (cell : ℕ) (seat now : SeatView) : Type 0 where
+  pub table : now.table ≡ seat.table
+  pub same : now.consumer ≡ seat.consumer
+  pub others : (k : ℕ) → k ≢ cell → part_on seat.consumer k now.part ≡ part_on seat.consumer k seat.part
+
+pub steps_keep :
+    (layout : Layout) (cell : ℕ) (claim : Claim) (seat : SeatView) (s : Stream) → OthersStay
+    → (n : ℕ) (follows : Claim) (now : SeatView) (t : Stream)
+    → AreSeatSteps layout cell claim seat s n follows now t → Keeps cell seat now
+steps_keep layout cell claim seat s others zero follows now t (is, keeps, e) =
+    record {
+      table = ap (λ (z : SeatView). z.table) keeps;
+      same = ap (λ (z : SeatView). z.consumer) keeps;
+      others = λ k apart. ap (λ (z : SeatView). part_on seat.consumer k z.part) keeps;
+    }
+steps_keep layout cell claim seat s others (suc n) follows now t
+    (at, before, u, word, older, going, drawn, step, still, stands) =
+    let p = steps_keep layout cell claim seat s others n at before u older in
+    let a : ClaimAccess = access_of before.consumer cell step.next step.seen word in
+    record {
+      table = ap (λ (z : SeatView). z.table) step.adds ∙ p.table;
+      same = ap (λ (z : SeatView). z.consumer) step.adds ∙ p.same;
+      others = λ k apart.
+          ap (λ (z : SeatView). part_on seat.consumer k z.part) step.adds
+          ∙ (others seat.consumer k a before.part (λ who at. apart (sym at)) ∙ p.others k apart);
+    }
