@@ -1,4 +1,5 @@
 pub mod Lists
+pub mod Marked
 pub mod LaneLists
 pub mod Totals
 pub mod KnownLoads
