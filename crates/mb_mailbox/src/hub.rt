@@ -7,6 +7,7 @@ use crate::mailbox::Mailbox;
 use crate::notes::Notes;
 use crate::place::Place;
 use crate::producer::Producer;
+use crate::spare::trim;
 use crate::taken::{Ledger, PutList};
 use arrayvec::ArrayVec;
 use mb_cells::Cursor;
@@ -142,7 +143,7 @@ impl<A: Allocator + Drop> Hub<A> {
         seat.has_history();
         let lane = seat.lane();
         let ended = seat.has_ended();
-        items.shrink_to_fit();
+        trim(&mut items);
         mailbox.cells.take_lane(&mut self.cells, seat);
         self.puts[lane as usize] = Some(PutList { items, ended });
     }
@@ -167,7 +168,7 @@ impl<A: Allocator + Drop> Hub<A> {
             mut notes,
         } = consumer;
         let number = seat.consumer();
-        notes.shrink();
+        notes.trim();
         mailbox.cells.take_reader(&mut self.cells, reader);
         mailbox.claims.take_in(&mut self.claims, seat);
         self.ledgers[number as usize] = Some(Ledger { places, notes });

@@ -7,6 +7,7 @@ ghost use Rattle.mb_mailbox.specs.LaneNotes.{lane_of, note_in, noted, told, word
 ghost use Rattle.mb_mailbox.specs.NewConsumers.{AreEmptyLists};
 ghost use Rattle.mb_mailbox.specs.Steps.{with_note};
 
+use crate::spare::trim;
 use mb_cells::NoMemory;
 use mb_world::Note;
 use std::alloc::Allocator;
@@ -144,11 +145,11 @@ impl<A: Allocator + Drop> Notes<A> {
     }
 
     /// Gives back the room that no note takes.
-    pub(crate) fn shrink(&mut self)
+    pub(crate) fn trim(&mut self)
         ensures { self.new.lists ≡ self.old.lists }
     {
-        self.marks.shrink_to_fit();
-        self.words.shrink_to_fit();
+        trim(&mut self.marks);
+        trim(&mut self.words);
     }
 
     /// How many notes there are on each lane. It is only how much room to take.

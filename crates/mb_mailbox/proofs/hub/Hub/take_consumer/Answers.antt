@@ -34,10 +34,10 @@ invariant_of-self g c =
     let seats : c.take_in.new.hub ≡ (with_taken_consumer s h).claims = c.take_in.ensures.hub in
     let number : c.consumer-number.result ≡ s.seat.consumer = c.consumer-number.ensures.exact in
     let l : LedgerView = record { places = s.places; notes = s.notes } in
-    let kept : LedgerView = record { places = s.places; notes = c.shrink.new.self.lists } in
+    let kept : LedgerView = record { places = s.places; notes = c.trim.new.self.lists } in
     let ledgers : slice_set h.ledgers c.consumer-number.result (Some kept)
     ≡ slice_set h.ledgers s.seat.consumer (Some l) =
-    (λ j. slice_set h.ledgers (number j) (Some (record { places = s.places; notes = c.shrink.ensures j }))) in
+    (λ j. slice_set h.ledgers (number j) (Some (record { places = s.places; notes = c.trim.ensures j }))) in
     let is : with_taken_consumer s h ≡ record {
       cells = c.take_reader.new.hub;
       claims = c.take_in.new.hub;

@@ -28,11 +28,11 @@ invariant_of-self g c =
       roll = roll_with_part (Producer s.seat.lane) s.seat.part h.cells.roll;
     }) (sym table) in
     let kept : PutListView = record {
-      items = c.shrink_to_fit.new.self.items;
+      items = c.trim.new.list.items;
       ended = c.has_ended-ended.result;
     } in
     let its : kept ≡ put_list_of s = λ j. record {
-      items = c.shrink_to_fit.ensures.items j;
+      items = c.trim.ensures j;
       ended = c.has_ended-ended.ensures j;
     } in
     let lists : slice_set h.puts c.lane-lane.result (Some kept) ≡ slice_set h.puts s.seat.lane (Some (put_list_of s)) =
@@ -106,11 +106,11 @@ returns-clause-hub g c =
       roll = roll_with_part (Producer s.seat.lane) s.seat.part h.cells.roll;
     }) (sym table) in
     let kept : PutListView = record {
-      items = c.shrink_to_fit.new.self.items;
+      items = c.trim.new.list.items;
       ended = c.has_ended-ended.result;
     } in
     let its : kept ≡ put_list_of s = λ j. record {
-      items = c.shrink_to_fit.ensures.items j;
+      items = c.trim.ensures j;
       ended = c.has_ended-ended.ensures j;
     } in
     let lists : slice_set h.puts c.lane-lane.result (Some kept) ≡ slice_set h.puts s.seat.lane (Some (put_list_of s)) =
