@@ -1,5 +1,5 @@
-use Rattle.std.proofs.Common.{◌≡◌, ◌∙◌, List, [], arith, length, min, subst, sym, ap, refl, ℕ}
-use Rattle.std.specs.Prelude.{Some, slice_get, sum_by}
+use Rattle.std.proofs.Common.{◌≡◌, List, arith, subst, sym, refl, ℕ}
+use Rattle.std.specs.Prelude.{Some, slice_get}
 use Rattle.mb_mailbox.specs.LaneNotes.{AreMarked, all_told, by_lane}
 use Rattle.mb_mailbox.specs.declared.notes.Mark.{Mark}
 use Rattle.mb_mailbox.proofs.LaneLists.{lanes_counted, no_lists, none_counted}
