@@ -1,9 +1,9 @@
 -- One list of notes, cut by lane.
-use Rattle.std.proofs.Common.{◌≡◌, ◌≢◌, ℕ, zero, suc, ◌+◌, ◌<◌, ◌≤◌, List, [], ◌∷◌, ◌++◌, length, map, refl, sym, ap, ◌∙◌, append-nil, Bool, true, false, get_or, take, arith}
+use Rattle.std.proofs.Common.{◌≡◌, ◌≢◌, ℕ, zero, suc, ◌+◌, ◌<◌, ◌≤◌, List, [], ◌∷◌, ◌++◌, length, map, refl, sym, ap, ◌∙◌, append-nil, Bool, true, false, arith}
 use Rattle.std.specs.Prelude.{Option, Some, None, Vec, if◌then◌else◌, nat_eq, slice_get, slice_set, sum_by}
 use Rattle.std.specs.Option.{option_map_or}
 use Rattle.std.proofs.lemmas.Bool.{ne_eqb, eq-eqb}
-use Rattle.std.proofs.lemmas.List.{length-append, length-map, take_more}
+use Rattle.std.proofs.lemmas.List.{length-append, length-map}
 use Rattle.std.proofs.lemmas.List.Sums.{sum_by-cons}
 use Rattle.mb_mailbox.specs.Below.{Note, Lost, Took, Undecided}
 use Rattle.mb_mailbox.specs.LaneNotes.{by_lane, lane_of, note_in, noted, on_lane, on_lanes}
@@ -173,12 +173,6 @@ filed_past {Z} vs p n past =
     let count : length (map (λ (v : Vec Note Z). v.items) vs)
     ≡ length vs = length-map vs (λ (v : Vec Note Z). v.items) in
     sym (note_past p n (map (λ (v : Vec Note Z). v.items) vs) (omega (arith, count, past)))
-
-pub cut_next : (lanes i : ℕ) (xs : List Noted) (d : Noted) → i < length xs
-    → with_note (lane_of (get_or xs i d)) (Some (note_in (get_or xs i d)))
-    (by_lane lanes (take i xs)) ≡ by_lane lanes (take (i + 1) xs)
-cut_next lanes i xs d low =
-    sym (cut_more lanes (take i xs) (get_or xs i d)) ∙ ap (by_lane lanes) (sym (take_more xs i d low))
 
 -- ---- a list that is taken
 set_else : {X : Type 0} (xs : List X) (i k : ℕ) (a : X) → k ≢ i → slice_get (slice_set xs i a) k ≡ slice_get xs k

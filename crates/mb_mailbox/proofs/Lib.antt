@@ -2,6 +2,7 @@
 
 -- Lists and sums
 pub mod Lists
+pub mod Marked
 pub mod LaneLists
 pub mod Totals
 pub mod Marks

@@ -1,7 +1,10 @@
--- The notes of a consumer in one list, in the order of time and each beside its lane, and cut by lane.
-use Rattle.std.specs.Prelude.{ℕ, zero, suc, List, [], ◌∷◌, if◌then◌else◌, nat_eq}
+-- The notes of a consumer in the order of time, each beside its lane, as marks and words; and cut by lane.
+use Rattle.std.specs.Prelude.{ℕ, zero, suc, ◌≡◌, ◌+◌, ◌^◌, ◌≤◌, List, [], ◌∷◌, if◌then◌else◌, length, nat_eq, nat_lt, slice_get, sum_by}
+use Rattle.std.specs.Option.{option_map_or}
 use Rattle.mb_mailbox.specs.Below.{Note}
 use Rattle.mb_mailbox.specs.Below.{Took, Lost, Undecided}
+use Rattle.mb_mailbox.specs.declared.notes.Mark.{Mark}
+use Rattle.mb_mailbox.specs.declared.notes.Mark.TheVariants as mark
 use Rattle.mb_mailbox.specs.declared.notes.Noted.{Noted}
 use Rattle.mb_mailbox.specs.declared.notes.Noted.TheVariants as beside
 
@@ -40,3 +43,41 @@ on_lanes p (suc n) xs = on_lane p xs ∷ on_lanes (suc p) n xs
 -- the notes of the first n lanes
 abbrev pub by_lane : ℕ → List Noted → List (List Note)
 by_lane n xs = on_lanes 0 n xs
+
+-- ---- marks and words
+-- how many words a mark has
+abbrev pub words_in : Mark → ℕ
+words_in (mark.Took p) = 1
+words_in (mark.Lost p w) = 0
+words_in (mark.LostFar p) = 1
+words_in (mark.Undecided p) = 0
+
+-- how many these marks have
+abbrev pub words_among : List Mark → ℕ
+words_among [] = 0
+words_among (m ∷ ms) = words_in m + words_among ms
+
+-- the note of a mark with its word
+abbrev pub told : Mark → ℕ → Noted
+told (mark.Took p) x = beside.Took p x
+told (mark.Lost p w) x = beside.Lost p w
+told (mark.LostFar p) x = beside.Lost p (if nat_lt x (2 ^ 32) then x else 0)
+told (mark.Undecided p) x = beside.Undecided p
+
+-- the word at a place, or 0 past the last
+abbrev pub word_at : List ℕ → ℕ → ℕ
+word_at ws t = option_map_or (λ w. w) (slice_get ws t) 0
+
+-- the notes of these marks, whose words are those from t on
+abbrev pub told_from : ℕ → List Mark → List ℕ → List Noted
+told_from t [] ws = []
+told_from t (m ∷ ms) ws = told m (word_at ws t) ∷ told_from (t + words_in m) ms ws
+
+abbrev pub all_told : List Mark → List ℕ → List Noted
+all_told ms ws = told_from 0 ms ws
+
+-- the marks have these words, and each of them is of one of so many lanes
+pub record AreMarked (lanes : ℕ) (ms : List Mark) (ws : List ℕ) : Type 0 where
+  pub few : lanes ≤ 16
+  pub words : words_among ms ≡ length ws
+  pub count : length ms ≡ sum_by length (by_lane lanes (all_told ms ws))

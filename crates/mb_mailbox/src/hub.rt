@@ -7,6 +7,7 @@ use crate::mailbox::Mailbox;
 use crate::notes::Notes;
 use crate::place::Place;
 use crate::producer::Producer;
+use crate::spare::trim;
 use crate::taken::{Ledger, PutList};
 use arrayvec::ArrayVec;
 use mb_cells::Cursor;
@@ -123,7 +124,7 @@ impl<A: Allocator + Drop> Hub<A> {
     }
 
     /// Takes a producer in, also before its lane has ended: its part and its items are the hub's then, as they are, for the
-    /// report. Its number is not given again.
+    /// report. Its number is not given again. Room that its list does not need goes back to the allocator.
     pub fn take_producer<B: Allocator + Drop>(
         &mut self,
         mailbox: &Mailbox<B>,
@@ -138,16 +139,17 @@ impl<A: Allocator + Drop> Hub<A> {
         lanes_share_cells();
         parts_have_accesses();
         parts_tell_lanes();
-        let Producer { seat, items } = producer;
+        let Producer { seat, mut items } = producer;
         seat.has_history();
         let lane = seat.lane();
         let ended = seat.has_ended();
+        trim(&mut items);
         mailbox.cells.take_lane(&mut self.cells, seat);
         self.puts[lane as usize] = Some(PutList { items, ended });
     }
 
     /// Takes a consumer in, also while it holds claims: its parts, its places and its notes are the hub's then, as they are,
-    /// for the report. Its number is not given again.
+    /// for the report. Its number is not given again. Room that its notes do not need goes back to the allocator.
     pub fn take_consumer<B: Allocator + Drop>(
         &mut self,
         mailbox: &Mailbox<B>,
@@ -163,9 +165,10 @@ impl<A: Allocator + Drop> Hub<A> {
             reader,
             seat,
             places,
-            notes,
+            mut notes,
         } = consumer;
         let number = seat.consumer();
+        notes.trim();
         mailbox.cells.take_reader(&mut self.cells, reader);
         mailbox.claims.take_in(&mut self.claims, seat);
         self.ledgers[number as usize] = Some(Ledger { places, notes });

@@ -40,6 +40,7 @@ mod mailbox;
 mod notes;
 mod place;
 mod producer;
+mod spare;
 mod taken;
 mod working;
 

@@ -1,16 +1,32 @@
-//! The notes of a consumer on all lanes. They stand in one list that has its room from the beginning, since all lanes
-//! together have no more cells than the mailbox.
-ghost use Rattle.std.specs.Prelude.{◌≡◌, IfOk, Some, map};
-ghost use Rattle.mb_mailbox.specs.LaneNotes.{lane_of, note_in, noted};
+//! The notes of a consumer on all lanes, in the order of time. Each has a mark of three bytes. An item that was taken stands
+//! in a second list, so that a note on an item that another took needs no word. Both lists have their room from the
+//! beginning, since all lanes together have no more cells than the mailbox.
+ghost use Rattle.std.specs.Prelude.{◌≡◌, ◌<◌, ◌++◌, ◌∷◌, [], IfOk, Some, map, vec_capacity, vec_len};
+ghost use Rattle.std.specs.Option.{option_map_or};
+ghost use Rattle.mb_mailbox.specs.LaneNotes.{lane_of, note_in, noted, told, word_at, words_in};
 ghost use Rattle.mb_mailbox.specs.NewConsumers.{AreEmptyLists};
 ghost use Rattle.mb_mailbox.specs.Steps.{with_note};
 
+use crate::spare::trim;
 use mb_cells::NoMemory;
 use mb_world::Note;
 use std::alloc::Allocator;
 use std::marker::Model;
 
-/// A note beside its lane. It is no longer than a note alone.
+/// What a note is and on which lane, without its item.
+#[derive(Clone, Copy)]
+pub(crate) enum Mark {
+    /// The item is the next of the words.
+    Took { lane: u8 },
+    Lost { lane: u8, to: u8 },
+    /// The winner's number is the next of the words, since it has more than eight bits.
+    LostFar { lane: u8 },
+    Undecided { lane: u8 },
+}
+
+const _: () = prove!(size_of::<Mark>() == 3);
+
+/// A note beside its lane.
 #[derive(Clone, Copy)]
 pub(crate) enum Noted {
     Took { lane: u32, item: u64 },
@@ -18,21 +34,54 @@ pub(crate) enum Noted {
     Undecided { lane: u32 },
 }
 
-const _: () = prove!(size_of::<Noted>() == size_of::<Note>());
+/// The mark of a note on this lane, and its word if it needs one.
+#[inline(always)]
+fn marked(lane: u8, note: Note) -> (Mark, Option<u64>)
+    ensures word { words_in result.0 ≡ option_map_or (λ w. 1) result.1 0 }
+    ensures told { told result.0 (option_map_or (λ w. w) result.1 0) ≡ noted lane note }
+{
+    match note {
+        Note::Took(item) => (Mark::Took { lane }, Some(item)),
+        Note::Lost(to) if to < 256 => (Mark::Lost { lane, to: to as u8 }, None),
+        Note::Lost(to) => (Mark::LostFar { lane }, Some(to as u64)),
+        Note::Undecided => (Mark::Undecided { lane }, None),
+    }
+}
 
-impl Noted {
-    /// This note beside this lane.
-    #[inline(always)]
-    fn new(lane: u32, note: Note) -> Noted
-        ensures { result ≡ noted lane note }
+impl Mark {
+    /// The note of which this is the mark, with its word.
+    fn told(self, word: u64) -> Noted
+        ensures { result ≡ told self word }
     {
-        match note {
-            Note::Took(item) => Noted::Took { lane, item },
-            Note::Lost(to) => Noted::Lost { lane, to },
-            Note::Undecided => Noted::Undecided { lane },
+        match self {
+            Mark::Took { lane } => Noted::Took {
+                lane: lane as u32,
+                item: word,
+            },
+            Mark::Lost { lane, to } => Noted::Lost {
+                lane: lane as u32,
+                to: to as u32,
+            },
+            Mark::LostFar { lane } => Noted::Lost {
+                lane: lane as u32,
+                to: if word < 1 << 32 { word as u32 } else { 0 },
+            },
+            Mark::Undecided { lane } => Noted::Undecided { lane: lane as u32 },
         }
     }
 
+    /// How many words it has.
+    fn words(self) -> usize
+        ensures { result ≡ words_in self }
+    {
+        match self {
+            Mark::Took { lane: _ } | Mark::LostFar { lane: _ } => 1,
+            Mark::Lost { lane: _, to: _ } | Mark::Undecided { lane: _ } => 0,
+        }
+    }
+}
+
+impl Noted {
     /// The lane.
     fn lane(self) -> u32
         ensures { result ≡ lane_of self }
@@ -60,35 +109,27 @@ impl Noted {
 #[derive(Drop)]
 pub(crate) struct Notes<A: Allocator + Drop> {
     lanes: u32,
-    list: Vec<Noted, A>,
+    marks: Vec<Mark, A>,
+    words: Vec<u64, A>,
 }
 
 impl<A: Allocator + Drop> Model for Notes<A> {
-    ghost use Rattle.std.specs.Prelude.{◌≡◌, length, sum_by, vec_capacity};
-    ghost use Rattle.mb_mailbox.specs.LaneNotes.{NotesView, by_lane};
+    ghost use Rattle.std.specs.Prelude.{min, vec_capacity};
+    ghost use Rattle.mb_mailbox.specs.LaneNotes.{AreMarked, NotesView, all_told, by_lane};
 
     ghost Value = { NotesView };
 
     ghost view = { λ n. record {
-      lists = by_lane n.lanes n.list.items;
-      room = vec_capacity n.list;
+      lists = by_lane n.lanes (all_told n.marks.items n.words.items);
+      room = min (vec_capacity n.marks) (vec_capacity n.words);
     } };
 
-    ghost invariant = { λ n. length n.list.items ≡ sum_by length (by_lane n.lanes n.list.items) };
+    ghost invariant = { λ n. AreMarked n.lanes n.marks.items n.words.items };
 }
 
 impl<A: Allocator + Drop> Notes<A> {
-    ghost use Rattle.std.specs.Prelude.{IfOk, Some};
-    ghost use Rattle.mb_mailbox.specs.NewConsumers.{AreNoNotes};
+    ghost use Rattle.std.specs.Prelude.{◌≡◌, ◌≤◌, Some};
     ghost use Rattle.mb_mailbox.specs.NoteLists.{HasRoom, NotesGrow};
-
-    /// No note yet on so many lanes, and room for so many notes.
-    pub(crate) fn new(alloc: A, lanes: u32, room: usize) -> Result<Notes<A>, NoMemory>
-        ensures { IfOk result (λ notes. AreNoNotes lanes room notes) }
-    {
-        let list = Vec::with_capacity(alloc, room)?;
-        Ok(Notes { lanes, list })
-    }
 
     /// Adds a note to those of this lane.
     #[inline(always)]
@@ -96,14 +137,26 @@ impl<A: Allocator + Drop> Notes<A> {
         requires { HasRoom lane self.old }
         ensures { NotesGrow lane (Some note) self.old self.new }
     {
-        self.list.push_reserved(Noted::new(lane, note));
+        // The invariant is known where a field is named: there are at most 16 lanes.
+        let _ = &self.lanes;
+        let (mark, word) = marked(lane as u8, note);
+        self.marks.push_reserved(mark);
+        put_word(&mut self.words, word);
+    }
+
+    /// Gives back the room that no note takes.
+    pub(crate) fn trim(&mut self)
+        ensures { self.new.lists ≡ self.old.lists }
+    {
+        trim(&mut self.marks);
+        trim(&mut self.words);
     }
 
     /// How many notes there are on each lane. It is only how much room to take.
     fn counts(&self) -> [usize; 16] {
         let mut counts = [0usize; 16];
-        for noted in self.list.iter() {
-            let lane = noted.lane() as usize;
+        for mark in self.marks.iter() {
+            let lane = mark.told(0).lane() as usize;
             if lane < counts.len() {
                 counts[lane] = counts[lane].wrapping_add(1);
             }
@@ -113,32 +166,68 @@ impl<A: Allocator + Drop> Notes<A> {
 }
 
 impl<A: Allocator + Clone + Drop> Notes<A> {
-    ghost use Rattle.std.specs.Prelude.{◌≡◌, IfOk, map};
+    ghost use Rattle.std.specs.Prelude.{◌≡◌, ◌≤◌, IfOk, map};
+    ghost use Rattle.mb_mailbox.specs.NewConsumers.{AreNoNotes};
+
+    /// No note yet on so many lanes, and room for so many notes.
+    pub(crate) fn new(alloc: A, lanes: u32, room: usize) -> Result<Notes<A>, NoMemory>
+        requires { lanes ≤ 16 }
+        ensures { IfOk result (λ notes. AreNoNotes lanes room notes) }
+    {
+        let marks = Vec::with_capacity(alloc.clone()?, room)?;
+        let words = Vec::with_capacity(alloc, room)?;
+        Ok(Notes {
+            lanes,
+            marks,
+            words,
+        })
+    }
 
     /// The notes of each lane in a list of its own.
     pub(crate) fn cut(&self, alloc: A) -> Result<Vec<Vec<Note, A>, A>, NoMemory>
         ensures { IfOk result (λ lists. map (λ v. v.items) lists.items ≡ self.now.lists) }
     {
-        let kept = self.list.as_slice();
+        let marks = self.marks.as_slice();
+        let words = self.words.as_slice();
         let lanes = self.lanes;
         let counts = self.counts();
         let mut lists = empty_lists(alloc, lanes, &counts)?;
-        for noted in kept {
-            file(&mut lists, noted)?;
+        let mut read = 0;
+        for mark in marks {
+            file(&mut lists, mark.told(word_at(words, read)))?;
+            read += mark.words();
         }
         Ok(lists)
     }
 }
 
+/// Adds a word, if there is one.
+#[inline(always)]
+fn put_word<A: Allocator + Drop>(words: &mut Vec<u64, A>, word: Option<u64>)
+    requires { vec_len words.old < vec_capacity words.old }
+    ensures items { words.new.items ≡ words.old.items ++ option_map_or (λ w. w ∷ []) word [] }
+    ensures room { vec_capacity words.new ≡ vec_capacity words.old }
+{
+    if let Some(word) = word {
+        words.push_reserved(word);
+    }
+}
+
+/// The word at this place, or 0 past the last.
+fn word_at(words: &[u64], at: usize) -> u64
+    ensures { result ≡ word_at words.now at }
+{
+    match words.get(at) {
+        Some(word) => *word,
+        None => 0,
+    }
+}
+
 /// Adds a note to the list of its lane, if there is one.
 #[inline(always)]
-fn file<A: Allocator + Drop>(
-    lists: &mut Vec<Vec<Note, A>, A>,
-    noted: &Noted,
-) -> Result<(), NoMemory>
+fn file<A: Allocator + Drop>(lists: &mut Vec<Vec<Note, A>, A>, noted: Noted) -> Result<(), NoMemory>
     ensures { IfOk result (λ _. map (λ v. v.items) lists.new.items
-        ≡ with_note (lane_of noted.now) (Some (note_in noted.now))
-        (map (λ v. v.items) lists.old.items)) }
+        ≡ with_note (lane_of noted) (Some (note_in noted)) (map (λ v. v.items) lists.old.items)) }
 {
     let lane = noted.lane() as usize;
     if lane < lists.len() {

@@ -147,8 +147,8 @@ fn each_growth_of_two_workers_refused(rt: HostRuntime) -> Result<(), Fail> {
         same(&rt, &ample.out(), &0);
         Ok(served)
     })?;
-    // Three lists for each kind of worker, the producer's items, and the consumer's notes.
-    assert!(rt; 8 <= refused);
+    // Three lists for each kind of worker, the producer's items, and the marks and words of the consumer's notes.
+    assert!(rt; 9 <= refused);
     Ok(())
 }
 
@@ -212,7 +212,7 @@ fn a_refused_call_is_made_again(rt: HostRuntime) -> Result<(), Fail> {
         Ok(served)
     })?;
     // As before: a lane more asks for no further list.
-    assert!(rt; 8 <= refused);
+    assert!(rt; 9 <= refused);
     Ok(())
 }
 
@@ -272,7 +272,7 @@ fn each_growth_of_four_workers_refused(rt: HostRuntime) -> Result<(), Fail> {
         same(&rt, &ample.out(), &0);
         Ok(served)
     })?;
-    // Three lists for each kind of worker, the items of each producer, and the notes of each consumer.
-    assert!(rt; 10 <= refused);
+    // Three lists for each kind of worker, the items of each producer, and the marks and words of each consumer.
+    assert!(rt; 12 <= refused);
     Ok(())
 }

@@ -154,8 +154,8 @@ fn consumer_is_served<'a>(
 fn each_growth_of_a_consumer_refused(rt: HostRuntime) -> Result<(), Fail> {
     let ample = Rations::new(rt.alloc(), Refuse::Never);
     let refused = growths_refused(&rt, |alloc| consumer_is_served(&rt, alloc, &ample))?;
-    // The list of its notes.
-    same(&rt, &(1 <= refused, ample.out()), &(true, 0));
+    // The marks and the words of its notes.
+    same(&rt, &(2 <= refused, ample.out()), &(true, 0));
     Ok(())
 }
 

@@ -127,7 +127,7 @@ impl<A: Allocator + Clone + Drop> Hub<A> {
     {
         let items = self.items(p);
         let mut put = Vec::with_capacity(alloc.clone()?, items.len())?;
-        let mut left = Vec::new(alloc);
+        let mut left = Vec::with_capacity(alloc, left_room(diaries, p, items.len()))?;
         for (j, item) in items.iter().enumerate() {
             put.push(*item)?;
             if !self.is_taken(diaries, lanes, consumers, p, j) {
@@ -172,6 +172,21 @@ impl<A: Allocator + Clone + Drop> Hub<A> {
             _ => Ok(Vec::new(alloc)),
         }
     }
+}
+
+/// How many of so many items of lane `p` no diary has as taken. It is only how much room to take.
+fn left_room<A: Allocator + Drop>(diaries: &[Diary<A>], p: u32, put: usize) -> usize {
+    let mut room = put;
+    for diary in diaries {
+        if diary.lane == p {
+            for note in diary.notes.iter() {
+                if let Note::Took(_) = note {
+                    room = room.saturating_sub(1);
+                }
+            }
+        }
+    }
+    room
 }
 
 /// Takes list `p`, if there is one, and leaves an empty one there.

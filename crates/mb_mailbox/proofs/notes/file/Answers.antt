@@ -16,7 +16,7 @@ returns-in_ok-push g c =
     let was : c.index_mut.result.now ≡ t.0 = c.index_mut.ensures.value
     ∙ get_or_is vs p c.index_mut.result.now t.0 t.1 in
     subst (λ (q : ℕ). map (λ v. v.items) (slice_set vs p c.push.new.self)
-    ≡ with_note q (Some (note_in c.args.noted.now)) (map (λ v. v.items) vs))
+    ≡ with_note q (Some (note_in c.args.noted)) (map (λ v. v.items) vs))
     c.lane-lane.ensures
-    (filed_on vs p (note_in c.args.noted.now) t.0 c.push.new.self t.1
+    (filed_on vs p (note_in c.args.noted) t.0 c.push.new.self t.1
     (c.in_ok-push.ensures.items ∙ (λ j. (was j).items ++ c.note.ensures j ∷ [])))

@@ -34,13 +34,15 @@ invariant_of-self g c =
     let seats : c.take_in.new.hub ≡ (with_taken_consumer s h).claims = c.take_in.ensures.hub in
     let number : c.consumer-number.result ≡ s.seat.consumer = c.consumer-number.ensures.exact in
     let l : LedgerView = record { places = s.places; notes = s.notes } in
-    let ledgers : slice_set h.ledgers c.consumer-number.result (Some l) ≡ slice_set h.ledgers s.seat.consumer (Some l) =
-    ap (λ (n : ℕ). slice_set h.ledgers n (Some l)) number in
+    let kept : LedgerView = record { places = s.places; notes = c.trim.new.self.lists } in
+    let ledgers : slice_set h.ledgers c.consumer-number.result (Some kept)
+    ≡ slice_set h.ledgers s.seat.consumer (Some l) =
+    (λ j. slice_set h.ledgers (number j) (Some (record { places = s.places; notes = c.trim.ensures j }))) in
     let is : with_taken_consumer s h ≡ record {
       cells = c.take_reader.new.hub;
       claims = c.take_in.new.hub;
       puts = h.puts;
-      ledgers = slice_set h.ledgers c.consumer-number.result (Some l);
+      ledgers = slice_set h.ledgers c.consumer-number.result (Some kept);
     } = λ j. record { cells = sym cells j; claims = sym seats j; puts = h.puts; ledgers = sym ledgers j } in
     let same : s.seat.table ≡ h.claims.table =
     ap (λ (v : ConsumerView). v.seat.table) c.consumer.view_is ∙ c.requires.consumer.claims

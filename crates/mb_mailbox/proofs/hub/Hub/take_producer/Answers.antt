@@ -27,8 +27,14 @@ invariant_of-self g c =
       table = t;
       roll = roll_with_part (Producer s.seat.lane) s.seat.part h.cells.roll;
     }) (sym table) in
-    let kept : PutListView = record { items = s.items; ended = c.has_ended-ended.result } in
-    let its : kept ≡ put_list_of s = λ j. record { items = s.items; ended = c.has_ended-ended.ensures j } in
+    let kept : PutListView = record {
+      items = c.trim.new.list.items;
+      ended = c.has_ended-ended.result;
+    } in
+    let its : kept ≡ put_list_of s = λ j. record {
+      items = c.trim.ensures j;
+      ended = c.has_ended-ended.ensures j;
+    } in
     let lists : slice_set h.puts c.lane-lane.result (Some kept) ≡ slice_set h.puts s.seat.lane (Some (put_list_of s)) =
     λ j. slice_set h.puts (lane j) (Some (its j)) in
     let is : with_taken_producer s h ≡ record {
@@ -99,8 +105,14 @@ returns-clause-hub g c =
       table = t;
       roll = roll_with_part (Producer s.seat.lane) s.seat.part h.cells.roll;
     }) (sym table) in
-    let kept : PutListView = record { items = s.items; ended = c.has_ended-ended.result } in
-    let its : kept ≡ put_list_of s = λ j. record { items = s.items; ended = c.has_ended-ended.ensures j } in
+    let kept : PutListView = record {
+      items = c.trim.new.list.items;
+      ended = c.has_ended-ended.result;
+    } in
+    let its : kept ≡ put_list_of s = λ j. record {
+      items = c.trim.ensures j;
+      ended = c.has_ended-ended.ensures j;
+    } in
     let lists : slice_set h.puts c.lane-lane.result (Some kept) ≡ slice_set h.puts s.seat.lane (Some (put_list_of s)) =
     λ j. slice_set h.puts (lane j) (Some (its j)) in
     let is : with_taken_producer s h ≡ record {

@@ -1,20 +1,42 @@
-use Rattle.std.proofs.Common.{List, ◌∙◌, ap, get_or}
+use Rattle.std.proofs.Common.{◌≡◌, ◌∙◌, List, ap, arith, get_or, refl, sym, take}
+use Rattle.std.proofs.lemmas.List.{take_more}
 use Rattle.std.specs.Prelude.{Some}
-use Rattle.mb_mailbox.specs.Below.{Note}
-use Rattle.mb_mailbox.specs.LaneNotes.{lane_of, note_in}
+use Rattle.mb_mailbox.specs.LaneNotes.{all_told, by_lane, lane_of, note_in, told, word_at, words_among}
 use Rattle.mb_mailbox.specs.Steps.{with_note}
-use Rattle.mb_mailbox.specs.declared.notes.Noted.TheVariants as beside
-use Rattle.mb_mailbox.proofs.LaneLists.{cut_next, none_cut}
+use Rattle.mb_mailbox.specs.declared.notes.Mark.{Mark}
+use Rattle.mb_mailbox.specs.declared.notes.Mark.TheVariants as mark
+use Rattle.mb_mailbox.proofs.LaneLists.{cut_more, none_cut}
+use Rattle.mb_mailbox.proofs.Marked.{among_end, one_word, told_last}
 use Rattle.mb_mailbox.proofs.notes.Notes.cut.Goals as goal
 
-pub loop-noted-init : goal.loop-noted-init
-loop-noted-init g c = none_cut c.self.inside.lanes c.in_ok-lists.lists.items c.in_ok-lists.ensures
+pub loop-mark-init : goal.loop-mark-init
+loop-mark-init g c = record {
+  lists = none_cut c.self.inside.lanes c.in_ok-lists.lists.items c.in_ok-lists.ensures;
+  read = refl;
+  few = omega arith;
+}
 
-pub loop-noted-preserved : goal.loop-noted-preserved
-loop-noted-preserved g c =
-    let xs = c.as_slice-kept.result.now in
-    let i = c.loop-noted.noted-index in
-    let x = get_or xs i (beside.Took 0 0) in
-    c.in_ok-file.ensures
-    ∙ ap (λ (ls : List (List Note)). with_note (lane_of x) (Some (note_in x)) ls) c.loop-noted.invariant
-    ∙ cut_next c.self.inside.lanes i xs (beside.Took 0 0) c.loop-noted-test.true
+pub loop-mark-preserved : goal.loop-mark-preserved
+loop-mark-preserved g c =
+    let lanes = c.self.inside.lanes in
+    let ms = c.as_slice-marks.result.now in
+    let ws = c.as_slice-words.result.now in
+    let i = c.loop-mark.mark-index in
+    let m = get_or ms i (mark.Took 0) in
+    let old = take i ms in
+    let read = c.loop-mark.invariant.read in
+    let more = take_more ms i (mark.Took 0) c.loop-mark-test.true in
+    let is : c.told.result ≡ told m (word_at ws (words_among old)) =
+    c.told.ensures ∙ ap (told m) (c.word_at.ensures ∙ ap (word_at ws) read) in
+    let count = ap words_among more ∙ among_end old m in
+    let words = c.words-read.ensures in
+    let one = one_word m in
+    let few = c.loop-mark.invariant.few in
+    record {
+      lists = c.in_ok-file.ensures
+          ∙ (λ j. with_note (lane_of (is j)) (Some (note_in (is j))) (c.loop-mark.invariant.lists j))
+          ∙ sym (cut_more lanes (all_told old ws) (told m (word_at ws (words_among old))))
+          ∙ ap (by_lane lanes) (sym (told_last old m ws) ∙ ap (λ (zs : List Mark). all_told zs ws) (sym more));
+      read = omega (arith, read, count, words);
+      few = omega (arith, few, one, words);
+    }
