@@ -1,4 +1,5 @@
 """What the scripts of bench/ share: the programs they build, instructions by callgrind, times, memory, and the machine."""
+import functools
 import os
 import pathlib
 import random
@@ -49,6 +50,7 @@ def machine():
     return f"Machine: {name[1] if name else 'unknown'}, {os.cpu_count()} processors, load {os.getloadavg()[0]:.1f}"
 
 
+@functools.cache
 def instructions(words):
     """The instructions of a run, by callgrind. They repeat exactly if the run has one thread."""
     valgrind = ["valgrind", "--tool=callgrind", "--callgrind-out-file=/dev/null"]

@@ -21,11 +21,11 @@ THREADS = ((1, 1), (2, 2), (2, 4), (4, 16))
 CONSUMERS = (1, 2, 4, 16)
 STORED = ((1, 1), (2, 4), (4, 16))
 # Of two runs whose memory is compared, how many items. All keep more than this script, whose own memory a child begins with.
-KEPT, KEPT_IN_QUEUES = (1 << 18, 1 << 19), (1 << 21, 1 << 22)
+KEPT, KEPT_IN_QUEUES = (1 << 17, 1 << 18), (1 << 21, 1 << 22)
 COUNTED = (1000, 5000)
 # Of a loop in Rattle, how often it is done in two runs that are compared, each time with a mailbox of so many cells.
 TIMES, COUNTED_TIMES, CELLS = (100, 1100), (2, 6), 256
-MAILBOXES = ("plain", "fastlast", "boxes")
+MAILBOXES = (*SHAPES, "boxes")
 # Consumers and producers that are as many.
 PAIRED = (2, 4, 8)
 
@@ -90,11 +90,11 @@ class Beside:
         )
 
 
+SHARING = [Beside(f"plain Rust, `{shape}`, `u64`", shape) for shape in SHAPES]
 WAYS = [
     *(Rattle(shape, words) for words in ("cheap", "chacha") for shape in SHAPES),
-    Beside("plain Rust, `Shape::Plain`, `u64`", "plain"),
-    Beside("plain Rust, `Shape::FastLast`, `u64`", "fastlast"),
-    Beside("plain Rust, `Shape::FastLast`, a box each", "boxes"),
+    *SHARING,
+    Beside("plain Rust, `fastlast`, a box each", "boxes"),
     Beside("`SegQueue`", "seg"),
     Beside("`SegQueue`, a box each", "seg_boxes"),
     Beside("`ArrayQueue`", "array"),
@@ -102,7 +102,6 @@ WAYS = [
     Beside("`VecDeque` behind a `Mutex`", "deque"),
 ]
 SHARED = {"all lanes": "threads", "a lane each": "lanes", "a mailbox each": "apart"}
-SHARING = [WAYS[8], WAYS[9]]
 
 
 def build():
