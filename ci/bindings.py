@@ -317,6 +317,17 @@ def check_cargo_test(place):
     cargo(place, "test", "--quiet")
 
 
+def check_miri(place):
+    # Miri cannot run the archive. So these are the tests beside the sources, which make no call of it.
+    want("cargo")
+    try:
+        run("cargo", "+nightly", "miri", "--version")
+    except Failed as why:
+        raise Skipped("there is no cargo miri here, a component of nightly toolchains") from why
+    words = "cargo +nightly miri test --quiet --offline --locked --lib".split()
+    run(*words, folder=RUST, CARGO_TARGET_DIR=f"{place.room}/miri")
+
+
 def check_docs(place):
     cargo(place, "doc", "--quiet", "--no-deps", "--document-private-items", RUSTDOCFLAGS="-D warnings")
 
@@ -346,6 +357,7 @@ STEPS = {
     "layout of the Rust crate": check_layout,
     "cargo clippy": check_clippy,
     "cargo test": check_cargo_test,
+    "tests of the Rust crate's own code under Miri": check_miri,
     "cargo doc": check_docs,
     "Rust examples": check_examples,
     "ten thousand boxes under valgrind": check_boxes,

@@ -56,6 +56,13 @@ class Steps(unittest.TestCase):
             bindings.want_runtime(Place("", False, room), "gcc", ["-fno-such-thing", "-Werror", "-fsanitize=none-such"])
 
 
+    def test_miri_that_is_not_there(self):
+        with mock.patch.object(bindings, "want"), mock.patch.object(bindings, "run", side_effect=Failed("none")) as run:
+            with self.assertRaisesRegex(Skipped, "no cargo miri"):
+                bindings.check_miri(Place("", False, ""))
+        self.assertEqual(run.call_count, 1)
+
+
 class Archives(unittest.TestCase):
     def test_a_good_record(self):
         text = "".join(f"{name}: {value}\n" for name, value in RECORD.items())

@@ -1,103 +1,81 @@
-//! Nanoseconds an item from plain Rust, beside crossbeam's `SegQueue`: the same items through threads of both, in turn.
-//! `cargo run --release` prints one line for each number of producers and consumers.
-use crossbeam_queue::SegQueue;
+//! One run of items through a mailbox of the crate `hazbultra`, or through a queue of others. It prints how many
+//! nanoseconds the work took, without the making. `bench/queues.py` and `bench/boundary.py` run it.
+//!
+//! The words are WHAT WAY PRODUCERS CONSUMERS ITEMS CELLS.
+mod queues;
+mod work;
+
+use crossbeam_queue::{ArrayQueue, SegQueue};
 use hazbultra::{Builder, Mailbox, Shape};
-use std::sync::atomic::{AtomicU64, Ordering};
-use std::thread;
-use std::time::Instant;
+use queues::Channel;
+use std::collections::VecDeque;
+use std::env;
+use std::process::ExitCode;
+use std::sync::Mutex;
+use std::time::Duration;
+use work::{mailbox, queue, Plan, Way};
 
-const ITEMS: u64 = 200_000;
-const RUNS: usize = 9;
+const USAGE: &str = "usage: beside_queues \
+    plain|fast|last|fastlast|boxes|seg|seg_boxes|array|channel|deque \
+    threads|lanes|apart|turns|relay PRODUCERS CONSUMERS ITEMS CELLS";
 
-/// How many threads put items, and how many take them.
-#[derive(Clone, Copy)]
-struct Threads {
-    producers: u64,
-    consumers: u64,
+fn shaped(shape: Shape) -> Builder<u64> {
+    Mailbox::numbers().shape(shape)
 }
 
-/// Nanoseconds an item of one mailbox, without its making and its report.
-fn mailbox<T: Send>(builder: Builder<T>, threads: Threads, value: fn(u64) -> T) -> f64 {
-    let Threads {
+/// How long the work took, if there is such a mailbox or queue.
+fn run(what: &str, plan: Plan) -> Option<Duration> {
+    Some(match what {
+        "plain" => mailbox(|| shaped(Shape::Plain), plan, |item| item),
+        "fast" => mailbox(|| shaped(Shape::Fast), plan, |item| item),
+        "last" => mailbox(|| shaped(Shape::Last), plan, |item| item),
+        "fastlast" => mailbox(|| shaped(Shape::FastLast), plan, |item| item),
+        "boxes" => mailbox(Mailbox::builder, plan, |item| item),
+        "seg" => queue(|_| SegQueue::new(), plan, |item| item),
+        "seg_boxes" => queue(|_| SegQueue::new(), plan, Box::new),
+        "array" => queue(ArrayQueue::new, plan, |item| item),
+        "channel" => queue(|_| Channel::new(), plan, |item| item),
+        "deque" => queue(|_| Mutex::new(VecDeque::new()), plan, |item| item),
+        _ => return None,
+    })
+}
+
+fn asked(words: &[String]) -> Option<(&str, Plan)> {
+    let [what, way, numbers @ ..] = words else {
+        return None;
+    };
+    let numbers: Option<Vec<u64>> = numbers.iter().map(|it| it.parse().ok()).collect();
+    let &[producers, consumers, items, cells] = numbers?.as_slice() else {
+        return None;
+    };
+    let way = match way.as_str() {
+        "threads" => Way::Threads,
+        "lanes" => Way::Lanes,
+        "apart" => Way::Apart,
+        "turns" => Way::Turns,
+        "relay" => Way::Relay,
+        _ => return None,
+    };
+    let plan = Plan {
+        way,
         producers,
         consumers,
-    } = threads;
-    let builder = builder.producers(producers).consumers(consumers);
-    let mailbox = builder.cells(ITEMS).build().expect("a setup in range");
-    let issued = "as many as the setup has";
-    let puts: Vec<_> = (0..producers)
-        .map(|_| mailbox.producer().expect(issued))
-        .collect();
-    let takes: Vec<_> = (0..consumers)
-        .map(|_| mailbox.consumer().expect(issued))
-        .collect();
-    let began = Instant::now();
-    thread::scope(|scope| {
-        for mut producer in puts {
-            scope.spawn(move || {
-                for number in 0..ITEMS / producers {
-                    assert!(producer.put(value(number)).is_ok());
-                }
-            });
-        }
-        for mut consumer in takes {
-            scope.spawn(move || consumer.values(thread::yield_now).count());
-        }
-    });
-    began.elapsed().as_nanos() as f64 / ITEMS as f64
+        items,
+        cells,
+    };
+    (producers > 0).then_some((what.as_str(), plan))
 }
 
-/// The same of a `SegQueue`. Its consumers end when all items were taken.
-fn queue<T: Send>(threads: Threads, value: fn(u64) -> T) -> f64 {
-    let Threads {
-        producers,
-        consumers,
-    } = threads;
-    let items = SegQueue::new();
-    let left = AtomicU64::new(ITEMS / producers * producers);
-    let (items, left) = (&items, &left);
-    let began = Instant::now();
-    thread::scope(|scope| {
-        for _ in 0..producers {
-            scope
-                .spawn(move || (0..ITEMS / producers).for_each(|number| items.push(value(number))));
+fn main() -> ExitCode {
+    let words: Vec<String> = env::args().skip(1).collect();
+    match asked(&words).and_then(|(what, plan)| run(what, plan)) {
+        Some(took) => {
+            println!("{}", took.as_nanos());
+            ExitCode::SUCCESS
         }
-        for _ in 0..consumers {
-            scope.spawn(move || {
-                while left.load(Ordering::Relaxed) > 0 {
-                    if items.pop().is_some() {
-                        left.fetch_sub(1, Ordering::Relaxed);
-                    } else {
-                        thread::yield_now();
-                    }
-                }
-            });
+        None => {
+            eprintln!("{USAGE}");
+            ExitCode::FAILURE
         }
-    });
-    began.elapsed().as_nanos() as f64 / ITEMS as f64
-}
-
-/// The lower quartile of some runs.
-fn quartile(run: impl Fn() -> f64) -> f64 {
-    let mut times: Vec<f64> = (0..RUNS).map(|_| run()).collect();
-    times.sort_by(f64::total_cmp);
-    times[RUNS / 4]
-}
-
-fn main() {
-    for (producers, consumers) in [(1, 1), (2, 2), (2, 4)] {
-        let threads = Threads {
-            producers,
-            consumers,
-        };
-        let numbers = |shape| quartile(|| mailbox(Mailbox::numbers().shape(shape), threads, |n| n));
-        println!(
-            "{producers} x {consumers}: u64 fastlast {:.0}, u64 plain {:.0}, box fastlast {:.0}, SegQueue u64 {:.0}, SegQueue box {:.0}",
-            numbers(Shape::FastLast),
-            numbers(Shape::Plain),
-            quartile(|| mailbox(Mailbox::builder(), threads, |n| n)),
-            quartile(|| queue(threads, |n| n)),
-            quartile(|| queue(threads, Box::new)),
-        );
     }
 }

@@ -1,5 +1,5 @@
-//! So many puts and polls in one thread, to be counted: `valgrind --tool=callgrind` over this with 1000 and with 5000 items. The
-//! difference, divided by 4000, is what a put and a poll cost. `bindings/c/cost.c` does the same.
+//! So many puts and polls in one thread, to be counted. `bindings/c/cost.c` does the same, and `bench/boundary.py` counts
+//! both. Of two runs with other numbers of items the difference is what the further items cost.
 use hazbultra::{Builder, Mailbox, Shape};
 use std::env;
 use std::error::Error;
@@ -10,7 +10,7 @@ fn go<T: Send>(
     items: u64,
     value: impl Fn(u64) -> T,
 ) -> Result<u64, Box<dyn Error>> {
-    let builder = builder.consumers(4).cells(10_000).pairs(8);
+    let builder = builder.consumers(4).cells(65_536).pairs(4);
     let mailbox = builder.shape(Shape::Plain).seed([1; 32]).build()?;
     let (mut producer, mut consumer) = (mailbox.producer()?, mailbox.consumer()?);
     let mut taken = 0;

@@ -1,17 +1,19 @@
 //! Lets workers loose on one large mailbox, and audits its report.
 //!
-//! The words are PRODUCERS CONSUMERS PAIRS ITEMS SEED: so many items in as many cells, shared among the producers. What
-//! it prints is the same whatever the order of the threads. What the consumers came to, and how long each part took, goes
-//! to standard error.
+//! The words are PRODUCERS CONSUMERS PAIRS ITEMS SEED: so many items in as many cells, shared among the producers. Then may
+//! come the shape of the cells, else plain, and the source of random words, else chacha. What it prints is the same
+//! whatever the order of the threads. What the consumers came to, and how long each part took, goes to standard error.
 #![tactic(auto)]
 
 ghost use Rattle.mb_mailbox.specs.Hubs.{IsHubOf};
 
+use mb_claim::Shape;
 use mb_mailbox::{Hub, Mailbox, OpenGate, WorkFault, work};
 use mb_quorum::TableName;
 use mb_world::{Setup, SetupFault};
 use rand_chacha::ChaCha8Rng;
-use rand_core::SeedableRng;
+use rand_core::{Rng, SeedableRng};
+use rand_xoshiro::Xoshiro256PlusPlus;
 use std::alloc::{AllocError, Global};
 use std::io;
 use std::process::ExitCode;
@@ -23,11 +25,24 @@ use test_audit::{Flaw, Tally, audit};
 /// How many accesses a consumer makes at most in a poll.
 const BUDGET: u64 = 64;
 
+/// What a command line may be.
+const USAGE: &str = "usage: bench_large PRODUCERS CONSUMERS PAIRS ITEMS SEED \
+    [plain|fast|last|fastlast [chacha|cheap]]";
+
 /// The status of a run that has a flaw.
 const FLAW: u8 = 1;
 
 /// The status of a command line that tells no numbers.
 const REFUSED: u8 = 2;
+
+/// Where the consumers draw their random words.
+#[derive(Clone, Copy)]
+enum Words {
+    /// ChaCha8, as the other programs do.
+    Chacha,
+    /// xoshiro256++, which takes a few instructions a word.
+    Cheap,
+}
 
 /// What is asked for.
 #[derive(Clone, Copy)]
@@ -37,6 +52,8 @@ struct Plan {
     pairs: u64,
     items: u64,
     seed: u64,
+    shape: Shape,
+    words: Words,
 }
 
 /// What a run came to, and how long its parts took: the mailbox was made, the threads worked, the report was made.
@@ -79,10 +96,16 @@ impl From<io::Error> for Fault {
     }
 }
 
-/// The numbers of the command line.
+/// What the command line asks for.
 fn plan_of(words: &[String]) -> Option<Plan> {
-    let [_, producers, consumers, pairs, items, seed] = words else {
+    let [_, producers, consumers, pairs, items, seed, more @ ..] = words else {
         return None;
+    };
+    let (shape, words) = match more {
+        [] => (Shape::PLAIN, Words::Chacha),
+        [shape] => (shape_of(shape.as_str())?, Words::Chacha),
+        [shape, words] => (shape_of(shape.as_str())?, words_of(words.as_str())?),
+        _ => return None,
     };
     Some(Plan {
         producers: producers.parse::<u64>().ok()?,
@@ -90,7 +113,30 @@ fn plan_of(words: &[String]) -> Option<Plan> {
         pairs: pairs.parse::<u64>().ok()?,
         items: items.parse::<u64>().ok()?,
         seed: seed.parse::<u64>().ok()?,
+        shape,
+        words,
     })
+}
+
+/// The shape of this name.
+fn shape_of(name: &str) -> Option<Shape> {
+    let (fast, last) = match name {
+        "plain" => (false, false),
+        "fast" => (true, false),
+        "last" => (false, true),
+        "fastlast" => (true, true),
+        _ => return None,
+    };
+    Some(Shape { fast, last })
+}
+
+/// The source of this name.
+fn words_of(name: &str) -> Option<Words> {
+    match name {
+        "chacha" => Some(Words::Chacha),
+        "cheap" => Some(Words::Cheap),
+        _ => None,
+    }
 }
 
 /// The number of the first item of this producer.
@@ -114,17 +160,17 @@ fn lists_of(alloc: Global, plan: &Plan) -> Result<Vec<Vec<u64>>, AllocError> {
 }
 
 /// The source of each consumer.
-fn sources_of(alloc: Global, plan: &Plan) -> Result<Vec<ChaCha8Rng>, AllocError> {
+fn sources_of<R: SeedableRng + Drop>(alloc: Global, plan: &Plan) -> Result<Vec<R>, AllocError> {
     let mut rngs = Vec::new(alloc);
     for c in 0..plan.consumers {
         let seed = plan.seed.wrapping_add(c);
-        rngs.push(ChaCha8Rng::seed_from_u64(seed))?;
+        rngs.push(R::seed_from_u64(seed))?;
     }
     Ok(rngs)
 }
 
 /// All items are put, and consumers take what they win: how long that took.
-fn work_all<W: Threads + Wait + Clock + Sync>(
+fn work_all<R: Rng + SeedableRng + Send + Drop, W: Threads + Wait + Clock + Sync>(
     rt: &W,
     alloc: Global,
     plan: &Plan,
@@ -135,7 +181,7 @@ fn work_all<W: Threads + Wait + Clock + Sync>(
     ensures { IsHubOf mailbox.now hub.new }
 {
     let items = lists_of(alloc, plan)?;
-    let rngs = sources_of(alloc, plan)?;
+    let rngs = sources_of::<R>(alloc, plan)?;
     let start = Instant::now(rt)?;
     let worked = work(alloc, rt, mailbox, hub, items, BUDGET, rngs, &OpenGate);
     worked.map_err(Fault::Work)?;
@@ -176,9 +222,12 @@ fn run<W: Threads + Wait + Clock + Sync>(
         TableName::Bits,
     )
     .map_err(Fault::Setup)?;
-    let (mailbox, mut hub) = Mailbox::new(alloc, setup)?;
+    let (mailbox, mut hub) = Mailbox::new(alloc, setup.shaped(plan.shape))?;
     let made = start.elapsed(rt)?;
-    let worked = work_all(rt, alloc, plan, &mailbox, &mut hub)?;
+    let worked = match plan.words {
+        Words::Chacha => work_all::<ChaCha8Rng, W>(rt, alloc, plan, &mailbox, &mut hub)?,
+        Words::Cheap => work_all::<Xoshiro256PlusPlus, W>(rt, alloc, plan, &mailbox, &mut hub)?,
+    };
     let (tally, gathered) = gather(rt, alloc, plan, mailbox, hub)?;
     if tally.put != plan.items {
         return Err(Fault::NotPut);
@@ -222,6 +271,6 @@ fn tell<R: AllocGlobal + Print + Eprint + Threads + Wait + Clock + Sync>(
 
 /// Tells how the program is used.
 fn refuse<R: Eprint + AllocGlobal>(rt: &R) -> io::Result<ExitCode> {
-    eprintln!(rt; "usage: bench_large PRODUCERS CONSUMERS PAIRS ITEMS SEED")?;
+    eprintln!(rt; "{USAGE}")?;
     Ok(ExitCode::from(REFUSED))
 }

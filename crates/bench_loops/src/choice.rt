@@ -1,5 +1,5 @@
 //! The command line.
-use mb_claim::{Layout, Shape};
+use mb_claim::{Layout, MAX_CELLS, Shape};
 use mb_quorum::TableName;
 use std::fmt;
 
@@ -29,6 +29,8 @@ pub enum Loop {
     Mailbox,
     /// The same with random words of ChaCha8.
     Chacha,
+    /// Items one by one through such a mailbox, each put and then polled, with random words of ChaCha8.
+    Relay,
     /// A play of all consumers on one cell.
     Play,
     /// A run of one ratifier.
@@ -42,7 +44,7 @@ pub enum Loop {
 }
 
 /// All loops.
-pub const LOOPS: [Loop; 15] = [
+pub const LOOPS: [Loop; 16] = [
     Loop::Words,
     Loop::Lone,
     Loop::Contended,
@@ -53,6 +55,7 @@ pub const LOOPS: [Loop; 15] = [
     Loop::Puts,
     Loop::Mailbox,
     Loop::Chacha,
+    Loop::Relay,
     Loop::Play,
     Loop::Ratify,
     Loop::Worlds,
@@ -99,20 +102,26 @@ pub struct Choice {
     pub layout: Layout,
     /// How often.
     pub times: u64,
+    /// How many cells a mailbox or a world has.
+    pub cells: u64,
 }
 
 impl Choice {
-    /// The choice that the words after the program's name tell: a loop, a table, the consumers and the times, and then
-    /// the shape of the cells, or nothing more if that is plain.
+    /// The choice that the words after the program's name tell: a loop, a table, the consumers and the times. Then may
+    /// come the shape of the cells, else plain, and how many cells there are, else `MAX_CELLS`.
     pub fn of(words: &[String]) -> Option<Choice> {
-        let (words, shape) = match words {
-            [what, name, consumers, times] => ([what, name, consumers, times], Shape::PLAIN),
-            [what, name, consumers, times, shape] => {
-                ([what, name, consumers, times], shape_of(shape.as_str())?)
-            }
+        let [what, name, consumers, times, more @ ..] = words else {
+            return None;
+        };
+        let (shape, cells) = match more {
+            [] => (Shape::PLAIN, u64::from(MAX_CELLS)),
+            [shape] => (shape_of(shape.as_str())?, u64::from(MAX_CELLS)),
+            [shape, cells] => (
+                shape_of(shape.as_str())?,
+                cells.as_str().parse::<u64>().ok()?,
+            ),
             _ => return None,
         };
-        let [what, name, consumers, times] = words;
         let what = loop_of(what.as_str())?;
         let name = name_of(name.as_str())?;
         let layout = Layout::new(consumers.as_str().parse::<u64>().ok()?, PAIRS, name).ok()?;
@@ -122,6 +131,7 @@ impl Choice {
             name,
             layout: layout.shaped(shape),
             times,
+            cells,
         })
     }
 
@@ -133,6 +143,7 @@ impl Choice {
             name: TableName::Bits,
             layout: layout.shaped(shape),
             times: 1,
+            cells: u64::from(MAX_CELLS),
         })
     }
 }
@@ -150,6 +161,7 @@ impl fmt::Display for Choice {
             Loop::Puts => "puts",
             Loop::Mailbox => "mailbox",
             Loop::Chacha => "chacha",
+            Loop::Relay => "relay",
             Loop::Play => "play",
             Loop::Ratify => "ratify",
             Loop::Worlds => "worlds",
@@ -169,6 +181,10 @@ impl fmt::Display for Choice {
                 write!(f, " {name}")?;
             }
         }
+        let cells = self.cells;
+        if cells != u64::from(MAX_CELLS) {
+            write!(f, " of {cells} cells")?;
+        }
         Ok(())
     }
 }
@@ -186,6 +202,7 @@ fn loop_of(text: &str) -> Option<Loop> {
         "puts" => Some(Loop::Puts),
         "mailbox" => Some(Loop::Mailbox),
         "chacha" => Some(Loop::Chacha),
+        "relay" => Some(Loop::Relay),
         "play" => Some(Loop::Play),
         "ratify" => Some(Loop::Ratify),
         "worlds" => Some(Loop::Worlds),

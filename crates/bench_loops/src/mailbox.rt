@@ -5,7 +5,6 @@ ghost use Rattle.mb_mailbox.specs.Producers.{IsProducerOf};
 
 use crate::choice::{Choice, PAIRS};
 use crate::mail::Post;
-use mb_claim::MAX_CELLS;
 use mb_mailbox::{Consumer, Hub, HubFault, Mailbox, Poll, Producer, Put};
 use mb_world::Setup;
 use rand_core::Rng;
@@ -41,7 +40,7 @@ pub fn puts<A: Allocator + Copy + Drop>(alloc: A, choice: &Choice) -> Result<u64
         let Ok(mut producer) = hub.producer(alloc, &mailbox) else {
             return Err(AllocError);
         };
-        items = items.wrapping_add(put_all(&mailbox, &mut producer, time));
+        items = items.wrapping_add(put_all(&mailbox, &mut producer, choice.cells, time));
     }
     Ok(items)
 }
@@ -61,7 +60,7 @@ pub fn mailboxes<A: Allocator + Copy + Drop, R: Rng>(
         let Ok(mut producer) = hub.producer(alloc, &mailbox) else {
             return Err(AllocError);
         };
-        let items = put_all(&mailbox, &mut producer, time);
+        let items = put_all(&mailbox, &mut producer, choice.cells, time);
         post.items = post.items.wrapping_add(items);
         producer.finish(&mailbox);
         read_all(alloc, &mailbox, &mut hub, rng, &mut post)?;
@@ -69,22 +68,27 @@ pub fn mailboxes<A: Allocator + Copy + Drop, R: Rng>(
     Ok(post)
 }
 
-/// The setup of one lane and `MAX_CELLS` cells of the choice's shape, with its consumers.
-fn setup_of(choice: &Choice) -> Option<Setup> {
+/// The setup of one lane and of the choice's cells, shape and consumers.
+pub fn setup_of(choice: &Choice) -> Option<Setup> {
     let consumers = u64::from(choice.layout.consumers());
-    let setup = Setup::new(1, consumers, u64::from(MAX_CELLS), PAIRS, choice.name).ok()?;
+    let setup = Setup::large(1, consumers, choice.cells, PAIRS, choice.name).ok()?;
     Some(setup.shaped(choice.layout.shape()))
 }
 
 /// Puts an item for each cell, numbered by how many mailboxes came before. The answer is how many were linked.
 #[inline(always)]
-fn put_all<A: Allocator + Drop>(mailbox: &Mailbox<A>, producer: &mut Producer<A>, time: u64) -> u64
+fn put_all<A: Allocator + Drop>(
+    mailbox: &Mailbox<A>,
+    producer: &mut Producer<A>,
+    cells: u64,
+    time: u64,
+) -> u64
     requires of { IsProducerOf mailbox.now producer.old }
     ensures of { IsProducerOf mailbox.now producer.new }
 {
-    let first = time.wrapping_mul(u64::from(MAX_CELLS));
+    let first = time.wrapping_mul(cells);
     let mut linked = 0u64;
-    for number in 0..u64::from(MAX_CELLS) {
+    for number in 0..cells {
         if producer.put(mailbox, first.wrapping_add(number)) == Put::Linked {
             linked = linked.wrapping_add(1);
         }

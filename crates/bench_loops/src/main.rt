@@ -1,7 +1,7 @@
 //! Claims, mailboxes and whole schedules in loops, for who counts their instructions.
 //!
-//! With the words LOOP TABLE CONSUMERS TIMES, and the shape of the cells after them if it is not plain, it runs one loop
-//! and prints what that came to; with none, each loop once.
+//! With the words LOOP TABLE CONSUMERS TIMES it runs one loop, and prints what that came to; with none, each loop once. A
+//! fifth word is the shape of the cells, a sixth how many cells a mailbox or a world has.
 #![tactic(auto)]
 
 use std::io;
@@ -14,6 +14,7 @@ pub mod examples;
 pub mod lone;
 pub mod mail;
 pub mod mailbox;
+pub mod relay;
 pub mod run;
 pub mod schedules;
 pub mod shared;
@@ -26,7 +27,7 @@ use run::{run, run_all};
 
 /// What a command line may be.
 const USAGE: &str =
-    "usage: bench_loops [LOOP bits|unary|middle CONSUMERS TIMES [plain|fast|last|fastlast]]";
+    "usage: bench_loops [LOOP bits|unary|middle CONSUMERS TIMES [plain|fast|last|fastlast [CELLS]]]";
 
 /// The status of a command line that tells no choice.
 const REFUSED: u8 = 2;

@@ -5,6 +5,7 @@ use crate::count::Count;
 use crate::lone::{lone, words_alone};
 use crate::mail::{Post, mail};
 use crate::mailbox::{mailboxes, mailboxes_alone, puts};
+use crate::relay::relay;
 use crate::schedules::{Runs, plays, ratifiers};
 use crate::shared::{shared, tables_alone};
 use crate::source::Source;
@@ -86,6 +87,10 @@ fn done<A: Allocator + Copy + Drop>(alloc: A, choice: &Choice) -> Result<Outcome
         Loop::Chacha => {
             let mut rng = ChaCha8Rng::from_seed([0; 32]);
             Outcome::Posted(mailboxes(alloc, choice, &mut rng)?)
+        }
+        Loop::Relay => {
+            let mut rng = ChaCha8Rng::from_seed([1; 32]);
+            Outcome::Posted(relay(alloc, choice, &mut rng)?)
         }
         Loop::Play => Outcome::Ran(plays(alloc, layout, times)?),
         Loop::Ratify => Outcome::Ran(ratifiers(alloc, layout, choice.name, times)?),

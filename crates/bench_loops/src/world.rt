@@ -4,7 +4,6 @@ ghost use Rattle.std.specs.Prelude.{◌<◌};
 use crate::choice::{Choice, PAIRS};
 use crate::source::Source;
 use mb_cells::Look;
-use mb_claim::MAX_CELLS;
 use mb_world::{Answer, Event, MAX_PRODUCERS, Setup, World};
 use std::alloc::{AllocError, Allocator};
 use std::fmt;
@@ -75,14 +74,14 @@ pub fn reports<A: Allocator + Copy + Drop>(alloc: A, choice: &Choice) -> Result<
     Ok(told)
 }
 
-/// A new world of so many lanes and `MAX_CELLS` cells of the choice's shape, with its consumers.
+/// A new world of so many lanes, and of the choice's cells, shape and consumers.
 fn world<A: Allocator + Copy + Drop>(
     alloc: A,
     choice: &Choice,
     lanes: u64,
 ) -> Result<Option<World<A>>, AllocError> {
     let consumers = u64::from(choice.layout.consumers());
-    match Setup::new(lanes, consumers, u64::from(MAX_CELLS), PAIRS, choice.name) {
+    match Setup::large(lanes, consumers, choice.cells, PAIRS, choice.name) {
         Ok(setup) => Ok(Some(World::new(alloc, setup.shaped(choice.layout.shape()))?)),
         Err(_) => Ok(None),
     }
@@ -98,7 +97,7 @@ fn live<A: Allocator + Drop>(
 )
     requires { 0 < lanes }
 {
-    for item in 0..u64::from(MAX_CELLS) {
+    for item in 0..choice.cells {
         let lane = item % lanes;
         make(world, Event::Offer { lane, item }, deeds);
         make(world, Event::Push { lane }, deeds);

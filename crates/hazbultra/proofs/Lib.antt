@@ -1,3 +1,4 @@
 mod AsBox
+mod BlockExamples
 mod Diaries
 mod Steps

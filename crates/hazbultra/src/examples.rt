@@ -16,6 +16,8 @@ ghost use Rattle.hazbultra.specs.Reports.{HasConsumers, items_asked, note_out};
 ghost use Rattle.hazbultra.specs.declared.thing.Thing.{Thing};
 ghost use Rattle.hazbultra.specs.declared.thing.Thing.TheVariants.{OfHub, OfNothing, OfProducer};
 
+pub mod parts;
+
 /// What a handle gives, and what a call does to what it leads to.
 pub fn handles_lead_to_things()
     ensures nothing { holds {X = ℕ} {A = ℕ} None None }

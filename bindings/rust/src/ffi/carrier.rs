@@ -56,3 +56,38 @@ unsafe fn unboxed<T>(word: u64) -> T {
     // SAFETY: the caller's promise. The address was exposed when the word was made.
     *unsafe { Box::from_raw(at) }
 }
+
+// These make no call of the archive. So Miri can run them.
+#[cfg(test)]
+mod tests {
+    use super::Carrier;
+    use std::rc::Rc;
+
+    #[test]
+    fn a_boxed_value_comes_back_and_is_dropped_once() {
+        let value = Rc::new(String::from("a letter"));
+        let word = Carrier::BOXED.pack(Rc::clone(&value));
+        assert_eq!(Rc::strong_count(&value), 2);
+        // SAFETY: `pack` of this carrier made the word, which is used once.
+        let back = unsafe { Carrier::<Rc<String>>::BOXED.unpack(word) };
+        assert_eq!(*back, "a letter");
+        drop(back);
+        assert_eq!(Rc::strong_count(&value), 1);
+    }
+
+    #[test]
+    fn a_value_without_bytes_comes_back() {
+        let word = Carrier::BOXED.pack(());
+        // SAFETY: `pack` of this carrier made the word, which is used once.
+        unsafe { Carrier::<()>::BOXED.unpack(word) }
+    }
+
+    #[test]
+    fn a_number_is_its_own_word() {
+        for number in [0, 7, u64::MAX] {
+            assert_eq!(Carrier::NUMBER.pack(number), number);
+            // SAFETY: `pack` of this carrier made the word, which is used once.
+            assert_eq!(unsafe { Carrier::NUMBER.unpack(number) }, number);
+        }
+    }
+}

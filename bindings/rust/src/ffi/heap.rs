@@ -52,3 +52,35 @@ unsafe extern "C" fn rattle_dealloc(at: *mut u8) {
     // SAFETY: the caller's promise.
     unsafe { free(at) }
 }
+
+// These make no call of the archive. So Miri can run them.
+#[cfg(test)]
+mod tests {
+    use super::{rattle_alloc, rattle_dealloc, rattle_realloc};
+
+    #[test]
+    fn a_block_keeps_its_bytes_as_it_grows() {
+        let block = rattle_alloc(8, 8);
+        assert!(block.there);
+        // SAFETY: the block has 8 bytes, then 4096, and it is freed once.
+        unsafe {
+            block.at.cast::<u64>().write(7);
+            let grown = rattle_realloc(block.at, 8, 4096, 8);
+            assert!(grown.there);
+            assert_eq!(grown.at.cast::<u64>().read(), 7);
+            rattle_dealloc(grown.at);
+        }
+    }
+
+    #[test]
+    fn blocks_of_no_bytes_have_addresses_of_their_own() {
+        let (one, two) = (rattle_alloc(0, 8), rattle_alloc(0, 8));
+        assert!(one.there && two.there);
+        assert_ne!(one.at, two.at);
+        // SAFETY: each is a block of these functions, and is freed once.
+        unsafe {
+            rattle_dealloc(one.at);
+            rattle_dealloc(two.at);
+        }
+    }
+}

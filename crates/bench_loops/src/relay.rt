@@ -1,0 +1,62 @@
+//! A mailbox that threads can share, under one thread: each item is put, and polled before the next one is put.
+ghost use Rattle.mb_mailbox.specs.Consumers.{IsConsumerOf};
+ghost use Rattle.mb_mailbox.specs.Producers.{IsProducerOf};
+
+use crate::choice::Choice;
+use crate::mail::Post;
+use crate::mailbox::setup_of;
+use mb_mailbox::{Consumer, Mailbox, Poll, Producer, Put};
+use rand_core::Rng;
+use std::alloc::{AllocError, Allocator};
+
+/// One mailbox, through which so many items go. Of its consumers one polls.
+pub fn relay<A: Allocator + Copy + Drop, R: Rng>(
+    alloc: A,
+    choice: &Choice,
+    rng: &mut R,
+) -> Result<Post, AllocError> {
+    let mut post = Post::new();
+    let Some(setup) = setup_of(choice) else {
+        return Ok(post);
+    };
+    let (mailbox, mut hub) = Mailbox::new(alloc, setup)?;
+    let Ok(mut producer) = hub.producer(alloc, &mailbox) else {
+        return Err(AllocError);
+    };
+    let Ok(mut consumer) = hub.consumer(alloc, &mailbox) else {
+        return Err(AllocError);
+    };
+    pass(
+        &mailbox,
+        &mut producer,
+        &mut consumer,
+        choice.times,
+        rng,
+        &mut post,
+    );
+    Ok(post)
+}
+
+/// So many items, from 0 on, from the producer to the consumer.
+#[inline(always)]
+fn pass<A: Allocator + Drop, R: Rng>(
+    mailbox: &Mailbox<A>,
+    producer: &mut Producer<A>,
+    consumer: &mut Consumer<A>,
+    items: u64,
+    rng: &mut R,
+    post: &mut Post,
+)
+    requires producer { IsProducerOf mailbox.now producer.old }
+    requires consumer { IsConsumerOf mailbox.now consumer.old }
+{
+    for item in 0..items {
+        if producer.put(mailbox, item) == Put::Linked {
+            post.items = post.items.wrapping_add(1);
+        }
+        if let Poll::Took(taken) = consumer.poll(mailbox, 0, u64::MAX, rng) {
+            post.notes = post.notes.wrapping_add(1);
+            post.taken = post.taken.wrapping_add(taken);
+        }
+    }
+}
