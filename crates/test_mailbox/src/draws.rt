@@ -5,7 +5,6 @@ use crate::trial::Trial;
 use crate::trials::{ends, new_trial};
 use crate::workers::lists;
 use mb_mailbox::{Gate, Who, Worked};
-use mb_world::Note;
 use std::alloc::Global;
 use std::process::Abort;
 use std::sync::Wait;
@@ -55,21 +54,16 @@ fn one_is_stopped<R: Abort + AllocGlobal + Threads + Wait + Sync>(
     Ok(())
 }
 
-/// How many words each of two consumers draws for one item, where this one of them is stopped; and these are their notes.
+/// How many words each of two consumers draws for one item, where this one of them is stopped; and this is reported then.
 fn words_drawn<R: Abort + AllocGlobal + Threads + Wait + Sync>(
     rt: &R,
     stopped: u32,
-    notes: [&[Note]; 2],
+    report: &str,
 ) -> Result<(u64, u64), Fail> {
     let given = [AtomicU64::new(0), AtomicU64::new(0)];
     let mut trial = new_trial(rt.alloc(), 1, 2, 1)?;
     one_is_stopped(rt, &mut trial, &given, stopped)?;
-    ends(
-        rt.alloc(),
-        trial,
-        &[(&[5], true, &[])],
-        &[(0, 0, notes[0], false), (1, 0, notes[1], false)],
-    )?;
+    ends(rt, rt.alloc(), trial, report)?;
     Ok((
         given[0].load(Ordering::SeqCst),
         given[1].load(Ordering::SeqCst),
@@ -78,10 +72,20 @@ fn words_drawn<R: Abort + AllocGlobal + Threads + Wait + Sync>(
 
 #[test]
 fn each_consumer_draws_from_its_own_source(rt: HostRuntime) -> Result<(), Fail> {
-    let took: &[Note] = &[Note::Took(5)];
     // A claim alone makes seven accesses, three to the conciliator and four to the ratifier, and draws a word for each.
-    for (stopped, notes, drawn) in [(1, [took, &[]], (7, 0)), (0, [&[], took], (0, 7))] {
-        same_at(&rt, &words_drawn(&rt, stopped, notes)?, &drawn, &stopped);
+    for (stopped, report, drawn) in [
+        (
+            1,
+            "lane 0 ended put 5\nleft 0\ndiary 0 0 took 5\ndiary 1 0\n",
+            (7, 0),
+        ),
+        (
+            0,
+            "lane 0 ended put 5\nleft 0\ndiary 0 0\ndiary 1 0 took 5\n",
+            (0, 7),
+        ),
+    ] {
+        same_at(&rt, &words_drawn(&rt, stopped, report)?, &drawn, &stopped);
     }
     Ok(())
 }

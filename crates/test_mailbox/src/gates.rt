@@ -6,7 +6,7 @@ use crate::trials::{ends, new_trial};
 use crate::workers::{ALL_DONE, works};
 use mb_mailbox::{Gate, Who, Worked};
 use mb_quorum::TableName;
-use mb_world::{Note, Setup};
+use mb_world::Setup;
 use std::alloc::Global;
 use std::process::Abort;
 use std::sync::Wait;
@@ -210,13 +210,13 @@ fn lanes_are_polled_in_turn(rt: HostRuntime) -> Result<(), Fail> {
         stopped: 1,
     };
     same(&rt, &worked, &Ok(one_stopped));
-    ends(
-        rt.alloc(),
-        trial,
-        &[(&[10, 11], true, &[]), (&[20, 21], true, &[21])],
-        &[
-            (0, 0, &[Note::Took(10), Note::Took(11)], false),
-            (0, 1, &[Note::Took(20)], false),
-        ],
-    )
+    let report = "\
+lane 0 ended put 10 11
+left 0
+lane 1 ended put 20 21
+left 1 21
+diary 0 0 took 10 took 11
+diary 0 1 took 20
+";
+    ends(&rt, rt.alloc(), trial, report)
 }

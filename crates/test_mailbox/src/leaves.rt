@@ -6,7 +6,6 @@ use crate::trial::Trial;
 use crate::trials::{ends, new_trial};
 use crate::workers::lists;
 use mb_mailbox::{Gate, Who, Worked};
-use mb_world::Note;
 use std::alloc::Global;
 use std::process::Abort;
 use std::sync::Wait;
@@ -100,9 +99,9 @@ fn a_call_is_told_of_after_its_accesses(rt: HostRuntime) -> Result<(), Fail> {
     same(&rt, &gate.told.load(Ordering::SeqCst), &5);
     // And the poll found the item, so this was put before the put was told of.
     ends(
+        &rt,
         rt.alloc(),
         trial,
-        &[(&[5], true, &[])],
-        &[(0, 0, &[Note::Took(5)], false)],
+        "lane 0 ended put 5\nleft 0\ndiary 0 0 took 5\n",
     )
 }

@@ -20,6 +20,8 @@ mod rationed;
 #[cfg(test)]
 mod refused_mailboxes;
 #[cfg(test)]
+mod scenes;
+#[cfg(test)]
 mod settling;
 #[cfg(test)]
 mod texts;

@@ -1,83 +1,52 @@
 //! `work` and a hub over an allocator that refuses chosen requests: each growth in turn, and then the call again with memory.
 
 use crate::compare::same;
+use crate::refused_mailboxes::{Alloc, is_given};
+use crate::scenes::play;
 use crate::trial::Trial;
 use crate::trials::{ends, new_trial};
 use crate::workers::{ALL_DONE, lists, sources};
-use mb_cells::Finish;
-use mb_mailbox::{HubFault, OpenGate, Poll, Put, WorkFault};
-use mb_world::{Note, Report};
+use mb_mailbox::{OpenGate, WorkFault};
+use mb_world::Report;
 use std::alloc::Global;
 use std::process::Abort;
 use std::sync::Wait;
 use std::test::Fail;
 use std::thread::Threads;
 use test_alloc::{Rations, Refuse, growths_refused};
-use test_support::{DiaryTold, Zeros};
-
-/// The allocator of all lists of a trial.
-type Alloc<'r> = &'r Rations<Global>;
 
 /// Whether a producer's number is left. It is given then, and taken in without an access.
 fn has_lane<'r>(trial: &mut Trial<Alloc<'r>>, ample: Alloc<'r>) -> bool {
     trial.producer(ample).is_ok() && trial.take_producer(0)
 }
 
-/// The report, where nobody is out.
-fn report_of<'r>(trial: Trial<Alloc<'r>>, ample: Alloc<'r>) -> Result<Report<Alloc<'r>>, Fail> {
-    trial.gather(ample).map_err(|_| Fail::new("no report"))
-}
-
-/// Whether the allocator serves the next producer; if not, its number is left, and is given over the second allocator.
-/// It puts 7 and ends its lane.
-fn put_seven<'r>(
-    rt: &impl Abort,
-    trial: &mut Trial<Alloc<'r>>,
-    alloc: Alloc<'r>,
-    ample: Alloc<'r>,
-) -> Result<bool, Fail> {
-    let served = match trial.producer(alloc) {
-        Ok(()) => true,
-        Err(fault) => {
-            same(rt, &fault, &HubFault::NoMemory);
-            trial.producer(ample)?;
-            false
-        }
-    };
-    let told = (trial.put(0, 7), trial.finish(0), trial.take_producer(0));
-    same(rt, &told, &(Some(Put::Linked), Some(Finish::Ended), true));
-    Ok(served)
-}
-
-/// The only item of a mailbox of one cell is put and taken, whether or not the allocator serves its producer, and after it no
-/// number is left.
-fn one_item_is_taken<'r>(
-    rt: &impl Abort,
-    trial: &mut Trial<Alloc<'r>>,
-    alloc: Alloc<'r>,
-    ample: Alloc<'r>,
-) -> Result<bool, Fail> {
-    let served = put_seven(rt, trial, alloc, ample)?;
-    let is_left = has_lane(trial, ample);
-    trial.consumer(ample)?;
-    let poll = trial.poll(0, 0, 100, &mut Zeros::default());
-    same(rt, &(is_left, poll), &(false, Some(Poll::Took(7))));
-    Ok(served)
-}
-
-/// Whether the allocator serves that producer. The report tells the item all the same.
+/// The only item of a mailbox of one cell is put and taken, and the lane ends, whether or not the allocator serves its producer.
+/// If not, its number is left, and is given over the second allocator; after it no number is left. The report tells the item
+/// all the same. Whether the allocator serves that producer.
 fn one_item_is_served<'r>(
     rt: &impl Abort,
     alloc: Alloc<'r>,
     ample: Alloc<'r>,
 ) -> Result<bool, Fail> {
     let mut trial = new_trial(ample, 1, 1, 1)?;
-    let served = one_item_is_taken(rt, &mut trial, alloc, ample)?;
+    let served = is_given(rt, trial.producer(alloc));
+    if !served {
+        play(rt, &mut trial, ample, "producer: given\n")?;
+    }
+    let lines = "\
+put 0 7: linked
+finish 0: ended
+take_producer 0: taken
+producer: all_given
+consumer: given
+poll 0 0 100: took 7
+";
+    play(rt, &mut trial, ample, lines)?;
     ends(
+        rt,
         ample,
         trial,
-        &[(&[7], true, &[])],
-        &[(0, 0, &[Note::Took(7)], false)],
+        "lane 0 ended put 7\nleft 0\ndiary 0 0 took 7\n",
     )?;
     Ok(served)
 }
@@ -125,16 +94,12 @@ fn two_are_served<'r, R: Abort + Threads + Wait + Sync>(
     let mut trial = new_trial(ample, 1, 1, 2)?;
     let served = is_done(rt, &mut trial, alloc, ample, &[&[1, 2]], 1)?;
     let given = !has_lane(&mut trial, ample);
-    if served {
-        ends(
-            ample,
-            trial,
-            &[(&[1, 2], true, &[])],
-            &[(0, 0, &[Note::Took(1), Note::Took(2)], false)],
-        )?;
-    } else {
-        ends(ample, trial, &[(&[], given, &[])], &[(0, 0, &[], false)])?;
-    }
+    let report = match (served, given) {
+        (true, _) => "lane 0 ended put 1 2\nleft 0\ndiary 0 0 took 1 took 2\n",
+        (false, true) => "lane 0 ended put\nleft 0\ndiary 0 0\n",
+        (false, false) => "lane 0 open put\nleft 0\ndiary 0 0\n",
+    };
+    ends(rt, ample, trial, report)?;
     Ok(served)
 }
 
@@ -143,23 +108,13 @@ fn each_growth_of_two_workers_refused(rt: HostRuntime) -> Result<(), Fail> {
     let refused = growths_refused(&rt, |alloc| {
         let ample = Rations::new(rt.alloc(), Refuse::Never);
         let served = two_are_served(&rt, alloc, &ample)?;
-        assert!(&rt; two_are_served(&rt, &ample, &ample)?);
-        same(&rt, &ample.out(), &0);
+        let again = two_are_served(&rt, &ample, &ample)?;
+        same(&rt, &(again, ample.out()), &(true, 0));
         Ok(served)
     })?;
     // Three lists for each kind of worker, the producer's items, and the marks and words of the consumer's notes.
     assert!(rt; 9 <= refused);
     Ok(())
-}
-
-/// These are the notes of two consumers on two lanes, with no claim begun.
-fn notes_of_two(notes: [&[Note]; 4]) -> [DiaryTold<'_>; 4] {
-    [
-        (0, 0, notes[0], false),
-        (0, 1, notes[1], false),
-        (1, 0, notes[2], false),
-        (1, 1, notes[3], false),
-    ]
 }
 
 /// Whether the allocator serves the same two workers in a mailbox of two more. If not, the call is made again with memory,
@@ -175,7 +130,8 @@ fn two_are_served_at_last<'r, R: Abort + Threads + Wait + Sync>(
     Ok(served)
 }
 
-/// Whether it does. The report tells the lane and the notes of the call that was done.
+/// Whether it does. The report tells the lane and the notes of the call that was done: they are the second ones if the first
+/// call was refused after it had given both numbers.
 fn second_call_is_done<'r, R: Abort + Threads + Wait + Sync>(
     rt: &R,
     alloc: Alloc<'r>,
@@ -184,22 +140,30 @@ fn second_call_is_done<'r, R: Abort + Threads + Wait + Sync>(
     let mut trial = new_trial(ample, 2, 2, 2)?;
     let served = two_are_served_at_last(rt, &mut trial, alloc, ample)?;
     let given_before = !has_lane(&mut trial, ample);
-    let both: &[Note] = &[Note::Took(1), Note::Took(2)];
-    if given_before {
-        ends(
-            ample,
-            trial,
-            &[(&[], true, &[]), (&[1, 2], true, &[])],
-            &notes_of_two([&[], both, &[], &[]]),
-        )?;
+    let report = if given_before {
+        "\
+lane 0 ended put
+left 0
+lane 1 ended put 1 2
+left 1
+diary 0 0
+diary 0 1 took 1 took 2
+diary 1 0
+diary 1 1
+"
     } else {
-        ends(
-            ample,
-            trial,
-            &[(&[1, 2], true, &[]), (&[], false, &[])],
-            &notes_of_two([both, &[], &[], &[]]),
-        )?;
-    }
+        "\
+lane 0 ended put 1 2
+left 0
+lane 1 open put
+left 1
+diary 0 0 took 1 took 2
+diary 0 1
+diary 1 0
+diary 1 1
+"
+    };
+    ends(rt, ample, trial, report)?;
     Ok(served)
 }
 
@@ -234,8 +198,53 @@ fn four_are_told<'r>(
     trial: Trial<Alloc<'r>>,
     ample: Alloc<'r>,
 ) -> Result<(), Fail> {
-    tells_of_four(rt, &report_of(trial, ample)?);
+    let Ok(report) = trial.gather(ample) else {
+        return Err(Fail::new("no report"));
+    };
+    tells_of_four(rt, &report);
     Ok(())
+}
+
+/// A report of two lanes without items and two consumers without notes, in which so many numbers of producers were left.
+fn nothing_is_told<'a>(left: (bool, bool)) -> &'a str {
+    match left {
+        (true, true) => {
+            "\
+lane 0 open put
+left 0
+lane 1 open put
+left 1
+diary 0 0
+diary 0 1
+diary 1 0
+diary 1 1
+"
+        }
+        (true, false) => {
+            "\
+lane 0 ended put
+left 0
+lane 1 open put
+left 1
+diary 0 0
+diary 0 1
+diary 1 0
+diary 1 1
+"
+        }
+        (false, _) => {
+            "\
+lane 0 ended put
+left 0
+lane 1 ended put
+left 1
+diary 0 0
+diary 0 1
+diary 1 0
+diary 1 1
+"
+        }
+    }
 }
 
 /// Two workers put two items each and two others poll, in a mailbox of these four: whether the allocator serves them. If
@@ -254,10 +263,10 @@ fn four_are_served<'r, R: Abort + Threads + Wait + Sync>(
         four_are_told(rt, trial, ample)?;
     } else {
         ends(
+            rt,
             ample,
             trial,
-            &[(&[], !two_are_left, &[]), (&[], !one_is_left, &[])],
-            &notes_of_two([&[], &[], &[], &[]]),
+            nothing_is_told((one_is_left, two_are_left)),
         )?;
     }
     Ok(served)
@@ -268,8 +277,8 @@ fn each_growth_of_four_workers_refused(rt: HostRuntime) -> Result<(), Fail> {
     let refused = growths_refused(&rt, |alloc| {
         let ample = Rations::new(rt.alloc(), Refuse::Never);
         let served = four_are_served(&rt, alloc, &ample)?;
-        assert!(&rt; four_are_served(&rt, &ample, &ample)?);
-        same(&rt, &ample.out(), &0);
+        let again = four_are_served(&rt, &ample, &ample)?;
+        same(&rt, &(again, ample.out()), &(true, 0));
         Ok(served)
     })?;
     // Three lists for each kind of worker, the items of each producer, and the marks and words of each consumer.

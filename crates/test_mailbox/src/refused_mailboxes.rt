@@ -1,42 +1,37 @@
 //! Calls of a mailbox whose memory is refused: each growth in turn, and then the same call with memory.
 
 use crate::compare::same;
+use crate::scenes::play;
 use crate::trial::Trial;
-use crate::trials::{all_given, both_are_given, ends, new_trial, take_all};
-use mb_cells::Finish;
-use mb_mailbox::{GatherFault, HubFault, Poll, Put};
+use crate::trials::{ends, new_trial, reads, take_all};
+use mb_mailbox::{GatherFault, HubFault};
 use mb_quorum::TableName;
-use mb_world::{Note, Report, Setup};
+use mb_world::Setup;
 use std::alloc::Global;
 use std::process::Abort;
 use std::test::Fail;
 use test_alloc::{Rations, Refuse, growths_refused};
-use test_support::{Difference, Zeros, tells};
 
 /// The allocator of all lists of a trial.
-type Alloc<'r> = &'r Rations<Global>;
+pub(crate) type Alloc<'r> = &'r Rations<Global>;
 
-/// The only item is put and taken.
-fn put_and_take(rt: &impl Abort, trial: &mut Trial<Alloc<'_>>) {
-    let told = (
-        trial.put(0, 7),
-        trial.poll(0, 0, 100, &mut Zeros::default()),
-    );
-    same(rt, &told, &(Some(Put::Linked), Some(Poll::Took(7))));
-}
-
-/// The same, and the report tells it.
+/// The only item is put and taken, and the report tells it.
 fn takes_seven<'a>(
     rt: &impl Abort,
     ample: Alloc<'a>,
     mut trial: Trial<Alloc<'a>>,
 ) -> Result<(), Fail> {
-    put_and_take(rt, &mut trial);
+    play(
+        rt,
+        &mut trial,
+        ample,
+        "put 0 7: linked\npoll 0 0 100: took 7\n",
+    )?;
     ends(
+        rt,
         ample,
         trial,
-        &[(&[7], false, &[])],
-        &[(0, 0, &[Note::Took(7)], false)],
+        "lane 0 open put 7\nleft 0\ndiary 0 0 took 7\n",
     )
 }
 
@@ -46,7 +41,7 @@ fn new_is_served<'a>(rt: &impl Abort, alloc: Alloc<'a>, ample: Alloc<'a>) -> Res
     let Ok(mut trial) = Trial::new(alloc, setup) else {
         return Ok(false);
     };
-    both_are_given(&mut trial, ample)?;
+    play(rt, &mut trial, ample, "producer: given\nconsumer: given\n")?;
     takes_seven(rt, ample, trial)?;
     Ok(true)
 }
@@ -60,61 +55,13 @@ fn each_growth_of_new_refused(rt: HostRuntime) -> Result<(), Fail> {
     Ok(())
 }
 
-/// The next producer is given, from an allocator that may refuse it, and then from one that does not. Whether the first
-/// served.
-fn next_producer<'a>(
-    rt: &impl Abort,
-    trial: &mut Trial<Alloc<'a>>,
-    alloc: Alloc<'a>,
-    ample: Alloc<'a>,
-) -> Result<bool, Fail> {
-    let Err(fault) = trial.producer(alloc) else {
-        return Ok(true);
-    };
-    same(rt, &fault, &HubFault::NoMemory);
-    trial.producer(ample)?;
-    Ok(false)
-}
-
-/// The next consumer is given, in the same way.
-fn next_consumer<'a>(
-    rt: &impl Abort,
-    trial: &mut Trial<Alloc<'a>>,
-    alloc: Alloc<'a>,
-    ample: Alloc<'a>,
-) -> Result<bool, Fail> {
-    let Err(fault) = trial.consumer(alloc) else {
-        return Ok(true);
-    };
-    same(rt, &fault, &HubFault::NoMemory);
-    trial.consumer(ample)?;
-    Ok(false)
-}
-
-/// The only producer is given as by `next_producer`, with none behind it. Then a consumer is given.
-fn only_producer<'a>(
-    rt: &impl Abort,
-    trial: &mut Trial<Alloc<'a>>,
-    alloc: Alloc<'a>,
-    ample: Alloc<'a>,
-) -> Result<bool, Fail> {
-    let served = next_producer(rt, trial, alloc, ample)?;
-    same(rt, &trial.producer(ample), &Err(HubFault::AllGiven));
-    trial.consumer(ample)?;
-    Ok(served)
-}
-
-/// The same of the only consumer, where a producer is given before it.
-fn only_consumer<'a>(
-    rt: &impl Abort,
-    trial: &mut Trial<Alloc<'a>>,
-    alloc: Alloc<'a>,
-    ample: Alloc<'a>,
-) -> Result<bool, Fail> {
-    trial.producer(ample)?;
-    let served = next_consumer(rt, trial, alloc, ample)?;
-    same(rt, &trial.consumer(ample), &Err(HubFault::AllGiven));
-    Ok(served)
+/// One is given, or there is no memory for it. Whether it is given.
+pub(crate) fn is_given(rt: &impl Abort, told: Result<(), HubFault>) -> bool {
+    if told.is_ok() {
+        return true;
+    }
+    same(rt, &told, &Err(HubFault::NoMemory));
+    false
 }
 
 /// Whether the allocator serves the only producer. A refusal uses no number up: it is given then, and after it none.
@@ -124,7 +71,13 @@ fn producer_is_served<'a>(
     ample: Alloc<'a>,
 ) -> Result<bool, Fail> {
     let mut trial = new_trial(ample, 1, 1, 1)?;
-    let served = only_producer(rt, &mut trial, alloc, ample)?;
+    let served = is_given(rt, trial.producer(alloc));
+    let lines = if served {
+        "producer: all_given\nconsumer: given\n"
+    } else {
+        "producer: given\nproducer: all_given\nconsumer: given\n"
+    };
+    play(rt, &mut trial, ample, lines)?;
     takes_seven(rt, ample, trial)?;
     Ok(served)
 }
@@ -145,7 +98,14 @@ fn consumer_is_served<'a>(
     ample: Alloc<'a>,
 ) -> Result<bool, Fail> {
     let mut trial = new_trial(ample, 1, 1, 1)?;
-    let served = only_consumer(rt, &mut trial, alloc, ample)?;
+    play(rt, &mut trial, ample, "producer: given\n")?;
+    let served = is_given(rt, trial.consumer(alloc));
+    let lines = if served {
+        "consumer: all_given\n"
+    } else {
+        "consumer: given\nconsumer: all_given\n"
+    };
+    play(rt, &mut trial, ample, lines)?;
     takes_seven(rt, ample, trial)?;
     Ok(served)
 }
@@ -159,79 +119,36 @@ fn each_growth_of_a_consumer_refused(rt: HostRuntime) -> Result<(), Fail> {
     Ok(())
 }
 
-/// One item was put and taken, and both are taken in.
-fn seven_taken<'a>(rt: &impl Abort, alloc: Alloc<'a>) -> Result<Trial<Alloc<'a>>, Fail> {
-    let mut trial = all_given(alloc, 1, 1, 1)?;
-    put_and_take(rt, &mut trial);
+/// A mailbox of so many producers, consumers and cells, in which these calls were made, and all are taken in.
+fn all_taken_in<'a>(
+    rt: &impl Abort,
+    ample: Alloc<'a>,
+    sizes: [u64; 3],
+    lines: &str,
+) -> Result<Trial<Alloc<'a>>, Fail> {
+    let mut trial = new_trial(ample, sizes[0], sizes[1], sizes[2])?;
+    play(rt, &mut trial, ample, lines)?;
     take_all(&mut trial);
     Ok(trial)
 }
 
-/// The report of that.
-fn tells_seven(report: &Report<Alloc<'_>>) -> Result<(), Difference> {
-    tells(
-        report,
-        &[(&[7], false, &[])],
-        &[(0, 0, &[Note::Took(7)], false)],
-    )
-}
-
-/// Consumer 0 takes the item of lane 0, which consumer 1 loses, and consumer 1 begins a claim on the item of lane 1, which
-/// has ended.
-fn take_lose_and_begin(rt: &impl Abort, trial: &mut Trial<Alloc<'_>>) {
-    let puts = (trial.put(0, 5), trial.put(1, 6), trial.finish(1));
-    let polls = (
-        trial.poll(0, 0, 100, &mut Zeros::default()),
-        trial.poll(1, 0, 100, &mut Zeros::default()),
-        trial.poll(1, 1, 2, &mut Zeros::default()),
-    );
-    same(
-        rt,
-        &(puts, polls),
-        &(
-            (Some(Put::Linked), Some(Put::Linked), Some(Finish::Ended)),
-            (Some(Poll::Took(5)), Some(Poll::Lost(0)), Some(Poll::Spent)),
-        ),
-    );
-}
-
-/// Two lanes and two consumers, all taken in after that.
-fn two_lanes<'a>(rt: &impl Abort, alloc: Alloc<'a>) -> Result<Trial<Alloc<'a>>, Fail> {
-    let mut trial = all_given(alloc, 2, 2, 2)?;
-    take_lose_and_begin(rt, &mut trial);
-    take_all(&mut trial);
-    Ok(trial)
-}
-
-/// The report of that.
-fn tells_two_lanes(report: &Report<Alloc<'_>>) -> Result<(), Difference> {
-    tells(
-        report,
-        &[(&[5], false, &[]), (&[6], true, &[6])],
-        &[
-            (0, 0, &[Note::Took(5)], false),
-            (0, 1, &[], false),
-            (1, 0, &[Note::Lost(0)], false),
-            (1, 1, &[], true),
-        ],
-    )
-}
-
-/// The report that the allocator serves, with `true`; where it refuses, both values come back, and another serves it.
-fn gather_twice<'a>(
+/// Whether the allocator serves the report, which has this text. If it refuses, both values come back, and another serves it.
+fn gather_is_served<'a>(
     rt: &impl Abort,
     trial: Trial<Alloc<'a>>,
     alloc: Alloc<'a>,
     ample: Alloc<'a>,
-) -> Result<(Report<Alloc<'a>>, bool), Fail> {
+    want: &str,
+) -> Result<bool, Fail> {
     match trial.gather(alloc) {
-        Ok(report) => Ok((report, true)),
+        Ok(report) => {
+            reads(rt, ample, &report, want)?;
+            Ok(true)
+        }
         Err((fault, trial)) => {
             same(rt, &fault, &GatherFault::NoMemory);
-            let Ok(report) = trial.gather(ample) else {
-                return Err(Fail::new("no report"));
-            };
-            Ok((report, false))
+            ends(rt, ample, trial, want)?;
+            Ok(false)
         }
     }
 }
@@ -239,19 +156,58 @@ fn gather_twice<'a>(
 #[test]
 fn each_growth_of_gather_refused(rt: HostRuntime) -> Result<(), Fail> {
     let ample = Rations::new(rt.alloc(), Refuse::Never);
-    let refused = growths_refused(&rt, |alloc| {
-        let (report, served) = gather_twice(&rt, seven_taken(&rt, &ample)?, alloc, &ample)?;
-        tells_seven(&report)?;
-        Ok(served)
-    })?;
-    // The lane and its item, the diary and its note.
-    assert!(rt; 4 <= refused);
-    let refused = growths_refused(&rt, |alloc| {
-        let (report, served) = gather_twice(&rt, two_lanes(&rt, &ample)?, alloc, &ample)?;
-        tells_two_lanes(&report)?;
-        Ok(served)
-    })?;
-    // The lanes, the items of each and the item left; the diaries, and the notes of two.
-    same(&rt, &(7 <= refused, ample.out()), &(true, 0));
+    for (sizes, lines, want, growths) in [
+        // The lane and its item, the diary and its note.
+        (
+            [1, 1, 1],
+            "\
+producer: given
+consumer: given
+put 0 7: linked
+poll 0 0 100: took 7
+",
+            "\
+lane 0 open put 7
+left 0
+diary 0 0 took 7
+",
+            4,
+        ),
+        // The lanes, the items of each and the item left; the diaries, and the notes of two. Consumer 0 takes the item of lane 0,
+        // which consumer 1 loses, and consumer 1 begins a claim on the item of lane 1, which has ended.
+        (
+            [2, 2, 2],
+            "\
+producer: given
+producer: given
+consumer: given
+consumer: given
+put 0 5: linked
+put 1 6: linked
+finish 1: ended
+poll 0 0 100: took 5
+poll 1 0 100: lost 0
+poll 1 1 2: spent
+",
+            "\
+lane 0 open put 5
+left 0
+lane 1 ended put 6
+left 1 6
+diary 0 0 took 5
+diary 0 1
+diary 1 0 lost 0
+diary 1 1 begun
+",
+            7,
+        ),
+    ] {
+        let refused = growths_refused(&rt, |alloc| {
+            let trial = all_taken_in(&rt, &ample, sizes, lines)?;
+            gather_is_served(&rt, trial, alloc, &ample, want)
+        })?;
+        assert!(rt; growths <= refused);
+    }
+    same(&rt, &ample.out(), &0);
     Ok(())
 }

@@ -1,11 +1,13 @@
 //! Trials of one pair for each cell, and how they end.
 
+use crate::compare::same;
 use crate::trial::Trial;
 use mb_quorum::TableName;
-use mb_world::Setup;
+use mb_script::report_text;
+use mb_world::{Report, Setup};
 use std::alloc::Allocator;
+use std::process::Abort;
 use std::test::Fail;
-use test_support::{DiaryTold, LaneTold, tells};
 
 /// The bit table's mailbox of so many producers, consumers and cells, with one pair for each cell.
 pub(crate) fn new_trial<A: Allocator + Clone + Drop>(
@@ -18,33 +20,6 @@ pub(crate) fn new_trial<A: Allocator + Clone + Drop>(
     Ok(Trial::new(alloc, setup)?)
 }
 
-/// The same, whose producers and consumers are all given.
-pub(crate) fn all_given<A: Allocator + Clone + Drop>(
-    alloc: A,
-    p: u64,
-    c: u64,
-    m: u64,
-) -> Result<Trial<A>, Fail> {
-    let mut trial = new_trial(alloc.clone()?, p, c, m)?;
-    for _ in 0..p {
-        trial.producer(alloc.clone()?)?;
-    }
-    for _ in 0..c {
-        trial.consumer(alloc.clone()?)?;
-    }
-    Ok(trial)
-}
-
-/// A producer and then a consumer are given.
-pub(crate) fn both_are_given<A: Allocator + Clone + Drop>(
-    trial: &mut Trial<A>,
-    alloc: A,
-) -> Result<(), Fail> {
-    trial.producer(alloc.clone()?)?;
-    trial.consumer(alloc)?;
-    Ok(())
-}
-
 /// Takes in all that are out.
 pub(crate) fn take_all<A: Allocator + Clone + Drop>(trial: &mut Trial<A>) {
     for place in 0..2 {
@@ -53,17 +28,28 @@ pub(crate) fn take_all<A: Allocator + Clone + Drop>(trial: &mut Trial<A>) {
     }
 }
 
-/// Takes in all that are out. Then the report has these lanes and these diaries, as [`tells`] has them.
-pub(crate) fn ends<A: Allocator + Clone + Drop>(
+/// The report has this text.
+pub(crate) fn reads<A: Allocator + Drop, B: Allocator + Drop>(
+    rt: &impl Abort,
+    alloc: A,
+    report: &Report<B>,
+    want: &str,
+) -> Result<(), Fail> {
+    let text = report_text(alloc, report)?;
+    same(rt, &text.as_str(), &want);
+    Ok(())
+}
+
+/// Takes in all that are out. Then the report has this text.
+pub(crate) fn ends<A: Allocator + Copy + Drop>(
+    rt: &impl Abort,
     alloc: A,
     mut trial: Trial<A>,
-    lanes: &[LaneTold<'_>],
-    diaries: &[DiaryTold<'_>],
+    want: &str,
 ) -> Result<(), Fail> {
     take_all(&mut trial);
     let Ok(report) = trial.gather(alloc) else {
         return Err(Fail::new("no report"));
     };
-    tells(&report, lanes, diaries)?;
-    Ok(())
+    reads(rt, alloc, &report, want)
 }

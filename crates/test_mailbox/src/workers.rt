@@ -1,11 +1,12 @@
 //! Workers: what `work` answers, and what is reported then.
 
 use crate::compare::same;
+use crate::scenes::play;
 use crate::trial::Trial;
-use crate::trials::{both_are_given, ends, new_trial};
+use crate::trials::{ends, new_trial};
 use mb_mailbox::{Gate, OpenGate, Who, WorkFault, Worked};
 use mb_quorum::TableName;
-use mb_world::{Note, Report, Setup};
+use mb_world::{Report, Setup};
 use std::alloc::{Allocator, Global};
 use std::process::Abort;
 use std::sync::Wait;
@@ -68,28 +69,33 @@ impl Gate for ClosedGate {
     fn leave(&self, _who: Who, _call: u64) {}
 }
 
-/// In two cells a worker puts these items, of which so many find no cell, and another takes both that are put.
-fn two_are_taken<R: Abort + AllocGlobal + Threads + Wait + Sync>(
+/// In a new mailbox of two cells one worker puts each of these lists and another polls, and this is what comes of it and what
+/// is reported then.
+fn work_once<R: Abort + AllocGlobal + Threads + Wait + Sync, G: Gate>(
     rt: &R,
-    items: &[u64],
-    full: u64,
+    items: &[&[u64]],
+    gate: &G,
+    want: Worked,
+    report: &str,
 ) -> Result<(), Fail> {
     let mut trial = new_trial(rt.alloc(), 1, 1, 2)?;
-    let worked = works(rt, &mut trial, &[items], 5, 1, &OpenGate)?;
-    same(rt, &worked, &Ok(Worked { full, stopped: 0 }));
-    ends(
-        rt.alloc(),
-        trial,
-        &[(&[1, 2], true, &[])],
-        &[(0, 0, &[Note::Took(1), Note::Took(2)], false)],
-    )
+    let worked = works(rt, &mut trial, items, 5, 1, gate)?;
+    same(rt, &worked, &Ok(want));
+    ends(rt, rt.alloc(), trial, report)
 }
+
+/// Two items are put and taken, and the lane has ended.
+const TWO_TAKEN: &str = "lane 0 ended put 1 2\nleft 0\ndiary 0 0 took 1 took 2\n";
 
 #[test]
 fn a_worker_puts_and_another_takes(rt: HostRuntime) -> Result<(), Fail> {
-    two_are_taken(&rt, &[1, 2], 0)?;
+    work_once(&rt, &[&[1, 2]], &OpenGate, ALL_DONE, TWO_TAKEN)?;
     // One item more than there are cells.
-    two_are_taken(&rt, &[1, 2, 3], 1)
+    let one_full = Worked {
+        full: 1,
+        stopped: 0,
+    };
+    work_once(&rt, &[&[1, 2, 3]], &OpenGate, one_full, TWO_TAKEN)
 }
 
 #[test]
@@ -98,63 +104,45 @@ fn a_budget_of_0_is_refused(rt: HostRuntime) -> Result<(), Fail> {
     let worked = works(&rt, &mut trial, &[&[1, 2]], 0, 1, &OpenGate)?;
     same(&rt, &worked, &Err(WorkFault::BadBudget));
     // No number was given: both are left.
-    both_are_given(&mut trial, rt.alloc())
+    play(
+        &rt,
+        &mut trial,
+        rt.alloc(),
+        "producer: given\nconsumer: given\n",
+    )
 }
 
 #[test]
 fn nobody_comes_through_a_closed_gate(rt: HostRuntime) -> Result<(), Fail> {
-    let mut trial = new_trial(rt.alloc(), 1, 1, 2)?;
-    let worked = works(&rt, &mut trial, &[&[1, 2]], 5, 1, &ClosedGate)?;
     let both = Worked {
         full: 0,
         stopped: 2,
     };
-    same(&rt, &worked, &Ok(both));
-    ends(
-        rt.alloc(),
-        trial,
-        &[(&[], true, &[])],
-        &[(0, 0, &[], false)],
+    work_once(
+        &rt,
+        &[&[1, 2]],
+        &ClosedGate,
+        both,
+        "lane 0 ended put\nleft 0\ndiary 0 0\n",
     )
-}
-
-/// Workers with these lists, this budget and so many consumers come to this, where no gate stops them.
-fn come_to<R: Abort + AllocGlobal + Threads + Wait + Sync>(
-    rt: &R,
-    trial: &mut Trial<Global>,
-    items: &[&[u64]],
-    budget: u64,
-    consumers: usize,
-    want: Result<Worked, WorkFault>,
-) -> Result<(), Fail> {
-    let worked = works(rt, trial, items, budget, consumers, &OpenGate)?;
-    same(rt, &worked, &want);
-    Ok(())
-}
-
-/// After the only numbers were given, calls that want one more are refused, and one that wants none is done.
-fn more_are_refused<R: Abort + AllocGlobal + Threads + Wait + Sync>(
-    rt: &R,
-    trial: &mut Trial<Global>,
-) -> Result<(), Fail> {
-    // That no number is left is told before the budget.
-    come_to(rt, trial, &[&[3]], 0, 0, Err(WorkFault::AllGiven))?;
-    come_to(rt, trial, &[], 5, 1, Err(WorkFault::AllGiven))?;
-    // Without lists and without sources there is nobody, and nothing to do.
-    come_to(rt, trial, &[], 5, 0, Ok(ALL_DONE))
 }
 
 #[test]
 fn no_numbers_are_left_for_more_workers(rt: HostRuntime) -> Result<(), Fail> {
     let mut trial = new_trial(rt.alloc(), 1, 1, 2)?;
-    come_to(&rt, &mut trial, &[&[1, 2]], 5, 1, Ok(ALL_DONE))?;
-    more_are_refused(&rt, &mut trial)?;
-    ends(
-        rt.alloc(),
-        trial,
-        &[(&[1, 2], true, &[])],
-        &[(0, 0, &[Note::Took(1), Note::Took(2)], false)],
-    )
+    let (one, more, none): (&[&[u64]], &[&[u64]], &[&[u64]]) = (&[&[1, 2]], &[&[3]], &[]);
+    for (items, budget, consumers, want) in [
+        (one, 5, 1, Ok(ALL_DONE)),
+        // Calls that want one more number are refused. That no number is left is told before the budget.
+        (more, 0, 0, Err(WorkFault::AllGiven)),
+        (none, 5, 1, Err(WorkFault::AllGiven)),
+        // Without lists and without sources there is nobody, and nothing to do.
+        (none, 5, 0, Ok(ALL_DONE)),
+    ] {
+        let worked = works(&rt, &mut trial, items, budget, consumers, &OpenGate)?;
+        same(&rt, &worked, &want);
+    }
+    ends(&rt, rt.alloc(), trial, TWO_TAKEN)
 }
 
 /// A gate that counts the calls that it lets in.
@@ -174,19 +162,18 @@ impl Gate for CountingGate {
 
 #[test]
 fn a_consumer_without_lanes_polls_none(rt: HostRuntime) -> Result<(), Fail> {
-    let mut trial = new_trial(rt.alloc(), 1, 1, 2)?;
     let gate = CountingGate {
         calls: AtomicU64::new(0),
     };
-    let worked = works(&rt, &mut trial, &[], 5, 1, &gate)?;
-    same(&rt, &worked, &Ok(ALL_DONE));
+    work_once(
+        &rt,
+        &[],
+        &gate,
+        ALL_DONE,
+        "lane 0 open put\nleft 0\ndiary 0 0\n",
+    )?;
     same(&rt, &gate.calls.load(Ordering::SeqCst), &0);
-    ends(
-        rt.alloc(),
-        trial,
-        &[(&[], false, &[])],
-        &[(0, 0, &[], false)],
-    )
+    Ok(())
 }
 
 /// Sixteen items in order, from this one on.

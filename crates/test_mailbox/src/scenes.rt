@@ -1,0 +1,162 @@
+//! Scenes: calls of a mailbox in one thread, a line for each, with what it comes to. No call is handed anything to wait with.
+
+use crate::compare::same_at;
+use crate::trial::Trial;
+use crate::trials::{ends, new_trial};
+use mb_cells::Finish;
+use mb_mailbox::{HubFault, Poll, Put};
+use mb_script::{number, split_word};
+use std::alloc::Allocator;
+use std::process::Abort;
+use std::test::Fail;
+use test_support::Zeros;
+
+/// What a call comes to: a word, and the number after it.
+type Told<'a> = (&'a str, Option<u64>);
+
+/// Makes the calls of these lines. Each comes to what its line says after the colon.
+///
+/// | Call | What is called |
+/// |---|---|
+/// | `producer`, `consumer` | the hub gives one |
+/// | `put PLACE ITEM`, `finish PLACE`, `poll PLACE LANE BUDGET` | the one at this place |
+/// | `spend PLACE BUDGET TIMES` | so many polls of lane 0: how many of them are spent |
+/// | `drawn` | how many words the polls of these lines have drawn, all of them 0 |
+/// | `take_producer PLACE` | the hub takes it in |
+pub(crate) fn play<A: Allocator + Copy + Drop>(
+    rt: &impl Abort,
+    trial: &mut Trial<A>,
+    alloc: A,
+    lines: &str,
+) -> Result<(), Fail> {
+    let mut words = Zeros::default();
+    for line in lines.lines() {
+        let Some((call, want)) = line.split_once(':') else {
+            return Err(Fail::new("a line without a colon"));
+        };
+        let told = make(trial, alloc, &mut words, call);
+        same_at(rt, &told, &told_by(want), &line);
+    }
+    Ok(())
+}
+
+/// In a new mailbox of so many producers, consumers and cells the calls of these lines are made, and then this is reported.
+pub(crate) fn plays<R: Abort + AllocGlobal>(
+    rt: &R,
+    sizes: [u64; 3],
+    lines: &str,
+    report: &str,
+) -> Result<(), Fail> {
+    let mut trial = new_trial(rt.alloc(), sizes[0], sizes[1], sizes[2])?;
+    play(rt, &mut trial, rt.alloc(), lines)?;
+    ends(rt, rt.alloc(), trial, report)
+}
+
+/// The word and the number after the colon of a line, and after a space.
+fn told_by(text: &str) -> Told<'_> {
+    let (_, rest) = split_word(text);
+    match rest {
+        Some(rest) => match split_word(rest) {
+            (word, Some(last)) => (word, number(last)),
+            (word, None) => (word, None),
+        },
+        None => ("", None),
+    }
+}
+
+/// The next number of a line, or 0 if there is none, and what stands after it.
+fn next_number(rest: Option<&str>) -> (u64, Option<&str>) {
+    let Some(rest) = rest else {
+        return (0, None);
+    };
+    let (word, rest) = split_word(rest);
+    match number(word) {
+        Some(next) => (next, rest),
+        None => (0, None),
+    }
+}
+
+/// Makes a call, and says what it comes to.
+fn make<'a, A: Allocator + Copy + Drop>(
+    trial: &mut Trial<A>,
+    alloc: A,
+    words: &mut Zeros,
+    call: &str,
+) -> Told<'a> {
+    let (name, rest) = split_word(call);
+    let (first, rest) = next_number(rest);
+    let (second, rest) = next_number(rest);
+    let (third, _) = next_number(rest);
+    let place = first as usize;
+    match name {
+        "producer" => (given(trial.producer(alloc)), None),
+        "consumer" => (given(trial.consumer(alloc)), None),
+        "put" => (put(trial.put(place, second)), None),
+        "finish" => (finished(trial.finish(place)), None),
+        "poll" => polled(trial.poll(place, second, third, words)),
+        "spend" => ("spent", Some(spent(trial, words, place, second, third))),
+        "drawn" => ("words", Some(words.given)),
+        "take_producer" => (taken(trial.take_producer(place)), None),
+        _ => ("no such call", None),
+    }
+}
+
+fn given<'a>(told: Result<(), HubFault>) -> &'a str {
+    match told {
+        Ok(()) => "given",
+        Err(HubFault::AllGiven) => "all_given",
+        Err(HubFault::NoMemory) => "no_memory",
+    }
+}
+
+fn put<'a>(told: Option<Put>) -> &'a str {
+    match told {
+        Some(Put::Linked) => "linked",
+        Some(Put::Full) => "full",
+        Some(Put::Closed) => "closed",
+        None => "nobody",
+    }
+}
+
+fn finished<'a>(told: Option<Finish>) -> &'a str {
+    match told {
+        Some(Finish::Ended) => "ended",
+        Some(Finish::Busy) => "busy",
+        Some(Finish::Closed) => "closed",
+        None => "nobody",
+    }
+}
+
+fn polled<'a>(told: Option<Poll>) -> Told<'a> {
+    match told {
+        Some(Poll::Took(item)) => ("took", Some(item)),
+        Some(Poll::Lost(winner)) => ("lost", Some(u64::from(winner))),
+        Some(Poll::Undecided) => ("undecided", None),
+        Some(Poll::Nothing) => ("nothing", None),
+        Some(Poll::Ended) => ("ended", None),
+        Some(Poll::Spent) => ("spent", None),
+        Some(Poll::NoLane) => ("no_lane", None),
+        None => ("nobody", None),
+    }
+}
+
+fn taken<'a>(told: bool) -> &'a str {
+    if told { "taken" } else { "nobody" }
+}
+
+/// How many of so many polls of lane 0 are spent.
+fn spent<A: Allocator + Copy + Drop>(
+    trial: &mut Trial<A>,
+    words: &mut Zeros,
+    place: usize,
+    budget: u64,
+    times: u64,
+) -> u64 {
+    let mut count = 0u64;
+    for _ in 0..times {
+        if trial.poll(place, 0, budget, words) == Some(Poll::Spent) {
+            count = count.wrapping_add(1);
+        }
+    }
+    count
+}
