@@ -53,7 +53,7 @@ fn claim_each<A: Allocator + Drop>(
     let consumers = layout.consumers();
     let mut consumer = 0;
     for cell in 0..MAX_CELLS {
-        let (accesses, stage) = claim_cell(layout, words, consumer, cell, source);
+        let (accesses, stage) = claim_through(layout, words, consumer, cell, source);
         count.add(accesses, stage);
         consumer += 1;
         if consumer == consumers {
@@ -64,7 +64,7 @@ fn claim_each<A: Allocator + Drop>(
 
 /// The claim of a consumer on a cell that it has not touched, to its end: its accesses, and how it ended.
 #[inline(always)]
-pub fn claim_cell<A: Allocator + Drop>(
+fn claim_through<A: Allocator + Drop>(
     layout: &Layout,
     words: &mut ClaimWords<A>,
     consumer: u32,
@@ -88,4 +88,33 @@ pub fn claim_cell<A: Allocator + Drop>(
         made = made.wrapping_add(1);
     }
     (made, claim.stage())
+}
+
+/// The same by a count with a bound. LLVM makes more of it inside `mail`, and less here.
+#[inline(always)]
+pub fn claim_cell<A: Allocator + Drop>(
+    layout: &Layout,
+    words: &mut ClaimWords<A>,
+    consumer: u32,
+    cell: u32,
+    source: &mut Source,
+) -> (u64, Stage)
+    requires consumer { consumer < consumer_count layout.now }
+    requires cell { cell < MAX_CELLS }
+    requires fresh { (h : List ClaimAccess) × IsMemoryOf (all_claims layout.now) words.old h
+        × (part_on consumer cell h ≡ []) }
+    ensures kept { (h : List ClaimAccess) → IsMemoryOf (all_claims layout.now) words.old h
+        → part_on consumer cell h ≡ [] → (later : List ClaimAccess)
+        × IsMemoryOf (all_claims layout.now) words.new later
+        × ChangesOnly (λ c k. (c ≡ consumer) × (k ≡ cell)) h later }
+{
+    accesses_lengthen_one_part();
+    let mut claim = Claim::new(layout, consumer);
+    for made in 0..u64::MAX {
+        match step(&mut claim, layout, words, cell, source.word()) {
+            Stage::Going => {}
+            stage => return (made + 1, stage),
+        }
+    }
+    (u64::MAX, Stage::Going)
 }

@@ -2,8 +2,8 @@ use Rattle.std.proofs.Common.{◌∙◌, arith}
 use Rattle.bench_loops.proofs.lone.claim_each.Goals as goal
 use Rattle.bench_loops.proofs.lone.claim_each.Goals.{then-consumer-consumers, else-consumer-consumers}
 
-pub claim_cell-accesses-requires-clause-fresh : goal.claim_cell-accesses-requires-clause-fresh
-claim_cell-accesses-requires-clause-fresh g c =
+pub claim_through-accesses-requires-clause-fresh : goal.claim_through-accesses-requires-clause-fresh
+claim_through-accesses-requires-clause-fresh g c =
     let past = c.loop-cell.invariant.untouched in
     let own = past.1 c.loop-cell.consumer in
     (past.0, own.memory, own.untouched c.loop-cell.cell (omega arith))
@@ -12,7 +12,7 @@ pub loop-cell-preserved : goal.loop-cell-preserved
 loop-cell-preserved g c =
     let past = c.loop-cell.invariant.untouched in
     let own = past.1 c.loop-cell.consumer in
-    let made = c.claim_cell-accesses.ensures.kept past.0 own.memory (own.untouched c.loop-cell.cell (omega arith)) in
+    let made = c.claim_through-accesses.ensures.kept past.0 own.memory (own.untouched c.loop-cell.cell (omega arith)) in
     record {
       consumer = elim c.if-consumer-consumers.branch [
         | then-consumer-consumers w ↦ omega (arith, w.consumer-is, c.loop-cell.invariant.consumer)
