@@ -18,7 +18,8 @@
  *  6. No call is made from a signal handler, or from the forked child of a process with threads.
  *
  * AN ITEM MAY BE A POINTER. Each access to a shared word is seq_cst. So what a thread wrote before it put an item is seen
- * by the thread that is told HZ_TOOK. ThreadSanitizer does not see this, since the library is not built with it.
+ * by the thread that is told HZ_TOOK. ThreadSanitizer may report races there that are none, since the library is not
+ * built with it. Equal items are different items: what is put twice may be taken twice.
  *
  * WHAT A CALL CHECKS ITSELF. A handle that leads to nothing (HZ_NONE), or to another kind of thing than the call wants, is
  * HZ_BAD_HANDLE. So is a handle that the call is to fill and that leads to something. After each answer but HZ_DONE,
@@ -86,7 +87,8 @@ typedef enum {
     HZ_MIDDLE = 2
 } hz_table;
 
-/* How large a mailbox is, and what stands in each cell. If nothing speaks against it: 4 pairs, fast and last true.
+/* How large a mailbox is, and what stands in each cell. If nothing speaks against it: 4 pairs, and last true. Set
+ * fast too if mostly one consumer comes to an item.
  * docs/GUIDE.md tells which setup does what, and how much memory it takes. */
 typedef struct {
     uint64_t producers; /* 1 to 16: each has a lane of its own, from 0 on */
@@ -148,9 +150,10 @@ uint32_t hz_finish(hz_handle *producer);
 
 /* Makes accesses on a lane until one has an answer, or budget of them were made. It takes no memory.
  * HZ_TOOK: the item is this consumer's alone, and value is the item. HZ_LOST: no other consumer but number value can win
- * the item. HZ_UNDECIDED: the claim on the item came to no end. HZ_NOTHING: no further item is linked yet. HZ_ENDED: no
- * further item comes. HZ_SPENT: the budget is used up; the next poll of the lane goes on with the claim. HZ_NO_LANE: there
- * is no such lane. HZ_BAD_HANDLE. value is written at HZ_TOOK and HZ_LOST only. */
+ * the item. HZ_UNDECIDED: the claim ended, and nobody knows by it who has won. It never comes if last is true. HZ_NOTHING:
+ * no further item is linked yet. HZ_ENDED: no further item comes. HZ_SPENT: the budget is used up, and the next poll of
+ * the lane goes on with the claim. It never comes of the budget UINT64_MAX. HZ_NO_LANE: there is no such lane.
+ * HZ_BAD_HANDLE. value is written at HZ_TOOK and HZ_LOST only. */
 uint32_t hz_poll(hz_handle *consumer, uint64_t lane, uint64_t budget, uint64_t *value);
 
 /* Takes a producer or a consumer back, also before its lane has ended or while it holds a claim. What it did is kept for
