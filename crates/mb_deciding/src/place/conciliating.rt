@@ -165,24 +165,27 @@ impl ConciliatorPlace {
             × AreSteps (Q.table q.now) (DrawsAndMakes M.draws M.makes object) (InConciliator self)
             memory.old n result memory.new }
     {
+        let values = q.values();
         let mut place = self;
-        'puts: while let Self::Put { .. } = place {
+        'puts: while let Self::Put { input } = place {
             if *left == 0 {
                 return Next::Go(Pc::InConciliator(place));
             }
             *left -= 1;
-            let word = memory.draw();
-            if let Some(out) = place.step(q.values(), memory, object, word) {
+            memory.draw();
+            memory.perform(object, Op::Store(Reg::Value, u64::from(input) + 1));
+            if let Some(out) = place.put(input) {
                 return Next::Out(out);
             }
         }
-        'looks: while let Self::Look { .. } = place {
+        'looks: while let Self::Look { input } = place {
             if *left == 0 {
                 return Next::Go(Pc::InConciliator(place));
             }
             *left -= 1;
-            let word = memory.draw();
-            if let Some(out) = place.step(q.values(), memory, object, word) {
+            memory.draw();
+            let seen = memory.perform(object, Op::Load(Reg::Value));
+            if let Some(out) = Self::looked(values, input, seen) {
                 return Next::Out(out);
             }
         }

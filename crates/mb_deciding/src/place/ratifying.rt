@@ -121,36 +121,39 @@ impl RatifierPlace {
             memory.perform(object, Op::Store(Reg::Quorum(register), 1));
             mask = without(mask, register);
         }
-        Self::Announce { input, left: mask }.find(q, memory, object, left)
+        Self::find(q, memory, object, left, input, mask)
     }
 
-    /// Goes on from one access more, the load of the proposal.
+    /// Goes on from the load of the proposal, if no register is left to announce in.
     #[inline(always)]
     fn find<Q: Quorums, M: Drawing>(
-        self,
         q: &Q,
         memory: &mut M,
         object: u32,
         left: &mut u64,
+        input: u32,
+        mask: u64,
     ) -> Next
-        requires place { IsRatifierPlace (Q.table q.now) self }
+        requires input { input < (Q.table q.now).values }
+        requires none { mask ≡ 0 }
         requires may { (n word : ℕ) (at : Pc) (before mid : M) (op : Op)
-            → AreSteps (Q.table q.now) (DrawsAndMakes M.draws M.makes object) (InRatifier self)
-            memory.old n (leads.Go at) before
+            → AreSteps (Q.table q.now) (DrawsAndMakes M.draws M.makes object)
+            (InRatifier (Announce input mask)) memory.old n (leads.Go at) before
             → M.draws before word mid → IsOpAt (Q.table q.now) at op → M.can_make mid object op }
         ensures fits { IsNext (Q.table q.now) result }
         ensures steps { (n : ℕ) × (n + left.new ≡ left.old)
-            × AreSteps (Q.table q.now) (DrawsAndMakes M.draws M.makes object) (InRatifier self)
-            memory.old n result memory.new }
+            × AreSteps (Q.table q.now) (DrawsAndMakes M.draws M.makes object)
+            (InRatifier (Announce input mask)) memory.old n result memory.new }
         ensures moves { left.old ≢ 0 → left.new < left.old }
     {
+        let mut place = Self::Announce { input, left: mask };
         if *left == 0 {
-            return Next::Go(Pc::InRatifier(self));
+            return Next::Go(Pc::InRatifier(place));
         }
         *left -= 1;
         memory.draw();
-        let mut place = self;
-        if let Some(out) = place.step(q, memory, object) {
+        let seen = memory.perform(object, Op::Load(Reg::Proposal));
+        if let Some(out) = place.found(q, input, mask, seen) {
             return Next::Out(out);
         }
         place.check(q, memory, object, left)
@@ -177,23 +180,29 @@ impl RatifierPlace {
             memory.old n result memory.new }
     {
         let mut place = self;
-        'proposes: while let Self::Propose { .. } = place {
+        'proposes: while let Self::Propose { input } = place {
             if *left == 0 {
                 return Next::Go(Pc::InRatifier(place));
             }
             *left -= 1;
             memory.draw();
-            if let Some(out) = place.step(q, memory, object) {
+            memory.perform(object, Op::Store(Reg::Proposal, u64::from(input) + 1));
+            if let Some(out) = place.proposed(q, input) {
                 return Next::Out(out);
             }
         }
-        'checks: while let Self::Check { .. } = place {
+        'checks: while let Self::Check {
+            preference,
+            left: mask,
+        } = place
+        {
             if *left == 0 {
                 return Next::Go(Pc::InRatifier(place));
             }
             *left -= 1;
             memory.draw();
-            if let Some(out) = place.step(q, memory, object) {
+            let seen = memory.perform(object, Op::Load(Reg::Quorum(least(mask))));
+            if let Some(out) = place.checked(q, preference, mask, seen) {
                 return Next::Out(out);
             }
         }
