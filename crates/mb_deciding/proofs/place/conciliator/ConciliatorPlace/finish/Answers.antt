@@ -37,7 +37,7 @@ pub returns-in-Some-looked : goal.returns-in-Some-looked
 returns-in-Some-looked g c =
     let t : QuorumTable = g.Q.Quorums.table c.args.q.now in
     record {
-      fits = c.in-Some-looked.ensures.fits t (InConciliator c.looks.place-1) (sym c.values-values.ensures);
+      fits = c.in-Some-looked.ensures.fits t (InConciliator (Look c.in-Look.input)) (sym c.values-values.ensures);
       steps = (
         suc c.looks.invariant.made,
         omega (arith, c.looks.invariant.count, c.if-left-eq0-2.false),
