@@ -119,6 +119,26 @@ fn run_jobs(
     }
 }
 
+/// The next worker of the mailbox, with random words of its own.
+fn new_worker<R: RandomSource + AllocGlobal>(
+    rt: &R,
+    mailbox: &Mailbox<Global>,
+    hub: &mut Hub<Global>,
+    seed: Option<u64>,
+    number: u64,
+) -> Result<Member>
+    requires of { IsHubOf mailbox.now hub.old }
+    ensures hub { OnOk result (IsHubOf mailbox.now hub.new) }
+    ensures member { IfOk result (λ member. IsOf mailbox.now member) }
+{
+    let consumer = hub.consumer(rt.alloc(), mailbox)?;
+    let source = match seed {
+        Some(seed) => ChaCha8Rng::seed_from_u64(seed.wrapping_add(number)),
+        None => make_rng(rt)?,
+    };
+    Ok(Member::Worker(consumer, source))
+}
+
 /// Hires all producers and workers of the mailbox. The producers come first, so that they are through where no thread can be
 /// made and one works after the other.
 pub fn hire<R: RandomSource + AllocGlobal>(
@@ -138,13 +158,7 @@ pub fn hire<R: RandomSource + AllocGlobal>(
         crew.push(Member::Producer(producer, asked.jobs_of(number)))?;
     }
     for worker in 0..asked.workers {
-        let consumer = hub.consumer(rt.alloc(), mailbox)?;
-        // Each worker has random words of its own.
-        let source = match asked.seed {
-            Some(seed) => ChaCha8Rng::seed_from_u64(seed.wrapping_add(worker)),
-            None => make_rng(rt)?,
-        };
-        crew.push(Member::Worker(consumer, source))?;
+        crew.push(new_worker(rt, mailbox, hub, asked.seed, worker)?)?;
     }
     if tells {
         crew.push(Member::Teller)?;
