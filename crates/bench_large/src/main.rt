@@ -10,6 +10,7 @@ ghost use Rattle.mb_mailbox.specs.Hubs.{IsHubOf};
 use mb_claim::Shape;
 use mb_mailbox::{Hub, Mailbox, OpenGate, WorkFault, work};
 use mb_quorum::TableName;
+use mb_script::report_text;
 use mb_world::{Setup, SetupFault};
 use rand_chacha::ChaCha8Rng;
 use rand_core::{Rng, SeedableRng};
@@ -56,13 +57,21 @@ struct Plan {
     words: Words,
 }
 
-/// What a run came to, and how long its parts took: the mailbox was made, the threads worked, the report was made.
+/// What a run came to, and how long its parts took: the mailbox was made, the threads worked.
 #[derive(Clone, Copy, Debug)]
 struct Outcome {
-    tally: Tally,
     made: Duration,
     worked: Duration,
+    end: End,
+}
+
+/// What the report tells, how long it took to make it, and its text, and the bytes of that.
+#[derive(Clone, Copy, Debug)]
+struct End {
+    tally: Tally,
     gathered: Duration,
+    written: Duration,
+    bytes: usize,
 }
 
 /// How a run went wrong.
@@ -188,14 +197,14 @@ fn work_all<R: Rng + SeedableRng + Send + Drop, W: Threads + Wait + Clock + Sync
     Ok(start.elapsed(rt)?)
 }
 
-/// What the report tells without a flaw, and how long it took to make it.
+/// The report is made, written as a text and audited.
 fn gather<W: Clock>(
     rt: &W,
     alloc: Global,
     plan: &Plan,
     mailbox: Mailbox<Global>,
     hub: Hub<Global>,
-) -> Result<(Tally, Duration), Fault>
+) -> Result<End, Fault>
     requires { IsHubOf mailbox hub }
 {
     let start = Instant::now(rt)?;
@@ -203,8 +212,16 @@ fn gather<W: Clock>(
         return Err(Fault::NoReport);
     };
     let gathered = start.elapsed(rt)?;
+    let start = Instant::now(rt)?;
+    let bytes = report_text(alloc, &report)?.len();
+    let written = start.elapsed(rt)?;
     let tally = audit(&report, plan.producers, plan.consumers).map_err(Fault::Report)?;
-    Ok((tally, gathered))
+    Ok(End {
+        tally,
+        gathered,
+        written,
+        bytes,
+    })
 }
 
 /// One run.
@@ -228,16 +245,11 @@ fn run<W: Threads + Wait + Clock + Sync>(
         Words::Chacha => work_all::<ChaCha8Rng, W>(rt, alloc, plan, &mailbox, &mut hub)?,
         Words::Cheap => work_all::<Xoshiro256PlusPlus, W>(rt, alloc, plan, &mailbox, &mut hub)?,
     };
-    let (tally, gathered) = gather(rt, alloc, plan, mailbox, hub)?;
-    if tally.put != plan.items {
+    let end = gather(rt, alloc, plan, mailbox, hub)?;
+    if end.tally.put != plan.items {
         return Err(Fault::NotPut);
     }
-    Ok(Outcome {
-        tally,
-        made,
-        worked,
-        gathered,
-    })
+    Ok(Outcome { made, worked, end })
 }
 
 fn main(rt: HostRuntime) -> io::Result<ExitCode> {

@@ -4,19 +4,23 @@ ghost use Rattle.std.specs.Prelude.{◌≡◌, ◌≢◌, List, None, Option, So
 ghost use Rattle.mb_quorum.specs.Vocabulary.{IsQuorumTable};
 ghost use Rattle.mb_claim.specs.declared.access.Stage.TheVariants as stage;
 ghost use Rattle.mb_cells.specs.Vocabulary.{fetch, new_lane, store};
-ghost use Rattle.mb_mailbox.specs.Below.{CellsName, Claims, END, Head, IsClaimPrefix, Item, Link, ObjectTurn, Stream, Took, WorldAccess};
+ghost use Rattle.mb_mailbox.specs.Below.{CellsName, Claims, END, Head, IsClaimPrefix, Item, Link, Lost, ObjectTurn, Stream, Took, WorldAccess};
 ghost use Rattle.mb_mailbox.specs.Below.{claim_step, item_load, link_load, load};
 ghost use Rattle.mb_mailbox.specs.Below.{ClaimAccess, next_u64};
 ghost use Rattle.mb_mailbox.specs.Called.{WerePolled};
 ghost use Rattle.mb_mailbox.specs.declared.consumer.Poll.{Poll};
 ghost use Rattle.mb_mailbox.specs.declared.consumer.Poll.TheVariants as poll;
 ghost use Rattle.mb_mailbox.specs.declared.gate.Who.TheVariants as who;
+ghost use Rattle.mb_mailbox.specs.declared.notes.Mark.TheVariants as mark;
+ghost use Rattle.mb_mailbox.specs.declared.working.jobs.PutDone.{PutDone};
+ghost use Rattle.mb_mailbox.specs.declared.working.jobs.PutJob.{PutJob};
 ghost use Rattle.mb_mailbox.specs.declared.working.room.Ends.{Ends};
 ghost use Rattle.mb_mailbox.specs.Consumers.{ConsumerView};
 ghost use Rattle.mb_mailbox.specs.ConsumerStep.{ConsumerStep};
 ghost use Rattle.mb_mailbox.specs.Examples.{head_loaded, link_loaded, met_four, nothing_done};
-ghost use Rattle.mb_mailbox.specs.Jobs.{IsOnLanes, IsStoppedPoll, accesses_made, ends_met};
-ghost use Rattle.mb_mailbox.specs.Producers.{HasNoCellFor, IsEndOfLane, IsFirstPastCells, IsPutInto};
+ghost use Rattle.mb_mailbox.specs.Jobs.{IsOnLanes, IsPutEnd, IsStoppedPoll, accesses_made, ends_met};
+ghost use Rattle.mb_mailbox.specs.LaneNotes.{AreMarked, all_told, by_lane, noted};
+ghost use Rattle.mb_mailbox.specs.Producers.{HasNoCellFor, IsEndOfLane, IsFirstPastCells, IsPutInto, IsSameLane, ProducerView, is_over};
 ghost use Rattle.mb_mailbox.specs.Runs.{AreOn};
 ghost use Rattle.mb_mailbox.specs.Steps.{IsPollOf, LeadTo};
 ghost use Rattle.mb_mailbox.specs.WorkExamples.{any_call, fetched, has_linked, idle_producer, lane_left, ledger_with, linked_early};
@@ -191,6 +195,48 @@ pub fn one_end_tells_that_a_run_is_off()
           stopped = false;
           off = true;
         } ∷ [] → AreOn ends → ⊥ }
+    ensures off_producer { (ends : Ends (Unit {0})) (s : ProducerView)
+        → ends.puts.items ≡ record {
+          producer = s;
+          full = 0;
+          stopped = false;
+          off = true;
+        } ∷ [] → AreOn ends → ⊥ }
+    ensures off_after_another { (ends : Ends (Unit {0})) (s t : ConsumerView)
+        → ends.polls.items ≡ record {
+          consumer = s;
+          stopped = true;
+          off = false;
+        } ∷ record {
+          consumer = t;
+          stopped = false;
+          off = true;
+        } ∷ [] → AreOn ends → ⊥ }
+{}
+
+/// The end of a producer's worker tells what its gate let through, if the run is not off.
+pub fn producers_tell_what_was_let_through()
+    ensures off { (j : PutJob (Unit {0})) (d : PutDone (Unit {0}))
+        → IsSameLane j.producer d.producer → is_over d.producer ≡ true → d.producer.items ≡ []
+        → d.full ≡ 0 → d.stopped ≡ true → d.off ≡ true
+        → IsPutEnd (λ _ _. ⊥) (λ _ _. ⊥) j d }
+    ensures not_let_through { (j : PutJob (Unit {0})) (d : PutDone (Unit {0})) → d.off ≡ false
+        → d.producer.items ≡ 7 ∷ [] → IsPutEnd any_call (λ _ _. ⊥) j d → ⊥ }
+    ensures full_not_let_through { (j : PutJob (Unit {0})) (d : PutDone (Unit {0}))
+        → d.off ≡ false → d.producer.items ≡ [] → d.stopped ≡ false → d.full ≡ 1
+        → IsPutEnd any_call (λ _ _. ⊥) j d → ⊥ }
+{}
+
+/// Marks and words are the notes of lanes, in the order of time. A mark that has a word is nothing without it, nor on a lane
+/// that is not there.
+pub fn marks_are_notes()
+    ensures told { by_lane 2 (all_told (mark.Took 1 ∷ mark.Lost 0 3 ∷ mark.Took 0 ∷ [])
+        (7 ∷ 8 ∷ [])) ≡ (Lost 3 ∷ Took 8 ∷ []) ∷ (Took 7 ∷ []) ∷ [] }
+    ensures far { all_told (mark.LostFar 0 ∷ []) (300 ∷ []) ≡ noted 0 (Lost 300) ∷ [] }
+    ensures marked { AreMarked 1 (mark.Took 0 ∷ mark.Lost 0 1 ∷ []) (7 ∷ []) }
+    ensures no_word { AreMarked 1 (mark.Took 0 ∷ mark.Lost 0 1 ∷ []) [] → ⊥ }
+    ensures other_lane { AreMarked 1 (mark.Undecided 1 ∷ []) [] → ⊥ }
+    ensures too_many_lanes { AreMarked 17 [] [] → ⊥ }
 {}
 
 /// Each consumer has a source of its own, and its first word is the first of that source.

@@ -25,3 +25,16 @@ returns-clause-off c = λ ends s one on.
     let no : true ≡ false = All-head (λ (d : PollDone (Unit {0})). d.off ≡ false)
     (record { consumer = s; stopped = false; off = true }) [] all in
     absurd (cc)
+
+pub returns-clause-off_producer : goal.returns-clause-off_producer
+returns-clause-off_producer c = λ ends s one on.
+    let all = subst (λ (ds : List (PutDone (Unit {0}))). All (λ d. d.off ≡ false) ds) one on.puts in
+    let no : true ≡ false = All-head (λ (d : PutDone (Unit {0})). d.off ≡ false)
+    (record { producer = s; full = 0; stopped = false; off = true }) [] all in
+    absurd (cc)
+
+pub returns-clause-off_after_another : goal.returns-clause-off_after_another
+returns-clause-off_after_another c = λ ends s t two on.
+    let all = subst (λ (ds : List (PollDone (Unit {0}))). All (λ d. d.off ≡ false) ds) two on.polls in
+    let no : true ≡ false = all 1 (record { consumer = t; stopped = false; off = true }) (omega arith) in
+    absurd (cc)
