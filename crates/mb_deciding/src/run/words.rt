@@ -1,4 +1,4 @@
-//! The words of one object.
+//! The words of an object in a run on one thread.
 use crate::access::{Act, Op, Reg};
 use crate::memory::Memory;
 
