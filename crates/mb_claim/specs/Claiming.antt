@@ -7,8 +7,8 @@ use Rattle.mb_claim.specs.Types.{ClaimAccess, ObjectTurn, Stage}
 use Rattle.mb_claim.specs.History.{part_on, object_history, left_at, IsMemoryTrue, AreInWords}
 use Rattle.mb_claim.specs.Paths.{IsClaimPrefix}
 
--- what consumer c did on cell k belongs to a claim: it is a consumer, the cell is one of the claims', and the steps are
--- a prefix of its claim path
+-- what consumer c did on cell k belongs to a claim: c is a consumer, k is a cell of the claims, and the steps are a
+-- prefix of c's claim path
 abbrev pub IsClaimPart : Claims → ℕ → ℕ → List ObjectTurn → Type 0
 IsClaimPart cs c k xs = (c < cs.table.values) × (k < cs.cells) × ((s : Stage)
     × IsClaimPrefix cs c xs s)
@@ -21,7 +21,7 @@ pub record IsClaimLawful (cs : Claims) (h : List ClaimAccess) : Type 0 where
   pub memory : IsMemoryTrue h
   -- values and random words are below 2 ^ 64
   pub words : AreInWords h
-  -- who has done something on a cell has done it for its claim there
+  -- what a consumer has done on a cell belongs to its claim there
   pub parts : (c k : ℕ) → part_on c k h ≢ [] → IsClaimPart cs c k (part_on c k h)
 
 -- the claim of consumer c on cell k has the stage s
@@ -39,7 +39,7 @@ pub record MayFollow (cs : Claims) (a : ClaimAccess) (h : List ClaimAccess) : Ty
   pub words : IsInWords a.step.turn
   -- a load has what the history leaves in its word
   pub reads : ReadsLast a.step.turn.act (object_history a.cell a.step.object h)
-  -- and what the consumer has done then belongs to its claim
+  -- with it, the consumer's part on the cell is a prefix of its claim path
   pub prefix : (s : Stage) × IsClaimPrefix cs a.consumer (a.step ∷ part_on a.consumer a.cell h) s
 
 -- what a word of object o of cell k that held n holds after an access

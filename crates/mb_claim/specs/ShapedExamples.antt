@@ -38,7 +38,7 @@ past_one_ratifier =
     ∷ access_at 1 0 (Store (Quorum 1) 1) ∷ won_at_once
 
 -- ---- a last object
--- the pair has left both undecided; consumer 0 comes first to the last object and wins, and consumer 1 finds its number
+-- the pair has left both undecided. Consumer 0 comes first to the last object and wins, and consumer 1 finds its number
 abbrev pub last_decides : List ClaimAccess
 last_decides =
     access_at 1 2 (Exchange Last 2 1) ∷ access_at 0 2 (Exchange Last 1 0) ∷ both_undecided
@@ -68,7 +68,7 @@ through_three =
     ∷ access_at 0 2 (Load Value 1) ∷ access_at 0 2 (Store Value 1)
     ∷ access_at 1 2 (Load Value 0) ∷ access_at 0 2 (Load Value 0) ∷ both_pass 1 (both_pass 0 [])
 
--- the pair's ratifier leaves both undecided too; the last object decides for consumer 0
+-- the pair's ratifier leaves both undecided, too. The last object decides for consumer 0
 abbrev pub through_all : List ClaimAccess
 through_all =
     access_at 1 4 (Exchange Last 2 1) ∷ access_at 0 4 (Exchange Last 1 0) ∷ both_pass 3 through_three
