@@ -1,4 +1,4 @@
-//! The words of a pool.
+//! The memory of a pool under one caller.
 ghost use Rattle.std.specs.Prelude.{◌≡◌, ◌<◌, ◌^◌, length};
 ghost use Rattle.mb_cells.specs.{HasWord, words_with, word_in};
 
