@@ -1,4 +1,4 @@
-//! What a handle leads to.
+//! The things behind handles.
 use mb_bound::{BoundConsumer, BoundHub, BoundProducer};
 use mb_world::Report;
 use rand_chacha::ChaCha8Rng;
@@ -9,7 +9,7 @@ use std::alloc::Global;
 pub struct SeededConsumer {
     /// The consumer.
     pub consumer: BoundConsumer<Global>,
-    /// Where its polls draw their words.
+    /// The source from which its polls draw their words.
     pub source: ChaCha8Rng,
 }
 
@@ -30,7 +30,7 @@ pub enum Thing {
 
 fn crosses_threads<T: Send>() {}
 
-/// A thing may go from thread to thread. It computes nothing: that it is accepted is the proof.
+/// A thing may go from thread to thread. The proof is that this function is accepted.
 pub fn things_cross_threads() {
     crosses_threads::<Thing>();
 }

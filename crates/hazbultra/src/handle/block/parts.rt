@@ -1,4 +1,4 @@
-//! A box taken apart, whose parts the module above can see.
+//! A box taken apart, so that the module above can see its parts.
 ghost use Rattle.std.specs.Prelude.{◌≡◌};
 ghost use Rattle.std.specs.Box.Ownership.{box_owns};
 
