@@ -1,6 +1,6 @@
 //! Laws over the lawful histories of a pool, and over lists of its calls. The functions compute nothing: their
-//! contracts are the laws. If the prover needs help with a law, its proof is in
-//! `proofs/laws`, in a folder of its name. It uses the lemmas of `proofs`.
+//! contracts are the laws. If the prover needs help with a law, its proof is in `proofs/laws`, in a folder of its name.
+//! It uses the lemmas of `proofs`.
 ghost use Rattle.std.specs.Prelude.{◌≡◌, ◌≢◌, ◌↔◌, ◌+◌, ◌-◌, ◌<◌, ◌≤◌, ◌⊎◌, ◌∷◌, ◌++◌, ◌^◌, ℕ, List, [], Bool, true};
 ghost use Rattle.std.specs.Prelude.{filter, if◌then◌else◌, length, None, Some, false};
 ghost use Rattle.mb_cells.specs.{AllLinked, IsLaneAfter, Lane, items_put, push_store};

@@ -91,8 +91,8 @@ impl<A: Allocator + Drop> Pool<A> {
         lane.offered(cells, x, found)
     }
 
-    /// Stores the item that was offered on lane
-    /// `p`, and at the next call its link. [`calls_put_items`](crate::laws::calls_put_items) says which items are put.
+    /// Stores the item that was offered on lane `p`, and at the next call its link.
+    /// [`calls_put_items`](crate::laws::calls_put_items) says which items are put.
     pub fn push(&mut self, p: u32) -> Push
         requires { p < lane_count self.old }
         ensures meets { PushMeets self.old p result self.new }
@@ -107,8 +107,8 @@ impl<A: Allocator + Drop> Pool<A> {
         lane.pushed()
     }
 
-    /// Stores the end mark of lane
-    /// `p`. Readers then find it after the lane's last cell, as [`calls_put_items`](crate::laws::calls_put_items) says.
+    /// Stores the end mark of lane `p`. Readers then find it after the lane's last cell, as
+    /// [`calls_put_items`](crate::laws::calls_put_items) says.
     pub fn finish(&mut self, p: u32) -> Finish
         requires { p < lane_count self.old }
         ensures meets { FinishMeets self.old p result self.new }
@@ -145,8 +145,8 @@ impl<A: Allocator + Drop> Pool<A> {
         }
     }
 
-    /// The item of cell
-    /// `k`. If the cell was linked, that is the item put, as [`calls_put_items`](crate::laws::calls_put_items) says.
+    /// The item of cell `k`. If the cell was linked, that is the item put, as
+    /// [`calls_put_items`](crate::laws::calls_put_items) says.
     pub fn item(&self, k: u32) -> u64
         requires { k < cell_count self.now }
         ensures shown { result ≡ item_in k self.now }

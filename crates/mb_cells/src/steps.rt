@@ -2,10 +2,9 @@
 //! their addresses, and states. The functions compute nothing: their contracts are the laws. Their proofs are in
 //! `proofs/steps/`, one folder for each. They use the lemmas of `proofs/`.
 //!
-//! A table of shared words needs
-//! [`words_follow_steps`]: its words and parts are those of one lawful history. An access of a producer may follow if its lane goes on with it ([`lanes_lead_on`]),
-//! and a load of a reader if its own part led there.
-//! [`one_step`] then gives the longer history, and [`accesses_stay_within`] that the word is one of the pool's.
+//! A table of shared words needs [`words_follow_steps`]: its words and parts are those of one lawful history. An access
+//! of a producer may follow if its lane goes on with it ([`lanes_lead_on`]), and a load of a reader if its own part led
+//! there. [`one_step`] then gives the longer history, and [`accesses_stay_within`] that the word is one of the pool's.
 ghost use Rattle.std.specs.Prelude.{◌≡◌, ◌+◌, ◌<◌, ◌≤◌, ◌⊎◌, ◌∷◌, ◌++◌, ◌^◌, ◌≢◌, ℕ, List, Some, None, length};
 ghost use Rattle.std.specs.Prelude.{slice_index, unwrap_or, []};
 ghost use Rattle.mb_cells.specs.{ActFits, Counter, END, Entry, Has, History, IsAfter, IsAt, IsLaneAfter};

@@ -58,10 +58,9 @@ impl Claim {
         }
     }
 
-    /// Goes on after the next access, and returns how far the claim has come.
-    /// `seen` is the value that a load or an exchange found. It does not count after a store. The random `word` counts
-    /// only after a load of a conciliator's word. If the word cannot hold `seen`, nothing more is said of the stage,
-    /// and the claim can still be used.
+    /// Goes on after the next access, and returns how far the claim has come. `seen` is the value that a load or an
+    /// exchange found. It does not count after a store. The random `word` counts only after a load of a conciliator's
+    /// word. If the word cannot hold `seen`, nothing more is said of the stage, and the claim can still be used.
     #[inline(always)]
     pub fn after(&mut self, layout: &Layout, seen: u64, word: u64) -> Stage
         requires going { claim_stage self.old ≡ Going }
@@ -88,8 +87,8 @@ impl Claim {
         }
     }
 
-    /// Makes the next access in this memory, and returns how far the claim has come. It is
-    /// [`Claim::next`], [`Memory::perform`] and [`Claim::after`] in one match.
+    /// Makes the next access in this memory, and returns how far the claim has come. It is [`Claim::next`],
+    /// [`Memory::perform`] and [`Claim::after`] in one match.
     #[inline(always)]
     pub fn step<M: Memory>(&mut self, layout: &Layout, memory: &mut M, word: u64) -> Stage
         requires going { claim_stage self.old ≡ Going }
@@ -110,9 +109,8 @@ impl Claim {
         self.follow(layout, out)
     }
 
-    /// Makes accesses, each with a random word drawn for it, until the claim has come to its end or
-    /// `most` were made. Returns how many. They are those of as many calls of [`Claim::step`]. It goes straight through
-    /// each object.
+    /// Makes accesses, each with a random word drawn for it, until the claim has come to its end or `most` were made.
+    /// Returns how many. They are those of as many calls of [`Claim::step`]. It goes straight through each object.
     #[inline(always)]
     pub fn run<M: Drawing>(&mut self, layout: &Layout, memory: &mut M, most: u64) -> u64
         requires fits { FitsLayout layout.now self.old }

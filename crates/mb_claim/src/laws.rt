@@ -1,7 +1,7 @@
 //! What holds of every lawful history of claims, and of every layout and run. The functions compute nothing: their
 //! contracts are the laws, and their bodies name the laws of deciding objects that they use. If the prover needs help
-//! with a law, its proof is in
-//! `proofs/laws`, in a folder of its name. Laws of one access more, for callers that keep words and histories of their own, are in `steps`.
+//! with a law, its proof is in `proofs/laws`, in a folder of its name. Laws of one access more, for callers that keep
+//! words and histories of their own, are in `steps`.
 ghost use Rattle.std.specs.Prelude.{ℕ, ◌≡◌, ◌≢◌, ◌+◌, ◌*◌, ◌<◌, ◌≤◌, List, [], ◌∷◌, ◌++◌, Bool, true, false, length};
 ghost use Rattle.std.specs.Prelude.{slice_get, Some, ◌^◌};
 ghost use Rattle.mb_quorum.specs.Vocabulary.{QuorumTable, IsQuorumTable};

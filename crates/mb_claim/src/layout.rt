@@ -24,9 +24,9 @@ pub const MAX_LARGE_CELLS: u32 = 16_777_216;
 /// The most objects of a cell: `MAX_PAIRS` pairs, a fast path of two ratifiers and a last object.
 const MAX_OBJECTS: usize = 2 * MAX_PAIRS as usize + 3;
 
-/// The deciding objects that each cell has: pairs of a conciliator and a ratifier, and what its
-/// [`Shape`] adds to them. They share a quorum table with a value for each consumer. It keeps their row and where each one's words begin, in some 1,300 bytes. So it is not `Copy`,
-/// and a copy has to be asked for: [`Layout::copy`].
+/// The deciding objects that each cell has: pairs of a conciliator and a ratifier, and what its [`Shape`] adds to them.
+/// They share a quorum table with a value for each consumer. It keeps their row and where each one's words begin, in
+/// some 1,300 bytes. So it is not `Copy`, and a copy has to be asked for: [`Layout::copy`].
 #[derive(PartialEq, Eq, Debug, Drop)]
 pub struct Layout {
     pub(crate) table: Table,

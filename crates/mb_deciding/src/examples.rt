@@ -1,6 +1,6 @@
 //! Small histories and traces of one process, and histories of a last object. They show what the definitions admit, and
-//! what they refuse. The functions compute nothing. The proofs begin in
-//! `proofs/examples`. The lemmas are in `proofs/SmallHistories.antt`, `SmallLasts.antt` and `SmallTraces.antt`.
+//! what they refuse. The functions compute nothing. The proofs begin in `proofs/examples`. The lemmas are in
+//! `proofs/SmallHistories.antt`, `SmallLasts.antt` and `SmallTraces.antt`.
 ghost use Rattle.std.specs.Prelude.{ℕ, ◌≡◌, ◌+◌, Bool, true, false, Some, None, [], ◌∷◌, ◌++◌};
 ghost use Rattle.mb_quorum.specs.Unary.{unary_table};
 ghost use Rattle.mb_quorum.specs.Quorum.{QuorumTable};

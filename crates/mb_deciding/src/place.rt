@@ -84,10 +84,9 @@ impl Pc {
         }
     }
 
-    /// What the access leads to.
-    /// `seen` is the value that a load or an exchange found. It does not count after a store. The random `word` counts
-    /// only after a load of a conciliator's word. If the word cannot hold `seen`, the result is still a place of the
-    /// table or one of its values.
+    /// What the access leads to. `seen` is the value that a load or an exchange found. It does not count after a store.
+    /// The random `word` counts only after a load of a conciliator's word. If the word cannot hold `seen`, the result
+    /// is still a place of the table or one of its values.
     #[inline(always)]
     pub fn after<Q: Quorums>(self, q: &Q, seen: u64, word: u64) -> Next
         requires { IsPlace (Q.table q.now) self }

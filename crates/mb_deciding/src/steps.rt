@@ -66,9 +66,8 @@ pub fn turns_name_the_next_op()
         → IsSameOp a b → ReadsLast a h → ReadsLast b h → a ≡ b }
 {}
 
-/// A process at a place has an access to make, and at most
-/// `turns_left` of them. That number falls with each access, whatever its loads find ([`crate::Pc::after`] says so).
-/// The first places say with how many it begins.
+/// A process at a place has an access to make, and at most `turns_left` of them. That number falls with each access,
+/// whatever its loads find ([`crate::Pc::after`] says so). The first places say with how many it begins.
 pub fn places_have_turns_left()
     ensures some { (t : QuorumTable) (pc : Pc) → IsPlace t pc → 0 < turns_left t pc }
 

@@ -42,9 +42,8 @@ impl<A: Allocator + Clone + Drop> SharedClaims<A> {
     ghost use Rattle.std.specs.Prelude.{◌≡◌, ◌≤◌, [], IfOk};
     ghost use Rattle.mb_shared_claims.specs.{MAX_LARGE_CELLS, name_of};
 
-    /// A table of this layout with
-    /// `cells` cells, all words 0, and its hub, which has given no number. It allocates here all that the table will ever need. The error is [`NoMemory`]
-    /// if the allocator refuses a part of that.
+    /// A table of this layout with `cells` cells, all words 0, and its hub, which has given no number. It allocates
+    /// here all that the table will ever need. The error is [`NoMemory`] if the allocator refuses a part of that.
     pub fn new(
         alloc: A,
         layout: Layout,

@@ -26,8 +26,8 @@ impl ConciliatorPlace {
         }
     }
 
-    /// Goes on to the place that the access leads to, or returns the output. The conciliator is for
-    /// `values` values. `seen` is the loaded value and `word` the random word.
+    /// Goes on to the place that the access leads to, or returns the output. The conciliator is for `values` values.
+    /// `seen` is the loaded value and `word` the random word.
     #[inline(always)]
     pub(crate) fn after(&mut self, values: u32, seen: u64, word: u64) -> Option<Out>
         requires { IsConciliatorPlace values self.old }
