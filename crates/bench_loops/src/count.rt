@@ -20,7 +20,7 @@ impl Count {
         }
     }
 
-    /// Counts a claim that made so many accesses and ended so.
+    /// Adds accesses of a claim, and its stage after them.
     #[inline(always)]
     pub fn add(&mut self, accesses: u64, stage: Stage) {
         self.accesses = self.accesses.wrapping_add(accesses);
