@@ -42,8 +42,8 @@ pub(crate) const WON_AND_LOST: [(u64, u64); 12] = [
     (0, 0),
 ];
 
-/// Claims on one cell that make these steps have these stages, and these entries from this place on. Whether the allocator
-/// serves their run.
+/// Claims on one cell that make these steps have these stages, and these entries from this place on. Returns whether
+/// the allocator serves their run.
 pub(crate) fn is_played<A: Allocator + Copy + Drop>(
     rt: &impl Abort,
     alloc: A,
@@ -68,7 +68,7 @@ pub(crate) fn is_played<A: Allocator + Copy + Drop>(
     }
 }
 
-/// What these steps make of two consumers and one pair over the bit table.
+/// The entries of these steps, of two consumers and one pair over the bit table.
 pub(crate) fn won_and_lost() -> [ClaimEntry; 12] {
     [
         loaded(0, 0, Reg::Value, 0),
@@ -221,10 +221,10 @@ fn a_step_of_no_consumer(rt: HostRuntime) -> Result<(), Fail> {
     Ok(())
 }
 
-/// So many steps: more than a run of all claims takes, so that most of them are `Done`.
+/// More steps than a run of all claims takes, so that most of them are `Done`.
 const STEPS: usize = 2048;
 
-/// So many steps of sixteen consumers in order, with the random word 0.
+/// `STEPS` steps of sixteen consumers in order, with the random word 0.
 fn steps_in_order() -> [(u64, u64); STEPS] {
     let mut steps = [(0, 0); STEPS];
     for place in 0..STEPS {
@@ -233,7 +233,7 @@ fn steps_in_order() -> [(u64, u64); STEPS] {
     steps
 }
 
-/// Of steps that sixteen consumers have in order, those from `first` on are of claims that had come to their end before.
+/// Sixteen consumers step in order. The steps from `first` on are of claims that had come to their end before.
 fn are_done_from(rt: &impl Abort, entries: &[ClaimEntry], first: usize) {
     for (place, entry) in entries.iter().enumerate() {
         let done = ClaimEntry::Done {

@@ -24,7 +24,7 @@ fn shape<Q: Quorums>(table: &Q, v: u32) -> Shape {
     (table.registers(), table.values(), quorums(table, v))
 }
 
-/// The same of a table that is named, where it has so many values.
+/// The shape of the named table with m values.
 fn named(name: TableName, m: u64, v: u32) -> Result<Shape, BadValues> {
     Ok(shape(&Table::new(name, m)?, v))
 }
@@ -87,7 +87,7 @@ fn middle_tables(rt: HostRuntime) -> Result<(), Fail> {
     Ok(())
 }
 
-// A table has the fewest registers that will do: here it gets one more.
+// A table has the fewest registers that are enough. These numbers of values lie at the steps, where it gets one more.
 #[test]
 fn registers_of_middle_tables(rt: HostRuntime) -> Result<(), Fail> {
     for (m, registers) in [
