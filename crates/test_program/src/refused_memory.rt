@@ -1,4 +1,5 @@
-//! Each growth of a call refused in turn: the call wants memory, keeps none and writes nothing, and is then served.
+//! Each allocation of a call is refused in turn. The call runs out of memory, keeps none and writes nothing. At last it
+//! is served.
 
 use crate::compare::same;
 use crate::examples::claims::{ITEM_TAKEN, ONE_LOSES};
@@ -13,7 +14,7 @@ use std::process::Abort;
 use std::test::Fail;
 use test_alloc::growths_refused;
 
-/// A call that is out of memory wrote nothing, and any other is done and wrote this. Whether it was served.
+/// A call that ran out of memory wrote nothing, and any other is done and wrote this. Returns whether it was served.
 fn is_served<F: PartialEq + Debug + Copy>(
     rt: &impl Abort,
     ending: Result<(), F>,
