@@ -69,17 +69,11 @@ struct Outcome {
 /// Why a run failed.
 #[derive(Clone, Copy, Debug)]
 enum Fault {
-    /// The setup was refused.
     Setup(SetupFault),
-    /// `work` was refused.
     Work(WorkFault),
-    /// Memory ran out.
     NoMemory,
-    /// There was no report.
     NoReport,
-    /// The clock could not be read.
     NoClock,
-    /// The report has this flaw.
     Report(Flaw),
     /// Some item found no cell, although there are as many cells as items.
     NotPut,
@@ -97,7 +91,7 @@ impl From<io::Error> for Fault {
     }
 }
 
-/// What the command line asks for.
+/// The plan in these words. It is none if they are not as the usage says.
 fn plan_of(words: &[String]) -> Option<Plan> {
     let [_, producers, consumers, pairs, items, seed, more @ ..] = words else {
         return None;
@@ -119,7 +113,6 @@ fn plan_of(words: &[String]) -> Option<Plan> {
     })
 }
 
-/// The shape with this name.
 fn shape_of(name: &str) -> Option<Shape> {
     let (fast, last) = match name {
         "plain" => (false, false),
@@ -131,7 +124,6 @@ fn shape_of(name: &str) -> Option<Shape> {
     Some(Shape { fast, last })
 }
 
-/// The source with this name.
 fn words_of(name: &str) -> Option<Words> {
     match name {
         "chacha" => Some(Words::Chacha),
@@ -160,7 +152,7 @@ fn lists_of(alloc: Global, plan: &Plan) -> Result<Vec<Vec<u64>>, AllocError> {
     Ok(lists)
 }
 
-/// The source of each consumer.
+/// A source for each consumer, each with a seed of its own.
 fn sources_of<R: SeedableRng + Drop>(alloc: Global, plan: &Plan) -> Result<Vec<R>, AllocError> {
     let mut rngs = Vec::new(alloc);
     for c in 0..plan.consumers {

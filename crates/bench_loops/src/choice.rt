@@ -43,7 +43,6 @@ pub enum Loop {
     Reports,
 }
 
-/// All loops.
 pub const LOOPS: [Loop; 16] = [
     Loop::Words,
     Loop::Lone,
@@ -94,7 +93,6 @@ pub const SHAPES: [(&str, Shape); 3] = [
 /// A loop with its table, its consumers, the shape of its cells, and how often it runs.
 #[derive(Debug, Drop)]
 pub struct Choice {
-    /// The loop.
     pub what: Loop,
     /// The table of the ratifiers.
     pub name: TableName,
@@ -189,7 +187,6 @@ impl fmt::Display for Choice {
     }
 }
 
-/// The loop with this name.
 fn loop_of(text: &str) -> Option<Loop> {
     match text {
         "words" => Some(Loop::Words),
@@ -212,7 +209,6 @@ fn loop_of(text: &str) -> Option<Loop> {
     }
 }
 
-/// The shape with this name.
 fn shape_of(text: &str) -> Option<Shape> {
     if text == "plain" {
         return Some(Shape::PLAIN);
@@ -225,7 +221,6 @@ fn shape_of(text: &str) -> Option<Shape> {
     None
 }
 
-/// The table with this name.
 fn name_of(text: &str) -> Option<TableName> {
     match text {
         "unary" => Some(TableName::Unary),

@@ -49,7 +49,7 @@ fn contend_each<A: Allocator + Drop>(
     }
 }
 
-/// Steps the claims in turn, until all have come to their ends.
+/// Steps the claims in turn, until all have ended.
 fn contend<A: Allocator + Drop>(
     layout: &Layout,
     words: &mut ClaimWords<A>,

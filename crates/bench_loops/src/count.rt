@@ -12,7 +12,6 @@ pub struct Count {
 }
 
 impl Count {
-    /// Nothing yet.
     pub fn new() -> Count {
         Count {
             accesses: 0,

@@ -41,7 +41,6 @@ pub fn words_alone<A: Allocator + Copy + Drop>(
     Ok(made)
 }
 
-/// Makes one claim on each cell.
 fn claim_each<A: Allocator + Drop>(
     layout: &Layout,
     words: &mut ClaimWords<A>,

@@ -37,7 +37,6 @@ pub struct Post {
 }
 
 impl Post {
-    /// Nothing yet.
     pub fn new() -> Post {
         Post {
             items: 0,

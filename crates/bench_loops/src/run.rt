@@ -21,13 +21,9 @@ use std::{fmt, io};
 pub enum Outcome {
     /// How many were made, and of what.
     Made(u64, &'static str),
-    /// The counts of claims.
     Claimed(Count),
-    /// The counts of mailboxes.
     Posted(Post),
-    /// The counts of schedules.
     Ran(Runs),
-    /// The counts of events of worlds.
     Lived(Deeds),
 }
 

@@ -44,7 +44,6 @@ pub fn tables_alone<A: Allocator + Copy + Drop>(
     Ok(made)
 }
 
-/// Makes one claim on each cell.
 fn claim_each<A: Allocator + Drop>(
     table: &SharedClaims<A>,
     seat: &mut ClaimSeat,

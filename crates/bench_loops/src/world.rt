@@ -11,9 +11,7 @@ use std::fmt;
 /// The counts of events.
 #[derive(Clone, Copy, Debug)]
 pub struct Deeds {
-    /// How many events there were.
     pub events: u64,
-    /// How many items were taken.
     pub taken: u64,
 }
 

@@ -30,7 +30,6 @@ const DEFAULTS: Asked = Asked {
 };
 
 impl Asked {
-    /// How many lanes there are.
     pub fn lanes(&self) -> usize
         ensures { result ≤ 16 }
     {
@@ -70,13 +69,13 @@ fn number<'a>(alloc: Global, name: &'a str, low: u64, high: u64, meaning: &'a st
         .value_parser(ValueParser::unsigned(low, high))
 }
 
-/// The number of an option.
+/// The number of an option, or its default.
 fn given(matches: &ArgMatches, name: &str, default: u64) -> u64 {
     matches.get_one::<u64>(name).unwrap_or(default)
 }
 
-/// Reads the command line. Its first word is the program's name. clap decides which lines are refused, and with which
-/// text.
+/// Reads the command line. Its first word is the program's name. Which lines are refused, and with which text, is up to
+/// clap.
 pub fn asked_in(alloc: Global, words: &[String]) -> Result<Asked, Error> {
     let command = Command::new(alloc, "example_jobs")
         .about("A job queue over the mailbox")

@@ -58,9 +58,7 @@ pub struct NoteOut {
 #[repr(C)]
 #[derive(Clone, Copy)]
 pub struct MissingOut {
-    /// How many producers.
     pub producers: u32,
-    /// How many consumers.
     pub consumers: u32,
 }
 

@@ -7,7 +7,6 @@ use std::alloc::Global;
 /// A consumer with its source of random words.
 #[derive(Drop)]
 pub struct SeededConsumer {
-    /// The consumer.
     pub consumer: BoundConsumer<Global>,
     /// The source from which its polls draw their words.
     pub source: ChaCha8Rng,
@@ -18,11 +17,8 @@ pub struct SeededConsumer {
 pub enum Thing {
     /// A mailbox with its hub.
     OfHub(BoundHub<Global>),
-    /// A producer.
     OfProducer(BoundProducer<Global>),
-    /// A consumer.
     OfConsumer(SeededConsumer),
-    /// A report.
     OfReport(Report<Global>),
     /// Nothing yet, or nothing any more. No handle that leaves a call leads to it.
     OfNothing,

@@ -69,7 +69,7 @@ pub fn loads_fall_to_lanes()
     ensures not_linked { part_on 5 0 (load 5 (Item 0) 0 ∷ one_taken) ≡ [] }
 {}
 
-/// A producer stands at one place: what it linked last, and what it has done since.
+/// A producer is at one place: what it linked last, and what it has done since.
 pub fn producers_stand_at_one_place()
     ensures taken { IsLaneAfter 1 0 (record { last = None; stage = stage.Offered 0 8 }) one_taken }
     ensures linked { IsLaneAfter 1 0 (record { last = Some 0; stage = stage.Open }) one_put }

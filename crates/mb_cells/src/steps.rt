@@ -168,7 +168,7 @@ pub fn addresses_are_apart()
         → address_of size w < words_of size }
 {}
 
-/// All words of a pool in one block, and the parts of its processes, go on with the history that they stand for.
+/// All words of a pool in one block, and the parts of its processes, go on with their history.
 pub fn words_follow_steps()
     ensures empty { (size : PoolSize) (words : List ℕ) → size.cells < END
         → words_of size ≤ length words

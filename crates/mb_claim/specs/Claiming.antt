@@ -13,9 +13,9 @@ abbrev pub IsClaimPart : Claims → ℕ → ℕ → List ObjectTurn → Type 0
 IsClaimPart cs c k xs = (c < cs.table.values) × (k < cs.cells) × ((s : Stage)
     × IsClaimPrefix cs c xs s)
 
--- Each load is true to memory, values and random words are words of 64 bits, and what a consumer did on a cell is a
--- prefix of its claim path there, whose first input is its own number. There are no consumers and cells but
--- those of the claims: the consumers are the values of the quorum table.
+-- Each load is true to memory. Values and random words are words of 64 bits. What a consumer did on a cell is a prefix
+-- of its claim path there, with its own number as first input. There are no consumers and cells but those of the
+-- claims: the consumers are the values of the quorum table.
 pub record IsClaimLawful (cs : Claims) (h : List ClaimAccess) : Type 0 where
   -- each load has what the older accesses left
   pub memory : IsMemoryTrue h
@@ -28,8 +28,8 @@ pub record IsClaimLawful (cs : Claims) (h : List ClaimAccess) : Type 0 where
 abbrev pub HasStage : Claims → ℕ → ℕ → Stage → List ClaimAccess → Type 0
 HasStage cs c k s h = (c < cs.table.values) × IsClaimPrefix cs c (part_on c k h) s
 
--- an access that may come next: it is of a consumer and a cell of the claims, a load gives what the history leaves
--- in its word, and the consumer's part goes on along a claim path
+-- an access that may come next. It is of a consumer and a cell of the claims. A load gives what the history leaves in
+-- its word. The consumer's part goes on along a claim path
 pub record MayFollow (cs : Claims) (a : ClaimAccess) (h : List ClaimAccess) : Type 0 where
   -- it is of one of the consumers
   pub consumer : a.consumer < cs.table.values

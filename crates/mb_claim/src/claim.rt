@@ -70,7 +70,7 @@ impl Claim {
         ensures begun { is_begun self.new ≡ true }
         ensures stage { result ≡ claim_stage self.new }
 
-        // Fewer accesses are left then, whatever `seen` is. So the claim comes to an end.
+        // Fewer accesses are left then, whatever `seen` is. So the claim ends.
         ensures fewer { steps_left layout.now self.new < steps_left layout.now self.old }
 
         // The access is one more on the claim's path.
@@ -109,8 +109,8 @@ impl Claim {
         self.follow(layout, out)
     }
 
-    /// Makes accesses, each with a random word drawn for it, until the claim has come to its end or `most` were made.
-    /// Returns how many. They are those of as many calls of [`Claim::step`]. It goes straight through each object.
+    /// Makes accesses, each with a random word drawn for it, until the claim has ended or `most` were made. Returns how
+    /// many. They are those of as many calls of [`Claim::step`]. It goes straight through each object.
     #[inline(always)]
     pub fn run<M: Drawing>(&mut self, layout: &Layout, memory: &mut M, most: u64) -> u64
         requires fits { FitsLayout layout.now self.old }
@@ -211,8 +211,8 @@ impl Claim {
         self.step(layout, memory, word).is_going()
     }
 
-    /// Makes accesses on the claim's object, a conciliator, from this place on, until that leads to the next object or
-    /// the budget `left` is used up. Returns whether the claim can make more.
+    /// Makes accesses on the claim's object, a conciliator, from this place on. It stops if that leads to the next
+    /// object, or if the budget `left` is used up. Returns whether the claim can make more.
     #[inline(always)]
     fn run_conciliator<M: Drawing>(
         &mut self,
@@ -252,8 +252,8 @@ impl Claim {
         }
     }
 
-    /// Makes accesses on the claim's object, a ratifier, from this place on, until that leads to the next object or to
-    /// the claim's end, or the budget `left` is used up. Returns whether the claim can make more.
+    /// Makes accesses on the claim's object, a ratifier, from this place on. It stops if that leads to the next object
+    /// or to the claim's end, or if the budget `left` is used up. Returns whether the claim can make more.
     #[inline(always)]
     fn run_ratifier<M: Drawing>(
         &mut self,

@@ -44,8 +44,7 @@ impl<A: Allocator + Drop> ClaimWords<A> {
         })
     }
 
-    /// Makes the next access of a claim on its cell, with the random word of this step. The claim has not come to its
-    /// end.
+    /// Makes the next access of a claim on its cell, with the random word of this step. The claim is going.
     #[inline(always)]
     pub fn step(&mut self, layout: &Layout, claim: &mut Claim, cell: u32, word: u64) -> ClaimStep
         requires going { claim_stage claim.old ≡ Going }

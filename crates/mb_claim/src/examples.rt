@@ -129,7 +129,7 @@ pub fn rows_of_accesses()
     ensures none { (layout : Layout) (claim : Claim) (m : ℕ)
         → AreClaimSteps layout (λ before word next seen now. now ≡ before + 1) claim m 0 claim m }
 
-    // A claim that has come to its end makes none.
+    // A claim that has ended makes none.
     ensures ended { (layout : Layout) (claim follows : Claim) (m now : ℕ)
         → claim_stage claim ≢ Going
         → AreClaimSteps layout (λ before word next seen now. now ≡ before + 1) claim m 1 follows now

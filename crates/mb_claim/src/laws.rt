@@ -90,8 +90,8 @@ pub fn claims_have_their_stages()
         → HasStage (claims_in layout cells) (consumer_of claim) k (claim_stage claim) h }
 {}
 
-/// A claim that is going has an access to make, and one that has come to its end has none. The number of accesses left
-/// is at most `most_accesses` at first ([`crate::Claim::new`]), and falls with each ([`crate::Claim::after`]).
+/// A claim that is going has an access to make, and one that has ended has none. The number of accesses left is at most
+/// `most_accesses` at first ([`crate::Claim::new`]), and falls with each ([`crate::Claim::after`]).
 pub fn claims_have_steps_left()
     ensures going { (layout : Layout) (claim : Claim)
         → FitsLayout layout claim → claim_stage claim ≡ Going → 0 < steps_left layout claim }

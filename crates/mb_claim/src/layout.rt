@@ -25,8 +25,8 @@ pub const MAX_LARGE_CELLS: u32 = 16_777_216;
 const MAX_OBJECTS: usize = 2 * MAX_PAIRS as usize + 3;
 
 /// The deciding objects that each cell has: pairs of a conciliator and a ratifier, and what its [`Shape`] adds to them.
-/// They share a quorum table with a value for each consumer. It keeps their row and where each one's words begin, in
-/// some 1,300 bytes. So it is not `Copy`, and a copy has to be asked for: [`Layout::copy`].
+/// They share a quorum table with a value for each consumer. It keeps their row and where each one's words begin, so it
+/// has some 1,300 bytes. It is not `Copy`, and a copy has to be asked for: [`Layout::copy`].
 #[derive(PartialEq, Eq, Debug, Drop)]
 pub struct Layout {
     pub(crate) table: Table,
@@ -277,7 +277,6 @@ impl Layout {
         self.kinds[object as usize]
     }
 
-    /// How many words a cell has.
     #[inline(always)]
     fn words_of_cell(&self) -> usize
         ensures small { result ≤ 65 * MAX_OBJECTS }

@@ -11,7 +11,7 @@ use crate::run::{ClaimRun, PlayFault};
 use std::alloc::{AllocError, Allocator};
 
 /// Runs the claims of all consumers on one cell. Each pair of `steps` is a step of a consumer with its random word. A
-/// step of a consumer whose claim has come to its end makes no access.
+/// step of a consumer whose claim has ended makes no access.
 ///
 /// The error is `NoConsumer` if a step is of no consumer of the layout, and else `NoMemory` if memory ran out.
 pub fn play<A: Allocator + Copy + Drop>(

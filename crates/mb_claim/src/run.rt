@@ -20,7 +20,7 @@ pub enum ClaimEntry {
         /// What it did there.
         act: Act,
     },
-    /// The claim of the consumer had come to its end before and made no access.
+    /// The claim of the consumer had ended before and made no access.
     Done {
         /// Whose step it was.
         consumer: u32,

@@ -85,7 +85,7 @@ IsActInWords act =
 abbrev pub IsInWords : Turn → Type 0
 IsInWords turn = IsActInWords turn.act × (turn.word < 2 ^ 64)
 
--- so it is with each access
+-- so does each access
 abbrev pub AreInWords : List Access → Type 0
 AreInWords [] = Unit {0}
 AreInWords (a ∷ older) = IsInWords a.turn × AreInWords older

@@ -11,12 +11,12 @@ abbrev pub next_from : Option Out → Pc → Next
 next_from None pc = leads.Go pc
 next_from (Some out) pc = leads.Out out
 
--- the output, if there is one, or else what the process had come to before
+-- the output, if there is one, or else what the process had reached before
 abbrev pub come_to : Option Out → Next → Next
 come_to None next = next
 come_to (Some out) next = leads.Out out
 
--- a process at the place in a ratifier, whose next access found this value, has come to what follows
+-- a process at the place in a ratifier, whose next access found this value, has reached what follows
 abbrev pub RatifierReaches : QuorumTable → RatifierPlace → ℕ → Next → Type 0
 RatifierReaches t place seen follows =
     (v : ℕ) (turns : List Turn) (op : Op) (word : ℕ) → IsAt t Ratifier v (InRatifier place) turns
@@ -46,7 +46,7 @@ pub record IsStep (t : QuorumTable) (pc : Pc) (makes : Op → ℕ → Type 0) (w
   -- it is the one that comes next, and it was made
   pub is : IsOpAt t pc op
   pub made : makes op seen
-  -- if it can find that, a process that was at the place has come to what follows
+  -- if it can find that, a process that was at the place has reached what follows
   pub reached :
       (kind : Kind) (v : ℕ) (turns : List Turn) → IsAt t kind v pc turns → CanFind t pc op seen
       → IsReached t kind v follows (record { act = act_of op seen; word = word } ∷ turns)

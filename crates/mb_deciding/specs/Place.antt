@@ -145,7 +145,7 @@ CanFind t (InConciliator place) (to.Exchange reg value) seen = Unit {0}
 CanFind t (InLast place) (to.Load reg) seen = Unit {0}
 CanFind t (InLast place) (to.Exchange reg value) seen = seen ≤ t.values
 
--- a process with input v that has made these turns has come to the place, or to its output
+-- a process with input v that has made these turns has reached the place, or its output
 abbrev pub IsReached : QuorumTable → Kind → ℕ → Next → List Turn → Type 0
 IsReached t kind v (leads.Go pc) turns = IsAt t kind v pc turns
 IsReached t kind v (leads.Out out) turns = IsPath t kind v turns out

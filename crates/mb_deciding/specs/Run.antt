@@ -32,12 +32,12 @@ IsSameFor LastObject t u = t ≡ u
 abbrev pub bare_table : ℕ → QuorumTable
 bare_table m = record { values = m; registers = 0; write = λ v. 0; read = λ v. 0 }
 
--- the output, if the process has come to it
+-- the output, if the process has it
 abbrev pub out_of : Next → Option Out
 out_of (leads.Go pc) = None
 out_of (leads.Out out) = Some out
 
--- what a run holds: the words of its object, what each process has come to, and the entries of the turns so far
+-- what a run holds: the words of its object, what each process has reached, and the entries of the turns so far
 pub record RunState : Type 0 where
   pub words : Words
   pub places : List Next

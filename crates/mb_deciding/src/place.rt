@@ -92,7 +92,7 @@ impl Pc {
         requires { IsPlace (Q.table q.now) self }
         ensures fits { IsNext (Q.table q.now) result }
 
-        // Fewer accesses are left from there, whatever it loaded. So the process comes to an end.
+        // Fewer accesses are left from there, whatever it loaded. So the process ends.
         ensures fewer { turns_after (Q.table q.now) result < turns_left (Q.table q.now) self }
 
         // A process that was at this place is now at the next one, or has its output.

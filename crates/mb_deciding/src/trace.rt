@@ -33,7 +33,7 @@ pub enum Entry {
 pub struct Trace<A: Allocator + Drop> {
     /// One entry for each turn of the schedule, in its order.
     pub entries: Vec<Entry, A>,
-    /// For each process its output, or none if it has not come to its end.
+    /// For each process its output, or none if it has not ended.
     pub outputs: Vec<Option<Out>, A>,
 }
 

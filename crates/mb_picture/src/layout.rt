@@ -26,9 +26,7 @@ const MIN_WIDTH: usize = 444;
 /// Where the marks of a column are.
 #[derive(Clone, Copy)]
 pub struct Place {
-    /// Their left side.
     pub left: usize,
-    /// How wide they are.
     pub width: usize,
 }
 
@@ -43,7 +41,7 @@ pub struct Route {
     pub start: usize,
     /// Where the track is.
     pub track: usize,
-    /// Where it comes to the mark of the load.
+    /// Where it meets the mark of the load.
     pub end: usize,
 }
 
@@ -60,9 +58,7 @@ struct Trunk {
 pub struct Layout<A: Allocator + Drop> {
     /// The columns, from the left.
     pub places: Vec<Place, A>,
-    /// The lines.
     pub routes: Vec<Route, A>,
-    /// How wide the picture is.
     pub width: usize,
 }
 
@@ -196,7 +192,6 @@ fn track_of(trunks: &[Trunk], from: usize, gutter: usize) -> usize {
     0
 }
 
-/// Where a line goes.
 fn route_of(
     marks: &[Mark],
     places: &[Place],

@@ -10,9 +10,7 @@ pub const MAX_ROWS: usize = 200;
 /// What a picture shows.
 #[derive(Clone, Copy)]
 pub enum Kind {
-    /// A replay.
     Replay,
-    /// A ratifier.
     Ratifier,
 }
 
@@ -174,9 +172,7 @@ pub struct Frame {
 /// What was done, as data to be drawn. Mark `i` is in row `i`.
 #[derive(Drop)]
 pub struct Picture<A: Allocator + Drop> {
-    /// What it shows.
     pub kind: Kind,
-    /// Its title.
     pub title: String<A>,
     /// Whose the columns are, from the left.
     pub columns: Vec<Who, A>,

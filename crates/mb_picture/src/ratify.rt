@@ -49,7 +49,6 @@ fn mark_of(column: usize, entry: Entry, begun: bool) -> Mark {
     }
 }
 
-/// Whether the column has a mark.
 fn has_mark(marks: &[Mark], column: usize) -> bool {
     for mark in marks {
         if mark.column == column {
@@ -82,7 +81,6 @@ fn push_columns<A: Allocator + Copy>(
     Ok(())
 }
 
-/// The column of a process.
 fn column_of(columns: &[Who], process: usize) -> Option<usize> {
     for (column, who) in columns.iter().enumerate() {
         if let Who::Process { process: p, .. } = *who {

@@ -1,7 +1,7 @@
 //! Facts about the tables, for proofs that build on them. Each is the contract of a function that computes nothing.
 //!
 //! If the prover needs help with a law, its proof is in `proofs/laws`, in a folder of its name. The lemmas that the
-//! tables are lawful stand beside the tables, in `specs/UnaryLaw.antt`, `BitsLaw.antt`, `MiddleLaw.antt` and
+//! tables are lawful are beside the tables, in `specs/UnaryLaw.antt`, `BitsLaw.antt`, `MiddleLaw.antt` and
 //! `TablesLaw.antt`.
 
 ghost use Rattle.std.specs.Prelude.{◌≡◌, ◌≢◌, ℕ, ◌+◌, ◌-◌, ◌*◌, ◌/◌, ◌^◌, ◌<◌, ◌≤◌, ◌↔◌, bit_and, count_ones};

@@ -19,7 +19,7 @@ pub enum TableName {
 
 /// A table chosen by its name when the program runs.
 ///
-/// It keeps the quorums of each value, so that they are computed once. With them it has some 1,040 bytes. So it is not
+/// It keeps the quorums of each value, so that they are computed once. With them it has some 1,040 bytes. It is not
 /// `Copy`, and a copy has to be asked for: [`Table::copy`].
 #[derive(Debug, PartialEq, Eq, Hash, Drop)]
 pub struct Table {

@@ -63,7 +63,7 @@ abbrev pub draws : ℕ → Seated → Seated → Type 0
 draws found me now = (found ≡ length (roll_of me.0)) × (now ≡ (drawn me.0, me.1))
 
 -- ---- taking a seat in
--- the part of the seat stands beside the roll
+-- the part of the seat is beside the roll
 abbrev pub took_in : View → View → View
 took_in (Handing size roll) (Standing other own done) = Taking size roll own done
 took_in v w = v

@@ -21,7 +21,7 @@ pub enum View {
     Drawing(TableSize, LinkedList<Option<LinkedList<ClaimAccess>>>),
     /// The view of a consumer's seat: its number and its part.
     Standing(TableSize, u32, LinkedList<ClaimAccess>),
-    /// The hub's view while it takes a seat in: the number and the part of that seat stand beside the roll.
+    /// The hub's view while it takes a seat in: the number and the part of that seat are beside the roll.
     Taking(TableSize, LinkedList<Option<LinkedList<ClaimAccess>>>, u32, LinkedList<ClaimAccess>),
     /// The view of a seat that was taken in.
     Spent,

@@ -10,7 +10,6 @@ pub enum Refuse {
     From(u64),
     /// The request with this number alone.
     Only(u64),
-    /// None.
     Never,
 }
 
@@ -34,12 +33,10 @@ impl Book {
         }
     }
 
-    /// How many requests there were.
     pub(crate) fn asked(&self) -> u64 {
         self.asked.load(Ordering::SeqCst)
     }
 
-    /// How many blocks are out.
     pub(crate) fn out(&self) -> u64 {
         self.out.load(Ordering::SeqCst)
     }

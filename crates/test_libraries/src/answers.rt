@@ -8,17 +8,14 @@ use mb_world::{Answer, Event, World};
 use std::alloc::Allocator;
 use std::process::Abort;
 
-/// An offer of an item on a lane.
 pub(crate) fn offer(lane: u64, item: u64) -> Event {
     Event::Offer { lane, item }
 }
 
-/// A push on a lane.
 pub(crate) fn push(lane: u64) -> Event {
     Event::Push { lane }
 }
 
-/// A finish of a lane.
 pub(crate) fn finish(lane: u64) -> Event {
     Event::Finish { lane }
 }

@@ -8,7 +8,6 @@ use std::alloc::Allocator;
 use std::process::Abort;
 use std::test::Fail;
 
-/// A load of a consumer.
 pub(crate) fn loaded(consumer: u32, object: u32, reg: Reg, value: u64) -> ClaimEntry {
     ClaimEntry::Access {
         consumer,
@@ -17,7 +16,6 @@ pub(crate) fn loaded(consumer: u32, object: u32, reg: Reg, value: u64) -> ClaimE
     }
 }
 
-/// A store of a consumer.
 pub(crate) fn stored(consumer: u32, object: u32, reg: Reg, value: u64) -> ClaimEntry {
     ClaimEntry::Access {
         consumer,
@@ -233,7 +231,7 @@ fn steps_in_order() -> [(u64, u64); STEPS] {
     steps
 }
 
-/// Sixteen consumers step in order. The steps from `first` on are of claims that had come to their end before.
+/// Sixteen consumers step in order. The steps from `first` on are of claims that had ended before.
 fn are_done_from(rt: &impl Abort, entries: &[ClaimEntry], first: usize) {
     for (place, entry) in entries.iter().enumerate() {
         let done = ClaimEntry::Done {

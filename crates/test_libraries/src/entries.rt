@@ -5,7 +5,6 @@ use mb_deciding::{Act, Entry, Fault, Out, Reg, Trace};
 use std::alloc::Allocator;
 use std::process::Abort;
 
-/// A load of a process.
 pub(crate) fn loaded(process: usize, reg: Reg, value: u64) -> Entry {
     Entry::Access {
         process,
@@ -14,7 +13,6 @@ pub(crate) fn loaded(process: usize, reg: Reg, value: u64) -> Entry {
     }
 }
 
-/// A store of a process.
 pub(crate) fn stored(process: usize, reg: Reg, value: u64) -> Entry {
     Entry::Access {
         process,
@@ -35,7 +33,7 @@ pub(crate) fn ending(entry: Entry, output: Out) -> Entry {
     }
 }
 
-/// The entries of one ratifier with the inputs 0 and 1, if process 0 comes to its end before process 1 begins.
+/// The entries of one ratifier with the inputs 0 and 1, if process 0 ends before process 1 begins.
 pub(crate) fn late_input() -> [Entry; 7] {
     [
         stored(0, Reg::Quorum(0), 1),

@@ -25,7 +25,6 @@ pub(crate) const BOTH: Shape = Shape {
     last: true,
 };
 
-/// All shapes.
 pub(crate) const SHAPES: [Shape; 4] = [Shape::PLAIN, FAST, LAST, BOTH];
 
 /// Consumer 0 wins, and consumer 1 loses to it.

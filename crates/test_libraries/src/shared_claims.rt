@@ -246,7 +246,7 @@ fn another_goes_on_where_one_stopped(rt: HostRuntime) -> Result<(), Fail> {
     Ok(())
 }
 
-/// Whether all claims on a cell have come to an end, and name one winner, if any. A loser names another consumer.
+/// Whether all claims on a cell have ended, and name one winner, if any. A loser names another consumer.
 fn name_one_winner(ends: &[Stage]) -> bool {
     let mut winner = None;
     for (consumer, end) in ends.iter().enumerate() {

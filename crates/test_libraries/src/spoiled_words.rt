@@ -1,4 +1,4 @@
-//! Corrupted words: a claim on them comes to an end, with at most the accesses that a claim may make.
+//! Corrupted words: a claim on them ends, with at most the accesses that a claim may make.
 ghost use Rattle.std.specs.Prelude.{◌<◌, ⊤};
 ghost use Rattle.mb_claim.specs.Vocabulary.{consumer_count};
 

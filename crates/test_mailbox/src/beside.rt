@@ -43,7 +43,6 @@ fn put_elsewhere<R: Threads + Sync>(
     put
 }
 
-/// Puts an item.
 fn put_one(
     mailbox: &Mailbox<Global>,
     mut producer: Producer<Global>,

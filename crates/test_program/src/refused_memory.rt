@@ -75,8 +75,8 @@ fn each_growth_of_run_threads_refused(rt: HostRuntime) -> Result<(), Fail> {
         let written = writer.device.as_slice();
         Ok(is_served(&rt, result, RunFault::NoMemory, written, TWO_ITEMS.output))
     })?;
-    // The items and their list, the sources, two lists of the hub and two of each table's words, nine growths of `work`, four
-    // lists of the report, and the text.
+    // The items and their list, the sources, two lists of the hub and two of each table's words, nine allocations of
+    // `work`, four lists of the report, and the text.
     assert!(rt; 23 <= refused);
     Ok(())
 }

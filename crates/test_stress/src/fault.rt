@@ -7,17 +7,12 @@ use test_audit::Flaw;
 /// Why a run failed.
 #[derive(Clone, Copy, PartialEq, Eq, Debug)]
 pub enum Fault {
-    /// The setup was refused.
     Setup,
     /// `work` was refused with this fault. All that it had given was taken in, with its lanes ended.
     Work(WorkFault),
-    /// Memory ran out.
     NoMemory,
-    /// There was no report.
     NoReport,
-    /// The report has this flaw.
     Report(Flaw),
-    /// A lane has not ended.
     NotEnded,
     /// A lane's items are not the first ones of its list.
     OtherItems,
@@ -27,7 +22,7 @@ pub enum Fault {
     FullTooEarly,
     /// A worker was stopped at an open gate.
     Stopped,
-    /// A consumer that was not stopped has not come to an item.
+    /// A consumer that was not stopped has no note on some item.
     NotMet,
     /// A claim is under way, though each poll had a budget for a whole item.
     Spent,

@@ -10,7 +10,6 @@ use rand_core::Rng;
 /// Who is stopped at the gate.
 #[derive(Clone, Copy, PartialEq, Eq, Debug)]
 pub enum Stops {
-    /// Nobody.
     Nobody,
     /// Any worker, at one call in this many.
     Anybody(u64),

@@ -15,7 +15,6 @@ pub struct Totals {
 }
 
 impl Totals {
-    /// The totals of no run.
     pub fn none() -> Totals {
         Totals {
             runs: 0,

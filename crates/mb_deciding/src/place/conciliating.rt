@@ -258,8 +258,8 @@ impl ConciliatorPlace {
         Some(Self::met(values, input, seen))
     }
 
-    /// The output of a process with this input that loaded `seen`: the value of that word, or its own input if `seen`
-    /// stands for no value.
+    /// The output of a process with this input that loaded `seen`: the value that this means, or its own input if it
+    /// means no value.
     #[inline(always)]
     fn met(values: u32, input: u32, seen: u64) -> Out
         requires { input < values }

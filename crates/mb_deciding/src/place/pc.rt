@@ -50,7 +50,7 @@ impl Next {
         }
     }
 
-    /// The output, if the process has come to it.
+    /// The output, if the process has it.
     #[inline(always)]
     pub(crate) fn out(self) -> Option<Out>
         ensures { result ≡ out_of self }

@@ -45,7 +45,6 @@ pub trait Machine {
 /// A ratifier over a quorum table.
 #[derive(Drop)]
 pub struct RatifierMachine<Q: Quorums + Drop> {
-    /// The table.
     pub table: Q,
 }
 
@@ -74,7 +73,7 @@ impl<Q: Quorums + Drop> Machine for RatifierMachine<Q> {
     ghost lawful = { λ m. Q.lawful m.table };
 }
 
-/// A conciliator. It has no table, so any table of `values` values stands for it.
+/// A conciliator. It has no table, so any table of `values` values will do.
 #[derive(Clone, Copy, Debug)]
 pub struct ConciliatorMachine {
     /// How many values there are.
