@@ -1,4 +1,5 @@
-//! Mailboxes that threads can share, under one thread: a producer fills one, and then each consumer polls it to its end.
+//! Mailboxes that threads can share, used by one thread. A producer fills one, and then each consumer polls it to its
+//! end.
 ghost use Rattle.mb_mailbox.specs.Consumers.{IsConsumerOf};
 ghost use Rattle.mb_mailbox.specs.Hubs.{IsHubOf};
 ghost use Rattle.mb_mailbox.specs.Producers.{IsProducerOf};

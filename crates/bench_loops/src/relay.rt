@@ -1,4 +1,4 @@
-//! A mailbox that threads can share, under one thread: each item is put, and polled before the next one is put.
+//! A mailbox that threads can share, used by one thread. Each item is put, and polled before the next one is put.
 ghost use Rattle.mb_mailbox.specs.Consumers.{IsConsumerOf};
 ghost use Rattle.mb_mailbox.specs.Producers.{IsProducerOf};
 

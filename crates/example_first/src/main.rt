@@ -18,7 +18,7 @@ fn main(rt: HostRuntime) -> Result<()> {
     let mut one = hub.consumer(rt.alloc(), &mailbox)?;
     let mut two = hub.consumer(rt.alloc(), &mailbox)?;
 
-    // Each of the three may be in a thread of its own; here one comes after the other. Lane 0 is the first producer's.
+    // Each of the three may run in a thread of its own. Here one comes after the other. Lane 0 is the first producer's.
     let put = producer.put(&mailbox, 7);
     let first = one.poll(&mailbox, 0, 1000, &mut source);
     let second = two.poll(&mailbox, 0, 1000, &mut source);

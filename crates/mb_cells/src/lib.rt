@@ -18,10 +18,10 @@
 //!
 //! - [`Lane`] is the place of a producer. [`Lane::next_push`] returns its next store, and [`Lane::pushed`] goes on
 //!   after that. [`Cursor`] is where a reader stands. They hold no words, so they serve threads too.
-//! - [`Pool`] has all words and lanes under one caller, and makes each access itself. - [`laws`] has what holds of
-//!   every lawful history of a pool, for all orders of accesses, and of every list of calls. [`steps`] has what
-//!   builders of worlds and tables need. [`examples`] shows what each definition admits and refuses. All are contracts
-//!   of functions that compute nothing.
+//! - [`Pool`] has all words and lanes under one caller, and makes each access itself.
+//! - [`laws`] has what holds of every lawful history of a pool, for all orders of accesses, and of every list of calls.
+//!   [`steps`] has what builders of worlds and tables need. [`examples`] shows what each definition admits and refuses.
+//!   All are contracts of functions that compute nothing.
 #![tactic(auto)]
 
 mod access;

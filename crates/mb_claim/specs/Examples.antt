@@ -1,5 +1,5 @@
--- Histories of claims on one cell, for two consumers and one pair over the unary table: some that are lawful, and
--- some that are not. And runs of them.
+-- Histories of claims on one cell, for two consumers and one pair over the unary table. Some are lawful, and some are
+-- not. And runs of such claims.
 use Rattle.std.specs.Prelude.{ℕ, List, [], ◌∷◌}
 use Rattle.mb_quorum.specs.Unary.{unary_table}
 use Rattle.mb_claim.specs.declared.run.ClaimEntry.TheVariants as entry

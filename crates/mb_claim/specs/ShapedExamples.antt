@@ -1,5 +1,5 @@
--- Histories of claims on one cell, for two consumers and one pair over the unary table, with a fast path or a last object:
--- some that are lawful, and some that are not.
+-- Histories of claims on one cell, for two consumers and one pair over the unary table, with a fast path, a last object
+-- or both. Some are lawful, and some are not.
 use Rattle.std.specs.Prelude.{ℕ, Bool, List, [], ◌∷◌}
 use Rattle.mb_quorum.specs.Unary.{unary_table}
 use Rattle.mb_claim.specs.AllClaims.{Claims, claims_of}
@@ -8,7 +8,7 @@ use Rattle.mb_claim.specs.Types.{ClaimAccess}
 use Rattle.mb_claim.specs.Rows.{row_of}
 use Rattle.mb_claim.specs.Examples.{access_at, both_undecided}
 
--- the claims of two consumers on one cell with one pair over the unary table, and what this shape has beside it
+-- the claims of two consumers on one cell of this shape, with one pair over the unary table
 abbrev pub two_with : Bool → Bool → Claims
 two_with fast last = claims_of (unary_table 2) (row_of (record { fast = fast; last = last }) 2 1) 1
 

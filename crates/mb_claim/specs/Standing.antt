@@ -25,7 +25,7 @@ pub record StandsAt (t : QuorumTable) (kinds : List Kind) (c object : ℕ) (pc :
   -- its steps on the objects before, and its turns on its own
   pub front : List ObjectTurn
   pub turns : List Turn
-  -- its input there: what the objects before made of its number, none of which has decided
+  -- its input there: the last output of the objects before, or its own number if there are none
   pub input : ℕ
   -- the objects are these, and its own has the number
   pub order : kinds ≡ before ++ kind ∷ after

@@ -9,7 +9,7 @@ use Rattle.mb_claim.specs.History.{left_at}
 use Rattle.mb_claim.specs.Claiming.{IsClaimLawful}
 use Rattle.mb_claim.specs.Layouts.{words_in, address_in, IsWordIn}
 
--- the words at the addresses of the claims are those that a lawful history leaves; other words may follow
+-- the words at the addresses of the claims are those that a lawful history leaves. Other words may follow
 pub record IsMemoryOf (cs : Claims) (words : List ℕ) (h : List ClaimAccess) : Type 0 where
   -- the history is lawful
   pub lawful : IsClaimLawful cs h

@@ -20,10 +20,10 @@
 //! - [`Claim`] is the claim of one consumer on one cell. [`Claim::next`] returns its next access, and [`Claim::after`]
 //!   the [`Stage`] that this leads to. It holds no words, so it serves a simulation and threads alike.
 //! - [`ClaimWords`] has the words of some cells in one block, and makes the next access of a claim there.
-//! - [`play`] runs the claims of all consumers on one cell, step by step. - [`laws`] has what holds of every lawful
-//!   history of claims, for all orders of accesses and all random words, and of every layout and run. [`steps`] has
-//!   what one access more changes, for callers that keep words and histories of their own. [`examples`] has small
-//!   histories and runs. All are contracts of functions that compute nothing.
+//! - [`play`] runs the claims of all consumers on one cell, step by step.
+//! - [`laws`] has what holds of every lawful history of claims, for all orders of accesses and all random words, and of
+//!   every layout and run. [`steps`] has what one access more changes, for callers that keep words and histories of
+//!   their own. [`examples`] has small histories and runs. All are contracts of functions that compute nothing.
 #![tactic(auto)]
 
 mod access;

@@ -33,10 +33,11 @@
 //!
 //! - [`Pc`] is the place of one process in an object. [`Pc::next`] returns its next access, and [`Pc::after`] what that
 //!   leads to. It holds no words, so it serves a simulation and threads alike.
-//! - [`ratify`] and [`conciliate`] run one object for a whole schedule of turns. - [`laws`] has what holds of every
-//!   lawful history of one object, for all orders of accesses and all random words: validity, coherence, acceptance and
-//!   more. These are contracts of functions that compute nothing. [`steps`] is for proofs that build histories step by
-//!   step. [`examples`] has small histories and traces that the definitions admit or refuse.
+//! - [`ratify`] and [`conciliate`] run one object for a whole schedule of turns.
+//! - [`laws`] has what holds of every lawful history of one object, for all orders of accesses and all random words:
+//!   validity, coherence, acceptance and more. These are contracts of functions that compute nothing. [`steps`] is for
+//!   proofs that build histories step by step. [`examples`] has small histories and traces that the definitions admit
+//!   or refuse.
 #![tactic(auto)]
 
 mod access;

@@ -6,7 +6,7 @@ pub enum Kind {
     /// The impatient first-mover conciliator. On attempt k, a process that finds the word empty stores its input if the
     /// random word, modulo 2^s, is below 2^k. On attempt s it always does.
     Conciliator {
-        /// The last attempt, at most 63; the first is attempt 0.
+        /// The number of the last attempt, at most 63. The first is attempt 0.
         s: u32,
     },
     /// A ratifier over a quorum table.

@@ -42,9 +42,9 @@ pub struct Trace<A: Allocator + Drop> {
 pub enum Fault {
     /// The number of values is out of range.
     BadValues,
-    /// The input at this place is not below the number of values; it is the first such.
+    /// The input at this place is the first that is not below the number of values.
     BadInput(usize),
-    /// The schedule has at this place a process without an input; it is the first such.
+    /// The turn at this place is the first of a process without an input.
     NoSuchProcess(usize),
     /// Memory ran out.
     NoMemory,

@@ -163,12 +163,12 @@ others_have (suc k) n (suc i) fits within =
     ∙ ap (λ d. 1 - d) (sym (bit_at-suc n i))
 
 -- ---- how many registers
--- one register more, and no fewer sets
+-- one register more gives no fewer sets
 more_sets : (n h : ℕ) → choose n h ≤ choose (suc n) h
 more_sets n zero = omega arith
 more_sets n (suc h) = omega arith
 
--- one more in the set, too
+-- one register more, with one more in the set, gives no fewer sets
 more_in_sets : (n h : ℕ) → choose n h ≤ choose (suc n) (suc h)
 more_in_sets n h = omega arith
 
@@ -297,13 +297,13 @@ least_so_far m n enough smaller =
     })
     (breadth_is_least m)
 
--- there are no more sets than masks
+-- there are at most as many sets as masks
 pub few_sets : (n h : ℕ) → choose n h ≤ 2 ^ n
 few_sets n zero = omega (arith, pow_pos n)
 few_sets zero (suc h) = omega arith
 few_sets (suc n) (suc h) = omega (arith, few_sets n (suc h), few_sets n h, double n)
 
--- 64 values need no more than 8 registers
+-- 64 values need at most 8 registers
 pub breadth_small : (m : ℕ) → m ≤ 64 → breadth_of m ≤ 8
 breadth_small m most =
     let all : halves 8 ≡ 70 = refl in

@@ -1,5 +1,5 @@
-//! What the rule of a table says, and that each kind of step keeps it. The functions compute nothing: their contracts are
-//! the laws.
+//! What the rule of a table says, and the law that each kind of step keeps it. The functions compute nothing: their
+//! contracts are the laws.
 //!
 //! Between any two steps of any seats, the words and the views of a table are a state of the claims. The rule of each
 //! table says so: [`ClaimsRule`](crate::rule::ClaimsRule). It is checked at each step.

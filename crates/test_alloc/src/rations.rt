@@ -4,8 +4,8 @@ ghost use Rattle.std.specs.Prelude.{◌≡◌};
 use crate::book::{Book, Refuse};
 use std::alloc::{AllocError, Allocator};
 
-/// An allocator over another one, which refuses chosen requests itself. A `&` to it is the handle that collections hold,
-/// in one thread or in many.
+/// An allocator over another one. It refuses chosen requests itself. Collections hold a `&` to it, in one thread or in
+/// many.
 #[derive(Drop)]
 pub struct Rations<B: Allocator> {
     inner: B,

@@ -119,7 +119,8 @@ fn two_consumers_and_three_pairs(rt: HostRuntime) -> Result<(), Fail> {
 #[test]
 fn most_accesses_of_eight_pairs(rt: HostRuntime) -> Result<(), Fail> {
     for (consumers, name, most) in [
-        // Each pair is a conciliator of 5 + 3 accesses at most and a ratifier of 4 + 2 + 4, or over the unary table 1 + 2 + 15.
+        // Each pair is a conciliator of at most 5 + 3 accesses and a ratifier of 4 + 2 + 4, or 1 + 2 + 15 over the
+        // unary table.
         (16, TableName::Bits, 144),
         (16, TableName::Unary, 208),
         // A conciliator of 7 + 3 accesses at most and a ratifier of 6 + 2 + 6, 1 + 2 + 63 or 4 + 2 + 4.

@@ -90,8 +90,8 @@ fn world_is_served<'a>(rt: &impl Abort, alloc: Alloc<'a>, ample: Alloc<'a>) -> R
 fn each_growth_of_a_world_and_its_report_refused(rt: HostRuntime) -> Result<(), Fail> {
     let ample = Rations::new(rt.alloc(), Refuse::Never);
     let refused = growths_refused(&rt, |alloc| world_is_served(&rt, alloc, &ample))?;
-    // The four lists of the pool, the words of the claims, the seats and the notes; then the lane and its item, the diary
-    // and its note, and the cells of the lane that is read.
+    // The four lists of the pool, the words of the claims, the seats and the notes. Then the lane and its item, the
+    // diary and its note, and the cells of the lane that is read.
     assert!(rt; 12 <= refused);
     same(&rt, &ample.out(), &0);
     Ok(())

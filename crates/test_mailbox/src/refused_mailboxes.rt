@@ -175,8 +175,8 @@ diary 0 0 took 7
 ",
             4,
         ),
-        // The lanes, the items of each and the item left; the diaries, and the notes of two. Consumer 0 takes the item
-        // of lane 0, and consumer 1 loses it. Consumer 1 begins a claim on the item of lane 1, which has ended.
+        // The lanes, the items of each, the item left, the diaries, and the notes of two. Consumer 0 takes the item of
+        // lane 0, and consumer 1 loses it. Consumer 1 begins a claim on the item of lane 1, which has ended.
         (
             [2, 2, 2],
             "\

@@ -52,8 +52,8 @@ fn each_growth_of_ratify_text_refused(rt: HostRuntime) -> Result<(), Fail> {
 
 #[test]
 fn each_growth_of_run_refused(rt: HostRuntime) -> Result<(), Fail> {
-    // The script's bytes and its events, seven lists of the world, four or five of its report, its lane's cells for the lane
-    // and for each diary, and the text.
+    // The script's bytes and its events, seven lists of the world, four or five of its report, and the text. The cells
+    // of the lane come once for the lane and once for each diary.
     for (example, growths) in [(ITEM_TAKEN, 16), (ONE_LOSES, 18)] {
         let refused = growths_refused(&rt, |alloc| {
             let mut reader = Counting::new(example.input.as_bytes());
