@@ -56,9 +56,9 @@ fn setup_of(wanted: &SetupIn) -> Result<Setup, u32>
     }
 }
 
-/// Makes a mailbox of this setup, and its hub. No other mailbox of the process may have the number `id`. If `hub` leads
-/// to something already, it returns `BAD_HANDLE`. Else it returns the code of the first fault of the setup, or
-/// `NO_MEMORY`.
+/// Makes a mailbox of this setup, and its hub. No other mailbox of the process may have the number `id`. It returns
+/// `BAD_HANDLE` if `hub` leads to something already, and else the code of the first fault of the setup. If there is
+/// none, it returns `NO_MEMORY` if memory ran out. After each of these nothing has changed.
 #[unsafe(no_mangle)]
 pub extern "C" fn hz_mailbox_new(alloc: Global, id: u64, setup: &SetupIn, hub: &mut Handle) -> u32
     ensures made { result ≡ DONE → (name : TableName) → table_numbered setup.now.table ≡ Some name

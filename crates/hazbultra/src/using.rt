@@ -88,7 +88,8 @@ pub extern "C" fn hz_finish(producer: &mut Handle) -> u32
 }
 
 /// Polls a lane, with at most `budget` accesses. `value` becomes the item taken, or the number of the consumer to which
-/// it is lost. The code is that of the answer, or `BAD_HANDLE` if the handle leads to no consumer.
+/// it is lost. It is not written otherwise. The code is that of the answer, or `BAD_HANDLE` if the handle leads to no
+/// consumer.
 #[unsafe(no_mangle)]
 pub extern "C" fn hz_poll(consumer: &mut Handle, lane: u64, budget: u64, value: &mut u64) -> u32
     // The answer is that of the poll, with the next words of the consumer's source.

@@ -110,7 +110,7 @@ impl Claim {
     }
 
     /// Makes accesses, each with a random word drawn for it, until the claim has ended or `most` were made. Returns how
-    /// many. They are those of as many calls of [`Claim::step`]. It goes straight through each object.
+    /// many. They are those of as many calls of [`Claim::step`]. The call goes straight through each object.
     #[inline(always)]
     pub fn run<M: Drawing>(&mut self, layout: &Layout, memory: &mut M, most: u64) -> u64
         requires fits { FitsLayout layout.now self.old }

@@ -9,9 +9,9 @@ pub trait Memory {
     /// This access to the object with this number may be made.
     ghost can_make: { Self → ℕ → Op → Type 0 };
 
-    /// It was made and found this value, which is any if the access only stores. The last argument is the memory after
-    /// it. A memory has to say here what a load or an exchange found: all that a step promises of the place after it
-    /// follows from that.
+    /// It was made and found this value, which may be any if the access only stores. The last argument is the memory
+    /// after it. A memory has to say here what a load or an exchange found: all that a step promises of the place after
+    /// it follows from that.
     ghost makes: { Self → ℕ → Op → ℕ → Self → Type 0 };
 
     /// Makes the access. Returns the value that a load or an exchange finds, and any value after a store.
