@@ -1,4 +1,5 @@
-//! Mailboxes that threads can share, under one thread: a producer fills one, and then each consumer polls it to its end.
+//! Mailboxes that threads can share, used by one thread. A producer fills one, and then each consumer polls it to its
+//! end.
 ghost use Rattle.mb_mailbox.specs.Consumers.{IsConsumerOf};
 ghost use Rattle.mb_mailbox.specs.Hubs.{IsHubOf};
 ghost use Rattle.mb_mailbox.specs.Producers.{IsProducerOf};
@@ -10,7 +11,7 @@ use mb_world::Setup;
 use rand_core::Rng;
 use std::alloc::{AllocError, Allocator};
 
-/// So many mailboxes with a producer each, and nothing else. The answer is how many were made.
+/// Makes `choice.times` mailboxes with a producer each, and nothing else. Returns how many were made.
 pub fn mailboxes_alone<A: Allocator + Copy + Drop>(
     alloc: A,
     choice: &Choice,
@@ -29,7 +30,7 @@ pub fn mailboxes_alone<A: Allocator + Copy + Drop>(
     Ok(made)
 }
 
-/// So many mailboxes that are filled, and nothing else. The answer is how many items were put.
+/// Makes and fills `choice.times` mailboxes, and nothing else. Returns how many items were put.
 pub fn puts<A: Allocator + Copy + Drop>(alloc: A, choice: &Choice) -> Result<u64, AllocError> {
     let mut items = 0u64;
     let Some(setup) = setup_of(choice) else {
@@ -45,7 +46,7 @@ pub fn puts<A: Allocator + Copy + Drop>(alloc: A, choice: &Choice) -> Result<u64
     Ok(items)
 }
 
-/// So many mailboxes, one after the other, each filled and then polled to its end by each consumer.
+/// Makes and fills `choice.times` mailboxes, one after the other. Each consumer polls each of them to its end.
 pub fn mailboxes<A: Allocator + Copy + Drop, R: Rng>(
     alloc: A,
     choice: &Choice,
@@ -68,14 +69,14 @@ pub fn mailboxes<A: Allocator + Copy + Drop, R: Rng>(
     Ok(post)
 }
 
-/// The setup of one lane and of the choice's cells, shape and consumers.
+/// The setup with one lane and the choice's cells, shape and consumers.
 pub fn setup_of(choice: &Choice) -> Option<Setup> {
     let consumers = u64::from(choice.layout.consumers());
     let setup = Setup::large(1, consumers, choice.cells, PAIRS, choice.name).ok()?;
     Some(setup.shaped(choice.layout.shape()))
 }
 
-/// Puts an item for each cell, numbered by how many mailboxes came before. The answer is how many were linked.
+/// Puts an item for each cell. Their numbers go on after those of the mailboxes before. Returns how many were linked.
 #[inline(always)]
 fn put_all<A: Allocator + Drop>(
     mailbox: &Mailbox<A>,
@@ -96,7 +97,7 @@ fn put_all<A: Allocator + Drop>(
     linked
 }
 
-/// Each consumer that the hub has left polls the lane until nothing more comes.
+/// Each consumer that the hub can still give polls the lane until nothing more comes.
 fn read_all<A: Allocator + Copy + Drop, R: Rng>(
     alloc: A,
     mailbox: &Mailbox<A>,

@@ -1,4 +1,4 @@
-//! A mailbox that threads can share, under one thread: each item is put, and polled before the next one is put.
+//! A mailbox that threads can share, used by one thread. Each item is put, and polled before the next one is put.
 ghost use Rattle.mb_mailbox.specs.Consumers.{IsConsumerOf};
 ghost use Rattle.mb_mailbox.specs.Producers.{IsProducerOf};
 
@@ -9,7 +9,7 @@ use mb_mailbox::{Consumer, Mailbox, Poll, Producer, Put};
 use rand_core::Rng;
 use std::alloc::{AllocError, Allocator};
 
-/// One mailbox, through which so many items go. Of its consumers one polls.
+/// Passes `choice.times` items through one mailbox. One of its consumers polls.
 pub fn relay<A: Allocator + Copy + Drop, R: Rng>(
     alloc: A,
     choice: &Choice,
@@ -37,7 +37,7 @@ pub fn relay<A: Allocator + Copy + Drop, R: Rng>(
     Ok(post)
 }
 
-/// So many items, from 0 on, from the producer to the consumer.
+/// Passes the items 0 to `items - 1` from the producer to the consumer.
 #[inline(always)]
 fn pass<A: Allocator + Drop, R: Rng>(
     mailbox: &Mailbox<A>,

@@ -6,7 +6,7 @@ ghost use Rattle.hazbultra.specs.Reports.{note_out};
 use crate::crossing::NoteOut;
 use mb_world::Note;
 
-/// What stands from this place on.
+/// What the list has from the place `from` on.
 pub(crate) fn past<T>(all: &[T], from: u64) -> &[T]
     ensures { result.now ≡ drop from all.now }
 {
@@ -17,7 +17,7 @@ pub(crate) fn past<T>(all: &[T], from: u64) -> &[T]
     }
 }
 
-/// Copies as many items as there is room for, and returns how many.
+/// Copies the first items, as many as there is room for in `to`. Returns how many.
 pub(crate) fn copy_items(from: &[u64], to: &mut [u64]) -> u64
     ensures count { result ≡ min (length from.now) (length to.old) }
     ensures items { to.new ≡ take result from.now ++ drop result to.old }
@@ -28,7 +28,7 @@ pub(crate) fn copy_items(from: &[u64], to: &mut [u64]) -> u64
     count as u64
 }
 
-/// The same for notes.
+/// Copies the first notes, as many as there is room for in `to`. Returns how many.
 pub(crate) fn copy_notes(from: &[Note], to: &mut [NoteOut]) -> u64
     ensures count { result ≡ min (length from.now) (length to.old) }
     ensures notes { to.new ≡ take result (map note_out from.now) ++ drop result to.old }
@@ -40,7 +40,8 @@ pub(crate) fn copy_notes(from: &[Note], to: &mut [NoteOut]) -> u64
     count as u64
 }
 
-/// The place of the diary of this consumer on this lane, if there are so many lanes.
+/// The place of the diary of this consumer on this lane, or none if the report has no such lane or the place is no
+/// `u64`.
 pub(crate) fn place_of(lanes: usize, consumer: u64, lane: u64) -> Option<u64>
     ensures { MatchOption result ((lanes ≤ lane) ⊎ (2 ^ 64 ≤ consumer * lanes + lane))
         (λ at. (lane < lanes) × (at ≡ consumer * lanes + lane)) }

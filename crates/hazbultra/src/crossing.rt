@@ -1,18 +1,18 @@
-//! The structs that cross to C. Their fields stand as in `bindings/c/hazbultra.h`.
+//! The structs that C and Rattle share. Their fields are in the order of `bindings/c/hazbultra.h`.
 use crate::codes::{LOST, TOOK, UNDECIDED};
 use mb_world::Note;
 
-/// How large a mailbox is, and what stands in each cell.
+/// How large a mailbox is, and which objects each cell has.
 #[repr(C)]
 #[derive(Clone, Copy)]
 pub struct SetupIn {
-    /// 1 to 16.
+    /// How many producers: 1 to 16.
     pub producers: u64,
-    /// 1 to 64.
+    /// How many consumers: 1 to 64.
     pub consumers: u64,
-    /// 0 to 2^24.
+    /// How many cells: 0 to 2^24.
     pub cells: u64,
-    /// 1 to 8.
+    /// How many pairs each cell has: 1 to 8.
     pub pairs: u64,
     /// The number of a quorum table: unary 0, bits 1, middle 2.
     pub table: u32,
@@ -22,7 +22,7 @@ pub struct SetupIn {
     pub last: bool,
 }
 
-/// Of one lane of a report: how many items were put and left, and whether it has ended.
+/// The numbers of one lane of a report.
 #[repr(C)]
 #[derive(Clone, Copy)]
 pub struct LaneOut {
@@ -34,13 +34,13 @@ pub struct LaneOut {
     pub ended: bool,
 }
 
-/// Of one diary of a report: how many notes it has, and whether the next claim has begun.
+/// The numbers of one diary of a report.
 #[repr(C)]
 #[derive(Clone, Copy)]
 pub struct DiaryOut {
     /// How many notes there are.
     pub notes: u64,
-    /// Whether the claim on the next item has an access.
+    /// Whether the claim on the next item has made an access.
     pub begun: bool,
 }
 
@@ -48,7 +48,7 @@ pub struct DiaryOut {
 #[repr(C)]
 #[derive(Clone, Copy)]
 pub struct NoteOut {
-    /// The item that was taken, or the consumer to whom it is lost, or 0.
+    /// The item that was taken, or the consumer to which it is lost, or 0.
     pub value: u64,
     /// The number of the kind.
     pub kind: u32,
@@ -58,9 +58,7 @@ pub struct NoteOut {
 #[repr(C)]
 #[derive(Clone, Copy)]
 pub struct MissingOut {
-    /// So many producers.
     pub producers: u32,
-    /// So many consumers.
     pub consumers: u32,
 }
 

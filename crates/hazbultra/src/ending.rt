@@ -20,7 +20,8 @@ use mb_mailbox::GatherFault;
 use std::alloc::Global;
 use std::mem;
 
-/// Takes a producer or a consumer back, whose handle leads to nothing then.
+/// Takes a producer or a consumer back. Its handle leads to nothing then. It returns `BAD_HANDLE` if a handle leads to
+/// something else, and `OTHER_MAILBOX` if the two mailboxes have different numbers. Then nothing changes.
 #[unsafe(no_mangle)]
 pub extern "C" fn hz_take_back(hub: &mut Handle, part: &mut Handle) -> u32
     requires { AreApart hub.old.block.thing part.old.block.thing }
@@ -46,7 +47,7 @@ pub extern "C" fn hz_take_back(hub: &mut Handle, part: &mut Handle) -> u32
     code
 }
 
-/// The same for a hub that is opened.
+/// Takes back what the handle leads to, with the same codes.
 fn take_back(hub: &mut BoundHub<Global>, part: &mut Handle) -> u32
     requires { IsApartFrom hub.old part.old.block.thing }
     ensures taken { result ≡ DONE → HasTakenBack hub.old part.old.block.thing hub.new }
@@ -81,7 +82,9 @@ fn take_back(hub: &mut BoundHub<Global>, part: &mut Handle) -> u32
     code
 }
 
-/// Ends the mailbox. The box of its hub is the report's then.
+/// Ends the mailbox. The report takes over the box of its hub. It returns `BAD_HANDLE` if `hub` leads to no hub or
+/// `report` to something already. It returns `MISSING`, and writes the counts, if something is still out, and
+/// `NO_MEMORY` if memory ran out. Then the hub stays as it was.
 #[unsafe(no_mangle)]
 pub extern "C" fn hz_gather(
     alloc: Global,
@@ -135,7 +138,7 @@ pub extern "C" fn hz_gather(
     code
 }
 
-/// The code of a refusal, whose counts are written.
+/// Writes the counts of a refusal, and returns its code.
 fn tell(why: GatherFault, missing: &mut MissingOut) -> u32
     ensures missing { result ≡ MISSING
         → why ≡ Missing missing.new.producers missing.new.consumers }
@@ -155,8 +158,8 @@ fn tell(why: GatherFault, missing: &mut MissingOut) -> u32
     }
 }
 
-/// Frees what the handle leads to, which leads to nothing then. It returns nothing. No clause says
-/// that the memory goes back to the allocator: the tests in C count the blocks that are out.
+/// Frees what the handle leads to. The handle leads to nothing then. No clause says that the memory goes back to the
+/// allocator: the tests in C count the blocks that are out.
 #[unsafe(no_mangle)]
 pub extern "C" fn hz_free(handle: &mut Handle)
     ensures { handle.new.block.thing ≡ None }

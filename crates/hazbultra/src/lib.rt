@@ -1,5 +1,5 @@
-//! The mailbox for C, and for whatever can call C. `bindings/c/hazbultra.h` says what each call does
-//! and what its caller owes.
+//! The mailbox for C, and for languages that can call C. `bindings/c/hazbultra.h` says what each call does and what its
+//! caller has to keep to.
 //!
 //! Each call is an export over `mb_bound`. A handle is the address of a box, and leads to a hub, a
 //! producer, a consumer, a report or nothing. A call opens it, does its work, and closes it again, so

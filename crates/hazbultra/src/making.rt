@@ -56,7 +56,9 @@ fn setup_of(wanted: &SetupIn) -> Result<Setup, u32>
     }
 }
 
-/// A mailbox of this setup and its hub. No other mailbox of the process has its number.
+/// Makes a mailbox of this setup, and its hub. No other mailbox of the process may have the number `id`. It returns
+/// `BAD_HANDLE` if `hub` leads to something already, and else the code of the first fault of the setup. If there is
+/// none, it returns `NO_MEMORY` if memory ran out. After each of these nothing has changed.
 #[unsafe(no_mangle)]
 pub extern "C" fn hz_mailbox_new(alloc: Global, id: u64, setup: &SetupIn, hub: &mut Handle) -> u32
     ensures made { result ≡ DONE → (name : TableName) → table_numbered setup.now.table ≡ Some name
@@ -88,8 +90,8 @@ pub extern "C" fn hz_mailbox_new(alloc: Global, id: u64, setup: &SetupIn, hub: &
     DONE
 }
 
-/// The producer of the next lane. Its box is made before it, so a refusal for memory gives no number
-/// away.
+/// Makes the producer of the next lane. It returns `BAD_HANDLE` if `hub` leads to no hub or `producer` to something
+/// already, `ALL_GIVEN` if each lane's producer was given, and `NO_MEMORY` if memory ran out. Then nothing changes.
 #[unsafe(no_mangle)]
 pub extern "C" fn hz_producer_new(alloc: Global, hub: &mut Handle, producer: &mut Handle) -> u32
     ensures given { result ≡ DONE
@@ -125,7 +127,7 @@ pub extern "C" fn hz_producer_new(alloc: Global, hub: &mut Handle, producer: &mu
     code
 }
 
-/// The same for a hub that is opened.
+/// The same for an opened hub. It makes the box first, so that no number is lost if memory runs out.
 fn give_producer(alloc: Global, hub: &mut BoundHub<Global>, producer: &mut Handle) -> u32
     ensures given { result ≡ DONE → ProducerMade (λ p. p ≡ record {
       id = hub.old.id;
@@ -155,7 +157,9 @@ fn give_producer(alloc: Global, hub: &mut BoundHub<Global>, producer: &mut Handl
     }
 }
 
-/// The consumer of the next number, with the random words of ChaCha8 from this seed and stream.
+/// Makes the consumer of the next number, with the random words of ChaCha8 from this seed and stream. It returns
+/// `BAD_HANDLE` if `hub` leads to no hub or `consumer` to something already, `ALL_GIVEN` if all consumers were given,
+/// and `NO_MEMORY` if memory ran out. Then nothing changes.
 #[unsafe(no_mangle)]
 pub extern "C" fn hz_consumer_new(
     alloc: Global,
@@ -198,7 +202,7 @@ pub extern "C" fn hz_consumer_new(
     code
 }
 
-/// The same for a hub that is opened.
+/// The same for an opened hub. It makes the box first, so that no number is lost if memory runs out.
 fn give_consumer(
     alloc: Global,
     hub: &mut BoundHub<Global>,

@@ -1,4 +1,5 @@
-//! The calls that read a report.
+//! The calls that read a report. They return `BAD_HANDLE` exactly if the handle leads to no report, and `NOT_THERE` if
+//! the report has no such lane or diary. Then nothing is written.
 ghost use Rattle.std.specs.Prelude.{ℕ, ◌≡◌, ◌≢◌, ◌↔◌, ◌⊎◌, ◌++◌, ◌≤◌, MatchOption, None, Some};
 ghost use Rattle.std.specs.Prelude.{drop, length, map, min, slice_get, take};
 ghost use Rattle.mb_world.specs.Report.{DiaryView, LaneView, diary};
@@ -23,7 +24,7 @@ fn diary_at(report: &Report<Global>, consumer: u64, lane: u64) -> Option<&Diary<
     report.diaries.as_slice().get(at as usize)
 }
 
-/// How many lanes a report has, and how many consumers.
+/// Writes how many lanes a report has, and how many consumers.
 #[unsafe(no_mangle)]
 pub extern "C" fn hz_report_size(report: &mut Handle, lanes: &mut u64, consumers: &mut u64) -> u32
     ensures lanes { result ≡ DONE → ReportHas (λ r. lanes.new ≡ length r.lanes)
@@ -51,7 +52,7 @@ pub extern "C" fn hz_report_size(report: &mut Handle, lanes: &mut u64, consumers
     code
 }
 
-/// The numbers of one lane.
+/// Writes the numbers of one lane.
 #[unsafe(no_mangle)]
 pub extern "C" fn hz_report_lane(report: &mut Handle, lane: u64, out: &mut LaneOut) -> u32
     ensures told { result ≡ DONE → ReportHas (λ r. (l : LaneView)
@@ -85,7 +86,7 @@ pub extern "C" fn hz_report_lane(report: &mut Handle, lane: u64, out: &mut LaneO
     code
 }
 
-/// The numbers of one diary.
+/// Writes the numbers of one diary.
 #[unsafe(no_mangle)]
 pub extern "C" fn hz_report_diary(
     report: &mut Handle,
@@ -123,7 +124,8 @@ pub extern "C" fn hz_report_diary(
     code
 }
 
-/// Copies items of a lane from a place on.
+/// Copies items of a lane from the place `from` on, as many as there is room for: those left if `left` is true, and
+/// else those put.
 #[unsafe(no_mangle)]
 pub extern "C" fn hz_report_items(
     report: &mut Handle,
@@ -163,7 +165,7 @@ pub extern "C" fn hz_report_items(
     code
 }
 
-/// Copies notes of a diary from a place on.
+/// Copies notes of a diary from the place `from` on, as many as there is room for.
 #[unsafe(no_mangle)]
 pub extern "C" fn hz_report_notes(
     report: &mut Handle,

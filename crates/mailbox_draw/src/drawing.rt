@@ -50,7 +50,7 @@ fn read_and_draw_replay<A: Allocator + Copy, R: Source, W: Sink>(
     Ok(())
 }
 
-/// The same of a ratifier script.
+/// Reads a ratifier script to its end, and writes its picture. The whole picture is made before the first write.
 pub fn draw_ratify<A: Allocator + Copy, R: Source, W: Sink>(
     alloc: A,
     reader: &mut R,
@@ -73,7 +73,7 @@ fn read_and_draw_ratify<A: Allocator + Copy, R: Source, W: Sink>(
     Ok(())
 }
 
-/// The status of a drawing that came to its end so. The line of its fault, if it has one, goes to `errors`.
+/// The program's status after this result. If there is a fault, its line goes to `errors`.
 pub fn end_with<A: Allocator + Copy, E: Sink>(
     alloc: A,
     drawn: Result<(), Failed>,
@@ -88,7 +88,7 @@ pub fn end_with<A: Allocator + Copy, E: Sink>(
     status_of(&failed)
 }
 
-/// Writes how the program is used: the status of that.
+/// Writes how the program is used. Returns the status.
 pub fn tell<W: Sink>(writer: &mut W) -> u8 {
     match write_all(writer, USAGE.as_bytes()) {
         Ok(()) => DONE,

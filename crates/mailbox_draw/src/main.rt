@@ -1,6 +1,6 @@
 //! Draws a replay or a ratifier: a script in, and a picture of it out, as SVG.
 //!
-//! [`drawing`] does what a command asks over a reader and a writer. The picture is made by `mb_picture`.
+//! [`drawing`] does what a command asks, over a reader and a writer. `mb_picture` makes the picture.
 #![tactic(auto)]
 
 mod asked;

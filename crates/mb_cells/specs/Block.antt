@@ -17,7 +17,7 @@ address_of size (Head p) = 1 + p
 address_of size (Link k) = 1 + size.lanes + k
 address_of size (Item k) = 1 + size.lanes + size.cells + k
 
--- the words at their addresses are those that a lawful history leaves; other words may follow
+-- the words at their addresses are those that a lawful history leaves. Other words may follow
 pub record IsMemoryOf (size : PoolSize) (words : List ℕ) (h : History) : Type 0 where
   pub lawful : IsPoolLawful size h
   pub room : words_of size ≤ length words
@@ -29,7 +29,7 @@ pub record IsStateOf (size : PoolSize) (words : List ℕ) (parts : Process → H
   pub memory : IsMemoryOf size words h
   pub same : (who : Process) → parts who ≡ part who h
 
--- the block after an access: what it stores stands at its address
+-- the block after an access: what the access stores is at its address
 abbrev pub block_after : PoolSize → PoolAccess → List ℕ → List ℕ
 block_after size a words =
     slice_set words (address_of size a.word)

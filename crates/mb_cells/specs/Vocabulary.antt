@@ -1,4 +1,4 @@
--- The words of clauses, here and in the crates above. The phases of `Place` stand there alone.
+-- The names that clauses use, here and in the crates above. The phases of `Place` are in that module alone.
 pub use Rattle.mb_cells.specs.Types.{Counter, Cursor, END, FetchAdd, Finish, Head, Item, Lane, LaneStage, Link, Load, Look, Offer, PoolAccess, PoolAct, Process, Producer, Push, Reader, Store, Word}
 pub use Rattle.mb_cells.specs.Size.{PoolSize, pool_size}
 pub use Rattle.mb_cells.specs.Memory.{Has, History, IsMemoryTrue, ReadsLast, fetch_adds_on, is_fetch_add, is_same_process, is_same_word, loaded_by, part, stored_by, value_in}

@@ -1,4 +1,4 @@
--- What crates above name in their clauses and proofs.
+-- The definitions that the crates above use in clauses and proofs.
 pub use Rattle.mb_claim.specs.AllClaims.{claims_of, IsSound, Claims}
 pub use Rattle.mb_claim.specs.History.{step_by, part_on, access_by, part, access_on, object_history, part_at, left_at}
 pub use Rattle.mb_claim.specs.History.{IsMemoryTrue, AreInWords, on_cell}

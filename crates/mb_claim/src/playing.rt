@@ -1,4 +1,4 @@
-//! Claims of all consumers on one cell, step by step.
+//! The call that runs the claims of all consumers on one cell.
 ghost use Rattle.std.specs.Prelude.{◌≡◌, ◌≢◌, ◌<◌, ◌≤◌, ℕ, All, IfOk, IfErr, Err, MatchOption, length};
 ghost use Rattle.std.specs.Prelude.{slice_index_or, true};
 ghost use Rattle.mb_claim.specs.{NoConsumer, NoMemory, IsPlayed, HasOneWinner, history_of, part_on, stranger_in};
@@ -10,11 +10,10 @@ use crate::layout::Layout;
 use crate::run::{ClaimRun, PlayFault};
 use std::alloc::{AllocError, Allocator};
 
-/// Runs the claims of all consumers on one cell: each pair of the steps is a step of a consumer with its random
-/// word. A step of a consumer whose claim has come to its end makes no access.
+/// Runs the claims of all consumers on one cell. Each pair of `steps` is a step of a consumer with its random word. A
+/// step of a consumer whose claim has ended makes no access.
 ///
-/// It is refused with `NoConsumer` if a step is of no consumer of the layout, and else with `NoMemory` if a
-/// growth was refused.
+/// The error is `NoConsumer` if a step is of no consumer of the layout, and else `NoMemory` if memory ran out.
 pub fn play<A: Allocator + Copy + Drop>(
     alloc: A,
     layout: &Layout,
@@ -60,7 +59,7 @@ fn played<A: Allocator + Copy + Drop>(
     board.finish(alloc)
 }
 
-/// The least place of a step of a consumer that is not below the bound.
+/// The least place of a step whose consumer is not below `consumers`.
 fn stranger(steps: &[(u64, u64)], consumers: u32) -> Option<usize>
     ensures { result ≡ stranger_in consumers steps.now }
 {

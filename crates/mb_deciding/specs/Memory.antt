@@ -22,8 +22,8 @@ word_of words Last = words.last
 abbrev pub IsMemory : Words → List Access → Type 0
 IsMemory words h = (reg : Reg) → IsReg reg → word_of words reg ≡ value_in reg h
 
--- the access was made to the words and found this value; whatever history they were of, they are then of that with the
--- access
+-- the access was made to the words and found this value. For each history that the words fit before, they fit that
+-- history with the access after it
 pub record IsAccess (words : Words) (op : Op) (seen : ℕ) (after : Words) : Type 0 where
   pub memory :
       (h : List Access) → IsMemory words h → (p word : ℕ)

@@ -1,5 +1,5 @@
--- The definitions that crates above name in their clauses and proofs. They take the types from `specs.declared`, since
--- another crate cannot name a type that a module here passes on.
+-- The definitions that the crates above use in clauses and proofs. Types they take from `specs.declared`, since another
+-- crate cannot name a type that a module here passes on.
 pub use Rattle.mb_deciding.specs.History.{is_same_reg, reg_of_act, loaded_by, stored_by, value_after, value_in}
 pub use Rattle.mb_deciding.specs.History.{ReadsLast, IsMemoryTrue, IsSameOp, IsActInWords, IsInWords, AreInWords}
 pub use Rattle.mb_deciding.specs.History.{turn_by, part, acts, Has}

@@ -33,7 +33,7 @@ impl Pc {
         Pc::InRatifier(RatifierPlace::Begin { input })
     }
 
-    /// The same place with the registers of the input's write quorum, for who has the table.
+    /// The same place, with the registers of the input's write quorum already taken from the table.
     #[inline(always)]
     pub fn announcing<Q: Quorums>(q: &Q, input: u32) -> Pc
         requires { input < (Q.table q.now).values }
@@ -71,7 +71,7 @@ impl Pc {
         Pc::InLast(LastPlace { input })
     }
 
-    /// The access that comes next.
+    /// The access that the process makes next.
     #[inline(always)]
     pub fn next<Q: Quorums>(self, q: &Q) -> Op
         requires { IsPlace (Q.table q.now) self }
@@ -84,15 +84,15 @@ impl Pc {
         }
     }
 
-    /// What the access leads to. `seen` is the value that a load or an exchange found, and counts for nothing after a
-    /// store. The random `word` counts after a load of a conciliator's word alone. After a value that the word cannot hold
-    /// the result is still a place of the table or one of its values.
+    /// What the access leads to. `seen` is the value that a load or an exchange found. It does not count after a store.
+    /// The random `word` counts only after a load of a conciliator's word. If the word cannot hold `seen`, the result
+    /// is still a place of the table or one of its values.
     #[inline(always)]
     pub fn after<Q: Quorums>(self, q: &Q, seen: u64, word: u64) -> Next
         requires { IsPlace (Q.table q.now) self }
         ensures fits { IsNext (Q.table q.now) result }
 
-        // It can make fewer accesses from there, whatever it loaded: so it comes to an end.
+        // Fewer accesses are left from there, whatever it loaded. So the process ends.
         ensures fewer { turns_after (Q.table q.now) result < turns_left (Q.table q.now) self }
 
         // A process that was at this place is now at the next one, or has its output.
@@ -115,9 +115,9 @@ impl Pc {
         }
     }
 
-    /// Makes the access that comes next, to the object with this number in this memory, and goes on to the place that
-    /// it leads to, or answers the output: [`Pc::next`], [`Memory::perform`] and [`Pc::after`] in one match. With an
-    /// output the place counts no more.
+    /// Makes the next access, to the object with this number in this memory. Goes on to the place that it leads to, or
+    /// returns the output. It is [`Pc::next`], [`Memory::perform`] and [`Pc::after`] in one match. After an output the
+    /// place does not count any more.
     #[inline(always)]
     pub fn step<Q: Quorums, M: Memory>(
         &mut self,
@@ -133,8 +133,7 @@ impl Pc {
         ensures fewer { turns_after (Q.table q.now) (next_from result self.new)
             < turns_left (Q.table q.now) self.old }
 
-        // The access that was made is the one that comes next, and a process that was at this place is now at the
-        // next one, or has its output.
+        // It made the place's next access. A process that was at this place is now at the next one, or has its output.
         ensures step { IsStep (Q.table q.now) self.old
             (λ op seen. M.makes memory.old object op seen memory.new) word
             (next_from result self.new) }

@@ -1,4 +1,4 @@
-//! One object of any kind with its processes, in the course of a schedule.
+//! Runs of one object of any kind, turn by turn.
 use crate::access::{Act, Reg};
 use crate::place::Next;
 use crate::trace::{Entry, Trace};
@@ -38,7 +38,7 @@ impl<A: Allocator + Copy + Drop> Run<A> {
     ghost use Rattle.mb_quorum.specs.Quorum.{QuorumTable};
     ghost use Rattle.mb_deciding.specs.{setup_of, IsSameFor, IsRun, out_of};
 
-    /// Each process before its first access, with room for so many entries.
+    /// A run before its first turn, with room for `turns` entries.
     pub fn begin<M: Machine>(
         alloc: A,
         machine: &M,
@@ -63,7 +63,7 @@ impl<A: Allocator + Copy + Drop> Run<A> {
         })
     }
 
-    /// One turn of a process, with the random word of this turn.
+    /// Adds one turn of a process, with the random word of this turn.
     pub fn turn<M: Machine>(
         &mut self,
         machine: &M,

@@ -1,6 +1,7 @@
-//! What builders of worlds and of tables of shared words need: one more step of a lawful history, and the places of
-//! processes. Who keeps the words of an object in a table takes `one_step` for its rule, and `places_lead_on` for the
-//! step that a place makes there. The proofs begin in `proofs/steps`, in a folder of the law's name.
+//! Laws for builders of worlds and of tables of shared words: one more step of a lawful history, and the places of
+//! processes. A table that keeps the words of an object needs `one_step` for its rule, and `places_lead_on` for the
+//! step that a place makes there. The functions compute nothing: their contracts are the laws. The proofs begin in
+//! `proofs/steps`, in a folder of the law's name.
 ghost use Rattle.std.specs.Prelude.{ℕ, ◌≡◌, ◌<◌, ◌≤◌, List, [], ◌∷◌};
 ghost use Rattle.mb_quorum.specs.Quorum.{QuorumTable, IsQuorumTable};
 ghost use Rattle.mb_deciding.specs.{Object, IsSound, Kind, Access, Turn, Act, Op, Pc, Out};
@@ -17,14 +18,14 @@ pub fn one_step()
         → IsObjectLawful o (record { process = p; turn = turn } ∷ h) }
 {}
 
-/// The next turn of a process at its place, with the value that the history leaves in its word, goes on with its path.
+/// A process at its place goes on with its path by its next turn, with the value that the history leaves in its word.
 pub fn places_lead_on()
     ensures prefix { (o : Object) (h : List Access) (p : ℕ) (pc : Pc) (op : Op) (word : ℕ)
         → IsSound o → IsObjectLawful o h
         → IsAt o.table o.kind (o.inputs p) pc (part p h) → IsOpAt o.table pc op
         → IsPrefix o.table o.kind (o.inputs p) (turn_after op word h ∷ part p h) }
 
-    // What it finds there is a value with which the place can go on.
+    // The place can go on with the value that it finds there.
     ensures found { (o : Object) (h : List Access) (p : ℕ) (pc : Pc) (op : Op)
         → IsSound o → IsObjectLawful o h
         → IsAt o.table o.kind (o.inputs p) pc (part p h) → IsOpAt o.table pc op
@@ -35,8 +36,7 @@ pub fn places_lead_on()
         → ReadsLast (turn_after op word h).act h }
 {}
 
-/// What a process at a place has made is a prefix of a path that has not come to its end, and the word that comes next
-/// is one of the object's.
+/// The turns of a process at a place are a prefix of a path that has not ended. Its next word is one of the object's.
 pub fn places_are_unfinished()
     ensures open { (t : QuorumTable) (kind : Kind) (v : ℕ) (pc : Pc) (turns : List Turn)
         → IsQuorumTable t → IsAt t kind v pc turns → IsOpen t kind v turns }
@@ -50,7 +50,7 @@ pub fn places_are_unfinished()
         → HasReg t.registers kind (reg_of op) }
 {}
 
-/// The turns that a process has made name what it does next, whatever memory answers.
+/// The turns that a process has made determine its next op, whatever memory holds.
 pub fn turns_name_the_next_op()
     ensures op { (t : QuorumTable) (kind : Kind) (v : ℕ) (turns : List Turn) (a b : Turn)
         → IsPrefix t kind v (a ∷ turns) → IsPrefix t kind v (b ∷ turns) → IsSameOp a.act b.act }
@@ -61,13 +61,13 @@ pub fn turns_name_the_next_op()
         → IsQuorumTable t → IsAt t kind v pc turns → IsAt t kind v other turns
         → IsOpAt t pc op → IsOpAt t other next → op ≡ next }
 
-    // And after one history acts of one op are one act.
+    // And after one history, two acts of one op are the same act.
     ensures act { (a b : Act) (h : List Access)
         → IsSameOp a b → ReadsLast a h → ReadsLast b h → a ≡ b }
 {}
 
-/// A process at a place has an access to make, and no more than the number that falls with each access, whatever its
-/// loads find ([`crate::Pc::after`] says so, and the first places say with how many it begins).
+/// A process at a place has an access to make, and at most `turns_left` of them. That number falls with each access,
+/// whatever its loads find ([`crate::Pc::after`] says so). The first places say with how many it begins.
 pub fn places_have_turns_left()
     ensures some { (t : QuorumTable) (pc : Pc) → IsPlace t pc → 0 < turns_left t pc }
 

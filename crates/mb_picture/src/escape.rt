@@ -3,7 +3,7 @@
 use mb_cells::NoMemory;
 use std::alloc::Allocator;
 
-/// What stands for a byte in XML. For what is no printable ASCII a question mark does.
+/// Appends a byte as XML has it. A byte that is no printable ASCII becomes a question mark.
 fn push_byte<A: Allocator>(text: &mut String<A>, byte: u8) -> Result<(), NoMemory> {
     match byte {
         b'<' => text.push_str("&lt;"),
@@ -16,7 +16,7 @@ fn push_byte<A: Allocator>(text: &mut String<A>, byte: u8) -> Result<(), NoMemor
     }
 }
 
-/// Appends the text as it stands in XML.
+/// Appends the text as XML has it.
 pub fn push_escaped<A: Allocator>(text: &mut String<A>, plain: &str) -> Result<(), NoMemory> {
     for byte in plain.as_bytes() {
         push_byte(text, *byte)?;

@@ -7,12 +7,10 @@ use std::alloc::Allocator;
 /// The most events that are drawn.
 pub const MAX_ROWS: usize = 200;
 
-/// What a picture is of.
+/// What a picture shows.
 #[derive(Clone, Copy)]
 pub enum Kind {
-    /// A replay.
     Replay,
-    /// A ratifier.
     Ratifier,
 }
 
@@ -62,7 +60,7 @@ pub enum Deed {
     Load(Word, Value),
     /// It stored this in the word.
     Store(Word, Value),
-    /// It found this, and stored one more in the same access.
+    /// A fetch-add: it found this, and stored one more in the same access.
     Add(Word, u64),
     /// It found `found`, and if that is 0 it stored `value` in the same access.
     Exchange { word: Word, value: u64, found: u64 },
@@ -70,10 +68,10 @@ pub enum Deed {
     Nothing,
 }
 
-/// What an event came to.
+/// The result of an event.
 #[derive(Clone, Copy)]
 pub enum Note {
-    /// Nothing that is to be told.
+    /// Nothing to be said.
     Plain,
     /// This item has a cell.
     Offer(u64),
@@ -118,7 +116,7 @@ pub enum Note {
 pub enum Tone {
     /// As any access.
     Plain,
-    /// As what led to nothing.
+    /// As an event that had no effect.
     Quiet,
     /// As a claim that is won, or a value that is decided.
     Won,
@@ -137,9 +135,9 @@ pub enum Tone {
 pub struct Mark {
     /// The number of its column.
     pub column: usize,
-    /// What it did.
+    /// What it did to a word.
     pub deed: Deed,
-    /// What it came to.
+    /// Its result.
     pub note: Note,
     /// Whether a claim begins with it.
     pub opens: bool,
@@ -150,9 +148,9 @@ pub struct Mark {
 /// A line from the row of a store to the row of a load that read it.
 #[derive(Clone, Copy)]
 pub struct Line {
-    /// The row of the store.
+    /// The row of the store, from 0.
     pub from: usize,
-    /// The row of the load.
+    /// The row of the load, from 0.
     pub to: usize,
 }
 
@@ -167,28 +165,26 @@ pub struct Frame {
     pub last: usize,
     /// Whether the claim has ended there.
     pub ended: bool,
-    /// What it came to.
+    /// Its result.
     pub tone: Tone,
 }
 
-/// What was done, to be drawn. Mark `i` stands in row `i`.
+/// What was done, as data to be drawn. Mark `i` is in row `i`.
 #[derive(Drop)]
 pub struct Picture<A: Allocator + Drop> {
-    /// Which of the two it is.
     pub kind: Kind,
-    /// What it is a picture of, in words.
     pub title: String<A>,
-    /// Whose columns there are, from the left.
+    /// Whose the columns are, from the left.
     pub columns: Vec<Who, A>,
     /// The events, in the order of time.
     pub marks: Vec<Mark, A>,
-    /// From the stores to the loads that read them.
+    /// The lines from stores to the loads that read them.
     pub lines: Vec<Line, A>,
-    /// The claims.
+    /// The boxes of the claims.
     pub frames: Vec<Frame, A>,
-    /// How many events more there are, which are not drawn.
+    /// How many further events are not drawn.
     pub hidden: usize,
-    /// The report of all events, lines of it.
+    /// The lines of the report, which is of all events.
     pub report: String<A>,
 }
 
@@ -228,7 +224,7 @@ impl Note {
 }
 
 impl<A: Allocator + Copy> Picture<A> {
-    /// A picture with nothing in it.
+    /// An empty picture.
     pub fn new(alloc: A, kind: Kind) -> Picture<A> {
         Picture {
             kind,
@@ -242,8 +238,8 @@ impl<A: Allocator + Copy> Picture<A> {
         }
     }
 
-    /// The mark of the next row, with the line to what it loaded and the box that it begins, goes on with or ends. If the
-    /// picture is full it is counted only.
+    /// Adds the mark of the next row, with the line from the store that it read and the box that it begins, goes on
+    /// with or ends. If there are [`MAX_ROWS`] rows already, it only counts the mark. The error is that memory ran out.
     pub fn push(&mut self, mark: Mark) -> Result<(), NoMemory> {
         let row = self.marks.len();
         if row >= MAX_ROWS {
@@ -259,7 +255,7 @@ impl<A: Allocator + Copy> Picture<A> {
         self.frame(row, mark)
     }
 
-    /// The box of the mark in this row.
+    /// Begins the box of the mark in this row, or goes on with it.
     fn frame(&mut self, row: usize, mark: Mark) -> Result<(), NoMemory> {
         if mark.opens {
             self.frames.push(Frame {

@@ -7,7 +7,7 @@ use mb_cells::NoMemory;
 use mb_deciding::{Act, Entry, Out, Trace};
 use std::alloc::Allocator;
 
-/// The process that the entry is of.
+/// Whose turn the entry is.
 fn process_of(entry: Entry) -> usize {
     match entry {
         Entry::Access { process, .. } | Entry::Done { process } => process,
@@ -34,7 +34,7 @@ fn out_note(out: Option<Out>) -> Note {
     }
 }
 
-/// The mark of an entry in this column, in which some access was made before or not.
+/// The mark of an entry in this column. `begun` says whether the column has a mark already.
 fn mark_of(column: usize, entry: Entry, begun: bool) -> Mark {
     let (deed, note) = match entry {
         Entry::Access { act, out, .. } => (access(act), out_note(out)),
@@ -49,7 +49,6 @@ fn mark_of(column: usize, entry: Entry, begun: bool) -> Mark {
     }
 }
 
-/// Whether some mark stands in this column.
 fn has_mark(marks: &[Mark], column: usize) -> bool {
     for mark in marks {
         if mark.column == column {
@@ -59,7 +58,7 @@ fn has_mark(marks: &[Mark], column: usize) -> bool {
     false
 }
 
-/// A column for each process that is in these entries, in the order of processes.
+/// Adds a column for each process in these entries, in the order of processes.
 fn push_columns<A: Allocator + Copy>(
     picture: &mut Picture<A>,
     inputs: &[u64],
@@ -82,7 +81,6 @@ fn push_columns<A: Allocator + Copy>(
     Ok(())
 }
 
-/// The column of a process.
 fn column_of(columns: &[Who], process: usize) -> Option<usize> {
     for (column, who) in columns.iter().enumerate() {
         if let Who::Process { process: p, .. } = *who {
@@ -94,7 +92,7 @@ fn column_of(columns: &[Who], process: usize) -> Option<usize> {
     None
 }
 
-/// A line for each of the first processes: its output.
+/// Appends a line for each of the first [`MAX_LINES`] processes: its output.
 fn push_outputs<A: Allocator + Copy>(
     picture: &mut Picture<A>,
     outputs: &[Option<Out>],
@@ -115,7 +113,8 @@ fn push_outputs<A: Allocator + Copy>(
     Ok(())
 }
 
-/// The picture of the trace of a ratifier for so many values, with the output of each process.
+/// The picture of the trace of a ratifier for `values` values, with the output of each process. The error is that
+/// memory ran out.
 pub fn ratify_picture<A: Allocator + Copy>(
     alloc: A,
     values: u64,

@@ -7,7 +7,7 @@ use std::alloc::Allocator;
 /// The most lines of a report that are shown.
 pub const MAX_LINES: usize = 200;
 
-/// Whether the line is that of a diary in which nothing stands.
+/// Whether the line is that of an empty diary.
 pub fn is_empty_diary(line: &str) -> bool {
     let (first, Some(rest)) = split_word(line) else {
         return false;
@@ -19,8 +19,8 @@ pub fn is_empty_diary(line: &str) -> bool {
     first == "diary" && notes.is_none()
 }
 
-/// Appends the lines of a report, but for diaries in which nothing stands. Of those, and of lines past the first
-/// [`MAX_LINES`], it tells how many there are.
+/// Appends the lines of a report, without those of empty diaries. Then it says how many empty diaries there are, and
+/// how many lines past the first [`MAX_LINES`].
 pub fn push_shown<A: Allocator + Copy>(text: &mut String<A>, report: &str) -> Result<(), NoMemory> {
     let (mut shown, mut empty, mut more) = (0usize, 0u64, 0u64);
     for line in report.lines() {

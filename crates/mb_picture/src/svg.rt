@@ -16,7 +16,7 @@ use std::alloc::Allocator;
 /// How far lines of text are apart.
 const LINE: usize = 17;
 
-/// Who stands above each column.
+/// Appends the text above each column.
 fn push_heads<A: Allocator + Copy>(
     alloc: A,
     text: &mut String<A>,
@@ -35,7 +35,7 @@ fn push_heads<A: Allocator + Copy>(
     Ok(())
 }
 
-/// The number of each row, and a thin line to find it by.
+/// Appends the number of each row, and a thin line that leads to its mark.
 fn push_rows<A: Allocator>(
     text: &mut String<A>,
     rows: usize,
@@ -56,7 +56,7 @@ fn push_rows<A: Allocator>(
     Ok(())
 }
 
-/// A mark: its word and value at the left, and what it came to at the right.
+/// Appends a mark: its word and value at the left, and its result at the right.
 fn push_mark<A: Allocator + Copy>(
     alloc: A,
     text: &mut String<A>,
@@ -65,7 +65,7 @@ fn push_mark<A: Allocator + Copy>(
     row: usize,
 ) -> Result<(), NoMemory> {
     let tone = mark.note.tone();
-    // What stands on a dark ground in the light, and on a light one in the dark.
+    // These have a dark ground on light screens and a light one on dark screens, so their text needs the other colour.
     let on_dark = matches!(tone, Tone::Took | Tone::Ended);
     let y = middle(row);
     let below = y.saturating_add(4);
@@ -91,7 +91,7 @@ fn push_mark<A: Allocator + Copy>(
     Ok(())
 }
 
-/// Boxes, lines and marks, in this order, so that no line runs over a mark.
+/// Appends boxes, lines and marks, in this order, so that no line runs over a mark.
 fn push_drawn<A: Allocator + Copy>(
     alloc: A,
     text: &mut String<A>,
@@ -114,7 +114,8 @@ fn push_drawn<A: Allocator + Copy>(
     Ok(())
 }
 
-/// One line of text in lines of so many letters at most, but for words that are longer, from `y` on: where they end.
+/// Appends a line of text, broken into lines of at most `most` letters (longer words stay whole), from `y` on. Returns
+/// where they end.
 fn push_wrapped<A: Allocator>(
     text: &mut String<A>,
     line: &str,
@@ -139,7 +140,8 @@ fn push_wrapped<A: Allocator>(
     Ok(at.saturating_add(LINE))
 }
 
-/// How many events are not drawn, and the report in lines of so many letters, from `y` on: where they end.
+/// Appends how many events are not drawn, and the report in lines of at most `most` letters, from `y` on. Returns where
+/// they end.
 fn push_foot<A: Allocator>(
     text: &mut String<A>,
     hidden: usize,
@@ -163,7 +165,7 @@ fn push_foot<A: Allocator>(
     Ok(at)
 }
 
-/// What stands before the drawing: the size, what a screen reader tells, and the style.
+/// Appends what comes before the drawing: the size, the text for screen readers, and the style.
 fn push_opening<A: Allocator + Copy>(
     text: &mut String<A>,
     picture: &Picture<A>,
@@ -190,7 +192,7 @@ fn push_opening<A: Allocator + Copy>(
     push_text(text, "t", 12, 24, &picture.title)
 }
 
-/// The picture as SVG.
+/// The picture as SVG. The error is that memory ran out.
 pub fn svg_of<A: Allocator + Copy>(alloc: A, picture: &Picture<A>) -> Result<String<A>, NoMemory> {
     let layout = layout_of(alloc, picture)?;
     let mut body = String::new(alloc);

@@ -1,4 +1,4 @@
-//! The rule of a table, and what its steps change and tell.
+//! The rule of a table, and what its steps change and prove.
 ghost use Rattle.std.specs.Prelude.{ℕ};
 ghost use Rattle.mb_claim.specs.declared.access.ClaimAccess.{ClaimAccess};
 
@@ -6,7 +6,7 @@ use crate::view::{TableSize, View};
 use atomic_table::{Join, Play, Split, TableRule};
 use std::marker::{Brand, PhantomData};
 
-/// Words and views together are a state of the claims.
+/// The rule: words and views together are a state of the claims.
 pub struct ClaimsRule;
 
 impl TableRule<(), View, TableSize> for ClaimsRule {
@@ -19,7 +19,7 @@ impl TableRule<(), View, TableSize> for ClaimsRule {
     ghost first = { λ size. Handing size [] };
 }
 
-/// The access that a step makes, by the value that it finds. A proof picks it where the step is made.
+/// The access that a step makes, by the value that it finds. The proof of a caller picks it.
 pub trait Made {
     ghost access: { ℕ → ClaimAccess };
 }
@@ -78,8 +78,8 @@ impl Join<View> for TakesIn {
     ghost spent = { Spent };
 }
 
-/// The load behind the join: the part goes to its place in the roll. A join tells nothing, so this is what tells that the
-/// number was out.
+/// The load after the join: the part goes to its place in the roll. A join proves nothing, so this load is needed to
+/// prove that the number was out.
 pub struct Settles;
 
 impl Play<(), View> for Settles {

@@ -1,4 +1,4 @@
-//! What was asked for so far, and what is out.
+//! The count of requests, and of the blocks that are out.
 ghost use Rattle.std.specs.Prelude.{◌≡◌};
 
 use std::sync::atomic::{AtomicU64, Ordering};
@@ -6,11 +6,10 @@ use std::sync::atomic::{AtomicU64, Ordering};
 /// Which requests are refused. They are numbered from 0 on, over all threads.
 #[derive(Clone, Copy, PartialEq, Eq, Debug)]
 pub enum Refuse {
-    /// The request of this number and all later ones.
+    /// The request with this number and all later ones.
     From(u64),
-    /// The request of this number alone.
+    /// The request with this number alone.
     Only(u64),
-    /// None.
     Never,
 }
 
@@ -23,7 +22,7 @@ pub(crate) struct Book {
 }
 
 impl Book {
-    /// A book of no request.
+    /// A book in which nothing is counted yet.
     pub(crate) fn new(refuse: Refuse) -> Book
         ensures { result.refuse ≡ refuse }
     {
@@ -34,17 +33,15 @@ impl Book {
         }
     }
 
-    /// How many requests there were.
     pub(crate) fn asked(&self) -> u64 {
         self.asked.load(Ordering::SeqCst)
     }
 
-    /// How many blocks are out.
     pub(crate) fn out(&self) -> u64 {
         self.out.load(Ordering::SeqCst)
     }
 
-    /// Counts a request: whether it is refused.
+    /// Counts a request, and returns whether it is refused.
     pub(crate) fn refuses(&self) -> bool {
         let number = self.asked.fetch_add(1, Ordering::SeqCst);
         match self.refuse {

@@ -1,11 +1,11 @@
-//! The allocator.
+//! The allocator that refuses chosen requests.
 ghost use Rattle.std.specs.Prelude.{◌≡◌};
 
 use crate::book::{Book, Refuse};
 use std::alloc::{AllocError, Allocator};
 
-/// An allocator over another one, which refuses chosen requests itself. A `&` to it is the handle that collections hold,
-/// in one thread or in many.
+/// An allocator over another one. It refuses chosen requests itself. Collections hold a `&` to it, in one thread or in
+/// many.
 #[derive(Drop)]
 pub struct Rations<B: Allocator> {
     inner: B,
@@ -13,7 +13,7 @@ pub struct Rations<B: Allocator> {
 }
 
 impl<B: Allocator> Rations<B> {
-    /// Nothing was asked for, and no block is out.
+    /// An allocator from which nothing was requested yet.
     pub fn new(inner: B, refuse: Refuse) -> Rations<B>
         ensures { result.book.refuse ≡ refuse }
     {
@@ -23,12 +23,12 @@ impl<B: Allocator> Rations<B> {
         }
     }
 
-    /// How many requests there were, with those that were refused.
+    /// How many requests there were, refused ones included.
     pub fn asked(&self) -> u64 {
         self.book.asked()
     }
 
-    /// How many requests were granted, less the blocks that came back.
+    /// How many blocks are out: granted, and not given back.
     pub fn out(&self) -> u64 {
         self.book.out()
     }

@@ -9,7 +9,7 @@ use crate::meeting::{all_said_of, diary_of};
 use mb_world::{LaneReport, Report};
 use std::alloc::Allocator;
 
-/// How many there are of each in a report.
+/// The counts of a report.
 #[derive(Clone, Copy, PartialEq, Eq, Debug)]
 pub struct Tally {
     /// Items put.
@@ -27,7 +27,7 @@ pub struct Tally {
 }
 
 impl Tally {
-    /// Nothing.
+    /// A tally of nothing.
     pub fn none() -> Tally
         ensures { result ≡ counts 0 0 0 0 0 0 }
     {
@@ -41,7 +41,7 @@ impl Tally {
         }
     }
 
-    /// Both together, modulo 2^64.
+    /// The sums of both tallies, modulo 2^64.
     pub fn with(&self, other: Tally) -> Tally
         ensures { result ≡ both self.now other }
     {
@@ -56,7 +56,7 @@ impl Tally {
     }
 }
 
-/// There are so many lanes, and a diary for each consumer and lane, in their order.
+/// Checks that there are `producers` lanes, and a diary for each consumer and lane, in their order.
 fn are_asked_for<A: Allocator + Drop>(
     report: &Report<A>,
     producers: u64,
@@ -80,7 +80,7 @@ fn are_asked_for<A: Allocator + Drop>(
     Ok(())
 }
 
-/// The diaries of a lane have no more notes than it has items, and fewer where a claim is under way.
+/// Checks that the diaries of a lane have at most as many notes as it has items, and fewer if a claim is under way.
 fn have_few_notes<A: Allocator + Drop>(
     report: &Report<A>,
     consumers: u64,
@@ -99,7 +99,7 @@ fn have_few_notes<A: Allocator + Drop>(
     Ok(())
 }
 
-/// One lane and all diaries of it.
+/// Audits one lane and all its diaries.
 fn audit_lane<A: Allocator + Drop>(
     report: &Report<A>,
     consumers: u64,
@@ -136,7 +136,7 @@ fn audit_lane<A: Allocator + Drop>(
     }
 }
 
-/// What a report of so many producers and consumers comes to, where nothing in it is a flaw.
+/// Audits a report of `producers` producers and `consumers` consumers. Returns its counts, or the first flaw found.
 pub fn audit<A: Allocator + Drop>(
     report: &Report<A>,
     producers: u64,

@@ -9,9 +9,9 @@ use std::alloc::Allocator;
 pub(crate) enum Meeting {
     /// The consumer made no access for it.
     Never,
-    /// The consumer's claim has an access and no note.
+    /// The consumer's claim has made an access, and has no note.
     UnderWay,
-    /// The consumer's claim has this end.
+    /// The consumer has this note on it.
     Noted(Note),
 }
 
@@ -53,7 +53,7 @@ fn said_of<A: Allocator + Drop>(diary: &Diary<A>, j: usize) -> Meeting {
     }
 }
 
-/// What one consumer's diary says of the item, beside what those before it said.
+/// Adds what one consumer's diary says of the item to what the diaries before it said.
 fn with_meeting(
     before: Meetings,
     consumer: u64,
@@ -87,7 +87,7 @@ fn with_meeting(
     Ok(met)
 }
 
-/// Whether the consumer that the losers name can be the winner: it competed, and nobody else took the item.
+/// Whether the consumer that the losers name can be the winner: if it competed, and nobody else took the item.
 fn may_have_won<A: Allocator + Drop>(
     report: &Report<A>,
     lane: usize,
@@ -102,10 +102,10 @@ fn may_have_won<A: Allocator + Drop>(
     competed && (met.taker.is_none() || met.taker == Some(winner))
 }
 
-/// What all diaries of a lane say of the item at place `j`, where that can be: one consumer at most took it, and it
-/// took what was put; all losers name one winner, who competed and is the taker, if there is one; and who is undecided
-/// is not alone. So where nobody took it though somebody competed, one of those has not finished: they cannot all have
-/// lost to one of them.
+/// What all diaries of a lane say of the item at place `j`, or the first flaw. At most one consumer took it, and it
+/// took what was put. All losers name one winner, which competed and is the taker, if there is one. A consumer that is
+/// undecided is not alone. So if nobody took the item though somebody competed, one of those has not finished: they
+/// cannot all have lost to one of them.
 pub(crate) fn all_said_of<A: Allocator + Drop>(
     report: &Report<A>,
     consumers: u64,

@@ -1,4 +1,5 @@
-//! Audits of made-up reports: what has no flaw is counted, and for each rule there is a report that breaks that rule alone.
+//! Audits of made-up reports. Reports without a flaw are counted, and for each rule there is a report that breaks that
+//! rule alone.
 
 use crate::compare::same;
 use mb_world::Note;
@@ -32,7 +33,8 @@ fn a_report_without_a_flaw_is_counted(rt: HostRuntime) -> Result<(), Fail> {
     Ok(())
 }
 
-/// The report with these lanes and diaries has this flaw, or none, where so many producers and consumers were asked for.
+/// The report with these lanes and diaries has this flaw, or none. `asked` has the numbers of producers and of
+/// consumers.
 fn comes_to<R: Abort + AllocGlobal>(
     rt: &R,
     asked: (u64, u64),
@@ -45,7 +47,7 @@ fn comes_to<R: Abort + AllocGlobal>(
     Ok(())
 }
 
-/// On an only item, 5, which is left or not, three consumers have these notes, and the report has this flaw, or none.
+/// Three consumers have these notes on the only item, 5, which is left or not. The report has this flaw, or none.
 fn three_come_to<R: Abort + AllocGlobal>(
     rt: &R,
     is_left: bool,
@@ -71,14 +73,14 @@ fn an_item_has_one_winner(rt: HostRuntime) -> Result<(), Fail> {
         (false, [&[], &[Took(6)], &[]], Some(Flaw::OtherItem)),
         // A loser does not name itself.
         (true, [&[], &[Lost(1)], &[]], other),
-        // Losers name one.
+        // Losers name one winner.
         (true, [&[Lost(1)], &[Lost(2)], &[Undecided]], other),
-        // The one that they name competed, and there is such a consumer.
+        // The winner that they name competed, and there is such a consumer.
         (true, [&[Lost(1)], &[], &[]], other),
         (true, [&[Lost(3)], &[], &[]], other),
         // It is the taker.
         (false, [&[Took(5)], &[Lost(2)], &[Undecided]], other),
-        // Who is alone decides.
+        // A consumer that is alone decides.
         (true, [&[], &[], &[Undecided]], Some(Flaw::UndecidedAlone)),
         (true, [&[], &[Undecided], &[Undecided]], None),
     ];
@@ -138,7 +140,7 @@ fn there_is_a_diary_for_each_consumer_and_lane(rt: HostRuntime) -> Result<(), Fa
     let first: [DiaryTold<'_>; 2] = [(0, 0, &[], false), (0, 1, &[], false)];
     let second: [DiaryTold<'_>; 2] = [(1, 0, &[], false), (1, 1, &[], false)];
     let all = [first[0], first[1], second[0], second[1]];
-    // So many consumers were asked for, with two producers.
+    // The number of consumers that were asked for, with two producers.
     let cases: [(u64, &[LaneTold<'_>], &[DiaryTold<'_>], Option<Flaw>); 12] = [
         (2, &[lane; 2], &all, None),
         (0, &[lane; 2], &[], None),

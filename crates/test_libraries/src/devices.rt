@@ -46,7 +46,7 @@ impl<W: Write + Drop> Write for FailsOnce<W> {
     }
 }
 
-/// Five bytes are read by a reader whose call `bad` fails: this comes of it, after so many calls.
+/// Reads five bytes by a reader whose call `bad` fails. The result is `want`, after `calls` calls.
 fn reads_five<R: Abort + AllocGlobal>(
     rt: &R,
     bad: usize,
@@ -76,7 +76,7 @@ fn no_failed_read_is_tried_again(rt: HostRuntime) {
     reads_five(&rt, 4, Ok(b"abcde".as_slice()), 0, 4);
 }
 
-/// Five bytes are written by a writer whose call `bad` fails: this comes of it, and these were written.
+/// Writes five bytes by a writer whose call `bad` fails. The result is `want`, and `written` was written.
 fn writes_five<R: Abort + AllocGlobal>(
     rt: &R,
     bad: usize,

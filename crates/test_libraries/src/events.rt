@@ -1,4 +1,4 @@
-//! Worlds: what their events answer, and what is reported then. The worked scripts are examples of the program.
+//! Worlds: the answers of their events, and the report then. The worked scripts are examples of the program.
 
 use crate::answers::{
     cell, finish, found, item, link, loads, make, offer, push, step, stores, took,
@@ -73,8 +73,8 @@ fn a_lane_is_looked_for_before_a_consumer(rt: HostRuntime) -> Result<(), Fail> {
     Ok(())
 }
 
-/// Two producers put an item each, and two consumers come to both: consumer 0 takes the one of lane 0, which consumer 1
-/// loses, and has begun a claim on the one of lane 1, which consumer 1 takes. Lane 1 has ended.
+/// Two producers put an item each, and two consumers come to both. Consumer 0 takes the item of lane 0, and consumer 1
+/// loses it. Consumer 1 takes the item of lane 1, and consumer 0 has begun a claim on it. Lane 1 has ended.
 pub(crate) fn share_two() -> [(Event, Answer); 34] {
     [
         (offer(1, 6), cell(0)),
@@ -114,7 +114,7 @@ pub(crate) fn share_two() -> [(Event, Answer); 34] {
     ]
 }
 
-/// The report of that.
+/// The report has this.
 fn tells_two<A: Allocator + Drop>(report: &Report<A>) -> Result<(), Difference> {
     tells(
         report,

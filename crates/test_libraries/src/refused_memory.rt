@@ -1,4 +1,4 @@
-//! Calls whose memory is refused: each growth in turn, and at last the same call with memory.
+//! Calls that run out of memory: each allocation is refused in turn, and at last the same call has memory.
 
 use crate::answers::make;
 use crate::claims::{WON_AND_LOST, is_played, won_and_lost};
@@ -62,7 +62,7 @@ fn tells_seven(report: &Report<Alloc<'_>>) -> Result<(), Difference> {
     )
 }
 
-/// Whether the allocator serves the report of that. If not, another serves it.
+/// Returns whether the allocator serves the report of that. If not, another serves it.
 fn report_is_served<'a>(
     world: &World<Alloc<'a>>,
     alloc: Alloc<'a>,
@@ -76,7 +76,7 @@ fn report_is_served<'a>(
     Ok(false)
 }
 
-/// Whether the allocator serves the world and its report.
+/// Returns whether the allocator serves the world and its report.
 fn world_is_served<'a>(rt: &impl Abort, alloc: Alloc<'a>, ample: Alloc<'a>) -> Result<bool, Fail> {
     let setup = Setup::new(1, 1, 1, 1, TableName::Bits)?;
     let Ok(mut world) = World::new(alloc, setup) else {
@@ -90,8 +90,8 @@ fn world_is_served<'a>(rt: &impl Abort, alloc: Alloc<'a>, ample: Alloc<'a>) -> R
 fn each_growth_of_a_world_and_its_report_refused(rt: HostRuntime) -> Result<(), Fail> {
     let ample = Rations::new(rt.alloc(), Refuse::Never);
     let refused = growths_refused(&rt, |alloc| world_is_served(&rt, alloc, &ample))?;
-    // The four lists of the pool, the words of the claims, the seats and the notes; then the lane and its item, the diary
-    // and its note, and the cells of the lane that is read.
+    // The four lists of the pool, the words of the claims, the seats and the notes. Then the lane and its item, the
+    // diary and its note, and the cells of the lane that is read.
     assert!(rt; 12 <= refused);
     same(&rt, &ample.out(), &0);
     Ok(())

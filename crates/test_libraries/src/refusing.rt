@@ -73,7 +73,7 @@ fn what_is_refused_below_is_not_out(rt: HostRuntime) -> Result<(), Fail> {
     Ok(())
 }
 
-// The list asks for more room as it grows: what it had comes back.
+// The list asks for more room as it grows, and gives back what it had.
 #[test]
 fn lists_grow(rt: HostRuntime) -> Result<(), Fail> {
     let rations = Rations::new(rt.alloc(), Refuse::Never);

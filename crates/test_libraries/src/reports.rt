@@ -10,7 +10,7 @@ use std::process::Abort;
 use std::test::Fail;
 use test_support::{DiaryTold, Difference, LaneTold, tells};
 
-/// What is told is so, or this is the first difference.
+/// The report is as expected, or this is the first difference.
 fn is_found(
     rt: &impl Abort,
     report: &Report<Global>,
@@ -21,7 +21,7 @@ fn is_found(
     same(rt, &tells(report, &[lane], &[diary]), &found);
 }
 
-/// Each difference from a report that tells of one item, which the only consumer took.
+/// Each difference from a report of one item, which the only consumer took, is found.
 fn are_found(rt: &impl Abort, report: &Report<Global>) {
     let lane: LaneTold<'_> = (&[7], false, &[]);
     let took: &[Note] = &[Note::Took(7)];

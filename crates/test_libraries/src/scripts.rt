@@ -1,4 +1,4 @@
-//! Replay scripts: what is read, and the first fault of what is not.
+//! Replay scripts: what is read, and the first fault if a script is refused.
 
 use crate::compare::{same, same_at};
 use crate::shapes::{BOTH, FAST, LAST};
@@ -187,7 +187,7 @@ fn the_first_fault_decides(rt: HostRuntime) {
     }
 }
 
-/// A text of so many letters.
+/// A text of `amount` letters.
 fn letters(alloc: Global, amount: usize) -> Result<String, Fail> {
     let mut text = String::new(alloc);
     for _ in 0..amount {
@@ -232,7 +232,8 @@ fn events_have_a_limit(rt: HostRuntime) -> Result<(), Fail> {
     Ok(())
 }
 
-/// Each growth is refused that the reading of a text makes, which then has so many events or this fault. How many these are.
+/// Refuses in turn each allocation of the reading of a text. With memory the text has this number of events, or this
+/// fault. Returns how many allocations there are.
 fn growths_of_reading<R: Abort + AllocGlobal>(
     rt: &R,
     text: &str,
@@ -283,7 +284,7 @@ fn lines_are_cut_off(rt: HostRuntime) {
     }
 }
 
-/// Whether the words that are cut off a line are these, and no more.
+/// Whether exactly these words are cut off a line.
 fn has_words(line: &str, want: &[&str]) -> bool {
     let mut rest = Some(line);
     for word in want {
@@ -299,7 +300,7 @@ fn has_words(line: &str, want: &[&str]) -> bool {
     rest.is_none()
 }
 
-/// Whether the few words of a line are these, where none of them is empty, and else none.
+/// Whether the few words of a line are these, if none of them is empty, and else none.
 fn has_few_words(line: &str, want: &[&str], empty: bool) -> bool {
     match Words::of_line(line) {
         Some(few) => !empty && few.as_slice() == want,

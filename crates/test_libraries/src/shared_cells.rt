@@ -130,7 +130,7 @@ fn put<A: Allocator + Drop>(
     Ok(())
 }
 
-/// Reads two items of a lane, and nothing behind them.
+/// Reads two items of a lane, and finds nothing after them.
 fn read_two<A: Allocator + Drop>(
     rt: &impl Abort,
     table: &SharedCells<A>,
@@ -199,7 +199,7 @@ fn an_offered_item_is_not_put(rt: HostRuntime) -> Result<(), Fail> {
     Ok(())
 }
 
-/// Puts a hundred items, from `first` on, and ends the lane. Answers how many were put.
+/// Puts a hundred items, from `first` on, and ends the lane. Returns how many were put.
 fn put_hundred<A: Allocator + Drop>(
     table: &SharedCells<A>,
     mut seat: LaneSeat,
@@ -229,13 +229,13 @@ fn put_hundred<A: Allocator + Drop>(
 #[derive(Clone, Copy)]
 struct Bookmark {
     cursor: Cursor,
-    /// The item that comes next, where the lane's items are numbers in their order.
+    /// The item that comes next. The lane's items are numbers in their order.
     next: u64,
     ended: bool,
     wrong: bool,
 }
 
-/// Reads a lane on, with at most so many looks.
+/// Reads a lane on from the bookmark, with at most `looks` looks.
 fn read_on<A: Allocator + Drop>(
     table: &SharedCells<A>,
     seat: &mut ReaderSeat,
@@ -320,10 +320,10 @@ fn two_threads_put_a_hundred_each(rt: HostRuntime) -> Result<(), Fail> {
     Ok(())
 }
 
-/// How often a reader looks at a lane while its producer runs. What it has not met then it reads afterwards.
+/// How often a reader looks at a lane while its producer runs. It reads the rest afterwards.
 const LOOKS: u64 = 1_000_000;
 
-/// The same, with a reader of each lane running beside.
+/// The same, with a reader of each lane running at the same time.
 fn put_and_read_beside<R: Threads + Sync, A: Allocator + Clone + Drop + Send + Sync>(
     rt: &R,
     alloc: A,

@@ -24,7 +24,7 @@ const CELLS: u32 = 100;
 /// How often 16 threads claim a cell.
 const ROUNDS: u32 = 200;
 
-/// Makes so many steps of a claim, or fewer where it ends before, with the random word 0. The answer is how many.
+/// Makes `most` steps of a claim with the random word 0, or fewer if it ends before. Returns how many.
 fn step_on<A: Allocator + Drop>(
     table: &SharedClaims<A>,
     seat: &mut ClaimSeat,
@@ -57,7 +57,7 @@ fn step_on<A: Allocator + Drop>(
     made
 }
 
-/// A claim of a seat on a cell that its consumer has not claimed, to its end or a thousand steps.
+/// Makes a claim of a seat on a cell that its consumer has not claimed, to its end or for a thousand steps.
 fn claim_to_its_end<A: Allocator + Drop>(
     table: &SharedClaims<A>,
     seat: &mut ClaimSeat,
@@ -76,7 +76,7 @@ fn claim_to_its_end<A: Allocator + Drop>(
     claim.stage()
 }
 
-/// Claims of a seat that has made no access on each of `CELLS` cells, one after the other.
+/// Makes claims of a seat that has made no access, on each of `CELLS` cells, one after the other.
 fn claim_each<A: Allocator + Drop>(
     table: &SharedClaims<A>,
     mut seat: ClaimSeat,
@@ -93,7 +93,7 @@ fn claim_each<A: Allocator + Drop>(
     (seat, stages)
 }
 
-/// Two threads claim each of `CELLS` cells of this shape, and this is how it ended for each.
+/// Two threads claim each of `CELLS` cells of this shape. Returns how each claim ended.
 fn claimed_by_two<R: Threads + Sync, A: Allocator + Clone + Drop + Send + Sync>(
     rt: &R,
     alloc: A,
@@ -140,7 +140,7 @@ fn all_seats<A: Allocator + Drop, B: Allocator + Drop>(
     Ok(seats)
 }
 
-/// 16 threads claim one cell of this shape, and this is how it ended for each.
+/// 16 threads claim one cell of this shape. Returns how each claim ended.
 fn claimed_by_sixteen<R: Threads + Sync, A: Allocator + Clone + Drop + Send + Sync>(
     rt: &R,
     alloc: A,
@@ -178,8 +178,8 @@ fn win_and_lose<A: Allocator + Drop>(
     same(rt, &(wins, loses), &((7, Stage::Won), (4, Stage::Lost(0))));
 }
 
-/// Whether the allocator serves a table of one cell for two consumers. Then both numbers are given, the first consumer wins
-/// the cell and the second loses it.
+/// Returns whether the allocator serves a table of one cell for two consumers. If it does, both numbers are given, the
+/// first consumer wins the cell and the second loses it.
 fn one_wins<A: Allocator + Clone + Drop>(rt: &impl Abort, alloc: A) -> Result<bool, Fail> {
     let layout = Layout::new(2, 1, TableName::Bits)?;
     let Ok((table, mut hub)) = SharedClaims::new(alloc, layout, 1) else {
@@ -208,7 +208,7 @@ fn numbers_and_ends(rt: HostRuntime) -> Result<(), Fail> {
     Ok(())
 }
 
-/// After so many steps of a claim on cell 0 it goes on, and announces consumer 0 in the ratifier next.
+/// After `steps` steps a claim on cell 0 is going, and announces consumer 0 in the ratifier next.
 fn comes_to_announce<A: Allocator + Drop>(
     rt: &impl Abort,
     table: &SharedClaims<A>,
@@ -246,7 +246,7 @@ fn another_goes_on_where_one_stopped(rt: HostRuntime) -> Result<(), Fail> {
     Ok(())
 }
 
-/// Whether all claims on a cell have come to an end, and name one winner where they name any; who lost names another.
+/// Whether all claims on a cell have ended, and name one winner, if any. A loser names another consumer.
 fn name_one_winner(ends: &[Stage]) -> bool {
     let mut winner = None;
     for (consumer, end) in ends.iter().enumerate() {

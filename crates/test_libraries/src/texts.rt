@@ -1,4 +1,4 @@
-//! What refusals say of themselves.
+//! How refusals are displayed.
 
 use mb_claim::{BadLayout, PlayFault};
 use mb_deciding::Fault;

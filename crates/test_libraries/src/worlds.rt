@@ -8,7 +8,7 @@ use std::alloc::Global;
 use std::test::Fail;
 use test_support::tells;
 
-/// The bit table's world of so many producers, consumers and cells, with one pair for each cell.
+/// A world of `p` producers, `c` consumers and `m` cells, with one pair for each cell over the bit table.
 pub(crate) fn one_pair(rt: &HostRuntime, p: u64, c: u64, m: u64) -> Result<World<Global>, Fail> {
     let setup = Setup::new(p, c, m, 1, TableName::Bits)?;
     Ok(World::new(rt.alloc(), setup)?)

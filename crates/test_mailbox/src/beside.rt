@@ -1,4 +1,4 @@
-//! Threads that put and poll at one time, over one mailbox behind a `&`.
+//! Threads that put and poll at one time, on one mailbox that they share by a `&`.
 ghost use Rattle.std.specs.Prelude.{◌<◌, IfOk};
 ghost use Rattle.mb_mailbox.specs.Consumers.{IsConsumerOf};
 ghost use Rattle.mb_mailbox.specs.Hubs.{IsHubOf};
@@ -19,7 +19,7 @@ use test_support::Zeros;
 /// How many items each producer puts.
 const ITEMS: u64 = 32;
 
-/// How often a consumer polls at most.
+/// The most polls of a consumer.
 const POLLS: u64 = 1_000_000_000;
 
 /// Another thread puts an item.
@@ -43,7 +43,6 @@ fn put_elsewhere<R: Threads + Sync>(
     put
 }
 
-/// Puts an item.
 fn put_one(
     mailbox: &Mailbox<Global>,
     mut producer: Producer<Global>,
@@ -56,7 +55,7 @@ fn put_one(
     (producer, put)
 }
 
-/// A producer and a consumer are given.
+/// The hub gives a producer and a consumer.
 fn give_both(
     alloc: Global,
     mailbox: &Mailbox<Global>,
@@ -72,7 +71,7 @@ fn give_both(
     Ok((producer, consumer))
 }
 
-/// An item that another thread puts is taken at once, and nothing is there then.
+/// An item that another thread puts is taken at once. Then nothing is there.
 fn is_read_back<R: Threads + Sync + Abort>(
     rt: &R,
     mailbox: &Mailbox<Global>,
@@ -109,7 +108,7 @@ fn each_item_is_read_back_at_once(rt: HostRuntime) -> Result<(), Fail> {
     Ok(())
 }
 
-/// Puts so many items, from `first` on, and ends the lane.
+/// Puts `ITEMS` items, from `first` on, and ends the lane.
 fn put_all(
     mailbox: &Mailbox<Global>,
     mut producer: Producer<Global>,
@@ -216,7 +215,7 @@ fn share_lanes<R: Threads + Sync>(
     )
 }
 
-/// A producer and a consumer are taken in.
+/// The hub takes a producer and a consumer in.
 fn take_both(
     mailbox: &Mailbox<Global>,
     hub: &mut Hub<Global>,

@@ -1,4 +1,4 @@
-//! Whose random words a consumer of `work` draws.
+//! From which source a consumer of `work` draws its random words.
 
 use crate::compare::{same, same_at};
 use crate::trial::Trial;
@@ -27,7 +27,7 @@ impl Gate for AllBut {
     fn leave(&self, _who: Who, _call: u64) {}
 }
 
-/// Two sources, which count here the words that they gave.
+/// Two sources that count in `given` the words that they gave.
 fn two_sources<'a>(alloc: Global, given: &'a [AtomicU64; 2]) -> Result<Vec<SeenZeros<'a>>, Fail> {
     let mut sources = Vec::new(alloc);
     sources.push(SeenZeros { given: &given[0] })?;
@@ -35,7 +35,7 @@ fn two_sources<'a>(alloc: Global, given: &'a [AtomicU64; 2]) -> Result<Vec<SeenZ
     Ok(sources)
 }
 
-/// One worker puts an item, and two others draw from these sources, of whom this one is stopped.
+/// One worker puts an item. Two others draw from these sources, and this one of them is stopped.
 fn one_is_stopped<R: Abort + AllocGlobal + Threads + Wait + Sync>(
     rt: &R,
     trial: &mut Trial<Global>,
@@ -54,7 +54,8 @@ fn one_is_stopped<R: Abort + AllocGlobal + Threads + Wait + Sync>(
     Ok(())
 }
 
-/// How many words each of two consumers draws for one item, where this one of them is stopped; and this is reported then.
+/// How many words each of two consumers draws for one item, if this one of them is stopped. The report then has this
+/// text.
 fn words_drawn<R: Abort + AllocGlobal + Threads + Wait + Sync>(
     rt: &R,
     stopped: u32,
@@ -72,7 +73,8 @@ fn words_drawn<R: Abort + AllocGlobal + Threads + Wait + Sync>(
 
 #[test]
 fn each_consumer_draws_from_its_own_source(rt: HostRuntime) -> Result<(), Fail> {
-    // A claim alone makes seven accesses, three to the conciliator and four to the ratifier, and draws a word for each.
+    // A claim that is alone makes seven accesses, three to the conciliator and four to the ratifier. It draws a word
+    // for each.
     for (stopped, report, drawn) in [
         (
             1,

@@ -1,4 +1,4 @@
-//! What a gate is asked: that workers run at one time, come with their calls in order, and poll the lanes in turn.
+//! The calls of a gate show that workers run at one time, make their calls in order, and poll the lanes in turn.
 
 use crate::compare::{same, same_at};
 use crate::trial::Trial;
@@ -15,10 +15,10 @@ use std::test::Fail;
 use std::thread::Threads;
 use test_audit::audit;
 
-/// How often a worker looks whether all have come.
+/// How often a worker looks whether all have come. So it does not wait for ever.
 pub(crate) const TURNS: u64 = 1_000_000_000;
 
-/// A gate at which each worker waits, at its first call, until so many have come, and not for ever.
+/// A gate at which each worker waits, at its first call, until `workers` have come, but not for ever.
 #[derive(Drop)]
 struct AllCome {
     come: AtomicU64,
@@ -28,7 +28,7 @@ struct AllCome {
 impl Gate for AllCome {
     ghost use Rattle.std.specs.Prelude.{◌≡◌};
 
-    // It stops nobody but at the first call.
+    // It stops a worker only at its first call.
     ghost may_stop = { λ _ _ call. call ≡ 1 };
 
     fn enter(&self, _who: Who, call: u64) -> bool {
@@ -47,7 +47,7 @@ impl Gate for AllCome {
     fn leave(&self, _who: Who, _call: u64) {}
 }
 
-/// So many consumers and one producer come to the gate at one time.
+/// `consumers` consumers and one producer come to the gate at one time.
 fn come_to_the_gate<R: Abort + AllocGlobal + Threads + Wait + Sync>(
     rt: &R,
     trial: &mut Trial<Global>,
@@ -62,7 +62,7 @@ fn come_to_the_gate<R: Abort + AllocGlobal + Threads + Wait + Sync>(
     Ok(())
 }
 
-/// They do, and the items put are audited.
+/// They come to the gate, and then the report is audited.
 fn come_and_put<R: Abort + AllocGlobal + Threads + Wait + Sync>(
     rt: &R,
     consumers: u64,
@@ -74,7 +74,7 @@ fn come_and_put<R: Abort + AllocGlobal + Threads + Wait + Sync>(
         return Err(Fail::new("no report"));
     };
     let tally = audit(&report, 1, consumers)?;
-    // Alone a consumer always decides, and takes each item.
+    // A consumer that is alone always decides, and takes each item.
     let are_taken = consumers != 1 || tally.took == 4;
     same_at(rt, &(tally.put, are_taken), &(4, true), &consumers);
     Ok(())
@@ -88,12 +88,13 @@ fn all_workers_come_to_the_gate_at_one_time(rt: HostRuntime) -> Result<(), Fail>
     Ok(())
 }
 
-/// A gate that lets each call in, and looks whether a worker's calls come as 1, 2 and so on, each told before the next.
+/// A gate that lets each call in. It checks that a worker's calls come as 1, 2 and so on, and that each leaves before
+/// the next.
 #[derive(Drop)]
 struct Record {
-    /// How often it was asked or told by each of two producers and two consumers.
+    /// How often each of two producers and two consumers entered or left.
     times: [AtomicU64; 4],
-    /// How often that was out of turn.
+    /// How often one of them did so out of turn.
     flaws: AtomicU64,
 }
 
@@ -105,7 +106,7 @@ impl Record {
         }
     }
 
-    /// Counts that it is asked or told by this worker, which is to be the next after so many times.
+    /// Counts that this worker enters or leaves. It should have done so `times` times before.
     fn note(&self, who: Who, times: u64) {
         let place = match who {
             Who::Producer(lane) => lane as usize,
@@ -132,14 +133,14 @@ impl Gate for Record {
     }
 }
 
-/// Nothing was out of turn, where two producers put two items and three.
+/// Nothing was out of turn. Two producers put two and three items.
 fn alternates(rt: &impl Abort, gate: &Record) {
     let flaws = gate.flaws.load(Ordering::SeqCst);
     // One call for each item.
     let first = gate.times[0].load(Ordering::SeqCst);
     let second = gate.times[1].load(Ordering::SeqCst);
     same(rt, &(flaws, first, second), &(0, 4, 6));
-    // At least one for each item and each end, and each was told.
+    // At least one call for each item and each end, and each has left.
     for consumer in 2..4 {
         let times = gate.times[consumer].load(Ordering::SeqCst);
         assert!(rt; 14 <= times && times % 2 == 0);
@@ -166,13 +167,14 @@ fn a_put_that_finds_no_cell_is_told_of(rt: HostRuntime) -> Result<(), Fail> {
         stopped: 0,
     };
     same(&rt, &worked, &Ok(two_are_over));
-    // Two puts, each asked for and told of, and none after the one that found no cell.
+    // Two puts, each of which entered and left, and none after the one that found no cell.
     let flaws = gate.flaws.load(Ordering::SeqCst);
     same(&rt, &(flaws, gate.times[0].load(Ordering::SeqCst)), &(0, 4));
     Ok(())
 }
 
-/// A gate that lets a consumer in once four puts were made, or not at all after `TURNS` looks, and for three calls.
+/// A gate that lets a consumer in for three calls, once four puts were made. If `TURNS` looks find fewer, it does not
+/// let it in.
 #[derive(Drop)]
 struct ThreeCalls {
     made: AtomicU64,

@@ -1,4 +1,4 @@
-//! That a gate is told of a put and of a poll after their accesses, and not before.
+//! A put and a poll leave the gate after their accesses, and not before.
 
 use crate::compare::same;
 use crate::gates::TURNS;
@@ -14,20 +14,20 @@ use std::test::Fail;
 use std::thread::Threads;
 use test_support::SeenZeros;
 
-/// A gate by which the only consumer polls once, while the only producer tells of its put: neither waits for ever.
+/// A gate by which the only consumer polls once, while the only producer leaves after its put. Neither waits for ever.
 #[derive(Drop)]
 struct PollInALeave {
-    /// Whether the put was told of.
+    /// Whether the put has left the gate.
     has_put: AtomicBool,
-    /// Whether the poll was told of.
+    /// Whether the poll has left the gate.
     has_polled: AtomicBool,
     /// How many words the consumer has drawn.
     drawn: AtomicU64,
-    /// How many it had drawn when its poll was told of.
+    /// How many it had drawn when its poll left.
     told: AtomicU64,
 }
 
-/// Waits until this has come, for at most `TURNS` looks, and says whether it has.
+/// Waits until the flag is set, for at most `TURNS` looks. Returns whether it is.
 fn comes(flag: &AtomicBool) -> bool {
     for _ in 0..TURNS {
         if flag.load(Ordering::SeqCst) {
@@ -60,14 +60,14 @@ impl Gate for PollInALeave {
     }
 }
 
-/// A source that counts here the words that it gave.
+/// A source that counts in `given` the words that it gave.
 fn one_source<'a>(alloc: Global, given: &'a AtomicU64) -> Result<Vec<SeenZeros<'a>>, Fail> {
     let mut sources = Vec::new(alloc);
     sources.push(SeenZeros { given })?;
     Ok(sources)
 }
 
-/// One worker puts an item, and another polls once, while that one tells of its put, and is stopped then.
+/// One worker puts an item. While it leaves the gate, another polls once, and is stopped then.
 fn polls_once<R: Abort + AllocGlobal + Threads + Wait + Sync>(
     rt: &R,
     trial: &mut Trial<Global>,
@@ -94,10 +94,10 @@ fn a_call_is_told_of_after_its_accesses(rt: HostRuntime) -> Result<(), Fail> {
     };
     let mut trial = new_trial(rt.alloc(), 1, 1, 1)?;
     polls_once(&rt, &mut trial, &gate)?;
-    // An only consumer's claim makes five accesses, three to the conciliator and two to the proposal, and draws a word for
-    // each: all were made before the poll was told of.
+    // The only consumer's claim makes five accesses, three to the conciliator and two to the proposal, and draws a word
+    // for each. All were made before the poll left.
     same(&rt, &gate.told.load(Ordering::SeqCst), &5);
-    // And the poll found the item, so this was put before the put was told of.
+    // And the poll found the item, so that was put before the put left.
     ends(
         &rt,
         rt.alloc(),

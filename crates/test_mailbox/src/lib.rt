@@ -1,4 +1,4 @@
-//! Tests of the mailbox, which is proved without them: worked examples, threads, and calls whose memory is refused.
+//! Tests of the mailbox, which is proved without them: worked examples, threads, and calls that run out of memory.
 #![tactic(auto)]
 
 #[cfg(test)]

@@ -1,4 +1,4 @@
-//! Mailboxes in one thread: what their calls answer, and what is reported at the end.
+//! Mailboxes in one thread: the answers of their calls, and the report at the end.
 
 use crate::compare::same;
 use crate::scenes::{play, plays};
@@ -12,7 +12,7 @@ use std::process::Abort;
 use std::test::Fail;
 use test_support::Zeros;
 
-/// How many producers, consumers and cells a mailbox has, the calls with what they come to, and the report.
+/// How many producers, consumers and cells a mailbox has, the calls with their answers, and the report.
 type Scene = ([u64; 3], &'static str, &'static str);
 
 const NOTHING_IS_WAITED_FOR: Scene = (
@@ -123,8 +123,8 @@ fn scenes_of_one_thread(rt: HostRuntime) -> Result<(), Fail> {
     Ok(())
 }
 
-/// In such a mailbox the calls of these lines are made. No report is made then, while a consumer is out, and all comes back
-/// as it was. Once all are taken in this is reported.
+/// Makes the calls of the scene. While a consumer is out there is no report, and all comes back as it was. Once all are
+/// taken in, the report is that of the scene.
 fn one_consumer_is_out<R: Abort + AllocGlobal>(rt: &R, scene: Scene) -> Result<(), Fail> {
     let (sizes, lines, report) = scene;
     let mut trial = new_trial(rt.alloc(), sizes[0], sizes[1], sizes[2])?;
@@ -178,7 +178,7 @@ fn no_report_is_made_while_one_is_out(rt: HostRuntime) -> Result<(), Fail> {
     one_consumer_is_out(&rt, A_LATER_CONSUMER_LOSES_TO_ONE_THAT_WENT_AWAY)
 }
 
-/// Puts so many items, and then takes them, in order.
+/// Puts `items` items, and then takes them, in order.
 fn put_and_take_all(rt: &impl Abort, trial: &mut Trial<Global>, items: u64) {
     for x in 0..items {
         same(rt, &trial.put(0, x), &Some(Put::Linked));

@@ -1,4 +1,4 @@
-//! Polls of one thread: what they answer with small budgets, and how many words they draw.
+//! Polls of one thread: their answers with small budgets, and how many words they draw.
 
 use crate::scenes::{play, plays};
 use crate::trial::Trial;
@@ -9,7 +9,7 @@ use std::test::Fail;
 
 #[test]
 fn a_budget_cuts_polls_short(rt: HostRuntime) -> Result<(), Fail> {
-    // With this budget, so many polls are spent, and the next one takes the item. The claim has five accesses.
+    // With this budget `spent` polls are spent, and the next one takes the item. The claim has five accesses.
     for (budget, spent) in [(1, 6), (6, 1), (7, 0), (100, 0)] {
         let lines = format!(in rt.alloc();
             "producer: given
@@ -32,7 +32,7 @@ drawn: words 5
 
 #[test]
 fn another_consumer_is_given_between_two_polls(rt: HostRuntime) -> Result<(), Fail> {
-    // Eight polls are spent in all, so many of them before the other consumer is given. The claim has seven accesses.
+    // Eight polls are spent in all, `before` of them before the other consumer is given. The claim has seven accesses.
     for (before, after) in [
         (1, 7),
         (2, 6),
@@ -60,7 +60,7 @@ drawn: words 7
     Ok(())
 }
 
-// In a mailbox with a fast path and a last object, of two consumers and one cell with one pair. A claim there makes at most
+// A mailbox with a fast path and a last object, two consumers, and one cell with one pair. A claim there makes at most
 // 18 accesses.
 #[test]
 fn an_item_is_taken_on_the_fast_path(rt: HostRuntime) -> Result<(), Fail> {

@@ -1,4 +1,4 @@
-//! `work` and a hub over an allocator that refuses chosen requests: each growth in turn, and then the call again with memory.
+//! `work` and a hub over an allocator that refuses each allocation in turn, and then the call again with memory.
 
 use crate::compare::same;
 use crate::refused_mailboxes::{Alloc, is_given};
@@ -15,14 +15,14 @@ use std::test::Fail;
 use std::thread::Threads;
 use test_alloc::{Rations, Refuse, growths_refused};
 
-/// Whether a producer's number is left. It is given then, and taken in without an access.
+/// Whether a producer's number is left. If so, the producer is given, and taken in without an access.
 fn has_lane<'r>(trial: &mut Trial<Alloc<'r>>, ample: Alloc<'r>) -> bool {
     trial.producer(ample).is_ok() && trial.take_producer(0)
 }
 
-/// The only item of a mailbox of one cell is put and taken, and the lane ends, whether or not the allocator serves its producer.
-/// If not, its number is left, and is given over the second allocator; after it no number is left. The report tells the item
-/// all the same. Whether the allocator serves that producer.
+/// The only item of a mailbox of one cell is put and taken, and the lane ends, whether or not the allocator serves its
+/// producer. If not, its number is left, and is given over the second allocator. After it no number is left. The report
+/// has the item in both cases. Returns whether the allocator serves that producer.
 fn one_item_is_served<'r>(
     rt: &impl Abort,
     alloc: Alloc<'r>,
@@ -64,8 +64,9 @@ fn each_growth_of_a_lone_producer_refused(rt: HostRuntime) -> Result<(), Fail> {
     Ok(())
 }
 
-/// Whether workers over the first allocator put these lists and so many others poll them to their ends, where nothing but
-/// memory may be wanting. What they are handed is over the second allocator.
+/// Workers over the first allocator put these lists, and `consumers` others poll them to their ends. The only possible
+/// error is that memory ran out. Their lists and sources are over the second allocator. Returns whether the work was
+/// done.
 fn is_done<'r, R: Abort + Threads + Wait + Sync>(
     rt: &R,
     trial: &mut Trial<Alloc<'r>>,
@@ -84,8 +85,8 @@ fn is_done<'r, R: Abort + Threads + Wait + Sync>(
     Ok(true)
 }
 
-/// One worker puts two items and another takes both, in a mailbox of these two: whether the allocator serves them. If
-/// not, all that was given is taken in, and its lane has ended.
+/// One worker puts two items and another takes both, in a mailbox of these two. If the allocator does not serve them,
+/// all that was given is taken in, and its lane has ended. Returns whether it serves them.
 fn two_are_served<'r, R: Abort + Threads + Wait + Sync>(
     rt: &R,
     alloc: Alloc<'r>,
@@ -117,8 +118,8 @@ fn each_growth_of_two_workers_refused(rt: HostRuntime) -> Result<(), Fail> {
     Ok(())
 }
 
-/// Whether the allocator serves the same two workers in a mailbox of two more. If not, the call is made again with memory,
-/// and is done all the same.
+/// The same two workers, in a mailbox of two more. If the allocator does not serve them, the call is made again with
+/// memory, and is done. Returns whether it serves them.
 fn two_are_served_at_last<'r, R: Abort + Threads + Wait + Sync>(
     rt: &R,
     trial: &mut Trial<Alloc<'r>>,
@@ -130,7 +131,7 @@ fn two_are_served_at_last<'r, R: Abort + Threads + Wait + Sync>(
     Ok(served)
 }
 
-/// Whether it does. The report tells the lane and the notes of the call that was done: they are the second ones if the first
+/// The same, and the report has the lane and the notes of the call that was done. They are the second ones if the first
 /// call was refused after it had given both numbers.
 fn second_call_is_done<'r, R: Abort + Threads + Wait + Sync>(
     rt: &R,
@@ -175,12 +176,12 @@ fn a_refused_call_is_made_again(rt: HostRuntime) -> Result<(), Fail> {
         same(&rt, &ample.out(), &0);
         Ok(served)
     })?;
-    // As before: a lane more asks for no further list.
+    // As before: one lane more needs no further list.
     assert!(rt; 9 <= refused);
     Ok(())
 }
 
-/// Both lanes have their items and have ended, and each consumer was told of each item, whoever took it.
+/// Both lanes have their items and have ended, and each consumer has a note on each item.
 fn tells_of_four(rt: &impl Abort, report: &Report<Alloc<'_>>) {
     same(rt, &(report.lanes.len(), report.diaries.len()), &(2, 4));
     let lists: [&[u64]; 2] = [&[1, 2], &[3, 4]];
@@ -192,7 +193,7 @@ fn tells_of_four(rt: &impl Abort, report: &Report<Alloc<'_>>) {
     }
 }
 
-/// The report tells of that.
+/// The report says so.
 fn four_are_told<'r>(
     rt: &impl Abort,
     trial: Trial<Alloc<'r>>,
@@ -205,7 +206,8 @@ fn four_are_told<'r>(
     Ok(())
 }
 
-/// A report of two lanes without items and two consumers without notes, in which so many numbers of producers were left.
+/// The report of two lanes without items and two consumers without notes. `left` says which producers' numbers were
+/// left.
 fn nothing_is_told<'a>(left: (bool, bool)) -> &'a str {
     match left {
         (true, true) => {
@@ -247,8 +249,8 @@ diary 1 1
     }
 }
 
-/// Two workers put two items each and two others poll, in a mailbox of these four: whether the allocator serves them. If
-/// not, all that was given is taken in, and just the lanes given have ended.
+/// Two workers put two items each and two others poll, in a mailbox of these four. If the allocator does not serve
+/// them, all that was given is taken in, and exactly the lanes given have ended. Returns whether it serves them.
 fn four_are_served<'r, R: Abort + Threads + Wait + Sync>(
     rt: &R,
     alloc: Alloc<'r>,

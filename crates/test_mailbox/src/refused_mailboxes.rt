@@ -1,4 +1,4 @@
-//! Calls of a mailbox whose memory is refused: each growth in turn, and then the same call with memory.
+//! Calls of a mailbox that run out of memory: each allocation is refused in turn, and then the same call has memory.
 
 use crate::compare::same;
 use crate::scenes::play;
@@ -15,7 +15,7 @@ use test_alloc::{Rations, Refuse, growths_refused};
 /// The allocator of all lists of a trial.
 pub(crate) type Alloc<'r> = &'r Rations<Global>;
 
-/// The only item is put and taken, and the report tells it.
+/// The only item is put and taken, and the report has it.
 fn takes_seven<'a>(
     rt: &impl Abort,
     ample: Alloc<'a>,
@@ -35,7 +35,7 @@ fn takes_seven<'a>(
     )
 }
 
-/// Whether the allocator serves a new mailbox, in which an item is then put and taken.
+/// Returns whether the allocator serves a new mailbox. If so, an item is put and taken there.
 fn new_is_served<'a>(rt: &impl Abort, alloc: Alloc<'a>, ample: Alloc<'a>) -> Result<bool, Fail> {
     let setup = Setup::new(1, 1, 1, 1, TableName::Bits)?;
     let Ok(mut trial) = Trial::new(alloc, setup) else {
@@ -55,7 +55,7 @@ fn each_growth_of_new_refused(rt: HostRuntime) -> Result<(), Fail> {
     Ok(())
 }
 
-/// One is given, or there is no memory for it. Whether it is given.
+/// One is given, or there is no memory for it. Returns whether it is given.
 pub(crate) fn is_given(rt: &impl Abort, told: Result<(), HubFault>) -> bool {
     if told.is_ok() {
         return true;
@@ -64,7 +64,8 @@ pub(crate) fn is_given(rt: &impl Abort, told: Result<(), HubFault>) -> bool {
     false
 }
 
-/// Whether the allocator serves the only producer. A refusal uses no number up: it is given then, and after it none.
+/// Returns whether the allocator serves the only producer. A refusal uses no number up: it is given afterwards, and
+/// after it none.
 fn producer_is_served<'a>(
     rt: &impl Abort,
     alloc: Alloc<'a>,
@@ -91,7 +92,7 @@ fn each_growth_of_a_producer_refused(rt: HostRuntime) -> Result<(), Fail> {
     Ok(())
 }
 
-/// Whether the allocator serves the only consumer, in the same way.
+/// The same for the only consumer.
 fn consumer_is_served<'a>(
     rt: &impl Abort,
     alloc: Alloc<'a>,
@@ -119,7 +120,7 @@ fn each_growth_of_a_consumer_refused(rt: HostRuntime) -> Result<(), Fail> {
     Ok(())
 }
 
-/// A mailbox of so many producers, consumers and cells, in which these calls were made, and all are taken in.
+/// A mailbox of these sizes, in which these calls were made, and all are taken in.
 fn all_taken_in<'a>(
     rt: &impl Abort,
     ample: Alloc<'a>,
@@ -132,7 +133,8 @@ fn all_taken_in<'a>(
     Ok(trial)
 }
 
-/// Whether the allocator serves the report, which has this text. If it refuses, both values come back, and another serves it.
+/// Returns whether the allocator serves the report, which has this text. If it refuses, both values come back, and
+/// another serves it.
 fn gather_is_served<'a>(
     rt: &impl Abort,
     trial: Trial<Alloc<'a>>,
@@ -173,8 +175,8 @@ diary 0 0 took 7
 ",
             4,
         ),
-        // The lanes, the items of each and the item left; the diaries, and the notes of two. Consumer 0 takes the item of lane 0,
-        // which consumer 1 loses, and consumer 1 begins a claim on the item of lane 1, which has ended.
+        // The lanes, the items of each, the item left, the diaries, and the notes of two. Consumer 0 takes the item of
+        // lane 0, and consumer 1 loses it. Consumer 1 begins a claim on the item of lane 1, which has ended.
         (
             [2, 2, 2],
             "\

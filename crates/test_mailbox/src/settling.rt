@@ -30,18 +30,18 @@ const MAILBOXES: u64 = 32;
 /// How often a consumer looks whether all have come.
 const TURNS: u64 = 10_000_000;
 
-/// One of those who poll: a consumer, its random words, and what its polls came to.
+/// A consumer, its source of random words, and the counts of its answers.
 #[derive(Drop)]
 struct Settler {
     consumer: Consumer<Global>,
     words: ChaCha8Rng,
-    /// Polls that were answered `Took` or `Lost`.
+    /// Polls that returned `Took` or `Lost`.
     settled: u64,
-    /// Polls that were answered `Ended`.
+    /// Polls that returned `Ended`.
     ended: u64,
 }
 
-/// Waits until all consumers have come, and not for ever.
+/// Waits until all consumers have come, but not for ever.
 fn wait_for_all(come: &AtomicU64) {
     come.fetch_add(1, Ordering::SeqCst);
     for _ in 0..TURNS {
@@ -53,7 +53,7 @@ fn wait_for_all(come: &AtomicU64) {
 }
 
 impl Settler {
-    /// Once all consumers have come, it polls once for each item and once for the end.
+    /// Polls once for each item and once for the end, after all consumers have come.
     fn poll_all(&mut self, mailbox: &Mailbox<Global>, budget: u64, come: &AtomicU64)
         requires { IsConsumerOf mailbox.now self.old.consumer }
         ensures { IsConsumerOf mailbox.now self.new.consumer }
@@ -103,7 +103,7 @@ fn put_all(rt: &impl Abort, mailbox: &Mailbox<Global>, producer: &mut Producer<G
     producer.finish(mailbox);
 }
 
-/// Each poll for an item was settled, and the last one found the end. Then all of them are taken in.
+/// Each poll for an item was settled, and the last one found the end. The hub takes all consumers in.
 fn take_in(
     rt: &impl Abort,
     mailbox: &Mailbox<Global>,
@@ -146,7 +146,8 @@ fn settle_all<R: Abort + AllocGlobal + Threads + Sync>(
     Ok(())
 }
 
-/// In a mailbox with a fast path and a last object on each cell they settle all, and the report tells that each item was taken.
+/// They settle all items of a mailbox with a fast path and a last object on each cell. The report says that each item
+/// was taken.
 fn are_all_taken<R: Abort + AllocGlobal + Threads + Sync>(rt: &R, seed: u64) -> Result<(), Fail> {
     let shape = Shape {
         fast: true,

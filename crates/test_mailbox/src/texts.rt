@@ -1,4 +1,4 @@
-//! What the refusals of a mailbox say of themselves.
+//! How the refusals of a mailbox are displayed.
 
 use mb_mailbox::{GatherFault, HubFault, WorkFault};
 use std::test::Fail;

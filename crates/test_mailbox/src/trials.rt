@@ -9,7 +9,7 @@ use std::alloc::Allocator;
 use std::process::Abort;
 use std::test::Fail;
 
-/// The bit table's mailbox of so many producers, consumers and cells, with one pair for each cell.
+/// A mailbox of `p` producers, `c` consumers and `m` cells, with one pair for each cell over the bit table.
 pub(crate) fn new_trial<A: Allocator + Clone + Drop>(
     alloc: A,
     p: u64,

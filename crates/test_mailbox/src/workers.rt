@@ -1,4 +1,4 @@
-//! Workers: what `work` answers, and what is reported then.
+//! Workers: the results of `work`, and the report then.
 
 use crate::compare::same;
 use crate::scenes::play;
@@ -34,7 +34,7 @@ pub(crate) fn lists<A: Allocator + Clone + Drop>(
     Ok(lists)
 }
 
-/// So many sources of words 0.
+/// `amount` sources of words that are all 0.
 pub(crate) fn sources<A: Allocator + Drop>(alloc: A, amount: usize) -> Result<Vec<Zeros, A>, Fail> {
     let mut sources = Vec::new(alloc);
     for _ in 0..amount {
@@ -43,7 +43,7 @@ pub(crate) fn sources<A: Allocator + Drop>(alloc: A, amount: usize) -> Result<Ve
     Ok(sources)
 }
 
-/// One worker puts each of these lists, and so many others poll with this budget.
+/// One worker puts each of these lists, and `consumers` others poll with this budget.
 pub(crate) fn works<R: AllocGlobal + Threads + Wait + Sync, G: Gate>(
     rt: &R,
     trial: &mut Trial<Global>,
@@ -69,8 +69,8 @@ impl Gate for ClosedGate {
     fn leave(&self, _who: Who, _call: u64) {}
 }
 
-/// In a new mailbox of two cells one worker puts each of these lists and another polls, and this is what comes of it and what
-/// is reported then.
+/// In a new mailbox of two cells one worker puts each of these lists, and another polls. `work` has this result, and
+/// the report has this text.
 fn work_once<R: Abort + AllocGlobal + Threads + Wait + Sync, G: Gate>(
     rt: &R,
     items: &[&[u64]],
@@ -133,10 +133,10 @@ fn no_numbers_are_left_for_more_workers(rt: HostRuntime) -> Result<(), Fail> {
     let (one, more, none): (&[&[u64]], &[&[u64]], &[&[u64]]) = (&[&[1, 2]], &[&[3]], &[]);
     for (items, budget, consumers, want) in [
         (one, 5, 1, Ok(ALL_DONE)),
-        // Calls that want one more number are refused. That no number is left is told before the budget.
+        // Calls that need one more number are refused. The error for that comes before the one for the budget.
         (more, 0, 0, Err(WorkFault::AllGiven)),
         (none, 5, 1, Err(WorkFault::AllGiven)),
-        // Without lists and without sources there is nobody, and nothing to do.
+        // Without lists and sources there is no worker and nothing to do.
         (none, 5, 0, Ok(ALL_DONE)),
     ] {
         let worked = works(&rt, &mut trial, items, budget, consumers, &OpenGate)?;
@@ -218,7 +218,7 @@ fn tells_of_all(rt: &impl Abort, report: &Report<Global>) {
 fn four_producers_and_four_consumers_share_64_cells(rt: HostRuntime) -> Result<(), Fail> {
     let report = four_and_four(&rt)?;
     tells_of_all(&rt, &report);
-    // Among others: no item has two who took it.
+    // Among others, this checks that no two consumers took one item.
     let tally = audit(&report, 4, 4)?;
     same(&rt, &tally.put, &64);
     Ok(())

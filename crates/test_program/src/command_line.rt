@@ -17,7 +17,7 @@ fn chooses<R: Abort + AllocGlobal>(rt: &R, words: &[&str], want: Choice) {
     same_at(rt, &is_chosen, &true, &words);
 }
 
-// The options of `run` by default: 2 producers, 2 consumers, 8 items each, 4 pairs alone, budget 64 and seed 0.
+// The defaults of `run`: 2 producers, 2 consumers, 8 items each, 4 pairs alone, budget 64 and seed 0.
 #[test]
 fn run_has_defaults(rt: HostRuntime) {
     let options = Options {
@@ -108,7 +108,7 @@ fn commands_are_named(rt: HostRuntime) {
     chooses(&rt, &["mailbox", "replay"], Choice::Replay);
 }
 
-// The status of a refusal that is printed, and of one that cannot be.
+// The status of a refusal that is printed, and of one that cannot be printed.
 fn refusal(kind: ErrorKind) -> (u8, u8) {
     let printed = Ending::Refused {
         kind,

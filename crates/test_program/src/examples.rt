@@ -1,4 +1,4 @@
-//! The examples of the program: each is run as it stands, and both streams and the status are compared.
+//! The examples of the program. The tests run each of them, and compare both streams and the status.
 //! `examples/README.md` says what each shows.
 
 pub mod claims;

@@ -8,7 +8,7 @@ use mb_quorum::TableName;
 use mb_script::Counting;
 use std::test::Fail;
 
-// The script, run: how the call ended, and what was written.
+// Runs the script. Returns how the call ended, and what was written.
 fn ratified(rt: &HostRuntime, script: &str) -> (Result<(), RatifyFault>, Vec<u8>) {
     let mut reader = Counting::new(script.as_bytes());
     let mut writer = Counting::new(Vec::<u8>::new(rt.alloc()));
@@ -128,7 +128,7 @@ fn the_first_fault_decides(rt: HostRuntime) {
     }
 }
 
-// What is answered over these devices, and what is written.
+// Runs the command over these devices. Returns its result, and what was written.
 fn answered(
     rt: &HostRuntime,
     script: &'static str,

@@ -1,4 +1,5 @@
-//! Each growth of a call refused in turn: the call wants memory, keeps none and writes nothing, and is then served.
+//! Each allocation of a call is refused in turn. The call runs out of memory, keeps none and writes nothing. At last it
+//! is served.
 
 use crate::compare::same;
 use crate::examples::claims::{ITEM_TAKEN, ONE_LOSES};
@@ -13,7 +14,7 @@ use std::process::Abort;
 use std::test::Fail;
 use test_alloc::growths_refused;
 
-/// A call that is out of memory wrote nothing, and any other is done and wrote this. Whether it was served.
+/// A call that ran out of memory wrote nothing, and any other is done and wrote this. Returns whether it was served.
 fn is_served<F: PartialEq + Debug + Copy>(
     rt: &impl Abort,
     ending: Result<(), F>,
@@ -51,8 +52,8 @@ fn each_growth_of_ratify_text_refused(rt: HostRuntime) -> Result<(), Fail> {
 
 #[test]
 fn each_growth_of_run_refused(rt: HostRuntime) -> Result<(), Fail> {
-    // The script's bytes and its events, seven lists of the world, four or five of its report, its lane's cells for the lane
-    // and for each diary, and the text.
+    // The script's bytes and its events, seven lists of the world, four or five of its report, and the text. The cells
+    // of the lane come once for the lane and once for each diary.
     for (example, growths) in [(ITEM_TAKEN, 16), (ONE_LOSES, 18)] {
         let refused = growths_refused(&rt, |alloc| {
             let mut reader = Counting::new(example.input.as_bytes());
@@ -74,8 +75,8 @@ fn each_growth_of_run_threads_refused(rt: HostRuntime) -> Result<(), Fail> {
         let written = writer.device.as_slice();
         Ok(is_served(&rt, result, RunFault::NoMemory, written, TWO_ITEMS.output))
     })?;
-    // The items and their list, the sources, two lists of the hub and two of each table's words, nine growths of `work`, four
-    // lists of the report, and the text.
+    // The items and their list, the sources, two lists of the hub and two of each table's words, nine allocations of
+    // `work`, four lists of the report, and the text.
     assert!(rt; 23 <= refused);
     Ok(())
 }

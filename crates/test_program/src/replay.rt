@@ -7,7 +7,7 @@ use mb_script::{Counting, Fault, report_text, run};
 use mb_world::{Diary, LaneReport, Note, Report, SetupFault};
 use std::test::Fail;
 
-// The script, replayed: how the call ended, and what was written.
+// Replays the script. Returns how the call ended, and what was written.
 fn replayed(rt: &HostRuntime, script: &str) -> (Result<(), Fault>, Vec<u8>) {
     let mut reader = Counting::new(script.as_bytes());
     let mut writer = Counting::new(Vec::<u8>::new(rt.alloc()));
@@ -15,8 +15,8 @@ fn replayed(rt: &HostRuntime, script: &str) -> (Result<(), Fault>, Vec<u8>) {
     (result, writer.device)
 }
 
-// Which fault a script has is tested with the reading of scripts. Here it has lines before and behind it that could be
-// answered, and nothing is written.
+// The tests of reading say which fault a script has. Here good lines come before and after the fault, and nothing is
+// written.
 #[test]
 fn a_fault_leaves_nothing_written(rt: HostRuntime) {
     for (script, want) in [
@@ -41,7 +41,7 @@ fn a_fault_leaves_nothing_written(rt: HostRuntime) {
     }
 }
 
-// A script of so many pushes on a lane where nothing was offered, and its answer.
+// A script of `count` pushes on a lane where nothing was offered, and its output.
 fn pushes(rt: &HostRuntime, count: usize) -> Result<(String, String), Fail> {
     let mut script = String::new(rt.alloc());
     let mut want = String::new(rt.alloc());

@@ -1,4 +1,5 @@
-//! The command `run`: its report where that does not depend on the order of the threads, its faults, over writers that fail.
+//! The command `run`: its report if that does not depend on the order of the threads, its faults, and writers that
+//! fail.
 
 use crate::compare::{same, same_at};
 use crate::devices::NarrowWriter;
@@ -24,12 +25,13 @@ pub const ALONE: Options = Options {
     shape: Shape::PLAIN,
 };
 
-// What the call answered, and what was written.
+// The result of the call, and what was written.
 fn reported<R: AllocGlobal + Threads + Wait + Sync>(
     rt: &R,
     options: Options,
 ) -> (Result<(), RunFault>, Vec<u8>) {
-    // Each budget here is 1 or more, as the call asks, but a loop over options does not tell.
+    // The call needs a budget of 1 or more. Each budget here is, but in a loop over options the prover does not know
+    // it.
     let options = Options {
         budget: options.budget.max(1),
         ..options
@@ -144,7 +146,7 @@ fn setups_are_refused(rt: HostRuntime) {
     }
 }
 
-// A writer that takes 10 bytes, and then fails or takes none, and one that takes none from the first on.
+// A writer that takes 10 bytes and then fails or takes none, and one that takes none at all.
 #[test]
 fn writers_fail(rt: HostRuntime) {
     for (room, fails, want, written) in [
@@ -164,8 +166,8 @@ fn writers_fail(rt: HostRuntime) {
     }
 }
 
-// The first block of ChaCha with 8 rounds, a key of zeros and stream 0 begins with the bytes 3e 00 ef 2f 89 5f 40 d6. A program
-// of a few lines that gives these gives the others.
+// The first block of ChaCha with 8 rounds, a key of zeros and stream 0 begins with the bytes 3e 00 ef 2f 89 5f 40 d6. A
+// small program that gives these words gives the others, too.
 #[test]
 fn sources_have_known_words(rt: HostRuntime) {
     for (seed, consumer, word) in [
@@ -178,7 +180,7 @@ fn sources_have_known_words(rt: HostRuntime) {
     }
 }
 
-// A report does not tell seeds or budgets apart. What the workers are handed does.
+// A report does not show the seed or the budget. What the workers are given does.
 #[test]
 fn workers_are_handed_what_is_asked(rt: HostRuntime) -> Result<(), Fail> {
     for (seed, budget, want) in [
@@ -218,8 +220,8 @@ fn lines_and_notes(text: &str) -> (u64, u64) {
     (lines, notes)
 }
 
-// By default, and with as much as sixteen of each can do: all items are put, all lanes end, and each consumer has a note at
-// each item.
+// By default, and with sixteen producers and sixteen consumers: all items are put, all lanes end, and each consumer has
+// a note on each item.
 #[test]
 fn words_are_run(rt: HostRuntime) -> Result<(), Fail> {
     for (words, first, last, counts) in [

@@ -1,4 +1,4 @@
-//! What the tests of several crates share, and is no test: what a report is to tell, what a value says of itself, and
+//! Helpers for the tests of several crates: they check what a report has, and how a value is displayed, and give
 //! sources of random words that are all 0.
 #![tactic(auto)]
 

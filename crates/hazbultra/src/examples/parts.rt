@@ -1,4 +1,4 @@
-//! What calls do to a hub, to its producers and to its consumers, by example.
+//! Calls on a hub, its producers and its consumers, by example.
 ghost use Rattle.std.specs.Prelude.{◌≡◌, ◌≢◌, ◌+◌, ◌∷◌, None, Some, []};
 ghost use Rattle.rand_core.specs.Stream.{Stream};
 ghost use Rattle.rand_chacha.specs.ChaCha.{ChaCha, next_word};
@@ -40,7 +40,7 @@ pub fn hubs_give()
         → HubTold (λ h r. r.lanes ≡ []) (Some (OfHub h)) (Some (OfReport r)) }
 {}
 
-/// The producer of the one lane comes home. It cannot come home twice.
+/// The producer of the only lane is taken back. It cannot be taken back twice.
 pub fn producers_come_home()
     ensures home { (h : BoundHubView) (p : BoundProducerView) → h.id ≡ p.id
         → h.hub.puts ≡ None ∷ [] → p.producer.seat.lane ≡ 0

@@ -15,7 +15,7 @@ impl ConciliatorPlace {
     ghost use Rattle.mb_deciding.specs.{IsOpAt, AreSteps, DrawsAndMakes};
     ghost use Rattle.mb_deciding.specs.declared.place.pc.Next.TheVariants as leads;
 
-    /// The access that comes next.
+    /// The access that the process makes next.
     #[inline(always)]
     pub(crate) fn next(self) -> Op
         ensures { IsConciliatorOp self result }
@@ -26,8 +26,8 @@ impl ConciliatorPlace {
         }
     }
 
-    /// Goes on to the place that the access leads to, or answers the output, in a conciliator for so many values. `seen`
-    /// is the loaded value and `word` the random word.
+    /// Goes on to the place that the access leads to, or returns the output. The conciliator is for `values` values.
+    /// `seen` is the loaded value and `word` the random word.
     #[inline(always)]
     pub(crate) fn after(&mut self, values: u32, seen: u64, word: u64) -> Option<Out>
         requires { IsConciliatorPlace values self.old }
@@ -51,8 +51,8 @@ impl ConciliatorPlace {
         }
     }
 
-    /// Makes the access that comes next in a conciliator for so many values, and goes on to the place that it leads
-    /// to, or answers the output.
+    /// Makes the next access in a conciliator for `values` values. Goes on to the place that it leads to, or returns
+    /// the output.
     #[inline(always)]
     pub(crate) fn step<M: Memory>(
         &mut self,
@@ -92,8 +92,8 @@ impl ConciliatorPlace {
         }
     }
 
-    /// Makes accesses in a conciliator, from the first one on, until the process has its output or nothing is left of the
-    /// budget. A process that has stored, or looks, does not move.
+    /// Makes accesses in a conciliator until the process has its output or the budget `left` is used up. It begins
+    /// before the store: a process that is about to store, or has stored, makes no access.
     #[inline(always)]
     pub fn run<Q: Quorums, M: Drawing>(
         self,
@@ -146,7 +146,7 @@ impl ConciliatorPlace {
         }))
     }
 
-    /// Goes on from the store of the input, until the process has its output or nothing is left of the budget.
+    /// Goes on from the store of the input, until the process has its output or the budget `left` is used up.
     #[inline(always)]
     fn finish<Q: Quorums, M: Drawing>(
         self,
@@ -189,7 +189,7 @@ impl ConciliatorPlace {
         Next::Go(Pc::InConciliator(place))
     }
 
-    /// After the load of a process that has not stored.
+    /// What follows the load of a process that has not stored.
     #[inline(always)]
     fn drawn(
         &mut self,
@@ -228,7 +228,7 @@ impl ConciliatorPlace {
         }
     }
 
-    /// After the store of the input.
+    /// What follows the store of the input.
     #[inline(always)]
     fn put(&mut self, input: u32) -> Option<Out>
         ensures fits { (t : QuorumTable) → input < t.values
@@ -244,7 +244,7 @@ impl ConciliatorPlace {
         None
     }
 
-    /// After the load of a process that has stored, wherever it stands then.
+    /// What follows the load of a process that has stored.
     #[inline(always)]
     fn looked(values: u32, input: u32, seen: u64) -> Option<Out>
         requires { input < values }
@@ -258,8 +258,8 @@ impl ConciliatorPlace {
         Some(Self::met(values, input, seen))
     }
 
-    /// The output of a process with this input that loaded `seen`: the value that stands there,
-    /// and its own input where no value can.
+    /// The output of a process with this input that loaded `seen`: the value that this means, or its own input if it
+    /// means no value.
     #[inline(always)]
     fn met(values: u32, input: u32, seen: u64) -> Out
         requires { input < values }

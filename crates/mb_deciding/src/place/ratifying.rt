@@ -17,7 +17,7 @@ impl RatifierPlace {
     ghost use Rattle.mb_deciding.specs.{Pc, IsOpAt, AreSteps, DrawsAndMakes};
     ghost use Rattle.mb_deciding.specs.declared.place.pc.Next.TheVariants as leads;
 
-    /// The access that comes next.
+    /// The access that the process makes next.
     #[inline(always)]
     pub(crate) fn next<Q: Quorums>(self, q: &Q) -> Op
         requires { IsRatifierPlace (Q.table q.now) self }
@@ -31,7 +31,7 @@ impl RatifierPlace {
         }
     }
 
-    /// Goes on to the place that the access leads to, or answers the output. `seen` is the loaded value.
+    /// Goes on to the place that the access leads to, or returns the output. `seen` is the loaded value.
     #[inline(always)]
     pub(crate) fn after<Q: Quorums>(&mut self, q: &Q, seen: u64) -> Option<Out>
         requires { IsRatifierPlace (Q.table q.now) self.old }
@@ -49,7 +49,7 @@ impl RatifierPlace {
         }
     }
 
-    /// Makes the access that comes next, and goes on to the place that it leads to, or answers the output.
+    /// Makes the next access. Goes on to the place that it leads to, or returns the output.
     #[inline(always)]
     pub(crate) fn step<Q: Quorums, M: Memory>(
         &mut self,
@@ -83,8 +83,8 @@ impl RatifierPlace {
         }
     }
 
-    /// Makes accesses in a ratifier, from the announcement on, until the process has its output or nothing is left of the
-    /// budget. A process at another place does not move.
+    /// Makes accesses in a ratifier until the process has its output or the budget `left` is used up. It begins at the
+    /// announcement: a process at another place makes no access.
     #[inline(always)]
     pub fn run<Q: Quorums, M: Drawing>(
         self,
@@ -103,7 +103,7 @@ impl RatifierPlace {
             × AreSteps (Q.table q.now) (DrawsAndMakes M.draws M.makes object) (InRatifier self)
             memory.old n result memory.new }
 
-        // From the first store on it makes one access at least, if the budget has one.
+        // A process that announces makes at least one access, if the budget is not 0.
         ensures moves { (input mask : ℕ) → self ≡ Announce input mask → left.old ≢ 0
             → left.new < left.old }
     {
@@ -124,7 +124,7 @@ impl RatifierPlace {
         Self::Announce { input, left: mask }.find(q, memory, object, left)
     }
 
-    /// Goes on from one access more, the load of the proposal.
+    /// Makes one access more, and goes on from there. After the announcement this is the load of the proposal.
     #[inline(always)]
     fn find<Q: Quorums, M: Drawing>(
         self,
@@ -156,8 +156,8 @@ impl RatifierPlace {
         place.check(q, memory, object, left)
     }
 
-    /// Goes on from the store of a proposal or the check of a preference, until the process has its output or nothing is left
-    /// of the budget.
+    /// Goes on from the store of a proposal or the check of a preference, until the process has its output or the
+    /// budget `left` is used up.
     #[inline(always)]
     fn check<Q: Quorums, M: Drawing>(
         self,
@@ -200,7 +200,7 @@ impl RatifierPlace {
         Next::Go(Pc::InRatifier(place))
     }
 
-    /// The access of a process that still has these registers to announce its input in.
+    /// The next access of a process that still has to set these registers.
     #[inline(always)]
     fn announcing(left: u64) -> Op
         ensures { (t : QuorumTable) (input : ℕ) → IsRatifierOp t (Announce input left) result }
@@ -212,7 +212,7 @@ impl RatifierPlace {
         }
     }
 
-    /// After that access.
+    /// What follows that access.
     #[inline(always)]
     fn announced<Q: Quorums>(&mut self, q: &Q, input: u32, left: u64, seen: u64) -> Option<Out>
         requires { input < (Q.table q.now).values }
@@ -229,7 +229,7 @@ impl RatifierPlace {
         }
     }
 
-    /// Makes that access, and goes on to the place that it leads to, or answers the output.
+    /// Makes that access. Goes on to the place that it leads to, or returns the output.
     #[inline(always)]
     fn announce<Q: Quorums, M: Memory>(
         &mut self,
@@ -258,7 +258,7 @@ impl RatifierPlace {
         }
     }
 
-    /// After the store in the least of these registers: it is no longer left.
+    /// What follows the store in the least of these registers: it is no longer left.
     #[inline(always)]
     fn stored<Q: Quorums>(&mut self, q: &Q, input: u32, left: u64) -> Option<Out>
         requires input { input < (Q.table q.now).values }
@@ -274,7 +274,7 @@ impl RatifierPlace {
         None
     }
 
-    /// After the load of the proposal, where no register is left to announce in.
+    /// What follows the load of the proposal, when no register is left to set.
     #[inline(always)]
     fn found<Q: Quorums>(&mut self, q: &Q, input: u32, left: u64, seen: u64) -> Option<Out>
         requires input { input < (Q.table q.now).values }
@@ -294,7 +294,7 @@ impl RatifierPlace {
         }
     }
 
-    /// After the store of the input in the proposal.
+    /// What follows the store of the input in the proposal.
     #[inline(always)]
     fn proposed<Q: Quorums>(&mut self, q: &Q, input: u32) -> Option<Out>
         requires { input < (Q.table q.now).values }
@@ -307,7 +307,7 @@ impl RatifierPlace {
         self.checks(input, q.read_quorum(input))
     }
 
-    /// After the load of the least register that is left of the preference's read quorum.
+    /// What follows the load of the least register that is left of the preference's read quorum.
     #[inline(always)]
     fn checked<Q: Quorums>(&mut self, q: &Q, preference: u32, left: u64, seen: u64) -> Option<Out>
         requires { IsRatifierPlace (Q.table q.now) (Check preference left) }
@@ -324,7 +324,7 @@ impl RatifierPlace {
         }
     }
 
-    /// On to the registers that are left of the preference's read quorum, or decided where none is.
+    /// Goes on to the registers that are left of the preference's read quorum. If none is left, it has decided.
     #[inline(always)]
     fn checks(&mut self, preference: u32, left: u64) -> Option<Out>
         ensures fits { (t : QuorumTable) → preference < t.values

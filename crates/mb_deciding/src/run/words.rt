@@ -1,4 +1,4 @@
-//! The words of one object.
+//! The words of an object in a run on one thread.
 use crate::access::{Act, Op, Reg};
 use crate::memory::Memory;
 
@@ -55,7 +55,6 @@ impl Words {
         }
     }
 
-    /// What the word holds.
     #[inline(always)]
     fn load(&self, reg: Reg) -> u64
         requires { IsReg reg }
@@ -69,7 +68,6 @@ impl Words {
         }
     }
 
-    /// Stores the value in the word.
     #[inline(always)]
     fn store(&mut self, reg: Reg, value: u64)
         requires { IsReg reg }
@@ -88,9 +86,7 @@ impl Words {
 /// The words while one access is made to them, and that access once it is made.
 #[derive(Drop)]
 pub struct ObjectWords<'a> {
-    /// The words.
     pub words: &'a mut Words,
-    /// The access.
     pub made: Act,
 }
 

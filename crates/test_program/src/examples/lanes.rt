@@ -1,4 +1,4 @@
-//! Replays of what producers and readers of lanes are answered.
+//! Replays with the answers that producers and readers of lanes get.
 
 use super::Example;
 

@@ -1,4 +1,4 @@
-//! Scripts of one ratifier, answered and refused.
+//! Scripts of one ratifier, accepted and refused.
 
 use super::Example;
 

@@ -1,4 +1,4 @@
-//! Threads, where their report does not depend on their order.
+//! Runs of threads with a report that does not depend on their order.
 
 use super::Example;
 

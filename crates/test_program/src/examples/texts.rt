@@ -1,4 +1,4 @@
-//! What clap writes: help that was asked for, and why words are refused.
+//! What clap writes: help that was asked for, and why a command line is refused.
 
 use super::Example;
 
