@@ -4,15 +4,18 @@ mod enrolling;
 mod lanes;
 mod readers;
 
-use self::accesses::roster;
+ghost use Rattle.std.specs.Prelude.{◌≡◌};
+ghost use Rattle.mb_shared_cells.specs.Rule.{roster_of};
+
 use crate::rule::CellsRule;
 use crate::views::View;
 use atomic_table::{Seat, Table};
-pub use enrolling::AllGiven;
 use mb_cells::laws::{lanes_refuse_by_what_was_done, parts_tell_lanes};
 use mb_cells::steps::{one_step, words_follow_steps};
 use mb_cells::{Finish, Lane, NoMemory, PoolSize};
 use std::alloc::Allocator;
+use std::error::Error;
+use std::fmt;
 use std::marker::Model;
 
 /// The words of a pool of cells, on which threads make single atomic steps, each with a seat of its own. Between any two
@@ -37,6 +40,13 @@ impl<A: Allocator + Drop> Model for SharedCells<A> {
         × (t.table.shared.table_id.slots ≡ 0) × (t.size.lanes < 2 ^ 32) × (t.size.cells < 2 ^ 32) };
 }
 
+/// Where the roster lies in a table of this size: behind the words of the pool.
+fn roster(size: PoolSize) -> usize
+    ensures { result ≡ roster_of size }
+{
+    1 + size.lanes as usize + size.cells as usize + size.cells as usize
+}
+
 /// Gives the seats of a table out, and takes them in with what was done on them.
 #[derive(Drop)]
 pub struct CellHub {
@@ -54,6 +64,18 @@ impl Model for CellHub {
 
     ghost invariant = { λ h. IsHubSeat h.seat.me h.given };
 }
+
+/// All numbers were given.
+#[derive(Clone, Copy, PartialEq, Eq, Debug)]
+pub struct AllGiven;
+
+impl fmt::Display for AllGiven {
+    fn fmt<W: fmt::Write>(&self, f: &mut fmt::Formatter<W>) -> fmt::Result {
+        f.write_str("all numbers were given")
+    }
+}
+
+impl Error for AllGiven {}
 
 /// The seat of a lane's producer.
 #[derive(Drop)]

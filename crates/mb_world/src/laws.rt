@@ -33,13 +33,12 @@ ghost use Rattle.mb_world.specs.Below.{HasFoundNone, HasPending, has_ended};
 ghost use Rattle.mb_world.specs.Waiting.{HasNothing};
 ghost use Rattle.mb_world.specs.Worlds.{IsWorldLawful};
 
-use crate::steps::one_step;
 use mb_cells::laws::{
     cells_stand_once, end_marks_are_last, lanes_refuse_by_what_was_done, loads_tell_what_stays,
     numbers_are_handed_out_once, readers_follow_lanes, readers_keep_to_lanes,
     words_lead_through_lanes,
 };
-use mb_cells::steps::{accesses_stay_within, lanes_lead_on, one_step as one_pool_step};
+use mb_cells::steps::{accesses_stay_within, lanes_lead_on, one_step};
 use mb_claim::laws::{claims_have_one_winner, last_objects_decide_claims, prefixes_have_one_stage};
 use mb_claim::steps::claims_have_one_next_op;
 use mb_deciding::laws::objects_keep_their_promises;
@@ -298,5 +297,4 @@ pub fn events_of_producers_are_refused_or_made()
     numbers_are_handed_out_once();
     worlds_are_sound();
     one_step();
-    one_pool_step();
 }

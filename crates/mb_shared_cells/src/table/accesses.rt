@@ -1,24 +1,14 @@
 //! One access of a seat: one atomic step of the table.
-ghost use Rattle.std.specs.Prelude.{◌≡◌};
-ghost use Rattle.mb_shared_cells.specs.Rule.{roster_of};
-
 use super::SharedCells;
 use crate::rule::{Made, Makes};
 use crate::views::View;
 use atomic_table::Seat;
+use mb_cells::Word;
 use mb_cells::laws::numbers_are_handed_out_once;
 use mb_cells::steps::{
     accesses_lengthen_one_part, addresses_are_apart, one_step, words_follow_steps,
 };
-use mb_cells::{PoolSize, Word};
 use std::alloc::Allocator;
-
-/// Where the roster lies in a table of this size: behind the words of the pool.
-pub(super) fn roster(size: PoolSize) -> usize
-    ensures { result ≡ roster_of size }
-{
-    1 + size.lanes as usize + size.cells as usize + size.cells as usize
-}
 
 impl<A: Allocator + Drop> SharedCells<A> {
     ghost use Rattle.std.specs.Prelude.{◌≡◌, ◌<◌, ◌^◌};

@@ -1,24 +1,9 @@
 //! The hub gives seats out and takes them in.
-use super::accesses::roster;
-use super::{CellHub, LaneSeat, ReaderSeat, SharedCells};
+use super::{AllGiven, CellHub, LaneSeat, ReaderSeat, SharedCells, roster};
 use crate::rule::{Draws, Parts, TakesIn};
 use mb_cells::Lane;
 use mb_cells::steps::{lanes_lead_on, one_step, words_follow_steps};
 use std::alloc::Allocator;
-use std::error::Error;
-use std::fmt;
-
-/// All numbers were given.
-#[derive(Clone, Copy, PartialEq, Eq, Debug)]
-pub struct AllGiven;
-
-impl fmt::Display for AllGiven {
-    fn fmt<W: fmt::Write>(&self, f: &mut fmt::Formatter<W>) -> fmt::Result {
-        f.write_str("all numbers were given")
-    }
-}
-
-impl Error for AllGiven {}
 
 impl<A: Allocator + Drop> SharedCells<A> {
     ghost use Rattle.std.specs.Prelude.{◌≡◌, ◌↔◌, ◌≤◌, [], length, Some, None, slice_get, IsErr, IfOk, OnErr};
