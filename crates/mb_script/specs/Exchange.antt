@@ -55,3 +55,12 @@ pub record IsExchange {F X R W : Type 0} (command : Command F) (source : Meter R
   pub stopped : result ≡ Err command.read_fault →
       ConsumesUpTo MAX_SCRIPT_LEN (source.bytes reader) (source.bytes reader')
   pub bound : ConsumesUpTo (MAX_SCRIPT_LEN + 1) (source.bytes reader) (source.bytes reader')
+
+-- the faults that commands share differ from one another
+pub record AreApart {F : Type 0} (command : Command F) : Type 0 where
+  pub long_memory : command.too_long ≢ command.no_memory
+  pub long_read : command.too_long ≢ command.read_fault
+  pub long_write : command.too_long ≢ command.write_fault
+  pub memory_read : command.no_memory ≢ command.read_fault
+  pub memory_write : command.no_memory ≢ command.write_fault
+  pub read_write : command.read_fault ≢ command.write_fault

@@ -3,6 +3,7 @@
 #![tactic(auto)]
 
 mod act_text;
+mod answering;
 mod device;
 pub mod examples;
 mod fault;
@@ -20,6 +21,7 @@ mod transcript;
 mod transfer;
 
 pub use act_text::push_act;
+pub use answering::{Answering, Faults, exchange};
 pub use device::{Counting, Sink, Source};
 pub use fault::Fault;
 pub use few_words::{MAX_WORDS, Words};
