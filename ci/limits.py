@@ -16,7 +16,7 @@ LIMITS = {
     "files over 400 lines": 1,
     "functions over 40 lines": 3,
     "functions with more than 6 parameters": 6,
-    "modules that import each other": 11,
+    "modules that import each other": 0,
     "lines of clauses over 100 columns": 10,
     "heads of more than 20 imports": 50,
     "lines of imports over 200 columns": 1,

@@ -38,6 +38,7 @@ mod hub;
 pub mod laws;
 mod mailbox;
 mod notes;
+mod opening;
 mod place;
 mod producer;
 mod spare;
