@@ -48,7 +48,8 @@ pub trait Answering {
         ensures text { IfOk result (λ text. command.IsAnswer bytes.now (string_bytes text)) }
         ensures fault { IfErr result
             (λ e. e ≢ command.no_memory → command.fault_of bytes.now ≡ Some e) }
-        ensures no_device { IfErr result (λ e. (e ≢ command.read_fault) × (e ≢ command.write_fault)) };
+        ensures no_device { IfErr result
+            (λ e. (e ≢ command.read_fault) × (e ≢ command.write_fault)) };
 }
 
 /// Reads a script to its end, and writes the text that answers it and nothing else.
