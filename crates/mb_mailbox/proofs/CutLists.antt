@@ -1,0 +1,56 @@
+-- What a hub tells of its ledgers, whether their notes are cut or not.
+use Rattle.std.proofs.Common.{◌≡◌, ℕ, suc, ◌+◌, ◌<◌, true, List, [], ◌∷◌, ◌++◌, length, map, refl, sym, ap, ◌∙◌, subst, inl, inr, arith}
+use Rattle.std.specs.Prelude.{Option, Some, None, slice_get, slice_set}
+use Rattle.std.specs.Option.{option_map, option_map_or}
+use Rattle.std.proofs.lemmas.List.{length-map, map-append}
+use Rattle.std.proofs.lemmas.Option.{slice_get-map}
+use Rattle.mb_mailbox.specs.Gathering.{count_missing, kept_at}
+use Rattle.mb_mailbox.specs.Hubs.{LedgerView}
+use Rattle.mb_mailbox.specs.Ledgers.{AreCut, AreCutBelow, KeptView, ledger_of, ledgers_of}
+use Rattle.mb_mailbox.proofs.Lists.{get_within, map_get, map_set, set_get, set_same}
+
+pub ledgers_count : (os : List (Option KeptView)) → length (ledgers_of os) ≡ length os
+ledgers_count os = length-map os ledger_of
+
+pub ledgers_more : (os : List (Option KeptView)) (o : Option KeptView)
+    → ledgers_of (os ++ o ∷ []) ≡ ledgers_of os ++ ledger_of o ∷ []
+ledgers_more os o = map-append ledger_of os (o ∷ [])
+
+pub ledgers_set : (os : List (Option KeptView)) (c : ℕ) (o : Option KeptView)
+    → ledgers_of (slice_set os c o) ≡ slice_set (ledgers_of os) c (ledger_of o)
+ledgers_set os c o = map_set ledger_of os c o
+
+pub ledgers_missing : (os : List (Option KeptView)) → count_missing (ledgers_of os) ≡ count_missing os
+ledgers_missing [] = refl
+ledgers_missing (Some k ∷ os) = ledgers_missing os
+ledgers_missing (None ∷ os) = ap suc (ledgers_missing os)
+
+-- what is kept of one is what its ledger tells
+pub kept_told : (os : List (Option KeptView)) (c : ℕ) → kept_at (ledgers_of os) c ≡ ledger_of (kept_at os c)
+kept_told os c = ap (λ (z : Option (Option LedgerView)). option_map_or (λ (o : Option LedgerView). o) z None)
+    (slice_get-map ledger_of os c) ∙ by (slice_get os c)
+  where
+    by : (z : Option (Option KeptView)) → option_map_or (λ (o : Option LedgerView). o) (option_map ledger_of z) None
+        ≡ ledger_of (option_map_or (λ (o : Option KeptView). o) z None)
+    by None = refl
+    by (Some o) = refl
+
+-- ---- one more is cut
+pub ledgers_same : (os : List (Option KeptView)) (c : ℕ) (o new : Option KeptView) → slice_get os c ≡ Some o
+    → ledger_of new ≡ ledger_of o → ledgers_of (slice_set os c new) ≡ ledgers_of os
+ledgers_same os c o new e same =
+    ledgers_set os c new ∙ ap (λ (l : Option LedgerView). slice_set (ledgers_of os) c l) same
+    ∙ set_same (ledgers_of os) c (ledger_of o) (map_get ledger_of os c o e)
+
+pub cut_more : (os : List (Option KeptView)) (c : ℕ) (new : Option KeptView) → AreCutBelow c os
+    → ((k : KeptView) → new ≡ Some k → k.is_cut ≡ true) → AreCutBelow (c + 1) (slice_set os c new)
+cut_more os c new below cut d k low e = elim (set_get os c d new (Some k) e) [
+  | inl t ↦ cut k t.1
+  | inr t ↦ let ne = t.0 in below d k (by d ne low) t.1
+]
+  where
+    by : (d : ℕ) → (d ≡ c → ⊥) → d < c + 1 → d < c
+    by d ne low = omega arith
+
+pub all_cut : (os : List (Option KeptView)) (n : ℕ) → n ≡ length os → AreCutBelow n os → AreCut os
+all_cut os n e below c k f = below c k (subst (λ (m : ℕ). c < m) (sym e) (get_within os c (Some k) f)) f

@@ -1,0 +1,1 @@
+-- Lists that are moved into the outline of a report.
