@@ -1,12 +1,12 @@
 -- What a hub tells of its ledgers, whether their notes are cut or not.
-use Rattle.std.proofs.Common.{◌≡◌, ℕ, suc, ◌+◌, ◌<◌, true, List, [], ◌∷◌, ◌++◌, length, map, refl, sym, ap, ◌∙◌, subst, inl, inr, arith}
+use Rattle.std.proofs.Common.{◌≡◌, ℕ, suc, ◌+◌, ◌<◌, ◌≤◌, true, List, [], ◌∷◌, ◌++◌, length, refl, ap, ◌∙◌, inl, inr, arith}
 use Rattle.std.specs.Prelude.{Option, Some, None, slice_get, slice_set}
 use Rattle.std.specs.Option.{option_map, option_map_or}
 use Rattle.std.proofs.lemmas.List.{length-map, map-append}
 use Rattle.std.proofs.lemmas.Option.{slice_get-map}
 use Rattle.mb_mailbox.specs.Gathering.{count_missing, kept_at}
 use Rattle.mb_mailbox.specs.Hubs.{LedgerView}
-use Rattle.mb_mailbox.specs.Ledgers.{AreCut, AreCutBelow, KeptView, ledger_of, ledgers_of}
+use Rattle.mb_mailbox.specs.Ledgers.{AreCut, AreCutBelow, HaveLists, KeptView, ledger_of, ledgers_of}
 use Rattle.mb_mailbox.proofs.Lists.{get_within, map_get, map_set, set_get, set_same}
 
 pub ledgers_count : (os : List (Option KeptView)) → length (ledgers_of os) ≡ length os
@@ -46,11 +46,16 @@ pub cut_more : (os : List (Option KeptView)) (c : ℕ) (new : Option KeptView) �
     → ((k : KeptView) → new ≡ Some k → k.is_cut ≡ true) → AreCutBelow (c + 1) (slice_set os c new)
 cut_more os c new below cut d k low e = elim (set_get os c d new (Some k) e) [
   | inl t ↦ cut k t.1
-  | inr t ↦ let ne = t.0 in below d k (by d ne low) t.1
+  | inr t ↦ let ne : d ≡ c → ⊥ = t.0 in below d k (omega (arith, ne, low)) t.1
 ]
-  where
-    by : (d : ℕ) → (d ≡ c → ⊥) → d < c + 1 → d < c
-    by d ne low = omega arith
 
-pub all_cut : (os : List (Option KeptView)) (n : ℕ) → n ≡ length os → AreCutBelow n os → AreCut os
-all_cut os n e below c k f = below c k (subst (λ (m : ℕ). c < m) (sym e) (get_within os c (Some k) f)) f
+pub all_cut : (os : List (Option KeptView)) (n : ℕ) → length os ≤ n → AreCutBelow n os → AreCut os
+all_cut os n most below c k e =
+    let low = get_within os c (Some k) e in
+    below c k (omega (arith, low, most)) e
+
+-- ---- a list for each lane
+pub have_lists : (lanes : ℕ) (os : List (Option KeptView))
+    → ((c : ℕ) (l : LedgerView) → slice_get (ledgers_of os) c ≡ Some (Some l) → length l.notes ≡ lanes)
+    → HaveLists lanes os
+have_lists lanes os full c k e = full c k.ledger (map_get ledger_of os c (Some k) e)

@@ -1,5 +1,5 @@
 -- How the notes of a consumer that was taken in are kept: as marks and words, or cut by lane. A hub does not tell which.
-use Rattle.std.specs.Prelude.{ℕ, ◌≡◌, ◌<◌, Bool, true, false, List, Option, Some, map, slice_get}
+use Rattle.std.specs.Prelude.{ℕ, ◌≡◌, ◌<◌, Bool, true, false, List, Option, Some, length, map, slice_get}
 use Rattle.std.specs.Option.{option_map}
 use Rattle.mb_mailbox.specs.Below.{Note}
 use Rattle.mb_mailbox.specs.Hubs.{LedgerView}
@@ -35,3 +35,8 @@ AreCutBelow n os = (c : ℕ) (k : KeptView) → c < n → slice_get os c ≡ Som
 -- all of them are
 abbrev pub AreCut : List (Option KeptView) → Type 0
 AreCut os = (c : ℕ) (k : KeptView) → slice_get os c ≡ Some (Some k) → k.is_cut ≡ true
+
+-- each that is there has notes for so many lanes
+abbrev pub HaveLists : ℕ → List (Option KeptView) → Type 0
+HaveLists lanes os =
+    (c : ℕ) (k : KeptView) → slice_get os c ≡ Some (Some k) → length k.ledger.notes ≡ lanes

@@ -25,5 +25,6 @@ pub mod Called
 pub mod HubRuns
 pub mod Given
 pub mod Gathering
+pub mod Filling
 pub mod GatheringExamples
 pub mod WorkExamples

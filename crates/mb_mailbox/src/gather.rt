@@ -8,12 +8,11 @@ mod sound;
 ghost use Rattle.std.specs.Prelude.{◌≡◌, ◌≤◌, length};
 ghost use Rattle.mb_mailbox.specs.Gathering.{count_missing};
 
-pub use draft::Draft;
-
 use crate::gather::cutting::CutHub;
 use crate::gather::filling::{fill_diaries, fill_lanes};
 use crate::hub::Hub;
 use crate::mailbox::Mailbox;
+pub use draft::Draft;
 use mb_claim::laws::layouts_are_sound;
 use mb_world::Report;
 use sound::gathering_is_sound;
@@ -153,12 +152,18 @@ impl<A: Allocator + Clone + Drop> Mailbox<A> {
             puts,
             ledgers,
         } = hub;
-        let mut report = outline;
-        fill_lanes(&mut report.lanes, puts);
-        fill_diaries(&mut report.diaries, lanes, ledgers);
+        let Report {
+            lanes: mut reports,
+            mut diaries,
+        } = outline;
+        fill_lanes(&mut reports, puts);
+        fill_diaries(&mut diaries, lanes, ledgers);
         cells.close(lanes_hub);
         claims.close(claims_hub);
-        report
+        Report {
+            lanes: reports,
+            diaries,
+        }
     }
 }
 

@@ -49,10 +49,49 @@ impl<A: Allocator + Drop> Model for Ledger<A> {
 }
 
 impl<A: Allocator + Drop> Ledger<A> {
-    ghost use Rattle.std.specs.Prelude.{◌≡◌, map, true};
+    ghost use Rattle.std.specs.Prelude.{◌≡◌, false, map, slice_get, true};
+    ghost use Rattle.std.specs.Option.{option_map_or};
+    ghost use Rattle.mb_mailbox.specs.Gathering.{has_begun_at};
+    ghost use Rattle.mb_mailbox.specs.Steps.{notes_on};
+
+    /// Whether it holds a claim on lane `p` that has an access.
+    pub(crate) fn begun(&self, p: u32) -> bool
+        ensures { result ≡ option_map_or has_begun_at (slice_get self.now.ledger.places p) false }
+    {
+        match self.places.as_slice().get(p as usize) {
+            Some(Place::At { cell: _, claim }) => claim.begun(),
+            _ => false,
+        }
+    }
+
+    /// Its note on the item at position `j` of lane `p`.
+    pub(crate) fn note(&self, p: u32, j: usize) -> Option<Note>
+        requires cut { self.now.is_cut ≡ true }
+        ensures { result ≡ slice_get (notes_on p self.now.ledger.notes) j }
+    {
+        match self.lists().get(p as usize) {
+            Some(notes) => notes.as_slice().get(j).copied(),
+            None => None,
+        }
+    }
+
+    /// How many items of lane `p` it took, if its notes are cut. It is only how much room to take.
+    pub(crate) fn count_taken(&self, p: u32) -> usize {
+        let mut count: usize = 0;
+        if let Kept::Cut(lists) = &self.notes {
+            if let Some(notes) = lists.as_slice().get(p as usize) {
+                for note in notes.iter() {
+                    if let Note::Took(_) = note {
+                        count = count.saturating_add(1);
+                    }
+                }
+            }
+        }
+        count
+    }
 
     /// The notes of each lane.
-    pub(crate) fn lists(&self) -> &[Vec<Note, A>]
+    fn lists(&self) -> &[Vec<Note, A>]
         requires cut { self.now.is_cut ≡ true }
         ensures { map (λ v. v.items) result.now ≡ self.now.ledger.notes }
     {

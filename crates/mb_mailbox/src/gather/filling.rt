@@ -1,10 +1,7 @@
 //! The lists that a hub has kept, moved into the outline of its report. Nothing is copied, and no memory is taken.
-ghost use Rattle.std.specs.Prelude.{ℕ, ◌≡◌, ◌⊎◌, ◌+◌, ◌*◌, ◌<◌, ◌≤◌, [], Some, length, map, slice_get, vec_len};
-ghost use Rattle.std.specs.Option.{option_map_or};
-ghost use Rattle.mb_world.specs.Report.{DiaryView, LaneView};
-ghost use Rattle.mb_mailbox.specs.Gathering.{kept_at};
-ghost use Rattle.mb_mailbox.specs.Ledgers.{AreCut, KeptView, ledgers_of};
-ghost use Rattle.mb_mailbox.specs.Steps.{notes_on};
+ghost use Rattle.std.specs.Prelude.{◌≡◌, ◌+◌, ◌*◌, ◌≤◌, Some, length, map, true, vec_len};
+ghost use Rattle.mb_mailbox.specs.Filling.{changed_from, with_items, with_notes, with_row, with_rows};
+ghost use Rattle.mb_mailbox.specs.Ledgers.{AreCut, HaveLists, KeptView, ledger_of, ledgers_of};
 
 use crate::taken::{Ledger, PutList};
 use mb_world::{Diary, LaneReport, Note};
@@ -15,17 +12,12 @@ pub(super) fn fill_lanes<A: Allocator + Drop>(
     lanes: &mut Vec<LaneReport<A>, A>,
     mut puts: Vec<Option<PutList<A>>, A>,
 )
-    requires room { vec_len puts ≤ vec_len lanes.old }
-    ensures count { vec_len lanes.new ≡ vec_len lanes.old }
-    ensures each { (p : ℕ) (l : LaneView) → slice_get lanes.old.items p ≡ Some l → l.put ≡ []
-        → slice_get lanes.new.items p ≡ Some (record l {
-          put = option_map_or (λ k. k.items) (kept_at puts.items p) [];
-        }) }
+    requires { vec_len puts ≤ vec_len lanes.old }
+    ensures { lanes.new.items ≡ changed_from with_items 0 puts.items lanes.old.items }
 {
     while let Some(kept) = puts.pop() {
-        if let Some(kept) = kept {
-            put_in(&mut lanes[puts.len()], kept.items);
-        }
+        let p = puts.len();
+        fill_lane(&mut lanes[p], kept);
     }
 }
 
@@ -38,53 +30,60 @@ pub(super) fn fill_diaries<A: Allocator + Drop>(
     requires few { (lanes ≤ 16) × (vec_len ledgers ≤ 64) }
     requires room { vec_len ledgers * lanes ≤ vec_len diaries.old }
     requires cut { AreCut ledgers.items }
-    requires rows { (c : ℕ) (k : KeptView) → slice_get ledgers.items c ≡ Some (Some k)
-        → length k.ledger.notes ≡ lanes }
-    ensures count { vec_len diaries.new ≡ vec_len diaries.old }
-    ensures each { (c p : ℕ) (d : DiaryView) → p < lanes
-        → slice_get diaries.old.items (c * lanes + p) ≡ Some d → d.notes ≡ []
-        → slice_get diaries.new.items (c * lanes + p) ≡ Some (record d {
-          notes = option_map_or (λ l. notes_on p l.notes) (kept_at (ledgers_of ledgers.items) c) [];
-        }) }
+    requires lists { HaveLists lanes ledgers.items }
+    ensures { diaries.new.items
+        ≡ with_rows lanes 0 (ledgers_of ledgers.items) diaries.old.items }
 {
     while let Some(kept) = ledgers.pop() {
-        if let Some(ledger) = kept {
-            fill_row(diaries, ledgers.len() * lanes as usize, ledger.into_lists());
-        }
+        let first = ledgers.len() * lanes as usize;
+        fill_row(diaries, first, kept);
     }
 }
 
-/// Moves these lists into the diaries from this place on.
+/// Moves the notes of a consumer, if it is there, into the diaries from this place on.
 fn fill_row<A: Allocator + Drop>(
+    diaries: &mut Vec<Diary<A>, A>,
+    first: usize,
+    kept: Option<Ledger<A>>,
+)
+    requires room { (k : KeptView) → kept ≡ Some k
+        → first + length k.ledger.notes ≤ vec_len diaries.old }
+    requires cut { (k : KeptView) → kept ≡ Some k → k.is_cut ≡ true }
+    ensures { diaries.new.items ≡ with_row first (ledger_of kept) diaries.old.items }
+{
+    if let Some(ledger) = kept {
+        fill_notes(diaries, first, ledger.into_lists());
+    }
+}
+
+/// Moves each of these lists into its diary, the first into that at this place.
+fn fill_notes<A: Allocator + Drop>(
     diaries: &mut Vec<Diary<A>, A>,
     first: usize,
     mut lists: Vec<Vec<Note, A>, A>,
 )
-    requires room { first + vec_len lists ≤ vec_len diaries.old }
-    ensures count { vec_len diaries.new ≡ vec_len diaries.old }
-    ensures row { (p : ℕ) (d : DiaryView) → p < vec_len lists
-        → slice_get diaries.old.items (first + p) ≡ Some d
-        → slice_get diaries.new.items (first + p) ≡ Some (record d {
-          notes = notes_on p (map (λ v. v.items) lists.items);
-        }) }
-    ensures others { (i : ℕ) → (i < first) ⊎ (first + vec_len lists ≤ i)
-        → slice_get diaries.new.items i ≡ slice_get diaries.old.items i }
+    requires { first + vec_len lists ≤ vec_len diaries.old }
+    ensures { diaries.new.items
+        ≡ changed_from with_notes first (map (λ v. v.items) lists.items) diaries.old.items }
 {
     while let Some(notes) = lists.pop() {
-        note_in(&mut diaries[first + lists.len()], notes);
+        let at = first + lists.len();
+        fill_diary(&mut diaries[at], notes);
     }
 }
 
-/// Moves the items put into their lane.
-fn put_in<A: Allocator + Drop>(lane: &mut LaneReport<A>, items: Vec<u64, A>)
-    ensures { lane.new ≡ record lane.old { put = items.items } }
+/// Moves the items of a producer, if it is there, into its lane.
+fn fill_lane<A: Allocator + Drop>(lane: &mut LaneReport<A>, kept: Option<PutList<A>>)
+    ensures { lane.new ≡ with_items kept lane.old }
 {
-    lane.put = items;
+    if let Some(kept) = kept {
+        lane.put = kept.items;
+    }
 }
 
 /// Moves notes into their diary.
-fn note_in<A: Allocator + Drop>(diary: &mut Diary<A>, notes: Vec<Note, A>)
-    ensures { diary.new ≡ record diary.old { notes = notes.items } }
+fn fill_diary<A: Allocator + Drop>(diary: &mut Diary<A>, notes: Vec<Note, A>)
+    ensures { diary.new ≡ with_notes notes.items diary.old }
 {
     diary.notes = notes;
 }

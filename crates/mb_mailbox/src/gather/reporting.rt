@@ -1,14 +1,14 @@
 //! The outline of the report of what a hub has taken in: all of it but the lists that the hub keeps already.
 use crate::gather::cutting::CutHub;
-use crate::place::Place;
-use crate::taken::{Kept, Ledger};
+use crate::taken::Ledger;
 use mb_cells::NoMemory;
 use mb_world::{Diary, LaneReport, Note, Report};
 use std::alloc::Allocator;
 
 impl<A: Allocator + Drop> CutHub<A> {
-    ghost use Rattle.std.specs.Prelude.{◌≡◌, slice_get};
-    ghost use Rattle.mb_mailbox.specs.Gathering.{begun_in, ended_in, is_taken_in, items_in, notes_in};
+    ghost use Rattle.std.specs.Prelude.{◌≡◌, IfSome, slice_get, true};
+    ghost use Rattle.std.specs.Option.{option_map};
+    ghost use Rattle.mb_mailbox.specs.Gathering.{begun_in, ended_in, is_taken_in, items_in, kept_at, notes_in};
 
     /// The items that the producer of lane `p` put, where it was taken in.
     fn items(&self, p: u32) -> &[u64]
@@ -30,16 +30,24 @@ impl<A: Allocator + Drop> CutHub<A> {
         }
     }
 
+    /// The ledger of consumer `c`, where it was taken in.
+    fn ledger(&self, c: u32) -> Option<&Ledger<A>>
+        ensures ledger { option_map (λ k. k.now.ledger) result ≡ kept_at self.now.ledgers c }
+        ensures cut { IfSome result (λ k. k.now.is_cut ≡ true) }
+    {
+        match self.ledgers.as_slice().get(c as usize) {
+            Some(Some(ledger)) => Some(ledger),
+            _ => None,
+        }
+    }
+
     /// Whether consumer `c` was taken in with a claim on lane `p` that has an access.
     fn begun(&self, c: u32, p: u32) -> bool
         ensures { result ≡ begun_in c p self.now }
     {
-        match self.ledgers.as_slice().get(c as usize) {
-            Some(Some(ledger)) => match ledger.places.as_slice().get(p as usize) {
-                Some(Place::At { cell: _, claim }) => claim.begun(),
-                _ => false,
-            },
-            _ => false,
+        match self.ledger(c) {
+            Some(ledger) => ledger.begun(p),
+            None => false,
         }
     }
 
@@ -47,12 +55,9 @@ impl<A: Allocator + Drop> CutHub<A> {
     fn note(&self, c: u32, p: u32, j: usize) -> Option<Note>
         ensures { result ≡ slice_get (notes_in c p self.now) j }
     {
-        match self.ledgers.as_slice().get(c as usize) {
-            Some(Some(ledger)) => match ledger.lists().get(p as usize) {
-                Some(notes) => notes.as_slice().get(j).copied(),
-                None => None,
-            },
-            _ => None,
+        match self.ledger(c) {
+            Some(ledger) => ledger.note(p, j),
+            None => None,
         }
     }
 
@@ -73,7 +78,7 @@ impl<A: Allocator + Drop> CutHub<A> {
         let mut room = put;
         for ledger in self.ledgers.iter() {
             if let Some(ledger) = ledger {
-                room = room.saturating_sub(count_taken(ledger, p));
+                room = room.saturating_sub(ledger.count_taken(p));
             }
         }
         room
@@ -156,20 +161,4 @@ impl<A: Allocator + Clone + Drop> CutHub<A> {
         }
         Ok(diaries)
     }
-}
-
-/// How many items of lane `p` this consumer took, if its notes are cut. It is only how much room to take.
-fn count_taken<A: Allocator + Drop>(ledger: &Ledger<A>, p: u32) -> usize {
-    let Kept::Cut(lists) = &ledger.notes else {
-        return 0;
-    };
-    let mut count: usize = 0;
-    if let Some(notes) = lists.as_slice().get(p as usize) {
-        for note in notes.iter() {
-            if let Note::Took(_) = note {
-                count = count.saturating_add(1);
-            }
-        }
-    }
-    count
 }

@@ -63,6 +63,42 @@ invariant_of-self g c =
           (sym seats) c.self.invariant.2,
     )
 
+pub returns-clause-hub : goal.returns-clause-hub
+returns-clause-hub g c =
+    let h : HubView = record {
+      cells = c.self.inside.cells;
+      claims = c.self.inside.claims;
+      puts = c.self.inside.puts.items;
+      ledgers = ledgers_of c.self.inside.ledgers.items;
+    } in
+    let s = at_views c.consumer.inside.reader c.consumer.inside.seat c.consumer.inside.places.items
+    c.consumer.inside.notes.lists in
+    let table : h.cells.table ≡ c.mailbox.inside.cells =
+    ap (λ (v : HubView). v.cells.table) c.self.view_is ∙ c.requires.hub.cells
+    ∙ sym (ap (λ (m : MailboxView). m.cells) c.mailbox.view_is) in
+    let cells : c.take_reader.new.hub ≡ (with_taken_consumer s h).cells =
+    c.take_reader.ensures.hub ∙ ap (λ (t : CellsName). record {
+      table = t;
+      roll = roll_with_part (Reader s.reader.reader) s.reader.part h.cells.roll;
+    }) (sym table) in
+    let seats : c.take_in.new.hub ≡ (with_taken_consumer s h).claims = c.take_in.ensures.hub in
+    let number : c.consumer-number.result ≡ s.seat.consumer = c.consumer-number.ensures.exact in
+    let taken : KeptView = record {
+      ledger = record { places = s.places; notes = c.trim.new.self.lists };
+      is_cut = false;
+    } in
+    let ledgers : ledgers_of (slice_set c.self.inside.ledgers.items c.consumer-number.result (Some taken))
+    ≡ slice_set h.ledgers s.seat.consumer (Some (ledger_of s)) =
+    ledgers_set c.self.inside.ledgers.items c.consumer-number.result (Some taken)
+    ∙ (λ j. slice_set h.ledgers (number j) (Some (record { places = s.places; notes = c.trim.ensures j }))) in
+    let is : record {
+      cells = c.take_reader.new.hub;
+      claims = c.take_in.new.hub;
+      puts = h.puts;
+      ledgers = ledgers_of (slice_set c.self.inside.ledgers.items c.consumer-number.result (Some taken));
+    } ≡ with_taken_consumer s h = λ j. record { cells = cells j; claims = seats j; puts = h.puts; ledgers = ledgers j } in
+    is ∙ (λ j. with_taken_consumer (c.consumer.view_is j) (c.self.view_is j))
+
 pub returns-clause-was_out : goal.returns-clause-was_out
 returns-clause-was_out g c =
     let h : HubView = record {
