@@ -264,18 +264,30 @@ pub report_filled : (lanes consumers : ℕ) (h : HubView) (o r : ReportView) →
     → AreFull lanes h.ledgers → r.lanes ≡ changed_from with_items 0 h.puts o.lanes
     → r.diaries ≡ with_rows lanes 0 h.ledgers o.diaries → IsReportIn lanes consumers h r
 report_filled lanes consumers h o r out full ls ds = record {
-  lanes_count = ap length ls ∙ all_length with_items 0 h.puts o.lanes ∙ out.lanes.count;
-  diaries_count = ap length ds ∙ rows_length lanes 0 h.ledgers o.diaries ∙ out.diaries.count;
+  lanes_count = ap length ls ∙ all_length with_items 0 h.puts o.lanes ∙ out.each_lane.count;
+  diaries_count = ap length ds ∙ rows_length lanes 0 h.ledgers o.diaries ∙ out.each_diary.count;
   lane = λ p low. ap (λ (xs : List LaneView). slice_get xs p) ls
-      ∙ lane_told consumers p h o.lanes (out.lanes.each p low);
+      ∙ lane_told consumers p h o.lanes (out.each_lane.each p low);
   diary = λ c p known low. ap (λ (xs : List DiaryView). slice_get xs (c * lanes + p)) ds
       ∙ diary_told lanes c p h o.diaries full low
-      (out.diaries.each c p low (within_grid lanes consumers c p known low));
+      (out.each_diary.each c p low (within_grid lanes consumers c p known low));
 }
 
 -- the same of a mailbox and its hub
 pub full_ledgers : (h : HubView) → IsHub h → AreFull h.cells.table.size.lanes h.ledgers
 full_ledgers h i c l e = (i.taken c l e).2.2.notes_count
+
+pub rows_fit : (m : MailboxView) (h : HubView) (o : ReportView) (lanes : ℕ) → IsHub h → IsHubOf m h
+    → lanes ≡ m.cells.size.lanes
+    → IsOutlineIn h.cells.table.size.lanes (claims_at h.claims.table).table.values h o
+    → length h.ledgers * lanes ≤ length o.diaries
+rows_fit m h o lanes i of same out =
+    let wide : lanes ≡ h.cells.table.size.lanes = same ∙ sym (ap (λ (t : CellsName). t.size.lanes) of.cells) in
+    let most : length h.ledgers * h.cells.table.size.lanes
+    ≤ (claims_at h.claims.table).table.values * h.cells.table.size.lanes =
+    mul-le-mul_right h.cells.table.size.lanes i.few_consumers in
+    let count = out.each_diary.count in
+    subst (λ (n : ℕ). length h.ledgers * n ≤ length o.diaries) (sym wide) (omega (arith, most, count))
 
 pub report_of : (m : MailboxView) (h : HubView) (o r : ReportView) (lanes : ℕ) → IsHub h → IsHubOf m h
     → lanes ≡ m.cells.size.lanes

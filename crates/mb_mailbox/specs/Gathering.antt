@@ -91,8 +91,8 @@ pub record AreDiariesOutlined (lanes : ℕ) (h : HubView) (n : ℕ) (ds : List D
 
 -- the report before those lists are moved in
 pub record IsOutlineIn (lanes consumers : ℕ) (h : HubView) (r : ReportView) : Type 0 where
-  pub lanes : AreLanesOutlined consumers h lanes r.lanes
-  pub diaries : AreDiariesOutlined lanes h (consumers * lanes) r.diaries
+  pub each_lane : AreLanesOutlined consumers h lanes r.lanes
+  pub each_diary : AreDiariesOutlined lanes h (consumers * lanes) r.diaries
 
 -- the lists and diaries are those of the producers and consumers that were taken in, each in its
 -- place

@@ -21,12 +21,12 @@ is_cut_in (kept.Marked notes) = false
 is_cut_in (kept.Cut lists) = true
 
 -- the ledger, if there is one
-abbrev pub ledger_of : Option KeptView → Option LedgerView
-ledger_of o = option_map (λ k. k.ledger) o
+abbrev pub ledger_in : Option KeptView → Option LedgerView
+ledger_in o = option_map (λ k. k.ledger) o
 
 -- the ledgers, as the hub tells them
-abbrev pub ledgers_of : List (Option KeptView) → List (Option LedgerView)
-ledgers_of os = map ledger_of os
+abbrev pub ledgers_in : List (Option KeptView) → List (Option LedgerView)
+ledgers_in os = map ledger_in os
 
 -- the notes of each of the first n that is there are cut
 abbrev pub AreCutBelow : ℕ → List (Option KeptView) → Type 0

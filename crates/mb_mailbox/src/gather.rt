@@ -140,6 +140,7 @@ impl<A: Allocator + Clone + Drop> Mailbox<A> {
         ensures undecided { UndecidedHasCompany result }
     {
         gathering_is_sound();
+        layouts_are_sound();
         let Mailbox {
             lanes,
             cells,

@@ -54,7 +54,7 @@ impl<A: Allocator + Drop> Model for Hub<A> {
     ghost use Rattle.std.specs.Prelude.{◌≤◌, vec_capacity};
     ghost use Rattle.mb_mailbox.specs.Below.{claims_at};
     ghost use Rattle.mb_mailbox.specs.Hubs.{HubView, IsHub};
-    ghost use Rattle.mb_mailbox.specs.Ledgers.{ledgers_of};
+    ghost use Rattle.mb_mailbox.specs.Ledgers.{ledgers_in};
 
     ghost Value = { HubView };
 
@@ -62,14 +62,14 @@ impl<A: Allocator + Drop> Model for Hub<A> {
       cells = h.cells;
       claims = h.claims;
       puts = h.puts.items;
-      ledgers = ledgers_of h.ledgers.items;
+      ledgers = ledgers_in h.ledgers.items;
     } };
 
     ghost invariant = { λ h. IsHub (record {
       cells = h.cells;
       claims = h.claims;
       puts = h.puts.items;
-      ledgers = ledgers_of h.ledgers.items;
+      ledgers = ledgers_in h.ledgers.items;
     })
         × (h.cells.table.size.lanes ≤ vec_capacity h.puts)
         × ((claims_at h.claims.table).table.values ≤ vec_capacity h.ledgers) };

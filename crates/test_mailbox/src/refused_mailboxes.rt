@@ -157,7 +157,7 @@ fn gather_is_served<'a>(
 fn each_growth_of_gather_refused(rt: HostRuntime) -> Result<(), Fail> {
     let ample = Rations::new(rt.alloc(), Refuse::Never);
     for (sizes, lines, want, growths) in [
-        // The lane and its item, the diary and its note.
+        // The lane and the diary; the consumer's lists, and its note.
         (
             [1, 1, 1],
             "\
@@ -173,8 +173,8 @@ diary 0 0 took 7
 ",
             4,
         ),
-        // The lanes, the items of each and the item left; the diaries, and the notes of two. Consumer 0 takes the item of lane 0,
-        // which consumer 1 loses, and consumer 1 begins a claim on the item of lane 1, which has ended.
+        // The lanes and the item left; the diaries; the lists of both consumers, and the note of each. Consumer 0 takes the
+        // item of lane 0, which consumer 1 loses, and consumer 1 begins a claim on the item of lane 1, which has ended.
         (
             [2, 2, 2],
             "\

@@ -1,7 +1,7 @@
 //! The notes of all that a hub has taken in, cut by lane: one consumer after another, so that the marks of one alone stand
 //! beside their lists.
 ghost use Rattle.std.specs.Prelude.{◌≡◌, IfOk, OnErr, Some, true, vec_capacity};
-ghost use Rattle.mb_mailbox.specs.Ledgers.{AreCut, KeptView, ledger_of, ledgers_of};
+ghost use Rattle.mb_mailbox.specs.Ledgers.{AreCut, KeptView, ledger_in, ledgers_in};
 
 use crate::hub::Hub;
 use crate::taken::{Ledger, PutList};
@@ -24,7 +24,7 @@ impl<A: Allocator + Drop> Model for CutHub<A> {
     ghost use Rattle.std.specs.Prelude.{◌≤◌, vec_capacity};
     ghost use Rattle.mb_mailbox.specs.Below.{claims_at};
     ghost use Rattle.mb_mailbox.specs.Hubs.{HubView, IsHub};
-    ghost use Rattle.mb_mailbox.specs.Ledgers.{AreCut, ledgers_of};
+    ghost use Rattle.mb_mailbox.specs.Ledgers.{AreCut, ledgers_in};
 
     ghost Value = { HubView };
 
@@ -32,14 +32,14 @@ impl<A: Allocator + Drop> Model for CutHub<A> {
       cells = h.cells;
       claims = h.claims;
       puts = h.puts.items;
-      ledgers = ledgers_of h.ledgers.items;
+      ledgers = ledgers_in h.ledgers.items;
     } };
 
     ghost invariant = { λ h. IsHub (record {
       cells = h.cells;
       claims = h.claims;
       puts = h.puts.items;
-      ledgers = ledgers_of h.ledgers.items;
+      ledgers = ledgers_in h.ledgers.items;
     })
         × (h.cells.table.size.lanes ≤ vec_capacity h.puts)
         × ((claims_at h.claims.table).table.values ≤ vec_capacity h.ledgers)
@@ -104,7 +104,7 @@ fn cut_all<A: Allocator + Clone + Drop>(
     ledgers: &mut Vec<Option<Ledger<A>>, A>,
     alloc: A,
 ) -> Result<(), NoMemory>
-    ensures same { ledgers_of ledgers.new.items ≡ ledgers_of ledgers.old.items }
+    ensures same { ledgers_in ledgers.new.items ≡ ledgers_in ledgers.old.items }
     ensures room { vec_capacity ledgers.new ≡ vec_capacity ledgers.old }
     ensures cut { IfOk result (λ _. AreCut ledgers.new.items) }
 {
@@ -119,7 +119,7 @@ fn cut_one<A: Allocator + Clone + Drop>(
     ledger: &mut Option<Ledger<A>>,
     alloc: A,
 ) -> Result<(), NoMemory>
-    ensures same { ledger_of ledger.new ≡ ledger_of ledger.old }
+    ensures same { ledger_in ledger.new ≡ ledger_in ledger.old }
     ensures cut { IfOk result (λ _. (k : KeptView) → ledger.new ≡ Some k → k.is_cut ≡ true) }
     ensures refused { OnErr result (ledger.new ≡ ledger.old) }
 {

@@ -1,7 +1,7 @@
 //! The lists that a hub has kept, moved into the outline of its report. Nothing is copied, and no memory is taken.
 ghost use Rattle.std.specs.Prelude.{◌≡◌, ◌+◌, ◌*◌, ◌≤◌, Some, length, map, true, vec_len};
 ghost use Rattle.mb_mailbox.specs.Filling.{changed_from, with_items, with_notes, with_row, with_rows};
-ghost use Rattle.mb_mailbox.specs.Ledgers.{AreCut, HaveLists, KeptView, ledger_of, ledgers_of};
+ghost use Rattle.mb_mailbox.specs.Ledgers.{AreCut, HaveLists, KeptView, ledger_in, ledgers_in};
 
 use crate::taken::{Ledger, PutList};
 use mb_world::{Diary, LaneReport, Note};
@@ -32,7 +32,7 @@ pub(super) fn fill_diaries<A: Allocator + Drop>(
     requires cut { AreCut ledgers.items }
     requires lists { HaveLists lanes ledgers.items }
     ensures { diaries.new.items
-        ≡ with_rows lanes 0 (ledgers_of ledgers.items) diaries.old.items }
+        ≡ with_rows lanes 0 (ledgers_in ledgers.items) diaries.old.items }
 {
     while let Some(kept) = ledgers.pop() {
         let first = ledgers.len() * lanes as usize;
@@ -49,7 +49,7 @@ fn fill_row<A: Allocator + Drop>(
     requires room { (k : KeptView) → kept ≡ Some k
         → first + length k.ledger.notes ≤ vec_len diaries.old }
     requires cut { (k : KeptView) → kept ≡ Some k → k.is_cut ≡ true }
-    ensures { diaries.new.items ≡ with_row first (ledger_of kept) diaries.old.items }
+    ensures { diaries.new.items ≡ with_row first (ledger_in kept) diaries.old.items }
 {
     if let Some(ledger) = kept {
         fill_notes(diaries, first, ledger.into_lists());

@@ -37,7 +37,8 @@ impl<A: Allocator + Drop> CutHub<A> {
     {
         match self.ledgers.as_slice().get(c as usize) {
             Some(Some(ledger)) => Some(ledger),
-            _ => None,
+            Some(None) => None,
+            None => None,
         }
     }
 

@@ -9,7 +9,7 @@ index_mut-requires g c =
     let now = ledgers_count c.loop-c.ledgers.items in
     let was = ledgers_count c.args.ledgers.now.items in
     let same = ap length c.loop-c.invariant.same in
-    let len = c.len.ensures in
+    let len = c.len-c-end.ensures in
     let low = c.loop-c-test.true in
     omega (arith, now, was, same, len, low)
 
@@ -19,7 +19,7 @@ loop-c-preserved g c =
     let now = ledgers_count os in
     let was = ledgers_count c.args.ledgers.now.items in
     let same = ap length c.loop-c.invariant.same in
-    let len = c.len.ensures in
+    let len = c.len-c-end.ensures in
     let low = c.loop-c-test.true in
     let here : slice_get os c.loop-c.c ≡ Some c.index_mut.result.now =
     slice_get_read os (length os) c.loop-c.c c.index_mut.result.now refl (omega (arith, now, was, same, len, low))
@@ -37,7 +37,7 @@ returns-in_err-cut_one-clause-same g c =
     let now = ledgers_count os in
     let was = ledgers_count c.args.ledgers.now.items in
     let same = ap length c.loop-c.invariant.same in
-    let len = c.len.ensures in
+    let len = c.len-c-end.ensures in
     let low = c.loop-c-test.true in
     let here : slice_get os c.loop-c.c ≡ Some c.index_mut.result.now =
     slice_get_read os (length os) c.loop-c.c c.index_mut.result.now refl (omega (arith, now, was, same, len, low))
@@ -51,6 +51,6 @@ returns-clause-cut g c =
     let now = ledgers_count os in
     let was = ledgers_count c.args.ledgers.now.items in
     let same = ap length c.loop-c.invariant.same in
-    let len = c.len.ensures in
+    let len = c.len-c-end.ensures in
     let end = c.loop-c-test.false in
     all_cut os c.loop-c.c (omega (arith, now, was, same, len, end)) c.loop-c.invariant.cut

@@ -2,7 +2,7 @@ use Rattle.std.proofs.Common.{◌≡◌, ◌+◌, ◌*◌, ◌≤◌, ◌∙◌,
 use Rattle.std.specs.Prelude.{Some, slice_get}
 use Rattle.std.proofs.lemmas.List.{length_push, nil_from_length}
 use Rattle.mb_mailbox.specs.Filling.{with_row, with_rows}
-use Rattle.mb_mailbox.specs.Ledgers.{ledger_of, ledgers_of}
+use Rattle.mb_mailbox.specs.Ledgers.{ledger_in, ledgers_in}
 use Rattle.mb_mailbox.proofs.CutLists.{ledgers_count, ledgers_more}
 use Rattle.mb_mailbox.proofs.Filled.{next_row, row_length, turned_by}
 use Rattle.mb_mailbox.proofs.Turned.{get_end, get_left}
@@ -40,8 +40,8 @@ loop-kept-preserved g c =
     let room : (length new + 1) * c.args.lanes ≤ length c.loop-kept.diaries.items =
     subst (λ n. n * c.args.lanes ≤ length c.loop-kept.diaries.items) more c.loop-kept.invariant.room in
     let count = ap length c.fill_row.ensures
-    ∙ row_length (c.len.result * c.args.lanes) (ledger_of c.in-Some.kept) c.loop-kept.diaries.items in
-    let at : c.len.result ≡ 0 + length (ledgers_of new) =
+    ∙ row_length (c.len.result * c.args.lanes) (ledger_in c.in-Some.kept) c.loop-kept.diaries.items in
+    let at : c.len.result ≡ 0 + length (ledgers_in new) =
     (let len = c.len.ensures in let told = ledgers_count new in omega (arith, len, told)) in
     record {
       few = omega (arith, few, more);
@@ -52,11 +52,11 @@ loop-kept-preserved g c =
       lists = λ d k e. c.loop-kept.invariant.lists d k
           (subst (λ os. slice_get os d ≡ Some (Some k)) (sym items)
           (get_left new (c.in-Some.kept ∷ []) d (Some k) e));
-      same = turned_by (λ d o es. with_row (d * c.args.lanes) o es) 0 (ledgers_of new) (ledgers_of old)
-          (ledger_of c.in-Some.kept) c.loop-kept.diaries.items c.fill_row.new.diaries.items _
-          (ap ledgers_of items ∙ ledgers_more new c.in-Some.kept)
+      same = turned_by (λ d o es. with_row (d * c.args.lanes) o es) 0 (ledgers_in new) (ledgers_in old)
+          (ledger_in c.in-Some.kept) c.loop-kept.diaries.items c.fill_row.new.diaries.items _
+          (ap ledgers_in items ∙ ledgers_more new c.in-Some.kept)
           (c.fill_row.ensures
-          ∙ ap (λ d. with_row (d * c.args.lanes) (ledger_of c.in-Some.kept) c.loop-kept.diaries.items) at)
+          ∙ ap (λ d. with_row (d * c.args.lanes) (ledger_in c.in-Some.kept) c.loop-kept.diaries.items) at)
           c.loop-kept.invariant.same;
     }
 
@@ -64,5 +64,5 @@ pub returns : goal.returns
 returns g c =
     let left : c.loop-kept.ledgers.items ≡ [] = nil_from_length _
     (let none = c.in_default.ensures.cases in let len = c.loop-kept.ledgers.ok.0 in omega (arith, none, len)) in
-    subst (λ os. with_rows c.args.lanes 0 (ledgers_of os) c.loop-kept.diaries.items
-    ≡ with_rows c.args.lanes 0 (ledgers_of c.args.ledgers.items) c.args.diaries.now.items) left c.loop-kept.invariant.same
+    subst (λ os. with_rows c.args.lanes 0 (ledgers_in os) c.loop-kept.diaries.items
+    ≡ with_rows c.args.lanes 0 (ledgers_in c.args.ledgers.items) c.args.diaries.now.items) left c.loop-kept.invariant.same

@@ -1,6 +1,6 @@
 use Rattle.std.proofs.Common.{◌≡◌, ◌≤◌, ◌*◌, length}
 use Rattle.mb_mailbox.specs.Filling.{with_rows}
-use Rattle.mb_mailbox.specs.Ledgers.{AreCut, HaveLists, ledgers_of}
+use Rattle.mb_mailbox.specs.Ledgers.{AreCut, HaveLists, ledgers_in}
 use Rattle.mb_mailbox.proofs.gather.filling.fill_diaries.Given as goal
 
 abbrev pub invariant-loop-kept : goal.invariant-loop-kept
@@ -9,8 +9,8 @@ invariant-loop-kept g l = record {
   room : length l.ledgers.items * l.lanes ≤ length l.diaries.items;
   cut : AreCut l.ledgers.items;
   lists : HaveLists l.lanes l.ledgers.items;
-  same : with_rows l.lanes 0 (ledgers_of l.ledgers.items) l.diaries.items
-      ≡ with_rows l.lanes 0 (ledgers_of l.initial.ledgers.items) l.initial.diaries.items;
+  same : with_rows l.lanes 0 (ledgers_in l.ledgers.items) l.diaries.items
+      ≡ with_rows l.lanes 0 (ledgers_in l.initial.ledgers.items) l.initial.diaries.items;
 }
 
 abbrev pub decreases-loop-kept : goal.decreases-loop-kept

@@ -4,7 +4,7 @@ use Rattle.mb_shared_claims.specs.Vocabulary.{HubView as ClaimHubView}
 use Rattle.mb_mailbox.specs.Below.{ClaimTable, ReaderSeatView, claims_at, consumer_count, name_of}
 use Rattle.mb_mailbox.specs.Consumers.{IsConsumer}
 use Rattle.mb_mailbox.specs.Mailboxes.{MailboxView}
-use Rattle.mb_mailbox.specs.Ledgers.{ledgers_of}
+use Rattle.mb_mailbox.specs.Ledgers.{ledgers_in}
 use Rattle.mb_mailbox.specs.Hubs.{HubView, IsHub, IsNewConsumer, with_consumer}
 use Rattle.mb_mailbox.proofs.Made.{at_views}
 use Rattle.mb_mailbox.proofs.CutLists.{ledgers_count, ledgers_more}
@@ -18,7 +18,7 @@ invariant_of-result g c =
       cells = c.self.inside.cells;
       claims = c.self.inside.claims;
       puts = c.self.inside.puts.items;
-      ledgers = ledgers_of c.self.inside.ledgers.items;
+      ledgers = ledgers_in c.self.inside.ledgers.items;
     } in
     let m : MailboxView = record { cells = c.mailbox.inside.cells; claims = c.mailbox.inside.claims } in
     let table : h.cells.table ≡ m.cells =
@@ -51,7 +51,7 @@ invariant_of-self g c =
       cells = c.self.inside.cells;
       claims = c.self.inside.claims;
       puts = c.self.inside.puts.items;
-      ledgers = ledgers_of c.self.inside.ledgers.items;
+      ledgers = ledgers_in c.self.inside.ledgers.items;
     } in
     let m : MailboxView = record { cells = c.mailbox.inside.cells; claims = c.mailbox.inside.claims } in
     let table : h.cells.table ≡ m.cells =
@@ -76,12 +76,12 @@ invariant_of-self g c =
       cells = c.enroll_reader-reader.new.hub;
       claims = c.enroll.new.hub;
       puts = h.puts;
-      ledgers = ledgers_of c.push_reserved.new.self.items;
+      ledgers = ledgers_in c.push_reserved.new.self.items;
     } = λ j. record {
       cells = sym cells j;
       claims = sym seats j;
       puts = h.puts;
-      ledgers = sym (ap ledgers_of c.push_reserved.ensures.items
+      ledgers = sym (ap ledgers_in c.push_reserved.ensures.items
           ∙ ledgers_more c.self.inside.ledgers.items None) j;
     } in
     let cap = c.push_reserved.ensures.capacity in
@@ -106,7 +106,7 @@ returns-clause-consumer g c =
       cells = c.self.inside.cells;
       claims = c.self.inside.claims;
       puts = c.self.inside.puts.items;
-      ledgers = ledgers_of c.self.inside.ledgers.items;
+      ledgers = ledgers_in c.self.inside.ledgers.items;
     } in
     let m : MailboxView = record { cells = c.mailbox.inside.cells; claims = c.mailbox.inside.claims } in
     let table : h.cells.table ≡ m.cells =

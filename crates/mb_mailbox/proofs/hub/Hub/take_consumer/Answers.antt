@@ -5,7 +5,7 @@ use Rattle.mb_shared_claims.specs.Vocabulary.{HubView as ClaimHubView}
 use Rattle.mb_mailbox.specs.Below.{claims_at, name_of, Reader}
 use Rattle.mb_mailbox.specs.Consumers.{ConsumerView}
 use Rattle.mb_mailbox.specs.Mailboxes.{MailboxView}
-use Rattle.mb_mailbox.specs.Ledgers.{KeptView, ledgers_of}
+use Rattle.mb_mailbox.specs.Ledgers.{KeptView, ledgers_in}
 use Rattle.mb_mailbox.specs.Hubs.{HubView, IsHub, ledger_of, with_taken_consumer}
 use Rattle.mb_mailbox.proofs.CutLists.{ledgers_set}
 use Rattle.mb_mailbox.proofs.Made.{at_views}
@@ -18,7 +18,7 @@ invariant_of-self g c =
       cells = c.self.inside.cells;
       claims = c.self.inside.claims;
       puts = c.self.inside.puts.items;
-      ledgers = ledgers_of c.self.inside.ledgers.items;
+      ledgers = ledgers_in c.self.inside.ledgers.items;
     } in
     let s = at_views c.consumer.inside.reader c.consumer.inside.seat c.consumer.inside.places.items
     c.consumer.inside.notes.lists in
@@ -39,7 +39,7 @@ invariant_of-self g c =
       ledger = record { places = s.places; notes = c.trim.new.self.lists };
       is_cut = false;
     } in
-    let ledgers : ledgers_of (slice_set c.self.inside.ledgers.items c.consumer-number.result (Some taken))
+    let ledgers : ledgers_in (slice_set c.self.inside.ledgers.items c.consumer-number.result (Some taken))
     ≡ slice_set h.ledgers s.seat.consumer (Some (ledger_of s)) =
     ledgers_set c.self.inside.ledgers.items c.consumer-number.result (Some taken)
     ∙ (λ j. slice_set h.ledgers (number j) (Some (record { places = s.places; notes = c.trim.ensures j }))) in
@@ -47,7 +47,7 @@ invariant_of-self g c =
       cells = c.take_reader.new.hub;
       claims = c.take_in.new.hub;
       puts = h.puts;
-      ledgers = ledgers_of (slice_set c.self.inside.ledgers.items c.consumer-number.result (Some taken));
+      ledgers = ledgers_in (slice_set c.self.inside.ledgers.items c.consumer-number.result (Some taken));
     } = λ j. record { cells = sym cells j; claims = sym seats j; puts = h.puts; ledgers = sym ledgers j } in
     let same : s.seat.table ≡ h.claims.table =
     ap (λ (v : ConsumerView). v.seat.table) c.consumer.view_is ∙ c.requires.consumer.claims
@@ -69,7 +69,7 @@ returns-clause-hub g c =
       cells = c.self.inside.cells;
       claims = c.self.inside.claims;
       puts = c.self.inside.puts.items;
-      ledgers = ledgers_of c.self.inside.ledgers.items;
+      ledgers = ledgers_in c.self.inside.ledgers.items;
     } in
     let s = at_views c.consumer.inside.reader c.consumer.inside.seat c.consumer.inside.places.items
     c.consumer.inside.notes.lists in
@@ -87,7 +87,7 @@ returns-clause-hub g c =
       ledger = record { places = s.places; notes = c.trim.new.self.lists };
       is_cut = false;
     } in
-    let ledgers : ledgers_of (slice_set c.self.inside.ledgers.items c.consumer-number.result (Some taken))
+    let ledgers : ledgers_in (slice_set c.self.inside.ledgers.items c.consumer-number.result (Some taken))
     ≡ slice_set h.ledgers s.seat.consumer (Some (ledger_of s)) =
     ledgers_set c.self.inside.ledgers.items c.consumer-number.result (Some taken)
     ∙ (λ j. slice_set h.ledgers (number j) (Some (record { places = s.places; notes = c.trim.ensures j }))) in
@@ -95,7 +95,7 @@ returns-clause-hub g c =
       cells = c.take_reader.new.hub;
       claims = c.take_in.new.hub;
       puts = h.puts;
-      ledgers = ledgers_of (slice_set c.self.inside.ledgers.items c.consumer-number.result (Some taken));
+      ledgers = ledgers_in (slice_set c.self.inside.ledgers.items c.consumer-number.result (Some taken));
     } ≡ with_taken_consumer s h = λ j. record { cells = cells j; claims = seats j; puts = h.puts; ledgers = ledgers j } in
     is ∙ (λ j. with_taken_consumer (c.consumer.view_is j) (c.self.view_is j))
 
@@ -105,7 +105,7 @@ returns-clause-was_out g c =
       cells = c.self.inside.cells;
       claims = c.self.inside.claims;
       puts = c.self.inside.puts.items;
-      ledgers = ledgers_of c.self.inside.ledgers.items;
+      ledgers = ledgers_in c.self.inside.ledgers.items;
     } in
     let s = at_views c.consumer.inside.reader c.consumer.inside.seat c.consumer.inside.places.items
     c.consumer.inside.notes.lists in
