@@ -1,4 +1,4 @@
-use Rattle.std.proofs.Common.{◌≡◌, ◌∙◌, ◌≤◌, None, Some, false, ℕ, ap, subst, sym}
+use Rattle.std.proofs.Common.{◌≡◌, ◌∙◌, ◌≤◌, None, Some, false, ap, subst, sym}
 use Rattle.std.specs.Prelude.{slice_get, slice_set}
 use Rattle.mb_shared_cells.specs.Vocabulary.{CellHubView, CellsName, roll_with_part}
 use Rattle.mb_shared_claims.specs.Vocabulary.{HubView as ClaimHubView}
