@@ -220,15 +220,16 @@ impl<A: Allocator + Clone + Drop> BoundHub<A> {
             let why = GatherFault::Missing(producers, consumers);
             return Err((why, BoundHub { id, mailbox, hub }));
         }
-        let Ok(draft) = mailbox.draft(alloc, &hub) else {
-            return Err((GatherFault::NoMemory, BoundHub { id, mailbox, hub }));
-        };
-        match Arc::try_unwrap(mailbox) {
-            Ok(mailbox) => Ok(mailbox.gather_with(hub, draft)),
-            Err(mailbox) => {
-                let why = GatherFault::Missing(0, 0);
-                Err((why, BoundHub { id, mailbox, hub }))
-            }
+        match mailbox.draft(alloc, hub) {
+            Ok(draft) => match Arc::try_unwrap(mailbox) {
+                Ok(mailbox) => Ok(mailbox.gather_with(draft)),
+                Err(mailbox) => {
+                    let why = GatherFault::Missing(0, 0);
+                    let hub = draft.undone();
+                    Err((why, BoundHub { id, mailbox, hub }))
+                }
+            },
+            Err(hub) => Err((GatherFault::NoMemory, BoundHub { id, mailbox, hub })),
         }
     }
 }

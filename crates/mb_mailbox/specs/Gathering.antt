@@ -71,16 +71,28 @@ lane_in n p h = record {
 abbrev pub diary_in : ℕ → ℕ → HubView → DiaryView
 diary_in c p h = record { consumer = c; lane = p; notes = notes_in c p h; begun = begun_in c p h }
 
--- the first n lanes, where there are so many consumers
-pub record AreLanesIn (consumers : ℕ) (h : HubView) (n : ℕ) (ls : List LaneView) : Type 0 where
-  pub count : length ls ≡ n
-  pub each : (p : ℕ) → p < n → slice_get ls p ≡ Some (lane_in consumers p h)
+-- the same before the lists that the hub keeps are moved in: the items put, and the notes
+abbrev pub lane_outline : ℕ → ℕ → HubView → LaneView
+lane_outline n p h = record (lane_in n p h) { put = [] }
 
--- the first n diaries: consumer by consumer, lane by lane
-pub record AreDiariesIn (lanes : ℕ) (h : HubView) (n : ℕ) (ds : List DiaryView) : Type 0 where
+abbrev pub diary_outline : ℕ → ℕ → HubView → DiaryView
+diary_outline c p h = record (diary_in c p h) { notes = [] }
+
+-- so are the first n lanes, where there are so many consumers
+pub record AreLanesOutlined (consumers : ℕ) (h : HubView) (n : ℕ) (ls : List LaneView) : Type 0 where
+  pub count : length ls ≡ n
+  pub each : (p : ℕ) → p < n → slice_get ls p ≡ Some (lane_outline consumers p h)
+
+-- and the first n diaries: consumer by consumer, lane by lane
+pub record AreDiariesOutlined (lanes : ℕ) (h : HubView) (n : ℕ) (ds : List DiaryView) : Type 0 where
   pub count : length ds ≡ n
   pub each : (c p : ℕ) → p < lanes → c * lanes + p < n
-      → slice_get ds (c * lanes + p) ≡ Some (diary_in c p h)
+      → slice_get ds (c * lanes + p) ≡ Some (diary_outline c p h)
+
+-- the report before those lists are moved in
+pub record IsOutlineIn (lanes consumers : ℕ) (h : HubView) (r : ReportView) : Type 0 where
+  pub each_lane : AreLanesOutlined consumers h lanes r.lanes
+  pub each_diary : AreDiariesOutlined lanes h (consumers * lanes) r.diaries
 
 -- the lists and diaries are those of the producers and consumers that were taken in, each in its
 -- place

@@ -1,13 +1,18 @@
 //! The end of a mailbox: the report of all that was taken in.
+mod cutting;
+mod draft;
+mod filling;
 mod reporting;
 mod sound;
 
 ghost use Rattle.std.specs.Prelude.{◌≡◌, ◌≤◌, length};
 ghost use Rattle.mb_mailbox.specs.Gathering.{count_missing};
 
+use crate::gather::cutting::CutHub;
+use crate::gather::filling::{fill_diaries, fill_lanes};
 use crate::hub::Hub;
 use crate::mailbox::Mailbox;
-use mb_cells::NoMemory;
+pub use draft::Draft;
 use mb_claim::laws::layouts_are_sound;
 use mb_world::Report;
 use sound::gathering_is_sound;
@@ -80,10 +85,10 @@ impl<A: Allocator + Clone + Drop> Mailbox<A> {
         if producers > 0 || consumers > 0 {
             return Err((GatherFault::Missing(producers, consumers), self, hub));
         }
-        let Ok(draft) = self.draft(alloc, &hub) else {
-            return Err((GatherFault::NoMemory, self, hub));
-        };
-        Ok(self.gather_with(hub, draft))
+        match self.draft(alloc, hub) {
+            Ok(draft) => Ok(self.gather_with(draft)),
+            Err(hub) => Err((GatherFault::NoMemory, self, hub)),
+        }
     }
 
     /// How many producers, and how many consumers, were given and not taken in.
@@ -101,45 +106,65 @@ impl<A: Allocator + Clone + Drop> Mailbox<A> {
         )
     }
 
-    /// The report of what was taken in so far. It changes nothing, and takes all the room that a report needs.
-    pub fn draft(&self, alloc: A, hub: &Hub<A>) -> Result<Report<A>, NoMemory>
-        requires of { IsHubOf self.now hub.now }
-        ensures lists { IfOk result (λ r. IsReportIn self.now.cells.size.lanes
-            (consumer_count self.now.claims.layout) hub.now r) }
+    /// Takes all the room that a report of what was taken in so far needs. A hub that is refused it comes back as it was.
+    pub fn draft(&self, alloc: A, hub: Hub<A>) -> Result<Draft<A>, Hub<A>>
+        requires of { IsHubOf self.now hub }
+        ensures drafted { IfOk result (λ draft. draft ≡ hub) }
+        ensures refused { IfErr result (λ back. back ≡ hub) }
     {
-        hub.report(alloc, self.lanes, self.claims.layout().consumers())
+        layouts_are_sound();
+        let Ok(for_cut) = alloc.clone() else {
+            return Err(hub);
+        };
+        let hub = match hub.cut(for_cut) {
+            Ok(hub) => hub,
+            Err(hub) => return Err(hub),
+        };
+        match hub.outline(alloc, self.lanes, self.claims.layout().consumers()) {
+            Ok(outline) => Ok(Draft { hub, outline }),
+            Err(_) => Err(hub.undone()),
+        }
     }
 
-    /// Ends the mailbox with a draft of its report, made when all were taken in. It takes no memory, so it cannot fail.
-    pub fn gather_with(self, hub: Hub<A>, draft: Report<A>) -> Report<A>
-        requires of { IsHubOf self hub }
-        requires producers { count_missing hub.puts ≡ 0 }
-        requires consumers { count_missing hub.ledgers ≡ 0 }
-        requires draft { IsReportIn self.cells.size.lanes (consumer_count self.claims.layout) hub
-            draft }
-        ensures draft { result ≡ draft }
+    /// Ends the mailbox with a draft made when all were taken in. It takes no memory, so it cannot fail.
+    pub fn gather_with(self, draft: Draft<A>) -> Report<A>
+        requires of { IsHubOf self draft }
+        requires producers { count_missing draft.puts ≡ 0 }
+        requires consumers { count_missing draft.ledgers ≡ 0 }
 
-        // What the draft says is so, as `gather` says it.
-        ensures headline { IsGathered self hub result }
-        ensures full { FullTakesAll self hub result }
+        // The report is as `gather` says it.
+        ensures lists { IsReportIn self.cells.size.lanes (consumer_count self.claims.layout)
+            draft result }
+        ensures headline { IsGathered self draft result }
+        ensures full { FullTakesAll self draft result }
         ensures undecided { UndecidedHasCompany result }
     {
         gathering_is_sound();
-        hub.has_history();
+        layouts_are_sound();
         let Mailbox {
-            lanes: _,
+            lanes,
             cells,
             claims,
         } = self;
-        let Hub {
+        let Draft { hub, outline } = draft;
+        let CutHub {
             cells: lanes_hub,
             claims: claims_hub,
-            puts: _,
-            ledgers: _,
+            puts,
+            ledgers,
         } = hub;
+        let Report {
+            lanes: mut reports,
+            mut diaries,
+        } = outline;
+        fill_lanes(&mut reports, puts);
+        fill_diaries(&mut diaries, lanes, ledgers);
         cells.close(lanes_hub);
         claims.close(claims_hub);
-        draft
+        Report {
+            lanes: reports,
+            diaries,
+        }
     }
 }
 

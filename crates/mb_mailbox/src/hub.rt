@@ -8,7 +8,7 @@ use crate::notes::Notes;
 use crate::place::Place;
 use crate::producer::Producer;
 use crate::spare::trim;
-use crate::taken::{Ledger, PutList};
+use crate::taken::{Kept, Ledger, PutList};
 use arrayvec::ArrayVec;
 use mb_cells::Cursor;
 use mb_cells::laws::{lanes_share_cells, parts_tell_lanes};
@@ -54,6 +54,7 @@ impl<A: Allocator + Drop> Model for Hub<A> {
     ghost use Rattle.std.specs.Prelude.{◌≤◌, vec_capacity};
     ghost use Rattle.mb_mailbox.specs.Below.{claims_at};
     ghost use Rattle.mb_mailbox.specs.Hubs.{HubView, IsHub};
+    ghost use Rattle.mb_mailbox.specs.Ledgers.{ledgers_in};
 
     ghost Value = { HubView };
 
@@ -61,14 +62,14 @@ impl<A: Allocator + Drop> Model for Hub<A> {
       cells = h.cells;
       claims = h.claims;
       puts = h.puts.items;
-      ledgers = h.ledgers.items;
+      ledgers = ledgers_in h.ledgers.items;
     } };
 
     ghost invariant = { λ h. IsHub (record {
       cells = h.cells;
       claims = h.claims;
       puts = h.puts.items;
-      ledgers = h.ledgers.items;
+      ledgers = ledgers_in h.ledgers.items;
     })
         × (h.cells.table.size.lanes ≤ vec_capacity h.puts)
         × ((claims_at h.claims.table).table.values ≤ vec_capacity h.ledgers) };
@@ -171,6 +172,7 @@ impl<A: Allocator + Drop> Hub<A> {
         notes.trim();
         mailbox.cells.take_reader(&mut self.cells, reader);
         mailbox.claims.take_in(&mut self.claims, seat);
+        let notes = Kept::Marked(notes);
         self.ledgers[number as usize] = Some(Ledger { places, notes });
     }
 }

@@ -47,7 +47,7 @@ mod working;
 
 pub use consumer::{Consumer, Poll};
 pub use gate::{Gate, OpenGate, Who};
-pub use gather::GatherFault;
+pub use gather::{Draft, GatherFault};
 pub use hub::{Hub, HubFault};
 pub use mailbox::Mailbox;
 pub use producer::{Producer, Put};

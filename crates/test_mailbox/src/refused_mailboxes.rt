@@ -159,7 +159,7 @@ fn gather_is_served<'a>(
 fn each_growth_of_gather_refused(rt: HostRuntime) -> Result<(), Fail> {
     let ample = Rations::new(rt.alloc(), Refuse::Never);
     for (sizes, lines, want, growths) in [
-        // The lane and its item, the diary and its note.
+        // The lane and the diary; the consumer's lists, and its note.
         (
             [1, 1, 1],
             "\
@@ -175,8 +175,8 @@ diary 0 0 took 7
 ",
             4,
         ),
-        // The lanes, the items of each, the item left, the diaries, and the notes of two. Consumer 0 takes the item of
-        // lane 0, and consumer 1 loses it. Consumer 1 begins a claim on the item of lane 1, which has ended.
+        // The lanes, the item left, the diaries, the lists of both consumers, and the note of each. Consumer 0 takes the
+        // item of lane 0, and consumer 1 loses it. Consumer 1 begins a claim on the item of lane 1, which has ended.
         (
             [2, 2, 2],
             "\

@@ -3,7 +3,7 @@ use Rattle.std.specs.Prelude.{slice_get}
 use Rattle.mb_world.specs.Reporting.{is_took}
 use Rattle.mb_mailbox.specs.Gathering.{notes_in}
 use Rattle.mb_mailbox.proofs.Listed.{any_below_some, took_some}
-use Rattle.mb_mailbox.proofs.hub.Hub.is_taken.Goals as goal
+use Rattle.mb_mailbox.proofs.gather.cutting.CutHub.is_taken.Goals as goal
 
 pub returns-in-Some-Took : goal.returns-in-Some-Took
 returns-in-Some-Took g c =

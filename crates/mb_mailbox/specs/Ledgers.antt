@@ -1,0 +1,42 @@
+-- How the notes of a consumer that was taken in are kept: as marks and words, or cut by lane. A hub does not tell which.
+use Rattle.std.specs.Prelude.{ℕ, ◌≡◌, ◌<◌, Bool, true, false, List, Option, Some, length, map, slice_get}
+use Rattle.std.specs.Option.{option_map}
+use Rattle.mb_mailbox.specs.Below.{Note}
+use Rattle.mb_mailbox.specs.Hubs.{LedgerView}
+use Rattle.mb_mailbox.specs.declared.taken.Kept.{Kept}
+use Rattle.mb_mailbox.specs.declared.taken.Kept.TheVariants as kept
+
+-- a ledger, and whether its notes are cut
+pub record KeptView : Type 0 where
+  pub ledger : LedgerView
+  pub is_cut : Bool
+
+-- the notes on each lane
+abbrev pub lists_in : {Z : Type 0} → Kept Z → List (List Note)
+lists_in (kept.Marked notes) = notes.lists
+lists_in (kept.Cut lists) = map (λ v. v.items) lists.items
+
+abbrev pub is_cut_in : {Z : Type 0} → Kept Z → Bool
+is_cut_in (kept.Marked notes) = false
+is_cut_in (kept.Cut lists) = true
+
+-- the ledger, if there is one
+abbrev pub ledger_in : Option KeptView → Option LedgerView
+ledger_in o = option_map (λ k. k.ledger) o
+
+-- the ledgers, as the hub tells them
+abbrev pub ledgers_in : List (Option KeptView) → List (Option LedgerView)
+ledgers_in os = map ledger_in os
+
+-- the notes of each of the first n that is there are cut
+abbrev pub AreCutBelow : ℕ → List (Option KeptView) → Type 0
+AreCutBelow n os = (c : ℕ) (k : KeptView) → c < n → slice_get os c ≡ Some (Some k) → k.is_cut ≡ true
+
+-- all of them are
+abbrev pub AreCut : List (Option KeptView) → Type 0
+AreCut os = (c : ℕ) (k : KeptView) → slice_get os c ≡ Some (Some k) → k.is_cut ≡ true
+
+-- each that is there has notes for so many lanes
+abbrev pub HaveLists : ℕ → List (Option KeptView) → Type 0
+HaveLists lanes os =
+    (c : ℕ) (k : KeptView) → slice_get os c ≡ Some (Some k) → length k.ledger.notes ≡ lanes
