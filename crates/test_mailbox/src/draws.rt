@@ -5,11 +5,10 @@ use crate::trial::Trial;
 use crate::trials::{ends, new_trial};
 use crate::workers::lists;
 use mb_mailbox::{Gate, Who, Worked};
-use std::alloc::Global;
+use std::alloc::{AllocError, Global};
 use std::process::Abort;
 use std::sync::Wait;
 use std::sync::atomic::{AtomicU64, Ordering};
-use std::test::Fail;
 use std::thread::Threads;
 use test_support::SeenZeros;
 
@@ -27,8 +26,11 @@ impl Gate for AllBut {
     fn leave(&self, _who: Who, _call: u64) {}
 }
 
-/// Two sources that count in `given` the words that they gave.
-fn two_sources<'a>(alloc: Global, given: &'a [AtomicU64; 2]) -> Result<Vec<SeenZeros<'a>>, Fail> {
+/// Two sources, which count here the words that they gave.
+fn two_sources<'a>(
+    alloc: Global,
+    given: &'a [AtomicU64; 2],
+) -> Result<Vec<SeenZeros<'a>>, AllocError> {
     let mut sources = Vec::new(alloc);
     sources.push(SeenZeros { given: &given[0] })?;
     sources.push(SeenZeros { given: &given[1] })?;
@@ -41,17 +43,17 @@ fn one_is_stopped<R: Abort + AllocGlobal + Threads + Wait + Sync>(
     trial: &mut Trial<Global>,
     given: &[AtomicU64; 2],
     stopped: u32,
-) -> Result<(), Fail> {
-    let items = lists(rt.alloc(), &[&[5]])?;
-    let rngs = two_sources(rt.alloc(), given)?;
+) {
+    let alloc = rt.alloc();
+    let items = lists(rt, alloc, &[&[5]]);
+    let rngs = two_sources(alloc, given).expect(rt, "no list");
     let gate = AllBut { consumer: stopped };
-    let worked = trial.work(rt.alloc(), rt, items, 100, rngs, &gate);
+    let worked = trial.work(alloc, rt, items, 100, rngs, &gate);
     let one_stopped = Worked {
         full: 0,
         stopped: 1,
     };
     same(rt, &worked, &Ok(one_stopped));
-    Ok(())
 }
 
 /// How many words each of two consumers draws for one item, if this one of them is stopped. The report then has this
@@ -60,21 +62,20 @@ fn words_drawn<R: Abort + AllocGlobal + Threads + Wait + Sync>(
     rt: &R,
     stopped: u32,
     report: &str,
-) -> Result<(u64, u64), Fail> {
+) -> (u64, u64) {
     let given = [AtomicU64::new(0), AtomicU64::new(0)];
-    let mut trial = new_trial(rt.alloc(), 1, 2, 1)?;
-    one_is_stopped(rt, &mut trial, &given, stopped)?;
-    ends(rt, rt.alloc(), trial, report)?;
-    Ok((
+    let mut trial = new_trial(rt, rt.alloc(), 1, 2, 1);
+    one_is_stopped(rt, &mut trial, &given, stopped);
+    ends(rt, rt.alloc(), trial, report);
+    (
         given[0].load(Ordering::SeqCst),
         given[1].load(Ordering::SeqCst),
-    ))
+    )
 }
 
 #[test]
-fn each_consumer_draws_from_its_own_source(rt: HostRuntime) -> Result<(), Fail> {
-    // A claim that is alone makes seven accesses, three to the conciliator and four to the ratifier. It draws a word
-    // for each.
+fn each_consumer_draws_from_its_own_source(rt: HostRuntime) {
+    // A claim alone makes seven accesses, three to the conciliator and four to the ratifier, and draws a word for each.
     for (stopped, report, drawn) in [
         (
             1,
@@ -87,7 +88,6 @@ fn each_consumer_draws_from_its_own_source(rt: HostRuntime) -> Result<(), Fail> 
             (0, 7),
         ),
     ] {
-        same_at(&rt, &words_drawn(&rt, stopped, report)?, &drawn, &stopped);
+        same_at(&rt, &words_drawn(&rt, stopped, report), &drawn, &stopped);
     }
-    Ok(())
 }

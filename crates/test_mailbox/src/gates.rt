@@ -2,7 +2,7 @@
 
 use crate::compare::{same, same_at};
 use crate::trial::Trial;
-use crate::trials::{ends, new_trial};
+use crate::trials::{audited, ends, new_trial};
 use crate::workers::{ALL_DONE, works};
 use mb_mailbox::{Gate, Who, Worked};
 use mb_quorum::TableName;
@@ -11,9 +11,7 @@ use std::alloc::Global;
 use std::process::Abort;
 use std::sync::Wait;
 use std::sync::atomic::{AtomicU64, Ordering};
-use std::test::Fail;
 use std::thread::Threads;
-use test_audit::audit;
 
 /// How often a worker looks whether all have come. So it does not wait for ever.
 pub(crate) const TURNS: u64 = 1_000_000_000;
@@ -52,40 +50,32 @@ fn come_to_the_gate<R: Abort + AllocGlobal + Threads + Wait + Sync>(
     rt: &R,
     trial: &mut Trial<Global>,
     consumers: u64,
-) -> Result<(), Fail> {
+) {
     let gate = AllCome {
         come: AtomicU64::new(0),
         workers: consumers.wrapping_add(1),
     };
-    let worked = works(rt, trial, &[&[1, 2, 3, 4]], 5, consumers as usize, &gate)?;
+    let worked = works(rt, trial, &[&[1, 2, 3, 4]], 5, consumers as usize, &gate);
     same_at(rt, &worked, &Ok(ALL_DONE), &consumers);
-    Ok(())
 }
 
-/// They come to the gate, and then the report is audited.
-fn come_and_put<R: Abort + AllocGlobal + Threads + Wait + Sync>(
-    rt: &R,
-    consumers: u64,
-) -> Result<(), Fail> {
-    let setup = Setup::new(1, consumers, 4, 4, TableName::Bits)?;
-    let mut trial = Trial::new(rt.alloc(), setup)?;
-    come_to_the_gate(rt, &mut trial, consumers)?;
-    let Ok(report) = trial.gather(rt.alloc()) else {
-        return Err(Fail::new("no report"));
-    };
-    let tally = audit(&report, 1, consumers)?;
-    // A consumer that is alone always decides, and takes each item.
+/// They do, and the items put are audited.
+fn come_and_put<R: Abort + AllocGlobal + Threads + Wait + Sync>(rt: &R, consumers: u64) {
+    let alloc = rt.alloc();
+    let setup = Setup::new(1, consumers, 4, 4, TableName::Bits).expect(rt, "no setup");
+    let mut trial = Trial::new(alloc, setup).expect(rt, "no mailbox");
+    come_to_the_gate(rt, &mut trial, consumers);
+    let tally = audited(rt, alloc, trial, 1, consumers);
+    // Alone a consumer always decides, and takes each item.
     let are_taken = consumers != 1 || tally.took == 4;
     same_at(rt, &(tally.put, are_taken), &(4, true), &consumers);
-    Ok(())
 }
 
 #[test]
-fn all_workers_come_to_the_gate_at_one_time(rt: HostRuntime) -> Result<(), Fail> {
+fn all_workers_come_to_the_gate_at_one_time(rt: HostRuntime) {
     for consumers in [1, 2, 4, 16, 64] {
-        come_and_put(&rt, consumers)?;
+        come_and_put(&rt, consumers);
     }
-    Ok(())
 }
 
 /// A gate that lets each call in. It checks that a worker's calls come as 1, 2 and so on, and that each leaves before
@@ -148,20 +138,20 @@ fn alternates(rt: &impl Abort, gate: &Record) {
 }
 
 #[test]
-fn asks_and_tells_of_a_gate_alternate(rt: HostRuntime) -> Result<(), Fail> {
-    let mut trial = new_trial(rt.alloc(), 2, 2, 5)?;
+fn asks_and_tells_of_a_gate_alternate(rt: HostRuntime) {
+    let mut trial = new_trial(&rt, rt.alloc(), 2, 2, 5);
     let gate = Record::new();
-    let worked = works(&rt, &mut trial, &[&[1, 2], &[3, 4, 5]], 5, 2, &gate)?;
+    let worked = works(&rt, &mut trial, &[&[1, 2], &[3, 4, 5]], 5, 2, &gate);
     same(&rt, &worked, &Ok(ALL_DONE));
     alternates(&rt, &gate);
-    Ok(())
+    same(&rt, &audited(&rt, rt.alloc(), trial, 2, 2).put, &5);
 }
 
 #[test]
-fn a_put_that_finds_no_cell_is_told_of(rt: HostRuntime) -> Result<(), Fail> {
-    let mut trial = new_trial(rt.alloc(), 1, 1, 1)?;
+fn a_put_that_finds_no_cell_is_told_of(rt: HostRuntime) {
+    let mut trial = new_trial(&rt, rt.alloc(), 1, 1, 1);
     let gate = Record::new();
-    let worked = works(&rt, &mut trial, &[&[1, 2, 3]], 5, 1, &gate)?;
+    let worked = works(&rt, &mut trial, &[&[1, 2, 3]], 5, 1, &gate);
     let two_are_over = Worked {
         full: 2,
         stopped: 0,
@@ -170,7 +160,8 @@ fn a_put_that_finds_no_cell_is_told_of(rt: HostRuntime) -> Result<(), Fail> {
     // Two puts, each of which entered and left, and none after the one that found no cell.
     let flaws = gate.flaws.load(Ordering::SeqCst);
     same(&rt, &(flaws, gate.times[0].load(Ordering::SeqCst)), &(0, 4));
-    Ok(())
+    let report = "lane 0 ended put 1\nleft 0\ndiary 0 0 took 1\n";
+    ends(&rt, rt.alloc(), trial, report);
 }
 
 /// A gate that lets a consumer in for three calls, once four puts were made. If `TURNS` looks find fewer, it does not
@@ -201,12 +192,12 @@ impl Gate for ThreeCalls {
 }
 
 #[test]
-fn lanes_are_polled_in_turn(rt: HostRuntime) -> Result<(), Fail> {
-    let mut trial = new_trial(rt.alloc(), 2, 1, 4)?;
+fn lanes_are_polled_in_turn(rt: HostRuntime) {
+    let mut trial = new_trial(&rt, rt.alloc(), 2, 1, 4);
     let gate = ThreeCalls {
         made: AtomicU64::new(0),
     };
-    let worked = works(&rt, &mut trial, &[&[10, 11], &[20, 21]], 100, 1, &gate)?;
+    let worked = works(&rt, &mut trial, &[&[10, 11], &[20, 21]], 100, 1, &gate);
     let one_stopped = Worked {
         full: 0,
         stopped: 1,
@@ -220,5 +211,5 @@ left 1 21
 diary 0 0 took 10 took 11
 diary 0 1 took 20
 ";
-    ends(&rt, rt.alloc(), trial, report)
+    ends(&rt, rt.alloc(), trial, report);
 }

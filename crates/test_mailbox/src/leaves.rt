@@ -6,11 +6,10 @@ use crate::trial::Trial;
 use crate::trials::{ends, new_trial};
 use crate::workers::lists;
 use mb_mailbox::{Gate, Who, Worked};
-use std::alloc::Global;
+use std::alloc::{AllocError, Global};
 use std::process::Abort;
 use std::sync::Wait;
 use std::sync::atomic::{AtomicBool, AtomicU64, Ordering};
-use std::test::Fail;
 use std::thread::Threads;
 use test_support::SeenZeros;
 
@@ -60,8 +59,8 @@ impl Gate for PollInALeave {
     }
 }
 
-/// A source that counts in `given` the words that it gave.
-fn one_source<'a>(alloc: Global, given: &'a AtomicU64) -> Result<Vec<SeenZeros<'a>>, Fail> {
+/// A source that counts here the words that it gave.
+fn one_source<'a>(alloc: Global, given: &'a AtomicU64) -> Result<Vec<SeenZeros<'a>>, AllocError> {
     let mut sources = Vec::new(alloc);
     sources.push(SeenZeros { given })?;
     Ok(sources)
@@ -72,30 +71,30 @@ fn polls_once<R: Abort + AllocGlobal + Threads + Wait + Sync>(
     rt: &R,
     trial: &mut Trial<Global>,
     gate: &PollInALeave,
-) -> Result<(), Fail> {
-    let items = lists(rt.alloc(), &[&[5]])?;
-    let rngs = one_source(rt.alloc(), &gate.drawn)?;
-    let worked = trial.work(rt.alloc(), rt, items, 100, rngs, gate);
+) {
+    let alloc = rt.alloc();
+    let items = lists(rt, alloc, &[&[5]]);
+    let rngs = one_source(alloc, &gate.drawn).expect(rt, "no list");
+    let worked = trial.work(alloc, rt, items, 100, rngs, gate);
     let one_stopped = Worked {
         full: 0,
         stopped: 1,
     };
     same(rt, &worked, &Ok(one_stopped));
-    Ok(())
 }
 
 #[test]
-fn a_call_is_told_of_after_its_accesses(rt: HostRuntime) -> Result<(), Fail> {
+fn a_call_is_told_of_after_its_accesses(rt: HostRuntime) {
     let gate = PollInALeave {
         has_put: AtomicBool::new(false),
         has_polled: AtomicBool::new(false),
         drawn: AtomicU64::new(0),
         told: AtomicU64::new(0),
     };
-    let mut trial = new_trial(rt.alloc(), 1, 1, 1)?;
-    polls_once(&rt, &mut trial, &gate)?;
-    // The only consumer's claim makes five accesses, three to the conciliator and two to the proposal, and draws a word
-    // for each. All were made before the poll left.
+    let mut trial = new_trial(&rt, rt.alloc(), 1, 1, 1);
+    polls_once(&rt, &mut trial, &gate);
+    // An only consumer's claim makes five accesses, three to the conciliator and two to the proposal, and draws a word for
+    // each: all were made before the poll was told of.
     same(&rt, &gate.told.load(Ordering::SeqCst), &5);
     // And the poll found the item, so that was put before the put left.
     ends(
@@ -103,5 +102,5 @@ fn a_call_is_told_of_after_its_accesses(rt: HostRuntime) -> Result<(), Fail> {
         rt.alloc(),
         trial,
         "lane 0 ended put 5\nleft 0\ndiary 0 0 took 5\n",
-    )
+    );
 }

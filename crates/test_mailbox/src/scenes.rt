@@ -8,7 +8,6 @@ use mb_mailbox::{HubFault, Poll, Put};
 use mb_script::{number, split_word};
 use std::alloc::Allocator;
 use std::process::Abort;
-use std::test::Fail;
 use test_support::Zeros;
 
 /// The answer of a call: a word, and the number after it.
@@ -28,28 +27,21 @@ pub(crate) fn play<A: Allocator + Copy + Drop>(
     trial: &mut Trial<A>,
     alloc: A,
     lines: &str,
-) -> Result<(), Fail> {
+) {
     let mut words = Zeros::default();
     for line in lines.lines() {
-        let Some((call, want)) = line.split_once(':') else {
-            return Err(Fail::new("a line without a colon"));
-        };
+        let (call, want) = line.split_once(':').expect(rt, "a line without a colon");
         let told = make(trial, alloc, &mut words, call);
         same_at(rt, &told, &told_by(want), &line);
     }
-    Ok(())
 }
 
-/// Makes the calls of these lines in a new mailbox of these sizes. The report then has this text.
-pub(crate) fn plays<R: Abort + AllocGlobal>(
-    rt: &R,
-    sizes: [u64; 3],
-    lines: &str,
-    report: &str,
-) -> Result<(), Fail> {
-    let mut trial = new_trial(rt.alloc(), sizes[0], sizes[1], sizes[2])?;
-    play(rt, &mut trial, rt.alloc(), lines)?;
-    ends(rt, rt.alloc(), trial, report)
+/// In a new mailbox of so many producers, consumers and cells the calls of these lines are made, and then this is reported.
+pub(crate) fn plays<R: Abort + AllocGlobal>(rt: &R, sizes: [u64; 3], lines: &str, report: &str) {
+    let alloc = rt.alloc();
+    let mut trial = new_trial(rt, alloc, sizes[0], sizes[1], sizes[2]);
+    play(rt, &mut trial, alloc, lines);
+    ends(rt, alloc, trial, report);
 }
 
 /// The word and the number after the colon of a line and a space.

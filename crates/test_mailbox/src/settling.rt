@@ -1,9 +1,10 @@
 //! Polls that settle their items: each cell has a last object, and each poll has a budget for a whole claim.
-ghost use Rattle.std.specs.Prelude.{All, IfOk, OnOk};
+ghost use Rattle.std.specs.Prelude.{All};
 ghost use Rattle.mb_mailbox.specs.Consumers.{IsConsumerOf};
 ghost use Rattle.mb_mailbox.specs.Hubs.{IsHubOf};
 ghost use Rattle.mb_mailbox.specs.Producers.{IsProducerOf};
 
+use crate::beside::gathered;
 use crate::compare::same;
 use crate::words::chacha;
 use mb_claim::Shape;
@@ -14,7 +15,6 @@ use rand_chacha::ChaCha8Rng;
 use std::alloc::Global;
 use std::process::Abort;
 use std::sync::atomic::{AtomicU64, Ordering};
-use std::test::Fail;
 use std::thread::{Threads, for_each_mut, yield_now};
 use test_audit::{Tally, audit};
 
@@ -71,25 +71,33 @@ impl Settler {
 
 /// All consumers of a mailbox, with random words of this seed.
 fn all_settlers(
+    rt: &impl Abort,
     alloc: Global,
     mailbox: &Mailbox<Global>,
     hub: &mut Hub<Global>,
     seed: u64,
-) -> Result<Vec<Settler>, Fail>
+) -> Vec<Settler>
     requires { IsHubOf mailbox.now hub.old }
-    ensures hub { OnOk result (IsHubOf mailbox.now hub.new) }
-    ensures settlers { IfOk result (λ v. All (λ s. IsConsumerOf mailbox.now s.consumer) v.items) }
+    ensures hub { IsHubOf mailbox.now hub.new }
+    ensures settlers { All (λ s. IsConsumerOf mailbox.now s.consumer) result.items }
 {
     let mut settlers = Vec::new(alloc);
     for stream in 0..CONSUMERS {
-        settlers.push(Settler {
-            consumer: hub.consumer(alloc, mailbox)?,
+        let consumer = match hub.consumer(alloc, mailbox) {
+            Ok(consumer) => consumer,
+            Err(_) => panic!(rt; "no consumer"),
+        };
+        let settler = Settler {
+            consumer,
             words: chacha(seed, stream as u32),
             settled: 0,
             ended: 0,
-        })?;
+        };
+        let Ok(()) = settlers.push(settler) else {
+            panic!(rt; "no list")
+        };
     }
-    Ok(settlers)
+    settlers
 }
 
 /// Puts all items, and ends the lane.
@@ -127,12 +135,15 @@ fn settle_all<R: Abort + AllocGlobal + Threads + Sync>(
     hub: &mut Hub<Global>,
     budget: u64,
     seed: u64,
-) -> Result<(), Fail>
+)
     requires { IsHubOf mailbox.now hub.old }
-    ensures { OnOk result (IsHubOf mailbox.now hub.new) }
+    ensures { IsHubOf mailbox.now hub.new }
 {
-    let mut producer = hub.producer(rt.alloc(), mailbox)?;
-    let mut settlers = all_settlers(rt.alloc(), mailbox, hub, seed)?;
+    let mut producer = match hub.producer(rt.alloc(), mailbox) {
+        Ok(producer) => producer,
+        Err(_) => panic!(rt; "no producer"),
+    };
+    let mut settlers = all_settlers(rt, rt.alloc(), mailbox, hub, seed);
     put_all(rt, mailbox, &mut producer);
     let come = AtomicU64::new(0);
     for_each_mut(
@@ -143,23 +154,23 @@ fn settle_all<R: Abort + AllocGlobal + Threads + Sync>(
     );
     hub.take_producer(mailbox, producer);
     take_in(rt, mailbox, hub, settlers);
-    Ok(())
 }
 
-/// They settle all items of a mailbox with a fast path and a last object on each cell. The report says that each item
-/// was taken.
-fn are_all_taken<R: Abort + AllocGlobal + Threads + Sync>(rt: &R, seed: u64) -> Result<(), Fail> {
+/// In a mailbox with a fast path and a last object on each cell they settle all, and the report tells that each item was taken.
+fn are_all_taken<R: Abort + AllocGlobal + Threads + Sync>(rt: &R, seed: u64) {
     let shape = Shape {
         fast: true,
         last: true,
     };
-    let setup = Setup::new(1, CONSUMERS, ITEMS, 1, TableName::Bits)?.shaped(shape);
+    let setup = Setup::new(1, CONSUMERS, ITEMS, 1, TableName::Bits).expect(rt, "no setup");
+    let setup = setup.shaped(shape);
     let budget = setup.layout().max_steps().wrapping_add(2);
-    let (mailbox, mut hub) = Mailbox::new(rt.alloc(), setup)?;
-    settle_all(rt, &mailbox, &mut hub, budget, seed)?;
-    let Ok(report) = mailbox.gather(rt.alloc(), hub) else {
-        return Err(Fail::new("no report"));
+    let (mailbox, mut hub) = match Mailbox::new(rt.alloc(), setup) {
+        Ok(made) => made,
+        Err(_) => panic!(rt; "no mailbox"),
     };
+    settle_all(rt, &mailbox, &mut hub, budget, seed);
+    let report = gathered(rt, rt.alloc(), mailbox, hub);
     let all_taken = Tally {
         put: 256,
         took: 256,
@@ -168,14 +179,13 @@ fn are_all_taken<R: Abort + AllocGlobal + Threads + Sync>(rt: &R, seed: u64) -> 
         undecided: 0,
         under_way: 0,
     };
-    same(rt, &audit(&report, 1, CONSUMERS)?, &all_taken);
-    Ok(())
+    let tally = audit(&report, 1, CONSUMERS).expect(rt, "a flaw");
+    same(rt, &tally, &all_taken);
 }
 
 #[test]
-fn each_poll_settles_its_item(rt: HostRuntime) -> Result<(), Fail> {
+fn each_poll_settles_its_item(rt: HostRuntime) {
     for seed in 0..MAILBOXES {
-        are_all_taken(&rt, seed)?;
+        are_all_taken(&rt, seed);
     }
-    Ok(())
 }

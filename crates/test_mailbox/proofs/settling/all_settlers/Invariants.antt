@@ -4,7 +4,7 @@ use Rattle.mb_mailbox.specs.Hubs.{IsHubOf}
 use Rattle.test_mailbox.proofs.settling.all_settlers.Given as goal
 
 abbrev pub invariant-loop-stream : goal.invariant-loop-stream
-invariant-loop-stream l = record {
+invariant-loop-stream g l = record {
   hub : IsHubOf l.mailbox l.hub;
   settlers : All (λ s. IsConsumerOf l.mailbox s.consumer) l.settlers.items;
 }
