@@ -36,7 +36,7 @@ found = link_load 0 0 [] 1 ∷ waited
 abbrev pub begun : WorldHistory
 begun = claim_step 0 0 first_step ∷ found
 
--- or the claim is made to its end, where it is won, and the item 5 is taken
+-- or the claim goes to its end and is won, and the item 5 is taken
 abbrev pub won_steps : List ObjectTurn
 won_steps = map (λ a. a.step) won_alone
 
@@ -80,7 +80,7 @@ passed_unclaimed = link_load 0 0 (0 ∷ []) 0 ∷ found
 abbrev pub passed_won : WorldHistory
 passed_won = link_load 0 0 (0 ∷ []) 0 ∷ won
 
--- the head is loaded again behind the cell
+-- the head is loaded again after the cell
 abbrev pub gone_back : WorldHistory
 gone_back = link_load 0 0 [] 1 ∷ taken
 

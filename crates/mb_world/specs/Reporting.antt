@@ -29,8 +29,8 @@ any_below (suc n) test = test n || any_below n test
 abbrev pub is_taken : ℕ → ℕ → ℕ → ReportView → Bool
 is_taken n p j r = any_below n (λ c. is_took (note c p j r))
 
--- lane p as it is reported: the items put, whether the end mark was stored, and of the items put, in their order, those
--- of which no diary says that they were taken
+-- lane p as it is reported: the items put, whether the end mark was stored, and those of the items put that no diary
+-- says were taken, in their order
 abbrev pub lane_view : Plan → ℕ → Histories → ReportView → LaneView
 lane_view plan p hs r = record {
   put = values_put p hs.pool;
