@@ -29,10 +29,10 @@ link_load c p ks v = ToCells (load c (place_past p ks) v)
 abbrev pub item_load : ℕ → ℕ → ℕ → WorldAccess
 item_load c k v = ToCells (load c (Item k) v)
 
--- What consumer c has done on lane p, the newest first, and where it leads: to these cells met and these notes (each
--- the last first), and to these steps of a claim on the last cell met, if one is held. Each rule but the first is one
--- access, so these are the prefixes of its paths. A path has loads of links until one leads to a cell. There it has a
--- claim to its end, and the load of the item if that is won. Then it goes on from that cell's link.
+-- What consumer c has done on lane p, the newest first, and where it leads. It leads to these cells met and these notes
+-- (each the last first), and to these steps of a claim on the last cell met, if one is held. Each rule but the first is
+-- one access, so these are the prefixes of its paths. A path has loads of links until one leads to a cell. There it has
+-- a claim to its end, and the load of the item if that is won. Then it goes on from that cell's link.
 pub data ConsumerPath (cs : Claims) (c p : ℕ) : WorldHistory → List ℕ → List Note → Option (List ObjectTurn)
     → Type 0 where
   -- nothing yet: it stands at the lane's head

@@ -1,4 +1,4 @@
--- What consumer 0 does on lane 0, with two consumers, two cells and one pair of objects over the unary table: some of
+-- What consumer 0 does on lane 0, with two consumers, two cells and one pair of objects over the unary table. Some of
 -- it is on its path, and some of it on none.
 use Rattle.std.specs.Prelude.{ℕ, Option, List, [], ◌∷◌, ◌++◌, map}
 use Rattle.mb_deciding.specs.declared.access.Act.TheVariants as act

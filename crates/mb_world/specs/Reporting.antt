@@ -39,7 +39,7 @@ lane_view plan p hs r = record {
 }
 
 -- ---- a diary
--- the cells that reader q met on lane p (the last first): links lead from the head to each of them, and it was given no
+-- the cells that reader q met on lane p (the last first). Links lead from the head to each of them, and it was given no
 -- other cell of the lane
 pub record HasMetAll (q p : ℕ) (ks : List ℕ) (pool : History) : Type 0 where
   pub met : HasMet q p ks pool

@@ -1,5 +1,5 @@
--- A world of two lanes, two consumers and two cells, with one pair of objects over the unary table: what was done in it,
--- what may not follow, what is reported of it and what is not, and some of its events.
+-- A world of two lanes, two consumers and two cells, with one pair of objects over the unary table. Below are what was
+-- done in it, what may not follow, its report and reports that are not its own, and some of its events.
 use Rattle.std.specs.Prelude.{ℕ, true, false, Option, List, [], ◌∷◌, ◌++◌, map}
 use Rattle.mb_cells.specs.LanePath.{fetch, store}
 use Rattle.mb_cells.specs.declared.answer.Finish.TheVariants as finish

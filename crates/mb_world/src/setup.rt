@@ -79,8 +79,8 @@ impl Setup {
         Setup::up_to(MAX_CELLS, producers, consumers, cells, pairs, name)
     }
 
-    /// The same for up to 2^24 cells, and with the faults in the same order. The memory of a mailbox or a world grows with
-    /// the number of its cells. A script names 256 at most.
+    /// The same for up to 2^24 cells, with the faults in the same order. The memory of a mailbox or a world grows with
+    /// the number of its cells. A script may have at most 256.
     pub fn large(
         producers: u64,
         consumers: u64,
