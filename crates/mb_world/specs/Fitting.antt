@@ -8,7 +8,7 @@ use Rattle.mb_world.specs.Plan.{Histories}
 use Rattle.mb_world.specs.declared.report.Note.{Note}
 use Rattle.mb_world.specs.declared.report.Note.TheVariants.{Took, Lost, Undecided}
 
--- what a consumer loaded from the cells, and for each cell the steps of its claim there; the newest first
+-- what a consumer loaded from the cells, and for each cell the steps of its claim there, each the newest first
 pub record Parts : Type 0 where
   pub reads : History
   pub claimed : ℕ → List ObjectTurn

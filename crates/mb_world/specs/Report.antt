@@ -4,7 +4,7 @@ use Rattle.std.specs.Prelude.{ℕ, ◌+◌, ◌*◌, Bool, false, List, [], Opti
 use Rattle.std.specs.Option.{option_map_or}
 use Rattle.mb_world.specs.declared.report.Note.{Note}
 
--- of one lane: the items put, the first linked first; whether it has ended; and the items that nobody took
+-- of one lane: the items put (the first linked first), whether it has ended, and the items that nobody took
 pub record LaneView : Type 0 where
   pub put : List ℕ
   pub ended : Bool

@@ -68,7 +68,7 @@ abbrev pub lost_to_a_third : ReportView
 lost_to_a_third = report_of (5 ∷ []) []
     (diary_of 0 (Took 5 ∷ []) false ∷ diary_of 1 (Lost 2 ∷ []) false ∷ diary_of 2 [] true ∷ [])
 
--- the items left stand in another order
+-- the items left are in another order
 abbrev pub left_out_of_order : ReportView
 left_out_of_order = report_of (10 ∷ 11 ∷ []) (11 ∷ 10 ∷ []) (diary_of 0 [] false ∷ [])
 

@@ -64,7 +64,7 @@ pub record IsDiaryOf (plan : Plan) (c p : ℕ) (hs : Histories) (d : DiaryView) 
       × ((n : Note) → EndsAs plan.claims c k n (parts_of c hs) → ⊥))
 
 -- ---- the report
--- each lane and each diary stands in its place, and there are no others
+-- each lane and each diary is in its place, and there are no others
 pub record IsReportOf (plan : Plan) (hs : Histories) (r : ReportView) : Type 0 where
   pub lanes_count : length r.lanes ≡ plan.lanes
   pub diaries_count : length r.diaries ≡ consumers_of plan * plan.lanes

@@ -24,7 +24,7 @@ pub record IsWalk (s : PoolState) (p : ℕ) (ks : List ℕ) (over : Bool) (pool 
 abbrev pub IsWalked : PoolState → ℕ → List ℕ → Bool → Type 0
 IsWalked s p ks ended = (pool : History) → IsAfter pool s → IsWalk s p ks ended pool
 
--- the note that stands there, if one does
+-- the note at a place of the list, if there is one
 abbrev pub note_there : Option (Option Note) → Option Note
 note_there None = None
 note_there (Some o) = o

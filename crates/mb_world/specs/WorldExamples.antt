@@ -116,7 +116,7 @@ unmet_claimed = claim_step 0 1 first_step
 abbrev pub claim_passed : WorldAccess
 claim_passed = link_load 1 1 (1 ∷ []) 0
 
--- consumer 0 finds nothing past the item 5, where the end mark stands
+-- consumer 0 finds nothing past the item 5, although the end mark is there
 abbrev pub end_missed : WorldAccess
 end_missed = link_load 0 0 (0 ∷ []) 0
 

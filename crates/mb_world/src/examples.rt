@@ -226,7 +226,7 @@ pub fn worlds_keep_out()
     // The link past a cell is loaded while the claim there goes on.
     ensures passed { MayNotFollow claim_passed }
 
-    // Nothing is found where the end mark stands.
+    // Nothing is found although the end mark is there.
     ensures missed { MayNotFollow end_missed }
 
     // A producer goes on after its end mark.
