@@ -4,7 +4,7 @@ use Rattle.std.specs.Io.KnownBytes.{Appends, IsAtEnd}
 use Rattle.mb_script.specs.declared.transfer.TheConstants.{MAX_SCRIPT_LEN}
 use Rattle.mb_script.specs.Devices.{AppendsFront, ConsumesCount, ConsumesUpTo, Had, one_more}
 
--- the answers of a command, and its names of the faults that all commands share
+-- the answers of a command, and its names for the faults that all commands share
 pub record Command (F : Type 0) : Type 1 where
   pub too_long : F
   pub no_memory : F

@@ -23,7 +23,7 @@ words_behind (Some rest) = words_of rest
 abbrev pub has_empty : List (List ℕ) → Bool
 has_empty words = list_any (λ w. length w == 0) words
 
--- digits, of which the first is 0 only in 0 itself
+-- digits. The first is 0 only in 0 itself
 abbrev pub is_numeral : List ℕ → Bool
 is_numeral word = all_ascii_digits word && (nat_lt 48 (slice_index word 0) || length word == 1)
 

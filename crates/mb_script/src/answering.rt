@@ -29,7 +29,7 @@ pub trait Answering {
     // The answers and faults of which its contracts speak.
     ghost command: { Command Self.Fault };
 
-    /// Its names of the faults that all commands share.
+    /// Its names for the faults that all commands share.
     fn faults() -> Faults<Self::Fault>
         ensures too_long { result.too_long ≡ command.too_long }
         ensures no_memory { result.no_memory ≡ command.no_memory }
