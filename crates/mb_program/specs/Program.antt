@@ -21,7 +21,7 @@ use Rattle.mb_program.specs.Outcome.{fault_line}
 use Rattle.mb_program.specs.RunOptions.{HasToldOptions}
 use Rattle.mb_program.specs.Running.{IsRun}
 
--- how the program ends after a command with this result, where `fault` makes the command's faults faults of the program
+-- how the program ends after a command with this result. `fault` turns a fault of the command into one of the program
 abbrev pub ended_by : {X F : Type 0} → (F → Failed) → Result X F → Ending
 ended_by fault (Ok done) = ending.Done
 ended_by fault (Err e) = ending.Failed (fault e)
@@ -38,12 +38,12 @@ WasCarriedOut (Run options) source sink reader reader' writer writer' end =
     (r : Result (Unit {0}) RunFault) × IsRun options sink writer writer' r × (reader' ≡ reader)
     × (end ≡ ended_by failed.Run r)
 
--- clap refuses none of the words, and they name a command, with these options
+-- clap refuses none of the words, and they name this choice, with its options
 abbrev pub Names : List Text → Choice → Type 0
 Names words choice =
     (fault_of program words ≡ []) × (command_in words ≡ Some (choice_name choice)) × HasToldOptions words choice
 
--- a text was written whole; or a prefix of it, and the writer failed once; or the writer was left as it was
+-- the text was written whole. Or a prefix of it was written and the writer failed once, or the writer is as it was
 abbrev pub IsPrinted : {D : Type 0} → Meter D → D → D → List ℕ → Bool → Type 0
 IsPrinted sink old new text true =
     Appends (sink.bytes old) (sink.bytes new) text × (sink.failures new ≡ sink.failures old)
@@ -51,8 +51,8 @@ IsPrinted sink old new text false =
     (AppendsFront (sink.bytes old) (sink.bytes new) text × (sink.failures new ≡ one_more (sink.failures old)))
     ⊎ (new ≡ old)
 
--- clap's text went to the writer that this kind asks for, and the other writer is as it was: help to the first, any other
--- text to the second
+-- clap's text went to the writer for this kind, and the other writer is as it was. Help and the version go to the
+-- first, any other text to the second
 abbrev pub IsTold : {W E : Type 0} → Meter W → Meter E → W → W → E → E → ErrorKind → Bool → Type 0
 IsTold sink errs writer writer' errors errors' kind printed =
     ((kind ≡ DisplayHelp) ⊎ (kind ≡ DisplayVersion)
@@ -60,7 +60,7 @@ IsTold sink errs writer writer' errors errors' kind printed =
     × (kind ≢ DisplayHelp → kind ≢ DisplayVersion
     → (writer' ≡ writer) × ((text : List ℕ) × IsPrinted errs errors errors' text printed))
 
--- ---- one run of the program, that found a reader and two writers, and left them
+-- ---- one run of the program, with its reader and two writers before it and after it
 abbrev pub IsProgramRun : {R W E : Type 0} → List Text → Meter R → Meter W → Meter E → R → R → W → W
     → E → E → Ending → Type 0
 -- the command that the words name was carried out
@@ -68,19 +68,19 @@ IsProgramRun words source sink errs reader reader' writer writer' errors errors'
     ((choice : Choice) × Names words choice
     × WasCarriedOut choice source sink reader reader' writer writer' ending.Done)
     × (errors' ≡ errors)
--- It failed, and the line of its fault was written to the second writer: whole, or a prefix where that writer failed, or
--- nothing at all, which is for want of memory, though no clause can tell that.
+-- It failed, and the line of its fault was written to the second writer: whole, or a prefix if that writer failed, or
+-- nothing at all. If nothing was written, memory ran out, but no clause can say that.
 IsProgramRun words source sink errs reader reader' writer writer' errors errors' (ending.Failed fault) =
     ((choice : Choice) × Names words choice
     × WasCarriedOut choice source sink reader reader' writer writer' (ending.Failed fault))
     × ((whole : Bool) × IsPrinted errs errors errors' (fault_line fault) whole)
--- Clap refused the words, for a reason that they give, and so nothing was read. Help goes to the first writer alone, a
--- refusal to the second alone, and words that clap takes and that name a command are refused only for want of memory.
+-- Clap refused the words, for a reason that they give, so nothing was read. Help goes to the first writer alone, a
+-- refusal to the second alone. Words that clap takes and that name a command are refused only if memory ran out.
 IsProgramRun words source sink errs reader reader' writer writer' errors errors' (ending.Refused kind printed) =
     (reader' ≡ reader) × IsRefusalOf words kind
     × IsTold sink errs writer writer' errors errors' kind printed
     × ((choice : Choice) → takes program words ≡ true → command_in words ≡ Some (choice_name choice)
     → kind ≡ OutOfMemory)
--- the words are there, so the program does not end for want of them
+-- the words are given, so the program does not end because there are none
 IsProgramRun words source sink errs reader reader' writer writer' errors errors' ending.NoText = ⊥
 IsProgramRun words source sink errs reader reader' writer writer' errors errors' ending.NoWords = ⊥

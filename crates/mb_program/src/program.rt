@@ -21,8 +21,9 @@ use std::thread::Threads;
 
 /// Does what the words of the command line ask for, from `reader` to `writer`.
 ///
-/// The line of a fault goes to `errors`, and so does why clap refuses the words; help that was asked for goes to `writer`.
-/// `words` begin with the program's name. The answer is how the program ends: `Done`, `Failed` or `Refused`.
+/// The line of a fault goes to `errors`, and so does the reason why clap refuses the words. Help that was asked for
+/// goes to `writer`. `words` begin with the program's name. Returns how the program ends: `Done`, `Failed` or
+/// `Refused`.
 pub fn run<R: AllocGlobal + Threads + Wait + Sync, S: AsStr, I: Source, O: Sink, E: Sink>(
     rt: &R,
     words: &[S],
@@ -34,7 +35,7 @@ pub fn run<R: AllocGlobal + Threads + Wait + Sync, S: AsStr, I: Source, O: Sink,
         (meter O.held O.failures) (meter E.held E.failures)
         reader.old reader.new writer.old writer.new errors.old errors.new result }
 
-    // Of every reader, also of one whose bytes are not known, as those of standard input are not.
+    // For every reader, also for one whose bytes are not known, such as standard input.
     ensures given { CountGrowsUpTo (MAX_SCRIPT_LEN + 1) (I.given reader.old) (I.given reader.new) }
 {
     match command_of(rt.alloc(), words) {
@@ -46,7 +47,7 @@ pub fn run<R: AllocGlobal + Threads + Wait + Sync, S: AsStr, I: Source, O: Sink,
     }
 }
 
-/// Does what was chosen.
+/// Runs the command that was chosen. `run` does not read from `reader`.
 fn carry_out<R: AllocGlobal + Threads + Wait + Sync, I: Source, O: Sink>(
     rt: &R,
     choice: Choice,
@@ -67,7 +68,7 @@ fn carry_out<R: AllocGlobal + Threads + Wait + Sync, I: Source, O: Sink>(
     }
 }
 
-/// Writes the line of a fault, where there is memory for it.
+/// Writes the line of a fault, if there is memory for it.
 fn end_with_fault<R: AllocGlobal, E: Sink>(rt: &R, failed: Failed, errors: &mut E) -> Ending
     ensures ending { result ≡ ending.Failed failed }
     ensures line { (whole : Bool)
@@ -79,7 +80,7 @@ fn end_with_fault<R: AllocGlobal, E: Sink>(rt: &R, failed: Failed, errors: &mut 
     Ending::Failed(failed)
 }
 
-/// Writes clap's help to `writer`, or its refusal to `errors`, where there is memory for it.
+/// Writes clap's help to `writer`, or its refusal to `errors`, if there is memory for it.
 fn end_with_refusal<R: AllocGlobal, O: Sink, E: Sink>(
     rt: &R,
     error: &clap::Error,
@@ -101,7 +102,7 @@ fn end_with_refusal<R: AllocGlobal, O: Sink, E: Sink>(
     }
 }
 
-/// Writes the text: whether the whole of it was written.
+/// Writes the text. Returns whether all of it was written.
 fn print<W: Sink>(writer: &mut W, text: &[u8]) -> bool
     ensures { IsPrinted (meter W.held W.failures) writer.old writer.new text.now result }
 {

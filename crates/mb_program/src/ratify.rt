@@ -11,7 +11,7 @@ use crate::trace_text::trace_text;
 use mb_script::{Answering, Faults, Sink, Source, exchange};
 use std::alloc::Allocator;
 
-/// The command.
+/// The command `ratify`, for `exchange`.
 struct Ratify;
 
 impl Answering for Ratify {
@@ -53,7 +53,7 @@ pub fn ratify_text<A: Allocator + Copy, R: Source, W: Sink>(
     ensures exchange { IsExchange ratifying (meter R.left R.failures) (meter W.held W.failures)
         reader.old reader.new writer.old writer.new result }
 
-    // Of every reader, also of one whose bytes are not known.
+    // For every reader, also for one whose bytes are not known.
     ensures given { CountGrowsUpTo (MAX_SCRIPT_LEN + 1) (R.given reader.old) (R.given reader.new) }
     ensures given_long { result ≡ Err TooLong
         → CountGrows (MAX_SCRIPT_LEN + 1) (R.given reader.old) (R.given reader.new) }

@@ -1,7 +1,7 @@
 //! Reading a ratifier script.
 //!
-//! It has three lines: `ratify`, the name of a quorum table and how many values the table is for; `inputs` and the
-//! input of each process; `turns` and the process of each turn.
+//! It has three lines. The first has `ratify`, the name of a quorum table, and the number of values. The second has
+//! `inputs` and the input of each process. The third has `turns` and the process of each turn.
 ghost use Rattle.std.specs.Prelude.{◌≡◌, ◌≤◌, length, Ok, IfOk};
 ghost use Rattle.mb_script.specs.Vocabulary.{lines_of, words_of};
 ghost use Rattle.mb_program.specs.Steps.{Gives};
@@ -21,7 +21,7 @@ use mb_script::{
 };
 use std::alloc::Allocator;
 
-/// Line `n`, with which the text begins, and the text after it.
+/// The first line of the text, which is line `n` of the script, and the text after it.
 #[tactic(auto, unfolding(crate::specs::RatifyScript::line_words))]
 fn line(n: usize, text: &str) -> Result<(&str, &str), RatifyFault>
     ensures { Gives (λ x. (words_of x.0.now, lines_of x.1.now)) result
@@ -36,7 +36,7 @@ fn line(n: usize, text: &str) -> Result<(&str, &str), RatifyFault>
     Ok((line, rest))
 }
 
-/// `ratify`, a table and a number.
+/// The table and the number of values that the first line says, or what is wrong with the line.
 #[tactic(auto, unfolding(crate::specs::RatifyScript::head_of))]
 fn head(line: &str) -> Result<(TableName, u64), RatifyFault>
     ensures { Gives (λ x. x) result (head_of (words_of line.now)) }
@@ -61,7 +61,7 @@ fn head(line: &str) -> Result<(TableName, u64), RatifyFault>
     Ok((name, values))
 }
 
-/// A key and numbers, on line `n`.
+/// The numbers after the key on line `n`, or what is wrong with the line.
 #[tactic(auto, unfolding(crate::specs::RatifyScript::list_of))]
 fn list<A: Allocator + Drop>(
     alloc: A,
@@ -117,16 +117,16 @@ pub fn read_script<A: Allocator + Copy>(
     alloc: A,
     bytes: &[u8],
 ) -> Result<RatifyScript<A>, RatifyFault>
-    // What is read is spelled so.
+    // The bytes spell the script that is returned.
     ensures found { IfOk result (λ s. HasSpelling (view s)
         × (lines_of bytes.now ≡ script_lines (view s))) }
 
-    // What is spelled so is read so, unless memory runs out.
+    // If the bytes spell a script, it is returned, unless memory runs out.
     ensures only { (s : Script) → HasSpelling s → length bytes.now ≤ MAX_SCRIPT_LEN
         → lines_of bytes.now ≡ script_lines s
         → Gives (λ s. view s) result (Ok s) }
 
-    // Which fault it is.
+    // The script, or which fault, unless memory runs out.
     ensures exact { Gives (λ s. view s) result (script_of bytes.now) }
 {
     words_are_cut_as_spelled();

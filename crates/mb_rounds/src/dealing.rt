@@ -5,7 +5,7 @@ ghost use Rattle.mb_mailbox.specs.Worked.{lists_in};
 
 use std::alloc::{AllocError, Allocator};
 
-/// The same items once more.
+/// A copy of the items.
 fn copy_of<A: Allocator + Clone + Drop>(alloc: &A, items: &[u64]) -> Result<Vec<u64, A>, AllocError>
     ensures { IfOk result (λ v. v.items ≡ items.now) }
 {
@@ -14,7 +14,7 @@ fn copy_of<A: Allocator + Clone + Drop>(alloc: &A, items: &[u64]) -> Result<Vec<
     Ok(copy)
 }
 
-/// The items in their order, cut into so many lists of about the same length.
+/// The items in their order, cut into `count` lists of about the same length.
 pub(crate) fn deal<A: Allocator + Clone + Drop>(
     alloc: &A,
     items: &[u64],
@@ -35,7 +35,7 @@ pub(crate) fn deal<A: Allocator + Clone + Drop>(
     Ok(lists)
 }
 
-/// The same lists once more.
+/// A copy of each list.
 pub(crate) fn copies_of<A: Allocator + Clone + Drop>(
     alloc: &A,
     lists: &[Vec<u64, A>],

@@ -15,14 +15,14 @@ use std::alloc::{AllocError, Allocator};
 use std::sync::Wait;
 use std::thread::Threads;
 
-/// What a consumer of the round is handed.
+/// What the consumers of a round get.
 #[derive(Drop)]
 pub(crate) struct Means<R: Drop, A: Allocator + Drop> {
     pub(crate) sources: Vec<R, A>,
     pub(crate) budget: u64,
 }
 
-/// The allocator three times more.
+/// Three copies of the allocator.
 fn three_of<A: Allocator + Clone>(alloc: &A) -> Result<(A, A, A), AllocError> {
     Ok((alloc.clone()?, alloc.clone()?, alloc.clone()?))
 }
@@ -59,7 +59,7 @@ pub(crate) fn play<
     ) {
         Ok(_) => {}
         Err(WorkFault::NoThread) => return Err(RoundFault::NoThread),
-        // What is asked for was seen to be within the setup.
+        // `round` has checked the sources and the budget, so memory ran out.
         Err(_) => return Err(RoundFault::NoMemory),
     }
     let Ok(report) = mailbox.gather(for_report, hub) else {

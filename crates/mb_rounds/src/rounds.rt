@@ -10,10 +10,10 @@ use std::marker::Model;
 /// What a round gave out.
 #[derive(Drop)]
 pub struct Round<A: Allocator + Drop> {
-    /// For each consumer of the setup, in the order of their numbers, the items that it took: those of lane 0 first, and of
-    /// each lane in the order put.
+    /// For each consumer of the setup, in the order of their numbers, the items that it took: those of lane 0 first,
+    /// and those of each lane in the order put.
     pub taken: Vec<Vec<u64, A>, A>,
-    /// The report of the round's mailbox. Each item that it has as left is carried.
+    /// The report of the round's mailbox. Each item that it says is left is carried.
     pub report: Report<A>,
 }
 
@@ -63,7 +63,8 @@ impl<A: Allocator + Clone + Drop> Rounds<A> {
     ghost use Rattle.std.specs.Prelude.{◌≡◌, IfOk, OnErr};
     ghost use Rattle.mb_rounds.specs.Carried.{none_carried, with_items};
 
-    /// Nothing is carried. The mailbox of each round is of this setup.
+    /// Rounds in which nothing is carried. The mailbox of each round has this setup. The error comes if memory runs
+    /// out.
     pub fn new(alloc: A, setup: Setup) -> Result<Rounds<A>, AllocError>
         ensures { IfOk result (λ rounds. rounds ≡ none_carried setup) }
     {
@@ -75,8 +76,8 @@ impl<A: Allocator + Clone + Drop> Rounds<A> {
         })
     }
 
-    /// Hands in items, to be given out after all that are carried. A value that is handed in twice is two items. If memory
-    /// is refused, none of them is handed in.
+    /// Hands in items. They go into rounds after all that are carried. A value that is handed in twice is two items. If
+    /// memory runs out, none of the items is handed in.
     pub fn hand_in(&mut self, items: &[u64]) -> Result<(), AllocError>
         ensures handed { IfOk result (λ _. self.new ≡ with_items items.now self.old) }
         ensures refused { OnErr result (self.new ≡ self.old) }

@@ -6,7 +6,7 @@ ghost use Rattle.mb_rounds.specs.Round.{staying};
 use mb_world::Report;
 use std::alloc::{AllocError, Allocator};
 
-/// What stands behind the first so many.
+/// The items after the first `count`, or none if there are no more.
 fn after_first(items: &[u64], count: usize) -> &[u64]
     ensures { result.now ≡ drop count items.now }
 {
@@ -14,8 +14,8 @@ fn after_first(items: &[u64], count: usize) -> &[u64]
     rest
 }
 
-/// Of each list the items put that nobody took, and then those that were not put; and behind them all the items that were
-/// not dealt.
+/// For each list the items put that nobody took, and then those that were not put. The items `behind`, which were not
+/// dealt, come after all of these.
 pub(crate) fn stay<A: Allocator + Clone + Drop>(
     alloc: &A,
     lists: &[Vec<u64, A>],

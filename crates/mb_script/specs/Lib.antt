@@ -16,5 +16,5 @@ pub mod Text
 pub mod Transcribed
 pub mod Transcript
 pub mod Vocabulary
--- the words of clauses, behind one door
+-- the names that clauses use, also for the crates above
 unfoldable pub use Vocabulary.*

@@ -1,4 +1,4 @@
--- The words of clauses, here and in the crates above.
+-- The names that clauses use, here and in the crates above.
 pub use Rattle.mb_script.specs.Devices.{AppendsFront, ConsumesCount, ConsumesUpTo, CountGrows, CountGrowsUpTo, Had, one_more}
 pub use Rattle.mb_script.specs.Exchange.{AreApart, Command, IsExchange, LiesIn, Meter, meter}
 pub use Rattle.mb_script.specs.Text.{IsWord, IsWordLine, has_empty, is_numeral, lines_of, words_behind, words_of}

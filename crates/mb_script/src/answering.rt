@@ -1,4 +1,4 @@
-//! What the commands share: they read a script to its end and write the text that answers it.
+//! What the commands share: they read a script to its end and write a text as its answer.
 ghost use Rattle.std.specs.Prelude.{◌≡◌, ◌≢◌, ◌+◌, ◌<◌, ℕ, List, length, Some, Err, IfOk, IfErr, string_bytes};
 ghost use Rattle.mb_script.specs.declared.transfer.TheConstants.{MAX_SCRIPT_LEN};
 ghost use Rattle.mb_script.specs.Devices.{CountGrows, CountGrowsUpTo};
@@ -13,23 +13,23 @@ use std::alloc::Allocator;
 pub struct Faults<F> {
     /// The script has more bytes than the limit.
     pub too_long: F,
-    /// A growth was refused.
+    /// Memory ran out.
     pub no_memory: F,
-    /// A read answered an error.
+    /// A read returned an error.
     pub read_fault: F,
-    /// A write answered an error, or took no byte.
+    /// A write returned an error, or took no byte.
     pub write_fault: F,
 }
 
-/// A command: what it answers a script, and its faults.
+/// A command: its answers to scripts, and its faults.
 pub trait Answering {
     /// Why the command stops.
     type Fault: Copy;
 
-    // Its answers, and the names of its faults.
+    // The answers and faults of which its contracts speak.
     ghost command: { Command Self.Fault };
 
-    /// Its names of the faults that all commands share.
+    /// Its names for the faults that all commands share.
     fn faults() -> Faults<Self::Fault>
         ensures too_long { result.too_long ≡ command.too_long }
         ensures no_memory { result.no_memory ≡ command.no_memory }
@@ -43,7 +43,7 @@ pub trait Answering {
         ensures only_long { (bytes : List ℕ) → command.fault_of bytes ≡ Some command.too_long
             → MAX_SCRIPT_LEN < length bytes };
 
-    /// The text that answers a script.
+    /// The answer to the script with these bytes. No fault of a device comes here.
     fn answer<A: Allocator + Copy>(alloc: A, bytes: &[u8]) -> Result<String<A>, Self::Fault>
         ensures text { IfOk result (λ text. command.IsAnswer bytes.now (string_bytes text)) }
         ensures fault { IfErr result
@@ -52,7 +52,7 @@ pub trait Answering {
             (λ e. (e ≢ command.read_fault) × (e ≢ command.write_fault)) };
 }
 
-/// Reads a script to its end, and writes the text that answers it and nothing else.
+/// Reads a script to its end, and writes its answer and nothing else.
 ///
 /// The whole text is made before the first write. No error of a device is retried.
 #[tactic(auto, using(crate::proofs::Exchanges::not_too_long))]
@@ -64,7 +64,7 @@ pub fn exchange<C: Answering, A: Allocator + Copy, R: Source, W: Sink>(
     ensures exchange { IsExchange C.command (meter R.left R.failures) (meter W.held W.failures)
         reader.old reader.new writer.old writer.new result }
 
-    // Of every reader, also of one whose bytes are not known.
+    // For every reader, also for one whose bytes are not known.
     ensures given { CountGrowsUpTo (MAX_SCRIPT_LEN + 1) (R.given reader.old) (R.given reader.new) }
     ensures given_long { result ≡ Err C.command.too_long
         → CountGrows (MAX_SCRIPT_LEN + 1) (R.given reader.old) (R.given reader.new) }

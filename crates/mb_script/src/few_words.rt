@@ -1,10 +1,11 @@
 //! The words of one line, without memory.
 ghost use Rattle.std.specs.Prelude.{◌≤◌};
 
-/// Room for the words of one line: `setup` has the most of a replay script, seven, and a line with more is a bad line.
+/// Room for the words of one line. The most words of a line in a replay script are the seven of `setup`. A line with
+/// more words than this is a bad line.
 pub const MAX_WORDS: usize = 8;
 
-/// The words of a line that has no empty word, and not more than [`MAX_WORDS`].
+/// The words of a line that has no empty word, and at most [`MAX_WORDS`] words.
 #[derive(Clone, Copy)]
 pub struct Words<'a> {
     words: [&'a str; MAX_WORDS],
@@ -17,7 +18,7 @@ impl<'a> Words<'a> {
     ghost use Rattle.mb_script.specs.Text.{has_empty, words_of};
     ghost use Rattle.mb_script.specs.FewWords.{words_in};
 
-    /// The words of a line, or `None` where some word is empty or there are too many.
+    /// The words of a line, or `None` if some word is empty or there are more than [`MAX_WORDS`].
     ///
     /// This takes no memory, however many words there are.
     pub fn of_line(line: &'a str) -> Option<Words<'a>>
@@ -48,7 +49,7 @@ impl<'a> Words<'a> {
         })
     }
 
-    /// The words, the first first.
+    /// The words, in their order.
     pub fn as_slice(&self) -> &[&'a str]
         ensures { map (λ w. w.now) result.now ≡ words_in self.now }
     {

@@ -1,5 +1,5 @@
-//! The replayer: a script in, its transcript and report out. It stands on a text layer of its own, lines, words and
-//! numbers, and on readers and writers that count their failures.
+//! The replayer: a script in, its transcript and report out. It has a text layer of its own (lines, words and numbers),
+//! and readers and writers that count their failures.
 #![tactic(auto)]
 
 mod act_text;

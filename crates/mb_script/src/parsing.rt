@@ -59,7 +59,7 @@ fn three_numbers(n: usize, words: &[&str]) -> Result<(u64, u64, u64), Fault>
     ))
 }
 
-/// The words after `setup`.
+/// The setup that the words after `setup` say, or what is wrong with them.
 #[tactic(auto, unfolding(crate::specs::Scripts::sizes_of))]
 fn sizes(words: &[&str]) -> Result<Setup, Fault>
     ensures { Gives made_in result (sizes_of (map (λ w. w.now) words.now)) }
@@ -79,7 +79,7 @@ fn sizes(words: &[&str]) -> Result<Setup, Fault>
     }
 }
 
-/// The first line.
+/// The setup that the first line says, or what is wrong with it.
 #[tactic(auto, unfolding(crate::specs::Scripts::setup_of))]
 fn setup(line: &str) -> Result<Setup, Fault>
     ensures { Gives made_in result (setup_of (words_of line.now)) }
@@ -129,7 +129,7 @@ fn event(n: usize, words: &[&str]) -> Result<Event, Fault>
     }
 }
 
-/// The event, where this world has its lane and its consumer.
+/// The event, if this world has its lane and its consumer.
 #[tactic(auto, unfolding(crate::specs::Scripts::placed))]
 fn place(setup: &Setup, n: usize, event: Event) -> Result<Event, Fault>
     ensures { Gives (λ e. e) result (placed (plan_in setup.now) n event) }
@@ -147,7 +147,7 @@ fn place(setup: &Setup, n: usize, event: Event) -> Result<Event, Fault>
     }
 }
 
-/// Line `n`.
+/// The event of this world that line `n` says, or what is wrong with the line.
 #[tactic(auto, unfolding(crate::specs::Scripts::event_at))]
 fn event_at(setup: &Setup, n: usize, line: &str) -> Result<Event, Fault>
     ensures { Gives (λ e. e) result (event_read (plan_in setup.now) n line.now) }
@@ -159,7 +159,7 @@ fn event_at(setup: &Setup, n: usize, line: &str) -> Result<Event, Fault>
     place(setup, n, event)
 }
 
-/// The lines behind the first.
+/// The events of the lines after the first, or the first fault there.
 fn events<A: Allocator>(alloc: A, setup: &Setup, text: &str) -> Result<Vec<Event, A>, Fault>
     ensures { Gives (λ v. v.items) result (events_of (plan_in setup.now) 2 (lines_of text.now)) }
 {
@@ -202,15 +202,15 @@ fn read_bytes<A: Allocator>(alloc: A, bytes: &[u8]) -> Result<Script<A>, Fault>
 
 /// The script that the bytes spell, or their first fault.
 pub fn parse<A: Allocator>(alloc: A, bytes: &[u8]) -> Result<Script<A>, Fault>
-    // What is read is spelled so.
+    // The bytes spell the script that is returned.
     ensures found { IfOk result (λ s. Spells (lines_of bytes.now) (view s)) }
 
-    // What is spelled so is read so, unless memory runs out.
+    // If the bytes spell a script, it is returned, unless memory runs out.
     ensures only { (z : Sizes) (events : List Event) → IsScript z events
         → length bytes.now ≤ MAX_SCRIPT_LEN → lines_of bytes.now ≡ script_lines z events
         → Gives (λ s. view s) result (Ok (script_in z events)) }
 
-    // Which fault it is.
+    // The script, or which fault, unless memory runs out.
     ensures exact { Gives (λ s. view s) result (script_of bytes.now) }
 {
     read_bytes(alloc, bytes)

@@ -13,7 +13,7 @@ use crate::parsing::parse;
 use crate::replay::replay_text;
 use std::alloc::Allocator;
 
-/// The command.
+/// The command `replay`, for `exchange`.
 struct Replay;
 
 impl Answering for Replay {
@@ -49,7 +49,7 @@ pub fn run<A: Allocator + Copy, R: Source, W: Sink>(
     ensures exchange { IsExchange replaying (meter R.left R.failures) (meter W.held W.failures)
         reader.old reader.new writer.old writer.new result }
 
-    // Of every reader, also of one whose bytes are not known.
+    // For every reader, also for one whose bytes are not known.
     ensures given { CountGrowsUpTo (MAX_SCRIPT_LEN + 1) (R.given reader.old) (R.given reader.new) }
     ensures given_long { result ≡ Err TooLong
         → CountGrows (MAX_SCRIPT_LEN + 1) (R.given reader.old) (R.given reader.new) }

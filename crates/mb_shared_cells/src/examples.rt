@@ -1,5 +1,5 @@
-//! The definitions by example: what they let in, and what only looks right. The functions compute nothing: their contracts
-//! are the examples, and their proofs stand in `proofs/examples/`, one folder for each.
+//! The definitions by example: what they admit, and what only looks right. The functions compute nothing: their
+//! contracts are the examples. Their proofs are in `proofs/examples/`, one folder for each.
 ghost use Rattle.std.specs.Prelude.{[], ◌∷◌};
 ghost use Rattle.atomic_table.specs.Seated.{TableId};
 ghost use Rattle.mb_cells.specs.Vocabulary.{load, new_lane, one_put, one_taken};
@@ -50,7 +50,7 @@ pub fn words_and_views_disagree()
     processes_stand_once();
 }
 
-/// Calls of seats: each makes its access, and tells what that found.
+/// Calls of seats: each makes its access, and returns what that found.
 pub fn seats_make_their_access()
     ensures offered { (id : TableId)
         → OfferMakes (lane_seen id new_lane []) 8 (offer.Cell 0)
@@ -69,7 +69,7 @@ pub fn seats_make_their_access()
         → PushMakes (lane_seen id has_taken one_taken) (push.Item 0)
         (lane_seen id has_taken one_taken) → ⊥ }
 
-    // A look without a load, and one that tells another value than it loaded.
+    // A look without a load, and one that returns another value than it loaded.
     ensures not_looked { (id : TableId)
         → LookMakes (reader_seen id []) (cursor.Head 0) look.Nothing (reader_seen id []) → ⊥ }
     ensures other_value { (id : TableId)

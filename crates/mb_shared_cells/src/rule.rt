@@ -1,4 +1,4 @@
-//! The rule of a table, and what its steps tell.
+//! The rule of a table, and what its steps say.
 use crate::views::View;
 use atomic_table::{Join, Play, Split, TableRule};
 use mb_cells::PoolSize;
@@ -58,7 +58,7 @@ impl Play<(), View> for Draws {
     ghost then = { DrawsNumber };
 }
 
-/// The hub's load after a join, which tells that the number was out, and puts the part into the roll.
+/// The hub's load after a join. It says that the number was out, and puts the part into the roll.
 pub struct TakesIn;
 
 impl Play<(), View> for TakesIn {

@@ -1,5 +1,5 @@
--- The words of the crates below that stand in the definitions and clauses here, by one name each. Variants that share a
--- name stand in their own modules: those of `Stage`, `Look`, `Offer`, `Push` and `Finish`.
+-- The names of the crates below that definitions and clauses here use, one for each thing. Variants of `Stage`, `Look`,
+-- `Offer`, `Push` and `Finish` share names, so they stay in modules of their own.
 pub use Rattle.mb_quorum.specs.Quorum.{IsQuorumTable, QuorumTable}
 pub use Rattle.mb_deciding.specs.declared.object.Kind.{Kind}
 pub use Rattle.mb_claim.specs.declared.access.ClaimAccess.{ClaimAccess}

@@ -20,7 +20,7 @@ pub record NothingFollowsEnds (plan : Plan) (hs : Histories) (r : ReportView) : 
   pub noted : (c p j : ℕ) → c < consumers_of plan → p < plan.lanes → HasMetEnd (hs.reader_of c) p hs.pool →
       j < length (items_put p r) → IsSome (note c p j r)
 
--- one assignment stands behind the whole report
+-- one assignment agrees with the whole report
 pub record IsHonest (plan : Plan) (hs : Histories) (r : ReportView) : Type 0 where
   pub assignment : Assignment
   -- each consumer's ledger from each producer is exactly the items that it was given, in the order put

@@ -22,8 +22,8 @@ abbrev pub size_of : Plan → PoolSize
 size_of plan = pool_size plan.lanes plan.claims.cells
 
 -- What was done to the words of the claims, and what to the words of the cells, each the newest first. No order between
--- the two is known. Consumer c stands among the readers of the cells under the number `reader_of c`; these
--- numbers need not differ.
+-- the two is known. Among the readers of the cells, consumer c has the number `reader_of c`. These numbers need not
+-- differ.
 pub record Histories : Type 0 where
   pub claims : List ClaimAccess
   pub pool : History

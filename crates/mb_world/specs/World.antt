@@ -34,8 +34,8 @@ abbrev pub IsBy : ℕ → WorldAccess → Type 0
 IsBy c (ToCells a) = a.process ≡ Reader c
 IsBy c (ToClaims a) = a.consumer ≡ c
 
--- whether it is one of consumer c on lane p, where these cells are linked: to the lane's head, or to a word or the
--- claim of one of the cells
+-- whether it is an access of consumer c on lane p, if these cells are linked there: to the lane's head, or to a word or
+-- the claim of one of the cells
 abbrev pub is_on : ℕ → ℕ → List ℕ → WorldAccess → Bool
 is_on c p ks (ToCells a) = is_same_process (Reader c) a.process && is_of_lane p ks a.word
 is_on c p ks (ToClaims a) = nat_eq a.consumer c && has_cell ks a.cell

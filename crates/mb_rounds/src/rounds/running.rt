@@ -1,4 +1,4 @@
-//! One round: what is dealt, played and told, and what stays.
+//! One round: dealing, playing, what is given out, and what is carried after it.
 use super::{Round, RoundFault, Rounds};
 use crate::dealing::{copies_of, deal};
 use crate::ledgers::ledgers;
@@ -21,15 +21,18 @@ impl<A: Allocator + Clone + Drop + Send + Sync> Rounds<A> {
     ghost use Rattle.mb_rounds.specs.Round.{IsRound};
     ghost use Rattle.mb_rounds.specs.declared.rounds.RoundFault.TheVariants.{BadBudget, TooManySources};
 
-    /// Runs one round over a mailbox of its own, with a thread for each producer of the setup and for each source of random
-    /// words. The oldest items carried are dealt, as many as the setup has cells. The call returns after all threads have
-    /// ended. It hands items out and runs none: what consumer c took is `taken[c]`, and is the caller's from then on.
+    /// Runs one round over a mailbox of its own, with a thread for each producer of the setup and for each source of
+    /// random words. The oldest items carried are dealt, as many as the setup has cells. The call returns after all
+    /// threads have ended. It gives items out and runs none. What consumer c took is `taken[c]`, and is the caller's
+    /// from then on.
     ///
-    /// `budget` is the most accesses of one poll, at least 1. Each worker asks the gate before each put or poll, and stops if
-    /// it is not let through. What was not put or not taken is carried, in front of what was not dealt.
+    /// `budget` is the most accesses of one poll, at least 1. Each worker asks the gate before each put or poll, and
+    /// stops if it is not let through. Items that were not put or not taken are carried, in front of those that were
+    /// not dealt.
     ///
-    /// Faults are decided in the order of [`RoundFault`]. After any of them nothing was given out, also if consumers took
-    /// items before a thread could not be started: nobody was told of these.
+    /// Of the faults [`RoundFault::TooManySources`] is decided first, and then [`RoundFault::BadBudget`]. After any
+    /// fault nothing was given out. This holds also if consumers took items before a thread could not be started: the
+    /// caller does not get these.
     pub fn round<W: Threads + Wait + Sync, R: Rng + Send + Drop, G: Gate>(
         &mut self,
         rt: &W,
@@ -46,8 +49,9 @@ impl<A: Allocator + Clone + Drop + Send + Sync> Rounds<A> {
         ensures refused { OnErr result (self.new ≡ self.old) }
         ensures setup { self.new.setup ≡ self.old.setup }
 
-        // The oldest items went into a mailbox, whose report is honest. What its ledgers have is given out, and the rest stays.
-        // Who worked there, with this budget and these sources, put and polled until the gate stopped it or it was done.
+        // The oldest items went into a mailbox, and one assignment agrees with its report. What its ledgers have is
+        // given out, and the rest stays. Each worker, with this budget and these sources, put or polled until it was
+        // done or stopped.
         ensures round { IfOk result (λ o. IsRound (G.may_stop gate.now) (G.may_pass gate.now)
             (terms_of self.old.setup budget (map R.stream sources.items)) self.old.carried
             (lists_in o.taken.items) o.report self.new.carried) }

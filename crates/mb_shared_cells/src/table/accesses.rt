@@ -34,7 +34,7 @@ impl<A: Allocator + Drop> SharedCells<A> {
         }
     }
 
-    /// Loads a word, by a reader's seat.
+    /// Loads a word with a reader's seat.
     pub(super) fn load<W: Made>(&self, seat: &mut Seat<(), View>, word: Word) -> u64
         requires picked { (W.word ≡ word) × (W.act ≡ (λ n. Load n)) }
         requires table { seat.old.table_id ≡ self.now.id }
@@ -51,7 +51,7 @@ impl<A: Allocator + Drop> SharedCells<A> {
         self.table.shared.load::<Makes<W>>(seat, address)
     }
 
-    /// Stores a value in a word, by a lane's seat.
+    /// Stores a value in a word with a lane's seat.
     pub(super) fn store<W: Made>(&self, seat: &mut Seat<(), View>, word: Word, value: u64)
         requires picked { (W.word ≡ word) × (W.act ≡ (λ n. Store n)) }
         requires table { seat.old.table_id ≡ self.now.id }
@@ -67,7 +67,7 @@ impl<A: Allocator + Drop> SharedCells<A> {
         self.table.shared.store::<Makes<W>>(seat, address, value);
     }
 
-    /// Adds one to the counter for an item, by a lane's seat, and answers what it held.
+    /// Adds one to the counter for an item, with a lane's seat. Returns what the counter held before.
     pub(super) fn fetch_add<W: Made>(&self, seat: &mut Seat<(), View>, item: u64) -> u64
         requires picked { (W.word ≡ Counter) × (W.act ≡ (λ n. FetchAdd item n)) }
         requires table { seat.old.table_id ≡ self.now.id }
@@ -75,7 +75,7 @@ impl<A: Allocator + Drop> SharedCells<A> {
         ensures table { seat.new.table_id ≡ seat.old.table_id }
         ensures makes { MakesAccess Counter (FetchAdd item result) seat.old.me seat.new.me }
     {
-        // The item stands in the contract alone.
+        // Only the contract names the item.
         let _ = item;
         accesses_lengthen_one_part();
         addresses_are_apart();

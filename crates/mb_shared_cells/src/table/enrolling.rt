@@ -1,4 +1,4 @@
-//! The hub gives seats out and takes them in.
+//! The hub issues seats and takes them in.
 use super::{AllGiven, CellHub, LaneSeat, ReaderSeat, SharedCells, roster};
 use crate::rule::{Draws, Parts, TakesIn};
 use mb_cells::Lane;
@@ -11,8 +11,8 @@ impl<A: Allocator + Drop> SharedCells<A> {
     ghost use Rattle.mb_cells.specs.declared.access.Process.TheVariants.{Producer, Reader};
     ghost use Rattle.mb_shared_cells.specs.{roll_with_lane, roll_with_part, roll_with_reader};
 
-    /// The seat of the next lane, with an empty part. Lanes have the numbers 0, 1, .. in this order, and [`AllGiven`]
-    /// comes after the table's last.
+    /// The seat of the next lane, with an empty part. Lanes have the numbers 0, 1, .. in this order. The error is
+    /// [`AllGiven`] if all lanes of the table were given.
     pub fn enroll_lane(&self, hub: &mut CellHub) -> Result<LaneSeat, AllGiven>
         requires { hub.old.table ≡ self.now }
         ensures all_given { IsErr result ↔ (self.now.size.lanes ≤ length hub.old.roll.lanes) }
@@ -63,7 +63,7 @@ impl<A: Allocator + Drop> SharedCells<A> {
         }
     }
 
-    /// Takes a lane's seat in, at any time, and its part into the hub as it is.
+    /// Takes a lane's seat in, at any time. The hub then has its part as it is.
     pub fn take_lane(&self, hub: &mut CellHub, seat: LaneSeat)
         requires hub { hub.old.table ≡ self.now }
         requires seat { seat.table ≡ self.now }
@@ -82,7 +82,7 @@ impl<A: Allocator + Drop> SharedCells<A> {
         self.table.shared.load::<TakesIn>(&mut hub.seat, 0);
     }
 
-    /// Takes a reader's seat in, and its part into the hub as it is.
+    /// Takes a reader's seat in, at any time. The hub then has its part as it is.
     pub fn take_reader(&self, hub: &mut CellHub, seat: ReaderSeat)
         requires hub { hub.old.table ≡ self.now }
         requires seat { seat.table ≡ self.now }

@@ -19,22 +19,22 @@ impl<A: Allocator + Drop> World<A> {
     ghost use Rattle.mb_world.specs.Waiting.{HasNothing};
     ghost use Rattle.mb_world.specs.EventSteps.{EventAdds};
 
-    /// Makes the one access that the event asks for, or none where the event is refused, and answers what was done. It
-    /// takes no memory, and a time that depends neither on the setup nor on what was done before.
+    /// Makes the one access that the event asks for, or none if the event is refused. Returns what was done. It takes
+    /// no memory, and its time depends neither on the setup nor on what was done before.
     #[inline]
     pub fn apply(&mut self, event: Event) -> Answer
-        // Whatever lawful history leaves the world: the answer is that of the replay, and the world is then left by
-        // this history with the event's access, or by the same one where the event has none.
+        // For every lawful history that leaves the world: the answer is that of the replay. The new world is left by
+        // this history with the event's access, or by the same history if the event has none.
         ensures adds { (h : WorldHistory) → IsWorldAfter h self.old
             → EventAdds event result self.new h }
         ensures setup { self.new.setup ≡ self.old.setup }
 
-        // A step answers that it found nothing exactly where there is nothing for its consumer on its lane.
+        // A step returns that it found nothing exactly if there is nothing for its consumer on its lane.
         ensures nothing { (h : WorldHistory) (c p word : ℕ) → IsWorldAfter h self.old
             → event ≡ Step c p word
             → (result ≡ Looked look.Nothing) ↔ HasNothing (plan_in self.old.setup) c p h }
 
-        // An event that is refused changes nothing.
+        // A refused event changes nothing.
         ensures kept { (h : WorldHistory) → IsWorldAfter h self.old
             → IsRefused (plan_in self.old.setup) event result h → self.new ≡ self.old }
     {
@@ -93,7 +93,7 @@ impl<A: Allocator + Drop> World<A> {
         Answer::Offered(self.pool.offer(p, item))
     }
 
-    /// It stores the item that was offered, or links its cell.
+    /// The producer of lane `p` stores the item that it offered, or links its cell.
     #[inline(always)]
     fn push(&mut self, p: u32) -> Answer
         requires { p < (plan_in self.old.setup).lanes }
@@ -107,7 +107,7 @@ impl<A: Allocator + Drop> World<A> {
         Answer::Pushed(self.pool.push(p))
     }
 
-    /// It stores the end mark.
+    /// The producer of lane `p` stores the end mark.
     #[inline(always)]
     fn finish(&mut self, p: u32) -> Answer
         requires { p < (plan_in self.old.setup).lanes }

@@ -28,18 +28,18 @@ impl<A: Allocator + Clone + Drop> World<A> {
     ghost use Rattle.mb_world.specs.StateReport.{AreDiariesTold, AreLanesTold, IsDiaryTold, IsLaneTold};
     ghost use Rattle.mb_world.specs.StateReport.{IsWalked, begun_on, is_taken_on, note_on};
 
-    /// What was put, what was taken and what is left: the report of any history that leaves this world. [`NoMemory`]
-    /// comes where the allocator refuses room for it.
+    /// What was put, what was taken and what is left: the report of every history that leaves this world. The error is
+    /// [`NoMemory`] if the allocator refuses room for it.
     pub fn report(&self, alloc: A) -> Result<Report<A>, NoMemory>
         ensures exact { IfOk result (λ r. (h : WorldHistory) → IsWorldAfter h self.now
             → IsReportOf (plan_in self.now.setup) (histories_of h) r) }
 
-        // One assignment stands behind it, and nothing follows an end mark.
+        // One assignment agrees with it, and nothing follows an end mark.
         ensures honest { IfOk result (λ r. (h : WorldHistory) → IsWorldAfter h self.now
             → IsHonest (plan_in self.now.setup) (histories_of h) r) }
 
-        // If each cell has a last object, an item that was competed for is left only beside a claim that is begun, and on
-        // a lane on which none is begun each such item is taken.
+        // If each cell has a last object, an item that was competed for is left only beside a begun claim. On a lane
+        // without a begun claim each such item is taken.
         ensures settled { IfOk result (λ r. (shape_in self.now.setup).last ≡ true
             → (h : WorldHistory) → IsWorldAfter h self.now → IsLeftBesideBegun r × AreAllTaken r) }
     {
@@ -179,7 +179,7 @@ impl<A: Allocator + Clone + Drop> World<A> {
         self.notes[c as usize * self.setup.cells() as usize + k as usize]
     }
 
-    /// Whether consumer `c` holds a claim on lane `p` that has an access.
+    /// Whether consumer `c` holds a claim on lane `p` that has made an access.
     fn begun(&self, c: u32, p: u32) -> bool
         requires consumer { c < consumers_of (plan_in self.now.setup) }
         requires lane { p < (plan_in self.now.setup).lanes }

@@ -1,5 +1,5 @@
-//! What one event makes of the state of a world. The functions compute nothing: their contracts are the laws on which
-//! the calls of a world stand, and their bodies name the laws below.
+//! The state of a world after one event. The functions compute nothing: their contracts are the laws that the calls of
+//! a world use. Their bodies name the laws that they use themselves.
 ghost use Rattle.std.specs.Prelude.{ℕ, ◌≡◌, ◌≢◌, ◌<◌, List, [], ◌∷◌};
 ghost use Rattle.mb_claim.specs.declared.access.Stage.TheVariants as stage;
 ghost use Rattle.mb_claim.specs.declared.claim.Claim.{Claim};
@@ -37,11 +37,11 @@ use mb_claim::laws::{layouts_are_sound, prefixes_have_one_stage};
 
 /// A look of a consumer that holds no claim.
 pub(super) fn looks_leave_states()
-    // It stands before a link of the pool.
+    // The consumer stands before a link of the pool.
     ensures within { (s : WorldState) (h : WorldHistory) (c p : ℕ) (d : Seat) (at : Cursor)
         → IsWorldAfter h s → HasSeat c p d s → IsBefore p d at → IsWithin at s.pool }
 
-    // Where the link leads to a cell, it holds a new claim there.
+    // If the link leads to a cell, the consumer then holds a new claim there.
     ensures found { (s : WorldState) (h : WorldHistory) (c p word k : ℕ) (d : Seat) (at : Cursor)
         (claim : Claim) → IsWorldAfter h s → HasSeat c p d s → IsBefore p d at
         → look_after at (pool_accesses h) ≡ look.Cell k → consumer_of claim ≡ c
@@ -49,7 +49,7 @@ pub(super) fn looks_leave_states()
         → EventAdds (event.Step c p word) (answer.Looked (look.Cell k))
         (with_seat c p (seat.AtCell k claim) s) h }
 
-    // Where it leads to none, the state stays.
+    // If it leads to none, the state stays.
     ensures waited { (s : WorldState) (h : WorldHistory) (c p word : ℕ) (d : Seat) (at : Cursor)
         (z : Look) → IsWorldAfter h s → HasSeat c p d s → IsBefore p d at
         → look_after at (pool_accesses h) ≡ z → ((k : ℕ) → z ≢ look.Cell k)
@@ -83,18 +83,18 @@ pub(super) fn takes_leave_states()
 
 /// A step of a consumer's claim.
 pub(super) fn claims_leave_states()
-    // A claim that is held goes on where it is not won.
+    // A claim that is held and not won goes on.
     ensures going { (s : WorldState) (h : WorldHistory) (c p k : ℕ) (claim : Claim)
         → IsWorldAfter h s → HasSeat c p (seat.AtCell k claim) s → claim_stage claim ≢ stage.Won
         → claim_stage claim ≡ stage.Going }
 
-    // The words and the claim are of one history of the claims.
+    // The words and the claim belong to one history of the claims.
     ensures on { (s : WorldState) (h : WorldHistory) (c p k : ℕ) (claim : Claim)
         → IsWorldAfter h s → HasSeat c p (seat.AtCell k claim) s
         → IsClaimOn (layout_of s.setup) (plan_in s.setup).claims.cells k claim s.words
         (claim_accesses h) }
 
-    // With the step the words and the claim are these.
+    // The step leads to these words and this claim, and so to this state.
     ensures competed { (s : WorldState) (h : WorldHistory) (c p word k : ℕ) (claim now : Claim)
         (words : List ℕ) (x : ObjectTurn)
         → IsWorldAfter h s → HasSeat c p (seat.AtCell k claim) s → claim_stage claim ≡ stage.Going
@@ -130,7 +130,7 @@ pub(super) fn calls_leave_states()
         → SameSize s.pool pool
         → EventAdds (event.Finish p) (answer.Finished z) (with_pool pool s) h }
 
-    // Where the producer's place refuses the call, the pool stays.
+    // If the producer's place refuses the call, the pool stays.
     ensures offer_refused { (s : WorldState) (h : WorldHistory) (p x : ℕ) (r : Answer)
         (pool : PoolState) → IsWorldAfter h s → p < (plan_in s.setup).lanes
         → IsRefused (plan_in s.setup) (event.Offer p x) r h → OfferKeeps s.pool p pool

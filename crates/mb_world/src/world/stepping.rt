@@ -25,7 +25,7 @@ impl<A: Allocator + Drop> World<A> {
     ghost use Rattle.mb_world.specs.WorldState.{IsWorldAfter};
     ghost use Rattle.mb_world.specs.EventSteps.{EventAdds, HasSeat, IsBefore};
 
-    /// The next access of consumer `c` on lane `p`, with this random word.
+    /// Makes the next access of consumer `c` on lane `p`, with this random word.
     #[inline(always)]
     pub(super) fn step(&mut self, c: u32, p: u32, word: u64) -> Answer
         requires consumer { c < consumers_of (plan_in self.old.setup) }
@@ -63,7 +63,7 @@ impl<A: Allocator + Drop> World<A> {
         Answer::Looked(look)
     }
 
-    /// Its claim on cell `k` is won: it loads the item.
+    /// The claim of consumer `c` on cell `k` is won: the consumer loads the item.
     #[inline(always)]
     fn take(&mut self, c: u32, p: u32, k: u32) -> Answer
         requires { (claim : Claim) × HasSeat c p (seat.AtCell k claim) self.old
@@ -82,7 +82,7 @@ impl<A: Allocator + Drop> World<A> {
         Answer::Took { cell: k, item }
     }
 
-    /// Its claim on cell `k` is not won: it makes the claim's next access, where the claim stands.
+    /// The claim of consumer `c` on cell `k` is not won: the consumer makes the claim's next access.
     #[inline(always)]
     fn compete(&mut self, c: u32, p: u32, k: u32, word: u64) -> Answer
         requires { (claim : Claim) × HasSeat c p (seat.AtCell k claim) self.old
@@ -111,7 +111,7 @@ impl<A: Allocator + Drop> World<A> {
     }
 }
 
-/// The note with which a claim ends at its last access, where that has come.
+/// The note of a claim that came to this stage with its last access, if it ended without the item.
 #[inline(always)]
 fn end_note(stage: Stage) -> Option<Note>
     ensures { result ≡ note_of stage }
