@@ -1,6 +1,6 @@
 //! Replays of what producers and readers of lanes are answered.
 
-use super::Example;
+use super::entry::Example;
 
 pub const LANES: &[Example] = &[
     Example {
