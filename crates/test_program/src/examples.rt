@@ -2,6 +2,7 @@
 //! `examples/README.md` says what each shows.
 
 pub mod claims;
+mod entry;
 mod lanes;
 pub mod ratifiers;
 mod refused_replays;
@@ -22,18 +23,6 @@ use shapes::SHAPES;
 use std::sync::Wait;
 use std::thread::Threads;
 use texts::TEXTS;
-
-/// One run of the program: its command line and standard input, what goes to standard output and standard error, and
-/// the exit status.
-#[derive(Clone, Copy)]
-pub struct Example {
-    pub name: &'static str,
-    pub words: &'static [&'static str],
-    pub input: &'static str,
-    pub output: &'static str,
-    pub error: &'static str,
-    pub status: u8,
-}
 
 /// What both streams got, and the status.
 pub(crate) fn ended<R: AllocGlobal + Threads + Wait + Sync>(
