@@ -81,9 +81,9 @@ impl Error for WorkFault {}
 ///
 /// It hands items out and runs none: each `Took` note of the report that [`Mailbox::gather`] gives is an item to be run, once,
 /// and so is each item left there. What was not put is in no report: it is what stands in a list behind the items that its lane
-/// has put, so keep a copy of the lists. `budget` is the most accesses of one poll, at least 1; a claim that is cut short is
-/// kept and goes on at the next poll, so with a small budget the gate is asked more often, and a poll costs more. Each consumer draws its
-/// random words from its own of `rngs`: the one in the place of its number among those given in this call.
+/// has put, so keep a copy of the lists. `budget` is the most accesses of one poll, at least 1. A claim that is cut short is
+/// kept and goes on at the next poll. So with a small budget the gate is asked more often, and a poll costs more. Each
+/// consumer draws its random words from its own of `rngs`: the one in the place of its number among those given in this call.
 ///
 /// Faults are decided in the order of [`WorkFault`]; after `NoMemory` and `NoThread` some items may have been taken, and a
 /// report tells. The call may wait for its threads, and for nobody else.

@@ -8,13 +8,13 @@ ghost use Rattle.mb_program.specs.Answer.{ratifying};
 use crate::fault::RatifyFault;
 use crate::reading::read_script;
 use crate::trace_text::trace_text;
-use mb_script::{Answering, Faults, Sink, Source, exchange};
+use mb_script::{Faults, ScriptCommand, Sink, Source, answer_script};
 use std::alloc::Allocator;
 
-/// The command `ratify`, for `exchange`.
+/// The command `ratify`, for `answer_script`.
 struct Ratify;
 
-impl Answering for Ratify {
+impl ScriptCommand for Ratify {
     type Fault = RatifyFault;
 
     ghost command = { ratifying };
@@ -60,5 +60,5 @@ pub fn ratify_text<A: Allocator + Copy, R: Source, W: Sink>(
     ensures given_failed { result ≡ Err ReadFault
         → CountGrowsUpTo MAX_SCRIPT_LEN (R.given reader.old) (R.given reader.new) }
 {
-    exchange::<Ratify, A, R, W>(alloc, reader, writer)
+    answer_script::<Ratify, A, R, W>(alloc, reader, writer)
 }

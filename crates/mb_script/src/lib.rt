@@ -3,7 +3,6 @@
 #![tactic(auto)]
 
 mod act_text;
-mod answering;
 mod device;
 pub mod examples;
 mod fault;
@@ -14,6 +13,7 @@ mod replay;
 mod replaying;
 mod report_lines;
 mod script;
+mod script_command;
 mod shape;
 mod table;
 mod text;
@@ -21,7 +21,6 @@ mod transcript;
 mod transfer;
 
 pub use act_text::push_act;
-pub use answering::{Answering, Faults, exchange};
 pub use device::{Counting, Sink, Source};
 pub use fault::Fault;
 pub use few_words::{MAX_WORDS, Words};
@@ -29,6 +28,7 @@ pub use parsing::parse;
 pub use replaying::run;
 pub use report_lines::report_text;
 pub use script::{MAX_EVENTS, Script};
+pub use script_command::{Faults, ScriptCommand, answer_script};
 pub use shape::shape_of_word;
 pub use table::table_named;
 pub use text::{ascii_text, has_empty_word, number, numbers, split_line, split_word};

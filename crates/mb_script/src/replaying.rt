@@ -6,17 +6,17 @@ ghost use Rattle.mb_script.specs.Devices.{CountGrows, CountGrowsUpTo};
 ghost use Rattle.mb_script.specs.Exchange.{IsExchange, meter};
 ghost use Rattle.mb_script.specs.Replaying.{replaying};
 
-use crate::answering::{Answering, Faults, exchange};
 use crate::device::{Sink, Source};
 use crate::fault::Fault;
 use crate::parsing::parse;
 use crate::replay::replay_text;
+use crate::script_command::{Faults, ScriptCommand, answer_script};
 use std::alloc::Allocator;
 
-/// The command `replay`, for `exchange`.
+/// The command `replay`, for `answer_script`.
 struct Replay;
 
-impl Answering for Replay {
+impl ScriptCommand for Replay {
     type Fault = Fault;
 
     ghost command = { replaying };
@@ -56,5 +56,5 @@ pub fn run<A: Allocator + Copy, R: Source, W: Sink>(
     ensures given_failed { result ≡ Err ReadFault
         → CountGrowsUpTo MAX_SCRIPT_LEN (R.given reader.old) (R.given reader.new) }
 {
-    exchange::<Replay, A, R, W>(alloc, reader, writer)
+    answer_script::<Replay, A, R, W>(alloc, reader, writer)
 }

@@ -22,7 +22,7 @@ pub struct Faults<F> {
 }
 
 /// A command: its answers to scripts, and its faults.
-pub trait Answering {
+pub trait ScriptCommand {
     /// Why the command stops.
     type Fault: Copy;
 
@@ -56,7 +56,7 @@ pub trait Answering {
 ///
 /// The whole text is made before the first write. No error of a device is retried.
 #[tactic(auto, using(crate::proofs::Exchanges::not_too_long))]
-pub fn exchange<C: Answering, A: Allocator + Copy, R: Source, W: Sink>(
+pub fn answer_script<C: ScriptCommand, A: Allocator + Copy, R: Source, W: Sink>(
     alloc: A,
     reader: &mut R,
     writer: &mut W,
