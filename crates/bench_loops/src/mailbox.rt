@@ -22,9 +22,10 @@ pub fn mailboxes_alone<A: Allocator + Copy + Drop>(
     };
     for _ in 0..choice.times {
         let (mailbox, mut hub) = Mailbox::new(alloc, setup.copy())?;
-        if hub.producer(alloc, &mailbox).is_err() {
-            return Err(AllocError);
-        }
+        let put = fill(alloc, &mailbox, &mut hub, 0, 0, false);
+        drop(mailbox);
+        drop(hub);
+        put?;
         made = made.wrapping_add(1);
     }
     Ok(made)
@@ -38,10 +39,10 @@ pub fn puts<A: Allocator + Copy + Drop>(alloc: A, choice: &Choice) -> Result<u64
     };
     for time in 0..choice.times {
         let (mailbox, mut hub) = Mailbox::new(alloc, setup.copy())?;
-        let Ok(mut producer) = hub.producer(alloc, &mailbox) else {
-            return Err(AllocError);
-        };
-        items = items.wrapping_add(put_all(&mailbox, &mut producer, choice.cells, time));
+        let put = fill(alloc, &mailbox, &mut hub, choice.cells, time, false);
+        drop(mailbox);
+        drop(hub);
+        items = items.wrapping_add(put?);
     }
     Ok(items)
 }
@@ -58,18 +59,42 @@ pub fn mailboxes<A: Allocator + Copy + Drop, R: Rng>(
     };
     for time in 0..choice.times {
         let (mailbox, mut hub) = Mailbox::new(alloc, setup.copy())?;
-        let Ok(mut producer) = hub.producer(alloc, &mailbox) else {
-            return Err(AllocError);
-        };
-        let items = put_all(&mailbox, &mut producer, choice.cells, time);
-        post.items = post.items.wrapping_add(items);
-        producer.finish(&mailbox);
-        read_all(alloc, &mailbox, &mut hub, rng, &mut post)?;
+        let put = fill(alloc, &mailbox, &mut hub, choice.cells, time, true);
+        let read = read_all(alloc, &mailbox, &mut hub, rng, &mut post);
+        drop(mailbox);
+        drop(hub);
+        post.items = post.items.wrapping_add(put?);
+        read?;
     }
     Ok(post)
 }
 
-/// The setup with one lane and the choice's cells, shape and consumers.
+/// A producer puts so many items, and ends its lane or not, and goes away. The answer is how many were linked.
+fn fill<A: Allocator + Copy + Drop>(
+    alloc: A,
+    mailbox: &Mailbox<A>,
+    hub: &mut Hub<A>,
+    cells: u64,
+    time: u64,
+    ends: bool,
+) -> Result<u64, AllocError>
+    requires { IsHubOf mailbox.now hub.old }
+    ensures { IsHubOf mailbox.now hub.new }
+{
+    match hub.producer(alloc, mailbox) {
+        Ok(mut producer) => {
+            let items = put_all(mailbox, &mut producer, cells, time);
+            if ends {
+                producer.finish(mailbox);
+            }
+            drop(producer);
+            Ok(items)
+        }
+        Err(_) => Err(AllocError),
+    }
+}
+
+/// The setup of one lane and of the choice's cells, shape and consumers.
 pub fn setup_of(choice: &Choice) -> Option<Setup> {
     let consumers = u64::from(choice.layout.consumers());
     let setup = Setup::large(1, consumers, choice.cells, PAIRS, choice.name).ok()?;

@@ -3,11 +3,10 @@
 use crate::answers::make;
 use crate::compare::same;
 use crate::events::take_seven;
-use crate::worlds::one_pair;
+use crate::worlds::{one_pair, reported};
 use mb_world::{Note, Report};
 use std::alloc::Global;
 use std::process::Abort;
-use std::test::Fail;
 use test_support::{DiaryTold, Difference, LaneTold, tells};
 
 /// The report is as expected, or this is the first difference.
@@ -21,8 +20,9 @@ fn is_found(
     same(rt, &tells(report, &[lane], &[diary]), &found);
 }
 
-/// Each difference from a report of one item, which the only consumer took, is found.
-fn are_found(rt: &impl Abort, report: &Report<Global>) {
+/// Each difference from a report that tells of one item, which the only consumer took.
+fn are_found(rt: &impl Abort, report: Report<Global>) {
+    let report = &report;
     let lane: LaneTold<'_> = (&[7], false, &[]);
     let took: &[Note] = &[Note::Took(7)];
     let diary: DiaryTold<'_> = (0, 0, took, false);
@@ -44,10 +44,8 @@ fn are_found(rt: &impl Abort, report: &Report<Global>) {
 }
 
 #[test]
-fn each_difference_is_found(rt: HostRuntime) -> Result<(), Fail> {
-    let mut world = one_pair(&rt, 1, 1, 1)?;
+fn each_difference_is_found(rt: HostRuntime) {
+    let mut world = one_pair(&rt, 1, 1, 1);
     make(&rt, &mut world, &take_seven());
-    let report = world.report(rt.alloc())?;
-    are_found(&rt, &report);
-    Ok(())
+    are_found(&rt, reported(&rt, world));
 }

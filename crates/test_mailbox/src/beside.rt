@@ -5,7 +5,7 @@ ghost use Rattle.mb_mailbox.specs.Hubs.{IsHubOf};
 ghost use Rattle.mb_mailbox.specs.Producers.{IsProducerOf};
 
 use crate::compare::same;
-use crate::trials::reads;
+use crate::trials::{reads, tells_all};
 use crate::words::chacha;
 use mb_mailbox::{Consumer, Hub, Mailbox, Poll, Producer, Put};
 use mb_quorum::TableName;
@@ -300,37 +300,21 @@ fn report_all<R: Abort + Threads + Sync>(rt: &R, alloc: Global) -> Report<Global
     gathered(rt, alloc, mailbox, hub)
 }
 
-/// These are all items of the producer whose first item is this one, in order.
-fn are_all(rt: &impl Abort, items: &[u64], first: u64) {
-    same(rt, &items.len(), &(ITEMS as usize));
-    let mut next = first;
-    for item in items {
-        same(rt, item, &next);
-        next = next.wrapping_add(1);
+/// The items of the producer whose first item is this one, in order.
+fn items_from(first: u64) -> [u64; ITEMS as usize] {
+    let mut items = [first; ITEMS as usize];
+    for place in 0..ITEMS as usize {
+        items[place] = first.wrapping_add(place as u64);
     }
-}
-
-/// Both lanes have all items in order and have ended, and both consumers have a note on each.
-fn is_whole(rt: &impl Abort, report: &Report<Global>) {
-    let firsts = [1000u64, 2000];
-    for (lane, first) in report.lanes.iter().zip(firsts.as_slice()) {
-        assert!(rt; lane.ended);
-        are_all(rt, lane.put.as_slice(), *first);
-    }
-    for diary in &report.diaries {
-        same(
-            rt,
-            &(diary.notes.len(), diary.begun),
-            &(ITEMS as usize, false),
-        );
-    }
+    items
 }
 
 #[test]
 fn two_threads_put_while_two_poll(rt: HostRuntime) {
     let report = report_all(&rt, rt.alloc());
-    is_whole(&rt, &report);
+    let (first, second) = (items_from(1000), items_from(2000));
+    let lists = [first.as_slice(), second.as_slice()];
+    tells_all(&rt, &report, &lists, 4, ITEMS as usize);
     let tally = audit(&report, 2, 2).expect(&rt, "a flaw");
-    let told = (report.lanes.len(), report.diaries.len(), tally.put);
-    same(&rt, &told, &(2, 4, 2 * ITEMS));
+    same(&rt, &tally.put, &(2 * ITEMS));
 }

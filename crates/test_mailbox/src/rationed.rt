@@ -4,10 +4,9 @@ use crate::compare::same;
 use crate::refused_mailboxes::{Alloc, is_given};
 use crate::scenes::play;
 use crate::trial::Trial;
-use crate::trials::{ends, gathered, new_trial};
+use crate::trials::{ends, gathered, new_trial, tells_all};
 use crate::workers::{ALL_DONE, lists, sources};
 use mb_mailbox::{OpenGate, WorkFault};
-use mb_world::Report;
 use std::alloc::Global;
 use std::process::Abort;
 use std::sync::Wait;
@@ -178,15 +177,9 @@ fn a_refused_call_is_made_again(rt: HostRuntime) -> Result<(), Fail> {
 }
 
 /// Both lanes have their items and have ended, and each consumer was told of each item, whoever took it.
-fn tells_of_four(rt: &impl Abort, report: Report<Alloc<'_>>) {
-    same(rt, &(report.lanes.len(), report.diaries.len()), &(2, 4));
-    let lists: [&[u64]; 2] = [&[1, 2], &[3, 4]];
-    for (lane, list) in report.lanes.iter().zip(lists) {
-        same(rt, &(lane.put.as_slice(), lane.ended), &(list, true));
-    }
-    for diary in &report.diaries {
-        same(rt, &(diary.notes.len(), diary.begun), &(2, false));
-    }
+fn tells_of_four<'r>(rt: &impl Abort, ample: Alloc<'r>, trial: Trial<Alloc<'r>>) {
+    let report = gathered(rt, ample, trial);
+    tells_all(rt, &report, &[&[1, 2], &[3, 4]], 4, 2);
 }
 
 /// A report of two lanes without items and two consumers without notes, in which so many numbers of producers were left.
@@ -244,7 +237,7 @@ fn four_are_served<'r, R: Abort + Threads + Wait + Sync>(
     let two_are_left = one_is_left && has_lane(&mut trial, ample);
     if served {
         assert!(rt; !one_is_left);
-        tells_of_four(rt, gathered(rt, ample, trial));
+        tells_of_four(rt, ample, trial);
     } else {
         let report = nothing_is_told((one_is_left, two_are_left));
         ends(rt, ample, trial, report);

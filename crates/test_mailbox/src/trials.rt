@@ -64,6 +64,24 @@ pub(crate) fn audited<A: Allocator + Clone + Drop>(
     audit(&report, producers, consumers).expect(rt, "a flaw")
 }
 
+/// Each lane has these items and has ended, and each of so many diaries has so many notes, and no claim that is under way.
+pub(crate) fn tells_all<A: Allocator + Drop>(
+    rt: &impl Abort,
+    report: &Report<A>,
+    lists: &[&[u64]],
+    diaries: usize,
+    notes: usize,
+) {
+    let told = (report.lanes.len(), report.diaries.len());
+    same(rt, &told, &(lists.len(), diaries));
+    for (lane, list) in report.lanes.iter().zip(lists) {
+        same(rt, &(lane.put.as_slice(), lane.ended), &(*list, true));
+    }
+    for diary in &report.diaries {
+        same(rt, &(diary.notes.len(), diary.begun), &(notes, false));
+    }
+}
+
 /// Takes in all that are out. Then the report has this text.
 pub(crate) fn ends<A: Allocator + Copy + Drop>(
     rt: &impl Abort,

@@ -3,7 +3,7 @@
 use crate::compare::same;
 use crate::scenes::play;
 use crate::trial::Trial;
-use crate::trials::{ends, gathered, new_trial};
+use crate::trials::{ends, gathered, new_trial, tells_all};
 use mb_mailbox::{Gate, OpenGate, Who, WorkFault, Worked};
 use mb_quorum::TableName;
 use mb_world::{Report, Setup};
@@ -188,10 +188,20 @@ fn sixteen_from(first: u64) -> [u64; 16] {
     items
 }
 
-/// The report of a run of four producers and four consumers, which share 64 cells.
-fn four_and_four<R: Abort + AllocGlobal + Threads + Wait + Sync>(rt: &R) -> Report<Global> {
+/// The report of a run of four producers of these items and four consumers, which share 64 cells.
+fn four_and_four<R: Abort + AllocGlobal + Threads + Wait + Sync>(
+    rt: &R,
+    items: &[&[u64]],
+) -> Report<Global> {
     let setup = Setup::new(4, 4, 64, 4, TableName::Bits).expect(rt, "no setup");
     let mut trial = Trial::new(rt.alloc(), setup).expect(rt, "no mailbox");
+    let worked = works(rt, &mut trial, items, 3, 4, &OpenGate);
+    same(rt, &worked, &Ok(ALL_DONE));
+    gathered(rt, rt.alloc(), trial)
+}
+
+#[test]
+fn four_producers_and_four_consumers_share_64_cells(rt: HostRuntime) {
     let items = [0, 100, 200, 300].map(sixteen_from);
     let items = [
         items[0].as_slice(),
@@ -199,26 +209,8 @@ fn four_and_four<R: Abort + AllocGlobal + Threads + Wait + Sync>(rt: &R) -> Repo
         items[2].as_slice(),
         items[3].as_slice(),
     ];
-    let worked = works(rt, &mut trial, &items, 3, 4, &OpenGate);
-    same(rt, &worked, &Ok(ALL_DONE));
-    gathered(rt, rt.alloc(), trial)
-}
-
-/// Each lane has the items of its producer in order, and each diary has notes on all of them.
-fn tells_of_all(rt: &impl Abort, report: &Report<Global>) {
-    same(rt, &(report.lanes.len(), report.diaries.len()), &(4, 16));
-    for (lane, first) in report.lanes.iter().zip([0u64, 100, 200, 300]) {
-        same(rt, &lane.put.as_slice(), &sixteen_from(first).as_slice());
-    }
-    for diary in &report.diaries {
-        same(rt, &(diary.notes.len(), diary.begun), &(16, false));
-    }
-}
-
-#[test]
-fn four_producers_and_four_consumers_share_64_cells(rt: HostRuntime) {
-    let report = four_and_four(&rt);
-    tells_of_all(&rt, &report);
+    let report = four_and_four(&rt, &items);
+    tells_all(&rt, &report, &items, 16, 16);
     // Among others: no item has two who took it.
     let tally = audit(&report, 4, 4).expect(&rt, "a flaw");
     same(&rt, &tally.put, &64);

@@ -9,7 +9,6 @@ use mb_program::{
 use mb_script::Fault;
 use mb_world::SetupFault;
 use std::process::Abort;
-use std::test::Fail;
 
 // These words are read as this choice.
 fn chooses<R: Abort + AllocGlobal>(rt: &R, words: &[&str], want: Choice) {
@@ -122,7 +121,7 @@ fn refusal(kind: ErrorKind) -> (u8, u8) {
 }
 
 #[test]
-fn lines_are_refused(rt: HostRuntime) -> Result<(), Fail> {
+fn lines_are_refused(rt: HostRuntime) {
     let (help, refused) = ((0, 3), (2, 2));
     for (words, want, statuses) in [
         (
@@ -202,13 +201,12 @@ fn lines_are_refused(rt: HostRuntime) -> Result<(), Fail> {
         ),
     ] {
         let Err(error) = command_of(rt.alloc(), words) else {
-            return Err(Fail::from("a line that is refused"));
+            panic!(rt; "a line is not refused")
         };
         let kind = error.kind();
         let told = (kind == want, refusal(kind));
         same_at(&rt, &told, &(true, statuses), &words);
     }
-    Ok(())
 }
 
 #[test]

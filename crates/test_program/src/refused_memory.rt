@@ -8,11 +8,12 @@ use crate::examples::runs::TWO_ITEMS;
 use crate::run::ALONE;
 use mb_program::{Failed, RatifyFault, RunFault, fault_text, ratify_text, run_threads};
 use mb_script::{Counting, Fault, report_text, run};
-use mb_world::{Diary, LaneReport, Note, Report, SetupFault};
+use mb_world::{Note, SetupFault};
 use std::fmt::Debug;
 use std::process::Abort;
 use std::test::Fail;
 use test_alloc::growths_refused;
+use test_support::made_up;
 
 /// A call that ran out of memory wrote nothing, and any other is done and wrote this. Returns whether it was served.
 fn is_served<F: PartialEq + Debug + Copy>(
@@ -83,21 +84,12 @@ fn each_growth_of_run_threads_refused(rt: HostRuntime) -> Result<(), Fail> {
 
 #[test]
 fn each_growth_of_report_text_refused(rt: HostRuntime) -> Result<(), Fail> {
-    let lane = LaneReport {
-        put: vec![in rt.alloc(); 0, 1]?,
-        ended: true,
-        left: Vec::new(rt.alloc()),
-    };
-    let diary = Diary {
-        consumer: 0,
-        lane: 0,
-        notes: vec![in rt.alloc(); Note::Took(0), Note::Took(1)]?,
-        begun: false,
-    };
-    let report = Report {
-        lanes: vec![in rt.alloc(); lane]?,
-        diaries: vec![in rt.alloc(); diary]?,
-    };
+    let report = made_up(
+        rt.alloc(),
+        &[(&[0, 1], true, &[])],
+        &[(0, 0, &[Note::Took(0), Note::Took(1)], false)],
+    )
+    .expect(&rt, "no report");
     let refused = growths_refused(&rt, |alloc| match report_text(alloc, &report) {
         Ok(text) => {
             same(&rt, &text.as_str(), &TWO_ITEMS.output);

@@ -11,7 +11,6 @@ use mb_script::Counting;
 use mb_world::SetupFault;
 use rand_core::Rng;
 use std::sync::Wait;
-use std::test::Fail;
 use std::thread::Threads;
 
 // What the example with two items asks for.
@@ -90,7 +89,7 @@ fn workers_are_reported(rt: HostRuntime) {
 
 // Whoever takes them, all items are put and all lanes have ended.
 #[test]
-fn items_are_put(rt: HostRuntime) -> Result<(), Fail> {
+fn items_are_put(rt: HostRuntime) {
     let options = Options {
         producers: 3,
         consumers: 4,
@@ -101,9 +100,7 @@ fn items_are_put(rt: HostRuntime) -> Result<(), Fail> {
         shape: Shape::PLAIN,
     };
     let (result, text) = reported(&rt, options);
-    let Ok(text) = str::from_utf8(text.as_slice()) else {
-        return Err(Fail::from("a report is a text"));
-    };
+    let text = str::from_utf8(text.as_slice()).expect(&rt, "no text");
     let lane_0 = text.starts_with("lane 0 ended put 0 1 2\nleft 0");
     let lane_1 = text.contains("\nlane 1 ended put 1000 1001 1002\nleft 1");
     let lane_2 = text.contains("\nlane 2 ended put 2000 2001 2002\nleft 2");
@@ -113,7 +110,6 @@ fn items_are_put(rt: HostRuntime) -> Result<(), Fail> {
         &(result, lane_0, lane_1, lane_2, last_diary),
         &(Ok(()), true, true, true, true),
     );
-    Ok(())
 }
 
 #[test]
@@ -182,7 +178,7 @@ fn sources_have_known_words(rt: HostRuntime) {
 
 // A report does not show the seed or the budget. What the workers are given does.
 #[test]
-fn workers_are_handed_what_is_asked(rt: HostRuntime) -> Result<(), Fail> {
+fn workers_are_handed_what_is_asked(rt: HostRuntime) {
     for (seed, budget, want) in [
         (0, 64, [0xd640_5f89_2fef_003e, 0xca06_8379_b34b_8f2b]),
         (1, 1, [0x61a9_4a49_a0e9_5ecf, 0x1a81_25d4_8c6f_ea14]),
@@ -193,10 +189,10 @@ fn workers_are_handed_what_is_asked(rt: HostRuntime) -> Result<(), Fail> {
             budget,
             ..ALONE
         };
-        let mut load = workload_of(rt.alloc(), options)?;
+        let mut load = workload_of(rt.alloc(), options).expect(&rt, "no load");
         let mut words = Vec::new(rt.alloc());
         for rng in load.rngs.iter_mut() {
-            words.push(rng.next_u64())?;
+            words.push(rng.next_u64()).expect(&rt, "no list");
         }
         same(
             &rt,
@@ -204,7 +200,6 @@ fn workers_are_handed_what_is_asked(rt: HostRuntime) -> Result<(), Fail> {
             &(want.as_slice(), budget),
         );
     }
-    Ok(())
 }
 
 // How many lines a text has, and how many notes.
@@ -223,7 +218,7 @@ fn lines_and_notes(text: &str) -> (u64, u64) {
 // By default, and with sixteen producers and sixteen consumers: all items are put, all lanes end, and each consumer has
 // a note on each item.
 #[test]
-fn words_are_run(rt: HostRuntime) -> Result<(), Fail> {
+fn words_are_run(rt: HostRuntime) {
     for (words, first, last, counts) in [
         (
             ["mailbox", "run"].as_slice(),
@@ -249,9 +244,7 @@ fn words_are_run(rt: HostRuntime) -> Result<(), Fail> {
         ),
     ] {
         let (output, error, status) = ended(&rt, words, "");
-        let Ok(text) = str::from_utf8(output.as_slice()) else {
-            return Err(Fail::from("a report is a text"));
-        };
+        let text = str::from_utf8(output.as_slice()).expect(&rt, "no text");
         let is_put = text.starts_with(first) && text.contains(last);
         same(
             &rt,
@@ -259,5 +252,4 @@ fn words_are_run(rt: HostRuntime) -> Result<(), Fail> {
             &(0, 0, true, counts),
         );
     }
-    Ok(())
 }
