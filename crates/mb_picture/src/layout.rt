@@ -1,14 +1,14 @@
-//! Where everything is: columns from the left, and between them the tracks of lines.
+//! Where everything stands: columns from the left, and between them the tracks of lines.
 //!
 //! A line leaves the mark of its store at the side of its load. It goes down a track in the gutter there, and then
 //! straight to the mark of the load: a row has one mark only, so no other is in its way.
 
 use crate::label::{push_deed, push_note, push_where, push_who};
-use crate::picture::{Line, Mark, Picture};
+use crate::picture::{Line, Mark, Picture, Who};
 use mb_cells::NoMemory;
 use std::alloc::Allocator;
 
-/// How far rows are apart.
+/// How far rows are apart, and other sizes, in units of the picture.
 pub const ROW: usize = 24;
 
 pub const PILL: usize = 19;
@@ -23,10 +23,12 @@ const TRACK: usize = 6;
 
 const MIN_WIDTH: usize = 444;
 
-/// Where the marks of a column are.
+/// Where the marks of a column stand.
 #[derive(Clone, Copy)]
 pub struct Place {
+    /// Their left side.
     pub left: usize,
+    /// How wide they are.
     pub width: usize,
 }
 
@@ -35,17 +37,17 @@ pub struct Place {
 pub struct Route {
     /// How high the mark of the store is.
     pub above: usize,
-    /// How high the mark of the load is.
+    /// How high that of the load is.
     pub below: usize,
     /// Where it leaves the mark of the store.
     pub start: usize,
     /// Where the track is.
     pub track: usize,
-    /// Where it meets the mark of the load.
+    /// Where it comes to the mark of the load.
     pub end: usize,
 }
 
-/// The lines of one store that leave it at one side. They share a track.
+/// The lines of one store that leave it at one side.
 #[derive(Clone, Copy)]
 struct Trunk {
     from: usize,
@@ -53,31 +55,33 @@ struct Trunk {
     track: usize,
 }
 
-/// Where everything in a picture is.
+/// Where everything of a picture stands.
 #[derive(Drop)]
 pub struct Layout<A: Allocator + Drop> {
     /// The columns, from the left.
     pub places: Vec<Place, A>,
+    /// The lines.
     pub routes: Vec<Route, A>,
+    /// How wide the picture is.
     pub width: usize,
 }
 
-/// How wide `count` letters are.
+/// How wide so many letters are.
 pub fn letters(count: usize) -> usize {
     count.saturating_mul(29) / 4
 }
 
-/// How wide a picture with a title of `count` letters has to be.
+/// How wide a picture with a title of so many letters has to be.
 fn title_width(count: usize) -> usize {
     letters(count).saturating_mul(7) / 6 + 24
 }
 
-/// How far down the middle of this row is.
+/// Where row `row` has its middle.
 pub fn middle(row: usize) -> usize {
     row.saturating_mul(ROW).saturating_add(TOP + ROW / 2)
 }
 
-/// The gutter in which a line goes down: the one before the column of its store, or the one after it.
+/// The gutter in which a line goes down: that before the column of its store, or that after it.
 fn gutter_of(marks: &[Mark], line: Line) -> usize {
     let from = column_at(marks, line.from);
     if column_at(marks, line.to) > from {
@@ -95,7 +99,7 @@ fn column_at(marks: &[Mark], row: usize) -> usize {
     }
 }
 
-/// The last row to which a line from row `from` leads through this gutter.
+/// The last row to which a line leads from this row through this gutter.
 fn last_of(marks: &[Mark], lines: &[Line], from: usize, gutter: usize) -> Option<usize> {
     let mut last = None;
     for line in lines {
@@ -106,7 +110,7 @@ fn last_of(marks: &[Mark], lines: &[Line], from: usize, gutter: usize) -> Option
     last
 }
 
-/// Takes the first track that is free from row `from` on, down to row `last`. Returns its number.
+/// The first track that is free from this row on, and then taken to row `last`.
 fn take_track<A: Allocator>(
     ends: &mut Vec<usize, A>,
     from: usize,
@@ -123,7 +127,7 @@ fn take_track<A: Allocator>(
     Ok(track)
 }
 
-/// Appends the trunks of one gutter. Returns how many tracks they take.
+/// The trunks of one gutter, appended: how many tracks they take.
 fn push_trunks<A: Allocator + Copy>(
     alloc: A,
     trunks: &mut Vec<Trunk, A>,
@@ -146,6 +150,29 @@ fn push_trunks<A: Allocator + Copy>(
     Ok(ends.len())
 }
 
+/// How many letters the wider line above a column has.
+fn head_letters<A: Allocator + Copy>(alloc: A, who: Who) -> Result<usize, NoMemory> {
+    let mut text = String::new(alloc);
+    push_who(&mut text, who)?;
+    let first = text.len();
+    push_where(&mut text, who)?;
+    Ok(first.max(text.len().saturating_sub(first)))
+}
+
+/// How many letters a mark has, with the gap between its two texts.
+fn mark_letters<A: Allocator + Copy>(alloc: A, mark: Mark) -> Result<usize, NoMemory> {
+    let mut text = String::new(alloc);
+    push_deed(&mut text, mark.deed)?;
+    let first = text.len();
+    push_note(&mut text, mark.note)?;
+    let gap = if first == 0 || text.len() == first {
+        0
+    } else {
+        2
+    };
+    Ok(text.len().saturating_add(gap))
+}
+
 /// How wide the marks of a column have to be.
 fn width_of<A: Allocator + Copy>(
     alloc: A,
@@ -154,29 +181,11 @@ fn width_of<A: Allocator + Copy>(
 ) -> Result<usize, NoMemory> {
     let mut widest = 9;
     if let Some(who) = picture.columns.get(column) {
-        let mut head = String::new(alloc);
-        push_who(&mut head, *who)?;
-        widest = head.len().max(widest);
-        let mut further = String::new(alloc);
-        push_where(&mut further, *who)?;
-        widest = further.len().max(widest);
+        widest = head_letters(alloc, *who)?.max(widest);
     }
     for mark in &picture.marks {
         if mark.column == column {
-            let mut label = String::new(alloc);
-            push_deed(&mut label, mark.deed)?;
-            let mut note = String::new(alloc);
-            push_note(&mut note, mark.note)?;
-            let gap = if label.is_empty() || note.is_empty() {
-                0
-            } else {
-                2
-            };
-            widest = label
-                .len()
-                .saturating_add(note.len())
-                .saturating_add(gap)
-                .max(widest);
+            widest = mark_letters(alloc, *mark)?.max(widest);
         }
     }
     Ok(letters(widest).saturating_add(12))
@@ -192,6 +201,7 @@ fn track_of(trunks: &[Trunk], from: usize, gutter: usize) -> usize {
     0
 }
 
+/// Where a line goes.
 fn route_of(
     marks: &[Mark],
     places: &[Place],
@@ -221,39 +231,94 @@ fn route_of(
     })
 }
 
-/// Computes where everything in the picture is. The error is that memory ran out.
-pub fn layout_of<A: Allocator + Copy>(
+/// What a layout is made from: the gutters before the columns and after the last one, and the trunks in them.
+#[derive(Drop)]
+struct Tracks<A: Allocator + Drop> {
+    gutters: Vec<usize, A>,
+    trunks: Vec<Trunk, A>,
+}
+
+/// Puts the columns from the left, with the gutters before them and after the last one: where the last one ends.
+fn put_columns<A: Allocator + Copy>(
     alloc: A,
     picture: &Picture<A>,
-) -> Result<Layout<A>, NoMemory> {
-    let mut places = Vec::new(alloc);
-    let mut gutters = Vec::new(alloc);
-    let mut trunks = Vec::new(alloc);
+    places: &mut Vec<Place, A>,
+    tracks: &mut Tracks<A>,
+) -> Result<usize, NoMemory> {
     let mut at = LEFT;
     for column in 0..picture.columns.len() {
-        gutters.push(at)?;
-        let tracks = push_trunks(alloc, &mut trunks, picture, column)?;
-        let left = at
-            .saturating_add(tracks.saturating_mul(TRACK))
-            .saturating_add(GUTTER);
+        let left = put_gutter(alloc, picture, tracks, column, at)?;
         let width = width_of(alloc, picture, column)?;
         places.push(Place { left, width })?;
         at = left.saturating_add(width);
     }
-    gutters.push(at)?;
-    let tracks = push_trunks(alloc, &mut trunks, picture, picture.columns.len())?;
-    at = at
-        .saturating_add(tracks.saturating_mul(TRACK))
-        .saturating_add(GUTTER);
-    let mut routes = Vec::new(alloc);
+    put_gutter(alloc, picture, tracks, picture.columns.len(), at)
+}
+
+/// Puts the gutter of this number here: where it ends.
+fn put_gutter<A: Allocator + Copy>(
+    alloc: A,
+    picture: &Picture<A>,
+    tracks: &mut Tracks<A>,
+    gutter: usize,
+    at: usize,
+) -> Result<usize, NoMemory> {
+    tracks.gutters.push(at)?;
+    let count = push_trunks(alloc, &mut tracks.trunks, picture, gutter)?;
+    Ok(
+        at.saturating_add(count.saturating_mul(TRACK))
+            .saturating_add(GUTTER),
+    )
+}
+
+/// Puts the lines, between columns at these places.
+fn put_routes<A: Allocator>(
+    picture: &Picture<A>,
+    places: &[Place],
+    tracks: &Tracks<A>,
+    routes: &mut Vec<Route, A>,
+) -> Result<(), NoMemory> {
     for line in &picture.lines {
-        if let Some(route) = route_of(&picture.marks, &places, &gutters, &trunks, *line) {
+        let route = route_of(
+            &picture.marks,
+            places,
+            &tracks.gutters,
+            &tracks.trunks,
+            *line,
+        );
+        if let Some(route) = route {
             routes.push(route)?;
         }
     }
-    Ok(Layout {
-        places,
-        routes,
-        width: at.max(title_width(picture.title.len())).max(MIN_WIDTH),
-    })
+    Ok(())
+}
+
+/// Puts the columns and then the lines, and makes the layout as wide as they are.
+fn put_all<A: Allocator + Copy>(
+    alloc: A,
+    picture: &Picture<A>,
+    layout: &mut Layout<A>,
+    tracks: &mut Tracks<A>,
+) -> Result<(), NoMemory> {
+    let end = put_columns(alloc, picture, &mut layout.places, tracks)?;
+    layout.width = end.max(layout.width);
+    put_routes(picture, &layout.places, tracks, &mut layout.routes)
+}
+
+/// Where everything of the picture stands.
+pub fn layout_of<A: Allocator + Copy>(
+    alloc: A,
+    picture: &Picture<A>,
+) -> Result<Layout<A>, NoMemory> {
+    let mut tracks = Tracks {
+        gutters: Vec::new(alloc),
+        trunks: Vec::new(alloc),
+    };
+    let mut layout = Layout {
+        places: Vec::new(alloc),
+        routes: Vec::new(alloc),
+        width: title_width(picture.title.len()).max(MIN_WIDTH),
+    };
+    put_all(alloc, picture, &mut layout, &mut tracks)?;
+    Ok(layout)
 }

@@ -7,7 +7,7 @@ use mb_cells::NoMemory;
 use mb_deciding::{Act, Entry, Out, Trace};
 use std::alloc::Allocator;
 
-/// Whose turn the entry is.
+/// The process that the entry is of.
 fn process_of(entry: Entry) -> usize {
     match entry {
         Entry::Access { process, .. } | Entry::Done { process } => process,
@@ -34,7 +34,7 @@ fn out_note(out: Option<Out>) -> Note {
     }
 }
 
-/// The mark of an entry in this column. `begun` says whether the column has a mark already.
+/// The mark of an entry in this column, in which some access was made before or not.
 fn mark_of(column: usize, entry: Entry, begun: bool) -> Mark {
     let (deed, note) = match entry {
         Entry::Access { act, out, .. } => (access(act), out_note(out)),
@@ -49,6 +49,7 @@ fn mark_of(column: usize, entry: Entry, begun: bool) -> Mark {
     }
 }
 
+/// Whether some mark stands in this column.
 fn has_mark(marks: &[Mark], column: usize) -> bool {
     for mark in marks {
         if mark.column == column {
@@ -58,7 +59,7 @@ fn has_mark(marks: &[Mark], column: usize) -> bool {
     false
 }
 
-/// Adds a column for each process in these entries, in the order of processes.
+/// A column for each process that is in these entries, in the order of processes.
 fn push_columns<A: Allocator + Copy>(
     picture: &mut Picture<A>,
     inputs: &[u64],
@@ -81,6 +82,7 @@ fn push_columns<A: Allocator + Copy>(
     Ok(())
 }
 
+/// The column of a process.
 fn column_of(columns: &[Who], process: usize) -> Option<usize> {
     for (column, who) in columns.iter().enumerate() {
         if let Who::Process { process: p, .. } = *who {
@@ -92,7 +94,7 @@ fn column_of(columns: &[Who], process: usize) -> Option<usize> {
     None
 }
 
-/// Appends a line for each of the first [`MAX_LINES`] processes: its output.
+/// A line for each of the first processes: its output.
 fn push_outputs<A: Allocator + Copy>(
     picture: &mut Picture<A>,
     outputs: &[Option<Out>],
@@ -113,29 +115,57 @@ fn push_outputs<A: Allocator + Copy>(
     Ok(())
 }
 
-/// The picture of the trace of a ratifier for `values` values, with the output of each process. The error is that
-/// memory ran out.
+/// Appends what the picture of a ratifier is of.
+fn push_title<A: Allocator>(
+    text: &mut String<A>,
+    turns: usize,
+    processes: usize,
+    values: u64,
+) -> Result<(), NoMemory> {
+    text.push_str("Ratifier: ")?;
+    push_count(text, turns as u64, "turn")?;
+    push_count(text, processes as u64, "process")?;
+    push_count(text, values, "value")
+}
+
+/// A mark for each of these entries, in the column of its process.
+fn push_marks<A: Allocator + Copy>(
+    picture: &mut Picture<A>,
+    entries: &[Entry],
+) -> Result<(), NoMemory> {
+    for entry in entries {
+        if let Some(column) = column_of(&picture.columns, process_of(*entry)) {
+            let begun = has_mark(&picture.marks, column);
+            picture.push(mark_of(column, *entry, begun))?;
+        }
+    }
+    Ok(())
+}
+
+/// Draws a trace, and appends the output of each process.
+fn draw<A: Allocator + Copy>(
+    picture: &mut Picture<A>,
+    values: u64,
+    inputs: &[u64],
+    trace: &Trace<A>,
+) -> Result<(), NoMemory> {
+    let turns = trace.entries.len();
+    let drawn = turns.min(MAX_ROWS);
+    push_title(&mut picture.title, turns, inputs.len(), values)?;
+    push_columns(picture, inputs, &trace.entries[..drawn])?;
+    push_marks(picture, &trace.entries[..drawn])?;
+    picture.hidden = turns - drawn;
+    push_outputs(picture, &trace.outputs)
+}
+
+/// The picture of the trace of a ratifier for so many values, with the output of each process.
 pub fn ratify_picture<A: Allocator + Copy>(
     alloc: A,
     values: u64,
     inputs: &[u64],
     trace: &Trace<A>,
 ) -> Result<Picture<A>, NoMemory> {
-    let turns = trace.entries.len();
-    let drawn = turns.min(MAX_ROWS);
     let mut picture = Picture::new(alloc, Kind::Ratifier);
-    picture.title.push_str("Ratifier: ")?;
-    push_count(&mut picture.title, turns as u64, "turn")?;
-    push_count(&mut picture.title, inputs.len() as u64, "process")?;
-    push_count(&mut picture.title, values, "value")?;
-    push_columns(&mut picture, inputs, &trace.entries[..drawn])?;
-    for entry in &trace.entries[..drawn] {
-        if let Some(column) = column_of(&picture.columns, process_of(*entry)) {
-            let begun = has_mark(&picture.marks, column);
-            picture.push(mark_of(column, *entry, begun))?;
-        }
-    }
-    picture.hidden = turns - drawn;
-    push_outputs(&mut picture, &trace.outputs)?;
+    draw(&mut picture, values, inputs, trace)?;
     Ok(picture)
 }

@@ -7,10 +7,10 @@ use mb_cells::{Finish, Look, NoMemory, Offer, Push};
 use mb_claim::Stage;
 use mb_deciding::Act;
 use mb_script::{Script, report_text};
-use mb_world::{Answer, Event, World};
+use mb_world::{Answer, Event, Report, World};
 use std::alloc::Allocator;
 
-/// Who acts in a column, and what is needed for its next marks.
+/// Who acts in a column, and what its next marks rest on.
 #[derive(Clone, Copy)]
 struct Seat {
     who: Who,
@@ -18,7 +18,7 @@ struct Seat {
     link: Word,
     /// The item that it offered last.
     item: u64,
-    /// Whether one of its offers found no cell.
+    /// Whether an offer of it found no cell.
     full: bool,
 }
 
@@ -32,7 +32,7 @@ fn maker(event: Event) -> Who {
     }
 }
 
-/// Adds a seat, if it makes an event.
+/// Adds a seat, if it makes some event.
 fn push_seat<A: Allocator + Copy>(
     seats: &mut Vec<Seat, A>,
     events: &[Event],
@@ -53,7 +53,7 @@ fn push_seat<A: Allocator + Copy>(
     Ok(())
 }
 
-/// The seats that make these events. Producers come first. Each consumer has one for each lane on which it steps.
+/// The seats of those who make these events: producers first, and each consumer once for each lane that it steps on.
 fn seats_of<A: Allocator + Copy>(
     alloc: A,
     producers: u64,
@@ -72,7 +72,7 @@ fn seats_of<A: Allocator + Copy>(
     Ok(seats)
 }
 
-/// What an offer did, and its result. `added` is what the counter holds.
+/// What an offer did and came to. The counter holds how often it was added to.
 fn offered(seat: &mut Seat, answer: Offer, item: u64, added: u64) -> (Deed, Note) {
     match answer {
         Offer::Cell(cell) => {
@@ -120,7 +120,7 @@ fn looked(seat: &Seat, answer: Look) -> (Deed, Note) {
     }
 }
 
-/// An access to a word of this object of this cell.
+/// An access to a word of the object of this number of this cell.
 fn access(cell: u32, object: u32, act: Act) -> Deed {
     match act {
         Act::Load { reg, value } => {
@@ -146,7 +146,7 @@ fn stage_note(stage: Stage) -> Note {
     }
 }
 
-/// What the event did, and its result, by its answer. The seat goes on with the event.
+/// What the event did and came to, by its answer. It leaves the seat as it stands after the event.
 fn told(seat: &mut Seat, event: Event, answer: Answer, added: u64) -> (Deed, Note) {
     match answer {
         Answer::NoLane | Answer::NoConsumer => (Deed::Nothing, Note::Refused),
@@ -187,7 +187,7 @@ fn additions(marks: &[Mark]) -> u64 {
     count
 }
 
-/// Adds the mark of an event with its answer.
+/// Draws an event with its answer.
 fn draw<A: Allocator + Copy>(
     picture: &mut Picture<A>,
     seats: &mut [Seat],
@@ -210,7 +210,7 @@ fn draw<A: Allocator + Copy>(
     Ok(())
 }
 
-/// Makes all events in the world, and draws the first [`MAX_ROWS`].
+/// Draws the first events, and makes all of them in the world.
 fn draw_all<A: Allocator + Copy>(
     alloc: A,
     picture: &mut Picture<A>,
@@ -238,21 +238,57 @@ fn draw_all<A: Allocator + Copy>(
     Ok(())
 }
 
-/// The picture of a script's events in a new world, with the report of that world. The error is that memory ran out.
+/// Appends what a replay is a picture of.
+fn push_title<A: Allocator + Copy>(
+    text: &mut String<A>,
+    script: &Script<A>,
+) -> Result<(), NoMemory> {
+    text.push_str("Replay: ")?;
+    push_count(text, script.events.len() as u64, "event")?;
+    push_count(text, script.setup.producers(), "producer")?;
+    push_count(text, script.setup.consumers(), "consumer")?;
+    push_count(text, script.setup.cells(), "cell")
+}
+
+/// Appends a report.
+fn push_report<A: Allocator + Copy>(
+    alloc: A,
+    text: &mut String<A>,
+    report: &Report<A>,
+) -> Result<(), NoMemory> {
+    let told = report_text(alloc, report)?;
+    push_shown(text, &told)
+}
+
+/// Draws the events, and appends the report of the world in which all of them were made.
+fn draw_and_report<A: Allocator + Copy>(
+    alloc: A,
+    picture: &mut Picture<A>,
+    world: &mut World<A>,
+    script: &Script<A>,
+) -> Result<(), NoMemory> {
+    push_title(&mut picture.title, script)?;
+    draw_all(alloc, picture, world, script)?;
+    let report = world.report(alloc)?;
+    push_report(alloc, &mut picture.report, &report)
+}
+
+/// The same in a new world.
+fn draw_anew<A: Allocator + Copy>(
+    alloc: A,
+    picture: &mut Picture<A>,
+    script: &Script<A>,
+) -> Result<(), NoMemory> {
+    let mut world = World::new(alloc, script.setup.copy())?;
+    draw_and_report(alloc, picture, &mut world, script)
+}
+
+/// The picture of a script's events in a new world, with the report of that world.
 pub fn replay_picture<A: Allocator + Copy>(
     alloc: A,
     script: &Script<A>,
 ) -> Result<Picture<A>, NoMemory> {
-    let mut world = World::new(alloc, script.setup.copy())?;
     let mut picture = Picture::new(alloc, Kind::Replay);
-    picture.title.push_str("Replay: ")?;
-    push_count(&mut picture.title, script.events.len() as u64, "event")?;
-    push_count(&mut picture.title, script.setup.producers(), "producer")?;
-    push_count(&mut picture.title, script.setup.consumers(), "consumer")?;
-    push_count(&mut picture.title, script.setup.cells(), "cell")?;
-    draw_all(alloc, &mut picture, &mut world, script)?;
-    let report = world.report(alloc)?;
-    let text = report_text(alloc, &report)?;
-    push_shown(&mut picture.report, &text)?;
+    draw_anew(alloc, &mut picture, script)?;
     Ok(picture)
 }
