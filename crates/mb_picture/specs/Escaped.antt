@@ -1,5 +1,6 @@
 -- Text within XML.
-use Rattle.std.specs.Prelude.{ℕ, List, [], ◌∷◌, ◌==◌, ◌&&◌, nat_lt, codes, if◌then◌else◌}
+use Rattle.std.specs.Prelude.{ℕ, List, [], ◌∷◌, ◌++◌, ◌==◌, ◌&&◌, nat_lt, codes, if◌then◌else◌}
+use Rattle.std.specs.Fmt.{decimal}
 use Rattle.std.specs.List.{flat_map}
 
 -- what stands for a byte. It is a reference for <, >, &, the quote 34 and the apostrophe 39, the byte itself if it is
@@ -17,3 +18,9 @@ escaped b =
 -- what stands for each byte, one after the other
 abbrev pub escaped_text : List ℕ → List ℕ
 escaped_text bytes = flat_map escaped bytes
+
+-- a text of this class at this place
+abbrev pub text_element : List ℕ → ℕ → ℕ → List ℕ → List ℕ
+text_element class x y plain =
+    codes "<text class='" ++ class ++ codes "' x='" ++ decimal x ++ codes "' y='" ++ decimal y ++ codes "'>"
+    ++ escaped_text plain ++ codes "</text>\n"

@@ -2,6 +2,8 @@
 //!
 //! A line leaves the mark of its store at the side of its load. It goes down a track in the gutter there, and then
 //! straight to the mark of the load: a row has one mark only, so no other is in its way.
+ghost use Rattle.std.specs.Prelude.{◌≡◌, ◌+◌, ◌*◌, ◌/◌, ◌<◌, ◌≤◌, ◌^◌};
+ghost use Rattle.mb_picture.specs.declared.picture.TheConstants.{MAX_ROWS};
 
 use crate::label::{push_deed, push_note, push_where, push_who};
 use crate::picture::{Line, Mark, Picture, Who};
@@ -67,7 +69,9 @@ pub struct Layout<A: Allocator + Drop> {
 }
 
 /// How wide so many letters are.
-pub fn letters(count: usize) -> usize {
+pub fn letters(count: usize) -> usize
+    ensures { count * 29 < 2 ^ 64 → result ≡ count * 29 / 4 }
+{
     count.saturating_mul(29) / 4
 }
 
@@ -77,7 +81,9 @@ fn title_width(count: usize) -> usize {
 }
 
 /// Where row `row` has its middle.
-pub fn middle(row: usize) -> usize {
+pub fn middle(row: usize) -> usize
+    ensures { row ≤ MAX_ROWS → result ≡ 88 + row * 24 }
+{
     row.saturating_mul(ROW).saturating_add(TOP + ROW / 2)
 }
 
