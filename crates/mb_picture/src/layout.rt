@@ -1,14 +1,16 @@
-//! Where everything is: columns from the left, and between them the tracks of lines.
+//! Where everything stands: columns from the left, and between them the tracks of lines.
 //!
 //! A line leaves the mark of its store at the side of its load. It goes down a track in the gutter there, and then
 //! straight to the mark of the load: a row has one mark only, so no other is in its way.
+ghost use Rattle.std.specs.Prelude.{◌≡◌, ◌+◌, ◌*◌, ◌/◌, ◌<◌, ◌≤◌, ◌^◌};
+ghost use Rattle.mb_picture.specs.declared.picture.TheConstants.{MAX_ROWS};
 
 use crate::label::{push_deed, push_note, push_where, push_who};
 use crate::picture::{Line, Mark, Picture, Who};
 use mb_cells::NoMemory;
 use std::alloc::Allocator;
 
-/// How far rows are apart.
+/// How far rows are apart, and other sizes, in units of the picture.
 pub const ROW: usize = 24;
 
 pub const PILL: usize = 19;
@@ -23,10 +25,12 @@ const TRACK: usize = 6;
 
 const MIN_WIDTH: usize = 444;
 
-/// Where the marks of a column are.
+/// Where the marks of a column stand.
 #[derive(Clone, Copy)]
 pub struct Place {
+    /// Their left side.
     pub left: usize,
+    /// How wide they are.
     pub width: usize,
 }
 
@@ -35,17 +39,17 @@ pub struct Place {
 pub struct Route {
     /// How high the mark of the store is.
     pub above: usize,
-    /// How high the mark of the load is.
+    /// How high that of the load is.
     pub below: usize,
     /// Where it leaves the mark of the store.
     pub start: usize,
     /// Where the track is.
     pub track: usize,
-    /// Where it meets the mark of the load.
+    /// Where it comes to the mark of the load.
     pub end: usize,
 }
 
-/// The lines of one store that leave it at one side. They share a track.
+/// The lines of one store that leave it at one side.
 #[derive(Clone, Copy)]
 struct Trunk {
     from: usize,
@@ -53,31 +57,37 @@ struct Trunk {
     track: usize,
 }
 
-/// Where everything in a picture is.
+/// Where everything of a picture stands.
 #[derive(Drop)]
 pub struct Layout<A: Allocator + Drop> {
     /// The columns, from the left.
     pub places: Vec<Place, A>,
+    /// The lines.
     pub routes: Vec<Route, A>,
+    /// How wide the picture is.
     pub width: usize,
 }
 
-/// How wide `count` letters are.
-pub fn letters(count: usize) -> usize {
+/// How wide so many letters are.
+pub fn letters(count: usize) -> usize
+    ensures { count * 29 < 2 ^ 64 → result ≡ count * 29 / 4 }
+{
     count.saturating_mul(29) / 4
 }
 
-/// How wide a picture with a title of `count` letters has to be.
+/// How wide a picture with a title of so many letters has to be.
 fn title_width(count: usize) -> usize {
     letters(count).saturating_mul(7) / 6 + 24
 }
 
-/// How far down the middle of this row is.
-pub fn middle(row: usize) -> usize {
+/// Where row `row` has its middle.
+pub fn middle(row: usize) -> usize
+    ensures { row ≤ MAX_ROWS → result ≡ 88 + row * 24 }
+{
     row.saturating_mul(ROW).saturating_add(TOP + ROW / 2)
 }
 
-/// The gutter in which a line goes down: the one before the column of its store, or the one after it.
+/// The gutter in which a line goes down: that before the column of its store, or that after it.
 fn gutter_of(marks: &[Mark], line: Line) -> usize {
     let from = column_at(marks, line.from);
     if column_at(marks, line.to) > from {
@@ -95,7 +105,7 @@ fn column_at(marks: &[Mark], row: usize) -> usize {
     }
 }
 
-/// The last row to which a line from row `from` leads through this gutter.
+/// The last row to which a line leads from this row through this gutter.
 fn last_of(marks: &[Mark], lines: &[Line], from: usize, gutter: usize) -> Option<usize> {
     let mut last = None;
     for line in lines {
@@ -106,7 +116,7 @@ fn last_of(marks: &[Mark], lines: &[Line], from: usize, gutter: usize) -> Option
     last
 }
 
-/// Takes the first track that is free from row `from` on, down to row `last`. Returns its number.
+/// The first track that is free from this row on, and then taken to row `last`.
 fn take_track<A: Allocator>(
     ends: &mut Vec<usize, A>,
     from: usize,
@@ -123,7 +133,7 @@ fn take_track<A: Allocator>(
     Ok(track)
 }
 
-/// Appends the trunks of one gutter. Returns how many tracks they take.
+/// The trunks of one gutter, appended: how many tracks they take.
 fn push_trunks<A: Allocator + Copy>(
     alloc: A,
     trunks: &mut Vec<Trunk, A>,
@@ -197,6 +207,7 @@ fn track_of(trunks: &[Trunk], from: usize, gutter: usize) -> usize {
     0
 }
 
+/// Where a line goes.
 fn route_of(
     marks: &[Mark],
     places: &[Place],

@@ -5,6 +5,7 @@
 #![tactic(auto)]
 
 mod escape;
+pub mod examples;
 mod label;
 mod layout;
 mod picture;

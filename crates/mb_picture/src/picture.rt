@@ -1,4 +1,7 @@
 //! A picture as data: a column for each process, and a mark in a row of its own for each event.
+ghost use Rattle.std.specs.Prelude.{◌≡◌, ◌<◌, ◌++◌, ◌∷◌, [], OnOk, length, nat_lt, if◌then◌else◌};
+ghost use Rattle.mb_picture.specs.Led.{AreLinesAfter, IsLastStore, loaded_by, stored_by};
+ghost use Rattle.mb_picture.specs.declared.picture.TheConstants.{MAX_ROWS};
 
 use mb_cells::NoMemory;
 use mb_deciding::Reg;
@@ -190,7 +193,9 @@ pub struct Picture<A: Allocator + Drop> {
 
 impl Deed {
     /// The word that it loaded.
-    pub fn loaded(self) -> Option<Word> {
+    pub fn loaded(self) -> Option<Word>
+        ensures { result ≡ loaded_by self }
+    {
         match self {
             Deed::Load(word, _) | Deed::Add(word, _) | Deed::Exchange { word, .. } => Some(word),
             Deed::Store(..) | Deed::Nothing => None,
@@ -198,7 +203,9 @@ impl Deed {
     }
 
     /// The word in which it stored.
-    pub fn stored(self) -> Option<Word> {
+    pub fn stored(self) -> Option<Word>
+        ensures { result ≡ stored_by self }
+    {
         match self {
             Deed::Store(word, _) | Deed::Add(word, _) => Some(word),
             Deed::Exchange { word, found: 0, .. } => Some(word),
@@ -240,7 +247,13 @@ impl<A: Allocator + Copy> Picture<A> {
 
     /// Adds the mark of the next row, with the line from the store that it read and the box that it begins, goes on
     /// with or ends. If there are [`MAX_ROWS`] rows already, it only counts the mark. The error is that memory ran out.
-    pub fn push(&mut self, mark: Mark) -> Result<(), NoMemory> {
+    pub fn push(&mut self, mark: Mark) -> Result<(), NoMemory>
+        ensures marks { OnOk result (self.new.marks.items
+            ≡ (if nat_lt (length self.old.marks.items) MAX_ROWS
+            then self.old.marks.items ++ mark ∷ [] else self.old.marks.items)) }
+        ensures lines { OnOk result (length self.old.marks.items < MAX_ROWS
+            → AreLinesAfter self.old.marks.items mark self.old.lines.items self.new.lines.items) }
+    {
         let row = self.marks.len();
         if row >= MAX_ROWS {
             self.hidden = self.hidden.saturating_add(1);
@@ -252,35 +265,41 @@ impl<A: Allocator + Copy> Picture<A> {
             }
         }
         self.marks.push(mark)?;
-        self.frame(row, mark)
-    }
-
-    /// Begins the box of the mark in this row, or goes on with it.
-    fn frame(&mut self, row: usize, mark: Mark) -> Result<(), NoMemory> {
-        if mark.opens {
-            self.frames.push(Frame {
-                column: mark.column,
-                first: row,
-                last: row,
-                ended: false,
-                tone: Tone::Plain,
-            })?;
-        }
-        for frame in &mut self.frames {
-            if frame.column == mark.column && !frame.ended {
-                frame.last = row;
-                frame.ended = mark.ends;
-                if let Tone::Won | Tone::Lost | Tone::Undecided = mark.note.tone() {
-                    frame.tone = mark.note.tone();
-                }
-            }
-        }
-        Ok(())
+        push_frame(&mut self.frames, row, mark)
     }
 }
 
+/// Begins the box of the mark in this row, or goes on with it.
+fn push_frame<A: Allocator>(
+    frames: &mut Vec<Frame, A>,
+    row: usize,
+    mark: Mark,
+) -> Result<(), NoMemory> {
+    if mark.opens {
+        frames.push(Frame {
+            column: mark.column,
+            first: row,
+            last: row,
+            ended: false,
+            tone: Tone::Plain,
+        })?;
+    }
+    for frame in frames {
+        if frame.column == mark.column && !frame.ended {
+            frame.last = row;
+            frame.ended = mark.ends;
+            if let Tone::Won | Tone::Lost | Tone::Undecided = mark.note.tone() {
+                frame.tone = mark.note.tone();
+            }
+        }
+    }
+    Ok(())
+}
+
 /// The row of the last mark that stored in this word.
-pub fn last_store(marks: &[Mark], word: Word) -> Option<usize> {
+pub fn last_store(marks: &[Mark], word: Word) -> Option<usize>
+    ensures { IsLastStore marks.now word (length marks.now) result }
+{
     let mut found = None;
     for (row, mark) in marks.iter().enumerate() {
         if mark.deed.stored() == Some(word) {

@@ -7,7 +7,7 @@ use mb_cells::NoMemory;
 use mb_deciding::{Act, Entry, Out, Trace};
 use std::alloc::Allocator;
 
-/// Whose turn the entry is.
+/// The process that the entry is of.
 fn process_of(entry: Entry) -> usize {
     match entry {
         Entry::Access { process, .. } | Entry::Done { process } => process,
@@ -34,7 +34,7 @@ fn out_note(out: Option<Out>) -> Note {
     }
 }
 
-/// The mark of an entry in this column. `begun` says whether the column has a mark already.
+/// The mark of an entry in this column, in which some access was made before or not.
 fn mark_of(column: usize, entry: Entry, begun: bool) -> Mark {
     let (deed, note) = match entry {
         Entry::Access { act, out, .. } => (access(act), out_note(out)),
@@ -49,6 +49,7 @@ fn mark_of(column: usize, entry: Entry, begun: bool) -> Mark {
     }
 }
 
+/// Whether some mark stands in this column.
 fn has_mark(marks: &[Mark], column: usize) -> bool {
     for mark in marks {
         if mark.column == column {
@@ -58,7 +59,7 @@ fn has_mark(marks: &[Mark], column: usize) -> bool {
     false
 }
 
-/// Adds a column for each process in these entries, in the order of processes.
+/// A column for each process that is in these entries, in the order of processes.
 fn push_columns<A: Allocator + Copy>(
     picture: &mut Picture<A>,
     inputs: &[u64],
@@ -81,6 +82,7 @@ fn push_columns<A: Allocator + Copy>(
     Ok(())
 }
 
+/// The column of a process.
 fn column_of(columns: &[Who], process: usize) -> Option<usize> {
     for (column, who) in columns.iter().enumerate() {
         if let Who::Process { process: p, .. } = *who {
@@ -92,7 +94,7 @@ fn column_of(columns: &[Who], process: usize) -> Option<usize> {
     None
 }
 
-/// Appends a line for each of the first [`MAX_LINES`] processes: its output.
+/// A line for each of the first processes: its output.
 fn push_outputs<A: Allocator + Copy>(
     picture: &mut Picture<A>,
     outputs: &[Option<Out>],

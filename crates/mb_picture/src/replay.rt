@@ -10,7 +10,7 @@ use mb_script::{Script, report_text};
 use mb_world::{Answer, Event, Report, World};
 use std::alloc::Allocator;
 
-/// Who acts in a column, and what is needed for its next marks.
+/// Who acts in a column, and what its next marks rest on.
 #[derive(Clone, Copy)]
 struct Seat {
     who: Who,
@@ -18,7 +18,7 @@ struct Seat {
     link: Word,
     /// The item that it offered last.
     item: u64,
-    /// Whether one of its offers found no cell.
+    /// Whether an offer of it found no cell.
     full: bool,
 }
 
@@ -32,7 +32,7 @@ fn maker(event: Event) -> Who {
     }
 }
 
-/// Adds a seat, if it makes an event.
+/// Adds a seat, if it makes some event.
 fn push_seat<A: Allocator + Copy>(
     seats: &mut Vec<Seat, A>,
     events: &[Event],
@@ -53,7 +53,7 @@ fn push_seat<A: Allocator + Copy>(
     Ok(())
 }
 
-/// The seats that make these events. Producers come first. Each consumer has one for each lane on which it steps.
+/// The seats of those who make these events: producers first, and each consumer once for each lane that it steps on.
 fn seats_of<A: Allocator + Copy>(
     alloc: A,
     producers: u64,
@@ -72,7 +72,7 @@ fn seats_of<A: Allocator + Copy>(
     Ok(seats)
 }
 
-/// What an offer did, and its result. `added` is what the counter holds.
+/// What an offer did and came to. The counter holds how often it was added to.
 fn offered(seat: &mut Seat, answer: Offer, item: u64, added: u64) -> (Deed, Note) {
     match answer {
         Offer::Cell(cell) => {
@@ -120,7 +120,7 @@ fn looked(seat: &Seat, answer: Look) -> (Deed, Note) {
     }
 }
 
-/// An access to a word of this object of this cell.
+/// An access to a word of the object of this number of this cell.
 fn access(cell: u32, object: u32, act: Act) -> Deed {
     match act {
         Act::Load { reg, value } => {
@@ -146,7 +146,7 @@ fn stage_note(stage: Stage) -> Note {
     }
 }
 
-/// What the event did, and its result, by its answer. The seat goes on with the event.
+/// What the event did and came to, by its answer. It leaves the seat as it stands after the event.
 fn told(seat: &mut Seat, event: Event, answer: Answer, added: u64) -> (Deed, Note) {
     match answer {
         Answer::NoLane | Answer::NoConsumer => (Deed::Nothing, Note::Refused),
@@ -187,7 +187,7 @@ fn additions(marks: &[Mark]) -> u64 {
     count
 }
 
-/// Adds the mark of an event with its answer.
+/// Draws an event with its answer.
 fn draw<A: Allocator + Copy>(
     picture: &mut Picture<A>,
     seats: &mut [Seat],
@@ -210,7 +210,7 @@ fn draw<A: Allocator + Copy>(
     Ok(())
 }
 
-/// Makes all events in the world, and draws the first [`MAX_ROWS`].
+/// Draws the first events, and makes all of them in the world.
 fn draw_all<A: Allocator + Copy>(
     alloc: A,
     picture: &mut Picture<A>,

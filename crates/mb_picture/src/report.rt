@@ -1,4 +1,6 @@
 //! The lines of a report that are shown.
+ghost use Rattle.std.specs.Prelude.{◌≡◌, true};
+ghost use Rattle.mb_picture.specs.Diaries.{IsEmptyDiary};
 
 use mb_cells::NoMemory;
 use mb_script::split_word;
@@ -8,7 +10,10 @@ use std::alloc::Allocator;
 pub const MAX_LINES: usize = 200;
 
 /// Whether the line is that of an empty diary.
-pub fn is_empty_diary(line: &str) -> bool {
+pub fn is_empty_diary(line: &str) -> bool
+    ensures only { result ≡ true → IsEmptyDiary line.now }
+    ensures each { IsEmptyDiary line.now → result ≡ true }
+{
     let (first, Some(rest)) = split_word(line) else {
         return false;
     };

@@ -49,7 +49,7 @@ fn push_heads<A: Allocator + Copy>(
     Ok(())
 }
 
-/// Appends the number of each row, and a thin line that leads to its mark.
+/// The number of each row, and a thin line to find it by.
 fn push_rows<A: Allocator>(
     text: &mut String<A>,
     rows: usize,
@@ -127,7 +127,7 @@ fn push_mark<A: Allocator + Copy>(
     push_text(text, class, right, y.saturating_add(4), &note)
 }
 
-/// Appends boxes, lines and marks, in this order, so that no line runs over a mark.
+/// Boxes, lines and marks, in this order, so that no line runs over a mark.
 fn push_drawn<A: Allocator + Copy>(
     alloc: A,
     text: &mut String<A>,
@@ -150,8 +150,7 @@ fn push_drawn<A: Allocator + Copy>(
     Ok(())
 }
 
-/// Appends a line of text, broken into lines of at most `most` letters (longer words stay whole), from `y` on. Returns
-/// where they end.
+/// One line of text in lines of so many letters at most, but for words that are longer, from `y` on: where they end.
 fn push_wrapped<A: Allocator>(
     text: &mut String<A>,
     line: &str,
@@ -176,8 +175,7 @@ fn push_wrapped<A: Allocator>(
     Ok(at.saturating_add(LINE))
 }
 
-/// Appends how many events are not drawn, and the report in lines of at most `most` letters, from `y` on. Returns where
-/// they end.
+/// How many events are not drawn, and the report in lines of so many letters, from `y` on: where they end.
 fn push_foot<A: Allocator>(
     text: &mut String<A>,
     hidden: usize,
@@ -201,7 +199,7 @@ fn push_foot<A: Allocator>(
     Ok(at)
 }
 
-/// Appends what comes before the drawing: the size, the text for screen readers, and the style.
+/// What stands before the drawing: the size, what a screen reader tells, and the style.
 fn push_opening<A: Allocator + Copy>(
     text: &mut String<A>,
     picture: &Picture<A>,

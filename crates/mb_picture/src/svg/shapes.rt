@@ -1,4 +1,6 @@
 //! The shapes that a picture is made of.
+ghost use Rattle.std.specs.Prelude.{◌≡◌, ◌++◌, OnOk, string_bytes};
+ghost use Rattle.mb_picture.specs.Escaped.{text_element};
 
 use crate::escape::push_escaped;
 use crate::layout::{PILL, Place, ROW, Route, middle};
@@ -27,7 +29,10 @@ pub fn push_text<A: Allocator>(
     x: usize,
     y: usize,
     plain: &str,
-) -> Result<(), NoMemory> {
+) -> Result<(), NoMemory>
+    ensures { OnOk result (string_bytes text.new
+        ≡ string_bytes text.old ++ text_element class.now x y plain.now) }
+{
     write!(text, "<text class='{class}' x='{x}' y='{y}'>")?;
     push_escaped(text, plain)?;
     text.push_str("</text>\n")
