@@ -23,7 +23,7 @@ abbrev moved : TextsAt → TextsAt
 moved names = texts_at (map (λ (n : Bor Text). n.now) names.now)
 
 abbrev moved_parser : ValueParser → ValueParser
-moved_parser (vp.Names names) = vp.Names (moved names)
+moved_parser (vp.WordsName names) = vp.WordsName (moved names)
 moved_parser vp.String = vp.String
 moved_parser vp.NonEmptyString = vp.NonEmptyString
 moved_parser vp.Bool = vp.Bool
@@ -49,7 +49,7 @@ same_words i t (n ∷ names) = ap (λ x. same_text i n.now t || x) (same_words i
 
 same_accepts : (i : Bool) (p : ValueParser) (t : Text)
     → accepts i (moved_parser p) t ≡ accepts i p t
-same_accepts i (vp.Names names) t = same_words i t names.now
+same_accepts i (vp.WordsName names) t = same_words i t names.now
 same_accepts i vp.String t = refl
 same_accepts i vp.NonEmptyString t = refl
 same_accepts i vp.Bool t = refl
@@ -62,7 +62,7 @@ same_accepts i vp.Char t = refl
 same_accepts i (vp.Values values) t = refl
 
 same_reading : (p : ValueParser) → reading_of (moved_parser p) ≡ reading_of p
-same_reading (vp.Names names) = refl
+same_reading (vp.WordsName names) = refl
 same_reading vp.String = refl
 same_reading vp.NonEmptyString = refl
 same_reading vp.Bool = refl
@@ -75,7 +75,7 @@ same_reading vp.Char = refl
 same_reading (vp.Values values) = refl
 
 same_kind : (p : ValueParser) → refused_kind (moved_parser p) ≡ refused_kind p
-same_kind (vp.Names names) = refl
+same_kind (vp.WordsName names) = refl
 same_kind vp.String = refl
 same_kind vp.NonEmptyString = refl
 same_kind vp.Bool = refl

@@ -106,7 +106,7 @@ fn named<'a>(
         .value_name("NAME")
         .help(meaning)
         .action(ArgAction::Set)
-        .value_parser(ValueParser::Names(names))
+        .value_parser(ValueParser::WordsName(names))
         .default_value(default)
 }
 
