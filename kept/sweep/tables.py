@@ -48,6 +48,6 @@ IDENTS = [
     T("mb_claim", "IsSound", "ClaimsAreSound"), T("mb_world", "IsSound", "WorldIsSound"), T("mb_deciding", "IsSound", "ObjectIsSound"), T("mb_cells", "IsSound", "PoolIsSound"),
     T("hazbultra", "words_of", "words_of_generator"), T("mb_claim", "words_of", "row_words"), T("mb_script", "words_of", "line_words"),
     T("mb_mailbox", "words_of", "drawn_words"), T("mb_cells", "words_of", "pool_words"),
-    T("mb_claim", "Names", "StageNames"), T("mb_world", "Names", "AnswerNames"), T("mb_program", "Names", "WordsName"),
+    T("mb_claim", "Names", "StageNames"), T("mb_world", "Names", "AnswerNames"), T("mb_program", "Names", "WordsName", files=r"specs/Program\.antt|proofs/examples/|src/examples|src/program\.rt"),
     T("mb_world", "IsBefore", "StandsBefore"), T("mb_mailbox", "IsBefore", "ConsumerIsBefore"), T("bench_loops", "IsBefore", "ClaimIsBefore"),
 ]
