@@ -23,7 +23,7 @@ tested : (marks : List Mark) (word : Word) (row : ℕ) (d : Mark) (o : Option Wo
     → Decides b (StoresAt marks word row)
 tested marks word row d o b l s e =
     let there = ap (λ (m : Option Mark). option_and_then (λ (m : Mark). stored_by m.deed) m)
-      (slice_get-get_or marks row d l) in
+    (slice_get-get_or marks row d l) in
     (λ t. there ∙ sym s ∙ (some_eq o word).0 (sym e ∙ t), λ stores. e ∙ (some_eq o word).1 (s ∙ sym there ∙ stores))
 
 -- a row that stores is the last one so far
@@ -45,11 +45,11 @@ loop-row-preserved c =
     let word = c.args.word in
     let row = c.loop-row.row in
     let stores : Decides c.eq.result (StoresAt marks word row) = tested marks word row _ c.stored.result c.eq.result
-      (omega arith) c.stored.ensures c.eq.ensures in
+    (omega arith) c.stored.ensures c.eq.ensures in
     elim c.if-eq.branch [
-      then-eq w ↦ subst (λ (f : Option ℕ). IsLastStore marks word (row + 1) f) (sym w.found-is)
-        (later marks word row (stores.0 w.if-eq.true))
-    | else-eq w ↦ subst (λ (f : Option ℕ). IsLastStore marks word (row + 1) f) (sym w.found-is)
-        (same marks word row c.loop-row.found c.loop-row.invariant
+      | then-eq w ↦ subst (λ (f : Option ℕ). IsLastStore marks word (row + 1) f) (sym w.found-is)
+          (later marks word row (stores.0 w.if-eq.true))
+      | else-eq w ↦ subst (λ (f : Option ℕ). IsLastStore marks word (row + 1) f) (sym w.found-is)
+          (same marks word row c.loop-row.found c.loop-row.invariant
           (λ s. let t : c.eq.result ≡ true = stores.1 s in let f = w.if-eq.false in cc))
     ]

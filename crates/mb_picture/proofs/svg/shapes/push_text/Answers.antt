@@ -12,6 +12,6 @@ written (Err x) new all none text e f = tt
 pub returns : goal.returns
 returns g c =
     let all : string_bytes c.push_escaped.new.text ++ codes "</text>\n"
-      ≡ string_bytes c.args.text.now ++ text_element c.args.class.now c.args.x c.args.y c.args.plain.now =
-        rw (c.in_ok-push_escaped.ensures, c.in_ok-write.ensures.bytes) (simp append_assoc) in
+    ≡ string_bytes c.args.text.now ++ text_element c.args.class.now c.args.x c.args.y c.args.plain.now =
+    rw (c.in_ok-push_escaped.ensures, c.in_ok-write.ensures.bytes) (simp append_assoc) in
     written c.push_str.result _ _ _ _ c.push_str.ensures.bytes all
