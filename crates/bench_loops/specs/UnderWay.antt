@@ -31,7 +31,7 @@ abbrev pub ChangesOnly : (ℕ → ℕ → Type 0) → List ClaimAccess → List 
 ChangesOnly Changed h other = (c k : ℕ) → (Changed c k → ⊥) → part_on c k other ≡ part_on c k h
 
 -- the history leaves the words, and the consumer has made no access to this cell, nor to any after it
-pub record IsBefore (layout : Layout) (consumer cell : ℕ) (words : List ℕ) (h : List ClaimAccess) : Type 0 where
+pub record ClaimIsBefore (layout : Layout) (consumer cell : ℕ) (words : List ℕ) (h : List ClaimAccess) : Type 0 where
   pub memory : IsMemoryOf (all_claims layout) words h
   pub untouched : (k : ℕ) → cell ≤ k → part_on consumer k h ≡ []
 

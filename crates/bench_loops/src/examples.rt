@@ -6,7 +6,7 @@ ghost use Rattle.mb_claim.specs.declared.claim.Claim.{Claim};
 ghost use Rattle.mb_claim.specs.declared.layout.Layout.{Layout};
 ghost use Rattle.mb_claim.specs.Vocabulary.{IsMemoryOf, consumer_of, words_in};
 ghost use Rattle.bench_loops.specs.Shifts.{word_after};
-ghost use Rattle.bench_loops.specs.UnderWay.{ChangesOnly, IsBefore, IsContest, IsUnderWay, all_claims, looked};
+ghost use Rattle.bench_loops.specs.UnderWay.{ChangesOnly, ClaimIsBefore, IsContest, IsUnderWay, all_claims, looked};
 
 use mb_claim::steps::histories_begin_with_zeros;
 
@@ -14,12 +14,12 @@ use mb_claim::steps::histories_begin_with_zeros;
 pub fn consumers_stand_before_cells()
     ensures new { (layout : Layout) (consumer : ℕ) (words : List ℕ)
         → words_in (all_claims layout) ≤ length words → ((i : ℕ) → slice_index words i ≡ 0)
-        → IsBefore layout consumer 0 words [] }
+        → ClaimIsBefore layout consumer 0 words [] }
     ensures touched { (layout : Layout) (words : List ℕ)
-        → IsBefore layout 0 3 words (looked 0 3 0 ∷ []) → ⊥ }
+        → ClaimIsBefore layout 0 3 words (looked 0 3 0 ∷ []) → ⊥ }
     ensures behind { (layout : Layout) (words : List ℕ)
         → IsMemoryOf (all_claims layout) words (looked 0 3 0 ∷ [])
-        → IsBefore layout 1 0 words (looked 0 3 0 ∷ []) }
+        → ClaimIsBefore layout 1 0 words (looked 0 3 0 ∷ []) }
 {
     histories_begin_with_zeros();
 }

@@ -4,7 +4,7 @@ ghost use Rattle.mb_cells.specs.State.{lane_count, cell_count, SameSize};
 ghost use Rattle.mb_claim.specs.declared.access.ClaimAccess.{ClaimAccess};
 ghost use Rattle.mb_claim.specs.declared.layout.TheConstants.{MAX_CELLS};
 ghost use Rattle.mb_claim.specs.Vocabulary.{consumer_count, IsMemoryOf};
-ghost use Rattle.bench_loops.specs.UnderWay.{all_claims, ChangesOnly, IsBefore};
+ghost use Rattle.bench_loops.specs.UnderWay.{all_claims, ChangesOnly, ClaimIsBefore};
 ghost use Rattle.std.specs.Prelude.{◌<◌};
 
 use crate::lone::claim_cell;
@@ -133,8 +133,9 @@ fn read<A: Allocator + Copy + Drop>(
     requires lanes { lane_count pool.now ≡ 1 }
     requires cells { cell_count pool.now ≡ MAX_CELLS }
     requires consumer { consumer < consumer_count layout.now }
-    requires before { (h : List ClaimAccess) × IsBefore layout.now consumer 0 words.old h }
-    ensures kept { OnOk result ((h : List ClaimAccess) → IsBefore layout.now consumer 0 words.old h
+    requires before { (h : List ClaimAccess) × ClaimIsBefore layout.now consumer 0 words.old h }
+    ensures kept { OnOk result ((h : List ClaimAccess)
+        → ClaimIsBefore layout.now consumer 0 words.old h
         → (later : List ClaimAccess) × IsMemoryOf (all_claims layout.now) words.new later
         × ChangesOnly (λ c k. c ≡ consumer) h later) }
 {

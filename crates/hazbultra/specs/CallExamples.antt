@@ -1,7 +1,7 @@
 -- Setups that C asks for, and reports that it reads, by example.
 use Rattle.std.specs.Prelude.{ℕ, [], false, replicate}
 use Rattle.mb_world.specs.Report.{ReportView}
-use Rattle.hazbultra.specs.declared.crossing.SetupIn.{SetupIn}
+use Rattle.hazbultra.specs.declared.boundary.SetupIn.{SetupIn}
 
 -- these numbers of producers and of cells, one consumer and one pair, over the quorum table of this number
 abbrev pub asks : ℕ → ℕ → ℕ → SetupIn

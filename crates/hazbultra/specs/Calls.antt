@@ -101,8 +101,8 @@ HasTakenBack h (Some (OfConsumer c)) k =
 HasTakenBack h _ k = ⊥
 
 -- the words that a generator of eight rounds gives from now on
-abbrev pub words_of : ChaCha → Stream
-words_of rng = stream_of (steps_u32 (next_word 4)) rng
+abbrev pub words_of_generator : ChaCha → Stream
+words_of_generator rng = stream_of (steps_u32 (next_word 4)) rng
 
 -- ---- numbers of C
 -- the quorum table of this number

@@ -6,7 +6,7 @@ use Rattle.mb_world.specs.Setups.{large_refusal}
 use Rattle.mb_world.specs.declared.setup.SetupFault.{SetupFault}
 use Rattle.mb_world.specs.declared.setup.SetupFault.TheVariants as setup
 use Rattle.hazbultra.specs.Calls.{table_numbered}
-use Rattle.hazbultra.specs.declared.crossing.SetupIn.{SetupIn}
+use Rattle.hazbultra.specs.declared.boundary.SetupIn.{SetupIn}
 use Rattle.hazbultra.specs.declared.thing.Thing.{Thing}
 use Rattle.hazbultra.specs.declared.thing.Thing.TheVariants.{OfConsumer, OfProducer}
 

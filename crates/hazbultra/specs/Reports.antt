@@ -3,7 +3,7 @@ use Rattle.std.specs.Prelude.{◌≡◌, ◌*◌, ◌<◌, ℕ, Bool, true, fals
 use Rattle.mb_world.specs.Report.{LaneView, ReportView}
 use Rattle.mb_world.specs.declared.report.Note.{Note}
 use Rattle.mb_world.specs.declared.report.Note.TheVariants as note
-use Rattle.hazbultra.specs.declared.crossing.NoteOut.{NoteOut}
+use Rattle.hazbultra.specs.declared.boundary.NoteOut.{NoteOut}
 
 -- there are lanes, and each of `consumers` consumers has a diary on each of them
 pub record HasConsumers (consumers : ℕ) (r : ReportView) : Type 0 where

@@ -6,15 +6,15 @@
 //! no call loses what a handle leads to.
 #![tactic(auto)]
 
+mod boundary;
+mod calls;
 mod codes;
-mod copying;
-mod crossing;
-mod ending;
+mod copies;
+mod create;
 pub mod examples;
+mod gathering_end;
 mod handle;
-mod making;
-mod reporting;
+mod reports;
 mod thing;
-mod using;
 
 pub use thing::things_cross_threads;

@@ -3,14 +3,14 @@
 
 pub use mb_program::{command_of, fault_text, ratify_text, run_threads, source_of, status_of};
 use mb_program::{Ending, explanation, program, status_of_ending};
-use mb_script::{Counting, write_all};
+use mb_script::{CountingIo, write_all};
 use std::io::{self, IsTerminal};
 use std::process::ExitCode;
 
 fn main(rt: HostRuntime) -> ExitCode {
-    let mut reader = Counting::new(rt.reader());
-    let mut writer = Counting::new(rt.stdout());
-    let mut errors = Counting::new(rt.stderr());
+    let mut reader = CountingIo::new(rt.reader());
+    let mut writer = CountingIo::new(rt.stdout());
+    let mut errors = CountingIo::new(rt.stderr());
     let ending = match std::env::args(&rt) {
         Ok(args) => match args.collect::<Vec<String>>(rt.alloc()) {
             Ok(words) => {

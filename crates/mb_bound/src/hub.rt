@@ -31,7 +31,7 @@ impl<A: Allocator + Drop> Model for BoundHub<A> {
 impl<A: Allocator + Drop> BoundHub<A> {
     ghost use Rattle.std.specs.Prelude.{◌≡◌, ◌≢◌, ◌↔◌, ◌≤◌, ◌-◌, Err, IfErr, IfOk, IsOk, None, OnErr, Some, length, slice_get};
     ghost use Rattle.mb_bound.specs.Bound.{AreNamedApart};
-    ghost use Rattle.mb_mailbox.specs.Below.{consumer_count};
+    ghost use Rattle.mb_mailbox.specs.Imports.{consumer_count};
     ghost use Rattle.mb_mailbox.specs.declared.hub.HubFault.TheVariants.{AllGiven};
     ghost use Rattle.mb_mailbox.specs.Hubs.{IsHubOf, new_producer, with_producer};
     ghost use Rattle.mb_mailbox.specs.Hubs.{with_taken_consumer, with_taken_producer};
@@ -150,7 +150,7 @@ impl<A: Allocator + Clone + Drop> BoundHub<A> {
     ghost use Rattle.mb_world.specs.Setups.{layout_of, plan_in};
     ghost use Rattle.mb_mailbox.specs.declared.gather.GatherFault.TheVariants.{Missing, NoMemory};
     ghost use Rattle.mb_mailbox.specs.declared.hub.HubFault.TheVariants.{AllGiven};
-    ghost use Rattle.mb_mailbox.specs.Below.{consumer_count};
+    ghost use Rattle.mb_mailbox.specs.Imports.{consumer_count};
     ghost use Rattle.mb_mailbox.specs.Gathering.{FullTakesAll, IsGathered, IsReportIn, UndecidedHasCompany, count_missing};
     ghost use Rattle.mb_mailbox.specs.Hubs.{IsNewConsumer, hub_empty, with_consumer};
     ghost use Rattle.mb_mailbox.specs.Mailboxes.{plan_at};

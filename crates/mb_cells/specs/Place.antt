@@ -34,7 +34,7 @@ PhaseFits cells (Full e) = cells ≤ e.cell
 PhaseFits cells (Ended r) = FindsNoCell cells r
 
 -- what producer p has done puts it at this place
-pub record IsAt (cells p : ℕ) (es : List Entry) (phase : Phase) (done : History) : Type 0 where
+pub record LaneIsAt (cells p : ℕ) (es : List Entry) (phase : Phase) (done : History) : Type 0 where
   pub below : AllCellsBelow cells es
   pub fits : PhaseFits cells phase
   pub is : done ≡ part_at p es phase

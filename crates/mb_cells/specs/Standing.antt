@@ -10,7 +10,7 @@ use Rattle.mb_cells.specs.Types.{Counter, END, Finish, Head, Item, Lane, LaneSta
 use Rattle.mb_cells.specs.Size.{PoolSize}
 use Rattle.mb_cells.specs.Memory.{History}
 use Rattle.mb_cells.specs.LanePath.{Entry, fetch, store}
-use Rattle.mb_cells.specs.Place.{IsAt, Phase}
+use Rattle.mb_cells.specs.Place.{LaneIsAt, Phase}
 
 -- the cell that was linked last
 abbrev pub last_of : List Entry → Option ℕ
@@ -30,7 +30,7 @@ stage_of (phase.Ended (Some e)) = stage.Ended true
 pub record IsLaneAfter (cells p : ℕ) (lane : Lane) (done : History) : Type 0 where
   pub entries : List Entry
   pub phase : Phase
-  pub at : IsAt cells p entries phase done
+  pub at : LaneIsAt cells p entries phase done
   pub last : lane.last ≡ last_of entries
   pub stage : lane.stage ≡ stage_of phase
 

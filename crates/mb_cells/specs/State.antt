@@ -66,7 +66,7 @@ pub record IsAfter (h : History) (s : PoolState) : Type 0 where
       IsLaneAfter (cell_count s) p (slice_index_or s.lanes p lane) (part (Producer p) h)
 
 -- the invariant of a pool: some lawful history leaves it
-pub record IsSound (s : PoolState) : Type 0 where
+pub record PoolIsSound (s : PoolState) : Type 0 where
   pub heads : length s.words.heads ≡ lane_count s
   pub links : length s.words.links ≡ cell_count s
   pub lanes : lane_count s < 2 ^ 32

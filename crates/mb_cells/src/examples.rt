@@ -3,13 +3,13 @@
 ghost use Rattle.std.specs.Prelude.{◌≡◌, ◌-◌, ◌^◌, true, false, Some, None, [], ◌∷◌};
 ghost use Rattle.mb_cells.specs.{Counter, END, FinishKeeps, FinishMeets, Finished, HasMade, HasMet, HasWord, Head};
 ghost use Rattle.mb_cells.specs.{IsAfter, IsLaneAfter, IsLanePrefix, IsMemoryOf, IsMemoryTrue, IsPoolLawful};
-ghost use Rattle.mb_cells.specs.{IsReaderPath, IsShownAlike, IsSound, IsWithin, IsLaneWord, Item, Lane, Link};
+ghost use Rattle.mb_cells.specs.{IsReaderPath, IsShownAlike, PoolIsSound, IsWithin, IsLaneWord, Item, Lane, Link};
 ghost use Rattle.mb_cells.specs.{OfferKeeps, OfferMeets, Offered, PoolState, PushMeets, Pushed, SameSize};
 ghost use Rattle.mb_cells.specs.{WasGivenBy, eight, ended_pool, fetch, fetch_adds_by, full_pool, has_ended};
 ghost use Rattle.mb_cells.specs.{has_ended_by, item_in, load, look_in, new_lane, new_pool, nine, no_cell, one_cell};
 ghost use Rattle.mb_cells.specs.{one_ended, one_offered, one_put, one_read, one_taken, part_on, pool_size};
 ghost use Rattle.mb_cells.specs.{put_list, put_list_by, put_pool, store, taken_pool, too_wide};
-ghost use Rattle.mb_cells.specs.{IsStateOf, Producer, Reader, address_of, block_after, part, parts_after, words_of};
+ghost use Rattle.mb_cells.specs.{IsStateOf, Producer, Reader, address_of, block_after, part, parts_after, pool_words};
 ghost use Rattle.mb_cells.specs.declared.answer.Offer.TheVariants as offer;
 ghost use Rattle.mb_cells.specs.declared.answer.Push.TheVariants as push;
 ghost use Rattle.mb_cells.specs.declared.answer.Finish.TheVariants as finish;
@@ -89,8 +89,8 @@ pub fn pools_hold_what_was_done()
     ensures head { IsAfter one_put (one_cell 1 0 0 8 (Some 0) stage.Open) → ⊥ }
     ensures place { IsAfter one_put (one_cell 1 1 0 8 None stage.Open) → ⊥ }
     ensures unlawful { (s : PoolState) → IsAfter (fetch 1 eight ∷ one_taken) s → ⊥ }
-    ensures sound { IsSound put_pool }
-    ensures unsound { IsSound (one_cell 3 0 0 0 None stage.Open) → ⊥ }
+    ensures sound { PoolIsSound put_pool }
+    ensures unsound { PoolIsSound (one_cell 3 0 0 0 None stage.Open) → ⊥ }
 {}
 
 /// A pool has the words and cursors of its lanes and cells. A reader sees nothing of an offer.
@@ -115,7 +115,7 @@ pub fn words_lie_in_one_block()
 /// Each word of a pool has its address in the block, and an access changes the word at its own.
 pub fn words_have_addresses()
     ensures size { (pool_size 2 3).cells ≡ 3 }
-    ensures count { words_of (pool_size 2 3) ≡ 9 }
+    ensures count { pool_words (pool_size 2 3) ≡ 9 }
     ensures counter { address_of (pool_size 2 3) Counter ≡ 0 }
     ensures last_head { address_of (pool_size 2 3) (Head 1) ≡ 2 }
     ensures first_link { address_of (pool_size 2 3) (Link 0) ≡ 3 }

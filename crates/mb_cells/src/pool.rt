@@ -18,13 +18,13 @@ pub struct Pool<A: Allocator + Drop> {
 }
 
 impl<A: Allocator + Drop> Model for Pool<A> {
-    ghost use Rattle.mb_cells.specs.{IsSound, PoolState};
+    ghost use Rattle.mb_cells.specs.{PoolIsSound, PoolState};
 
     ghost Value = { PoolState };
 
     ghost view = { λ a. record { words = a.words; lanes = a.lanes.items } };
 
-    ghost invariant = { λ a. IsSound (record { words = a.words; lanes = a.lanes.items }) };
+    ghost invariant = { λ a. PoolIsSound (record { words = a.words; lanes = a.lanes.items }) };
 }
 
 impl<A: Allocator + Clone + Drop> Pool<A> {
@@ -54,7 +54,7 @@ impl<A: Allocator + Clone + Drop> Pool<A> {
 }
 
 impl<A: Allocator + Drop> Pool<A> {
-    ghost use Rattle.mb_cells.specs.{FinishKeeps, FinishMeets, History, IsAfter, IsShownAlike, IsSound, IsWithin};
+    ghost use Rattle.mb_cells.specs.{FinishKeeps, FinishMeets, History, IsAfter, IsShownAlike, PoolIsSound, IsWithin};
     ghost use Rattle.mb_cells.specs.{Item, OfferKeeps, OfferMeets, PushMeets, SameSize, cell_count, item_in};
     ghost use Rattle.mb_cells.specs.{lane_count, look_after, look_in, value_in};
     ghost use Rattle.mb_cells.specs.declared.answer.Offer.TheVariants as offer;
@@ -64,7 +64,7 @@ impl<A: Allocator + Drop> Pool<A> {
 
     /// A law of all pools: some lawful history leaves the pool. It computes nothing.
     pub fn has_history(&self)
-        ensures sound { IsSound self.now }
+        ensures sound { PoolIsSound self.now }
         ensures history { (h : History) × IsAfter h self.now }
     {
         // The prover knows the invariant only after a field is named.

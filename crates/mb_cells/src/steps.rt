@@ -4,20 +4,20 @@
 //!
 //! A table of shared words needs [`words_follow_steps`]: its words and parts are those of one lawful history. An access
 //! of a producer may follow if its lane goes on with it ([`lanes_lead_on`]), and a load of a reader if its own part led
-//! there. [`one_step`] then gives the longer history, and [`accesses_stay_within`] that the word is one of the pool's.
+//! there. [`history_extends`] then gives the longer history, and [`accesses_stay_within`] that the word is one of the pool's.
 ghost use Rattle.std.specs.Prelude.{◌≡◌, ◌+◌, ◌<◌, ◌≤◌, ◌⊎◌, ◌∷◌, ◌++◌, ◌^◌, ◌≢◌, ℕ, List, Some, None, length};
 ghost use Rattle.std.specs.Prelude.{slice_index, unwrap_or, []};
-ghost use Rattle.mb_cells.specs.{ActFits, Counter, END, Entry, Has, History, IsAfter, IsAt, IsLaneAfter};
-ghost use Rattle.mb_cells.specs.{IsLanePrefix, IsLinkWord, IsPoolLawful, IsPoolWord, IsSound, IsStateOf, IsLaneWord};
+ghost use Rattle.mb_cells.specs.{ActFits, Counter, END, Entry, Has, History, IsAfter, LaneIsAt, IsLaneAfter};
+ghost use Rattle.mb_cells.specs.{IsLanePrefix, IsLinkWord, IsPoolLawful, IsPoolWord, PoolIsSound, IsStateOf, IsLaneWord};
 ghost use Rattle.mb_cells.specs.{Item, Lane, LoadGoesOn, MayRead, Phase, PoolAccess, PoolSize, PoolState, Process};
 ghost use Rattle.mb_cells.specs.{Producer, Reader, ReadsLast, SameSize, Steps, Word, address_of, block_after};
 ghost use Rattle.mb_cells.specs.{entry_at, fetch, fetch_adds_on, finish_refusal, lane_after_finish};
 ghost use Rattle.mb_cells.specs.{lane_after_offer, lane_after_push, load, new_lane, next_link, offer_refusal, part};
-ghost use Rattle.mb_cells.specs.{parts_after, push_store, put_list, store, stored_by, value_in, words_of};
+ghost use Rattle.mb_cells.specs.{parts_after, push_store, put_list, store, stored_by, value_in, pool_words};
 ghost use Rattle.mb_cells.specs.Place.{Open};
 
 /// Lawful histories grow by one access after another.
-pub fn one_step()
+pub fn history_extends()
     ensures empty { (size : PoolSize) → size.cells < END → IsPoolLawful size [] }
     ensures older { (size : PoolSize) (later older : History) → IsPoolLawful size (later ++ older)
         → IsPoolLawful size older }
@@ -63,20 +63,20 @@ pub fn parts_have_accesses()
 
 /// A prefix of a lane path puts its producer at one place. The producer goes on from there step by step.
 pub fn places_lead_on()
-    ensures start { (cells p : ℕ) → IsAt cells p [] Open [] }
+    ensures start { (cells p : ℕ) → LaneIsAt cells p [] Open [] }
     ensures step { (cells p : ℕ) (es fs : List Entry) (was now : Phase) (a : PoolAccess)
-        (done : History) → Steps cells p es was a fs now → IsAt cells p es was done
-        → IsAt cells p fs now (a ∷ done) }
+        (done : History) → Steps cells p es was a fs now → LaneIsAt cells p es was done
+        → LaneIsAt cells p fs now (a ∷ done) }
     ensures prefix { (cells p : ℕ) (es : List Entry) (phase : Phase) (done : History)
-        → IsAt cells p es phase done → IsLanePrefix cells p done }
+        → LaneIsAt cells p es phase done → IsLanePrefix cells p done }
     ensures place { (cells p : ℕ) (done : History) → IsLanePrefix cells p done
-        → (es : List Entry) × ((phase : Phase) × IsAt cells p es phase done) }
+        → (es : List Entry) × ((phase : Phase) × LaneIsAt cells p es phase done) }
     ensures one { (cells p : ℕ) (es fs : List Entry) (was now : Phase) (done : History)
-        → IsAt cells p es was done → IsAt cells p fs now done → (es ≡ fs) × (was ≡ now) }
+        → LaneIsAt cells p es was done → LaneIsAt cells p fs now done → (es ≡ fs) × (was ≡ now) }
 
     // After any other access the part is no prefix of a lane path.
     ensures only { (cells p : ℕ) (es : List Entry) (phase : Phase) (a : PoolAccess) (done : History)
-        → IsAt cells p es phase done → IsLanePrefix cells p (a ∷ done)
+        → LaneIsAt cells p es phase done → IsLanePrefix cells p (a ∷ done)
         → (fs : List Entry) × ((now : Phase) × Steps cells p es phase a fs now) }
 {}
 
@@ -156,7 +156,7 @@ pub fn loads_leave_pools()
 
 /// What a history leaves is one pool.
 pub fn pools_are_what_was_done()
-    ensures { (h : History) (s t : PoolState) → IsSound s → IsSound t → SameSize s t
+    ensures { (h : History) (s t : PoolState) → PoolIsSound s → PoolIsSound t → SameSize s t
         → IsAfter h s → IsAfter h t → s ≡ t }
 {}
 
@@ -165,13 +165,13 @@ pub fn addresses_are_apart()
     ensures apart { (size : PoolSize) (v w : Word) → IsPoolWord size v → IsPoolWord size w
         → address_of size v ≡ address_of size w → v ≡ w }
     ensures within { (size : PoolSize) (w : Word) → IsPoolWord size w
-        → address_of size w < words_of size }
+        → address_of size w < pool_words size }
 {}
 
 /// All words of a pool in one block, and the parts of its processes, go on with their history.
 pub fn words_follow_steps()
     ensures empty { (size : PoolSize) (words : List ℕ) → size.cells < END
-        → words_of size ≤ length words
+        → pool_words size ≤ length words
         → ((w : Word) → IsPoolWord size w → slice_index words (address_of size w) ≡ 0)
         → IsStateOf size words (λ who. []) [] }
 
@@ -183,6 +183,6 @@ pub fn words_follow_steps()
     // Words after those of the pool may hold anything.
     ensures more { (size : PoolSize) (words more : List ℕ) (parts : Process → History) (h : History)
         → IsStateOf size words parts h
-        → ((i : ℕ) → i < words_of size → slice_index more i ≡ slice_index words i)
-        → words_of size ≤ length more → IsStateOf size more parts h }
+        → ((i : ℕ) → i < pool_words size → slice_index more i ≡ slice_index words i)
+        → pool_words size ≤ length more → IsStateOf size more parts h }
 {}

@@ -14,5 +14,5 @@ abbrev pub claims_of : QuorumTable → List Kind → ℕ → Claims
 claims_of t kinds cells = record { table = t; kinds = kinds; cells = cells }
 
 -- the table is a quorum table
-abbrev pub IsSound : Claims → Type 0
-IsSound cs = IsQuorumTable cs.table
+abbrev pub ClaimsAreSound : Claims → Type 0
+ClaimsAreSound cs = IsQuorumTable cs.table

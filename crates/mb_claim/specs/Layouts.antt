@@ -5,7 +5,7 @@ use Rattle.mb_deciding.specs.Vocabulary.{largest_quorum, most_turns, spread}
 use Rattle.mb_claim.specs.AllClaims.{Claims, claims_of}
 use Rattle.mb_claim.specs.ObjectTypes.{Reg, Kind, Ratifier}
 pub use Rattle.mb_claim.specs.Rows.{pairs_of, fast_row, last_row, row_of, plain}
-pub use Rattle.mb_claim.specs.Rows.{width, offset, words_before, words_of, shaped_words, address_of, IsWordOf}
+pub use Rattle.mb_claim.specs.Rows.{width, offset, words_before, row_words, shaped_words, address_of, IsWordOf}
 use Rattle.mb_claim.specs.Types.{Layout, Shape}
 
 -- ---- the objects of a cell
@@ -28,7 +28,7 @@ kinds_of layout = row_of (shape_of layout) (spread (quorums_of layout).values) (
 -- ---- the same of claims
 -- how many words they have
 abbrev pub words_in : Claims → ℕ
-words_in cs = cs.cells * words_of cs.table.registers cs.kinds
+words_in cs = cs.cells * row_words cs.table.registers cs.kinds
 
 -- each cell has an object o, which has the word
 abbrev pub IsWordIn : Claims → ℕ → Reg → Type 0
@@ -74,7 +74,7 @@ consumer_count layout = (quorums_of layout).values
 
 -- how many words a cell has
 abbrev pub cell_words : Layout → ℕ
-cell_words layout = words_of (quorums_of layout).registers (kinds_of layout)
+cell_words layout = row_words (quorums_of layout).registers (kinds_of layout)
 
 -- a cell has an object o, which has the word
 abbrev pub HasWord : Layout → ℕ → Reg → Type 0

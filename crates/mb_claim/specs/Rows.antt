@@ -49,9 +49,9 @@ words_before r (kind ∷ kinds) zero = 0
 words_before r (kind ∷ kinds) (suc o) = width r kind + words_before r kinds o
 
 -- how many words a cell has
-abbrev pub words_of : ℕ → List Kind → ℕ
-words_of r [] = 0
-words_of r (kind ∷ kinds) = width r kind + words_of r kinds
+abbrev pub row_words : ℕ → List Kind → ℕ
+row_words r [] = 0
+row_words r (kind ∷ kinds) = width r kind + row_words r kinds
 
 -- how many words a row of this shape has. On the fast path each ratifier has its proposal and registers. Then come the
 -- words of the pairs, and the last word
@@ -61,7 +61,7 @@ shaped_words r shape n =
 
 -- where a word of object o of cell k lies
 abbrev pub address_of : ℕ → List Kind → ℕ → ℕ → Reg → ℕ
-address_of r kinds k o reg = k * words_of r kinds + (words_before r kinds o + offset reg)
+address_of r kinds k o reg = k * row_words r kinds + (words_before r kinds o + offset reg)
 
 -- a cell has an object o, which has the word
 abbrev pub IsWordOf : ℕ → List Kind → ℕ → Reg → Type 0

@@ -1,7 +1,7 @@
 -- Where a claim stands: the objects that it has passed, and its place on the next one.
 use Rattle.std.specs.Prelude.{ℕ, suc, ◌≡◌, ◌≢◌, ◌<◌, ◌↔◌, true, List, [], ◌∷◌, ◌++◌, length}
 use Rattle.mb_quorum.specs.Vocabulary.{QuorumTable}
-use Rattle.mb_deciding.specs.Vocabulary.{IsAt, turn_after}
+use Rattle.mb_deciding.specs.Vocabulary.{PcIsAt, turn_after}
 use Rattle.mb_claim.specs.AllClaims.{Claims}
 use Rattle.mb_claim.specs.ObjectTypes.{Op, Turn, Kind, Pc}
 use Rattle.mb_claim.specs.Types.{ObjectTurn, ClaimAccess, Going, Claim}
@@ -35,7 +35,7 @@ pub record StandsAt (t : QuorumTable) (kinds : List Kind) (c object : ℕ) (pc :
   pub all : xs ≡ turns_on object turns ++ front
   -- its input is a value of the table, and its turns led to the place
   pub within : input < t.values
-  pub place : IsAt t kind input pc turns
+  pub place : PcIsAt t kind input pc turns
 
 -- the claim of consumer c on cell k stands there
 abbrev pub HasPlace : Claims → ℕ → ℕ → ℕ → Pc → List ClaimAccess → Type 0

@@ -17,7 +17,7 @@ pub struct Claim {
 
 impl Claim {
     ghost use Rattle.std.specs.Prelude.{◌≡◌, ◌≢◌, ◌<◌, ◌≤◌, ◌+◌, ℕ, Bool, true, false, List, [], ◌∷◌, length, slice_get, MatchOption};
-    ghost use Rattle.mb_deciding.specs.Vocabulary.{IsAt, IsNext, IsReached, next_from, turns_left, turns_after};
+    ghost use Rattle.mb_deciding.specs.Vocabulary.{PcIsAt, IsNext, IsReached, next_from, turns_left, turns_after};
     ghost use Rattle.mb_deciding.specs.Vocabulary.{most_turns};
     ghost use Rattle.mb_claim.specs.{Kind, Turn, ClaimOp, ObjectTurn, Going, Undecided, consumer_of, claim_stage, is_begun};
     ghost use Rattle.mb_claim.specs.{FitsLayout, IsClaimIn, IsNextOp, CanClaimFind, IsClaimStep, steps_left, step_of};
@@ -330,7 +330,7 @@ impl Claim {
         ensures path { (pc : Pc) (begun : Bool) (xs : List ObjectTurn) (turn : Turn)
             → IsClaimIn layout.now (stood_at pc begun self.old) xs
             → ((kind : Kind) (v : ℕ) (turns : List Turn)
-            → IsAt (quorums_of layout.now) kind v pc turns
+            → PcIsAt (quorums_of layout.now) kind v pc turns
             → IsReached (quorums_of layout.now) kind v (next_from out self.old.place)
             (turn ∷ turns))
             → IsClaimIn layout.now self.new
@@ -372,7 +372,7 @@ impl Claim {
         ensures next { MatchOption (slice_get (kinds_of layout.now) (self.old.object + 1))
             (self.new.stage ≡ Undecided)
             (λ kind. (self.new.stage ≡ Going) × (self.new.object ≡ self.old.object + 1)
-            × IsAt (quorums_of layout.now) kind value self.new.place []) }
+            × PcIsAt (quorums_of layout.now) kind value self.new.place []) }
         ensures few { MatchOption (slice_get (kinds_of layout.now) (self.old.object + 1))
             (self.new.stage ≡ Undecided)
             (λ kind. (self.new.stage ≡ Going) × (self.new.object ≡ self.old.object + 1)

@@ -8,7 +8,7 @@ ghost use Rattle.mb_quorum.specs.Vocabulary.{QuorumTable, IsQuorumTable};
 ghost use Rattle.mb_quorum.specs.declared.values.TheConstants.{MAX_VALUES};
 ghost use Rattle.mb_deciding.specs.declared.access.Op.TheVariants as to;
 ghost use Rattle.mb_deciding.specs.Vocabulary.{IsPath, answer, largest_quorum, spread};
-ghost use Rattle.mb_claim.specs.{Reg, Value, Kind, Conciliator, Ratifier, LastObject, Out, Claims, claims_of, IsSound};
+ghost use Rattle.mb_claim.specs.{Reg, Value, Kind, Conciliator, Ratifier, LastObject, Out, Claims, claims_of, ClaimsAreSound};
 ghost use Rattle.mb_claim.specs.{ClaimAccess, ObjectTurn, Shape, plain, row_of, shaped_steps, shape_of};
 ghost use Rattle.mb_claim.specs.{Stage, Going, Undecided, kinds_of, MAX_CELLS, MAX_LARGE_CELLS, MAX_PAIRS};
 ghost use Rattle.mb_claim.specs.{IsClaimLawful, HasStage, HasOneWinner, IsWholeClaim};
@@ -22,7 +22,7 @@ use mb_deciding::steps::{places_have_turns_left, turns_name_the_next_op};
 
 /// The claims on one cell have one winner, for all orders of accesses and all random words.
 pub fn claims_have_one_winner()
-    ensures { (cs : Claims) (h : List ClaimAccess) (k : ℕ) → IsSound cs → IsClaimLawful cs h
+    ensures { (cs : Claims) (h : List ClaimAccess) (k : ℕ) → ClaimsAreSound cs → IsClaimLawful cs h
         → HasOneWinner cs k h }
 {
     objects_keep_their_promises();
@@ -31,7 +31,7 @@ pub fn claims_have_one_winner()
 
 /// A claim makes at most the accesses that its objects allow together.
 pub fn claims_are_bounded()
-    ensures objects { (cs : Claims) (h : List ClaimAccess) (c k : ℕ) → IsSound cs
+    ensures objects { (cs : Claims) (h : List ClaimAccess) (c k : ℕ) → ClaimsAreSound cs
         → IsClaimLawful cs h
         → length (part_on c k h) ≤ most_on_objects cs.table cs.kinds }
     ensures pairs { (t : QuorumTable) (n cells : ℕ) (h : List ClaimAccess) (c k : ℕ)
@@ -77,7 +77,7 @@ pub fn prefixes_begin_whole_claims()
 
 /// A prefix of a claim path has one stage.
 pub fn prefixes_have_one_stage()
-    ensures { (cs : Claims) (c : ℕ) (xs : List ObjectTurn) (s r : Stage) → IsSound cs
+    ensures { (cs : Claims) (c : ℕ) (xs : List ObjectTurn) (s r : Stage) → ClaimsAreSound cs
         → IsClaimPrefix cs c xs s → IsClaimPrefix cs c xs r → s ≡ r }
 {
     objects_keep_their_promises();
@@ -108,7 +108,7 @@ pub fn claims_have_steps_left()
 /// Steps have one run at most: the entries and the stages are determined by the claims and the steps.
 pub fn steps_have_one_run()
     ensures { (cs : Claims) (steps : List (ℕ × ℕ)) (es fs : List ClaimEntry) (ss rs : List Stage)
-        → IsSound cs
+        → ClaimsAreSound cs
         → IsPlayed cs steps es ss → IsPlayed cs steps fs rs → (es ≡ fs) × (ss ≡ rs) }
 {
     objects_keep_their_promises();

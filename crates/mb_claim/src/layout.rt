@@ -2,7 +2,7 @@
 ghost use Rattle.std.specs.Prelude.{◌≡◌, ◌<◌, ◌≤◌, ◌+◌, ◌*◌, ℕ, length, slice_get, slice_index};
 ghost use Rattle.mb_quorum.specs.Vocabulary.{chosen_table};
 ghost use Rattle.mb_deciding.specs.Vocabulary.{spread};
-ghost use Rattle.mb_claim.specs.Rows.{row_of, words_before, words_of};
+ghost use Rattle.mb_claim.specs.Rows.{row_of, words_before, row_words};
 ghost use Rattle.mb_claim.specs.declared.layout.TheConstants.{MAX_PAIRS};
 
 use crate::shape::Shape;
@@ -43,7 +43,7 @@ pub struct Layout {
         → slice_get (row_of shape (spread (chosen_table table).values) pairs) o ≡ slice_get kinds o },
     pub ghost begin: { (o : ℕ) → o < objects → slice_index begins o ≡ words_before
         (chosen_table table).registers (row_of shape (spread (chosen_table table).values) pairs) o },
-    pub ghost size: { cell_size ≡ words_of
+    pub ghost size: { cell_size ≡ row_words
         (chosen_table table).registers (row_of shape (spread (chosen_table table).values) pairs) },
 }
 

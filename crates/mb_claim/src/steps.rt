@@ -10,22 +10,22 @@
 ghost use Rattle.std.specs.Prelude.{ℕ, ◌≡◌, ◌≢◌, ◌+◌, ◌*◌, ◌<◌, ◌≤◌, List, [], ◌∷◌, length, slice_index, slice_set};
 ghost use Rattle.mb_deciding.specs.declared.access.Op.TheVariants as to;
 ghost use Rattle.mb_deciding.specs.Vocabulary.{IsInWords, IsSameOp, IsOpAt, CanFind, reg_of, seen_by};
-ghost use Rattle.mb_claim.specs.{Op, Reg, Value, Proposal, Quorum, Last, Shape, Kind, Pc, Claims, IsSound, ClaimAccess, ObjectTurn};
+ghost use Rattle.mb_claim.specs.{Op, Reg, Value, Proposal, Quorum, Last, Shape, Kind, Pc, Claims, ClaimsAreSound, ClaimAccess, ObjectTurn};
 ghost use Rattle.mb_claim.specs.{Stage, Going, IsClaimLawful, MayFollow, Adds, IsClaimPrefix, part, part_on};
 ghost use Rattle.mb_claim.specs.{object_history, StandsAt, HasPlace, access_after, words_in, address_in, IsWordIn};
-ghost use Rattle.mb_claim.specs.{address_of, words_of, IsWordOf, pairs_of, fast_row, row_of, shaped_words};
+ghost use Rattle.mb_claim.specs.{address_of, row_words, IsWordOf, pairs_of, fast_row, row_of, shaped_words};
 ghost use Rattle.mb_claim.specs.{IsMemoryOf, found_in, access_in};
 ghost use Rattle.mb_claim.specs.{words_after, Layout, Claim, ClaimOp, claims_in, consumer_of, claim_stage, FitsLayout};
 ghost use Rattle.mb_claim.specs.{HasWord, IsClaimIn, IsNextOp, CanClaimFind, claim_access, step_of};
 
 use mb_deciding::laws::objects_keep_their_promises;
 use mb_deciding::steps::{
-    one_step as object_step, places_are_unfinished, places_lead_on, turns_name_the_next_op,
+    history_extends as object_step, places_are_unfinished, places_lead_on, turns_name_the_next_op,
 };
 
 /// A lawful history with an access that may come next is lawful. The access adds one step to one part, and
 /// changes at most one word.
-pub fn one_step()
+pub fn history_extends()
     ensures { (cs : Claims) (a : ClaimAccess) (h : List ClaimAccess)
         → IsClaimLawful cs h → MayFollow cs a h → Adds cs a h }
 {}
@@ -52,7 +52,7 @@ pub fn accesses_lengthen_one_part()
 /// of a consumer on a cell.
 pub fn claims_have_one_next_op()
     ensures op { (cs : Claims) (c : ℕ) (x y : ObjectTurn) (xs : List ObjectTurn) (s r : Stage)
-        → IsSound cs
+        → ClaimsAreSound cs
         → IsClaimPrefix cs c (x ∷ xs) s → IsClaimPrefix cs c (y ∷ xs) r
         → (x.object ≡ y.object) × IsSameOp x.turn.act y.turn.act }
 
@@ -61,7 +61,7 @@ pub fn claims_have_one_next_op()
         → IsClaimPrefix cs c (x ∷ xs) s → IsClaimPrefix cs c xs Going }
 
     // With the value that memory gives and the same random word, two such accesses are the same.
-    ensures access { (cs : Claims) (a b : ClaimAccess) (h : List ClaimAccess) → IsSound cs
+    ensures access { (cs : Claims) (a b : ClaimAccess) (h : List ClaimAccess) → ClaimsAreSound cs
         → IsClaimLawful cs (a ∷ h) → IsClaimLawful cs (b ∷ h) → a.consumer ≡ b.consumer
         → a.cell ≡ b.cell
         → a.step.turn.word ≡ b.step.turn.word → a ≡ b }
@@ -74,14 +74,15 @@ pub fn claims_have_one_next_op()
 pub fn places_make_steps()
     ensures follows { (cs : Claims) (c k object : ℕ) (pc : Pc) (op : Op) (word : ℕ)
         (h : List ClaimAccess)
-        → IsSound cs → IsClaimLawful cs h → k < cs.cells → HasPlace cs c k object pc h
+        → ClaimsAreSound cs → IsClaimLawful cs h → k < cs.cells → HasPlace cs c k object pc h
         → IsOpAt cs.table pc op
         → IsInWords (access_after c k object op word h).step.turn
         → MayFollow cs (access_after c k object op word h) h }
 
     // The place can go on with the value that it finds there.
     ensures found { (cs : Claims) (c k object : ℕ) (pc : Pc) (op : Op) (h : List ClaimAccess)
-        → IsSound cs → IsClaimLawful cs h → HasPlace cs c k object pc h → IsOpAt cs.table pc op
+        → ClaimsAreSound cs → IsClaimLawful cs h → HasPlace cs c k object pc h
+        → IsOpAt cs.table pc op
         → CanFind cs.table pc op (seen_by op (object_history k object h)) }
 {
     objects_keep_their_promises();
@@ -92,9 +93,10 @@ pub fn places_make_steps()
 /// The turns of a claim at a place are a prefix of its path, which goes on. Its next word is one of the cell's.
 pub fn places_show_prefixes()
     ensures prefix { (cs : Claims) (c object : ℕ) (pc : Pc) (xs : List ObjectTurn)
-        → IsSound cs → StandsAt cs.table cs.kinds c object pc xs → IsClaimPrefix cs c xs Going }
+        → ClaimsAreSound cs → StandsAt cs.table cs.kinds c object pc xs
+        → IsClaimPrefix cs c xs Going }
     ensures word { (cs : Claims) (c object : ℕ) (pc : Pc) (op : Op) (xs : List ObjectTurn)
-        → IsSound cs → StandsAt cs.table cs.kinds c object pc xs → IsOpAt cs.table pc op
+        → ClaimsAreSound cs → StandsAt cs.table cs.kinds c object pc xs → IsOpAt cs.table pc op
         → IsWordIn cs object (reg_of op) }
 {
     places_are_unfinished();
@@ -118,7 +120,7 @@ pub fn other_words_are_free()
 /// leaves with that access.
 pub fn words_follow_steps()
     ensures memory { (cs : Claims) (c k object : ℕ) (pc : Pc) (op : Op) (word : ℕ) (words : List ℕ)
-        (h : List ClaimAccess) → IsSound cs → IsMemoryOf cs words h
+        (h : List ClaimAccess) → ClaimsAreSound cs → IsMemoryOf cs words h
         → k < cs.cells → HasPlace cs c k object pc h → IsOpAt cs.table pc op
         → let a = access_in cs c k object op word words in
         IsInWords a.step.turn → IsMemoryOf cs (words_after cs k object op words) (a ∷ h) }
@@ -126,7 +128,7 @@ pub fn words_follow_steps()
     // The place can go on with the value that it finds there.
     ensures found { (cs : Claims) (c k object : ℕ) (pc : Pc) (op : Op) (words : List ℕ)
         (h : List ClaimAccess)
-        → IsSound cs → IsMemoryOf cs words h
+        → ClaimsAreSound cs → IsMemoryOf cs words h
         → k < cs.cells → HasPlace cs c k object pc h → IsOpAt cs.table pc op
         → CanFind cs.table pc op (found_in cs k object op words) }
 {
@@ -194,7 +196,7 @@ pub fn addresses_are_apart()
         × (reg ≡ other) }
     ensures within { (r : ℕ) (kinds : List Kind) (cells k o : ℕ) (reg : Reg)
         → IsWordOf r kinds o reg → k < cells
-        → address_of r kinds k o reg < cells * words_of r kinds }
+        → address_of r kinds k o reg < cells * row_words r kinds }
     ensures conciliator { (r s n k i : ℕ) → i < n
         → address_of r (pairs_of s n) k (2 * i) Value ≡ k * (n * (2 + r)) + i * (2 + r) }
     ensures proposal { (r s n k i : ℕ) → i < n
@@ -202,7 +204,7 @@ pub fn addresses_are_apart()
     ensures register { (r s n k i q : ℕ) → i < n
         → address_of r (pairs_of s n) k (2 * i + 1) (Quorum q) ≡ k * (n * (2 + r)) + i * (2 + r) +
         (2 + q) }
-    ensures words { (r s n : ℕ) → words_of r (pairs_of s n) ≡ n * (2 + r) }
+    ensures words { (r s n : ℕ) → row_words r (pairs_of s n) ≡ n * (2 + r) }
 
     // With a fast path the objects 0 and 1 are its ratifiers.
     ensures fast_proposal { (r s n k i : ℕ) (shape : Shape) → i < length (fast_row shape.fast)
@@ -230,5 +232,5 @@ pub fn addresses_are_apart()
         address_of r (row_of shape s n) k (f + 2 * n) Last
         ≡ k * shaped_words r shape n + f * (1 + r) + n * (2 + r) }
     ensures shaped { (r s n : ℕ) (shape : Shape)
-        → words_of r (row_of shape s n) ≡ shaped_words r shape n }
+        → row_words r (row_of shape s n) ≡ shaped_words r shape n }
 {}

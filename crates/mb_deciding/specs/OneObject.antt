@@ -26,8 +26,8 @@ abbrev pub last_of : QuorumTable → (ℕ → ℕ) → Object
 last_of t inputs = object_of t LastObject inputs
 
 -- its table is a quorum table
-abbrev pub IsSound : Object → Type 0
-IsSound o = IsQuorumTable o.table
+abbrev pub ObjectIsSound : Object → Type 0
+ObjectIsSound o = IsQuorumTable o.table
 
 -- an object with a list of inputs, one for each process
 pub record ObjectSetup : Type 0 where

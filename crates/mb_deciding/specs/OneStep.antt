@@ -4,7 +4,7 @@ use Rattle.mb_quorum.specs.Quorum.{QuorumTable}
 use Rattle.mb_deciding.specs.Types.{Op, Turn, Kind, Conciliator, Ratifier, Pc, InConciliator, InRatifier, InLast, Next, Out}
 use Rattle.mb_deciding.specs.Types.{RatifierPlace, ConciliatorPlace, LastPlace, LastObject}
 use Rattle.mb_deciding.specs.declared.place.pc.Next.TheVariants as leads
-use Rattle.mb_deciding.specs.Place.{IsAt, IsOpAt, IsRatifierOp, IsConciliatorOp, IsLastOp, IsReached, CanFind, act_of}
+use Rattle.mb_deciding.specs.Place.{PcIsAt, IsOpAt, IsRatifierOp, IsConciliatorOp, IsLastOp, IsReached, CanFind, act_of}
 
 -- what follows: the output, if there is one, or else the place
 abbrev pub next_from : Option Out → Pc → Next
@@ -19,21 +19,21 @@ come_to (Some out) next = leads.Out out
 -- a process at the place in a ratifier, whose next access found this value, has reached what follows
 abbrev pub RatifierReaches : QuorumTable → RatifierPlace → ℕ → Next → Type 0
 RatifierReaches t place seen follows =
-    (v : ℕ) (turns : List Turn) (op : Op) (word : ℕ) → IsAt t Ratifier v (InRatifier place) turns
+    (v : ℕ) (turns : List Turn) (op : Op) (word : ℕ) → PcIsAt t Ratifier v (InRatifier place) turns
     → IsRatifierOp t place op → CanFind t (InRatifier place) op seen
     → IsReached t Ratifier v follows (record { act = act_of op seen; word = word } ∷ turns)
 
 -- and one at the place in a conciliator, with this random word
 abbrev pub ConciliatorReaches : QuorumTable → ConciliatorPlace → ℕ → ℕ → Next → Type 0
 ConciliatorReaches t place seen word follows =
-    (s v : ℕ) (turns : List Turn) (op : Op) → IsAt t (Conciliator s) v (InConciliator place) turns
+    (s v : ℕ) (turns : List Turn) (op : Op) → PcIsAt t (Conciliator s) v (InConciliator place) turns
     → IsConciliatorOp place op → CanFind t (InConciliator place) op seen
     → IsReached t (Conciliator s) v follows (record { act = act_of op seen; word = word } ∷ turns)
 
 -- and one at the place in a last object
 abbrev pub LastReaches : QuorumTable → LastPlace → ℕ → Next → Type 0
 LastReaches t place seen follows =
-    (v : ℕ) (turns : List Turn) (op : Op) (word : ℕ) → IsAt t LastObject v (InLast place) turns
+    (v : ℕ) (turns : List Turn) (op : Op) (word : ℕ) → PcIsAt t LastObject v (InLast place) turns
     → IsLastOp place op → CanFind t (InLast place) op seen
     → IsReached t LastObject v follows (record { act = act_of op seen; word = word } ∷ turns)
 
@@ -48,5 +48,5 @@ pub record IsStep (t : QuorumTable) (pc : Pc) (makes : Op → ℕ → Type 0) (w
   pub made : makes op seen
   -- if it can find that, a process that was at the place has reached what follows
   pub reached :
-      (kind : Kind) (v : ℕ) (turns : List Turn) → IsAt t kind v pc turns → CanFind t pc op seen
+      (kind : Kind) (v : ℕ) (turns : List Turn) → PcIsAt t kind v pc turns → CanFind t pc op seen
       → IsReached t kind v follows (record { act = act_of op seen; word = word } ∷ turns)

@@ -65,19 +65,19 @@ IsInConciliator s v (Put input) made = (input ≡ v) × ((k : ℕ) × (k ≤ s) 
 IsInConciliator s v (Look input) made = (input ≡ v) × ((k : ℕ) × (k ≤ s) × IsPut s v k made)
 
 -- a process with input v on an object of this kind, which has made these turns, is at the place
-abbrev pub IsAt : QuorumTable → Kind → ℕ → Pc → List Turn → Type 0
-IsAt t Ratifier v (InRatifier place) turns =
+abbrev pub PcIsAt : QuorumTable → Kind → ℕ → Pc → List Turn → Type 0
+PcIsAt t Ratifier v (InRatifier place) turns =
     IsPlace t (InRatifier place) × IsInRatifier t v place (acts turns)
-IsAt t (Conciliator s) v (InConciliator place) turns =
+PcIsAt t (Conciliator s) v (InConciliator place) turns =
     IsPlace t (InConciliator place) × IsInConciliator s v place turns
-IsAt t Ratifier v (InConciliator place) turns = ⊥
-IsAt t (Conciliator s) v (InRatifier place) turns = ⊥
-IsAt t LastObject v (InLast place) turns =
+PcIsAt t Ratifier v (InConciliator place) turns = ⊥
+PcIsAt t (Conciliator s) v (InRatifier place) turns = ⊥
+PcIsAt t LastObject v (InLast place) turns =
     IsPlace t (InLast place) × ((place.input ≡ v) × (turns ≡ []))
-IsAt t LastObject v (InConciliator place) turns = ⊥
-IsAt t LastObject v (InRatifier place) turns = ⊥
-IsAt t Ratifier v (InLast place) turns = ⊥
-IsAt t (Conciliator s) v (InLast place) turns = ⊥
+PcIsAt t LastObject v (InConciliator place) turns = ⊥
+PcIsAt t LastObject v (InRatifier place) turns = ⊥
+PcIsAt t Ratifier v (InLast place) turns = ⊥
+PcIsAt t (Conciliator s) v (InLast place) turns = ⊥
 
 -- the access that comes next in a ratifier
 abbrev pub IsRatifierOp : QuorumTable → RatifierPlace → Op → Type 0
@@ -147,7 +147,7 @@ CanFind t (InLast place) (to.Exchange reg value) seen = seen ≤ t.values
 
 -- a process with input v that has made these turns has reached the place, or its output
 abbrev pub IsReached : QuorumTable → Kind → ℕ → Next → List Turn → Type 0
-IsReached t kind v (leads.Go pc) turns = IsAt t kind v pc turns
+IsReached t kind v (leads.Go pc) turns = PcIsAt t kind v pc turns
 IsReached t kind v (leads.Out out) turns = IsPath t kind v turns out
 
 -- a place that fits the table, or an output that is one of its values

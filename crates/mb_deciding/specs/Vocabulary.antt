@@ -7,14 +7,14 @@ pub use Rattle.mb_deciding.specs.ConciliatorPaths.{StoresOn, IsMissing, IsDrawn,
 pub use Rattle.mb_deciding.specs.RatifierPaths.{acts_below, stores_below, zeros_below, announcement, Prefers}
 pub use Rattle.mb_deciding.specs.RatifierPaths.{ReadsClear, ReadsOne, IsRatifierPath}
 pub use Rattle.mb_deciding.specs.LastPaths.{IsLastPath}
-pub use Rattle.mb_deciding.specs.OneObject.{Object, object_of, ratifier_of, conciliator_of, IsSound, ObjectSetup}
+pub use Rattle.mb_deciding.specs.OneObject.{Object, object_of, ratifier_of, conciliator_of, ObjectIsSound, ObjectSetup}
 pub use Rattle.mb_deciding.specs.OneObject.{setup_of, object_in}
 pub use Rattle.mb_deciding.specs.Objects.{answer, IsPath, IsPrefix, IsOpen, IsObjectLawful, HasOutput, IsAnnounced}
 pub use Rattle.mb_deciding.specs.Objects.{CanHold, largest_quorum, most_turns}
 pub use Rattle.mb_deciding.specs.Deciding.{IsValid, IsCoherent, IsAccepted, IsContested, ChecksKeepOut, stores_in}
 pub use Rattle.mb_deciding.specs.Deciding.{IsFirstMover, IsDeciding, IsRatifying}
 pub use Rattle.mb_deciding.specs.Place.{IsLeast, IsRest, IsRatifierPlace, HasLimits, IsConciliatorPlace, IsPlace}
-pub use Rattle.mb_deciding.specs.Place.{IsInRatifier, IsInConciliator, IsAt, IsRatifierOp, IsConciliatorOp, IsLastOp}
+pub use Rattle.mb_deciding.specs.Place.{IsInRatifier, IsInConciliator, PcIsAt, IsRatifierOp, IsConciliatorOp, IsLastOp}
 pub use Rattle.mb_deciding.specs.Place.{IsOpAt}
 pub use Rattle.mb_deciding.specs.Place.{act_of, reg_of, HasReg, CanFind, IsReached, IsNext, seen_by, turn_after}
 pub use Rattle.mb_deciding.specs.OneStep.{next_from, IsStep}

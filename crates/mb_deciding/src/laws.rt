@@ -1,20 +1,20 @@
 //! What holds of every lawful history of one object, and of every trace. The functions compute nothing: their contracts
 //! are the laws. The proofs begin in `proofs/laws`, in a folder of the law's name. They use the lemmas of `proofs`.
 ghost use Rattle.std.specs.Prelude.{ℕ, ◌≡◌, ◌<◌, Option, List, [], ◌∷◌};
-ghost use Rattle.mb_deciding.specs.{Object, IsSound, ObjectSetup, Access, Turn, Entry, Out, Conciliator, Ratifier};
+ghost use Rattle.mb_deciding.specs.{Object, ObjectIsSound, ObjectSetup, Access, Turn, Entry, Out, Conciliator, Ratifier};
 ghost use Rattle.mb_deciding.specs.{ReadsLast, IsInWords, part, IsObjectLawful, IsPrefix, IsTrace};
 ghost use Rattle.mb_deciding.specs.{IsDeciding, IsRatifying, IsFirstMover, ChecksKeepOut};
 
 /// What each object promises its users. Each input has a path, which ends once and is bounded. Words hold only values
 /// that they can hold. Outputs are valid and coherent.
 pub fn objects_keep_their_promises()
-    ensures { (o : Object) → IsSound o → IsDeciding o }
+    ensures { (o : Object) → ObjectIsSound o → IsDeciding o }
 {}
 
 /// What a ratifier promises besides. It decides if all inputs are one value. An output is undecided only if two values
 /// were announced.
 pub fn ratifiers_decide_unless_contested()
-    ensures { (o : Object) → IsSound o → o.kind ≡ Ratifier → IsRatifying o }
+    ensures { (o : Object) → ObjectIsSound o → o.kind ≡ Ratifier → IsRatifying o }
 {}
 
 /// If only one store was made to a conciliator, every output is its value.
@@ -28,14 +28,14 @@ pub fn first_movers_win()
 pub fn checks_keep_out()
     ensures empty { (o : Object) → ChecksKeepOut o [] }
     ensures kept { (o : Object) (h : List Access) (p : ℕ) (turn : Turn)
-        → IsSound o → o.kind ≡ Ratifier → IsObjectLawful o h
+        → ObjectIsSound o → o.kind ≡ Ratifier → IsObjectLawful o h
         → o.inputs p < o.table.values → IsInWords turn → ReadsLast turn.act h
         → IsPrefix o.table o.kind (o.inputs p) (turn ∷ part p h)
         → ChecksKeepOut o (record { process = p; turn = turn } ∷ h) }
 
     // So it holds of every lawful history.
     ensures lawful { (o : Object) (h : List Access)
-        → IsSound o → o.kind ≡ Ratifier → IsObjectLawful o h → ChecksKeepOut o h }
+        → ObjectIsSound o → o.kind ≡ Ratifier → IsObjectLawful o h → ChecksKeepOut o h }
 {}
 
 /// A schedule has one trace at most: entries and outputs are determined by the object, its inputs and the schedule.

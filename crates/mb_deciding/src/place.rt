@@ -4,13 +4,13 @@ use crate::memory::Memory;
 use crate::object::{Kind, Out};
 use mb_quorum::Quorums;
 
-mod conciliating;
 mod conciliator;
+mod conciliator_steps;
 mod last;
 mod mask;
 mod pc;
 mod ratifier;
-mod ratifying;
+mod ratifier_steps;
 
 pub use conciliator::ConciliatorPlace;
 pub use last::LastPlace;
@@ -20,12 +20,12 @@ pub use ratifier::RatifierPlace;
 impl Pc {
     ghost use Rattle.std.specs.Prelude.{◌≡◌, ◌<◌, ◌≤◌, ℕ, List, [], ◌∷◌};
     ghost use Rattle.mb_quorum.specs.Quorum.{QuorumTable};
-    ghost use Rattle.mb_deciding.specs.{Op, Turn, Kind, Conciliator, Ratifier, LastObject, IsAt, IsPlace, IsOpAt, IsNext};
+    ghost use Rattle.mb_deciding.specs.{Op, Turn, Kind, Conciliator, Ratifier, LastObject, PcIsAt, IsPlace, IsOpAt, IsNext};
     ghost use Rattle.mb_deciding.specs.{IsReached, CanFind, act_of, IsStep, next_from, turns_left, turns_after, most_turns};
 
     /// The place of a process with this input before its first access to a ratifier.
     pub fn ratifier(input: u32) -> Pc
-        ensures begins { (t : QuorumTable) → input < t.values → IsAt t Ratifier input result [] }
+        ensures begins { (t : QuorumTable) → input < t.values → PcIsAt t Ratifier input result [] }
         ensures fits { (t : QuorumTable) → input < t.values → IsPlace t result }
         ensures bound { (t : QuorumTable) → input < t.values
             → turns_left t result ≤ most_turns t Ratifier }
@@ -37,7 +37,7 @@ impl Pc {
     #[inline(always)]
     pub fn announcing<Q: Quorums>(q: &Q, input: u32) -> Pc
         requires { input < (Q.table q.now).values }
-        ensures begins { IsAt (Q.table q.now) Ratifier input result [] }
+        ensures begins { PcIsAt (Q.table q.now) Ratifier input result [] }
         ensures fits { IsPlace (Q.table q.now) result }
         ensures bound { turns_left (Q.table q.now) result ≤ most_turns (Q.table q.now) Ratifier }
     {
@@ -50,7 +50,7 @@ impl Pc {
     pub fn conciliator(input: u32, s: u32) -> Pc
         requires { s ≤ 63 }
         ensures begins { (t : QuorumTable) → input < t.values
-            → IsAt t (Conciliator s) input result [] }
+            → PcIsAt t (Conciliator s) input result [] }
         ensures fits { (t : QuorumTable) → input < t.values → IsPlace t result }
         ensures bound { (t : QuorumTable) → turns_left t result ≤ most_turns t (Conciliator s) }
     {
@@ -64,7 +64,8 @@ impl Pc {
     /// The place of a process with this input before its access to a last object.
     #[inline(always)]
     pub fn last(input: u32) -> Pc
-        ensures begins { (t : QuorumTable) → input < t.values → IsAt t LastObject input result [] }
+        ensures begins { (t : QuorumTable) → input < t.values
+            → PcIsAt t LastObject input result [] }
         ensures fits { (t : QuorumTable) → input < t.values → IsPlace t result }
         ensures bound { (t : QuorumTable) → turns_left t result ≤ most_turns t LastObject }
     {
@@ -97,7 +98,7 @@ impl Pc {
 
         // A process that was at this place is now at the next one, or has its output.
         ensures reached { (kind : Kind) (v : ℕ) (turns : List Turn) (op : Op)
-            → IsAt (Q.table q.now) kind v self turns → IsOpAt (Q.table q.now) self op
+            → PcIsAt (Q.table q.now) kind v self turns → IsOpAt (Q.table q.now) self op
             → CanFind (Q.table q.now) self op seen
             → IsReached (Q.table q.now) kind v result
             (record { act = act_of op seen; word = word } ∷ turns) }
@@ -148,14 +149,14 @@ impl Pc {
 
 impl Kind {
     ghost use Rattle.std.specs.Prelude.{◌<◌, ◌≤◌, []};
-    ghost use Rattle.mb_deciding.specs.{IsAt, IsPlace, IsFitKind, turns_left, most_turns};
+    ghost use Rattle.mb_deciding.specs.{PcIsAt, IsPlace, IsFitKind, turns_left, most_turns};
 
     /// The place of a process with this input before its first access to an object of this kind over the table.
     #[inline(always)]
     pub fn place<Q: Quorums>(self, q: &Q, input: u32) -> Pc
         requires kind { IsFitKind self }
         requires input { input < (Q.table q.now).values }
-        ensures begins { IsAt (Q.table q.now) self input result [] }
+        ensures begins { PcIsAt (Q.table q.now) self input result [] }
         ensures fits { IsPlace (Q.table q.now) result }
         ensures bound { turns_left (Q.table q.now) result ≤ most_turns (Q.table q.now) self }
     {

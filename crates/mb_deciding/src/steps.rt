@@ -1,16 +1,16 @@
 //! Laws for builders of worlds and of tables of shared words: one more step of a lawful history, and the places of
-//! processes. A table that keeps the words of an object needs `one_step` for its rule, and `places_lead_on` for the
+//! processes. A table that keeps the words of an object needs `history_extends` for its rule, and `places_lead_on` for the
 //! step that a place makes there. The functions compute nothing: their contracts are the laws. The proofs begin in
 //! `proofs/steps`, in a folder of the law's name.
 ghost use Rattle.std.specs.Prelude.{ℕ, ◌≡◌, ◌<◌, ◌≤◌, List, [], ◌∷◌};
 ghost use Rattle.mb_quorum.specs.Quorum.{QuorumTable, IsQuorumTable};
-ghost use Rattle.mb_deciding.specs.{Object, IsSound, Kind, Access, Turn, Act, Op, Pc, Out};
+ghost use Rattle.mb_deciding.specs.{Object, ObjectIsSound, Kind, Access, Turn, Act, Op, Pc, Out};
 ghost use Rattle.mb_deciding.specs.{ReadsLast, IsInWords, part, IsObjectLawful, IsPrefix, IsOpen, IsPath};
-ghost use Rattle.mb_deciding.specs.{HasReg, IsAt, IsOpAt, CanFind, turn_after, seen_by, reg_of};
+ghost use Rattle.mb_deciding.specs.{HasReg, PcIsAt, IsOpAt, CanFind, turn_after, seen_by, reg_of};
 ghost use Rattle.mb_deciding.specs.{IsSameOp, IsPlace, most_turns, turns_left};
 
 /// The empty history is lawful, and one more turn of a process whose path goes on keeps a history lawful.
-pub fn one_step()
+pub fn history_extends()
     ensures empty { (o : Object) → IsObjectLawful o [] }
     ensures longer { (o : Object) (h : List Access) (p : ℕ) (turn : Turn)
         → IsObjectLawful o h → o.inputs p < o.table.values → IsInWords turn → ReadsLast turn.act h
@@ -21,14 +21,14 @@ pub fn one_step()
 /// A process at its place goes on with its path by its next turn, with the value that the history leaves in its word.
 pub fn places_lead_on()
     ensures prefix { (o : Object) (h : List Access) (p : ℕ) (pc : Pc) (op : Op) (word : ℕ)
-        → IsSound o → IsObjectLawful o h
-        → IsAt o.table o.kind (o.inputs p) pc (part p h) → IsOpAt o.table pc op
+        → ObjectIsSound o → IsObjectLawful o h
+        → PcIsAt o.table o.kind (o.inputs p) pc (part p h) → IsOpAt o.table pc op
         → IsPrefix o.table o.kind (o.inputs p) (turn_after op word h ∷ part p h) }
 
     // The place can go on with the value that it finds there.
     ensures found { (o : Object) (h : List Access) (p : ℕ) (pc : Pc) (op : Op)
-        → IsSound o → IsObjectLawful o h
-        → IsAt o.table o.kind (o.inputs p) pc (part p h) → IsOpAt o.table pc op
+        → ObjectIsSound o → IsObjectLawful o h
+        → PcIsAt o.table o.kind (o.inputs p) pc (part p h) → IsOpAt o.table pc op
         → CanFind o.table pc op (seen_by op h) }
 
     // And its act is true to memory.
@@ -39,14 +39,14 @@ pub fn places_lead_on()
 /// The turns of a process at a place are a prefix of a path that has not ended. Its next word is one of the object's.
 pub fn places_are_unfinished()
     ensures open { (t : QuorumTable) (kind : Kind) (v : ℕ) (pc : Pc) (turns : List Turn)
-        → IsQuorumTable t → IsAt t kind v pc turns → IsOpen t kind v turns }
+        → IsQuorumTable t → PcIsAt t kind v pc turns → IsOpen t kind v turns }
     ensures prefix { (t : QuorumTable) (kind : Kind) (v : ℕ) (pc : Pc) (turns : List Turn)
-        → IsQuorumTable t → IsAt t kind v pc turns → IsPrefix t kind v turns }
+        → IsQuorumTable t → PcIsAt t kind v pc turns → IsPrefix t kind v turns }
     ensures unfinished { (t : QuorumTable) (kind : Kind) (v : ℕ) (pc : Pc) (turns : List Turn)
         (out : Out)
-        → IsQuorumTable t → IsAt t kind v pc turns → IsPath t kind v turns out → ⊥ }
+        → IsQuorumTable t → PcIsAt t kind v pc turns → IsPath t kind v turns out → ⊥ }
     ensures word { (t : QuorumTable) (kind : Kind) (v : ℕ) (pc : Pc) (turns : List Turn) (op : Op)
-        → IsQuorumTable t → IsAt t kind v pc turns → IsOpAt t pc op
+        → IsQuorumTable t → PcIsAt t kind v pc turns → IsOpAt t pc op
         → HasReg t.registers kind (reg_of op) }
 {}
 
@@ -58,7 +58,7 @@ pub fn turns_name_the_next_op()
     // So two places with the same turns go on with one op.
     ensures places { (t : QuorumTable) (kind : Kind) (v : ℕ) (turns : List Turn) (pc other : Pc)
         (op next : Op)
-        → IsQuorumTable t → IsAt t kind v pc turns → IsAt t kind v other turns
+        → IsQuorumTable t → PcIsAt t kind v pc turns → PcIsAt t kind v other turns
         → IsOpAt t pc op → IsOpAt t other next → op ≡ next }
 
     // And after one history, two acts of one op are the same act.
@@ -73,5 +73,5 @@ pub fn places_have_turns_left()
 
     // It is no more than a whole path through its object may have.
     ensures most { (t : QuorumTable) (kind : Kind) (v : ℕ) (pc : Pc) (turns : List Turn)
-        → v < t.values → IsAt t kind v pc turns → turns_left t pc ≤ most_turns t kind }
+        → v < t.values → PcIsAt t kind v pc turns → turns_left t pc ≤ most_turns t kind }
 {}

@@ -11,7 +11,7 @@ use Rattle.mb_cells.specs.declared.lane.LaneStage.TheVariants as stage
 use Rattle.mb_cells.specs.Vocabulary.{Entry, HasFoundNone, IsLaneAfter, IsLinkWord, fetch, finish_refusal, lane_after_finish, next_link, offer_refusal}
 use Rattle.mb_cells.specs.Vocabulary.{stage_finish_refusal, stage_offer_refusal, stage_push_store, store}
 use Rattle.mb_shared_cells.specs.Vocabulary.{FinishBy, FinishMakes, IsAccessAfter, LaneMakes, LaneSeatView, OfferBy, OfferMakes}
-use Rattle.mb_mailbox.specs.Below.{Counter, END, Has, Head, History, Item, Link, Producer, Word, has_ended, part}
+use Rattle.mb_mailbox.specs.Imports.{Counter, END, Has, Head, History, Item, Link, Producer, Word, has_ended, part}
 use Rattle.mb_mailbox.specs.PartPlaces.{HasPart, with_seat}
 use Rattle.mb_mailbox.specs.Producers.{FoundNoCell, HasNoCellFor, IsEndOfLane, IsProducer, IsSameLane, ProducerView, is_over}
 use Rattle.mb_mailbox.specs.PutLaws.{PutLaws}

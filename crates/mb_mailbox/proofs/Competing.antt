@@ -3,7 +3,7 @@ use Rattle.std.proofs.Common.{◌≡◌, ℕ, ◌+◌, ◌∷◌, refl, sym, ap,
 use Rattle.std.specs.Prelude.{Option, Some, None, List, slice_get, slice_set}
 use Rattle.mb_claim.specs.declared.access.ClaimOp.{ClaimOp}
 use Rattle.mb_claim.specs.declared.access.Stage.TheVariants as stage
-use Rattle.mb_mailbox.specs.Below.{Claim, IsClaimIn, SeatView, Stage, Stream, TableSize, ToClaims, access_of, claim_stage, claims_at, consumer_of, next_u64, note_of, part_on, with_access}
+use Rattle.mb_mailbox.specs.Imports.{Claim, IsClaimIn, SeatView, Stage, Stream, TableSize, ToClaims, access_of, claim_stage, claims_at, consumer_of, next_u64, note_of, part_on, with_access}
 use Rattle.mb_mailbox.specs.declared.consumer.Poll.{Poll}
 use Rattle.mb_mailbox.specs.declared.place.Place.{Place}
 use Rattle.mb_mailbox.specs.declared.place.Place.TheVariants.{At}

@@ -5,7 +5,7 @@ use Rattle.std.specs.Option.{option_map, option_map_or}
 use Rattle.std.proofs.lemmas.List.{length-map, map-append}
 use Rattle.std.proofs.lemmas.Option.{slice_get-map, slice_get_read}
 use Rattle.mb_mailbox.specs.Gathering.{count_missing, kept_at}
-use Rattle.mb_mailbox.specs.Hubs.{LedgerView}
+use Rattle.mb_mailbox.specs.Hubs.{ConsumerRecordView}
 use Rattle.mb_mailbox.specs.Ledgers.{AreCut, AreCutBelow, HaveLists, KeptView, ledger_in, ledgers_in}
 use Rattle.mb_mailbox.proofs.Lists.{get_within, map_get, map_set, set_get, set_same}
 
@@ -32,10 +32,12 @@ item_there xs ys i x e low is = ap (λ zs. slice_get zs i) (sym e) ∙ slice_get
 
 -- what is kept of one is what its ledger tells
 pub kept_told : (os : List (Option KeptView)) (c : ℕ) → kept_at (ledgers_in os) c ≡ ledger_in (kept_at os c)
-kept_told os c = ap (λ (z : Option (Option LedgerView)). option_map_or (λ (o : Option LedgerView). o) z None)
+kept_told os c = ap (λ (z : Option (Option ConsumerRecordView)). option_map_or
+    (λ (o : Option ConsumerRecordView). o) z None)
     (slice_get-map ledger_in os c) ∙ by (slice_get os c)
   where
-    by : (z : Option (Option KeptView)) → option_map_or (λ (o : Option LedgerView). o) (option_map ledger_in z) None
+    by : (z : Option (Option KeptView)) → option_map_or (λ (o : Option ConsumerRecordView). o)
+        (option_map ledger_in z) None
         ≡ ledger_in (option_map_or (λ (o : Option KeptView). o) z None)
     by None = refl
     by (Some o) = refl
@@ -44,7 +46,7 @@ kept_told os c = ap (λ (z : Option (Option LedgerView)). option_map_or (λ (o :
 pub ledgers_same : (os : List (Option KeptView)) (c : ℕ) (o new : Option KeptView) → slice_get os c ≡ Some o
     → ledger_in new ≡ ledger_in o → ledgers_in (slice_set os c new) ≡ ledgers_in os
 ledgers_same os c o new e same =
-    ledgers_set os c new ∙ ap (λ (l : Option LedgerView). slice_set (ledgers_in os) c l) same
+    ledgers_set os c new ∙ ap (λ (l : Option ConsumerRecordView). slice_set (ledgers_in os) c l) same
     ∙ set_same (ledgers_in os) c (ledger_in o) (map_get ledger_in os c o e)
 
 pub cut_more : (os : List (Option KeptView)) (c : ℕ) (new : Option KeptView) → AreCutBelow c os
@@ -61,6 +63,6 @@ all_cut os n most below c k e =
 
 -- ---- a list for each lane
 pub have_lists : (lanes : ℕ) (os : List (Option KeptView))
-    → ((c : ℕ) (l : LedgerView) → slice_get (ledgers_in os) c ≡ Some (Some l) → length l.notes ≡ lanes)
+    → ((c : ℕ) (l : ConsumerRecordView) → slice_get (ledgers_in os) c ≡ Some (Some l) → length l.notes ≡ lanes)
     → HaveLists lanes os
 have_lists lanes os full c k e = full c k.ledger (map_get ledger_in os c (Some k) e)

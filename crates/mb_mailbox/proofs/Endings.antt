@@ -10,8 +10,8 @@ use Rattle.mb_cells.specs.declared.size.PoolSize.{PoolSize}
 use Rattle.mb_shared_cells.specs.Vocabulary.{IsRollOf}
 use Rattle.mb_shared_cells.specs.declared.views.Roll.{Roll}
 use Rattle.mb_world.specs.Reporting.{values_put}
-use Rattle.mb_mailbox.specs.Below.{END, Has, HasMet, History, IsPoolLawful, Note, Producer, Reader, ReaderSeatView, SeatView, Stream, ToCells, ToClaims}
-use Rattle.mb_mailbox.specs.Below.{WorldHistory, cells_met, claim_accesses, linked_cells, load, part, place_past, pool_accesses}
+use Rattle.mb_mailbox.specs.Imports.{END, Has, HasMet, History, IsPoolLawful, Note, Producer, Reader, ReaderSeatView, SeatView, Stream, ToCells, ToClaims}
+use Rattle.mb_mailbox.specs.Imports.{WorldHistory, cells_met, claim_accesses, linked_cells, load, part, place_past, pool_accesses}
 use Rattle.mb_mailbox.specs.Consumers.{ConsumerView}
 use Rattle.mb_mailbox.specs.Jobs.{HasReadToEnd, IsSameConsumer, accesses_made}
 use Rattle.mb_mailbox.specs.Moves.{HasLoads}

@@ -3,7 +3,7 @@ use Rattle.std.proofs.Common.{◌≡◌, ◌≢◌, ℕ, ◌+◌, Bool, true, fa
 use Rattle.std.specs.Int.{from_bool}
 use Rattle.mb_cells.specs.declared.answer.Look.TheVariants as look
 use Rattle.mb_claim.specs.declared.access.Stage.TheVariants as stage
-use Rattle.mb_mailbox.specs.Below.{Claims, History, Look, Parts, PoolAccess, ReaderSeatView, Stream, ToCells, ToClaims, WorldAccess, WorldHistory, cells_met, link_load, look_of, pool_accesses}
+use Rattle.mb_mailbox.specs.Imports.{Claims, History, Look, Parts, PoolAccess, ReaderSeatView, Stream, ToCells, ToClaims, WorldAccess, WorldHistory, cells_met, link_load, look_of, pool_accesses}
 use Rattle.mb_mailbox.specs.ConsumerStep.{ConsumerStep, competes, link_answer, looks, takes}
 use Rattle.mb_mailbox.specs.Consumers.{ConsumerView}
 use Rattle.mb_mailbox.specs.Jobs.{accesses_made, ends_met, is_ended, tells_end}

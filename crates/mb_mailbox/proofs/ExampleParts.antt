@@ -1,7 +1,7 @@
 -- The parts of the examples: a consumer that has met cell 4 on lane 0, and loaded neither its item nor its link.
 use Rattle.std.proofs.Common.{None, Option, Some, [], inl, inr, refl, ◌∷◌, ◌≡◌, ◌∙◌, ℕ, List}
 use Rattle.mb_cells.specs.Vocabulary.{loaded_by}
-use Rattle.mb_mailbox.specs.Below.{HasRead, Head, Item, Link, ObjectTurn, ToCells, ToClaims, Word, WorldAccess, load}
+use Rattle.mb_mailbox.specs.Imports.{HasRead, Head, Item, Link, ObjectTurn, ToCells, ToClaims, Word, WorldAccess, load}
 use Rattle.mb_mailbox.specs.ConsumerStep.{IsLastMet}
 use Rattle.mb_mailbox.specs.Examples.{met_four}
 

@@ -4,10 +4,10 @@ use Rattle.std.specs.Prelude.{Option, Some, None, slice_get}
 use Rattle.std.specs.Option.{option_map, option_map_or}
 use Rattle.std.proofs.Math.Nat.{mul-le-mul_right}
 use Rattle.mb_world.specs.Report.{DiaryView, LaneView, ReportView}
-use Rattle.mb_mailbox.specs.Below.{CellsName, ClaimTable, Note, claims_at, consumer_count}
+use Rattle.mb_mailbox.specs.Imports.{CellsName, ClaimTable, Note, claims_at, consumer_count}
 use Rattle.mb_mailbox.specs.Filling.{changed_at, changed_from, in_turn, with_items, with_notes, with_row, with_rows}
 use Rattle.mb_mailbox.specs.Gathering.{IsOutlineIn, IsReportIn, diary_in, diary_outline, lane_in, lane_outline}
-use Rattle.mb_mailbox.specs.Hubs.{HubView, IsHub, IsHubOf, LedgerView, PutListView}
+use Rattle.mb_mailbox.specs.Hubs.{HubView, IsHub, IsHubOf, ConsumerRecordView, PutListView}
 use Rattle.mb_mailbox.specs.Mailboxes.{MailboxView}
 use Rattle.mb_mailbox.specs.Steps.{notes_on}
 use Rattle.mb_mailbox.proofs.Listed.{within_grid}
@@ -59,11 +59,12 @@ pub all_length : {X Y : Type 0} (change : Y → X → X) (n : ℕ) (ys : List Y)
 all_length change n ys xs =
     turns_length (λ i y zs. changed_at zs i (change y)) (λ i y zs. changed_length zs i (change y)) n ys xs
 
-pub row_length : (first : ℕ) (o : Option LedgerView) (ds : List DiaryView) → length (with_row first o ds) ≡ length ds
+pub row_length : (first : ℕ) (o : Option ConsumerRecordView) (ds : List DiaryView)
+    → length (with_row first o ds) ≡ length ds
 row_length first None ds = refl
 row_length first (Some l) ds = all_length with_notes first l.notes ds
 
-rows_length : (lanes c : ℕ) (os : List (Option LedgerView)) (ds : List DiaryView)
+rows_length : (lanes c : ℕ) (os : List (Option ConsumerRecordView)) (ds : List DiaryView)
     → length (with_rows lanes c os ds) ≡ length ds
 rows_length lanes c os ds =
     turns_length (λ d o es. with_row (d * lanes) o es) (λ d o es. row_length (d * lanes) o es) c os ds
@@ -120,7 +121,8 @@ none_past (x ∷ xs) (suc k) e = let low = none_past xs k e in omega (arith, low
 
 -- ---- lanes
 put_is : (n p : ℕ) (h : HubView) (z : Option (Option PutListView)) → slice_get h.puts p ≡ z → (xs : List ℕ)
-    → xs ≡ option_map_or (λ (l : PutListView). l.items) (kept_of z) [] → record (lane_in n p h) { put = xs } ≡ lane_in n p h
+    → xs ≡ option_map_or (λ (l : PutListView). l.items) (kept_of z) []
+    → record (lane_in n p h) { put = xs } ≡ lane_in n p h
 put_is n p h z e xs is =
     ap (λ (ys : List ℕ). record (lane_in n p h) { put = ys })
     (is ∙ ap (λ o. option_map_or (λ (l : PutListView). l.items) (kept_of o) []) (sym e))
@@ -143,26 +145,27 @@ lane_told n p h ls out = by (slice_get h.puts p) refl
 
 -- ---- the diaries of one consumer
 -- its diary of lane q, with its notes if it was taken in
-abbrev noted : ℕ → Option LedgerView → Option DiaryView → Option DiaryView
+abbrev noted : ℕ → Option ConsumerRecordView → Option DiaryView → Option DiaryView
 noted q None z = z
 noted q (Some l) z = option_map (with_notes (notes_on q l.notes)) z
 
 -- it has notes for so many lanes
-abbrev IsFull : ℕ → Option LedgerView → Type 0
-IsFull lanes o = (l : LedgerView) → o ≡ Some l → length l.notes ≡ lanes
+abbrev IsFull : ℕ → Option ConsumerRecordView → Type 0
+IsFull lanes o = (l : ConsumerRecordView) → o ≡ Some l → length l.notes ≡ lanes
 
-row_before : (first k : ℕ) (o : Option LedgerView) (ds : List DiaryView) → k < first
+row_before : (first k : ℕ) (o : Option ConsumerRecordView) (ds : List DiaryView) → k < first
     → slice_get (with_row first o ds) k ≡ slice_get ds k
 row_before first k None ds low = refl
 row_before first k (Some l) ds low = before with_notes first k l.notes ds low
 
-row_past : (lanes first k : ℕ) (o : Option LedgerView) (ds : List DiaryView) → IsFull lanes o → first + lanes ≤ k
+row_past : (lanes first k : ℕ) (o : Option ConsumerRecordView) (ds : List DiaryView)
+    → IsFull lanes o → first + lanes ≤ k
     → slice_get (with_row first o ds) k ≡ slice_get ds k
 row_past lanes first k None ds full high = refl
 row_past lanes first k (Some l) ds full high =
     past with_notes first k l.notes ds (let count = full l refl in omega (arith, count, high))
 
-row_within : (lanes first q k : ℕ) (o : Option LedgerView) (ds : List DiaryView) → IsFull lanes o → q < lanes
+row_within : (lanes first q k : ℕ) (o : Option ConsumerRecordView) (ds : List DiaryView) → IsFull lanes o → q < lanes
     → k ≡ first + q → slice_get (with_row first o ds) k ≡ noted q o (slice_get ds k)
 row_within lanes first q k None ds full low at = refl
 row_within lanes first q k (Some l) ds full low at =
@@ -172,13 +175,14 @@ row_within lanes first q k (Some l) ds full low at =
     (sym (ap (λ (z : Option (List Note)). option_map_or (λ (ns : List Note). ns) z []) t.1))
 
 -- ---- the diaries of all
-abbrev pub AreFull : ℕ → List (Option LedgerView) → Type 0
-AreFull lanes os = (c : ℕ) (l : LedgerView) → slice_get os c ≡ Some (Some l) → length l.notes ≡ lanes
+abbrev pub AreFull : ℕ → List (Option ConsumerRecordView) → Type 0
+AreFull lanes os = (c : ℕ) (l : ConsumerRecordView) → slice_get os c ≡ Some (Some l) → length l.notes ≡ lanes
 
-first_full : (lanes : ℕ) (o : Option LedgerView) (os : List (Option LedgerView)) → AreFull lanes (o ∷ os) → IsFull lanes o
+first_full : (lanes : ℕ) (o : Option ConsumerRecordView) (os : List (Option ConsumerRecordView))
+    → AreFull lanes (o ∷ os) → IsFull lanes o
 first_full lanes o os full l e = full 0 l (ap Some e)
 
-rest_full : (lanes : ℕ) (o : Option LedgerView) (os : List (Option LedgerView)) → AreFull lanes (o ∷ os)
+rest_full : (lanes : ℕ) (o : Option ConsumerRecordView) (os : List (Option ConsumerRecordView)) → AreFull lanes (o ∷ os)
     → AreFull lanes os
 rest_full lanes o os full c l e = full (suc c) l e
 
@@ -192,14 +196,14 @@ row_end lanes c m k less high =
     let more = next_row c lanes in
     omega (arith, most, more, high)
 
-rows_before : (lanes c k : ℕ) (os : List (Option LedgerView)) (ds : List DiaryView) → k < c * lanes
+rows_before : (lanes c k : ℕ) (os : List (Option ConsumerRecordView)) (ds : List DiaryView) → k < c * lanes
     → slice_get (with_rows lanes c os ds) k ≡ slice_get ds k
 rows_before lanes c k [] ds low = refl
 rows_before lanes c k (o ∷ os) ds low =
     row_before (c * lanes) k o (with_rows lanes (suc c) os ds) low
     ∙ rows_before lanes (suc c) k os ds (let more = next_row c lanes in omega (arith, low, more))
 
-rows_past : (lanes c k : ℕ) (os : List (Option LedgerView)) (ds : List DiaryView) → AreFull lanes os
+rows_past : (lanes c k : ℕ) (os : List (Option ConsumerRecordView)) (ds : List DiaryView) → AreFull lanes os
     → (c + length os) * lanes ≤ k → slice_get (with_rows lanes c os ds) k ≡ slice_get ds k
 rows_past lanes c k [] ds full high = refl
 rows_past lanes c k (o ∷ os) ds full high =
@@ -208,7 +212,8 @@ rows_past lanes c k (o ∷ os) ds full high =
     (row_end lanes c (c + suc (length os)) k (omega arith) high)
     ∙ rows_past lanes (suc c) k os ds (rest_full lanes o os full) (subst (λ (m : ℕ). m * lanes ≤ k) same high)
 
-rows_within : (lanes c j q k : ℕ) (os : List (Option LedgerView)) (ds : List DiaryView) (o : Option LedgerView)
+rows_within : (lanes c j q k : ℕ) (os : List (Option ConsumerRecordView)) (ds : List DiaryView)
+    (o : Option ConsumerRecordView)
     → AreFull lanes os → slice_get os j ≡ Some o → q < lanes → k ≡ (c + j) * lanes + q
     → slice_get (with_rows lanes c os ds) k ≡ noted q o (slice_get ds k)
 rows_within lanes c j q k [] ds o full e low at = absurd (cc)
@@ -226,19 +231,20 @@ rows_within lanes c (suc j) q k (z ∷ os) ds o full e low at =
     ∙ rows_within lanes (suc c) j q k os ds o (rest_full lanes z os full) e low
     (at ∙ ap (λ m. m * lanes + q) same)
 
-notes_is : (c p : ℕ) (h : HubView) (z : Option (Option LedgerView)) → slice_get h.ledgers c ≡ z → (ns : List Note)
-    → ns ≡ option_map_or (λ (l : LedgerView). notes_on p l.notes) (kept_of z) []
+notes_is : (c p : ℕ) (h : HubView) (z : Option (Option ConsumerRecordView)) → slice_get h.ledgers c
+    ≡ z → (ns : List Note)
+    → ns ≡ option_map_or (λ (l : ConsumerRecordView). notes_on p l.notes) (kept_of z) []
     → record (diary_in c p h) { notes = ns } ≡ diary_in c p h
 notes_is c p h z e ns is =
     ap (λ (ms : List Note). record (diary_in c p h) { notes = ms })
-    (is ∙ ap (λ o. option_map_or (λ (l : LedgerView). notes_on p l.notes) (kept_of o) []) (sym e))
+    (is ∙ ap (λ o. option_map_or (λ (l : ConsumerRecordView). notes_on p l.notes) (kept_of o) []) (sym e))
 
 diary_told : (lanes c p : ℕ) (h : HubView) (ds : List DiaryView) → AreFull lanes h.ledgers → p < lanes
     → slice_get ds (c * lanes + p) ≡ Some (diary_outline c p h)
     → slice_get (with_rows lanes 0 h.ledgers ds) (c * lanes + p) ≡ Some (diary_in c p h)
 diary_told lanes c p h ds full low out = by (slice_get h.ledgers c) refl
   where
-    end : (o : Option LedgerView) → slice_get h.ledgers c ≡ Some o
+    end : (o : Option ConsumerRecordView) → slice_get h.ledgers c ≡ Some o
         → noted p o (Some (diary_outline c p h)) ≡ Some (diary_in c p h)
     end None e = ap Some (notes_is c p h (Some None) e [] refl)
     end (Some l) e = ap Some (notes_is c p h (Some (Some l)) e (notes_on p l.notes) refl)
@@ -252,7 +258,7 @@ diary_told lanes c p h ds full low out = by (slice_get h.ledgers c) refl
     here : c * lanes + p ≡ (0 + c) * lanes + p
     here = let same : c ≡ 0 + c = omega arith in ap (λ m. m * lanes + p) same
 
-    by : (z : Option (Option LedgerView)) → slice_get h.ledgers c ≡ z
+    by : (z : Option (Option ConsumerRecordView)) → slice_get h.ledgers c ≡ z
         → slice_get (with_rows lanes 0 h.ledgers ds) (c * lanes + p) ≡ Some (diary_in c p h)
     by None e =
         rows_past lanes 0 (c * lanes + p) h.ledgers ds full (beyond e) ∙ out ∙ ap Some (notes_is c p h None e [] refl)

@@ -11,7 +11,7 @@ use Rattle.mb_shared_cells.specs.Vocabulary.{IsRollOf}
 use Rattle.mb_shared_cells.specs.declared.views.Roll.{Roll}
 use Rattle.mb_cells.specs.declared.size.PoolSize.{PoolSize}
 use Rattle.mb_world.specs.Reporting.{values_put}
-use Rattle.mb_mailbox.specs.Below.{History, Stream}
+use Rattle.mb_mailbox.specs.Imports.{History, Stream}
 use Rattle.mb_mailbox.specs.Called.{IsCalled, WerePolled}
 use Rattle.mb_mailbox.specs.Consumers.{ConsumerView, IsConsumerOf}
 use Rattle.mb_mailbox.specs.Given.{AreAllGiven, AreGiven}
@@ -25,14 +25,14 @@ use Rattle.mb_mailbox.specs.Runs.{AreEndsAt, AreEndsOf, AreOf, count_stopped, wi
 use Rattle.mb_mailbox.specs.Steps.{notes_on}
 use Rattle.mb_mailbox.specs.Worked.{AreCutByCells, AreStoppedPuts, ConsumerLeft, HaveMetEnds, IsRunOf, IsWorked, LaneLeft, WereTakenIn, WereTakenInEarly, lists_in}
 use Rattle.mb_mailbox.specs.declared.gate.Who.{Who}
-use Rattle.mb_mailbox.specs.declared.working.Worked.{Worked}
-use Rattle.mb_mailbox.specs.declared.working.jobs.PollDone.{PollDone}
-use Rattle.mb_mailbox.specs.declared.working.jobs.PollJob.{PollJob}
-use Rattle.mb_mailbox.specs.declared.working.jobs.PutDone.{PutDone}
-use Rattle.mb_mailbox.specs.declared.working.jobs.PutJob.{PutJob}
-use Rattle.mb_mailbox.specs.declared.working.room.Ends.{Ends}
-use Rattle.mb_mailbox.specs.declared.working.room.Jobs.{Jobs}
-use Rattle.mb_mailbox.specs.declared.working.room.Room.{Room}
+use Rattle.mb_mailbox.specs.declared.crew.Worked.{Worked}
+use Rattle.mb_mailbox.specs.declared.crew.jobs.PollDone.{PollDone}
+use Rattle.mb_mailbox.specs.declared.crew.jobs.PollJob.{PollJob}
+use Rattle.mb_mailbox.specs.declared.crew.jobs.PutDone.{PutDone}
+use Rattle.mb_mailbox.specs.declared.crew.jobs.PutJob.{PutJob}
+use Rattle.mb_mailbox.specs.declared.crew.room.Ends.{Ends}
+use Rattle.mb_mailbox.specs.declared.crew.room.Jobs.{Jobs}
+use Rattle.mb_mailbox.specs.declared.crew.room.WorkerBuffers.{WorkerBuffers}
 use Rattle.mb_mailbox.proofs.Noted.{all_noted}
 use Rattle.mb_mailbox.proofs.Runs.{lane_left, lanes_of, left_by, left_of, nums, run_beyond, run_cut, run_ends, run_met, run_of, run_only, run_passes, run_poll_stops, run_polled, run_stops, run_unread}
 use Rattle.mb_mailbox.proofs.Zips.{zip_length}
@@ -118,7 +118,7 @@ module _ {R Z : Type 0} (m : MailboxView) where
   }
 
 -- there is room for fewer
-pub room_for : {G R Z : Type 0} (a b c d : ℕ) (r : Room G R Z) → c ≤ a → d ≤ b → HasRoom a b r → HasRoom c d r
+pub room_for : {G R Z : Type 0} (a b c d : ℕ) (r : WorkerBuffers G R Z) → c ≤ a → d ≤ b → HasRoom a b r → HasRoom c d r
 room_for a b c d r puts polls h =
     let p = h.puts in
     let q = h.polls in

@@ -3,7 +3,7 @@ use Rattle.std.proofs.Common.{◌≡◌, ℕ, zero, suc, List, [], ◌∷◌, �
 use Rattle.std.specs.Prelude.{Option, Some, None, slice_set}
 use Rattle.std.proofs.lemmas.List.{length-append}
 use Rattle.mb_mailbox.specs.Consumers.{ConsumerView}
-use Rattle.mb_mailbox.specs.Hubs.{HubView, LedgerView, put_list_of, with_consumer, with_producer, with_taken_consumer, with_taken_producer}
+use Rattle.mb_mailbox.specs.Hubs.{HubView, ConsumerRecordView, put_list_of, with_consumer, with_producer, with_taken_consumer, with_taken_producer}
 use Rattle.mb_mailbox.specs.HubRuns.{with_consumers, with_producers, with_taken_consumers, with_taken_producers}
 use Rattle.mb_mailbox.specs.Producers.{ProducerView}
 
@@ -159,7 +159,7 @@ module _ {J K : Type 0} (js : List J) (ks : List K) (ss : List ProducerView)
         ∙ fills (λ (s : ProducerView). s.seat.lane) (λ s. Some s.seat.part) ss h.cells.roll.lanes
         (length h.puts) (sym same) from
 
-  abbrev pub ledger_of : ConsumerView → LedgerView
+  abbrev pub ledger_of : ConsumerView → ConsumerRecordView
   ledger_of s = record { places = s.places; notes = s.notes }
 
   module _ (count : length ks ≡ length cs) where

@@ -3,8 +3,8 @@ use Rattle.std.proofs.Common.{◌≡◌, ◌≢◌, ◌⊎◌, ℕ, ◌+◌, ◌
 use Rattle.std.proofs.lemmas.List.{length-append, length-map, length-reverse}
 use Rattle.mb_cells.specs.Vocabulary.{HasLoaded, entry_at, put_list}
 use Rattle.mb_mailbox.specs.Laws.{Laws}
-use Rattle.mb_mailbox.specs.Below.{END, FollowsLinks, Gave, Has, HasRead, History, IsOnceEach, IsPoolLawful, Item, Link, PoolAccess, PoolSize, Reader}
-use Rattle.mb_mailbox.specs.Below.{Word, cells_met, linked_cells, load, part, place_past}
+use Rattle.mb_mailbox.specs.Imports.{END, FollowsLinks, Gave, Has, HasRead, History, IsOnceEach, IsPoolLawful, Item, Link, PoolAccess, PoolSize, Reader}
+use Rattle.mb_mailbox.specs.Imports.{Word, cells_met, linked_cells, load, part, place_past}
 use Rattle.mb_mailbox.proofs.Totals.{put_total, total, total_most}
 
 -- what the laws give for the loads of a reader in a lawful history

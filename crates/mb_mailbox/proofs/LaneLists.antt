@@ -5,7 +5,7 @@ use Rattle.std.specs.Option.{option_map_or}
 use Rattle.std.proofs.lemmas.Bool.{ne_eqb, eq-eqb}
 use Rattle.std.proofs.lemmas.List.{length-append, length-map}
 use Rattle.std.proofs.lemmas.List.Sums.{sum_by-cons}
-use Rattle.mb_mailbox.specs.Below.{Note, Lost, Took, Undecided}
+use Rattle.mb_mailbox.specs.Imports.{Note, Lost, Took, Undecided}
 use Rattle.mb_mailbox.specs.LaneNotes.{by_lane, lane_of, note_in, noted, on_lane, on_lanes}
 use Rattle.mb_mailbox.specs.Steps.{notes_on, with_note}
 use Rattle.mb_mailbox.specs.declared.notes.Noted.{Noted}

@@ -7,7 +7,7 @@ use Rattle.std.proofs.Math.Nat.{mul-le-mul_right}
 use Rattle.mb_world.specs.Assignment.{items_where}
 use Rattle.mb_world.specs.Report.{DiaryView}
 use Rattle.mb_world.specs.Reporting.{any_below, is_took}
-use Rattle.mb_mailbox.specs.Below.{Note, Took}
+use Rattle.mb_mailbox.specs.Imports.{Note, Took}
 use Rattle.mb_mailbox.specs.Gathering.{AreDiariesOutlined, count_missing, diary_outline}
 use Rattle.mb_mailbox.specs.Hubs.{HubView}
 use Rattle.mb_mailbox.proofs.Turned.{get_end, get_left}
@@ -96,7 +96,8 @@ row_is w c e p q ps qs same = elim (cases_lt e c) [
 ]
 
 pub diaries_more : (w : ℕ) (h : HubView) (c p : ℕ) (d : DiaryView) (ds : List DiaryView) → p < w
-    → AreDiariesOutlined w h (c * w + p) ds → d ≡ diary_outline c p h → AreDiariesOutlined w h (c * w + (p + 1)) (ds ++ d ∷ [])
+    → AreDiariesOutlined w h (c * w + p) ds → d ≡ diary_outline c p h
+    → AreDiariesOutlined w h (c * w + (p + 1)) (ds ++ d ∷ [])
 diaries_more w h c p d ds ps told here = record {
   count = omega (arith, length-append ds (d ∷ []), told.count);
   each = λ e q qs less. elim (cases_lt (e * w + q) (c * w + p)) [

@@ -1,7 +1,7 @@
 -- A poll loads the head of no other lane.
 use Rattle.std.proofs.Common.{◌≡◌, ◌⊎◌, ⊎_elim, ℕ, ◌+◌, ◌<◌, ◌≤◌, List, [], ◌∷◌, ◌++◌, Option, Some, None, inl, inr, length, sym, ap, ◌∙◌, subst, arith}
-use Rattle.mb_mailbox.specs.Below.{Claims, Has, Head, History, Item, Parts, PoolAccess, ReaderSeatView, Stream, ToCells, ToClaims, Word, WorldAccess}
-use Rattle.mb_mailbox.specs.Below.{WorldHistory, cells_met, place_past, pool_accesses}
+use Rattle.mb_mailbox.specs.Imports.{Claims, Has, Head, History, Item, Parts, PoolAccess, ReaderSeatView, Stream, ToCells, ToClaims, Word, WorldAccess}
+use Rattle.mb_mailbox.specs.Imports.{WorldHistory, cells_met, place_past, pool_accesses}
 use Rattle.mb_mailbox.specs.ConsumerStep.{ConsumerStep, competes, looks, takes}
 use Rattle.mb_mailbox.specs.Consumers.{ConsumerView}
 use Rattle.mb_mailbox.specs.Jobs.{IsOnLanes, accesses_made}

@@ -4,8 +4,8 @@ use Rattle.std.specs.Prelude.{Option, Some, None, slice_set}
 use Rattle.mb_claim.specs.declared.access.Stage.TheVariants as stage
 use Rattle.mb_cells.specs.declared.answer.Look.{Look}
 use Rattle.mb_shared_cells.specs.Vocabulary.{ItemMakes, LookMakes}
-use Rattle.mb_mailbox.specs.Below.{CellsName, ClaimAccess, ClaimTable, Cursor, History, Item, Look, Note, ReaderSeatView, SeatView, Stage, Stream}
-use Rattle.mb_mailbox.specs.Below.{ToCells, ToClaims, Took, claims_at, load, look_of, next_u64, note_of, with_access, word_of}
+use Rattle.mb_mailbox.specs.Imports.{CellsName, ClaimAccess, ClaimTable, Cursor, History, Item, Look, Note, ReaderSeatView, SeatView, Stage, Stream}
+use Rattle.mb_mailbox.specs.Imports.{ToCells, ToClaims, Took, claims_at, load, look_of, next_u64, note_of, with_access, word_of}
 use Rattle.mb_mailbox.specs.declared.consumer.Poll.{Poll}
 use Rattle.mb_mailbox.specs.declared.consumer.Poll.TheVariants as poll
 use Rattle.mb_mailbox.specs.Consumers.{ConsumerView, IsConsumerOf, parts_of}

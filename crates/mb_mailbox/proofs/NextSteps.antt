@@ -3,8 +3,8 @@ use Rattle.std.proofs.Common.{◌≡◌, ℕ, ◌∷◌, reverse, refl, ap, subs
 use Rattle.std.specs.Prelude.{Option, Some}
 use Rattle.mb_claim.specs.declared.access.ClaimOp.{ClaimOp}
 use Rattle.mb_claim.specs.declared.access.Stage.TheVariants as stage
-use Rattle.mb_mailbox.specs.Below.{Claim, Claims, Cursor, IsClaimPrefix, Item, Stage, TableSize, ToCells, ToClaims, WorldAccess, access_of, cells_met}
-use Rattle.mb_mailbox.specs.Below.{claim_stage, claims_at, claims_in, consumer_of, load, look_of, part_on, word_of}
+use Rattle.mb_mailbox.specs.Imports.{Claim, Claims, Cursor, IsClaimPrefix, Item, Stage, TableSize, ToCells, ToClaims, WorldAccess, access_of, cells_met}
+use Rattle.mb_mailbox.specs.Imports.{claim_stage, claims_at, claims_in, consumer_of, load, look_of, part_on, word_of}
 use Rattle.mb_mailbox.specs.declared.consumer.Poll.{Poll}
 use Rattle.mb_mailbox.specs.declared.consumer.Poll.TheVariants as poll
 use Rattle.mb_mailbox.specs.declared.place.Place.TheVariants.{At, Before}

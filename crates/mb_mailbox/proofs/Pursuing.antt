@@ -4,7 +4,7 @@ use Rattle.std.specs.Prelude.{Option, Some, None, slice_get, slice_set}
 use Rattle.mb_claim.specs.declared.access.Stage.TheVariants as stage
 use Rattle.mb_cells.specs.declared.cursor.Cursor.TheVariants.{Past}
 use Rattle.mb_shared_cells.specs.Vocabulary.{ItemMakes}
-use Rattle.mb_mailbox.specs.Below.{Claim, Item, Note, ReaderSeatView, SeatView, Stage, Stream, ToCells, Took, claim_stage, claims_at, load, note_of}
+use Rattle.mb_mailbox.specs.Imports.{Claim, Item, Note, ReaderSeatView, SeatView, Stage, Stream, ToCells, Took, claim_stage, claims_at, load, note_of}
 use Rattle.mb_mailbox.specs.declared.consumer.Poll.{Poll}
 use Rattle.mb_mailbox.specs.declared.consumer.Poll.TheVariants as poll
 use Rattle.mb_mailbox.specs.declared.place.Place.{Place}

@@ -8,7 +8,7 @@ use Rattle.mb_cells.specs.declared.access.PoolAct.{PoolAct}
 use Rattle.mb_cells.specs.declared.access.PoolAct.TheVariants.{FetchAdd, Load, Store}
 use Rattle.mb_cells.specs.Vocabulary.{fetch, next_link, store}
 use Rattle.mb_shared_cells.specs.Vocabulary.{CellsName}
-use Rattle.mb_mailbox.specs.Below.{END, Has, History}
+use Rattle.mb_mailbox.specs.Imports.{END, Has, History}
 use Rattle.mb_mailbox.specs.Jobs.{IsFront}
 use Rattle.mb_mailbox.specs.Producers.{FoundNoCell, IsEndOfLane, ProducerView}
 

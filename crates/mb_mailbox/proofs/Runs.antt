@@ -7,7 +7,7 @@ use Rattle.std.proofs.lemmas.List.Sums.{sum_by-cons}
 use Rattle.std.proofs.lemmas.List.Elements.{All-cons, All-head, All-tail}
 use Rattle.mb_cells.specs.Vocabulary.{HasFoundNone}
 use Rattle.mb_shared_cells.specs.Vocabulary.{CellsName}
-use Rattle.mb_mailbox.specs.Below.{Stream}
+use Rattle.mb_mailbox.specs.Imports.{Stream}
 use Rattle.mb_mailbox.specs.Called.{WasPassed, WasPolled, WerePassed, WerePolled}
 use Rattle.mb_mailbox.specs.Calls.{ArePassed}
 use Rattle.mb_mailbox.specs.Consumers.{ConsumerView}
@@ -19,10 +19,10 @@ use Rattle.mb_mailbox.specs.Producers.{FoundNoCell, ProducerView, is_over}
 use Rattle.mb_mailbox.specs.Worked.{AreCutByCells, AreStoppedPolls, AreStoppedPuts, ConsumerLeft, HasMetEnd, HasMetEnds, HaveMetEnds, IsRunOf, IsStoppedPut, LaneLeft, ended_list, items_behind, items_beyond, lists_in}
 use Rattle.mb_mailbox.specs.declared.gate.Who.{Who}
 use Rattle.mb_mailbox.specs.declared.gate.Who.TheVariants as who
-use Rattle.mb_mailbox.specs.declared.working.jobs.PollDone.{PollDone}
-use Rattle.mb_mailbox.specs.declared.working.jobs.PollJob.{PollJob}
-use Rattle.mb_mailbox.specs.declared.working.jobs.PutDone.{PutDone}
-use Rattle.mb_mailbox.specs.declared.working.jobs.PutJob.{PutJob}
+use Rattle.mb_mailbox.specs.declared.crew.jobs.PollDone.{PollDone}
+use Rattle.mb_mailbox.specs.declared.crew.jobs.PollJob.{PollJob}
+use Rattle.mb_mailbox.specs.declared.crew.jobs.PutDone.{PutDone}
+use Rattle.mb_mailbox.specs.declared.crew.jobs.PutJob.{PutJob}
 use Rattle.mb_mailbox.proofs.HubRuns.{CountFrom, after, run_claimed, run_ledgers, run_parts, run_puts, run_readers}
 use Rattle.mb_mailbox.proofs.Zips.{zip_length}
 

@@ -3,8 +3,8 @@ use Rattle.std.proofs.Common.{◌≡◌, ◌≢◌, ℕ, ◌<◌, List, [], ◌�
 use Rattle.std.specs.Prelude.{Option, Some, None, slice_get}
 use Rattle.std.specs.Option.{option_map_or}
 use Rattle.mb_claim.specs.declared.access.Stage.TheVariants as stage
-use Rattle.mb_mailbox.specs.Below.{ClaimAccess, Claims, EndsAs, Fits, HasNotLeft, HasRead, HasStageIn, Has, History, IsClaimIn, IsClaimPrefix, Item}
-use Rattle.mb_mailbox.specs.Below.{Layout, Lost, Note, Parts, Stage, Took, Undecided, cells_met, claims_in, note_of, part_on, place_past}
+use Rattle.mb_mailbox.specs.Imports.{ClaimAccess, Claims, EndsAs, Fits, HasNotLeft, HasRead, HasStageIn, Has, History, IsClaimIn, IsClaimPrefix, Item}
+use Rattle.mb_mailbox.specs.Imports.{Layout, Lost, Note, Parts, Stage, Took, Undecided, cells_met, claims_in, note_of, part_on, place_past}
 use Rattle.mb_mailbox.specs.Consumers.{AreEnds, ConsumerView, IsConsumer, StandsOn, parts_of}
 use Rattle.mb_mailbox.specs.Moves.{moved_to}
 use Rattle.mb_mailbox.specs.Steps.{notes_on, with_note}

@@ -10,11 +10,11 @@ use Rattle.mb_world.specs.Fitting.{parts_of as parts_in}
 use Rattle.mb_world.specs.PartSteps.{no_parts}
 use Rattle.mb_world.specs.Plan.{Histories}
 use Rattle.mb_world.specs.Reporting.{values_put}
-use Rattle.mb_mailbox.specs.Below.{CellsName, ClaimAccess, ClaimTable, Fits, Has, History, Note, Parts, PoolAccess, Producer, Reader, TableSize}
-use Rattle.mb_mailbox.specs.Below.{consumer_part, claims_in, has_ended, linked_cells, part_on}
+use Rattle.mb_mailbox.specs.Imports.{CellsName, ClaimAccess, ClaimTable, Fits, Has, History, Note, Parts, PoolAccess, Producer, Reader, TableSize}
+use Rattle.mb_mailbox.specs.Imports.{consumer_part, claims_in, has_ended, linked_cells, part_on}
 use Rattle.mb_mailbox.specs.Consumers.{StandsOn}
 use Rattle.mb_mailbox.specs.Gathering.{count_missing, ended_in, items_in, kept_at}
-use Rattle.mb_mailbox.specs.Hubs.{HubView, IsHub, IsHubOf, IsLedger, IsPutList, LedgerView, PutListView, parts_by}
+use Rattle.mb_mailbox.specs.Hubs.{HubView, IsHub, IsHubOf, IsLedger, IsPutList, ConsumerRecordView, PutListView, parts_by}
 use Rattle.mb_mailbox.specs.Mailboxes.{MailboxView, plan_at}
 use Rattle.mb_mailbox.specs.declared.place.Place.{Place}
 use Rattle.mb_mailbox.proofs.Lists.{some_same}
@@ -72,7 +72,7 @@ kept_of {X} o = option_map_or (λ (z : Option X). z) o None
 -- ---- consumers
 -- what is kept of consumer c is told by its parts of the histories; one that was never given has done nothing
 pub data Keeps (m : MailboxView) (h : HubView) (hs : Histories) (c : ℕ) : Type 0 where
-  was_in : (l : LedgerView) → kept_at h.ledgers c ≡ Some l
+  was_in : (l : ConsumerRecordView) → kept_at h.ledgers c ≡ Some l
       → length l.places ≡ m.cells.size.lanes → length l.notes ≡ m.cells.size.lanes
       → Fits (plan_at m).claims c (parts_in c hs)
       → ((p : ℕ) (place : Place) (notes : List Note) → slice_get l.places p ≡ Some place
@@ -95,7 +95,8 @@ module _ (m : MailboxView) (h : HubView) (claims : List ClaimAccess) (pool : His
       → part_on c k done ≡ part_on c k claims
   steps c done e k = ap (λ l. part_on c k l) (sym (made c ∙ e)) ∙ cut c k claims
 
-  kept : (c : ℕ) (l : LedgerView) (reads : History) (done : List ClaimAccess) → slice_get h.ledgers c ≡ Some (Some l)
+  kept : (c : ℕ) (l : ConsumerRecordView) (reads : History) (done : List ClaimAccess)
+      → slice_get h.ledgers c ≡ Some (Some l)
       → part (Reader c) pool ≡ reads → taken_part h.claims.roll c ≡ done
       → IsLedger h.claims.table h.cells.table.size.lanes c reads done l → Keeps m h hs c
   kept c l reads done e r d k =

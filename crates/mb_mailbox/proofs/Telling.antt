@@ -8,8 +8,8 @@ use Rattle.mb_cells.specs.declared.answer.Look.TheVariants as look
 use Rattle.mb_cells.specs.Vocabulary.{Entry, entry_at, put_list}
 use Rattle.mb_shared_cells.specs.Vocabulary.{LookMakes}
 use Rattle.mb_world.specs.Reporting.{values_put}
-use Rattle.mb_mailbox.specs.Below.{Claim, ClaimAccess, Cursor, END, HasMet, History, Note, Has, Load, ReaderSeatView, Reader, Stage, cells_met, claims_in}
-use Rattle.mb_mailbox.specs.Below.{has_ended, linked_cells, load, look_of, part, place_past, word_of}
+use Rattle.mb_mailbox.specs.Imports.{Claim, ClaimAccess, Cursor, END, HasMet, History, Note, Has, Load, ReaderSeatView, Reader, Stage, cells_met, claims_in}
+use Rattle.mb_mailbox.specs.Imports.{has_ended, linked_cells, load, look_of, part, place_past, word_of}
 use Rattle.mb_mailbox.specs.declared.consumer.Poll.{Poll}
 use Rattle.mb_mailbox.specs.declared.consumer.Poll.TheVariants as poll
 use Rattle.mb_mailbox.specs.declared.place.Place.TheVariants.{Before}

@@ -3,7 +3,7 @@ use Rattle.std.proofs.Common.{◌≡◌, ℕ, zero, suc, ◌+◌, ◌<◌, ◌�
 use Rattle.std.specs.Prelude.{Some, slice_get, sum_by}
 use Rattle.std.proofs.lemmas.List.Sums.{sum_by-cons}
 use Rattle.mb_cells.specs.Vocabulary.{items_put, put_list}
-use Rattle.mb_mailbox.specs.Below.{History}
+use Rattle.mb_mailbox.specs.Imports.{History}
 
 pub total : (ℕ → ℕ) → ℕ → ℕ
 total f zero = 0

@@ -2,7 +2,7 @@
 use Rattle.std.specs.Prelude.{ℕ, suc, ◌≡◌, ◌+◌, ◌<◌, List, [], ◌∷◌, false, length}
 use Rattle.std.specs.Int.{from_bool}
 use Rattle.std.specs.List.{sum_by}
-use Rattle.mb_mailbox.specs.Below.{Stream}
+use Rattle.mb_mailbox.specs.Imports.{Stream}
 use Rattle.mb_mailbox.specs.Calls.{ArePassed}
 use Rattle.mb_mailbox.specs.Consumers.{ConsumerView}
 use Rattle.mb_mailbox.specs.Hubs.{HubView}
@@ -10,7 +10,7 @@ use Rattle.mb_mailbox.specs.Jobs.{HasPolled, accesses_made}
 use Rattle.mb_mailbox.specs.Worked.{ConsumerLeft, IsRunOf, LaneLeft}
 use Rattle.mb_mailbox.specs.declared.gate.Who.{Who}
 use Rattle.mb_mailbox.specs.declared.gate.Who.TheVariants as who
-use Rattle.mb_mailbox.specs.declared.working.Worked.{Worked}
+use Rattle.mb_mailbox.specs.declared.crew.Worked.{Worked}
 
 -- the gate let the producer of lane p through before each of its calls: one for each item that it put, and one for the
 -- item that found no cell, if there is one

@@ -1,6 +1,6 @@
 -- The calls of workers: which of them the gate let through, and of a consumer what each of them did.
 use Rattle.std.specs.Prelude.{ℕ, ◌≡◌, ◌<◌, ◌≤◌, List, [], ◌∷◌, length}
-use Rattle.mb_mailbox.specs.Below.{Stream}
+use Rattle.mb_mailbox.specs.Imports.{Stream}
 use Rattle.mb_mailbox.specs.Consumers.{ConsumerView}
 use Rattle.mb_mailbox.specs.Steps.{IsPollOf}
 use Rattle.mb_mailbox.specs.declared.consumer.Poll.{Poll}

@@ -2,8 +2,8 @@
 use Rattle.std.specs.Prelude.{ℕ, ◌≡◌, List, ◌∷◌, Option, Some, None}
 use Rattle.mb_claim.specs.declared.access.Stage.TheVariants as stage
 use Rattle.mb_cells.specs.declared.answer.Look.TheVariants as look
-use Rattle.mb_mailbox.specs.Below.{Claims, HasNotLeft, HasStageIn, IsClaimPrefix, Look, MayLookPast, ObjectTurn}
-use Rattle.mb_mailbox.specs.Below.{Parts, Stage, WorldAccess, cells_met, claim_step, item_load, link_load, look_of}
+use Rattle.mb_mailbox.specs.Imports.{Claims, HasNotLeft, HasStageIn, IsClaimPrefix, Look, MayLookPast, ObjectTurn}
+use Rattle.mb_mailbox.specs.Imports.{Parts, Stage, WorldAccess, cells_met, claim_step, item_load, link_load, look_of}
 use Rattle.mb_mailbox.specs.declared.consumer.Poll.{Poll}
 use Rattle.mb_mailbox.specs.declared.consumer.Poll.TheVariants as poll
 

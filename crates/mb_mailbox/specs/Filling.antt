@@ -1,8 +1,8 @@
 -- Lists that are moved into the outline of a report, each to its place.
 use Rattle.std.specs.Prelude.{ℕ, zero, suc, ◌*◌, List, [], ◌∷◌, Option, Some, None}
 use Rattle.mb_world.specs.Report.{DiaryView, LaneView}
-use Rattle.mb_mailbox.specs.Below.{Note}
-use Rattle.mb_mailbox.specs.Hubs.{LedgerView, PutListView}
+use Rattle.mb_mailbox.specs.Imports.{Note}
+use Rattle.mb_mailbox.specs.Hubs.{ConsumerRecordView, PutListView}
 
 -- the list with the element at place n changed, if there is one
 abbrev pub changed_at : {X : Type 0} → List X → ℕ → (X → X) → List X
@@ -29,10 +29,10 @@ abbrev pub with_notes : List Note → DiaryView → DiaryView
 with_notes notes d = record d { notes = notes }
 
 -- the diaries with the notes of a consumer, if it was taken in: its first diary stands at this place
-abbrev pub with_row : ℕ → Option LedgerView → List DiaryView → List DiaryView
+abbrev pub with_row : ℕ → Option ConsumerRecordView → List DiaryView → List DiaryView
 with_row first None ds = ds
 with_row first (Some l) ds = changed_from with_notes first l.notes ds
 
 -- and with those of all from consumer c on, where there are so many lanes
-abbrev pub with_rows : ℕ → ℕ → List (Option LedgerView) → List DiaryView → List DiaryView
+abbrev pub with_rows : ℕ → ℕ → List (Option ConsumerRecordView) → List DiaryView → List DiaryView
 with_rows lanes c os ds = in_turn (λ d o es. with_row (d * lanes) o es) c os ds

@@ -11,7 +11,7 @@ use Rattle.mb_world.specs.Plan.{Histories}
 use Rattle.mb_world.specs.Report.{DiaryView, LaneView, ReportView, note}
 use Rattle.mb_world.specs.Reporting.{IsReportOf, any_below, is_took}
 use Rattle.mb_world.specs.Sound.{AreSound}
-use Rattle.mb_mailbox.specs.Below.{HasFoundNone, History, Note, Undecided, consumer_part, is_begun}
+use Rattle.mb_mailbox.specs.Imports.{HasFoundNone, History, Note, Undecided, consumer_part, is_begun}
 use Rattle.mb_mailbox.specs.Hubs.{HubView}
 use Rattle.mb_mailbox.specs.Mailboxes.{MailboxView, plan_at}
 use Rattle.mb_mailbox.specs.declared.place.Place.{Place}

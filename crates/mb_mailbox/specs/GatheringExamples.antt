@@ -1,7 +1,7 @@
 -- Small reports of one lane with one item, that nobody took.
 use Rattle.std.specs.Prelude.{ℕ, false, List, [], ◌∷◌}
 use Rattle.mb_world.specs.Report.{DiaryView, ReportView}
-use Rattle.mb_mailbox.specs.Below.{Note, Undecided}
+use Rattle.mb_mailbox.specs.Imports.{Note, Undecided}
 
 -- the diary of consumer c on lane 0
 abbrev pub diary_of : ℕ → List Note → DiaryView

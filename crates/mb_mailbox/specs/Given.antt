@@ -3,7 +3,7 @@ use Rattle.std.specs.Prelude.{ℕ, ◌≡◌, ◌≤◌, List, Vec, length, map,
 use Rattle.mb_mailbox.specs.HubRuns.{ArePollJobs, ArePutJobs, ArePutJobsOfFront, with_consumers, with_producers}
 use Rattle.mb_mailbox.specs.Hubs.{HubView}
 use Rattle.mb_mailbox.specs.Mailboxes.{MailboxView}
-use Rattle.mb_mailbox.specs.declared.working.room.Jobs.{Jobs}
+use Rattle.mb_mailbox.specs.declared.crew.room.Jobs.{Jobs}
 
 module _ {R Z : Type 0} where
   -- the jobs are those of a front of these lists, and of so many consumers at most, with the next numbers

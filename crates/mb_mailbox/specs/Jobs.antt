@@ -1,6 +1,6 @@
 -- What the workers of a run are given, and what they give back.
 use Rattle.std.specs.Prelude.{ℕ, suc, ◌≡◌, ◌≢◌, ◌+◌, ◌-◌, ◌*◌, ◌^◌, ◌<◌, ◌≤◌, ◌⊎◌, ◌++◌, Bool, List, [], ◌∷◌, false, length, slice_index_or, true}
-use Rattle.mb_mailbox.specs.Below.{END, Has, HasLoaded, HasMet, Head, History, Link, Load, Look, PoolAccess, PoolAct, Stream, Word, look_of, place_past}
+use Rattle.mb_mailbox.specs.Imports.{END, Has, HasLoaded, HasMet, Head, History, Link, Load, Look, PoolAccess, PoolAct, Stream, Word, look_of, place_past}
 use Rattle.mb_cells.specs.declared.answer.Look.TheVariants as look
 use Rattle.std.specs.Int.{from_bool}
 use Rattle.mb_mailbox.specs.Calls.{ArePassed, HasCalled}
@@ -9,9 +9,9 @@ use Rattle.mb_mailbox.specs.Producers.{FoundNoCell, IsSameLane, is_over}
 use Rattle.mb_mailbox.specs.Steps.{notes_on}
 use Rattle.mb_mailbox.specs.declared.gate.Who.{Who}
 use Rattle.mb_mailbox.specs.declared.gate.Who.TheVariants as who
-use Rattle.mb_mailbox.specs.declared.working.jobs.PollDone.{PollDone}
-use Rattle.mb_mailbox.specs.declared.working.jobs.PutDone.{PutDone}
-use Rattle.mb_mailbox.specs.declared.working.jobs.PutJob.{PutJob}
+use Rattle.mb_mailbox.specs.declared.crew.jobs.PollDone.{PollDone}
+use Rattle.mb_mailbox.specs.declared.crew.jobs.PutDone.{PutDone}
+use Rattle.mb_mailbox.specs.declared.crew.jobs.PutJob.{PutJob}
 
 -- a worker is stopped before this call of it: there the gate may stop it, or it is call 2^64 - 1
 abbrev pub IsStopBefore : (Who → ℕ → Type 0) → Who → ℕ → Type 0

@@ -1,8 +1,8 @@
 -- The notes of a consumer in the order of time, each beside its lane, as marks and words; and cut by lane.
 use Rattle.std.specs.Prelude.{ℕ, zero, suc, ◌≡◌, ◌+◌, ◌^◌, ◌≤◌, List, [], ◌∷◌, if◌then◌else◌, length, nat_eq, nat_lt, slice_get, sum_by}
 use Rattle.std.specs.Option.{option_map_or}
-use Rattle.mb_mailbox.specs.Below.{Note}
-use Rattle.mb_mailbox.specs.Below.{Took, Lost, Undecided}
+use Rattle.mb_mailbox.specs.Imports.{Note}
+use Rattle.mb_mailbox.specs.Imports.{Took, Lost, Undecided}
 use Rattle.mb_mailbox.specs.declared.notes.Mark.{Mark}
 use Rattle.mb_mailbox.specs.declared.notes.Mark.TheVariants as mark
 use Rattle.mb_mailbox.specs.declared.notes.Noted.{Noted}

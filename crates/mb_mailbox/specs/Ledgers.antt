@@ -1,14 +1,14 @@
 -- How the notes of a consumer that was taken in are kept: as marks and words, or cut by lane. A hub does not tell which.
 use Rattle.std.specs.Prelude.{ℕ, ◌≡◌, ◌<◌, Bool, true, false, List, Option, Some, length, map, slice_get}
 use Rattle.std.specs.Option.{option_map}
-use Rattle.mb_mailbox.specs.Below.{Note}
-use Rattle.mb_mailbox.specs.Hubs.{LedgerView}
+use Rattle.mb_mailbox.specs.Imports.{Note}
+use Rattle.mb_mailbox.specs.Hubs.{ConsumerRecordView}
 use Rattle.mb_mailbox.specs.declared.taken.Kept.{Kept}
 use Rattle.mb_mailbox.specs.declared.taken.Kept.TheVariants as kept
 
 -- a ledger, and whether its notes are cut
 pub record KeptView : Type 0 where
-  pub ledger : LedgerView
+  pub ledger : ConsumerRecordView
   pub is_cut : Bool
 
 -- the notes on each lane
@@ -21,11 +21,11 @@ is_cut_in (kept.Marked notes) = false
 is_cut_in (kept.Cut lists) = true
 
 -- the ledger, if there is one
-abbrev pub ledger_in : Option KeptView → Option LedgerView
+abbrev pub ledger_in : Option KeptView → Option ConsumerRecordView
 ledger_in o = option_map (λ k. k.ledger) o
 
 -- the ledgers, as the hub tells them
-abbrev pub ledgers_in : List (Option KeptView) → List (Option LedgerView)
+abbrev pub ledgers_in : List (Option KeptView) → List (Option ConsumerRecordView)
 ledgers_in os = map ledger_in os
 
 -- the notes of each of the first n that is there are cut

@@ -1,4 +1,4 @@
-pub mod Below
+pub mod Imports
 pub mod Mailboxes
 pub mod Consumers
 pub mod ConsumerStep

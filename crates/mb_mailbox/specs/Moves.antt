@@ -1,8 +1,8 @@
 -- How a consumer moves on by one access.
 use Rattle.std.specs.Prelude.{ℕ, ◌≡◌, List, ◌∷◌, Option, Some, slice_get, slice_set}
 use Rattle.mb_shared_cells.specs.Vocabulary.{HasHistory}
-use Rattle.mb_mailbox.specs.Below.{Claim, ClaimAccess, History, IsClaimIn, Item, Note}
-use Rattle.mb_mailbox.specs.Below.{ObjectTurn, Reader, TableSize, load, word_of, Cursor}
+use Rattle.mb_mailbox.specs.Imports.{Claim, ClaimAccess, History, IsClaimIn, Item, Note}
+use Rattle.mb_mailbox.specs.Imports.{ObjectTurn, Reader, TableSize, load, word_of, Cursor}
 use Rattle.mb_mailbox.specs.Consumers.{ConsumerView}
 use Rattle.mb_mailbox.specs.Steps.{with_note}
 use Rattle.mb_mailbox.specs.declared.place.Place.{Place}

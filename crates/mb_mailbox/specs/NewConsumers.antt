@@ -1,7 +1,7 @@
 -- The places and the notes of a consumer that has done nothing.
 use Rattle.std.specs.Prelude.{ℕ, ◌≡◌, ◌≤◌, List, [], Some, Vec, length, slice_get}
 use Rattle.mb_cells.specs.declared.cursor.Cursor.TheVariants.{Head}
-use Rattle.mb_mailbox.specs.Below.{Note}
+use Rattle.mb_mailbox.specs.Imports.{Note}
 use Rattle.mb_mailbox.specs.LaneNotes.{NotesView}
 use Rattle.mb_mailbox.specs.declared.place.Place.{Place}
 use Rattle.mb_mailbox.specs.declared.place.Place.TheVariants.{Before}

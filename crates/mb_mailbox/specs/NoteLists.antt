@@ -3,7 +3,7 @@
 use Rattle.std.specs.Prelude.{ℕ, ◌≡◌, ◌<◌, ◌≤◌, Option, length, sum_by}
 use Rattle.mb_claim.specs.declared.access.Stage.TheVariants as stage
 use Rattle.mb_cells.specs.declared.cursor.Cursor.TheVariants.{Past}
-use Rattle.mb_mailbox.specs.Below.{Claim, Note, Stage}
+use Rattle.mb_mailbox.specs.Imports.{Claim, Note, Stage}
 use Rattle.mb_mailbox.specs.LaneNotes.{NotesView}
 use Rattle.mb_mailbox.specs.Steps.{with_note}
 use Rattle.mb_mailbox.specs.declared.place.Place.{Place}

@@ -3,7 +3,7 @@ use Rattle.std.specs.Prelude.{ℕ, ◌≡◌, ◌+◌, ◌<◌, ◌≤◌, ◌++
 use Rattle.mb_cells.specs.Vocabulary.{HasFoundNone, fetch, next_link, push_store, store}
 use Rattle.mb_shared_cells.specs.Vocabulary.{LaneSeatView}
 use Rattle.mb_world.specs.Reporting.{values_put}
-use Rattle.mb_mailbox.specs.Below.{END, Item, has_ended}
+use Rattle.mb_mailbox.specs.Imports.{END, Item, has_ended}
 use Rattle.mb_mailbox.specs.Mailboxes.{MailboxView}
 
 -- its seat, and the items, the first put first

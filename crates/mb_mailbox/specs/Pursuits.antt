@@ -1,6 +1,6 @@
 -- A poll that keeps the claim of its lane in a variable, while the place there is behind.
 use Rattle.std.specs.Prelude.{ℕ, ◌≡◌, ◌≢◌, ◌+◌, ◌≤◌, List, slice_set}
-use Rattle.mb_mailbox.specs.Below.{Claim, ReaderSeatView, SeatView, Stream, claim_stage, note_of}
+use Rattle.mb_mailbox.specs.Imports.{Claim, ReaderSeatView, SeatView, Stream, claim_stage, note_of}
 use Rattle.mb_mailbox.specs.declared.consumer.Poll.{Poll}
 use Rattle.mb_mailbox.specs.declared.consumer.Poll.TheVariants as poll
 use Rattle.mb_mailbox.specs.declared.place.Place.{Place}

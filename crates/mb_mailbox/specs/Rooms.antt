@@ -1,8 +1,8 @@
 -- Room for the workers of a run.
 use Rattle.std.specs.Prelude.{ℕ, ◌≡◌, ◌≤◌, [], vec_capacity}
-use Rattle.mb_mailbox.specs.declared.working.room.Ends.{Ends}
-use Rattle.mb_mailbox.specs.declared.working.room.Jobs.{Jobs}
-use Rattle.mb_mailbox.specs.declared.working.room.Room.{Room}
+use Rattle.mb_mailbox.specs.declared.crew.room.Ends.{Ends}
+use Rattle.mb_mailbox.specs.declared.crew.room.Jobs.{Jobs}
+use Rattle.mb_mailbox.specs.declared.crew.room.WorkerBuffers.{WorkerBuffers}
 
 module _ {Z : Type 0} where
   -- no job yet, and room for so many
@@ -19,7 +19,7 @@ module _ {Z : Type 0} where
     pub puts : lists ≤ vec_capacity e.puts
     pub polls : sources ≤ vec_capacity e.polls
 
-  pub record HasRoom {G R : Type 0} (lists sources : ℕ) (r : Room G R Z) : Type 0 where
+  pub record HasRoom {G R : Type 0} (lists sources : ℕ) (r : WorkerBuffers G R Z) : Type 0 where
     pub no_puts : r.puts.items ≡ []
     pub no_polls : r.polls.items ≡ []
     pub puts : lists ≤ vec_capacity r.puts

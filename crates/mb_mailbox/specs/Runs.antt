@@ -2,7 +2,7 @@
 use Rattle.std.specs.Prelude.{ℕ, ◌≡◌, ◌+◌, false, map}
 use Rattle.std.specs.Int.{from_bool}
 use Rattle.std.specs.List.{All, AllZip, sum_by}
-use Rattle.mb_mailbox.specs.Below.{Stream}
+use Rattle.mb_mailbox.specs.Imports.{Stream}
 use Rattle.mb_mailbox.specs.Consumers.{IsConsumerOf}
 use Rattle.mb_mailbox.specs.HubRuns.{with_taken_consumers, with_taken_producers}
 use Rattle.mb_mailbox.specs.Hubs.{HubView}
@@ -10,8 +10,8 @@ use Rattle.mb_mailbox.specs.Jobs.{IsPollEnd, IsPutEnd}
 use Rattle.mb_mailbox.specs.Mailboxes.{MailboxView}
 use Rattle.mb_mailbox.specs.Producers.{IsProducerOf}
 use Rattle.mb_mailbox.specs.declared.gate.Who.{Who}
-use Rattle.mb_mailbox.specs.declared.working.room.Ends.{Ends}
-use Rattle.mb_mailbox.specs.declared.working.room.Jobs.{Jobs}
+use Rattle.mb_mailbox.specs.declared.crew.room.Ends.{Ends}
+use Rattle.mb_mailbox.specs.declared.crew.room.Jobs.{Jobs}
 
 module _ {R Z : Type 0} where
   -- all of them are of the mailbox

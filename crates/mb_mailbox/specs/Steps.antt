@@ -3,9 +3,9 @@ use Rattle.std.specs.Prelude.{ℕ, ◌≡◌, ◌≢◌, ◌++◌, ◌≤◌, Bo
 use Rattle.std.specs.Prelude.{Option, Some, None, length, map, slice_get, slice_set}
 use Rattle.std.specs.Option.{option_map_or}
 use Rattle.mb_world.specs.Reporting.{values_put}
-use Rattle.mb_mailbox.specs.Below.{END, HasRead, History, Lost, Note, Parts, Stream, Took, Undecided}
-use Rattle.mb_mailbox.specs.Below.{WorldAccess, WorldHistory, cells_met, claim_accesses, claims_at}
-use Rattle.mb_mailbox.specs.Below.{has_ended, linked_cells, next_u64, place_past, pool_accesses}
+use Rattle.mb_mailbox.specs.Imports.{END, HasRead, History, Lost, Note, Parts, Stream, Took, Undecided}
+use Rattle.mb_mailbox.specs.Imports.{WorldAccess, WorldHistory, cells_met, claim_accesses, claims_at}
+use Rattle.mb_mailbox.specs.Imports.{has_ended, linked_cells, next_u64, place_past, pool_accesses}
 use Rattle.mb_mailbox.specs.declared.consumer.Poll.{Poll}
 use Rattle.mb_mailbox.specs.declared.consumer.Poll.TheVariants as poll
 use Rattle.mb_mailbox.specs.Consumers.{ConsumerView, parts_of}
@@ -18,8 +18,8 @@ AreDrawn s [] t = t ≡ s
 AreDrawn s (w ∷ ws) t = (u : Stream) × AreDrawn s ws u × ((w, t) ≡ next_u64 u)
 
 -- the random words of the claims' accesses among these
-abbrev pub words_of : WorldHistory → List ℕ
-words_of done = map (λ a. a.step.turn.word) (claim_accesses done)
+abbrev pub drawn_words : WorldHistory → List ℕ
+drawn_words done = map (λ a. a.step.turn.word) (claim_accesses done)
 
 -- ---- accesses in a row
 -- the parts of a consumer after these accesses, the newest first
@@ -68,7 +68,7 @@ pub record IsStep (p : ℕ) (answer : Option Poll) (s t : Stream) (old new : Con
   pub access : WorldAccess
   pub done : HasDone p (access ∷ []) answer old new
   pub leads : LeadTo p answer (access ∷ []) old
-  pub drawn : AreDrawn s (words_of (access ∷ [])) t
+  pub drawn : AreDrawn s (drawn_words (access ∷ [])) t
 
 -- so many steps on lane p, of which the last comes to this answer, or to none yet
 pub record AreSteps (p n : ℕ) (answer : Option Poll) (s t : Stream) (old new : ConsumerView)
@@ -76,7 +76,7 @@ pub record AreSteps (p n : ℕ) (answer : Option Poll) (s t : Stream) (old new :
   pub accesses : WorldHistory
   pub done : HasDone p accesses answer old new
   pub lead : LeadTo p answer accesses old
-  pub drawn : AreDrawn s (words_of accesses) t
+  pub drawn : AreDrawn s (drawn_words accesses) t
   pub count : length accesses ≡ n
 
 -- what the accesses of a poll come to: to its answer, or to none where it is spent
@@ -94,7 +94,7 @@ pub record IsPollOf (p budget : ℕ) (answer : Poll) (s t : Stream) (old new : C
   -- each is the next one on the lane, and the poll ends with the first that comes to an answer
   pub lead : LeadTo p (outcome answer) accesses old
   -- the source is left after one word for each access of a claim
-  pub drawn : AreDrawn s (words_of accesses) t
+  pub drawn : AreDrawn s (drawn_words accesses) t
   -- there are no more accesses than the budget, and just as many where it is spent
   pub within : length accesses ≤ budget
   pub spent : answer ≡ poll.Spent → length accesses ≡ budget

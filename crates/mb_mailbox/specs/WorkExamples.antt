@@ -3,9 +3,9 @@ use Rattle.std.specs.Prelude.{ℕ, List, Some, [], ◌∷◌, false, true}
 use Rattle.mb_cells.specs.Vocabulary.{fetch, new_lane, pool_size, store}
 use Rattle.mb_cells.specs.declared.lane.Lane.{Lane}
 use Rattle.mb_cells.specs.declared.lane.LaneStage.TheVariants as stage
-use Rattle.mb_mailbox.specs.Below.{CellsName, Head, History, Item, Note}
+use Rattle.mb_mailbox.specs.Imports.{CellsName, Head, History, Item, Note}
 use Rattle.mb_mailbox.specs.Consumers.{ConsumerView}
-use Rattle.mb_mailbox.specs.Hubs.{LedgerView}
+use Rattle.mb_mailbox.specs.Hubs.{ConsumerRecordView}
 use Rattle.mb_mailbox.specs.Producers.{ProducerView}
 use Rattle.mb_mailbox.specs.Worked.{ConsumerLeft, LaneLeft}
 use Rattle.mb_mailbox.specs.declared.gate.Who.{Who}
@@ -46,7 +46,7 @@ abbrev pub stopped_lane : List ℕ → History → LaneLeft
 stopped_lane items done = record { put = items; part = done; stopped = true }
 
 -- a ledger with these notes on lane 0
-abbrev pub ledger_with : List Note → LedgerView
+abbrev pub ledger_with : List Note → ConsumerRecordView
 ledger_with notes = record { places = []; notes = notes ∷ [] }
 
 -- what a consumer left that was stopped, and has loaded this of the cells

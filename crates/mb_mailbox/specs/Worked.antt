@@ -3,14 +3,14 @@ use Rattle.std.specs.Prelude.{ℕ, suc, ◌≡◌, ◌+◌, ◌-◌, ◌^◌, �
 use Rattle.std.specs.Int.{from_bool}
 use Rattle.std.specs.List.{All, AllZip, sum_by}
 use Rattle.mb_cells.specs.Vocabulary.{HasFoundNone}
-use Rattle.mb_mailbox.specs.Below.{ClaimAccess, END, HasLoaded, HasMet, History, consumer_count, place_past}
-use Rattle.mb_mailbox.specs.Hubs.{HubView, LedgerView, PutListView}
+use Rattle.mb_mailbox.specs.Imports.{ClaimAccess, END, HasLoaded, HasMet, History, consumer_count, place_past}
+use Rattle.mb_mailbox.specs.Hubs.{HubView, ConsumerRecordView, PutListView}
 use Rattle.mb_mailbox.specs.Jobs.{IsFront, IsOnLanes, IsStopBefore, IsStoppedPoll, count_marks, ends_met}
 use Rattle.mb_mailbox.specs.Mailboxes.{MailboxView}
 use Rattle.mb_mailbox.specs.Steps.{notes_on}
 use Rattle.mb_mailbox.specs.declared.gate.Who.{Who}
 use Rattle.mb_mailbox.specs.declared.gate.Who.TheVariants as who
-use Rattle.mb_mailbox.specs.declared.working.Worked.{Worked}
+use Rattle.mb_mailbox.specs.declared.crew.Worked.{Worked}
 
 -- there are more lists, or more sources, than numbers are left
 abbrev pub AsksTooMany : MailboxView → ℕ → ℕ → HubView → Type 0
@@ -25,7 +25,7 @@ pub record LaneLeft : Type 0 where
 
 -- what a consumer that was taken in left: its ledger, and its two parts; and whether it was stopped
 pub record ConsumerLeft : Type 0 where
-  pub ledger : LedgerView
+  pub ledger : ConsumerRecordView
   pub reads : History
   pub claimed : List ClaimAccess
   pub stopped : Bool
@@ -88,7 +88,7 @@ AreCutByCells cells p _ _ = ⊥
 
 -- ---- notes
 -- on the lanes from p on the consumer has a note at each item
-abbrev pub HasNoteAtEach : ℕ → List LaneLeft → LedgerView → Type 0
+abbrev pub HasNoteAtEach : ℕ → List LaneLeft → ConsumerRecordView → Type 0
 HasNoteAtEach p [] ledger = Unit {0}
 HasNoteAtEach p (l ∷ ls) ledger = (length (notes_on p ledger.notes) ≡ length l.put) × HasNoteAtEach (suc p) ls ledger
 

@@ -1,8 +1,8 @@
 //! A consumer of a mailbox.
-mod moving;
+mod moves;
 mod places;
-mod polling;
-mod pursuing;
+mod polls;
+mod pursuit;
 
 use crate::notes::Notes;
 use crate::place::Place;
@@ -64,7 +64,7 @@ impl<A: Allocator + Drop> Model for Consumer<A> {
 }
 
 impl<A: Allocator + Drop> Consumer<A> {
-    ghost use Rattle.mb_mailbox.specs.Below.{IsLawfulPart, claims_at};
+    ghost use Rattle.mb_mailbox.specs.Imports.{IsLawfulPart, claims_at};
     ghost use Rattle.mb_mailbox.specs.Consumers.{IsConsumer};
     ghost use Rattle.mb_mailbox.specs.Moves.{HasLoads};
 

@@ -1,15 +1,15 @@
 //! The end of a mailbox: the report of all that was taken in.
-mod cutting;
+mod cut;
 mod draft;
-mod filling;
-mod reporting;
+mod fill;
+mod reports;
 mod sound;
 
 ghost use Rattle.std.specs.Prelude.{◌≡◌, ◌≤◌, length};
 ghost use Rattle.mb_mailbox.specs.Gathering.{count_missing};
 
-use crate::gather::cutting::CutHub;
-use crate::gather::filling::{fill_diaries, fill_lanes};
+use crate::gather::cut::CutHub;
+use crate::gather::fill::{fill_diaries, fill_lanes};
 use crate::hub::Hub;
 use crate::mailbox::Mailbox;
 pub use draft::Draft;
@@ -46,7 +46,7 @@ impl Error for GatherFault {}
 impl<A: Allocator + Clone + Drop> Mailbox<A> {
     ghost use Rattle.std.specs.Prelude.{◌≡◌, ◌+◌, ◌<◌, Err, IfErr, IfOk};
     ghost use Rattle.mb_mailbox.specs.declared.gather.GatherFault.TheVariants.{Missing, NoMemory};
-    ghost use Rattle.mb_mailbox.specs.Below.{consumer_count};
+    ghost use Rattle.mb_mailbox.specs.Imports.{consumer_count};
     ghost use Rattle.mb_mailbox.specs.Gathering.{FullTakesAll, IsGathered, IsReportIn, UndecidedHasCompany, count_missing};
     ghost use Rattle.mb_mailbox.specs.Hubs.{IsHubOf};
 

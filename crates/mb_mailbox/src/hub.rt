@@ -8,7 +8,7 @@ use crate::notes::Notes;
 use crate::place::Place;
 use crate::producer::Producer;
 use crate::spare::trim;
-use crate::taken::{Kept, Ledger, PutList};
+use crate::taken::{ConsumerRecord, Kept, PutList};
 use arrayvec::ArrayVec;
 use mb_cells::Cursor;
 use mb_cells::laws::{lanes_share_cells, parts_tell_lanes};
@@ -47,12 +47,12 @@ pub struct Hub<A: Allocator + Drop> {
     pub(crate) cells: CellHub,
     pub(crate) claims: ClaimHub,
     pub(crate) puts: Vec<Option<PutList<A>>, A>,
-    pub(crate) ledgers: Vec<Option<Ledger<A>>, A>,
+    pub(crate) ledgers: Vec<Option<ConsumerRecord<A>>, A>,
 }
 
 impl<A: Allocator + Drop> Model for Hub<A> {
     ghost use Rattle.std.specs.Prelude.{◌≤◌, vec_capacity};
-    ghost use Rattle.mb_mailbox.specs.Below.{claims_at};
+    ghost use Rattle.mb_mailbox.specs.Imports.{claims_at};
     ghost use Rattle.mb_mailbox.specs.Hubs.{HubView, IsHub};
     ghost use Rattle.mb_mailbox.specs.Ledgers.{ledgers_in};
 
@@ -79,7 +79,7 @@ impl<A: Allocator + Drop> Hub<A> {
     ghost use Rattle.std.specs.Prelude.{◌≡◌, ◌↔◌, ◌≤◌, Err, IfOk, None, OnErr, Some, length, slice_get};
     ghost use Rattle.mb_mailbox.specs.declared.hub.HubFault.TheVariants.{AllGiven};
     ghost use Rattle.mb_shared_cells.specs.Vocabulary.{IsRollOf};
-    ghost use Rattle.mb_mailbox.specs.Below.{History};
+    ghost use Rattle.mb_mailbox.specs.Imports.{History};
     ghost use Rattle.mb_mailbox.specs.Consumers.{IsConsumerOf};
     ghost use Rattle.mb_mailbox.specs.Hubs.{IsHub, IsHubOf, new_producer, with_producer};
     ghost use Rattle.mb_mailbox.specs.Hubs.{with_taken_consumer, with_taken_producer};
@@ -173,14 +173,14 @@ impl<A: Allocator + Drop> Hub<A> {
         mailbox.cells.take_reader(&mut self.cells, reader);
         mailbox.claims.take_in(&mut self.claims, seat);
         let notes = Kept::Marked(notes);
-        self.ledgers[number as usize] = Some(Ledger { places, notes });
+        self.ledgers[number as usize] = Some(ConsumerRecord { places, notes });
     }
 }
 
 impl<A: Allocator + Clone + Drop> Hub<A> {
     ghost use Rattle.std.specs.Prelude.{◌≡◌, ◌↔◌, ◌≤◌, Err, IfOk, OnErr, length};
     ghost use Rattle.mb_mailbox.specs.declared.hub.HubFault.TheVariants.{AllGiven};
-    ghost use Rattle.mb_mailbox.specs.Below.{consumer_count};
+    ghost use Rattle.mb_mailbox.specs.Imports.{consumer_count};
     ghost use Rattle.mb_mailbox.specs.Hubs.{IsHubOf, IsNewConsumer, with_consumer};
 
     /// The consumer of the next number, which has done nothing. Numbers are given in order, from 0 on.

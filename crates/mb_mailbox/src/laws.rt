@@ -1,7 +1,7 @@
 //! Laws of what a hub has taken in, and of what is gathered. The functions compute nothing: their contracts are the laws.
 ghost use Rattle.std.specs.Prelude.{ℕ, ◌≡◌, ◌≢◌, ◌≤◌, List, [], ◌∷◌, Some, None, false, true, length, map, slice_get};
 ghost use Rattle.mb_claim.specs.Vocabulary.{shape_of};
-ghost use Rattle.mb_mailbox.specs.Below.{Claim, Note, Stream, Undecided, has_ended};
+ghost use Rattle.mb_mailbox.specs.Imports.{Claim, Note, Stream, Undecided, has_ended};
 ghost use Rattle.mb_mailbox.specs.Calls.{AreCalls, Call};
 ghost use Rattle.mb_mailbox.specs.Consumers.{ConsumerView, IsConsumer};
 ghost use Rattle.mb_mailbox.specs.Gathering.{UndecidedHasCompany, begun_in, count_missing, ended_in, has_begun_at};

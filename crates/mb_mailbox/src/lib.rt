@@ -31,6 +31,8 @@
 #![tactic(auto)]
 
 mod consumer;
+mod creation;
+mod crew;
 pub mod examples;
 mod gate;
 mod gather;
@@ -38,17 +40,15 @@ mod hub;
 pub mod laws;
 mod mailbox;
 mod notes;
-mod opening;
 mod place;
 mod producer;
 mod spare;
 mod taken;
-mod working;
 
 pub use consumer::{Consumer, Poll};
+pub use crew::{WorkFault, Worked, consumers_left, lanes_left, work};
 pub use gate::{Gate, OpenGate, Who};
 pub use gather::{Draft, GatherFault};
 pub use hub::{Hub, HubFault};
 pub use mailbox::Mailbox;
 pub use producer::{Producer, Put};
-pub use working::{WorkFault, Worked, consumers_left, lanes_left, work};

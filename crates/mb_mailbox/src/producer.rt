@@ -1,10 +1,10 @@
 //! A producer of a mailbox.
-mod moving;
+mod moves;
 
 use crate::mailbox::Mailbox;
 use mb_cells::{Finish, Offer};
 use mb_shared_cells::LaneSeat;
-use moving::producers_move_on;
+use moves::producers_move_on;
 use std::alloc::Allocator;
 use std::marker::Model;
 

@@ -32,12 +32,12 @@ pub(crate) enum Kept<A: Allocator + Drop> {
 
 /// What is kept of a consumer that was taken in: where it stands on each lane, and its notes there.
 #[derive(Drop)]
-pub(crate) struct Ledger<A: Allocator + Drop> {
+pub(crate) struct ConsumerRecord<A: Allocator + Drop> {
     pub(crate) places: ArrayVec<Place, 16>,
     pub(crate) notes: Kept<A>,
 }
 
-impl<A: Allocator + Drop> Model for Ledger<A> {
+impl<A: Allocator + Drop> Model for ConsumerRecord<A> {
     ghost use Rattle.mb_mailbox.specs.Ledgers.{KeptView, is_cut_in, lists_in};
 
     ghost Value = { KeptView };
@@ -48,7 +48,7 @@ impl<A: Allocator + Drop> Model for Ledger<A> {
     } };
 }
 
-impl<A: Allocator + Drop> Ledger<A> {
+impl<A: Allocator + Drop> ConsumerRecord<A> {
     ghost use Rattle.std.specs.Prelude.{◌≡◌, false, map, slice_get, true};
     ghost use Rattle.std.specs.Option.{option_map_or};
     ghost use Rattle.mb_mailbox.specs.Gathering.{has_begun_at};
@@ -113,7 +113,7 @@ impl<A: Allocator + Drop> Ledger<A> {
     }
 }
 
-impl<A: Allocator + Clone + Drop> Ledger<A> {
+impl<A: Allocator + Clone + Drop> ConsumerRecord<A> {
     ghost use Rattle.std.specs.Prelude.{◌≡◌, IfOk, OnErr, true};
 
     /// Cuts the notes by lane. Their marks and words go back to the allocator.

@@ -10,7 +10,7 @@ use Rattle.mb_deciding.specs.declared.trace.Fault.{Fault}
 use Rattle.mb_deciding.specs.declared.trace.Fault.TheVariants as refusal
 use Rattle.mb_deciding.specs.Vocabulary.{refusal_of}
 use Rattle.mb_script.specs.declared.transfer.TheConstants.{MAX_SCRIPT_LEN}
-use Rattle.mb_script.specs.Vocabulary.{has_empty, lines_of, number_of, numbers_of, table_named, words_of}
+use Rattle.mb_script.specs.Vocabulary.{has_empty, lines_of, number_of, numbers_of, table_named, words_in_line}
 use Rattle.mb_script.proofs.AboutLines.{For, for_bind, for_cond, for_option}
 use Rattle.mb_program.specs.declared.fault.RatifyFault.{RatifyFault}
 use Rattle.mb_program.specs.declared.fault.RatifyFault.TheVariants.{TooLong, NotAscii, BadLine, BadNumber}
@@ -30,7 +30,7 @@ IsOther e = e ≡ TooLong → ⊥
 other_in_line : (n : ℕ) (lines : List (List ℕ)) → For IsOther (line_words n lines)
 unfolding line_words
 other_in_line n [] = λ is. absurd (cc)
-other_in_line n (line ∷ rest) = for_cond IsOther (has_empty (words_of line)) _ _ (λ is. absurd (cc)) tt
+other_in_line n (line ∷ rest) = for_cond IsOther (has_empty (words_in_line line)) _ _ (λ is. absurd (cc)) tt
 
 other_in_head : (words : List (List ℕ)) → For IsOther (head_of words)
 unfolding head_of

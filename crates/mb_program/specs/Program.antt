@@ -6,7 +6,7 @@ use Rattle.clap.specs.declared.error.ErrorKind.{ErrorKind}
 use Rattle.clap.specs.declared.error.ErrorKind.TheVariants.{DisplayHelp, DisplayVersion, OutOfMemory}
 use Rattle.mb_script.specs.declared.fault.Fault.{Fault}
 use Rattle.mb_script.specs.Replaying.{replaying}
-use Rattle.mb_script.specs.Vocabulary.{AppendsFront, IsExchange, Meter, one_more}
+use Rattle.mb_script.specs.Vocabulary.{AppendsFront, IsCommandIo, IoModel, one_more}
 use Rattle.mb_program.specs.declared.command.Choice.{Choice}
 use Rattle.mb_program.specs.declared.command.Choice.TheVariants.{Ratify, Replay, Run}
 use Rattle.mb_program.specs.declared.fault.Failed.{Failed}
@@ -27,24 +27,24 @@ ended_by fault (Ok done) = ending.Done
 ended_by fault (Err e) = ending.Failed (fault e)
 
 -- a command was carried out from a reader to a writer, and the program ends so
-abbrev pub WasCarriedOut : {R W : Type 0} → Choice → Meter R → Meter W → R → R → W → W → Ending → Type 0
+abbrev pub WasCarriedOut : {R W : Type 0} → Choice → IoModel R → IoModel W → R → R → W → W → Ending → Type 0
 WasCarriedOut Ratify source sink reader reader' writer writer' end =
-    (r : Result (Unit {0}) RatifyFault) × IsExchange ratifying source sink reader reader' writer writer' r
+    (r : Result (Unit {0}) RatifyFault) × IsCommandIo ratifying source sink reader reader' writer writer' r
     × (end ≡ ended_by failed.Ratify r)
 WasCarriedOut Replay source sink reader reader' writer writer' end =
-    (r : Result (Unit {0}) Fault) × IsExchange replaying source sink reader reader' writer writer' r
+    (r : Result (Unit {0}) Fault) × IsCommandIo replaying source sink reader reader' writer writer' r
     × (end ≡ ended_by failed.Replay r)
 WasCarriedOut (Run options) source sink reader reader' writer writer' end =
     (r : Result (Unit {0}) RunFault) × IsRun options sink writer writer' r × (reader' ≡ reader)
     × (end ≡ ended_by failed.Run r)
 
 -- clap refuses none of the words, and they name this choice, with its options
-abbrev pub Names : List Text → Choice → Type 0
-Names words choice =
+abbrev pub WordsName : List Text → Choice → Type 0
+WordsName words choice =
     (fault_of program words ≡ []) × (command_in words ≡ Some (choice_name choice)) × HasToldOptions words choice
 
 -- the text was written whole. Or a prefix of it was written and the writer failed once, or the writer is as it was
-abbrev pub IsPrinted : {D : Type 0} → Meter D → D → D → List ℕ → Bool → Type 0
+abbrev pub IsPrinted : {D : Type 0} → IoModel D → D → D → List ℕ → Bool → Type 0
 IsPrinted sink old new text true =
     Appends (sink.bytes old) (sink.bytes new) text × (sink.failures new ≡ sink.failures old)
 IsPrinted sink old new text false =
@@ -53,7 +53,7 @@ IsPrinted sink old new text false =
 
 -- clap's text went to the writer for this kind, and the other writer is as it was. Help and the version go to the
 -- first, any other text to the second
-abbrev pub IsTold : {W E : Type 0} → Meter W → Meter E → W → W → E → E → ErrorKind → Bool → Type 0
+abbrev pub IsTold : {W E : Type 0} → IoModel W → IoModel E → W → W → E → E → ErrorKind → Bool → Type 0
 IsTold sink errs writer writer' errors errors' kind printed =
     ((kind ≡ DisplayHelp) ⊎ (kind ≡ DisplayVersion)
     → (errors' ≡ errors) × ((text : List ℕ) × IsPrinted sink writer writer' text printed))
@@ -61,17 +61,17 @@ IsTold sink errs writer writer' errors errors' kind printed =
     → (writer' ≡ writer) × ((text : List ℕ) × IsPrinted errs errors errors' text printed))
 
 -- ---- one run of the program, with its reader and two writers before it and after it
-abbrev pub IsProgramRun : {R W E : Type 0} → List Text → Meter R → Meter W → Meter E → R → R → W → W
+abbrev pub IsProgramRun : {R W E : Type 0} → List Text → IoModel R → IoModel W → IoModel E → R → R → W → W
     → E → E → Ending → Type 0
 -- the command that the words name was carried out
 IsProgramRun words source sink errs reader reader' writer writer' errors errors' ending.Done =
-    ((choice : Choice) × Names words choice
+    ((choice : Choice) × WordsName words choice
     × WasCarriedOut choice source sink reader reader' writer writer' ending.Done)
     × (errors' ≡ errors)
 -- It failed, and the line of its fault was written to the second writer: whole, or a prefix if that writer failed, or
 -- nothing at all. If nothing was written, memory ran out, but no clause can say that.
 IsProgramRun words source sink errs reader reader' writer writer' errors errors' (ending.Failed fault) =
-    ((choice : Choice) × Names words choice
+    ((choice : Choice) × WordsName words choice
     × WasCarriedOut choice source sink reader reader' writer writer' (ending.Failed fault))
     × ((whole : Bool) × IsPrinted errs errors errors' (fault_line fault) whole)
 -- Clap refused the words, for a reason that they give, so nothing was read. Help goes to the first writer alone, a

@@ -4,7 +4,7 @@ use Rattle.clap.specs.Words.{Text}
 use Rattle.mb_world.specs.Plan.{Histories}
 use Rattle.mb_world.specs.Report.{ReportView}
 use Rattle.mb_world.specs.declared.report.Note.{Note}
-use Rattle.mb_script.specs.Vocabulary.{Meter, meter}
+use Rattle.mb_script.specs.Vocabulary.{IoModel, meter}
 use Rattle.mb_program.specs.Program.{IsProgramRun}
 use Rattle.mb_program.specs.declared.options.Options.{Options}
 use Rattle.mb_program.specs.declared.outcome.Ending.{Ending}
@@ -42,7 +42,7 @@ one_item = record asked { producers = 1; consumers = 1; items = 1; pairs = 1 }
 
 -- ---- runs of the program
 -- a device that is a list of bytes, and never fails
-abbrev pub plain : Meter (List ℕ)
+abbrev pub plain : IoModel (List ℕ)
 plain = meter (λ bytes. Some bytes) (λ _. 0)
 
 -- a run whose reader had the bytes `found` before it and `left` after it, and whose two writers were empty before it

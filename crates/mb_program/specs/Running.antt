@@ -11,13 +11,13 @@ use Rattle.mb_world.specs.Report.{LaneView, ReportView, notes}
 use Rattle.mb_world.specs.Reporting.{IsReportOf}
 use Rattle.mb_world.specs.Setups.{setup_refusal, shaped_plan}
 use Rattle.mb_world.specs.Sound.{AreSound}
-use Rattle.mb_script.specs.Vocabulary.{AppendsFront, Meter, one_more, report_text}
-use Rattle.mb_mailbox.specs.Below.{Reader, Stream, consumer_count, consumer_part, part}
+use Rattle.mb_script.specs.Vocabulary.{AppendsFront, IoModel, one_more, report_text}
+use Rattle.mb_mailbox.specs.Imports.{Reader, Stream, consumer_count, consumer_part, part}
 use Rattle.mb_mailbox.specs.Called.{IsCalled}
 use Rattle.mb_mailbox.specs.Gathering.{IsGathered, IsReportIn}
 use Rattle.mb_mailbox.specs.Hubs.{HubView, hub_empty}
 use Rattle.mb_mailbox.specs.Mailboxes.{MailboxView, plan_at}
-use Rattle.mb_mailbox.specs.declared.working.Worked.{Worked}
+use Rattle.mb_mailbox.specs.declared.crew.Worked.{Worked}
 use Rattle.mb_program.specs.Source.{source_from, words_from}
 use Rattle.mb_program.specs.declared.fault.RunFault.{RunFault}
 use Rattle.mb_program.specs.declared.fault.RunFault.TheVariants.{BadSetup, WriteFault}
@@ -113,7 +113,7 @@ abbrev pub IsRunText : Options → List ℕ → Type 0
 IsRunText o text = (r : ReportView) × IsRunReport o r × (text ≡ report_text r)
 
 -- ---- one call, with its writer before it and after it
-pub record IsRun {X W : Type 0} (o : Options) (sink : Meter W) (writer writer' : W)
+pub record IsRun {X W : Type 0} (o : Options) (sink : IoModel W) (writer writer' : W)
     (result : Result X RunFault) : Type 0 where
   -- the text of such a report was written, and nothing else
   pub answered : OnOk result ((text : List ℕ) × IsRunText o text

@@ -28,7 +28,7 @@ ghost use Rattle.mb_program.specs.declared.fault.Failed.TheVariants as failed;
 ghost use Rattle.mb_program.specs.declared.outcome.Ending.TheVariants as ending;
 ghost use Rattle.mb_world.specs.Plan.{Histories};
 ghost use Rattle.mb_world.specs.Report.{ReportView};
-ghost use Rattle.mb_mailbox.specs.Below.{ClaimAccess, Stream, consumer_part, next_u64};
+ghost use Rattle.mb_mailbox.specs.Imports.{ClaimAccess, Stream, consumer_part, next_u64};
 ghost use Rattle.mb_mailbox.specs.Steps.{AreDrawn};
 ghost use Rattle.mb_world.specs.declared.report.Note.TheVariants.{Took, Undecided};
 ghost use Rattle.mb_program.specs.Source.{seed_bytes, source_from, words_from};

@@ -14,7 +14,7 @@ use crate::fault::Failed;
 use crate::outcome::{Ending, fault_text};
 use crate::ratify::ratify_text;
 use crate::run::run_threads;
-use mb_script::{Sink, Source, write_all};
+use mb_script::{CountedRead, CountedWrite, write_all};
 use std::convert::AsStr;
 use std::sync::Wait;
 use std::thread::Threads;
@@ -24,13 +24,13 @@ use std::thread::Threads;
 /// The line of a fault goes to `errors`, and so does the reason why clap refuses the words. Help that was asked for
 /// goes to `writer`. `words` begin with the program's name. Returns how the program ends: `Done`, `Failed` or
 /// `Refused`.
-pub fn run<R: AllocGlobal + Threads + Wait + Sync, S: AsStr, I: Source, O: Sink, E: Sink>(
-    rt: &R,
-    words: &[S],
-    reader: &mut I,
-    writer: &mut O,
-    errors: &mut E,
-) -> Ending
+pub fn run<
+    R: AllocGlobal + Threads + Wait + Sync,
+    S: AsStr,
+    I: CountedRead,
+    O: CountedWrite,
+    E: CountedWrite,
+>(rt: &R, words: &[S], reader: &mut I, writer: &mut O, errors: &mut E) -> Ending
     ensures done { IsProgramRun (map S.text words.now) (meter I.left I.failures)
         (meter O.held O.failures) (meter E.held E.failures)
         reader.old reader.new writer.old writer.new errors.old errors.new result }
@@ -48,7 +48,7 @@ pub fn run<R: AllocGlobal + Threads + Wait + Sync, S: AsStr, I: Source, O: Sink,
 }
 
 /// Runs the command that was chosen. `run` does not read from `reader`.
-fn carry_out<R: AllocGlobal + Threads + Wait + Sync, I: Source, O: Sink>(
+fn carry_out<R: AllocGlobal + Threads + Wait + Sync, I: CountedRead, O: CountedWrite>(
     rt: &R,
     choice: Choice,
     reader: &mut I,
@@ -69,7 +69,7 @@ fn carry_out<R: AllocGlobal + Threads + Wait + Sync, I: Source, O: Sink>(
 }
 
 /// Writes the line of a fault, if there is memory for it.
-fn end_with_fault<R: AllocGlobal, E: Sink>(rt: &R, failed: Failed, errors: &mut E) -> Ending
+fn end_with_fault<R: AllocGlobal, E: CountedWrite>(rt: &R, failed: Failed, errors: &mut E) -> Ending
     ensures ending { result ≡ ending.Failed failed }
     ensures line { (whole : Bool)
         × IsPrinted (meter E.held E.failures) errors.old errors.new (fault_line failed) whole }
@@ -81,7 +81,7 @@ fn end_with_fault<R: AllocGlobal, E: Sink>(rt: &R, failed: Failed, errors: &mut 
 }
 
 /// Writes clap's help to `writer`, or its refusal to `errors`, if there is memory for it.
-fn end_with_refusal<R: AllocGlobal, O: Sink, E: Sink>(
+fn end_with_refusal<R: AllocGlobal, O: CountedWrite, E: CountedWrite>(
     rt: &R,
     error: &clap::Error,
     writer: &mut O,
@@ -103,7 +103,7 @@ fn end_with_refusal<R: AllocGlobal, O: Sink, E: Sink>(
 }
 
 /// Writes the text. Returns whether all of it was written.
-fn print<W: Sink>(writer: &mut W, text: &[u8]) -> bool
+fn print<W: CountedWrite>(writer: &mut W, text: &[u8]) -> bool
     ensures { IsPrinted (meter W.held W.failures) writer.old writer.new text.now result }
 {
     write_all(writer, text).is_ok()

@@ -2,13 +2,13 @@
 ghost use Rattle.std.specs.Prelude.{◌≡◌, ◌+◌, Err};
 ghost use Rattle.mb_program.specs.declared.fault.RatifyFault.TheVariants.{TooLong, ReadFault};
 ghost use Rattle.mb_script.specs.declared.transfer.TheConstants.{MAX_SCRIPT_LEN};
-ghost use Rattle.mb_script.specs.Vocabulary.{CountGrows, CountGrowsUpTo, IsExchange, meter};
+ghost use Rattle.mb_script.specs.Vocabulary.{CountGrows, CountGrowsUpTo, IsCommandIo, meter};
 ghost use Rattle.mb_program.specs.Answer.{ratifying};
 
 use crate::fault::RatifyFault;
-use crate::reading::read_script;
+use crate::input::read_script;
 use crate::trace_text::trace_text;
-use mb_script::{Faults, ScriptCommand, Sink, Source, answer_script};
+use mb_script::{CountedRead, CountedWrite, Faults, ScriptCommand, answer_script};
 use std::alloc::Allocator;
 
 /// The command `ratify`, for `answer_script`.
@@ -45,12 +45,12 @@ impl ScriptCommand for Ratify {
 /// Reads a ratifier script to its end, runs the ratifier, and writes the trace and nothing else.
 ///
 /// The whole text is made before the first write. No error of a device is retried.
-pub fn ratify_text<A: Allocator + Copy, R: Source, W: Sink>(
+pub fn ratify_text<A: Allocator + Copy, R: CountedRead, W: CountedWrite>(
     alloc: A,
     reader: &mut R,
     writer: &mut W,
 ) -> Result<(), RatifyFault>
-    ensures exchange { IsExchange ratifying (meter R.left R.failures) (meter W.held W.failures)
+    ensures exchange { IsCommandIo ratifying (meter R.left R.failures) (meter W.held W.failures)
         reader.old reader.new writer.old writer.new result }
 
     // For every reader, also for one whose bytes are not known.

@@ -4,7 +4,7 @@ ghost use Rattle.std.specs.List.{range_with_len};
 ghost use Rattle.mb_script.specs.Vocabulary.{meter};
 ghost use Rattle.mb_world.specs.Setups.{plan_in};
 ghost use Rattle.mb_mailbox.specs.Worked.{lists_in};
-ghost use Rattle.mb_mailbox.specs.declared.working.WorkFault.TheVariants as work;
+ghost use Rattle.mb_mailbox.specs.declared.crew.WorkFault.TheVariants as work;
 ghost use Rattle.mb_program.specs.declared.fault.RunFault.TheVariants as run;
 ghost use Rattle.mb_program.specs.declared.fault.RunFault.TheVariants.{BadSetup, WriteFault};
 ghost use Rattle.mb_program.specs.Running.{AreFew, IsRun, IsRunReport, item_lists, items_of};
@@ -16,7 +16,7 @@ use crate::options::Options;
 use crate::source::source_of;
 use mb_mailbox::{GatherFault, Mailbox, OpenGate, WorkFault, work};
 use mb_quorum::TableName;
-use mb_script::{Sink, report_text, write_all};
+use mb_script::{CountedWrite, report_text, write_all};
 use mb_world::{Report, Setup, SetupFault};
 use rand_chacha::ChaCha8Rng;
 use std::alloc::{AllocError, Allocator};
@@ -179,12 +179,11 @@ fn report_of<A: Allocator + Copy + Drop + Send + Sync, T: Threads + Wait + Sync>
 /// cells are refused, also if their number is past 2^64 - 1.
 ///
 /// The whole text is made before the first write. No failed write is tried again.
-pub fn run_threads<A: Allocator + Copy + Drop + Send + Sync, T: Threads + Wait + Sync, W: Sink>(
-    alloc: A,
-    rt: &T,
-    options: Options,
-    writer: &mut W,
-) -> Result<(), RunFault>
+pub fn run_threads<
+    A: Allocator + Copy + Drop + Send + Sync,
+    T: Threads + Wait + Sync,
+    W: CountedWrite,
+>(alloc: A, rt: &T, options: Options, writer: &mut W) -> Result<(), RunFault>
     requires budget { 1 ≤ options.budget }
     ensures { IsRun options (meter W.held W.failures) writer.old writer.new result }
 {

@@ -1,13 +1,13 @@
 -- The run of a round's mailbox: its terms, the workers there, and what they left.
 use Rattle.std.specs.Prelude.{ℕ, ◌≡◌, List, length}
-use Rattle.mb_mailbox.specs.Below.{Stream, consumer_count}
+use Rattle.mb_mailbox.specs.Imports.{Stream, consumer_count}
 use Rattle.mb_mailbox.specs.Called.{IsCalled}
 use Rattle.mb_mailbox.specs.Gathering.{FullTakesAll, IsGathered, IsReportIn}
 use Rattle.mb_mailbox.specs.Hubs.{HubView, IsHubOf, hub_empty}
 use Rattle.mb_mailbox.specs.Mailboxes.{MailboxView, plan_at}
 use Rattle.mb_mailbox.specs.Worked.{IsWorked}
 use Rattle.mb_mailbox.specs.declared.gate.Who.{Who}
-use Rattle.mb_mailbox.specs.declared.working.Worked.{Worked}
+use Rattle.mb_mailbox.specs.declared.crew.Worked.{Worked}
 use Rattle.mb_world.specs.Plan.{Histories, Plan, size_of}
 use Rattle.mb_world.specs.Report.{ReportView}
 use Rattle.mb_world.specs.Setups.{plan_in}

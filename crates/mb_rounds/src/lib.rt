@@ -19,12 +19,12 @@
 //! any more.
 #![tactic(auto)]
 
-mod dealing;
 pub mod examples;
+mod hands;
 pub mod laws;
 mod ledgers;
-mod playing;
+mod leftovers;
+mod play;
 mod rounds;
-mod staying;
 
 pub use rounds::{Round, RoundFault, Rounds};

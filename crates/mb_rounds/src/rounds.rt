@@ -1,5 +1,5 @@
 //! Items that are handed in and go out in rounds.
-mod running;
+mod one_round;
 
 use mb_world::{Report, Setup};
 use std::alloc::{AllocError, Allocator};

@@ -14,7 +14,7 @@ use Rattle.mb_script.specs.Scripts.{Made, made_from, number_at, one_number, two_
 use Rattle.mb_script.specs.Steps.{◌>>=◌}
 use Rattle.mb_script.specs.Shapes.{shape_named}
 use Rattle.mb_script.specs.Tables.{table_named}
-use Rattle.mb_script.specs.Text.{has_empty, words_of}
+use Rattle.mb_script.specs.Text.{has_empty, words_in_line}
 
 -- a fault, if there is one, is one of these
 abbrev pub For : {A F : Type 0} → (F → Type 0) → Result A F → Type 0
@@ -92,8 +92,9 @@ at_placed plan n e =
 pub at_line : (plan : Plan) (n : ℕ) (line : List ℕ) → At n (event_at plan n line)
 unfolding event_at
 at_line plan n line =
-    for_cond (About n) (has_empty (words_of line)) _ _ refl
-    (for_bind (About n) (event_of n (words_of line)) (placed plan n) (at_event n (words_of line)) (at_placed plan n))
+    for_cond (About n) (has_empty (words_in_line line)) _ _ refl
+    (for_bind (About n) (event_of n (words_in_line line)) (placed plan n)
+    (at_event n (words_in_line line)) (at_placed plan n))
 
 -- the same of the first line
 for_made : (P : Fault → Type 0) (o : Option SetupFault) (made : Made)

@@ -2,7 +2,7 @@
 use Rattle.std.proofs.Common.{◌≡◌, ◌≢◌, ℕ, ◌+◌, ◌<◌, ◌≤◌, List, length, Option, Some, None, refl, sym, ◌∙◌, subst, arith, length-append}
 use Rattle.mb_script.specs.declared.transfer.TheConstants.{MAX_SCRIPT_LEN}
 use Rattle.mb_script.specs.Devices.{ConsumesCount, Had}
-use Rattle.mb_script.specs.Exchange.{AreApart, Command}
+use Rattle.mb_script.specs.CommandIo.{AreApart, Command}
 
 -- where one byte past the limit was read, what the reader had is too long a script
 pub too_long_read : {F : Type 0} (command : Command F)

@@ -10,7 +10,7 @@ use Rattle.mb_script.specs.declared.fault.Fault.TheVariants.{TooLong, NotAscii}
 use Rattle.mb_script.specs.declared.script.TheConstants.{MAX_EVENTS}
 use Rattle.mb_script.specs.declared.transfer.TheConstants.{MAX_SCRIPT_LEN}
 use Rattle.mb_script.specs.FirstFault.{line_of}
-use Rattle.mb_script.specs.Text.{lines_of, words_of}
+use Rattle.mb_script.specs.Text.{lines_of, words_in_line}
 use Rattle.mb_script.specs.Scripts.{Script, event_at, events_of, lines_script, script_of, setup_of}
 use Rattle.mb_script.specs.Replaying.{fault_in, fault_of}
 use Rattle.mb_script.proofs.AboutLines.{At, For, at_line, at_setup, for_bind, for_cond}
@@ -42,7 +42,7 @@ other_in_lines : (lines : List (List ℕ)) → For IsOther (lines_script lines)
 unfolding lines_script
 other_in_lines [] = λ is. absurd (cc)
 other_in_lines (line ∷ lines) =
-    for_bind IsOther (setup_of (words_of line)) _ (other_at 1 _ (at_setup (words_of line)))
+    for_bind IsOther (setup_of (words_in_line line)) _ (other_at 1 _ (at_setup (words_in_line line)))
     (λ made. for_bind IsOther (events_of made.plan 2 lines) _ (other_in_events made.plan 2 lines) (λ es. tt))
 
 -- so a script that is too long has more bytes than the limit

@@ -1,6 +1,6 @@
 pub mod ActText
 pub mod Devices
-pub mod Exchange
+pub mod CommandIo
 pub mod Faults
 pub mod FewWords
 pub mod FirstFault

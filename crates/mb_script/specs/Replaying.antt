@@ -4,7 +4,7 @@ use Rattle.mb_world.specs.declared.event.Answer.{Answer}
 use Rattle.mb_world.specs.declared.event.Answer.TheVariants.{NoLane, NoConsumer}
 use Rattle.mb_script.specs.declared.fault.Fault.{Fault}
 use Rattle.mb_script.specs.declared.fault.Fault.TheVariants.{TooLong, NoMemory, ReadFault, WriteFault}
-use Rattle.mb_script.specs.Exchange.{Command}
+use Rattle.mb_script.specs.CommandIo.{Command}
 use Rattle.mb_script.specs.ReplayText.{IsReplayText}
 use Rattle.mb_script.specs.Scripts.{Script, script_of}
 

@@ -20,7 +20,7 @@ use Rattle.mb_script.specs.declared.transfer.TheConstants.{MAX_SCRIPT_LEN}
 use Rattle.mb_script.specs.Steps.{◌>>=◌}
 use Rattle.mb_script.specs.Shapes.{shape_named}
 use Rattle.mb_script.specs.Tables.{table_named}
-use Rattle.mb_script.specs.Text.{lines_of, words_of, has_empty, number_of}
+use Rattle.mb_script.specs.Text.{lines_of, words_in_line, has_empty, number_of}
 
 -- what a first line makes: what a world is made of, how many pairs of deciding objects each cell has,
 -- and what it has beside them
@@ -138,8 +138,8 @@ placed plan n event =
 -- the event of this world that line n says, or what is wrong with the line
 unfoldable pub event_at : Plan → ℕ → List ℕ → Result Event Fault
 event_at plan n line =
-    if has_empty (words_of line) then Err (BadLine n)
-    else event_of n (words_of line) >>= placed plan n
+    if has_empty (words_in_line line) then Err (BadLine n)
+    else event_of n (words_in_line line) >>= placed plan n
 
 -- The events of the lines from line n on. The first faulty line decides. A line after the last that may have an event
 -- is one too many, whatever it holds.
@@ -153,7 +153,7 @@ events_of plan n (line ∷ lines) =
 unfoldable pub lines_script : List (List ℕ) → Result Script Fault
 lines_script [] = Err NoSetup
 lines_script (line ∷ lines) =
-    setup_of (words_of line) >>= (λ made. events_of made.plan 2 lines >>= (λ events. Ok (script_with made events)))
+    setup_of (words_in_line line) >>= (λ made. events_of made.plan 2 lines >>= (λ events. Ok (script_with made events)))
 
 -- what the bytes say: a script, or the first fault
 unfoldable pub script_of : List ℕ → Result Script Fault

@@ -11,13 +11,13 @@ lines_of [] = []
 lines_of (b ∷ bytes) = if b == 10 then [] ∷ lines_of bytes else onto_first b (lines_of bytes)
 
 -- a line is cut at each space
-abbrev pub words_of : List ℕ → List (List ℕ)
-words_of line = slice_split (λ b. b == 32) line
+abbrev pub words_in_line : List ℕ → List (List ℕ)
+words_in_line line = slice_split (λ b. b == 32) line
 
 -- the words after the first, if there are any
 abbrev pub words_behind : Option (List ℕ) → List (List ℕ)
 words_behind None = []
-words_behind (Some rest) = words_of rest
+words_behind (Some rest) = words_in_line rest
 
 -- some word is empty
 abbrev pub has_empty : List (List ℕ) → Bool

@@ -13,7 +13,7 @@ use std::io;
 use std::io::{Read, Write};
 
 /// A reader that counts its failures, modulo 2^64, and the bytes that its reads give, up to 2^64 - 1.
-pub trait Source {
+pub trait CountedRead {
     // The bytes that reads will give from here on, if they are known.
     ghost left: { Self → Option (List ℕ) };
 
@@ -33,7 +33,7 @@ pub trait Source {
 }
 
 /// A writer that counts its failures, modulo 2^64. To take none of some bytes is a failure.
-pub trait Sink {
+pub trait CountedWrite {
     // The bytes that the writer holds, if they are known.
     ghost held: { Self → Option (List ℕ) };
 
@@ -51,7 +51,7 @@ pub trait Sink {
 
 /// A reader or writer of std, with the number of its failures and of the bytes that it gave.
 #[derive(Drop)]
-pub struct Counting<D: Drop> {
+pub struct CountingIo<D: Drop> {
     /// The reader or writer.
     pub device: D,
     /// How many of its reads or writes failed, modulo 2^64.
@@ -60,14 +60,14 @@ pub struct Counting<D: Drop> {
     pub given: u64,
 }
 
-impl<D: Drop> Counting<D> {
+impl<D: Drop> CountingIo<D> {
     /// The device, with no failure and no byte counted.
-    pub fn new(device: D) -> Counting<D>
+    pub fn new(device: D) -> CountingIo<D>
         ensures device { result.device ≡ device }
         ensures failures { result.failures ≡ 0 }
         ensures given { result.given ≡ 0 }
     {
-        Counting {
+        CountingIo {
             device,
             failures: 0,
             given: 0,
@@ -83,7 +83,7 @@ impl<D: Drop> Counting<D> {
     }
 }
 
-impl<R: Read + Drop> Source for Counting<R> {
+impl<R: Read + Drop> CountedRead for CountingIo<R> {
     ghost left = { λ c. R.remaining c.device };
 
     ghost failures = { λ c. c.failures };
@@ -100,7 +100,7 @@ impl<R: Read + Drop> Source for Counting<R> {
     }
 }
 
-impl<W: Write + Drop> Sink for Counting<W> {
+impl<W: Write + Drop> CountedWrite for CountingIo<W> {
     ghost held = { λ c. W.contents c.device };
 
     ghost failures = { λ c. c.failures };

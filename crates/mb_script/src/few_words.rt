@@ -15,7 +15,7 @@ pub struct Words<'a> {
 
 impl<'a> Words<'a> {
     ghost use Rattle.std.specs.Prelude.{◌≡◌, true, false, ◌||◌, nat_lt, length, map, MatchOption};
-    ghost use Rattle.mb_script.specs.Text.{has_empty, words_of};
+    ghost use Rattle.mb_script.specs.Text.{has_empty, words_in_line};
     ghost use Rattle.mb_script.specs.FewWords.{words_in};
 
     /// The words of a line, or `None` if some word is empty or there are more than [`MAX_WORDS`].
@@ -23,10 +23,11 @@ impl<'a> Words<'a> {
     /// This takes no memory, however many words there are.
     pub fn of_line(line: &'a str) -> Option<Words<'a>>
         ensures { MatchOption result
-            ((has_empty (words_of line.now) || nat_lt MAX_WORDS (length (words_of line.now)))
+            ((has_empty (words_in_line line.now) || nat_lt MAX_WORDS
+            (length (words_in_line line.now)))
             ≡ true)
-            (λ words. (has_empty (words_of line.now) ≡ false)
-            × (words_in words ≡ words_of line.now)) }
+            (λ words. (has_empty (words_in_line line.now) ≡ false)
+            × (words_in words ≡ words_in_line line.now)) }
     {
         let mut words = [""; MAX_WORDS];
         let mut count = 0;

@@ -15,19 +15,19 @@ ghost use Rattle.mb_script.specs.FirstFault.{first_word_in, line_of};
 ghost use Rattle.mb_script.specs.Replaying.{IsAnswer, IsOfWorld};
 ghost use Rattle.mb_script.specs.Scripts.{Script, script_of};
 ghost use Rattle.mb_script.specs.Spelling.{IsScript, Sizes, Spells, script_lines};
-ghost use Rattle.mb_script.specs.Text.{IsWord, IsWordLine, has_empty, lines_of, number_of, numbers_of, words_of};
+ghost use Rattle.mb_script.specs.Text.{IsWord, IsWordLine, has_empty, lines_of, number_of, numbers_of, words_in_line};
 
 use mb_quorum::laws::named_tables_are_lawful;
 use mb_world::laws::{histories_have_one_report, replays_do_not_differ, worlds_are_sound};
-use mb_world::steps::one_step;
+use mb_world::steps::history_extends;
 
 /// Words that are joined by one space between each two are cut into the same words. The words of a line, joined so, are
 /// that line.
 pub fn words_are_cut_as_spelled()
     ensures cut { (w : List ℕ) (ws : List (List ℕ)) → AllByRecursion IsWord (w ∷ ws)
-        → words_of (join_with_byte 32 (w ∷ ws)) ≡ w ∷ ws }
+        → words_in_line (join_with_byte 32 (w ∷ ws)) ≡ w ∷ ws }
     ensures none_empty { (ws : List (List ℕ)) → AllByRecursion IsWord ws → has_empty ws ≡ false }
-    ensures spelled { (line : List ℕ) → join_with_byte 32 (words_of line) ≡ line }
+    ensures spelled { (line : List ℕ) → join_with_byte 32 (words_in_line line) ≡ line }
 {}
 
 /// The decimal of a number is read as that number. A word that is read as a number is its decimal, with no needless 0.
@@ -93,7 +93,7 @@ pub fn scripts_have_one_answer()
         ≡ other }
 {
     named_tables_are_lawful();
-    one_step();
+    history_extends();
     replays_do_not_differ();
     worlds_are_sound();
     histories_have_one_report();

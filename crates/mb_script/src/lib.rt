@@ -3,14 +3,14 @@
 #![tactic(auto)]
 
 mod act_text;
+mod command;
 mod device;
 pub mod examples;
 mod fault;
 mod few_words;
 pub mod laws;
-mod parsing;
+mod parser;
 mod replay;
-mod replaying;
 mod report_lines;
 mod script;
 mod script_command;
@@ -21,11 +21,11 @@ mod transcript;
 mod transfer;
 
 pub use act_text::push_act;
-pub use device::{Counting, Sink, Source};
+pub use command::run;
+pub use device::{CountedRead, CountedWrite, CountingIo};
 pub use fault::Fault;
 pub use few_words::{MAX_WORDS, Words};
-pub use parsing::parse;
-pub use replaying::run;
+pub use parser::parse;
 pub use report_lines::report_text;
 pub use script::{MAX_EVENTS, Script};
 pub use script_command::{Faults, ScriptCommand, answer_script};

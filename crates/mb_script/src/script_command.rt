@@ -2,9 +2,9 @@
 ghost use Rattle.std.specs.Prelude.{◌≡◌, ◌≢◌, ◌+◌, ◌<◌, ℕ, List, length, Some, Err, IfOk, IfErr, string_bytes};
 ghost use Rattle.mb_script.specs.declared.transfer.TheConstants.{MAX_SCRIPT_LEN};
 ghost use Rattle.mb_script.specs.Devices.{CountGrows, CountGrowsUpTo};
-ghost use Rattle.mb_script.specs.Exchange.{AreApart, Command, IsExchange, meter};
+ghost use Rattle.mb_script.specs.CommandIo.{AreApart, Command, IsCommandIo, meter};
 
-use crate::device::{Sink, Source};
+use crate::device::{CountedRead, CountedWrite};
 use crate::transfer::{ReadEnd, read_all, write_all};
 use std::alloc::Allocator;
 
@@ -56,12 +56,12 @@ pub trait ScriptCommand {
 ///
 /// The whole text is made before the first write. No error of a device is retried.
 #[tactic(auto, using(crate::proofs::Exchanges::not_too_long))]
-pub fn answer_script<C: ScriptCommand, A: Allocator + Copy, R: Source, W: Sink>(
+pub fn answer_script<C: ScriptCommand, A: Allocator + Copy, R: CountedRead, W: CountedWrite>(
     alloc: A,
     reader: &mut R,
     writer: &mut W,
 ) -> Result<(), C::Fault>
-    ensures exchange { IsExchange C.command (meter R.left R.failures) (meter W.held W.failures)
+    ensures exchange { IsCommandIo C.command (meter R.left R.failures) (meter W.held W.failures)
         reader.old reader.new writer.old writer.new result }
 
     // For every reader, also for one whose bytes are not known.

@@ -2,7 +2,7 @@
 ghost use Rattle.std.specs.Prelude.{◌≡◌, ◌∷◌, [], ◌<◌, length, IfOk, IfSome, MatchOption, option_map, true, false};
 ghost use Rattle.std.specs.Char.{is_ascii};
 ghost use Rattle.std.specs.List.{list_all};
-ghost use Rattle.mb_script.specs.Text.{lines_of, words_of, words_behind, has_empty, number_of, numbers_of};
+ghost use Rattle.mb_script.specs.Text.{lines_of, words_in_line, words_behind, has_empty, number_of, numbers_of};
 
 use std::alloc::{AllocError, Allocator};
 use std::str;
@@ -36,9 +36,9 @@ pub fn split_line(text: &str) -> Option<(&str, &str)>
 
 /// The first word of a line, which may be empty, and the words after it, if there are any. A line is cut at each space.
 pub fn split_word(line: &str) -> (&str, Option<&str>)
-    ensures words { words_of line.now
+    ensures words { words_in_line line.now
         ≡ result.0.now ∷ words_behind (option_map (λ w. w.now) result.1) }
-    ensures some { IfSome result.1 (λ rest. 0 < length (words_of rest.now)) }
+    ensures some { IfSome result.1 (λ rest. 0 < length (words_in_line rest.now)) }
     ensures shorter { IfSome result.1 (λ rest. length rest.now < length line.now) }
 {
     match line.split_once(' ') {
@@ -49,7 +49,7 @@ pub fn split_word(line: &str) -> (&str, Option<&str>)
 
 /// Whether some word of the line is empty, which makes it a bad line.
 pub fn has_empty_word(line: &str) -> bool
-    ensures { result ≡ has_empty (words_of line.now) }
+    ensures { result ≡ has_empty (words_in_line line.now) }
 {
     line.split(' ').any(|word| word.is_empty())
 }

@@ -4,7 +4,7 @@ ghost use Rattle.std.specs.Io.KnownBytes.{Appends, Consumes, IsAtEnd};
 ghost use Rattle.mb_script.specs.Devices.{AppendsFront, ConsumesCount, ConsumesUpTo, CountGrows};
 ghost use Rattle.mb_script.specs.Devices.{CountGrowsUpTo, one_more};
 
-use crate::device::{Sink, Source};
+use crate::device::{CountedRead, CountedWrite};
 use std::alloc::Allocator;
 
 /// The most bytes that a script may have.
@@ -29,7 +29,7 @@ pub enum ReadEnd {
 pub struct WriteFailed;
 
 /// Reads to the end, but stops after the first byte past the limit, [`MAX_SCRIPT_LEN`].
-pub fn read_all<R: Source, A: Allocator + Drop>(
+pub fn read_all<R: CountedRead, A: Allocator + Drop>(
     alloc: A,
     reader: &mut R,
 ) -> Result<Vec<u8, A>, ReadEnd>
@@ -79,7 +79,7 @@ pub fn read_all<R: Source, A: Allocator + Drop>(
 }
 
 /// Writes the whole text. After an `Err` a prefix of it was written.
-pub fn write_all<W: Sink>(writer: &mut W, text: &[u8]) -> Result<(), WriteFailed>
+pub fn write_all<W: CountedWrite>(writer: &mut W, text: &[u8]) -> Result<(), WriteFailed>
     ensures ok { OnOk result (Appends (W.held writer.old) (W.held writer.new) text.now) }
     ensures err { OnErr result (AppendsFront (W.held writer.old) (W.held writer.new) text.now) }
     ensures fault { OnErr result (W.failures writer.new ≡ one_more (W.failures writer.old)) }

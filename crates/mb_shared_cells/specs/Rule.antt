@@ -3,7 +3,7 @@ use Rattle.std.specs.Prelude.{List, None, Some, [], length, slice_get, slice_ind
 use mathlib.Core.Option.{some}
 use lib.ListN.{get_elem?}
 use Rattle.atomic_table.specs.Table.{State}
-use Rattle.mb_cells.specs.Vocabulary.{History, IsMemoryOf, part, words_of}
+use Rattle.mb_cells.specs.Vocabulary.{History, IsMemoryOf, part, pool_words}
 use Rattle.mb_cells.specs.declared.access.Process.{Process}
 use Rattle.mb_cells.specs.declared.access.Process.TheVariants.{Producer, Reader}
 use Rattle.mb_cells.specs.declared.size.PoolSize.{PoolSize}
@@ -14,7 +14,7 @@ use Rattle.mb_shared_cells.specs.declared.views.View.TheVariants.{Empty, Hub, Hu
 
 -- the roster, which counts the lanes' numbers drawn, lies after the words of the pool
 abbrev pub roster_of : PoolSize → ℕ
-roster_of size = words_of size
+roster_of size = pool_words size
 
 -- how the parts of one history are seated: the history, how many lanes and readers were enrolled, and which seat is the
 -- hub's. For each process it has the one seat with its part

@@ -15,7 +15,7 @@ ghost use Rattle.mb_shared_cells.specs.Examples.{lane_with, new_hub, reader_seen
 use crate::laws::processes_stand_once;
 use mb_cells::examples::pools_hold_what_was_done;
 use mb_cells::laws::parts_tell_lanes;
-use mb_cells::steps::one_step;
+use mb_cells::steps::history_extends;
 
 /// Words and views of a table of one lane and one cell: the counter, the head, the link, the item, and the roster.
 pub fn words_and_views_agree()
@@ -26,7 +26,7 @@ pub fn words_and_views_agree()
     ensures put { IsStateOfOne (1 ∷ 1 ∷ 0 ∷ 8 ∷ 1 ∷ [])
         (hub_of_one ∷ lane_with one_put ∷ []) }
 {
-    one_step();
+    history_extends();
     pools_hold_what_was_done();
 }
 
@@ -76,6 +76,6 @@ pub fn seats_make_their_access()
         → LookMakes (reader_seen id []) (cursor.Head 0) (look.Cell 0)
         (reader_seen id (load 0 (word.Head 0) 0 ∷ [])) → ⊥ }
 {
-    one_step();
+    history_extends();
     pools_hold_what_was_done();
 }

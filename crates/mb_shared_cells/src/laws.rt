@@ -21,7 +21,7 @@ use mb_cells::laws::{
     cells_stand_once, looks_tell_links, numbers_are_handed_out_once, parts_tell_lanes,
     readers_follow_lanes, words_lead_through_lanes,
 };
-use mb_cells::steps::{accesses_lengthen_one_part, one_step, put_lists_grow};
+use mb_cells::steps::{accesses_lengthen_one_part, history_extends, put_lists_grow};
 
 /// At every moment the counter is at most the number of cells and lanes together, and the roster at most the number of
 /// lanes.
@@ -61,7 +61,7 @@ pub fn known_lanes_are_read_whole()
 {
     cells_stand_once();
     looks_tell_links();
-    one_step();
+    history_extends();
     parts_tell_lanes();
     readers_follow_lanes();
     words_lead_through_lanes();
@@ -89,7 +89,7 @@ pub fn three_calls_put_an_item()
         → PushMakes stored two new → push_store new.lane new.place ≡ None }
 {
     accesses_lengthen_one_part();
-    one_step();
+    history_extends();
     parts_tell_lanes();
     put_lists_grow();
 }
@@ -107,7 +107,7 @@ pub fn full_offers_and_end_marks_put_nothing()
         → put_list old.lane new.part ≡ put_list old.lane old.part }
 {
     accesses_lengthen_one_part();
-    one_step();
+    history_extends();
     parts_tell_lanes();
     put_lists_grow();
 }

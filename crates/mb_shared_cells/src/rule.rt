@@ -19,7 +19,7 @@ impl TableRule<(), View, PoolSize> for CellsRule {
 
 /// The access that a step makes: its word, and its act by the number that the step announces. A proof picks both where
 /// the step is called.
-pub trait Made {
+pub trait AccessSpec {
     ghost use Rattle.std.specs.Prelude.{ℕ};
     ghost use Rattle.mb_cells.specs.declared.access.PoolAct.{PoolAct};
     ghost use Rattle.mb_cells.specs.declared.access.Word.{Word};
@@ -29,7 +29,7 @@ pub trait Made {
     ghost act: { ℕ → PoolAct };
 }
 
-impl Made for Brand {
+impl AccessSpec for Brand {
     ghost use Rattle.mb_cells.specs.declared.access.PoolAct.TheVariants.{Load};
     ghost use Rattle.mb_cells.specs.declared.access.Word.TheVariants.{Counter};
 
@@ -39,11 +39,11 @@ impl Made for Brand {
 }
 
 /// The step of an access.
-pub struct Makes<W> {
+pub struct MakeAccess<W> {
     of: PhantomData<W>,
 }
 
-impl<W: Made> Play<(), View> for Makes<W> {
+impl<W: AccessSpec> Play<(), View> for MakeAccess<W> {
     ghost use Rattle.mb_shared_cells.specs.Views.{MakesAccess};
 
     ghost then = { λ s v n w. MakesAccess W.word (W.act n) v w };

@@ -1,7 +1,7 @@
 //! The table, its hub, and the seats of lanes and readers. Each `has_history` computes nothing: its contract is a law
 //! of all hubs or seats.
 mod accesses;
-mod enrolling;
+mod enrollment;
 mod lanes;
 mod readers;
 
@@ -12,7 +12,7 @@ use crate::rule::CellsRule;
 use crate::views::View;
 use atomic_table::{Seat, Table};
 use mb_cells::laws::{lanes_refuse_by_what_was_done, parts_tell_lanes};
-use mb_cells::steps::{one_step, words_follow_steps};
+use mb_cells::steps::{history_extends, words_follow_steps};
 use mb_cells::{Finish, Lane, NoMemory, PoolSize};
 use std::alloc::Allocator;
 use std::error::Error;
@@ -124,7 +124,7 @@ impl<A: Allocator + Clone + Drop> SharedCells<A> {
         ensures size { IfOk result (λ r. r.0.size ≡ record { lanes = lanes; cells = cells }) }
         ensures hub { IfOk result (λ r. r.1 ≡ record { table = r.0; roll = empty_roll }) }
     {
-        one_step();
+        history_extends();
         words_follow_steps();
         let size = PoolSize { lanes, cells };
         let words = vec![in alloc.clone()?; 0u64; roster(size) + 1]?;

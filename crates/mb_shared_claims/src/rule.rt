@@ -20,11 +20,11 @@ impl TableRule<(), View, TableSize> for ClaimsRule {
 }
 
 /// The access that a step makes, by the value that it finds. The proof of a caller picks it.
-pub trait Made {
+pub trait AccessSpec {
     ghost access: { ℕ → ClaimAccess };
 }
 
-impl Made for Brand {
+impl AccessSpec for Brand {
     ghost use Rattle.mb_deciding.specs.declared.access.Act.TheVariants.{Load};
     ghost use Rattle.mb_deciding.specs.declared.access.Reg.TheVariants.{Value};
 
@@ -36,11 +36,11 @@ impl Made for Brand {
 }
 
 /// A load, a store or an exchange of a claim: one access more in the part of the seat that makes it.
-pub struct Makes<W> {
+pub struct MakeAccess<W> {
     of: PhantomData<W>,
 }
 
-impl<W: Made> Play<(), View> for Makes<W> {
+impl<W: AccessSpec> Play<(), View> for MakeAccess<W> {
     ghost use Rattle.mb_shared_claims.specs.ViewSteps.{makes};
 
     ghost then = { λ s me found now. makes (W.access found) me now };

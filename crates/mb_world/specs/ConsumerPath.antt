@@ -3,7 +3,7 @@ use Rattle.std.specs.Prelude.{ℕ, ◌≡◌, ◌≢◌, ◌+◌, ◌⊎◌, Boo
 use Rattle.mb_claim.specs.declared.access.Stage.TheVariants as stage
 use Rattle.mb_world.specs.declared.report.Note.{Note}
 use Rattle.mb_world.specs.declared.report.Note.TheVariants.{Took, Lost, Undecided}
-use Rattle.mb_world.specs.Below.{ClaimAccess, Claims, END, IsClaimPrefix, Item, ObjectTurn, Stage, load, place_past}
+use Rattle.mb_world.specs.Imports.{ClaimAccess, Claims, END, IsClaimPrefix, Item, ObjectTurn, Stage, load, place_past}
 use Rattle.mb_world.specs.Report.{DiaryView}
 use Rattle.mb_world.specs.World.{ToCells, ToClaims, WorldAccess, WorldHistory}
 

@@ -10,7 +10,7 @@ use Rattle.mb_world.specs.declared.event.Event.{Event}
 use Rattle.mb_world.specs.declared.report.Note.{Note}
 use Rattle.mb_world.specs.declared.seat.Seat.{Seat}
 use Rattle.mb_world.specs.declared.seat.Seat.TheVariants as seat
-use Rattle.mb_world.specs.Below.{Stage}
+use Rattle.mb_world.specs.Imports.{Stage}
 use Rattle.mb_world.specs.Plan.{consumers_of}
 use Rattle.mb_world.specs.Setups.{plan_in}
 use Rattle.mb_world.specs.World.{WorldAccess, WorldHistory}
@@ -32,10 +32,10 @@ pub record HasSeat (c p : ℕ) (d : Seat) (s : WorldState) : Type 0 where
   pub seat : slice_get s.seats (c * (plan_in s.setup).lanes + p) ≡ Some d
 
 -- a consumer on this seat of lane p stands before the link at the cursor
-abbrev pub IsBefore : ℕ → Seat → Cursor → Type 0
-IsBefore p seat.AtHead (cursor.Head q) = q ≡ p
-IsBefore p (seat.PastCell k) (cursor.Past j) = j ≡ k
-IsBefore p _ _ = ⊥
+abbrev pub StandsBefore : ℕ → Seat → Cursor → Type 0
+StandsBefore p seat.AtHead (cursor.Head q) = q ≡ p
+StandsBefore p (seat.PastCell k) (cursor.Past j) = j ≡ k
+StandsBefore p _ _ = ⊥
 
 -- the state with this seat of consumer c on lane p
 abbrev pub with_seat : ℕ → ℕ → Seat → WorldState → WorldState

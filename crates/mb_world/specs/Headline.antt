@@ -1,6 +1,6 @@
 -- What a report shows of a mailbox, whatever the order of the accesses and whatever the random words.
 use Rattle.std.specs.Prelude.{ℕ, ◌≡◌, ◌<◌, true, IsSome, [], ◌++◌, length}
-use Rattle.mb_world.specs.Below.{END, HasLoaded, History, IsLinkWord, Producer, Word, has_ended, is_of_lane, linked_cells, part}
+use Rattle.mb_world.specs.Imports.{END, HasLoaded, History, IsLinkWord, Producer, Word, has_ended, is_of_lane, linked_cells, part}
 use Rattle.mb_world.specs.Plan.{Histories, Plan, consumers_of}
 use Rattle.mb_world.specs.Report.{ReportView, items_put, note}
 use Rattle.mb_world.specs.Assignment.{Assignment}

@@ -1,7 +1,7 @@
 -- One more access of a consumer, in terms of its two parts alone.
 use Rattle.std.specs.Prelude.{ℕ, ◌≢◌, List, [], ◌∷◌, nat_eq, if◌then◌else◌}
 use Rattle.mb_claim.specs.declared.access.Stage.TheVariants as stage
-use Rattle.mb_world.specs.Below.{Claims, Item, Link, ObjectTurn, PoolAccess, Stage}
+use Rattle.mb_world.specs.Imports.{Claims, Item, Link, ObjectTurn, PoolAccess, Stage}
 use Rattle.mb_world.specs.Fitting.{HasRead, HasStageIn, Parts}
 
 -- the parts of a consumer that has done nothing

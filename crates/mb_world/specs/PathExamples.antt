@@ -6,7 +6,7 @@ use Rattle.mb_deciding.specs.declared.access.Reg.TheVariants.{Quorum, Value}
 use Rattle.mb_claim.specs.Examples.{two_consumers, won_alone}
 use Rattle.mb_world.specs.declared.report.Note.{Note}
 use Rattle.mb_claim.specs.AllClaims.{claims_of}
-use Rattle.mb_world.specs.Below.{Claims, Head, Item, Link, ObjectTurn, PoolAccess, load}
+use Rattle.mb_world.specs.Imports.{Claims, Head, Item, Link, ObjectTurn, PoolAccess, load}
 use Rattle.mb_world.specs.Fitting.{Parts}
 use Rattle.mb_world.specs.World.{WorldHistory}
 use Rattle.mb_world.specs.ConsumerPath.{ConsumerPath, claim_step, item_load, link_load}

@@ -2,7 +2,7 @@
 use Rattle.std.specs.Prelude.{ℕ, ◌≡◌, List, [], ◌∷◌, ◌++◌}
 use Rattle.mb_deciding.specs.declared.object.Kind.{Kind}
 use Rattle.mb_deciding.specs.declared.object.Kind.TheVariants.{LastObject}
-use Rattle.mb_world.specs.Below.{ClaimAccess, Claims, History, PoolSize, pool_size}
+use Rattle.mb_world.specs.Imports.{ClaimAccess, Claims, History, PoolSize, pool_size}
 
 -- the claims on its cells, whose quorum table has the consumers as its values, and how many lanes it has
 pub record Plan : Type 0 where

@@ -12,7 +12,7 @@ use Rattle.mb_world.specs.declared.event.Answer.{Answer}
 use Rattle.mb_world.specs.declared.event.Answer.TheVariants as answer
 use Rattle.mb_world.specs.declared.event.Event.{Event}
 use Rattle.mb_world.specs.declared.event.Event.TheVariants as event
-use Rattle.mb_world.specs.Below.{Counter, END, FetchAdd, Head, IsClaimPrefix, IsLinkWord, Item, Link, Load, PoolAct, Producer, Stage, Store, Word, claim_part, linked_cells, part}
+use Rattle.mb_world.specs.Imports.{Counter, END, FetchAdd, Head, IsClaimPrefix, IsLinkWord, Item, Link, Load, PoolAct, Producer, Stage, Store, Word, claim_part, linked_cells, part}
 use Rattle.mb_world.specs.Plan.{Plan, consumers_of}
 use Rattle.mb_world.specs.World.{IsBy, ToCells, ToClaims, WorldAccess, WorldHistory, claim_accesses, is_on, pool_accesses}
 use Rattle.mb_world.specs.Worlds.{IsWorldLawful}
@@ -57,9 +57,9 @@ answer_to cells (Item k) (Load v) = Some (answer.Took k v)
 answer_to cells _ _ = None
 
 -- after a history, the answer names the access. For an access to a claim it also has the stage to which that leads
-abbrev pub Names : Plan → Answer → WorldAccess → WorldHistory → Type 0
-Names plan r (ToCells a) h = answer_to plan.claims.cells a.word a.act ≡ Some r
-Names plan r (ToClaims a) h =
+abbrev pub AnswerNames : Plan → Answer → WorldAccess → WorldHistory → Type 0
+AnswerNames plan r (ToCells a) h = answer_to plan.claims.cells a.word a.act ≡ Some r
+AnswerNames plan r (ToClaims a) h =
     (s : Stage) × IsClaimPrefix plan.claims a.consumer (a.step ∷ claim_part a.consumer a.cell (claim_accesses h)) s
     × (r ≡ answer.Claimed a.cell a.step.object a.step.turn.act s)
 
@@ -99,7 +99,7 @@ IsRefused plan (event.Step c p word) r h =
 -- after a history, the event has this answer with this access, which keeps the history lawful, or with none
 abbrev pub IsEntry : Plan → Event → Answer → Option WorldAccess → WorldHistory → Type 0
 IsEntry plan e r None h = IsRefused plan e r h
-IsEntry plan e r (Some a) h = IsAccessOf e a h × Names plan r a h × IsWorldLawful plan (a ∷ h)
+IsEntry plan e r (Some a) h = IsAccessOf e a h × AnswerNames plan r a h × IsWorldLawful plan (a ∷ h)
 
 -- after a history, the event is refused, or has an access
 abbrev pub IsRefusedOrMade : Plan → Event → WorldHistory → Type 0

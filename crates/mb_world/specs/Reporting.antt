@@ -1,6 +1,6 @@
 -- The report of what was done to the words of a mailbox, place by place.
 use Rattle.std.specs.Prelude.{ℕ, zero, suc, ◌≡◌, ◌≢◌, ◌↔◌, ◌+◌, ◌*◌, ◌<◌, Bool, true, false, not, ◌||◌, Option, Some, None, List, [], map, reverse, length, slice_get}
-use Rattle.mb_world.specs.Below.{Gave, Has, HasMet, History, Reader, has_ended, linked_cells, part, put_list}
+use Rattle.mb_world.specs.Imports.{Gave, Has, HasMet, History, Reader, has_ended, linked_cells, part, put_list}
 use Rattle.mb_world.specs.declared.report.Note.{Note}
 use Rattle.mb_world.specs.declared.report.Note.TheVariants.{Took, Lost, Undecided}
 use Rattle.mb_world.specs.Plan.{Histories, Plan, consumers_of}

@@ -1,6 +1,6 @@
 -- What the laws of reports ask of a mailbox and of what was done to its words.
 use Rattle.std.specs.Prelude.{ℕ, ◌<◌}
-use Rattle.mb_world.specs.Below.{IsClaimLawful, IsPoolLawful, IsQuorumTable}
+use Rattle.mb_world.specs.Imports.{IsClaimLawful, IsPoolLawful, IsQuorumTable}
 use Rattle.mb_world.specs.Plan.{Histories, Plan, consumers_of, size_of}
 use Rattle.mb_world.specs.Fitting.{Fits, parts_of}
 

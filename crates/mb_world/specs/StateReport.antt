@@ -7,7 +7,7 @@ use Rattle.mb_cells.specs.State.{IsAfter, PoolState, item_in}
 use Rattle.mb_world.specs.declared.report.Note.{Note}
 use Rattle.mb_world.specs.declared.seat.Seat.{Seat}
 use Rattle.mb_world.specs.declared.seat.Seat.TheVariants as seat
-use Rattle.mb_world.specs.Below.{Entry, History, has_ended, put_list}
+use Rattle.mb_world.specs.Imports.{Entry, History, has_ended, put_list}
 use Rattle.mb_world.specs.Plan.{consumers_of}
 use Rattle.mb_world.specs.Report.{DiaryView, LaneView}
 use Rattle.mb_world.specs.Reporting.{any_below, is_took, values_put}

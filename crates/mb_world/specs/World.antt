@@ -1,7 +1,7 @@
 -- Histories of a world: the accesses to the words of the cells and to those of the claims in one order, the newest
 -- first.
 use Rattle.std.specs.Prelude.{ℕ, ◌≡◌, Bool, ◌&&◌, List, [], ◌∷◌, nat_eq, filter}
-use Rattle.mb_world.specs.Below.{ClaimAccess, History, PoolAccess, Reader, has_cell, is_of_lane, is_same_process, linked_cells}
+use Rattle.mb_world.specs.Imports.{ClaimAccess, History, PoolAccess, Reader, has_cell, is_of_lane, is_same_process, linked_cells}
 use Rattle.mb_world.specs.Plan.{Histories}
 
 -- one atomic access, to a word of the cells or to a word of the claims. Consumer c reads the cells as reader c

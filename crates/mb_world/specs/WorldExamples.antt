@@ -16,7 +16,7 @@ use Rattle.mb_world.specs.declared.event.Event.{Event}
 use Rattle.mb_world.specs.declared.event.Event.TheVariants as event
 use Rattle.mb_world.specs.declared.report.Note.{Note}
 use Rattle.mb_world.specs.declared.report.Note.TheVariants.{Took, Lost}
-use Rattle.mb_world.specs.Below.{END, Entry, Head, Item, Link, ObjectTurn, Word, claim_part}
+use Rattle.mb_world.specs.Imports.{END, Entry, Head, Item, Link, ObjectTurn, Word, claim_part}
 use Rattle.mb_world.specs.Plan.{Histories, Plan}
 use Rattle.mb_world.specs.Report.{DiaryView, ReportView}
 use Rattle.mb_world.specs.Reporting.{IsDiaryOf, IsReportOf}

@@ -8,7 +8,7 @@ use Rattle.mb_world.specs.declared.report.Note.{Note}
 use Rattle.mb_world.specs.declared.seat.Seat.{Seat}
 use Rattle.mb_world.specs.declared.seat.Seat.TheVariants as seat
 use Rattle.mb_world.specs.declared.setup.Setup.{Setup}
-use Rattle.mb_world.specs.Below.{ObjectTurn}
+use Rattle.mb_world.specs.Imports.{ObjectTurn}
 use Rattle.mb_world.specs.Plan.{consumers_of}
 use Rattle.mb_world.specs.Setups.{layout_of, plan_in}
 use Rattle.mb_world.specs.Fitting.{EndsAs, parts_of}
@@ -62,5 +62,5 @@ pub record IsWorldAfter (h : WorldHistory) (s : WorldState) : Type 0 where
       × IsNoteAfter s.setup c k h o
 
 -- the invariant of a world: some lawful history leaves it
-abbrev pub IsSound : WorldState → Type 0
-IsSound s = (h : WorldHistory) × IsWorldAfter h s
+abbrev pub WorldIsSound : WorldState → Type 0
+WorldIsSound s = (h : WorldHistory) × IsWorldAfter h s

@@ -4,7 +4,7 @@ use Rattle.mb_claim.specs.History as claim
 use Rattle.mb_cells.specs.Memory as cell
 use Rattle.mb_deciding.specs.History as object
 use Rattle.mb_world.specs.declared.report.Note.{Note}
-use Rattle.mb_world.specs.Below.{ActFits, AllFit, END, Has, IsLanePrefix, ObjectTurn, PoolAccess, Producer, linked_cells, part}
+use Rattle.mb_world.specs.Imports.{ActFits, AllFit, END, Has, IsLanePrefix, ObjectTurn, PoolAccess, Producer, linked_cells, part}
 use Rattle.mb_world.specs.Plan.{Plan, consumers_of}
 use Rattle.mb_world.specs.World.{IsBy, ToCells, ToClaims, WorldAccess, WorldHistory, claim_accesses, is_on, lane_part, pool_accesses}
 use Rattle.mb_world.specs.ConsumerPath.{ConsumerPath}

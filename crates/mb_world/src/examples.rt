@@ -12,7 +12,7 @@ ghost use Rattle.mb_world.specs.ReportExamples.{two_takers, other_value, lost_to
 ghost use Rattle.mb_world.specs.ReportExamples.{lost_to_each_other, begun_beyond, noted_beyond};
 ghost use Rattle.mb_world.specs.ConsumerPath.{ConsumerPath};
 ghost use Rattle.mb_world.specs.Fitting.{Fits};
-ghost use Rattle.mb_world.specs.Below.{IsClaimPrefix, Item};
+ghost use Rattle.mb_world.specs.Imports.{IsClaimPrefix, Item};
 ghost use Rattle.mb_claim.specs.declared.access.Stage.TheVariants as stage;
 ghost use Rattle.mb_world.specs.PathExamples.{claimed_unseen, read_unclaimed, passed_without_claim, read_head_again};
 ghost use Rattle.mb_world.specs.PathExamples.{IsOnNoPath, first_step, won_steps, waited, found, begun, won, taken};
@@ -47,10 +47,10 @@ ghost use Rattle.mb_world.specs.declared.seat.Seat.TheVariants as seat;
 use crate::laws::{
     agreeing_reports_are_settled, places_tell_diaries, replays_do_not_differ, worlds_are_sound,
 };
-use crate::steps::one_step;
+use crate::steps::history_extends;
 use mb_cells::examples::pools_hold_what_was_done;
 use mb_cells::laws::end_marks_are_last;
-use mb_cells::steps::{one_step as one_pool_step, places_lead_on};
+use mb_cells::steps::{history_extends as one_pool_step, places_lead_on};
 use mb_claim::examples::examples_are_lawful;
 use mb_claim::laws::prefixes_have_one_stage;
 use mb_claim::steps::claims_have_one_next_op;
@@ -207,7 +207,7 @@ pub fn worlds_go_on()
     named_tables_are_lawful();
     examples_are_lawful();
     claims_have_one_next_op();
-    one_step();
+    history_extends();
     one_pool_step();
     places_lead_on();
     worlds_are_sound();

@@ -10,7 +10,7 @@ ghost use Rattle.mb_world.specs.Fitting.{cells_met, parts_of};
 ghost use Rattle.mb_world.specs.Sound.{AreSound};
 ghost use Rattle.mb_world.specs.Reporting.{HasMetAll, IsDiaryOf, IsReportOf};
 ghost use Rattle.mb_world.specs.Headline.{IsHonest};
-ghost use Rattle.mb_world.specs.Below.{Claims, IsQuorumTable, ObjectTurn, claim_part, linked_cells};
+ghost use Rattle.mb_world.specs.Imports.{Claims, IsQuorumTable, ObjectTurn, claim_part, linked_cells};
 ghost use Rattle.mb_world.specs.declared.report.Note.{Note};
 ghost use Rattle.mb_world.specs.declared.report.Note.TheVariants.{Undecided};
 ghost use Rattle.mb_world.specs.declared.setup.Setup.{Setup};
@@ -29,7 +29,7 @@ ghost use Rattle.mb_world.specs.declared.event.Event.TheVariants as event;
 ghost use Rattle.mb_world.specs.Replay.{IsAccessOf, IsEntry, IsRefused, IsRefusedOrMade, IsReplay};
 ghost use Rattle.mb_world.specs.World.{WorldAccess, WorldHistory, claim_accesses, histories_of, lane_part};
 ghost use Rattle.mb_world.specs.World.{pool_accesses};
-ghost use Rattle.mb_world.specs.Below.{HasFoundNone, HasPending, has_ended};
+ghost use Rattle.mb_world.specs.Imports.{HasFoundNone, HasPending, has_ended};
 ghost use Rattle.mb_world.specs.Waiting.{HasNothing};
 ghost use Rattle.mb_world.specs.Worlds.{IsWorldLawful};
 
@@ -38,7 +38,7 @@ use mb_cells::laws::{
     numbers_are_handed_out_once, readers_follow_lanes, readers_keep_to_lanes,
     words_lead_through_lanes,
 };
-use mb_cells::steps::{accesses_stay_within, lanes_lead_on, one_step};
+use mb_cells::steps::{accesses_stay_within, history_extends, lanes_lead_on};
 use mb_claim::laws::{claims_have_one_winner, last_objects_decide_claims, prefixes_have_one_stage};
 use mb_claim::steps::claims_have_one_next_op;
 use mb_deciding::laws::objects_keep_their_promises;
@@ -296,5 +296,5 @@ pub fn events_of_producers_are_refused_or_made()
     accesses_stay_within();
     numbers_are_handed_out_once();
     worlds_are_sound();
-    one_step();
+    history_extends();
 }

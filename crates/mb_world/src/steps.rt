@@ -1,4 +1,4 @@
-//! What builders need: one more access. A world keeps one history ([`one_step`]). A consumer among threads keeps its
+//! What builders need: one more access. A world keeps one history ([`history_extends`]). A consumer among threads keeps its
 //! own two parts, which fit ([`parts_fit_on`]). The functions compute nothing: their contracts are the laws. Their
 //! proofs are in `proofs/steps/`, one folder for each. They use the lemmas of `proofs/`.
 ghost use Rattle.std.specs.Prelude.{ℕ, ◌≡◌, ◌≢◌, ◌+◌, ◌<◌, ◌⊎◌, List, [], ◌∷◌, Option};
@@ -6,9 +6,9 @@ ghost use Rattle.mb_claim.specs.declared.access.Stage.TheVariants as stage;
 ghost use Rattle.mb_world.specs.Fitting.{Fits, FollowsLinks, HasStageIn, Parts, cells_met};
 ghost use Rattle.mb_world.specs.Reporting.{HasMetAll};
 ghost use Rattle.mb_world.specs.PartSteps.{HasNotLeft, MayLookPast, no_parts, with_load, with_step};
-ghost use Rattle.mb_world.specs.Below.{Claims, Gave, Has, HasMet, History, IsOnceEach, Item, PoolSize, Reader, linked_cells};
-ghost use Rattle.mb_world.specs.Below.{load, part, place_past};
-ghost use Rattle.mb_world.specs.Below.{END, IsPoolLawful, IsQuorumTable, ObjectTurn, PoolAccess, Producer};
+ghost use Rattle.mb_world.specs.Imports.{Claims, Gave, Has, HasMet, History, IsOnceEach, Item, PoolSize, Reader, linked_cells};
+ghost use Rattle.mb_world.specs.Imports.{load, part, place_past};
+ghost use Rattle.mb_world.specs.Imports.{END, IsPoolLawful, IsQuorumTable, ObjectTurn, PoolAccess, Producer};
 ghost use Rattle.mb_world.specs.declared.report.Note.{Note};
 ghost use Rattle.mb_world.specs.Plan.{Plan, consumers_of, size_of};
 ghost use Rattle.mb_world.specs.World.{WorldAccess, WorldHistory, lane_part, pool_accesses};
@@ -17,11 +17,11 @@ ghost use Rattle.mb_world.specs.Worlds.{ConsumerAdds, IsTrueTo, IsWorldLawful, P
 
 use crate::laws::worlds_are_sound;
 use mb_cells::laws::{cells_stand_once, readers_follow_lanes};
-use mb_cells::steps::one_step as one_pool_step;
+use mb_cells::steps::history_extends as one_pool_step;
 use mb_claim::laws::prefixes_have_one_stage;
 
 /// Lawful histories of a world grow by one access after another.
-pub fn one_step()
+pub fn history_extends()
     ensures empty { (plan : Plan) → plan.claims.cells < END → IsWorldLawful plan [] }
 
     // One more access of a consumer, which extends its path on a lane.

@@ -1,13 +1,13 @@
 //! The world: all words under one caller.
-mod applying;
-mod reporting;
+mod events;
+mod reports;
 mod states;
-mod stepping;
+mod step_event;
 
 use crate::report::Note;
 use crate::seat::Seat;
 use crate::setup::Setup;
-use crate::steps::one_step;
+use crate::steps::history_extends;
 use mb_cells::{NoMemory, Pool};
 use mb_claim::ClaimWords;
 use mb_claim::laws::{layouts_are_sound, prefixes_have_one_stage};
@@ -29,7 +29,7 @@ pub struct World<A: Allocator + Drop> {
 }
 
 impl<A: Allocator + Drop> Model for World<A> {
-    ghost use Rattle.mb_world.specs.WorldState.{IsSound, WorldState};
+    ghost use Rattle.mb_world.specs.WorldState.{WorldIsSound, WorldState};
 
     ghost Value = { WorldState };
 
@@ -41,7 +41,7 @@ impl<A: Allocator + Drop> Model for World<A> {
       notes = w.notes.items;
     } };
 
-    ghost invariant = { λ w. IsSound (record {
+    ghost invariant = { λ w. WorldIsSound (record {
       setup = w.setup;
       pool = w.pool;
       words = w.words;
@@ -63,7 +63,7 @@ impl<A: Allocator + Clone + Drop> World<A> {
         layouts_are_sound();
         objects_keep_their_promises();
         prefixes_have_one_stage();
-        one_step();
+        history_extends();
         let layout = setup.layout();
         let lanes = setup.producers() as u32;
         let cells = setup.cells() as u32;

@@ -2,9 +2,9 @@
 
 ghost use Rattle.std.specs.Prelude.{ℕ, ◌<◌, IfOk, false, true};
 ghost use Rattle.test_alloc.specs.Trials.{MaySay};
-ghost use Rattle.test_alloc.specs.declared.book.Refuse.TheVariants.{From, Only};
+ghost use Rattle.test_alloc.specs.declared.counters.Refuse.TheVariants.{From, Only};
 
-use crate::{Rations, Refuse};
+use crate::{FaultyHeap, Refuse};
 use std::alloc::Global;
 use std::test::Fail;
 
@@ -16,7 +16,7 @@ const MANY: u64 = 100;
 ///
 /// The call returns whether it was served. It has to be refused exactly if an allocation was, and may keep no memory.
 /// The error is that it does otherwise, that it keeps memory, or that it makes a hundred allocations.
-pub fn growths_refused<R: AllocGlobal, F: Fn(&Rations<Global>) -> Result<bool, Fail>>(
+pub fn growths_refused<R: AllocGlobal, F: Fn(&FaultyHeap<Global>) -> Result<bool, Fail>>(
     rt: &R,
     call: F,
 ) -> Result<u64, Fail>
@@ -28,8 +28,8 @@ pub fn growths_refused<R: AllocGlobal, F: Fn(&Rations<Global>) -> Result<bool, F
         → MaySay F.Fn call (From k) false × MaySay F.Fn call (Only k) false) }
 {
     for number in 0..MANY {
-        let from = Rations::new(rt.alloc(), Refuse::From(number));
-        let only = Rations::new(rt.alloc(), Refuse::Only(number));
+        let from = FaultyHeap::new(rt.alloc(), Refuse::From(number));
+        let only = FaultyHeap::new(rt.alloc(), Refuse::Only(number));
         let served = call(&from)?;
         if call(&only)? != served {
             return Err(Fail::new("one refused growth is not as all later ones"));

@@ -2,10 +2,10 @@
 //! tries a call with each of its allocations refused in turn.
 #![tactic(auto)]
 
-mod book;
+mod counters;
+mod faulty;
 mod growths;
-mod rations;
 
-pub use book::Refuse;
+pub use counters::Refuse;
+pub use faulty::FaultyHeap;
 pub use growths::growths_refused;
-pub use rations::Rations;

@@ -2,7 +2,7 @@
 use Rattle.std.specs.Prelude.{ℕ, ◌≡◌, ◌+◌, ◌%◌, ◌^◌, ◌≤◌, List, length}
 use Rattle.std.specs.List.{All, sum_by}
 use Rattle.mb_world.specs.Report.{LaneView, ReportView}
-use Rattle.test_audit.specs.declared.auditing.Tally.{Tally}
+use Rattle.test_audit.specs.declared.rules.Tally.{Tally}
 
 -- a tally of these numbers
 abbrev pub counts : ℕ → ℕ → ℕ → ℕ → ℕ → ℕ → Tally

@@ -3,9 +3,9 @@
 //! wrong.
 #![tactic(auto)]
 
-mod auditing;
 mod flaw;
-mod meeting;
+mod matching;
+mod rules;
 
-pub use auditing::{Tally, audit};
 pub use flaw::Flaw;
+pub use rules::{Tally, audit};

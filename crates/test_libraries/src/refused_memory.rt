@@ -12,7 +12,7 @@ use mb_world::{Note, Report, Setup, World};
 use std::alloc::Global;
 use std::process::Abort;
 use std::test::Fail;
-use test_alloc::{Rations, Refuse, growths_refused};
+use test_alloc::{FaultyHeap, Refuse, growths_refused};
 use test_support::tells;
 
 #[test]
@@ -51,7 +51,7 @@ fn each_growth_of_play_refused(rt: HostRuntime) -> Result<(), Fail> {
 }
 
 /// The allocator of all lists of a world.
-type Alloc<'r> = &'r Rations<Global>;
+type Alloc<'r> = &'r FaultyHeap<Global>;
 
 /// The only item was taken by the only consumer.
 fn tells_seven(rt: &impl Abort, report: Report<Alloc<'_>>) {
@@ -96,7 +96,7 @@ fn world_is_served<'a>(rt: &impl Abort, alloc: Alloc<'a>, ample: Alloc<'a>) -> b
 
 #[test]
 fn each_growth_of_a_world_and_its_report_refused(rt: HostRuntime) -> Result<(), Fail> {
-    let ample = Rations::new(rt.alloc(), Refuse::Never);
+    let ample = FaultyHeap::new(rt.alloc(), Refuse::Never);
     let refused = growths_refused(&rt, |alloc| Ok(world_is_served(&rt, alloc, &ample)))?;
     // The four lists of the pool, the words of the claims, the seats and the notes; then the lane and its item, the diary
     // and its note, and the cells of the lane that is read.

@@ -2,16 +2,16 @@
 
 use crate::compare::same;
 use std::alloc::Allocator;
-use test_alloc::{Rations, Refuse};
+use test_alloc::{FaultyHeap, Refuse};
 
 /// How many requests there were, and how many blocks are out.
-fn counts<B: Allocator>(rations: &Rations<B>) -> (u64, u64) {
+fn counts<B: Allocator>(rations: &FaultyHeap<B>) -> (u64, u64) {
     (rations.asked(), rations.out())
 }
 
 #[test]
 fn each_request_is_granted(rt: HostRuntime) {
-    let rations = Rations::new(rt.alloc(), Refuse::Never);
+    let rations = FaultyHeap::new(rt.alloc(), Refuse::Never);
     let one = Box::new(&rations, 7u64).expect(&rt, "no box");
     let two = Box::new(&rations, 8u8).expect(&rt, "no box");
     let both = counts(&rations);
@@ -27,7 +27,7 @@ fn each_request_is_granted(rt: HostRuntime) {
 
 #[test]
 fn all_from_one_on_are_refused(rt: HostRuntime) {
-    let rations = Rations::new(rt.alloc(), Refuse::From(1));
+    let rations = FaultyHeap::new(rt.alloc(), Refuse::From(1));
     let first = Box::new(&rations, 7u64).expect(&rt, "no box");
     let second = Box::new(&rations, 8u64).is_err();
     let third = Box::new(&rations, 9u64).is_err();
@@ -42,7 +42,7 @@ fn all_from_one_on_are_refused(rt: HostRuntime) {
 
 #[test]
 fn one_alone_is_refused(rt: HostRuntime) {
-    let rations = Rations::new(rt.alloc(), Refuse::Only(1));
+    let rations = FaultyHeap::new(rt.alloc(), Refuse::Only(1));
     let first = Box::new(&rations, 7u64).expect(&rt, "no box");
     let second = Box::new(&rations, 8u64).is_err();
     let third = Box::new(&rations, 9u64).expect(&rt, "no box");
@@ -58,8 +58,8 @@ fn one_alone_is_refused(rt: HostRuntime) {
 // The allocator below refuses what this one would grant.
 #[test]
 fn what_is_refused_below_is_not_out(rt: HostRuntime) {
-    let below = Rations::new(rt.alloc(), Refuse::From(0));
-    let rations = Rations::new(&below, Refuse::Never);
+    let below = FaultyHeap::new(rt.alloc(), Refuse::From(0));
+    let rations = FaultyHeap::new(&below, Refuse::Never);
     let refused = Box::new(&rations, 7u64).is_err();
     same(
         &rt,
@@ -71,7 +71,7 @@ fn what_is_refused_below_is_not_out(rt: HostRuntime) {
 // The list asks for more room as it grows, and gives back what it had.
 #[test]
 fn lists_grow(rt: HostRuntime) {
-    let rations = Rations::new(rt.alloc(), Refuse::Never);
+    let rations = FaultyHeap::new(rt.alloc(), Refuse::Never);
     let mut list = Vec::new(&rations);
     for x in 0..100u64 {
         list.push(x).expect(&rt, "no list");

@@ -10,6 +10,8 @@ mod draws;
 #[cfg(test)]
 mod gates;
 #[cfg(test)]
+mod last_objects;
+#[cfg(test)]
 mod leaves;
 #[cfg(test)]
 mod mailboxes;
@@ -21,8 +23,6 @@ mod rationed;
 mod refused_mailboxes;
 #[cfg(test)]
 mod scenes;
-#[cfg(test)]
-mod settling;
 #[cfg(test)]
 mod texts;
 #[cfg(test)]

@@ -12,7 +12,7 @@ use std::process::Abort;
 use std::sync::Wait;
 use std::test::Fail;
 use std::thread::Threads;
-use test_alloc::{Rations, Refuse, growths_refused};
+use test_alloc::{FaultyHeap, Refuse, growths_refused};
 
 /// Whether a producer's number is left. If so, the producer is given, and taken in without an access.
 fn has_lane<'r>(trial: &mut Trial<Alloc<'r>>, ample: Alloc<'r>) -> bool {
@@ -49,7 +49,7 @@ poll 0 0 100: took 7
 #[test]
 fn each_growth_of_a_lone_producer_refused(rt: HostRuntime) -> Result<(), Fail> {
     let refused = growths_refused(&rt, |alloc| {
-        let ample = Rations::new(rt.alloc(), Refuse::Never);
+        let ample = FaultyHeap::new(rt.alloc(), Refuse::Never);
         let served = one_item_is_served(&rt, alloc, &ample);
         same(&rt, &ample.out(), &0);
         Ok(served)
@@ -102,7 +102,7 @@ fn two_are_served<'r, R: Abort + Threads + Wait + Sync>(
 #[test]
 fn each_growth_of_two_workers_refused(rt: HostRuntime) -> Result<(), Fail> {
     let refused = growths_refused(&rt, |alloc| {
-        let ample = Rations::new(rt.alloc(), Refuse::Never);
+        let ample = FaultyHeap::new(rt.alloc(), Refuse::Never);
         let served = two_are_served(&rt, alloc, &ample);
         let again = two_are_served(&rt, &ample, &ample);
         same(&rt, &(again, ample.out()), &(true, 0));
@@ -166,7 +166,7 @@ diary 1 1
 #[test]
 fn a_refused_call_is_made_again(rt: HostRuntime) -> Result<(), Fail> {
     let refused = growths_refused(&rt, |alloc| {
-        let ample = Rations::new(rt.alloc(), Refuse::Never);
+        let ample = FaultyHeap::new(rt.alloc(), Refuse::Never);
         let served = second_call_is_done(&rt, alloc, &ample);
         same(&rt, &ample.out(), &0);
         Ok(served)
@@ -248,7 +248,7 @@ fn four_are_served<'r, R: Abort + Threads + Wait + Sync>(
 #[test]
 fn each_growth_of_four_workers_refused(rt: HostRuntime) -> Result<(), Fail> {
     let refused = growths_refused(&rt, |alloc| {
-        let ample = Rations::new(rt.alloc(), Refuse::Never);
+        let ample = FaultyHeap::new(rt.alloc(), Refuse::Never);
         let served = four_are_served(&rt, alloc, &ample);
         let again = four_are_served(&rt, &ample, &ample);
         same(&rt, &(again, ample.out()), &(true, 0));

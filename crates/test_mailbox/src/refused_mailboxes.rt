@@ -10,10 +10,10 @@ use mb_world::Setup;
 use std::alloc::Global;
 use std::process::Abort;
 use std::test::Fail;
-use test_alloc::{Rations, Refuse, growths_refused};
+use test_alloc::{FaultyHeap, Refuse, growths_refused};
 
 /// The allocator of all lists of a trial.
-pub(crate) type Alloc<'r> = &'r Rations<Global>;
+pub(crate) type Alloc<'r> = &'r FaultyHeap<Global>;
 
 /// The only item is put and taken, and the report tells it.
 fn takes_seven<'a>(rt: &impl Abort, ample: Alloc<'a>, mut trial: Trial<Alloc<'a>>) {
@@ -46,7 +46,7 @@ fn new_is_served<'a>(rt: &impl Abort, alloc: Alloc<'a>, ample: Alloc<'a>) -> boo
 
 #[test]
 fn each_growth_of_new_refused(rt: HostRuntime) -> Result<(), Fail> {
-    let ample = Rations::new(rt.alloc(), Refuse::Never);
+    let ample = FaultyHeap::new(rt.alloc(), Refuse::Never);
     let refused = growths_refused(&rt, |alloc| Ok(new_is_served(&rt, alloc, &ample)))?;
     // The lists of what is taken in, the words of the cells, and the zeros and the words of the claims.
     same(&rt, &(5 <= refused, ample.out()), &(true, 0));
@@ -78,7 +78,7 @@ fn producer_is_served<'a>(rt: &impl Abort, alloc: Alloc<'a>, ample: Alloc<'a>) -
 
 #[test]
 fn each_growth_of_a_producer_refused(rt: HostRuntime) -> Result<(), Fail> {
-    let ample = Rations::new(rt.alloc(), Refuse::Never);
+    let ample = FaultyHeap::new(rt.alloc(), Refuse::Never);
     let refused = growths_refused(&rt, |alloc| Ok(producer_is_served(&rt, alloc, &ample)))?;
     // The list of its items.
     same(&rt, &(1 <= refused, ample.out()), &(true, 0));
@@ -102,7 +102,7 @@ fn consumer_is_served<'a>(rt: &impl Abort, alloc: Alloc<'a>, ample: Alloc<'a>) -
 
 #[test]
 fn each_growth_of_a_consumer_refused(rt: HostRuntime) -> Result<(), Fail> {
-    let ample = Rations::new(rt.alloc(), Refuse::Never);
+    let ample = FaultyHeap::new(rt.alloc(), Refuse::Never);
     let refused = growths_refused(&rt, |alloc| Ok(consumer_is_served(&rt, alloc, &ample)))?;
     // The marks and the words of its notes.
     same(&rt, &(2 <= refused, ample.out()), &(true, 0));
@@ -146,7 +146,7 @@ fn gather_is_served<'a>(
 
 #[test]
 fn each_growth_of_gather_refused(rt: HostRuntime) -> Result<(), Fail> {
-    let ample = Rations::new(rt.alloc(), Refuse::Never);
+    let ample = FaultyHeap::new(rt.alloc(), Refuse::Never);
     for (sizes, lines, want, growths) in [
         // The lane and the diary; the consumer's lists, and its note.
         (

@@ -15,7 +15,7 @@ use claims::CLAIMS;
 use lanes::LANES;
 use mb_program::program::run;
 use mb_program::status_of_ending;
-use mb_script::Counting;
+use mb_script::CountingIo;
 use ratifiers::RATIFIERS;
 use refused_replays::REFUSED_REPLAYS;
 use runs::RUNS;
@@ -30,9 +30,9 @@ pub(crate) fn ended<R: AllocGlobal + Threads + Wait + Sync>(
     words: &[&str],
     input: &str,
 ) -> (Vec<u8>, Vec<u8>, u8) {
-    let mut reader = Counting::new(input.as_bytes());
-    let mut writer = Counting::new(Vec::<u8>::new(rt.alloc()));
-    let mut errors = Counting::new(Vec::<u8>::new(rt.alloc()));
+    let mut reader = CountingIo::new(input.as_bytes());
+    let mut writer = CountingIo::new(Vec::<u8>::new(rt.alloc()));
+    let mut errors = CountingIo::new(Vec::<u8>::new(rt.alloc()));
     let ending = run(rt, words, &mut reader, &mut writer, &mut errors);
     (writer.device, errors.device, status_of_ending(&ending))
 }

@@ -5,13 +5,13 @@ use crate::devices::{Letters, NarrowWriter, SlowReader};
 use crate::examples::ratifiers::LATE_INPUT;
 use mb_program::{RatifyFault, ratify_text, read_script};
 use mb_quorum::TableName;
-use mb_script::Counting;
+use mb_script::CountingIo;
 use std::alloc::AllocError;
 
 // Runs the script. Returns how the call ended, and what was written.
 fn ratified(rt: &HostRuntime, script: &str) -> (Result<(), RatifyFault>, Vec<u8>) {
-    let mut reader = Counting::new(script.as_bytes());
-    let mut writer = Counting::new(Vec::<u8>::new(rt.alloc()));
+    let mut reader = CountingIo::new(script.as_bytes());
+    let mut writer = CountingIo::new(Vec::<u8>::new(rt.alloc()));
     let result = ratify_text(rt.alloc(), &mut reader, &mut writer);
     (result, writer.device)
 }
@@ -142,11 +142,11 @@ fn answered(
     room: usize,
     writer_fails: bool,
 ) -> (Result<(), RatifyFault>, Vec<u8>) {
-    let mut reader = Counting::new(SlowReader {
+    let mut reader = CountingIo::new(SlowReader {
         script: script.as_bytes(),
         fails: reader_fails,
     });
-    let mut writer = Counting::new(NarrowWriter {
+    let mut writer = CountingIo::new(NarrowWriter {
         taken: Vec::new(rt.alloc()),
         room,
         fails: writer_fails,
@@ -201,8 +201,8 @@ fn reading_stops_past_the_limit(rt: HostRuntime) {
         (1_048_577, true, RatifyFault::TooLong),
         (1_048_578, false, RatifyFault::TooLong),
     ] {
-        let mut reader = Counting::new(Letters { left, fails });
-        let mut writer = Counting::new(Vec::<u8>::new(rt.alloc()));
+        let mut reader = CountingIo::new(Letters { left, fails });
+        let mut writer = CountingIo::new(Vec::<u8>::new(rt.alloc()));
         let result = ratify_text(rt.alloc(), &mut reader, &mut writer);
         same_at(
             &rt,

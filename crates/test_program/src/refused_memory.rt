@@ -7,7 +7,7 @@ use crate::examples::ratifiers::LATE_INPUT;
 use crate::examples::runs::TWO_ITEMS;
 use crate::run::ALONE;
 use mb_program::{Failed, RatifyFault, RunFault, fault_text, ratify_text, run_threads};
-use mb_script::{Counting, Fault, report_text, run};
+use mb_script::{CountingIo, Fault, report_text, run};
 use mb_world::{Note, SetupFault};
 use std::fmt::Debug;
 use std::process::Abort;
@@ -34,8 +34,8 @@ fn is_served<F: PartialEq + Debug + Copy>(
 #[test]
 fn each_growth_of_ratify_text_refused(rt: HostRuntime) -> Result<(), Fail> {
     let refused = growths_refused(&rt, |alloc| {
-        let mut reader = Counting::new(LATE_INPUT.input.as_bytes());
-        let mut writer = Counting::new(Vec::<u8>::new(rt.alloc()));
+        let mut reader = CountingIo::new(LATE_INPUT.input.as_bytes());
+        let mut writer = CountingIo::new(Vec::<u8>::new(rt.alloc()));
         let result = ratify_text(alloc, &mut reader, &mut writer);
         let written = writer.device.as_slice();
         Ok(is_served(
@@ -57,8 +57,8 @@ fn each_growth_of_run_refused(rt: HostRuntime) -> Result<(), Fail> {
     // of the lane come once for the lane and once for each diary.
     for (example, growths) in [(ITEM_TAKEN, 16), (ONE_LOSES, 18)] {
         let refused = growths_refused(&rt, |alloc| {
-            let mut reader = Counting::new(example.input.as_bytes());
-            let mut writer = Counting::new(Vec::<u8>::new(rt.alloc()));
+            let mut reader = CountingIo::new(example.input.as_bytes());
+            let mut writer = CountingIo::new(Vec::<u8>::new(rt.alloc()));
             let result = run(alloc, &mut reader, &mut writer);
             let written = writer.device.as_slice();
             Ok(is_served(&rt, result, Fault::NoMemory, written, example.output))
@@ -71,7 +71,7 @@ fn each_growth_of_run_refused(rt: HostRuntime) -> Result<(), Fail> {
 #[test]
 fn each_growth_of_run_threads_refused(rt: HostRuntime) -> Result<(), Fail> {
     let refused = growths_refused(&rt, |alloc| {
-        let mut writer = Counting::new(Vec::<u8>::new(rt.alloc()));
+        let mut writer = CountingIo::new(Vec::<u8>::new(rt.alloc()));
         let result = run_threads(alloc, &rt, ALONE, &mut writer);
         let written = writer.device.as_slice();
         Ok(is_served(&rt, result, RunFault::NoMemory, written, TWO_ITEMS.output))

@@ -3,7 +3,7 @@
 use crate::compare::{same, same_at};
 use crate::devices::{Letters, NarrowWriter, SlowReader};
 use crate::examples::claims::ITEM_TAKEN;
-use mb_script::{Counting, Fault, report_text, run};
+use mb_script::{CountingIo, Fault, report_text, run};
 use mb_world::{Note, SetupFault};
 use std::alloc::{AllocError, Global};
 use std::process::Abort;
@@ -11,8 +11,8 @@ use test_support::made_up;
 
 // Replays the script. Returns how the call ended, and what was written.
 fn replayed(rt: &HostRuntime, script: &str) -> (Result<(), Fault>, Vec<u8>) {
-    let mut reader = Counting::new(script.as_bytes());
-    let mut writer = Counting::new(Vec::<u8>::new(rt.alloc()));
+    let mut reader = CountingIo::new(script.as_bytes());
+    let mut writer = CountingIo::new(Vec::<u8>::new(rt.alloc()));
     let result = run(rt.alloc(), &mut reader, &mut writer);
     (result, writer.device)
 }
@@ -114,11 +114,11 @@ fn devices_fail(rt: HostRuntime) {
         (taken, false, 10, true, write_fault, "offer 0 7 "),
         (taken, false, 10, false, write_fault, "offer 0 7 "),
     ] {
-        let mut reader = Counting::new(SlowReader {
+        let mut reader = CountingIo::new(SlowReader {
             script: script.as_bytes(),
             fails: reader_fails,
         });
-        let mut writer = Counting::new(NarrowWriter {
+        let mut writer = CountingIo::new(NarrowWriter {
             taken: Vec::new(rt.alloc()),
             room,
             fails: writer_fails,
@@ -150,8 +150,8 @@ fn reading_stops_past_the_limit(rt: HostRuntime) {
         (1_048_577, true, Fault::TooLong),
         (1_048_578, false, Fault::TooLong),
     ] {
-        let mut reader = Counting::new(Letters { left, fails });
-        let mut writer = Counting::new(Vec::<u8>::new(rt.alloc()));
+        let mut reader = CountingIo::new(Letters { left, fails });
+        let mut writer = CountingIo::new(Vec::<u8>::new(rt.alloc()));
         let result = run(rt.alloc(), &mut reader, &mut writer);
         same_at(
             &rt,

@@ -7,7 +7,7 @@ use crate::examples::ended;
 use crate::examples::runs::TWO_ITEMS;
 use mb_claim::Shape;
 use mb_program::{Options, RunFault, run_threads, source_of, workload_of};
-use mb_script::Counting;
+use mb_script::CountingIo;
 use mb_world::SetupFault;
 use rand_core::Rng;
 use std::sync::Wait;
@@ -35,7 +35,7 @@ fn reported<R: AllocGlobal + Threads + Wait + Sync>(
         budget: options.budget.max(1),
         ..options
     };
-    let mut writer = Counting::new(Vec::<u8>::new(rt.alloc()));
+    let mut writer = CountingIo::new(Vec::<u8>::new(rt.alloc()));
     let result = run_threads(rt.alloc(), rt, options, &mut writer);
     (result, writer.device)
 }
@@ -151,7 +151,7 @@ fn writers_fail(rt: HostRuntime) {
         (10, false, Err(RunFault::WriteFault), "lane 0 end"),
         (0, false, Err(RunFault::WriteFault), ""),
     ] {
-        let mut writer = Counting::new(NarrowWriter {
+        let mut writer = CountingIo::new(NarrowWriter {
             taken: Vec::new(rt.alloc()),
             room,
             fails,

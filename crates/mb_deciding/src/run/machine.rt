@@ -10,7 +10,7 @@ use mb_quorum::Quorums;
 pub trait Machine {
     ghost use Rattle.std.specs.Prelude.{◌≡◌, ◌<◌, ℕ, List, []};
     ghost use Rattle.mb_quorum.specs.Quorum.{QuorumTable};
-    ghost use Rattle.mb_deciding.specs.{Op, Turn, Kind, IsAt, IsOpAt, IsStep, IsTableFor, IsSameFor, next_from};
+    ghost use Rattle.mb_deciding.specs.{Op, Turn, Kind, PcIsAt, IsOpAt, IsStep, IsTableFor, IsSameFor, next_from};
 
     /// The kind of the object.
     ghost kind: { Self → Kind };
@@ -26,12 +26,12 @@ pub trait Machine {
     fn first(&self, input: u32) -> Pc
         requires { input < (table self.now).values }
         ensures { (t : QuorumTable) → IsSameFor (kind self.now) t (table self.now)
-            → IsAt t (kind self.now) input result [] };
+            → PcIsAt t (kind self.now) input result [] };
 
     /// Makes the next access, with this random word. Goes on to the place that it leads to, or returns the output.
     fn step<W: Memory>(&self, pc: &mut Pc, memory: &mut W, word: u64) -> Option<Out>
         requires place { (v : ℕ) × (turns : List Turn)
-            × IsAt (table self.now) (kind self.now) v pc.old turns }
+            × PcIsAt (table self.now) (kind self.now) v pc.old turns }
         requires may { (op : Op) → IsOpAt (table self.now) pc.old op
             → W.can_make memory.old 0 op }
         ensures { (t : QuorumTable) → IsSameFor (kind self.now) t (table self.now)

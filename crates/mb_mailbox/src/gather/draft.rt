@@ -1,5 +1,5 @@
 //! A hub for which all room that its report needs was taken.
-use crate::gather::cutting::CutHub;
+use crate::gather::cut::CutHub;
 use crate::hub::Hub;
 use mb_world::Report;
 use std::alloc::Allocator;
@@ -14,7 +14,7 @@ pub struct Draft<A: Allocator + Drop> {
 }
 
 impl<A: Allocator + Drop> Model for Draft<A> {
-    ghost use Rattle.mb_mailbox.specs.Below.{claims_at};
+    ghost use Rattle.mb_mailbox.specs.Imports.{claims_at};
     ghost use Rattle.mb_mailbox.specs.Gathering.{IsOutlineIn};
     ghost use Rattle.mb_mailbox.specs.Hubs.{HubView};
 

@@ -4,7 +4,7 @@ ghost use Rattle.std.specs.Prelude.{◌≡◌};
 ghost use Rattle.mb_shared_cells.specs.Vocabulary.{IsRollOf};
 ghost use Rattle.mb_shared_claims.specs.Vocabulary.{AreOfOneHistory, count_out, taken_part};
 ghost use Rattle.mb_world.specs.Report.{ReportView};
-ghost use Rattle.mb_mailbox.specs.Below.{History, claims_in, consumer_count};
+ghost use Rattle.mb_mailbox.specs.Imports.{History, claims_in, consumer_count};
 ghost use Rattle.mb_mailbox.specs.Gathering.{FullTakesAll, IsGathered, IsReportIn, UndecidedHasCompany, count_missing};
 ghost use Rattle.mb_mailbox.specs.Hubs.{HubView, IsHub, IsHubOf};
 ghost use Rattle.mb_mailbox.specs.Mailboxes.{IsMailbox, MailboxView};

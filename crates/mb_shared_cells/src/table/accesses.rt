@@ -1,12 +1,12 @@
 //! One access of a seat: one atomic step of the table.
 use super::SharedCells;
-use crate::rule::{Made, Makes};
+use crate::rule::{AccessSpec, MakeAccess};
 use crate::views::View;
 use atomic_table::Seat;
 use mb_cells::Word;
 use mb_cells::laws::numbers_are_handed_out_once;
 use mb_cells::steps::{
-    accesses_lengthen_one_part, addresses_are_apart, one_step, words_follow_steps,
+    accesses_lengthen_one_part, addresses_are_apart, history_extends, words_follow_steps,
 };
 use std::alloc::Allocator;
 
@@ -35,7 +35,7 @@ impl<A: Allocator + Drop> SharedCells<A> {
     }
 
     /// Loads a word with a reader's seat.
-    pub(super) fn load<W: Made>(&self, seat: &mut Seat<(), View>, word: Word) -> u64
+    pub(super) fn load<W: AccessSpec>(&self, seat: &mut Seat<(), View>, word: Word) -> u64
         requires picked { (W.word ≡ word) × (W.act ≡ (λ n. Load n)) }
         requires table { seat.old.table_id ≡ self.now.id }
         requires can { CanLoad self.now.size word seat.old.me }
@@ -45,14 +45,14 @@ impl<A: Allocator + Drop> SharedCells<A> {
     {
         accesses_lengthen_one_part();
         addresses_are_apart();
-        one_step();
+        history_extends();
         words_follow_steps();
         let address = self.address(word);
-        self.table.shared.load::<Makes<W>>(seat, address)
+        self.table.shared.load::<MakeAccess<W>>(seat, address)
     }
 
     /// Stores a value in a word with a lane's seat.
-    pub(super) fn store<W: Made>(&self, seat: &mut Seat<(), View>, word: Word, value: u64)
+    pub(super) fn store<W: AccessSpec>(&self, seat: &mut Seat<(), View>, word: Word, value: u64)
         requires picked { (W.word ≡ word) × (W.act ≡ (λ n. Store n)) }
         requires table { seat.old.table_id ≡ self.now.id }
         requires can { CanStore self.now.size word value seat.old.me }
@@ -61,14 +61,16 @@ impl<A: Allocator + Drop> SharedCells<A> {
     {
         accesses_lengthen_one_part();
         addresses_are_apart();
-        one_step();
+        history_extends();
         words_follow_steps();
         let address = self.address(word);
-        self.table.shared.store::<Makes<W>>(seat, address, value);
+        self.table
+            .shared
+            .store::<MakeAccess<W>>(seat, address, value);
     }
 
     /// Adds one to the counter for an item, with a lane's seat. Returns what the counter held before.
-    pub(super) fn fetch_add<W: Made>(&self, seat: &mut Seat<(), View>, item: u64) -> u64
+    pub(super) fn fetch_add<W: AccessSpec>(&self, seat: &mut Seat<(), View>, item: u64) -> u64
         requires picked { (W.word ≡ Counter) × (W.act ≡ (λ n. FetchAdd item n)) }
         requires table { seat.old.table_id ≡ self.now.id }
         requires can { CanFetch self.now.size item seat.old.me }
@@ -80,8 +82,8 @@ impl<A: Allocator + Drop> SharedCells<A> {
         accesses_lengthen_one_part();
         addresses_are_apart();
         numbers_are_handed_out_once();
-        one_step();
+        history_extends();
         words_follow_steps();
-        self.table.shared.fetch_add::<Makes<W>>(seat, 0, 1)
+        self.table.shared.fetch_add::<MakeAccess<W>>(seat, 0, 1)
     }
 }

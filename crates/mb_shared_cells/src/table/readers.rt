@@ -1,7 +1,7 @@
 //! What a reader does with its seat.
 use super::{ReaderSeat, SharedCells};
 use mb_cells::laws::{cells_stand_once, loads_tell_what_stays, parts_tell_lanes};
-use mb_cells::steps::{accesses_lengthen_one_part, accesses_stay_within, one_step};
+use mb_cells::steps::{accesses_lengthen_one_part, accesses_stay_within, history_extends};
 use mb_cells::{Cursor, END, Look, Word};
 use std::alloc::Allocator;
 use std::marker::Brand;
@@ -38,7 +38,7 @@ impl<A: Allocator + Drop> SharedCells<A> {
         accesses_stay_within();
         cells_stand_once();
         loads_tell_what_stays();
-        one_step();
+        history_extends();
         parts_tell_lanes();
         let link = self.load::<Brand>(&mut seat.seat, cursor.word());
         if link == 0 {
@@ -67,7 +67,7 @@ impl<A: Allocator + Drop> SharedCells<A> {
     {
         accesses_lengthen_one_part();
         accesses_stay_within();
-        one_step();
+        history_extends();
         parts_tell_lanes();
         self.load::<Brand>(&mut seat.seat, Word::Item(k))
     }

@@ -1,7 +1,7 @@
 //! Many steps of a claim on the words of a table, each with a random word of its own.
 ghost use Rattle.std.specs.Prelude.{◌<◌, ◌^◌};
 
-use crate::rule::Makes;
+use crate::rule::MakeAccess;
 use crate::seat::ClaimSeat;
 use crate::table::SharedClaims;
 use mb_claim::laws::{claims_are_bounded, last_objects_decide_claims};

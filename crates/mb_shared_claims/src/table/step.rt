@@ -1,7 +1,7 @@
 //! One step of a claim on the words of a table.
 ghost use Rattle.std.specs.Prelude.{◌<◌, ◌^◌};
 
-use crate::rule::{Made, Makes};
+use crate::rule::{AccessSpec, MakeAccess};
 use crate::seat::ClaimSeat;
 use crate::table::SharedClaims;
 use mb_claim::laws::last_objects_decide_claims;
@@ -61,7 +61,7 @@ impl<A: Allocator + Drop> SharedClaims<A> {
     /// Makes an access of a claim that may come next. Returns the value that a load or an exchange found, and any value
     /// after a store.
     #[inline(always)]
-    pub(super) fn make<W: Made>(
+    pub(super) fn make<W: AccessSpec>(
         &self,
         seat: &mut ClaimSeat,
         cell: u32,
@@ -86,19 +86,22 @@ impl<A: Allocator + Drop> SharedClaims<A> {
         let _ = word;
         let address = self.size.layout.address(cell, next.object, next.op.reg());
         match next.op {
-            Op::Load(_) => self.table.shared.load::<Makes<W>>(&mut seat.seat, address),
+            Op::Load(_) => self
+                .table
+                .shared
+                .load::<MakeAccess<W>>(&mut seat.seat, address),
             Op::Store(_, value) => {
                 is_word(value);
                 self.table
                     .shared
-                    .store::<Makes<W>>(&mut seat.seat, address, value);
+                    .store::<MakeAccess<W>>(&mut seat.seat, address, value);
                 value
             }
             Op::Exchange(_, value) => {
                 is_word(value);
                 self.table
                     .shared
-                    .compare_exchange::<Makes<W>>(&mut seat.seat, address, 0, value)
+                    .compare_exchange::<MakeAccess<W>>(&mut seat.seat, address, 0, value)
             }
         }
     }

@@ -20,17 +20,17 @@ ghost use Rattle.mb_world.specs.declared.event.Event.TheVariants as event;
 ghost use Rattle.mb_world.specs.declared.report.Note.TheVariants.{Took};
 ghost use Rattle.mb_world.specs.declared.seat.Seat.{Seat};
 ghost use Rattle.mb_world.specs.declared.seat.Seat.TheVariants as seat;
-ghost use Rattle.mb_world.specs.Below.{Item, ObjectTurn};
+ghost use Rattle.mb_world.specs.Imports.{Item, ObjectTurn};
 ghost use Rattle.mb_world.specs.Setups.{layout_of, plan_in};
 ghost use Rattle.mb_world.specs.World.{WorldHistory, claim_accesses, pool_accesses};
 ghost use Rattle.mb_world.specs.ConsumerPath.{note_of};
 ghost use Rattle.mb_world.specs.WorldState.{IsWorldAfter, WorldState};
 ghost use Rattle.mb_world.specs.Replay.{IsRefused};
-ghost use Rattle.mb_world.specs.EventSteps.{EventAdds, HasSeat, IsBefore, seat_by, with_note, with_note_if, with_pool};
+ghost use Rattle.mb_world.specs.EventSteps.{EventAdds, HasSeat, StandsBefore, seat_by, with_note, with_note_if, with_pool};
 ghost use Rattle.mb_world.specs.EventSteps.{with_seat, with_words};
 
 use crate::laws::worlds_are_sound;
-use crate::steps::one_step;
+use crate::steps::history_extends;
 use mb_cells::laws::{cells_stand_once, readers_follow_lanes};
 use mb_cells::steps::loads_leave_pools;
 use mb_claim::laws::{layouts_are_sound, prefixes_have_one_stage};
@@ -39,11 +39,11 @@ use mb_claim::laws::{layouts_are_sound, prefixes_have_one_stage};
 pub(super) fn looks_leave_states()
     // The consumer stands before a link of the pool.
     ensures within { (s : WorldState) (h : WorldHistory) (c p : ℕ) (d : Seat) (at : Cursor)
-        → IsWorldAfter h s → HasSeat c p d s → IsBefore p d at → IsWithin at s.pool }
+        → IsWorldAfter h s → HasSeat c p d s → StandsBefore p d at → IsWithin at s.pool }
 
     // If the link leads to a cell, the consumer then holds a new claim there.
     ensures found { (s : WorldState) (h : WorldHistory) (c p word k : ℕ) (d : Seat) (at : Cursor)
-        (claim : Claim) → IsWorldAfter h s → HasSeat c p d s → IsBefore p d at
+        (claim : Claim) → IsWorldAfter h s → HasSeat c p d s → StandsBefore p d at
         → look_after at (pool_accesses h) ≡ look.Cell k → consumer_of claim ≡ c
         → claim_stage claim ≡ stage.Going → IsClaimIn (layout_of s.setup) claim []
         → EventAdds (event.Step c p word) (answer.Looked (look.Cell k))
@@ -51,7 +51,7 @@ pub(super) fn looks_leave_states()
 
     // If it leads to none, the state stays.
     ensures waited { (s : WorldState) (h : WorldHistory) (c p word : ℕ) (d : Seat) (at : Cursor)
-        (z : Look) → IsWorldAfter h s → HasSeat c p d s → IsBefore p d at
+        (z : Look) → IsWorldAfter h s → HasSeat c p d s → StandsBefore p d at
         → look_after at (pool_accesses h) ≡ z → ((k : ℕ) → z ≢ look.Cell k)
         → EventAdds (event.Step c p word) (answer.Looked z) s h }
 {
@@ -61,7 +61,7 @@ pub(super) fn looks_leave_states()
     readers_follow_lanes();
     loads_leave_pools();
     worlds_are_sound();
-    one_step();
+    history_extends();
 }
 
 /// The item load of a consumer whose claim is won.
@@ -78,7 +78,7 @@ pub(super) fn takes_leave_states()
     readers_follow_lanes();
     loads_leave_pools();
     worlds_are_sound();
-    one_step();
+    history_extends();
 }
 
 /// A step of a consumer's claim.
@@ -112,7 +112,7 @@ pub(super) fn claims_leave_states()
     readers_follow_lanes();
     loads_leave_pools();
     worlds_are_sound();
-    one_step();
+    history_extends();
 }
 
 /// A call of a producer's lane.
@@ -140,5 +140,5 @@ pub(super) fn calls_leave_states()
         → IsRefused (plan_in s.setup) (event.Finish p) r h → FinishKeeps s.pool p pool
         → pool ≡ s.pool }
 {
-    one_step();
+    history_extends();
 }

@@ -1,6 +1,6 @@
 use Rattle.std.proofs.Common.{◌≡◌, ◌∙◌, ℕ, ap, arith, inl, inr, refl}
 use Rattle.mb_cells.specs.declared.access.PoolAccess.{PoolAccess}
-use Rattle.mb_mailbox.specs.Below.{Head, Link, Word, load}
+use Rattle.mb_mailbox.specs.Imports.{Head, Link, Word, load}
 use Rattle.mb_mailbox.proofs.examples.consumers_look_at_lanes.Goals as goal
 
 abbrev lane_of : Word → ℕ

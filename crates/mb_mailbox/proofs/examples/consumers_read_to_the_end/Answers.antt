@@ -3,7 +3,7 @@ use Rattle.std.specs.Prelude.{slice_index_or}
 use Rattle.mb_cells.specs.declared.access.PoolAccess.{PoolAccess}
 use Rattle.mb_cells.specs.declared.access.PoolAct.{PoolAct}
 use Rattle.mb_cells.specs.declared.access.Process.{Process}
-use Rattle.mb_mailbox.specs.Below.{END, HasLoaded, HasMet, Head, History, Link, Load, Producer, Reader, Word, load, place_past}
+use Rattle.mb_mailbox.specs.Imports.{END, HasLoaded, HasMet, Head, History, Link, Load, Producer, Reader, Word, load, place_past}
 use Rattle.mb_mailbox.specs.Worked.{HasMetEnd, HasMetEnds}
 use Rattle.mb_mailbox.proofs.Marks.{marks_most}
 use Rattle.mb_mailbox.proofs.examples.consumers_read_to_the_end.Goals as goal

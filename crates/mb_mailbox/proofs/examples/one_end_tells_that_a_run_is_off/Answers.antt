@@ -1,8 +1,8 @@
 use Rattle.std.proofs.Common.{◌≡◌, Bool, List, [], ◌∷◌, arith, false, refl, subst, sym, true}
 use Rattle.std.specs.List.{All}
 use Rattle.std.proofs.lemmas.List.Elements.{All-cons, All-head}
-use Rattle.mb_mailbox.specs.declared.working.jobs.PollDone.{PollDone}
-use Rattle.mb_mailbox.specs.declared.working.jobs.PutDone.{PutDone}
+use Rattle.mb_mailbox.specs.declared.crew.jobs.PollDone.{PollDone}
+use Rattle.mb_mailbox.specs.declared.crew.jobs.PutDone.{PutDone}
 use Rattle.mb_mailbox.proofs.examples.one_end_tells_that_a_run_is_off.Goals as goal
 
 none_on : {X : Type 0} (f : X → Bool) → All (λ x. f x ≡ false) []

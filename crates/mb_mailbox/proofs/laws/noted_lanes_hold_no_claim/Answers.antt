@@ -2,10 +2,10 @@ use Rattle.std.proofs.Common.{◌≡◌, ◌≢◌, ◌⊎◌, ℕ, zero, suc, B
 use Rattle.std.specs.Prelude.{Option, Some, None, slice_get, slice_set}
 use Rattle.std.specs.Option.{option_map_or}
 use Rattle.std.proofs.lemmas.List.{length-reverse}
-use Rattle.mb_mailbox.specs.Below.{Claim, Note, cells_met, claims_in}
+use Rattle.mb_mailbox.specs.Imports.{Claim, Note, cells_met, claims_in}
 use Rattle.mb_mailbox.specs.Consumers.{ConsumerView, IsConsumer, parts_of}
 use Rattle.mb_mailbox.specs.Gathering.{has_begun_at, kept_at}
-use Rattle.mb_mailbox.specs.Hubs.{LedgerView, ledger_of}
+use Rattle.mb_mailbox.specs.Hubs.{ConsumerRecordView, ledger_of}
 use Rattle.mb_mailbox.specs.Steps.{HasNoteOnEach, notes_on}
 use Rattle.mb_mailbox.specs.declared.place.Place.{Place}
 use Rattle.mb_mailbox.specs.declared.place.Place.TheVariants.{At, Before}
@@ -57,7 +57,7 @@ returns-clause-begun c h s p i each =
       | inr none ↦ ap begun_by none
     ]
   where
-    begun_by : Option LedgerView → Bool
+    begun_by : Option ConsumerRecordView → Bool
     begun_by o =
-        option_map_or (λ (l : LedgerView). option_map_or has_begun_at (slice_get l.places p) false)
+        option_map_or (λ (l : ConsumerRecordView). option_map_or has_begun_at (slice_get l.places p) false)
         o false

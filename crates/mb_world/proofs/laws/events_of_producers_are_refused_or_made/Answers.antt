@@ -2,7 +2,7 @@ use Rattle.std.proofs.Common.{◌≡◌, ◌<◌, ◌^◌, ◌∷◌, arith}
 use Rattle.mb_cells.specs.LanePath.{fetch, store}
 use Rattle.mb_cells.specs.Memory.{ReadsLast, value_in}
 use Rattle.mb_cells.specs.Standing.{lane_after_finish, lane_after_offer, lane_after_push, next_link}
-use Rattle.mb_world.specs.Below.{ActFits, Counter, END, IsLanePrefix, PoolAccess, Producer, part}
+use Rattle.mb_world.specs.Imports.{ActFits, Counter, END, IsLanePrefix, PoolAccess, Producer, part}
 use Rattle.mb_world.specs.Plan.{size_of}
 use Rattle.mb_world.specs.World.{ToCells, pool_accesses}
 use Rattle.mb_world.specs.Worlds.{IsWorldLawful}
@@ -21,7 +21,7 @@ returns-clause-offer c plan h p x table lawful ps xs few =
     let goes : (a : PoolAccess) → a.process ≡ Producer p → ActFits a.act → ReadsLast a.word a.act (pool_accesses h)
     → IsLanePrefix plan.claims.cells p (a ∷ part (Producer p) (pool_accesses h)) → IsWorldLawful plan (ToCells a ∷ h) =
     λ a maker fits reads next.
-    let now = c.one_step.ensures.producer size (pool_accesses h) a p pool maker ps fits reads next in
+    let now = c.history_extends.ensures.producer size (pool_accesses h) a p pool maker ps fits reads next in
     producer_goes_on plan h lawful p a maker now
     (λ q r k. c.cells_stand_once.ensures.lane size (a ∷ pool_accesses h) q r k now)
     (λ q. c.cells_stand_once.ensures.once size (a ∷ pool_accesses h) q now) in
@@ -42,7 +42,7 @@ returns-clause-push c plan h p table lawful ps =
     let goes : (a : PoolAccess) → a.process ≡ Producer p → ActFits a.act → ReadsLast a.word a.act (pool_accesses h)
     → IsLanePrefix plan.claims.cells p (a ∷ part (Producer p) (pool_accesses h)) → IsWorldLawful plan (ToCells a ∷ h) =
     λ a maker fits reads next.
-    let now = c.one_step.ensures.producer size (pool_accesses h) a p pool maker ps fits reads next in
+    let now = c.history_extends.ensures.producer size (pool_accesses h) a p pool maker ps fits reads next in
     producer_goes_on plan h lawful p a maker now
     (λ q r k. c.cells_stand_once.ensures.lane size (a ∷ pool_accesses h) q r k now)
     (λ q. c.cells_stand_once.ensures.once size (a ∷ pool_accesses h) q now) in
@@ -70,7 +70,7 @@ returns-clause-finish c plan h p table lawful ps =
     let goes : (a : PoolAccess) → a.process ≡ Producer p → ActFits a.act → ReadsLast a.word a.act (pool_accesses h)
     → IsLanePrefix plan.claims.cells p (a ∷ part (Producer p) (pool_accesses h)) → IsWorldLawful plan (ToCells a ∷ h) =
     λ a maker fits reads next.
-    let now = c.one_step.ensures.producer size (pool_accesses h) a p pool maker ps fits reads next in
+    let now = c.history_extends.ensures.producer size (pool_accesses h) a p pool maker ps fits reads next in
     producer_goes_on plan h lawful p a maker now
     (λ q r k. c.cells_stand_once.ensures.lane size (a ∷ pool_accesses h) q r k now)
     (λ q. c.cells_stand_once.ensures.once size (a ∷ pool_accesses h) q now) in

@@ -4,7 +4,7 @@ use Rattle.mb_cells.specs.declared.answer.Look.TheVariants as look
 use Rattle.mb_mailbox.specs.declared.consumer.Poll.TheVariants as poll
 use Rattle.mb_mailbox.specs.declared.place.Place.{Place}
 use Rattle.mb_mailbox.specs.declared.place.Place.TheVariants.{At, Before}
-use Rattle.mb_mailbox.specs.Below.{END, IsAccessAfter, IsClaimIn, MayRead, PoolSize, ReaderSeatView, TableSize, load, word_of}
+use Rattle.mb_mailbox.specs.Imports.{END, IsAccessAfter, IsClaimIn, MayRead, PoolSize, ReaderSeatView, TableSize, load, word_of}
 use Rattle.mb_mailbox.specs.Consumers.{IsConsumer, IsConsumerOf}
 use Rattle.mb_mailbox.specs.Mailboxes.{MailboxView}
 use Rattle.mb_mailbox.specs.Moves.{reads_with_link}
@@ -13,7 +13,7 @@ use Rattle.mb_mailbox.specs.Pursuits.{holding}
 use Rattle.mb_mailbox.proofs.Ending.{holds_it, not_no_lane, poll_by, pursuit_tells, still_of}
 use Rattle.mb_mailbox.proofs.Lists.{set_same, some_same}
 use Rattle.mb_mailbox.proofs.Made.{at_views, cells_size, claims_size, look_made, moved_has}
-use Rattle.mb_mailbox.proofs.Polls.{no_steps, one_step, poll_of}
+use Rattle.mb_mailbox.proofs.Polls.{no_steps, history_extends, poll_of}
 use Rattle.mb_mailbox.proofs.consumer.Consumer.poll.Goals as goal
 
 pub pursue-requires-clause-held : goal.pursue-requires-clause-held
@@ -156,7 +156,7 @@ returns-in-Nothing-clause-polled g c =
     let some = c.if-budget-eq0.false in
     λ _. poll_of c.args.lane 1 c.args.budget poll.Nothing (g.R.Rng.stream c.args.rng.now)
     (g.R.Rng.stream c.args.rng.now) c.args.self.now new
-    (one_step c.args.lane (Some poll.Nothing) (g.R.Rng.stream c.args.rng.now)
+    (history_extends c.args.lane (Some poll.Nothing) (g.R.Rng.stream c.args.rng.now)
     (g.R.Rng.stream c.args.rng.now) c.args.self.now new step) (omega (arith, some))
     (λ f. absurd (cc))
 
@@ -199,7 +199,7 @@ returns-in-Ended-clause-polled g c =
     let some = c.if-budget-eq0.false in
     λ _. poll_of c.args.lane 1 c.args.budget poll.Ended (g.R.Rng.stream c.args.rng.now)
     (g.R.Rng.stream c.args.rng.now) c.args.self.now new
-    (one_step c.args.lane (Some poll.Ended) (g.R.Rng.stream c.args.rng.now)
+    (history_extends c.args.lane (Some poll.Ended) (g.R.Rng.stream c.args.rng.now)
     (g.R.Rng.stream c.args.rng.now) c.args.self.now new step) (omega (arith, some))
     (λ f. absurd (cc))
 
@@ -258,7 +258,7 @@ invariant_of-self-2 g c =
     m refl refl (λ v. c.places_tell_steps.ensures.looks s c.args.lane v c.in-Before.at
     c.self.invariant.0 e) (g.R.Rng.stream c.args.rng.now) in
     let so = c.pursue-2.ensures.pursued c.args.self.now 1 (g.R.Rng.stream c.args.rng.now)
-    (one_step c.args.lane None (g.R.Rng.stream c.args.rng.now)
+    (history_extends c.args.lane None (g.R.Rng.stream c.args.rng.now)
     (g.R.Rng.stream c.args.rng.now) c.args.self.now mid step) in
     let new = at_views c.pursue-2.new.reader c.pursue-2.new.seat c.pursue-2.new.places.items
     c.pursue-2.new.notes.lists in
@@ -277,7 +277,7 @@ returns-clause-no_lane g c =
     m refl refl (λ v. c.places_tell_steps.ensures.looks s c.args.lane v c.in-Before.at
     c.self.invariant.0 e) (g.R.Rng.stream c.args.rng.now) in
     let so = c.pursue-2.ensures.pursued c.args.self.now 1 (g.R.Rng.stream c.args.rng.now)
-    (one_step c.args.lane None (g.R.Rng.stream c.args.rng.now)
+    (history_extends c.args.lane None (g.R.Rng.stream c.args.rng.now)
     (g.R.Rng.stream c.args.rng.now) c.args.self.now mid step) in
     let new = at_views c.pursue-2.new.reader c.pursue-2.new.seat c.pursue-2.new.places.items
     c.pursue-2.new.notes.lists in
@@ -303,7 +303,7 @@ returns-clause-refused g c =
     m refl refl (λ v. c.places_tell_steps.ensures.looks s c.args.lane v c.in-Before.at
     c.self.invariant.0 e) (g.R.Rng.stream c.args.rng.now) in
     let so = c.pursue-2.ensures.pursued c.args.self.now 1 (g.R.Rng.stream c.args.rng.now)
-    (one_step c.args.lane None (g.R.Rng.stream c.args.rng.now)
+    (history_extends c.args.lane None (g.R.Rng.stream c.args.rng.now)
     (g.R.Rng.stream c.args.rng.now) c.args.self.now mid step) in
     let new = at_views c.pursue-2.new.reader c.pursue-2.new.seat c.pursue-2.new.places.items
     c.pursue-2.new.notes.lists in
@@ -324,7 +324,7 @@ returns-clause-polled g c =
     m refl refl (λ v. c.places_tell_steps.ensures.looks s c.args.lane v c.in-Before.at
     c.self.invariant.0 e) (g.R.Rng.stream c.args.rng.now) in
     let so = c.pursue-2.ensures.pursued c.args.self.now 1 (g.R.Rng.stream c.args.rng.now)
-    (one_step c.args.lane None (g.R.Rng.stream c.args.rng.now)
+    (history_extends c.args.lane None (g.R.Rng.stream c.args.rng.now)
     (g.R.Rng.stream c.args.rng.now) c.args.self.now mid step) in
     let new = at_views c.pursue-2.new.reader c.pursue-2.new.seat c.pursue-2.new.places.items
     c.pursue-2.new.notes.lists in
@@ -347,7 +347,7 @@ returns-clause-told g c =
     m refl refl (λ v. c.places_tell_steps.ensures.looks s c.args.lane v c.in-Before.at
     c.self.invariant.0 e) (g.R.Rng.stream c.args.rng.now) in
     let so = c.pursue-2.ensures.pursued c.args.self.now 1 (g.R.Rng.stream c.args.rng.now)
-    (one_step c.args.lane None (g.R.Rng.stream c.args.rng.now)
+    (history_extends c.args.lane None (g.R.Rng.stream c.args.rng.now)
     (g.R.Rng.stream c.args.rng.now) c.args.self.now mid step) in
     let new = at_views c.pursue-2.new.reader c.pursue-2.new.seat c.pursue-2.new.places.items
     c.pursue-2.new.notes.lists in
@@ -368,7 +368,7 @@ returns-clause-of g c =
     m refl refl (λ v. c.places_tell_steps.ensures.looks s c.args.lane v c.in-Before.at
     c.self.invariant.0 e) (g.R.Rng.stream c.args.rng.now) in
     let so = c.pursue-2.ensures.pursued c.args.self.now 1 (g.R.Rng.stream c.args.rng.now)
-    (one_step c.args.lane None (g.R.Rng.stream c.args.rng.now)
+    (history_extends c.args.lane None (g.R.Rng.stream c.args.rng.now)
     (g.R.Rng.stream c.args.rng.now) c.args.self.now mid step) in
     let new = at_views c.pursue-2.new.reader c.pursue-2.new.seat c.pursue-2.new.places.items
     c.pursue-2.new.notes.lists in

@@ -14,7 +14,7 @@ use Rattle.mb_world.specs.Plan.{Histories, consumers_of, size_of}
 use Rattle.mb_world.specs.Report.{notes}
 use Rattle.mb_world.specs.Reporting.{HasMetAll, IsReportOf}
 use Rattle.mb_world.specs.Sound.{AreSound}
-use Rattle.mb_mailbox.specs.Below.{Claim, Fits, Has, IsClaimIn, IsClaimPrefix, ObjectTurn, Parts, Undecided, cells_met, claim_stage, consumer_count, consumer_of, linked_cells}
+use Rattle.mb_mailbox.specs.Imports.{Claim, Fits, Has, IsClaimIn, IsClaimPrefix, ObjectTurn, Parts, Undecided, cells_met, claim_stage, consumer_count, consumer_of, linked_cells}
 use Rattle.mb_mailbox.specs.Hubs.{HubView}
 use Rattle.mb_mailbox.specs.Mailboxes.{MailboxView, plan_at}
 use Rattle.mb_mailbox.proofs.Counted.{at_start, counted, is_noted}

@@ -1,7 +1,7 @@
 use Rattle.std.proofs.Common.{[], None, ◌≡◌, ◌∙◌, ◌≤◌, ◌<◌, ℕ, ap, arith, length, subst, sym}
 use Rattle.mb_shared_cells.specs.Vocabulary.{CellHubView, CellsName, roll_with_reader}
 use Rattle.mb_shared_claims.specs.Vocabulary.{HubView as ClaimHubView}
-use Rattle.mb_mailbox.specs.Below.{ClaimTable, ReaderSeatView, claims_at, consumer_count, name_of}
+use Rattle.mb_mailbox.specs.Imports.{ClaimTable, ReaderSeatView, claims_at, consumer_count, name_of}
 use Rattle.mb_mailbox.specs.Consumers.{IsConsumer}
 use Rattle.mb_mailbox.specs.Mailboxes.{MailboxView}
 use Rattle.mb_mailbox.specs.Ledgers.{ledgers_in}

@@ -2,7 +2,7 @@ use Rattle.std.proofs.Common.{◌≡◌, ◌∙◌, ◌≤◌, None, Some, false
 use Rattle.std.specs.Prelude.{slice_get, slice_set}
 use Rattle.mb_shared_cells.specs.Vocabulary.{CellHubView, CellsName, roll_with_part}
 use Rattle.mb_shared_claims.specs.Vocabulary.{HubView as ClaimHubView}
-use Rattle.mb_mailbox.specs.Below.{claims_at, name_of, Reader}
+use Rattle.mb_mailbox.specs.Imports.{claims_at, name_of, Reader}
 use Rattle.mb_mailbox.specs.Consumers.{ConsumerView}
 use Rattle.mb_mailbox.specs.Mailboxes.{MailboxView}
 use Rattle.mb_mailbox.specs.Ledgers.{KeptView, ledgers_in}
@@ -96,7 +96,12 @@ returns-clause-hub g c =
       claims = c.take_in.new.hub;
       puts = h.puts;
       ledgers = ledgers_in (slice_set c.self.inside.ledgers.items c.consumer-number.result (Some taken));
-    } ≡ with_taken_consumer s h = λ j. record { cells = cells j; claims = seats j; puts = h.puts; ledgers = ledgers j } in
+    } ≡ with_taken_consumer s h = λ j. record {
+      cells = cells j;
+      claims = seats j;
+      puts = h.puts;
+      ledgers = ledgers j;
+    } in
     is ∙ (λ j. with_taken_consumer (c.consumer.view_is j) (c.self.view_is j))
 
 pub returns-clause-was_out : goal.returns-clause-was_out

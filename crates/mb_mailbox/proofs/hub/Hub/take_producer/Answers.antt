@@ -2,7 +2,7 @@ use Rattle.std.proofs.Common.{◌≡◌, ◌∙◌, ◌<◌, None, Some, ap, ari
 use Rattle.std.specs.Prelude.{slice_get, slice_set}
 use Rattle.mb_cells.specs.Vocabulary.{Entry, IsLaneAfter, fetch}
 use Rattle.mb_shared_cells.specs.Vocabulary.{CellHubView, CellsName, roll_with_part}
-use Rattle.mb_mailbox.specs.Below.{Has, PoolSize, Producer, linked_cells}
+use Rattle.mb_mailbox.specs.Imports.{Has, PoolSize, Producer, linked_cells}
 use Rattle.mb_mailbox.specs.Mailboxes.{MailboxView}
 use Rattle.mb_mailbox.specs.Ledgers.{ledgers_in}
 use Rattle.mb_mailbox.specs.Hubs.{HubView, IsHub, IsPutList, PutListView, put_list_of, with_taken_producer}

@@ -1,7 +1,7 @@
 use Rattle.std.proofs.Common.{◌≡◌, ◌∙◌, ◌≤◌, ◌*◌, ap, arith, length, subst, sym}
 use Rattle.mb_world.specs.Report.{ReportView}
 use Rattle.mb_mailbox.specs.Gathering.{count_missing, IsGathered, IsOutlineIn, IsReportIn}
-use Rattle.mb_mailbox.specs.Below.{CellsName, ClaimTable, claims_at, consumer_count, name_of}
+use Rattle.mb_mailbox.specs.Imports.{CellsName, ClaimTable, claims_at, consumer_count, name_of}
 use Rattle.mb_mailbox.specs.Hubs.{HubView, IsHub, IsHubOf}
 use Rattle.mb_mailbox.specs.Ledgers.{ledgers_in}
 use Rattle.mb_mailbox.specs.Mailboxes.{MailboxView}

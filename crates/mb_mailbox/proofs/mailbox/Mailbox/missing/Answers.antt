@@ -1,5 +1,5 @@
 use Rattle.std.proofs.Common.{◌∙◌, ap, arith, length, sym}
-use Rattle.mb_mailbox.specs.Below.{ClaimTable, claims_at}
+use Rattle.mb_mailbox.specs.Imports.{ClaimTable, claims_at}
 use Rattle.mb_mailbox.specs.Gathering.{count_missing}
 use Rattle.mb_mailbox.specs.Hubs.{HubView}
 use Rattle.mb_mailbox.proofs.CutLists.{ledgers_count, ledgers_missing}
