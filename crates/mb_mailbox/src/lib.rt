@@ -1,6 +1,6 @@
-//! A mailbox for threads: producers put items into lanes of their own, consumers compete for each item, and a report at
-//! the end says who took what. There is no lock, and nobody waits for anybody but [`work`] for its own threads. Cells of
-//! the plain shape need no compare-exchange. A last object makes one.
+//! A mailbox for threads. Producers put items into lanes of their own, consumers compete for each item, and a report
+//! at the end says who took what. There is no lock. Nobody waits for anybody, except that [`work`] waits for its own
+//! threads. Cells of the plain shape need no compare-exchange. A last object makes one.
 //!
 //! # How an item goes through
 //!
@@ -15,7 +15,7 @@
 //!    if there is one. The first object that decides ends the claim. It is won if the number is the consumer's own, else
 //!    lost to the consumer of that number. After a row without a last object it may be undecided. Who has won loads the
 //!    item. Then the consumer stands before that cell's link.
-//! 3. [`Producer::finish`] stores an end mark in place of the next link. Who meets it has met the whole lane.
+//! 3. [`Producer::finish`] stores an end mark in place of the next link. A consumer that meets it has met the whole lane.
 //! 4. The [`Hub`] takes everybody in, and [`Mailbox::gather`] makes the report of what each of them kept.
 //!
 //! # Why at most one takes an item
@@ -26,8 +26,9 @@
 //!
 //! # How to read the bodies
 //!
-//! Some bodies begin with calls that take and return nothing, such as `consumers_move_on()` or `self.seat.has_history()`.
-//! These compute nothing: their contracts are laws, and the clauses of the function rest on them.
+//! Some bodies begin with calls that take and return nothing, for example `consumers_move_on()` or
+//! `self.seat.has_history()`. These compute nothing: their contracts are laws, and the clauses of the function rest
+//! on them.
 #![tactic(auto)]
 
 mod consumer;

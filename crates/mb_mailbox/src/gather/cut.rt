@@ -1,5 +1,5 @@
-//! The notes of all that a hub has taken in, cut by lane: one consumer after another, so that the marks of one alone stand
-//! beside their lists.
+//! The notes of all that a hub has taken in, cut by lane. It cuts those of one consumer after another, so only one
+//! consumer has its marks and its lists at the same time.
 ghost use Rattle.std.specs.Prelude.{◌≡◌, IfOk, OnErr, Some, true, vec_capacity};
 ghost use Rattle.mb_mailbox.specs.Ledgers.{AreCut, KeptView, ledger_in, ledgers_in};
 
@@ -71,7 +71,7 @@ impl<A: Allocator + Drop> CutHub<A> {
 impl<A: Allocator + Clone + Drop> Hub<A> {
     ghost use Rattle.std.specs.Prelude.{◌≡◌, IfErr, IfOk};
 
-    /// Cuts all notes. A hub that is refused the memory comes back as it was.
+    /// Cuts all notes. If the memory is refused, the hub comes back as it was.
     pub(super) fn cut(self, alloc: A) -> Result<CutHub<A>, Hub<A>>
         ensures cut { IfOk result (λ h. h ≡ self) }
         ensures refused { IfErr result (λ h. h ≡ self) }
