@@ -1,4 +1,4 @@
--- Small reports of one lane with one item, that nobody took.
+-- Small reports of one lane with one item that nobody took.
 use Rattle.std.specs.Prelude.{ℕ, false, List, [], ◌∷◌}
 use Rattle.mb_world.specs.Report.{DiaryView, ReportView}
 use Rattle.mb_mailbox.specs.Imports.{Note, Undecided}

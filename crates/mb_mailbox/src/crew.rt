@@ -56,7 +56,8 @@ pub enum WorkFault {
     AllGiven,
     /// The budget is 0. Nothing was given.
     BadBudget,
-    /// The allocator refused what the run needs. Each producer given has ended its lane, and all that was given is taken in.
+    /// The allocator refused what the run needs. Each producer given has ended its lane, and all that was given is
+    /// taken in.
     NoMemory,
     /// A thread could not be started. It comes only if there is a list or a source. Each producer given has ended its
     /// lane, and all that was given is taken in.

@@ -1,4 +1,5 @@
-//! Laws of what a hub has taken in, and of what is gathered. The functions compute nothing: their contracts are the laws.
+//! Laws of what a hub has taken in, and of what is gathered. The functions compute nothing: their contracts are the
+//! laws.
 ghost use Rattle.std.specs.Prelude.{ℕ, ◌≡◌, ◌≢◌, ◌≤◌, List, [], ◌∷◌, Some, None, false, true, length, map, slice_get};
 ghost use Rattle.mb_claim.specs.Vocabulary.{shape_of};
 ghost use Rattle.mb_mailbox.specs.Imports.{Claim, Note, Stream, Undecided, has_ended};
