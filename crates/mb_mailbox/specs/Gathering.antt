@@ -18,7 +18,7 @@ use Rattle.mb_mailbox.specs.declared.place.Place.{Place}
 use Rattle.mb_mailbox.specs.declared.place.Place.TheVariants.{At, Before}
 
 -- ---- what is missing
--- how many of these are not there
+-- how many of those given were not taken in
 abbrev pub count_missing : {X : Type 0} → List (Option X) → ℕ
 count_missing [] = 0
 count_missing (Some x ∷ xs) = count_missing xs

@@ -33,7 +33,7 @@ pub record HubView : Type 0 where
   pub puts : List (Option PutListView)
   pub ledgers : List (Option ConsumerRecordView)
 
--- the put list is that of the producer of lane p, which did this in a pool of so many cells
+-- the put list is that of the producer of lane p, which did this in a pool of this many cells
 pub record IsPutList (cells p : ℕ) (done : History) (l : PutListView) : Type 0 where
   pub items : l.items ≡ values_put p done
   pub ended : l.ended ≡ has_ended p done

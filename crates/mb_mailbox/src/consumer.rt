@@ -69,9 +69,9 @@ impl<A: Allocator + Drop> Consumer<A> {
     ghost use Rattle.mb_mailbox.specs.Consumers.{IsConsumer};
     ghost use Rattle.mb_mailbox.specs.Moves.{HasLoads};
 
-    /// The two parts of a consumer fit each other. They determine its place on each lane and its notes there. Some
-    /// lawful history has the one as its part, and some has the other. It computes nothing: its contract is a law of
-    /// all consumers.
+    /// The two parts of a consumer fit each other. They determine its place on each lane and its notes there. Each of
+    /// them is the consumer's part of some lawful history. It computes nothing: its contract is a law of all
+    /// consumers.
     pub fn keeps_its_parts(&self)
         ensures parts { IsConsumer self.now }
         ensures loads { HasLoads self.now }

@@ -170,7 +170,6 @@ pub fn consumers_left<A: Allocator + Drop, B: Allocator + Drop>(
     (mailbox.claims.layout().consumers() as usize).saturating_sub(hub.ledgers.len())
 }
 
-/// How many lanes were given.
 fn lanes_given<A: Allocator + Drop>(hub: &Hub<A>) -> usize
     ensures { result ≡ length hub.now.puts }
 {
@@ -192,7 +191,7 @@ fn consumers_are_few<B: Allocator + Drop>(mailbox: &Mailbox<B>)
     let _ = mailbox.claims.layout().consumers();
 }
 
-/// The lanes of the next so many numbers.
+/// The lanes with the next `lists` numbers, and this budget.
 fn next_lanes(given: usize, lists: usize, budget: u64) -> Lanes
     requires few { given + lists ≤ 16 }
     requires able { 0 < budget }

@@ -163,9 +163,9 @@ pub fn consumers_read_to_the_end()
     ensures again { HasMetEnds 0 1 0 (load 0 (Head 0) END ∷ load 0 (Head 0) END ∷ []) → ⊥ }
 {}
 
-/// Who counts as stopped. A producer counts before the put of its next item, if each of its fetch-adds found a cell.
-/// A consumer counts before a call that it has come to. Its accesses are no more than its budget allows the calls
-/// before that one.
+/// Which workers count as stopped. A producer counts before the put of its next item, if each of its fetch-adds found
+/// a cell. A consumer counts before a call that it has come to. Its accesses are no more than its budget allows the
+/// calls before that one.
 pub fn workers_are_stopped_by_the_gate()
     ensures put { IsStoppedPut (λ _ n. n ≡ 2) 1 0 (7 ∷ 8 ∷ []) (stopped_lane (7 ∷ []) seven_put) }
     ensures put_other_call { IsStoppedPut (λ _ n. n ≡ 3) 1 0 (7 ∷ 8 ∷ [])

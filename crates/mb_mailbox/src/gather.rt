@@ -169,7 +169,7 @@ impl<A: Allocator + Clone + Drop> Mailbox<A> {
     }
 }
 
-/// How many of these are not there.
+/// How many of those given were not taken in.
 fn missing<T: Drop>(given: &[Option<T>]) -> u32
     requires { length given.now ≤ 64 }
     ensures { result ≡ count_missing given.now }

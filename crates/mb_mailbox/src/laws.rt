@@ -43,8 +43,8 @@ pub fn what_was_taken_in_is_told()
         → begun_in s.seat.consumer p (with_taken_consumer s h) ≡ has_begun_at place }
 {}
 
-/// If a consumer has a note on each cell that it met on a lane, it holds no claim there. So it is after each poll of
-/// the lane that is not spent. If the consumer is taken in then, its diary of the lane has no claim begun.
+/// If a consumer has a note on each cell that it met on a lane, it holds no claim there. This holds after each poll
+/// of the lane that is not spent. If the consumer is taken in then, its diary of the lane has no claim begun.
 pub fn noted_lanes_hold_no_claim()
     ensures place { (s : ConsumerView) (p k : ℕ) (claim : Claim) → IsConsumer s → HasNoteOnEach p s
         → slice_get s.places p ≢ Some (At k claim) }

@@ -103,7 +103,7 @@ impl Noted {
     }
 }
 
-/// The notes on so many lanes, in the order of time.
+/// The notes on this many lanes, in the order of time.
 #[derive(Drop)]
 pub(crate) struct Notes<A: Allocator + Drop> {
     lanes: u32,

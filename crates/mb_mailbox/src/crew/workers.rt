@@ -162,7 +162,6 @@ fn next_lane(ended: &[bool], at: u32, from: u32, end: u32) -> Option<u32>
     None
 }
 
-/// Marks a lane.
 fn mark(ended: &mut [bool; 16], lane: u32)
     requires { lane < 16 }
     ensures { ended.new ≡ slice_set ended.old lane true }

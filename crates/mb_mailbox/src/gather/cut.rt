@@ -99,7 +99,7 @@ impl<A: Allocator + Clone + Drop> Hub<A> {
     }
 }
 
-/// Cuts the notes of all that are there.
+/// Cuts the notes of all consumers that were taken in.
 fn cut_all<A: Allocator + Clone + Drop>(
     ledgers: &mut Vec<Option<ConsumerRecord<A>>, A>,
     alloc: A,
@@ -114,7 +114,7 @@ fn cut_all<A: Allocator + Clone + Drop>(
     Ok(())
 }
 
-/// Cuts the notes of the one that is here, if there is one.
+/// Cuts the notes of this consumer, if it was taken in.
 fn cut_one<A: Allocator + Clone + Drop>(
     ledger: &mut Option<ConsumerRecord<A>>,
     alloc: A,

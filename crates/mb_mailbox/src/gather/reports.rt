@@ -62,7 +62,7 @@ impl<A: Allocator + Drop> CutHub<A> {
         }
     }
 
-    /// Whether one of so many consumers has taken the item at position `j` of lane `p`.
+    /// Whether one of the first `consumers` consumers has taken the item at position `j` of lane `p`.
     fn is_taken(&self, consumers: u32, p: u32, j: usize) -> bool
         ensures { result ≡ is_taken_in consumers p j self.now }
     {

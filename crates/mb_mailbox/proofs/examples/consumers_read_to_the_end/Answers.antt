@@ -47,7 +47,7 @@ no_end [] met has = elim has [
 ]
 no_end (k ∷ ks) met has = no_link ks (k + 1) met.1 met.0
 
--- the reader is another
+-- another reader has loaded no end mark here
 other : (w : Word) → HasLoaded 1 w END past_four → ⊥
 other w has = elim has [
   | inl same ↦ (let no : 0 ≡ 1 = ap (λ (x : PoolAccess). reader_of x.process) same in absurd (omega (arith, no)))
@@ -177,7 +177,7 @@ by_itself c = record { marks = true ∷ []; within = first_alone_marked; met = h
 pub returns-clause-numbers : goal.returns-clause-numbers
 returns-clause-numbers c = (by_itself 3, (by_itself 4, tt))
 
--- what another reader has loaded is not its own
+-- a reader has not loaded what another reader has loaded
 of_another : (w : Word) → HasLoaded 4 w END (load 3 (Head 0) END ∷ []) → ⊥
 of_another w has = elim has [
   | inl same ↦ (let no : 3 ≡ 4 = ap (λ (x : PoolAccess). reader_of x.process) same in absurd (omega (arith, no)))
