@@ -16,8 +16,8 @@ pub record Call : Type 0 where
   pub lane : ℕ
   pub answer : Poll
 
--- it is a poll of a lane from `from` on and below `end`, with this budget: it has fewer accesses only if it has an
--- answer
+-- it is a poll of a lane from `from` on and below `end`, with this budget. It has fewer accesses than that only if it
+-- has an answer
 pub record IsCall (from end budget : ℕ) (c : Call) (s t : Stream) (old new : ConsumerView) : Type 0 where
   pub low : from ≤ c.lane
   pub high : c.lane < end

@@ -115,8 +115,8 @@ pub record IsGathered (m : MailboxView) (h : HubView) (r : ReportView) : Type 0 
   -- the report is theirs
   pub report : IsReportOf (plan_at m) histories r
   -- One assignment of items to competitors accounts for the whole report. Each ledger has exactly the items given, in
-  -- the order put. The rest is reported as left. Nothing follows an end mark. If an item that was competed for is
-  -- left, a claim on it is unfinished
+  -- the order put. The rest is reported as left. Nothing follows an end mark. If nobody took an item that was
+  -- competed for, some competitor's claim on it is unfinished
   pub honest : IsHonest (plan_at m) histories r
 
 -- how many items are put, on all lanes together

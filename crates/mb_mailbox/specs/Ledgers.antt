@@ -29,7 +29,7 @@ ledger_in o = option_map (λ k. k.ledger) o
 abbrev pub ledgers_in : List (Option KeptView) → List (Option ConsumerRecordView)
 ledgers_in os = map ledger_in os
 
--- the notes are cut of each of the first n that was taken in
+-- among the first n, the notes of each that was taken in are cut
 abbrev pub AreCutBelow : ℕ → List (Option KeptView) → Type 0
 AreCutBelow n os = (c : ℕ) (k : KeptView) → c < n → slice_get os c ≡ Some (Some k) → k.is_cut ≡ true
 

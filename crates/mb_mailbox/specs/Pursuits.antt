@@ -43,7 +43,7 @@ IsOfClaim poll.Ended = ⊥
 IsOfClaim poll.NoLane = ⊥
 IsOfClaim _ = Unit {0}
 
--- after n accesses on lane p, at most `most` more come to this answer
+-- after n accesses on lane p, no more than `most` further ones come to this answer
 pub record IsPursuit (p n most : ℕ) (answer : Poll) (t u : Stream) (from new : ConsumerView)
     : Type 0 where
   pub made : ℕ

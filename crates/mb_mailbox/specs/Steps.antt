@@ -120,9 +120,9 @@ pub record AnswerTells (p : ℕ) (answer : Option Poll) (old new : ConsumerView)
   pub noted : answer ≢ None → HasNoteOnEach p new
   -- if the answer is `Ended`, the consumer has loaded the end mark
   pub ended : answer ≡ Some poll.Ended → HasLoadedEnd p new
-  -- The next two are of a lane that was taken in before the consumer was given. With the answer `Nothing` the
-  -- consumer has met all that was put, and the lane has not ended. With `Ended` it has met all that was put, and the
-  -- lane has ended.
+  -- The next two clauses are about a lane that was taken in before the consumer was given. With the answer `Nothing`
+  -- the consumer has met all that was put, and the lane has not ended. With `Ended` it has met all that was put, and
+  -- the lane has ended.
   pub known_nothing : (theirs : History) → slice_get old.reader.known p ≡ Some (Some theirs)
       → answer ≡ Some poll.Nothing → HasReadWhole p theirs false new
   pub known_ended : (theirs : History) → slice_get old.reader.known p ≡ Some (Some theirs)

@@ -44,8 +44,8 @@ pub struct Worked {
     /// Items that the producers that were not stopped did not put: each got the answer `Full`, or follows an item
     /// that got it. It stays at 2^64 - 1 once there.
     pub full: u64,
-    /// Workers that were stopped. Each was stopped before a call at which the gate may stop it, or before call 2^64 -
-    /// 1.
+    /// Workers that were stopped. Each was stopped before call 2^64 - 1, or before a call at which the gate may stop
+    /// it.
     pub stopped: u64,
 }
 

@@ -53,8 +53,8 @@ pub fn noted_lanes_hold_no_claim()
 {}
 
 /// If each cell of a mailbox has a last object, its report has no undecided note. If nobody took an item that was
-/// competed for, it is left, and the claim in some diary of its lane is begun. On a lane on which no claim is begun,
-/// each item that was competed for is taken.
+/// competed for, it is left: some diary's notes end just before it, and the claim there is begun. On a lane on which
+/// no claim is begun, each item that was competed for is taken.
 pub fn last_objects_settle_what_is_gathered()
     ensures notes { (m : MailboxView) (h : HubView) (r : ReportView) (c p j : ℕ)
         → (shape_of m.claims.layout).last ≡ true → IsGathered m h r

@@ -53,8 +53,8 @@ impl<A: Allocator + Drop> Producer<A> {
         requires of { IsProducerOf mailbox.now self.old }
         ensures linked { result ≡ Linked → (k : ℕ) × IsPutInto k x self.old self.new }
 
-        // `Full` comes with the first fetch-add of the producer that finds no cell. From then on it comes without an
-        // access.
+        // `Full` comes with the first fetch-add of the producer that finds no cell. From then on, up to the finish,
+        // it comes without an access.
         ensures full { result ≡ Full → HasNoCellFor x self.old self.new }
         ensures found { result ≡ Full → FoundNoCell self.new }
         ensures stays_full { FoundNoCell self.old → is_over self.old ≡ false → result ≡ Full }

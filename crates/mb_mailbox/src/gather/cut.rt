@@ -1,5 +1,5 @@
-//! The notes of all that a hub has taken in, cut by lane. It cuts those of one consumer after another, so only one
-//! consumer has its marks and its lists at the same time.
+//! The notes of all that a hub has taken in, cut by lane. They are cut for one consumer after another. So at any time
+//! only one consumer has both its marks and its lists.
 ghost use Rattle.std.specs.Prelude.{◌≡◌, IfOk, OnErr, Some, true, vec_capacity};
 ghost use Rattle.mb_mailbox.specs.Ledgers.{AreCut, KeptView, ledger_in, ledgers_in};
 
