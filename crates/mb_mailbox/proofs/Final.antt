@@ -1,4 +1,4 @@
--- What a run comes to, from what was given, what came of it, and what was taken in.
+-- What a run comes to: from what was given, from what came of it, and from what was taken in.
 use Rattle.std.proofs.Common.{◌≡◌, ℕ, suc, Bool, true, ◌+◌, ◌-◌, ◌^◌, ◌≤◌, List, [], ◌∷◌, ◌++◌, length, map, min, refl, sym, ap, ◌∙◌, subst, false, arith, ◌<◌}
 use Rattle.std.specs.Int.{from_bool}
 use Rattle.std.specs.Prelude.{Vec, Some, slice_get}
@@ -117,7 +117,7 @@ module _ {R Z : Type 0} (m : MailboxView) where
     polls = poll_ends_at may_stop may_pass stream from end budget jobs.polls.items ends.polls.items a.polls e.polls;
   }
 
--- there is room for fewer
+-- room for this many workers is room for fewer
 pub room_for : {G R Z : Type 0} (a b c d : ℕ) (r : WorkerBuffers G R Z) → c ≤ a → d ≤ b → HasRoom a b r → HasRoom c d r
 room_for a b c d r puts polls h =
     let p = h.puts in
@@ -132,7 +132,7 @@ room_for a b c d r puts polls h =
       ends = record { no_puts = h.ends.no_puts; no_polls = h.ends.no_polls; puts = omega arith; polls = omega arith };
     }
 
--- ---- where nothing was given
+-- ---- if nothing was given
 append_none : {X : Type 0} (xs : List X) → xs ≡ xs ++ []
 append_none [] = refl
 append_none (x ∷ xs) = ap (λ l. x ∷ l) (append_none xs)
@@ -234,7 +234,7 @@ module _ {R Z : Type 0} (m : MailboxView) (may_stop may_pass : Who → ℕ → T
     few = sym (zip_length _ (lists_in items) (lanes_of m may_stop may_pass ends.puts.items)
         run.fronts) ∙ length-map items (λ (v : Vec ℕ Z). v.items)
 
-    -- where a worker has come to an end, there was a list or a source
+    -- if a worker has come to an end, there was a list or a source
     pub some_worker : 0 < length ends.puts.items + length ends.polls.items → 0 < length items + sources
     some_worker some =
         let puts = length-map ends.puts.items (λ (d : PutDone Z). lane_left d.producer d.stopped) in
@@ -254,7 +254,7 @@ module _ {R Z : Type 0} (m : MailboxView) (may_stop may_pass : Who → ℕ → T
         (s : ConsumerView) → IsRollOf size roll h
         → slice_get roll.lanes p ≡ Some (Some done) → slice_get roll.readers s.reader.reader ≡ Some (Some s.reader.part)
         → HasReadToEnd p s → length (notes_on p s.notes) ≡ length (values_put p done)) where
-      -- no more are stopped than there are
+      -- no more workers are stopped than there are
       total : w.stopped ≡ sum_by (λ (l : LaneLeft). from_bool l.stopped) (lanes_of m may_stop may_pass ends.puts.items)
           + sum_by (λ (c : ConsumerLeft). from_bool c.stopped) (left_of m may_stop may_pass ends.polls.items)
       total =

@@ -71,7 +71,7 @@ not_run may_stop may_pass from end budget source s d is stopped off = record {
   polled = λ f. let no : true ≡ false = sym off ∙ f in absurd (cc);
 }
 
--- where the run is off, less is said of the end
+-- if the run is off, less is said of the end
 pub still_off : {Z : Type 0} (may_stop may_pass : Who → ℕ → Type 0) (from end budget : ℕ)
     (source : Stream) (s : ConsumerView) (d : PollDone Z)
     → IsPollEnd may_stop may_pass from end budget source s d

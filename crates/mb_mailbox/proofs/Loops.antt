@@ -1,4 +1,4 @@
--- What the loops of a run keep, one element later.
+-- What the loops of a run keep, after one more element.
 use Rattle.std.proofs.Common.{◌≡◌, ℕ, suc, ◌+◌, ◌<◌, ◌||◌, Bool, true, false, refl, List, [], ◌∷◌, ◌++◌, ◌-◌, ◌*◌, ◌≤◌, length, map, min, sym, ap, ◌∙◌, subst, arith}
 use Rattle.std.specs.Prelude.{Vec}
 use Rattle.std.proofs.Math.Nat.{mul-suc}
@@ -92,7 +92,7 @@ on_more f was now xs x e is h = on_yet f was (f x) xs x e refl (sym is ∙ h)
 pub some_seen : {X : Type 0} (xs : List X) (x : X) → 0 < length (xs ++ x ∷ [])
 some_seen xs x = let all = length-append xs (x ∷ []) in omega (arith, all)
 
--- what holds of all holds of those before the last, and of the last
+-- what holds of all elements holds of those before the last, and of the last
 all_but_last : {X : Type 0} (P : X → Type 0) (xs : List X) (x : X) → All P (xs ++ x ∷ []) → All P xs × P x
 all_but_last P [] x a = (λ k d low. absurd (omega (arith, low)), All-head P x [] a)
 all_but_last P (y ∷ ys) x a =

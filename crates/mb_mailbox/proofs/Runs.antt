@@ -1,4 +1,4 @@
--- From the jobs of a run through their ends to what the hub has then.
+-- From the jobs of a run, through their ends, to what the hub has then.
 use Rattle.std.proofs.Common.{◌≡◌, ◌≢◌, ℕ, suc, ◌+◌, ◌-◌, ◌<◌, ◌≤◌, Bool, true, false, List, [], ◌∷◌, ◌++◌, length, map, refl, sym, ap, ◌∙◌, subst, arith}
 use Rattle.std.specs.Prelude.{Some, Vec}
 use Rattle.std.specs.List.{All, AllZip, sum_by}
@@ -32,7 +32,7 @@ lane_left s stopped = record { put = s.items; part = s.seat.part; stopped = stop
 abbrev pub left_by : ConsumerView → Bool → ConsumerLeft
 left_by s stopped = record { ledger = record { places = s.places; notes = s.notes }; reads = s.reader.part; claimed = s.seat.part; stopped = stopped }
 
--- the end marks that it has loaded, by its number
+-- the end marks that a consumer has loaded, by its number
 met_at : (from end c : ℕ) (s : ConsumerView) → s.reader.reader ≡ c → HasReadEnds from end s → HasMetEnds from end c s.reader.part
 met_at from end c s is r = record {
   marks = r.marks;
@@ -150,7 +150,7 @@ module _ {Z : Type 0} (m : MailboxView) (may_stop may_pass : Who → ℕ → Typ
   cut_of p (v ∷ vs) (d ∷ ds) a =
       (λ f short. let here = a.0.full f in a.0.found f (λ z. omega (arith, here, z, short)), cut_of (suc p) vs ds a.1)
 
-  -- who was stopped, where the run is not off
+  -- which producers were stopped, if the run is not off
   stops_of : (p : ℕ) (vs : List (Vec ℕ Z)) (ds : List (PutDone Z)) → AreAt p vs ds → All (λ (d : PutDone Z). d.off ≡ false) ds
       → AreStoppedPuts may_stop m.cells.size.cells p (lists_in vs) (lanes_of ds)
   stops_of p [] [] a on = tt
@@ -160,7 +160,7 @@ module _ {Z : Type 0} (m : MailboxView) (may_stop may_pass : Who → ℕ → Typ
       let F = λ (d : PutDone Z). d.off ≡ false in
       (λ t. a.0.stop t (All-head F d ds on), stops_of (suc p) vs ds a.1 (All-tail F d ds on))
 
-  -- who was let through
+  -- which calls of producers were let through, if the run is not off
   passes_of : (p : ℕ) (vs : List (Vec ℕ Z)) (ds : List (PutDone Z)) → AreAt p vs ds
       → All (λ (d : PutDone Z). d.off ≡ false) ds → WerePassed may_pass p (lists_in vs) (lanes_of ds)
   passes_of p [] [] a on = tt
@@ -230,7 +230,7 @@ module _ {Z : Type 0} (m : MailboxView) (may_stop may_pass : Who → ℕ → Typ
   abbrev pub sources_of : {R : Type 0} → (R → Stream) → List (PollJob R Z) → List Stream
   sources_of stream js = map (λ j. stream j.rng) js
 
-  -- each with the words of its own source
+  -- each consumer polls with the words of its own source
   polled_of : {R : Type 0} (stream : R → Stream) (from end budget c : ℕ) (js : List (PollJob R Z)) (ds : List (PollDone Z)) → ArePollJobs m c js
       → AllZip (λ (j : PollJob R Z) (d : PollDone Z). IsPollEnd may_stop may_pass from end budget (stream j.rng) j.consumer d) js ds
       → All (λ (d : PollDone Z). d.off ≡ false) ds → WerePolled may_stop may_pass from end budget c (sources_of stream js) (left_of ds)

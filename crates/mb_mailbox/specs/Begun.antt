@@ -1,4 +1,4 @@
--- What workers that were begun promise, and how their ends keep it.
+-- What the workers that were begun promise, and how their ends keep the promises.
 use Rattle.std.specs.Prelude.{ℕ, ◌≡◌, true}
 use Rattle.mb_mailbox.specs.declared.gate.Who.{Who}
 use Rattle.mb_mailbox.specs.Imports.{Stream}
@@ -24,8 +24,8 @@ pub record IsPromiseOf {G R : Type 0} (g : G) (f e b : ℕ) (r : R) (s : Consume
   pub gate : its ≡ g
 
 module _ {G Z : Type 0} (may_stop may_pass : G → Who → ℕ → Type 0) where
-  -- a producer's thread promises what comes of its job; one that was ended here, since no thread could be made, has it, and
-  -- tells that the run is off
+  -- a producer's thread promises what comes of its job. If no thread could be made, the worker was ended here. Then
+  -- it has its end, which says that the run is off
   abbrev pub PutPromises : G → PutJob Z → PutWorker G Z → Type 0
   PutPromises gate j (put.Spawned h) = (h.promise.job.value ≡ j) × (h.promise.gate.value ≡ gate)
   PutPromises gate j (put.Inline d) = IsPutEnd (may_stop gate) (may_pass gate) j d × (d.off ≡ true)

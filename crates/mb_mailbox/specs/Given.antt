@@ -6,7 +6,7 @@ use Rattle.mb_mailbox.specs.Mailboxes.{MailboxView}
 use Rattle.mb_mailbox.specs.declared.crew.room.Jobs.{Jobs}
 
 module _ {R Z : Type 0} where
-  -- the jobs are those of a front of these lists, and of so many consumers at most, with the next numbers
+  -- the jobs are those of a front of these lists, and of at most this many consumers, with the next numbers
   pub record AreGiven (m : MailboxView) (lists : List (Vec ℕ Z)) (sources : ℕ) (jobs : Jobs R Z)
       (old new : HubView) : Type 0 where
     pub puts : ArePutJobsOfFront m (length old.puts) lists jobs.puts.items
@@ -15,7 +15,7 @@ module _ {R Z : Type 0} where
     pub few : vec_len jobs.polls ≤ sources
     pub hub : new ≡ with_consumers jobs.polls.items (with_producers jobs.puts.items old)
 
-  -- and they are all: each consumer has the source in its place
+  -- the jobs are those of all lists and all sources: each consumer has the source in its place
   pub record AreAllGiven (m : MailboxView) (lists : List (Vec ℕ Z)) (sources : List R)
       (jobs : Jobs R Z) (old : HubView) : Type 0 where
     pub puts : ArePutJobs m (length old.puts) lists jobs.puts.items

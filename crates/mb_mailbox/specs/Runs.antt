@@ -19,8 +19,9 @@ module _ {R Z : Type 0} where
     pub puts : All (λ j. IsProducerOf m j.producer) jobs.puts.items
     pub polls : All (λ j. IsConsumerOf m j.consumer) jobs.polls.items
 
-  -- these are the ends of the jobs, in their order, where consumers read the lanes from `from` on and below `end` with this
-  -- budget, each with the words of its own source, and the gate may stop them, or let them pass, before these calls
+  -- these are the ends of the jobs, in their order. Consumers read the lanes from `from` on and below `end` with this
+  -- budget, each with the words of its own source. The gate may stop the workers, or let them pass, before these
+  -- calls
   pub record AreEndsOf (may_stop may_pass : Who → ℕ → Type 0) (stream : R → Stream)
       (from end budget : ℕ) (jobs : Jobs R Z) (ends : Ends Z)
       : Type 0 where
@@ -34,7 +35,7 @@ module _ {Z : Type 0} where
     pub puts : All (λ d. IsProducerOf m d.producer) ends.puts.items
     pub polls : All (λ d. IsConsumerOf m d.consumer) ends.polls.items
 
-  -- none of them tells that the run is off
+  -- none of them says that the run is off
   pub record AreOn (ends : Ends Z) : Type 0 where
     pub puts : All (λ d. d.off ≡ false) ends.puts.items
     pub polls : All (λ d. d.off ≡ false) ends.polls.items

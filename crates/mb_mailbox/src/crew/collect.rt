@@ -1,4 +1,4 @@
-//! What was given to a run is taken in.
+//! Taking in what was given to a run.
 ghost use Rattle.std.specs.Prelude.{◌≡◌, ◌+◌, ◌-◌, ◌^◌, ◌<◌, false, length, map, min, true};
 ghost use Rattle.std.specs.Int.{from_bool};
 ghost use Rattle.std.specs.List.{All, sum_by};
@@ -14,8 +14,8 @@ use crate::hub::Hub;
 use crate::mailbox::Mailbox;
 use std::alloc::Allocator;
 
-/// What the ends of workers tell: items that found no cell, workers that were stopped, and whether the run is off. The numbers
-/// stay at 2^64 - 1 once there.
+/// What the ends of workers say: how many items were not put because no cell was left, how many workers were stopped,
+/// and whether the run is off. The numbers stay at 2^64 - 1 once there.
 #[derive(Clone, Copy)]
 pub(super) struct WorkTotals {
     pub(super) full: u64,
@@ -93,7 +93,7 @@ pub(super) fn take_polls<A: Allocator + Drop, B: Allocator + Drop>(
     }
 }
 
-/// Takes all of them in.
+/// Takes all of them in, the producers first.
 pub(super) fn take_all<A: Allocator + Drop, B: Allocator + Drop>(
     mailbox: &Mailbox<B>,
     hub: &mut Hub<A>,

@@ -13,7 +13,7 @@ use crate::mailbox::Mailbox;
 use rand_core::Rng;
 use std::alloc::Allocator;
 
-/// Gives a producer for each list, in order, and puts its job to `jobs`, which has room for all. Where the allocator
+/// Gives a producer for each list, in order, and puts its job to `jobs`, which has room for all. If the allocator
 /// refuses what one of them needs, it ends there.
 pub(super) fn give_producers<A: Allocator + Clone + Drop, B: Allocator + Drop>(
     alloc: &A,

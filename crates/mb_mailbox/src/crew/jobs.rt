@@ -30,8 +30,9 @@ pub(crate) struct PutJob<A: Allocator + Drop> {
     pub(crate) ghost begun: { is_over producer ≡ false },
 }
 
-/// A producer that has ended its lane, how many items of its list found no cell, whether it was stopped before it came to
-/// the end of its list, and whether the run is off: a thread could not be started, its own or another's.
+/// The end of a producer's worker. The producer has ended its lane. `full` says how many items of its list it did not
+/// put because no cell was left. `stopped` says whether it was stopped before the end of its list. `off` says whether
+/// the run is off: a thread could not be started, its own or another's.
 #[derive(Drop)]
 pub(crate) struct PutDone<A: Allocator + Drop> {
     pub(crate) producer: Producer<A>,
@@ -60,8 +61,8 @@ pub(crate) struct PollJob<R: Drop, A: Allocator + Drop> {
     pub(crate) rng: R,
 }
 
-/// A consumer whose worker is done, whether it was stopped before all lanes had ended, and whether the run is off, as with
-/// a producer.
+/// The end of a consumer's worker. `stopped` says whether it was stopped before all lanes had ended. `off` says
+/// whether the run is off, as with a producer.
 #[derive(Drop)]
 pub(crate) struct PollDone<A: Allocator + Drop> {
     pub(crate) consumer: Consumer<A>,

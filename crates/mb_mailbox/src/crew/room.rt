@@ -30,7 +30,7 @@ pub(crate) struct Ends<A: Allocator + Drop> {
     pub(crate) polls: Vec<PollDone<A>, A>,
 }
 
-/// Room for so many jobs.
+/// Room for this many jobs.
 pub(super) fn room_for_jobs<R: Drop, A: Allocator + Clone + Drop>(
     alloc: &A,
     puts: usize,
@@ -44,7 +44,7 @@ pub(super) fn room_for_jobs<R: Drop, A: Allocator + Clone + Drop>(
     })
 }
 
-/// Room for so many workers and their ends.
+/// Room for this many workers and their ends.
 pub(super) fn room_for_workers<G: Gate, R: Rng + Drop, A: Allocator + Clone + Drop>(
     alloc: &A,
     puts: usize,

@@ -17,7 +17,7 @@ use std::snapshot::Snapshot;
 use std::sync::atomic::{AtomicBool, Ordering};
 use std::thread::Scope;
 
-/// Starts a producer's thread. Where none can be made, it tells all workers to stop, and ends this one here.
+/// Starts a producer's thread. If none can be made, it makes all workers stop, and ends this one here.
 fn start_put<'s, E: 's, A: Allocator + Drop + Send + Sync + 's, G: Gate + 's>(
     scope: &Scope<'s, E>,
     mailbox: &'s Mailbox<A>,
@@ -69,7 +69,7 @@ pub(super) fn start_puts<'s, E: 's, A: Allocator + Drop + Send + Sync + 's, G: G
     begun
 }
 
-/// Starts a consumer's thread. Where none can be made, it tells all workers to stop, and ends this one here.
+/// Starts a consumer's thread. If none can be made, it makes all workers stop, and ends this one here.
 fn start_poll<
     's,
     E: 's,
@@ -115,7 +115,8 @@ fn start_poll<
     }
 }
 
-/// Starts a thread for each job, in order, after the producers of all the lanes were begun. `begun` has room for all.
+/// Starts a thread for each job, in order, after the workers of all the lanes' producers were begun. `begun` has room
+/// for all.
 pub(super) fn start_polls<
     's,
     E: 's,

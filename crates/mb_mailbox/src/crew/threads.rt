@@ -64,7 +64,7 @@ fn run_in<
     }
 }
 
-/// Runs one thread for each job and joins all. `going` is false from the first thread on that could not be made.
+/// Runs one thread for each job and joins all. `going` becomes false when a thread could not be made.
 pub(super) fn run<
     A: Allocator + Drop + Send + Sync,
     W: Threads + Wait + Sync,

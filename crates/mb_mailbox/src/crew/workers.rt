@@ -18,8 +18,8 @@ use std::alloc::Allocator;
 use std::sync::atomic::{AtomicBool, Ordering};
 use std::thread::yield_now;
 
-/// How many items were linked, whether the producer was stopped before it came to the end of its list, and whether because
-/// the run is off.
+/// How many items were linked, and whether the producer was stopped before the end of its list. `off` says whether it
+/// was stopped because the run is off.
 #[derive(Clone, Copy)]
 struct Linked {
     count: usize,
@@ -140,7 +140,7 @@ pub(super) fn put_nothing<A: Allocator + Drop, B: Allocator + Drop>(
     }
 }
 
-/// The next lane at `at` or behind it that has not ended, round and round from `from` to `end`.
+/// The next lane that has not ended, from `at` on, round and round from `from` to `end`.
 fn next_lane(ended: &[bool], at: u32, from: u32, end: u32) -> Option<u32>
     requires at { at ≤ end }
     requires few { end ≤ length ended.now }
@@ -162,7 +162,6 @@ fn next_lane(ended: &[bool], at: u32, from: u32, end: u32) -> Option<u32>
     None
 }
 
-/// Marks a lane.
 fn mark(ended: &mut [bool; 16], lane: u32)
     requires { lane < 16 }
     ensures { ended.new ≡ slice_set ended.old lane true }
@@ -208,7 +207,8 @@ fn poll_lane<A: Allocator + Drop, B: Allocator + Drop, R: Rng>(
     poll
 }
 
-/// How many polls in a row found nothing, after `poll`. The thread yields after more of them than there are lanes.
+/// How many polls in a row have found nothing since the last yield, after `poll`. The thread yields when more than
+/// `lanes` have.
 fn rest(poll: Poll, idle: u32, lanes: u32) -> u32 {
     match poll {
         Poll::Nothing if idle < lanes => idle + 1,
@@ -266,7 +266,7 @@ pub(super) fn poll_lanes<A: Allocator + Drop, B: Allocator + Drop, R: Rng + Drop
         idle = rest(poll, idle, end);
         at = lane + 1;
     }
-    // The gate refused a call, or call 2^64 - 2 was made, and may have read the last lane to its end.
+    // The gate refused a call, or call 2^64 - 2 was made. The last call may have read the last lane to its end.
     match next_lane(&ended, at, from, end) {
         None => PollDone {
             consumer,
