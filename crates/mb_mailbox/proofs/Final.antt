@@ -30,8 +30,8 @@ use Rattle.mb_mailbox.specs.declared.crew.jobs.PollDone.{PollDone}
 use Rattle.mb_mailbox.specs.declared.crew.jobs.PollJob.{PollJob}
 use Rattle.mb_mailbox.specs.declared.crew.jobs.PutDone.{PutDone}
 use Rattle.mb_mailbox.specs.declared.crew.jobs.PutJob.{PutJob}
-use Rattle.mb_mailbox.specs.declared.crew.room.Ends.{Ends}
-use Rattle.mb_mailbox.specs.declared.crew.room.Jobs.{Jobs}
+use Rattle.mb_mailbox.specs.declared.crew.room.WorkerResults.{WorkerResults}
+use Rattle.mb_mailbox.specs.declared.crew.room.WorkerInputs.{WorkerInputs}
 use Rattle.mb_mailbox.specs.declared.crew.room.WorkerBuffers.{WorkerBuffers}
 use Rattle.mb_mailbox.proofs.Noted.{all_noted}
 use Rattle.mb_mailbox.proofs.Runs.{lane_left, lanes_of, left_by, left_of, nums, run_beyond, run_cut, run_ends, run_met, run_of, run_only, run_passes, run_poll_stops, run_polled, run_stops, run_unread}
@@ -82,7 +82,7 @@ module _ {R Z : Type 0} (m : MailboxView) where
         claims = a.0.claims;
       }) (polls_at (suc c) js a.1)
 
-  pub jobs_at : (vs : List (Vec ℕ Z)) (sources : ℕ) (jobs : Jobs R Z) (h mid : HubView)
+  pub jobs_at : (vs : List (Vec ℕ Z)) (sources : ℕ) (jobs : WorkerInputs R Z) (h mid : HubView)
       → AreGiven m vs sources jobs h mid → AreOf m jobs
   jobs_at vs sources jobs h mid g = record {
     puts = puts_at m (length h.puts) g.puts.front jobs.puts.items g.puts.are;
@@ -109,7 +109,7 @@ module _ {R Z : Type 0} (m : MailboxView) where
       (poll_ends_at may_stop may_pass stream from end budget js ds (All-tail P j js a) z.1)
 
   pub ends_at : (may_stop may_pass : Who → ℕ → Type 0) (stream : R → Stream) (from end budget : ℕ)
-      (jobs : Jobs R Z) (ends : Ends Z) → AreOf m jobs
+      (jobs : WorkerInputs R Z) (ends : WorkerResults Z) → AreOf m jobs
       → AreEndsOf may_stop may_pass stream from end budget jobs ends
       → AreEndsAt m ends
   ends_at may_stop may_pass stream from end budget jobs ends a e = record {
@@ -180,8 +180,8 @@ at_most_each f (x ∷ xs) =
 
 -- ---- the end of a run
 module _ {R Z : Type 0} (m : MailboxView) (may_stop may_pass : Who → ℕ → Type 0)
-    (stream : R → Stream) (items : List (Vec ℕ Z)) (sources from end budget : ℕ) (jobs : Jobs R Z)
-    (ends : Ends Z) (h mid now : HubView)
+    (stream : R → Stream) (items : List (Vec ℕ Z)) (sources from end budget : ℕ) (jobs : WorkerInputs R Z)
+    (ends : WorkerResults Z) (h mid now : HubView)
     (hub : IsHub h) (given : AreGiven m items sources jobs h mid)
     (came : AreEndsOf may_stop may_pass stream from end budget jobs ends)
     (is : now ≡ with_taken ends mid) where
@@ -245,8 +245,8 @@ module _ {R Z : Type 0} (m : MailboxView) (may_stop may_pass : Who → ℕ → T
 
     module _ (w : Worked) (full : w.full ≡ min (2 ^ 64 - 1) (sum_by (λ (d : PutDone Z). d.full) ends.puts.items))
         (stopped : w.stopped ≡ min (2 ^ 64 - 1) (count_stopped ends))
-        (puts_on : All (λ (d : PutDone Z). d.off ≡ false) ends.puts.items)
-        (polls_on : All (λ (d : PollDone Z). d.off ≡ false) ends.polls.items) (small : length items + sources < 2 ^ 64)
+        (puts_on : All (λ (d : PutDone Z). d.aborted ≡ false) ends.puts.items)
+        (polls_on : All (λ (d : PollDone Z). d.aborted ≡ false) ends.polls.items) (small : length items + sources < 2 ^ 64)
         (later : IsHub now) (of : IsHubOf m now)
         (pool : History) (roll : IsRollOf now.cells.table.size now.cells.roll pool)
         (first : from ≡ length h.puts) (last : end ≡ length h.puts + length items)

@@ -99,8 +99,8 @@ pub record HasPolled (may_stop may_pass : Who → ℕ → Type 0) (from end budg
 module _ {Z : Type 0} (may_stop may_pass : Who → ℕ → Type 0) where
   -- the producer put a beginning of its list, and ended its lane. If it was not stopped, `full` counts the rest of
   -- the list. If that is not 0, a fetch-add of its own found no cell. If it was stopped, `full` is 0. If it was
-  -- stopped and the run is not off, there is a rest, and it was stopped before the call of the next item. Then it has
-  -- a fetch-add that found no cell only if it had one before. If the run is not off, the gate let each of its calls
+  -- stopped and the run is not aborted, there is a rest, and it was stopped before the call of the next item. Then it has
+  -- a fetch-add that found no cell only if it had one before. If the run is not aborted, the gate let each of its calls
   -- through. There is one for each item that it put, and one for the item that found no cell, if there is one
   pub record IsPutEnd (j : PutJob Z) (d : PutDone Z) : Type 0 where
     pub same : IsSameLane j.producer d.producer
@@ -109,27 +109,27 @@ module _ {Z : Type 0} (may_stop may_pass : Who → ℕ → Type 0) where
     pub full : d.stopped ≡ false → length d.producer.items + d.full ≡ length j.list.items
     pub found : d.stopped ≡ false → d.full ≢ 0 → FoundNoCell d.producer
     pub none : d.stopped ≡ true → d.full ≡ 0
-    pub short : d.stopped ≡ true → d.off ≡ false → length d.producer.items < length j.list.items
-    pub had_cells : d.stopped ≡ true → d.off ≡ false → FoundNoCell d.producer → FoundNoCell j.producer
-    pub stop : d.stopped ≡ true → d.off ≡ false
+    pub short : d.stopped ≡ true → d.aborted ≡ false → length d.producer.items < length j.list.items
+    pub had_cells : d.stopped ≡ true → d.aborted ≡ false → FoundNoCell d.producer → FoundNoCell j.producer
+    pub stop : d.stopped ≡ true → d.aborted ≡ false
         → IsStopBefore may_stop (who.Producer j.producer.seat.lane) (suc (length d.producer.items))
-    pub passed : d.off ≡ false → ArePassed may_pass (who.Producer j.producer.seat.lane) (length d.producer.items)
-    pub passed_full : d.off ≡ false → d.stopped ≡ false → d.full ≢ 0
+    pub passed : d.aborted ≡ false → ArePassed may_pass (who.Producer j.producer.seat.lane) (length d.producer.items)
+    pub passed_full : d.aborted ≡ false → d.stopped ≡ false → d.full ≢ 0
         → may_pass (who.Producer j.producer.seat.lane) (suc (length d.producer.items))
 
   -- if the consumer was not stopped, it has read each lane from `from` on and below `end` to its end mark. If the run
-  -- is not off, it has made its calls with this budget and the words of this source, and nothing else. The rest is of
+  -- is not aborted, it has made its calls with this budget and the words of this source, and nothing else. The rest is of
   -- a consumer that had made no access before. If it was not stopped, it has loaded as many end marks as there are of
   -- these lanes. Stopped or not, it has loaded as many end marks as it has read of these lanes to their ends. If the
-  -- run is not off, it has looked at the heads of these lanes alone. If it was stopped and the run is not off, it was
+  -- run is not aborted, it has looked at the heads of these lanes alone. If it was stopped and the run is not aborted, it was
   -- stopped before a call, and has loaded fewer end marks
   pub record IsPollEnd (from end budget : ℕ) (source : Stream) (s : ConsumerView) (d : PollDone Z) : Type 0 where
     pub same : IsSameConsumer s d.consumer
     pub read : d.stopped ≡ false → (p : ℕ) → from ≤ p → p < end → HasReadToEnd p d.consumer
     pub ends : d.stopped ≡ false → accesses_made s ≡ 0 → ends_met d.consumer.reader.part ≡ end - from
     pub marked : accesses_made s ≡ 0 → HasReadEnds from end d.consumer
-    pub stop : d.stopped ≡ true → d.off ≡ false → accesses_made s ≡ 0
+    pub stop : d.stopped ≡ true → d.aborted ≡ false → accesses_made s ≡ 0
         → IsStoppedPoll may_stop budget s.seat.consumer (accesses_made d.consumer)
-    pub unread : d.stopped ≡ true → d.off ≡ false → accesses_made s ≡ 0 → ends_met d.consumer.reader.part < end - from
-    pub only : d.off ≡ false → accesses_made s ≡ 0 → IsOnLanes from end d.consumer.reader.part
-    pub polled : d.off ≡ false → HasPolled may_stop may_pass from end budget source d.stopped s d.consumer
+    pub unread : d.stopped ≡ true → d.aborted ≡ false → accesses_made s ≡ 0 → ends_met d.consumer.reader.part < end - from
+    pub only : d.aborted ≡ false → accesses_made s ≡ 0 → IsOnLanes from end d.consumer.reader.part
+    pub polled : d.aborted ≡ false → HasPolled may_stop may_pass from end budget source d.stopped s d.consumer

@@ -15,7 +15,7 @@ pub mod Hubs
 pub mod Ledgers
 pub mod NewConsumers
 pub mod Examples
-pub mod Jobs
+pub mod WorkerInputs
 pub mod Begun
 pub mod Calls
 pub mod Rooms

@@ -29,7 +29,7 @@ use ends::ends_tell_notes;
 use issue::give;
 use jobs::Lanes;
 use rand_core::Rng;
-use room::{Ends, Jobs, WorkerBuffers, room_for_jobs, room_for_workers};
+use room::{WorkerBuffers, WorkerInputs, WorkerResults, room_for_jobs, room_for_workers};
 use std::alloc::Allocator;
 use std::error::Error;
 use std::fmt;
@@ -221,7 +221,7 @@ fn work_with<
     budget: u64,
     rngs: Vec<R, A>,
     gate: &G,
-    mut jobs: Jobs<R, A>,
+    mut jobs: WorkerInputs<R, A>,
     room: WorkerBuffers<G, R, A>,
 ) -> Result<Worked, WorkFault>
     requires of { IsHubOf mailbox.now hub.old }
@@ -254,8 +254,8 @@ fn work_with<
         take_all(mailbox, hub, ends);
         return Err(WorkFault::NoMemory);
     }
-    let going = AtomicBool::new(true);
-    let ends = run(rt, mailbox, jobs, lanes, gate, &going, room);
+    let running = AtomicBool::new(true);
+    let ends = run(rt, mailbox, jobs, lanes, gate, &running, room);
     match settle(mailbox, hub, ends) {
         Ok(worked) => {
             ends_tell_notes();
@@ -267,11 +267,11 @@ fn work_with<
 }
 
 /// Takes all of them in, and returns what the run came to. There is a fault exactly if one of the ends says that the
-/// run is off.
+/// run is aborted.
 fn settle<A: Allocator + Drop, B: Allocator + Drop>(
     mailbox: &Mailbox<B>,
     hub: &mut Hub<A>,
-    ends: Ends<A>,
+    ends: WorkerResults<A>,
 ) -> Result<Worked, WorkFault>
     requires hub { IsHubOf mailbox.now hub.old }
     requires ends { AreEndsAt mailbox.now ends }
@@ -279,14 +279,18 @@ fn settle<A: Allocator + Drop, B: Allocator + Drop>(
         (sum_by (λ d. d.full) ends.puts.items)) }
     ensures stopped { IfOk result (λ w. w.stopped ≡ min (2 ^ 64 - 1) (count_stopped ends)) }
     ensures on { IfOk result (λ _. AreOn ends) }
-    ensures off { AreOn ends → IsOk result }
+    ensures aborted { AreOn ends → IsOk result }
     ensures fault { IfErr result (λ e. e ≡ NoThread) }
     ensures some { IfErr result (λ _. 0 < length ends.puts.items + length ends.polls.items) }
     ensures hub { hub.new ≡ with_taken ends hub.old }
     ensures of { IsHubOf mailbox.now hub.new }
 {
-    let WorkTotals { full, stopped, off } = take_all(mailbox, hub, ends);
-    if off {
+    let WorkTotals {
+        full,
+        stopped,
+        aborted,
+    } = take_all(mailbox, hub, ends);
+    if aborted {
         Err(WorkFault::NoThread)
     } else {
         Ok(Worked { full, stopped })

@@ -14,7 +14,7 @@ ghost use Rattle.mb_mailbox.specs.declared.gate.Who.TheVariants as who;
 ghost use Rattle.mb_mailbox.specs.declared.notes.Mark.TheVariants as mark;
 ghost use Rattle.mb_mailbox.specs.declared.crew.jobs.PutDone.{PutDone};
 ghost use Rattle.mb_mailbox.specs.declared.crew.jobs.PutJob.{PutJob};
-ghost use Rattle.mb_mailbox.specs.declared.crew.room.Ends.{Ends};
+ghost use Rattle.mb_mailbox.specs.declared.crew.room.WorkerResults.{WorkerResults};
 ghost use Rattle.mb_mailbox.specs.Consumers.{ConsumerView};
 ghost use Rattle.mb_mailbox.specs.ConsumerStep.{ConsumerStep};
 ghost use Rattle.mb_mailbox.specs.Examples.{head_loaded, link_loaded, met_four, nothing_done};
@@ -183,49 +183,49 @@ pub fn workers_are_stopped_by_the_gate()
     ensures poll_other_worker { IsStoppedPoll (λ w _. w ≡ who.Consumer 1) 5 0 3 → ⊥ }
 {}
 
-/// A run is off as soon as one end says so. The end of a worker that its gate stopped does not say so.
+/// A run is aborted as soon as one end says so. The end of a worker that its gate stopped does not say so.
 pub fn one_end_tells_that_a_run_is_off()
-    ensures stopped { (ends : Ends (Unit {0})) (s : ConsumerView) → ends.puts.items ≡ []
+    ensures stopped { (ends : WorkerResults (Unit {0})) (s : ConsumerView) → ends.puts.items ≡ []
         → ends.polls.items ≡ record {
           consumer = s;
           stopped = true;
-          off = false;
+          aborted = false;
         } ∷ [] → AreOn ends }
-    ensures off { (ends : Ends (Unit {0})) (s : ConsumerView)
+    ensures aborted { (ends : WorkerResults (Unit {0})) (s : ConsumerView)
         → ends.polls.items ≡ record {
           consumer = s;
           stopped = false;
-          off = true;
+          aborted = true;
         } ∷ [] → AreOn ends → ⊥ }
-    ensures off_producer { (ends : Ends (Unit {0})) (s : ProducerView)
+    ensures aborted_producer { (ends : WorkerResults (Unit {0})) (s : ProducerView)
         → ends.puts.items ≡ record {
           producer = s;
           full = 0;
           stopped = false;
-          off = true;
+          aborted = true;
         } ∷ [] → AreOn ends → ⊥ }
-    ensures off_after_another { (ends : Ends (Unit {0})) (s t : ConsumerView)
+    ensures aborted_after_another { (ends : WorkerResults (Unit {0})) (s t : ConsumerView)
         → ends.polls.items ≡ record {
           consumer = s;
           stopped = true;
-          off = false;
+          aborted = false;
         } ∷ record {
           consumer = t;
           stopped = false;
-          off = true;
+          aborted = true;
         } ∷ [] → AreOn ends → ⊥ }
 {}
 
-/// The end of a producer's worker says what its gate let through, if the run is not off.
+/// The end of a producer's worker says what its gate let through, if the run is not aborted.
 pub fn producers_tell_what_was_let_through()
-    ensures off { (j : PutJob (Unit {0})) (d : PutDone (Unit {0}))
+    ensures aborted { (j : PutJob (Unit {0})) (d : PutDone (Unit {0}))
         → IsSameLane j.producer d.producer → is_over d.producer ≡ true → d.producer.items ≡ []
-        → d.full ≡ 0 → d.stopped ≡ true → d.off ≡ true
+        → d.full ≡ 0 → d.stopped ≡ true → d.aborted ≡ true
         → IsPutEnd (λ _ _. ⊥) (λ _ _. ⊥) j d }
-    ensures not_let_through { (j : PutJob (Unit {0})) (d : PutDone (Unit {0})) → d.off ≡ false
+    ensures not_let_through { (j : PutJob (Unit {0})) (d : PutDone (Unit {0})) → d.aborted ≡ false
         → d.producer.items ≡ 7 ∷ [] → IsPutEnd any_call (λ _ _. ⊥) j d → ⊥ }
     ensures full_not_let_through { (j : PutJob (Unit {0})) (d : PutDone (Unit {0}))
-        → d.off ≡ false → d.producer.items ≡ [] → d.stopped ≡ false → d.full ≡ 1
+        → d.aborted ≡ false → d.producer.items ≡ [] → d.stopped ≡ false → d.full ≡ 1
         → IsPutEnd any_call (λ _ _. ⊥) j d → ⊥ }
 {}
 

@@ -1,7 +1,7 @@
 //! A poll: the consumer's place, and what it does from there.
 use super::moves::{answers_tell_lanes, consumers_move_on, places_tell_steps};
 use super::places::place_at;
-use super::pursuit::{PendingClaim, pursue};
+use super::pursuit::{PendingClaim, run_claim};
 use super::{Consumer, Poll};
 use crate::mailbox::Mailbox;
 use crate::place::Place;
@@ -69,7 +69,7 @@ impl<A: Allocator + Drop> Consumer<A> {
             Place::Before(at) => at,
             Place::At { cell, claim } => {
                 let held = PendingClaim { lane, cell, claim };
-                return pursue(places, notes, reader, seat, mailbox, held, budget, rng);
+                return run_claim(places, notes, reader, seat, mailbox, held, budget, rng);
             }
         };
         let cell = match mailbox.cells.look(reader, at) {
@@ -79,6 +79,6 @@ impl<A: Allocator + Drop> Consumer<A> {
         };
         let claim = Claim::new(mailbox.claims.layout(), seat.consumer());
         let held = PendingClaim { lane, cell, claim };
-        pursue(places, notes, reader, seat, mailbox, held, budget - 1, rng)
+        run_claim(places, notes, reader, seat, mailbox, held, budget - 1, rng)
     }
 }

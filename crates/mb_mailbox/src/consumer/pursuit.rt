@@ -64,7 +64,7 @@ pub(super) struct PendingClaim {
 /// made this many accesses. It takes the consumer's fields, not the consumer. From the first access to the last the
 /// place is out of date, so the fields are not those of a consumer.
 #[inline(always)]
-pub(super) fn pursue<A: Allocator + Drop, B: Allocator + Drop, R: Rng>(
+pub(super) fn run_claim<A: Allocator + Drop, B: Allocator + Drop, R: Rng>(
     places: &mut ArrayVec<Place, 16>,
     notes: &mut Notes<A>,
     reader: &mut ReaderSeat,

@@ -23,7 +23,7 @@ fn start_put<'s, E: 's, A: Allocator + Drop + Send + Sync + 's, G: Gate + 's>(
     mailbox: &'s Mailbox<A>,
     job: PutJob<A>,
     gate: &'s G,
-    going: &'s AtomicBool,
+    running: &'s AtomicBool,
 ) -> PutWorker<G, A>
     requires of { IsProducerOf mailbox.now job.producer }
     ensures { PutPromises G.may_stop G.may_pass gate.now job result }
@@ -35,13 +35,13 @@ fn start_put<'s, E: 's, A: Allocator + Drop + Send + Sync + 's, G: Gate + 's>(
     let body = move || -> PutDone<A>
         requires { IsProducerOf mailbox.now job.producer }
         ensures { IsPutEnd (G.may_stop gate.entry.now) (G.may_pass gate.entry.now) job result }
-    { put_list(mailbox, job, gate, going) };
+    { put_list(mailbox, job, gate, running) };
     match scope.spawn_with(promise, body) {
         Ok(handle) => PutWorker::Spawned(handle),
         Err(refused) => {
-            going.store(false, Ordering::SeqCst);
+            running.store(false, Ordering::SeqCst);
             PutWorker::Inline(PutDone {
-                off: true,
+                aborted: true,
                 ..(refused.value)()
             })
         }
@@ -54,7 +54,7 @@ pub(super) fn start_puts<'s, E: 's, A: Allocator + Drop + Send + Sync + 's, G: G
     mailbox: &'s Mailbox<A>,
     jobs: Vec<PutJob<A>, A>,
     gate: &'s G,
-    going: &'s AtomicBool,
+    running: &'s AtomicBool,
     mut begun: Vec<PutWorker<G, A>, A>,
 ) -> Vec<PutWorker<G, A>, A>
     requires of { All (λ j. IsProducerOf mailbox.now j.producer) jobs.items }
@@ -64,7 +64,7 @@ pub(super) fn start_puts<'s, E: 's, A: Allocator + Drop + Send + Sync + 's, G: G
     ensures count { vec_len result ≡ vec_len jobs }
 {
     for job in jobs {
-        begun.push_reserved(start_put(scope, mailbox, job, gate, going));
+        begun.push_reserved(start_put(scope, mailbox, job, gate, running));
     }
     begun
 }
@@ -82,7 +82,7 @@ fn start_poll<
     job: PollJob<R, A>,
     lanes: Lanes,
     gate: &'s G,
-    going: &'s AtomicBool,
+    running: &'s AtomicBool,
 ) -> PollWorker<G, R, A>
     requires of { IsConsumerOf mailbox.now job.consumer }
     requires few { lanes.end ≤ mailbox.now.cells.size.lanes }
@@ -102,13 +102,13 @@ fn start_poll<
         requires few { lanes.end ≤ mailbox.now.cells.size.lanes }
         ensures { IsPollEnd (G.may_stop gate.entry.now) (G.may_pass gate.entry.now) lanes.from
             lanes.end lanes.budget (R.stream job.rng) job.consumer result }
-    { poll_lanes(mailbox, job, lanes, gate, going) };
+    { poll_lanes(mailbox, job, lanes, gate, running) };
     match scope.spawn_with(promise, body) {
         Ok(handle) => PollWorker::Spawned(handle),
         Err(refused) => {
-            going.store(false, Ordering::SeqCst);
+            running.store(false, Ordering::SeqCst);
             PollWorker::Inline(PollDone {
-                off: true,
+                aborted: true,
                 ..(refused.value)()
             })
         }
@@ -129,7 +129,7 @@ pub(super) fn start_polls<
     jobs: Vec<PollJob<R, A>, A>,
     lanes: Lanes,
     gate: &'s G,
-    going: &'s AtomicBool,
+    running: &'s AtomicBool,
     mut begun: Vec<PollWorker<G, R, A>, A>,
     producers: &Vec<PutWorker<G, A>, A>,
 ) -> Vec<PollWorker<G, R, A>, A>
@@ -143,7 +143,7 @@ pub(super) fn start_polls<
         jobs.items result.items }
 {
     for job in jobs {
-        begun.push_reserved(start_poll(scope, mailbox, job, lanes, gate, going));
+        begun.push_reserved(start_poll(scope, mailbox, job, lanes, gate, running));
     }
     begun
 }
