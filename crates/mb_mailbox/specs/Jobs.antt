@@ -118,11 +118,11 @@ module _ {Z : Type 0} (may_stop may_pass : Who → ℕ → Type 0) where
         → may_pass (who.Producer j.producer.seat.lane) (suc (length d.producer.items))
 
   -- if the consumer was not stopped, it has read each lane from `from` on and below `end` to its end mark. If the run
-  -- is not aborted, it has made its calls with this budget and the words of this source, and nothing else. The rest is of
-  -- a consumer that had made no access before. If it was not stopped, it has loaded as many end marks as there are of
+  -- is not aborted, it has made its calls with this budget and the words of this source, and nothing else. The rest is
+  -- of a consumer that had made no access before. If it was not stopped, it has loaded as many end marks as there are of
   -- these lanes. Stopped or not, it has loaded as many end marks as it has read of these lanes to their ends. If the
-  -- run is not aborted, it has looked at the heads of these lanes alone. If it was stopped and the run is not aborted, it was
-  -- stopped before a call, and has loaded fewer end marks
+  -- run is not aborted, it has looked at the heads of these lanes alone. If it was stopped and the run is not aborted,
+  -- it was stopped before a call, and has loaded fewer end marks
   pub record IsPollEnd (from end budget : ℕ) (source : Stream) (s : ConsumerView) (d : PollDone Z) : Type 0 where
     pub same : IsSameConsumer s d.consumer
     pub read : d.stopped ≡ false → (p : ℕ) → from ≤ p → p < end → HasReadToEnd p d.consumer
@@ -130,6 +130,7 @@ module _ {Z : Type 0} (may_stop may_pass : Who → ℕ → Type 0) where
     pub marked : accesses_made s ≡ 0 → HasReadEnds from end d.consumer
     pub stop : d.stopped ≡ true → d.aborted ≡ false → accesses_made s ≡ 0
         → IsStoppedPoll may_stop budget s.seat.consumer (accesses_made d.consumer)
-    pub unread : d.stopped ≡ true → d.aborted ≡ false → accesses_made s ≡ 0 → ends_met d.consumer.reader.part < end - from
+    pub unread : d.stopped ≡ true → d.aborted ≡ false → accesses_made s ≡ 0
+        → ends_met d.consumer.reader.part < end - from
     pub only : d.aborted ≡ false → accesses_made s ≡ 0 → IsOnLanes from end d.consumer.reader.part
     pub polled : d.aborted ≡ false → HasPolled may_stop may_pass from end budget source d.stopped s d.consumer
