@@ -15,7 +15,7 @@ pub mod Hubs
 pub mod Ledgers
 pub mod NewConsumers
 pub mod Examples
-pub mod WorkerInputs
+pub mod Jobs
 pub mod Begun
 pub mod Calls
 pub mod Rooms
