@@ -46,7 +46,10 @@ fn main() -> Result<(), Box<dyn Error>> {
     let panics: Vec<_> = workers
         .into_iter()
         .filter_map(|worker| worker.join().err())
-        .filter_map(|why| why.downcast::<String>().ok())
+        .map(|why| {
+            why.downcast::<String>()
+                .map_or_else(|_| "of unknown".into(), |it| *it)
+        })
         .collect();
 
     // What is left is run here: nobody else can have it.
