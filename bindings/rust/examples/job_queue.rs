@@ -48,7 +48,7 @@ fn main() -> Result<(), Box<dyn Error>> {
         .filter_map(|worker| worker.join().err())
         .map(|why| {
             why.downcast::<String>()
-                .map_or_else(|_| "of unknown".into(), |it| *it)
+                .map_or_else(|_| "an unknown job".into(), |it| *it)
         })
         .collect();
 
