@@ -55,7 +55,7 @@ def one_run(producers, consumers, pairs, items, limit):
     reader.join()
     seconds = time.perf_counter() - start
     out, told = texts
-    times = re.findall(r"(?:made|worked|gathered): ([0-9.]+\w+)", told)
+    times = re.findall(r"(?:made|worked|gathered|written): ([0-9.]+\w+)", told)
     reserved = max(0, reserved - stacks)
     by_cell = [f"{bytes_ / (8 * items):.1f}" for bytes_ in (touched, reserved)]
     row = [producers, consumers, pairs, items, *by_cell, f"{touched / 1e6:.0f} MB", f"{seconds:.1f} s", *times, out.strip()]
@@ -67,8 +67,8 @@ def main():
     parser.add_argument("--limit", type=float)
     parser.add_argument("runs", nargs="*", default=RUNS)
     options = parser.parse_args()
-    print("| Producers | Consumers | Pairs | Items | Touched | Reserved | Resident | Time | made | worked | gathered | Told |")
-    print("|---|---|---|---|---|---|---|---|---|---|---|---|")
+    print("| Producers | Consumers | Pairs | Items | Touched | Reserved | Resident | Time | made | worked | gathered | written | Told |")
+    print("|---|---|---|---|---|---|---|---|---|---|---|---|---|")
     for run in options.runs:
         print(one_run(*(int(number) for number in run.split(",")), options.limit), flush=True)
 

@@ -73,6 +73,12 @@ class Limits(unittest.TestCase):
         files["crates/k/src/c.rt"] = "use std::a;"
         self.assertEqual(found_in(files), [])
 
+    def test_a_child_is_imported_by_its_name_alone(self):
+        files = {"crates/k/src/a.rt": "mod b;\n\npub use b::X;\nuse c::d;", "crates/k/src/a/b.rt": "use super::Y;"}
+        self.assertEqual(found_in(files), ["modules that import each other"] * 2)
+        files["crates/k/src/a/b.rt"] = "use std::a;"
+        self.assertEqual(found_in(files), [])
+
     def test_the_root_of_a_crate_is_in_no_knot(self):
         self.assertEqual(found_in({"crates/k/src/lib.rt": "use crate::a::f;", "crates/k/src/a.rt": "use crate::lib::f;"}), [])
 

@@ -1,8 +1,9 @@
-//! Lets workers loose on one large mailbox, and audits its report.
+//! Runs workers on one large mailbox, and audits its report.
 //!
-//! The words are PRODUCERS CONSUMERS PAIRS ITEMS SEED: so many items in as many cells, shared among the producers. Then may
-//! come the shape of the cells, else plain, and the source of random words, else chacha. What it prints is the same
-//! whatever the order of the threads. What the consumers came to, and how long each part took, goes to standard error.
+//! The arguments are PRODUCERS CONSUMERS PAIRS ITEMS SEED. There are ITEMS items and as many cells, shared among the
+//! producers. Then may come the shape of the cells (else plain) and the source of random words (else chacha). What it
+//! prints does not depend on the order of the threads. The consumers' results, and how long each part took, go to
+//! standard error.
 #![tactic(auto)]
 
 ghost use Rattle.mb_mailbox.specs.Hubs.{IsHubOf};
@@ -10,6 +11,7 @@ ghost use Rattle.mb_mailbox.specs.Hubs.{IsHubOf};
 use mb_claim::Shape;
 use mb_mailbox::{Hub, Mailbox, OpenGate, WorkFault, work};
 use mb_quorum::TableName;
+use mb_script::report_text;
 use mb_world::{Setup, SetupFault};
 use rand_chacha::ChaCha8Rng;
 use rand_core::{Rng, SeedableRng};
@@ -22,29 +24,29 @@ use std::thread::Threads;
 use std::time::{Clock, Duration, Instant};
 use test_audit::{Flaw, Tally, audit};
 
-/// How many accesses a consumer makes at most in a poll.
+/// The most accesses of one poll.
 const BUDGET: u64 = 64;
 
-/// What a command line may be.
+/// Printed if the command line is refused.
 const USAGE: &str = "usage: bench_large PRODUCERS CONSUMERS PAIRS ITEMS SEED \
     [plain|fast|last|fastlast [chacha|cheap]]";
 
-/// The status of a run that has a flaw.
+/// The program's status if the run failed or its report has a flaw.
 const FLAW: u8 = 1;
 
-/// The status of a command line that tells no numbers.
+/// The program's status if the command line is refused.
 const REFUSED: u8 = 2;
 
-/// Where the consumers draw their random words.
+/// The consumers' source of random words.
 #[derive(Clone, Copy)]
-enum Words {
+enum RandomWords {
     /// ChaCha8, as the other programs do.
     Chacha,
-    /// xoshiro256++, which takes a few instructions a word.
+    /// xoshiro256++, which takes a few instructions for each word.
     Cheap,
 }
 
-/// What is asked for.
+/// What the command line asks for.
 #[derive(Clone, Copy)]
 struct Plan {
     producers: u64,
@@ -53,34 +55,36 @@ struct Plan {
     items: u64,
     seed: u64,
     shape: Shape,
-    words: Words,
+    words: RandomWords,
 }
 
-/// What a run came to, and how long its parts took: the mailbox was made, the threads worked, the report was made.
+/// The end of a run, and how long its parts took: to make the mailbox, and to work.
 #[derive(Clone, Copy, Debug)]
 struct Outcome {
-    tally: Tally,
     made: Duration,
     worked: Duration,
-    gathered: Duration,
+    end: End,
 }
 
-/// How a run went wrong.
+/// The tally of the report, how long it took to make the report and its text, and the text's bytes.
+#[derive(Clone, Copy, Debug)]
+struct End {
+    tally: Tally,
+    gathered: Duration,
+    written: Duration,
+    bytes: usize,
+}
+
+/// Why a run failed.
 #[derive(Clone, Copy, Debug)]
 enum Fault {
-    /// The setup was refused.
     Setup(SetupFault),
-    /// `work` was refused.
     Work(WorkFault),
-    /// Memory was refused.
     NoMemory,
-    /// There was no report.
     NoReport,
-    /// The clock could not be read.
     NoClock,
-    /// The report has this flaw.
     Report(Flaw),
-    /// Of as many items as cells some found no cell.
+    /// Some item found no cell, although there are as many cells as items.
     NotPut,
 }
 
@@ -96,14 +100,14 @@ impl From<io::Error> for Fault {
     }
 }
 
-/// What the command line asks for.
+/// The plan in these words. It is none if they are not as the usage says.
 fn plan_of(words: &[String]) -> Option<Plan> {
     let [_, producers, consumers, pairs, items, seed, more @ ..] = words else {
         return None;
     };
     let (shape, words) = match more {
-        [] => (Shape::PLAIN, Words::Chacha),
-        [shape] => (shape_of(shape.as_str())?, Words::Chacha),
+        [] => (Shape::PLAIN, RandomWords::Chacha),
+        [shape] => (shape_of(shape.as_str())?, RandomWords::Chacha),
         [shape, words] => (shape_of(shape.as_str())?, words_of(words.as_str())?),
         _ => return None,
     };
@@ -118,7 +122,6 @@ fn plan_of(words: &[String]) -> Option<Plan> {
     })
 }
 
-/// The shape of this name.
 fn shape_of(name: &str) -> Option<Shape> {
     let (fast, last) = match name {
         "plain" => (false, false),
@@ -130,11 +133,10 @@ fn shape_of(name: &str) -> Option<Shape> {
     Some(Shape { fast, last })
 }
 
-/// The source of this name.
-fn words_of(name: &str) -> Option<Words> {
+fn words_of(name: &str) -> Option<RandomWords> {
     match name {
-        "chacha" => Some(Words::Chacha),
-        "cheap" => Some(Words::Cheap),
+        "chacha" => Some(RandomWords::Chacha),
+        "cheap" => Some(RandomWords::Cheap),
         _ => None,
     }
 }
@@ -145,7 +147,7 @@ fn first_of(plan: &Plan, producer: u64) -> u64 {
     items.checked_div(plan.producers).unwrap_or(0)
 }
 
-/// The lists of the producers: the items 0, 1, 2, .. cut into as many parts.
+/// The lists of the producers: the items 0, 1, 2, .., cut into one part for each.
 fn lists_of(alloc: Global, plan: &Plan) -> Result<Vec<Vec<u64>>, AllocError> {
     let mut lists = Vec::new(alloc);
     for p in 0..plan.producers {
@@ -159,7 +161,7 @@ fn lists_of(alloc: Global, plan: &Plan) -> Result<Vec<Vec<u64>>, AllocError> {
     Ok(lists)
 }
 
-/// The source of each consumer.
+/// A source for each consumer, each with a seed of its own.
 fn sources_of<R: SeedableRng + Drop>(alloc: Global, plan: &Plan) -> Result<Vec<R>, AllocError> {
     let mut rngs = Vec::new(alloc);
     for c in 0..plan.consumers {
@@ -169,7 +171,7 @@ fn sources_of<R: SeedableRng + Drop>(alloc: Global, plan: &Plan) -> Result<Vec<R
     Ok(rngs)
 }
 
-/// All items are put, and consumers take what they win: how long that took.
+/// Puts all items, while consumers take what they win. Returns how long that took.
 fn work_all<R: Rng + SeedableRng + Send + Drop, W: Threads + Wait + Clock + Sync>(
     rt: &W,
     alloc: Global,
@@ -188,14 +190,14 @@ fn work_all<R: Rng + SeedableRng + Send + Drop, W: Threads + Wait + Clock + Sync
     Ok(start.elapsed(rt)?)
 }
 
-/// What the report tells without a flaw, and how long it took to make it.
+/// Makes the report and its text, and audits the report.
 fn gather<W: Clock>(
     rt: &W,
     alloc: Global,
     plan: &Plan,
     mailbox: Mailbox<Global>,
     hub: Hub<Global>,
-) -> Result<(Tally, Duration), Fault>
+) -> Result<End, Fault>
     requires { IsHubOf mailbox hub }
 {
     let start = Instant::now(rt)?;
@@ -203,11 +205,19 @@ fn gather<W: Clock>(
         return Err(Fault::NoReport);
     };
     let gathered = start.elapsed(rt)?;
+    let start = Instant::now(rt)?;
+    let bytes = report_text(alloc, &report)?.len();
+    let written = start.elapsed(rt)?;
     let tally = audit(&report, plan.producers, plan.consumers).map_err(Fault::Report)?;
-    Ok((tally, gathered))
+    Ok(End {
+        tally,
+        gathered,
+        written,
+        bytes,
+    })
 }
 
-/// One run.
+/// Makes a mailbox, works on it, and audits its report.
 fn run<W: Threads + Wait + Clock + Sync>(
     rt: &W,
     alloc: Global,
@@ -225,19 +235,16 @@ fn run<W: Threads + Wait + Clock + Sync>(
     let (mailbox, mut hub) = Mailbox::new(alloc, setup.shaped(plan.shape))?;
     let made = start.elapsed(rt)?;
     let worked = match plan.words {
-        Words::Chacha => work_all::<ChaCha8Rng, W>(rt, alloc, plan, &mailbox, &mut hub)?,
-        Words::Cheap => work_all::<Xoshiro256PlusPlus, W>(rt, alloc, plan, &mailbox, &mut hub)?,
+        RandomWords::Chacha => work_all::<ChaCha8Rng, W>(rt, alloc, plan, &mailbox, &mut hub)?,
+        RandomWords::Cheap => work_all::<Xoshiro256PlusPlus, W>(
+            rt, alloc, plan, &mailbox, &mut hub,
+        )?,
     };
-    let (tally, gathered) = gather(rt, alloc, plan, mailbox, hub)?;
-    if tally.put != plan.items {
+    let end = gather(rt, alloc, plan, mailbox, hub)?;
+    if end.tally.put != plan.items {
         return Err(Fault::NotPut);
     }
-    Ok(Outcome {
-        tally,
-        made,
-        worked,
-        gathered,
-    })
+    Ok(Outcome { made, worked, end })
 }
 
 fn main(rt: HostRuntime) -> io::Result<ExitCode> {
@@ -248,7 +255,7 @@ fn main(rt: HostRuntime) -> io::Result<ExitCode> {
     }
 }
 
-/// Makes a run, and tells what it came to.
+/// Makes a run, and prints its result.
 fn tell<R: AllocGlobal + Print + Eprint + Threads + Wait + Clock + Sync>(
     rt: &R,
     plan: &Plan,
@@ -269,7 +276,7 @@ fn tell<R: AllocGlobal + Print + Eprint + Threads + Wait + Clock + Sync>(
     }
 }
 
-/// Tells how the program is used.
+/// Prints how the program is used.
 fn refuse<R: Eprint + AllocGlobal>(rt: &R) -> io::Result<ExitCode> {
     eprintln!(rt; "{USAGE}")?;
     Ok(ExitCode::from(REFUSED))

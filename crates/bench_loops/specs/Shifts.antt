@@ -1,4 +1,4 @@
--- Random words by shifts: the state is the last word.
+-- Random words by shifts. The state is the last word.
 use Rattle.std.specs.Prelude.{ℕ, ◌*◌, ◌/◌, ◌%◌, ◌^◌, bit_xor}
 use Rattle.rand_core.specs.Steps.{Steps, steps_u64_low}
 
@@ -15,6 +15,6 @@ word_after x =
     let word = with_upper 17 (with_lower 7 (with_upper 13 x)) in
     (word, word)
 
--- the three calls
+-- the steps of the three calls of a source
 abbrev pub shift_steps : Steps ℕ
 shift_steps = steps_u64_low word_after

@@ -16,11 +16,11 @@ looked c k value = record {
   step = record { object = 0; turn = record { act = Load Value value; word = 0 } };
 }
 
--- the claims of a layout's consumers on as many cells as there can be
+-- the claims of a layout's consumers on `MAX_CELLS` cells
 abbrev pub all_claims : Layout → Claims
 all_claims layout = claims_in layout MAX_CELLS
 
--- the history leaves the words, and what the claim's consumer did in it on the cell led the claim to where it is
+-- the history leaves the words, and the claim has made its consumer's part on the cell
 pub record IsUnderWay
     (layout : Layout) (cell : ℕ) (claim : Claim) (words : List ℕ) (h : List ClaimAccess) : Type 0 where
   pub memory : IsMemoryOf (all_claims layout) words h
@@ -31,7 +31,7 @@ abbrev pub ChangesOnly : (ℕ → ℕ → Type 0) → List ClaimAccess → List 
 ChangesOnly Changed h other = (c k : ℕ) → (Changed c k → ⊥) → part_on c k other ≡ part_on c k h
 
 -- the history leaves the words, and the consumer has made no access to this cell, nor to any after it
-pub record IsBefore (layout : Layout) (consumer cell : ℕ) (words : List ℕ) (h : List ClaimAccess) : Type 0 where
+pub record ClaimIsBefore (layout : Layout) (consumer cell : ℕ) (words : List ℕ) (h : List ClaimAccess) : Type 0 where
   pub memory : IsMemoryOf (all_claims layout) words h
   pub untouched : (k : ℕ) → cell ≤ k → part_on consumer k h ≡ []
 

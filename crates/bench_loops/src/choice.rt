@@ -6,44 +6,43 @@ use std::fmt;
 /// How many pairs of objects each cell has.
 pub const PAIRS: u64 = 4;
 
-/// What is done so many times.
+/// What is done again and again.
 #[derive(Clone, Copy, PartialEq, Eq, Debug)]
 pub enum Loop {
-    /// The words of `MAX_CELLS` cells are made, and nothing else.
+    /// Makes the words of `MAX_CELLS` cells, and nothing else.
     Words,
-    /// One claim on each cell.
+    /// Makes one claim on each cell.
     Lone,
-    /// The claims of all consumers on each cell.
+    /// Makes the claims of all consumers on each cell.
     Contended,
-    /// A table that threads can share is made, with a seat, and nothing else.
+    /// Makes a table that threads can share, with a seat, and nothing else.
     Tables,
-    /// One claim on each cell of such a table.
+    /// Makes one claim on each cell of such a table.
     Shared,
-    /// A pool of cells and the words of claims, filled and then read by each consumer.
+    /// Fills a pool of cells. Then each consumer reads it and makes its claims.
     Mail,
-    /// A mailbox that threads can share is made, with a producer, and nothing else.
+    /// Makes a mailbox that threads can share, with a producer, and nothing else.
     Mailboxes,
-    /// The puts of a producer into such a mailbox.
+    /// Makes the puts of a producer into such a mailbox.
     Puts,
-    /// Such a mailbox, filled and then polled to its end by each consumer.
+    /// Fills such a mailbox. Then each consumer polls it to its end.
     Mailbox,
     /// The same with random words of ChaCha8.
     Chacha,
-    /// Items one by one through such a mailbox, each put and then polled, with random words of ChaCha8.
+    /// Passes items one by one through such a mailbox, each put and then polled, with random words of ChaCha8.
     Relay,
     /// A play of all consumers on one cell.
     Play,
     /// A run of one ratifier.
     Ratify,
-    /// New worlds of one lane, and nothing else.
+    /// Makes worlds of one lane, and nothing else.
     Worlds,
-    /// The events of a world: a lane is filled and then read by all consumers.
+    /// Makes the events of a world: a lane is filled and then read by all consumers.
     Events,
-    /// The report of a world with as many lanes and cells as there may be, and a note at each place.
+    /// Makes the report of a world with the most lanes, all its cells used, and a note at each place.
     Reports,
 }
 
-/// All loops.
 pub const LOOPS: [Loop; 16] = [
     Loop::Words,
     Loop::Lone,
@@ -63,7 +62,7 @@ pub const LOOPS: [Loop; 16] = [
     Loop::Reports,
 ];
 
-/// The loops that are done with each shape of the cells, if no loop is named.
+/// The loops that run with each shape of the cells, if no loop is named.
 pub const SHAPED: [Loop; 3] = [Loop::Lone, Loop::Contended, Loop::Mailbox];
 
 /// All shapes of the cells but the plain one, with their names.
@@ -91,24 +90,23 @@ pub const SHAPES: [(&str, Shape); 3] = [
     ),
 ];
 
-/// A loop with its table, its consumers, the shape of its cells, and how often it is done.
+/// A loop with its table, its consumers, the shape of its cells, and how often it runs.
 #[derive(Debug, Drop)]
 pub struct Choice {
-    /// What is done.
     pub what: Loop,
     /// The table of the ratifiers.
     pub name: TableName,
     /// The consumers and the objects of each cell.
     pub layout: Layout,
-    /// How often.
+    /// How often it runs.
     pub times: u64,
     /// How many cells a mailbox or a world has.
     pub cells: u64,
 }
 
 impl Choice {
-    /// The choice that the words after the program's name tell: a loop, a table, the consumers and the times. Then may
-    /// come the shape of the cells, else plain, and how many cells there are, else `MAX_CELLS`.
+    /// The choice in the words after the program's name: a loop, a table, the consumers and the times. Then may come
+    /// the shape of the cells (else plain), and the number of cells (else `MAX_CELLS`).
     pub fn of(words: &[String]) -> Option<Choice> {
         let [what, name, consumers, times, more @ ..] = words else {
             return None;
@@ -189,7 +187,6 @@ impl fmt::Display for Choice {
     }
 }
 
-/// The loop of this name.
 fn loop_of(text: &str) -> Option<Loop> {
     match text {
         "words" => Some(Loop::Words),
@@ -212,7 +209,6 @@ fn loop_of(text: &str) -> Option<Loop> {
     }
 }
 
-/// The shape of this name.
 fn shape_of(text: &str) -> Option<Shape> {
     if text == "plain" {
         return Some(Shape::PLAIN);
@@ -225,7 +221,6 @@ fn shape_of(text: &str) -> Option<Shape> {
     None
 }
 
-/// The table of this name.
 fn name_of(text: &str) -> Option<TableName> {
     match text {
         "unary" => Some(TableName::Unary),

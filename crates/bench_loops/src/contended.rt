@@ -13,7 +13,7 @@ use mb_claim::steps::accesses_lengthen_one_part;
 use mb_claim::{Claim, ClaimWords, Layout, MAX_CELLS, Stage};
 use std::alloc::{AllocError, Allocator};
 
-/// So many times, the claims of all consumers on each of `MAX_CELLS` cells.
+/// Makes the claims of all consumers on each of `MAX_CELLS` cells, `times` times.
 pub fn contended<A: Allocator + Copy + Drop>(
     alloc: A,
     layout: &Layout,
@@ -30,7 +30,7 @@ pub fn contended<A: Allocator + Copy + Drop>(
     Ok(count)
 }
 
-/// The claims of all consumers on each cell, which are kept in `claims`.
+/// Makes the claims of all consumers on each cell. `claims` has room for those of one cell.
 fn contend_each<A: Allocator + Drop>(
     layout: &Layout,
     words: &mut ClaimWords<A>,
@@ -49,7 +49,7 @@ fn contend_each<A: Allocator + Drop>(
     }
 }
 
-/// Steps of the claims in turn, until all have come to their ends.
+/// Steps the claims in turn, until all have ended.
 fn contend<A: Allocator + Drop>(
     layout: &Layout,
     words: &mut ClaimWords<A>,
@@ -71,7 +71,7 @@ fn contend<A: Allocator + Drop>(
     }
 }
 
-/// A step of each claim that is going. The answer is whether one of them goes on.
+/// Steps each claim that is going. Returns whether one of them goes on.
 #[inline(always)]
 fn turn_each<A: Allocator + Drop>(
     layout: &Layout,

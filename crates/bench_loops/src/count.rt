@@ -12,7 +12,6 @@ pub struct Count {
 }
 
 impl Count {
-    /// Nothing yet.
     pub fn new() -> Count {
         Count {
             accesses: 0,
@@ -20,7 +19,7 @@ impl Count {
         }
     }
 
-    /// Counts a claim that made so many accesses and ended so.
+    /// Adds accesses of a claim, and its stage after them.
     #[inline(always)]
     pub fn add(&mut self, accesses: u64, stage: Stage) {
         self.accesses = self.accesses.wrapping_add(accesses);

@@ -1,43 +1,43 @@
-//! The definitions by example: what they let in, and what only looks right. The functions compute nothing: their contracts
-//! are the examples. Those that are not proved by their contract alone have their proofs in `proofs/examples`.
+//! The definitions by example: what they admit, and what only looks right. The functions compute nothing: their
+//! contracts are the examples. If the prover needs help with one, its proof is in `proofs/examples`.
 ghost use Rattle.std.specs.Prelude.{◌≡◌, ◌≤◌, ℕ, List, [], ◌∷◌, length, slice_index};
 ghost use Rattle.mb_claim.specs.declared.access.ClaimAccess.{ClaimAccess};
 ghost use Rattle.mb_claim.specs.declared.claim.Claim.{Claim};
 ghost use Rattle.mb_claim.specs.declared.layout.Layout.{Layout};
 ghost use Rattle.mb_claim.specs.Vocabulary.{IsMemoryOf, consumer_of, words_in};
 ghost use Rattle.bench_loops.specs.Shifts.{word_after};
-ghost use Rattle.bench_loops.specs.UnderWay.{ChangesOnly, IsBefore, IsContest, IsUnderWay, all_claims, looked};
+ghost use Rattle.bench_loops.specs.UnderWay.{ChangesOnly, ClaimIsBefore, IsContest, IsUnderWay, all_claims, looked};
 
 use mb_claim::steps::histories_begin_with_zeros;
 
-/// A consumer stands before all cells where nothing was done, and not before a cell that it has touched.
+/// A consumer is before all cells if nothing was done, and not before a cell that it has touched.
 pub fn consumers_stand_before_cells()
     ensures new { (layout : Layout) (consumer : ℕ) (words : List ℕ)
         → words_in (all_claims layout) ≤ length words → ((i : ℕ) → slice_index words i ≡ 0)
-        → IsBefore layout consumer 0 words [] }
+        → ClaimIsBefore layout consumer 0 words [] }
     ensures touched { (layout : Layout) (words : List ℕ)
-        → IsBefore layout 0 3 words (looked 0 3 0 ∷ []) → ⊥ }
+        → ClaimIsBefore layout 0 3 words (looked 0 3 0 ∷ []) → ⊥ }
     ensures behind { (layout : Layout) (words : List ℕ)
         → IsMemoryOf (all_claims layout) words (looked 0 3 0 ∷ [])
-        → IsBefore layout 1 0 words (looked 0 3 0 ∷ []) }
+        → ClaimIsBefore layout 1 0 words (looked 0 3 0 ∷ []) }
 {
     histories_begin_with_zeros();
 }
 
-/// A claim is under way where a lawful history led to it: none has loaded what nobody stored.
+/// A claim is under way if a lawful history led to it. So none has loaded what nobody stored.
 pub fn claims_follow_histories()
     ensures made_up { (layout : Layout) (claim : Claim) (words : List ℕ)
         → IsUnderWay layout 3 claim words (looked 0 3 1 ∷ []) → ⊥ }
 {}
 
-/// What another history changes of the parts.
+/// Which parts another history changes.
 pub fn histories_change_parts()
     ensures one { ChangesOnly (λ c k. k ≡ 3) [] (looked 0 3 0 ∷ []) }
     ensures other_cell { ChangesOnly (λ c k. k ≡ 2) [] (looked 0 3 0 ∷ []) → ⊥ }
     ensures other_consumer { ChangesOnly (λ c k. c ≡ 1) [] (looked 0 3 0 ∷ []) → ⊥ }
 {}
 
-/// In a contest each consumer has its own claim, in the order of their numbers.
+/// In a contest each consumer has its own claim, in the order of the consumers.
 pub fn contests_are_of_all()
     ensures same_twice { (layout : Layout) (claim : Claim) (words : List ℕ) (h : List ClaimAccess)
         → IsContest layout 3 (claim ∷ claim ∷ []) words h → ⊥ }

@@ -12,7 +12,7 @@ use mb_claim::steps::accesses_lengthen_one_part;
 use mb_claim::{Claim, ClaimWords, Layout, MAX_CELLS, Stage};
 use std::alloc::{AllocError, Allocator};
 
-/// So many times, one claim on each of `MAX_CELLS` cells, the consumers in turn.
+/// Makes one claim on each of `MAX_CELLS` cells, the consumers in turn, `times` times.
 pub fn lone<A: Allocator + Copy + Drop>(
     alloc: A,
     layout: &Layout,
@@ -27,7 +27,7 @@ pub fn lone<A: Allocator + Copy + Drop>(
     Ok(count)
 }
 
-/// So many times, the words alone. The answer is how many were made.
+/// Makes the words alone, `times` times. Returns how many words were made.
 pub fn words_alone<A: Allocator + Copy + Drop>(
     alloc: A,
     layout: &Layout,
@@ -41,7 +41,6 @@ pub fn words_alone<A: Allocator + Copy + Drop>(
     Ok(made)
 }
 
-/// One claim on each cell.
 fn claim_each<A: Allocator + Drop>(
     layout: &Layout,
     words: &mut ClaimWords<A>,
@@ -62,7 +61,8 @@ fn claim_each<A: Allocator + Drop>(
     }
 }
 
-/// The claim of a consumer on a cell that it has not touched, to its end: its accesses, and how it ended.
+/// Makes the claim of a consumer on a cell that it has not touched, to its end. Returns the number of its accesses, and
+/// how it ended.
 #[inline(always)]
 fn claim_through<A: Allocator + Drop>(
     layout: &Layout,
@@ -90,7 +90,7 @@ fn claim_through<A: Allocator + Drop>(
     (made, claim.stage())
 }
 
-/// The same by a count with a bound. LLVM makes more of it inside `mail`, and less here.
+/// The same, by a loop with a bound. LLVM makes faster code of it inside `mail`, and slower code here.
 #[inline(always)]
 pub fn claim_cell<A: Allocator + Drop>(
     layout: &Layout,

@@ -4,7 +4,7 @@ ghost use Rattle.mb_cells.specs.State.{lane_count, cell_count, SameSize};
 ghost use Rattle.mb_claim.specs.declared.access.ClaimAccess.{ClaimAccess};
 ghost use Rattle.mb_claim.specs.declared.layout.TheConstants.{MAX_CELLS};
 ghost use Rattle.mb_claim.specs.Vocabulary.{consumer_count, IsMemoryOf};
-ghost use Rattle.bench_loops.specs.UnderWay.{all_claims, ChangesOnly, IsBefore};
+ghost use Rattle.bench_loops.specs.UnderWay.{all_claims, ChangesOnly, ClaimIsBefore};
 ghost use Rattle.std.specs.Prelude.{◌<◌};
 
 use crate::lone::claim_cell;
@@ -14,18 +14,18 @@ use mb_claim::{ClaimWords, Layout, MAX_CELLS, Stage};
 use std::alloc::{AllocError, Allocator};
 use std::fmt;
 
-/// What became of an item, as a consumer notes it.
+/// A consumer's result on an item.
 #[derive(Clone, Copy, Debug)]
 pub enum Note {
     /// The consumer took the item, and this is it.
     Took(u64),
     /// It was lost to this consumer.
     Lost(u32),
-    /// The claim came to no end.
+    /// The claim did not end, or ended undecided.
     Undecided,
 }
 
-/// What the mailboxes together came to.
+/// The counts of all mailboxes together.
 #[derive(Clone, Copy, Debug)]
 pub struct Post {
     /// The items that producers put.
@@ -37,7 +37,6 @@ pub struct Post {
 }
 
 impl Post {
-    /// Nothing yet.
     pub fn new() -> Post {
         Post {
             items: 0,
@@ -58,7 +57,7 @@ impl fmt::Display for Post {
     }
 }
 
-/// So many mailboxes of `MAX_CELLS` cells, one after the other.
+/// Makes, fills and reads `times` mailboxes of `MAX_CELLS` cells, one after the other.
 pub fn mail<A: Allocator + Copy + Drop>(
     alloc: A,
     layout: &Layout,
@@ -77,7 +76,7 @@ pub fn mail<A: Allocator + Copy + Drop>(
     Ok(post)
 }
 
-/// Puts an item in each cell, numbered from `first`, and ends the lane. The answer is the number of items.
+/// Puts an item in each cell, numbered from `first`, and ends the lane. Returns the number of items.
 fn fill<A: Allocator + Copy + Drop>(
     alloc: A,
     pool: &mut Pool<A>,
@@ -121,7 +120,7 @@ fn read_all<A: Allocator + Copy + Drop>(
     Ok(())
 }
 
-/// A consumer reads the mailbox to its end, and notes what becomes of each item. The answer is the sum of those that it
+/// A consumer reads the mailbox to its end, and notes its result on each item. Returns the sum of the items that it
 /// took. The producer was alone, so the cells come in their order.
 fn read<A: Allocator + Copy + Drop>(
     layout: &Layout,
@@ -134,8 +133,9 @@ fn read<A: Allocator + Copy + Drop>(
     requires lanes { lane_count pool.now ≡ 1 }
     requires cells { cell_count pool.now ≡ MAX_CELLS }
     requires consumer { consumer < consumer_count layout.now }
-    requires before { (h : List ClaimAccess) × IsBefore layout.now consumer 0 words.old h }
-    ensures kept { OnOk result ((h : List ClaimAccess) → IsBefore layout.now consumer 0 words.old h
+    requires before { (h : List ClaimAccess) × ClaimIsBefore layout.now consumer 0 words.old h }
+    ensures kept { OnOk result ((h : List ClaimAccess)
+        → ClaimIsBefore layout.now consumer 0 words.old h
         → (later : List ClaimAccess) × IsMemoryOf (all_claims layout.now) words.new later
         × ChangesOnly (λ c k. c ≡ consumer) h later) }
 {

@@ -1,4 +1,5 @@
-//! Mailboxes that threads can share, under one thread: a producer fills one, and then each consumer polls it to its end.
+//! Mailboxes that threads can share, used by one thread. A producer fills one, and then each consumer polls it to its
+//! end.
 ghost use Rattle.mb_mailbox.specs.Consumers.{IsConsumerOf};
 ghost use Rattle.mb_mailbox.specs.Hubs.{IsHubOf};
 ghost use Rattle.mb_mailbox.specs.Producers.{IsProducerOf};
@@ -10,7 +11,7 @@ use mb_world::Setup;
 use rand_core::Rng;
 use std::alloc::{AllocError, Allocator};
 
-/// So many mailboxes with a producer each, and nothing else. The answer is how many were made.
+/// Makes `choice.times` mailboxes with a producer each, and nothing else. Returns how many were made.
 pub fn mailboxes_alone<A: Allocator + Copy + Drop>(
     alloc: A,
     choice: &Choice,
@@ -21,15 +22,16 @@ pub fn mailboxes_alone<A: Allocator + Copy + Drop>(
     };
     for _ in 0..choice.times {
         let (mailbox, mut hub) = Mailbox::new(alloc, setup.copy())?;
-        if hub.producer(alloc, &mailbox).is_err() {
-            return Err(AllocError);
-        }
+        let put = fill(alloc, &mailbox, &mut hub, 0, 0, false);
+        drop(mailbox);
+        drop(hub);
+        put?;
         made = made.wrapping_add(1);
     }
     Ok(made)
 }
 
-/// So many mailboxes that are filled, and nothing else. The answer is how many items were put.
+/// Makes and fills `choice.times` mailboxes, and nothing else. Returns how many items were put.
 pub fn puts<A: Allocator + Copy + Drop>(alloc: A, choice: &Choice) -> Result<u64, AllocError> {
     let mut items = 0u64;
     let Some(setup) = setup_of(choice) else {
@@ -37,15 +39,15 @@ pub fn puts<A: Allocator + Copy + Drop>(alloc: A, choice: &Choice) -> Result<u64
     };
     for time in 0..choice.times {
         let (mailbox, mut hub) = Mailbox::new(alloc, setup.copy())?;
-        let Ok(mut producer) = hub.producer(alloc, &mailbox) else {
-            return Err(AllocError);
-        };
-        items = items.wrapping_add(put_all(&mailbox, &mut producer, choice.cells, time));
+        let put = fill(alloc, &mailbox, &mut hub, choice.cells, time, false);
+        drop(mailbox);
+        drop(hub);
+        items = items.wrapping_add(put?);
     }
     Ok(items)
 }
 
-/// So many mailboxes, one after the other, each filled and then polled to its end by each consumer.
+/// Makes and fills `choice.times` mailboxes, one after the other. Each consumer polls each of them to its end.
 pub fn mailboxes<A: Allocator + Copy + Drop, R: Rng>(
     alloc: A,
     choice: &Choice,
@@ -57,15 +59,39 @@ pub fn mailboxes<A: Allocator + Copy + Drop, R: Rng>(
     };
     for time in 0..choice.times {
         let (mailbox, mut hub) = Mailbox::new(alloc, setup.copy())?;
-        let Ok(mut producer) = hub.producer(alloc, &mailbox) else {
-            return Err(AllocError);
-        };
-        let items = put_all(&mailbox, &mut producer, choice.cells, time);
-        post.items = post.items.wrapping_add(items);
-        producer.finish(&mailbox);
-        read_all(alloc, &mailbox, &mut hub, rng, &mut post)?;
+        let put = fill(alloc, &mailbox, &mut hub, choice.cells, time, true);
+        let read = read_all(alloc, &mailbox, &mut hub, rng, &mut post);
+        drop(mailbox);
+        drop(hub);
+        post.items = post.items.wrapping_add(put?);
+        read?;
     }
     Ok(post)
+}
+
+/// A producer puts so many items, and ends its lane or not, and goes away. The answer is how many were linked.
+fn fill<A: Allocator + Copy + Drop>(
+    alloc: A,
+    mailbox: &Mailbox<A>,
+    hub: &mut Hub<A>,
+    cells: u64,
+    time: u64,
+    ends: bool,
+) -> Result<u64, AllocError>
+    requires { IsHubOf mailbox.now hub.old }
+    ensures { IsHubOf mailbox.now hub.new }
+{
+    match hub.producer(alloc, mailbox) {
+        Ok(mut producer) => {
+            let items = put_all(mailbox, &mut producer, cells, time);
+            if ends {
+                producer.finish(mailbox);
+            }
+            drop(producer);
+            Ok(items)
+        }
+        Err(_) => Err(AllocError),
+    }
 }
 
 /// The setup of one lane and of the choice's cells, shape and consumers.
@@ -75,7 +101,7 @@ pub fn setup_of(choice: &Choice) -> Option<Setup> {
     Some(setup.shaped(choice.layout.shape()))
 }
 
-/// Puts an item for each cell, numbered by how many mailboxes came before. The answer is how many were linked.
+/// Puts an item for each cell. Their numbers go on after those of the mailboxes before. Returns how many were linked.
 #[inline(always)]
 fn put_all<A: Allocator + Drop>(
     mailbox: &Mailbox<A>,
@@ -96,7 +122,7 @@ fn put_all<A: Allocator + Drop>(
     linked
 }
 
-/// Each consumer that the hub has left polls the lane until nothing more comes.
+/// Each consumer that the hub can still give polls the lane until nothing more comes.
 fn read_all<A: Allocator + Copy + Drop, R: Rng>(
     alloc: A,
     mailbox: &Mailbox<A>,

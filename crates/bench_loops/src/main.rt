@@ -1,7 +1,7 @@
-//! Claims, mailboxes and whole schedules in loops, for who counts their instructions.
+//! Claims, mailboxes and whole schedules in loops, so that their instructions can be counted.
 //!
-//! With the words LOOP TABLE CONSUMERS TIMES it runs one loop, and prints what that came to; with none, each loop once. A
-//! fifth word is the shape of the cells, a sixth how many cells a mailbox or a world has.
+//! With the words LOOP TABLE CONSUMERS TIMES it runs one loop, and prints its result. Without words it runs each loop
+//! once. A fifth word is the shape of the cells, a sixth the number of cells of a mailbox or a world.
 #![tactic(auto)]
 
 use std::io;
@@ -25,11 +25,11 @@ pub mod world;
 use choice::Choice;
 use run::{run, run_all};
 
-/// What a command line may be.
+/// Printed if the command line is refused.
 const USAGE: &str =
     "usage: bench_loops [LOOP bits|unary|middle CONSUMERS TIMES [plain|fast|last|fastlast [CELLS]]]";
 
-/// The status of a command line that tells no choice.
+/// The program's status if the command line is refused.
 const REFUSED: u8 = 2;
 
 fn main(rt: HostRuntime) -> io::Result<ExitCode> {

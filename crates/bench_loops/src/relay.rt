@@ -1,15 +1,16 @@
-//! A mailbox that threads can share, under one thread: each item is put, and polled before the next one is put.
+//! A mailbox that threads can share, used by one thread. Each item is put, and polled before the next one is put.
 ghost use Rattle.mb_mailbox.specs.Consumers.{IsConsumerOf};
+ghost use Rattle.mb_mailbox.specs.Hubs.{IsHubOf};
 ghost use Rattle.mb_mailbox.specs.Producers.{IsProducerOf};
 
 use crate::choice::Choice;
 use crate::mail::Post;
 use crate::mailbox::setup_of;
-use mb_mailbox::{Consumer, Mailbox, Poll, Producer, Put};
+use mb_mailbox::{Consumer, Hub, Mailbox, Poll, Producer, Put};
 use rand_core::Rng;
 use std::alloc::{AllocError, Allocator};
 
-/// One mailbox, through which so many items go. Of its consumers one polls.
+/// Passes `choice.times` items through one mailbox. One of its consumers polls.
 pub fn relay<A: Allocator + Copy + Drop, R: Rng>(
     alloc: A,
     choice: &Choice,
@@ -20,21 +21,38 @@ pub fn relay<A: Allocator + Copy + Drop, R: Rng>(
         return Ok(post);
     };
     let (mailbox, mut hub) = Mailbox::new(alloc, setup)?;
-    let Ok(mut producer) = hub.producer(alloc, &mailbox) else {
-        return Err(AllocError);
-    };
-    let Ok(mut consumer) = hub.consumer(alloc, &mailbox) else {
-        return Err(AllocError);
-    };
-    pass(
-        &mailbox,
-        &mut producer,
-        &mut consumer,
-        choice.times,
-        rng,
-        &mut post,
-    );
+    let passed = pass_all(alloc, &mailbox, &mut hub, choice.times, rng, &mut post);
+    drop(mailbox);
+    drop(hub);
+    passed?;
     Ok(post)
+}
+
+/// So many items, from 0 on, from a producer to a consumer, which go away then.
+fn pass_all<A: Allocator + Copy + Drop, R: Rng>(
+    alloc: A,
+    mailbox: &Mailbox<A>,
+    hub: &mut Hub<A>,
+    items: u64,
+    rng: &mut R,
+    post: &mut Post,
+) -> Result<(), AllocError>
+    requires { IsHubOf mailbox.now hub.old }
+{
+    let mut producer = match hub.producer(alloc, mailbox) {
+        Ok(producer) => producer,
+        Err(_) => return Err(AllocError),
+    };
+    let passed = match hub.consumer(alloc, mailbox) {
+        Ok(mut consumer) => {
+            pass(mailbox, &mut producer, &mut consumer, items, rng, post);
+            drop(consumer);
+            Ok(())
+        }
+        Err(_) => Err(AllocError),
+    };
+    drop(producer);
+    passed
 }
 
 /// So many items, from 0 on, from the producer to the consumer.

@@ -1,4 +1,4 @@
-//! One run of a choice, and what is printed of it.
+//! One run of a choice, and the line that it prints.
 use crate::choice::{Choice, LOOPS, Loop, SHAPED, SHAPES};
 use crate::contended::contended;
 use crate::count::Count;
@@ -16,18 +16,14 @@ use rand_core::SeedableRng;
 use std::alloc::{AllocError, Allocator};
 use std::{fmt, io};
 
-/// What a run came to.
+/// The result of a run.
 #[derive(Drop)]
 pub enum Outcome {
-    /// So many of these were made.
+    /// How many were made, and of what.
     Made(u64, &'static str),
-    /// What claims came to.
     Claimed(Count),
-    /// What mailboxes came to.
     Posted(Post),
-    /// What schedules came to.
     Ran(Runs),
-    /// What events of worlds came to.
     Lived(Deeds),
 }
 
@@ -43,7 +39,7 @@ impl fmt::Display for Outcome {
     }
 }
 
-/// Each loop once, and those of [`SHAPED`] once more with each further shape of the cells.
+/// Runs each loop once, and those of [`SHAPED`] once more with each further shape of the cells.
 pub fn run_all<R: Print + AllocGlobal>(rt: &R) -> io::Result<()> {
     for what in LOOPS {
         run_short(rt, what, Shape::PLAIN)?;
@@ -56,7 +52,7 @@ pub fn run_all<R: Print + AllocGlobal>(rt: &R) -> io::Result<()> {
     Ok(())
 }
 
-/// A short run of this loop, over cells of this shape.
+/// Makes a short run of this loop, over cells of this shape.
 fn run_short<R: Print + AllocGlobal>(rt: &R, what: Loop, shape: Shape) -> io::Result<()> {
     match Choice::short(what, shape) {
         Some(choice) => run(rt, &choice),
@@ -64,13 +60,13 @@ fn run_short<R: Print + AllocGlobal>(rt: &R, what: Loop, shape: Shape) -> io::Re
     }
 }
 
-/// Does what was chosen, and prints a line of what it came to.
+/// Runs the choice, and prints a line with its result.
 pub fn run<R: Print + AllocGlobal>(rt: &R, choice: &Choice) -> io::Result<()> {
     let outcome = done(rt.alloc(), choice)?;
     println!(rt; "{choice}: {outcome}")
 }
 
-/// Does what was chosen.
+/// The result of the choice. The error is that memory ran out.
 fn done<A: Allocator + Copy + Drop>(alloc: A, choice: &Choice) -> Result<Outcome, AllocError> {
     let layout = &choice.layout;
     let times = choice.times;

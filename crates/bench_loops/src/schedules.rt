@@ -16,17 +16,17 @@ const TURNS: u64 = 100_000;
 /// How many steps of each consumer a play has.
 const STEPS: u64 = 20;
 
-/// What runs came to.
+/// The counts of runs.
 #[derive(Clone, Copy, Debug)]
 pub struct Runs {
     /// The entries of all runs.
     pub entries: u64,
-    /// The claims or processes that they tell of at their ends.
+    /// The claims or processes that they have a result for.
     pub ends: u64,
 }
 
 impl Runs {
-    /// Counts a run with so many entries and ends.
+    /// Counts a run with these numbers of entries and ends.
     fn add(&mut self, entries: usize, ends: usize) {
         self.entries = self.entries.wrapping_add(entries as u64);
         self.ends = self.ends.wrapping_add(ends as u64);
@@ -40,7 +40,7 @@ impl fmt::Display for Runs {
     }
 }
 
-/// So many plays of one schedule.
+/// Makes `times` plays of one schedule.
 pub fn plays<A: Allocator + Copy + Drop>(
     alloc: A,
     layout: &Layout,
@@ -66,7 +66,7 @@ pub fn plays<A: Allocator + Copy + Drop>(
     Ok(runs)
 }
 
-/// So many runs of one schedule of a ratifier over the table of this name, with a value for each consumer.
+/// Makes `times` runs of one schedule of a ratifier over the named table, with a value for each consumer.
 pub fn ratifiers<A: Allocator + Copy + Drop>(
     alloc: A,
     layout: &Layout,

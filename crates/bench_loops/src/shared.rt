@@ -11,7 +11,7 @@ use mb_claim::{Claim, Layout, MAX_CELLS, Stage};
 use mb_shared_claims::{ClaimSeat, SharedClaims};
 use std::alloc::{AllocError, Allocator};
 
-/// So many times, one claim on each of `MAX_CELLS` cells, all from the first consumer's seat.
+/// Makes one claim on each of `MAX_CELLS` cells, all from the first consumer's seat, `times` times.
 pub fn shared<A: Allocator + Copy + Drop>(
     alloc: A,
     layout: &Layout,
@@ -28,7 +28,7 @@ pub fn shared<A: Allocator + Copy + Drop>(
     Ok(count)
 }
 
-/// So many times, the table and the seat alone. The answer is how many were made.
+/// Makes the table and the seat alone, `times` times. Returns how many were made.
 pub fn tables_alone<A: Allocator + Copy + Drop>(
     alloc: A,
     layout: &Layout,
@@ -44,7 +44,6 @@ pub fn tables_alone<A: Allocator + Copy + Drop>(
     Ok(made)
 }
 
-/// One claim on each cell.
 fn claim_each<A: Allocator + Drop>(
     table: &SharedClaims<A>,
     seat: &mut ClaimSeat,
@@ -61,7 +60,8 @@ fn claim_each<A: Allocator + Drop>(
     }
 }
 
-/// The claim of the seat's consumer on a cell that it has not touched, to its end: its accesses, and how it ended.
+/// Makes the claim of the seat's consumer on a cell that it has not touched, to its end. Returns the number of its
+/// accesses, and how it ended.
 #[inline(always)]
 fn claim_cell<A: Allocator + Drop>(
     table: &SharedClaims<A>,

@@ -7,7 +7,7 @@ use rand_core::utils::NextWord;
 use rand_core::{Rng, utils};
 use std::marker::Model;
 
-/// A source of random words, by shifts: cheap, and the same at each run.
+/// A source of random words, by shifts. It is cheap, and the same in each run.
 #[derive(Drop)]
 pub struct Source {
     state: u64,
@@ -20,20 +20,18 @@ impl Model for Source {
 }
 
 impl Source {
-    /// The source at its first word.
     pub fn new() -> Source {
         Source {
             state: 0x9E37_79B9_7F4A_7C15,
         }
     }
 
-    /// The next word.
     #[inline(always)]
     pub fn word(&mut self) -> u64 {
         self.next_word()
     }
 
-    /// A number below the bound.
+    /// The next random number below the bound.
     pub fn below(&mut self, bound: u64) -> u64
         requires { 0 < bound }
         ensures { result < bound }

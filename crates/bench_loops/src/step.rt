@@ -9,7 +9,7 @@ ghost use Rattle.bench_loops.specs.UnderWay.{IsUnderWay};
 use mb_claim::{Claim, ClaimWords, Layout, Stage};
 use std::alloc::Allocator;
 
-/// One access of the claim, with its random word.
+/// Makes one access of the claim, with its random word. Returns how far the claim has come.
 #[inline(always)]
 pub fn step<A: Allocator + Drop>(
     claim: &mut Claim,

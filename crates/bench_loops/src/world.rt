@@ -1,4 +1,4 @@
-//! Worlds: their events one after another, and the report of the largest.
+//! Worlds: their events one after another, and the report of a large one.
 ghost use Rattle.std.specs.Prelude.{◌<◌};
 
 use crate::choice::{Choice, PAIRS};
@@ -8,12 +8,10 @@ use mb_world::{Answer, Event, MAX_PRODUCERS, Setup, World};
 use std::alloc::{AllocError, Allocator};
 use std::fmt;
 
-/// What events came to.
+/// The counts of events.
 #[derive(Clone, Copy, Debug)]
 pub struct Deeds {
-    /// How many events there were.
     pub events: u64,
-    /// How many items were taken.
     pub taken: u64,
 }
 
@@ -24,7 +22,7 @@ impl fmt::Display for Deeds {
     }
 }
 
-/// So many new worlds of one lane. The answer is how many were made.
+/// Makes `choice.times` worlds of one lane. Returns how many were made.
 pub fn worlds_alone<A: Allocator + Copy + Drop>(
     alloc: A,
     choice: &Choice,
@@ -38,7 +36,8 @@ pub fn worlds_alone<A: Allocator + Copy + Drop>(
     Ok(made)
 }
 
-/// So many worlds of one lane, one after the other, from the first offer to the end mark that each consumer meets.
+/// Runs `choice.times` worlds of one lane, one after the other, from the first offer to the end mark that each consumer
+/// meets.
 pub fn events<A: Allocator + Copy + Drop>(alloc: A, choice: &Choice) -> Result<Deeds, AllocError> {
     let mut source = Source::new();
     let mut deeds = Deeds {
@@ -53,7 +52,8 @@ pub fn events<A: Allocator + Copy + Drop>(alloc: A, choice: &Choice) -> Result<D
     Ok(deeds)
 }
 
-/// So many reports of one world of `MAX_PRODUCERS` lanes, when all is done there. The answer is how many notes they have.
+/// Makes `choice.times` reports of one world of `MAX_PRODUCERS` lanes, after all events. Returns how many notes they
+/// have.
 pub fn reports<A: Allocator + Copy + Drop>(alloc: A, choice: &Choice) -> Result<u64, AllocError> {
     let mut source = Source::new();
     let mut deeds = Deeds {
@@ -74,7 +74,7 @@ pub fn reports<A: Allocator + Copy + Drop>(alloc: A, choice: &Choice) -> Result<
     Ok(told)
 }
 
-/// A new world of so many lanes, and of the choice's cells, shape and consumers.
+/// A new world of `lanes` lanes, with the choice's cells, shape and consumers.
 fn world<A: Allocator + Copy + Drop>(
     alloc: A,
     choice: &Choice,
@@ -87,7 +87,7 @@ fn world<A: Allocator + Copy + Drop>(
     }
 }
 
-/// All that is done in a world: its cells are put into the lanes in turn, and the lanes are read to their ends.
+/// Makes all events of a world: its cells are put into the lanes in turn, and the lanes are read to their ends.
 fn live<A: Allocator + Drop>(
     world: &mut World<A>,
     choice: &Choice,
@@ -109,7 +109,7 @@ fn live<A: Allocator + Drop>(
     }
 }
 
-/// Steps of all consumers in turn, until each has met the end of the lane.
+/// Steps all consumers in turn, until each has met the end of the lane.
 fn read<A: Allocator + Drop>(
     world: &mut World<A>,
     choice: &Choice,

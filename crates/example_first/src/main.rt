@@ -18,12 +18,12 @@ fn main(rt: HostRuntime) -> Result<()> {
     let mut one = hub.consumer(rt.alloc(), &mailbox)?;
     let mut two = hub.consumer(rt.alloc(), &mailbox)?;
 
-    // Each of the three may be in a thread of its own; here one comes after the other. Lane 0 is the first producer's.
+    // Each of the three may run in a thread of its own. Here one comes after the other. Lane 0 is the first producer's.
     let put = producer.put(&mailbox, 7);
     let first = one.poll(&mailbox, 0, 1000, &mut source);
     let second = two.poll(&mailbox, 0, 1000, &mut source);
 
-    // What was given out is taken in again, and then the mailbox is closed and reported.
+    // The hub takes back what it gave out. Then `gather` ends the mailbox and returns the report.
     hub.take_producer(&mailbox, producer);
     hub.take_consumer(&mailbox, one);
     hub.take_consumer(&mailbox, two);
@@ -31,7 +31,7 @@ fn main(rt: HostRuntime) -> Result<()> {
     tell(&rt, put, first, second, &report)
 }
 
-/// Prints what the put and the polls came to, and the report.
+/// Prints the answers of the put and the polls, and the report.
 fn tell<R: AllocGlobal + Print>(
     rt: &R,
     put: Put,

@@ -21,7 +21,7 @@ pub struct Asked {
     pub seed: Option<u64>,
 }
 
-/// What is run where the command line says nothing.
+/// The values of options that are not given.
 const DEFAULTS: Asked = Asked {
     jobs: 24,
     producers: 3,
@@ -30,14 +30,13 @@ const DEFAULTS: Asked = Asked {
 };
 
 impl Asked {
-    /// How many lanes there are.
     pub fn lanes(&self) -> usize
         ensures { result ≤ 16 }
     {
         MAX_LANES.min(self.producers as usize)
     }
 
-    /// The number of the first job of this producer, and of the first one behind its jobs.
+    /// The number of the first job of this producer, and the number after its last job.
     pub fn jobs_of(&self, producer: u64) -> (u64, u64) {
         let before = |n: u64| {
             self.jobs
@@ -48,7 +47,7 @@ impl Asked {
         (before(producer), before(producer.wrapping_add(1)))
     }
 
-    /// After how many jobs a worker goes home. All together they do fewer than there are, so some are left at the end.
+    /// After how many jobs a worker stops. Together they do fewer than there are, so some jobs are left at the end.
     pub fn shift(&self) -> u64 {
         let share = self.jobs.checked_div(self.workers).unwrap_or(0);
         share.wrapping_mul(5) / 6
@@ -70,13 +69,13 @@ fn number<'a>(alloc: Global, name: &'a str, low: u64, high: u64, meaning: &'a st
         .value_parser(ValueParser::unsigned(low, high))
 }
 
-/// The number of an option.
+/// The number of an option, or its default.
 fn given(matches: &ArgMatches, name: &str, default: u64) -> u64 {
     matches.get_one::<u64>(name).unwrap_or(default)
 }
 
-/// Reads the command line, whose first word is the program's name. Which lines are refused, and the text that says so, is
-/// clap's.
+/// Reads the command line. Its first word is the program's name. Which lines are refused, and with which text, is up to
+/// clap.
 pub fn asked_in(alloc: Global, words: &[String]) -> Result<Asked, Error> {
     let command = Command::new(alloc, "example_jobs")
         .about("A job queue over the mailbox")

@@ -1,10 +1,10 @@
-//! The jobs, by their numbers.
+//! Which jobs were run, and their results.
 
 use std::alloc::{AllocError, Global};
 use std::fmt;
 use std::sync::atomic::{AtomicU64, Ordering};
 
-/// What the jobs came to. Job n adds up the numbers from 1 to n.
+/// The results of the jobs. Job n adds up the numbers from 1 to n.
 #[derive(Drop)]
 pub struct Board {
     runs: Vec<AtomicU64>,
@@ -14,7 +14,7 @@ pub struct Board {
 }
 
 impl Board {
-    /// The board of the jobs 0 to `jobs - 1`, of which none was run, with so many workers at work.
+    /// The board of the jobs 0 to `jobs - 1`. None was run yet, and `workers` workers are at work.
     pub fn new(alloc: Global, jobs: u64, workers: u64) -> Result<Board, AllocError> {
         let mut runs = Vec::new(alloc);
         for _ in 0..jobs {
@@ -38,17 +38,17 @@ impl Board {
         self.count.load(Ordering::SeqCst)
     }
 
-    /// Another worker goes home.
+    /// Says that one more worker has stopped.
     pub fn go_home(&self) {
         self.at_work.fetch_sub(1, Ordering::SeqCst);
     }
 
-    /// Whether all workers are home.
+    /// Whether all workers have stopped.
     pub fn is_over(&self) -> bool {
         self.at_work.load(Ordering::SeqCst) == 0
     }
 
-    /// Runs the job of this number. A number of no job is nothing to do.
+    /// Runs the job with this number. If there is no such job, it does nothing.
     pub fn run(&self, number: u64) {
         let Some(runs) = self.runs.get(number as usize) else {
             return;
@@ -63,7 +63,7 @@ impl Board {
         self.count.fetch_add(1, Ordering::SeqCst);
     }
 
-    /// How many jobs were run at least so often.
+    /// How many jobs were run at least this often.
     fn run_at_least(&self, times: u64) -> usize {
         let runs = self.runs.iter();
         runs.filter(|runs| runs.load(Ordering::SeqCst) >= times)

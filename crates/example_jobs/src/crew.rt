@@ -1,4 +1,4 @@
-//! Who puts jobs, and who takes them.
+//! The threads' tasks: to put jobs, to run them, and to report progress.
 ghost use Rattle.std.specs.Prelude.{All, IfOk, OnOk};
 ghost use Rattle.mb_mailbox.specs.Consumers.{IsConsumerOf};
 ghost use Rattle.mb_mailbox.specs.Hubs.{IsHubOf};
@@ -17,22 +17,22 @@ use std::random::RandomSource;
 use std::thread::yield_now;
 use std::time::Clock;
 
-/// How many accesses a worker makes at most before it looks up from a lane.
+/// The most accesses that a worker makes on a lane before it goes to the next.
 const BUDGET: u64 = 64;
 
-/// One of those who work.
+/// A member of the crew.
 #[derive(Drop)]
 pub enum Member {
     /// Puts the jobs from the first of these numbers on and below the second.
     Producer(Producer<Global>, (u64, u64)),
     /// Takes jobs, with random words from this source.
     Worker(Consumer<Global>, ChaCha8Rng),
-    /// Tells how far the work is.
+    /// Reports progress.
     Teller,
 }
 
 impl Member {
-    /// Does what the member has to do, to its end.
+    /// Does all that the member has to do.
     pub fn work<R: Clock + Eprint>(
         &mut self,
         rt: &R,
@@ -63,7 +63,7 @@ fn put_jobs(mailbox: &Mailbox<Global>, producer: &mut Producer<Global>, jobs: (u
         match producer.put(mailbox, job) {
             // Every worker can find the job from now on.
             Put::Linked => {}
-            // There is no cell left, now and for ever: the job is not in the mailbox, and still the producer's.
+            // There is no cell left, now and for ever. The job is not in the mailbox, so it is still the producer's.
             Put::Full | Put::Closed => break,
         }
     }
@@ -87,28 +87,30 @@ fn run_jobs(
     let mut open = lanes;
     let mut lane = 0;
     let mut taken = 0;
-    // Rattle asks of every loop that it comes to an end: this one would after more turns than anybody lives to see.
+    // Rattle wants every loop to end. This one would, after more turns than anybody lives to see.
     for turn in 0..u64::MAX {
         if taken == shift || open == 0 {
             break;
         }
         if !ended[lane] {
             match consumer.poll(mailbox, lane as u64, BUDGET, source) {
-                // This worker has won the job, and nobody else ever will. Should it go away before it has run it, nobody
-                // does: at most once is not exactly once.
+                // This worker has won the job, and nobody else ever will. If it stops before it has run the job, nobody
+                // runs it: at most once is not exactly once.
                 Poll::Took(job) => {
                     board.run(job);
                     taken += 1;
                 }
-                // No worker but the one of this number can win it: nothing to do here.
+                // Only the worker of this number can win the job, so there is nothing to do here.
                 Poll::Lost(_) => {}
-                // This worker does not know who has won it, if anybody has. It must not run it: the report will tell.
+                // This worker does not know who has won the job, if anybody has. It must not run it: the report will
+                // say.
                 Poll::Undecided => {}
-                // The budget was spent. A claim that is held is kept, and the next poll of the lane goes on with it.
+                // The budget is used up. The consumer keeps its claim, and the next poll of the lane goes on with it.
                 Poll::Spent => {}
                 // No further job is linked yet: time for something else, such as the next lane.
                 Poll::Nothing => yield_now(),
-                // No job follows on this lane. `NoLane` does not come, since there are as many lanes as producers.
+                // No further job comes on this lane. `NoLane` does not occur, since there are as many lanes as
+                // producers.
                 Poll::Ended | Poll::NoLane => {
                     ended[lane] = true;
                     open = open.saturating_sub(1);
@@ -139,8 +141,8 @@ fn new_worker<R: RandomSource + AllocGlobal>(
     Ok(Member::Worker(consumer, source))
 }
 
-/// Hires all producers and workers of the mailbox. The producers come first, so that they are through where no thread can be
-/// made and one works after the other.
+/// Hires all producers and workers of the mailbox. The producers come first: if no thread can be started, one member
+/// works after the other, and the producers have to be done before the workers.
 pub fn hire<R: RandomSource + AllocGlobal>(
     rt: &R,
     mailbox: &Mailbox<Global>,
@@ -166,7 +168,7 @@ pub fn hire<R: RandomSource + AllocGlobal>(
     Ok(crew)
 }
 
-/// Takes all of them in, with what they did.
+/// Returns all producers and consumers to the hub.
 pub fn take_in(mailbox: &Mailbox<Global>, hub: &mut Hub<Global>, crew: Vec<Member>)
     requires hub { IsHubOf mailbox.now hub.old }
     requires crew { All (IsOf mailbox.now) crew.items }

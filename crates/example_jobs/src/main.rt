@@ -1,5 +1,5 @@
-//! A job queue over the mailbox. Producers put the numbers of jobs, and workers, each in a thread of its own, take them and
-//! run them. At most one worker takes a job; what nobody took is run at the end, by the only one who is left.
+//! A job queue over the mailbox. Producers put the numbers of jobs, and workers, each in a thread of its own, take them
+//! and run them. At most one worker takes a job. Jobs that nobody took are run at the end, by the main thread.
 #![tactic(auto)]
 
 mod asked;
@@ -19,12 +19,10 @@ use std::random::RandomSource;
 use std::thread::{Threads, for_each_mut};
 use std::time::Clock;
 
-/// How many pairs of deciding objects each job's cell has: the more there are, the fewer claims are likely to
-/// end undecided.
+/// How many pairs of deciding objects each job's cell has. With more pairs, fewer claims are likely to end undecided.
 const PAIRS: u64 = 4;
 
-/// How many threads work at one time: one for each of the crew, of which there are at most 16 producers, 64 workers and one
-/// who tells.
+/// The most threads at one time: one for each member of the crew, at most 16 producers, 64 workers and one teller.
 const THREADS: usize = 81;
 
 fn main(rt: HostRuntime) -> Result<ExitCode> {
@@ -39,7 +37,7 @@ fn main(rt: HostRuntime) -> Result<ExitCode> {
     Ok(ExitCode::SUCCESS)
 }
 
-/// Runs all jobs.
+/// Runs all jobs, and prints the board.
 fn run<R: RandomSource + AllocGlobal + Clock + Print + Eprint + Threads + Sync>(
     rt: &R,
     asked: &Asked,
@@ -65,7 +63,7 @@ fn run<R: RandomSource + AllocGlobal + Clock + Print + Eprint + Threads + Sync>(
     );
     crew::take_in(&mailbox, &mut hub, crew);
 
-    // All are taken in, so nobody can take a job any more: what is left is for whoever has the report.
+    // All are taken in, so nobody can take a job any more. The jobs left are free to run for whoever has the report.
     let report = mailbox
         .gather(rt.alloc(), hub)
         .map_err(|(fault, _, _)| Error::from(fault))?;

@@ -1,13 +1,14 @@
-//! How far the work is, on standard error.
+//! Progress, on standard error.
 
 use crate::board::Board;
 use std::thread::sleep;
 use std::time::{Clock, Duration, Instant};
 
-/// How many milliseconds the one who tells sleeps before it looks whether all are home.
+/// How many milliseconds the teller sleeps before it looks whether all workers have stopped.
 const NAP: u64 = 20;
 
-/// Tells once a second how many jobs were run, until all workers are home. A run of less than a second tells nothing.
+/// Prints once a second how many jobs were run, until all workers have stopped. A run of less than a second prints
+/// nothing.
 pub fn tell<R: Clock + Eprint>(rt: &R, board: &Board) {
     let Ok(start) = Instant::now(rt) else {
         return;

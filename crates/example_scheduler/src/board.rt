@@ -1,4 +1,4 @@
-//! What the jobs came to.
+//! Which jobs were run, and their total.
 
 use std::alloc::{AllocError, Global};
 use std::fmt;
@@ -16,7 +16,7 @@ pub struct Board {
 }
 
 impl Board {
-    /// The board of the jobs 0 to `jobs - 1`, of which none was run.
+    /// The board of the jobs 0 to `jobs - 1`. None was run yet.
     pub fn new(alloc: Global, jobs: u64) -> Result<Board, AllocError> {
         let mut run = Vec::new(alloc);
         for _ in 0..jobs.div_ceil(64) {
@@ -31,7 +31,7 @@ impl Board {
         })
     }
 
-    /// Runs the job of this number. A number of no job is nothing to do.
+    /// Runs the job with this number. If there is no such job, it does nothing.
     pub fn run(&self, job: u64) {
         if job >= self.jobs {
             return;
@@ -50,7 +50,7 @@ impl Board {
         self.total.fetch_add(job, Ordering::SeqCst);
     }
 
-    /// How many jobs were run, and how often one was run again.
+    /// How many jobs were run, and how often a job was run again.
     pub fn counts(&self) -> (u64, u64) {
         (
             self.once.load(Ordering::SeqCst),

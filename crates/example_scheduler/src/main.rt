@@ -1,5 +1,5 @@
-//! A scheduler whose jobs put further jobs: it takes as many as it is asked for, in the memory of one mailbox and what is
-//! carried. Each round hands each worker the jobs that it took, and the workers run them in threads.
+//! A scheduler whose jobs put further jobs. It runs any number of jobs, in the memory of one mailbox and of the jobs
+//! carried to the next round. Each round hands each worker the jobs that it took, and the workers run them in threads.
 #![tactic(auto)]
 
 mod board;
@@ -18,7 +18,7 @@ use std::process::ExitCode;
 use std::sync::Wait;
 use std::thread::Threads;
 
-/// The status of a command line that is refused.
+/// The program's status if the command line is refused.
 const REFUSED: u8 = 2;
 
 fn main(rt: HostRuntime) -> Result<ExitCode> {
@@ -29,7 +29,7 @@ fn main(rt: HostRuntime) -> Result<ExitCode> {
     }
 }
 
-/// Runs all jobs, and tells what they came to.
+/// Runs all jobs, and prints how many rounds it took and what the board says.
 fn run<R: AllocGlobal + Print + Eprint + Threads + Wait + Sync>(
     rt: &R,
     options: &Options,
@@ -40,7 +40,7 @@ fn run<R: AllocGlobal + Print + Eprint + Threads + Wait + Sync>(
     Ok(ExitCode::SUCCESS)
 }
 
-/// Tells why a command line is refused, or how the program is used if it asks for that.
+/// Prints why the command line is refused, or how the program is used if it asks for that.
 fn refuse<R: AllocGlobal + Print + Eprint>(rt: &R, error: &Error) -> Result<ExitCode> {
     if error.kind() == ErrorKind::DisplayHelp {
         print!(rt; "{error}")?;

@@ -5,7 +5,7 @@ use clap::{Arg, ArgAction, ArgMatches, Command, Error};
 use std::alloc::{AllocError, Global};
 use std::convert::AsStr;
 
-/// What is asked for.
+/// What the command line asks for.
 #[derive(Clone, Copy)]
 pub struct Options {
     /// How many jobs there are.
@@ -14,11 +14,11 @@ pub struct Options {
     pub workers: u64,
     /// How many producers put the jobs of a round, 1 to 16.
     pub producers: u64,
-    /// How many jobs go into one round at most.
+    /// The most jobs that go into one round.
     pub cells: u64,
     /// The seed of the workers' random words.
     pub seed: u64,
-    /// After how many jobs a line goes to standard error; after none if it is 0.
+    /// After how many jobs a line goes to standard error, or 0 for no lines.
     pub progress: u64,
 }
 
@@ -45,7 +45,7 @@ fn number<'a>(
         .default_value(default)
 }
 
-/// The program in clap's words.
+/// The command line, as clap needs it.
 fn command<'a>(alloc: Global) -> Result<Command<'a>, AllocError> {
     let jobs = number(alloc, "jobs", "1000", 0, 1 << 32, "How many jobs there are");
     let workers = number(alloc, "workers", "4", 1, 64, "How many workers run them");
@@ -91,7 +91,7 @@ fn command<'a>(alloc: Global) -> Result<Command<'a>, AllocError> {
         .arg(progress)
 }
 
-/// The number of an option. clap has one for each.
+/// The number of an option. Each has a default, so clap always has one.
 fn number_given(given: &ArgMatches, name: &str) -> u64 {
     given.get_one::<u64>(name).unwrap_or(1)
 }

@@ -17,19 +17,19 @@ use std::thread::{Threads, for_each_mut};
 /// The most accesses of one poll.
 const BUDGET: u64 = 64;
 
-/// How many threads run jobs at one time: one for each worker, of whom there are 64 at most.
+/// The most threads at one time: one for each worker.
 const THREADS: usize = 64;
 
 /// How many pairs of deciding objects each job's cell has.
 const PAIRS: u64 = 2;
 
-/// With a last object no claim ends undecided. A job that a round does not give out is carried, and goes into the next.
+/// With a last object no claim ends undecided. A job that a round gives to nobody is carried to the next.
 const SHAPE: Shape = Shape {
     fast: true,
     last: true,
 };
 
-/// No job is carried, and so many workers have run nothing.
+/// The rounds before the first one, and the workers.
 fn begin(alloc: Global, options: &Options) -> Result<(Rounds<Global>, Vec<Worker>)> {
     let setup = Setup::large(
         options.producers,
@@ -45,7 +45,8 @@ fn begin(alloc: Global, options: &Options) -> Result<(Rounds<Global>, Vec<Worker
     Ok((Rounds::new(alloc, setup.shaped(SHAPE))?, workers))
 }
 
-/// Hands in the first jobs of further chains, as long as the next round has room: the first chain that is not begun.
+/// Hands in the first jobs of further chains, as long as the next round has room. Returns the first job of the first
+/// chain that is not begun.
 fn begin_chains(rounds: &mut Rounds<Global>, options: &Options, first: u64) -> Result<u64> {
     let mut next = first;
     for _ in rounds.carried().len() as u64..options.cells {
@@ -58,7 +59,7 @@ fn begin_chains(rounds: &mut Rounds<Global>, options: &Options, first: u64) -> R
     Ok(next)
 }
 
-/// Runs all jobs: how many rounds that took.
+/// Runs all jobs. Returns how many rounds that took.
 pub fn run_all<R: AllocGlobal + Threads + Wait + Sync + Eprint>(
     rt: &R,
     options: &Options,
@@ -68,7 +69,7 @@ pub fn run_all<R: AllocGlobal + Threads + Wait + Sync + Eprint>(
     run_rounds(rt, options, board, &mut rounds, &mut workers)
 }
 
-/// Makes rounds until nothing is carried: how many there were.
+/// Makes rounds until nothing is carried. Returns how many there were.
 fn run_rounds<R: AllocGlobal + Threads + Wait + Sync + Eprint>(
     rt: &R,
     options: &Options,
@@ -117,7 +118,8 @@ fn run_round<R: AllocGlobal + Threads + Wait + Sync>(
     Ok(())
 }
 
-/// Tells how many jobs were run, if so many more were run since it was told last.
+/// Prints how many jobs were run, if at least `options.progress` were run since it last did so. Returns the number
+/// printed last.
 fn tell<R: AllocGlobal + Eprint>(
     rt: &R,
     options: &Options,

@@ -4,7 +4,7 @@ use rand_chacha::ChaCha8Rng;
 use rand_core::SeedableRng;
 use std::alloc::{AllocError, Global};
 
-/// A source for each worker of a round. Each draws from a seed of its own.
+/// A source for each worker of a round, each with a seed of its own.
 pub fn sources(
     alloc: Global,
     seed: u64,

@@ -1,13 +1,13 @@
-//! Who runs jobs.
+//! Workers, and the jobs that their jobs put.
 ghost use Rattle.std.specs.Prelude.{◌≡◌, ◌+◌, ◌<◌, IfSome};
 
 use crate::board::Board;
 use std::alloc::{AllocError, Global};
 
-/// How many jobs follow one from another: each puts the next, but for the last of them.
+/// How many jobs a chain has. Each job of a chain puts the next one, except for the last.
 pub const CHAIN: u64 = 8;
 
-/// The job that this one puts, if it puts one.
+/// The job that this job puts, if it puts one.
 fn further(job: u64, jobs: u64) -> Option<u64>
     ensures { IfSome result (λ next. (next ≡ job + 1) × (next < jobs)) }
 {
@@ -18,7 +18,7 @@ fn further(job: u64, jobs: u64) -> Option<u64>
     Some(next)
 }
 
-/// One that runs jobs, and keeps the further ones that these put.
+/// A worker runs jobs, and keeps the further jobs that these put.
 #[derive(Drop)]
 pub struct Worker {
     further: Vec<u64>,
@@ -34,7 +34,7 @@ impl Worker {
         }
     }
 
-    /// Runs these jobs, out of so many.
+    /// Runs these jobs. `jobs` is the number of all jobs.
     pub fn run(&mut self, board: &Board, taken: &[u64], jobs: u64) {
         for job in taken {
             board.run(*job);
@@ -44,7 +44,7 @@ impl Worker {
         }
     }
 
-    /// The further jobs that were put since this was asked last, or that there was no memory for one.
+    /// The further jobs that were put since the last `forget`. The error is that there was no memory for one of them.
     pub fn put(&self) -> Result<&[u64], AllocError> {
         if self.refused {
             return Err(AllocError);

@@ -1,4 +1,4 @@
--- What a block owns: what a box of its thing owns, or nothing.
+-- What a block owns: the same as a box of its thing, or nothing.
 use base.Fml.{Fml, ftrue}
 use base.Stored.{Coded}
 use denote.RawPtr.{Ptr}

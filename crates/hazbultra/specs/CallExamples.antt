@@ -1,9 +1,9 @@
 -- Setups that C asks for, and reports that it reads, by example.
 use Rattle.std.specs.Prelude.{ℕ, [], false, replicate}
 use Rattle.mb_world.specs.Report.{ReportView}
-use Rattle.hazbultra.specs.declared.crossing.SetupIn.{SetupIn}
+use Rattle.hazbultra.specs.declared.boundary.SetupIn.{SetupIn}
 
--- so many producers, one consumer, so many cells and one pair, over the quorum table of this number
+-- these numbers of producers and of cells, one consumer and one pair, over the quorum table of this number
 abbrev pub asks : ℕ → ℕ → ℕ → SetupIn
 asks producers cells table = record {
   producers = producers;
@@ -15,7 +15,7 @@ asks producers cells table = record {
   last = false;
 }
 
--- so many empty lanes and diaries
+-- a report of these numbers of empty lanes and diaries
 abbrev pub report_of : ℕ → ℕ → ReportView
 report_of lanes diaries = record {
   lanes = replicate lanes (record { put = []; ended = false; left = [] });

@@ -33,43 +33,43 @@ IsReport (Some (OfReport r)) = Unit {0}
 IsReport _ = ⊥
 
 -- ---- before and after
--- a handle led to a hub, and leads to a hub of which this is so
+-- a handle led to a hub, and leads to a hub, for which R holds
 abbrev pub HubWent : (BoundHubView → BoundHubView → Type 0) → Option Thing → Option Thing → Type 0
 HubWent R (Some (OfHub h)) (Some (OfHub k)) = R h k
 HubWent R _ _ = ⊥
 
--- the same of a producer, which stays one of its mailbox
+-- the same for a producer, which stays one of its mailbox
 abbrev pub ProducerWent
     : (BoundProducerView → BoundProducerView → Type 0) → Option Thing → Option Thing → Type 0
 ProducerWent R (Some (OfProducer p)) (Some (OfProducer q)) =
     (q.id ≡ p.id) × (q.mailbox ≡ p.mailbox) × R p q
 ProducerWent R _ _ = ⊥
 
--- and of a consumer
+-- and for a consumer
 abbrev pub ConsumerWent
     : (SeededConsumer → SeededConsumer → Type 0) → Option Thing → Option Thing → Type 0
 ConsumerWent R (Some (OfConsumer c)) (Some (OfConsumer d)) =
     (d.consumer.id ≡ c.consumer.id) × (d.consumer.mailbox ≡ c.consumer.mailbox) × R c d
 ConsumerWent R _ _ = ⊥
 
--- a hub leads to a producer of which this is so
+-- a handle led to a hub, and another leads to a producer, for which R holds
 abbrev pub HubGave
     : (BoundHubView → BoundProducerView → Type 0) → Option Thing → Option Thing → Type 0
 HubGave R (Some (OfHub h)) (Some (OfProducer p)) = R h p
 HubGave R _ _ = ⊥
 
--- and to a consumer
+-- and to a consumer, for which R holds
 abbrev pub HubGaveConsumer
     : (BoundHubView → SeededConsumer → Type 0) → Option Thing → Option Thing → Type 0
 HubGaveConsumer R (Some (OfHub h)) (Some (OfConsumer c)) = R h c
 HubGaveConsumer R _ _ = ⊥
 
--- a hub ends, and a handle leads to a report of which this is so
+-- a handle led to a hub, and another leads to a report, for which R holds
 abbrev pub HubTold : (BoundHubView → ReportView → Type 0) → Option Thing → Option Thing → Type 0
 HubTold R (Some (OfHub h)) (Some (OfReport r)) = R h r
 HubTold R _ _ = ⊥
 
--- a handle leads to a hub of which this is so
+-- a handle leads to a hub for which R holds
 abbrev pub HubMade : (BoundHubView → Type 0) → Option Thing → Type 0
 HubMade R (Some (OfHub h)) = R h
 HubMade R _ = ⊥
@@ -89,7 +89,7 @@ abbrev pub ReportHas : (ReportView → Type 0) → Option Thing → Type 0
 ReportHas R (Some (OfReport r)) = R r
 ReportHas R _ = ⊥
 
--- the hub has taken back what a handle led to, whose number was out
+-- the hub has taken back what a handle led to, and the number of that was out
 abbrev pub HasTakenBack : BoundHubView → Option Thing → BoundHubView → Type 0
 HasTakenBack h (Some (OfProducer p)) k =
     (h.id ≡ p.id) × (slice_get h.hub.puts p.producer.seat.lane ≡ Some None)
@@ -101,8 +101,8 @@ HasTakenBack h (Some (OfConsumer c)) k =
 HasTakenBack h _ k = ⊥
 
 -- the words that a generator of eight rounds gives from now on
-abbrev pub words_of : ChaCha → Stream
-words_of rng = stream_of (steps_u32 (next_word 4)) rng
+abbrev pub words_of_generator : ChaCha → Stream
+words_of_generator rng = stream_of (steps_u32 (next_word 4)) rng
 
 -- ---- numbers of C
 -- the quorum table of this number
@@ -113,7 +113,7 @@ table_numbered n =
     else if nat_eq n 2 then Some Middle
     else None
 
--- the answer of a poll that this code and this value tell
+-- the answer of a poll, by its code and its value
 abbrev pub answer_told : ℕ → ℕ → Option Poll
 answer_told n x =
     if nat_eq n 1 then Some (poll.Took x)

@@ -6,7 +6,7 @@ use Rattle.mb_world.specs.Setups.{large_refusal}
 use Rattle.mb_world.specs.declared.setup.SetupFault.{SetupFault}
 use Rattle.mb_world.specs.declared.setup.SetupFault.TheVariants as setup
 use Rattle.hazbultra.specs.Calls.{table_numbered}
-use Rattle.hazbultra.specs.declared.crossing.SetupIn.{SetupIn}
+use Rattle.hazbultra.specs.declared.boundary.SetupIn.{SetupIn}
 use Rattle.hazbultra.specs.declared.thing.Thing.{Thing}
 use Rattle.hazbultra.specs.declared.thing.Thing.TheVariants.{OfConsumer, OfProducer}
 
@@ -17,7 +17,7 @@ setup_code setup.BadConsumers = 34
 setup_code setup.BadCells = 35
 setup_code setup.BadRounds = 36
 
--- a table that there is not comes before all else
+-- a table number that names no table is the first reason of all
 abbrev pub first_refusal : Option TableName → Option SetupFault → Option ℕ
 first_refusal None why = Some 32
 first_refusal (Some name) None = None
@@ -29,13 +29,13 @@ refusal_of s =
     first_refusal (table_numbered s.table) (large_refusal s.producers s.consumers s.cells s.pairs)
 
 -- ---- of a handle
--- it leads to what a hub takes back
+-- it leads to a producer or a consumer, which a hub takes back
 abbrev pub IsPart : Option Thing → Type 0
 IsPart (Some (OfProducer p)) = Unit {0}
 IsPart (Some (OfConsumer c)) = Unit {0}
 IsPart _ = ⊥
 
--- that is of a mailbox of another number than the hub's
+-- and the mailbox of that has another number than the hub's
 abbrev pub IsOfAnother : BoundHubView → Option Thing → Type 0
 IsOfAnother h (Some (OfProducer p)) = h.id ≢ p.id
 IsOfAnother h (Some (OfConsumer c)) = h.id ≢ c.consumer.id

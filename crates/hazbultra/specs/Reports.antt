@@ -3,9 +3,9 @@ use Rattle.std.specs.Prelude.{◌≡◌, ◌*◌, ◌<◌, ℕ, Bool, true, fals
 use Rattle.mb_world.specs.Report.{LaneView, ReportView}
 use Rattle.mb_world.specs.declared.report.Note.{Note}
 use Rattle.mb_world.specs.declared.report.Note.TheVariants as note
-use Rattle.hazbultra.specs.declared.crossing.NoteOut.{NoteOut}
+use Rattle.hazbultra.specs.declared.boundary.NoteOut.{NoteOut}
 
--- there are lanes, and for each of so many consumers a diary on each of them
+-- there are lanes, and each of `consumers` consumers has a diary on each of them
 pub record HasConsumers (consumers : ℕ) (r : ReportView) : Type 0 where
   pub some : 0 < length r.lanes
   pub diaries : length r.diaries ≡ consumers * length r.lanes
@@ -15,7 +15,7 @@ abbrev pub items_asked : Bool → LaneView → List ℕ
 items_asked true l = l.left
 items_asked false l = l.put
 
--- a note as C has it: its kind, and the item, or the consumer to whom it is lost, or 0
+-- a note as C has it: its kind, and the item, or the consumer to which it is lost, or 0
 abbrev pub note_out : Note → NoteOut
 note_out (note.Took x) = record { value = x; kind = 1 }
 note_out (note.Lost w) = record { value = w; kind = 2 }

@@ -1,5 +1,5 @@
-//! The definitions by example: what they let in, and what only looks right. The functions compute
-//! nothing: their contracts are the examples.
+//! The definitions by example: what they admit, and what only looks right. The functions compute nothing: their
+//! contracts are the examples.
 ghost use Rattle.std.specs.Prelude.{ℕ, ◌≡◌, ◌≢◌, None, Option, Some, [], false, true};
 ghost use Rattle.mb_bound.specs.Bound.{BoundHubView, BoundProducerView};
 ghost use Rattle.mb_mailbox.specs.declared.consumer.Poll.TheVariants as poll;
@@ -29,12 +29,12 @@ pub fn handles_lead_to_things()
     ensures stays { (h : BoundHubView) → HubWent (λ h k. k ≡ h) (Some (OfHub h)) (Some (OfHub h)) }
     ensures gone { (h : BoundHubView) → HubWent (λ h k. k ≡ h) (Some (OfHub h)) None → ⊥ }
 
-    // A producer that is of another mailbox afterwards, whatever else is so.
+    // A producer that belongs to another mailbox afterwards.
     ensures moved { (p q : BoundProducerView) → q.id ≢ p.id
         → ProducerWent (λ p q. q.producer ≡ p.producer) (Some (OfProducer p)) (Some (OfProducer q))
         → ⊥ }
 
-    // A hub is no producer that it gave, and no report.
+    // A handle that leads to nothing is no producer given, and a hub is no report.
     ensures not_given { (h : BoundHubView) → HubGave (λ h p. p.id ≡ h.id) (Some (OfHub h)) None
         → ⊥ }
     ensures not_told { (h : BoundHubView)
@@ -53,7 +53,7 @@ pub fn hubs_take_their_own_back()
     ensures stranger { (h k : BoundHubView) (p : BoundProducerView) → h.id ≢ p.id
         → HasTakenBack h (Some (OfProducer p)) k → ⊥ }
 
-    // What the caller owes: of another number it is nothing, of one number that the mailbox is one.
+    // If the numbers differ, nothing is asked of the caller. If they are equal, the mailbox has to be one.
     ensures other_number { (h : BoundHubView) (p : BoundProducerView) → h.id ≢ p.id
         → IsApartFrom h (Some (OfProducer p)) }
     ensures one_number { (h : BoundHubView) (p : BoundProducerView) → h.id ≡ p.id

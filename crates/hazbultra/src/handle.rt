@@ -1,4 +1,4 @@
-//! A handle: what C has of a thing, or of nothing.
+//! Handles, by which C refers to things.
 ghost use Rattle.std.specs.Prelude.{◌≡◌, Bool, None, Option, Some, is_some, not};
 ghost use Rattle.hazbultra.specs.Handles.{holds};
 
@@ -19,7 +19,7 @@ pub struct Handle {
 }
 
 impl Handle {
-    /// It leads to nothing.
+    /// A handle that leads to nothing.
     pub fn none(alloc: Global) -> Handle
         ensures { result.block.thing ≡ None }
     {
@@ -30,7 +30,7 @@ impl Handle {
         }
     }
 
-    /// It leads to what is in the box.
+    /// A handle that leads to what is in the box.
     pub fn of(alloc: Global, thing: Box<Thing, Global>) -> Handle
         ensures { result.block.thing ≡ Some thing.value }
     {
@@ -55,7 +55,7 @@ impl Handle {
         !self.full
     }
 
-    /// The box that it leads to, which is the caller's then.
+    /// The box that it leads to, if any. The box is the caller's then, and the handle leads to nothing.
     pub fn take(&mut self) -> Option<Box<Thing, Global>>
         ensures none { self.new.block.thing ≡ None }
         ensures box_back { holds result self.old.block.thing }

@@ -1,20 +1,20 @@
-//! The mailbox for C, and for whatever can call C. `bindings/c/hazbultra.h` says what each call does
-//! and what its caller owes.
+//! The mailbox for C, and for languages that can call C. `bindings/c/hazbultra.h` says what each call does and what its
+//! caller has to keep to.
 //!
 //! Each call is an export over `mb_bound`. A handle is the address of a box, and leads to a hub, a
 //! producer, a consumer, a report or nothing. A call opens it, does its work, and closes it again, so
 //! no call loses what a handle leads to.
 #![tactic(auto)]
 
+mod boundary;
+mod calls;
 mod codes;
-mod copying;
-mod crossing;
-mod ending;
+mod copies;
+mod create;
 pub mod examples;
+mod gathering_end;
 mod handle;
-mod making;
-mod reporting;
+mod reports;
 mod thing;
-mod using;
 
 pub use thing::things_cross_threads;

@@ -1,4 +1,4 @@
-//! What a handle leads to.
+//! The things behind handles.
 use mb_bound::{BoundConsumer, BoundHub, BoundProducer};
 use mb_world::Report;
 use rand_chacha::ChaCha8Rng;
@@ -7,9 +7,8 @@ use std::alloc::Global;
 /// A consumer with its source of random words.
 #[derive(Drop)]
 pub struct SeededConsumer {
-    /// The consumer.
     pub consumer: BoundConsumer<Global>,
-    /// Where its polls draw their words.
+    /// The source from which its polls draw their words.
     pub source: ChaCha8Rng,
 }
 
@@ -18,11 +17,8 @@ pub struct SeededConsumer {
 pub enum Thing {
     /// A mailbox with its hub.
     OfHub(BoundHub<Global>),
-    /// A producer.
     OfProducer(BoundProducer<Global>),
-    /// A consumer.
     OfConsumer(SeededConsumer),
-    /// A report.
     OfReport(Report<Global>),
     /// Nothing yet, or nothing any more. No handle that leaves a call leads to it.
     OfNothing,
@@ -30,7 +26,7 @@ pub enum Thing {
 
 fn crosses_threads<T: Send>() {}
 
-/// A thing may go from thread to thread. It computes nothing: that it is accepted is the proof.
+/// A thing may go from thread to thread. The proof is that this function is accepted.
 pub fn things_cross_threads() {
     crosses_threads::<Thing>();
 }

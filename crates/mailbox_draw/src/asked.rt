@@ -2,7 +2,7 @@
 
 use std::convert::AsStr;
 
-/// What is printed for `--help`, and if the command line asks for nothing that there is.
+/// Printed for `--help`, and if the program does not know the command.
 pub const USAGE: &str = "\
 Draws a picture of a script: mailbox_draw replay < script > picture.svg
 
@@ -25,11 +25,11 @@ pub enum Asked {
     Ratify,
     /// How to use the program.
     Help,
-    /// Nothing that there is.
+    /// Something that the program does not know.
     Unknown,
 }
 
-/// What the words ask for, of which the first is the program's name.
+/// What the words ask for. The first word is the program's name.
 pub fn asked_of<S: AsStr>(words: &[S]) -> Asked {
     let [_, word] = words else {
         return Asked::Unknown;

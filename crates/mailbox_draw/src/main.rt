@@ -1,22 +1,22 @@
 //! Draws a replay or a ratifier: a script in, and a picture of it out, as SVG.
 //!
-//! [`drawing`] does what a command asks over a reader and a writer. The picture is made by `mb_picture`.
+//! [`drawing`] does what a command asks, over a reader and a writer. `mb_picture` makes the picture.
 #![tactic(auto)]
 
 mod asked;
-mod drawing;
+mod svg;
 
 use asked::{Asked, asked_of};
-use drawing::{end_with, tell};
 use mb_program::{DONE, FAILED, REFUSED};
-use mb_script::Counting;
+use mb_script::CountingIo;
 use std::io;
 use std::process::ExitCode;
+use svg::{end_with, tell};
 
 fn main(rt: HostRuntime) -> ExitCode {
-    let mut reader = Counting::new(rt.reader());
-    let mut writer = Counting::new(rt.stdout());
-    let mut errors = Counting::new(rt.stderr());
+    let mut reader = CountingIo::new(rt.reader());
+    let mut writer = CountingIo::new(rt.stdout());
+    let mut errors = CountingIo::new(rt.stderr());
     let status = match std::env::args(&rt) {
         Ok(args) => match args.collect::<Vec<String>>(rt.alloc()) {
             Ok(words) => match asked_of(words.as_slice()) {
@@ -27,12 +27,12 @@ fn main(rt: HostRuntime) -> ExitCode {
                 }
                 Asked::Replay => end_with(
                     rt.alloc(),
-                    drawing::draw_replay(rt.alloc(), &mut reader, &mut writer),
+                    svg::draw_replay(rt.alloc(), &mut reader, &mut writer),
                     &mut errors,
                 ),
                 Asked::Ratify => end_with(
                     rt.alloc(),
-                    drawing::draw_ratify(rt.alloc(), &mut reader, &mut writer),
+                    svg::draw_ratify(rt.alloc(), &mut reader, &mut writer),
                     &mut errors,
                 ),
             },

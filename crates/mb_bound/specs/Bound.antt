@@ -11,18 +11,18 @@ pub record BoundHubView : Type 0 where
   pub mailbox : MailboxView
   pub hub : HubView
 
--- the same with a producer
+-- the number, the mailbox, and a producer
 pub record BoundProducerView : Type 0 where
   pub id : ℕ
   pub mailbox : MailboxView
   pub producer : ProducerView
 
--- and with a consumer
+-- the number, the mailbox, and a consumer
 pub record BoundConsumerView : Type 0 where
   pub id : ℕ
   pub mailbox : MailboxView
   pub consumer : ConsumerView
 
--- mailbox m with number i and mailbox n with number j: of one number, one mailbox
+-- mailbox m with number i, and mailbox n with number j: if the numbers are equal, so are the mailboxes
 abbrev pub AreNamedApart : ℕ → MailboxView → ℕ → MailboxView → Type 0
 AreNamedApart i m j n = i ≡ j → m ≡ n

@@ -1,11 +1,11 @@
-//! A consumer with its mailbox.
+//! Polls of a consumer that is kept together with its mailbox.
 use mb_mailbox::{Consumer, Mailbox, Poll};
 use rand_core::Rng;
 use std::alloc::Allocator;
 use std::marker::Model;
 use std::sync::Arc;
 
-/// A consumer with its mailbox. It has no source of random words: each poll is handed one.
+/// A consumer with its mailbox. It has no source of random words, so each poll is given one.
 #[derive(Drop)]
 pub struct BoundConsumer<A: Allocator + Drop> {
     pub(crate) id: u64,
@@ -43,15 +43,14 @@ impl<A: Allocator + Drop> BoundConsumer<A> {
         self.id
     }
 
-    /// It is a consumer of its mailbox. It computes nothing: its contract is a law of all of them.
+    /// A law: it is a consumer of its mailbox.
     pub fn is_bound(&self)
         ensures { IsConsumerOf self.now.mailbox self.now.consumer }
     {
         let _ = &self.consumer;
     }
 
-    /// Makes accesses on a lane until one has an answer, or as many were made as the budget allows, as [`Consumer::poll`]
-    /// does.
+    /// Makes at most `budget` accesses on a lane, until one of them gives an answer, as [`Consumer::poll`] does.
     pub fn poll<R: Rng>(&mut self, lane: u64, budget: u64, rng: &mut R) -> Poll
         ensures no_lane { (result ≡ NoLane) ↔ (self.old.mailbox.cells.size.lanes ≤ lane) }
         ensures refused { result ≡ NoLane

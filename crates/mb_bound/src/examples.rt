@@ -1,9 +1,9 @@
-//! What a caller owes, by example. The function computes nothing: its contract is the examples.
+//! What a caller has to keep to, by example. The function computes nothing: its contract is the examples.
 ghost use Rattle.std.specs.Prelude.{◌≢◌};
 ghost use Rattle.mb_bound.specs.Bound.{AreNamedApart};
 ghost use Rattle.mb_mailbox.specs.Mailboxes.{MailboxView};
 
-/// Mailboxes of two numbers are named apart, whatever they are. Of one number there is one mailbox.
+/// Mailboxes with two numbers are always named apart. With one number they have to be one mailbox.
 pub fn numbers_name_mailboxes()
     ensures two_numbers { (m n : MailboxView) → AreNamedApart 1 m 2 n }
     ensures one_mailbox { (m : MailboxView) → AreNamedApart 1 m 1 m }

@@ -1,4 +1,4 @@
-//! A mailbox with its hub.
+//! The hub of a mailbox, kept together with it.
 use crate::consumer::BoundConsumer;
 use crate::producer::BoundProducer;
 use mb_cells::NoMemory;
@@ -8,7 +8,7 @@ use std::alloc::{AllocError, Allocator};
 use std::marker::Model;
 use std::sync::Arc;
 
-/// A mailbox with its hub, which gives producers and consumers and takes them back.
+/// A mailbox with its hub, which gives producers and consumers out and takes them back.
 #[derive(Drop)]
 pub struct BoundHub<A: Allocator + Drop> {
     pub(crate) id: u64,
@@ -31,7 +31,7 @@ impl<A: Allocator + Drop> Model for BoundHub<A> {
 impl<A: Allocator + Drop> BoundHub<A> {
     ghost use Rattle.std.specs.Prelude.{◌≡◌, ◌≢◌, ◌↔◌, ◌≤◌, ◌-◌, Err, IfErr, IfOk, IsOk, None, OnErr, Some, length, slice_get};
     ghost use Rattle.mb_bound.specs.Bound.{AreNamedApart};
-    ghost use Rattle.mb_mailbox.specs.Below.{consumer_count};
+    ghost use Rattle.mb_mailbox.specs.Imports.{consumer_count};
     ghost use Rattle.mb_mailbox.specs.declared.hub.HubFault.TheVariants.{AllGiven};
     ghost use Rattle.mb_mailbox.specs.Hubs.{IsHubOf, new_producer, with_producer};
     ghost use Rattle.mb_mailbox.specs.Hubs.{with_taken_consumer, with_taken_producer};
@@ -43,14 +43,14 @@ impl<A: Allocator + Drop> BoundHub<A> {
         self.id
     }
 
-    /// How many lanes were not given yet.
+    /// How many lanes have no producer given yet.
     pub fn lanes_left(&self) -> usize
         ensures { result ≡ self.now.mailbox.cells.size.lanes - length self.now.hub.puts }
     {
         lanes_left(&self.mailbox, &self.hub)
     }
 
-    /// How many numbers of consumers were not given yet.
+    /// How many consumers were not given yet.
     pub fn consumers_left(&self) -> usize
         ensures { result ≡ consumer_count self.now.mailbox.claims.layout
             - length self.now.hub.ledgers }
@@ -58,14 +58,15 @@ impl<A: Allocator + Drop> BoundHub<A> {
         consumers_left(&self.mailbox, &self.hub)
     }
 
-    /// It is the hub of its mailbox. It computes nothing: its contract is a law of all of them.
+    /// A law: it is the hub of its mailbox.
     pub fn is_bound(&self)
         ensures { IsHubOf self.now.mailbox self.now.hub }
     {
         let _ = &self.hub;
     }
 
-    /// The producer of the next lane, as [`Hub::producer`] gives it.
+    /// The producer of the next lane, as [`Hub::producer`] gives it. The error is `AllGiven` exactly if each lane's
+    /// producer was given, and else `NoMemory`. After an error nothing has changed.
     pub fn producer(&mut self, alloc: A) -> Result<BoundProducer<A>, HubFault>
         ensures all_given { (result ≡ Err AllGiven)
             ↔ (self.old.mailbox.cells.size.lanes ≤ length self.old.hub.puts) }
@@ -92,7 +93,8 @@ impl<A: Allocator + Drop> BoundHub<A> {
         })
     }
 
-    /// Takes a producer back, as [`Hub::take_producer`] does. One of a mailbox of another number comes back.
+    /// Takes a producer back, as [`Hub::take_producer`] does. If its mailbox has another number, it is returned as the
+    /// error.
     pub fn take_producer(&mut self, producer: BoundProducer<A>) -> Result<(), BoundProducer<A>>
         requires { AreNamedApart self.old.id self.old.mailbox producer.id producer.mailbox }
         ensures taken { IsOk result ↔ (self.old.id ≡ producer.id) }
@@ -116,7 +118,8 @@ impl<A: Allocator + Drop> BoundHub<A> {
         Ok(())
     }
 
-    /// Takes a consumer back, as [`Hub::take_consumer`] does. One of a mailbox of another number comes back.
+    /// Takes a consumer back, as [`Hub::take_consumer`] does. If its mailbox has another number, it is returned as the
+    /// error.
     pub fn take_consumer(&mut self, consumer: BoundConsumer<A>) -> Result<(), BoundConsumer<A>>
         requires { AreNamedApart self.old.id self.old.mailbox consumer.id consumer.mailbox }
         ensures taken { IsOk result ↔ (self.old.id ≡ consumer.id) }
@@ -147,13 +150,13 @@ impl<A: Allocator + Clone + Drop> BoundHub<A> {
     ghost use Rattle.mb_world.specs.Setups.{layout_of, plan_in};
     ghost use Rattle.mb_mailbox.specs.declared.gather.GatherFault.TheVariants.{Missing, NoMemory};
     ghost use Rattle.mb_mailbox.specs.declared.hub.HubFault.TheVariants.{AllGiven};
-    ghost use Rattle.mb_mailbox.specs.Below.{consumer_count};
+    ghost use Rattle.mb_mailbox.specs.Imports.{consumer_count};
     ghost use Rattle.mb_mailbox.specs.Gathering.{FullTakesAll, IsGathered, IsReportIn, UndecidedHasCompany, count_missing};
     ghost use Rattle.mb_mailbox.specs.Hubs.{IsNewConsumer, hub_empty, with_consumer};
     ghost use Rattle.mb_mailbox.specs.Mailboxes.{plan_at};
 
-    /// A mailbox of this setup, in which nothing was done, and its hub. `id` is its number: no other mailbox whose
-    /// producers or consumers may come to this hub has it. [`NoMemory`] comes if the allocator refuses a part.
+    /// A new mailbox of this setup, and its hub. `id` is its number. No other mailbox whose producers or consumers may
+    /// come to this hub may have the same number. The error is [`NoMemory`] if the allocator refuses a part.
     pub fn new(alloc: A, id: u64, setup: Setup) -> Result<BoundHub<A>, NoMemory>
         ensures id { IfOk result (λ made. made.id ≡ id) }
         ensures plan { IfOk result (λ made. plan_at made.mailbox ≡ plan_in setup) }
@@ -168,7 +171,8 @@ impl<A: Allocator + Clone + Drop> BoundHub<A> {
         }
     }
 
-    /// The consumer of the next number, as [`Hub::consumer`] gives it.
+    /// The consumer of the next number, as [`Hub::consumer`] gives it. The error is `AllGiven` exactly if all consumers
+    /// were given, and else `NoMemory`. After an error nothing has changed.
     pub fn consumer(&mut self, alloc: A) -> Result<BoundConsumer<A>, HubFault>
         ensures all_given { (result ≡ Err AllGiven)
             ↔ (consumer_count self.old.mailbox.claims.layout ≤ length self.old.hub.ledgers) }
@@ -194,9 +198,9 @@ impl<A: Allocator + Clone + Drop> BoundHub<A> {
         })
     }
 
-    /// Ends the mailbox, and tells what all that were taken back did, as [`Mailbox::gather`] does. After a fault the hub
-    /// comes back as it was. [`GatherFault::Missing`] with two zeros would say that a copy of the mailbox is in use
-    /// elsewhere, though all were taken back: nothing makes one.
+    /// Ends the mailbox, and returns a report of what its producers and consumers did, as [`Mailbox::gather`] does.
+    /// With an error the hub is returned as it was. [`GatherFault::Missing`] with two zeros would say that a copy of
+    /// the mailbox is in use elsewhere, though all were taken back. Nothing makes such a copy.
     pub fn gather(self, alloc: A) -> Result<Report<A>, (GatherFault, BoundHub<A>)>
         ensures missing { 0 < count_missing self.hub.puts + count_missing self.hub.ledgers
             → result ≡ Err
@@ -216,15 +220,16 @@ impl<A: Allocator + Clone + Drop> BoundHub<A> {
             let why = GatherFault::Missing(producers, consumers);
             return Err((why, BoundHub { id, mailbox, hub }));
         }
-        let Ok(draft) = mailbox.draft(alloc, &hub) else {
-            return Err((GatherFault::NoMemory, BoundHub { id, mailbox, hub }));
-        };
-        match Arc::try_unwrap(mailbox) {
-            Ok(mailbox) => Ok(mailbox.gather_with(hub, draft)),
-            Err(mailbox) => {
-                let why = GatherFault::Missing(0, 0);
-                Err((why, BoundHub { id, mailbox, hub }))
-            }
+        match mailbox.draft(alloc, hub) {
+            Ok(draft) => match Arc::try_unwrap(mailbox) {
+                Ok(mailbox) => Ok(mailbox.gather_with(draft)),
+                Err(mailbox) => {
+                    let why = GatherFault::Missing(0, 0);
+                    let hub = draft.undone();
+                    Err((why, BoundHub { id, mailbox, hub }))
+                }
+            },
+            Err(hub) => Err((GatherFault::NoMemory, BoundHub { id, mailbox, hub })),
         }
     }
 }

@@ -1,11 +1,12 @@
-//! The hub, the producers and the consumers of a mailbox, each kept together with its mailbox. So no caller can mix those
-//! of two mailboxes, and a put, a finish, a poll and a gather ask for nothing.
+//! The hub, the producers and the consumers of a mailbox, each kept together with its mailbox. So no caller can mix
+//! those of two mailboxes, and a put, a finish, a poll and a gather have no `requires`.
 //!
-//! The three have what those of `mb_mailbox` have, and the mailbox behind an [`Arc`](std::sync::Arc). That each is of its
-//! own mailbox is an invariant of its type. The clauses are those of `mb_mailbox`, with no premise.
+//! The three types have what those of `mb_mailbox` have, and the mailbox in an [`Arc`](std::sync::Arc). An invariant of
+//! each type says that it belongs to its mailbox. The clauses are those of `mb_mailbox`, without their premises. The
+//! functions `is_bound` compute nothing: their contracts are laws.
 //!
-//! Each mailbox has a number that its maker chose. Only [`BoundHub::take_producer`] and [`BoundHub::take_consumer`] read
-//! it: that equal numbers mean one mailbox is the one thing that a caller owes.
+//! Each mailbox has a number that its maker chose. Only [`BoundHub::take_producer`] and [`BoundHub::take_consumer`]
+//! read it. A caller has to keep to one thing: equal numbers mean one mailbox.
 #![tactic(auto)]
 
 mod consumer;
@@ -20,7 +21,7 @@ use std::alloc::Allocator;
 
 fn crosses_threads<T: Send>() {}
 
-/// The three may go from thread to thread. It computes nothing: that it is accepted is the proof.
+/// The three may go from thread to thread. The proof is that this function is accepted.
 pub fn all_cross_threads<A: Allocator + Drop + Send + Sync>() {
     crosses_threads::<BoundHub<A>>();
     crosses_threads::<BoundProducer<A>>();

@@ -1,4 +1,4 @@
-//! A producer with its mailbox.
+//! Puts of a producer that is kept together with its mailbox.
 use mb_cells::Finish;
 use mb_mailbox::{Mailbox, Producer, Put};
 use std::alloc::Allocator;
@@ -43,14 +43,14 @@ impl<A: Allocator + Drop> BoundProducer<A> {
         self.id
     }
 
-    /// It is a producer of its mailbox. It computes nothing: its contract is a law of all of them.
+    /// A law: it is a producer of its mailbox.
     pub fn is_bound(&self)
         ensures { IsProducerOf self.now.mailbox self.now.producer }
     {
         let _ = &self.producer;
     }
 
-    /// Puts an item, any number, at the end of the lane, as [`Producer::put`] does.
+    /// Puts an item, which may be any number, at the end of the lane, as [`Producer::put`] does.
     pub fn put(&mut self, x: u64) -> Put
         ensures linked { result ≡ Linked
             → (k : ℕ) × IsPutInto k x self.old.producer self.new.producer }

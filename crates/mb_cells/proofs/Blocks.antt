@@ -2,7 +2,7 @@
 use Rattle.std.proofs.Common.{List, [], ap, arith, get_or-set_other, get_or-set_same, inl, inr, length, length-set, refl, slice_index, slice_set, subst, sym, ℕ, ◌<◌, ◌∙◌, ◌∷◌, ◌≡◌, ◌≤◌}
 use Rattle.std.specs.Prelude.{unwrap_or}
 use Rattle.mb_cells.specs.{Counter, END, Head, History, IsMemoryOf, IsPoolLawful, IsPoolWord, IsStateOf, Item, Link, PoolAccess, PoolSize, Process, Word}
-use Rattle.mb_cells.specs.{address_of, block_after, parts_after, stored_by, value_in, words_of}
+use Rattle.mb_cells.specs.{address_of, block_after, parts_after, stored_by, value_in, pool_words}
 use Rattle.mb_cells.proofs.Names.{cases_word, is_same_word-ne, is_same_word-refl, value_in-other}
 use Rattle.mb_cells.proofs.NextAccesses.{newest_within}
 use Rattle.mb_cells.proofs.OneStep.{empty_lawful}
@@ -28,7 +28,7 @@ address-apart size (Item p) (Link q) a b e = absurd (omega (arith, e, b))
 address-apart size (Item p) (Item q) a b e = ap Item (omega (arith, e))
 
 -- and lie in the block
-pub address-within : (size : PoolSize) (w : Word) → IsPoolWord size w → address_of size w < words_of size
+pub address-within : (size : PoolSize) (w : Word) → IsPoolWord size w → address_of size w < pool_words size
 address-within size Counter b = omega arith
 address-within size (Head p) b = omega (arith, b)
 address-within size (Link k) b = omega (arith, b)
@@ -72,7 +72,7 @@ state_after size words parts h a s l = record {
 }
 
 -- words that hold 0 are those of the empty history
-pub state_empty : (size : PoolSize) (words : List ℕ) → size.cells < END → words_of size ≤ length words
+pub state_empty : (size : PoolSize) (words : List ℕ) → size.cells < END → pool_words size ≤ length words
     → ((w : Word) → IsPoolWord size w → slice_index words (address_of size w) ≡ 0)
     → IsStateOf size words (λ who. []) []
 state_empty size words few room empty = record {
@@ -83,8 +83,8 @@ state_empty size words few room empty = record {
 -- the state is that of the words in the block alone
 pub state_more : (size : PoolSize) (words more : List ℕ) (parts : Process → History) (h : History)
     → IsStateOf size words parts h
-    → ((i : ℕ) → i < words_of size → slice_index more i ≡ slice_index words i)
-    → words_of size ≤ length more → IsStateOf size more parts h
+    → ((i : ℕ) → i < pool_words size → slice_index more i ≡ slice_index words i)
+    → pool_words size ≤ length more → IsStateOf size more parts h
 state_more size words more parts h s same room = record {
   memory = record {
     lawful = s.memory.lawful;

@@ -5,7 +5,7 @@ use Rattle.std.proofs.lemmas.Bool.{cases_Bool, ltb-false, ltb-true}
 use Rattle.mb_cells.specs.declared.answer.Offer.TheVariants as offer
 use Rattle.mb_cells.specs.declared.lane.LaneStage.TheVariants as stage
 use Rattle.mb_cells.specs.Place as phase
-use Rattle.mb_cells.specs.{Call, Counter, Finished, Has, HasMade, History, IsAt, IsLaneAfter, Lane, LaneStage, Offered, Phase, PoolSize, PoolState}
+use Rattle.mb_cells.specs.{Call, Counter, Finished, Has, HasMade, History, LaneIsAt, IsLaneAfter, Lane, LaneStage, Offered, Phase, PoolSize, PoolState}
 use Rattle.mb_cells.specs.{Producer, Pushed, WasGivenBy, cell_count, fetch, fetch_adds_by, new_lane, offer_by_found, part, size_of, stage_by, stage_of}
 use Rattle.mb_cells.specs.{stage_offer_refusal, value_in}
 use Rattle.mb_cells.proofs.CallLaws.{calls_answer, made_stands}
@@ -42,7 +42,7 @@ full_at : (cells p : ℕ) (lane : Lane) (h : History) → IsCounted h → IsLane
 full_at cells p lane h counted x is =
     by x.phase x.at (sym x.stage ∙ is)
   where
-    by : (phase : Phase) → IsAt cells p x.entries phase (part (Producer p) h) → stage_of phase ≡ stage.Full
+    by : (phase : Phase) → LaneIsAt cells p x.entries phase (part (Producer p) h) → stage_of phase ≡ stage.Full
         → cells < value_in Counter h
     by phase.Open at e = absurd (cc)
     by (phase.Offered f) at e = absurd (cc)

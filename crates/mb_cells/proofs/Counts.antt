@@ -2,7 +2,7 @@
 use Rattle.std.proofs.Common.{Bool, List, [], ap, arith, cond, eq-eqb, false, inl, inr, le-leb, refl, subst, suc, sym, true, zero, ℕ, ◌++◌, ◌+◌, ◌<◌, ◌||◌, ◌∙◌, ◌∷◌, ◌≡◌, ◌≤◌}
 use Rattle.std.specs.Prelude.{nat_le}
 use Rattle.std.proofs.lemmas.Bool.{cases_Bool, cases_eq, cases_lt, cond_both, lt-leb}
-use Rattle.mb_cells.specs.{AllCellsBelow, Counter, Entry, FetchAdd, Has, History, IsAt, IsLoad, IsPoolLawful, IsReaderPath, Phase, PoolAccess, PoolAct}
+use Rattle.mb_cells.specs.{AllCellsBelow, Counter, Entry, FetchAdd, Has, History, LaneIsAt, IsLoad, IsPoolLawful, IsReaderPath, Phase, PoolAccess, PoolAct}
 use Rattle.mb_cells.specs.{PoolSize, Process, ProcessFits, Producer, Reader, Steps, Store, WasHandedOut, ends_lane, ends_refused, fetch, fetch_adds_on}
 use Rattle.mb_cells.specs.{fills_cell, finds_none, groups, is_same_process, links_cell, part, stored_by, takes_cell, value_in}
 use Rattle.mb_cells.proofs.Counter.{IsCounted, counted-tail, counter_count, counter_step, fetch-below, fetch-found}
@@ -93,7 +93,7 @@ none-groups p cells (e ∷ es) b =
 
 -- a fetch-add past the cells is its producer's first
 first_refusal : (p cells : ℕ) (es fs : List Entry) (was now : Phase) (a : PoolAccess) (d : History) (x n : ℕ)
-    → Steps cells p es was a fs now → IsAt cells p es was d
+    → Steps cells p es was a fs now → LaneIsAt cells p es was d
     → a.act ≡ FetchAdd x n → cells ≤ n → has_refused p cells d ≡ false
 first_refusal p cells es fs was now a d x n (takes_cell _ e b) at is high =
     absurd (let g : n ≡ e.cell = cc in omega arith)
@@ -117,8 +117,8 @@ new-refusal size a h x n l is high =
           let own = own_process (Producer p) a e in
           let lane : p < size.lanes = subst (ProcessFits size.lanes) e l.fits.1 in
           let place = place_of size (a ∷ h) p l in
-          let at : IsAt size.cells p place.entries place.phase (a ∷ part (Producer p) h) =
-          subst (IsAt size.cells p place.entries place.phase) (part-own (Producer p) a h own) place.at in
+          let at : LaneIsAt size.cells p place.entries place.phase (a ∷ part (Producer p) h) =
+          subst (LaneIsAt size.cells p place.entries place.phase) (part-own (Producer p) a h own) place.at in
           let before_a = came_from size.cells p place.entries place.phase a (part (Producer p) h) at in
           let before : has_refused p size.cells h ≡ false =
           refused-part p size.cells h

@@ -2,7 +2,7 @@
 use Rattle.std.proofs.Common.{Bool, List, [], ap, arith, cond, eq-eqb, false, inl, inr, ne_eqb, refl, subst, sym, true, ℕ, ◌++◌, ◌+◌, ◌<◌, ◌||◌, ◌∙◌, ◌∷◌, ◌≡◌}
 use Rattle.std.specs.Prelude.{nat_eq}
 use Rattle.std.proofs.lemmas.Bool.{cases_Bool, false≢true}
-use Rattle.mb_cells.specs.{AllCellsBelow, END, Entry, HasLoaded, HasMet, History, IsAt, IsLanePrefix, IsPoolLawful, Phase, PoolAccess, PoolSize, Process}
+use Rattle.mb_cells.specs.{AllCellsBelow, END, Entry, HasLoaded, HasMet, History, LaneIsAt, IsLanePrefix, IsPoolLawful, Phase, PoolAccess, PoolSize, Process}
 use Rattle.mb_cells.specs.{Producer, Steps, Store, ends_lane, ends_refused, fills_cell, finds_none, groups, has_ended, is_same_process, linked_cells}
 use Rattle.mb_cells.specs.{links_cell, marks_end, part, part_at, place_after, place_past, takes_cell, value_in}
 use Rattle.mb_cells.specs.Place.{Ended, Full, Offered, Open, Stored}
@@ -70,7 +70,7 @@ has_ended-part_at p cells es (Ended r) c b = rw (eq-eqb p p refl, marks-link p e
 
 -- a lane has ended where its producer stands at the end
 pub ended_is : (cells p : ℕ) (h : History) (es : List Entry) (phase : Phase) → cells < END
-    → IsAt cells p es phase (part (Producer p) h) → has_ended p h ≡ is_ended phase
+    → LaneIsAt cells p es phase (part (Producer p) h) → has_ended p h ≡ is_ended phase
 ended_is cells p h es phase c at =
     has_ended-part p h ∙ ap (has_ended p) at.is ∙ has_ended-part_at p cells es phase c at.below
 

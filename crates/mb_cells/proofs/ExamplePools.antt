@@ -4,7 +4,7 @@ use Rattle.mb_cells.specs.declared.answer.Finish.TheVariants as finish
 use Rattle.mb_cells.specs.declared.answer.Offer.TheVariants as offer
 use Rattle.mb_cells.specs.declared.answer.Push.TheVariants as push
 use Rattle.mb_cells.specs.declared.lane.LaneStage.TheVariants as stage
-use Rattle.mb_cells.specs.{END, FinishMeets, Head, IsAfter, IsSound, Item, Lane, Link, OfferMeets, PoolState, PushMeets, ended_pool, full_pool, new_lane}
+use Rattle.mb_cells.specs.{END, FinishMeets, Head, IsAfter, PoolIsSound, Item, Lane, Link, OfferMeets, PoolState, PushMeets, ended_pool, full_pool, new_lane}
 use Rattle.mb_cells.specs.{new_pool, no_cell, one_cell, one_put, one_taken, put_pool, store, taken_pool}
 use Rattle.mb_cells.proofs.PoolSteps.{empty_after, finish_made, offer_made, push_made}
 
@@ -53,7 +53,7 @@ pub taken_after : IsAfter one_taken taken_pool
 taken_after = (offer_one [] new_lane new_after (new_after.lanes 0 new_lane (omega arith))).1
 
 -- which is a pool
-taken_sound : IsSound taken_pool
+taken_sound : PoolIsSound taken_pool
 taken_sound =
     record { heads = refl; links = refl; lanes = omega arith; cells = omega arith; history = (one_taken, taken_after) }
 
@@ -66,7 +66,7 @@ filled_after : IsAfter (store 0 (Item 0) 8 ∷ one_taken) filled_pool
 filled_after = (fill_one one_taken taken_place taken_after (taken_after.lanes 0 taken_place (omega arith))).1
 
 -- which is a pool
-filled_sound : IsSound filled_pool
+filled_sound : PoolIsSound filled_pool
 filled_sound = record {
   heads = refl;
   links = refl;
@@ -86,7 +86,7 @@ put_after =
     (filled_after.lanes 0 filled_place (omega arith))).1
 
 -- which is a pool
-pub put_sound : IsSound put_pool
+pub put_sound : PoolIsSound put_pool
 put_sound =
     record { heads = refl; links = refl; lanes = omega arith; cells = omega arith; history = (one_put, put_after) }
 

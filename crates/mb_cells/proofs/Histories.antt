@@ -2,7 +2,7 @@
 use Rattle.std.proofs.Common.{List, None, Some, [], ap, append_assoc, arith, eq-eqb, false, inl, inr, ne_eqb, refl, subst, sym, ℕ, ◌++◌, ◌+◌, ◌-◌, ◌<◌, ◌∙◌, ◌∷◌, ◌≡◌, ◌⊎◌}
 use Rattle.std.specs.Prelude.{nat_eq}
 use Rattle.std.proofs.lemmas.Bool.{cases_Bool, cases_eq, cond_both}
-use Rattle.mb_cells.specs.{AllCellsBelow, Counter, END, Entry, Has, HasLoaded, HasMet, Head, History, IsAt, IsLanePrefix, IsLinkWord, IsLoad}
+use Rattle.mb_cells.specs.{AllCellsBelow, Counter, END, Entry, Has, HasLoaded, HasMet, Head, History, LaneIsAt, IsLanePrefix, IsLinkWord, IsLoad}
 use Rattle.mb_cells.specs.{IsPoolLawful, IsReaderPath, IsStart, Item, Link, Load, Phase, PoolAccess, PoolAct, PoolSize, Process, Producer, Reader}
 use Rattle.mb_cells.specs.{ReadsLast, Steps, Store, Word, ends_lane, ends_refused, fetch, fills_cell, finds_none, groups, is_fetch_add, is_same_process}
 use Rattle.mb_cells.specs.{is_same_word, link_of, linked_cells, links_cell, part, part_at, place_after, place_past, push_if, stored_by, takes_cell}
@@ -118,7 +118,7 @@ owned-one h p q (Item k) m x y = same-maker p q x.0 y.0 (fetch-one h p q x.0 y.0
 
 -- the cells of each producer fall
 pub falls : (size : PoolSize) (p : ℕ) (h : History) (es : List Entry) (phase : Phase) → IsPoolLawful size h
-    → IsAt size.cells p es phase (part (Producer p) h) → IsFallingAt es phase
+    → LaneIsAt size.cells p es phase (part (Producer p) h) → IsFallingAt es phase
 falls size p h es phase l at =
     falling_at p es phase (subst AreRising at.is (rising-part (Producer p) h (rising h (lawful-counted size h l))))
 
@@ -146,7 +146,7 @@ owned_part p h d w e o = owned-more p (part (Producer p) h) h w (Has-of_part (Pr
 
 -- each lane is a chain in the words of the history
 pub chained : (size : PoolSize) (p : ℕ) (h : History) (es : List Entry) (phase : Phase) → IsPoolLawful size h
-    → IsAt size.cells p es phase (part (Producer p) h) → IsChained (λ w. value_in w h) p es
+    → LaneIsAt size.cells p es phase (part (Producer p) h) → IsChained (λ w. value_in w h) p es
 chained size p h es phase l at =
     let f = falls size p h es phase l at in
     chained-agree (λ w. value_in w (part_at p es phase)) (λ w. value_in w h) p es
@@ -156,7 +156,7 @@ chained size p h es phase l at =
 
 -- and the word behind it holds 0 or the end mark
 pub next_is : (size : PoolSize) (p : ℕ) (h : History) (es : List Entry) (phase : Phase) → IsPoolLawful size h
-    → IsAt size.cells p es phase (part (Producer p) h) → value_in (place_after p es) h ≡ end_value phase
+    → LaneIsAt size.cells p es phase (part (Producer p) h) → value_in (place_after p es) h ≡ end_value phase
 next_is size p h es phase l at =
     local size h p (place_after p es) l
     (owned_part p h (part_at p es phase) (place_after p es) at.is (owned_next p es phase))
@@ -216,7 +216,7 @@ linked_cells-part_at p cells es (Ended (Some e)) c b =
 
 -- the cells linked are those of the entries at the place
 pub cells_at : (size : PoolSize) (p : ℕ) (h : History) (es : List Entry) (phase : Phase) → size.cells < END
-    → IsAt size.cells p es phase (part (Producer p) h) → linked_cells p h ≡ cells_of es
+    → LaneIsAt size.cells p es phase (part (Producer p) h) → linked_cells p h ≡ cells_of es
 cells_at size p h es phase c at =
     linked_cells-part p h ∙ ap (linked_cells p) at.is ∙ linked_cells-part_at p size.cells es phase c at.below
 
@@ -281,8 +281,8 @@ written_once size h a v l stores w =
     by q who is =
         let own = own_process (Producer q) a who in
         let place = place_of size (a ∷ h) q l in
-        let at : IsAt size.cells q place.entries place.phase (a ∷ part (Producer q) h) =
-        subst (IsAt size.cells q place.entries place.phase) (part-own (Producer q) a h own) place.at in
+        let at : LaneIsAt size.cells q place.entries place.phase (a ∷ part (Producer q) h) =
+        subst (LaneIsAt size.cells q place.entries place.phase) (part-own (Producer q) a h own) place.at in
         let before = came_from size.cells q place.entries place.phase a (part (Producer q) h) at in
         let step = link_step size.cells q before.entries place.entries before.was place.phase a v before.by is w in
         ap (λ x. value_in x h) step.1

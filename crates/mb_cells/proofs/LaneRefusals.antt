@@ -3,7 +3,7 @@ use Rattle.std.proofs.Common.{Bool, List, None, Some, [], ap, arith, false, inl,
 use Rattle.std.proofs.lemmas.Bool.{cases_Bool}
 use Rattle.mb_cells.specs.declared.answer.Finish.TheVariants as finish
 use Rattle.mb_cells.specs.declared.answer.Offer.TheVariants as offer
-use Rattle.mb_cells.specs.{AllCellsBelow, Entry, FetchAdd, Has, HasFoundNone, HasPending, History, IsAt, IsLaneAfter, IsPoolLawful, Item, Lane, Load}
+use Rattle.mb_cells.specs.{AllCellsBelow, Entry, FetchAdd, Has, HasFoundNone, HasPending, History, LaneIsAt, IsLaneAfter, IsPoolLawful, Item, Lane, Load}
 use Rattle.mb_cells.specs.{Phase, PoolAccess, PoolAct, PoolSize, Producer, Store, Word, fetch, finish_refusal, groups, has_ended, linked_cells, next_link}
 use Rattle.mb_cells.specs.{offer_refusal, part, part_at, place_after, push_store, stage_finish_refusal, stage_of, stage_offer_refusal, stage_push_store}
 use Rattle.mb_cells.specs.{store}
@@ -128,7 +128,7 @@ IsLast cells (Stored x) n = n < cells
 IsLast cells (Full x) n = cells ≤ n
 IsLast cells (Ended r) n = cells ≤ n
 
-add_at : (cells p : ℕ) (es : List Entry) (phase : Phase) (d : History) → IsAt cells p es phase d → (e : Entry)
+add_at : (cells p : ℕ) (es : List Entry) (phase : Phase) (d : History) → LaneIsAt cells p es phase d → (e : Entry)
     → Has (part_at p es phase) (fetch p e) → Has (cells_of es) e.cell ⊎ IsLast cells phase e.cell
 add_at cells p es Open d at e has = inl (add_in p es e has)
 add_at cells p es (Offered x) d at e (inl is) = inr (omega (arith, same_cell p x e is, at.fits))
@@ -145,7 +145,7 @@ add_at cells p es (Ended (Some x)) d at e (inr (inl is)) = inr (omega (arith, sa
 add_at cells p es (Ended (Some x)) d at e (inr (inr has)) = inl (add_in p es e has)
 
 module _ (size : PoolSize) (h : History) (p : ℕ) (lawful : IsPoolLawful size h) where
-  module _ (es : List Entry) (phase : Phase) (at : IsAt size.cells p es phase (part (Producer p) h)) where
+  module _ (es : List Entry) (phase : Phase) (at : LaneIsAt size.cells p es phase (part (Producer p) h)) where
     abbrev IsMade : Entry → Type 0
     IsMade e = Has h (fetch p e)
 
@@ -173,7 +173,7 @@ module _ (size : PoolSize) (h : History) (p : ℕ) (lawful : IsPoolLawful size h
         (subst (λ ks. Has ks e.cell) (cells_at size p h es phase lawful.sized at) has)
 
   -- what is pending, by the phase
-  pending_at : (es : List Entry) (phase : Phase) (at : IsAt size.cells p es phase (part (Producer p) h))
+  pending_at : (es : List Entry) (phase : Phase) (at : LaneIsAt size.cells p es phase (part (Producer p) h))
       → is_pending phase ≡ true → HasPending size.cells p h
   pending_at es Open at e = absurd (cc)
   pending_at es (Offered x) at e = record {
@@ -198,7 +198,7 @@ module _ (size : PoolSize) (h : History) (p : ℕ) (lawful : IsPoolLawful size h
   last_pending (Full x) n got last = absurd (omega (arith, got, last))
   last_pending (Ended r) n got last = absurd (omega (arith, got, last))
 
-  pending_tells : (es : List Entry) (phase : Phase) → IsAt size.cells p es phase (part (Producer p) h)
+  pending_tells : (es : List Entry) (phase : Phase) → LaneIsAt size.cells p es phase (part (Producer p) h)
       → HasPending size.cells p h → is_pending phase ≡ true
   pending_tells es phase at pending = elim (add_of es phase at pending.entry pending.offered) [
     | inl linked ↦ absurd (pending.unlinked linked)
@@ -206,7 +206,7 @@ module _ (size : PoolSize) (h : History) (p : ℕ) (lawful : IsPoolLawful size h
   ]
 
   -- what found no cell
-  none_at : (es : List Entry) (phase : Phase) (at : IsAt size.cells p es phase (part (Producer p) h))
+  none_at : (es : List Entry) (phase : Phase) (at : LaneIsAt size.cells p es phase (part (Producer p) h))
       → found_none phase ≡ true → (is_ended phase ≡ false) × HasFoundNone size.cells p h
   none_at es Open at e = absurd (cc)
   none_at es (Offered x) at e = absurd (cc)
@@ -223,7 +223,7 @@ module _ (size : PoolSize) (h : History) (p : ℕ) (lawful : IsPoolLawful size h
   last_none (Full x) n past still last = refl
   last_none (Ended r) n past still last = absurd (cc)
 
-  none_tells : (es : List Entry) (phase : Phase) → IsAt size.cells p es phase (part (Producer p) h)
+  none_tells : (es : List Entry) (phase : Phase) → LaneIsAt size.cells p es phase (part (Producer p) h)
       → is_ended phase ≡ false → HasFoundNone size.cells p h → found_none phase ≡ true
   none_tells es phase at still none = elim (add_of es phase at none.entry none.offered) [
     | inl linked ↦ absurd (omega (arith, none.past, link_within es phase at none.entry linked))

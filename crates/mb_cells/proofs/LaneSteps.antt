@@ -4,7 +4,7 @@ use Rattle.std.specs.Prelude.{nat_lt}
 use Rattle.std.proofs.lemmas.Bool.{cases_Bool, ltb-false, ltb-true}
 use Rattle.mb_cells.specs.declared.lane.LaneStage.TheVariants as stage
 use Rattle.mb_cells.specs.Place as phase
-use Rattle.mb_cells.specs.{END, Entry, History, IsAt, IsLaneAfter, IsLanePrefix, Item, Lane, Phase, Word, ends_lane, ends_refused, fetch, fills_cell}
+use Rattle.mb_cells.specs.{END, Entry, History, LaneIsAt, IsLaneAfter, IsLanePrefix, Item, Lane, Phase, Word, ends_lane, ends_refused, fetch, fills_cell}
 use Rattle.mb_cells.specs.{finds_none, finish_refusal, is_full, lane_after_finish, lane_after_offer, lane_after_push, last_after_push, last_of}
 use Rattle.mb_cells.specs.{link_after, links_cell, new_lane, next_link, offer_refusal, place_after, push_store, stage_after_push, stage_finish_refusal}
 use Rattle.mb_cells.specs.{stage_of, stage_offer_refusal, stage_push_store, store, takes_cell}
@@ -62,7 +62,7 @@ pub offered_lane : (cells p : ℕ) (lane : Lane) (done : History) (e : Entry) �
     → IsLaneAfter cells p (lane_after_offer cells e.value e.cell lane) (fetch p e ∷ done)
 offered_lane cells p lane done e x going =
     let start : x.phase ≡ phase.Open = open_of x.phase (ap stage_offer_refusal (sym x.stage) ∙ going) in
-    let at : IsAt cells p x.entries phase.Open done = subst (λ z. IsAt cells p x.entries z done) start x.at in
+    let at : LaneIsAt cells p x.entries phase.Open done = subst (λ z. LaneIsAt cells p x.entries z done) start x.at in
     elim (cases_Bool (nat_lt e.cell cells)) [
       | inl low ↦
           let b : e.cell < cells = ltb-true e.cell cells low in
@@ -88,7 +88,7 @@ offered_lane cells p lane done e x going =
 
 -- after a push's store, whichever it is
 pushed_at : (cells p : ℕ) (lane : Lane) (done : History) (es : List Entry) (phase : Phase) (s : Word × ℕ)
-    → IsAt cells p es phase done → lane.last ≡ last_of es → lane.stage ≡ stage_of phase
+    → LaneIsAt cells p es phase done → lane.last ≡ last_of es → lane.stage ≡ stage_of phase
     → push_store p lane ≡ Some s → IsLaneAfter cells p (lane_after_push lane) (store p s.0 s.1 ∷ done)
 pushed_at cells p lane done es phase.Open s at last stage is =
     absurd (let e : None ≡ Some s = sym (ap (stage_push_store (next_link p lane)) stage) ∙ is in cc)
@@ -132,7 +132,7 @@ pushed_lane cells p lane done s x is = pushed_at cells p lane done x.entries x.p
 
 -- after the store of the end mark, by the phase
 finished_at : (cells p : ℕ) (lane : Lane) (done : History) (es : List Entry) (phase : Phase)
-    → IsAt cells p es phase done → lane.last ≡ last_of es → lane.stage ≡ stage_of phase
+    → LaneIsAt cells p es phase done → lane.last ≡ last_of es → lane.stage ≡ stage_of phase
     → finish_refusal lane ≡ None → IsLaneAfter cells p (lane_after_finish lane) (store p (place_after p es) END ∷ done)
 finished_at cells p lane done es phase.Open at last by_stage is = record {
   entries = es;

@@ -1,7 +1,7 @@
 -- What a producer and a reader may do next, and that it is in range.
 use Rattle.std.proofs.Common.{List, None, Some, [], ap, arith, inl, inr, refl, subst, sym, ℕ, ◌+◌, ◌<◌, ◌^◌, ◌∙◌, ◌∷◌, ◌≡◌, ◌⊎◌}
 use Rattle.mb_cells.specs.Place as phase
-use Rattle.mb_cells.specs.{ActFits, AllCellsBelow, AllFit, Counter, END, Entry, FetchAdd, Has, Head, History, IsAt, IsLaneAfter, IsLanePrefix}
+use Rattle.mb_cells.specs.{ActFits, AllCellsBelow, AllFit, Counter, END, Entry, FetchAdd, Has, Head, History, LaneIsAt, IsLaneAfter, IsLanePrefix}
 use Rattle.mb_cells.specs.{IsPoolLawful, IsPoolWord, IsReaderPath, IsLaneWord, Item, Lane, Link, MayRead, Phase, PhaseFits, PoolAccess, PoolSize, Process}
 use Rattle.mb_cells.specs.{ProcessFits, Producer, Reader, Steps, Store, Word, ends_lane, ends_refused, fetch, fills_cell, finds_none, finish_refusal}
 use Rattle.mb_cells.specs.{links_cell, next_link, offer_refusal, part, place_after, push_store, stage_finish_refusal, stage_of, stage_offer_refusal}
@@ -138,7 +138,7 @@ pub push_within : (size : PoolSize) (p : ℕ) (lane : Lane) (done : History) (w 
 push_within size p lane done w v lt x is =
     by x.phase (w, v) x.at (push_here size.cells p lane done (w, v) x is)
   where
-    by : (phase : Phase) (s : Word × ℕ) → IsAt size.cells p x.entries phase done → PushAt p x.entries phase s
+    by : (phase : Phase) (s : Word × ℕ) → LaneIsAt size.cells p x.entries phase done → PushAt p x.entries phase s
         → IsLaneWord size s.0
     by phase.Open s at push = elim push [ ]
     by (phase.Offered e) s at (of_item _) = at.fits
@@ -152,7 +152,7 @@ pub push_value : (size : PoolSize) (h : History) (p : ℕ) (lane : Lane) (w : Wo
 push_value size h p lane w v l x is =
     by x.phase (w, v) x.at (push_here size.cells p lane (part (Producer p) h) (w, v) x is)
   where
-    by : (phase : Phase) (s : Word × ℕ) → IsAt size.cells p x.entries phase (part (Producer p) h)
+    by : (phase : Phase) (s : Word × ℕ) → LaneIsAt size.cells p x.entries phase (part (Producer p) h)
         → PushAt p x.entries phase s → s.1 < 2 ^ 64
     by phase.Open s at push = elim push [ ]
     by (phase.Offered e) s at (of_item _) =
@@ -202,8 +202,8 @@ newest_within size h a l =
         let own = own_process (Producer p) a e in
         let lane : p < size.lanes = subst (ProcessFits size.lanes) e l.fits.1 in
         let s = place_of size (a ∷ h) p l in
-        let at : IsAt size.cells p s.entries s.phase (a ∷ part (Producer p) h) =
-        subst (IsAt size.cells p s.entries s.phase) (part-own (Producer p) a h own) s.at in
+        let at : LaneIsAt size.cells p s.entries s.phase (a ∷ part (Producer p) h) =
+        subst (LaneIsAt size.cells p s.entries s.phase) (part-own (Producer p) a h own) s.at in
         let c = came_from size.cells p s.entries s.phase a (part (Producer p) h) at in
         step-word size p c.entries s.entries c.was s.phase a lane c.at.below c.at.fits c.by
     by (Reader r) e =

@@ -1,7 +1,7 @@
 -- One more access of one process keeps a history lawful.
 use Rattle.std.proofs.Common.{[], ap, arith, false, inl, inr, refl, subst, sym, ℕ, ◌++◌, ◌<◌, ◌^◌, ◌∙◌, ◌∷◌, ◌≡◌}
 use Rattle.std.proofs.lemmas.Bool.{cases_Bool, cond_both}
-use Rattle.mb_cells.specs.{ActFits, Counter, END, History, IsAt, IsLanePrefix, IsPoolLawful, IsReaderPath, MayRead, PoolAccess, PoolSize, ProcessFits}
+use Rattle.mb_cells.specs.{ActFits, Counter, END, History, LaneIsAt, IsLanePrefix, IsPoolLawful, IsReaderPath, MayRead, PoolAccess, PoolSize, ProcessFits}
 use Rattle.mb_cells.specs.{Producer, Reader, ReadsLast, Word, is_same_process, is_same_word, load, part, value_in}
 use Rattle.mb_cells.specs.Place.{Open}
 use Rattle.mb_cells.proofs.Histories.{lawful-tail, storer_of}
@@ -73,7 +73,7 @@ reader_step size h r w l may = record {
 }
 
 -- a producer that has done nothing is at the start
-pub start_at : (cells p : ℕ) → IsAt cells p [] Open []
+pub start_at : (cells p : ℕ) → LaneIsAt cells p [] Open []
 start_at cells p = record { below = tt; fits = tt; is = refl }
 
 -- the empty history is lawful

@@ -1,6 +1,6 @@
 -- A prefix of a lane path puts its producer at one place, and at no other.
 use Rattle.std.proofs.Common.{Bool, List, None, Option, Some, [], ap, arith, false, inl, inr, refl, subst, sym, true, ℕ, ◌++◌, ◌+◌, ◌∙◌, ◌∷◌, ◌≡◌, ◌⊎◌}
-use Rattle.mb_cells.specs.{AllCellsBelow, END, Entry, FetchAdd, FindsNoCell, Has, History, IsAt, IsLanePrefix, Item, Phase, PoolAccess, Steps, Store}
+use Rattle.mb_cells.specs.{AllCellsBelow, END, Entry, FetchAdd, FindsNoCell, Has, History, LaneIsAt, IsLanePrefix, Item, Phase, PoolAccess, Steps, Store}
 use Rattle.mb_cells.specs.{Word, ending, ends_lane, ends_refused, fetch, fills_cell, finds_none, groups, links_cell, part_at, place_after, refusal, store}
 use Rattle.mb_cells.specs.{takes_cell}
 use Rattle.mb_cells.specs.Place.{Ended, Full, Offered, Open, Stored}
@@ -9,7 +9,7 @@ use Rattle.mb_cells.specs.Place.{Ended, Full, Offered, Open, Stored}
 pub record IsSomewhere (cells p : ℕ) (done : History) : Type 0 where
   pub entries : List Entry
   pub phase : Phase
-  pub at : IsAt cells p entries phase done
+  pub at : LaneIsAt cells p entries phase done
 
 -- what leads to whole groups stands at a place
 in_groups : (cells p : ℕ) (es : List Entry) (later done : History) → AllCellsBelow cells es
@@ -58,7 +58,7 @@ whole cells p es r ended b f later done h = record {
 }
 
 -- what stands at a place is a prefix of a lane path
-pub prefix_at : (cells p : ℕ) (es : List Entry) (phase : Phase) (done : History) → IsAt cells p es phase done
+pub prefix_at : (cells p : ℕ) (es : List Entry) (phase : Phase) (done : History) → LaneIsAt cells p es phase done
     → IsLanePrefix cells p done
 prefix_at cells p es Open done h = whole cells p es None false h.below tt [] done h.is
 prefix_at cells p es (Offered e) done h =
@@ -75,12 +75,12 @@ prefix_at cells p es (Ended r) done h = whole cells p es r true h.below h.fits [
 pub record CameFrom (cells p : ℕ) (es : List Entry) (phase : Phase) (a : PoolAccess) (d : History) : Type 0 where
   pub entries : List Entry
   pub was : Phase
-  pub at : IsAt cells p entries was d
+  pub at : LaneIsAt cells p entries was d
   pub by : Steps cells p entries was a es phase
 
 -- each access was a step from a place
 pub came_from : (cells p : ℕ) (es : List Entry) (phase : Phase) (a : PoolAccess) (d : History)
-    → IsAt cells p es phase (a ∷ d) → CameFrom cells p es phase a d
+    → LaneIsAt cells p es phase (a ∷ d) → CameFrom cells p es phase a d
 came_from cells p [] Open a d at = absurd (let e : a ∷ d ≡ [] = at.is in cc)
 came_from cells p (e ∷ es) Open a d at =
     let whole : a ∷ d ≡ groups p (e ∷ es) = at.is in
@@ -145,7 +145,7 @@ came_from cells p es (Ended (Some e)) a d at =
 
 -- a step takes what was done to the next place
 pub goes_on : (cells p : ℕ) (es fs : List Entry) (was now : Phase) (a : PoolAccess) (d : History)
-    → Steps cells p es was a fs now → IsAt cells p es was d → IsAt cells p fs now (a ∷ d)
+    → Steps cells p es was a fs now → LaneIsAt cells p es was d → LaneIsAt cells p fs now (a ∷ d)
 goes_on cells p es fs was now a d (takes_cell _ e b) at =
     record { below = at.below; fits = b; is = ap (λ l. fetch p e ∷ l) at.is }
 goes_on cells p es fs was now a d (finds_none _ e b) at =
@@ -198,7 +198,7 @@ steps_once cells p es fs gs was now then a b is (ends_lane _) (ends_lane _) = (r
 steps_once cells p es fs gs was now then a b is (ends_refused _ e) (ends_refused _ f) = (refl, refl)
 
 -- nothing done is the start
-at_start : (cells p : ℕ) (es : List Entry) (phase : Phase) → IsAt cells p es phase [] → (es ≡ []) × (phase ≡ Open)
+at_start : (cells p : ℕ) (es : List Entry) (phase : Phase) → LaneIsAt cells p es phase [] → (es ≡ []) × (phase ≡ Open)
 at_start cells p [] Open at = (refl, refl)
 at_start cells p (e ∷ es) Open at = absurd (let is : [] ≡ groups p (e ∷ es) = at.is in cc)
 at_start cells p es (Offered e) at = absurd (let is : [] ≡ fetch p e ∷ groups p es = at.is in cc)
@@ -209,8 +209,8 @@ at_start cells p es (Ended r) at =
     absurd (let is : [] ≡ store p (place_after p es) END ∷ refusal p r (groups p es) = at.is in cc)
 
 -- a producer stands at one place
-pub one_place : (cells p : ℕ) (es fs : List Entry) (was now : Phase) (d : History) → IsAt cells p es was d
-    → IsAt cells p fs now d → (es ≡ fs) × (was ≡ now)
+pub one_place : (cells p : ℕ) (es fs : List Entry) (was now : Phase) (d : History) → LaneIsAt cells p es was d
+    → LaneIsAt cells p fs now d → (es ≡ fs) × (was ≡ now)
 one_place cells p es fs was now [] x y =
     let s = at_start cells p es was x in
     let t = at_start cells p fs now y in
@@ -232,7 +232,7 @@ pub record NextStep (cells p : ℕ) (es : List Entry) (phase : Phase) (a : PoolA
 
 -- an access that goes on with a lane path is a step from its place
 pub steps_only : (cells p : ℕ) (es : List Entry) (phase : Phase) (a : PoolAccess) (d : History)
-    → IsAt cells p es phase d
+    → LaneIsAt cells p es phase d
     → IsLanePrefix cells p (a ∷ d) → NextStep cells p es phase a
 steps_only cells p es phase a d at prefix =
     let s = somewhere cells p (a ∷ d) prefix in
@@ -261,7 +261,7 @@ step_kind cells p es fs was now a (ends_refused _ e) = inr (place_after p es, (E
 
 -- and so is each access that led to a place
 pub kind_at : (cells p : ℕ) (d : History) (es : List Entry) (phase : Phase) (a : PoolAccess)
-    → IsAt cells p es phase d → Has d a → IsFetchOrStore p a
+    → LaneIsAt cells p es phase d → Has d a → IsFetchOrStore p a
 kind_at cells p [] es phase a at has = absurd has
 kind_at cells p (b ∷ d) es phase a at (inl is) =
     let c = came_from cells p es phase b d at in

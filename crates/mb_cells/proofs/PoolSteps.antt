@@ -8,7 +8,7 @@ use Rattle.std.specs.Option.{option_map_or}
 use Rattle.mb_cells.specs.declared.answer.Finish.TheVariants as finish
 use Rattle.mb_cells.specs.declared.cursor.Cursor.TheVariants as cursor
 use Rattle.mb_cells.specs.{ActFits, Counter, Cursor, END, Entry, FinishMeets, HasWord, Head, History, HoldsWords, IsAfter, IsLaneAfter, IsLinkWord}
-use Rattle.mb_cells.specs.{IsPoolLawful, IsPoolWord, IsSound, IsWithin, IsLaneWord, Item, Lane, Link, OfferMeets, PoolAccess, PoolSize, PoolState}
+use Rattle.mb_cells.specs.{IsPoolLawful, IsPoolWord, PoolIsSound, IsWithin, IsLaneWord, Item, Lane, Link, OfferMeets, PoolAccess, PoolSize, PoolState}
 use Rattle.mb_cells.specs.{PoolWords, Producer, PushMeets, ReadsLast, Word, cell_count, fetch, finish_refusal, is_same_process, is_same_word}
 use Rattle.mb_cells.specs.{lane_after_finish, lane_after_offer, lane_after_push, lane_count, new_lane, next_link, offer_by_found, offer_refusal, part}
 use Rattle.mb_cells.specs.{pool_size, push_answer, push_store, size_of, store, stored_by, value_in, word_in, word_of, words_with}
@@ -177,14 +177,14 @@ offer_made s p x lane lt read going fits small h other was at =
     )
 
 -- a word of so many lanes and cells is a word of the pool that has them
-pub word_here : (s : PoolState) (w : Word) → IsSound s → IsLaneWord (size_of s) w → HasWord w s.words
+pub word_here : (s : PoolState) (w : Word) → PoolIsSound s → IsLaneWord (size_of s) w → HasWord w s.words
 word_here s Counter sound within = tt
 word_here s (Head p) sound within = omega (arith, sound.heads)
 word_here s (Link k) sound within = omega (arith, sound.links)
 word_here s (Item k) sound within = within
 
 -- the store of a push fits
-pub push_fits : (s : PoolState) (p : ℕ) (lane : Lane) (st : Word × ℕ) → p < lane_count s → IsSound s
+pub push_fits : (s : PoolState) (p : ℕ) (lane : Lane) (st : Word × ℕ) → p < lane_count s → PoolIsSound s
     → lane ≡ slice_index_or s.lanes p lane → push_store p lane ≡ Some st
     → IsLaneWord (size_of s) st.0 × (st.1 < 2 ^ 64)
 push_fits s p lane st lt sound read is =
@@ -196,7 +196,7 @@ push_fits s p lane st lt sound read is =
     )
 
 -- a push that makes a store
-pub push_made : (s : PoolState) (p : ℕ) (lane : Lane) (st : Word × ℕ) → p < lane_count s → IsSound s
+pub push_made : (s : PoolState) (p : ℕ) (lane : Lane) (st : Word × ℕ) → p < lane_count s → PoolIsSound s
     → lane ≡ slice_index_or s.lanes p lane → push_store p lane ≡ Some st
     → PushMeets s p (push_answer lane)
     (record { words = words_with st.0 st.1 s.words; lanes = slice_set s.lanes p (lane_after_push lane) })
@@ -214,7 +214,7 @@ push_made s p lane st lt sound read is h other was at =
     )
 
 -- a finish that stores the end mark
-pub finish_made : (s : PoolState) (p : ℕ) (lane : Lane) → p < lane_count s → IsSound s
+pub finish_made : (s : PoolState) (p : ℕ) (lane : Lane) → p < lane_count s → PoolIsSound s
     → lane ≡ slice_index_or s.lanes p lane → finish_refusal lane ≡ None
     → FinishMeets s p finish.Ended
     (record { words = words_with (next_link p lane) END s.words; lanes = slice_set s.lanes p (lane_after_finish lane) })
@@ -238,12 +238,13 @@ finish_made s p lane lt sound read going h other was at =
     )
 
 -- a cursor within the pool is at one of its words
-pub cursor_word : (s : PoolState) (at : Cursor) → IsSound s → IsWithin at s → HasWord (word_of at) s.words
+pub cursor_word : (s : PoolState) (at : Cursor) → PoolIsSound s → IsWithin at s → HasWord (word_of at) s.words
 cursor_word s (cursor.Head p) sound within = omega (arith, sound.heads)
 cursor_word s (cursor.Past k) sound within = omega (arith, sound.links)
 
 -- what a head or link leads to is a cell of the pool
-pub link_bound : (s : PoolState) (at : Cursor) (v : ℕ) → IsSound s → IsWithin at s → word_in (word_of at) s.words ≡ v
+pub link_bound : (s : PoolState) (at : Cursor) (v : ℕ) → PoolIsSound s → IsWithin at s
+    → word_in (word_of at) s.words ≡ v
     → v ≢ 0 → v ≢ END → v - 1 < cell_count s
 link_bound s at v sound within is some no_end =
     let h = sound.history.0 in
@@ -259,13 +260,13 @@ link_bound s at v sound within is some no_end =
     link_cursor (cursor.Head p) = tt
     link_cursor (cursor.Past k) = tt
 
-    word_told : (h : History) (s : PoolState) (at : Cursor) → IsSound s → IsAfter h s → IsWithin at s
+    word_told : (h : History) (s : PoolState) (at : Cursor) → PoolIsSound s → IsAfter h s → IsWithin at s
         → word_in (word_of at) s.words ≡ value_in (word_of at) h
     word_told h s (cursor.Head p) sound was within = was.words (Head p) within
     word_told h s (cursor.Past k) sound was within = was.words (Link k) within
 
 -- the counter of a pool is far below 2^64
-pub counter_small : (s : PoolState) → IsSound s → s.words.counter < 2 ^ 33
+pub counter_small : (s : PoolState) → PoolIsSound s → s.words.counter < 2 ^ 33
 counter_small s sound =
     let was = sound.history.1 in
     omega (
@@ -308,7 +309,15 @@ empty_after n m heads links items lanes few small hs ks is ls =
 -- a new pool is sound
 pub empty_sound : (n m : ℕ) (heads links items : List ℕ) (lanes : List Lane) → n < 2 ^ 32 → m < 2 ^ 32
     → heads ≡ replicate n 0 → links ≡ replicate m 0 → items ≡ replicate m 0 → lanes ≡ replicate n new_lane
-    → IsSound (record { words = record { counter = 0; heads = heads; links = links; items = items }; lanes = lanes })
+    → PoolIsSound (record {
+      words = record {
+        counter = 0;
+        heads = heads;
+        links = links;
+        items = items;
+      };
+      lanes = lanes;
+    })
 empty_sound n m heads links items lanes few small hs ks is ls =
     let len : length lanes ≡ n = ap length ls ∙ length-replicate n new_lane in
     let wide : length items ≡ m = ap length is ∙ length-replicate m 0 in
@@ -321,9 +330,9 @@ empty_sound n m heads links items lanes few small hs ks is ls =
     }
 
 -- a pool is sound after a store and a new place of one lane, where some history leaves it
-pub sound_after : (s : PoolState) (w : Word) (v p : ℕ) (lane : Lane) → IsSound s
+pub sound_after : (s : PoolState) (w : Word) (v p : ℕ) (lane : Lane) → PoolIsSound s
     → (h : History) × IsAfter h (record { words = words_with w v s.words; lanes = slice_set s.lanes p lane })
-    → IsSound (record { words = words_with w v s.words; lanes = slice_set s.lanes p lane })
+    → PoolIsSound (record { words = words_with w v s.words; lanes = slice_set s.lanes p lane })
 sound_after s w v p lane sound history =
     let n : length (slice_set s.lanes p lane) ≡ lane_count s = length-set s.lanes p lane in
     record {

@@ -4,7 +4,7 @@ use Rattle.std.proofs.Common.{⊎_elim, ◌++◌, ◌+◌, ◌<◌, ◌∙◌, �
 use Rattle.std.specs.Prelude.{map, nat_eq}
 use Rattle.std.proofs.lemmas.Bool.{cases_eq, cond_both, false≢true}
 use Rattle.std.proofs.lemmas.List.{length-map, length-reverse}
-use Rattle.mb_cells.specs.{AllLinked, END, Entry, FetchAdd, Has, History, IsAt, IsLaneAfter, IsOnceEach, IsPoolLawful, Item, Lane, Phase, PoolAccess}
+use Rattle.mb_cells.specs.{AllLinked, END, Entry, FetchAdd, Has, History, LaneIsAt, IsLaneAfter, IsOnceEach, IsPoolLawful, Item, Lane, Phase, PoolAccess}
 use Rattle.mb_cells.specs.{PoolSize, Producer, Store, WasHandedOut, Word, entry_at, fetch, groups, items_put, linked_cells, next_link, part, part_at}
 use Rattle.mb_cells.specs.{place_after, push_store, put_list, stage_of, stage_push_store, store, stored_by}
 use Rattle.mb_cells.specs.Place.{Ended, Full, Offered, Open, Stored}
@@ -209,7 +209,7 @@ in_groups p (x ∷ es) e (inr (inr (inl is))) = inl (cell_is p x e is)
 in_groups p (x ∷ es) e (inr (inr (inr has))) = inr (in_groups p es e has)
 
 in_part : (cells p : ℕ) (es : List Entry) (phase : Phase) (lane : Lane) (done : History) (e : Entry)
-    → IsAt cells p es phase done → lane.stage ≡ stage_of phase → push_store p lane ≡ None
+    → LaneIsAt cells p es phase done → lane.stage ≡ stage_of phase → push_store p lane ≡ None
     → Has done (fetch p e) → e.cell < cells → Has (cells_of es) e.cell
 in_part cells p es phase lane done e at stage idle has low =
     by phase at (ap (stage_push_store (next_link p lane)) (sym stage) ∙ idle) (subst (λ d. Has d (fetch p e)) at.is has)
@@ -217,7 +217,7 @@ in_part cells p es phase lane done e at stage idle has low =
     past : (x : Entry) → cells ≤ x.cell → fetch p x ≡ fetch p e → ⊥
     past x high is = let same = cell_is p x e is in omega arith
 
-    by : (phase : Phase) → IsAt cells p es phase done → stage_push_store (next_link p lane) (stage_of phase) ≡ None
+    by : (phase : Phase) → LaneIsAt cells p es phase done → stage_push_store (next_link p lane) (stage_of phase) ≡ None
         → Has (part_at p es phase) (fetch p e) → Has (cells_of es) e.cell
     by Open a idle has = in_groups p es e has
     by (Offered x) a idle has = absurd (cc)

@@ -7,8 +7,8 @@ use Rattle.mb_cells.specs.Lawful.{IsPoolLawful}
 use Rattle.mb_cells.specs.Standing.{IsPoolWord}
 
 -- how many words a pool has
-abbrev pub words_of : PoolSize → ℕ
-words_of size = 1 + size.lanes + size.cells + size.cells
+abbrev pub pool_words : PoolSize → ℕ
+pool_words size = 1 + size.lanes + size.cells + size.cells
 
 -- where a word lies: the counter first, then the heads, the links and the items
 abbrev pub address_of : PoolSize → Word → ℕ
@@ -17,10 +17,10 @@ address_of size (Head p) = 1 + p
 address_of size (Link k) = 1 + size.lanes + k
 address_of size (Item k) = 1 + size.lanes + size.cells + k
 
--- the words at their addresses are those that a lawful history leaves; other words may follow
+-- the words at their addresses are those that a lawful history leaves. Other words may follow
 pub record IsMemoryOf (size : PoolSize) (words : List ℕ) (h : History) : Type 0 where
   pub lawful : IsPoolLawful size h
-  pub room : words_of size ≤ length words
+  pub room : pool_words size ≤ length words
   pub left : (w : Word) → IsPoolWord size w → slice_index words (address_of size w) ≡ value_in w h
 
 -- and each process has done its part of that history
@@ -29,7 +29,7 @@ pub record IsStateOf (size : PoolSize) (words : List ℕ) (parts : Process → H
   pub memory : IsMemoryOf size words h
   pub same : (who : Process) → parts who ≡ part who h
 
--- the block after an access: what it stores stands at its address
+-- the block after an access: what the access stores is at its address
 abbrev pub block_after : PoolSize → PoolAccess → List ℕ → List ℕ
 block_after size a words =
     slice_set words (address_of size a.word)

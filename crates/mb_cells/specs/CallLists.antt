@@ -20,25 +20,25 @@ pub data Call : Type 0 where
   Pushed : ℕ → Push → Call
   Finished : ℕ → Finish → Call
 
--- the call leads from one state to the next, as the clauses `meets` and `size` of its contract say
+-- the call leads from one state to the next. This is what the clauses `meets` and `size` of its contract say
 abbrev pub Leads : PoolState → Call → PoolState → Type 0
 Leads old (Offered p x r) new = (p < lane_count old) × OfferMeets old p x r new × SameSize old new
 Leads old (Pushed p r) new = (p < lane_count old) × PushMeets old p r new × SameSize old new
 Leads old (Finished p r) new = (p < lane_count old) × FinishMeets old p r new × SameSize old new
 
--- a new pool of this size is in this state after these calls, each of a lane that it has
+-- a new pool of this size is in this state after these calls, each on a lane that it has
 abbrev pub HasMade : PoolSize → List Call → PoolState → Type 0
 HasMade size [] s = (lane_count s ≡ size.lanes) × (cell_count s ≡ size.cells) × IsAfter [] s
 HasMade size (c ∷ older) s = (was : PoolState) × (HasMade size older was × Leads was c s)
 
--- the item that an offer's answer gives to cell k, if it was y before
+-- the item of cell k after an offer with this answer, if it was y before
 abbrev pub item_by_offer : ℕ → ℕ → Offer → ℕ → ℕ
 item_by_offer k x (offer.Cell n) y = if nat_eq n k then x else y
 item_by_offer k x offer.Full y = y
 item_by_offer k x offer.Busy y = y
 item_by_offer k x offer.Closed y = y
 
--- the item of the offer that was answered cell k
+-- the item of the offer that returned cell k
 abbrev pub item_by : ℕ → List Call → ℕ
 item_by k [] = 0
 item_by k (Offered p x r ∷ older) = item_by_offer k x r (item_by k older)
@@ -71,7 +71,7 @@ is_end finish.Ended = true
 is_end finish.Busy = false
 is_end finish.Closed = false
 
--- whether a finish of lane p answered Ended
+-- whether a finish of lane p returned Ended
 abbrev pub has_ended_by : ℕ → List Call → Bool
 has_ended_by p [] = false
 has_ended_by p (Offered q x r ∷ older) = has_ended_by p older
@@ -79,30 +79,30 @@ has_ended_by p (Pushed q r ∷ older) = has_ended_by p older
 has_ended_by p (Finished q r ∷ older) =
     if nat_eq p q then is_end r || has_ended_by p older else has_ended_by p older
 
--- what stands behind the last cell of lane p
+-- what comes after the last cell of lane p
 abbrev pub lane_end_by : ℕ → List Call → Look
 lane_end_by p calls = if has_ended_by p calls then look.Ended else look.Nothing
 
--- what an offer of x with this answer makes of a stage
+-- the stage after an offer of x with this answer
 abbrev pub stage_by_offer : ℕ → Offer → LaneStage → LaneStage
 stage_by_offer x (offer.Cell n) was = stage.Offered n x
 stage_by_offer x offer.Full was = stage.Full
 stage_by_offer x offer.Busy was = was
 stage_by_offer x offer.Closed was = was
 
--- what a push with this answer makes of a stage
+-- the stage after a push with this answer
 abbrev pub stage_by_push : Push → LaneStage → LaneStage
 stage_by_push (push.Item k) was = stage.Stored k
 stage_by_push (push.Link k) was = stage.Open
 stage_by_push push.Idle was = was
 
--- what a finish with this answer makes of a stage
+-- the stage after a finish with this answer
 abbrev pub stage_by_finish : Finish → LaneStage → LaneStage
 stage_by_finish finish.Ended was = stage.Ended (is_full was)
 stage_by_finish finish.Busy was = was
 stage_by_finish finish.Closed was = was
 
--- what the calls on lane p came to since its last link: the last answer that was no refusal says it
+-- the stage of lane p after these calls: the last answer that was no refusal says it
 abbrev pub stage_by : ℕ → List Call → LaneStage
 stage_by p [] = stage.Open
 stage_by p (Offered q x r ∷ older) =
@@ -119,7 +119,7 @@ fetch_adds_by_offer offer.Full was = if is_full was then 0 else 1
 fetch_adds_by_offer offer.Busy was = 0
 fetch_adds_by_offer offer.Closed was = 0
 
--- how many offers made a fetch-add: those answered with a cell, and the first Full of each lane
+-- how many offers made a fetch-add: those that returned a cell, and the first Full of each lane
 abbrev pub fetch_adds_by : List Call → ℕ
 fetch_adds_by [] = 0
 fetch_adds_by (Offered p x r ∷ older) =
@@ -127,14 +127,14 @@ fetch_adds_by (Offered p x r ∷ older) =
 fetch_adds_by (Pushed p r ∷ older) = fetch_adds_by older
 fetch_adds_by (Finished p r ∷ older) = fetch_adds_by older
 
--- an offer was answered cell k
+-- an offer returned cell k
 abbrev pub WasGivenBy : ℕ → List Call → Type 0
 WasGivenBy k [] = ⊥
 WasGivenBy k (Offered p x r ∷ older) = (r ≡ offer.Cell k) ⊎ WasGivenBy k older
 WasGivenBy k (Pushed p r ∷ older) = WasGivenBy k older
 WasGivenBy k (Finished p r ∷ older) = WasGivenBy k older
 
--- the answer of a call is the one that the calls before it ask for
+-- the answer of a call is the one that follows from the calls before it
 abbrev pub IsAnswerBy : ℕ → Call → List Call → Type 0
 IsAnswerBy cells (Offered p x r) older =
     r ≡ unwrap_or (stage_offer_refusal (stage_by p older))

@@ -36,14 +36,14 @@ OfferKeeps old p new =
     → IsLaneAfter (cell_count old) p lane (part (Producer p) h)
     → IsSome (offer_refusal lane) → new ≡ old
 
--- and so does a finish that is refused
+-- nor does a finish that is refused
 abbrev pub FinishKeeps : PoolState → ℕ → PoolState → Type 0
 FinishKeeps old p new =
     (h : History) (lane : Lane) → IsAfter h old
     → IsLaneAfter (cell_count old) p lane (part (Producer p) h)
     → IsSome (finish_refusal lane) → new ≡ old
 
--- a load of the word by any reader that may load it leaves the pool as it is
+-- a load of the word by a reader that may load it leaves the pool as it is
 abbrev pub LoadGoesOn : Word → PoolState → Type 0
 LoadGoesOn w s =
     (h : History) (r : ℕ) → IsAfter h s → MayRead (lane_count s) w (part (Reader r) h)

@@ -20,7 +20,7 @@ eight = record { cell = 0; value = 8 }
 abbrev pub nine : Entry
 nine = record { cell = 1; value = 9 }
 
--- an item that is no word of 64 bits
+-- an item of more than 64 bits
 abbrev pub too_wide : Entry
 too_wide = record { cell = 0; value = 2 ^ 64 }
 
@@ -77,6 +77,6 @@ no_cell counter at = record {
   lanes = record { last = None; stage = at } ∷ [];
 }
 
--- its offer was answered Full
+-- its offer returned Full
 abbrev pub full_pool : PoolState
 full_pool = no_cell 1 stage.Full

@@ -48,7 +48,7 @@ abbrev pub FindsNoCell : ℕ → Option Entry → Type 0
 FindsNoCell cells None = Unit {0}
 FindsNoCell cells (Some e) = cells ≤ e.cell
 
--- a whole path of producer p, in a pool of so many cells
+-- a whole path of producer p, in a pool of `cells` cells
 pub record IsLanePath (cells p : ℕ) (path : History) : Type 0 where
   pub entries : List Entry
   pub refused : Option Entry

@@ -12,7 +12,7 @@ link_of (Head _) (Store v) = if nat_eq v END then None else Some (v - 1)
 link_of (Link _) (Store v) = if nat_eq v END then None else Some (v - 1)
 link_of _ _ = None
 
--- the list with the cell put in front, where there is one
+-- the list, with the cell in front if there is one
 abbrev pub push_if : Option ℕ → List ℕ → List ℕ
 push_if None ks = ks
 push_if (Some k) ks = k ∷ ks
@@ -24,8 +24,7 @@ linked_cells p (a ∷ older) =
     if is_same_process (Producer p) a.process
     then push_if (link_of a.word a.act) (linked_cells p older) else linked_cells p older
 
--- the item of cell k after an act on the counter, if it was x: a fetch-add that gives k brings
--- its item
+-- the item of cell k after an act on the counter, if it was x before: a fetch-add that gives k has the item
 abbrev pub item_after : ℕ → PoolAct → ℕ → ℕ
 item_after k (FetchAdd y n) x = if nat_eq n k then y else x
 item_after k _ x = x
@@ -61,7 +60,7 @@ has_ended p (a ∷ older) =
     if is_same_process (Producer p) a.process then marks_end a.word a.act || has_ended p older
     else has_ended p older
 
--- what a reader finds behind the last cell of lane p
+-- what a reader finds after the last cell of lane p
 abbrev pub lane_end : ℕ → History → Look
 lane_end p h = if has_ended p h then look.Ended else look.Nothing
 

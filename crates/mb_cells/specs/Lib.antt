@@ -16,5 +16,5 @@ pub mod Calls
 pub mod CallLists
 pub mod Examples
 pub mod Vocabulary
--- the words of clauses, behind one door
+-- the names that clauses use, also for the crates above
 pub use Vocabulary.*

@@ -39,7 +39,7 @@ stored_by (Load _) = None
 stored_by (Store v) = Some v
 stored_by (FetchAdd _ n) = Some (n + 1)
 
--- what a history leaves in a word: the value that was last stored there, or 0 where none was
+-- what a history leaves in a word: the value that was last stored there, or 0 if none was
 abbrev pub value_in : Word → History → ℕ
 value_in w [] = 0
 value_in w (a ∷ older) =

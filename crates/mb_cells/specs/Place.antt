@@ -17,8 +17,7 @@ pub data Phase : Type 0 where
   -- a store of the end mark, perhaps after a fetch-add that gave no cell
   Ended : Option Entry → Phase
 
--- all that producer p has done, where it has linked these entries (the last first) and stands in
--- this phase
+-- all that producer p has done, if it has linked these entries (the last first) and stands in this phase
 abbrev pub part_at : ℕ → List Entry → Phase → History
 part_at p es Open = groups p es
 part_at p es (Offered e) = fetch p e ∷ groups p es
@@ -26,7 +25,7 @@ part_at p es (Stored e) = store p (Item e.cell) e.value ∷ fetch p e ∷ groups
 part_at p es (Full e) = fetch p e ∷ groups p es
 part_at p es (Ended r) = store p (place_after p es) END ∷ refusal p r (groups p es)
 
--- the number that the last fetch-add gave is that of a cell, or past the cells, as the phase has it
+-- the number that the last fetch-add gave is a cell's, or lies past the cells, as the phase says
 abbrev pub PhaseFits : ℕ → Phase → Type 0
 PhaseFits cells Open = Unit {0}
 PhaseFits cells (Offered e) = e.cell < cells
@@ -35,7 +34,7 @@ PhaseFits cells (Full e) = cells ≤ e.cell
 PhaseFits cells (Ended r) = FindsNoCell cells r
 
 -- what producer p has done puts it at this place
-pub record IsAt (cells p : ℕ) (es : List Entry) (phase : Phase) (done : History) : Type 0 where
+pub record LaneIsAt (cells p : ℕ) (es : List Entry) (phase : Phase) (done : History) : Type 0 where
   pub below : AllCellsBelow cells es
   pub fits : PhaseFits cells phase
   pub is : done ≡ part_at p es phase

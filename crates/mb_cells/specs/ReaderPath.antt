@@ -3,7 +3,7 @@ use Rattle.std.specs.Prelude.{[], ℕ, ◌+◌, ◌<◌, ◌∷◌, ◌≡◌, �
 use Rattle.mb_cells.specs.Types.{Counter, END, Head, Item, Link, Load, PoolAct, Word}
 use Rattle.mb_cells.specs.Memory.{History}
 
--- the act is a load of a head or link that gives cell k; the end mark gives none
+-- the act is a load of a head or link that gives cell k. The end mark gives no cell
 abbrev pub IsGift : ℕ → Word → PoolAct → Type 0
 IsGift k (Head _) (Load v) = (v ≡ k + 1) × (v ≢ END)
 IsGift k (Link _) (Load v) = (v ≡ k + 1) × (v ≢ END)
@@ -19,7 +19,7 @@ abbrev pub IsLoad : PoolAct → Type 0
 IsLoad (Load _) = Unit {0}
 IsLoad _ = ⊥
 
--- a head may be loaded at any time, a link or an item once the reader's own loads gave its cell
+-- a head may be loaded at any time. A link or an item may be loaded once the reader's own loads gave its cell
 abbrev pub MayRead : ℕ → Word → History → Type 0
 MayRead lanes Counter older = ⊥
 MayRead lanes (Head p) older = p < lanes

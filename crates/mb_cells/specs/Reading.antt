@@ -1,4 +1,4 @@
--- What a reader finds behind a cursor, and along a lane.
+-- What a reader finds after a cursor, and along a lane.
 use Rattle.std.specs.Prelude.{List, [], if◌then◌else◌, nat_eq, ℕ, ◌-◌, ◌∷◌, ◌≡◌}
 use Rattle.mb_cells.specs.declared.answer.Look.TheVariants as look
 use Rattle.mb_cells.specs.declared.access.Word.TheVariants as word
@@ -7,17 +7,17 @@ use Rattle.mb_cells.specs.Types.{Cursor, END, Look, Word}
 use Rattle.mb_cells.specs.Memory.{History, value_in}
 use Rattle.mb_cells.specs.LanePath.{Entry}
 
--- the word that tells what stands behind a cursor
+-- the word that says what comes after a cursor
 abbrev pub word_of : Cursor → Word
 word_of (cursor.Head p) = word.Head p
 word_of (cursor.Past k) = word.Link k
 
--- what the value of a head or link tells
+-- what the value of a head or link says
 abbrev pub look_of : ℕ → Look
 look_of v = if nat_eq v 0 then look.Nothing else if nat_eq v END then look.Ended
     else look.Cell (v - 1)
 
--- what a look tells after a history
+-- the answer of a look after a history
 abbrev pub look_after : Cursor → History → Look
 look_after at h = look_of (value_in (word_of at) h)
 

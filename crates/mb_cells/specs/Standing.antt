@@ -1,4 +1,4 @@
--- A producer's place as a plain value: what each call answers there, and what follows.
+-- A producer's place as a plain value: what each call returns there, and what follows.
 use Rattle.std.specs.Prelude.{Bool, List, None, Option, Some, [], false, if◌then◌else◌, is_some, nat_lt, true, unwrap_or, ℕ, ◌+◌, ◌<◌, ◌∷◌, ◌≡◌}
 use Rattle.std.specs.Option.{option_map_or}
 use Rattle.mb_cells.specs.declared.lane.LaneStage.TheVariants as stage
@@ -10,14 +10,14 @@ use Rattle.mb_cells.specs.Types.{Counter, END, Finish, Head, Item, Lane, LaneSta
 use Rattle.mb_cells.specs.Size.{PoolSize}
 use Rattle.mb_cells.specs.Memory.{History}
 use Rattle.mb_cells.specs.LanePath.{Entry, fetch, store}
-use Rattle.mb_cells.specs.Place.{IsAt, Phase}
+use Rattle.mb_cells.specs.Place.{LaneIsAt, Phase}
 
 -- the cell that was linked last
 abbrev pub last_of : List Entry → Option ℕ
 last_of [] = None
 last_of (e ∷ _) = Some e.cell
 
--- what the phase comes to, as far as the producer has to know it
+-- as much of the phase as the producer has to know
 abbrev pub stage_of : Phase → LaneStage
 stage_of phase.Open = stage.Open
 stage_of (phase.Offered e) = stage.Offered e.cell e.value
@@ -30,7 +30,7 @@ stage_of (phase.Ended (Some e)) = stage.Ended true
 pub record IsLaneAfter (cells p : ℕ) (lane : Lane) (done : History) : Type 0 where
   pub entries : List Entry
   pub phase : Phase
-  pub at : IsAt cells p entries phase done
+  pub at : LaneIsAt cells p entries phase done
   pub last : lane.last ≡ last_of entries
   pub stage : lane.stage ≡ stage_of phase
 
@@ -55,7 +55,7 @@ offer_refusal lane = stage_offer_refusal lane.stage
 abbrev pub offer_by_found : ℕ → ℕ → Offer
 offer_by_found cells n = if nat_lt n cells then offer.Cell n else offer.Full
 
--- the answer of an offer, where the counter holds n
+-- the answer of an offer, if the counter holds n
 abbrev pub offer_answer : ℕ → ℕ → Lane → Offer
 offer_answer cells n lane = unwrap_or (offer_refusal lane) (offer_by_found cells n)
 

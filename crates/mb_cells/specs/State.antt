@@ -57,7 +57,7 @@ words_with (Item k) v ws = record ws { items = slice_set ws.items k v }
 abbrev pub HoldsWords : PoolSize → PoolWords → History → Type 0
 HoldsWords size ws h = (w : Word) → IsPoolWord size w → word_in w ws ≡ value_in w h
 
--- the lawful history leaves the pool in this state
+-- the history is lawful and leaves the pool in this state
 pub record IsAfter (h : History) (s : PoolState) : Type 0 where
   pub lawful : IsPoolLawful (size_of s) h
   pub words : HoldsWords (size_of s) s.words h
@@ -65,8 +65,8 @@ pub record IsAfter (h : History) (s : PoolState) : Type 0 where
   pub lanes : (p : ℕ) (lane : Lane) → p < lane_count s →
       IsLaneAfter (cell_count s) p (slice_index_or s.lanes p lane) (part (Producer p) h)
 
--- what every pool keeps: some lawful history leaves it
-pub record IsSound (s : PoolState) : Type 0 where
+-- the invariant of a pool: some lawful history leaves it
+pub record PoolIsSound (s : PoolState) : Type 0 where
   pub heads : length s.words.heads ≡ lane_count s
   pub links : length s.words.links ≡ cell_count s
   pub lanes : lane_count s < 2 ^ 32
@@ -88,10 +88,10 @@ abbrev pub IsWithin : Cursor → PoolState → Type 0
 IsWithin (cursor.Head p) s = p < lane_count s
 IsWithin (cursor.Past k) s = k < cell_count s
 
--- what a look shows
+-- the answer of a look
 abbrev pub look_in : Cursor → PoolState → Look
 look_in at s = look_of (word_in (word_of at) s.words)
 
--- what the item of a cell shows
+-- the item of a cell
 abbrev pub item_in : ℕ → PoolState → ℕ
 item_in k s = slice_index s.words.items k

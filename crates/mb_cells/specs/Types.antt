@@ -1,5 +1,5 @@
--- The types of the crate and their variants, by one name each. Variants that share a name stand in
--- modules of their own: those of `Offer`, `Push`, `Finish`, `Look`, `Cursor` and `LaneStage`.
+-- The types of the crate and their variants, each under one name. Variants of `Offer`, `Push`, `Finish`, `Look`,
+-- `Cursor` and `LaneStage` share names, so they are in modules of their own.
 pub use Rattle.mb_cells.specs.declared.access.PoolAccess.{PoolAccess}
 pub use Rattle.mb_cells.specs.declared.access.PoolAct.{PoolAct}
 pub use Rattle.mb_cells.specs.declared.access.PoolAct.TheVariants.{FetchAdd, Load, Store}

@@ -32,7 +32,7 @@ pub enum PoolAct {
     Load(u64),
     /// This value was stored in the word.
     Store(u64),
-    /// One was added to the counter, for an item that is offered.
+    /// One was added to the counter, for an offered item.
     FetchAdd {
         /// The item offered.
         item: u64,
@@ -46,7 +46,7 @@ pub enum PoolAct {
 pub struct PoolAccess {
     /// Who makes it.
     pub process: Process,
-    /// Which word it is of.
+    /// Which word it goes to.
     pub word: Word,
     /// What it does, and what it finds.
     pub act: PoolAct,

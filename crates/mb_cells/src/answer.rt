@@ -1,7 +1,7 @@
-//! What the calls of a pool answer.
+//! What the calls of a pool return.
 use std::alloc::AllocError;
 
-/// Want of memory: a growth was refused.
+/// Memory ran out.
 pub type NoMemory = AllocError;
 
 /// The answer of an offer.
@@ -39,7 +39,7 @@ pub enum Finish {
     Closed,
 }
 
-/// The answer of a look: what stands behind a cursor.
+/// The answer of a look: what comes after a cursor.
 #[derive(Clone, Copy, PartialEq, Eq, Debug)]
 pub enum Look {
     /// Nothing yet.

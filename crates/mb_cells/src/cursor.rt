@@ -1,4 +1,4 @@
-//! Where a reader stands.
+//! Cursors, by which a reader goes along a lane.
 ghost use Rattle.std.specs.Prelude.{◌≡◌};
 ghost use Rattle.mb_cells.specs.declared.cursor.Cursor.TheVariants.{Head, Past};
 ghost use Rattle.mb_cells.specs.{word_of};
@@ -29,7 +29,7 @@ impl Cursor {
         Cursor::Past(k)
     }
 
-    /// The word that tells what stands behind the cursor.
+    /// The word that says what comes after the cursor.
     pub fn word(self) -> Word
         ensures { result ≡ word_of self }
     {

@@ -1,15 +1,15 @@
 //! The definitions by example: what is lawful, and what only looks so. The functions compute nothing: their contracts
-//! are the examples. Their proofs stand in `proofs/examples/`.
+//! are the examples. Their proofs are in `proofs/examples/`.
 ghost use Rattle.std.specs.Prelude.{◌≡◌, ◌-◌, ◌^◌, true, false, Some, None, [], ◌∷◌};
 ghost use Rattle.mb_cells.specs.{Counter, END, FinishKeeps, FinishMeets, Finished, HasMade, HasMet, HasWord, Head};
 ghost use Rattle.mb_cells.specs.{IsAfter, IsLaneAfter, IsLanePrefix, IsMemoryOf, IsMemoryTrue, IsPoolLawful};
-ghost use Rattle.mb_cells.specs.{IsReaderPath, IsShownAlike, IsSound, IsWithin, IsLaneWord, Item, Lane, Link};
+ghost use Rattle.mb_cells.specs.{IsReaderPath, IsShownAlike, PoolIsSound, IsWithin, IsLaneWord, Item, Lane, Link};
 ghost use Rattle.mb_cells.specs.{OfferKeeps, OfferMeets, Offered, PoolState, PushMeets, Pushed, SameSize};
 ghost use Rattle.mb_cells.specs.{WasGivenBy, eight, ended_pool, fetch, fetch_adds_by, full_pool, has_ended};
 ghost use Rattle.mb_cells.specs.{has_ended_by, item_in, load, look_in, new_lane, new_pool, nine, no_cell, one_cell};
 ghost use Rattle.mb_cells.specs.{one_ended, one_offered, one_put, one_read, one_taken, part_on, pool_size};
 ghost use Rattle.mb_cells.specs.{put_list, put_list_by, put_pool, store, taken_pool, too_wide};
-ghost use Rattle.mb_cells.specs.{IsStateOf, Producer, Reader, address_of, block_after, part, parts_after, words_of};
+ghost use Rattle.mb_cells.specs.{IsStateOf, Producer, Reader, address_of, block_after, part, parts_after, pool_words};
 ghost use Rattle.mb_cells.specs.declared.answer.Offer.TheVariants as offer;
 ghost use Rattle.mb_cells.specs.declared.answer.Push.TheVariants as push;
 ghost use Rattle.mb_cells.specs.declared.answer.Finish.TheVariants as finish;
@@ -25,7 +25,7 @@ pub fn one_item_is_put_and_read()
     ensures met { HasMet 5 0 (0 ∷ []) one_read }
 {}
 
-/// Memory gives nothing that was not stored, and each number of the counter once.
+/// A load gives only what was stored, and the counter gives each number once.
 pub fn memory_makes_nothing_up()
     ensures no_store { IsMemoryTrue (load 5 (Head 0) 1 ∷ one_taken) → ⊥ }
     ensures old_value { IsMemoryTrue (load 5 (Head 0) 0 ∷ one_put) → ⊥ }
@@ -33,7 +33,7 @@ pub fn memory_makes_nothing_up()
     ensures next_number { IsMemoryTrue (fetch 1 nine ∷ one_taken) }
 {}
 
-/// A producer that goes wrong has left its lane path.
+/// The part of a producer that goes wrong is no prefix of a lane path.
 pub fn producers_keep_their_order()
     ensures link_before_item { IsLanePrefix 1 0 (store 0 (Head 0) 1 ∷ one_taken) → ⊥ }
     ensures other_item { IsLanePrefix 1 0 (store 0 (Item 0) 9 ∷ one_taken) → ⊥ }
@@ -52,13 +52,14 @@ pub fn readers_go_where_they_are_led()
     ensures nothing_met { HasMet 5 0 (0 ∷ []) (load 5 (Head 0) 0 ∷ []) → ⊥ }
 {}
 
-/// A lawful history names no lane that the pool has not, and no value that is no word.
+/// A lawful history has only lanes of the pool, and only values of 64 bits.
 pub fn histories_stay_in_range()
     ensures no_lane { IsPoolLawful (pool_size 1 1) (fetch 1 eight ∷ []) → ⊥ }
     ensures no_word { IsPoolLawful (pool_size 1 1) (fetch 0 too_wide ∷ []) → ⊥ }
 {}
 
-/// What a reader loaded falls to the lane of the head, or of the cell once it is linked there.
+/// A reader's load of a head belongs to that lane. Its load of a cell's word belongs to the lane in which the cell is
+/// linked.
 pub fn loads_fall_to_lanes()
     ensures own { part_on 5 0 one_read
         ≡ load 5 (Link 0) END ∷ load 5 (Item 0) 8 ∷ load 5 (Head 0) 1 ∷ load 5 (Head 0) 0 ∷ [] }
@@ -68,7 +69,7 @@ pub fn loads_fall_to_lanes()
     ensures not_linked { part_on 5 0 (load 5 (Item 0) 0 ∷ one_taken) ≡ [] }
 {}
 
-/// A producer stands at one place: what it linked last, and what it has done since.
+/// A producer is at one place: what it linked last, and what it has done since.
 pub fn producers_stand_at_one_place()
     ensures taken { IsLaneAfter 1 0 (record { last = None; stage = stage.Offered 0 8 }) one_taken }
     ensures linked { IsLaneAfter 1 0 (record { last = Some 0; stage = stage.Open }) one_put }
@@ -79,7 +80,7 @@ pub fn producers_stand_at_one_place()
     ensures nowhere { (lane : Lane) → IsLaneAfter 1 0 lane (store 0 (Head 0) 1 ∷ []) → ⊥ }
 {}
 
-/// A history leaves its values in the words and its producers at their places, and a reader is shown that.
+/// A history leaves its values in the words and its producers at their places. A reader sees that.
 pub fn pools_hold_what_was_done()
     ensures put { IsAfter one_put put_pool }
     ensures cell { look_in (cursor.Head 0) put_pool ≡ look.Cell 0 }
@@ -88,11 +89,11 @@ pub fn pools_hold_what_was_done()
     ensures head { IsAfter one_put (one_cell 1 0 0 8 (Some 0) stage.Open) → ⊥ }
     ensures place { IsAfter one_put (one_cell 1 1 0 8 None stage.Open) → ⊥ }
     ensures unlawful { (s : PoolState) → IsAfter (fetch 1 eight ∷ one_taken) s → ⊥ }
-    ensures sound { IsSound put_pool }
-    ensures unsound { IsSound (one_cell 3 0 0 0 None stage.Open) → ⊥ }
+    ensures sound { PoolIsSound put_pool }
+    ensures unsound { PoolIsSound (one_cell 3 0 0 0 None stage.Open) → ⊥ }
 {}
 
-/// A pool has the words and cursors of its lanes and cells. An offer shows a reader nothing new.
+/// A pool has the words and cursors of its lanes and cells. A reader sees nothing of an offer.
 pub fn pools_have_bounds()
     ensures past { IsWithin (cursor.Past 1) put_pool → ⊥ }
     ensures word { HasWord (Head 1) put_pool.words → ⊥ }
@@ -114,7 +115,7 @@ pub fn words_lie_in_one_block()
 /// Each word of a pool has its address in the block, and an access changes the word at its own.
 pub fn words_have_addresses()
     ensures size { (pool_size 2 3).cells ≡ 3 }
-    ensures count { words_of (pool_size 2 3) ≡ 9 }
+    ensures count { pool_words (pool_size 2 3) ≡ 9 }
     ensures counter { address_of (pool_size 2 3) Counter ≡ 0 }
     ensures last_head { address_of (pool_size 2 3) (Head 1) ≡ 2 }
     ensures first_link { address_of (pool_size 2 3) (Link 0) ≡ 3 }
@@ -127,7 +128,7 @@ pub fn words_have_addresses()
         ≡ 1 ∷ 1 ∷ 0 ∷ 8 ∷ [] }
 {}
 
-/// With the words go the parts of all processes: each has done its own part of the history, and nothing else.
+/// Beside the words stand the parts of all processes: each has done its own part of the history, and nothing else.
 pub fn words_stand_beside_parts()
     ensures put { IsStateOf (pool_size 1 1) (1 ∷ 1 ∷ 0 ∷ 8 ∷ [])
         (λ who. part who one_put) one_put }
@@ -138,7 +139,7 @@ pub fn words_stand_beside_parts()
     ensures other { parts_after (fetch 0 eight) (λ who. []) (Reader 0) ≡ [] }
 {}
 
-/// Each call is its access, by its answer and by what it leaves.
+/// The answer of a call, and the pool that it leaves, are those of its access.
 pub fn calls_make_their_access()
     ensures offered { OfferMeets new_pool 0 8 (offer.Cell 0) taken_pool }
     ensures always_full { OfferMeets new_pool 0 8 offer.Full new_pool → ⊥ }
@@ -157,7 +158,7 @@ pub fn full_raises_the_counter_once()
     ensures later { OfferKeeps full_pool 0 (no_cell 2 stage.Full) → ⊥ }
     ensures counted { fetch_adds_by (Offered 0 9 offer.Full ∷ Offered 0 8 offer.Full ∷ []) ≡ 1 }
 
-    // In a pool of one cell, the first after an offer that got it.
+    // In a pool of one cell, the first Full comes after an offer that got the cell.
     ensures second { fetch_adds_by (Offered 1 2 offer.Full ∷ Offered 0 1 (offer.Cell 0) ∷ []) ≡ 2 }
     ensures third { fetch_adds_by
         (Offered 1 3 offer.Full ∷ Offered 1 2 offer.Full ∷ Offered 0 1 (offer.Cell 0) ∷ []) ≡ 2 }
@@ -174,7 +175,7 @@ pub fn calls_put_one_item()
     ensures open { has_ended_by 0 (Finished 0 finish.Busy ∷ one_offered) ≡ false }
 {}
 
-/// No calls of a pool have other answers, and they leave no other pool.
+/// Calls of a pool have no other answers, and leave no other pool.
 pub fn pools_answer_nothing_else()
     ensures always_full { (s : PoolState)
         → HasMade (pool_size 1 1) (Offered 0 8 offer.Full ∷ []) s → ⊥ }

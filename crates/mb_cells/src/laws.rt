@@ -1,6 +1,6 @@
 //! Laws over the lawful histories of a pool, and over lists of its calls. The functions compute nothing: their
-//! contracts are the laws. A law that is not proved by its contract alone has its proof in `proofs/laws`, in a folder of
-//! its name, over the lemmas of `proofs`.
+//! contracts are the laws. If the prover needs help with a law, its proof is in `proofs/laws`, in a folder of its name.
+//! It uses the lemmas of `proofs`.
 ghost use Rattle.std.specs.Prelude.{◌≡◌, ◌≢◌, ◌↔◌, ◌+◌, ◌-◌, ◌<◌, ◌≤◌, ◌⊎◌, ◌∷◌, ◌++◌, ◌^◌, ℕ, List, [], Bool, true};
 ghost use Rattle.std.specs.Prelude.{filter, if◌then◌else◌, length, None, Some, false};
 ghost use Rattle.mb_cells.specs.{AllLinked, IsLaneAfter, Lane, items_put, push_store};
@@ -17,16 +17,16 @@ ghost use Rattle.mb_cells.specs.declared.answer.Finish.TheVariants as finish;
 ghost use Rattle.mb_cells.specs.declared.answer.Offer.TheVariants as offer;
 ghost use Rattle.mb_cells.specs.declared.answer.Look.TheVariants as look;
 
-/// What a reader has met on a lane is what the lane began with, in the order of linking.
+/// The cells that a reader has met on a lane are the first ones of the lane, in the order of linking.
 pub fn readers_follow_lanes()
     ensures met { (size : PoolSize) (h : History) (r p : ℕ) (ks : List ℕ) → IsPoolLawful size h
         → HasMet r p ks h → IsStart ks (linked_cells p h) }
 
-    // The reader's own part says what it met.
+    // The reader's own part is enough for that.
     ensures part { (size : PoolSize) (h : History) (r p : ℕ) (ks : List ℕ) → IsPoolLawful size h
         → HasMet r p ks (part (Reader r) h) → IsStart ks (linked_cells p h) }
 
-    // What a reader has met is told by its own part, and by that alone.
+    // What a reader has met depends on its own part alone.
     ensures own { (h : History) (r p : ℕ) (ks : List ℕ) → HasMet r p ks h
         → HasMet r p ks (part (Reader r) h) }
     ensures whole { (h : History) (r p : ℕ) (ks : List ℕ) → HasMet r p ks (part (Reader r) h)
@@ -47,10 +47,10 @@ pub fn readers_follow_lanes()
         → HasLoaded r (Item k) v h → Gave k (part (Reader r) h) }
 {}
 
-/// What any list of calls comes to, said by the calls and their answers alone.
+/// What any list of calls does, said by the calls and their answers alone.
 pub fn calls_put_items()
-    // From the head on, looks and items give the items put in their order,
-    // and then Ended exactly where a finish answered it.
+    // From the head on, looks and items give the items put, in their order. Then comes Ended, exactly if a finish
+    // returned it.
     ensures reads { (size : PoolSize) (p : ℕ) (calls : List Call) (s : PoolState)
         → HasMade size calls s → p < size.lanes
         → Reads (λ at. look_in at s) (λ k. item_in k s)
@@ -58,8 +58,7 @@ pub fn calls_put_items()
     ensures answers { (size : PoolSize) (c : Call) (older : List Call) (s : PoolState)
         → HasMade size (c ∷ older) s → IsAnswerBy size.cells c older }
 
-    // The number of a cell is the number of earlier fetch-adds,
-    // and Full comes only where all cells were handed out.
+    // The number of a cell is the number of earlier fetch-adds. Full comes only if all cells were handed out.
     ensures cell { (size : PoolSize) (p x k : ℕ) (older : List Call) (s : PoolState)
         → HasMade size (Offered p x (offer.Cell k) ∷ older) s
         → (k ≡ fetch_adds_by older) × (k < size.cells) }
@@ -82,19 +81,19 @@ pub fn calls_put_items()
         → (p < lane_count s) × (k < cell_count s) }
 {}
 
-/// Nothing follows an end mark, and who loaded it has met all.
+/// Nothing follows an end mark, and a reader that loaded it has met all.
 pub fn end_marks_are_last()
     // Once a lane has ended, its producer makes no access.
     ensures producer { (size : PoolSize) (later older : History) (p : ℕ)
         → IsPoolLawful size (later ++ older) → has_ended p older ≡ true
         → part (Producer p) later ≡ [] }
 
-    // A reader that has loaded a lane's end mark, from its head or from a link, has met all cells that are put there.
+    // A reader that has loaded a lane's end mark, from its head or from a link, has met all cells linked there.
     ensures all { (size : PoolSize) (h : History) (r p : ℕ) (w : Word) → IsPoolLawful size h
         → IsLinkWord w → is_of_lane p (linked_cells p h) w ≡ true → HasLoaded r w END h
         → HasMet r p (linked_cells p h) h }
 
-    // So it is with the end mark behind the cells that it met, and the lane has ended.
+    // The same holds of the end mark after the cells that it met. The lane has ended then.
     ensures reader { (size : PoolSize) (h : History) (r p : ℕ) (ks : List ℕ) → IsPoolLawful size h
         → HasMet r p ks h → HasLoaded r (place_past p ks) END h → ks ≡ linked_cells p h }
     ensures told { (size : PoolSize) (h : History) (r p : ℕ) (ks : List ℕ) → IsPoolLawful size h
@@ -115,15 +114,15 @@ pub fn cells_stand_once()
     ensures within { (size : PoolSize) (h : History) (p k : ℕ) → IsPoolLawful size h
         → Has (linked_cells p h) k → (p < size.lanes) × (k < size.cells) }
 
-    // So a lane has no more cells than the pool, and no more items.
+    // So a lane has at most as many cells as the pool, and at most as many items.
     ensures few { (size : PoolSize) (h : History) (p : ℕ) → IsPoolLawful size h
         → length (linked_cells p h) ≤ size.cells }
     ensures put { (size : PoolSize) (h : History) (p : ℕ) → IsPoolLawful size h
         → length (put_list p h) ≤ size.cells }
 {}
 
-/// All lanes together have no more items than the pool has cells. Where a producer found no cell, and none is held that
-/// is not linked, they have just as many.
+/// All lanes together have at most as many items as the pool has cells. If a producer found no cell, and each cell that
+/// a producer got is linked, they have just as many.
 pub fn lanes_share_cells()
     ensures few { (size : PoolSize) (h : History) → IsPoolLawful size h
         → items_put size.lanes h ≤ size.cells }
@@ -159,12 +158,12 @@ pub fn pools_show_lanes()
         (cursor.Head p) (put_list p h) (lane_end p h) }
 {}
 
-/// A load of a link gives nothing yet, or what that link holds from then on. A load of an item gives the item put.
+/// A load of a link gives 0, or what that link holds from then on. A load of an item gives the item put.
 pub fn loads_tell_what_stays()
     ensures link { (size : PoolSize) (h : History) (r v : ℕ) (w : Word) → IsPoolLawful size h
         → IsLinkWord w → HasLoaded r w v h → (v ≡ 0) ⊎ (v ≡ value_in w h) }
 
-    // On a lane that is the next cell, or behind the last cell the end mark.
+    // On a lane that is the next cell, or after the last cell the end mark.
     ensures next { (size : PoolSize) (h : History) (r p k v : ℕ) (later ks : List ℕ)
         → IsPoolLawful size h → later ++ k ∷ ks ≡ linked_cells p h
         → HasLoaded r (place_past p ks) v h → (v ≡ 0) ⊎ (v ≡ k + 1) }
@@ -179,14 +178,14 @@ pub fn loads_tell_what_stays()
         → Gave k (part (Reader r) h) → (p : ℕ) × Has (linked_cells p h) k }
 {}
 
-/// What a look answers tells what the link holds.
+/// The answer of a look says what the link holds.
 pub fn looks_tell_links()
     ensures nothing { (v : ℕ) → look_of v ≡ look.Nothing → v ≡ 0 }
     ensures ended { (v : ℕ) → look_of v ≡ look.Ended → v ≡ END }
     ensures cell { (v k : ℕ) → look_of v ≡ look.Cell k → (v ≡ k + 1) × (v ≢ END) }
 {}
 
-/// The counter is bounded, and each number that it gave is one cell's, or past the cells.
+/// The counter is bounded, and each number that it gave belongs to one cell, or lies past the cells.
 pub fn numbers_are_handed_out_once()
     ensures bound { (size : PoolSize) (h : History) → IsPoolLawful size h
         → value_in Counter h ≤ size.cells + size.lanes }
@@ -197,7 +196,7 @@ pub fn numbers_are_handed_out_once()
     ensures once { (size : PoolSize) (h : History) (p q : ℕ) (e f : Entry) → IsPoolLawful size h
         → Has h (fetch p e) → Has h (fetch q f) → e.cell ≡ f.cell → fetch p e ≡ fetch q f }
 
-    // A fetch-add finds no cell only where all cells were handed out.
+    // A fetch-add finds no cell only if all cells were handed out.
     ensures refused { (size : PoolSize) (h : History) (p k : ℕ) (e : Entry) → IsPoolLawful size h
         → Has h (fetch p e) → size.cells ≤ e.cell → k < size.cells → WasHandedOut k h }
 
@@ -209,22 +208,22 @@ pub fn numbers_are_handed_out_once()
         → n ≡ fetch_adds_on a.word older }
 {}
 
-/// Cut by lanes, what a reader loaded falls into parts that are reader paths by themselves.
+/// A reader's loads, cut by lanes, give parts that are each a reader path.
 pub fn readers_keep_to_lanes()
     ensures part { (size : PoolSize) (h : History) (r p : ℕ) → IsPoolLawful size h
         → IsReaderPath size.lanes (part_on r p h) }
     ensures all { (size : PoolSize) (h : History) (r : ℕ) (a : PoolAccess) → IsPoolLawful size h
         → Has (part (Reader r) h) a → (p : ℕ) × (is_of_lane p (linked_cells p h) a.word ≡ true) }
 
-    // And from such parts, however they are cut, the whole is a reader path.
+    // And if the parts are reader paths, however they are cut, the whole is one.
     ensures whole { (lanes : ℕ) (test : ℕ → PoolAccess → Bool) (done : History)
         → ((a : PoolAccess) → Has done a → (p : ℕ) × (test p a ≡ true))
         → ((p : ℕ) → IsReaderPath lanes (filter (test p) done)) → IsReaderPath lanes done }
 {}
 
-/// A producer's own part tells what stands in its words and on its lane.
+/// A producer's own part says what its words hold and what its lane has.
 pub fn parts_tell_lanes()
-    // A word that one producer alone stores to is as that producer's part leaves it.
+    // If one producer alone stores to a word, its part says what the word holds.
     ensures alone { (h : History) (p : ℕ) (w : Word)
         → ((a : PoolAccess) (v : ℕ) → Has h a → a.word ≡ w → stored_by a.act ≡ Some v
         → a.process ≡ Producer p) → value_in w h ≡ value_in w (part (Producer p) h) }
@@ -256,9 +255,9 @@ pub fn parts_tell_lanes()
         → value_in (Link k) h ≡ value_in (Link k) (part (Producer p) h) }
 {}
 
-/// A lane refuses a call exactly for what its producer has done.
+/// A lane refuses a call exactly because of what its producer has done.
 pub fn lanes_refuse_by_what_was_done()
-    // An offer is answered `Closed` after the end mark, `Busy` while an item has a cell that is not linked, and `Full`
+    // An offer returns `Closed` after the end mark, `Busy` while an item has a cell that is not linked, and `Full`
     // after a fetch-add that found no cell. Otherwise it is not refused.
     ensures closed { (size : PoolSize) (h : History) (p : ℕ) (lane : Lane) → IsPoolLawful size h
         → IsLaneAfter size.cells p lane (part (Producer p) h)
@@ -275,12 +274,12 @@ pub fn lanes_refuse_by_what_was_done()
         → has_ended p h ≡ false → (HasPending size.cells p h → ⊥)
         → (HasFoundNone size.cells p h → ⊥) → offer_refusal lane ≡ None }
 
-    // A push is idle where no item has such a cell.
+    // A push is idle exactly if no item has such a cell.
     ensures idle { (size : PoolSize) (h : History) (p : ℕ) (lane : Lane) → IsPoolLawful size h
         → IsLaneAfter size.cells p lane (part (Producer p) h)
         → (push_store p lane ≡ None) ↔ (HasPending size.cells p h → ⊥) }
 
-    // A finish is answered as an offer is, but for `Full`.
+    // A finish is refused like an offer, but never with `Full`.
     ensures finish_closed { (size : PoolSize) (h : History) (p : ℕ) (lane : Lane)
         → IsPoolLawful size h → IsLaneAfter size.cells p lane (part (Producer p) h)
         → (finish_refusal lane ≡ Some finish.Closed) ↔ (has_ended p h ≡ true) }

@@ -5,33 +5,33 @@ use crate::access::{END, Word};
 use crate::answer::{Finish, Look, NoMemory, Offer, Push};
 use crate::cursor::Cursor;
 use crate::lane::Lane;
-use crate::words::Words;
+use crate::words::PoolMemory;
 use std::alloc::Allocator;
 use std::marker::Model;
 
-/// Cells that producers link into lanes. All calls are one caller's, so each of them is one access, or none.
-/// What any list of calls comes to is the law [`calls_put_items`](crate::laws::calls_put_items).
+/// Cells that producers link into lanes. One caller makes all calls, so each of them is one access, or none. The law
+/// [`calls_put_items`](crate::laws::calls_put_items) says what any list of calls does.
 #[derive(Drop)]
 pub struct Pool<A: Allocator + Drop> {
-    words: Words<A>,
+    words: PoolMemory<A>,
     lanes: Vec<Lane, A>,
 }
 
 impl<A: Allocator + Drop> Model for Pool<A> {
-    ghost use Rattle.mb_cells.specs.{IsSound, PoolState};
+    ghost use Rattle.mb_cells.specs.{PoolIsSound, PoolState};
 
     ghost Value = { PoolState };
 
     ghost view = { λ a. record { words = a.words; lanes = a.lanes.items } };
 
-    ghost invariant = { λ a. IsSound (record { words = a.words; lanes = a.lanes.items }) };
+    ghost invariant = { λ a. PoolIsSound (record { words = a.words; lanes = a.lanes.items }) };
 }
 
 impl<A: Allocator + Clone + Drop> Pool<A> {
     ghost use Rattle.mb_cells.specs.{IsAfter, cell_count, lane_count};
 
-    /// A pool of empty lanes, none of whose cells was handed out. All that it will ever need is reserved here, and
-    /// [`NoMemory`] comes where the allocator refuses a part of that.
+    /// A pool of empty lanes. None of its cells was handed out. It allocates here all that it will ever need. The error
+    /// is [`NoMemory`] if the allocator refuses a part of that.
     pub fn new(alloc: A, lanes: u32, cells: u32) -> Result<Pool<A>, NoMemory>
         ensures lanes { IfOk result (λ s. lane_count s ≡ lanes) }
         ensures cells { IfOk result (λ s. cell_count s ≡ cells) }
@@ -42,7 +42,7 @@ impl<A: Allocator + Clone + Drop> Pool<A> {
         let items = vec![in alloc.clone()?; 0u64; cells as usize]?;
         let lanes = vec![in alloc; Lane::new(); lanes as usize]?;
         Ok(Pool {
-            words: Words {
+            words: PoolMemory {
                 counter: 0,
                 heads,
                 links,
@@ -54,7 +54,7 @@ impl<A: Allocator + Clone + Drop> Pool<A> {
 }
 
 impl<A: Allocator + Drop> Pool<A> {
-    ghost use Rattle.mb_cells.specs.{FinishKeeps, FinishMeets, History, IsAfter, IsShownAlike, IsSound, IsWithin};
+    ghost use Rattle.mb_cells.specs.{FinishKeeps, FinishMeets, History, IsAfter, IsShownAlike, PoolIsSound, IsWithin};
     ghost use Rattle.mb_cells.specs.{Item, OfferKeeps, OfferMeets, PushMeets, SameSize, cell_count, item_in};
     ghost use Rattle.mb_cells.specs.{lane_count, look_after, look_in, value_in};
     ghost use Rattle.mb_cells.specs.declared.answer.Offer.TheVariants as offer;
@@ -62,17 +62,17 @@ impl<A: Allocator + Drop> Pool<A> {
     ghost use Rattle.mb_cells.specs.declared.answer.Finish.TheVariants as finish;
     ghost use Rattle.mb_cells.specs.declared.answer.Look.TheVariants as look;
 
-    /// Some lawful history leaves each pool. It computes nothing: its contract is a law of all pools.
+    /// A law of all pools: some lawful history leaves the pool. It computes nothing.
     pub fn has_history(&self)
-        ensures sound { IsSound self.now }
+        ensures sound { PoolIsSound self.now }
         ensures history { (h : History) × IsAfter h self.now }
     {
-        // The invariant of a pool is known where a field is named.
+        // The prover knows the invariant only after a field is named.
         let _ = &self.words;
     }
 
-    /// Takes the next cell for item `x` of lane `p`, by one fetch-add of the counter. Which cell that is by the calls
-    /// before, [`calls_put_items`](crate::laws::calls_put_items) says.
+    /// Takes the next cell for item `x` of lane `p`, by one fetch-add of the counter.
+    /// [`calls_put_items`](crate::laws::calls_put_items) says which cell that is after the calls before.
     pub fn offer(&mut self, p: u32, x: u64) -> Offer
         requires { p < lane_count self.old }
         ensures meets { OfferMeets self.old p x result self.new }
@@ -91,8 +91,8 @@ impl<A: Allocator + Drop> Pool<A> {
         lane.offered(cells, x, found)
     }
 
-    /// Stores the item that was offered on lane `p`, and at the next call its link. The items put are those of
-    /// [`calls_put_items`](crate::laws::calls_put_items).
+    /// Stores the item that was offered on lane `p`, and at the next call its link.
+    /// [`calls_put_items`](crate::laws::calls_put_items) says which items are put.
     pub fn push(&mut self, p: u32) -> Push
         requires { p < lane_count self.old }
         ensures meets { PushMeets self.old p result self.new }
@@ -107,7 +107,7 @@ impl<A: Allocator + Drop> Pool<A> {
         lane.pushed()
     }
 
-    /// Stores the end mark of lane `p`, which readers then find behind its last cell, as
+    /// Stores the end mark of lane `p`. Readers then find it after the lane's last cell, as
     /// [`calls_put_items`](crate::laws::calls_put_items) says.
     pub fn finish(&mut self, p: u32) -> Finish
         requires { p < lane_count self.old }
@@ -125,14 +125,14 @@ impl<A: Allocator + Drop> Pool<A> {
         Finish::Ended
     }
 
-    /// What stands behind the cursor. From a lane's head on that is what the calls put, in their order:
+    /// What comes after the cursor. From a lane's head on, looks find what the calls put, in their order:
     /// [`calls_put_items`](crate::laws::calls_put_items).
     pub fn look(&self, cursor: Cursor) -> Look
         requires { IsWithin cursor self.now }
         ensures shown { result ≡ look_in cursor self.now }
         ensures after { (h : History) → IsAfter h self.now → result ≡ look_after cursor h }
 
-        // The cell that is found has an item, and a place past it.
+        // The cell that is found is one of the pool's: its item may be read, and a look past it is allowed.
         ensures within { (k : ℕ) → result ≡ look.Cell k → k < cell_count self.now }
     {
         let link = self.words.load(cursor.word());
@@ -145,7 +145,7 @@ impl<A: Allocator + Drop> Pool<A> {
         }
     }
 
-    /// The item of cell `k`: for a cell that was linked the item put, as
+    /// The item of cell `k`. If the cell was linked, that is the item put, as
     /// [`calls_put_items`](crate::laws::calls_put_items) says.
     pub fn item(&self, k: u32) -> u64
         requires { k < cell_count self.now }

@@ -1,23 +1,23 @@
 //! What builders of worlds and of tables need: one more access, the places of producers, the words of the pool and
-//! their addresses, and states. The functions compute nothing: their contracts are the laws. Their proofs stand in
-//! `proofs/steps/`, one folder for each, over the lemmas of `proofs/`.
+//! their addresses, and states. The functions compute nothing: their contracts are the laws. Their proofs are in
+//! `proofs/steps/`, one folder for each. They use the lemmas of `proofs/`.
 //!
-//! A table of shared words needs [`words_follow_steps`]: its words and parts are those of one lawful history. An access of a
-//! producer goes on where its lane does ([`lanes_lead_on`]), a load of a reader where its own part led it there;
-//! [`one_step`] then gives the longer history, and [`accesses_stay_within`] that the word is one of the pool's.
+//! A table of shared words needs [`words_follow_steps`]: its words and parts are those of one lawful history. An access
+//! of a producer may follow if its lane goes on with it ([`lanes_lead_on`]), and a load of a reader if its own part led
+//! there. [`history_extends`] then gives the longer history, and [`accesses_stay_within`] that the word is one of the pool's.
 ghost use Rattle.std.specs.Prelude.{◌≡◌, ◌+◌, ◌<◌, ◌≤◌, ◌⊎◌, ◌∷◌, ◌++◌, ◌^◌, ◌≢◌, ℕ, List, Some, None, length};
 ghost use Rattle.std.specs.Prelude.{slice_index, unwrap_or, []};
-ghost use Rattle.mb_cells.specs.{ActFits, Counter, END, Entry, Has, History, IsAfter, IsAt, IsLaneAfter};
-ghost use Rattle.mb_cells.specs.{IsLanePrefix, IsLinkWord, IsPoolLawful, IsPoolWord, IsSound, IsStateOf, IsLaneWord};
+ghost use Rattle.mb_cells.specs.{ActFits, Counter, END, Entry, Has, History, IsAfter, LaneIsAt, IsLaneAfter};
+ghost use Rattle.mb_cells.specs.{IsLanePrefix, IsLinkWord, IsPoolLawful, IsPoolWord, PoolIsSound, IsStateOf, IsLaneWord};
 ghost use Rattle.mb_cells.specs.{Item, Lane, LoadGoesOn, MayRead, Phase, PoolAccess, PoolSize, PoolState, Process};
 ghost use Rattle.mb_cells.specs.{Producer, Reader, ReadsLast, SameSize, Steps, Word, address_of, block_after};
 ghost use Rattle.mb_cells.specs.{entry_at, fetch, fetch_adds_on, finish_refusal, lane_after_finish};
 ghost use Rattle.mb_cells.specs.{lane_after_offer, lane_after_push, load, new_lane, next_link, offer_refusal, part};
-ghost use Rattle.mb_cells.specs.{parts_after, push_store, put_list, store, stored_by, value_in, words_of};
+ghost use Rattle.mb_cells.specs.{parts_after, push_store, put_list, store, stored_by, value_in, pool_words};
 ghost use Rattle.mb_cells.specs.Place.{Open};
 
 /// Lawful histories grow by one access after another.
-pub fn one_step()
+pub fn history_extends()
     ensures empty { (size : PoolSize) → size.cells < END → IsPoolLawful size [] }
     ensures older { (size : PoolSize) (later older : History) → IsPoolLawful size (later ++ older)
         → IsPoolLawful size older }
@@ -34,7 +34,7 @@ pub fn one_step()
         → IsPoolLawful size (load r w (value_in w h) ∷ h) }
 {}
 
-/// What one access adds to a history: one step of one process, and at most one value in one word.
+/// What one access adds to a history: one access to one part, and at most one value in one word.
 pub fn accesses_lengthen_one_part()
     ensures own { (h : History) (a : PoolAccess) → part a.process (a ∷ h) ≡ a ∷ part a.process h }
     ensures others { (h : History) (a : PoolAccess) (who : Process) → a.process ≢ who
@@ -48,7 +48,7 @@ pub fn accesses_lengthen_one_part()
     ensures counter { (h : History) (a : PoolAccess) → a.word ≢ Counter
         → fetch_adds_on Counter (a ∷ h) ≡ fetch_adds_on Counter h }
 
-    // Two processes are one or not, and so are two words.
+    // Two processes are the same or not, and so are two words.
     ensures processes { (a b : Process) → (a ≡ b) ⊎ (a ≢ b) }
     ensures names { (v w : Word) → (v ≡ w) ⊎ (v ≢ w) }
 {}
@@ -61,26 +61,27 @@ pub fn parts_have_accesses()
         → Has (part who h) a }
 {}
 
-/// A prefix of a lane path puts its producer at one place, from which it goes on by one step after another.
+/// A prefix of a lane path puts its producer at one place. The producer goes on from there step by step.
 pub fn places_lead_on()
-    ensures start { (cells p : ℕ) → IsAt cells p [] Open [] }
+    ensures start { (cells p : ℕ) → LaneIsAt cells p [] Open [] }
     ensures step { (cells p : ℕ) (es fs : List Entry) (was now : Phase) (a : PoolAccess)
-        (done : History) → Steps cells p es was a fs now → IsAt cells p es was done
-        → IsAt cells p fs now (a ∷ done) }
+        (done : History) → Steps cells p es was a fs now → LaneIsAt cells p es was done
+        → LaneIsAt cells p fs now (a ∷ done) }
     ensures prefix { (cells p : ℕ) (es : List Entry) (phase : Phase) (done : History)
-        → IsAt cells p es phase done → IsLanePrefix cells p done }
+        → LaneIsAt cells p es phase done → IsLanePrefix cells p done }
     ensures place { (cells p : ℕ) (done : History) → IsLanePrefix cells p done
-        → (es : List Entry) × ((phase : Phase) × IsAt cells p es phase done) }
+        → (es : List Entry) × ((phase : Phase) × LaneIsAt cells p es phase done) }
     ensures one { (cells p : ℕ) (es fs : List Entry) (was now : Phase) (done : History)
-        → IsAt cells p es was done → IsAt cells p fs now done → (es ≡ fs) × (was ≡ now) }
+        → LaneIsAt cells p es was done → LaneIsAt cells p fs now done → (es ≡ fs) × (was ≡ now) }
 
-    // No other access leaves a prefix of a lane path.
+    // After any other access the part is no prefix of a lane path.
     ensures only { (cells p : ℕ) (es : List Entry) (phase : Phase) (a : PoolAccess) (done : History)
-        → IsAt cells p es phase done → IsLanePrefix cells p (a ∷ done)
+        → LaneIsAt cells p es phase done → IsLanePrefix cells p (a ∷ done)
         → (fs : List Entry) × ((now : Phase) × Steps cells p es phase a fs now) }
 {}
 
-/// A producer's place as a plain value goes on with each access of its lane, and names all that may come next.
+/// A producer's place, as a plain value, goes on with each access of its lane. It names all accesses that may come
+/// next.
 pub fn lanes_lead_on()
     ensures start { (cells p : ℕ) → IsLaneAfter cells p new_lane [] }
     ensures lane { (cells p : ℕ) (done : History) → IsLanePrefix cells p done
@@ -99,7 +100,7 @@ pub fn lanes_lead_on()
         → IsLaneAfter cells p lane done → finish_refusal lane ≡ None
         → IsLaneAfter cells p (lane_after_finish lane) (store p (next_link p lane) END ∷ done) }
 
-    // Where a call is refused no access of it would go on with the lane's path.
+    // If a call is refused, none of its accesses would go on with the lane's path.
     ensures fetches { (cells p : ℕ) (lane : Lane) (done : History) (e : Entry)
         → IsLaneAfter cells p lane done → IsLanePrefix cells p (fetch p e ∷ done)
         → offer_refusal lane ≡ None }
@@ -112,7 +113,7 @@ pub fn lanes_lead_on()
         → ((e : Entry) × (a ≡ fetch p e)) ⊎ ((w : Word) × ((v : ℕ) × (a ≡ store p w v))) }
 {}
 
-/// Accesses are of words of the pool, and so are those that may come next.
+/// All accesses go to words of the pool, also those that may come next.
 pub fn accesses_stay_within()
     ensures all { (size : PoolSize) (h : History) (a : PoolAccess) → IsPoolLawful size h → Has h a
         → IsPoolWord size a.word }
@@ -143,19 +144,19 @@ pub fn put_lists_grow()
     ensures load { (h : History) (r q v : ℕ) (w : Word)
         → put_list q (load r w v ∷ h) ≡ put_list q h }
 
-    // A link store of another lane.
+    // A link store of another lane changes nothing, either.
     ensures other { (h : History) (p q v : ℕ) (w : Word) → p ≢ q → IsLinkWord w
         → put_list q (store p w v ∷ h) ≡ put_list q h }
 {}
 
-/// A load by any reader that may load the word leaves the pool as it is.
+/// A load by a reader that may load the word leaves the pool as it is.
 pub fn loads_leave_pools()
     ensures { (s : PoolState) (w : Word) → LoadGoesOn w s }
 {}
 
 /// What a history leaves is one pool.
 pub fn pools_are_what_was_done()
-    ensures { (h : History) (s t : PoolState) → IsSound s → IsSound t → SameSize s t
+    ensures { (h : History) (s t : PoolState) → PoolIsSound s → PoolIsSound t → SameSize s t
         → IsAfter h s → IsAfter h t → s ≡ t }
 {}
 
@@ -164,13 +165,13 @@ pub fn addresses_are_apart()
     ensures apart { (size : PoolSize) (v w : Word) → IsPoolWord size v → IsPoolWord size w
         → address_of size v ≡ address_of size w → v ≡ w }
     ensures within { (size : PoolSize) (w : Word) → IsPoolWord size w
-        → address_of size w < words_of size }
+        → address_of size w < pool_words size }
 {}
 
-/// All words of a pool in one block, and the parts of its processes, over the history that they stand for.
+/// All words of a pool in one block, and the parts of its processes, go on with their history.
 pub fn words_follow_steps()
     ensures empty { (size : PoolSize) (words : List ℕ) → size.cells < END
-        → words_of size ≤ length words
+        → pool_words size ≤ length words
         → ((w : Word) → IsPoolWord size w → slice_index words (address_of size w) ≡ 0)
         → IsStateOf size words (λ who. []) [] }
 
@@ -179,9 +180,9 @@ pub fn words_follow_steps()
         (a : PoolAccess) → IsStateOf size words parts h → IsPoolLawful size (a ∷ h)
         → IsStateOf size (block_after size a words) (parts_after a parts) (a ∷ h) }
 
-    // Words that follow those of the pool are not of it.
+    // Words after those of the pool may hold anything.
     ensures more { (size : PoolSize) (words more : List ℕ) (parts : Process → History) (h : History)
         → IsStateOf size words parts h
-        → ((i : ℕ) → i < words_of size → slice_index more i ≡ slice_index words i)
-        → words_of size ≤ length more → IsStateOf size more parts h }
+        → ((i : ℕ) → i < pool_words size → slice_index more i ≡ slice_index words i)
+        → pool_words size ≤ length more → IsStateOf size more parts h }
 {}

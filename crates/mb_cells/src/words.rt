@@ -1,4 +1,4 @@
-//! The words of a pool.
+//! The memory of a pool under one caller.
 ghost use Rattle.std.specs.Prelude.{◌≡◌, ◌<◌, ◌^◌, length};
 ghost use Rattle.mb_cells.specs.{HasWord, words_with, word_in};
 
@@ -8,18 +8,15 @@ use std::marker::Model;
 
 /// The words of a pool.
 #[derive(Drop)]
-pub struct Words<A: Allocator + Drop> {
+pub struct PoolMemory<A: Allocator + Drop> {
     /// How many fetch-adds were made for cells.
     pub counter: u64,
-    /// The head of each lane.
     pub heads: Vec<u64, A>,
-    /// The link of each cell.
     pub links: Vec<u64, A>,
-    /// The item of each cell.
     pub items: Vec<u64, A>,
 }
 
-impl<A: Allocator + Drop> Model for Words<A> {
+impl<A: Allocator + Drop> Model for PoolMemory<A> {
     ghost use Rattle.mb_cells.specs.{PoolWords};
 
     ghost Value = { PoolWords };
@@ -32,8 +29,7 @@ impl<A: Allocator + Drop> Model for Words<A> {
     } };
 }
 
-impl<A: Allocator + Drop> Words<A> {
-    /// How many cells there are.
+impl<A: Allocator + Drop> PoolMemory<A> {
     pub fn cells(&self) -> u32
         requires { length self.now.items < 2 ^ 32 }
         ensures { result ≡ length self.now.items }
@@ -41,7 +37,6 @@ impl<A: Allocator + Drop> Words<A> {
         self.items.len() as u32
     }
 
-    /// What the word holds.
     pub fn load(&self, word: Word) -> u64
         requires { HasWord word self.now }
         ensures { result ≡ word_in word self.now }
@@ -54,7 +49,6 @@ impl<A: Allocator + Drop> Words<A> {
         }
     }
 
-    /// Stores a value in the word.
     pub fn store(&mut self, word: Word, value: u64)
         requires { HasWord word self.old }
         ensures { self.new ≡ words_with word value self.old }

@@ -6,7 +6,7 @@ use Rattle.std.proofs.lemmas.Bool.{cases_order}
 use Rattle.std.proofs.lemmas.Option.{none-some, same_Some}
 use Rattle.mb_deciding.specs.Vocabulary.{HasReg}
 use Rattle.mb_claim.specs.{Reg, Kind, Value, Proposal, Quorum, Last, Conciliator, Ratifier, LastObject, width, offset, words_before}
-use Rattle.mb_claim.specs.{words_of, address_of, pairs_of, IsWordOf}
+use Rattle.mb_claim.specs.{row_words, address_of, pairs_of, IsWordOf}
 
 -- a word lies within its object
 in_object : (r : ℕ) (k : Kind) (reg : Reg) → HasReg r k reg → offset reg < width r k
@@ -57,7 +57,7 @@ first_word r k ks reg p = subst (λ j. HasReg r j reg) (sym (same_Some k p.0 p.1
 -- a word lies within its cell
 in_cell :
     (r : ℕ) (kinds : List Kind) (o : ℕ) (reg : Reg) → IsWordOf r kinds o reg
-    → words_before r kinds o + offset reg < words_of r kinds
+    → words_before r kinds o + offset reg < row_words r kinds
 in_cell r [] o reg p = absurd (none-some p.0 p.1)
 in_cell r (k ∷ ks) zero reg p = let h = in_object r k reg (first_word r k ks reg p) in omega arith
 in_cell r (k ∷ ks) (suc o) reg p = let h = in_cell r ks o reg p in omega arith
@@ -86,13 +86,13 @@ distinct_by :
     → address_of r kinds k o p ≡ address_of r kinds n m q
     → (k ≡ n) ⊎ ((k < n) ⊎ (n < k)) → (k ≡ n) × (o ≡ m) × (p ≡ q)
 distinct_by r kinds k n o m p q a b e (inl f) =
-    let g : k * words_of r kinds ≡ n * words_of r kinds = ap (λ x. x * words_of r kinds) f in
+    let g : k * row_words r kinds ≡ n * row_words r kinds = ap (λ x. x * row_words r kinds) f in
     let h = apart r kinds o m p q a b (omega arith) in (f, h.0, h.1)
 distinct_by r kinds k n o m p q a b e (inr (inl l)) =
-    absurd (row_before (words_of r kinds) k n (words_before r kinds o + offset p)
+    absurd (row_before (row_words r kinds) k n (words_before r kinds o + offset p)
     (words_before r kinds m + offset q) l (in_cell r kinds o p a) e)
 distinct_by r kinds k n o m p q a b e (inr (inr l)) =
-    absurd (row_before (words_of r kinds) n k (words_before r kinds m + offset q)
+    absurd (row_before (row_words r kinds) n k (words_before r kinds m + offset q)
     (words_before r kinds o + offset p) l (in_cell r kinds m q b) (sym e))
 
 -- different words have different addresses
@@ -104,11 +104,11 @@ distinct r kinds k n o m p q a b e = distinct_by r kinds k n o m p q a b e (case
 -- the words of the first cells lie below their count
 pub within :
     (r : ℕ) (kinds : List Kind) (cells k o : ℕ) (reg : Reg) → IsWordOf r kinds o reg → k < cells
-    → address_of r kinds k o reg < cells * words_of r kinds
+    → address_of r kinds k o reg < cells * row_words r kinds
 within r kinds cells k o reg p l =
     let h = in_cell r kinds o reg p in
-    let m : suc k * words_of r kinds ≤ cells * words_of r kinds = mul-le-mul_right (words_of r kinds) l in
-    let s : suc k * words_of r kinds ≡ k * words_of r kinds + words_of r kinds = suc-mul k (words_of r kinds) in
+    let m : suc k * row_words r kinds ≤ cells * row_words r kinds = mul-le-mul_right (row_words r kinds) l in
+    let s : suc k * row_words r kinds ≡ k * row_words r kinds + row_words r kinds = suc-mul k (row_words r kinds) in
     omega arith
 
 -- ---- object by object
@@ -134,7 +134,7 @@ words_before-next r (k ∷ ks) zero kind e =
 words_before-next r (k ∷ ks) (suc o) kind e = omega (arith, words_before-next r ks o kind e)
 
 -- those before the end are all
-pub words_before-all : (r : ℕ) (kinds : List Kind) → words_before r kinds (length kinds) ≡ words_of r kinds
+pub words_before-all : (r : ℕ) (kinds : List Kind) → words_before r kinds (length kinds) ≡ row_words r kinds
 words_before-all r [] = refl
 words_before-all r (k ∷ ks) = omega (arith, words_before-all r ks)
 
@@ -144,14 +144,14 @@ words_before-few r [] o = omega arith
 words_before-few r (k ∷ ks) zero = omega arith
 words_before-few r (k ∷ ks) (suc o) = omega (arith, width_few r k, words_before-few r ks o, suc-mul o (1 + r))
 
-pub words_of-few : (r : ℕ) (kinds : List Kind) → words_of r kinds ≤ length kinds * (1 + r)
-words_of-few r kinds = omega (arith, words_before-all r kinds, words_before-few r kinds (length kinds))
+pub row_words-few : (r : ℕ) (kinds : List Kind) → row_words r kinds ≤ length kinds * (1 + r)
+row_words-few r kinds = omega (arith, words_before-all r kinds, words_before-few r kinds (length kinds))
 
 -- ---- pairs
 -- a pair has the words of its two objects
-pub words_of-pairs_of : (r s n : ℕ) → words_of r (pairs_of s n) ≡ n * (2 + r)
-words_of-pairs_of r s zero = omega arith
-words_of-pairs_of r s (suc n) = let h = words_of-pairs_of r s n in omega arith
+pub row_words-pairs_of : (r s n : ℕ) → row_words r (pairs_of s n) ≡ n * (2 + r)
+row_words-pairs_of r s zero = omega arith
+row_words-pairs_of r s (suc n) = let h = row_words-pairs_of r s n in omega arith
 
 -- the words before an object of a pair: those of the pairs before it, and before its second object that of the first
 pub words_before-pairs_of :
@@ -170,5 +170,5 @@ pub pair_address :
     (r s n k i j : ℕ) (reg : Reg) → i < n → j < 2
     → address_of r (pairs_of s n) k (2 * i + j) reg ≡ k * (n * (2 + r)) + i * (2 + r) + (j + offset reg)
 pair_address r s n k i j reg h f =
-    let row : k * words_of r (pairs_of s n) ≡ k * (n * (2 + r)) = ap (λ w. k * w) (words_of-pairs_of r s n) in
+    let row : k * row_words r (pairs_of s n) ≡ k * (n * (2 + r)) = ap (λ w. k * w) (row_words-pairs_of r s n) in
     omega (arith, row, words_before-pairs_of r s n i j (2 * i + j) refl f h)

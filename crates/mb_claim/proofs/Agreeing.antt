@@ -2,7 +2,7 @@
 use Rattle.std.proofs.Common.{◌≡◌, ℕ, suc, true, List, [], ◌∷◌, sym, inl, inr, ⊎_elim}
 use Rattle.mb_quorum.specs.Vocabulary.{QuorumTable}
 use Rattle.mb_deciding.specs.Vocabulary.{object_of, HasOutput}
-use Rattle.mb_claim.specs.{Access, Kind, Names}
+use Rattle.mb_claim.specs.{Access, Kind, StageNames}
 use Rattle.mb_claim.proofs.KindLaws.{AreDeciding}
 use Rattle.mb_claim.proofs.Family.{Family, step, ended, lawful_here, output_holds, next, next_decided, none_named}
 use Rattle.mb_claim.proofs.Family.{Ended}
@@ -11,7 +11,7 @@ use Rattle.mb_claim.proofs.Family.{Ended}
 pub winner_holds :
     (t : QuorumTable) (hs : ℕ → List Access) → AreDeciding t
     → (ks : List Kind) (o : ℕ) (P : ℕ → Type 0) (fam : Family t ks o hs P)
-    → (c u : ℕ) → Names c (fam.stage c) u → P u
+    → (c u : ℕ) → StageNames c (fam.stage c) u → P u
 winner_holds t hs law [] o P fam c u n =
     absurd (none_named t c o (fam.input c) u (fam.rest c) (fam.stage c) (fam.member c) n)
 winner_holds t hs law (k ∷ ks) o P fam c u n =
@@ -22,13 +22,13 @@ module _ (t : QuorumTable) (k : Kind) (ks : List Kind) (o : ℕ) (hs : ℕ → L
     (fam : Family t (k ∷ ks) o hs P) (law : AreDeciding t) where
   -- where u was decided here, whoever goes on names u
   late : (c d u w : ℕ) → HasOutput (object_of t k fam.input) c true u (hs o)
-      → Names d (step t k ks o hs P fam d).stage w → w ≡ u
+      → StageNames d (step t k ks o hs P fam d).stage w → w ≡ u
   late c d u w p n = winner_holds t hs law ks (suc o) (λ a. a ≡ u) (next_decided t k ks o hs P fam (law k) c u p) d w n
 
   -- two consumers decided here, later, or one of each
   agree_by :
-      (c d u w : ℕ) → ((a b : ℕ) → Names c (step t k ks o hs P fam c).stage a
-      → Names d (step t k ks o hs P fam d).stage b → a ≡ b)
+      (c d u w : ℕ) → ((a b : ℕ) → StageNames c (step t k ks o hs P fam c).stage a
+      → StageNames d (step t k ks o hs P fam d).stage b → a ≡ b)
       → Ended t k ks o hs P fam c u → Ended t k ks o hs P fam d w → u ≡ w
   agree_by c d u w ih (inl p) (inl q) =
       sym ((law k fam.input).coherence (hs o) (lawful_here t k ks o hs P fam) c d true u w p q)
@@ -40,7 +40,7 @@ module _ (t : QuorumTable) (k : Kind) (ks : List Kind) (o : ℕ) (hs : ℕ → L
 pub agree :
     (t : QuorumTable) (hs : ℕ → List Access) → AreDeciding t
     → (ks : List Kind) (o : ℕ) (P : ℕ → Type 0) (fam : Family t ks o hs P)
-    → (c d u w : ℕ) → Names c (fam.stage c) u → Names d (fam.stage d) w → u ≡ w
+    → (c d u w : ℕ) → StageNames c (fam.stage c) u → StageNames d (fam.stage d) w → u ≡ w
 agree t hs law [] o P fam c d u w n m =
     absurd (none_named t c o (fam.input c) u (fam.rest c) (fam.stage c) (fam.member c) n)
 agree t hs law (k ∷ ks) o P fam c d u w n m =

@@ -5,7 +5,7 @@ use Rattle.std.proofs.Common.{append-nil, append_assoc, arith}
 use Rattle.std.proofs.lemmas.Bool.{eq-eqb, ne_eqb}
 use Rattle.std.proofs.lemmas.Option.{slice_get_within}
 use Rattle.mb_quorum.specs.Vocabulary.{QuorumTable}
-use Rattle.mb_deciding.specs.Vocabulary.{answer, IsPath, IsAt, IsPlace}
+use Rattle.mb_deciding.specs.Vocabulary.{answer, IsPath, PcIsAt, IsPlace}
 use Rattle.mb_claim.specs.{Turn, Kind, Conciliator, Ratifier, LastObject, Pc, InConciliator, InLast, InRatifier, ClaimOp, ObjectTurn, Going}
 use Rattle.mb_claim.specs.{Won, Lost, Undecided, Claim, Layout, IsOnObject, IsNextOp, quorums_of, kinds_of}
 use Rattle.mb_claim.specs.{turns_on, stage_for, IsClaimPrefixFrom, PassesAll, StandsAt, IsClaimOf}
@@ -45,7 +45,7 @@ passes_more t (k ∷ ks) kind o v w u front turns (i, rest, x, p) path =
 module _ (t : QuorumTable) (kinds : List Kind) (c object : ℕ) (pc : Pc) (xs : List ObjectTurn)
     (p : StandsAt t kinds c object pc xs) (x : Turn) where
   -- the claim goes on with this object
-  pub same_object : (after : Pc) → IsAt t p.kind p.input after (x ∷ p.turns)
+  pub same_object : (after : Pc) → PcIsAt t p.kind p.input after (x ∷ p.turns)
       → StandsAt t kinds c object after (record { object = object; turn = x } ∷ xs)
   same_object after at =
       record {
@@ -70,7 +70,7 @@ module _ (t : QuorumTable) (kinds : List Kind) (c object : ℕ) (pc : Pc) (xs : 
   -- the claim passes to it
   pub next_object :
       (u : ℕ) (kind : Kind) (after : Pc) → u < t.values → IsPath t p.kind p.input (x ∷ p.turns) (answer false u)
-      → slice_get kinds (suc object) ≡ Some kind → IsAt t kind u after []
+      → slice_get kinds (suc object) ≡ Some kind → PcIsAt t kind u after []
       → StandsAt t kinds c (suc object) after (record { object = object; turn = x } ∷ xs)
   next_object u kind after below path is at =
       let rest = first_of p.after kind (sym next_kind ∙ is) in
@@ -146,7 +146,7 @@ stage_for-other c u ne = ap (λ b. cond b Won (Lost u)) (ne_eqb c u (λ e. ne (s
 -- a claim without an access stands on it
 pub stands_first :
     (t : QuorumTable) (kinds : List Kind) (kind : Kind) (c : ℕ) (pc : Pc) → slice_get kinds 0 ≡ Some kind → c < t.values
-    → IsAt t kind c pc [] → StandsAt t kinds c 0 pc []
+    → PcIsAt t kind c pc [] → StandsAt t kinds c 0 pc []
 stands_first t kinds kind c pc first below at =
     let rest = first_of kinds kind first in
     record {
@@ -172,7 +172,7 @@ pub claim_passed :
     → IsPath t p.kind p.input (x ∷ p.turns) (answer false u)
     → (next : Option Kind) → slice_get kinds (object + 1) ≡ next
     → MatchOption next (claim.stage ≡ Undecided)
-    (λ kind. (claim.stage ≡ Going) × (claim.object ≡ object + 1) × IsAt t kind u claim.place [])
+    (λ kind. (claim.stage ≡ Going) × (claim.object ≡ object + 1) × PcIsAt t kind u claim.place [])
     → IsClaimOf t kinds claim (record { object = object; turn = x } ∷ xs)
 claim_passed t kinds claim c object pc xs p x u parts own known begun below path None is passed =
     let n : suc object ≡ object + 1 = omega arith in
@@ -207,7 +207,8 @@ claim_decided t kinds claim object pc xs p x u known begun ended is path =
 
 -- ---- calls
 -- a process at a place is at one that fits the table
-at_place : (t : QuorumTable) (kind : Kind) (v : ℕ) (pc : Pc) (turns : List Turn) → IsAt t kind v pc turns → IsPlace t pc
+at_place : (t : QuorumTable) (kind : Kind) (v : ℕ) (pc : Pc) (turns : List Turn)
+    → PcIsAt t kind v pc turns → IsPlace t pc
 at_place t Ratifier v (InRatifier place) turns at = at.0
 at_place t (Conciliator s) v (InConciliator place) turns at = at.0
 at_place t Ratifier v (InConciliator place) turns at = absurd at

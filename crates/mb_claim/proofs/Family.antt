@@ -6,7 +6,7 @@ use Rattle.mb_quorum.specs.Vocabulary.{QuorumTable}
 use Rattle.mb_deciding.specs.Vocabulary.{object_of, IsMemoryTrue as IsObjectMemoryTrue, part}
 use Rattle.mb_deciding.specs.Vocabulary.{AreInWords as AreObjectInWords, answer, IsPath, IsPrefix, IsObjectLawful}
 use Rattle.mb_deciding.specs.Vocabulary.{HasOutput}
-use Rattle.mb_claim.specs.{Access, Kind, ObjectTurn, Stage, Going, Won, Lost, Undecided, stage_for, Names}
+use Rattle.mb_claim.specs.{Access, Kind, ObjectTurn, Stage, Going, Won, Lost, Undecided, stage_for, StageNames}
 use Rattle.mb_claim.proofs.KindLaws.{OfKind}
 use Rattle.mb_claim.proofs.ObjectHistories.{turns_at}
 use Rattle.mb_claim.proofs.Parts.{Member, Forward, Ends, forward}
@@ -25,13 +25,13 @@ pub record Family (t : QuorumTable) (ks : List Kind) (o : ℕ) (hs : ℕ → Lis
   pub words : (n : ℕ) → AreObjectInWords (hs n)
 
 -- the stage names the winner that was decided
-names_decided : (c a u : ℕ) (b : Bool) → eqb c a ≡ b → Names c (cond b Won (Lost a)) u → u ≡ a
+names_decided : (c a u : ℕ) (b : Bool) → eqb c a ≡ b → StageNames c (cond b Won (Lost a)) u → u ≡ a
 names_decided c a u true e n = n ∙ eqb-true c a e
 names_decided c a u false e n = n
 
 -- where a was decided, the winner that is named is a
-names_stage : (c a u : ℕ) (s : Stage) → s ≡ stage_for c a → Names c s u → u ≡ a
-names_stage c a u s e n = names_decided c a u (eqb c a) refl (subst (λ r. Names c r u) e n)
+names_stage : (c a u : ℕ) (s : Stage) → s ≡ stage_for c a → StageNames c s u → u ≡ a
+names_stage c a u s e n = names_decided c a u (eqb c a) refl (subst (λ r. StageNames c r u) e n)
 
 -- where a value was decided, the claim is not undecided
 decided_undecided : (c a : ℕ) (b : Bool) → Undecided ≡ cond b Won (Lost a) → ⊥
@@ -109,20 +109,20 @@ module _ (t : QuorumTable) (k : Kind) (ks : List Kind) (o : ℕ) (hs : ℕ → L
   abbrev pub Ended : ℕ → ℕ → Type 0
   Ended c u =
       HasOutput (object_of t k fam.input) c true u (hs o)
-      ⊎ (HasOutput (object_of t k fam.input) c false (step c).value (hs o) × Names c (step c).stage u)
+      ⊎ (HasOutput (object_of t k fam.input) c false (step c).value (hs o) × StageNames c (step c).stage u)
 
   -- the same, by how the part ends
   ended_by :
-      (c u : ℕ) → Names c (fam.stage c) u
+      (c u : ℕ) → StageNames c (fam.stage c) u
       → Ends t c k o (fam.input c) (fam.rest c) (fam.stage c) (step c).value (step c).stage → Ended c u
-  ended_by c u n (inl g) = absurd (subst (λ r. Names c r u) g n)
+  ended_by c u n (inl g) = absurd (subst (λ r. StageNames c r u) g n)
   ended_by c u n (inr (inl (a, path, e))) =
       inl (subst (λ w. HasOutput (object_of t k fam.input) c true w (hs o)) (sym (names_stage c a u (fam.stage c) e n))
       (output c true a path))
-  ended_by c u n (inr (inr x)) = inr (output c false (step c).value x.0, subst (λ r. Names c r u) (sym x.1) n)
+  ended_by c u n (inr (inr x)) = inr (output c false (step c).value x.0, subst (λ r. StageNames c r u) (sym x.1) n)
 
   -- each stage that names a winner is one of these
-  pub ended : (c u : ℕ) → Names c (fam.stage c) u → Ended c u
+  pub ended : (c u : ℕ) → StageNames c (fam.stage c) u → Ended c u
   ended c u n = ended_by c u n (step c).ends
 
   -- the same as below, by how the part ends
@@ -142,6 +142,6 @@ module _ (t : QuorumTable) (k : Kind) (ks : List Kind) (o : ℕ) (hs : ℕ → L
 
 -- where no object is left, no winner is named
 pub none_named :
-    (t : QuorumTable) (c o v u : ℕ) (xs : List ObjectTurn) (s : Stage) → Member t c [] o v xs s → Names c s u → ⊥
-none_named t c o v u xs s (inl x) n = subst (λ r. Names c r u) x.1 n
-none_named t c o v u xs s (inr x) n = subst (λ r. Names c r u) x.1 n
+    (t : QuorumTable) (c o v u : ℕ) (xs : List ObjectTurn) (s : Stage) → Member t c [] o v xs s → StageNames c s u → ⊥
+none_named t c o v u xs s (inl x) n = subst (λ r. StageNames c r u) x.1 n
+none_named t c o v u xs s (inr x) n = subst (λ r. StageNames c r u) x.1 n

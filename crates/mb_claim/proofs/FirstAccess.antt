@@ -3,7 +3,7 @@ use Rattle.std.proofs.Common.{◌≡◌, ◌<◌, ◌≤◌, ℕ, zero, suc, Boo
 use Rattle.std.proofs.Common.{◌∙◌, ap, subst, inl, arith}
 use Rattle.mb_quorum.specs.Vocabulary.{QuorumTable}
 use Rattle.mb_deciding.specs.declared.access.Op.TheVariants as to
-use Rattle.mb_deciding.specs.Vocabulary.{answer, IsAt, IsOpAt, CanFind, spread}
+use Rattle.mb_deciding.specs.Vocabulary.{answer, PcIsAt, IsOpAt, CanFind, spread}
 use Rattle.mb_claim.specs.{Op, Value, Turn, Draw, Put, Look, Kind, Conciliator, Ratifier, Pc, InRatifier, InConciliator, InLast}
 use Rattle.mb_claim.specs.{ObjectTurn, Going, Claim, Layout, pairs_of, fast_row, last_row, quorums_of, kinds_of, turns_on}
 use Rattle.mb_claim.specs.{IsClaimPrefixFrom, PassesAll, StandsAt, IsClaimOf}
@@ -29,7 +29,7 @@ first_kind false kind rest ys is = (kind, rest, is)
 
 -- what the place of a process in a conciliator without turns does next, and what it may find
 first_load :
-    (t : QuorumTable) (s v : ℕ) (pc : Pc) (op : Op) → IsAt t (Conciliator s) v pc [] → IsOpAt t pc op
+    (t : QuorumTable) (s v : ℕ) (pc : Pc) (op : Op) → PcIsAt t (Conciliator s) v pc [] → IsOpAt t pc op
     → (op ≡ to.Load Value) × ((seen : ℕ) → CanFind t pc op seen → seen ≤ t.values)
 first_load t s v (InRatifier place) op at is = absurd at
 first_load t s v (InLast place) op at is = absurd at
@@ -61,9 +61,9 @@ module _ (t : QuorumTable) (law : AreDeciding t) (c : ℕ) (known : c < t.values
       let before : at.before ≡ [] = none_passed at.before at.front at.input front at.passed in
       let kind : Conciliator s ≡ at.kind =
       heads (Conciliator s) at.kind rest at.after (at.order ∙ ap (λ ks. ks ++ at.kind ∷ at.after) before) in
-      let place : IsAt t (Conciliator s) at.input pc [] =
-      subst (λ ts. IsAt t (Conciliator s) at.input pc ts) turns
-      (subst (λ k. IsAt t k at.input pc at.turns) (sym kind) at.place) in
+      let place : PcIsAt t (Conciliator s) at.input pc [] =
+      subst (λ ts. PcIsAt t (Conciliator s) at.input pc ts) turns
+      (subst (λ k. PcIsAt t k at.input pc at.turns) (sym kind) at.place) in
       let load = first_load t s at.input pc op place is in
       (at.number ∙ ap length before, load.0, load.1)
 

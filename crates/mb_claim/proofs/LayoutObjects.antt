@@ -13,7 +13,7 @@ use Rattle.mb_deciding.specs.Vocabulary.{spread}
 use Rattle.mb_claim.specs.{Conciliator, Ratifier, LastObject, Kind, Layout, Shape, pairs_of, fast_row, last_row, row_of, most_on_objects, quorums_of, kinds_of}
 use Rattle.mb_claim.specs.{consumer_count, cell_words}
 use Rattle.mb_claim.specs.declared.layout.TheConstants.{MAX_OBJECTS, MAX_PAIRS}
-use Rattle.mb_claim.proofs.Addresses.{words_of-few}
+use Rattle.mb_claim.proofs.Addresses.{row_words-few}
 
 -- two objects for each pair
 pub length-pairs_of : (s n : ℕ) → length (pairs_of s n) ≡ 2 * n
@@ -168,7 +168,7 @@ cell_small layout =
     let r = (quorums_of layout).registers in
     let quorum = quorums_lawful layout in
     let few = objects_few layout.shape (spread (quorums_of layout).values) layout.pairs layout.few in
-    omega (arith, words_of-few r kinds, mul-le (length kinds) (1 + r) MAX_OBJECTS 65 few (omega (arith, quorum.limit)))
+    omega (arith, row_words-few r kinds, mul-le (length kinds) (1 + r) MAX_OBJECTS 65 few (omega (arith, quorum.limit)))
 
 -- where two rows have the same object, either tells it
 pub told_by_row :

@@ -3,7 +3,7 @@ use Rattle.std.proofs.Common.{◌≡◌, ◌≢◌, ◌+◌, ◌∙◌, arith, �
 use Rattle.mb_quorum.specs.Vocabulary.{QuorumTable}
 use Rattle.mb_deciding.specs.declared.access.Op.{Op}
 use Rattle.mb_deciding.specs.declared.place.pc.Next.TheVariants as leads
-use Rattle.mb_deciding.specs.Vocabulary.{IsAt, IsReached, CanFind, IsOpAt}
+use Rattle.mb_deciding.specs.Vocabulary.{PcIsAt, IsReached, CanFind, IsOpAt}
 use Rattle.mb_deciding.specs.OneStep.{IsStep}
 use Rattle.mb_deciding.specs.ManySteps.{AreSteps, DrawsAndMakes}
 use Rattle.mb_claim.specs.{Kind, Turn, Out, Pc, Claim, ClaimOp, Going, Layout, ObjectTurn, claim_stage, consumer_of, quorums_of, kinds_of}
@@ -124,7 +124,7 @@ module _ {M : Type 0} (layout : Layout) (parts : PartsOf (quorums_of layout) (ki
         (n : ℕ) (out : Out) (now : M) (follows : Claim) → consumer_of follows ≡ consumer_of claim
         → AreSteps (quorums_of layout) (DrawsAndMakes draws makes claim.object) claim.place start n (leads.Out out) now
         → ((pc : Pc) (begun : Bool) (xs : List ObjectTurn) (turn : Turn) → IsClaimIn layout (stood_at pc begun claim) xs
-        → ((kind : Kind) (v : ℕ) (turns : List Turn) → IsAt (quorums_of layout) kind v pc turns
+        → ((kind : Kind) (v : ℕ) (turns : List Turn) → PcIsAt (quorums_of layout) kind v pc turns
         → IsReached (quorums_of layout) kind v (leads.Out out) (turn ∷ turns))
         → IsClaimIn layout follows (record { object = claim.object; turn = turn } ∷ xs))
         → AreClaimSteps layout (DrawsAndMakesNext draws makes) claim start n follows now

@@ -1,6 +1,6 @@
 -- No more accesses are left to a claim than its layout allows.
 use Rattle.std.proofs.Common.{◌≡◌, ◌<◌, ◌≤◌, ℕ, suc, List, [], ◌∷◌, ◌++◌, refl, ◌∙◌, ap, ap₂, length, drop, arith}
-use Rattle.mb_deciding.specs.Vocabulary.{IsAt, most_turns, turns_left}
+use Rattle.mb_deciding.specs.Vocabulary.{PcIsAt, most_turns, turns_left}
 use Rattle.mb_claim.specs.{Kind, Pc, Turn, ObjectTurn, Claim, Layout, Stage, Going, Won, Lost, Undecided, IsClaimIn}
 use Rattle.mb_claim.specs.{quorums_of, kinds_of, most_on_objects, most_accesses, steps_left}
 use Rattle.mb_claim.proofs.Bounds.{most-append, row_steps}
@@ -14,7 +14,7 @@ past_one (k ∷ before) kind after = past_one before kind after
 
 module _ (layout : Layout) (claim : Claim) (xs : List ObjectTurn) (of : IsClaimIn layout claim xs)
     (most : (kind : Kind) (v : ℕ) (pc : Pc) (turns : List Turn) → v < (quorums_of layout).values
-    → IsAt (quorums_of layout) kind v pc turns
+    → PcIsAt (quorums_of layout) kind v pc turns
     → turns_left (quorums_of layout) pc ≤ most_turns (quorums_of layout) kind) where
   -- while it goes on
   going_most : claim.stage ≡ Going → steps_left layout claim ≤ most_accesses layout

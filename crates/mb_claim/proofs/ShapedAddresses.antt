@@ -1,15 +1,15 @@
 -- Where the words of a row of any shape lie.
 use Rattle.std.proofs.Common.{◌≡◌, ◌+◌, ◌*◌, ◌<◌, ℕ, zero, suc, Bool, true, false, List, [], ◌∷◌, ◌++◌, length, refl, ap, arith}
-use Rattle.mb_claim.specs.{Reg, Kind, Shape, offset, words_before, words_of, address_of, pairs_of, fast_row, last_row}
+use Rattle.mb_claim.specs.{Reg, Kind, Shape, offset, words_before, row_words, address_of, pairs_of, fast_row, last_row}
 use Rattle.mb_claim.specs.{row_of, shaped_words}
-use Rattle.mb_claim.proofs.Addresses.{words_of-pairs_of, words_before-pairs_of}
+use Rattle.mb_claim.proofs.Addresses.{row_words-pairs_of, words_before-pairs_of}
 use Rattle.mb_claim.proofs.LayoutObjects.{length-pairs_of}
 
 -- ---- rows joined
 -- they have the words of both
-words_of-append : (r : ℕ) (xs ys : List Kind) → words_of r (xs ++ ys) ≡ words_of r xs + words_of r ys
-words_of-append r [] ys = omega arith
-words_of-append r (x ∷ xs) ys = omega (arith, words_of-append r xs ys)
+row_words-append : (r : ℕ) (xs ys : List Kind) → row_words r (xs ++ ys) ≡ row_words r xs + row_words r ys
+row_words-append r [] ys = omega arith
+row_words-append r (x ∷ xs) ys = omega (arith, row_words-append r xs ys)
 
 -- an object of the first row has the words before it that it had
 before_ahead : (r : ℕ) (xs ys : List Kind) (o : ℕ) → o < length xs → words_before r (xs ++ ys) o ≡ words_before r xs o
@@ -20,13 +20,13 @@ before_ahead r (x ∷ xs) ys (suc o) h = omega (arith, before_ahead r xs ys o (o
 -- and one of the second has those of the first, too
 before_behind :
     (r : ℕ) (xs ys : List Kind) (n o : ℕ) → n ≡ length xs + o
-    → words_before r (xs ++ ys) n ≡ words_of r xs + words_before r ys o
+    → words_before r (xs ++ ys) n ≡ row_words r xs + words_before r ys o
 before_behind r [] ys n o e = let same : n ≡ o = omega (arith, e) in omega (arith, ap (words_before r ys) same)
 before_behind r (x ∷ xs) ys zero o e = absurd (omega (arith, e))
 before_behind r (x ∷ xs) ys (suc n) o e = omega (arith, before_behind r xs ys n o (omega (arith, e)))
 
 -- ---- the three parts of a row
-fast_words : (r : ℕ) (b : Bool) → words_of r (fast_row b) ≡ length (fast_row b) * (1 + r)
+fast_words : (r : ℕ) (b : Bool) → row_words r (fast_row b) ≡ length (fast_row b) * (1 + r)
 fast_words r true = omega arith
 fast_words r false = omega arith
 
@@ -36,7 +36,7 @@ fast_before r true (suc zero) h = omega arith
 fast_before r true (suc (suc o)) h = absurd (omega (arith, h))
 fast_before r false o h = absurd (omega (arith, h))
 
-last_words : (r : ℕ) (b : Bool) → words_of r (last_row b) ≡ length (last_row b)
+last_words : (r : ℕ) (b : Bool) → row_words r (last_row b) ≡ length (last_row b)
 last_words r true = omega arith
 last_words r false = omega arith
 
@@ -45,14 +45,14 @@ nothing_before r true = refl
 nothing_before r false = refl
 
 -- ---- the row
-pub words_of-row_of : (r s n : ℕ) (shape : Shape) → words_of r (row_of shape s n) ≡ shaped_words r shape n
-words_of-row_of r s n shape =
+pub row_words-row_of : (r s n : ℕ) (shape : Shape) → row_words r (row_of shape s n) ≡ shaped_words r shape n
+row_words-row_of r s n shape =
     omega (
       arith,
-      words_of-append r (fast_row shape.fast) (pairs_of s n ++ last_row shape.last),
-      words_of-append r (pairs_of s n) (last_row shape.last),
+      row_words-append r (fast_row shape.fast) (pairs_of s n ++ last_row shape.last),
+      row_words-append r (pairs_of s n) (last_row shape.last),
       fast_words r shape.fast,
-      words_of-pairs_of r s n,
+      row_words-pairs_of r s n,
       last_words r shape.last,
     )
 
@@ -61,8 +61,8 @@ address_in_row :
     (r s n k o : ℕ) (shape : Shape) (reg : Reg) (before : ℕ) → words_before r (row_of shape s n) o ≡ before
     → address_of r (row_of shape s n) k o reg ≡ k * shaped_words r shape n + (before + offset reg)
 address_in_row r s n k o shape reg before e =
-    let cells : k * words_of r (row_of shape s n) ≡ k * shaped_words r shape n =
-    ap (λ w. k * w) (words_of-row_of r s n shape) in
+    let cells : k * row_words r (row_of shape s n) ≡ k * shaped_words r shape n =
+    ap (λ w. k * w) (row_words-row_of r s n shape) in
     omega (arith, cells, e)
 
 -- where a word of the fast path lies
@@ -106,6 +106,6 @@ last_address r s n k shape reg =
           (length (fast_row shape.fast) + 2 * n) (2 * n) refl,
       fast_words r shape.fast,
       before_behind r (pairs_of s n) (last_row shape.last) (2 * n) 0 (omega (arith, length-pairs_of s n)),
-      words_of-pairs_of r s n,
+      row_words-pairs_of r s n,
       nothing_before r shape.last,
     ))

@@ -6,7 +6,7 @@ use Rattle.std.proofs.lemmas.Bool.{eq-eqb}
 use Rattle.std.specs.List.{cons_option}
 use Rattle.mb_quorum.specs.Vocabulary.{QuorumTable}
 use Rattle.mb_deciding.specs.Vocabulary.{object_of, ReadsLast, part, IsInWords, answer, IsPath, IsPrefix, IsOpen}
-use Rattle.mb_deciding.specs.Vocabulary.{IsObjectLawful, CanFind, IsAt, IsOpAt, turn_after, seen_by}
+use Rattle.mb_deciding.specs.Vocabulary.{IsObjectLawful, CanFind, PcIsAt, IsOpAt, turn_after, seen_by}
 use Rattle.mb_claim.specs.{Claims, claims_of, Turn, Access, Op, Kind, Out, Pc, ObjectTurn, ClaimAccess, Stage, Going}
 use Rattle.mb_claim.specs.{Undecided, part_on, object_history, turns_on, stage_for, IsClaimPrefixFrom, IsClaimLawful}
 use Rattle.mb_claim.specs.{MayFollow, PassesAll, StandsAt, HasPlace, access_after}
@@ -124,12 +124,12 @@ pub record AreStepping (t : QuorumTable) : Type 0 where
   pub steps :
       (kind : Kind) (inputs : ℕ → ℕ) (h : List Access) (p : ℕ) (pc : Pc) (op : Op) (word : ℕ)
       → IsObjectLawful (object_of t kind inputs) h
-      → IsAt t kind (inputs p) pc (part p h) → IsOpAt t pc op
+      → PcIsAt t kind (inputs p) pc (part p h) → IsOpAt t pc op
       → IsPrefix t kind (inputs p) (turn_after op word h ∷ part p h)
   pub finds :
       (kind : Kind) (inputs : ℕ → ℕ) (h : List Access) (p : ℕ) (pc : Pc) (op : Op)
       → IsObjectLawful (object_of t kind inputs) h
-      → IsAt t kind (inputs p) pc (part p h) → IsOpAt t pc op → CanFind t pc op (seen_by op h)
+      → PcIsAt t kind (inputs p) pc (part p h) → IsOpAt t pc op → CanFind t pc op (seen_by op h)
   pub longer :
       (kind : Kind) (inputs : ℕ → ℕ) (h : List Access) (p : ℕ) (turn : Turn)
       → IsObjectLawful (object_of t kind inputs) h
@@ -139,13 +139,13 @@ pub record AreStepping (t : QuorumTable) : Type 0 where
 
 module _ (t : QuorumTable) (law : AreDeciding t) (stepping : AreStepping t) (kind : Kind) (hs : ℕ → List Access)
     (c o w : ℕ) (turns : List Turn) (at : Here t kind hs c o w turns)
-    (pc : Pc) (op : Op) (word : ℕ) (small : IsInWords (turn_after op word (hs o))) (place : IsAt t kind w pc turns)
+    (pc : Pc) (op : Op) (word : ℕ) (small : IsInWords (turn_after op word (hs o))) (place : PcIsAt t kind w pc turns)
     (is : IsOpAt t pc op) where
   -- the turn goes on with the path of its process
   own_step : IsPrefix t kind (at.inputs c) (turn_after op word (hs o) ∷ part c (hs o))
   own_step =
       stepping.steps kind at.inputs (hs o) c pc op word at.lawful
-      (subst₂ (λ v ts. IsAt t kind v pc ts) (sym at.own) (sym at.same) place) is
+      (subst₂ (λ v ts. PcIsAt t kind v pc ts) (sym at.own) (sym at.same) place) is
 
   -- and so with the claim's path on this object
   pub part_here : IsPrefix t kind w (turn_after op word (hs o) ∷ turns)
@@ -212,7 +212,7 @@ pub finds_there :
 finds_there cs law stepping h c k object pc op lawful p is =
     let at = stands_here cs law h c k object pc lawful p in
     stepping.finds p.1.kind at.inputs (object_history k object h) c pc op at.lawful
-    (subst₂ (λ v ts. IsAt cs.table p.1.kind v pc ts) (sym at.own) (sym at.same) p.1.place) is
+    (subst₂ (λ v ts. PcIsAt cs.table p.1.kind v pc ts) (sym at.own) (sym at.same) p.1.place) is
 
 -- the object on which a claim stands is one of the layout's
 pub stands_on :

@@ -6,7 +6,7 @@ use Rattle.mb_quorum.specs.Vocabulary.{QuorumTable}
 use Rattle.mb_deciding.specs.Vocabulary.{part}
 use Rattle.mb_claim.specs.{Claims, Kind, Ratifier, ObjectTurn, ClaimAccess, Stage, Going, Won, Lost}
 use Rattle.mb_claim.specs.{Undecided, part_on, object_history, IsClaimPrefixFrom, Enters, IsClaimLawful, HasStage}
-use Rattle.mb_claim.specs.{Names, IsClaimAnnounced, HasOneWinner}
+use Rattle.mb_claim.specs.{StageNames, IsClaimAnnounced, HasOneWinner}
 use Rattle.mb_claim.proofs.KindLaws.{AreDeciding, AreRatifying}
 use Rattle.mb_claim.proofs.Turns.{has_turns}
 use Rattle.mb_claim.proofs.ObjectHistories.{turns_at, part-object_history}
@@ -40,9 +40,9 @@ module _ (cs : Claims) (h : List ClaimAccess) (k : ℕ) (law : AreDeciding cs.ta
     (ratifying : AreRatifying cs.table) (lawful : IsClaimLawful cs h) where
   -- the winner that a stage names is the one that the consumer's stage names
   named :
-      (c u : ℕ) (s : Stage) → HasStage cs c k s h → Names c s u
-      → Names c (start cs h k law lawful c).stage u
-  named c u s q n = subst (λ r. Names c r u) (sym ((start cs h k law lawful c).is s q)) n
+      (c u : ℕ) (s : Stage) → HasStage cs c k s h → StageNames c s u
+      → StageNames c (start cs h k law lawful c).stage u
+  named c u s q n = subst (λ r. StageNames c r u) (sym ((start cs h k law lawful c).is s q)) n
 
   -- consumer c comes to object n with input w
   abbrev E : ℕ → ℕ → ℕ → Type 0

@@ -1,4 +1,4 @@
--- The claims on cells that have all the same objects, as plain data.
+-- The claims on cells that all have the same objects, as plain data.
 use Rattle.std.specs.Prelude.{ℕ, List}
 use Rattle.mb_quorum.specs.Vocabulary.{QuorumTable, IsQuorumTable}
 use Rattle.mb_claim.specs.ObjectTypes.{Kind}
@@ -9,10 +9,10 @@ pub record Claims : Type 0 where
   pub kinds : List Kind
   pub cells : ℕ
 
--- the claims of these
+-- the claims with this table, these objects and this number of cells
 abbrev pub claims_of : QuorumTable → List Kind → ℕ → Claims
 claims_of t kinds cells = record { table = t; kinds = kinds; cells = cells }
 
--- the table is one
-abbrev pub IsSound : Claims → Type 0
-IsSound cs = IsQuorumTable cs.table
+-- the table is a quorum table
+abbrev pub ClaimsAreSound : Claims → Type 0
+ClaimsAreSound cs = IsQuorumTable cs.table

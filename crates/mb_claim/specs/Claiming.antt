@@ -7,29 +7,29 @@ use Rattle.mb_claim.specs.Types.{ClaimAccess, ObjectTurn, Stage}
 use Rattle.mb_claim.specs.History.{part_on, object_history, left_at, IsMemoryTrue, AreInWords}
 use Rattle.mb_claim.specs.Paths.{IsClaimPrefix}
 
--- what consumer c did on cell k belongs to a claim: it is a consumer, the cell is one of the claims', and the steps are
--- a prefix of its claim path
+-- what consumer c did on cell k belongs to a claim: c is a consumer, k is a cell of the claims, and the steps are a
+-- prefix of c's claim path
 abbrev pub IsClaimPart : Claims → ℕ → ℕ → List ObjectTurn → Type 0
 IsClaimPart cs c k xs = (c < cs.table.values) × (k < cs.cells) × ((s : Stage)
     × IsClaimPrefix cs c xs s)
 
--- Each load is true to memory, values and random words are words of 64 bits, and what a consumer did on a cell is a
--- prefix of its claim path there, whose first input is its own number. There are no consumers and cells but
--- those of the claims: the consumers are the values of the quorum table.
+-- Each load is true to memory. Values and random words are words of 64 bits. What a consumer did on a cell is a prefix
+-- of its claim path there, with its own number as first input. There are no consumers and cells but those of the
+-- claims: the consumers are the values of the quorum table.
 pub record IsClaimLawful (cs : Claims) (h : List ClaimAccess) : Type 0 where
   -- each load has what the older accesses left
   pub memory : IsMemoryTrue h
   -- values and random words are below 2 ^ 64
   pub words : AreInWords h
-  -- who has done something on a cell has done it for its claim there
+  -- what a consumer has done on a cell belongs to its claim there
   pub parts : (c k : ℕ) → part_on c k h ≢ [] → IsClaimPart cs c k (part_on c k h)
 
 -- the claim of consumer c on cell k has the stage s
 abbrev pub HasStage : Claims → ℕ → ℕ → Stage → List ClaimAccess → Type 0
 HasStage cs c k s h = (c < cs.table.values) × IsClaimPrefix cs c (part_on c k h) s
 
--- an access that may come next: it is of a consumer and a cell of the claims, a load gives what the history leaves
--- in its word, and the consumer's part goes on along a claim path
+-- an access that may come next. It is of a consumer and a cell of the claims. A load gives what the history leaves in
+-- its word. The consumer's part goes on along a claim path
 pub record MayFollow (cs : Claims) (a : ClaimAccess) (h : List ClaimAccess) : Type 0 where
   -- it is of one of the consumers
   pub consumer : a.consumer < cs.table.values
@@ -39,7 +39,7 @@ pub record MayFollow (cs : Claims) (a : ClaimAccess) (h : List ClaimAccess) : Ty
   pub words : IsInWords a.step.turn
   -- a load has what the history leaves in its word
   pub reads : ReadsLast a.step.turn.act (object_history a.cell a.step.object h)
-  -- and what the consumer has done then belongs to its claim
+  -- with it, the consumer's part on the cell is a prefix of its claim path
   pub prefix : (s : Stage) × IsClaimPrefix cs a.consumer (a.step ∷ part_on a.consumer a.cell h) s
 
 -- what a word of object o of cell k that held n holds after an access

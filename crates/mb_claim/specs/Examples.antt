@@ -1,5 +1,5 @@
--- Histories of claims on one cell, for two consumers and one pair over the unary table: some that are lawful, and
--- some that are not. And runs of them.
+-- Histories of claims on one cell, for two consumers and one pair over the unary table. Some are lawful, and some are
+-- not. And runs of such claims.
 use Rattle.std.specs.Prelude.{ℕ, List, [], ◌∷◌}
 use Rattle.mb_quorum.specs.Unary.{unary_table}
 use Rattle.mb_claim.specs.declared.run.ClaimEntry.TheVariants as entry
@@ -54,16 +54,16 @@ begun_again =
 abbrev pub after_winning : List ClaimAccess
 after_winning = access_at 0 1 (Load (Quorum 1) 0) ∷ won_alone
 
--- consumer 1 has 0 from object 0, and goes to object 1 with its own number all the same
+-- consumer 1 has the value 0 from object 0, but goes to object 1 with its own number
 abbrev pub own_number_again : List ClaimAccess
 own_number_again = access_at 1 1 (Store (Quorum 1) 1) ∷ access_at 1 0 (Load Value 1) ∷ won_alone
 
--- a third consumer comes, where there are two
+-- a third consumer comes, although there are two
 abbrev pub of_a_stranger : List ClaimAccess
 of_a_stranger = access_at 2 0 (Load Value 0) ∷ []
 
 -- ---- runs
--- what these steps make of the claims of two consumers
+-- the entries and stages of these steps of two consumers
 abbrev pub IsPlayedByTwo : List (ℕ × ℕ) → List ClaimEntry → List Stage → Type 0
 IsPlayedByTwo steps entries stages = IsPlayed two_consumers steps entries stages
 

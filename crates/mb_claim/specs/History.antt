@@ -1,7 +1,7 @@
 -- Histories of claims over many cells: lists of accesses, the newest first. An access is what one consumer did to one
--- word of one object of one cell. What is left of it when the consumer and the cell are known is a step (the object's
--- number and the turn), and when the object is known, too, a turn. A part, and the history of one object, is what a
--- history has of it, in its order.
+-- word of one object of one cell. Without the consumer and the cell it is a step: the object's number and the turn.
+-- Without the object, too, it is a turn. A part, or the history of one object, has the accesses of that part or object
+-- in the order of the history.
 use Rattle.std.specs.Prelude.{ℕ, ◌==◌, if◌then◌else◌, Option, Some, None, List, [], ◌∷◌, filter_map}
 use Rattle.mb_deciding.specs.Vocabulary.{value_in, ReadsLast, IsInWords, part as object_part}
 use Rattle.mb_claim.specs.ObjectTypes.{Reg, Access, Turn}
@@ -30,7 +30,7 @@ access_on k o a =
     then (if a.step.object == o then Some (record { process = a.consumer; turn = a.step.turn }) else None)
     else None
 
--- the history of object o of cell k, where the consumers are its processes
+-- the history of object o of cell k. Its processes are the consumers
 abbrev pub object_history : ℕ → ℕ → List ClaimAccess → List Access
 object_history k o h = filter_map (access_on k o) h
 

@@ -1,15 +1,15 @@
--- Layouts: the objects that each cell has, where their words lie, and how many turns a claim takes at most.
+-- Layouts: the objects that each cell has, where their words lie, and the most turns of a claim.
 use Rattle.std.specs.Prelude.{ℕ, ◌+◌, ◌*◌, Bool, true, false, List, [], ◌∷◌}
 use Rattle.mb_quorum.specs.Vocabulary.{QuorumTable, chosen_table}
 use Rattle.mb_deciding.specs.Vocabulary.{largest_quorum, most_turns, spread}
 use Rattle.mb_claim.specs.AllClaims.{Claims, claims_of}
 use Rattle.mb_claim.specs.ObjectTypes.{Reg, Kind, Ratifier}
 pub use Rattle.mb_claim.specs.Rows.{pairs_of, fast_row, last_row, row_of, plain}
-pub use Rattle.mb_claim.specs.Rows.{width, offset, words_before, words_of, shaped_words, address_of, IsWordOf}
+pub use Rattle.mb_claim.specs.Rows.{width, offset, words_before, row_words, shaped_words, address_of, IsWordOf}
 use Rattle.mb_claim.specs.Types.{Layout, Shape}
 
 -- ---- the objects of a cell
--- the quorum table of a layout; its values are the consumers
+-- the quorum table of a layout. Its values are the consumers
 abbrev pub quorums_of : Layout → QuorumTable
 quorums_of layout = chosen_table layout.table
 
@@ -28,9 +28,9 @@ kinds_of layout = row_of (shape_of layout) (spread (quorums_of layout).values) (
 -- ---- the same of claims
 -- how many words they have
 abbrev pub words_in : Claims → ℕ
-words_in cs = cs.cells * words_of cs.table.registers cs.kinds
+words_in cs = cs.cells * row_words cs.table.registers cs.kinds
 
--- each cell has an object o, and that has the word
+-- each cell has an object o, which has the word
 abbrev pub IsWordIn : Claims → ℕ → Reg → Type 0
 IsWordIn cs o reg = IsWordOf cs.table.registers cs.kinds o reg
 
@@ -39,13 +39,13 @@ abbrev pub address_in : Claims → ℕ → ℕ → Reg → ℕ
 address_in cs k o reg = address_of cs.table.registers cs.kinds k o reg
 
 -- ---- how many turns
--- no consumer makes more turns on a cell with these objects
+-- the most turns of a consumer on a cell with these objects
 abbrev pub most_on_objects : QuorumTable → List Kind → ℕ
 most_on_objects t [] = 0
 most_on_objects t (kind ∷ kinds) = most_turns t kind + most_on_objects t kinds
 
--- with so many pairs: for each s + 3 on the conciliator, and on the ratifier the registers of the largest write
--- quorum, 2 on the proposal, and the registers of the largest read quorum
+-- the most turns on `pairs` pairs. For each pair: s + 3 on the conciliator, and on the ratifier the registers of the
+-- largest write quorum, 2 on the proposal, and the registers of the largest read quorum
 abbrev pub max_steps : QuorumTable → ℕ → ℕ
 max_steps t pairs =
     pairs * (spread t.values + 3 + largest_quorum t.write t.values + 2 + largest_quorum t.read t.values)
@@ -59,12 +59,12 @@ abbrev pub last_steps : Bool → ℕ
 last_steps true = 1
 last_steps false = 0
 
--- of a row of this shape
+-- the most turns on a row of this shape
 abbrev pub shaped_steps : QuorumTable → Shape → ℕ → ℕ
 shaped_steps t shape pairs = fast_steps t shape.fast + (max_steps t pairs + last_steps shape.last)
 
 -- ---- the same of a layout
--- its claims on so many cells
+-- its claims on `cells` cells
 abbrev pub claims_in : Layout → ℕ → Claims
 claims_in layout cells = claims_of (quorums_of layout) (kinds_of layout) cells
 
@@ -74,9 +74,9 @@ consumer_count layout = (quorums_of layout).values
 
 -- how many words a cell has
 abbrev pub cell_words : Layout → ℕ
-cell_words layout = words_of (quorums_of layout).registers (kinds_of layout)
+cell_words layout = row_words (quorums_of layout).registers (kinds_of layout)
 
--- a cell has an object o, and that has the word
+-- a cell has an object o, which has the word
 abbrev pub HasWord : Layout → ℕ → Reg → Type 0
 HasWord layout o reg = IsWordOf (quorums_of layout).registers (kinds_of layout) o reg
 

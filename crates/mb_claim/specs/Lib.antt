@@ -17,7 +17,7 @@ pub mod Boards
 pub mod Examples
 pub mod ShapedExamples
 pub mod Vocabulary
--- what clauses name stands here, too
+-- what clauses name is here, too
 pub use ObjectTypes.*
 pub use Types.*
 pub use History.*

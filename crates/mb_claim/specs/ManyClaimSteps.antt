@@ -5,7 +5,7 @@ use Rattle.mb_claim.specs.Types.{Claim, ClaimOp, Going, Layout}
 use Rattle.mb_deciding.specs.declared.access.Op.{Op}
 use Rattle.mb_claim.specs.OneClaim.{claim_stage, consumer_of, IsClaimStep}
 
--- the claim as it is at this place on its object, begun or not
+-- the claim, but at this place on its object, and begun or not
 abbrev pub stood_at : Pc → Bool → Claim → Claim
 stood_at pc begun claim =
     record { consumer = claim.consumer; object = claim.object; place = pc; stage = claim.stage; begun = begun }
@@ -16,8 +16,8 @@ module _ {M : Type 0} where
   DrawsAndMakesNext draws makes before word next seen now =
       (mid : M) × draws before word mid × makes mid next.object next.op seen now
 
-  -- from a claim and a memory on, so many accesses led to the claim that follows, and to another memory: each is the next
-  -- one of a claim that goes on, with the random word that was drawn for it, and leaves the claim with its consumer
+  -- from a claim and a memory, this number of accesses led to the claim that follows, and to another memory. Each is
+  -- the next one of a claim that goes on, with the random word that was drawn for it. The claim keeps its consumer
   abbrev pub AreClaimSteps : Layout → (M → ℕ → ClaimOp → ℕ → M → Type 0) → Claim → M → ℕ → Claim → M → Type 0
   AreClaimSteps layout makes claim start zero follows now = (follows ≡ claim) × (now ≡ start)
   AreClaimSteps layout makes claim start (suc n) follows now =

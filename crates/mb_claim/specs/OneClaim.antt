@@ -1,4 +1,4 @@
--- A claim between its accesses, as those see it who call it.
+-- A claim between its accesses, as its callers see it.
 use Rattle.std.specs.Prelude.{ℕ, suc, ◌≡◌, ◌+◌, ◌<◌, Bool, List, ◌∷◌, drop, length}
 use Rattle.mb_deciding.specs.Vocabulary.{turns_left, IsPlace, IsOpAt, CanFind}
 use Rattle.mb_claim.specs.ObjectTypes.{Pc}
@@ -16,7 +16,7 @@ consumer_of claim = claim.consumer
 abbrev pub claim_stage : Claim → Stage
 claim_stage claim = claim.stage
 
--- the claim as it is where it stands at this place on its object
+-- the claim, but at this place on its object
 abbrev pub placed_at : Pc → Claim → Claim
 placed_at pc claim =
     record {
@@ -38,7 +38,7 @@ pub record IsOnObject (layout : Layout) (claim : Claim) : Type 0 where
   -- and the place fits its table
   pub place : IsPlace (quorums_of layout) claim.place
 
--- as long as it is going, its calls may be made with this layout
+-- while it is going, its calls may be made with this layout
 abbrev pub FitsLayout : Layout → Claim → Type 0
 FitsLayout layout claim = claim_stage claim ≡ Going → IsOnObject layout claim
 
@@ -49,18 +49,18 @@ pub record IsNextOp (layout : Layout) (claim : Claim) (next : ClaimOp) : Type 0 
   -- the load, store or exchange of its place there
   pub op : IsOpAt (quorums_of layout) claim.place next.op
 
--- what that access may find: a load or an exchange gives a value that the word can hold, and what the claim has stored
--- is not empty
+-- what that access may find: a load or an exchange finds a value that the word can hold. In a conciliator that is not 0
+-- if the claim has stored there
 abbrev pub CanClaimFind : Layout → Claim → ClaimOp → ℕ → Type 0
 CanClaimFind layout claim next seen = CanFind (quorums_of layout) claim.place next.op seen
 
--- the claim is that of a consumer of the layout that has made these turns
+-- the claim belongs to a consumer of the layout, which has made these turns
 abbrev pub IsClaimIn : Layout → Claim → List ObjectTurn → Type 0
 IsClaimIn layout claim xs = IsClaimOf (quorums_of layout) (kinds_of layout) claim xs
 
 -- ---- one step
--- the next access of the claim was made with the random word, where `makes` says what was made and what it found, and
--- the claim is then another
+-- the next access of the claim was made with the random word, and led to the claim that follows. `makes` says what was
+-- made and what it found
 pub record IsClaimStep (layout : Layout) (claim : Claim) (makes : ClaimOp → ℕ → Type 0) (word : ℕ) (follows : Claim)
     : Type 0 where
   -- the access, and the value that it found
@@ -69,14 +69,14 @@ pub record IsClaimStep (layout : Layout) (claim : Claim) (makes : ClaimOp → �
   -- it is the one that comes next, and it was made
   pub is : IsNextOp layout claim next
   pub made : makes next seen
-  -- where it can find that, it is one more on the claim's path
+  -- if it can find that, it is one more on the claim's path
   pub path :
       (xs : List ObjectTurn) → IsClaimIn layout claim xs → CanClaimFind layout claim next seen
       → IsClaimIn layout follows (step_of next.object next.op seen word ∷ xs)
 
 -- ---- the accesses that are left
--- how many a claim with this stage can still make from its place on this object, whatever its loads find: those that are
--- left on the object, and all that the objects behind it allow
+-- how many a claim with this stage can still make from its place on this object, whatever its loads find: those that
+-- are left on the object, and all that the objects after it allow
 abbrev pub steps_left_at : Layout → Stage → ℕ → Pc → ℕ
 steps_left_at layout Going object pc =
     turns_left (quorums_of layout) pc + most_on_objects (quorums_of layout) (drop (suc object) (kinds_of layout))
@@ -93,7 +93,7 @@ steps_left layout claim = steps_left_at layout claim.stage claim.object claim.pl
 abbrev pub claim_access : Claim → ℕ → ObjectTurn → ClaimAccess
 claim_access claim k step = record { consumer = consumer_of claim; cell = k; step = step }
 
--- the words, and the claim on cell k, are those of one lawful history of the layout's claims on so many cells
+-- the words, and the claim on cell k, fit one lawful history of the layout's claims on `cells` cells
 pub record IsClaimOn (layout : Layout) (cells k : ℕ) (claim : Claim) (words : List ℕ)
     (h : List ClaimAccess) : Type 0 where
   -- the cell is one of them

@@ -10,7 +10,7 @@ use Rattle.mb_claim.specs.Types.{ObjectTurn, Stage, Going, Won, Lost, Undecided}
 abbrev pub turns_on : ℕ → List Turn → List ObjectTurn
 turns_on o turns = map (λ turn. record { object = o; turn = turn }) turns
 
--- the stage of consumer c where u was decided
+-- the stage of consumer c if u was decided
 abbrev pub stage_for : ℕ → ℕ → Stage
 stage_for c u = if c == u then Won else Lost u
 
@@ -31,7 +31,7 @@ IsClaimPath t (kind ∷ kinds) o v xs output =
     ⊎ ((d ≡ false) × IsClaimPath t kinds (suc o) u later output))
 
 -- ---- prefixes of paths, and their stages
--- the consumer has begun its path on object o, and goes on
+-- the consumer has begun its path on object o, and goes on there
 pub record GoesOnIn (t : QuorumTable) (kind : Kind) (o v : ℕ) (xs : List ObjectTurn)
     (s : Stage) : Type 0 where
   -- all that it did from here on, it did on this object
@@ -72,7 +72,7 @@ IsClaimPrefixFrom t c (kind ∷ kinds) o v xs s =
     ⊎ ((u : ℕ) × (later : List ObjectTurn) × Passes t kind o v xs u later
     × IsClaimPrefixFrom t c kinds (suc o) u later s))
 
--- a part comes to object n with input w: whole paths through all objects before it, none decided, lead there
+-- a part comes to object n with input w: whole paths through all objects before it, all undecided, lead there
 abbrev pub Enters : QuorumTable → List Kind → ℕ → ℕ → List ObjectTurn → ℕ → ℕ → Type 0
 Enters t [] o v xs n w = ⊥
 Enters t (kind ∷ kinds) o v xs n w =

@@ -31,13 +31,12 @@ history_from (step ∷ steps) (e ∷ entries) h = history_from steps entries (wi
 abbrev pub history_of : List (ℕ × ℕ) → List ClaimEntry → List ClaimAccess
 history_of steps entries = history_from steps entries []
 
--- what stands in an entry after a history: an access of a consumer whose claim is going, or none of one whose claim has
--- come to its end
+-- an entry after a history. It is an access of a consumer whose claim is going, or `Done` of one whose claim has ended
 abbrev pub IsEntryAfter : Claims → ClaimEntry → List ClaimAccess → Type 0
 IsEntryAfter cs (entry.Access consumer object act) h = HasStage cs consumer 0 Going h
 IsEntryAfter cs (entry.Done consumer) h = (s : Stage) × HasStage cs consumer 0 s h × (s ≢ Going)
 
--- one entry for each step, of that step's consumer, and each stands after the accesses of those before it
+-- one entry for each step, of that step's consumer, and after the accesses of the entries before it
 abbrev pub AreEntriesOf : Claims → List (ℕ × ℕ) → List ClaimEntry → List ClaimAccess → Type 0
 AreEntriesOf cs [] [] h = Unit {0}
 AreEntriesOf cs [] (e ∷ entries) h = ⊥
@@ -52,7 +51,7 @@ pub record IsPlayed (cs : Claims) (steps : List (ℕ × ℕ)) (entries : List Cl
     : Type 0 where
   -- the accesses are one lawful history
   pub lawful : IsClaimLawful cs (history_of steps entries)
-  -- there is one entry for each step, `Done` exactly where the claim has come to its end
+  -- there is one entry for each step, which is `Done` exactly if the claim has ended
   pub fits : AreEntriesOf cs steps entries []
   -- each consumer has a stage, that of its claim in the history
   pub consumers : length stages ≡ cs.table.values

@@ -3,7 +3,7 @@ use Rattle.std.specs.Prelude.{ℕ, ◌||◌, if◌then◌else◌, nat_lt, nat_le
 use Rattle.mb_quorum.specs.declared.values.TheConstants.{MAX_VALUES}
 use Rattle.mb_claim.specs.Types.{MAX_PAIRS, BadLayout, BadConsumers, BadRounds}
 
--- the first reason to refuse a layout for so many consumers with so many pairs, if there is one
+-- the first reason to refuse a layout for `consumers` consumers with `pairs` pairs, if there is one
 abbrev pub layout_refusal : ℕ → ℕ → Option BadLayout
 layout_refusal consumers pairs =
     if nat_lt consumers 1 || nat_lt MAX_VALUES consumers then Some BadConsumers

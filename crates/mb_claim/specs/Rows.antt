@@ -5,7 +5,7 @@ use Rattle.mb_claim.specs.ObjectTypes.{Reg, Value, Proposal, Quorum, Last, Kind,
 use Rattle.mb_claim.specs.declared.shape.Shape.{Shape}
 
 -- ---- the objects of a cell
--- so many pairs of a conciliator and a ratifier
+-- n pairs of a conciliator and a ratifier
 abbrev pub pairs_of : ℕ → ℕ → List Kind
 pairs_of s zero = []
 pairs_of s (suc n) = Conciliator s ∷ Ratifier ∷ pairs_of s n
@@ -20,7 +20,7 @@ abbrev pub last_row : Bool → List Kind
 last_row true = LastObject ∷ []
 last_row false = []
 
--- the objects of a cell of this shape: the fast path, so many pairs, and the last object
+-- the objects of a cell of this shape: the fast path, n pairs, and the last object
 abbrev pub row_of : Shape → ℕ → ℕ → List Kind
 row_of shape s n = fast_row shape.fast ++ (pairs_of s n ++ last_row shape.last)
 
@@ -49,20 +49,20 @@ words_before r (kind ∷ kinds) zero = 0
 words_before r (kind ∷ kinds) (suc o) = width r kind + words_before r kinds o
 
 -- how many words a cell has
-abbrev pub words_of : ℕ → List Kind → ℕ
-words_of r [] = 0
-words_of r (kind ∷ kinds) = width r kind + words_of r kinds
+abbrev pub row_words : ℕ → List Kind → ℕ
+row_words r [] = 0
+row_words r (kind ∷ kinds) = width r kind + row_words r kinds
 
--- how many of a row of this shape, object by object: on the fast path each ratifier has its proposal and registers, then
--- come the words of the pairs, and the last word
+-- how many words a row of this shape has. On the fast path each ratifier has its proposal and registers. Then come the
+-- words of the pairs, and the last word
 abbrev pub shaped_words : ℕ → Shape → ℕ → ℕ
 shaped_words r shape n =
     length (fast_row shape.fast) * (1 + r) + n * (2 + r) + length (last_row shape.last)
 
 -- where a word of object o of cell k lies
 abbrev pub address_of : ℕ → List Kind → ℕ → ℕ → Reg → ℕ
-address_of r kinds k o reg = k * words_of r kinds + (words_before r kinds o + offset reg)
+address_of r kinds k o reg = k * row_words r kinds + (words_before r kinds o + offset reg)
 
--- a cell has an object o, and that has the word
+-- a cell has an object o, which has the word
 abbrev pub IsWordOf : ℕ → List Kind → ℕ → Reg → Type 0
 IsWordOf r kinds o reg = (kind : Kind) × (slice_get kinds o ≡ Some kind) × HasReg r kind reg

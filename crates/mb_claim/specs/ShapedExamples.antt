@@ -1,5 +1,5 @@
--- Histories of claims on one cell, for two consumers and one pair over the unary table, with a fast path or a last object:
--- some that are lawful, and some that are not.
+-- Histories of claims on one cell, for two consumers and one pair over the unary table, with a fast path, a last object
+-- or both. Some are lawful, and some are not.
 use Rattle.std.specs.Prelude.{ℕ, Bool, List, [], ◌∷◌}
 use Rattle.mb_quorum.specs.Unary.{unary_table}
 use Rattle.mb_claim.specs.AllClaims.{Claims, claims_of}
@@ -8,7 +8,7 @@ use Rattle.mb_claim.specs.Types.{ClaimAccess}
 use Rattle.mb_claim.specs.Rows.{row_of}
 use Rattle.mb_claim.specs.Examples.{access_at, both_undecided}
 
--- the claims of two consumers on one cell with one pair over the unary table, and what this shape has beside it
+-- the claims of two consumers on one cell of this shape, with one pair over the unary table
 abbrev pub two_with : Bool → Bool → Claims
 two_with fast last = claims_of (unary_table 2) (row_of (record { fast = fast; last = last }) 2 1) 1
 
@@ -38,7 +38,7 @@ past_one_ratifier =
     ∷ access_at 1 0 (Store (Quorum 1) 1) ∷ won_at_once
 
 -- ---- a last object
--- the pair has left both undecided; consumer 0 comes first to the last object and wins, and consumer 1 finds its number
+-- the pair has left both undecided. Consumer 0 comes first to the last object and wins, and consumer 1 finds its number
 abbrev pub last_decides : List ClaimAccess
 last_decides =
     access_at 1 2 (Exchange Last 2 1) ∷ access_at 0 2 (Exchange Last 1 0) ∷ both_undecided
@@ -68,7 +68,7 @@ through_three =
     ∷ access_at 0 2 (Load Value 1) ∷ access_at 0 2 (Store Value 1)
     ∷ access_at 1 2 (Load Value 0) ∷ access_at 0 2 (Load Value 0) ∷ both_pass 1 (both_pass 0 [])
 
--- the pair's ratifier leaves both undecided too; the last object decides for consumer 0
+-- the pair's ratifier leaves both undecided, too. The last object decides for consumer 0
 abbrev pub through_all : List ClaimAccess
 through_all =
     access_at 1 4 (Exchange Last 2 1) ∷ access_at 0 4 (Exchange Last 1 0) ∷ both_pass 3 through_three

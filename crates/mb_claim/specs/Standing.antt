@@ -1,14 +1,14 @@
 -- Where a claim stands: the objects that it has passed, and its place on the next one.
 use Rattle.std.specs.Prelude.{ℕ, suc, ◌≡◌, ◌≢◌, ◌<◌, ◌↔◌, true, List, [], ◌∷◌, ◌++◌, length}
 use Rattle.mb_quorum.specs.Vocabulary.{QuorumTable}
-use Rattle.mb_deciding.specs.Vocabulary.{IsAt, turn_after}
+use Rattle.mb_deciding.specs.Vocabulary.{PcIsAt, turn_after}
 use Rattle.mb_claim.specs.AllClaims.{Claims}
 use Rattle.mb_claim.specs.ObjectTypes.{Op, Turn, Kind, Pc}
 use Rattle.mb_claim.specs.Types.{ObjectTurn, ClaimAccess, Going, Claim}
 use Rattle.mb_claim.specs.History.{part_on, object_history}
 use Rattle.mb_claim.specs.Paths.{turns_on, Passes, IsClaimPrefixFrom}
 
--- whole paths through objects with numbers from o on, none decided: the first input is v, the last output w
+-- whole paths through objects with numbers from o on, all undecided. The first input is v, the last output w
 abbrev pub PassesAll : QuorumTable → List Kind → ℕ → ℕ → List ObjectTurn → ℕ → Type 0
 PassesAll t [] o v xs w = (xs ≡ []) × (w ≡ v)
 PassesAll t (kind ∷ kinds) o v xs w =
@@ -25,17 +25,17 @@ pub record StandsAt (t : QuorumTable) (kinds : List Kind) (c object : ℕ) (pc :
   -- its steps on the objects before, and its turns on its own
   pub front : List ObjectTurn
   pub turns : List Turn
-  -- its input there: what the objects before made of its number, none of which has decided
+  -- its input there: the last output of the objects before, or its own number if there are none
   pub input : ℕ
   -- the objects are these, and its own has the number
   pub order : kinds ≡ before ++ kind ∷ after
   pub number : object ≡ length before
-  -- it has passed those before, and what it did since then it did on its own
+  -- it has passed those before, and all that it did since then it did on its own
   pub passed : PassesAll t before 0 c front input
   pub all : xs ≡ turns_on object turns ++ front
   -- its input is a value of the table, and its turns led to the place
   pub within : input < t.values
-  pub place : IsAt t kind input pc turns
+  pub place : PcIsAt t kind input pc turns
 
 -- the claim of consumer c on cell k stands there
 abbrev pub HasPlace : Claims → ℕ → ℕ → ℕ → Pc → List ClaimAccess → Type 0
@@ -49,7 +49,7 @@ pub record IsClaimOf (t : QuorumTable) (kinds : List Kind) (claim : Claim)
   pub known : claim.consumer < t.values
   -- the turns are a prefix of its claim path, with its stage
   pub prefix : IsClaimPrefixFrom t claim.consumer kinds 0 claim.consumer xs claim.stage
-  -- it is begun where there are any
+  -- it is begun exactly if it has made any
   pub begun : (claim.begun ≡ true) ↔ (xs ≢ [])
   -- and while it goes on it stands at its place
   pub stands : claim.stage ≡ Going → StandsAt t kinds claim.consumer claim.object claim.place xs

@@ -9,7 +9,7 @@ use Rattle.mb_claim.specs.History.{left_at}
 use Rattle.mb_claim.specs.Claiming.{IsClaimLawful}
 use Rattle.mb_claim.specs.Layouts.{words_in, address_in, IsWordIn}
 
--- the words at the addresses of the claims are those that a lawful history leaves; other words may follow
+-- the words at the addresses of the claims are those that a lawful history leaves. Other words may follow
 pub record IsMemoryOf (cs : Claims) (words : List ℕ) (h : List ClaimAccess) : Type 0 where
   -- the history is lawful
   pub lawful : IsClaimLawful cs h
@@ -20,11 +20,11 @@ pub record IsMemoryOf (cs : Claims) (words : List ℕ) (h : List ClaimAccess) : 
       (k o : ℕ) (reg : Reg) → k < cs.cells → IsWordIn cs o reg
       → slice_index words (address_in cs k o reg) ≡ left_at k o reg h
 
--- what an op leaves in its word, where it finds n: what its act stores, if it stores anything
+-- what an op that finds n leaves in its word: what its act stores, if it stores, and else n
 abbrev pub after_op : Op → ℕ → ℕ
 after_op op n = option_map_or (λ value. value) (stored_by (act_of op n)) n
 
--- the step of a claim on object o that an op makes, where it finds n
+-- the step on object o of an op that finds n
 abbrev pub step_of : ℕ → Op → ℕ → ℕ → ObjectTurn
 step_of o op n word = record { object = o; turn = record { act = act_of op n; word = word } }
 

@@ -9,12 +9,12 @@ use Rattle.mb_claim.specs.History.{part_on, object_history}
 use Rattle.mb_claim.specs.Paths.{Enters}
 use Rattle.mb_claim.specs.Claiming.{HasStage}
 
--- the winner that a stage of consumer c names is w
-abbrev pub Names : ℕ → Stage → ℕ → Type 0
-Names c Going w = ⊥
-Names c Won w = w ≡ c
-Names c (Lost u) w = w ≡ u
-Names c Undecided w = ⊥
+-- the stage s of consumer c names w as the winner
+abbrev pub StageNames : ℕ → Stage → ℕ → Type 0
+StageNames c Going w = ⊥
+StageNames c Won w = w ≡ c
+StageNames c (Lost u) w = w ≡ u
+StageNames c Undecided w = ⊥
 
 -- a consumer whose input to object o of cell k is u has stored there in a register of u's write quorum
 abbrev pub IsClaimAnnounced : Claims → ℕ → ℕ → ℕ → List ClaimAccess → Type 0
@@ -31,18 +31,18 @@ IsClaimContested cs k o h =
 pub record HasOneWinner (cs : Claims) (k : ℕ) (h : List ClaimAccess) : Type 0 where
   -- all who have won or lost name one winner
   pub same :
-      (c d u w : ℕ) (s r : Stage) → HasStage cs c k s h → HasStage cs d k r h → Names c s u
-      → Names d r w
+      (c d u w : ℕ) (s r : Stage) → HasStage cs c k s h → HasStage cs d k r h → StageNames c s u
+      → StageNames d r w
       → u ≡ w
-  -- who has lost names another consumer
+  -- a consumer that has lost names another one
   pub other : (c w : ℕ) → HasStage cs c k (Lost w) h → w ≢ c
   -- the winner has an access there
-  pub competed : (c u : ℕ) (s : Stage) → HasStage cs c k s h → Names c s u → part_on u k h ≢ []
-  -- a claim is undecided only where in each ratifier two different values were announced
+  pub competed : (c u : ℕ) (s : Stage) → HasStage cs c k s h → StageNames c s u → part_on u k h ≢ []
+  -- a claim is undecided only if in each ratifier two different values were announced
   pub contested :
       (c o : ℕ) → HasStage cs c k Undecided h → slice_get cs.kinds o ≡ Some Ratifier
       → IsClaimContested cs k o h
-  -- and so, where there is a ratifier, never to a consumer that is alone
+  -- so, if there is a ratifier, a consumer that is alone is never undecided
   pub company :
       (c o : ℕ) → HasStage cs c k Undecided h → slice_get cs.kinds o ≡ Some Ratifier
       → (d : ℕ) × (d ≢ c) × (part_on d k h ≢ [])

@@ -10,7 +10,7 @@ pub struct ObjectTurn {
     pub turn: Turn,
 }
 
-/// A turn in the history of the claims on all cells: who made it, and on which cell.
+/// An access in the history of the claims on all cells: a turn, who made it, and on which cell.
 #[derive(Clone, Copy, PartialEq, Eq, Debug)]
 pub struct ClaimAccess {
     /// The number of the consumer, from 0 on.

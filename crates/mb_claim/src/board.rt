@@ -1,4 +1,4 @@
-//! The words and the claims of one cell, in the course of a run.
+//! Runs of all claims on one cell, step by step.
 use crate::claim::Claim;
 use crate::claim_words::ClaimWords;
 use crate::layout::Layout;
@@ -31,7 +31,7 @@ impl<A: Allocator + Copy + Drop> Board<A> {
     ghost use Rattle.std.specs.Prelude.{◌≡◌, ◌<◌, ◌++◌, ◌∷◌, [], ℕ, List, IfOk, OnOk, map};
     ghost use Rattle.mb_claim.specs.{IsBoard, claim_stage, consumer_count};
 
-    /// All words empty and each claim before its first access, with room for so many entries.
+    /// A board with all words 0 and each claim before its first access, and room for `steps` entries.
     pub fn begin(alloc: A, layout: &Layout, steps: usize) -> Result<Board<A>, AllocError>
         ensures { IfOk result (λ board. IsBoard layout.now [] board) }
     {
@@ -48,7 +48,7 @@ impl<A: Allocator + Copy + Drop> Board<A> {
         })
     }
 
-    /// One step of a consumer, with its random word.
+    /// Adds one step of a consumer, with its random word.
     pub fn step(&mut self, layout: &Layout, consumer: u32, word: u64) -> Result<(), AllocError>
         requires board { (steps : List (ℕ × ℕ)) × IsBoard layout.now steps self.old }
         requires consumer { consumer < consumer_count layout.now }

@@ -1,11 +1,11 @@
-//! The claim of one consumer on one cell.
+//! One consumer's way through the objects of one cell.
 use crate::access::{ClaimOp, Stage};
 use crate::layout::Layout;
 use crate::steps::places_show_prefixes;
 use mb_deciding::{ConciliatorPlace, Drawing, Memory, Next, Out, Pc, RatifierPlace};
 
-/// The claim of one consumer on one cell: the object on which it stands, its place there, and how
-/// far it has come. A plain value, which may be kept between calls.
+/// The claim of one consumer on one cell: the object on which it stands, its place there, and how far it has come. It
+/// is a plain value, which may be kept between calls.
 #[derive(Clone, Copy, PartialEq, Eq, Debug)]
 pub struct Claim {
     consumer: u32,
@@ -17,7 +17,7 @@ pub struct Claim {
 
 impl Claim {
     ghost use Rattle.std.specs.Prelude.{◌≡◌, ◌≢◌, ◌<◌, ◌≤◌, ◌+◌, ℕ, Bool, true, false, List, [], ◌∷◌, length, slice_get, MatchOption};
-    ghost use Rattle.mb_deciding.specs.Vocabulary.{IsAt, IsNext, IsReached, next_from, turns_left, turns_after};
+    ghost use Rattle.mb_deciding.specs.Vocabulary.{PcIsAt, IsNext, IsReached, next_from, turns_left, turns_after};
     ghost use Rattle.mb_deciding.specs.Vocabulary.{most_turns};
     ghost use Rattle.mb_claim.specs.{Kind, Turn, ClaimOp, ObjectTurn, Going, Undecided, consumer_of, claim_stage, is_begun};
     ghost use Rattle.mb_claim.specs.{FitsLayout, IsClaimIn, IsNextOp, CanClaimFind, IsClaimStep, steps_left, step_of};
@@ -45,7 +45,7 @@ impl Claim {
         }
     }
 
-    /// The access that comes next.
+    /// The access that the claim makes next.
     #[inline(always)]
     pub fn next(&self, layout: &Layout) -> ClaimOp
         requires going { claim_stage self.now ≡ Going }
@@ -58,9 +58,9 @@ impl Claim {
         }
     }
 
-    /// Makes the next access, and tells how far the claim has come then. `seen` is the value that a load or an exchange
-    /// found, and counts for nothing after a store. The random `word` counts after a load of a conciliator's word alone.
-    /// After a value that the word cannot hold the stage is left open, and the claim can be called on.
+    /// Goes on after the next access, and returns how far the claim has come. `seen` is the value that a load or an
+    /// exchange found. It does not count after a store. The random `word` counts only after a load of a conciliator's
+    /// word. If the word cannot hold `seen`, nothing more is said of the stage, and the claim can still be used.
     #[inline(always)]
     pub fn after(&mut self, layout: &Layout, seen: u64, word: u64) -> Stage
         requires going { claim_stage self.old ≡ Going }
@@ -70,7 +70,7 @@ impl Claim {
         ensures begun { is_begun self.new ≡ true }
         ensures stage { result ≡ claim_stage self.new }
 
-        // It can make fewer accesses then, whatever is said that it found: so it comes to an end.
+        // Fewer accesses are left then, whatever `seen` is. So the claim ends.
         ensures fewer { steps_left layout.now self.new < steps_left layout.now self.old }
 
         // The access is one more on the claim's path.
@@ -87,7 +87,7 @@ impl Claim {
         }
     }
 
-    /// Makes the next access in this memory, and tells how far the claim has come then: [`Claim::next`],
+    /// Makes the next access in this memory, and returns how far the claim has come. It is [`Claim::next`],
     /// [`Memory::perform`] and [`Claim::after`] in one match.
     #[inline(always)]
     pub fn step<M: Memory>(&mut self, layout: &Layout, memory: &mut M, word: u64) -> Stage
@@ -101,7 +101,7 @@ impl Claim {
         ensures stage { result ≡ claim_stage self.new }
         ensures fewer { steps_left layout.now self.new < steps_left layout.now self.old }
 
-        // The access that was made is the one that comes next, and is one more on the claim's path.
+        // It made the claim's next access, which is one more on the claim's path.
         ensures step { IsClaimStep layout.now self.old
             (λ next seen. M.makes memory.old next.object next.op seen memory.new) word self.new }
     {
@@ -109,8 +109,8 @@ impl Claim {
         self.follow(layout, out)
     }
 
-    /// Makes accesses, each with a random word that is drawn for it, until the claim has come to its end or so many were made.
-    /// The result is how many: they are those of as many calls of [`Claim::step`]. It goes straight through each object.
+    /// Makes accesses, each with a random word drawn for it, until the claim has ended or `most` were made. Returns how
+    /// many. They are those of as many calls of [`Claim::step`]. The call goes straight through each object.
     #[inline(always)]
     pub fn run<M: Drawing>(&mut self, layout: &Layout, memory: &mut M, most: u64) -> u64
         requires fits { FitsLayout layout.now self.old }
@@ -142,8 +142,8 @@ impl Claim {
         most - left
     }
 
-    /// Goes through the claim's object, if that is a conciliator and nothing was stored there, and tells whether the claim can
-    /// make more accesses then.
+    /// Goes through the claim's object, if that is a conciliator in which the consumer has not stored. Returns whether
+    /// the claim can make more accesses.
     #[inline(always)]
     fn conciliate<M: Drawing>(&mut self, layout: &Layout, memory: &mut M, left: &mut u64) -> bool
         requires going { claim_stage self.old ≡ Going }
@@ -179,8 +179,8 @@ impl Claim {
         true
     }
 
-    /// Goes through the claim's object, if that is a ratifier in which the consumer announces its input, and else makes one
-    /// access. Tells whether the claim can make more accesses then.
+    /// Goes through the claim's object, if that is a ratifier in which the consumer announces its input. Else it makes
+    /// one access. Returns whether the claim can make more accesses.
     #[inline(always)]
     fn ratify<M: Drawing>(&mut self, layout: &Layout, memory: &mut M, left: &mut u64) -> bool
         requires going { claim_stage self.old ≡ Going }
@@ -211,8 +211,8 @@ impl Claim {
         self.step(layout, memory, word).is_going()
     }
 
-    /// Makes accesses on the claim's object, a conciliator, from this place on, until it leads to the next one or nothing is
-    /// left of the budget, and tells whether the claim can make more then.
+    /// Makes accesses on the claim's object, a conciliator, from this place on. It stops if that leads to the next
+    /// object, or if the budget `left` is used up. Returns whether the claim can make more.
     #[inline(always)]
     fn run_conciliator<M: Drawing>(
         &mut self,
@@ -252,8 +252,8 @@ impl Claim {
         }
     }
 
-    /// Makes accesses on the claim's object, a ratifier, from this place on, until it leads to the next one or to the claim's
-    /// end, or nothing is left of the budget, and tells whether the claim can make more then.
+    /// Makes accesses on the claim's object, a ratifier, from this place on. It stops if that leads to the next object
+    /// or to the claim's end, or if the budget `left` is used up. Returns whether the claim can make more.
     #[inline(always)]
     fn run_ratifier<M: Drawing>(
         &mut self,
@@ -310,7 +310,8 @@ impl Claim {
         self.begun
     }
 
-    /// Goes on with what an access on the claim's object led to: its place stands there already, or this is the output.
+    /// Goes on with what an access on the claim's object led to. Either this is the output, or the claim has the new
+    /// place already.
     #[inline(always)]
     fn follow(&mut self, layout: &Layout, out: Option<Out>) -> Stage
         requires going { claim_stage self.old ≡ Going }
@@ -321,7 +322,7 @@ impl Claim {
         ensures begun { is_begun self.new ≡ true }
         ensures stage { result ≡ claim_stage self.new }
 
-        // Where it stood before the access, there it could make more.
+        // Fewer accesses are left than at the place before the access.
         ensures fewer { (pc : Pc)
             → turns_after (quorums_of layout.now) (next_from out self.old.place)
             < turns_left (quorums_of layout.now) pc
@@ -329,7 +330,7 @@ impl Claim {
         ensures path { (pc : Pc) (begun : Bool) (xs : List ObjectTurn) (turn : Turn)
             → IsClaimIn layout.now (stood_at pc begun self.old) xs
             → ((kind : Kind) (v : ℕ) (turns : List Turn)
-            → IsAt (quorums_of layout.now) kind v pc turns
+            → PcIsAt (quorums_of layout.now) kind v pc turns
             → IsReached (quorums_of layout.now) kind v (next_from out self.old.place)
             (turn ∷ turns))
             → IsClaimIn layout.now self.new
@@ -348,7 +349,7 @@ impl Claim {
         }
     }
 
-    /// The stage of the claim where its object decided this value.
+    /// The stage of the claim if its object decided this value.
     #[inline(always)]
     fn stage_for(&self, value: u32) -> Stage
         ensures exact { result ≡ stage_for self.now.consumer value }
@@ -361,7 +362,7 @@ impl Claim {
         }
     }
 
-    /// Goes on from the claim's object, whose output is this value and undecided, to the next one.
+    /// Goes on to the next object, if there is one. The output of the claim's object is this value, undecided.
     #[inline(always)]
     fn pass(&mut self, layout: &Layout, value: u32) -> Stage
         requires object { self.old.object < length (kinds_of layout.now) }
@@ -371,7 +372,7 @@ impl Claim {
         ensures next { MatchOption (slice_get (kinds_of layout.now) (self.old.object + 1))
             (self.new.stage ≡ Undecided)
             (λ kind. (self.new.stage ≡ Going) × (self.new.object ≡ self.old.object + 1)
-            × IsAt (quorums_of layout.now) kind value self.new.place []) }
+            × PcIsAt (quorums_of layout.now) kind value self.new.place []) }
         ensures few { MatchOption (slice_get (kinds_of layout.now) (self.old.object + 1))
             (self.new.stage ≡ Undecided)
             (λ kind. (self.new.stage ≡ Going) × (self.new.object ≡ self.old.object + 1)

@@ -1,4 +1,4 @@
-//! The words of the claims on some cells, in one block.
+//! Claims of one caller, on words of its own.
 ghost use Rattle.std.specs.Prelude.{◌≡◌};
 ghost use Rattle.mb_deciding.specs.Vocabulary.{IsActInWords, act_of};
 ghost use Rattle.mb_claim.specs.{after_op};
@@ -13,7 +13,7 @@ use mb_deciding::{Act, Memory, Op, Reg, Turn};
 use std::alloc::{AllocError, Allocator};
 use std::marker::Model;
 
-/// The words of the claims on some cells, in one block, on which one caller makes the accesses of claims, one by one.
+/// The words of the claims on some cells, in one block. One caller makes the accesses of the claims there, one by one.
 #[derive(Drop)]
 pub struct ClaimWords<A: Allocator + Drop> {
     words: Vec<u64, A>,
@@ -33,7 +33,7 @@ impl<A: Allocator + Drop> ClaimWords<A> {
     ghost use Rattle.mb_claim.specs.{ClaimAccess, Going, MAX_LARGE_CELLS, IsMemoryOf, IsClaimOn, claims_in, claim_access};
     ghost use Rattle.mb_claim.specs.{consumer_of, claim_stage, is_begun, steps_left, HasWord, word_address, cell_words};
 
-    /// The words of so many cells, before the first access.
+    /// The words of `cells` cells, before the first access.
     pub fn new(alloc: A, layout: &Layout, cells: u32) -> Result<ClaimWords<A>, AllocError>
         requires { cells ≤ MAX_LARGE_CELLS }
         ensures { IfOk result (λ words. IsMemoryOf (claims_in layout.now cells) words []) }
@@ -44,7 +44,7 @@ impl<A: Allocator + Drop> ClaimWords<A> {
         })
     }
 
-    /// Makes the next access of a claim that is going on its cell, with the random word of this step.
+    /// Makes the next access of a claim on its cell, with the random word of this step. The claim is going.
     #[inline(always)]
     pub fn step(&mut self, layout: &Layout, claim: &mut Claim, cell: u32, word: u64) -> ClaimStep
         requires going { claim_stage claim.old ≡ Going }
@@ -52,7 +52,7 @@ impl<A: Allocator + Drop> ClaimWords<A> {
         requires held { (cells : ℕ) × (h : List ClaimAccess)
             × IsClaimOn layout.now cells cell claim.old self.old h }
 
-        // Whatever lawful history the words and the claim are of, they are then of that with the claim's access.
+        // If the words and the claim fit a lawful history, they then fit that history with the claim's access.
         ensures held { (cells : ℕ) (h : List ClaimAccess)
             → IsClaimOn layout.now cells cell claim.old self.old h
             → IsClaimOn layout.now cells cell claim.new self.new
@@ -91,7 +91,7 @@ impl<A: Allocator + Drop> ClaimWords<A> {
     }
 }
 
-/// The words while one access is made to those of a cell, and that access once it is made.
+/// The words while one access is made to one cell, and that access once it is made.
 #[derive(Drop)]
 struct CellWords<'a, A: Allocator + Drop> {
     words: &'a mut Vec<u64, A>,

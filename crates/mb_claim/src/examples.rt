@@ -1,5 +1,5 @@
-//! Small histories and runs of the claims of two consumers on one cell: what the definitions let in, and what they keep
-//! out. The functions compute nothing. The proofs begin in `proofs/examples`.
+//! Small histories and runs of the claims of two consumers on one cell: what the definitions admit, and what they
+//! refuse. The functions compute nothing. The proofs begin in `proofs/examples`.
 ghost use Rattle.std.specs.Prelude.{ℕ, ◌≡◌, ◌≢◌, ◌+◌, true, false, [], ◌∷◌};
 ghost use Rattle.mb_claim.specs.{AreClaimSteps, Claim, Layout, claim_stage};
 ghost use Rattle.mb_claim.specs.declared.run.ClaimEntry.TheVariants as entry;
@@ -38,10 +38,10 @@ pub fn counterexamples_are_unlawful()
     // An access of a claim that was won.
     ensures won { IsClaimLawful two_consumers after_winning → ⊥ }
 
-    // The own number as next input, in place of the value of the output before.
+    // The consumer's own number as next input, in place of the value of the output before.
     ensures own { IsClaimLawful two_consumers own_number_again → ⊥ }
 
-    // A consumer that is none of the claims'.
+    // A consumer that the claims do not have.
     ensures stranger { IsClaimLawful two_consumers of_a_stranger → ⊥ }
 {
     objects_keep_their_promises();
@@ -54,29 +54,30 @@ pub fn fast_paths_come_first()
     ensures won { HasStage (two_with true false) 0 0 Won lost_at_second }
     ensures lost { HasStage (two_with true false) 1 0 (Lost 0) lost_at_second }
 
-    // Who begins with the conciliator, and who goes there after the first ratifier.
+    // A consumer that begins with the conciliator, and one that goes there after the first ratifier.
     ensures none { IsClaimLawful (two_with true false) past_both_ratifiers → ⊥ }
     ensures one { IsClaimLawful (two_with true false) past_one_ratifier → ⊥ }
 {}
 
 /// Histories with a last object after the pair.
 pub fn last_objects_come_last()
-    // Who would be undecided without it goes on. Consumer 0 is the first there and wins, and consumer 1 loses to it.
+    // A consumer that would be undecided without it goes on. Consumer 0 is the first there and wins, and consumer 1
+    // loses to it.
     ensures going { HasStage (two_with false true) 0 0 Going both_undecided }
     ensures lawful { IsClaimLawful (two_with false true) last_decides }
     ensures won { HasStage (two_with false true) 0 0 Won last_decides }
     ensures lost { HasStage (two_with false true) 1 0 (Lost 0) last_decides }
 
-    // It is not undecided.
+    // Consumer 0 is not undecided.
     ensures undecided { HasStage (two_with false true) 0 0 Undecided both_undecided → ⊥ }
 
     // An exchange that found 0 and did not store.
     ensures empty { IsClaimLawful (two_with false true) last_found_empty_twice → ⊥ }
 
-    // Who begins with the last object.
+    // A consumer that begins with the last object.
     ensures first { IsClaimLawful (two_with false true) last_comes_first → ⊥ }
 
-    // Without a last object there is none.
+    // A consumer that goes to a last object, although the row has none.
     ensures absent { IsClaimLawful two_consumers last_decides → ⊥ }
 {
     last_objects_decide_claims();
@@ -89,11 +90,11 @@ pub fn both_ends_may_be_there()
     ensures won { HasStage (two_with true true) 0 0 Won through_all }
     ensures lost { HasStage (two_with true true) 1 0 (Lost 0) through_all }
 
-    // Who goes from the fast path to the last object.
+    // A consumer that goes from the fast path to the last object.
     ensures past { IsClaimLawful (two_with true true) past_the_pair → ⊥ }
 {}
 
-/// Runs, and entries and stages that are none.
+/// A run, and entries and stages that do not make a run.
 pub fn runs_are_told_from_others()
     ensures won { IsPlayedByTwo eight_steps (won_and (entry.Done 0)) (Won ∷ Going ∷ []) }
 
@@ -113,7 +114,7 @@ pub fn runs_are_told_from_others()
     ensures boast { IsPlayedByTwo [] [] (Won ∷ Going ∷ []) → ⊥ }
     ensures few { IsPlayedByTwo [] [] (Going ∷ []) → ⊥ }
 
-    // A store on attempt 0, where the step's random word 3 does not store.
+    // A store on attempt 0, although the step's random word 3 does not store there.
     ensures impatient { IsPlayedByTwo ((0, 3) ∷ (0, 3) ∷ [])
         (entry.Access 0 0 (Load Value 0) ∷ entry.Access 0 0 (Store Value 1) ∷ [])
         (Going ∷ Going ∷ []) → ⊥ }
@@ -122,13 +123,13 @@ pub fn runs_are_told_from_others()
     small_histories();
 }
 
-/// Rows of accesses of a claim, in a memory that counts them.
+/// Accesses of one claim, one after the other, in a memory that counts them.
 pub fn rows_of_accesses()
     // No access leaves the claim and the memory as they are.
     ensures none { (layout : Layout) (claim : Claim) (m : ℕ)
         → AreClaimSteps layout (λ before word next seen now. now ≡ before + 1) claim m 0 claim m }
 
-    // A claim that has come to its end makes none.
+    // A claim that has ended makes none.
     ensures ended { (layout : Layout) (claim follows : Claim) (m now : ℕ)
         → claim_stage claim ≢ Going
         → AreClaimSteps layout (λ before word next seen now. now ≡ before + 1) claim m 1 follows now

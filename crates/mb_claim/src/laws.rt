@@ -1,14 +1,14 @@
 //! What holds of every lawful history of claims, and of every layout and run. The functions compute nothing: their
-//! contracts are the laws, and their bodies name the laws of deciding objects on which they stand. A law that is not proved
-//! by its contract alone has its proof in `proofs/laws`, in a folder of its name. Laws of one access more, for those who
-//! keep words and histories of their own, are in `steps`.
+//! contracts are the laws, and their bodies name the laws of deciding objects that they use. If the prover needs help
+//! with a law, its proof is in `proofs/laws`, in a folder of its name. Laws of one access more, for callers that keep
+//! words and histories of their own, are in `steps`.
 ghost use Rattle.std.specs.Prelude.{ℕ, ◌≡◌, ◌≢◌, ◌+◌, ◌*◌, ◌<◌, ◌≤◌, List, [], ◌∷◌, ◌++◌, Bool, true, false, length};
 ghost use Rattle.std.specs.Prelude.{slice_get, Some, ◌^◌};
 ghost use Rattle.mb_quorum.specs.Vocabulary.{QuorumTable, IsQuorumTable};
 ghost use Rattle.mb_quorum.specs.declared.values.TheConstants.{MAX_VALUES};
 ghost use Rattle.mb_deciding.specs.declared.access.Op.TheVariants as to;
 ghost use Rattle.mb_deciding.specs.Vocabulary.{IsPath, answer, largest_quorum, spread};
-ghost use Rattle.mb_claim.specs.{Reg, Value, Kind, Conciliator, Ratifier, LastObject, Out, Claims, claims_of, IsSound};
+ghost use Rattle.mb_claim.specs.{Reg, Value, Kind, Conciliator, Ratifier, LastObject, Out, Claims, claims_of, ClaimsAreSound};
 ghost use Rattle.mb_claim.specs.{ClaimAccess, ObjectTurn, Shape, plain, row_of, shaped_steps, shape_of};
 ghost use Rattle.mb_claim.specs.{Stage, Going, Undecided, kinds_of, MAX_CELLS, MAX_LARGE_CELLS, MAX_PAIRS};
 ghost use Rattle.mb_claim.specs.{IsClaimLawful, HasStage, HasOneWinner, IsWholeClaim};
@@ -20,18 +20,18 @@ ghost use Rattle.mb_claim.specs.{FitsLayout, most_accesses, steps_left, ClaimEnt
 use mb_deciding::laws::{objects_keep_their_promises, ratifiers_decide_unless_contested};
 use mb_deciding::steps::{places_have_turns_left, turns_name_the_next_op};
 
-/// Whatever the order of accesses and the random words, the claims on one cell have one winner.
+/// The claims on one cell have one winner, for all orders of accesses and all random words.
 pub fn claims_have_one_winner()
-    ensures { (cs : Claims) (h : List ClaimAccess) (k : ℕ) → IsSound cs → IsClaimLawful cs h
+    ensures { (cs : Claims) (h : List ClaimAccess) (k : ℕ) → ClaimsAreSound cs → IsClaimLawful cs h
         → HasOneWinner cs k h }
 {
     objects_keep_their_promises();
     ratifiers_decide_unless_contested();
 }
 
-/// No claim makes more accesses than its objects allow together.
+/// A claim makes at most the accesses that its objects allow together.
 pub fn claims_are_bounded()
-    ensures objects { (cs : Claims) (h : List ClaimAccess) (c k : ℕ) → IsSound cs
+    ensures objects { (cs : Claims) (h : List ClaimAccess) (c k : ℕ) → ClaimsAreSound cs
         → IsClaimLawful cs h
         → length (part_on c k h) ≤ most_on_objects cs.table cs.kinds }
     ensures pairs { (t : QuorumTable) (n cells : ℕ) (h : List ClaimAccess) (c k : ℕ)
@@ -59,7 +59,7 @@ pub fn claims_are_bounded()
     objects_keep_their_promises();
 }
 
-/// What belongs to a claim is exactly what a whole claim path begins with.
+/// The prefixes of claims are exactly the beginnings of whole claim paths.
 pub fn prefixes_begin_whole_claims()
     ensures completed { (cs : Claims) (c : ℕ) (xs : List ObjectTurn) (s : Stage)
         → IsClaimPrefix cs c xs s
@@ -77,28 +77,28 @@ pub fn prefixes_begin_whole_claims()
 
 /// A prefix of a claim path has one stage.
 pub fn prefixes_have_one_stage()
-    ensures { (cs : Claims) (c : ℕ) (xs : List ObjectTurn) (s r : Stage) → IsSound cs
+    ensures { (cs : Claims) (c : ℕ) (xs : List ObjectTurn) (s r : Stage) → ClaimsAreSound cs
         → IsClaimPrefix cs c xs s → IsClaimPrefix cs c xs r → s ≡ r }
 {
     objects_keep_their_promises();
 }
 
-/// A claim that has made its consumer's part of a history has there the stage that it tells.
+/// A claim that has made its consumer's part of a history has the stage of that history.
 pub fn claims_have_their_stages()
     ensures { (layout : Layout) (cells k : ℕ) (claim : Claim) (h : List ClaimAccess)
         → IsClaimIn layout claim (part_on (consumer_of claim) k h)
         → HasStage (claims_in layout cells) (consumer_of claim) k (claim_stage claim) h }
 {}
 
-/// A claim that is going has an access to make, and one that has come to its end has none. The number of those that
-/// are left falls with each ([`crate::Claim::after`]), from no more than `max_steps` on ([`crate::Claim::new`]).
+/// A claim that is going has an access to make, and one that has ended has none. The number of accesses left is at most
+/// `most_accesses` at first ([`crate::Claim::new`]), and falls with each ([`crate::Claim::after`]).
 pub fn claims_have_steps_left()
     ensures going { (layout : Layout) (claim : Claim)
         → FitsLayout layout claim → claim_stage claim ≡ Going → 0 < steps_left layout claim }
     ensures ended { (layout : Layout) (claim : Claim) → claim_stage claim ≢ Going
         → steps_left layout claim ≡ 0 }
 
-    // A claim that was held for a while has no more left, either.
+    // This bound holds of every later claim, too.
     ensures most { (layout : Layout) (claim : Claim) (xs : List ObjectTurn)
         → IsClaimIn layout claim xs → steps_left layout claim ≤ most_accesses layout }
 {
@@ -108,22 +108,21 @@ pub fn claims_have_steps_left()
 /// Steps have one run at most: the entries and the stages are determined by the claims and the steps.
 pub fn steps_have_one_run()
     ensures { (cs : Claims) (steps : List (ℕ × ℕ)) (es fs : List ClaimEntry) (ss rs : List Stage)
-        → IsSound cs
+        → ClaimsAreSound cs
         → IsPlayed cs steps es ss → IsPlayed cs steps fs rs → (es ≡ fs) × (ss ≡ rs) }
 {
     objects_keep_their_promises();
     turns_name_the_next_op();
 }
 
-/// In a row that begins with two ratifiers: where the first has decided for one consumer, nobody comes behind
-/// the second.
+/// In a row that begins with two ratifiers: if the first has decided for one consumer, nobody goes on after the second.
 pub fn fast_paths_take_two_ratifiers()
     ensures decided { (t : QuorumTable) (kinds : List Kind) (cells k c u : ℕ) (h : List ClaimAccess)
         → IsQuorumTable t → IsClaimLawful (claims_of t (Ratifier ∷ Ratifier ∷ kinds) cells) h
         → IsPath t Ratifier c (part_at c k 0 h) (answer true u) → (d o : ℕ) → 2 ≤ o
         → part_at d k o h ≡ [] }
 
-    // So it is where a consumer has ended its claim before the first access of any other.
+    // The same holds if a consumer has ended its claim before the first access of any other.
     ensures alone { (t : QuorumTable) (kinds : List Kind) (cells k c : ℕ) (s : Stage)
         (later h : List ClaimAccess)
         → IsQuorumTable t → let cs = claims_of t (Ratifier ∷ Ratifier ∷ kinds) cells in
@@ -147,8 +146,8 @@ pub fn last_objects_decide_claims()
         → HasStage (claims_in layout cells) c k Undecided h → ⊥ }
 {}
 
-/// In a layout with a fast path: if object 0 has decided for one consumer, nobody comes to a conciliator of that cell. So
-/// it is if a consumer has ended its claim before the first access of any other.
+/// In a layout with a fast path: if object 0 has decided for one consumer, nobody comes to a conciliator of that cell.
+/// The same holds if a consumer has ended its claim before the first access of any other.
 pub fn fast_layouts_avoid_conciliators()
     ensures decided { (layout : Layout) (cells k c u : ℕ) (h : List ClaimAccess)
         → (shape_of layout).fast ≡ true → IsClaimLawful (claims_in layout cells) h
@@ -162,8 +161,8 @@ pub fn fast_layouts_avoid_conciliators()
         → (d o i : ℕ) → slice_get (kinds_of layout) o ≡ Some (Conciliator i)
         → part_at d k o (later ++ h) ≡ [] }
 
-    // Who comes to a conciliator there was left undecided by both ratifiers of the fast path: by the first with its own
-    // number as input, and by the second with the first one's value.
+    // If a consumer comes to a conciliator there, both ratifiers of the fast path have left it undecided. Its input to
+    // the first was its own number, and to the second the first one's value.
     ensures undecided { (layout : Layout) (cells k d o s : ℕ) (h : List ClaimAccess)
         → (shape_of layout).fast ≡ true → IsClaimLawful (claims_in layout cells) h
         → slice_get (kinds_of layout) o ≡ Some (Conciliator s) → part_at d k o h ≢ []
@@ -174,7 +173,7 @@ pub fn fast_layouts_avoid_conciliators()
     fast_paths_take_two_ratifiers();
 }
 
-/// What came before in a lawful history is lawful.
+/// An older part of a lawful history is lawful.
 pub fn older_histories_are_lawful()
     ensures { (cs : Claims) (later h : List ClaimAccess) → IsClaimLawful cs (later ++ h)
         → IsClaimLawful cs h }
@@ -190,7 +189,7 @@ pub fn cells_stand_alone()
         → left_at k o reg (on_cell k h) ≡ left_at k o reg h }
 {}
 
-/// What a layout is made of: a quorum table with 1 to `MAX_VALUES` values, and 1 to `MAX_PAIRS` pairs.
+/// A layout has a quorum table with 1 to `MAX_VALUES` values, and 1 to `MAX_PAIRS` pairs.
 pub fn layouts_are_sound()
     ensures table { (layout : Layout) → IsQuorumTable (quorums_of layout) }
     ensures consumers { (layout : Layout) → (1 ≤ consumer_count layout)
@@ -216,7 +215,7 @@ pub fn claims_begin_on_the_first_object()
         → (shape_of layout).fast ≡ false → IsClaimIn layout claim []
         → IsNextOp layout claim next → next.op ≡ to.Load Value }
 
-    // It may find no more than the number of consumers there.
+    // It finds at most the number of consumers there.
     ensures found { (layout : Layout) (claim : Claim) (next : ClaimOp) (seen : ℕ)
         → (shape_of layout).fast ≡ false → IsClaimIn layout claim []
         → IsNextOp layout claim next → CanClaimFind layout claim next seen

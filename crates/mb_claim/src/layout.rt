@@ -2,7 +2,7 @@
 ghost use Rattle.std.specs.Prelude.{◌≡◌, ◌<◌, ◌≤◌, ◌+◌, ◌*◌, ℕ, length, slice_get, slice_index};
 ghost use Rattle.mb_quorum.specs.Vocabulary.{chosen_table};
 ghost use Rattle.mb_deciding.specs.Vocabulary.{spread};
-ghost use Rattle.mb_claim.specs.Rows.{row_of, words_before, words_of};
+ghost use Rattle.mb_claim.specs.Rows.{row_of, words_before, row_words};
 ghost use Rattle.mb_claim.specs.declared.layout.TheConstants.{MAX_PAIRS};
 
 use crate::shape::Shape;
@@ -15,18 +15,18 @@ use std::fmt;
 /// The most pairs that a layout can have. The least is 1.
 pub const MAX_PAIRS: u64 = 8;
 
-/// The most cells of a setup that is not a large one, as that of a script. No layout rests on it.
+/// The most cells of a setup that is not large, such as a script's. Layouts do not depend on it.
 pub const MAX_CELLS: u32 = 256;
 
-/// The most cells whose words can be addressed: 2^24, those of a large setup.
+/// The most cells whose words can be addressed, as in a large setup: 2^24.
 pub const MAX_LARGE_CELLS: u32 = 16_777_216;
 
-/// The most objects of a cell: those of `MAX_PAIRS` pairs, of a fast path and a last object.
+/// The most objects of a cell: `MAX_PAIRS` pairs, a fast path of two ratifiers and a last object.
 const MAX_OBJECTS: usize = 2 * MAX_PAIRS as usize + 3;
 
-/// The deciding objects that each cell has: so many pairs of a conciliator and a ratifier, and what its [`Shape`] says
-/// beside them, over a quorum table with a value for each consumer. It keeps their row and where each one's words begin,
-/// so it has some 1,300 bytes and is not `Copy`: [`Layout::copy`] says where one more is made.
+/// The deciding objects that each cell has: pairs of a conciliator and a ratifier, and what its [`Shape`] adds to them.
+/// They share a quorum table with a value for each consumer. It keeps their row and where each one's words begin, so it
+/// has some 1,300 bytes. It is not `Copy`, and a copy has to be asked for: [`Layout::copy`].
 #[derive(PartialEq, Eq, Debug, Drop)]
 pub struct Layout {
     pub(crate) table: Table,
@@ -43,7 +43,7 @@ pub struct Layout {
         → slice_get (row_of shape (spread (chosen_table table).values) pairs) o ≡ slice_get kinds o },
     pub ghost begin: { (o : ℕ) → o < objects → slice_index begins o ≡ words_before
         (chosen_table table).registers (row_of shape (spread (chosen_table table).values) pairs) o },
-    pub ghost size: { cell_size ≡ words_of
+    pub ghost size: { cell_size ≡ row_words
         (chosen_table table).registers (row_of shape (spread (chosen_table table).values) pairs) },
 }
 
@@ -77,10 +77,9 @@ impl Layout {
     ghost use Rattle.mb_claim.specs.{consumer_count, cell_words, word_address, HasWord, most_accesses, layout_refusal};
     ghost use Rattle.mb_claim.specs.declared.layout.TheConstants.{MAX_LARGE_CELLS, MAX_OBJECTS};
 
-    /// The layout for so many consumers, with so many pairs of objects and nothing beside them, over the quorum table of
-    /// this name.
-    /// It is refused with `BadConsumers` if the number of consumers is not in `1..=MAX_VALUES`, and
-    /// else with `BadRounds` if the number of pairs is not in `1..=MAX_PAIRS`.
+    /// The layout for `consumers` consumers, with `pairs` pairs of objects and nothing beside them, over the quorum
+    /// table of this name. The error is `BadConsumers` if the number of consumers is not in `1..=MAX_VALUES`, and else
+    /// `BadRounds` if the number of pairs is not in `1..=MAX_PAIRS`.
     pub fn new(consumers: u64, pairs: u64, name: TableName) -> Result<Layout, BadLayout>
         ensures refused { MatchOption (layout_refusal consumers pairs) (IsOk result)
             (λ fault. result ≡ Err fault) }
@@ -99,7 +98,7 @@ impl Layout {
         Ok(Layout::of(table, pairs as u32, Shape::PLAIN))
     }
 
-    /// The layout of these, with the row and where each of its objects begins.
+    /// The layout with this table, these pairs and this shape. It computes the row, and where each object begins.
     fn of(table: Table, pairs: u32, shape: Shape) -> Layout
         requires some { 1 ≤ pairs }
         requires few { pairs ≤ MAX_PAIRS }
@@ -130,7 +129,7 @@ impl Layout {
         }
     }
 
-    /// The layout of the same table and pairs that has this shape. What shape this one has makes no difference.
+    /// The layout with the same table and pairs, and with this shape in place of its own.
     pub fn shaped(&self, shape: Shape) -> Layout
         ensures quorums { quorums_of result ≡ quorums_of self.now }
         ensures pairs { pair_count result ≡ pair_count self.now }
@@ -146,7 +145,7 @@ impl Layout {
         self.shape
     }
 
-    /// The same layout once more.
+    /// A copy of the layout.
     pub fn copy(&self) -> Layout
         ensures { result ≡ self.now }
     {
@@ -161,7 +160,7 @@ impl Layout {
         }
     }
 
-    /// How many objects a row of this shape has. This function and the next are all that know the row.
+    /// How many objects a row of this shape has. Only this function and the next know the row.
     fn objects_of(shape: Shape, pairs: u32) -> u32
         requires { pairs ≤ MAX_PAIRS }
         ensures { (s : ℕ) → result ≡ length (row_of shape s pairs) }
@@ -189,7 +188,7 @@ impl Layout {
         }
     }
 
-    /// How many words an object of this kind has, with so many quorum registers.
+    /// How many words an object of this kind has, with `registers` quorum registers.
     fn width(registers: u32, kind: Kind) -> u32
         requires { registers ≤ 64 }
         ensures { result ≡ width registers kind }
@@ -208,7 +207,7 @@ impl Layout {
         self.table.values()
     }
 
-    /// How many words so many cells have.
+    /// How many words `cells` cells have.
     pub fn words(&self, cells: u32) -> usize
         requires { cells ≤ MAX_LARGE_CELLS }
         ensures exact { result ≡ cells * cell_words self.now }
@@ -219,7 +218,7 @@ impl Layout {
         cells as usize * self.words_of_cell()
     }
 
-    /// Where a word of an object of a cell lies, counted from the first word of cell 0.
+    /// Where the word of the object of the cell lies, counted in words from the first word of cell 0.
     #[inline(always)]
     pub fn address(&self, cell: u32, object: u32, reg: Reg) -> usize
         requires cell { cell < MAX_LARGE_CELLS }
@@ -257,7 +256,7 @@ impl Layout {
         steps
     }
 
-    /// The kind of an object, if the cells have it.
+    /// The kind of an object, or none if the cells have no such object.
     pub(crate) fn kind(&self, object: u32) -> Option<Kind>
         ensures exact { result ≡ slice_get (kinds_of self.now) object }
         ensures fit { IfSome result IsFitKind }
@@ -269,7 +268,7 @@ impl Layout {
         }
     }
 
-    /// The kind of one of the objects of each cell.
+    /// The kind of an object that each cell has.
     pub(crate) fn kind_of(&self, object: u32) -> Kind
         requires { object < length (kinds_of self.now) }
         ensures exact { slice_get (kinds_of self.now) object ≡ Some result }
@@ -278,7 +277,6 @@ impl Layout {
         self.kinds[object as usize]
     }
 
-    /// How many words a cell has.
     #[inline(always)]
     fn words_of_cell(&self) -> usize
         ensures small { result ≤ 65 * MAX_OBJECTS }

@@ -2,29 +2,28 @@
 //!
 //! # How a claim goes
 //!
-//! Each cell has deciding objects of [`mb_deciding`] in a row: so many pairs of a conciliator and a ratifier. Its [`Shape`]
-//! may add two ratifiers before them, a *fast path*, and a last object after them.
-//! A consumer goes through them in their order, to the first with its own number, to each next one with the value
-//! that the one before gave out. The first object that decides ends the claim: it is *won* where the value is the
-//! consumer's own number, and else *lost* to that number. If no object of the row has decided, it is *undecided*.
+//! Each cell has deciding objects of [`mb_deciding`] in a row: pairs of a conciliator and a ratifier. Its [`Shape`] may
+//! add two ratifiers before them, a *fast path*, and a last object after them. A consumer goes through them in order.
+//! Its input to the first is its own number, and its input to each next one is the value that the one before returned.
+//! The first object that decides ends the claim: it is *won* if the value is the consumer's own number, and else *lost*
+//! to that number. If no object of the row has decided, it is *undecided*.
 //!
-//! A ratifier that decides a value for one consumer gives that value to all who use it. So those who go on do so with
-//! one value, no later object gives out another, and all who win or lose name one winner. Each value is the input of
-//! somebody who came, so the winner has competed. A conciliator before each ratifier makes it likely that all
-//! come to it with one value, and then it decides. A consumer that is alone is always decided. On a fast path it is decided
-//! before it comes to a conciliator. With a last object every claim is decided.
+//! A ratifier that decides a value for one consumer returns that value to all who use it. So all who go on do so with
+//! one value, no later object returns another, and all who win or lose name one winner. Each value is the input of some
+//! consumer that came, so the winner has competed. A conciliator before each ratifier makes it likely that all come to
+//! the ratifier with one value, and then it decides. A consumer that is alone is always decided. On a fast path it is
+//! decided before it comes to a conciliator. With a last object every claim is decided.
 //!
 //! # What is here
 //!
 //! - [`Layout`] says which objects each cell has, and where their words lie in one block.
-//! - [`Claim`] is the claim of one consumer on one cell: [`Claim::next`] names the access that comes next and
-//!   [`Claim::after`] tells the [`Stage`] that it leads to. It holds no words, so it serves a simulation and
-//!   threads alike.
+//! - [`Claim`] is the claim of one consumer on one cell. [`Claim::next`] returns its next access, and [`Claim::after`]
+//!   the [`Stage`] that this leads to. It holds no words, so it serves a simulation and threads alike.
 //! - [`ClaimWords`] has the words of some cells in one block, and makes the next access of a claim there.
 //! - [`play`] runs the claims of all consumers on one cell, step by step.
-//! - [`laws`] has what holds of every history of claims, whatever the order of the accesses and the random words, and of
-//!   every layout and run. [`steps`] has what one access more changes, for those who keep words and histories of their
-//!   own, [`examples`] small histories and runs. All are contracts of functions that compute nothing.
+//! - [`laws`] has what holds of every lawful history of claims, for all orders of accesses and all random words, and of
+//!   every layout and run. [`steps`] has what one access more changes, for callers that keep words and histories of
+//!   their own. [`examples`] has small histories and runs. All are contracts of functions that compute nothing.
 #![tactic(auto)]
 
 mod access;
@@ -34,7 +33,7 @@ mod claim_words;
 pub mod examples;
 pub mod laws;
 mod layout;
-mod playing;
+mod plays;
 mod run;
 mod shape;
 pub mod steps;
@@ -43,6 +42,6 @@ pub use access::{ClaimAccess, ClaimOp, ClaimStep, ObjectTurn, Stage};
 pub use claim::Claim;
 pub use claim_words::ClaimWords;
 pub use layout::{BadLayout, Layout, MAX_CELLS, MAX_LARGE_CELLS, MAX_PAIRS};
-pub use playing::play;
+pub use plays::play;
 pub use run::{ClaimEntry, ClaimRun, PlayFault};
 pub use shape::Shape;

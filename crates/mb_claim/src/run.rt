@@ -1,4 +1,4 @@
-//! What a run of claims answers.
+//! What a run of claims returns.
 ghost use Rattle.std.specs.Prelude.{◌≡◌};
 ghost use Rattle.mb_claim.specs.declared.run.PlayFault.TheVariants.{NoMemory};
 
@@ -20,7 +20,7 @@ pub enum ClaimEntry {
         /// What it did there.
         act: Act,
     },
-    /// The claim of the consumer had come to its end before and made no access.
+    /// The claim of the consumer had ended before and made no access.
     Done {
         /// Whose step it was.
         consumer: u32,
@@ -39,9 +39,9 @@ pub struct ClaimRun<A: Allocator + Drop> {
 /// Why there is no run. Places count from 0.
 #[derive(Clone, Copy, PartialEq, Eq, Debug)]
 pub enum PlayFault {
-    /// The step at this place is of none of the layout's consumers; it is the first such.
+    /// The step at this place is of no consumer of the layout. It is the first such step.
     NoConsumer(usize),
-    /// A growth was refused.
+    /// Memory ran out.
     NoMemory,
 }
 

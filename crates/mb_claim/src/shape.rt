@@ -1,6 +1,6 @@
 //! Which objects a cell has beside its pairs.
 
-/// Whether a cell has a fast path before its pairs, two ratifiers, and a last object after them.
+/// Whether a cell has a fast path (two ratifiers) before its pairs, and a last object after them.
 #[derive(Clone, Copy, PartialEq, Eq, Debug, Hash)]
 pub struct Shape {
     /// Two ratifiers come first.

@@ -1,65 +1,67 @@
-//! Laws of one access more, for those who keep the words and the history of many claims: a world, a table of words that
-//! threads share. The functions compute nothing: their contracts are the laws. The proofs begin in `proofs/steps`.
+//! Laws of one access more, for callers that keep the words and the history of many claims: a world, or a table of
+//! words that threads share. The functions compute nothing: their contracts are the laws. The proofs begin in
+//! `proofs/steps`.
 //!
 //! A table of shared words begins with [`histories_begin_with_zeros`]. Each access of a claim rests on
-//! [`claims_make_steps`]: the claim can be called, its word is one of the cell's, what it finds there it can go on with,
-//! and the words are then those that the history leaves with its access. [`accesses_lengthen_one_part`] says what is
-//! left of that for each consumer, and [`other_words_are_free`] that words behind the claims' may hold anything.
+//! [`claims_make_steps`]: the claim can be called, its word is one of the cell's, and it can go on with what it finds
+//! there. The words are then those that the history leaves with its access. [`accesses_lengthen_one_part`] says what
+//! that changes for each consumer. [`other_words_are_free`] says that words after those of the claims may hold
+//! anything.
 ghost use Rattle.std.specs.Prelude.{ℕ, ◌≡◌, ◌≢◌, ◌+◌, ◌*◌, ◌<◌, ◌≤◌, List, [], ◌∷◌, length, slice_index, slice_set};
 ghost use Rattle.mb_deciding.specs.declared.access.Op.TheVariants as to;
 ghost use Rattle.mb_deciding.specs.Vocabulary.{IsInWords, IsSameOp, IsOpAt, CanFind, reg_of, seen_by};
-ghost use Rattle.mb_claim.specs.{Op, Reg, Value, Proposal, Quorum, Last, Shape, Kind, Pc, Claims, IsSound, ClaimAccess, ObjectTurn};
+ghost use Rattle.mb_claim.specs.{Op, Reg, Value, Proposal, Quorum, Last, Shape, Kind, Pc, Claims, ClaimsAreSound, ClaimAccess, ObjectTurn};
 ghost use Rattle.mb_claim.specs.{Stage, Going, IsClaimLawful, MayFollow, Adds, IsClaimPrefix, part, part_on};
 ghost use Rattle.mb_claim.specs.{object_history, StandsAt, HasPlace, access_after, words_in, address_in, IsWordIn};
-ghost use Rattle.mb_claim.specs.{address_of, words_of, IsWordOf, pairs_of, fast_row, row_of, shaped_words};
+ghost use Rattle.mb_claim.specs.{address_of, row_words, IsWordOf, pairs_of, fast_row, row_of, shaped_words};
 ghost use Rattle.mb_claim.specs.{IsMemoryOf, found_in, access_in};
 ghost use Rattle.mb_claim.specs.{words_after, Layout, Claim, ClaimOp, claims_in, consumer_of, claim_stage, FitsLayout};
 ghost use Rattle.mb_claim.specs.{HasWord, IsClaimIn, IsNextOp, CanClaimFind, claim_access, step_of};
 
 use mb_deciding::laws::objects_keep_their_promises;
 use mb_deciding::steps::{
-    one_step as object_step, places_are_unfinished, places_lead_on, turns_name_the_next_op,
+    history_extends as object_step, places_are_unfinished, places_lead_on, turns_name_the_next_op,
 };
 
 /// A lawful history with an access that may come next is lawful. The access adds one step to one part, and
 /// changes at most one word.
-pub fn one_step()
+pub fn history_extends()
     ensures { (cs : Claims) (a : ClaimAccess) (h : List ClaimAccess)
         → IsClaimLawful cs h → MayFollow cs a h → Adds cs a h }
 {}
 
-/// What one access more adds to the parts, whether it may come next or not.
+/// What one access more adds to the parts, whether or not it may come next.
 pub fn accesses_lengthen_one_part()
     ensures own { (a : ClaimAccess) (h : List ClaimAccess)
         → part a.consumer (a ∷ h) ≡ a ∷ part a.consumer h }
     ensures others { (c : ℕ) (a : ClaimAccess) (h : List ClaimAccess) → a.consumer ≢ c
         → part c (a ∷ h) ≡ part c h }
 
-    // The part on one cell.
+    // The same holds of the part on one cell.
     ensures own_cell { (a : ClaimAccess) (h : List ClaimAccess)
         → part_on a.consumer a.cell (a ∷ h) ≡ a.step ∷ part_on a.consumer a.cell h }
     ensures other_cells { (c k : ℕ) (a : ClaimAccess) (h : List ClaimAccess) → (a.consumer ≡ c
         → a.cell ≡ k → ⊥)
         → part_on c k (a ∷ h) ≡ part_on c k h }
 
-    // Which is that of all that the consumer did.
+    // That part can be taken from the consumer's whole part.
     ensures cells { (c k : ℕ) (h : List ClaimAccess) → part_on c k (part c h) ≡ part_on c k h }
 {}
 
-/// What a claim has done names what it does next, whatever memory answers: so a history goes on in one way with the
-/// access of a consumer on a cell.
+/// What a claim has done determines its next op, whatever memory holds. So a history goes on in one way with the access
+/// of a consumer on a cell.
 pub fn claims_have_one_next_op()
     ensures op { (cs : Claims) (c : ℕ) (x y : ObjectTurn) (xs : List ObjectTurn) (s r : Stage)
-        → IsSound cs
+        → ClaimsAreSound cs
         → IsClaimPrefix cs c (x ∷ xs) s → IsClaimPrefix cs c (y ∷ xs) r
         → (x.object ≡ y.object) × IsSameOp x.turn.act y.turn.act }
 
-    // It was going on: nothing follows an ended claim.
+    // The claim was going before: nothing follows an ended claim.
     ensures going { (cs : Claims) (c : ℕ) (x : ObjectTurn) (xs : List ObjectTurn) (s : Stage)
         → IsClaimPrefix cs c (x ∷ xs) s → IsClaimPrefix cs c xs Going }
 
-    // And with the value that memory gives, and the same random word, the access is one.
-    ensures access { (cs : Claims) (a b : ClaimAccess) (h : List ClaimAccess) → IsSound cs
+    // With the value that memory gives and the same random word, two such accesses are the same.
+    ensures access { (cs : Claims) (a b : ClaimAccess) (h : List ClaimAccess) → ClaimsAreSound cs
         → IsClaimLawful cs (a ∷ h) → IsClaimLawful cs (b ∷ h) → a.consumer ≡ b.consumer
         → a.cell ≡ b.cell
         → a.step.turn.word ≡ b.step.turn.word → a ≡ b }
@@ -68,18 +70,19 @@ pub fn claims_have_one_next_op()
     turns_name_the_next_op();
 }
 
-/// The access that a claim's place names, with the value that the history leaves in its word, may come next.
+/// The next access of a claim's place, with the value that the history leaves in its word, may follow.
 pub fn places_make_steps()
     ensures follows { (cs : Claims) (c k object : ℕ) (pc : Pc) (op : Op) (word : ℕ)
         (h : List ClaimAccess)
-        → IsSound cs → IsClaimLawful cs h → k < cs.cells → HasPlace cs c k object pc h
+        → ClaimsAreSound cs → IsClaimLawful cs h → k < cs.cells → HasPlace cs c k object pc h
         → IsOpAt cs.table pc op
         → IsInWords (access_after c k object op word h).step.turn
         → MayFollow cs (access_after c k object op word h) h }
 
-    // What it finds there is a value with which the place can go on.
+    // The place can go on with the value that it finds there.
     ensures found { (cs : Claims) (c k object : ℕ) (pc : Pc) (op : Op) (h : List ClaimAccess)
-        → IsSound cs → IsClaimLawful cs h → HasPlace cs c k object pc h → IsOpAt cs.table pc op
+        → ClaimsAreSound cs → IsClaimLawful cs h → HasPlace cs c k object pc h
+        → IsOpAt cs.table pc op
         → CanFind cs.table pc op (seen_by op (object_history k object h)) }
 {
     objects_keep_their_promises();
@@ -87,19 +90,19 @@ pub fn places_make_steps()
     object_step();
 }
 
-/// What a claim at a place has made is a prefix of its path, which goes on, and the word that comes next is
-/// one of the cell's.
+/// The turns of a claim at a place are a prefix of its path, which goes on. Its next word is one of the cell's.
 pub fn places_show_prefixes()
     ensures prefix { (cs : Claims) (c object : ℕ) (pc : Pc) (xs : List ObjectTurn)
-        → IsSound cs → StandsAt cs.table cs.kinds c object pc xs → IsClaimPrefix cs c xs Going }
+        → ClaimsAreSound cs → StandsAt cs.table cs.kinds c object pc xs
+        → IsClaimPrefix cs c xs Going }
     ensures word { (cs : Claims) (c object : ℕ) (pc : Pc) (op : Op) (xs : List ObjectTurn)
-        → IsSound cs → StandsAt cs.table cs.kinds c object pc xs → IsOpAt cs.table pc op
+        → ClaimsAreSound cs → StandsAt cs.table cs.kinds c object pc xs → IsOpAt cs.table pc op
         → IsWordIn cs object (reg_of op) }
 {
     places_are_unfinished();
 }
 
-/// The empty history is lawful, and words that are all 0 are those that it leaves.
+/// The empty history is lawful, and leaves words that are all 0.
 pub fn histories_begin_with_zeros()
     ensures lawful { (cs : Claims) → IsClaimLawful cs [] }
     ensures memory { (cs : Claims) (words : List ℕ)
@@ -107,25 +110,25 @@ pub fn histories_begin_with_zeros()
         → IsMemoryOf cs words [] }
 {}
 
-/// A word behind those of the cells is none of the claims'.
+/// A word after those of the cells may hold anything.
 pub fn other_words_are_free()
     ensures { (cs : Claims) (at n : ℕ) (words : List ℕ) (h : List ClaimAccess)
         → words_in cs ≤ at → IsMemoryOf cs words h → IsMemoryOf cs (slice_set words at n) h }
 {}
 
-/// One access of a claim at its place, made on words that a history leaves: the words are then those that the history
+/// A claim at its place makes one access on words that a history leaves. The words are then those that the history
 /// leaves with that access.
 pub fn words_follow_steps()
     ensures memory { (cs : Claims) (c k object : ℕ) (pc : Pc) (op : Op) (word : ℕ) (words : List ℕ)
-        (h : List ClaimAccess) → IsSound cs → IsMemoryOf cs words h
+        (h : List ClaimAccess) → ClaimsAreSound cs → IsMemoryOf cs words h
         → k < cs.cells → HasPlace cs c k object pc h → IsOpAt cs.table pc op
         → let a = access_in cs c k object op word words in
         IsInWords a.step.turn → IsMemoryOf cs (words_after cs k object op words) (a ∷ h) }
 
-    // What it finds there is a value with which the place can go on.
+    // The place can go on with the value that it finds there.
     ensures found { (cs : Claims) (c k object : ℕ) (pc : Pc) (op : Op) (words : List ℕ)
         (h : List ClaimAccess)
-        → IsSound cs → IsMemoryOf cs words h
+        → ClaimsAreSound cs → IsMemoryOf cs words h
         → k < cs.cells → HasPlace cs c k object pc h → IsOpAt cs.table pc op
         → CanFind cs.table pc op (found_in cs k object op words) }
 {
@@ -135,18 +138,18 @@ pub fn words_follow_steps()
     places_are_unfinished();
 }
 
-/// What the claim of a consumer owes to those who make its accesses on words of their own.
+/// What a claim promises callers that make its accesses on words of their own.
 pub fn claims_make_steps()
     // It can be called.
     ensures fits { (layout : Layout) (claim : Claim) (xs : List ObjectTurn)
         → IsClaimIn layout claim xs → FitsLayout layout claim }
 
-    // The word that comes next is one of the cell's.
+    // Its next word is one of the cell's.
     ensures word { (layout : Layout) (claim : Claim) (next : ClaimOp) (xs : List ObjectTurn)
         → IsClaimIn layout claim xs → claim_stage claim ≡ Going → IsNextOp layout claim next
         → HasWord layout next.object (reg_of next.op) }
 
-    // What it finds there is a value with which it can go on.
+    // It can go on with the value that it finds there.
     ensures found { (layout : Layout) (cells k : ℕ) (claim : Claim) (next : ClaimOp)
         (words : List ℕ)
         (h : List ClaimAccess) → let cs = claims_in layout cells in IsMemoryOf cs words h
@@ -155,11 +158,11 @@ pub fn claims_make_steps()
         → claim_stage claim ≡ Going → IsNextOp layout claim next
         → CanClaimFind layout claim next (found_in cs k next.object next.op words) }
 
-    // A store finds nothing, so whatever is said that it found will do.
+    // A store finds nothing, so any value will do for it.
     ensures stored { (layout : Layout) (claim : Claim) (next : ClaimOp) (reg : Reg) (value seen : ℕ)
         → next.op ≡ to.Store reg value → CanClaimFind layout claim next seen }
 
-    // And where a lawful history has its access, what that found is a value with which it can go on.
+    // If a lawful history has its access, it can go on with what that found.
     ensures told { (layout : Layout) (cells k : ℕ) (claim : Claim) (next : ClaimOp) (seen word : ℕ)
         (h : List ClaimAccess)
         → IsClaimLawful (claims_in layout cells)
@@ -183,9 +186,9 @@ pub fn claims_make_steps()
     words_follow_steps();
 }
 
-/// Different words have different addresses, and the words of so many cells lie below their count. In a row of pairs the
-/// words lie cell by cell, pair by pair: the conciliator's word, the proposal, the quorum registers. In a row of any
-/// shape the words of the fast path come first, and the last word comes after those of the pairs.
+/// Different words have different addresses, and the words of `cells` cells lie below their count. In a row of pairs
+/// the words lie cell by cell, pair by pair: the conciliator's word, the proposal, the quorum registers. In a row of
+/// any shape the words of the fast path come first, and the last word comes after those of the pairs.
 pub fn addresses_are_apart()
     ensures apart { (r : ℕ) (kinds : List Kind) (j k o p : ℕ) (reg other : Reg)
         → IsWordOf r kinds o reg → IsWordOf r kinds p other
@@ -193,7 +196,7 @@ pub fn addresses_are_apart()
         × (reg ≡ other) }
     ensures within { (r : ℕ) (kinds : List Kind) (cells k o : ℕ) (reg : Reg)
         → IsWordOf r kinds o reg → k < cells
-        → address_of r kinds k o reg < cells * words_of r kinds }
+        → address_of r kinds k o reg < cells * row_words r kinds }
     ensures conciliator { (r s n k i : ℕ) → i < n
         → address_of r (pairs_of s n) k (2 * i) Value ≡ k * (n * (2 + r)) + i * (2 + r) }
     ensures proposal { (r s n k i : ℕ) → i < n
@@ -201,7 +204,7 @@ pub fn addresses_are_apart()
     ensures register { (r s n k i q : ℕ) → i < n
         → address_of r (pairs_of s n) k (2 * i + 1) (Quorum q) ≡ k * (n * (2 + r)) + i * (2 + r) +
         (2 + q) }
-    ensures words { (r s n : ℕ) → words_of r (pairs_of s n) ≡ n * (2 + r) }
+    ensures words { (r s n : ℕ) → row_words r (pairs_of s n) ≡ n * (2 + r) }
 
     // With a fast path the objects 0 and 1 are its ratifiers.
     ensures fast_proposal { (r s n k i : ℕ) (shape : Shape) → i < length (fast_row shape.fast)
@@ -229,5 +232,5 @@ pub fn addresses_are_apart()
         address_of r (row_of shape s n) k (f + 2 * n) Last
         ≡ k * shaped_words r shape n + f * (1 + r) + n * (2 + r) }
     ensures shaped { (r s n : ℕ) (shape : Shape)
-        → words_of r (row_of shape s n) ≡ shaped_words r shape n }
+        → row_words r (row_of shape s n) ≡ shaped_words r shape n }
 {}

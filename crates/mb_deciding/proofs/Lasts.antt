@@ -7,7 +7,7 @@ use Rattle.std.proofs.lemmas.Bool.{cases_eq, eq-eqb, ne_eqb}
 use Rattle.mb_quorum.specs.Quorum.{QuorumTable}
 use Rattle.mb_deciding.specs.{Reg, Value, Proposal, Quorum, Last, Exchange, Op, Turn, Access, Out, LastObject, InLast}
 use Rattle.mb_deciding.specs.{LastPlace, last_of, value_after, value_in, ReadsLast, IsSameOp, part, IsLastPath, answer, IsPath}
-use Rattle.mb_deciding.specs.{IsPrefix, IsOpen, IsObjectLawful, CanHold, IsValid, IsCoherent, IsAt, IsLastOp}
+use Rattle.mb_deciding.specs.{IsPrefix, IsOpen, IsObjectLawful, CanHold, IsValid, IsCoherent, PcIsAt, IsLastOp}
 use Rattle.mb_deciding.specs.{CanFind, act_of, seen_by, most_turns}
 use Rattle.mb_deciding.proofs.Histories.{not_empty, lawful_older, own_turns, own_some, some_kept, since_newest}
 
@@ -94,7 +94,7 @@ last_path v (suc n) word =
 -- so the next access of a process at its place goes on with a path
 pub last_prefix :
     (t : QuorumTable) (v : ℕ) (place : LastPlace) (turns : List Turn) (op : Op) (seen word : ℕ)
-    → IsAt t LastObject v (InLast place) turns → IsLastOp place op
+    → PcIsAt t LastObject v (InLast place) turns → IsLastOp place op
     → IsPrefix t LastObject v (record { act = act_of op seen; word = word } ∷ turns)
 last_prefix t v place turns op seen word at is =
     let path = last_path v seen word in

@@ -7,7 +7,7 @@ use Rattle.std.proofs.lemmas.Bool.{eq-eqb, eqb-true}
 use Rattle.mb_quorum.specs.Quorum.{QuorumTable, IsMember}
 use Rattle.mb_quorum.specs.WidthLaw.{self_below}
 use Rattle.mb_deciding.specs.{Quorum, Act, Load, Turn, Kind, Conciliator, Ratifier, LastObject, Pc, InRatifier, InConciliator}
-use Rattle.mb_deciding.specs.{InLast, Begin, Announce, Propose, Check, Draw, Put, Look, acts_below, IsRest, IsAt}
+use Rattle.mb_deciding.specs.{InLast, Begin, Announce, Propose, Check, Draw, Put, Look, acts_below, IsRest, PcIsAt}
 use Rattle.mb_deciding.specs.{most_turns, turns_left}
 use Rattle.mb_deciding.proofs.Sizes.{each_exact, each_size, largest_bound}
 use Rattle.mb_deciding.proofs.TurnsLeft.{attempts_left}
@@ -43,7 +43,7 @@ rest_within : (mask bound left : ℕ) → IsRest mask bound left → count_ones 
 rest_within mask bound left rest = ones_within left mask (λ k member. ((rest k).0 member).1)
 
 pub most_left :
-    (t : QuorumTable) (kind : Kind) (v : ℕ) (pc : Pc) (turns : List Turn) → v < t.values → IsAt t kind v pc turns
+    (t : QuorumTable) (kind : Kind) (v : ℕ) (pc : Pc) (turns : List Turn) → v < t.values → PcIsAt t kind v pc turns
     → turns_left t pc ≤ most_turns t kind
 most_left t Ratifier v (InRatifier (Begin input)) turns value at =
     omega (arith, largest_bound t.write t.values input at.0)

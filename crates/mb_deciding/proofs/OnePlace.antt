@@ -4,7 +4,7 @@ use Rattle.mb_quorum.specs.Quorum.{QuorumTable, IsQuorumTable}
 use Rattle.mb_deciding.specs.{Value, Proposal, Quorum, Last, Kind, Conciliator, Ratifier, LastObject, Pc, InRatifier}
 use Rattle.mb_deciding.specs.{InConciliator, InLast, Draw}
 use Rattle.mb_deciding.specs.{Put, Look, RatifierPlace}
-use Rattle.mb_deciding.specs.{Load, Store, Op, Turn, answer, acts, IsPrefix, IsSameOp, IsAt, IsOpAt, CanFind}
+use Rattle.mb_deciding.specs.{Load, Store, Op, Turn, answer, acts, IsPrefix, IsSameOp, PcIsAt, IsOpAt, CanFind}
 use Rattle.mb_deciding.specs.{act_of}
 use Rattle.mb_deciding.specs.declared.access.Op.TheVariants as to
 use Rattle.mb_deciding.proofs.ConciliatorPlaces.{put_looks, look_ends, drawing_open}
@@ -38,7 +38,7 @@ zero_found t place (to.Exchange reg w) = tt
 -- what the next op of a place finds there goes on with a path, for some value
 some_part :
     (t : QuorumTable) (kind : Kind) (v : ℕ) (turns : List Turn) (pc : Pc) (op : Op) → IsQuorumTable t
-    → IsAt t kind v pc turns → IsOpAt t pc op → (x : ℕ) × IsPrefix t kind v
+    → PcIsAt t kind v pc turns → IsOpAt t pc op → (x : ℕ) × IsPrefix t kind v
     (record { act = act_of op x; word = 0 } ∷ turns)
 some_part t Ratifier v turns (InRatifier place) op q at is = (
   0,
@@ -74,7 +74,7 @@ some_part t (Conciliator s) v turns (InConciliator (Look input)) op q at is = (
 -- so it is one
 pub one_next :
     (t : QuorumTable) (kind : Kind) (v : ℕ) (turns : List Turn) (pc other : Pc) (op next : Op) → IsQuorumTable t
-    → IsAt t kind v pc turns → IsAt t kind v other turns → IsOpAt t pc op → IsOpAt t other next → op ≡ next
+    → PcIsAt t kind v pc turns → PcIsAt t kind v other turns → IsOpAt t pc op → IsOpAt t other next → op ≡ next
 one_next t kind v turns pc other op next q at here is that =
     let (x, a) = some_part t kind v turns pc op q at is in
     let (y, b) = some_part t kind v turns other next q here that in

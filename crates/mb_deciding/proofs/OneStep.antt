@@ -2,7 +2,7 @@
 use Rattle.std.proofs.Common.{◌≡◌, ℕ, List, ◌∷◌, subst, sym}
 use Rattle.mb_quorum.specs.Quorum.{QuorumTable}
 use Rattle.mb_deciding.specs.{Op, Turn, Kind, Conciliator, Ratifier, LastObject, InConciliator, InRatifier, InLast, Next, ConciliatorPlace, LastPlace}
-use Rattle.mb_deciding.specs.{RatifierPlace, Begin, Announce, IsAt, IsConciliatorOp, IsRatifierOp, IsReached, IsInRatifier, acts, CanFind, act_of}
+use Rattle.mb_deciding.specs.{RatifierPlace, Begin, Announce, PcIsAt, IsConciliatorOp, IsRatifierOp, IsReached, IsInRatifier, acts, CanFind, act_of}
 use Rattle.mb_deciding.specs.{ConciliatorReaches, RatifierReaches, LastReaches, IsLastOp, IsStep}
 use Rattle.mb_deciding.proofs.Advances.{find_anywhere, begin_op, begin_announces}
 
@@ -15,7 +15,7 @@ conciliator_step t place makes op seen word follows is made reaches =
     record { op = op; seen = seen; is = is; made = made; reached = reached }
   where
     reached :
-        (kind : Kind) (v : ℕ) (turns : List Turn) → IsAt t kind v (InConciliator place) turns
+        (kind : Kind) (v : ℕ) (turns : List Turn) → PcIsAt t kind v (InConciliator place) turns
         → CanFind t (InConciliator place) op seen
         → IsReached t kind v follows (record { act = act_of op seen; word = word } ∷ turns)
     reached (Conciliator s) v turns at can = reaches s v turns op at is can
@@ -31,7 +31,7 @@ ratifier_step t place makes op seen word follows is made reaches =
     record { op = op; seen = seen; is = is; made = made; reached = reached }
   where
     reached :
-        (kind : Kind) (v : ℕ) (turns : List Turn) → IsAt t kind v (InRatifier place) turns
+        (kind : Kind) (v : ℕ) (turns : List Turn) → PcIsAt t kind v (InRatifier place) turns
         → CanFind t (InRatifier place) op seen
         → IsReached t kind v follows (record { act = act_of op seen; word = word } ∷ turns)
     reached (Conciliator s) v turns at can = absurd at
@@ -47,7 +47,7 @@ last_step t place makes op seen word follows is made reaches =
     record { op = op; seen = seen; is = is; made = made; reached = reached }
   where
     reached :
-        (kind : Kind) (v : ℕ) (turns : List Turn) → IsAt t kind v (InLast place) turns
+        (kind : Kind) (v : ℕ) (turns : List Turn) → PcIsAt t kind v (InLast place) turns
         → CanFind t (InLast place) op seen
         → IsReached t kind v follows (record { act = act_of op seen; word = word } ∷ turns)
     reached (Conciliator s) v turns at can = absurd at
@@ -66,7 +66,7 @@ begin_step t input left makes word follows is step =
     op = subst (λ mask. IsRatifierOp t (Announce input mask) step.op) is step.is
 
     reached :
-        (kind : Kind) (v : ℕ) (turns : List Turn) → IsAt t kind v (InRatifier (Begin input)) turns
+        (kind : Kind) (v : ℕ) (turns : List Turn) → PcIsAt t kind v (InRatifier (Begin input)) turns
         → CanFind t (InRatifier (Begin input)) step.op step.seen
         → IsReached t kind v follows (record { act = act_of step.op step.seen; word = word } ∷ turns)
     reached (Conciliator s) v turns at can = absurd at

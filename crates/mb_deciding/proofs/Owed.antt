@@ -2,7 +2,7 @@
 use Rattle.std.proofs.Common.{◌≡◌, ◌≢◌, ℕ, ◌+◌, ◌<◌, ◌≤◌, Bool, true, false, List, [], ◌∷◌, ◌++◌, length, inl, inr, sym}
 use Rattle.std.proofs.Common.{refl, ap, ap₂, ◌∙◌, subst, append-nil, length-append, true≢false, arith}
 use Rattle.mb_deciding.specs.{Value, Proposal, Act, Load, Store, Turn, Access, Out, Kind, Conciliator, Ratifier, LastObject, Object}
-use Rattle.mb_deciding.specs.{IsSound, object_of, ratifier_of, conciliator_of, last_of, acts, part, zeros_below, announcement}
+use Rattle.mb_deciding.specs.{ObjectIsSound, object_of, ratifier_of, conciliator_of, last_of, acts, part, zeros_below, announcement}
 use Rattle.mb_deciding.specs.{IsRatifierPath, answer, IsPath, IsPrefix, IsOpen, IsObjectLawful, most_turns, IsDeciding}
 use Rattle.mb_quorum.specs.Quorum.{QuorumTable, IsQuorumTable}
 use Rattle.mb_deciding.proofs.Histories.{not_empty, nil_or}
@@ -164,5 +164,5 @@ promises_kept_by t LastObject inputs law =
     }
 
 -- so does every object
-pub promises_kept : (o : Object) → IsSound o → IsDeciding o
+pub promises_kept : (o : Object) → ObjectIsSound o → IsDeciding o
 promises_kept o law = promises_kept_by o.table o.kind o.inputs law

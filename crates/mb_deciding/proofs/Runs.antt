@@ -5,8 +5,8 @@ use Rattle.std.specs.List.{All, cons_option}
 use Rattle.std.proofs.lemmas.List.{length-map, get_or-map}
 use Rattle.std.proofs.lemmas.Bool.{cases_eq, ne_eqb}
 use Rattle.mb_deciding.specs.{Act, Access, Turn, Op, Out, Pc}
-use Rattle.mb_deciding.specs.{InRatifier, Begin, Next, Entry, Words, Object, ObjectSetup, object_in, ReadsLast}
-use Rattle.mb_deciding.specs.{part, IsPath, IsObjectLawful, answer, IsAt, IsReached, act_of, seen_by}
+use Rattle.mb_deciding.specs.{InRatifier, Begin, Next, Entry, ObjectMemory, Object, ObjectSetup, object_in, ReadsLast}
+use Rattle.mb_deciding.specs.{part, IsPath, IsObjectLawful, answer, PcIsAt, IsReached, act_of, seen_by}
 use Rattle.mb_deciding.specs.{process_of, with_entry, history_from, history_of, HasEnded, IsOutputOf, IsEntryAfter}
 use Rattle.mb_deciding.specs.{AreEntriesOf, IsTrace, IsTableFor, IsMemory, RunState, IsRun, out_of, next_from, come_to}
 use Rattle.mb_deciding.specs.declared.access.Op.TheVariants as to
@@ -58,7 +58,7 @@ other_turns p k turn h other =
 -- a process at a place has no output
 pub not_ended :
     (o : Object) → IsTableFor o.kind o.table → (h : List Access) (p : ℕ) (pc : Pc)
-    → IsAt o.table o.kind (o.inputs p) pc (part p h)
+    → PcIsAt o.table o.kind (o.inputs p) pc (part p h)
     → HasEnded o p h → ⊥
 not_ended o q h p pc at ended =
     place_unfinished o.table o.kind (o.inputs p) pc (part p h) (answer ended.0 ended.1) q at ended.2
@@ -112,7 +112,7 @@ module _ (u : ObjectSetup) (schedule : List (ℕ × ℕ)) (state : RunState) (ru
   -- where the run has a process at a place
   pub place_at :
       (p : ℕ) (x : Next) (pc : Pc) → p < length state.places → x ≡ get_or state.places p x → x ≡ leads.Go pc
-      → IsAt u.table u.kind (get_or u.inputs p 0) pc (part p past)
+      → PcIsAt u.table u.kind (get_or u.inputs p 0) pc (part p past)
   place_at p x pc below is go =
       subst (λ n. IsReached u.table u.kind (get_or u.inputs p 0) n (part p past)) (sym is ∙ go) (run.reached p x below)
 
@@ -127,7 +127,7 @@ module _ (u : ObjectSetup) (schedule : List (ℕ × ℕ)) (state : RunState) (ru
 
   -- an access of a process at a place
   pub run_accessed :
-      IsTableFor u.kind u.table → (words : Words) (p word : ℕ) (next : Next) (act : Act) → p < length state.places
+      IsTableFor u.kind u.table → (words : ObjectMemory) (p word : ℕ) (next : Next) (act : Act) → p < length state.places
       → (HasEnded (object_in u) p past → ⊥)
       → IsObjectLawful (object_in u) (record { process = p; turn = record { act = act; word = word } } ∷ past)
       → IsMemory words (record { process = p; turn = record { act = act; word = word } } ∷ past)

@@ -3,7 +3,7 @@ use Rattle.std.proofs.Common.{◌≡◌, ℕ, ◌≤◌, List, ◌∷◌, refl, 
 use Rattle.mb_quorum.specs.Quorum.{QuorumTable}
 use Rattle.mb_deciding.specs.{Turn, Access, Op, Reg, Value, Proposal, Quorum, Last, Kind, Conciliator, Ratifier, LastObject, Out, Pc}
 use Rattle.mb_deciding.specs.{InRatifier, InConciliator, InLast}
-use Rattle.mb_deciding.specs.{object_of, part, IsPath, IsPrefix, IsOpen, IsObjectLawful, IsAt, IsOpAt, CanFind, HasReg}
+use Rattle.mb_deciding.specs.{object_of, part, IsPath, IsPrefix, IsOpen, IsObjectLawful, PcIsAt, IsOpAt, CanFind, HasReg}
 use Rattle.mb_deciding.specs.{reg_of, seen_by, turn_after, IsPlace, IsTableFor, IsSameFor, IsReg}
 use Rattle.mb_deciding.proofs.Owed.{one_end}
 use Rattle.mb_deciding.proofs.ConciliatorPlaces.{drawing_open}
@@ -31,7 +31,7 @@ same_table LastObject t u same q = subst (λ x. IsTableFor LastObject x) (sym sa
 -- ---- a process at a place
 -- in a ratifier it fits the table
 pub ratifier_place :
-    (t : QuorumTable) (v : ℕ) (pc : Pc) (turns : List Turn) → IsAt t Ratifier v pc turns → IsPlace t pc
+    (t : QuorumTable) (v : ℕ) (pc : Pc) (turns : List Turn) → PcIsAt t Ratifier v pc turns → IsPlace t pc
 ratifier_place t v (InRatifier place) turns at = at.0
 ratifier_place t v (InConciliator place) turns at = absurd at
 ratifier_place t v (InLast place) turns at = absurd at
@@ -39,7 +39,7 @@ ratifier_place t v (InLast place) turns at = absurd at
 -- its next turn goes on with a path
 pub place_leads :
     (t : QuorumTable) (kind : Kind) (inputs : ℕ → ℕ) (h : List Access) (p : ℕ) (pc : Pc) (op : Op) (word : ℕ)
-    → IsTableFor kind t → IsObjectLawful (object_of t kind inputs) h → IsAt t kind (inputs p) pc (part p h)
+    → IsTableFor kind t → IsObjectLawful (object_of t kind inputs) h → PcIsAt t kind (inputs p) pc (part p h)
     → IsOpAt t pc op
     → IsPrefix t kind (inputs p) (turn_after op word h ∷ part p h)
 place_leads t Ratifier inputs h p pc op word q l at is = next_part t Ratifier inputs h p pc op word q l at is
@@ -52,7 +52,7 @@ place_leads t LastObject inputs h p pc op word q l at is = next_part t LastObjec
 -- what it finds is a value with which the place can go on
 pub place_finds :
     (t : QuorumTable) (kind : Kind) (inputs : ℕ → ℕ) (h : List Access) (p : ℕ) (pc : Pc) (op : Op) → IsTableFor kind t
-    → IsObjectLawful (object_of t kind inputs) h → IsAt t kind (inputs p) pc (part p h) → IsOpAt t pc op
+    → IsObjectLawful (object_of t kind inputs) h → PcIsAt t kind (inputs p) pc (part p h) → IsOpAt t pc op
     → CanFind t pc op (seen_by op h)
 place_finds t Ratifier inputs h p pc op q l at is = next_found t Ratifier inputs h p pc op q l at is
 place_finds t (Conciliator s) inputs h p (InConciliator place) op q l at is =
@@ -63,7 +63,7 @@ place_finds t LastObject inputs h p pc op q l at is = next_found t LastObject in
 
 -- what was made there is an open prefix
 place_open :
-    (t : QuorumTable) (kind : Kind) (v : ℕ) (pc : Pc) (turns : List Turn) → IsTableFor kind t → IsAt t kind v pc turns
+    (t : QuorumTable) (kind : Kind) (v : ℕ) (pc : Pc) (turns : List Turn) → IsTableFor kind t → PcIsAt t kind v pc turns
     → IsOpen t kind v turns
 place_open t Ratifier v pc turns q at = at_open t Ratifier v pc turns q at
 place_open t (Conciliator s) v (InConciliator place) turns q at = drawing_open t s v place turns at.1
@@ -74,7 +74,7 @@ place_open t LastObject v pc turns q at = at_open t LastObject v pc turns q at
 -- so it is no whole path
 pub place_unfinished :
     (t : QuorumTable) (kind : Kind) (v : ℕ) (pc : Pc) (turns : List Turn) (out : Out) → IsTableFor kind t
-    → IsAt t kind v pc turns → IsPath t kind v turns out → ⊥
+    → PcIsAt t kind v pc turns → IsPath t kind v turns out → ⊥
 place_unfinished t kind v pc turns out q at path =
     let further = place_open t kind v pc turns q at in
     further.1 (one_end t kind v turns further.0 out further.2.0 path further.2.1).0
@@ -91,7 +91,7 @@ has_reg r kind Last few has = tt
 -- a run keeps the word of its next op
 pub place_word :
     (t : QuorumTable) (kind : Kind) (v : ℕ) (pc : Pc) (turns : List Turn) (op : Op) → IsTableFor kind t
-    → IsAt t kind v pc turns → IsOpAt t pc op → IsReg (reg_of op)
+    → PcIsAt t kind v pc turns → IsOpAt t pc op → IsReg (reg_of op)
 place_word t Ratifier v pc turns op q at is =
     has_reg t.registers Ratifier (reg_of op) q.limit (at_word t Ratifier v pc turns op q at is)
 place_word t (Conciliator s) v (InConciliator place) turns op q at is =

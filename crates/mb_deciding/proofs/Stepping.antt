@@ -3,7 +3,7 @@ use Rattle.std.proofs.Common.{ℕ, List, ◌∷◌, sym, subst}
 use Rattle.mb_deciding.specs.{Op, Turn, Access, Out, Kind, Conciliator}
 use Rattle.mb_deciding.specs.{Ratifier, LastObject, Pc, InRatifier, InConciliator, InLast}
 use Rattle.mb_deciding.specs.{object_of, part}
-use Rattle.mb_deciding.specs.{acts, IsPath, IsPrefix, IsOpen, IsObjectLawful, IsAt}
+use Rattle.mb_deciding.specs.{acts, IsPath, IsPrefix, IsOpen, IsObjectLawful, PcIsAt}
 use Rattle.mb_deciding.specs.{IsOpAt}
 use Rattle.mb_deciding.specs.{CanFind, HasReg, reg_of, seen_by, turn_after}
 use Rattle.mb_quorum.specs.Quorum.{QuorumTable, IsQuorumTable}
@@ -17,7 +17,7 @@ use Rattle.mb_deciding.proofs.ConciliatorStepping.{open_turns, drawing_next, dra
 -- the next turn goes on with a path
 pub next_part :
     (t : QuorumTable) (kind : Kind) (inputs : ℕ → ℕ) (h : List Access) (p : ℕ) (pc : Pc) (op : Op) (word : ℕ)
-    → IsQuorumTable t → IsObjectLawful (object_of t kind inputs) h → IsAt t kind (inputs p) pc (part p h)
+    → IsQuorumTable t → IsObjectLawful (object_of t kind inputs) h → PcIsAt t kind (inputs p) pc (part p h)
     → IsOpAt t pc op
     → IsPrefix t kind (inputs p) (turn_after op word h ∷ part p h)
 next_part t Ratifier inputs h p (InRatifier place) op word q l at is =
@@ -38,7 +38,7 @@ next_part t LastObject inputs h p (InLast place) op word q l at is =
 -- what it finds is a value with which the place can go on
 pub next_found :
     (t : QuorumTable) (kind : Kind) (inputs : ℕ → ℕ) (h : List Access) (p : ℕ) (pc : Pc) (op : Op) → IsQuorumTable t
-    → IsObjectLawful (object_of t kind inputs) h → IsAt t kind (inputs p) pc (part p h) → IsOpAt t pc op
+    → IsObjectLawful (object_of t kind inputs) h → PcIsAt t kind (inputs p) pc (part p h) → IsOpAt t pc op
     → CanFind t pc op (seen_by op h)
 next_found t Ratifier inputs h p (InRatifier place) op q l at is = checking_found t inputs h l place op
 next_found t Ratifier inputs h p (InConciliator place) op q l at is = absurd at
@@ -53,7 +53,7 @@ next_found t LastObject inputs h p (InLast place) op q l at is = last_found t in
 
 -- what was made at a place is an open prefix
 pub at_open :
-    (t : QuorumTable) (kind : Kind) (v : ℕ) (pc : Pc) (turns : List Turn) → IsQuorumTable t → IsAt t kind v pc turns
+    (t : QuorumTable) (kind : Kind) (v : ℕ) (pc : Pc) (turns : List Turn) → IsQuorumTable t → PcIsAt t kind v pc turns
     → IsOpen t kind v turns
 at_open t Ratifier v (InRatifier place) turns q at =
     open_by_turns t v turns (checking_open t q v place (acts turns) at.0 at.1)
@@ -69,14 +69,14 @@ at_open t LastObject v (InLast place) turns q at =
 
 -- so it is a prefix
 pub at_part :
-    (t : QuorumTable) (kind : Kind) (v : ℕ) (pc : Pc) (turns : List Turn) → IsQuorumTable t → IsAt t kind v pc turns
+    (t : QuorumTable) (kind : Kind) (v : ℕ) (pc : Pc) (turns : List Turn) → IsQuorumTable t → PcIsAt t kind v pc turns
     → IsPrefix t kind v turns
 at_part t kind v pc turns q at = open_turns t kind v turns (at_open t kind v pc turns q at)
 
 -- and no whole path
 pub at_unfinished :
     (t : QuorumTable) (kind : Kind) (v : ℕ) (pc : Pc) (turns : List Turn) (out : Out) → IsQuorumTable t
-    → IsAt t kind v pc turns → IsPath t kind v turns out → ⊥
+    → PcIsAt t kind v pc turns → IsPath t kind v turns out → ⊥
 at_unfinished t kind v pc turns out q at path =
     let further = at_open t kind v pc turns q at in
     further.1 (one_end t kind v turns further.0 out further.2.0 path further.2.1).0
@@ -84,7 +84,7 @@ at_unfinished t kind v pc turns out q at path =
 -- the next op is on a word of the object
 pub at_word :
     (t : QuorumTable) (kind : Kind) (v : ℕ) (pc : Pc) (turns : List Turn) (op : Op) → IsQuorumTable t
-    → IsAt t kind v pc turns → IsOpAt t pc op → HasReg t.registers kind (reg_of op)
+    → PcIsAt t kind v pc turns → IsOpAt t pc op → HasReg t.registers kind (reg_of op)
 at_word t Ratifier v (InRatifier place) turns op q at is = checking_word t q v place (acts turns) op at.0 at.1 is
 at_word t Ratifier v (InConciliator place) turns op q at is = absurd at
 at_word t (Conciliator s) v (InConciliator place) turns op q at is = drawing_word t.registers s place op is

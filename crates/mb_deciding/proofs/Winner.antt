@@ -1,7 +1,7 @@
 -- What holds of every lawful history of one ratifier.
 use Rattle.std.proofs.Common.{◌≡◌, ◌≢◌, ℕ, ◌+◌, ◌<◌, Bool, true, false, List, [], ◌∷◌, inl, inr, sym, refl, ◌∙◌, subst}
 use Rattle.std.proofs.Common.{arith}
-use Rattle.mb_deciding.specs.{Proposal, Quorum, Load, Store, Access, Ratifier, Object, IsSound, object_of, ratifier_of}
+use Rattle.mb_deciding.specs.{Proposal, Quorum, Load, Store, Access, Ratifier, Object, ObjectIsSound, object_of, ratifier_of}
 use Rattle.mb_deciding.specs.{value_in, part, acts, Has, IsObjectLawful, HasOutput, IsAnnounced, IsValid, IsCoherent}
 use Rattle.mb_deciding.specs.{IsAccepted, IsContested, IsRatifying, ChecksKeepOut}
 use Rattle.mb_quorum.specs.Quorum.{QuorumTable, IsQuorumTable, IsMember}
@@ -165,14 +165,14 @@ accepted t q inputs h l v all p d u o =
         absurd (n.1 (sym a.2 ∙ (all a.0 (has_turns (part a.0 h) (Store (Quorum a.1) 1) a.4) ∙ sym same)))
 
 -- what a ratifier owes besides what all objects do
-pub ratifies : (o : Object) → IsSound o → o.kind ≡ Ratifier → IsRatifying o
+pub ratifies : (o : Object) → ObjectIsSound o → o.kind ≡ Ratifier → IsRatifying o
 ratifies o q is =
     subst (λ kind. IsRatifying (object_of o.table kind o.inputs)) (sym is)
     (record { acceptance = accepted o.table q o.inputs; contested = contested o.table q o.inputs })
 
 -- a check that met no 1 keeps the others out, in every lawful history of a ratifier
 pub ratifier_keeps_out :
-    (o : Object) (h : List Access) → IsSound o → o.kind ≡ Ratifier → IsObjectLawful o h → ChecksKeepOut o h
+    (o : Object) (h : List Access) → ObjectIsSound o → o.kind ≡ Ratifier → IsObjectLawful o h → ChecksKeepOut o h
 ratifier_keeps_out o h q is =
     subst (λ kind. IsObjectLawful (object_of o.table kind o.inputs) h → ChecksKeepOut
     (object_of o.table kind o.inputs) h) (sym is)

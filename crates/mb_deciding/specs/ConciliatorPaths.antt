@@ -14,18 +14,18 @@ IsMissing s (suc k) [] = ⊥
 IsMissing s (suc k) (turn ∷ older) =
     (turn.act ≡ Load Value 0) × (StoresOn s k turn.word → ⊥) × IsMissing s k older
 
--- later a load of 0 on attempt k, whose word stores
+-- after that a load of 0 on attempt k, whose word stores
 abbrev pub IsDrawn : ℕ → ℕ → List Turn → Type 0
 IsDrawn s k [] = ⊥
 IsDrawn s k (turn ∷ older) =
     (turn.act ≡ Load Value 0) × StoresOn s k turn.word × IsMissing s k older
 
--- later a store of the input v
+-- after that a store of the input v
 abbrev pub IsPut : ℕ → ℕ → ℕ → List Turn → Type 0
 IsPut s v k [] = ⊥
 IsPut s v k (turn ∷ older) = (turn.act ≡ Store Value (v + 1)) × IsDrawn s k older
 
--- a whole path of input v with the value u: at last u was loaded, at once on attempt k, or where attempt k has stored
+-- a whole path of input v with the value u: at last u was loaded, either on attempt k, or after the store of attempt k
 abbrev pub IsConciliatorPath : ℕ → ℕ → List Turn → ℕ → Type 0
 IsConciliatorPath s v [] u = ⊥
 IsConciliatorPath s v (turn ∷ older) u =

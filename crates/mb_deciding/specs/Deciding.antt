@@ -1,4 +1,4 @@
--- What deciding objects owe to those who use them.
+-- What deciding objects promise their users.
 use Rattle.std.specs.Prelude.{◌≡◌, ◌≢◌, ℕ, ◌+◌, ◌<◌, ◌≤◌, Bool, true, false, List, [], ◌∷◌, ◌++◌}
 use Rattle.std.specs.Prelude.{filter_map, length}
 use Rattle.mb_deciding.specs.OneObject.{Object}
@@ -13,25 +13,25 @@ abbrev pub IsValid : Object → List Access → Type 0
 IsValid o h =
     (p : ℕ) (d : Bool) (u : ℕ) → HasOutput o p d u h → (q : ℕ) × (part q h ≢ []) × (o.inputs q ≡ u)
 
--- coherence: where one process has (1, u), every output has the value u
+-- coherence: if one process has (1, u), every output has the value u
 abbrev pub IsCoherent : Object → List Access → Type 0
 IsCoherent o h =
     (p q : ℕ) (d : Bool) (u w : ℕ) → HasOutput o p true u h → HasOutput o q d w h → w ≡ u
 
--- acceptance, of a ratifier: where all processes with an access have the input v, every output is (1, v)
+-- acceptance, of a ratifier: if all processes with an access have the input v, every output is (1, v)
 abbrev pub IsAccepted : Object → List Access → Type 0
 IsAccepted o h =
     (v : ℕ) → ((q : ℕ) → part q h ≢ [] → o.inputs q ≡ v)
     → (p : ℕ) (d : Bool) (u : ℕ) → HasOutput o p d u h → (d ≡ true) × (u ≡ v)
 
--- an output (0, u) of a ratifier comes only where u itself and another value were announced
+-- a ratifier has an output (0, u) only if u itself and another value were announced
 abbrev pub IsContested : Object → List Access → Type 0
 IsContested o h =
     (p u : ℕ) → HasOutput o p false u h
     → IsAnnounced o u h × ((w : ℕ) × (w ≢ u) × IsAnnounced o w h)
 
--- where a process has read the read quorum of u below the bound and met no 1, whatever it did later,
--- no process that loaded an empty proposal with an input other than u has such a register in its write quorum
+-- a process has read the read quorum of u below the bound and met no 1, whatever it did later. Then no process that
+-- loaded an empty proposal with an input other than u has such a register in its write quorum
 abbrev pub ChecksKeepOut : Object → List Access → Type 0
 ChecksKeepOut o h =
     (p u bound b r : ℕ) (later made : List Act)
@@ -43,12 +43,12 @@ ChecksKeepOut o h =
 abbrev pub stores_in : List Access → List ℕ
 stores_in h = filter_map (λ a. stored_by a.turn.act) h
 
--- first mover, of a conciliator: where only one store was made, every output is its value
+-- first mover, of a conciliator: if only one store was made, every output is its value
 abbrev pub IsFirstMover : Object → List Access → Type 0
 IsFirstMover o h =
     (w : ℕ) → stores_in h ≡ w ∷ [] → (p : ℕ) (d : Bool) (u : ℕ) → HasOutput o p d u h → w ≡ u + 1
 
--- what an object owes
+-- what an object promises
 pub record IsDeciding (o : Object) : Type 0 where
   -- each input has a path, with at least one turn
   pub opens : (v : ℕ) → v < o.table.values → IsOpen o.table o.kind v []
@@ -60,7 +60,7 @@ pub record IsDeciding (o : Object) : Type 0 where
   -- no process has more turns
   pub bounded :
       (h : List Access) (p : ℕ) → IsObjectLawful o h → length (part p h) ≤ most_turns o.table o.kind
-  -- what is left in a word is a value that it can hold
+  -- a word holds only values that it can hold
   pub fits :
       (h : List Access) (reg : Reg) → IsObjectLawful o h → CanHold o.table reg (value_in reg h)
   -- validity, in every lawful history
@@ -68,7 +68,7 @@ pub record IsDeciding (o : Object) : Type 0 where
   -- coherence, in every lawful history
   pub coherence : (h : List Access) → IsObjectLawful o h → IsCoherent o h
 
--- what a ratifier owes besides
+-- what a ratifier promises besides
 pub record IsRatifying (o : Object) : Type 0 where
   -- acceptance, in every lawful history
   pub acceptance : (h : List Access) → IsObjectLawful o h → IsAccepted o h

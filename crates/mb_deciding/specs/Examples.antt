@@ -1,5 +1,5 @@
--- Small histories of process 0 alone, with the input 0: some are lawful, and some are not. And its traces. And histories of
--- a last object to which several processes come.
+-- Small histories of process 0 alone, with the input 0, and its traces: some are lawful, and some are not. And
+-- histories of a last object that several processes use.
 use Rattle.std.specs.Prelude.{ℕ, zero, suc, ◌+◌, true, false, List, [], ◌∷◌, map, Option, Some, None}
 use Rattle.mb_quorum.specs.Unary.{unary_table}
 use Rattle.mb_deciding.specs.Types.{Value, Proposal, Quorum, Last, Act, Load, Store, Exchange, Turn, Access, Out, Kind, Entry}
@@ -12,7 +12,7 @@ use Rattle.mb_deciding.specs.Trace.{IsTrace}
 abbrev pub zero_inputs : ℕ → ℕ
 zero_inputs process = 0
 
--- a ratifier over the unary table of two values, where every input is 0
+-- a ratifier over the unary table of two values. Every input is 0
 abbrev pub small_ratifier : Object
 small_ratifier = ratifier_of (unary_table 2) zero_inputs
 
@@ -39,7 +39,7 @@ clear_run =
 abbrev pub hasty_run : List Turn
 hasty_run = turn 0 (Load Proposal 0) ∷ []
 
--- register 1 gives 1, which no process stored
+-- the load of register 1 finds 1, which no process stored
 abbrev pub invented_run : List Turn
 invented_run =
     turn 0 (Load (Quorum 1) 1) ∷ turn 0 (Store Proposal 1) ∷ turn 0 (Load Proposal 0) ∷ turn 0
@@ -64,7 +64,7 @@ own_inputs process = process
 abbrev pub small_last : Object
 small_last = last_of (unary_table 3) own_inputs
 
--- the process exchanges the word for its input, and finds this
+-- the process exchanges the word for its input, and finds `found`
 abbrev pub exchange_by : ℕ → ℕ → Access
 exchange_by process found = record { process = process; turn = turn 0 (Exchange Last (process + 1) found) }
 
@@ -76,7 +76,7 @@ first_decides = exchange_by 2 1 ∷ exchange_by 1 1 ∷ exchange_by 0 0 ∷ []
 abbrev pub found_empty_twice : List Access
 found_empty_twice = exchange_by 1 0 ∷ exchange_by 0 0 ∷ []
 
--- process 2 finds the value of process 1, which found the word filled
+-- process 2 finds the value of process 1, which had found the word filled
 abbrev pub stored_over : List Access
 stored_over = exchange_by 2 2 ∷ exchange_by 1 1 ∷ exchange_by 0 0 ∷ []
 
@@ -85,12 +85,12 @@ abbrev pub loaded_then_stored : List Turn
 loaded_then_stored = turn 0 (Store Last 1) ∷ turn 0 (Load Last 0) ∷ []
 
 -- ---- traces
--- so many turns of process 0, each with this random word
+-- n turns of process 0, each with this random word
 abbrev pub turns_of_one : ℕ → ℕ → List (ℕ × ℕ)
 turns_of_one zero word = []
 turns_of_one (suc n) word = (0, word) ∷ turns_of_one n word
 
--- what these turns make of one object over the unary table of two values, and the output of process 0
+-- the entries of n such turns on one object over the unary table of two values, and the output of process 0
 abbrev pub IsTraceOfOne : Kind → ℕ → ℕ → List Entry → Option Out → Type 0
 IsTraceOfOne kind n word entries out =
     IsTrace (setup_of (unary_table 2) kind (0 ∷ [])) (turns_of_one n word) entries (out ∷ [])

@@ -48,7 +48,7 @@ abbrev pub value_after : Reg → Act → ℕ → ℕ
 value_after reg act n =
     option_map_or (λ value. if is_same_reg (reg_of_act act) reg then value else n) (stored_by act) n
 
--- what a history leaves in a word: the value of the last store to it, or 0 where there is none
+-- what a history leaves in a word: the value of the last store to it, or 0 if there is none
 abbrev pub value_in : Reg → List Access → ℕ
 value_in reg [] = 0
 value_in reg (a ∷ older) = value_after reg a.turn.act (value_in reg older)
@@ -57,13 +57,13 @@ value_in reg (a ∷ older) = value_after reg a.turn.act (value_in reg older)
 abbrev pub ReadsLast : Act → List Access → Type 0
 ReadsLast act older = IfSome (loaded_by act) (λ value. value ≡ value_in (reg_of_act act) older)
 
--- so it is with each act of a history
+-- so does each act of a history
 abbrev pub IsMemoryTrue : List Access → Type 0
 IsMemoryTrue [] = Unit {0}
 IsMemoryTrue (a ∷ older) = ReadsLast a.turn.act older × IsMemoryTrue older
 
--- both load one word, or both store one value in one word, or both exchange it for one value: before memory answers they
--- are one
+-- both load one word, or both store one value in one word, or both exchange it for one value. They can differ only in
+-- what they find
 abbrev pub IsSameOp : Act → Act → Type 0
 IsSameOp (Load reg x) (Load other y) = reg ≡ other
 IsSameOp (Load reg x) (Store other y) = ⊥
@@ -85,7 +85,7 @@ IsActInWords act =
 abbrev pub IsInWords : Turn → Type 0
 IsInWords turn = IsActInWords turn.act × (turn.word < 2 ^ 64)
 
--- so it is with each access
+-- so does each access
 abbrev pub AreInWords : List Access → Type 0
 AreInWords [] = Unit {0}
 AreInWords (a ∷ older) = IsInWords a.turn × AreInWords older
@@ -98,7 +98,7 @@ turn_by process a = if a.process == process then Some a.turn else None
 abbrev pub part : ℕ → List Access → List Turn
 part process h = filter_map (turn_by process) h
 
--- the acts of turns, where the random words do not count
+-- the acts of turns, without the random words
 abbrev pub acts : List Turn → List Act
 acts turns = map (λ turn. turn.act) turns
 

@@ -2,7 +2,7 @@
 use Rattle.std.specs.Prelude.{◌≡◌, ℕ, ◌+◌, List, [], ◌∷◌, ◌⊎◌}
 use Rattle.mb_deciding.specs.Types.{Last, Exchange, Turn}
 
--- a whole path of input v with the value u: one exchange for v + 1, which found 0, and u is v; or which found u + 1
+-- a whole path of input v with the value u: one exchange for v + 1. Either it found 0, and u is v, or it found u + 1
 abbrev pub IsLastPath : ℕ → List Turn → ℕ → Type 0
 IsLastPath v [] u = ⊥
 IsLastPath v (turn ∷ []) u =

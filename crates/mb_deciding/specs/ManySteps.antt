@@ -13,8 +13,8 @@ module _ {M : Type 0} where
   DrawsAndMakes draws makes object before word op seen now =
       (mid : M) × draws before word mid × makes mid object op seen now
 
-  -- from a place and a memory on, so many accesses led to what follows, and to another memory: each is the next one of
-  -- its place, with the random word that was drawn for it
+  -- from a place and a memory, this number of accesses led to what follows, and to another memory. Each is the next one
+  -- of its place, with the random word that was drawn for it
   abbrev pub AreSteps : QuorumTable → (M → ℕ → Op → ℕ → M → Type 0) → Pc → M → ℕ → Next → M → Type 0
   AreSteps t makes pc start zero follows now = (follows ≡ leads.Go pc) × (now ≡ start)
   AreSteps t makes pc start (suc n) follows now =

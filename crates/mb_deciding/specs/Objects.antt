@@ -13,8 +13,8 @@ use Rattle.mb_deciding.specs.LastPaths.{IsLastPath}
 abbrev pub answer : Bool → ℕ → Out
 answer d u = record { decided = d; value = u }
 
--- the whole path of one process through an object, and its output; a conciliator never decides, and a last object always
--- does
+-- the whole path of one process through an object, and its output. A conciliator never decides, and a last object
+-- always does
 abbrev pub IsPath : QuorumTable → Kind → ℕ → List Turn → Out → Type 0
 IsPath t (Conciliator s) input turns output =
     (output.decided ≡ false) × IsConciliatorPath s input turns output.value
@@ -28,14 +28,14 @@ abbrev pub IsPrefix : QuorumTable → Kind → ℕ → List Turn → Type 0
 IsPrefix t kind input turns =
     (later : List Turn) × (output : Out) × IsPath t kind input (later ++ turns) output
 
--- a prefix of a path that has not come to its end
+-- a prefix of a path that has not ended
 abbrev pub IsOpen : QuorumTable → Kind → ℕ → List Turn → Type 0
 IsOpen t kind input turns =
     (later : List Turn) × (later ≢ [])
     × ((output : Out) × IsPath t kind input (later ++ turns) output)
 
--- each load is true to memory, values and random words are words of 64 bits, and what a process did is a prefix of
--- a path of its input
+-- each load is true to memory. Values and random words are words of 64 bits. Each process's part is a prefix of a path
+-- of its input
 pub record IsObjectLawful (o : Object) (h : List Access) : Type 0 where
   pub memory : IsMemoryTrue h
   pub words : AreInWords h
@@ -53,7 +53,7 @@ IsAnnounced o u h =
     (p r : ℕ) × (o.inputs p ≡ u) × IsMember (o.table.write u) r
     × Has (acts (part p h)) (Store (Quorum r) 1)
 
--- a value that a word of an object can hold
+-- the word of an object can hold the value
 abbrev pub CanHold : QuorumTable → Reg → ℕ → Type 0
 CanHold t Value n = n ≤ t.values
 CanHold t Proposal n = n ≤ t.values
@@ -65,7 +65,7 @@ abbrev pub largest_quorum : (ℕ → ℕ) → ℕ → ℕ
 largest_quorum quorum zero = 0
 largest_quorum quorum (suc v) = max (count_ones (quorum v)) (largest_quorum quorum v)
 
--- no process makes more turns on an object
+-- the most turns that a process makes on an object
 abbrev pub most_turns : QuorumTable → Kind → ℕ
 most_turns t (Conciliator s) = s + 3
 most_turns t Ratifier = largest_quorum t.write t.values + 2 + largest_quorum t.read t.values

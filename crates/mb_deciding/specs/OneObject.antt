@@ -9,7 +9,7 @@ pub record Object : Type 0 where
   pub kind : Kind
   pub inputs : ℕ → ℕ
 
--- the object of these
+-- the object with this table, kind and inputs
 abbrev pub object_of : QuorumTable → Kind → (ℕ → ℕ) → Object
 object_of t kind inputs = record { table = t; kind = kind; inputs = inputs }
 
@@ -25,17 +25,17 @@ conciliator_of t s inputs = object_of t (Conciliator s) inputs
 abbrev pub last_of : QuorumTable → (ℕ → ℕ) → Object
 last_of t inputs = object_of t LastObject inputs
 
--- its table is one
-abbrev pub IsSound : Object → Type 0
-IsSound o = IsQuorumTable o.table
+-- its table is a quorum table
+abbrev pub ObjectIsSound : Object → Type 0
+ObjectIsSound o = IsQuorumTable o.table
 
--- an object whose processes are as many as their list of inputs is long
+-- an object with a list of inputs, one for each process
 pub record ObjectSetup : Type 0 where
   pub table : QuorumTable
   pub kind : Kind
   pub inputs : List ℕ
 
--- the setup of these
+-- the setup with this table, kind and inputs
 abbrev pub setup_of : QuorumTable → Kind → List ℕ → ObjectSetup
 setup_of t kind inputs = record { table = t; kind = kind; inputs = inputs }
 

@@ -65,19 +65,19 @@ IsInConciliator s v (Put input) made = (input ≡ v) × ((k : ℕ) × (k ≤ s) 
 IsInConciliator s v (Look input) made = (input ≡ v) × ((k : ℕ) × (k ≤ s) × IsPut s v k made)
 
 -- a process with input v on an object of this kind, which has made these turns, is at the place
-abbrev pub IsAt : QuorumTable → Kind → ℕ → Pc → List Turn → Type 0
-IsAt t Ratifier v (InRatifier place) turns =
+abbrev pub PcIsAt : QuorumTable → Kind → ℕ → Pc → List Turn → Type 0
+PcIsAt t Ratifier v (InRatifier place) turns =
     IsPlace t (InRatifier place) × IsInRatifier t v place (acts turns)
-IsAt t (Conciliator s) v (InConciliator place) turns =
+PcIsAt t (Conciliator s) v (InConciliator place) turns =
     IsPlace t (InConciliator place) × IsInConciliator s v place turns
-IsAt t Ratifier v (InConciliator place) turns = ⊥
-IsAt t (Conciliator s) v (InRatifier place) turns = ⊥
-IsAt t LastObject v (InLast place) turns =
+PcIsAt t Ratifier v (InConciliator place) turns = ⊥
+PcIsAt t (Conciliator s) v (InRatifier place) turns = ⊥
+PcIsAt t LastObject v (InLast place) turns =
     IsPlace t (InLast place) × ((place.input ≡ v) × (turns ≡ []))
-IsAt t LastObject v (InConciliator place) turns = ⊥
-IsAt t LastObject v (InRatifier place) turns = ⊥
-IsAt t Ratifier v (InLast place) turns = ⊥
-IsAt t (Conciliator s) v (InLast place) turns = ⊥
+PcIsAt t LastObject v (InConciliator place) turns = ⊥
+PcIsAt t LastObject v (InRatifier place) turns = ⊥
+PcIsAt t Ratifier v (InLast place) turns = ⊥
+PcIsAt t (Conciliator s) v (InLast place) turns = ⊥
 
 -- the access that comes next in a ratifier
 abbrev pub IsRatifierOp : QuorumTable → RatifierPlace → Op → Type 0
@@ -125,14 +125,14 @@ HasReg r Ratifier (Quorum i) = i < r
 HasReg r LastObject Last = Unit {0}
 HasReg r _ _ = ⊥
 
--- what a load of a conciliator's word may find: a value of so many, or none where the process itself has not stored
+-- what a load of a conciliator's word may find: one of `values` values, or none if the process itself has not stored
 abbrev pub CanMeet : ℕ → ConciliatorPlace → ℕ → Type 0
 CanMeet values (Draw input limit modulus) seen = seen ≤ values
 CanMeet values (Put input) seen = Unit {0}
 CanMeet values (Look input) seen = (0 < seen) × (seen ≤ values)
 
--- what the op of a process at the place may find: a store finds nothing, whatever is said. A load or an exchange finds a
--- value that the word can hold, and in a conciliator one that is not empty if the process itself has stored
+-- what the op of a process at the place may find. For a store any value will do, since it finds none. A load or an
+-- exchange finds a value that the word can hold. In a conciliator that is not 0 if the process itself has stored
 abbrev pub CanFind : QuorumTable → Pc → Op → ℕ → Type 0
 CanFind t pc (to.Store reg value) seen = Unit {0}
 CanFind t (InRatifier place) (to.Load Proposal) seen = seen ≤ t.values
@@ -145,9 +145,9 @@ CanFind t (InConciliator place) (to.Exchange reg value) seen = Unit {0}
 CanFind t (InLast place) (to.Load reg) seen = Unit {0}
 CanFind t (InLast place) (to.Exchange reg value) seen = seen ≤ t.values
 
--- a process with input v that has made these turns has come to the place, or to its output
+-- a process with input v that has made these turns has reached the place, or its output
 abbrev pub IsReached : QuorumTable → Kind → ℕ → Next → List Turn → Type 0
-IsReached t kind v (leads.Go pc) turns = IsAt t kind v pc turns
+IsReached t kind v (leads.Go pc) turns = PcIsAt t kind v pc turns
 IsReached t kind v (leads.Out out) turns = IsPath t kind v turns out
 
 -- a place that fits the table, or an output that is one of its values

@@ -9,7 +9,7 @@ use Rattle.mb_deciding.specs.Types.{Fault, BadValues, BadInput, NoSuchProcess, N
 abbrev pub first_from : ℕ → List ℕ → Option ℕ
 first_from bound numbers = position (λ n. nat_le bound n) numbers
 
--- the first reason to refuse inputs for m values and the processes of a schedule, where m is in range
+-- the first reason to refuse inputs for m values and the processes of a schedule, if m is in range
 abbrev pub refusal_in : ℕ → List ℕ → List ℕ → Option Fault
 refusal_in m inputs processes =
     option_map_or (λ i. Some (BadInput i))
@@ -22,7 +22,7 @@ refusal_of m inputs processes =
     if nat_lt m 1 then Some BadValues else
     (if nat_lt MAX_VALUES m then Some BadValues else refusal_in m inputs processes)
 
--- a call is refused for the reason where there is one, and else for want of memory alone
+-- a call is refused for the reason if there is one, and else only if memory ran out
 abbrev pub RefusesOnlyFor : {X : Type 0} → Option Fault → Result X Fault → Type 0
 RefusesOnlyFor reason result =
     MatchOption reason (IfErr result (λ e. e ≡ NoMemory)) (λ fault. result ≡ Err fault)

@@ -2,7 +2,7 @@
 use Rattle.std.specs.Prelude.{◌≡◌, ℕ, ◌<◌, ◌≤◌, List, [], length, slice_index, slice_index_or, Option, Some, None}
 use Rattle.mb_quorum.specs.Quorum.{QuorumTable, IsQuorumTable}
 use Rattle.mb_deciding.specs.OneObject.{ObjectSetup, object_in}
-use Rattle.mb_deciding.specs.Types.{Out, Kind, Conciliator, Ratifier, LastObject, Next, Entry, Words}
+use Rattle.mb_deciding.specs.Types.{Out, Kind, Conciliator, Ratifier, LastObject, Next, Entry, ObjectMemory}
 use Rattle.mb_deciding.specs.declared.place.pc.Next.TheVariants as leads
 use Rattle.mb_deciding.specs.History.{part}
 use Rattle.mb_deciding.specs.Objects.{IsObjectLawful}
@@ -16,31 +16,30 @@ IsFitKind (Conciliator s) = s ≤ 63
 IsFitKind Ratifier = Unit {0}
 IsFitKind LastObject = Unit {0}
 
--- an object of this kind can have the table: a conciliator has none, so any one does
+-- an object of this kind can have the table. A conciliator has none, so any table does
 abbrev pub IsTableFor : Kind → QuorumTable → Type 0
 IsTableFor (Conciliator s) t = Unit {0}
 IsTableFor Ratifier t = IsQuorumTable t
 IsTableFor LastObject t = IsQuorumTable t
 
--- an object of this kind does over one table what it does over the other: a conciliator looks at their numbers of
--- values alone
+-- an object of this kind does the same over both tables. A conciliator looks at their numbers of values alone
 abbrev pub IsSameFor : Kind → QuorumTable → QuorumTable → Type 0
 IsSameFor (Conciliator s) t u = t.values ≡ u.values
 IsSameFor Ratifier t u = t ≡ u
 IsSameFor LastObject t u = t ≡ u
 
--- a table of so many values, without registers
+-- a table of m values, without registers
 abbrev pub bare_table : ℕ → QuorumTable
 bare_table m = record { values = m; registers = 0; write = λ v. 0; read = λ v. 0 }
 
--- the output, if the process has come to it
+-- the output, if the process has it
 abbrev pub out_of : Next → Option Out
 out_of (leads.Go pc) = None
 out_of (leads.Out out) = Some out
 
--- what a run holds: the words of its object, what each process has come to, and the entries of the turns so far
+-- what a run holds: the words of its object, what each process has reached, and the entries of the turns so far
 pub record RunState : Type 0 where
-  pub words : Words
+  pub words : ObjectMemory
   pub places : List Next
   pub entries : List Entry
 
@@ -54,7 +53,7 @@ pub record IsRun (u : ObjectSetup) (schedule : List (ℕ × ℕ)) (run : RunStat
   -- each process has an input of the table
   pub processes : length run.places ≡ length u.inputs
   pub within : (p : ℕ) → p < length u.inputs → slice_index u.inputs p < u.table.values
-  -- and has come to where its part brings it
+  -- and each process is where its part leads
   pub reached :
       (p : ℕ) (d : Next) → p < length run.places
       → IsReached u.table u.kind (slice_index u.inputs p) (slice_index_or run.places p d)

@@ -40,16 +40,15 @@ abbrev pub IsOutputOf : Object → ℕ → Option Out → List Access → Type 0
 IsOutputOf o p None h = HasEnded o p h → ⊥
 IsOutputOf o p (Some out) h = HasOutput o p out.decided out.value h
 
--- what stands in an entry after a history: an access of a process without an output, with the output that it gives, or
--- no access of a process that has its output
+-- an entry after a history. It is an access of a process without an output, with the output that it gives, or `Done` of
+-- a process that has its output
 abbrev pub IsEntryAfter : Object → ℕ → Entry → List Access → Type 0
 IsEntryAfter o word (entry.Access process act out) h =
     (HasEnded o process h → ⊥)
     × IsOutputOf o process out (with_entry word (entry.Access process act out) h)
 IsEntryAfter o word (entry.Done process) h = HasEnded o process h
 
--- one entry for each turn of the schedule, of that turn's process, and each stands after the accesses of those before
--- it
+-- one entry for each turn of the schedule, of that turn's process, and after the accesses of the entries before it
 abbrev pub AreEntriesOf : Object → List (ℕ × ℕ) → List Entry → List Access → Type 0
 AreEntriesOf o [] [] h = Unit {0}
 AreEntriesOf o [] (e ∷ entries) h = ⊥
@@ -58,9 +57,9 @@ AreEntriesOf o (turn ∷ schedule) (e ∷ entries) h =
     (process_of e ≡ turn.0) × IsEntryAfter o turn.1 e h
     × AreEntriesOf o schedule entries (with_entry turn.1 e h)
 
--- what a schedule makes of one object: each turn is of a process with an input, and has one entry, of that process;
--- the accesses are lawful for the object; an entry is `Done` exactly where the process has its output; the outputs
--- are those of the paths
+-- what a schedule makes of one object. Each turn is of a process with an input, and has one entry, of that process. The
+-- accesses are lawful for the object. An entry is `Done` exactly if the process has its output. The outputs are those
+-- of the paths
 pub record IsTrace (u : ObjectSetup) (schedule : List (ℕ × ℕ)) (es : List Entry)
     (outs : List (Option Out)) : Type 0 where
   pub known : All (λ turn. turn.0 < length u.inputs) schedule

@@ -1,5 +1,5 @@
--- The types that clauses name, and their variants. Where two variants have one name, a clause takes them behind a name
--- for their type: `use ..Op.TheVariants as to`, `to.Load reg`.
+-- The types that clauses name, and their variants. If two variants have one name, a clause takes them with a name for
+-- their type: `use ..Op.TheVariants as to`, `to.Load reg`.
 pub use Rattle.mb_deciding.specs.declared.access.Reg.{Reg}
 pub use Rattle.mb_deciding.specs.declared.access.Reg.TheVariants.{Value, Proposal, Quorum, Last}
 pub use Rattle.mb_deciding.specs.declared.access.Act.{Act}
@@ -21,4 +21,4 @@ pub use Rattle.mb_deciding.specs.declared.place.conciliator.ConciliatorPlace.The
 pub use Rattle.mb_deciding.specs.declared.trace.Entry.{Entry}
 pub use Rattle.mb_deciding.specs.declared.trace.Fault.{Fault}
 pub use Rattle.mb_deciding.specs.declared.trace.Fault.TheVariants.{BadValues, BadInput, NoSuchProcess, NoMemory}
-pub use Rattle.mb_deciding.specs.declared.run.words.Words.{Words}
+pub use Rattle.mb_deciding.specs.declared.run.words.ObjectMemory.{ObjectMemory}

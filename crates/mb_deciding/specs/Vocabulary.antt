@@ -1,5 +1,5 @@
--- The definitions that crates above name in their clauses and proofs. They take the types from `specs.declared`, since
--- another crate cannot name a type that a module here passes on.
+-- The definitions that the crates above use in clauses and proofs. Types they take from `specs.declared`, since another
+-- crate cannot name a type that a module here passes on.
 pub use Rattle.mb_deciding.specs.History.{is_same_reg, reg_of_act, loaded_by, stored_by, value_after, value_in}
 pub use Rattle.mb_deciding.specs.History.{ReadsLast, IsMemoryTrue, IsSameOp, IsActInWords, IsInWords, AreInWords}
 pub use Rattle.mb_deciding.specs.History.{turn_by, part, acts, Has}
@@ -7,14 +7,14 @@ pub use Rattle.mb_deciding.specs.ConciliatorPaths.{StoresOn, IsMissing, IsDrawn,
 pub use Rattle.mb_deciding.specs.RatifierPaths.{acts_below, stores_below, zeros_below, announcement, Prefers}
 pub use Rattle.mb_deciding.specs.RatifierPaths.{ReadsClear, ReadsOne, IsRatifierPath}
 pub use Rattle.mb_deciding.specs.LastPaths.{IsLastPath}
-pub use Rattle.mb_deciding.specs.OneObject.{Object, object_of, ratifier_of, conciliator_of, IsSound, ObjectSetup}
+pub use Rattle.mb_deciding.specs.OneObject.{Object, object_of, ratifier_of, conciliator_of, ObjectIsSound, ObjectSetup}
 pub use Rattle.mb_deciding.specs.OneObject.{setup_of, object_in}
 pub use Rattle.mb_deciding.specs.Objects.{answer, IsPath, IsPrefix, IsOpen, IsObjectLawful, HasOutput, IsAnnounced}
 pub use Rattle.mb_deciding.specs.Objects.{CanHold, largest_quorum, most_turns}
 pub use Rattle.mb_deciding.specs.Deciding.{IsValid, IsCoherent, IsAccepted, IsContested, ChecksKeepOut, stores_in}
 pub use Rattle.mb_deciding.specs.Deciding.{IsFirstMover, IsDeciding, IsRatifying}
 pub use Rattle.mb_deciding.specs.Place.{IsLeast, IsRest, IsRatifierPlace, HasLimits, IsConciliatorPlace, IsPlace}
-pub use Rattle.mb_deciding.specs.Place.{IsInRatifier, IsInConciliator, IsAt, IsRatifierOp, IsConciliatorOp, IsLastOp}
+pub use Rattle.mb_deciding.specs.Place.{IsInRatifier, IsInConciliator, PcIsAt, IsRatifierOp, IsConciliatorOp, IsLastOp}
 pub use Rattle.mb_deciding.specs.Place.{IsOpAt}
 pub use Rattle.mb_deciding.specs.Place.{act_of, reg_of, HasReg, CanFind, IsReached, IsNext, seen_by, turn_after}
 pub use Rattle.mb_deciding.specs.OneStep.{next_from, IsStep}

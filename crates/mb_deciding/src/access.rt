@@ -40,7 +40,7 @@ pub enum Act {
 pub struct Turn {
     /// What the process did.
     pub act: Act,
-    /// The random word. It counts only where a conciliator's word is loaded and found empty, before the process has
+    /// The random word. It counts only if the process loads a conciliator's word and finds it empty, before it has
     /// stored there.
     pub word: u64,
 }
@@ -58,7 +58,7 @@ impl Op {
     ghost use Rattle.std.specs.Prelude.{◌≡◌};
     ghost use Rattle.mb_deciding.specs.{act_of, reg_of};
 
-    /// The word that it goes to.
+    /// The word that the access goes to.
     pub fn reg(self) -> Reg
         ensures { result ≡ reg_of self }
     {

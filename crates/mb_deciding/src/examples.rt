@@ -1,12 +1,12 @@
-//! Small histories and traces of one process, and histories of a last object: what the definitions let in, and what they
-//! keep out. The functions compute nothing. The proofs begin in `proofs/examples`; the lemmas are in
+//! Small histories and traces of one process, and histories of a last object. They show what the definitions admit, and
+//! what they refuse. The functions compute nothing. The proofs begin in `proofs/examples`. The lemmas are in
 //! `proofs/SmallHistories.antt`, `SmallLasts.antt` and `SmallTraces.antt`.
 ghost use Rattle.std.specs.Prelude.{ℕ, ◌≡◌, ◌+◌, Bool, true, false, Some, None, [], ◌∷◌, ◌++◌};
 ghost use Rattle.mb_quorum.specs.Unary.{unary_table};
 ghost use Rattle.mb_quorum.specs.Quorum.{QuorumTable};
 ghost use Rattle.mb_deciding.specs.{AreSteps, Out, Pc};
 ghost use Rattle.mb_deciding.specs.declared.place.pc.Next.TheVariants as leads;
-ghost use Rattle.mb_deciding.specs.{Words, Conciliator, Ratifier, LastObject, Proposal, Quorum, Last, Load, Store};
+ghost use Rattle.mb_deciding.specs.{ObjectMemory, Conciliator, Ratifier, LastObject, Proposal, Quorum, Last, Load, Store};
 ghost use Rattle.mb_deciding.specs.{Exchange, setup_of, value_in, IsPath, small_last, first_decides, turn};
 ghost use Rattle.mb_deciding.specs.{found_empty_twice, stored_over, loaded_then_stored};
 ghost use Rattle.mb_deciding.specs.{IsObjectLawful, HasOutput, IsPrefix, IsTrace, IsMemory, word_of, answer};
@@ -29,12 +29,12 @@ pub fn small_histories()
     ensures patient { IsObjectLawful small_conciliator (history_of_one patient_run) }
     ensures patient_output { HasOutput small_conciliator 0 false 0 (history_of_one patient_run) }
 
-    // It stores on attempt 0, where the random word 3 does not.
+    // It stores on attempt 0, although the random word 3 does not store there.
     ensures impatient { IsObjectLawful small_conciliator (history_of_one impatient_run) → ⊥ }
     ensures impatient_part { IsPrefix (unary_table 2) (Conciliator 2) 0 impatient_run → ⊥ }
 {}
 
-/// Small histories of a last object, where each process has its own number as its input.
+/// Small histories of a last object. Each process has its own number as its input.
 pub fn small_last_objects()
     // Process 0 puts its value into the empty word. The others find that, and leave it there.
     ensures lawful { IsObjectLawful small_last first_decides }
@@ -58,7 +58,7 @@ pub fn small_last_objects()
     ensures twice { IsPrefix (unary_table 3) LastObject 0
         (turn 0 (Exchange Last 1 1) ∷ turn 0 (Exchange Last 1 0) ∷ []) → ⊥ }
 
-    // Who found 0 has its own input, who found a value has that, and nobody is undecided.
+    // A process that found 0 outputs its own input, one that found a value outputs that. Both have decided.
     ensures own { (d : Bool) (u : ℕ) → IsPath (unary_table 3) LastObject 1
         (turn 0 (Exchange Last 2 0) ∷ []) (answer d u) → (d ≡ true) × (u ≡ 1) }
     ensures met { (d : Bool) (u : ℕ) → IsPath (unary_table 3) LastObject 1
@@ -96,22 +96,22 @@ pub fn small_traces()
     // No output of a process that has one.
     ensures withheld { IsTraceOfOne Ratifier 4 0 clear_entries None → ⊥ }
 
-    // A store on attempt 0, where the schedule's random word 3 does not store.
+    // A store on attempt 0, although the schedule's random word 3 does not store there.
     ensures impatient { IsTraceOfOne (Conciliator 2) 2 3 impatient_entries None → ⊥ }
 
-    // What a run's words hold after the four accesses.
-    ensures words { (words : Words) → IsMemory words (history_of_one clear_run)
+    // What the words of a run hold after the four accesses.
+    ensures words { (words : ObjectMemory) → IsMemory words (history_of_one clear_run)
         → (word_of words Proposal ≡ 1) × (word_of words (Quorum 0) ≡ 1) ×
         (word_of words (Quorum 1) ≡ 0) }
 {}
 
-/// Rows of accesses of a process, in a memory that counts them.
+/// Accesses of one process, one after the other, in a memory that counts them.
 pub fn rows_of_accesses()
     // No access leaves the place and the memory as they are.
     ensures none { (t : QuorumTable) (pc : Pc) (m : ℕ)
         → AreSteps t (λ before word op seen now. now ≡ before + 1) pc m 0 (leads.Go pc) m }
 
-    // It gives no output.
+    // No access gives no output.
     ensures output { (t : QuorumTable) (pc : Pc) (out : Out) (m now : ℕ)
         → AreSteps t (λ before word op seen now. now ≡ before + 1) pc m 0 (leads.Out out) now → ⊥ }
 

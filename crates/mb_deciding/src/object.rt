@@ -1,21 +1,21 @@
-//! The kinds of deciding object, and what they answer.
+//! The kinds of deciding object, and their outputs.
 
 /// A kind of deciding object. Each process uses an object once at most.
 #[derive(Clone, Copy, PartialEq, Eq, Debug)]
 pub enum Kind {
-    /// The impatient first-mover conciliator: on attempt k a process that finds the word empty stores
-    /// its input where the random word, modulo 2^s, is below 2^k. On attempt s it always does.
+    /// The impatient first-mover conciliator. On attempt k, a process that finds the word empty stores its input if the
+    /// random word, modulo 2^s, is below 2^k. On attempt s it always does.
     Conciliator {
-        /// The last attempt, at most 63; the first is attempt 0.
+        /// The number of the last attempt, at most 63. The first is attempt 0.
         s: u32,
     },
     /// A ratifier over a quorum table.
     Ratifier,
-    /// The last object: one word, in which the first process puts its input by an exchange, and that is decided.
+    /// The last object: one word. The first process puts its input there by an exchange, and that is decided.
     LastObject,
 }
 
-/// What a deciding object answers to a process.
+/// The output that a process has from a deciding object.
 #[derive(Clone, Copy, PartialEq, Eq, Debug)]
 pub struct Out {
     /// Whether the object decided. Then no process gets another value from it.

@@ -4,13 +4,13 @@ use crate::memory::Memory;
 use crate::object::{Kind, Out};
 use mb_quorum::Quorums;
 
-mod conciliating;
 mod conciliator;
+mod conciliator_steps;
 mod last;
 mod mask;
 mod pc;
 mod ratifier;
-mod ratifying;
+mod ratifier_steps;
 
 pub use conciliator::ConciliatorPlace;
 pub use last::LastPlace;
@@ -20,12 +20,12 @@ pub use ratifier::RatifierPlace;
 impl Pc {
     ghost use Rattle.std.specs.Prelude.{◌≡◌, ◌<◌, ◌≤◌, ℕ, List, [], ◌∷◌};
     ghost use Rattle.mb_quorum.specs.Quorum.{QuorumTable};
-    ghost use Rattle.mb_deciding.specs.{Op, Turn, Kind, Conciliator, Ratifier, LastObject, IsAt, IsPlace, IsOpAt, IsNext};
+    ghost use Rattle.mb_deciding.specs.{Op, Turn, Kind, Conciliator, Ratifier, LastObject, PcIsAt, IsPlace, IsOpAt, IsNext};
     ghost use Rattle.mb_deciding.specs.{IsReached, CanFind, act_of, IsStep, next_from, turns_left, turns_after, most_turns};
 
     /// The place of a process with this input before its first access to a ratifier.
     pub fn ratifier(input: u32) -> Pc
-        ensures begins { (t : QuorumTable) → input < t.values → IsAt t Ratifier input result [] }
+        ensures begins { (t : QuorumTable) → input < t.values → PcIsAt t Ratifier input result [] }
         ensures fits { (t : QuorumTable) → input < t.values → IsPlace t result }
         ensures bound { (t : QuorumTable) → input < t.values
             → turns_left t result ≤ most_turns t Ratifier }
@@ -33,11 +33,11 @@ impl Pc {
         Pc::InRatifier(RatifierPlace::Begin { input })
     }
 
-    /// The same place with the registers of the input's write quorum, for who has the table.
+    /// The same place, with the registers of the input's write quorum already taken from the table.
     #[inline(always)]
     pub fn announcing<Q: Quorums>(q: &Q, input: u32) -> Pc
         requires { input < (Q.table q.now).values }
-        ensures begins { IsAt (Q.table q.now) Ratifier input result [] }
+        ensures begins { PcIsAt (Q.table q.now) Ratifier input result [] }
         ensures fits { IsPlace (Q.table q.now) result }
         ensures bound { turns_left (Q.table q.now) result ≤ most_turns (Q.table q.now) Ratifier }
     {
@@ -50,7 +50,7 @@ impl Pc {
     pub fn conciliator(input: u32, s: u32) -> Pc
         requires { s ≤ 63 }
         ensures begins { (t : QuorumTable) → input < t.values
-            → IsAt t (Conciliator s) input result [] }
+            → PcIsAt t (Conciliator s) input result [] }
         ensures fits { (t : QuorumTable) → input < t.values → IsPlace t result }
         ensures bound { (t : QuorumTable) → turns_left t result ≤ most_turns t (Conciliator s) }
     {
@@ -64,14 +64,15 @@ impl Pc {
     /// The place of a process with this input before its access to a last object.
     #[inline(always)]
     pub fn last(input: u32) -> Pc
-        ensures begins { (t : QuorumTable) → input < t.values → IsAt t LastObject input result [] }
+        ensures begins { (t : QuorumTable) → input < t.values
+            → PcIsAt t LastObject input result [] }
         ensures fits { (t : QuorumTable) → input < t.values → IsPlace t result }
         ensures bound { (t : QuorumTable) → turns_left t result ≤ most_turns t LastObject }
     {
         Pc::InLast(LastPlace { input })
     }
 
-    /// The access that comes next.
+    /// The access that the process makes next.
     #[inline(always)]
     pub fn next<Q: Quorums>(self, q: &Q) -> Op
         requires { IsPlace (Q.table q.now) self }
@@ -84,20 +85,20 @@ impl Pc {
         }
     }
 
-    /// What the access leads to. `seen` is the value that a load or an exchange found, and counts for nothing after a
-    /// store. The random `word` counts after a load of a conciliator's word alone. After a value that the word cannot hold
-    /// the result is still a place of the table or one of its values.
+    /// What the access leads to. `seen` is the value that a load or an exchange found. It does not count after a store.
+    /// The random `word` counts only after a load of a conciliator's word. If the word cannot hold `seen`, the result
+    /// is still a place of the table or one of its values.
     #[inline(always)]
     pub fn after<Q: Quorums>(self, q: &Q, seen: u64, word: u64) -> Next
         requires { IsPlace (Q.table q.now) self }
         ensures fits { IsNext (Q.table q.now) result }
 
-        // It can make fewer accesses from there, whatever it loaded: so it comes to an end.
+        // Fewer accesses are left from there, whatever it loaded. So the process ends.
         ensures fewer { turns_after (Q.table q.now) result < turns_left (Q.table q.now) self }
 
         // A process that was at this place is now at the next one, or has its output.
         ensures reached { (kind : Kind) (v : ℕ) (turns : List Turn) (op : Op)
-            → IsAt (Q.table q.now) kind v self turns → IsOpAt (Q.table q.now) self op
+            → PcIsAt (Q.table q.now) kind v self turns → IsOpAt (Q.table q.now) self op
             → CanFind (Q.table q.now) self op seen
             → IsReached (Q.table q.now) kind v result
             (record { act = act_of op seen; word = word } ∷ turns) }
@@ -115,9 +116,9 @@ impl Pc {
         }
     }
 
-    /// Makes the access that comes next, to the object with this number in this memory, and goes on to the place that
-    /// it leads to, or answers the output: [`Pc::next`], [`Memory::perform`] and [`Pc::after`] in one match. With an
-    /// output the place counts no more.
+    /// Makes the next access, to the object with this number in this memory. Goes on to the place that it leads to, or
+    /// returns the output. It is [`Pc::next`], [`Memory::perform`] and [`Pc::after`] in one match. After an output the
+    /// place does not count any more.
     #[inline(always)]
     pub fn step<Q: Quorums, M: Memory>(
         &mut self,
@@ -133,8 +134,7 @@ impl Pc {
         ensures fewer { turns_after (Q.table q.now) (next_from result self.new)
             < turns_left (Q.table q.now) self.old }
 
-        // The access that was made is the one that comes next, and a process that was at this place is now at the
-        // next one, or has its output.
+        // It made the place's next access. A process that was at this place is now at the next one, or has its output.
         ensures step { IsStep (Q.table q.now) self.old
             (λ op seen. M.makes memory.old object op seen memory.new) word
             (next_from result self.new) }
@@ -149,14 +149,14 @@ impl Pc {
 
 impl Kind {
     ghost use Rattle.std.specs.Prelude.{◌<◌, ◌≤◌, []};
-    ghost use Rattle.mb_deciding.specs.{IsAt, IsPlace, IsFitKind, turns_left, most_turns};
+    ghost use Rattle.mb_deciding.specs.{PcIsAt, IsPlace, IsFitKind, turns_left, most_turns};
 
     /// The place of a process with this input before its first access to an object of this kind over the table.
     #[inline(always)]
     pub fn place<Q: Quorums>(self, q: &Q, input: u32) -> Pc
         requires kind { IsFitKind self }
         requires input { input < (Q.table q.now).values }
-        ensures begins { IsAt (Q.table q.now) self input result [] }
+        ensures begins { PcIsAt (Q.table q.now) self input result [] }
         ensures fits { IsPlace (Q.table q.now) result }
         ensures bound { turns_left (Q.table q.now) result ≤ most_turns (Q.table q.now) self }
     {

@@ -1,11 +1,11 @@
-//! One object of any kind with its processes, in the course of a schedule.
+//! Runs of one object of any kind, turn by turn.
 use crate::access::{Act, Reg};
 use crate::place::Next;
 use crate::trace::{Entry, Trace};
 use machine::Machine;
 use std::alloc::{AllocError, Allocator};
 use std::marker::Model;
-use words::{ObjectWords, Words};
+use words::{ObjectMemory, ObjectWords};
 
 pub mod conciliate;
 mod machine;
@@ -16,7 +16,7 @@ mod words;
 /// One object with its processes, and what they have done so far.
 #[derive(Drop)]
 pub struct Run<A: Allocator + Drop> {
-    words: Words,
+    words: ObjectMemory,
     places: Vec<Next, A>,
     entries: Vec<Entry, A>,
 }
@@ -38,7 +38,7 @@ impl<A: Allocator + Copy + Drop> Run<A> {
     ghost use Rattle.mb_quorum.specs.Quorum.{QuorumTable};
     ghost use Rattle.mb_deciding.specs.{setup_of, IsSameFor, IsRun, out_of};
 
-    /// Each process before its first access, with room for so many entries.
+    /// A run before its first turn, with room for `turns` entries.
     pub fn begin<M: Machine>(
         alloc: A,
         machine: &M,
@@ -57,13 +57,13 @@ impl<A: Allocator + Copy + Drop> Run<A> {
         }
         let entries = Vec::with_capacity(alloc, turns)?;
         Ok(Run {
-            words: Words::new(),
+            words: ObjectMemory::new(),
             places,
             entries,
         })
     }
 
-    /// One turn of a process, with the random word of this turn.
+    /// Adds one turn of a process, with the random word of this turn.
     pub fn turn<M: Machine>(
         &mut self,
         machine: &M,

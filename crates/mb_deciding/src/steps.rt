@@ -1,15 +1,16 @@
-//! What builders of worlds and of tables of shared words need: one more step of a lawful history, and the places of
-//! processes. Who keeps the words of an object in a table takes `one_step` for its rule, and `places_lead_on` for the
-//! step that a place makes there. The proofs begin in `proofs/steps`, in a folder of the law's name.
+//! Laws for builders of worlds and of tables of shared words: one more step of a lawful history, and the places of
+//! processes. A table that keeps the words of an object needs `history_extends` for its rule, and `places_lead_on` for the
+//! step that a place makes there. The functions compute nothing: their contracts are the laws. The proofs begin in
+//! `proofs/steps`, in a folder of the law's name.
 ghost use Rattle.std.specs.Prelude.{ℕ, ◌≡◌, ◌<◌, ◌≤◌, List, [], ◌∷◌};
 ghost use Rattle.mb_quorum.specs.Quorum.{QuorumTable, IsQuorumTable};
-ghost use Rattle.mb_deciding.specs.{Object, IsSound, Kind, Access, Turn, Act, Op, Pc, Out};
+ghost use Rattle.mb_deciding.specs.{Object, ObjectIsSound, Kind, Access, Turn, Act, Op, Pc, Out};
 ghost use Rattle.mb_deciding.specs.{ReadsLast, IsInWords, part, IsObjectLawful, IsPrefix, IsOpen, IsPath};
-ghost use Rattle.mb_deciding.specs.{HasReg, IsAt, IsOpAt, CanFind, turn_after, seen_by, reg_of};
+ghost use Rattle.mb_deciding.specs.{HasReg, PcIsAt, IsOpAt, CanFind, turn_after, seen_by, reg_of};
 ghost use Rattle.mb_deciding.specs.{IsSameOp, IsPlace, most_turns, turns_left};
 
 /// The empty history is lawful, and one more turn of a process whose path goes on keeps a history lawful.
-pub fn one_step()
+pub fn history_extends()
     ensures empty { (o : Object) → IsObjectLawful o [] }
     ensures longer { (o : Object) (h : List Access) (p : ℕ) (turn : Turn)
         → IsObjectLawful o h → o.inputs p < o.table.values → IsInWords turn → ReadsLast turn.act h
@@ -17,17 +18,17 @@ pub fn one_step()
         → IsObjectLawful o (record { process = p; turn = turn } ∷ h) }
 {}
 
-/// The next turn of a process at its place, with the value that the history leaves in its word, goes on with its path.
+/// A process at its place goes on with its path by its next turn, with the value that the history leaves in its word.
 pub fn places_lead_on()
     ensures prefix { (o : Object) (h : List Access) (p : ℕ) (pc : Pc) (op : Op) (word : ℕ)
-        → IsSound o → IsObjectLawful o h
-        → IsAt o.table o.kind (o.inputs p) pc (part p h) → IsOpAt o.table pc op
+        → ObjectIsSound o → IsObjectLawful o h
+        → PcIsAt o.table o.kind (o.inputs p) pc (part p h) → IsOpAt o.table pc op
         → IsPrefix o.table o.kind (o.inputs p) (turn_after op word h ∷ part p h) }
 
-    // What it finds there is a value with which the place can go on.
+    // The place can go on with the value that it finds there.
     ensures found { (o : Object) (h : List Access) (p : ℕ) (pc : Pc) (op : Op)
-        → IsSound o → IsObjectLawful o h
-        → IsAt o.table o.kind (o.inputs p) pc (part p h) → IsOpAt o.table pc op
+        → ObjectIsSound o → IsObjectLawful o h
+        → PcIsAt o.table o.kind (o.inputs p) pc (part p h) → IsOpAt o.table pc op
         → CanFind o.table pc op (seen_by op h) }
 
     // And its act is true to memory.
@@ -35,22 +36,21 @@ pub fn places_lead_on()
         → ReadsLast (turn_after op word h).act h }
 {}
 
-/// What a process at a place has made is a prefix of a path that has not come to its end, and the word that comes next
-/// is one of the object's.
+/// The turns of a process at a place are a prefix of a path that has not ended. Its next word is one of the object's.
 pub fn places_are_unfinished()
     ensures open { (t : QuorumTable) (kind : Kind) (v : ℕ) (pc : Pc) (turns : List Turn)
-        → IsQuorumTable t → IsAt t kind v pc turns → IsOpen t kind v turns }
+        → IsQuorumTable t → PcIsAt t kind v pc turns → IsOpen t kind v turns }
     ensures prefix { (t : QuorumTable) (kind : Kind) (v : ℕ) (pc : Pc) (turns : List Turn)
-        → IsQuorumTable t → IsAt t kind v pc turns → IsPrefix t kind v turns }
+        → IsQuorumTable t → PcIsAt t kind v pc turns → IsPrefix t kind v turns }
     ensures unfinished { (t : QuorumTable) (kind : Kind) (v : ℕ) (pc : Pc) (turns : List Turn)
         (out : Out)
-        → IsQuorumTable t → IsAt t kind v pc turns → IsPath t kind v turns out → ⊥ }
+        → IsQuorumTable t → PcIsAt t kind v pc turns → IsPath t kind v turns out → ⊥ }
     ensures word { (t : QuorumTable) (kind : Kind) (v : ℕ) (pc : Pc) (turns : List Turn) (op : Op)
-        → IsQuorumTable t → IsAt t kind v pc turns → IsOpAt t pc op
+        → IsQuorumTable t → PcIsAt t kind v pc turns → IsOpAt t pc op
         → HasReg t.registers kind (reg_of op) }
 {}
 
-/// The turns that a process has made name what it does next, whatever memory answers.
+/// The turns that a process has made determine its next op, whatever memory holds.
 pub fn turns_name_the_next_op()
     ensures op { (t : QuorumTable) (kind : Kind) (v : ℕ) (turns : List Turn) (a b : Turn)
         → IsPrefix t kind v (a ∷ turns) → IsPrefix t kind v (b ∷ turns) → IsSameOp a.act b.act }
@@ -58,20 +58,20 @@ pub fn turns_name_the_next_op()
     // So two places with the same turns go on with one op.
     ensures places { (t : QuorumTable) (kind : Kind) (v : ℕ) (turns : List Turn) (pc other : Pc)
         (op next : Op)
-        → IsQuorumTable t → IsAt t kind v pc turns → IsAt t kind v other turns
+        → IsQuorumTable t → PcIsAt t kind v pc turns → PcIsAt t kind v other turns
         → IsOpAt t pc op → IsOpAt t other next → op ≡ next }
 
-    // And after one history acts of one op are one act.
+    // And after one history, two acts of one op are the same act.
     ensures act { (a b : Act) (h : List Access)
         → IsSameOp a b → ReadsLast a h → ReadsLast b h → a ≡ b }
 {}
 
-/// A process at a place has an access to make, and no more than the number that falls with each access, whatever its
-/// loads find ([`crate::Pc::after`] says so, and the first places say with how many it begins).
+/// A process at a place has an access to make, and at most `turns_left` of them. That number falls with each access,
+/// whatever its loads find ([`crate::Pc::after`] says so). The first places say with how many it begins.
 pub fn places_have_turns_left()
     ensures some { (t : QuorumTable) (pc : Pc) → IsPlace t pc → 0 < turns_left t pc }
 
     // It is no more than a whole path through its object may have.
     ensures most { (t : QuorumTable) (kind : Kind) (v : ℕ) (pc : Pc) (turns : List Turn)
-        → v < t.values → IsAt t kind v pc turns → turns_left t pc ≤ most_turns t kind }
+        → v < t.values → PcIsAt t kind v pc turns → turns_left t pc ≤ most_turns t kind }
 {}

@@ -18,7 +18,7 @@ pub enum Entry {
         process: usize,
         /// What it did.
         act: Act,
-        /// Its output, where this was its last access.
+        /// Its output, if this was its last access.
         out: Option<Out>,
     },
     /// The process had its output before and made no access.
@@ -33,7 +33,7 @@ pub enum Entry {
 pub struct Trace<A: Allocator + Drop> {
     /// One entry for each turn of the schedule, in its order.
     pub entries: Vec<Entry, A>,
-    /// For each process its output, or none where it has not come to its end.
+    /// For each process its output, or none if it has not ended.
     pub outputs: Vec<Option<Out>, A>,
 }
 
@@ -42,11 +42,11 @@ pub struct Trace<A: Allocator + Drop> {
 pub enum Fault {
     /// The number of values is out of range.
     BadValues,
-    /// The input at this place is not below the number of values; it is the first such.
+    /// The input at this place is the first that is not below the number of values.
     BadInput(usize),
-    /// The schedule has at this place a process without an input; it is the first such.
+    /// The turn at this place is the first of a process without an input.
     NoSuchProcess(usize),
-    /// A growth was refused.
+    /// Memory ran out.
     NoMemory,
 }
 

@@ -1,7 +1,7 @@
 -- The calls of workers, one call later.
 use Rattle.std.proofs.Common.{◌≡◌, ℕ, suc, ◌<◌, ◌≤◌, ⊎_elim, [], ◌∷◌, refl, sym, ap, ◌∙◌, subst, arith}
 use Rattle.std.proofs.Math.Nat.{le-suc_iff}
-use Rattle.mb_mailbox.specs.Below.{Stream}
+use Rattle.mb_mailbox.specs.Imports.{Stream}
 use Rattle.mb_mailbox.specs.Calls.{ArePassed, HasCalled}
 use Rattle.mb_mailbox.specs.Consumers.{ConsumerView}
 use Rattle.mb_mailbox.specs.Steps.{IsPollOf}
@@ -29,7 +29,7 @@ module _ (may_pass : Who → ℕ → Type 0) where
     passed = none_passed (who.Consumer old.seat.consumer) calls none;
   }
 
-  -- and one that has made one more
+  -- a consumer that has made one more call
   pub called_more : (from end budget calls now lane : ℕ) (answer : Poll) (s u t : Stream)
       (old mid new : ConsumerView) → now ≡ suc calls
       → HasCalled may_pass from end budget calls s u old mid → from ≤ lane → lane < end

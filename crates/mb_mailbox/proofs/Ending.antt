@@ -1,7 +1,7 @@
--- How a poll ends that has held a claim.
+-- How a poll that has held a claim ends.
 use Rattle.std.proofs.Common.{◌≡◌, ◌≢◌, ℕ, ◌+◌, ap, ◌∙◌, subst, arith}
 use Rattle.std.specs.Prelude.{Some, slice_get}
-use Rattle.mb_mailbox.specs.Below.{Claim, ReaderSeatView, SeatView, Stream}
+use Rattle.mb_mailbox.specs.Imports.{Claim, ReaderSeatView, SeatView, Stream}
 use Rattle.mb_mailbox.specs.declared.consumer.Poll.{Poll}
 use Rattle.mb_mailbox.specs.declared.consumer.Poll.TheVariants as poll
 use Rattle.mb_mailbox.specs.declared.place.Place.{Place}

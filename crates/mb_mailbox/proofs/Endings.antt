@@ -10,8 +10,8 @@ use Rattle.mb_cells.specs.declared.size.PoolSize.{PoolSize}
 use Rattle.mb_shared_cells.specs.Vocabulary.{IsRollOf}
 use Rattle.mb_shared_cells.specs.declared.views.Roll.{Roll}
 use Rattle.mb_world.specs.Reporting.{values_put}
-use Rattle.mb_mailbox.specs.Below.{END, Has, HasMet, History, IsPoolLawful, Note, Producer, Reader, ReaderSeatView, SeatView, Stream, ToCells, ToClaims}
-use Rattle.mb_mailbox.specs.Below.{WorldHistory, cells_met, claim_accesses, linked_cells, load, part, place_past, pool_accesses}
+use Rattle.mb_mailbox.specs.Imports.{END, Has, HasMet, History, IsPoolLawful, Note, Producer, Reader, ReaderSeatView, SeatView, Stream, ToCells, ToClaims}
+use Rattle.mb_mailbox.specs.Imports.{WorldHistory, cells_met, claim_accesses, linked_cells, load, part, place_past, pool_accesses}
 use Rattle.mb_mailbox.specs.Consumers.{ConsumerView}
 use Rattle.mb_mailbox.specs.Jobs.{HasReadToEnd, IsSameConsumer, accesses_made}
 use Rattle.mb_mailbox.specs.Moves.{HasLoads}
@@ -140,7 +140,7 @@ module _ (met : (q p : ℕ) (h : History) → HasMet q p (cells_met p (part (Rea
         notes = noted;
       }
 
--- ---- where it was taken in
+-- ---- after it was taken in
 module _ (whole : (h : History) (r p : ℕ) (ks : List ℕ) → HasMet r p ks (part (Reader r) h) → HasMet r p ks h)
     (of : (h : History) (who : Process) (a : PoolAccess) → Has (part who h) a → Has h a × (a.process ≡ who))
     (last : (size : PoolSize) (h : History) (r p : ℕ) (ks : List ℕ) → IsPoolLawful size h

@@ -1,9 +1,9 @@
--- A poll loads one end mark where it is answered `Ended`, and none elsewhere.
+-- A poll loads one end mark if it returns `Ended`, and else none.
 use Rattle.std.proofs.Common.{◌≡◌, ◌≢◌, ℕ, ◌+◌, Bool, true, false, List, [], ◌∷◌, ◌++◌, Option, Some, None, length, refl, subst, ap, ◌∙◌, arith}
 use Rattle.std.specs.Int.{from_bool}
 use Rattle.mb_cells.specs.declared.answer.Look.TheVariants as look
 use Rattle.mb_claim.specs.declared.access.Stage.TheVariants as stage
-use Rattle.mb_mailbox.specs.Below.{Claims, History, Look, Parts, PoolAccess, ReaderSeatView, Stream, ToCells, ToClaims, WorldAccess, WorldHistory, cells_met, link_load, look_of, pool_accesses}
+use Rattle.mb_mailbox.specs.Imports.{Claims, History, Look, Parts, PoolAccess, ReaderSeatView, Stream, ToCells, ToClaims, WorldAccess, WorldHistory, cells_met, link_load, look_of, pool_accesses}
 use Rattle.mb_mailbox.specs.ConsumerStep.{ConsumerStep, competes, link_answer, looks, takes}
 use Rattle.mb_mailbox.specs.Consumers.{ConsumerView}
 use Rattle.mb_mailbox.specs.Jobs.{accesses_made, ends_met, is_ended, tells_end}
@@ -96,7 +96,7 @@ module _ (p budget : ℕ) (answer : Poll) (s t : Stream) (old new : ConsumerView
       let one = one_told p i.accesses old (subst (λ (a : Poll). LeadTo p (outcome a) i.accesses old) is i.lead) in
       omega (arith, sum, one)
 
--- who has made no access has met no end
+-- a consumer that has made no access has met no end
 no_end : (h : History) (n : ℕ) → length h + n ≡ 0 → ends_met h ≡ 0
 no_end [] n e = refl
 no_end (x ∷ h) n e = absurd (omega (arith, e))

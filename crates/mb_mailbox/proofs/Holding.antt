@@ -6,10 +6,10 @@ use Rattle.std.proofs.lemmas.List.{length-reverse, reverse-append}
 use Rattle.mb_claim.specs.declared.access.ClaimOp.{ClaimOp}
 use Rattle.mb_claim.specs.declared.access.Stage.TheVariants as stage
 use Rattle.mb_cells.specs.declared.cursor.Cursor.TheVariants.{Past}
-use Rattle.mb_mailbox.specs.Below.{Claim, ClaimAccess, Claims, EndsAs, Fits, Gave, Has, HasStageIn, IsClaimIn, IsClaimPrefix, IsOnceEach, Item, Link}
-use Rattle.mb_mailbox.specs.Below.{Lost, Note, ObjectTurn, Parts, PoolAccess, Stage, TableSize, Took, Undecided, access_of, cells_met, claim_stage}
-use Rattle.mb_mailbox.specs.Below.{claims_in, consumer_of, load, note_of, part_on, place_past, with_load}
-use Rattle.mb_mailbox.specs.Consumers.{AreEnds, ConsumerView, IsAt, IsBefore, IsConsumer, StandsOn, parts_of}
+use Rattle.mb_mailbox.specs.Imports.{Claim, ClaimAccess, Claims, EndsAs, Fits, Gave, Has, HasStageIn, IsClaimIn, IsClaimPrefix, IsOnceEach, Item, Link}
+use Rattle.mb_mailbox.specs.Imports.{Lost, Note, ObjectTurn, Parts, PoolAccess, Stage, TableSize, Took, Undecided, access_of, cells_met, claim_stage}
+use Rattle.mb_mailbox.specs.Imports.{claims_in, consumer_of, load, note_of, part_on, place_past, with_load}
+use Rattle.mb_mailbox.specs.Consumers.{AreEnds, ConsumerView, ConsumerIsAt, ConsumerIsBefore, IsConsumer, StandsOn, parts_of}
 use Rattle.mb_mailbox.specs.Moves.{HasLoads, HasPlace, HasTurns, reads_with_item, moved_to}
 use Rattle.mb_mailbox.specs.NoteLists.{place_after}
 use Rattle.mb_mailbox.specs.declared.place.Place.{Place}
@@ -21,11 +21,11 @@ use Rattle.mb_mailbox.proofs.Moving.{holds, loads_known}
 use Rattle.mb_mailbox.proofs.Standings.{Leaves, end_kept, ends_more, moves, same_length, with_one}
 use Rattle.mb_mailbox.proofs.Totals.{sum_less, total}
 
--- a note behind others is the first of them backwards
+-- a note after others is the first of them backwards
 snoc_back : (ns : List Note) (n : Note) → reverse (ns ++ n ∷ []) ≡ n ∷ reverse ns
 snoc_back ns n = reverse-append ns (n ∷ [])
 
--- the stage of a claim that is held
+-- a claim that is held and not won is going
 pub goes_on : (st : Stage) → note_of st ≡ None → st ≢ stage.Won → st ≡ stage.Going
 goes_on stage.Going e ne = refl
 goes_on stage.Won e ne = absurd (ne refl)
@@ -65,7 +65,7 @@ module _ (s : ConsumerView) (p k : ℕ) (claim : Claim) (i : IsConsumer s) (e : 
     pub within : k < s.reader.table.size.cells
     within = known.within p k has_here
 
-    -- each list of notes has at most as many as cells were met on its lane, and this one has one less
+    -- each list has at most as many notes as cells were met on its lane. The list of this lane has fewer
     noted : (q : ℕ) (ns : List Note) → slice_get s.notes q ≡ Some ns → length ns ≤ length (cells_met q s.reader.part)
     noted q ns f = by t.0 (i.lanes q t.0 ns t.1 f)
       where
@@ -85,7 +85,7 @@ module _ (s : ConsumerView) (p k : ℕ) (claim : Claim) (i : IsConsumer s) (e : 
 
     noted_here : (ns : List Note) → slice_get s.notes p ≡ Some ns → length ns < length (cells_met p s.reader.part)
     noted_here ns f =
-        let o : IsAt i.size.layout cs c p x ns k claim = i.lanes p (At k claim) ns e f in
+        let o : ConsumerIsAt i.size.layout cs c p x ns k claim = i.lanes p (At k claim) ns e f in
         let long : length (cells_met p s.reader.part) ≡ length (k ∷ o.cells) = ap length o.met in
         let same = same_length cs c o.cells (reverse ns) x o.ended in
         let turned : length (reverse ns) ≡ length ns = length-reverse ns in
@@ -102,8 +102,9 @@ module _ (s : ConsumerView) (p k : ℕ) (claim : Claim) (i : IsConsumer s) (e : 
         ap (total (λ q. length (cells_met q s.reader.part))) i.notes_count in
         omega (arith, less, share, same)
 
-    -- the claims' cells before this one are other cells
-    before_else : (ns : List Note) (o : IsAt i.size.layout cs c p x ns k claim) (j : ℕ) → Has o.cells j → j ≡ k → ⊥
+    -- the cells before this one are other cells
+    before_else : (ns : List Note) (o : ConsumerIsAt i.size.layout cs c p x ns k claim) (j : ℕ)
+        → Has o.cells j → j ≡ k → ⊥
     before_else ns o j has f =
         let once : IsOnceEach (k ∷ o.cells) = subst IsOnceEach o.met (known.once p) in
         once.0 (subst (Has o.cells) f has)
@@ -150,7 +151,7 @@ module _ (s : ConsumerView) (p k : ℕ) (claim : Claim) (i : IsConsumer s) (e : 
         left = λ j has l. l;
       }
 
-      ends : (ns : List Note) (o : IsAt i.size.layout cs c p x ns k claim) → AreEnds cs c o.cells (reverse ns) y
+      ends : (ns : List Note) (o : ConsumerIsAt i.size.layout cs c p x ns k claim) → AreEnds cs c o.cells (reverse ns) y
       ends ns o = ends_more cs c x y o.cells (reverse ns)
           (λ j n has. end_kept cs c j n x y (sym (else j (before_else ns o j has))) (λ u r. r)) o.ended
 
@@ -165,8 +166,8 @@ module _ (s : ConsumerView) (p k : ℕ) (claim : Claim) (i : IsConsumer s) (e : 
       stands stage.Going is ns f = held ns f (ap note_of is)
         where
           held : (ns : List Note) → slice_get s.notes p ≡ Some ns → note_of (claim_stage now) ≡ None
-              → IsAt i.size.layout cs c p y ns k now
-          held ns f none = let o : IsAt i.size.layout cs c p x ns k claim = i.lanes p (At k claim) ns e f in
+              → ConsumerIsAt i.size.layout cs c p y ns k now
+          held ns f none = let o : ConsumerIsAt i.size.layout cs c p x ns k claim = i.lanes p (At k claim) ns e f in
               record {
                 cells = o.cells;
                 met = o.met;
@@ -179,8 +180,8 @@ module _ (s : ConsumerView) (p k : ℕ) (claim : Claim) (i : IsConsumer s) (e : 
       stands stage.Won is ns f = held ns f (ap note_of is)
         where
           held : (ns : List Note) → slice_get s.notes p ≡ Some ns → note_of (claim_stage now) ≡ None
-              → IsAt i.size.layout cs c p y ns k now
-          held ns f none = let o : IsAt i.size.layout cs c p x ns k claim = i.lanes p (At k claim) ns e f in
+              → ConsumerIsAt i.size.layout cs c p y ns k now
+          held ns f none = let o : ConsumerIsAt i.size.layout cs c p x ns k claim = i.lanes p (At k claim) ns e f in
               record {
                 cells = o.cells;
                 met = o.met;
@@ -194,8 +195,8 @@ module _ (s : ConsumerView) (p k : ℕ) (claim : Claim) (i : IsConsumer s) (e : 
           (subst (λ z. EndsAs cs c k (Lost w) y) is (subst (λ z. HasStageIn cs c k z y) is prefix))
         where
           passed : (n : Note) (ns : List Note) → slice_get s.notes p ≡ Some ns → EndsAs cs c k n y
-              → IsBefore cs c p y (ns ++ n ∷ []) (Past k)
-          passed n ns f end = let o : IsAt i.size.layout cs c p x ns k claim = i.lanes p (At k claim) ns e f in
+              → ConsumerIsBefore cs c p y (ns ++ n ∷ []) (Past k)
+          passed n ns f end = let o : ConsumerIsAt i.size.layout cs c p x ns k claim = i.lanes p (At k claim) ns e f in
               record {
                 word = ap (place_past p) (sym o.met);
                 ended = subst (λ (z : List ℕ × List Note). AreEnds cs c z.0 z.1 y)
@@ -204,8 +205,8 @@ module _ (s : ConsumerView) (p k : ℕ) (claim : Claim) (i : IsConsumer s) (e : 
       stands stage.Undecided is ns f = passed Undecided ns f (subst (λ z. HasStageIn cs c k z y) is prefix)
         where
           passed : (n : Note) (ns : List Note) → slice_get s.notes p ≡ Some ns → EndsAs cs c k n y
-              → IsBefore cs c p y (ns ++ n ∷ []) (Past k)
-          passed n ns f end = let o : IsAt i.size.layout cs c p x ns k claim = i.lanes p (At k claim) ns e f in
+              → ConsumerIsBefore cs c p y (ns ++ n ∷ []) (Past k)
+          passed n ns f end = let o : ConsumerIsAt i.size.layout cs c p x ns k claim = i.lanes p (At k claim) ns e f in
               record {
                 word = ap (place_past p) (sym o.met);
                 ended = subst (λ (z : List ℕ × List Note). AreEnds cs c z.0 z.1 y)
@@ -260,7 +261,7 @@ module _ (s : ConsumerView) (p k : ℕ) (claim : Claim) (i : IsConsumer s) (e : 
           moves s p (At k claim) (Before (Past k)) (Some (Took v)) (b ∷ s.reader.part) s.seat.part i e
           (laws.takes cs c s.reader.reader k v x i.fit has_won)
           (λ ns f.
-          let o : IsAt i.size.layout cs c p x ns k claim = i.lanes p (At k claim) ns e f in
+          let o : ConsumerIsAt i.size.layout cs c p x ns k claim = i.lanes p (At k claim) ns e f in
           let met : cells_met p (b ∷ s.reader.part) ≡ k ∷ o.cells = same ∙ o.met in
           let before : AreEnds cs c o.cells (reverse ns) z = ends_more cs c x z o.cells (reverse ns)
           (λ j n has. end_kept cs c j n x z refl (λ u r. read-more b s.reader.part (Item j) u r)) o.ended in

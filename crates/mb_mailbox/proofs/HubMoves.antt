@@ -6,8 +6,8 @@ use Rattle.mb_cells.specs.Vocabulary.{Entry, fetch}
 use Rattle.mb_shared_cells.specs.Vocabulary.{CellHubView, empty_roll}
 use Rattle.mb_shared_cells.specs.declared.views.Roll.{Roll}
 use Rattle.mb_shared_claims.specs.Vocabulary.{HubView as ClaimHubView}
-use Rattle.mb_mailbox.specs.Below.{CellsName, ClaimAccess, ClaimTable, Has, History, claims_at, linked_cells}
-use Rattle.mb_mailbox.specs.Hubs.{HubView, IsHub, IsLedger, IsPutList, LedgerView, PutListView, put_list_of, with_consumer, with_producer, with_taken_consumer, with_taken_producer}
+use Rattle.mb_mailbox.specs.Imports.{CellsName, ClaimAccess, ClaimTable, Has, History, claims_at, linked_cells}
+use Rattle.mb_mailbox.specs.Hubs.{HubView, IsHub, IsLedger, IsPutList, ConsumerRecordView, PutListView, put_list_of, with_consumer, with_producer, with_taken_consumer, with_taken_producer}
 use Rattle.mb_mailbox.specs.Consumers.{ConsumerView, IsConsumer}
 use Rattle.mb_mailbox.specs.Producers.{IsProducer, ProducerView}
 use Rattle.mb_mailbox.proofs.Lists.{get_some, get_within, set_get, set_length, some_same}
@@ -55,7 +55,7 @@ none_at : {X : Type 0} (xs : List X) (p : ℕ) (x : X) → xs ≡ [] → slice_g
 none_at {X} xs p x none e = none_there p x (subst (λ (ys : List X). slice_get ys p ≡ Some x) none e)
 
 pub new_hub : (cells : CellHubView) (claims : ClaimHubView) (puts : List (Option PutListView))
-    (ledgers : List (Option LedgerView))
+    (ledgers : List (Option ConsumerRecordView))
     → cells.roll ≡ empty_roll → claims.roll ≡ [] → puts ≡ [] → ledgers ≡ []
     → IsHub (record { cells = cells; claims = claims; puts = puts; ledgers = ledgers })
 new_hub cells claims puts ledgers roll seats no_puts no_ledgers =
@@ -101,7 +101,7 @@ is_out h p i out =
         let f : None ≡ Some t.0 = some_same None (Some t.0) (sym out ∙ t.1) in
         absurd (cc)
 
--- what is kept of a producer is told by its part
+-- the part of a producer determines what is kept of it
 pub kept_list : (s : ProducerView) → IsProducer s
     → ((e : Entry) → Has s.seat.part (fetch s.seat.lane e) → e.cell < s.seat.table.size.cells
     → Has (linked_cells s.seat.lane s.seat.part) e.cell)
@@ -165,7 +165,7 @@ seat_is_out h c i out =
     let t = get_some h.ledgers c (subst (λ n. c < n) (sym i.seats) (get_within h.claims.roll c None out)) in
     by t.0 t.1
   where
-    by : (o : Option LedgerView) → slice_get h.ledgers c ≡ Some o → slice_get h.ledgers c ≡ Some None
+    by : (o : Option ConsumerRecordView) → slice_get h.ledgers c ≡ Some o → slice_get h.ledgers c ≡ Some None
     by None e = e
     by (Some ledger) e =
         let t = i.taken c ledger e in
@@ -179,7 +179,7 @@ pub took_consumer : (h : HubView) (s : ConsumerView) → IsHub h → IsConsumer 
     → IsHub (with_taken_consumer s h)
 took_consumer h s i own table cells reader_out seat_out =
     let c = s.seat.consumer in
-    let l : LedgerView = record { places = s.places; notes = s.notes } in
+    let l : ConsumerRecordView = record { places = s.places; notes = s.notes } in
     let out : slice_get h.cells.roll.readers c
     ≡ Some None = subst (λ (r : ℕ). slice_get h.cells.roll.readers r ≡ Some None) own.same
     reader_out in
@@ -206,7 +206,7 @@ took_consumer h s i own table cells reader_out seat_out =
       few_consumers = subst (λ k. k ≤ (claims_at h.claims.table).table.values) (sym n) i.few_consumers;
       taken = λ d ledger e. ⊎_elim
           (λ (t : (d ≡ c) × (Some l ≡ Some ledger)).
-          subst (λ (z : ℕ × LedgerView). (reads : History)
+          subst (λ (z : ℕ × ConsumerRecordView). (reads : History)
           × (slice_get (slice_set h.cells.roll.readers s.reader.reader (Some s.reader.part)) z.0 ≡ Some (Some reads))
           × ((done : List ClaimAccess) × (slice_get (slice_set h.claims.roll c (Some s.seat.part))
           z.0 ≡ Some (Some done))

@@ -1,37 +1,37 @@
 -- From the jobs through what was begun to the ends.
 use Rattle.std.proofs.Common.{◌≡◌, ℕ, [], false, true, sym, ap, ◌∙◌, subst}
-use Rattle.mb_mailbox.specs.Below.{Stream}
+use Rattle.mb_mailbox.specs.Imports.{Stream}
 use Rattle.mb_mailbox.specs.Begun.{PollKeeps, PollPromises, PutKeeps, PutPromises}
 use Rattle.mb_mailbox.specs.Consumers.{ConsumerView}
 use Rattle.mb_mailbox.specs.Jobs.{IsPollEnd, IsPutEnd, ends_met}
 use Rattle.mb_mailbox.specs.declared.gate.Who.{Who}
-use Rattle.mb_mailbox.specs.declared.working.begun.PollBegun.{PollBegun}
-use Rattle.mb_mailbox.specs.declared.working.begun.PollBegun.TheVariants as poll
-use Rattle.mb_mailbox.specs.declared.working.begun.PutBegun.{PutBegun}
-use Rattle.mb_mailbox.specs.declared.working.begun.PutBegun.TheVariants as put
-use Rattle.mb_mailbox.specs.declared.working.jobs.PollDone.{PollDone}
-use Rattle.mb_mailbox.specs.declared.working.jobs.PollJob.{PollJob}
-use Rattle.mb_mailbox.specs.declared.working.jobs.PutDone.{PutDone}
-use Rattle.mb_mailbox.specs.declared.working.jobs.PutJob.{PutJob}
+use Rattle.mb_mailbox.specs.declared.crew.worker.PollWorker.{PollWorker}
+use Rattle.mb_mailbox.specs.declared.crew.worker.PollWorker.TheVariants as poll
+use Rattle.mb_mailbox.specs.declared.crew.worker.PutWorker.{PutWorker}
+use Rattle.mb_mailbox.specs.declared.crew.worker.PutWorker.TheVariants as put
+use Rattle.mb_mailbox.specs.declared.crew.jobs.PollDone.{PollDone}
+use Rattle.mb_mailbox.specs.declared.crew.jobs.PollJob.{PollJob}
+use Rattle.mb_mailbox.specs.declared.crew.jobs.PutDone.{PutDone}
+use Rattle.mb_mailbox.specs.declared.crew.jobs.PutJob.{PutJob}
 use Rattle.mb_mailbox.proofs.EndsMet.{none_met}
 use Rattle.mb_mailbox.proofs.Marks.{clear}
 
 module _ {G Z : Type 0} (may_stop may_pass : G → Who → ℕ → Type 0) (gate : G) where
-  pub put_kept : (j : PutJob Z) (b : PutBegun G Z) (d : PutDone Z)
+  pub put_kept : (j : PutJob Z) (b : PutWorker G Z) (d : PutDone Z)
       → PutPromises may_stop may_pass gate j b → PutKeeps may_stop may_pass b d
       → IsPutEnd (may_stop gate) (may_pass gate) j d
-  put_kept j (put.Apart h) d p k =
+  put_kept j (put.Spawned h) d p k =
       subst (λ (g : G). IsPutEnd (may_stop g) (may_pass g) j d) p.1
       (subst (λ (i : PutJob Z). IsPutEnd (may_stop h.promise.gate.value)
       (may_pass h.promise.gate.value) i d) p.0 k)
-  put_kept j (put.Here e) d p k = subst (λ (e : PutDone Z). IsPutEnd (may_stop gate) (may_pass gate) j e) (sym k) p.0
+  put_kept j (put.Inline e) d p k = subst (λ (e : PutDone Z). IsPutEnd (may_stop gate) (may_pass gate) j e) (sym k) p.0
 
 module _ {G R Z : Type 0} (may_stop may_pass : G → Who → ℕ → Type 0) (stream : R → Stream) (gate : G) where
-  pub poll_kept : (from end budget : ℕ) (j : PollJob R Z) (b : PollBegun G R Z) (d : PollDone Z)
+  pub poll_kept : (from end budget : ℕ) (j : PollJob R Z) (b : PollWorker G R Z) (d : PollDone Z)
       → PollPromises may_stop may_pass stream gate from end budget j b
       → PollKeeps may_stop may_pass stream b d → IsPollEnd (may_stop gate) (may_pass gate) from end
       budget (stream j.rng) j.consumer d
-  poll_kept from end budget j (poll.Apart h) d p k =
+  poll_kept from end budget j (poll.Spawned h) d p k =
       let its = may_stop h.promise.gate.value in
       let lets = may_pass h.promise.gate.value in
       let one = h.promise.consumer.value in
@@ -42,15 +42,15 @@ module _ {G R Z : Type 0} (may_stop may_pass : G → Who → ℕ → Type 0) (st
       (subst (λ (n : ℕ). IsPollEnd its lets from end n (stream rng) one d) p.most
       (subst (λ (n : ℕ). IsPollEnd its lets from n h.promise.budget (stream rng) one d) p.last
       (subst (λ (n : ℕ). IsPollEnd its lets n h.promise.end h.promise.budget (stream rng) one d) p.first k)))))
-  poll_kept from end budget j (poll.Here e) d p k =
+  poll_kept from end budget j (poll.Inline e) d p k =
       subst (λ (e : PollDone Z). IsPollEnd (may_stop gate) (may_pass gate) from end budget
       (stream j.rng) j.consumer e) (sym k) p.0
 
 -- a consumer that was not run
 pub not_run : {Z : Type 0} (may_stop may_pass : Who → ℕ → Type 0) (from end budget : ℕ)
     (source : Stream) (s : ConsumerView) (d : PollDone Z) → d.consumer ≡ s
-    → d.stopped ≡ true → d.off ≡ true → IsPollEnd may_stop may_pass from end budget source s d
-not_run may_stop may_pass from end budget source s d is stopped off = record {
+    → d.stopped ≡ true → d.aborted ≡ true → IsPollEnd may_stop may_pass from end budget source s d
+not_run may_stop may_pass from end budget source s d is stopped aborted = record {
   same = record {
     cells = ap (λ (t : ConsumerView). t.reader.table) is;
     reader = ap (λ (t : ConsumerView). t.reader.reader) is;
@@ -65,17 +65,17 @@ not_run may_stop may_pass from end budget source s d is stopped off = record {
     read = λ p e. absurd (clear [] p (tt {0}) e);
     once = ap (λ (t : ConsumerView). ends_met t.reader.part) is ∙ none_met s none;
   };
-  stop = λ t f none. let no : true ≡ false = sym off ∙ f in absurd (cc);
-  unread = λ t f none. let no : true ≡ false = sym off ∙ f in absurd (cc);
-  only = λ f none. let no : true ≡ false = sym off ∙ f in absurd (cc);
-  polled = λ f. let no : true ≡ false = sym off ∙ f in absurd (cc);
+  stop = λ t f none. let no : true ≡ false = sym aborted ∙ f in absurd (cc);
+  unread = λ t f none. let no : true ≡ false = sym aborted ∙ f in absurd (cc);
+  only = λ f none. let no : true ≡ false = sym aborted ∙ f in absurd (cc);
+  polled = λ f. let no : true ≡ false = sym aborted ∙ f in absurd (cc);
 }
 
--- where the run is off, less is said of the end
+-- if the run is aborted, less is said of the end
 pub still_off : {Z : Type 0} (may_stop may_pass : Who → ℕ → Type 0) (from end budget : ℕ)
     (source : Stream) (s : ConsumerView) (d : PollDone Z)
     → IsPollEnd may_stop may_pass from end budget source s d
-    → IsPollEnd {Z = Z} may_stop may_pass from end budget source s (record d { off = true })
+    → IsPollEnd {Z = Z} may_stop may_pass from end budget source s (record d { aborted = true })
 still_off may_stop may_pass from end budget source s d i = record {
   same = i.same;
   read = i.read;

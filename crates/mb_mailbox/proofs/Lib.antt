@@ -1,4 +1,4 @@
--- In the order of reading: a file stands on files above it.
+-- In the order of reading: a file uses only files above it.
 
 -- Lists and sums
 pub mod Lists
@@ -29,6 +29,7 @@ pub mod Ending
 pub mod Endings
 pub mod EndsMet
 -- Producers and the hub
+pub mod CutLists
 pub mod Putting
 pub mod Closing
 pub mod HubMoves
@@ -42,6 +43,7 @@ pub mod Kept
 pub mod Noted
 pub mod Final
 -- What is gathered
+pub mod Filled
 pub mod ToldDiaries
 pub mod TakenIn
 pub mod Reported

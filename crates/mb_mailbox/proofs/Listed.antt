@@ -1,4 +1,4 @@
--- Lists with one more at their end: what is counted, chosen and told of them.
+-- Lists with one more element at their end: what is counted and chosen in them, and what is said of them.
 use Rattle.std.proofs.Common.{◌≡◌, ◌⊎◌, ℕ, zero, suc, ◌+◌, ◌*◌, ◌<◌, ◌≤◌, ◌||◌, Bool, true, false, List, [], ◌∷◌, ◌++◌, length, get_or, take, refl, sym, ◌∙◌, ap, inl, inr, arith, append-nil}
 use Rattle.std.specs.Prelude.{Option, Some, None, if◌then◌else◌}
 use Rattle.std.proofs.lemmas.Bool.{cases_eq, cases_lt}
@@ -7,8 +7,8 @@ use Rattle.std.proofs.Math.Nat.{mul-le-mul_right}
 use Rattle.mb_world.specs.Assignment.{items_where}
 use Rattle.mb_world.specs.Report.{DiaryView}
 use Rattle.mb_world.specs.Reporting.{any_below, is_took}
-use Rattle.mb_mailbox.specs.Below.{Note, Took}
-use Rattle.mb_mailbox.specs.Gathering.{AreDiariesIn, count_missing, diary_in}
+use Rattle.mb_mailbox.specs.Imports.{Note, Took}
+use Rattle.mb_mailbox.specs.Gathering.{AreDiariesOutlined, count_missing, diary_outline}
 use Rattle.mb_mailbox.specs.Hubs.{HubView}
 use Rattle.mb_mailbox.proofs.Turned.{get_end, get_left}
 
@@ -96,17 +96,18 @@ row_is w c e p q ps qs same = elim (cases_lt e c) [
 ]
 
 pub diaries_more : (w : ℕ) (h : HubView) (c p : ℕ) (d : DiaryView) (ds : List DiaryView) → p < w
-    → AreDiariesIn w h (c * w + p) ds → d ≡ diary_in c p h → AreDiariesIn w h (c * w + (p + 1)) (ds ++ d ∷ [])
+    → AreDiariesOutlined w h (c * w + p) ds → d ≡ diary_outline c p h
+    → AreDiariesOutlined w h (c * w + (p + 1)) (ds ++ d ∷ [])
 diaries_more w h c p d ds ps told here = record {
   count = omega (arith, length-append ds (d ∷ []), told.count);
   each = λ e q qs less. elim (cases_lt (e * w + q) (c * w + p)) [
-    | inl old ↦ get_left ds (d ∷ []) (e * w + q) (diary_in e q h) (told.each e q qs old)
+    | inl old ↦ get_left ds (d ∷ []) (e * w + q) (diary_outline e q h) (told.each e q qs old)
     | inr new ↦
         let same : e * w + q ≡ c * w + p = omega (arith, less, new) in
         let row : e ≡ c = row_is w c e p q ps qs same in
         let column : q ≡ p = omega (arith, same, ap (λ i. i * w) row) in
         get_end ds d (e * w + q) (same ∙ sym told.count) ∙ ap Some here
-        ∙ (λ i. Some (diary_in (sym row i) (sym column i) h))
+        ∙ (λ i. Some (diary_outline (sym row i) (sym column i) h))
   ];
 }
 

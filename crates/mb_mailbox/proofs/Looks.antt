@@ -1,7 +1,7 @@
 -- A poll loads the head of no other lane.
 use Rattle.std.proofs.Common.{◌≡◌, ◌⊎◌, ⊎_elim, ℕ, ◌+◌, ◌<◌, ◌≤◌, List, [], ◌∷◌, ◌++◌, Option, Some, None, inl, inr, length, sym, ap, ◌∙◌, subst, arith}
-use Rattle.mb_mailbox.specs.Below.{Claims, Has, Head, History, Item, Parts, PoolAccess, ReaderSeatView, Stream, ToCells, ToClaims, Word, WorldAccess}
-use Rattle.mb_mailbox.specs.Below.{WorldHistory, cells_met, place_past, pool_accesses}
+use Rattle.mb_mailbox.specs.Imports.{Claims, Has, Head, History, Item, Parts, PoolAccess, ReaderSeatView, Stream, ToCells, ToClaims, Word, WorldAccess}
+use Rattle.mb_mailbox.specs.Imports.{WorldHistory, cells_met, place_past, pool_accesses}
 use Rattle.mb_mailbox.specs.ConsumerStep.{ConsumerStep, competes, looks, takes}
 use Rattle.mb_mailbox.specs.Consumers.{ConsumerView}
 use Rattle.mb_mailbox.specs.Jobs.{IsOnLanes, accesses_made}
@@ -59,7 +59,7 @@ only_by p budget answer s t old new i from end low high was a q has w =
     (λ (t : Has old.reader.part a). was a q t w)
     (had (pool_accesses i.accesses) old.reader.part a there)
 
--- who has made no access has looked nowhere
+-- a consumer that has made no access has looked nowhere
 no_access : (h : History) (n : ℕ) (a : PoolAccess) → length h + n ≡ 0 → Has h a → ⊥
 no_access [] n a e has = has
 no_access (x ∷ h) n a e has = omega (arith, e)

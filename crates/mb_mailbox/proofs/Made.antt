@@ -4,8 +4,8 @@ use Rattle.std.specs.Prelude.{Option, Some, None, slice_set}
 use Rattle.mb_claim.specs.declared.access.Stage.TheVariants as stage
 use Rattle.mb_cells.specs.declared.answer.Look.{Look}
 use Rattle.mb_shared_cells.specs.Vocabulary.{ItemMakes, LookMakes}
-use Rattle.mb_mailbox.specs.Below.{CellsName, ClaimAccess, ClaimTable, Cursor, History, Item, Look, Note, ReaderSeatView, SeatView, Stage, Stream}
-use Rattle.mb_mailbox.specs.Below.{ToCells, ToClaims, Took, claims_at, load, look_of, next_u64, note_of, with_access, word_of}
+use Rattle.mb_mailbox.specs.Imports.{CellsName, ClaimAccess, ClaimTable, Cursor, History, Item, Look, Note, ReaderSeatView, SeatView, Stage, Stream}
+use Rattle.mb_mailbox.specs.Imports.{ToCells, ToClaims, Took, claims_at, load, look_of, next_u64, note_of, with_access, word_of}
 use Rattle.mb_mailbox.specs.declared.consumer.Poll.{Poll}
 use Rattle.mb_mailbox.specs.declared.consumer.Poll.TheVariants as poll
 use Rattle.mb_mailbox.specs.Consumers.{ConsumerView, IsConsumerOf, parts_of}
@@ -21,7 +21,7 @@ use Rattle.mb_mailbox.specs.declared.place.Place.{Place}
 abbrev pub at_views : ReaderSeatView → SeatView → List Place → List (List Note) → ConsumerView
 at_views reader seat places notes = record { reader = reader; seat = seat; places = places; notes = notes }
 
--- what holds of the one that moved
+-- what holds of the consumer after its move holds of the consumer with these fields
 pub moved_has : (P : ConsumerView → Type 0)
     → (s : ConsumerView) (p : ℕ) (place : Place) (o : Option Note) (reads : History)
     (made : List ClaimAccess)

@@ -2,10 +2,10 @@
 use Rattle.std.proofs.Common.{◌≡◌, ◌≢◌, ◌⊎◌, ℕ, ◌+◌, ◌<◌, List, [], ◌∷◌, reverse, refl, sym, ap, ◌∙◌, subst, inl, ⊎_elim}
 use Rattle.std.specs.Prelude.{Some, None, slice_get}
 use Rattle.mb_claim.specs.declared.access.Stage.TheVariants as stage
-use Rattle.mb_mailbox.specs.Below.{Claim, Claims, Cursor, END, EndsAs, Fits, Gave, Has, IsAccessAfter, IsClaimIn, IsDoneWith, IsOnceEach, Item, Layout}
-use Rattle.mb_mailbox.specs.Below.{Link, Lost, MayLookPast, MayRead, Note, ObjectTurn, Parts, PoolAccess, Took, Undecided, cells_met, claim_stage}
-use Rattle.mb_mailbox.specs.Below.{claims_in, consumer_of, load, note_of, place_past, with_load, word_of}
-use Rattle.mb_mailbox.specs.Consumers.{AreEnds, ConsumerView, IsAt, IsBefore, IsConsumer, parts_of}
+use Rattle.mb_mailbox.specs.Imports.{Claim, Claims, Cursor, END, EndsAs, Fits, Gave, Has, IsAccessAfter, IsClaimIn, IsDoneWith, IsOnceEach, Item, Layout}
+use Rattle.mb_mailbox.specs.Imports.{Link, Lost, MayLookPast, MayRead, Note, ObjectTurn, Parts, PoolAccess, Took, Undecided, cells_met, claim_stage}
+use Rattle.mb_mailbox.specs.Imports.{claims_in, consumer_of, load, note_of, place_past, with_load, word_of}
+use Rattle.mb_mailbox.specs.Consumers.{AreEnds, ConsumerView, ConsumerIsAt, ConsumerIsBefore, IsConsumer, parts_of}
 use Rattle.mb_mailbox.specs.Moves.{HasLoads, HasPlace, HasTurns, reads_with_link, moved_to}
 use Rattle.mb_mailbox.specs.declared.place.Place.{Place}
 use Rattle.mb_mailbox.specs.declared.place.Place.TheVariants.{At, Before}
@@ -18,22 +18,23 @@ use Rattle.mb_mailbox.proofs.Standings.{Leaves, end_kept, ends_more, moves}
 pub loads_known : Laws → (s : ConsumerView) → HasLoads s → Known s.reader.table.size s.reader.part
 loads_known laws s h = known laws s.reader.table.size s.reader.reader h.0 s.reader.part h.1 h.2
 
--- its notes on a lane where it has a place
+-- if it has a place on a lane, it has a list of notes there
 list_there : (s : ConsumerView) (p : ℕ) (place : Place) → (i : IsConsumer s) → slice_get s.places p ≡ Some place
     → (ns : List Note) × (slice_get s.notes p ≡ Some ns)
 list_there s p place i e =
     get_some s.notes p (subst (λ n. p < n) (i.places_count ∙ sym i.notes_count) (get_within s.places p place e))
 
--- where it stands there
+-- what its place on a lane says of its parts
 pub before : (s : ConsumerView) (p : ℕ) (at : Cursor) (i : IsConsumer s) → slice_get s.places p ≡ Some (Before at)
     → (ns : List Note) × (slice_get s.notes p ≡ Some ns)
-    × IsBefore (claims_in i.size.layout i.size.cells) s.seat.consumer p
+    × ConsumerIsBefore (claims_in i.size.layout i.size.cells) s.seat.consumer p
     (parts_of s.reader s.seat) ns at
 before s p at i e = let l = list_there s p (Before at) i e in (l.0, l.1, i.lanes p (Before at) l.0 e l.1)
 
 pub holds : (s : ConsumerView) (p k : ℕ) (claim : Claim) (i : IsConsumer s) → slice_get s.places p ≡ Some (At k claim)
     → (ns : List Note) × (slice_get s.notes p ≡ Some ns)
-    × IsAt i.size.layout (claims_in i.size.layout i.size.cells) s.seat.consumer p (parts_of s.reader s.seat) ns k claim
+    × ConsumerIsAt i.size.layout (claims_in i.size.layout i.size.cells) s.seat.consumer p
+    (parts_of s.reader s.seat) ns k claim
 holds s p k claim i e = let l = list_there s p (At k claim) i e in (l.0, l.1, i.lanes p (At k claim) l.0 e l.1)
 
 -- ---- before a link
@@ -50,7 +51,7 @@ may_look laws s p at i h e =
     by [] low given = low
     by (k ∷ ks) low given = given k (inl refl)
 
--- it is done with the last cell
+-- if the claim on a cell has ended, the consumer is done with the cell
 done_with : Laws → (layout : Layout) (cells c k : ℕ) (n : Note) (x : Parts) → EndsAs (claims_in layout cells) c k n x
     → IsDoneWith (claims_in layout cells) c k x
 done_with laws layout cells c k (Took v) x e = record { ended = (stage.Won, e.0, λ f. cc); taken = λ won. (v, e.1) }

@@ -2,7 +2,7 @@
 use Rattle.std.proofs.Common.{◌≡◌, ℕ, List, [], refl, sym, ◌∙◌, subst}
 use Rattle.mb_shared_cells.specs.Vocabulary.{PartList}
 use Rattle.mb_world.specs.PartSteps.{no_parts}
-use Rattle.mb_mailbox.specs.Below.{Claims, Fits, Note, ReaderSeatView, SeatView, claims_in, name_of}
+use Rattle.mb_mailbox.specs.Imports.{Claims, Fits, Note, ReaderSeatView, SeatView, claims_in, name_of}
 use Rattle.mb_mailbox.specs.Consumers.{IsConsumer, StandsOn, parts_of}
 use Rattle.mb_mailbox.specs.LaneNotes.{NotesView}
 use Rattle.mb_mailbox.specs.Mailboxes.{MailboxView}

@@ -3,8 +3,8 @@ use Rattle.std.proofs.Common.{◌≡◌, ℕ, ◌∷◌, reverse, refl, ap, subs
 use Rattle.std.specs.Prelude.{Option, Some}
 use Rattle.mb_claim.specs.declared.access.ClaimOp.{ClaimOp}
 use Rattle.mb_claim.specs.declared.access.Stage.TheVariants as stage
-use Rattle.mb_mailbox.specs.Below.{Claim, Claims, Cursor, IsClaimPrefix, Item, Stage, TableSize, ToCells, ToClaims, WorldAccess, access_of, cells_met}
-use Rattle.mb_mailbox.specs.Below.{claim_stage, claims_at, claims_in, consumer_of, load, look_of, part_on, word_of}
+use Rattle.mb_mailbox.specs.Imports.{Claim, Claims, Cursor, IsClaimPrefix, Item, Stage, TableSize, ToCells, ToClaims, WorldAccess, access_of, cells_met}
+use Rattle.mb_mailbox.specs.Imports.{claim_stage, claims_at, claims_in, consumer_of, load, look_of, part_on, word_of}
 use Rattle.mb_mailbox.specs.declared.consumer.Poll.{Poll}
 use Rattle.mb_mailbox.specs.declared.consumer.Poll.TheVariants as poll
 use Rattle.mb_mailbox.specs.declared.place.Place.TheVariants.{At, Before}
@@ -15,7 +15,7 @@ use Rattle.mb_mailbox.specs.Laws.{Laws}
 use Rattle.mb_mailbox.specs.Moves.{HasPlace, HasTurns}
 use Rattle.mb_mailbox.proofs.Moving.{before, holds, may_past}
 
--- an access that is the next one by the size of the table is so by its name
+-- an access that is the next one by the size of the table is the next one by the table's name
 named : (s : ConsumerView) (p : ℕ) (a : WorldAccess) (answer : Option Poll) (i : IsConsumer s)
     → ConsumerStep (claims_in i.size.layout i.size.cells) s.seat.consumer p (parts_of s.reader s.seat) a answer
     → ConsumerStep (claims_at s.seat.table) s.seat.consumer p (parts_of s.reader s.seat) a answer
@@ -35,7 +35,7 @@ looks_next laws s p v at i e =
     (reverse b.0) x b.2.ended)
     (λ j. ToCells (load (i.same j) (b.2.word j) v)) refl)
 
--- it is the last cell met, and was not left
+-- the cell of a claim that is held is the last cell met, and was not left
 last : (s : ConsumerView) (p k : ℕ) (claim : Claim) (i : IsConsumer s) → HasPlace p (At k claim) s
     → IsLastMet p k (parts_of s.reader s.seat)
 last s p k claim i e = let o = holds s p k claim i e in record { cells = o.2.cells; met = o.2.met; left = o.2.left }

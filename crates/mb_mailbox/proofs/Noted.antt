@@ -8,7 +8,7 @@ use Rattle.mb_cells.specs.declared.size.PoolSize.{PoolSize}
 use Rattle.mb_shared_cells.specs.Vocabulary.{IsRollOf}
 use Rattle.mb_shared_cells.specs.declared.views.Roll.{Roll}
 use Rattle.mb_world.specs.Reporting.{values_put}
-use Rattle.mb_mailbox.specs.Below.{History}
+use Rattle.mb_mailbox.specs.Imports.{History}
 use Rattle.mb_mailbox.specs.Consumers.{ConsumerView}
 use Rattle.mb_mailbox.specs.Hubs.{HubView, IsHub, PutListView}
 use Rattle.mb_mailbox.specs.Jobs.{HasReadToEnd}
@@ -16,10 +16,10 @@ use Rattle.mb_mailbox.specs.Mailboxes.{MailboxView}
 use Rattle.mb_mailbox.specs.Steps.{notes_on}
 use Rattle.mb_mailbox.specs.Worked.{ConsumerLeft, HasNoteAtEach, LaneLeft, ended_list}
 use Rattle.mb_mailbox.specs.declared.gate.Who.{Who}
-use Rattle.mb_mailbox.specs.declared.working.jobs.PollDone.{PollDone}
+use Rattle.mb_mailbox.specs.declared.crew.jobs.PollDone.{PollDone}
 use Rattle.mb_mailbox.proofs.Runs.{AreNumbered, left_by, left_of}
 
--- what stands behind the base
+-- the element after the base
 get_next : {X : Type 0} (base rest : List X) (x : X) (n : ℕ) → length base ≡ n → slice_get (base ++ x ∷ rest) n ≡ Some x
 get_next [] rest x zero e = refl
 get_next [] rest x (suc n) e = absurd (cc)

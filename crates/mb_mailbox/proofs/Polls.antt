@@ -1,12 +1,12 @@
 -- Steps on a lane, one after another.
 use Rattle.std.proofs.Common.{◌≤◌, ◌≡◌, ℕ, ◌+◌, [], ◌∷◌, refl, sym, ap, ◌∙◌, subst, arith}
 use Rattle.std.specs.Prelude.{Option, None, slice_get}
-use Rattle.mb_mailbox.specs.Below.{ReaderSeatView, SeatView, Stream, ToCells, ToClaims, WorldAccess, WorldHistory, claims_at}
+use Rattle.mb_mailbox.specs.Imports.{ReaderSeatView, SeatView, Stream, ToCells, ToClaims, WorldAccess, WorldHistory, claims_at}
 use Rattle.mb_mailbox.specs.declared.consumer.Poll.{Poll}
 use Rattle.mb_mailbox.specs.declared.consumer.Poll.TheVariants as poll
 use Rattle.mb_mailbox.specs.Consumers.{ConsumerView, parts_of}
 use Rattle.mb_mailbox.specs.ConsumerStep.{ConsumerStep}
-use Rattle.mb_mailbox.specs.Steps.{AnswerTells, AreDrawn, AreSteps, HasDone, IsPollOf, IsStep, LeadTo, note_with, outcome, with_note, words_of}
+use Rattle.mb_mailbox.specs.Steps.{AnswerTells, AreDrawn, AreSteps, HasDone, IsPollOf, IsStep, LeadTo, note_with, outcome, with_note, drawn_words}
 
 -- one access more
 done_more : (p : ℕ) (a : WorldAccess) (done : WorldHistory) (answer : Option Poll)
@@ -33,11 +33,11 @@ lead_more p a done answer old now was lead step = (
   lead,
 )
 
-drawn_more : (a : WorldAccess) (done : WorldHistory) (s t u : Stream) → AreDrawn s (words_of done) t
-    → AreDrawn t (words_of (a ∷ [])) u
-    → AreDrawn s (words_of (a ∷ done)) u
-drawn_more (ToCells b) done s t u was d = subst (λ z. AreDrawn s (words_of done) z) (sym d) was
-drawn_more (ToClaims b) done s t u was d = (d.0, subst (λ z. AreDrawn s (words_of done) z) (sym d.1) was, d.2)
+drawn_more : (a : WorldAccess) (done : WorldHistory) (s t u : Stream) → AreDrawn s (drawn_words done) t
+    → AreDrawn t (drawn_words (a ∷ [])) u
+    → AreDrawn s (drawn_words (a ∷ done)) u
+drawn_more (ToCells b) done s t u was d = subst (λ z. AreDrawn s (drawn_words done) z) (sym d) was
+drawn_more (ToClaims b) done s t u was d = (d.0, subst (λ z. AreDrawn s (drawn_words done) z) (sym d.1) was, d.2)
 
 pub steps_more : (p n : ℕ) (answer : Option Poll) (s t u : Stream) (old now new : ConsumerView)
     → AreSteps p n None s t old now → IsStep p answer t u now new
@@ -65,9 +65,9 @@ no_steps p s old = record {
   count = refl;
 }
 
-pub one_step : (p : ℕ) (answer : Option Poll) (s t : Stream) (old new : ConsumerView)
+pub history_extends : (p : ℕ) (answer : Option Poll) (s t : Stream) (old new : ConsumerView)
     → IsStep p answer s t old new → AreSteps p 1 answer s t old new
-one_step p answer s t old new st = steps_more p 0 answer s s t old old new (no_steps p s old) st
+history_extends p answer s t old new st = steps_more p 0 answer s s t old old new (no_steps p s old) st
 
 -- ---- polls
 pub poll_of : (p n budget : ℕ) (x : Poll) (s t : Stream) (old new : ConsumerView)
@@ -82,7 +82,7 @@ poll_of p n budget x s t old new m few all = record {
   spent = λ e. m.count ∙ all e;
 }
 
--- what tells the lane of one consumer tells it of another that knows the same
+-- an answer says the same of a lane if the consumer before knew the same of the lanes
 pub told_from : (p : ℕ) (answer : Option Poll) (old now new : ConsumerView) → now.reader.known ≡ old.reader.known
     → AnswerTells p answer now new → AnswerTells p answer old new
 told_from p answer old now new same tells = record {

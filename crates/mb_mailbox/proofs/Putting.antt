@@ -11,7 +11,7 @@ use Rattle.mb_cells.specs.declared.lane.LaneStage.TheVariants as stage
 use Rattle.mb_cells.specs.Vocabulary.{Entry, IsLaneAfter, entry_at, fetch, item_of, link_after, next_link, offer_refusal, push_store, put_list, stage_offer_refusal, stage_push_store, store}
 use Rattle.mb_shared_cells.specs.Vocabulary.{IsAccessAfter, LaneMakes, LaneSeatView, OfferBy, OfferMakes, PushMakes}
 use Rattle.mb_world.specs.Reporting.{values_put}
-use Rattle.mb_mailbox.specs.Below.{Counter, END, Head, History, Item, Link, Word, has_ended}
+use Rattle.mb_mailbox.specs.Imports.{Counter, END, Head, History, Item, Link, Word, has_ended}
 use Rattle.mb_cells.specs.Vocabulary.{IsLinkWord}
 use Rattle.mb_mailbox.specs.PartPlaces.{HasPart}
 use Rattle.mb_mailbox.specs.Producers.{IsProducer, IsPutInto, ProducerView, is_over}
@@ -33,7 +33,7 @@ no_mark p k (Link q) h l ne = rw (eq-eqb p p refl) (rw (ne_eqb (k + 1) END ne) r
 no_mark p k (Item q) h l ne = absurd l
 no_mark p k Counter h l ne = absurd l
 
--- an offer that was answered with a cell made its fetch-add
+-- an offer that returned a cell made its fetch-add
 record Took (old : LaneSeatView) (x k : ℕ) (new : LaneSeatView) : Type 0 where
   pub low : k < old.table.size.cells
   pub is : new ≡ record old {

@@ -9,9 +9,9 @@ use Rattle.mb_world.specs.PartSteps.{no_parts}
 use Rattle.mb_world.specs.Plan.{Histories, Plan, consumers_of}
 use Rattle.mb_world.specs.Report.{DiaryView, ReportView, diary, note}
 use Rattle.mb_world.specs.Reporting.{HasMetAll, IsDiaryOf, IsReportOf, any_below, is_took, is_taken, lane_view, values_put}
-use Rattle.mb_mailbox.specs.Below.{Claim, IsClaimIn, IsClaimPrefix, Note, ObjectTurn, Parts, Stage, cells_met, claim_stage, consumer_of}
+use Rattle.mb_mailbox.specs.Imports.{Claim, IsClaimIn, IsClaimPrefix, Note, ObjectTurn, Parts, Stage, cells_met, claim_stage, consumer_of}
 use Rattle.mb_mailbox.specs.Gathering.{IsReportIn, begun_in, diary_in, has_begun_at, is_taken_in, items_in, lane_in, notes_in}
-use Rattle.mb_mailbox.specs.Hubs.{HubView, LedgerView}
+use Rattle.mb_mailbox.specs.Hubs.{HubView, ConsumerRecordView}
 use Rattle.mb_mailbox.specs.Mailboxes.{MailboxView, plan_at}
 use Rattle.mb_mailbox.specs.declared.place.Place.{Place}
 use Rattle.mb_mailbox.proofs.Lists.{get_some}
@@ -59,7 +59,7 @@ lane_is m h hs r p low is t =
     ∙ ap (items_where (λ j. not (is_taken n p j r))) t.items in
     λ i. record { put = t.items i; ended = t.ended i; left = left i }
 
--- who has done nothing has an empty diary
+-- a consumer that has done nothing has an empty diary
 module _ (plan : Plan) (c p : ℕ) (hs : Histories) (empty : no_parts ≡ parts_in c hs)
     (met : HasMetAll (hs.reader_of c) p (cells_met p (parts_in c hs).reads) hs.pool) where
   no_cells : cells_met p (parts_in c hs).reads ≡ []
@@ -87,25 +87,25 @@ diary_told m h hs c p low one path met (Keeps.was_in l e places lists fit stands
     let place = get_some l.places p (subst (λ n. p < n) (sym places) low) in
     let list = get_some l.notes p (subst (λ n. p < n) (sym lists) low) in
     let noted : list.0 ≡ notes_in c p h =
-    sym (ap (λ (o : Option LedgerView). option_map_or
-    (λ (z : LedgerView). option_map_or (λ (ns : List Note). ns) (slice_get z.notes p) []) o [])
+    sym (ap (λ (o : Option ConsumerRecordView). option_map_or
+    (λ (z : ConsumerRecordView). option_map_or (λ (ns : List Note). ns) (slice_get z.notes p) []) o [])
     e
     ∙ ap (λ (o : Option (List Note)). option_map_or (λ (ns : List Note). ns) o []) list.1) in
     let begun : has_begun_at place.0 ≡ begun_in c p h =
-    sym (ap (λ (o : Option LedgerView). option_map_or
-    (λ (z : LedgerView). option_map_or has_begun_at (slice_get z.places p) false) o false) e
+    sym (ap (λ (o : Option ConsumerRecordView). option_map_or
+    (λ (z : ConsumerRecordView). option_map_or has_begun_at (slice_get z.places p) false) o false) e
     ∙ ap (λ (o : Option Place). option_map_or has_begun_at o false) place.1) in
     subst (λ (d : DiaryView). IsDiaryOf (plan_at m) c p hs d)
     (λ i. record { consumer = c; lane = p; notes = noted i; begun = begun i })
     (diary_is (plan_at m) m.claims.layout c p hs list.0 place.0 one path met (stands p place.0 list.0 place.1 list.1))
 diary_told m h hs c p low one path met (Keeps.never e empty) =
     let noted : [] ≡ notes_in c p h =
-    sym (ap (λ (o : Option LedgerView). option_map_or
-    (λ (z : LedgerView). option_map_or (λ (ns : List Note). ns) (slice_get z.notes p) []) o [])
+    sym (ap (λ (o : Option ConsumerRecordView). option_map_or
+    (λ (z : ConsumerRecordView). option_map_or (λ (ns : List Note). ns) (slice_get z.notes p) []) o [])
     e) in
     let begun : false ≡ begun_in c p h =
-    sym (ap (λ (o : Option LedgerView). option_map_or
-    (λ (z : LedgerView). option_map_or has_begun_at (slice_get z.places p) false) o false) e) in
+    sym (ap (λ (o : Option ConsumerRecordView). option_map_or
+    (λ (z : ConsumerRecordView). option_map_or has_begun_at (slice_get z.places p) false) o false) e) in
     subst (λ (d : DiaryView). IsDiaryOf (plan_at m) c p hs d)
     (λ i. record { consumer = c; lane = p; notes = noted i; begun = begun i })
     (silent_diary (plan_at m) c p hs empty met)

@@ -1,10 +1,10 @@
--- Where a consumer stands after an access.
+-- A consumer's place after an access.
 use Rattle.std.proofs.Common.{◌≡◌, ◌≢◌, ℕ, ◌<◌, List, [], ◌∷◌, ◌++◌, length, reverse, refl, sym, ap, ◌∙◌, subst, inl, inr, ⊎_elim, arith}
 use Rattle.std.specs.Prelude.{Option, Some, None, slice_get}
 use Rattle.std.specs.Option.{option_map_or}
 use Rattle.mb_claim.specs.declared.access.Stage.TheVariants as stage
-use Rattle.mb_mailbox.specs.Below.{ClaimAccess, Claims, EndsAs, Fits, HasNotLeft, HasRead, HasStageIn, Has, History, IsClaimIn, IsClaimPrefix, Item}
-use Rattle.mb_mailbox.specs.Below.{Layout, Lost, Note, Parts, Stage, Took, Undecided, cells_met, claims_in, note_of, part_on, place_past}
+use Rattle.mb_mailbox.specs.Imports.{ClaimAccess, Claims, EndsAs, Fits, HasNotLeft, HasRead, HasStageIn, Has, History, IsClaimIn, IsClaimPrefix, Item}
+use Rattle.mb_mailbox.specs.Imports.{Layout, Lost, Note, Parts, Stage, Took, Undecided, cells_met, claims_in, note_of, part_on, place_past}
 use Rattle.mb_mailbox.specs.Consumers.{AreEnds, ConsumerView, IsConsumer, StandsOn, parts_of}
 use Rattle.mb_mailbox.specs.Moves.{moved_to}
 use Rattle.mb_mailbox.specs.Steps.{notes_on, with_note}
@@ -35,7 +35,7 @@ same_length cs c [] (n ∷ ns) x e = absurd e
 same_length cs c (k ∷ ks) [] x e = absurd e
 same_length cs c (k ∷ ks) (n ∷ ns) x e = omega (arith, same_length cs c ks ns x e.1)
 
--- the note of a stage tells the end
+-- the note of a stage determines the claim's end
 pub ends_by : (cs : Claims) (c k : ℕ) (s : Stage) (n : Note) (x : Parts) → note_of s ≡ Some n
     → HasStageIn cs c k s x → EndsAs cs c k n x
 ends_by cs c k stage.Going n x e has = absurd (cc)

@@ -1,4 +1,4 @@
--- Where a consumer stands on a lane, and its notes there, tell its diary.
+-- A consumer's place on a lane, and its notes there, determine its diary.
 use Rattle.std.proofs.Common.{◌≡◌, ◌≢◌, ◌↔◌, ℕ, ◌<◌, true, List, [], ◌∷◌, length, refl, sym, ap, ◌∙◌, subst, inl, inr, ⊎_elim}
 use Rattle.std.specs.Prelude.{Some, None, reverse, slice_get}
 use Rattle.std.proofs.lemmas.Bool.{false≢true}
@@ -7,9 +7,9 @@ use Rattle.mb_claim.specs.declared.access.Stage.TheVariants as stage
 use Rattle.mb_world.specs.Fitting.{parts_of as parts_in}
 use Rattle.mb_world.specs.Plan.{Histories, Plan}
 use Rattle.mb_world.specs.Reporting.{HasMetAll, IsDiaryOf}
-use Rattle.mb_mailbox.specs.Below.{Claim, Claims, EndsAs, Has, IsClaimIn, IsClaimPrefix, Layout, Lost, Note, ObjectTurn, Parts, Stage, Took, Undecided}
-use Rattle.mb_mailbox.specs.Below.{cells_met, claim_stage, consumer_of, is_begun, note_of}
-use Rattle.mb_mailbox.specs.Consumers.{AreEnds, IsAt, StandsOn}
+use Rattle.mb_mailbox.specs.Imports.{Claim, Claims, EndsAs, Has, IsClaimIn, IsClaimPrefix, Layout, Lost, Note, ObjectTurn, Parts, Stage, Took, Undecided}
+use Rattle.mb_mailbox.specs.Imports.{cells_met, claim_stage, consumer_of, is_begun, note_of}
+use Rattle.mb_mailbox.specs.Consumers.{AreEnds, ConsumerIsAt, StandsOn}
 use Rattle.mb_mailbox.specs.Gathering.{has_begun_at}
 use Rattle.mb_mailbox.specs.declared.place.Place.{Place}
 use Rattle.mb_mailbox.specs.declared.place.Place.TheVariants.{At, Before}
@@ -33,7 +33,7 @@ module _ (cs : Claims) (c : ℕ) (x : Parts) where
   has_end (j ∷ ks) (n ∷ ns) k e (inl is) = (n, subst (λ i. EndsAs cs c i n x) is e.0)
   has_end (j ∷ ks) (n ∷ ns) k e (inr has) = has_end ks ns k e.1 has
 
-  -- the same in the order of time
+  -- the same for the notes in the order of time: a note is of the cell at its position
   noted : (ks : List ℕ) (notes : List Note) (j : ℕ) (n : Note) → AreEnds cs c ks (reverse notes) x
       → slice_get notes j ≡ Some n
       → (k : ℕ) × FromEnd ks j k × EndsAs cs c k n x
@@ -52,7 +52,7 @@ module _ (cs : Claims) (c : ℕ) (x : Parts) where
       → ((xs : List ObjectTurn) (s r : Stage) → IsClaimPrefix cs c xs s → IsClaimPrefix cs c xs r → s ≡ r)
       → ((xs : List ObjectTurn) → IsClaimIn layout claim xs → consumer_of claim ≡ c
       → IsClaimPrefix cs c xs (claim_stage claim))
-      → IsAt layout cs c p x notes k claim → EndsAs cs c k n x → ⊥
+      → ConsumerIsAt layout cs c p x notes k claim → EndsAs cs c k n x → ⊥
   held_open layout p notes k claim (Took v) one path o e = o.left.0 v e.1
   held_open layout p notes k claim (Lost w) one path o e =
       let s = one (x.claimed k) (claim_stage claim) (stage.Lost w) (path (x.claimed k) o.path o.own) e in

@@ -1,17 +1,17 @@
--- What workers that were begun promise, and how their ends keep it.
+-- What the workers that were begun promise, and how their ends keep the promises.
 use Rattle.std.specs.Prelude.{ℕ, ◌≡◌, true}
 use Rattle.mb_mailbox.specs.declared.gate.Who.{Who}
-use Rattle.mb_mailbox.specs.Below.{Stream}
+use Rattle.mb_mailbox.specs.Imports.{Stream}
 use Rattle.mb_mailbox.specs.Consumers.{ConsumerView}
 use Rattle.mb_mailbox.specs.Jobs.{IsPollEnd, IsPutEnd}
-use Rattle.mb_mailbox.specs.declared.working.begun.PollBegun.{PollBegun}
-use Rattle.mb_mailbox.specs.declared.working.begun.PollBegun.TheVariants as poll
-use Rattle.mb_mailbox.specs.declared.working.begun.PutBegun.{PutBegun}
-use Rattle.mb_mailbox.specs.declared.working.begun.PutBegun.TheVariants as put
-use Rattle.mb_mailbox.specs.declared.working.jobs.PollDone.{PollDone}
-use Rattle.mb_mailbox.specs.declared.working.jobs.PollJob.{PollJob}
-use Rattle.mb_mailbox.specs.declared.working.jobs.PutDone.{PutDone}
-use Rattle.mb_mailbox.specs.declared.working.jobs.PutJob.{PutJob}
+use Rattle.mb_mailbox.specs.declared.crew.worker.PollWorker.{PollWorker}
+use Rattle.mb_mailbox.specs.declared.crew.worker.PollWorker.TheVariants as poll
+use Rattle.mb_mailbox.specs.declared.crew.worker.PutWorker.{PutWorker}
+use Rattle.mb_mailbox.specs.declared.crew.worker.PutWorker.TheVariants as put
+use Rattle.mb_mailbox.specs.declared.crew.jobs.PollDone.{PollDone}
+use Rattle.mb_mailbox.specs.declared.crew.jobs.PollJob.{PollJob}
+use Rattle.mb_mailbox.specs.declared.crew.jobs.PutDone.{PutDone}
+use Rattle.mb_mailbox.specs.declared.crew.jobs.PutJob.{PutJob}
 
 -- the lanes, the budget, the source, the consumer and the gate of a promise are these
 pub record IsPromiseOf {G R : Type 0} (g : G) (f e b : ℕ) (r : R) (s : ConsumerView) (from end budget : ℕ) (rng : R)
@@ -24,29 +24,29 @@ pub record IsPromiseOf {G R : Type 0} (g : G) (f e b : ℕ) (r : R) (s : Consume
   pub gate : its ≡ g
 
 module _ {G Z : Type 0} (may_stop may_pass : G → Who → ℕ → Type 0) where
-  -- a producer's thread promises what comes of its job; one that was ended here, since no thread could be made, has it, and
-  -- tells that the run is off
-  abbrev pub PutPromises : G → PutJob Z → PutBegun G Z → Type 0
-  PutPromises gate j (put.Apart h) = (h.promise.job.value ≡ j) × (h.promise.gate.value ≡ gate)
-  PutPromises gate j (put.Here d) = IsPutEnd (may_stop gate) (may_pass gate) j d × (d.off ≡ true)
+  -- a producer's thread promises what comes of its job. If no thread could be made, the worker was ended here. Then
+  -- it has its end, which says that the run is aborted
+  abbrev pub PutPromises : G → PutJob Z → PutWorker G Z → Type 0
+  PutPromises gate j (put.Spawned h) = (h.promise.job.value ≡ j) × (h.promise.gate.value ≡ gate)
+  PutPromises gate j (put.Inline d) = IsPutEnd (may_stop gate) (may_pass gate) j d × (d.aborted ≡ true)
 
   -- this is the end of what was begun
-  abbrev pub PutKeeps : PutBegun G Z → PutDone Z → Type 0
-  PutKeeps (put.Apart h) d = IsPutEnd (may_stop h.promise.gate.value)
+  abbrev pub PutKeeps : PutWorker G Z → PutDone Z → Type 0
+  PutKeeps (put.Spawned h) d = IsPutEnd (may_stop h.promise.gate.value)
       (may_pass h.promise.gate.value) h.promise.job.value d
-  PutKeeps (put.Here e) d = d ≡ e
+  PutKeeps (put.Inline e) d = d ≡ e
 
 module _ {G R Z : Type 0} (may_stop may_pass : G → Who → ℕ → Type 0) (stream : R → Stream) where
-  abbrev pub PollPromises : G → ℕ → ℕ → ℕ → PollJob R Z → PollBegun G R Z → Type 0
-  PollPromises gate from end budget j (poll.Apart h) =
+  abbrev pub PollPromises : G → ℕ → ℕ → ℕ → PollJob R Z → PollWorker G R Z → Type 0
+  PollPromises gate from end budget j (poll.Spawned h) =
       IsPromiseOf gate from end budget j.rng j.consumer
       h.promise.from h.promise.end h.promise.budget h.promise.rng.value h.promise.consumer.value h.promise.gate.value
-  PollPromises gate from end budget j (poll.Here d) =
-      IsPollEnd (may_stop gate) (may_pass gate) from end budget (stream j.rng) j.consumer d × (d.off ≡ true)
+  PollPromises gate from end budget j (poll.Inline d) =
+      IsPollEnd (may_stop gate) (may_pass gate) from end budget (stream j.rng) j.consumer d × (d.aborted ≡ true)
 
-  abbrev pub PollKeeps : PollBegun G R Z → PollDone Z → Type 0
-  PollKeeps (poll.Apart h) d =
+  abbrev pub PollKeeps : PollWorker G R Z → PollDone Z → Type 0
+  PollKeeps (poll.Spawned h) d =
       IsPollEnd (may_stop h.promise.gate.value) (may_pass h.promise.gate.value) h.promise.from
       h.promise.end h.promise.budget
       (stream h.promise.rng.value) h.promise.consumer.value d
-  PollKeeps (poll.Here e) d = d ≡ e
+  PollKeeps (poll.Inline e) d = d ≡ e

@@ -1,14 +1,14 @@
 -- A consumer of a mailbox: what its two seats did, and where it stands on each lane.
 use Rattle.std.specs.Prelude.{ℕ, ◌≡◌, List, [], ◌∷◌, Some, None, length, reverse, slice_get}
-use Rattle.mb_mailbox.specs.Below.{Claim, Claims, Cursor, EndsAs, Fits, HasNotLeft, IsClaimIn, Layout, Note}
-use Rattle.mb_mailbox.specs.Below.{Parts, ReaderSeatView, SeatView, TableSize, cells_met, claim_stage}
-use Rattle.mb_mailbox.specs.Below.{claims_in, consumer_of, name_of, note_of, part_on, place_past, word_of}
+use Rattle.mb_mailbox.specs.Imports.{Claim, Claims, Cursor, EndsAs, Fits, HasNotLeft, IsClaimIn, Layout, Note}
+use Rattle.mb_mailbox.specs.Imports.{Parts, ReaderSeatView, SeatView, TableSize, cells_met, claim_stage}
+use Rattle.mb_mailbox.specs.Imports.{claims_in, consumer_of, name_of, note_of, part_on, place_past, word_of}
 use Rattle.mb_mailbox.specs.Mailboxes.{MailboxView}
 use Rattle.mb_mailbox.specs.declared.place.Place.{Place}
 use Rattle.mb_mailbox.specs.declared.place.Place.TheVariants.{At, Before}
 
--- its seat among the readers of the cells, its seat among the consumers of the claims, and for each lane where
--- it stands there and its notes
+-- its seat among the readers of the cells, its seat among the consumers of the claims, its place on each lane, and
+-- its notes there
 pub record ConsumerView : Type 0 where
   pub reader : ReaderSeatView
   pub seat : SeatView
@@ -26,15 +26,15 @@ AreEnds cs c [] [] x = Unit {0}
 AreEnds cs c (k ∷ ks) (n ∷ ns) x = EndsAs cs c k n x × AreEnds cs c ks ns x
 AreEnds cs c _ _ x = ⊥
 
--- it stands before the link of the last cell that it met on lane p, or before the lane's head, and has a note
--- on each cell
-pub record IsBefore (cs : Claims) (c p : ℕ) (x : Parts) (notes : List Note) (at : Cursor)
+-- it stands before the link of the last cell that it met on lane p, or before the lane's head. It has a note on each
+-- cell
+pub record ConsumerIsBefore (cs : Claims) (c p : ℕ) (x : Parts) (notes : List Note) (at : Cursor)
     : Type 0 where
   pub word : word_of at ≡ place_past p (cells_met p x.reads)
   pub ended : AreEnds cs c (cells_met p x.reads) (reverse notes) x
 
--- it holds a claim on the last cell that it met there, which has no note, and has one on each cell before
-pub record IsAt (layout : Layout) (cs : Claims) (c p : ℕ) (x : Parts) (notes : List Note) (k : ℕ)
+-- it holds a claim on the last cell that it met there. That cell has no note, and each cell before it has one
+pub record ConsumerIsAt (layout : Layout) (cs : Claims) (c p : ℕ) (x : Parts) (notes : List Note) (k : ℕ)
     (claim : Claim) : Type 0 where
   pub cells : List ℕ
   pub met : cells_met p x.reads ≡ k ∷ cells
@@ -46,8 +46,8 @@ pub record IsAt (layout : Layout) (cs : Claims) (c p : ℕ) (x : Parts) (notes :
 
 -- where consumer c stands on lane p, by its parts and its notes there
 abbrev pub StandsOn : Layout → Claims → ℕ → ℕ → Parts → List Note → Place → Type 0
-StandsOn layout cs c p x notes (Before at) = IsBefore cs c p x notes at
-StandsOn layout cs c p x notes (At k claim) = IsAt layout cs c p x notes k claim
+StandsOn layout cs c p x notes (Before at) = ConsumerIsBefore cs c p x notes at
+StandsOn layout cs c p x notes (At k claim) = ConsumerIsAt layout cs c p x notes k claim
 
 -- what each consumer keeps
 pub record IsConsumer (s : ConsumerView) : Type 0 where
@@ -58,7 +58,7 @@ pub record IsConsumer (s : ConsumerView) : Type 0 where
   pub same : s.reader.reader ≡ s.seat.consumer
   -- its two parts fit each other
   pub fit : Fits (claims_in size.layout size.cells) s.seat.consumer (parts_of s.reader s.seat)
-  -- and tell where it stands on each lane, and its notes there
+  -- the two parts determine its place on each lane, and its notes there
   pub places_count : length s.places ≡ s.reader.table.size.lanes
   pub notes_count : length s.notes ≡ s.reader.table.size.lanes
   pub lanes : (p : ℕ) (place : Place) (notes : List Note) → slice_get s.places p ≡ Some place

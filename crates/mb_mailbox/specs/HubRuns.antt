@@ -1,13 +1,13 @@
 -- A hub that gives or takes in several one after another, in the order of a list.
 use Rattle.std.specs.Prelude.{ℕ, suc, ◌≡◌, ◌++◌, List, [], ◌∷◌, Vec}
-use Rattle.mb_mailbox.specs.Below.{name_of}
+use Rattle.mb_mailbox.specs.Imports.{name_of}
 use Rattle.mb_mailbox.specs.Consumers.{ConsumerView}
 use Rattle.mb_mailbox.specs.Hubs.{HubView, new_producer, with_consumer, with_producer, with_taken_consumer, with_taken_producer}
 use Rattle.mb_mailbox.specs.Jobs.{accesses_made}
 use Rattle.mb_mailbox.specs.Mailboxes.{MailboxView}
 use Rattle.mb_mailbox.specs.Producers.{ProducerView}
-use Rattle.mb_mailbox.specs.declared.working.jobs.PollJob.{PollJob}
-use Rattle.mb_mailbox.specs.declared.working.jobs.PutJob.{PutJob}
+use Rattle.mb_mailbox.specs.declared.crew.jobs.PollJob.{PollJob}
+use Rattle.mb_mailbox.specs.declared.crew.jobs.PutJob.{PutJob}
 
 -- ---- what it gives: one for each element of the list
 abbrev pub with_producers : {X : Type 0} → List X → HubView → HubView
@@ -43,7 +43,7 @@ module _ {Z : Type 0} where
   ArePutJobs m p (v ∷ vs) (j ∷ js) = (j.producer ≡ new_producer m p) × (j.list ≡ v) × ArePutJobs m (suc p) vs js
   ArePutJobs m p _ _ = ⊥
 
-  -- the jobs are those of the lists in front
+  -- the jobs are those of a front of the lists
   pub record ArePutJobsOfFront (m : MailboxView) (p : ℕ) (lists : List (Vec ℕ Z))
       (jobs : List (PutJob Z)) : Type 0 where
     pub front : List (Vec ℕ Z)

@@ -6,10 +6,10 @@ use Rattle.mb_claim.specs.declared.access.Stage.TheVariants as stage
 use Rattle.mb_cells.specs.Vocabulary.{HasLoaded, IsStart, items_put}
 use Rattle.mb_cells.specs.declared.access.Process.{Process}
 use Rattle.mb_world.specs.Reporting.{HasMetAll}
-use Rattle.mb_mailbox.specs.Below.{ClaimAccess, Claims, END, Fits, FollowsLinks, Gave, Has, HasMet, HasNotLeft}
-use Rattle.mb_mailbox.specs.Below.{HasStageIn, History, IsClaimPrefix, IsOnceEach, IsPoolLawful, Item, Layout}
-use Rattle.mb_mailbox.specs.Below.{Link, MayLookPast, ObjectTurn, Parts, PoolAccess, PoolSize, Reader, Stage}
-use Rattle.mb_mailbox.specs.Below.{cells_met, linked_cells, load, part, part_on, place_past, with_load, with_step}
+use Rattle.mb_mailbox.specs.Imports.{ClaimAccess, Claims, END, Fits, FollowsLinks, Gave, Has, HasMet, HasNotLeft}
+use Rattle.mb_mailbox.specs.Imports.{HasStageIn, History, IsClaimPrefix, IsOnceEach, IsPoolLawful, Item, Layout}
+use Rattle.mb_mailbox.specs.Imports.{Link, MayLookPast, ObjectTurn, Parts, PoolAccess, PoolSize, Reader, Stage}
+use Rattle.mb_mailbox.specs.Imports.{cells_met, linked_cells, load, part, part_on, place_past, with_load, with_step}
 
 pub record Laws : Type 0 where
   -- ---- lawful histories of cells

@@ -1,4 +1,4 @@
-pub mod Below
+pub mod Imports
 pub mod Mailboxes
 pub mod Consumers
 pub mod ConsumerStep
@@ -12,6 +12,7 @@ pub mod Producers
 pub mod PutLaws
 pub mod PartPlaces
 pub mod Hubs
+pub mod Ledgers
 pub mod NewConsumers
 pub mod Examples
 pub mod Jobs
@@ -24,5 +25,6 @@ pub mod Called
 pub mod HubRuns
 pub mod Given
 pub mod Gathering
+pub mod Filling
 pub mod GatheringExamples
 pub mod WorkExamples

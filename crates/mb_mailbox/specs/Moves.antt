@@ -1,8 +1,8 @@
 -- How a consumer moves on by one access.
 use Rattle.std.specs.Prelude.{ℕ, ◌≡◌, List, ◌∷◌, Option, Some, slice_get, slice_set}
 use Rattle.mb_shared_cells.specs.Vocabulary.{HasHistory}
-use Rattle.mb_mailbox.specs.Below.{Claim, ClaimAccess, History, IsClaimIn, Item, Note}
-use Rattle.mb_mailbox.specs.Below.{ObjectTurn, Reader, TableSize, load, word_of, Cursor}
+use Rattle.mb_mailbox.specs.Imports.{Claim, ClaimAccess, History, IsClaimIn, Item, Note}
+use Rattle.mb_mailbox.specs.Imports.{ObjectTurn, Reader, TableSize, load, word_of, Cursor}
 use Rattle.mb_mailbox.specs.Consumers.{ConsumerView}
 use Rattle.mb_mailbox.specs.Steps.{with_note}
 use Rattle.mb_mailbox.specs.declared.place.Place.{Place}
@@ -20,7 +20,7 @@ abbrev pub HasTurns : ConsumerView → Claim → List ObjectTurn → Type 0
 HasTurns s claim xs =
     (size : TableSize) → s.seat.table.size ≡ Some size → IsClaimIn size.layout claim xs
 
--- the consumer with these parts, at this place on lane p, with one note more there, if there is one
+-- the consumer with these parts, at this place on lane p. It has one more note there, if there is one
 abbrev pub moved_to : ℕ → Place → Option Note → History → List ClaimAccess → ConsumerView
     → ConsumerView
 moved_to p place note reads made s = record {
@@ -30,7 +30,7 @@ moved_to p place note reads made s = record {
   notes = with_note p note s.notes;
 }
 
--- its loads with one more of the link at a cursor, and with one more of an item
+-- its loads with one more of the link at a cursor, and its loads with one more of an item
 abbrev pub reads_with_link : ConsumerView → Cursor → ℕ → History
 reads_with_link s at v = load s.reader.reader (word_of at) v ∷ s.reader.part
 

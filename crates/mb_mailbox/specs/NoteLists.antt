@@ -1,9 +1,9 @@
--- The notes of a consumer, which have their room from the beginning; and where a consumer stands after an access of a
+-- The notes of a consumer, which have their room from the beginning; and a consumer's place after an access of a
 -- claim.
 use Rattle.std.specs.Prelude.{ℕ, ◌≡◌, ◌<◌, ◌≤◌, Option, length, sum_by}
 use Rattle.mb_claim.specs.declared.access.Stage.TheVariants as stage
 use Rattle.mb_cells.specs.declared.cursor.Cursor.TheVariants.{Past}
-use Rattle.mb_mailbox.specs.Below.{Claim, Note, Stage}
+use Rattle.mb_mailbox.specs.Imports.{Claim, Note, Stage}
 use Rattle.mb_mailbox.specs.LaneNotes.{NotesView}
 use Rattle.mb_mailbox.specs.Steps.{with_note}
 use Rattle.mb_mailbox.specs.declared.place.Place.{Place}
@@ -18,12 +18,12 @@ pub record HasRoom (p : ℕ) (notes : NotesView) : Type 0 where
 abbrev pub HasAllRoom : ℕ → NotesView → Type 0
 HasAllRoom cells notes = cells ≤ notes.room
 
--- there is one note more on lane p, if there is one, and the room stays
+-- lane p has one more note, if there is one, and the room stays
 pub record NotesGrow (p : ℕ) (note : Option Note) (old new : NotesView) : Type 0 where
   pub lists : new.lists ≡ with_note p note old.lists
   pub room : new.room ≡ old.room
 
--- where a consumer stands after an access of its claim on cell k, which has come to this stage
+-- a consumer's place after an access of its claim on cell k, if the claim has come to this stage
 abbrev pub place_after : ℕ → Claim → Stage → Place
 place_after k claim stage.Going = At k claim
 place_after k claim stage.Won = At k claim

@@ -1,7 +1,7 @@
--- How a producer moves on by its calls.
+-- The part of a producer's seat, and the place of that part.
 use Rattle.mb_cells.specs.Vocabulary.{IsLaneAfter}
 use Rattle.mb_shared_cells.specs.Vocabulary.{HasHistory, LaneSeatView}
-use Rattle.mb_mailbox.specs.Below.{Producer}
+use Rattle.mb_mailbox.specs.Imports.{Producer}
 use Rattle.mb_mailbox.specs.Producers.{ProducerView}
 
 -- some lawful history has the seat's part, and the producer stands at the place of that part

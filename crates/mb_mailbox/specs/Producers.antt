@@ -3,7 +3,7 @@ use Rattle.std.specs.Prelude.{ℕ, ◌≡◌, ◌+◌, ◌<◌, ◌≤◌, ◌++
 use Rattle.mb_cells.specs.Vocabulary.{HasFoundNone, fetch, next_link, push_store, store}
 use Rattle.mb_shared_cells.specs.Vocabulary.{LaneSeatView}
 use Rattle.mb_world.specs.Reporting.{values_put}
-use Rattle.mb_mailbox.specs.Below.{END, Item, has_ended}
+use Rattle.mb_mailbox.specs.Imports.{END, Item, has_ended}
 use Rattle.mb_mailbox.specs.Mailboxes.{MailboxView}
 
 -- its seat, and the items, the first put first
@@ -11,7 +11,7 @@ pub record ProducerView : Type 0 where
   pub seat : LaneSeatView
   pub items : List ℕ
 
--- what each producer keeps: its items are those that its part puts into the lane, and nothing waits for its link
+-- what each producer keeps: its items are those that its part puts into the lane, and no item waits for its link
 pub record IsProducer (s : ProducerView) : Type 0 where
   pub items : s.items ≡ values_put s.seat.lane s.seat.part
   pub idle : push_store s.seat.lane s.seat.place ≡ None

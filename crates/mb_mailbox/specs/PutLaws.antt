@@ -8,7 +8,7 @@ use Rattle.mb_cells.specs.declared.answer.Offer.TheVariants as offer
 use Rattle.mb_cells.specs.declared.lane.Lane.{Lane}
 use Rattle.mb_cells.specs.Vocabulary.{Entry, HasFoundNone, IsLaneAfter, IsLinkWord, entry_at}
 use Rattle.mb_cells.specs.Vocabulary.{fetch, finish_refusal, offer_refusal, put_list, store}
-use Rattle.mb_mailbox.specs.Below.{END, Has, History, IsPoolLawful, Item, PoolSize, Producer, has_ended, part}
+use Rattle.mb_mailbox.specs.Imports.{END, Has, History, IsPoolLawful, Item, PoolSize, Producer, has_ended, part}
 
 -- what is known of the parts and of the lanes of lawful histories
 pub record PutLaws : Type 0 where

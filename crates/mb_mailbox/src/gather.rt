@@ -1,13 +1,18 @@
 //! The end of a mailbox: the report of all that was taken in.
-mod reporting;
+mod cut;
+mod draft;
+mod fill;
+mod reports;
 mod sound;
 
 ghost use Rattle.std.specs.Prelude.{◌≡◌, ◌≤◌, length};
 ghost use Rattle.mb_mailbox.specs.Gathering.{count_missing};
 
+use crate::gather::cut::CutHub;
+use crate::gather::fill::{fill_diaries, fill_lanes};
 use crate::hub::Hub;
 use crate::mailbox::Mailbox;
-use mb_cells::NoMemory;
+pub use draft::Draft;
 use mb_claim::laws::layouts_are_sound;
 use mb_world::Report;
 use sound::gathering_is_sound;
@@ -18,7 +23,7 @@ use std::fmt;
 /// Why there is no report.
 #[derive(Clone, Copy, PartialEq, Eq, Debug)]
 pub enum GatherFault {
-    /// So many producers, and so many consumers, were given and not taken in.
+    /// This many producers, and this many consumers, were given and not taken in.
     Missing(u32, u32),
     /// The allocator refused room for the report.
     NoMemory,
@@ -41,14 +46,14 @@ impl Error for GatherFault {}
 impl<A: Allocator + Clone + Drop> Mailbox<A> {
     ghost use Rattle.std.specs.Prelude.{◌≡◌, ◌+◌, ◌<◌, Err, IfErr, IfOk};
     ghost use Rattle.mb_mailbox.specs.declared.gather.GatherFault.TheVariants.{Missing, NoMemory};
-    ghost use Rattle.mb_mailbox.specs.Below.{consumer_count};
+    ghost use Rattle.mb_mailbox.specs.Imports.{consumer_count};
     ghost use Rattle.mb_mailbox.specs.Gathering.{FullTakesAll, IsGathered, IsReportIn, UndecidedHasCompany, count_missing};
     ghost use Rattle.mb_mailbox.specs.Hubs.{IsHubOf};
 
-    /// Ends the mailbox, and tells what all that were taken in did: the items put, the notes, and what is left.
-    /// [`GatherFault::Missing`] comes exactly where a producer or a consumer was given and not taken in, and is decided
-    /// first. All room for the report is taken before the tables are closed: after a fault both values come back as they
-    /// were, and `gather` may be called again.
+    /// Ends the mailbox, and returns what all that were taken in did: the items put, the notes, and what is left.
+    /// [`GatherFault::Missing`] comes exactly if a producer or a consumer was given and not taken in. It is decided
+    /// first. All room for the report is taken before the tables are closed. So after a fault both values come back
+    /// as they were, and `gather` may be called again.
     pub fn gather(
         self,
         alloc: A,
@@ -68,11 +73,11 @@ impl<A: Allocator + Clone + Drop> Mailbox<A> {
         ensures lists { IfOk result (λ r.
             IsReportIn self.cells.size.lanes (consumer_count self.claims.layout) hub r) }
 
-        // One assignment stands behind the whole report, and nothing follows an end mark.
+        // One assignment of items to competitors accounts for the whole report, and nothing follows an end mark.
         ensures headline { IfOk result (λ r. IsGathered self hub r) }
 
-        // Where a producer found no cell, the put lists together have all cells; and where a note is undecided, two
-        // consumers or more competed for the item.
+        // If a producer found no cell, the put lists together have all cells. If a note is undecided, two consumers
+        // or more competed for the item.
         ensures full { IfOk result (λ r. FullTakesAll self hub r) }
         ensures undecided { IfOk result (λ r. UndecidedHasCompany r) }
     {
@@ -80,10 +85,10 @@ impl<A: Allocator + Clone + Drop> Mailbox<A> {
         if producers > 0 || consumers > 0 {
             return Err((GatherFault::Missing(producers, consumers), self, hub));
         }
-        let Ok(draft) = self.draft(alloc, &hub) else {
-            return Err((GatherFault::NoMemory, self, hub));
-        };
-        Ok(self.gather_with(hub, draft))
+        match self.draft(alloc, hub) {
+            Ok(draft) => Ok(self.gather_with(draft)),
+            Err(hub) => Err((GatherFault::NoMemory, self, hub)),
+        }
     }
 
     /// How many producers, and how many consumers, were given and not taken in.
@@ -101,49 +106,70 @@ impl<A: Allocator + Clone + Drop> Mailbox<A> {
         )
     }
 
-    /// The report of what was taken in so far. It changes nothing, and takes all the room that a report needs.
-    pub fn draft(&self, alloc: A, hub: &Hub<A>) -> Result<Report<A>, NoMemory>
-        requires of { IsHubOf self.now hub.now }
-        ensures lists { IfOk result (λ r. IsReportIn self.now.cells.size.lanes
-            (consumer_count self.now.claims.layout) hub.now r) }
+    /// Takes all the room that a report of what was taken in so far needs. If the memory is refused, the hub comes
+    /// back as it was.
+    pub fn draft(&self, alloc: A, hub: Hub<A>) -> Result<Draft<A>, Hub<A>>
+        requires of { IsHubOf self.now hub }
+        ensures drafted { IfOk result (λ draft. draft ≡ hub) }
+        ensures refused { IfErr result (λ back. back ≡ hub) }
     {
-        hub.report(alloc, self.lanes, self.claims.layout().consumers())
+        layouts_are_sound();
+        let Ok(for_cut) = alloc.clone() else {
+            return Err(hub);
+        };
+        let hub = match hub.cut(for_cut) {
+            Ok(hub) => hub,
+            Err(hub) => return Err(hub),
+        };
+        match hub.outline(alloc, self.lanes, self.claims.layout().consumers()) {
+            Ok(outline) => Ok(Draft { hub, outline }),
+            Err(_) => Err(hub.undone()),
+        }
     }
 
-    /// Ends the mailbox with a draft of its report, made when all were taken in. It takes no memory, so it cannot fail.
-    pub fn gather_with(self, hub: Hub<A>, draft: Report<A>) -> Report<A>
-        requires of { IsHubOf self hub }
-        requires producers { count_missing hub.puts ≡ 0 }
-        requires consumers { count_missing hub.ledgers ≡ 0 }
-        requires draft { IsReportIn self.cells.size.lanes (consumer_count self.claims.layout) hub
-            draft }
-        ensures draft { result ≡ draft }
+    /// Ends the mailbox with a draft that was made after all were taken in. It takes no memory, so it cannot fail.
+    pub fn gather_with(self, draft: Draft<A>) -> Report<A>
+        requires of { IsHubOf self draft }
+        requires producers { count_missing draft.puts ≡ 0 }
+        requires consumers { count_missing draft.ledgers ≡ 0 }
 
-        // What the draft says is so, as `gather` says it.
-        ensures headline { IsGathered self hub result }
-        ensures full { FullTakesAll self hub result }
+        // The report is as `gather` says it.
+        ensures lists { IsReportIn self.cells.size.lanes (consumer_count self.claims.layout)
+            draft result }
+        ensures headline { IsGathered self draft result }
+        ensures full { FullTakesAll self draft result }
         ensures undecided { UndecidedHasCompany result }
     {
         gathering_is_sound();
-        hub.has_history();
+        layouts_are_sound();
         let Mailbox {
-            lanes: _,
+            lanes,
             cells,
             claims,
         } = self;
-        let Hub {
+        let Draft { hub, outline } = draft;
+        let CutHub {
             cells: lanes_hub,
             claims: claims_hub,
-            puts: _,
-            ledgers: _,
+            puts,
+            ledgers,
         } = hub;
+        let Report {
+            lanes: mut reports,
+            mut diaries,
+        } = outline;
+        fill_lanes(&mut reports, puts);
+        fill_diaries(&mut diaries, lanes, ledgers);
         cells.close(lanes_hub);
         claims.close(claims_hub);
-        draft
+        Report {
+            lanes: reports,
+            diaries,
+        }
     }
 }
 
-/// How many of these are not there.
+/// How many of those given were not taken in.
 fn missing<T: Drop>(given: &[Option<T>]) -> u32
     requires { length given.now ≤ 64 }
     ensures { result ≡ count_missing given.now }

@@ -8,7 +8,7 @@ use crate::notes::Notes;
 use crate::place::Place;
 use crate::producer::Producer;
 use crate::spare::trim;
-use crate::taken::{Ledger, PutList};
+use crate::taken::{ConsumerRecord, Kept, PutList};
 use arrayvec::ArrayVec;
 use mb_cells::Cursor;
 use mb_cells::laws::{lanes_share_cells, parts_tell_lanes};
@@ -41,19 +41,20 @@ impl fmt::Display for HubFault {
 
 impl Error for HubFault {}
 
-/// The one that gives producers and consumers by their numbers, and takes them in.
+/// The hub gives producers and consumers by their numbers, and takes them in.
 #[derive(Drop)]
 pub struct Hub<A: Allocator + Drop> {
     pub(crate) cells: CellHub,
     pub(crate) claims: ClaimHub,
     pub(crate) puts: Vec<Option<PutList<A>>, A>,
-    pub(crate) ledgers: Vec<Option<Ledger<A>>, A>,
+    pub(crate) ledgers: Vec<Option<ConsumerRecord<A>>, A>,
 }
 
 impl<A: Allocator + Drop> Model for Hub<A> {
     ghost use Rattle.std.specs.Prelude.{◌≤◌, vec_capacity};
-    ghost use Rattle.mb_mailbox.specs.Below.{claims_at};
+    ghost use Rattle.mb_mailbox.specs.Imports.{claims_at};
     ghost use Rattle.mb_mailbox.specs.Hubs.{HubView, IsHub};
+    ghost use Rattle.mb_mailbox.specs.Ledgers.{ledgers_in};
 
     ghost Value = { HubView };
 
@@ -61,14 +62,14 @@ impl<A: Allocator + Drop> Model for Hub<A> {
       cells = h.cells;
       claims = h.claims;
       puts = h.puts.items;
-      ledgers = h.ledgers.items;
+      ledgers = ledgers_in h.ledgers.items;
     } };
 
     ghost invariant = { λ h. IsHub (record {
       cells = h.cells;
       claims = h.claims;
       puts = h.puts.items;
-      ledgers = h.ledgers.items;
+      ledgers = ledgers_in h.ledgers.items;
     })
         × (h.cells.table.size.lanes ≤ vec_capacity h.puts)
         × ((claims_at h.claims.table).table.values ≤ vec_capacity h.ledgers) };
@@ -78,14 +79,14 @@ impl<A: Allocator + Drop> Hub<A> {
     ghost use Rattle.std.specs.Prelude.{◌≡◌, ◌↔◌, ◌≤◌, Err, IfOk, None, OnErr, Some, length, slice_get};
     ghost use Rattle.mb_mailbox.specs.declared.hub.HubFault.TheVariants.{AllGiven};
     ghost use Rattle.mb_shared_cells.specs.Vocabulary.{IsRollOf};
-    ghost use Rattle.mb_mailbox.specs.Below.{History};
+    ghost use Rattle.mb_mailbox.specs.Imports.{History};
     ghost use Rattle.mb_mailbox.specs.Consumers.{IsConsumerOf};
     ghost use Rattle.mb_mailbox.specs.Hubs.{IsHub, IsHubOf, new_producer, with_producer};
     ghost use Rattle.mb_mailbox.specs.Hubs.{with_taken_consumer, with_taken_producer};
     ghost use Rattle.mb_mailbox.specs.Producers.{IsProducerOf};
 
-    /// What every hub keeps, and that the parts of the cells that it has taken in are those of one lawful history. It
-    /// computes nothing: its contract is a law of all hubs.
+    /// What every hub keeps. The parts of the cells that it has taken in are those of one lawful history. It computes
+    /// nothing: its contract is a law of all hubs.
     pub fn has_history(&self)
         ensures kept { IsHub self.now }
         ensures pool { (pool : History)
@@ -94,8 +95,8 @@ impl<A: Allocator + Drop> Hub<A> {
         self.cells.has_history();
     }
 
-    /// The producer of the next lane, which has put nothing. Numbers are given in order, from 0 on.
-    /// [`HubFault::AllGiven`] comes exactly where each lane of the mailbox was given, and is decided first.
+    /// Gives the producer of the next lane, which has put nothing. Numbers are given in order, from 0 on.
+    /// [`HubFault::AllGiven`] comes exactly if each lane of the mailbox was given, and is decided first.
     pub fn producer<B: Allocator + Drop>(
         &mut self,
         alloc: A,
@@ -123,8 +124,9 @@ impl<A: Allocator + Drop> Hub<A> {
         Ok(Producer { seat, items })
     }
 
-    /// Takes a producer in, also before its lane has ended: its part and its items are the hub's then, as they are, for the
-    /// report. Its number is not given again. Room that its list does not need goes back to the allocator.
+    /// Takes a producer in, even before its lane has ended. Its part and its items then belong to the hub, as they
+    /// are, for the report. Its number is not given again. Room that its list does not need goes back to the
+    /// allocator.
     pub fn take_producer<B: Allocator + Drop>(
         &mut self,
         mailbox: &Mailbox<B>,
@@ -148,8 +150,9 @@ impl<A: Allocator + Drop> Hub<A> {
         self.puts[lane as usize] = Some(PutList { items, ended });
     }
 
-    /// Takes a consumer in, also while it holds claims: its parts, its places and its notes are the hub's then, as they are,
-    /// for the report. Its number is not given again. Room that its notes do not need goes back to the allocator.
+    /// Takes a consumer in, even while it holds claims. Its parts, its places and its notes then belong to the hub,
+    /// as they are, for the report. Its number is not given again. Room that its notes do not need goes back to the
+    /// allocator.
     pub fn take_consumer<B: Allocator + Drop>(
         &mut self,
         mailbox: &Mailbox<B>,
@@ -171,18 +174,19 @@ impl<A: Allocator + Drop> Hub<A> {
         notes.trim();
         mailbox.cells.take_reader(&mut self.cells, reader);
         mailbox.claims.take_in(&mut self.claims, seat);
-        self.ledgers[number as usize] = Some(Ledger { places, notes });
+        let notes = Kept::Marked(notes);
+        self.ledgers[number as usize] = Some(ConsumerRecord { places, notes });
     }
 }
 
 impl<A: Allocator + Clone + Drop> Hub<A> {
     ghost use Rattle.std.specs.Prelude.{◌≡◌, ◌↔◌, ◌≤◌, Err, IfOk, OnErr, length};
     ghost use Rattle.mb_mailbox.specs.declared.hub.HubFault.TheVariants.{AllGiven};
-    ghost use Rattle.mb_mailbox.specs.Below.{consumer_count};
+    ghost use Rattle.mb_mailbox.specs.Imports.{consumer_count};
     ghost use Rattle.mb_mailbox.specs.Hubs.{IsHubOf, IsNewConsumer, with_consumer};
 
-    /// The consumer of the next number, which has done nothing. Numbers are given in order, from 0 on.
-    /// [`HubFault::AllGiven`] comes exactly where all numbers of the mailbox were given, and is decided first.
+    /// Gives the consumer of the next number, which has done nothing. Numbers are given in order, from 0 on.
+    /// [`HubFault::AllGiven`] comes exactly if all numbers of the mailbox were given, and is decided first.
     pub fn consumer<B: Allocator + Drop>(
         &mut self,
         alloc: A,

@@ -1,7 +1,9 @@
-//! What a hub keeps of those that it took in.
+//! What a hub keeps of the producers and consumers that it took in.
 use crate::notes::Notes;
 use crate::place::Place;
 use arrayvec::ArrayVec;
+use mb_cells::NoMemory;
+use mb_world::Note;
 use std::alloc::Allocator;
 use std::marker::Model;
 
@@ -20,20 +22,111 @@ impl<A: Allocator + Drop> Model for PutList<A> {
     ghost view = { λ l. record { items = l.items.items; ended = l.ended } };
 }
 
-/// What is kept of a consumer that was taken in: where it stands on each lane, and its notes there.
+/// The notes of a consumer that was taken in.
 #[derive(Drop)]
-pub(crate) struct Ledger<A: Allocator + Drop> {
-    pub(crate) places: ArrayVec<Place, 16>,
-    pub(crate) notes: Notes<A>,
+pub(crate) enum Kept<A: Allocator + Drop> {
+    Marked(Notes<A>),
+    /// A list for each lane.
+    Cut(Vec<Vec<Note, A>, A>),
 }
 
-impl<A: Allocator + Drop> Model for Ledger<A> {
-    ghost use Rattle.mb_mailbox.specs.Hubs.{LedgerView};
+/// What is kept of a consumer that was taken in: its place on each lane, and its notes there.
+#[derive(Drop)]
+pub(crate) struct ConsumerRecord<A: Allocator + Drop> {
+    pub(crate) places: ArrayVec<Place, 16>,
+    pub(crate) notes: Kept<A>,
+}
 
-    ghost Value = { LedgerView };
+impl<A: Allocator + Drop> Model for ConsumerRecord<A> {
+    ghost use Rattle.mb_mailbox.specs.Ledgers.{KeptView, is_cut_in, lists_in};
+
+    ghost Value = { KeptView };
 
     ghost view = { λ l. record {
-      places = l.places.items;
-      notes = l.notes.lists;
+      ledger = record { places = l.places.items; notes = lists_in l.notes };
+      is_cut = is_cut_in l.notes;
     } };
+}
+
+impl<A: Allocator + Drop> ConsumerRecord<A> {
+    ghost use Rattle.std.specs.Prelude.{◌≡◌, false, map, slice_get, true};
+    ghost use Rattle.std.specs.Option.{option_map_or};
+    ghost use Rattle.mb_mailbox.specs.Gathering.{has_begun_at};
+    ghost use Rattle.mb_mailbox.specs.Steps.{notes_on};
+
+    /// Whether it holds a claim on lane `p` and the claim has made an access.
+    pub(crate) fn begun(&self, p: u32) -> bool
+        ensures { result ≡ option_map_or has_begun_at (slice_get self.now.ledger.places p) false }
+    {
+        match self.places.as_slice().get(p as usize) {
+            Some(Place::At { cell: _, claim }) => claim.begun(),
+            _ => false,
+        }
+    }
+
+    /// Its note on the item at position `j` of lane `p`.
+    pub(crate) fn note(&self, p: u32, j: usize) -> Option<Note>
+        requires cut { self.now.is_cut ≡ true }
+        ensures { result ≡ slice_get (notes_on p self.now.ledger.notes) j }
+    {
+        match self.lists().get(p as usize) {
+            Some(notes) => notes.as_slice().get(j).copied(),
+            None => None,
+        }
+    }
+
+    /// How many items of lane `p` it took, if its notes are cut. It only says how much room to take.
+    pub(crate) fn count_taken(&self, p: u32) -> usize {
+        let mut count: usize = 0;
+        if let Kept::Cut(lists) = &self.notes {
+            if let Some(notes) = lists.as_slice().get(p as usize) {
+                for note in notes.iter() {
+                    if let Note::Took(_) = note {
+                        count = count.saturating_add(1);
+                    }
+                }
+            }
+        }
+        count
+    }
+
+    /// The notes of each lane.
+    fn lists(&self) -> &[Vec<Note, A>]
+        requires cut { self.now.is_cut ≡ true }
+        ensures { map (λ v. v.items) result.now ≡ self.now.ledger.notes }
+    {
+        match &self.notes {
+            Kept::Marked(_) => unreachable!(),
+            Kept::Cut(lists) => lists.as_slice(),
+        }
+    }
+
+    /// The notes of each lane, as lists that the caller then owns.
+    pub(crate) fn into_lists(self) -> Vec<Vec<Note, A>, A>
+        requires cut { self.is_cut ≡ true }
+        ensures { map (λ v. v.items) result.items ≡ self.ledger.notes }
+    {
+        match self.notes {
+            Kept::Marked(_) => unreachable!(),
+            Kept::Cut(lists) => lists,
+        }
+    }
+}
+
+impl<A: Allocator + Clone + Drop> ConsumerRecord<A> {
+    ghost use Rattle.std.specs.Prelude.{◌≡◌, IfOk, OnErr, true};
+
+    /// Cuts the notes by lane. Their marks and words go back to the allocator.
+    pub(crate) fn cut(&mut self, alloc: A) -> Result<(), NoMemory>
+        ensures same { self.new.ledger ≡ self.old.ledger }
+        ensures cut { IfOk result (λ _. self.new.is_cut ≡ true) }
+        ensures refused { OnErr result (self.new ≡ self.old) }
+    {
+        let Kept::Marked(notes) = &self.notes else {
+            return Ok(());
+        };
+        let lists = notes.cut(alloc)?;
+        self.notes = Kept::Cut(lists);
+        Ok(())
+    }
 }

@@ -1,10 +1,14 @@
 //! Text within XML.
+ghost use Rattle.std.specs.Prelude.{◌≡◌, ◌++◌, OnOk, string_bytes};
+ghost use Rattle.mb_picture.specs.Escaped.{escaped, escaped_text};
 
 use mb_cells::NoMemory;
 use std::alloc::Allocator;
 
-/// What stands for a byte in XML. For what is no printable ASCII a question mark does.
-fn push_byte<A: Allocator>(text: &mut String<A>, byte: u8) -> Result<(), NoMemory> {
+/// Appends a byte as XML has it. A byte that is no printable ASCII becomes a question mark.
+fn push_byte<A: Allocator>(text: &mut String<A>, byte: u8) -> Result<(), NoMemory>
+    ensures { OnOk result (string_bytes text.new ≡ string_bytes text.old ++ escaped byte) }
+{
     match byte {
         b'<' => text.push_str("&lt;"),
         b'>' => text.push_str("&gt;"),
@@ -16,8 +20,10 @@ fn push_byte<A: Allocator>(text: &mut String<A>, byte: u8) -> Result<(), NoMemor
     }
 }
 
-/// Appends the text as it stands in XML.
-pub fn push_escaped<A: Allocator>(text: &mut String<A>, plain: &str) -> Result<(), NoMemory> {
+/// Appends the text as XML has it.
+pub fn push_escaped<A: Allocator>(text: &mut String<A>, plain: &str) -> Result<(), NoMemory>
+    ensures { OnOk result (string_bytes text.new ≡ string_bytes text.old ++ escaped_text plain.now) }
+{
     for byte in plain.as_bytes() {
         push_byte(text, *byte)?;
     }

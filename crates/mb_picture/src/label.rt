@@ -1,4 +1,4 @@
-//! What stands in a mark, and above a column.
+//! The text in a mark, and above a column.
 
 use crate::picture::{Deed, Note, Value, Who, Word};
 use mb_cells::NoMemory;
@@ -36,7 +36,7 @@ fn push_value<A: Allocator>(text: &mut String<A>, value: Value) -> Result<(), No
     }
 }
 
-/// Appends the word and its value: `=` and what was found there, `:=` and what was stored.
+/// Appends the word and its value: `=` with what was found there, `:=` with what was stored.
 pub fn push_deed<A: Allocator>(text: &mut String<A>, deed: Deed) -> Result<(), NoMemory> {
     match deed {
         Deed::Load(word, value) => {
@@ -65,7 +65,7 @@ pub fn push_deed<A: Allocator>(text: &mut String<A>, deed: Deed) -> Result<(), N
     }
 }
 
-/// Appends what the event came to, or nothing.
+/// Appends the result of the event. A plain event has none.
 pub fn push_note<A: Allocator>(text: &mut String<A>, note: Note) -> Result<(), NoMemory> {
     match note {
         Note::Plain => Ok(()),
@@ -89,7 +89,7 @@ pub fn push_note<A: Allocator>(text: &mut String<A>, note: Note) -> Result<(), N
     }
 }
 
-/// Appends whose column it is.
+/// Appends the first line above a column: whose it is.
 pub fn push_who<A: Allocator>(text: &mut String<A>, who: Who) -> Result<(), NoMemory> {
     match who {
         Who::Producer(lane) => write!(text, "producer {lane}"),
@@ -98,7 +98,7 @@ pub fn push_who<A: Allocator>(text: &mut String<A>, who: Who) -> Result<(), NoMe
     }
 }
 
-/// Appends what else is told above a column: the lane, or the input.
+/// Appends the second line above a column: the lane, or the input.
 pub fn push_where<A: Allocator>(text: &mut String<A>, who: Who) -> Result<(), NoMemory> {
     match who {
         Who::Producer(lane) | Who::Consumer { lane, .. } => write!(text, "lane {lane}"),
@@ -106,7 +106,7 @@ pub fn push_where<A: Allocator>(text: &mut String<A>, who: Who) -> Result<(), No
     }
 }
 
-/// Appends how many of this there are, after a comma if it is not the first.
+/// Appends how many of these there are, after a comma if this is not the first count.
 pub fn push_count<A: Allocator>(
     text: &mut String<A>,
     count: u64,

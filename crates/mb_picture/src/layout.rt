@@ -2,9 +2,11 @@
 //!
 //! A line leaves the mark of its store at the side of its load. It goes down a track in the gutter there, and then
 //! straight to the mark of the load: a row has one mark only, so no other is in its way.
+ghost use Rattle.std.specs.Prelude.{◌≡◌, ◌+◌, ◌*◌, ◌/◌, ◌<◌, ◌≤◌, ◌^◌};
+ghost use Rattle.mb_picture.specs.declared.picture.TheConstants.{MAX_ROWS};
 
 use crate::label::{push_deed, push_note, push_where, push_who};
-use crate::picture::{Line, Mark, Picture};
+use crate::picture::{Line, Mark, Picture, Who};
 use mb_cells::NoMemory;
 use std::alloc::Allocator;
 
@@ -67,7 +69,9 @@ pub struct Layout<A: Allocator + Drop> {
 }
 
 /// How wide so many letters are.
-pub fn letters(count: usize) -> usize {
+pub fn letters(count: usize) -> usize
+    ensures { count * 29 < 2 ^ 64 → result ≡ count * 29 / 4 }
+{
     count.saturating_mul(29) / 4
 }
 
@@ -77,7 +81,9 @@ fn title_width(count: usize) -> usize {
 }
 
 /// Where row `row` has its middle.
-pub fn middle(row: usize) -> usize {
+pub fn middle(row: usize) -> usize
+    ensures { row ≤ MAX_ROWS → result ≡ 88 + row * 24 }
+{
     row.saturating_mul(ROW).saturating_add(TOP + ROW / 2)
 }
 
@@ -150,6 +156,29 @@ fn push_trunks<A: Allocator + Copy>(
     Ok(ends.len())
 }
 
+/// How many letters the wider line above a column has.
+fn head_letters<A: Allocator + Copy>(alloc: A, who: Who) -> Result<usize, NoMemory> {
+    let mut text = String::new(alloc);
+    push_who(&mut text, who)?;
+    let first = text.len();
+    push_where(&mut text, who)?;
+    Ok(first.max(text.len().saturating_sub(first)))
+}
+
+/// How many letters a mark has, with the gap between its two texts.
+fn mark_letters<A: Allocator + Copy>(alloc: A, mark: Mark) -> Result<usize, NoMemory> {
+    let mut text = String::new(alloc);
+    push_deed(&mut text, mark.deed)?;
+    let first = text.len();
+    push_note(&mut text, mark.note)?;
+    let gap = if first == 0 || text.len() == first {
+        0
+    } else {
+        2
+    };
+    Ok(text.len().saturating_add(gap))
+}
+
 /// How wide the marks of a column have to be.
 fn width_of<A: Allocator + Copy>(
     alloc: A,
@@ -158,29 +187,11 @@ fn width_of<A: Allocator + Copy>(
 ) -> Result<usize, NoMemory> {
     let mut widest = 9;
     if let Some(who) = picture.columns.get(column) {
-        let mut head = String::new(alloc);
-        push_who(&mut head, *who)?;
-        widest = head.len().max(widest);
-        let mut further = String::new(alloc);
-        push_where(&mut further, *who)?;
-        widest = further.len().max(widest);
+        widest = head_letters(alloc, *who)?.max(widest);
     }
     for mark in &picture.marks {
         if mark.column == column {
-            let mut label = String::new(alloc);
-            push_deed(&mut label, mark.deed)?;
-            let mut note = String::new(alloc);
-            push_note(&mut note, mark.note)?;
-            let gap = if label.is_empty() || note.is_empty() {
-                0
-            } else {
-                2
-            };
-            widest = label
-                .len()
-                .saturating_add(note.len())
-                .saturating_add(gap)
-                .max(widest);
+            widest = mark_letters(alloc, *mark)?.max(widest);
         }
     }
     Ok(letters(widest).saturating_add(12))
@@ -226,39 +237,94 @@ fn route_of(
     })
 }
 
+/// What a layout is made from: the gutters before the columns and after the last one, and the trunks in them.
+#[derive(Drop)]
+struct Tracks<A: Allocator + Drop> {
+    gutters: Vec<usize, A>,
+    trunks: Vec<Trunk, A>,
+}
+
+/// Puts the columns from the left, with the gutters before them and after the last one: where the last one ends.
+fn put_columns<A: Allocator + Copy>(
+    alloc: A,
+    picture: &Picture<A>,
+    places: &mut Vec<Place, A>,
+    tracks: &mut Tracks<A>,
+) -> Result<usize, NoMemory> {
+    let mut at = LEFT;
+    for column in 0..picture.columns.len() {
+        let left = put_gutter(alloc, picture, tracks, column, at)?;
+        let width = width_of(alloc, picture, column)?;
+        places.push(Place { left, width })?;
+        at = left.saturating_add(width);
+    }
+    put_gutter(alloc, picture, tracks, picture.columns.len(), at)
+}
+
+/// Puts the gutter of this number here: where it ends.
+fn put_gutter<A: Allocator + Copy>(
+    alloc: A,
+    picture: &Picture<A>,
+    tracks: &mut Tracks<A>,
+    gutter: usize,
+    at: usize,
+) -> Result<usize, NoMemory> {
+    tracks.gutters.push(at)?;
+    let count = push_trunks(alloc, &mut tracks.trunks, picture, gutter)?;
+    Ok(
+        at.saturating_add(count.saturating_mul(TRACK))
+            .saturating_add(GUTTER),
+    )
+}
+
+/// Puts the lines, between columns at these places.
+fn put_routes<A: Allocator>(
+    picture: &Picture<A>,
+    places: &[Place],
+    tracks: &Tracks<A>,
+    routes: &mut Vec<Route, A>,
+) -> Result<(), NoMemory> {
+    for line in &picture.lines {
+        let route = route_of(
+            &picture.marks,
+            places,
+            &tracks.gutters,
+            &tracks.trunks,
+            *line,
+        );
+        if let Some(route) = route {
+            routes.push(route)?;
+        }
+    }
+    Ok(())
+}
+
+/// Puts the columns and then the lines, and makes the layout as wide as they are.
+fn put_all<A: Allocator + Copy>(
+    alloc: A,
+    picture: &Picture<A>,
+    layout: &mut Layout<A>,
+    tracks: &mut Tracks<A>,
+) -> Result<(), NoMemory> {
+    let end = put_columns(alloc, picture, &mut layout.places, tracks)?;
+    layout.width = end.max(layout.width);
+    put_routes(picture, &layout.places, tracks, &mut layout.routes)
+}
+
 /// Where everything of the picture stands.
 pub fn layout_of<A: Allocator + Copy>(
     alloc: A,
     picture: &Picture<A>,
 ) -> Result<Layout<A>, NoMemory> {
-    let mut places = Vec::new(alloc);
-    let mut gutters = Vec::new(alloc);
-    let mut trunks = Vec::new(alloc);
-    let mut at = LEFT;
-    for column in 0..picture.columns.len() {
-        gutters.push(at)?;
-        let tracks = push_trunks(alloc, &mut trunks, picture, column)?;
-        let left = at
-            .saturating_add(tracks.saturating_mul(TRACK))
-            .saturating_add(GUTTER);
-        let width = width_of(alloc, picture, column)?;
-        places.push(Place { left, width })?;
-        at = left.saturating_add(width);
-    }
-    gutters.push(at)?;
-    let tracks = push_trunks(alloc, &mut trunks, picture, picture.columns.len())?;
-    at = at
-        .saturating_add(tracks.saturating_mul(TRACK))
-        .saturating_add(GUTTER);
-    let mut routes = Vec::new(alloc);
-    for line in &picture.lines {
-        if let Some(route) = route_of(&picture.marks, &places, &gutters, &trunks, *line) {
-            routes.push(route)?;
-        }
-    }
-    Ok(Layout {
-        places,
-        routes,
-        width: at.max(title_width(picture.title.len())).max(MIN_WIDTH),
-    })
+    let mut tracks = Tracks {
+        gutters: Vec::new(alloc),
+        trunks: Vec::new(alloc),
+    };
+    let mut layout = Layout {
+        places: Vec::new(alloc),
+        routes: Vec::new(alloc),
+        width: title_width(picture.title.len()).max(MIN_WIDTH),
+    };
+    put_all(alloc, picture, &mut layout, &mut tracks)?;
+    Ok(layout)
 }

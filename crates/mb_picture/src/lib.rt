@@ -1,10 +1,11 @@
 //! Pictures of replays and of ratifiers, as SVG.
 //!
-//! A picture is data first: columns, marks, lines and boxes ([`Picture`]). [`replay_picture`] and [`ratify_picture`] make it of
-//! what was done. [`svg_of`] says where all of it stands, and writes it.
+//! A picture is data first: columns, marks, lines and boxes ([`Picture`]). [`replay_picture`] and [`ratify_picture`]
+//! make it from what was done. [`svg_of`] lays it out, and returns it as text.
 #![tactic(auto)]
 
 mod escape;
+pub mod examples;
 mod label;
 mod layout;
 mod picture;

@@ -1,4 +1,7 @@
 //! A picture as data: a column for each process, and a mark in a row of its own for each event.
+ghost use Rattle.std.specs.Prelude.{◌≡◌, ◌<◌, ◌++◌, ◌∷◌, [], OnOk, length, nat_lt, if◌then◌else◌};
+ghost use Rattle.mb_picture.specs.Led.{AreLinesAfter, IsLastStore, loaded_by, stored_by};
+ghost use Rattle.mb_picture.specs.declared.picture.TheConstants.{MAX_ROWS};
 
 use mb_cells::NoMemory;
 use mb_deciding::Reg;
@@ -7,12 +10,10 @@ use std::alloc::Allocator;
 /// The most events that are drawn.
 pub const MAX_ROWS: usize = 200;
 
-/// What a picture is of.
+/// What a picture shows.
 #[derive(Clone, Copy)]
 pub enum Kind {
-    /// A replay.
     Replay,
-    /// A ratifier.
     Ratifier,
 }
 
@@ -62,7 +63,7 @@ pub enum Deed {
     Load(Word, Value),
     /// It stored this in the word.
     Store(Word, Value),
-    /// It found this, and stored one more in the same access.
+    /// A fetch-add: it found this, and stored one more in the same access.
     Add(Word, u64),
     /// It found `found`, and if that is 0 it stored `value` in the same access.
     Exchange { word: Word, value: u64, found: u64 },
@@ -70,10 +71,10 @@ pub enum Deed {
     Nothing,
 }
 
-/// What an event came to.
+/// The result of an event.
 #[derive(Clone, Copy)]
 pub enum Note {
-    /// Nothing that is to be told.
+    /// Nothing to be said.
     Plain,
     /// This item has a cell.
     Offer(u64),
@@ -118,7 +119,7 @@ pub enum Note {
 pub enum Tone {
     /// As any access.
     Plain,
-    /// As what led to nothing.
+    /// As an event that had no effect.
     Quiet,
     /// As a claim that is won, or a value that is decided.
     Won,
@@ -137,9 +138,9 @@ pub enum Tone {
 pub struct Mark {
     /// The number of its column.
     pub column: usize,
-    /// What it did.
+    /// What it did to a word.
     pub deed: Deed,
-    /// What it came to.
+    /// Its result.
     pub note: Note,
     /// Whether a claim begins with it.
     pub opens: bool,
@@ -150,9 +151,9 @@ pub struct Mark {
 /// A line from the row of a store to the row of a load that read it.
 #[derive(Clone, Copy)]
 pub struct Line {
-    /// The row of the store.
+    /// The row of the store, from 0.
     pub from: usize,
-    /// The row of the load.
+    /// The row of the load, from 0.
     pub to: usize,
 }
 
@@ -167,34 +168,34 @@ pub struct Frame {
     pub last: usize,
     /// Whether the claim has ended there.
     pub ended: bool,
-    /// What it came to.
+    /// Its result.
     pub tone: Tone,
 }
 
-/// What was done, to be drawn. Mark `i` stands in row `i`.
+/// What was done, as data to be drawn. Mark `i` is in row `i`.
 #[derive(Drop)]
 pub struct Picture<A: Allocator + Drop> {
-    /// Which of the two it is.
     pub kind: Kind,
-    /// What it is a picture of, in words.
     pub title: String<A>,
-    /// Whose columns there are, from the left.
+    /// Whose the columns are, from the left.
     pub columns: Vec<Who, A>,
     /// The events, in the order of time.
     pub marks: Vec<Mark, A>,
-    /// From the stores to the loads that read them.
+    /// The lines from stores to the loads that read them.
     pub lines: Vec<Line, A>,
-    /// The claims.
+    /// The boxes of the claims.
     pub frames: Vec<Frame, A>,
-    /// How many events more there are, which are not drawn.
+    /// How many further events are not drawn.
     pub hidden: usize,
-    /// The report of all events, lines of it.
+    /// The lines of the report, which is of all events.
     pub report: String<A>,
 }
 
 impl Deed {
     /// The word that it loaded.
-    pub fn loaded(self) -> Option<Word> {
+    pub fn loaded(self) -> Option<Word>
+        ensures { result ≡ loaded_by self }
+    {
         match self {
             Deed::Load(word, _) | Deed::Add(word, _) | Deed::Exchange { word, .. } => Some(word),
             Deed::Store(..) | Deed::Nothing => None,
@@ -202,7 +203,9 @@ impl Deed {
     }
 
     /// The word in which it stored.
-    pub fn stored(self) -> Option<Word> {
+    pub fn stored(self) -> Option<Word>
+        ensures { result ≡ stored_by self }
+    {
         match self {
             Deed::Store(word, _) | Deed::Add(word, _) => Some(word),
             Deed::Exchange { word, found: 0, .. } => Some(word),
@@ -228,7 +231,7 @@ impl Note {
 }
 
 impl<A: Allocator + Copy> Picture<A> {
-    /// A picture with nothing in it.
+    /// An empty picture.
     pub fn new(alloc: A, kind: Kind) -> Picture<A> {
         Picture {
             kind,
@@ -242,9 +245,15 @@ impl<A: Allocator + Copy> Picture<A> {
         }
     }
 
-    /// The mark of the next row, with the line to what it loaded and the box that it begins, goes on with or ends. If the
-    /// picture is full it is counted only.
-    pub fn push(&mut self, mark: Mark) -> Result<(), NoMemory> {
+    /// Adds the mark of the next row, with the line from the store that it read and the box that it begins, goes on
+    /// with or ends. If there are [`MAX_ROWS`] rows already, it only counts the mark. The error is that memory ran out.
+    pub fn push(&mut self, mark: Mark) -> Result<(), NoMemory>
+        ensures marks { OnOk result (self.new.marks.items
+            ≡ (if nat_lt (length self.old.marks.items) MAX_ROWS
+            then self.old.marks.items ++ mark ∷ [] else self.old.marks.items)) }
+        ensures lines { OnOk result (length self.old.marks.items < MAX_ROWS
+            → AreLinesAfter self.old.marks.items mark self.old.lines.items self.new.lines.items) }
+    {
         let row = self.marks.len();
         if row >= MAX_ROWS {
             self.hidden = self.hidden.saturating_add(1);
@@ -256,35 +265,41 @@ impl<A: Allocator + Copy> Picture<A> {
             }
         }
         self.marks.push(mark)?;
-        self.frame(row, mark)
-    }
-
-    /// The box of the mark in this row.
-    fn frame(&mut self, row: usize, mark: Mark) -> Result<(), NoMemory> {
-        if mark.opens {
-            self.frames.push(Frame {
-                column: mark.column,
-                first: row,
-                last: row,
-                ended: false,
-                tone: Tone::Plain,
-            })?;
-        }
-        for frame in &mut self.frames {
-            if frame.column == mark.column && !frame.ended {
-                frame.last = row;
-                frame.ended = mark.ends;
-                if let Tone::Won | Tone::Lost | Tone::Undecided = mark.note.tone() {
-                    frame.tone = mark.note.tone();
-                }
-            }
-        }
-        Ok(())
+        push_frame(&mut self.frames, row, mark)
     }
 }
 
+/// Begins the box of the mark in this row, or goes on with it.
+fn push_frame<A: Allocator>(
+    frames: &mut Vec<Frame, A>,
+    row: usize,
+    mark: Mark,
+) -> Result<(), NoMemory> {
+    if mark.opens {
+        frames.push(Frame {
+            column: mark.column,
+            first: row,
+            last: row,
+            ended: false,
+            tone: Tone::Plain,
+        })?;
+    }
+    for frame in frames {
+        if frame.column == mark.column && !frame.ended {
+            frame.last = row;
+            frame.ended = mark.ends;
+            if let Tone::Won | Tone::Lost | Tone::Undecided = mark.note.tone() {
+                frame.tone = mark.note.tone();
+            }
+        }
+    }
+    Ok(())
+}
+
 /// The row of the last mark that stored in this word.
-pub fn last_store(marks: &[Mark], word: Word) -> Option<usize> {
+pub fn last_store(marks: &[Mark], word: Word) -> Option<usize>
+    ensures { IsLastStore marks.now word (length marks.now) result }
+{
     let mut found = None;
     for (row, mark) in marks.iter().enumerate() {
         if mark.deed.stored() == Some(word) {

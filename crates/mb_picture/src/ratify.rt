@@ -115,6 +115,49 @@ fn push_outputs<A: Allocator + Copy>(
     Ok(())
 }
 
+/// Appends what the picture of a ratifier is of.
+fn push_title<A: Allocator>(
+    text: &mut String<A>,
+    turns: usize,
+    processes: usize,
+    values: u64,
+) -> Result<(), NoMemory> {
+    text.push_str("Ratifier: ")?;
+    push_count(text, turns as u64, "turn")?;
+    push_count(text, processes as u64, "process")?;
+    push_count(text, values, "value")
+}
+
+/// A mark for each of these entries, in the column of its process.
+fn push_marks<A: Allocator + Copy>(
+    picture: &mut Picture<A>,
+    entries: &[Entry],
+) -> Result<(), NoMemory> {
+    for entry in entries {
+        if let Some(column) = column_of(&picture.columns, process_of(*entry)) {
+            let begun = has_mark(&picture.marks, column);
+            picture.push(mark_of(column, *entry, begun))?;
+        }
+    }
+    Ok(())
+}
+
+/// Draws a trace, and appends the output of each process.
+fn draw<A: Allocator + Copy>(
+    picture: &mut Picture<A>,
+    values: u64,
+    inputs: &[u64],
+    trace: &Trace<A>,
+) -> Result<(), NoMemory> {
+    let turns = trace.entries.len();
+    let drawn = turns.min(MAX_ROWS);
+    push_title(&mut picture.title, turns, inputs.len(), values)?;
+    push_columns(picture, inputs, &trace.entries[..drawn])?;
+    push_marks(picture, &trace.entries[..drawn])?;
+    picture.hidden = turns - drawn;
+    push_outputs(picture, &trace.outputs)
+}
+
 /// The picture of the trace of a ratifier for so many values, with the output of each process.
 pub fn ratify_picture<A: Allocator + Copy>(
     alloc: A,
@@ -122,21 +165,7 @@ pub fn ratify_picture<A: Allocator + Copy>(
     inputs: &[u64],
     trace: &Trace<A>,
 ) -> Result<Picture<A>, NoMemory> {
-    let turns = trace.entries.len();
-    let drawn = turns.min(MAX_ROWS);
     let mut picture = Picture::new(alloc, Kind::Ratifier);
-    picture.title.push_str("Ratifier: ")?;
-    push_count(&mut picture.title, turns as u64, "turn")?;
-    push_count(&mut picture.title, inputs.len() as u64, "process")?;
-    push_count(&mut picture.title, values, "value")?;
-    push_columns(&mut picture, inputs, &trace.entries[..drawn])?;
-    for entry in &trace.entries[..drawn] {
-        if let Some(column) = column_of(&picture.columns, process_of(*entry)) {
-            let begun = has_mark(&picture.marks, column);
-            picture.push(mark_of(column, *entry, begun))?;
-        }
-    }
-    picture.hidden = turns - drawn;
-    push_outputs(&mut picture, &trace.outputs)?;
+    draw(&mut picture, values, inputs, trace)?;
     Ok(picture)
 }

@@ -7,7 +7,7 @@ use mb_cells::{Finish, Look, NoMemory, Offer, Push};
 use mb_claim::Stage;
 use mb_deciding::Act;
 use mb_script::{Script, report_text};
-use mb_world::{Answer, Event, World};
+use mb_world::{Answer, Event, Report, World};
 use std::alloc::Allocator;
 
 /// Who acts in a column, and what its next marks rest on.
@@ -238,21 +238,57 @@ fn draw_all<A: Allocator + Copy>(
     Ok(())
 }
 
+/// Appends what a replay is a picture of.
+fn push_title<A: Allocator + Copy>(
+    text: &mut String<A>,
+    script: &Script<A>,
+) -> Result<(), NoMemory> {
+    text.push_str("Replay: ")?;
+    push_count(text, script.events.len() as u64, "event")?;
+    push_count(text, script.setup.producers(), "producer")?;
+    push_count(text, script.setup.consumers(), "consumer")?;
+    push_count(text, script.setup.cells(), "cell")
+}
+
+/// Appends a report.
+fn push_report<A: Allocator + Copy>(
+    alloc: A,
+    text: &mut String<A>,
+    report: &Report<A>,
+) -> Result<(), NoMemory> {
+    let told = report_text(alloc, report)?;
+    push_shown(text, &told)
+}
+
+/// Draws the events, and appends the report of the world in which all of them were made.
+fn draw_and_report<A: Allocator + Copy>(
+    alloc: A,
+    picture: &mut Picture<A>,
+    world: &mut World<A>,
+    script: &Script<A>,
+) -> Result<(), NoMemory> {
+    push_title(&mut picture.title, script)?;
+    draw_all(alloc, picture, world, script)?;
+    let report = world.report(alloc)?;
+    push_report(alloc, &mut picture.report, &report)
+}
+
+/// The same in a new world.
+fn draw_anew<A: Allocator + Copy>(
+    alloc: A,
+    picture: &mut Picture<A>,
+    script: &Script<A>,
+) -> Result<(), NoMemory> {
+    let mut world = World::new(alloc, script.setup.copy())?;
+    draw_and_report(alloc, picture, &mut world, script)
+}
+
 /// The picture of a script's events in a new world, with the report of that world.
 pub fn replay_picture<A: Allocator + Copy>(
     alloc: A,
     script: &Script<A>,
 ) -> Result<Picture<A>, NoMemory> {
-    let mut world = World::new(alloc, script.setup.copy())?;
     let mut picture = Picture::new(alloc, Kind::Replay);
-    picture.title.push_str("Replay: ")?;
-    push_count(&mut picture.title, script.events.len() as u64, "event")?;
-    push_count(&mut picture.title, script.setup.producers(), "producer")?;
-    push_count(&mut picture.title, script.setup.consumers(), "consumer")?;
-    push_count(&mut picture.title, script.setup.cells(), "cell")?;
-    draw_all(alloc, &mut picture, &mut world, script)?;
-    let report = world.report(alloc)?;
-    let text = report_text(alloc, &report)?;
-    push_shown(&mut picture.report, &text)?;
+    draw_anew(alloc, &mut picture, script)?;
     Ok(picture)
 }

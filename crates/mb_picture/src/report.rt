@@ -1,4 +1,6 @@
 //! The lines of a report that are shown.
+ghost use Rattle.std.specs.Prelude.{◌≡◌, true};
+ghost use Rattle.mb_picture.specs.Diaries.{IsEmptyDiary};
 
 use mb_cells::NoMemory;
 use mb_script::split_word;
@@ -7,8 +9,11 @@ use std::alloc::Allocator;
 /// The most lines of a report that are shown.
 pub const MAX_LINES: usize = 200;
 
-/// Whether the line is that of a diary in which nothing stands.
-pub fn is_empty_diary(line: &str) -> bool {
+/// Whether the line is that of an empty diary.
+pub fn is_empty_diary(line: &str) -> bool
+    ensures only { result ≡ true → IsEmptyDiary line.now }
+    ensures each { IsEmptyDiary line.now → result ≡ true }
+{
     let (first, Some(rest)) = split_word(line) else {
         return false;
     };
@@ -19,8 +24,8 @@ pub fn is_empty_diary(line: &str) -> bool {
     first == "diary" && notes.is_none()
 }
 
-/// Appends the lines of a report, but for diaries in which nothing stands. Of those, and of lines past the first
-/// [`MAX_LINES`], it tells how many there are.
+/// Appends the lines of a report, without those of empty diaries. Then it says how many empty diaries there are, and
+/// how many lines past the first [`MAX_LINES`].
 pub fn push_shown<A: Allocator + Copy>(text: &mut String<A>, report: &str) -> Result<(), NoMemory> {
     let (mut shown, mut empty, mut more) = (0usize, 0u64, 0u64);
     for line in report.lines() {

@@ -1,6 +1,7 @@
-//! Colours and forms of a picture, in the light and in the dark.
+//! Colours and forms of a picture, for light and dark screens.
 
-/// The colours differ in lightness too, and boxes in their dashes. What an event came to stands there in words as well.
+/// Colours differ in lightness, too, and boxes in their dashes, so that nobody depends on colour. The result of an
+/// event is also there in words.
 pub const STYLE: &str = "\
 <style>
 .hz text{font:12px ui-monospace,SFMono-Regular,Menlo,Consolas,'DejaVu Sans Mono',monospace;fill:#1f2328}

@@ -6,7 +6,7 @@ mod shapes;
 use crate::escape::push_escaped;
 use crate::label::{push_deed, push_note, push_where, push_who};
 use crate::layout::{LEFT, Layout, Place, TOP, layout_of, middle};
-use crate::picture::{Deed, Mark, Picture, Tone};
+use crate::picture::{Deed, Mark, Picture, Tone, Who};
 use crate::style::STYLE;
 use legend::push_legend;
 use mb_cells::NoMemory;
@@ -16,6 +16,21 @@ use std::alloc::Allocator;
 /// How far lines of text are apart.
 const LINE: usize = 17;
 
+/// Who stands above a column.
+fn push_head<A: Allocator + Copy>(
+    alloc: A,
+    text: &mut String<A>,
+    who: Who,
+    x: usize,
+) -> Result<(), NoMemory> {
+    let mut head = String::new(alloc);
+    push_who(&mut head, who)?;
+    push_text(text, "b m", x, TOP - 24, &head)?;
+    head.clear();
+    push_where(&mut head, who)?;
+    push_text(text, "g m", x, TOP - 9, &head)
+}
+
 /// Who stands above each column.
 fn push_heads<A: Allocator + Copy>(
     alloc: A,
@@ -24,13 +39,12 @@ fn push_heads<A: Allocator + Copy>(
     layout: &Layout<A>,
 ) -> Result<(), NoMemory> {
     for (who, place) in picture.columns.iter().zip(layout.places.iter()) {
-        let x = place.left.saturating_add(place.width / 2);
-        let mut head = String::new(alloc);
-        push_who(&mut head, *who)?;
-        push_text(text, "b m", x, TOP - 24, &head)?;
-        let mut further = String::new(alloc);
-        push_where(&mut further, *who)?;
-        push_text(text, "g m", x, TOP - 9, &further)?;
+        push_head(
+            alloc,
+            text,
+            *who,
+            place.left.saturating_add(place.width / 2),
+        )?;
     }
     Ok(())
 }
@@ -56,6 +70,34 @@ fn push_rows<A: Allocator>(
     Ok(())
 }
 
+/// The word of a mark and its value, at its left, on ground of its tone.
+fn push_label<A: Allocator + Copy>(
+    alloc: A,
+    text: &mut String<A>,
+    mark: Mark,
+    place: Place,
+    y: usize,
+) -> Result<(), NoMemory> {
+    let tone = mark.note.tone();
+    let stores = mark.deed.stored().is_some();
+    push_ground(text, class_of(tone, stores), stores, place, y)?;
+    let mut label = String::new(alloc);
+    push_deed(&mut label, mark.deed)?;
+    let class = if is_dark(tone) { "d in" } else { "d" };
+    push_text(
+        text,
+        class,
+        place.left.saturating_add(6),
+        y.saturating_add(4),
+        &label,
+    )
+}
+
+/// Whether marks of this tone have a dark ground in the light, and a light one in the dark.
+fn is_dark(tone: Tone) -> bool {
+    matches!(tone, Tone::Took | Tone::Ended)
+}
+
 /// A mark: its word and value at the left, and what it came to at the right.
 fn push_mark<A: Allocator + Copy>(
     alloc: A,
@@ -64,31 +106,25 @@ fn push_mark<A: Allocator + Copy>(
     place: Place,
     row: usize,
 ) -> Result<(), NoMemory> {
-    let tone = mark.note.tone();
-    // What stands on a dark ground in the light, and on a light one in the dark.
-    let on_dark = matches!(tone, Tone::Took | Tone::Ended);
     let y = middle(row);
-    let below = y.saturating_add(4);
-    if !matches!(mark.deed, Deed::Nothing) {
-        let stores = mark.deed.stored().is_some();
-        push_ground(text, class_of(tone, stores), stores, place, y)?;
-        let mut label = String::new(alloc);
-        push_deed(&mut label, mark.deed)?;
-        let class = if on_dark { "d in" } else { "d" };
-        push_text(text, class, place.left.saturating_add(6), below, &label)?;
-    }
+    let class = match mark.deed {
+        Deed::Nothing => "g e",
+        _ => {
+            push_label(alloc, text, mark, place, y)?;
+            if is_dark(mark.note.tone()) {
+                "b e in"
+            } else {
+                "b e"
+            }
+        }
+    };
     let mut note = String::new(alloc);
     push_note(&mut note, mark.note)?;
-    if !note.is_empty() {
-        let right = place.left.saturating_add(place.width).saturating_sub(6);
-        let class = match mark.deed {
-            Deed::Nothing => "g e",
-            _ if on_dark => "b e in",
-            _ => "b e",
-        };
-        push_text(text, class, right, below, &note)?;
+    if note.is_empty() {
+        return Ok(());
     }
-    Ok(())
+    let right = place.left.saturating_add(place.width).saturating_sub(6);
+    push_text(text, class, right, y.saturating_add(4), &note)
 }
 
 /// Boxes, lines and marks, in this order, so that no line runs over a mark.
@@ -190,20 +226,50 @@ fn push_opening<A: Allocator + Copy>(
     push_text(text, "t", 12, 24, &picture.title)
 }
 
-/// The picture as SVG.
-pub fn svg_of<A: Allocator + Copy>(alloc: A, picture: &Picture<A>) -> Result<String<A>, NoMemory> {
-    let layout = layout_of(alloc, picture)?;
-    let mut body = String::new(alloc);
-    push_heads(alloc, &mut body, picture, &layout)?;
-    push_rows(&mut body, picture.marks.len(), layout.width)?;
-    push_drawn(alloc, &mut body, picture, &layout)?;
+/// The drawing, what stands below it and the legend: how high all of it is.
+fn push_body<A: Allocator + Copy>(
+    alloc: A,
+    text: &mut String<A>,
+    picture: &Picture<A>,
+    layout: &Layout<A>,
+) -> Result<usize, NoMemory> {
+    push_heads(alloc, text, picture, layout)?;
+    push_rows(text, picture.marks.len(), layout.width)?;
+    push_drawn(alloc, text, picture, layout)?;
     let below = middle(picture.marks.len()).saturating_add(10);
     let most = layout.width.saturating_sub(24).saturating_mul(4) / 29;
-    let foot = push_foot(&mut body, picture.hidden, &picture.report, most, below)?;
-    let height = push_legend(&mut body, picture.kind, foot.saturating_add(10))?;
+    let foot = push_foot(text, picture.hidden, &picture.report, most, below)?;
+    push_legend(text, picture.kind, foot.saturating_add(10))
+}
+
+/// A body of this height between what stands before it and the end.
+fn push_whole<A: Allocator + Copy>(
+    text: &mut String<A>,
+    picture: &Picture<A>,
+    width: usize,
+    height: usize,
+    body: &str,
+) -> Result<(), NoMemory> {
+    push_opening(text, picture, width, height)?;
+    text.push_str(body)?;
+    text.push_str("</svg>\n")
+}
+
+/// Appends the picture as SVG.
+fn push_svg<A: Allocator + Copy>(
+    alloc: A,
+    text: &mut String<A>,
+    picture: &Picture<A>,
+) -> Result<(), NoMemory> {
+    let layout = layout_of(alloc, picture)?;
+    let mut body = String::new(alloc);
+    let height = push_body(alloc, &mut body, picture, &layout)?;
+    push_whole(text, picture, layout.width, height, &body)
+}
+
+/// The picture as SVG.
+pub fn svg_of<A: Allocator + Copy>(alloc: A, picture: &Picture<A>) -> Result<String<A>, NoMemory> {
     let mut text = String::new(alloc);
-    push_opening(&mut text, picture, layout.width, height)?;
-    text.push_str(&body)?;
-    text.push_str("</svg>\n")?;
+    push_svg(alloc, &mut text, picture)?;
     Ok(text)
 }

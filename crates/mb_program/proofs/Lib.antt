@@ -2,7 +2,6 @@
 
 -- Scripts of the command `ratify`
 pub mod LongScripts
-pub mod Exchanges
 pub mod Nobody
 pub mod ScriptSpelling
 pub mod Told

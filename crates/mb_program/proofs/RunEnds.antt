@@ -4,7 +4,7 @@ use Rattle.std.specs.Prelude.{IsErrAnd, IsOk, MatchOption, ◌↔◌}
 use Rattle.std.specs.Io.KnownBytes.{Appends}
 use Rattle.mb_world.specs.declared.setup.Setup.{Setup}
 use Rattle.mb_world.specs.declared.setup.SetupFault.{SetupFault}
-use Rattle.mb_script.specs.Vocabulary.{AppendsFront, Meter, one_more}
+use Rattle.mb_script.specs.Vocabulary.{AppendsFront, IoModel, one_more}
 use Rattle.mb_program.specs.declared.fault.RunFault.{RunFault}
 use Rattle.mb_program.specs.declared.fault.RunFault.TheVariants.{BadSetup, NoMemory, WriteFault}
 use Rattle.mb_program.specs.declared.options.Options.{Options}
@@ -37,7 +37,7 @@ fault_behind {Y} o s e made other = λ why. (
 )
 
 -- it never comes to write
-fault_first : {X Y W : Type 0} (o : Options) (sink : Meter W) (w : W) (e : RunFault)
+fault_first : {X Y W : Type 0} (o : Options) (sink : IoModel W) (w : W) (e : RunFault)
     → e ≢ WriteFault → Refuses {Y = Y} o (Err e)
     → IsRun {X = X} o sink w w (Err e)
 fault_first {X} {Y} o sink w e other refuses = record {
@@ -58,7 +58,8 @@ from_err P (Ok x) e is here = absurd is
 from_err P (Err f) e is here = subst (λ f. P (Err f)) (sym is) here
 
 -- there is no report
-pub ends_without_report : {X Y W : Type 0} (o : Options) (sink : Meter W) (w : W) (r : Result X RunFault) (e : RunFault)
+pub ends_without_report : {X Y W : Type 0} (o : Options) (sink : IoModel W) (w : W)
+    (r : Result X RunFault) (e : RunFault)
     → IsErrAnd r (λ f. f ≡ e) → ◌≢◌ {A = Result Y RunFault} (Err e) (Err WriteFault)
     → Refuses {Y = Y} o (Err e) → IsRun o sink w w r
 ends_without_report {X} {Y} {W} o sink w r e is other refuses =
@@ -66,7 +67,7 @@ ends_without_report {X} {Y} {W} o sink w r e is other refuses =
     (fault_first {X = X} {Y = Y} o sink w e (λ same. other (ap (λ f. Err f) same)) refuses)
 
 -- there is no memory for its text
-pub ends_without_text : {X Y W : Type 0} (o : Options) (sink : Meter W) (w : W)
+pub ends_without_text : {X Y W : Type 0} (o : Options) (sink : IoModel W) (w : W)
     (r : Result X RunFault) (e : RunFault) (y : Y)
     → IsErrAnd r (λ f. f ≡ e) → e ≡ NoMemory → Refuses o (Ok y) → IsRun o sink w w r
 ends_without_text {X} {Y} {W} o sink w r e y is none refuses =
@@ -79,7 +80,7 @@ ends_without_text {X} {Y} {W} o sink w r e y is none refuses =
     ))))
 
 -- it is written
-pub ends_written : {X Y W : Type 0} (o : Options) (sink : Meter W) (w w' : W) (x : X) (y : Y)
+pub ends_written : {X Y W : Type 0} (o : Options) (sink : IoModel W) (w w' : W) (x : X) (y : Y)
     (text : List ℕ) → Refuses o (Ok y)
     → IsRunText o text → Appends (sink.bytes w) (sink.bytes w') text → sink.failures w'
     ≡ sink.failures w → IsRun o sink w w' (Ok x)
@@ -93,7 +94,7 @@ ends_written {X} o sink w w' x y text refuses is appends worked = record {
 }
 
 -- a write failed
-pub ends_half_written : {X Y W : Type 0} (o : Options) (sink : Meter W) (w w' : W)
+pub ends_half_written : {X Y W : Type 0} (o : Options) (sink : IoModel W) (w w' : W)
     (r : Result X RunFault) (e : RunFault) (y : Y) (text : List ℕ)
     → IsErrAnd r (λ f. f ≡ e) → e ≡ WriteFault → Refuses o (Ok y) → IsRunText o text
     → AppendsFront (sink.bytes w) (sink.bytes w') text → sink.failures w'

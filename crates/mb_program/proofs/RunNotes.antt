@@ -4,9 +4,9 @@ use Rattle.std.specs.List.{All}
 use Rattle.std.proofs.lemmas.Bool.{lt-ltb}
 use Rattle.std.proofs.lemmas.Option.{slice_get-get_or, slice_get-map}
 use Rattle.mb_world.specs.Report.{ReportView, notes}
-use Rattle.mb_mailbox.specs.Below.{Reader, consumer_count, consumer_part, part, taken_part}
+use Rattle.mb_mailbox.specs.Imports.{Reader, consumer_count, consumer_part, part, taken_part}
 use Rattle.mb_mailbox.specs.Gathering.{IsGathered, IsReportIn, kept_at, notes_in}
-use Rattle.mb_mailbox.specs.Hubs.{HubView, LedgerView}
+use Rattle.mb_mailbox.specs.Hubs.{HubView, ConsumerRecordView}
 use Rattle.mb_mailbox.specs.Jobs.{IsStoppedPoll}
 use Rattle.mb_mailbox.specs.Mailboxes.{MailboxView}
 use Rattle.mb_mailbox.specs.Steps.{notes_on}
@@ -40,7 +40,7 @@ stopped_at may_stop budget from (x ∷ xs) (suc c) one all at =
     subst (λ (k : ℕ). one.stopped ≡ true → IsStoppedPoll may_stop budget k (length one.reads + length one.claimed)) next
     (stopped_at may_stop budget (suc from) xs c one all.1 at)
 
-noted_at : (from : ℕ) (lanes : List LaneLeft) (p : ℕ) (l : LaneLeft) (ledger : LedgerView)
+noted_at : (from : ℕ) (lanes : List LaneLeft) (p : ℕ) (l : LaneLeft) (ledger : ConsumerRecordView)
     → HasNoteAtEach from lanes ledger → slice_get lanes p ≡ Some l
     → length (notes_on (from + p) ledger.notes) ≡ length l.put
 noted_at from [] p l ledger has at = absurd (cc)

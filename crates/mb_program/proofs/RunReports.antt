@@ -10,13 +10,13 @@ use Rattle.mb_world.specs.Headline.{IsHonest}
 use Rattle.mb_world.specs.Plan.{consumers_of, size_of}
 use Rattle.mb_world.specs.Reporting.{IsReportOf}
 use Rattle.mb_world.specs.Sound.{AreSound}
-use Rattle.mb_world.specs.Below.{PoolSize}
-use Rattle.mb_mailbox.specs.Below.{CellsName, consumer_count}
+use Rattle.mb_world.specs.Imports.{PoolSize}
+use Rattle.mb_mailbox.specs.Imports.{CellsName, consumer_count}
 use Rattle.mb_mailbox.specs.Gathering.{FullTakesAll, IsGathered, IsReportIn, count_missing, kept_at, lane_in, put_count}
 use Rattle.mb_mailbox.specs.declared.gather.GatherFault.{GatherFault}
 use Rattle.mb_mailbox.specs.declared.gather.GatherFault.TheVariants.{Missing, NoMemory}
 use Rattle.mb_mailbox.specs.declared.gate.Who.{Who}
-use Rattle.mb_mailbox.specs.declared.working.Worked.{Worked}
+use Rattle.mb_mailbox.specs.declared.crew.Worked.{Worked}
 use Rattle.mb_mailbox.specs.Hubs.{HubView, IsHubOf, hub_empty}
 use Rattle.mb_mailbox.specs.Mailboxes.{MailboxView, plan_at}
 use Rattle.mb_mailbox.specs.Jobs.{IsFront}

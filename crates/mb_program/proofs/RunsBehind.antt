@@ -4,12 +4,12 @@ use Rattle.std.specs.List.{range_with_len}
 use Rattle.std.proofs.lemmas.Simd.{map-map}
 use Rattle.rand_chacha.specs.ChaCha.{ChaCha}
 use Rattle.mb_world.specs.Report.{ReportView}
-use Rattle.mb_mailbox.specs.Below.{Stream, consumer_count}
+use Rattle.mb_mailbox.specs.Imports.{Stream, consumer_count}
 use Rattle.mb_mailbox.specs.Called.{IsCalled}
 use Rattle.mb_mailbox.specs.Gathering.{IsGathered, IsReportIn}
 use Rattle.mb_mailbox.specs.Hubs.{HubView, hub_empty}
 use Rattle.mb_mailbox.specs.Mailboxes.{MailboxView, plan_at}
-use Rattle.mb_mailbox.specs.declared.working.Worked.{Worked}
+use Rattle.mb_mailbox.specs.declared.crew.Worked.{Worked}
 use Rattle.mb_program.specs.Running.{IsRunBehind, item_lists, plan_asked, words_asked}
 use Rattle.mb_program.specs.Source.{source_from, words_from}
 use Rattle.mb_program.specs.declared.options.Options.{Options}

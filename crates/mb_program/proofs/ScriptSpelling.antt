@@ -16,7 +16,7 @@ use Rattle.mb_program.specs.declared.fault.RatifyFault.{RatifyFault}
 use Rattle.mb_program.specs.declared.fault.RatifyFault.TheVariants.{TooLong, NotAscii, BadLine, BadNumber}
 use Rattle.mb_program.specs.declared.script.RatifyScript as code
 use Rattle.mb_script.specs.declared.transfer.TheConstants.{MAX_SCRIPT_LEN}
-use Rattle.mb_script.specs.Vocabulary.{◌>>=◌, table_name, table_named, IsWord, IsWordLine, lines_of, words_of, has_empty, number_of, numbers_of}
+use Rattle.mb_script.specs.Vocabulary.{◌>>=◌, table_name, table_named, IsWord, IsWordLine, lines_of, words_in_line, has_empty, number_of, numbers_of}
 use Rattle.mb_program.specs.Steps.{Gives}
 use Rattle.mb_program.specs.RatifyScript.{Script, view, line_words, head_of, list_of, three_lines, script_of}
 use Rattle.mb_program.specs.Spelling.{HasSpelling, script_words, script_lines}
@@ -24,7 +24,7 @@ use Rattle.mb_program.specs.Spelling.{HasSpelling, script_words, script_lines}
 -- the laws of texts on which the reading stands
 pub record TextLaws : Type 0 where
   pub cut : (w : List ℕ) (ws : List (List ℕ)) → AllByRecursion IsWord (w ∷ ws)
-      → words_of (join_with_byte 32 (w ∷ ws)) ≡ w ∷ ws
+      → words_in_line (join_with_byte 32 (w ∷ ws)) ≡ w ∷ ws
   pub none_empty : (ws : List (List ℕ)) → AllByRecursion IsWord ws → has_empty ws ≡ false
   pub word : (n : ℕ) → n < 2 ^ 64 → IsWord (decimal n)
   pub words : (ns : List ℕ) → AllByRecursion (λ n. n < 2 ^ 64) ns → AllByRecursion IsWord (map decimal ns)
@@ -73,9 +73,9 @@ line_takes : (n : ℕ) (lines : List (List ℕ)) (x : List (List ℕ) × List (L
 unfolding line_words
 line_takes n [] x e = absurd (cc)
 line_takes n (line ∷ rest) x e =
-    let g = avoided (has_empty (words_of line)) (BadLine n) (Ok (words_of line, rest)) x e in
+    let g = avoided (has_empty (words_in_line line)) (BadLine n) (Ok (words_in_line line, rest)) x e in
     subst (λ (y : List (List ℕ) × List (List ℕ)). line ∷ rest ≡ join_with_byte 32 y.0 ∷ y.1)
-    (ok_is (words_of line, rest) x g.1) (ap (λ (l : List ℕ). l ∷ rest) (sym (join_with_byte-slice_split 32 line)))
+    (ok_is (words_in_line line, rest) x g.1) (ap (λ (l : List ℕ). l ∷ rest) (sym (join_with_byte-slice_split 32 line)))
 
 -- a line of words is read as these words
 line_again : TextLaws → (n : ℕ) (w : List ℕ) (ws rest : List (List ℕ)) → AllByRecursion IsWord (w ∷ ws)

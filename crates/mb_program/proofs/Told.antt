@@ -3,7 +3,7 @@ use Rattle.std.proofs.Common.{◌≡◌, ◌≢◌, inl, inr, ℕ, Bool, true, f
 use Rattle.std.specs.Prelude.{IsTrue, ◌↔◌}
 use Rattle.clap.specs.declared.error.ErrorKind.{ErrorKind}
 use Rattle.clap.specs.declared.error.ErrorKind.TheVariants.{DisplayHelp, DisplayVersion}
-use Rattle.mb_script.specs.Vocabulary.{Meter}
+use Rattle.mb_script.specs.Vocabulary.{IoModel}
 use Rattle.mb_program.specs.Program.{IsPrinted, IsTold}
 
 -- the errors are no help, by clap's own test
@@ -11,7 +11,7 @@ abbrev Decides : Bool → ErrorKind → Type 0
 Decides stderr kind = IsTrue stderr ↔ ((kind ≢ DisplayHelp) × (kind ≢ DisplayVersion))
 
 -- what is printed so ends so, under equal names
-printed_as : {D : Type 0} (sink : Meter D) (old new end : D) (text : List ℕ) (printed flag : Bool)
+printed_as : {D : Type 0} (sink : IoModel D) (old new end : D) (text : List ℕ) (printed flag : Bool)
     → end ≡ new → flag ≡ printed
     → IsPrinted sink old new text printed → IsPrinted sink old end text flag
 printed_as sink old new end text printed flag same equal wrote =
@@ -19,7 +19,7 @@ printed_as sink old new end text printed flag same equal wrote =
     (subst (λ b. IsPrinted sink old new text b) (sym equal) wrote)
 
 -- to the second writer
-pub told_errors : {W E : Type 0} (sink : Meter W) (errs : Meter E) (writer writer' : W)
+pub told_errors : {W E : Type 0} (sink : IoModel W) (errs : IoModel E) (writer writer' : W)
     (errors errors' new : E) (kind : ErrorKind)
     (stderr printed flag : Bool) (text : List ℕ) → Decides stderr kind → stderr ≡ true → writer'
     ≡ writer → errors' ≡ new → flag ≡ printed
@@ -31,7 +31,7 @@ told_errors sink errs writer writer' errors errors' new kind stderr printed flag
     )
 
 -- to the first
-pub told_output : {W E : Type 0} (sink : Meter W) (errs : Meter E) (writer writer' new : W)
+pub told_output : {W E : Type 0} (sink : IoModel W) (errs : IoModel E) (writer writer' new : W)
     (errors errors' : E) (kind : ErrorKind)
     (stderr printed flag : Bool) (text : List ℕ) → Decides stderr kind → stderr ≡ false → writer'
     ≡ new → errors' ≡ errors → flag ≡ printed
@@ -43,7 +43,7 @@ told_output sink errs writer writer' new errors errors' kind stderr printed flag
     )
 
 -- to nobody, for want of memory
-pub told_nobody : {W E : Type 0} (sink : Meter W) (errs : Meter E) (writer writer' : W)
+pub told_nobody : {W E : Type 0} (sink : IoModel W) (errs : IoModel E) (writer writer' : W)
     (errors errors' : E) (kind : ErrorKind) (flag : Bool)
     → writer' ≡ writer → errors' ≡ errors → flag ≡ false → IsTold sink errs writer writer' errors errors' kind flag
 told_nobody sink errs writer writer' errors errors' kind flag same other equal = (

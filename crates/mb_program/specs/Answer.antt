@@ -1,4 +1,4 @@
--- What a ratifier script is answered.
+-- The answer to a ratifier script, or its fault.
 use Rattle.std.specs.Prelude.{◌≡◌, ℕ, List, Option, Some, None, Result, Ok, Err, option_map}
 use Rattle.mb_quorum.specs.Tables.{table_of}
 use Rattle.mb_deciding.specs.declared.object.Out.{Out}
@@ -40,7 +40,7 @@ pub record IsAnswer (bytes text : List ℕ) : Type 0 where
   pub made : IsTraceOf script entries outputs
   pub written : text ≡ trace_text entries outputs
 
--- what the command `ratify` answers
+-- the answers and the faults of the command `ratify`
 abbrev pub ratifying : Command RatifyFault
 ratifying = record {
   too_long = TooLong;

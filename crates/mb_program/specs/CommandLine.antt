@@ -1,4 +1,4 @@
--- The command line, in clap's words.
+-- The command line, as clap describes it.
 use Rattle.std.specs.Prelude.{◌≡◌, ◌≢◌, ◌⊎◌, ℕ, ◌-◌, ◌^◌, List, [], ◌∷◌, codes, map, true, Option, Some, option_map}
 use Rattle.std.specs.Borrow.{Bor}
 use Rattle.clap.specs.Words.{App, IsAmong, Rule, Text, fault_of, new_app, new_rule, subcommand_of, with_rule, with_subcommand}
@@ -25,7 +25,7 @@ number_rule name default low high = record (new_rule name) {
 abbrev pub any_number : Text → Text → Rule
 any_number name default = number_rule name default 0 (2 ^ 64 - 1)
 
--- references to texts, as clap is handed them
+-- references to texts, as clap takes them
 abbrev pub TextsAt : Type 0
 TextsAt = Bor (List (Bor Text))
 
@@ -59,15 +59,15 @@ run_with names =
     (number_rule (codes "budget") (codes "64") 1 MAX_BUDGET)) (any_number (codes "seed") (codes "0")))
     (named_rule (codes "shape") (codes "plain") names)
 
--- the program, of which one command has to be named, and which tells its version
-abbrev pub program_alone : App
-program_alone =
+-- the program, which prints its version. One of its commands has to be named
+abbrev pub root_command : App
+root_command =
     on_top (λ top. record top { subcommand_required = true; has_version = true }) (new_app (codes "mailbox"))
 
 -- its commands: `ratify` and `replay`, which take nothing more, and `run`
 abbrev pub program_with : TextsAt → App
 program_with names =
-    with_subcommand (with_subcommand (with_subcommand program_alone (new_app (codes "ratify")).top)
+    with_subcommand (with_subcommand (with_subcommand root_command (new_app (codes "ratify")).top)
     (new_app (codes "replay")).top) (run_with names).top
 
 abbrev pub program : App
@@ -94,7 +94,7 @@ choice_name Ratify = codes "ratify"
 choice_name Replay = codes "replay"
 choice_name (Run options) = codes "run"
 
--- why clap may give no choice at these words: want of memory, one of the kinds that its rules give, or that the words name
+-- why clap may return no choice for these words: memory ran out, its rules give a fault of this kind, or the words name
 -- none of the commands
 abbrev pub IsRefusalOf : List Text → ErrorKind → Type 0
 IsRefusalOf words kind =

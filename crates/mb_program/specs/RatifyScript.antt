@@ -9,9 +9,9 @@ use Rattle.mb_program.specs.declared.fault.RatifyFault.{RatifyFault}
 use Rattle.mb_program.specs.declared.fault.RatifyFault.TheVariants.{TooLong, NotAscii, BadLine, BadNumber}
 use Rattle.mb_program.specs.declared.script.RatifyScript as code
 use Rattle.mb_script.specs.declared.transfer.TheConstants.{MAX_SCRIPT_LEN}
-use Rattle.mb_script.specs.Vocabulary.{◌>>=◌, table_named, lines_of, words_of, has_empty, number_of, numbers_of}
+use Rattle.mb_script.specs.Vocabulary.{◌>>=◌, table_named, lines_of, words_in_line, has_empty, number_of, numbers_of}
 
--- a script without where it lies in memory
+-- a script as plain data
 pub record Script : Type 0 where
   pub table : TableName
   pub values : ℕ
@@ -25,9 +25,9 @@ view s = record { table = s.table; values = s.values; inputs = s.inputs.items; t
 -- the words of line n, which is the first of these, and the lines after it
 unfoldable pub line_words : ℕ → List (List ℕ) → Result (List (List ℕ) × List (List ℕ)) RatifyFault
 line_words n [] = Err (BadLine n)
-line_words n (line ∷ rest) = if has_empty (words_of line) then Err (BadLine n) else Ok (words_of line, rest)
+line_words n (line ∷ rest) = if has_empty (words_in_line line) then Err (BadLine n) else Ok (words_in_line line, rest)
 
--- `ratify`, a table and a number
+-- the table and the number that the words of the first line say
 unfoldable pub head_of : List (List ℕ) → Result (TableName × ℕ) RatifyFault
 head_of (key ∷ name ∷ values ∷ []) =
     if bytes_eq key (codes "ratify")
@@ -35,7 +35,7 @@ head_of (key ∷ name ∷ values ∷ []) =
     else Err (BadLine 1)
 head_of words = Err (BadLine 1)
 
--- a key and numbers, on line n
+-- the numbers after the key on line n
 unfoldable pub list_of : ℕ → List ℕ → List (List ℕ) → Result (List ℕ) RatifyFault
 list_of n key [] = Err (BadLine n)
 list_of n key (word ∷ words) = if bytes_eq word key then ok_or (numbers_of words) (BadNumber n) else Err (BadLine n)

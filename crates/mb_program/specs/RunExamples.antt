@@ -4,13 +4,13 @@ use Rattle.clap.specs.Words.{Text}
 use Rattle.mb_world.specs.Plan.{Histories}
 use Rattle.mb_world.specs.Report.{ReportView}
 use Rattle.mb_world.specs.declared.report.Note.{Note}
-use Rattle.mb_script.specs.Vocabulary.{Meter, meter}
+use Rattle.mb_script.specs.Vocabulary.{IoModel, meter}
 use Rattle.mb_program.specs.Program.{IsProgramRun}
 use Rattle.mb_program.specs.declared.options.Options.{Options}
-use Rattle.mb_program.specs.declared.outcome.Ending.{Ending}
+use Rattle.mb_program.specs.declared.outcome.ProgramExit.{ProgramExit}
 
 -- ---- options
--- those of `run` alone
+-- the options of `run` if no further word is given
 abbrev pub asked : Options
 asked = record {
   producers = 2;
@@ -22,7 +22,7 @@ asked = record {
   shape = record { fast = false; last = false };
 }
 
--- `run`, and what stands after it
+-- `run`, and the words after it
 abbrev pub run_words : List Text → List Text
 run_words more = codes "mailbox" ∷ codes "run" ∷ more
 
@@ -42,11 +42,11 @@ one_item = record asked { producers = 1; consumers = 1; items = 1; pairs = 1 }
 
 -- ---- runs of the program
 -- a device that is a list of bytes, and never fails
-abbrev pub plain : Meter (List ℕ)
+abbrev pub plain : IoModel (List ℕ)
 plain = meter (λ bytes. Some bytes) (λ _. 0)
 
--- a run that found these bytes and left those, and wrote to two empty writers
-abbrev pub IsRunOver : List Text → List ℕ → List ℕ → List ℕ → List ℕ → Ending → Type 0
+-- a run whose reader had the bytes `found` before it and `left` after it, and whose two writers were empty before it
+abbrev pub IsRunOver : List Text → List ℕ → List ℕ → List ℕ → List ℕ → ProgramExit → Type 0
 IsRunOver words found left output errors end = IsProgramRun words plain plain plain found left [] output [] errors end
 
 abbrev pub ratify_words : List Text

@@ -1,4 +1,4 @@
--- What the command `run` answers.
+-- What the command `run` writes, and when it fails.
 use Rattle.std.specs.Prelude.{◌≡◌, ◌≢◌, ◌<◌, ◌≤◌, ◌⊎◌, ◌↔◌, ◌+◌, ◌-◌, ◌*◌, ◌^◌, ℕ, List, Option}
 use Rattle.std.specs.Prelude.{Some, Result, Err, IfErr, OnOk, length, map, slice_get, true}
 use Rattle.std.specs.List.{range_with_len}
@@ -11,28 +11,28 @@ use Rattle.mb_world.specs.Report.{LaneView, ReportView, notes}
 use Rattle.mb_world.specs.Reporting.{IsReportOf}
 use Rattle.mb_world.specs.Setups.{setup_refusal, shaped_plan}
 use Rattle.mb_world.specs.Sound.{AreSound}
-use Rattle.mb_script.specs.Vocabulary.{AppendsFront, Meter, one_more, report_text}
-use Rattle.mb_mailbox.specs.Below.{Reader, Stream, consumer_count, consumer_part, part}
+use Rattle.mb_script.specs.Vocabulary.{AppendsFront, IoModel, one_more, report_text}
+use Rattle.mb_mailbox.specs.Imports.{Reader, Stream, consumer_count, consumer_part, part}
 use Rattle.mb_mailbox.specs.Called.{IsCalled}
 use Rattle.mb_mailbox.specs.Gathering.{IsGathered, IsReportIn}
 use Rattle.mb_mailbox.specs.Hubs.{HubView, hub_empty}
 use Rattle.mb_mailbox.specs.Mailboxes.{MailboxView, plan_at}
-use Rattle.mb_mailbox.specs.declared.working.Worked.{Worked}
+use Rattle.mb_mailbox.specs.declared.crew.Worked.{Worked}
 use Rattle.mb_program.specs.Source.{source_from, words_from}
 use Rattle.mb_program.specs.declared.fault.RunFault.{RunFault}
 use Rattle.mb_program.specs.declared.fault.RunFault.TheVariants.{BadSetup, WriteFault}
 use Rattle.mb_program.specs.declared.options.Options.{Options}
 
 -- ---- the mailbox that the options ask for
--- why there is none, if so: it would have a cell for each item
+-- why it is refused, if it is. It has a cell for each item
 abbrev pub setup_refused : Options → Option SetupFault
 setup_refused o = setup_refusal o.producers o.consumers (o.producers * o.items) o.pairs
 
--- and if there is one, its cells have the shape that is asked for
+-- what it is made of. Its cells have the shape that is asked for
 abbrev pub plan_asked : Options → Plan
 plan_asked o = shaped_plan o.shape o.producers o.consumers (o.producers * o.items) o.pairs Bits
 
--- what a mailbox that there is has at most
+-- the limits that keep a mailbox from being refused
 pub record AreFew (o : Options) : Type 0 where
   pub producers : o.producers ≤ 16
   pub consumers : o.consumers ≤ 64
@@ -66,16 +66,17 @@ accesses_by c hs = length (part (Reader (hs.reader_of c)) hs.pool) + length (con
 abbrev pub AreOwnReaders : Histories → Type 0
 AreOwnReaders hs = (c : ℕ) → hs.reader_of c ≡ c
 
--- consumer c has a note at each of so many items of lane p; or these histories have 2^64 - 2 accesses of it, and no more than
--- so many polls of this budget make
+-- consumer c has a note at each of the `count` items of lane p. Or these histories have at least 2^64 - 2 accesses of
+-- it, and no more than 2^64 - 2 polls of this budget make
 abbrev pub HasNotedAll : ℕ → ℕ → ℕ → ℕ → Histories → ReportView → Type 0
 HasNotedAll count budget c p hs r =
     (length (notes c p r) ≡ count)
     ⊎ ((2 ^ 64 - 2 ≤ accesses_by c hs) × (accesses_by c hs ≤ budget * (2 ^ 64 - 2)))
 
--- workers that no gate stops came, in a mailbox of these options, from a hub that has issued nothing to this hub. Each call of
--- a consumer is a poll with the budget that is asked for, and draws from the consumer's own source, of the seed that is asked
--- for. The report is gathered from this hub, and these histories are all accesses that the hub has taken in
+-- the report and the histories come from one run in a mailbox of these options. Workers that no gate stops led from a
+-- hub that has issued nothing to this hub. Each call of a consumer is a poll with the budget that is asked for. It
+-- draws from the consumer's own source, of the seed that is asked for. The report is gathered from this hub, and these
+-- histories are all accesses that the hub has taken in
 pub record IsRunBehind (o : Options) (hs : Histories) (r : ReportView) : Type 0 where
   pub mailbox : MailboxView
   pub plan : plan_at mailbox ≡ plan_asked o
@@ -94,7 +95,7 @@ pub record IsRunReport (o : Options) (r : ReportView) : Type 0 where
   pub histories : Histories
   pub reader : AreOwnReaders histories
   pub sound : AreSound (plan_asked o) histories
-  -- the report is theirs, and one assignment stands behind it
+  -- the report is that of the histories, and one assignment agrees with it
   pub report : IsReportOf (plan_asked o) histories r
   pub honest : IsHonest (plan_asked o) histories r
   -- and they are those of a run with the budget and the seed that are asked for
@@ -102,24 +103,24 @@ pub record IsRunReport (o : Options) (r : ReportView) : Type 0 where
   -- each producer has put its items, and nothing else
   pub lanes : (p : ℕ) → p < o.producers
       → (l : LaneView) × (slice_get r.lanes p ≡ Some l) × IsLaneOf p o.items l
-  -- Each consumer has a note at each item of each lane, or these histories have 2^64 - 2 accesses of it, and at most the budget
-  -- times as many. They need not be those that the threads made, so of the
-  -- text alone this says nothing; of a run of `work` it is `IsWorked` that tells.
+  -- Each consumer has a note at each item of each lane, or these histories have at least 2^64 - 2 accesses of it, and
+  -- at most the budget times 2^64 - 2. They need not be those that the threads made, so this says nothing of the text
+  -- alone. For a run of `work` see `IsWorked`.
   pub noted : (c p : ℕ) → c < o.consumers → p < o.producers → HasNotedAll o.items o.budget c p histories r
 
 -- the text is that of such a report
 abbrev pub IsRunText : Options → List ℕ → Type 0
 IsRunText o text = (r : ReportView) × IsRunReport o r × (text ≡ report_text r)
 
--- ---- one call, that found a writer and left it
-pub record IsRun {X W : Type 0} (o : Options) (sink : Meter W) (writer writer' : W)
+-- ---- one call, with its writer before it and after it
+pub record IsRun {X W : Type 0} (o : Options) (sink : IoModel W) (writer writer' : W)
     (result : Result X RunFault) : Type 0 where
   -- the text of such a report was written, and nothing else
   pub answered : OnOk result ((text : List ℕ) × IsRunText o text
       × Appends (sink.bytes writer) (sink.bytes writer') text)
-  -- the setup is refused exactly where there is none, for the first reason
+  -- the setup is refused exactly if the options are out of range, for the first reason
   pub refused : (why : SetupFault) → (result ≡ Err (BadSetup why)) ↔ (setup_refused o ≡ Some why)
-  -- a failed write comes exactly where the writer failed in this call, and it failed once
+  -- a failed write comes exactly if the writer failed in this call, and it failed once
   pub write_failed : result ≡ Err WriteFault → sink.failures writer' ≡ one_more (sink.failures writer)
   pub write_worked : result ≢ Err WriteFault → sink.failures writer' ≡ sink.failures writer
   -- after it a prefix of such a text was written, after any other fault nothing

@@ -7,7 +7,7 @@ use Rattle.mb_deciding.specs.declared.trace.Entry.{Entry}
 use Rattle.mb_deciding.specs.declared.trace.Entry.TheVariants.{Access, Done}
 use Rattle.mb_script.specs.Vocabulary.{act_text}
 
--- 1 where it is decided, else 0, and the value
+-- 1 if it is decided, else 0, and then the value
 abbrev pub out_text : Out → List ℕ
 out_text out = cond out.decided (codes "1 ") (codes "0 ") ++ decimal out.value
 
@@ -23,7 +23,7 @@ abbrev pub process_text : ℕ → Option Out → List ℕ
 process_text process (Some out) = codes "process " ++ decimal process ++ codes ": " ++ out_text out ++ codes "\n"
 process_text process None = codes "process " ++ decimal process ++ codes ": none\n"
 
--- the lines of the processes from the first of these on
+-- the lines of these processes, which are numbered from `first` on
 abbrev pub processes_text : ℕ → List (Option Out) → List ℕ
 processes_text first [] = []
 processes_text first (out ∷ outputs) = process_text first out ++ processes_text (suc first) outputs

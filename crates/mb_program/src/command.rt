@@ -1,17 +1,17 @@
 //! The command line.
 ghost use Rattle.std.specs.Prelude.{◌≡◌, true, [], ◌∷◌, List, ℕ, Some, IfOk, IfErr, IfSome, OnOk, IsSome, map};
 ghost use Rattle.clap.specs.Words.{app_of, fault_of, kind_of, subcommand_name_of, subcommand_rows_of, takes};
-ghost use Rattle.mb_program.specs.CommandLine.{program, program_alone, command_in, choice_name, IsProgramApp, IsRefusalOf};
+ghost use Rattle.mb_program.specs.CommandLine.{program, root_command, command_in, choice_name, IsProgramApp, IsRefusalOf};
 ghost use Rattle.mb_program.specs.RunOptions.{HasBudget, HasOptions, HasToldOptions};
 
 use crate::help;
-use crate::options::{Options, command_named, options_of, run_command};
+use crate::options::{Options, named_subcommand, options_of, run_command};
 use clap::error::ErrorKind;
 use clap::{ArgMatches, Command, Error};
 use std::alloc::{AllocError, Global};
 use std::convert::AsStr;
 
-/// The version that `--version` tells.
+/// The version that `--version` prints.
 pub const VERSION: &str = "0.1.0";
 
 /// What a command line asks for.
@@ -25,9 +25,9 @@ pub enum Choice {
     Run(Options),
 }
 
-/// The program without its commands, of which one has to be named.
-fn program_alone<'a>(alloc: Global) -> Result<Command<'a>, AllocError>
-    ensures { IfOk result (λ c. app_of c ≡ program_alone) }
+/// The program without its commands. One command has to be named.
+fn root_command<'a>(alloc: Global) -> Result<Command<'a>, AllocError>
+    ensures { IfOk result (λ c. app_of c ≡ root_command) }
 {
     Ok(
         Command::new(alloc, "mailbox")
@@ -39,17 +39,17 @@ fn program_alone<'a>(alloc: Global) -> Result<Command<'a>, AllocError>
     )
 }
 
-/// The program in clap's words.
+/// The program with its commands, as clap describes it.
 fn program<'a>(alloc: Global) -> Result<Command<'a>, AllocError>
     ensures { IfOk result (λ c. IsProgramApp (app_of c)) }
 {
-    program_alone(alloc)?
-        .subcommand(command_named(alloc, "ratify", help::RATIFY_ABOUT, help::RATIFY))?
-        .subcommand(command_named(alloc, "replay", help::REPLAY_ABOUT, help::REPLAY))?
+    root_command(alloc)?
+        .subcommand(named_subcommand(alloc, "ratify", help::RATIFY_ABOUT, help::RATIFY))?
+        .subcommand(named_subcommand(alloc, "replay", help::REPLAY_ABOUT, help::REPLAY))?
         .subcommand(run_command(alloc)?)
 }
 
-/// The choice of the command that clap has found.
+/// The choice for the command that clap has found, or `None` if that is none of the program's.
 fn choice_of(matches: &ArgMatches) -> Option<Choice>
     ensures named { IfSome result (λ choice. subcommand_name_of matches.now
         ≡ Some (choice_name choice)) }
@@ -69,9 +69,9 @@ fn choice_of(matches: &ArgMatches) -> Option<Choice>
 
 /// Reads the command line, whose first word is the program's name.
 ///
-/// Which lines are refused, and the text that says so, is clap's. A call for help is such a refusal.
+/// Clap decides which lines are refused, and the text that says so. A call for help is such a refusal.
 pub fn command_of<'a, S: AsStr>(alloc: Global, words: &'a [S]) -> Result<Choice, Error>
-    // What is chosen is the command that the words name, and clap refuses none of them.
+    // The choice is the command that the words name, and clap refuses none of the words.
     ensures choice { IfOk result (λ choice. command_in (map S.text words.entry.now)
         ≡ Some (choice_name choice)) }
     ensures taken { OnOk result (fault_of program (map S.text words.entry.now) ≡ []) }
@@ -80,10 +80,10 @@ pub fn command_of<'a, S: AsStr>(alloc: Global, words: &'a [S]) -> Result<Choice,
     ensures options { IfOk result (HasToldOptions (map S.text words.entry.now)) }
     ensures budget { IfOk result HasBudget }
 
-    // A refusal has a kind that the words give: help comes only where they ask for it.
+    // A refusal has a kind that the words give: help comes only if they ask for it.
     ensures kinds { IfErr result (λ e. IsRefusalOf (map S.text words.entry.now) (kind_of e)) }
 
-    // Words that clap takes and that name a command are refused only for want of memory, and so is a command alone.
+    // Words that clap takes and that name a command are refused only if memory runs out. So it is with a command alone.
     ensures refused { (choice : Choice) → takes program (map S.text words.entry.now) ≡ true
         → command_in (map S.text words.entry.now) ≡ Some (choice_name choice)
         → IfErr result (λ e. kind_of e ≡ ErrorKind.OutOfMemory) }

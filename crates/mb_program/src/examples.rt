@@ -1,5 +1,5 @@
-//! The definitions by example: what they let in, and what only looks so. The functions compute nothing: their contracts
-//! are the examples. Those that are not proved by their contract alone have their proofs in `proofs/examples`.
+//! The definitions by example: what they admit, and what only looks so. The functions compute nothing: their contracts
+//! are the examples. If the prover needs help with one, its proof is in `proofs/examples`.
 ghost use Rattle.std.specs.Prelude.{◌≡◌, ◌≢◌, ℕ, ◌+◌, ◌-◌, ◌*◌, ◌<◌, ◌^◌, length, map, ◌++◌, true, false, [], ◌∷◌, codes, replicate, Some, None, Err};
 ghost use Rattle.clap.specs.Words.{fault_of, takes};
 ghost use Rattle.clap.specs.declared.error.ErrorKind.TheVariants.{DisplayHelp, InvalidValue, MissingSubcommand};
@@ -25,10 +25,10 @@ ghost use Rattle.mb_program.specs.RunExamples.{IsRunOver, nobody_script, nothing
 ghost use Rattle.mb_program.specs.RunExamples.{asked, help_words, ratify_now, ratify_words};
 ghost use Rattle.mb_program.specs.RunExamples.{report_with, run_words};
 ghost use Rattle.mb_program.specs.declared.fault.Failed.TheVariants as failed;
-ghost use Rattle.mb_program.specs.declared.outcome.Ending.TheVariants as ending;
+ghost use Rattle.mb_program.specs.declared.outcome.ProgramExit.TheVariants as ending;
 ghost use Rattle.mb_world.specs.Plan.{Histories};
 ghost use Rattle.mb_world.specs.Report.{ReportView};
-ghost use Rattle.mb_mailbox.specs.Below.{ClaimAccess, Stream, consumer_part, next_u64};
+ghost use Rattle.mb_mailbox.specs.Imports.{ClaimAccess, Stream, consumer_part, next_u64};
 ghost use Rattle.mb_mailbox.specs.Steps.{AreDrawn};
 ghost use Rattle.mb_world.specs.declared.report.Note.TheVariants.{Took, Undecided};
 ghost use Rattle.mb_program.specs.Source.{seed_bytes, source_from, words_from};
@@ -63,7 +63,7 @@ pub fn numbers_are_words()
     }) → ⊥ }
 {}
 
-/// A script has at most so many bytes.
+/// The most bytes that a script may have.
 pub fn scripts_have_a_limit()
     ensures { MAX_SCRIPT_LEN ≡ 1048576 }
 {}
@@ -77,7 +77,7 @@ pub fn answers_fit_their_script()
     ensures bad_values { IsAnswer (codes "ratify unary 0\ninputs\nturns\n") [] → ⊥ }
 {}
 
-/// Want of memory and what devices do are no faults of a script.
+/// Running out of memory and failures of devices are no faults of a script.
 pub fn faults_lie_in_the_script()
     ensures line { LiesIn ratifying (BadLine 2) }
     ensures memory { LiesIn ratifying NoMemory → ⊥ }
@@ -85,7 +85,7 @@ pub fn faults_lie_in_the_script()
     ensures write { LiesIn ratifying WriteFault → ⊥ }
 {}
 
-/// A call that reads gives what was to be read, or wants memory, and gives no fault of a device.
+/// A call that reads gives what was to be read, or runs out of memory. It gives no fault of a device.
 pub fn reading_gives_what_is_there()
     ensures same { Gives (λ (n : ℕ). n) (Err TooLong) (Err TooLong) }
     ensures no_memory { Gives (λ (n : ℕ). n) (Err NoMemory) (Err TooLong) }
@@ -93,7 +93,7 @@ pub fn reading_gives_what_is_there()
     ensures device { Gives (λ (n : ℕ). n) (Err ReadFault) (Err ReadFault) → ⊥ }
 {}
 
-/// One command has to be named, and takes no word more.
+/// One command has to be named, and `ratify` takes no further word.
 pub fn one_command_is_named()
     ensures named { command_in (codes "mailbox" ∷ codes "ratify" ∷ []) ≡ Some (codes "ratify") }
     ensures not_named { command_in (codes "mailbox" ∷ []) ≡ None }
@@ -161,8 +161,8 @@ pub fn sources_have_their_seeds()
     ensures stream { (source_from 258 3).stream ≡ 3 }
 {}
 
-/// A consumer of a run has a note at each item, or the histories have many accesses of it; and it reads as the reader of its
-/// own number.
+/// A consumer of a run has a note at each item, or the histories have many accesses of it. It is the reader of its own
+/// number.
 pub fn consumers_note_all_items()
     ensures noted { HasNotedAll 1 64 0 0 nothing_done (report_with (Took 0 ∷ []) []) }
     ensures undecided { HasNotedAll 1 64 0 0 nothing_done (report_with (Undecided ∷ []) (0 ∷ [])) }
@@ -172,7 +172,7 @@ pub fn consumers_note_all_items()
     ensures own { AreOwnReaders nothing_done }
     ensures one_reader_for_all { AreOwnReaders (record nothing_done { reader_of = λ _. 0 }) → ⊥ }
 
-    // Of a whole report: behind one without a note the histories are long.
+    // For a whole report: if a note is missing, the histories are long.
     ensures short_run { (x : IsRunReport one_item (report_with [] (0 ∷ [])))
         → length x.histories.pool + length x.histories.claims < 2 ^ 64 - 2 → ⊥ }
 {}

@@ -1,4 +1,4 @@
-//! What can go wrong.
+//! What can go wrong in the commands, besides the faults of a replay.
 ghost use Rattle.std.specs.Prelude.{◌≡◌};
 ghost use Rattle.mb_program.specs.declared.fault.RatifyFault.TheVariants.{NoMemory, WriteFault};
 ghost use Rattle.mb_program.specs.declared.fault.RunFault.TheVariants as run;
@@ -23,13 +23,13 @@ pub enum RatifyFault {
     BadValues,
     /// The input at this place, counted from 0, is not below the number of values. It is the first such.
     BadInput(usize),
-    /// The turn at this place, counted from 0, is of no process. It is the first such.
+    /// The turn at this place, counted from 0, names no process. It is the first such.
     NoSuchProcess(usize),
-    /// A growth was refused.
+    /// Memory ran out.
     NoMemory,
-    /// A read answered an error.
+    /// A read returned an error.
     ReadFault,
-    /// A write answered an error, or took no byte.
+    /// A write returned an error, or took no byte.
     WriteFault,
 }
 
@@ -85,13 +85,13 @@ impl From<WriteFailed> for RatifyFault {
 /// Why `run_threads` stopped.
 #[derive(Clone, Copy, Debug, PartialEq, Eq)]
 pub enum RunFault {
-    /// The options ask for a mailbox that there is not.
+    /// The options ask for a setup that is refused.
     BadSetup(SetupFault),
-    /// A growth was refused.
+    /// Memory ran out.
     NoMemory,
     /// A thread could not be started.
     NoThread,
-    /// A write answered an error, or took no byte.
+    /// A write returned an error, or took no byte.
     WriteFault,
 }
 
@@ -127,16 +127,16 @@ impl From<WriteFailed> for RunFault {
     }
 }
 
-/// Want of memory: a growth was refused.
+/// Memory ran out.
 pub type NoMemory = AllocError;
 
 /// Which command failed, and why.
 #[derive(Clone, Copy, Debug, PartialEq, Eq)]
 pub enum Failed {
-    /// `ratify`, by this fault.
+    /// `ratify` failed with this fault.
     Ratify(RatifyFault),
-    /// `replay`, by this fault.
+    /// `replay` failed with this fault.
     Replay(Fault),
-    /// `run`, by this fault.
+    /// `run` failed with this fault.
     Run(RunFault),
 }

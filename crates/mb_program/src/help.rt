@@ -1,5 +1,5 @@
-//! What the help of each command says behind its options: the grammar of its script, or how to read what it prints,
-//! and an example.
+//! What the help of each command says after its options: the grammar of its script, or how to read what it prints, and
+//! an example.
 
 /// What the help of the whole program says at its end.
 pub(crate) const PROGRAM: &str = "\
@@ -9,7 +9,7 @@ Each command has a help of its own, as `mailbox run --help`.";
 pub(crate) const RATIFY_ABOUT: &str =
     "Runs one ratifier by a script from standard input, and prints each access and output";
 
-/// What the help of `ratify` says behind that.
+/// What the help of `ratify` says after that.
 pub(crate) const RATIFY: &str = "\
 A script has three lines of words, with one space between each two:
   ratify <table> <m>      the quorum table, unary, bits or middle, for m values, 1 to 64
@@ -25,7 +25,7 @@ For example:
 pub(crate) const REPLAY_ABOUT: &str =
     "Replays a script from standard input, and prints each event's answer and the report";
 
-/// What the help of `replay` says behind that.
+/// What the help of `replay` says after that.
 pub(crate) const REPLAY: &str = "\
 A script is lines of words, with one space between each two. The first is
   setup <producers> <consumers> <cells> <pairs> <table> <shape>
@@ -43,7 +43,7 @@ For example:
 pub(crate) const RUN_ABOUT: &str =
     "Lets producers and consumers work in threads, and prints the report of what they did";
 
-/// What the help of `run` says behind its options.
+/// What the help of `run` says after its options.
 pub(crate) const RUN: &str = "\
 Producer p puts the items 1000 * p, 1000 * p + 1 and so on into lane p, and ends it. Each consumer polls the
 lanes in turn until all have ended. All threads go on at once, so who takes what differs from run to run. There is

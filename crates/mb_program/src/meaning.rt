@@ -1,4 +1,4 @@
-//! What a fault means, in words for a person. A program that reads the faults reads `fault_text`, whose format is fixed.
+//! What a fault means, in words for a person. A program reads `fault_text` instead, whose format is fixed.
 use crate::fault::{Failed, NoMemory, RatifyFault, RunFault};
 use mb_script::Fault;
 use mb_world::SetupFault;
@@ -91,7 +91,8 @@ fn of_run(fault: RunFault) -> &'static str {
 
 /// What the fault means, in one line with its LF, for a person at a terminal.
 ///
-/// It says where the fault lies, if it lies in a script, and what stands there in a good one.
+/// If the fault lies in a script, the line says where, and what a good script has there. The error comes if memory runs
+/// out.
 pub fn explanation<A: Allocator>(alloc: A, failed: &Failed) -> Result<String<A>, NoMemory> {
     let (place, words) = match *failed {
         Failed::Ratify(fault) => of_ratify(fault),

@@ -34,7 +34,7 @@ pub struct Options {
 /// The largest budget that a command line can ask for. The least is 1.
 pub const MAX_BUDGET: u64 = 1_000_000;
 
-/// What `run` does where the command line says nothing.
+/// The options of `run` if the command line gives none.
 pub const DEFAULTS: Options = Options {
     producers: 2,
     consumers: 2,
@@ -49,7 +49,7 @@ pub const DEFAULTS: Options = Options {
 const SHAPES: &[&str] = &["plain", "fast", "last", "fastlast"];
 
 /// A command without options.
-pub(crate) fn command_named<'a>(
+pub(crate) fn named_subcommand<'a>(
     alloc: Global,
     name: &'a str,
     about: &'a str,
@@ -110,12 +110,12 @@ fn named<'a>(
         .default_value(default)
 }
 
-/// The command `run` in clap's words.
+/// The command `run`, as clap describes it.
 pub(crate) fn run_command<'a>(alloc: Global) -> Result<Command<'a>, AllocError>
     ensures app { IfOk result (λ c. IsRunApp (app_of c)) }
     ensures local { IfOk result (λ c. (fields_of c).has_globals ≡ false) }
 {
-    command_named(alloc, "run", help::RUN_ABOUT, help::RUN)
+    named_subcommand(alloc, "run", help::RUN_ABOUT, help::RUN)
         .arg(any_number(
             alloc,
             "producers",
@@ -163,14 +163,14 @@ pub(crate) fn run_command<'a>(alloc: Global) -> Result<Command<'a>, AllocError>
         ))
 }
 
-/// The number of an option; `default` where there is none.
+/// The number of an option, or `default` if it is not given.
 fn number_given(given: &ArgMatches, name: &str, default: u64) -> u64
     ensures { result ≡ number_in name.now default (rows_of (found_of given.now)) }
 {
     given.get_one::<u64>(name).unwrap_or(default)
 }
 
-/// The budget, which clap gives in its range alone.
+/// The budget. Clap takes only numbers in its range, but no clause here says so: hence the check.
 fn budget_given(given: &ArgMatches) -> u64
     ensures number { result ≡ budget_in (rows_of (found_of given.now)) }
     ensures range { (1 ≤ result) × (result ≤ MAX_BUDGET) }
@@ -182,7 +182,7 @@ fn budget_given(given: &ArgMatches) -> u64
     budget
 }
 
-/// The shape that the option names: pairs alone for `plain`, and if there is none.
+/// The shape that the option names. It is pairs alone for `plain`, and if the option is not given.
 fn shape_given(given: &ArgMatches) -> Shape
     ensures { result ≡ shape_in (rows_of (found_of given.now)) }
 {

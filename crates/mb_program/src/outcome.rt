@@ -9,28 +9,29 @@ use mb_script::Fault;
 use mb_world::SetupFault;
 use std::alloc::Allocator;
 
-/// The status where all went well, and after help that was asked for.
+/// The status if all went well, and after help or a version that was asked for and printed.
 pub const DONE: u8 = 0;
 
 /// The status after a fault of the script or of the options, or a command line that is refused.
 pub const REFUSED: u8 = 2;
 
-/// The status after want of memory, a thread that could not be started, or a failed read or write.
+/// The status if memory ran out, a thread could not be started, a read or write failed, or the command line could not
+/// be had.
 pub const FAILED: u8 = 3;
 
-/// How the program comes to its end.
+/// How the program ends.
 #[derive(Clone, Copy, Debug, PartialEq, Eq)]
-pub enum Ending {
+pub enum ProgramExit {
     /// The command did what was asked.
     Done,
     /// The command failed.
     Failed(Failed),
     /// Clap did not read the command line, for a reason of this kind. Its text was printed, or it could not be.
     Refused { kind: ErrorKind, printed: bool },
-    /// A word of the command line is no UTF-8.
-    NoText,
+    /// A word of the command line is not UTF-8.
+    NonUtf8Args,
     /// The words of the command line could not be had.
-    NoWords,
+    ArgsUnavailable,
 }
 
 fn push_setup_fault<A: Allocator>(text: &mut String<A>, fault: SetupFault) -> Result<(), NoMemory>
@@ -106,8 +107,9 @@ fn run_fault_text<A: Allocator>(alloc: A, fault: RunFault) -> Result<String<A>, 
     Ok(text)
 }
 
-/// The line of a fault, with its LF: `fault`, the fault's number and name, and what it is about, if anything: the number
-/// of a line or a place, and behind the line of a setup the number and name of the setup's fault.
+/// The line of a fault, with its LF: `fault`, the fault's number and name, and the number of the line or place that it
+/// is about, if there is one. A fault of a setup has then the number and name of the setup's fault. The error comes if
+/// memory runs out.
 pub fn fault_text<A: Allocator>(alloc: A, failed: &Failed) -> Result<String<A>, NoMemory>
     ensures { IfOk result (λ text. string_bytes text ≡ fault_line failed.now) }
 {
@@ -118,8 +120,8 @@ pub fn fault_text<A: Allocator>(alloc: A, failed: &Failed) -> Result<String<A>, 
     }
 }
 
-/// The exit status of a fault: `FAILED` for want of memory, for a thread that could not be started and for a failed read
-/// or write, else `REFUSED`.
+/// The exit status of a fault: `FAILED` if memory ran out, a thread could not be started, or a read or write failed,
+/// else `REFUSED`.
 pub fn status_of(failed: &Failed) -> u8
     ensures { result ≡ fault_status failed.now }
 {
@@ -143,17 +145,17 @@ fn status_of_refusal(kind: ErrorKind, printed: bool) -> u8
     }
 }
 
-/// The exit status of the program: `DONE` where the command did what was asked, and after help that was asked for and
-/// printed; `FAILED` for help that could not be printed, for want of memory, for a thread that could not be started, and
-/// for a failed read or write; else `REFUSED`.
-pub fn status_of_ending(ending: &Ending) -> u8
+/// The exit status of the program. It is `DONE` if the command did what was asked, and after help or a version that was
+/// asked for and printed. It is `FAILED` if these could not be printed, memory ran out, or a thread could not be
+/// started. It is `FAILED` too if a read or write failed, or the command line could not be had. Else it is `REFUSED`.
+pub fn status_of_ending(ending: &ProgramExit) -> u8
     ensures { result ≡ end_status ending.now }
 {
     match ending {
-        Ending::Done => DONE,
-        Ending::Failed(failed) => status_of(failed),
-        Ending::Refused { kind, printed } => status_of_refusal(*kind, *printed),
-        Ending::NoText => REFUSED,
-        Ending::NoWords => FAILED,
+        ProgramExit::Done => DONE,
+        ProgramExit::Failed(failed) => status_of(failed),
+        ProgramExit::Refused { kind, printed } => status_of_refusal(*kind, *printed),
+        ProgramExit::NonUtf8Args => REFUSED,
+        ProgramExit::ArgsUnavailable => FAILED,
     }
 }

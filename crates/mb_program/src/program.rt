@@ -7,47 +7,48 @@ ghost use Rattle.mb_script.specs.Vocabulary.{CountGrowsUpTo, meter};
 ghost use Rattle.mb_program.specs.Outcome.{fault_line};
 ghost use Rattle.mb_program.specs.Program.{IsPrinted, IsProgramRun, IsTold, WasCarriedOut, ended_by};
 ghost use Rattle.mb_program.specs.RunOptions.{HasBudget};
-ghost use Rattle.mb_program.specs.declared.outcome.Ending.TheVariants as ending;
+ghost use Rattle.mb_program.specs.declared.outcome.ProgramExit.TheVariants as ending;
 
 use crate::command::{Choice, command_of};
 use crate::fault::Failed;
-use crate::outcome::{Ending, fault_text};
+use crate::outcome::{ProgramExit, fault_text};
 use crate::ratify::ratify_text;
 use crate::run::run_threads;
-use mb_script::{Sink, Source, write_all};
+use mb_script::{CountedRead, CountedWrite, write_all};
 use std::convert::AsStr;
 use std::sync::Wait;
 use std::thread::Threads;
 
 /// Does what the words of the command line ask for, from `reader` to `writer`.
 ///
-/// The line of a fault goes to `errors`, and so does why clap refuses the words; help that was asked for goes to `writer`.
-/// `words` begin with the program's name. The answer is how the program ends: `Done`, `Failed` or `Refused`.
-pub fn run<R: AllocGlobal + Threads + Wait + Sync, S: AsStr, I: Source, O: Sink, E: Sink>(
-    rt: &R,
-    words: &[S],
-    reader: &mut I,
-    writer: &mut O,
-    errors: &mut E,
-) -> Ending
+/// The line of a fault goes to `errors`, and so does the reason why clap refuses the words. Help that was asked for
+/// goes to `writer`. `words` begin with the program's name. Returns how the program ends: `Done`, `Failed` or
+/// `Refused`.
+pub fn run<
+    R: AllocGlobal + Threads + Wait + Sync,
+    S: AsStr,
+    I: CountedRead,
+    O: CountedWrite,
+    E: CountedWrite,
+>(rt: &R, words: &[S], reader: &mut I, writer: &mut O, errors: &mut E) -> ProgramExit
     ensures done { IsProgramRun (map S.text words.now) (meter I.left I.failures)
         (meter O.held O.failures) (meter E.held E.failures)
         reader.old reader.new writer.old writer.new errors.old errors.new result }
 
-    // Of every reader, also of one whose bytes are not known, as those of standard input are not.
+    // For every reader, also for one whose bytes are not known, such as standard input.
     ensures given { CountGrowsUpTo (MAX_SCRIPT_LEN + 1) (I.given reader.old) (I.given reader.new) }
 {
     match command_of(rt.alloc(), words) {
         Ok(choice) => match carry_out(rt, choice, reader, writer) {
-            Ok(()) => Ending::Done,
+            Ok(()) => ProgramExit::Done,
             Err(failed) => end_with_fault(rt, failed, errors),
         },
         Err(error) => end_with_refusal(rt, &error, writer, errors),
     }
 }
 
-/// Does what was chosen.
-fn carry_out<R: AllocGlobal + Threads + Wait + Sync, I: Source, O: Sink>(
+/// Runs the command that was chosen. `run` does not read from `reader`.
+fn carry_out<R: AllocGlobal + Threads + Wait + Sync, I: CountedRead, O: CountedWrite>(
     rt: &R,
     choice: Choice,
     reader: &mut I,
@@ -67,8 +68,12 @@ fn carry_out<R: AllocGlobal + Threads + Wait + Sync, I: Source, O: Sink>(
     }
 }
 
-/// Writes the line of a fault, where there is memory for it.
-fn end_with_fault<R: AllocGlobal, E: Sink>(rt: &R, failed: Failed, errors: &mut E) -> Ending
+/// Writes the line of a fault, if there is memory for it.
+fn end_with_fault<R: AllocGlobal, E: CountedWrite>(
+    rt: &R,
+    failed: Failed,
+    errors: &mut E,
+) -> ProgramExit
     ensures ending { result ≡ ending.Failed failed }
     ensures line { (whole : Bool)
         × IsPrinted (meter E.held E.failures) errors.old errors.new (fault_line failed) whole }
@@ -76,16 +81,16 @@ fn end_with_fault<R: AllocGlobal, E: Sink>(rt: &R, failed: Failed, errors: &mut 
     if let Ok(text) = fault_text(rt.alloc(), &failed) {
         let _whole = print(errors, text.as_bytes());
     }
-    Ending::Failed(failed)
+    ProgramExit::Failed(failed)
 }
 
-/// Writes clap's help to `writer`, or its refusal to `errors`, where there is memory for it.
-fn end_with_refusal<R: AllocGlobal, O: Sink, E: Sink>(
+/// Writes clap's help to `writer`, or its refusal to `errors`, if there is memory for it.
+fn end_with_refusal<R: AllocGlobal, O: CountedWrite, E: CountedWrite>(
     rt: &R,
     error: &clap::Error,
     writer: &mut O,
     errors: &mut E,
-) -> Ending
+) -> ProgramExit
     ensures { (printed : Bool) × (result ≡ ending.Refused (kind_of error.now) printed)
         × IsTold (meter O.held O.failures) (meter E.held E.failures)
         writer.old writer.new errors.old errors.new (kind_of error.now) printed }
@@ -95,14 +100,14 @@ fn end_with_refusal<R: AllocGlobal, O: Sink, E: Sink>(
         Ok(text) => print(writer, text.as_bytes()),
         Err(_) => false,
     };
-    Ending::Refused {
+    ProgramExit::Refused {
         kind: error.kind(),
         printed,
     }
 }
 
-/// Writes the text: whether the whole of it was written.
-fn print<W: Sink>(writer: &mut W, text: &[u8]) -> bool
+/// Writes the text. Returns whether all of it was written.
+fn print<W: CountedWrite>(writer: &mut W, text: &[u8]) -> bool
     ensures { IsPrinted (meter W.held W.failures) writer.old writer.new text.now result }
 {
     write_all(writer, text).is_ok()

@@ -4,7 +4,7 @@ ghost use Rattle.std.specs.List.{range_with_len};
 ghost use Rattle.mb_script.specs.Vocabulary.{meter};
 ghost use Rattle.mb_world.specs.Setups.{plan_in};
 ghost use Rattle.mb_mailbox.specs.Worked.{lists_in};
-ghost use Rattle.mb_mailbox.specs.declared.working.WorkFault.TheVariants as work;
+ghost use Rattle.mb_mailbox.specs.declared.crew.WorkFault.TheVariants as work;
 ghost use Rattle.mb_program.specs.declared.fault.RunFault.TheVariants as run;
 ghost use Rattle.mb_program.specs.declared.fault.RunFault.TheVariants.{BadSetup, WriteFault};
 ghost use Rattle.mb_program.specs.Running.{AreFew, IsRun, IsRunReport, item_lists, items_of};
@@ -16,20 +16,21 @@ use crate::options::Options;
 use crate::source::source_of;
 use mb_mailbox::{GatherFault, Mailbox, OpenGate, WorkFault, work};
 use mb_quorum::TableName;
-use mb_script::{Sink, report_text, write_all};
+use mb_script::{CountedWrite, report_text, write_all};
 use mb_world::{Report, Setup, SetupFault};
 use rand_chacha::ChaCha8Rng;
 use std::alloc::{AllocError, Allocator};
 use std::sync::Wait;
 use std::thread::Threads;
 
-/// The setup that the options ask for: a cell for each item, of the shape that is asked for, over the quorum table of bits.
+/// The setup that the options ask for: a cell for each item, of the shape that they ask for, over the quorum table of
+/// bits.
 fn setup_of(options: Options) -> Result<Setup, SetupFault>
     ensures refused { MatchOption (setup_refused options) (IsOk result) (λ why. result ≡ Err why) }
     ensures made { IfOk result (λ setup. plan_in setup ≡ plan_asked options) }
     ensures few { OnOk result (AreFew options) }
 {
-    // A product past the range of numbers is refused as the largest number is.
+    // A product past 2^64 - 1 is refused too, as every number of cells above 256 is.
     let cells = options.producers.saturating_mul(options.items);
     let setup = Setup::new(
         options.producers,
@@ -53,7 +54,7 @@ fn item_list<A: Allocator + Drop>(alloc: A, p: u64, items: u64) -> Result<Vec<u6
     Ok(list)
 }
 
-/// The items of each producer.
+/// The items of all producers, one list for each.
 fn item_lists<A: Allocator + Copy + Drop>(
     alloc: A,
     producers: u64,
@@ -70,7 +71,7 @@ fn item_lists<A: Allocator + Copy + Drop>(
     Ok(lists)
 }
 
-/// The source of each consumer.
+/// The sources of all consumers, one for each.
 fn sources<A: Allocator + Drop>(
     alloc: A,
     seed: u64,
@@ -88,7 +89,7 @@ fn sources<A: Allocator + Drop>(
     Ok(rngs)
 }
 
-/// What the workers of a run are handed.
+/// What the workers of a run get.
 #[derive(Drop)]
 pub struct Workload<A: Allocator + Drop> {
     /// The items of each producer, in the order in which it puts them.
@@ -99,7 +100,7 @@ pub struct Workload<A: Allocator + Drop> {
     pub rngs: Vec<ChaCha8Rng, A>,
 }
 
-/// What the workers of these options are handed: `run_threads` hands it to `work`.
+/// What the workers get under these options. `run_threads` passes it to `work`.
 pub fn workload_of<A: Allocator + Copy + Drop>(
     alloc: A,
     options: Options,
@@ -122,7 +123,8 @@ pub fn workload_of<A: Allocator + Copy + Drop>(
     })
 }
 
-/// The fault of workers for whom there are numbers, and a budget.
+/// The fault of `run` for a fault of `work`. The hub has numbers for all workers and the budget is not 0, so two of the
+/// faults do not come.
 pub fn fault_of_work(fault: WorkFault) -> RunFault
     requires numbers { fault ≢ work.AllGiven }
     requires budget { fault ≢ work.BadBudget }
@@ -172,17 +174,16 @@ fn report_of<A: Allocator + Copy + Drop + Send + Sync, T: Threads + Wait + Sync>
 
 /// Lets producers and consumers work in threads, one for each, and writes the report of what they did and nothing else.
 ///
-/// Producer `p` puts `1000 * p + i` for `i` from 0 below the number of items, and ends its lane; the consumers poll until
-/// all lanes have ended, each with the random words of its [`source_of`]. There is a cell for each item, and a number of
-/// cells past 2^64 - 1 is refused as every one above 256 is.
+/// Producer `p` puts `1000 * p + i` for each `i` below the number of items, and ends its lane. The consumers poll until
+/// all lanes have ended, each with the random words of its [`source_of`]. There is a cell for each item. More than 256
+/// cells are refused, also if their number is past 2^64 - 1.
 ///
-/// The whole text is made before the first write, and no failed write is tried again.
-pub fn run_threads<A: Allocator + Copy + Drop + Send + Sync, T: Threads + Wait + Sync, W: Sink>(
-    alloc: A,
-    rt: &T,
-    options: Options,
-    writer: &mut W,
-) -> Result<(), RunFault>
+/// The whole text is made before the first write. No failed write is tried again.
+pub fn run_threads<
+    A: Allocator + Copy + Drop + Send + Sync,
+    T: Threads + Wait + Sync,
+    W: CountedWrite,
+>(alloc: A, rt: &T, options: Options, writer: &mut W) -> Result<(), RunFault>
     requires budget { 1 ≤ options.budget }
     ensures { IsRun options (meter W.held W.failures) writer.old writer.new result }
 {

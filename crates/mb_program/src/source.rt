@@ -5,8 +5,8 @@ ghost use Rattle.mb_program.specs.Source.{source_from};
 use rand_chacha::ChaCha8Rng;
 use rand_core::SeedableRng;
 
-/// The source of this consumer: the generator of the seed's eight bytes, the lowest first, and 24 zeros, at the stream of
-/// the consumer's number.
+/// The source of this consumer. It is the generator of the seed's eight bytes, the lowest first, and 24 zeros. Its
+/// stream has the consumer's number.
 pub fn source_of(seed: u64, consumer: u32) -> ChaCha8Rng
     ensures { result ≡ source_from seed consumer }
 {

@@ -21,7 +21,7 @@ apart m v w one r in_write in_read =
     let bit : bit_at v written.0 ≡ bit_at w seen.0 = ap₂ bit_at one place in
     omega (arith, place, bit, written.2, seen.2, there)
 
--- where the quorums of two values share no register, the values have the same bits
+-- if the quorums of two values share no register, the values have the same bits
 same_bit :
     (m v w i : ℕ) → i < width_of m → AreDisjoint ((bits_table m).write v) ((bits_table m).read w)
     → bit_at v i ≡ bit_at w i
@@ -43,7 +43,7 @@ meet m v w written seen disjoint =
     same_from_bits_below (width_of m) v w (omega (arith, enough, written)) (omega (arith, enough, seen))
     (λ i within. same_bit m v w i within disjoint)
 
--- the bit table of so many values, as long as that is not too many
+-- the bit table of m values is a quorum table, if m is at most `MAX_VALUES`
 pub bits_lawful : (m : ℕ) → m ≤ MAX_VALUES → IsQuorumTable (bits_table m)
 bits_lawful m most =
     let narrow : width_of m ≤ 6 = (width_is_least m).least 6 (omega (arith, most)) in

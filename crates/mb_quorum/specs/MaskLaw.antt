@@ -1,4 +1,4 @@
--- What registers a mask holds.
+-- Which registers a mask holds.
 use Rattle.std.proofs.Common.{◌≡◌, ℕ, zero, suc, ◌^◌, ◌<◌, ◌↔◌, sym, subst, inl, inr, arith}
 use Rattle.std.specs.Int.{bit_at}
 use Rattle.std.proofs.Math.Pow.{pow-lt, pow_pos}
@@ -38,7 +38,7 @@ mask_of-only register (suc n) r member =
           (found.0, omega (arith, found.1), found.2))
     ]
 
--- a mask is small where each register is
+-- if each register is below k, the mask is below 2 ^ k
 pub mask_of-lt :
     (register : ℕ → ℕ) (n k : ℕ) → ((i : ℕ) → i < n → register i < k) → mask_of register n < 2 ^ k
 mask_of-lt register zero k each = pow_pos k

@@ -52,7 +52,7 @@ last_in n x small =
     let same : n - n ≡ 0 = omega arith in
     ap (λ k. bit_at k n) shape ∙ bit_at_cat_high 1 n x n small (omega arith) ∙ ap (bit_at 1) same ∙ bit_at_lowest 1
 
--- another register is in it exactly if it is in the rest
+-- another register is in it exactly if it is in the rest of the set
 other_in : (n x r : ℕ) → r < n → bit_at (2 ^ n + x) r ≡ bit_at x r
 other_in n x r below =
     let shape : 2 ^ n + x ≡ 1 * 2 ^ n + x = omega arith in
@@ -63,7 +63,7 @@ other_in n x r below =
 abbrev IsWithin : ℕ → ℕ → Type 0
 IsWithin a b = (r : ℕ) → IsMember a r → IsMember b r
 
--- if the last register is in neither or in both, the rests lie within each other
+-- if each register of x below n is in y, x lies within y
 rests_within :
     (n x y : ℕ) → x < 2 ^ n → y < 2 ^ n → ((r : ℕ) → r < n → IsMember x r → IsMember y r) → IsWithin x y
 rests_within n x y small little within r member =
@@ -151,7 +151,7 @@ one_within (suc n) (suc a) (suc b) v w written seen within =
     ]
 
 -- ---- the registers that are not in a set
--- of the numbers below a power, the complement has the other bits
+-- the complement of a number below a power has the opposite bits
 pub others_have : (k n i : ℕ) → n < 2 ^ k → i < k → bit_at (2 ^ k - 1 - n) i ≡ 1 - bit_at n i
 others_have zero n i fits within = absurd (omega (arith, within))
 others_have (suc k) n zero fits within =
@@ -163,12 +163,12 @@ others_have (suc k) n (suc i) fits within =
     ∙ ap (λ d. 1 - d) (sym (bit_at-suc n i))
 
 -- ---- how many registers
--- one register more, and no fewer sets
+-- one register more gives no fewer sets
 more_sets : (n h : ℕ) → choose n h ≤ choose (suc n) h
 more_sets n zero = omega arith
 more_sets n (suc h) = omega arith
 
--- one more in the set, too
+-- one register more, with one more in the set, gives no fewer sets
 more_in_sets : (n h : ℕ) → choose n h ≤ choose (suc n) (suc h)
 more_in_sets n h = omega arith
 
@@ -190,13 +190,13 @@ halves_mono n (suc d) =
     let next : suc (d + n) ≡ suc d + n = omega arith in
     subst (λ k. halves n ≤ halves k) next (omega (arith, halves_mono n d, halves_rise (d + n)))
 
--- there is a set wherever there are registers enough
+-- there is a set if there are enough registers
 pub some_set : (n h : ℕ) → h ≤ n → 0 < choose n h
 some_set n zero few = omega arith
 some_set zero (suc h) few = absurd (omega (arith, few))
 some_set (suc n) (suc h) few = omega (arith, some_set n h (omega (arith, few)))
 
--- from one register on, one more gives more sets
+-- from one register on, one register more gives more sets
 halves_grow : (n : ℕ) → halves (suc n) < halves (suc (suc n))
 halves_grow n =
     elim (cases_eq (suc (suc n) / 2) (suc n / 2)) [
@@ -213,7 +213,7 @@ halves_grow n =
           subst (λ h. halves (suc n) < choose (suc (suc n)) h) (sym next) more)
     ]
 
--- so there are as many sets as registers
+-- so there are at least as many sets as registers
 self_within : (n : ℕ) → n ≤ halves n
 self_within zero = omega arith
 self_within (suc zero) = omega arith
@@ -228,7 +228,7 @@ counted n m h = sym (cond_below (halves n) m (suc (halves_below n m)) (halves_be
 passed_over : (n m : ℕ) → m ≤ halves n → halves_below (suc n) m ≡ halves_below n m
 passed_over n m h = sym (cond_above (halves n) m (suc (halves_below n m)) (halves_below n m) (halves_below n m) h refl)
 
--- no more are below m than there are
+-- at most n of the first n numbers of halves are below m
 halves_below-le : (n m : ℕ) → halves_below n m ≤ n
 halves_below-le zero m = omega arith
 halves_below-le (suc n) m =
@@ -255,7 +255,7 @@ enough_halves (suc n) m h =
       | inr reached ↦ rw (passed_over n m reached) (enough_halves n m reached)
     ]
 
--- of two numbers of registers that with more sets is the larger one
+-- if c registers have more sets of their half than n registers, c is larger than n
 registers_below : (n c : ℕ) → halves n < halves c → n < c
 registers_below n c lower =
     elim (cases_lt n c) [
@@ -276,7 +276,7 @@ least_halves (suc n) m c h =
       | inr reached ↦ rw (passed_over n m reached) (least_halves n m c h)
     ]
 
--- the count of all that are below m is the least that is enough
+-- `breadth_of m` is the least number of registers that is enough
 pub breadth_is_least : (m : ℕ) → IsLeastBreadth m (breadth_of m)
 breadth_is_least m = record { enough = enough_halves m m (self_within m); least = least_halves m m }
 
@@ -297,24 +297,24 @@ least_so_far m n enough smaller =
     })
     (breadth_is_least m)
 
--- there are no more sets than masks
+-- there are at most as many sets as masks
 pub few_sets : (n h : ℕ) → choose n h ≤ 2 ^ n
 few_sets n zero = omega (arith, pow_pos n)
 few_sets zero (suc h) = omega arith
 few_sets (suc n) (suc h) = omega (arith, few_sets n (suc h), few_sets n h, double n)
 
--- 64 values need no more than 8 registers
+-- 64 values need at most 8 registers
 pub breadth_small : (m : ℕ) → m ≤ 64 → breadth_of m ≤ 8
 breadth_small m most =
     let all : halves 8 ≡ 70 = refl in
     (breadth_is_least m).least 8 (omega (arith, most, all))
 
 -- ---- the law
--- a set of the table is one
+-- in the table of m values, each value has a set
 pub in_table : (m v : ℕ) → v < m → v < choose (breadth_of m) (breadth_of m / 2)
 in_table m v value = omega (arith, value, (breadth_is_least m).enough)
 
--- a register of a set is one of the table's
+-- each register of a set is a register of the table
 register_in : (m v r : ℕ) → IsMember ((middle_table m).write v) r → r < breadth_of m
 register_in m v r member =
     let k : ℕ = breadth_of m in
@@ -353,7 +353,7 @@ meet m v w written seen disjoint =
     (one_within k (k / 2) (k / 2) v w (in_table m v written) (in_table m w seen)
     (λ r member. not_read m w r (register_in m v r member) (λ in_read. disjoint r member in_read))).1 refl
 
--- the middle table of so many values, as long as that is not too many
+-- the middle table of m values is a quorum table, if m is at most `MAX_VALUES`
 pub middle_lawful : (m : ℕ) → m ≤ MAX_VALUES → IsQuorumTable (middle_table m)
 middle_lawful m most =
     let k : ℕ = breadth_of m in

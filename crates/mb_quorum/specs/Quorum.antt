@@ -9,7 +9,7 @@ pub record QuorumTable : Type 0 where
   pub write : ℕ → ℕ
   pub read : ℕ → ℕ
 
--- the register is in the quorum that the mask stands for
+-- the register is in the quorum with this mask
 abbrev pub IsMember : ℕ → ℕ → Type 0
 IsMember mask register = bit_at mask register ≡ 1
 
@@ -17,8 +17,8 @@ IsMember mask register = bit_at mask register ≡ 1
 abbrev pub AreDisjoint : ℕ → ℕ → Type 0
 AreDisjoint a b = (register : ℕ) → IsMember a register → IsMember b register → ⊥
 
--- there are at most 64 registers and 64 values, masks are below 2 ^ registers, and a write quorum and a read quorum
--- are disjoint exactly when they are those of one value
+-- there are at most 64 registers and 64 values. Masks are below 2 ^ registers. A write quorum and a read quorum are
+-- disjoint exactly when they belong to one value
 pub record IsQuorumTable (t : QuorumTable) : Type 0 where
   pub limit : t.registers ≤ 64
   pub few : t.values ≤ 64

@@ -7,7 +7,7 @@ use Rattle.mb_quorum.specs.Unary.{unary_table}
 use Rattle.mb_quorum.specs.Bits.{bits_table}
 use Rattle.mb_quorum.specs.Middle.{middle_table}
 
--- the table of this name with so many values
+-- the table of this name with m values
 abbrev pub table_of : TableName → ℕ → QuorumTable
 table_of Unary m = unary_table m
 table_of Bits m = bits_table m

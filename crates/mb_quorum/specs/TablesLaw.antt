@@ -11,13 +11,13 @@ use Rattle.mb_quorum.specs.UnaryLaw.{unary_lawful}
 use Rattle.mb_quorum.specs.BitsLaw.{bits_lawful}
 use Rattle.mb_quorum.specs.MiddleLaw.{middle_lawful}
 
--- the named table of so many values, as long as that is not too many
+-- the named table of m values is a quorum table, if m is at most `MAX_VALUES`
 pub named_lawful : (name : TableName) (m : ℕ) → m ≤ MAX_VALUES → IsQuorumTable (table_of name m)
 named_lawful Unary m most = unary_lawful m most
 named_lawful Bits m most = bits_lawful m most
 named_lawful Middle m most = middle_lawful m most
 
--- it has so many values
+-- it has m values
 pub named_values : (name : TableName) (m : ℕ) → (table_of name m).values ≡ m
 named_values Unary m = refl
 named_values Bits m = refl

@@ -22,13 +22,13 @@ others_cat j w =
     (rw one-add at (pow-add 2 1 w))
     (pow_pos w)
 
--- of these ones the one at w is missing
+-- bit w is not among these ones
 others_same : (j w : ℕ) → bit_at (2 ^ (j + suc w) - 1 - 2 ^ w) w ≡ 0
 others_same j w =
     let low = bit_at_cat_low (2 ^ j - 1) (suc w) (2 ^ w - 1) w (omega arith) in
     rw (others_cat j w) (low ∙ bit_at_ones_above w w (omega arith))
 
--- and no other is
+-- and every other bit is
 others_other : (j w i : ℕ) → i < j + suc w → i ≢ w → bit_at (2 ^ (j + suc w) - 1 - 2 ^ w) i ≡ 1
 others_other j w i within other =
     let fits : 2 ^ w - 1 < 2 ^ suc w = omega (arith, rw one-add at (pow-add 2 1 w), pow_pos w) in
@@ -55,7 +55,7 @@ read_own m v value member =
     subst (λ n. bit_at (2 ^ n - 1 - 2 ^ v) v ≡ 0) sum (others_same (m - suc v) v) in
     omega (arith, none, member)
 
--- nor any past the last
+-- nor any register past the last
 pub read_within : (m v r : ℕ) → IsMember ((unary_table m).read v) r → r < m
 read_within m v r member =
     let small : 2 ^ m - 1 - 2 ^ v < 2 ^ m = omega (arith, pow_pos m, pow_pos v) in
@@ -90,7 +90,7 @@ meet m v w written seen disjoint =
       | inr other ↦ absurd (disjoint v (write_own m v) (read_others m w v seen written other))
     ]
 
--- the unary table of so many values, as long as that is not too many
+-- the unary table of m values is a quorum table, if m is at most `MAX_VALUES`
 pub unary_lawful : (m : ℕ) → m ≤ MAX_VALUES → IsQuorumTable (unary_table m)
 unary_lawful m most =
     let limit : m ≤ 64 = omega (arith, most) in

@@ -1,8 +1,8 @@
-//! Facts about the tables, each the contract of a function that computes nothing, for proofs that stand on them.
+//! Facts about the tables, for proofs that build on them. Each is the contract of a function that computes nothing.
 //!
-//! A law that is not proved by its contract alone has its proof in `proofs/laws`, in a folder of its name; the lemmas
-//! that say that a table is lawful stand beside the tables, in `specs/UnaryLaw.antt`, `BitsLaw.antt`, `MiddleLaw.antt`
-//! and `TablesLaw.antt`.
+//! If the prover needs help with a law, its proof is in `proofs/laws`, in a folder of its name. The lemmas that the
+//! tables are lawful are beside the tables, in `specs/UnaryLaw.antt`, `BitsLaw.antt`, `MiddleLaw.antt` and
+//! `TablesLaw.antt`.
 
 ghost use Rattle.std.specs.Prelude.{◌≡◌, ◌≢◌, ℕ, ◌+◌, ◌-◌, ◌*◌, ◌/◌, ◌^◌, ◌<◌, ◌≤◌, ◌↔◌, bit_and, count_ones};
 ghost use Rattle.std.specs.Int.{bit_at};
@@ -20,34 +20,33 @@ pub fn every_table_is_lawful<Q: Quorums>(table: &Q)
     ensures { IsQuorumTable (Q.table table.now) }
 {}
 
-/// Of every quorum table: a write quorum and a read quorum have no bit in common exactly when they are those of one
-/// value.
+/// In every quorum table, a write quorum and a read quorum share no bit exactly when they belong to one value.
 pub fn masks_tell_values_apart()
     ensures { (t : QuorumTable) (v w : ℕ) → IsQuorumTable t → v < t.values → w < t.values
         → (bit_and (t.write v) (t.read w) ≡ 0) ↔ (v ≡ w) }
 {}
 
-/// Each table that has a name is a quorum table, and has so many values as it is asked for.
+/// Each named table is a quorum table, and has the number of values that it is asked for.
 pub fn named_tables_are_lawful()
     ensures lawful { (name : TableName) (m : ℕ) → m ≤ MAX_VALUES → IsQuorumTable (table_of name m) }
     ensures values { (name : TableName) (m : ℕ) → (table_of name m).values ≡ m }
 {}
 
-/// A table that was chosen by name is a quorum table, of at least one value and at most `MAX_VALUES`.
+/// A table chosen by name is a quorum table. It has at least one value and at most `MAX_VALUES`.
 pub fn chosen_tables_are_lawful()
     ensures lawful { (table : Table) → IsQuorumTable (chosen_table table) }
     ensures least { (table : Table) → 1 ≤ (chosen_table table).values }
     ensures most { (table : Table) → (chosen_table table).values ≤ MAX_VALUES }
 {}
 
-/// Which registers the quorums of the unary table hold: the value's own, and all others.
+/// In the unary table, a write quorum holds the value's own register, and a read quorum holds all others.
 pub fn unary_quorums_are_own_and_others()
     ensures write { (m v r : ℕ) → v < m → IsMember ((unary_table m).write v) r ↔ (r ≡ v) }
     ensures read { (m v r : ℕ) → v < m → IsMember ((unary_table m).read v) r ↔ ((r < m) × (r ≢ v)) }
 {}
 
-/// Which registers the quorums of the bit table hold: of the two for each bit, the one that the bit names, and the
-/// other.
+/// In the bit table, a write quorum holds the register that each bit names, of the two for that bit. A read quorum
+/// holds the other.
 pub fn bits_quorums_follow_the_bits()
     ensures write { (m v r : ℕ) → IsMember ((bits_table m).write v) r
         ↔ ((i : ℕ) × (i < width_of m) × (r ≡ 2 * i + bit_at v i)) }

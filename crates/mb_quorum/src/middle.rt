@@ -7,8 +7,8 @@ use crate::{BadValues, Quorums, checked_values};
 /// The most registers that a middle table has: eight have 70 sets of four.
 const MOST_REGISTERS: u32 = 8;
 
-/// The middle table: the write quorum of v is set number v, from 0, of the sets of half of the registers, rounded
-/// down, by rising mask. Its read quorum holds all other registers. No fewer registers have a set for each value.
+/// The middle table. Number the sets of half of the registers, rounded down, from 0, by rising mask. The write quorum
+/// of v is set number v, and its read quorum holds all other registers. No fewer registers have a set for each value.
 ///
 /// With one value there are no registers, and both quorums are empty.
 #[derive(Clone, Copy, Debug, PartialEq, Eq, Hash)]
@@ -60,7 +60,7 @@ impl Middle {
         })
     }
 
-    /// The table of so many values.
+    /// The table of `values` values.
     pub(crate) fn of(values: u32) -> Middle
         requires least { 1 ≤ values }
         requires most { values ≤ MAX_VALUES }
@@ -70,7 +70,7 @@ impl Middle {
     }
 }
 
-/// How many sets of so many registers there are among the first `registers`.
+/// How many sets of `size` registers there are among the first `registers`.
 #[tactic(auto, using(crate::proofs::Sets::choose_by_last, crate::specs::MiddleLaw::few_sets))]
 fn choose(registers: u32, size: u32) -> u32
     requires { registers ≤ MOST_REGISTERS }
@@ -86,7 +86,7 @@ fn choose(registers: u32, size: u32) -> u32
     }
 }
 
-/// The least number of registers that have a set of their half for each of so many values.
+/// The least number of registers that have at least `values` sets of half of them, rounded down.
 #[tactic(auto, using(crate::specs::MiddleLaw::least_so_far))]
 fn breadth(values: u32) -> u32
     requires { values ≤ MAX_VALUES }
@@ -100,7 +100,7 @@ fn breadth(values: u32) -> u32
     registers
 }
 
-/// Set number v of the sets of so many registers among the first `registers`, by rising mask.
+/// Set number v, by rising mask, of the sets of `size` registers among the first `registers`.
 #[tactic(auto, using(crate::proofs::Sets::choose_by_last, crate::proofs::Sets::set_of_others, crate::proofs::Sets::set_with_last, crate::proofs::Sets::empty_set, crate::specs::MiddleLaw::set_below))]
 fn set_number(registers: u32, size: u32, v: u32) -> u64
     requires few { registers ≤ MOST_REGISTERS }

@@ -1,10 +1,10 @@
 /// A quorum table. Values and registers count from 0, and a quorum is a mask: register i is the bit of worth `2^i`.
 ///
-/// No call takes memory. The law `lawful` is proved by each table for itself, and whoever uses a table rests on
-/// that law alone: a ratifier is right over every table that is lawful.
+/// No call allocates. Each table proves the law `lawful` for itself. A user of a table needs that law alone: a ratifier
+/// is right over every lawful table.
 ///
-/// A table of one's own is a `QuorumTable`, a lemma that this is an `IsQuorumTable`, and the four calls. Here value v
-/// has the quorums that value m - 1 - v has in the unary table of m values. It stands whole in
+/// A table of your own needs a `QuorumTable`, a lemma that this is an `IsQuorumTable`, and the four calls. In this one,
+/// value v has the quorums that value m - 1 - v has in the unary table of m values. The whole of it is in
 /// `test_libraries`: `src/mirrored.rt`, and `mirrored` and `mirrored_lawful` in `specs/Mirrored.antt`.
 ///
 /// ```
@@ -59,7 +59,7 @@ pub trait Quorums {
         requires { v < (table self.now).values }
         ensures { result ≡ (table self.now).read v };
 
-    /// Masks are below `2^registers`, and a write quorum and a read quorum are disjoint exactly when they are
-    /// those of one value.
+    /// Masks are below `2^registers`. A write quorum and a read quorum are disjoint exactly when they belong to one
+    /// value.
     ghost lawful: { (q : Self) → IsQuorumTable (table q) };
 }

@@ -19,8 +19,8 @@ pub enum TableName {
 
 /// A table chosen by its name when the program runs.
 ///
-/// It keeps the quorums of each value, so that they are made once. With them it has some 1,040 bytes, so it is not `Copy`:
-/// [`Table::copy`] says where one more is made.
+/// It keeps the quorums of each value, so that they are computed once. With them it has some 1,040 bytes. It is not
+/// `Copy`, and a copy has to be asked for: [`Table::copy`].
 #[derive(Debug, PartialEq, Eq, Hash, Drop)]
 pub struct Table {
     name: TableName,
@@ -91,7 +91,7 @@ impl Table {
         })
     }
 
-    /// The same table once more.
+    /// A copy of the table.
     pub fn copy(&self) -> Table
         ensures { result ≡ self.now }
     {
@@ -106,7 +106,7 @@ impl Table {
 }
 
 impl TableName {
-    /// How many registers the table of this name with so many values has.
+    /// How many registers the named table of `values` values has.
     fn registers(self, values: u32) -> u32
         requires least { 1 ≤ values }
         requires most { values ≤ MAX_VALUES }
@@ -119,7 +119,7 @@ impl TableName {
         }
     }
 
-    /// The write quorum of a value there.
+    /// The write quorum of v in the named table of `values` values.
     fn write_quorum(self, values: u32, v: u32) -> u64
         requires least { 1 ≤ values }
         requires most { values ≤ MAX_VALUES }
@@ -133,7 +133,7 @@ impl TableName {
         }
     }
 
-    /// The read quorum of a value there.
+    /// The read quorum of v in the named table of `values` values.
     fn read_quorum(self, values: u32, v: u32) -> u64
         requires least { 1 ≤ values }
         requires most { values ≤ MAX_VALUES }

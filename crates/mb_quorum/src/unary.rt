@@ -3,7 +3,7 @@ ghost use Rattle.mb_quorum.specs.declared.values.TheConstants.{MAX_VALUES};
 
 use crate::{BadValues, Quorums, checked_values};
 
-/// The unary table, a register for each value: the write quorum of v is register v, its read quorum all others.
+/// The unary table: a register for each value. The write quorum of v is register v, its read quorum all others.
 #[derive(Clone, Copy, Debug, PartialEq, Eq, Hash)]
 pub struct Unary {
     values: u32,
@@ -51,7 +51,7 @@ impl Unary {
         })
     }
 
-    /// The table of so many values.
+    /// The table of `values` values.
     pub(crate) fn of(values: u32) -> Unary
         requires least { 1 ≤ values }
         requires most { values ≤ MAX_VALUES }

@@ -1,14 +1,14 @@
 -- A mailbox in which workers worked, from its making to its report.
 use Rattle.std.proofs.Common.{◌≡◌, ◌++◌, ℕ, List, Some, length, map, refl, sym, ap, subst, ◌∙◌}
 use Rattle.std.proofs.lemmas.List.{length-map}
-use Rattle.mb_mailbox.specs.Below.{Stream, consumer_count}
+use Rattle.mb_mailbox.specs.Imports.{Stream, consumer_count}
 use Rattle.mb_mailbox.specs.Called.{IsCalled}
 use Rattle.mb_mailbox.specs.Gathering.{FullTakesAll, IsGathered, IsReportIn}
 use Rattle.mb_mailbox.specs.Hubs.{HubView, IsHubOf, hub_empty}
 use Rattle.mb_mailbox.specs.Mailboxes.{MailboxView, plan_at}
 use Rattle.mb_mailbox.specs.Worked.{IsWorked, ended_list}
 use Rattle.mb_mailbox.specs.declared.gate.Who.{Who}
-use Rattle.mb_mailbox.specs.declared.working.Worked.{Worked}
+use Rattle.mb_mailbox.specs.declared.crew.Worked.{Worked}
 use Rattle.mb_world.specs.Headline.{IsHonest}
 use Rattle.mb_world.specs.Plan.{Plan, size_of}
 use Rattle.mb_world.specs.Report.{ReportView}
@@ -49,7 +49,8 @@ played m old h r terms lists may_stop may_pass sources w same size all many empt
         counts = w;
         worked = subst (λ (z : ℕ × HubView). IsWorked may_stop terms.budget lists z.0 w z.1 h)
             (λ i. (many i, empty i)) worked;
-        called = subst (λ (o : HubView). IsCalled may_stop may_pass terms.budget lists terms.sources w o h) empty called;
+        called = subst (λ (o : HubView). IsCalled may_stop may_pass terms.budget lists terms.sources
+            w o h) empty called;
         told = told;
         gathered = gathered;
         full = full;

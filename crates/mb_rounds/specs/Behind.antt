@@ -1,19 +1,19 @@
--- The run behind a round: under what it went, who worked in its mailbox, and what they left.
+-- The run of a round's mailbox: its terms, the workers there, and what they left.
 use Rattle.std.specs.Prelude.{ℕ, ◌≡◌, List, length}
-use Rattle.mb_mailbox.specs.Below.{Stream, consumer_count}
+use Rattle.mb_mailbox.specs.Imports.{Stream, consumer_count}
 use Rattle.mb_mailbox.specs.Called.{IsCalled}
 use Rattle.mb_mailbox.specs.Gathering.{FullTakesAll, IsGathered, IsReportIn}
 use Rattle.mb_mailbox.specs.Hubs.{HubView, IsHubOf, hub_empty}
 use Rattle.mb_mailbox.specs.Mailboxes.{MailboxView, plan_at}
 use Rattle.mb_mailbox.specs.Worked.{IsWorked}
 use Rattle.mb_mailbox.specs.declared.gate.Who.{Who}
-use Rattle.mb_mailbox.specs.declared.working.Worked.{Worked}
+use Rattle.mb_mailbox.specs.declared.crew.Worked.{Worked}
 use Rattle.mb_world.specs.Plan.{Histories, Plan, size_of}
 use Rattle.mb_world.specs.Report.{ReportView}
 use Rattle.mb_world.specs.Setups.{plan_in}
 use Rattle.mb_world.specs.declared.setup.Setup.{Setup}
 
--- under what a round goes: the plan of its mailbox, the most accesses of one poll, and each consumer's random words
+-- the terms of a round: the plan of its mailbox, the most accesses of one poll, and each consumer's random words
 pub record Terms : Type 0 where
   pub plan : Plan
   pub budget : ℕ
@@ -22,8 +22,8 @@ pub record Terms : Type 0 where
 abbrev pub terms_of : Setup → ℕ → List Stream → Terms
 terms_of setup budget sources = record { plan = plan_in setup; budget = budget; sources = sources }
 
--- workers came, in a mailbox of this plan, from a hub that had issued nothing to this hub: a producer for each list, and a
--- consumer for each source
+-- in a mailbox of this plan, workers led from a hub that had issued nothing to this hub: a producer for each list, and
+-- a consumer for each source
 pub record IsRunBehind (may_stop may_pass : Who → ℕ → Type 0) (terms : Terms) (lists : List (List ℕ)) (hs : Histories)
     (r : ReportView) : Type 0 where
   pub mailbox : MailboxView
@@ -32,8 +32,8 @@ pub record IsRunBehind (may_stop may_pass : Who → ℕ → Type 0) (terms : Ter
   pub hub : HubView
   pub of : IsHubOf mailbox hub
   pub counts : Worked
-  -- who was stopped was so by the gate. Each other producer has put all of its list that found a cell, and each other
-  -- consumer has a note at each item
+  -- a worker was stopped only before a call at which the gate may stop it, or before call 2^64 - 1. Each other producer
+  -- has put its list, or a fetch-add of it found no cell. Each other consumer has a note at each item
   pub worked : IsWorked may_stop terms.budget lists (length terms.sources) counts (hub_empty mailbox) hub
   -- each call of a consumer is a poll with this budget, and draws from the consumer's own source
   pub called : IsCalled may_stop may_pass terms.budget lists terms.sources counts (hub_empty mailbox) hub

@@ -16,10 +16,10 @@ none_carried setup = record { setup = setup; carried = [] }
 abbrev pub with_items : List ℕ → RoundsView → RoundsView
 with_items items r = record { setup = r.setup; carried = r.carried ++ items }
 
--- how often the value x stands in a list
+-- how often the value x is in a list
 abbrev pub times : ℕ → List ℕ → ℕ
 times x items = count_by (nat_eq x) items
 
--- each value stands as often in one list as in the other
+-- each value is as often in one list as in the other
 abbrev pub AreSameItems : List ℕ → List ℕ → Type 0
 AreSameItems items others = (x : ℕ) → times x items ≡ times x others

@@ -24,9 +24,9 @@ pub record IsPlayed (may_stop may_pass : Who → ℕ → Type 0) (terms : Terms)
   pub histories : Histories
   pub sound : AreSound terms.plan histories
   pub report : IsReportOf terms.plan histories r
-  -- one assignment of items to consumers stands behind the whole report
+  -- one assignment of items to consumers agrees with the whole report
   pub honest : IsHonest terms.plan histories r
-  -- it was done by a producer for each list and a consumer for each source, which go on until the gate stops them
+  -- it was done by a producer for each list and a consumer for each source, which go on until they are done or stopped
   pub run : IsRunBehind may_stop may_pass terms lists histories r
 
 -- the items that notes say were taken
@@ -43,14 +43,15 @@ abbrev pub ledgers_of : ℕ → ReportView → List (List ℕ)
 ledgers_of zero r = []
 ledgers_of (suc n) r = ledgers_of n r ++ taken_below (length r.lanes) n r ∷ []
 
--- of each lane the items that nobody took, and then those of its list that were not put
+-- for each lane the items that nobody took, and then those of its list that were not put
 abbrev pub staying : List (List ℕ) → List LaneView → List ℕ
 staying [] _ = []
 staying _ [] = []
 staying (list ∷ lists) (lane ∷ lanes) = (lane.left ++ drop (length lane.put) list) ++ staying lists lanes
 
--- the oldest of the items carried, as many as there are cells, were dealt to the producers and went into a mailbox of these
--- terms. What each consumer took there is given out. What nobody took or nobody put is carried, before what was not dealt
+-- the oldest of the items carried, at most as many as there are cells, were dealt to the producers. They went into a
+-- mailbox of these terms. What each consumer took there is given out. What nobody took or nobody put is carried, before
+-- what was not dealt
 pub record IsRound (may_stop may_pass : Who → ℕ → Type 0) (terms : Terms) (was : List ℕ)
     (taken : List (List ℕ)) (r : ReportView)
     (now : List ℕ) : Type 0 where

@@ -5,7 +5,7 @@ use Rattle.mb_mailbox.specs.declared.gate.Who.{Who}
 use Rattle.mb_world.specs.Report.{ReportView}
 use Rattle.mb_rounds.specs.Behind.{Terms}
 
--- a gate that stops nobody, or lets each pass
+-- what a gate may stop, or let pass: no call of any worker, or each call
 abbrev pub at_no_call : Who → ℕ → Type 0
 at_no_call who call = ⊥
 
@@ -20,6 +20,6 @@ idle_terms m = record { plan = plan_at m; budget = 1; sources = [] }
 abbrev pub no_lanes : ReportView
 no_lanes = record { lanes = []; diaries = [] }
 
--- one of one lane, on which these items were put and nobody took any
+-- the report of a mailbox with one lane, on which these items were put and nobody took any
 abbrev pub one_lane : List ℕ → ReportView
 one_lane items = record { lanes = record { put = items; ended = true; left = items } ∷ []; diaries = [] }

@@ -8,7 +8,7 @@ pub data Turn : Type 0 where
   HandedIn : List ℕ → Turn
   Gave : List (List ℕ) → Turn
 
--- all that was handed in; turns are listed newest first, and so are the items of different turns
+-- all that was handed in. Turns are listed newest first, and so are the items of different turns
 abbrev pub handed_in : List Turn → List ℕ
 handed_in [] = []
 handed_in (HandedIn items ∷ older) = items ++ handed_in older

@@ -1,5 +1,5 @@
-//! Rounds by example: what the definitions let in, and what only looks right. The functions compute nothing: their contracts
-//! are the examples.
+//! Rounds by example: what the definitions admit, and what only looks right. The functions compute nothing: their
+//! contracts are the examples.
 ghost use Rattle.std.specs.Prelude.{◌≡◌, [], ◌∷◌};
 ghost use Rattle.mb_mailbox.specs.Gathering.{IsGathered};
 ghost use Rattle.mb_mailbox.specs.Hubs.{hub_empty};
@@ -10,7 +10,8 @@ ghost use Rattle.mb_rounds.specs.Behind.{Terms};
 ghost use Rattle.mb_rounds.specs.Round.{IsPlayed, IsRound, ledgers_of};
 ghost use Rattle.mb_rounds.specs.RoundExamples.{at_each_call, at_no_call, idle_terms, no_lanes, one_lane};
 
-/// A round over a mailbox with no lane and no cell, with no consumer: nothing is given out, and both items stay.
+/// A round over a mailbox with no lane and no cell, in which no consumer works: nothing is given out, and both items
+/// stay.
 pub fn rounds_may_be_idle()
     ensures { (m : MailboxView) → m.cells.size ≡ size_of (plan_at m)
         → m.cells.size.lanes ≡ 0 → m.claims.cells ≡ 0 → IsGathered m (hub_empty m) no_lanes
@@ -18,7 +19,7 @@ pub fn rounds_may_be_idle()
         (ledgers_of (consumers_of (plan_at m)) no_lanes) no_lanes (7 ∷ 8 ∷ []) }
 {}
 
-/// What is no round.
+/// What is not a round.
 pub fn rounds_play_what_was_dealt()
     // The item 7 was dealt, and 8 was put.
     ensures other_item { (terms : Terms)
@@ -28,7 +29,7 @@ pub fn rounds_play_what_was_dealt()
     ensures not_put { (terms : Terms) → terms.plan.claims.cells ≡ 1
         → IsPlayed at_no_call at_each_call terms ((7 ∷ []) ∷ []) (one_lane []) → ⊥ }
 
-    // It is neither given out nor carried, or both.
+    // The item is neither given out nor carried, or it is both.
     ensures lost { (terms : Terms) (r : ReportView)
         → IsRound at_each_call at_each_call terms (7 ∷ []) ([] ∷ []) r [] → ⊥ }
     ensures twice { (terms : Terms) (r : ReportView)

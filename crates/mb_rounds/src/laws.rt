@@ -4,8 +4,8 @@ ghost use Rattle.mb_rounds.specs.Carried.{AreSameItems, times};
 ghost use Rattle.mb_rounds.specs.TurnExamples.{two_rounds};
 ghost use Rattle.mb_rounds.specs.Turns.{AreCarriedAfter, Turn, given_out, handed_in};
 
-/// Over any number of turns, in any order: each item that was handed in was given out once or is carried now, and there are
-/// no others. So nothing is lost between rounds, and nothing is given out more often than it was handed in.
+/// Over any number of turns, in any order: each item that was handed in was given out once or is carried now. There are
+/// no other items. So nothing is lost between rounds, and nothing is given out more often than it was handed in.
 pub fn nothing_is_lost_or_given_twice()
     ensures same { (turns : List Turn) (now : List ℕ) → AreCarriedAfter turns now
         → AreSameItems (handed_in turns) (given_out turns ++ now) }
@@ -13,8 +13,8 @@ pub fn nothing_is_lost_or_given_twice()
         → times x (given_out turns) ≤ times x (handed_in turns) }
 {}
 
-/// What is carried by example: after two rounds that gave out 7, 7 and 9 of the items 7, 8, 7 and 9, the item 8 is carried, and
-/// it is not after the same rounds that nothing or that a 7 is.
+/// What is carried, by example. Two rounds gave out 7, 7 and 9 of the items 7, 8, 7 and 9. After them the item 8 is
+/// carried. That nothing is carried, or a 7 in its place, is refused.
 pub fn carried_by_example()
     ensures one_left { AreCarriedAfter two_rounds (8 ∷ []) }
     ensures none_left { AreCarriedAfter two_rounds [] → ⊥ }

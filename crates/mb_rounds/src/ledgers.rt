@@ -49,7 +49,7 @@ fn ledger<A: Allocator + Clone + Drop>(
     Ok(items)
 }
 
-/// What each of so many consumers took.
+/// What each of the first `consumers` consumers took.
 pub(crate) fn ledgers<A: Allocator + Clone + Drop>(
     alloc: &A,
     report: &Report<A>,

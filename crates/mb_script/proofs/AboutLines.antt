@@ -14,24 +14,24 @@ use Rattle.mb_script.specs.Scripts.{Made, made_from, number_at, one_number, two_
 use Rattle.mb_script.specs.Steps.{◌>>=◌}
 use Rattle.mb_script.specs.Shapes.{shape_named}
 use Rattle.mb_script.specs.Tables.{table_named}
-use Rattle.mb_script.specs.Text.{has_empty, words_of}
+use Rattle.mb_script.specs.Text.{has_empty, words_in_line}
 
 -- a fault, if there is one, is one of these
-abbrev pub For : {A : Type 0} → (Fault → Type 0) → Result A Fault → Type 0
+abbrev pub For : {A F : Type 0} → (F → Type 0) → Result A F → Type 0
 For P r = IfErr r P
 
-pub for_bind : {A B : Type 0} (P : Fault → Type 0) (r : Result A Fault) (f : A → Result B Fault)
+pub for_bind : {A B F : Type 0} (P : F → Type 0) (r : Result A F) (f : A → Result B F)
     → For P r → ((x : A) → For P (f x))
     → For P (r >>= f)
 for_bind P (Ok x) f first behind = behind x
 for_bind P (Err e) f first behind = first
 
-pub for_cond : {A : Type 0} (P : Fault → Type 0) (b : Bool) (r s : Result A Fault) → For P r
+pub for_cond : {A F : Type 0} (P : F → Type 0) (b : Bool) (r s : Result A F) → For P r
     → For P s → For P (cond b r s)
 for_cond P true r s p q = p
 for_cond P false r s p q = q
 
-for_option : {A : Type 0} (P : Fault → Type 0) (o : Option A) (e : Fault) → P e → For P (ok_or o e)
+pub for_option : {A F : Type 0} (P : F → Type 0) (o : Option A) (e : F) → P e → For P (ok_or o e)
 for_option P (Some x) e is = tt
 for_option P None e is = is
 
@@ -92,8 +92,9 @@ at_placed plan n e =
 pub at_line : (plan : Plan) (n : ℕ) (line : List ℕ) → At n (event_at plan n line)
 unfolding event_at
 at_line plan n line =
-    for_cond (About n) (has_empty (words_of line)) _ _ refl
-    (for_bind (About n) (event_of n (words_of line)) (placed plan n) (at_event n (words_of line)) (at_placed plan n))
+    for_cond (About n) (has_empty (words_in_line line)) _ _ refl
+    (for_bind (About n) (event_of n (words_in_line line)) (placed plan n)
+    (at_event n (words_in_line line)) (at_placed plan n))
 
 -- the same of the first line
 for_made : (P : Fault → Type 0) (o : Option SetupFault) (made : Made)

@@ -5,7 +5,7 @@ use Rattle.std.specs.Prelude.{not, option_and_then}
 use Rattle.std.proofs.lemmas.Bool.{lt-ltb}
 use Rattle.std.proofs.lemmas.List.{length-map, length-take-le, map-append, take_more_set}
 use Rattle.std.specs.List.{position_or_len, before_first, after_first, onto_first}
-use Rattle.mb_script.specs.Text.{words_of, has_empty, number_of, numbers_of}
+use Rattle.mb_script.specs.Text.{words_in_line, has_empty, number_of, numbers_of}
 
 -- a space
 abbrev pub parts : ℕ → Bool
@@ -13,10 +13,11 @@ parts b = nat_eq b 32
 
 -- one byte more, which ends the word or not
 cut_step : (b : ℕ) (bs : List ℕ) (t : Bool) → cond (not t) (1 + position_or_len parts bs) 0 < suc (length bs)
-    → (position_or_len parts bs < length bs → words_of bs ≡ before_first parts bs ∷ words_of (after_first parts bs))
-    → cond t ([] ∷ words_of bs) (onto_first b (words_of bs))
+    → (position_or_len parts bs < length bs → words_in_line bs ≡ before_first parts bs
+    ∷ words_in_line (after_first parts bs))
+    → cond t ([] ∷ words_in_line bs) (onto_first b (words_in_line bs))
     ≡ take (cond (not t) (1 + position_or_len parts bs) 0) (b ∷ bs)
-    ∷ words_of (drop (cond (not t) (1 + position_or_len parts bs) 0 + 1) (b ∷ bs))
+    ∷ words_in_line (drop (cond (not t) (1 + position_or_len parts bs) 0 + 1) (b ∷ bs))
 cut_step b bs true within rest = refl
 cut_step b bs false within rest =
     let n = position_or_len parts bs in
@@ -27,19 +28,19 @@ cut_step b bs false within rest =
 
 -- where there is a space, the first word stands before it
 pub words_cut : (bs : List ℕ) → position_or_len parts bs < length bs
-    → words_of bs ≡ before_first parts bs ∷ words_of (after_first parts bs)
+    → words_in_line bs ≡ before_first parts bs ∷ words_in_line (after_first parts bs)
 words_cut [] within = absurd (omega arith)
 words_cut (b ∷ bs) within = cut_step b bs (nat_eq b 32) within (words_cut bs)
 
 -- one byte more in front of a line with no space
 last_step : (b : ℕ) (bs : List ℕ) (t : Bool) → cond (not t) (1 + position_or_len parts bs) 0 ≡ suc (length bs)
-    → (position_or_len parts bs ≡ length bs → words_of bs ≡ bs ∷ [])
-    → cond t ([] ∷ words_of bs) (onto_first b (words_of bs)) ≡ (b ∷ bs) ∷ []
+    → (position_or_len parts bs ≡ length bs → words_in_line bs ≡ bs ∷ [])
+    → cond t ([] ∷ words_in_line bs) (onto_first b (words_in_line bs)) ≡ (b ∷ bs) ∷ []
 last_step b bs true none rest = absurd (omega arith)
 last_step b bs false none rest = ap (onto_first b) (rest (omega arith))
 
 -- where there is none, the line is its only word
-pub words_last : (bs : List ℕ) → position_or_len parts bs ≡ length bs → words_of bs ≡ bs ∷ []
+pub words_last : (bs : List ℕ) → position_or_len parts bs ≡ length bs → words_in_line bs ≡ bs ∷ []
 words_last [] none = refl
 words_last (b ∷ bs) none = last_step b bs (nat_eq b 32) none (words_last bs)
 
@@ -50,9 +51,9 @@ first_step b [] false some = omega (arith, some)
 first_step b (w ∷ ws) false some = omega arith
 
 -- a line has a word
-pub some_word : (bs : List ℕ) → 0 < length (words_of bs)
+pub some_word : (bs : List ℕ) → 0 < length (words_in_line bs)
 some_word [] = omega arith
-some_word (b ∷ bs) = first_step b (words_of bs) (nat_eq b 32) (some_word bs)
+some_word (b ∷ bs) = first_step b (words_in_line bs) (nat_eq b 32) (some_word bs)
 
 -- a test among three, one after the other
 any_step : (a b c t : Bool) → a ≡ (b || c) → (t || a) ≡ ((t || b) || c)
@@ -81,18 +82,19 @@ or_true false b e = e
 
 -- so many words, one more, and a line behind it are too many
 pub too_many : (ws : List (List ℕ)) (w bs : List ℕ) (all : List (List ℕ)) (most : ℕ) → length ws + 1 ≡ most
-    → ws ++ w ∷ words_of bs ≡ all → (has_empty all || nat_lt most (length all)) ≡ true
+    → ws ++ w ∷ words_in_line bs ≡ all → (has_empty all || nat_lt most (length all)) ≡ true
 too_many ws w bs all most count cut =
-    let long : length all ≡ length ws + suc (length (words_of bs)) =
-    ap (λ (l : List (List ℕ)). length l) (sym cut) ∙ length-append ws (w ∷ words_of bs) in
+    let long : length all ≡ length ws + suc (length (words_in_line bs)) =
+    ap (λ (l : List (List ℕ)). length l) (sym cut) ∙ length-append ws (w ∷ words_in_line bs) in
     let some = some_word bs in
     or_true (has_empty all) _ (lt-ltb most (length all) (omega (arith, long, some, count)))
 
 -- one word moves from the line to the words before it
-pub word_moves : (ws : List (List ℕ)) (w bs after : List ℕ) (all : List (List ℕ)) → words_of bs ≡ w ∷ words_of after
-    → ws ++ words_of bs ≡ all → (ws ++ w ∷ []) ++ words_of after ≡ all
+pub word_moves : (ws : List (List ℕ)) (w bs after : List ℕ) (all : List (List ℕ)) → words_in_line bs
+    ≡ w ∷ words_in_line after
+    → ws ++ words_in_line bs ≡ all → (ws ++ w ∷ []) ++ words_in_line after ≡ all
 word_moves ws w bs after all cut whole =
-    append_assoc ws (w ∷ []) (words_of after) ∙ ap (λ (l : List (List ℕ)). ws ++ l) (sym cut) ∙ whole
+    append_assoc ws (w ∷ []) (words_in_line after) ∙ ap (λ (l : List (List ℕ)). ws ++ l) (sym cut) ∙ whole
 
 -- one word more in an array
 pub word_kept : (ws : List (Bor (List ℕ))) (i : ℕ) (w : Bor (List ℕ)) → i < length ws

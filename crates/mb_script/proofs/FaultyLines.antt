@@ -13,7 +13,7 @@ use Rattle.mb_script.specs.declared.transfer.TheConstants.{MAX_SCRIPT_LEN}
 use Rattle.mb_script.specs.FirstFault.{line_of}
 use Rattle.mb_script.specs.Scripts.{Made, Script, setup_of, event_at, events_of, script_with, lines_script, script_of}
 use Rattle.mb_script.specs.Steps.{◌>>=◌}
-use Rattle.mb_script.specs.Text.{lines_of, words_of}
+use Rattle.mb_script.specs.Text.{lines_of, words_in_line}
 use Rattle.mb_script.specs.Spelling.{Spells}
 use Rattle.mb_script.proofs.ReadBack.{lines_take}
 use Rattle.mb_script.proofs.AboutLines.{At, at_line, at_setup}
@@ -127,13 +127,13 @@ lines_same m [] (b ∷ bs) e is about same =
     let none : take 1 [] ≡ take 1 (b ∷ bs) = subst (λ (k : ℕ). take k [] ≡ take k (b ∷ bs))
     (sym one) same in absurd (cc)
 lines_same zero (line ∷ lines) bs e is about same =
-    let least = setup_least (setup_of (words_of line)) (λ made. events_of made.plan 2 lines) 0 e
-    (at_setup (words_of line)) about is
+    let least = setup_least (setup_of (words_in_line line)) (λ made. events_of made.plan 2 lines) 0 e
+    (at_setup (words_in_line line)) about is
     (λ made fails. events_least made.plan 2 0 lines e (omega arith) fails about) in
     absurd (omega (arith, least))
 lines_same (suc k) (line ∷ lines) bs e is about same =
     let h = same_head k line lines bs same in
-    let further = setup_step (setup_of (words_of line)) (λ made. events_of made.plan 2 lines)
+    let further = setup_step (setup_of (words_in_line line)) (λ made. events_of made.plan 2 lines)
     (λ made. events_of made.plan 2 h.0) e is
     (λ made fails. events_same made.plan 2 k (suc k) lines h.0 e (omega arith) fails about (omega arith) h.2) in
     subst (λ (t : List (List ℕ)). lines_script t ≡ Err e) (sym h.1) further
@@ -227,9 +227,9 @@ lines_before n [] e is about some =
     let one = one_line NoSetup e 1 (suc n) refl (err_is NoSetup e is) about in absurd (omega (arith, one, some))
 lines_before zero (line ∷ lines) e is about some = absurd (omega (arith, some))
 lines_before (suc k) (line ∷ lines) e is about some =
-    setup_well (setup_of (words_of line)) (λ made. events_of made.plan 2 lines)
+    setup_well (setup_of (words_in_line line)) (λ made. events_of made.plan 2 lines)
     (λ made. events_of made.plan 2 (take k lines)) e
-    (suc (suc k)) (at_setup (words_of line)) about (omega arith) is
+    (suc (suc k)) (at_setup (words_in_line line)) about (omega arith) is
     (λ made fails. events_before made.plan 2 k (suc (suc k)) lines e
     (events_last made.plan 2 (suc (suc k)) lines e (omega arith) fails about) fails about (omega arith))
 

@@ -12,7 +12,7 @@ use Rattle.mb_script.specs.declared.transfer.TheConstants.{MAX_SCRIPT_LEN}
 use Rattle.mb_script.specs.FirstFault.{first_of, first_word_in}
 use Rattle.mb_script.specs.Scripts.{Made, sizes_of, setup_of, events_of, script_with, lines_script, script_of}
 use Rattle.mb_script.specs.Steps.{◌>>=◌}
-use Rattle.mb_script.specs.Text.{has_empty, lines_of, words_of}
+use Rattle.mb_script.specs.Text.{has_empty, lines_of, words_in_line}
 use Rattle.mb_script.proofs.AboutLines.{For, for_cond, for_sizes}
 use Rattle.mb_script.proofs.FaultyLines.{by_lines, err_is, events_least}
 
@@ -52,7 +52,7 @@ no_setup_by (key ∷ ws) lines e =
 no_setup_lines : (us : List (List ℕ)) → lines_script us ≡ Err NoSetup → first_word_in us ≢ Some (codes "setup")
 unfolding lines_script
 no_setup_lines [] is = λ e. cc
-no_setup_lines (line ∷ lines) is = λ e. no_setup_by (words_of line) lines e is
+no_setup_lines (line ∷ lines) is = λ e. no_setup_by (words_in_line line) lines e is
 
 -- another first word
 other_by : (key : List ℕ) (ws : List (List ℕ)) (t : Bool) → bytes_eq key (codes "setup") ≡ t → key ≢ codes "setup"
@@ -69,7 +69,7 @@ other_setup (key ∷ ws) other = other_by key ws _ refl (λ e. other (ap (λ (w 
 always_lines : (us : List (List ℕ)) → first_word_in us ≢ Some (codes "setup") → lines_script us ≡ Err NoSetup
 unfolding lines_script
 always_lines [] other = refl
-always_lines (line ∷ lines) other = rw (other_setup (words_of line) other) refl
+always_lines (line ∷ lines) other = rw (other_setup (words_in_line line) other) refl
 
 pub no_setup_told : (bytes : List ℕ) → script_of bytes ≡ Err NoSetup
     → first_word_in (lines_of bytes) ≢ Some (codes "setup")

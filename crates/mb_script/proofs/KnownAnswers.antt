@@ -16,7 +16,7 @@ use Rattle.mb_world.specs.declared.event.Answer.TheVariants as answer
 use Rattle.mb_world.specs.declared.event.Event.{Event}
 use Rattle.mb_world.specs.declared.event.Event.TheVariants as event
 use Rattle.mb_world.specs.Plan.{Plan, consumers_of}
-use Rattle.mb_world.specs.Replay.{IsEntry, IsRefused, IsReplay, Names, answer_to, with_access}
+use Rattle.mb_world.specs.Replay.{IsEntry, IsRefused, IsReplay, AnswerNames, answer_to, with_access}
 use Rattle.mb_world.specs.World.{ToCells, ToClaims, WorldAccess, WorldHistory}
 use Rattle.mb_script.specs.Replaying.{IsAnswer, IsOfWorld}
 use Rattle.mb_script.specs.Scripts.{Script}
@@ -43,7 +43,7 @@ cells_known cells (Item k) (FetchAdd x n) r is = absurd (cc)
 cells_known cells (Item k) (Load v) r is = (λ e. cc, λ e. cc)
 cells_known cells (Item k) (Store v) r is = (λ e. cc, λ e. cc)
 
-named_known : (plan : Plan) (r : Answer) (a : WorldAccess) (h : WorldHistory) → Names plan r a h → IsOfWorld r
+named_known : (plan : Plan) (r : Answer) (a : WorldAccess) (h : WorldHistory) → AnswerNames plan r a h → IsOfWorld r
 named_known plan r (ToCells a) h names = cells_known plan.claims.cells a.word a.act r names
 named_known plan r (ToClaims a) h names = let is = names.2 in (λ e. cc, λ e. cc)
 

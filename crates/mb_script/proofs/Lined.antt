@@ -15,7 +15,7 @@ use Rattle.mb_script.specs.Faults.{Gives}
 use Rattle.mb_script.specs.Steps.{◌>>=◌}
 use Rattle.mb_script.specs.Scripts.{Made, one_number, two_numbers, three_numbers, event_of, event_at, events_of, sizes_of, setup_of}
 use Rattle.mb_script.specs.Tables.{table_named}
-use Rattle.mb_script.specs.Text.{words_of, has_empty}
+use Rattle.mb_script.specs.Text.{words_in_line, has_empty}
 
 -- events in front of those of the further lines, if these have no fault
 abbrev pub onto : List Event → Result (List Event) Fault → Result (List Event) Fault
@@ -43,15 +43,16 @@ long_event n (key ∷ a ∷ b ∷ c ∷ d ∷ ws) long =
     (bytes_eq key (codes "step")) (Err (BadLine n))
 
 -- a line with an empty word or too many, by whether it has an empty one
-bad_by : (plan : Plan) (n : ℕ) (line : List ℕ) (empty : Bool) → has_empty (words_of line) ≡ empty
-    → (empty || nat_lt 8 (length (words_of line))) ≡ true → event_at plan n line ≡ Err (BadLine n)
+bad_by : (plan : Plan) (n : ℕ) (line : List ℕ) (empty : Bool) → has_empty (words_in_line line) ≡ empty
+    → (empty || nat_lt 8 (length (words_in_line line))) ≡ true → event_at plan n line ≡ Err (BadLine n)
 unfolding event_at
 bad_by plan n line true is bad = rw is refl
-bad_by plan n line false is bad = rw (is, long_event n (words_of line) (ltb-true _ _ bad)) refl
+bad_by plan n line false is bad = rw (is, long_event n (words_in_line line) (ltb-true _ _ bad)) refl
 
 -- is a bad line
 pub bad_event : (plan : Plan) (n : ℕ) (line : List ℕ)
-    → (has_empty (words_of line) || nat_lt 8 (length (words_of line))) ≡ true → event_at plan n line ≡ Err (BadLine n)
+    → (has_empty (words_in_line line) || nat_lt 8 (length (words_in_line line))) ≡ true
+    → event_at plan n line ≡ Err (BadLine n)
 bad_event plan n line bad = bad_by plan n line _ refl bad
 
 -- whatever the table
@@ -92,11 +93,11 @@ bad_setup_by ws false is bad =
     rw (is, long_setup ws (omega (arith, more))) refl
 
 -- a first line with the right key and an empty word or too many is a bad line
-pub bad_setup : (line key : List ℕ) (ws : List (List ℕ)) → words_of line ≡ key ∷ ws → key ≡ codes "setup"
-    → (has_empty (words_of line) || nat_lt 8 (length (words_of line))) ≡ true
-    → setup_of (words_of line) ≡ Err (BadLine 1)
+pub bad_setup : (line key : List ℕ) (ws : List (List ℕ)) → words_in_line line ≡ key ∷ ws → key ≡ codes "setup"
+    → (has_empty (words_in_line line) || nat_lt 8 (length (words_in_line line))) ≡ true
+    → setup_of (words_in_line line) ≡ Err (BadLine 1)
 bad_setup line key ws cut is bad =
-    let words : words_of line ≡ codes "setup" ∷ ws = cut ∙ ap (λ (k : List ℕ). k ∷ ws) is in
+    let words : words_in_line line ≡ codes "setup" ∷ ws = cut ∙ ap (λ (k : List ℕ). k ∷ ws) is in
     rw words (bad_setup_by ws _ refl (rw words at bad))
 
 -- a line after the last that may have an event

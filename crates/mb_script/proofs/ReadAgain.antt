@@ -21,7 +21,7 @@ use Rattle.mb_script.specs.Spelling.{IsEventOf, IsScript, Sizes, event_words, ma
 use Rattle.mb_script.specs.Steps.{◌>>=◌}
 use Rattle.mb_script.specs.Shapes.{shape_named, shape_with, shape_words, words_with}
 use Rattle.mb_script.specs.Tables.{table_name}
-use Rattle.mb_script.specs.Text.{IsWord, IsWordLine, has_empty, lines_of, words_of}
+use Rattle.mb_script.specs.Text.{IsWord, IsWordLine, has_empty, lines_of, words_in_line}
 use Rattle.mb_script.proofs.Spelled.{ascii_lines, decimal_word, none_empty, number_again, words_ascii, words_join}
 
 -- four tests in turn, none of which holds
@@ -127,10 +127,10 @@ setup_is ws e = rw e refl
 
 -- the first line
 pub setup_again : (z : Sizes) → setup_refusal z.producers z.consumers z.cells z.pairs ≡ None
-    → setup_of (words_of (join_with_byte 32 (setup_words z))) ≡ Ok (made_for z)
+    → setup_of (words_in_line (join_with_byte 32 (setup_words z))) ≡ Ok (made_for z)
 setup_again z e =
     let fit = setup_fit z e in
-    let cut : words_of (join_with_byte 32 (setup_words z)) ≡ setup_words z = words_join _ _ fit in
+    let cut : words_in_line (join_with_byte 32 (setup_words z)) ≡ setup_words z = words_join _ _ fit in
     let behind : List (List ℕ) =
     decimal z.producers ∷ decimal z.consumers ∷ decimal z.cells ∷ decimal z.pairs
     ∷ table_name z.table ∷ shape_words z.shape in

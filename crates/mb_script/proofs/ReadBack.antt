@@ -32,7 +32,7 @@ use Rattle.mb_script.specs.Spelling.{IsEventOf, Spells, Sizes, event_words, made
 use Rattle.mb_script.specs.Steps.{◌>>=◌}
 use Rattle.mb_script.specs.Shapes.{shape_named, shape_with, shape_words}
 use Rattle.mb_script.specs.Tables.{table_name, table_named}
-use Rattle.mb_script.specs.Text.{has_empty, lines_of, words_of}
+use Rattle.mb_script.specs.Text.{has_empty, lines_of, words_in_line}
 use Rattle.mb_script.proofs.Bound.{avoided, bind_ok, ok_is, passed, some_from}
 use Rattle.mb_script.proofs.ReadAgain.{consumers_are, plan_for}
 use Rattle.mb_script.proofs.Spelled.{number_takes}
@@ -287,10 +287,10 @@ pub line_takes : (z : Sizes) (n : ℕ) (line : List ℕ) (e : Event) → event_a
     → (line ≡ join_with_byte 32 (event_words e)) × IsEventOf z e
 unfolding event_at
 line_takes z n line e read =
-    let a = avoided (has_empty (words_of line)) (BadLine n)
-    (event_of n (words_of line) >>= placed (plan_for z) n) e read in
-    let b = bind_ok (event_of n (words_of line)) (placed (plan_for z) n) e a.1 in
-    let c = event_takes n (words_of line) b.0 b.1 in
+    let a = avoided (has_empty (words_in_line line)) (BadLine n)
+    (event_of n (words_in_line line) >>= placed (plan_for z) n) e read in
+    let b = bind_ok (event_of n (words_in_line line)) (placed (plan_for z) n) e a.1 in
+    let c = event_takes n (words_in_line line) b.0 b.1 in
     let d = placed_takes z n b.0 e b.2 c.1 in
     let spelled : line ≡ join_with_byte 32 (event_words b.0) =
     sym (join_with_byte-slice_split 32 line) ∙ ap (join_with_byte 32) c.0 in
@@ -337,9 +337,9 @@ unfolding lines_script
 lines_take [] s read = absurd (cc)
 lines_take (line ∷ lines) s read =
     let further = λ (m : Made). events_of m.plan 2 lines >>= (λ events. Ok (script_with m events)) in
-    let a = bind_ok (setup_of (words_of line)) further s read in
+    let a = bind_ok (setup_of (words_in_line line)) further s read in
     let b = bind_ok (events_of a.0.plan 2 lines) (λ events. Ok (script_with a.0 events)) s a.2 in
-    let set = setup_take (words_of line) a.0 a.1 in
+    let set = setup_take (words_in_line line) a.0 a.1 in
     let z = set.0 in
     let plan : a.0.plan ≡ plan_for z = ap (λ (m : Made). m.plan) (sym set.2.1) in
     let events = events_take z 2 lines b.0 (subst (λ (p : Plan). events_of p 2 lines ≡ Ok b.0) plan b.1) in

@@ -12,12 +12,12 @@ use Rattle.std.proofs.lemmas.Bool.Decides.{nat_tests}
 use Rattle.std.proofs.lemmas.Fmt.{digits_decimal, digits_value-decimal, decimal_nonempty, first_decimal, decimal-digits_value, decimal_digit}
 use Rattle.std.proofs.lemmas.List.Splits.{slice_split_none, slice_split_at}
 use Rattle.std.proofs.lemmas.List.Elements.{All-from_recursion}
-use Rattle.mb_script.specs.Text.{IsWord, IsWordLine, lines_of, words_of, has_empty, is_numeral, number_of, numbers_of}
+use Rattle.mb_script.specs.Text.{IsWord, IsWordLine, lines_of, words_in_line, has_empty, is_numeral, number_of, numbers_of}
 use Rattle.mb_script.proofs.Numerals.{own}
 
 -- words with one space between each two are cut out again
 pub words_join : (w : List ℕ) (ws : List (List ℕ)) → AllByRecursion IsWord (w ∷ ws)
-    → words_of (join_with_byte 32 (w ∷ ws)) ≡ w ∷ ws
+    → words_in_line (join_with_byte 32 (w ∷ ws)) ≡ w ∷ ws
 words_join w [] are = slice_split_none (λ b. nat_eq b 32) w (All-from_recursion _ w are.0.0)
 words_join w (v ∷ ws) are =
     slice_split_at (λ b. nat_eq b 32) w 32 (join_with_byte 32 (v ∷ ws)) (All-from_recursion _ w are.0.0) refl

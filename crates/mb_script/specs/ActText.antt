@@ -13,8 +13,8 @@ reg_text Proposal = codes "p"
 reg_text (Quorum i) = codes "q" ++ decimal i
 reg_text Last = codes "l"
 
--- What was done, where, and the value of the word. Of an exchange it is the value that is stored if the
--- word is empty; after it comes the value that was found.
+-- What was done, where, and the value of the word. For an exchange it is the value that is stored if the word is 0.
+-- After it comes the value that was found.
 abbrev pub act_text : Act → List ℕ
 act_text (Load reg value) = codes "load " ++ reg_text reg ++ codes " " ++ decimal value
 act_text (Store reg value) = codes "store " ++ reg_text reg ++ codes " " ++ decimal value

@@ -3,7 +3,7 @@ use Rattle.std.specs.Prelude.{ℕ, ◌+◌, List, [], ◌∷◌, Option, Some, N
 use Rattle.mb_script.specs.declared.fault.Fault.{Fault}
 use Rattle.mb_script.specs.declared.fault.Fault.TheVariants.{TooLong, NotAscii, BadLine, BadNumber, NoSetup, BadSetup, NoLane, NoConsumer, TooManyEvents, NoMemory, ReadFault, WriteFault}
 use Rattle.mb_script.specs.declared.script.TheConstants.{MAX_EVENTS}
-use Rattle.mb_script.specs.Text.{words_of}
+use Rattle.mb_script.specs.Text.{words_in_line}
 
 -- the line that a fault is about, counted from 1, if it is about one
 abbrev pub line_of : Fault → Option ℕ
@@ -28,4 +28,4 @@ first_of (word ∷ words) = Some word
 -- the first word of the first of these lines
 abbrev pub first_word_in : List (List ℕ) → Option (List ℕ)
 first_word_in [] = None
-first_word_in (line ∷ lines) = first_of (words_of line)
+first_word_in (line ∷ lines) = first_of (words_in_line line)

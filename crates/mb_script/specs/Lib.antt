@@ -1,6 +1,6 @@
 pub mod ActText
 pub mod Devices
-pub mod Exchange
+pub mod CommandIo
 pub mod Faults
 pub mod FewWords
 pub mod FirstFault
@@ -16,5 +16,5 @@ pub mod Text
 pub mod Transcribed
 pub mod Transcript
 pub mod Vocabulary
--- the words of clauses, behind one door
+-- the names that clauses use, also for the crates above
 unfoldable pub use Vocabulary.*

@@ -18,6 +18,6 @@ pub record IsReplayText (plan : Plan) (events : List Event) (text : List ℕ) : 
   pub replayed : IsReplay plan events answers [] history
   pub report : ReportView
   pub reported : IsReportOf plan (histories_of history) report
-  -- one assignment stands behind the report, and nothing follows an end mark
+  -- one assignment agrees with the report, and nothing follows an end mark
   pub honest : IsHonest plan (histories_of history) report
   pub written : text ≡ transcript_text events answers ++ report_text report

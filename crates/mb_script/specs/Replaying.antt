@@ -1,10 +1,10 @@
--- What a replay script is answered.
+-- The answer to a replay script, or its fault.
 use Rattle.std.specs.Prelude.{◌≡◌, ◌≢◌, ℕ, List, Option, Some, None, Result, Ok, Err}
 use Rattle.mb_world.specs.declared.event.Answer.{Answer}
 use Rattle.mb_world.specs.declared.event.Answer.TheVariants.{NoLane, NoConsumer}
 use Rattle.mb_script.specs.declared.fault.Fault.{Fault}
 use Rattle.mb_script.specs.declared.fault.Fault.TheVariants.{TooLong, NoMemory, ReadFault, WriteFault}
-use Rattle.mb_script.specs.Exchange.{Command}
+use Rattle.mb_script.specs.CommandIo.{Command}
 use Rattle.mb_script.specs.ReplayText.{IsReplayText}
 use Rattle.mb_script.specs.Scripts.{Script, script_of}
 
@@ -14,7 +14,7 @@ pub record IsAnswer (bytes text : List ℕ) : Type 0 where
   pub read : script_of bytes ≡ Ok script
   pub replayed : IsReplayText script.plan script.events text
 
--- an answer of an event whose lane and consumer are there
+-- an answer to an event whose lane and consumer exist
 abbrev pub IsOfWorld : Answer → Type 0
 IsOfWorld r = (r ≢ NoLane) × (r ≢ NoConsumer)
 
@@ -27,7 +27,7 @@ fault_in (Ok s) = None
 abbrev pub fault_of : List ℕ → Option Fault
 fault_of bytes = fault_in (script_of bytes)
 
--- what the command `replay` answers
+-- the answers and the faults of the command `replay`
 abbrev pub replaying : Command Fault
 replaying = record {
   too_long = TooLong;

@@ -6,7 +6,7 @@ use Rattle.mb_world.specs.declared.report.Note.{Note}
 use Rattle.mb_world.specs.declared.report.Note.TheVariants.{Took, Lost, Undecided}
 use Rattle.mb_world.specs.Report.{DiaryView, LaneView, ReportView}
 
--- each item behind a space
+-- each item after a space
 abbrev pub items_text : List ℕ → List ℕ
 items_text items = flat_map (λ x. codes " " ++ decimal x) items
 
@@ -20,18 +20,18 @@ put_text p l =
 abbrev pub left_text : ℕ → LaneView → List ℕ
 left_text p l = codes "left " ++ decimal p ++ items_text l.left ++ codes "\n"
 
--- the lines of the lanes from the first of these on
+-- the lines of these lanes, which are numbered from `first` on
 abbrev pub lanes_text : ℕ → List LaneView → List ℕ
 lanes_text first [] = []
 lanes_text first (l ∷ ls) = put_text first l ++ left_text first l ++ lanes_text (suc first) ls
 
--- a note behind a space
+-- a note after a space
 abbrev pub note_text : Note → List ℕ
 note_text (Took item) = codes " took " ++ decimal item
 note_text (Lost winner) = codes " lost " ++ decimal winner
 note_text Undecided = codes " undecided"
 
--- the line of a diary: its consumer, its lane, its notes, and whether a claim behind them is begun
+-- the line of a diary: its consumer, its lane, its notes, and whether a claim after them is begun
 abbrev pub diary_text : DiaryView → List ℕ
 diary_text d =
     codes "diary " ++ decimal d.consumer ++ codes " " ++ decimal d.lane ++ flat_map note_text d.notes

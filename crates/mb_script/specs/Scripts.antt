@@ -20,7 +20,7 @@ use Rattle.mb_script.specs.declared.transfer.TheConstants.{MAX_SCRIPT_LEN}
 use Rattle.mb_script.specs.Steps.{◌>>=◌}
 use Rattle.mb_script.specs.Shapes.{shape_named}
 use Rattle.mb_script.specs.Tables.{table_named}
-use Rattle.mb_script.specs.Text.{lines_of, words_of, has_empty, number_of}
+use Rattle.mb_script.specs.Text.{lines_of, words_in_line, has_empty, number_of}
 
 -- what a first line makes: what a world is made of, how many pairs of deciding objects each cell has,
 -- and what it has beside them
@@ -37,7 +37,7 @@ made_in setup = record { plan = plan_in setup; pairs = pairs_in setup; shape = s
 abbrev pub made_from : Shape → ℕ → ℕ → ℕ → ℕ → TableName → Made
 made_from shape p c m k t = record { plan = shaped_plan shape p c m k t; pairs = k; shape = shape }
 
--- the same, and what is to happen, the first first
+-- the same, and what is to happen, in its order
 pub record Script : Type 0 where
   pub plan : Plan
   pub pairs : ℕ
@@ -57,7 +57,7 @@ script_with made events = record {
 abbrev pub view : {A : Type 0} → code.Script A → Script
 view s = script_with (made_in s.setup) s.events.items
 
--- ---- the numbers of line n, where there are as many as there should be
+-- ---- the numbers of line n, if there are as many as there should be
 abbrev pub number_at : ℕ → List ℕ → Result ℕ Fault
 number_at n word = ok_or (number_of word) (BadNumber n)
 
@@ -93,7 +93,7 @@ sizes_of (producers ∷ consumers ∷ cells ∷ pairs ∷ name ∷ shape) = do
   made_of (setup_refusal p c m k) (made_from f p c m k t)
 sizes_of words = Err (BadLine 1)
 
--- the words of the line: what else is wrong with it counts only where its first word is `setup`
+-- the words of the line. What else is wrong with it counts only if its first word is `setup`
 unfoldable pub setup_of : List (List ℕ) → Result Made Fault
 setup_of [] = Err NoSetup
 setup_of (key ∷ words) =
@@ -135,14 +135,14 @@ placed plan n event =
     then (if has_consumer plan (consumer_in event) then Ok event else Err (NoConsumer n))
     else Err (NoLane n)
 
--- line n
+-- the event of this world that line n says, or what is wrong with the line
 unfoldable pub event_at : Plan → ℕ → List ℕ → Result Event Fault
 event_at plan n line =
-    if has_empty (words_of line) then Err (BadLine n)
-    else event_of n (words_of line) >>= placed plan n
+    if has_empty (words_in_line line) then Err (BadLine n)
+    else event_of n (words_in_line line) >>= placed plan n
 
--- The lines from line n on, so that the first faulty line decides. The line behind the last that may have an event is one
--- too many, whatever it holds.
+-- The events of the lines from line n on. The first faulty line decides. A line after the last that may have an event
+-- is one too many, whatever it holds.
 unfoldable pub events_of : Plan → ℕ → List (List ℕ) → Result (List Event) Fault
 events_of plan n [] = Ok []
 events_of plan n (line ∷ lines) =
@@ -153,7 +153,7 @@ events_of plan n (line ∷ lines) =
 unfoldable pub lines_script : List (List ℕ) → Result Script Fault
 lines_script [] = Err NoSetup
 lines_script (line ∷ lines) =
-    setup_of (words_of line) >>= (λ made. events_of made.plan 2 lines >>= (λ events. Ok (script_with made events)))
+    setup_of (words_in_line line) >>= (λ made. events_of made.plan 2 lines >>= (λ events. Ok (script_with made events)))
 
 -- what the bytes say: a script, or the first fault
 unfoldable pub script_of : List ℕ → Result Script Fault

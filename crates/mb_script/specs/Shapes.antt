@@ -26,7 +26,7 @@ shape_of_word word =
     else if bytes_eq word (codes "fastlast") then Some (shape_with true true)
     else None
 
--- the shape of the words after a table's name: no word says that cells have pairs alone
+-- the shape of the words after a table's name. If there is none, cells have pairs alone
 abbrev pub shape_named : List (List ℕ) → Option Shape
 shape_named [] = Some plain
 shape_named (word ∷ []) = shape_of_word word

@@ -5,25 +5,25 @@ use Rattle.std.specs.List.{AllByRecursion, slice_split, onto_first, list_all, li
 use Rattle.std.specs.Str.{all_ascii_digits}
 use Rattle.std.specs.Str.Parse.{digits_value}
 
--- LF ends a line. What stands after the last LF is a line too, unless nothing stands there.
+-- LF ends a line. What comes after the last LF is a line too, unless it is empty.
 abbrev pub lines_of : List ℕ → List (List ℕ)
 lines_of [] = []
 lines_of (b ∷ bytes) = if b == 10 then [] ∷ lines_of bytes else onto_first b (lines_of bytes)
 
 -- a line is cut at each space
-abbrev pub words_of : List ℕ → List (List ℕ)
-words_of line = slice_split (λ b. b == 32) line
+abbrev pub words_in_line : List ℕ → List (List ℕ)
+words_in_line line = slice_split (λ b. b == 32) line
 
--- the words behind the first, where there are any
+-- the words after the first, if there are any
 abbrev pub words_behind : Option (List ℕ) → List (List ℕ)
 words_behind None = []
-words_behind (Some rest) = words_of rest
+words_behind (Some rest) = words_in_line rest
 
 -- some word is empty
 abbrev pub has_empty : List (List ℕ) → Bool
 has_empty words = list_any (λ w. length w == 0) words
 
--- digits, of which the first is 0 only in 0 itself
+-- digits. The first is 0 only in 0 itself
 abbrev pub is_numeral : List ℕ → Bool
 is_numeral word = all_ascii_digits word && (nat_lt 48 (slice_index word 0) || length word == 1)
 
@@ -32,7 +32,7 @@ unfoldable pub number_of : List ℕ → Option ℕ
 number_of word =
     if is_numeral word && nat_lt (digits_value 10 word) (2 ^ 64) then Some (digits_value 10 word) else None
 
--- the numbers of words, where each word has one
+-- the numbers of words, if each word has one
 unfoldable pub numbers_of : List (List ℕ) → Option (List ℕ)
 numbers_of [] = Some []
 numbers_of (w ∷ ws) =

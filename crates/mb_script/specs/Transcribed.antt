@@ -8,7 +8,7 @@ use Rattle.mb_world.specs.World.{WorldHistory}
 use Rattle.mb_world.specs.WorldState.{IsWorldAfter, WorldState}
 use Rattle.mb_script.specs.Transcript.{transcript_text}
 
--- after a history, the replay of these events has left the world so, and its transcript stands behind the text
+-- after a history, the replay of these events has left the world in this state, and appended its transcript to the text
 pub record IsTranscribed (events : List Event) (was : WorldHistory) (world : WorldState)
     (old new : List ℕ) : Type 0 where
   pub answers : List Answer

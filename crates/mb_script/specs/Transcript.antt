@@ -1,4 +1,4 @@
--- The transcript: a line for each event, which begins with the event's words and tells what it was answered.
+-- The transcript: a line for each event, which begins with the event's words and ends with its answer.
 use Rattle.std.specs.Prelude.{ℕ, List, [], ◌∷◌, ◌++◌, codes}
 use Rattle.std.specs.Fmt.{decimal}
 use Rattle.mb_claim.specs.declared.access.Stage.{Stage}
@@ -18,7 +18,7 @@ use Rattle.mb_world.specs.declared.event.Event.TheVariants as event
 use Rattle.mb_script.specs.ActText.{act_text}
 
 -- ---- an event
--- its words, but for the random word of a step
+-- its words, except the random word of a step
 abbrev pub event_text : Event → List ℕ
 event_text (event.Offer lane item) = codes "offer " ++ decimal lane ++ codes " " ++ decimal item
 event_text (event.Push lane) = codes "push " ++ decimal lane
@@ -58,7 +58,7 @@ stage_text stage.Won = codes " won"
 stage_text (stage.Lost winner) = codes " lost " ++ decimal winner
 stage_text stage.Undecided = codes " undecided"
 
--- what was answered; the first two do not come where the script's lanes and consumers are the world's
+-- the answer. The first two do not come if the script's lanes and consumers are the world's
 abbrev pub answer_text : Answer → List ℕ
 answer_text NoLane = codes "no lane"
 answer_text NoConsumer = codes "no consumer"
@@ -75,7 +75,7 @@ answer_text (Took cell item) = codes "took " ++ decimal item
 abbrev pub entry_text : Event → Answer → List ℕ
 entry_text e r = event_text e ++ codes " " ++ answer_text r ++ codes "\n"
 
--- a line for each event with its answer, the first first
+-- a line for each event with its answer, in their order
 abbrev pub transcript_text : List Event → List Answer → List ℕ
 transcript_text [] rs = []
 transcript_text (e ∷ es) [] = []

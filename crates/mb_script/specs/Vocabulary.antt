@@ -1,7 +1,7 @@
--- The words of clauses, here and in the crates above.
+-- The names that clauses use, here and in the crates above.
 pub use Rattle.mb_script.specs.Devices.{AppendsFront, ConsumesCount, ConsumesUpTo, CountGrows, CountGrowsUpTo, Had, one_more}
-pub use Rattle.mb_script.specs.Exchange.{Command, IsExchange, LiesIn, Meter, meter}
-pub use Rattle.mb_script.specs.Text.{IsWord, IsWordLine, has_empty, is_numeral, lines_of, words_behind, words_of}
+pub use Rattle.mb_script.specs.CommandIo.{AreApart, Command, IsCommandIo, LiesIn, IoModel, meter}
+pub use Rattle.mb_script.specs.Text.{IsWord, IsWordLine, has_empty, is_numeral, lines_of, words_behind, words_in_line}
 unfoldable pub use Rattle.mb_script.specs.Text.{number_of, numbers_of}
 pub use Rattle.mb_script.specs.ActText.{act_text, reg_text}
 pub use Rattle.mb_script.specs.Transcript.{answer_text, entry_text, event_text, transcript_text}

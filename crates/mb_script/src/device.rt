@@ -1,8 +1,8 @@
 //! Readers and writers that count their failures, and readers that count the bytes that they give.
 //!
-//! A promise that a fault comes only where the device failed needs a device that tells so, and a promise that no more
-//! than so many bytes are read needs a count where the bytes themselves are not known. These traits have one read or
-//! one write a call, so nothing is retried.
+//! A promise that a fault comes only if the device failed needs a device that counts its failures. A promise of a limit
+//! on what is read needs a count of the bytes, as the bytes themselves may not be known. Each call of these traits
+//! makes one read or one write, so nothing is retried.
 ghost use Rattle.std.specs.Prelude.{◌≡◌, ℕ, ◌<◌, List, IsOk, IsErr, IfOk, Ok, length};
 ghost use Rattle.std.specs.declared.option.Option.{Option};
 ghost use Rattle.std.specs.Io.{ReadsAtMost, WritesAtMost};
@@ -13,8 +13,8 @@ use std::io;
 use std::io::{Read, Write};
 
 /// A reader that counts its failures, modulo 2^64, and the bytes that its reads give, up to 2^64 - 1.
-pub trait Source {
-    // The bytes that reads will give from here on, where they are known.
+pub trait CountedRead {
+    // The bytes that reads will give from here on, if they are known.
     ghost left: { Self → Option (List ℕ) };
 
     ghost failures: { Self → ℕ };
@@ -22,7 +22,7 @@ pub trait Source {
     // How many bytes its reads gave, whether they are known or not. It stops at 2^64 - 1.
     ghost given: { Self → ℕ };
 
-    /// Reads some bytes, at most the buffer's length, and none only at the end or with no room.
+    /// Reads some bytes, at most the buffer's length. It reads none only at the end, or if the buffer has no room.
     fn read(&mut self, buf: &mut [u8]) -> io::Result<usize>
         ensures bound { ReadsAtMost result buf.new }
         ensures bytes { ReadConsumes (left self.old) (left self.new) result buf.new }
@@ -33,13 +33,13 @@ pub trait Source {
 }
 
 /// A writer that counts its failures, modulo 2^64. To take none of some bytes is a failure.
-pub trait Sink {
-    // The bytes that the writer holds, where they are known.
+pub trait CountedWrite {
+    // The bytes that the writer holds, if they are known.
     ghost held: { Self → Option (List ℕ) };
 
     ghost failures: { Self → ℕ };
 
-    /// Writes the first bytes of the buffer, and says how many.
+    /// Writes the first bytes of the buffer, and returns how many.
     fn write(&mut self, buf: &[u8]) -> io::Result<usize>
         requires { 0 < length buf.now }
         ensures bound { WritesAtMost result buf.now }
@@ -49,25 +49,25 @@ pub trait Sink {
         ensures works { IfOk result (λ n. 0 < n → failures self.new ≡ failures self.old) };
 }
 
-/// A reader or writer of std, beside the number of its failures and of the bytes that it gave.
+/// A reader or writer of std, with the number of its failures and of the bytes that it gave.
 #[derive(Drop)]
-pub struct Counting<D: Drop> {
+pub struct CountingIo<D: Drop> {
     /// The reader or writer.
     pub device: D,
     /// How many of its reads or writes failed, modulo 2^64.
     pub failures: u64,
-    /// How many bytes its reads gave; where they are more, 2^64 - 1. Of a writer it stays as it is.
+    /// How many bytes its reads gave, or 2^64 - 1 if they are more. For a writer it does not change.
     pub given: u64,
 }
 
-impl<D: Drop> Counting<D> {
+impl<D: Drop> CountingIo<D> {
     /// The device, with no failure and no byte counted.
-    pub fn new(device: D) -> Counting<D>
+    pub fn new(device: D) -> CountingIo<D>
         ensures device { result.device ≡ device }
         ensures failures { result.failures ≡ 0 }
         ensures given { result.given ≡ 0 }
     {
-        Counting {
+        CountingIo {
             device,
             failures: 0,
             given: 0,
@@ -83,7 +83,7 @@ impl<D: Drop> Counting<D> {
     }
 }
 
-impl<R: Read + Drop> Source for Counting<R> {
+impl<R: Read + Drop> CountedRead for CountingIo<R> {
     ghost left = { λ c. R.remaining c.device };
 
     ghost failures = { λ c. c.failures };
@@ -100,7 +100,7 @@ impl<R: Read + Drop> Source for Counting<R> {
     }
 }
 
-impl<W: Write + Drop> Sink for Counting<W> {
+impl<W: Write + Drop> CountedWrite for CountingIo<W> {
     ghost held = { λ c. W.contents c.device };
 
     ghost failures = { λ c. c.failures };

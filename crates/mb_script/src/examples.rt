@@ -1,5 +1,5 @@
-//! The definitions by example: what devices give and take, how answers and reports are written, and the words of shapes.
-//! The functions compute nothing: their contracts are the examples, and their proofs stand in `proofs/examples`.
+//! The definitions by example: what devices give and take, how answers and reports are written, and the words of
+//! shapes. The functions compute nothing: their contracts are the examples. Their proofs are in `proofs/examples`.
 ghost use Rattle.std.specs.Prelude.{◌≡◌, ◌-◌, ◌^◌, true, false, [], ◌∷◌, ◌++◌, codes, Some, None};
 ghost use Rattle.mb_claim.specs.Rows.{plain};
 ghost use Rattle.mb_claim.specs.declared.access.Stage.TheVariants as stage;
@@ -17,14 +17,14 @@ ghost use Rattle.mb_script.specs.ReportText.{report_text};
 ghost use Rattle.mb_script.specs.Shapes.{shape_named};
 ghost use Rattle.mb_script.specs.Transcript.{entry_text, transcript_text};
 
-/// A writer gets a prefix of the text behind what it had, and nothing else.
+/// A writer gets a prefix of the text after what it had, and nothing else.
 pub fn writers_get_a_prefix()
     ensures some { AppendsFront (Some (codes "ab")) (Some (codes "abc")) (codes "cd") }
     ensures other_byte { AppendsFront (Some (codes "ab")) (Some (codes "abd")) (codes "cd") → ⊥ }
     ensures lost_byte { AppendsFront (Some (codes "ab")) (Some (codes "a")) (codes "cd") → ⊥ }
 {}
 
-/// A reader loses bytes from its front, and is asked for no more than so many.
+/// A reader loses bytes from its front: just a number of them, or at most that number.
 pub fn readers_lose_their_front()
     ensures two { ConsumesCount 2 (Some (codes "abc")) (Some (codes "c")) }
     ensures not_three { ConsumesCount 3 (Some (codes "abc")) (Some (codes "c")) → ⊥ }
@@ -35,7 +35,7 @@ pub fn readers_lose_their_front()
     ensures had_more { Had (Some (codes "ab")) (codes "a") → ⊥ }
 {}
 
-/// A count grows by what is added, by no more than so many, and stops at 2^64 - 1.
+/// A count grows by at most the number given, and stops at 2^64 - 1.
 pub fn counts_grow()
     ensures two { CountGrowsUpTo 2 5 7 }
     ensures none { CountGrowsUpTo 2 5 5 }
@@ -84,7 +84,7 @@ pub fn consumers_are_answered()
     ensures took { entry_text (Step 1 0 9) (answer.Took 3 7) ≡ codes "step 1 0 took 7\n" }
 {}
 
-/// The words of shapes: one at most, and none if cells have pairs alone.
+/// The words of shapes: at most one, and none if cells have pairs alone.
 pub fn shapes_have_words()
     ensures none { shape_named [] ≡ Some plain }
     ensures fast { shape_named (codes "fast" ∷ [])
@@ -97,7 +97,7 @@ pub fn shapes_have_words()
     ensures two_words { shape_named (codes "fast" ∷ codes "last" ∷ []) ≡ None }
 {}
 
-/// The lines stand in the order of the events.
+/// The lines are in the order of the events.
 pub fn transcripts_keep_the_order()
     ensures { transcript_text (Push 0 ∷ Push 1 ∷ [])
         (answer.Pushed push.Idle ∷ answer.Pushed (push.Link 2) ∷ [])

@@ -26,13 +26,13 @@ pub enum Fault {
     NoLane(usize),
     /// On the line of this number, the consumer is not of this world.
     NoConsumer(usize),
-    /// Behind the first line there are more than 20,000 lines.
+    /// After the first line there are more than 20,000 lines.
     TooManyEvents,
-    /// A growth was refused.
+    /// Memory ran out.
     NoMemory,
-    /// A read answered an error.
+    /// A read returned an error.
     ReadFault,
-    /// A write answered an error, or took no byte.
+    /// A write returned an error, or took no byte.
     WriteFault,
 }
 

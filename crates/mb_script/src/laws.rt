@@ -1,5 +1,5 @@
-//! What holds of every text, every script and every device. The functions compute nothing: their contracts are the laws. Their proofs stand in
-//! `proofs/laws`, in a folder of the law's name.
+//! What holds of every text, every script and every device. The functions compute nothing: their contracts are the
+//! laws. Their proofs are in `proofs/laws`, each in a folder of the law's name.
 ghost use Rattle.std.specs.Prelude.{◌≡◌, ◌≢◌, ℕ, suc, ◌+◌, ◌-◌, ◌<◌, ◌≤◌, ◌^◌, List, ◌∷◌, ◌++◌, codes, length, map, take};
 ghost use Rattle.std.specs.Prelude.{Some, Err, true, false};
 ghost use Rattle.std.specs.Char.{is_ascii};
@@ -15,27 +15,28 @@ ghost use Rattle.mb_script.specs.FirstFault.{first_word_in, line_of};
 ghost use Rattle.mb_script.specs.Replaying.{IsAnswer, IsOfWorld};
 ghost use Rattle.mb_script.specs.Scripts.{Script, script_of};
 ghost use Rattle.mb_script.specs.Spelling.{IsScript, Sizes, Spells, script_lines};
-ghost use Rattle.mb_script.specs.Text.{IsWord, IsWordLine, has_empty, lines_of, number_of, numbers_of, words_of};
+ghost use Rattle.mb_script.specs.Text.{IsWord, IsWordLine, has_empty, lines_of, number_of, numbers_of, words_in_line};
 
 use mb_quorum::laws::named_tables_are_lawful;
 use mb_world::laws::{histories_have_one_report, replays_do_not_differ, worlds_are_sound};
-use mb_world::steps::one_step;
+use mb_world::steps::history_extends;
 
-/// What is spelled as words with one space between each two is cut into these words, and what was cut was spelled so.
+/// Words that are joined by one space between each two are cut into the same words. The words of a line, joined so, are
+/// that line.
 pub fn words_are_cut_as_spelled()
     ensures cut { (w : List ℕ) (ws : List (List ℕ)) → AllByRecursion IsWord (w ∷ ws)
-        → words_of (join_with_byte 32 (w ∷ ws)) ≡ w ∷ ws }
+        → words_in_line (join_with_byte 32 (w ∷ ws)) ≡ w ∷ ws }
     ensures none_empty { (ws : List (List ℕ)) → AllByRecursion IsWord ws → has_empty ws ≡ false }
-    ensures spelled { (line : List ℕ) → join_with_byte 32 (words_of line) ≡ line }
+    ensures spelled { (line : List ℕ) → join_with_byte 32 (words_in_line line) ≡ line }
 {}
 
-/// What is spelled as a number is read as that number, and what was read was spelled so: in digits, with no needless 0.
+/// The decimal of a number is read as that number. A word that is read as a number is its decimal, with no needless 0.
 pub fn numbers_are_read_as_spelled()
     ensures word { (n : ℕ) → n < 2 ^ 64 → IsWord (decimal n) }
     ensures read { (n : ℕ) → n < 2 ^ 64 → number_of (decimal n) ≡ Some n }
     ensures spelled { (w : List ℕ) (n : ℕ) → number_of w ≡ Some n → (w ≡ decimal n) × (n < 2 ^ 64) }
 
-    // The same of lists of numbers.
+    // The same for lists of numbers.
     ensures words { (ns : List ℕ) → AllByRecursion (λ n. n < 2 ^ 64) ns
         → AllByRecursion IsWord (map decimal ns) }
     ensures all_read { (ns : List ℕ) → AllByRecursion (λ n. n < 2 ^ 64) ns
@@ -50,8 +51,8 @@ pub fn lines_of_words_are_ascii()
         → lines_of bytes ≡ map (join_with_byte 32) lines → list_all is_ascii bytes ≡ true }
 {}
 
-/// The first faulty line of a script decides: what stands behind it counts for nothing, and what stands before it is
-/// spelled as a script.
+/// The first faulty line of a script decides: the lines after it do not count. The lines before it, if there are any,
+/// spell a script.
 pub fn first_faulty_lines_decide()
     ensures behind { (bytes others : List ℕ) (e : Fault) (n : ℕ) → script_of bytes ≡ Err e
         → line_of e ≡ Some n
@@ -62,7 +63,7 @@ pub fn first_faulty_lines_decide()
         → (s : Script) × Spells (take n (lines_of bytes)) s }
 {}
 
-/// `NoSetup` comes before every other fault of the first line, and only where its first word is not `setup`.
+/// `NoSetup` comes before every other fault of the first line, and only if its first word is not `setup`.
 pub fn setups_come_first()
     ensures always { (bytes : List ℕ) → length bytes ≤ MAX_SCRIPT_LEN
         → list_all is_ascii bytes ≡ true
@@ -71,7 +72,7 @@ pub fn setups_come_first()
         → first_word_in (lines_of bytes) ≢ Some (codes "setup") }
 {}
 
-/// A line behind a script that has as many events as a script may have is one too many, whatever it holds.
+/// A line after a script with the most events that a script may have is one too many, whatever it holds.
 pub fn further_lines_are_too_many()
     ensures { (bytes : List ℕ) (z : Sizes) (events : List Event)
         → (line : List ℕ) (rest : List (List ℕ))
@@ -80,19 +81,19 @@ pub fn further_lines_are_too_many()
         → list_all is_ascii bytes ≡ true → script_of bytes ≡ Err TooManyEvents }
 {}
 
-/// A script has at most so many bytes, and so many events.
+/// The most bytes and the most events that a script may have.
 pub fn scripts_have_limits()
     ensures bytes { MAX_SCRIPT_LEN ≡ 1048576 }
     ensures events { MAX_EVENTS ≡ 20000 }
 {}
 
-/// A script has one answer: its events have one replay, and what they did has one report.
+/// A script has at most one answer: its events have at most one replay, and what they did has at most one report.
 pub fn scripts_have_one_answer()
     ensures { (bytes text other : List ℕ) → IsAnswer bytes text → IsAnswer bytes other → text
         ≡ other }
 {
     named_tables_are_lawful();
-    one_step();
+    history_extends();
     replays_do_not_differ();
     worlds_are_sound();
     histories_have_one_report();
@@ -106,12 +107,13 @@ pub fn transcripts_name_what_is_there()
     named_tables_are_lawful();
 }
 
-/// A failure is seen in the number of failures.
+/// One more failure changes the number of failures.
 pub fn failures_are_seen()
     ensures { (failures : ℕ) → one_more failures ≢ failures }
 {}
 
-/// A count that grows by at most so many, and does not come to its end by that, shows that no more bytes were given.
+/// A count that grows by at most `most`, and does not reach its limit by that, shows that at most `most` bytes were
+/// given.
 pub fn counts_bound_what_is_given()
     ensures { (most n old new : ℕ) → old + most < 2 ^ 64 - 1 → CountGrows n old new
         → CountGrowsUpTo most old new → n ≤ most }

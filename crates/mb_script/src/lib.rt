@@ -1,18 +1,19 @@
-//! The replayer: a script in, its transcript and report out. It stands on a text layer of its own, lines, words and
-//! numbers, and on readers and writers that count their failures.
+//! The replayer: a script in, its transcript and report out. It has a text layer of its own (lines, words and numbers),
+//! and readers and writers that count their failures.
 #![tactic(auto)]
 
 mod act_text;
+mod command;
 mod device;
 pub mod examples;
 mod fault;
 mod few_words;
 pub mod laws;
-mod parsing;
+mod parser;
 mod replay;
-mod replaying;
 mod report_lines;
 mod script;
+mod script_command;
 mod shape;
 mod table;
 mod text;
@@ -20,13 +21,14 @@ mod transcript;
 mod transfer;
 
 pub use act_text::push_act;
-pub use device::{Counting, Sink, Source};
+pub use command::run;
+pub use device::{CountedRead, CountedWrite, CountingIo};
 pub use fault::Fault;
-pub use few_words::{MAX_WORDS, Words};
-pub use parsing::parse;
-pub use replaying::run;
+pub use few_words::{LineWords, MAX_WORDS};
+pub use parser::parse;
 pub use report_lines::report_text;
 pub use script::{MAX_EVENTS, Script};
+pub use script_command::{Faults, ScriptCommand, answer_script};
 pub use shape::shape_of_word;
 pub use table::table_named;
 pub use text::{ascii_text, has_empty_word, number, numbers, split_line, split_word};

@@ -1,4 +1,4 @@
-//! The text of a report.
+//! The lines of a report.
 ghost use Rattle.std.specs.Prelude.{◌≡◌, ◌++◌, IfOk, OnOk, string_bytes};
 ghost use Rattle.std.specs.List.{flat_map};
 ghost use Rattle.mb_script.specs.ReportText.{diary_text, items_text, lanes_text, left_text};
@@ -104,7 +104,7 @@ fn push_diaries<A: Allocator, B: Allocator + Drop>(
     Ok(())
 }
 
-/// Appends the report: two lines for each lane, what was put and what is left, and then a line for each diary.
+/// Appends the report: for each lane a line with the items put and a line with those left, then a line for each diary.
 pub(crate) fn push_report<A: Allocator, B: Allocator + Drop>(
     text: &mut String<A>,
     report: &Report<B>,
@@ -117,7 +117,7 @@ pub(crate) fn push_report<A: Allocator, B: Allocator + Drop>(
 }
 
 /// The text of a report: for each lane a line with the items put and a line with those left, and then for each diary a
-/// line with its notes. [`NoMemory`] comes where the allocator refuses room for it.
+/// line with its notes. The error is [`NoMemory`] if the allocator refuses room for it.
 pub fn report_text<A: Allocator + Drop, B: Allocator + Drop>(
     alloc: A,
     report: &Report<B>,

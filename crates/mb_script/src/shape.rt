@@ -4,7 +4,8 @@ ghost use Rattle.mb_script.specs.Shapes.{shape_named, shape_of_word};
 
 use mb_claim::Shape;
 
-/// The shape of a word: `fast`, `last` or `fastlast`. No word says that cells have pairs alone.
+/// The shape of a word, which is `fast`, `last` or `fastlast`. For any other word it is `None`: cells with pairs alone
+/// have no word.
 pub fn shape_of_word(word: &str) -> Option<Shape>
     ensures { result ≡ shape_of_word word.now }
 {

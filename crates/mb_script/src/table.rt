@@ -4,7 +4,7 @@ ghost use Rattle.mb_script.specs.Tables.{table_named};
 
 use mb_quorum::TableName;
 
-/// The table of a name.
+/// The table of this name, which is `unary`, `bits` or `middle`. For any other word it is `None`.
 pub fn table_named(word: &str) -> Option<TableName>
     ensures { result ≡ table_named word.now }
 {

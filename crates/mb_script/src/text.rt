@@ -2,12 +2,12 @@
 ghost use Rattle.std.specs.Prelude.{◌≡◌, ◌∷◌, [], ◌<◌, length, IfOk, IfSome, MatchOption, option_map, true, false};
 ghost use Rattle.std.specs.Char.{is_ascii};
 ghost use Rattle.std.specs.List.{list_all};
-ghost use Rattle.mb_script.specs.Text.{lines_of, words_of, words_behind, has_empty, number_of, numbers_of};
+ghost use Rattle.mb_script.specs.Text.{lines_of, words_in_line, words_behind, has_empty, number_of, numbers_of};
 
 use std::alloc::{AllocError, Allocator};
 use std::str;
 
-/// The bytes as a text, where all of them are ASCII.
+/// The bytes as a text, or `None` if one of them is not ASCII.
 pub fn ascii_text(bytes: &[u8]) -> Option<&str>
     ensures { MatchOption result (list_all is_ascii bytes.now ≡ false)
         (λ text. (list_all is_ascii bytes.now ≡ true) × (text.now ≡ bytes.now)) }
@@ -21,7 +21,7 @@ pub fn ascii_text(bytes: &[u8]) -> Option<&str>
     Some(text)
 }
 
-/// The first line and the text after it, or `None` where there is no line.
+/// The first line and the text after it, or `None` if there is no line.
 pub fn split_line(text: &str) -> Option<(&str, &str)>
     ensures lines { MatchOption result (lines_of text.now ≡ [])
         (λ x. lines_of text.now ≡ x.0.now ∷ lines_of x.1.now) }
@@ -34,11 +34,11 @@ pub fn split_line(text: &str) -> Option<(&str, &str)>
     Some(text.split_once('\n').unwrap_or((text, "")))
 }
 
-/// The first word of a line, which may be empty, and the words behind it, if there are any: a line is cut at each space.
+/// The first word of a line, which may be empty, and the words after it, if there are any. A line is cut at each space.
 pub fn split_word(line: &str) -> (&str, Option<&str>)
-    ensures words { words_of line.now
+    ensures words { words_in_line line.now
         ≡ result.0.now ∷ words_behind (option_map (λ w. w.now) result.1) }
-    ensures some { IfSome result.1 (λ rest. 0 < length (words_of rest.now)) }
+    ensures some { IfSome result.1 (λ rest. 0 < length (words_in_line rest.now)) }
     ensures shorter { IfSome result.1 (λ rest. length rest.now < length line.now) }
 {
     match line.split_once(' ') {
@@ -49,12 +49,12 @@ pub fn split_word(line: &str) -> (&str, Option<&str>)
 
 /// Whether some word of the line is empty, which makes it a bad line.
 pub fn has_empty_word(line: &str) -> bool
-    ensures { result ≡ has_empty (words_of line.now) }
+    ensures { result ≡ has_empty (words_in_line line.now) }
 {
     line.split(' ').any(|word| word.is_empty())
 }
 
-/// The number that a word spells: `0`, or digits that do not begin with 0, up to 2^64 - 1.
+/// The number that a word spells, if it spells one: `0`, or digits that do not begin with 0, up to 2^64 - 1.
 #[tactic(auto, unfolding(crate::specs::Text::number_of))]
 pub fn number(word: &str) -> Option<u64>
     ensures { result ≡ number_of word.now }
@@ -65,7 +65,7 @@ pub fn number(word: &str) -> Option<u64>
     }
 }
 
-/// The numbers that these words spell, or `None` where some word spells none.
+/// The numbers that these words spell, or `None` if some word spells none. The error comes if memory runs out.
 pub fn numbers<A: Allocator + Drop>(
     alloc: A,
     words: Option<&str>,

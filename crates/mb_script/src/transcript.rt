@@ -100,8 +100,8 @@ fn push_answer<A: Allocator>(text: &mut String<A>, answer: Answer) -> Result<(),
     }
 }
 
-/// Appends the line of an event with its answer: the event's words, but for the random word of a step, and then what
-/// was answered.
+/// Appends the line of an event with its answer: the event's words, except the random word of a step, and then the
+/// answer.
 pub(crate) fn push_entry<A: Allocator>(
     text: &mut String<A>,
     event: Event,

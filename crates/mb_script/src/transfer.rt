@@ -1,35 +1,35 @@
-//! All that a reader has, up to a limit, and a text into a writer.
+//! Reading all that a reader has, up to a limit, and writing a whole text.
 ghost use Rattle.std.specs.Prelude.{◌≡◌, ◌≢◌, ◌+◌, ◌≤◌, IfOk, OnOk, OnErr, Err, length};
 ghost use Rattle.std.specs.Io.KnownBytes.{Appends, Consumes, IsAtEnd};
 ghost use Rattle.mb_script.specs.Devices.{AppendsFront, ConsumesCount, ConsumesUpTo, CountGrows};
 ghost use Rattle.mb_script.specs.Devices.{CountGrowsUpTo, one_more};
 
-use crate::device::{Sink, Source};
+use crate::device::{CountedRead, CountedWrite};
 use std::alloc::Allocator;
 
 /// The most bytes that a script may have.
 pub const MAX_SCRIPT_LEN: usize = 1_048_576;
 
-// How many bytes one read may give.
+// The most bytes that one read may give.
 const PIECE_LEN: usize = 4096;
 
 /// Why reading stopped before the end.
 #[derive(Clone, Copy, Debug, PartialEq, Eq, Hash)]
 pub enum ReadEnd {
-    /// There is one byte more than the limit.
+    /// There are more bytes than the limit, [`MAX_SCRIPT_LEN`].
     TooLong,
-    /// A growth was refused.
+    /// Memory ran out.
     NoMemory,
-    /// A read answered an error.
+    /// A read returned an error.
     ReadFault,
 }
 
-/// A write answered an error, or took no byte.
+/// A write returned an error, or took no byte.
 #[derive(Clone, Copy, Debug, PartialEq, Eq, Hash)]
 pub struct WriteFailed;
 
-/// Reads to the end, and stops at the first byte past the limit.
-pub fn read_all<R: Source, A: Allocator + Drop>(
+/// Reads to the end, but stops after the first byte past the limit, [`MAX_SCRIPT_LEN`].
+pub fn read_all<R: CountedRead, A: Allocator + Drop>(
     alloc: A,
     reader: &mut R,
 ) -> Result<Vec<u8, A>, ReadEnd>
@@ -37,17 +37,17 @@ pub fn read_all<R: Source, A: Allocator + Drop>(
     ensures end { OnOk result (IsAtEnd (R.left reader.new)) }
     ensures limit { IfOk result (λ v. length v.items ≤ MAX_SCRIPT_LEN) }
 
-    // Where it stopped early, what it has read is within the limit, or one byte longer.
+    // If it stopped early, it has read at most one byte more than the limit.
     ensures early { OnErr result
         (ConsumesUpTo (MAX_SCRIPT_LEN + 1) (R.left reader.old) (R.left reader.new)) }
     ensures long { result ≡ Err ReadEnd.TooLong
         → ConsumesCount (MAX_SCRIPT_LEN + 1) (R.left reader.old) (R.left reader.new) }
 
-    // Behind one byte too many it reads no more, so no read fails there.
+    // After one byte too many it reads no more, so no read fails there.
     ensures failed { result ≡ Err ReadEnd.ReadFault
         → ConsumesUpTo MAX_SCRIPT_LEN (R.left reader.old) (R.left reader.new) }
 
-    // Of every reader, also of one whose bytes are not known.
+    // For every reader, also for one whose bytes are not known.
     ensures given { CountGrowsUpTo (MAX_SCRIPT_LEN + 1) (R.given reader.old) (R.given reader.new) }
     ensures given_whole { IfOk result
         (λ v. CountGrows (length v.items) (R.given reader.old) (R.given reader.new)) }
@@ -56,7 +56,7 @@ pub fn read_all<R: Source, A: Allocator + Drop>(
     ensures given_failed { result ≡ Err ReadEnd.ReadFault
         → CountGrowsUpTo MAX_SCRIPT_LEN (R.given reader.old) (R.given reader.new) }
 
-    // It answers ReadFault exactly where the reader failed.
+    // It returns ReadFault exactly if a read failed.
     ensures fault { result ≡ Err ReadEnd.ReadFault
         → R.failures reader.new ≡ one_more (R.failures reader.old) }
     ensures works { result ≢ Err ReadEnd.ReadFault → R.failures reader.new ≡ R.failures reader.old }
@@ -78,8 +78,8 @@ pub fn read_all<R: Source, A: Allocator + Drop>(
     Err(ReadEnd::TooLong)
 }
 
-/// Writes the text. After an `Err` a prefix of it was written.
-pub fn write_all<W: Sink>(writer: &mut W, text: &[u8]) -> Result<(), WriteFailed>
+/// Writes the whole text. After an `Err` a prefix of it was written.
+pub fn write_all<W: CountedWrite>(writer: &mut W, text: &[u8]) -> Result<(), WriteFailed>
     ensures ok { OnOk result (Appends (W.held writer.old) (W.held writer.new) text.now) }
     ensures err { OnErr result (AppendsFront (W.held writer.old) (W.held writer.new) text.now) }
     ensures fault { OnErr result (W.failures writer.new ≡ one_more (W.failures writer.old)) }

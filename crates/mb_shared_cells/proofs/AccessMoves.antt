@@ -4,7 +4,7 @@ use Rattle.std.specs.Prelude.{unwrap_or}
 use mathlib.Core.Option.{some}
 use lib.ListN.{get_elem?}
 use Rattle.atomic_table.specs.Table.{Allows, keeps}
-use Rattle.mb_cells.specs.Vocabulary.{History, IsMemoryOf, IsPoolLawful, IsPoolWord, IsStateOf, ProcessFits, address_of, block_after, part, parts_after, stored_by, value_in, words_of}
+use Rattle.mb_cells.specs.Vocabulary.{History, IsMemoryOf, IsPoolLawful, IsPoolWord, IsStateOf, ProcessFits, address_of, block_after, part, parts_after, stored_by, value_in, pool_words}
 use Rattle.mb_cells.specs.declared.access.PoolAccess.{PoolAccess}
 use Rattle.mb_cells.specs.declared.access.PoolAct.{PoolAct}
 use Rattle.mb_cells.specs.declared.access.Process.{Process}
@@ -25,7 +25,7 @@ pub record AccessLaws : Type 0 where
   pub step : (size : PoolSize) (words : List ℕ) (parts : Process → History) (h : History) (a : PoolAccess)
       → IsStateOf size words parts h → IsPoolLawful size (a ∷ h)
       → IsStateOf size (block_after size a words) (parts_after a parts) (a ∷ h)
-  pub within : (size : PoolSize) (w : Word) → IsPoolWord size w → address_of size w < words_of size
+  pub within : (size : PoolSize) (w : Word) → IsPoolWord size w → address_of size w < pool_words size
 
 -- after each lawful history in which the process did this, and that left n in the word: its access goes on, and the
 -- word then holds what f makes of n

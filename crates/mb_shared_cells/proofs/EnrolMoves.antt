@@ -8,7 +8,7 @@ use mathlib.Core.Option.{some, some-injective, some-ne-none}
 use lib.ListN.{get_elem?}
 use Rattle.atomic_table.specs.Table.{Allows, Splits, keeps}
 use Rattle.atomic_table.proofs.Lists.{at_last}
-use Rattle.mb_cells.specs.Vocabulary.{History, IsPoolWord, IsStateOf, address_of, part, words_of}
+use Rattle.mb_cells.specs.Vocabulary.{History, IsPoolWord, IsStateOf, address_of, part, pool_words}
 use Rattle.mb_cells.specs.declared.access.Process.{Process}
 use Rattle.mb_cells.specs.declared.access.Process.TheVariants.{Producer, Reader}
 use Rattle.mb_cells.specs.declared.access.TheConstants.{END}
@@ -27,12 +27,12 @@ abbrev pub MoreLaw : Type 0
 MoreLaw =
     (size : PoolSize) (words more : List ℕ) (parts : Process → History) (h : History)
     → IsStateOf size words parts h
-    → ((i : ℕ) → i < words_of size → slice_index more i ≡ slice_index words i)
-    → words_of size ≤ length more → IsStateOf size more parts h
+    → ((i : ℕ) → i < pool_words size → slice_index more i ≡ slice_index words i)
+    → pool_words size ≤ length more → IsStateOf size more parts h
 
 abbrev pub EmptyLaw : Type 0
 EmptyLaw =
-    (size : PoolSize) (words : List ℕ) → size.cells < END → words_of size ≤ length words
+    (size : PoolSize) (words : List ℕ) → size.cells < END → pool_words size ≤ length words
     → ((w : Word) → IsPoolWord size w → slice_index words (address_of size w) ≡ 0)
     → IsStateOf size words (λ who. []) []
 

@@ -3,7 +3,7 @@ use Rattle.std.proofs.Common.{Bool, None, Option, Some, [], ap, arith, eq-eqb, f
 use Rattle.std.specs.Prelude.{if◌then◌else◌, nat_lt}
 use Rattle.std.proofs.lemmas.Bool.{ltb-false, ltb-true}
 use Rattle.mb_cells.specs.Place as phase
-use Rattle.mb_cells.specs.Vocabulary.{Entry, Has, History, IsAt, IsLaneAfter, IsLinkWord, IsPoolLawful, Phase, entry_at, fetch, item_of, lane_after_offer}
+use Rattle.mb_cells.specs.Vocabulary.{Entry, Has, History, LaneIsAt, IsLaneAfter, IsLinkWord, IsPoolLawful, Phase, entry_at, fetch, item_of, lane_after_offer}
 use Rattle.mb_cells.specs.Vocabulary.{link_after, next_link, part, put_list, stage_finish_refusal, stage_of, stage_offer_refusal, store}
 use Rattle.mb_cells.specs.declared.access.PoolAccess.{PoolAccess}
 use Rattle.mb_cells.specs.declared.access.Process.TheVariants.{Producer}
@@ -163,7 +163,7 @@ found_before : (cells p : ℕ) (lane : Lane) (done : History) → IsLaneAfter ce
 found_before cells p lane done after is =
     by after.phase (sym after.stage ∙ is) after.at
   where
-    by : (at : Phase) → stage_of at ≡ stage.Full → IsAt cells p after.entries at done
+    by : (at : Phase) → stage_of at ≡ stage.Full → LaneIsAt cells p after.entries at done
         → (e : Entry) × (Has done (fetch p e) × (cells ≤ e.cell))
     by phase.Open e at = absurd (cc)
     by (phase.Offered x) e at = absurd (cc)

@@ -1,4 +1,4 @@
--- What each call of a seat does: the access of the same call of a pool, or none where that makes none.
+-- What each call of a seat does: the access of the same call of a pool, or none if that makes none.
 use Rattle.std.specs.Prelude.{None, Option, Some, [], ℕ, ◌∷◌, ◌≡◌}
 use Rattle.mb_cells.specs.Vocabulary.{fetch, finish_refusal, lane_after_finish, lane_after_offer}
 use Rattle.mb_cells.specs.Vocabulary.{lane_after_push, load, look_of, next_link, offer_by_found}
@@ -30,7 +30,7 @@ ReaderMakes a old new =
     IsAccessAfter old.table.size old.known a old.part
     × (new ≡ record old { part = a ∷ old.part })
 
--- an offer of x that its producer's place refuses makes no access; any other is a fetch-add, which finds some number
+-- an offer of x that its producer's place refuses makes no access. Any other is a fetch-add, which finds some number
 abbrev pub OfferBy : Option Offer → LaneSeatView → ℕ → Offer → LaneSeatView → Type 0
 OfferBy (Some refusal) old x answer new = (answer ≡ refusal) × (new ≡ old)
 OfferBy None old x answer new =
@@ -51,7 +51,7 @@ PushBy (Some s) old answer new =
 abbrev pub PushMakes : LaneSeatView → Push → LaneSeatView → Type 0
 PushMakes old answer new = PushBy (push_store old.lane old.place) old answer new
 
--- a finish that its producer's place refuses makes no access; any other stores the end mark
+-- a finish that its producer's place refuses makes no access. Any other stores the end mark
 abbrev pub FinishBy : Option Finish → LaneSeatView → Finish → LaneSeatView → Type 0
 FinishBy (Some refusal) old answer new = (answer ≡ refusal) × (new ≡ old)
 FinishBy None old answer new =
@@ -61,11 +61,11 @@ FinishBy None old answer new =
 abbrev pub FinishMakes : LaneSeatView → Finish → LaneSeatView → Type 0
 FinishMakes old answer new = FinishBy (finish_refusal old.place) old answer new
 
--- a look loads the word at the cursor, and tells what that holds
+-- a look loads the word at the cursor, and says what that holds
 abbrev pub LookMakes : ReaderSeatView → Cursor → Look → ReaderSeatView → Type 0
 LookMakes old at answer new =
     (n : ℕ) × (answer ≡ look_of n) × ReaderMakes (load old.reader (word_of at) n) old new
 
--- the load of an item answers what the word holds
+-- the load of an item returns what the word holds
 abbrev pub ItemMakes : ReaderSeatView → ℕ → ℕ → ReaderSeatView → Type 0
 ItemMakes old k answer new = ReaderMakes (load old.reader (Item k) answer) old new

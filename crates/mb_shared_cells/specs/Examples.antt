@@ -44,6 +44,6 @@ lane_seen id place done = record { table = table_of_one id; lane = 0; place = pl
 abbrev pub has_taken : Lane
 has_taken = record { last = None; stage = stage.Offered 0 8 }
 
--- reader 0, which was given before any lane was taken in, and has done this
+-- reader 0, which was enrolled before any lane was taken in, and has done this
 abbrev pub reader_seen : TableId → History → ReaderSeatView
 reader_seen id done = record { table = table_of_one id; reader = 0; known = []; part = done }

@@ -3,7 +3,7 @@ use Rattle.std.specs.Prelude.{List, None, Some, [], length, slice_get, slice_ind
 use mathlib.Core.Option.{some}
 use lib.ListN.{get_elem?}
 use Rattle.atomic_table.specs.Table.{State}
-use Rattle.mb_cells.specs.Vocabulary.{History, IsMemoryOf, part, words_of}
+use Rattle.mb_cells.specs.Vocabulary.{History, IsMemoryOf, part, pool_words}
 use Rattle.mb_cells.specs.declared.access.Process.{Process}
 use Rattle.mb_cells.specs.declared.access.Process.TheVariants.{Producer, Reader}
 use Rattle.mb_cells.specs.declared.size.PoolSize.{PoolSize}
@@ -12,12 +12,12 @@ use Rattle.mb_shared_cells.specs.declared.views.Roll.{Roll}
 use Rattle.mb_shared_cells.specs.declared.views.View.{View}
 use Rattle.mb_shared_cells.specs.declared.views.View.TheVariants.{Empty, Hub, HubDraws, HubJoins, Member}
 
--- the roster, which counts the lanes' numbers drawn, lies behind the words of the pool
+-- the roster, which counts the lanes' numbers drawn, lies after the words of the pool
 abbrev pub roster_of : PoolSize → ℕ
-roster_of size = words_of size
+roster_of size = pool_words size
 
--- how the parts of one history are seated: the history, how many lanes and readers were enrolled, which seat is the
--- hub's, and for each process the one seat where its part stands
+-- how the parts of one history are seated: the history, how many lanes and readers were enrolled, and which seat is the
+-- hub's. For each process it has the one seat with its part
 pub record Seating : Type 0 where
   pub history : History
   pub lanes : ℕ
@@ -45,13 +45,13 @@ KnowsTaken t known =
     (p : ℕ) (theirs : History) → slice_get known p ≡ Some (Some theirs)
     → (p < t.lanes) × (t.seat_of (Producer p) ≡ t.hub) × (theirs ≡ part (Producer p) t.history)
 
--- the part of the process stands at the seat, and is that of the history
+-- the seat has the part of the process, which is that of the history
 pub record HasPart (t : Seating) (seat : ℕ) (who : Process) (done : History) : Type 0 where
   pub here : t.seat_of who ≡ seat
   pub enrolled : IsEnrolled t who
   pub part : done ≡ part who t.history
 
--- the view is that of the seat, where the roster holds this number
+-- the view is that of the seat, if the roster holds this number
 abbrev pub FitsView : PoolSize → Seating → ℕ → ℕ → View → Type 0
 FitsView size t roster seat (Hub own roll) = IsHub size t seat own roll × (roster ≡ t.lanes)
 FitsView size t roster seat (HubDraws own roll) = IsHub size t seat own roll × (roster ≡ t.lanes + 1)
@@ -82,14 +82,14 @@ pub record IsTableState (size : PoolSize) (words : List ℕ) (views : List View)
   -- there are no more numbers than lanes
   pub few : slice_index words (roster_of size) ≤ size.lanes
   pub drawn : t.lanes ≤ slice_index words (roster_of size)
-  -- who was not enrolled did nothing
+  -- a process that was not enrolled did nothing
   pub nobody_else : (who : Process) → (IsEnrolled t who → ⊥) → part who t.history ≡ []
-  -- who was enrolled stands in the view of its seat, and what any view says of a part is so
+  -- a process that was enrolled is in the view of its seat, and what each view says of a part is true
   pub stands : (who : Process) → IsEnrolled t who → StandsAt views (t.seat_of who) who
   pub fits : (seat : ℕ) (v : View) → get_elem? views seat ≡ some v
       → FitsView size t (slice_index words (roster_of size)) seat v
 
--- some history does
+-- the words and views are those of some history
 abbrev pub IsCellsState : PoolSize → List ℕ → List View → Type 0
 IsCellsState size words views = (t : Seating) × IsTableState size words views t
 

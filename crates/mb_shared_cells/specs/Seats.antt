@@ -13,7 +13,7 @@ use Rattle.mb_shared_cells.specs.declared.views.Roll.{Roll}
 use Rattle.mb_shared_cells.specs.declared.views.View.{View}
 use Rattle.mb_shared_cells.specs.declared.views.View.TheVariants.{Empty, Hub, HubDraws, HubJoins, Member}
 
--- the fields of a view, and nothing where it has no such field
+-- the fields of a view, each 0 or empty if it has no such field
 abbrev pub size_in : View → PoolSize
 size_in (Hub size roll) = size
 size_in (HubDraws size roll) = size

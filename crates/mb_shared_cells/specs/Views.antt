@@ -12,7 +12,7 @@ use Rattle.mb_shared_cells.specs.declared.views.Roll.{Roll}
 use Rattle.mb_shared_cells.specs.declared.views.View.{View}
 use Rattle.mb_shared_cells.specs.declared.views.View.TheVariants.{Empty, Hub, HubDraws, HubJoins, Member}
 
--- parts by number: None where the seat is out
+-- parts by number: None if the seat is out
 abbrev pub PartList : Type 0
 PartList = List (Option History)
 
@@ -53,8 +53,8 @@ abbrev pub KnowsLanes : PartList → History → Type 0
 KnowsLanes known h =
     (p : ℕ) (theirs : History) → slice_get known p ≡ Some (Some theirs) → part (Producer p) h ≡ theirs
 
--- the access came next after a lawful history, and it goes on lawfully; there its process had done this part, and the
--- lanes known what is known of them
+-- the access came next after a lawful history, which stays lawful with it. There its process had done this part, and
+-- the lanes known had done what is known of them
 pub record IsAccessAfter (size : PoolSize) (known : PartList) (a : PoolAccess) (done : History) : Type 0 where
   pub older : History
   pub lawful : IsPoolLawful size (a ∷ older)
@@ -83,7 +83,7 @@ CameAfter word act (HubJoins size roll who done) = Unit {0}
 CameAfter word act (Member size who known done) = IsAccessAfter size known (access_by who word act) done
 CameAfter word act Empty = Unit {0}
 
--- what the step of an access tells
+-- what the step of an access says
 abbrev pub MakesAccess : Word → PoolAct → SeatState → SeatState → Type 0
 MakesAccess word act v w = CameAfter word act v.0 × (w ≡ (view_after word act v.0, v.1))
 
@@ -95,11 +95,11 @@ hub_after_draw (HubJoins size roll who done) = HubJoins size roll who done
 hub_after_draw (Member size who known done) = Member size who known done
 hub_after_draw Empty = Empty
 
--- what the step on the roster tells
+-- what the step on the roster says
 abbrev pub DrawsNumber : Step (Unit {0}) → SeatState → ℕ → SeatState → Type 0
 DrawsNumber s v found w = w ≡ (hub_after_draw v.0, v.1)
 
--- a seat was split off from the hub's: a lane's where its number was drawn, else a reader's
+-- a seat was split off from the hub's: a lane's if its number was drawn, else a reader's
 abbrev pub hub_after_split : View → View
 hub_after_split (Hub size roll) = Hub size (roll_with_reader roll)
 hub_after_split (HubDraws size roll) = Hub size (roll_with_lane roll)
@@ -130,7 +130,7 @@ hub_after_join (HubJoins size roll who done) w = HubJoins size roll who done
 hub_after_join (Member size who known done) w = Member size who known done
 hub_after_join Empty w = Empty
 
--- and in the roll
+-- the hub with that part in its roll
 abbrev pub hub_after_load : View → View
 hub_after_load (Hub size roll) = Hub size roll
 hub_after_load (HubDraws size roll) = HubDraws size roll
@@ -147,6 +147,6 @@ WasOut (HubJoins size roll who done) =
 WasOut (Member size who known done) = Unit {0}
 WasOut Empty = Unit {0}
 
--- what the load after a join tells
+-- what the load after a join says
 abbrev pub TakesPart : Step (Unit {0}) → SeatState → ℕ → SeatState → Type 0
 TakesPart s v found w = WasOut v.0 × (w ≡ (hub_after_load v.0, v.1))

@@ -1,4 +1,5 @@
--- The words of clauses, here and in the crates above. `Seats` has what the seats keep, for the code alone.
+-- The names that clauses use, here and in the crates above. What the seats keep is in `Seats`, for the code of this
+-- crate alone.
 pub use Rattle.mb_shared_cells.specs.Views.{IsAccessAfter, IsRollOf, KnowsLanes, PartList, empty_roll}
 pub use Rattle.mb_shared_cells.specs.Views.{roll_at, roll_with_lane, roll_with_part, roll_with_reader}
 pub use Rattle.mb_shared_cells.specs.Rule.{FitsView, HasPart, HasProcess, IsCellsState, IsEnrolled, IsHub}

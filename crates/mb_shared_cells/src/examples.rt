@@ -1,5 +1,5 @@
-//! The definitions by example: what they let in, and what only looks right. The functions compute nothing: their contracts
-//! are the examples, and their proofs stand in `proofs/examples/`, one folder for each.
+//! The definitions by example: what they admit, and what only looks right. The functions compute nothing: their
+//! contracts are the examples. Their proofs are in `proofs/examples/`, one folder for each.
 ghost use Rattle.std.specs.Prelude.{[], ◌∷◌};
 ghost use Rattle.atomic_table.specs.Seated.{TableId};
 ghost use Rattle.mb_cells.specs.Vocabulary.{load, new_lane, one_put, one_taken};
@@ -15,7 +15,7 @@ ghost use Rattle.mb_shared_cells.specs.Examples.{lane_with, new_hub, reader_seen
 use crate::laws::processes_stand_once;
 use mb_cells::examples::pools_hold_what_was_done;
 use mb_cells::laws::parts_tell_lanes;
-use mb_cells::steps::one_step;
+use mb_cells::steps::history_extends;
 
 /// Words and views of a table of one lane and one cell: the counter, the head, the link, the item, and the roster.
 pub fn words_and_views_agree()
@@ -26,7 +26,7 @@ pub fn words_and_views_agree()
     ensures put { IsStateOfOne (1 ∷ 1 ∷ 0 ∷ 8 ∷ 1 ∷ [])
         (hub_of_one ∷ lane_with one_put ∷ []) }
 {
-    one_step();
+    history_extends();
     pools_hold_what_was_done();
 }
 
@@ -50,7 +50,7 @@ pub fn words_and_views_disagree()
     processes_stand_once();
 }
 
-/// Calls of seats: each makes its access, and tells what that found.
+/// Calls of seats: each makes its access, and returns what that found.
 pub fn seats_make_their_access()
     ensures offered { (id : TableId)
         → OfferMakes (lane_seen id new_lane []) 8 (offer.Cell 0)
@@ -69,13 +69,13 @@ pub fn seats_make_their_access()
         → PushMakes (lane_seen id has_taken one_taken) (push.Item 0)
         (lane_seen id has_taken one_taken) → ⊥ }
 
-    // A look without a load, and one that tells another value than it loaded.
+    // A look without a load, and one that returns another value than it loaded.
     ensures not_looked { (id : TableId)
         → LookMakes (reader_seen id []) (cursor.Head 0) look.Nothing (reader_seen id []) → ⊥ }
     ensures other_value { (id : TableId)
         → LookMakes (reader_seen id []) (cursor.Head 0) (look.Cell 0)
         (reader_seen id (load 0 (word.Head 0) 0 ∷ [])) → ⊥ }
 {
-    one_step();
+    history_extends();
     pools_hold_what_was_done();
 }

@@ -1,5 +1,5 @@
-//! Laws of all tables, and of what calls of seats tell. The functions compute nothing: their contracts are the laws.
-//! Their proofs stand in `proofs/laws/`, one folder for each, over the lemmas of `proofs/`.
+//! Laws of all tables, and of what the calls of seats return. The functions compute nothing: their contracts are the
+//! laws. Their proofs are in `proofs/laws/`, one folder for each. They use the lemmas of `proofs/`.
 ghost use Rattle.std.specs.Prelude.{◌≡◌, ◌+◌, ◌≤◌, ◌∷◌, ◌++◌, ℕ, List, Some, None, [], false, slice_get, slice_index, true};
 ghost use Rattle.mb_cells.specs.Vocabulary.{Entry, Has, HasMet, History, IsLaneAfter, IsStart, address_of, fetch};
 ghost use Rattle.mb_cells.specs.Vocabulary.{has_ended, linked_cells, next_link, place_past, push_store, put_list};
@@ -21,9 +21,10 @@ use mb_cells::laws::{
     cells_stand_once, looks_tell_links, numbers_are_handed_out_once, parts_tell_lanes,
     readers_follow_lanes, words_lead_through_lanes,
 };
-use mb_cells::steps::{accesses_lengthen_one_part, one_step, put_lists_grow};
+use mb_cells::steps::{accesses_lengthen_one_part, history_extends, put_lists_grow};
 
-/// At every moment the counter is at most cells and lanes, and the roster at most lanes.
+/// At every moment the counter is at most the number of cells and lanes together, and the roster at most the number of
+/// lanes.
 pub fn words_stay_in_bounds()
     ensures counter { (size : PoolSize) (words : List ℕ) (views : List View)
         → IsCellsState size words views
@@ -34,15 +35,16 @@ pub fn words_stay_in_bounds()
     numbers_are_handed_out_once();
 }
 
-/// No process stands in two views.
+/// No process is in two views.
 pub fn processes_stand_once()
     ensures { (size : PoolSize) (words : List ℕ) (views : List View) (t : Seating) (one other : ℕ)
         (who : Process) → IsTableState size words views t
         → StandsAt views one who → StandsAt views other who → one ≡ other }
 {}
 
-/// On a lane that was taken in before it was enrolled, a reader finds nothing only past all cells put there, and never
-/// where the lane ended; it finds the end mark just there; and it finds no cell but the next.
+/// What a reader finds on a lane that was taken in before the reader was enrolled. It finds nothing only past all cells
+/// of a lane that has not ended. It finds the end mark only past all cells of a lane that has ended. It finds no cell
+/// but the next.
 pub fn known_lanes_are_read_whole()
     ensures nothing { (old new : ReaderSeatView) (at : Cursor) (p : ℕ) (theirs : History)
         (ks : List ℕ) → slice_get old.known p ≡ Some (Some theirs) → HasMet old.reader p ks old.part
@@ -59,7 +61,7 @@ pub fn known_lanes_are_read_whole()
 {
     cells_stand_once();
     looks_tell_links();
-    one_step();
+    history_extends();
     parts_tell_lanes();
     readers_follow_lanes();
     words_lead_through_lanes();
@@ -81,19 +83,19 @@ pub fn three_calls_put_an_item()
         → OfferMakes old x (offer.Cell k) offered → PushMakes offered one stored
         → PushMakes stored two new → (one ≡ push.Item k) × (two ≡ push.Link k) }
 
-    // Then the next push would be idle.
+    // After them a further push would be idle.
     ensures idle { (old offered stored new : LaneSeatView) (x k : ℕ) (one two : Push)
         → OfferMakes old x (offer.Cell k) offered → PushMakes offered one stored
         → PushMakes stored two new → push_store new.lane new.place ≡ None }
 {
     accesses_lengthen_one_part();
-    one_step();
+    history_extends();
     parts_tell_lanes();
     put_lists_grow();
 }
 
-/// What puts nothing: an offer that is answered Full, which comes only where a fetch-add of this producer found a number
-/// past the cells, and the end mark.
+/// An offer that returns Full puts nothing, and neither does the end mark. Full comes only if a fetch-add of this
+/// producer found a number past the cells.
 pub fn full_offers_and_end_marks_put_nothing()
     ensures full { (old new : LaneSeatView) (x : ℕ) → OfferMakes old x offer.Full new
         → put_list old.lane new.part ≡ put_list old.lane old.part }
@@ -105,7 +107,7 @@ pub fn full_offers_and_end_marks_put_nothing()
         → put_list old.lane new.part ≡ put_list old.lane old.part }
 {
     accesses_lengthen_one_part();
-    one_step();
+    history_extends();
     parts_tell_lanes();
     put_lists_grow();
 }

@@ -1,22 +1,22 @@
 //! A pool of cells whose words threads share, each with a seat of its own.
 //!
-//! The lanes, the cells and the readers are those of [`mb_cells`]; here their words lie in one table of atomic words.
+//! The lanes, the cells and the readers are those of [`mb_cells`]. Here their words lie in one table of atomic words.
 //!
 //! # Seats
 //!
 //! - [`SharedCells`] owns the words. All its calls but [`SharedCells::new`] take no memory, and none waits.
-//! - [`CellHub`] gives seats out and takes them in again with what was done on them.
+//! - [`CellHub`] issues seats, and takes them in again with what was done on them.
 //! - [`LaneSeat`] is what a producer offers, pushes and finishes with. It keeps the producer's place as a
 //!   [`mb_cells::Lane`], and goes through it as `mb_cells::Pool` does.
 //! - [`ReaderSeat`] is what a reader looks and loads items with.
 //!
 //! # What is kept
 //!
-//! Each access is one atomic step, and takes no heed of the other seats. At every moment there is one lawful history of
-//! the pool that leaves the words as they are, and whose parts are those that the seats and the hub stand for
-//! (`specs/Rule.antt`). A seat's part is known to its holder, and each call says which access it made, after some lawful
-//! history in which the seat had done its part. In the end [`SharedCells::close`] gives one history for all parts that
-//! were taken in. So all laws of `mb_cells` hold of what threads did, whatever the order of their steps.
+//! Each access is one atomic step, whatever the other seats do. At every moment some lawful history of the pool leaves
+//! the words as they are. Its parts are those that the seats and the hub have (`specs/Rule.antt`). The holder of a seat
+//! knows its part. Each call says which access it made, after some lawful history in which the seat had done its part.
+//! In the end [`SharedCells::close`] gives one history for all parts that were taken in. So all laws of `mb_cells` hold
+//! of what threads did, whatever the order of their steps.
 #![tactic(auto)]
 
 pub mod examples;

@@ -1,4 +1,4 @@
-//! The rule of a table, and what its steps tell.
+//! The rule of a table, and what its steps say.
 use crate::views::View;
 use atomic_table::{Join, Play, Split, TableRule};
 use mb_cells::PoolSize;
@@ -19,7 +19,7 @@ impl TableRule<(), View, PoolSize> for CellsRule {
 
 /// The access that a step makes: its word, and its act by the number that the step announces. A proof picks both where
 /// the step is called.
-pub trait Made {
+pub trait AccessSpec {
     ghost use Rattle.std.specs.Prelude.{ℕ};
     ghost use Rattle.mb_cells.specs.declared.access.PoolAct.{PoolAct};
     ghost use Rattle.mb_cells.specs.declared.access.Word.{Word};
@@ -29,7 +29,7 @@ pub trait Made {
     ghost act: { ℕ → PoolAct };
 }
 
-impl Made for Brand {
+impl AccessSpec for Brand {
     ghost use Rattle.mb_cells.specs.declared.access.PoolAct.TheVariants.{Load};
     ghost use Rattle.mb_cells.specs.declared.access.Word.TheVariants.{Counter};
 
@@ -39,11 +39,11 @@ impl Made for Brand {
 }
 
 /// The step of an access.
-pub struct Makes<W> {
+pub struct MakeAccess<W> {
     of: PhantomData<W>,
 }
 
-impl<W: Made> Play<(), View> for Makes<W> {
+impl<W: AccessSpec> Play<(), View> for MakeAccess<W> {
     ghost use Rattle.mb_shared_cells.specs.Views.{MakesAccess};
 
     ghost then = { λ s v n w. MakesAccess W.word (W.act n) v w };
@@ -58,7 +58,7 @@ impl Play<(), View> for Draws {
     ghost then = { DrawsNumber };
 }
 
-/// The hub's load after a join, which tells that the number was out, and puts the part into the roll.
+/// The hub's load after a join. It says that the number was out, and puts the part into the roll.
 pub struct TakesIn;
 
 impl Play<(), View> for TakesIn {

@@ -1,22 +1,26 @@
-//! The table, its hub, and the seats of lanes and readers.
+//! The table, its hub, and the seats of lanes and readers. Each `has_history` computes nothing: its contract is a law
+//! of all hubs or seats.
 mod accesses;
-mod enrolling;
+mod enrollment;
 mod lanes;
 mod readers;
 
-use self::accesses::roster;
+ghost use Rattle.std.specs.Prelude.{◌≡◌};
+ghost use Rattle.mb_shared_cells.specs.Rule.{roster_of};
+
 use crate::rule::CellsRule;
 use crate::views::View;
 use atomic_table::{Seat, Table};
-pub use enrolling::AllGiven;
 use mb_cells::laws::{lanes_refuse_by_what_was_done, parts_tell_lanes};
-use mb_cells::steps::{one_step, words_follow_steps};
+use mb_cells::steps::{history_extends, words_follow_steps};
 use mb_cells::{Finish, Lane, NoMemory, PoolSize};
 use std::alloc::Allocator;
+use std::error::Error;
+use std::fmt;
 use std::marker::Model;
 
-/// The words of a pool of cells, on which threads make single atomic steps, each with a seat of its own. Between any two
-/// steps one lawful history leaves the words, and its parts are those that the seats and the hub have.
+/// The words of a pool of cells, on which threads make single atomic steps, each with a seat of its own. Between any
+/// two steps some lawful history leaves the words. Its parts are those that the seats and the hub have.
 #[derive(Drop)]
 pub struct SharedCells<A: Allocator + Drop> {
     table: Table<(), View, PoolSize, CellsRule, A>,
@@ -37,7 +41,14 @@ impl<A: Allocator + Drop> Model for SharedCells<A> {
         × (t.table.shared.table_id.slots ≡ 0) × (t.size.lanes < 2 ^ 32) × (t.size.cells < 2 ^ 32) };
 }
 
-/// Gives the seats of a table out, and takes them in with what was done on them.
+/// Where the roster lies in a table of this size: after the words of the pool.
+fn roster(size: PoolSize) -> usize
+    ensures { result ≡ roster_of size }
+{
+    1 + size.lanes as usize + size.cells as usize + size.cells as usize
+}
+
+/// The hub of a table. It issues the seats, and takes them in with what was done on them.
 #[derive(Drop)]
 pub struct CellHub {
     seat: Seat<(), View>,
@@ -54,6 +65,18 @@ impl Model for CellHub {
 
     ghost invariant = { λ h. IsHubSeat h.seat.me h.given };
 }
+
+/// All lanes of the table were given.
+#[derive(Clone, Copy, PartialEq, Eq, Debug)]
+pub struct AllGiven;
+
+impl fmt::Display for AllGiven {
+    fn fmt<W: fmt::Write>(&self, f: &mut fmt::Formatter<W>) -> fmt::Result {
+        f.write_str("all numbers were given")
+    }
+}
+
+impl Error for AllGiven {}
 
 /// The seat of a lane's producer.
 #[derive(Drop)]
@@ -95,13 +118,13 @@ impl<A: Allocator + Clone + Drop> SharedCells<A> {
     ghost use Rattle.std.specs.Prelude.{◌≡◌, IfOk};
     ghost use Rattle.mb_shared_cells.specs.{empty_roll};
 
-    /// A table of empty lanes, none of whose cells was handed out, and its hub. All that it will ever need is reserved
-    /// here, and [`NoMemory`] comes where the allocator refuses a part of that.
+    /// A table of empty lanes and unused cells, and its hub. All memory that it will ever need is reserved here. The
+    /// error is [`NoMemory`] if the allocator refuses a part of it.
     pub fn new(alloc: A, lanes: u32, cells: u32) -> Result<(SharedCells<A>, CellHub), NoMemory>
         ensures size { IfOk result (λ r. r.0.size ≡ record { lanes = lanes; cells = cells }) }
         ensures hub { IfOk result (λ r. r.1 ≡ record { table = r.0; roll = empty_roll }) }
     {
-        one_step();
+        history_extends();
         words_follow_steps();
         let size = PoolSize { lanes, cells };
         let words = vec![in alloc.clone()?; 0u64; roster(size) + 1]?;
@@ -130,12 +153,11 @@ impl CellHub {
     ghost use Rattle.mb_cells.specs.Vocabulary.{History};
     ghost use Rattle.mb_shared_cells.specs.{IsRollOf};
 
-    /// The parts that were taken in are those of one lawful history. It computes nothing: its contract is a law of all
-    /// hubs.
+    /// The parts that were taken in are those of one lawful history.
     pub fn has_history(&self)
         ensures { (h : History) × IsRollOf self.now.table.size self.now.roll h }
     {
-        // The invariant of a hub is known where a field is named.
+        // Naming a field makes the hub's invariant known.
         let _ = &self.seat;
     }
 }
@@ -162,15 +184,15 @@ impl LaneSeat {
         self.place.finish_refusal() == Some(Finish::Closed)
     }
 
-    /// Some lawful history has the lane's part, and the producer stands at the place of that part. It computes nothing:
-    /// its contract is a law of all seats.
+    /// Some lawful history has the lane's part, and the producer stands at the place of that part. The table has the
+    /// lane.
     pub fn has_history(&self)
         ensures history { HasHistory self.now.table.size (Producer self.now.lane) self.now.part }
         ensures place { IsLaneAfter self.now.table.size.cells self.now.lane self.now.place
             self.now.part }
         ensures within { self.now.lane < self.now.table.size.lanes }
     {
-        // The invariant of a seat is known where a field is named.
+        // Naming a field makes the seat's invariant known.
         let _ = &self.seat;
     }
 }
@@ -179,11 +201,11 @@ impl ReaderSeat {
     ghost use Rattle.mb_cells.specs.declared.access.Process.TheVariants.{Reader};
     ghost use Rattle.mb_shared_cells.specs.{HasHistory};
 
-    /// Some lawful history has the reader's part. It computes nothing: its contract is a law of all seats.
+    /// Some lawful history has the reader's part.
     pub fn has_history(&self)
         ensures { HasHistory self.now.table.size (Reader self.now.reader) self.now.part }
     {
-        // The invariant of a seat is known where a field is named.
+        // Naming a field makes the seat's invariant known.
         let _ = &self.seat;
     }
 }

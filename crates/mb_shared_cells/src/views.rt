@@ -1,9 +1,9 @@
-//! What the seats of a table know. It stands in proofs alone: no value of these types is made.
+//! What the seats of a table know. Only proofs use it: no value of these types is made.
 use mb_cells::{PoolAccess, PoolSize, Process};
 use std::collections::LinkedList;
 
-/// What the hub has taken in, by the numbers that it gave: a part, the newest access first, or `None` where the seat is
-/// out. A reader has no other number than its place here.
+/// What the hub has taken in, by the numbers that it gave: a part, the newest access first, or `None` if the seat is
+/// out. A reader's number is its place here.
 pub struct Roll {
     /// The parts of the lanes.
     pub lanes: LinkedList<Option<LinkedList<PoolAccess>>>,
@@ -11,7 +11,7 @@ pub struct Roll {
     pub readers: LinkedList<Option<LinkedList<PoolAccess>>>,
 }
 
-/// What a seat knows: the size of the table, and more by what the seat is.
+/// What a seat knows: the size of the table, and more that depends on whose seat it is.
 pub enum View {
     /// The hub, and what it has taken in.
     Hub(PoolSize, Roll),

@@ -66,12 +66,12 @@ module _ (t : TableView) (cell : ℕ) {M : Type 0} {K : Type 0} (seat : M → Se
       → ((w, stream mid) ≡ next_u64 (stream m)) × (word mid ≡ w) × (seat mid ≡ seat m) × (kept mid ≡ kept m)
 
   -- an access was made, and nothing but the seat was changed
-  abbrev pub Makes : M → Type 0
-  Makes start =
+  abbrev pub MakeAccess : M → Type 0
+  MakeAccess start =
       (m now : M) (next : ClaimOp) (seen : ℕ) → kept m ≡ kept start → makes m next.object next.op seen now
       → IsMade t cell next seen (word m) (seat m) (seat now) × (stream now ≡ stream m) × (kept now ≡ kept m)
 
-  module _ (start : M) (claim : Claim) (drawn : Draws) (made : Makes start) (cut : CutParts)
+  module _ (start : M) (claim : Claim) (drawn : Draws) (made : MakeAccess start) (cut : CutParts)
       (own_cell : OwnCell) (finds : FindsTold)
       (low : cell < t.cells) (named : (seat start).table ≡ name_of t) (own : consumer_of claim ≡ (seat start).consumer)
       (stands : IsClaimIn t.layout claim (part_on (seat start).consumer cell (seat start).part)) where

@@ -6,7 +6,7 @@ pub mod Seats
 pub mod SeatSteps
 pub mod ManySeatSteps
 pub mod Vocabulary
--- what clauses name stands here, too
+-- what clauses name is here, too
 pub use Types.*
 pub use Views.*
 pub use ViewSteps.*

@@ -1,16 +1,16 @@
--- The rule of a table: its words and its views together are a state of the claims. Some lawful history of claims leaves in
--- each word that word's value, and its parts are those of the views: these together are one finite map from the numbers
--- given to parts, in which no number stands twice.
+-- The rule of a table: its words and its views together are a state of the claims. Some lawful history of claims leaves
+-- the words, and its parts are those of the views. The views together are one finite map from the numbers given to
+-- parts, and no number is in it twice.
 use Rattle.std.specs.Prelude.{ℕ, suc, ◌≡◌, ◌+◌, ◌<◌, ◌≤◌, List, [], length, slice_index}
 use Rattle.mb_claim.specs.Vocabulary.{part, words_in, consumer_count, IsMemoryOf}
 use Rattle.mb_shared_claims.specs.Types.{ClaimAccess, TableSize, View, Handing, Drawing, Standing, Taking, Spent}
 use Rattle.mb_shared_claims.specs.Views.{claims_of_size, Roll, IsOut, IsViewAt, HasPartAt}
 
--- where the word lies that counts the numbers drawn: behind the words of the cells
+-- where the word lies that counts the numbers drawn: after the words of the cells
 abbrev pub roster : TableSize → ℕ
 roster size = words_in (claims_of_size size)
 
--- what there is behind the words and the views of a table
+-- a plan: what explains the words and the views of a table
 pub record Plan : Type 0 where
   -- the history of all claims
   pub history : List ClaimAccess
@@ -18,15 +18,15 @@ pub record Plan : Type 0 where
   pub given : ℕ
   -- which seat is the hub's
   pub hub : ℕ
-  -- at which seat the part of each number stands
+  -- which seat has the part of each number
   pub place : ℕ → ℕ
 
--- the seat is the hub's, whose roll has a place for each number given
+-- the seat is the hub's, and its roll has a place for each number given
 abbrev pub IsHub : Plan → ℕ → Roll → Type 0
 IsHub plan seat roll = (seat ≡ plan.hub) × (length roll ≡ plan.given)
 
--- the view of a seat fits the table's size, and where it is the hub's, the numbers: the roster counts those given, and
--- while the hub enrolls one more; a seat that is being taken in was out
+-- the view of a seat fits the table's size. The hub's view fits the numbers, too: the roster counts those given, and
+-- one more while the hub enrolls. A seat that is being taken in was out
 abbrev pub FitsTable : TableSize → Plan → ℕ → ℕ → View → Type 0
 FitsTable k plan drawn seat (Handing size roll) = (size ≡ k) × IsHub plan seat roll × (drawn ≡ plan.given)
 FitsTable k plan drawn seat (Drawing size roll) = (size ≡ k) × IsHub plan seat roll × (drawn ≡ suc plan.given)
@@ -35,19 +35,19 @@ FitsTable k plan drawn seat (Taking size roll own done) =
     (size ≡ k) × IsHub plan seat roll × (drawn ≡ plan.given) × IsOut roll own
 FitsTable k plan drawn seat Spent = Unit {0}
 
--- the words and the views of a table of this size are those of the plan
+-- the plan explains the words and the views of a table of this size
 pub record IsStateOf (k : TableSize) (words : List ℕ) (views : List View) (plan : Plan) : Type 0 where
   -- the history is lawful, and leaves the words of the cells
   pub memory : IsMemoryOf (claims_of_size k) words plan.history
-  -- behind those there is the roster, and nothing else
+  -- after those there is the roster, and nothing else
   pub wide : length words ≡ roster k + 1
-  -- there are no more numbers than consumers
+  -- there are at most as many numbers as consumers
   pub few : slice_index words (roster k) ≤ consumer_count k.layout
-  -- and none is given that was not drawn
+  -- and each number given was drawn
   pub drawn : plan.given ≤ slice_index words (roster k)
   -- each number given has its part of the history at its seat
   pub stands : (c : ℕ) → c < plan.given → HasPartAt views (plan.place c) c (part c plan.history)
-  -- each part that a seat has is that of a number given, which stands there and nowhere else
+  -- each part that a seat has is that of a given number, which has its place there and nowhere else
   pub parts :
       (seat c : ℕ) (xs : List ClaimAccess) → HasPartAt views seat c xs
       → (c < plan.given) × (plan.place c ≡ seat) × (xs ≡ part c plan.history)
@@ -56,6 +56,6 @@ pub record IsStateOf (k : TableSize) (words : List ℕ) (views : List View) (pla
   -- and each view fits the table
   pub fits : (seat : ℕ) (v : View) → IsViewAt views seat v → FitsTable k plan (slice_index words (roster k)) seat v
 
--- they are those of some plan
+-- some plan explains them
 abbrev pub IsClaimsState : TableSize → List ℕ → List View → Type 0
 IsClaimsState k words views = (plan : Plan) × IsStateOf k words views plan

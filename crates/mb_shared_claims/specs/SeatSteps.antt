@@ -6,7 +6,7 @@ use Rattle.mb_shared_claims.specs.Types.{ClaimAccess, ClaimOp, ObjectTurn, Claim
 use Rattle.mb_shared_claims.specs.ViewSteps.{ComesAfter}
 use Rattle.mb_shared_claims.specs.Seats.{SeatView, claims_at}
 
--- the access of consumer c to a cell that an op makes where it finds this value, with the random word
+-- the access of consumer c to a cell by an op that finds this value, with the random word
 abbrev pub access_of : ℕ → ℕ → ClaimOp → ℕ → ℕ → ClaimAccess
 access_of c cell next seen word =
     record { consumer = c; cell = cell; step = step_of next.object next.op seen word }
@@ -15,7 +15,8 @@ access_of c cell next seen word =
 abbrev pub with_access : ClaimAccess → SeatView → SeatView
 with_access a seat = record { table = seat.table; consumer = seat.consumer; part = a ∷ seat.part }
 
--- the next access of a claim on a cell was made from the seat, with the random word, and the claim is then another
+-- the next access of a claim on a cell was made from the seat, with the random word, and led to the claim and the seat
+-- that follow
 pub record IsSeatStep
     (layout : Layout) (cell word : ℕ) (claim : Claim) (seat : SeatView) (follows : Claim) (now : SeatView)
     : Type 0 where
@@ -33,8 +34,8 @@ pub record IsSeatStep
       (xs : List ObjectTurn) → IsClaimIn layout claim xs
       → IsClaimIn layout follows (step_of next.object next.op seen word ∷ xs)
 
--- an op of consumer c on a cell may come next, where c has done this: whatever other words and histories there are then, the
--- words after the op are those that the history with its access leaves
+-- an op of consumer c on a cell may come next, if c has done this. For all words and all histories with this part of c,
+-- the words after the op are those that the history with its access leaves
 abbrev pub MayComeNext : Claims → ℕ → ℕ → List ClaimAccess → ClaimOp → Type 0
 MayComeNext cs c cell done next =
     (word : ℕ) (words : List ℕ) (h : List ClaimAccess) → IsMemoryOf cs words h → part c h ≡ done

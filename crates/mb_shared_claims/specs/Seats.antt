@@ -14,8 +14,8 @@ pub record TableView : Type 0 where
   pub layout : Layout
   pub cells : ℕ
 
--- the name of a table, which its hub and all its seats have: which it is, and its size. So where two names are one, so are
--- the layouts and the numbers of cells. Each hub and each seat that there is has a table with a size.
+-- the name of a table, which its hub and all its seats have: which it is, and its size. So two tables with one name
+-- have one layout and one number of cells. The table of a hub or a seat always has a size
 pub record ClaimTable : Type 0 where
   pub id : TableId
   pub size : Option TableSize
@@ -24,7 +24,7 @@ pub record ClaimTable : Type 0 where
 abbrev pub name_of : TableView → ClaimTable
 name_of t = record { id = t.id; size = Some (record { layout = t.layout; cells = t.cells }) }
 
--- the claims on the cells of a table that has this size; none where it has none
+-- the claims on the cells of a table of this size, and no claims if there is no size
 abbrev pub claims_at_size : Option TableSize → Claims
 claims_at_size (Some size) = claims_of_size size
 claims_at_size None = claims_of (record { registers = 0; values = 0; write = λ _. 0; read = λ _. 0 }) [] 0
@@ -50,18 +50,18 @@ count_out [] = 0
 count_out (Some done ∷ rest) = count_out rest
 count_out (None ∷ rest) = suc (count_out rest)
 
--- the part of consumer c that was taken in, and nothing where none was
+-- the part of consumer c that was taken in, or nothing if none was
 abbrev pub taken_part : Roll → ℕ → List ClaimAccess
 taken_part [] c = []
 taken_part (Some done ∷ rest) zero = done
 taken_part (None ∷ rest) zero = []
 taken_part (x ∷ rest) (suc c) = taken_part rest c
 
--- these are the parts of all consumers in one lawful history
+-- the parts of all consumers are those of one lawful history
 abbrev pub AreOfOneHistory : Claims → (ℕ → List ClaimAccess) → Type 0
 AreOfOneHistory cs parts = (h : List ClaimAccess) × IsClaimLawful cs h × ((c : ℕ) → part c h ≡ parts c)
 
--- consumer c did this in some lawful history
+-- some lawful history has this part of consumer c
 abbrev pub IsLawfulPart : Claims → ℕ → List ClaimAccess → Type 0
 IsLawfulPart cs c done = (h : List ClaimAccess) × IsClaimLawful cs h × (part c h ≡ done)
 
@@ -78,7 +78,7 @@ size_in Spent = None
 abbrev pub table_of : TableId → View → ClaimTable
 table_of id v = record { id = id; size = size_in v }
 
--- a table has the words of its cells, the roster behind them, and no slots, and its rule was told its size
+-- a table has the words of its cells, the roster after them, and no slots. Its rule knows its size
 pub record IsTable (id : TableId) (key size : TableSize) : Type 0 where
   pub told : key ≡ size
   pub words : id.words ≡ roster size + 1

@@ -1,11 +1,11 @@
--- How the steps of a table change the views of its seats, and what they tell.
+-- How the steps of a table change the views of its seats, and what they prove.
 use Rattle.std.specs.Prelude.{ℕ, ◌≡◌, Some, None, List, [], ◌∷◌, ◌++◌, length, slice_set}
 use Rattle.atomic_table.specs.Table.{Me}
 use Rattle.mb_claim.specs.Vocabulary.{Claims, part, IsClaimLawful}
 use Rattle.mb_shared_claims.specs.Types.{ClaimAccess, View, Handing, Drawing, Standing, Taking, Spent}
 use Rattle.mb_shared_claims.specs.Views.{claims_of_size, Roll, IsOut}
 
--- a seat with its view; it holds no slots, since the table has none
+-- a seat with its view. It holds no slots, since the table has none
 abbrev pub Seated : Type 0
 Seated = Me (Unit {0}) View
 
@@ -33,12 +33,12 @@ abbrev pub ComesAfter : Claims → ClaimAccess → List ClaimAccess → Type 0
 ComesAfter cs a done =
     (h : List ClaimAccess) × IsClaimLawful cs (a ∷ h) × (part a.consumer h ≡ done)
 
--- so it did after what the view has
+-- it came after a lawful history with the part of the view
 abbrev pub ComesAfterView : ClaimAccess → View → Type 0
 ComesAfterView a (Standing size own done) = ComesAfter (claims_of_size size) a done
 ComesAfterView a v = Unit {0}
 
--- what an access of a claim tells: a load, a store or an exchange
+-- what an access of a claim proves, be it a load, a store or an exchange
 abbrev pub makes : ClaimAccess → Seated → Seated → Type 0
 makes a me now = (now ≡ (with_one_more a me.0, me.1)) × ComesAfterView a me.0
 
@@ -58,12 +58,12 @@ abbrev pub newcomer : View → View
 newcomer (Drawing size roll) = Standing size (length roll) []
 newcomer v = Spent
 
--- what the fetch-add tells: it found how many numbers were given before
+-- what the fetch-add proves: it found how many numbers were given before
 abbrev pub draws : ℕ → Seated → Seated → Type 0
 draws found me now = (found ≡ length (roll_of me.0)) × (now ≡ (drawn me.0, me.1))
 
 -- ---- taking a seat in
--- the part of the seat stands beside the roll
+-- the part of the seat is beside the roll
 abbrev pub took_in : View → View → View
 took_in (Handing size roll) (Standing other own done) = Taking size roll own done
 took_in v w = v
@@ -78,6 +78,6 @@ abbrev pub WasOut : View → Type 0
 WasOut (Taking size roll own done) = IsOut roll own
 WasOut v = Unit {0}
 
--- what the load behind the join tells
+-- what the load after the join proves
 abbrev pub settles : Seated → Seated → Type 0
 settles me now = WasOut me.0 × (now ≡ (settled me.0, me.1))

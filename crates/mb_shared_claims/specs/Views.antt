@@ -9,7 +9,7 @@ use Rattle.mb_shared_claims.specs.Types.{ClaimAccess, TableSize, View, Handing, 
 abbrev pub claims_of_size : TableSize → Claims
 claims_of_size size = claims_in size.layout size.cells
 
--- what the hub has: a place for each number given, with the part of that consumer where its seat was taken in
+-- the hub has a place for each number given, with the part of that consumer if its seat was taken in
 abbrev pub Roll : Type 0
 Roll = List (Option (List ClaimAccess))
 

@@ -1,4 +1,4 @@
--- What crates above name in their clauses and proofs.
+-- The definitions that the crates above use in clauses and proofs.
 pub use Rattle.mb_shared_claims.specs.Views.{Roll, WasTaken, IsOut}
 pub use Rattle.mb_shared_claims.specs.ViewSteps.{ComesAfter}
 pub use Rattle.mb_shared_claims.specs.Seats.{ClaimTable, TableView, name_of, claims_at, HubView, SeatView}

@@ -1,5 +1,5 @@
-//! The definitions by example: what they let in, and what only looks right. The functions compute nothing: their contracts
-//! are the examples, and their proofs stand in `proofs/examples/`, one folder for each.
+//! The definitions by example: what they admit, and what only looks right. The functions compute nothing: their
+//! contracts are the examples. Their proofs are in `proofs/examples/`, one folder for each.
 ghost use Rattle.std.specs.Prelude.{ℕ, ◌≡◌, ◌+◌, ◌<◌, List, None, [], ◌∷◌, replicate, slice_index};
 ghost use Rattle.mb_claim.specs.declared.access.Stage.TheVariants.{Won};
 ghost use Rattle.mb_claim.specs.Vocabulary.{IsClaimLawful, IsClaimPrefix, IsWordIn, address_in, part_on};
@@ -20,7 +20,7 @@ pub fn words_and_views_agree()
     steps_keep_states();
 }
 
-/// Words and views that no history and no hub made.
+/// Words and views that do not come from a history and a hub.
 pub fn words_and_views_disagree()
     // A value that nobody stored.
     ensures made_up { (k : TableSize) (o : ℕ) (reg : Reg) (words : List ℕ) → 0 < k.cells
@@ -28,14 +28,14 @@ pub fn words_and_views_disagree()
         → slice_index words (address_in (claims_of_size k) 0 o reg) ≡ 1
         → IsClaimsState k words (Handing k [] ∷ []) → ⊥ }
 
-    // A number on the roster that was not given, and one given that is not on the roster.
+    // A number on the roster that was not given, and a given number that is not on the roster.
     ensures not_given { (k : TableSize) (words : List ℕ) → slice_index words (roster k) ≡ 1
         → IsClaimsState k words (Handing k [] ∷ []) → ⊥ }
     ensures not_drawn { (k : TableSize) (words : List ℕ) (views : List View)
         → slice_index words (roster k) ≡ 0
         → IsClaimsState k words (Handing k (None ∷ []) ∷ views) → ⊥ }
 
-    // A number given whose seat is nowhere, and one with two seats.
+    // A given number whose seat is nowhere, and one with two seats.
     ensures gone { (k : TableSize) (words : List ℕ)
         → IsClaimsState k words (Handing k (None ∷ []) ∷ []) → ⊥ }
     ensures twice { (k : TableSize) (words : List ℕ)
@@ -46,7 +46,7 @@ pub fn words_and_views_disagree()
     states_have_one_history();
 }
 
-/// Where two seats have both won a cell they are one consumer's: two winners are no state of a table.
+/// If two seats have both won a cell, they are one consumer's. So no state of a table has two winners.
 pub fn seats_have_one_winner()
     ensures { (k : TableSize) (words : List ℕ) (views : List View) (i j c d cell : ℕ)
         (xs ys : List ClaimAccess)
@@ -60,7 +60,7 @@ pub fn seats_have_one_winner()
     states_have_one_history();
 }
 
-/// What a step tells: one access more in the part of its seat.
+/// A step is one access more in the part of its seat.
 pub fn steps_add_one_access()
     ensures made { (k : TableSize) (a : ClaimAccess) → IsClaimLawful (claims_of_size k) (a ∷ [])
         → makes a (Standing k a.consumer [], []) (Standing k a.consumer (a ∷ []), []) }
@@ -73,7 +73,7 @@ pub fn steps_add_one_access()
     ensures stuck { (layout : Layout) (cell word : ℕ) (claim follows : Claim) (seat : SeatView)
         → IsSeatStep layout cell word claim seat follows seat → ⊥ }
 
-    // A row of no access leaves all as it was, and a row of one does not.
+    // No access leaves all as it was. One access does not.
     ensures none { (layout : Layout) (cell : ℕ) (claim : Claim) (seat : SeatView) (s : Stream)
         → AreSeatSteps layout cell claim seat s 0 claim seat s }
     ensures idle { (layout : Layout) (cell : ℕ) (claim follows : Claim) (seat : SeatView)

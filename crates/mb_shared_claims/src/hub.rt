@@ -1,11 +1,11 @@
-//! The hub, which gives the numbers.
+//! The hub, which gives out consumers' numbers.
 use crate::view::View;
 use atomic_table::Seat;
 use std::error::Error;
 use std::fmt;
 use std::marker::Model;
 
-/// The one that gives each consumer's number with its seat, and takes the seats in again.
+/// It gives each consumer's number out with its seat, and takes the seats in again.
 #[derive(Drop)]
 pub struct ClaimHub {
     pub(crate) seat: Seat<(), View>,
@@ -38,7 +38,7 @@ impl ClaimHub {
         self.given
     }
 
-    /// How many of their seats are out.
+    /// How many of their seats are out: given, and not taken in.
     pub fn out(&self) -> u32
         ensures { result ≡ count_out self.now.roll }
     {

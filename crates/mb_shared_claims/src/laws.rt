@@ -1,8 +1,8 @@
-//! What the rule of a table says, and that each kind of step keeps it. The functions compute nothing: their contracts are
-//! the laws.
+//! What the rule of a table says, and the law that each kind of step keeps it. The functions compute nothing: their
+//! contracts are the laws.
 //!
-//! Between any two steps of any seats, the words and the views of a table are a state of the claims: so says the rule under
-//! which each table is made, [`ClaimsRule`](crate::rule::ClaimsRule), and the rule is checked at each step.
+//! Between any two steps of any seats, the words and the views of a table are a state of the claims. The rule of each
+//! table says so: [`ClaimsRule`](crate::rule::ClaimsRule). It is checked at each step.
 ghost use Rattle.std.specs.Prelude.{ℕ, suc, ◌≡◌, ◌≢◌, ◌+◌, ◌<◌, ◌≤◌, Some, None, List, [], ◌∷◌, ◌++◌, length};
 ghost use Rattle.std.specs.Prelude.{replicate, slice_index, slice_set};
 ghost use Rattle.mb_deciding.specs.Vocabulary.{IsInWords, reg_of};
@@ -17,20 +17,20 @@ use mb_claim::steps::{
 
 /// What a state of the claims is.
 pub fn states_have_one_history()
-    // Some lawful history leaves the words, and its parts are those of the seats: each part that a seat has, and no other.
+    // Some lawful history leaves the words. Its parts are exactly those that the seats have.
     ensures history { (k : TableSize) (words : List ℕ) (views : List View)
         → IsClaimsState k words views
         → (h : List ClaimAccess) × IsMemoryOf (claims_of_size k) words h
         × ((seat c : ℕ) (xs : List ClaimAccess) → HasPartAt views seat c xs → xs ≡ part c h)
         × ((c : ℕ) → part c h ≢ [] → (seat : ℕ) × HasPartAt views seat c (part c h)) }
 
-    // No number stands at two seats, nor with two parts.
+    // No number has two seats, or two parts.
     ensures once { (k : TableSize) (words : List ℕ) (views : List View) (i j c : ℕ)
         (xs ys : List ClaimAccess)
         → IsClaimsState k words views → HasPartAt views i c xs → HasPartAt views j c ys
         → (i ≡ j) × (xs ≡ ys) }
 
-    // The roster counts no more numbers than there are consumers, and each number at a seat is one of them.
+    // The roster counts at most as many numbers as there are consumers. Each number at a seat is one of those counted.
     ensures roster { (k : TableSize) (words : List ℕ) (views : List View)
         → IsClaimsState k words views
         → slice_index words (roster k) ≤ consumer_count k.layout }
@@ -39,14 +39,14 @@ pub fn states_have_one_history()
         → IsClaimsState k words views → HasPartAt views i c xs → c < slice_index words (roster k) }
 {}
 
-/// Each kind of step leads from a state to a state. It changes the view of the seat that makes it and no other, but
-/// that a number given adds the view of its seat, and a seat taken in has no part any more.
+/// Each kind of step leads from a state to a state. It changes only the view of the seat that makes it, with two
+/// exceptions: giving a number adds the view of its seat, and a seat taken in has no part any more.
 pub fn steps_keep_states()
     // A table begins with zeros and its hub.
     ensures new { (k : TableSize)
         → IsClaimsState k (replicate (roster k + 1) 0) (Handing k [] ∷ []) }
 
-    // An access, whichever load, store or exchange it is: by one law, with no case for another seat.
+    // One law holds of each access, be it a load, a store or an exchange. It has no case for other seats.
     ensures access { (k size : TableSize) (words : List ℕ) (views : List View)
         (id own cell word : ℕ) (done : List ClaimAccess)
         (next : ClaimOp) → let cs = claims_of_size k in
@@ -57,7 +57,7 @@ pub fn steps_keep_states()
         → IsClaimsState k (words_after cs cell next.object next.op words)
         (slice_set views id (Standing size own (a ∷ done))) }
 
-    // The fetch-add on the roster, and the split that gives the number out.
+    // The fetch-add on the roster, and then the split that gives the number out.
     ensures draw { (k size : TableSize) (words : List ℕ) (views : List View) (id : ℕ) (roll : Roll)
         → IsClaimsState k words views → IsViewAt views id (Handing size roll)
         → length roll < consumer_count k.layout
@@ -68,7 +68,7 @@ pub fn steps_keep_states()
         → IsClaimsState k words (slice_set views id (Handing size (roll ++ None ∷ []))
         ++ Standing size (length roll) [] ∷ []) }
 
-    // The join of a seat's view to the hub's, and the load behind it.
+    // The join of a seat's view to the hub's, and then the load after it.
     ensures take { (k size its : TableSize) (words : List ℕ) (views : List View) (id other own : ℕ)
         (roll : Roll) (done : List ClaimAccess)
         → IsClaimsState k words views → other ≢ id → IsViewAt views id (Handing size roll)

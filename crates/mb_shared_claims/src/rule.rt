@@ -1,4 +1,4 @@
-//! The rule of a table, and what its steps change and tell.
+//! The rule of a table, and what its steps change and prove.
 ghost use Rattle.std.specs.Prelude.{ℕ};
 ghost use Rattle.mb_claim.specs.declared.access.ClaimAccess.{ClaimAccess};
 
@@ -6,7 +6,7 @@ use crate::view::{TableSize, View};
 use atomic_table::{Join, Play, Split, TableRule};
 use std::marker::{Brand, PhantomData};
 
-/// Words and views together are a state of the claims.
+/// The rule: words and views together are a state of the claims.
 pub struct ClaimsRule;
 
 impl TableRule<(), View, TableSize> for ClaimsRule {
@@ -19,12 +19,12 @@ impl TableRule<(), View, TableSize> for ClaimsRule {
     ghost first = { λ size. Handing size [] };
 }
 
-/// The access that a step makes, by the value that it finds. A proof picks it where the step is made.
-pub trait Made {
+/// The access that a step makes, by the value that it finds. The proof of a caller picks it.
+pub trait AccessSpec {
     ghost access: { ℕ → ClaimAccess };
 }
 
-impl Made for Brand {
+impl AccessSpec for Brand {
     ghost use Rattle.mb_deciding.specs.declared.access.Act.TheVariants.{Load};
     ghost use Rattle.mb_deciding.specs.declared.access.Reg.TheVariants.{Value};
 
@@ -36,11 +36,11 @@ impl Made for Brand {
 }
 
 /// A load, a store or an exchange of a claim: one access more in the part of the seat that makes it.
-pub struct Makes<W> {
+pub struct MakeAccess<W> {
     of: PhantomData<W>,
 }
 
-impl<W: Made> Play<(), View> for Makes<W> {
+impl<W: AccessSpec> Play<(), View> for MakeAccess<W> {
     ghost use Rattle.mb_shared_claims.specs.ViewSteps.{makes};
 
     ghost then = { λ s me found now. makes (W.access found) me now };
@@ -78,8 +78,8 @@ impl Join<View> for TakesIn {
     ghost spent = { Spent };
 }
 
-/// The load behind the join: the part goes to its place in the roll. A join tells nothing, so this is what tells that the
-/// number was out.
+/// The load after the join: the part goes to its place in the roll. A join proves nothing, so this load is needed to
+/// prove that the number was out.
 pub struct Settles;
 
 impl Play<(), View> for Settles {

@@ -3,8 +3,8 @@ use crate::view::View;
 use atomic_table::Seat;
 use std::marker::Model;
 
-/// What a thread makes the accesses of one consumer with. It carries the number of the consumer and, for proofs alone, all
-/// that the consumer did at its table.
+/// A thread makes the accesses of one consumer with it. It carries the number of the consumer and, for proofs alone,
+/// all that the consumer did at its table.
 #[derive(Drop)]
 pub struct ClaimSeat {
     pub(crate) seat: Seat<(), View>,
@@ -38,12 +38,11 @@ impl ClaimSeat {
         self.consumer
     }
 
-    /// Some lawful history of the table's claims has this seat's part. It computes nothing: its contract is a law of all
-    /// seats.
+    /// A law of all seats: some lawful history of the table's claims has this seat's part. It computes nothing.
     pub fn has_history(&self)
         ensures { IsLawfulPart (claims_at self.now.table) self.now.consumer self.now.part }
     {
-        // The invariant of a seat is known where a field is named.
+        // The prover knows the invariant only after a field is named.
         let _ = &self.consumer;
     }
 }

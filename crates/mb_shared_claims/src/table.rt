@@ -13,11 +13,11 @@ use mb_claim::steps::{addresses_are_apart, histories_begin_with_zeros, other_wor
 use std::alloc::{AllocError, Allocator};
 use std::marker::Model;
 
-/// Why there is no table: a growth was refused.
+/// Why there is no table: memory ran out.
 pub type NoMemory = AllocError;
 
-/// The words of the claims on some cells, which threads share, and the roster behind them. It may lie behind a `&` in as
-/// many threads as there are seats.
+/// The words of the claims on some cells, which threads share, and the roster after them. As many threads as there are
+/// seats may use it at once, each by a `&`.
 #[derive(Drop)]
 pub struct SharedClaims<A: Allocator + Drop> {
     table: Table<(), View, TableSize, ClaimsRule, A>,
@@ -42,8 +42,8 @@ impl<A: Allocator + Clone + Drop> SharedClaims<A> {
     ghost use Rattle.std.specs.Prelude.{◌≡◌, ◌≤◌, [], IfOk};
     ghost use Rattle.mb_shared_claims.specs.{MAX_LARGE_CELLS, name_of};
 
-    /// A table of this layout with so many cells, whose words are all 0, and its hub, which has given no number. All
-    /// memory that the table will ever need is taken here. [`NoMemory`] comes where the allocator refuses a part of it.
+    /// A table of this layout with `cells` cells, all words 0, and its hub, which has given no number. It allocates
+    /// here all that the table will ever need. The error is [`NoMemory`] if the allocator refuses a part of that.
     pub fn new(
         alloc: A,
         layout: Layout,
@@ -89,8 +89,8 @@ impl<A: Allocator + Drop> SharedClaims<A> {
         self.size.cells
     }
 
-    /// The seat of the next number: 0 first, then 1, and so on to the last of the layout's consumers. [`AllGiven`] comes
-    /// exactly where that was given, and then nothing changes.
+    /// The seat of the next number: 0 first, then 1, and so on to the last of the layout's consumers. The error is
+    /// [`AllGiven`] exactly if that was given, and then nothing changes.
     pub fn enroll(&self, hub: &mut ClaimHub) -> Result<ClaimSeat, AllGiven>
         requires { hub.old.table ≡ name_of self.now }
         ensures all_given { IsErr result ↔ (consumer_count self.now.layout ≤ length hub.old.roll) }
@@ -124,7 +124,7 @@ impl<A: Allocator + Drop> SharedClaims<A> {
         })
     }
 
-    /// Takes a seat in: its part goes to the hub, as it is, to the place of its number.
+    /// Takes a seat in. Its part goes to the hub, to the place of its number.
     pub fn take_in(&self, hub: &mut ClaimHub, seat: ClaimSeat)
         requires hub { hub.old.table ≡ name_of self.now }
         requires seat { seat.table ≡ name_of self.now }
@@ -140,7 +140,7 @@ impl<A: Allocator + Drop> SharedClaims<A> {
         hub.out -= 1;
     }
 
-    /// Ends the table, once all seats that were given are taken in. What all consumers did is then what they did in one
+    /// Ends the table, once all seats that were given are taken in. The parts of all consumers are then those of one
     /// lawful history of claims.
     pub fn close(self, hub: ClaimHub)
         requires table { hub.table ≡ name_of self }

@@ -2,7 +2,7 @@
 use mb_claim::{ClaimAccess, Layout};
 use std::collections::LinkedList;
 
-/// What a table is told when it is made: the objects of each cell, and how many cells there are.
+/// What the rule of a table has to know: the objects of each cell, and how many cells there are.
 #[derive(Drop)]
 pub struct TableSize {
     /// The objects of each cell.
@@ -11,18 +11,18 @@ pub struct TableSize {
     pub cells: u32,
 }
 
-/// What one seat knows: the size of its table, and parts of consumers, the newest access first. No value of it is
-/// ever made, since only proofs look at it. A *roll* has a place for each number given: the part of that consumer where
-/// its seat was taken in, and none where it is out.
+/// What one seat knows: the size of its table, and parts of consumers, the newest access first. No value of it is ever
+/// made, since only proofs look at it. A *roll* has a place for each number given: the part of that consumer if its
+/// seat was taken in, and none if it is out.
 pub enum View {
-    /// The hub's, between two of its calls.
+    /// The hub's view, between two of its calls.
     Handing(TableSize, LinkedList<Option<LinkedList<ClaimAccess>>>),
-    /// The hub's while it enrolls: the next number was drawn from the roster and is not given yet.
+    /// The hub's view while it enrolls: the next number was drawn from the roster and is not given yet.
     Drawing(TableSize, LinkedList<Option<LinkedList<ClaimAccess>>>),
-    /// That of a consumer's seat: its number and its part.
+    /// The view of a consumer's seat: its number and its part.
     Standing(TableSize, u32, LinkedList<ClaimAccess>),
-    /// The hub's while it takes a seat in: the number and the part of that seat stand beside the roll.
+    /// The hub's view while it takes a seat in: the number and the part of that seat are beside the roll.
     Taking(TableSize, LinkedList<Option<LinkedList<ClaimAccess>>>, u32, LinkedList<ClaimAccess>),
-    /// That of a seat that was taken in.
+    /// The view of a seat that was taken in.
     Spent,
 }

@@ -1,7 +1,7 @@
 -- The parts of claims, access by access.
 use Rattle.std.proofs.Common.{◌≡◌, ◌⊎◌, ℕ, List, ◌∷◌, refl, inl, inr}
 use Rattle.std.proofs.lemmas.Bool.{cases_eq, eq-eqb, ne_eqb}
-use Rattle.mb_world.specs.Below.{ClaimAccess, claim_part}
+use Rattle.mb_world.specs.Imports.{ClaimAccess, claim_part}
 
 -- an own step comes in front
 pub part-own : (c k : ℕ) (a : ClaimAccess) (h : List ClaimAccess) → a.consumer ≡ c → a.cell ≡ k

@@ -13,7 +13,7 @@ use Rattle.mb_world.specs.declared.report.Note.{Note}
 use Rattle.mb_world.specs.declared.report.Note.TheVariants.{Lost, Undecided}
 use Rattle.mb_world.specs.declared.seat.Seat.{Seat}
 use Rattle.mb_world.specs.declared.seat.Seat.TheVariants as seat
-use Rattle.mb_world.specs.Below.{ClaimAccess, IsClaimPrefix, ObjectTurn, Stage, claim_part}
+use Rattle.mb_world.specs.Imports.{ClaimAccess, IsClaimPrefix, ObjectTurn, Stage, claim_part}
 use Rattle.mb_world.specs.Plan.{consumers_of}
 use Rattle.mb_world.specs.Setups.{layout_of}
 use Rattle.mb_world.specs.World.{WorldAccess, WorldHistory, claim_accesses, lane_part}

@@ -5,7 +5,7 @@ use Rattle.std.proofs.lemmas.Option.{slice_get-get_or}
 use Rattle.mb_claim.specs.declared.access.Stage.TheVariants as stage
 use Rattle.mb_world.specs.declared.report.Note.{Note}
 use Rattle.mb_world.specs.declared.report.Note.TheVariants.{Took, Lost, Undecided}
-use Rattle.mb_world.specs.Below.{IsClaimPrefix, Stage, claim_part, linked_cells}
+use Rattle.mb_world.specs.Imports.{IsClaimPrefix, Stage, claim_part, linked_cells}
 use Rattle.mb_world.specs.Plan.{Histories, Plan, consumers_of}
 use Rattle.mb_world.specs.Report.{DiaryView, ReportView}
 use Rattle.mb_world.specs.Agreement.{HasCompeted}
@@ -13,7 +13,7 @@ use Rattle.mb_world.specs.Fitting.{EndsAs, parts_of}
 use Rattle.mb_world.specs.Reporting.{IsDiaryOf, IsReportOf}
 use Rattle.mb_world.proofs.Diaries.{met_at, note_at, open_last, placed}
 use Rattle.mb_world.proofs.Known.{Known}
-use Rattle.mb_world.proofs.Places.{IsAt, at_one, at_reverse, has_at}
+use Rattle.mb_world.proofs.Places.{StandsAt, at_one, at_reverse, has_at}
 use Rattle.mb_world.proofs.Recorded.{competed_in}
 use Rattle.mb_world.proofs.ReportPlaces.{begun_is, notes_is}
 use Rattle.mb_world.proofs.Diaries as diaries
@@ -28,7 +28,7 @@ module _ (plan : Plan) (hs : Histories) (known : Known plan hs)
   diary : IsDiaryOf plan c p hs d
   diary = (is.diary c p cs ps).2
 
-  on_lane : IsAt (linked_cells p hs.pool) j k
+  on_lane : StandsAt (linked_cells p hs.pool) j k
   on_lane = at_reverse (linked_cells p hs.pool) j k here
 
   -- a claim that has ended has an access
@@ -43,7 +43,7 @@ module _ (plan : Plan) (hs : Histories) (known : Known plan hs)
   end_made i Undecided e = not_fresh i stage.Undecided e (λ f. cc)
 
   -- the cell at the place of a note is that of the item
-  cell_at : (i : ℕ) → IsAt diary.cells j i → i ≡ k
+  cell_at : (i : ℕ) → StandsAt diary.cells j i → i ≡ k
   cell_at i at = at_one (linked_cells p hs.pool) j i k (placed plan hs known c p cs d diary j i at) on_lane
 
   has_access : (j < length d.notes) ⊎ ((length d.notes ≡ j) × (d.begun ≡ true)) → claim_part c k hs.claims ≢ []
@@ -55,7 +55,7 @@ module _ (plan : Plan) (hs : Histories) (known : Known plan hs)
       let q = diary.begun.0 next.1 in
       let at = has_at diary.cells q.0 q.1 in
       let last = open_last plan hs known c p cs d diary at.0 q.0 at.1 q.3 in
-      let there : IsAt diary.cells j q.0 = subst (λ i. IsAt diary.cells i q.0) (sym last.0 ∙ next.0) at.1 in
+      let there : StandsAt diary.cells j q.0 = subst (λ i. StandsAt diary.cells i q.0) (sym last.0 ∙ next.0) at.1 in
       subst (λ i. claim_part c i hs.claims ≢ []) (cell_at q.0 there) q.2
 
   pub competes : HasCompeted c p j r ↔ (claim_part c k hs.claims ≢ [])

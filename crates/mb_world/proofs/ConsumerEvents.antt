@@ -4,7 +4,7 @@ use Rattle.std.specs.Prelude.{filter}
 use Rattle.mb_cells.specs.Memory.{value_in}
 use Rattle.mb_world.specs.declared.event.Answer.{Answer}
 use Rattle.mb_world.specs.declared.event.Event.TheVariants as event
-use Rattle.mb_world.specs.Below.{ClaimAccess, IsClaimLawful, ObjectTurn, Word, load}
+use Rattle.mb_world.specs.Imports.{ClaimAccess, IsClaimLawful, ObjectTurn, Word, load}
 use Rattle.mb_world.specs.Plan.{Plan, consumers_of}
 use Rattle.mb_world.specs.World.{ToCells, WorldAccess, WorldHistory, claim_accesses, is_on, lane_part, pool_accesses}
 use Rattle.mb_world.specs.ConsumerPath.{ConsumerPath, claim_access, claim_step}

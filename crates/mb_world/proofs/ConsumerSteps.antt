@@ -6,8 +6,8 @@ use Rattle.mb_claim.specs.History as claim
 use Rattle.mb_cells.specs.Memory as memory
 use Rattle.mb_cells.specs.Lawful.{ProcessFits}
 use Rattle.mb_world.specs.declared.report.Note.{Note}
-use Rattle.mb_world.specs.Below.{AllFit, Claims, Counter, Has, Head, History, IsLanePrefix, Item, Link, ObjectTurn, Process, Producer, Reader, Word}
-use Rattle.mb_world.specs.Below.{has_cell, is_of_lane, is_same_process, link_of, linked_cells, part, push_if}
+use Rattle.mb_world.specs.Imports.{AllFit, Claims, Counter, Has, Head, History, IsLanePrefix, Item, Link, ObjectTurn, Process, Producer, Reader, Word}
+use Rattle.mb_world.specs.Imports.{has_cell, is_of_lane, is_same_process, link_of, linked_cells, part, push_if}
 use Rattle.mb_world.specs.Plan.{Plan, consumers_of}
 use Rattle.mb_world.specs.World.{IsBy, ToCells, ToClaims, WorldAccess, WorldHistory, claim_accesses, is_on, lane_part, pool_accesses}
 use Rattle.mb_world.specs.ConsumerPath.{ConsumerPath, ends, finds, goes, takes, waits}

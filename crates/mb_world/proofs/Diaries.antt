@@ -8,13 +8,13 @@ use Rattle.std.specs.Prelude.{map, slice_get}
 use Rattle.mb_claim.specs.declared.access.Stage.TheVariants as stage
 use Rattle.mb_world.specs.declared.report.Note.{Note}
 use Rattle.mb_world.specs.declared.report.Note.TheVariants.{Took, Lost, Undecided}
-use Rattle.mb_world.specs.Below.{Entry, Gave, HasLoaded, History, Item, Link, Reader, Stage, claim_part, entry_of, item_of, linked_cells, part, put_list}
+use Rattle.mb_world.specs.Imports.{Entry, Gave, HasLoaded, History, Item, Link, Reader, Stage, claim_part, entry_of, item_of, linked_cells, part, put_list}
 use Rattle.mb_world.specs.Plan.{Histories, Plan, consumers_of}
 use Rattle.mb_world.specs.Report.{DiaryView}
 use Rattle.mb_world.specs.Fitting.{EndsAs, Fits, HasStageIn, HasRead, parts_of}
 use Rattle.mb_world.specs.Reporting.{IsDiaryOf, values_put}
 use Rattle.mb_world.proofs.Known.{Known}
-use Rattle.mb_world.proofs.Places.{IsAt, at_has, at_once, at_one, at_reverse, at_some, at_start, at_within, has_at, mapped_at, reverse_at}
+use Rattle.mb_world.proofs.Places.{StandsAt, at_has, at_once, at_one, at_reverse, at_some, at_start, at_within, has_at, mapped_at, reverse_at}
 use Rattle.mb_world.proofs.Loads.{met_link, read_or_not}
 use Rattle.mb_world.proofs.ReaderParts.{loaded-read, read-loaded}
 
@@ -26,7 +26,7 @@ values_length p pool =
     ∙ (length-reverse (map (entry_of items) (linked_cells p pool)) ∙ length-map (linked_cells p pool) (entry_of items))
 
 -- and each stands in the place of its cell
-value_at : (p j k : ℕ) (pool : History) → IsAt (linked_cells p pool) j k
+value_at : (p j k : ℕ) (pool : History) → StandsAt (linked_cells p pool) j k
     → slice_get (values_put p pool) j ≡ Some (item_of k pool)
 value_at p j k pool at =
     slice_get-map (λ (e : Entry). e.value) (put_list p pool) j
@@ -87,17 +87,17 @@ module _ (plan : Plan) (hs : Histories) (known : Known plan hs) where
 
   module _ (c p : ℕ) (cs : c < consumers_of plan) (d : DiaryView) (diary : IsDiaryOf plan c p hs d) where
     -- a cell met stands at its place in the lane
-    pub placed : (j k : ℕ) → IsAt diary.cells j k → IsAt (linked_cells p hs.pool) j k
+    pub placed : (j k : ℕ) → StandsAt diary.cells j k → StandsAt (linked_cells p hs.pool) j k
     placed j k at =
         let s = known.start (hs.reader_of c) p diary.cells diary.met.met in
-        subst (λ (ls : List ℕ). IsAt ls j k) s.1 (at_start s.0 diary.cells j k at)
+        subst (λ (ls : List ℕ). StandsAt ls j k) s.1 (at_start s.0 diary.cells j k at)
 
     -- and a cell of the lane that was given, at its place among those met
-    pub met_at : (j k : ℕ) → IsAt (linked_cells p hs.pool) j k → Gave k (part (Reader (hs.reader_of c)) hs.pool)
-        → IsAt diary.cells j k
+    pub met_at : (j k : ℕ) → StandsAt (linked_cells p hs.pool) j k → Gave k (part (Reader (hs.reader_of c)) hs.pool)
+        → StandsAt diary.cells j k
     met_at j k at gave =
         let has = has_at diary.cells k (diary.met.all k gave (at_has (linked_cells p hs.pool) j k at)) in
-        subst (λ (i : ℕ). IsAt diary.cells i k)
+        subst (λ (i : ℕ). StandsAt diary.cells i k)
         (at_once (linked_cells p hs.pool) has.0 j k (known.once p) (placed has.0 k has.1) at) has.1
 
     cells_within : length diary.cells ≤ length (linked_cells p hs.pool)
@@ -106,15 +106,16 @@ module _ (plan : Plan) (hs : Histories) (known : Known plan hs) where
         omega (arith, ap length s.1, length-append s.0 diary.cells)
 
     -- what note j says
-    pub note_at : (j : ℕ) (n : Note) → slice_get d.notes j ≡ Some n → (k : ℕ) × IsAt diary.cells j k × Ends c k n
+    pub note_at : (j : ℕ) (n : Note) → slice_get d.notes j ≡ Some n → (k : ℕ) × StandsAt diary.cells j k × Ends c k n
     note_at j n e = let q = diary.notes j n e in (q.0, at_reverse diary.cells j q.0 q.1, q.2)
 
     -- a claim that has ended has a note
-    noted : (j k : ℕ) (n : Note) → IsAt diary.cells j k → Ends c k n → j < length d.notes
+    noted : (j k : ℕ) (n : Note) → StandsAt diary.cells j k → Ends c k n → j < length d.notes
     noted j k n at end = diary.all j k n (reverse_at diary.cells j k at) end
 
     -- past a cell, its claim has a note
-    pub passed : (j k v : ℕ) → IsAt diary.cells j k → HasLoaded (hs.reader_of c) (Link k) v hs.pool → j < length d.notes
+    pub passed : (j k v : ℕ) → StandsAt diary.cells j k
+        → HasLoaded (hs.reader_of c) (Link k) v hs.pool → j < length d.notes
     passed j k v at loaded = let q = ended_past c k v cs loaded in noted j k q.0 at q.1
 
     -- all cells met but the last have notes
@@ -138,7 +139,7 @@ module _ (plan : Plan) (hs : Histories) (known : Known plan hs) where
             omega (arith, at_within diary.cells (length diary.cells) q.0 q.1)
 
     -- a claim without an end is the last, and all before it have notes
-    pub open_last : (j k : ℕ) → IsAt diary.cells j k → ((n : Note) → Ends c k n → ⊥)
+    pub open_last : (j k : ℕ) → StandsAt diary.cells j k → ((n : Note) → Ends c k n → ⊥)
         → (length d.notes ≡ j) × (suc j ≡ length diary.cells)
     open_last j k at none = (omega (arith, not_more, no_less, last), last)
       where
@@ -164,7 +165,7 @@ module _ (plan : Plan) (hs : Histories) (known : Known plan hs) where
         ]
 
     -- a consumer with a claim on a cell that it met competed for the item there
-    pub competes_at : (j k : ℕ) → IsAt diary.cells j k → claim_part c k hs.claims ≢ []
+    pub competes_at : (j k : ℕ) → StandsAt diary.cells j k → claim_part c k hs.claims ≢ []
         → (j < length d.notes) ⊎ ((length d.notes ≡ j) × (d.begun ≡ true))
     competes_at j k at some = elim (ended_or_not c k some) [
       | inl end ↦ inl (noted j k end.0 at end.1)

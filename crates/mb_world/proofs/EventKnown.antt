@@ -5,7 +5,7 @@ use Rattle.mb_claim.specs.declared.access.Stage.TheVariants as stage
 use Rattle.mb_cells.specs.declared.lane.Lane.{Lane}
 use Rattle.mb_cells.specs.LanePath.{fetch, store}
 use Rattle.mb_cells.specs.Standing.{finish_refusal, next_link, offer_refusal, push_store}
-use Rattle.mb_world.specs.Below.{ClaimAccess, END, Entry, Has, History, IsClaimLawful, IsClaimPrefix, IsLanePrefix, IsPoolLawful, ObjectTurn, PoolSize, Producer, Stage, Word, linked_cells, part}
+use Rattle.mb_world.specs.Imports.{ClaimAccess, END, Entry, Has, History, IsClaimLawful, IsClaimPrefix, IsLanePrefix, IsPoolLawful, ObjectTurn, PoolSize, Producer, Stage, Word, linked_cells, part}
 use Rattle.mb_world.specs.Plan.{Plan, size_of}
 use Rattle.mb_world.specs.World.{WorldAccess, WorldHistory, claim_accesses, histories_of, pool_accesses}
 use Rattle.mb_world.specs.Sound.{AreSound}

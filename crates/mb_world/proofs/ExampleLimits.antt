@@ -2,7 +2,7 @@
 use Rattle.std.proofs.Common.{◌≡◌, ◌<◌, ◌+◌, ℕ, zero, suc, true, List, [], ◌∷◌, Some, None, refl, ap, subst, inl, arith}
 use Rattle.mb_claim.specs.declared.access.Stage.TheVariants as stage
 use Rattle.mb_world.specs.declared.report.Note.{Note}
-use Rattle.mb_world.specs.Below.{Counter, Head, IsClaimPrefix, Item, Link, ObjectTurn, Stage, Word, linked_cells}
+use Rattle.mb_world.specs.Imports.{Counter, Head, IsClaimPrefix, Item, Link, ObjectTurn, Stage, Word, linked_cells}
 use Rattle.mb_world.specs.World.{ToCells, ToClaims, WorldAccess, WorldHistory, is_on, lane_part, pool_accesses}
 use Rattle.mb_world.specs.Worlds.{IsOnLane, IsWorldLawful}
 use Rattle.mb_world.specs.ConsumerPath.{ConsumerPath, claim_step, item_load, link_load}

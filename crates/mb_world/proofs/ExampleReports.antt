@@ -4,7 +4,7 @@ use Rattle.std.specs.Prelude.{slice_get}
 use Rattle.mb_claim.specs.declared.access.Stage.TheVariants as stage
 use Rattle.mb_world.specs.declared.report.Note.{Note}
 use Rattle.mb_world.specs.declared.report.Note.TheVariants.{Lost, Took, Undecided}
-use Rattle.mb_world.specs.Below.{Gave, Head, History, IsClaimPrefix, Item, Link, ObjectTurn, PoolAccess, Reader, Stage, part}
+use Rattle.mb_world.specs.Imports.{Gave, Head, History, IsClaimPrefix, Item, Link, ObjectTurn, PoolAccess, Reader, Stage, part}
 use Rattle.mb_world.specs.Fitting.{EndsAs, HasRead, parts_of}
 use Rattle.mb_world.specs.Report.{DiaryView, LaneView}
 use Rattle.mb_world.specs.Reporting.{IsDiaryOf, IsReportOf, lane_view}

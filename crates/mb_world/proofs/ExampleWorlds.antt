@@ -3,14 +3,14 @@ use Rattle.std.proofs.Common.{◌≡◌, ◌<◌, ◌^◌, ℕ, List, [], ◌∷
 use Rattle.std.specs.Prelude.{map}
 use Rattle.mb_cells.specs.LanePath.{fetch, store}
 use Rattle.mb_cells.specs.Memory.{ReadsLast}
-use Rattle.mb_cells.specs.Place.{IsAt, Phase, Ended, Offered, Open, Stored}
+use Rattle.mb_cells.specs.Place.{LaneIsAt, Phase, Ended, Offered, Open, Stored}
 use Rattle.mb_deciding.specs.declared.access.Act.TheVariants as act
 use Rattle.mb_deciding.specs.declared.access.Reg.TheVariants.{Quorum}
 use Rattle.mb_claim.specs.declared.access.Stage.TheVariants as stage
 use Rattle.mb_claim.specs.Examples.{both_undecided}
 use Rattle.mb_world.specs.declared.report.Note.{Note}
 use Rattle.mb_world.specs.declared.report.Note.TheVariants.{Lost, Took}
-use Rattle.mb_world.specs.Below.{ActFits, END, Entry, Head, History, IsClaimPrefix, IsLanePrefix, Item, Link, ObjectTurn, PoolAccess, Producer, Stage, claim_part, part}
+use Rattle.mb_world.specs.Imports.{ActFits, END, Entry, Head, History, IsClaimPrefix, IsLanePrefix, Item, Link, ObjectTurn, PoolAccess, Producer, Stage, claim_part, part}
 use Rattle.mb_world.specs.World.{ToCells, WorldAccess, WorldHistory, lane_part, pool_accesses}
 use Rattle.mb_world.specs.Worlds.{ConsumerAdds, IsTrueTo, IsWorldLawful}
 use Rattle.mb_world.specs.ConsumerPath.{ConsumerPath, begins, claim_step, ends, finds, goes, item_load, link_load, note_of, takes, waits}
@@ -38,7 +38,7 @@ pub record Laws : Type 0 where
   pub producer : (h : WorldHistory) (p : ℕ) (a : PoolAccess) → IsWorldLawful two_by_two h → a.process ≡ Producer p
       → p < 2 → ActFits a.act → ReadsLast a.word a.act (pool_accesses h)
       → IsLanePrefix 2 p (a ∷ part (Producer p) (pool_accesses h)) → IsWorldLawful two_by_two (ToCells a ∷ h)
-  pub prefix : (p : ℕ) (es : List Entry) (phase : Phase) (done : History) → IsAt 2 p es phase done
+  pub prefix : (p : ℕ) (es : List Entry) (phase : Phase) (done : History) → LaneIsAt 2 p es phase done
       → IsLanePrefix 2 p done
   pub going : (c : ℕ) (x : ObjectTurn) (xs : List ObjectTurn) (s : Stage) → IsClaimPrefix two_cells c (x ∷ xs) s
       → IsClaimPrefix two_cells c xs stage.Going
@@ -95,7 +95,11 @@ module _ (laws : Laws) where
   -- ---- the items are put
   pub taken_lawful : IsWorldLawful two_by_two (ToCells (fetch 0 five) ∷ [])
   taken_lawful =
-      let at : IsAt 2 0 [] (Offered five) (fetch 0 five ∷ []) = record { below = tt; fits = omega arith; is = refl } in
+      let at : LaneIsAt 2 0 [] (Offered five) (fetch 0 five ∷ []) = record {
+        below = tt;
+        fits = omega arith;
+        is = refl;
+      } in
       laws.producer [] 0 (fetch 0 five) laws.empty refl (omega arith) (omega arith, omega arith) refl
       (laws.prefix 0 [] (Offered five) (fetch 0 five ∷ []) at)
 
@@ -109,7 +113,7 @@ module _ (laws : Laws) where
 
   pub stored_lawful : IsWorldLawful two_by_two (stores 0 (Item 0) 5 ∷ offered)
   stored_lawful =
-      let at : IsAt 2 0 [] (Stored five) (store 0 (Item 0) 5 ∷ fetch 0 five ∷ []) =
+      let at : LaneIsAt 2 0 [] (Stored five) (store 0 (Item 0) 5 ∷ fetch 0 five ∷ []) =
       record { below = tt; fits = omega arith; is = refl } in
       laws.producer offered 0 (store 0 (Item 0) 5) offered_lawful refl (omega arith) (omega arith) tt
       (laws.prefix 0 [] (Stored five) (store 0 (Item 0) 5 ∷ fetch 0 five ∷ []) at)
@@ -119,19 +123,23 @@ module _ (laws : Laws) where
 
   pub one_put_lawful : IsWorldLawful two_by_two one_put
   one_put_lawful =
-      let at : IsAt 2 0 (five ∷ []) Open first_group = record { below = (omega arith, tt); fits = tt; is = refl } in
+      let at : LaneIsAt 2 0 (five ∷ []) Open first_group = record { below = (omega arith, tt); fits = tt; is = refl } in
       laws.producer (stores 0 (Item 0) 5 ∷ offered) 0 (store 0 (Head 0) 1) stored_lawful refl (omega arith)
       (omega arith) tt (laws.prefix 0 (five ∷ []) Open first_group at)
 
   taken_too : IsWorldLawful two_by_two (ToCells (fetch 1 six) ∷ one_put)
   taken_too =
-      let at : IsAt 2 1 [] (Offered six) (fetch 1 six ∷ []) = record { below = tt; fits = omega arith; is = refl } in
+      let at : LaneIsAt 2 1 [] (Offered six) (fetch 1 six ∷ []) = record {
+        below = tt;
+        fits = omega arith;
+        is = refl;
+      } in
       laws.producer one_put 1 (fetch 1 six) one_put_lawful refl (omega arith) (omega arith, omega arith) refl
       (laws.prefix 1 [] (Offered six) (fetch 1 six ∷ []) at)
 
   stored_too : IsWorldLawful two_by_two (stores 1 (Item 1) 6 ∷ ToCells (fetch 1 six) ∷ one_put)
   stored_too =
-      let at : IsAt 2 1 [] (Stored six) (store 1 (Item 1) 6 ∷ fetch 1 six ∷ []) =
+      let at : LaneIsAt 2 1 [] (Stored six) (store 1 (Item 1) 6 ∷ fetch 1 six ∷ []) =
       record { below = tt; fits = omega arith; is = refl } in
       laws.producer (ToCells (fetch 1 six) ∷ one_put) 1 (store 1 (Item 1) 6) taken_too refl
       (omega arith) (omega arith) tt
@@ -142,7 +150,7 @@ module _ (laws : Laws) where
 
   pub both_put_lawful : IsWorldLawful two_by_two both_put
   both_put_lawful =
-      let at : IsAt 2 1 (six ∷ []) Open second_group = record { below = (omega arith, tt); fits = tt; is = refl } in
+      let at : LaneIsAt 2 1 (six ∷ []) Open second_group = record { below = (omega arith, tt); fits = tt; is = refl } in
       laws.producer (stores 1 (Item 1) 6 ∷ ToCells (fetch 1 six) ∷ one_put) 1 (store 1 (Head 1) 2) stored_too refl
       (omega arith) (omega arith) tt (laws.prefix 1 (six ∷ []) Open second_group at)
 
@@ -245,7 +253,7 @@ module _ (laws : Laws) where
 
   ended_lawful : IsWorldLawful two_by_two finished
   ended_lawful =
-      let at : IsAt 2 0 (five ∷ []) (Ended None) (store 0 (Link 0) END ∷ first_group) =
+      let at : LaneIsAt 2 0 (five ∷ []) (Ended None) (store 0 (Link 0) END ∷ first_group) =
       record { below = (omega arith, tt); fits = tt; is = refl } in
       laws.producer second_begun 0 (store 0 (Link 0) END) second_begun_lawful refl (omega arith) (omega arith) tt
       (laws.prefix 0 (five ∷ []) (Ended None) (store 0 (Link 0) END ∷ first_group) at)

@@ -2,7 +2,7 @@
 use Rattle.std.proofs.Common.{◌≡◌, ◌≢◌, ℕ, cond, List, [], ◌∷◌, refl, sym, ◌∙◌, ap, subst, inl, inr}
 use Rattle.std.proofs.lemmas.Bool.{cases_eq, ne_eqb}
 use Rattle.mb_claim.specs.declared.access.Stage.TheVariants as stage
-use Rattle.mb_world.specs.Below.{Claims, Gave, IsClaimPrefix, Item, Link, ObjectTurn, PoolAccess, Stage, load, place_past}
+use Rattle.mb_world.specs.Imports.{Claims, Gave, IsClaimPrefix, Item, Link, ObjectTurn, PoolAccess, Stage, load, place_past}
 use Rattle.mb_world.specs.Fitting.{Fits, HasRead, HasStageIn, Parts, cells_met}
 use Rattle.mb_world.specs.PartSteps.{HasNotLeft, IsDoneWith, MayLookPast, no_parts, with_load, with_step}
 use Rattle.mb_world.proofs.Tracks.{past_item, read-cases, read-more}

@@ -8,7 +8,7 @@ use Rattle.mb_claim.specs.declared.access.Stage.TheVariants as stage
 use Rattle.mb_claim.specs.Layouts.{fast_row, last_row, pairs_of, row_of}
 use Rattle.mb_claim.specs.declared.shape.Shape.{Shape}
 use Rattle.mb_claim.specs.Paths.{IsClaimPrefixFrom}
-use Rattle.mb_world.specs.Below.{Claims, IsClaimPrefix, Kind}
+use Rattle.mb_world.specs.Imports.{Claims, IsClaimPrefix, Kind}
 
 goes_from : (t : QuorumTable) (kinds : List Kind) (c : ℕ) → kinds ≢ [] → ((kind : Kind) → IsOpen t kind c [])
     → IsClaimPrefixFrom t c kinds 0 c [] stage.Going

@@ -7,7 +7,7 @@ use Rattle.mb_claim.specs.OneClaim.{IsClaimIn, IsClaimOn, claim_stage, consumer_
 use Rattle.mb_claim.specs.History.{part_on}
 use Rattle.mb_world.specs.declared.report.Note.{Note}
 use Rattle.mb_world.specs.declared.seat.Seat.TheVariants as seat
-use Rattle.mb_world.specs.Below.{IsClaimPrefix, IsOnceEach, Item, ObjectTurn, Stage, Word, claim_part, has_cell, is_of_lane, linked_cells}
+use Rattle.mb_world.specs.Imports.{IsClaimPrefix, IsOnceEach, Item, ObjectTurn, Stage, Word, claim_part, has_cell, is_of_lane, linked_cells}
 use Rattle.mb_world.specs.Plan.{consumers_of}
 use Rattle.mb_world.specs.Setups.{layout_of}
 use Rattle.mb_world.specs.World.{WorldHistory, claim_accesses, lane_part, pool_accesses}

@@ -1,8 +1,8 @@
 -- What the laws of claims and of cells give for two histories.
 use Rattle.std.specs.Prelude.{ℕ, ◌≡◌, ◌≢◌, ◌<◌, List, [], ◌∷◌}
 use Rattle.mb_claim.specs.Winner.{HasOneWinner}
-use Rattle.mb_world.specs.Below.{END, Gave, Has, HasLoaded, HasMet, IsClaimPrefix, IsOnceEach, IsReaderPath, IsStart, Item, ObjectTurn, Reader, Stage}
-use Rattle.mb_world.specs.Below.{claim_part, item_of, linked_cells, part, place_past}
+use Rattle.mb_world.specs.Imports.{END, Gave, Has, HasLoaded, HasMet, IsClaimPrefix, IsOnceEach, IsReaderPath, IsStart, Item, ObjectTurn, Reader, Stage}
+use Rattle.mb_world.specs.Imports.{claim_part, item_of, linked_cells, part, place_past}
 use Rattle.mb_world.specs.Plan.{Histories, Plan, consumers_of}
 use Rattle.mb_world.specs.Fitting.{Fits, parts_of}
 

@@ -1,7 +1,7 @@
 -- Past the end mark of a lane, a consumer has a note at each position there.
 use Rattle.std.proofs.Common.{◌≡◌, ◌⊎◌, ℕ, suc, ◌<◌, ◌≤◌, true, List, [], ◌∷◌, ◌++◌, length, refl, sym, subst, inl, inr, arith, eqb-true}
 use Rattle.std.proofs.lemmas.Bool.{cases_lt}
-use Rattle.mb_world.specs.Below.{Counter, END, Gave, Has, HasLoaded, HasMet, Head, IsLinkWord, Item, Link, Reader, Word, is_of_lane, linked_cells, part, place_past}
+use Rattle.mb_world.specs.Imports.{Counter, END, Gave, Has, HasLoaded, HasMet, Head, IsLinkWord, Item, Link, Reader, Word, is_of_lane, linked_cells, part, place_past}
 use Rattle.mb_world.specs.Plan.{Histories, Plan, consumers_of}
 use Rattle.mb_world.specs.Report.{DiaryView}
 use Rattle.mb_world.specs.Reporting.{IsDiaryOf, values_put}
@@ -10,7 +10,7 @@ use Rattle.mb_world.proofs.Cells.{cell-of_true}
 use Rattle.mb_world.proofs.Diaries.{met_at, passed, values_length}
 use Rattle.mb_world.proofs.Known.{Known}
 use Rattle.mb_world.proofs.Loads.{gave-link, met_given, met_link}
-use Rattle.mb_world.proofs.Places.{IsAt, at_has, at_some, at_start, at_within}
+use Rattle.mb_world.proofs.Places.{StandsAt, at_has, at_some, at_start, at_within}
 use Rattle.mb_world.proofs.ReaderParts.{read-loaded}
 
 module _ (plan : Plan) (hs : Histories) (known : Known plan hs) where
@@ -67,16 +67,16 @@ module _ (plan : Plan) (hs : Histories) (known : Known plan hs) where
         lane : HasMetLane (hs.reader_of c) p
         lane = met_lane (hs.reader_of c) p end
 
-        here : (x : ℕ) × IsAt (linked_cells p hs.pool) j x
+        here : (x : ℕ) × StandsAt (linked_cells p hs.pool) j x
         here = at_some (linked_cells p hs.pool) j (omega (arith, inside, values_length p hs.pool))
 
-        there : IsAt diary.cells j here.0
+        there : StandsAt diary.cells j here.0
         there =
             met_at plan hs known c p cs d diary j here.0 here.1
             (met_given (hs.reader_of c) p hs.pool (linked_cells p hs.pool) here.0 lane.all
             (at_has (linked_cells p hs.pool) j here.0 here.1))
 
-        last_link : (ls : List ℕ) → IsAt ls j here.0 → length ls ≤ suc j
+        last_link : (ls : List ℕ) → StandsAt ls j here.0 → length ls ≤ suc j
             → HasLoaded (hs.reader_of c) (place_past p ls) END hs.pool
             → HasLoaded (hs.reader_of c) (Link here.0) END hs.pool
         last_link [] at low loaded = absurd at

@@ -2,7 +2,7 @@
 use Rattle.std.proofs.Common.{◌≡◌, ◌≢◌, ◌⊎◌, ℕ, Bool, true, false, cond, List, [], ◌∷◌, refl, sym, ◌∙◌, ap, subst, inl, inr, eq-eqb}
 use Rattle.std.specs.Prelude.{filter}
 use Rattle.std.proofs.lemmas.Bool.{cases_eq, cond_both}
-use Rattle.mb_world.specs.Below.{ClaimAccess, Gave, Has, History, ObjectTurn, PoolAccess, Reader, claim_part, has_cell, is_of_lane, is_same_process, part}
+use Rattle.mb_world.specs.Imports.{ClaimAccess, Gave, Has, History, ObjectTurn, PoolAccess, Reader, claim_part, has_cell, is_of_lane, is_same_process, part}
 use Rattle.mb_world.specs.World.{ToCells, ToClaims, WorldHistory, claim_accesses, is_on, pool_accesses}
 use Rattle.mb_world.proofs.Claimed.{part-another, part-elsewhere, part-own}
 

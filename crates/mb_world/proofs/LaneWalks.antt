@@ -7,7 +7,7 @@ use Rattle.mb_cells.specs.declared.cursor.Cursor.TheVariants as cursor
 use Rattle.mb_cells.specs.Reading.{Reads}
 use Rattle.mb_cells.specs.State.{IsAfter, PoolState, item_in, look_in}
 use Rattle.mb_cells.specs.Lanes.{lane_end}
-use Rattle.mb_world.specs.Below.{Entry, Has, History, IsOnceEach, has_ended, linked_cells, put_list}
+use Rattle.mb_world.specs.Imports.{Entry, Has, History, IsOnceEach, has_ended, linked_cells, put_list}
 use Rattle.std.proofs.Common.{eqb, eqb-true, length-append, ◌||◌}
 use Rattle.std.specs.List.{AllByRecursion, IsDistinct, list_any}
 use Rattle.std.proofs.lemmas.Bool.{ne_eqb, cases_Bool, false≢true}

@@ -3,7 +3,7 @@ use Rattle.std.proofs.Common.{◌≡◌, ◌≢◌, ◌⊎◌, ◌+◌, ℕ, Lis
 use Rattle.mb_claim.specs.declared.access.Stage.TheVariants as stage
 use Rattle.mb_world.specs.declared.report.Note.{Note}
 use Rattle.mb_world.specs.declared.report.Note.TheVariants.{Took}
-use Rattle.mb_world.specs.Below.{Claims, END, IsClaimPrefix, ObjectTurn, Stage}
+use Rattle.mb_world.specs.Imports.{Claims, END, IsClaimPrefix, ObjectTurn, Stage}
 use Rattle.mb_world.specs.World.{WorldAccess, WorldHistory}
 use Rattle.mb_world.specs.ConsumerPath.{ConsumerPath, claim_step, ends, finds, goes, item_load, link_load, note_of, takes, waits}
 

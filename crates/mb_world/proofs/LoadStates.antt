@@ -6,7 +6,7 @@ use Rattle.mb_world.specs.declared.report.Note.{Note}
 use Rattle.mb_world.specs.declared.event.Answer.{Answer}
 use Rattle.mb_world.specs.declared.event.Event.TheVariants as event
 use Rattle.mb_world.specs.declared.seat.Seat.{Seat}
-use Rattle.mb_world.specs.Below.{Gave, Has, Load, MayRead, ObjectTurn, Reader, Word, load, part}
+use Rattle.mb_world.specs.Imports.{Gave, Has, Load, MayRead, ObjectTurn, Reader, Word, load, part}
 use Rattle.mb_world.specs.Plan.{consumers_of}
 use Rattle.mb_world.specs.World.{ToCells, WorldAccess, WorldHistory, lane_part, pool_accesses}
 use Rattle.mb_world.specs.ConsumerPath.{ConsumerPath}

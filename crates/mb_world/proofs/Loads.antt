@@ -1,10 +1,10 @@
 -- What a reader was given by its loads, and whether it loaded a word.
 use Rattle.std.proofs.Common.{◌≡◌, ◌≢◌, ◌⊎◌, ℕ, suc, ◌+◌, ◌<◌, true, false, List, [], ◌∷◌, length, refl, sym, ◌∙◌, ap, subst, inl, inr, arith}
 use Rattle.std.proofs.lemmas.Bool.{cases_Bool}
-use Rattle.mb_world.specs.Below.{END, FetchAdd, Gave, Has, HasLoaded, HasMet, History, IsGift, IsReaderPath, Link, Load, MayRead, PoolAccess, PoolAct}
-use Rattle.mb_world.specs.Below.{Reader, Store, Word, is_same_word, load, part, place_past}
+use Rattle.mb_world.specs.Imports.{END, FetchAdd, Gave, Has, HasLoaded, HasMet, History, IsGift, IsReaderPath, Link, Load, MayRead, PoolAccess, PoolAct}
+use Rattle.mb_world.specs.Imports.{Reader, Store, Word, is_same_word, load, part, place_past}
 use Rattle.mb_world.specs.Fitting.{HasRead}
-use Rattle.mb_world.proofs.Places.{IsAt, at_within}
+use Rattle.mb_world.proofs.Places.{StandsAt, at_within}
 use Rattle.mb_world.proofs.ReaderParts.{has_part, word_is, word_same}
 
 -- who loaded a cell's link was given the cell
@@ -36,7 +36,7 @@ met_given q p h (j ∷ ks) k met (inl e) =
 met_given q p h (j ∷ ks) k met (inr has) = met_given q p h ks k met.2 has
 
 -- the link of each cell met but the last was loaded
-pub met_link : (q p : ℕ) (h : History) (ks : List ℕ) (j k : ℕ) → HasMet q p ks h → IsAt ks j k → suc j < length ks
+pub met_link : (q p : ℕ) (h : History) (ks : List ℕ) (j k : ℕ) → HasMet q p ks h → StandsAt ks j k → suc j < length ks
     → (v : ℕ) × HasLoaded q (Link k) v h
 met_link q p h [] j k met at less = absurd at
 met_link q p h (a ∷ []) j k met (inl at) less = absurd (omega (arith, at.0))

@@ -18,14 +18,14 @@ use Rattle.mb_world.specs.declared.event.Event.TheVariants as event
 use Rattle.mb_world.specs.declared.report.Note.{Note}
 use Rattle.mb_world.specs.declared.seat.Seat.{Seat}
 use Rattle.mb_world.specs.declared.seat.Seat.TheVariants as seat
-use Rattle.mb_world.specs.Below.{END, Has, Gave, IsClaimPrefix, Item, Head, Link, Load, MayRead, ObjectTurn, Reader, Stage, Word, load, part, place_past}
+use Rattle.mb_world.specs.Imports.{END, Has, Gave, IsClaimPrefix, Item, Head, Link, Load, MayRead, ObjectTurn, Reader, Stage, Word, load, part, place_past}
 use Rattle.mb_world.specs.Plan.{consumers_of}
 use Rattle.mb_world.specs.Setups.{layout_of}
 use Rattle.mb_world.specs.World.{ToCells, WorldAccess, WorldHistory, lane_part, pool_accesses}
 use Rattle.mb_world.specs.ConsumerPath.{ConsumerPath, finds, link_load, waits}
 use Rattle.mb_world.specs.WorldState.{IsSeatAt, IsWorldAfter, WorldState}
 use Rattle.mb_world.specs.Replay.{answer_to}
-use Rattle.mb_world.specs.EventSteps.{EventAdds, IsBefore, with_seat}
+use Rattle.mb_world.specs.EventSteps.{EventAdds, StandsBefore, with_seat}
 use Rattle.mb_world.proofs.LoadStates.{adds, given, load_adds, loaded}
 use Rattle.mb_world.proofs.StateEnds.{load_keeps}
 use Rattle.mb_world.proofs.StateSteps.{AreNotes, notes_kept, own_seat, plan, seat_here, seats_kept, seats_set}
@@ -67,7 +67,7 @@ not_item (cursor.Past q) k e = cc
 
 module _ (s : WorldState) (h : WorldHistory) (is : IsWorldAfter h s) (c p : ℕ) (cs : c < consumers_of (plan s h is))
     (ps : p < (plan s h is).lanes) (known : StepKnown s h c p) (d : Seat) (at : Cursor)
-    (here : slice_get s.seats (c * (plan s h is).lanes + p) ≡ Some d) (before : IsBefore p d at) where
+    (here : slice_get s.seats (c * (plan s h is).lanes + p) ≡ Some d) (before : StandsBefore p d at) where
   -- such a seat stands before a link
   pub record AtLink (e : Seat) (it : Cursor) : Type 0 where
     pub cells : List ℕ
@@ -78,7 +78,7 @@ module _ (s : WorldState) (h : WorldHistory) (is : IsWorldAfter h s) (c p : ℕ)
 
   link_at : (ks : List ℕ) (ns : List Note) (held : Option (List ObjectTurn)) (e : Seat) (it : Cursor)
       → ConsumerPath (plan s h is).claims c p (lane_part c p h) ks ns held
-      → IsSeatAt (layout_of s.setup) c ks held e → IsBefore p e it → AtLink e it
+      → IsSeatAt (layout_of s.setup) c ks held e → StandsBefore p e it → AtLink e it
   link_at [] ns None seat.AtHead (cursor.Head q) path on b =
       record { cells = []; notes = ns; path = path; word = ap Head b; seat = tt }
   link_at (k ∷ ks) ns None (seat.PastCell j) (cursor.Past i) path on b =

@@ -9,7 +9,7 @@ use Rattle.mb_cells.specs.Standing.{IsLaneWord, finish_refusal, link_after, next
 use Rattle.mb_world.specs.declared.event.Answer.{Answer}
 use Rattle.mb_world.specs.declared.event.Answer.TheVariants as answer
 use Rattle.mb_world.specs.declared.event.Event.TheVariants as event
-use Rattle.mb_world.specs.Below.{ActFits, Counter, END, Entry, Head, History, IsLanePrefix, IsLinkWord, Item, Link, PoolAccess, Producer, Store, Word, part}
+use Rattle.mb_world.specs.Imports.{ActFits, Counter, END, Entry, Head, History, IsLanePrefix, IsLinkWord, Item, Link, PoolAccess, Producer, Store, Word, part}
 use Rattle.mb_world.specs.Plan.{Plan, size_of}
 use Rattle.mb_world.specs.World.{ToCells, WorldHistory, pool_accesses}
 use Rattle.mb_world.specs.Worlds.{IsWorldLawful}

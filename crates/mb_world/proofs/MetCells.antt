@@ -1,8 +1,8 @@
 -- The cells that a consumer's own loads met on a lane are all that it met there.
 use Rattle.std.proofs.Common.{◌≡◌, ◌≢◌, ◌⊎◌, ℕ, ◌+◌, ◌-◌, ◌<◌, true, false, List, [], ◌∷◌, ◌++◌, Option, Some, None, refl, sym, ◌∙◌, ap, subst, inl, inr, arith}
 use Rattle.std.proofs.lemmas.Bool.{cases_Bool, cases_eq, ne_eqb, eq-eqb}
-use Rattle.mb_world.specs.Below.{Counter, END, FetchAdd, Gave, Has, HasMet, Head, History, IsGift, IsLinkWord, IsOnceEach, IsStart, Item, Link, Load}
-use Rattle.mb_world.specs.Below.{PoolAccess, PoolAct, Reader, Store, Word, is_same_word, linked_cells, part, place_past, push_if}
+use Rattle.mb_world.specs.Imports.{Counter, END, FetchAdd, Gave, Has, HasMet, Head, History, IsGift, IsLinkWord, IsOnceEach, IsStart, Item, Link, Load}
+use Rattle.mb_world.specs.Imports.{PoolAccess, PoolAct, Reader, Store, Word, is_same_word, linked_cells, part, place_past, push_if}
 use Rattle.mb_world.specs.Plan.{Histories, Plan, consumers_of}
 use Rattle.mb_world.specs.Fitting.{FollowsLinks, cell_given, cells_met, parts_of}
 use Rattle.mb_world.specs.Reporting.{HasMetAll}

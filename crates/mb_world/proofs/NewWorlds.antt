@@ -12,7 +12,7 @@ use Rattle.mb_world.specs.declared.report.Note.TheVariants.{Took, Lost, Undecide
 use Rattle.mb_world.specs.declared.seat.Seat.{Seat}
 use Rattle.mb_world.specs.declared.seat.Seat.TheVariants as seat
 use Rattle.mb_world.specs.declared.setup.Setup.{Setup}
-use Rattle.mb_world.specs.Below.{IsClaimPrefix, Stage}
+use Rattle.mb_world.specs.Imports.{IsClaimPrefix, Stage}
 use Rattle.mb_world.specs.Plan.{consumers_of}
 use Rattle.mb_world.specs.Setups.{plan_in}
 use Rattle.mb_world.specs.Fitting.{EndsAs, parts_of}

@@ -10,12 +10,12 @@ use Rattle.mb_world.specs.declared.event.Answer.{Answer}
 use Rattle.mb_world.specs.declared.event.Answer.TheVariants as answer
 use Rattle.mb_world.specs.declared.event.Event.TheVariants as event
 use Rattle.mb_world.specs.declared.report.Note.{Note}
-use Rattle.mb_world.specs.Below.{END, IsStart, Load, ObjectTurn, has_ended, linked_cells, place_past}
+use Rattle.mb_world.specs.Imports.{END, IsStart, Load, ObjectTurn, has_ended, linked_cells, place_past}
 use Rattle.mb_world.specs.Plan.{Plan, consumers_of}
 use Rattle.mb_world.specs.World.{IsBy, WorldAccess, WorldHistory, is_on, lane_part, pool_accesses}
 use Rattle.mb_world.specs.ConsumerPath.{ConsumerPath, link_load}
 use Rattle.mb_world.specs.Worlds.{IsWorldLawful}
-use Rattle.mb_world.specs.Replay.{IsEntry, Names, answer_to}
+use Rattle.mb_world.specs.Replay.{IsEntry, AnswerNames, answer_to}
 use Rattle.mb_world.specs.Waiting.{HasNothing}
 use Rattle.mb_world.proofs.ConsumerSteps.{linked_same, one_lane_of}
 use Rattle.mb_world.proofs.LastAccess.{CameFrom, Leads, Place, came_from, ended, found, place, took, waited, went}
@@ -76,11 +76,11 @@ module _ (plan : Plan) (h : WorldHistory) (lawful : IsWorldLawful plan h) (known
       → v ≡ value_in (place_past p ks) (pool_accesses h)
   loaded x longer ks v e = (subst (λ y. IsWorldLawful plan (y ∷ h)) e longer).cells_memory.0
 
-  answered : (x : WorldAccess) (r : Answer) → Names plan r x h → (ks : List ℕ) (v : ℕ) → x ≡ link_load c p ks v
+  answered : (x : WorldAccess) (r : Answer) → AnswerNames plan r x h → (ks : List ℕ) (v : ℕ) → x ≡ link_load c p ks v
       → r ≡ answer.Looked (look_of v)
   answered x r names ks v e =
       let named : answer_to plan.claims.cells (place_past p ks) (Load v) ≡ Some r =
-      subst (λ y. Names plan r y h) e names in
+      subst (λ y. AnswerNames plan r y h) e names in
       let both : Some r ≡ Some (answer.Looked (look_of v)) = sym named ∙ link_answer plan.claims.cells p ks v in
       cc
 
@@ -108,7 +108,7 @@ module _ (plan : Plan) (h : WorldHistory) (lawful : IsWorldLawful plan h) (known
           let more = next p y ys ks split in
           absurd (omega (arith, more, zero))
 
-  waits_there : {was now : Place} (x : WorldAccess) (r : Answer) → IsWorldLawful plan (x ∷ h) → Names plan r x h
+  waits_there : {was now : Place} (x : WorldAccess) (r : Answer) → IsWorldLawful plan (x ∷ h) → AnswerNames plan r x h
       → r ≡ answer.Looked look.Nothing → c < consumers_of plan → p < plan.lanes
       → ConsumerPath plan.claims c p (lane_part c p h) was.cells was.notes was.held
       → Leads plan.claims c p x was now → HasNothing plan c p h
@@ -132,13 +132,13 @@ module _ (plan : Plan) (h : WorldHistory) (lawful : IsWorldLawful plan h) (known
       let zero = nothing_told (k + 1) none in
       absurd (omega (arith, zero))
   waits_there x r longer names is cs ps path (went ks ns k xs y s q still e) =
-      let named = subst (λ z. Names plan r z h) e names in
+      let named = subst (λ z. AnswerNames plan r z h) e names in
       let other = sym is ∙ named.2 in absurd (cc)
   waits_there x r longer names is cs ps path (ended ks ns k xs y n s q note e) =
-      let named = subst (λ z. Names plan r z h) e names in
+      let named = subst (λ z. AnswerNames plan r z h) e names in
       let other = sym is ∙ named.2 in absurd (cc)
   waits_there x r longer names is cs ps path (took ks ns k xs v won e) =
-      let named : Some (answer.Took k v) ≡ Some r = subst (λ z. Names plan r z h) e names in
+      let named : Some (answer.Took k v) ≡ Some r = subst (λ z. AnswerNames plan r z h) e names in
       let other : answer.Took k v ≡ r = cc in
       let both = other ∙ is in absurd (cc)
 
@@ -158,7 +158,7 @@ module _ (plan : Plan) (h : WorldHistory) (lawful : IsWorldLawful plan h) (known
   module _ (one_place : (js : List ℕ) (ms : List Note) (held : Option (List ObjectTurn))
       → ConsumerPath plan.claims c p (lane_part c p h) js ms held → (ks : List ℕ) (ns : List Note)
       → ConsumerPath plan.claims c p (lane_part c p h) ks ns None → (js ≡ ks) × (ms ≡ ns) × (held ≡ None)) where
-    finds_none : {was now : Place} (x : WorldAccess) (r : Answer) → IsWorldLawful plan (x ∷ h) → Names plan r x h
+    finds_none : {was now : Place} (x : WorldAccess) (r : Answer) → IsWorldLawful plan (x ∷ h) → AnswerNames plan r x h
         → HasNothing plan c p h
         → ConsumerPath plan.claims c p (lane_part c p h) was.cells was.notes was.held
         → Leads plan.claims c p x was now → r ≡ answer.Looked look.Nothing

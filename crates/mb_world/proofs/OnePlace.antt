@@ -3,7 +3,7 @@ use Rattle.std.proofs.Common.{◌≡◌, ◌≢◌, ◌⊎◌, ◌+◌, ℕ, Lis
 use Rattle.mb_claim.specs.declared.access.Stage.TheVariants as stage
 use Rattle.mb_world.specs.declared.report.Note.{Note}
 use Rattle.mb_world.specs.declared.report.Note.TheVariants.{Took}
-use Rattle.mb_world.specs.Below.{ClaimAccess, Claims, END, FetchAdd, IsClaimPrefix, Item, Load, ObjectTurn, PoolAct, Stage, Store, Word, load, place_past}
+use Rattle.mb_world.specs.Imports.{ClaimAccess, Claims, END, FetchAdd, IsClaimPrefix, Item, Load, ObjectTurn, PoolAct, Stage, Store, Word, load, place_past}
 use Rattle.mb_world.specs.World.{ToCells, ToClaims, WorldAccess, WorldHistory}
 use Rattle.mb_world.specs.ConsumerPath.{ConsumerPath, begins, claim_access, claim_step, item_load, link_load, note_of}
 use Rattle.mb_world.proofs.LastAccess.{Leads, Place, came_from, ended, found, place, took, waited, went}

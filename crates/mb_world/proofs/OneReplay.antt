@@ -4,11 +4,11 @@ use Rattle.mb_world.specs.declared.event.Answer.{Answer}
 use Rattle.mb_world.specs.declared.event.Answer.TheVariants as answer
 use Rattle.mb_world.specs.declared.event.Event.{Event}
 use Rattle.mb_world.specs.declared.event.Event.TheVariants as event
-use Rattle.mb_world.specs.Below.{Stage, claim_part}
+use Rattle.mb_world.specs.Imports.{Stage, claim_part}
 use Rattle.mb_world.specs.Plan.{Plan}
 use Rattle.mb_world.specs.World.{ToCells, ToClaims, WorldAccess, WorldHistory, claim_accesses}
 use Rattle.mb_world.specs.Worlds.{IsWorldLawful}
-use Rattle.mb_world.specs.Replay.{IsAccessOf, IsEntry, IsRefused, IsReplay, Names, with_access}
+use Rattle.mb_world.specs.Replay.{IsAccessOf, IsEntry, IsRefused, IsReplay, AnswerNames, with_access}
 use Rattle.mb_world.proofs.ConsumerEvents.{one_step_access, step_never_both, step_refused_once}
 use Rattle.mb_world.proofs.EventKnown.{EventKnown}
 use Rattle.mb_world.proofs.ProducerEvents.{finish_never_both, finish_refused_once, offer_never_both, offer_refused_once, one_finish, one_offer, one_push, push_never_both, push_refused_once}
@@ -36,7 +36,7 @@ module _ (plan : Plan) (h : WorldHistory) (known : EventKnown plan h) where
   refused_once (event.Step c p word) r s a b = step_refused_once plan h known c p word r s a b
 
   -- an access has one name
-  named_once : (a : WorldAccess) (r s : Answer) → Names plan r a h → Names plan s a h → r ≡ s
+  named_once : (a : WorldAccess) (r s : Answer) → AnswerNames plan r a h → AnswerNames plan s a h → r ≡ s
   named_once (ToCells a) r s e f = let same : Some r ≡ Some s = sym e ∙ f in cc
   named_once (ToClaims a) r s (x, q, e) (y, w, f) =
       let same = known.one_stage a.consumer (a.step ∷ claim_part a.consumer a.cell (claim_accesses h)) x y q w in
@@ -49,7 +49,7 @@ module _ (plan : Plan) (h : WorldHistory) (known : EventKnown plan h) where
   one_entry e r s (Some a) None x y = absurd (never_both e s a y x.0 x.2)
   one_entry e r s (Some a) (Some b) x y =
       let same = one_access e a b x.0 x.2 y.0 y.2 in
-      (named_once b r s (subst (λ z. Names plan r z h) same x.1) y.1, ap Some same)
+      (named_once b r s (subst (λ z. AnswerNames plan r z h) same x.1) y.1, ap Some same)
 
 module _ (plan : Plan) (known : (h : WorldHistory) → IsWorldLawful plan h → EventKnown plan h) where
   -- an entry keeps the history lawful

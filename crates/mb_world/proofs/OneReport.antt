@@ -6,13 +6,13 @@ use Rattle.std.specs.Prelude.{slice_get}
 use Rattle.mb_claim.specs.declared.access.Stage.TheVariants as stage
 use Rattle.mb_world.specs.declared.report.Note.{Note}
 use Rattle.mb_world.specs.declared.report.Note.TheVariants.{Lost, Took, Undecided}
-use Rattle.mb_world.specs.Below.{Item, Stage, claim_part}
+use Rattle.mb_world.specs.Imports.{Item, Stage, claim_part}
 use Rattle.mb_world.specs.Plan.{Histories, Plan, consumers_of}
 use Rattle.mb_world.specs.Fitting.{EndsAs, HasStageIn, parts_of}
 use Rattle.mb_world.specs.Report.{DiaryView, LaneView, ReportView}
 use Rattle.mb_world.specs.Reporting.{IsDiaryOf, IsReportOf, lane_view}
 use Rattle.mb_world.proofs.Known.{Known}
-use Rattle.mb_world.proofs.Places.{IsAt, at_has, at_one, has_at, reverse_at}
+use Rattle.mb_world.proofs.Places.{StandsAt, at_has, at_one, has_at, reverse_at}
 use Rattle.mb_world.proofs.Diaries.{met_at, note_at, placed}
 use Rattle.mb_world.proofs.Loads.{met_given}
 use Rattle.mb_world.proofs.ReaderParts.{loaded-read}
@@ -82,7 +82,7 @@ module _ (plan : Plan) (hs : Histories) (known : Known plan hs) where
   module _ (c p : ℕ) (cs : c < consumers_of plan) where
     -- cells stand at the same places of both
     same_at : (d e : DiaryView) (x : IsDiaryOf plan c p hs d) (y : IsDiaryOf plan c p hs e) (j k : ℕ)
-        → IsAt x.cells j k → IsAt y.cells j k
+        → StandsAt x.cells j k → StandsAt y.cells j k
     same_at d e x y j k at =
         met_at plan hs known c p cs e y j k (placed plan hs known c p cs d x j k at)
         (met_given (hs.reader_of c) p hs.pool x.cells k x.met.met (at_has x.cells j k at))

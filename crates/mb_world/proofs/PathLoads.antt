@@ -3,8 +3,8 @@ use Rattle.std.proofs.Common.{◌≡◌, ◌≢◌, ◌⊎◌, ℕ, ◌+◌, ◌
 use Rattle.std.specs.Prelude.{cond}
 use Rattle.std.proofs.lemmas.Bool.{ne_eqb}
 use Rattle.mb_world.specs.declared.report.Note.{Note}
-use Rattle.mb_world.specs.Below.{Claims, Counter, END, Gave, Has, HasMet, Head, History, IsGift, IsLinkWord, IsReaderPath, Item, Link, Load, MayRead}
-use Rattle.mb_world.specs.Below.{ObjectTurn, PoolAccess, Word, is_same_word, load, place_past, push_if}
+use Rattle.mb_world.specs.Imports.{Claims, Counter, END, Gave, Has, HasMet, Head, History, IsGift, IsLinkWord, IsReaderPath, Item, Link, Load, MayRead}
+use Rattle.mb_world.specs.Imports.{ObjectTurn, PoolAccess, Word, is_same_word, load, place_past, push_if}
 use Rattle.mb_world.specs.Fitting.{cell_given, cells_met}
 use Rattle.mb_world.specs.World.{WorldHistory, pool_accesses}
 use Rattle.mb_world.specs.ConsumerPath.{ConsumerPath, begins, ends, finds, goes, takes, waits}

@@ -8,7 +8,7 @@ use Rattle.mb_cells.specs.Standing.{finish_refusal, link_after, next_link, offer
 use Rattle.mb_world.specs.declared.event.Answer.{Answer}
 use Rattle.mb_world.specs.declared.event.Answer.TheVariants as answer
 use Rattle.mb_world.specs.declared.event.Event.TheVariants as event
-use Rattle.mb_world.specs.Below.{Counter, END, Entry, History, IsLanePrefix, IsLinkWord, Item, PoolAccess, Producer, Word, is_same_process, part}
+use Rattle.mb_world.specs.Imports.{Counter, END, Entry, History, IsLanePrefix, IsLinkWord, Item, PoolAccess, Producer, Word, is_same_process, part}
 use Rattle.mb_cells.specs.Memory.{value_in}
 use Rattle.mb_world.specs.Plan.{Plan}
 use Rattle.mb_world.specs.World.{ToCells, WorldAccess, WorldHistory, pool_accesses}

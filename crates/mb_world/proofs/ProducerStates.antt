@@ -23,7 +23,7 @@ use Rattle.mb_world.specs.declared.event.Answer.TheVariants as answer
 use Rattle.mb_world.specs.declared.event.Event.TheVariants as event
 use Rattle.mb_world.specs.declared.report.Note.{Note}
 use Rattle.mb_world.specs.declared.report.Note.TheVariants.{Took, Lost, Undecided}
-use Rattle.mb_world.specs.Below.{Counter, END, History, IsLinkWord, IsPoolLawful, Item, PoolAccess, Process, Producer, Reader, Store, Word, is_same_process, part, pool_size}
+use Rattle.mb_world.specs.Imports.{Counter, END, History, IsLinkWord, IsPoolLawful, Item, PoolAccess, Process, Producer, Reader, Store, Word, is_same_process, part, pool_size}
 use Rattle.mb_world.specs.Plan.{consumers_of, size_of}
 use Rattle.mb_world.specs.Fitting.{HasRead}
 use Rattle.mb_world.specs.World.{ToCells, WorldHistory, pool_accesses}

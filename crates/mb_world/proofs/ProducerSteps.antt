@@ -2,8 +2,8 @@
 use Rattle.std.proofs.Common.{◌≡◌, ◌⊎◌, ℕ, Bool, true, false, ◌&&◌, ◌||◌, cond, List, ◌∷◌, Option, Some, None, refl, sym, ◌∙◌, ap, subst, inl, inr, eq-eqb, eqb-true}
 use Rattle.std.specs.Prelude.{filter, nat_eq}
 use Rattle.std.proofs.lemmas.Bool.{and_parts, cases_Bool, cases_eq, cond_both, ne_eqb}
-use Rattle.mb_world.specs.Below.{Counter, Has, Head, History, IsOnceEach, IsPoolLawful, Item, Link, PoolAccess, Process, Producer, Reader, Word, has_cell}
-use Rattle.mb_world.specs.Below.{is_of_lane, is_same_process, link_of, linked_cells, push_if}
+use Rattle.mb_world.specs.Imports.{Counter, Has, Head, History, IsOnceEach, IsPoolLawful, Item, Link, PoolAccess, Process, Producer, Reader, Word, has_cell}
+use Rattle.mb_world.specs.Imports.{is_of_lane, is_same_process, link_of, linked_cells, push_if}
 use Rattle.mb_world.specs.Plan.{Plan, size_of}
 use Rattle.mb_world.specs.World.{IsBy, ToCells, ToClaims, WorldAccess, WorldHistory, is_on, lane_part, pool_accesses}
 use Rattle.mb_world.specs.ConsumerPath.{ConsumerPath}

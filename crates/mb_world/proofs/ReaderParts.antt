@@ -1,7 +1,7 @@
 -- What a reader loaded: its part has that and nothing else.
 use Rattle.std.proofs.Common.{◌≡◌, ◌⊎◌, ℕ, Bool, true, [], ◌∷◌, refl, sym, ◌∙◌, ap, subst, inl, inr, eq-eqb, eqb-true}
 use Rattle.std.proofs.lemmas.Bool.{cond_both}
-use Rattle.mb_world.specs.Below.{Counter, Has, HasLoaded, Head, History, Item, Link, Load, PoolAccess, PoolAct, Process, Producer, Reader, Word, is_same_process, is_same_word, load, part}
+use Rattle.mb_world.specs.Imports.{Counter, Has, HasLoaded, Head, History, Item, Link, Load, PoolAccess, PoolAct, Process, Producer, Reader, Word, is_same_process, is_same_word, load, part}
 use Rattle.mb_world.specs.Fitting.{HasRead}
 
 -- ---- names

@@ -5,10 +5,10 @@ use Rattle.std.proofs.lemmas.Bool.{cases_lt}
 use Rattle.std.proofs.lemmas.Option.{slice_get-get_or}
 use Rattle.mb_claim.specs.declared.access.Stage.TheVariants as stage
 use Rattle.mb_claim.specs.Claiming.{HasStage}
-use Rattle.mb_claim.specs.Winner.{Names}
+use Rattle.mb_claim.specs.Winner.{StageNames}
 use Rattle.mb_world.specs.declared.report.Note.{Note}
 use Rattle.mb_world.specs.declared.report.Note.TheVariants.{Took, Lost, Undecided}
-use Rattle.mb_world.specs.Below.{Stage, linked_cells}
+use Rattle.mb_world.specs.Imports.{Stage, linked_cells}
 use Rattle.mb_world.specs.Plan.{Histories, Plan, consumers_of}
 use Rattle.mb_world.specs.Report.{DiaryView, ReportView, is_begun, items_left, items_put, note, notes}
 use Rattle.mb_world.specs.Assignment.{items_where}
@@ -30,7 +30,7 @@ module _ (plan : Plan) (hs : Histories) (known : Known plan hs) where
   -- the end that a note tells names the winner that the note names
   end_named : (c k : ℕ) (n : Note) (w : ℕ) → c < consumers_of plan → EndsAs plan.claims c k n (parts_of c hs)
       → winner_named c n ≡ Some w
-      → (s : Stage) × HasStage plan.claims c k s hs.claims × Names c s w
+      → (s : Stage) × HasStage plan.claims c k s hs.claims × StageNames c s w
   end_named c k (Took x) w cs end e = (stage.Won, (cs, end.0), cc)
   end_named c k (Lost u) w cs end e = (stage.Lost u, (cs, end), cc)
   end_named c k Undecided w cs end e = absurd (cc)

@@ -4,7 +4,7 @@ use Rattle.std.specs.Prelude.{map}
 use Rattle.mb_claim.specs.declared.access.Stage.TheVariants as stage
 use Rattle.mb_world.specs.declared.report.Note.{Note}
 use Rattle.mb_world.specs.declared.report.Note.TheVariants.{Took}
-use Rattle.mb_world.specs.Below.{Counter, Head, IsClaimPrefix, Item, Link, ObjectTurn, Stage, Word}
+use Rattle.mb_world.specs.Imports.{Counter, Head, IsClaimPrefix, Item, Link, ObjectTurn, Stage, Word}
 use Rattle.mb_world.specs.World.{ToCells, ToClaims, WorldAccess, WorldHistory}
 use Rattle.mb_world.specs.ConsumerPath.{ConsumerPath, begins, claim_step, finds, goes, item_load, link_load, note_of, takes, waits}
 use Rattle.mb_world.specs.PathExamples.{IsOnNoPath, begun, claimed_another, claimed_unmet, first_step, found, gone_back, passed_going, passed_unclaimed}

@@ -4,7 +4,7 @@ use Rattle.std.proofs.lemmas.Bool.{cases_eq, ne_eqb}
 use Rattle.mb_claim.specs.declared.access.Stage.TheVariants as stage
 use Rattle.mb_world.specs.declared.report.Note.{Note}
 use Rattle.mb_world.specs.declared.report.Note.TheVariants.{Took, Lost, Undecided}
-use Rattle.mb_world.specs.Below.{Claims, Has, History, IsClaimPrefix, Item, Load, ObjectTurn, PoolAccess, Reader, Stage, Word, claim_part, load, part}
+use Rattle.mb_world.specs.Imports.{Claims, Has, History, IsClaimPrefix, Item, Load, ObjectTurn, PoolAccess, Reader, Stage, Word, claim_part, load, part}
 use Rattle.mb_world.specs.Fitting.{EndsAs, HasRead, parts_of}
 use Rattle.mb_world.specs.World.{ToCells, WorldHistory, claim_accesses, histories_of, pool_accesses}
 use Rattle.mb_world.specs.ConsumerPath.{claim_access, claim_step}

@@ -8,7 +8,7 @@ use Rattle.std.proofs.lemmas.List.{append-nil}
 use Rattle.std.proofs.lemmas.List.Elements.{filter_map-append}
 use Rattle.mb_world.specs.declared.report.Note.{Note}
 use Rattle.mb_world.specs.declared.report.Note.TheVariants.{Took}
-use Rattle.mb_world.specs.Below.{Entry, Has, History, linked_cells, put_list}
+use Rattle.mb_world.specs.Imports.{Entry, Has, History, linked_cells, put_list}
 use Rattle.mb_cells.specs.Lanes.{entry_at}
 use Rattle.mb_world.specs.Assignment.{items_where}
 use Rattle.mb_world.specs.Reporting.{any_below, is_took}

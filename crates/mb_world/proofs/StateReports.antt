@@ -14,7 +14,7 @@ use Rattle.mb_world.specs.declared.report.Note.{Note}
 use Rattle.mb_world.specs.declared.report.Note.TheVariants.{Took, Lost, Undecided}
 use Rattle.mb_world.specs.declared.seat.Seat.{Seat}
 use Rattle.mb_world.specs.declared.seat.Seat.TheVariants as seat
-use Rattle.mb_world.specs.Below.{Has, IsClaimPrefix, IsOnceEach, ObjectTurn, claim_part, linked_cells}
+use Rattle.mb_world.specs.Imports.{Has, IsClaimPrefix, IsOnceEach, ObjectTurn, claim_part, linked_cells}
 use Rattle.mb_world.specs.Plan.{Plan, consumers_of}
 use Rattle.mb_world.specs.Report.{DiaryView, LaneView, ReportView, diary, note, notes}
 use Rattle.mb_world.specs.Assignment.{items_where}
@@ -29,7 +29,7 @@ use Rattle.mb_world.specs.WorldState.{IsSeatAfter, IsSeatAt, IsWorldAfter, World
 use Rattle.mb_world.specs.StateReport.{AreDiariesTold, AreLanesTold, IsDiaryTold, IsLaneTold, IsWalked, begun_on, has_begun_on, is_taken_on, note_on, note_there}
 use Rattle.mb_world.proofs.Cells.{has_cell-true}
 use Rattle.mb_world.proofs.PathDiaries.{ends_length}
-use Rattle.mb_world.proofs.Places.{IsAt, at_has, has_at, reverse_at}
+use Rattle.mb_world.proofs.Places.{StandsAt, at_has, has_at, reverse_at}
 use Rattle.mb_world.proofs.StateNotes.{any_below-same, items_chosen, none_noted, note_by, note_placed, noted, put_cells}
 use Rattle.mb_world.proofs.Tracks.{AreEnds, EndsIn, closed, ends_more, ends_some}
 use Rattle.mb_world.proofs.WorldClaims.{end_here, met_all, on_lane, tracks}
@@ -74,7 +74,7 @@ closed_has ks None k has = has
 closed_has [] (Some xs) k has = absurd has
 closed_has (q ∷ qs) (Some xs) k has = inr has
 
-closed_at : (ks : List ℕ) (z : Option (List ObjectTurn)) (j k : ℕ) → IsAt ks j k → j < length (closed ks z)
+closed_at : (ks : List ℕ) (z : Option (List ObjectTurn)) (j k : ℕ) → StandsAt ks j k → j < length (closed ks z)
     → Has (closed ks z) k
 closed_at ks None j k at less = at_has ks j k at
 closed_at [] (Some xs) j k at less = absurd at

@@ -9,13 +9,13 @@ use Rattle.mb_world.specs.declared.event.Answer.{Answer}
 use Rattle.mb_world.specs.declared.event.Event.{Event}
 use Rattle.mb_world.specs.declared.report.Note.{Note}
 use Rattle.mb_world.specs.declared.seat.Seat.{Seat}
-use Rattle.mb_world.specs.Below.{ObjectTurn}
+use Rattle.mb_world.specs.Imports.{ObjectTurn}
 use Rattle.mb_world.specs.Plan.{Plan, consumers_of}
 use Rattle.mb_world.specs.Setups.{layout_of, plan_in}
 use Rattle.mb_world.specs.World.{WorldAccess, WorldHistory, claim_accesses, lane_part, pool_accesses}
 use Rattle.mb_world.specs.ConsumerPath.{ConsumerPath}
 use Rattle.mb_world.specs.Worlds.{ConsumerAdds}
-use Rattle.mb_world.specs.WorldState.{IsNoteAfter, IsSeatAfter, IsSeatAt, IsSound, IsWorldAfter, WorldState}
+use Rattle.mb_world.specs.WorldState.{IsNoteAfter, IsSeatAfter, IsSeatAt, WorldIsSound, IsWorldAfter, WorldState}
 use Rattle.mb_world.specs.Replay.{with_access}
 use Rattle.mb_world.specs.EventSteps.{EventAdds}
 use Rattle.mb_world.proofs.StateEnds.{Ends}
@@ -26,7 +26,8 @@ one_there : {X : Type 0} (o : Option X) (x y : X) → o ≡ Some x → o ≡ Som
 one_there o x y e f = let both : Some x ≡ Some y = sym e ∙ f in cc
 
 -- a history leaves the state after an event
-pub still_sound : (e : Event) (r : Answer) (now : WorldState) (h : WorldHistory) → EventAdds e r now h → IsSound now
+pub still_sound : (e : Event) (r : Answer) (now : WorldState) (h : WorldHistory)
+    → EventAdds e r now h → WorldIsSound now
 still_sound e r now h adds = (with_access adds.access h, adds.left)
 
 module _ (s : WorldState) (h : WorldHistory) (is : IsWorldAfter h s) where

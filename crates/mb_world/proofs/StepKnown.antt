@@ -6,7 +6,7 @@ use Rattle.mb_cells.specs.State.{PoolState}
 use Rattle.mb_claim.specs.declared.layout.Layout.{Layout}
 use Rattle.mb_claim.specs.Layouts.{quorums_of}
 use Rattle.mb_world.specs.declared.report.Note.{Note}
-use Rattle.mb_world.specs.Below.{Claims, Has, HasMet, History, IsClaimPrefix, IsOnceEach, IsPoolLawful, IsStart, ObjectTurn, PoolSize, Stage, Word, linked_cells}
+use Rattle.mb_world.specs.Imports.{Claims, Has, HasMet, History, IsClaimPrefix, IsOnceEach, IsPoolLawful, IsStart, ObjectTurn, PoolSize, Stage, Word, linked_cells}
 use Rattle.mb_world.specs.Plan.{Plan, consumers_of, size_of}
 use Rattle.mb_world.specs.Setups.{layout_of, plan_in}
 use Rattle.mb_world.specs.World.{WorldAccess, WorldHistory, histories_of, lane_part, pool_accesses}

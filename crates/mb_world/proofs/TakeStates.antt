@@ -10,7 +10,7 @@ use Rattle.mb_world.specs.declared.event.Answer.TheVariants as answer
 use Rattle.mb_world.specs.declared.event.Event.TheVariants as event
 use Rattle.mb_world.specs.declared.report.Note.TheVariants.{Took}
 use Rattle.mb_world.specs.declared.seat.Seat.TheVariants as seat
-use Rattle.mb_world.specs.Below.{IsClaimPrefix, Item, MayRead, Reader, claim_part, part}
+use Rattle.mb_world.specs.Imports.{IsClaimPrefix, Item, MayRead, Reader, claim_part, part}
 use Rattle.mb_world.specs.Plan.{consumers_of}
 use Rattle.mb_world.specs.World.{WorldAccess, WorldHistory, claim_accesses, lane_part, pool_accesses}
 use Rattle.mb_world.specs.ConsumerPath.{ConsumerPath, takes}

@@ -4,7 +4,7 @@ use Rattle.std.proofs.lemmas.Bool.{cases_eq}
 use Rattle.mb_claim.specs.declared.access.Stage.TheVariants as stage
 use Rattle.mb_world.specs.declared.report.Note.{Note}
 use Rattle.mb_world.specs.declared.report.Note.TheVariants.{Took, Lost, Undecided}
-use Rattle.mb_world.specs.Below.{Claims, Gave, Has, History, IsClaimPrefix, IsGift, IsOnceEach, Item, Link, Load, ObjectTurn, PoolAccess, Stage, Word, claim_part, load, place_past}
+use Rattle.mb_world.specs.Imports.{Claims, Gave, Has, History, IsClaimPrefix, IsGift, IsOnceEach, Item, Link, Load, ObjectTurn, PoolAccess, Stage, Word, claim_part, load, place_past}
 use Rattle.mb_world.specs.Fitting.{EndsAs, HasRead, Parts}
 use Rattle.mb_world.specs.World.{ToCells, WorldHistory, claim_accesses, pool_accesses}
 use Rattle.mb_world.specs.ConsumerPath.{ConsumerPath, begins, ends, finds, goes, note_of, claim_access, claim_step, takes, waits}

@@ -5,7 +5,7 @@ use Rattle.std.proofs.lemmas.Bool.{and_parts}
 use Rattle.mb_claim.specs.declared.access.Stage.TheVariants as stage
 use Rattle.mb_world.specs.declared.report.Note.{Note}
 use Rattle.mb_world.specs.declared.report.Note.TheVariants.{Took, Lost, Undecided}
-use Rattle.mb_world.specs.Below.{Has, HasMet, History, IsClaimLawful, IsClaimPrefix, IsOnceEach, Item, claim_part, has_cell, linked_cells}
+use Rattle.mb_world.specs.Imports.{Has, HasMet, History, IsClaimLawful, IsClaimPrefix, IsOnceEach, Item, claim_part, has_cell, linked_cells}
 use Rattle.mb_world.specs.Plan.{Plan, consumers_of}
 use Rattle.mb_world.specs.Fitting.{EndsAs, parts_of}
 use Rattle.mb_world.specs.World.{ToClaims, WorldHistory, claim_accesses, histories_of, lane_part, pool_accesses}

@@ -5,7 +5,7 @@ use Rattle.std.proofs.lemmas.List.{length-reverse}
 use Rattle.mb_claim.specs.declared.access.Stage.TheVariants as stage
 use Rattle.mb_world.specs.declared.report.Note.{Note}
 use Rattle.mb_world.specs.declared.report.Note.TheVariants.{Took, Lost, Undecided}
-use Rattle.mb_world.specs.Below.{Gave, Has, History, IsClaimPrefix, IsOnceEach, Item, ObjectTurn, Word, claim_part, has_cell, is_of_lane, linked_cells}
+use Rattle.mb_world.specs.Imports.{Gave, Has, History, IsClaimPrefix, IsOnceEach, Item, ObjectTurn, Word, claim_part, has_cell, is_of_lane, linked_cells}
 use Rattle.mb_world.specs.Plan.{Plan}
 use Rattle.mb_world.specs.Fitting.{EndsAs, parts_of}
 use Rattle.mb_world.specs.Reporting.{IsDiaryOf}
@@ -17,14 +17,14 @@ use Rattle.mb_world.proofs.LaneParts.{Has-filter}
 use Rattle.mb_world.proofs.Loads.{gave-gift}
 use Rattle.mb_world.proofs.PathDiaries.{begun_open, ends_at, gave-some, noted_within, open_begun}
 use Rattle.mb_world.proofs.PathLoads.{path_gave}
-use Rattle.mb_world.proofs.Places.{IsAt, at_has, at_reverse, reverse_at}
+use Rattle.mb_world.proofs.Places.{StandsAt, at_has, at_reverse, reverse_at}
 use Rattle.mb_world.proofs.Tracks.{EndsIn, Tracks, closed}
 use Rattle.mb_world.proofs.WorldClaims.{end_here, met_all, met_once, on_lane, steps_there, tracks}
 use Rattle.mb_world.proofs.WorldKnown.{WorldKnown}
 use Rattle.mb_world.proofs.WorldPool.{load_lane, loads, loads_on, of_lane, on_word, read_there}
 
 -- what has its note is met
-closed_in : (qs : List ℕ) (z : Option (List ObjectTurn)) (j k : ℕ) → IsAt (closed qs z) j k → IsAt qs j k
+closed_in : (qs : List ℕ) (z : Option (List ObjectTurn)) (j k : ℕ) → StandsAt (closed qs z) j k → StandsAt qs j k
 closed_in qs None j k at = at
 closed_in [] (Some xs) j k at = at
 closed_in (q ∷ qs) (Some xs) j k at = inr at

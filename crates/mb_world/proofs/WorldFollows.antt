@@ -2,7 +2,7 @@
 use Rattle.std.proofs.Common.{◌≡◌, ◌⊎◌, ℕ, ◌<◌, Bool, true, false, cond, List, [], ◌∷◌, Option, Some, None, refl, sym, ◌∙◌, ap, subst, inl, inr, eq-eqb}
 use Rattle.std.specs.Prelude.{filter}
 use Rattle.std.proofs.lemmas.Bool.{cases_Bool, cond_both}
-use Rattle.mb_world.specs.Below.{Has, History, IsLinkWord, PoolAccess, is_of_lane, is_same_word, linked_cells, place_past, push_if}
+use Rattle.mb_world.specs.Imports.{Has, History, IsLinkWord, PoolAccess, is_of_lane, is_same_word, linked_cells, place_past, push_if}
 use Rattle.mb_world.specs.Plan.{Plan, consumers_of}
 use Rattle.mb_world.specs.Fitting.{FollowsLinks, cell_given, cells_met}
 use Rattle.mb_world.specs.World.{ToCells, WorldHistory, pool_accesses}

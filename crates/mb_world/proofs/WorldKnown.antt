@@ -1,6 +1,6 @@
 -- What the laws of claims and of cells give for a history of a world.
 use Rattle.std.specs.Prelude.{ℕ, ◌≡◌, ◌<◌, List}
-use Rattle.mb_world.specs.Below.{Has, HasMet, IsClaimPrefix, IsOnceEach, IsStart, ObjectTurn, Stage, linked_cells}
+use Rattle.mb_world.specs.Imports.{Has, HasMet, IsClaimPrefix, IsOnceEach, IsStart, ObjectTurn, Stage, linked_cells}
 use Rattle.mb_world.specs.Plan.{Plan}
 use Rattle.mb_world.specs.World.{WorldHistory, pool_accesses}
 

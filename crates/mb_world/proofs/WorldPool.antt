@@ -3,7 +3,7 @@ use Rattle.std.proofs.Common.{◌≡◌, ◌⊎◌, ℕ, ◌<◌, ◌≤◌, Boo
 use Rattle.std.specs.Prelude.{filter, nat_lt}
 use Rattle.std.proofs.lemmas.Bool.{and_parts, cases_lt, le-ltb, lt-ltb}
 use Rattle.std.proofs.lemmas.List.Elements.{filter_agree}
-use Rattle.mb_world.specs.Below.{Has, History, IsPoolLawful, IsReaderPath, PoolAccess, Reader, Word, is_of_lane, is_same_process, linked_cells, part}
+use Rattle.mb_world.specs.Imports.{Has, History, IsPoolLawful, IsReaderPath, PoolAccess, Reader, Word, is_of_lane, is_same_process, linked_cells, part}
 use Rattle.mb_world.specs.Plan.{Plan, consumers_of, size_of}
 use Rattle.mb_world.specs.Fitting.{HasRead}
 use Rattle.mb_world.specs.World.{ToCells, WorldHistory, lane_part, pool_accesses}

@@ -1,4 +1,4 @@
--- What a report claims: one assignment of items to competitors stands behind the whole of it.
+-- What a report claims: one assignment of items to competitors agrees with all of it.
 use Rattle.std.specs.Prelude.{ℕ, ◌≡◌, ◌≢◌, ◌↔◌, ◌⊎◌, ◌<◌, ◌≤◌, true, Option, Some, None, List, length}
 use Rattle.std.specs.List.{filter_map}
 use Rattle.mb_world.specs.declared.report.Note.{Note}
@@ -6,7 +6,7 @@ use Rattle.mb_world.specs.declared.report.Note.TheVariants.{Took, Lost, Undecide
 use Rattle.mb_world.specs.Report.{ReportView, is_begun, items_left, items_put, note, notes}
 use Rattle.mb_world.specs.Assignment.{Assignment, rest, share}
 
--- the item's value, where the note is that it was taken
+-- the item's value, if the note says that it was taken
 abbrev pub item_taken : Note → Option ℕ
 item_taken (Took x) = Some x
 item_taken (Lost w) = None
@@ -24,8 +24,8 @@ HasTaken c p j r = (x : ℕ) × (note c p j r ≡ Some (Took x))
 abbrev pub HasLostTo : ℕ → ℕ → ℕ → ℕ → ReportView → Type 0
 HasLostTo c w p j r = note c p j r ≡ Some (Lost w)
 
--- c competed for it: c has a note there, or c's notes end just before it and a claim behind them is begun. Of a lawful
--- mailbox whose cells have objects, that is: c made an access to the claim there
+-- c competed for it: c has a note there, or c's notes end just before it and a claim after them is begun. In a lawful
+-- mailbox whose cells have objects this says: c made an access to the claim there
 abbrev pub HasCompeted : ℕ → ℕ → ℕ → ReportView → Type 0
 HasCompeted c p j r = (j < length (notes c p r)) ⊎ ((length (notes c p r) ≡ j) × (is_begun c p r ≡ true))
 
@@ -40,8 +40,8 @@ pub record IsLossTo (t : Assignment) (c w p j : ℕ) (r : ReportView) : Type 0 w
   pub only : (d v : ℕ) → HasLostTo d v p j r → v ≡ w
   pub given : (t p j ≡ Some w) ⊎ (t p j ≡ None)
 
--- Each consumer's ledger from each producer is exactly the items that it was given, in the order put. This is all of
--- the agreement but for the items left: also what losses say, and that notes and begun claims are on items.
+-- Each consumer's ledger from each producer is exactly the items that it was given, in the order put. Added is what
+-- losses say, and that notes and begun claims are on items. This is all of the agreement except the items left.
 pub record AreGiven (t : Assignment) (r : ReportView) : Type 0 where
   -- an item is taken exactly by the consumer that it is given to
   pub taken : (c p j : ℕ) → HasTaken c p j r ↔ (t p j ≡ Some c)
@@ -53,7 +53,7 @@ pub record AreGiven (t : Assignment) (r : ReportView) : Type 0 where
   pub losses : (c w p j : ℕ) → HasLostTo c w p j r → IsLossTo t c w p j r
   -- notes are on items
   pub within : (c p : ℕ) → length (notes c p r) ≤ length (items_put p r)
-  -- and so is a claim that is begun behind them
+  -- and so is a claim that is begun after them
   pub begun_within : (c p : ℕ) → is_begun c p r ≡ true → length (notes c p r) < length (items_put p r)
 
 -- the items that are given to nobody are reported as left
@@ -65,8 +65,8 @@ pub record AgreesWith (t : Assignment) (r : ReportView) : Type 0 where
   pub given : AreGiven t r
   pub left : AreLeft t r
 
--- an item that was competed for is left only beside an unfinished claim: where nobody took it, some competitor's claim
--- is unfinished
+-- an item that was competed for is left only beside an unfinished claim: if nobody took it, some competitor's claim is
+-- unfinished
 abbrev pub IsSettled : ReportView → Type 0
 IsSettled r =
     (c p j : ℕ) → j < length (items_put p r) → HasCompeted c p j r → ((d : ℕ) → HasTaken d p j r → ⊥) →

@@ -1,4 +1,4 @@
--- Assignments of items to consumers. An item is a lane and a position on it; positions count from 0.
+-- Assignments of items to consumers. An item is a lane and a position on it. Positions count from 0.
 use Rattle.std.specs.Prelude.{ℕ, suc, Bool, false, nat_eq, Option, Some, None, List, [], ◌∷◌, if◌then◌else◌}
 use Rattle.std.specs.Option.{is_none}
 use Rattle.mb_world.specs.Report.{ReportView, items_put}

@@ -3,11 +3,11 @@ use Rattle.std.specs.Prelude.{ℕ, ◌≡◌, ◌≢◌, ◌+◌, ◌⊎◌, Boo
 use Rattle.mb_claim.specs.declared.access.Stage.TheVariants as stage
 use Rattle.mb_world.specs.declared.report.Note.{Note}
 use Rattle.mb_world.specs.declared.report.Note.TheVariants.{Took, Lost, Undecided}
-use Rattle.mb_world.specs.Below.{ClaimAccess, Claims, END, IsClaimPrefix, Item, ObjectTurn, Stage, load, place_past}
+use Rattle.mb_world.specs.Imports.{ClaimAccess, Claims, END, IsClaimPrefix, Item, ObjectTurn, Stage, load, place_past}
 use Rattle.mb_world.specs.Report.{DiaryView}
 use Rattle.mb_world.specs.World.{ToCells, ToClaims, WorldAccess, WorldHistory}
 
--- the note with which a claim ends at its last access; one that is won has its note when the item is loaded
+-- the note with which a claim ends at its last access. A claim that is won has its note only when the item is loaded
 abbrev pub note_of : Stage → Option Note
 note_of stage.Going = None
 note_of stage.Won = None
@@ -29,10 +29,10 @@ link_load c p ks v = ToCells (load c (place_past p ks) v)
 abbrev pub item_load : ℕ → ℕ → ℕ → WorldAccess
 item_load c k v = ToCells (load c (Item k) v)
 
--- What consumer c has done on lane p, the newest first, and where it leads: to these cells met and these notes (each
--- the last first), and to these steps of a claim on the last cell met, where one is held. Each rule is one access, so
--- these are the prefixes of its paths: links loaded until one leads to a cell; there a claim to its end, and where that
--- is won the item; then the same from that cell's link.
+-- What consumer c has done on lane p, the newest first, and where it leads. It leads to these cells met and these notes
+-- (each the last first), and to these steps of a claim on the last cell met, if one is held. Each rule but the first is
+-- one access, so these are the prefixes of its paths. A path has loads of links until one leads to a cell. There it has
+-- a claim to its end, and the load of the item if that is won. Then it goes on from that cell's link.
 pub data ConsumerPath (cs : Claims) (c p : ℕ) : WorldHistory → List ℕ → List Note → Option (List ObjectTurn)
     → Type 0 where
   -- nothing yet: it stands at the lane's head
@@ -46,7 +46,7 @@ pub data ConsumerPath (cs : Claims) (c p : ℕ) : WorldHistory → List ℕ → 
       → IsClaimPrefix cs c [] stage.Going
       → ConsumerPath cs c p older ks ns None
       → ConsumerPath cs c p (link_load c p ks (k + 1) ∷ older) (k ∷ ks) ns (Some [])
-  -- a step of the claim, which goes on or is won then
+  -- a step of the claim, which then goes on or is won
   goes : {older : WorldHistory} {ks : List ℕ} {ns : List Note} {k : ℕ} {xs : List ObjectTurn} {x : ObjectTurn}
       → (s : Stage) → IsClaimPrefix cs c (x ∷ xs) s → note_of s ≡ None
       → ConsumerPath cs c p older (k ∷ ks) ns (Some xs)
@@ -57,7 +57,7 @@ pub data ConsumerPath (cs : Claims) (c p : ℕ) : WorldHistory → List ℕ → 
       → (s : Stage) → IsClaimPrefix cs c (x ∷ xs) s → note_of s ≡ Some n
       → ConsumerPath cs c p older (k ∷ ks) ns (Some xs)
       → ConsumerPath cs c p (claim_step c k x ∷ older) (k ∷ ks) (n ∷ ns) None
-  -- where the claim is won, the item is loaded: it is noted, and the consumer stands at the link of cell k
+  -- the claim is won and the item is loaded: it is noted, and the consumer stands at the link of cell k
   takes : {older : WorldHistory} {ks : List ℕ} {ns : List Note} {k : ℕ} {xs : List ObjectTurn} {v : ℕ}
       → IsClaimPrefix cs c xs stage.Won
       → ConsumerPath cs c p older (k ∷ ks) ns (Some xs)
@@ -69,6 +69,6 @@ has_begun None = false
 has_begun (Some []) = false
 has_begun (Some (x ∷ xs)) = true
 
--- the diary of consumer c on lane p, where its path has led to these notes and this claim
+-- the diary of consumer c on lane p, if its path has led to these notes and this claim
 abbrev pub diary_at : ℕ → ℕ → List Note → Option (List ObjectTurn) → DiaryView
 diary_at c p ns held = record { consumer = c; lane = p; notes = reverse ns; begun = has_begun held }

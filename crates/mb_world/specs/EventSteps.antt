@@ -1,4 +1,4 @@
--- What an event makes of the state of a world.
+-- The state of a world after an event.
 use Rattle.std.specs.Prelude.{ℕ, ◌≡◌, ◌+◌, ◌*◌, ◌<◌, Option, Some, None, List, slice_get, slice_set}
 use Rattle.mb_claim.specs.declared.access.Stage.TheVariants as stage
 use Rattle.mb_claim.specs.declared.claim.Claim.{Claim}
@@ -10,15 +10,15 @@ use Rattle.mb_world.specs.declared.event.Event.{Event}
 use Rattle.mb_world.specs.declared.report.Note.{Note}
 use Rattle.mb_world.specs.declared.seat.Seat.{Seat}
 use Rattle.mb_world.specs.declared.seat.Seat.TheVariants as seat
-use Rattle.mb_world.specs.Below.{Stage}
+use Rattle.mb_world.specs.Imports.{Stage}
 use Rattle.mb_world.specs.Plan.{consumers_of}
 use Rattle.mb_world.specs.Setups.{plan_in}
 use Rattle.mb_world.specs.World.{WorldAccess, WorldHistory}
 use Rattle.mb_world.specs.WorldState.{IsWorldAfter, WorldState}
 use Rattle.mb_world.specs.Replay.{IsEntry, with_access}
 
--- after a history, the event has this answer, and it leaves a world in this state: that of the history with the event's
--- access, or that of the same history where the event has none
+-- after a history, the event has this answer and leaves a world in this state. It is the state of the history with the
+-- event's access, or of the same history if the event has none
 pub record EventAdds (e : Event) (r : Answer) (now : WorldState) (h : WorldHistory) : Type 0 where
   pub access : Option WorldAccess
   pub entry : IsEntry (plan_in now.setup) e r access h
@@ -32,10 +32,10 @@ pub record HasSeat (c p : ℕ) (d : Seat) (s : WorldState) : Type 0 where
   pub seat : slice_get s.seats (c * (plan_in s.setup).lanes + p) ≡ Some d
 
 -- a consumer on this seat of lane p stands before the link at the cursor
-abbrev pub IsBefore : ℕ → Seat → Cursor → Type 0
-IsBefore p seat.AtHead (cursor.Head q) = q ≡ p
-IsBefore p (seat.PastCell k) (cursor.Past j) = j ≡ k
-IsBefore p _ _ = ⊥
+abbrev pub StandsBefore : ℕ → Seat → Cursor → Type 0
+StandsBefore p seat.AtHead (cursor.Head q) = q ≡ p
+StandsBefore p (seat.PastCell k) (cursor.Past j) = j ≡ k
+StandsBefore p _ _ = ⊥
 
 -- the state with this seat of consumer c on lane p
 abbrev pub with_seat : ℕ → ℕ → Seat → WorldState → WorldState
@@ -45,7 +45,7 @@ with_seat c p d s = record s { seats = slice_set s.seats (c * (plan_in s.setup).
 abbrev pub with_note : ℕ → ℕ → Note → WorldState → WorldState
 with_note c k n s = record s { notes = slice_set s.notes (c * (plan_in s.setup).claims.cells + k) (Some n) }
 
--- the same, where there is one
+-- the same, if there is a note
 abbrev pub with_note_if : ℕ → ℕ → Option Note → WorldState → WorldState
 with_note_if c k None s = s
 with_note_if c k (Some n) s = with_note c k n s

@@ -1,14 +1,14 @@
--- The two parts of a consumer, what it loaded from the cells and what it did for its claims, and when they fit each
--- other.
+-- The two parts of a consumer, and when they fit each other: what it loaded from the cells, and what it did on its
+-- claims.
 use Rattle.std.specs.Prelude.{ℕ, ◌≡◌, ◌≢◌, ◌-◌, ◌||◌, List, [], ◌∷◌, Option, Some, None, nat_eq, if◌then◌else◌}
-use Rattle.mb_world.specs.Below.{Claims, END, FetchAdd, Gave, Has, History, IsClaimPrefix, IsLinkWord, Item, Link, Load, ObjectTurn, PoolAccess, PoolAct}
-use Rattle.mb_world.specs.Below.{Reader, Stage, Store, Word, claim_part, is_same_word, part, place_past, push_if}
+use Rattle.mb_world.specs.Imports.{Claims, END, FetchAdd, Gave, Has, History, IsClaimPrefix, IsLinkWord, Item, Link, Load, ObjectTurn, PoolAccess, PoolAct}
+use Rattle.mb_world.specs.Imports.{Reader, Stage, Store, Word, claim_part, is_same_word, part, place_past, push_if}
 use Rattle.mb_claim.specs.declared.access.Stage.TheVariants as stage
 use Rattle.mb_world.specs.Plan.{Histories}
 use Rattle.mb_world.specs.declared.report.Note.{Note}
 use Rattle.mb_world.specs.declared.report.Note.TheVariants.{Took, Lost, Undecided}
 
--- what a consumer loaded from the cells, and for each cell the steps of its claim there; the newest first
+-- what a consumer loaded from the cells, and for each cell the steps of its claim there, each the newest first
 pub record Parts : Type 0 where
   pub reads : History
   pub claimed : ℕ → List ObjectTurn
@@ -60,12 +60,12 @@ EndsAs cs c k Undecided x = HasStageIn cs c k stage.Undecided x
 pub record Fits (cs : Claims) (c : ℕ) (x : Parts) : Type 0 where
   -- on each lane its loads follow the links from the head
   pub follows : FollowsLinks x.reads
-  -- its claims stand only on cells that it met: its own loads gave them
+  -- its claims are only on cells that it met: its own loads gave them
   pub met : (k : ℕ) → x.claimed k ≢ [] → Gave k x.reads
-  -- where it loaded a cell's link, its claim there has ended
+  -- if it loaded a cell's link, its claim there has ended
   pub ended : (k v : ℕ) → HasRead (Link k) v x.reads → (s : Stage) × HasStageIn cs c k s x × (s ≢ stage.Going)
-  -- and where that is won, it loaded the item
+  -- and if that is won, it loaded the item
   pub taken : (k v : ℕ) → HasRead (Link k) v x.reads → HasStageIn cs c k stage.Won x
       → (y : ℕ) × HasRead (Item k) y x.reads
-  -- an item, there or of the last cell met, it loaded only where its claim is won; how often is not asked
+  -- it loaded an item, there or of the last cell met, only if its claim on that cell is won. How often is not asked
   pub won : (k v : ℕ) → HasRead (Item k) v x.reads → HasStageIn cs c k stage.Won x

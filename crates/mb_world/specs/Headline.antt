@@ -1,6 +1,6 @@
 -- What a report shows of a mailbox, whatever the order of the accesses and whatever the random words.
 use Rattle.std.specs.Prelude.{ℕ, ◌≡◌, ◌<◌, true, IsSome, [], ◌++◌, length}
-use Rattle.mb_world.specs.Below.{END, HasLoaded, History, IsLinkWord, Producer, Word, has_ended, is_of_lane, linked_cells, part}
+use Rattle.mb_world.specs.Imports.{END, HasLoaded, History, IsLinkWord, Producer, Word, has_ended, is_of_lane, linked_cells, part}
 use Rattle.mb_world.specs.Plan.{Histories, Plan, consumers_of}
 use Rattle.mb_world.specs.Report.{ReportView, items_put, note}
 use Rattle.mb_world.specs.Assignment.{Assignment}
@@ -20,7 +20,7 @@ pub record NothingFollowsEnds (plan : Plan) (hs : Histories) (r : ReportView) : 
   pub noted : (c p j : ℕ) → c < consumers_of plan → p < plan.lanes → HasMetEnd (hs.reader_of c) p hs.pool →
       j < length (items_put p r) → IsSome (note c p j r)
 
--- one assignment stands behind the whole report
+-- one assignment agrees with the whole report
 pub record IsHonest (plan : Plan) (hs : Histories) (r : ReportView) : Type 0 where
   pub assignment : Assignment
   -- each consumer's ledger from each producer is exactly the items that it was given, in the order put

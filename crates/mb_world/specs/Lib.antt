@@ -1,4 +1,4 @@
-pub mod Below
+pub mod Imports
 pub mod Report
 pub mod Assignment
 pub mod Agreement

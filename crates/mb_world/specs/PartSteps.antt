@@ -1,7 +1,7 @@
 -- One more access of a consumer, in terms of its two parts alone.
 use Rattle.std.specs.Prelude.{ℕ, ◌≢◌, List, [], ◌∷◌, nat_eq, if◌then◌else◌}
 use Rattle.mb_claim.specs.declared.access.Stage.TheVariants as stage
-use Rattle.mb_world.specs.Below.{Claims, Item, Link, ObjectTurn, PoolAccess, Stage}
+use Rattle.mb_world.specs.Imports.{Claims, Item, Link, ObjectTurn, PoolAccess, Stage}
 use Rattle.mb_world.specs.Fitting.{HasRead, HasStageIn, Parts}
 
 -- the parts of a consumer that has done nothing
@@ -16,7 +16,7 @@ with_load a x = record { reads = a ∷ x.reads; claimed = x.claimed }
 abbrev pub with_step : ℕ → ObjectTurn → Parts → Parts
 with_step k t x = record { reads = x.reads; claimed = λ j. if nat_eq j k then t ∷ x.claimed j else x.claimed j }
 
--- its claim on cell k has ended, and where that is won, it loaded the item: it may look past the cell
+-- its claim on cell k has ended, and if that is won, it loaded the item. So it may look past the cell
 pub record IsDoneWith (cs : Claims) (c k : ℕ) (x : Parts) : Type 0 where
   pub ended : (s : Stage) × HasStageIn cs c k s x × (s ≢ stage.Going)
   pub taken : HasStageIn cs c k stage.Won x → (v : ℕ) × HasRead (Item k) v x.reads

@@ -1,4 +1,4 @@
--- What consumer 0 does on lane 0, with two consumers, two cells and one pair of objects over the unary table: some of
+-- What consumer 0 does on lane 0, with two consumers, two cells and one pair of objects over the unary table. Some of
 -- it is on its path, and some of it on none.
 use Rattle.std.specs.Prelude.{ℕ, Option, List, [], ◌∷◌, ◌++◌, map}
 use Rattle.mb_deciding.specs.declared.access.Act.TheVariants as act
@@ -6,7 +6,7 @@ use Rattle.mb_deciding.specs.declared.access.Reg.TheVariants.{Quorum, Value}
 use Rattle.mb_claim.specs.Examples.{two_consumers, won_alone}
 use Rattle.mb_world.specs.declared.report.Note.{Note}
 use Rattle.mb_claim.specs.AllClaims.{claims_of}
-use Rattle.mb_world.specs.Below.{Claims, Head, Item, Link, ObjectTurn, PoolAccess, load}
+use Rattle.mb_world.specs.Imports.{Claims, Head, Item, Link, ObjectTurn, PoolAccess, load}
 use Rattle.mb_world.specs.Fitting.{Parts}
 use Rattle.mb_world.specs.World.{WorldHistory}
 use Rattle.mb_world.specs.ConsumerPath.{ConsumerPath, claim_step, item_load, link_load}
@@ -36,7 +36,7 @@ found = link_load 0 0 [] 1 ∷ waited
 abbrev pub begun : WorldHistory
 begun = claim_step 0 0 first_step ∷ found
 
--- or the claim is made to its end, where it is won, and the item 5 is taken
+-- or the claim goes to its end and is won, and the item 5 is taken
 abbrev pub won_steps : List ObjectTurn
 won_steps = map (λ a. a.step) won_alone
 
@@ -80,7 +80,7 @@ passed_unclaimed = link_load 0 0 (0 ∷ []) 0 ∷ found
 abbrev pub passed_won : WorldHistory
 passed_won = link_load 0 0 (0 ∷ []) 0 ∷ won
 
--- the head is loaded again behind the cell
+-- the head is loaded again after the cell
 abbrev pub gone_back : WorldHistory
 gone_back = link_load 0 0 [] 1 ∷ taken
 

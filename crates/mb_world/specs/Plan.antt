@@ -2,7 +2,7 @@
 use Rattle.std.specs.Prelude.{ℕ, ◌≡◌, List, [], ◌∷◌, ◌++◌}
 use Rattle.mb_deciding.specs.declared.object.Kind.{Kind}
 use Rattle.mb_deciding.specs.declared.object.Kind.TheVariants.{LastObject}
-use Rattle.mb_world.specs.Below.{ClaimAccess, Claims, History, PoolSize, pool_size}
+use Rattle.mb_world.specs.Imports.{ClaimAccess, Claims, History, PoolSize, pool_size}
 
 -- the claims on its cells, whose quorum table has the consumers as its values, and how many lanes it has
 pub record Plan : Type 0 where
@@ -22,8 +22,8 @@ abbrev pub size_of : Plan → PoolSize
 size_of plan = pool_size plan.lanes plan.claims.cells
 
 -- What was done to the words of the claims, and what to the words of the cells, each the newest first. No order between
--- the two is known. Consumer c stands among the readers of the cells under the number `reader_of c`; these
--- numbers need not differ.
+-- the two is known. Among the readers of the cells, consumer c has the number `reader_of c`. These numbers need not
+-- differ.
 pub record Histories : Type 0 where
   pub claims : List ClaimAccess
   pub pool : History

@@ -1,4 +1,4 @@
--- The replay of events: one entry for each of them, which is an answer with one access or with none.
+-- The replay of events. Each event has one entry: an answer, with one access or with none.
 use Rattle.std.specs.Prelude.{ℕ, ◌≡◌, ◌≢◌, ◌-◌, ◌<◌, ◌≤◌, ◌⊎◌, true, if◌then◌else◌, nat_eq, Option, Some, None, List, [], ◌∷◌}
 use Rattle.mb_cells.specs.declared.answer.Finish.{Finish}
 use Rattle.mb_cells.specs.declared.answer.Finish.TheVariants as finish
@@ -12,7 +12,7 @@ use Rattle.mb_world.specs.declared.event.Answer.{Answer}
 use Rattle.mb_world.specs.declared.event.Answer.TheVariants as answer
 use Rattle.mb_world.specs.declared.event.Event.{Event}
 use Rattle.mb_world.specs.declared.event.Event.TheVariants as event
-use Rattle.mb_world.specs.Below.{Counter, END, FetchAdd, Head, IsClaimPrefix, IsLinkWord, Item, Link, Load, PoolAct, Producer, Stage, Store, Word, claim_part, linked_cells, part}
+use Rattle.mb_world.specs.Imports.{Counter, END, FetchAdd, Head, IsClaimPrefix, IsLinkWord, Item, Link, Load, PoolAct, Producer, Stage, Store, Word, claim_part, linked_cells, part}
 use Rattle.mb_world.specs.Plan.{Plan, consumers_of}
 use Rattle.mb_world.specs.World.{IsBy, ToCells, ToClaims, WorldAccess, WorldHistory, claim_accesses, is_on, pool_accesses}
 use Rattle.mb_world.specs.Worlds.{IsWorldLawful}
@@ -25,13 +25,14 @@ IsPushed (Head p) v = v ≢ END
 IsPushed (Link k) v = v ≢ END
 IsPushed (Item k) v = Unit {0}
 
--- an access to a claim is made with this random word; the others have none
+-- an access to a claim is made with this random word. The other accesses have none
 abbrev pub HasRandom : ℕ → WorldAccess → Type 0
 HasRandom word (ToCells a) = Unit {0}
 HasRandom word (ToClaims a) = a.step.turn.word ≡ word
 
--- after a history, the access is one that the event asks for: for an offer a fetch-add with its item, for a push a
--- store of an item or a link, for a finish a store of the end mark, for a step an access of that consumer on that lane
+-- after a history, the access is one that the event asks for. An offer asks for a fetch-add with its item, a push for a
+-- store of an item or a link, and a finish for a store of the end mark. A step asks for an access of that consumer on
+-- that lane
 abbrev pub IsAccessOf : Event → WorldAccess → WorldHistory → Type 0
 IsAccessOf (event.Offer p x) a h = (n : ℕ) × (a ≡ ToCells (fetch p (record { cell = n; value = x })))
 IsAccessOf (event.Push p) a h = (w : Word) × (v : ℕ) × IsPushed w v × (a ≡ ToCells (store p w v))
@@ -44,7 +45,7 @@ IsAccessOf (event.Step c p word) a h =
 abbrev pub answer_to_link : ℕ → Answer
 answer_to_link v = if nat_eq v END then answer.Finished finish.Ended else answer.Pushed (push.Link (v - 1))
 
--- what an access to a word of the cells is answered, where there are so many cells
+-- the answer that names an access to a word of the cells, in a pool with this number of cells
 abbrev pub answer_to : ℕ → Word → PoolAct → Option Answer
 answer_to cells Counter (FetchAdd x n) = Some (answer.Offered (offer_by_found cells n))
 answer_to cells (Head p) (Store v) = Some (answer_to_link v)
@@ -55,10 +56,10 @@ answer_to cells (Link k) (Load v) = Some (answer.Looked (look_of v))
 answer_to cells (Item k) (Load v) = Some (answer.Took k v)
 answer_to cells _ _ = None
 
--- after a history, the answer names the access; that to a claim with the stage to which it leads
-abbrev pub Names : Plan → Answer → WorldAccess → WorldHistory → Type 0
-Names plan r (ToCells a) h = answer_to plan.claims.cells a.word a.act ≡ Some r
-Names plan r (ToClaims a) h =
+-- after a history, the answer names the access. For an access to a claim it also has the stage to which that leads
+abbrev pub AnswerNames : Plan → Answer → WorldAccess → WorldHistory → Type 0
+AnswerNames plan r (ToCells a) h = answer_to plan.claims.cells a.word a.act ≡ Some r
+AnswerNames plan r (ToClaims a) h =
     (s : Stage) × IsClaimPrefix plan.claims a.consumer (a.step ∷ claim_part a.consumer a.cell (claim_accesses h)) s
     × (r ≡ answer.Claimed a.cell a.step.object a.step.turn.act s)
 
@@ -98,19 +99,19 @@ IsRefused plan (event.Step c p word) r h =
 -- after a history, the event has this answer with this access, which keeps the history lawful, or with none
 abbrev pub IsEntry : Plan → Event → Answer → Option WorldAccess → WorldHistory → Type 0
 IsEntry plan e r None h = IsRefused plan e r h
-IsEntry plan e r (Some a) h = IsAccessOf e a h × Names plan r a h × IsWorldLawful plan (a ∷ h)
+IsEntry plan e r (Some a) h = IsAccessOf e a h × AnswerNames plan r a h × IsWorldLawful plan (a ∷ h)
 
 -- after a history, the event is refused, or has an access
 abbrev pub IsRefusedOrMade : Plan → Event → WorldHistory → Type 0
 IsRefusedOrMade plan e h =
     ((r : Answer) × IsRefused plan e r h) ⊎ ((r : Answer) × (a : WorldAccess) × IsEntry plan e r (Some a) h)
 
--- the history with the access, where there is one
+-- the history with the access, if there is one
 abbrev pub with_access : Option WorldAccess → WorldHistory → WorldHistory
 with_access None h = h
 with_access (Some a) h = a ∷ h
 
--- after the history `was`, these events (the first first) have these answers, and lead to the history `now`
+-- after the history `was`, these events, in their order, have these answers and lead to the history `now`
 abbrev pub IsReplay : Plan → List Event → List Answer → WorldHistory → WorldHistory → Type 0
 IsReplay plan [] [] was now = now ≡ was
 IsReplay plan [] (r ∷ rs) was now = ⊥

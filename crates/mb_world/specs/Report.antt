@@ -1,9 +1,10 @@
--- What a report shows, as plain lists, and how it is read. Outside of it there is nothing: the lists are empty there.
+-- What a report shows, as plain lists, and how it is read. For a lane or a consumer that it does not have, the lists
+-- are empty.
 use Rattle.std.specs.Prelude.{ℕ, ◌+◌, ◌*◌, Bool, false, List, [], Option, None, length, nat_lt, slice_get, if◌then◌else◌}
 use Rattle.std.specs.Option.{option_map_or}
 use Rattle.mb_world.specs.declared.report.Note.{Note}
 
--- of one lane: the items put, the first linked first; whether it has ended; and the items that nobody took
+-- of one lane: the items put (the first linked first), whether it has ended, and the items that nobody took
 pub record LaneView : Type 0 where
   pub put : List ℕ
   pub ended : Bool
@@ -33,11 +34,11 @@ items_left p r = option_map_or (λ l. l.left) (slice_get r.lanes p) []
 abbrev pub diary : ℕ → ℕ → ReportView → Option DiaryView
 diary c p r = if nat_lt p (length r.lanes) then slice_get r.diaries (c * length r.lanes + p) else None
 
--- its notes: that at position j is on the item at position j of the lane
+-- its notes: the note at position j is on the item at position j of the lane
 abbrev pub notes : ℕ → ℕ → ReportView → List Note
 notes c p r = option_map_or (λ d. d.notes) (diary c p r) []
 
--- whether a claim behind its last note has an access
+-- whether a claim after its last note has an access
 abbrev pub is_begun : ℕ → ℕ → ReportView → Bool
 is_begun c p r = option_map_or (λ d. d.begun) (diary c p r) false
 

@@ -5,7 +5,7 @@ use Rattle.mb_world.specs.declared.report.Note.TheVariants.{Took, Lost, Undecide
 use Rattle.mb_world.specs.Report.{DiaryView, ReportView}
 use Rattle.mb_world.specs.Assignment.{Assignment}
 
--- consumer c has these notes on lane 0, and perhaps a claim behind them
+-- consumer c has these notes on lane 0, and perhaps a claim after them
 abbrev pub diary_of : ℕ → List Note → Bool → DiaryView
 diary_of c ns begun = record { consumer = c; lane = 0; notes = ns; begun = begun }
 
@@ -41,7 +41,7 @@ both_undecided = report_of (5 ∷ []) (5 ∷ [])
 abbrev pub nobody_came : ReportView
 nobody_came = report_of (10 ∷ 11 ∷ []) (10 ∷ 11 ∷ []) (diary_of 0 [] false ∷ [])
 
--- lane p of consumer c in a report of two lanes
+-- the diary of consumer c on lane p, in a report of two lanes
 abbrev pub diary_on : ℕ → ℕ → List Note → DiaryView
 diary_on c p ns = record { consumer = c; lane = p; notes = ns; begun = false }
 
@@ -68,7 +68,7 @@ abbrev pub lost_to_a_third : ReportView
 lost_to_a_third = report_of (5 ∷ []) []
     (diary_of 0 (Took 5 ∷ []) false ∷ diary_of 1 (Lost 2 ∷ []) false ∷ diary_of 2 [] true ∷ [])
 
--- the items left stand in another order
+-- the items left are in another order
 abbrev pub left_out_of_order : ReportView
 left_out_of_order = report_of (10 ∷ 11 ∷ []) (11 ∷ 10 ∷ []) (diary_of 0 [] false ∷ [])
 
@@ -100,7 +100,7 @@ winner_stayed_away = report_of (5 ∷ []) (5 ∷ []) (diary_of 0 (Lost 1 ∷ [])
 abbrev pub lost_to_each_other : ReportView
 lost_to_each_other = report_of (5 ∷ []) (5 ∷ []) (diary_of 0 (Lost 1 ∷ []) false ∷ diary_of 1 (Lost 0 ∷ []) false ∷ [])
 
--- a claim is begun behind the last item
+-- a claim is begun after the last item
 abbrev pub begun_beyond : ReportView
 begun_beyond = report_of (5 ∷ []) [] (diary_of 0 (Took 5 ∷ []) true ∷ [])
 

@@ -1,6 +1,6 @@
 -- The report of what was done to the words of a mailbox, place by place.
 use Rattle.std.specs.Prelude.{ℕ, zero, suc, ◌≡◌, ◌≢◌, ◌↔◌, ◌+◌, ◌*◌, ◌<◌, Bool, true, false, not, ◌||◌, Option, Some, None, List, [], map, reverse, length, slice_get}
-use Rattle.mb_world.specs.Below.{Gave, Has, HasMet, History, Reader, has_ended, linked_cells, part, put_list}
+use Rattle.mb_world.specs.Imports.{Gave, Has, HasMet, History, Reader, has_ended, linked_cells, part, put_list}
 use Rattle.mb_world.specs.declared.report.Note.{Note}
 use Rattle.mb_world.specs.declared.report.Note.TheVariants.{Took, Lost, Undecided}
 use Rattle.mb_world.specs.Plan.{Histories, Plan, consumers_of}
@@ -29,8 +29,8 @@ any_below (suc n) test = test n || any_below n test
 abbrev pub is_taken : ℕ → ℕ → ℕ → ReportView → Bool
 is_taken n p j r = any_below n (λ c. is_took (note c p j r))
 
--- lane p as it is reported: the items put, whether the end mark was stored, and of the items put, in their order, those
--- of which no diary says that they were taken
+-- lane p as it is reported: the items put, whether the end mark was stored, and those of the items put that no diary
+-- says were taken, in their order
 abbrev pub lane_view : Plan → ℕ → Histories → ReportView → LaneView
 lane_view plan p hs r = record {
   put = values_put p hs.pool;
@@ -39,7 +39,7 @@ lane_view plan p hs r = record {
 }
 
 -- ---- a diary
--- the cells that reader q met on lane p (the last first): links lead from the head to each of them, and it was given no
+-- the cells that reader q met on lane p (the last first). Links lead from the head to each of them, and it was given no
 -- other cell of the lane
 pub record HasMetAll (q p : ℕ) (ks : List ℕ) (pool : History) : Type 0 where
   pub met : HasMet q p ks pool
@@ -64,7 +64,7 @@ pub record IsDiaryOf (plan : Plan) (c p : ℕ) (hs : Histories) (d : DiaryView) 
       × ((n : Note) → EndsAs plan.claims c k n (parts_of c hs) → ⊥))
 
 -- ---- the report
--- each lane and each diary stands in its place, and there are no others
+-- each lane and each diary is in its place, and there are no others
 pub record IsReportOf (plan : Plan) (hs : Histories) (r : ReportView) : Type 0 where
   pub lanes_count : length r.lanes ≡ plan.lanes
   pub diaries_count : length r.diaries ≡ consumers_of plan * plan.lanes

@@ -15,7 +15,8 @@ use Rattle.mb_world.specs.declared.setup.SetupFault.TheVariants.{BadCells, BadCo
 use Rattle.mb_world.specs.declared.setup.TheConstants.{MAX_PRODUCERS}
 use Rattle.mb_world.specs.Plan.{Plan}
 
--- what so many producers, consumers, cells and pairs over the quorum table of this name make, if each cell has this shape
+-- the plan of these numbers of producers, consumers, cells and pairs over the quorum table of this name, if each cell
+-- has this shape
 abbrev pub shaped_plan : Shape → ℕ → ℕ → ℕ → ℕ → TableName → Plan
 shaped_plan shape producers consumers cells pairs name = record {
   claims = claims_of (table_of name consumers) (row_of shape (spread consumers) pairs) cells;
@@ -42,7 +43,7 @@ pairs_in setup = pair_count setup.layout
 abbrev pub shape_in : Setup → Shape
 shape_in setup = shape_of setup.layout
 
--- the first reason to refuse a setup that is to have so many cells at most, if there is one
+-- the first reason to refuse a setup that may have at most `most` cells, if there is one
 abbrev pub refusal_above : ℕ → ℕ → ℕ → ℕ → ℕ → Option SetupFault
 refusal_above most producers consumers cells pairs =
     if nat_lt producers 1 || nat_lt MAX_PRODUCERS producers then Some BadProducers

@@ -1,10 +1,10 @@
 -- What the laws of reports ask of a mailbox and of what was done to its words.
 use Rattle.std.specs.Prelude.{ℕ, ◌<◌}
-use Rattle.mb_world.specs.Below.{IsClaimLawful, IsPoolLawful, IsQuorumTable}
+use Rattle.mb_world.specs.Imports.{IsClaimLawful, IsPoolLawful, IsQuorumTable}
 use Rattle.mb_world.specs.Plan.{Histories, Plan, consumers_of, size_of}
 use Rattle.mb_world.specs.Fitting.{Fits, parts_of}
 
--- its quorum table keeps the rule, each of the two histories is lawful, and each consumer's two parts fit
+-- its quorum table and each of the two histories are lawful, and each consumer's two parts fit
 pub record AreSound (plan : Plan) (hs : Histories) : Type 0 where
   pub table : IsQuorumTable plan.claims.table
   pub claims_lawful : IsClaimLawful plan.claims hs.claims

@@ -1,4 +1,4 @@
--- What the state of a world tells of its report: read off its words, its seats and its notes.
+-- What the state of a world says of its report, read off its words, its seats and its notes.
 use Rattle.std.specs.Prelude.{ℕ, ◌≡◌, ◌+◌, ◌*◌, ◌<◌, Bool, false, not, Option, Some, None, List, length, map, filter, slice_get}
 use Rattle.std.specs.Option.{option_map_or}
 use Rattle.std.specs.List.{filter_map}
@@ -7,24 +7,24 @@ use Rattle.mb_cells.specs.State.{IsAfter, PoolState, item_in}
 use Rattle.mb_world.specs.declared.report.Note.{Note}
 use Rattle.mb_world.specs.declared.seat.Seat.{Seat}
 use Rattle.mb_world.specs.declared.seat.Seat.TheVariants as seat
-use Rattle.mb_world.specs.Below.{Entry, History, has_ended, put_list}
+use Rattle.mb_world.specs.Imports.{Entry, History, has_ended, put_list}
 use Rattle.mb_world.specs.Plan.{consumers_of}
 use Rattle.mb_world.specs.Report.{DiaryView, LaneView}
 use Rattle.mb_world.specs.Reporting.{any_below, is_took, values_put}
 use Rattle.mb_world.specs.Setups.{plan_in}
 use Rattle.mb_world.specs.WorldState.{WorldState}
 
--- the cells of lane p, the first linked first, with their items, and whether the end mark stands behind them
+-- the cells of lane p, the first linked first, with their items, and whether the end mark comes after them
 pub record IsWalk (s : PoolState) (p : ℕ) (ks : List ℕ) (over : Bool) (pool : History) : Type 0 where
   pub cells : map (λ (e : Entry). e.cell) (put_list p pool) ≡ ks
   pub values : values_put p pool ≡ map (λ k. item_in k s) ks
   pub ended : has_ended p pool ≡ over
 
--- so they are by each history that leaves the pool
+-- so it is by each history that leaves the pool
 abbrev pub IsWalked : PoolState → ℕ → List ℕ → Bool → Type 0
 IsWalked s p ks ended = (pool : History) → IsAfter pool s → IsWalk s p ks ended pool
 
--- the note that stands there, if one does
+-- the note at a place of the list, if there is one
 abbrev pub note_there : Option (Option Note) → Option Note
 note_there None = None
 note_there (Some o) = o
@@ -47,7 +47,7 @@ has_begun_on (seat.AtCell k claim) = is_begun claim
 abbrev pub begun_on : WorldState → ℕ → ℕ → Bool
 begun_on s c p = option_map_or has_begun_on (slice_get s.seats (c * (plan_in s.setup).lanes + p)) false
 
--- the state tells this of lane p
+-- the state says this of lane p
 pub record IsLaneTold (s : WorldState) (p : ℕ) (l : LaneView) : Type 0 where
   pub cells : List ℕ
   pub walked : IsWalked s.pool p cells l.ended

@@ -1,7 +1,7 @@
 -- When a step of a consumer finds nothing.
 use Rattle.std.specs.Prelude.{ℕ, ◌≡◌, ◌<◌, false, None, List}
 use Rattle.mb_world.specs.declared.report.Note.{Note}
-use Rattle.mb_world.specs.Below.{has_ended, linked_cells}
+use Rattle.mb_world.specs.Imports.{has_ended, linked_cells}
 use Rattle.mb_world.specs.Plan.{Plan, consumers_of}
 use Rattle.mb_world.specs.World.{WorldHistory, lane_part, pool_accesses}
 use Rattle.mb_world.specs.ConsumerPath.{ConsumerPath}

@@ -1,7 +1,7 @@
 -- Histories of a world: the accesses to the words of the cells and to those of the claims in one order, the newest
 -- first.
 use Rattle.std.specs.Prelude.{ℕ, ◌≡◌, Bool, ◌&&◌, List, [], ◌∷◌, nat_eq, filter}
-use Rattle.mb_world.specs.Below.{ClaimAccess, History, PoolAccess, Reader, has_cell, is_of_lane, is_same_process, linked_cells}
+use Rattle.mb_world.specs.Imports.{ClaimAccess, History, PoolAccess, Reader, has_cell, is_of_lane, is_same_process, linked_cells}
 use Rattle.mb_world.specs.Plan.{Histories}
 
 -- one atomic access, to a word of the cells or to a word of the claims. Consumer c reads the cells as reader c
@@ -34,8 +34,8 @@ abbrev pub IsBy : ℕ → WorldAccess → Type 0
 IsBy c (ToCells a) = a.process ≡ Reader c
 IsBy c (ToClaims a) = a.consumer ≡ c
 
--- whether it is one of consumer c on lane p, where these cells are linked: to the lane's head, or to a word or the
--- claim of one of the cells
+-- whether it is an access of consumer c on lane p, if these cells are linked there: to the lane's head, or to a word or
+-- the claim of one of the cells
 abbrev pub is_on : ℕ → ℕ → List ℕ → WorldAccess → Bool
 is_on c p ks (ToCells a) = is_same_process (Reader c) a.process && is_of_lane p ks a.word
 is_on c p ks (ToClaims a) = nat_eq a.consumer c && has_cell ks a.cell

@@ -1,5 +1,5 @@
--- A world of two lanes, two consumers and two cells, with one pair of objects over the unary table: what was done in it,
--- what may not follow, what is reported of it and what is not, and some of its events.
+-- A world of two lanes, two consumers and two cells, with one pair of objects over the unary table. Below are what was
+-- done in it, what may not follow, its report and reports that are not its own, and some of its events.
 use Rattle.std.specs.Prelude.{ℕ, true, false, Option, List, [], ◌∷◌, ◌++◌, map}
 use Rattle.mb_cells.specs.LanePath.{fetch, store}
 use Rattle.mb_cells.specs.declared.answer.Finish.TheVariants as finish
@@ -16,7 +16,7 @@ use Rattle.mb_world.specs.declared.event.Event.{Event}
 use Rattle.mb_world.specs.declared.event.Event.TheVariants as event
 use Rattle.mb_world.specs.declared.report.Note.{Note}
 use Rattle.mb_world.specs.declared.report.Note.TheVariants.{Took, Lost}
-use Rattle.mb_world.specs.Below.{END, Entry, Head, Item, Link, ObjectTurn, Word, claim_part}
+use Rattle.mb_world.specs.Imports.{END, Entry, Head, Item, Link, ObjectTurn, Word, claim_part}
 use Rattle.mb_world.specs.Plan.{Histories, Plan}
 use Rattle.mb_world.specs.Report.{DiaryView, ReportView}
 use Rattle.mb_world.specs.Reporting.{IsDiaryOf, IsReportOf}
@@ -108,7 +108,7 @@ taken_again = item_load 0 0 5
 abbrev pub taken_lost : WorldAccess
 taken_lost = item_load 1 0 5
 
--- consumer 0 makes a step of a claim on the item 6, of which it has not loaded the link
+-- consumer 0 makes a step of a claim on the item 6, to which no link that it loaded leads
 abbrev pub unmet_claimed : WorldAccess
 unmet_claimed = claim_step 0 1 first_step
 
@@ -116,15 +116,15 @@ unmet_claimed = claim_step 0 1 first_step
 abbrev pub claim_passed : WorldAccess
 claim_passed = link_load 1 1 (1 ∷ []) 0
 
--- consumer 0 finds nothing past the item 5, where the end mark stands
+-- consumer 0 finds nothing past the item 5, although the end mark is there
 abbrev pub end_missed : WorldAccess
 end_missed = link_load 0 0 (0 ∷ []) 0
 
--- producer 0 makes a fetch-add behind its end mark
+-- producer 0 makes a fetch-add after its end mark
 abbrev pub offered_late : WorldAccess
 offered_late = ToCells (fetch 0 (record { cell = 2; value = 7 }))
 
--- a consumer that is none of the world's, and a lane that it has not
+-- a consumer and a lane that the world does not have
 abbrev pub stranger : WorldAccess
 stranger = link_load 2 1 [] 2
 
@@ -132,11 +132,11 @@ abbrev pub no_lane : WorldAccess
 no_lane = link_load 0 2 [] 0
 
 -- ---- what is reported
--- so many lanes and diaries
+-- the diary of consumer c on lane p with these notes, and no claim begun
 abbrev pub diary_with : ℕ → ℕ → List Note → DiaryView
 diary_with c p ns = record { consumer = c; lane = p; notes = ns; begun = false }
 
--- a report with these items left of lane 1, and with this diary of consumer 1 on lane 0
+-- a report with these items left on lane 1, and with this diary of consumer 1 on lane 0
 abbrev pub report_with : List ℕ → DiaryView → ReportView
 report_with left d = record {
   lanes = record { put = 5 ∷ []; ended = true; left = [] } ∷ record { put = 6 ∷ []; ended = false; left = left } ∷ [];
@@ -195,6 +195,6 @@ first_answers =
 abbrev pub Answers : Event → Answer → WorldHistory → Type 0
 Answers e r h = (a : Option WorldAccess) × IsEntry two_by_two e r a h
 
--- its first step of the claim there is answered so
+-- the answer to the first step of consumer 1 on its claim on cell 1
 abbrev pub first_claimed : Answer
 first_claimed = answer.Claimed 1 0 (act.Load Value 0) stage.Going

@@ -8,7 +8,7 @@ use Rattle.mb_world.specs.declared.report.Note.{Note}
 use Rattle.mb_world.specs.declared.seat.Seat.{Seat}
 use Rattle.mb_world.specs.declared.seat.Seat.TheVariants as seat
 use Rattle.mb_world.specs.declared.setup.Setup.{Setup}
-use Rattle.mb_world.specs.Below.{ObjectTurn}
+use Rattle.mb_world.specs.Imports.{ObjectTurn}
 use Rattle.mb_world.specs.Plan.{consumers_of}
 use Rattle.mb_world.specs.Setups.{layout_of, plan_in}
 use Rattle.mb_world.specs.Fitting.{EndsAs, parts_of}
@@ -16,8 +16,8 @@ use Rattle.mb_world.specs.World.{WorldHistory, claim_accesses, histories_of, lan
 use Rattle.mb_world.specs.ConsumerPath.{ConsumerPath}
 use Rattle.mb_world.specs.Worlds.{IsWorldLawful}
 
--- the pool of cells, the words of the claims, where each consumer stands on each lane, and its note on each cell;
--- the seat of consumer c on lane p stands at c times the lanes plus p, its note on cell k at c times the cells plus k
+-- the pool of cells, the words of the claims, where each consumer stands on each lane, and its note on each cell. The
+-- seat of consumer c on lane p is at c times the lanes plus p. Its note on cell k is at c times the cells plus k
 pub record WorldState : Type 0 where
   pub setup : Setup
   pub pool : PoolState
@@ -25,7 +25,7 @@ pub record WorldState : Type 0 where
   pub seats : List Seat
   pub notes : List (Option Note)
 
--- the seat is that of consumer c where its path has met these cells and holds a claim with these steps, or none
+-- the seat is that of consumer c, if its path has met these cells and holds a claim with these steps, or none
 abbrev pub IsSeatAt : Layout → ℕ → List ℕ → Option (List ObjectTurn) → Seat → Type 0
 IsSeatAt layout c [] None seat.AtHead = Unit {0}
 IsSeatAt layout c (k ∷ ks) None (seat.PastCell cell) = cell ≡ k
@@ -46,7 +46,7 @@ abbrev pub IsNoteAfter : Setup → ℕ → ℕ → WorldHistory → Option Note 
 IsNoteAfter setup c k h o =
     (n : Note) → (o ≡ Some n) ↔ EndsAs (plan_in setup).claims c k n (parts_of c (histories_of h))
 
--- the lawful history leaves the world in this state
+-- the history is lawful and leaves the world in this state
 pub record IsWorldAfter (h : WorldHistory) (s : WorldState) : Type 0 where
   pub lawful : IsWorldLawful (plan_in s.setup) h
   pub lanes : lane_count s.pool ≡ (plan_in s.setup).lanes
@@ -61,6 +61,6 @@ pub record IsWorldAfter (h : WorldHistory) (s : WorldState) : Type 0 where
       (o : Option Note) × (slice_get s.notes (c * (plan_in s.setup).claims.cells + k) ≡ Some o)
       × IsNoteAfter s.setup c k h o
 
--- what every world keeps: some lawful history leaves it
-abbrev pub IsSound : WorldState → Type 0
-IsSound s = (h : WorldHistory) × IsWorldAfter h s
+-- the invariant of a world: some lawful history leaves it
+abbrev pub WorldIsSound : WorldState → Type 0
+WorldIsSound s = (h : WorldHistory) × IsWorldAfter h s

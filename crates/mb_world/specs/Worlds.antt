@@ -4,7 +4,7 @@ use Rattle.mb_claim.specs.History as claim
 use Rattle.mb_cells.specs.Memory as cell
 use Rattle.mb_deciding.specs.History as object
 use Rattle.mb_world.specs.declared.report.Note.{Note}
-use Rattle.mb_world.specs.Below.{ActFits, AllFit, END, Has, IsLanePrefix, ObjectTurn, PoolAccess, Producer, linked_cells, part}
+use Rattle.mb_world.specs.Imports.{ActFits, AllFit, END, Has, IsLanePrefix, ObjectTurn, PoolAccess, Producer, linked_cells, part}
 use Rattle.mb_world.specs.Plan.{Plan, consumers_of}
 use Rattle.mb_world.specs.World.{IsBy, ToCells, ToClaims, WorldAccess, WorldHistory, claim_accesses, is_on, lane_part, pool_accesses}
 use Rattle.mb_world.specs.ConsumerPath.{ConsumerPath}
@@ -27,10 +27,10 @@ pub record IsOnLane (plan : Plan) (c : ℕ) (a : WorldAccess) (h : WorldHistory)
 pub record IsWorldLawful (plan : Plan) (h : WorldHistory) : Type 0 where
   -- the end mark is the link of no cell
   pub sized : plan.claims.cells < END
-  -- values and random words are words of 64 bits, and each producer has a lane
+  -- values and random words are below 2^64, and each producer has a lane
   pub cells_fit : AllFit plan.lanes (pool_accesses h)
   pub claims_fit : claim.AreInWords (claim_accesses h)
-  -- each access reads what was stored last in its word; no word is both of the cells and of the claims
+  -- each access reads what was stored last in its word. No word is both of the cells and of the claims
   pub cells_memory : cell.IsMemoryTrue (pool_accesses h)
   pub claims_memory : claim.IsMemoryTrue (claim_accesses h)
   -- each producer's part is a prefix of a lane path
@@ -41,7 +41,7 @@ pub record IsWorldLawful (plan : Plan) (h : WorldHistory) : Type 0 where
   pub no_others : (c : ℕ) (a : WorldAccess) → Has h a → IsBy c a → IsOnLane plan c a h
 
 -- ---- one more access
--- its values are words of 64 bits, and it reads what was stored last in its word
+-- its values are below 2^64, and it reads what was stored last in its word
 abbrev pub IsTrueTo : WorldAccess → WorldHistory → Type 0
 IsTrueTo (ToCells a) h = ActFits a.act × cell.ReadsLast a.word a.act (pool_accesses h)
 IsTrueTo (ToClaims a) h =

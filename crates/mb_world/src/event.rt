@@ -1,4 +1,4 @@
-//! What may happen in a world, and what it answers.
+//! Events of a world, and their answers.
 use mb_cells::{Finish, Look, Offer, Push};
 use mb_claim::Stage;
 use mb_deciding::Act;
@@ -16,22 +16,22 @@ pub enum Event {
     Step { consumer: u64, lane: u64, word: u64 },
 }
 
-/// What an event answers. It names the access that was made, or tells why none was.
+/// The answer to an event: the access that was made, or why none was.
 #[derive(Clone, Copy, PartialEq, Eq, Debug)]
 pub enum Answer {
     /// There is no such lane. No access was made.
     NoLane,
     /// There is no such consumer. No access was made.
     NoConsumer,
-    /// An offer: the cell that the counter gave, or `Full` where it gave none; or a refusal.
+    /// An offer: the cell that the counter gave, `Full` if it gave none, or a refusal.
     Offered(Offer),
-    /// A push: the item or the link that was stored; or `Idle`.
+    /// A push: the item or the link that was stored, or `Idle` if there was nothing to store.
     Pushed(Push),
-    /// A finish: `Ended`, the end mark was stored; or a refusal.
+    /// A finish: `Ended` if the end mark was stored, or a refusal.
     Finished(Finish),
     /// A step of a consumer that holds no claim: what the link at its place says.
     Looked(Look),
-    /// A step of a claim on this cell: what it did to a word of this object, and how far the claim has come then.
+    /// A step of a claim on this cell: its act on a word of this object, and the claim's stage after it.
     Claimed {
         cell: u32,
         object: u32,

@@ -1,5 +1,5 @@
-//! The definitions by example: what they let in, and what only looks right. The functions compute nothing: their
-//! contracts are the examples, and their proofs stand in `proofs/examples/`, one folder for each.
+//! The definitions by example: what they admit, and what only looks right. The functions compute nothing: their
+//! contracts are the examples. Their proofs are in `proofs/examples/`, one folder for each.
 ghost use Rattle.std.specs.Prelude.{◌≡◌, [], ◌∷◌, Some, None};
 ghost use Rattle.mb_world.specs.declared.report.Note.TheVariants.{Took, Lost};
 ghost use Rattle.mb_world.specs.Report.{notes};
@@ -12,7 +12,7 @@ ghost use Rattle.mb_world.specs.ReportExamples.{two_takers, other_value, lost_to
 ghost use Rattle.mb_world.specs.ReportExamples.{lost_to_each_other, begun_beyond, noted_beyond};
 ghost use Rattle.mb_world.specs.ConsumerPath.{ConsumerPath};
 ghost use Rattle.mb_world.specs.Fitting.{Fits};
-ghost use Rattle.mb_world.specs.Below.{IsClaimPrefix, Item};
+ghost use Rattle.mb_world.specs.Imports.{IsClaimPrefix, Item};
 ghost use Rattle.mb_claim.specs.declared.access.Stage.TheVariants as stage;
 ghost use Rattle.mb_world.specs.PathExamples.{claimed_unseen, read_unclaimed, passed_without_claim, read_head_again};
 ghost use Rattle.mb_world.specs.PathExamples.{IsOnNoPath, first_step, won_steps, waited, found, begun, won, taken};
@@ -47,10 +47,10 @@ ghost use Rattle.mb_world.specs.declared.seat.Seat.TheVariants as seat;
 use crate::laws::{
     agreeing_reports_are_settled, places_tell_diaries, replays_do_not_differ, worlds_are_sound,
 };
-use crate::steps::one_step;
+use crate::steps::history_extends;
 use mb_cells::examples::pools_hold_what_was_done;
 use mb_cells::laws::end_marks_are_last;
-use mb_cells::steps::{one_step as one_pool_step, places_lead_on};
+use mb_cells::steps::{history_extends as one_pool_step, places_lead_on};
 use mb_claim::examples::examples_are_lawful;
 use mb_claim::laws::prefixes_have_one_stage;
 use mb_claim::steps::claims_have_one_next_op;
@@ -64,7 +64,7 @@ pub fn reports_agree()
     ensures untouched { AgreesWith to_nobody nobody_came }
 {}
 
-/// The diary of consumer `c` on lane `p` of two lanes stands at `c * 2 + p`.
+/// Of two lanes, the diary of consumer `c` on lane `p` is at `c * 2 + p`.
 pub fn diaries_stand_by_consumers()
     ensures first { notes 0 1 taken_on_both ≡ Took 6 ∷ [] }
     ensures second { notes 1 0 taken_on_both ≡ Lost 0 ∷ [] }
@@ -81,7 +81,7 @@ pub fn reports_settle()
     agreeing_reports_are_settled();
 }
 
-/// An assignment that a report does not bear out.
+/// Assignments with which a report does not agree.
 pub fn assignments_are_told()
     ensures other { AgreesWith (first_to 1) taken_and_lost → ⊥ }
     ensures nobody { AgreesWith to_nobody taken_and_lost → ⊥ }
@@ -109,7 +109,7 @@ pub fn reports_stay_unsettled()
     ensures { IsSettled lost_to_each_other → ⊥ }
 {}
 
-/// What last objects promise of reports: which small reports keep it.
+/// What last objects promise of reports: small reports that keep it, and one that does not.
 pub fn reports_have_begun_claims()
     ensures taken { IsLeftBesideBegun taken_and_lost }
     ensures not_loaded { IsLeftBesideBegun won_not_loaded }
@@ -165,11 +165,11 @@ pub fn parts_do_not_fit()
     // A claim on a cell that no load gave.
     ensures unmet { Fits two_cells 0 claimed_unseen → ⊥ }
 
-    // An item loaded where the claim is not won, and the link of its cell where the claim has not ended.
+    // An item loaded although the claim is not won, and the link of its cell although the claim has not ended.
     ensures unclaimed { Fits two_cells 0 read_unclaimed → ⊥ }
     ensures passed { Fits two_cells 0 passed_without_claim → ⊥ }
 
-    // The head loaded again, where it led to a cell.
+    // The head loaded again after it led to a cell.
     ensures back { Fits two_cells 0 read_head_again → ⊥ }
 {
     named_tables_are_lawful();
@@ -178,7 +178,7 @@ pub fn parts_do_not_fit()
     claims_have_one_next_op();
 }
 
-/// What is done in a small world, and where its consumers stand then.
+/// What was done in a small world, and where its consumers stand after it.
 pub fn worlds_go_on()
     ensures asked { IsWorldLawful two_by_two one_taken }
     ensures offered { IsWorldLawful two_by_two offered }
@@ -197,7 +197,7 @@ pub fn worlds_go_on()
         (lane_part 0 0 all_done) (0 ∷ []) (Took 5 ∷ []) None }
     ensures away { ConsumerPath two_cells 0 1 (lane_part 0 1 all_done) [] [] None }
 
-    // Consumer 1 has lost it, and met the end behind it. On lane 1 its claim goes on.
+    // Consumer 1 has lost it, and met the end after it. On lane 1 its claim goes on.
     ensures lost { ConsumerPath two_cells 1 0
         (lane_part 1 0 all_done) (0 ∷ []) (Lost 0 ∷ []) None }
     ensures begun { ConsumerPath two_cells 1 1
@@ -207,15 +207,15 @@ pub fn worlds_go_on()
     named_tables_are_lawful();
     examples_are_lawful();
     claims_have_one_next_op();
-    one_step();
+    history_extends();
     one_pool_step();
     places_lead_on();
     worlds_are_sound();
 }
 
-/// What may not follow in that world.
+/// Accesses that may not follow in that world.
 pub fn worlds_keep_out()
-    // An item is loaded while the claim there goes on, where it is lost, and a second time.
+    // An item is loaded while the claim there goes on, after it is lost, and a second time.
     ensures unwon { MayNotFollow taken_unwon }
     ensures lost { MayNotFollow taken_lost }
     ensures again { MayNotFollow taken_again }
@@ -226,13 +226,13 @@ pub fn worlds_keep_out()
     // The link past a cell is loaded while the claim there goes on.
     ensures passed { MayNotFollow claim_passed }
 
-    // Nothing is found where the end mark stands.
+    // Nothing is found although the end mark is there.
     ensures missed { MayNotFollow end_missed }
 
-    // A producer goes on behind its end mark.
+    // A producer goes on after its end mark.
     ensures late { MayNotFollow offered_late }
 
-    // A consumer and a lane that there are not.
+    // A consumer and a lane that do not exist.
     ensures stranger { MayNotFollow stranger }
     ensures no_lane { MayNotFollow no_lane }
 {
@@ -258,7 +258,7 @@ pub fn worlds_are_reported()
     worlds_go_on();
 }
 
-/// What is no report of it.
+/// Reports and diaries that are not of that world.
 pub fn worlds_are_not_misreported()
     // An item that nobody took is left out, a note is skipped, and all is left out.
     ensures left { IsNoReport item_left_out }
@@ -268,11 +268,11 @@ pub fn worlds_are_not_misreported()
     // A diary has no note on an item that its consumer has lost.
     ensures silent { IsNoDiary 1 0 loss_left_out }
 
-    // It says that an item was taken where its consumer has not won.
+    // It says that an item was taken that its consumer has not won.
     ensures lost { IsNoDiary 1 0 loss_taken }
     ensures unwon { IsNoDiary 1 1 unwon_taken }
 
-    // It does not say that a claim is begun, and it is another consumer's.
+    // It does not say that a claim is begun. In place of a consumer's diary there is another consumer's.
     ensures open { IsNoDiary 1 1 claim_left_out }
     ensures other { IsNoDiary 1 0 (diary_with 0 0 (Lost 0 ∷ [])) }
 {
@@ -282,7 +282,7 @@ pub fn worlds_are_not_misreported()
     worlds_go_on();
 }
 
-/// What does follow an end mark: a note that is not there, and an access of the lane's producer.
+/// What breaks the rule of end marks: a note that is missing, and an access of the lane's producer after its mark.
 pub fn end_marks_are_not_passed()
     ensures unnoted { NothingFollowsEnds two_by_two all_histories
         (report_with (6 ∷ []) loss_left_out) → ⊥ }
@@ -317,7 +317,7 @@ pub fn events_are_replayed()
 
 /// Answers that events do not have.
 pub fn events_are_not_misanswered()
-    // Nothing is found where a cell is linked, and an item is taken before the claim there.
+    // Nothing is found although a cell is linked, and an item is taken before the claim there.
     ensures nothing { Answers (event.Step 1 1 7) (answer.Looked look.Nothing) first_lost → ⊥ }
     ensures unclaimed { Answers (event.Step 1 1 0) (answer.Took 1 6) second_met → ⊥ }
 
@@ -327,7 +327,7 @@ pub fn events_are_not_misanswered()
     // An access is made, and not named.
     ensures unnamed { Answers (event.Step 1 1 0) answer.NoConsumer second_met → ⊥ }
 
-    // The lane is looked for first.
+    // The lane is checked before the consumer.
     ensures order { Answers (event.Step 2 2 0) answer.NoConsumer all_done → ⊥ }
 
     // The random word is the event's.
@@ -343,18 +343,18 @@ pub fn events_are_not_misanswered()
     events_are_replayed();
 }
 
-/// What the state of a world tells of its report, where its pool has one cell with the item 8.
+/// What the state of a world says of its report, if its pool has one cell with the item 8.
 pub fn states_tell_reports()
     ensures walked { IsWalk put_pool 0 (0 ∷ []) false item_put }
     ensures told { (s : WorldState) → s.pool ≡ put_pool
         → IsLaneTold s 0 (record { put = []; ended = false; left = [] }) → ⊥ }
 
-    // A cell that is passed by, an end mark that nobody stored, and an item that is not there.
+    // A cell that is left out, an end mark that nobody stored, and an item that is not there.
     ensures passed { IsWalk put_pool 0 [] false item_put → ⊥ }
     ensures over { IsWalk put_pool 0 (0 ∷ []) true item_put → ⊥ }
     ensures not_there { IsWalk taken_pool 0 (0 ∷ []) false item_put → ⊥ }
 
-    // No note stands where there is no place for one, and no claim is begun where none is held.
+    // A note is read at its place, and there is none past the end of the list. No claim is begun if none is held.
     ensures noted { note_there (Some (Some (Lost 1))) ≡ Some (Lost 1) }
     ensures nowhere { note_there None ≡ None }
     ensures not_held { has_begun_on (seat.PastCell 0) ≡ false }

@@ -1,6 +1,6 @@
-//! Laws of mailboxes and their reports. The functions compute nothing: their contracts are the laws, and their bodies
-//! name the laws of claims and of cells on which they stand. Their proofs stand in `proofs/laws/`, one folder for each,
-//! over the lemmas of `proofs/`.
+//! Laws of mailboxes and their reports. The functions compute nothing: their contracts are the laws. Their bodies name
+//! the laws of claims and of cells that they use. Their proofs are in `proofs/laws/`, one folder for each. They use the
+//! lemmas of `proofs/`.
 ghost use Rattle.std.specs.Prelude.{ℕ, ◌+◌, ◌^◌, ◌≡◌, ◌≢◌, ◌↔◌, ◌<◌, List, [], ◌∷◌, ◌++◌, Option, Some, true, false, reverse, slice_get};
 ghost use Rattle.mb_world.specs.Report.{ReportView, note};
 ghost use Rattle.mb_world.specs.Assignment.{Assignment};
@@ -10,7 +10,7 @@ ghost use Rattle.mb_world.specs.Fitting.{cells_met, parts_of};
 ghost use Rattle.mb_world.specs.Sound.{AreSound};
 ghost use Rattle.mb_world.specs.Reporting.{HasMetAll, IsDiaryOf, IsReportOf};
 ghost use Rattle.mb_world.specs.Headline.{IsHonest};
-ghost use Rattle.mb_world.specs.Below.{Claims, IsQuorumTable, ObjectTurn, claim_part, linked_cells};
+ghost use Rattle.mb_world.specs.Imports.{Claims, IsQuorumTable, ObjectTurn, claim_part, linked_cells};
 ghost use Rattle.mb_world.specs.declared.report.Note.{Note};
 ghost use Rattle.mb_world.specs.declared.report.Note.TheVariants.{Undecided};
 ghost use Rattle.mb_world.specs.declared.setup.Setup.{Setup};
@@ -29,24 +29,23 @@ ghost use Rattle.mb_world.specs.declared.event.Event.TheVariants as event;
 ghost use Rattle.mb_world.specs.Replay.{IsAccessOf, IsEntry, IsRefused, IsRefusedOrMade, IsReplay};
 ghost use Rattle.mb_world.specs.World.{WorldAccess, WorldHistory, claim_accesses, histories_of, lane_part};
 ghost use Rattle.mb_world.specs.World.{pool_accesses};
-ghost use Rattle.mb_world.specs.Below.{HasFoundNone, HasPending, has_ended};
+ghost use Rattle.mb_world.specs.Imports.{HasFoundNone, HasPending, has_ended};
 ghost use Rattle.mb_world.specs.Waiting.{HasNothing};
 ghost use Rattle.mb_world.specs.Worlds.{IsWorldLawful};
 
-use crate::steps::one_step;
 use mb_cells::laws::{
     cells_stand_once, end_marks_are_last, lanes_refuse_by_what_was_done, loads_tell_what_stays,
     numbers_are_handed_out_once, readers_follow_lanes, readers_keep_to_lanes,
     words_lead_through_lanes,
 };
-use mb_cells::steps::{accesses_stay_within, lanes_lead_on, one_step as one_pool_step};
+use mb_cells::steps::{accesses_stay_within, history_extends, lanes_lead_on};
 use mb_claim::laws::{claims_have_one_winner, last_objects_decide_claims, prefixes_have_one_stage};
 use mb_claim::steps::claims_have_one_next_op;
 use mb_deciding::laws::objects_keep_their_promises;
 
-/// Whatever the order of the accesses to the claims, whatever that of the accesses to the cells, and whatever the
-/// random words: one assignment of items to competitors stands behind the whole report, and nothing follows an end
-/// mark.
+/// One assignment of items to competitors agrees with the whole report, and nothing follows an end mark. This holds
+/// whatever the order of the accesses to the claims, whatever that of the accesses to the cells, and whatever the
+/// random words.
 pub fn reports_have_one_assignment()
     ensures { (plan : Plan) (hs : Histories) (r : ReportView) → AreSound plan hs
         → IsReportOf plan hs r → IsHonest plan hs r }
@@ -59,7 +58,7 @@ pub fn reports_have_one_assignment()
     cells_stand_once();
 }
 
-/// What was done has one report.
+/// There is at most one report of what was done.
 pub fn histories_have_one_report()
     ensures { (plan : Plan) (hs : Histories) (r s : ReportView) → AreSound plan hs
         → IsReportOf plan hs r → IsReportOf plan hs s → r ≡ s }
@@ -77,8 +76,8 @@ pub fn agreeing_reports_are_settled()
     ensures { (t : Assignment) (r : ReportView) → AgreesWith t r → IsSettled r }
 {}
 
-/// If each cell has a last object, no claim is undecided. So an item that was competed for is left only beside a claim
-/// that is begun, and on a lane on which none is begun, each item that was competed for is taken.
+/// If each cell has a last object, no note is undecided. So an item that was competed for is left only beside a begun
+/// claim. On a lane without a begun claim, each item that was competed for is taken.
 pub fn last_objects_settle_items()
     ensures notes { (plan : Plan) (hs : Histories) (r : ReportView) (c p j : ℕ) → HasLastObject plan
         → AreSound plan hs → IsReportOf plan hs r → note c p j r ≢ Some Undecided }
@@ -91,7 +90,7 @@ pub fn last_objects_settle_items()
     reports_have_one_assignment();
 }
 
-/// The cells of a setup, or of a plan, whose shape has a last object end with one.
+/// If the shape of a setup or plan has a last object, each of its cells ends with one.
 pub fn shaped_setups_have_last_objects()
     ensures setups { (setup : Setup) → (shape_in setup).last ≡ true
         → HasLastObject (plan_in setup) }
@@ -99,14 +98,14 @@ pub fn shaped_setups_have_last_objects()
         → HasLastObject (shaped_plan shape p c m k t) }
 {}
 
-/// A report agrees with one assignment at most, point by point.
+/// A report agrees with at most one assignment, compared lane by lane and position by position.
 pub fn reports_agree_with_one_assignment()
     ensures { (t u : Assignment) (r : ReportView) → AgreesWith t r → AgreesWith u r
         → (p j : ℕ) → t p j ≡ u p j }
 {}
 
-/// Who competed for an item, by the report, is who made an access to the claim there. A claim on no objects would end
-/// without one.
+/// By the report a consumer competed for an item exactly if it made an access to its claim there. Each cell needs an
+/// object: a claim on none would end without an access.
 pub fn competitors_have_accesses()
     ensures { (plan : Plan) (hs : Histories) (r : ReportView) (c p j k : ℕ) → AreSound plan hs
         → IsReportOf plan hs r → plan.claims.kinds ≢ [] → c < consumers_of plan → p < plan.lanes
@@ -135,8 +134,8 @@ pub fn parts_tell_cells_met()
     cells_stand_once();
 }
 
-/// A lawful history of a world, cut into that of its claims and that of its cells, is sound. So one assignment stands
-/// behind its report.
+/// A lawful history of a world, cut into that of its claims and that of its cells, is sound. So one assignment agrees
+/// with its report.
 pub fn worlds_are_sound()
     ensures sound { (plan : Plan) (h : WorldHistory) → IsQuorumTable plan.claims.table
         → IsWorldLawful plan h → AreSound plan (histories_of h) }
@@ -151,7 +150,7 @@ pub fn worlds_are_sound()
     reports_have_one_assignment();
 }
 
-/// What a consumer has done on a lane leads to one place, and what came before led to one, too.
+/// What a consumer has done on a lane leads to at most one place. If it leads to one, so does each older part of it.
 pub fn paths_lead_to_one_place()
     ensures one { (cs : Claims) (c p : ℕ) (done : WorldHistory) (ks js : List ℕ) (ns ms : List Note)
         (held other : Option (List ObjectTurn)) → IsQuorumTable cs.table
@@ -167,7 +166,7 @@ pub fn paths_lead_to_one_place()
     claims_have_one_next_op();
 }
 
-/// The place of a consumer on a lane, where its path there has led, tells its diary.
+/// The diary of a consumer on a lane follows from the place to which its path there has led.
 pub fn places_tell_diaries()
     ensures diary { (plan : Plan) (h : WorldHistory) (c p : ℕ) (ks : List ℕ) (ns : List Note)
         (held : Option (List ObjectTurn)) → IsQuorumTable plan.claims.table → IsWorldLawful plan h
@@ -186,8 +185,8 @@ pub fn places_tell_diaries()
     readers_follow_lanes();
 }
 
-/// A step answers that it found nothing exactly where there is nothing: its consumer holds no claim on the lane and has
-/// met all cells that are linked there, and the lane has not ended.
+/// A step returns that it found nothing exactly if there is nothing. That is: its consumer holds no claim on the lane
+/// and has met all cells that are linked there, and the lane has not ended.
 pub fn nothing_is_exact()
     ensures { (plan : Plan) (h : WorldHistory) (c p word : ℕ) (r : Answer) (a : Option WorldAccess)
         → IsQuorumTable plan.claims.table → IsWorldLawful plan h
@@ -202,8 +201,8 @@ pub fn nothing_is_exact()
     paths_lead_to_one_place();
 }
 
-/// Events have at most one replay after a lawful history: each has one answer at most, with one access or with none,
-/// and never both a refusal and an access that keeps the history lawful.
+/// After a lawful history, events have at most one replay. Each event has at most one answer, with one access or with
+/// none. No event has both a refusal and an access that keeps the history lawful.
 pub fn replays_do_not_differ()
     ensures never_both { (plan : Plan) (e : Event) (r : Answer) (a : WorldAccess) (h : WorldHistory)
         → IsQuorumTable plan.claims.table → IsWorldLawful plan h → IsRefused plan e r h
@@ -215,7 +214,7 @@ pub fn replays_do_not_differ()
         (was now then : WorldHistory) → IsQuorumTable plan.claims.table → IsWorldLawful plan was
         → IsReplay plan es rs was now → IsReplay plan es ss was then → (rs ≡ ss) × (now ≡ then) }
 
-    // It leads to a lawful history.
+    // A replay leads to a lawful history.
     ensures lawful { (plan : Plan) (es : List Event) (rs : List Answer) (was now : WorldHistory)
         → IsQuorumTable plan.claims.table → IsWorldLawful plan was → IsReplay plan es rs was now
         → IsWorldLawful plan now }
@@ -227,7 +226,7 @@ pub fn replays_do_not_differ()
     worlds_are_sound();
 }
 
-/// A producer's event is refused exactly for what that producer has done. No other answer refuses it.
+/// What a producer has done decides whether its event is refused, and with which answer.
 pub fn events_are_refused_for_what_was_done()
     // An offer is closed after the end mark, busy while an item has a cell that is not linked, and full after a
     // fetch-add that found no cell.
@@ -251,7 +250,7 @@ pub fn events_are_refused_for_what_was_done()
         → (HasFoundNone plan.claims.cells p (pool_accesses h) → ⊥)
         → IsRefused plan (event.Offer p x) r h → ⊥ }
 
-    // A push is idle where no item has such a cell.
+    // A push is idle exactly if no item has a cell that is not linked. No other answer refuses it.
     ensures idle { (plan : Plan) (h : WorldHistory) (p : ℕ) (r : Answer)
         → IsQuorumTable plan.claims.table → IsWorldLawful plan h → p < plan.lanes
         → IsRefused plan (event.Push p) r h
@@ -278,10 +277,10 @@ pub fn events_are_refused_for_what_was_done()
     worlds_are_sound();
 }
 
-/// A producer's event that is not refused has an access that keeps the history lawful. So it is refused exactly where
-/// it has none. Of steps `World::apply` says so.
+/// A producer's event that is not refused has an access that keeps the history lawful. So it is refused exactly if it
+/// has none. For steps, `World::apply` says so.
 pub fn events_of_producers_are_refused_or_made()
-    // There are not so many cells and lanes that the counter would leave its word.
+    // The counter stays in its word, as cells and lanes together are below 2^64.
     ensures offer { (plan : Plan) (h : WorldHistory) (p x : ℕ) → IsQuorumTable plan.claims.table
         → IsWorldLawful plan h → p < plan.lanes → x < 2 ^ 64
         → plan.claims.cells + plan.lanes < 2 ^ 64 → IsRefusedOrMade plan (event.Offer p x) h }
@@ -297,6 +296,5 @@ pub fn events_of_producers_are_refused_or_made()
     accesses_stay_within();
     numbers_are_handed_out_once();
     worlds_are_sound();
-    one_step();
-    one_pool_step();
+    history_extends();
 }

@@ -1,9 +1,9 @@
-//! The world: lanes and claims together, in the hands of one caller who says which process makes its next access.
+//! The world: lanes and claims together, under one caller that says which process makes its next access.
 //!
-//! An [`Event`] is one step of a producer or of a consumer: one access of one word, or none where it is refused, and its
-//! [`Answer`] names that access. [`World::apply`] makes it in a number of instructions that does not grow with what was done
-//! before; [`World::report`] reads the lanes and the notes at any time. [`laws`] has the headline, over all histories: also
-//! those of threads, of which no world is made.
+//! An [`Event`] is one step of a producer or of a consumer: one access of one word, or none if it is refused. Its
+//! [`Answer`] names that access. [`World::apply`] makes it, in a number of instructions that does not grow with what
+//! was done before. [`World::report`] reads the lanes and the notes at any time. The main theorem is in [`laws`]. It
+//! speaks of all histories, also of those of threads, for which no world is made.
 #![tactic(auto)]
 
 mod event;

@@ -1,4 +1,4 @@
-//! What is reported of the lanes and the consumers.
+//! Reports, with their lanes and diaries.
 use std::alloc::Allocator;
 use std::marker::Model;
 
@@ -7,13 +7,13 @@ use std::marker::Model;
 pub enum Note {
     /// The consumer has won the item, and has loaded this value.
     Took(u64),
-    /// No consumer but this other one can have won it; it may not have, or may have ended undecided.
+    /// Only this other consumer can have won the item. It need not have: its claim may go on, or may be undecided.
     Lost(u32),
     /// The consumer's own claim ended undecided: another may have won the item, or nobody.
     Undecided,
 }
 
-/// What is reported of one lane.
+/// The report of one lane.
 #[derive(Drop)]
 pub struct LaneReport<A: Allocator + Drop> {
     /// The items put, in the order of linking.
@@ -24,7 +24,7 @@ pub struct LaneReport<A: Allocator + Drop> {
     pub left: Vec<u64, A>,
 }
 
-/// What is reported of one consumer on one lane.
+/// The report of one consumer on one lane.
 #[derive(Drop)]
 pub struct Diary<A: Allocator + Drop> {
     /// The consumer, from 0 on.
@@ -33,7 +33,7 @@ pub struct Diary<A: Allocator + Drop> {
     pub lane: u32,
     /// Its notes on the items of the lane, from the first item on.
     pub notes: Vec<Note, A>,
-    /// Whether its claim on the next item, which has no note, has an access.
+    /// Whether its claim on the next item, which has no note yet, has made an access.
     pub begun: bool,
 }
 
@@ -42,7 +42,7 @@ pub struct Diary<A: Allocator + Drop> {
 pub struct Report<A: Allocator + Drop> {
     /// One for each lane, in their order.
     pub lanes: Vec<LaneReport<A>, A>,
-    /// One for each consumer and lane: that of consumer `c` and lane `p` stands at `c * lanes.len() + p`.
+    /// One for each consumer and lane. That of consumer `c` on lane `p` is at `c * lanes.len() + p`.
     pub diaries: Vec<Diary<A>, A>,
 }
 

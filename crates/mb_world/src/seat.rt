@@ -1,7 +1,7 @@
-//! Where a consumer stands on a lane.
+//! What a world keeps for a consumer on a lane.
 use mb_claim::Claim;
 
-/// Where a consumer stands on a lane.
+/// Where a consumer stands on a lane, and the claim that it holds there.
 #[derive(Clone, Copy, PartialEq, Eq, Debug)]
 pub enum Seat {
     /// Before the lane's head.

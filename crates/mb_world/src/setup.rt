@@ -1,4 +1,4 @@
-//! How large a world is.
+//! The numbers that make up a world, and when they are refused.
 ghost use Rattle.std.specs.Prelude.{◌≤◌};
 ghost use Rattle.mb_claim.specs.declared.layout.TheConstants.{MAX_LARGE_CELLS};
 
@@ -10,8 +10,8 @@ use std::fmt;
 /// The most producers that a setup can have. The least is 1.
 pub const MAX_PRODUCERS: u64 = 16;
 
-/// How many producers, consumers and cells there are, and the deciding objects of each cell. It holds their layout, so it
-/// is not `Copy`: [`Setup::copy`] says where one more is made.
+/// The numbers of producers, consumers and cells, and the deciding objects of each cell. It holds their layout, so it
+/// is not `Copy`. A second one is made by [`Setup::copy`].
 #[derive(PartialEq, Eq, Debug, Drop)]
 pub struct Setup {
     producers: u32,
@@ -22,7 +22,7 @@ pub struct Setup {
     pub ghost small: { cells ≤ MAX_LARGE_CELLS },
 }
 
-/// Why there is no setup.
+/// Why a setup is refused.
 #[derive(Clone, Copy, PartialEq, Eq, Debug)]
 pub enum SetupFault {
     /// The number of producers is not in `1..=MAX_PRODUCERS`.
@@ -59,9 +59,9 @@ impl Setup {
     ghost use Rattle.mb_world.specs.Setups.{layout_of, pairs_in, plan_in, plan_of, shape_in, shaped_plan};
     ghost use Rattle.mb_world.specs.Setups.{large_refusal, refusal_above, setup_refusal};
 
-    /// The setup of so many producers (1 to 16), consumers (1 to 64) and cells (0 to 256), with so many pairs of deciding
-    /// objects (1 to 8) for each cell over the quorum table of this name. Its cells have pairs alone. If several numbers
-    /// are out of range, the fault is the first of them, in the order of [`SetupFault`].
+    /// The setup of `producers` (1 to 16), `consumers` (1 to 64) and `cells` (0 to 256). Each cell has `pairs` pairs of
+    /// deciding objects (1 to 8) over the quorum table `name`, and nothing beside them. If several numbers are out of
+    /// range, the error is the first of their faults, in the order of [`SetupFault`].
     pub fn new(
         producers: u64,
         consumers: u64,
@@ -79,8 +79,8 @@ impl Setup {
         Setup::up_to(MAX_CELLS, producers, consumers, cells, pairs, name)
     }
 
-    /// The same for up to 2^24 cells, and with the faults in the same order. The memory of a mailbox or a world grows with
-    /// the number of its cells. A script names 256 at most.
+    /// The same for up to 2^24 cells, with the faults in the same order. The memory of a mailbox or a world grows with
+    /// the number of its cells. A script may have at most 256.
     pub fn large(
         producers: u64,
         consumers: u64,
@@ -98,7 +98,7 @@ impl Setup {
         Setup::up_to(MAX_LARGE_CELLS, producers, consumers, cells, pairs, name)
     }
 
-    /// The setup of these numbers, if it has so many cells at most.
+    /// The setup of these numbers, if `cells` is at most `most`.
     fn up_to(
         most: u32,
         producers: u64,
@@ -135,7 +135,7 @@ impl Setup {
         }
     }
 
-    /// The same setup, but that each cell has this shape. What shape it had before makes no difference.
+    /// The same setup, but each cell has this shape. The shape that it had before makes no difference.
     pub fn shaped(&self, shape: Shape) -> Setup
         ensures table { (plan_in result).claims.table ≡ (plan_in self.now).claims.table }
         ensures cells { (plan_in result).claims.cells ≡ (plan_in self.now).claims.cells }
@@ -192,7 +192,7 @@ impl Setup {
         self.layout.copy()
     }
 
-    /// The same, borrowed.
+    /// The layout without a copy, for the calls of this crate.
     #[inline(always)]
     pub(crate) fn as_layout(&self) -> &Layout
         ensures { result.now ≡ layout_of self.now }

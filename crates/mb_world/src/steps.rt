@@ -1,14 +1,14 @@
-//! What builders need: one more access. A world keeps one history ([`one_step`]); a consumer among threads keeps its
-//! own two parts, and that they fit ([`parts_fit_on`]). The functions compute nothing: their contracts are the laws.
-//! Their proofs stand in `proofs/steps/`, one folder for each, over the lemmas of `proofs/`.
+//! What builders need: one more access. A world keeps one history ([`history_extends`]). A consumer among threads keeps its
+//! own two parts, which fit ([`parts_fit_on`]). The functions compute nothing: their contracts are the laws. Their
+//! proofs are in `proofs/steps/`, one folder for each. They use the lemmas of `proofs/`.
 ghost use Rattle.std.specs.Prelude.{ℕ, ◌≡◌, ◌≢◌, ◌+◌, ◌<◌, ◌⊎◌, List, [], ◌∷◌, Option};
 ghost use Rattle.mb_claim.specs.declared.access.Stage.TheVariants as stage;
 ghost use Rattle.mb_world.specs.Fitting.{Fits, FollowsLinks, HasStageIn, Parts, cells_met};
 ghost use Rattle.mb_world.specs.Reporting.{HasMetAll};
 ghost use Rattle.mb_world.specs.PartSteps.{HasNotLeft, MayLookPast, no_parts, with_load, with_step};
-ghost use Rattle.mb_world.specs.Below.{Claims, Gave, Has, HasMet, History, IsOnceEach, Item, PoolSize, Reader, linked_cells};
-ghost use Rattle.mb_world.specs.Below.{load, part, place_past};
-ghost use Rattle.mb_world.specs.Below.{END, IsPoolLawful, IsQuorumTable, ObjectTurn, PoolAccess, Producer};
+ghost use Rattle.mb_world.specs.Imports.{Claims, Gave, Has, HasMet, History, IsOnceEach, Item, PoolSize, Reader, linked_cells};
+ghost use Rattle.mb_world.specs.Imports.{load, part, place_past};
+ghost use Rattle.mb_world.specs.Imports.{END, IsPoolLawful, IsQuorumTable, ObjectTurn, PoolAccess, Producer};
 ghost use Rattle.mb_world.specs.declared.report.Note.{Note};
 ghost use Rattle.mb_world.specs.Plan.{Plan, consumers_of, size_of};
 ghost use Rattle.mb_world.specs.World.{WorldAccess, WorldHistory, lane_part, pool_accesses};
@@ -17,21 +17,21 @@ ghost use Rattle.mb_world.specs.Worlds.{ConsumerAdds, IsTrueTo, IsWorldLawful, P
 
 use crate::laws::worlds_are_sound;
 use mb_cells::laws::{cells_stand_once, readers_follow_lanes};
-use mb_cells::steps::one_step as one_pool_step;
+use mb_cells::steps::history_extends as one_pool_step;
 use mb_claim::laws::prefixes_have_one_stage;
 
 /// Lawful histories of a world grow by one access after another.
-pub fn one_step()
+pub fn history_extends()
     ensures empty { (plan : Plan) → plan.claims.cells < END → IsWorldLawful plan [] }
 
-    // One more access of a consumer, with which its path on a lane goes on.
+    // One more access of a consumer, which extends its path on a lane.
     ensures consumer { (plan : Plan) (h : WorldHistory) (c p : ℕ) (a : WorldAccess) (ks : List ℕ)
         (ns : List Note) (held : Option (List ObjectTurn)) → IsQuorumTable plan.claims.table
         → IsWorldLawful plan h → c < consumers_of plan → p < plan.lanes → IsTrueTo a h
         → ConsumerPath plan.claims c p (a ∷ lane_part c p h) ks ns held
         → ConsumerAdds plan c p a h }
 
-    // One more access of a producer, with which the history of the cells goes on.
+    // One more access of a producer, which extends the lawful history of the cells.
     ensures producer { (plan : Plan) (h : WorldHistory) (p : ℕ) (a : PoolAccess)
         → IsWorldLawful plan h → a.process ≡ Producer p
         → IsPoolLawful (size_of plan) (a ∷ pool_accesses h)
@@ -44,20 +44,20 @@ pub fn one_step()
     one_pool_step();
 }
 
-/// The two parts of a consumer fit on with each access that it may make, whatever it finds.
+/// The two parts of a consumer still fit after each access that it may make, whatever it finds.
 pub fn parts_fit_on()
     ensures empty { (cs : Claims) (c : ℕ) → Fits cs c no_parts }
 
-    // It looks for the next cell of a lane where it is done with the last one that it met.
+    // It may look for the next cell of a lane if it is done with the last one that it met.
     ensures looks { (cs : Claims) (c q p v : ℕ) (x : Parts) → Fits cs c x
         → MayLookPast cs c (cells_met p x.reads) x
         → Fits cs c (with_load (load q (place_past p (cells_met p x.reads)) v) x) }
 
-    // It makes a step of its claim on a cell that it met and has not left.
+    // It may make a step of its claim on a cell that it met and has not left.
     ensures claims { (cs : Claims) (c k : ℕ) (t : ObjectTurn) (x : Parts) → Fits cs c x
         → Gave k x.reads → HasNotLeft k x → Fits cs c (with_step k t x) }
 
-    // It loads the item where its claim is won.
+    // It may load the item if its claim is won.
     ensures takes { (cs : Claims) (c q k v : ℕ) (x : Parts) → Fits cs c x
         → HasStageIn cs c k stage.Won x → Fits cs c (with_load (load q (Item k) v) x) }
 
@@ -68,8 +68,8 @@ pub fn parts_fit_on()
     prefixes_have_one_stage();
 }
 
-/// The cells that a reader's own loads met on a lane, as they grow by one load after another, and what they are in each
-/// lawful history that has these loads.
+/// The cells that a reader's own loads met on a lane: how they grow load by load, and what they are in a lawful history
+/// with these loads.
 pub fn loads_meet_cells()
     // A load of the link past them meets the cell to which it leads, if it leads to one.
     ensures cell { (q p k : ℕ) (reads : History) → k + 1 ≢ END
@@ -82,7 +82,7 @@ pub fn loads_meet_cells()
     ensures elsewhere { (p : ℕ) (a : PoolAccess) (reads : History)
         → a.word ≢ place_past p (cells_met p reads) → cells_met p (a ∷ reads) ≡ cells_met p reads }
 
-    // They were met, so they are given, and are cells of the lane, each once.
+    // They were met, so they were given. In a lawful history they are cells of the lane, each once.
     ensures met { (q p : ℕ) (h : History) → HasMet q p (cells_met p (part (Reader q) h)) h }
     ensures given { (q p k : ℕ) (h : History) → Has (cells_met p (part (Reader q) h)) k
         → Gave k (part (Reader q) h) }
@@ -91,7 +91,7 @@ pub fn loads_meet_cells()
     ensures once { (size : PoolSize) (q p : ℕ) (h : History) → IsPoolLawful size h
         → IsOnceEach (cells_met p (part (Reader q) h)) }
 
-    // Where the loads follow links, no other cell of the lane was given.
+    // If the loads follow links, no other cell of the lane was given.
     ensures all { (size : PoolSize) (q p : ℕ) (h : History) → IsPoolLawful size h
         → FollowsLinks (part (Reader q) h) → HasMetAll q p (cells_met p (part (Reader q) h)) h }
 {

@@ -1,13 +1,13 @@
 //! The world: all words under one caller.
-mod applying;
-mod reporting;
+mod events;
+mod reports;
 mod states;
-mod stepping;
+mod step_event;
 
 use crate::report::Note;
 use crate::seat::Seat;
 use crate::setup::Setup;
-use crate::steps::one_step;
+use crate::steps::history_extends;
 use mb_cells::{NoMemory, Pool};
 use mb_claim::ClaimWords;
 use mb_claim::laws::{layouts_are_sound, prefixes_have_one_stage};
@@ -15,8 +15,8 @@ use mb_deciding::laws::objects_keep_their_promises;
 use std::alloc::Allocator;
 use std::marker::Model;
 
-/// Lanes and claims together, under one caller, so that each event is one access, or none. It keeps no history; its
-/// contracts speak of those that leave it in its state.
+/// Lanes and claims together, under one caller. Each event is one access, or none. A world keeps no history. Its
+/// contracts speak of the histories that leave it in its state.
 #[derive(Drop)]
 pub struct World<A: Allocator + Drop> {
     setup: Setup,
@@ -24,12 +24,12 @@ pub struct World<A: Allocator + Drop> {
     words: ClaimWords<A>,
     /// Where each consumer stands on each lane, consumer by consumer.
     seats: Vec<Seat, A>,
-    /// What each consumer noted of each cell, consumer by consumer.
+    /// The note of each consumer on each cell, if it has one, consumer by consumer.
     notes: Vec<Option<Note>, A>,
 }
 
 impl<A: Allocator + Drop> Model for World<A> {
-    ghost use Rattle.mb_world.specs.WorldState.{IsSound, WorldState};
+    ghost use Rattle.mb_world.specs.WorldState.{WorldIsSound, WorldState};
 
     ghost Value = { WorldState };
 
@@ -41,7 +41,7 @@ impl<A: Allocator + Drop> Model for World<A> {
       notes = w.notes.items;
     } };
 
-    ghost invariant = { λ w. IsSound (record {
+    ghost invariant = { λ w. WorldIsSound (record {
       setup = w.setup;
       pool = w.pool;
       words = w.words;
@@ -54,8 +54,8 @@ impl<A: Allocator + Clone + Drop> World<A> {
     ghost use Rattle.std.specs.Prelude.{◌≡◌, [], IfOk};
     ghost use Rattle.mb_world.specs.WorldState.{IsWorldAfter};
 
-    /// A world of this setup in which nothing was done. All that its events will ever need is reserved here, and
-    /// [`NoMemory`] comes where the allocator refuses a part of that.
+    /// A world of this setup before the first event. All memory that its events will ever need is reserved here. The
+    /// error is [`NoMemory`] if the allocator refuses a part of it.
     pub fn new(alloc: A, setup: Setup) -> Result<World<A>, NoMemory>
         ensures setup { IfOk result (λ w. w.setup ≡ setup) }
         ensures empty { IfOk result (λ w. IsWorldAfter [] w) }
@@ -63,7 +63,7 @@ impl<A: Allocator + Clone + Drop> World<A> {
         layouts_are_sound();
         objects_keep_their_promises();
         prefixes_have_one_stage();
-        one_step();
+        history_extends();
         let layout = setup.layout();
         let lanes = setup.producers() as u32;
         let cells = setup.cells() as u32;

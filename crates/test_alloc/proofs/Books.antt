@@ -14,14 +14,14 @@ use denote.Builtin.{bool, unit}
 use denote.Steps.{nothing, only}
 use denote.Triple.Spec.{triple_of}
 use denote.Triple.Statement.{Contract}
-use Rattle.test_alloc.specs.declared.book.Book.{Book}
-use Rattle.test_alloc.specs.contracts.book.Book as row
-use Rattle.test_alloc.specs.contracts.book.Book.gives as giving
-use Rattle.test_alloc.specs.contracts.book.Book.refuses as refusing
-use Rattle.test_alloc.specs.contracts.book.Book.takes_back as taking
+use Rattle.test_alloc.specs.declared.counters.Counters.{Counters}
+use Rattle.test_alloc.specs.contracts.counters.Counters as row
+use Rattle.test_alloc.specs.contracts.counters.Counters.gives as giving
+use Rattle.test_alloc.specs.contracts.counters.Counters.refuses as refusing
+use Rattle.test_alloc.specs.contracts.counters.Counters.takes_back as taking
 
 -- a `&` to a book at the place p
-abbrev pub seen_book : Lft → ℕ × ℕ → Book → Fml
+abbrev pub seen_book : Lft → ℕ × ℕ → Counters → Fml
 seen_book κ p b = hidden_shr row.the_row κ b p.0 p.1
 
 module _ {M : Type 1} {𝓤 : Ura M} (𝓛 : Logic 𝓤) (at_mem : Memory → SProp 𝓤) (run : Routine → Fun 𝓤) where
@@ -34,7 +34,7 @@ module _ {M : Type 1} {𝓤 : Ura M} (𝓛 : Logic 𝓤) (at_mem : Memory → SP
   abbrev pub TakesBack : Contract 𝓤
   TakesBack = triple_of 𝓛 taking.signature (taking.spec 𝓛 at_mem run)
 
-  module _ (κ : Lft) (q : Share) (p : ℕ × ℕ) (b : Book) where
+  module _ (κ : Lft) (q : Share) (p : ℕ × ℕ) (b : Counters) where
     abbrev pub at_refuses : Refuses.Ghost
     at_refuses = (((κ, tt), (q, tt), tt, (record { ref_ptr = p; now = b }, tt), (vptr p.0 p.1 ∷ [], tt)), tt)
 

@@ -1,2 +1,2 @@
-mod Below
+mod Imports
 mod Books

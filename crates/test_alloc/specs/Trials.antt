@@ -1,15 +1,15 @@
--- What a call that is tried over rations may answer.
+-- What a call that is tried over rations may return.
 use denote.Ref.{Bor}
 use denote.Param.Members.{Shared}
 use Rattle.std.specs.Prelude.{◌≡◌, Bool}
 use Rattle.std.specs.Fn.{FnReturnsAt}
 use Rattle.std.specs.declared.result.Result.{Result}
 use Rattle.std.specs.declared.result.Result.TheVariants.{Ok}
-use Rattle.test_alloc.specs.declared.book.Refuse.{Refuse}
-use Rattle.test_alloc.specs.declared.rations.Rations.{Rations}
+use Rattle.test_alloc.specs.declared.counters.Refuse.{Refuse}
+use Rattle.test_alloc.specs.declared.faulty.FaultyHeap.{FaultyHeap}
 
--- by its contract the call may say, over rations that refuse so, that it was served, or that it was not
+-- the call's contract allows it to return this over rations that refuse these requests: whether it was served
 abbrev pub MaySay : {F B E : Type 0}
-    → Shared F (Bor (Rations B) × Unit {0}) (Result Bool E) → F → Refuse → Bool → Type 0
+    → Shared F (Bor (FaultyHeap B) × Unit {0}) (Result Bool E) → F → Refuse → Bool → Type 0
 MaySay {F} {B} g call refuse served =
-    (rations : Rations B) × (rations.book.refuse ≡ refuse) × FnReturnsAt g call rations (Ok served)
+    (rations : FaultyHeap B) × (rations.book.refuse ≡ refuse) × FnReturnsAt g call rations (Ok served)

@@ -1,22 +1,22 @@
-//! Each growth of a call refused in its turn.
+//! Tries a call with each of its allocations refused in turn.
 
 ghost use Rattle.std.specs.Prelude.{ℕ, ◌<◌, IfOk, false, true};
 ghost use Rattle.test_alloc.specs.Trials.{MaySay};
-ghost use Rattle.test_alloc.specs.declared.book.Refuse.TheVariants.{From, Only};
+ghost use Rattle.test_alloc.specs.declared.counters.Refuse.TheVariants.{From, Only};
 
-use crate::{Rations, Refuse};
+use crate::{FaultyHeap, Refuse};
 use std::alloc::Global;
 use std::test::Fail;
 
-/// No call that is tried grows so often.
+/// No call that is tried makes this many allocations.
 const MANY: u64 = 100;
 
-/// How many growths the call makes: each is refused in its turn, together with all later ones and alone, and then the
-/// call is served.
+/// Tries the call with each of its allocations refused in turn, both alone and together with all later ones. Then the
+/// call is served. Returns how many allocations it makes.
 ///
-/// The call says whether it was served, and keeps nothing. It has to be refused just where a growth was. It fails where it
-/// does otherwise, where it keeps memory, and where it makes a hundred growths.
-pub fn growths_refused<R: AllocGlobal, F: Fn(&Rations<Global>) -> Result<bool, Fail>>(
+/// The call returns whether it was served. It has to be refused exactly if an allocation was, and may keep no memory.
+/// The error is that it does otherwise, that it keeps memory, or that it makes a hundred allocations.
+pub fn growths_refused<R: AllocGlobal, F: Fn(&FaultyHeap<Global>) -> Result<bool, Fail>>(
     rt: &R,
     call: F,
 ) -> Result<u64, Fail>
@@ -28,8 +28,8 @@ pub fn growths_refused<R: AllocGlobal, F: Fn(&Rations<Global>) -> Result<bool, F
         → MaySay F.Fn call (From k) false × MaySay F.Fn call (Only k) false) }
 {
     for number in 0..MANY {
-        let from = Rations::new(rt.alloc(), Refuse::From(number));
-        let only = Rations::new(rt.alloc(), Refuse::Only(number));
+        let from = FaultyHeap::new(rt.alloc(), Refuse::From(number));
+        let only = FaultyHeap::new(rt.alloc(), Refuse::Only(number));
         let served = call(&from)?;
         if call(&only)? != served {
             return Err(Fail::new("one refused growth is not as all later ones"));

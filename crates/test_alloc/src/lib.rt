@@ -1,11 +1,11 @@
-//! An allocator that refuses chosen requests and counts the blocks that are out, and that threads may share: a call that
-//! moves its lists into threads is tried with each of its growths refused in turn.
+//! An allocator that refuses chosen requests, and counts the blocks that are out. Threads may share it. With it a test
+//! tries a call with each of its allocations refused in turn.
 #![tactic(auto)]
 
-mod book;
+mod counters;
+mod faulty;
 mod growths;
-mod rations;
 
-pub use book::Refuse;
+pub use counters::Refuse;
+pub use faulty::FaultyHeap;
 pub use growths::growths_refused;
-pub use rations::Rations;

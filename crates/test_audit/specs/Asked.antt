@@ -1,4 +1,4 @@
--- What a report has of what was asked for.
+-- How large a report has to be.
 use Rattle.std.specs.Prelude.{ℕ, ◌≡◌, ◌*◌, length}
 use Rattle.mb_world.specs.Report.{ReportView}
 

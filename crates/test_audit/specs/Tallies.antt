@@ -2,7 +2,7 @@
 use Rattle.std.specs.Prelude.{ℕ, ◌≡◌, ◌+◌, ◌%◌, ◌^◌, ◌≤◌, List, length}
 use Rattle.std.specs.List.{All, sum_by}
 use Rattle.mb_world.specs.Report.{LaneView, ReportView}
-use Rattle.test_audit.specs.declared.auditing.Tally.{Tally}
+use Rattle.test_audit.specs.declared.rules.Tally.{Tally}
 
 -- a tally of these numbers
 abbrev pub counts : ℕ → ℕ → ℕ → ℕ → ℕ → ℕ → Tally
@@ -14,7 +14,7 @@ abbrev pub both : Tally → Tally → Tally
 both a b = counts ((a.put + b.put) % 2 ^ 64) ((a.took + b.took) % 2 ^ 64) ((a.left + b.left) % 2 ^ 64)
     ((a.lost + b.lost) % 2 ^ 64) ((a.undecided + b.undecided) % 2 ^ 64) ((a.under_way + b.under_way) % 2 ^ 64)
 
--- it counts the items put on a lane and those left of it, and took are all but these
+-- it counts the items put on a lane, and those left. All others are taken
 pub record IsLaneCount (lane : LaneView) (t : Tally) : Type 0 where
   pub put : t.put ≡ length lane.put
   pub left : t.left ≡ length lane.left

@@ -1,6 +1,6 @@
-//! What an audit finds.
+//! The flaws that an audit finds.
 
-/// What in a report cannot be.
+/// What cannot be in a report.
 #[derive(Clone, Copy, PartialEq, Eq, Debug)]
 pub enum Flaw {
     /// There are more or fewer lanes than were asked for.
@@ -13,9 +13,9 @@ pub enum Flaw {
     TwoTakers,
     /// A consumer took a value that was not put there.
     OtherItem,
-    /// A loser names itself, or one that did not compete, or another than the taker or than another loser.
+    /// A loser names itself, a consumer that did not compete, or another winner than the taker or than another loser.
     OtherWinner,
-    /// A consumer that alone competed for an item is undecided.
+    /// A consumer is undecided, though nobody else competed for the item.
     UndecidedAlone,
     /// The items left are not those that nobody took, in their order.
     OtherLeft,

@@ -1,11 +1,11 @@
-//! Reads a report of a mailbox, and says what in it cannot be. It knows the report's words alone: no code here comes
-//! from the definitions or the proofs of the libraries that make reports, so that a test can be right where they are
+//! Reads a report of a mailbox, and says what in it cannot be. It knows only the types of a report: no code here comes
+//! from the definitions or the proofs of the libraries that make reports. So a test can be right even if they are
 //! wrong.
 #![tactic(auto)]
 
-mod auditing;
 mod flaw;
-mod meeting;
+mod matching;
+mod rules;
 
-pub use auditing::{Tally, audit};
 pub use flaw::Flaw;
+pub use rules::{Tally, audit};

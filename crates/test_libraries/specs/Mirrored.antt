@@ -1,9 +1,9 @@
--- A table of one's own, as the tests have it: another table with its values counted from the last.
+-- A table of your own, as the tests have it: another table with its values counted from the last.
 use Rattle.std.specs.Prelude.{ℕ, ◌-◌, ◌<◌}
 use Rattle.std.proofs.Common.{ap, arith}
 use Rattle.mb_quorum.specs.Quorum.{QuorumTable, IsQuorumTable}
 
--- with m values the quorums of v are those that m - 1 - v has in the other table
+-- with m values, v has the quorums of m - 1 - v in the other table
 abbrev pub mirrored : QuorumTable → QuorumTable
 mirrored t =
     record {
@@ -13,7 +13,7 @@ mirrored t =
       read = λ v. t.read (t.values - 1 - v);
     }
 
--- it is a quorum table where the other is one
+-- it is a quorum table if the other is one
 pub mirrored_lawful : (t : QuorumTable) → IsQuorumTable t → IsQuorumTable (mirrored t)
 mirrored_lawful t law =
     let mirror : (v : ℕ) → v < t.values → t.values - 1 - v < t.values = λ v value. omega (arith, value) in

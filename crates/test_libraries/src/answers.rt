@@ -8,17 +8,14 @@ use mb_world::{Answer, Event, World};
 use std::alloc::Allocator;
 use std::process::Abort;
 
-/// An item is offered on a lane.
 pub(crate) fn offer(lane: u64, item: u64) -> Event {
     Event::Offer { lane, item }
 }
 
-/// A push on a lane.
 pub(crate) fn push(lane: u64) -> Event {
     Event::Push { lane }
 }
 
-/// A finish of a lane.
 pub(crate) fn finish(lane: u64) -> Event {
     Event::Finish { lane }
 }
@@ -32,7 +29,7 @@ pub(crate) fn step(consumer: u64, lane: u64) -> Event {
     }
 }
 
-/// A cell for an item that is offered.
+/// An offered item gets a cell.
 pub(crate) fn cell(k: u32) -> Answer {
     Answer::Offered(Offer::Cell(k))
 }
@@ -77,7 +74,7 @@ pub(crate) fn took(k: u32, x: u64) -> Answer {
     Answer::Took { cell: k, item: x }
 }
 
-/// Makes these events, each of which has this answer.
+/// Makes these events, and compares each answer with the one beside it.
 pub(crate) fn make<A: Allocator + Drop>(
     rt: &impl Abort,
     world: &mut World<A>,

@@ -1,15 +1,15 @@
-//! Audits of made-up reports: what has no flaw is counted, and for each rule there is a report that breaks that rule alone.
+//! Audits of made-up reports. Reports without a flaw are counted, and for each rule there is a report that breaks that
+//! rule alone.
 
 use crate::compare::same;
 use mb_world::Note;
 use mb_world::Note::{Lost, Took, Undecided};
 use std::process::Abort;
-use std::test::Fail;
 use test_audit::{Flaw, Tally, audit};
 use test_support::{DiaryTold, LaneTold, made_up};
 
 #[test]
-fn a_report_without_a_flaw_is_counted(rt: HostRuntime) -> Result<(), Fail> {
+fn a_report_without_a_flaw_is_counted(rt: HostRuntime) {
     let report = made_up(
         rt.alloc(),
         &[(&[5, 6, 7], false, &[6, 7]), (&[8], true, &[])],
@@ -19,7 +19,8 @@ fn a_report_without_a_flaw_is_counted(rt: HostRuntime) -> Result<(), Fail> {
             (1, 0, &[Lost(0)], true),
             (1, 1, &[Took(8)], false),
         ],
-    )?;
+    )
+    .expect(&rt, "no report");
     let tally = Tally {
         put: 4,
         took: 2,
@@ -29,40 +30,39 @@ fn a_report_without_a_flaw_is_counted(rt: HostRuntime) -> Result<(), Fail> {
         under_way: 1,
     };
     same(&rt, &audit(&report, 2, 2), &Ok(tally));
-    Ok(())
 }
 
-/// The report with these lanes and diaries has this flaw, or none, where so many producers and consumers were asked for.
+/// The report with these lanes and diaries has this flaw, or none. `asked` has the numbers of producers and of
+/// consumers.
 fn comes_to<R: Abort + AllocGlobal>(
     rt: &R,
     asked: (u64, u64),
     lanes: &[LaneTold<'_>],
     diaries: &[DiaryTold<'_>],
     flaw: Option<Flaw>,
-) -> Result<(), Fail> {
-    let report = made_up(rt.alloc(), lanes, diaries)?;
+) {
+    let report = made_up(rt.alloc(), lanes, diaries).expect(rt, "no report");
     same(rt, &audit(&report, asked.0, asked.1).err(), &flaw);
-    Ok(())
 }
 
-/// On an only item, 5, which is left or not, three consumers have these notes, and the report has this flaw, or none.
+/// Three consumers have these notes on the only item, 5, which is left or not. The report has this flaw, or none.
 fn three_come_to<R: Abort + AllocGlobal>(
     rt: &R,
     is_left: bool,
     notes: [&[Note]; 3],
     flaw: Option<Flaw>,
-) -> Result<(), Fail> {
+) {
     let left: &[u64] = if is_left { &[5] } else { &[] };
     let diaries = [
         (0, 0, notes[0], false),
         (1, 0, notes[1], false),
         (2, 0, notes[2], false),
     ];
-    comes_to(rt, (1, 3), &[(&[5], false, left)], &diaries, flaw)
+    comes_to(rt, (1, 3), &[(&[5], false, left)], &diaries, flaw);
 }
 
 #[test]
-fn an_item_has_one_winner(rt: HostRuntime) -> Result<(), Fail> {
+fn an_item_has_one_winner(rt: HostRuntime) {
     let other = Some(Flaw::OtherWinner);
     let cases: [(bool, [&[Note]; 3], Option<Flaw>); 11] = [
         (false, [&[Lost(1)], &[Took(5)], &[Lost(1)]], None),
@@ -71,25 +71,24 @@ fn an_item_has_one_winner(rt: HostRuntime) -> Result<(), Fail> {
         (false, [&[], &[Took(6)], &[]], Some(Flaw::OtherItem)),
         // A loser does not name itself.
         (true, [&[], &[Lost(1)], &[]], other),
-        // Losers name one.
+        // Losers name one winner.
         (true, [&[Lost(1)], &[Lost(2)], &[Undecided]], other),
-        // The one that they name competed, and there is such a consumer.
+        // The winner that they name competed, and there is such a consumer.
         (true, [&[Lost(1)], &[], &[]], other),
         (true, [&[Lost(3)], &[], &[]], other),
         // It is the taker.
         (false, [&[Took(5)], &[Lost(2)], &[Undecided]], other),
-        // Who is alone decides.
+        // A consumer that is alone decides.
         (true, [&[], &[], &[Undecided]], Some(Flaw::UndecidedAlone)),
         (true, [&[], &[Undecided], &[Undecided]], None),
     ];
     for (is_left, notes, flaw) in cases {
-        three_come_to(&rt, is_left, notes, flaw)?;
+        three_come_to(&rt, is_left, notes, flaw);
     }
-    Ok(())
 }
 
 #[test]
-fn what_is_left_is_what_nobody_took(rt: HostRuntime) -> Result<(), Fail> {
+fn what_is_left_is_what_nobody_took(rt: HostRuntime) {
     let other = Some(Flaw::OtherLeft);
     let cases: [(&[u64], Option<Flaw>); 8] = [
         (&[6, 7], None),
@@ -105,13 +104,12 @@ fn what_is_left_is_what_nobody_took(rt: HostRuntime) -> Result<(), Fail> {
     ];
     for (left, flaw) in cases {
         let lanes: [LaneTold<'_>; 1] = [(&[5, 6, 7], false, left)];
-        comes_to(&rt, (1, 1), &lanes, &[(0, 0, &[Took(5)], true)], flaw)?;
+        comes_to(&rt, (1, 1), &lanes, &[(0, 0, &[Took(5)], true)], flaw);
     }
-    Ok(())
 }
 
 #[test]
-fn notes_are_on_items(rt: HostRuntime) -> Result<(), Fail> {
+fn notes_are_on_items(rt: HostRuntime) {
     let many = Some(Flaw::TooManyNotes);
     let lanes: [LaneTold<'_>; 2] = [(&[5, 6], false, &[6]), (&[8], false, &[])];
     let cases: [(&[Note], bool, Option<Flaw>); 3] = [
@@ -126,19 +124,18 @@ fn notes_are_on_items(rt: HostRuntime) -> Result<(), Fail> {
             (1, 0, &[Lost(0)], true),
             (1, 1, notes, begun),
         ];
-        comes_to(&rt, (2, 2), &lanes, &diaries, flaw)?;
+        comes_to(&rt, (2, 2), &lanes, &diaries, flaw);
     }
-    Ok(())
 }
 
 #[test]
-fn there_is_a_diary_for_each_consumer_and_lane(rt: HostRuntime) -> Result<(), Fail> {
+fn there_is_a_diary_for_each_consumer_and_lane(rt: HostRuntime) {
     let (lanes, other) = (Some(Flaw::OtherLanes), Some(Flaw::OtherDiary));
     let lane: LaneTold<'_> = (&[], false, &[]);
     let first: [DiaryTold<'_>; 2] = [(0, 0, &[], false), (0, 1, &[], false)];
     let second: [DiaryTold<'_>; 2] = [(1, 0, &[], false), (1, 1, &[], false)];
     let all = [first[0], first[1], second[0], second[1]];
-    // So many consumers were asked for, with two producers.
+    // The number of consumers that were asked for, with two producers.
     let cases: [(u64, &[LaneTold<'_>], &[DiaryTold<'_>], Option<Flaw>); 12] = [
         (2, &[lane; 2], &all, None),
         (0, &[lane; 2], &[], None),
@@ -155,7 +152,6 @@ fn there_is_a_diary_for_each_consumer_and_lane(rt: HostRuntime) -> Result<(), Fa
         (2, &[lane; 2], &[all[0], all[1], all[2], all[2]], other),
     ];
     for (consumers, lanes, diaries, flaw) in cases {
-        comes_to(&rt, (2, consumers), lanes, diaries, flaw)?;
+        comes_to(&rt, (2, consumers), lanes, diaries, flaw);
     }
-    Ok(())
 }

@@ -52,7 +52,7 @@ fn put(p: u32, x: u64, cell: u32) -> [PoolCall; 3] {
     ]
 }
 
-/// Puts an item and ends its lane. The calls with their answers go on with any list that led to the pool.
+/// Puts an item and ends its lane. These calls with their answers may follow any list of calls that led to the pool.
 fn put_and_end<A: Allocator + Drop>(
     pool: &mut Pool<A>,
     p: u32,
@@ -147,7 +147,7 @@ fn refusals_in_their_order(rt: HostRuntime) -> Result<(), Fail> {
     Ok(())
 }
 
-/// No cell is left for lane `p`, which ends, and whose first cell has its number.
+/// No cell is left for lane `p`. The lane ends. Its first cell is cell `p`.
 fn full_and_ended(p: u32) -> [PoolCall; 3] {
     [
         Offers(p, 7, Offer::Full),
@@ -156,7 +156,7 @@ fn full_and_ended(p: u32) -> [PoolCall; 3] {
     ]
 }
 
-/// The item of the last cell of lane `p`, behind which the lane ends, and the second cell.
+/// The second cell of lane `p`, and the item of its last cell, after which the lane ends.
 fn two_cells_on(p: u32, last: u32) -> [PoolCall; 3] {
     [
         Looks(Cursor::past(p), Look::Cell(p.wrapping_add(16))),
@@ -179,7 +179,7 @@ fn sixteen_lanes_until_full(rt: HostRuntime) -> Result<(), Fail> {
     Ok(())
 }
 
-/// Cell `k` of 256 has the item of its number, and behind it stands the cell so many places on, or the end.
+/// Cell `k` of 256 has the item of its number. After it comes cell `k + step`, or the end.
 fn read(k: u32, step: u32) -> [PoolCall; 2] {
     let next = k.wrapping_add(step);
     let behind = if next < 256 {
@@ -225,7 +225,7 @@ fn one_lane_takes_all_256_cells(rt: HostRuntime) -> Result<(), Fail> {
     Ok(())
 }
 
-/// The refusals of lane `p`, whose item is offered and not put.
+/// The refusals of lane `p` while its item is offered and not put.
 fn is_busy(p: u32) -> [PoolCall; 3] {
     [
         Offers(p, 9, Offer::Busy),

@@ -8,7 +8,6 @@ use std::alloc::Allocator;
 use std::process::Abort;
 use std::test::Fail;
 
-/// A load of a consumer.
 pub(crate) fn loaded(consumer: u32, object: u32, reg: Reg, value: u64) -> ClaimEntry {
     ClaimEntry::Access {
         consumer,
@@ -17,7 +16,6 @@ pub(crate) fn loaded(consumer: u32, object: u32, reg: Reg, value: u64) -> ClaimE
     }
 }
 
-/// A store of a consumer.
 pub(crate) fn stored(consumer: u32, object: u32, reg: Reg, value: u64) -> ClaimEntry {
     ClaimEntry::Access {
         consumer,
@@ -42,8 +40,8 @@ pub(crate) const WON_AND_LOST: [(u64, u64); 12] = [
     (0, 0),
 ];
 
-/// Claims on one cell that make these steps have these stages, and these entries from this place on. Whether the allocator
-/// serves their run.
+/// Claims on one cell that make these steps have these stages, and these entries from this place on. Returns whether
+/// the allocator serves their run.
 pub(crate) fn is_played<A: Allocator + Copy + Drop>(
     rt: &impl Abort,
     alloc: A,
@@ -68,7 +66,7 @@ pub(crate) fn is_played<A: Allocator + Copy + Drop>(
     }
 }
 
-/// What these steps make of two consumers and one pair over the bit table.
+/// The entries of these steps, of two consumers and one pair over the bit table.
 pub(crate) fn won_and_lost() -> [ClaimEntry; 12] {
     [
         loaded(0, 0, Reg::Value, 0),
@@ -121,7 +119,8 @@ fn two_consumers_and_three_pairs(rt: HostRuntime) -> Result<(), Fail> {
 #[test]
 fn most_accesses_of_eight_pairs(rt: HostRuntime) -> Result<(), Fail> {
     for (consumers, name, most) in [
-        // Each pair is a conciliator of 5 + 3 accesses at most and a ratifier of 4 + 2 + 4, or over the unary table 1 + 2 + 15.
+        // Each pair is a conciliator of at most 5 + 3 accesses and a ratifier of 4 + 2 + 4, or 1 + 2 + 15 over the
+        // unary table.
         (16, TableName::Bits, 144),
         (16, TableName::Unary, 208),
         // A conciliator of 7 + 3 accesses at most and a ratifier of 6 + 2 + 6, 1 + 2 + 63 or 4 + 2 + 4.
@@ -221,10 +220,10 @@ fn a_step_of_no_consumer(rt: HostRuntime) -> Result<(), Fail> {
     Ok(())
 }
 
-/// So many steps: more than a run of all claims takes, so that most of them are `Done`.
+/// More steps than a run of all claims takes, so that most of them are `Done`.
 const STEPS: usize = 2048;
 
-/// So many steps of sixteen consumers in order, with the random word 0.
+/// `STEPS` steps of sixteen consumers in order, with the random word 0.
 fn steps_in_order() -> [(u64, u64); STEPS] {
     let mut steps = [(0, 0); STEPS];
     for place in 0..STEPS {
@@ -233,7 +232,7 @@ fn steps_in_order() -> [(u64, u64); STEPS] {
     steps
 }
 
-/// Of steps that sixteen consumers have in order, those from `first` on are of claims that had come to their end before.
+/// Sixteen consumers step in order. The steps from `first` on are of claims that had ended before.
 fn are_done_from(rt: &impl Abort, entries: &[ClaimEntry], first: usize) {
     for (place, entry) in entries.iter().enumerate() {
         let done = ClaimEntry::Done {

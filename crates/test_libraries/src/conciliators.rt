@@ -9,7 +9,7 @@ use std::test::Fail;
 fn last_turn_stores(rt: HostRuntime) {
     for turns in [
         [(0, 3), (0, 3), (0, 3), (0, 3), (0, 3)],
-        // The random words of the store and of the load after it count for nothing.
+        // The random words of the store and of the load after it do not count.
         [(0, 3), (0, 7), (0, 3), (0, 0), (0, u64::MAX)],
     ] {
         let returned = conciliate(rt.alloc(), 2, &[0], &turns);
@@ -66,10 +66,10 @@ fn nobody_makes_no_turn(rt: HostRuntime) {
     assert!(rt; shows(&rt, conciliate(rt.alloc(), 17, &[], &[]), &[], &[]));
 }
 
-/// So many turns: more than all processes take to their outputs, so that most of them are `Done`.
+/// More turns than all processes take to their outputs, so that most of them are `Done`.
 const TURNS: usize = 2048;
 
-/// So many turns of sixteen processes in order, with the random word 0.
+/// `TURNS` turns of sixteen processes in order, with the random word 0.
 fn turns_in_order() -> [(u64, u64); TURNS] {
     let mut turns = [(0, 0); TURNS];
     for place in 0..TURNS {

@@ -1,7 +1,7 @@
 //! Readers and writers that fail once and would work if they were asked again.
 
 use crate::compare::same_at;
-use mb_script::{Counting, ReadEnd, WriteFailed, read_all, write_all};
+use mb_script::{CountingIo, ReadEnd, WriteFailed, read_all, write_all};
 use std::io;
 use std::io::{Read, Write};
 use std::process::Abort;
@@ -46,7 +46,7 @@ impl<W: Write + Drop> Write for FailsOnce<W> {
     }
 }
 
-/// Five bytes are read by a reader whose call `bad` fails: this comes of it, after so many calls.
+/// Reads five bytes by a reader whose call `bad` fails. The result is `want`, after `calls` calls.
 fn reads_five<R: Abort + AllocGlobal>(
     rt: &R,
     bad: usize,
@@ -54,7 +54,7 @@ fn reads_five<R: Abort + AllocGlobal>(
     failures: u64,
     calls: usize,
 ) {
-    let mut reader = Counting::new(FailsOnce {
+    let mut reader = CountingIo::new(FailsOnce {
         device: b"abcde".as_slice(),
         calls: 0,
         bad,
@@ -76,7 +76,7 @@ fn no_failed_read_is_tried_again(rt: HostRuntime) {
     reads_five(&rt, 4, Ok(b"abcde".as_slice()), 0, 4);
 }
 
-/// Five bytes are written by a writer whose call `bad` fails: this comes of it, and these were written.
+/// Writes five bytes by a writer whose call `bad` fails. The result is `want`, and `written` was written.
 fn writes_five<R: Abort + AllocGlobal>(
     rt: &R,
     bad: usize,
@@ -84,7 +84,7 @@ fn writes_five<R: Abort + AllocGlobal>(
     written: &[u8],
     failures: u64,
 ) {
-    let mut writer = Counting::new(FailsOnce {
+    let mut writer = CountingIo::new(FailsOnce {
         device: Vec::<u8>::new(rt.alloc()),
         calls: 0,
         bad,

@@ -5,7 +5,6 @@ use mb_deciding::{Act, Entry, Fault, Out, Reg, Trace};
 use std::alloc::Allocator;
 use std::process::Abort;
 
-/// A load of a process.
 pub(crate) fn loaded(process: usize, reg: Reg, value: u64) -> Entry {
     Entry::Access {
         process,
@@ -14,7 +13,6 @@ pub(crate) fn loaded(process: usize, reg: Reg, value: u64) -> Entry {
     }
 }
 
-/// A store of a process.
 pub(crate) fn stored(process: usize, reg: Reg, value: u64) -> Entry {
     Entry::Access {
         process,
@@ -35,7 +33,7 @@ pub(crate) fn ending(entry: Entry, output: Out) -> Entry {
     }
 }
 
-/// What one ratifier makes of the inputs 0 and 1 where process 0 comes to its end before process 1 begins.
+/// The entries of one ratifier with the inputs 0 and 1, if process 0 ends before process 1 begins.
 pub(crate) fn late_input() -> [Entry; 7] {
     [
         stored(0, Reg::Quorum(0), 1),
@@ -48,7 +46,7 @@ pub(crate) fn late_input() -> [Entry; 7] {
     ]
 }
 
-/// What one conciliator for two values makes of one process with the input 0 that stores on its last turn.
+/// The entries of one conciliator for two values and one process with the input 0, which stores on its last attempt.
 pub(crate) fn last_turn() -> [Entry; 5] {
     [
         loaded(0, Reg::Value, 0),
@@ -59,7 +57,7 @@ pub(crate) fn last_turn() -> [Entry; 5] {
     ]
 }
 
-/// A call returned a trace with these entries and outputs, or that it is out of memory. Whether it is a trace.
+/// A call returned a trace with these entries and outputs, or ran out of memory. Returns whether it was a trace.
 pub(crate) fn shows<A: Allocator + Drop>(
     rt: &impl Abort,
     returned: Result<Trace<A>, Fault>,
@@ -79,7 +77,7 @@ pub(crate) fn shows<A: Allocator + Drop>(
     }
 }
 
-/// Of turns that sixteen processes have in order, those from `first` on are of processes that had their output before.
+/// Sixteen processes have turns in order. The turns from `first` on are of processes that had their output before.
 pub(crate) fn are_done_from(rt: &impl Abort, entries: &[Entry], first: usize) {
     for (place, entry) in entries.iter().enumerate() {
         let done = Entry::Done {

@@ -1,17 +1,13 @@
-//! Worlds: what their events answer, and what is reported then. The worked scripts are examples of the program.
+//! Worlds: the answers of their events, and the report then. The worked scripts are examples of the program.
 
 use crate::answers::{
     cell, finish, found, item, link, loads, make, offer, push, step, stores, took,
 };
-use crate::worlds::one_pair;
+use crate::worlds::{ends, one_pair};
 use mb_cells::{Finish, Look, Offer, Push};
 use mb_claim::Stage;
 use mb_deciding::Reg;
-use mb_quorum::TableName;
-use mb_world::{Answer, Event, Note, Report, Setup, World};
-use std::alloc::Allocator;
-use std::test::Fail;
-use test_support::{Difference, tells};
+use mb_world::{Answer, Event, Note};
 
 /// An item is put into the first lane and taken by the only consumer.
 pub(crate) fn take_seven() -> [(Event, Answer); 10] {
@@ -52,8 +48,8 @@ fn lose_five() -> [(Event, Answer); 16] {
 }
 
 #[test]
-fn a_lane_is_looked_for_before_a_consumer(rt: HostRuntime) -> Result<(), Fail> {
-    let mut world = one_pair(&rt, 1, 2, 1)?;
+fn a_lane_is_looked_for_before_a_consumer(rt: HostRuntime) {
+    let mut world = one_pair(&rt, 1, 2, 1);
     make(&rt, &mut world, &lose_five());
     let events = [
         (offer(1, 4), Answer::NoLane),
@@ -65,16 +61,16 @@ fn a_lane_is_looked_for_before_a_consumer(rt: HostRuntime) -> Result<(), Fail> {
         (step(u64::MAX, 0), Answer::NoConsumer),
     ];
     make(&rt, &mut world, &events);
-    tells(
-        &world.report(rt.alloc())?,
+    ends(
+        &rt,
+        world,
         &[(&[5], false, &[5])],
         &[(0, 0, &[], true), (1, 0, &[Note::Lost(0)], false)],
-    )?;
-    Ok(())
+    );
 }
 
-/// Two producers put an item each, and two consumers come to both: consumer 0 takes the one of lane 0, which consumer 1
-/// loses, and has begun a claim on the one of lane 1, which consumer 1 takes. Lane 1 has ended.
+/// Two producers put an item each, and two consumers come to both. Consumer 0 takes the item of lane 0, and consumer 1
+/// loses it. Consumer 1 takes the item of lane 1, and consumer 0 has begun a claim on it. Lane 1 has ended.
 pub(crate) fn share_two() -> [(Event, Answer); 34] {
     [
         (offer(1, 6), cell(0)),
@@ -114,10 +110,13 @@ pub(crate) fn share_two() -> [(Event, Answer); 34] {
     ]
 }
 
-/// The report of that.
-fn tells_two<A: Allocator + Drop>(report: &Report<A>) -> Result<(), Difference> {
-    tells(
-        report,
+#[test]
+fn two_consumers_on_two_lanes(rt: HostRuntime) {
+    let mut world = one_pair(&rt, 2, 2, 2);
+    make(&rt, &mut world, &share_two());
+    ends(
+        &rt,
+        world,
         &[(&[5], false, &[]), (&[6], true, &[])],
         &[
             (0, 0, &[Note::Took(5)], false),
@@ -125,13 +124,5 @@ fn tells_two<A: Allocator + Drop>(report: &Report<A>) -> Result<(), Difference> 
             (1, 0, &[Note::Lost(0)], false),
             (1, 1, &[Note::Took(6)], false),
         ],
-    )
-}
-
-#[test]
-fn two_consumers_on_two_lanes(rt: HostRuntime) -> Result<(), Fail> {
-    let mut world = one_pair(&rt, 2, 2, 2)?;
-    make(&rt, &mut world, &share_two());
-    tells_two(&world.report(rt.alloc())?)?;
-    Ok(())
+    );
 }

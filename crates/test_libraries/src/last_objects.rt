@@ -28,8 +28,8 @@ impl Memory for Word {
     }
 }
 
-/// What a process with this input does and gives, by `next` and `after`. There is nothing where the table has no such
-/// value, or where it goes on.
+/// The access of a process with this input and its output, by `next` and `after`. It is none if the table has no such
+/// value, or if the process goes on.
 fn by_parts(q: &Bits, word: &mut Word, input: u32) -> Option<(Op, Out)> {
     if input >= q.values() {
         return None;
@@ -43,7 +43,7 @@ fn by_parts(q: &Bits, word: &mut Word, input: u32) -> Option<(Op, Out)> {
     }
 }
 
-/// What it gives by `step`.
+/// Its output, by `step`.
 fn at_once(q: &Bits, word: &mut Word, input: u32) -> Option<Out> {
     if input >= q.values() {
         return None;

@@ -1,4 +1,5 @@
-//! Tests of the libraries below the mailbox, which are proved without them: worked examples, and calls whose memory is refused.
+//! Tests of the libraries below the mailbox, which are proved without them: worked examples, and calls that run out of
+//! memory.
 #![tactic(auto)]
 
 #[cfg(test)]

@@ -1,9 +1,9 @@
-//! A quorum table of one's own.
+//! A quorum table of your own.
 
 use mb_quorum::{BadValues, Quorums, Unary};
 
-/// A table of one's own: the unary table with its values counted from the last. With m values the write quorum of
-/// v is register m - 1 - v, its read quorum all others.
+/// The unary table with its values counted from the last. With m values the write quorum of v is register m - 1 - v,
+/// its read quorum all others.
 #[derive(Clone, Copy, Debug)]
 pub(crate) struct Mirrored {
     unary: Unary,

@@ -1,4 +1,4 @@
-//! A ratifier over a quorum table of one's own.
+//! A ratifier over a quorum table of your own.
 
 use crate::compare::same;
 use crate::mirrored::Mirrored;
@@ -8,7 +8,7 @@ use std::marker::Model;
 use std::process::Abort;
 use std::test::Fail;
 
-/// A process in a ratifier over the mirrored table, and where it stands: nowhere once it has its output.
+/// A process in a ratifier over the mirrored table, and its place. After its output it has none.
 #[derive(Drop)]
 struct Process {
     q: Mirrored,
@@ -27,7 +27,7 @@ impl Model for Process {
 }
 
 impl Process {
-    /// A process that begins with this input, or stands nowhere where the table has no such value.
+    /// A process that begins with this input. It has no place if the table has no such value.
     fn new(q: Mirrored, input: u32) -> Process {
         if input < q.values() {
             return Process {
@@ -38,7 +38,7 @@ impl Process {
         Process { q, place: None }
     }
 
-    /// The access that comes next, with the output that it gives after finding this value.
+    /// The next access, and the output that it gives after finding this value.
     fn access(&mut self, seen: u64) -> Option<(Op, Option<Out>)> {
         let place = self.place?;
         let op = place.next(&self.q);

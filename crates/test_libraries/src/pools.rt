@@ -1,11 +1,11 @@
-//! Pools that are called by lists of calls, so that a test owes no premise.
+//! Pools that are called by lists of calls, so that a test has no premise to prove.
 
 use mb_cells::{Cursor, Finish, Look, NoMemory, Offer, Pool, Push};
 use std::alloc::Allocator;
 use std::marker::Model;
 use std::process::Abort;
 
-/// A call of a pool, with its lane, cell or cursor, and what it answers.
+/// A call of a pool, with its lane, cell or cursor, and its answer.
 #[derive(Clone, Copy)]
 pub(crate) enum PoolCall {
     /// This item is offered on a lane.
@@ -37,7 +37,7 @@ impl<A: Allocator + Drop> Model for Calls<A> {
 }
 
 impl<A: Allocator + Clone + Drop> Calls<A> {
-    /// A new pool with so many lanes and cells.
+    /// A new pool with `lanes` lanes and `cells` cells.
     pub(crate) fn new(alloc: A, lanes: u32, cells: u32) -> Result<Calls<A>, NoMemory> {
         let pool = Pool::new(alloc, lanes, cells)?;
         Ok(Calls { pool, lanes, cells })
@@ -45,7 +45,7 @@ impl<A: Allocator + Clone + Drop> Calls<A> {
 }
 
 impl<A: Allocator + Drop> Calls<A> {
-    /// Makes these calls, each of which has its answer.
+    /// Makes these calls, and compares each answer.
     pub(crate) fn make(&mut self, rt: &impl Abort, calls: &[PoolCall]) {
         for (place, call) in calls.iter().enumerate() {
             let same = match *call {

@@ -35,10 +35,10 @@ fn first_reason_refuses(rt: HostRuntime) {
     }
 }
 
-/// So many turns: more than all processes take to their outputs, so that most of them are `Done`.
+/// More turns than all processes take to their outputs, so that most of them are `Done`.
 const TURNS: usize = 2048;
 
-/// So many turns of sixteen processes in order.
+/// `TURNS` turns of sixteen processes in order.
 fn turns_in_order() -> [u64; TURNS] {
     let mut turns = [0; TURNS];
     for place in 0..TURNS {

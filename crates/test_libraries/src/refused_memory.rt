@@ -1,4 +1,4 @@
-//! Calls whose memory is refused: each growth in turn, and at last the same call with memory.
+//! Calls that run out of memory: each allocation is refused in turn, and at last the same call has memory.
 
 use crate::answers::make;
 use crate::claims::{WON_AND_LOST, is_played, won_and_lost};
@@ -12,8 +12,8 @@ use mb_world::{Note, Report, Setup, World};
 use std::alloc::Global;
 use std::process::Abort;
 use std::test::Fail;
-use test_alloc::{Rations, Refuse, growths_refused};
-use test_support::{Difference, tells};
+use test_alloc::{FaultyHeap, Refuse, growths_refused};
+use test_support::check_report;
 
 #[test]
 fn each_growth_of_ratify_refused(rt: HostRuntime) -> Result<(), Fail> {
@@ -51,45 +51,53 @@ fn each_growth_of_play_refused(rt: HostRuntime) -> Result<(), Fail> {
 }
 
 /// The allocator of all lists of a world.
-type Alloc<'r> = &'r Rations<Global>;
+type Alloc<'r> = &'r FaultyHeap<Global>;
 
 /// The only item was taken by the only consumer.
-fn tells_seven(report: &Report<Alloc<'_>>) -> Result<(), Difference> {
-    tells(
-        report,
+fn tells_seven(rt: &impl Abort, report: Report<Alloc<'_>>) {
+    let told = check_report(
+        &report,
         &[(&[7], false, &[])],
         &[(0, 0, &[Note::Took(7)], false)],
-    )
+    );
+    same(rt, &told, &Ok(()));
 }
 
-/// Whether the allocator serves the report of that. If not, another serves it.
+/// Returns whether the allocator serves the report of that. If not, another serves it.
 fn report_is_served<'a>(
+    rt: &impl Abort,
     world: &World<Alloc<'a>>,
     alloc: Alloc<'a>,
     ample: Alloc<'a>,
-) -> Result<bool, Fail> {
-    if let Ok(report) = world.report(alloc) {
-        tells_seven(&report)?;
-        return Ok(true);
+) -> bool {
+    match world.report(alloc) {
+        Ok(report) => {
+            tells_seven(rt, report);
+            true
+        }
+        Err(_) => {
+            tells_seven(rt, world.report(ample).expect(rt, "no report"));
+            false
+        }
     }
-    tells_seven(&world.report(ample)?)?;
-    Ok(false)
 }
 
 /// Whether the allocator serves the world and its report.
-fn world_is_served<'a>(rt: &impl Abort, alloc: Alloc<'a>, ample: Alloc<'a>) -> Result<bool, Fail> {
-    let setup = Setup::new(1, 1, 1, 1, TableName::Bits)?;
-    let Ok(mut world) = World::new(alloc, setup) else {
-        return Ok(false);
-    };
-    make(rt, &mut world, &take_seven());
-    report_is_served(&world, alloc, ample)
+fn world_is_served<'a>(rt: &impl Abort, alloc: Alloc<'a>, ample: Alloc<'a>) -> bool {
+    let setup = Setup::new(1, 1, 1, 1, TableName::Bits).expect(rt, "no setup");
+    match World::new(alloc, setup) {
+        Ok(mut world) => {
+            make(rt, &mut world, &take_seven());
+            report_is_served(rt, &world, alloc, ample)
+        }
+        Err(_) => false,
+    }
 }
 
 #[test]
 fn each_growth_of_a_world_and_its_report_refused(rt: HostRuntime) -> Result<(), Fail> {
-    let ample = Rations::new(rt.alloc(), Refuse::Never);
-    let refused = growths_refused(&rt, |alloc| world_is_served(&rt, alloc, &ample))?;
+    let ample = FaultyHeap::new(rt.alloc(), Refuse::Never);
+    let refused = growths_refused(&rt, |alloc| Ok(world_is_served(&rt, alloc, &ample)))?;
     // The four lists of the pool, the words of the claims, the seats and the notes; then the lane and its item, the diary
     // and its note, and the cells of the lane that is read.
     assert!(rt; 12 <= refused);

@@ -2,19 +2,18 @@
 
 use crate::compare::same;
 use std::alloc::Allocator;
-use std::test::Fail;
-use test_alloc::{Rations, Refuse};
+use test_alloc::{FaultyHeap, Refuse};
 
 /// How many requests there were, and how many blocks are out.
-fn counts<B: Allocator>(rations: &Rations<B>) -> (u64, u64) {
+fn counts<B: Allocator>(rations: &FaultyHeap<B>) -> (u64, u64) {
     (rations.asked(), rations.out())
 }
 
 #[test]
-fn each_request_is_granted(rt: HostRuntime) -> Result<(), Fail> {
-    let rations = Rations::new(rt.alloc(), Refuse::Never);
-    let one = Box::new(&rations, 7u64)?;
-    let two = Box::new(&rations, 8u8)?;
+fn each_request_is_granted(rt: HostRuntime) {
+    let rations = FaultyHeap::new(rt.alloc(), Refuse::Never);
+    let one = Box::new(&rations, 7u64).expect(&rt, "no box");
+    let two = Box::new(&rations, 8u8).expect(&rt, "no box");
     let both = counts(&rations);
     drop(one);
     let last = counts(&rations);
@@ -24,13 +23,12 @@ fn each_request_is_granted(rt: HostRuntime) -> Result<(), Fail> {
         &(both, last, counts(&rations)),
         &((2, 2), (2, 1), (2, 0)),
     );
-    Ok(())
 }
 
 #[test]
-fn all_from_one_on_are_refused(rt: HostRuntime) -> Result<(), Fail> {
-    let rations = Rations::new(rt.alloc(), Refuse::From(1));
-    let first = Box::new(&rations, 7u64)?;
+fn all_from_one_on_are_refused(rt: HostRuntime) {
+    let rations = FaultyHeap::new(rt.alloc(), Refuse::From(1));
+    let first = Box::new(&rations, 7u64).expect(&rt, "no box");
     let second = Box::new(&rations, 8u64).is_err();
     let third = Box::new(&rations, 9u64).is_err();
     let held = counts(&rations);
@@ -40,15 +38,14 @@ fn all_from_one_on_are_refused(rt: HostRuntime) -> Result<(), Fail> {
         &((second, third), held, counts(&rations)),
         &((true, true), (3, 1), (3, 0)),
     );
-    Ok(())
 }
 
 #[test]
-fn one_alone_is_refused(rt: HostRuntime) -> Result<(), Fail> {
-    let rations = Rations::new(rt.alloc(), Refuse::Only(1));
-    let first = Box::new(&rations, 7u64)?;
+fn one_alone_is_refused(rt: HostRuntime) {
+    let rations = FaultyHeap::new(rt.alloc(), Refuse::Only(1));
+    let first = Box::new(&rations, 7u64).expect(&rt, "no box");
     let second = Box::new(&rations, 8u64).is_err();
-    let third = Box::new(&rations, 9u64)?;
+    let third = Box::new(&rations, 9u64).expect(&rt, "no box");
     let held = counts(&rations);
     drop((first, third));
     same(
@@ -56,33 +53,30 @@ fn one_alone_is_refused(rt: HostRuntime) -> Result<(), Fail> {
         &(second, held, counts(&rations)),
         &(true, (3, 2), (3, 0)),
     );
-    Ok(())
 }
 
 // The allocator below refuses what this one would grant.
 #[test]
-fn what_is_refused_below_is_not_out(rt: HostRuntime) -> Result<(), Fail> {
-    let below = Rations::new(rt.alloc(), Refuse::From(0));
-    let rations = Rations::new(&below, Refuse::Never);
+fn what_is_refused_below_is_not_out(rt: HostRuntime) {
+    let below = FaultyHeap::new(rt.alloc(), Refuse::From(0));
+    let rations = FaultyHeap::new(&below, Refuse::Never);
     let refused = Box::new(&rations, 7u64).is_err();
     same(
         &rt,
         &(refused, counts(&rations), counts(&below)),
         &(true, (1, 0), (1, 0)),
     );
-    Ok(())
 }
 
-// The list asks for more room as it grows: what it had comes back.
+// The list asks for more room as it grows, and gives back what it had.
 #[test]
-fn lists_grow(rt: HostRuntime) -> Result<(), Fail> {
-    let rations = Rations::new(rt.alloc(), Refuse::Never);
+fn lists_grow(rt: HostRuntime) {
+    let rations = FaultyHeap::new(rt.alloc(), Refuse::Never);
     let mut list = Vec::new(&rations);
     for x in 0..100u64 {
-        list.push(x)?;
+        list.push(x).expect(&rt, "no list");
     }
     let (asked, held) = counts(&rations);
     drop(list);
     same(&rt, &(1 < asked, held, rations.out()), &(true, 1, 0));
-    Ok(())
 }

@@ -1,16 +1,15 @@
-//! What `tells` finds in a report.
+//! What `check_report` finds in a report.
 
 use crate::answers::make;
 use crate::compare::same;
 use crate::events::take_seven;
-use crate::worlds::one_pair;
+use crate::worlds::{one_pair, reported};
 use mb_world::{Note, Report};
 use std::alloc::Global;
 use std::process::Abort;
-use std::test::Fail;
-use test_support::{DiaryTold, Difference, LaneTold, tells};
+use test_support::{DiaryTold, Difference, LaneTold, check_report};
 
-/// What is told is so, or this is the first difference.
+/// The report is as expected, or this is the first difference.
 fn is_found(
     rt: &impl Abort,
     report: &Report<Global>,
@@ -18,11 +17,12 @@ fn is_found(
     diary: DiaryTold<'_>,
     found: Result<(), Difference>,
 ) {
-    same(rt, &tells(report, &[lane], &[diary]), &found);
+    same(rt, &check_report(report, &[lane], &[diary]), &found);
 }
 
 /// Each difference from a report that tells of one item, which the only consumer took.
-fn are_found(rt: &impl Abort, report: &Report<Global>) {
+fn are_found(rt: &impl Abort, report: Report<Global>) {
+    let report = &report;
     let lane: LaneTold<'_> = (&[7], false, &[]);
     let took: &[Note] = &[Note::Took(7)];
     let diary: DiaryTold<'_> = (0, 0, took, false);
@@ -39,15 +39,17 @@ fn are_found(rt: &impl Abort, report: &Report<Global>) {
     for (lane, diary, difference) in others {
         is_found(rt, report, lane, diary, Err(difference));
     }
-    same(rt, &tells(report, &[], &[]), &Err(Difference::Lanes));
-    same(rt, &tells(report, &[lane], &[]), &Err(Difference::Diaries));
+    same(rt, &check_report(report, &[], &[]), &Err(Difference::Lanes));
+    same(
+        rt,
+        &check_report(report, &[lane], &[]),
+        &Err(Difference::Diaries),
+    );
 }
 
 #[test]
-fn each_difference_is_found(rt: HostRuntime) -> Result<(), Fail> {
-    let mut world = one_pair(&rt, 1, 1, 1)?;
+fn each_difference_is_found(rt: HostRuntime) {
+    let mut world = one_pair(&rt, 1, 1, 1);
     make(&rt, &mut world, &take_seven());
-    let report = world.report(rt.alloc())?;
-    are_found(&rt, &report);
-    Ok(())
+    are_found(&rt, reported(&rt, world));
 }

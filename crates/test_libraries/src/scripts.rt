@@ -1,25 +1,22 @@
-//! Replay scripts: what is read, and the first fault of what is not.
+//! Replay scripts: what is read, and the first fault if a script is refused.
 
 use crate::compare::{same, same_at};
 use crate::shapes::{BOTH, FAST, LAST};
 use mb_claim::Shape;
 use mb_quorum::TableName;
 use mb_script::{
-    Fault, Script, Words, has_empty_word, number, numbers, parse, shape_of_word, split_line,
+    Fault, LineWords, Script, has_empty_word, number, numbers, parse, shape_of_word, split_line,
     split_word, table_named,
 };
 use mb_world::{Event, SetupFault};
-use std::alloc::{Allocator, Global};
+use std::alloc::{AllocError, Allocator, Global};
 use std::process::Abort;
 use std::test::Fail;
 use test_alloc::growths_refused;
 
 /// The script of a text.
-fn script(alloc: Global, text: &str) -> Result<Script<Global>, Fail> {
-    match parse(alloc, text.as_bytes()) {
-        Ok(script) => Ok(script),
-        Err(_) => Err(Fail::from("a script that is refused")),
-    }
+fn script<R: Abort + AllocGlobal>(rt: &R, text: &str) -> Script<Global> {
+    parse(rt.alloc(), text.as_bytes()).expect(rt, "a script that is refused")
 }
 
 /// How many events the script of a text has, or its fault.
@@ -29,9 +26,9 @@ fn events<A: Allocator + Clone + Drop>(alloc: A, text: &str) -> Result<usize, Fa
 }
 
 #[test]
-fn a_script_is_read(rt: HostRuntime) -> Result<(), Fail> {
+fn a_script_is_read(rt: HostRuntime) {
     let text = "setup 2 3 4 5 unary\noffer 1 18446744073709551615\npush 1\nfinish 0\nstep 2 1 7";
-    let script = script(rt.alloc(), text)?;
+    let script = script(&rt, text);
     let setup = &script.setup;
     let sizes = (setup.producers(), setup.consumers(), setup.cells());
     // Three consumers: a conciliator has at most 6 accesses, a ratifier 1 + 2 + 2.
@@ -50,19 +47,18 @@ fn a_script_is_read(rt: HostRuntime) -> Result<(), Fail> {
         },
     ];
     assert!(rt; script.events.as_slice() == events.as_slice());
-    Ok(())
 }
 
 // Two consumers and one pair: a claim has at most 9 accesses, 8 more with a fast path and 1 more with a last object.
 #[test]
-fn the_last_word_is_a_shape(rt: HostRuntime) -> Result<(), Fail> {
+fn the_last_word_is_a_shape(rt: HostRuntime) {
     for (text, shape, most) in [
         ("setup 1 2 1 1 bits", Shape::PLAIN, 9),
         ("setup 1 2 1 1 bits fast", FAST, 17),
         ("setup 1 2 1 1 bits last", LAST, 10),
         ("setup 1 2 1 1 bits fastlast", BOTH, 18),
     ] {
-        let layout = script(rt.alloc(), text)?.setup.layout();
+        let layout = script(&rt, text).setup.layout();
         same_at(
             &rt,
             &(layout.shape(), layout.max_steps()),
@@ -70,7 +66,6 @@ fn the_last_word_is_a_shape(rt: HostRuntime) -> Result<(), Fail> {
             &text,
         );
     }
-    Ok(())
 }
 
 #[test]
@@ -188,7 +183,7 @@ fn the_first_fault_decides(rt: HostRuntime) {
 }
 
 /// A text of so many letters.
-fn letters(alloc: Global, amount: usize) -> Result<String, Fail> {
+fn letters(alloc: Global, amount: usize) -> Result<String, AllocError> {
     let mut text = String::new(alloc);
     for _ in 0..amount {
         text.push_str("a")?;
@@ -197,16 +192,15 @@ fn letters(alloc: Global, amount: usize) -> Result<String, Fail> {
 }
 
 #[test]
-fn texts_have_a_limit(rt: HostRuntime) -> Result<(), Fail> {
-    let text = letters(rt.alloc(), 1_048_576)?;
-    same(&rt, &events(rt.alloc(), &text), &Err(Fault::NoSetup));
-    let text = letters(rt.alloc(), 1_048_577)?;
-    same(&rt, &events(rt.alloc(), &text), &Err(Fault::TooLong));
-    Ok(())
+fn texts_have_a_limit(rt: HostRuntime) {
+    for (amount, want) in [(1_048_576, Fault::NoSetup), (1_048_577, Fault::TooLong)] {
+        let text = letters(rt.alloc(), amount).expect(&rt, "no text");
+        same_at(&rt, &events(rt.alloc(), &text), &Err(want), &amount);
+    }
 }
 
 /// A text that begins so, then has 20,000 lines of a push, and ends so.
-fn with_pushes(alloc: Global, start: &str, end: &str) -> Result<String, Fail> {
+fn with_pushes(alloc: Global, start: &str, end: &str) -> Result<String, AllocError> {
     let mut text = start.to_string(alloc)?;
     for _ in 0..20_000 {
         text.push_str("push 0\n")?;
@@ -216,7 +210,7 @@ fn with_pushes(alloc: Global, start: &str, end: &str) -> Result<String, Fail> {
 }
 
 #[test]
-fn events_have_a_limit(rt: HostRuntime) -> Result<(), Fail> {
+fn events_have_a_limit(rt: HostRuntime) {
     for (first, last, want) in [
         ("setup 1 1 1 1 bits\n", "", Ok(20_000)),
         ("setup 1 1 1 1 bits\n", "x\n", Err(Fault::TooManyEvents)),
@@ -226,13 +220,13 @@ fn events_have_a_limit(rt: HostRuntime) -> Result<(), Fail> {
             Err(Fault::BadLine(3)),
         ),
     ] {
-        let text = with_pushes(rt.alloc(), first, last)?;
+        let text = with_pushes(rt.alloc(), first, last).expect(&rt, "no text");
         same(&rt, &events(rt.alloc(), &text), &want);
     }
-    Ok(())
 }
 
-/// Each growth is refused that the reading of a text makes, which then has so many events or this fault. How many these are.
+/// Refuses in turn each allocation of the reading of a text. With memory the text has this number of events, or this
+/// fault. Returns how many allocations there are.
 fn growths_of_reading<R: Abort + AllocGlobal>(
     rt: &R,
     text: &str,
@@ -283,7 +277,7 @@ fn lines_are_cut_off(rt: HostRuntime) {
     }
 }
 
-/// Whether the words that are cut off a line are these, and no more.
+/// Whether exactly these words are cut off a line.
 fn has_words(line: &str, want: &[&str]) -> bool {
     let mut rest = Some(line);
     for word in want {
@@ -299,9 +293,9 @@ fn has_words(line: &str, want: &[&str]) -> bool {
     rest.is_none()
 }
 
-/// Whether the few words of a line are these, where none of them is empty, and else none.
+/// Whether the few words of a line are these, if none of them is empty, and else none.
 fn has_few_words(line: &str, want: &[&str], empty: bool) -> bool {
-    match Words::of_line(line) {
+    match LineWords::of_line(line) {
         Some(few) => !empty && few.as_slice() == want,
         None => empty,
     }
@@ -327,7 +321,7 @@ fn words_are_cut_off(rt: HostRuntime) {
         );
         same_at(&rt, &told, &(true, empty, true), &line);
     }
-    assert!(rt; Words::of_line("1 2 3 4 5 6 7 8 9").is_none());
+    assert!(rt; LineWords::of_line("1 2 3 4 5 6 7 8 9").is_none());
 }
 
 #[test]
@@ -351,13 +345,17 @@ fn numbers_are_decimal(rt: HostRuntime) {
 }
 
 /// Whether the numbers of these words are these.
-fn has_numbers(alloc: Global, words: Option<&str>, want: Option<&[u64]>) -> Result<bool, Fail> {
-    let read = numbers(alloc, words)?;
-    Ok(read.as_ref().map(|list| list.as_slice()) == want)
+fn has_numbers<R: Abort + AllocGlobal>(rt: &R, words: Option<&str>, want: Option<&[u64]>) -> bool {
+    let read = numbers(rt.alloc(), words).expect(rt, "no list");
+    match (&read, want) {
+        (Some(list), Some(want)) => list.as_slice() == want,
+        (None, None) => true,
+        _ => false,
+    }
 }
 
 #[test]
-fn lists_of_numbers_are_read(rt: HostRuntime) -> Result<(), Fail> {
+fn lists_of_numbers_are_read(rt: HostRuntime) {
     for (words, want) in [
         (None, Some([].as_slice())),
         (Some("0"), Some([0].as_slice())),
@@ -365,9 +363,8 @@ fn lists_of_numbers_are_read(rt: HostRuntime) -> Result<(), Fail> {
         (Some("3 x 0"), None),
         (Some("3 "), None),
     ] {
-        assert!(rt; has_numbers(rt.alloc(), words, want)?);
+        assert!(rt; has_numbers(&rt, words, want));
     }
-    Ok(())
 }
 
 #[test]

@@ -25,7 +25,6 @@ pub(crate) const BOTH: Shape = Shape {
     last: true,
 };
 
-/// All shapes.
 pub(crate) const SHAPES: [Shape; 4] = [Shape::PLAIN, FAST, LAST, BOTH];
 
 /// Consumer 0 wins, and consumer 1 loses to it.
@@ -44,7 +43,7 @@ fn exchanged(consumer: u32, object: u32, value: u64, found: u64) -> ClaimEntry {
     }
 }
 
-/// So many steps of two consumers in turns, with the random word 0.
+/// Fills the list with steps of two consumers in turns, with the random word 0.
 fn in_turns(steps: &mut [(u64, u64)]) {
     for place in 0..steps.len() {
         steps[place] = (place as u64 % 2, 0);
@@ -75,7 +74,7 @@ fn words_of_both_and_three_pairs(rt: HostRuntime) -> Result<(), Fail> {
 fn words_and_most_accesses_of_each_shape(rt: HostRuntime) -> Result<(), Fail> {
     let mut layout = Layout::new(2, 1, TableName::Bits)?;
     same(&rt, &layout.shape(), &Shape::PLAIN);
-    // Each is made of the one before, whose shape makes no difference.
+    // Each is made from the one before, whose shape makes no difference.
     for (shape, words, most) in [
         (BOTH, 11, 18),
         (FAST, 10, 17),

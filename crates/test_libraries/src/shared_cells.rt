@@ -12,6 +12,38 @@ use std::test::Fail;
 use std::thread::{Threads, join};
 use test_alloc::growths_refused;
 
+/// A table of so many lanes and cells, with its hub.
+fn new_table<A: Allocator + Clone + Drop>(
+    rt: &impl Abort,
+    alloc: A,
+    lanes: u32,
+    cells: u32,
+) -> (SharedCells<A>, CellHub)
+    ensures hub { result.1.table ≡ result.0 }
+    ensures size { result.0.size.lanes ≡ lanes }
+{
+    match SharedCells::new(alloc, lanes, cells) {
+        Ok(made) => made,
+        Err(_) => panic!(rt; "no table"),
+    }
+}
+
+/// The next lane of a table.
+fn new_lane<A: Allocator + Drop>(
+    rt: &impl Abort,
+    table: &SharedCells<A>,
+    hub: &mut CellHub,
+) -> LaneSeat
+    requires { hub.old.table ≡ table.now }
+    ensures lane { result.table ≡ table.now }
+    ensures hub { hub.new.table ≡ table.now }
+{
+    match table.enroll_lane(hub) {
+        Ok(lane) => lane,
+        Err(_) => panic!(rt; "no lane"),
+    }
+}
+
 /// The item of an only lane is linked, and before that nothing is found.
 fn link_one_item<A: Allocator + Drop>(
     rt: &impl Abort,
@@ -53,14 +85,16 @@ fn put_one_item<A: Allocator + Drop>(
     table: &SharedCells<A>,
     lane: &mut LaneSeat,
     reader: &mut ReaderSeat,
-) -> Result<(), Fail>
+)
     requires lane { lane.old.table ≡ table.now }
     requires reader { reader.old.table ≡ table.now }
     requires some { 0 < table.now.size.lanes }
+    ensures lane { lane.new.table ≡ table.now }
+    ensures reader { reader.new.table ≡ table.now }
 {
     link_one_item(rt, table, lane, reader);
     let Look::Cell(k) = table.look(reader, Cursor::head(0)) else {
-        return Err(Fail::new("no cell"));
+        panic!(rt; "no cell")
     };
     let told = (
         k,
@@ -69,38 +103,35 @@ fn put_one_item<A: Allocator + Drop>(
         table.look(reader, Cursor::past(k)),
     );
     same(rt, &told, &(0, 8, Finish::Ended, Look::Ended));
-    Ok(())
 }
 
-/// The only lane's number is given once, and with a reader beside it one item is put and read.
-fn enroll_and_put<A: Allocator + Drop>(
-    rt: &impl Abort,
-    table: &SharedCells<A>,
-    hub: &mut CellHub,
-) -> Result<(), Fail>
+/// The only lane's number is given once, and with a reader beside it one item is put and read. Both are taken in.
+fn enroll_and_put<A: Allocator + Drop>(rt: &impl Abort, table: &SharedCells<A>, hub: &mut CellHub)
     requires hub { hub.old.table ≡ table.now }
     requires some { 0 < table.now.size.lanes }
+    ensures { hub.new.table ≡ table.now }
 {
-    let Ok(mut lane) = table.enroll_lane(hub) else {
-        return Err(Fail::new("no lane"));
-    };
+    let mut lane = new_lane(rt, table, hub);
     same(rt, &table.enroll_lane(hub).err(), &Some(AllGiven));
     let mut reader = table.enroll_reader(hub);
-    put_one_item(rt, table, &mut lane, &mut reader)?;
-    Ok(())
+    put_one_item(rt, table, &mut lane, &mut reader);
+    table.take_lane(hub, lane);
+    table.take_reader(hub, reader);
 }
 
 #[test]
-fn one_lane_and_one_cell(rt: HostRuntime) -> Result<(), Fail> {
-    let (table, mut hub) = SharedCells::new(rt.alloc(), 1, 1)?;
-    enroll_and_put(&rt, &table, &mut hub)
+fn one_lane_and_one_cell(rt: HostRuntime) {
+    let (table, mut hub) = new_table(&rt, rt.alloc(), 1, 1);
+    enroll_and_put(&rt, &table, &mut hub);
+    table.close(hub);
 }
 
 #[test]
 fn each_growth_of_new_refused(rt: HostRuntime) -> Result<(), Fail> {
     let refused = growths_refused(&rt, |alloc| match SharedCells::new(alloc, 1, 1) {
         Ok((table, mut hub)) => {
-            enroll_and_put(&rt, &table, &mut hub)?;
+            enroll_and_put(&rt, &table, &mut hub);
+            table.close(hub);
             Ok(true)
         }
         Err(_) => Ok(false),
@@ -117,7 +148,7 @@ fn put<A: Allocator + Drop>(
     lane: &mut LaneSeat,
     x: u64,
     cell: u32,
-) -> Result<(), Fail>
+)
     requires { lane.old.table ≡ table.now }
     ensures { lane.new.table ≡ table.now }
 {
@@ -127,26 +158,25 @@ fn put<A: Allocator + Drop>(
         &told,
         &(Offer::Cell(cell), Push::Item(cell), Push::Link(cell)),
     );
-    Ok(())
 }
 
-/// Reads two items of a lane, and nothing behind them.
+/// Reads two items of a lane, and finds nothing after them.
 fn read_two<A: Allocator + Drop>(
     rt: &impl Abort,
     table: &SharedCells<A>,
     reader: &mut ReaderSeat,
     lane: u32,
     items: (u64, u64),
-) -> Result<(), Fail>
+)
     requires table { reader.old.table ≡ table.now }
     requires lane { lane < table.now.size.lanes }
     ensures { reader.new.table ≡ table.now }
 {
     let Look::Cell(first) = table.look(reader, Cursor::head(lane)) else {
-        return Err(Fail::new("no first cell"));
+        panic!(rt; "no first cell")
     };
     let Look::Cell(second) = table.look(reader, Cursor::past(first)) else {
-        return Err(Fail::new("no second cell"));
+        panic!(rt; "no second cell")
     };
     let told = (
         table.item(reader, first),
@@ -154,52 +184,49 @@ fn read_two<A: Allocator + Drop>(
         table.look(reader, Cursor::past(second)),
     );
     same(rt, &told, &(items.0, items.1, Look::Nothing));
-    Ok(())
 }
 
 #[test]
-fn two_lanes_draw_from_one_table(rt: HostRuntime) -> Result<(), Fail> {
-    let (table, mut hub) = SharedCells::new(rt.alloc(), 2, 4)?;
-    let (Ok(mut one), Ok(mut other)) = (table.enroll_lane(&mut hub), table.enroll_lane(&mut hub))
-    else {
-        return Err(Fail::new("no lane"));
-    };
+fn two_lanes_draw_from_one_table(rt: HostRuntime) {
+    let (table, mut hub) = new_table(&rt, rt.alloc(), 2, 4);
+    let mut one = new_lane(&rt, &table, &mut hub);
+    let mut other = new_lane(&rt, &table, &mut hub);
     same(&rt, &other.lane(), &1);
-    put(&rt, &table, &mut one, 10, 0)?;
-    put(&rt, &table, &mut other, 20, 1)?;
-    put(&rt, &table, &mut one, 11, 2)?;
-    put(&rt, &table, &mut other, 21, 3)?;
+    put(&rt, &table, &mut one, 10, 0);
+    put(&rt, &table, &mut other, 20, 1);
+    put(&rt, &table, &mut one, 11, 2);
+    put(&rt, &table, &mut other, 21, 3);
     let mut reader = table.enroll_reader(&mut hub);
-    read_two(&rt, &table, &mut reader, 0, (10, 11))?;
-    read_two(&rt, &table, &mut reader, 1, (20, 21))
+    read_two(&rt, &table, &mut reader, 0, (10, 11));
+    read_two(&rt, &table, &mut reader, 1, (20, 21));
+    table.take_lane(&mut hub, one);
+    table.take_lane(&mut hub, other);
+    table.take_reader(&mut hub, reader);
+    table.close(hub);
 }
 
 #[test]
-fn an_offered_item_is_not_put(rt: HostRuntime) -> Result<(), Fail> {
-    let (table, mut hub) = SharedCells::new(rt.alloc(), 1, 2)?;
-    let Ok(mut lane) = table.enroll_lane(&mut hub) else {
-        return Err(Fail::new("no lane"));
-    };
-    put(&rt, &table, &mut lane, 5, 0)?;
-    same(&rt, &table.offer(&mut lane, 6), &Offer::Cell(1));
-    same(&rt, &table.push(&mut lane), &Push::Item(1));
+fn an_offered_item_is_not_put(rt: HostRuntime) {
+    let (table, mut hub) = new_table(&rt, rt.alloc(), 1, 2);
+    let mut lane = new_lane(&rt, &table, &mut hub);
+    put(&rt, &table, &mut lane, 5, 0);
+    let told = (table.offer(&mut lane, 6), table.push(&mut lane));
+    same(&rt, &told, &(Offer::Cell(1), Push::Item(1)));
     table.take_lane(&mut hub, lane);
     let mut reader = table.enroll_reader(&mut hub);
     let Look::Cell(k) = table.look(&mut reader, Cursor::head(0)) else {
-        return Err(Fail::new("no cell"));
+        panic!(rt; "no cell")
     };
-    same(&rt, &table.item(&mut reader, k), &5);
-    same(
-        &rt,
-        &table.look(&mut reader, Cursor::past(k)),
-        &Look::Nothing,
+    let told = (
+        table.item(&mut reader, k),
+        table.look(&mut reader, Cursor::past(k)),
     );
+    same(&rt, &told, &(5, Look::Nothing));
     table.take_reader(&mut hub, reader);
     table.close(hub);
-    Ok(())
 }
 
-/// Puts a hundred items, from `first` on, and ends the lane. Answers how many were put.
+/// Puts a hundred items, from `first` on, and ends the lane. Returns how many were put.
 fn put_hundred<A: Allocator + Drop>(
     table: &SharedCells<A>,
     mut seat: LaneSeat,
@@ -229,13 +256,13 @@ fn put_hundred<A: Allocator + Drop>(
 #[derive(Clone, Copy)]
 struct Bookmark {
     cursor: Cursor,
-    /// The item that comes next, where the lane's items are numbers in their order.
+    /// The item that comes next. The lane's items are numbers in their order.
     next: u64,
     ended: bool,
     wrong: bool,
 }
 
-/// Reads a lane on, with at most so many looks.
+/// Reads a lane on from the bookmark, with at most `looks` looks.
 fn read_on<A: Allocator + Drop>(
     table: &SharedCells<A>,
     seat: &mut ReaderSeat,
@@ -285,14 +312,10 @@ fn unread(lane: u32, first: u64) -> Bookmark
 }
 
 /// Two threads put a hundred items each and end their lanes. A reader then reads both lanes.
-fn put_and_then_read<R: Threads + Sync, A: Allocator + Clone + Drop + Send + Sync>(
-    rt: &R,
-    alloc: A,
-) -> Result<bool, Fail> {
-    let (table, mut hub) = SharedCells::new(alloc, 2, 200)?;
-    let (Ok(one), Ok(other)) = (table.enroll_lane(&mut hub), table.enroll_lane(&mut hub)) else {
-        return Err(Fail::new("no lane"));
-    };
+fn put_and_then_read<R: Abort + AllocGlobal + Threads + Sync>(rt: &R) {
+    let (table, mut hub) = new_table(rt, rt.alloc(), 2, 200);
+    let one = new_lane(rt, &table, &mut hub);
+    let other = new_lane(rt, &table, &mut hub);
     let ((one, first), (other, second)) = join(
         rt,
         || -> (LaneSeat, u64)
@@ -311,27 +334,26 @@ fn put_and_then_read<R: Threads + Sync, A: Allocator + Clone + Drop + Send + Syn
     let other = read_on(&table, &mut reader, unread(1, 2000), 101);
     table.take_reader(&mut hub, reader);
     table.close(hub);
-    Ok(first == 100 && second == 100 && are_whole(one, other))
+    same(
+        rt,
+        &(first, second, are_whole(one, other)),
+        &(100, 100, true),
+    );
 }
 
 #[test]
-fn two_threads_put_a_hundred_each(rt: HostRuntime) -> Result<(), Fail> {
-    assert!(rt; put_and_then_read(&rt, rt.alloc())?);
-    Ok(())
+fn two_threads_put_a_hundred_each(rt: HostRuntime) {
+    put_and_then_read(&rt);
 }
 
-/// How often a reader looks at a lane while its producer runs. What it has not met then it reads afterwards.
+/// How often a reader looks at a lane while its producer runs. It reads the rest afterwards.
 const LOOKS: u64 = 1_000_000;
 
 /// The same, with a reader of each lane running beside.
-fn put_and_read_beside<R: Threads + Sync, A: Allocator + Clone + Drop + Send + Sync>(
-    rt: &R,
-    alloc: A,
-) -> Result<bool, Fail> {
-    let (table, mut hub) = SharedCells::new(alloc, 2, 200)?;
-    let (Ok(one), Ok(other)) = (table.enroll_lane(&mut hub), table.enroll_lane(&mut hub)) else {
-        return Err(Fail::new("no lane"));
-    };
+fn put_and_read_beside<R: Abort + AllocGlobal + Threads + Sync>(rt: &R) -> bool {
+    let (table, mut hub) = new_table(rt, rt.alloc(), 2, 200);
+    let one = new_lane(rt, &table, &mut hub);
+    let other = new_lane(rt, &table, &mut hub);
     let first = table.enroll_reader(&mut hub);
     let second = table.enroll_reader(&mut hub);
     let ((one, first, of_one), (other, second, of_other)) = join(
@@ -361,7 +383,7 @@ fn put_and_read_beside<R: Threads + Sync, A: Allocator + Clone + Drop + Send + S
     table.take_reader(&mut hub, first);
     table.take_reader(&mut hub, second);
     table.close(hub);
-    Ok(are_whole(of_one, of_other))
+    are_whole(of_one, of_other)
 }
 
 /// One thread puts a hundred items, from the bookmark's on, while another reads them.
@@ -413,7 +435,6 @@ fn read_from<A: Allocator + Drop>(
 }
 
 #[test]
-fn two_readers_run_beside(rt: HostRuntime) -> Result<(), Fail> {
-    assert!(rt; put_and_read_beside(&rt, rt.alloc())?);
-    Ok(())
+fn two_readers_run_beside(rt: HostRuntime) {
+    assert!(rt; put_and_read_beside(&rt));
 }

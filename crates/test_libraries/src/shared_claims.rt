@@ -1,5 +1,5 @@
 //! Claims on words that threads share: the worked examples, and threads that step their claims at one time.
-ghost use Rattle.std.specs.Prelude.{◌≡◌, ◌≢◌, ◌<◌, ◌≤◌, ℕ, [], All, IfOk};
+ghost use Rattle.std.specs.Prelude.{◌≡◌, ◌≢◌, ◌<◌, ◌≤◌, ℕ, [], All};
 ghost use Rattle.mb_claim.specs.declared.access.Stage.TheVariants.{Going};
 ghost use Rattle.mb_claim.specs.Vocabulary.{IsClaimIn, claim_stage, consumer_of, part_on};
 ghost use Rattle.mb_shared_claims.specs.Vocabulary.{name_of};
@@ -24,7 +24,7 @@ const CELLS: u32 = 100;
 /// How often 16 threads claim a cell.
 const ROUNDS: u32 = 200;
 
-/// Makes so many steps of a claim, or fewer where it ends before, with the random word 0. The answer is how many.
+/// Makes `most` steps of a claim with the random word 0, or fewer if it ends before. Returns how many.
 fn step_on<A: Allocator + Drop>(
     table: &SharedClaims<A>,
     seat: &mut ClaimSeat,
@@ -57,7 +57,7 @@ fn step_on<A: Allocator + Drop>(
     made
 }
 
-/// A claim of a seat on a cell that its consumer has not claimed, to its end or a thousand steps.
+/// Makes a claim of a seat on a cell that its consumer has not claimed, to its end or for a thousand steps.
 fn claim_to_its_end<A: Allocator + Drop>(
     table: &SharedClaims<A>,
     seat: &mut ClaimSeat,
@@ -76,7 +76,7 @@ fn claim_to_its_end<A: Allocator + Drop>(
     claim.stage()
 }
 
-/// Claims of a seat that has made no access on each of `CELLS` cells, one after the other.
+/// Makes claims of a seat that has made no access, on each of `CELLS` cells, one after the other.
 fn claim_each<A: Allocator + Drop>(
     table: &SharedClaims<A>,
     mut seat: ClaimSeat,
@@ -94,15 +94,26 @@ fn claim_each<A: Allocator + Drop>(
 }
 
 /// Two threads claim each of `CELLS` cells of this shape, and this is how it ended for each.
-fn claimed_by_two<R: Threads + Sync, A: Allocator + Clone + Drop + Send + Sync>(
+fn claimed_by_two<R: Abort + AllocGlobal + Threads + Sync>(
     rt: &R,
-    alloc: A,
     shape: Shape,
-) -> Result<([Stage; CELLS as usize], [Stage; CELLS as usize]), Fail> {
-    let layout = Layout::new(2, 1, TableName::Bits)?.shaped(shape);
-    let (table, mut hub) = SharedClaims::new(alloc, layout, CELLS)?;
-    let first = table.enroll(&mut hub)?;
-    let second = table.enroll(&mut hub)?;
+) -> ([Stage; CELLS as usize], [Stage; CELLS as usize]) {
+    let layout = match Layout::new(2, 1, TableName::Bits) {
+        Ok(layout) => layout,
+        Err(_) => panic!(rt; "no layout"),
+    };
+    let (table, mut hub) = match SharedClaims::new(rt.alloc(), layout.shaped(shape), CELLS) {
+        Ok(made) => made,
+        Err(_) => panic!(rt; "no table"),
+    };
+    let first = match table.enroll(&mut hub) {
+        Ok(first) => first,
+        Err(_) => panic!(rt; "no first seat"),
+    };
+    let second = match table.enroll(&mut hub) {
+        Ok(second) => second,
+        Err(_) => panic!(rt; "no second seat"),
+    };
     let (front, back) = join(
         rt,
         || -> (ClaimSeat, [Stage; CELLS as usize])
@@ -119,43 +130,50 @@ fn claimed_by_two<R: Threads + Sync, A: Allocator + Clone + Drop + Send + Sync>(
     table.take_in(&mut hub, first);
     table.take_in(&mut hub, second);
     table.close(hub);
-    Ok((mine, theirs))
+    (mine, theirs)
 }
 
 /// The seats of all numbers that are left.
 fn all_seats<A: Allocator + Drop, B: Allocator + Drop>(
+    rt: &impl Abort,
     table: &SharedClaims<A>,
     hub: &mut ClaimHub,
     alloc: B,
-) -> Result<Vec<ClaimSeat, B>, Fail>
+) -> Vec<ClaimSeat, B>
     requires { hub.old.table ≡ name_of table.now }
-    ensures { IfOk result (λ seats.
-        All (λ seat. (seat.table ≡ name_of table.now) × (seat.part ≡ []))
-        seats.items) }
+    ensures { All (λ seat. (seat.table ≡ name_of table.now) × (seat.part ≡ [])) result.items }
 {
     let mut seats = Vec::new(alloc);
     for _ in 0..table.layout().consumers() {
-        seats.push(table.enroll(hub)?)?;
+        let seat = match table.enroll(hub) {
+            Ok(seat) => seat,
+            Err(_) => panic!(rt; "no seat"),
+        };
+        let Ok(()) = seats.push(seat) else {
+            panic!(rt; "no list")
+        };
     }
-    Ok(seats)
+    seats
 }
 
 /// 16 threads claim one cell of this shape, and this is how it ended for each.
-fn claimed_by_sixteen<R: Threads + Sync, A: Allocator + Clone + Drop + Send + Sync>(
-    rt: &R,
-    alloc: A,
-    shape: Shape,
-) -> Result<Vec<Stage, A>, Fail> {
-    let layout = Layout::new(16, 1, TableName::Bits)?.shaped(shape);
-    let (table, mut hub) = SharedClaims::new(alloc.clone()?, layout, 1)?;
-    let seats = all_seats(&table, &mut hub, alloc)?;
+fn claimed_by_sixteen<R: Abort + AllocGlobal + Threads + Sync>(rt: &R, shape: Shape) -> Vec<Stage> {
+    let layout = match Layout::new(16, 1, TableName::Bits) {
+        Ok(layout) => layout,
+        Err(_) => panic!(rt; "no layout"),
+    };
+    let (table, mut hub) = match SharedClaims::new(rt.alloc(), layout.shaped(shape), 1) {
+        Ok(made) => made,
+        Err(_) => panic!(rt; "no table"),
+    };
+    let seats = all_seats(rt, &table, &mut hub, rt.alloc());
     let claim = |seat: ClaimSeat| -> Stage
         requires { (seat.table ≡ name_of table) × (table.cells ≡ 1) × (seat.part ≡ []) }
     {
         let mut seat = seat;
         claim_to_its_end(&table, &mut seat, 0)
     };
-    Ok(map_vec(rt, seats, &claim)?)
+    map_vec(rt, seats, &claim).expect(rt, "no list")
 }
 
 /// The first claim on cell 0 wins in seven steps, and the second loses to it in four.
@@ -180,13 +198,23 @@ fn win_and_lose<A: Allocator + Drop>(
 
 /// Whether the allocator serves a table of one cell for two consumers. Then both numbers are given, the first consumer wins
 /// the cell and the second loses it.
-fn one_wins<A: Allocator + Clone + Drop>(rt: &impl Abort, alloc: A) -> Result<bool, Fail> {
-    let layout = Layout::new(2, 1, TableName::Bits)?;
-    let Ok((table, mut hub)) = SharedClaims::new(alloc, layout, 1) else {
-        return Ok(false);
+fn one_wins<A: Allocator + Clone + Drop>(rt: &impl Abort, alloc: A) -> bool {
+    let layout = match Layout::new(2, 1, TableName::Bits) {
+        Ok(layout) => layout,
+        Err(_) => panic!(rt; "no layout"),
     };
-    let mut a = table.enroll(&mut hub)?;
-    let mut b = table.enroll(&mut hub)?;
+    let (table, mut hub) = match SharedClaims::new(alloc, layout, 1) {
+        Ok(made) => made,
+        Err(_) => return false,
+    };
+    let mut a = match table.enroll(&mut hub) {
+        Ok(a) => a,
+        Err(_) => panic!(rt; "no first seat"),
+    };
+    let mut b = match table.enroll(&mut hub) {
+        Ok(b) => b,
+        Err(_) => panic!(rt; "no second seat"),
+    };
     let is_refused = matches!(table.enroll(&mut hub), Err(AllGiven));
     let numbers = (a.consumer(), b.consumer());
     same(
@@ -199,16 +227,15 @@ fn one_wins<A: Allocator + Clone + Drop>(rt: &impl Abort, alloc: A) -> Result<bo
     table.take_in(&mut hub, a);
     same(rt, &(hub.given(), hub.out()), &(2, 0));
     table.close(hub);
-    Ok(true)
+    true
 }
 
 #[test]
-fn numbers_and_ends(rt: HostRuntime) -> Result<(), Fail> {
-    assert!(rt; one_wins(&rt, rt.alloc())?);
-    Ok(())
+fn numbers_and_ends(rt: HostRuntime) {
+    assert!(rt; one_wins(&rt, rt.alloc()));
 }
 
-/// After so many steps of a claim on cell 0 it goes on, and announces consumer 0 in the ratifier next.
+/// After `steps` steps a claim on cell 0 is going, and announces consumer 0 in the ratifier next.
 fn comes_to_announce<A: Allocator + Drop>(
     rt: &impl Abort,
     table: &SharedClaims<A>,
@@ -231,11 +258,23 @@ fn comes_to_announce<A: Allocator + Drop>(
 }
 
 #[test]
-fn another_goes_on_where_one_stopped(rt: HostRuntime) -> Result<(), Fail> {
-    let layout = Layout::new(2, 1, TableName::Bits)?;
-    let (table, mut hub) = SharedClaims::new(rt.alloc(), layout, 1)?;
-    let mut a = table.enroll(&mut hub)?;
-    let mut b = table.enroll(&mut hub)?;
+fn another_goes_on_where_one_stopped(rt: HostRuntime) {
+    let layout = match Layout::new(2, 1, TableName::Bits) {
+        Ok(layout) => layout,
+        Err(_) => panic!(rt; "no layout"),
+    };
+    let (table, mut hub) = match SharedClaims::new(rt.alloc(), layout, 1) {
+        Ok(made) => made,
+        Err(_) => panic!(rt; "no table"),
+    };
+    let mut a = match table.enroll(&mut hub) {
+        Ok(a) => a,
+        Err(_) => panic!(rt; "no first seat"),
+    };
+    let mut b = match table.enroll(&mut hub) {
+        Ok(b) => b,
+        Err(_) => panic!(rt; "no second seat"),
+    };
     assert!(rt; matches!(table.enroll(&mut hub), Err(AllGiven)));
     comes_to_announce(&rt, &table, &mut a, 3);
     comes_to_announce(&rt, &table, &mut b, 1);
@@ -243,10 +282,9 @@ fn another_goes_on_where_one_stopped(rt: HostRuntime) -> Result<(), Fail> {
     table.take_in(&mut hub, b);
     same(&rt, &hub.out(), &0);
     table.close(hub);
-    Ok(())
 }
 
-/// Whether all claims on a cell have come to an end, and name one winner where they name any; who lost names another.
+/// Whether all claims on a cell have ended, and name one winner, if any. A loser names another consumer.
 fn name_one_winner(ends: &[Stage]) -> bool {
     let mut winner = None;
     for (consumer, end) in ends.iter().enumerate() {
@@ -271,46 +309,42 @@ fn have_one_winner(ends: &[Stage]) -> bool {
 }
 
 #[test]
-fn two_threads_claim_a_hundred_cells(rt: HostRuntime) -> Result<(), Fail> {
-    let (mine, theirs) = claimed_by_two(&rt, rt.alloc(), Shape::PLAIN)?;
+fn two_threads_claim_a_hundred_cells(rt: HostRuntime) {
+    let (mine, theirs) = claimed_by_two(&rt, Shape::PLAIN);
     for cell in 0..CELLS as usize {
         assert!(rt; name_one_winner(&[mine[cell], theirs[cell]]), "cell {cell}");
     }
-    Ok(())
 }
 
 #[test]
-fn two_threads_claim_a_hundred_cells_with_a_last_object(rt: HostRuntime) -> Result<(), Fail> {
-    let (mine, theirs) = claimed_by_two(&rt, rt.alloc(), BOTH)?;
+fn two_threads_claim_a_hundred_cells_with_a_last_object(rt: HostRuntime) {
+    let (mine, theirs) = claimed_by_two(&rt, BOTH);
     for cell in 0..CELLS as usize {
         assert!(rt; have_one_winner(&[mine[cell], theirs[cell]]), "cell {cell}");
     }
-    Ok(())
 }
 
 #[test]
-fn sixteen_threads_claim_one_cell(rt: HostRuntime) -> Result<(), Fail> {
+fn sixteen_threads_claim_one_cell(rt: HostRuntime) {
     for _ in 0..ROUNDS {
-        let ends = claimed_by_sixteen(&rt, rt.alloc(), Shape::PLAIN)?;
-        same(&rt, &ends.len(), &16);
-        assert!(rt; name_one_winner(ends.as_slice()));
+        let ends = claimed_by_sixteen(&rt, Shape::PLAIN);
+        let told = (ends.len(), name_one_winner(ends.as_slice()));
+        same(&rt, &told, &(16, true));
     }
-    Ok(())
 }
 
 #[test]
-fn sixteen_threads_claim_one_cell_with_a_last_object(rt: HostRuntime) -> Result<(), Fail> {
+fn sixteen_threads_claim_one_cell_with_a_last_object(rt: HostRuntime) {
     for _ in 0..ROUNDS {
-        let ends = claimed_by_sixteen(&rt, rt.alloc(), BOTH)?;
-        same(&rt, &ends.len(), &16);
-        assert!(rt; have_one_winner(ends.as_slice()));
+        let ends = claimed_by_sixteen(&rt, BOTH);
+        let told = (ends.len(), have_one_winner(ends.as_slice()));
+        same(&rt, &told, &(16, true));
     }
-    Ok(())
 }
 
 #[test]
 fn each_growth_of_new_refused(rt: HostRuntime) -> Result<(), Fail> {
-    let refused = growths_refused(&rt, |alloc| one_wins(&rt, alloc))?;
+    let refused = growths_refused(&rt, |alloc| Ok(one_wins(&rt, alloc)))?;
     // The zeros, and the words.
     assert!(rt; 2 <= refused);
     Ok(())

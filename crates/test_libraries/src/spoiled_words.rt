@@ -1,4 +1,4 @@
-//! Words that somebody spoiled: a claim on them comes to an end, with no more accesses than a claim ever makes.
+//! Corrupted words: a claim on them ends, with at most the accesses that a claim may make.
 ghost use Rattle.std.specs.Prelude.{◌<◌, ⊤};
 ghost use Rattle.mb_claim.specs.Vocabulary.{consumer_count};
 
@@ -33,7 +33,7 @@ impl Memory for Spoiled {
     }
 }
 
-/// How many accesses a claim makes on spoiled words to its end, or a thousand.
+/// How many accesses a claim makes on corrupted words to its end, or a thousand.
 fn accesses(layout: &Layout, consumer: u32, seed: u64) -> u64
     requires { consumer < consumer_count layout.now }
 {
@@ -49,7 +49,8 @@ fn accesses(layout: &Layout, consumer: u32, seed: u64) -> u64
     1000
 }
 
-/// Claims of the first and of the last consumer of a layout, on words that are spoiled in a hundred ways.
+/// The most accesses of claims of the first and of the last consumer of a layout, on words that are corrupted in a
+/// hundred ways.
 fn most_accesses(layout: &Layout) -> (u64, u64) {
     let mut most = 0;
     for seed in 0..100 {
@@ -60,7 +61,7 @@ fn most_accesses(layout: &Layout) -> (u64, u64) {
     (most, layout.max_steps())
 }
 
-/// No claim of these layouts makes more than its most accesses, whatever shape their cells have.
+/// No claim makes more accesses than its layout allows, for each shape of the cells.
 fn end_within_their_bound(rt: &impl Abort, layout: &Layout) {
     for shape in SHAPES {
         let (made, bound) = most_accesses(&layout.shaped(shape));

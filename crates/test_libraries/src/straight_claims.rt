@@ -1,4 +1,5 @@
-//! A claim that makes accesses in a row makes those that it makes step by step: the same words, values and random words.
+//! A claim that makes many accesses in one call makes the same ones as step by step: the same words, values and random
+//! words.
 ghost use Rattle.std.specs.Prelude.{◌≤◌};
 ghost use Rattle.mb_claim.specs.Vocabulary.{FitsLayout};
 
@@ -9,12 +10,12 @@ use mb_quorum::TableName;
 use std::process::Abort;
 use std::test::Fail;
 
-/// How many words an object has here, and the most objects of a row.
+/// How many words each object has here, and the most objects of a row.
 const OBJECT: usize = 65;
 
 const OBJECTS: usize = 19;
 
-/// How many layouts are played, how often each consumer calls, and a bound of its budgets.
+/// How many layouts are played, how often each consumer calls, and the bound of its budgets.
 const ROUNDS: u64 = 1000;
 
 const CALLS: u64 = 40;
@@ -30,7 +31,7 @@ struct Recorder {
 }
 
 impl Recorder {
-    /// Empty words, and the source that begins with this state.
+    /// Words that are all 0, and the source that begins with this state.
     fn new(state: u64) -> Recorder {
         Recorder {
             words: [0; OBJECT * OBJECTS],
@@ -100,7 +101,7 @@ fn next_word(word: u64) -> u64 {
     word ^ word.wrapping_shl(17)
 }
 
-/// Makes at most so many accesses, one step at a time, and returns how many.
+/// Makes at most `most` accesses, one step at a time. Returns how many.
 fn by_steps(claim: &mut Claim, layout: &Layout, memory: &mut Recorder, most: u64) -> u64
     requires { FitsLayout layout.now claim.old }
     ensures { FitsLayout layout.now claim.new }
@@ -115,7 +116,7 @@ fn by_steps(claim: &mut Claim, layout: &Layout, memory: &mut Recorder, most: u64
     most
 }
 
-/// What callers see of a claim, and all of it while it goes on. An ended one has no place.
+/// What callers see of a claim, and all of it while it goes on. The place of an ended claim does not count.
 fn seen(claim: &Claim) -> (Stage, bool, Option<Claim>) {
     let all = match claim.stage() {
         Stage::Going => Some(*claim),
@@ -124,8 +125,8 @@ fn seen(claim: &Claim) -> (Stage, bool, Option<Claim>) {
     (claim.stage(), claim.begun(), all)
 }
 
-/// Plays the claims of all consumers on a cell of this layout twice, one consumer after another, with budgets by chance. Now
-/// and then a word of the cell changes between two calls, as if somebody else had stored it.
+/// Plays the claims of all consumers on a cell of this layout twice, one consumer after another, with random budgets.
+/// Now and then a word of the cell changes between two calls, as if somebody else had stored there.
 fn play_twice(rt: &impl Abort, layout: &Layout, seed: u64) {
     let mut straight = Recorder::new(seed);
     let mut stepped = Recorder::new(seed);

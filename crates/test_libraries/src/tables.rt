@@ -24,7 +24,7 @@ fn shape<Q: Quorums>(table: &Q, v: u32) -> Shape {
     (table.registers(), table.values(), quorums(table, v))
 }
 
-/// The same of a table that is named, where it has so many values.
+/// The shape of the named table with m values.
 fn named(name: TableName, m: u64, v: u32) -> Result<Shape, BadValues> {
     Ok(shape(&Table::new(name, m)?, v))
 }
@@ -71,7 +71,8 @@ fn middle_tables(rt: HostRuntime) -> Result<(), Fail> {
         (5, 4, (4, 5, Some((10, 5)))),
         (1, 0, (0, 1, Some((0, 0)))),
         (64, 63, (8, 64, Some((212, 43)))),
-        // Sets 0 and 2 of four of eight registers: 0 to 3, and 0, 1, 3 and 4. By lists the third would be 0, 1, 2 and 5.
+        // Sets 0 and 2 of four of eight registers are 0 to 3, and 0, 1, 3 and 4. In lexicographic order set 2 would be
+        // 0, 1, 2 and 5.
         (64, 0, (8, 64, Some((15, 240)))),
         (64, 2, (8, 64, Some((27, 228)))),
         // The sets of two of four registers, by rising mask, and the other two.
@@ -87,7 +88,7 @@ fn middle_tables(rt: HostRuntime) -> Result<(), Fail> {
     Ok(())
 }
 
-// A table has the fewest registers that will do: here it gets one more.
+// A table has the fewest registers that are enough. These numbers of values lie at the steps, where it gets one more.
 #[test]
 fn registers_of_middle_tables(rt: HostRuntime) -> Result<(), Fail> {
     for (m, registers) in [

@@ -1,25 +1,40 @@
 //! Threads that put and poll at one time, over one mailbox behind a `&`.
-ghost use Rattle.std.specs.Prelude.{◌<◌, IfOk};
+ghost use Rattle.std.specs.Prelude.{◌<◌};
 ghost use Rattle.mb_mailbox.specs.Consumers.{IsConsumerOf};
 ghost use Rattle.mb_mailbox.specs.Hubs.{IsHubOf};
 ghost use Rattle.mb_mailbox.specs.Producers.{IsProducerOf};
 
 use crate::compare::same;
+use crate::trials::{reads, tells_all};
 use crate::words::chacha;
 use mb_mailbox::{Consumer, Hub, Mailbox, Poll, Producer, Put};
 use mb_quorum::TableName;
 use mb_world::{Report, Setup};
 use std::alloc::Global;
 use std::process::Abort;
-use std::test::Fail;
 use std::thread::{Threads, join};
 use test_audit::audit;
 use test_support::Zeros;
 
+/// The report of a mailbox, where all are taken in.
+pub(crate) fn gathered(
+    rt: &impl Abort,
+    alloc: Global,
+    mailbox: Mailbox<Global>,
+    hub: Hub<Global>,
+) -> Report<Global>
+    requires { IsHubOf mailbox hub }
+{
+    match mailbox.gather(alloc, hub) {
+        Ok(report) => report,
+        Err(_) => panic!(rt; "no report"),
+    }
+}
+
 /// How many items each producer puts.
 const ITEMS: u64 = 32;
 
-/// How often a consumer polls at most.
+/// The most polls of a consumer.
 const POLLS: u64 = 1_000_000_000;
 
 /// Another thread puts an item.
@@ -43,7 +58,6 @@ fn put_elsewhere<R: Threads + Sync>(
     put
 }
 
-/// Puts an item.
 fn put_one(
     mailbox: &Mailbox<Global>,
     mut producer: Producer<Global>,
@@ -56,23 +70,30 @@ fn put_one(
     (producer, put)
 }
 
-/// A producer and a consumer are given.
+/// The hub gives a producer and a consumer.
 fn give_both(
+    rt: &impl Abort,
     alloc: Global,
     mailbox: &Mailbox<Global>,
     hub: &mut Hub<Global>,
-) -> Result<(Producer<Global>, Consumer<Global>), Fail>
+) -> (Producer<Global>, Consumer<Global>)
     requires { IsHubOf mailbox.now hub.old }
     ensures hub { IsHubOf mailbox.now hub.new }
-    ensures producer { IfOk result (λ given. IsProducerOf mailbox.now given.0) }
-    ensures consumer { IfOk result (λ given. IsConsumerOf mailbox.now given.1) }
+    ensures producer { IsProducerOf mailbox.now result.0 }
+    ensures consumer { IsConsumerOf mailbox.now result.1 }
 {
-    let producer = hub.producer(alloc, mailbox)?;
-    let consumer = hub.consumer(alloc, mailbox)?;
-    Ok((producer, consumer))
+    let producer = match hub.producer(alloc, mailbox) {
+        Ok(producer) => producer,
+        Err(_) => panic!(rt; "no producer"),
+    };
+    let consumer = match hub.consumer(alloc, mailbox) {
+        Ok(consumer) => consumer,
+        Err(_) => panic!(rt; "no consumer"),
+    };
+    (producer, consumer)
 }
 
-/// An item that another thread puts is taken at once, and nothing is there then.
+/// An item that another thread puts is taken at once. Then nothing is there.
 fn is_read_back<R: Threads + Sync + Abort>(
     rt: &R,
     mailbox: &Mailbox<Global>,
@@ -97,19 +118,38 @@ fn is_read_back<R: Threads + Sync + Abort>(
     producer
 }
 
-#[test]
-fn each_item_is_read_back_at_once(rt: HostRuntime) -> Result<(), Fail> {
-    let setup = Setup::new(1, 1, 4, 1, TableName::Bits)?;
-    let (mailbox, mut hub) = Mailbox::new(rt.alloc(), setup)?;
-    let (producer, mut consumer) = give_both(rt.alloc(), &mailbox, &mut hub)?;
-    let producer = is_read_back(&rt, &mailbox, producer, &mut consumer, 1);
-    let producer = is_read_back(&rt, &mailbox, producer, &mut consumer, 2);
-    let producer = is_read_back(&rt, &mailbox, producer, &mut consumer, 3);
-    is_read_back(&rt, &mailbox, producer, &mut consumer, 4);
-    Ok(())
+/// Four items are put and read back, and both are taken in.
+fn read_back_four<R: Abort + Threads + Sync>(
+    rt: &R,
+    alloc: Global,
+    mailbox: &Mailbox<Global>,
+    hub: &mut Hub<Global>,
+)
+    requires { IsHubOf mailbox.now hub.old }
+    ensures { IsHubOf mailbox.now hub.new }
+{
+    let (producer, mut consumer) = give_both(rt, alloc, mailbox, hub);
+    let producer = is_read_back(rt, mailbox, producer, &mut consumer, 1);
+    let producer = is_read_back(rt, mailbox, producer, &mut consumer, 2);
+    let producer = is_read_back(rt, mailbox, producer, &mut consumer, 3);
+    let producer = is_read_back(rt, mailbox, producer, &mut consumer, 4);
+    take_both(mailbox, hub, producer, consumer);
 }
 
-/// Puts so many items, from `first` on, and ends the lane.
+#[test]
+fn each_item_is_read_back_at_once(rt: HostRuntime) {
+    let setup = Setup::new(1, 1, 4, 1, TableName::Bits).expect(&rt, "no setup");
+    let (mailbox, mut hub) = match Mailbox::new(rt.alloc(), setup) {
+        Ok(made) => made,
+        Err(_) => panic!(rt; "no mailbox"),
+    };
+    read_back_four(&rt, rt.alloc(), &mailbox, &mut hub);
+    let report = gathered(&rt, rt.alloc(), mailbox, hub);
+    let want = "lane 0 open put 1 2 3 4\nleft 0\ndiary 0 0 took 1 took 2 took 3 took 4\n";
+    reads(&rt, rt.alloc(), &report, want);
+}
+
+/// Puts `ITEMS` items, from `first` on, and ends the lane.
 fn put_all(
     mailbox: &Mailbox<Global>,
     mut producer: Producer<Global>,
@@ -216,7 +256,7 @@ fn share_lanes<R: Threads + Sync>(
     )
 }
 
-/// A producer and a consumer are taken in.
+/// The hub takes a producer and a consumer in.
 fn take_both(
     mailbox: &Mailbox<Global>,
     hub: &mut Hub<Global>,
@@ -233,65 +273,48 @@ fn take_both(
 }
 
 /// Two producers and two consumers share two lanes, and are taken in.
-fn share_all<R: Threads + Sync>(
+fn share_all<R: Abort + Threads + Sync>(
     rt: &R,
     alloc: Global,
     mailbox: &Mailbox<Global>,
     hub: &mut Hub<Global>,
-) -> Result<(), Fail>
+)
     requires { IsHubOf mailbox.now hub.old }
     ensures { IsHubOf mailbox.now hub.new }
 {
-    let (one, first) = give_both(alloc, mailbox, hub)?;
-    let (other, second) = give_both(alloc, mailbox, hub)?;
+    let (one, first) = give_both(rt, alloc, mailbox, hub);
+    let (other, second) = give_both(rt, alloc, mailbox, hub);
     let ((one, first), (other, second)) = share_lanes(rt, mailbox, one, first, other, second);
     take_both(mailbox, hub, one, first);
     take_both(mailbox, hub, other, second);
-    Ok(())
 }
 
 /// The report of that.
-fn report_all<R: Threads + Sync>(rt: &R, alloc: Global) -> Result<Report<Global>, Fail> {
-    let setup = Setup::new(2, 2, 64, 4, TableName::Bits)?;
-    let (mailbox, mut hub) = Mailbox::new(alloc, setup)?;
-    share_all(rt, alloc, &mailbox, &mut hub)?;
-    mailbox
-        .gather(alloc, hub)
-        .map_err(|_| Fail::new("no report"))
+fn report_all<R: Abort + Threads + Sync>(rt: &R, alloc: Global) -> Report<Global> {
+    let setup = Setup::new(2, 2, 64, 4, TableName::Bits).expect(rt, "no setup");
+    let (mailbox, mut hub) = match Mailbox::new(alloc, setup) {
+        Ok(made) => made,
+        Err(_) => panic!(rt; "no mailbox"),
+    };
+    share_all(rt, alloc, &mailbox, &mut hub);
+    gathered(rt, alloc, mailbox, hub)
 }
 
-/// These are all items of the producer whose first item is this one, in order.
-fn are_all(rt: &impl Abort, items: &[u64], first: u64) {
-    same(rt, &items.len(), &(ITEMS as usize));
-    let mut next = first;
-    for item in items {
-        same(rt, item, &next);
-        next = next.wrapping_add(1);
+/// The items of the producer whose first item is this one, in order.
+fn items_from(first: u64) -> [u64; ITEMS as usize] {
+    let mut items = [first; ITEMS as usize];
+    for place in 0..ITEMS as usize {
+        items[place] = first.wrapping_add(place as u64);
     }
-}
-
-/// Both lanes have all items in order and have ended, and both consumers have a note on each.
-fn is_whole(rt: &impl Abort, report: &Report<Global>) {
-    let firsts = [1000u64, 2000];
-    for (lane, first) in report.lanes.iter().zip(firsts.as_slice()) {
-        assert!(rt; lane.ended);
-        are_all(rt, lane.put.as_slice(), *first);
-    }
-    for diary in &report.diaries {
-        same(
-            rt,
-            &(diary.notes.len(), diary.begun),
-            &(ITEMS as usize, false),
-        );
-    }
+    items
 }
 
 #[test]
-fn two_threads_put_while_two_poll(rt: HostRuntime) -> Result<(), Fail> {
-    let report = report_all(&rt, rt.alloc())?;
-    is_whole(&rt, &report);
-    let tally = audit(&report, 2, 2)?;
-    let told = (report.lanes.len(), report.diaries.len(), tally.put);
-    same(&rt, &told, &(2, 4, 2 * ITEMS));
-    Ok(())
+fn two_threads_put_while_two_poll(rt: HostRuntime) {
+    let report = report_all(&rt, rt.alloc());
+    let (first, second) = (items_from(1000), items_from(2000));
+    let lists = [first.as_slice(), second.as_slice()];
+    tells_all(&rt, &report, &lists, 4, ITEMS as usize);
+    let tally = audit(&report, 2, 2).expect(&rt, "a flaw");
+    same(&rt, &tally.put, &(2 * ITEMS));
 }

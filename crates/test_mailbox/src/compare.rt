@@ -11,7 +11,7 @@ pub(crate) fn same<T: PartialEq + Debug>(rt: &impl Abort, told: &T, want: &T)
     assert_eq!(rt; *told, *want);
 }
 
-/// Ends the test if these differ, and prints both and the row of the table that they belong to.
+/// Ends the test if these differ, and prints both, with the row of the table that they belong to.
 pub(crate) fn same_at<T: PartialEq + Debug, W: Debug>(rt: &impl Abort, told: &T, want: &T, row: &W)
     ensures { T.eq told.now want.now ≡ true }
 {

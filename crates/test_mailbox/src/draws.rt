@@ -1,15 +1,14 @@
-//! Whose random words a consumer of `work` draws.
+//! From which source a consumer of `work` draws its random words.
 
 use crate::compare::{same, same_at};
 use crate::trial::Trial;
 use crate::trials::{ends, new_trial};
 use crate::workers::lists;
 use mb_mailbox::{Gate, Who, Worked};
-use std::alloc::Global;
+use std::alloc::{AllocError, Global};
 use std::process::Abort;
 use std::sync::Wait;
 use std::sync::atomic::{AtomicU64, Ordering};
-use std::test::Fail;
 use std::thread::Threads;
 use test_support::SeenZeros;
 
@@ -28,50 +27,54 @@ impl Gate for AllBut {
 }
 
 /// Two sources, which count here the words that they gave.
-fn two_sources<'a>(alloc: Global, given: &'a [AtomicU64; 2]) -> Result<Vec<SeenZeros<'a>>, Fail> {
+fn two_sources<'a>(
+    alloc: Global,
+    given: &'a [AtomicU64; 2],
+) -> Result<Vec<SeenZeros<'a>>, AllocError> {
     let mut sources = Vec::new(alloc);
     sources.push(SeenZeros { given: &given[0] })?;
     sources.push(SeenZeros { given: &given[1] })?;
     Ok(sources)
 }
 
-/// One worker puts an item, and two others draw from these sources, of whom this one is stopped.
+/// One worker puts an item. Two others draw from these sources, and this one of them is stopped.
 fn one_is_stopped<R: Abort + AllocGlobal + Threads + Wait + Sync>(
     rt: &R,
     trial: &mut Trial<Global>,
     given: &[AtomicU64; 2],
     stopped: u32,
-) -> Result<(), Fail> {
-    let items = lists(rt.alloc(), &[&[5]])?;
-    let rngs = two_sources(rt.alloc(), given)?;
+) {
+    let alloc = rt.alloc();
+    let items = lists(rt, alloc, &[&[5]]);
+    let rngs = two_sources(alloc, given).expect(rt, "no list");
     let gate = AllBut { consumer: stopped };
-    let worked = trial.work(rt.alloc(), rt, items, 100, rngs, &gate);
+    let worked = trial.work(alloc, rt, items, 100, rngs, &gate);
     let one_stopped = Worked {
         full: 0,
         stopped: 1,
     };
     same(rt, &worked, &Ok(one_stopped));
-    Ok(())
 }
 
-/// How many words each of two consumers draws for one item, where this one of them is stopped; and this is reported then.
+/// How many words each of two consumers draws for one item, if this one of them is stopped. The report then has this
+/// text.
 fn words_drawn<R: Abort + AllocGlobal + Threads + Wait + Sync>(
     rt: &R,
     stopped: u32,
     report: &str,
-) -> Result<(u64, u64), Fail> {
+) -> (u64, u64) {
     let given = [AtomicU64::new(0), AtomicU64::new(0)];
-    let mut trial = new_trial(rt.alloc(), 1, 2, 1)?;
-    one_is_stopped(rt, &mut trial, &given, stopped)?;
-    ends(rt, rt.alloc(), trial, report)?;
-    Ok((
+    let mut trial = new_trial(rt, rt.alloc(), 1, 2, 1);
+    one_is_stopped(rt, &mut trial, &given, stopped);
+    ends(rt, rt.alloc(), trial, report);
+    (
         given[0].load(Ordering::SeqCst),
         given[1].load(Ordering::SeqCst),
-    ))
+    )
 }
 
 #[test]
-fn each_consumer_draws_from_its_own_source(rt: HostRuntime) -> Result<(), Fail> {
+fn each_consumer_draws_from_its_own_source(rt: HostRuntime) {
     // A claim alone makes seven accesses, three to the conciliator and four to the ratifier, and draws a word for each.
     for (stopped, report, drawn) in [
         (
@@ -85,7 +88,6 @@ fn each_consumer_draws_from_its_own_source(rt: HostRuntime) -> Result<(), Fail> 
             (0, 7),
         ),
     ] {
-        same_at(&rt, &words_drawn(&rt, stopped, report)?, &drawn, &stopped);
+        same_at(&rt, &words_drawn(&rt, stopped, report), &drawn, &stopped);
     }
-    Ok(())
 }

@@ -1,8 +1,8 @@
-//! What a gate is asked: that workers run at one time, come with their calls in order, and poll the lanes in turn.
+//! The calls of a gate show that workers run at one time, make their calls in order, and poll the lanes in turn.
 
 use crate::compare::{same, same_at};
 use crate::trial::Trial;
-use crate::trials::{ends, new_trial};
+use crate::trials::{audited, ends, new_trial};
 use crate::workers::{ALL_DONE, works};
 use mb_mailbox::{Gate, Who, Worked};
 use mb_quorum::TableName;
@@ -11,14 +11,12 @@ use std::alloc::Global;
 use std::process::Abort;
 use std::sync::Wait;
 use std::sync::atomic::{AtomicU64, Ordering};
-use std::test::Fail;
 use std::thread::Threads;
-use test_audit::audit;
 
-/// How often a worker looks whether all have come.
+/// How often a worker looks whether all have come. So it does not wait for ever.
 pub(crate) const TURNS: u64 = 1_000_000_000;
 
-/// A gate at which each worker waits, at its first call, until so many have come, and not for ever.
+/// A gate at which each worker waits, at its first call, until `workers` have come, but not for ever.
 #[derive(Drop)]
 struct AllCome {
     come: AtomicU64,
@@ -28,7 +26,7 @@ struct AllCome {
 impl Gate for AllCome {
     ghost use Rattle.std.specs.Prelude.{◌≡◌};
 
-    // It stops nobody but at the first call.
+    // It stops a worker only at its first call.
     ghost may_stop = { λ _ _ call. call ≡ 1 };
 
     fn enter(&self, _who: Who, call: u64) -> bool {
@@ -47,53 +45,46 @@ impl Gate for AllCome {
     fn leave(&self, _who: Who, _call: u64) {}
 }
 
-/// So many consumers and one producer come to the gate at one time.
+/// `consumers` consumers and one producer come to the gate at one time.
 fn come_to_the_gate<R: Abort + AllocGlobal + Threads + Wait + Sync>(
     rt: &R,
     trial: &mut Trial<Global>,
     consumers: u64,
-) -> Result<(), Fail> {
+) {
     let gate = AllCome {
         come: AtomicU64::new(0),
         workers: consumers.wrapping_add(1),
     };
-    let worked = works(rt, trial, &[&[1, 2, 3, 4]], 5, consumers as usize, &gate)?;
+    let worked = works(rt, trial, &[&[1, 2, 3, 4]], 5, consumers as usize, &gate);
     same_at(rt, &worked, &Ok(ALL_DONE), &consumers);
-    Ok(())
 }
 
 /// They do, and the items put are audited.
-fn come_and_put<R: Abort + AllocGlobal + Threads + Wait + Sync>(
-    rt: &R,
-    consumers: u64,
-) -> Result<(), Fail> {
-    let setup = Setup::new(1, consumers, 4, 4, TableName::Bits)?;
-    let mut trial = Trial::new(rt.alloc(), setup)?;
-    come_to_the_gate(rt, &mut trial, consumers)?;
-    let Ok(report) = trial.gather(rt.alloc()) else {
-        return Err(Fail::new("no report"));
-    };
-    let tally = audit(&report, 1, consumers)?;
+fn come_and_put<R: Abort + AllocGlobal + Threads + Wait + Sync>(rt: &R, consumers: u64) {
+    let alloc = rt.alloc();
+    let setup = Setup::new(1, consumers, 4, 4, TableName::Bits).expect(rt, "no setup");
+    let mut trial = Trial::new(alloc, setup).expect(rt, "no mailbox");
+    come_to_the_gate(rt, &mut trial, consumers);
+    let tally = audited(rt, alloc, trial, 1, consumers);
     // Alone a consumer always decides, and takes each item.
     let are_taken = consumers != 1 || tally.took == 4;
     same_at(rt, &(tally.put, are_taken), &(4, true), &consumers);
-    Ok(())
 }
 
 #[test]
-fn all_workers_come_to_the_gate_at_one_time(rt: HostRuntime) -> Result<(), Fail> {
+fn all_workers_come_to_the_gate_at_one_time(rt: HostRuntime) {
     for consumers in [1, 2, 4, 16, 64] {
-        come_and_put(&rt, consumers)?;
+        come_and_put(&rt, consumers);
     }
-    Ok(())
 }
 
-/// A gate that lets each call in, and looks whether a worker's calls come as 1, 2 and so on, each told before the next.
+/// A gate that lets each call in. It checks that a worker's calls come as 1, 2 and so on, and that each leaves before
+/// the next.
 #[derive(Drop)]
 struct Record {
-    /// How often it was asked or told by each of two producers and two consumers.
+    /// How often each of two producers and two consumers entered or left.
     times: [AtomicU64; 4],
-    /// How often that was out of turn.
+    /// How often one of them did so out of turn.
     flaws: AtomicU64,
 }
 
@@ -105,7 +96,7 @@ impl Record {
         }
     }
 
-    /// Counts that it is asked or told by this worker, which is to be the next after so many times.
+    /// Counts that this worker enters or leaves. It should have done so `times` times before.
     fn note(&self, who: Who, times: u64) {
         let place = match who {
             Who::Producer(lane) => lane as usize,
@@ -132,14 +123,14 @@ impl Gate for Record {
     }
 }
 
-/// Nothing was out of turn, where two producers put two items and three.
+/// Nothing was out of turn. Two producers put two and three items.
 fn alternates(rt: &impl Abort, gate: &Record) {
     let flaws = gate.flaws.load(Ordering::SeqCst);
     // One call for each item.
     let first = gate.times[0].load(Ordering::SeqCst);
     let second = gate.times[1].load(Ordering::SeqCst);
     same(rt, &(flaws, first, second), &(0, 4, 6));
-    // At least one for each item and each end, and each was told.
+    // At least one call for each item and each end, and each has left.
     for consumer in 2..4 {
         let times = gate.times[consumer].load(Ordering::SeqCst);
         assert!(rt; 14 <= times && times % 2 == 0);
@@ -147,32 +138,34 @@ fn alternates(rt: &impl Abort, gate: &Record) {
 }
 
 #[test]
-fn asks_and_tells_of_a_gate_alternate(rt: HostRuntime) -> Result<(), Fail> {
-    let mut trial = new_trial(rt.alloc(), 2, 2, 5)?;
+fn asks_and_tells_of_a_gate_alternate(rt: HostRuntime) {
+    let mut trial = new_trial(&rt, rt.alloc(), 2, 2, 5);
     let gate = Record::new();
-    let worked = works(&rt, &mut trial, &[&[1, 2], &[3, 4, 5]], 5, 2, &gate)?;
+    let worked = works(&rt, &mut trial, &[&[1, 2], &[3, 4, 5]], 5, 2, &gate);
     same(&rt, &worked, &Ok(ALL_DONE));
     alternates(&rt, &gate);
-    Ok(())
+    same(&rt, &audited(&rt, rt.alloc(), trial, 2, 2).put, &5);
 }
 
 #[test]
-fn a_put_that_finds_no_cell_is_told_of(rt: HostRuntime) -> Result<(), Fail> {
-    let mut trial = new_trial(rt.alloc(), 1, 1, 1)?;
+fn a_put_that_finds_no_cell_is_told_of(rt: HostRuntime) {
+    let mut trial = new_trial(&rt, rt.alloc(), 1, 1, 1);
     let gate = Record::new();
-    let worked = works(&rt, &mut trial, &[&[1, 2, 3]], 5, 1, &gate)?;
+    let worked = works(&rt, &mut trial, &[&[1, 2, 3]], 5, 1, &gate);
     let two_are_over = Worked {
         full: 2,
         stopped: 0,
     };
     same(&rt, &worked, &Ok(two_are_over));
-    // Two puts, each asked for and told of, and none after the one that found no cell.
+    // Two puts, each of which entered and left, and none after the one that found no cell.
     let flaws = gate.flaws.load(Ordering::SeqCst);
     same(&rt, &(flaws, gate.times[0].load(Ordering::SeqCst)), &(0, 4));
-    Ok(())
+    let report = "lane 0 ended put 1\nleft 0\ndiary 0 0 took 1\n";
+    ends(&rt, rt.alloc(), trial, report);
 }
 
-/// A gate that lets a consumer in once four puts were made, or not at all after `TURNS` looks, and for three calls.
+/// A gate that lets a consumer in for three calls, once four puts were made. If `TURNS` looks find fewer, it does not
+/// let it in.
 #[derive(Drop)]
 struct ThreeCalls {
     made: AtomicU64,
@@ -199,12 +192,12 @@ impl Gate for ThreeCalls {
 }
 
 #[test]
-fn lanes_are_polled_in_turn(rt: HostRuntime) -> Result<(), Fail> {
-    let mut trial = new_trial(rt.alloc(), 2, 1, 4)?;
+fn lanes_are_polled_in_turn(rt: HostRuntime) {
+    let mut trial = new_trial(&rt, rt.alloc(), 2, 1, 4);
     let gate = ThreeCalls {
         made: AtomicU64::new(0),
     };
-    let worked = works(&rt, &mut trial, &[&[10, 11], &[20, 21]], 100, 1, &gate)?;
+    let worked = works(&rt, &mut trial, &[&[10, 11], &[20, 21]], 100, 1, &gate);
     let one_stopped = Worked {
         full: 0,
         stopped: 1,
@@ -218,5 +211,5 @@ left 1 21
 diary 0 0 took 10 took 11
 diary 0 1 took 20
 ";
-    ends(&rt, rt.alloc(), trial, report)
+    ends(&rt, rt.alloc(), trial, report);
 }

@@ -1,4 +1,4 @@
-//! That a gate is told of a put and of a poll after their accesses, and not before.
+//! A put and a poll leave the gate after their accesses, and not before.
 
 use crate::compare::same;
 use crate::gates::TURNS;
@@ -6,28 +6,27 @@ use crate::trial::Trial;
 use crate::trials::{ends, new_trial};
 use crate::workers::lists;
 use mb_mailbox::{Gate, Who, Worked};
-use std::alloc::Global;
+use std::alloc::{AllocError, Global};
 use std::process::Abort;
 use std::sync::Wait;
 use std::sync::atomic::{AtomicBool, AtomicU64, Ordering};
-use std::test::Fail;
 use std::thread::Threads;
 use test_support::SeenZeros;
 
-/// A gate by which the only consumer polls once, while the only producer tells of its put: neither waits for ever.
+/// A gate by which the only consumer polls once, while the only producer leaves after its put. Neither waits for ever.
 #[derive(Drop)]
 struct PollInALeave {
-    /// Whether the put was told of.
+    /// Whether the put has left the gate.
     has_put: AtomicBool,
-    /// Whether the poll was told of.
+    /// Whether the poll has left the gate.
     has_polled: AtomicBool,
     /// How many words the consumer has drawn.
     drawn: AtomicU64,
-    /// How many it had drawn when its poll was told of.
+    /// How many it had drawn when its poll left.
     told: AtomicU64,
 }
 
-/// Waits until this has come, for at most `TURNS` looks, and says whether it has.
+/// Waits until the flag is set, for at most `TURNS` looks. Returns whether it is.
 fn comes(flag: &AtomicBool) -> bool {
     for _ in 0..TURNS {
         if flag.load(Ordering::SeqCst) {
@@ -61,47 +60,47 @@ impl Gate for PollInALeave {
 }
 
 /// A source that counts here the words that it gave.
-fn one_source<'a>(alloc: Global, given: &'a AtomicU64) -> Result<Vec<SeenZeros<'a>>, Fail> {
+fn one_source<'a>(alloc: Global, given: &'a AtomicU64) -> Result<Vec<SeenZeros<'a>>, AllocError> {
     let mut sources = Vec::new(alloc);
     sources.push(SeenZeros { given })?;
     Ok(sources)
 }
 
-/// One worker puts an item, and another polls once, while that one tells of its put, and is stopped then.
+/// One worker puts an item. While it leaves the gate, another polls once, and is stopped then.
 fn polls_once<R: Abort + AllocGlobal + Threads + Wait + Sync>(
     rt: &R,
     trial: &mut Trial<Global>,
     gate: &PollInALeave,
-) -> Result<(), Fail> {
-    let items = lists(rt.alloc(), &[&[5]])?;
-    let rngs = one_source(rt.alloc(), &gate.drawn)?;
-    let worked = trial.work(rt.alloc(), rt, items, 100, rngs, gate);
+) {
+    let alloc = rt.alloc();
+    let items = lists(rt, alloc, &[&[5]]);
+    let rngs = one_source(alloc, &gate.drawn).expect(rt, "no list");
+    let worked = trial.work(alloc, rt, items, 100, rngs, gate);
     let one_stopped = Worked {
         full: 0,
         stopped: 1,
     };
     same(rt, &worked, &Ok(one_stopped));
-    Ok(())
 }
 
 #[test]
-fn a_call_is_told_of_after_its_accesses(rt: HostRuntime) -> Result<(), Fail> {
+fn a_call_is_told_of_after_its_accesses(rt: HostRuntime) {
     let gate = PollInALeave {
         has_put: AtomicBool::new(false),
         has_polled: AtomicBool::new(false),
         drawn: AtomicU64::new(0),
         told: AtomicU64::new(0),
     };
-    let mut trial = new_trial(rt.alloc(), 1, 1, 1)?;
-    polls_once(&rt, &mut trial, &gate)?;
+    let mut trial = new_trial(&rt, rt.alloc(), 1, 1, 1);
+    polls_once(&rt, &mut trial, &gate);
     // An only consumer's claim makes five accesses, three to the conciliator and two to the proposal, and draws a word for
     // each: all were made before the poll was told of.
     same(&rt, &gate.told.load(Ordering::SeqCst), &5);
-    // And the poll found the item, so this was put before the put was told of.
+    // And the poll found the item, so that was put before the put left.
     ends(
         &rt,
         rt.alloc(),
         trial,
         "lane 0 ended put 5\nleft 0\ndiary 0 0 took 5\n",
-    )
+    );
 }

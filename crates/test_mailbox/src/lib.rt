@@ -1,4 +1,4 @@
-//! Tests of the mailbox, which is proved without them: worked examples, threads, and calls whose memory is refused.
+//! Tests of the mailbox, which is proved without them: worked examples, threads, and calls that run out of memory.
 #![tactic(auto)]
 
 #[cfg(test)]
@@ -9,6 +9,8 @@ mod compare;
 mod draws;
 #[cfg(test)]
 mod gates;
+#[cfg(test)]
+mod last_objects;
 #[cfg(test)]
 mod leaves;
 #[cfg(test)]
@@ -21,8 +23,6 @@ mod rationed;
 mod refused_mailboxes;
 #[cfg(test)]
 mod scenes;
-#[cfg(test)]
-mod settling;
 #[cfg(test)]
 mod texts;
 #[cfg(test)]

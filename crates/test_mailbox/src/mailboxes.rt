@@ -1,4 +1,4 @@
-//! Mailboxes in one thread: what their calls answer, and what is reported at the end.
+//! Mailboxes in one thread: the answers of their calls, and the report at the end.
 
 use crate::compare::same;
 use crate::scenes::{play, plays};
@@ -7,12 +7,11 @@ use crate::trials::{ends, new_trial};
 use mb_mailbox::{GatherFault, Poll, Put};
 use mb_quorum::TableName;
 use mb_world::Setup;
-use std::alloc::Global;
+use std::alloc::{AllocError, Global};
 use std::process::Abort;
-use std::test::Fail;
 use test_support::Zeros;
 
-/// How many producers, consumers and cells a mailbox has, the calls with what they come to, and the report.
+/// How many producers, consumers and cells a mailbox has, the calls with their answers, and the report.
 type Scene = ([u64; 3], &'static str, &'static str);
 
 const NOTHING_IS_WAITED_FOR: Scene = (
@@ -110,7 +109,7 @@ diary 0 0 took 7
 );
 
 #[test]
-fn scenes_of_one_thread(rt: HostRuntime) -> Result<(), Fail> {
+fn scenes_of_one_thread(rt: HostRuntime) {
     for (sizes, lines, report) in [
         NOTHING_IS_WAITED_FOR,
         A_POLL_OF_NO_LANE_OR_NO_BUDGET_DRAWS_NOTHING,
@@ -118,24 +117,26 @@ fn scenes_of_one_thread(rt: HostRuntime) -> Result<(), Fail> {
         TWO_PRODUCERS_WANT_THE_ONLY_CELL,
         AN_ENDED_LANE_IS_READ_BY_A_CONSUMER_GIVEN_LATER,
     ] {
-        plays(&rt, sizes, lines, report)?;
+        plays(&rt, sizes, lines, report);
     }
-    Ok(())
 }
 
 /// In such a mailbox the calls of these lines are made. No report is made then, while a consumer is out, and all comes back
 /// as it was. Once all are taken in this is reported.
-fn one_consumer_is_out<R: Abort + AllocGlobal>(rt: &R, scene: Scene) -> Result<(), Fail> {
+fn one_consumer_is_out<R: Abort + AllocGlobal>(rt: &R, scene: Scene) {
     let (sizes, lines, report) = scene;
-    let mut trial = new_trial(rt.alloc(), sizes[0], sizes[1], sizes[2])?;
-    play(rt, &mut trial, rt.alloc(), lines)?;
+    let alloc = rt.alloc();
+    let mut trial = new_trial(rt, alloc, sizes[0], sizes[1], sizes[2]);
+    play(rt, &mut trial, alloc, lines);
     trial.take_producer(0);
     trial.take_consumer(1);
-    let Err((fault, trial)) = trial.gather(rt.alloc()) else {
-        return Err(Fail::new("a consumer is out"));
-    };
-    same(rt, &fault, &GatherFault::Missing(0, 1));
-    ends(rt, rt.alloc(), trial, report)
+    match trial.gather(alloc) {
+        Ok(_) => panic!(rt; "a report is made while a consumer is out"),
+        Err((fault, trial)) => {
+            same(rt, &fault, &GatherFault::Missing(0, 1));
+            ends(rt, alloc, trial, report);
+        }
+    }
 }
 
 const ALL_NUMBERS_ARE_GIVEN: Scene = (
@@ -173,12 +174,12 @@ diary 1 0 lost 0
 );
 
 #[test]
-fn no_report_is_made_while_one_is_out(rt: HostRuntime) -> Result<(), Fail> {
-    one_consumer_is_out(&rt, ALL_NUMBERS_ARE_GIVEN)?;
-    one_consumer_is_out(&rt, A_LATER_CONSUMER_LOSES_TO_ONE_THAT_WENT_AWAY)
+fn no_report_is_made_while_one_is_out(rt: HostRuntime) {
+    one_consumer_is_out(&rt, ALL_NUMBERS_ARE_GIVEN);
+    one_consumer_is_out(&rt, A_LATER_CONSUMER_LOSES_TO_ONE_THAT_WENT_AWAY);
 }
 
-/// Puts so many items, and then takes them, in order.
+/// Puts `items` items, and then takes them, in order.
 fn put_and_take_all(rt: &impl Abort, trial: &mut Trial<Global>, items: u64) {
     for x in 0..items {
         same(rt, &trial.put(0, x), &Some(Put::Linked));
@@ -189,26 +190,28 @@ fn put_and_take_all(rt: &impl Abort, trial: &mut Trial<Global>, items: u64) {
     }
 }
 
-#[test]
-fn a_large_mailbox_takes_more_items_than_a_script_has(rt: HostRuntime) -> Result<(), Fail> {
-    let mut report = String::new(rt.alloc());
+/// The report of that.
+fn all_taken(alloc: Global, items: u64) -> Result<String, AllocError> {
+    let mut report = String::new(alloc);
     report.push_str("lane 0 open put")?;
-    for x in 0..300 {
+    for x in 0..items {
         write!(report, " {x}")?;
     }
     report.push_str("\nleft 0\ndiary 0 0")?;
-    for x in 0..300 {
+    for x in 0..items {
         write!(report, " took {x}")?;
     }
     report.push_str("\n")?;
-    let setup = Setup::large(1, 1, 300, 1, TableName::Bits)?;
-    let mut trial = Trial::new(rt.alloc(), setup)?;
-    play(
-        &rt,
-        &mut trial,
-        rt.alloc(),
-        "producer: given\nconsumer: given\n",
-    )?;
+    Ok(report)
+}
+
+#[test]
+fn a_large_mailbox_takes_more_items_than_a_script_has(rt: HostRuntime) {
+    let alloc = rt.alloc();
+    let report = all_taken(alloc, 300).expect(&rt, "no text");
+    let setup = Setup::large(1, 1, 300, 1, TableName::Bits).expect(&rt, "no setup");
+    let mut trial = Trial::new(alloc, setup).expect(&rt, "no mailbox");
+    play(&rt, &mut trial, alloc, "producer: given\nconsumer: given\n");
     put_and_take_all(&rt, &mut trial, 300);
-    ends(&rt, rt.alloc(), trial, report.as_str())
+    ends(&rt, alloc, trial, report.as_str());
 }

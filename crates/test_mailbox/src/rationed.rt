@@ -1,21 +1,20 @@
-//! `work` and a hub over an allocator that refuses chosen requests: each growth in turn, and then the call again with memory.
+//! `work` and a hub over an allocator that refuses each allocation in turn, and then the call again with memory.
 
 use crate::compare::same;
 use crate::refused_mailboxes::{Alloc, is_given};
 use crate::scenes::play;
 use crate::trial::Trial;
-use crate::trials::{ends, new_trial};
+use crate::trials::{ends, gathered, new_trial, tells_all};
 use crate::workers::{ALL_DONE, lists, sources};
 use mb_mailbox::{OpenGate, WorkFault};
-use mb_world::Report;
 use std::alloc::Global;
 use std::process::Abort;
 use std::sync::Wait;
 use std::test::Fail;
 use std::thread::Threads;
-use test_alloc::{Rations, Refuse, growths_refused};
+use test_alloc::{FaultyHeap, Refuse, growths_refused};
 
-/// Whether a producer's number is left. It is given then, and taken in without an access.
+/// Whether a producer's number is left. If so, the producer is given, and taken in without an access.
 fn has_lane<'r>(trial: &mut Trial<Alloc<'r>>, ample: Alloc<'r>) -> bool {
     trial.producer(ample).is_ok() && trial.take_producer(0)
 }
@@ -23,15 +22,11 @@ fn has_lane<'r>(trial: &mut Trial<Alloc<'r>>, ample: Alloc<'r>) -> bool {
 /// The only item of a mailbox of one cell is put and taken, and the lane ends, whether or not the allocator serves its producer.
 /// If not, its number is left, and is given over the second allocator; after it no number is left. The report tells the item
 /// all the same. Whether the allocator serves that producer.
-fn one_item_is_served<'r>(
-    rt: &impl Abort,
-    alloc: Alloc<'r>,
-    ample: Alloc<'r>,
-) -> Result<bool, Fail> {
-    let mut trial = new_trial(ample, 1, 1, 1)?;
+fn one_item_is_served<'r>(rt: &impl Abort, alloc: Alloc<'r>, ample: Alloc<'r>) -> bool {
+    let mut trial = new_trial(rt, ample, 1, 1, 1);
     let served = is_given(rt, trial.producer(alloc));
     if !served {
-        play(rt, &mut trial, ample, "producer: given\n")?;
+        play(rt, &mut trial, ample, "producer: given\n");
     }
     let lines = "\
 put 0 7: linked
@@ -41,21 +36,21 @@ producer: all_given
 consumer: given
 poll 0 0 100: took 7
 ";
-    play(rt, &mut trial, ample, lines)?;
+    play(rt, &mut trial, ample, lines);
     ends(
         rt,
         ample,
         trial,
         "lane 0 ended put 7\nleft 0\ndiary 0 0 took 7\n",
-    )?;
-    Ok(served)
+    );
+    served
 }
 
 #[test]
 fn each_growth_of_a_lone_producer_refused(rt: HostRuntime) -> Result<(), Fail> {
     let refused = growths_refused(&rt, |alloc| {
-        let ample = Rations::new(rt.alloc(), Refuse::Never);
-        let served = one_item_is_served(&rt, alloc, &ample)?;
+        let ample = FaultyHeap::new(rt.alloc(), Refuse::Never);
+        let served = one_item_is_served(&rt, alloc, &ample);
         same(&rt, &ample.out(), &0);
         Ok(served)
     })?;
@@ -64,8 +59,9 @@ fn each_growth_of_a_lone_producer_refused(rt: HostRuntime) -> Result<(), Fail> {
     Ok(())
 }
 
-/// Whether workers over the first allocator put these lists and so many others poll them to their ends, where nothing but
-/// memory may be wanting. What they are handed is over the second allocator.
+/// Workers over the first allocator put these lists, and `consumers` others poll them to their ends. The only possible
+/// error is that memory ran out. Their lists and sources are over the second allocator. Returns whether the work was
+/// done.
 fn is_done<'r, R: Abort + Threads + Wait + Sync>(
     rt: &R,
     trial: &mut Trial<Alloc<'r>>,
@@ -73,42 +69,42 @@ fn is_done<'r, R: Abort + Threads + Wait + Sync>(
     ample: Alloc<'r>,
     items: &[&[u64]],
     consumers: usize,
-) -> Result<bool, Fail> {
-    let items = lists(ample, items)?;
-    let rngs = sources(ample, consumers)?;
+) -> bool {
+    let items = lists(rt, ample, items);
+    let rngs = sources(rt, ample, consumers);
     let answer = trial.work(alloc, rt, items, 5, rngs, &OpenGate);
     if answer == Err(WorkFault::NoMemory) {
-        return Ok(false);
+        return false;
     }
     same(rt, &answer, &Ok(ALL_DONE));
-    Ok(true)
+    true
 }
 
-/// One worker puts two items and another takes both, in a mailbox of these two: whether the allocator serves them. If
-/// not, all that was given is taken in, and its lane has ended.
+/// One worker puts two items and another takes both, in a mailbox of these two. If the allocator does not serve them,
+/// all that was given is taken in, and its lane has ended. Returns whether it serves them.
 fn two_are_served<'r, R: Abort + Threads + Wait + Sync>(
     rt: &R,
     alloc: Alloc<'r>,
     ample: Alloc<'r>,
-) -> Result<bool, Fail> {
-    let mut trial = new_trial(ample, 1, 1, 2)?;
-    let served = is_done(rt, &mut trial, alloc, ample, &[&[1, 2]], 1)?;
+) -> bool {
+    let mut trial = new_trial(rt, ample, 1, 1, 2);
+    let served = is_done(rt, &mut trial, alloc, ample, &[&[1, 2]], 1);
     let given = !has_lane(&mut trial, ample);
     let report = match (served, given) {
         (true, _) => "lane 0 ended put 1 2\nleft 0\ndiary 0 0 took 1 took 2\n",
         (false, true) => "lane 0 ended put\nleft 0\ndiary 0 0\n",
         (false, false) => "lane 0 open put\nleft 0\ndiary 0 0\n",
     };
-    ends(rt, ample, trial, report)?;
-    Ok(served)
+    ends(rt, ample, trial, report);
+    served
 }
 
 #[test]
 fn each_growth_of_two_workers_refused(rt: HostRuntime) -> Result<(), Fail> {
     let refused = growths_refused(&rt, |alloc| {
-        let ample = Rations::new(rt.alloc(), Refuse::Never);
-        let served = two_are_served(&rt, alloc, &ample)?;
-        let again = two_are_served(&rt, &ample, &ample)?;
+        let ample = FaultyHeap::new(rt.alloc(), Refuse::Never);
+        let served = two_are_served(&rt, alloc, &ample);
+        let again = two_are_served(&rt, &ample, &ample);
         same(&rt, &(again, ample.out()), &(true, 0));
         Ok(served)
     })?;
@@ -117,28 +113,28 @@ fn each_growth_of_two_workers_refused(rt: HostRuntime) -> Result<(), Fail> {
     Ok(())
 }
 
-/// Whether the allocator serves the same two workers in a mailbox of two more. If not, the call is made again with memory,
-/// and is done all the same.
+/// The same two workers, in a mailbox of two more. If the allocator does not serve them, the call is made again with
+/// memory, and is done. Returns whether it serves them.
 fn two_are_served_at_last<'r, R: Abort + Threads + Wait + Sync>(
     rt: &R,
     trial: &mut Trial<Alloc<'r>>,
     alloc: Alloc<'r>,
     ample: Alloc<'r>,
-) -> Result<bool, Fail> {
-    let served = is_done(rt, trial, alloc, ample, &[&[1, 2]], 1)?;
-    assert!(rt; served || is_done(rt, trial, ample, ample, &[&[1, 2]], 1)?);
-    Ok(served)
+) -> bool {
+    let served = is_done(rt, trial, alloc, ample, &[&[1, 2]], 1);
+    assert!(rt; served || is_done(rt, trial, ample, ample, &[&[1, 2]], 1));
+    served
 }
 
-/// Whether it does. The report tells the lane and the notes of the call that was done: they are the second ones if the first
+/// The same, and the report has the lane and the notes of the call that was done. They are the second ones if the first
 /// call was refused after it had given both numbers.
 fn second_call_is_done<'r, R: Abort + Threads + Wait + Sync>(
     rt: &R,
     alloc: Alloc<'r>,
     ample: Alloc<'r>,
-) -> Result<bool, Fail> {
-    let mut trial = new_trial(ample, 2, 2, 2)?;
-    let served = two_are_served_at_last(rt, &mut trial, alloc, ample)?;
+) -> bool {
+    let mut trial = new_trial(rt, ample, 2, 2, 2);
+    let served = two_are_served_at_last(rt, &mut trial, alloc, ample);
     let given_before = !has_lane(&mut trial, ample);
     let report = if given_before {
         "\
@@ -163,46 +159,27 @@ diary 1 0
 diary 1 1
 "
     };
-    ends(rt, ample, trial, report)?;
-    Ok(served)
+    ends(rt, ample, trial, report);
+    served
 }
 
 #[test]
 fn a_refused_call_is_made_again(rt: HostRuntime) -> Result<(), Fail> {
     let refused = growths_refused(&rt, |alloc| {
-        let ample = Rations::new(rt.alloc(), Refuse::Never);
-        let served = second_call_is_done(&rt, alloc, &ample)?;
+        let ample = FaultyHeap::new(rt.alloc(), Refuse::Never);
+        let served = second_call_is_done(&rt, alloc, &ample);
         same(&rt, &ample.out(), &0);
         Ok(served)
     })?;
-    // As before: a lane more asks for no further list.
+    // As before: one lane more needs no further list.
     assert!(rt; 9 <= refused);
     Ok(())
 }
 
 /// Both lanes have their items and have ended, and each consumer was told of each item, whoever took it.
-fn tells_of_four(rt: &impl Abort, report: &Report<Alloc<'_>>) {
-    same(rt, &(report.lanes.len(), report.diaries.len()), &(2, 4));
-    let lists: [&[u64]; 2] = [&[1, 2], &[3, 4]];
-    for (lane, list) in report.lanes.iter().zip(lists) {
-        same(rt, &(lane.put.as_slice(), lane.ended), &(list, true));
-    }
-    for diary in &report.diaries {
-        same(rt, &(diary.notes.len(), diary.begun), &(2, false));
-    }
-}
-
-/// The report tells of that.
-fn four_are_told<'r>(
-    rt: &impl Abort,
-    trial: Trial<Alloc<'r>>,
-    ample: Alloc<'r>,
-) -> Result<(), Fail> {
-    let Ok(report) = trial.gather(ample) else {
-        return Err(Fail::new("no report"));
-    };
-    tells_of_four(rt, &report);
-    Ok(())
+fn tells_of_four<'r>(rt: &impl Abort, ample: Alloc<'r>, trial: Trial<Alloc<'r>>) {
+    let report = gathered(rt, ample, trial);
+    tells_all(rt, &report, &[&[1, 2], &[3, 4]], 4, 2);
 }
 
 /// A report of two lanes without items and two consumers without notes, in which so many numbers of producers were left.
@@ -247,37 +224,33 @@ diary 1 1
     }
 }
 
-/// Two workers put two items each and two others poll, in a mailbox of these four: whether the allocator serves them. If
-/// not, all that was given is taken in, and just the lanes given have ended.
+/// Two workers put two items each and two others poll, in a mailbox of these four. If the allocator does not serve
+/// them, all that was given is taken in, and exactly the lanes given have ended. Returns whether it serves them.
 fn four_are_served<'r, R: Abort + Threads + Wait + Sync>(
     rt: &R,
     alloc: Alloc<'r>,
     ample: Alloc<'r>,
-) -> Result<bool, Fail> {
-    let mut trial = new_trial(ample, 2, 2, 4)?;
-    let served = is_done(rt, &mut trial, alloc, ample, &[&[1, 2], &[3, 4]], 2)?;
+) -> bool {
+    let mut trial = new_trial(rt, ample, 2, 2, 4);
+    let served = is_done(rt, &mut trial, alloc, ample, &[&[1, 2], &[3, 4]], 2);
     let one_is_left = has_lane(&mut trial, ample);
     let two_are_left = one_is_left && has_lane(&mut trial, ample);
     if served {
         assert!(rt; !one_is_left);
-        four_are_told(rt, trial, ample)?;
+        tells_of_four(rt, ample, trial);
     } else {
-        ends(
-            rt,
-            ample,
-            trial,
-            nothing_is_told((one_is_left, two_are_left)),
-        )?;
+        let report = nothing_is_told((one_is_left, two_are_left));
+        ends(rt, ample, trial, report);
     }
-    Ok(served)
+    served
 }
 
 #[test]
 fn each_growth_of_four_workers_refused(rt: HostRuntime) -> Result<(), Fail> {
     let refused = growths_refused(&rt, |alloc| {
-        let ample = Rations::new(rt.alloc(), Refuse::Never);
-        let served = four_are_served(&rt, alloc, &ample)?;
-        let again = four_are_served(&rt, &ample, &ample)?;
+        let ample = FaultyHeap::new(rt.alloc(), Refuse::Never);
+        let served = four_are_served(&rt, alloc, &ample);
+        let again = four_are_served(&rt, &ample, &ample);
         same(&rt, &(again, ample.out()), &(true, 0));
         Ok(served)
     })?;

@@ -1,4 +1,4 @@
-//! Calls of a mailbox whose memory is refused: each growth in turn, and then the same call with memory.
+//! Calls of a mailbox that run out of memory: each allocation is refused in turn, and then the same call has memory.
 
 use crate::compare::same;
 use crate::scenes::play;
@@ -10,52 +10,50 @@ use mb_world::Setup;
 use std::alloc::Global;
 use std::process::Abort;
 use std::test::Fail;
-use test_alloc::{Rations, Refuse, growths_refused};
+use test_alloc::{FaultyHeap, Refuse, growths_refused};
 
 /// The allocator of all lists of a trial.
-pub(crate) type Alloc<'r> = &'r Rations<Global>;
+pub(crate) type Alloc<'r> = &'r FaultyHeap<Global>;
 
 /// The only item is put and taken, and the report tells it.
-fn takes_seven<'a>(
-    rt: &impl Abort,
-    ample: Alloc<'a>,
-    mut trial: Trial<Alloc<'a>>,
-) -> Result<(), Fail> {
+fn takes_seven<'a>(rt: &impl Abort, ample: Alloc<'a>, mut trial: Trial<Alloc<'a>>) {
     play(
         rt,
         &mut trial,
         ample,
         "put 0 7: linked\npoll 0 0 100: took 7\n",
-    )?;
+    );
     ends(
         rt,
         ample,
         trial,
         "lane 0 open put 7\nleft 0\ndiary 0 0 took 7\n",
-    )
+    );
 }
 
 /// Whether the allocator serves a new mailbox, in which an item is then put and taken.
-fn new_is_served<'a>(rt: &impl Abort, alloc: Alloc<'a>, ample: Alloc<'a>) -> Result<bool, Fail> {
-    let setup = Setup::new(1, 1, 1, 1, TableName::Bits)?;
-    let Ok(mut trial) = Trial::new(alloc, setup) else {
-        return Ok(false);
-    };
-    play(rt, &mut trial, ample, "producer: given\nconsumer: given\n")?;
-    takes_seven(rt, ample, trial)?;
-    Ok(true)
+fn new_is_served<'a>(rt: &impl Abort, alloc: Alloc<'a>, ample: Alloc<'a>) -> bool {
+    let setup = Setup::new(1, 1, 1, 1, TableName::Bits).expect(rt, "no setup");
+    match Trial::new(alloc, setup) {
+        Ok(mut trial) => {
+            play(rt, &mut trial, ample, "producer: given\nconsumer: given\n");
+            takes_seven(rt, ample, trial);
+            true
+        }
+        Err(_) => false,
+    }
 }
 
 #[test]
 fn each_growth_of_new_refused(rt: HostRuntime) -> Result<(), Fail> {
-    let ample = Rations::new(rt.alloc(), Refuse::Never);
-    let refused = growths_refused(&rt, |alloc| new_is_served(&rt, alloc, &ample))?;
+    let ample = FaultyHeap::new(rt.alloc(), Refuse::Never);
+    let refused = growths_refused(&rt, |alloc| Ok(new_is_served(&rt, alloc, &ample)))?;
     // The lists of what is taken in, the words of the cells, and the zeros and the words of the claims.
     same(&rt, &(5 <= refused, ample.out()), &(true, 0));
     Ok(())
 }
 
-/// One is given, or there is no memory for it. Whether it is given.
+/// One is given, or there is no memory for it. Returns whether it is given.
 pub(crate) fn is_given(rt: &impl Abort, told: Result<(), HubFault>) -> bool {
     if told.is_ok() {
         return true;
@@ -65,99 +63,92 @@ pub(crate) fn is_given(rt: &impl Abort, told: Result<(), HubFault>) -> bool {
 }
 
 /// Whether the allocator serves the only producer. A refusal uses no number up: it is given then, and after it none.
-fn producer_is_served<'a>(
-    rt: &impl Abort,
-    alloc: Alloc<'a>,
-    ample: Alloc<'a>,
-) -> Result<bool, Fail> {
-    let mut trial = new_trial(ample, 1, 1, 1)?;
+fn producer_is_served<'a>(rt: &impl Abort, alloc: Alloc<'a>, ample: Alloc<'a>) -> bool {
+    let mut trial = new_trial(rt, ample, 1, 1, 1);
     let served = is_given(rt, trial.producer(alloc));
     let lines = if served {
         "producer: all_given\nconsumer: given\n"
     } else {
         "producer: given\nproducer: all_given\nconsumer: given\n"
     };
-    play(rt, &mut trial, ample, lines)?;
-    takes_seven(rt, ample, trial)?;
-    Ok(served)
+    play(rt, &mut trial, ample, lines);
+    takes_seven(rt, ample, trial);
+    served
 }
 
 #[test]
 fn each_growth_of_a_producer_refused(rt: HostRuntime) -> Result<(), Fail> {
-    let ample = Rations::new(rt.alloc(), Refuse::Never);
-    let refused = growths_refused(&rt, |alloc| producer_is_served(&rt, alloc, &ample))?;
+    let ample = FaultyHeap::new(rt.alloc(), Refuse::Never);
+    let refused = growths_refused(&rt, |alloc| Ok(producer_is_served(&rt, alloc, &ample)))?;
     // The list of its items.
     same(&rt, &(1 <= refused, ample.out()), &(true, 0));
     Ok(())
 }
 
 /// Whether the allocator serves the only consumer, in the same way.
-fn consumer_is_served<'a>(
-    rt: &impl Abort,
-    alloc: Alloc<'a>,
-    ample: Alloc<'a>,
-) -> Result<bool, Fail> {
-    let mut trial = new_trial(ample, 1, 1, 1)?;
-    play(rt, &mut trial, ample, "producer: given\n")?;
+fn consumer_is_served<'a>(rt: &impl Abort, alloc: Alloc<'a>, ample: Alloc<'a>) -> bool {
+    let mut trial = new_trial(rt, ample, 1, 1, 1);
+    play(rt, &mut trial, ample, "producer: given\n");
     let served = is_given(rt, trial.consumer(alloc));
     let lines = if served {
         "consumer: all_given\n"
     } else {
         "consumer: given\nconsumer: all_given\n"
     };
-    play(rt, &mut trial, ample, lines)?;
-    takes_seven(rt, ample, trial)?;
-    Ok(served)
+    play(rt, &mut trial, ample, lines);
+    takes_seven(rt, ample, trial);
+    served
 }
 
 #[test]
 fn each_growth_of_a_consumer_refused(rt: HostRuntime) -> Result<(), Fail> {
-    let ample = Rations::new(rt.alloc(), Refuse::Never);
-    let refused = growths_refused(&rt, |alloc| consumer_is_served(&rt, alloc, &ample))?;
+    let ample = FaultyHeap::new(rt.alloc(), Refuse::Never);
+    let refused = growths_refused(&rt, |alloc| Ok(consumer_is_served(&rt, alloc, &ample)))?;
     // The marks and the words of its notes.
     same(&rt, &(2 <= refused, ample.out()), &(true, 0));
     Ok(())
 }
 
-/// A mailbox of so many producers, consumers and cells, in which these calls were made, and all are taken in.
+/// A mailbox of these sizes, in which these calls were made, and all are taken in.
 fn all_taken_in<'a>(
     rt: &impl Abort,
     ample: Alloc<'a>,
     sizes: [u64; 3],
     lines: &str,
-) -> Result<Trial<Alloc<'a>>, Fail> {
-    let mut trial = new_trial(ample, sizes[0], sizes[1], sizes[2])?;
-    play(rt, &mut trial, ample, lines)?;
+) -> Trial<Alloc<'a>> {
+    let mut trial = new_trial(rt, ample, sizes[0], sizes[1], sizes[2]);
+    play(rt, &mut trial, ample, lines);
     take_all(&mut trial);
-    Ok(trial)
+    trial
 }
 
-/// Whether the allocator serves the report, which has this text. If it refuses, both values come back, and another serves it.
+/// Returns whether the allocator serves the report, which has this text. If it refuses, both values come back, and
+/// another serves it.
 fn gather_is_served<'a>(
     rt: &impl Abort,
     trial: Trial<Alloc<'a>>,
     alloc: Alloc<'a>,
     ample: Alloc<'a>,
     want: &str,
-) -> Result<bool, Fail> {
+) -> bool {
     match trial.gather(alloc) {
         Ok(report) => {
-            reads(rt, ample, &report, want)?;
-            Ok(true)
+            reads(rt, ample, &report, want);
+            true
         }
         Err((fault, trial)) => {
             same(rt, &fault, &GatherFault::NoMemory);
-            ends(rt, ample, trial, want)?;
-            Ok(false)
+            ends(rt, ample, trial, want);
+            false
         }
     }
 }
 
 #[test]
 fn each_growth_of_gather_refused(rt: HostRuntime) -> Result<(), Fail> {
-    let ample = Rations::new(rt.alloc(), Refuse::Never);
+    let ample = FaultyHeap::new(rt.alloc(), Refuse::Never);
     for (sizes, lines, want, growths) in [
-        // The lane and its item, the diary and its note.
+        // The lane and the diary; the consumer's lists, and its note.
         (
             [1, 1, 1],
             "\
@@ -173,8 +164,8 @@ diary 0 0 took 7
 ",
             4,
         ),
-        // The lanes, the items of each and the item left; the diaries, and the notes of two. Consumer 0 takes the item of lane 0,
-        // which consumer 1 loses, and consumer 1 begins a claim on the item of lane 1, which has ended.
+        // The lanes, the item left, the diaries, the lists of both consumers, and the note of each. Consumer 0 takes the
+        // item of lane 0, and consumer 1 loses it. Consumer 1 begins a claim on the item of lane 1, which has ended.
         (
             [2, 2, 2],
             "\
@@ -203,8 +194,8 @@ diary 1 1 begun
         ),
     ] {
         let refused = growths_refused(&rt, |alloc| {
-            let trial = all_taken_in(&rt, &ample, sizes, lines)?;
-            gather_is_served(&rt, trial, alloc, &ample, want)
+            let trial = all_taken_in(&rt, &ample, sizes, lines);
+            Ok(gather_is_served(&rt, trial, alloc, &ample, want))
         })?;
         assert!(rt; growths <= refused);
     }

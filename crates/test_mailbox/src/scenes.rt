@@ -1,4 +1,4 @@
-//! Scenes: calls of a mailbox in one thread, a line for each, with what it comes to. No call is handed anything to wait with.
+//! Scenes: calls of a mailbox in one thread, a line for each, with its answer. No call gets anything to wait with.
 
 use crate::compare::same_at;
 use crate::trial::Trial;
@@ -8,13 +8,12 @@ use mb_mailbox::{HubFault, Poll, Put};
 use mb_script::{number, split_word};
 use std::alloc::Allocator;
 use std::process::Abort;
-use std::test::Fail;
 use test_support::Zeros;
 
-/// What a call comes to: a word, and the number after it.
+/// The answer of a call: a word, and the number after it.
 type Told<'a> = (&'a str, Option<u64>);
 
-/// Makes the calls of these lines. Each comes to what its line says after the colon.
+/// Makes the calls of these lines. Each has the answer that its line has after the colon.
 ///
 /// | Call | What is called |
 /// |---|---|
@@ -28,31 +27,24 @@ pub(crate) fn play<A: Allocator + Copy + Drop>(
     trial: &mut Trial<A>,
     alloc: A,
     lines: &str,
-) -> Result<(), Fail> {
+) {
     let mut words = Zeros::default();
     for line in lines.lines() {
-        let Some((call, want)) = line.split_once(':') else {
-            return Err(Fail::new("a line without a colon"));
-        };
+        let (call, want) = line.split_once(':').expect(rt, "a line without a colon");
         let told = make(trial, alloc, &mut words, call);
         same_at(rt, &told, &told_by(want), &line);
     }
-    Ok(())
 }
 
 /// In a new mailbox of so many producers, consumers and cells the calls of these lines are made, and then this is reported.
-pub(crate) fn plays<R: Abort + AllocGlobal>(
-    rt: &R,
-    sizes: [u64; 3],
-    lines: &str,
-    report: &str,
-) -> Result<(), Fail> {
-    let mut trial = new_trial(rt.alloc(), sizes[0], sizes[1], sizes[2])?;
-    play(rt, &mut trial, rt.alloc(), lines)?;
-    ends(rt, rt.alloc(), trial, report)
+pub(crate) fn plays<R: Abort + AllocGlobal>(rt: &R, sizes: [u64; 3], lines: &str, report: &str) {
+    let alloc = rt.alloc();
+    let mut trial = new_trial(rt, alloc, sizes[0], sizes[1], sizes[2]);
+    play(rt, &mut trial, alloc, lines);
+    ends(rt, alloc, trial, report);
 }
 
-/// The word and the number after the colon of a line, and after a space.
+/// The word and the number after the colon of a line and a space.
 fn told_by(text: &str) -> Told<'_> {
     let (_, rest) = split_word(text);
     match rest {
@@ -64,7 +56,7 @@ fn told_by(text: &str) -> Told<'_> {
     }
 }
 
-/// The next number of a line, or 0 if there is none, and what stands after it.
+/// The next number of a line, or 0 if there is none, and the text after it.
 fn next_number(rest: Option<&str>) -> (u64, Option<&str>) {
     let Some(rest) = rest else {
         return (0, None);
@@ -76,7 +68,7 @@ fn next_number(rest: Option<&str>) -> (u64, Option<&str>) {
     }
 }
 
-/// Makes a call, and says what it comes to.
+/// Makes a call, and returns its answer.
 fn make<'a, A: Allocator + Copy + Drop>(
     trial: &mut Trial<A>,
     alloc: A,
@@ -144,7 +136,7 @@ fn taken<'a>(told: bool) -> &'a str {
     if told { "taken" } else { "nobody" }
 }
 
-/// How many of so many polls of lane 0 are spent.
+/// How many of `times` polls of lane 0 are spent.
 fn spent<A: Allocator + Copy + Drop>(
     trial: &mut Trial<A>,
     words: &mut Zeros,

@@ -1,4 +1,4 @@
-//! A mailbox together with those that it gave, so that a test calls them by their places.
+//! A mailbox together with its producers and consumers, so that a test calls them by their places.
 ghost use Rattle.std.specs.Prelude.{IfSome};
 ghost use Rattle.mb_mailbox.specs.Consumers.{IsConsumerOf};
 ghost use Rattle.mb_mailbox.specs.Producers.{IsProducerOf};
@@ -57,7 +57,8 @@ impl<A: Allocator + Clone + Drop> Trial<A> {
         })
     }
 
-    /// Gives a producer, which stands at the first empty place, else at place 1: the one that stood there goes away.
+    /// Has the hub give a producer, which goes to the first empty place, or else to place 1, where it drops the one
+    /// before.
     pub(crate) fn producer(&mut self, alloc: A) -> Result<(), HubFault> {
         let producer = self.hub.producer(alloc, &self.mailbox)?;
         if self.first_producer.is_none() {
@@ -68,7 +69,8 @@ impl<A: Allocator + Clone + Drop> Trial<A> {
         Ok(())
     }
 
-    /// Gives a consumer, which stands at the first empty place, else at place 1: the one that stood there goes away.
+    /// Has the hub give a consumer, which goes to the first empty place, or else to place 1, where it drops the one
+    /// before.
     pub(crate) fn consumer(&mut self, alloc: A) -> Result<(), HubFault> {
         let consumer = self.hub.consumer(alloc, &self.mailbox)?;
         if self.first_consumer.is_none() {
@@ -79,7 +81,7 @@ impl<A: Allocator + Clone + Drop> Trial<A> {
         Ok(())
     }
 
-    /// What a put of the producer at this place comes to.
+    /// The answer of a put by the producer at this place, if there is one.
     pub(crate) fn put(&mut self, place: usize, x: u64) -> Option<Put> {
         match place {
             0 => put_by(&mut self.first_producer, &self.mailbox, x),
@@ -88,7 +90,7 @@ impl<A: Allocator + Clone + Drop> Trial<A> {
         }
     }
 
-    /// The producer at this place ends its lane.
+    /// Ends the lane of the producer at this place, if there is one.
     pub(crate) fn finish(&mut self, place: usize) -> Option<Finish> {
         match place {
             0 => finish_by(&mut self.first_producer, &self.mailbox),
@@ -97,7 +99,7 @@ impl<A: Allocator + Clone + Drop> Trial<A> {
         }
     }
 
-    /// What a poll of the consumer at this place comes to.
+    /// The answer of a poll by the consumer at this place, if there is one.
     pub(crate) fn poll<R: Rng>(
         &mut self,
         place: usize,
@@ -118,7 +120,7 @@ impl<A: Allocator + Clone + Drop> Trial<A> {
         }
     }
 
-    /// Takes the producer at this place in, and says whether there was one.
+    /// Takes the producer at this place in. Returns whether there was one.
     pub(crate) fn take_producer(&mut self, place: usize) -> bool {
         let producer = match place {
             0 => self.first_producer.take(),
@@ -134,7 +136,7 @@ impl<A: Allocator + Clone + Drop> Trial<A> {
         }
     }
 
-    /// Takes the consumer at this place in, and says whether there was one.
+    /// Takes the consumer at this place in. Returns whether there was one.
     pub(crate) fn take_consumer(&mut self, place: usize) -> bool {
         let consumer = match place {
             0 => self.first_consumer.take(),
@@ -150,7 +152,7 @@ impl<A: Allocator + Clone + Drop> Trial<A> {
         }
     }
 
-    /// The report, or the fault with all as it was: who was not taken in stands where it stood.
+    /// The report, or the fault with all as it was: producers and consumers that are out keep their places.
     pub(crate) fn gather(self, alloc: A) -> Result<Report<A>, (GatherFault, Trial<A>)> {
         let Trial {
             mailbox,
@@ -178,7 +180,7 @@ impl<A: Allocator + Clone + Drop> Trial<A> {
 }
 
 impl<A: Allocator + Clone + Drop + Send + Sync> Trial<A> {
-    /// Workers in threads, as `mb_mailbox::work` has them.
+    /// Runs workers in threads, by `mb_mailbox::work`.
     pub(crate) fn work<W: Threads + Wait + Sync, R: Rng + Send + Drop, G: Gate>(
         &mut self,
         alloc: A,
@@ -201,7 +203,7 @@ impl<A: Allocator + Clone + Drop + Send + Sync> Trial<A> {
     }
 }
 
-/// What a put comes to, where there is a producer.
+/// The answer of a put, if there is a producer.
 fn put_by<A: Allocator + Drop>(
     producer: &mut Option<Producer<A>>,
     mailbox: &Mailbox<A>,
@@ -216,7 +218,7 @@ fn put_by<A: Allocator + Drop>(
     }
 }
 
-/// What the end of a lane comes to, where there is a producer.
+/// The answer of a finish, if there is a producer.
 fn finish_by<A: Allocator + Drop>(
     producer: &mut Option<Producer<A>>,
     mailbox: &Mailbox<A>,
@@ -230,7 +232,7 @@ fn finish_by<A: Allocator + Drop>(
     }
 }
 
-/// What a poll comes to, where there is a consumer.
+/// The answer of a poll, if there is a consumer.
 fn poll_by<A: Allocator + Drop, R: Rng>(
     consumer: &mut Option<Consumer<A>>,
     mailbox: &Mailbox<A>,

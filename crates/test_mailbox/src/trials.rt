@@ -7,17 +7,18 @@ use mb_script::report_text;
 use mb_world::{Report, Setup};
 use std::alloc::Allocator;
 use std::process::Abort;
-use std::test::Fail;
+use test_audit::{Tally, audit};
 
-/// The bit table's mailbox of so many producers, consumers and cells, with one pair for each cell.
+/// A mailbox of `p` producers, `c` consumers and `m` cells, with one pair for each cell over the bit table.
 pub(crate) fn new_trial<A: Allocator + Clone + Drop>(
+    rt: &impl Abort,
     alloc: A,
     p: u64,
     c: u64,
     m: u64,
-) -> Result<Trial<A>, Fail> {
-    let setup = Setup::new(p, c, m, 1, TableName::Bits)?;
-    Ok(Trial::new(alloc, setup)?)
+) -> Trial<A> {
+    let setup = Setup::new(p, c, m, 1, TableName::Bits).expect(rt, "no setup");
+    Trial::new(alloc, setup).expect(rt, "no mailbox")
 }
 
 /// Takes in all that are out.
@@ -34,10 +35,51 @@ pub(crate) fn reads<A: Allocator + Drop, B: Allocator + Drop>(
     alloc: A,
     report: &Report<B>,
     want: &str,
-) -> Result<(), Fail> {
-    let text = report_text(alloc, report)?;
+) {
+    let text = report_text(alloc, report).expect(rt, "no text");
     same(rt, &text.as_str(), &want);
-    Ok(())
+}
+
+/// The report, where all are taken in.
+pub(crate) fn gathered<A: Allocator + Clone + Drop>(
+    rt: &impl Abort,
+    alloc: A,
+    trial: Trial<A>,
+) -> Report<A> {
+    match trial.gather(alloc) {
+        Ok(report) => report,
+        Err(_) => panic!(rt; "no report"),
+    }
+}
+
+/// What an audit counts in the report, which has no flaw.
+pub(crate) fn audited<A: Allocator + Clone + Drop>(
+    rt: &impl Abort,
+    alloc: A,
+    trial: Trial<A>,
+    producers: u64,
+    consumers: u64,
+) -> Tally {
+    let report = gathered(rt, alloc, trial);
+    audit(&report, producers, consumers).expect(rt, "a flaw")
+}
+
+/// Each lane has these items and has ended, and each of so many diaries has so many notes, and no claim that is under way.
+pub(crate) fn tells_all<A: Allocator + Drop>(
+    rt: &impl Abort,
+    report: &Report<A>,
+    lists: &[&[u64]],
+    diaries: usize,
+    notes: usize,
+) {
+    let told = (report.lanes.len(), report.diaries.len());
+    same(rt, &told, &(lists.len(), diaries));
+    for (lane, list) in report.lanes.iter().zip(lists) {
+        same(rt, &(lane.put.as_slice(), lane.ended), &(*list, true));
+    }
+    for diary in &report.diaries {
+        same(rt, &(diary.notes.len(), diary.begun), &(notes, false));
+    }
 }
 
 /// Takes in all that are out. Then the report has this text.
@@ -46,10 +88,8 @@ pub(crate) fn ends<A: Allocator + Copy + Drop>(
     alloc: A,
     mut trial: Trial<A>,
     want: &str,
-) -> Result<(), Fail> {
+) {
     take_all(&mut trial);
-    let Ok(report) = trial.gather(alloc) else {
-        return Err(Fail::new("no report"));
-    };
-    reads(rt, alloc, &report, want)
+    let report = gathered(rt, alloc, trial);
+    reads(rt, alloc, &report, want);
 }

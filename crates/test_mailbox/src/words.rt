@@ -3,7 +3,7 @@
 use rand_chacha::ChaCha8Rng;
 use rand_core::SeedableRng;
 
-/// The generator of a seed at a stream.
+/// The generator for this seed, at this stream.
 pub(crate) fn chacha(seed: u64, stream: u32) -> ChaCha8Rng {
     let mut bytes = [0u8; 32];
     bytes[..8].copy_from_slice(&seed.to_le_bytes());

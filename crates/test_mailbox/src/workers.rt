@@ -1,9 +1,9 @@
-//! Workers: what `work` answers, and what is reported then.
+//! Workers: the results of `work`, and the report then.
 
 use crate::compare::same;
 use crate::scenes::play;
 use crate::trial::Trial;
-use crate::trials::{ends, new_trial};
+use crate::trials::{ends, gathered, new_trial, tells_all};
 use mb_mailbox::{Gate, OpenGate, Who, WorkFault, Worked};
 use mb_quorum::TableName;
 use mb_world::{Report, Setup};
@@ -11,7 +11,6 @@ use std::alloc::{Allocator, Global};
 use std::process::Abort;
 use std::sync::Wait;
 use std::sync::atomic::{AtomicU64, Ordering};
-use std::test::Fail;
 use std::thread::Threads;
 use test_audit::audit;
 use test_support::Zeros;
@@ -23,38 +22,45 @@ pub(crate) const ALL_DONE: Worked = Worked {
 };
 
 /// A list of items for each producer.
-pub(crate) fn lists<A: Allocator + Clone + Drop>(
+pub(crate) fn lists<A: Allocator + Copy + Drop>(
+    rt: &impl Abort,
     alloc: A,
     items: &[&[u64]],
-) -> Result<Vec<Vec<u64, A>, A>, Fail> {
-    let mut lists = Vec::new(alloc.clone()?);
+) -> Vec<Vec<u64, A>, A> {
+    let mut lists = Vec::new(alloc);
     for list in items {
-        lists.push(list.to_vec(alloc.clone()?)?)?;
+        let list = list.to_vec(alloc).expect(rt, "no list");
+        lists.push(list).expect(rt, "no lists");
     }
-    Ok(lists)
+    lists
 }
 
 /// So many sources of words 0.
-pub(crate) fn sources<A: Allocator + Drop>(alloc: A, amount: usize) -> Result<Vec<Zeros, A>, Fail> {
+pub(crate) fn sources<A: Allocator + Drop>(
+    rt: &impl Abort,
+    alloc: A,
+    amount: usize,
+) -> Vec<Zeros, A> {
     let mut sources = Vec::new(alloc);
     for _ in 0..amount {
-        sources.push(Zeros::default())?;
+        sources.push(Zeros::default()).expect(rt, "no list");
     }
-    Ok(sources)
+    sources
 }
 
 /// One worker puts each of these lists, and so many others poll with this budget.
-pub(crate) fn works<R: AllocGlobal + Threads + Wait + Sync, G: Gate>(
+pub(crate) fn works<R: Abort + AllocGlobal + Threads + Wait + Sync, G: Gate>(
     rt: &R,
     trial: &mut Trial<Global>,
     items: &[&[u64]],
     budget: u64,
     consumers: usize,
     gate: &G,
-) -> Result<Result<Worked, WorkFault>, Fail> {
-    let items = lists(rt.alloc(), items)?;
-    let rngs = sources(rt.alloc(), consumers)?;
-    Ok(trial.work(rt.alloc(), rt, items, budget, rngs, gate))
+) -> Result<Worked, WorkFault> {
+    let alloc = rt.alloc();
+    let items = lists(rt, alloc, items);
+    let rngs = sources(rt, alloc, consumers);
+    trial.work(alloc, rt, items, budget, rngs, gate)
 }
 
 /// A gate that lets nobody in.
@@ -69,51 +75,49 @@ impl Gate for ClosedGate {
     fn leave(&self, _who: Who, _call: u64) {}
 }
 
-/// In a new mailbox of two cells one worker puts each of these lists and another polls, and this is what comes of it and what
-/// is reported then.
+/// In a new mailbox of two cells one worker puts each of these lists, and another polls. `work` has this result, and
+/// the report has this text.
 fn work_once<R: Abort + AllocGlobal + Threads + Wait + Sync, G: Gate>(
     rt: &R,
     items: &[&[u64]],
     gate: &G,
     want: Worked,
     report: &str,
-) -> Result<(), Fail> {
-    let mut trial = new_trial(rt.alloc(), 1, 1, 2)?;
-    let worked = works(rt, &mut trial, items, 5, 1, gate)?;
+) {
+    let mut trial = new_trial(rt, rt.alloc(), 1, 1, 2);
+    let worked = works(rt, &mut trial, items, 5, 1, gate);
     same(rt, &worked, &Ok(want));
-    ends(rt, rt.alloc(), trial, report)
+    ends(rt, rt.alloc(), trial, report);
 }
 
 /// Two items are put and taken, and the lane has ended.
 const TWO_TAKEN: &str = "lane 0 ended put 1 2\nleft 0\ndiary 0 0 took 1 took 2\n";
 
 #[test]
-fn a_worker_puts_and_another_takes(rt: HostRuntime) -> Result<(), Fail> {
-    work_once(&rt, &[&[1, 2]], &OpenGate, ALL_DONE, TWO_TAKEN)?;
+fn a_worker_puts_and_another_takes(rt: HostRuntime) {
+    work_once(&rt, &[&[1, 2]], &OpenGate, ALL_DONE, TWO_TAKEN);
     // One item more than there are cells.
     let one_full = Worked {
         full: 1,
         stopped: 0,
     };
-    work_once(&rt, &[&[1, 2, 3]], &OpenGate, one_full, TWO_TAKEN)
+    work_once(&rt, &[&[1, 2, 3]], &OpenGate, one_full, TWO_TAKEN);
 }
 
 #[test]
-fn a_budget_of_0_is_refused(rt: HostRuntime) -> Result<(), Fail> {
-    let mut trial = new_trial(rt.alloc(), 1, 1, 2)?;
-    let worked = works(&rt, &mut trial, &[&[1, 2]], 0, 1, &OpenGate)?;
+fn a_budget_of_0_is_refused(rt: HostRuntime) {
+    let mut trial = new_trial(&rt, rt.alloc(), 1, 1, 2);
+    let worked = works(&rt, &mut trial, &[&[1, 2]], 0, 1, &OpenGate);
     same(&rt, &worked, &Err(WorkFault::BadBudget));
     // No number was given: both are left.
-    play(
-        &rt,
-        &mut trial,
-        rt.alloc(),
-        "producer: given\nconsumer: given\n",
-    )
+    let alloc = rt.alloc();
+    play(&rt, &mut trial, alloc, "producer: given\nconsumer: given\n");
+    let report = "lane 0 open put\nleft 0\ndiary 0 0\n";
+    ends(&rt, alloc, trial, report);
 }
 
 #[test]
-fn nobody_comes_through_a_closed_gate(rt: HostRuntime) -> Result<(), Fail> {
+fn nobody_comes_through_a_closed_gate(rt: HostRuntime) {
     let both = Worked {
         full: 0,
         stopped: 2,
@@ -124,25 +128,25 @@ fn nobody_comes_through_a_closed_gate(rt: HostRuntime) -> Result<(), Fail> {
         &ClosedGate,
         both,
         "lane 0 ended put\nleft 0\ndiary 0 0\n",
-    )
+    );
 }
 
 #[test]
-fn no_numbers_are_left_for_more_workers(rt: HostRuntime) -> Result<(), Fail> {
-    let mut trial = new_trial(rt.alloc(), 1, 1, 2)?;
+fn no_numbers_are_left_for_more_workers(rt: HostRuntime) {
+    let mut trial = new_trial(&rt, rt.alloc(), 1, 1, 2);
     let (one, more, none): (&[&[u64]], &[&[u64]], &[&[u64]]) = (&[&[1, 2]], &[&[3]], &[]);
     for (items, budget, consumers, want) in [
         (one, 5, 1, Ok(ALL_DONE)),
-        // Calls that want one more number are refused. That no number is left is told before the budget.
+        // Calls that need one more number are refused. The error for that comes before the one for the budget.
         (more, 0, 0, Err(WorkFault::AllGiven)),
         (none, 5, 1, Err(WorkFault::AllGiven)),
-        // Without lists and without sources there is nobody, and nothing to do.
+        // Without lists and sources there is no worker and nothing to do.
         (none, 5, 0, Ok(ALL_DONE)),
     ] {
-        let worked = works(&rt, &mut trial, items, budget, consumers, &OpenGate)?;
+        let worked = works(&rt, &mut trial, items, budget, consumers, &OpenGate);
         same(&rt, &worked, &want);
     }
-    ends(&rt, rt.alloc(), trial, TWO_TAKEN)
+    ends(&rt, rt.alloc(), trial, TWO_TAKEN);
 }
 
 /// A gate that counts the calls that it lets in.
@@ -161,7 +165,7 @@ impl Gate for CountingGate {
 }
 
 #[test]
-fn a_consumer_without_lanes_polls_none(rt: HostRuntime) -> Result<(), Fail> {
+fn a_consumer_without_lanes_polls_none(rt: HostRuntime) {
     let gate = CountingGate {
         calls: AtomicU64::new(0),
     };
@@ -171,9 +175,8 @@ fn a_consumer_without_lanes_polls_none(rt: HostRuntime) -> Result<(), Fail> {
         &gate,
         ALL_DONE,
         "lane 0 open put\nleft 0\ndiary 0 0\n",
-    )?;
+    );
     same(&rt, &gate.calls.load(Ordering::SeqCst), &0);
-    Ok(())
 }
 
 /// Sixteen items in order, from this one on.
@@ -185,12 +188,20 @@ fn sixteen_from(first: u64) -> [u64; 16] {
     items
 }
 
-/// The report of a run of four producers and four consumers, which share 64 cells.
+/// The report of a run of four producers of these items and four consumers, which share 64 cells.
 fn four_and_four<R: Abort + AllocGlobal + Threads + Wait + Sync>(
     rt: &R,
-) -> Result<Report<Global>, Fail> {
-    let setup = Setup::new(4, 4, 64, 4, TableName::Bits)?;
-    let mut trial = Trial::new(rt.alloc(), setup)?;
+    items: &[&[u64]],
+) -> Report<Global> {
+    let setup = Setup::new(4, 4, 64, 4, TableName::Bits).expect(rt, "no setup");
+    let mut trial = Trial::new(rt.alloc(), setup).expect(rt, "no mailbox");
+    let worked = works(rt, &mut trial, items, 3, 4, &OpenGate);
+    same(rt, &worked, &Ok(ALL_DONE));
+    gathered(rt, rt.alloc(), trial)
+}
+
+#[test]
+fn four_producers_and_four_consumers_share_64_cells(rt: HostRuntime) {
     let items = [0, 100, 200, 300].map(sixteen_from);
     let items = [
         items[0].as_slice(),
@@ -198,28 +209,9 @@ fn four_and_four<R: Abort + AllocGlobal + Threads + Wait + Sync>(
         items[2].as_slice(),
         items[3].as_slice(),
     ];
-    let worked = works(rt, &mut trial, &items, 3, 4, &OpenGate)?;
-    same(rt, &worked, &Ok(ALL_DONE));
-    trial.gather(rt.alloc()).map_err(|_| Fail::new("no report"))
-}
-
-/// Each lane has the items of its producer in order, and each diary has notes on all of them.
-fn tells_of_all(rt: &impl Abort, report: &Report<Global>) {
-    same(rt, &(report.lanes.len(), report.diaries.len()), &(4, 16));
-    for (lane, first) in report.lanes.iter().zip([0u64, 100, 200, 300]) {
-        same(rt, &lane.put.as_slice(), &sixteen_from(first).as_slice());
-    }
-    for diary in &report.diaries {
-        same(rt, &(diary.notes.len(), diary.begun), &(16, false));
-    }
-}
-
-#[test]
-fn four_producers_and_four_consumers_share_64_cells(rt: HostRuntime) -> Result<(), Fail> {
-    let report = four_and_four(&rt)?;
-    tells_of_all(&rt, &report);
+    let report = four_and_four(&rt, &items);
+    tells_all(&rt, &report, &items, 16, 16);
     // Among others: no item has two who took it.
-    let tally = audit(&report, 4, 4)?;
+    let tally = audit(&report, 4, 4).expect(&rt, "a flaw");
     same(&rt, &tally.put, &64);
-    Ok(())
 }

@@ -4,12 +4,12 @@ use crate::compare::{same, same_at};
 use clap::error::ErrorKind;
 use mb_claim::Shape;
 use mb_program::{
-    Choice, DEFAULTS, Ending, Failed, Options, RatifyFault, RunFault, command_of, status_of_ending,
+    Choice, DEFAULTS, Failed, Options, ProgramExit, RatifyFault, RunFault, command_of,
+    status_of_ending,
 };
 use mb_script::Fault;
 use mb_world::SetupFault;
 use std::process::Abort;
-use std::test::Fail;
 
 // These words are read as this choice.
 fn chooses<R: Abort + AllocGlobal>(rt: &R, words: &[&str], want: Choice) {
@@ -17,7 +17,7 @@ fn chooses<R: Abort + AllocGlobal>(rt: &R, words: &[&str], want: Choice) {
     same_at(rt, &is_chosen, &true, &words);
 }
 
-// The options of `run` by default: 2 producers, 2 consumers, 8 items each, 4 pairs alone, budget 64 and seed 0.
+// The defaults of `run`: 2 producers, 2 consumers, 8 items each, 4 pairs alone, budget 64 and seed 0.
 #[test]
 fn run_has_defaults(rt: HostRuntime) {
     let options = Options {
@@ -108,13 +108,13 @@ fn commands_are_named(rt: HostRuntime) {
     chooses(&rt, &["mailbox", "replay"], Choice::Replay);
 }
 
-// The status of a refusal that is printed, and of one that cannot be.
+// The status of a refusal that is printed, and of one that cannot be printed.
 fn refusal(kind: ErrorKind) -> (u8, u8) {
-    let printed = Ending::Refused {
+    let printed = ProgramExit::Refused {
         kind,
         printed: true,
     };
-    let unprinted = Ending::Refused {
+    let unprinted = ProgramExit::Refused {
         kind,
         printed: false,
     };
@@ -122,7 +122,7 @@ fn refusal(kind: ErrorKind) -> (u8, u8) {
 }
 
 #[test]
-fn lines_are_refused(rt: HostRuntime) -> Result<(), Fail> {
+fn lines_are_refused(rt: HostRuntime) {
     let (help, refused) = ((0, 3), (2, 2));
     for (words, want, statuses) in [
         (
@@ -202,35 +202,37 @@ fn lines_are_refused(rt: HostRuntime) -> Result<(), Fail> {
         ),
     ] {
         let Err(error) = command_of(rt.alloc(), words) else {
-            return Err(Fail::from("a line that is refused"));
+            panic!(rt; "a line is not refused")
         };
         let kind = error.kind();
         let told = (kind == want, refusal(kind));
         same_at(&rt, &told, &(true, statuses), &words);
     }
-    Ok(())
 }
 
 #[test]
 fn endings_have_a_status(rt: HostRuntime) {
     for (ending, status) in [
-        (Ending::Done, 0),
-        (Ending::Failed(Failed::Ratify(RatifyFault::BadLine(1))), 2),
-        (Ending::Failed(Failed::Replay(Fault::ReadFault)), 3),
+        (ProgramExit::Done, 0),
         (
-            Ending::Failed(Failed::Run(RunFault::BadSetup(SetupFault::BadCells))),
+            ProgramExit::Failed(Failed::Ratify(RatifyFault::BadLine(1))),
             2,
         ),
-        (Ending::Failed(Failed::Run(RunFault::NoThread)), 3),
+        (ProgramExit::Failed(Failed::Replay(Fault::ReadFault)), 3),
         (
-            Ending::Refused {
+            ProgramExit::Failed(Failed::Run(RunFault::BadSetup(SetupFault::BadCells))),
+            2,
+        ),
+        (ProgramExit::Failed(Failed::Run(RunFault::NoThread)), 3),
+        (
+            ProgramExit::Refused {
                 kind: ErrorKind::OutOfMemory,
                 printed: true,
             },
             3,
         ),
-        (Ending::NoText, 2),
-        (Ending::NoWords, 3),
+        (ProgramExit::NonUtf8Args, 2),
+        (ProgramExit::ArgsUnavailable, 3),
     ] {
         same(&rt, &status_of_ending(&ending), &status);
     }

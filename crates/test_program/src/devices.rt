@@ -43,7 +43,7 @@ impl Write for NarrowWriter {
     }
 }
 
-/// Gives so many letters, and then fails or ends.
+/// Gives `left` letters, and then fails or ends.
 #[derive(Drop)]
 pub struct Letters {
     pub left: usize,

@@ -1,7 +1,8 @@
-//! The examples of the program: each is run as it stands, and both streams and the status are compared.
+//! The examples of the program. The tests run each of them, and compare both streams and the status.
 //! `examples/README.md` says what each shows.
 
 pub mod claims;
+mod entry;
 mod lanes;
 pub mod ratifiers;
 mod refused_replays;
@@ -14,7 +15,7 @@ use claims::CLAIMS;
 use lanes::LANES;
 use mb_program::program::run;
 use mb_program::status_of_ending;
-use mb_script::Counting;
+use mb_script::CountingIo;
 use ratifiers::RATIFIERS;
 use refused_replays::REFUSED_REPLAYS;
 use runs::RUNS;
@@ -23,27 +24,15 @@ use std::sync::Wait;
 use std::thread::Threads;
 use texts::TEXTS;
 
-/// One run of the program: its command line and standard input, what goes to standard output and standard error, and
-/// the exit status.
-#[derive(Clone, Copy)]
-pub struct Example {
-    pub name: &'static str,
-    pub words: &'static [&'static str],
-    pub input: &'static str,
-    pub output: &'static str,
-    pub error: &'static str,
-    pub status: u8,
-}
-
 /// What both streams got, and the status.
 pub(crate) fn ended<R: AllocGlobal + Threads + Wait + Sync>(
     rt: &R,
     words: &[&str],
     input: &str,
 ) -> (Vec<u8>, Vec<u8>, u8) {
-    let mut reader = Counting::new(input.as_bytes());
-    let mut writer = Counting::new(Vec::<u8>::new(rt.alloc()));
-    let mut errors = Counting::new(Vec::<u8>::new(rt.alloc()));
+    let mut reader = CountingIo::new(input.as_bytes());
+    let mut writer = CountingIo::new(Vec::<u8>::new(rt.alloc()));
+    let mut errors = CountingIo::new(Vec::<u8>::new(rt.alloc()));
     let ending = run(rt, words, &mut reader, &mut writer, &mut errors);
     (writer.device, errors.device, status_of_ending(&ending))
 }

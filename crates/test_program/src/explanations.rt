@@ -4,10 +4,9 @@ use crate::compare::same;
 use mb_program::{Failed, RatifyFault, RunFault, explanation};
 use mb_script::Fault;
 use mb_world::SetupFault;
-use std::test::Fail;
 
 #[test]
-fn faults_are_told_in_words(rt: HostRuntime) -> Result<(), Fail> {
+fn faults_are_told_in_words(rt: HostRuntime) {
     for (failed, words) in [
         (
             Failed::Ratify(RatifyFault::TooLong),
@@ -54,8 +53,7 @@ fn faults_are_told_in_words(rt: HostRuntime) -> Result<(), Fail> {
             "a thread could not be started\n",
         ),
     ] {
-        let text = explanation(rt.alloc(), &failed)?;
+        let text = explanation(rt.alloc(), &failed).expect(&rt, "no text");
         same(&rt, &text.as_str(), &words);
     }
-    Ok(())
 }

@@ -4,10 +4,9 @@ use crate::compare::same;
 use mb_program::{Failed, RatifyFault, RunFault, fault_text, status_of};
 use mb_script::Fault;
 use mb_world::SetupFault;
-use std::test::Fail;
 
 #[test]
-fn faults_have_a_line_and_a_status(rt: HostRuntime) -> Result<(), Fail> {
+fn faults_have_a_line_and_a_status(rt: HostRuntime) {
     for (failed, line, status) in [
         (Failed::Ratify(RatifyFault::TooLong), "fault 1 TooLong\n", 2),
         (
@@ -127,8 +126,7 @@ fn faults_have_a_line_and_a_status(rt: HostRuntime) -> Result<(), Fail> {
         (Failed::Run(RunFault::NoThread), "fault 3 NoThread\n", 3),
         (Failed::Run(RunFault::WriteFault), "fault 4 WriteFault\n", 3),
     ] {
-        let text = fault_text(rt.alloc(), &failed)?;
+        let text = fault_text(rt.alloc(), &failed).expect(&rt, "no text");
         same(&rt, &(text.as_str(), status_of(&failed)), &(line, status));
     }
-    Ok(())
 }

@@ -1,5 +1,5 @@
-//! Tests of the program, which is proved without them: its examples, further scripts and command lines, devices that fail, and
-//! calls whose memory is refused.
+//! Tests of the program, which is proved without them: its examples, further scripts and command lines, devices that
+//! fail, and calls that run out of memory.
 #![tactic(auto)]
 
 #[cfg(test)]

@@ -5,19 +5,19 @@ use crate::devices::{Letters, NarrowWriter, SlowReader};
 use crate::examples::ratifiers::LATE_INPUT;
 use mb_program::{RatifyFault, ratify_text, read_script};
 use mb_quorum::TableName;
-use mb_script::Counting;
-use std::test::Fail;
+use mb_script::CountingIo;
+use std::alloc::AllocError;
 
-// The script, run: how the call ended, and what was written.
+// Runs the script. Returns how the call ended, and what was written.
 fn ratified(rt: &HostRuntime, script: &str) -> (Result<(), RatifyFault>, Vec<u8>) {
-    let mut reader = Counting::new(script.as_bytes());
-    let mut writer = Counting::new(Vec::<u8>::new(rt.alloc()));
+    let mut reader = CountingIo::new(script.as_bytes());
+    let mut writer = CountingIo::new(Vec::<u8>::new(rt.alloc()));
     let result = ratify_text(rt.alloc(), &mut reader, &mut writer);
     (result, writer.device)
 }
 
 // Adds the number of each of sixteen processes, with these texts around it.
-fn push_each(text: &mut String, before: &str, after: &str) -> Result<(), Fail> {
+fn push_each(text: &mut String, before: &str, after: &str) -> Result<(), AllocError> {
     for process in [
         "0", "1", "2", "3", "4", "5", "6", "7", "8", "9", "10", "11", "12", "13", "14", "15",
     ] {
@@ -29,33 +29,40 @@ fn push_each(text: &mut String, before: &str, after: &str) -> Result<(), Fail> {
 }
 
 // Ten thousand turns of sixteen processes with one value, which has an empty read quorum.
-#[test]
-fn ten_thousand_turns_are_answered(rt: HostRuntime) -> Result<(), Fail> {
-    let mut script = String::new(rt.alloc());
+fn push_turns(script: &mut String) -> Result<(), AllocError> {
     script.push_str("ratify unary 1\ninputs 0 0 0 0 0 0 0 0 0 0 0 0 0 0 0 0\nturns")?;
     for _ in 0..625 {
-        push_each(&mut script, " ", "")?;
+        push_each(script, " ", "")?;
     }
-    script.push_str("\n")?;
-    let mut want = String::new(rt.alloc());
+    script.push_str("\n")
+}
+
+// What is answered to that.
+fn push_answers(want: &mut String) -> Result<(), AllocError> {
     for answer in [" store q0 1\n", " load p 0\n", " store p 1 out 1 0\n"] {
-        push_each(&mut want, "", answer)?;
+        push_each(want, "", answer)?;
     }
     for _ in 3..625 {
-        push_each(&mut want, "", " done\n")?;
+        push_each(want, "", " done\n")?;
     }
-    push_each(&mut want, "process ", ": 1 0\n")?;
-    let (result, text) = ratified(&rt, script.as_str());
-    let is_whole = text.as_slice() == want.as_bytes();
-    same(&rt, &(result, is_whole), &(Ok(()), true));
-    Ok(())
+    push_each(want, "process ", ": 1 0\n")
 }
 
 #[test]
-fn a_script_is_read(rt: HostRuntime) -> Result<(), Fail> {
-    let Ok(script) = read_script(rt.alloc(), LATE_INPUT.input.as_bytes()) else {
-        return Err(Fail::from("a script that is refused"));
-    };
+fn ten_thousand_turns_are_answered(rt: HostRuntime) {
+    let mut script = String::new(rt.alloc());
+    push_turns(&mut script).expect(&rt, "no script");
+    let mut want = String::new(rt.alloc());
+    push_answers(&mut want).expect(&rt, "no answers");
+    let (result, text) = ratified(&rt, script.as_str());
+    let is_whole = text.as_slice() == want.as_bytes();
+    same(&rt, &(result, is_whole), &(Ok(()), true));
+}
+
+#[test]
+fn a_script_is_read(rt: HostRuntime) {
+    let input = LATE_INPUT.input.as_bytes();
+    let script = read_script(rt.alloc(), input).expect(&rt, "a script that is refused");
     let (inputs, turns) = ([0, 1].as_slice(), [0, 0, 0, 0, 1, 1, 1].as_slice());
     same(
         &rt,
@@ -67,7 +74,6 @@ fn a_script_is_read(rt: HostRuntime) -> Result<(), Fail> {
         ),
         &(TableName::Unary, 2, inputs, turns),
     );
-    Ok(())
 }
 
 #[test]
@@ -128,7 +134,7 @@ fn the_first_fault_decides(rt: HostRuntime) {
     }
 }
 
-// What is answered over these devices, and what is written.
+// Runs the command over these devices. Returns its result, and what was written.
 fn answered(
     rt: &HostRuntime,
     script: &'static str,
@@ -136,11 +142,11 @@ fn answered(
     room: usize,
     writer_fails: bool,
 ) -> (Result<(), RatifyFault>, Vec<u8>) {
-    let mut reader = Counting::new(SlowReader {
+    let mut reader = CountingIo::new(SlowReader {
         script: script.as_bytes(),
         fails: reader_fails,
     });
-    let mut writer = Counting::new(NarrowWriter {
+    let mut writer = CountingIo::new(NarrowWriter {
         taken: Vec::new(rt.alloc()),
         room,
         fails: writer_fails,
@@ -188,15 +194,15 @@ fn devices_fail(rt: HostRuntime) {
 }
 
 #[test]
-fn reading_stops_past_the_limit(rt: HostRuntime) -> Result<(), Fail> {
+fn reading_stops_past_the_limit(rt: HostRuntime) {
     for (left, fails, want) in [
         (1_048_576, false, RatifyFault::BadLine(1)),
         (1_048_576, true, RatifyFault::ReadFault),
         (1_048_577, true, RatifyFault::TooLong),
         (1_048_578, false, RatifyFault::TooLong),
     ] {
-        let mut reader = Counting::new(Letters { left, fails });
-        let mut writer = Counting::new(Vec::<u8>::new(rt.alloc()));
+        let mut reader = CountingIo::new(Letters { left, fails });
+        let mut writer = CountingIo::new(Vec::<u8>::new(rt.alloc()));
         let result = ratify_text(rt.alloc(), &mut reader, &mut writer);
         same_at(
             &rt,
@@ -205,5 +211,4 @@ fn reading_stops_past_the_limit(rt: HostRuntime) -> Result<(), Fail> {
             &left,
         );
     }
-    Ok(())
 }

@@ -1,4 +1,5 @@
-//! Each growth of a call refused in turn: the call wants memory, keeps none and writes nothing, and is then served.
+//! Each allocation of a call is refused in turn. The call runs out of memory, keeps none and writes nothing. At last it
+//! is served.
 
 use crate::compare::same;
 use crate::examples::claims::{ITEM_TAKEN, ONE_LOSES};
@@ -6,14 +7,15 @@ use crate::examples::ratifiers::LATE_INPUT;
 use crate::examples::runs::TWO_ITEMS;
 use crate::run::ALONE;
 use mb_program::{Failed, RatifyFault, RunFault, fault_text, ratify_text, run_threads};
-use mb_script::{Counting, Fault, report_text, run};
-use mb_world::{Diary, LaneReport, Note, Report, SetupFault};
+use mb_script::{CountingIo, Fault, report_text, run};
+use mb_world::{Note, SetupFault};
 use std::fmt::Debug;
 use std::process::Abort;
 use std::test::Fail;
 use test_alloc::growths_refused;
+use test_support::made_up;
 
-/// A call that is out of memory wrote nothing, and any other is done and wrote this. Whether it was served.
+/// A call that ran out of memory wrote nothing, and any other is done and wrote this. Returns whether it was served.
 fn is_served<F: PartialEq + Debug + Copy>(
     rt: &impl Abort,
     ending: Result<(), F>,
@@ -32,8 +34,8 @@ fn is_served<F: PartialEq + Debug + Copy>(
 #[test]
 fn each_growth_of_ratify_text_refused(rt: HostRuntime) -> Result<(), Fail> {
     let refused = growths_refused(&rt, |alloc| {
-        let mut reader = Counting::new(LATE_INPUT.input.as_bytes());
-        let mut writer = Counting::new(Vec::<u8>::new(rt.alloc()));
+        let mut reader = CountingIo::new(LATE_INPUT.input.as_bytes());
+        let mut writer = CountingIo::new(Vec::<u8>::new(rt.alloc()));
         let result = ratify_text(alloc, &mut reader, &mut writer);
         let written = writer.device.as_slice();
         Ok(is_served(
@@ -51,12 +53,12 @@ fn each_growth_of_ratify_text_refused(rt: HostRuntime) -> Result<(), Fail> {
 
 #[test]
 fn each_growth_of_run_refused(rt: HostRuntime) -> Result<(), Fail> {
-    // The script's bytes and its events, seven lists of the world, four or five of its report, its lane's cells for the lane
-    // and for each diary, and the text.
+    // The script's bytes and its events, seven lists of the world, four or five of its report, and the text. The cells
+    // of the lane come once for the lane and once for each diary.
     for (example, growths) in [(ITEM_TAKEN, 16), (ONE_LOSES, 18)] {
         let refused = growths_refused(&rt, |alloc| {
-            let mut reader = Counting::new(example.input.as_bytes());
-            let mut writer = Counting::new(Vec::<u8>::new(rt.alloc()));
+            let mut reader = CountingIo::new(example.input.as_bytes());
+            let mut writer = CountingIo::new(Vec::<u8>::new(rt.alloc()));
             let result = run(alloc, &mut reader, &mut writer);
             let written = writer.device.as_slice();
             Ok(is_served(&rt, result, Fault::NoMemory, written, example.output))
@@ -69,34 +71,25 @@ fn each_growth_of_run_refused(rt: HostRuntime) -> Result<(), Fail> {
 #[test]
 fn each_growth_of_run_threads_refused(rt: HostRuntime) -> Result<(), Fail> {
     let refused = growths_refused(&rt, |alloc| {
-        let mut writer = Counting::new(Vec::<u8>::new(rt.alloc()));
+        let mut writer = CountingIo::new(Vec::<u8>::new(rt.alloc()));
         let result = run_threads(alloc, &rt, ALONE, &mut writer);
         let written = writer.device.as_slice();
         Ok(is_served(&rt, result, RunFault::NoMemory, written, TWO_ITEMS.output))
     })?;
-    // The items and their list, the sources, two lists of the hub and two of each table's words, nine growths of `work`, four
-    // lists of the report, and the text.
+    // The items and their list, the sources, two lists of the hub and two of each table's words, nine allocations of
+    // `work`, four lists of the report, and the text.
     assert!(rt; 23 <= refused);
     Ok(())
 }
 
 #[test]
 fn each_growth_of_report_text_refused(rt: HostRuntime) -> Result<(), Fail> {
-    let lane = LaneReport {
-        put: vec![in rt.alloc(); 0, 1]?,
-        ended: true,
-        left: Vec::new(rt.alloc()),
-    };
-    let diary = Diary {
-        consumer: 0,
-        lane: 0,
-        notes: vec![in rt.alloc(); Note::Took(0), Note::Took(1)]?,
-        begun: false,
-    };
-    let report = Report {
-        lanes: vec![in rt.alloc(); lane]?,
-        diaries: vec![in rt.alloc(); diary]?,
-    };
+    let report = made_up(
+        rt.alloc(),
+        &[(&[0, 1], true, &[])],
+        &[(0, 0, &[Note::Took(0), Note::Took(1)], false)],
+    )
+    .expect(&rt, "no report");
     let refused = growths_refused(&rt, |alloc| match report_text(alloc, &report) {
         Ok(text) => {
             same(&rt, &text.as_str(), &TWO_ITEMS.output);

@@ -3,20 +3,22 @@
 use crate::compare::{same, same_at};
 use crate::devices::{Letters, NarrowWriter, SlowReader};
 use crate::examples::claims::ITEM_TAKEN;
-use mb_script::{Counting, Fault, report_text, run};
-use mb_world::{Diary, LaneReport, Note, Report, SetupFault};
-use std::test::Fail;
+use mb_script::{CountingIo, Fault, report_text, run};
+use mb_world::{Note, SetupFault};
+use std::alloc::{AllocError, Global};
+use std::process::Abort;
+use test_support::made_up;
 
-// The script, replayed: how the call ended, and what was written.
+// Replays the script. Returns how the call ended, and what was written.
 fn replayed(rt: &HostRuntime, script: &str) -> (Result<(), Fault>, Vec<u8>) {
-    let mut reader = Counting::new(script.as_bytes());
-    let mut writer = Counting::new(Vec::<u8>::new(rt.alloc()));
+    let mut reader = CountingIo::new(script.as_bytes());
+    let mut writer = CountingIo::new(Vec::<u8>::new(rt.alloc()));
     let result = run(rt.alloc(), &mut reader, &mut writer);
     (result, writer.device)
 }
 
-// Which fault a script has is tested with the reading of scripts. Here it has lines before and behind it that could be
-// answered, and nothing is written.
+// The tests of reading say which fault a script has. Here good lines come before and after the fault, and nothing is
+// written.
 #[test]
 fn a_fault_leaves_nothing_written(rt: HostRuntime) {
     for (script, want) in [
@@ -41,68 +43,67 @@ fn a_fault_leaves_nothing_written(rt: HostRuntime) {
     }
 }
 
-// A script of so many pushes on a lane where nothing was offered, and its answer.
-fn pushes(rt: &HostRuntime, count: usize) -> Result<(String, String), Fail> {
-    let mut script = String::new(rt.alloc());
-    let mut want = String::new(rt.alloc());
-    script.push_str("setup 1 1 1 1 bits\n")?;
+// This text, so often the next one, and the last.
+fn repeated(
+    alloc: Global,
+    first: &str,
+    line: &str,
+    count: usize,
+    last: &str,
+) -> Result<String, AllocError> {
+    let mut text = first.to_string(alloc)?;
     for _ in 0..count {
-        script.push_str("push 0\n")?;
-        want.push_str("push 0 idle\n")?;
+        text.push_str(line)?;
     }
-    want.push_str("lane 0 open put\nleft 0\ndiary 0 0\n")?;
-    Ok((script, want))
+    text.push_str(last)?;
+    Ok(text)
+}
+
+// A script of so many pushes on a lane where nothing was offered, which ends so.
+fn pushes<R: Abort + AllocGlobal>(rt: &R, count: usize, last: &str) -> String {
+    repeated(rt.alloc(), "setup 1 1 1 1 bits\n", "push 0\n", count, last).expect(rt, "no script")
+}
+
+// The answer to so many pushes.
+fn answers<R: Abort + AllocGlobal>(rt: &R, count: usize) -> String {
+    let report = "lane 0 open put\nleft 0\ndiary 0 0\n";
+    repeated(rt.alloc(), "", "push 0 idle\n", count, report).expect(rt, "no answer")
 }
 
 #[test]
-fn many_events_are_replayed(rt: HostRuntime) -> Result<(), Fail> {
+fn many_events_are_replayed(rt: HostRuntime) {
     for count in [1_000, 19_999, 20_000] {
-        let (script, want) = pushes(&rt, count)?;
-        let (result, text) = replayed(&rt, script.as_str());
-        let is_whole = text.as_slice() == want.as_bytes();
+        let (result, text) = replayed(&rt, &pushes(&rt, count, ""));
+        let is_whole = text.as_slice() == answers(&rt, count).as_bytes();
         same_at(&rt, &(result, is_whole), &(Ok(()), true), &count);
     }
-    Ok(())
 }
 
 #[test]
-fn a_script_has_a_limit_of_events(rt: HostRuntime) -> Result<(), Fail> {
-    let (mut script, _) = pushes(&rt, 20_000)?;
-    script.push_str("x\n")?;
-    let (result, text) = replayed(&rt, script.as_str());
+fn a_script_has_a_limit_of_events(rt: HostRuntime) {
+    let (result, text) = replayed(&rt, &pushes(&rt, 20_000, "x\n"));
     same(&rt, &(result, text.len()), &(Err(Fault::TooManyEvents), 0));
-    Ok(())
 }
 
 // A report of one item, which a consumer took.
 #[test]
-fn a_report_has_its_text(rt: HostRuntime) -> Result<(), Fail> {
-    let lane = LaneReport {
-        put: vec![in rt.alloc(); 5]?,
-        ended: true,
-        left: Vec::new(rt.alloc()),
-    };
-    let diary = Diary {
-        consumer: 0,
-        lane: 0,
-        notes: vec![in rt.alloc(); Note::Took(5)]?,
-        begun: false,
-    };
-    let report = Report {
-        lanes: vec![in rt.alloc(); lane]?,
-        diaries: vec![in rt.alloc(); diary]?,
-    };
-    let text = report_text(rt.alloc(), &report)?;
+fn a_report_has_its_text(rt: HostRuntime) {
+    let report = made_up(
+        rt.alloc(),
+        &[(&[5], true, &[])],
+        &[(0, 0, &[Note::Took(5)], false)],
+    )
+    .expect(&rt, "no report");
+    let text = report_text(rt.alloc(), &report).expect(&rt, "no text");
     same(
         &rt,
         &text.as_str(),
         &"lane 0 ended put 5\nleft 0\ndiary 0 0 took 5\n",
     );
-    Ok(())
 }
 
 #[test]
-fn devices_fail(rt: HostRuntime) -> Result<(), Fail> {
+fn devices_fail(rt: HostRuntime) {
     let read_fault = Err(Fault::ReadFault);
     let write_fault = Err(Fault::WriteFault);
     let (taken, taken_text) = (ITEM_TAKEN.input, ITEM_TAKEN.output);
@@ -113,11 +114,11 @@ fn devices_fail(rt: HostRuntime) -> Result<(), Fail> {
         (taken, false, 10, true, write_fault, "offer 0 7 "),
         (taken, false, 10, false, write_fault, "offer 0 7 "),
     ] {
-        let mut reader = Counting::new(SlowReader {
+        let mut reader = CountingIo::new(SlowReader {
             script: script.as_bytes(),
             fails: reader_fails,
         });
-        let mut writer = Counting::new(NarrowWriter {
+        let mut writer = CountingIo::new(NarrowWriter {
             taken: Vec::new(rt.alloc()),
             room,
             fails: writer_fails,
@@ -139,19 +140,18 @@ fn devices_fail(rt: HostRuntime) -> Result<(), Fail> {
             ),
         );
     }
-    Ok(())
 }
 
 #[test]
-fn reading_stops_past_the_limit(rt: HostRuntime) -> Result<(), Fail> {
+fn reading_stops_past_the_limit(rt: HostRuntime) {
     for (left, fails, want) in [
         (1_048_576, false, Fault::NoSetup),
         (1_048_576, true, Fault::ReadFault),
         (1_048_577, true, Fault::TooLong),
         (1_048_578, false, Fault::TooLong),
     ] {
-        let mut reader = Counting::new(Letters { left, fails });
-        let mut writer = Counting::new(Vec::<u8>::new(rt.alloc()));
+        let mut reader = CountingIo::new(Letters { left, fails });
+        let mut writer = CountingIo::new(Vec::<u8>::new(rt.alloc()));
         let result = run(rt.alloc(), &mut reader, &mut writer);
         same_at(
             &rt,
@@ -160,5 +160,4 @@ fn reading_stops_past_the_limit(rt: HostRuntime) -> Result<(), Fail> {
             &left,
         );
     }
-    Ok(())
 }

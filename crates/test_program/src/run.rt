@@ -1,4 +1,5 @@
-//! The command `run`: its report where that does not depend on the order of the threads, its faults, over writers that fail.
+//! The command `run`: its report if that does not depend on the order of the threads, its faults, and writers that
+//! fail.
 
 use crate::compare::{same, same_at};
 use crate::devices::NarrowWriter;
@@ -6,11 +7,10 @@ use crate::examples::ended;
 use crate::examples::runs::TWO_ITEMS;
 use mb_claim::Shape;
 use mb_program::{Options, RunFault, run_threads, source_of, workload_of};
-use mb_script::Counting;
+use mb_script::CountingIo;
 use mb_world::SetupFault;
 use rand_core::Rng;
 use std::sync::Wait;
-use std::test::Fail;
 use std::thread::Threads;
 
 // What the example with two items asks for.
@@ -24,17 +24,18 @@ pub const ALONE: Options = Options {
     shape: Shape::PLAIN,
 };
 
-// What the call answered, and what was written.
+// The result of the call, and what was written.
 fn reported<R: AllocGlobal + Threads + Wait + Sync>(
     rt: &R,
     options: Options,
 ) -> (Result<(), RunFault>, Vec<u8>) {
-    // Each budget here is 1 or more, as the call asks, but a loop over options does not tell.
+    // The call needs a budget of 1 or more. Each budget here is, but in a loop over options the prover does not know
+    // it.
     let options = Options {
         budget: options.budget.max(1),
         ..options
     };
-    let mut writer = Counting::new(Vec::<u8>::new(rt.alloc()));
+    let mut writer = CountingIo::new(Vec::<u8>::new(rt.alloc()));
     let result = run_threads(rt.alloc(), rt, options, &mut writer);
     (result, writer.device)
 }
@@ -88,7 +89,7 @@ fn workers_are_reported(rt: HostRuntime) {
 
 // Whoever takes them, all items are put and all lanes have ended.
 #[test]
-fn items_are_put(rt: HostRuntime) -> Result<(), Fail> {
+fn items_are_put(rt: HostRuntime) {
     let options = Options {
         producers: 3,
         consumers: 4,
@@ -99,9 +100,7 @@ fn items_are_put(rt: HostRuntime) -> Result<(), Fail> {
         shape: Shape::PLAIN,
     };
     let (result, text) = reported(&rt, options);
-    let Ok(text) = str::from_utf8(text.as_slice()) else {
-        return Err(Fail::from("a report is a text"));
-    };
+    let text = str::from_utf8(text.as_slice()).expect(&rt, "no text");
     let lane_0 = text.starts_with("lane 0 ended put 0 1 2\nleft 0");
     let lane_1 = text.contains("\nlane 1 ended put 1000 1001 1002\nleft 1");
     let lane_2 = text.contains("\nlane 2 ended put 2000 2001 2002\nleft 2");
@@ -111,7 +110,6 @@ fn items_are_put(rt: HostRuntime) -> Result<(), Fail> {
         &(result, lane_0, lane_1, lane_2, last_diary),
         &(Ok(()), true, true, true, true),
     );
-    Ok(())
 }
 
 #[test]
@@ -144,7 +142,7 @@ fn setups_are_refused(rt: HostRuntime) {
     }
 }
 
-// A writer that takes 10 bytes, and then fails or takes none, and one that takes none from the first on.
+// A writer that takes 10 bytes and then fails or takes none, and one that takes none at all.
 #[test]
 fn writers_fail(rt: HostRuntime) {
     for (room, fails, want, written) in [
@@ -153,7 +151,7 @@ fn writers_fail(rt: HostRuntime) {
         (10, false, Err(RunFault::WriteFault), "lane 0 end"),
         (0, false, Err(RunFault::WriteFault), ""),
     ] {
-        let mut writer = Counting::new(NarrowWriter {
+        let mut writer = CountingIo::new(NarrowWriter {
             taken: Vec::new(rt.alloc()),
             room,
             fails,
@@ -164,8 +162,8 @@ fn writers_fail(rt: HostRuntime) {
     }
 }
 
-// The first block of ChaCha with 8 rounds, a key of zeros and stream 0 begins with the bytes 3e 00 ef 2f 89 5f 40 d6. A program
-// of a few lines that gives these gives the others.
+// The first block of ChaCha with 8 rounds, a key of zeros and stream 0 begins with the bytes 3e 00 ef 2f 89 5f 40 d6. A
+// small program that gives these words gives the others, too.
 #[test]
 fn sources_have_known_words(rt: HostRuntime) {
     for (seed, consumer, word) in [
@@ -178,9 +176,9 @@ fn sources_have_known_words(rt: HostRuntime) {
     }
 }
 
-// A report does not tell seeds or budgets apart. What the workers are handed does.
+// A report does not show the seed or the budget. What the workers are given does.
 #[test]
-fn workers_are_handed_what_is_asked(rt: HostRuntime) -> Result<(), Fail> {
+fn workers_are_handed_what_is_asked(rt: HostRuntime) {
     for (seed, budget, want) in [
         (0, 64, [0xd640_5f89_2fef_003e, 0xca06_8379_b34b_8f2b]),
         (1, 1, [0x61a9_4a49_a0e9_5ecf, 0x1a81_25d4_8c6f_ea14]),
@@ -191,10 +189,10 @@ fn workers_are_handed_what_is_asked(rt: HostRuntime) -> Result<(), Fail> {
             budget,
             ..ALONE
         };
-        let mut load = workload_of(rt.alloc(), options)?;
+        let mut load = workload_of(rt.alloc(), options).expect(&rt, "no load");
         let mut words = Vec::new(rt.alloc());
         for rng in load.rngs.iter_mut() {
-            words.push(rng.next_u64())?;
+            words.push(rng.next_u64()).expect(&rt, "no list");
         }
         same(
             &rt,
@@ -202,7 +200,6 @@ fn workers_are_handed_what_is_asked(rt: HostRuntime) -> Result<(), Fail> {
             &(want.as_slice(), budget),
         );
     }
-    Ok(())
 }
 
 // How many lines a text has, and how many notes.
@@ -218,10 +215,10 @@ fn lines_and_notes(text: &str) -> (u64, u64) {
     (lines, notes)
 }
 
-// By default, and with as much as sixteen of each can do: all items are put, all lanes end, and each consumer has a note at
-// each item.
+// By default, and with sixteen producers and sixteen consumers: all items are put, all lanes end, and each consumer has
+// a note on each item.
 #[test]
-fn words_are_run(rt: HostRuntime) -> Result<(), Fail> {
+fn words_are_run(rt: HostRuntime) {
     for (words, first, last, counts) in [
         (
             ["mailbox", "run"].as_slice(),
@@ -247,9 +244,7 @@ fn words_are_run(rt: HostRuntime) -> Result<(), Fail> {
         ),
     ] {
         let (output, error, status) = ended(&rt, words, "");
-        let Ok(text) = str::from_utf8(output.as_slice()) else {
-            return Err(Fail::from("a report is a text"));
-        };
+        let text = str::from_utf8(output.as_slice()).expect(&rt, "no text");
         let is_put = text.starts_with(first) && text.contains(last);
         same(
             &rt,
@@ -257,5 +252,4 @@ fn words_are_run(rt: HostRuntime) -> Result<(), Fail> {
             &(0, 0, true, counts),
         );
     }
-    Ok(())
 }

@@ -1,4 +1,5 @@
-//! That the checks of a run find each fault, in reports that are made up and in mailboxes that are not left as they should be.
+//! Tests that the checks of a run find each fault, in made-up reports and in mailboxes that are not left as they should
+//! be.
 
 use crate::fault::Fault;
 use crate::plan::{Plan, Stops};
@@ -15,7 +16,7 @@ use std::test::Fail;
 use test_audit::Flaw;
 use test_support::{DiaryTold, LaneTold, made_up};
 
-/// So many producers are to put two items each into so many cells, at a gate that stops these.
+/// A plan in which each producer puts two items. The gate stops the workers that `stops` names.
 fn plan_of(producers: u64, consumers: u64, cells: u64, stops: Stops) -> Plan {
     Plan {
         producers,
@@ -33,8 +34,8 @@ fn plan_of(producers: u64, consumers: u64, cells: u64, stops: Stops) -> Plan {
     }
 }
 
-/// A check of these lanes and diaries comes to this fault, if any, where so many items found no cell and so many workers
-/// were stopped.
+/// Checks a report of these lanes and diaries, and expects this fault, or none. `worked` has how many items found no
+/// cell and how many workers were stopped.
 fn comes_to<R: Abort + AllocGlobal>(
     rt: &R,
     plan: &Plan,
@@ -111,7 +112,8 @@ fn there_is_what_was_asked_for(rt: HostRuntime) -> Result<(), Fail> {
     comes_to(&rt, &plan, &[lane; 16], &[], (0, 1), diaries)
 }
 
-/// What is found after a refusal, where the only producer was given, has ended its lane or not, and is taken in or not.
+/// What the check after a refusal finds. The only producer was given. It ended its lane if `ends`, and was taken in if
+/// `comes_in`.
 fn after_refusal<R: AllocGlobal>(
     rt: &R,
     ends: bool,

@@ -3,7 +3,7 @@
 use crate::plan::Stops;
 use mb_mailbox::{Gate, Who};
 
-/// A gate that stops whom the plan names, at calls drawn from a seed.
+/// A gate that stops the workers that the plan names, at calls drawn from a seed.
 #[derive(Drop)]
 pub struct RandomGate {
     pub stops: Stops,
@@ -18,7 +18,7 @@ fn mixed(x: u64) -> u64 {
 }
 
 impl RandomGate {
-    /// Whether the draw of this call of this worker is one in so many.
+    /// Whether this call of this worker is drawn, which happens once in `one_in` calls on average.
     fn is_drawn(&self, worker: u64, call: u64, one_in: u64) -> bool {
         mixed(mixed(self.seed ^ worker) ^ call).checked_rem(one_in) == Some(0)
     }

@@ -1,8 +1,8 @@
-//! Lets workers loose on one mailbox after the other, and audits the report of each.
+//! Runs workers on one mailbox after the other, and audits the report of each.
 //!
-//! With the words SEED RUNS SECONDS it makes so many runs, and begins none after so many seconds. What a run is made
-//! of is drawn from the seed and the run's number, so each run can be made again, but for the order of its threads.
-//! What the runs come to goes to standard error, since it depends on that order.
+//! With the words SEED RUNS SECONDS it makes RUNS runs, and begins none after SECONDS seconds. The plan of a run is
+//! drawn from the seed and the run's number. So each run can be made again, except for the order of its threads. The
+//! counts of the runs go to standard error, since they depend on that order.
 #![tactic(auto)]
 
 use std::io;
@@ -24,10 +24,10 @@ use plan::Plan;
 use run::run;
 use totals::Totals;
 
-/// The status of a run that has a flaw.
+/// The program's status if a run failed.
 const FLAW: u8 = 1;
 
-/// The status of a command line that tells no numbers.
+/// The program's status if the command line has no such numbers.
 const REFUSED: u8 = 2;
 
 /// The numbers of the command line.

@@ -1,4 +1,4 @@
-//! What a run is made of.
+//! Plans of runs, drawn from a seed.
 
 ghost use Rattle.std.specs.Prelude.{◌+◌, ◌*◌, ◌^◌, ◌<◌, ◌≤◌};
 
@@ -10,15 +10,14 @@ use rand_core::Rng;
 /// Who is stopped at the gate.
 #[derive(Clone, Copy, PartialEq, Eq, Debug)]
 pub enum Stops {
-    /// Nobody.
     Nobody,
-    /// Any worker, at one call in so many.
+    /// Any worker, at one call in this many.
     Anybody(u64),
-    /// Each second consumer, at one call in so many.
+    /// Every second consumer, at one call in this many.
     HalfOfTheConsumers(u64),
 }
 
-/// What a run is made of: the numbers of its setup, and what its workers are handed.
+/// The plan of a run: the numbers of its setup, and what its workers are given.
 #[derive(Clone, Copy, Debug)]
 pub struct Plan {
     pub producers: u64,
@@ -32,7 +31,7 @@ pub struct Plan {
     /// Whether all random words are 0.
     pub zeros: bool,
     pub stops: Stops,
-    /// What the gate draws from.
+    /// The seed of the gate.
     pub gate_seed: u64,
     /// What each cell has beside its pairs.
     pub shape: Shape,
@@ -40,7 +39,7 @@ pub struct Plan {
     pub whole: bool,
 }
 
-/// A number from `least` on, one of so many.
+/// A random number from `least` to `least + amount - 1`.
 fn drawn<R: Rng>(rng: &mut R, least: u64, amount: u64) -> u64
     requires some { 0 < amount }
     requires fits { least + amount < 2 ^ 64 }
@@ -54,7 +53,7 @@ fn is_even<R: Rng>(rng: &mut R) -> bool {
     rng.next_u64() % 2 == 0
 }
 
-/// One of the three tables.
+/// A random table of the three.
 fn drawn_table<R: Rng>(rng: &mut R) -> TableName {
     match drawn(rng, 0, 3) {
         0 => TableName::Unary,
@@ -63,7 +62,7 @@ fn drawn_table<R: Rng>(rng: &mut R) -> TableName {
     }
 }
 
-/// One of the four shapes.
+/// A random shape of the four.
 fn drawn_shape<R: Rng>(rng: &mut R) -> Shape {
     Shape {
         fast: is_even(rng),
@@ -72,7 +71,7 @@ fn drawn_shape<R: Rng>(rng: &mut R) -> Shape {
 }
 
 impl Plan {
-    /// The plan of a run of a seed.
+    /// The plan of the run with this number, of this seed.
     pub fn of(seed: u64, number: u64) -> Plan
         ensures producers { (1 ≤ result.producers) × (result.producers ≤ 16) }
         ensures consumers { (1 ≤ result.consumers) × (result.consumers ≤ 64) }

@@ -1,4 +1,4 @@
-//! What workers leave whose memory was refused.
+//! The check of a mailbox after `work` was refused.
 ghost use Rattle.mb_mailbox.specs.Hubs.{IsHubOf};
 
 use crate::fault::Fault;
@@ -6,7 +6,7 @@ use crate::plan::Plan;
 use mb_mailbox::{Hub, HubFault, Mailbox};
 use std::alloc::Global;
 
-/// Takes as many producers as the hub still gives, and takes them in again. The answer is how many there were.
+/// Has the hub give all producers that are left, and takes them in again. Returns how many there were.
 fn count_left(
     alloc: Global,
     mailbox: &Mailbox<Global>,
@@ -26,7 +26,7 @@ fn count_left(
     Ok(most)
 }
 
-/// All that was given was taken in, and exactly the lanes that were given have ended.
+/// Checks that all that was given was taken in, and that exactly the lanes that were given have ended.
 pub fn check_refused(
     alloc: Global,
     plan: &Plan,

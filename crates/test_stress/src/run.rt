@@ -1,4 +1,4 @@
-//! One run: workers on a mailbox of its own, and what its report has to be.
+//! One run: workers on a mailbox of its own, and the check of its report.
 
 ghost use Rattle.std.specs.Prelude.{IfOk};
 ghost use Rattle.test_audit.specs.Asked.{HasAsked};
@@ -19,7 +19,7 @@ use std::thread::Threads;
 use test_audit::audit;
 use test_support::Zeros;
 
-/// The first item of a list.
+/// The first item of this producer's list.
 fn first_of(producer: u64) -> u64 {
     producer.wrapping_mul(1000)
 }
@@ -37,7 +37,7 @@ fn lists_of(alloc: Global, plan: &Plan) -> Result<Vec<Vec<u64>>, AllocError> {
     Ok(lists)
 }
 
-/// Each lane has ended, and has the items that its list begins with. The answer is how many items the lanes lack.
+/// Checks that each lane has ended, and has the first items of its list. Returns how many items the lanes lack.
 fn lacking(plan: &Plan, report: &Report<Global>) -> Result<u64, Fault> {
     let mut lacking = 0u64;
     for (p, lane) in report.lanes.iter().enumerate() {
@@ -58,7 +58,7 @@ fn lacking(plan: &Plan, report: &Report<Global>) -> Result<u64, Fault> {
     Ok(lacking)
 }
 
-/// Each consumer has a note on each item of each lane.
+/// Whether each consumer has a note on each item of each lane.
 fn all_is_met(report: &Report<Global>) -> bool {
     for diary in &report.diaries {
         let Some(lane) = report.lanes.get(diary.lane as usize) else {
@@ -71,7 +71,7 @@ fn all_is_met(report: &Report<Global>) -> bool {
     true
 }
 
-/// The report is one of this plan, and of what its workers came to.
+/// Checks the report against the plan and the result of its workers. Returns the counts.
 pub fn check(plan: &Plan, report: &Report<Global>, worked: &Worked) -> Result<Totals, Fault>
     ensures { IfOk result (λ _. HasAsked plan.now.producers plan.now.consumers report.now) }
 {
@@ -97,7 +97,7 @@ pub fn check(plan: &Plan, report: &Report<Global>, worked: &Worked) -> Result<To
     })
 }
 
-/// Lets workers with these sources loose on a new mailbox, and audits what is reported.
+/// Runs workers with these sources on a new mailbox, and checks the report.
 fn run_with<W: Threads + Wait + Sync, R: Rng + Send + Drop>(
     rt: &W,
     alloc: Global,
@@ -139,7 +139,7 @@ fn run_with<W: Threads + Wait + Sync, R: Rng + Send + Drop>(
     Ok(totals)
 }
 
-/// One run.
+/// Makes the run with this number, of this seed.
 pub fn run<W: Threads + Wait + Sync>(
     rt: &W,
     alloc: Global,

@@ -1,11 +1,11 @@
-//! What a report has to be if each poll had a budget for a whole item, or if each cell has a last object.
+//! The check of a report if each poll had a budget for a whole item, or each cell has a last object.
 
 use crate::fault::Fault;
 use mb_claim::Shape;
 use mb_world::{Note, Report};
 use std::alloc::Global;
 
-/// If each poll had a budget for a whole item, none was spent, so no claim is under way, also not that of a worker that was
+/// If each poll had a budget for a whole item, none was spent. So no claim is under way, not even of a worker that was
 /// stopped. If each cell has a last object, no consumer is undecided, and each item is settled.
 pub fn check_settled(shape: Shape, is_whole: bool, report: &Report<Global>) -> Result<(), Fault> {
     for diary in &report.diaries {
@@ -28,7 +28,7 @@ pub fn check_settled(shape: Shape, is_whole: bool, report: &Report<Global>) -> R
     Ok(())
 }
 
-/// Somebody took this item of this lane, or has a claim on it that is under way, or nobody has a note on it.
+/// Whether somebody took this item of this lane, or has a claim on it under way, or nobody has a note on it.
 fn is_settled(report: &Report<Global>, lane: usize, item: usize) -> bool {
     let mut is_met = false;
     for diary in &report.diaries {

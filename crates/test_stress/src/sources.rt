@@ -3,7 +3,7 @@
 use rand_chacha::ChaCha8Rng;
 use rand_core::SeedableRng;
 
-/// The generator of the numbers of a seed and a run, at a stream.
+/// The generator for this seed and this run, at this stream.
 pub fn chacha(seed: u64, number: u64, stream: u64) -> ChaCha8Rng {
     let mut bytes = [0u8; 32];
     bytes[..8].copy_from_slice(&seed.to_le_bytes());

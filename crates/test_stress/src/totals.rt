@@ -1,9 +1,9 @@
-//! What runs come to together.
+//! The counts of runs.
 
 use std::fmt;
 use test_audit::Tally;
 
-/// What runs come to together.
+/// The counts of all runs together.
 #[derive(Clone, Copy, Debug)]
 pub struct Totals {
     pub runs: u64,
@@ -15,7 +15,6 @@ pub struct Totals {
 }
 
 impl Totals {
-    /// No run.
     pub fn none() -> Totals {
         Totals {
             runs: 0,
@@ -25,7 +24,7 @@ impl Totals {
         }
     }
 
-    /// Both together, modulo 2^64.
+    /// The sums of both totals, modulo 2^64.
     pub fn with(&self, other: &Totals) -> Totals {
         Totals {
             runs: self.runs.wrapping_add(other.runs),

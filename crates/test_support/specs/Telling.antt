@@ -1,4 +1,4 @@
--- What a report is to tell, and where it first tells something else.
+-- What a report is expected to have, and its first difference from that.
 use denote.Ref.{Bor}
 use Rattle.std.specs.Prelude.{ℕ, ◌≡◌, ◌≢◌, ◌⊎◌, Bool, List, Some, length, slice_get, take}
 use Rattle.mb_world.specs.Report.{DiaryView, LaneView, ReportView}
@@ -6,7 +6,7 @@ use Rattle.mb_world.specs.declared.report.Note.{Note}
 use Rattle.test_support.specs.declared.reports.Difference.{Difference}
 use Rattle.test_support.specs.declared.reports.Difference.TheVariants.{Lanes, Put, Ended, Left, Diaries, Owner, Notes, Begun}
 
--- what is told of a lane, and of a consumer on a lane, as a report has it
+-- what is expected of a lane, and of a consumer on a lane, as a report has it
 abbrev pub lane_told : Bor (List ℕ) × Bool × Bor (List ℕ) → LaneView
 lane_told (put, ended, left) = record { put = put.now; ended = ended; left = left.now }
 
@@ -14,7 +14,7 @@ abbrev pub diary_told : ℕ × ℕ × Bor (List Note) × Bool → DiaryView
 diary_told (consumer, lane, notes, begun) =
     record { consumer = consumer; lane = lane; notes = notes.now; begun = begun }
 
--- how a lane differs from what is told of it: the first part that does
+-- how a lane differs from what is expected: the first part that does
 abbrev pub LaneDiffers : LaneView → LaneView → ℕ → Difference → Type 0
 LaneDiffers lane told place (Put p) = (p ≡ place) × (lane.put ≢ told.put)
 LaneDiffers lane told place (Ended p) = (p ≡ place) × (lane.put ≡ told.put) × (lane.ended ≢ told.ended)
@@ -22,7 +22,7 @@ LaneDiffers lane told place (Left p) =
     (p ≡ place) × (lane.put ≡ told.put) × (lane.ended ≡ told.ended) × (lane.left ≢ told.left)
 LaneDiffers lane told place difference = ⊥
 
--- how a diary differs from what is told of it: the first part that does
+-- how a diary differs from what is expected: the first part that does
 abbrev pub DiaryDiffers : DiaryView → DiaryView → ℕ → Difference → Type 0
 DiaryDiffers diary told place (Owner p) = (p ≡ place)
     × ((diary.consumer ≡ told.consumer) × (diary.lane ≡ told.lane) → ⊥)
@@ -33,7 +33,7 @@ DiaryDiffers diary told place (Begun p) =
     × (diary.begun ≢ told.begun)
 DiaryDiffers diary told place difference = ⊥
 
--- the lists agree before a place, and there they differ so
+-- the lists agree before a place, and have this difference there
 pub record FirstDiffer {X : Type 0} (Differ : X → X → ℕ → Difference → Type 0) (xs told : List X)
     (difference : Difference) : Type 0 where
   pub place : ℕ
@@ -41,10 +41,10 @@ pub record FirstDiffer {X : Type 0} (Differ : X → X → ℕ → Difference →
   pub shown : X
   pub told_there : X
   pub shows : slice_get xs place ≡ Some shown
-  pub tells : slice_get told place ≡ Some told_there
+  pub check_report : slice_get told place ≡ Some told_there
   pub differ : Differ shown told_there place difference
 
--- where a report first tells something else than these lanes and diaries: in the number of lanes, in a lane, in the number of
+-- where a report first differs from these lanes and diaries: in the number of lanes, in a lane, in the number of
 -- diaries, or in a diary
 abbrev pub IsFirstDifference : ReportView → List LaneView → List DiaryView → Difference → Type 0
 IsFirstDifference report lanes diaries Lanes = length report.lanes ≢ length lanes

@@ -1,4 +1,4 @@
-//! What the tests of several crates share, and is no test: what a report is to tell, what a value says of itself, and
+//! Helpers for the tests of several crates: they check what a report has, and how a value is displayed, and give
 //! sources of random words that are all 0.
 #![tactic(auto)]
 
@@ -6,6 +6,6 @@ mod reports;
 mod texts;
 mod zeros;
 
-pub use reports::{DiaryTold, Difference, LaneTold, made_up, tells};
-pub use texts::says;
+pub use reports::{DiaryTold, Difference, LaneTold, check_report, made_up};
+pub use texts::check_display;
 pub use zeros::{SeenZeros, Zeros};

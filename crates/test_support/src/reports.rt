@@ -1,4 +1,4 @@
-//! What a report is to tell, and where it tells something else.
+//! What a report is expected to have, and where it differs from that.
 ghost use Rattle.std.specs.Prelude.{◌≡◌, IfErr, IfOk, map};
 ghost use Rattle.test_support.specs.Telling.{
   DiaryDiffers,
@@ -11,13 +11,13 @@ ghost use Rattle.test_support.specs.Telling.{
 use mb_world::{Diary, LaneReport, Note, Report};
 use std::alloc::{AllocError, Allocator};
 
-/// What is to be told of a lane: the items put, whether it has ended, and the items left.
+/// What is expected of a lane: the items put, whether it has ended, and the items left.
 pub type LaneTold<'a> = (&'a [u64], bool, &'a [u64]);
 
-/// What is to be told of a consumer on a lane: the consumer, the lane, the notes, and whether a claim has begun.
+/// What is expected of a diary: the consumer, the lane, the notes, and whether a claim has begun.
 pub type DiaryTold<'a> = (u32, u32, &'a [Note], bool);
 
-/// Where a report tells something else, with the place of the lane or of the diary, from 0 on.
+/// Where a report differs, with the place of the lane or of the diary, from 0 on.
 #[derive(Clone, Copy, PartialEq, Eq, Debug)]
 pub enum Difference {
     /// How many lanes there are.
@@ -38,7 +38,7 @@ pub enum Difference {
     Begun(usize),
 }
 
-/// A report of these lanes and these diaries, made up.
+/// A made-up report with these lanes and these diaries.
 pub fn made_up<A: Allocator + Clone + Drop>(
     alloc: A,
     lanes: &[LaneTold<'_>],
@@ -66,8 +66,9 @@ pub fn made_up<A: Allocator + Clone + Drop>(
     Ok(report)
 }
 
-/// The report has these lanes and these diaries, in their order; else the first difference, lanes before diaries.
-pub fn tells<A: Allocator + Drop>(
+/// Checks that the report has these lanes and these diaries, in their order. The error is the first difference, lanes
+/// before diaries.
+pub fn check_report<A: Allocator + Drop>(
     report: &Report<A>,
     lanes: &[LaneTold<'_>],
     diaries: &[DiaryTold<'_>],
@@ -92,7 +93,7 @@ pub fn tells<A: Allocator + Drop>(
     Ok(())
 }
 
-/// The lane at this place is so.
+/// Checks that the lane at this place is as expected. The error is the first part that differs.
 fn tells_lane<A: Allocator + Drop>(
     lane: &LaneReport<A>,
     told: LaneTold<'_>,
@@ -114,7 +115,7 @@ fn tells_lane<A: Allocator + Drop>(
     Ok(())
 }
 
-/// The diary at this place is so.
+/// Checks that the diary at this place is as expected. The error is the first part that differs.
 fn tells_diary<A: Allocator + Drop>(
     diary: &Diary<A>,
     told: DiaryTold<'_>,

@@ -1,12 +1,12 @@
-//! What a value says of itself.
+//! How a value is displayed.
 
 ghost use Rattle.std.specs.Prelude.{◌≡◌, IfSome, IsOk};
 
 use std::fmt::Display;
 use std::test::Fail;
 
-/// Fails where a value does not say this of itself, with what it says.
-pub fn says<R: AllocGlobal, F: Display>(rt: &R, value: &F, want: &str) -> Result<(), Fail>
+/// Checks that a value is displayed as this text. The error has the text that it has.
+pub fn check_display<R: AllocGlobal, F: Display>(rt: &R, value: &F, want: &str) -> Result<(), Fail>
     ensures { IsOk result → IfSome (F.output value.now) (λ text. text ≡ want.now) }
 {
     let text = format!(in rt.alloc(); "{value}")?;

@@ -3,7 +3,7 @@
 use rand_core::Rng;
 use std::sync::atomic::{AtomicU64, Ordering};
 
-/// A source of words 0, which counts the words of 64 bits that it gave, modulo 2^64.
+/// A source of words that are all 0. It counts the words of 64 bits that it gave, modulo 2^64.
 #[derive(Default, Drop)]
 pub struct Zeros {
     /// How many it gave.
@@ -29,10 +29,10 @@ impl Rng for Zeros {
     }
 }
 
-/// A source of words 0, which counts the words of 64 bits that it gave where others see it.
+/// A source of words that are all 0. It counts the words of 64 bits that it gave in a counter that others can see.
 #[derive(Drop)]
 pub struct SeenZeros<'a> {
-    /// Where it counts them.
+    /// The counter.
     pub given: &'a AtomicU64,
 }
 

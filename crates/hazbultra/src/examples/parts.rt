@@ -1,4 +1,4 @@
-//! What calls do to a hub, to its producers and to its consumers, by example.
+//! Calls on a hub, its producers and its consumers, by example.
 ghost use Rattle.std.specs.Prelude.{◌≡◌, ◌≢◌, ◌+◌, ◌∷◌, None, Some, []};
 ghost use Rattle.rand_core.specs.Stream.{Stream};
 ghost use Rattle.rand_chacha.specs.ChaCha.{ChaCha, next_word};
@@ -7,7 +7,7 @@ ghost use Rattle.mb_mailbox.specs.Hubs.{PutListView, with_taken_producer};
 ghost use Rattle.mb_mailbox.specs.Producers.{ProducerView};
 ghost use Rattle.mb_world.specs.Report.{ReportView};
 ghost use Rattle.hazbultra.specs.Calls.{ConsumerWent, HasTakenBack, HubGave, HubGaveConsumer};
-ghost use Rattle.hazbultra.specs.Calls.{HubTold, IsConsumer, ProducerWent, words_of};
+ghost use Rattle.hazbultra.specs.Calls.{HubTold, IsConsumer, ProducerWent, words_of_generator};
 ghost use Rattle.hazbultra.specs.declared.thing.SeededConsumer.{SeededConsumer};
 ghost use Rattle.hazbultra.specs.declared.thing.Thing.TheVariants.{OfConsumer, OfHub};
 ghost use Rattle.hazbultra.specs.declared.thing.Thing.TheVariants.{OfProducer, OfReport};
@@ -40,7 +40,7 @@ pub fn hubs_give()
         → HubTold (λ h r. r.lanes ≡ []) (Some (OfHub h)) (Some (OfReport r)) }
 {}
 
-/// The producer of the one lane comes home. It cannot come home twice.
+/// The producer of the only lane is taken back. It cannot be taken back twice.
 pub fn producers_come_home()
     ensures home { (h : BoundHubView) (p : BoundProducerView) → h.id ≡ p.id
         → h.hub.puts ≡ None ∷ [] → p.producer.seat.lane ≡ 0
@@ -53,7 +53,7 @@ pub fn producers_come_home()
 
 /// The words of a source begin with its first one. A stream that begins with another is not theirs.
 pub fn words_are_of_eight_rounds()
-    ensures first { (rng : ChaCha) → (words_of rng).u32_after [] ≡ (next_word 4 rng).0 }
+    ensures first { (rng : ChaCha) → (words_of_generator rng).u32_after [] ≡ (next_word 4 rng).0 }
     ensures another { (rng : ChaCha) (s : Stream) → s.u32_after [] ≡ (next_word 4 rng).0 + 1
-        → words_of rng ≡ s → ⊥ }
+        → words_of_generator rng ≡ s → ⊥ }
 {}

@@ -11,7 +11,7 @@ use std::alloc::Global;
 use std::marker::Model;
 use std::ptr::null_mut;
 
-/// It owns what a box of the thing owns, or nothing. If it is let go, that is not freed.
+/// It owns what a box of the thing owns, or nothing. Dropping a block does not free that.
 #[repr(C)]
 #[derive(Drop)]
 pub struct Block {

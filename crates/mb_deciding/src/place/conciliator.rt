@@ -1,9 +1,10 @@
-//! Where one process can be in a conciliator.
+//! The places in a conciliator.
 
 /// The place of one process in a conciliator.
 #[derive(Clone, Copy, PartialEq, Eq, Debug)]
 pub enum ConciliatorPlace {
-    /// It loads the word; if that is empty, it stores where the random word modulo `modulus` is below `limit`.
+    /// It is about to load the word. If that is empty, and the random word modulo `modulus` is below `limit`, it stores
+    /// next.
     Draw {
         /// The process's own value.
         input: u32,
@@ -17,7 +18,7 @@ pub enum ConciliatorPlace {
         /// The process's own value.
         input: u32,
     },
-    /// It has stored, and loads the word once more.
+    /// It has stored, and is about to load the word once more.
     Look {
         /// The process's own value.
         input: u32,

@@ -16,7 +16,7 @@ impl LastPlace {
     ghost use Rattle.mb_deciding.specs.{Op, InLast, IsLastOp, LastReaches, IsStep};
     ghost use Rattle.mb_deciding.specs.declared.place.pc.Next.TheVariants as leads;
 
-    /// The access that comes next.
+    /// The access that the process makes next.
     #[inline(always)]
     pub(crate) fn next(self) -> Op
         ensures { IsLastOp self result }
@@ -24,8 +24,8 @@ impl LastPlace {
         Op::Exchange(Reg::Last, u64::from(self.input) + 1)
     }
 
-    /// The output after it, in a last object for so many values. `seen` is what it found. The output is the value that
-    /// stands there, or the own input if the word was empty or cannot hold what was found.
+    /// The output, in a last object for `values` values. `seen` is what the exchange found. The output is that value,
+    /// or the process's own input if the word was empty or cannot hold `seen`.
     #[inline(always)]
     pub(crate) fn after(self, values: u32, seen: u64) -> Out
         requires { self.input < values }

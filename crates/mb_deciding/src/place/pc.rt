@@ -1,11 +1,11 @@
-//! The place of one process in an object of any kind, and what an access leads to.
+//! Places in objects of any kind, and what an access leads to.
 use super::conciliator::ConciliatorPlace;
 use super::last::LastPlace;
 use super::ratifier::RatifierPlace;
 use crate::object::Out;
 
-/// The place of one process in a deciding object, between two of its accesses: its program counter, with the little
-/// that it has to keep.
+/// The place of one process in a deciding object, between two of its accesses. It is its program counter, with the
+/// little that it has to keep.
 #[derive(Clone, Copy, PartialEq, Eq, Debug)]
 pub enum Pc {
     /// In a conciliator.
@@ -21,7 +21,7 @@ pub enum Pc {
 pub enum Next {
     /// The process goes on from this place.
     Go(Pc),
-    /// That was its last access, and this is the object's answer.
+    /// That was its last access, and this is its output.
     Out(Out),
 }
 
@@ -29,7 +29,7 @@ impl Next {
     ghost use Rattle.std.specs.Prelude.{◌≡◌};
     ghost use Rattle.mb_deciding.specs.{next_from, come_to, out_of};
 
-    /// From a place and the output, if there is one.
+    /// The output, if there is one, and else the place.
     #[inline(always)]
     pub(crate) fn from_place(place: Pc, out: Option<Out>) -> Next
         ensures { result ≡ next_from out place }
@@ -40,7 +40,7 @@ impl Next {
         }
     }
 
-    /// On to the output, if there is one.
+    /// Goes to the output, if there is one.
     #[inline(always)]
     pub(crate) fn end(&mut self, out: Option<Out>)
         ensures { self.new ≡ come_to out self.old }
@@ -50,7 +50,7 @@ impl Next {
         }
     }
 
-    /// The output, if the process has come to it.
+    /// The output, if the process has it.
     #[inline(always)]
     pub(crate) fn out(self) -> Option<Out>
         ensures { result ≡ out_of self }

@@ -1,4 +1,4 @@
-//! Where one process can be in a ratifier.
+//! The places in a ratifier.
 
 /// The place of one process in a ratifier.
 #[derive(Clone, Copy, PartialEq, Eq, Debug)]

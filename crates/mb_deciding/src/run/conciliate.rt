@@ -13,18 +13,18 @@ use crate::trace::{Fault, Trace};
 use mb_quorum::checked_values;
 use std::alloc::Allocator;
 
-/// Runs one conciliator for m values: process i has the input `inputs[i]`, and each pair of the schedule is a
-/// turn of a process with its random word. A turn of a process that has its output makes no access.
+/// Runs one conciliator for m values. Process i has the input `inputs[i]`. Each pair of the schedule is a turn of a
+/// process with its random word. A turn of a process that has its output makes no access.
 ///
-/// It is refused for the first of these that holds: m is out of range; an input is not below m; a turn of the
-/// schedule is of no process; a growth was refused.
+/// The error is the first of these that holds: m is out of range; an input is not below m; a turn of the schedule is of
+/// no process; memory ran out.
 pub fn conciliate<A: Allocator + Copy + Drop>(
     alloc: A,
     m: u64,
     inputs: &[u64],
     schedule: &[(u64, u64)],
 ) -> Result<Trace<A>, Fault>
-    // A conciliator has no table, so this is said over each table of m values.
+    // A conciliator has no table, so this holds over each table of m values.
     ensures trace { (t : QuorumTable) → t.values ≡ m
         → IfOk result (λ trace.
         IsTrace (setup_of t (Conciliator (spread m)) inputs.now) schedule.now

@@ -1,4 +1,4 @@
-//! What a run asks of its object: where a process begins, and what its next access leads to.
+//! What a run needs of its object: where a process begins, and what its next access leads to.
 ghost use Rattle.std.specs.Prelude.{◌≤◌};
 
 use crate::memory::Memory;
@@ -10,12 +10,12 @@ use mb_quorum::Quorums;
 pub trait Machine {
     ghost use Rattle.std.specs.Prelude.{◌≡◌, ◌<◌, ℕ, List, []};
     ghost use Rattle.mb_quorum.specs.Quorum.{QuorumTable};
-    ghost use Rattle.mb_deciding.specs.{Op, Turn, Kind, IsAt, IsOpAt, IsStep, IsTableFor, IsSameFor, next_from};
+    ghost use Rattle.mb_deciding.specs.{Op, Turn, Kind, PcIsAt, IsOpAt, IsStep, IsTableFor, IsSameFor, next_from};
 
     /// The kind of the object.
     ghost kind: { Self → Kind };
 
-    /// A table of it. It stands for each that is the same for this kind.
+    /// A table of it. Any table that is the same for this kind would do.
     ghost table: { Self → QuorumTable };
 
     /// How many values there are.
@@ -26,27 +26,25 @@ pub trait Machine {
     fn first(&self, input: u32) -> Pc
         requires { input < (table self.now).values }
         ensures { (t : QuorumTable) → IsSameFor (kind self.now) t (table self.now)
-            → IsAt t (kind self.now) input result [] };
+            → PcIsAt t (kind self.now) input result [] };
 
-    /// Makes the access that comes next, with this random word, and goes on to the place that it leads to, or answers
-    /// the output.
+    /// Makes the next access, with this random word. Goes on to the place that it leads to, or returns the output.
     fn step<W: Memory>(&self, pc: &mut Pc, memory: &mut W, word: u64) -> Option<Out>
         requires place { (v : ℕ) × (turns : List Turn)
-            × IsAt (table self.now) (kind self.now) v pc.old turns }
+            × PcIsAt (table self.now) (kind self.now) v pc.old turns }
         requires may { (op : Op) → IsOpAt (table self.now) pc.old op
             → W.can_make memory.old 0 op }
         ensures { (t : QuorumTable) → IsSameFor (kind self.now) t (table self.now)
             → IsStep t pc.old (λ op seen. W.makes memory.old 0 op seen memory.new) word
             (next_from result pc.new) };
 
-    /// The table is one for the kind.
+    /// An object of the kind can have the table.
     ghost lawful: { (m : Self) → IsTableFor (kind m) (table m) };
 }
 
 /// A ratifier over a quorum table.
 #[derive(Drop)]
 pub struct RatifierMachine<Q: Quorums + Drop> {
-    /// The table.
     pub table: Q,
 }
 
@@ -75,7 +73,7 @@ impl<Q: Quorums + Drop> Machine for RatifierMachine<Q> {
     ghost lawful = { λ m. Q.lawful m.table };
 }
 
-/// A conciliator. It has no table, so any one of so many values stands for it.
+/// A conciliator. It has no table, so any table of `values` values will do.
 #[derive(Clone, Copy, Debug)]
 pub struct ConciliatorMachine {
     /// How many values there are.

@@ -12,11 +12,11 @@ use crate::trace::{Fault, Trace};
 use mb_quorum::{Table, TableName};
 use std::alloc::Allocator;
 
-/// Runs one ratifier for m values over the named table: process i has the input `inputs[i]`, and each number
-/// of the schedule is a turn of that process. A turn of a process that has its output makes no access.
+/// Runs one ratifier for m values over the named table. Process i has the input `inputs[i]`. Each number of the
+/// schedule is a turn of that process. A turn of a process that has its output makes no access.
 ///
-/// It is refused for the first of these that holds: m is out of range; an input is not below m; a number of the
-/// schedule is no process; a growth was refused.
+/// The error is the first of these that holds: m is out of range; an input is not below m; a number of the schedule is
+/// no process; memory ran out.
 pub fn ratify<A: Allocator + Copy + Drop>(
     alloc: A,
     name: TableName,

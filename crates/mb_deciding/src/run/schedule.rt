@@ -47,7 +47,8 @@ impl ScheduledTurn for (u64, u64) {
     }
 }
 
-/// The trace of a schedule on the machine's object, or the first reason to refuse it.
+/// The trace of a schedule on the machine's object. The error is the first reason to refuse the schedule, or that
+/// memory ran out.
 pub fn trace<A: Allocator + Copy + Drop, M: Machine, T: ScheduledTurn>(
     alloc: A,
     machine: &M,
@@ -90,7 +91,7 @@ fn traced<A: Allocator + Copy + Drop, M: Machine, T: ScheduledTurn>(
     run.finish(alloc)
 }
 
-/// The first reason to refuse inputs and a schedule, where there are so many values.
+/// The first reason to refuse inputs for `values` values and a schedule, if there is one.
 fn refusal<T: ScheduledTurn>(inputs: &[u64], values: u64, schedule: &[T]) -> Option<Fault>
     ensures { result ≡ refusal_in values inputs.now (map (λ x. (T.turn x).0) schedule.now) }
 {

@@ -1,4 +1,4 @@
-//! What the forms and colours of a picture say.
+//! The legend: what the forms and colours of a picture mean.
 
 use super::shapes::{push_box, push_ground, push_route, push_text};
 use crate::layout::{Place, Route};
@@ -6,18 +6,18 @@ use crate::picture::{Frame, Kind, Tone};
 use mb_cells::NoMemory;
 use std::alloc::Allocator;
 
-/// A form, before what it says.
+/// A form, as the legend shows it.
 #[derive(Clone, Copy)]
 enum Sample {
-    /// A mark of this class with this text in it.
+    /// A mark of this class, whether it stores, and the text in it.
     Mark(&'static str, bool, &'static str),
-    /// A box, whether it has ended, and what it came to.
+    /// A box: whether it has ended, and how it looks.
     Box(bool, Tone),
     /// A line with its tip.
     Line,
 }
 
-/// A form, and what it says.
+/// A form, and what it means.
 #[derive(Clone, Copy)]
 struct Entry {
     sample: Sample,
@@ -91,7 +91,7 @@ const RATIFIER: &[Entry] = &[
     },
 ];
 
-/// What stands below the forms.
+/// The lines below the forms.
 const NO_LINE: &str = "A load without a line found a word that nobody stored.";
 
 const OBJECTS: &str = "o1 p: word p of deciding object 1 of the cell.";
@@ -106,7 +106,7 @@ const STEP: usize = 23;
 
 const SECOND: usize = 210;
 
-/// A form at this place, and what it says beside it.
+/// Appends a form at this place, and beside it what it means.
 fn push_entry<A: Allocator>(
     text: &mut String<A>,
     entry: Entry,
@@ -153,7 +153,7 @@ fn push_entry<A: Allocator>(
     )
 }
 
-/// The legend of a picture of this kind, from `y` on: where it ends.
+/// Appends the legend of a picture of this kind, from `y` on. Returns where it ends.
 pub fn push_legend<A: Allocator>(
     text: &mut String<A>,
     kind: Kind,

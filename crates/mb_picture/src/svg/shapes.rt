@@ -1,4 +1,6 @@
 //! The shapes that a picture is made of.
+ghost use Rattle.std.specs.Prelude.{◌≡◌, ◌++◌, OnOk, string_bytes};
+ghost use Rattle.mb_picture.specs.Escaped.{text_element};
 
 use crate::escape::push_escaped;
 use crate::layout::{PILL, Place, ROW, Route, middle};
@@ -20,20 +22,23 @@ pub fn class_of(tone: Tone, stores: bool) -> &'static str {
     }
 }
 
-/// A text, with its beginning, its middle or its end at `x`, as its class says.
+/// Appends a text. Its class says whether its beginning, its middle or its end is at `x`.
 pub fn push_text<A: Allocator>(
     text: &mut String<A>,
     class: &str,
     x: usize,
     y: usize,
     plain: &str,
-) -> Result<(), NoMemory> {
+) -> Result<(), NoMemory>
+    ensures { OnOk result (string_bytes text.new
+        ≡ string_bytes text.old ++ text_element class.now x y plain.now) }
+{
     write!(text, "<text class='{class}' x='{x}' y='{y}'>")?;
     push_escaped(text, plain)?;
     text.push_str("</text>\n")
 }
 
-/// The ground of a mark at this place, whose middle is at `y`: round for a load, and square for a store.
+/// Appends the ground of a mark with its middle at `y`: round for a load, and square for a store.
 pub fn push_ground<A: Allocator>(
     text: &mut String<A>,
     class: &str,
@@ -50,7 +55,7 @@ pub fn push_ground<A: Allocator>(
     )
 }
 
-/// A box from `above` to `below` round marks at this place. One that has not ended has no lower side.
+/// Appends a box from `above` to `below` round marks at this place. One that has not ended has no lower side.
 pub fn push_box<A: Allocator>(
     text: &mut String<A>,
     frame: Frame,
@@ -71,7 +76,7 @@ pub fn push_box<A: Allocator>(
     text.push_str(if frame.ended { "Z'/>\n" } else { "'/>\n" })
 }
 
-/// The box round a claim, in a picture of so many rows.
+/// Appends the box round a claim, in a picture of `rows` rows.
 pub fn push_frame<A: Allocator>(
     text: &mut String<A>,
     frame: Frame,
@@ -87,7 +92,7 @@ pub fn push_frame<A: Allocator>(
     push_box(text, frame, place, above, below)
 }
 
-/// A line from a store to a load, with a tip at the load.
+/// Appends a line from a store to a load, with a tip at the load.
 pub fn push_route<A: Allocator>(text: &mut String<A>, route: Route) -> Result<(), NoMemory> {
     let Route {
         above,

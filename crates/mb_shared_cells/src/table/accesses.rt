@@ -1,24 +1,14 @@
 //! One access of a seat: one atomic step of the table.
-ghost use Rattle.std.specs.Prelude.{◌≡◌};
-ghost use Rattle.mb_shared_cells.specs.Rule.{roster_of};
-
 use super::SharedCells;
-use crate::rule::{Made, Makes};
+use crate::rule::{AccessSpec, MakeAccess};
 use crate::views::View;
 use atomic_table::Seat;
+use mb_cells::Word;
 use mb_cells::laws::numbers_are_handed_out_once;
 use mb_cells::steps::{
-    accesses_lengthen_one_part, addresses_are_apart, one_step, words_follow_steps,
+    accesses_lengthen_one_part, addresses_are_apart, history_extends, words_follow_steps,
 };
-use mb_cells::{PoolSize, Word};
 use std::alloc::Allocator;
-
-/// Where the roster lies in a table of this size: behind the words of the pool.
-pub(super) fn roster(size: PoolSize) -> usize
-    ensures { result ≡ roster_of size }
-{
-    1 + size.lanes as usize + size.cells as usize + size.cells as usize
-}
 
 impl<A: Allocator + Drop> SharedCells<A> {
     ghost use Rattle.std.specs.Prelude.{◌≡◌, ◌<◌, ◌^◌};
@@ -44,8 +34,8 @@ impl<A: Allocator + Drop> SharedCells<A> {
         }
     }
 
-    /// Loads a word, by a reader's seat.
-    pub(super) fn load<W: Made>(&self, seat: &mut Seat<(), View>, word: Word) -> u64
+    /// Loads a word with a reader's seat.
+    pub(super) fn load<W: AccessSpec>(&self, seat: &mut Seat<(), View>, word: Word) -> u64
         requires picked { (W.word ≡ word) × (W.act ≡ (λ n. Load n)) }
         requires table { seat.old.table_id ≡ self.now.id }
         requires can { CanLoad self.now.size word seat.old.me }
@@ -55,14 +45,14 @@ impl<A: Allocator + Drop> SharedCells<A> {
     {
         accesses_lengthen_one_part();
         addresses_are_apart();
-        one_step();
+        history_extends();
         words_follow_steps();
         let address = self.address(word);
-        self.table.shared.load::<Makes<W>>(seat, address)
+        self.table.shared.load::<MakeAccess<W>>(seat, address)
     }
 
-    /// Stores a value in a word, by a lane's seat.
-    pub(super) fn store<W: Made>(&self, seat: &mut Seat<(), View>, word: Word, value: u64)
+    /// Stores a value in a word with a lane's seat.
+    pub(super) fn store<W: AccessSpec>(&self, seat: &mut Seat<(), View>, word: Word, value: u64)
         requires picked { (W.word ≡ word) × (W.act ≡ (λ n. Store n)) }
         requires table { seat.old.table_id ≡ self.now.id }
         requires can { CanStore self.now.size word value seat.old.me }
@@ -71,27 +61,29 @@ impl<A: Allocator + Drop> SharedCells<A> {
     {
         accesses_lengthen_one_part();
         addresses_are_apart();
-        one_step();
+        history_extends();
         words_follow_steps();
         let address = self.address(word);
-        self.table.shared.store::<Makes<W>>(seat, address, value);
+        self.table
+            .shared
+            .store::<MakeAccess<W>>(seat, address, value);
     }
 
-    /// Adds one to the counter for an item, by a lane's seat, and answers what it held.
-    pub(super) fn fetch_add<W: Made>(&self, seat: &mut Seat<(), View>, item: u64) -> u64
+    /// Adds one to the counter for an item, with a lane's seat. Returns what the counter held before.
+    pub(super) fn fetch_add<W: AccessSpec>(&self, seat: &mut Seat<(), View>, item: u64) -> u64
         requires picked { (W.word ≡ Counter) × (W.act ≡ (λ n. FetchAdd item n)) }
         requires table { seat.old.table_id ≡ self.now.id }
         requires can { CanFetch self.now.size item seat.old.me }
         ensures table { seat.new.table_id ≡ seat.old.table_id }
         ensures makes { MakesAccess Counter (FetchAdd item result) seat.old.me seat.new.me }
     {
-        // The item stands in the contract alone.
+        // Only the contract names the item.
         let _ = item;
         accesses_lengthen_one_part();
         addresses_are_apart();
         numbers_are_handed_out_once();
-        one_step();
+        history_extends();
         words_follow_steps();
-        self.table.shared.fetch_add::<Makes<W>>(seat, 0, 1)
+        self.table.shared.fetch_add::<MakeAccess<W>>(seat, 0, 1)
     }
 }

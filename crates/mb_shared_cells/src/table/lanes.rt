@@ -9,8 +9,8 @@ impl<A: Allocator + Drop> SharedCells<A> {
     ghost use Rattle.std.specs.Prelude.{◌≡◌};
     ghost use Rattle.mb_shared_cells.specs.{FinishMakes, OfferMakes, PushMakes};
 
-    /// Takes the next cell for item `x`, by one fetch-add of the counter, or is refused by the producer's place without
-    /// an access.
+    /// Takes the next cell for item `x`, by one fetch-add of the counter. If the producer's place refuses the offer, no
+    /// access is made.
     pub fn offer(&self, seat: &mut LaneSeat, x: u64) -> Offer
         requires { seat.old.table ≡ self.now }
         ensures makes { OfferMakes seat.old x result seat.new }
@@ -26,7 +26,7 @@ impl<A: Allocator + Drop> SharedCells<A> {
         seat.place.offered(self.size.cells, x, found)
     }
 
-    /// Stores the item that was offered, and at the next call its link. With nothing offered it is idle, and makes no
+    /// Stores the item that was offered, and at the next call its link. If nothing is offered, it is idle and makes no
     /// access.
     pub fn push(&self, seat: &mut LaneSeat) -> Push
         requires { seat.old.table ≡ self.now }
@@ -44,7 +44,7 @@ impl<A: Allocator + Drop> SharedCells<A> {
         seat.place.pushed()
     }
 
-    /// Stores the end mark of the lane, or is refused by the producer's place without an access.
+    /// Stores the end mark of the lane. If the producer's place refuses that, no access is made.
     pub fn finish(&self, seat: &mut LaneSeat) -> Finish
         requires { seat.old.table ≡ self.now }
         ensures makes { FinishMakes seat.old result seat.new }

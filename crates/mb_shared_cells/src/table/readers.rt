@@ -1,7 +1,7 @@
 //! What a reader does with its seat.
 use super::{ReaderSeat, SharedCells};
 use mb_cells::laws::{cells_stand_once, loads_tell_what_stays, parts_tell_lanes};
-use mb_cells::steps::{accesses_lengthen_one_part, accesses_stay_within, one_step};
+use mb_cells::steps::{accesses_lengthen_one_part, accesses_stay_within, history_extends};
 use mb_cells::{Cursor, END, Look, Word};
 use std::alloc::Allocator;
 use std::marker::Brand;
@@ -14,7 +14,7 @@ impl<A: Allocator + Drop> SharedCells<A> {
     ghost use Rattle.mb_cells.specs.declared.answer.Look.TheVariants as look;
     ghost use Rattle.mb_shared_cells.specs.{ItemMakes, LookMakes};
 
-    /// What stands behind the cursor, by one load: nothing yet, a cell, or the end mark. A reader may look at the head of
+    /// What comes after the cursor, by one load: nothing yet, a cell, or the end mark. A reader may look at the head of
     /// each lane, and past each cell that it met.
     pub fn look(&self, seat: &mut ReaderSeat, cursor: Cursor) -> Look
         requires table { seat.old.table ≡ self.now }
@@ -24,12 +24,12 @@ impl<A: Allocator + Drop> SharedCells<A> {
         ensures reader { seat.new.reader ≡ seat.old.reader }
         ensures known_lanes { seat.new.known ≡ seat.old.known }
 
-        // What was met stays met; and so is the cell that is found, which is one of the table's.
+        // What was met stays met. A cell that is found is met too, and is one of the table's.
         ensures met { (k : ℕ) → Gave k seat.old.part → Gave k seat.new.part }
         ensures gave { (k : ℕ) → result ≡ look.Cell k → Gave k seat.new.part }
         ensures within { (k : ℕ) → result ≡ look.Cell k → k < self.now.size.cells }
 
-        // On a lane that was taken in before the reader was enrolled it is what that lane's producer left.
+        // On a lane that was taken in before the reader was enrolled, the result is what that lane's producer left.
         ensures known { (p : ℕ) (theirs : History) → slice_get seat.old.known p ≡ Some (Some theirs)
             → is_of_lane p (linked_cells p theirs) (word_of cursor) ≡ true
             → result ≡ look_after cursor theirs }
@@ -38,7 +38,7 @@ impl<A: Allocator + Drop> SharedCells<A> {
         accesses_stay_within();
         cells_stand_once();
         loads_tell_what_stays();
-        one_step();
+        history_extends();
         parts_tell_lanes();
         let link = self.load::<Brand>(&mut seat.seat, cursor.word());
         if link == 0 {
@@ -60,14 +60,14 @@ impl<A: Allocator + Drop> SharedCells<A> {
         ensures reader { seat.new.reader ≡ seat.old.reader }
         ensures known_lanes { seat.new.known ≡ seat.old.known }
 
-        // On a lane that was taken in before the reader was enrolled it is what that lane's producer left.
+        // On a lane that was taken in before the reader was enrolled, the result is what that lane's producer left.
         ensures known { (p : ℕ) (theirs : History) → slice_get seat.old.known p ≡ Some (Some theirs)
             → is_of_lane p (linked_cells p theirs) (Item k) ≡ true
             → result ≡ value_in (Item k) theirs }
     {
         accesses_lengthen_one_part();
         accesses_stay_within();
-        one_step();
+        history_extends();
         parts_tell_lanes();
         self.load::<Brand>(&mut seat.seat, Word::Item(k))
     }

@@ -1,7 +1,7 @@
 //! Many steps of a claim on the words of a table, each with a random word of its own.
 ghost use Rattle.std.specs.Prelude.{◌<◌, ◌^◌};
 
-use crate::rule::Makes;
+use crate::rule::MakeAccess;
 use crate::seat::ClaimSeat;
 use crate::table::SharedClaims;
 use mb_claim::laws::{claims_are_bounded, last_objects_decide_claims};
@@ -18,8 +18,9 @@ impl<A: Allocator + Drop> SharedClaims<A> {
     ghost use Rattle.mb_claim.specs.declared.access.Stage.TheVariants.{Undecided};
     ghost use Rattle.mb_shared_claims.specs.{Going, name_of, AreSeatSteps};
 
-    /// Makes accesses of a claim of the seat's consumer on a cell, each with the next word of the source, until the claim has
-    /// come to its end or so many were made, and returns how many. They are those of as many calls of [`SharedClaims::step`].
+    /// Makes accesses of a claim of the seat's consumer on a cell, each with the next word of `rng`. It stops if the
+    /// claim has ended or `most` were made. Returns how many. They are those of as many calls of
+    /// [`SharedClaims::step`].
     #[inline(always)]
     pub fn run<R: Rng>(
         &self,
@@ -35,14 +36,14 @@ impl<A: Allocator + Drop> SharedClaims<A> {
         requires standing { IsClaimIn self.now.layout claim.old
             (part_on seat.old.consumer cell seat.old.part) }
 
-        // Each access is the next one of the claim, with the next word of the source.
+        // Each access is the next one of the claim, with the next word of `rng`.
         ensures steps { AreSeatSteps self.now.layout cell claim.old seat.old (R.stream rng.old)
             result
             claim.new seat.new (R.stream rng.new) }
         ensures within { result ≤ most }
         ensures all { claim_stage claim.new ≡ Going → result ≡ most }
 
-        // So the claim has made what its consumer then has done on the cell, and no more than its layout allows.
+        // So the claim has made all that its consumer has done on the cell, and at most what its layout allows.
         ensures standing { IsClaimIn self.now.layout claim.new
             (part_on seat.new.consumer cell seat.new.part) }
         ensures consumer { consumer_of claim.new ≡ consumer_of claim.old }
@@ -67,7 +68,7 @@ impl<A: Allocator + Drop> SharedClaims<A> {
     }
 }
 
-/// The words of a cell, as a seat makes accesses to them, each with the next word of a source.
+/// The words of a cell while a seat makes accesses to them, each with the next word of `rng`.
 #[derive(Drop)]
 struct DrawingWords<'a, A: Allocator + Drop, R: Rng> {
     table: &'a SharedClaims<A>,

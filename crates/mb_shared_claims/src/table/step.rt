@@ -1,7 +1,7 @@
 //! One step of a claim on the words of a table.
 ghost use Rattle.std.specs.Prelude.{◌<◌, ◌^◌};
 
-use crate::rule::{Made, Makes};
+use crate::rule::{AccessSpec, MakeAccess};
 use crate::seat::ClaimSeat;
 use crate::table::SharedClaims;
 use mb_claim::laws::last_objects_decide_claims;
@@ -19,8 +19,8 @@ impl<A: Allocator + Drop> SharedClaims<A> {
     ghost use Rattle.mb_claim.specs.declared.access.Stage.TheVariants.{Undecided};
     ghost use Rattle.mb_shared_claims.specs.{Going, name_of, IsSeatStep, MayComeNext, ComesAfter, access_of, with_access};
 
-    /// Makes the next access of a claim of the seat's consumer on a cell, with the random word of this step, and tells how
-    /// far the claim has come then.
+    /// Makes the next access of a claim of the seat's consumer on a cell, with the random word of this step. Returns
+    /// how far the claim has come.
     #[inline(always)]
     pub fn step(&self, seat: &mut ClaimSeat, claim: &mut Claim, cell: u32, word: u64) -> Stage
         requires table { seat.old.table ≡ name_of self.now }
@@ -30,11 +30,11 @@ impl<A: Allocator + Drop> SharedClaims<A> {
             (part_on seat.old.consumer cell seat.old.part) }
         requires going { claim_stage claim.old ≡ Going }
 
-        // The seat's part has exactly the access more that the claim names, with the value found and the random word; it
-        // came after a lawful history; and the claim is the one after it.
+        // The seat's part has one access more: the one that the claim names, with the value found and the random word.
+        // It came after a lawful history, and the claim is the one after it.
         ensures step { IsSeatStep self.now.layout cell word claim.old seat.old claim.new seat.new }
 
-        // So the claim has made what its consumer then has done on the cell, and can be stepped again.
+        // So the claim has made all that its consumer has done on the cell, and can be stepped again.
         ensures standing { IsClaimIn self.now.layout claim.new
             (part_on seat.new.consumer cell seat.new.part) }
         ensures consumer { consumer_of claim.new ≡ consumer_of claim.old }
@@ -58,10 +58,10 @@ impl<A: Allocator + Drop> SharedClaims<A> {
         claim.step(&self.size.layout, &mut memory, word)
     }
 
-    /// Makes an access of a claim that may come next, and returns the value that a load or an exchange found, or any value
+    /// Makes an access of a claim that may come next. Returns the value that a load or an exchange found, and any value
     /// after a store.
     #[inline(always)]
-    pub(super) fn make<W: Made>(
+    pub(super) fn make<W: AccessSpec>(
         &self,
         seat: &mut ClaimSeat,
         cell: u32,
@@ -82,29 +82,32 @@ impl<A: Allocator + Drop> SharedClaims<A> {
     {
         accesses_lengthen_one_part();
         addresses_are_apart();
-        // The random word stands in the contract alone.
+        // Only the contract uses the random word.
         let _ = word;
         let address = self.size.layout.address(cell, next.object, next.op.reg());
         match next.op {
-            Op::Load(_) => self.table.shared.load::<Makes<W>>(&mut seat.seat, address),
+            Op::Load(_) => self
+                .table
+                .shared
+                .load::<MakeAccess<W>>(&mut seat.seat, address),
             Op::Store(_, value) => {
                 is_word(value);
                 self.table
                     .shared
-                    .store::<Makes<W>>(&mut seat.seat, address, value);
+                    .store::<MakeAccess<W>>(&mut seat.seat, address, value);
                 value
             }
             Op::Exchange(_, value) => {
                 is_word(value);
                 self.table
                     .shared
-                    .compare_exchange::<Makes<W>>(&mut seat.seat, address, 0, value)
+                    .compare_exchange::<MakeAccess<W>>(&mut seat.seat, address, 0, value)
             }
         }
     }
 }
 
-/// A `u64` is below 2 ^ 64, also one that was taken out of an op.
+/// Tells the prover that a `u64` is below 2 ^ 64, also one that was taken out of an op.
 #[inline(always)]
 fn is_word(value: u64)
     ensures { value < 2 ^ 64 }
@@ -112,7 +115,7 @@ fn is_word(value: u64)
     let _ = value;
 }
 
-/// The words of a cell, as a seat makes one access to them.
+/// The words of a cell while a seat makes one access to them.
 #[derive(Drop)]
 struct SeatWords<'a, A: Allocator + Drop> {
     table: &'a SharedClaims<A>,

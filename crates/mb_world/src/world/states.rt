@@ -1,5 +1,5 @@
-//! What one event makes of the state of a world. The functions compute nothing: their contracts are the laws on which
-//! the calls of a world stand, and their bodies name the laws below.
+//! The state of a world after one event. The functions compute nothing: their contracts are the laws that the calls of
+//! a world use. Their bodies name the laws that they use themselves.
 ghost use Rattle.std.specs.Prelude.{ℕ, ◌≡◌, ◌≢◌, ◌<◌, List, [], ◌∷◌};
 ghost use Rattle.mb_claim.specs.declared.access.Stage.TheVariants as stage;
 ghost use Rattle.mb_claim.specs.declared.claim.Claim.{Claim};
@@ -20,38 +20,38 @@ ghost use Rattle.mb_world.specs.declared.event.Event.TheVariants as event;
 ghost use Rattle.mb_world.specs.declared.report.Note.TheVariants.{Took};
 ghost use Rattle.mb_world.specs.declared.seat.Seat.{Seat};
 ghost use Rattle.mb_world.specs.declared.seat.Seat.TheVariants as seat;
-ghost use Rattle.mb_world.specs.Below.{Item, ObjectTurn};
+ghost use Rattle.mb_world.specs.Imports.{Item, ObjectTurn};
 ghost use Rattle.mb_world.specs.Setups.{layout_of, plan_in};
 ghost use Rattle.mb_world.specs.World.{WorldHistory, claim_accesses, pool_accesses};
 ghost use Rattle.mb_world.specs.ConsumerPath.{note_of};
 ghost use Rattle.mb_world.specs.WorldState.{IsWorldAfter, WorldState};
 ghost use Rattle.mb_world.specs.Replay.{IsRefused};
-ghost use Rattle.mb_world.specs.EventSteps.{EventAdds, HasSeat, IsBefore, seat_by, with_note, with_note_if, with_pool};
+ghost use Rattle.mb_world.specs.EventSteps.{EventAdds, HasSeat, StandsBefore, seat_by, with_note, with_note_if, with_pool};
 ghost use Rattle.mb_world.specs.EventSteps.{with_seat, with_words};
 
 use crate::laws::worlds_are_sound;
-use crate::steps::one_step;
+use crate::steps::history_extends;
 use mb_cells::laws::{cells_stand_once, readers_follow_lanes};
 use mb_cells::steps::loads_leave_pools;
 use mb_claim::laws::{layouts_are_sound, prefixes_have_one_stage};
 
 /// A look of a consumer that holds no claim.
 pub(super) fn looks_leave_states()
-    // It stands before a link of the pool.
+    // The consumer stands before a link of the pool.
     ensures within { (s : WorldState) (h : WorldHistory) (c p : ℕ) (d : Seat) (at : Cursor)
-        → IsWorldAfter h s → HasSeat c p d s → IsBefore p d at → IsWithin at s.pool }
+        → IsWorldAfter h s → HasSeat c p d s → StandsBefore p d at → IsWithin at s.pool }
 
-    // Where the link leads to a cell, it holds a new claim there.
+    // If the link leads to a cell, the consumer then holds a new claim there.
     ensures found { (s : WorldState) (h : WorldHistory) (c p word k : ℕ) (d : Seat) (at : Cursor)
-        (claim : Claim) → IsWorldAfter h s → HasSeat c p d s → IsBefore p d at
+        (claim : Claim) → IsWorldAfter h s → HasSeat c p d s → StandsBefore p d at
         → look_after at (pool_accesses h) ≡ look.Cell k → consumer_of claim ≡ c
         → claim_stage claim ≡ stage.Going → IsClaimIn (layout_of s.setup) claim []
         → EventAdds (event.Step c p word) (answer.Looked (look.Cell k))
         (with_seat c p (seat.AtCell k claim) s) h }
 
-    // Where it leads to none, the state stays.
+    // If it leads to none, the state stays.
     ensures waited { (s : WorldState) (h : WorldHistory) (c p word : ℕ) (d : Seat) (at : Cursor)
-        (z : Look) → IsWorldAfter h s → HasSeat c p d s → IsBefore p d at
+        (z : Look) → IsWorldAfter h s → HasSeat c p d s → StandsBefore p d at
         → look_after at (pool_accesses h) ≡ z → ((k : ℕ) → z ≢ look.Cell k)
         → EventAdds (event.Step c p word) (answer.Looked z) s h }
 {
@@ -61,7 +61,7 @@ pub(super) fn looks_leave_states()
     readers_follow_lanes();
     loads_leave_pools();
     worlds_are_sound();
-    one_step();
+    history_extends();
 }
 
 /// The item load of a consumer whose claim is won.
@@ -78,23 +78,23 @@ pub(super) fn takes_leave_states()
     readers_follow_lanes();
     loads_leave_pools();
     worlds_are_sound();
-    one_step();
+    history_extends();
 }
 
 /// A step of a consumer's claim.
 pub(super) fn claims_leave_states()
-    // A claim that is held goes on where it is not won.
+    // A claim that is held and not won goes on.
     ensures going { (s : WorldState) (h : WorldHistory) (c p k : ℕ) (claim : Claim)
         → IsWorldAfter h s → HasSeat c p (seat.AtCell k claim) s → claim_stage claim ≢ stage.Won
         → claim_stage claim ≡ stage.Going }
 
-    // The words and the claim are of one history of the claims.
+    // The words and the claim belong to one history of the claims.
     ensures on { (s : WorldState) (h : WorldHistory) (c p k : ℕ) (claim : Claim)
         → IsWorldAfter h s → HasSeat c p (seat.AtCell k claim) s
         → IsClaimOn (layout_of s.setup) (plan_in s.setup).claims.cells k claim s.words
         (claim_accesses h) }
 
-    // With the step the words and the claim are these.
+    // The step leads to these words and this claim, and so to this state.
     ensures competed { (s : WorldState) (h : WorldHistory) (c p word k : ℕ) (claim now : Claim)
         (words : List ℕ) (x : ObjectTurn)
         → IsWorldAfter h s → HasSeat c p (seat.AtCell k claim) s → claim_stage claim ≡ stage.Going
@@ -112,7 +112,7 @@ pub(super) fn claims_leave_states()
     readers_follow_lanes();
     loads_leave_pools();
     worlds_are_sound();
-    one_step();
+    history_extends();
 }
 
 /// A call of a producer's lane.
@@ -130,7 +130,7 @@ pub(super) fn calls_leave_states()
         → SameSize s.pool pool
         → EventAdds (event.Finish p) (answer.Finished z) (with_pool pool s) h }
 
-    // Where the producer's place refuses the call, the pool stays.
+    // If the producer's place refuses the call, the pool stays.
     ensures offer_refused { (s : WorldState) (h : WorldHistory) (p x : ℕ) (r : Answer)
         (pool : PoolState) → IsWorldAfter h s → p < (plan_in s.setup).lanes
         → IsRefused (plan_in s.setup) (event.Offer p x) r h → OfferKeeps s.pool p pool
@@ -140,5 +140,5 @@ pub(super) fn calls_leave_states()
         → IsRefused (plan_in s.setup) (event.Finish p) r h → FinishKeeps s.pool p pool
         → pool ≡ s.pool }
 {
-    one_step();
+    history_extends();
 }

@@ -1,6 +1,6 @@
 //! Replays in which consumers claim items.
 
-use super::Example;
+use super::entry::Example;
 
 pub const CLAIMS: &[Example] = &[
     ITEM_TAKEN,

@@ -1,6 +1,6 @@
-//! Replays of what producers and readers of lanes are answered.
+//! Replays with the answers that producers and readers of lanes get.
 
-use super::Example;
+use super::entry::Example;
 
 pub const LANES: &[Example] = &[
     Example {

@@ -1,6 +1,6 @@
-//! Scripts of one ratifier, answered and refused.
+//! Scripts of one ratifier, accepted and refused.
 
-use super::Example;
+use super::entry::Example;
 
 pub const RATIFIERS: &[Example] = &[
     LATE_INPUT,

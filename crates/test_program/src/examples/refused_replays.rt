@@ -1,6 +1,6 @@
 //! Replays that are refused.
 
-use super::Example;
+use super::entry::Example;
 
 pub const REFUSED_REPLAYS: &[Example] = &[
     Example {

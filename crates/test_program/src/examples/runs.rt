@@ -1,6 +1,6 @@
-//! Threads, where their report does not depend on their order.
+//! Runs of threads with a report that does not depend on their order.
 
-use super::Example;
+use super::entry::Example;
 
 pub const RUNS: &[Example] = &[
     Example {

@@ -1,6 +1,6 @@
 //! Claims on cells that have a fast path, a last object, or both.
 
-use super::Example;
+use super::entry::Example;
 
 pub const SHAPES: &[Example] = &[
     Example {

@@ -1,6 +1,6 @@
-//! What clap writes: help that was asked for, and why words are refused.
+//! What clap writes: help that was asked for, and why a command line is refused.
 
-use super::Example;
+use super::entry::Example;
 
 pub const TEXTS: &[Example] = &[
     Example {

@@ -3,13 +3,13 @@ use Rattle.mb_claim.specs.declared.access.ClaimAccess.{ClaimAccess}
 use Rattle.mb_claim.specs.declared.claim.Claim.{Claim}
 use Rattle.mb_claim.specs.declared.layout.Layout.{Layout}
 use Rattle.mb_claim.specs.Vocabulary.{IsClaimIn, consumer_of}
-use Rattle.bench_loops.specs.UnderWay.{IsBefore, IsContest}
+use Rattle.bench_loops.specs.UnderWay.{ClaimIsBefore, IsContest}
 use Rattle.bench_loops.proofs.contended.contend_each.Goals as goal
 
 -- new claims on a cell that nobody has touched are a contest
 fresh_contest :
     (layout : Layout) (cell : ℕ) (claims : List Claim) (words : List ℕ) (h : List ClaimAccess)
-    → ((c : ℕ) → IsBefore layout c cell words h)
+    → ((c : ℕ) → ClaimIsBefore layout c cell words h)
     → ((i : ℕ) (d : Claim) → i < length claims → consumer_of (slice_index_or claims i d) ≡ i)
     → ((i : ℕ) (d : Claim) → i < length claims → IsClaimIn layout (slice_index_or claims i d) [])
     → IsContest layout cell claims words h

@@ -2,7 +2,7 @@ use Rattle.std.proofs.Common.{◌≡◌, ◌<◌, [], ℕ, List, slice_index_or}
 use Rattle.mb_claim.specs.declared.access.ClaimAccess.{ClaimAccess}
 use Rattle.mb_claim.specs.declared.claim.Claim.{Claim}
 use Rattle.mb_claim.specs.Vocabulary.{IsClaimIn, consumer_of}
-use Rattle.bench_loops.specs.UnderWay.{IsBefore}
+use Rattle.bench_loops.specs.UnderWay.{ClaimIsBefore}
 use Rattle.bench_loops.proofs.contended.contend_each.Given as goal
 
 abbrev pub invariant-loop-consumer : goal.invariant-loop-consumer
@@ -12,4 +12,4 @@ invariant-loop-consumer g l = record {
 }
 
 abbrev pub invariant-loop-cell : goal.invariant-loop-cell
-invariant-loop-cell g l = (h : List ClaimAccess) × ((c : ℕ) → IsBefore l.layout c l.cell l.words h)
+invariant-loop-cell g l = (h : List ClaimAccess) × ((c : ℕ) → ClaimIsBefore l.layout c l.cell l.words h)

@@ -1,13 +1,13 @@
 use Rattle.std.proofs.Common.{◌≡◌, List}
 use Rattle.mb_cells.specs.State.{IsWithin}
 use Rattle.mb_claim.specs.declared.access.ClaimAccess.{ClaimAccess}
-use Rattle.bench_loops.specs.UnderWay.{ChangesOnly, IsBefore}
+use Rattle.bench_loops.specs.UnderWay.{ChangesOnly, ClaimIsBefore}
 use Rattle.bench_loops.proofs.mail.read.Given as goal
 
 abbrev pub invariant-loop-next : goal.invariant-loop-next
 invariant-loop-next g l = record {
   within : IsWithin l.cursor l.pool;
-  before : (h : List ClaimAccess) → IsBefore l.layout l.consumer 0 l.initial.words h
-      → (later : List ClaimAccess) × IsBefore l.layout l.consumer l.next l.words later
+  before : (h : List ClaimAccess) → ClaimIsBefore l.layout l.consumer 0 l.initial.words h
+      → (later : List ClaimAccess) × ClaimIsBefore l.layout l.consumer l.next l.words later
       × ChangesOnly (λ c k. c ≡ l.consumer) h later;
 }

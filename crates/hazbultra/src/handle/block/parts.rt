@@ -1,4 +1,4 @@
-//! A box taken apart, whose parts the module above can see.
+//! A box taken apart, so that the module above can see its parts.
 ghost use Rattle.std.specs.Prelude.{◌≡◌};
 ghost use Rattle.std.specs.Box.Ownership.{box_owns};
 
@@ -17,7 +17,6 @@ impl<T, A: Allocator> Model for Parts<T, A> {
 }
 
 impl<T, A: Allocator> Parts<T, A> {
-    /// The parts of this box.
     pub fn of(whole: Box<T, A>) -> Parts<T, A>
     where
         T: Drop,
@@ -27,7 +26,6 @@ impl<T, A: Allocator> Parts<T, A> {
         Parts { ptr, alloc }
     }
 
-    /// The box of these parts.
     pub fn into_box(self) -> Box<T, A>
         ensures { result.value ≡ self.value }
     {

@@ -1,13 +1,13 @@
 use Rattle.std.proofs.Common.{None, [], arith, inl, inr, refl, ◌∷◌}
 use Rattle.mb_cells.proofs.examples.one_item_is_put_and_read.Goals as goal
-use Rattle.mb_cells.specs.{END, Gave, Head, History, IsAt, IsPoolLawful, Item, Link, eight, fetch, load, one_put, one_taken, pool_size, store}
+use Rattle.mb_cells.specs.{END, Gave, Head, History, LaneIsAt, IsPoolLawful, Item, Link, eight, fetch, load, one_put, one_taken, pool_size, store}
 use Rattle.mb_cells.specs.Place.{Ended, Offered, Open, Stored}
 use Rattle.mb_cells.proofs.OneStep.{empty_lawful, producer_step, reader_step}
 use Rattle.mb_cells.proofs.Places.{prefix_at}
 
 taken : IsPoolLawful (pool_size 1 1) one_taken
 taken =
-    let at : IsAt 1 0 [] (Offered eight) one_taken = record { below = tt; fits = omega arith; is = refl } in
+    let at : LaneIsAt 1 0 [] (Offered eight) one_taken = record { below = tt; fits = omega arith; is = refl } in
     producer_step (pool_size 1 1) [] (fetch 0 eight) 0 (empty_lawful (pool_size 1 1) (omega arith)) refl (omega arith)
     (omega arith, omega arith) refl (prefix_at 1 0 [] (Offered eight) one_taken at)
 
@@ -16,7 +16,7 @@ looked = reader_step (pool_size 1 1) one_taken 5 (Head 0) taken (omega arith)
 
 filled : IsPoolLawful (pool_size 1 1) (store 0 (Item 0) 8 ∷ load 5 (Head 0) 0 ∷ one_taken)
 filled =
-    let at : IsAt 1 0 [] (Stored eight) (store 0 (Item 0) 8 ∷ one_taken) =
+    let at : LaneIsAt 1 0 [] (Stored eight) (store 0 (Item 0) 8 ∷ one_taken) =
     record { below = tt; fits = omega arith; is = refl } in
     producer_step (pool_size 1 1) (load 5 (Head 0) 0 ∷ one_taken) (store 0 (Item 0) 8) 0 looked refl (omega arith)
     (omega arith) tt (prefix_at 1 0 [] (Stored eight) (store 0 (Item 0) 8 ∷ one_taken) at)
@@ -26,7 +26,7 @@ linked_history = store 0 (Head 0) 1 ∷ store 0 (Item 0) 8 ∷ load 5 (Head 0) 0
 
 linked_now : IsPoolLawful (pool_size 1 1) linked_history
 linked_now =
-    let at : IsAt 1 0 (eight ∷ []) Open one_put = record { below = (omega arith, tt); fits = tt; is = refl } in
+    let at : LaneIsAt 1 0 (eight ∷ []) Open one_put = record { below = (omega arith, tt); fits = tt; is = refl } in
     producer_step (pool_size 1 1) (store 0 (Item 0) 8 ∷ load 5 (Head 0) 0 ∷ one_taken)
     (store 0 (Head 0) 1) 0 filled refl
     (omega arith) (omega arith) tt (prefix_at 1 0 (eight ∷ []) Open one_put at)
@@ -42,7 +42,7 @@ took = reader_step (pool_size 1 1) (load 5 (Head 0) 1 ∷ linked_history) 5 (Ite
 
 finished : IsPoolLawful (pool_size 1 1) (store 0 (Link 0) END ∷ load 5 (Item 0) 8 ∷ load 5 (Head 0) 1 ∷ linked_history)
 finished =
-    let at : IsAt 1 0 (eight ∷ []) (Ended None) (store 0 (Link 0) END ∷ one_put) =
+    let at : LaneIsAt 1 0 (eight ∷ []) (Ended None) (store 0 (Link 0) END ∷ one_put) =
     record { below = (omega arith, tt); fits = tt; is = refl } in
     producer_step (pool_size 1 1) (load 5 (Item 0) 8 ∷ load 5 (Head 0) 1 ∷ linked_history)
     (store 0 (Link 0) END) 0 took refl (omega arith) (omega arith) tt

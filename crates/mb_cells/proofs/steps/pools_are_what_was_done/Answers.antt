@@ -2,10 +2,11 @@ use Rattle.std.proofs.Common.{ap, arith, subst, sym, ◌∙◌, ◌≡◌}
 use Rattle.std.proofs.Math.ListN.{get_or}
 use Rattle.std.proofs.lemmas.List.{ext_get_or}
 use Rattle.mb_cells.proofs.steps.pools_are_what_was_done.Goals as goal
-use Rattle.mb_cells.specs.{Counter, Head, History, IsAfter, IsLaneAfter, IsSound, Item, Link, PoolState, Producer, SameSize, cell_count, new_lane, part}
+use Rattle.mb_cells.specs.{Counter, Head, History, IsAfter, IsLaneAfter, PoolIsSound, Item, Link, PoolState, Producer, SameSize, cell_count, new_lane, part}
 use Rattle.mb_cells.proofs.LaneSteps.{same_lane}
 
-one_pool : (h : History) (s t : PoolState) → IsSound s → IsSound t → SameSize s t → IsAfter h s → IsAfter h t → s ≡ t
+one_pool : (h : History) (s t : PoolState) → PoolIsSound s → PoolIsSound t → SameSize s t
+    → IsAfter h s → IsAfter h t → s ≡ t
 one_pool h s t x y size a b =
     let counter : s.words.counter ≡ t.words.counter = a.words Counter tt ∙ sym (b.words Counter tt) in
     let heads : s.words.heads ≡ t.words.heads =

@@ -1,7 +1,7 @@
 use Rattle.std.proofs.Common.{◌≡◌, ◌+◌, ◌*◌, length, ap, arith}
 use Rattle.mb_claim.specs.{Value, Proposal, Quorum, Last, address_of, pairs_of, fast_row}
-use Rattle.mb_claim.proofs.Addresses.{distinct, within, words_of-pairs_of, pair_address}
-use Rattle.mb_claim.proofs.ShapedAddresses.{words_of-row_of, fast_address, shaped_address, last_address}
+use Rattle.mb_claim.proofs.Addresses.{distinct, within, row_words-pairs_of, pair_address}
+use Rattle.mb_claim.proofs.ShapedAddresses.{row_words-row_of, fast_address, shaped_address, last_address}
 use Rattle.mb_claim.proofs.steps.addresses_are_apart.Goals as goal
 
 pub returns-clause-apart : goal.returns-clause-apart
@@ -22,7 +22,7 @@ pub returns-clause-register : goal.returns-clause-register
 returns-clause-register c r s n k i q h = omega (arith, pair_address r s n k i 1 (Quorum q) h (omega arith))
 
 pub returns-clause-words : goal.returns-clause-words
-returns-clause-words c = words_of-pairs_of
+returns-clause-words c = row_words-pairs_of
 
 pub returns-clause-fast_proposal : goal.returns-clause-fast_proposal
 returns-clause-fast_proposal c r s n k i shape h = omega (arith, fast_address r s n k i shape Proposal h)
@@ -49,4 +49,4 @@ pub returns-clause-last : goal.returns-clause-last
 returns-clause-last c r s n k shape = omega (arith, last_address r s n k shape Last)
 
 pub returns-clause-shaped : goal.returns-clause-shaped
-returns-clause-shaped c = words_of-row_of
+returns-clause-shaped c = row_words-row_of

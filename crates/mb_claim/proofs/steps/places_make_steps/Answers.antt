@@ -1,16 +1,16 @@
 use Rattle.mb_deciding.specs.Vocabulary.{object_of}
-use Rattle.mb_claim.specs.{Claims, IsSound}
+use Rattle.mb_claim.specs.{Claims, ClaimsAreSound}
 use Rattle.mb_claim.proofs.Standing.{AreStepping, may_follow, finds_there}
 use Rattle.mb_claim.proofs.steps.places_make_steps.Goals as goal
 
 -- the laws of one step of the objects
-stepping : goal.After-one_step → (cs : Claims) → IsSound cs → AreStepping cs.table
+stepping : goal.After-history_extends → (cs : Claims) → ClaimsAreSound cs → AreStepping cs.table
 stepping c cs quorum =
     record {
       steps = λ kind inputs xs q at o n. c.places_lead_on.ensures.prefix
           (object_of cs.table kind inputs) xs q at o n quorum;
       finds = λ kind inputs xs q at o. c.places_lead_on.ensures.found (object_of cs.table kind inputs) xs q at o quorum;
-      longer = λ kind inputs xs q turn. c.one_step.ensures.longer (object_of cs.table kind inputs) xs q turn;
+      longer = λ kind inputs xs q turn. c.history_extends.ensures.longer (object_of cs.table kind inputs) xs q turn;
     }
 
 pub returns-clause-follows : goal.returns-clause-follows

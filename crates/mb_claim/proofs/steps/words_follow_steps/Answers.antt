@@ -1,24 +1,24 @@
 use Rattle.std.proofs.Common.{ℕ, List}
 use Rattle.mb_deciding.specs.Vocabulary.{object_of, IsOpAt, reg_of}
-use Rattle.mb_claim.specs.{Op, Pc, ClaimAccess, Claims, IsSound, IsWordIn, HasPlace}
+use Rattle.mb_claim.specs.{Op, Pc, ClaimAccess, Claims, ClaimsAreSound, IsWordIn, HasPlace}
 use Rattle.mb_claim.proofs.Standing.{AreStepping, stands_on}
 use Rattle.mb_claim.proofs.States.{memory_step, memory_found}
 use Rattle.mb_claim.proofs.steps.words_follow_steps.Goals as goal
 
 -- the laws of one step of the objects
-stepping : goal.After-places_are_unfinished → (cs : Claims) → IsSound cs → AreStepping cs.table
+stepping : goal.After-places_are_unfinished → (cs : Claims) → ClaimsAreSound cs → AreStepping cs.table
 stepping c cs quorum =
     record {
       steps = λ kind inputs xs q at o n. c.places_lead_on.ensures.prefix
           (object_of cs.table kind inputs) xs q at o n quorum;
       finds = λ kind inputs xs q at o. c.places_lead_on.ensures.found (object_of cs.table kind inputs) xs q at o quorum;
-      longer = λ kind inputs xs q turn. c.one_step.ensures.longer (object_of cs.table kind inputs) xs q turn;
+      longer = λ kind inputs xs q turn. c.history_extends.ensures.longer (object_of cs.table kind inputs) xs q turn;
     }
 
 -- the word of the place's op is one of the cell's
 place_word :
     goal.After-places_are_unfinished → (cs : Claims) (d k object : ℕ) (pc : Pc) (op : Op) (h : List ClaimAccess)
-    → IsSound cs
+    → ClaimsAreSound cs
     → HasPlace cs d k object pc h → IsOpAt cs.table pc op → IsWordIn cs object (reg_of op)
 place_word c cs d k object pc op h quorum p is = (
   p.1.kind,

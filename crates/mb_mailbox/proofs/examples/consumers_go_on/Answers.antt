@@ -1,6 +1,6 @@
 use Rattle.std.proofs.Common.{refl, ◌≡◌}
 use Rattle.mb_claim.specs.declared.access.Stage.TheVariants as stage
-use Rattle.mb_mailbox.specs.Below.{END}
+use Rattle.mb_mailbox.specs.Imports.{END}
 use Rattle.mb_mailbox.specs.ConsumerStep.{competes, looks, takes}
 use Rattle.mb_mailbox.proofs.ExampleParts.{last_met}
 use Rattle.mb_mailbox.proofs.examples.consumers_go_on.Goals as goal

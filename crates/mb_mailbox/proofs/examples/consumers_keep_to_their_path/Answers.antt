@@ -1,7 +1,7 @@
 use Rattle.std.proofs.Common.{None, Option, Some, [], ap, arith, slice_index, sym, ◌∷◌, ◌≡◌, ◌∙◌, ℕ, List, subst}
 use Rattle.mb_quorum.specs.Vocabulary.{IsQuorumTable}
 use Rattle.mb_claim.specs.declared.access.Stage.TheVariants as stage
-use Rattle.mb_mailbox.specs.Below.{Claims, Head, IsClaimPrefix, Item, Link, ObjectTurn, Stage, claim_step, item_load, link_load, look_of}
+use Rattle.mb_mailbox.specs.Imports.{Claims, Head, IsClaimPrefix, Item, Link, ObjectTurn, Stage, claim_step, item_load, link_load, look_of}
 use Rattle.mb_mailbox.specs.declared.consumer.Poll.{Poll}
 use Rattle.mb_mailbox.specs.declared.consumer.Poll.TheVariants as poll
 use Rattle.mb_mailbox.specs.ConsumerStep.{ConsumerStep, competes, link_answer, looks, stage_answer, takes}

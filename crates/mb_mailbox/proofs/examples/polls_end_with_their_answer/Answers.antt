@@ -1,12 +1,12 @@
 use Rattle.std.proofs.Common.{None, Option, Some, [], ap, arith, length, sym, ◌∷◌, ◌≡◌, ◌∙◌, ℕ, refl, subst}
 use Rattle.std.proofs.lemmas.List.{length-append}
-use Rattle.mb_mailbox.specs.Below.{ReaderSeatView, SeatView, ToCells, ToClaims, WorldHistory, claim_accesses, link_load, look_of, pool_accesses}
+use Rattle.mb_mailbox.specs.Imports.{ReaderSeatView, SeatView, ToCells, ToClaims, WorldHistory, claim_accesses, link_load, look_of, pool_accesses}
 use Rattle.mb_mailbox.specs.declared.consumer.Poll.{Poll}
 use Rattle.mb_mailbox.specs.Consumers.{ConsumerView}
 use Rattle.mb_mailbox.specs.ConsumerStep.{ConsumerStep, competes, link_answer, looks, takes}
 use Rattle.mb_mailbox.specs.declared.consumer.Poll.TheVariants as poll
 use Rattle.mb_mailbox.specs.Steps.{HasDone, LeadTo, parts_after}
-use Rattle.mb_mailbox.specs.Below.{claims_at}
+use Rattle.mb_mailbox.specs.Imports.{claims_at}
 use Rattle.mb_mailbox.proofs.ExampleParts.{value_loaded, word_in}
 use Rattle.mb_mailbox.proofs.examples.polls_end_with_their_answer.Goals as goal
 
@@ -25,7 +25,7 @@ answered s (takes k v last won e told) = absurd (cc)
 pub returns-clause-goes_on : goal.returns-clause-goes_on
 returns-clause-goes_on c = λ s a answer led. answered s led.1.0
 
--- where nothing changed, no access was made
+-- if nothing changed, no access was made
 no_access : (p : ℕ) (done : WorldHistory) (answer : Option Poll) (s : ConsumerView)
     → HasDone p done answer s s → done ≡ []
 no_access p [] answer s d = refl

@@ -1,12 +1,12 @@
 use Rattle.std.proofs.Common.{◌≡◌, ◌++◌, ℕ, List, [], ◌∷◌, map, sym, ap, ◌∙◌, subst}
 use Rattle.std.proofs.lemmas.List.{map-append}
-use Rattle.mb_mailbox.specs.Below.{ClaimAccess, Stream, claim_accesses}
+use Rattle.mb_mailbox.specs.Imports.{ClaimAccess, Stream, claim_accesses}
 use Rattle.mb_mailbox.specs.Calls.{AreCalls, Call}
 use Rattle.mb_mailbox.specs.Consumers.{ConsumerView}
-use Rattle.mb_mailbox.specs.Steps.{AreDrawn, words_of}
+use Rattle.mb_mailbox.specs.Steps.{AreDrawn, drawn_words}
 use Rattle.mb_mailbox.proofs.laws.calls_draw_the_first_words.Goals as goal
 
--- these words are drawn after those
+-- words drawn one list after the other are drawn as one list
 drawn_after : (s t u : Stream) (ws vs : List ℕ) → AreDrawn s ws t → AreDrawn t vs u → AreDrawn s (vs ++ ws) u
 drawn_after s t u ws [] was now = subst (λ z. AreDrawn s ws z) (sym now) was
 drawn_after s t u ws (v ∷ vs) was now = (now.0, drawn_after s t now.0 ws vs was now.1, now.2)
@@ -24,11 +24,11 @@ first_words from end budget (c ∷ older) s t old new calls none =
     let u = calls.0 in
     let mid = calls.1 in
     let poll = calls.3.poll in
-    let more : words new.seat.part ≡ words_of poll.accesses ++ words mid.seat.part =
+    let more : words new.seat.part ≡ drawn_words poll.accesses ++ words mid.seat.part =
     ap (λ z. words z.part) poll.done.seat ∙ map-append (λ (a : ClaimAccess). a.step.turn.word)
     (claim_accesses poll.accesses) mid.seat.part in
     subst (λ (ws : List ℕ). AreDrawn s ws t) (sym more)
-    (drawn_after s u t (words mid.seat.part) (words_of poll.accesses)
+    (drawn_after s u t (words mid.seat.part) (drawn_words poll.accesses)
     (first_words from end budget older s u old mid calls.2 none) poll.drawn)
 
 pub returns : goal.returns

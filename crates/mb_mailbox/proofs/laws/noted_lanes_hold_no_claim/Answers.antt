@@ -2,10 +2,10 @@ use Rattle.std.proofs.Common.{◌≡◌, ◌≢◌, ◌⊎◌, ℕ, zero, suc, B
 use Rattle.std.specs.Prelude.{Option, Some, None, slice_get, slice_set}
 use Rattle.std.specs.Option.{option_map_or}
 use Rattle.std.proofs.lemmas.List.{length-reverse}
-use Rattle.mb_mailbox.specs.Below.{Claim, Note, cells_met, claims_in}
+use Rattle.mb_mailbox.specs.Imports.{Claim, Note, cells_met, claims_in}
 use Rattle.mb_mailbox.specs.Consumers.{ConsumerView, IsConsumer, parts_of}
 use Rattle.mb_mailbox.specs.Gathering.{has_begun_at, kept_at}
-use Rattle.mb_mailbox.specs.Hubs.{LedgerView, ledger_of}
+use Rattle.mb_mailbox.specs.Hubs.{ConsumerRecordView, ledger_of}
 use Rattle.mb_mailbox.specs.Steps.{HasNoteOnEach, notes_on}
 use Rattle.mb_mailbox.specs.declared.place.Place.{Place}
 use Rattle.mb_mailbox.specs.declared.place.Place.TheVariants.{At, Before}
@@ -33,7 +33,7 @@ no_claim s p k claim i each at =
 pub returns-clause-place : goal.returns-clause-place
 returns-clause-place c = no_claim
 
--- it stands before a link, if it stands anywhere
+-- no claim is begun there: if it has a place on the lane, that is before a link
 none_begun : (s : ConsumerView) (p : ℕ) → IsConsumer s → HasNoteOnEach p s
     → option_map_or has_begun_at (slice_get s.places p) false ≡ false
 none_begun s p i each = by (slice_get s.places p) refl
@@ -43,7 +43,7 @@ none_begun s p i each = by (slice_get s.places p) refl
     by (Some (Before at)) e = refl
     by (Some (At k claim)) e = absurd (no_claim s p k claim i each e)
 
--- what is kept at a number is what was put there, if there is such a number
+-- after one was put at a number, it is kept there, if there is such a number
 kept_there : {X : Type 0} (xs : List (Option X)) (n : ℕ) (x : X)
     → (kept_at (slice_set xs n (Some x)) n ≡ Some x) ⊎ (kept_at (slice_set xs n (Some x)) n ≡ None)
 kept_there [] n x = inr refl
@@ -57,7 +57,7 @@ returns-clause-begun c h s p i each =
       | inr none ↦ ap begun_by none
     ]
   where
-    begun_by : Option LedgerView → Bool
+    begun_by : Option ConsumerRecordView → Bool
     begun_by o =
-        option_map_or (λ (l : LedgerView). option_map_or has_begun_at (slice_get l.places p) false)
+        option_map_or (λ (l : ConsumerRecordView). option_map_or has_begun_at (slice_get l.places p) false)
         o false

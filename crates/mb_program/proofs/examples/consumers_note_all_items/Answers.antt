@@ -1,7 +1,7 @@
 use Rattle.std.proofs.Common.{◌≡◌, ◌-◌, ◌^◌, ◌≤◌, suc, Bool, true, false, List, [], ◌∷◌, Option, Some, None, length, inl, inr, refl, arith}
 use Rattle.std.specs.Prelude.{filter}
 use Rattle.std.specs.List.{filter_map}
-use Rattle.mb_mailbox.specs.Below.{Reader, consumer_part, part}
+use Rattle.mb_mailbox.specs.Imports.{Reader, consumer_part, part}
 use Rattle.mb_program.proofs.examples.consumers_note_all_items.Goals as goal
 
 -- a part is no longer than the whole

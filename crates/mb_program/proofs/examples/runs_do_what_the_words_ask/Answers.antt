@@ -3,11 +3,11 @@ use Rattle.std.specs.Fmt.{digits}
 use Rattle.clap.proofs.OnLiterals.{clap_on_literals}
 use Rattle.clap.specs.Words.{IsAmong, Kinds, fault_of}
 use Rattle.clap.specs.declared.error.ErrorKind.TheVariants.{DisplayHelp, InvalidSubcommand, MissingSubcommand, UnknownArgument}
-use Rattle.mb_script.specs.Vocabulary.{IsExchange, number_of, numbers_of}
+use Rattle.mb_script.specs.Vocabulary.{IsCommandIo, number_of, numbers_of}
 use Rattle.mb_program.specs.Answer.{fault_of as first_fault, ratifying}
 use Rattle.mb_program.specs.CommandLine.{program}
 use Rattle.mb_program.specs.Outcome.{fault_line}
-use Rattle.mb_program.specs.Program.{IsPrinted, IsTold, Names}
+use Rattle.mb_program.specs.Program.{IsPrinted, IsTold, WordsName}
 use Rattle.mb_program.specs.RatifyScript.{script_of, three_lines, line_words, head_of, list_of}
 use Rattle.mb_program.specs.RunExamples.{nobody_script, plain, ratify_now, ratify_words}
 use Rattle.mb_program.specs.declared.command.Choice.TheVariants.{Ratify}
@@ -17,7 +17,7 @@ use Rattle.mb_program.proofs.Nobody.{nobody_answered}
 use Rattle.mb_program.proofs.examples.runs_do_what_the_words_ask.Goals as goal
 
 -- ---- what clap finds in the words
-names_ratify : Names ratify_words Ratify
+names_ratify : WordsName ratify_words Ratify
 unfolding clap_on_literals
 names_ratify = (refl, refl, tt)
 
@@ -30,7 +30,7 @@ unfolding clap_on_literals
 no_command = refl
 
 -- ---- what the command does
-answered : IsExchange {X = Unit {0}} ratifying plain plain nobody_script [] [] [] (Ok tt)
+answered : IsCommandIo {X = Unit {0}} ratifying plain plain nobody_script [] [] [] (Ok tt)
 answered = record {
   answered = (nobody_script, [], refl, nobody_answered, refl);
   fault = tt;
@@ -50,7 +50,7 @@ bad_line : first_fault (codes "x\n") ≡ Some (BadLine 1)
 unfolding script_of three_lines line_words head_of list_of number_of numbers_of
 bad_line = refl
 
-refused : IsExchange {X = Unit {0}} ratifying plain plain (codes "x\n") [] [] [] (Err (BadLine 1))
+refused : IsCommandIo {X = Unit {0}} ratifying plain plain (codes "x\n") [] [] [] (Err (BadLine 1))
 refused = record {
   answered = tt;
   fault = λ lies. (codes "x\n", refl, bad_line);

@@ -2,7 +2,7 @@ use Rattle.std.proofs.Common.{◌≡◌, ◌+◌, ◌<◌, ℕ, zero, suc, List,
 use Rattle.std.specs.Prelude.{Some, slice_get}
 use Rattle.std.proofs.lemmas.List.{nil_from_length}
 use Rattle.mb_world.specs.Report.{ReportView}
-use Rattle.mb_mailbox.specs.Below.{ClaimAccess, Stream, consumer_part, next_u64, taken_part}
+use Rattle.mb_mailbox.specs.Imports.{ClaimAccess, Stream, consumer_part, next_u64, taken_part}
 use Rattle.mb_mailbox.specs.Called.{WasPolled, WerePolled}
 use Rattle.mb_mailbox.specs.Calls.{AreCalls, Call}
 use Rattle.mb_mailbox.specs.Consumers.{ConsumerView}

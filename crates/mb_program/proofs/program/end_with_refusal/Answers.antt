@@ -1,14 +1,14 @@
 use Rattle.std.proofs.Common.{ap}
 use Rattle.mb_script.specs.Vocabulary.{meter}
-use Rattle.mb_program.specs.declared.outcome.Ending.TheVariants as ending
+use Rattle.mb_program.specs.declared.outcome.ProgramExit.TheVariants as ending
 use Rattle.mb_program.proofs.Told.{told_errors, told_nobody, told_output}
 use Rattle.mb_program.proofs.program.end_with_refusal.Goals.{in-Ok, in-Ok-2, in-Err}
 use Rattle.mb_program.proofs.program.end_with_refusal.Goals as goal
 
 pub returns : goal.returns
 returns g c =
-    let output = meter g.O.Sink.held g.O.Sink.failures in
-    let errors = meter g.E.Sink.held g.E.Sink.failures in (
+    let output = meter g.O.CountedWrite.held g.O.CountedWrite.failures in
+    let errors = meter g.E.CountedWrite.held g.E.CountedWrite.failures in (
       c.match-format.printed,
       ap (λ kind. ending.Refused kind c.match-format.printed) c.kind.ensures,
       elim c.match-format.branch [

@@ -1,5 +1,5 @@
 use Rattle.std.proofs.Common.{◌≡◌, ◌∙◌, ◌*◌, [], ap, arith, refl, sym}
-use Rattle.mb_mailbox.specs.Below.{consumer_count}
+use Rattle.mb_mailbox.specs.Imports.{consumer_count}
 use Rattle.mb_mailbox.specs.Hubs.{hub_empty}
 use Rattle.mb_mailbox.specs.Worked.{IsRunOf}
 use Rattle.mb_rounds.specs.RoundExamples.{at_each_call, at_no_call, idle_terms, no_lanes}

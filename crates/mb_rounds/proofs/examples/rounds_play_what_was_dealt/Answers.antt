@@ -1,7 +1,7 @@
 use Rattle.std.proofs.Common.{◌≡◌, ◌∙◌, ℕ, Bool, true, false, List, [], ◌∷◌, Option, None, Some, ap, arith, get_or, inl, inr, length, map, refl, slice_get, subst, sym}
 use Rattle.std.specs.Option.{option_map_or}
 use Rattle.std.specs.List.{AllZip}
-use Rattle.mb_mailbox.specs.Below.{CellsName, History, PoolSize, consumer_count}
+use Rattle.mb_mailbox.specs.Imports.{CellsName, History, PoolSize, consumer_count}
 use Rattle.mb_mailbox.specs.Gathering.{FullTakesAll, lane_in}
 use Rattle.mb_mailbox.specs.Hubs.{HubView, PutListView}
 use Rattle.mb_mailbox.specs.Jobs.{IsFront}

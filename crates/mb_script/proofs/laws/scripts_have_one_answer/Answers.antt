@@ -10,7 +10,7 @@ returns c =
     λ bytes text other a b.
     let both : ◌≡◌ {A = Result Script Fault} (Ok b.script) (Ok a.script) = sym b.read ∙ a.read in
     let same : b.script ≡ a.script = cc in
-    one_answer bytes text other a.script c.named_tables_are_lawful.ensures.lawful c.one_step.ensures.empty
+    one_answer bytes text other a.script c.named_tables_are_lawful.ensures.lawful c.history_extends.ensures.empty
     c.replays_do_not_differ.ensures.replay c.replays_do_not_differ.ensures.lawful c.worlds_are_sound.ensures.sound
     c.histories_have_one_report.ensures a.read a.replayed
     (subst (λ (s : Script). IsReplayText s.plan s.events other) same b.replayed)

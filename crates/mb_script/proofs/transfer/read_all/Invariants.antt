@@ -6,10 +6,10 @@ use Rattle.mb_script.proofs.transfer.read_all.Given as goal
 
 abbrev pub invariant-loop-piece : goal.invariant-loop-piece
 invariant-loop-piece g l = record {
-  took : Consumes (g.R.Source.left l.fn.reader) (g.R.Source.left l.reader) l.text.items;
+  took : Consumes (g.R.CountedRead.left l.fn.reader) (g.R.CountedRead.left l.reader) l.text.items;
   limit : length l.text.items ≤ MAX_SCRIPT_LEN + 1;
-  given : CountGrows (length l.text.items) (g.R.Source.given l.fn.reader) (g.R.Source.given l.reader);
-  works : g.R.Source.failures l.reader ≡ g.R.Source.failures l.fn.reader;
+  given : CountGrows (length l.text.items) (g.R.CountedRead.given l.fn.reader) (g.R.CountedRead.given l.reader);
+  works : g.R.CountedRead.failures l.reader ≡ g.R.CountedRead.failures l.fn.reader;
 }
 
 abbrev pub decreases-loop-piece : goal.decreases-loop-piece

@@ -5,8 +5,8 @@ use Rattle.mb_script.proofs.transfer.write_all.Given as goal
 abbrev pub invariant-loop-at : goal.invariant-loop-at
 invariant-loop-at g l = record {
   within : l.at ≤ length l.text;
-  held : Appends (g.W.Sink.held l.fn.writer) (g.W.Sink.held l.writer) (take l.at l.text);
-  works : g.W.Sink.failures l.writer ≡ g.W.Sink.failures l.fn.writer;
+  held : Appends (g.W.CountedWrite.held l.fn.writer) (g.W.CountedWrite.held l.writer) (take l.at l.text);
+  works : g.W.CountedWrite.failures l.writer ≡ g.W.CountedWrite.failures l.fn.writer;
 }
 
 abbrev pub decreases-loop-at : goal.decreases-loop-at

@@ -19,7 +19,7 @@ returns-clause-offered c = λ id. (
   (
     record {
       older = [];
-      lawful = c.one_step.ensures.older one_by_one (store 0 (Head 0) 1 ∷ store 0 (Item 0) 8 ∷ []) one_taken
+      lawful = c.history_extends.ensures.older one_by_one (store 0 (Head 0) 1 ∷ store 0 (Item 0) 8 ∷ []) one_taken
           c.pools_hold_what_was_done.ensures.put.lawful;
       own = refl;
       lanes = λ p theirs e. absurd (cc);
@@ -35,8 +35,8 @@ returns-clause-looked c = λ id. (
   (
     record {
       older = [];
-      lawful = c.one_step.ensures.reader one_by_one [] 0 (Head 0)
-          (c.one_step.ensures.empty one_by_one (omega arith)) (omega arith);
+      lawful = c.history_extends.ensures.reader one_by_one [] 0 (Head 0)
+          (c.history_extends.ensures.empty one_by_one (omega arith)) (omega arith);
       own = refl;
       lanes = λ p theirs e. absurd (cc);
     },

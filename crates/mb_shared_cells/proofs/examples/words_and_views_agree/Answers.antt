@@ -51,7 +51,7 @@ returns-clause-new c = (
   nothing,
   record {
     memory = record {
-      lawful = c.one_step.ensures.empty one_by_one (omega arith);
+      lawful = c.history_extends.ensures.empty one_by_one (omega arith);
       room = omega arith;
       left = all_zeros;
     };

@@ -5,7 +5,7 @@ pub returns-clause-full : goal.returns-clause-full
 returns-clause-full c = λ old new x made.
     let laws : PutLaws = record {
       own = c.accesses_lengthen_one_part.ensures.own;
-      older = c.one_step.ensures.older;
+      older = c.history_extends.ensures.older;
       told = c.parts_tell_lanes.ensures.put;
       link = c.put_lists_grow.ensures.link;
       fetched = c.put_lists_grow.ensures.fetch;
@@ -21,7 +21,7 @@ pub returns-clause-ended : goal.returns-clause-ended
 returns-clause-ended c = λ old new made.
     let laws : PutLaws = record {
       own = c.accesses_lengthen_one_part.ensures.own;
-      older = c.one_step.ensures.older;
+      older = c.history_extends.ensures.older;
       told = c.parts_tell_lanes.ensures.put;
       link = c.put_lists_grow.ensures.link;
       fetched = c.put_lists_grow.ensures.fetch;

@@ -6,7 +6,7 @@ use Rattle.mb_shared_cells.proofs.laws.known_lanes_are_read_whole.Goals as goal
 pub returns-clause-nothing : goal.returns-clause-nothing
 returns-clause-nothing c = λ old new at p theirs ks known met is made.
     let laws : ReadLaws = record {
-      older = c.one_step.ensures.older;
+      older = c.history_extends.ensures.older;
       start = c.readers_follow_lanes.ensures.part;
       next = c.words_lead_through_lanes.ensures.next;
       end = c.words_lead_through_lanes.ensures.end;
@@ -20,7 +20,7 @@ returns-clause-nothing c = λ old new at p theirs ks known met is made.
 pub returns-clause-ended : goal.returns-clause-ended
 returns-clause-ended c = λ old new at p theirs ks known met is made.
     let laws : ReadLaws = record {
-      older = c.one_step.ensures.older;
+      older = c.history_extends.ensures.older;
       start = c.readers_follow_lanes.ensures.part;
       next = c.words_lead_through_lanes.ensures.next;
       end = c.words_lead_through_lanes.ensures.end;
@@ -34,7 +34,7 @@ returns-clause-ended c = λ old new at p theirs ks known met is made.
 pub returns-clause-cell : goal.returns-clause-cell
 returns-clause-cell c = λ old new at p k theirs ks known met is made.
     let laws : ReadLaws = record {
-      older = c.one_step.ensures.older;
+      older = c.history_extends.ensures.older;
       start = c.readers_follow_lanes.ensures.part;
       next = c.words_lead_through_lanes.ensures.next;
       end = c.words_lead_through_lanes.ensures.end;

@@ -12,7 +12,7 @@ pub returns-clause-put : goal.returns-clause-put
 returns-clause-put c = λ old offered stored new x k one two a b d.
     let laws : PutLaws = record {
       own = c.accesses_lengthen_one_part.ensures.own;
-      older = c.one_step.ensures.older;
+      older = c.history_extends.ensures.older;
       told = c.parts_tell_lanes.ensures.put;
       link = c.put_lists_grow.ensures.link;
       fetched = c.put_lists_grow.ensures.fetch;

@@ -1,6 +1,6 @@
 use Rattle.std.proofs.Common.{◌≡◌, true, false, [], ◌∷◌, refl, inl, arith}
 use Rattle.mb_cells.specs.LanePath.{fetch}
-use Rattle.mb_world.specs.Below.{Link, PoolAccess}
+use Rattle.mb_world.specs.Imports.{Link, PoolAccess}
 use Rattle.mb_world.specs.World.{pool_accesses}
 use Rattle.mb_world.specs.WorldExamples.{all_done}
 use Rattle.mb_world.proofs.examples.end_marks_are_not_passed.Goals as goal

@@ -4,7 +4,7 @@ use Rattle.mb_cells.specs.declared.answer.Look.TheVariants as look
 use Rattle.mb_cells.specs.declared.answer.Push.TheVariants as push
 use Rattle.mb_world.specs.declared.event.Answer.TheVariants as answer
 use Rattle.mb_world.specs.declared.event.Event.TheVariants as event
-use Rattle.mb_world.specs.Below.{Item}
+use Rattle.mb_world.specs.Imports.{Item}
 use Rattle.mb_world.specs.ConsumerPath.{claim_step, link_load}
 use Rattle.mb_world.specs.PathExamples.{first_step}
 use Rattle.mb_world.specs.WorldExamples.{all_done, first_claimed, first_lost, offered, second_met, stores, two_by_two}

@@ -3,7 +3,7 @@ use Rattle.mb_cells.specs.declared.answer.Finish.TheVariants as finish
 use Rattle.mb_cells.specs.declared.answer.Offer.TheVariants as offer
 use Rattle.mb_cells.specs.LanePath.{fetch}
 use Rattle.mb_claim.specs.declared.access.Stage.TheVariants as stage
-use Rattle.mb_world.specs.Below.{Head, Item}
+use Rattle.mb_world.specs.Imports.{Head, Item}
 use Rattle.mb_world.specs.World.{ToCells}
 use Rattle.mb_world.specs.ConsumerPath.{link_load}
 use Rattle.mb_world.specs.WorldExamples.{five, stores}

@@ -3,7 +3,7 @@ use Rattle.std.proofs.lemmas.Bool.{ne_eqb}
 use Rattle.mb_claim.specs.Examples.{two_consumers}
 use Rattle.mb_claim.specs.declared.access.Stage.TheVariants as stage
 use Rattle.mb_quorum.specs.declared.table.TableName.TheVariants.{Unary}
-use Rattle.mb_world.specs.Below.{Head, Item, Link, Word, load, place_past}
+use Rattle.mb_world.specs.Imports.{Head, Item, Link, Word, load, place_past}
 use Rattle.mb_world.specs.Fitting.{cells_met}
 use Rattle.mb_world.proofs.SmallPaths.{fresh}
 use Rattle.mb_world.proofs.examples.parts_do_not_fit.Goals as goal

@@ -13,12 +13,12 @@ use Rattle.mb_world.proofs.examples.worlds_go_on.Goals as goal
 pub returns-clause-offered : goal.returns-clause-offered
 returns-clause-offered c =
     offered_lawful (record {
-      empty = c.one_step.ensures.empty two_by_two (omega arith);
-      consumer = λ h d p a ks ns held lawful ds ps. c.one_step.ensures.consumer two_by_two h d p a
+      empty = c.history_extends.ensures.empty two_by_two (omega arith);
+      consumer = λ h d p a ks ns held lawful ds ps. c.history_extends.ensures.consumer two_by_two h d p a
           ks ns held (c.named_tables_are_lawful.ensures.lawful Unary 2 (omega arith)) lawful ds ps;
       producer = λ h p a lawful maker ps fits reads next.
-          (c.one_step.ensures.producer two_by_two h p a lawful maker
-          (c.one_step-2.ensures.producer (size_of two_by_two) (pool_accesses h) a p
+          (c.history_extends.ensures.producer two_by_two h p a lawful maker
+          (c.history_extends-2.ensures.producer (size_of two_by_two) (pool_accesses h) a p
           (c.worlds_are_sound.ensures.sound two_by_two h
           (c.named_tables_are_lawful.ensures.lawful Unary 2 (omega arith)) lawful).pool_lawful maker
           ps fits reads next)).lawful;
@@ -32,12 +32,12 @@ returns-clause-offered c =
 pub returns-clause-put : goal.returns-clause-put
 returns-clause-put c =
     both_put_lawful (record {
-      empty = c.one_step.ensures.empty two_by_two (omega arith);
-      consumer = λ h d p a ks ns held lawful ds ps. c.one_step.ensures.consumer two_by_two h d p a
+      empty = c.history_extends.ensures.empty two_by_two (omega arith);
+      consumer = λ h d p a ks ns held lawful ds ps. c.history_extends.ensures.consumer two_by_two h d p a
           ks ns held (c.named_tables_are_lawful.ensures.lawful Unary 2 (omega arith)) lawful ds ps;
       producer = λ h p a lawful maker ps fits reads next.
-          (c.one_step.ensures.producer two_by_two h p a lawful maker
-          (c.one_step-2.ensures.producer (size_of two_by_two) (pool_accesses h) a p
+          (c.history_extends.ensures.producer two_by_two h p a lawful maker
+          (c.history_extends-2.ensures.producer (size_of two_by_two) (pool_accesses h) a p
           (c.worlds_are_sound.ensures.sound two_by_two h
           (c.named_tables_are_lawful.ensures.lawful Unary 2 (omega arith)) lawful).pool_lawful maker
           ps fits reads next)).lawful;
@@ -51,12 +51,12 @@ returns-clause-put c =
 pub returns-clause-taken : goal.returns-clause-taken
 returns-clause-taken c =
     first_taken_lawful (record {
-      empty = c.one_step.ensures.empty two_by_two (omega arith);
-      consumer = λ h d p a ks ns held lawful ds ps. c.one_step.ensures.consumer two_by_two h d p a
+      empty = c.history_extends.ensures.empty two_by_two (omega arith);
+      consumer = λ h d p a ks ns held lawful ds ps. c.history_extends.ensures.consumer two_by_two h d p a
           ks ns held (c.named_tables_are_lawful.ensures.lawful Unary 2 (omega arith)) lawful ds ps;
       producer = λ h p a lawful maker ps fits reads next.
-          (c.one_step.ensures.producer two_by_two h p a lawful maker
-          (c.one_step-2.ensures.producer (size_of two_by_two) (pool_accesses h) a p
+          (c.history_extends.ensures.producer two_by_two h p a lawful maker
+          (c.history_extends-2.ensures.producer (size_of two_by_two) (pool_accesses h) a p
           (c.worlds_are_sound.ensures.sound two_by_two h
           (c.named_tables_are_lawful.ensures.lawful Unary 2 (omega arith)) lawful).pool_lawful maker
           ps fits reads next)).lawful;
@@ -70,12 +70,12 @@ returns-clause-taken c =
 pub returns-clause-met : goal.returns-clause-met
 returns-clause-met c =
     met_lawful (record {
-      empty = c.one_step.ensures.empty two_by_two (omega arith);
-      consumer = λ h d p a ks ns held lawful ds ps. c.one_step.ensures.consumer two_by_two h d p a
+      empty = c.history_extends.ensures.empty two_by_two (omega arith);
+      consumer = λ h d p a ks ns held lawful ds ps. c.history_extends.ensures.consumer two_by_two h d p a
           ks ns held (c.named_tables_are_lawful.ensures.lawful Unary 2 (omega arith)) lawful ds ps;
       producer = λ h p a lawful maker ps fits reads next.
-          (c.one_step.ensures.producer two_by_two h p a lawful maker
-          (c.one_step-2.ensures.producer (size_of two_by_two) (pool_accesses h) a p
+          (c.history_extends.ensures.producer two_by_two h p a lawful maker
+          (c.history_extends-2.ensures.producer (size_of two_by_two) (pool_accesses h) a p
           (c.worlds_are_sound.ensures.sound two_by_two h
           (c.named_tables_are_lawful.ensures.lawful Unary 2 (omega arith)) lawful).pool_lawful maker
           ps fits reads next)).lawful;
@@ -89,12 +89,12 @@ returns-clause-met c =
 pub returns-clause-all : goal.returns-clause-all
 returns-clause-all c =
     all_done_lawful (record {
-      empty = c.one_step.ensures.empty two_by_two (omega arith);
-      consumer = λ h d p a ks ns held lawful ds ps. c.one_step.ensures.consumer two_by_two h d p a
+      empty = c.history_extends.ensures.empty two_by_two (omega arith);
+      consumer = λ h d p a ks ns held lawful ds ps. c.history_extends.ensures.consumer two_by_two h d p a
           ks ns held (c.named_tables_are_lawful.ensures.lawful Unary 2 (omega arith)) lawful ds ps;
       producer = λ h p a lawful maker ps fits reads next.
-          (c.one_step.ensures.producer two_by_two h p a lawful maker
-          (c.one_step-2.ensures.producer (size_of two_by_two) (pool_accesses h) a p
+          (c.history_extends.ensures.producer two_by_two h p a lawful maker
+          (c.history_extends-2.ensures.producer (size_of two_by_two) (pool_accesses h) a p
           (c.worlds_are_sound.ensures.sound two_by_two h
           (c.named_tables_are_lawful.ensures.lawful Unary 2 (omega arith)) lawful).pool_lawful maker
           ps fits reads next)).lawful;
@@ -108,12 +108,12 @@ returns-clause-all c =
 pub returns-clause-took : goal.returns-clause-took
 returns-clause-took c =
     first_path (record {
-      empty = c.one_step.ensures.empty two_by_two (omega arith);
-      consumer = λ h d p a ks ns held lawful ds ps. c.one_step.ensures.consumer two_by_two h d p a
+      empty = c.history_extends.ensures.empty two_by_two (omega arith);
+      consumer = λ h d p a ks ns held lawful ds ps. c.history_extends.ensures.consumer two_by_two h d p a
           ks ns held (c.named_tables_are_lawful.ensures.lawful Unary 2 (omega arith)) lawful ds ps;
       producer = λ h p a lawful maker ps fits reads next.
-          (c.one_step.ensures.producer two_by_two h p a lawful maker
-          (c.one_step-2.ensures.producer (size_of two_by_two) (pool_accesses h) a p
+          (c.history_extends.ensures.producer two_by_two h p a lawful maker
+          (c.history_extends-2.ensures.producer (size_of two_by_two) (pool_accesses h) a p
           (c.worlds_are_sound.ensures.sound two_by_two h
           (c.named_tables_are_lawful.ensures.lawful Unary 2 (omega arith)) lawful).pool_lawful maker
           ps fits reads next)).lawful;
@@ -131,12 +131,12 @@ returns-clause-away c =
 pub returns-clause-lost : goal.returns-clause-lost
 returns-clause-lost c =
     ended_path (record {
-      empty = c.one_step.ensures.empty two_by_two (omega arith);
-      consumer = λ h d p a ks ns held lawful ds ps. c.one_step.ensures.consumer two_by_two h d p a
+      empty = c.history_extends.ensures.empty two_by_two (omega arith);
+      consumer = λ h d p a ks ns held lawful ds ps. c.history_extends.ensures.consumer two_by_two h d p a
           ks ns held (c.named_tables_are_lawful.ensures.lawful Unary 2 (omega arith)) lawful ds ps;
       producer = λ h p a lawful maker ps fits reads next.
-          (c.one_step.ensures.producer two_by_two h p a lawful maker
-          (c.one_step-2.ensures.producer (size_of two_by_two) (pool_accesses h) a p
+          (c.history_extends.ensures.producer two_by_two h p a lawful maker
+          (c.history_extends-2.ensures.producer (size_of two_by_two) (pool_accesses h) a p
           (c.worlds_are_sound.ensures.sound two_by_two h
           (c.named_tables_are_lawful.ensures.lawful Unary 2 (omega arith)) lawful).pool_lawful maker
           ps fits reads next)).lawful;
@@ -150,12 +150,12 @@ returns-clause-lost c =
 pub returns-clause-begun : goal.returns-clause-begun
 returns-clause-begun c =
     begun_path (record {
-      empty = c.one_step.ensures.empty two_by_two (omega arith);
-      consumer = λ h d p a ks ns held lawful ds ps. c.one_step.ensures.consumer two_by_two h d p a
+      empty = c.history_extends.ensures.empty two_by_two (omega arith);
+      consumer = λ h d p a ks ns held lawful ds ps. c.history_extends.ensures.consumer two_by_two h d p a
           ks ns held (c.named_tables_are_lawful.ensures.lawful Unary 2 (omega arith)) lawful ds ps;
       producer = λ h p a lawful maker ps fits reads next.
-          (c.one_step.ensures.producer two_by_two h p a lawful maker
-          (c.one_step-2.ensures.producer (size_of two_by_two) (pool_accesses h) a p
+          (c.history_extends.ensures.producer two_by_two h p a lawful maker
+          (c.history_extends-2.ensures.producer (size_of two_by_two) (pool_accesses h) a p
           (c.worlds_are_sound.ensures.sound two_by_two h
           (c.named_tables_are_lawful.ensures.lawful Unary 2 (omega arith)) lawful).pool_lawful maker
           ps fits reads next)).lawful;
@@ -169,12 +169,12 @@ returns-clause-begun c =
 pub returns-clause-won : goal.returns-clause-won
 returns-clause-won c =
     first_won_lawful (record {
-      empty = c.one_step.ensures.empty two_by_two (omega arith);
-      consumer = λ h d p a ks ns held lawful ds ps. c.one_step.ensures.consumer two_by_two h d p a
+      empty = c.history_extends.ensures.empty two_by_two (omega arith);
+      consumer = λ h d p a ks ns held lawful ds ps. c.history_extends.ensures.consumer two_by_two h d p a
           ks ns held (c.named_tables_are_lawful.ensures.lawful Unary 2 (omega arith)) lawful ds ps;
       producer = λ h p a lawful maker ps fits reads next.
-          (c.one_step.ensures.producer two_by_two h p a lawful maker
-          (c.one_step-2.ensures.producer (size_of two_by_two) (pool_accesses h) a p
+          (c.history_extends.ensures.producer two_by_two h p a lawful maker
+          (c.history_extends-2.ensures.producer (size_of two_by_two) (pool_accesses h) a p
           (c.worlds_are_sound.ensures.sound two_by_two h
           (c.named_tables_are_lawful.ensures.lawful Unary 2 (omega arith)) lawful).pool_lawful maker
           ps fits reads next)).lawful;
@@ -188,12 +188,12 @@ returns-clause-won c =
 pub returns-clause-came : goal.returns-clause-came
 returns-clause-came c =
     first_lost_lawful (record {
-      empty = c.one_step.ensures.empty two_by_two (omega arith);
-      consumer = λ h d p a ks ns held lawful ds ps. c.one_step.ensures.consumer two_by_two h d p a
+      empty = c.history_extends.ensures.empty two_by_two (omega arith);
+      consumer = λ h d p a ks ns held lawful ds ps. c.history_extends.ensures.consumer two_by_two h d p a
           ks ns held (c.named_tables_are_lawful.ensures.lawful Unary 2 (omega arith)) lawful ds ps;
       producer = λ h p a lawful maker ps fits reads next.
-          (c.one_step.ensures.producer two_by_two h p a lawful maker
-          (c.one_step-2.ensures.producer (size_of two_by_two) (pool_accesses h) a p
+          (c.history_extends.ensures.producer two_by_two h p a lawful maker
+          (c.history_extends-2.ensures.producer (size_of two_by_two) (pool_accesses h) a p
           (c.worlds_are_sound.ensures.sound two_by_two h
           (c.named_tables_are_lawful.ensures.lawful Unary 2 (omega arith)) lawful).pool_lawful maker
           ps fits reads next)).lawful;
@@ -207,12 +207,12 @@ returns-clause-came c =
 pub returns-clause-goes : goal.returns-clause-goes
 returns-clause-goes c =
     second_begun_lawful (record {
-      empty = c.one_step.ensures.empty two_by_two (omega arith);
-      consumer = λ h d p a ks ns held lawful ds ps. c.one_step.ensures.consumer two_by_two h d p a
+      empty = c.history_extends.ensures.empty two_by_two (omega arith);
+      consumer = λ h d p a ks ns held lawful ds ps. c.history_extends.ensures.consumer two_by_two h d p a
           ks ns held (c.named_tables_are_lawful.ensures.lawful Unary 2 (omega arith)) lawful ds ps;
       producer = λ h p a lawful maker ps fits reads next.
-          (c.one_step.ensures.producer two_by_two h p a lawful maker
-          (c.one_step-2.ensures.producer (size_of two_by_two) (pool_accesses h) a p
+          (c.history_extends.ensures.producer two_by_two h p a lawful maker
+          (c.history_extends-2.ensures.producer (size_of two_by_two) (pool_accesses h) a p
           (c.worlds_are_sound.ensures.sound two_by_two h
           (c.named_tables_are_lawful.ensures.lawful Unary 2 (omega arith)) lawful).pool_lawful maker
           ps fits reads next)).lawful;
@@ -226,12 +226,12 @@ returns-clause-goes c =
 pub returns-clause-going : goal.returns-clause-going
 returns-clause-going c =
     second_goes (record {
-      empty = c.one_step.ensures.empty two_by_two (omega arith);
-      consumer = λ h d p a ks ns held lawful ds ps. c.one_step.ensures.consumer two_by_two h d p a
+      empty = c.history_extends.ensures.empty two_by_two (omega arith);
+      consumer = λ h d p a ks ns held lawful ds ps. c.history_extends.ensures.consumer two_by_two h d p a
           ks ns held (c.named_tables_are_lawful.ensures.lawful Unary 2 (omega arith)) lawful ds ps;
       producer = λ h p a lawful maker ps fits reads next.
-          (c.one_step.ensures.producer two_by_two h p a lawful maker
-          (c.one_step-2.ensures.producer (size_of two_by_two) (pool_accesses h) a p
+          (c.history_extends.ensures.producer two_by_two h p a lawful maker
+          (c.history_extends-2.ensures.producer (size_of two_by_two) (pool_accesses h) a p
           (c.worlds_are_sound.ensures.sound two_by_two h
           (c.named_tables_are_lawful.ensures.lawful Unary 2 (omega arith)) lawful).pool_lawful maker
           ps fits reads next)).lawful;
@@ -245,12 +245,12 @@ returns-clause-going c =
 pub returns-clause-asked : goal.returns-clause-asked
 returns-clause-asked c =
     taken_lawful (record {
-      empty = c.one_step.ensures.empty two_by_two (omega arith);
-      consumer = λ h d p a ks ns held lawful ds ps. c.one_step.ensures.consumer two_by_two h d p a
+      empty = c.history_extends.ensures.empty two_by_two (omega arith);
+      consumer = λ h d p a ks ns held lawful ds ps. c.history_extends.ensures.consumer two_by_two h d p a
           ks ns held (c.named_tables_are_lawful.ensures.lawful Unary 2 (omega arith)) lawful ds ps;
       producer = λ h p a lawful maker ps fits reads next.
-          (c.one_step.ensures.producer two_by_two h p a lawful maker
-          (c.one_step-2.ensures.producer (size_of two_by_two) (pool_accesses h) a p
+          (c.history_extends.ensures.producer two_by_two h p a lawful maker
+          (c.history_extends-2.ensures.producer (size_of two_by_two) (pool_accesses h) a p
           (c.worlds_are_sound.ensures.sound two_by_two h
           (c.named_tables_are_lawful.ensures.lawful Unary 2 (omega arith)) lawful).pool_lawful maker
           ps fits reads next)).lawful;
@@ -264,12 +264,12 @@ returns-clause-asked c =
 pub returns-clause-stored : goal.returns-clause-stored
 returns-clause-stored c =
     stored_lawful (record {
-      empty = c.one_step.ensures.empty two_by_two (omega arith);
-      consumer = λ h d p a ks ns held lawful ds ps. c.one_step.ensures.consumer two_by_two h d p a
+      empty = c.history_extends.ensures.empty two_by_two (omega arith);
+      consumer = λ h d p a ks ns held lawful ds ps. c.history_extends.ensures.consumer two_by_two h d p a
           ks ns held (c.named_tables_are_lawful.ensures.lawful Unary 2 (omega arith)) lawful ds ps;
       producer = λ h p a lawful maker ps fits reads next.
-          (c.one_step.ensures.producer two_by_two h p a lawful maker
-          (c.one_step-2.ensures.producer (size_of two_by_two) (pool_accesses h) a p
+          (c.history_extends.ensures.producer two_by_two h p a lawful maker
+          (c.history_extends-2.ensures.producer (size_of two_by_two) (pool_accesses h) a p
           (c.worlds_are_sound.ensures.sound two_by_two h
           (c.named_tables_are_lawful.ensures.lawful Unary 2 (omega arith)) lawful).pool_lawful maker
           ps fits reads next)).lawful;
@@ -283,12 +283,12 @@ returns-clause-stored c =
 pub returns-clause-one : goal.returns-clause-one
 returns-clause-one c =
     one_put_lawful (record {
-      empty = c.one_step.ensures.empty two_by_two (omega arith);
-      consumer = λ h d p a ks ns held lawful ds ps. c.one_step.ensures.consumer two_by_two h d p a
+      empty = c.history_extends.ensures.empty two_by_two (omega arith);
+      consumer = λ h d p a ks ns held lawful ds ps. c.history_extends.ensures.consumer two_by_two h d p a
           ks ns held (c.named_tables_are_lawful.ensures.lawful Unary 2 (omega arith)) lawful ds ps;
       producer = λ h p a lawful maker ps fits reads next.
-          (c.one_step.ensures.producer two_by_two h p a lawful maker
-          (c.one_step-2.ensures.producer (size_of two_by_two) (pool_accesses h) a p
+          (c.history_extends.ensures.producer two_by_two h p a lawful maker
+          (c.history_extends-2.ensures.producer (size_of two_by_two) (pool_accesses h) a p
           (c.worlds_are_sound.ensures.sound two_by_two h
           (c.named_tables_are_lawful.ensures.lawful Unary 2 (omega arith)) lawful).pool_lawful maker
           ps fits reads next)).lawful;

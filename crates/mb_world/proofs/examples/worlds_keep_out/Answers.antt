@@ -2,7 +2,7 @@ use Rattle.std.proofs.Common.{◌≡◌, [], ◌∷◌, Some, None, refl, arith}
 use Rattle.mb_quorum.specs.declared.table.TableName.TheVariants.{Unary}
 use Rattle.mb_cells.specs.LanePath.{fetch}
 use Rattle.mb_world.specs.declared.report.Note.TheVariants.{Lost, Took}
-use Rattle.mb_world.specs.Below.{END, PoolAccess, Producer, load, Link, part}
+use Rattle.mb_world.specs.Imports.{END, PoolAccess, Producer, load, Link, part}
 use Rattle.mb_world.specs.World.{pool_accesses}
 use Rattle.mb_world.specs.PathExamples.{first_step, two_cells}
 use Rattle.mb_world.specs.WorldExamples.{all_done, claim_passed, offered_late, second_begun, stores, taken_again, taken_lost, taken_unwon, two_by_two, unmet_claimed}

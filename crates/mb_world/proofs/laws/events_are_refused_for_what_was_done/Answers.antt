@@ -1,7 +1,7 @@
 use Rattle.std.proofs.Common.{false, true, ◌≡◌}
 use Rattle.mb_cells.specs.declared.answer.Finish.TheVariants as finish
 use Rattle.mb_cells.specs.declared.answer.Offer.TheVariants as offer
-use Rattle.mb_world.specs.Below.{HasFoundNone, HasPending, Producer, has_ended, part}
+use Rattle.mb_world.specs.Imports.{HasFoundNone, HasPending, Producer, has_ended, part}
 use Rattle.mb_world.specs.Plan.{size_of}
 use Rattle.mb_world.specs.World.{pool_accesses}
 use Rattle.mb_world.proofs.RefusedEvents.{finish_free, finish_refused, offer_free, offer_refused, push_refused}

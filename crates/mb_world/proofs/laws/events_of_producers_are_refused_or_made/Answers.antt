@@ -2,13 +2,14 @@ use Rattle.std.proofs.Common.{◌≡◌, ◌<◌, ◌^◌, ◌∷◌, arith}
 use Rattle.mb_cells.specs.LanePath.{fetch, store}
 use Rattle.mb_cells.specs.Memory.{ReadsLast, value_in}
 use Rattle.mb_cells.specs.Standing.{lane_after_finish, lane_after_offer, lane_after_push, next_link}
-use Rattle.mb_world.specs.Below.{ActFits, Counter, END, IsLanePrefix, PoolAccess, Producer, part}
+use Rattle.mb_world.specs.Imports.{ActFits, Counter, END, IsLanePrefix, PoolAccess, Producer, part}
 use Rattle.mb_world.specs.Plan.{size_of}
 use Rattle.mb_world.specs.World.{ToCells, pool_accesses}
 use Rattle.mb_world.specs.Worlds.{IsWorldLawful}
 use Rattle.mb_world.proofs.EventKnown.{event_known}
 use Rattle.mb_world.proofs.MadeEvents.{finish_made, offer_made, push_made}
 use Rattle.mb_world.proofs.ProducerEvents.{no_mark}
+use Rattle.mb_world.proofs.ProducerSteps.{producer_goes_on}
 use Rattle.mb_world.proofs.laws.events_of_producers_are_refused_or_made.Goals as goal
 
 pub returns-clause-offer : goal.returns-clause-offer
@@ -19,8 +20,11 @@ returns-clause-offer c plan h p x table lawful ps xs few =
     (part (Producer p) (pool_accesses h)) (lawful.producers p) in
     let goes : (a : PoolAccess) → a.process ≡ Producer p → ActFits a.act → ReadsLast a.word a.act (pool_accesses h)
     → IsLanePrefix plan.claims.cells p (a ∷ part (Producer p) (pool_accesses h)) → IsWorldLawful plan (ToCells a ∷ h) =
-    λ a maker fits reads next. (c.one_step.ensures.producer plan h p a lawful maker
-    (c.one_step-2.ensures.producer size (pool_accesses h) a p pool maker ps fits reads next)).lawful in
+    λ a maker fits reads next.
+    let now = c.history_extends.ensures.producer size (pool_accesses h) a p pool maker ps fits reads next in
+    producer_goes_on plan h lawful p a maker now
+    (λ q r k. c.cells_stand_once.ensures.lane size (a ∷ pool_accesses h) q r k now)
+    (λ q. c.cells_stand_once.ensures.once size (a ∷ pool_accesses h) q now) in
     let bound = c.numbers_are_handed_out_once.ensures.bound size (pool_accesses h) pool in
     let small : value_in Counter (pool_accesses h) < 2 ^ 64 = omega (arith, bound, few) in
     offer_made plan h p ps place.0 place.1 goes x xs small
@@ -37,8 +41,11 @@ returns-clause-push c plan h p table lawful ps =
     (part (Producer p) (pool_accesses h)) (lawful.producers p) in
     let goes : (a : PoolAccess) → a.process ≡ Producer p → ActFits a.act → ReadsLast a.word a.act (pool_accesses h)
     → IsLanePrefix plan.claims.cells p (a ∷ part (Producer p) (pool_accesses h)) → IsWorldLawful plan (ToCells a ∷ h) =
-    λ a maker fits reads next. (c.one_step.ensures.producer plan h p a lawful maker
-    (c.one_step-2.ensures.producer size (pool_accesses h) a p pool maker ps fits reads next)).lawful in
+    λ a maker fits reads next.
+    let now = c.history_extends.ensures.producer size (pool_accesses h) a p pool maker ps fits reads next in
+    producer_goes_on plan h lawful p a maker now
+    (λ q r k. c.cells_stand_once.ensures.lane size (a ∷ pool_accesses h) q r k now)
+    (λ q. c.cells_stand_once.ensures.once size (a ∷ pool_accesses h) q now) in
     let known = event_known plan (λ g. c.worlds_are_sound.ensures.sound plan g table) c.lanes_lead_on.ensures.lane
     c.lanes_lead_on.ensures.one c.lanes_lead_on.ensures.fetches c.lanes_lead_on.ensures.stores
     c.cells_stand_once.ensures.lane
@@ -62,8 +69,11 @@ returns-clause-finish c plan h p table lawful ps =
     (part (Producer p) (pool_accesses h)) (lawful.producers p) in
     let goes : (a : PoolAccess) → a.process ≡ Producer p → ActFits a.act → ReadsLast a.word a.act (pool_accesses h)
     → IsLanePrefix plan.claims.cells p (a ∷ part (Producer p) (pool_accesses h)) → IsWorldLawful plan (ToCells a ∷ h) =
-    λ a maker fits reads next. (c.one_step.ensures.producer plan h p a lawful maker
-    (c.one_step-2.ensures.producer size (pool_accesses h) a p pool maker ps fits reads next)).lawful in
+    λ a maker fits reads next.
+    let now = c.history_extends.ensures.producer size (pool_accesses h) a p pool maker ps fits reads next in
+    producer_goes_on plan h lawful p a maker now
+    (λ q r k. c.cells_stand_once.ensures.lane size (a ∷ pool_accesses h) q r k now)
+    (λ q. c.cells_stand_once.ensures.once size (a ∷ pool_accesses h) q now) in
     finish_made plan h p ps place.0 place.1 goes
     (λ free. c.lanes_lead_on.ensures.prefix plan.claims.cells p (lane_after_finish place.0)
     (store p (next_link p place.0) END ∷ part (Producer p) (pool_accesses h))

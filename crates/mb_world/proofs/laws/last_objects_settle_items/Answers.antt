@@ -1,7 +1,7 @@
 use Rattle.std.proofs.Common.{subst}
 use Rattle.mb_claim.specs.AllClaims.{claims_of}
 use Rattle.mb_claim.specs.declared.access.Stage.TheVariants as stage
-use Rattle.mb_world.specs.Below.{IsClaimPrefix, claim_part}
+use Rattle.mb_world.specs.Imports.{IsClaimPrefix, claim_part}
 use Rattle.mb_world.proofs.LastObjects.{beside, taken}
 use Rattle.mb_world.proofs.ReportPlaces.{undecided_in}
 use Rattle.mb_world.proofs.laws.last_objects_settle_items.Goals as goal

@@ -1,6 +1,6 @@
 use Rattle.std.proofs.Common.{ℕ, List, Option, None}
 use Rattle.mb_world.specs.declared.report.Note.{Note}
-use Rattle.mb_world.specs.Below.{IsPoolLawful, ObjectTurn}
+use Rattle.mb_world.specs.Imports.{IsPoolLawful, ObjectTurn}
 use Rattle.mb_world.specs.Plan.{size_of}
 use Rattle.mb_world.specs.World.{lane_part, pool_accesses}
 use Rattle.mb_world.specs.ConsumerPath.{ConsumerPath}

@@ -1,4 +1,4 @@
-use Rattle.mb_world.specs.Below.{IsPoolLawful}
+use Rattle.mb_world.specs.Imports.{IsPoolLawful}
 use Rattle.mb_world.specs.Plan.{size_of}
 use Rattle.mb_world.specs.World.{pool_accesses}
 use Rattle.mb_world.proofs.WorldDiaries.{diary_is, held_is}

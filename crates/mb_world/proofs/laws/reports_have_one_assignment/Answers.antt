@@ -1,5 +1,5 @@
 use Rattle.std.proofs.Common.{sym, subst}
-use Rattle.mb_world.specs.Below.{IsPoolLawful}
+use Rattle.mb_world.specs.Imports.{IsPoolLawful}
 use Rattle.mb_world.specs.Plan.{consumers_of, size_of}
 use Rattle.mb_world.proofs.Assigned.{agrees, taker}
 use Rattle.mb_world.proofs.Known.{Known}

@@ -1,4 +1,4 @@
-use Rattle.mb_world.specs.Below.{IsPoolLawful}
+use Rattle.mb_world.specs.Imports.{IsPoolLawful}
 use Rattle.mb_world.specs.Plan.{size_of}
 use Rattle.mb_world.specs.World.{histories_of, pool_accesses}
 use Rattle.mb_world.proofs.WorldClaims.{claims_lawful}

@@ -1,6 +1,6 @@
 use Rattle.std.proofs.Common.{◌≡◌, ◌≢◌, ◌∙◌, ◌+◌, false, ap, inl, inr, refl}
 use Rattle.std.proofs.lemmas.Bool.{cases_Bool}
-use Rattle.mb_world.specs.Below.{Reader, Word, is_same_word, load, part, place_past, push_if}
+use Rattle.mb_world.specs.Imports.{Reader, Word, is_same_word, load, part, place_past, push_if}
 use Rattle.mb_world.specs.Fitting.{cells_met}
 use Rattle.mb_world.proofs.Loads.{met_given}
 use Rattle.mb_world.proofs.MetCells.{all_met_in, met_in, on_lane_in, once_in}

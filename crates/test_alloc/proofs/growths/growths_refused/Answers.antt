@@ -1,7 +1,7 @@
 use Rattle.std.proofs.Common.{ℕ, false, rules}
 use Rattle.test_alloc.specs.Trials.{MaySay}
-use Rattle.test_alloc.specs.declared.book.Refuse.TheVariants.{From, Only}
-use Rattle.test_alloc.proofs.Below.{below_next}
+use Rattle.test_alloc.specs.declared.counters.Refuse.TheVariants.{From, Only}
+use Rattle.test_alloc.proofs.Imports.{below_next}
 use Rattle.test_alloc.proofs.growths.growths_refused.Goals as goal
 
 pub loop-number-preserved : goal.loop-number-preserved

@@ -1,6 +1,6 @@
 use Rattle.std.specs.Prelude.{ℕ, ◌<◌, false}
 use Rattle.test_alloc.specs.Trials.{MaySay}
-use Rattle.test_alloc.specs.declared.book.Refuse.TheVariants.{From, Only}
+use Rattle.test_alloc.specs.declared.counters.Refuse.TheVariants.{From, Only}
 use Rattle.test_alloc.proofs.growths.growths_refused.Given as goal
 
 abbrev pub invariant-loop-number : goal.invariant-loop-number

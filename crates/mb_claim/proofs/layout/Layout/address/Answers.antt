@@ -2,7 +2,7 @@ use Rattle.std.proofs.Common.{◌≡◌, ◌*◌, ◌+◌, ◌≤◌, ◌<◌, �
 use Rattle.std.proofs.lemmas.Nat.{mul-le}
 use Rattle.std.proofs.lemmas.Option.{slice_get_within}
 use Rattle.mb_deciding.specs.Vocabulary.{spread}
-use Rattle.mb_claim.specs.{Reg, Layout, quorums_of, kinds_of, words_of, words_before, offset, HasWord, MAX_LARGE_CELLS}
+use Rattle.mb_claim.specs.{Reg, Layout, quorums_of, kinds_of, row_words, words_before, offset, HasWord, MAX_LARGE_CELLS}
 use Rattle.mb_claim.specs.declared.layout.TheConstants.{MAX_OBJECTS}
 use Rattle.mb_claim.proofs.Addresses.{within}
 use Rattle.mb_claim.proofs.LayoutObjects.{objects_few, cell_small}
@@ -18,7 +18,7 @@ module _ (layout : Layout) (o : ℕ) (reg : Reg) (word : HasWord layout o reg) w
   begin_is = let below = in_row in layout.begin o (omega (arith, below, layout.counted))
 
   -- the word lies within its cell
-  in_cell : slice_index layout.begins o + offset reg < words_of (quorums_of layout).registers (kinds_of layout)
+  in_cell : slice_index layout.begins o + offset reg < row_words (quorums_of layout).registers (kinds_of layout)
   in_cell =
       let h = within (quorums_of layout).registers (kinds_of layout) 1 0 o reg word (omega arith) in
       let e = begin_is in

@@ -6,7 +6,7 @@ use Rattle.std.proofs.lemmas.List.Edits.{fill_by_more}
 use Rattle.mb_quorum.specs.TablesLaw.{chosen_lawful}
 use Rattle.mb_quorum.specs.Vocabulary.{chosen_table}
 use Rattle.mb_deciding.specs.Vocabulary.{spread}
-use Rattle.mb_claim.specs.{row_of, words_before, words_of}
+use Rattle.mb_claim.specs.{row_of, words_before, row_words}
 use Rattle.mb_claim.specs.declared.layout.TheConstants.{MAX_OBJECTS}
 use Rattle.mb_claim.proofs.Addresses.{width_few, words_before-few, words_before-next, words_before-all}
 use Rattle.mb_claim.proofs.LayoutObjects.{objects_few, copied_next}
@@ -114,6 +114,6 @@ invariant_of-result-clause-size c =
       c.loop-object-test.false,
       c.loop-object.auto.object-end,
     ) in
-    subst₂ (λ r s. c.loop-object.cell_size ≡ words_of r (row_of c.args.shape s c.args.pairs))
+    subst₂ (λ r s. c.loop-object.cell_size ≡ row_words r (row_of c.args.shape s c.args.pairs))
     c.registers-registers.ensures
     (last_turn_is c) (c.loop-object.invariant.size ∙ ap (words_before r row) end ∙ words_before-all r row)

@@ -14,7 +14,7 @@ use Rattle.mb_world.specs.Plan.{Histories, consumers_of, size_of}
 use Rattle.mb_world.specs.Report.{notes}
 use Rattle.mb_world.specs.Reporting.{HasMetAll, IsReportOf}
 use Rattle.mb_world.specs.Sound.{AreSound}
-use Rattle.mb_mailbox.specs.Below.{Claim, Fits, Has, IsClaimIn, IsClaimPrefix, ObjectTurn, Parts, Undecided, cells_met, claim_stage, consumer_count, consumer_of, linked_cells}
+use Rattle.mb_mailbox.specs.Imports.{Claim, Fits, Has, IsClaimIn, IsClaimPrefix, ObjectTurn, Parts, Undecided, cells_met, claim_stage, consumer_count, consumer_of, linked_cells}
 use Rattle.mb_mailbox.specs.Hubs.{HubView}
 use Rattle.mb_mailbox.specs.Mailboxes.{MailboxView, plan_at}
 use Rattle.mb_mailbox.proofs.Counted.{at_start, counted, is_noted}
@@ -26,7 +26,7 @@ use Rattle.mb_mailbox.proofs.gather.sound.gathering_is_sound.Goals as goal
 pub returns-clause-all_in : goal.returns-clause-all_in
 returns-clause-all_in c = all_in
 
--- the two parts of each consumer fit, also of one that was never given
+-- the two parts of each consumer fit, even of one that was never given
 fits : (m : MailboxView) (h : HubView) (hs : Histories) (d : ℕ) → Fits (plan_at m).claims d no_parts → Keeps m h hs d
     → Fits (plan_at m).claims d (parts_in d hs)
 fits m h hs d none (Keeps.was_in l e places lists fit stands) = fit

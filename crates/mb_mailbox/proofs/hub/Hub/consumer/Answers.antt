@@ -1,11 +1,13 @@
-use Rattle.std.proofs.Common.{[], ◌≡◌, ◌∙◌, ◌≤◌, ◌<◌, ℕ, ap, arith, length, subst, sym}
+use Rattle.std.proofs.Common.{[], None, ◌≡◌, ◌∙◌, ◌≤◌, ◌<◌, ℕ, ap, arith, length, subst, sym}
 use Rattle.mb_shared_cells.specs.Vocabulary.{CellHubView, CellsName, roll_with_reader}
 use Rattle.mb_shared_claims.specs.Vocabulary.{HubView as ClaimHubView}
-use Rattle.mb_mailbox.specs.Below.{ClaimTable, ReaderSeatView, claims_at, consumer_count, name_of}
+use Rattle.mb_mailbox.specs.Imports.{ClaimTable, ReaderSeatView, claims_at, consumer_count, name_of}
 use Rattle.mb_mailbox.specs.Consumers.{IsConsumer}
 use Rattle.mb_mailbox.specs.Mailboxes.{MailboxView}
+use Rattle.mb_mailbox.specs.Ledgers.{ledgers_in}
 use Rattle.mb_mailbox.specs.Hubs.{HubView, IsHub, IsNewConsumer, with_consumer}
 use Rattle.mb_mailbox.proofs.Made.{at_views}
+use Rattle.mb_mailbox.proofs.CutLists.{ledgers_count, ledgers_more}
 use Rattle.mb_mailbox.proofs.HubMoves.{gave_consumer}
 use Rattle.mb_mailbox.proofs.NewConsumer.{is_new, new_reader, new_seat}
 use Rattle.mb_mailbox.proofs.hub.Hub.consumer.Goals as goal
@@ -16,7 +18,7 @@ invariant_of-result g c =
       cells = c.self.inside.cells;
       claims = c.self.inside.claims;
       puts = c.self.inside.puts.items;
-      ledgers = c.self.inside.ledgers.items;
+      ledgers = ledgers_in c.self.inside.ledgers.items;
     } in
     let m : MailboxView = record { cells = c.mailbox.inside.cells; claims = c.mailbox.inside.claims } in
     let table : h.cells.table ≡ m.cells =
@@ -49,7 +51,7 @@ invariant_of-self g c =
       cells = c.self.inside.cells;
       claims = c.self.inside.claims;
       puts = c.self.inside.puts.items;
-      ledgers = c.self.inside.ledgers.items;
+      ledgers = ledgers_in c.self.inside.ledgers.items;
     } in
     let m : MailboxView = record { cells = c.mailbox.inside.cells; claims = c.mailbox.inside.claims } in
     let table : h.cells.table ≡ m.cells =
@@ -74,12 +76,13 @@ invariant_of-self g c =
       cells = c.enroll_reader-reader.new.hub;
       claims = c.enroll.new.hub;
       puts = h.puts;
-      ledgers = c.push_reserved.new.self.items;
+      ledgers = ledgers_in c.push_reserved.new.self.items;
     } = λ j. record {
       cells = sym cells j;
       claims = sym seats j;
       puts = h.puts;
-      ledgers = sym c.push_reserved.ensures.items j;
+      ledgers = sym (ap ledgers_in c.push_reserved.ensures.items
+          ∙ ledgers_more c.self.inside.ledgers.items None) j;
     } in
     let cap = c.push_reserved.ensures.capacity in
     let wide = subst (λ (t : ClaimHubView). (claims_at t.table).table.values ≤
@@ -87,6 +90,7 @@ invariant_of-self g c =
     let low : length h.ledgers < (claims_at h.claims.table).table.values =
     (let few = c.if-len-consumers.false in
     let n = c.len.ensures in
+    let count = ledgers_count c.self.inside.ledgers.items in
     let all : c.consumers.result ≡ (claims_at h.claims.table).table.values =
     c.consumers.ensures ∙ ap consumer_count c.layout.ensures
     ∙ ap (λ (t : ClaimTable). (claims_at t).table.values) (sym claims) in
@@ -102,7 +106,7 @@ returns-clause-consumer g c =
       cells = c.self.inside.cells;
       claims = c.self.inside.claims;
       puts = c.self.inside.puts.items;
-      ledgers = c.self.inside.ledgers.items;
+      ledgers = ledgers_in c.self.inside.ledgers.items;
     } in
     let m : MailboxView = record { cells = c.mailbox.inside.cells; claims = c.mailbox.inside.claims } in
     let table : h.cells.table ≡ m.cells =

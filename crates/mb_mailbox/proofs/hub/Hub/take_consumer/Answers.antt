@@ -1,11 +1,13 @@
-use Rattle.std.proofs.Common.{◌≡◌, ◌∙◌, ◌≤◌, None, Some, ℕ, ap, subst, sym}
+use Rattle.std.proofs.Common.{◌≡◌, ◌∙◌, ◌≤◌, None, Some, false, ap, subst, sym}
 use Rattle.std.specs.Prelude.{slice_get, slice_set}
 use Rattle.mb_shared_cells.specs.Vocabulary.{CellHubView, CellsName, roll_with_part}
 use Rattle.mb_shared_claims.specs.Vocabulary.{HubView as ClaimHubView}
-use Rattle.mb_mailbox.specs.Below.{claims_at, name_of, Reader}
+use Rattle.mb_mailbox.specs.Imports.{claims_at, name_of, Reader}
 use Rattle.mb_mailbox.specs.Consumers.{ConsumerView}
 use Rattle.mb_mailbox.specs.Mailboxes.{MailboxView}
-use Rattle.mb_mailbox.specs.Hubs.{HubView, IsHub, LedgerView, with_taken_consumer}
+use Rattle.mb_mailbox.specs.Ledgers.{KeptView, ledgers_in}
+use Rattle.mb_mailbox.specs.Hubs.{HubView, IsHub, ledger_of, with_taken_consumer}
+use Rattle.mb_mailbox.proofs.CutLists.{ledgers_set}
 use Rattle.mb_mailbox.proofs.Made.{at_views}
 use Rattle.mb_mailbox.proofs.HubMoves.{seat_is_out, took_consumer}
 use Rattle.mb_mailbox.proofs.hub.Hub.take_consumer.Goals as goal
@@ -16,7 +18,7 @@ invariant_of-self g c =
       cells = c.self.inside.cells;
       claims = c.self.inside.claims;
       puts = c.self.inside.puts.items;
-      ledgers = c.self.inside.ledgers.items;
+      ledgers = ledgers_in c.self.inside.ledgers.items;
     } in
     let s = at_views c.consumer.inside.reader c.consumer.inside.seat c.consumer.inside.places.items
     c.consumer.inside.notes.lists in
@@ -33,16 +35,19 @@ invariant_of-self g c =
     }) (sym table) in
     let seats : c.take_in.new.hub ≡ (with_taken_consumer s h).claims = c.take_in.ensures.hub in
     let number : c.consumer-number.result ≡ s.seat.consumer = c.consumer-number.ensures.exact in
-    let l : LedgerView = record { places = s.places; notes = s.notes } in
-    let kept : LedgerView = record { places = s.places; notes = c.trim.new.self.lists } in
-    let ledgers : slice_set h.ledgers c.consumer-number.result (Some kept)
-    ≡ slice_set h.ledgers s.seat.consumer (Some l) =
-    (λ j. slice_set h.ledgers (number j) (Some (record { places = s.places; notes = c.trim.ensures j }))) in
+    let taken : KeptView = record {
+      ledger = record { places = s.places; notes = c.trim.new.self.lists };
+      is_cut = false;
+    } in
+    let ledgers : ledgers_in (slice_set c.self.inside.ledgers.items c.consumer-number.result (Some taken))
+    ≡ slice_set h.ledgers s.seat.consumer (Some (ledger_of s)) =
+    ledgers_set c.self.inside.ledgers.items c.consumer-number.result (Some taken)
+    ∙ (λ j. slice_set h.ledgers (number j) (Some (record { places = s.places; notes = c.trim.ensures j }))) in
     let is : with_taken_consumer s h ≡ record {
       cells = c.take_reader.new.hub;
       claims = c.take_in.new.hub;
       puts = h.puts;
-      ledgers = slice_set h.ledgers c.consumer-number.result (Some kept);
+      ledgers = ledgers_in (slice_set c.self.inside.ledgers.items c.consumer-number.result (Some taken));
     } = λ j. record { cells = sym cells j; claims = sym seats j; puts = h.puts; ledgers = sym ledgers j } in
     let same : s.seat.table ≡ h.claims.table =
     ap (λ (v : ConsumerView). v.seat.table) c.consumer.view_is ∙ c.requires.consumer.claims
@@ -58,13 +63,54 @@ invariant_of-self g c =
           (sym seats) c.self.invariant.2,
     )
 
+pub returns-clause-hub : goal.returns-clause-hub
+returns-clause-hub g c =
+    let h : HubView = record {
+      cells = c.self.inside.cells;
+      claims = c.self.inside.claims;
+      puts = c.self.inside.puts.items;
+      ledgers = ledgers_in c.self.inside.ledgers.items;
+    } in
+    let s = at_views c.consumer.inside.reader c.consumer.inside.seat c.consumer.inside.places.items
+    c.consumer.inside.notes.lists in
+    let table : h.cells.table ≡ c.mailbox.inside.cells =
+    ap (λ (v : HubView). v.cells.table) c.self.view_is ∙ c.requires.hub.cells
+    ∙ sym (ap (λ (m : MailboxView). m.cells) c.mailbox.view_is) in
+    let cells : c.take_reader.new.hub ≡ (with_taken_consumer s h).cells =
+    c.take_reader.ensures.hub ∙ ap (λ (t : CellsName). record {
+      table = t;
+      roll = roll_with_part (Reader s.reader.reader) s.reader.part h.cells.roll;
+    }) (sym table) in
+    let seats : c.take_in.new.hub ≡ (with_taken_consumer s h).claims = c.take_in.ensures.hub in
+    let number : c.consumer-number.result ≡ s.seat.consumer = c.consumer-number.ensures.exact in
+    let taken : KeptView = record {
+      ledger = record { places = s.places; notes = c.trim.new.self.lists };
+      is_cut = false;
+    } in
+    let ledgers : ledgers_in (slice_set c.self.inside.ledgers.items c.consumer-number.result (Some taken))
+    ≡ slice_set h.ledgers s.seat.consumer (Some (ledger_of s)) =
+    ledgers_set c.self.inside.ledgers.items c.consumer-number.result (Some taken)
+    ∙ (λ j. slice_set h.ledgers (number j) (Some (record { places = s.places; notes = c.trim.ensures j }))) in
+    let is : record {
+      cells = c.take_reader.new.hub;
+      claims = c.take_in.new.hub;
+      puts = h.puts;
+      ledgers = ledgers_in (slice_set c.self.inside.ledgers.items c.consumer-number.result (Some taken));
+    } ≡ with_taken_consumer s h = λ j. record {
+      cells = cells j;
+      claims = seats j;
+      puts = h.puts;
+      ledgers = ledgers j;
+    } in
+    is ∙ (λ j. with_taken_consumer (c.consumer.view_is j) (c.self.view_is j))
+
 pub returns-clause-was_out : goal.returns-clause-was_out
 returns-clause-was_out g c =
     let h : HubView = record {
       cells = c.self.inside.cells;
       claims = c.self.inside.claims;
       puts = c.self.inside.puts.items;
-      ledgers = c.self.inside.ledgers.items;
+      ledgers = ledgers_in c.self.inside.ledgers.items;
     } in
     let s = at_views c.consumer.inside.reader c.consumer.inside.seat c.consumer.inside.places.items
     c.consumer.inside.notes.lists in

@@ -1,5 +1,5 @@
 use Rattle.std.proofs.Common.{List, ◌≡◌, ℕ, ap, arith, subst, sym}
-use Rattle.mb_mailbox.specs.Below.{CellsName}
+use Rattle.mb_mailbox.specs.Imports.{CellsName}
 use Rattle.mb_mailbox.specs.Producers.{IsProducer, IsPutInto, ProducerView}
 use Rattle.mb_mailbox.proofs.Putting.{producer_at}
 use Rattle.mb_mailbox.proofs.producer.Producer.put.Goals as goal

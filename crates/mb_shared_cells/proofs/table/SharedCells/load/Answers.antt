@@ -30,5 +30,5 @@ load-requires g c =
       omega (arith, low, there, wide),
       access_asked laws _ size _ _ _ _ (Reader can.reader) can.known can.done c.args.word (λ n. Load n) (λ n. n) _ _
           c.self.invariant.0 can.is there c.requires.picked.0 c.requires.picked.1 word
-          (load_goes c.one_step.ensures.reader size can.reader can.done c.args.word can.may),
+          (load_goes c.history_extends.ensures.reader size can.reader can.done c.args.word can.may),
     )

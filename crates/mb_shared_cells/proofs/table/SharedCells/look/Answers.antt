@@ -58,7 +58,7 @@ pub returns-clause-known : goal.returns-clause-known
 returns-clause-known g c = λ p theirs at own.
     let me = c.seat.inside.seat.me in
     let laws : KnownLaws = record {
-      older = c.one_step.ensures.older;
+      older = c.history_extends.ensures.older;
       head = c.parts_tell_lanes.ensures.head;
       item = c.parts_tell_lanes.ensures.linked_item;
       link = c.parts_tell_lanes.ensures.linked_link;

@@ -22,4 +22,4 @@ invariant_of-result-2 g c =
     let few = c.ranges.cells.fits in
     let fits : c.args.cells < END = omega arith in
     hub_is _ size empty_roll 0 c.in_ok-table.ensures.4 refl
-    (empty_roll_history size (c.one_step.ensures.empty size fits))
+    (empty_roll_history size (c.history_extends.ensures.empty size fits))

@@ -30,6 +30,6 @@ store-requires g c =
       omega (arith, low, there, wide),
       store_asked laws _ size _ _ _ c.args.value _ (Producer can.lane) _ can.done c.args.word (λ n. Store n) _ _
           c.self.invariant.0 can.is there c.requires.picked.0 c.requires.picked.1 word
-          (store_goes c.one_step.ensures.producer size can.lane can.done c.args.word c.args.value
+          (store_goes c.history_extends.ensures.producer size can.lane can.done c.args.word c.args.value
           c.ranges.value.fits can.path),
     )

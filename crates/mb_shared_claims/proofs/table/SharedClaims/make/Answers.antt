@@ -16,7 +16,7 @@ load-requires g c =
     let same = ap (λ (v : SeatView). v.table.id) c.seat.view_is ∙ ap (λ (z : ClaimTable). z.id) c.requires.table
     ∙ sym (ap (λ (v : TableView). v.id) c.self.view_is) in
     let may = access_may c.accesses_lengthen_one_part.ensures.own c.accesses_lengthen_one_part.ensures.others t seat _ _
-    c.seat.invariant.size _ _ _ _ c.address-address.result c.args.cell c.args.word next _ (λ n. n) g.W.Made.access
+    c.seat.invariant.size _ _ _ _ c.address-address.result c.args.cell c.args.word next _ (λ n. n) g.W.AccessSpec.access
     c.self.invariant.told
     (ap (λ (v : TableView). record { layout = v.layout; cells = v.cells }) c.self.view_is) c.self.invariant.words
     (c.seat.invariant.is
@@ -39,7 +39,7 @@ compare_exchange-requires g c =
     ∙ sym (ap (λ (v : TableView). v.id) c.self.view_is) in
     let may = access_may c.accesses_lengthen_one_part.ensures.own c.accesses_lengthen_one_part.ensures.others t seat _ _
     c.seat.invariant.size _ _ _ _ c.address-address.result c.args.cell c.args.word next _
-    (λ n. either (n == 0) value n) g.W.Made.access
+    (λ n. either (n == 0) value n) g.W.AccessSpec.access
     c.self.invariant.told
     (ap (λ (v : TableView). record { layout = v.layout; cells = v.cells }) c.self.view_is) c.self.invariant.words
     (c.seat.invariant.is
@@ -63,7 +63,7 @@ store-requires g c =
     ∙ sym (ap (λ (v : TableView). v.id) c.self.view_is) in
     let may = access_may c.accesses_lengthen_one_part.ensures.own c.accesses_lengthen_one_part.ensures.others t seat _ _
     c.seat.invariant.size _ _ _ _ c.address-address.result c.args.cell c.args.word next _ (λ _. value)
-    (λ _. g.W.Made.access value) c.self.invariant.told
+    (λ _. g.W.AccessSpec.access value) c.self.invariant.told
     (ap (λ (v : TableView). record { layout = v.layout; cells = v.cells }) c.self.view_is) c.self.invariant.words
     (c.seat.invariant.is
     ∙ ap (λ (v : SeatView). (Standing c.seat.invariant.size v.consumer v.part, [])) c.seat.view_is)
@@ -77,14 +77,14 @@ store-requires g c =
 
 pub invariant_of-seat : goal.invariant_of-seat
 invariant_of-seat g c =
-    seat_after c.accesses_lengthen_one_part.ensures.own c.seat.inside.consumer (g.W.Made.access c.load.result)
+    seat_after c.accesses_lengthen_one_part.ensures.own c.seat.inside.consumer (g.W.AccessSpec.access c.load.result)
     c.seat.inside.seat.me _ c.seat.invariant
     (ap (λ (a : ClaimAccess). a.consumer) (c.requires.access c.load.result)
     ∙ sym (ap (λ (v : SeatView). v.consumer) c.seat.view_is)) c.load.ensures.2
 
 pub invariant_of-seat-in-Store : goal.invariant_of-seat-in-Store
 invariant_of-seat-in-Store g c =
-    seat_after c.accesses_lengthen_one_part.ensures.own c.seat.inside.consumer (g.W.Made.access c.in-Store.value)
+    seat_after c.accesses_lengthen_one_part.ensures.own c.seat.inside.consumer (g.W.AccessSpec.access c.in-Store.value)
     c.seat.inside.seat.me _ c.seat.invariant
     (ap (λ (a : ClaimAccess). a.consumer) (c.requires.access c.in-Store.value)
     ∙ sym (ap (λ (v : SeatView). v.consumer) c.seat.view_is)) c.store.ensures.2
@@ -92,7 +92,7 @@ invariant_of-seat-in-Store g c =
 pub invariant_of-seat-in-Exchange : goal.invariant_of-seat-in-Exchange
 invariant_of-seat-in-Exchange g c =
     seat_after c.accesses_lengthen_one_part.ensures.own c.seat.inside.consumer
-    (g.W.Made.access c.compare_exchange.result)
+    (g.W.AccessSpec.access c.compare_exchange.result)
     c.seat.inside.seat.me _ c.seat.invariant
     (ap (λ (a : ClaimAccess). a.consumer) (c.requires.access c.compare_exchange.result)
     ∙ sym (ap (λ (v : SeatView). v.consumer) c.seat.view_is)) c.compare_exchange.ensures.2

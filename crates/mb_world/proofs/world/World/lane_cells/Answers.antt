@@ -3,15 +3,15 @@ use Rattle.std.proofs.Common.{[], ◌∷◌, length-append}
 use Rattle.std.proofs.lemmas.List.Elements.{All-push}
 use Rattle.mb_cells.specs.State.{IsAfter, PoolState, cell_count, lane_count, look_in, size_of}
 use Rattle.mb_cells.specs.declared.answer.Look.TheVariants as look
-use Rattle.mb_world.specs.Below.{History}
-use Rattle.mb_world.specs.WorldState.{IsSound, WorldState}
+use Rattle.mb_world.specs.Imports.{History}
+use Rattle.mb_world.specs.WorldState.{WorldIsSound, WorldState}
 use Rattle.mb_world.proofs.LaneWalks.{walk_begins, walk_ends, walk_goes, walk_fits}
 use Rattle.mb_world.proofs.world.World.lane_cells.Goals as goal
 
 pub links-init : goal.links-init
 links-init g c =
     let s = c.args.self.now in
-    let is : IsSound s = subst IsSound c.self.view_is c.self.invariant in
+    let is : WorldIsSound s = subst WorldIsSound c.self.view_is c.self.invariant in
     let inside : c.args.p < lane_count s.pool = omega (arith, is.1.lanes, c.requires) in
     record {
       within = λ k d less. absurd (omega (arith, less, ap length c.new-cells.ensures.items));
@@ -23,7 +23,7 @@ links-init g c =
 pub links-preserved : goal.links-preserved
 links-preserved g c =
     let s = c.args.self.now in
-    let is : IsSound s = subst IsSound c.self.view_is c.self.invariant in
+    let is : WorldIsSound s = subst WorldIsSound c.self.view_is c.self.invariant in
     let ks = c.links.cells.items in
     let k = c.in-Cell.k in
     let pool = ap (λ (w : WorldState). w.pool) c.self.view_is in
@@ -41,7 +41,7 @@ links-preserved g c =
 pub links-smaller : goal.links-smaller
 links-smaller g c =
     let s = c.args.self.now in
-    let is : IsSound s = subst IsSound c.self.view_is c.self.invariant in
+    let is : WorldIsSound s = subst WorldIsSound c.self.view_is c.self.invariant in
     let ks = c.links.cells.items in
     let k = c.in-Cell.k in
     let pool = ap (λ (w : WorldState). w.pool) c.self.view_is in

@@ -4,7 +4,7 @@ use Rattle.mb_claim.specs.Layouts.{claims_in, consumer_count, kinds_of, pair_cou
 use Rattle.mb_deciding.specs.Spread.{spread}
 use Rattle.mb_claim.specs.States.{IsMemoryOf}
 use Rattle.mb_cells.specs.State.{cell_count, lane_count}
-use Rattle.mb_world.specs.Below.{END}
+use Rattle.mb_world.specs.Imports.{END}
 use Rattle.mb_world.specs.declared.seat.Seat.TheVariants as seat
 use Rattle.mb_world.specs.Plan.{consumers_of}
 use Rattle.mb_world.specs.Setups.{plan_in}
@@ -40,7 +40,7 @@ returns-clause-empty g c =
     empty_after setup (fresh_goes plan.claims table c.objects_keep_their_promises.ensures some)
     (λ d s r. c.prefixes_have_one_stage.ensures plan.claims d [] s r table)
     c.in_ok-pool.pool c.in_ok-words.words c.in_ok-seats.seats.items c.in_ok-notes.notes.items
-    (c.one_step.ensures.empty plan sized) lanes cells c.in_ok-pool.ensures.empty words seats notes
+    (c.history_extends.ensures.empty plan sized) lanes cells c.in_ok-pool.ensures.empty words seats notes
 
 pub invariant_of-result : goal.invariant_of-result
 invariant_of-result g c = ([], returns-clause-empty g c)

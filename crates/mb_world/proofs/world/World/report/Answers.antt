@@ -1,7 +1,7 @@
 use Rattle.std.proofs.Common.{◌≢◌, []}
 use Rattle.mb_claim.specs.Layouts.{kinds_of, pair_count, shape_of}
 use Rattle.mb_deciding.specs.Spread.{spread}
-use Rattle.mb_world.specs.Below.{IsPoolLawful}
+use Rattle.mb_world.specs.Imports.{IsPoolLawful}
 use Rattle.mb_world.specs.Plan.{consumers_of, size_of}
 use Rattle.mb_world.specs.Setups.{plan_in}
 use Rattle.mb_world.specs.Report.{ReportView}

@@ -10,7 +10,7 @@ returns-clause-going c s h d p k claim is has not_won =
     let known = step_known c.layouts_are_sound.ensures.table c.prefixes_have_one_stage.ensures
     c.cells_stand_once.ensures.lane c.cells_stand_once.ensures.once c.cells_stand_once.ensures.within
     c.readers_follow_lanes.ensures.met c.loads_leave_pools.ensures c.worlds_are_sound.ensures.sound
-    c.one_step.ensures.consumer s h is d p has.consumer has.lane in
+    c.history_extends.ensures.consumer s h is d p has.consumer has.lane in
     goes_unless_won s h is d p has.consumer has.lane known k claim has.seat not_won
 
 pub returns-clause-on : goal.returns-clause-on
@@ -18,7 +18,7 @@ returns-clause-on c s h d p k claim is has =
     let known = step_known c.layouts_are_sound.ensures.table c.prefixes_have_one_stage.ensures
     c.cells_stand_once.ensures.lane c.cells_stand_once.ensures.once c.cells_stand_once.ensures.within
     c.readers_follow_lanes.ensures.met c.loads_leave_pools.ensures c.worlds_are_sound.ensures.sound
-    c.one_step.ensures.consumer s h is d p has.consumer has.lane in
+    c.history_extends.ensures.consumer s h is d p has.consumer has.lane in
     claim_on s h is d p has.consumer has.lane known k claim has.seat
 
 pub returns-clause-competed : goal.returns-clause-competed
@@ -26,6 +26,6 @@ returns-clause-competed c s h d p word k claim now words x is has going keeps ra
     let known = step_known c.layouts_are_sound.ensures.table c.prefixes_have_one_stage.ensures
     c.cells_stand_once.ensures.lane c.cells_stand_once.ensures.once c.cells_stand_once.ensures.within
     c.readers_follow_lanes.ensures.met c.loads_leave_pools.ensures c.worlds_are_sound.ensures.sound
-    c.one_step.ensures.consumer s h is d p has.consumer has.lane in
+    c.history_extends.ensures.consumer s h is d p has.consumer has.lane in
     competed s h is d p has.consumer has.lane known k claim has.seat going words now x keeps made (claim_stage now)
     refl word random

@@ -7,7 +7,7 @@ returns-clause-within c s h d p e at is has before =
     let known = step_known c.layouts_are_sound.ensures.table c.prefixes_have_one_stage.ensures
     c.cells_stand_once.ensures.lane c.cells_stand_once.ensures.once c.cells_stand_once.ensures.within
     c.readers_follow_lanes.ensures.met c.loads_leave_pools.ensures c.worlds_are_sound.ensures.sound
-    c.one_step.ensures.consumer s h is d p has.consumer has.lane in
+    c.history_extends.ensures.consumer s h is d p has.consumer has.lane in
     within s h is d p has.consumer has.lane known e at has.seat before
 
 pub returns-clause-found : goal.returns-clause-found
@@ -15,7 +15,7 @@ returns-clause-found c s h d p word k e at claim is has before tells own going f
     let known = step_known c.layouts_are_sound.ensures.table c.prefixes_have_one_stage.ensures
     c.cells_stand_once.ensures.lane c.cells_stand_once.ensures.once c.cells_stand_once.ensures.within
     c.readers_follow_lanes.ensures.met c.loads_leave_pools.ensures c.worlds_are_sound.ensures.sound
-    c.one_step.ensures.consumer s h is d p has.consumer has.lane in
+    c.history_extends.ensures.consumer s h is d p has.consumer has.lane in
     looked_on s h is d p has.consumer has.lane known e at has.seat before word k claim tells own going fresh
 
 pub returns-clause-waited : goal.returns-clause-waited
@@ -23,5 +23,5 @@ returns-clause-waited c s h d p word e at z is has before tells none =
     let known = step_known c.layouts_are_sound.ensures.table c.prefixes_have_one_stage.ensures
     c.cells_stand_once.ensures.lane c.cells_stand_once.ensures.once c.cells_stand_once.ensures.within
     c.readers_follow_lanes.ensures.met c.loads_leave_pools.ensures c.worlds_are_sound.ensures.sound
-    c.one_step.ensures.consumer s h is d p has.consumer has.lane in
+    c.history_extends.ensures.consumer s h is d p has.consumer has.lane in
     looked_in_vain s h is d p has.consumer has.lane known e at has.seat before word z tells none

@@ -7,5 +7,5 @@ returns c s h d p word k claim is has won =
     let known = step_known c.layouts_are_sound.ensures.table c.prefixes_have_one_stage.ensures
     c.cells_stand_once.ensures.lane c.cells_stand_once.ensures.once c.cells_stand_once.ensures.within
     c.readers_follow_lanes.ensures.met c.loads_leave_pools.ensures c.worlds_are_sound.ensures.sound
-    c.one_step.ensures.consumer s h is d p has.consumer has.lane in
+    c.history_extends.ensures.consumer s h is d p has.consumer has.lane in
     took s h is d p has.consumer has.lane known k claim has.seat won word

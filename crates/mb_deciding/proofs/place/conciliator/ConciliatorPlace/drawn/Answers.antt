@@ -1,6 +1,6 @@
 use Rattle.std.proofs.Common.{◌≡◌, ◌≤◌, ◌<◌, ◌-◌, ◌*◌, ◌%◌, ℕ, suc, ◌∷◌, sym, ap, ◌∙◌, subst, bit_and}
 use Rattle.std.proofs.lemmas.Nat.{and_mask}
-use Rattle.mb_deciding.specs.{Value, Op, Act, Load, Conciliator, Draw, Put, InConciliator, IsAt, IsConciliatorPlace}
+use Rattle.mb_deciding.specs.{Value, Op, Act, Load, Conciliator, Draw, Put, InConciliator, PcIsAt, IsConciliatorPlace}
 use Rattle.mb_deciding.specs.{IsInConciliator, HasLimits, act_of}
 use Rattle.mb_deciding.specs.declared.access.Op.TheVariants as to
 use Rattle.mb_deciding.proofs.ConciliatorPlaces.{next_limits, draw_missed, draw_found}
@@ -25,7 +25,7 @@ returns-then-word-modulus-clause-reached c t same s v turns op at is can =
     let next : op ≡ to.Load Value = is in
     let stores : c.args.word % modulus < limit =
     rw (low_bits s made.1.0 limit modulus c.args.word made.1.1) at c.if-word-modulus.true in
-    subst (λ (act : Act). IsAt t (Conciliator s) v (InConciliator (Put input))
+    subst (λ (act : Act). PcIsAt t (Conciliator s) v (InConciliator (Put input))
     (record { act = act; word = c.args.word } ∷ turns))
     (sym (empty_load op c.args.seen next c.if-seen-ne0.false))
     (subst (λ n. input < n) (sym same) place.0, draw_found s v input limit modulus c.args.word turns made stores)
@@ -53,7 +53,7 @@ returns-else-word-modulus-clause-reached c t same s v turns op at is can =
     let next : op ≡ to.Load Value = is in
     let none : limit ≤ c.args.word % modulus =
     rw (low_bits s made.1.0 limit modulus c.args.word made.1.1) at c.if-word-modulus.false in
-    subst (λ (act : Act). IsAt t (Conciliator s) v (InConciliator (Draw input (limit * 2) modulus))
+    subst (λ (act : Act). PcIsAt t (Conciliator s) v (InConciliator (Draw input (limit * 2) modulus))
     (record { act = act; word = c.args.word } ∷ turns))
     (sym (empty_load op c.args.seen next c.if-seen-ne0.false))
     (returns-else-word-modulus-clause-fits c t same, draw_missed s v input limit modulus c.args.word turns made none)

@@ -1,0 +1,160 @@
+//! The calls of a producer and of a consumer.
+ghost use Rattle.std.specs.Prelude.{◌≡◌, ◌≢◌, ◌↔◌, ◌⊎◌, ◌<◌, ◌≤◌, ◌+◌, ℕ, Some, false, true};
+ghost use Rattle.mb_claim.specs.Vocabulary.{most_accesses, shape_of};
+ghost use Rattle.mb_mailbox.specs.declared.consumer.Poll.{Poll};
+ghost use Rattle.mb_mailbox.specs.declared.consumer.Poll.TheVariants.{NoLane, Spent, Undecided};
+ghost use Rattle.mb_mailbox.specs.Producers.{FoundNoCell, HasNoCellFor, IsEndOfLane};
+ghost use Rattle.mb_mailbox.specs.Producers.{IsPutInto, is_over};
+ghost use Rattle.mb_mailbox.specs.Steps.{AnswerTells, IsPollOf, outcome};
+ghost use Rattle.hazbultra.specs.Calls.{ConsumerMade, ConsumerWent, IsConsumer, IsProducer};
+ghost use Rattle.hazbultra.specs.Calls.{ProducerMade, ProducerWent, answer_told, words_of_generator};
+ghost use Rattle.hazbultra.specs.declared.codes.TheConstants.{BAD_HANDLE, CLOSED, DONE};
+ghost use Rattle.hazbultra.specs.declared.codes.TheConstants.{FULL, LINKED, LOST, NO_LANE};
+ghost use Rattle.hazbultra.specs.declared.codes.TheConstants.{SPENT, TOOK, UNDECIDED};
+
+use crate::codes::{
+    BAD_HANDLE, CLOSED, DONE, ENDED, FULL, LINKED, LOST, NO_LANE, NOTHING, SPENT, TOOK, UNDECIDED,
+};
+use crate::handle::Handle;
+use crate::thing::Thing;
+use mb_cells::Finish;
+use mb_mailbox::{Poll, Put};
+
+/// Puts an item. It returns `LINKED`, `FULL` if there was no cell for the item, `CLOSED` if the lane has ended, and
+/// `BAD_HANDLE` if the handle leads to no producer.
+#[unsafe(no_mangle)]
+pub extern "C" fn hz_put(producer: &mut Handle, item: u64) -> u32
+    ensures linked { result ≡ LINKED
+        → ProducerWent (λ p q. (k : ℕ) × IsPutInto k item p.producer q.producer)
+        producer.old.block.thing producer.new.block.thing }
+    ensures full { result ≡ FULL
+        → ProducerWent (λ p q. HasNoCellFor item p.producer q.producer)
+        producer.old.block.thing producer.new.block.thing }
+    ensures closed { result ≡ CLOSED
+        → ProducerWent (λ p q. (q ≡ p) × (is_over p.producer ≡ true))
+        producer.old.block.thing producer.new.block.thing }
+    ensures over { ProducerMade (λ p. is_over p.producer ≡ true) producer.old.block.thing
+        → result ≡ CLOSED }
+    ensures stays_full { ProducerMade (λ p. FoundNoCell p.producer × (is_over p.producer ≡ false))
+        producer.old.block.thing → result ≡ FULL }
+    ensures bad { result ≡ BAD_HANDLE → IsProducer producer.old.block.thing → ⊥ }
+    ensures same { result ≡ BAD_HANDLE → producer.new.block.thing ≡ producer.old.block.thing }
+    ensures codes { (result ≡ LINKED) ⊎ (result ≡ FULL) ⊎ (result ≡ CLOSED)
+        ⊎ (result ≡ BAD_HANDLE) }
+{
+    let Some(mut opened) = producer.take() else {
+        return BAD_HANDLE;
+    };
+    let code = match &mut *opened {
+        Thing::OfProducer(bound) => match bound.put(item) {
+            Put::Linked => LINKED,
+            Put::Full => FULL,
+            Put::Closed => CLOSED,
+        },
+        _ => BAD_HANDLE,
+    };
+    producer.give(opened);
+    code
+}
+
+/// Ends the lane. It returns `DONE`, `CLOSED` if the lane has ended before, and `BAD_HANDLE` if the handle leads to no
+/// producer.
+#[unsafe(no_mangle)]
+pub extern "C" fn hz_finish(producer: &mut Handle) -> u32
+    ensures done { result ≡ DONE → ProducerWent (λ p q. IsEndOfLane p.producer q.producer)
+        producer.old.block.thing producer.new.block.thing }
+    ensures closed { result ≡ CLOSED
+        → ProducerWent (λ p q. (q ≡ p) × (is_over p.producer ≡ true))
+        producer.old.block.thing producer.new.block.thing }
+    ensures over { ProducerMade (λ p. is_over p.producer ≡ true) producer.old.block.thing
+        → result ≡ CLOSED }
+    ensures bad { result ≡ BAD_HANDLE → IsProducer producer.old.block.thing → ⊥ }
+    ensures same { result ≡ BAD_HANDLE → producer.new.block.thing ≡ producer.old.block.thing }
+    ensures codes { (result ≡ DONE) ⊎ (result ≡ CLOSED) ⊎ (result ≡ BAD_HANDLE) }
+{
+    let Some(mut opened) = producer.take() else {
+        return BAD_HANDLE;
+    };
+    let code = match &mut *opened {
+        Thing::OfProducer(bound) => match bound.finish() {
+            Finish::Ended => DONE,
+            Finish::Closed => CLOSED,
+            Finish::Busy => unreachable!(),
+        },
+        _ => BAD_HANDLE,
+    };
+    producer.give(opened);
+    code
+}
+
+/// Polls a lane, with at most `budget` accesses. `value` becomes the item taken, or the number of the consumer to which
+/// it is lost. It is not written otherwise. The code is that of the answer, or `BAD_HANDLE` if the handle leads to no
+/// consumer.
+#[unsafe(no_mangle)]
+pub extern "C" fn hz_poll(consumer: &mut Handle, lane: u64, budget: u64, value: &mut u64) -> u32
+    // The answer is that of the poll, with the next words of the consumer's source.
+    ensures polled { (answer : Poll) → answer_told result value.new ≡ Some answer
+        → answer ≢ NoLane
+        → ConsumerWent (λ c d. IsPollOf lane budget answer (words_of_generator c.source)
+        (words_of_generator d.source)
+        c.consumer.consumer d.consumer.consumer)
+        consumer.old.block.thing consumer.new.block.thing }
+    ensures unspent { result ≡ SPENT → ConsumerMade (λ c.
+        budget < most_accesses c.consumer.mailbox.claims.layout + 2) consumer.old.block.thing }
+    ensures decided { result ≡ UNDECIDED → ConsumerMade (λ c.
+        (shape_of c.consumer.mailbox.claims.layout).last ≡ false) consumer.old.block.thing }
+    ensures kept { result ≢ TOOK → result ≢ LOST → value.new ≡ value.old }
+    ensures told { (answer : Poll) → answer_told result value.new ≡ Some answer
+        → answer ≢ NoLane
+        → ConsumerWent (λ c d.
+        AnswerTells lane (outcome answer) c.consumer.consumer d.consumer.consumer)
+        consumer.old.block.thing consumer.new.block.thing }
+    ensures no_lane { (result ≡ NO_LANE) ↔ ConsumerMade (λ c.
+        c.consumer.mailbox.cells.size.lanes ≤ lane) consumer.old.block.thing }
+    ensures refused { result ≡ NO_LANE
+        → ConsumerWent (λ c d. (d.consumer ≡ c.consumer)
+        × (words_of_generator d.source ≡ words_of_generator c.source))
+        consumer.old.block.thing consumer.new.block.thing }
+    ensures bad { result ≡ BAD_HANDLE → IsConsumer consumer.old.block.thing → ⊥ }
+    ensures same { result ≡ BAD_HANDLE → consumer.new.block.thing ≡ consumer.old.block.thing }
+    ensures codes { (result ≡ BAD_HANDLE)
+        ⊎ ((answer : Poll) × (answer_told result value.new ≡ Some answer)) }
+{
+    let Some(mut opened) = consumer.take() else {
+        return BAD_HANDLE;
+    };
+    let code = match &mut *opened {
+        Thing::OfConsumer(seeded) => {
+            let answer = seeded.consumer.poll(lane, budget, &mut seeded.source);
+            tell(answer, value)
+        }
+        _ => BAD_HANDLE,
+    };
+    consumer.give(opened);
+    code
+}
+
+/// Writes the value of an answer, if it has one, and returns its code.
+fn tell(answer: Poll, value: &mut u64) -> u32
+    ensures told { answer_told result value.new ≡ Some answer }
+    ensures kept { result ≢ TOOK → result ≢ LOST → value.new ≡ value.old }
+    ensures spent { result ≡ SPENT → answer ≡ Spent }
+    ensures undecided { result ≡ UNDECIDED → answer ≡ Undecided }
+    ensures no_lane { (result ≡ NO_LANE) ↔ (answer ≡ NoLane) }
+{
+    match answer {
+        Poll::Took(item) => {
+            *value = item;
+            TOOK
+        }
+        Poll::Lost(other) => {
+            *value = u64::from(other);
+            LOST
+        }
+        Poll::Undecided => UNDECIDED,
+        Poll::Nothing => NOTHING,
+        Poll::Ended => ENDED,
+        Poll::Spent => SPENT,
+        Poll::NoLane => NO_LANE,
+    }
+}

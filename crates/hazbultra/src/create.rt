@@ -1,0 +1,240 @@
+//! The calls that make a mailbox, its producers and its consumers.
+ghost use Rattle.std.specs.Prelude.{ℕ, ◌≡◌, ◌≢◌, ◌↔◌, ◌⊎◌, ◌≤◌, IfErr, IfOk, None, Some, length};
+ghost use Rattle.rand_chacha.specs.ChaCha.{of_seed};
+ghost use Rattle.mb_quorum.specs.declared.table.TableName.{TableName};
+ghost use Rattle.mb_world.specs.Setups.{plan_in, shaped_plan};
+ghost use Rattle.mb_mailbox.specs.Imports.{consumer_count};
+ghost use Rattle.mb_mailbox.specs.Hubs.{IsNewConsumer, hub_empty};
+ghost use Rattle.mb_mailbox.specs.Hubs.{new_producer, with_consumer, with_producer};
+ghost use Rattle.mb_mailbox.specs.Mailboxes.{plan_at};
+ghost use Rattle.hazbultra.specs.Calls.{ConsumerMade, HubGave, HubGaveConsumer, HubMade};
+ghost use Rattle.hazbultra.specs.Calls.{HubWent, IsHub, ProducerMade, table_numbered};
+ghost use Rattle.hazbultra.specs.Refusals.{refusal_of};
+ghost use Rattle.hazbultra.specs.declared.codes.TheConstants.{ALL_GIVEN, BAD_HANDLE};
+ghost use Rattle.hazbultra.specs.declared.codes.TheConstants.{DONE, NO_MEMORY};
+
+use crate::boundary::SetupIn;
+use crate::codes::{
+    ALL_GIVEN, BAD_HANDLE, BAD_TABLE, DONE, NO_MEMORY, code_of_hub, code_of_setup, table_of,
+};
+use crate::handle::Handle;
+use crate::thing::{SeededConsumer, Thing};
+use mb_bound::BoundHub;
+use mb_claim::Shape;
+use mb_world::Setup;
+use rand_chacha::ChaCha8Rng;
+use rand_core::SeedableRng;
+use std::alloc::Global;
+
+/// The setup that C asks for, or the code of its refusal.
+fn setup_of(wanted: &SetupIn) -> Result<Setup, u32>
+    ensures made { IfOk result (λ setup. (name : TableName)
+        → table_numbered wanted.now.table ≡ Some name
+        → plan_in setup ≡ shaped_plan
+        (record { fast = wanted.now.fast; last = wanted.now.last })
+        wanted.now.producers wanted.now.consumers wanted.now.cells wanted.now.pairs name) }
+    ensures accepted { IfOk result (λ _. refusal_of wanted.now ≡ None) }
+    ensures refused { IfErr result (λ code. (refusal_of wanted.now ≡ Some code)
+        × (code ≢ DONE) × (code ≢ BAD_HANDLE)) }
+{
+    let Some(table) = table_of(wanted.table) else {
+        return Err(BAD_TABLE);
+    };
+    let shape = Shape {
+        fast: wanted.fast,
+        last: wanted.last,
+    };
+    match Setup::large(
+        wanted.producers,
+        wanted.consumers,
+        wanted.cells,
+        wanted.pairs,
+        table,
+    ) {
+        Ok(setup) => Ok(setup.shaped(shape)),
+        Err(why) => Err(code_of_setup(why)),
+    }
+}
+
+/// Makes a mailbox of this setup, and its hub. No other mailbox of the process may have the number `id`. It returns
+/// `BAD_HANDLE` if `hub` leads to something already, and else the code of the first fault of the setup. If there is
+/// none, it returns `NO_MEMORY` if memory ran out. After each of these nothing has changed.
+#[unsafe(no_mangle)]
+pub extern "C" fn hz_mailbox_new(alloc: Global, id: u64, setup: &SetupIn, hub: &mut Handle) -> u32
+    ensures made { result ≡ DONE → (name : TableName) → table_numbered setup.now.table ≡ Some name
+        → HubMade (λ h. (h.id ≡ id) × (plan_at h.mailbox ≡ shaped_plan
+        (record { fast = setup.now.fast; last = setup.now.last })
+        setup.now.producers setup.now.consumers setup.now.cells setup.now.pairs name)
+        × (h.hub ≡ hub_empty h.mailbox)) hub.new.block.thing }
+    ensures bad { (result ≡ BAD_HANDLE) ↔ (hub.old.block.thing ≢ None) }
+    ensures refused { hub.old.block.thing ≡ None → (code : ℕ) → refusal_of setup.now ≡ Some code
+        → result ≡ code }
+    ensures accepted { hub.old.block.thing ≡ None → refusal_of setup.now ≡ None
+        → (result ≡ DONE) ⊎ (result ≡ NO_MEMORY) }
+    ensures same { result ≢ DONE → hub.new.block.thing ≡ hub.old.block.thing }
+{
+    if !hub.is_none() {
+        return BAD_HANDLE;
+    }
+    let setup = match setup_of(setup) {
+        Ok(setup) => setup,
+        Err(code) => return code,
+    };
+    let Ok(made) = BoundHub::new(alloc, id, setup) else {
+        return NO_MEMORY;
+    };
+    let Ok(room) = Box::new(alloc, Thing::OfHub(made)) else {
+        return NO_MEMORY;
+    };
+    hub.give(room);
+    DONE
+}
+
+/// Makes the producer of the next lane. It returns `BAD_HANDLE` if `hub` leads to no hub or `producer` to something
+/// already, `ALL_GIVEN` if each lane's producer was given, and `NO_MEMORY` if memory ran out. Then nothing changes.
+#[unsafe(no_mangle)]
+pub extern "C" fn hz_producer_new(alloc: Global, hub: &mut Handle, producer: &mut Handle) -> u32
+    ensures given { result ≡ DONE
+        → HubGave (λ h p. p ≡ record {
+          id = h.id;
+          mailbox = h.mailbox;
+          producer = new_producer h.mailbox (length h.hub.puts);
+        }) hub.old.block.thing producer.new.block.thing }
+    ensures hub { result ≡ DONE
+        → HubWent (λ h k. k ≡ record h { hub = with_producer h.hub })
+        hub.old.block.thing hub.new.block.thing }
+    ensures bad { (result ≡ BAD_HANDLE)
+        ↔ (IsHub hub.old.block.thing × (producer.old.block.thing ≡ None) → ⊥) }
+    ensures all_given { (result ≡ ALL_GIVEN)
+        ↔ HubMade (λ h. h.mailbox.cells.size.lanes ≤ length h.hub.puts) hub.old.block.thing
+        × (producer.old.block.thing ≡ None) }
+    ensures codes { (result ≡ DONE) ⊎ (result ≡ BAD_HANDLE) ⊎ (result ≡ ALL_GIVEN)
+        ⊎ (result ≡ NO_MEMORY) }
+    ensures same_hub { result ≢ DONE → hub.new.block.thing ≡ hub.old.block.thing }
+    ensures same { result ≢ DONE → producer.new.block.thing ≡ producer.old.block.thing }
+{
+    if !producer.is_none() {
+        return BAD_HANDLE;
+    }
+    let Some(mut opened) = hub.take() else {
+        return BAD_HANDLE;
+    };
+    let code = match &mut *opened {
+        Thing::OfHub(bound) => give_producer(alloc, bound, producer),
+        _ => BAD_HANDLE,
+    };
+    hub.give(opened);
+    code
+}
+
+/// The same for an opened hub. It makes the box first, so that no number is lost if memory runs out.
+fn give_producer(alloc: Global, hub: &mut BoundHub<Global>, producer: &mut Handle) -> u32
+    ensures given { result ≡ DONE → ProducerMade (λ p. p ≡ record {
+      id = hub.old.id;
+      mailbox = hub.old.mailbox;
+      producer = new_producer hub.old.mailbox (length hub.old.hub.puts);
+    }) producer.new.block.thing }
+    ensures hub { result ≡ DONE → hub.new ≡ record hub.old { hub = with_producer hub.old.hub } }
+    ensures all_given { (result ≡ ALL_GIVEN)
+        ↔ (hub.old.mailbox.cells.size.lanes ≤ length hub.old.hub.puts) }
+    ensures codes { (result ≡ DONE) ⊎ (result ≡ ALL_GIVEN) ⊎ (result ≡ NO_MEMORY) }
+    ensures same_hub { result ≢ DONE → hub.new ≡ hub.old }
+    ensures same { result ≢ DONE → producer.new.block.thing ≡ producer.old.block.thing }
+{
+    if hub.lanes_left() == 0 {
+        return ALL_GIVEN;
+    }
+    let Ok(mut room) = Box::new(alloc, Thing::OfNothing) else {
+        return NO_MEMORY;
+    };
+    match hub.producer(alloc) {
+        Ok(made) => {
+            *room = Thing::OfProducer(made);
+            producer.give(room);
+            DONE
+        }
+        Err(why) => code_of_hub(why),
+    }
+}
+
+/// Makes the consumer of the next number, with the random words of ChaCha8 from this seed and stream. It returns
+/// `BAD_HANDLE` if `hub` leads to no hub or `consumer` to something already, `ALL_GIVEN` if all consumers were given,
+/// and `NO_MEMORY` if memory ran out. Then nothing changes.
+#[unsafe(no_mangle)]
+pub extern "C" fn hz_consumer_new(
+    alloc: Global,
+    hub: &mut Handle,
+    seed: &[u8; 32],
+    stream: u64,
+    consumer: &mut Handle,
+) -> u32
+    ensures given { result ≡ DONE
+        → HubGaveConsumer (λ h c. (c.consumer.id ≡ h.id) × (c.consumer.mailbox ≡ h.mailbox)
+        × (c.source ≡ record (of_seed seed.now) { stream = stream })
+        × IsNewConsumer h.mailbox h.hub c.consumer.consumer)
+        hub.old.block.thing consumer.new.block.thing }
+    ensures hub { result ≡ DONE
+        → HubWent (λ h k. k ≡ record h { hub = with_consumer h.hub })
+        hub.old.block.thing hub.new.block.thing }
+    ensures bad { (result ≡ BAD_HANDLE)
+        ↔ (IsHub hub.old.block.thing × (consumer.old.block.thing ≡ None) → ⊥) }
+    ensures all_given { (result ≡ ALL_GIVEN)
+        ↔ HubMade (λ h. consumer_count h.mailbox.claims.layout ≤ length h.hub.ledgers)
+        hub.old.block.thing × (consumer.old.block.thing ≡ None) }
+    ensures codes { (result ≡ DONE) ⊎ (result ≡ BAD_HANDLE) ⊎ (result ≡ ALL_GIVEN)
+        ⊎ (result ≡ NO_MEMORY) }
+    ensures same_hub { result ≢ DONE → hub.new.block.thing ≡ hub.old.block.thing }
+    ensures same { result ≢ DONE → consumer.new.block.thing ≡ consumer.old.block.thing }
+{
+    if !consumer.is_none() {
+        return BAD_HANDLE;
+    }
+    let Some(mut opened) = hub.take() else {
+        return BAD_HANDLE;
+    };
+    let mut source = ChaCha8Rng::from_seed(*seed);
+    source.set_stream(stream);
+    let code = match &mut *opened {
+        Thing::OfHub(bound) => give_consumer(alloc, bound, source, consumer),
+        _ => BAD_HANDLE,
+    };
+    hub.give(opened);
+    code
+}
+
+/// The same for an opened hub. It makes the box first, so that no number is lost if memory runs out.
+fn give_consumer(
+    alloc: Global,
+    hub: &mut BoundHub<Global>,
+    source: ChaCha8Rng,
+    consumer: &mut Handle,
+) -> u32
+    ensures given { result ≡ DONE → ConsumerMade (λ c. (c.consumer.id ≡ hub.old.id)
+        × (c.consumer.mailbox ≡ hub.old.mailbox) × (c.source ≡ source)
+        × IsNewConsumer hub.old.mailbox hub.old.hub c.consumer.consumer)
+        consumer.new.block.thing }
+    ensures hub { result ≡ DONE → hub.new ≡ record hub.old { hub = with_consumer hub.old.hub } }
+    ensures all_given { (result ≡ ALL_GIVEN)
+        ↔ (consumer_count hub.old.mailbox.claims.layout ≤ length hub.old.hub.ledgers) }
+    ensures codes { (result ≡ DONE) ⊎ (result ≡ ALL_GIVEN) ⊎ (result ≡ NO_MEMORY) }
+    ensures same_hub { result ≢ DONE → hub.new ≡ hub.old }
+    ensures same { result ≢ DONE → consumer.new.block.thing ≡ consumer.old.block.thing }
+{
+    if hub.consumers_left() == 0 {
+        return ALL_GIVEN;
+    }
+    let Ok(mut room) = Box::new(alloc, Thing::OfNothing) else {
+        return NO_MEMORY;
+    };
+    match hub.consumer(alloc) {
+        Ok(made) => {
+            *room = Thing::OfConsumer(SeededConsumer {
+                consumer: made,
+                source,
+            });
+            consumer.give(room);
+            DONE
+        }
+        Err(why) => code_of_hub(why),
+    }
+}

@@ -1,0 +1,276 @@
+//! What one process does in a conciliator.
+use super::conciliator::ConciliatorPlace;
+use super::pc::{Next, Pc};
+use crate::access::{Op, Reg};
+use crate::memory::{Drawing, Memory};
+use crate::object::Out;
+use mb_quorum::Quorums;
+
+impl ConciliatorPlace {
+    ghost use Rattle.std.specs.Prelude.{◌≡◌, ◌<◌, ◌≤◌, ◌+◌, false, ℕ, None};
+    ghost use Rattle.mb_quorum.specs.Vocabulary.{QuorumTable};
+    ghost use Rattle.mb_deciding.specs.{Op, Pc, InConciliator, Draw, Put, Look, next_from, turns_left};
+    ghost use Rattle.mb_deciding.specs.{turns_after};
+    ghost use Rattle.mb_deciding.specs.{IsConciliatorPlace, IsConciliatorOp, IsNext, ConciliatorReaches, IsStep};
+    ghost use Rattle.mb_deciding.specs.{IsOpAt, AreSteps, DrawsAndMakes};
+    ghost use Rattle.mb_deciding.specs.declared.place.pc.Next.TheVariants as leads;
+
+    /// The access that the process makes next.
+    #[inline(always)]
+    pub(crate) fn next(self) -> Op
+        ensures { IsConciliatorOp self result }
+    {
+        match self {
+            Self::Draw { .. } | Self::Look { .. } => Op::Load(Reg::Value),
+            Self::Put { input } => Op::Store(Reg::Value, u64::from(input) + 1),
+        }
+    }
+
+    /// Goes on to the place that the access leads to, or returns the output. The conciliator is for `values` values.
+    /// `seen` is the loaded value and `word` the random word.
+    #[inline(always)]
+    pub(crate) fn after(&mut self, values: u32, seen: u64, word: u64) -> Option<Out>
+        requires { IsConciliatorPlace values self.old }
+        ensures fits { (t : QuorumTable) → t.values ≡ values
+            → IsNext t (next_from result (InConciliator self.new)) }
+        ensures fewer { (t : QuorumTable)
+            → turns_after t (next_from result (InConciliator self.new))
+            < turns_left t (InConciliator self.old) }
+        ensures reached { (t : QuorumTable) → t.values ≡ values
+            → ConciliatorReaches t self.old seen word
+            (next_from result (InConciliator self.new)) }
+    {
+        match *self {
+            Self::Draw {
+                input,
+                limit,
+                modulus,
+            } => self.drawn(values, input, limit, modulus, seen, word),
+            Self::Put { input } => self.put(input),
+            Self::Look { input } => Self::looked(values, input, seen),
+        }
+    }
+
+    /// Makes the next access in a conciliator for `values` values. Goes on to the place that it leads to, or returns
+    /// the output.
+    #[inline(always)]
+    pub(crate) fn step<M: Memory>(
+        &mut self,
+        values: u32,
+        memory: &mut M,
+        object: u32,
+        word: u64,
+    ) -> Option<Out>
+        requires place { IsConciliatorPlace values self.old }
+        requires may { (op : Op) → IsConciliatorOp self.old op → M.can_make memory.old object op }
+        ensures fits { (t : QuorumTable) → t.values ≡ values
+            → IsNext t (next_from result (InConciliator self.new)) }
+        ensures fewer { (t : QuorumTable)
+            → turns_after t (next_from result (InConciliator self.new))
+            < turns_left t (InConciliator self.old) }
+        ensures step { (t : QuorumTable) → t.values ≡ values → IsStep t (InConciliator self.old)
+            (λ op seen. M.makes memory.old object op seen memory.new) word
+            (next_from result (InConciliator self.new)) }
+    {
+        match *self {
+            Self::Draw {
+                input,
+                limit,
+                modulus,
+            } => {
+                let seen = memory.perform(object, Op::Load(Reg::Value));
+                self.drawn(values, input, limit, modulus, seen, word)
+            }
+            Self::Put { input } => {
+                memory.perform(object, Op::Store(Reg::Value, u64::from(input) + 1));
+                self.put(input)
+            }
+            Self::Look { input } => {
+                let seen = memory.perform(object, Op::Load(Reg::Value));
+                Self::looked(values, input, seen)
+            }
+        }
+    }
+
+    /// Makes accesses in a conciliator until the process has its output or the budget `left` is used up. It begins
+    /// before the store: a process that is about to store, or has stored, makes no access.
+    #[inline(always)]
+    pub fn run<Q: Quorums, M: Drawing>(
+        self,
+        q: &Q,
+        memory: &mut M,
+        object: u32,
+        left: &mut u64,
+    ) -> Next
+        requires place { IsConciliatorPlace (Q.table q.now).values self }
+        requires may { (n word : ℕ) (at : Pc) (before mid : M) (op : Op)
+            → AreSteps (Q.table q.now) (DrawsAndMakes M.draws M.makes object) (InConciliator self)
+            memory.old n (leads.Go at) before
+            → M.draws before word mid → IsOpAt (Q.table q.now) at op → M.can_make mid object op }
+        ensures fits { IsNext (Q.table q.now) result }
+        ensures steps { (n : ℕ) × (n + left.new ≡ left.old)
+            × AreSteps (Q.table q.now) (DrawsAndMakes M.draws M.makes object) (InConciliator self)
+            memory.old n result memory.new }
+    {
+        let Self::Draw {
+            input,
+            limit,
+            modulus,
+        } = self
+        else {
+            return Next::Go(Pc::InConciliator(self));
+        };
+        let values = q.values();
+        let mut limit = limit;
+        'draws: while *left != 0 {
+            *left -= 1;
+            let word = memory.draw();
+            let seen = memory.perform(object, Op::Load(Reg::Value));
+            let mut place = Self::Draw {
+                input,
+                limit,
+                modulus,
+            };
+            if let Some(out) = place.drawn(values, input, limit, modulus, seen, word) {
+                return Next::Out(out);
+            }
+            let Self::Draw { limit: next, .. } = place else {
+                return place.finish(q, memory, object, left);
+            };
+            limit = next;
+        }
+        Next::Go(Pc::InConciliator(Self::Draw {
+            input,
+            limit,
+            modulus,
+        }))
+    }
+
+    /// Goes on from the store of the input, until the process has its output or the budget `left` is used up.
+    #[inline(always)]
+    fn finish<Q: Quorums, M: Drawing>(
+        self,
+        q: &Q,
+        memory: &mut M,
+        object: u32,
+        left: &mut u64,
+    ) -> Next
+        requires place { IsConciliatorPlace (Q.table q.now).values self }
+        requires may { (n word : ℕ) (at : Pc) (before mid : M) (op : Op)
+            → AreSteps (Q.table q.now) (DrawsAndMakes M.draws M.makes object) (InConciliator self)
+            memory.old n (leads.Go at) before
+            → M.draws before word mid → IsOpAt (Q.table q.now) at op → M.can_make mid object op }
+        ensures fits { IsNext (Q.table q.now) result }
+        ensures steps { (n : ℕ) × (n + left.new ≡ left.old)
+            × AreSteps (Q.table q.now) (DrawsAndMakes M.draws M.makes object) (InConciliator self)
+            memory.old n result memory.new }
+    {
+        let mut place = self;
+        'puts: while let Self::Put { .. } = place {
+            if *left == 0 {
+                return Next::Go(Pc::InConciliator(place));
+            }
+            *left -= 1;
+            let word = memory.draw();
+            if let Some(out) = place.step(q.values(), memory, object, word) {
+                return Next::Out(out);
+            }
+        }
+        'looks: while let Self::Look { .. } = place {
+            if *left == 0 {
+                return Next::Go(Pc::InConciliator(place));
+            }
+            *left -= 1;
+            let word = memory.draw();
+            if let Some(out) = place.step(q.values(), memory, object, word) {
+                return Next::Out(out);
+            }
+        }
+        Next::Go(Pc::InConciliator(place))
+    }
+
+    /// What follows the load of a process that has not stored.
+    #[inline(always)]
+    fn drawn(
+        &mut self,
+        values: u32,
+        input: u32,
+        limit: u64,
+        modulus: u64,
+        seen: u64,
+        word: u64,
+    ) -> Option<Out>
+        requires { IsConciliatorPlace values (Draw input limit modulus) }
+        ensures fits { (t : QuorumTable) → t.values ≡ values
+            → IsNext t (next_from result (InConciliator self.new)) }
+        ensures fewer { (t : QuorumTable)
+            → turns_after t (next_from result (InConciliator self.new))
+            < turns_left t (InConciliator (Draw input limit modulus)) }
+        ensures reached { (t : QuorumTable) → t.values ≡ values
+            → ConciliatorReaches t (Draw input limit modulus) seen word
+            (next_from result (InConciliator self.new)) }
+        ensures same { (i l m : ℕ) → result ≡ None → self.new ≡ Draw i l m
+            → (i ≡ input) × (m ≡ modulus) }
+    {
+        if seen != 0 {
+            Some(Self::met(values, input, seen))
+        } else if word & (modulus - 1) < limit {
+            *self = Self::Put { input };
+            None
+        } else {
+            let limit = limit * 2;
+            *self = Self::Draw {
+                input,
+                limit,
+                modulus,
+            };
+            None
+        }
+    }
+
+    /// What follows the store of the input.
+    #[inline(always)]
+    fn put(&mut self, input: u32) -> Option<Out>
+        ensures fits { (t : QuorumTable) → input < t.values
+            → IsNext t (next_from result (InConciliator self.new)) }
+        ensures fewer { (t : QuorumTable)
+            → turns_after t (next_from result (InConciliator self.new))
+            < turns_left t (InConciliator (Put input)) }
+        ensures reached { (t : QuorumTable) (seen word : ℕ)
+            → ConciliatorReaches t (Put input) seen word
+            (next_from result (InConciliator self.new)) }
+    {
+        *self = Self::Look { input };
+        None
+    }
+
+    /// What follows the load of a process that has stored.
+    #[inline(always)]
+    fn looked(values: u32, input: u32, seen: u64) -> Option<Out>
+        requires { input < values }
+        ensures fits { (t : QuorumTable) (pc : Pc) → t.values ≡ values
+            → IsNext t (next_from result pc) }
+        ensures fewer { (t : QuorumTable) (pc : Pc)
+            → turns_after t (next_from result pc) < turns_left t (InConciliator (Look input)) }
+        ensures reached { (t : QuorumTable) (pc : Pc) (word : ℕ) → t.values ≡ values
+            → ConciliatorReaches t (Look input) seen word (next_from result pc) }
+    {
+        Some(Self::met(values, input, seen))
+    }
+
+    /// The output of a process with this input that loaded `seen`: the value that this means, or its own input if it
+    /// means no value.
+    #[inline(always)]
+    fn met(values: u32, input: u32, seen: u64) -> Out
+        requires { input < values }
+        ensures fits { result.value < values }
+        ensures undecided { result.decided ≡ false }
+        ensures met { 0 < seen → seen ≤ values → seen ≡ result.value + 1 }
+    {
+        Out::undecided(if 0 < seen && seen <= u64::from(values) {
+            (seen - 1) as u32
+        } else {
+            input
+        })
+    }
+}

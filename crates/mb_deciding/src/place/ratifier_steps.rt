@@ -1,0 +1,346 @@
+//! What one process does in a ratifier.
+use super::mask::{least, without};
+use super::pc::{Next, Pc};
+use super::ratifier::RatifierPlace;
+use crate::access::{Op, Reg};
+use crate::memory::{Drawing, Memory};
+use crate::object::Out;
+use mb_quorum::Quorums;
+
+impl RatifierPlace {
+    ghost use Rattle.std.specs.Prelude.{◌≡◌, ◌≢◌, ◌<◌, ◌≤◌, ◌+◌, ℕ, count_ones, List, ◌∷◌};
+    ghost use Rattle.mb_quorum.specs.Quorum.{QuorumTable};
+    ghost use Rattle.mb_deciding.specs.{Op, Turn, Ratifier, Announce, Propose, Check, InRatifier};
+    ghost use Rattle.mb_deciding.specs.{acts, ReadsClear, PcIsAt, IsRatifierPlace, IsRatifierOp, IsRest, IsNext};
+    ghost use Rattle.mb_deciding.specs.{IsReached, CanFind, act_of, RatifierReaches, IsStep, next_from};
+    ghost use Rattle.mb_deciding.specs.{turns_left, turns_after};
+    ghost use Rattle.mb_deciding.specs.{Pc, IsOpAt, AreSteps, DrawsAndMakes};
+    ghost use Rattle.mb_deciding.specs.declared.place.pc.Next.TheVariants as leads;
+
+    /// The access that the process makes next.
+    #[inline(always)]
+    pub(crate) fn next<Q: Quorums>(self, q: &Q) -> Op
+        requires { IsRatifierPlace (Q.table q.now) self }
+        ensures { IsRatifierOp (Q.table q.now) self result }
+    {
+        match self {
+            Self::Begin { input } => Self::announcing(q.write_quorum(input)),
+            Self::Announce { left, .. } => Self::announcing(left),
+            Self::Propose { input } => Op::Store(Reg::Proposal, u64::from(input) + 1),
+            Self::Check { left, .. } => Op::Load(Reg::Quorum(least(left))),
+        }
+    }
+
+    /// Goes on to the place that the access leads to, or returns the output. `seen` is the loaded value.
+    #[inline(always)]
+    pub(crate) fn after<Q: Quorums>(&mut self, q: &Q, seen: u64) -> Option<Out>
+        requires { IsRatifierPlace (Q.table q.now) self.old }
+        ensures fits { IsNext (Q.table q.now) (next_from result (InRatifier self.new)) }
+        ensures fewer { turns_after (Q.table q.now) (next_from result (InRatifier self.new))
+            < turns_left (Q.table q.now) (InRatifier self.old) }
+        ensures reached { RatifierReaches (Q.table q.now) self.old seen
+            (next_from result (InRatifier self.new)) }
+    {
+        match *self {
+            Self::Begin { input } => self.announced(q, input, q.write_quorum(input), seen),
+            Self::Announce { input, left } => self.announced(q, input, left, seen),
+            Self::Propose { input } => self.proposed(q, input),
+            Self::Check { preference, left } => self.checked(q, preference, left, seen),
+        }
+    }
+
+    /// Makes the next access. Goes on to the place that it leads to, or returns the output.
+    #[inline(always)]
+    pub(crate) fn step<Q: Quorums, M: Memory>(
+        &mut self,
+        q: &Q,
+        memory: &mut M,
+        object: u32,
+    ) -> Option<Out>
+        requires place { IsRatifierPlace (Q.table q.now) self.old }
+        requires may { (op : Op) → IsRatifierOp (Q.table q.now) self.old op
+            → M.can_make memory.old object op }
+        ensures fits { IsNext (Q.table q.now) (next_from result (InRatifier self.new)) }
+        ensures fewer { turns_after (Q.table q.now) (next_from result (InRatifier self.new))
+            < turns_left (Q.table q.now) (InRatifier self.old) }
+        ensures step { (word : ℕ) → IsStep (Q.table q.now) (InRatifier self.old)
+            (λ op seen. M.makes memory.old object op seen memory.new) word
+            (next_from result (InRatifier self.new)) }
+    {
+        match *self {
+            Self::Begin { input } => {
+                self.announce(q, memory, object, input, q.write_quorum(input))
+            }
+            Self::Announce { input, left } => self.announce(q, memory, object, input, left),
+            Self::Propose { input } => {
+                memory.perform(object, Op::Store(Reg::Proposal, u64::from(input) + 1));
+                self.proposed(q, input)
+            }
+            Self::Check { preference, left } => {
+                let seen = memory.perform(object, Op::Load(Reg::Quorum(least(left))));
+                self.checked(q, preference, left, seen)
+            }
+        }
+    }
+
+    /// Makes accesses in a ratifier until the process has its output or the budget `left` is used up. It begins at the
+    /// announcement: a process at another place makes no access.
+    #[inline(always)]
+    pub fn run<Q: Quorums, M: Drawing>(
+        self,
+        q: &Q,
+        memory: &mut M,
+        object: u32,
+        left: &mut u64,
+    ) -> Next
+        requires place { IsRatifierPlace (Q.table q.now) self }
+        requires may { (n word : ℕ) (at : Pc) (before mid : M) (op : Op)
+            → AreSteps (Q.table q.now) (DrawsAndMakes M.draws M.makes object) (InRatifier self)
+            memory.old n (leads.Go at) before
+            → M.draws before word mid → IsOpAt (Q.table q.now) at op → M.can_make mid object op }
+        ensures fits { IsNext (Q.table q.now) result }
+        ensures steps { (n : ℕ) × (n + left.new ≡ left.old)
+            × AreSteps (Q.table q.now) (DrawsAndMakes M.draws M.makes object) (InRatifier self)
+            memory.old n result memory.new }
+
+        // A process that announces makes at least one access, if the budget is not 0.
+        ensures moves { (input mask : ℕ) → self ≡ Announce input mask → left.old ≢ 0
+            → left.new < left.old }
+    {
+        let Self::Announce { input, left: mask } = self else {
+            return Next::Go(Pc::InRatifier(self));
+        };
+        let mut mask = mask;
+        'announces: while mask != 0 {
+            if *left == 0 {
+                return Next::Go(Pc::InRatifier(Self::Announce { input, left: mask }));
+            }
+            *left -= 1;
+            memory.draw();
+            let register = least(mask);
+            memory.perform(object, Op::Store(Reg::Quorum(register), 1));
+            mask = without(mask, register);
+        }
+        Self::Announce { input, left: mask }.find(q, memory, object, left)
+    }
+
+    /// Makes one access more, and goes on from there. After the announcement this is the load of the proposal.
+    #[inline(always)]
+    fn find<Q: Quorums, M: Drawing>(
+        self,
+        q: &Q,
+        memory: &mut M,
+        object: u32,
+        left: &mut u64,
+    ) -> Next
+        requires place { IsRatifierPlace (Q.table q.now) self }
+        requires may { (n word : ℕ) (at : Pc) (before mid : M) (op : Op)
+            → AreSteps (Q.table q.now) (DrawsAndMakes M.draws M.makes object) (InRatifier self)
+            memory.old n (leads.Go at) before
+            → M.draws before word mid → IsOpAt (Q.table q.now) at op → M.can_make mid object op }
+        ensures fits { IsNext (Q.table q.now) result }
+        ensures steps { (n : ℕ) × (n + left.new ≡ left.old)
+            × AreSteps (Q.table q.now) (DrawsAndMakes M.draws M.makes object) (InRatifier self)
+            memory.old n result memory.new }
+        ensures moves { left.old ≢ 0 → left.new < left.old }
+    {
+        if *left == 0 {
+            return Next::Go(Pc::InRatifier(self));
+        }
+        *left -= 1;
+        memory.draw();
+        let mut place = self;
+        if let Some(out) = place.step(q, memory, object) {
+            return Next::Out(out);
+        }
+        place.check(q, memory, object, left)
+    }
+
+    /// Goes on from the store of a proposal or the check of a preference, until the process has its output or the
+    /// budget `left` is used up.
+    #[inline(always)]
+    fn check<Q: Quorums, M: Drawing>(
+        self,
+        q: &Q,
+        memory: &mut M,
+        object: u32,
+        left: &mut u64,
+    ) -> Next
+        requires place { IsRatifierPlace (Q.table q.now) self }
+        requires may { (n word : ℕ) (at : Pc) (before mid : M) (op : Op)
+            → AreSteps (Q.table q.now) (DrawsAndMakes M.draws M.makes object) (InRatifier self)
+            memory.old n (leads.Go at) before
+            → M.draws before word mid → IsOpAt (Q.table q.now) at op → M.can_make mid object op }
+        ensures fits { IsNext (Q.table q.now) result }
+        ensures steps { (n : ℕ) × (n + left.new ≡ left.old)
+            × AreSteps (Q.table q.now) (DrawsAndMakes M.draws M.makes object) (InRatifier self)
+            memory.old n result memory.new }
+    {
+        let mut place = self;
+        'proposes: while let Self::Propose { .. } = place {
+            if *left == 0 {
+                return Next::Go(Pc::InRatifier(place));
+            }
+            *left -= 1;
+            memory.draw();
+            if let Some(out) = place.step(q, memory, object) {
+                return Next::Out(out);
+            }
+        }
+        'checks: while let Self::Check { .. } = place {
+            if *left == 0 {
+                return Next::Go(Pc::InRatifier(place));
+            }
+            *left -= 1;
+            memory.draw();
+            if let Some(out) = place.step(q, memory, object) {
+                return Next::Out(out);
+            }
+        }
+        Next::Go(Pc::InRatifier(place))
+    }
+
+    /// The next access of a process that still has to set these registers.
+    #[inline(always)]
+    fn announcing(left: u64) -> Op
+        ensures { (t : QuorumTable) (input : ℕ) → IsRatifierOp t (Announce input left) result }
+    {
+        if left == 0 {
+            Op::Load(Reg::Proposal)
+        } else {
+            Op::Store(Reg::Quorum(least(left)), 1)
+        }
+    }
+
+    /// What follows that access.
+    #[inline(always)]
+    fn announced<Q: Quorums>(&mut self, q: &Q, input: u32, left: u64, seen: u64) -> Option<Out>
+        requires { input < (Q.table q.now).values }
+        ensures fits { IsNext (Q.table q.now) (next_from result (InRatifier self.new)) }
+        ensures fewer { turns_after (Q.table q.now) (next_from result (InRatifier self.new))
+            < turns_left (Q.table q.now) (InRatifier (Announce input left)) }
+        ensures reached { RatifierReaches (Q.table q.now) (Announce input left) seen
+            (next_from result (InRatifier self.new)) }
+    {
+        if left == 0 {
+            self.found(q, input, left, seen)
+        } else {
+            self.stored(q, input, left)
+        }
+    }
+
+    /// Makes that access. Goes on to the place that it leads to, or returns the output.
+    #[inline(always)]
+    fn announce<Q: Quorums, M: Memory>(
+        &mut self,
+        q: &Q,
+        memory: &mut M,
+        object: u32,
+        input: u32,
+        left: u64,
+    ) -> Option<Out>
+        requires input { input < (Q.table q.now).values }
+        requires may { (op : Op) → IsRatifierOp (Q.table q.now) (Announce input left) op
+            → M.can_make memory.old object op }
+        ensures fits { IsNext (Q.table q.now) (next_from result (InRatifier self.new)) }
+        ensures fewer { turns_after (Q.table q.now) (next_from result (InRatifier self.new))
+            < turns_left (Q.table q.now) (InRatifier (Announce input left)) }
+        ensures step { (word : ℕ) → IsStep (Q.table q.now) (InRatifier (Announce input left))
+            (λ op seen. M.makes memory.old object op seen memory.new) word
+            (next_from result (InRatifier self.new)) }
+    {
+        if left == 0 {
+            let seen = memory.perform(object, Op::Load(Reg::Proposal));
+            self.found(q, input, left, seen)
+        } else {
+            memory.perform(object, Op::Store(Reg::Quorum(least(left)), 1));
+            self.stored(q, input, left)
+        }
+    }
+
+    /// What follows the store in the least of these registers: it is no longer left.
+    #[inline(always)]
+    fn stored<Q: Quorums>(&mut self, q: &Q, input: u32, left: u64) -> Option<Out>
+        requires input { input < (Q.table q.now).values }
+        requires some { left ≢ 0 }
+        ensures fits { IsNext (Q.table q.now) (next_from result (InRatifier self.new)) }
+        ensures fewer { turns_after (Q.table q.now) (next_from result (InRatifier self.new))
+            < turns_left (Q.table q.now) (InRatifier (Announce input left)) }
+        ensures reached { (seen : ℕ) → RatifierReaches (Q.table q.now) (Announce input left) seen
+            (next_from result (InRatifier self.new)) }
+    {
+        let left = without(left, least(left));
+        *self = Self::Announce { input, left };
+        None
+    }
+
+    /// What follows the load of the proposal, when no register is left to set.
+    #[inline(always)]
+    fn found<Q: Quorums>(&mut self, q: &Q, input: u32, left: u64, seen: u64) -> Option<Out>
+        requires input { input < (Q.table q.now).values }
+        requires none { left ≡ 0 }
+        ensures fits { IsNext (Q.table q.now) (next_from result (InRatifier self.new)) }
+        ensures fewer { turns_after (Q.table q.now) (next_from result (InRatifier self.new))
+            < turns_left (Q.table q.now) (InRatifier (Announce input left)) }
+        ensures reached { RatifierReaches (Q.table q.now) (Announce input left) seen
+            (next_from result (InRatifier self.new)) }
+    {
+        if 0 < seen && seen <= u64::from(q.values()) {
+            let preference = (seen - 1) as u32;
+            self.checks(preference, q.read_quorum(preference))
+        } else {
+            *self = Self::Propose { input };
+            None
+        }
+    }
+
+    /// What follows the store of the input in the proposal.
+    #[inline(always)]
+    fn proposed<Q: Quorums>(&mut self, q: &Q, input: u32) -> Option<Out>
+        requires { input < (Q.table q.now).values }
+        ensures fits { IsNext (Q.table q.now) (next_from result (InRatifier self.new)) }
+        ensures fewer { turns_after (Q.table q.now) (next_from result (InRatifier self.new))
+            < turns_left (Q.table q.now) (InRatifier (Propose input)) }
+        ensures reached { (seen : ℕ) → RatifierReaches (Q.table q.now) (Propose input) seen
+            (next_from result (InRatifier self.new)) }
+    {
+        self.checks(input, q.read_quorum(input))
+    }
+
+    /// What follows the load of the least register that is left of the preference's read quorum.
+    #[inline(always)]
+    fn checked<Q: Quorums>(&mut self, q: &Q, preference: u32, left: u64, seen: u64) -> Option<Out>
+        requires { IsRatifierPlace (Q.table q.now) (Check preference left) }
+        ensures fits { IsNext (Q.table q.now) (next_from result (InRatifier self.new)) }
+        ensures fewer { turns_after (Q.table q.now) (next_from result (InRatifier self.new))
+            < turns_left (Q.table q.now) (InRatifier (Check preference left)) }
+        ensures reached { RatifierReaches (Q.table q.now) (Check preference left) seen
+            (next_from result (InRatifier self.new)) }
+    {
+        if seen == 0 {
+            self.checks(preference, without(left, least(left)))
+        } else {
+            Some(Out::undecided(preference))
+        }
+    }
+
+    /// Goes on to the registers that are left of the preference's read quorum. If none is left, it has decided.
+    #[inline(always)]
+    fn checks(&mut self, preference: u32, left: u64) -> Option<Out>
+        ensures fits { (t : QuorumTable) → preference < t.values
+            → IsNext t (next_from result (InRatifier self.new)) }
+        ensures fewer { (t : QuorumTable)
+            → turns_after t (next_from result (InRatifier self.new)) ≤ count_ones left }
+        ensures reached { (t : QuorumTable) (v bound : ℕ) (turns : List Turn)
+            → preference < t.values → bound ≤ t.registers
+            → IsRest (t.read preference) bound left → ReadsClear t v preference bound (acts turns)
+            → IsReached t Ratifier v (next_from result (InRatifier self.new)) turns }
+    {
+        if left == 0 {
+            Some(Out::decided(preference))
+        } else {
+            *self = Self::Check { preference, left };
+            None
+        }
+    }
+}

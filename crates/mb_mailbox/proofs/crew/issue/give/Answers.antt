@@ -1,0 +1,28 @@
+use Rattle.std.proofs.Common.{◌≡◌, ap, arith, length, subst, ◌∙◌}
+use Rattle.mb_mailbox.specs.Hubs.{HubView}
+use Rattle.mb_mailbox.specs.HubRuns.{ArePollJobs, with_consumers}
+use Rattle.mb_mailbox.proofs.HubRuns.{same_by_producers}
+use Rattle.mb_mailbox.proofs.crew.issue.give.Goals as goal
+use Rattle.std.proofs.Common.{refl, ℕ}
+
+pub give_consumers-requires-clause-left : goal.give_consumers-requires-clause-left
+give_consumers-requires-clause-left g c =
+    let same : length c.give_producers.new.hub.ledgers ≡ length c.args.hub.now.ledgers =
+    ap (λ (h : HubView). length h.ledgers) c.give_producers.ensures.hub
+    ∙ ap length (same_by_producers (λ h. h.ledgers) (λ h. refl) c.give_producers.new.jobs.items c.args.hub.now) in
+    omega (arith, same, c.requires.consumers)
+
+pub returns-clause-given : goal.returns-clause-given
+returns-clause-given g c =
+    let same : length c.give_producers.new.hub.ledgers ≡ length c.args.hub.now.ledgers =
+    ap (λ (h : HubView). length h.ledgers) c.give_producers.ensures.hub
+    ∙ ap length (same_by_producers (λ h. h.ledgers) (λ h. refl) c.give_producers.new.jobs.items c.args.hub.now) in
+    record {
+      puts = c.give_producers.ensures.jobs;
+      polls = subst (λ (n : ℕ). ArePollJobs c.args.mailbox.now n c.give_consumers.new.jobs.items)
+          same c.give_consumers.ensures.jobs;
+      small = omega (arith, c.give_producers.ensures.few, c.args.items.ok.0);
+      few = c.give_consumers.ensures.few;
+      hub = c.give_consumers.ensures.hub ∙ ap (with_consumers c.give_consumers.new.jobs.items)
+          c.give_producers.ensures.hub;
+    }

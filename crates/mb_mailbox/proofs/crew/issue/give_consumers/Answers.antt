@@ -1,0 +1,42 @@
+use Rattle.std.proofs.Common.{arith, ap, sym, ◌∙◌, ◌++◌, length, None, [], ◌∷◌}
+use Rattle.std.proofs.lemmas.Grind.{common_steps}
+use Rattle.std.proofs.lemmas.List.{length-append, map-append, nil_from_length}
+use Rattle.mb_mailbox.specs.Hubs.{HubView, with_consumer}
+use Rattle.mb_mailbox.proofs.HubRuns.{consumers_snoc}
+use Rattle.mb_mailbox.proofs.Loops.{new_number, poll_jobs_more}
+use Rattle.mb_mailbox.proofs.Zips.{all_seen, next_seen}
+use Rattle.mb_mailbox.proofs.crew.issue.give_consumers.Goals as goal
+
+pub loop-rng-preserved : goal.loop-rng-preserved
+loop-rng-preserved g c =
+    let i = c.loop-rng.invariant in
+    let count = i.ledgers in
+    let jobs = c.loop-rng.jobs.ok.0 in
+    let hub = c.in-Ok-consumer.ensures.hub in
+    let len = c.push_reserved.ensures.len in
+    let longer = ap (λ (h : HubView). length h.ledgers) hub ∙ length-append c.loop-rng.hub.ledgers (None ∷ []) in
+    record {
+      rest = next_seen _ _ _ _ _ i.rest c.in-Some.ensures.steps.0;
+      sources = rw c.push_reserved.ensures.items
+          (map-append (λ j. j.rng) c.loop-rng.jobs.items _ ∙ ap (λ l. l ++ c.in-Some.rng ∷ []) i.sources);
+      left = grind (arith, common_steps);
+      room = grind (arith, common_steps);
+      jobs = rw c.push_reserved.ensures.items
+          (poll_jobs_more c.args.mailbox.now (length c.args.hub.now.ledgers)
+          (length c.loop-rng.hub.ledgers) c.loop-rng.jobs.items _
+          i.jobs (omega (arith, count, jobs))
+          (new_number c.args.mailbox.now c.loop-rng.hub c.in-Ok-consumer.consumer
+          c.in-Ok-consumer.ensures.consumer));
+      hub = rw c.push_reserved.ensures.items
+          (hub ∙ ap with_consumer i.hub ∙
+          sym (consumers_snoc c.loop-rng.jobs.items _ c.args.hub.now));
+      all_of = c.in-Ok-consumer.ensures.of;
+      ledgers = omega (arith, count, len, longer);
+    }
+
+pub returns-clause-all : goal.returns-clause-all
+returns-clause-all g c = λ done.
+    let none = nil_from_length c.loop-rng.rng-iterator.rest.items
+    (sym c.loop-rng.rng-iterator.rest.ok.0 ∙ c.in-None.ensures.steps.0) in
+    c.loop-rng.invariant.sources ∙ all_seen c.loop-rng.yielded c.loop-rng.rng-iterator.rest.items
+    c.args.rngs.items c.loop-rng.invariant.rest none

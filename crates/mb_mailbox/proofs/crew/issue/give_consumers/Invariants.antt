@@ -1,0 +1,17 @@
+use Rattle.std.proofs.Common.{◌≡◌, ◌++◌, ◌+◌, ◌≤◌, length, map, vec_len, vec_capacity}
+use Rattle.std.specs.Vec.Iter.{into_iter_items, into_iter_len}
+use Rattle.mb_mailbox.specs.Hubs.{IsHubOf}
+use Rattle.mb_mailbox.specs.HubRuns.{ArePollJobs, with_consumers}
+use Rattle.mb_mailbox.proofs.crew.issue.give_consumers.Given as goal
+
+abbrev pub invariant-loop-rng : goal.invariant-loop-rng
+invariant-loop-rng g l = record {
+  rest : l.yielded ++ into_iter_items l.rng-iterator ≡ l.fn.rngs.items;
+  sources : map (λ j. j.rng) l.jobs.items ≡ l.yielded;
+  left : vec_len l.jobs + into_iter_len l.rng-iterator ≡ vec_len l.fn.rngs;
+  room : vec_len l.fn.rngs ≤ vec_capacity l.jobs;
+  jobs : ArePollJobs l.mailbox (length l.fn.hub.ledgers) l.jobs.items;
+  hub : l.hub ≡ with_consumers l.jobs.items l.fn.hub;
+  all_of : IsHubOf l.mailbox l.hub;
+  ledgers : length l.hub.ledgers ≡ length l.fn.hub.ledgers + vec_len l.jobs;
+}

@@ -1,0 +1,39 @@
+use Rattle.std.proofs.Common.{arith, subst, sym, ◌∙◌}
+use Rattle.std.specs.List.{All, AllZip}
+use Rattle.std.proofs.lemmas.List.{nil_from_length}
+use Rattle.std.proofs.lemmas.Grind.{common_steps}
+use Rattle.std.proofs.lemmas.List.Elements.{All-head, All-rest}
+use Rattle.mb_mailbox.specs.Begun.{PollPromises}
+use Rattle.mb_mailbox.specs.Consumers.{IsConsumerOf}
+use Rattle.mb_mailbox.proofs.Zips.{all_seen, next_seen, zip_more}
+use Rattle.mb_mailbox.proofs.crew.spawn.start_polls.Goals as goal
+
+pub loop-job-preserved : goal.loop-job-preserved
+loop-job-preserved g c = record {
+  rest = next_seen _ _ _ _ _ c.loop-job.invariant.rest c.in-Some.ensures.steps.0;
+  all_of = All-rest (λ j. IsConsumerOf c.args.mailbox.now j.consumer) c.in-Some.job _ _
+      c.in-Some.ensures.steps.0 c.loop-job.invariant.all_of;
+  left = grind (arith, common_steps);
+  room = grind (arith, common_steps);
+  promised = rw c.push_reserved.ensures.items
+      (zip_more (PollPromises g.G.Gate.may_stop g.G.Gate.may_pass g.R.Rng.stream c.args.gate.now
+      c.args.lanes.from c.args.lanes.end c.args.lanes.budget) c.loop-job.yielded
+      c.loop-job.begun.items c.in-Some.job c.start_poll.result c.loop-job.invariant.promised
+      c.start_poll.ensures);
+}
+
+pub start_poll-requires-clause-of : goal.start_poll-requires-clause-of
+start_poll-requires-clause-of g c κs within = All-head
+    (λ j. IsConsumerOf c.args.mailbox.now j.consumer) c.in-Some.job _
+    (subst (All (λ j. IsConsumerOf c.args.mailbox.now j.consumer)) c.in-Some.ensures.steps.0
+    c.loop-job.invariant.all_of)
+
+pub returns : goal.returns
+returns g c =
+    let none = nil_from_length c.loop-job.job-iterator.rest.items
+    (sym c.loop-job.job-iterator.rest.ok.0 ∙ c.in-None.ensures.steps.0) in
+    subst (λ l. AllZip (PollPromises g.G.Gate.may_stop g.G.Gate.may_pass g.R.Rng.stream
+    c.args.gate.now c.args.lanes.from c.args.lanes.end c.args.lanes.budget) l
+    c.loop-job.begun.items)
+    (all_seen c.loop-job.yielded c.loop-job.job-iterator.rest.items c.args.jobs.items
+    c.loop-job.invariant.rest none) c.loop-job.invariant.promised

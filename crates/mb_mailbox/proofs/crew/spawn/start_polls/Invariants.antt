@@ -1,0 +1,16 @@
+use Rattle.std.proofs.Common.{◌≡◌, ◌++◌, ◌+◌, ◌≤◌, vec_len, vec_capacity}
+use Rattle.std.specs.Vec.Iter.{into_iter_items, into_iter_len}
+use Rattle.std.specs.List.{All, AllZip}
+use Rattle.mb_mailbox.specs.Consumers.{IsConsumerOf}
+use Rattle.mb_mailbox.specs.Begun.{PollPromises}
+use Rattle.mb_mailbox.proofs.crew.spawn.start_polls.Given as goal
+
+abbrev pub invariant-loop-job : goal.invariant-loop-job
+invariant-loop-job g l = record {
+  rest : l.yielded ++ into_iter_items l.job-iterator ≡ l.fn.jobs.items;
+  all_of : All (λ j. IsConsumerOf l.mailbox j.consumer) (into_iter_items l.job-iterator);
+  left : vec_len l.begun + into_iter_len l.job-iterator ≡ vec_len l.fn.jobs;
+  room : vec_len l.fn.jobs ≤ vec_capacity l.begun;
+  promised : AllZip (PollPromises g.G.Gate.may_stop g.G.Gate.may_pass g.R.Rng.stream l.gate
+      l.fn.lanes.from l.fn.lanes.end l.fn.lanes.budget) l.yielded l.begun.items;
+}

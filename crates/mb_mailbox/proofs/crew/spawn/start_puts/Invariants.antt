@@ -1,0 +1,15 @@
+use Rattle.std.proofs.Common.{◌≡◌, ◌++◌, ◌+◌, ◌≤◌, vec_len, vec_capacity}
+use Rattle.std.specs.Vec.Iter.{into_iter_items, into_iter_len}
+use Rattle.std.specs.List.{All, AllZip}
+use Rattle.mb_mailbox.specs.Producers.{IsProducerOf}
+use Rattle.mb_mailbox.specs.Begun.{PutPromises}
+use Rattle.mb_mailbox.proofs.crew.spawn.start_puts.Given as goal
+
+abbrev pub invariant-loop-job : goal.invariant-loop-job
+invariant-loop-job g l = record {
+  rest : l.yielded ++ into_iter_items l.job-iterator ≡ l.fn.jobs.items;
+  all_of : All (λ j. IsProducerOf l.mailbox j.producer) (into_iter_items l.job-iterator);
+  left : vec_len l.begun + into_iter_len l.job-iterator ≡ vec_len l.fn.jobs;
+  room : vec_len l.fn.jobs ≤ vec_capacity l.begun;
+  promised : AllZip (PutPromises g.G.Gate.may_stop g.G.Gate.may_pass l.gate) l.yielded l.begun.items;
+}

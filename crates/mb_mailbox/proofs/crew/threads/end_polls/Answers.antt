@@ -1,0 +1,19 @@
+use Rattle.std.proofs.Common.{◌≡◌, arith, true}
+use Rattle.std.proofs.lemmas.Grind.{common_steps}
+use Rattle.mb_mailbox.proofs.Zips.{next_seen, zip_more}
+use Rattle.mb_mailbox.proofs.crew.threads.end_polls.Goals as goal
+
+pub loop-job-preserved : goal.loop-job-preserved
+loop-job-preserved g c = record {
+  rest = next_seen _ _ _ _ _ c.loop-job.invariant.rest c.in-Some.ensures.steps.0;
+  left = grind (arith, common_steps);
+  room = grind (arith, common_steps);
+  ends = rw c.push_reserved.ensures.items
+      (zip_more (λ j d. (d.consumer ≡ j.consumer) × (d.stopped ≡ true) × (d.aborted ≡ true))
+      c.loop-job.yielded c.loop-job.done.items c.in-Some.job c.poll_nothing.result
+      c.loop-job.invariant.ends (
+        c.poll_nothing.ensures.consumer,
+        c.poll_nothing.ensures.stopped,
+        c.poll_nothing.ensures.aborted,
+      ));
+}

@@ -1,0 +1,12 @@
+use Rattle.std.proofs.Common.{◌≡◌, ◌++◌, ◌+◌, ◌≤◌, true, vec_len, vec_capacity}
+use Rattle.std.specs.Vec.Iter.{into_iter_items, into_iter_len}
+use Rattle.std.specs.List.{AllZip}
+use Rattle.mb_mailbox.proofs.crew.threads.end_polls.Given as goal
+
+abbrev pub invariant-loop-job : goal.invariant-loop-job
+invariant-loop-job g l = record {
+  rest : l.yielded ++ into_iter_items l.job-iterator ≡ l.fn.jobs.items;
+  left : vec_len l.done + into_iter_len l.job-iterator ≡ vec_len l.fn.jobs;
+  room : vec_len l.fn.jobs ≤ vec_capacity l.done;
+  ends : AllZip (λ j d. (d.consumer ≡ j.consumer) × (d.stopped ≡ true) × (d.aborted ≡ true)) l.yielded l.done.items;
+}

@@ -1,0 +1,38 @@
+-- Lists that are moved into the outline of a report, each to its place.
+use Rattle.std.specs.Prelude.{ℕ, zero, suc, ◌*◌, List, [], ◌∷◌, Option, Some, None}
+use Rattle.mb_world.specs.Report.{DiaryView, LaneView}
+use Rattle.mb_mailbox.specs.Imports.{Note}
+use Rattle.mb_mailbox.specs.Hubs.{ConsumerRecordView, PutListView}
+
+-- the list with the element at place n changed, if there is one
+abbrev pub changed_at : {X : Type 0} → List X → ℕ → (X → X) → List X
+changed_at [] n f = []
+changed_at (x ∷ xs) zero f = f x ∷ xs
+changed_at (x ∷ xs) (suc n) f = x ∷ changed_at xs n f
+
+-- what these make of x, numbered from n on. The last one is applied first
+abbrev pub in_turn : {X Y : Type 0} → (ℕ → Y → X → X) → ℕ → List Y → X → X
+in_turn f n [] x = x
+in_turn f n (y ∷ ys) x = f n y (in_turn f (suc n) ys x)
+
+-- the list with each element from place n on changed by the next of these
+abbrev pub changed_from : {X Y : Type 0} → (Y → X → X) → ℕ → List Y → List X → List X
+changed_from change n ys xs = in_turn (λ i y zs. changed_at zs i (change y)) n ys xs
+
+-- the lane with the items of its producer, if the producer was taken in
+abbrev pub with_items : Option PutListView → LaneView → LaneView
+with_items None l = l
+with_items (Some k) l = record l { put = k.items }
+
+-- the diary with these notes
+abbrev pub with_notes : List Note → DiaryView → DiaryView
+with_notes notes d = record d { notes = notes }
+
+-- the diaries with the notes of a consumer, if it was taken in. Its first diary stands at this place
+abbrev pub with_row : ℕ → Option ConsumerRecordView → List DiaryView → List DiaryView
+with_row first None ds = ds
+with_row first (Some l) ds = changed_from with_notes first l.notes ds
+
+-- the diaries with the notes of all consumers from c on, if there are this many lanes
+abbrev pub with_rows : ℕ → ℕ → List (Option ConsumerRecordView) → List DiaryView → List DiaryView
+with_rows lanes c os ds = in_turn (λ d o es. with_row (d * lanes) o es) c os ds

@@ -1,0 +1,147 @@
+//! How a consumer moves on by one access. The functions compute nothing. Their contracts are the laws on which the
+//! steps stand, and their bodies name the laws below.
+ghost use Rattle.std.specs.Prelude.{ℕ, ◌≡◌, ◌≢◌, ◌+◌, ◌<◌, ◌⊎◌, List, [], ◌∷◌, None, Some, length, sum_by};
+ghost use Rattle.mb_claim.specs.declared.access.ClaimOp.{ClaimOp};
+ghost use Rattle.mb_claim.specs.declared.access.Stage.TheVariants as stage;
+ghost use Rattle.mb_cells.specs.declared.cursor.Cursor.TheVariants.{Past};
+ghost use Rattle.mb_mailbox.specs.Imports.{Claim, Cursor, END, Gave, IsAccessAfter, Item, MayRead, Note, Took, access_of};
+ghost use Rattle.mb_mailbox.specs.Imports.{claim_stage, consumer_of, load, note_of, part_on, word_of};
+ghost use Rattle.mb_mailbox.specs.Imports.{ReaderSeatView, ToCells, ToClaims, claims_at, look_of};
+ghost use Rattle.mb_mailbox.specs.Consumers.{ConsumerView, IsConsumer, parts_of};
+ghost use Rattle.mb_mailbox.specs.ConsumerStep.{ConsumerStep, link_answer, stage_answer};
+ghost use Rattle.mb_mailbox.specs.Laws.{Laws};
+ghost use Rattle.mb_mailbox.specs.Moves.{HasLoads, HasPlace, HasTurns, reads_with_item, reads_with_link, moved_to};
+ghost use Rattle.mb_mailbox.specs.NoteLists.{place_after};
+ghost use Rattle.mb_mailbox.specs.Steps.{AnswerTells, HasNoteOnEach};
+ghost use Rattle.mb_mailbox.specs.declared.consumer.Poll.TheVariants as poll;
+ghost use Rattle.mb_shared_cells.specs.Vocabulary.{LookMakes};
+ghost use Rattle.mb_cells.specs.declared.answer.Look.TheVariants as look;
+ghost use Rattle.mb_mailbox.specs.declared.place.Place.TheVariants.{At, Before};
+
+use mb_cells::laws::{cells_stand_once, lanes_share_cells, looks_tell_links, readers_follow_lanes};
+use mb_cells::steps::{
+    accesses_lengthen_one_part as loads_lengthen_one_part, history_extends, parts_have_accesses,
+};
+use mb_claim::laws::{layouts_are_sound, prefixes_have_one_stage};
+use mb_claim::steps::accesses_lengthen_one_part;
+use mb_shared_cells::laws::known_lanes_are_read_whole;
+use mb_world::steps::{loads_meet_cells, parts_fit_on};
+
+/// What the laws of the crates below say of the parts of one consumer.
+fn laws_hold()
+    ensures { Laws }
+{
+    cells_stand_once();
+    lanes_share_cells();
+    readers_follow_lanes();
+    history_extends();
+    parts_have_accesses();
+    loads_lengthen_one_part();
+    layouts_are_sound();
+    prefixes_have_one_stage();
+    accesses_lengthen_one_part();
+    loads_meet_cells();
+    parts_fit_on();
+}
+
+/// What an access makes of a consumer, and what its place lets it do.
+pub(super) fn consumers_move_on()
+    // Before a link it may load that link.
+    ensures may_look { (s : ConsumerView) (p : ℕ) (at : Cursor) → IsConsumer s → HasLoads s
+        → HasPlace p (Before at) s
+        → MayRead s.reader.table.size.lanes (word_of at) s.reader.part }
+
+    // If the link leads to no cell, the consumer stays there.
+    ensures waits { (s : ConsumerView) (p v : ℕ) (at : Cursor) → IsConsumer s → HasLoads s
+        → HasPlace p (Before at) s → (v ≡ 0) ⊎ (v ≡ END)
+        → IsConsumer (moved_to p (Before at) None (reads_with_link s at v) s.seat.part s) }
+
+    // If it leads to a cell, the consumer then holds a new claim there.
+    ensures finds { (s : ConsumerView) (p k : ℕ) (at : Cursor) (claim : Claim) → IsConsumer s
+        → HasLoads s → HasPlace p (Before at) s → k + 1 ≢ END
+        → IsAccessAfter s.reader.table.size s.reader.known
+        (load s.reader.reader (word_of at) (k + 1)) s.reader.part
+        → consumer_of claim ≡ s.seat.consumer → claim_stage claim ≡ stage.Going
+        → HasTurns s claim []
+        → IsConsumer (moved_to p (At k claim) None (reads_with_link s at (k + 1)) s.seat.part s) }
+
+    // A claim that it holds is its own, is on a cell that it was given, and goes on or is won. There is room for its
+    // note.
+    ensures own { (s : ConsumerView) (p k : ℕ) (claim : Claim) → IsConsumer s
+        → HasPlace p (At k claim) s → consumer_of claim ≡ s.seat.consumer }
+    ensures turns { (s : ConsumerView) (p k : ℕ) (claim : Claim) → IsConsumer s
+        → HasPlace p (At k claim) s → HasTurns s claim (part_on s.seat.consumer k s.seat.part) }
+    ensures going { (s : ConsumerView) (p k : ℕ) (claim : Claim) → IsConsumer s
+        → HasPlace p (At k claim) s → claim_stage claim ≢ stage.Won
+        → claim_stage claim ≡ stage.Going }
+    ensures given { (s : ConsumerView) (p k : ℕ) (claim : Claim) → IsConsumer s → HasLoads s
+        → HasPlace p (At k claim) s → Gave k s.reader.part }
+    ensures within { (s : ConsumerView) (p k : ℕ) (claim : Claim) → IsConsumer s → HasLoads s
+        → HasPlace p (At k claim) s → k < s.reader.table.size.cells }
+    ensures room { (s : ConsumerView) (p k : ℕ) (claim : Claim) → IsConsumer s → HasLoads s
+        → HasPlace p (At k claim) s → sum_by length s.notes < s.reader.table.size.cells }
+
+    // After an access of that claim, the claim's stage determines its place and its note.
+    ensures competes { (s : ConsumerView) (p k word seen : ℕ) (claim now : Claim) (next : ClaimOp)
+        → IsConsumer s → HasLoads s → HasPlace p (At k claim) s
+        → consumer_of now ≡ s.seat.consumer
+        → let made = access_of s.seat.consumer k next seen word ∷ s.seat.part in
+        HasTurns s now (part_on s.seat.consumer k made)
+        → IsConsumer (moved_to p (place_after k now (claim_stage now)) (note_of (claim_stage now))
+        s.reader.part made s) }
+
+    // If the claim is won, it loads the item.
+    ensures takes { (s : ConsumerView) (p k v : ℕ) (claim : Claim) → IsConsumer s → HasLoads s
+        → HasPlace p (At k claim) s → claim_stage claim ≡ stage.Won
+        → IsConsumer (moved_to p (Before (Past k)) (Some (Took v)) (reads_with_item s k v)
+        s.seat.part s) }
+{
+    laws_hold();
+}
+
+/// The next access of a consumer on a lane, by its place there.
+pub(super) fn places_tell_steps()
+    // Before a link it is the load of that link.
+    ensures looks { (s : ConsumerView) (p v : ℕ) (at : Cursor) → IsConsumer s
+        → HasPlace p (Before at) s
+        → ConsumerStep (claims_at s.seat.table) s.seat.consumer p (parts_of s.reader s.seat)
+        (ToCells (load s.reader.reader (word_of at) v)) (link_answer (look_of v)) }
+
+    // With a claim that goes on it is the claim's access, which leads to a stage.
+    ensures competes { (s : ConsumerView) (p k word seen : ℕ) (claim now : Claim) (next : ClaimOp)
+        → IsConsumer s → HasPlace p (At k claim) s → claim_stage claim ≡ stage.Going
+        → consumer_of now ≡ s.seat.consumer
+        → let a = access_of s.seat.consumer k next seen word in
+        HasTurns s now (part_on s.seat.consumer k (a ∷ s.seat.part))
+        → ConsumerStep (claims_at s.seat.table) s.seat.consumer p (parts_of s.reader s.seat)
+        (ToClaims a) (stage_answer (claim_stage now)) }
+
+    // With a claim that is won it is the load of the item.
+    ensures takes { (s : ConsumerView) (p k v : ℕ) (claim : Claim) → IsConsumer s
+        → HasPlace p (At k claim) s → claim_stage claim ≡ stage.Won
+        → ConsumerStep (claims_at s.seat.table) s.seat.consumer p (parts_of s.reader s.seat)
+        (ToCells (load s.reader.reader (Item k) v)) (Some (poll.Took v)) }
+{
+    laws_hold();
+}
+
+/// What the answers of a consumer's accesses say of their lane.
+pub(super) fn answers_tell_lanes()
+    // Before a link it has a note on each cell that it met on the lane.
+    ensures noted { (s : ConsumerView) (p : ℕ) (at : Cursor) → IsConsumer s
+        → HasPlace p (Before at) s
+        → HasNoteOnEach p s }
+
+    // If a link leads to no cell, the consumer has a note on each cell that it met. If the lane was taken in before
+    // the consumer was given, it has met all that was put there.
+    ensures nothing { (s : ConsumerView) (p : ℕ) (at : Cursor) (now : ReaderSeatView) → IsConsumer s
+        → HasLoads s → HasPlace p (Before at) s → LookMakes s.reader at look.Nothing now
+        → AnswerTells p (Some poll.Nothing) s (record s { reader = now }) }
+    ensures ended { (s : ConsumerView) (p : ℕ) (at : Cursor) (now : ReaderSeatView) → IsConsumer s
+        → HasLoads s → HasPlace p (Before at) s → LookMakes s.reader at look.Ended now
+        → AnswerTells p (Some poll.Ended) s (record s { reader = now }) }
+{
+    laws_hold();
+    looks_tell_links();
+    known_lanes_are_read_whole();
+}

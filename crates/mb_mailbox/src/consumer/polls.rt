@@ -1,0 +1,84 @@
+//! A poll: the consumer's place, and what it does from there.
+use super::moves::{answers_tell_lanes, consumers_move_on, places_tell_steps};
+use super::places::place_at;
+use super::pursuit::{PendingClaim, run_claim};
+use super::{Consumer, Poll};
+use crate::mailbox::Mailbox;
+use crate::place::Place;
+use mb_cells::Look;
+use mb_cells::laws::looks_tell_links;
+use mb_claim::Claim;
+use rand_core::Rng;
+use std::alloc::Allocator;
+
+impl<A: Allocator + Drop> Consumer<A> {
+    ghost use Rattle.std.specs.Prelude.{◌≡◌, ◌≢◌, ◌↔◌, ◌≤◌, ◌+◌, true};
+    ghost use Rattle.mb_claim.specs.Vocabulary.{most_accesses, shape_of};
+    ghost use Rattle.mb_mailbox.specs.declared.consumer.Poll.TheVariants.{NoLane, Spent, Undecided};
+    ghost use Rattle.mb_mailbox.specs.Consumers.{IsConsumerOf};
+    ghost use Rattle.mb_mailbox.specs.Steps.{AnswerTells, IsPollOf, outcome};
+
+    /// Makes accesses on a lane until one has an answer, or until it has made as many as the budget allows. It draws
+    /// one word from the source for each access of a claim. If the consumer then holds a claim, it keeps it, and the
+    /// next poll of the lane goes on with it. [`Poll::NoLane`] comes first, if there is no such lane, and changes
+    /// nothing. It waits for nobody and takes no memory.
+    pub fn poll<B: Allocator + Drop, R: Rng>(
+        &mut self,
+        mailbox: &Mailbox<B>,
+        lane: u64,
+        budget: u64,
+        rng: &mut R,
+    ) -> Poll
+        requires of { IsConsumerOf mailbox.now self.old }
+        ensures no_lane { (result ≡ NoLane) ↔ (mailbox.now.cells.size.lanes ≤ lane) }
+        ensures refused { result ≡ NoLane
+            → (self.new ≡ self.old) × (R.stream rng.new ≡ R.stream rng.old) }
+
+        // Each access is the next one on that lane, and the first that comes to an answer is the last.
+        ensures polled { result ≢ NoLane
+            → IsPollOf lane budget result (R.stream rng.old) (R.stream rng.new) self.old self.new }
+
+        // With a budget for a whole claim, its link and its item, it is never spent. So it leaves no claim held on
+        // the lane (`told: noted`). If each cell has a last object, it is never undecided.
+        ensures unspent { most_accesses mailbox.now.claims.layout + 2 ≤ budget → result ≢ Spent }
+        ensures decided { (shape_of mailbox.now.claims.layout).last ≡ true → result ≢ Undecided }
+
+        // What the answer says of the lane, even if its producer was taken in before the consumer was given.
+        ensures told { result ≢ NoLane → AnswerTells lane (outcome result) self.old self.new }
+        ensures of { IsConsumerOf mailbox.now self.new }
+    {
+        if lane >= self.places.len() as u64 {
+            return Poll::NoLane;
+        }
+        if budget == 0 {
+            return Poll::Spent;
+        }
+        consumers_move_on();
+        places_tell_steps();
+        answers_tell_lanes();
+        looks_tell_links();
+        self.reader.has_history();
+        let lane = lane as u32;
+        let Consumer {
+            reader,
+            seat,
+            places,
+            notes,
+        } = self;
+        let at = match place_at(places, lane as usize) {
+            Place::Before(at) => at,
+            Place::At { cell, claim } => {
+                let held = PendingClaim { lane, cell, claim };
+                return run_claim(places, notes, reader, seat, mailbox, held, budget, rng);
+            }
+        };
+        let cell = match mailbox.cells.look(reader, at) {
+            Look::Nothing => return Poll::Nothing,
+            Look::Ended => return Poll::Ended,
+            Look::Cell(cell) => cell,
+        };
+        let claim = Claim::new(mailbox.claims.layout(), seat.consumer());
+        let held = PendingClaim { lane, cell, claim };
+        run_claim(places, notes, reader, seat, mailbox, held, budget - 1, rng)
+    }
+}

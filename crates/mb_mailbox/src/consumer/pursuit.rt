@@ -1,0 +1,132 @@
+//! What a poll does with a claim. It keeps the claim in a variable of its own, and writes the consumer's place once.
+//! So an item with four consumers costs a seventh fewer instructions than if each step wrote the claim into its
+//! place.
+ghost use Rattle.std.specs.Prelude.{ℕ, ◌≡◌, ◌≢◌, ◌<◌, ◌≤◌, None, Some, slice_set, true};
+ghost use Rattle.arrayvec.specs.ArrayVec.{array_vec_len};
+ghost use Rattle.mb_claim.specs.declared.access.Stage.TheVariants as stage;
+ghost use Rattle.mb_claim.specs.Vocabulary.{most_accesses, shape_of};
+ghost use Rattle.mb_cells.specs.declared.cursor.Cursor.TheVariants.{Past};
+ghost use Rattle.mb_shared_cells.specs.Vocabulary.{ItemMakes};
+ghost use Rattle.mb_mailbox.specs.Imports.{Gave, Stream, Took, claim_stage};
+ghost use Rattle.mb_mailbox.specs.Consumers.{ConsumerView, IsConsumer, IsConsumerOf};
+ghost use Rattle.mb_mailbox.specs.NoteLists.{HasAllRoom, HasRoom, NotesGrow};
+ghost use Rattle.mb_mailbox.specs.Pursuits.{IsPursuit, consumer_with, holding};
+ghost use Rattle.mb_mailbox.specs.Steps.{AreSteps};
+ghost use Rattle.mb_mailbox.specs.declared.consumer.Poll.TheVariants as poll;
+ghost use Rattle.mb_mailbox.specs.declared.place.Place.TheVariants.{Before};
+
+use super::Poll;
+use super::moves::{consumers_move_on, places_tell_steps};
+use super::places::{leave, stay};
+use crate::mailbox::Mailbox;
+use crate::notes::Notes;
+use crate::place::Place;
+use arrayvec::ArrayVec;
+use mb_claim::{Claim, Stage};
+use mb_shared_cells::ReaderSeat;
+use mb_shared_claims::ClaimSeat;
+use mb_world::Note;
+use rand_core::Rng;
+use std::alloc::Allocator;
+
+/// Loads the item of cell `k`, and moves past the cell on this lane.
+#[inline(always)]
+fn take<A: Allocator + Drop, B: Allocator + Drop>(
+    places: &mut ArrayVec<Place, 16>,
+    notes: &mut Notes<A>,
+    reader: &mut ReaderSeat,
+    mailbox: &Mailbox<B>,
+    lane: u32,
+    k: u32,
+) -> u64
+    requires table { reader.old.table ≡ mailbox.now.cells }
+    requires may { Gave k reader.old.part }
+    requires place { lane < array_vec_len places.old }
+    requires room { HasRoom lane notes.old }
+    ensures makes { ItemMakes reader.old k result reader.new }
+    ensures place { places.new.items ≡ slice_set places.old.items lane (Before (Past k)) }
+    ensures notes { NotesGrow lane (Some (Took result)) notes.old notes.new }
+{
+    let item = mailbox.cells.item(reader, k);
+    leave(places, notes, lane, k, Note::Took(item));
+    item
+}
+
+/// A claim that a consumer holds, on the last cell that it met on a lane.
+#[derive(Clone, Copy)]
+pub(super) struct PendingClaim {
+    pub(super) lane: u32,
+    pub(super) cell: u32,
+    pub(super) claim: Claim,
+}
+
+/// Goes on with a claim that is held. It goes to the claim's end, to the item if the claim is won, or until it has
+/// made this many accesses. It takes the consumer's fields, not the consumer. From the first access to the last the
+/// place is out of date, so the fields are not those of a consumer.
+#[inline(always)]
+pub(super) fn run_claim<A: Allocator + Drop, B: Allocator + Drop, R: Rng>(
+    places: &mut ArrayVec<Place, 16>,
+    notes: &mut Notes<A>,
+    reader: &mut ReaderSeat,
+    seat: &mut ClaimSeat,
+    mailbox: &Mailbox<B>,
+    held: PendingClaim,
+    most: u64,
+    rng: &mut R,
+) -> Poll
+    requires held { IsConsumer (holding held.lane held.cell held.claim
+        (consumer_with reader.old seat.old places.old.items notes.old)) }
+    requires won { claim_stage held.claim ≡ stage.Won → 0 < most }
+    requires of { IsConsumerOf mailbox.now
+        (consumer_with reader.old seat.old places.old.items notes.old) }
+    requires lane { held.lane < array_vec_len places.old }
+    requires wide { HasAllRoom reader.old.table.size.cells notes.old }
+
+    // If the accesses before came to no answer, the poll is these accesses and those made here.
+    ensures pursued { (from : ConsumerView) (n : ℕ) (t : Stream)
+        → AreSteps held.lane n None t (R.stream rng.old) from
+        (holding held.lane held.cell held.claim
+        (consumer_with reader.old seat.old places.old.items notes.old))
+        → IsPursuit held.lane n most result t (R.stream rng.new) from
+        (consumer_with reader.new seat.new places.new.items notes.new) }
+    ensures wide { HasAllRoom reader.new.table.size.cells notes.new }
+
+    // A claim ends after no more accesses than its layout allows. With a last object it is decided then.
+    ensures few { result ≡ poll.Spent → most ≤ most_accesses mailbox.now.claims.layout }
+    ensures decided { (shape_of mailbox.now.claims.layout).last ≡ true → result ≢ poll.Undecided }
+{
+    consumers_move_on();
+    places_tell_steps();
+    reader.has_history();
+    let PendingClaim {
+        lane,
+        cell,
+        mut claim,
+    } = held;
+    let p = lane as usize;
+    if let Stage::Won = claim.stage() {
+        return Poll::Took(take(places, notes, reader, mailbox, lane, cell));
+    }
+    let made = mailbox.claims.run(seat, &mut claim, cell, rng, most);
+    match claim.stage() {
+        Stage::Going => {
+            stay(places, p, cell, claim);
+            Poll::Spent
+        }
+        Stage::Won => {
+            if made < most {
+                return Poll::Took(take(places, notes, reader, mailbox, lane, cell));
+            }
+            stay(places, p, cell, claim);
+            Poll::Spent
+        }
+        Stage::Lost(w) => {
+            leave(places, notes, lane, cell, Note::Lost(w));
+            Poll::Lost(w)
+        }
+        Stage::Undecided => {
+            leave(places, notes, lane, cell, Note::Undecided);
+            Poll::Undecided
+        }
+    }
+}

@@ -1,0 +1,298 @@
+//! Workers in threads: producers that each put a list, and consumers that poll until all lanes of these producers
+//! have ended.
+ghost use Rattle.std.specs.Prelude.{◌≡◌, ◌≢◌, ◌↔◌, ◌+◌, ◌-◌, ◌^◌, ◌<◌, ◌≤◌, ◌⊎◌, Err, IfErr, IfOk, IsOk, length, map, min, vec_len};
+ghost use Rattle.std.specs.List.{sum_by};
+ghost use Rattle.mb_mailbox.specs.declared.crew.WorkFault.TheVariants.{AllGiven, BadBudget, NoMemory, NoThread};
+ghost use Rattle.mb_mailbox.specs.Imports.{consumer_count};
+ghost use Rattle.mb_mailbox.specs.Called.{IsCalled};
+ghost use Rattle.mb_mailbox.specs.Hubs.{HubView, IsHubOf};
+ghost use Rattle.mb_mailbox.specs.Rooms.{HasJobRoom, HasRoom};
+ghost use Rattle.mb_mailbox.specs.Runs.{AreEndsAt, AreOn, count_stopped, with_taken};
+ghost use Rattle.mb_mailbox.specs.Worked.{AsksTooMany, IsWorked, WereTakenIn, WereTakenInEarly, lists_in};
+
+mod collect;
+mod ends;
+mod issue;
+mod jobs;
+mod join;
+mod room;
+mod spawn;
+mod threads;
+mod worker;
+mod workers;
+
+use crate::gate::Gate;
+use crate::hub::Hub;
+use crate::mailbox::Mailbox;
+use collect::{WorkTotals, take_all};
+use ends::ends_tell_notes;
+use issue::give;
+use jobs::Lanes;
+use rand_core::Rng;
+use room::{WorkerBuffers, WorkerInputs, WorkerResults, room_for_jobs, room_for_workers};
+use std::alloc::Allocator;
+use std::error::Error;
+use std::fmt;
+use std::sync::Wait;
+use std::sync::atomic::AtomicBool;
+use std::thread::Threads;
+use threads::{end_all, run};
+
+/// What the workers of a run came to.
+#[derive(Clone, Copy, PartialEq, Eq, Debug)]
+pub struct Worked {
+    /// Items that the producers that were not stopped did not put: each got the answer `Full`, or follows an item
+    /// that got it. It stays at 2^64 - 1 once there.
+    pub full: u64,
+    /// Workers that were stopped. Each was stopped before call 2^64 - 1, or before a call at which the gate may stop
+    /// it.
+    pub stopped: u64,
+}
+
+/// Why no run came to its end.
+#[derive(Clone, Copy, PartialEq, Eq, Debug)]
+pub enum WorkFault {
+    /// There are more lists than lanes left, or more sources than numbers of consumers left. Nothing was given.
+    AllGiven,
+    /// The budget is 0. Nothing was given.
+    BadBudget,
+    /// The allocator refused what the run needs. Each producer given has ended its lane, and all that was given is
+    /// taken in.
+    NoMemory,
+    /// A thread could not be started. It comes only if there is a list or a source. Each producer given has ended its
+    /// lane, and all that was given is taken in.
+    NoThread,
+}
+
+impl fmt::Display for WorkFault {
+    fn fmt<W: fmt::Write>(&self, f: &mut fmt::Formatter<W>) -> fmt::Result {
+        f.write_str(match self {
+            WorkFault::AllGiven => "more numbers are asked for than the mailbox has left",
+            WorkFault::BadBudget => "the budget is 0",
+            WorkFault::NoMemory => "memory was refused",
+            WorkFault::NoThread => "a thread could not be started",
+        })
+    }
+}
+
+impl Error for WorkFault {}
+
+/// Runs one thread for each list, and one for each source of random words. The first are producers. Each puts its
+/// list in order up to the first `Full`, and then ends its lane. The others are consumers, which are started after
+/// the producers. They poll the lanes given in this call in rising order, round and round, each until it has ended.
+/// Numbers are given in the order of the lists and of the sources. Before its n-th put or poll each worker asks the
+/// gate. It stops if the gate does not let it through.
+///
+/// It hands items out and runs none. Each `Took` note of the report that [`Mailbox::gather`] gives is an item to be
+/// run, once. So is each item that the report leaves. What was not put is in no report: it is the rest of a list
+/// after the items that its lane has put. So keep a copy of the lists.
+///
+/// `budget` is the most accesses of one poll, at least 1. A claim that is cut short is kept and goes on at the next
+/// poll. So with a small budget the gate is asked more often, and a poll costs more. Each consumer draws its random
+/// words from its own source. The first consumer given in this call has the first of `rngs`, and so on.
+///
+/// Faults are decided in the order of [`WorkFault`]. After `NoMemory` and `NoThread` some items may have been taken:
+/// a report says which. The call may wait for its threads, and for nobody else.
+pub fn work<
+    A: Allocator + Clone + Drop + Send + Sync,
+    W: Threads + Wait + Sync,
+    R: Rng + Send + Drop,
+    G: Gate,
+>(
+    alloc: A,
+    rt: &W,
+    mailbox: &Mailbox<A>,
+    hub: &mut Hub<A>,
+    items: Vec<Vec<u64, A>, A>,
+    budget: u64,
+    rngs: Vec<R, A>,
+    gate: &G,
+) -> Result<Worked, WorkFault>
+    requires of { IsHubOf mailbox.now hub.old }
+    ensures all_given { (result ≡ Err AllGiven)
+        ↔ AsksTooMany mailbox.now (vec_len items) (vec_len rngs) hub.old }
+    ensures bad_budget { (result ≡ Err BadBudget)
+        ↔ ((budget ≡ 0) × (AsksTooMany mailbox.now (vec_len items) (vec_len rngs) hub.old → ⊥)) }
+    ensures nothing_given { (result ≡ Err AllGiven) ⊎ (result ≡ Err BadBudget)
+        → hub.new ≡ hub.old }
+
+    // In each case, all that was given is taken in, and each producer given has ended its lane.
+    ensures worked { IfOk result (λ w.
+        IsWorked (G.may_stop gate.now) budget (lists_in items.items) (vec_len rngs) w hub.old
+        hub.new) }
+
+    // Each call of a worker comes at a point at which the gate may let it pass. Each call of a consumer is a poll
+    // with this budget. The first consumer given in this call draws from the first of these sources, and so on.
+    ensures called { IfOk result (λ w. IsCalled (G.may_stop gate.now) (G.may_pass gate.now) budget
+        (lists_in items.items) (map R.stream rngs.items) w hub.old hub.new) }
+    ensures no_thread { result ≡ Err NoThread
+        → WereTakenIn (lists_in items.items) (vec_len rngs) hub.old hub.new }
+    ensures some_thread { result ≡ Err NoThread → 0 < vec_len items + vec_len rngs }
+    ensures no_memory { result ≡ Err NoMemory
+        → WereTakenInEarly (lists_in items.items) (vec_len rngs) hub.old hub.new }
+    ensures of { IsHubOf mailbox.now hub.new }
+{
+    hub.has_history();
+    if items.len() > lanes_left(mailbox, hub) || rngs.len() > consumers_left(mailbox, hub) {
+        return Err(WorkFault::AllGiven);
+    }
+    if budget == 0 {
+        return Err(WorkFault::BadBudget);
+    }
+    let Ok(jobs) = room_for_jobs(&alloc, items.len(), rngs.len()) else {
+        return Err(WorkFault::NoMemory);
+    };
+    let Ok(room) = room_for_workers(&alloc, items.len(), rngs.len()) else {
+        return Err(WorkFault::NoMemory);
+    };
+    work_with(
+        alloc, rt, mailbox, hub, items, budget, rngs, gate, jobs, room,
+    )
+}
+
+/// How many lanes were not given yet.
+pub fn lanes_left<A: Allocator + Drop, B: Allocator + Drop>(
+    mailbox: &Mailbox<B>,
+    hub: &Hub<A>,
+) -> usize
+    ensures { result ≡ mailbox.now.cells.size.lanes - length hub.now.puts }
+{
+    (mailbox.lanes as usize).saturating_sub(hub.puts.len())
+}
+
+/// How many numbers of consumers were not given yet.
+pub fn consumers_left<A: Allocator + Drop, B: Allocator + Drop>(
+    mailbox: &Mailbox<B>,
+    hub: &Hub<A>,
+) -> usize
+    ensures { result ≡ consumer_count mailbox.now.claims.layout - length hub.now.ledgers }
+{
+    (mailbox.claims.layout().consumers() as usize).saturating_sub(hub.ledgers.len())
+}
+
+fn lanes_given<A: Allocator + Drop>(hub: &Hub<A>) -> usize
+    ensures { result ≡ length hub.now.puts }
+{
+    hub.puts.len()
+}
+
+/// A mailbox has at most 16 lanes. It computes nothing: its contract is a law of all mailboxes.
+fn lanes_are_few<B: Allocator + Drop>(mailbox: &Mailbox<B>)
+    ensures { mailbox.now.cells.size.lanes ≤ 16 }
+{
+    // Naming a field makes the invariant of a mailbox known.
+    let _ = &mailbox.cells;
+}
+
+/// The numbers of consumers have 32 bits. It computes nothing: its contract is a law of all mailboxes.
+fn consumers_are_few<B: Allocator + Drop>(mailbox: &Mailbox<B>)
+    ensures { consumer_count mailbox.now.claims.layout < 2 ^ 32 }
+{
+    let _ = mailbox.claims.layout().consumers();
+}
+
+/// The lanes with the next `lists` numbers, and this budget.
+fn next_lanes(given: usize, lists: usize, budget: u64) -> Lanes
+    requires few { given + lists ≤ 16 }
+    requires able { 0 < budget }
+    ensures from { result.from ≡ given }
+    ensures end { result.end ≡ given + lists }
+    ensures budget { result.budget ≡ budget }
+{
+    Lanes {
+        from: given as u32,
+        end: (given + lists) as u32,
+        budget,
+    }
+}
+
+/// A run, after room was taken for all its lists.
+fn work_with<
+    A: Allocator + Clone + Drop + Send + Sync,
+    W: Threads + Wait + Sync,
+    R: Rng + Send + Drop,
+    G: Gate,
+>(
+    alloc: A,
+    rt: &W,
+    mailbox: &Mailbox<A>,
+    hub: &mut Hub<A>,
+    items: Vec<Vec<u64, A>, A>,
+    budget: u64,
+    rngs: Vec<R, A>,
+    gate: &G,
+    mut jobs: WorkerInputs<R, A>,
+    room: WorkerBuffers<G, R, A>,
+) -> Result<Worked, WorkFault>
+    requires of { IsHubOf mailbox.now hub.old }
+    requires lanes { length hub.old.puts + vec_len items ≤ mailbox.now.cells.size.lanes }
+    requires consumers { length hub.old.ledgers + vec_len rngs ≤ consumer_count
+        mailbox.now.claims.layout }
+    requires able { 0 < budget }
+    requires jobs { HasJobRoom (vec_len items) (vec_len rngs) jobs }
+    requires room { HasRoom (vec_len items) (vec_len rngs) room }
+    ensures all_given { result ≢ Err AllGiven }
+    ensures bad_budget { result ≢ Err BadBudget }
+    ensures worked { IfOk result (λ w.
+        IsWorked (G.may_stop gate.now) budget (lists_in items.items) (vec_len rngs) w hub.old
+        hub.new) }
+    ensures called { IfOk result (λ w. IsCalled (G.may_stop gate.now) (G.may_pass gate.now) budget
+        (lists_in items.items) (map R.stream rngs.items) w hub.old hub.new) }
+    ensures no_thread { result ≡ Err NoThread
+        → WereTakenIn (lists_in items.items) (vec_len rngs) hub.old hub.new }
+    ensures some_thread { result ≡ Err NoThread → 0 < vec_len items + vec_len rngs }
+    ensures no_memory { result ≡ Err NoMemory
+        → WereTakenInEarly (lists_in items.items) (vec_len rngs) hub.old hub.new }
+    ensures of { IsHubOf mailbox.now hub.new }
+{
+    hub.has_history();
+    lanes_are_few(mailbox);
+    consumers_are_few(mailbox);
+    let lanes = next_lanes(lanes_given(hub), items.len(), budget);
+    if !give(&alloc, mailbox, hub, items, rngs, &mut jobs) {
+        let ends = end_all(mailbox, jobs, room);
+        take_all(mailbox, hub, ends);
+        return Err(WorkFault::NoMemory);
+    }
+    let running = AtomicBool::new(true);
+    let ends = run(rt, mailbox, jobs, lanes, gate, &running, room);
+    match settle(mailbox, hub, ends) {
+        Ok(worked) => {
+            ends_tell_notes();
+            hub.has_history();
+            Ok(worked)
+        }
+        Err(fault) => Err(fault),
+    }
+}
+
+/// Takes all of them in, and returns what the run came to. There is a fault exactly if one of the ends says that the
+/// run is aborted.
+fn settle<A: Allocator + Drop, B: Allocator + Drop>(
+    mailbox: &Mailbox<B>,
+    hub: &mut Hub<A>,
+    ends: WorkerResults<A>,
+) -> Result<Worked, WorkFault>
+    requires hub { IsHubOf mailbox.now hub.old }
+    requires ends { AreEndsAt mailbox.now ends }
+    ensures full { IfOk result (λ w. w.full ≡ min (2 ^ 64 - 1)
+        (sum_by (λ d. d.full) ends.puts.items)) }
+    ensures stopped { IfOk result (λ w. w.stopped ≡ min (2 ^ 64 - 1) (count_stopped ends)) }
+    ensures on { IfOk result (λ _. AreOn ends) }
+    ensures aborted { AreOn ends → IsOk result }
+    ensures fault { IfErr result (λ e. e ≡ NoThread) }
+    ensures some { IfErr result (λ _. 0 < length ends.puts.items + length ends.polls.items) }
+    ensures hub { hub.new ≡ with_taken ends hub.old }
+    ensures of { IsHubOf mailbox.now hub.new }
+{
+    let WorkTotals {
+        full,
+        stopped,
+        aborted,
+    } = take_all(mailbox, hub, ends);
+    if aborted {
+        Err(WorkFault::NoThread)
+    } else {
+        Ok(Worked { full, stopped })
+    }
+}

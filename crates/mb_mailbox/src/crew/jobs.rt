@@ -1,0 +1,88 @@
+//! What a worker is given, what it promises, and what it gives back.
+ghost use Rattle.std.specs.Prelude.{◌≡◌, ◌<◌, ◌≤◌, [], false};
+ghost use Rattle.mb_mailbox.specs.Producers.{is_over};
+
+use crate::consumer::Consumer;
+use crate::gate::Gate;
+use crate::producer::Producer;
+use rand_core::Rng;
+use std::alloc::Allocator;
+use std::snapshot::Snapshot;
+use std::thread::Promise;
+
+/// The lanes from `from` on and below `end`, and how many accesses a poll of one of them makes at most.
+#[derive(Clone, Copy)]
+pub(crate) struct Lanes {
+    pub(crate) from: u32,
+    pub(crate) end: u32,
+    pub(crate) budget: u64,
+    pub(crate) ghost ordered: { from ≤ end },
+    pub(crate) ghost few: { end ≤ 16 },
+    pub(crate) ghost able: { 0 < budget },
+}
+
+/// A producer that has put nothing and has not ended its lane, and the list that it is to put.
+#[derive(Drop)]
+pub(crate) struct PutJob<A: Allocator + Drop> {
+    pub(crate) producer: Producer<A>,
+    pub(crate) list: Vec<u64, A>,
+    pub(crate) ghost fresh: { producer.items ≡ [] },
+    pub(crate) ghost begun: { is_over producer ≡ false },
+}
+
+/// The end of a producer's worker. The producer has ended its lane. `full` says how many items of its list it did not
+/// put because no cell was left. `stopped` says whether it was stopped before the end of its list. `aborted` says whether
+/// the run is aborted: a thread could not be started, its own or another's.
+#[derive(Drop)]
+pub(crate) struct PutDone<A: Allocator + Drop> {
+    pub(crate) producer: Producer<A>,
+    pub(crate) full: u64,
+    pub(crate) stopped: bool,
+    pub(crate) aborted: bool,
+}
+
+/// What a producer's thread promises, by its job and the gate.
+#[derive(Drop)]
+pub(crate) struct Puts<G: Gate, A: Allocator + Drop> {
+    pub(crate) job: Snapshot<PutJob<A>>,
+    pub(crate) gate: Snapshot<G>,
+}
+
+impl<G: Gate, A: Allocator + Drop> Promise<PutDone<A>> for Puts<G, A> {
+    ghost use Rattle.mb_mailbox.specs.Jobs.{IsPutEnd};
+
+    ghost kept_by = { λ p d. IsPutEnd (G.may_stop p.gate.value) (G.may_pass p.gate.value) p.job.value d };
+}
+
+/// A consumer and its source of random words.
+#[derive(Drop)]
+pub(crate) struct PollJob<R: Drop, A: Allocator + Drop> {
+    pub(crate) consumer: Consumer<A>,
+    pub(crate) rng: R,
+}
+
+/// The end of a consumer's worker. `stopped` says whether it was stopped before all lanes had ended. `aborted` says
+/// whether the run is aborted, as with a producer.
+#[derive(Drop)]
+pub(crate) struct PollDone<A: Allocator + Drop> {
+    pub(crate) consumer: Consumer<A>,
+    pub(crate) stopped: bool,
+    pub(crate) aborted: bool,
+}
+
+/// What a consumer's thread promises, by the consumer, its source, the lanes, the budget and the gate.
+#[derive(Drop)]
+pub(crate) struct Polls<G: Gate, R: Rng + Drop, A: Allocator + Drop> {
+    pub(crate) consumer: Snapshot<Consumer<A>>,
+    pub(crate) rng: Snapshot<R>,
+    pub(crate) from: u32,
+    pub(crate) end: u32,
+    pub(crate) budget: u64,
+    pub(crate) gate: Snapshot<G>,
+}
+
+impl<G: Gate, R: Rng + Drop, A: Allocator + Drop> Promise<PollDone<A>> for Polls<G, R, A> {
+    ghost use Rattle.mb_mailbox.specs.Jobs.{IsPollEnd};
+
+    ghost kept_by = { λ p d. IsPollEnd (G.may_stop p.gate.value) (G.may_pass p.gate.value) p.from p.end p.budget (R.stream p.rng.value) p.consumer.value d };
+}

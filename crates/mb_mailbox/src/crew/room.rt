@@ -1,0 +1,63 @@
+//! The lists of a run, with their room from the start.
+ghost use Rattle.std.specs.Prelude.{◌≡◌, ◌≤◌, [], IfOk, vec_capacity};
+ghost use Rattle.mb_mailbox.specs.Rooms.{HasRoom, HasJobRoom};
+
+use super::jobs::{PollDone, PollJob, PutDone, PutJob};
+use super::worker::{PollWorker, PutWorker};
+use crate::gate::Gate;
+use rand_core::Rng;
+use std::alloc::{AllocError, Allocator};
+
+/// Room for the jobs.
+#[derive(Drop)]
+pub(crate) struct WorkerInputs<R: Drop, A: Allocator + Drop> {
+    pub(crate) puts: Vec<PutJob<A>, A>,
+    pub(crate) polls: Vec<PollJob<R, A>, A>,
+}
+
+/// Room for the workers that were begun, and for their ends.
+#[derive(Drop)]
+pub(crate) struct WorkerBuffers<G: Gate, R: Rng + Drop, A: Allocator + Drop> {
+    pub(crate) puts: Vec<PutWorker<G, A>, A>,
+    pub(crate) polls: Vec<PollWorker<G, R, A>, A>,
+    pub(crate) ends: WorkerResults<A>,
+}
+
+/// The ends of the workers, in the order of their jobs.
+#[derive(Drop)]
+pub(crate) struct WorkerResults<A: Allocator + Drop> {
+    pub(crate) puts: Vec<PutDone<A>, A>,
+    pub(crate) polls: Vec<PollDone<A>, A>,
+}
+
+/// Room for this many jobs.
+pub(super) fn room_for_jobs<R: Drop, A: Allocator + Clone + Drop>(
+    alloc: &A,
+    puts: usize,
+    polls: usize,
+) -> Result<WorkerInputs<R, A>, AllocError>
+    ensures { IfOk result (λ r. HasJobRoom puts polls r) }
+{
+    Ok(WorkerInputs {
+        puts: Vec::with_capacity(alloc.clone()?, puts)?,
+        polls: Vec::with_capacity(alloc.clone()?, polls)?,
+    })
+}
+
+/// Room for this many workers and their ends.
+pub(super) fn room_for_workers<G: Gate, R: Rng + Drop, A: Allocator + Clone + Drop>(
+    alloc: &A,
+    puts: usize,
+    polls: usize,
+) -> Result<WorkerBuffers<G, R, A>, AllocError>
+    ensures { IfOk result (λ r. HasRoom puts polls r) }
+{
+    Ok(WorkerBuffers {
+        puts: Vec::with_capacity(alloc.clone()?, puts)?,
+        polls: Vec::with_capacity(alloc.clone()?, polls)?,
+        ends: WorkerResults {
+            puts: Vec::with_capacity(alloc.clone()?, puts)?,
+            polls: Vec::with_capacity(alloc.clone()?, polls)?,
+        },
+    })
+}

@@ -1,0 +1,296 @@
+//! The bodies of the workers.
+ghost use Rattle.std.specs.Prelude.{ℕ, suc, ◌≡◌, ◌≢◌, ◌+◌, ◌<◌, ◌≤◌, ◌⊎◌, [], IfNone, IfSome, false, length, slice_index_or, slice_set, take, true};
+ghost use Rattle.mb_mailbox.specs.Calls.{ArePassed};
+ghost use Rattle.mb_mailbox.specs.Consumers.{IsConsumerOf};
+ghost use Rattle.mb_mailbox.specs.declared.gate.Who.TheVariants as who;
+ghost use Rattle.mb_mailbox.specs.Jobs.{HasReadMarked, IsOnLanes, IsPollEnd, IsPutEnd, IsSameConsumer, IsStopBefore, accesses_made, count_marks, ends_met};
+ghost use Rattle.mb_mailbox.specs.Producers.{FoundNoCell, IsProducerOf, IsSameLane, is_over};
+ghost use Rattle.mb_mailbox.specs.Steps.{IsPollOf};
+
+use super::ends::ends_are_kept;
+use super::jobs::{Lanes, PollDone, PollJob, PutDone, PutJob};
+use crate::consumer::{Consumer, Poll};
+use crate::gate::{Gate, Who};
+use crate::mailbox::Mailbox;
+use crate::producer::{Producer, Put};
+use rand_core::Rng;
+use std::alloc::Allocator;
+use std::sync::atomic::{AtomicBool, Ordering};
+use std::thread::yield_now;
+
+/// How many items were linked, and whether the producer was stopped before the end of its list. `aborted` says whether it
+/// was stopped because the run is aborted.
+#[derive(Clone, Copy)]
+struct Linked {
+    count: usize,
+    stopped: bool,
+    aborted: bool,
+}
+
+/// Puts items up to the first that is refused.
+fn put_items<A: Allocator + Drop, B: Allocator + Drop, G: Gate>(
+    mailbox: &Mailbox<B>,
+    producer: &mut Producer<A>,
+    items: &[u64],
+    gate: &G,
+    running: &AtomicBool,
+) -> Linked
+    requires of { IsProducerOf mailbox.now producer.old }
+    requires fresh { producer.old.items ≡ [] }
+    requires begun { is_over producer.old ≡ false }
+    ensures linked { result.count ≤ length items.now }
+    ensures items { producer.new.items ≡ take result.count items.now }
+    ensures lane { IsSameLane producer.old producer.new }
+    ensures begun { is_over producer.new ≡ false }
+    ensures found { result.stopped ≡ false → result.count ≢ length items.now
+        → FoundNoCell producer.new }
+    ensures stopped { result.stopped ≡ true → result.count < length items.now }
+    ensures stop { result.stopped ≡ true → result.aborted ≡ false
+        → IsStopBefore (G.may_stop gate.now) (who.Producer producer.old.seat.lane)
+        (suc result.count) }
+    ensures had_cells { result.stopped ≡ true → FoundNoCell producer.new
+        → FoundNoCell producer.old }
+    ensures passed { ArePassed (G.may_pass gate.now) (who.Producer producer.old.seat.lane)
+        result.count }
+    ensures passed_full { result.stopped ≡ false → result.count ≢ length items.now
+        → G.may_pass gate.now (who.Producer producer.old.seat.lane) (suc result.count) }
+{
+    let who = Who::Producer(producer.seat.lane());
+    for (i, item) in items.iter().enumerate() {
+        if !running.load(Ordering::SeqCst) {
+            return Linked {
+                count: i,
+                stopped: true,
+                aborted: true,
+            };
+        }
+        let call = i as u64 + 1;
+        if call == u64::MAX || !gate.enter(who, call) {
+            return Linked {
+                count: i,
+                stopped: true,
+                aborted: false,
+            };
+        }
+        let put = producer.put(mailbox, *item);
+        gate.leave(who, call);
+        if put != Put::Linked {
+            return Linked {
+                count: i,
+                stopped: false,
+                aborted: false,
+            };
+        }
+    }
+    Linked {
+        count: items.len(),
+        stopped: false,
+        aborted: false,
+    }
+}
+
+/// Puts the list in order up to the first item that finds no cell, and ends the lane.
+pub(super) fn put_list<A: Allocator + Drop, B: Allocator + Drop, G: Gate>(
+    mailbox: &Mailbox<B>,
+    job: PutJob<A>,
+    gate: &G,
+    running: &AtomicBool,
+) -> PutDone<A>
+    requires of { IsProducerOf mailbox.now job.producer }
+    ensures { IsPutEnd (G.may_stop gate.now) (G.may_pass gate.now) job result }
+{
+    let PutJob { mut producer, list } = job;
+    let Linked {
+        count,
+        stopped,
+        aborted,
+    } = put_items(mailbox, &mut producer, &list, gate, running);
+    producer.finish(mailbox);
+    let full = if stopped {
+        0
+    } else {
+        (list.len() - count) as u64
+    };
+    PutDone {
+        producer,
+        full,
+        stopped,
+        aborted,
+    }
+}
+
+/// Ends the lane of a producer that puts nothing.
+pub(super) fn put_nothing<A: Allocator + Drop, B: Allocator + Drop>(
+    mailbox: &Mailbox<B>,
+    job: PutJob<A>,
+) -> PutDone<A>
+    requires of { IsProducerOf mailbox.now job.producer }
+    ensures { IsPutEnd (λ _ _. ⊥) (λ _ _. ⊥) job result }
+{
+    let PutJob {
+        producer: mut idle,
+        list: _,
+    } = job;
+    idle.finish(mailbox);
+    PutDone {
+        producer: idle,
+        full: 0,
+        stopped: true,
+        aborted: true,
+    }
+}
+
+/// The next lane that has not ended, from `at` on, round and round from `from` to `end`.
+fn next_lane(ended: &[bool], at: u32, from: u32, end: u32) -> Option<u32>
+    requires at { at ≤ end }
+    requires few { end ≤ length ended.now }
+    ensures some { IfSome result (λ p. (p < end) × (slice_index_or ended.now p true ≡ false)) }
+    ensures low { IfSome result (λ p. from ≤ p) }
+    ensures none { IfNone result ((p : ℕ) → from ≤ p → p < end → slice_index_or ended.now p true
+        ≡ true) }
+{
+    for lane in at.max(from)..end {
+        if !ended[lane as usize] {
+            return Some(lane);
+        }
+    }
+    for lane in from..at.min(end) {
+        if !ended[lane as usize] {
+            return Some(lane);
+        }
+    }
+    None
+}
+
+fn mark(ended: &mut [bool; 16], lane: u32)
+    requires { lane < 16 }
+    ensures { ended.new ≡ slice_set ended.old lane true }
+{
+    ended[lane as usize] = true;
+}
+
+/// Polls a lane that has not ended, and marks it if it has.
+fn poll_lane<A: Allocator + Drop, B: Allocator + Drop, R: Rng>(
+    mailbox: &Mailbox<B>,
+    consumer: &mut Consumer<A>,
+    lane: u32,
+    budget: u64,
+    rng: &mut R,
+    ended: &mut [bool; 16],
+) -> Poll
+    requires of { IsConsumerOf mailbox.now consumer.old }
+    requires few { (lane < mailbox.now.cells.size.lanes) × (lane < 16) }
+    requires unmarked { slice_index_or ended.old lane true ≡ false }
+    requires read { HasReadMarked ended.old consumer.old }
+    requires able { 0 < budget }
+    ensures made { accesses_made consumer.old < accesses_made consumer.new }
+    ensures most { accesses_made consumer.new ≤ accesses_made consumer.old + budget }
+    ensures read { HasReadMarked ended.new consumer.new }
+    ensures only { (from end : ℕ) → from ≤ lane → lane < end
+        → IsOnLanes from end consumer.old.reader.part
+        → IsOnLanes from end consumer.new.reader.part }
+    ensures marks { (p : ℕ) → slice_index_or ended.new p false ≡ true
+        → (p ≡ lane) ⊎ (slice_index_or ended.old p false ≡ true) }
+    ensures ends { ends_met consumer.new.reader.part + count_marks ended.old
+        ≡ ends_met consumer.old.reader.part + count_marks ended.new }
+    ensures polled { IsPollOf lane budget result (R.stream rng.old) (R.stream rng.new)
+        consumer.old consumer.new }
+    ensures same { IsSameConsumer consumer.old consumer.new }
+    ensures of { IsConsumerOf mailbox.now consumer.new }
+{
+    ends_are_kept();
+    let poll = consumer.poll(mailbox, lane as u64, budget, rng);
+    consumer.keeps_its_parts();
+    if let Poll::Ended = poll {
+        mark(ended, lane);
+    }
+    poll
+}
+
+/// How many polls in a row have found nothing since the last yield, after `poll`. The thread yields when more than
+/// `lanes` have.
+fn rest(poll: Poll, idle: u32, lanes: u32) -> u32 {
+    match poll {
+        Poll::Nothing if idle < lanes => idle + 1,
+        Poll::Nothing => {
+            yield_now();
+            0
+        }
+        _ => 0,
+    }
+}
+
+/// Polls the lanes round and round, each until it has ended.
+pub(super) fn poll_lanes<A: Allocator + Drop, B: Allocator + Drop, R: Rng + Drop, G: Gate>(
+    mailbox: &Mailbox<B>,
+    job: PollJob<R, A>,
+    lanes: Lanes,
+    gate: &G,
+    running: &AtomicBool,
+) -> PollDone<A>
+    requires of { IsConsumerOf mailbox.now job.consumer }
+    requires few { lanes.end ≤ mailbox.now.cells.size.lanes }
+    ensures { IsPollEnd (G.may_stop gate.now) (G.may_pass gate.now) lanes.from lanes.end
+        lanes.budget
+        (R.stream job.rng) job.consumer result }
+{
+    let Lanes { from, end, budget } = lanes;
+    let PollJob {
+        mut consumer,
+        mut rng,
+    } = job;
+    let who = Who::Consumer(consumer.seat.consumer());
+    let mut ended = [false; 16];
+    let mut at = from;
+    let mut idle = 0;
+    for call in 1..u64::MAX {
+        let Some(lane) = next_lane(&ended, at, from, end) else {
+            return PollDone {
+                consumer,
+                stopped: false,
+                aborted: false,
+            };
+        };
+        if !running.load(Ordering::SeqCst) {
+            return PollDone {
+                consumer,
+                stopped: true,
+                aborted: true,
+            };
+        }
+        if !gate.enter(who, call) {
+            break;
+        }
+        let poll = poll_lane(mailbox, &mut consumer, lane, budget, &mut rng, &mut ended);
+        gate.leave(who, call);
+        idle = rest(poll, idle, end);
+        at = lane + 1;
+    }
+    // The gate refused a call, or call 2^64 - 2 was made. The last call may have read the last lane to its end.
+    match next_lane(&ended, at, from, end) {
+        None => PollDone {
+            consumer,
+            stopped: false,
+            aborted: false,
+        },
+        Some(_) => PollDone {
+            consumer,
+            stopped: true,
+            aborted: false,
+        },
+    }
+}
+
+/// A consumer that polls nothing.
+pub(super) fn poll_nothing<A: Allocator + Drop, R: Drop>(job: PollJob<R, A>) -> PollDone<A>
+    ensures consumer { result.consumer ≡ job.consumer }
+    ensures stopped { result.stopped ≡ true }
+    ensures aborted { result.aborted ≡ true }
+{
+    let PollJob { consumer, rng: _ } = job;
+    PollDone {
+        consumer,
+        stopped: true,
+        aborted: true,
+    }
+}

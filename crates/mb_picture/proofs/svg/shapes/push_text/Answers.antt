@@ -1,0 +1,17 @@
+use Rattle.std.proofs.Common.{◌≡◌, List, ℕ, ◌++◌, append_assoc, codes, string_bytes, ◌∙◌}
+use Rattle.std.specs.Prelude.{if◌then◌else◌, Result, Ok, Err, OnOk, is_ok}
+use Rattle.mb_picture.specs.Escaped.{text_element}
+use Rattle.mb_picture.proofs.svg.shapes.push_text.Goals as goal
+
+-- what was written, if it was
+written : {T E : Type 0} (r : Result T E) (new all none text : List ℕ)
+    → new ≡ (if is_ok r then all else none) → all ≡ text → OnOk r (new ≡ text)
+written (Ok x) new all none text e f = e ∙ f
+written (Err x) new all none text e f = tt
+
+pub returns : goal.returns
+returns g c =
+    let all : string_bytes c.push_escaped.new.text ++ codes "</text>\n"
+    ≡ string_bytes c.args.text.now ++ text_element c.args.class.now c.args.x c.args.y c.args.plain.now =
+    rw (c.in_ok-push_escaped.ensures, c.in_ok-write.ensures.bytes) (simp append_assoc) in
+    written c.push_str.result _ _ _ _ c.push_str.ensures.bytes all

@@ -1,0 +1,47 @@
+-- The line that leads to a mark.
+use Rattle.std.specs.Prelude.{◌≡◌, ℕ, ◌<◌, ◌==◌, List, [], ◌∷◌, ◌++◌, length, slice_get, Option, Some, None, option_and_then, if◌then◌else◌}
+use Rattle.mb_picture.specs.declared.picture.Word.{Word}
+use Rattle.mb_picture.specs.declared.picture.Deed.{Deed}
+use Rattle.mb_picture.specs.declared.picture.Deed.TheVariants.{Load, Store, Add, Exchange, Nothing}
+use Rattle.mb_picture.specs.declared.picture.Mark.{Mark}
+use Rattle.mb_picture.specs.declared.picture.Line.{Line}
+
+-- the word that was loaded
+abbrev pub loaded_by : Deed → Option Word
+loaded_by (Load word found) = Some word
+loaded_by (Store word value) = None
+loaded_by (Add word found) = Some word
+loaded_by (Exchange word value found) = Some word
+loaded_by Nothing = None
+
+-- the word that was stored in. An exchange stores only if it found 0.
+abbrev pub stored_by : Deed → Option Word
+stored_by (Load word found) = None
+stored_by (Store word value) = Some word
+stored_by (Add word found) = Some word
+stored_by (Exchange word value found) = if found == 0 then Some word else None
+stored_by Nothing = None
+
+-- the mark in this row stored in the word
+abbrev pub StoresAt : List Mark → Word → ℕ → Type 0
+StoresAt marks word row = option_and_then (λ m. stored_by m.deed) (slice_get marks row) ≡ Some word
+
+-- of the first `rows` rows this is the last one that stored in the word, or there is none
+abbrev pub IsLastStore : List Mark → Word → ℕ → Option ℕ → Type 0
+IsLastStore marks word rows None = (i : ℕ) → i < rows → StoresAt marks word i → ⊥
+IsLastStore marks word rows (Some row) =
+    (row < rows) × StoresAt marks word row × ((i : ℕ) → i < rows → row < i → StoresAt marks word i → ⊥)
+
+-- the row from which a line leads to the next mark: the last store of the word that it loaded
+abbrev pub IsLedFrom : List Mark → Option Word → Option ℕ → Type 0
+IsLedFrom marks None from = from ≡ None
+IsLedFrom marks (Some word) from = IsLastStore marks word (length marks) from
+
+abbrev pub lines_to : ℕ → Option ℕ → List Line
+lines_to row None = []
+lines_to row (Some from) = record { from = from; to = row } ∷ []
+
+-- the lines after the next mark: one more, or none
+abbrev pub AreLinesAfter : List Mark → Mark → List Line → List Line → Type 0
+AreLinesAfter marks mark before after =
+    (from : Option ℕ) × IsLedFrom marks (loaded_by mark.deed) from × (after ≡ before ++ lines_to (length marks) from)

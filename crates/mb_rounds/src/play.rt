@@ -1,0 +1,69 @@
+//! One mailbox, from its making to its report.
+ghost use Rattle.std.specs.Prelude.{◌≡◌, ◌<◌, ◌≤◌, ◌≢◌, Err, IfOk, map, vec_len};
+ghost use Rattle.mb_mailbox.specs.Worked.{lists_in};
+ghost use Rattle.mb_world.specs.Plan.{consumers_of};
+ghost use Rattle.mb_world.specs.Setups.{plan_in};
+ghost use Rattle.mb_rounds.specs.Behind.{terms_of};
+ghost use Rattle.mb_rounds.specs.Round.{IsPlayed};
+ghost use Rattle.mb_rounds.specs.declared.rounds.RoundFault.TheVariants.{BadBudget, TooManySources};
+
+use crate::rounds::RoundFault;
+use mb_mailbox::{Gate, Mailbox, WorkFault, work};
+use mb_world::{Report, Setup};
+use rand_core::Rng;
+use std::alloc::{AllocError, Allocator};
+use std::sync::Wait;
+use std::thread::Threads;
+
+/// What the consumers of a round get.
+#[derive(Drop)]
+pub(crate) struct Means<R: Drop, A: Allocator + Drop> {
+    pub(crate) sources: Vec<R, A>,
+    pub(crate) budget: u64,
+}
+
+/// Three copies of the allocator.
+fn three_of<A: Allocator + Clone>(alloc: &A) -> Result<(A, A, A), AllocError> {
+    Ok((alloc.clone()?, alloc.clone()?, alloc.clone()?))
+}
+
+/// The report of a mailbox of this setup whose producers are to put these lists.
+pub(crate) fn play<
+    A: Allocator + Clone + Drop + Send + Sync,
+    W: Threads + Wait + Sync,
+    R: Rng + Send + Drop,
+    G: Gate,
+>(
+    alloc: &A,
+    rt: &W,
+    setup: &Setup,
+    lists: Vec<Vec<u64, A>, A>,
+    means: Means<R, A>,
+    gate: &G,
+) -> Result<Report<A>, RoundFault>
+    requires lists { vec_len lists ≡ (plan_in setup.now).lanes }
+    ensures played { IfOk result (IsPlayed (G.may_stop gate.now) (G.may_pass gate.now)
+        (terms_of setup.now means.budget (map R.stream means.sources.items)) (lists_in lists.items)) }
+    ensures sources { result ≢ Err TooManySources }
+    ensures budget { result ≢ Err BadBudget }
+{
+    let Ok((for_mailbox, for_work, for_report)) = three_of(alloc) else {
+        return Err(RoundFault::NoMemory);
+    };
+    let Ok((mailbox, mut hub)) = Mailbox::new(for_mailbox, setup.copy()) else {
+        return Err(RoundFault::NoMemory);
+    };
+    let Means { sources, budget } = means;
+    match work(
+        for_work, rt, &mailbox, &mut hub, lists, budget, sources, gate,
+    ) {
+        Ok(_) => {}
+        Err(WorkFault::NoThread) => return Err(RoundFault::NoThread),
+        // `round` has checked the sources and the budget, so memory ran out.
+        Err(_) => return Err(RoundFault::NoMemory),
+    }
+    let Ok(report) = mailbox.gather(for_report, hub) else {
+        return Err(RoundFault::NoMemory);
+    };
+    Ok(report)
+}

@@ -1,0 +1,17 @@
+use Rattle.std.proofs.Common.{◌≡◌, ◌++◌, ◌<◌, map, take, length, false}
+use denote.Text.{Utf8}
+use denote.Shadow.{shadow}
+use Rattle.mb_script.specs.Text.{words_in_line, has_empty}
+use Rattle.mb_script.proofs.few_words.LineWords.of_line.Given as goal
+
+abbrev pub invariant-loop-word : goal.invariant-loop-word
+invariant-loop-word l = record {
+  text : shadow (Utf8 l.rest);
+  room : length l.words ≡ 8;
+  few : l.count < 8;
+  cut : map (λ w. w.now) (take l.count l.words) ++ words_in_line l.rest ≡ words_in_line l.fn.line;
+  full : has_empty (map (λ w. w.now) (take l.count l.words)) ≡ false;
+}
+
+abbrev pub decreases-loop-word : goal.decreases-loop-word
+decreases-loop-word l = length l.rest

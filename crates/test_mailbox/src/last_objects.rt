@@ -1,0 +1,191 @@
+//! Polls that settle their items: each cell has a last object, and each poll has a budget for a whole claim.
+ghost use Rattle.std.specs.Prelude.{All};
+ghost use Rattle.mb_mailbox.specs.Consumers.{IsConsumerOf};
+ghost use Rattle.mb_mailbox.specs.Hubs.{IsHubOf};
+ghost use Rattle.mb_mailbox.specs.Producers.{IsProducerOf};
+
+use crate::beside::gathered;
+use crate::compare::same;
+use crate::words::chacha;
+use mb_claim::Shape;
+use mb_mailbox::{Consumer, Hub, Mailbox, Poll, Producer, Put};
+use mb_quorum::TableName;
+use mb_world::Setup;
+use rand_chacha::ChaCha8Rng;
+use std::alloc::Global;
+use std::process::Abort;
+use std::sync::atomic::{AtomicU64, Ordering};
+use std::thread::{Threads, for_each_mut, yield_now};
+use test_audit::{Tally, audit};
+
+/// How many consumers compete for each item.
+const CONSUMERS: u64 = 16;
+
+/// How many items are put.
+const ITEMS: u64 = 256;
+
+/// How many mailboxes there are, one after the other.
+const MAILBOXES: u64 = 32;
+
+/// How often a consumer looks whether all have come.
+const TURNS: u64 = 10_000_000;
+
+/// A consumer, its source of random words, and the counts of its answers.
+#[derive(Drop)]
+struct Settler {
+    consumer: Consumer<Global>,
+    words: ChaCha8Rng,
+    /// Polls that returned `Took` or `Lost`.
+    settled: u64,
+    /// Polls that returned `Ended`.
+    ended: u64,
+}
+
+/// Waits until all consumers have come, but not for ever.
+fn wait_for_all(come: &AtomicU64) {
+    come.fetch_add(1, Ordering::SeqCst);
+    for _ in 0..TURNS {
+        if CONSUMERS <= come.load(Ordering::SeqCst) {
+            break;
+        }
+        yield_now();
+    }
+}
+
+impl Settler {
+    /// Polls once for each item and once for the end, after all consumers have come.
+    fn poll_all(&mut self, mailbox: &Mailbox<Global>, budget: u64, come: &AtomicU64)
+        requires { IsConsumerOf mailbox.now self.old.consumer }
+        ensures { IsConsumerOf mailbox.now self.new.consumer }
+    {
+        wait_for_all(come);
+        for _ in 0..=ITEMS {
+            match self.consumer.poll(mailbox, 0, budget, &mut self.words) {
+                Poll::Took(_) | Poll::Lost(_) => self.settled = self.settled.wrapping_add(1),
+                Poll::Ended => self.ended = self.ended.wrapping_add(1),
+                Poll::Undecided | Poll::Nothing | Poll::Spent | Poll::NoLane => {}
+            }
+        }
+    }
+}
+
+/// All consumers of a mailbox, with random words of this seed.
+fn all_settlers(
+    rt: &impl Abort,
+    alloc: Global,
+    mailbox: &Mailbox<Global>,
+    hub: &mut Hub<Global>,
+    seed: u64,
+) -> Vec<Settler>
+    requires { IsHubOf mailbox.now hub.old }
+    ensures hub { IsHubOf mailbox.now hub.new }
+    ensures settlers { All (λ s. IsConsumerOf mailbox.now s.consumer) result.items }
+{
+    let mut settlers = Vec::new(alloc);
+    for stream in 0..CONSUMERS {
+        let consumer = match hub.consumer(alloc, mailbox) {
+            Ok(consumer) => consumer,
+            Err(_) => panic!(rt; "no consumer"),
+        };
+        let settler = Settler {
+            consumer,
+            words: chacha(seed, stream as u32),
+            settled: 0,
+            ended: 0,
+        };
+        let Ok(()) = settlers.push(settler) else {
+            panic!(rt; "no list")
+        };
+    }
+    settlers
+}
+
+/// Puts all items, and ends the lane.
+fn put_all(rt: &impl Abort, mailbox: &Mailbox<Global>, producer: &mut Producer<Global>)
+    requires { IsProducerOf mailbox.now producer.old }
+    ensures { IsProducerOf mailbox.now producer.new }
+{
+    for item in 0..ITEMS {
+        same(rt, &producer.put(mailbox, item), &Put::Linked);
+    }
+    producer.finish(mailbox);
+}
+
+/// Each poll for an item was settled, and the last one found the end. The hub takes all consumers in.
+fn take_in(
+    rt: &impl Abort,
+    mailbox: &Mailbox<Global>,
+    hub: &mut Hub<Global>,
+    settlers: Vec<Settler>,
+)
+    requires hub { IsHubOf mailbox.now hub.old }
+    requires settlers { All (λ s. IsConsumerOf mailbox.now s.consumer) settlers.items }
+    ensures { IsHubOf mailbox.now hub.new }
+{
+    for settler in settlers {
+        same(rt, &(settler.settled, settler.ended), &(256, 1));
+        hub.take_consumer(mailbox, settler.consumer);
+    }
+}
+
+/// All consumers poll at one time, each in a thread of its own, and are taken in.
+fn settle_all<R: Abort + AllocGlobal + Threads + Sync>(
+    rt: &R,
+    mailbox: &Mailbox<Global>,
+    hub: &mut Hub<Global>,
+    budget: u64,
+    seed: u64,
+)
+    requires { IsHubOf mailbox.now hub.old }
+    ensures { IsHubOf mailbox.now hub.new }
+{
+    let mut producer = match hub.producer(rt.alloc(), mailbox) {
+        Ok(producer) => producer,
+        Err(_) => panic!(rt; "no producer"),
+    };
+    let mut settlers = all_settlers(rt, rt.alloc(), mailbox, hub, seed);
+    put_all(rt, mailbox, &mut producer);
+    let come = AtomicU64::new(0);
+    for_each_mut(
+        rt,
+        &mut settlers,
+        CONSUMERS as usize,
+        &|_, settler| settler.poll_all(mailbox, budget, &come),
+    );
+    hub.take_producer(mailbox, producer);
+    take_in(rt, mailbox, hub, settlers);
+}
+
+/// In a mailbox with a fast path and a last object on each cell they settle all, and the report tells that each item was taken.
+fn are_all_taken<R: Abort + AllocGlobal + Threads + Sync>(rt: &R, seed: u64) {
+    let shape = Shape {
+        fast: true,
+        last: true,
+    };
+    let setup = Setup::new(1, CONSUMERS, ITEMS, 1, TableName::Bits).expect(rt, "no setup");
+    let setup = setup.shaped(shape);
+    let budget = setup.layout().max_steps().wrapping_add(2);
+    let (mailbox, mut hub) = match Mailbox::new(rt.alloc(), setup) {
+        Ok(made) => made,
+        Err(_) => panic!(rt; "no mailbox"),
+    };
+    settle_all(rt, &mailbox, &mut hub, budget, seed);
+    let report = gathered(rt, rt.alloc(), mailbox, hub);
+    let all_taken = Tally {
+        put: 256,
+        took: 256,
+        left: 0,
+        lost: 3840,
+        undecided: 0,
+        under_way: 0,
+    };
+    let tally = audit(&report, 1, CONSUMERS).expect(rt, "a flaw");
+    same(rt, &tally, &all_taken);
+}
+
+#[test]
+fn each_poll_settles_its_item(rt: HostRuntime) {
+    for seed in 0..MAILBOXES {
+        are_all_taken(&rt, seed);
+    }
+}
