@@ -10,6 +10,10 @@ MOST = 12
 FUNCTION = re.compile(r'^ *(?:pub(?:\([\w ]+\))? )?(?:const |final |ghost |unsafe |extern "C" )*fn (\w+)', re.M)
 
 
+# Whose the methods below are: of `impl TRAIT for TYPE` or `impl TYPE` these names, and of a trait its own.
+OWNER = re.compile(r"^(?:pub )?(?:impl|trait)\b(?:<[^{]*?>)? *(?:([\w:]+)(?:<[^{]*?>)? for )?&?(?:'\w+ )?([\w:]+)", re.M)
+
+
 class Fault(Exception):
     """Why a mutant cannot be tried."""
 
@@ -46,10 +50,15 @@ class Edit:
         start = text.index(old)
         if text[text.rfind("\n", 0, start) + 1 :].startswith("use "):
             return
-        above = FUNCTION.findall(text[: start + len(old)])
-        if above[-1:] != self.function.split("::")[-1:]:
-            near = f"in or below `fn {above[-1]}`" if above else "above each function"
+        above = list(FUNCTION.finditer(text[: start + len(old)]))
+        *_, owner, name = self.function.split("::")
+        if not above or above[-1][1] != name:
+            near = f"in or below `fn {above[-1][1]}`" if above else "above each function"
             raise Fault(f"`{old}` is {near}, and not in {self.function}: correct the name, or say `alone: WHY`")
+        owners = OWNER.findall(text[: above[-1].start()]) if above[-1][0].startswith(" ") else []
+        for it in owners[-1:] and owners[-1]:
+            if it.split("::")[-1] not in owner:
+                raise Fault(f"`fn {name}` is a method of {it}, and not of {owner}: correct the name")
 
 
 def read_lines(text, words):

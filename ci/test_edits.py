@@ -94,6 +94,17 @@ class Applying(WithCrate):
         edit("f", old="fn f()", new="final fn f()").applied(self.folder, {})
         edit("i", old="8", new="7").applied(self.folder, {})
 
+    def test_a_method_is_of_its_type(self):
+        trait = "pub trait Read<A> {\n    fn f(&self) { 4 }\n}\n\n"
+        both = "impl<A: Drop> Read<A> for Table<A> {\n    fn f(&self) { 1 }\n}\n\n"
+        self.write("src/values.rt", trait + both + "impl Table {\n    fn g() { 3 }\n}\n")
+        edit("Read::f", old="4").applied(self.folder, {})
+        edit("TableReadA::f").applied(self.folder, {})
+        edit("Table::g", old="3").applied(self.folder, {})
+        self.stops(edit("Table::f"))
+        self.stops(edit("WordsRead::f"))
+        self.stops(edit("Words::g", old="3"))
+
     def test_an_import_or_alone_stands_outside(self):
         edit("f", old="a::seven", new="a::eight").applied(self.folder, {})
         edit("f", old="FOUR: u64 = 4", new="FOUR: u64 = 5", alone="a constant").applied(self.folder, {})
