@@ -40,7 +40,6 @@ mod hub;
 pub mod laws;
 mod mailbox;
 mod notes;
-mod place;
 mod producer;
 mod spare;
 mod taken;

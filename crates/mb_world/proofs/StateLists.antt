@@ -2,7 +2,7 @@
 use Rattle.std.proofs.Common.{◌≡◌, ℕ, suc, ◌+◌, ◌*◌, ◌<◌, ◌≤◌, ◌++◌, List, [], ◌∷◌, length, Some, refl, sym, ◌∙◌, ap, subst, inl, inr, arith, length-append}
 use Rattle.std.specs.Prelude.{slice_get}
 use Rattle.std.proofs.lemmas.Bool.{cases_lt}
-use Rattle.std.proofs.Math.Nat.{mul-le-mul_right}
+use Rattle.std.proofs.lemmas.Nat.{same_from_place}
 use Rattle.mb_cells.specs.declared.cursor.Cursor.TheVariants.{Head}
 use Rattle.mb_world.specs.declared.place.Place.{Place}
 use Rattle.mb_world.specs.declared.place.Place.TheVariants.{Before}
@@ -31,22 +31,6 @@ lanes_more s n l ls told here = record {
   ];
 }
 
-not_before : (w c e p q : ℕ) → p < w → e * w + q ≡ c * w + p → e < c → q < w → ⊥
-not_before w c e p q ps same less qs =
-    let most : suc e * w ≤ c * w = mul-le-mul_right w less in
-    let more : suc e * w ≡ e * w + w = grind arith in
-    omega (arith, most, more, same, ps, qs)
-
--- a position in the grid is of one row and one column
-row_is : (w c e p q : ℕ) → p < w → q < w → e * w + q ≡ c * w + p → e ≡ c
-row_is w c e p q ps qs same = elim (cases_lt e c) [
-  | inl less ↦ absurd (not_before w c e p q ps same less qs)
-  | inr not ↦ elim (cases_lt c e) [
-    | inl more ↦ absurd (not_before w e c q p qs (sym same) more ps)
-    | inr least ↦ omega (arith, not, least)
-  ]
-]
-
 -- the elements of a grid with one more, at row c and column p
 grid_more : {A : Type 0} (P : ℕ → ℕ → A → Type 0) (w c p : ℕ) (xs : List A) (y : A) → p < w
     → length xs ≡ c * w + p → ((e q : ℕ) → q < w → e * w + q < c * w + p
@@ -57,11 +41,10 @@ grid_more P w c p xs y ps count each here e q qs less = elim (cases_lt (e * w + 
   | inl old ↦ let x = each e q qs old in (x.0, get-left xs (y ∷ []) (e * w + q) x.0 x.1, x.2)
   | inr new ↦
       let same : e * w + q ≡ c * w + p = omega (arith, less, new) in
-      let row : e ≡ c = row_is w c e p q ps qs same in
-      let column : q ≡ p = omega (arith, same, ap (λ i. i * w) row) in (
+      let at = same_from_place e q c p w qs ps same in (
         y,
         get_end xs y (e * w + q) (same ∙ sym count),
-        subst (λ i. P i q y) (sym row) (subst (λ i. P c i y) (sym column) here),
+        subst (λ i. P i q y) (sym at.0) (subst (λ i. P c i y) (sym at.1) here),
       )
 ]
 

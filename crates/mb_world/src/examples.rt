@@ -101,7 +101,7 @@ pub fn reports_disagree()
     ensures away { (t : Assignment) → AgreesWith t winner_stayed_away → ⊥ }
     ensures each { (t : Assignment) → AgreesWith t lost_to_each_other → ⊥ }
     ensures third { (t : Assignment) → AgreesWith t lost_to_a_third → ⊥ }
-    ensures places { (t : Assignment) → AgreesWith t turned_diaries → ⊥ }
+    ensures turned { (t : Assignment) → AgreesWith t turned_diaries → ⊥ }
     ensures begun { (t : Assignment) → AgreesWith t begun_beyond → ⊥ }
     ensures beyond { (t : Assignment) → AgreesWith t noted_beyond → ⊥ }
 {}
