@@ -86,7 +86,7 @@ impl<A: Allocator + Clone + Drop> World<A> {
 }
 
 /// The places of so many consumers that have done nothing, consumer by consumer: before the head of each lane.
-fn before_heads<A: Allocator>(
+fn before_heads<A: Allocator + Drop>(
     alloc: A,
     consumers: u32,
     lanes: u32,

@@ -24,7 +24,8 @@ returns-clause-empty g c =
     subst (λ l. IsMemoryOf (claims_in l setup.cells) c.in_ok-words.words []) layout
     (subst (λ n. IsMemoryOf
     (claims_in c.layout-layout.result n) c.in_ok-words.words []) c.cells-cells.ensures c.in_ok-words.ensures) in
-    let consumers : c.consumers.result ≡ consumers_of plan = c.consumers.ensures ∙ ap consumer_count layout in
+    let consumers : c.consumers-consumers.result ≡ consumers_of plan = c.consumers-consumers.ensures
+    ∙ ap consumer_count layout in
     let heads : AreAtHeads setup.producers (consumers_of plan * setup.producers) c.in_ok-places.places.items =
     subst₂ (λ m n. AreAtHeads n (m * n) c.in_ok-places.places.items) consumers c.producers-lanes.ensures
     c.in_ok-places.ensures in
