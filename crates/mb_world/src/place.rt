@@ -13,6 +13,6 @@ pub enum Place {
 
 impl Default for Place {
     fn default() -> Place {
-        Place::Before(Cursor::head(0))
+        Place::Before(Cursor::Head(0))
     }
 }

@@ -96,7 +96,7 @@ fn before_heads<A: Allocator + Drop>(
     let mut places = Vec::with_capacity(alloc, consumers as usize * lanes as usize)?;
     for c in 0..consumers {
         for p in 0..lanes {
-            places.push(Place::Before(Cursor::head(p)))?;
+            places.push(Place::Before(Cursor::Head(p)))?;
         }
     }
     Ok(places)

@@ -74,7 +74,7 @@ impl<A: Allocator + Drop> World<A> {
         takes_leave_states();
         let item = self.pool.item(k);
         let at = c as usize * self.setup.producers() as usize + p as usize;
-        self.places[at] = Place::Before(Cursor::past(k));
+        self.places[at] = Place::Before(Cursor::Past(k));
         let noted = c as usize * self.setup.cells() as usize + k as usize;
         self.notes[noted] = Some(Note::Took(item));
         Answer::Took { cell: k, item }
@@ -96,7 +96,7 @@ impl<A: Allocator + Drop> World<A> {
         };
         let made = self.words.step(self.setup.as_layout(), claim, k, word);
         if let Some(note) = end_note(made.stage) {
-            self.places[at] = Place::Before(Cursor::past(k));
+            self.places[at] = Place::Before(Cursor::Past(k));
             let noted = c as usize * self.setup.cells() as usize + k as usize;
             self.notes[noted] = Some(note);
         }
