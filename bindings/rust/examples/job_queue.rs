@@ -15,7 +15,9 @@ static SUM: AtomicU64 = AtomicU64::new(0);
 
 fn job(number: u64) -> Job {
     Box::new(move || {
-        assert_ne!(number, BAD_JOB, "this is the bad job, as it should be");
+        if number == BAD_JOB {
+            panic!("job {number}, as it should");
+        }
         SUM.fetch_add(number, Ordering::Relaxed);
     })
 }
@@ -40,16 +42,20 @@ fn main() -> Result<(), Box<dyn Error>> {
             thread::spawn(move || consumer.values(thread::yield_now).for_each(|job| job()))
         })
         .collect();
-    let panics = workers
+    // What a worker panicked with is told by `join`: it names the job.
+    let panics: Vec<_> = workers
         .into_iter()
-        .map(thread::JoinHandle::join)
-        .filter(Result::is_err)
-        .count();
+        .filter_map(|worker| worker.join().err())
+        .map(|why| {
+            why.downcast::<String>()
+                .map_or_else(|_| "of unknown".into(), |it| *it)
+        })
+        .collect();
 
     // What is left is run here: nobody else can have it.
     mailbox.gather()?.into_left().for_each(|job| job());
-    assert_eq!(panics, 1);
+    assert_eq!(panics.len(), 1);
     assert_eq!(SUM.load(Ordering::Relaxed), JOBS * (JOBS + 1) / 2 - BAD_JOB);
-    println!("{JOBS} jobs ran, each once, and one of them panicked");
+    println!("{JOBS} jobs ran, each once; one panicked: {}", panics[0]);
     Ok(())
 }

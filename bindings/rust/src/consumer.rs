@@ -11,7 +11,7 @@ use std::sync::Arc;
 pub enum Poll<T> {
     /// This consumer has won the item, and this is its value. Nobody else gets it.
     Took(T),
-    /// No consumer but this other one can win the item. It may not have won it yet.
+    /// No consumer but this other one can win the item. Perhaps it has not won it yet.
     Lost(u32),
     /// This consumer does not know who has won the item, if anybody has. It comes only from the shapes
     /// [`Plain`](crate::Shape::Plain) and [`Fast`](crate::Shape::Fast).

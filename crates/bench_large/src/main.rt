@@ -39,7 +39,7 @@ const REFUSED: u8 = 2;
 
 /// The consumers' source of random words.
 #[derive(Clone, Copy)]
-enum Words {
+enum RandomWords {
     /// ChaCha8, as the other programs do.
     Chacha,
     /// xoshiro256++, which takes a few instructions for each word.
@@ -55,7 +55,7 @@ struct Plan {
     items: u64,
     seed: u64,
     shape: Shape,
-    words: Words,
+    words: RandomWords,
 }
 
 /// The end of a run, and how long its parts took: to make the mailbox, and to work.
@@ -106,8 +106,8 @@ fn plan_of(words: &[String]) -> Option<Plan> {
         return None;
     };
     let (shape, words) = match more {
-        [] => (Shape::PLAIN, Words::Chacha),
-        [shape] => (shape_of(shape.as_str())?, Words::Chacha),
+        [] => (Shape::PLAIN, RandomWords::Chacha),
+        [shape] => (shape_of(shape.as_str())?, RandomWords::Chacha),
         [shape, words] => (shape_of(shape.as_str())?, words_of(words.as_str())?),
         _ => return None,
     };
@@ -133,10 +133,10 @@ fn shape_of(name: &str) -> Option<Shape> {
     Some(Shape { fast, last })
 }
 
-fn words_of(name: &str) -> Option<Words> {
+fn words_of(name: &str) -> Option<RandomWords> {
     match name {
-        "chacha" => Some(Words::Chacha),
-        "cheap" => Some(Words::Cheap),
+        "chacha" => Some(RandomWords::Chacha),
+        "cheap" => Some(RandomWords::Cheap),
         _ => None,
     }
 }
@@ -235,8 +235,10 @@ fn run<W: Threads + Wait + Clock + Sync>(
     let (mailbox, mut hub) = Mailbox::new(alloc, setup.shaped(plan.shape))?;
     let made = start.elapsed(rt)?;
     let worked = match plan.words {
-        Words::Chacha => work_all::<ChaCha8Rng, W>(rt, alloc, plan, &mailbox, &mut hub)?,
-        Words::Cheap => work_all::<Xoshiro256PlusPlus, W>(rt, alloc, plan, &mailbox, &mut hub)?,
+        RandomWords::Chacha => work_all::<ChaCha8Rng, W>(rt, alloc, plan, &mailbox, &mut hub)?,
+        RandomWords::Cheap => work_all::<Xoshiro256PlusPlus, W>(
+            rt, alloc, plan, &mailbox, &mut hub,
+        )?,
     };
     let end = gather(rt, alloc, plan, mailbox, hub)?;
     if end.tally.put != plan.items {

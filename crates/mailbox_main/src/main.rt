@@ -2,7 +2,7 @@
 #![tactic(auto)]
 
 pub use mb_program::{command_of, fault_text, ratify_text, run_threads, source_of, status_of};
-use mb_program::{Ending, explanation, program, status_of_ending};
+use mb_program::{ProgramExit, explanation, program, status_of_ending};
 use mb_script::{CountingIo, write_all};
 use std::io::{self, IsTerminal};
 use std::process::ExitCode;
@@ -16,13 +16,13 @@ fn main(rt: HostRuntime) -> ExitCode {
             Ok(words) => {
                 program::run(&rt, words.as_slice(), &mut reader, &mut writer, &mut errors)
             }
-            Err(_) => Ending::NoWords,
+            Err(_) => ProgramExit::ArgsUnavailable,
         },
-        Err(error) if error.kind() == io::ErrorKind::InvalidData => Ending::NoText,
-        Err(_) => Ending::NoWords,
+        Err(error) if error.kind() == io::ErrorKind::InvalidData => ProgramExit::NonUtf8Args,
+        Err(_) => ProgramExit::ArgsUnavailable,
     };
     // A person at a terminal gets a second line, in words.
-    if let Ending::Failed(failed) = ending {
+    if let ProgramExit::Failed(failed) = ending {
         if rt.stderr().is_terminal() {
             if let Ok(text) = explanation(rt.alloc(), &failed) {
                 let _ = write_all(&mut errors, text.as_bytes());

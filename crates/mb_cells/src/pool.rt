@@ -5,7 +5,7 @@ use crate::access::{END, Word};
 use crate::answer::{Finish, Look, NoMemory, Offer, Push};
 use crate::cursor::Cursor;
 use crate::lane::Lane;
-use crate::words::Words;
+use crate::words::PoolMemory;
 use std::alloc::Allocator;
 use std::marker::Model;
 
@@ -13,7 +13,7 @@ use std::marker::Model;
 /// [`calls_put_items`](crate::laws::calls_put_items) says what any list of calls does.
 #[derive(Drop)]
 pub struct Pool<A: Allocator + Drop> {
-    words: Words<A>,
+    words: PoolMemory<A>,
     lanes: Vec<Lane, A>,
 }
 
@@ -42,7 +42,7 @@ impl<A: Allocator + Clone + Drop> Pool<A> {
         let items = vec![in alloc.clone()?; 0u64; cells as usize]?;
         let lanes = vec![in alloc; Lane::new(); lanes as usize]?;
         Ok(Pool {
-            words: Words {
+            words: PoolMemory {
                 counter: 0,
                 heads,
                 links,

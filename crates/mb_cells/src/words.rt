@@ -8,7 +8,7 @@ use std::marker::Model;
 
 /// The words of a pool.
 #[derive(Drop)]
-pub struct Words<A: Allocator + Drop> {
+pub struct PoolMemory<A: Allocator + Drop> {
     /// How many fetch-adds were made for cells.
     pub counter: u64,
     pub heads: Vec<u64, A>,
@@ -16,7 +16,7 @@ pub struct Words<A: Allocator + Drop> {
     pub items: Vec<u64, A>,
 }
 
-impl<A: Allocator + Drop> Model for Words<A> {
+impl<A: Allocator + Drop> Model for PoolMemory<A> {
     ghost use Rattle.mb_cells.specs.{PoolWords};
 
     ghost Value = { PoolWords };
@@ -29,7 +29,7 @@ impl<A: Allocator + Drop> Model for Words<A> {
     } };
 }
 
-impl<A: Allocator + Drop> Words<A> {
+impl<A: Allocator + Drop> PoolMemory<A> {
     pub fn cells(&self) -> u32
         requires { length self.now.items < 2 ^ 32 }
         ensures { result ≡ length self.now.items }

@@ -5,7 +5,7 @@ use Rattle.std.specs.List.{All, cons_option}
 use Rattle.std.proofs.lemmas.List.{length-map, get_or-map}
 use Rattle.std.proofs.lemmas.Bool.{cases_eq, ne_eqb}
 use Rattle.mb_deciding.specs.{Act, Access, Turn, Op, Out, Pc}
-use Rattle.mb_deciding.specs.{InRatifier, Begin, Next, Entry, Words, Object, ObjectSetup, object_in, ReadsLast}
+use Rattle.mb_deciding.specs.{InRatifier, Begin, Next, Entry, ObjectMemory, Object, ObjectSetup, object_in, ReadsLast}
 use Rattle.mb_deciding.specs.{part, IsPath, IsObjectLawful, answer, PcIsAt, IsReached, act_of, seen_by}
 use Rattle.mb_deciding.specs.{process_of, with_entry, history_from, history_of, HasEnded, IsOutputOf, IsEntryAfter}
 use Rattle.mb_deciding.specs.{AreEntriesOf, IsTrace, IsTableFor, IsMemory, RunState, IsRun, out_of, next_from, come_to}
@@ -127,7 +127,7 @@ module _ (u : ObjectSetup) (schedule : List (ℕ × ℕ)) (state : RunState) (ru
 
   -- an access of a process at a place
   pub run_accessed :
-      IsTableFor u.kind u.table → (words : Words) (p word : ℕ) (next : Next) (act : Act) → p < length state.places
+      IsTableFor u.kind u.table → (words : ObjectMemory) (p word : ℕ) (next : Next) (act : Act) → p < length state.places
       → (HasEnded (object_in u) p past → ⊥)
       → IsObjectLawful (object_in u) (record { process = p; turn = record { act = act; word = word } } ∷ past)
       → IsMemory words (record { process = p; turn = record { act = act; word = word } } ∷ past)

@@ -1,6 +1,6 @@
 -- The words of one object, as a run keeps them.
 use Rattle.std.specs.Prelude.{◌≡◌, ℕ, ◌<◌, List, ◌∷◌, slice_index}
-use Rattle.mb_deciding.specs.Types.{Reg, Value, Proposal, Quorum, Last, Op, Access, Words}
+use Rattle.mb_deciding.specs.Types.{Reg, Value, Proposal, Quorum, Last, Op, Access, ObjectMemory}
 use Rattle.mb_deciding.specs.History.{value_in, IsActInWords}
 use Rattle.mb_deciding.specs.Place.{act_of, seen_by}
 
@@ -12,19 +12,19 @@ IsReg (Quorum r) = r < 64
 IsReg Last = Unit {0}
 
 -- what a word holds
-abbrev pub word_of : Words → Reg → ℕ
+abbrev pub word_of : ObjectMemory → Reg → ℕ
 word_of words Value = words.value
 word_of words Proposal = words.proposal
 word_of words (Quorum r) = slice_index words.quorum r
 word_of words Last = words.last
 
 -- each word holds what the history leaves in it
-abbrev pub IsMemory : Words → List Access → Type 0
+abbrev pub IsMemory : ObjectMemory → List Access → Type 0
 IsMemory words h = (reg : Reg) → IsReg reg → word_of words reg ≡ value_in reg h
 
 -- the access was made to the words and found this value. For each history that the words fit before, they fit that
 -- history with the access after it
-pub record IsAccess (words : Words) (op : Op) (seen : ℕ) (after : Words) : Type 0 where
+pub record IsAccess (words : ObjectMemory) (op : Op) (seen : ℕ) (after : ObjectMemory) : Type 0 where
   pub memory :
       (h : List Access) → IsMemory words h → (p word : ℕ)
       → IsMemory after (record { process = p; turn = record { act = act_of op seen; word = word } } ∷ h)

@@ -2,7 +2,7 @@
 use Rattle.std.specs.Prelude.{◌≡◌, ℕ, ◌<◌, ◌≤◌, List, [], length, slice_index, slice_index_or, Option, Some, None}
 use Rattle.mb_quorum.specs.Quorum.{QuorumTable, IsQuorumTable}
 use Rattle.mb_deciding.specs.OneObject.{ObjectSetup, object_in}
-use Rattle.mb_deciding.specs.Types.{Out, Kind, Conciliator, Ratifier, LastObject, Next, Entry, Words}
+use Rattle.mb_deciding.specs.Types.{Out, Kind, Conciliator, Ratifier, LastObject, Next, Entry, ObjectMemory}
 use Rattle.mb_deciding.specs.declared.place.pc.Next.TheVariants as leads
 use Rattle.mb_deciding.specs.History.{part}
 use Rattle.mb_deciding.specs.Objects.{IsObjectLawful}
@@ -39,7 +39,7 @@ out_of (leads.Out out) = Some out
 
 -- what a run holds: the words of its object, what each process has reached, and the entries of the turns so far
 pub record RunState : Type 0 where
-  pub words : Words
+  pub words : ObjectMemory
   pub places : List Next
   pub entries : List Entry
 

@@ -21,4 +21,4 @@ pub use Rattle.mb_deciding.specs.declared.place.conciliator.ConciliatorPlace.The
 pub use Rattle.mb_deciding.specs.declared.trace.Entry.{Entry}
 pub use Rattle.mb_deciding.specs.declared.trace.Fault.{Fault}
 pub use Rattle.mb_deciding.specs.declared.trace.Fault.TheVariants.{BadValues, BadInput, NoSuchProcess, NoMemory}
-pub use Rattle.mb_deciding.specs.declared.run.words.Words.{Words}
+pub use Rattle.mb_deciding.specs.declared.run.words.ObjectMemory.{ObjectMemory}

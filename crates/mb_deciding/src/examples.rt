@@ -6,7 +6,7 @@ ghost use Rattle.mb_quorum.specs.Unary.{unary_table};
 ghost use Rattle.mb_quorum.specs.Quorum.{QuorumTable};
 ghost use Rattle.mb_deciding.specs.{AreSteps, Out, Pc};
 ghost use Rattle.mb_deciding.specs.declared.place.pc.Next.TheVariants as leads;
-ghost use Rattle.mb_deciding.specs.{Words, Conciliator, Ratifier, LastObject, Proposal, Quorum, Last, Load, Store};
+ghost use Rattle.mb_deciding.specs.{ObjectMemory, Conciliator, Ratifier, LastObject, Proposal, Quorum, Last, Load, Store};
 ghost use Rattle.mb_deciding.specs.{Exchange, setup_of, value_in, IsPath, small_last, first_decides, turn};
 ghost use Rattle.mb_deciding.specs.{found_empty_twice, stored_over, loaded_then_stored};
 ghost use Rattle.mb_deciding.specs.{IsObjectLawful, HasOutput, IsPrefix, IsTrace, IsMemory, word_of, answer};
@@ -100,7 +100,7 @@ pub fn small_traces()
     ensures impatient { IsTraceOfOne (Conciliator 2) 2 3 impatient_entries None → ⊥ }
 
     // What the words of a run hold after the four accesses.
-    ensures words { (words : Words) → IsMemory words (history_of_one clear_run)
+    ensures words { (words : ObjectMemory) → IsMemory words (history_of_one clear_run)
         → (word_of words Proposal ≡ 1) × (word_of words (Quorum 0) ≡ 1) ×
         (word_of words (Quorum 1) ≡ 0) }
 {}

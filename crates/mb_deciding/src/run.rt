@@ -5,7 +5,7 @@ use crate::trace::{Entry, Trace};
 use machine::Machine;
 use std::alloc::{AllocError, Allocator};
 use std::marker::Model;
-use words::{ObjectWords, Words};
+use words::{ObjectMemory, ObjectWords};
 
 pub mod conciliate;
 mod machine;
@@ -16,7 +16,7 @@ mod words;
 /// One object with its processes, and what they have done so far.
 #[derive(Drop)]
 pub struct Run<A: Allocator + Drop> {
-    words: Words,
+    words: ObjectMemory,
     places: Vec<Next, A>,
     entries: Vec<Entry, A>,
 }
@@ -57,7 +57,7 @@ impl<A: Allocator + Copy + Drop> Run<A> {
         }
         let entries = Vec::with_capacity(alloc, turns)?;
         Ok(Run {
-            words: Words::new(),
+            words: ObjectMemory::new(),
             places,
             entries,
         })

@@ -29,7 +29,7 @@ module _ (may_pass : Who → ℕ → Type 0) where
     passed = none_passed (who.Consumer old.seat.consumer) calls none;
   }
 
-  -- and one that has made one more
+  -- a consumer that has made one more call
   pub called_more : (from end budget calls now lane : ℕ) (answer : Poll) (s u t : Stream)
       (old mid new : ConsumerView) → now ≡ suc calls
       → HasCalled may_pass from end budget calls s u old mid → from ≤ lane → lane < end

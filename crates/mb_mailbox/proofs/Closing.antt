@@ -23,7 +23,7 @@ there : (s : ProducerView) (h : HasPart s.seat)
     (part (Producer s.seat.lane) h.history.0)
 there s h = subst (λ d. IsLaneAfter s.seat.table.size.cells s.seat.lane s.seat.place d) (sym h.history.2) h.place
 
--- what its part has found the whole history has found, and the other way round
+-- what its part has found, the whole history has found, and the other way round
 in_all : PutLaws → (s : ProducerView) (h : HasPart s.seat) → FoundNoCell s
     → HasFoundNone s.seat.table.size.cells s.seat.lane h.history.0
 in_all laws s h none = record {
@@ -45,7 +45,7 @@ none_by laws s h e =
       past = none.past;
     }
 
--- after such a fetch-add an offer is refused
+-- after a fetch-add that found no cell, an offer is refused
 refused_one : PutLaws → (s : ProducerView) (h : HasPart s.seat) → FoundNoCell s → offer_refusal s.seat.place ≡ None → ⊥
 refused_one laws s h none unrefused = by (has_ended s.seat.lane h.history.0) refl
   where
@@ -144,7 +144,7 @@ full_lane s x now m = by (found s x now m)
       lane = ap (λ (v : LaneSeatView). v.lane) is;
     }
 
--- it answers Full where a fetch-add of its own found no cell, as long as the lane has not ended
+-- if a fetch-add of its own found no cell, an offer returns Full as long as the lane has not ended
 pub stays_full : PutLaws → (s : ProducerView) (x : ℕ) (answer : Offer) (now : LaneSeatView)
     → HasPart s.seat → OfferMakes s.seat x answer now
     → FoundNoCell s → is_over s ≡ false → answer ≡ offer.Full
@@ -154,7 +154,7 @@ stays_full laws s x answer now h m none going =
     ((laws.full s.seat.table.size h.history.0 s.seat.lane s.seat.place h.history.1 place).1
     (laws.ended h.history.0 s.seat.lane ∙ ap (has_ended s.seat.lane) h.history.2 ∙ going, in_all laws s h none)) m
 
--- neither answer of an offer that finds no cell ends the lane
+-- an offer that finds no cell does not end the lane
 pub full_stays : (s : ProducerView) (x : ℕ) (now : LaneSeatView)
     → OfferMakes s.seat x offer.Full now → is_over (with_seat now s) ≡ is_over s
 full_stays s x now m = by (found s x now m)
@@ -219,7 +219,7 @@ finish_still laws s answer now i m = by s.seat.place.stage m
     by (stage.Stored c) m = same m.1
     by (stage.Ended f) m = same m.1
 
--- it never waits for a link
+-- a finish is never `Busy`, since no item waits for its link
 pub finish_not_busy : (s : ProducerView) (now : LaneSeatView) → IsProducer s → FinishMakes s.seat finish.Busy now → ⊥
 finish_not_busy s now i m = by s.seat.place.stage m i.idle
   where

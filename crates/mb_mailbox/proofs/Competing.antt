@@ -17,7 +17,7 @@ use Rattle.mb_mailbox.proofs.Lists.{set_here, set_same, set_twice, some_same}
 use Rattle.mb_mailbox.proofs.Made.{claim_made}
 use Rattle.mb_mailbox.proofs.Polls.{steps_more}
 
--- the laws on which it stands
+-- the law on which the steps stand
 abbrev pub MovesOn : Type 0
 MovesOn = (s : ConsumerView) (p k word seen : ℕ) (claim now : Claim) (next : ClaimOp)
     → IsConsumer s → HasLoads s → HasPlace p (At k claim) s
@@ -34,14 +34,14 @@ IsNext = (s : ConsumerView) (p k word seen : ℕ) (claim now : Claim) (next : Cl
     → ConsumerStep (claims_at s.seat.table) s.seat.consumer p (parts_of s.reader s.seat)
     (ToClaims (access_of s.seat.consumer k next seen word)) (stage_answer (claim_stage now))
 
--- at the start
+-- a claim that has no note and is not going is won
 unnoted : (st : Stage) → note_of st ≡ None → (st ≡ stage.Going → ⊥) → st ≡ stage.Won
 unnoted stage.Going e ne = absurd (ne refl)
 unnoted stage.Won e ne = refl
 unnoted (stage.Lost w) e ne = absurd (cc)
 unnoted stage.Undecided e ne = absurd (cc)
 
--- a consumer that stands at the claim has not moved by it
+-- before the first access the consumer is as it was, and there is no answer
 still : (p k : ℕ) (claim : Claim) (st : Stage) (s : ConsumerView) → HasPlace p (At k claim) s → note_of st ≡ None
     → (moved_to p (place_after k claim st) (note_of st) s.reader.part s.seat.part s ≡ s) × (stage_answer st ≡ None)
 still p k claim stage.Going s e none =

@@ -28,7 +28,7 @@ counted plan hs r is =
         let same : l ≡ lane_view plan p hs r = some_same l (lane_view plan p hs r) (sym e ∙ is.lane p low) in
         ap (λ (v : LaneView). length v.put) same ∙ length-map (put_list p hs.pool) (λ (z : Entry). z.value)
 
--- ---- where a note stands
+-- ---- the place of a note
 some_chosen : {X : Type 0} (b : Bool) (o : Option X) (x : X) → (if b then o else None) ≡ Some x
     → (b ≡ true) × (o ≡ Some x)
 some_chosen true o x e = (refl, e)
@@ -72,7 +72,7 @@ is_noted plan hs r is c p j n e =
       here = t.2;
     }
 
--- what a list began with keeps its places, from the first on
+-- if a list begins with another, counted from the first on, the other's elements keep their places
 pub at_start : (ks ls : List ℕ) (j k : ℕ) → IsStart ks ls → slice_get (reverse ks) j ≡ Some k
     → slice_get (reverse ls) j ≡ Some k
 at_start ks ls j k s e =

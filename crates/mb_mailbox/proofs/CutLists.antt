@@ -1,4 +1,4 @@
--- What a hub tells of its ledgers, whether their notes are cut or not.
+-- The view of a hub has its ledgers, whether their notes are cut or not.
 use Rattle.std.proofs.Common.{◌≡◌, ℕ, suc, ◌+◌, ◌<◌, ◌≤◌, true, List, [], ◌∷◌, ◌++◌, length, get_or, refl, sym, ap, ◌∙◌, inl, inr, arith}
 use Rattle.std.specs.Prelude.{Option, Some, None, slice_get, slice_set}
 use Rattle.std.specs.Option.{option_map, option_map_or}
@@ -30,7 +30,7 @@ pub item_there : {X : Type 0} (xs ys : List X) (i : ℕ) (x : X) → xs ≡ ys �
     → slice_get ys i ≡ Some x
 item_there xs ys i x e low is = ap (λ zs. slice_get zs i) (sym e) ∙ slice_get_read xs (length xs) i x refl low is
 
--- what is kept of one is what its ledger tells
+-- what is kept of a consumer is the ledger of its record
 pub kept_told : (os : List (Option KeptView)) (c : ℕ) → kept_at (ledgers_in os) c ≡ ledger_in (kept_at os c)
 kept_told os c = ap (λ (z : Option (Option ConsumerRecordView)). option_map_or
     (λ (o : Option ConsumerRecordView). o) z None)

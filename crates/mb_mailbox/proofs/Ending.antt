@@ -1,4 +1,4 @@
--- How a poll ends that has held a claim.
+-- How a poll that has held a claim ends.
 use Rattle.std.proofs.Common.{◌≡◌, ◌≢◌, ℕ, ◌+◌, ap, ◌∙◌, subst, arith}
 use Rattle.std.specs.Prelude.{Some, slice_get}
 use Rattle.mb_mailbox.specs.Imports.{Claim, ReaderSeatView, SeatView, Stream}

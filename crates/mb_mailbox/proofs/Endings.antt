@@ -140,7 +140,7 @@ module _ (met : (q p : ℕ) (h : History) → HasMet q p (cells_met p (part (Rea
         notes = noted;
       }
 
--- ---- where it was taken in
+-- ---- after it was taken in
 module _ (whole : (h : History) (r p : ℕ) (ks : List ℕ) → HasMet r p ks (part (Reader r) h) → HasMet r p ks h)
     (of : (h : History) (who : Process) (a : PoolAccess) → Has (part who h) a → Has h a × (a.process ≡ who))
     (last : (size : PoolSize) (h : History) (r p : ℕ) (ks : List ℕ) → IsPoolLawful size h

@@ -1,4 +1,4 @@
--- A poll loads one end mark where it is answered `Ended`, and none elsewhere.
+-- A poll loads one end mark if it returns `Ended`, and else none.
 use Rattle.std.proofs.Common.{◌≡◌, ◌≢◌, ℕ, ◌+◌, Bool, true, false, List, [], ◌∷◌, ◌++◌, Option, Some, None, length, refl, subst, ap, ◌∙◌, arith}
 use Rattle.std.specs.Int.{from_bool}
 use Rattle.mb_cells.specs.declared.answer.Look.TheVariants as look
@@ -96,7 +96,7 @@ module _ (p budget : ℕ) (answer : Poll) (s t : Stream) (old new : ConsumerView
       let one = one_told p i.accesses old (subst (λ (a : Poll). LeadTo p (outcome a) i.accesses old) is i.lead) in
       omega (arith, sum, one)
 
--- who has made no access has met no end
+-- a consumer that has made no access has met no end
 no_end : (h : History) (n : ℕ) → length h + n ≡ 0 → ends_met h ≡ 0
 no_end [] n e = refl
 no_end (x ∷ h) n e = absurd (omega (arith, e))

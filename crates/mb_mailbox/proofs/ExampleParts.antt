@@ -1,4 +1,4 @@
--- The parts of the examples: a consumer that has met cell 4 on lane 0, and loaded neither its item nor its link.
+-- The parts of the examples: a consumer that has met cell 4 on lane 0, and has loaded neither its item nor its link.
 use Rattle.std.proofs.Common.{None, Option, Some, [], inl, inr, refl, ◌∷◌, ◌≡◌, ◌∙◌, ℕ, List}
 use Rattle.mb_cells.specs.Vocabulary.{loaded_by}
 use Rattle.mb_mailbox.specs.Imports.{HasRead, Head, Item, Link, ObjectTurn, ToCells, ToClaims, Word, WorldAccess, load}
@@ -18,7 +18,7 @@ abbrev pub step_in : WorldAccess → Option ObjectTurn
 step_in (ToCells a) = None
 step_in (ToClaims a) = Some a.step
 
--- and the value that an access to the cells loaded
+-- the value that an access to the cells loaded
 abbrev pub value_loaded : WorldAccess → Option ℕ
 value_loaded (ToCells a) = loaded_by a.act
 value_loaded (ToClaims a) = None

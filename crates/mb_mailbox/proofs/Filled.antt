@@ -69,7 +69,7 @@ rows_length : (lanes c : ℕ) (os : List (Option ConsumerRecordView)) (ds : List
 rows_length lanes c os ds =
     turns_length (λ d o es. with_row (d * lanes) o es) (λ d o es. row_length (d * lanes) o es) c os ds
 
--- ---- what stands at a place
+-- ---- the element at a place
 changed_here : {X : Type 0} (xs : List X) (i : ℕ) (f : X → X)
     → slice_get (changed_at xs i f) i ≡ option_map f (slice_get xs i)
 changed_here [] i f = refl
@@ -149,7 +149,7 @@ abbrev noted : ℕ → Option ConsumerRecordView → Option DiaryView → Option
 noted q None z = z
 noted q (Some l) z = option_map (with_notes (notes_on q l.notes)) z
 
--- it has notes for so many lanes
+-- the consumer has notes for this many lanes, if it was taken in
 abbrev IsFull : ℕ → Option ConsumerRecordView → Type 0
 IsFull lanes o = (l : ConsumerRecordView) → o ≡ Some l → length l.notes ≡ lanes
 
@@ -279,7 +279,7 @@ report_filled lanes consumers h o r out full ls ds = record {
       (out.each_diary.each c p low (within_grid lanes consumers c p known low));
 }
 
--- the same of a mailbox and its hub
+-- each consumer that a hub has taken in has notes for each lane
 pub full_ledgers : (h : HubView) → IsHub h → AreFull h.cells.table.size.lanes h.ledgers
 full_ledgers h i c l e = (i.taken c l e).2.2.notes_count
 

@@ -1,4 +1,4 @@
--- What a run comes to, from what was given, what came of it, and what was taken in.
+-- What a run comes to: from what was given, from what came of it, and from what was taken in.
 use Rattle.std.proofs.Common.{◌≡◌, ℕ, suc, Bool, true, ◌+◌, ◌-◌, ◌^◌, ◌≤◌, List, [], ◌∷◌, ◌++◌, length, map, min, refl, sym, ap, ◌∙◌, subst, false, arith, ◌<◌}
 use Rattle.std.specs.Int.{from_bool}
 use Rattle.std.specs.Prelude.{Vec, Some, slice_get}
@@ -30,8 +30,8 @@ use Rattle.mb_mailbox.specs.declared.crew.jobs.PollDone.{PollDone}
 use Rattle.mb_mailbox.specs.declared.crew.jobs.PollJob.{PollJob}
 use Rattle.mb_mailbox.specs.declared.crew.jobs.PutDone.{PutDone}
 use Rattle.mb_mailbox.specs.declared.crew.jobs.PutJob.{PutJob}
-use Rattle.mb_mailbox.specs.declared.crew.room.Ends.{Ends}
-use Rattle.mb_mailbox.specs.declared.crew.room.Jobs.{Jobs}
+use Rattle.mb_mailbox.specs.declared.crew.room.WorkerResults.{WorkerResults}
+use Rattle.mb_mailbox.specs.declared.crew.room.WorkerInputs.{WorkerInputs}
 use Rattle.mb_mailbox.specs.declared.crew.room.WorkerBuffers.{WorkerBuffers}
 use Rattle.mb_mailbox.proofs.Noted.{all_noted}
 use Rattle.mb_mailbox.proofs.Runs.{lane_left, lanes_of, left_by, left_of, nums, run_beyond, run_cut, run_ends, run_met, run_of, run_only, run_passes, run_poll_stops, run_polled, run_stops, run_unread}
@@ -82,7 +82,7 @@ module _ {R Z : Type 0} (m : MailboxView) where
         claims = a.0.claims;
       }) (polls_at (suc c) js a.1)
 
-  pub jobs_at : (vs : List (Vec ℕ Z)) (sources : ℕ) (jobs : Jobs R Z) (h mid : HubView)
+  pub jobs_at : (vs : List (Vec ℕ Z)) (sources : ℕ) (jobs : WorkerInputs R Z) (h mid : HubView)
       → AreGiven m vs sources jobs h mid → AreOf m jobs
   jobs_at vs sources jobs h mid g = record {
     puts = puts_at m (length h.puts) g.puts.front jobs.puts.items g.puts.are;
@@ -109,7 +109,7 @@ module _ {R Z : Type 0} (m : MailboxView) where
       (poll_ends_at may_stop may_pass stream from end budget js ds (All-tail P j js a) z.1)
 
   pub ends_at : (may_stop may_pass : Who → ℕ → Type 0) (stream : R → Stream) (from end budget : ℕ)
-      (jobs : Jobs R Z) (ends : Ends Z) → AreOf m jobs
+      (jobs : WorkerInputs R Z) (ends : WorkerResults Z) → AreOf m jobs
       → AreEndsOf may_stop may_pass stream from end budget jobs ends
       → AreEndsAt m ends
   ends_at may_stop may_pass stream from end budget jobs ends a e = record {
@@ -117,7 +117,7 @@ module _ {R Z : Type 0} (m : MailboxView) where
     polls = poll_ends_at may_stop may_pass stream from end budget jobs.polls.items ends.polls.items a.polls e.polls;
   }
 
--- there is room for fewer
+-- room for this many workers is room for fewer
 pub room_for : {G R Z : Type 0} (a b c d : ℕ) (r : WorkerBuffers G R Z) → c ≤ a → d ≤ b → HasRoom a b r → HasRoom c d r
 room_for a b c d r puts polls h =
     let p = h.puts in
@@ -132,7 +132,7 @@ room_for a b c d r puts polls h =
       ends = record { no_puts = h.ends.no_puts; no_polls = h.ends.no_polls; puts = omega arith; polls = omega arith };
     }
 
--- ---- where nothing was given
+-- ---- if nothing was given
 append_none : {X : Type 0} (xs : List X) → xs ≡ xs ++ []
 append_none [] = refl
 append_none (x ∷ xs) = ap (λ l. x ∷ l) (append_none xs)
@@ -180,8 +180,8 @@ at_most_each f (x ∷ xs) =
 
 -- ---- the end of a run
 module _ {R Z : Type 0} (m : MailboxView) (may_stop may_pass : Who → ℕ → Type 0)
-    (stream : R → Stream) (items : List (Vec ℕ Z)) (sources from end budget : ℕ) (jobs : Jobs R Z)
-    (ends : Ends Z) (h mid now : HubView)
+    (stream : R → Stream) (items : List (Vec ℕ Z)) (sources from end budget : ℕ) (jobs : WorkerInputs R Z)
+    (ends : WorkerResults Z) (h mid now : HubView)
     (hub : IsHub h) (given : AreGiven m items sources jobs h mid)
     (came : AreEndsOf may_stop may_pass stream from end budget jobs ends)
     (is : now ≡ with_taken ends mid) where
@@ -234,7 +234,7 @@ module _ {R Z : Type 0} (m : MailboxView) (may_stop may_pass : Who → ℕ → T
     few = sym (zip_length _ (lists_in items) (lanes_of m may_stop may_pass ends.puts.items)
         run.fronts) ∙ length-map items (λ (v : Vec ℕ Z). v.items)
 
-    -- where a worker has come to an end, there was a list or a source
+    -- if a worker has come to an end, there was a list or a source
     pub some_worker : 0 < length ends.puts.items + length ends.polls.items → 0 < length items + sources
     some_worker some =
         let puts = length-map ends.puts.items (λ (d : PutDone Z). lane_left d.producer d.stopped) in
@@ -245,8 +245,8 @@ module _ {R Z : Type 0} (m : MailboxView) (may_stop may_pass : Who → ℕ → T
 
     module _ (w : Worked) (full : w.full ≡ min (2 ^ 64 - 1) (sum_by (λ (d : PutDone Z). d.full) ends.puts.items))
         (stopped : w.stopped ≡ min (2 ^ 64 - 1) (count_stopped ends))
-        (puts_on : All (λ (d : PutDone Z). d.off ≡ false) ends.puts.items)
-        (polls_on : All (λ (d : PollDone Z). d.off ≡ false) ends.polls.items) (small : length items + sources < 2 ^ 64)
+        (puts_on : All (λ (d : PutDone Z). d.aborted ≡ false) ends.puts.items)
+        (polls_on : All (λ (d : PollDone Z). d.aborted ≡ false) ends.polls.items) (small : length items + sources < 2 ^ 64)
         (later : IsHub now) (of : IsHubOf m now)
         (pool : History) (roll : IsRollOf now.cells.table.size now.cells.roll pool)
         (first : from ≡ length h.puts) (last : end ≡ length h.puts + length items)
@@ -254,7 +254,7 @@ module _ {R Z : Type 0} (m : MailboxView) (may_stop may_pass : Who → ℕ → T
         (s : ConsumerView) → IsRollOf size roll h
         → slice_get roll.lanes p ≡ Some (Some done) → slice_get roll.readers s.reader.reader ≡ Some (Some s.reader.part)
         → HasReadToEnd p s → length (notes_on p s.notes) ≡ length (values_put p done)) where
-      -- no more are stopped than there are
+      -- no more workers are stopped than there are
       total : w.stopped ≡ sum_by (λ (l : LaneLeft). from_bool l.stopped) (lanes_of m may_stop may_pass ends.puts.items)
           + sum_by (λ (c : ConsumerLeft). from_bool c.stopped) (left_of m may_stop may_pass ends.polls.items)
       total =

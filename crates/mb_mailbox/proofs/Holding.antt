@@ -21,11 +21,11 @@ use Rattle.mb_mailbox.proofs.Moving.{holds, loads_known}
 use Rattle.mb_mailbox.proofs.Standings.{Leaves, end_kept, ends_more, moves, same_length, with_one}
 use Rattle.mb_mailbox.proofs.Totals.{sum_less, total}
 
--- a note behind others is the first of them backwards
+-- a note after others is the first of them backwards
 snoc_back : (ns : List Note) (n : Note) → reverse (ns ++ n ∷ []) ≡ n ∷ reverse ns
 snoc_back ns n = reverse-append ns (n ∷ [])
 
--- the stage of a claim that is held
+-- a claim that is held and not won is going
 pub goes_on : (st : Stage) → note_of st ≡ None → st ≢ stage.Won → st ≡ stage.Going
 goes_on stage.Going e ne = refl
 goes_on stage.Won e ne = absurd (ne refl)
@@ -65,7 +65,7 @@ module _ (s : ConsumerView) (p k : ℕ) (claim : Claim) (i : IsConsumer s) (e : 
     pub within : k < s.reader.table.size.cells
     within = known.within p k has_here
 
-    -- each list of notes has at most as many as cells were met on its lane, and this one has one less
+    -- each list has at most as many notes as cells were met on its lane. The list of this lane has fewer
     noted : (q : ℕ) (ns : List Note) → slice_get s.notes q ≡ Some ns → length ns ≤ length (cells_met q s.reader.part)
     noted q ns f = by t.0 (i.lanes q t.0 ns t.1 f)
       where
@@ -102,7 +102,7 @@ module _ (s : ConsumerView) (p k : ℕ) (claim : Claim) (i : IsConsumer s) (e : 
         ap (total (λ q. length (cells_met q s.reader.part))) i.notes_count in
         omega (arith, less, share, same)
 
-    -- the claims' cells before this one are other cells
+    -- the cells before this one are other cells
     before_else : (ns : List Note) (o : ConsumerIsAt i.size.layout cs c p x ns k claim) (j : ℕ)
         → Has o.cells j → j ≡ k → ⊥
     before_else ns o j has f =

@@ -101,7 +101,7 @@ is_out h p i out =
         let f : None ≡ Some t.0 = some_same None (Some t.0) (sym out ∙ t.1) in
         absurd (cc)
 
--- what is kept of a producer is told by its part
+-- the part of a producer determines what is kept of it
 pub kept_list : (s : ProducerView) → IsProducer s
     → ((e : Entry) → Has s.seat.part (fetch s.seat.lane e) → e.cell < s.seat.table.size.cells
     → Has (linked_cells s.seat.lane s.seat.part) e.cell)

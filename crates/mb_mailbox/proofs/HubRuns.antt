@@ -1,4 +1,4 @@
--- What a hub has after it has given or taken in several.
+-- What a hub has after it has given or taken in several producers or consumers.
 use Rattle.std.proofs.Common.{◌≡◌, ℕ, zero, suc, List, [], ◌∷◌, ◌++◌, length, map, refl, sym, ap, ◌∙◌, subst, append_assoc, arith}
 use Rattle.std.specs.Prelude.{Option, Some, None, slice_set}
 use Rattle.std.proofs.lemmas.List.{length-append}
@@ -29,7 +29,7 @@ taken_consumers_snoc [] s h = refl
 taken_consumers_snoc (t ∷ ts) s h = taken_consumers_snoc ts s (with_taken_consumer t h)
 
 -- ---- lists of what is out, filled place by place
--- as many as the list has, all out
+-- a list with as many elements, each of them out
 abbrev pub outs : {X Y : Type 0} → List X → List (Option Y)
 outs [] = []
 outs (x ∷ xs) = None ∷ outs xs
@@ -62,7 +62,7 @@ fills at val (x ∷ xs) base n e c =
     ∙ fills at val xs (base ++ val x ∷ []) (suc n) longer c.1
     ∙ append_assoc base (val x ∷ []) (map val xs)
 
--- as many of either list
+-- for lists of the same length the lists of what is out are equal
 pub outs_alike : {X W Y : Type 0} (xs : List X) (ws : List W) → length xs ≡ length ws → outs {Y = Y} xs ≡ outs ws
 outs_alike [] [] e = refl
 outs_alike [] (w ∷ ws) e = absurd (cc)
@@ -127,7 +127,7 @@ module _ {Y : Type 0} (f : HubView → Y) where
   same_by_taken_consumers same [] h = refl
   same_by_taken_consumers same (s ∷ ss) h = same_by_taken_consumers same ss (with_taken_consumer s h) ∙ same s h
 
--- ---- a whole run: so many producers and consumers given, and all of them taken in
+-- ---- a whole run: this many producers and consumers are given, and all of them are taken in
 module _ {J K : Type 0} (js : List J) (ks : List K) (ss : List ProducerView)
     (cs : List ConsumerView) (h : HubView) where
   abbrev pub given : HubView

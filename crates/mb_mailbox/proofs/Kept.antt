@@ -49,8 +49,8 @@ module _ {G R Z : Type 0} (may_stop may_pass : G → Who → ℕ → Type 0) (st
 -- a consumer that was not run
 pub not_run : {Z : Type 0} (may_stop may_pass : Who → ℕ → Type 0) (from end budget : ℕ)
     (source : Stream) (s : ConsumerView) (d : PollDone Z) → d.consumer ≡ s
-    → d.stopped ≡ true → d.off ≡ true → IsPollEnd may_stop may_pass from end budget source s d
-not_run may_stop may_pass from end budget source s d is stopped off = record {
+    → d.stopped ≡ true → d.aborted ≡ true → IsPollEnd may_stop may_pass from end budget source s d
+not_run may_stop may_pass from end budget source s d is stopped aborted = record {
   same = record {
     cells = ap (λ (t : ConsumerView). t.reader.table) is;
     reader = ap (λ (t : ConsumerView). t.reader.reader) is;
@@ -65,17 +65,17 @@ not_run may_stop may_pass from end budget source s d is stopped off = record {
     read = λ p e. absurd (clear [] p (tt {0}) e);
     once = ap (λ (t : ConsumerView). ends_met t.reader.part) is ∙ none_met s none;
   };
-  stop = λ t f none. let no : true ≡ false = sym off ∙ f in absurd (cc);
-  unread = λ t f none. let no : true ≡ false = sym off ∙ f in absurd (cc);
-  only = λ f none. let no : true ≡ false = sym off ∙ f in absurd (cc);
-  polled = λ f. let no : true ≡ false = sym off ∙ f in absurd (cc);
+  stop = λ t f none. let no : true ≡ false = sym aborted ∙ f in absurd (cc);
+  unread = λ t f none. let no : true ≡ false = sym aborted ∙ f in absurd (cc);
+  only = λ f none. let no : true ≡ false = sym aborted ∙ f in absurd (cc);
+  polled = λ f. let no : true ≡ false = sym aborted ∙ f in absurd (cc);
 }
 
--- where the run is off, less is said of the end
+-- if the run is aborted, less is said of the end
 pub still_off : {Z : Type 0} (may_stop may_pass : Who → ℕ → Type 0) (from end budget : ℕ)
     (source : Stream) (s : ConsumerView) (d : PollDone Z)
     → IsPollEnd may_stop may_pass from end budget source s d
-    → IsPollEnd {Z = Z} may_stop may_pass from end budget source s (record d { off = true })
+    → IsPollEnd {Z = Z} may_stop may_pass from end budget source s (record d { aborted = true })
 still_off may_stop may_pass from end budget source s d i = record {
   same = i.same;
   read = i.read;

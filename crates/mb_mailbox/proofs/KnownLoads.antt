@@ -1,4 +1,4 @@
--- What the laws of the cells give for what one reader loaded.
+-- What the laws of the cells say of the loads of one reader.
 use Rattle.std.proofs.Common.{◌≡◌, ◌≢◌, ◌⊎◌, ℕ, ◌+◌, ◌<◌, ◌≤◌, List, [], ◌∷◌, ◌++◌, length, map, refl, sym, ap, ◌∙◌, subst, inl, inr, arith}
 use Rattle.std.proofs.lemmas.List.{length-append, length-map, length-reverse}
 use Rattle.mb_cells.specs.Vocabulary.{HasLoaded, entry_at, put_list}
@@ -7,7 +7,7 @@ use Rattle.mb_mailbox.specs.Imports.{END, FollowsLinks, Gave, Has, HasRead, Hist
 use Rattle.mb_mailbox.specs.Imports.{Word, cells_met, linked_cells, load, part, place_past}
 use Rattle.mb_mailbox.proofs.Totals.{put_total, total, total_most}
 
--- what the laws give for the loads of a reader in a lawful history
+-- what the laws say of the loads of a reader in a lawful history
 pub record Known (size : PoolSize) (reads : History) : Type 0 where
   pub apart : (p q k : ℕ) → Has (cells_met p reads) k → Has (cells_met q reads) k → p ≡ q
   pub once : (p : ℕ) → IsOnceEach (cells_met p reads)
@@ -18,7 +18,7 @@ pub record Known (size : PoolSize) (reads : History) : Type 0 where
   pub link : (k v : ℕ) → HasRead (Link k) v reads → Gave k reads
   pub item : (k v : ℕ) → HasRead (Item k) v reads → Gave k reads
 
--- what a reader's part has was loaded in the history
+-- what a reader's part has loaded was loaded in the history
 loaded : Laws → (r v : ℕ) (w : Word) (h : History) → HasRead w v (part (Reader r) h) → HasLoaded r w v h
 loaded laws r v w h read =
     let a = read.0 in
@@ -63,7 +63,7 @@ pub known : Laws → (size : PoolSize) (r : ℕ) (h reads : History) → IsPoolL
     → part (Reader r) h ≡ reads → Known size reads
 known laws size r h reads lawful is = subst (Known size) is (known_of laws size r h lawful)
 
--- the link behind cells is no item, and if it is the link of a cell, the cell is the last of these
+-- the link past cells is no item. If it is the link of a cell, that cell is the last of these
 pub past_item : (p k : ℕ) (ks : List ℕ) → place_past p ks ≡ Item k → ⊥
 past_item p k [] e = cc
 past_item p k (j ∷ ks) e = cc
@@ -72,7 +72,7 @@ pub past_link : (p k : ℕ) (ks : List ℕ) → place_past p ks ≡ Link k → H
 past_link p k [] e = absurd (cc)
 past_link p k (j ∷ ks) e = let same : j ≡ k = cc in inl same
 
--- lanes have other links behind their cells
+-- different lanes have different links past their cells
 pub past_apart : (p q : ℕ) (ks js : List ℕ) → ((k : ℕ) → Has ks k → Has js k → p ≡ q) → p ≢ q
     → place_past p ks ≡ place_past q js → ⊥
 past_apart p q [] [] one ne e = ne (cc)

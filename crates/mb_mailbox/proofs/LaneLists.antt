@@ -72,7 +72,7 @@ on_other q xs x ne =
     ∙ ap (λ b. on_lane q xs ++ (if b then note_in x ∷ [] else [])) (ne_eqb q (lane_of x) (λ e. ne (sym e)))
     ∙ append-nil (on_lane q xs)
 
--- on lanes past that of the note there is nothing more
+-- lanes past the note's lane have no more notes
 on_rest : (p n : ℕ) (xs : List Noted) (x : Noted) → lane_of x < p → on_lanes p n (xs ++ x ∷ []) ≡ on_lanes p n xs
 on_rest p zero xs x low = refl
 on_rest p (suc n) xs x low = λ i.
@@ -98,7 +98,7 @@ noted_more n p note xs =
     cut_more n xs (noted p note)
     ∙ (λ i. with_note (lane_noted p note i) (Some (note_noted p note i)) (by_lane n xs))
 
--- where there is no such lane, nothing changes
+-- if there is no such lane, nothing changes
 set_past : {X : Type 0} (xs : List X) (p : ℕ) (x : X) → length xs ≤ p → slice_set xs p x ≡ xs
 set_past [] p x e = refl
 set_past (y ∷ ys) zero x e = absurd (omega (arith, e))

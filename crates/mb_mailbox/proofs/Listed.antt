@@ -1,4 +1,4 @@
--- Lists with one more at their end: what is counted, chosen and told of them.
+-- Lists with one more element at their end: what is counted and chosen in them, and what is said of them.
 use Rattle.std.proofs.Common.{◌≡◌, ◌⊎◌, ℕ, zero, suc, ◌+◌, ◌*◌, ◌<◌, ◌≤◌, ◌||◌, Bool, true, false, List, [], ◌∷◌, ◌++◌, length, get_or, take, refl, sym, ◌∙◌, ap, inl, inr, arith, append-nil}
 use Rattle.std.specs.Prelude.{Option, Some, None, if◌then◌else◌}
 use Rattle.std.proofs.lemmas.Bool.{cases_eq, cases_lt}

@@ -59,7 +59,7 @@ only_by p budget answer s t old new i from end low high was a q has w =
     (λ (t : Has old.reader.part a). was a q t w)
     (had (pool_accesses i.accesses) old.reader.part a there)
 
--- who has made no access has looked nowhere
+-- a consumer that has made no access has looked nowhere
 no_access : (h : History) (n : ℕ) (a : PoolAccess) → length h + n ≡ 0 → Has h a → ⊥
 no_access [] n a e has = has
 no_access (x ∷ h) n a e has = omega (arith, e)

@@ -1,4 +1,4 @@
--- What the loops of a run keep, one element later.
+-- What the loops of a run keep, after one more element.
 use Rattle.std.proofs.Common.{◌≡◌, ℕ, suc, ◌+◌, ◌<◌, ◌||◌, Bool, true, false, refl, List, [], ◌∷◌, ◌++◌, ◌-◌, ◌*◌, ◌≤◌, length, map, min, sym, ap, ◌∙◌, subst, arith}
 use Rattle.std.specs.Prelude.{Vec}
 use Rattle.std.proofs.Math.Nat.{mul-suc}
@@ -76,11 +76,11 @@ budget_more budget call base old new first was step =
     let more = ap (λ (n : ℕ). budget * n) next ∙ mul-suc budget (call - 1) in
     omega (arith, was, step, more)
 
--- ---- whether the run is off
-on_yet : {X : Type 0} (f : X → Bool) (was off : Bool) (xs : List X) (x : X)
-    → (was ≡ false → All (λ x. f x ≡ false) xs) → f x ≡ off
-    → (was || off) ≡ false → All (λ x. f x ≡ false) (xs ++ x ∷ [])
-on_yet f true off xs x e is h = absurd (cc)
+-- ---- whether the run is aborted
+on_yet : {X : Type 0} (f : X → Bool) (was aborted : Bool) (xs : List X) (x : X)
+    → (was ≡ false → All (λ x. f x ≡ false) xs) → f x ≡ aborted
+    → (was || aborted) ≡ false → All (λ x. f x ≡ false) (xs ++ x ∷ [])
+on_yet f true aborted xs x e is h = absurd (cc)
 on_yet f false true xs x e is h = absurd (cc)
 on_yet f false false xs x e is h = All-push (λ x. f x ≡ false) xs x (e refl) is
 
@@ -92,15 +92,15 @@ on_more f was now xs x e is h = on_yet f was (f x) xs x e refl (sym is ∙ h)
 pub some_seen : {X : Type 0} (xs : List X) (x : X) → 0 < length (xs ++ x ∷ [])
 some_seen xs x = let all = length-append xs (x ∷ []) in omega (arith, all)
 
--- what holds of all holds of those before the last, and of the last
+-- what holds of all elements holds of those before the last, and of the last
 all_but_last : {X : Type 0} (P : X → Type 0) (xs : List X) (x : X) → All P (xs ++ x ∷ []) → All P xs × P x
 all_but_last P [] x a = (λ k d low. absurd (omega (arith, low)), All-head P x [] a)
 all_but_last P (y ∷ ys) x a =
     let rest = all_but_last P ys x (All-tail P y (ys ++ x ∷ []) a)
     in (All-cons P y ys (All-head P y (ys ++ x ∷ []) a) rest.0, rest.1)
 
-neither : (was off now : Bool) → now ≡ (was || off) → was ≡ false → off ≡ false → now ≡ false
-neither was off now is a b = is ∙ (λ i. a i || b i)
+neither : (was aborted now : Bool) → now ≡ (was || aborted) → was ≡ false → aborted ≡ false → now ≡ false
+neither was aborted now is a b = is ∙ (λ i. a i || b i)
 
 pub told_more : {X : Type 0} (f : X → Bool) (was now : Bool) (xs : List X) (x : X)
     → (All (λ x. f x ≡ false) xs → was ≡ false)

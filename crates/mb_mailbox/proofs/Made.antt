@@ -21,7 +21,7 @@ use Rattle.mb_world.specs.declared.place.Place.{Place}
 abbrev pub at_views : ReaderSeatView → SeatView → List Place → List (List Note) → ConsumerView
 at_views reader seat places notes = record { reader = reader; seat = seat; places = places; notes = notes }
 
--- what holds of the one that moved
+-- what holds of the consumer after its move holds of the consumer with these fields
 pub moved_has : (P : ConsumerView → Type 0)
     → (s : ConsumerView) (p : ℕ) (place : Place) (o : Option Note) (reads : History)
     (made : List ClaimAccess)

@@ -4,7 +4,7 @@ use Rattle.std.specs.Int.{from_bool}
 use Rattle.std.specs.Prelude.{slice_index_or}
 use Rattle.mb_mailbox.specs.Jobs.{count_marks}
 
--- a place that is marked after one more mark is that one, or was marked
+-- if a place is marked after one more mark, it is the place of that mark, or was marked before
 pub marked : (xs : List Bool) (k p : ℕ) → slice_index_or (slice_set xs k true) p false ≡ true
     → (p ≡ k) ⊎ ((p ≢ k) × (slice_index_or xs p false ≡ true))
 marked [] k p e = absurd (cc)
@@ -18,7 +18,7 @@ marked (x ∷ xs) (suc k) (suc p) e = by (marked xs k p e)
     by (inl h) = inl (ap suc h)
     by (inr t) = let ne = t.0 in inr ((λ h. ne (omega (arith, h))), t.1)
 
--- a place that is not marked is not one that is
+-- a place that is not marked and a place that is marked are different
 pub apart : (xs : List Bool) (k p : ℕ) → slice_index_or xs k true ≡ false → slice_index_or xs p false ≡ true → p ≢ k
 apart [] k p e f = absurd (cc)
 apart (x ∷ xs) zero zero e f = absurd (cc)
@@ -38,7 +38,7 @@ clear (true ∷ xs) p a e = absurd a
 clear (false ∷ xs) zero a e = absurd (cc)
 clear (false ∷ xs) (suc p) a e = clear xs p a e
 
--- what stands within the list does not hang on what stands past it
+-- within the list, a mark does not depend on the default past the end
 pub within : (xs : List Bool) (p : ℕ) → p < length xs → slice_index_or xs p true ≡ true
     → slice_index_or xs p false ≡ true
 within [] p low e = absurd (omega (arith, low))
@@ -83,7 +83,7 @@ marks_least (x ∷ xs) (suc from) (suc end) m =
     let rest = marks_least xs from end (λ p low high. m (suc p) (omega (arith, low)) (omega (arith, high))) in
     omega (arith, rest)
 
--- where marks stand there alone, and each place there has one, there are as many
+-- if all marks are within these bounds, and each place there has one, there are as many marks as places
 pub marks_all : (xs : List Bool) (from end : ℕ) → ((p : ℕ) → slice_index_or xs p false ≡ true → (from ≤ p) × (p < end))
     → ((p : ℕ) → from ≤ p → p < end → slice_index_or xs p false ≡ true) → count_marks xs ≡ end - from
 marks_all xs from end only all =
@@ -91,7 +91,7 @@ marks_all xs from end only all =
     let least = marks_least xs from end all in
     omega (arith, most, least)
 
--- where marks stand there alone, and one place there has none, there are fewer
+-- if all marks are within these bounds, and one place there has none, there are fewer
 pub marks_fewer : (xs : List Bool) (from end k : ℕ)
     → ((p : ℕ) → slice_index_or xs p false ≡ true → (from ≤ p) × (p < end))
     → slice_index_or xs k true ≡ false → from ≤ k → k < end → count_marks xs < end - from

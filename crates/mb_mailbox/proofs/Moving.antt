@@ -18,13 +18,13 @@ use Rattle.mb_mailbox.proofs.Standings.{Leaves, end_kept, ends_more, moves}
 pub loads_known : Laws → (s : ConsumerView) → HasLoads s → Known s.reader.table.size s.reader.part
 loads_known laws s h = known laws s.reader.table.size s.reader.reader h.0 s.reader.part h.1 h.2
 
--- its notes on a lane where it has a place
+-- if it has a place on a lane, it has a list of notes there
 list_there : (s : ConsumerView) (p : ℕ) (place : Place) → (i : IsConsumer s) → slice_get s.places p ≡ Some place
     → (ns : List Note) × (slice_get s.notes p ≡ Some ns)
 list_there s p place i e =
     get_some s.notes p (subst (λ n. p < n) (i.places_count ∙ sym i.notes_count) (get_within s.places p place e))
 
--- where it stands there
+-- what its place on a lane says of its parts
 pub before : (s : ConsumerView) (p : ℕ) (at : Cursor) (i : IsConsumer s) → slice_get s.places p ≡ Some (Before at)
     → (ns : List Note) × (slice_get s.notes p ≡ Some ns)
     × ConsumerIsBefore (claims_in i.size.layout i.size.cells) s.seat.consumer p
@@ -51,7 +51,7 @@ may_look laws s p at i h e =
     by [] low given = low
     by (k ∷ ks) low given = given k (inl refl)
 
--- it is done with the last cell
+-- if the claim on a cell has ended, the consumer is done with the cell
 done_with : Laws → (layout : Layout) (cells c k : ℕ) (n : Note) (x : Parts) → EndsAs (claims_in layout cells) c k n x
     → IsDoneWith (claims_in layout cells) c k x
 done_with laws layout cells c k (Took v) x e = record { ended = (stage.Won, e.0, λ f. cc); taken = λ won. (v, e.1) }

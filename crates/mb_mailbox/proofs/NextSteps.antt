@@ -15,7 +15,7 @@ use Rattle.mb_mailbox.specs.Laws.{Laws}
 use Rattle.mb_mailbox.specs.Moves.{HasPlace, HasTurns}
 use Rattle.mb_mailbox.proofs.Moving.{before, holds, may_past}
 
--- an access that is the next one by the size of the table is so by its name
+-- an access that is the next one by the size of the table is the next one by the table's name
 named : (s : ConsumerView) (p : ℕ) (a : WorldAccess) (answer : Option Poll) (i : IsConsumer s)
     → ConsumerStep (claims_in i.size.layout i.size.cells) s.seat.consumer p (parts_of s.reader s.seat) a answer
     → ConsumerStep (claims_at s.seat.table) s.seat.consumer p (parts_of s.reader s.seat) a answer
@@ -35,7 +35,7 @@ looks_next laws s p v at i e =
     (reverse b.0) x b.2.ended)
     (λ j. ToCells (load (i.same j) (b.2.word j) v)) refl)
 
--- it is the last cell met, and was not left
+-- the cell of a claim that is held is the last cell met, and was not left
 last : (s : ConsumerView) (p k : ℕ) (claim : Claim) (i : IsConsumer s) → HasPlace p (At k claim) s
     → IsLastMet p k (parts_of s.reader s.seat)
 last s p k claim i e = let o = holds s p k claim i e in record { cells = o.2.cells; met = o.2.met; left = o.2.left }

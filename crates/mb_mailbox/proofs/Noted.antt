@@ -19,7 +19,7 @@ use Rattle.mb_mailbox.specs.declared.gate.Who.{Who}
 use Rattle.mb_mailbox.specs.declared.crew.jobs.PollDone.{PollDone}
 use Rattle.mb_mailbox.proofs.Runs.{AreNumbered, left_by, left_of}
 
--- what stands behind the base
+-- the element after the base
 get_next : {X : Type 0} (base rest : List X) (x : X) (n : ℕ) → length base ≡ n → slice_get (base ++ x ∷ rest) n ≡ Some x
 get_next [] rest x zero e = refl
 get_next [] rest x (suc n) e = absurd (cc)

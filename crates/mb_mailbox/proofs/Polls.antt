@@ -82,7 +82,7 @@ poll_of p n budget x s t old new m few all = record {
   spent = λ e. m.count ∙ all e;
 }
 
--- what tells the lane of one consumer tells it of another that knows the same
+-- an answer says the same of a lane if the consumer before knew the same of the lanes
 pub told_from : (p : ℕ) (answer : Option Poll) (old now new : ConsumerView) → now.reader.known ≡ old.reader.known
     → AnswerTells p answer now new → AnswerTells p answer old new
 told_from p answer old now new same tells = record {

@@ -1,4 +1,4 @@
--- What a poll comes to that kept a claim in a variable: it ends past the cell, or stands at it again.
+-- What a poll that kept a claim in a variable comes to: it ends past the cell, or is at it again.
 use Rattle.std.proofs.Common.{◌≡◌, ◌≢◌, ℕ, ◌+◌, ◌≤◌, List, refl, sym, ap, ◌∙◌, subst, arith}
 use Rattle.std.specs.Prelude.{Option, Some, None, slice_get, slice_set}
 use Rattle.mb_claim.specs.declared.access.Stage.TheVariants as stage
@@ -20,12 +20,12 @@ use Rattle.mb_mailbox.proofs.Made.{at_views, item_made}
 use Rattle.mb_mailbox.proofs.Polls.{steps_more}
 use Rattle.mb_mailbox.proofs.Telling.{noted}
 
--- a consumer that holds a claim on lane p and then stands elsewhere there
+-- a consumer that holds a claim on lane p and then is at another place there
 module _ (b : ConsumerView) (p k : ℕ) (claim : Claim) where
   abbrev s : ConsumerView
   s = holding p k claim b
 
-  -- where accesses of the claim led to this stage, the consumer stands there that these fields show
+  -- if accesses of the claim led to this stage, these fields are those of the consumer
   pub seen_at : (now : Claim) (st : Stage) (seat : SeatView) (places : List Place)
       (notes : List (List Note)) → claim_stage now ≡ st
       → seat ≡ record b.seat { part = seat.part }
@@ -36,7 +36,7 @@ module _ (b : ConsumerView) (p k : ℕ) (claim : Claim) where
       ∙ (λ j. at_views b.reader (sym same j)
       ((set_twice b.places p (At k claim) (place_after k now st) ∙ sym e) j) (sym f j))
 
-  -- and the same after the item is loaded
+  -- the same after the item is loaded
   module _ (v : ℕ) (now : Claim) (seat : SeatView) (reader : ReaderSeatView) (places : List Place)
       (notes : List (List Note)) (t u : Stream)
       (from : ConsumerView) (n : ℕ) (there : Place)
@@ -105,7 +105,7 @@ module _ (b : ConsumerView) (p k : ℕ) (claim : Claim) where
           is = took_is i;
         }
 
-  -- where the claim has ended otherwise, the poll ends past the cell
+  -- if the claim has ended otherwise, the poll ends past the cell
   pub pursued_past : (most made n : ℕ) (now : Claim) (st : Stage) (note : Note) (answer : Poll)
       (t u : Stream) (from : ConsumerView)
       (seat : SeatView) (places : List Place) (notes : List (List Note)) (there : Place)
@@ -133,7 +133,7 @@ module _ (b : ConsumerView) (p k : ℕ) (claim : Claim) where
         is = end;
       }
 
-  -- where it goes on or is won, the poll leaves it
+  -- if the claim goes on or is won, the poll leaves it for the next poll
   pub pursued_spent : (most n : ℕ) (now : Claim) (st : Stage) (t u : Stream) (from : ConsumerView)
       (seat : SeatView) (places : List Place)
       → claim_stage now ≡ st → note_of st ≡ None → stage_answer st ≡ None → place_after k now st ≡ At k now

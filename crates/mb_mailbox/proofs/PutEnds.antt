@@ -15,7 +15,7 @@ use Rattle.mb_mailbox.specs.Producers.{FoundNoCell, IsEndOfLane, ProducerView}
 pub front_take : (n : ℕ) (xs : List ℕ) → IsFront (take n xs) xs
 front_take n xs = (drop n xs, take-append-drop n xs)
 
--- what it has found it has found after the end of its lane
+-- if a fetch-add found no cell before a finish, one has found none after it
 pub found_still : (r : Finish) (old new : ProducerView) → (r ≡ finish.Ended → IsEndOfLane old new)
     → (r ≡ finish.Closed → new ≡ old) → r ≢ finish.Busy
     → FoundNoCell old → FoundNoCell new
@@ -30,7 +30,7 @@ found_still finish.Ended old new ended closed busy none =
 found_still finish.Closed old new ended closed busy none = subst FoundNoCell (sym (closed refl)) none
 found_still finish.Busy old new ended closed busy none = absurd (busy refl)
 
--- what it has found then it had found before
+-- if a fetch-add has found no cell after a finish, it had before: a finish makes no fetch-add
 abbrev pub is_fetch : PoolAct → Bool
 is_fetch (FetchAdd v k) = true
 is_fetch (Store v) = false

@@ -33,7 +33,7 @@ no_mark p k (Link q) h l ne = rw (eq-eqb p p refl) (rw (ne_eqb (k + 1) END ne) r
 no_mark p k (Item q) h l ne = absurd l
 no_mark p k Counter h l ne = absurd l
 
--- an offer that was answered with a cell made its fetch-add
+-- an offer that returned a cell made its fetch-add
 record Took (old : LaneSeatView) (x k : ℕ) (new : LaneSeatView) : Type 0 where
   pub low : k < old.table.size.cells
   pub is : new ≡ record old {

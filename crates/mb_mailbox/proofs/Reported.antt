@@ -60,7 +60,7 @@ lane_is m h hs r p low is t =
     ∙ ap (items_where (λ j. not (is_taken n p j r))) t.items in
     λ i. record { put = t.items i; ended = t.ended i; left = left i }
 
--- who has done nothing has an empty diary
+-- a consumer that has done nothing has an empty diary
 module _ (plan : Plan) (c p : ℕ) (hs : Histories) (empty : no_parts ≡ parts_in c hs)
     (met : HasMetAll (hs.reader_of c) p (cells_met p (parts_in c hs).reads) hs.pool) where
   no_cells : cells_met p (parts_in c hs).reads ≡ []

@@ -1,4 +1,4 @@
--- From the jobs of a run through their ends to what the hub has then.
+-- From the jobs of a run, through their ends, to what the hub has then.
 use Rattle.std.proofs.Common.{◌≡◌, ◌≢◌, ℕ, suc, ◌+◌, ◌-◌, ◌<◌, ◌≤◌, Bool, true, false, List, [], ◌∷◌, ◌++◌, length, map, refl, sym, ap, ◌∙◌, subst, arith}
 use Rattle.std.specs.Prelude.{Some, Vec}
 use Rattle.std.specs.List.{All, AllZip, sum_by}
@@ -32,7 +32,7 @@ lane_left s stopped = record { put = s.items; part = s.seat.part; stopped = stop
 abbrev pub left_by : ConsumerView → Bool → ConsumerLeft
 left_by s stopped = record { ledger = record { places = s.places; notes = s.notes }; reads = s.reader.part; claimed = s.seat.part; stopped = stopped }
 
--- the end marks that it has loaded, by its number
+-- the end marks that a consumer has loaded, by its number
 met_at : (from end c : ℕ) (s : ConsumerView) → s.reader.reader ≡ c → HasReadEnds from end s → HasMetEnds from end c s.reader.part
 met_at from end c s is r = record {
   marks = r.marks;
@@ -64,8 +64,8 @@ module _ {Z : Type 0} (m : MailboxView) (may_stop may_pass : Who → ℕ → Typ
     pub full : d.stopped ≡ false → length d.producer.items + d.full ≡ length v.items
     pub found : d.stopped ≡ false → d.full ≢ 0 → HasFoundNone m.cells.size.cells p d.producer.seat.part
     pub none : d.stopped ≡ true → d.full ≡ 0
-    pub stop : d.stopped ≡ true → d.off ≡ false → IsStoppedPut may_stop m.cells.size.cells p v.items (lane_left d.producer d.stopped)
-    pub passed : d.off ≡ false → WasPassed may_pass p v.items (lane_left d.producer d.stopped)
+    pub stop : d.stopped ≡ true → d.aborted ≡ false → IsStoppedPut may_stop m.cells.size.cells p v.items (lane_left d.producer d.stopped)
+    pub passed : d.aborted ≡ false → WasPassed may_pass p v.items (lane_left d.producer d.stopped)
 
   abbrev pub AreAt : ℕ → List (Vec ℕ Z) → List (PutDone Z) → Type 0
   AreAt p [] [] = Unit {0}
@@ -150,24 +150,24 @@ module _ {Z : Type 0} (m : MailboxView) (may_stop may_pass : Who → ℕ → Typ
   cut_of p (v ∷ vs) (d ∷ ds) a =
       (λ f short. let here = a.0.full f in a.0.found f (λ z. omega (arith, here, z, short)), cut_of (suc p) vs ds a.1)
 
-  -- who was stopped, where the run is not off
-  stops_of : (p : ℕ) (vs : List (Vec ℕ Z)) (ds : List (PutDone Z)) → AreAt p vs ds → All (λ (d : PutDone Z). d.off ≡ false) ds
+  -- which producers were stopped, if the run is not aborted
+  stops_of : (p : ℕ) (vs : List (Vec ℕ Z)) (ds : List (PutDone Z)) → AreAt p vs ds → All (λ (d : PutDone Z). d.aborted ≡ false) ds
       → AreStoppedPuts may_stop m.cells.size.cells p (lists_in vs) (lanes_of ds)
   stops_of p [] [] a on = tt
   stops_of p [] (d ∷ ds) a on = absurd a
   stops_of p (v ∷ vs) [] a on = absurd a
   stops_of p (v ∷ vs) (d ∷ ds) a on =
-      let F = λ (d : PutDone Z). d.off ≡ false in
+      let F = λ (d : PutDone Z). d.aborted ≡ false in
       (λ t. a.0.stop t (All-head F d ds on), stops_of (suc p) vs ds a.1 (All-tail F d ds on))
 
-  -- who was let through
+  -- which calls of producers were let through, if the run is not aborted
   passes_of : (p : ℕ) (vs : List (Vec ℕ Z)) (ds : List (PutDone Z)) → AreAt p vs ds
-      → All (λ (d : PutDone Z). d.off ≡ false) ds → WerePassed may_pass p (lists_in vs) (lanes_of ds)
+      → All (λ (d : PutDone Z). d.aborted ≡ false) ds → WerePassed may_pass p (lists_in vs) (lanes_of ds)
   passes_of p [] [] a on = tt
   passes_of p [] (d ∷ ds) a on = absurd a
   passes_of p (v ∷ vs) [] a on = absurd a
   passes_of p (v ∷ vs) (d ∷ ds) a on =
-      let F = λ (d : PutDone Z). d.off ≡ false in
+      let F = λ (d : PutDone Z). d.aborted ≡ false in
       (a.0.passed (All-head F d ds on), passes_of (suc p) vs ds a.1 (All-tail F d ds on))
 
   -- ---- consumers
@@ -181,9 +181,9 @@ module _ {Z : Type 0} (m : MailboxView) (may_stop may_pass : Who → ℕ → Typ
     pub read : d.stopped ≡ false → (p : ℕ) → from ≤ p → p < end → HasReadToEnd p d.consumer
     pub ends : d.stopped ≡ false → ends_met d.consumer.reader.part ≡ end - from
     pub marked : HasReadEnds from end d.consumer
-    pub stop : d.stopped ≡ true → d.off ≡ false → IsStoppedPoll may_stop budget c (accesses_made d.consumer)
-    pub unread : d.stopped ≡ true → d.off ≡ false → ends_met d.consumer.reader.part < end - from
-    pub only : d.off ≡ false → IsOnLanes from end d.consumer.reader.part
+    pub stop : d.stopped ≡ true → d.aborted ≡ false → IsStoppedPoll may_stop budget c (accesses_made d.consumer)
+    pub unread : d.stopped ≡ true → d.aborted ≡ false → ends_met d.consumer.reader.part < end - from
+    pub only : d.aborted ≡ false → IsOnLanes from end d.consumer.reader.part
 
   abbrev pub AreNumbered : ℕ → ℕ → ℕ → ℕ → List (PollDone Z) → Type 0
   AreNumbered from end budget c [] = Unit {0}
@@ -219,26 +219,26 @@ module _ {Z : Type 0} (m : MailboxView) (may_stop may_pass : Who → ℕ → Typ
   abbrev pub left_of : List (PollDone Z) → List ConsumerLeft
   left_of ds = map (λ d. left_by d.consumer d.stopped) ds
 
-  poll_stops_of : (from end budget c : ℕ) (ds : List (PollDone Z)) → AreNumbered from end budget c ds → All (λ (d : PollDone Z). d.off ≡ false) ds
+  poll_stops_of : (from end budget c : ℕ) (ds : List (PollDone Z)) → AreNumbered from end budget c ds → All (λ (d : PollDone Z). d.aborted ≡ false) ds
       → AreStoppedPolls may_stop budget c (left_of ds)
   poll_stops_of from end budget c [] a on = tt
   poll_stops_of from end budget c (d ∷ ds) a on =
-      let F = λ (d : PollDone Z). d.off ≡ false in
+      let F = λ (d : PollDone Z). d.aborted ≡ false in
       (λ t. a.0.stop t (All-head F d ds on), poll_stops_of from end budget (suc c) ds a.1 (All-tail F d ds on))
 
   -- the sources of jobs
   abbrev pub sources_of : {R : Type 0} → (R → Stream) → List (PollJob R Z) → List Stream
   sources_of stream js = map (λ j. stream j.rng) js
 
-  -- each with the words of its own source
+  -- each consumer polls with the words of its own source
   polled_of : {R : Type 0} (stream : R → Stream) (from end budget c : ℕ) (js : List (PollJob R Z)) (ds : List (PollDone Z)) → ArePollJobs m c js
       → AllZip (λ (j : PollJob R Z) (d : PollDone Z). IsPollEnd may_stop may_pass from end budget (stream j.rng) j.consumer d) js ds
-      → All (λ (d : PollDone Z). d.off ≡ false) ds → WerePolled may_stop may_pass from end budget c (sources_of stream js) (left_of ds)
+      → All (λ (d : PollDone Z). d.aborted ≡ false) ds → WerePolled may_stop may_pass from end budget c (sources_of stream js) (left_of ds)
   polled_of stream from end budget c [] [] a z on = tt
   polled_of stream from end budget c [] (d ∷ ds) a z on = absurd z
   polled_of stream from end budget c (j ∷ js) [] a z on = absurd z
   polled_of stream from end budget c (j ∷ js) (d ∷ ds) a z on =
-      let F = λ (d : PollDone Z). d.off ≡ false in (
+      let F = λ (d : PollDone Z). d.aborted ≡ false in (
         record {
           first = j.consumer;
           last = d.consumer;
@@ -253,11 +253,11 @@ module _ {Z : Type 0} (m : MailboxView) (may_stop may_pass : Who → ℕ → Typ
         polled_of stream from end budget (suc c) js ds a.1 z.1 (All-tail F d ds on),
       )
 
-  only_of : (from end budget c : ℕ) (ds : List (PollDone Z)) → AreNumbered from end budget c ds → All (λ (d : PollDone Z). d.off ≡ false) ds
+  only_of : (from end budget c : ℕ) (ds : List (PollDone Z)) → AreNumbered from end budget c ds → All (λ (d : PollDone Z). d.aborted ≡ false) ds
       → All (λ (x : ConsumerLeft). IsOnLanes from end x.reads) (left_of ds)
   only_of from end budget c [] a on = λ k d low. absurd (omega (arith, low))
   only_of from end budget c (d ∷ ds) a on =
-      let F = λ (d : PollDone Z). d.off ≡ false in
+      let F = λ (d : PollDone Z). d.aborted ≡ false in
       All-cons (λ (x : ConsumerLeft). IsOnLanes from end x.reads) (left_by d.consumer d.stopped) (left_of ds) (a.0.only (All-head F d ds on))
       (only_of from end budget (suc c) ds a.1 (All-tail F d ds on))
 
@@ -272,11 +272,11 @@ module _ {Z : Type 0} (m : MailboxView) (may_stop may_pass : Who → ℕ → Typ
   mets_of from end budget c [] a = tt
   mets_of from end budget c (d ∷ ds) a = (met_at from end c d.consumer a.0.reader a.0.marked, mets_of from end budget (suc c) ds a.1)
 
-  unread_of : (from end budget c : ℕ) (ds : List (PollDone Z)) → AreNumbered from end budget c ds → All (λ (d : PollDone Z). d.off ≡ false) ds
+  unread_of : (from end budget c : ℕ) (ds : List (PollDone Z)) → AreNumbered from end budget c ds → All (λ (d : PollDone Z). d.aborted ≡ false) ds
       → All (λ (x : ConsumerLeft). x.stopped ≡ true → ends_met x.reads < end - from) (left_of ds)
   unread_of from end budget c [] a on = λ k d low. absurd (omega (arith, low))
   unread_of from end budget c (d ∷ ds) a on =
-      let F = λ (d : PollDone Z). d.off ≡ false in
+      let F = λ (d : PollDone Z). d.aborted ≡ false in
       All-cons (λ (x : ConsumerLeft). x.stopped ≡ true → ends_met x.reads < end - from) (left_by d.consumer d.stopped) (left_of ds)
       (λ t. a.0.unread t (All-head F d ds on)) (unread_of from end budget (suc c) ds a.1 (All-tail F d ds on))
 
@@ -328,20 +328,20 @@ module _ {Z : Type 0} (m : MailboxView) (may_stop may_pass : Who → ℕ → Typ
     pub run_cut : AreCutByCells m.cells.size.cells (length h.puts) (lists_in vs) (lanes_of ds)
     run_cut = cut_of (length h.puts) vs ds ats
 
-    pub run_stops : All (λ (d : PutDone Z). d.off ≡ false) ds → AreStoppedPuts may_stop m.cells.size.cells (length h.puts) (lists_in vs) (lanes_of ds)
+    pub run_stops : All (λ (d : PutDone Z). d.aborted ≡ false) ds → AreStoppedPuts may_stop m.cells.size.cells (length h.puts) (lists_in vs) (lanes_of ds)
     run_stops on = stops_of (length h.puts) vs ds ats on
 
-    pub run_passes : All (λ (d : PutDone Z). d.off ≡ false) ds
+    pub run_passes : All (λ (d : PutDone Z). d.aborted ≡ false) ds
         → WerePassed may_pass (length h.puts) (lists_in vs) (lanes_of ds)
     run_passes on = passes_of (length h.puts) vs ds ats on
 
-    pub run_polled : All (λ (d : PollDone Z). d.off ≡ false) es → WerePolled may_stop may_pass from end budget (length h.ledgers) (sources_of stream ks) (left_of es)
+    pub run_polled : All (λ (d : PollDone Z). d.aborted ≡ false) es → WerePolled may_stop may_pass from end budget (length h.ledgers) (sources_of stream ks) (left_of es)
     run_polled on = polled_of stream from end budget (length h.ledgers) ks es polling polled on
 
-    pub run_poll_stops : All (λ (d : PollDone Z). d.off ≡ false) es → AreStoppedPolls may_stop budget (length h.ledgers) (left_of es)
+    pub run_poll_stops : All (λ (d : PollDone Z). d.aborted ≡ false) es → AreStoppedPolls may_stop budget (length h.ledgers) (left_of es)
     run_poll_stops on = poll_stops_of from end budget (length h.ledgers) es nums on
 
-    pub run_only : All (λ (d : PollDone Z). d.off ≡ false) es → All (λ (x : ConsumerLeft). IsOnLanes from end x.reads) (left_of es)
+    pub run_only : All (λ (d : PollDone Z). d.aborted ≡ false) es → All (λ (x : ConsumerLeft). IsOnLanes from end x.reads) (left_of es)
     run_only on = only_of from end budget (length h.ledgers) es nums on
 
     pub run_ends : All (λ (x : ConsumerLeft). x.stopped ≡ false → ends_met x.reads ≡ end - from) (left_of es)
@@ -350,6 +350,6 @@ module _ {Z : Type 0} (m : MailboxView) (may_stop may_pass : Who → ℕ → Typ
     pub run_met : HaveMetEnds from end (length h.ledgers) (left_of es)
     run_met = mets_of from end budget (length h.ledgers) es nums
 
-    pub run_unread : All (λ (d : PollDone Z). d.off ≡ false) es
+    pub run_unread : All (λ (d : PollDone Z). d.aborted ≡ false) es
         → All (λ (x : ConsumerLeft). x.stopped ≡ true → ends_met x.reads < end - from) (left_of es)
     run_unread on = unread_of from end budget (length h.ledgers) es nums on

@@ -1,4 +1,4 @@
--- Where a consumer stands after an access.
+-- A consumer's place after an access.
 use Rattle.std.proofs.Common.{◌≡◌, ◌≢◌, ℕ, ◌<◌, List, [], ◌∷◌, ◌++◌, length, reverse, refl, sym, ap, ◌∙◌, subst, inl, inr, ⊎_elim, arith}
 use Rattle.std.specs.Prelude.{Option, Some, None, slice_get}
 use Rattle.std.specs.Option.{option_map_or}
@@ -35,7 +35,7 @@ same_length cs c [] (n ∷ ns) x e = absurd e
 same_length cs c (k ∷ ks) [] x e = absurd e
 same_length cs c (k ∷ ks) (n ∷ ns) x e = omega (arith, same_length cs c ks ns x e.1)
 
--- the note of a stage tells the end
+-- the note of a stage determines the claim's end
 pub ends_by : (cs : Claims) (c k : ℕ) (s : Stage) (n : Note) (x : Parts) → note_of s ≡ Some n
     → HasStageIn cs c k s x → EndsAs cs c k n x
 ends_by cs c k stage.Going n x e has = absurd (cc)

@@ -1,4 +1,4 @@
--- Where a poll begins with a claim, and one access more of it.
+-- A poll that begins with a claim, and one more access of the claim.
 use Rattle.std.proofs.Common.{◌≡◌, ℕ, zero, suc, ◌+◌, ◌<◌, List, length, sym, ap, ◌∙◌, subst, arith}
 use Rattle.std.specs.Prelude.{Some, None, slice_get, sum_by}
 use Rattle.mb_claim.specs.declared.access.Stage.TheVariants as stage
@@ -17,7 +17,7 @@ use Rattle.mb_mailbox.proofs.Competing.{IsNext, MovesOn, competed_more, competed
 use Rattle.mb_mailbox.proofs.Lists.{get_some, set_here, set_length}
 use Rattle.mb_mailbox.proofs.Moving.{holds}
 
--- the fields of a consumer which is to stand at this claim
+-- the fields of a consumer that is to have this claim in its place
 pub record Start (m : MailboxView) (p k : ℕ) (claim : Claim) (reader : ReaderSeatView)
     (seat : SeatView) (places : List Place)
     (notes : NotesView) : Type 0 where
@@ -55,7 +55,7 @@ module _ (m : MailboxView) (p k : ℕ) (claim : Claim) (reader : ReaderSeatView)
       → HasCompeted p k n claim t u from s seat
   begun from n t u so = competed_none p k n claim t u from s seat (λ j. seat) here unnoted start.held so
 
-  -- one access more
+  -- one more access
   pub stepped : MovesOn → IsNext → (now : MailboxView) → now ≡ m
       → (from : ConsumerView) (made n word : ℕ) (was next : Claim) (before after : SeatView)
       (t u v : Stream) → claim_stage was ≡ stage.Going → HasCompeted p k (made + n) was t u from s before
@@ -73,7 +73,7 @@ module _ (m : MailboxView) (p k : ℕ) (claim : Claim) (reader : ReaderSeatView)
       let count : made + n + 1 ≡ made + 1 + n = omega arith in
       subst (λ z. HasCompeted p k z next t v from s after) count more
 
-  -- the claim that accesses in a row leave is the consumer's
+  -- after accesses in a row the claim is still the consumer's
   pub ran_own :
       (layout : Layout) (u : Stream) → consumer_of claim ≡ seat.consumer
       → (made : ℕ) (follows : Claim) (after : SeatView) (v : Stream)
@@ -83,7 +83,7 @@ module _ (m : MailboxView) (p k : ℕ) (claim : Claim) (reader : ReaderSeatView)
   ran_own layout u own (suc made) follows after v (at, before, w, word, older, going, drawn, step, still, stands) =
       still ∙ ran_own layout u own made at before w older ∙ sym (ap (λ (z : SeatView). z.consumer) step.adds)
 
-  -- and they led the consumer on
+  -- these accesses led the consumer on
   pub ran :
       MovesOn → IsNext → (now : MailboxView) → now ≡ m → consumer_of claim ≡ seat.consumer
       → (from : ConsumerView) (n : ℕ) (t u : Stream)

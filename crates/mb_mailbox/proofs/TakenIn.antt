@@ -1,4 +1,4 @@
--- What was taken in, in the histories of which it has the parts.
+-- What was taken in, in the histories that have its parts.
 use Rattle.std.proofs.Common.{◌≡◌, ℕ, zero, suc, ◌<◌, ◌≤◌, false, List, [], ◌∷◌, length, map, refl, sym, ap, ◌∙◌, subst, arith}
 use Rattle.std.specs.Prelude.{Option, Some, None, slice_get}
 use Rattle.std.specs.Option.{option_map_or}
@@ -20,7 +20,7 @@ use Rattle.mb_world.specs.declared.place.Place.{Place}
 use Rattle.mb_mailbox.proofs.Lists.{some_same}
 
 -- ---- lists of what is there or not
--- where nothing is missing, there is one at each number given, and none behind them
+-- if nothing is missing, there is one at each number given, and none past them
 pub data At {X : Type 0} (xs : List (Option X)) (n : ℕ) : Type 0 where
   here : (x : X) → slice_get xs n ≡ Some (Some x) → At xs n
   past : slice_get xs n ≡ None → length xs ≤ n → At xs n
@@ -40,7 +40,7 @@ nothing_there [] n low = refl
 nothing_there (x ∷ xs) zero low = absurd (omega arith)
 nothing_there (x ∷ xs) (suc n) low = nothing_there xs n (omega arith)
 
--- the roll has all its parts
+-- if the roll has a part at each number, none is out
 pub none_out : (roll : Roll) → ((c : ℕ) → c < length roll → (done : List ClaimAccess)
     × (slice_get roll c ≡ Some (Some done)))
     → count_out roll ≡ 0
@@ -70,7 +70,7 @@ abbrev pub kept_of : {X : Type 0} → Option (Option X) → Option X
 kept_of {X} o = option_map_or (λ (z : Option X). z) o None
 
 -- ---- consumers
--- what is kept of consumer c is told by its parts of the histories; one that was never given has done nothing
+-- its parts of the histories determine what is kept of consumer c. One that was never given has done nothing
 pub data Keeps (m : MailboxView) (h : HubView) (hs : Histories) (c : ℕ) : Type 0 where
   was_in : (l : ConsumerRecordView) → kept_at h.ledgers c ≡ Some l
       → length l.places ≡ m.cells.size.lanes → length l.notes ≡ m.cells.size.lanes
@@ -138,7 +138,7 @@ all_in h i all = none_out h.claims.roll (λ c low. by c low (at h.ledgers c all)
     by c low (past e most) = let same = i.seats in absurd (omega arith)
 
 -- ---- producers
--- what is kept of the producer of lane p is told by the pool
+-- the pool determines what is kept of the producer of lane p
 pub record Tells (m : MailboxView) (h : HubView) (pool : History) (p : ℕ) : Type 0 where
   pub items : items_in p h ≡ values_put p pool
   pub ended : ended_in p h ≡ has_ended p pool

@@ -1,4 +1,4 @@
--- What the answers of a consumer tell of the lane.
+-- What the answers of a consumer say of the lane.
 use Rattle.std.proofs.Common.{◌≡◌, ◌≢◌, ◌⊎◌, ℕ, Bool, true, false, List, [], ◌∷◌, length, map, reverse, refl, sym, ap, ◌∙◌, subst, inl, inr}
 use Rattle.std.specs.Prelude.{Option, Some, None, slice_get}
 use Rattle.std.specs.Option.{option_map_or}
@@ -42,7 +42,7 @@ items_count p h =
     ∙ length-reverse (map (λ k. entry_at k h) (linked_cells p h))
     ∙ length-map (linked_cells p h) (λ k. entry_at k h)
 
--- what it met it met by its own part
+-- its own part has the loads by which it met its cells
 met_by_part : Laws → (s : ConsumerView) (p : ℕ) → HasLoads s
     → HasMet s.reader.reader p (cells_met p s.reader.part) s.reader.part
 met_by_part laws s p h =
@@ -127,7 +127,7 @@ tells_end laws end_by s p at now i h e m whole =
           (whole theirs k (met_by_part laws s p h) (word laws s p at now i h e m.0 none m.2.1));
     }
 
--- a step that has no answer tells nothing
+-- a step that has no answer says nothing
 pub tells_none : (p : ℕ) (old new : ConsumerView) → AnswerTells p None old new
 tells_none p old new = record {
   noted = λ some. absurd (some refl);
@@ -145,7 +145,7 @@ tells_item p v old new has = record {
   known_ended = λ theirs k f. absurd (cc);
 }
 
--- that of a claim, which has its note where it has an answer
+-- the answer of a claim. If there is one, the claim has its note
 pub tells_stage : (p : ℕ) (st : Stage) (old new : ConsumerView)
     → (stage_answer st ≢ None → HasNoteOnEach p new) → AnswerTells p (stage_answer st) old new
 tells_stage p stage.Going old new has = tells_none p old new
@@ -163,7 +163,7 @@ tells_stage p stage.Undecided old new has = record {
   known_ended = λ theirs k f. absurd (cc);
 }
 
--- a claim with an answer leads past its cell, where all cells met have their notes
+-- a claim with an answer leads past its cell. Then all cells met have their notes
 pub noted_after : (s : ConsumerView) (p k : ℕ) (claim : Claim) (st : Stage) (o : Option Note)
     (reads : History) (made : List ClaimAccess) (was : Place)
     → slice_get s.places p ≡ Some was → stage_answer st ≢ None

@@ -1,4 +1,4 @@
--- Where a consumer stands on a lane, and its notes there, tell its diary.
+-- A consumer's place on a lane, and its notes there, determine its diary.
 use Rattle.std.proofs.Common.{◌≡◌, ◌≢◌, ◌↔◌, ℕ, ◌<◌, true, List, [], ◌∷◌, length, refl, sym, ap, ◌∙◌, subst, inl, inr, ⊎_elim}
 use Rattle.std.specs.Prelude.{Some, None, reverse, slice_get}
 use Rattle.std.proofs.lemmas.Bool.{false≢true}
@@ -33,7 +33,7 @@ module _ (cs : Claims) (c : ℕ) (x : Parts) where
   has_end (j ∷ ks) (n ∷ ns) k e (inl is) = (n, subst (λ i. EndsAs cs c i n x) is e.0)
   has_end (j ∷ ks) (n ∷ ns) k e (inr has) = has_end ks ns k e.1 has
 
-  -- the same in the order of time
+  -- the same for the notes in the order of time: a note is of the cell at its position
   noted : (ks : List ℕ) (notes : List Note) (j : ℕ) (n : Note) → AreEnds cs c ks (reverse notes) x
       → slice_get notes j ≡ Some n
       → (k : ℕ) × FromEnd ks j k × EndsAs cs c k n x

@@ -9,7 +9,7 @@ zip_more R [] (w ∷ ws) x y z one = absurd z
 zip_more R (v ∷ vs) [] x y z one = absurd z
 zip_more R (v ∷ vs) (w ∷ ws) x y z one = (z.0, zip_more R vs ws x y z.1 one)
 
--- what holds of jobs and what was begun, and of that and its ends, holds of jobs and ends
+-- two relations that hold place by place, one after the other, give a relation of the first list and the last
 pub zip_through : {A B C : Type 0} (R : A → B → Type 0) (S : B → C → Type 0) (T : A → C → Type 0)
     → ((a : A) (b : B) (c : C) → R a b → S b c → T a c)
     → (xs : List A) (ys : List B) (zs : List C) → AllZip R xs ys → AllZip S ys zs → AllZip T xs zs
@@ -34,12 +34,12 @@ zip_length R [] (y ∷ ys) z = absurd z
 zip_length R (x ∷ xs) [] z = absurd z
 zip_length R (x ∷ xs) (y ∷ ys) z = let t = zip_length R xs ys z.1 in omega (arith, t)
 
--- one more element has gone from the rest to those seen
+-- one more element goes from the rest to those seen
 pub next_seen : {A : Type 0} (seen : List A) (x : A) (rest was all : List A) → seen ++ was ≡ all
     → was ≡ x ∷ rest → (seen ++ x ∷ []) ++ rest ≡ all
 next_seen seen x rest was all whole first = append_assoc seen (x ∷ []) rest ∙ ap (λ l. seen ++ l) (sym first) ∙ whole
 
--- all have been seen where none is left
+-- if none is left, all have been seen
 pub all_seen : {A : Type 0} (seen rest all : List A) → seen ++ rest ≡ all → rest ≡ [] → seen ≡ all
 all_seen seen rest all whole none = append_nothing seen ∙ ap (λ l. seen ++ l) (sym none) ∙ whole
   where

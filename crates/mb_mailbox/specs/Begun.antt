@@ -1,4 +1,4 @@
--- What workers that were begun promise, and how their ends keep it.
+-- What the workers that were begun promise, and how their ends keep the promises.
 use Rattle.std.specs.Prelude.{ℕ, ◌≡◌, true}
 use Rattle.mb_mailbox.specs.declared.gate.Who.{Who}
 use Rattle.mb_mailbox.specs.Imports.{Stream}
@@ -24,11 +24,11 @@ pub record IsPromiseOf {G R : Type 0} (g : G) (f e b : ℕ) (r : R) (s : Consume
   pub gate : its ≡ g
 
 module _ {G Z : Type 0} (may_stop may_pass : G → Who → ℕ → Type 0) where
-  -- a producer's thread promises what comes of its job; one that was ended here, since no thread could be made, has it, and
-  -- tells that the run is off
+  -- a producer's thread promises what comes of its job. If no thread could be made, the worker was ended here. Then
+  -- it has its end, which says that the run is aborted
   abbrev pub PutPromises : G → PutJob Z → PutWorker G Z → Type 0
   PutPromises gate j (put.Spawned h) = (h.promise.job.value ≡ j) × (h.promise.gate.value ≡ gate)
-  PutPromises gate j (put.Inline d) = IsPutEnd (may_stop gate) (may_pass gate) j d × (d.off ≡ true)
+  PutPromises gate j (put.Inline d) = IsPutEnd (may_stop gate) (may_pass gate) j d × (d.aborted ≡ true)
 
   -- this is the end of what was begun
   abbrev pub PutKeeps : PutWorker G Z → PutDone Z → Type 0
@@ -42,7 +42,7 @@ module _ {G R Z : Type 0} (may_stop may_pass : G → Who → ℕ → Type 0) (st
       IsPromiseOf gate from end budget j.rng j.consumer
       h.promise.from h.promise.end h.promise.budget h.promise.rng.value h.promise.consumer.value h.promise.gate.value
   PollPromises gate from end budget j (poll.Inline d) =
-      IsPollEnd (may_stop gate) (may_pass gate) from end budget (stream j.rng) j.consumer d × (d.off ≡ true)
+      IsPollEnd (may_stop gate) (may_pass gate) from end budget (stream j.rng) j.consumer d × (d.aborted ≡ true)
 
   abbrev pub PollKeeps : PollWorker G R Z → PollDone Z → Type 0
   PollKeeps (poll.Spawned h) d =

@@ -12,19 +12,19 @@ use Rattle.mb_mailbox.specs.declared.gate.Who.{Who}
 use Rattle.mb_mailbox.specs.declared.gate.Who.TheVariants as who
 use Rattle.mb_mailbox.specs.declared.crew.Worked.{Worked}
 
--- the gate let the producer of lane p through before each of its calls: one for each item that it put, and one for the
--- item that found no cell, if there is one
+-- the gate let the producer of lane p through before each of its calls. There is one for each item that it put. There
+-- is one more for the item that found no cell, if there is one
 pub record WasPassed (may_pass : Who → ℕ → Type 0) (p : ℕ) (list : List ℕ) (l : LaneLeft) : Type 0 where
   pub put : ArePassed may_pass (who.Producer p) (length l.put)
   pub full : l.stopped ≡ false → length l.put < length list → may_pass (who.Producer p) (suc (length l.put))
 
--- so it did with each producer of the lanes from p on
+-- the gate did so with each producer of the lanes from p on
 abbrev pub WerePassed : (Who → ℕ → Type 0) → ℕ → List (List ℕ) → List LaneLeft → Type 0
 WerePassed may_pass p [] [] = Unit {0}
 WerePassed may_pass p (list ∷ lists) (l ∷ ls) = WasPassed may_pass p list l × WerePassed may_pass (suc p) lists ls
 WerePassed may_pass p _ _ = ⊥
 
--- consumer c had made no access, made its calls with the words of this source, and left this
+-- consumer c had made no access. It made its calls with the words of this source, and left this
 pub record WasPolled (may_stop may_pass : Who → ℕ → Type 0) (from end budget c : ℕ) (source : Stream) (l : ConsumerLeft)
     : Type 0 where
   pub first : ConsumerView
@@ -37,7 +37,7 @@ pub record WasPolled (may_stop may_pass : Who → ℕ → Type 0) (from end budg
   pub claimed : l.claimed ≡ last.seat.part
   pub ledger : l.ledger ≡ record { places = last.places; notes = last.notes }
 
--- so did each of these consumers, the first of which is number c: one for each of these sources, in their order
+-- each of these consumers did so, with the numbers from c on: one for each of these sources, in their order
 abbrev pub WerePolled : (Who → ℕ → Type 0) → (Who → ℕ → Type 0) → ℕ → ℕ → ℕ → ℕ → List Stream
     → List ConsumerLeft → Type 0
 WerePolled may_stop may_pass from end budget c [] [] = Unit {0}
@@ -46,9 +46,10 @@ WerePolled may_stop may_pass from end budget c (source ∷ sources) (l ∷ ls) =
     × WerePolled may_stop may_pass from end budget (suc c) sources ls
 WerePolled may_stop may_pass from end budget c _ _ = ⊥
 
--- all that was given was taken in, and made its calls where the gate may let it pass: each call of a consumer is a poll, with
--- this budget, of a lane that was given in this call, with the words of the consumer's own source: the source in the
--- place of its number among those given in this call. `stopped` counts who was stopped
+-- all that was given was taken in, and each call was made at a point at which the gate may let it pass. Each call of
+-- a consumer is a poll, with this budget, of a lane that was given in this call. It draws from the consumer's own
+-- source: the first consumer given in this call has the first source, and so on. `stopped` counts the workers that
+-- were stopped
 pub record IsCalled (may_stop may_pass : Who → ℕ → Type 0) (budget : ℕ) (lists : List (List ℕ)) (sources : List Stream)
     (w : Worked) (old new : HubView) : Type 0 where
   pub lanes : List LaneLeft

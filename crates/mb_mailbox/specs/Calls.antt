@@ -1,4 +1,4 @@
--- The calls of workers: which of them the gate let through, and of a consumer what each of them did.
+-- The calls of workers: which of them the gate let through, and what each call of a consumer did.
 use Rattle.std.specs.Prelude.{ℕ, ◌≡◌, ◌<◌, ◌≤◌, List, [], ◌∷◌, length}
 use Rattle.mb_mailbox.specs.Imports.{Stream}
 use Rattle.mb_mailbox.specs.Consumers.{ConsumerView}
@@ -16,21 +16,22 @@ pub record Call : Type 0 where
   pub lane : ℕ
   pub answer : Poll
 
--- it is a poll of a lane from `from` on and below `end`, with this budget: of fewer accesses only where it has an answer
+-- it is a poll of a lane from `from` on and below `end`, with this budget. It has fewer accesses than that only if it
+-- has an answer
 pub record IsCall (from end budget : ℕ) (c : Call) (s t : Stream) (old new : ConsumerView) : Type 0 where
   pub low : from ≤ c.lane
   pub high : c.lane < end
   pub poll : IsPollOf c.lane budget c.answer s t old new
 
--- these calls (the newest first) were made one after the other, and nothing else. Each draws from the source what the one
--- before it left there
+-- these calls (the newest first) were made one after the other, and nothing else. Each draws from what the call
+-- before it left of the source
 abbrev pub AreCalls : ℕ → ℕ → ℕ → List Call → Stream → Stream → ConsumerView → ConsumerView → Type 0
 AreCalls from end budget [] s t old new = (t ≡ s) × (new ≡ old)
 AreCalls from end budget (c ∷ older) s t old new =
     (u : Stream) × (mid : ConsumerView) × AreCalls from end budget older s u old mid
     × IsCall from end budget c u t mid new
 
--- so many calls were made so, and the gate let each through
+-- this many calls were made so, and the gate let each through
 pub record HasCalled (may_pass : Who → ℕ → Type 0) (from end budget calls : ℕ) (s t : Stream) (old new : ConsumerView)
     : Type 0 where
   pub made : List Call

@@ -7,8 +7,8 @@ use Rattle.mb_mailbox.specs.Mailboxes.{MailboxView}
 use Rattle.mb_world.specs.declared.place.Place.{Place}
 use Rattle.mb_world.specs.declared.place.Place.TheVariants.{At, Before}
 
--- its seat among the readers of the cells, its seat among the consumers of the claims, and for each lane where
--- it stands there and its notes
+-- its seat among the readers of the cells, its seat among the consumers of the claims, its place on each lane, and
+-- its notes there
 pub record ConsumerView : Type 0 where
   pub reader : ReaderSeatView
   pub seat : SeatView
@@ -26,14 +26,14 @@ AreEnds cs c [] [] x = Unit {0}
 AreEnds cs c (k ∷ ks) (n ∷ ns) x = EndsAs cs c k n x × AreEnds cs c ks ns x
 AreEnds cs c _ _ x = ⊥
 
--- it stands before the link of the last cell that it met on lane p, or before the lane's head, and has a note
--- on each cell
+-- it stands before the link of the last cell that it met on lane p, or before the lane's head. It has a note on each
+-- cell
 pub record ConsumerIsBefore (cs : Claims) (c p : ℕ) (x : Parts) (notes : List Note) (at : Cursor)
     : Type 0 where
   pub word : word_of at ≡ place_past p (cells_met p x.reads)
   pub ended : AreEnds cs c (cells_met p x.reads) (reverse notes) x
 
--- it holds a claim on the last cell that it met there, which has no note, and has one on each cell before
+-- it holds a claim on the last cell that it met there. That cell has no note, and each cell before it has one
 pub record ConsumerIsAt (layout : Layout) (cs : Claims) (c p : ℕ) (x : Parts) (notes : List Note) (k : ℕ)
     (claim : Claim) : Type 0 where
   pub cells : List ℕ
@@ -58,7 +58,7 @@ pub record IsConsumer (s : ConsumerView) : Type 0 where
   pub same : s.reader.reader ≡ s.seat.consumer
   -- its two parts fit each other
   pub fit : Fits (claims_in size.layout size.cells) s.seat.consumer (parts_of s.reader s.seat)
-  -- and tell where it stands on each lane, and its notes there
+  -- the two parts determine its place on each lane, and its notes there
   pub places_count : length s.places ≡ s.reader.table.size.lanes
   pub notes_count : length s.notes ≡ s.reader.table.size.lanes
   pub lanes : (p : ℕ) (place : Place) (notes : List Note) → slice_get s.places p ≡ Some place

@@ -1,4 +1,4 @@
--- What consumer 0 may do next on lane 0, by example: where it has done nothing, and where it has met cell 4 there.
+-- What consumer 0 may do next on lane 0, by example: if it has done nothing, and if it has met cell 4 there.
 use Rattle.std.specs.Prelude.{ℕ, List, [], ◌∷◌, if◌then◌else◌, nat_eq}
 use Rattle.mb_mailbox.specs.Imports.{Head, ObjectTurn, Parts, WorldAccess, link_load, load}
 

@@ -10,7 +10,7 @@ changed_at [] n f = []
 changed_at (x ∷ xs) zero f = f x ∷ xs
 changed_at (x ∷ xs) (suc n) f = x ∷ changed_at xs n f
 
--- what these make of x, numbered from n on, the last one first
+-- what these make of x, numbered from n on. The last one is applied first
 abbrev pub in_turn : {X Y : Type 0} → (ℕ → Y → X → X) → ℕ → List Y → X → X
 in_turn f n [] x = x
 in_turn f n (y ∷ ys) x = f n y (in_turn f (suc n) ys x)
@@ -19,7 +19,7 @@ in_turn f n (y ∷ ys) x = f n y (in_turn f (suc n) ys x)
 abbrev pub changed_from : {X Y : Type 0} → (Y → X → X) → ℕ → List Y → List X → List X
 changed_from change n ys xs = in_turn (λ i y zs. changed_at zs i (change y)) n ys xs
 
--- the lane with the items of its producer, if that was taken in
+-- the lane with the items of its producer, if the producer was taken in
 abbrev pub with_items : Option PutListView → LaneView → LaneView
 with_items None l = l
 with_items (Some k) l = record l { put = k.items }
@@ -28,11 +28,11 @@ with_items (Some k) l = record l { put = k.items }
 abbrev pub with_notes : List Note → DiaryView → DiaryView
 with_notes notes d = record d { notes = notes }
 
--- the diaries with the notes of a consumer, if it was taken in: its first diary stands at this place
+-- the diaries with the notes of a consumer, if it was taken in. Its first diary stands at this place
 abbrev pub with_row : ℕ → Option ConsumerRecordView → List DiaryView → List DiaryView
 with_row first None ds = ds
 with_row first (Some l) ds = changed_from with_notes first l.notes ds
 
--- and with those of all from consumer c on, where there are so many lanes
+-- the diaries with the notes of all consumers from c on, if there are this many lanes
 abbrev pub with_rows : ℕ → ℕ → List (Option ConsumerRecordView) → List DiaryView → List DiaryView
 with_rows lanes c os ds = in_turn (λ d o es. with_row (d * lanes) o es) c os ds

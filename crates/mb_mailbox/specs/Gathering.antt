@@ -17,14 +17,14 @@ use Rattle.mb_mailbox.specs.Hubs.{HubView}
 use Rattle.mb_mailbox.specs.Mailboxes.{MailboxView, plan_at}
 
 -- ---- what is missing
--- how many of these are not there
+-- how many of those given were not taken in
 abbrev pub count_missing : {X : Type 0} → List (Option X) → ℕ
 count_missing [] = 0
 count_missing (Some x ∷ xs) = count_missing xs
 count_missing (None ∷ xs) = suc (count_missing xs)
 
--- ---- what was taken in, by numbers; where a number was not taken in, that is nothing
--- the one at this number, if there is one
+-- ---- what was taken in, by numbers. If a number was not taken in, that is nothing
+-- what stands at this number, if there is anything
 abbrev pub kept_at : {X : Type 0} → List (Option X) → ℕ → Option X
 kept_at xs n = option_map_or (λ o. o) (slice_get xs n) None
 
@@ -41,7 +41,7 @@ abbrev pub notes_in : ℕ → ℕ → HubView → List Note
 notes_in c p h =
     option_map_or (λ l. option_map_or (λ ns. ns) (slice_get l.notes p) []) (kept_at h.ledgers c) []
 
--- whether it holds a claim there that has an access
+-- whether consumer c was taken in with a claim on lane p that has made an access
 abbrev pub begun_in : ℕ → ℕ → HubView → Bool
 begun_in c p h =
     option_map_or (λ l. option_map_or has_begun_at (slice_get l.places p) false)
@@ -52,8 +52,7 @@ abbrev pub is_taken_in : ℕ → ℕ → ℕ → HubView → Bool
 is_taken_in n p j h = any_below n (λ c. is_took (slice_get (notes_in c p h) j))
 
 -- ---- the report
--- lane p, where there are n consumers: the items put, whether it has ended, and the items that
--- nobody took
+-- lane p with n consumers: the items put, whether it has ended, and the items that nobody took
 abbrev pub lane_in : ℕ → ℕ → HubView → LaneView
 lane_in n p h = record {
   put = items_in p h;
@@ -65,19 +64,19 @@ lane_in n p h = record {
 abbrev pub diary_in : ℕ → ℕ → HubView → DiaryView
 diary_in c p h = record { consumer = c; lane = p; notes = notes_in c p h; begun = begun_in c p h }
 
--- the same before the lists that the hub keeps are moved in: the items put, and the notes
+-- the lane and the diary before the lists that the hub keeps are moved in: the items put, and the notes
 abbrev pub lane_outline : ℕ → ℕ → HubView → LaneView
 lane_outline n p h = record (lane_in n p h) { put = [] }
 
 abbrev pub diary_outline : ℕ → ℕ → HubView → DiaryView
 diary_outline c p h = record (diary_in c p h) { notes = [] }
 
--- so are the first n lanes, where there are so many consumers
+-- these are the outlines of the first n lanes, if there are this many consumers
 pub record AreLanesOutlined (consumers : ℕ) (h : HubView) (n : ℕ) (ls : List LaneView) : Type 0 where
   pub count : length ls ≡ n
   pub each : (p : ℕ) → p < n → slice_get ls p ≡ Some (lane_outline consumers p h)
 
--- and the first n diaries: consumer by consumer, lane by lane
+-- these are the outlines of the first n diaries: consumer by consumer, lane by lane
 pub record AreDiariesOutlined (lanes : ℕ) (h : HubView) (n : ℕ) (ds : List DiaryView) : Type 0 where
   pub count : length ds ≡ n
   pub each : (c p : ℕ) → p < lanes → c * lanes + p < n
@@ -88,8 +87,7 @@ pub record IsOutlineIn (lanes consumers : ℕ) (h : HubView) (r : ReportView) : 
   pub each_lane : AreLanesOutlined consumers h lanes r.lanes
   pub each_diary : AreDiariesOutlined lanes h (consumers * lanes) r.diaries
 
--- the lists and diaries are those of the producers and consumers that were taken in, each in its
--- place
+-- the lists and diaries are those of the producers and consumers that were taken in. Each is in its place
 pub record IsReportIn (lanes consumers : ℕ) (h : HubView) (r : ReportView) : Type 0 where
   pub lanes_count : length r.lanes ≡ lanes
   pub diaries_count : length r.diaries ≡ consumers * lanes
@@ -98,7 +96,7 @@ pub record IsReportIn (lanes consumers : ℕ) (h : HubView) (r : ReportView) : T
       → slice_get r.diaries (c * lanes + p) ≡ Some (diary_in c p h)
 
 -- ---- what it shows
--- what all that were taken in did, and that the report is honest of it
+-- what all that were taken in did, and that the report is honest about it
 pub record IsGathered (m : MailboxView) (h : HubView) (r : ReportView) : Type 0 where
   -- what was done to the words of the claims and to those of the cells; consumer c is reader c
   pub histories : Histories
@@ -110,22 +108,22 @@ pub record IsGathered (m : MailboxView) (h : HubView) (r : ReportView) : Type 0 
   pub sound : AreSound (plan_at m) histories
   -- the report is theirs
   pub report : IsReportOf (plan_at m) histories r
-  -- One assignment of items to competitors stands behind the whole report: each ledger is exactly
-  -- the items given, in the order put; the rest is reported as left; nothing follows an end mark;
-  -- and an item that was competed for is left only beside an unfinished claim
+  -- One assignment of items to competitors accounts for the whole report. Each ledger has exactly the items given, in
+  -- the order put. The rest is reported as left. Nothing follows an end mark. If nobody took an item that was
+  -- competed for, some competitor's claim on it is unfinished
   pub honest : IsHonest (plan_at m) histories r
 
 -- how many items are put, on all lanes together
 abbrev pub put_count : ReportView → ℕ
 put_count r = sum_by (λ l. length l.put) r.lanes
 
--- where a producer that was taken in found no cell, all the cells are put
+-- if a producer that was taken in found no cell, all the cells are put
 abbrev pub FullTakesAll : MailboxView → HubView → ReportView → Type 0
 FullTakesAll m h r =
     (p : ℕ) (done : History) → slice_get h.cells.roll.lanes p ≡ Some (Some done)
     → HasFoundNone m.cells.size.cells p done → put_count r ≡ m.cells.size.cells
 
--- where a note is undecided, at least two consumers competed for the item
+-- if a note is undecided, at least two consumers competed for the item
 abbrev pub UndecidedHasCompany : ReportView → Type 0
 UndecidedHasCompany r =
     (c p j : ℕ) → note c p j r ≡ Some Undecided

@@ -1,4 +1,4 @@
--- Small reports of one lane with one item, that nobody took.
+-- Small reports of one lane with one item that nobody took.
 use Rattle.std.specs.Prelude.{ℕ, false, List, [], ◌∷◌}
 use Rattle.mb_world.specs.Report.{DiaryView, ReportView}
 use Rattle.mb_mailbox.specs.Imports.{Note, Undecided}
@@ -7,7 +7,7 @@ use Rattle.mb_mailbox.specs.Imports.{Note, Undecided}
 abbrev pub diary_of : ℕ → List Note → DiaryView
 diary_of c notes = record { consumer = c; lane = 0; notes = notes; begun = false }
 
--- one item on lane 0, which is left, beside these diaries
+-- one item on lane 0, which is left, with these diaries
 abbrev pub one_left : List DiaryView → ReportView
 one_left diaries = record {
   lanes = record { put = 7 ∷ []; ended = false; left = 7 ∷ [] } ∷ [];

@@ -3,11 +3,11 @@ use Rattle.std.specs.Prelude.{ℕ, ◌≡◌, ◌≤◌, List, Vec, length, map,
 use Rattle.mb_mailbox.specs.HubRuns.{ArePollJobs, ArePutJobs, ArePutJobsOfFront, with_consumers, with_producers}
 use Rattle.mb_mailbox.specs.Hubs.{HubView}
 use Rattle.mb_mailbox.specs.Mailboxes.{MailboxView}
-use Rattle.mb_mailbox.specs.declared.crew.room.Jobs.{Jobs}
+use Rattle.mb_mailbox.specs.declared.crew.room.WorkerInputs.{WorkerInputs}
 
 module _ {R Z : Type 0} where
-  -- the jobs are those of a front of these lists, and of so many consumers at most, with the next numbers
-  pub record AreGiven (m : MailboxView) (lists : List (Vec ℕ Z)) (sources : ℕ) (jobs : Jobs R Z)
+  -- the jobs are those of a front of these lists, and of at most this many consumers, with the next numbers
+  pub record AreGiven (m : MailboxView) (lists : List (Vec ℕ Z)) (sources : ℕ) (jobs : WorkerInputs R Z)
       (old new : HubView) : Type 0 where
     pub puts : ArePutJobsOfFront m (length old.puts) lists jobs.puts.items
     pub polls : ArePollJobs m (length old.ledgers) jobs.polls.items
@@ -15,8 +15,8 @@ module _ {R Z : Type 0} where
     pub few : vec_len jobs.polls ≤ sources
     pub hub : new ≡ with_consumers jobs.polls.items (with_producers jobs.puts.items old)
 
-  -- and they are all: each consumer has the source in its place
+  -- the jobs are those of all lists and all sources: each consumer has the source in its place
   pub record AreAllGiven (m : MailboxView) (lists : List (Vec ℕ Z)) (sources : List R)
-      (jobs : Jobs R Z) (old : HubView) : Type 0 where
+      (jobs : WorkerInputs R Z) (old : HubView) : Type 0 where
     pub puts : ArePutJobs m (length old.puts) lists jobs.puts.items
     pub polls : map (λ j. j.rng) jobs.polls.items ≡ sources

@@ -43,7 +43,7 @@ module _ {Z : Type 0} where
   ArePutJobs m p (v ∷ vs) (j ∷ js) = (j.producer ≡ new_producer m p) × (j.list ≡ v) × ArePutJobs m (suc p) vs js
   ArePutJobs m p _ _ = ⊥
 
-  -- the jobs are those of the lists in front
+  -- the jobs are those of a front of the lists
   pub record ArePutJobsOfFront (m : MailboxView) (p : ℕ) (lists : List (Vec ℕ Z))
       (jobs : List (PutJob Z)) : Type 0 where
     pub front : List (Vec ℕ Z)

@@ -16,7 +16,7 @@ pub record PutListView : Type 0 where
   pub items : List ℕ
   pub ended : Bool
 
--- what is kept of a consumer that was taken in: for each lane where it stood, and its notes
+-- what is kept of a consumer that was taken in: its place on each lane, and its notes there
 pub record ConsumerRecordView : Type 0 where
   pub places : List Place
   pub notes : List (List Note)
@@ -25,15 +25,15 @@ pub record ConsumerRecordView : Type 0 where
 abbrev pub parts_by : ℕ → History → List ClaimAccess → Parts
 parts_by c reads done = record { reads = reads; claimed = λ k. part_on c k done }
 
--- the hubs of both tables, and by the numbers given the put lists of the producers that were
--- taken in, and the ledgers of the consumers
+-- the hubs of both tables, the put lists of the producers that were taken in, and the ledgers of the consumers that
+-- were. Both lists go by the numbers given
 pub record HubView : Type 0 where
   pub cells : CellHubView
   pub claims : ClaimHubView
   pub puts : List (Option PutListView)
   pub ledgers : List (Option ConsumerRecordView)
 
--- the put list is that of the producer of lane p, which did this in a pool of so many cells
+-- the put list is that of the producer of lane p, which did this in a pool of this many cells
 pub record IsPutList (cells p : ℕ) (done : History) (l : PutListView) : Type 0 where
   pub items : l.items ≡ values_put p done
   pub ended : l.ended ≡ has_ended p done
@@ -41,8 +41,8 @@ pub record IsPutList (cells p : ℕ) (done : History) (l : PutListView) : Type 0
   pub linked : (e : Entry) → Has done (fetch p e) → e.cell < cells
       → Has (linked_cells p done) e.cell
 
--- the ledger is that of consumer c, which did this where there are so many lanes: its two parts
--- fit each other, and tell where it stood on each lane and its notes there
+-- the ledger is that of consumer c, which did this, if there are this many lanes. Its two parts fit each other. They
+-- determine its place on each lane and its notes there
 pub record IsLedger
     (table : ClaimTable) (count c : ℕ) (reads : History) (done : List ClaimAccess) (l : ConsumerRecordView)
     : Type 0 where
@@ -65,8 +65,8 @@ hub_empty m = record {
   ledgers = [];
 }
 
--- what each hub keeps: a number of a producer is its lane's, and one of a consumer is that of its
--- reader and of its seat
+-- what each hub keeps. The number of a producer is that of its lane. The number of a consumer is that of its reader
+-- and of its seat
 pub record IsHub (h : HubView) : Type 0 where
   pub lanes : length h.puts ≡ length h.cells.roll.lanes
   pub readers : length h.ledgers ≡ length h.cells.roll.readers
@@ -74,7 +74,7 @@ pub record IsHub (h : HubView) : Type 0 where
   -- there are no more than the mailbox has
   pub few_lanes : length h.puts ≤ h.cells.table.size.lanes
   pub few_consumers : length h.ledgers ≤ (claims_at h.claims.table).table.values
-  -- and what is kept of one that was taken in is told by what it did
+  -- what was done determines what is kept of each that was taken in
   pub put : (p : ℕ) (l : PutListView) → slice_get h.puts p ≡ Some (Some l)
       → (done : History) × (slice_get h.cells.roll.lanes p ≡ Some (Some done))
       × IsPutList h.cells.table.size.cells p done l

@@ -1,4 +1,4 @@
--- The words of the crates below that stand in the definitions and clauses here, by one name each. Variants that share a
+-- The words of the crates below that the definitions and clauses here use, by one name each. Variants that share a
 -- name stand in their own modules.
 pub use Rattle.rand_core.specs.Stream.{Stream, next_u64}
 pub use Rattle.mb_claim.specs.declared.access.ClaimAccess.{ClaimAccess}

@@ -13,7 +13,7 @@ use Rattle.mb_mailbox.specs.declared.crew.jobs.PollDone.{PollDone}
 use Rattle.mb_mailbox.specs.declared.crew.jobs.PutDone.{PutDone}
 use Rattle.mb_mailbox.specs.declared.crew.jobs.PutJob.{PutJob}
 
--- a worker is stopped before this call of it: there the gate may stop it, or it is call 2^64 - 1
+-- a worker is stopped before this call of it: the gate may stop it there, or it is call 2^64 - 1
 abbrev pub IsStopBefore : (Who → ℕ → Type 0) → Who → ℕ → Type 0
 IsStopBefore may_stop w call = may_stop w call ⊎ (call ≡ 2 ^ 64 - 1)
 
@@ -39,7 +39,7 @@ pub record HasReadToEnd (p : ℕ) (s : ConsumerView) : Type 0 where
   pub end : HasLoaded s.reader.reader (place_past p cells) END s.reader.part
   pub notes : length (notes_on p s.notes) ≡ length cells
 
--- so it is on each lane that is marked
+-- it is so on each lane that is marked
 abbrev pub HasReadMarked : List Bool → ConsumerView → Type 0
 HasReadMarked marks s = (p : ℕ) → slice_index_or marks p false ≡ true → HasReadToEnd p s
 
@@ -48,13 +48,13 @@ abbrev pub count_marks : List Bool → ℕ
 count_marks [] = 0
 count_marks (b ∷ bs) = from_bool b + count_marks bs
 
--- a look that tells the end of a lane
+-- a look that says that the lane has ended
 abbrev pub is_ended : Look → Bool
 is_ended look.Nothing = false
 is_ended look.Ended = true
 is_ended (look.Cell k) = false
 
--- a load of a head or a link that finds it
+-- a load of a head or a link that finds the end mark
 abbrev pub tells_end : Word → PoolAct → Bool
 tells_end (Head p) (Load v) = is_ended (look_of v)
 tells_end (Link k) (Load v) = is_ended (look_of v)
@@ -65,8 +65,9 @@ abbrev pub ends_met : History → ℕ
 ends_met [] = 0
 ends_met (a ∷ older) = from_bool (tells_end a.word a.act) + ends_met older
 
--- some lanes are marked, perhaps none, each of them from `from` on and below `end`: the consumer has read each to its end mark,
--- and it has loaded end marks as many times as lanes are marked. Since a cell stands in one lane, that is each once, and no other
+-- some lanes are marked, perhaps none, each of them from `from` on and below `end`. The consumer has read each to its
+-- end mark. It has loaded as many end marks as lanes are marked. Since a cell stands in one lane, it has loaded each
+-- of these once, and no other
 pub record HasReadEnds (from end : ℕ) (s : ConsumerView) : Type 0 where
   pub marks : List Bool
   pub within : (p : ℕ) → slice_index_or marks p false ≡ true → (from ≤ p) × (p < end)
@@ -77,8 +78,8 @@ pub record HasReadEnds (from end : ℕ) (s : ConsumerView) : Type 0 where
 abbrev pub IsOnLanes : ℕ → ℕ → History → Type 0
 IsOnLanes from end reads = (a : PoolAccess) (p : ℕ) → Has reads a → a.word ≡ Head p → (from ≤ p) × (p < end)
 
--- it was stopped before a call, and has made at least as many accesses as it had calls before that one, and at most the
--- budget times as many
+-- it was stopped before a call. It has made at least as many accesses as it had calls before that one, and at most
+-- the budget times as many
 pub record IsStoppedPoll (may_stop : Who → ℕ → Type 0) (budget c made : ℕ) : Type 0 where
   pub call : ℕ
   pub first : 1 ≤ call
@@ -86,8 +87,8 @@ pub record IsStoppedPoll (may_stop : Who → ℕ → Type 0) (budget c made : �
   pub most : made ≤ budget * (call - 1)
   pub stop : IsStopBefore may_stop (who.Consumer c) call
 
--- a consumer has made calls, each of which the gate let through: the first draws from this source, and each other one from
--- what the one before it left there. Where it was stopped, it was so before the next call
+-- a consumer has made calls, and the gate let each through. The first draws from this source, and each other from
+-- what the call before it left. If it was stopped, it was stopped before the next call
 pub record HasPolled (may_stop may_pass : Who → ℕ → Type 0) (from end budget : ℕ) (source : Stream) (stopped : Bool)
     (old new : ConsumerView) : Type 0 where
   pub calls : ℕ
@@ -96,10 +97,11 @@ pub record HasPolled (may_stop may_pass : Who → ℕ → Type 0) (from end budg
   pub stop : stopped ≡ true → IsStopBefore may_stop (who.Consumer old.seat.consumer) (suc calls)
 
 module _ {Z : Type 0} (may_stop may_pass : Who → ℕ → Type 0) where
-  -- the producer put a beginning of its list, and ended its lane. Where it was not stopped, `full` counts the rest of the
-  -- list, and if there is any, a fetch-add of its own found no cell. Where it was, there is a rest, each of its fetch-adds
-  -- found a cell, and it was stopped before the call of the next item, or the run is off. Where the run is not off, the gate
-  -- let each of its calls through: one for each item that it put, and one for the item that found no cell
+  -- the producer put a beginning of its list, and ended its lane. If it was not stopped, `full` counts the rest of
+  -- the list. If that is not 0, a fetch-add of its own found no cell. If it was stopped, `full` is 0. If it was
+  -- stopped and the run is not aborted, there is a rest, and it was stopped before the call of the next item. Then it has
+  -- a fetch-add that found no cell only if it had one before. If the run is not aborted, the gate let each of its calls
+  -- through. There is one for each item that it put, and one for the item that found no cell, if there is one
   pub record IsPutEnd (j : PutJob Z) (d : PutDone Z) : Type 0 where
     pub same : IsSameLane j.producer d.producer
     pub over : is_over d.producer ≡ true
@@ -107,26 +109,28 @@ module _ {Z : Type 0} (may_stop may_pass : Who → ℕ → Type 0) where
     pub full : d.stopped ≡ false → length d.producer.items + d.full ≡ length j.list.items
     pub found : d.stopped ≡ false → d.full ≢ 0 → FoundNoCell d.producer
     pub none : d.stopped ≡ true → d.full ≡ 0
-    pub short : d.stopped ≡ true → d.off ≡ false → length d.producer.items < length j.list.items
-    pub had_cells : d.stopped ≡ true → d.off ≡ false → FoundNoCell d.producer → FoundNoCell j.producer
-    pub stop : d.stopped ≡ true → d.off ≡ false
+    pub short : d.stopped ≡ true → d.aborted ≡ false → length d.producer.items < length j.list.items
+    pub had_cells : d.stopped ≡ true → d.aborted ≡ false → FoundNoCell d.producer → FoundNoCell j.producer
+    pub stop : d.stopped ≡ true → d.aborted ≡ false
         → IsStopBefore may_stop (who.Producer j.producer.seat.lane) (suc (length d.producer.items))
-    pub passed : d.off ≡ false → ArePassed may_pass (who.Producer j.producer.seat.lane) (length d.producer.items)
-    pub passed_full : d.off ≡ false → d.stopped ≡ false → d.full ≢ 0
+    pub passed : d.aborted ≡ false → ArePassed may_pass (who.Producer j.producer.seat.lane) (length d.producer.items)
+    pub passed_full : d.aborted ≡ false → d.stopped ≡ false → d.full ≢ 0
         → may_pass (who.Producer j.producer.seat.lane) (suc (length d.producer.items))
 
-  -- the consumer, where it was not stopped, has read each lane from `from` on and below `end` to its end mark. One that had
-  -- made no access has then loaded as many end marks as there are of these lanes; stopped or not, it has loaded end marks
-  -- just as many times as there are lanes among these that it has read to their ends. Where the run is not off, it has looked at
-  -- the heads of these lanes alone, it has made its calls with this budget and the words of this source and nothing else, and
-  -- where it was stopped it was so before a call, and has loaded fewer end marks
+  -- if the consumer was not stopped, it has read each lane from `from` on and below `end` to its end mark. If the run
+  -- is not aborted, it has made its calls with this budget and the words of this source, and nothing else. The rest is
+  -- of a consumer that had made no access before. If it was not stopped, it has loaded as many end marks as there are of
+  -- these lanes. Stopped or not, it has loaded as many end marks as it has read of these lanes to their ends. If the
+  -- run is not aborted, it has looked at the heads of these lanes alone. If it was stopped and the run is not aborted,
+  -- it was stopped before a call, and has loaded fewer end marks
   pub record IsPollEnd (from end budget : ℕ) (source : Stream) (s : ConsumerView) (d : PollDone Z) : Type 0 where
     pub same : IsSameConsumer s d.consumer
     pub read : d.stopped ≡ false → (p : ℕ) → from ≤ p → p < end → HasReadToEnd p d.consumer
     pub ends : d.stopped ≡ false → accesses_made s ≡ 0 → ends_met d.consumer.reader.part ≡ end - from
     pub marked : accesses_made s ≡ 0 → HasReadEnds from end d.consumer
-    pub stop : d.stopped ≡ true → d.off ≡ false → accesses_made s ≡ 0
+    pub stop : d.stopped ≡ true → d.aborted ≡ false → accesses_made s ≡ 0
         → IsStoppedPoll may_stop budget s.seat.consumer (accesses_made d.consumer)
-    pub unread : d.stopped ≡ true → d.off ≡ false → accesses_made s ≡ 0 → ends_met d.consumer.reader.part < end - from
-    pub only : d.off ≡ false → accesses_made s ≡ 0 → IsOnLanes from end d.consumer.reader.part
-    pub polled : d.off ≡ false → HasPolled may_stop may_pass from end budget source d.stopped s d.consumer
+    pub unread : d.stopped ≡ true → d.aborted ≡ false → accesses_made s ≡ 0
+        → ends_met d.consumer.reader.part < end - from
+    pub only : d.aborted ≡ false → accesses_made s ≡ 0 → IsOnLanes from end d.consumer.reader.part
+    pub polled : d.aborted ≡ false → HasPolled may_stop may_pass from end budget source d.stopped s d.consumer

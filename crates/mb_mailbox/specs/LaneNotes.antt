@@ -1,4 +1,4 @@
--- The notes of a consumer in the order of time, each beside its lane, as marks and words; and cut by lane.
+-- The notes of a consumer in the order of time, each with its lane, as marks and words. And the notes cut by lane.
 use Rattle.std.specs.Prelude.{ℕ, zero, suc, ◌≡◌, ◌+◌, ◌^◌, ◌≤◌, List, [], ◌∷◌, if◌then◌else◌, length, nat_eq, nat_lt, slice_get, sum_by}
 use Rattle.std.specs.Option.{option_map_or}
 use Rattle.mb_mailbox.specs.Imports.{Note}
@@ -13,7 +13,7 @@ pub record NotesView : Type 0 where
   pub lists : List (List Note)
   pub room : ℕ
 
--- the lane of a note beside its lane, and the note
+-- the lane of a note with its lane, and the note
 abbrev pub lane_of : Noted → ℕ
 lane_of (beside.Took p x) = p
 lane_of (beside.Lost p w) = p
@@ -24,7 +24,7 @@ note_in (beside.Took p x) = Took x
 note_in (beside.Lost p w) = Lost w
 note_in (beside.Undecided p) = Undecided
 
--- a note beside lane p
+-- a note with lane p
 abbrev pub noted : ℕ → Note → Noted
 noted p (Took x) = beside.Took p x
 noted p (Lost w) = beside.Lost p w
@@ -35,7 +35,7 @@ abbrev pub on_lane : ℕ → List Noted → List Note
 on_lane p [] = []
 on_lane p (x ∷ xs) = if nat_eq p (lane_of x) then note_in x ∷ on_lane p xs else on_lane p xs
 
--- the notes of so many lanes from p on
+-- the notes of this many lanes from p on
 abbrev pub on_lanes : ℕ → ℕ → List Noted → List (List Note)
 on_lanes p zero xs = []
 on_lanes p (suc n) xs = on_lane p xs ∷ on_lanes (suc p) n xs
@@ -45,14 +45,14 @@ abbrev pub by_lane : ℕ → List Noted → List (List Note)
 by_lane n xs = on_lanes 0 n xs
 
 -- ---- marks and words
--- how many words a mark has
+-- how many words a mark needs
 abbrev pub words_in : Mark → ℕ
 words_in (mark.Took p) = 1
 words_in (mark.Lost p w) = 0
 words_in (mark.LostFar p) = 1
 words_in (mark.Undecided p) = 0
 
--- how many these marks have
+-- how many words these marks need
 abbrev pub words_among : List Mark → ℕ
 words_among [] = 0
 words_among (m ∷ ms) = words_in m + words_among ms
@@ -68,7 +68,7 @@ told (mark.Undecided p) x = beside.Undecided p
 abbrev pub word_at : List ℕ → ℕ → ℕ
 word_at ws t = option_map_or (λ w. w) (slice_get ws t) 0
 
--- the notes of these marks, whose words are those from t on
+-- the notes of these marks. Their words are those from t on
 abbrev pub told_from : ℕ → List Mark → List ℕ → List Noted
 told_from t [] ws = []
 told_from t (m ∷ ms) ws = told m (word_at ws t) ∷ told_from (t + words_in m) ms ws
@@ -76,7 +76,7 @@ told_from t (m ∷ ms) ws = told m (word_at ws t) ∷ told_from (t + words_in m)
 abbrev pub all_told : List Mark → List ℕ → List Noted
 all_told ms ws = told_from 0 ms ws
 
--- the marks have these words, and each of them is of one of so many lanes
+-- the marks have just these words, and each of them is of one of the first `lanes` lanes
 pub record AreMarked (lanes : ℕ) (ms : List Mark) (ws : List ℕ) : Type 0 where
   pub few : lanes ≤ 16
   pub words : words_among ms ≡ length ws

@@ -1,4 +1,5 @@
--- How the notes of a consumer that was taken in are kept: as marks and words, or cut by lane. A hub does not tell which.
+-- How the notes of a consumer that was taken in are kept: as marks and words, or cut by lane. The view of a hub does
+-- not say which.
 use Rattle.std.specs.Prelude.{ℕ, ◌≡◌, ◌<◌, Bool, true, false, List, Option, Some, length, map, slice_get}
 use Rattle.std.specs.Option.{option_map}
 use Rattle.mb_mailbox.specs.Imports.{Note}
@@ -24,19 +25,19 @@ is_cut_in (kept.Cut lists) = true
 abbrev pub ledger_in : Option KeptView → Option ConsumerRecordView
 ledger_in o = option_map (λ k. k.ledger) o
 
--- the ledgers, as the hub tells them
+-- the ledgers, as in the view of the hub
 abbrev pub ledgers_in : List (Option KeptView) → List (Option ConsumerRecordView)
 ledgers_in os = map ledger_in os
 
--- the notes of each of the first n that is there are cut
+-- among the first n, the notes of each that was taken in are cut
 abbrev pub AreCutBelow : ℕ → List (Option KeptView) → Type 0
 AreCutBelow n os = (c : ℕ) (k : KeptView) → c < n → slice_get os c ≡ Some (Some k) → k.is_cut ≡ true
 
--- all of them are
+-- the notes of all that were taken in are cut
 abbrev pub AreCut : List (Option KeptView) → Type 0
 AreCut os = (c : ℕ) (k : KeptView) → slice_get os c ≡ Some (Some k) → k.is_cut ≡ true
 
--- each that is there has notes for so many lanes
+-- each that was taken in has notes for this many lanes
 abbrev pub HaveLists : ℕ → List (Option KeptView) → Type 0
 HaveLists lanes os =
     (c : ℕ) (k : KeptView) → slice_get os c ≡ Some (Some k) → length k.ledger.notes ≡ lanes

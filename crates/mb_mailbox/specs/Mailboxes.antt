@@ -2,7 +2,7 @@
 use Rattle.std.specs.Prelude.{◌≡◌, ◌≤◌}
 use Rattle.mb_mailbox.specs.Imports.{CellsName, Plan, TableView, claims_in}
 
--- the table of the cells, and that of the claims on them
+-- the table of the cells, and the table of the claims on them
 pub record MailboxView : Type 0 where
   pub cells : CellsName
   pub claims : TableView

@@ -20,7 +20,7 @@ abbrev pub HasTurns : ConsumerView → Claim → List ObjectTurn → Type 0
 HasTurns s claim xs =
     (size : TableSize) → s.seat.table.size ≡ Some size → IsClaimIn size.layout claim xs
 
--- the consumer with these parts, at this place on lane p, with one note more there, if there is one
+-- the consumer with these parts, at this place on lane p. It has one more note there, if there is one
 abbrev pub moved_to : ℕ → Place → Option Note → History → List ClaimAccess → ConsumerView
     → ConsumerView
 moved_to p place note reads made s = record {
@@ -30,7 +30,7 @@ moved_to p place note reads made s = record {
   notes = with_note p note s.notes;
 }
 
--- its loads with one more of the link at a cursor, and with one more of an item
+-- its loads with one more of the link at a cursor, and its loads with one more of an item
 abbrev pub reads_with_link : ConsumerView → Cursor → ℕ → History
 reads_with_link s at v = load s.reader.reader (word_of at) v ∷ s.reader.part
 

@@ -1,4 +1,4 @@
--- A poll that keeps the claim of its lane in a variable, while the place there is behind.
+-- A poll that keeps the claim of its lane in a variable, while the place there is out of date.
 use Rattle.std.specs.Prelude.{ℕ, ◌≡◌, ◌≢◌, ◌+◌, ◌≤◌, List, slice_set}
 use Rattle.mb_mailbox.specs.Imports.{Claim, ReaderSeatView, SeatView, Stream, claim_stage, note_of}
 use Rattle.mb_mailbox.specs.declared.consumer.Poll.{Poll}
@@ -17,18 +17,18 @@ abbrev pub consumer_with : ReaderSeatView → SeatView → List Place → NotesV
 consumer_with reader seat places notes =
     record { reader = reader; seat = seat; places = places; notes = notes.lists }
 
--- the consumer, standing at cell k of lane p with this claim there
+-- the consumer at cell k of lane p with this claim there
 abbrev pub holding : ℕ → ℕ → Claim → ConsumerView → ConsumerView
 holding p k claim s = record s { places = slice_set s.places p (At k claim) }
 
 -- ---- accesses of the claim
--- the consumer where accesses of the claim on cell k have led, which has this stage then
+-- the consumer after accesses of the claim on cell k, by the stage that the claim has then
 abbrev pub competed : ℕ → ℕ → Claim → SeatView → ConsumerView → ConsumerView
 competed p k claim seat s =
     moved_to p (place_after k claim (claim_stage claim)) (note_of (claim_stage claim)) s.reader.part
     seat.part s
 
--- from a start on, so many accesses led a consumer there
+-- from a start on, this many accesses led a consumer there
 pub record HasCompeted (p k n : ℕ) (claim : Claim) (t u : Stream) (from s : ConsumerView)
     (seat : SeatView) : Type 0 where
   pub same : seat ≡ record s.seat { part = seat.part }
@@ -36,14 +36,14 @@ pub record HasCompeted (p k n : ℕ) (claim : Claim) (t u : Stream) (from s : Co
   pub is : IsConsumer (competed p k claim seat s)
 
 -- ---- the rest of a poll
--- what a poll can answer that has held a claim
+-- what a poll can return after it has held a claim
 abbrev pub IsOfClaim : Poll → Type 0
 IsOfClaim poll.Nothing = ⊥
 IsOfClaim poll.Ended = ⊥
 IsOfClaim poll.NoLane = ⊥
 IsOfClaim _ = Unit {0}
 
--- after n accesses on lane p, at most so many more come to this answer
+-- after n accesses on lane p, no more than `most` further ones come to this answer
 pub record IsPursuit (p n most : ℕ) (answer : Poll) (t u : Stream) (from new : ConsumerView)
     : Type 0 where
   pub made : ℕ

@@ -1,19 +1,19 @@
 -- Room for the workers of a run.
 use Rattle.std.specs.Prelude.{ℕ, ◌≡◌, ◌≤◌, [], vec_capacity}
-use Rattle.mb_mailbox.specs.declared.crew.room.Ends.{Ends}
-use Rattle.mb_mailbox.specs.declared.crew.room.Jobs.{Jobs}
+use Rattle.mb_mailbox.specs.declared.crew.room.WorkerResults.{WorkerResults}
+use Rattle.mb_mailbox.specs.declared.crew.room.WorkerInputs.{WorkerInputs}
 use Rattle.mb_mailbox.specs.declared.crew.room.WorkerBuffers.{WorkerBuffers}
 
 module _ {Z : Type 0} where
-  -- no job yet, and room for so many
-  pub record HasJobRoom {R : Type 0} (lists sources : ℕ) (j : Jobs R Z) : Type 0 where
+  -- no job yet, and room for this many
+  pub record HasJobRoom {R : Type 0} (lists sources : ℕ) (j : WorkerInputs R Z) : Type 0 where
     pub no_puts : j.puts.items ≡ []
     pub no_polls : j.polls.items ≡ []
     pub puts : lists ≤ vec_capacity j.puts
     pub polls : sources ≤ vec_capacity j.polls
 
-  -- nothing begun and no end yet, and room for so many
-  pub record HasEndRoom (lists sources : ℕ) (e : Ends Z) : Type 0 where
+  -- no end yet, and room for this many
+  pub record HasEndRoom (lists sources : ℕ) (e : WorkerResults Z) : Type 0 where
     pub no_puts : e.puts.items ≡ []
     pub no_polls : e.polls.items ≡ []
     pub puts : lists ≤ vec_capacity e.puts

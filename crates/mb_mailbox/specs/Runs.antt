@@ -10,19 +10,20 @@ use Rattle.mb_mailbox.specs.Jobs.{IsPollEnd, IsPutEnd}
 use Rattle.mb_mailbox.specs.Mailboxes.{MailboxView}
 use Rattle.mb_mailbox.specs.Producers.{IsProducerOf}
 use Rattle.mb_mailbox.specs.declared.gate.Who.{Who}
-use Rattle.mb_mailbox.specs.declared.crew.room.Ends.{Ends}
-use Rattle.mb_mailbox.specs.declared.crew.room.Jobs.{Jobs}
+use Rattle.mb_mailbox.specs.declared.crew.room.WorkerResults.{WorkerResults}
+use Rattle.mb_mailbox.specs.declared.crew.room.WorkerInputs.{WorkerInputs}
 
 module _ {R Z : Type 0} where
   -- all of them are of the mailbox
-  pub record AreOf (m : MailboxView) (jobs : Jobs R Z) : Type 0 where
+  pub record AreOf (m : MailboxView) (jobs : WorkerInputs R Z) : Type 0 where
     pub puts : All (λ j. IsProducerOf m j.producer) jobs.puts.items
     pub polls : All (λ j. IsConsumerOf m j.consumer) jobs.polls.items
 
-  -- these are the ends of the jobs, in their order, where consumers read the lanes from `from` on and below `end` with this
-  -- budget, each with the words of its own source, and the gate may stop them, or let them pass, before these calls
+  -- these are the ends of the jobs, in their order. Consumers read the lanes from `from` on and below `end` with this
+  -- budget, each with the words of its own source. The gate may stop the workers, or let them pass, before these
+  -- calls
   pub record AreEndsOf (may_stop may_pass : Who → ℕ → Type 0) (stream : R → Stream)
-      (from end budget : ℕ) (jobs : Jobs R Z) (ends : Ends Z)
+      (from end budget : ℕ) (jobs : WorkerInputs R Z) (ends : WorkerResults Z)
       : Type 0 where
     pub puts : AllZip (IsPutEnd may_stop may_pass) jobs.puts.items ends.puts.items
     pub polls : AllZip (λ j d. IsPollEnd may_stop may_pass from end budget (stream j.rng) j.consumer
@@ -30,22 +31,22 @@ module _ {R Z : Type 0} where
 
 module _ {Z : Type 0} where
   -- all ends are of the mailbox
-  pub record AreEndsAt (m : MailboxView) (ends : Ends Z) : Type 0 where
+  pub record AreEndsAt (m : MailboxView) (ends : WorkerResults Z) : Type 0 where
     pub puts : All (λ d. IsProducerOf m d.producer) ends.puts.items
     pub polls : All (λ d. IsConsumerOf m d.consumer) ends.polls.items
 
-  -- none of them tells that the run is off
-  pub record AreOn (ends : Ends Z) : Type 0 where
-    pub puts : All (λ d. d.off ≡ false) ends.puts.items
-    pub polls : All (λ d. d.off ≡ false) ends.polls.items
+  -- none of them says that the run is aborted
+  pub record AreOn (ends : WorkerResults Z) : Type 0 where
+    pub puts : All (λ d. d.aborted ≡ false) ends.puts.items
+    pub polls : All (λ d. d.aborted ≡ false) ends.polls.items
 
   -- how many were stopped
-  abbrev pub count_stopped : Ends Z → ℕ
+  abbrev pub count_stopped : WorkerResults Z → ℕ
   count_stopped ends = sum_by (λ d. from_bool d.stopped) ends.puts.items + sum_by
       (λ d. from_bool d.stopped) ends.polls.items
 
   -- the hub with all of them taken in, in their order
-  abbrev pub with_taken : Ends Z → HubView → HubView
+  abbrev pub with_taken : WorkerResults Z → HubView → HubView
   with_taken ends h =
       with_taken_consumers (map (λ d. d.consumer) ends.polls.items)
       (with_taken_producers (map (λ d. d.producer) ends.puts.items) h)

@@ -17,7 +17,7 @@ abbrev pub AreDrawn : Stream → List ℕ → Stream → Type 0
 AreDrawn s [] t = t ≡ s
 AreDrawn s (w ∷ ws) t = (u : Stream) × AreDrawn s ws u × ((w, t) ≡ next_u64 u)
 
--- the random words of the claims' accesses among these
+-- the random words of the claims' accesses among these accesses
 abbrev pub drawn_words : WorldHistory → List ℕ
 drawn_words done = map (λ a. a.step.turn.word) (claim_accesses done)
 
@@ -28,8 +28,8 @@ parts_after done s = parts_of
     (record s.reader { part = pool_accesses done ++ s.reader.part })
     (record s.seat { part = claim_accesses done ++ s.seat.part })
 
--- from the consumer on, these accesses on lane p (the newest first) are each the next one by the parts before
--- it, and come to this answer, or to none yet: only the newest can come to one
+-- from the consumer on, each of these accesses on lane p (the newest first) is the next one by the parts before it.
+-- They come to this answer, or to none yet: only the newest can come to one
 abbrev pub LeadTo : ℕ → Option Poll → WorldHistory → ConsumerView → Type 0
 LeadTo p answer [] s = answer ≡ None
 LeadTo p answer (a ∷ older) s =
@@ -53,8 +53,8 @@ abbrev pub with_note : ℕ → Option Note → List (List Note) → List (List N
 with_note p None notes = notes
 with_note p (Some n) notes = slice_set notes p (notes_on p notes ++ n ∷ [])
 
--- these accesses were made, the newest first, and nothing else: the parts have just these more, and the notes
--- just the one that comes with the answer
+-- these accesses were made, the newest first, and nothing else. The parts have just these more. The notes have just
+-- the one more that comes with the answer, if one does
 pub record HasDone (p : ℕ) (done : WorldHistory) (answer : Option Poll) (old new : ConsumerView)
     : Type 0 where
   pub reader : new.reader ≡ record old.reader { part = pool_accesses done ++ old.reader.part }
@@ -70,7 +70,7 @@ pub record IsStep (p : ℕ) (answer : Option Poll) (s t : Stream) (old new : Con
   pub leads : LeadTo p answer (access ∷ []) old
   pub drawn : AreDrawn s (drawn_words (access ∷ [])) t
 
--- so many steps on lane p, of which the last comes to this answer, or to none yet
+-- n steps on lane p. The last comes to this answer, or to none yet
 pub record AreSteps (p n : ℕ) (answer : Option Poll) (s t : Stream) (old new : ConsumerView)
     : Type 0 where
   pub accesses : WorldHistory
@@ -79,7 +79,7 @@ pub record AreSteps (p n : ℕ) (answer : Option Poll) (s t : Stream) (old new :
   pub drawn : AreDrawn s (drawn_words accesses) t
   pub count : length accesses ≡ n
 
--- what the accesses of a poll come to: to its answer, or to none where it is spent
+-- what the accesses of a poll come to: its answer, or none if it is spent
 abbrev pub outcome : Poll → Option Poll
 outcome poll.Spent = None
 outcome answer = Some answer
@@ -87,19 +87,18 @@ outcome answer = Some answer
 -- a poll of lane p with this budget and this answer
 pub record IsPollOf (p budget : ℕ) (answer : Poll) (s t : Stream) (old new : ConsumerView)
     : Type 0 where
-  -- the accesses that it made, the newest first, are all that the parts have more, and a note comes with
-  -- the answer
+  -- the accesses that it made, the newest first. The parts have just these more, and a note comes with the answer
   pub accesses : WorldHistory
   pub done : HasDone p accesses (outcome answer) old new
   -- each is the next one on the lane, and the poll ends with the first that comes to an answer
   pub lead : LeadTo p (outcome answer) accesses old
   -- the source is left after one word for each access of a claim
   pub drawn : AreDrawn s (drawn_words accesses) t
-  -- there are no more accesses than the budget, and just as many where it is spent
+  -- there are no more accesses than the budget, and just as many if it is spent
   pub within : length accesses ≤ budget
   pub spent : answer ≡ poll.Spent → length accesses ≡ budget
 
--- ---- what an answer tells of the lane
+-- ---- what an answer says of the lane
 -- the consumer has a note on each cell that it met on lane p
 abbrev pub HasNoteOnEach : ℕ → ConsumerView → Type 0
 HasNoteOnEach p s = length (notes_on p s.notes) ≡ length (cells_met p s.reader.part)
@@ -108,21 +107,22 @@ HasNoteOnEach p s = length (notes_on p s.notes) ≡ length (cells_met p s.reader
 abbrev pub HasLoadedEnd : ℕ → ConsumerView → Type 0
 HasLoadedEnd p s = HasRead (place_past p (cells_met p s.reader.part)) END s.reader.part
 
--- it has met all cells of lane p, whose producer did `theirs`, and has as many notes there as that put items;
--- and the lane has ended or has not
+-- it has met all cells of lane p. Its producer did `theirs`, and the consumer has as many notes there as that put
+-- items. `over` says whether the lane has ended
 pub record HasReadWhole (p : ℕ) (theirs : History) (over : Bool) (s : ConsumerView) : Type 0 where
   pub cells : cells_met p s.reader.part ≡ linked_cells p theirs
   pub notes : length (notes_on p s.notes) ≡ length (values_put p theirs)
   pub ended : has_ended p theirs ≡ over
 
--- what an answer tells of lane p
+-- what an answer says of lane p
 pub record AnswerTells (p : ℕ) (answer : Option Poll) (old new : ConsumerView) : Type 0 where
-  -- where there is one, the consumer holds no claim there, and has a note on each cell that it met
+  -- if there is one, the consumer holds no claim there, and has a note on each cell that it met
   pub noted : answer ≢ None → HasNoteOnEach p new
-  -- that the lane has ended, it is told by the end mark alone
+  -- if the answer is `Ended`, the consumer has loaded the end mark
   pub ended : answer ≡ Some poll.Ended → HasLoadedEnd p new
-  -- On a lane that was taken in before the consumer was given, nothing is found only past all that was put,
-  -- and never where the lane has ended; and the end just there.
+  -- The next two clauses are about a lane that was taken in before the consumer was given. With the answer `Nothing`
+  -- the consumer has met all that was put, and the lane has not ended. With `Ended` it has met all that was put, and
+  -- the lane has ended.
   pub known_nothing : (theirs : History) → slice_get old.reader.known p ≡ Some (Some theirs)
       → answer ≡ Some poll.Nothing → HasReadWhole p theirs false new
   pub known_ended : (theirs : History) → slice_get old.reader.known p ≡ Some (Some theirs)

@@ -10,7 +10,7 @@ use Rattle.mb_mailbox.specs.Producers.{ProducerView}
 use Rattle.mb_mailbox.specs.Worked.{ConsumerLeft, LaneLeft}
 use Rattle.mb_mailbox.specs.declared.gate.Who.{Who}
 
--- the producer of lane 0, which stands at this place, has done this and put these items
+-- the producer of lane 0 at this place, which has done this and put these items
 abbrev pub producer_of_one : CellsName → Lane → History → List ℕ → ProducerView
 producer_of_one name place done items = record {
   seat = record { table = record name { size = pool_size 1 1 }; lane = 0; place = place; part = done };
@@ -37,11 +37,11 @@ seven_put = store 0 (Head 0) 1 ∷ store 0 (Item 0) 7 ∷ fetched 0 7
 abbrev pub linked_early : History
 linked_early = store 0 (Item 0) 7 ∷ store 0 (Head 0) 1 ∷ fetched 0 7
 
--- what the producer of a lane left that was not stopped: these items, and what it did
+-- what a producer that was not stopped left: these items, and what it did
 abbrev pub lane_left : List ℕ → History → LaneLeft
 lane_left items done = record { put = items; part = done; stopped = false }
 
--- what one left that was stopped
+-- what a producer that was stopped left
 abbrev pub stopped_lane : List ℕ → History → LaneLeft
 stopped_lane items done = record { put = items; part = done; stopped = true }
 
@@ -49,7 +49,7 @@ stopped_lane items done = record { put = items; part = done; stopped = true }
 abbrev pub ledger_with : List Note → ConsumerRecordView
 ledger_with notes = record { places = []; notes = notes ∷ [] }
 
--- what a consumer left that was stopped, and has loaded this of the cells
+-- what a stopped consumer left, if it has loaded this of the cells
 abbrev pub reader_left : History → ConsumerLeft
 reader_left reads = record { ledger = ledger_with []; reads = reads; claimed = []; stopped = true }
 

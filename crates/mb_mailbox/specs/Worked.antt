@@ -12,18 +12,18 @@ use Rattle.mb_mailbox.specs.declared.gate.Who.{Who}
 use Rattle.mb_mailbox.specs.declared.gate.Who.TheVariants as who
 use Rattle.mb_mailbox.specs.declared.crew.Worked.{Worked}
 
--- there are more lists, or more sources, than numbers are left
+-- there are more lists than lanes left, or more sources than numbers of consumers left
 abbrev pub AsksTooMany : MailboxView → ℕ → ℕ → HubView → Type 0
 AsksTooMany m lists sources h =
     (m.cells.size.lanes - length h.puts < lists) ⊎ (consumer_count m.claims.layout - length h.ledgers < sources)
 
--- what a producer that was taken in left: the items that it put, and its part; and whether it was stopped
+-- what a producer that was taken in left: the items that it put, its part, and whether it was stopped
 pub record LaneLeft : Type 0 where
   pub put : List ℕ
   pub part : History
   pub stopped : Bool
 
--- what a consumer that was taken in left: its ledger, and its two parts; and whether it was stopped
+-- what a consumer that was taken in left: its ledger, its two parts, and whether it was stopped
 pub record ConsumerLeft : Type 0 where
   pub ledger : ConsumerRecordView
   pub reads : History
@@ -38,8 +38,8 @@ ended_list l = record { items = l.put; ended = true }
 abbrev pub lists_in : {Z : Type 0} → List (Vec ℕ Z) → List (List ℕ)
 lists_in vs = map (λ v. v.items) vs
 
--- the next numbers were given, one for each list and so many to consumers, and all of them were taken in: these lanes, each
--- of them ended and with a beginning of its list, and these consumers. What the hub had taken in it still has
+-- the next numbers were given, one for each list and one for each source, and all of them were taken in. Each of
+-- these lanes has ended, with a beginning of its list. The hub still has what it had taken in
 pub record IsRunOf (lists : List (List ℕ)) (sources : ℕ) (lanes : List LaneLeft) (consumers : List ConsumerLeft)
     (old new : HubView) : Type 0 where
   pub puts : new.puts ≡ old.puts ++ map (λ l. Some (ended_list l)) lanes
@@ -56,7 +56,7 @@ pub record WereTakenIn (lists : List (List ℕ)) (sources : ℕ) (old new : HubV
   pub consumers : List ConsumerLeft
   pub run : IsRunOf lists sources lanes consumers old new
 
--- so it is where no more than a front of these lists and so many consumers were given
+-- the same, if only a front of these lists and at most this many consumers were given
 pub record WereTakenInEarly (lists : List (List ℕ)) (sources : ℕ) (old new : HubView) : Type 0 where
   pub front : List (List ℕ)
   pub rest : List (List ℕ)
@@ -65,20 +65,19 @@ pub record WereTakenInEarly (lists : List (List ℕ)) (sources : ℕ) (old new :
   pub few : given ≤ sources
   pub taken : WereTakenIn front given old new
 
--- ---- items that found no cell
--- how many items of its list a producer did not put, where it was not stopped
+-- ---- items that were not put because no cell was left
+-- how many items of its list a producer did not put, if it was not stopped
 abbrev pub items_behind : Bool → List ℕ → List ℕ → ℕ
 items_behind true list put = 0
 items_behind false list put = length list - length put
 
--- how many that are of all lists
+-- how many items these are of all lists
 abbrev pub items_beyond : List (List ℕ) → List LaneLeft → ℕ
 items_beyond [] _ = 0
 items_beyond _ [] = 0
 items_beyond (list ∷ lists) (l ∷ ls) = items_behind l.stopped list l.put + items_beyond lists ls
 
--- the lanes from p on, each of which, where its producer was not stopped, has less than its list only behind a fetch-add
--- that found no cell
+-- the lanes from p on: if a producer was not stopped and put less than its list, a fetch-add of its own found no cell
 abbrev pub AreCutByCells : ℕ → ℕ → List (List ℕ) → List LaneLeft → Type 0
 AreCutByCells cells p [] [] = Unit {0}
 AreCutByCells cells p (list ∷ lists) (l ∷ ls) =
@@ -93,41 +92,43 @@ HasNoteAtEach p [] ledger = Unit {0}
 HasNoteAtEach p (l ∷ ls) ledger = (length (notes_on p ledger.notes) ≡ length l.put) × HasNoteAtEach (suc p) ls ledger
 
 -- ---- end marks
--- consumer c has loaded the end mark of lane p, past cells of this lane that it met (before that, as its path has it)
+-- consumer c has loaded the end mark of lane p, past cells of this lane that it met. By its path it met them before
+-- that
 pub record HasMetEnd (c p : ℕ) (reads : History) : Type 0 where
   pub cells : List ℕ
   pub met : HasMet c p cells reads
   pub end : HasLoaded c (place_past p cells) END reads
 
--- some lanes are marked, perhaps none, each of them from `from` on and below `end`: it has loaded the end mark of each, and has
--- loaded end marks as many times as lanes are marked. Since a cell stands in one lane, that is each once, and no other
+-- some lanes are marked, perhaps none, each of them from `from` on and below `end`. The consumer has loaded the end
+-- mark of each. It has loaded as many end marks as lanes are marked. Since a cell stands in one lane, it has loaded
+-- each of these once, and no other
 pub record HasMetEnds (from end c : ℕ) (reads : History) : Type 0 where
   pub marks : List Bool
   pub within : (p : ℕ) → slice_index_or marks p false ≡ true → (from ≤ p) × (p < end)
   pub met : (p : ℕ) → slice_index_or marks p false ≡ true → HasMetEnd c p reads
   pub once : ends_met reads ≡ count_marks marks
 
--- so has each of these consumers, the first of which is number c
+-- it is so for each of these consumers, with the numbers from c on
 abbrev pub HaveMetEnds : ℕ → ℕ → ℕ → List ConsumerLeft → Type 0
 HaveMetEnds from end c [] = Unit {0}
 HaveMetEnds from end c (l ∷ ls) = HasMetEnds from end c l.reads × HaveMetEnds from end (suc c) ls
 
 -- ---- who was stopped
--- the producer of lane p was stopped before the call that was to put the next item of its list, and each of its fetch-adds
--- found a cell
+-- the producer of lane p was stopped before the call that was to put the next item of its list. Each of its
+-- fetch-adds found a cell
 pub record IsStoppedPut (may_stop : Who → ℕ → Type 0) (cells p : ℕ) (list : List ℕ) (l : LaneLeft) : Type 0 where
   pub short : length l.put < length list
   pub had_cells : HasFoundNone cells p l.part → ⊥
   pub stop : IsStopBefore may_stop (who.Producer p) (suc (length l.put))
 
--- each producer of the lanes from p on that was stopped was so
+-- each producer of the lanes from p on that was stopped was stopped like this
 abbrev pub AreStoppedPuts : (Who → ℕ → Type 0) → ℕ → ℕ → List (List ℕ) → List LaneLeft → Type 0
 AreStoppedPuts may_stop cells p [] [] = Unit {0}
 AreStoppedPuts may_stop cells p (list ∷ lists) (l ∷ ls) =
     (l.stopped ≡ true → IsStoppedPut may_stop cells p list l) × AreStoppedPuts may_stop cells (suc p) lists ls
 AreStoppedPuts may_stop cells p _ _ = ⊥
 
--- each consumer from number c on that was stopped was stopped before a call, and has made at least as many accesses as
+-- each consumer from number c on that was stopped was stopped before a call. It has made at least as many accesses as
 -- it had calls before that one, and at most the budget times as many
 abbrev pub AreStoppedPolls : (Who → ℕ → Type 0) → ℕ → ℕ → List ConsumerLeft → Type 0
 AreStoppedPolls may_stop budget c [] = Unit {0}
@@ -135,7 +136,7 @@ AreStoppedPolls may_stop budget c (l ∷ ls) =
     (l.stopped ≡ true → IsStoppedPoll may_stop budget c (length l.reads + length l.claimed))
     × AreStoppedPolls may_stop budget (suc c) ls
 
--- all that was given was taken in, and these are the counts, where the gate may stop these workers before these calls, and
+-- all that was given was taken in, and these are the counts. The gate may stop these workers before these calls, and
 -- a poll makes at most `budget` accesses
 pub record IsWorked (may_stop : Who → ℕ → Type 0) (budget : ℕ) (lists : List (List ℕ)) (sources : ℕ)
     (w : Worked) (old new : HubView)
@@ -143,22 +144,23 @@ pub record IsWorked (may_stop : Who → ℕ → Type 0) (budget : ℕ) (lists : 
   pub lanes : List LaneLeft
   pub consumers : List ConsumerLeft
   pub run : IsRunOf lists sources lanes consumers old new
-  -- `stopped` counts who was stopped, each before a call at which the gate may stop it, or before call 2^64 - 1
+  -- `stopped` counts the workers that were stopped. Each was stopped before a call at which the gate may stop it, or
+  -- before call 2^64 - 1
   pub stopped : w.stopped ≡ sum_by (λ l. from_bool l.stopped) lanes + sum_by (λ c. from_bool c.stopped) consumers
   pub stopped_puts : AreStoppedPuts may_stop new.cells.table.size.cells (length old.puts) lists lanes
   pub stopped_polls : AreStoppedPolls may_stop budget (length old.ledgers) consumers
-  -- A consumer that was not stopped has loaded as many end marks as lanes were given in this call; one that was stopped has
-  -- loaded fewer
+  -- A consumer that was not stopped has loaded as many end marks as lanes were given in this call. One that was
+  -- stopped has loaded fewer
   pub ends : All (λ c. c.stopped ≡ false → ends_met c.reads ≡ length lists) consumers
   pub unread : All (λ c. c.stopped ≡ true → ends_met c.reads < length lists) consumers
-  -- Each consumer, stopped or not, has loaded the end marks of none, some or all of these lanes, past cells of the lane that it
-  -- met, and no more end marks
+  -- Each consumer, stopped or not, has loaded the end marks of none, some or all of these lanes, and no more end
+  -- marks. It loaded each past the cells of the lane that it met
   pub met : HaveMetEnds (length old.puts) (length old.puts + length lists) (length old.ledgers) consumers
   -- No consumer has looked at the head of a lane that was not given in this call
   pub only : All (λ c. IsOnLanes (length old.puts) (length old.puts + length lists) c.reads) consumers
-  -- Of those who were not stopped: `full` counts the items that they did not put, no further than 2^64 - 1,
+  -- `full` counts the items that the producers that were not stopped did not put, up to 2^64 - 1
   pub full : w.full ≡ min (2 ^ 64 - 1) (items_beyond lists lanes)
-  -- a producer that put less than its list has a fetch-add that found no cell,
+  -- If a producer that was not stopped put less than its list, a fetch-add of its own found no cell
   pub cut : AreCutByCells new.cells.table.size.cells (length old.puts) lists lanes
-  -- and each consumer has a note at each item of each of these lanes
+  -- Each consumer that was not stopped has a note at each item of each of these lanes
   pub noted : All (λ c. c.stopped ≡ false → HasNoteAtEach (length old.puts) lanes c.ledger) consumers

@@ -17,22 +17,23 @@ use std::marker::Model;
 pub enum Poll {
     /// The consumer has won the item at which it stood, and has loaded this value.
     Took(u64),
-    /// No consumer but this other one can win the item at which it stood; that one may not have won it yet, or may end
-    /// undecided.
+    /// No consumer but this other one can win the item at which it stood. That one may not have won it yet, or may
+    /// end undecided.
     Lost(u32),
     /// This consumer's claim on the item at which it stood ended undecided: another may have won it, or nobody.
     Undecided,
-    /// The consumer found no further item linked. Beside a producer that was not taken in before, one may be linked by now.
+    /// The consumer found no further item linked. If the producer was not taken in before, it may have linked one by
+    /// now.
     Nothing,
     /// The lane has ended: no further item comes.
     Ended,
-    /// As many accesses were made as the budget allows, and none of them led to another answer.
+    /// The poll made as many accesses as the budget allows, and none of them led to another answer.
     Spent,
     /// There is no such lane.
     NoLane,
 }
 
-/// A consumer: its two seats, and for each lane where it stands there and its notes.
+/// A consumer: its two seats, its place on each lane, and its notes there.
 #[derive(Drop)]
 pub struct Consumer<A: Allocator + Drop> {
     pub(crate) reader: ReaderSeat,
@@ -68,8 +69,9 @@ impl<A: Allocator + Drop> Consumer<A> {
     ghost use Rattle.mb_mailbox.specs.Consumers.{IsConsumer};
     ghost use Rattle.mb_mailbox.specs.Moves.{HasLoads};
 
-    /// The two parts of a consumer fit each other, and tell where it stands on each lane and its notes there; and each is
-    /// its part of some lawful history. It computes nothing: its contract is a law of all consumers.
+    /// The two parts of a consumer fit each other. They determine its place on each lane and its notes there. Each of
+    /// them is the consumer's part of some lawful history. It computes nothing: its contract is a law of all
+    /// consumers.
     pub fn keeps_its_parts(&self)
         ensures parts { IsConsumer self.now }
         ensures loads { HasLoads self.now }

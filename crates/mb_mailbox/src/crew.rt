@@ -1,4 +1,5 @@
-//! Workers in threads: producers that each put a list, and consumers that poll until all those lanes have ended.
+//! Workers in threads: producers that each put a list, and consumers that poll until all lanes of these producers
+//! have ended.
 ghost use Rattle.std.specs.Prelude.{◌≡◌, ◌≢◌, ◌↔◌, ◌+◌, ◌-◌, ◌^◌, ◌<◌, ◌≤◌, ◌⊎◌, Err, IfErr, IfOk, IsOk, length, map, min, vec_len};
 ghost use Rattle.std.specs.List.{sum_by};
 ghost use Rattle.mb_mailbox.specs.declared.crew.WorkFault.TheVariants.{AllGiven, BadBudget, NoMemory, NoThread};
@@ -28,7 +29,7 @@ use ends::ends_tell_notes;
 use issue::give;
 use jobs::Lanes;
 use rand_core::Rng;
-use room::{Ends, Jobs, WorkerBuffers, room_for_jobs, room_for_workers};
+use room::{WorkerBuffers, WorkerInputs, WorkerResults, room_for_jobs, room_for_workers};
 use std::alloc::Allocator;
 use std::error::Error;
 use std::fmt;
@@ -40,23 +41,26 @@ use threads::{end_all, run};
 /// What the workers of a run came to.
 #[derive(Clone, Copy, PartialEq, Eq, Debug)]
 pub struct Worked {
-    /// Items that were answered `Full`, or not offered because of such an answer. It stays at 2^64 - 1 once there.
+    /// Items that the producers that were not stopped did not put: each got the answer `Full`, or follows an item
+    /// that got it. It stays at 2^64 - 1 once there.
     pub full: u64,
-    /// Workers that were stopped, each before a call at which the gate may stop it, or before call 2^64 - 1.
+    /// Workers that were stopped. Each was stopped before call 2^64 - 1, or before a call at which the gate may stop
+    /// it.
     pub stopped: u64,
 }
 
 /// Why no run came to its end.
 #[derive(Clone, Copy, PartialEq, Eq, Debug)]
 pub enum WorkFault {
-    /// There are more lists or more sources than numbers are left. Nothing was given.
+    /// There are more lists than lanes left, or more sources than numbers of consumers left. Nothing was given.
     AllGiven,
     /// The budget is 0. Nothing was given.
     BadBudget,
-    /// The allocator refused what the run needs. Each producer given has ended its lane, and all that was given is taken in.
+    /// The allocator refused what the run needs. Each producer given has ended its lane, and all that was given is
+    /// taken in.
     NoMemory,
-    /// A thread could not be started. It comes only where there is a list or a source. Each producer given has ended its lane,
-    /// and all that was given is taken in.
+    /// A thread could not be started. It comes only if there is a list or a source. Each producer given has ended its
+    /// lane, and all that was given is taken in.
     NoThread,
 }
 
@@ -73,20 +77,22 @@ impl fmt::Display for WorkFault {
 
 impl Error for WorkFault {}
 
-/// Runs one thread for each list, and one for each source of random words. The first are producers, which put their lists in
-/// order up to the first `Full`, and then end their lanes. The others are consumers, which are started after them and poll
-/// the lanes given in this call in rising order, round and round, each until it has ended. Numbers are given in the order of
-/// the lists and of the sources. Before its n-th put or poll each worker asks the gate, and stops where the gate does not
-/// let it through.
+/// Runs one thread for each list, and one for each source of random words. The first are producers. Each puts its
+/// list in order up to the first `Full`, and then ends its lane. The others are consumers, which are started after
+/// the producers. They poll the lanes given in this call in rising order, round and round, each until it has ended.
+/// Numbers are given in the order of the lists and of the sources. Before its n-th put or poll each worker asks the
+/// gate. It stops if the gate does not let it through.
 ///
-/// It hands items out and runs none: each `Took` note of the report that [`Mailbox::gather`] gives is an item to be run, once,
-/// and so is each item left there. What was not put is in no report: it is what stands in a list behind the items that its lane
-/// has put, so keep a copy of the lists. `budget` is the most accesses of one poll, at least 1. A claim that is cut short is
-/// kept and goes on at the next poll. So with a small budget the gate is asked more often, and a poll costs more. Each
-/// consumer draws its random words from its own of `rngs`: the one in the place of its number among those given in this call.
+/// It hands items out and runs none. Each `Took` note of the report that [`Mailbox::gather`] gives is an item to be
+/// run, once. So is each item that the report leaves. What was not put is in no report: it is the rest of a list
+/// after the items that its lane has put. So keep a copy of the lists.
 ///
-/// Faults are decided in the order of [`WorkFault`]; after `NoMemory` and `NoThread` some items may have been taken, and a
-/// report tells. The call may wait for its threads, and for nobody else.
+/// `budget` is the most accesses of one poll, at least 1. A claim that is cut short is kept and goes on at the next
+/// poll. So with a small budget the gate is asked more often, and a poll costs more. Each consumer draws its random
+/// words from its own source. The first consumer given in this call has the first of `rngs`, and so on.
+///
+/// Faults are decided in the order of [`WorkFault`]. After `NoMemory` and `NoThread` some items may have been taken:
+/// a report says which. The call may wait for its threads, and for nobody else.
 pub fn work<
     A: Allocator + Clone + Drop + Send + Sync,
     W: Threads + Wait + Sync,
@@ -110,13 +116,13 @@ pub fn work<
     ensures nothing_given { (result ≡ Err AllGiven) ⊎ (result ≡ Err BadBudget)
         → hub.new ≡ hub.old }
 
-    // Whatever comes else, all that was given is taken in, and each producer given has ended its lane.
+    // In each case, all that was given is taken in, and each producer given has ended its lane.
     ensures worked { IfOk result (λ w.
         IsWorked (G.may_stop gate.now) budget (lists_in items.items) (vec_len rngs) w hub.old
         hub.new) }
 
-    // Each call of a worker comes where the gate may let it pass, and one of a consumer is a poll with this budget. The
-    // consumers draw from these sources: the first that is given in this call from the first, and so on.
+    // Each call of a worker comes at a point at which the gate may let it pass. Each call of a consumer is a poll
+    // with this budget. The first consumer given in this call draws from the first of these sources, and so on.
     ensures called { IfOk result (λ w. IsCalled (G.may_stop gate.now) (G.may_pass gate.now) budget
         (lists_in items.items) (map R.stream rngs.items) w hub.old hub.new) }
     ensures no_thread { result ≡ Err NoThread
@@ -164,7 +170,6 @@ pub fn consumers_left<A: Allocator + Drop, B: Allocator + Drop>(
     (mailbox.claims.layout().consumers() as usize).saturating_sub(hub.ledgers.len())
 }
 
-/// How many lanes were given.
 fn lanes_given<A: Allocator + Drop>(hub: &Hub<A>) -> usize
     ensures { result ≡ length hub.now.puts }
 {
@@ -175,7 +180,7 @@ fn lanes_given<A: Allocator + Drop>(hub: &Hub<A>) -> usize
 fn lanes_are_few<B: Allocator + Drop>(mailbox: &Mailbox<B>)
     ensures { mailbox.now.cells.size.lanes ≤ 16 }
 {
-    // The invariant of a mailbox is known where a field is named.
+    // Naming a field makes the invariant of a mailbox known.
     let _ = &mailbox.cells;
 }
 
@@ -186,7 +191,7 @@ fn consumers_are_few<B: Allocator + Drop>(mailbox: &Mailbox<B>)
     let _ = mailbox.claims.layout().consumers();
 }
 
-/// The lanes of the next so many numbers.
+/// The lanes with the next `lists` numbers, and this budget.
 fn next_lanes(given: usize, lists: usize, budget: u64) -> Lanes
     requires few { given + lists ≤ 16 }
     requires able { 0 < budget }
@@ -201,7 +206,7 @@ fn next_lanes(given: usize, lists: usize, budget: u64) -> Lanes
     }
 }
 
-/// A run for which all lists have their room.
+/// A run, after room was taken for all its lists.
 fn work_with<
     A: Allocator + Clone + Drop + Send + Sync,
     W: Threads + Wait + Sync,
@@ -216,7 +221,7 @@ fn work_with<
     budget: u64,
     rngs: Vec<R, A>,
     gate: &G,
-    mut jobs: Jobs<R, A>,
+    mut jobs: WorkerInputs<R, A>,
     room: WorkerBuffers<G, R, A>,
 ) -> Result<Worked, WorkFault>
     requires of { IsHubOf mailbox.now hub.old }
@@ -249,8 +254,8 @@ fn work_with<
         take_all(mailbox, hub, ends);
         return Err(WorkFault::NoMemory);
     }
-    let going = AtomicBool::new(true);
-    let ends = run(rt, mailbox, jobs, lanes, gate, &going, room);
+    let running = AtomicBool::new(true);
+    let ends = run(rt, mailbox, jobs, lanes, gate, &running, room);
     match settle(mailbox, hub, ends) {
         Ok(worked) => {
             ends_tell_notes();
@@ -261,11 +266,12 @@ fn work_with<
     }
 }
 
-/// Takes all of them in, and tells what the run came to. There is a fault exactly if one of the ends tells that the run is off.
+/// Takes all of them in, and returns what the run came to. There is a fault exactly if one of the ends says that the
+/// run is aborted.
 fn settle<A: Allocator + Drop, B: Allocator + Drop>(
     mailbox: &Mailbox<B>,
     hub: &mut Hub<A>,
-    ends: Ends<A>,
+    ends: WorkerResults<A>,
 ) -> Result<Worked, WorkFault>
     requires hub { IsHubOf mailbox.now hub.old }
     requires ends { AreEndsAt mailbox.now ends }
@@ -273,14 +279,18 @@ fn settle<A: Allocator + Drop, B: Allocator + Drop>(
         (sum_by (λ d. d.full) ends.puts.items)) }
     ensures stopped { IfOk result (λ w. w.stopped ≡ min (2 ^ 64 - 1) (count_stopped ends)) }
     ensures on { IfOk result (λ _. AreOn ends) }
-    ensures off { AreOn ends → IsOk result }
+    ensures aborted { AreOn ends → IsOk result }
     ensures fault { IfErr result (λ e. e ≡ NoThread) }
     ensures some { IfErr result (λ _. 0 < length ends.puts.items + length ends.polls.items) }
     ensures hub { hub.new ≡ with_taken ends hub.old }
     ensures of { IsHubOf mailbox.now hub.new }
 {
-    let WorkTotals { full, stopped, off } = take_all(mailbox, hub, ends);
-    if off {
+    let WorkTotals {
+        full,
+        stopped,
+        aborted,
+    } = take_all(mailbox, hub, ends);
+    if aborted {
         Err(WorkFault::NoThread)
     } else {
         Ok(Worked { full, stopped })

@@ -1,5 +1,5 @@
-//! The definitions by example: what they let in, and what only looks right. The functions compute nothing: their contracts
-//! are the examples, and their proofs stand in `proofs/examples/`, one folder for each.
+//! The definitions by example: what they let in, and what only looks right. The functions compute nothing: their
+//! contracts are the examples. The proofs are in `proofs/examples/`, one folder for each.
 ghost use Rattle.std.specs.Prelude.{◌≡◌, ◌≢◌, List, None, Option, Some, [], ◌∷◌, false, true};
 ghost use Rattle.mb_quorum.specs.Vocabulary.{IsQuorumTable};
 ghost use Rattle.mb_claim.specs.declared.access.Stage.TheVariants as stage;
@@ -14,7 +14,7 @@ ghost use Rattle.mb_mailbox.specs.declared.gate.Who.TheVariants as who;
 ghost use Rattle.mb_mailbox.specs.declared.notes.Mark.TheVariants as mark;
 ghost use Rattle.mb_mailbox.specs.declared.crew.jobs.PutDone.{PutDone};
 ghost use Rattle.mb_mailbox.specs.declared.crew.jobs.PutJob.{PutJob};
-ghost use Rattle.mb_mailbox.specs.declared.crew.room.Ends.{Ends};
+ghost use Rattle.mb_mailbox.specs.declared.crew.room.WorkerResults.{WorkerResults};
 ghost use Rattle.mb_mailbox.specs.Consumers.{ConsumerView};
 ghost use Rattle.mb_mailbox.specs.ConsumerStep.{ConsumerStep};
 ghost use Rattle.mb_mailbox.specs.Examples.{head_loaded, link_loaded, met_four, nothing_done};
@@ -32,14 +32,14 @@ use mb_claim::laws::prefixes_have_one_stage;
 
 /// What a consumer does next on a lane, and what that comes to.
 pub fn consumers_go_on()
-    // It looks at the head: nothing is there yet, or the lane has ended, or it has met a cell, without an answer.
+    // It looks at the head. Nothing is there yet, or the lane has ended, or it has met a cell, without an answer.
     ensures waits { (cs : Claims)
         → ConsumerStep cs 0 0 nothing_done (head_loaded 0) (Some poll.Nothing) }
     ensures ends { (cs : Claims)
         → ConsumerStep cs 0 0 nothing_done (head_loaded END) (Some poll.Ended) }
     ensures finds { (cs : Claims) → ConsumerStep cs 0 0 nothing_done (head_loaded 5) None }
 
-    // Its claim there is going: the last step may lose it, and then it looks on.
+    // Its claim there is going. The last step may lose it, and then the consumer looks on.
     ensures loses { (cs : Claims) (t : ObjectTurn) (xs : List ObjectTurn)
         → IsClaimPrefix cs 0 xs stage.Going → IsClaimPrefix cs 0 (t ∷ xs) (stage.Lost 1)
         → ConsumerStep cs 0 0 (met_four xs) (claim_step 0 4 t) (Some (poll.Lost 1)) }
@@ -54,19 +54,19 @@ pub fn consumers_go_on()
     prefixes_have_one_stage();
 }
 
-/// What it does not do, and what it is not told.
+/// What a consumer does not do, and which answers it does not get.
 pub fn consumers_keep_to_their_path()
-    // The head of another lane, and nothing where a cell is linked.
+    // It does not load the head of another lane, and it does not return `Nothing` if a cell is linked.
     ensures other_lane { (cs : Claims)
         → ConsumerStep cs 0 0 nothing_done (link_load 0 1 [] 0) (Some poll.Nothing) → ⊥ }
     ensures linked { (cs : Claims)
         → ConsumerStep cs 0 0 nothing_done (head_loaded 5) (Some poll.Nothing) → ⊥ }
 
-    // A claim on a cell that it has not met.
+    // It makes no access of a claim on a cell that it has not met.
     ensures unmet { (cs : Claims) (t : ObjectTurn) (xs : List ObjectTurn) (answer : Option Poll)
         → ConsumerStep cs 0 0 (met_four xs) (claim_step 0 3 t) answer → ⊥ }
 
-    // A look past a claim that is going, and past one that is won and not loaded.
+    // It does not look past a claim that is going, nor past one that is won if the item was not loaded.
     ensures passed { (cs : Claims) (xs : List ObjectTurn) (answer : Option Poll)
         → IsQuorumTable cs.table → IsClaimPrefix cs 0 xs stage.Going
         → ConsumerStep cs 0 0 (met_four xs) (link_loaded 0) answer → ⊥ }
@@ -74,7 +74,7 @@ pub fn consumers_keep_to_their_path()
         → IsClaimPrefix cs 0 xs stage.Won
         → ConsumerStep cs 0 0 (met_four xs) (link_loaded 0) answer → ⊥ }
 
-    // An item that another has won, and a claim that is won and told as undecided.
+    // It does not load an item that another has won, and a claim that is won is not undecided.
     ensures lost { (cs : Claims) (xs : List ObjectTurn) (answer : Option Poll)
         → IsQuorumTable cs.table → IsClaimPrefix cs 0 xs (stage.Lost 1)
         → ConsumerStep cs 0 0 (met_four xs) (item_load 0 4 8) answer → ⊥ }
@@ -85,7 +85,7 @@ pub fn consumers_keep_to_their_path()
     prefixes_have_one_stage();
 }
 
-/// What a poll is not: it ends with its first answer, and is spent or has another answer only by its accesses.
+/// What a poll is not. It ends with its first answer. It is spent, or has another answer, only by its accesses.
 pub fn polls_end_with_their_answer()
     ensures goes_on { (s : ConsumerView) (a : WorldAccess) (answer : Option Poll)
         → LeadTo 0 answer (a ∷ link_load s.seat.consumer 0 [] 0 ∷ []) s → ⊥ }
@@ -95,7 +95,7 @@ pub fn polls_end_with_their_answer()
         → IsPollOf 0 2 (poll.Took 5) s t old old → ⊥ }
 {}
 
-/// What a put adds whose item is linked.
+/// What a put adds if its item is linked.
 pub fn puts_make_three_accesses()
     ensures linked { (name : CellsName) → IsPutInto 0 7 (idle_producer name)
         (producer_of_one name has_linked seven_put (7 ∷ [])) }
@@ -109,7 +109,7 @@ pub fn puts_make_three_accesses()
         → ⊥ }
 {}
 
-/// A put is full only behind a fetch-add that found no cell; and a lane ends only with its mark.
+/// A put is full only after a fetch-add that found no cell. A lane ends only with its mark.
 pub fn puts_are_full_for_a_reason()
     ensures always_full { (name : CellsName) → HasNoCellFor 8 (idle_producer name)
         (idle_producer name) → ⊥ }
@@ -130,7 +130,7 @@ pub fn workers_are_counted()
     ensures not_noted { HasNoteAtEach 0 (lane_left (7 ∷ []) [] ∷ []) (ledger_with []) → ⊥ }
 {}
 
-/// Which lanes a consumer has looked at, and how many end marks it has loaded: from heads and links alone.
+/// Which lanes a consumer has looked at, and how many end marks it has loaded. Only loads of heads and links count.
 pub fn consumers_look_at_lanes()
     ensures within { IsOnLanes 1 3 (load 0 (Link 4) 0 ∷ load 0 (Head 2) 0 ∷ load 0 (Head 1) 5 ∷ []) }
     ensures none { IsOnLanes 1 1 [] }
@@ -142,7 +142,8 @@ pub fn consumers_look_at_lanes()
         ≡ 0 }
 {}
 
-/// Which end marks consumers have loaded: each by itself, past the cells of their lane, and each once.
+/// Which end marks consumers have loaded. Each consumer loads them itself, past the cells of the mark's lane, and
+/// each once.
 pub fn consumers_read_to_the_end()
     ensures past_a_cell { HasMetEnd 0 1 (load 0 (Link 4) END ∷ load 0 (Head 1) 5 ∷ []) }
     ensures not_met { HasMetEnd 0 1 (load 0 (Link 4) END ∷ []) → ⊥ }
@@ -162,8 +163,9 @@ pub fn consumers_read_to_the_end()
     ensures again { HasMetEnds 0 1 0 (load 0 (Head 0) END ∷ load 0 (Head 0) END ∷ []) → ⊥ }
 {}
 
-/// Who counts as stopped: a producer before the put of its next item, that found a cell each time; and a consumer before a
-/// call that it has come to, with no more accesses than its budget allows the calls before that one.
+/// Which workers count as stopped. A producer counts before the put of its next item, if each of its fetch-adds found
+/// a cell. A consumer counts before a call that it has come to. Its accesses are no more than its budget allows the
+/// calls before that one.
 pub fn workers_are_stopped_by_the_gate()
     ensures put { IsStoppedPut (λ _ n. n ≡ 2) 1 0 (7 ∷ 8 ∷ []) (stopped_lane (7 ∷ []) seven_put) }
     ensures put_other_call { IsStoppedPut (λ _ n. n ≡ 3) 1 0 (7 ∷ 8 ∷ [])
@@ -181,54 +183,54 @@ pub fn workers_are_stopped_by_the_gate()
     ensures poll_other_worker { IsStoppedPoll (λ w _. w ≡ who.Consumer 1) 5 0 3 → ⊥ }
 {}
 
-/// A run is off as soon as one end tells so. A worker that its gate stopped does not tell so.
+/// A run is aborted as soon as one end says so. The end of a worker that its gate stopped does not say so.
 pub fn one_end_tells_that_a_run_is_off()
-    ensures stopped { (ends : Ends (Unit {0})) (s : ConsumerView) → ends.puts.items ≡ []
+    ensures stopped { (ends : WorkerResults (Unit {0})) (s : ConsumerView) → ends.puts.items ≡ []
         → ends.polls.items ≡ record {
           consumer = s;
           stopped = true;
-          off = false;
+          aborted = false;
         } ∷ [] → AreOn ends }
-    ensures off { (ends : Ends (Unit {0})) (s : ConsumerView)
+    ensures aborted { (ends : WorkerResults (Unit {0})) (s : ConsumerView)
         → ends.polls.items ≡ record {
           consumer = s;
           stopped = false;
-          off = true;
+          aborted = true;
         } ∷ [] → AreOn ends → ⊥ }
-    ensures off_producer { (ends : Ends (Unit {0})) (s : ProducerView)
+    ensures aborted_producer { (ends : WorkerResults (Unit {0})) (s : ProducerView)
         → ends.puts.items ≡ record {
           producer = s;
           full = 0;
           stopped = false;
-          off = true;
+          aborted = true;
         } ∷ [] → AreOn ends → ⊥ }
-    ensures off_after_another { (ends : Ends (Unit {0})) (s t : ConsumerView)
+    ensures aborted_after_another { (ends : WorkerResults (Unit {0})) (s t : ConsumerView)
         → ends.polls.items ≡ record {
           consumer = s;
           stopped = true;
-          off = false;
+          aborted = false;
         } ∷ record {
           consumer = t;
           stopped = false;
-          off = true;
+          aborted = true;
         } ∷ [] → AreOn ends → ⊥ }
 {}
 
-/// The end of a producer's worker tells what its gate let through, if the run is not off.
+/// The end of a producer's worker says what its gate let through, if the run is not aborted.
 pub fn producers_tell_what_was_let_through()
-    ensures off { (j : PutJob (Unit {0})) (d : PutDone (Unit {0}))
+    ensures aborted { (j : PutJob (Unit {0})) (d : PutDone (Unit {0}))
         → IsSameLane j.producer d.producer → is_over d.producer ≡ true → d.producer.items ≡ []
-        → d.full ≡ 0 → d.stopped ≡ true → d.off ≡ true
+        → d.full ≡ 0 → d.stopped ≡ true → d.aborted ≡ true
         → IsPutEnd (λ _ _. ⊥) (λ _ _. ⊥) j d }
-    ensures not_let_through { (j : PutJob (Unit {0})) (d : PutDone (Unit {0})) → d.off ≡ false
+    ensures not_let_through { (j : PutJob (Unit {0})) (d : PutDone (Unit {0})) → d.aborted ≡ false
         → d.producer.items ≡ 7 ∷ [] → IsPutEnd any_call (λ _ _. ⊥) j d → ⊥ }
     ensures full_not_let_through { (j : PutJob (Unit {0})) (d : PutDone (Unit {0}))
-        → d.off ≡ false → d.producer.items ≡ [] → d.stopped ≡ false → d.full ≡ 1
+        → d.aborted ≡ false → d.producer.items ≡ [] → d.stopped ≡ false → d.full ≡ 1
         → IsPutEnd any_call (λ _ _. ⊥) j d → ⊥ }
 {}
 
-/// Marks and words are the notes of lanes, in the order of time. A mark that has a word is nothing without it, nor on a lane
-/// that is not there.
+/// Marks and words are the notes of lanes, in the order of time. If a mark needs a word, it is no note without it. A
+/// mark of a lane that is not there is no note.
 pub fn marks_are_notes()
     ensures told { by_lane 2 (all_told (mark.Took 1 ∷ mark.Lost 0 3 ∷ mark.Took 0 ∷ [])
         (7 ∷ 8 ∷ [])) ≡ (Lost 3 ∷ Took 8 ∷ []) ∷ (Took 7 ∷ []) ∷ [] }
@@ -239,7 +241,7 @@ pub fn marks_are_notes()
     ensures too_many_lanes { AreMarked 17 [] [] → ⊥ }
 {}
 
-/// Each consumer has a source of its own, and its first word is the first of that source.
+/// Each consumer has a source of its own, and the first word that it draws is the first of that source.
 pub fn consumers_have_sources_of_their_own()
     ensures nobody { WerePolled any_call any_call 0 1 5 0 [] [] }
     ensures idle { (s : ConsumerView) (source : Stream) → s.reader.reader ≡ 3 → s.seat.consumer ≡ 3

@@ -23,7 +23,7 @@ use std::fmt;
 /// Why there is no report.
 #[derive(Clone, Copy, PartialEq, Eq, Debug)]
 pub enum GatherFault {
-    /// So many producers, and so many consumers, were given and not taken in.
+    /// This many producers, and this many consumers, were given and not taken in.
     Missing(u32, u32),
     /// The allocator refused room for the report.
     NoMemory,
@@ -50,10 +50,10 @@ impl<A: Allocator + Clone + Drop> Mailbox<A> {
     ghost use Rattle.mb_mailbox.specs.Gathering.{FullTakesAll, IsGathered, IsReportIn, UndecidedHasCompany, count_missing};
     ghost use Rattle.mb_mailbox.specs.Hubs.{IsHubOf};
 
-    /// Ends the mailbox, and tells what all that were taken in did: the items put, the notes, and what is left.
-    /// [`GatherFault::Missing`] comes exactly where a producer or a consumer was given and not taken in, and is decided
-    /// first. All room for the report is taken before the tables are closed: after a fault both values come back as they
-    /// were, and `gather` may be called again.
+    /// Ends the mailbox, and returns what all that were taken in did: the items put, the notes, and what is left.
+    /// [`GatherFault::Missing`] comes exactly if a producer or a consumer was given and not taken in. It is decided
+    /// first. All room for the report is taken before the tables are closed. So after a fault both values come back
+    /// as they were, and `gather` may be called again.
     pub fn gather(
         self,
         alloc: A,
@@ -73,11 +73,11 @@ impl<A: Allocator + Clone + Drop> Mailbox<A> {
         ensures lists { IfOk result (λ r.
             IsReportIn self.cells.size.lanes (consumer_count self.claims.layout) hub r) }
 
-        // One assignment stands behind the whole report, and nothing follows an end mark.
+        // One assignment of items to competitors accounts for the whole report, and nothing follows an end mark.
         ensures headline { IfOk result (λ r. IsGathered self hub r) }
 
-        // Where a producer found no cell, the put lists together have all cells; and where a note is undecided, two
-        // consumers or more competed for the item.
+        // If a producer found no cell, the put lists together have all cells. If a note is undecided, two consumers
+        // or more competed for the item.
         ensures full { IfOk result (λ r. FullTakesAll self hub r) }
         ensures undecided { IfOk result (λ r. UndecidedHasCompany r) }
     {
@@ -106,7 +106,8 @@ impl<A: Allocator + Clone + Drop> Mailbox<A> {
         )
     }
 
-    /// Takes all the room that a report of what was taken in so far needs. A hub that is refused it comes back as it was.
+    /// Takes all the room that a report of what was taken in so far needs. If the memory is refused, the hub comes
+    /// back as it was.
     pub fn draft(&self, alloc: A, hub: Hub<A>) -> Result<Draft<A>, Hub<A>>
         requires of { IsHubOf self.now hub }
         ensures drafted { IfOk result (λ draft. draft ≡ hub) }
@@ -126,7 +127,7 @@ impl<A: Allocator + Clone + Drop> Mailbox<A> {
         }
     }
 
-    /// Ends the mailbox with a draft made when all were taken in. It takes no memory, so it cannot fail.
+    /// Ends the mailbox with a draft that was made after all were taken in. It takes no memory, so it cannot fail.
     pub fn gather_with(self, draft: Draft<A>) -> Report<A>
         requires of { IsHubOf self draft }
         requires producers { count_missing draft.puts ≡ 0 }
@@ -168,7 +169,7 @@ impl<A: Allocator + Clone + Drop> Mailbox<A> {
     }
 }
 
-/// How many of these are not there.
+/// How many of those given were not taken in.
 fn missing<T: Drop>(given: &[Option<T>]) -> u32
     requires { length given.now ≤ 64 }
     ensures { result ≡ count_missing given.now }

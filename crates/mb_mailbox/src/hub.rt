@@ -41,7 +41,7 @@ impl fmt::Display for HubFault {
 
 impl Error for HubFault {}
 
-/// The one that gives producers and consumers by their numbers, and takes them in.
+/// The hub gives producers and consumers by their numbers, and takes them in.
 #[derive(Drop)]
 pub struct Hub<A: Allocator + Drop> {
     pub(crate) cells: CellHub,
@@ -85,8 +85,8 @@ impl<A: Allocator + Drop> Hub<A> {
     ghost use Rattle.mb_mailbox.specs.Hubs.{with_taken_consumer, with_taken_producer};
     ghost use Rattle.mb_mailbox.specs.Producers.{IsProducerOf};
 
-    /// What every hub keeps, and that the parts of the cells that it has taken in are those of one lawful history. It
-    /// computes nothing: its contract is a law of all hubs.
+    /// What every hub keeps. The parts of the cells that it has taken in are those of one lawful history. It computes
+    /// nothing: its contract is a law of all hubs.
     pub fn has_history(&self)
         ensures kept { IsHub self.now }
         ensures pool { (pool : History)
@@ -95,8 +95,8 @@ impl<A: Allocator + Drop> Hub<A> {
         self.cells.has_history();
     }
 
-    /// The producer of the next lane, which has put nothing. Numbers are given in order, from 0 on.
-    /// [`HubFault::AllGiven`] comes exactly where each lane of the mailbox was given, and is decided first.
+    /// Gives the producer of the next lane, which has put nothing. Numbers are given in order, from 0 on.
+    /// [`HubFault::AllGiven`] comes exactly if each lane of the mailbox was given, and is decided first.
     pub fn producer<B: Allocator + Drop>(
         &mut self,
         alloc: A,
@@ -124,8 +124,9 @@ impl<A: Allocator + Drop> Hub<A> {
         Ok(Producer { seat, items })
     }
 
-    /// Takes a producer in, also before its lane has ended: its part and its items are the hub's then, as they are, for the
-    /// report. Its number is not given again. Room that its list does not need goes back to the allocator.
+    /// Takes a producer in, even before its lane has ended. Its part and its items then belong to the hub, as they
+    /// are, for the report. Its number is not given again. Room that its list does not need goes back to the
+    /// allocator.
     pub fn take_producer<B: Allocator + Drop>(
         &mut self,
         mailbox: &Mailbox<B>,
@@ -149,8 +150,9 @@ impl<A: Allocator + Drop> Hub<A> {
         self.puts[lane as usize] = Some(PutList { items, ended });
     }
 
-    /// Takes a consumer in, also while it holds claims: its parts, its places and its notes are the hub's then, as they are,
-    /// for the report. Its number is not given again. Room that its notes do not need goes back to the allocator.
+    /// Takes a consumer in, even while it holds claims. Its parts, its places and its notes then belong to the hub,
+    /// as they are, for the report. Its number is not given again. Room that its notes do not need goes back to the
+    /// allocator.
     pub fn take_consumer<B: Allocator + Drop>(
         &mut self,
         mailbox: &Mailbox<B>,
@@ -183,8 +185,8 @@ impl<A: Allocator + Clone + Drop> Hub<A> {
     ghost use Rattle.mb_mailbox.specs.Imports.{consumer_count};
     ghost use Rattle.mb_mailbox.specs.Hubs.{IsHubOf, IsNewConsumer, with_consumer};
 
-    /// The consumer of the next number, which has done nothing. Numbers are given in order, from 0 on.
-    /// [`HubFault::AllGiven`] comes exactly where all numbers of the mailbox were given, and is decided first.
+    /// Gives the consumer of the next number, which has done nothing. Numbers are given in order, from 0 on.
+    /// [`HubFault::AllGiven`] comes exactly if all numbers of the mailbox were given, and is decided first.
     pub fn consumer<B: Allocator + Drop>(
         &mut self,
         alloc: A,

@@ -1,4 +1,5 @@
-//! Laws of what a hub has taken in, and of what is gathered. The functions compute nothing: their contracts are the laws.
+//! Laws of what a hub has taken in, and of what is gathered. The functions compute nothing: their contracts are the
+//! laws.
 ghost use Rattle.std.specs.Prelude.{ℕ, ◌≡◌, ◌≢◌, ◌≤◌, List, [], ◌∷◌, Some, None, false, true, length, map, slice_get};
 ghost use Rattle.mb_claim.specs.Vocabulary.{shape_of};
 ghost use Rattle.mb_mailbox.specs.Imports.{Claim, Note, Stream, Undecided, has_ended};
@@ -19,7 +20,7 @@ ghost use Rattle.mb_world.specs.declared.place.Place.TheVariants.{At};
 
 use mb_world::laws::{last_objects_settle_items, shaped_setups_have_last_objects};
 
-/// A lane that was never given is open and empty, and a consumer that was never given has noted and begun nothing.
+/// A lane that was never given is open and empty. A consumer that was never given has noted and begun nothing.
 pub fn what_was_not_given_is_empty()
     ensures items { (h : HubView) (p : ℕ) → length h.puts ≤ p → items_in p h ≡ [] }
     ensures ended { (h : HubView) (p : ℕ) → length h.puts ≤ p → ended_in p h ≡ false }
@@ -27,7 +28,7 @@ pub fn what_was_not_given_is_empty()
     ensures begun { (h : HubView) (c p : ℕ) → length h.ledgers ≤ c → begun_in c p h ≡ false }
 {}
 
-/// What was taken in is what the report has of it: the producer's own items, and the consumer's own notes.
+/// The report has what was taken in: the producer's own items, and the consumer's own notes.
 pub fn what_was_taken_in_is_told()
     ensures items { (h : HubView) (s : ProducerView)
         → slice_get h.puts s.seat.lane ≡ Some None
@@ -43,8 +44,8 @@ pub fn what_was_taken_in_is_told()
         → begun_in s.seat.consumer p (with_taken_consumer s h) ≡ has_begun_at place }
 {}
 
-/// A consumer that has a note on each cell that it met on a lane holds no claim there. So it is after each poll of the lane
-/// that is not spent. If it is taken in then, its diary of the lane has no claim begun.
+/// If a consumer has a note on each cell that it met on a lane, it holds no claim there. This holds after each poll
+/// of the lane that is not spent. If the consumer is taken in then, its diary of the lane has no claim begun.
 pub fn noted_lanes_hold_no_claim()
     ensures place { (s : ConsumerView) (p k : ℕ) (claim : Claim) → IsConsumer s → HasNoteOnEach p s
         → slice_get s.places p ≢ Some (At k claim) }
@@ -52,9 +53,9 @@ pub fn noted_lanes_hold_no_claim()
         → begun_in s.seat.consumer p (with_taken_consumer s h) ≡ false }
 {}
 
-/// If each cell of a mailbox has a last object, its report has no undecided note. An item that was competed for and that
-/// nobody took is left beside a diary whose claim there is begun. On a lane on which no claim is begun, each item that was
-/// competed for is taken.
+/// If each cell of a mailbox has a last object, its report has no undecided note. If nobody took an item that was
+/// competed for, it is left: some diary's notes end just before it, and the claim there is begun. On a lane on which
+/// no claim is begun, each item that was competed for is taken.
 pub fn last_objects_settle_what_is_gathered()
     ensures notes { (m : MailboxView) (h : HubView) (r : ReportView) (c p j : ℕ)
         → (shape_of m.claims.layout).last ≡ true → IsGathered m h r
@@ -82,7 +83,8 @@ pub fn hubs_have_one_report()
         → IsReportIn lanes consumers h r → IsReportIn lanes consumers h s → r ≡ s }
 {}
 
-/// What is missing by example, and that an undecided note of one consumer alone is not let in.
+/// What is missing, by example. A report in which only one consumer has an undecided note, and no other competed, is
+/// not let in.
 pub fn reports_by_example()
     ensures two_missing { count_missing {X = ℕ} (None ∷ Some 7 ∷ None ∷ []) ≡ 2 }
     ensures none_missing { count_missing {X = ℕ} (Some 7 ∷ Some 8 ∷ []) ≡ 0 }

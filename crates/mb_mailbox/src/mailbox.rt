@@ -4,8 +4,8 @@ use mb_shared_claims::SharedClaims;
 use std::alloc::Allocator;
 use std::marker::Model;
 
-/// A mailbox: the words of its cells and lanes, and the words of the claims on its cells. It may lie behind a `&` in as
-/// many threads as there are producers and consumers.
+/// A mailbox: the words of its cells and lanes, and the words of the claims on its cells. As many threads as there
+/// are producers and consumers may share it by `&`.
 #[derive(Drop)]
 pub struct Mailbox<A: Allocator + Drop> {
     pub(crate) lanes: u32,

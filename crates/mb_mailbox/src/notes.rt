@@ -1,6 +1,6 @@
-//! The notes of a consumer on all lanes, in the order of time. Each has a mark of three bytes. An item that was taken stands
-//! in a second list, so that a note on an item that another took needs no word. Both lists have their room from the
-//! beginning, since all lanes together have no more cells than the mailbox.
+//! The notes of a consumer on all lanes, in the order of time. Each has a mark of three bytes. The item of a `Took`
+//! note stands in a second list, so a note on an item that another took needs no word. Both lists have their room
+//! from the beginning, since all lanes together have no more cells than the mailbox.
 ghost use Rattle.std.specs.Prelude.{◌≡◌, ◌<◌, ◌++◌, ◌∷◌, [], IfOk, Some, map, vec_capacity, vec_len};
 ghost use Rattle.std.specs.Option.{option_map_or};
 ghost use Rattle.mb_mailbox.specs.LaneNotes.{lane_of, note_in, noted, told, word_at, words_in};
@@ -13,7 +13,7 @@ use mb_world::Note;
 use std::alloc::Allocator;
 use std::marker::Model;
 
-/// What a note is and on which lane, without its item.
+/// The kind of a note and its lane, without its item.
 #[derive(Clone, Copy)]
 pub(crate) enum Mark {
     /// The item is the next of the words.
@@ -26,7 +26,7 @@ pub(crate) enum Mark {
 
 const _: () = prove!(size_of::<Mark>() == 3);
 
-/// A note beside its lane.
+/// A note with its lane.
 #[derive(Clone, Copy)]
 pub(crate) enum Noted {
     Took { lane: u32, item: u64 },
@@ -49,7 +49,7 @@ fn marked(lane: u8, note: Note) -> (Mark, Option<u64>)
 }
 
 impl Mark {
-    /// The note of which this is the mark, with its word.
+    /// The note with this mark and this word.
     fn told(self, word: u64) -> Noted
         ensures { result ≡ told self word }
     {
@@ -70,7 +70,7 @@ impl Mark {
         }
     }
 
-    /// How many words it has.
+    /// How many words the mark needs.
     fn words(self) -> usize
         ensures { result ≡ words_in self }
     {
@@ -82,7 +82,6 @@ impl Mark {
 }
 
 impl Noted {
-    /// The lane.
     fn lane(self) -> u32
         ensures { result ≡ lane_of self }
     {
@@ -93,7 +92,6 @@ impl Noted {
         }
     }
 
-    /// The note.
     fn note(self) -> Note
         ensures { result ≡ note_in self }
     {
@@ -105,7 +103,7 @@ impl Noted {
     }
 }
 
-/// The notes on so many lanes, in the order of time.
+/// The notes on this many lanes, in the order of time.
 #[derive(Drop)]
 pub(crate) struct Notes<A: Allocator + Drop> {
     lanes: u32,
@@ -137,14 +135,14 @@ impl<A: Allocator + Drop> Notes<A> {
         requires { HasRoom lane self.old }
         ensures { NotesGrow lane (Some note) self.old self.new }
     {
-        // The invariant is known where a field is named: there are at most 16 lanes.
+        // Naming a field makes the invariant known: there are at most 16 lanes.
         let _ = &self.lanes;
         let (mark, word) = marked(lane as u8, note);
         self.marks.push_reserved(mark);
         put_word(&mut self.words, word);
     }
 
-    /// Gives back the room that no note takes.
+    /// Gives back the room that the notes do not need.
     pub(crate) fn trim(&mut self)
         ensures { self.new.lists ≡ self.old.lists }
     {
@@ -152,7 +150,7 @@ impl<A: Allocator + Drop> Notes<A> {
         trim(&mut self.words);
     }
 
-    /// How many notes there are on each lane. It is only how much room to take.
+    /// How many notes there are on each lane. It only says how much room to take.
     fn counts(&self) -> [usize; 16] {
         let mut counts = [0usize; 16];
         for mark in self.marks.iter() {
@@ -169,7 +167,7 @@ impl<A: Allocator + Clone + Drop> Notes<A> {
     ghost use Rattle.std.specs.Prelude.{◌≡◌, ◌≤◌, IfOk, map};
     ghost use Rattle.mb_mailbox.specs.NewConsumers.{AreNoNotes};
 
-    /// No note yet on so many lanes, and room for so many notes.
+    /// No note yet on this many lanes, and room for this many notes.
     pub(crate) fn new(alloc: A, lanes: u32, room: usize) -> Result<Notes<A>, NoMemory>
         requires { lanes ≤ 16 }
         ensures { IfOk result (λ notes. AreNoNotes lanes room notes) }
@@ -223,7 +221,7 @@ fn word_at(words: &[u64], at: usize) -> u64
     }
 }
 
-/// Adds a note to the list of its lane, if there is one.
+/// Adds a note to the list of its lane, if there is such a list.
 #[inline(always)]
 fn file<A: Allocator + Drop>(lists: &mut Vec<Vec<Note, A>, A>, noted: Noted) -> Result<(), NoMemory>
     ensures { IfOk result (λ _. map (λ v. v.items) lists.new.items
@@ -236,7 +234,7 @@ fn file<A: Allocator + Drop>(lists: &mut Vec<Vec<Note, A>, A>, noted: Noted) -> 
     Ok(())
 }
 
-/// So many empty lists, each with room for so many notes as are counted.
+/// Makes an empty list for each lane, with room for as many notes as are counted there.
 fn empty_lists<A: Allocator + Clone + Drop>(
     alloc: A,
     lanes: u32,

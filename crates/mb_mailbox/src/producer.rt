@@ -13,10 +13,10 @@ use std::marker::Model;
 pub enum Put {
     /// The item was linked: it is the last of the lane.
     Linked,
-    /// No cell was left for the item: it is still the caller's, and in no report. No cell comes back, so each further put
-    /// of this producer is answered so, up to its finish.
+    /// No cell was left for the item. The item is still the caller's, and in no report. No cell comes back, so each
+    /// further put of this producer returns `Full`, up to its finish.
     Full,
-    /// The lane has ended, by this producer's own finish.
+    /// This producer's own finish has ended the lane.
     Closed,
 }
 
@@ -47,13 +47,14 @@ impl<A: Allocator + Drop> Producer<A> {
     ghost use Rattle.mb_mailbox.specs.Producers.{FoundNoCell, HasNoCellFor, IsEndOfLane, IsProducer, IsProducerOf};
     ghost use Rattle.mb_mailbox.specs.Producers.{IsPutInto, IsSameLane, is_over};
 
-    /// Puts an item, any number, at the end of the lane: takes a cell, stores the item there, and links the cell. It makes at
-    /// most these three accesses, waits for nobody and takes no memory.
+    /// Puts an item, any number, at the end of the lane. It takes a cell, stores the item there, and links the cell.
+    /// It makes at most these three accesses, waits for nobody and takes no memory.
     pub fn put<B: Allocator + Drop>(&mut self, mailbox: &Mailbox<B>, x: u64) -> Put
         requires of { IsProducerOf mailbox.now self.old }
         ensures linked { result ≡ Linked → (k : ℕ) × IsPutInto k x self.old self.new }
 
-        // `Full` comes with the first fetch-add of the producer that finds no cell, and then stays, without an access.
+        // `Full` comes with the first fetch-add of the producer that finds no cell. From then on, up to the finish,
+        // it comes without an access.
         ensures full { result ≡ Full → HasNoCellFor x self.old self.new }
         ensures found { result ≡ Full → FoundNoCell self.new }
         ensures stays_full { FoundNoCell self.old → is_over self.old ≡ false → result ≡ Full }
@@ -80,8 +81,8 @@ impl<A: Allocator + Drop> Producer<A> {
         }
     }
 
-    /// Ends the lane: no item comes after those that it has. It answers `Ended`, or `Closed` where the lane has ended, and
-    /// never `Busy`, since each item put is linked.
+    /// Ends the lane: no item comes after those that it has. It returns `Ended`, or `Closed` if the lane had ended
+    /// before. It never returns `Busy`, since each item put is linked.
     pub fn finish<B: Allocator + Drop>(&mut self, mailbox: &Mailbox<B>) -> Finish
         requires of { IsProducerOf mailbox.now self.old }
         ensures ended { result ≡ finish.Ended → IsEndOfLane self.old self.new }
@@ -98,7 +99,7 @@ impl<A: Allocator + Drop> Producer<A> {
         mailbox.cells.finish(&mut self.seat)
     }
 
-    /// Its items are those that its part puts into the lane, nothing waits for its link, and some lawful history has the
+    /// Its items are those that its part puts into the lane. Nothing waits for its link. Some lawful history has the
     /// part. It computes nothing: its contract is a law of all producers.
     pub fn keeps_its_items(&self)
         ensures items { IsProducer self.now }

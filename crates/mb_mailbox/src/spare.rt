@@ -3,7 +3,8 @@ ghost use Rattle.std.specs.Prelude.{◌≡◌};
 
 use std::alloc::Allocator;
 
-/// Below so many spare places a list stays as it is: what it would give back is less than a call to the allocator is worth.
+/// With fewer spare places than this a list stays as it is: what it would give back is less than a call to the
+/// allocator is worth.
 const SPARE: usize = 512;
 
 /// Gives back the room that a list does not need, if it is not small.

@@ -1,4 +1,4 @@
-//! What a hub keeps of those that it took in.
+//! What a hub keeps of the producers and consumers that it took in.
 use crate::notes::Notes;
 use arrayvec::ArrayVec;
 use mb_cells::NoMemory;
@@ -29,7 +29,7 @@ pub(crate) enum Kept<A: Allocator + Drop> {
     Cut(Vec<Vec<Note, A>, A>),
 }
 
-/// What is kept of a consumer that was taken in: where it stands on each lane, and its notes there.
+/// What is kept of a consumer that was taken in: its place on each lane, and its notes there.
 #[derive(Drop)]
 pub(crate) struct ConsumerRecord<A: Allocator + Drop> {
     pub(crate) places: ArrayVec<Place, 16>,
@@ -53,7 +53,7 @@ impl<A: Allocator + Drop> ConsumerRecord<A> {
     ghost use Rattle.mb_world.specs.Places.{has_begun_at};
     ghost use Rattle.mb_mailbox.specs.Steps.{notes_on};
 
-    /// Whether it holds a claim on lane `p` that has an access.
+    /// Whether it holds a claim on lane `p` and the claim has made an access.
     pub(crate) fn begun(&self, p: u32) -> bool
         ensures { result ≡ option_map_or has_begun_at (slice_get self.now.ledger.places p) false }
     {
@@ -74,7 +74,7 @@ impl<A: Allocator + Drop> ConsumerRecord<A> {
         }
     }
 
-    /// How many items of lane `p` it took, if its notes are cut. It is only how much room to take.
+    /// How many items of lane `p` it took, if its notes are cut. It only says how much room to take.
     pub(crate) fn count_taken(&self, p: u32) -> usize {
         let mut count: usize = 0;
         if let Kept::Cut(lists) = &self.notes {
@@ -100,7 +100,7 @@ impl<A: Allocator + Drop> ConsumerRecord<A> {
         }
     }
 
-    /// The same, once nothing else is wanted.
+    /// The notes of each lane, as lists that the caller then owns.
     pub(crate) fn into_lists(self) -> Vec<Vec<Note, A>, A>
         requires cut { self.is_cut ≡ true }
         ensures { map (λ v. v.items) result.items ≡ self.ledger.notes }

@@ -60,14 +60,14 @@ run_with names =
     (named_rule (codes "shape") (codes "plain") names)
 
 -- the program, which prints its version. One of its commands has to be named
-abbrev pub program_alone : App
-program_alone =
+abbrev pub root_command : App
+root_command =
     on_top (λ top. record top { subcommand_required = true; has_version = true }) (new_app (codes "mailbox"))
 
 -- its commands: `ratify` and `replay`, which take nothing more, and `run`
 abbrev pub program_with : TextsAt → App
 program_with names =
-    with_subcommand (with_subcommand (with_subcommand program_alone (new_app (codes "ratify")).top)
+    with_subcommand (with_subcommand (with_subcommand root_command (new_app (codes "ratify")).top)
     (new_app (codes "replay")).top) (run_with names).top
 
 abbrev pub program : App

@@ -10,8 +10,8 @@ use Rattle.mb_program.specs.declared.fault.Failed.{Failed}
 use Rattle.mb_program.specs.declared.fault.Failed.TheVariants.{Ratify, Replay, Run}
 use Rattle.mb_program.specs.declared.fault.RatifyFault.TheVariants as ratify
 use Rattle.mb_program.specs.declared.fault.RunFault.TheVariants as run
-use Rattle.mb_program.specs.declared.outcome.Ending.{Ending}
-use Rattle.mb_program.specs.declared.outcome.Ending.TheVariants as ending
+use Rattle.mb_program.specs.declared.outcome.ProgramExit.{ProgramExit}
+use Rattle.mb_program.specs.declared.outcome.ProgramExit.TheVariants as ending
 
 -- a fault of a setup: its number and its name
 abbrev pub setup_fault_text : SetupFault → List ℕ
@@ -74,9 +74,9 @@ refusal_status OutOfMemory printed = 3
 refusal_status kind printed = 2
 
 -- the exit status of an end of the program
-abbrev pub end_status : Ending → ℕ
+abbrev pub end_status : ProgramExit → ℕ
 end_status ending.Done = 0
 end_status (ending.Failed failed) = fault_status failed
 end_status (ending.Refused kind printed) = refusal_status kind printed
-end_status ending.NoText = 2
-end_status ending.NoWords = 3
+end_status ending.NonUtf8Args = 2
+end_status ending.ArgsUnavailable = 3

@@ -13,8 +13,8 @@ use Rattle.mb_program.specs.declared.fault.Failed.{Failed}
 use Rattle.mb_program.specs.declared.fault.Failed.TheVariants as failed
 use Rattle.mb_program.specs.declared.fault.RatifyFault.{RatifyFault}
 use Rattle.mb_program.specs.declared.fault.RunFault.{RunFault}
-use Rattle.mb_program.specs.declared.outcome.Ending.{Ending}
-use Rattle.mb_program.specs.declared.outcome.Ending.TheVariants as ending
+use Rattle.mb_program.specs.declared.outcome.ProgramExit.{ProgramExit}
+use Rattle.mb_program.specs.declared.outcome.ProgramExit.TheVariants as ending
 use Rattle.mb_program.specs.Answer.{ratifying}
 use Rattle.mb_program.specs.CommandLine.{IsRefusalOf, choice_name, command_in, program}
 use Rattle.mb_program.specs.Outcome.{fault_line}
@@ -22,12 +22,12 @@ use Rattle.mb_program.specs.RunOptions.{HasToldOptions}
 use Rattle.mb_program.specs.Running.{IsRun}
 
 -- how the program ends after a command with this result. `fault` turns a fault of the command into one of the program
-abbrev pub ended_by : {X F : Type 0} → (F → Failed) → Result X F → Ending
+abbrev pub ended_by : {X F : Type 0} → (F → Failed) → Result X F → ProgramExit
 ended_by fault (Ok done) = ending.Done
 ended_by fault (Err e) = ending.Failed (fault e)
 
 -- a command was carried out from a reader to a writer, and the program ends so
-abbrev pub WasCarriedOut : {R W : Type 0} → Choice → IoModel R → IoModel W → R → R → W → W → Ending → Type 0
+abbrev pub WasCarriedOut : {R W : Type 0} → Choice → IoModel R → IoModel W → R → R → W → W → ProgramExit → Type 0
 WasCarriedOut Ratify source sink reader reader' writer writer' end =
     (r : Result (Unit {0}) RatifyFault) × IsCommandIo ratifying source sink reader reader' writer writer' r
     × (end ≡ ended_by failed.Ratify r)
@@ -62,7 +62,7 @@ IsTold sink errs writer writer' errors errors' kind printed =
 
 -- ---- one run of the program, with its reader and two writers before it and after it
 abbrev pub IsProgramRun : {R W E : Type 0} → List Text → IoModel R → IoModel W → IoModel E → R → R → W → W
-    → E → E → Ending → Type 0
+    → E → E → ProgramExit → Type 0
 -- the command that the words name was carried out
 IsProgramRun words source sink errs reader reader' writer writer' errors errors' ending.Done =
     ((choice : Choice) × WordsName words choice
@@ -82,5 +82,5 @@ IsProgramRun words source sink errs reader reader' writer writer' errors errors'
     × ((choice : Choice) → takes program words ≡ true → command_in words ≡ Some (choice_name choice)
     → kind ≡ OutOfMemory)
 -- the words are given, so the program does not end because there are none
-IsProgramRun words source sink errs reader reader' writer writer' errors errors' ending.NoText = ⊥
-IsProgramRun words source sink errs reader reader' writer writer' errors errors' ending.NoWords = ⊥
+IsProgramRun words source sink errs reader reader' writer writer' errors errors' ending.NonUtf8Args = ⊥
+IsProgramRun words source sink errs reader reader' writer writer' errors errors' ending.ArgsUnavailable = ⊥

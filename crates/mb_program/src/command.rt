@@ -1,11 +1,11 @@
 //! The command line.
 ghost use Rattle.std.specs.Prelude.{◌≡◌, true, [], ◌∷◌, List, ℕ, Some, IfOk, IfErr, IfSome, OnOk, IsSome, map};
 ghost use Rattle.clap.specs.Words.{app_of, fault_of, kind_of, subcommand_name_of, subcommand_rows_of, takes};
-ghost use Rattle.mb_program.specs.CommandLine.{program, program_alone, command_in, choice_name, IsProgramApp, IsRefusalOf};
+ghost use Rattle.mb_program.specs.CommandLine.{program, root_command, command_in, choice_name, IsProgramApp, IsRefusalOf};
 ghost use Rattle.mb_program.specs.RunOptions.{HasBudget, HasOptions, HasToldOptions};
 
 use crate::help;
-use crate::options::{Options, command_named, options_of, run_command};
+use crate::options::{Options, named_subcommand, options_of, run_command};
 use clap::error::ErrorKind;
 use clap::{ArgMatches, Command, Error};
 use std::alloc::{AllocError, Global};
@@ -26,8 +26,8 @@ pub enum Choice {
 }
 
 /// The program without its commands. One command has to be named.
-fn program_alone<'a>(alloc: Global) -> Result<Command<'a>, AllocError>
-    ensures { IfOk result (λ c. app_of c ≡ program_alone) }
+fn root_command<'a>(alloc: Global) -> Result<Command<'a>, AllocError>
+    ensures { IfOk result (λ c. app_of c ≡ root_command) }
 {
     Ok(
         Command::new(alloc, "mailbox")
@@ -43,9 +43,9 @@ fn program_alone<'a>(alloc: Global) -> Result<Command<'a>, AllocError>
 fn program<'a>(alloc: Global) -> Result<Command<'a>, AllocError>
     ensures { IfOk result (λ c. IsProgramApp (app_of c)) }
 {
-    program_alone(alloc)?
-        .subcommand(command_named(alloc, "ratify", help::RATIFY_ABOUT, help::RATIFY))?
-        .subcommand(command_named(alloc, "replay", help::REPLAY_ABOUT, help::REPLAY))?
+    root_command(alloc)?
+        .subcommand(named_subcommand(alloc, "ratify", help::RATIFY_ABOUT, help::RATIFY))?
+        .subcommand(named_subcommand(alloc, "replay", help::REPLAY_ABOUT, help::REPLAY))?
         .subcommand(run_command(alloc)?)
 }
 

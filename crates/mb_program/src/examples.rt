@@ -25,7 +25,7 @@ ghost use Rattle.mb_program.specs.RunExamples.{IsRunOver, nobody_script, nothing
 ghost use Rattle.mb_program.specs.RunExamples.{asked, help_words, ratify_now, ratify_words};
 ghost use Rattle.mb_program.specs.RunExamples.{report_with, run_words};
 ghost use Rattle.mb_program.specs.declared.fault.Failed.TheVariants as failed;
-ghost use Rattle.mb_program.specs.declared.outcome.Ending.TheVariants as ending;
+ghost use Rattle.mb_program.specs.declared.outcome.ProgramExit.TheVariants as ending;
 ghost use Rattle.mb_world.specs.Plan.{Histories};
 ghost use Rattle.mb_world.specs.Report.{ReportView};
 ghost use Rattle.mb_mailbox.specs.Imports.{ClaimAccess, Stream, consumer_part, next_u64};

@@ -21,7 +21,7 @@ pub use fault::{Failed, NoMemory, RatifyFault, RunFault};
 pub use input::read_script;
 pub use meaning::explanation;
 pub use options::{DEFAULTS, MAX_BUDGET, Options};
-pub use outcome::{DONE, Ending, FAILED, REFUSED, fault_text, status_of, status_of_ending};
+pub use outcome::{DONE, FAILED, ProgramExit, REFUSED, fault_text, status_of, status_of_ending};
 pub use ratify::ratify_text;
 pub use run::{Workload, fault_of_work, run_threads, workload_of};
 pub use script::RatifyScript;

@@ -49,7 +49,7 @@ pub const DEFAULTS: Options = Options {
 const SHAPES: &[&str] = &["plain", "fast", "last", "fastlast"];
 
 /// A command without options.
-pub(crate) fn command_named<'a>(
+pub(crate) fn named_subcommand<'a>(
     alloc: Global,
     name: &'a str,
     about: &'a str,
@@ -115,7 +115,7 @@ pub(crate) fn run_command<'a>(alloc: Global) -> Result<Command<'a>, AllocError>
     ensures app { IfOk result (λ c. IsRunApp (app_of c)) }
     ensures local { IfOk result (λ c. (fields_of c).has_globals ≡ false) }
 {
-    command_named(alloc, "run", help::RUN_ABOUT, help::RUN)
+    named_subcommand(alloc, "run", help::RUN_ABOUT, help::RUN)
         .arg(any_number(
             alloc,
             "producers",

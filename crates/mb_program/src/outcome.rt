@@ -21,7 +21,7 @@ pub const FAILED: u8 = 3;
 
 /// How the program ends.
 #[derive(Clone, Copy, Debug, PartialEq, Eq)]
-pub enum Ending {
+pub enum ProgramExit {
     /// The command did what was asked.
     Done,
     /// The command failed.
@@ -29,9 +29,9 @@ pub enum Ending {
     /// Clap did not read the command line, for a reason of this kind. Its text was printed, or it could not be.
     Refused { kind: ErrorKind, printed: bool },
     /// A word of the command line is not UTF-8.
-    NoText,
+    NonUtf8Args,
     /// The words of the command line could not be had.
-    NoWords,
+    ArgsUnavailable,
 }
 
 fn push_setup_fault<A: Allocator>(text: &mut String<A>, fault: SetupFault) -> Result<(), NoMemory>
@@ -148,14 +148,14 @@ fn status_of_refusal(kind: ErrorKind, printed: bool) -> u8
 /// The exit status of the program. It is `DONE` if the command did what was asked, and after help or a version that was
 /// asked for and printed. It is `FAILED` if these could not be printed, memory ran out, or a thread could not be
 /// started. It is `FAILED` too if a read or write failed, or the command line could not be had. Else it is `REFUSED`.
-pub fn status_of_ending(ending: &Ending) -> u8
+pub fn status_of_ending(ending: &ProgramExit) -> u8
     ensures { result ≡ end_status ending.now }
 {
     match ending {
-        Ending::Done => DONE,
-        Ending::Failed(failed) => status_of(failed),
-        Ending::Refused { kind, printed } => status_of_refusal(*kind, *printed),
-        Ending::NoText => REFUSED,
-        Ending::NoWords => FAILED,
+        ProgramExit::Done => DONE,
+        ProgramExit::Failed(failed) => status_of(failed),
+        ProgramExit::Refused { kind, printed } => status_of_refusal(*kind, *printed),
+        ProgramExit::NonUtf8Args => REFUSED,
+        ProgramExit::ArgsUnavailable => FAILED,
     }
 }

@@ -7,11 +7,11 @@ ghost use Rattle.mb_script.specs.Vocabulary.{CountGrowsUpTo, meter};
 ghost use Rattle.mb_program.specs.Outcome.{fault_line};
 ghost use Rattle.mb_program.specs.Program.{IsPrinted, IsProgramRun, IsTold, WasCarriedOut, ended_by};
 ghost use Rattle.mb_program.specs.RunOptions.{HasBudget};
-ghost use Rattle.mb_program.specs.declared.outcome.Ending.TheVariants as ending;
+ghost use Rattle.mb_program.specs.declared.outcome.ProgramExit.TheVariants as ending;
 
 use crate::command::{Choice, command_of};
 use crate::fault::Failed;
-use crate::outcome::{Ending, fault_text};
+use crate::outcome::{ProgramExit, fault_text};
 use crate::ratify::ratify_text;
 use crate::run::run_threads;
 use mb_script::{CountedRead, CountedWrite, write_all};
@@ -30,7 +30,7 @@ pub fn run<
     I: CountedRead,
     O: CountedWrite,
     E: CountedWrite,
->(rt: &R, words: &[S], reader: &mut I, writer: &mut O, errors: &mut E) -> Ending
+>(rt: &R, words: &[S], reader: &mut I, writer: &mut O, errors: &mut E) -> ProgramExit
     ensures done { IsProgramRun (map S.text words.now) (meter I.left I.failures)
         (meter O.held O.failures) (meter E.held E.failures)
         reader.old reader.new writer.old writer.new errors.old errors.new result }
@@ -40,7 +40,7 @@ pub fn run<
 {
     match command_of(rt.alloc(), words) {
         Ok(choice) => match carry_out(rt, choice, reader, writer) {
-            Ok(()) => Ending::Done,
+            Ok(()) => ProgramExit::Done,
             Err(failed) => end_with_fault(rt, failed, errors),
         },
         Err(error) => end_with_refusal(rt, &error, writer, errors),
@@ -69,7 +69,11 @@ fn carry_out<R: AllocGlobal + Threads + Wait + Sync, I: CountedRead, O: CountedW
 }
 
 /// Writes the line of a fault, if there is memory for it.
-fn end_with_fault<R: AllocGlobal, E: CountedWrite>(rt: &R, failed: Failed, errors: &mut E) -> Ending
+fn end_with_fault<R: AllocGlobal, E: CountedWrite>(
+    rt: &R,
+    failed: Failed,
+    errors: &mut E,
+) -> ProgramExit
     ensures ending { result ≡ ending.Failed failed }
     ensures line { (whole : Bool)
         × IsPrinted (meter E.held E.failures) errors.old errors.new (fault_line failed) whole }
@@ -77,7 +81,7 @@ fn end_with_fault<R: AllocGlobal, E: CountedWrite>(rt: &R, failed: Failed, error
     if let Ok(text) = fault_text(rt.alloc(), &failed) {
         let _whole = print(errors, text.as_bytes());
     }
-    Ending::Failed(failed)
+    ProgramExit::Failed(failed)
 }
 
 /// Writes clap's help to `writer`, or its refusal to `errors`, if there is memory for it.
@@ -86,7 +90,7 @@ fn end_with_refusal<R: AllocGlobal, O: CountedWrite, E: CountedWrite>(
     error: &clap::Error,
     writer: &mut O,
     errors: &mut E,
-) -> Ending
+) -> ProgramExit
     ensures { (printed : Bool) × (result ≡ ending.Refused (kind_of error.now) printed)
         × IsTold (meter O.held O.failures) (meter E.held E.failures)
         writer.old writer.new errors.old errors.new (kind_of error.now) printed }
@@ -96,7 +100,7 @@ fn end_with_refusal<R: AllocGlobal, O: CountedWrite, E: CountedWrite>(
         Ok(text) => print(writer, text.as_bytes()),
         Err(_) => false,
     };
-    Ending::Refused {
+    ProgramExit::Refused {
         kind: error.kind(),
         printed,
     }

@@ -7,13 +7,13 @@ pub const MAX_WORDS: usize = 8;
 
 /// The words of a line that has no empty word, and at most [`MAX_WORDS`] words.
 #[derive(Clone, Copy)]
-pub struct Words<'a> {
+pub struct LineWords<'a> {
     words: [&'a str; MAX_WORDS],
     count: usize,
     pub ghost within: { count ≤ 8 },
 }
 
-impl<'a> Words<'a> {
+impl<'a> LineWords<'a> {
     ghost use Rattle.std.specs.Prelude.{◌≡◌, true, false, ◌||◌, nat_lt, length, map, MatchOption};
     ghost use Rattle.mb_script.specs.Text.{has_empty, words_in_line};
     ghost use Rattle.mb_script.specs.FewWords.{words_in};
@@ -21,7 +21,7 @@ impl<'a> Words<'a> {
     /// The words of a line, or `None` if some word is empty or there are more than [`MAX_WORDS`].
     ///
     /// This takes no memory, however many words there are.
-    pub fn of_line(line: &'a str) -> Option<Words<'a>>
+    pub fn of_line(line: &'a str) -> Option<LineWords<'a>>
         ensures { MatchOption result
             ((has_empty (words_in_line line.now) || nat_lt MAX_WORDS
             (length (words_in_line line.now)))
@@ -44,7 +44,7 @@ impl<'a> Words<'a> {
             return None;
         }
         words[count] = rest;
-        Some(Words {
+        Some(LineWords {
             words,
             count: count + 1,
         })

@@ -24,7 +24,7 @@ pub use act_text::push_act;
 pub use command::run;
 pub use device::{CountedRead, CountedWrite, CountingIo};
 pub use fault::Fault;
-pub use few_words::{MAX_WORDS, Words};
+pub use few_words::{LineWords, MAX_WORDS};
 pub use parser::parse;
 pub use report_lines::report_text;
 pub use script::{MAX_EVENTS, Script};

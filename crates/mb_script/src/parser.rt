@@ -10,7 +10,7 @@ ghost use Rattle.mb_script.specs.Scripts.{event_of, placed};
 ghost use Rattle.mb_script.specs.Scripts.{event_at as event_read, events_of, lines_script, script_of, view};
 
 use crate::fault::Fault;
-use crate::few_words::Words;
+use crate::few_words::LineWords;
 use crate::script::{MAX_EVENTS, Script};
 use crate::shape::shape_named;
 use crate::table::table_named;
@@ -87,7 +87,7 @@ fn setup(line: &str) -> Result<Setup, Fault>
     if split_word(line).0 != "setup" {
         return Err(Fault::NoSetup);
     }
-    let Some(words) = Words::of_line(line) else {
+    let Some(words) = LineWords::of_line(line) else {
         return Err(Fault::BadLine(1));
     };
     let Some((_, sizes_words)) = words.as_slice().split_first() else {
@@ -152,7 +152,7 @@ fn place(setup: &Setup, n: usize, event: Event) -> Result<Event, Fault>
 fn event_at(setup: &Setup, n: usize, line: &str) -> Result<Event, Fault>
     ensures { Gives (λ e. e) result (event_read (plan_in setup.now) n line.now) }
 {
-    let Some(words) = Words::of_line(line) else {
+    let Some(words) = LineWords::of_line(line) else {
         return Err(Fault::BadLine(n));
     };
     let event = event(n, words.as_slice())?;

@@ -86,7 +86,8 @@ module _ (s : WorldState) (h : WorldHistory) (is : IsWorldAfter h s) where
     }
 
     -- its place stays
-    pub places_kept : (d : Place) → slice_get s.places (place_position c p) ≡ Some d → IsPlaceAfter s.setup c p (a ∷ h) d
+    pub places_kept : (d : Place) → slice_get s.places (place_position c p) ≡ Some d
+        → IsPlaceAfter s.setup c p (a ∷ h) d
         → ArePlaces (a ∷ h) s.places
     places_kept d at now =
         all_kept (consumers_of plan) plan.lanes (λ e q x. IsPlaceAfter s.setup e q h x)

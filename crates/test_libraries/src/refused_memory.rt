@@ -13,7 +13,7 @@ use std::alloc::Global;
 use std::process::Abort;
 use std::test::Fail;
 use test_alloc::{FaultyHeap, Refuse, growths_refused};
-use test_support::tells;
+use test_support::check_report;
 
 #[test]
 fn each_growth_of_ratify_refused(rt: HostRuntime) -> Result<(), Fail> {
@@ -55,7 +55,7 @@ type Alloc<'r> = &'r FaultyHeap<Global>;
 
 /// The only item was taken by the only consumer.
 fn tells_seven(rt: &impl Abort, report: Report<Alloc<'_>>) {
-    let told = tells(
+    let told = check_report(
         &report,
         &[(&[7], false, &[])],
         &[(0, 0, &[Note::Took(7)], false)],

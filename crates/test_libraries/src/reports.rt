@@ -1,4 +1,4 @@
-//! What `tells` finds in a report.
+//! What `check_report` finds in a report.
 
 use crate::answers::make;
 use crate::compare::same;
@@ -7,7 +7,7 @@ use crate::worlds::{one_pair, reported};
 use mb_world::{Note, Report};
 use std::alloc::Global;
 use std::process::Abort;
-use test_support::{DiaryTold, Difference, LaneTold, tells};
+use test_support::{DiaryTold, Difference, LaneTold, check_report};
 
 /// The report is as expected, or this is the first difference.
 fn is_found(
@@ -17,7 +17,7 @@ fn is_found(
     diary: DiaryTold<'_>,
     found: Result<(), Difference>,
 ) {
-    same(rt, &tells(report, &[lane], &[diary]), &found);
+    same(rt, &check_report(report, &[lane], &[diary]), &found);
 }
 
 /// Each difference from a report that tells of one item, which the only consumer took.
@@ -39,8 +39,12 @@ fn are_found(rt: &impl Abort, report: Report<Global>) {
     for (lane, diary, difference) in others {
         is_found(rt, report, lane, diary, Err(difference));
     }
-    same(rt, &tells(report, &[], &[]), &Err(Difference::Lanes));
-    same(rt, &tells(report, &[lane], &[]), &Err(Difference::Diaries));
+    same(rt, &check_report(report, &[], &[]), &Err(Difference::Lanes));
+    same(
+        rt,
+        &check_report(report, &[lane], &[]),
+        &Err(Difference::Diaries),
+    );
 }
 
 #[test]

@@ -5,7 +5,7 @@ use crate::shapes::{BOTH, FAST, LAST};
 use mb_claim::Shape;
 use mb_quorum::TableName;
 use mb_script::{
-    Fault, Script, Words, has_empty_word, number, numbers, parse, shape_of_word, split_line,
+    Fault, LineWords, Script, has_empty_word, number, numbers, parse, shape_of_word, split_line,
     split_word, table_named,
 };
 use mb_world::{Event, SetupFault};
@@ -295,7 +295,7 @@ fn has_words(line: &str, want: &[&str]) -> bool {
 
 /// Whether the few words of a line are these, if none of them is empty, and else none.
 fn has_few_words(line: &str, want: &[&str], empty: bool) -> bool {
-    match Words::of_line(line) {
+    match LineWords::of_line(line) {
         Some(few) => !empty && few.as_slice() == want,
         None => empty,
     }
@@ -321,7 +321,7 @@ fn words_are_cut_off(rt: HostRuntime) {
         );
         same_at(&rt, &told, &(true, empty, true), &line);
     }
-    assert!(rt; Words::of_line("1 2 3 4 5 6 7 8 9").is_none());
+    assert!(rt; LineWords::of_line("1 2 3 4 5 6 7 8 9").is_none());
 }
 
 #[test]

@@ -7,7 +7,7 @@ use mb_world::{Report, Setup, SetupFault, World};
 use std::alloc::Global;
 use std::process::Abort;
 use std::test::Fail;
-use test_support::{DiaryTold, LaneTold, tells};
+use test_support::{DiaryTold, LaneTold, check_report};
 
 /// The bit table's world of so many producers, consumers and cells, with one pair for each cell.
 pub(crate) fn one_pair<R: Abort + AllocGlobal>(rt: &R, p: u64, c: u64, m: u64) -> World<Global> {
@@ -28,7 +28,7 @@ pub(crate) fn ends<R: Abort + AllocGlobal>(
     diaries: &[DiaryTold<'_>],
 ) {
     let report = reported(rt, world);
-    same(rt, &tells(&report, lanes, diaries), &Ok(()));
+    same(rt, &check_report(&report, lanes, diaries), &Ok(()));
 }
 
 #[test]

@@ -4,7 +4,8 @@ use crate::compare::{same, same_at};
 use clap::error::ErrorKind;
 use mb_claim::Shape;
 use mb_program::{
-    Choice, DEFAULTS, Ending, Failed, Options, RatifyFault, RunFault, command_of, status_of_ending,
+    Choice, DEFAULTS, Failed, Options, ProgramExit, RatifyFault, RunFault, command_of,
+    status_of_ending,
 };
 use mb_script::Fault;
 use mb_world::SetupFault;
@@ -109,11 +110,11 @@ fn commands_are_named(rt: HostRuntime) {
 
 // The status of a refusal that is printed, and of one that cannot be printed.
 fn refusal(kind: ErrorKind) -> (u8, u8) {
-    let printed = Ending::Refused {
+    let printed = ProgramExit::Refused {
         kind,
         printed: true,
     };
-    let unprinted = Ending::Refused {
+    let unprinted = ProgramExit::Refused {
         kind,
         printed: false,
     };
@@ -212,23 +213,26 @@ fn lines_are_refused(rt: HostRuntime) {
 #[test]
 fn endings_have_a_status(rt: HostRuntime) {
     for (ending, status) in [
-        (Ending::Done, 0),
-        (Ending::Failed(Failed::Ratify(RatifyFault::BadLine(1))), 2),
-        (Ending::Failed(Failed::Replay(Fault::ReadFault)), 3),
+        (ProgramExit::Done, 0),
         (
-            Ending::Failed(Failed::Run(RunFault::BadSetup(SetupFault::BadCells))),
+            ProgramExit::Failed(Failed::Ratify(RatifyFault::BadLine(1))),
             2,
         ),
-        (Ending::Failed(Failed::Run(RunFault::NoThread)), 3),
+        (ProgramExit::Failed(Failed::Replay(Fault::ReadFault)), 3),
         (
-            Ending::Refused {
+            ProgramExit::Failed(Failed::Run(RunFault::BadSetup(SetupFault::BadCells))),
+            2,
+        ),
+        (ProgramExit::Failed(Failed::Run(RunFault::NoThread)), 3),
+        (
+            ProgramExit::Refused {
                 kind: ErrorKind::OutOfMemory,
                 printed: true,
             },
             3,
         ),
-        (Ending::NoText, 2),
-        (Ending::NoWords, 3),
+        (ProgramExit::NonUtf8Args, 2),
+        (ProgramExit::ArgsUnavailable, 3),
     ] {
         same(&rt, &status_of_ending(&ending), &status);
     }

@@ -26,7 +26,7 @@ first Differ f xs ys place x y d same before inside shown differs = record {
   shown = x;
   told_there = f (get_or ys place y);
   shows = slice_get_read xs (length xs) place x refl inside shown;
-  tells = slice_get-map f ys place ∙ ap (option_map f) (slice_get-get_or ys place y (rw (← same) inside));
+  check_report = slice_get-map f ys place ∙ ap (option_map f) (slice_get-get_or ys place y (rw (← same) inside));
   differ = differs;
 }
 

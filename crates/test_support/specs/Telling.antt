@@ -41,7 +41,7 @@ pub record FirstDiffer {X : Type 0} (Differ : X → X → ℕ → Difference →
   pub shown : X
   pub told_there : X
   pub shows : slice_get xs place ≡ Some shown
-  pub tells : slice_get told place ≡ Some told_there
+  pub check_report : slice_get told place ≡ Some told_there
   pub differ : Differ shown told_there place difference
 
 -- where a report first differs from these lanes and diaries: in the number of lanes, in a lane, in the number of

@@ -6,6 +6,6 @@ mod reports;
 mod texts;
 mod zeros;
 
-pub use reports::{DiaryTold, Difference, LaneTold, made_up, tells};
-pub use texts::says;
+pub use reports::{DiaryTold, Difference, LaneTold, check_report, made_up};
+pub use texts::check_display;
 pub use zeros::{SeenZeros, Zeros};

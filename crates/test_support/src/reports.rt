@@ -68,7 +68,7 @@ pub fn made_up<A: Allocator + Clone + Drop>(
 
 /// Checks that the report has these lanes and these diaries, in their order. The error is the first difference, lanes
 /// before diaries.
-pub fn tells<A: Allocator + Drop>(
+pub fn check_report<A: Allocator + Drop>(
     report: &Report<A>,
     lanes: &[LaneTold<'_>],
     diaries: &[DiaryTold<'_>],

@@ -6,7 +6,7 @@ use std::fmt::Display;
 use std::test::Fail;
 
 /// Checks that a value is displayed as this text. The error has the text that it has.
-pub fn says<R: AllocGlobal, F: Display>(rt: &R, value: &F, want: &str) -> Result<(), Fail>
+pub fn check_display<R: AllocGlobal, F: Display>(rt: &R, value: &F, want: &str) -> Result<(), Fail>
     ensures { IsOk result → IfSome (F.output value.now) (λ text. text ≡ want.now) }
 {
     let text = format!(in rt.alloc(); "{value}")?;

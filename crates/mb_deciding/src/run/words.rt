@@ -4,23 +4,23 @@ use crate::memory::Memory;
 
 /// The words of one object. A conciliator uses the first, a last object the last, and a ratifier the others.
 #[derive(Drop)]
-pub struct Words {
+pub struct ObjectMemory {
     value: u64,
     proposal: u64,
     quorum: [u64; 64],
     last: u64,
 }
 
-impl Words {
+impl ObjectMemory {
     ghost use Rattle.std.specs.Prelude.{◌≡◌, ◌<◌, ◌^◌, [], ◌∷◌, ℕ, List};
     ghost use Rattle.mb_deciding.specs.{Reg, Store, Access, value_after, IsActInWords, act_of, reg_of, seen_by};
     ghost use Rattle.mb_deciding.specs.{IsMemory, IsReg, word_of};
 
     /// Words that hold nothing yet.
-    pub fn new() -> Words
+    pub fn new() -> ObjectMemory
         ensures { IsMemory result [] }
     {
-        Words {
+        ObjectMemory {
             value: 0,
             proposal: 0,
             quorum: [0; 64],
@@ -86,7 +86,7 @@ impl Words {
 /// The words while one access is made to them, and that access once it is made.
 #[derive(Drop)]
 pub struct ObjectWords<'a> {
-    pub words: &'a mut Words,
+    pub words: &'a mut ObjectMemory,
     pub made: Act,
 }
 

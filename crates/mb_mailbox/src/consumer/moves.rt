@@ -1,5 +1,5 @@
-//! How a consumer moves on by one access. The functions compute nothing: their contracts are the laws on which the steps
-//! stand, and their bodies name the laws below.
+//! How a consumer moves on by one access. The functions compute nothing. Their contracts are the laws on which the
+//! steps stand, and their bodies name the laws below.
 ghost use Rattle.std.specs.Prelude.{ℕ, ◌≡◌, ◌≢◌, ◌+◌, ◌<◌, ◌⊎◌, List, [], ◌∷◌, None, Some, length, sum_by};
 ghost use Rattle.mb_claim.specs.declared.access.ClaimOp.{ClaimOp};
 ghost use Rattle.mb_claim.specs.declared.access.Stage.TheVariants as stage;
@@ -51,12 +51,12 @@ pub(super) fn consumers_move_on()
         → HasPlace p (Before at) s
         → MayRead s.reader.table.size.lanes (word_of at) s.reader.part }
 
-    // Where that leads to no cell it stays there.
+    // If the link leads to no cell, the consumer stays there.
     ensures waits { (s : ConsumerView) (p v : ℕ) (at : Cursor) → IsConsumer s → HasLoads s
         → HasPlace p (Before at) s → (v ≡ 0) ⊎ (v ≡ END)
         → IsConsumer (moved_to p (Before at) None (reads_with_link s at v) s.seat.part s) }
 
-    // Where it leads to a cell, it holds a new claim there.
+    // If it leads to a cell, the consumer then holds a new claim there.
     ensures finds { (s : ConsumerView) (p k : ℕ) (at : Cursor) (claim : Claim) → IsConsumer s
         → HasLoads s → HasPlace p (Before at) s → k + 1 ≢ END
         → IsAccessAfter s.reader.table.size s.reader.known
@@ -65,7 +65,8 @@ pub(super) fn consumers_move_on()
         → HasTurns s claim []
         → IsConsumer (moved_to p (At k claim) None (reads_with_link s at (k + 1)) s.seat.part s) }
 
-    // A claim that is held is its own, is on a cell that it was given, and goes on or is won; there is room for its note.
+    // A claim that it holds is its own, is on a cell that it was given, and goes on or is won. There is room for its
+    // note.
     ensures own { (s : ConsumerView) (p k : ℕ) (claim : Claim) → IsConsumer s
         → HasPlace p (At k claim) s → consumer_of claim ≡ s.seat.consumer }
     ensures turns { (s : ConsumerView) (p k : ℕ) (claim : Claim) → IsConsumer s
@@ -80,7 +81,7 @@ pub(super) fn consumers_move_on()
     ensures room { (s : ConsumerView) (p k : ℕ) (claim : Claim) → IsConsumer s → HasLoads s
         → HasPlace p (At k claim) s → sum_by length s.notes < s.reader.table.size.cells }
 
-    // It makes an access of that claim, whose stage then says where it stands, and its note.
+    // After an access of that claim, the claim's stage determines its place and its note.
     ensures competes { (s : ConsumerView) (p k word seen : ℕ) (claim now : Claim) (next : ClaimOp)
         → IsConsumer s → HasLoads s → HasPlace p (At k claim) s
         → consumer_of now ≡ s.seat.consumer
@@ -89,7 +90,7 @@ pub(super) fn consumers_move_on()
         → IsConsumer (moved_to p (place_after k now (claim_stage now)) (note_of (claim_stage now))
         s.reader.part made s) }
 
-    // It loads the item where the claim is won.
+    // If the claim is won, it loads the item.
     ensures takes { (s : ConsumerView) (p k v : ℕ) (claim : Claim) → IsConsumer s → HasLoads s
         → HasPlace p (At k claim) s → claim_stage claim ≡ stage.Won
         → IsConsumer (moved_to p (Before (Past k)) (Some (Took v)) (reads_with_item s k v)
@@ -98,7 +99,7 @@ pub(super) fn consumers_move_on()
     laws_hold();
 }
 
-/// Which access of a consumer is the next one on a lane, by its place there.
+/// The next access of a consumer on a lane, by its place there.
 pub(super) fn places_tell_steps()
     // Before a link it is the load of that link.
     ensures looks { (s : ConsumerView) (p v : ℕ) (at : Cursor) → IsConsumer s
@@ -106,7 +107,7 @@ pub(super) fn places_tell_steps()
         → ConsumerStep (claims_at s.seat.table) s.seat.consumer p (parts_of s.reader s.seat)
         (ToCells (load s.reader.reader (word_of at) v)) (link_answer (look_of v)) }
 
-    // With a claim that goes on it is that claim's access, which leads to a stage.
+    // With a claim that goes on it is the claim's access, which leads to a stage.
     ensures competes { (s : ConsumerView) (p k word seen : ℕ) (claim now : Claim) (next : ClaimOp)
         → IsConsumer s → HasPlace p (At k claim) s → claim_stage claim ≡ stage.Going
         → consumer_of now ≡ s.seat.consumer
@@ -124,14 +125,15 @@ pub(super) fn places_tell_steps()
     laws_hold();
 }
 
-/// What the answers of a consumer's accesses tell of their lane.
+/// What the answers of a consumer's accesses say of their lane.
 pub(super) fn answers_tell_lanes()
     // Before a link it has a note on each cell that it met on the lane.
     ensures noted { (s : ConsumerView) (p : ℕ) (at : Cursor) → IsConsumer s
         → HasPlace p (Before at) s
         → HasNoteOnEach p s }
 
-    // A link that leads to no cell is the last, and on a lane that was taken in before it is that of the producer's list.
+    // If a link leads to no cell, the consumer has a note on each cell that it met. If the lane was taken in before
+    // the consumer was given, it has met all that was put there.
     ensures nothing { (s : ConsumerView) (p : ℕ) (at : Cursor) (now : ReaderSeatView) → IsConsumer s
         → HasLoads s → HasPlace p (Before at) s → LookMakes s.reader at look.Nothing now
         → AnswerTells p (Some poll.Nothing) s (record s { reader = now }) }

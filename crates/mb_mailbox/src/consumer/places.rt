@@ -53,7 +53,7 @@ pub(super) fn leave<A: Allocator + Drop>(
     ensures place { places.new.items ≡ slice_set places.old.items lane (Before (Past k)) }
     ensures notes { NotesGrow lane (Some note) notes.old notes.new }
 {
-    // A place that stands before a link already changes its cursor alone, not all the words of a place.
+    // If the place is before a link already, only its cursor changes, not all the words of a place.
     match &mut places.as_mut_slice()[lane as usize] {
         Place::Before(at) => *at = Cursor::past(k),
         place => *place = Place::Before(Cursor::past(k)),

@@ -1,7 +1,7 @@
-//! A poll: where the consumer stands, and what it does from there.
+//! A poll: the consumer's place, and what it does from there.
 use super::moves::{answers_tell_lanes, consumers_move_on, places_tell_steps};
 use super::places::place_at;
-use super::pursuit::{PendingClaim, pursue};
+use super::pursuit::{PendingClaim, run_claim};
 use super::{Consumer, Poll};
 use crate::mailbox::Mailbox;
 use mb_cells::Look;
@@ -18,10 +18,10 @@ impl<A: Allocator + Drop> Consumer<A> {
     ghost use Rattle.mb_mailbox.specs.Consumers.{IsConsumerOf};
     ghost use Rattle.mb_mailbox.specs.Steps.{AnswerTells, IsPollOf, outcome};
 
-    /// Makes accesses on a lane until one has an answer, or as many were made as the budget allows. One word is drawn from
-    /// the source for each access of a claim. A claim that is held then stays with the consumer, and the next poll of the
-    /// lane goes on with it. [`Poll::NoLane`] comes first, where there is no such lane, and changes nothing. It waits for
-    /// nobody and takes no memory.
+    /// Makes accesses on a lane until one has an answer, or until it has made as many as the budget allows. It draws
+    /// one word from the source for each access of a claim. If the consumer then holds a claim, it keeps it, and the
+    /// next poll of the lane goes on with it. [`Poll::NoLane`] comes first, if there is no such lane, and changes
+    /// nothing. It waits for nobody and takes no memory.
     pub fn poll<B: Allocator + Drop, R: Rng>(
         &mut self,
         mailbox: &Mailbox<B>,
@@ -38,12 +38,12 @@ impl<A: Allocator + Drop> Consumer<A> {
         ensures polled { result ≢ NoLane
             → IsPollOf lane budget result (R.stream rng.old) (R.stream rng.new) self.old self.new }
 
-        // With a budget for a whole claim, its link and its item it is never spent. So it leaves no claim held on the lane
-        // (`told: noted`). If each cell has a last object, it is never undecided.
+        // With a budget for a whole claim, its link and its item, it is never spent. So it leaves no claim held on
+        // the lane (`told: noted`). If each cell has a last object, it is never undecided.
         ensures unspent { most_accesses mailbox.now.claims.layout + 2 ≤ budget → result ≢ Spent }
         ensures decided { (shape_of mailbox.now.claims.layout).last ≡ true → result ≢ Undecided }
 
-        // What the answer tells of the lane, also where its producer was taken in before the consumer was given.
+        // What the answer says of the lane, even if its producer was taken in before the consumer was given.
         ensures told { result ≢ NoLane → AnswerTells lane (outcome result) self.old self.new }
         ensures of { IsConsumerOf mailbox.now self.new }
     {
@@ -69,7 +69,7 @@ impl<A: Allocator + Drop> Consumer<A> {
             Place::Before(at) => at,
             Place::At { cell, claim } => {
                 let held = PendingClaim { lane, cell, claim };
-                return pursue(places, notes, reader, seat, mailbox, held, budget, rng);
+                return run_claim(places, notes, reader, seat, mailbox, held, budget, rng);
             }
         };
         let cell = match mailbox.cells.look(reader, at) {
@@ -79,6 +79,6 @@ impl<A: Allocator + Drop> Consumer<A> {
         };
         let claim = Claim::new(mailbox.claims.layout(), seat.consumer());
         let held = PendingClaim { lane, cell, claim };
-        pursue(places, notes, reader, seat, mailbox, held, budget - 1, rng)
+        run_claim(places, notes, reader, seat, mailbox, held, budget - 1, rng)
     }
 }

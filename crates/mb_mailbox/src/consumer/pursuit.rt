@@ -1,5 +1,6 @@
-//! What a poll does with a claim: it keeps the claim in a variable of its own, and writes the consumer's place once. So an
-//! item with four consumers costs a seventh fewer instructions than if each step wrote the claim into its place.
+//! What a poll does with a claim. It keeps the claim in a variable of its own, and writes the consumer's place once.
+//! So an item with four consumers costs a seventh fewer instructions than if each step wrote the claim into its
+//! place.
 ghost use Rattle.std.specs.Prelude.{ℕ, ◌≡◌, ◌≢◌, ◌<◌, ◌≤◌, None, Some, slice_set, true};
 ghost use Rattle.arrayvec.specs.ArrayVec.{array_vec_len};
 ghost use Rattle.mb_claim.specs.declared.access.Stage.TheVariants as stage;
@@ -27,7 +28,7 @@ use mb_world::{Note, Place};
 use rand_core::Rng;
 use std::alloc::Allocator;
 
-/// Loads the item of cell `k`, and stands past the cell on this lane.
+/// Loads the item of cell `k`, and moves past the cell on this lane.
 #[inline(always)]
 fn take<A: Allocator + Drop, B: Allocator + Drop>(
     places: &mut ArrayVec<Place, 16>,
@@ -58,10 +59,11 @@ pub(super) struct PendingClaim {
     pub(super) claim: Claim,
 }
 
-/// Goes on with a claim that is held: to its end, to the item where it is won, or until so many accesses were made. It takes
-/// the consumer apart, since its place is out of date from the first access to the last, and so is not that of a consumer.
+/// Goes on with a claim that is held. It goes to the claim's end, to the item if the claim is won, or until it has
+/// made this many accesses. It takes the consumer's fields, not the consumer. From the first access to the last the
+/// place is out of date, so the fields are not those of a consumer.
 #[inline(always)]
-pub(super) fn pursue<A: Allocator + Drop, B: Allocator + Drop, R: Rng>(
+pub(super) fn run_claim<A: Allocator + Drop, B: Allocator + Drop, R: Rng>(
     places: &mut ArrayVec<Place, 16>,
     notes: &mut Notes<A>,
     reader: &mut ReaderSeat,
@@ -79,7 +81,7 @@ pub(super) fn pursue<A: Allocator + Drop, B: Allocator + Drop, R: Rng>(
     requires lane { held.lane < array_vec_len places.old }
     requires wide { HasAllRoom reader.old.table.size.cells notes.old }
 
-    // Whatever was done before came to no answer.
+    // If the accesses before came to no answer, the poll is these accesses and those made here.
     ensures pursued { (from : ConsumerView) (n : ℕ) (t : Stream)
         → AreSteps held.lane n None t (R.stream rng.old) from
         (holding held.lane held.cell held.claim
@@ -88,7 +90,7 @@ pub(super) fn pursue<A: Allocator + Drop, B: Allocator + Drop, R: Rng>(
         (consumer_with reader.new seat.new places.new.items notes.new) }
     ensures wide { HasAllRoom reader.new.table.size.cells notes.new }
 
-    // A claim comes to its end by no more accesses than its layout allows, and with a last object it is decided then.
+    // A claim ends after no more accesses than its layout allows. With a last object it is decided then.
     ensures few { result ≡ poll.Spent → most ≤ most_accesses mailbox.now.claims.layout }
     ensures decided { (shape_of mailbox.now.claims.layout).last ≡ true → result ≢ poll.Undecided }
 {

@@ -1,5 +1,5 @@
-//! How consumers come to the ends of lanes. The functions compute nothing: their contracts are the laws, and their bodies
-//! name the laws below.
+//! How consumers come to the ends of lanes. The functions compute nothing. Their contracts are the laws, and their
+//! bodies name the laws below.
 ghost use Rattle.std.specs.Prelude.{ℕ, ◌≡◌, ◌≢◌, Some, length, slice_get};
 ghost use Rattle.mb_cells.specs.declared.size.PoolSize.{PoolSize};
 ghost use Rattle.mb_shared_cells.specs.Vocabulary.{IsRollOf};
@@ -16,8 +16,8 @@ use mb_cells::laws::{end_marks_are_last, parts_tell_lanes, readers_follow_lanes}
 use mb_cells::steps::parts_have_accesses;
 use mb_world::steps::loads_meet_cells;
 
-/// A consumer that has loaded the end mark past all cells that it met on a lane has read that lane to its end, and has so
-/// after each poll of another lane.
+/// If a consumer has loaded the end mark past all cells that it met on a lane, with a note on each, it has read the
+/// lane to its end. It still has after each poll of another lane.
 pub(super) fn ends_are_kept()
     ensures read { (s : ConsumerView) (p : ℕ) → HasLoads s → HasLoadedEnd p s → HasNoteOnEach p s
         → HasReadToEnd p s }
@@ -31,7 +31,7 @@ pub(super) fn ends_are_kept()
     readers_follow_lanes();
 }
 
-/// Where it was taken in, it has as many notes there as the lane has items.
+/// If the consumer and the lane were taken in, it has as many notes there as the lane has items.
 pub(super) fn ends_tell_notes()
     ensures { (size : PoolSize) (roll : Roll) (h : History) (p : ℕ) (done : History)
         (s : ConsumerView)

@@ -7,13 +7,13 @@ ghost use Rattle.mb_mailbox.specs.Hubs.{IsHubOf};
 ghost use Rattle.mb_mailbox.specs.HubRuns.{ArePollJobs, ArePutJobs, ArePutJobsOfFront, with_consumers, with_producers};
 
 use super::jobs::{PollJob, PutJob};
-use super::room::Jobs;
+use super::room::WorkerInputs;
 use crate::hub::{Hub, HubFault};
 use crate::mailbox::Mailbox;
 use rand_core::Rng;
 use std::alloc::Allocator;
 
-/// Gives a producer for each list, in order, and puts its job to `jobs`, which has room for all. Where the allocator
+/// Gives a producer for each list, in order, and puts its job to `jobs`, which has room for all. If the allocator
 /// refuses what one of them needs, it ends there.
 pub(super) fn give_producers<A: Allocator + Clone + Drop, B: Allocator + Drop>(
     alloc: &A,
@@ -84,7 +84,7 @@ pub(super) fn give<R: Rng + Drop, A: Allocator + Clone + Drop, B: Allocator + Dr
     hub: &mut Hub<A>,
     items: Vec<Vec<u64, A>, A>,
     rngs: Vec<R, A>,
-    jobs: &mut Jobs<R, A>,
+    jobs: &mut WorkerInputs<R, A>,
 ) -> bool
     requires of { IsHubOf mailbox.now hub.old }
     requires lanes { length hub.old.puts + vec_len items ≤ mailbox.now.cells.size.lanes }

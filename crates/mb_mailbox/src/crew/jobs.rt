@@ -30,14 +30,15 @@ pub(crate) struct PutJob<A: Allocator + Drop> {
     pub(crate) ghost begun: { is_over producer ≡ false },
 }
 
-/// A producer that has ended its lane, how many items of its list found no cell, whether it was stopped before it came to
-/// the end of its list, and whether the run is off: a thread could not be started, its own or another's.
+/// The end of a producer's worker. The producer has ended its lane. `full` says how many items of its list it did not
+/// put because no cell was left. `stopped` says whether it was stopped before the end of its list. `aborted` says whether
+/// the run is aborted: a thread could not be started, its own or another's.
 #[derive(Drop)]
 pub(crate) struct PutDone<A: Allocator + Drop> {
     pub(crate) producer: Producer<A>,
     pub(crate) full: u64,
     pub(crate) stopped: bool,
-    pub(crate) off: bool,
+    pub(crate) aborted: bool,
 }
 
 /// What a producer's thread promises, by its job and the gate.
@@ -60,13 +61,13 @@ pub(crate) struct PollJob<R: Drop, A: Allocator + Drop> {
     pub(crate) rng: R,
 }
 
-/// A consumer whose worker is done, whether it was stopped before all lanes had ended, and whether the run is off, as with
-/// a producer.
+/// The end of a consumer's worker. `stopped` says whether it was stopped before all lanes had ended. `aborted` says
+/// whether the run is aborted, as with a producer.
 #[derive(Drop)]
 pub(crate) struct PollDone<A: Allocator + Drop> {
     pub(crate) consumer: Consumer<A>,
     pub(crate) stopped: bool,
-    pub(crate) off: bool,
+    pub(crate) aborted: bool,
 }
 
 /// What a consumer's thread promises, by the consumer, its source, the lanes, the budget and the gate.

@@ -10,7 +10,7 @@ use rand_core::Rng;
 use std::alloc::Allocator;
 use std::thread::Threads;
 
-/// The end of a producer's worker, whose thread is joined where it has one.
+/// The end of a producer's worker. If it has a thread, the thread is joined.
 fn put_end<W: Threads, G: Gate, A: Allocator + Drop>(rt: &W, one: PutWorker<G, A>) -> PutDone<A>
     ensures { PutKeeps G.may_stop G.may_pass one result }
 {
@@ -36,7 +36,7 @@ pub(super) fn join_puts<W: Threads, G: Gate, A: Allocator + Drop>(
     done
 }
 
-/// The end of a consumer's worker, whose thread is joined where it has one.
+/// The end of a consumer's worker. If it has a thread, the thread is joined.
 fn poll_end<W: Threads, G: Gate, R: Rng + Drop, A: Allocator + Drop>(
     rt: &W,
     one: PollWorker<G, R, A>,

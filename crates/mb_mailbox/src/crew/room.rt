@@ -10,7 +10,7 @@ use std::alloc::{AllocError, Allocator};
 
 /// Room for the jobs.
 #[derive(Drop)]
-pub(crate) struct Jobs<R: Drop, A: Allocator + Drop> {
+pub(crate) struct WorkerInputs<R: Drop, A: Allocator + Drop> {
     pub(crate) puts: Vec<PutJob<A>, A>,
     pub(crate) polls: Vec<PollJob<R, A>, A>,
 }
@@ -20,31 +20,31 @@ pub(crate) struct Jobs<R: Drop, A: Allocator + Drop> {
 pub(crate) struct WorkerBuffers<G: Gate, R: Rng + Drop, A: Allocator + Drop> {
     pub(crate) puts: Vec<PutWorker<G, A>, A>,
     pub(crate) polls: Vec<PollWorker<G, R, A>, A>,
-    pub(crate) ends: Ends<A>,
+    pub(crate) ends: WorkerResults<A>,
 }
 
 /// The ends of the workers, in the order of their jobs.
 #[derive(Drop)]
-pub(crate) struct Ends<A: Allocator + Drop> {
+pub(crate) struct WorkerResults<A: Allocator + Drop> {
     pub(crate) puts: Vec<PutDone<A>, A>,
     pub(crate) polls: Vec<PollDone<A>, A>,
 }
 
-/// Room for so many jobs.
+/// Room for this many jobs.
 pub(super) fn room_for_jobs<R: Drop, A: Allocator + Clone + Drop>(
     alloc: &A,
     puts: usize,
     polls: usize,
-) -> Result<Jobs<R, A>, AllocError>
+) -> Result<WorkerInputs<R, A>, AllocError>
     ensures { IfOk result (λ r. HasJobRoom puts polls r) }
 {
-    Ok(Jobs {
+    Ok(WorkerInputs {
         puts: Vec::with_capacity(alloc.clone()?, puts)?,
         polls: Vec::with_capacity(alloc.clone()?, polls)?,
     })
 }
 
-/// Room for so many workers and their ends.
+/// Room for this many workers and their ends.
 pub(super) fn room_for_workers<G: Gate, R: Rng + Drop, A: Allocator + Clone + Drop>(
     alloc: &A,
     puts: usize,
@@ -55,7 +55,7 @@ pub(super) fn room_for_workers<G: Gate, R: Rng + Drop, A: Allocator + Clone + Dr
     Ok(WorkerBuffers {
         puts: Vec::with_capacity(alloc.clone()?, puts)?,
         polls: Vec::with_capacity(alloc.clone()?, polls)?,
-        ends: Ends {
+        ends: WorkerResults {
             puts: Vec::with_capacity(alloc.clone()?, puts)?,
             polls: Vec::with_capacity(alloc.clone()?, polls)?,
         },

@@ -17,13 +17,13 @@ use std::snapshot::Snapshot;
 use std::sync::atomic::{AtomicBool, Ordering};
 use std::thread::Scope;
 
-/// Starts a producer's thread. Where none can be made, it tells all workers to stop, and ends this one here.
+/// Starts a producer's thread. If none can be made, it makes all workers stop, and ends this one here.
 fn start_put<'s, E: 's, A: Allocator + Drop + Send + Sync + 's, G: Gate + 's>(
     scope: &Scope<'s, E>,
     mailbox: &'s Mailbox<A>,
     job: PutJob<A>,
     gate: &'s G,
-    going: &'s AtomicBool,
+    running: &'s AtomicBool,
 ) -> PutWorker<G, A>
     requires of { IsProducerOf mailbox.now job.producer }
     ensures { PutPromises G.may_stop G.may_pass gate.now job result }
@@ -35,13 +35,13 @@ fn start_put<'s, E: 's, A: Allocator + Drop + Send + Sync + 's, G: Gate + 's>(
     let body = move || -> PutDone<A>
         requires { IsProducerOf mailbox.now job.producer }
         ensures { IsPutEnd (G.may_stop gate.entry.now) (G.may_pass gate.entry.now) job result }
-    { put_list(mailbox, job, gate, going) };
+    { put_list(mailbox, job, gate, running) };
     match scope.spawn_with(promise, body) {
         Ok(handle) => PutWorker::Spawned(handle),
         Err(refused) => {
-            going.store(false, Ordering::SeqCst);
+            running.store(false, Ordering::SeqCst);
             PutWorker::Inline(PutDone {
-                off: true,
+                aborted: true,
                 ..(refused.value)()
             })
         }
@@ -54,7 +54,7 @@ pub(super) fn start_puts<'s, E: 's, A: Allocator + Drop + Send + Sync + 's, G: G
     mailbox: &'s Mailbox<A>,
     jobs: Vec<PutJob<A>, A>,
     gate: &'s G,
-    going: &'s AtomicBool,
+    running: &'s AtomicBool,
     mut begun: Vec<PutWorker<G, A>, A>,
 ) -> Vec<PutWorker<G, A>, A>
     requires of { All (λ j. IsProducerOf mailbox.now j.producer) jobs.items }
@@ -64,12 +64,12 @@ pub(super) fn start_puts<'s, E: 's, A: Allocator + Drop + Send + Sync + 's, G: G
     ensures count { vec_len result ≡ vec_len jobs }
 {
     for job in jobs {
-        begun.push_reserved(start_put(scope, mailbox, job, gate, going));
+        begun.push_reserved(start_put(scope, mailbox, job, gate, running));
     }
     begun
 }
 
-/// Starts a consumer's thread. Where none can be made, it tells all workers to stop, and ends this one here.
+/// Starts a consumer's thread. If none can be made, it makes all workers stop, and ends this one here.
 fn start_poll<
     's,
     E: 's,
@@ -82,7 +82,7 @@ fn start_poll<
     job: PollJob<R, A>,
     lanes: Lanes,
     gate: &'s G,
-    going: &'s AtomicBool,
+    running: &'s AtomicBool,
 ) -> PollWorker<G, R, A>
     requires of { IsConsumerOf mailbox.now job.consumer }
     requires few { lanes.end ≤ mailbox.now.cells.size.lanes }
@@ -102,20 +102,21 @@ fn start_poll<
         requires few { lanes.end ≤ mailbox.now.cells.size.lanes }
         ensures { IsPollEnd (G.may_stop gate.entry.now) (G.may_pass gate.entry.now) lanes.from
             lanes.end lanes.budget (R.stream job.rng) job.consumer result }
-    { poll_lanes(mailbox, job, lanes, gate, going) };
+    { poll_lanes(mailbox, job, lanes, gate, running) };
     match scope.spawn_with(promise, body) {
         Ok(handle) => PollWorker::Spawned(handle),
         Err(refused) => {
-            going.store(false, Ordering::SeqCst);
+            running.store(false, Ordering::SeqCst);
             PollWorker::Inline(PollDone {
-                off: true,
+                aborted: true,
                 ..(refused.value)()
             })
         }
     }
 }
 
-/// Starts a thread for each job, in order, after the producers of all the lanes were begun. `begun` has room for all.
+/// Starts a thread for each job, in order, after the workers of all the lanes' producers were begun. `begun` has room
+/// for all.
 pub(super) fn start_polls<
     's,
     E: 's,
@@ -128,7 +129,7 @@ pub(super) fn start_polls<
     jobs: Vec<PollJob<R, A>, A>,
     lanes: Lanes,
     gate: &'s G,
-    going: &'s AtomicBool,
+    running: &'s AtomicBool,
     mut begun: Vec<PollWorker<G, R, A>, A>,
     producers: &Vec<PutWorker<G, A>, A>,
 ) -> Vec<PollWorker<G, R, A>, A>
@@ -142,7 +143,7 @@ pub(super) fn start_polls<
         jobs.items result.items }
 {
     for job in jobs {
-        begun.push_reserved(start_poll(scope, mailbox, job, lanes, gate, going));
+        begun.push_reserved(start_poll(scope, mailbox, job, lanes, gate, running));
     }
     begun
 }

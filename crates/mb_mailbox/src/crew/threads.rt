@@ -8,7 +8,7 @@ ghost use Rattle.mb_mailbox.specs.Runs.{AreEndsOf, AreOf};
 
 use super::jobs::{Lanes, PollDone, PollJob, PutDone, PutJob};
 use super::join::{join_polls, join_puts};
-use super::room::{Ends, Jobs, WorkerBuffers};
+use super::room::{WorkerBuffers, WorkerInputs, WorkerResults};
 use super::spawn::{start_polls, start_puts};
 use super::workers::{poll_nothing, put_nothing};
 use crate::gate::Gate;
@@ -32,12 +32,12 @@ fn run_in<
     scope: &Scope<'s, E>,
     rt: &W,
     mailbox: &'s Mailbox<A>,
-    jobs: Jobs<R, A>,
+    jobs: WorkerInputs<R, A>,
     lanes: Lanes,
     gate: &'s G,
-    going: &'s AtomicBool,
+    running: &'s AtomicBool,
     room: WorkerBuffers<G, R, A>,
-) -> Ends<A>
+) -> WorkerResults<A>
     requires of { AreOf mailbox.now jobs }
     requires few { lanes.end ≤ mailbox.now.cells.size.lanes }
     requires lanes { vec_len jobs.puts ≡ lanes.end - lanes.from }
@@ -45,26 +45,26 @@ fn run_in<
     ensures { AreEndsOf (G.may_stop gate.now) (G.may_pass gate.now) R.stream lanes.from lanes.end
         lanes.budget jobs result }
 {
-    let Jobs { puts, polls } = jobs;
+    let WorkerInputs { puts, polls } = jobs;
     let WorkerBuffers {
         puts: put_room,
         polls: poll_room,
-        ends: Ends {
+        ends: WorkerResults {
             puts: put_ends,
             polls: poll_ends,
         },
     } = room;
-    let putting = start_puts(scope, mailbox, puts, gate, going, put_room);
+    let putting = start_puts(scope, mailbox, puts, gate, running, put_room);
     let polling = start_polls(
-        scope, mailbox, polls, lanes, gate, going, poll_room, &putting,
+        scope, mailbox, polls, lanes, gate, running, poll_room, &putting,
     );
-    Ends {
+    WorkerResults {
         puts: join_puts(rt, putting, put_ends),
         polls: join_polls(rt, polling, poll_ends),
     }
 }
 
-/// Runs one thread for each job and joins all. `going` is false from the first thread on that could not be made.
+/// Runs one thread for each job and joins all. `running` becomes false when a thread could not be made.
 pub(super) fn run<
     A: Allocator + Drop + Send + Sync,
     W: Threads + Wait + Sync,
@@ -73,12 +73,12 @@ pub(super) fn run<
 >(
     rt: &W,
     mailbox: &Mailbox<A>,
-    jobs: Jobs<R, A>,
+    jobs: WorkerInputs<R, A>,
     lanes: Lanes,
     gate: &G,
-    going: &AtomicBool,
+    running: &AtomicBool,
     room: WorkerBuffers<G, R, A>,
-) -> Ends<A>
+) -> WorkerResults<A>
     requires of { AreOf mailbox.now jobs }
     requires few { lanes.end ≤ mailbox.now.cells.size.lanes }
     requires lanes { vec_len jobs.puts ≡ lanes.end - lanes.from }
@@ -89,14 +89,14 @@ pub(super) fn run<
     thread::scope(
         thread::scope_env(),
         rt,
-        |scope| -> Ends<A>
+        |scope| -> WorkerResults<A>
             requires of { AreOf mailbox.now jobs }
             requires lanes { (lanes.end ≤ mailbox.now.cells.size.lanes)
                 × (vec_len jobs.puts ≡ lanes.end - lanes.from) }
             requires room { HasRoom (vec_len jobs.puts) (vec_len jobs.polls) room }
             ensures { AreEndsOf (G.may_stop gate.entry.now) (G.may_pass gate.entry.now) R.stream
                 lanes.from lanes.end lanes.budget jobs result }
-        { run_in(scope, rt, mailbox, jobs, lanes, gate, going, room) },
+        { run_in(scope, rt, mailbox, jobs, lanes, gate, running, room) },
     )
 }
 
@@ -124,7 +124,7 @@ pub(super) fn end_polls<R: Drop, A: Allocator + Drop>(
 ) -> Vec<PollDone<A>, A>
     requires none { done.items ≡ [] }
     requires room { vec_len jobs ≤ vec_capacity done }
-    ensures { AllZip (λ j d. (d.consumer ≡ j.consumer) × (d.stopped ≡ true) × (d.off ≡ true))
+    ensures { AllZip (λ j d. (d.consumer ≡ j.consumer) × (d.stopped ≡ true) × (d.aborted ≡ true))
         jobs.items result.items }
 {
     for job in jobs {
@@ -136,20 +136,20 @@ pub(super) fn end_polls<R: Drop, A: Allocator + Drop>(
 /// Ends jobs that are not to be run.
 pub(super) fn end_all<R: Rng + Drop, G: Gate, A: Allocator + Drop, B: Allocator + Drop>(
     mailbox: &Mailbox<B>,
-    jobs: Jobs<R, A>,
+    jobs: WorkerInputs<R, A>,
     room: WorkerBuffers<G, R, A>,
-) -> Ends<A>
+) -> WorkerResults<A>
     requires of { AreOf mailbox.now jobs }
     requires room { HasRoom (vec_len jobs.puts) (vec_len jobs.polls) room }
     ensures { (from end budget : ℕ) → AreEndsOf (λ _ _. ⊥) (λ _ _. ⊥) R.stream from end budget jobs
         result }
 {
-    let Jobs { puts, polls } = jobs;
-    let Ends {
+    let WorkerInputs { puts, polls } = jobs;
+    let WorkerResults {
         puts: put_ends,
         polls: poll_ends,
     } = room.ends;
-    Ends {
+    WorkerResults {
         puts: end_puts(mailbox, puts, put_ends),
         polls: end_polls(polls, poll_ends),
     }

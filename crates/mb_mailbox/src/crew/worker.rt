@@ -5,7 +5,7 @@ use rand_core::Rng;
 use std::alloc::Allocator;
 use std::thread::PromisedHandle;
 
-/// A producer's worker that was begun: in a thread of its own, or, where none could be made, here, to its end.
+/// A producer's worker that was begun. It has a thread of its own. If no thread could be made, it was ended here.
 #[derive(Drop)]
 pub(crate) enum PutWorker<G: Gate, A: Allocator + Drop> {
     Spawned(PromisedHandle<PutDone<A>, Puts<G, A>>),

@@ -18,13 +18,13 @@ use std::alloc::Allocator;
 use std::sync::atomic::{AtomicBool, Ordering};
 use std::thread::yield_now;
 
-/// How many items were linked, whether the producer was stopped before it came to the end of its list, and whether because
-/// the run is off.
+/// How many items were linked, and whether the producer was stopped before the end of its list. `aborted` says whether it
+/// was stopped because the run is aborted.
 #[derive(Clone, Copy)]
 struct Linked {
     count: usize,
     stopped: bool,
-    off: bool,
+    aborted: bool,
 }
 
 /// Puts items up to the first that is refused.
@@ -33,7 +33,7 @@ fn put_items<A: Allocator + Drop, B: Allocator + Drop, G: Gate>(
     producer: &mut Producer<A>,
     items: &[u64],
     gate: &G,
-    going: &AtomicBool,
+    running: &AtomicBool,
 ) -> Linked
     requires of { IsProducerOf mailbox.now producer.old }
     requires fresh { producer.old.items ≡ [] }
@@ -45,7 +45,7 @@ fn put_items<A: Allocator + Drop, B: Allocator + Drop, G: Gate>(
     ensures found { result.stopped ≡ false → result.count ≢ length items.now
         → FoundNoCell producer.new }
     ensures stopped { result.stopped ≡ true → result.count < length items.now }
-    ensures stop { result.stopped ≡ true → result.off ≡ false
+    ensures stop { result.stopped ≡ true → result.aborted ≡ false
         → IsStopBefore (G.may_stop gate.now) (who.Producer producer.old.seat.lane)
         (suc result.count) }
     ensures had_cells { result.stopped ≡ true → FoundNoCell producer.new
@@ -57,11 +57,11 @@ fn put_items<A: Allocator + Drop, B: Allocator + Drop, G: Gate>(
 {
     let who = Who::Producer(producer.seat.lane());
     for (i, item) in items.iter().enumerate() {
-        if !going.load(Ordering::SeqCst) {
+        if !running.load(Ordering::SeqCst) {
             return Linked {
                 count: i,
                 stopped: true,
-                off: true,
+                aborted: true,
             };
         }
         let call = i as u64 + 1;
@@ -69,7 +69,7 @@ fn put_items<A: Allocator + Drop, B: Allocator + Drop, G: Gate>(
             return Linked {
                 count: i,
                 stopped: true,
-                off: false,
+                aborted: false,
             };
         }
         let put = producer.put(mailbox, *item);
@@ -78,14 +78,14 @@ fn put_items<A: Allocator + Drop, B: Allocator + Drop, G: Gate>(
             return Linked {
                 count: i,
                 stopped: false,
-                off: false,
+                aborted: false,
             };
         }
     }
     Linked {
         count: items.len(),
         stopped: false,
-        off: false,
+        aborted: false,
     }
 }
 
@@ -94,7 +94,7 @@ pub(super) fn put_list<A: Allocator + Drop, B: Allocator + Drop, G: Gate>(
     mailbox: &Mailbox<B>,
     job: PutJob<A>,
     gate: &G,
-    going: &AtomicBool,
+    running: &AtomicBool,
 ) -> PutDone<A>
     requires of { IsProducerOf mailbox.now job.producer }
     ensures { IsPutEnd (G.may_stop gate.now) (G.may_pass gate.now) job result }
@@ -103,8 +103,8 @@ pub(super) fn put_list<A: Allocator + Drop, B: Allocator + Drop, G: Gate>(
     let Linked {
         count,
         stopped,
-        off,
-    } = put_items(mailbox, &mut producer, &list, gate, going);
+        aborted,
+    } = put_items(mailbox, &mut producer, &list, gate, running);
     producer.finish(mailbox);
     let full = if stopped {
         0
@@ -115,7 +115,7 @@ pub(super) fn put_list<A: Allocator + Drop, B: Allocator + Drop, G: Gate>(
         producer,
         full,
         stopped,
-        off,
+        aborted,
     }
 }
 
@@ -136,11 +136,11 @@ pub(super) fn put_nothing<A: Allocator + Drop, B: Allocator + Drop>(
         producer: idle,
         full: 0,
         stopped: true,
-        off: true,
+        aborted: true,
     }
 }
 
-/// The next lane at `at` or behind it that has not ended, round and round from `from` to `end`.
+/// The next lane that has not ended, from `at` on, round and round from `from` to `end`.
 fn next_lane(ended: &[bool], at: u32, from: u32, end: u32) -> Option<u32>
     requires at { at ≤ end }
     requires few { end ≤ length ended.now }
@@ -162,7 +162,6 @@ fn next_lane(ended: &[bool], at: u32, from: u32, end: u32) -> Option<u32>
     None
 }
 
-/// Marks a lane.
 fn mark(ended: &mut [bool; 16], lane: u32)
     requires { lane < 16 }
     ensures { ended.new ≡ slice_set ended.old lane true }
@@ -208,7 +207,8 @@ fn poll_lane<A: Allocator + Drop, B: Allocator + Drop, R: Rng>(
     poll
 }
 
-/// How many polls in a row found nothing, after `poll`. The thread yields after more of them than there are lanes.
+/// How many polls in a row have found nothing since the last yield, after `poll`. The thread yields when more than
+/// `lanes` have.
 fn rest(poll: Poll, idle: u32, lanes: u32) -> u32 {
     match poll {
         Poll::Nothing if idle < lanes => idle + 1,
@@ -226,7 +226,7 @@ pub(super) fn poll_lanes<A: Allocator + Drop, B: Allocator + Drop, R: Rng + Drop
     job: PollJob<R, A>,
     lanes: Lanes,
     gate: &G,
-    going: &AtomicBool,
+    running: &AtomicBool,
 ) -> PollDone<A>
     requires of { IsConsumerOf mailbox.now job.consumer }
     requires few { lanes.end ≤ mailbox.now.cells.size.lanes }
@@ -248,14 +248,14 @@ pub(super) fn poll_lanes<A: Allocator + Drop, B: Allocator + Drop, R: Rng + Drop
             return PollDone {
                 consumer,
                 stopped: false,
-                off: false,
+                aborted: false,
             };
         };
-        if !going.load(Ordering::SeqCst) {
+        if !running.load(Ordering::SeqCst) {
             return PollDone {
                 consumer,
                 stopped: true,
-                off: true,
+                aborted: true,
             };
         }
         if !gate.enter(who, call) {
@@ -266,17 +266,17 @@ pub(super) fn poll_lanes<A: Allocator + Drop, B: Allocator + Drop, R: Rng + Drop
         idle = rest(poll, idle, end);
         at = lane + 1;
     }
-    // The gate refused a call, or call 2^64 - 2 was made, and may have read the last lane to its end.
+    // The gate refused a call, or call 2^64 - 2 was made. The last call may have read the last lane to its end.
     match next_lane(&ended, at, from, end) {
         None => PollDone {
             consumer,
             stopped: false,
-            off: false,
+            aborted: false,
         },
         Some(_) => PollDone {
             consumer,
             stopped: true,
-            off: false,
+            aborted: false,
         },
     }
 }
@@ -285,12 +285,12 @@ pub(super) fn poll_lanes<A: Allocator + Drop, B: Allocator + Drop, R: Rng + Drop
 pub(super) fn poll_nothing<A: Allocator + Drop, R: Drop>(job: PollJob<R, A>) -> PollDone<A>
     ensures consumer { result.consumer ≡ job.consumer }
     ensures stopped { result.stopped ≡ true }
-    ensures off { result.off ≡ true }
+    ensures aborted { result.aborted ≡ true }
 {
     let PollJob { consumer, rng: _ } = job;
     PollDone {
         consumer,
         stopped: true,
-        off: true,
+        aborted: true,
     }
 }

@@ -1,5 +1,5 @@
-//! The notes of all that a hub has taken in, cut by lane: one consumer after another, so that the marks of one alone stand
-//! beside their lists.
+//! The notes of all that a hub has taken in, cut by lane. They are cut for one consumer after another. So at any time
+//! only one consumer has both its marks and its lists.
 ghost use Rattle.std.specs.Prelude.{◌≡◌, IfOk, OnErr, Some, true, vec_capacity};
 ghost use Rattle.mb_mailbox.specs.Ledgers.{AreCut, KeptView, ledger_in, ledgers_in};
 
@@ -71,7 +71,7 @@ impl<A: Allocator + Drop> CutHub<A> {
 impl<A: Allocator + Clone + Drop> Hub<A> {
     ghost use Rattle.std.specs.Prelude.{◌≡◌, IfErr, IfOk};
 
-    /// Cuts all notes. A hub that is refused the memory comes back as it was.
+    /// Cuts all notes. If the memory is refused, the hub comes back as it was.
     pub(super) fn cut(self, alloc: A) -> Result<CutHub<A>, Hub<A>>
         ensures cut { IfOk result (λ h. h ≡ self) }
         ensures refused { IfErr result (λ h. h ≡ self) }
@@ -99,7 +99,7 @@ impl<A: Allocator + Clone + Drop> Hub<A> {
     }
 }
 
-/// Cuts the notes of all that are there.
+/// Cuts the notes of all consumers that were taken in.
 fn cut_all<A: Allocator + Clone + Drop>(
     ledgers: &mut Vec<Option<ConsumerRecord<A>>, A>,
     alloc: A,
@@ -114,7 +114,7 @@ fn cut_all<A: Allocator + Clone + Drop>(
     Ok(())
 }
 
-/// Cuts the notes of the one that is here, if there is one.
+/// Cuts the notes of this consumer, if it was taken in.
 fn cut_one<A: Allocator + Clone + Drop>(
     ledger: &mut Option<ConsumerRecord<A>>,
     alloc: A,

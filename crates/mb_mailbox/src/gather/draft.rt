@@ -1,12 +1,12 @@
-//! A hub for which all room that its report needs was taken.
+//! A hub with all the room that its report needs.
 use crate::gather::cut::CutHub;
 use crate::hub::Hub;
 use mb_world::Report;
 use std::alloc::Allocator;
 use std::marker::Model;
 
-/// A hub of which the report is drafted, made by `Mailbox::draft`: [`Mailbox::gather_with`](crate::Mailbox::gather_with)
-/// completes the report without memory. It is seen as its hub.
+/// A hub and the draft of its report, made by `Mailbox::draft`. [`Mailbox::gather_with`](crate::Mailbox::gather_with)
+/// completes the report without memory. Its view is that of its hub.
 #[derive(Drop)]
 pub struct Draft<A: Allocator + Drop> {
     pub(super) hub: CutHub<A>,

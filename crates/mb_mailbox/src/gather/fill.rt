@@ -21,7 +21,7 @@ pub(super) fn fill_lanes<A: Allocator + Drop>(
     }
 }
 
-/// Moves the notes of each consumer into its diaries, of which there is one for each of so many lanes.
+/// Moves the notes of each consumer into its diaries. It has one for each of this many lanes.
 pub(super) fn fill_diaries<A: Allocator + Drop>(
     diaries: &mut Vec<Diary<A>, A>,
     lanes: u32,
@@ -56,7 +56,7 @@ fn fill_row<A: Allocator + Drop>(
     }
 }
 
-/// Moves each of these lists into its diary, the first into that at this place.
+/// Moves each of these lists into its diary, the first into the one at this place.
 fn fill_notes<A: Allocator + Drop>(
     diaries: &mut Vec<Diary<A>, A>,
     first: usize,

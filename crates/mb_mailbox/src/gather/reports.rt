@@ -1,4 +1,4 @@
-//! The outline of the report of what a hub has taken in: all of it but the lists that the hub keeps already.
+//! The outline of the report of what a hub has taken in: all of it except the lists that the hub keeps already.
 use crate::gather::cut::CutHub;
 use crate::taken::ConsumerRecord;
 use mb_cells::NoMemory;
@@ -10,7 +10,7 @@ impl<A: Allocator + Drop> CutHub<A> {
     ghost use Rattle.std.specs.Option.{option_map};
     ghost use Rattle.mb_mailbox.specs.Gathering.{begun_in, ended_in, is_taken_in, items_in, kept_at, notes_in};
 
-    /// The items that the producer of lane `p` put, where it was taken in.
+    /// The items that the producer of lane `p` put, or none if it was not taken in.
     fn items(&self, p: u32) -> &[u64]
         ensures { result.now ≡ items_in p self.now }
     {
@@ -30,7 +30,7 @@ impl<A: Allocator + Drop> CutHub<A> {
         }
     }
 
-    /// The ledger of consumer `c`, where it was taken in.
+    /// The ledger of consumer `c`, if it was taken in.
     fn ledger(&self, c: u32) -> Option<&ConsumerRecord<A>>
         ensures ledger { option_map (λ k. k.now.ledger) result ≡ kept_at self.now.ledgers c }
         ensures cut { IfSome result (λ k. k.now.is_cut ≡ true) }
@@ -42,7 +42,7 @@ impl<A: Allocator + Drop> CutHub<A> {
         }
     }
 
-    /// Whether consumer `c` was taken in with a claim on lane `p` that has an access.
+    /// Whether consumer `c` was taken in with a claim on lane `p` that has made an access.
     fn begun(&self, c: u32, p: u32) -> bool
         ensures { result ≡ begun_in c p self.now }
     {
@@ -62,7 +62,7 @@ impl<A: Allocator + Drop> CutHub<A> {
         }
     }
 
-    /// Whether one of so many consumers has taken the item at position `j` of lane `p`.
+    /// Whether one of the first `consumers` consumers has taken the item at position `j` of lane `p`.
     fn is_taken(&self, consumers: u32, p: u32, j: usize) -> bool
         ensures { result ≡ is_taken_in consumers p j self.now }
     {
@@ -74,7 +74,7 @@ impl<A: Allocator + Drop> CutHub<A> {
         false
     }
 
-    /// How many of so many items of lane `p` no list has as taken. It is only how much room to take.
+    /// How many of the `put` items of lane `p` no consumer has noted as taken. It only says how much room to take.
     fn left_room(&self, p: u32, put: usize) -> usize {
         let mut room = put;
         for ledger in self.ledgers.iter() {
@@ -90,7 +90,7 @@ impl<A: Allocator + Clone + Drop> CutHub<A> {
     ghost use Rattle.std.specs.Prelude.{◌≡◌, ◌<◌, ◌≤◌, ◌*◌, IfOk};
     ghost use Rattle.mb_mailbox.specs.Gathering.{AreDiariesOutlined, AreLanesOutlined, IsOutlineIn, lane_outline};
 
-    /// The outline for so many lanes and consumers. It takes all the room that the report needs beside the hub.
+    /// The outline for this many lanes and consumers. It takes all the room that the report needs beside the hub.
     pub(super) fn outline(
         &self,
         alloc: A,
@@ -124,7 +124,7 @@ impl<A: Allocator + Clone + Drop> CutHub<A> {
         Ok(reports)
     }
 
-    /// The outline of lane `p`, where there are so many consumers.
+    /// The outline of lane `p`, with this many consumers.
     fn lane_report(&self, alloc: A, consumers: u32, p: u32) -> Result<LaneReport<A>, NoMemory>
         ensures { IfOk result (λ l. l ≡ lane_outline consumers p self.now) }
     {

@@ -1,4 +1,4 @@
-//! What is gathered is sound, and the report tells it. The function computes nothing: its contract is the law on which
+//! What is gathered is sound, and the report says it. The function computes nothing. Its contract is the law on which
 //! `gather` stands, and its body names the laws below.
 ghost use Rattle.std.specs.Prelude.{◌≡◌};
 ghost use Rattle.mb_shared_cells.specs.Vocabulary.{IsRollOf};
@@ -18,12 +18,12 @@ use mb_world::laws::{
 };
 use mb_world::steps::parts_fit_on;
 
-/// All that was taken in, where nothing is missing.
+/// If nothing is missing, all that was given was taken in.
 pub(super) fn gathering_is_sound()
     ensures all_in { (h : HubView) → IsHub h → count_missing h.ledgers ≡ 0
         → count_out h.claims.roll ≡ 0 }
 
-    // The histories that closing the tables gives, and the report of what the hub has taken in.
+    // Closing the tables gives these histories. The report of what the hub has taken in is theirs.
     ensures headline { (m : MailboxView) (h : HubView) (r : ReportView) (pool : History)
         → IsMailbox m → IsHub h → IsHubOf m h
         → count_missing h.puts ≡ 0 → count_missing h.ledgers ≡ 0
@@ -31,7 +31,7 @@ pub(super) fn gathering_is_sound()
         → IsRollOf m.cells.size h.cells.roll pool
         → IsReportIn m.cells.size.lanes (consumer_count m.claims.layout) h r → IsGathered m h r }
 
-    // What follows of such a report.
+    // What follows from such a report.
     ensures full { (m : MailboxView) (h : HubView) (r : ReportView) → IsHub h → IsHubOf m h
         → count_missing h.puts ≡ 0 → IsGathered m h r → FullTakesAll m h r }
     ensures undecided { (m : MailboxView) (h : HubView) (r : ReportView) → IsGathered m h r

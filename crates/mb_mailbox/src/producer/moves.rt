@@ -1,5 +1,5 @@
-//! How a producer moves on by its calls. The function computes nothing: its contract is the law on which the calls stand,
-//! and its body names the laws below.
+//! How a producer moves on by its calls. The function computes nothing. Its contract is the law on which the calls
+//! stand, and its body names the laws below.
 ghost use Rattle.std.specs.Prelude.{ℕ, ◌≡◌, ◌<◌, ◌++◌, ◌∷◌, [], false, length, true};
 ghost use Rattle.mb_cells.specs.declared.answer.Finish.TheVariants as finish;
 ghost use Rattle.mb_cells.specs.declared.answer.Finish.{Finish};
@@ -19,7 +19,7 @@ use mb_cells::steps::{
 
 /// What a call makes of a producer.
 pub(super) fn producers_move_on()
-    // An offer that was answered with a cell, and two pushes.
+    // An offer that returned a cell, and two pushes.
     ensures linked { (s : ProducerView) (x k : ℕ) (one two : Push) (a b now : LaneSeatView)
         → IsProducer s → OfferMakes s.seat x (offer.Cell k) a → PushMakes a one b
         → PushMakes b two now
@@ -35,7 +35,7 @@ pub(super) fn producers_move_on()
         → PushMakes b two now
         → is_over (record { seat = now; items = s.items ++ x ∷ [] }) ≡ is_over s }
 
-    // An offer that was answered otherwise.
+    // An offer that returned something else.
     ensures full { (s : ProducerView) (x : ℕ) (now : LaneSeatView) → IsProducer s → HasPart s.seat
         → OfferMakes s.seat x offer.Full now → HasNoCellFor x s (with_seat now s) }
     ensures found { (s : ProducerView) (x : ℕ) (now : LaneSeatView) → HasPart s.seat

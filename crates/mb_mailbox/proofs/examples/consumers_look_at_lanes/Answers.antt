@@ -7,7 +7,7 @@ abbrev lane_of : Word → ℕ
 lane_of (Head p) = p
 lane_of _ = 0
 
--- the same access has the same word, and the same head is that of the same lane
+-- equal accesses have the same word, and equal heads have the same lane
 lane_in : (a b : PoolAccess) (p : ℕ) → b ≡ a → a.word ≡ Head p → lane_of b.word ≡ p
 lane_in a b p same is = ap (λ (x : PoolAccess). lane_of x.word) same ∙ ap lane_of is
 

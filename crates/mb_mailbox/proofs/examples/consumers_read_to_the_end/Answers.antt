@@ -26,7 +26,7 @@ past_four = load 0 (Link 4) END ∷ load 0 (Head 1) 5 ∷ []
 abbrev twice : History
 twice = load 0 (Head 0) END ∷ load 0 (Head 0) END ∷ []
 
--- lane 2 has no link, and no head that was loaded
+-- no cell was loaded from a link or the head of lane 2
 no_link : (ks : List ℕ) (v : ℕ) → v ≢ END → HasLoaded 0 (place_past 2 ks) v past_four → ⊥
 no_link [] v ne has = elim has [
   | inl same ↦ (let no : Link 4 ≡ Head 2 = ap (λ (x : PoolAccess). x.word) same in absurd (cc))
@@ -47,7 +47,7 @@ no_end [] met has = elim has [
 ]
 no_end (k ∷ ks) met has = no_link ks (k + 1) met.1 met.0
 
--- the reader is another
+-- another reader has loaded no end mark here
 other : (w : Word) → HasLoaded 1 w END past_four → ⊥
 other w has = elim has [
   | inl same ↦ (let no : 0 ≡ 1 = ap (λ (x : PoolAccess). reader_of x.process) same in absurd (omega (arith, no)))
@@ -68,7 +68,7 @@ elsewhere (k ∷ ks) has = elim has [
   | inr (inr none) ↦ none
 ]
 
--- marks of which one end is met twice
+-- if one end is met twice, only lane 0 is marked
 first_alone : (h : HasMetEnds 0 2 0 twice) (p : ℕ) → slice_index_or h.marks p false ≡ true → p < 2 → p < 1
 first_alone h zero e low = omega arith
 first_alone h (suc zero) e low = absurd (let at = h.met 1 e in elsewhere at.cells at.end)
@@ -177,7 +177,7 @@ by_itself c = record { marks = true ∷ []; within = first_alone_marked; met = h
 pub returns-clause-numbers : goal.returns-clause-numbers
 returns-clause-numbers c = (by_itself 3, (by_itself 4, tt))
 
--- what another reader has loaded is not its own
+-- a reader has not loaded what another reader has loaded
 of_another : (w : Word) → HasLoaded 4 w END (load 3 (Head 0) END ∷ []) → ⊥
 of_another w has = elim has [
   | inl same ↦ (let no : 3 ≡ 4 = ap (λ (x : PoolAccess). reader_of x.process) same in absurd (omega (arith, no)))

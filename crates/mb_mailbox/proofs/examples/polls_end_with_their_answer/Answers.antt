@@ -25,7 +25,7 @@ answered s (takes k v last won e told) = absurd (cc)
 pub returns-clause-goes_on : goal.returns-clause-goes_on
 returns-clause-goes_on c = λ s a answer led. answered s led.1.0
 
--- where nothing changed, no access was made
+-- if nothing changed, no access was made
 no_access : (p : ℕ) (done : WorldHistory) (answer : Option Poll) (s : ConsumerView)
     → HasDone p done answer s s → done ≡ []
 no_access p [] answer s d = refl

@@ -4,19 +4,19 @@ use Rattle.mb_mailbox.proofs.examples.producers_tell_what_was_let_through.Goals 
 not_both : (b : Bool) → b ≡ true → b ≡ false → ⊥
 not_both b set unset = let both : true ≡ false = sym set ∙ unset in absurd (cc)
 
-pub returns-clause-off : goal.returns-clause-off
-returns-clause-off c = λ j d same over none full stopped off. record {
+pub returns-clause-aborted : goal.returns-clause-aborted
+returns-clause-aborted c = λ j d same over none full stopped aborted. record {
   same = same;
   over = over;
   front = (j.list.items, ap (λ (xs : List ℕ). xs ++ j.list.items) none);
   full = λ going. absurd (not_both d.stopped stopped going);
   found = λ going _. absurd (not_both d.stopped stopped going);
   none = λ _. full;
-  short = λ _ on. absurd (not_both d.off off on);
-  had_cells = λ _ on _. absurd (not_both d.off off on);
-  stop = λ _ on. absurd (not_both d.off off on);
-  passed = λ on. absurd (not_both d.off off on);
-  passed_full = λ on _ _. absurd (not_both d.off off on);
+  short = λ _ on. absurd (not_both d.aborted aborted on);
+  had_cells = λ _ on _. absurd (not_both d.aborted aborted on);
+  stop = λ _ on. absurd (not_both d.aborted aborted on);
+  passed = λ on. absurd (not_both d.aborted aborted on);
+  passed_full = λ on _ _. absurd (not_both d.aborted aborted on);
 }
 
 pub returns-clause-not_let_through : goal.returns-clause-not_let_through

@@ -12,7 +12,7 @@ number_of (FetchAdd v k) = k
 number_of (Store v) = 0
 number_of (Load v) = 0
 
--- its one fetch-add has the number 0, and so found a cell in a pool of one
+-- its one fetch-add has the number 0. So it found a cell in a pool of one
 found_one : HasFoundNone 1 0 seven_put → ⊥
 found_one f = elim f.offered [
   | inl is ↦ (let no : false ≡ true = ap (λ (a : PoolAccess). is_fetch a.act) is in absurd (cc))

@@ -6,7 +6,7 @@ use Rattle.mb_mailbox.specs.Consumers.{ConsumerView}
 use Rattle.mb_mailbox.specs.Steps.{AreDrawn, drawn_words}
 use Rattle.mb_mailbox.proofs.laws.calls_draw_the_first_words.Goals as goal
 
--- these words are drawn after those
+-- words drawn one list after the other are drawn as one list
 drawn_after : (s t u : Stream) (ws vs : List ℕ) → AreDrawn s ws t → AreDrawn t vs u → AreDrawn s (vs ++ ws) u
 drawn_after s t u ws [] was now = subst (λ z. AreDrawn s ws z) (sym now) was
 drawn_after s t u ws (v ∷ vs) was now = (now.0, drawn_after s t now.0 ws vs was now.1, now.2)

@@ -34,7 +34,7 @@ no_claim s p k claim i each at =
 pub returns-clause-place : goal.returns-clause-place
 returns-clause-place c = no_claim
 
--- it stands before a link, if it stands anywhere
+-- no claim is begun there: if it has a place on the lane, that is before a link
 none_begun : (s : ConsumerView) (p : ℕ) → IsConsumer s → HasNoteOnEach p s
     → option_map_or has_begun_at (slice_get s.places p) false ≡ false
 none_begun s p i each = by (slice_get s.places p) refl
@@ -44,7 +44,7 @@ none_begun s p i each = by (slice_get s.places p) refl
     by (Some (Before at)) e = refl
     by (Some (At k claim)) e = absurd (no_claim s p k claim i each e)
 
--- what is kept at a number is what was put there, if there is such a number
+-- after one was put at a number, it is kept there, if there is such a number
 kept_there : {X : Type 0} (xs : List (Option X)) (n : ℕ) (x : X)
     → (kept_at (slice_set xs n (Some x)) n ≡ Some x) ⊎ (kept_at (slice_set xs n (Some x)) n ≡ None)
 kept_there [] n x = inr refl

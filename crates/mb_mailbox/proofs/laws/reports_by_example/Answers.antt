@@ -12,7 +12,7 @@ use Rattle.mb_mailbox.proofs.laws.reports_by_example.Goals as goal
 at_place : (d : ℕ) (ds : List DiaryView) → diary d 0 (one_left ds) ≡ slice_get ds d
 at_place d ds = let e : d * 1 + 0 ≡ d = omega arith in ap (slice_get ds) e
 
--- who has this diary has competed for the first item
+-- a consumer with this diary has competed for the first item
 abbrev HasCompetedBy : Option DiaryView → Type 0
 HasCompetedBy o =
     (0 < length (option_map_or (λ (d : DiaryView). d.notes) o []))

@@ -5,12 +5,12 @@ use Rattle.mb_program.proofs.command.program.Goals as goal
 
 pub returns : goal.returns
 returns c =
-    let ratify = ap (λ (a : App). a.top) c.command_named.ensures.app in
-    let replay = ap (λ (a : App). a.top) c.command_named-2.ensures.app in
+    let ratify = ap (λ (a : App). a.top) c.named_subcommand.ensures.app in
+    let replay = ap (λ (a : App). a.top) c.named_subcommand-2.ensures.app in
     let run = c.in_ok-run_command.ensures.app in
-    let with_ratify = c.in_ok-subcommand.ensures.shape c.command_named.ensures.local
-    ∙ ap₂ with_subcommand c.in_ok-program_alone.ensures ratify in
-    let with_replay = c.in_ok-subcommand-2.ensures.shape c.command_named-2.ensures.local
+    let with_ratify = c.in_ok-subcommand.ensures.shape c.named_subcommand.ensures.local
+    ∙ ap₂ with_subcommand c.in_ok-root_command.ensures ratify in
+    let with_replay = c.in_ok-subcommand-2.ensures.shape c.named_subcommand-2.ensures.local
     ∙ ap₂ with_subcommand with_ratify replay in
     IfOk-weaker c.subcommand-3.result _ _ (λ r added. (
       run.0,

@@ -12,13 +12,13 @@ returns c =
     let five = c.in_ok-arg-5.ensures in
     let six = c.in_ok-arg-6.ensures in
     let rules_1 = one.shape c.any_number.ensures.local
-    ∙ ap₂ with_rule c.command_named.ensures.app c.any_number.ensures.rule in
+    ∙ ap₂ with_rule c.named_subcommand.ensures.app c.any_number.ensures.rule in
     let rules_2 = two.shape c.any_number-2.ensures.local ∙ ap₂ with_rule rules_1 c.any_number-2.ensures.rule in
     let rules_3 = three.shape c.any_number-3.ensures.local ∙ ap₂ with_rule rules_2 c.any_number-3.ensures.rule in
     let rules_4 = four.shape c.any_number-4.ensures.local ∙ ap₂ with_rule rules_3 c.any_number-4.ensures.rule in
     let rules_5 = five.shape c.number.ensures.local ∙ ap₂ with_rule rules_4 c.number.ensures.rule in
     let rules_6 = six.shape c.any_number-5.ensures.local ∙ ap₂ with_rule rules_5 c.any_number-5.ensures.rule in
-    let local_1 = one.globals ∙ ap₂ ◌||◌ c.command_named.ensures.local c.any_number.ensures.local in
+    let local_1 = one.globals ∙ ap₂ ◌||◌ c.named_subcommand.ensures.local c.any_number.ensures.local in
     let local_2 = two.globals ∙ ap₂ ◌||◌ local_1 c.any_number-2.ensures.local in
     let local_3 = three.globals ∙ ap₂ ◌||◌ local_2 c.any_number-3.ensures.local in
     let local_4 = four.globals ∙ ap₂ ◌||◌ local_3 c.any_number-4.ensures.local in

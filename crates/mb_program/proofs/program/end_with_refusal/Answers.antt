@@ -1,6 +1,6 @@
 use Rattle.std.proofs.Common.{ap}
 use Rattle.mb_script.specs.Vocabulary.{meter}
-use Rattle.mb_program.specs.declared.outcome.Ending.TheVariants as ending
+use Rattle.mb_program.specs.declared.outcome.ProgramExit.TheVariants as ending
 use Rattle.mb_program.proofs.Told.{told_errors, told_nobody, told_output}
 use Rattle.mb_program.proofs.program.end_with_refusal.Goals.{in-Ok, in-Ok-2, in-Err}
 use Rattle.mb_program.proofs.program.end_with_refusal.Goals as goal

@@ -16,8 +16,8 @@ use Rattle.mb_mailbox.proofs.Made.{at_views, cells_size, claims_size, look_made,
 use Rattle.mb_mailbox.proofs.Polls.{no_steps, history_extends, poll_of}
 use Rattle.mb_mailbox.proofs.consumer.Consumer.poll.Goals as goal
 
-pub pursue-requires-clause-held : goal.pursue-requires-clause-held
-pursue-requires-clause-held g c =
+pub run_claim-requires-clause-held : goal.run_claim-requires-clause-held
+run_claim-requires-clause-held g c =
     let s = at_views c.self.inside.reader c.self.inside.seat c.self.inside.places.items c.self.inside.notes.lists in
     let e = c.place_at.ensures ∙ ap (λ (z : Place). Some z) c.in-At.is in
     let hold : holding c.args.lane c.in-At.cell c.in-At.claim s
@@ -30,12 +30,12 @@ invariant_of-self g c =
     let e = c.place_at.ensures ∙ ap (λ (z : Place). Some z) c.in-At.is in
     let hold : holding c.args.lane c.in-At.cell c.in-At.claim s
     ≡ s = holds_it c.args.lane c.in-At.cell c.in-At.claim s e in
-    let so = c.pursue.ensures.pursued s 0 (g.R.Rng.stream c.args.rng.now)
+    let so = c.run_claim.ensures.pursued s 0 (g.R.Rng.stream c.args.rng.now)
     (subst (λ z. AreSteps c.args.lane 0 None (g.R.Rng.stream c.args.rng.now)
     (g.R.Rng.stream c.args.rng.now) s z) (sym hold)
     (no_steps c.args.lane (g.R.Rng.stream c.args.rng.now) s)) in
-    let new = at_views c.pursue.new.reader c.pursue.new.seat c.pursue.new.places.items c.pursue.new.notes.lists in
-    (so.is, c.pursue.ensures.wide)
+    let new = at_views c.run_claim.new.reader c.run_claim.new.seat c.run_claim.new.places.items c.run_claim.new.notes.lists in
+    (so.is, c.run_claim.ensures.wide)
 
 pub returns-in-At-clause-no_lane : goal.returns-in-At-clause-no_lane
 returns-in-At-clause-no_lane g c =
@@ -43,16 +43,16 @@ returns-in-At-clause-no_lane g c =
     let e = c.place_at.ensures ∙ ap (λ (z : Place). Some z) c.in-At.is in
     let hold : holding c.args.lane c.in-At.cell c.in-At.claim s
     ≡ s = holds_it c.args.lane c.in-At.cell c.in-At.claim s e in
-    let so = c.pursue.ensures.pursued s 0 (g.R.Rng.stream c.args.rng.now)
+    let so = c.run_claim.ensures.pursued s 0 (g.R.Rng.stream c.args.rng.now)
     (subst (λ z. AreSteps c.args.lane 0 None (g.R.Rng.stream c.args.rng.now)
     (g.R.Rng.stream c.args.rng.now) s z) (sym hold)
     (no_steps c.args.lane (g.R.Rng.stream c.args.rng.now) s)) in
-    let new = at_views c.pursue.new.reader c.pursue.new.seat c.pursue.new.places.items c.pursue.new.notes.lists in
+    let new = at_views c.run_claim.new.reader c.run_claim.new.seat c.run_claim.new.places.items c.run_claim.new.notes.lists in
     let lanes : c.len.result ≡ c.args.mailbox.now.cells.size.lanes =
     c.len.ensures.value ∙ c.self.invariant.0.places_count
     ∙ ap (λ (z : PoolSize). z.lanes) (cells_size c.args.mailbox.now s c.args.self.now c.self.view_is c.requires.of) in (
-      (λ f. absurd (not_no_lane c.args.lane 0 c.args.budget c.pursue.result
-          (g.R.Rng.stream c.args.rng.now) (g.R.Rng.stream c.pursue.new.rng) s new so f)),
+      (λ f. absurd (not_no_lane c.args.lane 0 c.args.budget c.run_claim.result
+          (g.R.Rng.stream c.args.rng.now) (g.R.Rng.stream c.run_claim.new.rng) s new so f)),
       (λ wide. let low = c.if-lane-len.false in absurd (omega (arith, low, wide, lanes))),
     )
 
@@ -62,13 +62,13 @@ returns-in-At-clause-refused g c =
     let e = c.place_at.ensures ∙ ap (λ (z : Place). Some z) c.in-At.is in
     let hold : holding c.args.lane c.in-At.cell c.in-At.claim s
     ≡ s = holds_it c.args.lane c.in-At.cell c.in-At.claim s e in
-    let so = c.pursue.ensures.pursued s 0 (g.R.Rng.stream c.args.rng.now)
+    let so = c.run_claim.ensures.pursued s 0 (g.R.Rng.stream c.args.rng.now)
     (subst (λ z. AreSteps c.args.lane 0 None (g.R.Rng.stream c.args.rng.now)
     (g.R.Rng.stream c.args.rng.now) s z) (sym hold)
     (no_steps c.args.lane (g.R.Rng.stream c.args.rng.now) s)) in
-    let new = at_views c.pursue.new.reader c.pursue.new.seat c.pursue.new.places.items c.pursue.new.notes.lists in
-    λ f. absurd (not_no_lane c.args.lane 0 c.args.budget c.pursue.result
-    (g.R.Rng.stream c.args.rng.now) (g.R.Rng.stream c.pursue.new.rng) s new so f)
+    let new = at_views c.run_claim.new.reader c.run_claim.new.seat c.run_claim.new.places.items c.run_claim.new.notes.lists in
+    λ f. absurd (not_no_lane c.args.lane 0 c.args.budget c.run_claim.result
+    (g.R.Rng.stream c.args.rng.now) (g.R.Rng.stream c.run_claim.new.rng) s new so f)
 
 pub returns-in-At-clause-polled : goal.returns-in-At-clause-polled
 returns-in-At-clause-polled g c =
@@ -76,16 +76,16 @@ returns-in-At-clause-polled g c =
     let e = c.place_at.ensures ∙ ap (λ (z : Place). Some z) c.in-At.is in
     let hold : holding c.args.lane c.in-At.cell c.in-At.claim s
     ≡ s = holds_it c.args.lane c.in-At.cell c.in-At.claim s e in
-    let so = c.pursue.ensures.pursued s 0 (g.R.Rng.stream c.args.rng.now)
+    let so = c.run_claim.ensures.pursued s 0 (g.R.Rng.stream c.args.rng.now)
     (subst (λ z. AreSteps c.args.lane 0 None (g.R.Rng.stream c.args.rng.now)
     (g.R.Rng.stream c.args.rng.now) s z) (sym hold)
     (no_steps c.args.lane (g.R.Rng.stream c.args.rng.now) s)) in
-    let new = at_views c.pursue.new.reader c.pursue.new.seat c.pursue.new.places.items c.pursue.new.notes.lists in
+    let new = at_views c.run_claim.new.reader c.run_claim.new.seat c.run_claim.new.places.items c.run_claim.new.notes.lists in
     let sum : c.args.budget + 0 ≡ c.args.budget = omega arith in
-    λ _. subst (λ o. IsPollOf c.args.lane c.args.budget c.pursue.result
-    (g.R.Rng.stream c.args.rng.now) (g.R.Rng.stream c.pursue.new.rng) o new) c.self.view_is
-    (poll_by c.args.lane 0 c.args.budget c.args.budget c.pursue.result
-    (g.R.Rng.stream c.args.rng.now) (g.R.Rng.stream c.pursue.new.rng) s new sum so)
+    λ _. subst (λ o. IsPollOf c.args.lane c.args.budget c.run_claim.result
+    (g.R.Rng.stream c.args.rng.now) (g.R.Rng.stream c.run_claim.new.rng) o new) c.self.view_is
+    (poll_by c.args.lane 0 c.args.budget c.args.budget c.run_claim.result
+    (g.R.Rng.stream c.args.rng.now) (g.R.Rng.stream c.run_claim.new.rng) s new sum so)
 
 pub returns-in-At-clause-told : goal.returns-in-At-clause-told
 returns-in-At-clause-told g c =
@@ -93,13 +93,13 @@ returns-in-At-clause-told g c =
     let e = c.place_at.ensures ∙ ap (λ (z : Place). Some z) c.in-At.is in
     let hold : holding c.args.lane c.in-At.cell c.in-At.claim s
     ≡ s = holds_it c.args.lane c.in-At.cell c.in-At.claim s e in
-    let so = c.pursue.ensures.pursued s 0 (g.R.Rng.stream c.args.rng.now)
+    let so = c.run_claim.ensures.pursued s 0 (g.R.Rng.stream c.args.rng.now)
     (subst (λ z. AreSteps c.args.lane 0 None (g.R.Rng.stream c.args.rng.now)
     (g.R.Rng.stream c.args.rng.now) s z) (sym hold)
     (no_steps c.args.lane (g.R.Rng.stream c.args.rng.now) s)) in
-    let new = at_views c.pursue.new.reader c.pursue.new.seat c.pursue.new.places.items c.pursue.new.notes.lists in
-    λ _. pursuit_tells c.args.lane 0 c.args.budget c.pursue.result (g.R.Rng.stream c.args.rng.now)
-    (g.R.Rng.stream c.pursue.new.rng) s c.args.self.now new so
+    let new = at_views c.run_claim.new.reader c.run_claim.new.seat c.run_claim.new.places.items c.run_claim.new.notes.lists in
+    λ _. pursuit_tells c.args.lane 0 c.args.budget c.run_claim.result (g.R.Rng.stream c.args.rng.now)
+    (g.R.Rng.stream c.run_claim.new.rng) s c.args.self.now new so
 
 pub returns-in-At-clause-of : goal.returns-in-At-clause-of
 returns-in-At-clause-of g c =
@@ -107,13 +107,13 @@ returns-in-At-clause-of g c =
     let e = c.place_at.ensures ∙ ap (λ (z : Place). Some z) c.in-At.is in
     let hold : holding c.args.lane c.in-At.cell c.in-At.claim s
     ≡ s = holds_it c.args.lane c.in-At.cell c.in-At.claim s e in
-    let so = c.pursue.ensures.pursued s 0 (g.R.Rng.stream c.args.rng.now)
+    let so = c.run_claim.ensures.pursued s 0 (g.R.Rng.stream c.args.rng.now)
     (subst (λ z. AreSteps c.args.lane 0 None (g.R.Rng.stream c.args.rng.now)
     (g.R.Rng.stream c.args.rng.now) s z) (sym hold)
     (no_steps c.args.lane (g.R.Rng.stream c.args.rng.now) s)) in
-    let new = at_views c.pursue.new.reader c.pursue.new.seat c.pursue.new.places.items c.pursue.new.notes.lists in
-    still_of c.args.mailbox.now c.args.lane 0 c.args.budget c.pursue.result
-    (g.R.Rng.stream c.args.rng.now) (g.R.Rng.stream c.pursue.new.rng) s new so
+    let new = at_views c.run_claim.new.reader c.run_claim.new.seat c.run_claim.new.places.items c.run_claim.new.notes.lists in
+    still_of c.args.mailbox.now c.args.lane 0 c.args.budget c.run_claim.result
+    (g.R.Rng.stream c.args.rng.now) (g.R.Rng.stream c.run_claim.new.rng) s new so
     (subst (λ o. IsConsumerOf c.args.mailbox.now o) (sym c.self.view_is) c.requires.of)
 
 pub look-requires-clause-may : goal.look-requires-clause-may
@@ -212,8 +212,8 @@ returns-in-Ended-clause-told g c =
     (c.answers_tell_lanes.ensures.ended s c.args.lane c.in-Before.at c.look.new.seat
     c.self.invariant.0 c.has_history.ensures e c.in-Ended.ensures.makes)
 
-pub pursue-requires-2-clause-held : goal.pursue-requires-2-clause-held
-pursue-requires-2-clause-held g c =
+pub run_claim-requires-2-clause-held : goal.run_claim-requires-2-clause-held
+run_claim-requires-2-clause-held g c =
     let s = at_views c.self.inside.reader c.self.inside.seat c.self.inside.places.items c.self.inside.notes.lists in
     let e = c.place_at.ensures ∙ ap (λ (z : Place). Some z) c.in-Before.is in
     let m = c.in-Cell.ensures.makes in
@@ -257,12 +257,12 @@ invariant_of-self-2 g c =
     (slice_set s.places c.args.lane (At k claim)) (look.Cell k) None c.self.view_is
     m refl refl (λ v. c.places_tell_steps.ensures.looks s c.args.lane v c.in-Before.at
     c.self.invariant.0 e) (g.R.Rng.stream c.args.rng.now) in
-    let so = c.pursue-2.ensures.pursued c.args.self.now 1 (g.R.Rng.stream c.args.rng.now)
+    let so = c.run_claim-2.ensures.pursued c.args.self.now 1 (g.R.Rng.stream c.args.rng.now)
     (history_extends c.args.lane None (g.R.Rng.stream c.args.rng.now)
     (g.R.Rng.stream c.args.rng.now) c.args.self.now mid step) in
-    let new = at_views c.pursue-2.new.reader c.pursue-2.new.seat c.pursue-2.new.places.items
-    c.pursue-2.new.notes.lists in
-    (so.is, c.pursue-2.ensures.wide)
+    let new = at_views c.run_claim-2.new.reader c.run_claim-2.new.seat c.run_claim-2.new.places.items
+    c.run_claim-2.new.notes.lists in
+    (so.is, c.run_claim-2.ensures.wide)
 
 pub returns-clause-no_lane : goal.returns-clause-no_lane
 returns-clause-no_lane g c =
@@ -276,16 +276,16 @@ returns-clause-no_lane g c =
     (slice_set s.places c.args.lane (At k claim)) (look.Cell k) None c.self.view_is
     m refl refl (λ v. c.places_tell_steps.ensures.looks s c.args.lane v c.in-Before.at
     c.self.invariant.0 e) (g.R.Rng.stream c.args.rng.now) in
-    let so = c.pursue-2.ensures.pursued c.args.self.now 1 (g.R.Rng.stream c.args.rng.now)
+    let so = c.run_claim-2.ensures.pursued c.args.self.now 1 (g.R.Rng.stream c.args.rng.now)
     (history_extends c.args.lane None (g.R.Rng.stream c.args.rng.now)
     (g.R.Rng.stream c.args.rng.now) c.args.self.now mid step) in
-    let new = at_views c.pursue-2.new.reader c.pursue-2.new.seat c.pursue-2.new.places.items
-    c.pursue-2.new.notes.lists in
+    let new = at_views c.run_claim-2.new.reader c.run_claim-2.new.seat c.run_claim-2.new.places.items
+    c.run_claim-2.new.notes.lists in
     let lanes : c.len.result ≡ c.args.mailbox.now.cells.size.lanes =
     c.len.ensures.value ∙ c.self.invariant.0.places_count
     ∙ ap (λ (z : PoolSize). z.lanes) (cells_size c.args.mailbox.now s c.args.self.now c.self.view_is c.requires.of) in (
-      (λ f. absurd (not_no_lane c.args.lane 1 (c.args.budget - 1) c.pursue-2.result
-          (g.R.Rng.stream c.args.rng.now) (g.R.Rng.stream c.pursue-2.new.rng) c.args.self.now new so
+      (λ f. absurd (not_no_lane c.args.lane 1 (c.args.budget - 1) c.run_claim-2.result
+          (g.R.Rng.stream c.args.rng.now) (g.R.Rng.stream c.run_claim-2.new.rng) c.args.self.now new so
           f)),
       (λ wide. let low = c.if-lane-len.false in absurd (omega (arith, low, wide, lanes))),
     )
@@ -302,13 +302,13 @@ returns-clause-refused g c =
     (slice_set s.places c.args.lane (At k claim)) (look.Cell k) None c.self.view_is
     m refl refl (λ v. c.places_tell_steps.ensures.looks s c.args.lane v c.in-Before.at
     c.self.invariant.0 e) (g.R.Rng.stream c.args.rng.now) in
-    let so = c.pursue-2.ensures.pursued c.args.self.now 1 (g.R.Rng.stream c.args.rng.now)
+    let so = c.run_claim-2.ensures.pursued c.args.self.now 1 (g.R.Rng.stream c.args.rng.now)
     (history_extends c.args.lane None (g.R.Rng.stream c.args.rng.now)
     (g.R.Rng.stream c.args.rng.now) c.args.self.now mid step) in
-    let new = at_views c.pursue-2.new.reader c.pursue-2.new.seat c.pursue-2.new.places.items
-    c.pursue-2.new.notes.lists in
-    λ f. absurd (not_no_lane c.args.lane 1 (c.args.budget - 1) c.pursue-2.result
-    (g.R.Rng.stream c.args.rng.now) (g.R.Rng.stream c.pursue-2.new.rng) c.args.self.now new so
+    let new = at_views c.run_claim-2.new.reader c.run_claim-2.new.seat c.run_claim-2.new.places.items
+    c.run_claim-2.new.notes.lists in
+    λ f. absurd (not_no_lane c.args.lane 1 (c.args.budget - 1) c.run_claim-2.result
+    (g.R.Rng.stream c.args.rng.now) (g.R.Rng.stream c.run_claim-2.new.rng) c.args.self.now new so
     f)
 
 pub returns-clause-polled : goal.returns-clause-polled
@@ -323,15 +323,15 @@ returns-clause-polled g c =
     (slice_set s.places c.args.lane (At k claim)) (look.Cell k) None c.self.view_is
     m refl refl (λ v. c.places_tell_steps.ensures.looks s c.args.lane v c.in-Before.at
     c.self.invariant.0 e) (g.R.Rng.stream c.args.rng.now) in
-    let so = c.pursue-2.ensures.pursued c.args.self.now 1 (g.R.Rng.stream c.args.rng.now)
+    let so = c.run_claim-2.ensures.pursued c.args.self.now 1 (g.R.Rng.stream c.args.rng.now)
     (history_extends c.args.lane None (g.R.Rng.stream c.args.rng.now)
     (g.R.Rng.stream c.args.rng.now) c.args.self.now mid step) in
-    let new = at_views c.pursue-2.new.reader c.pursue-2.new.seat c.pursue-2.new.places.items
-    c.pursue-2.new.notes.lists in
+    let new = at_views c.run_claim-2.new.reader c.run_claim-2.new.seat c.run_claim-2.new.places.items
+    c.run_claim-2.new.notes.lists in
     let some = c.if-budget-eq0.false in
     let sum : c.args.budget - 1 + 1 ≡ c.args.budget = omega (arith, some) in
-    λ _. poll_by c.args.lane 1 (c.args.budget - 1) c.args.budget c.pursue-2.result
-    (g.R.Rng.stream c.args.rng.now) (g.R.Rng.stream c.pursue-2.new.rng) c.args.self.now new sum
+    λ _. poll_by c.args.lane 1 (c.args.budget - 1) c.args.budget c.run_claim-2.result
+    (g.R.Rng.stream c.args.rng.now) (g.R.Rng.stream c.run_claim-2.new.rng) c.args.self.now new sum
     so
 
 pub returns-clause-told : goal.returns-clause-told
@@ -346,13 +346,13 @@ returns-clause-told g c =
     (slice_set s.places c.args.lane (At k claim)) (look.Cell k) None c.self.view_is
     m refl refl (λ v. c.places_tell_steps.ensures.looks s c.args.lane v c.in-Before.at
     c.self.invariant.0 e) (g.R.Rng.stream c.args.rng.now) in
-    let so = c.pursue-2.ensures.pursued c.args.self.now 1 (g.R.Rng.stream c.args.rng.now)
+    let so = c.run_claim-2.ensures.pursued c.args.self.now 1 (g.R.Rng.stream c.args.rng.now)
     (history_extends c.args.lane None (g.R.Rng.stream c.args.rng.now)
     (g.R.Rng.stream c.args.rng.now) c.args.self.now mid step) in
-    let new = at_views c.pursue-2.new.reader c.pursue-2.new.seat c.pursue-2.new.places.items
-    c.pursue-2.new.notes.lists in
-    λ _. pursuit_tells c.args.lane 1 (c.args.budget - 1) c.pursue-2.result
-    (g.R.Rng.stream c.args.rng.now) (g.R.Rng.stream c.pursue-2.new.rng) c.args.self.now
+    let new = at_views c.run_claim-2.new.reader c.run_claim-2.new.seat c.run_claim-2.new.places.items
+    c.run_claim-2.new.notes.lists in
+    λ _. pursuit_tells c.args.lane 1 (c.args.budget - 1) c.run_claim-2.result
+    (g.R.Rng.stream c.args.rng.now) (g.R.Rng.stream c.run_claim-2.new.rng) c.args.self.now
     c.args.self.now new so
 
 pub returns-clause-of : goal.returns-clause-of
@@ -367,26 +367,26 @@ returns-clause-of g c =
     (slice_set s.places c.args.lane (At k claim)) (look.Cell k) None c.self.view_is
     m refl refl (λ v. c.places_tell_steps.ensures.looks s c.args.lane v c.in-Before.at
     c.self.invariant.0 e) (g.R.Rng.stream c.args.rng.now) in
-    let so = c.pursue-2.ensures.pursued c.args.self.now 1 (g.R.Rng.stream c.args.rng.now)
+    let so = c.run_claim-2.ensures.pursued c.args.self.now 1 (g.R.Rng.stream c.args.rng.now)
     (history_extends c.args.lane None (g.R.Rng.stream c.args.rng.now)
     (g.R.Rng.stream c.args.rng.now) c.args.self.now mid step) in
-    let new = at_views c.pursue-2.new.reader c.pursue-2.new.seat c.pursue-2.new.places.items
-    c.pursue-2.new.notes.lists in
-    still_of c.args.mailbox.now c.args.lane 1 (c.args.budget - 1) c.pursue-2.result
-    (g.R.Rng.stream c.args.rng.now) (g.R.Rng.stream c.pursue-2.new.rng) c.args.self.now new so
+    let new = at_views c.run_claim-2.new.reader c.run_claim-2.new.seat c.run_claim-2.new.places.items
+    c.run_claim-2.new.notes.lists in
+    still_of c.args.mailbox.now c.args.lane 1 (c.args.budget - 1) c.run_claim-2.result
+    (g.R.Rng.stream c.args.rng.now) (g.R.Rng.stream c.run_claim-2.new.rng) c.args.self.now new so
     c.requires.of
 
 pub returns-in-At-clause-unspent : goal.returns-in-At-clause-unspent
-returns-in-At-clause-unspent g c = λ more spent. let few = c.pursue.ensures.few spent
+returns-in-At-clause-unspent g c = λ more spent. let few = c.run_claim.ensures.few spent
     in absurd (omega (arith, more, few))
 
 pub returns-in-At-clause-decided : goal.returns-in-At-clause-decided
-returns-in-At-clause-decided g c = c.pursue.ensures.decided
+returns-in-At-clause-decided g c = c.run_claim.ensures.decided
 
 pub returns-clause-unspent : goal.returns-clause-unspent
 returns-clause-unspent g c = λ more spent.
-    let few = c.pursue-2.ensures.few spent in let some = c.if-budget-eq0.false
+    let few = c.run_claim-2.ensures.few spent in let some = c.if-budget-eq0.false
     in absurd (omega (arith, more, few, some))
 
 pub returns-clause-decided : goal.returns-clause-decided
-returns-clause-decided g c = c.pursue-2.ensures.decided
+returns-clause-decided g c = c.run_claim-2.ensures.decided

@@ -12,9 +12,9 @@ invariant-loop-end g l = record {
   rest : l.yielded ++ into_iter_items l.end-iterator ≡ l.fn.ends.items;
   to_take : All (λ d. IsConsumerOf l.mailbox d.consumer) (into_iter_items l.end-iterator);
   stopped : l.stopped ≡ min (2 ^ 64 - 1) (sum_by (λ d. from_bool d.stopped) l.yielded);
-  on : l.off ≡ false → All (λ d. d.off ≡ false) l.yielded;
-  told : All (λ d. d.off ≡ false) l.yielded → l.off ≡ false;
-  off : l.off ≡ true → 0 < length l.yielded;
+  on : l.aborted ≡ false → All (λ d. d.aborted ≡ false) l.yielded;
+  told : All (λ d. d.aborted ≡ false) l.yielded → l.aborted ≡ false;
+  aborted : l.aborted ≡ true → 0 < length l.yielded;
   hub : l.hub ≡ with_taken_consumers (map (λ d. d.consumer) l.yielded) l.fn.hub;
   all_of : IsHubOf l.mailbox l.hub;
 }

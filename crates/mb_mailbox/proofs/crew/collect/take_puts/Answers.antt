@@ -23,9 +23,9 @@ loop-end-preserved g c = record {
   stopped = full_more (λ d. from_bool d.stopped) (2 ^ 64 - 1) _ _ c.loop-end.yielded c.in-Some.end
       c.loop-end.invariant.stopped
       (c.saturating_add-stopped.ensures ∙ ap (λ (n : ℕ). min (c.loop-end.stopped + n) (2 ^ 64 - 1)) c.from.ensures);
-  on = on_more (λ d. d.off) _ _ c.loop-end.yielded c.in-Some.end c.loop-end.invariant.on refl;
-  told = told_more (λ d. d.off) _ _ c.loop-end.yielded c.in-Some.end c.loop-end.invariant.told refl;
-  off = λ o. some_seen c.loop-end.yielded c.in-Some.end;
+  on = on_more (λ d. d.aborted) _ _ c.loop-end.yielded c.in-Some.end c.loop-end.invariant.on refl;
+  told = told_more (λ d. d.aborted) _ _ c.loop-end.yielded c.in-Some.end c.loop-end.invariant.told refl;
+  aborted = λ o. some_seen c.loop-end.yielded c.in-Some.end;
   hub = took_producer_more (λ d. d.producer) c.args.hub.now c.loop-end.yielded c.in-Some.end _ _
       c.loop-end.invariant.hub c.take_producer.ensures.hub;
   all_of = c.take_producer.ensures.of;

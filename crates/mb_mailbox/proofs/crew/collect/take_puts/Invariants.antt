@@ -13,9 +13,9 @@ invariant-loop-end g l = record {
   to_take : All (λ d. IsProducerOf l.mailbox d.producer) (into_iter_items l.end-iterator);
   full : l.full ≡ min (2 ^ 64 - 1) (sum_by (λ d. d.full) l.yielded);
   stopped : l.stopped ≡ min (2 ^ 64 - 1) (sum_by (λ d. from_bool d.stopped) l.yielded);
-  on : l.off ≡ false → All (λ d. d.off ≡ false) l.yielded;
-  told : All (λ d. d.off ≡ false) l.yielded → l.off ≡ false;
-  off : l.off ≡ true → 0 < length l.yielded;
+  on : l.aborted ≡ false → All (λ d. d.aborted ≡ false) l.yielded;
+  told : All (λ d. d.aborted ≡ false) l.yielded → l.aborted ≡ false;
+  aborted : l.aborted ≡ true → 0 < length l.yielded;
   hub : l.hub ≡ with_taken_producers (map (λ d. d.producer) l.yielded) l.fn.hub;
   all_of : IsHubOf l.mailbox l.hub;
 }

@@ -7,7 +7,7 @@ use Rattle.mb_mailbox.proofs.crew.threads.end_all.Goals as goal
 pub returns : goal.returns
 returns g c = λ from end budget. record {
   puts = c.end_puts.ensures;
-  polls = zip_as (λ j d. (d.consumer ≡ j.consumer) × (d.stopped ≡ true) × (d.off ≡ true))
+  polls = zip_as (λ j d. (d.consumer ≡ j.consumer) × (d.stopped ≡ true) × (d.aborted ≡ true))
       (λ j d. IsPollEnd (λ _ _. ⊥) (λ _ _. ⊥) from end budget (g.R.Rng.stream j.rng) j.consumer d)
       (λ j d t. not_run (λ _ _. ⊥) (λ _ _. ⊥) from end budget (g.R.Rng.stream j.rng) j.consumer d
       t.0 t.1 t.2) c.args.jobs.polls.items c.end_polls.result.items c.end_polls.ensures;

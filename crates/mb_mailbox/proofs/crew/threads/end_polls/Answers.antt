@@ -9,11 +9,11 @@ loop-job-preserved g c = record {
   left = grind (arith, common_steps);
   room = grind (arith, common_steps);
   ends = rw c.push_reserved.ensures.items
-      (zip_more (λ j d. (d.consumer ≡ j.consumer) × (d.stopped ≡ true) × (d.off ≡ true))
+      (zip_more (λ j d. (d.consumer ≡ j.consumer) × (d.stopped ≡ true) × (d.aborted ≡ true))
       c.loop-job.yielded c.loop-job.done.items c.in-Some.job c.poll_nothing.result
       c.loop-job.invariant.ends (
         c.poll_nothing.ensures.consumer,
         c.poll_nothing.ensures.stopped,
-        c.poll_nothing.ensures.off,
+        c.poll_nothing.ensures.aborted,
       ));
 }

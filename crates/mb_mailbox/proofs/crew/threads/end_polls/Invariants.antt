@@ -8,5 +8,5 @@ invariant-loop-job g l = record {
   rest : l.yielded ++ into_iter_items l.job-iterator ≡ l.fn.jobs.items;
   left : vec_len l.done + into_iter_len l.job-iterator ≡ vec_len l.fn.jobs;
   room : vec_len l.fn.jobs ≤ vec_capacity l.done;
-  ends : AllZip (λ j d. (d.consumer ≡ j.consumer) × (d.stopped ≡ true) × (d.off ≡ true)) l.yielded l.done.items;
+  ends : AllZip (λ j d. (d.consumer ≡ j.consumer) × (d.stopped ≡ true) × (d.aborted ≡ true)) l.yielded l.done.items;
 }

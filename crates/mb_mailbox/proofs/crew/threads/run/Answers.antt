@@ -1,4 +1,4 @@
--- What the scope asks of its closure: what `run` asks, and that its types may go to other threads.
+-- What the scope requires of its closure: what `run` requires, and that its types may go to other threads.
 use mir.Syntax.{of_param}
 use denote.Exit.{unseen}
 use denote.Param.Send.{Quiet-if, sendable}

@@ -26,7 +26,7 @@ use Rattle.mb_mailbox.proofs.gather.sound.gathering_is_sound.Goals as goal
 pub returns-clause-all_in : goal.returns-clause-all_in
 returns-clause-all_in c = all_in
 
--- the two parts of each consumer fit, also of one that was never given
+-- the two parts of each consumer fit, even of one that was never given
 fits : (m : MailboxView) (h : HubView) (hs : Histories) (d : ℕ) → Fits (plan_at m).claims d no_parts → Keeps m h hs d
     → Fits (plan_at m).claims d (parts_in d hs)
 fits m h hs d none (Keeps.was_in l e places lists fit stands) = fit

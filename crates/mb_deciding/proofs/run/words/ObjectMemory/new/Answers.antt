@@ -1,7 +1,7 @@
 use Rattle.std.proofs.Common.{◌≡◌, refl, replicate}
 use Rattle.std.proofs.lemmas.List.{get_or-replicate}
 use Rattle.mb_deciding.specs.{Reg, Value, Proposal, Quorum, Last, IsReg, word_of}
-use Rattle.mb_deciding.proofs.run.words.Words.new.Goals as goal
+use Rattle.mb_deciding.proofs.run.words.ObjectMemory.new.Goals as goal
 
 -- each word is 0
 zero_words : (reg : Reg) → IsReg reg → word_of (record {

@@ -11,7 +11,7 @@ use Rattle.mb_mailbox.specs.Pursuits.{HasCompeted, consumer_with, holding}
 use Rattle.mb_mailbox.proofs.Made.{room_stays}
 use Rattle.mb_mailbox.proofs.Pursuing.{mid_at, mid_consumer, pursued_past, pursued_spent, pursued_took}
 use Rattle.mb_mailbox.proofs.Starts.{Start, begun, here, ran, start_room, table, there}
-use Rattle.mb_mailbox.proofs.consumer.pursuit.pursue.Goals as goal
+use Rattle.mb_mailbox.proofs.consumer.pursuit.run_claim.Goals as goal
 
 pub take-requires-clause-may : goal.take-requires-clause-may
 take-requires-clause-may g c =

@@ -3,8 +3,8 @@ use Rattle.std.proofs.lemmas.List.{length-set}
 use Rattle.std.proofs.lemmas.Grind.{common_steps}
 use Rattle.mb_script.specs.Text.{words_in_line}
 use Rattle.mb_script.proofs.Cuts.{words_cut, words_last, empty_behind, none_behind, too_many, word_moves, word_kept, words_taken}
-use Rattle.mb_script.proofs.few_words.Words.of_line.Goals.{then-is_empty-via-then-is_empty, then-is_empty-via-else-is_empty+then-count-eq-MAX_WORDS}
-use Rattle.mb_script.proofs.few_words.Words.of_line.Goals as goal
+use Rattle.mb_script.proofs.few_words.LineWords.of_line.Goals.{then-is_empty-via-then-is_empty, then-is_empty-via-else-is_empty+then-count-eq-MAX_WORDS}
+use Rattle.mb_script.proofs.few_words.LineWords.of_line.Goals as goal
 
 pub returns-then-is_empty : goal.returns-then-is_empty
 returns-then-is_empty c =

@@ -1,7 +1,7 @@
 use Rattle.std.proofs.Common.{ap, sym, ◌∙◌, ◌≡◌, length}
 use Rattle.mb_world.specs.Report.{ReportView}
 use Rattle.test_support.proofs.FirstDifferences.{handed_on, in_diary, in_lane}
-use Rattle.test_support.proofs.reports.tells.Goals as goal
+use Rattle.test_support.proofs.reports.check_report.Goals as goal
 
 pub returns-in_err-tells_lane-clause-differs : goal.returns-in_err-tells_lane-clause-differs
 returns-in_err-tells_lane-clause-differs g c =

@@ -1,6 +1,6 @@
 use Rattle.std.specs.Prelude.{◌≡◌, map, take}
 use Rattle.test_support.specs.Telling.{diary_told, lane_told}
-use Rattle.test_support.proofs.reports.tells.Given as goal
+use Rattle.test_support.proofs.reports.check_report.Given as goal
 
 abbrev pub invariant-loop-place : goal.invariant-loop-place
 invariant-loop-place g l = take l.place l.report.lanes ≡ map lane_told (take l.place l.lanes)

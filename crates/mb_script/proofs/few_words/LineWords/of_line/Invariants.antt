@@ -2,7 +2,7 @@ use Rattle.std.proofs.Common.{◌≡◌, ◌++◌, ◌<◌, map, take, length, f
 use denote.Text.{Utf8}
 use denote.Shadow.{shadow}
 use Rattle.mb_script.specs.Text.{words_in_line, has_empty}
-use Rattle.mb_script.proofs.few_words.Words.of_line.Given as goal
+use Rattle.mb_script.proofs.few_words.LineWords.of_line.Given as goal
 
 abbrev pub invariant-loop-word : goal.invariant-loop-word
 invariant-loop-word l = record {
