@@ -1,5 +1,5 @@
 -- The state of a world, and the histories that leave it.
-use Rattle.std.specs.Prelude.{ℕ, ◌≡◌, ◌↔◌, ◌<◌, ◌+◌, ◌*◌, Option, Some, None, List, [], ◌∷◌, length, slice_get}
+use Rattle.std.specs.Prelude.{ℕ, ◌≡◌, ◌↔◌, ◌<◌, ◌+◌, ◌*◌, Option, Some, None, List, ◌∷◌, length, slice_get}
 use Rattle.mb_claim.specs.declared.layout.Layout.{Layout}
 use Rattle.mb_claim.specs.OneClaim.{IsClaimIn, consumer_of}
 use Rattle.mb_claim.specs.States.{IsMemoryOf}
