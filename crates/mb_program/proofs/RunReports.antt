@@ -20,8 +20,9 @@ use Rattle.mb_mailbox.specs.declared.crew.Worked.{Worked}
 use Rattle.mb_mailbox.specs.Hubs.{HubView, IsHubOf, hub_empty}
 use Rattle.mb_mailbox.specs.Mailboxes.{MailboxView, plan_at}
 use Rattle.mb_mailbox.specs.Jobs.{IsFront}
+use Rattle.mb_mailbox.specs.ReportedRuns.{IsReportedRun}
 use Rattle.mb_mailbox.specs.Worked.{AreCutByCells, AreStoppedPolls, AreStoppedPuts, AsksTooMany, HasNoteAtEach, IsWorked, LaneLeft, ended_list}
-use Rattle.mb_program.specs.Running.{AreFew, HasNotedAll, IsLaneOf, IsRunBehind, IsRunReport, item_lists, items_of, plan_asked}
+use Rattle.mb_program.specs.Running.{AreFew, HasNotedAll, IsLaneOf, IsRunReport, item_lists, items_of, plan_asked, terms_asked}
 use Rattle.mb_program.specs.declared.options.Options.{Options}
 use Rattle.mb_program.proofs.RunLanes.{found_none, front_whole, front_within, sum_short}
 use Rattle.mb_program.proofs.RunNotes.{notes_told}
@@ -141,7 +142,8 @@ pub run_report : {budget : ℕ} (may_stop : Who → ℕ → Type 0) → ((w : Wh
     → IsWorked may_stop budget lists n w old h → IsHubOf m h
     → IsReportIn m.cells.size.lanes (consumer_count m.claims.layout) h r
     → (gathered : IsGathered m h r) → FullTakesAll m h r
-    → IsRunBehind o gathered.histories r → IsRunReport o r
+    → IsReportedRun (λ _ _. ⊥) (λ _ _. Unit {0}) (terms_asked o) (item_lists o.producers o.items) gathered.histories r
+    → IsRunReport o r
 run_report {budget} may_stop never o m old h r lists n w few asked plan size empty are sources
     worked of told gathered full run = record {
       histories = gathered.histories;

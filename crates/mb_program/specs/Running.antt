@@ -12,12 +12,8 @@ use Rattle.mb_world.specs.Reporting.{IsReportOf}
 use Rattle.mb_world.specs.Setups.{setup_refusal, shaped_plan}
 use Rattle.mb_world.specs.Sound.{AreSound}
 use Rattle.mb_script.specs.Vocabulary.{AppendsFront, IoModel, one_more, report_text}
-use Rattle.mb_mailbox.specs.Imports.{Reader, Stream, consumer_count, consumer_part, part}
-use Rattle.mb_mailbox.specs.Called.{IsCalled}
-use Rattle.mb_mailbox.specs.Gathering.{IsGathered, IsReportIn}
-use Rattle.mb_mailbox.specs.Hubs.{HubView, hub_empty}
-use Rattle.mb_mailbox.specs.Mailboxes.{MailboxView, plan_at}
-use Rattle.mb_mailbox.specs.declared.crew.Worked.{Worked}
+use Rattle.mb_mailbox.specs.Imports.{Reader, Stream, consumer_part, part}
+use Rattle.mb_mailbox.specs.ReportedRuns.{IsReportedRun, Terms}
 use Rattle.mb_program.specs.Source.{source_from, words_from}
 use Rattle.mb_program.specs.declared.fault.RunFault.{RunFault}
 use Rattle.mb_program.specs.declared.fault.RunFault.TheVariants.{BadSetup, WriteFault}
@@ -73,20 +69,9 @@ HasNotedAll count budget c p hs r =
     (length (notes c p r) ≡ count)
     ⊎ ((2 ^ 64 - 2 ≤ accesses_by c hs) × (accesses_by c hs ≤ budget * (2 ^ 64 - 2)))
 
--- the report and the histories come from one run in a mailbox of these options. Workers that no gate stops led from a
--- hub that has issued nothing to this hub. Each call of a consumer is a poll with the budget that is asked for. It
--- draws from the consumer's own source, of the seed that is asked for. The report is gathered from this hub, and these
--- histories are all accesses that the hub has taken in
-pub record IsRunBehind (o : Options) (hs : Histories) (r : ReportView) : Type 0 where
-  pub mailbox : MailboxView
-  pub plan : plan_at mailbox ≡ plan_asked o
-  pub hub : HubView
-  pub worked : Worked
-  pub called : IsCalled (λ _ _. ⊥) (λ _ _. Unit {0}) o.budget (item_lists o.producers o.items) (words_asked o) worked
-      (hub_empty mailbox) hub
-  pub told : IsReportIn mailbox.cells.size.lanes (consumer_count mailbox.claims.layout) hub r
-  pub gathered : IsGathered mailbox hub r
-  pub histories : gathered.histories ≡ hs
+-- the terms of the run: a mailbox of these options, the budget, and the sources of the seed that is asked for
+abbrev pub terms_asked : Options → Terms
+terms_asked o = record { plan = plan_asked o; budget = o.budget; sources = words_asked o }
 
 -- the report of a mailbox of these options, in which each producer has put all its items
 pub record IsRunReport (o : Options) (r : ReportView) : Type 0 where
@@ -98,8 +83,8 @@ pub record IsRunReport (o : Options) (r : ReportView) : Type 0 where
   -- the report is that of the histories, and one assignment agrees with it
   pub report : IsReportOf (plan_asked o) histories r
   pub honest : IsHonest (plan_asked o) histories r
-  -- and they are those of a run with the budget and the seed that are asked for
-  pub run : IsRunBehind o histories r
+  -- and they are those of a run of workers that no gate stops
+  pub run : IsReportedRun (λ _ _. ⊥) (λ _ _. Unit {0}) (terms_asked o) (item_lists o.producers o.items) histories r
   -- each producer has put its items, and nothing else
   pub lanes : (p : ℕ) → p < o.producers
       → (l : LaneView) × (slice_get r.lanes p ≡ Some l) × IsLaneOf p o.items l

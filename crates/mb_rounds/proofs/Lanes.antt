@@ -9,7 +9,7 @@ use Rattle.mb_world.specs.Agreement.{HasCompeted, ledger}
 use Rattle.mb_world.specs.Assignment.{is_consumer, items_where}
 use Rattle.mb_world.specs.Plan.{Plan, consumers_of}
 use Rattle.mb_world.specs.Report.{DiaryView, LaneView, ReportView, diary, is_begun, items_left, items_put, notes}
-use Rattle.mb_rounds.specs.Behind.{Terms}
+use Rattle.mb_mailbox.specs.ReportedRuns.{Terms}
 use Rattle.mb_rounds.specs.Carried.{times}
 use Rattle.mb_rounds.specs.Round.{IsPlayed}
 use Rattle.mb_rounds.proofs.Counts.{given_and_left, sum_below, sum_same}

@@ -7,7 +7,7 @@ use Rattle.mb_mailbox.specs.declared.gate.Who.{Who}
 use Rattle.mb_world.specs.Agreement.{ledger}
 use Rattle.mb_world.specs.Plan.{consumers_of}
 use Rattle.mb_world.specs.Report.{LaneView, ReportView}
-use Rattle.mb_rounds.specs.Behind.{Terms}
+use Rattle.mb_mailbox.specs.ReportedRuns.{Terms}
 use Rattle.mb_rounds.specs.Carried.{AreSameItems, times}
 use Rattle.mb_rounds.specs.Round.{IsPutOf, IsRound, ledgers_of, staying, taken_below}
 use Rattle.mb_rounds.proofs.Counts.{sum_below, sum_first, sum_same, sum_swap, times_both}

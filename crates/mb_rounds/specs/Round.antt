@@ -10,7 +10,7 @@ use Rattle.mb_world.specs.Report.{LaneView, ReportView}
 use Rattle.mb_world.specs.Reporting.{IsReportOf}
 use Rattle.mb_world.specs.Sound.{AreSound}
 use Rattle.mb_world.specs.declared.report.Note.{Note}
-use Rattle.mb_rounds.specs.Behind.{IsRunBehind, Terms}
+use Rattle.mb_mailbox.specs.ReportedRuns.{IsReportedRun, Terms}
 
 -- what was put on a lane is a beginning of the list dealt to its producer
 abbrev pub IsPutOf : List ℕ → LaneView → Type 0
@@ -27,7 +27,7 @@ pub record IsPlayed (may_stop may_pass : Who → ℕ → Type 0) (terms : Terms)
   -- one assignment of items to consumers agrees with the whole report
   pub honest : IsHonest terms.plan histories r
   -- it was done by a producer for each list and a consumer for each source, which go on until they are done or stopped
-  pub run : IsRunBehind may_stop may_pass terms lists histories r
+  pub run : IsReportedRun may_stop may_pass terms lists histories r
 
 -- the items that notes say were taken
 abbrev pub taken_in : List Note → List ℕ

@@ -3,7 +3,7 @@ use Rattle.std.specs.Prelude.{ℕ, List, [], ◌∷◌, true}
 use Rattle.mb_mailbox.specs.Mailboxes.{MailboxView, plan_at}
 use Rattle.mb_mailbox.specs.declared.gate.Who.{Who}
 use Rattle.mb_world.specs.Report.{ReportView}
-use Rattle.mb_rounds.specs.Behind.{Terms}
+use Rattle.mb_mailbox.specs.ReportedRuns.{Terms}
 
 -- what a gate may stop, or let pass: no call of any worker, or each call
 abbrev pub at_no_call : Who → ℕ → Type 0

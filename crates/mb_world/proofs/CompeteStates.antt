@@ -7,12 +7,13 @@ use Rattle.mb_claim.specs.declared.claim.Claim.{Claim}
 use Rattle.mb_claim.specs.History.{part_on}
 use Rattle.mb_claim.specs.OneClaim.{IsClaimIn, IsClaimOn, claim_access, claim_stage, consumer_of}
 use Rattle.mb_claim.specs.States.{IsMemoryOf}
+use Rattle.mb_cells.specs.declared.cursor.Cursor.TheVariants.{Past}
 use Rattle.mb_world.specs.declared.event.Answer.TheVariants as answer
 use Rattle.mb_world.specs.declared.event.Event.TheVariants as event
 use Rattle.mb_world.specs.declared.report.Note.{Note}
 use Rattle.mb_world.specs.declared.report.Note.TheVariants.{Lost, Undecided}
-use Rattle.mb_world.specs.declared.seat.Seat.{Seat}
-use Rattle.mb_world.specs.declared.seat.Seat.TheVariants as seat
+use Rattle.mb_world.specs.declared.place.Place.{Place}
+use Rattle.mb_world.specs.declared.place.Place.TheVariants.{At, Before}
 use Rattle.mb_world.specs.Imports.{ClaimAccess, IsClaimPrefix, ObjectTurn, Stage, claim_part}
 use Rattle.mb_world.specs.Plan.{consumers_of}
 use Rattle.mb_world.specs.Setups.{layout_of}
@@ -20,17 +21,18 @@ use Rattle.mb_world.specs.World.{WorldAccess, WorldHistory, claim_accesses, lane
 use Rattle.mb_world.specs.ConsumerPath.{ConsumerPath, claim_step, ends, goes, note_of}
 use Rattle.mb_world.specs.ConsumerPath as path
 use Rattle.mb_world.specs.Worlds.{ConsumerAdds, IsTrueTo}
-use Rattle.mb_world.specs.WorldState.{IsSeatAt, IsWorldAfter, WorldState}
-use Rattle.mb_world.specs.EventSteps.{EventAdds, seat_by, with_note_if, with_seat}
+use Rattle.mb_world.specs.WorldState.{IsPlaceAt, IsWorldAfter, WorldState}
+use Rattle.mb_world.specs.Places.{place_after}
+use Rattle.mb_world.specs.EventSteps.{EventAdds, with_note_if, with_place}
 use Rattle.mb_world.proofs.Claimed.{part-own}
 use Rattle.mb_world.proofs.HeldStates.{AtCell, at_cell, below, part_is, prefix, unread}
 use Rattle.mb_world.proofs.StateEnds.{Ends, going_open, lost_end, step_keeps, undecided_end, won_open}
-use Rattle.mb_world.proofs.StateSteps.{AreNotes, notes_count, notes_kept, notes_set, own_seat, plan, seats_count, seats_set, state_after}
+use Rattle.mb_world.proofs.StateSteps.{AreNotes, notes_count, notes_kept, notes_set, own_place, plan, places_count, places_set, state_after}
 use Rattle.mb_world.proofs.StepKnown.{StepKnown}
 
 module _ (s : WorldState) (h : WorldHistory) (is : IsWorldAfter h s) (c p : ℕ) (cs : c < consumers_of (plan s h is))
     (ps : p < (plan s h is).lanes) (known : StepKnown s h c p) (k : ℕ) (claim : Claim)
-    (here : slice_get s.seats (c * (plan s h is).lanes + p) ≡ Some (seat.AtCell k claim))
+    (here : slice_get s.places (c * (plan s h is).lanes + p) ≡ Some (At k claim))
     (going : claim_stage claim ≡ stage.Going) (words : List ℕ) (now : Claim) (x : ObjectTurn)
     (keeps : consumer_of now ≡ consumer_of claim)
     (made : IsClaimOn (layout_of s.setup) (plan s h is).claims.cells k now words
@@ -108,9 +110,9 @@ module _ (s : WorldState) (h : WorldHistory) (is : IsWorldAfter h s) (c p : ℕ)
 
   -- the state, where the path goes on and the notes are these
   module _ (r : Stage) (stage_is : claim_stage now ≡ r) (word : ℕ) (random : x.turn.word ≡ word)
-      (ks : List ℕ) (ns : List Note) (held : Option (List ObjectTurn)) (d : Seat)
+      (ks : List ℕ) (ns : List Note) (held : Option (List ObjectTurn)) (d : Place)
       (next : ConsumerPath (plan s h is).claims c p (a ∷ lane_part c p h) ks ns held)
-      (seated : IsSeatAt (layout_of s.setup) c ks held d) where
+      (placed : IsPlaceAt (layout_of s.setup) c p ks held d) where
     pub adds : ConsumerAdds (plan s h is) c p a h
     adds = known.goes a ks ns held truth next
 
@@ -121,7 +123,7 @@ module _ (s : WorldState) (h : WorldHistory) (is : IsWorldAfter h s) (c p : ℕ)
           setup = s.setup;
           pool = s.pool;
           words = words;
-          seats = slice_set s.seats (c * (plan s h is).lanes + p) d;
+          places = slice_set s.places (c * (plan s h is).lanes + p) d;
           notes = notes;
         }) h
     claim_adds notes count are_notes = record {
@@ -136,21 +138,21 @@ module _ (s : WorldState) (h : WorldHistory) (is : IsWorldAfter h s) (c p : ℕ)
         ),
         adds.lawful,
       );
-      left = state_after s h is c p cs ps a adds words (slice_set s.seats (c * (plan s h is).lanes + p) d) notes
-          is.pool memory (seats_count s h is c p cs ps a adds d)
-          (seats_set s h is c p cs ps a adds d (own_seat s h is c p cs ps a adds ks ns held d next seated)) count
+      left = state_after s h is c p cs ps a adds words (slice_set s.places (c * (plan s h is).lanes + p) d) notes
+          is.pool memory (places_count s h is c p cs ps a adds d)
+          (places_set s h is c p cs ps a adds d (own_place s h is c p cs ps a adds ks ns held d next placed)) count
           are_notes;
     }
 
     pub keeps_notes : ((n : Note) → Ends (plan s h is).claims (a ∷ h) c k n → ⊥)
         → EventAdds (event.Step c p word) (answer.Claimed k x.object x.turn.act r)
-        (with_seat c p d (record s { words = words })) h
+        (with_place c p d (record s { words = words })) h
     keeps_notes still = claim_adds s.notes is.notes_count (notes_kept s h is c p cs ps a adds (ends_stay still))
 
     pub sets_note : (n : Note) → Ends (plan s h is).claims (a ∷ h) c k n
         → ((m : Note) → Ends (plan s h is).claims (a ∷ h) c k m → n ≡ m)
         → EventAdds (event.Step c p word) (answer.Claimed k x.object x.turn.act r)
-        (with_note_if c k (Some n) (with_seat c p d (record s { words = words }))) h
+        (with_note_if c k (Some n) (with_place c p d (record s { words = words }))) h
     sets_note n end only =
         claim_adds (slice_set s.notes (c * (plan s h is).claims.cells + k) (Some n))
         (notes_count s h is c p cs ps a adds k (below s h is c p cs ps known k claim here) n)
@@ -159,21 +161,21 @@ module _ (s : WorldState) (h : WorldHistory) (is : IsWorldAfter h s) (c p : ℕ)
 
   pub competed : (r : Stage) → claim_stage now ≡ r → (word : ℕ) → x.turn.word ≡ word
       → EventAdds (event.Step c p word) (answer.Claimed k x.object x.turn.act r)
-      (with_note_if c k (note_of r) (with_seat c p (seat_by k now r) (record s { words = words }))) h
+      (with_note_if c k (note_of r) (with_place c p (place_after k now r) (record s { words = words }))) h
   competed stage.Going e word random =
-      keeps_notes stage.Going e word random (k ∷ at.cells) at.notes (Some (x ∷ at.steps)) (seat.AtCell k now)
+      keeps_notes stage.Going e word random (k ∷ at.cells) at.notes (Some (x ∷ at.steps)) (At k now)
       (goes stage.Going (prefix_now stage.Going e) refl at.path) (refl, own_now, is_in)
       (λ n. going_open (plan s h is).claims c k (a ∷ h) (one_stage (a ∷ h)) n (is_now stage.Going e))
   competed stage.Won e word random =
-      keeps_notes stage.Won e word random (k ∷ at.cells) at.notes (Some (x ∷ at.steps)) (seat.AtCell k now)
+      keeps_notes stage.Won e word random (k ∷ at.cells) at.notes (Some (x ∷ at.steps)) (At k now)
       (goes stage.Won (prefix_now stage.Won e) refl at.path) (refl, own_now, is_in)
       (λ n. won_open (plan s h is).claims c k (a ∷ h) (one_stage (a ∷ h)) n (is_now stage.Won e)
       (unread s h is c p cs ps known k claim here))
   competed (stage.Lost w) e word random =
-      sets_note (stage.Lost w) e word random (k ∷ at.cells) (Lost w ∷ at.notes) None (seat.PastCell k)
+      sets_note (stage.Lost w) e word random (k ∷ at.cells) (Lost w ∷ at.notes) None (Before (Past k))
       (ends (stage.Lost w) (prefix_now (stage.Lost w) e) refl at.path) refl (Lost w) (is_now (stage.Lost w) e)
       (λ n. lost_end (plan s h is).claims c k (a ∷ h) (one_stage (a ∷ h)) w n (is_now (stage.Lost w) e))
   competed stage.Undecided e word random =
-      sets_note stage.Undecided e word random (k ∷ at.cells) (Undecided ∷ at.notes) None (seat.PastCell k)
+      sets_note stage.Undecided e word random (k ∷ at.cells) (Undecided ∷ at.notes) None (Before (Past k))
       (ends stage.Undecided (prefix_now stage.Undecided e) refl at.path) refl Undecided (is_now stage.Undecided e)
       (λ n. undecided_end (plan s h is).claims c k (a ∷ h) (one_stage (a ∷ h)) n (is_now stage.Undecided e))

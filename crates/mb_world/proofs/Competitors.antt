@@ -13,9 +13,9 @@ use Rattle.mb_world.specs.Fitting.{EndsAs, parts_of}
 use Rattle.mb_world.specs.Reporting.{IsDiaryOf, IsReportOf}
 use Rattle.mb_world.proofs.Diaries.{met_at, note_at, open_last, placed}
 use Rattle.mb_world.proofs.Known.{Known}
-use Rattle.mb_world.proofs.Places.{StandsAt, at_one, at_reverse, has_at}
+use Rattle.mb_world.proofs.Positions.{StandsAt, at_one, at_reverse, has_at}
 use Rattle.mb_world.proofs.Recorded.{competed_in}
-use Rattle.mb_world.proofs.ReportPlaces.{begun_is, notes_is}
+use Rattle.mb_world.proofs.ReportPositions.{begun_is, notes_is}
 use Rattle.mb_world.proofs.Diaries as diaries
 
 module _ (plan : Plan) (hs : Histories) (known : Known plan hs)
@@ -42,7 +42,7 @@ module _ (plan : Plan) (hs : Histories) (known : Known plan hs)
   end_made i (Lost w) e = not_fresh i (stage.Lost w) e (λ f. cc)
   end_made i Undecided e = not_fresh i stage.Undecided e (λ f. cc)
 
-  -- the cell at the place of a note is that of the item
+  -- the cell at the position of a note is that of the item
   cell_at : (i : ℕ) → StandsAt diary.cells j i → i ≡ k
   cell_at i at = at_one (linked_cells p hs.pool) j i k (placed plan hs known c p cs d diary j i at) on_lane
 

@@ -12,7 +12,7 @@ use Rattle.mb_world.specs.Worlds.{IsWorldLawful}
 use Rattle.mb_world.specs.Replay.{HasRandom, IsAccessOf, IsRefused}
 use Rattle.mb_world.proofs.ConsumerSteps.{linked_same, one_lane_of}
 use Rattle.mb_world.proofs.EventKnown.{EventKnown}
-use Rattle.mb_world.proofs.LastAccess.{place}
+use Rattle.mb_world.proofs.LastAccess.{path_end}
 use Rattle.mb_world.proofs.OnePlace.{AreAlike, one_more}
 
 module _ (plan : Plan) (h : WorldHistory) (known : EventKnown plan h) (c p word : ℕ) where
@@ -79,7 +79,7 @@ module _ (plan : Plan) (h : WorldHistory) (known : EventKnown plan h) (c p word 
         let x = la.consumers c p i.consumer i.lane in
         let y = lb.consumers c p i.consumer i.lane in
         one_more plan.claims c p (known.one_stage c) (known.going c) (lane_part c p h) a b
-        (place x.cells x.notes x.held) (place y.cells y.notes y.held) alike
+        (path_end x.cells x.notes x.held) (path_end y.cells y.notes y.held) alike
         (subst (λ (l : WorldHistory). ConsumerPath plan.claims c p l x.cells x.notes x.held)
         (own_front a made_a) x.path)
         (subst (λ (l : WorldHistory). ConsumerPath plan.claims c p l y.cells y.notes y.held)

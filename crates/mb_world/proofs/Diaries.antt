@@ -14,7 +14,7 @@ use Rattle.mb_world.specs.Report.{DiaryView}
 use Rattle.mb_world.specs.Fitting.{EndsAs, Fits, HasStageIn, HasRead, parts_of}
 use Rattle.mb_world.specs.Reporting.{IsDiaryOf, values_put}
 use Rattle.mb_world.proofs.Known.{Known}
-use Rattle.mb_world.proofs.Places.{StandsAt, at_has, at_once, at_one, at_reverse, at_some, at_start, at_within, has_at, mapped_at, reverse_at}
+use Rattle.mb_world.proofs.Positions.{StandsAt, at_has, at_once, at_one, at_reverse, at_some, at_start, at_within, has_at, mapped_at, reverse_at}
 use Rattle.mb_world.proofs.Loads.{met_link, read_or_not}
 use Rattle.mb_world.proofs.ReaderParts.{loaded-read, read-loaded}
 
@@ -25,7 +25,7 @@ values_length p pool =
     length-map (put_list p pool) (λ (e : Entry). e.value)
     ∙ (length-reverse (map (entry_of items) (linked_cells p pool)) ∙ length-map (linked_cells p pool) (entry_of items))
 
--- and each stands in the place of its cell
+-- and each stands at the position of its cell
 value_at : (p j k : ℕ) (pool : History) → StandsAt (linked_cells p pool) j k
     → slice_get (values_put p pool) j ≡ Some (item_of k pool)
 value_at p j k pool at =
@@ -86,13 +86,13 @@ module _ (plan : Plan) (hs : Histories) (known : Known plan hs) where
       by_stage stage.Undecided q over = (Undecided, q)
 
   module _ (c p : ℕ) (cs : c < consumers_of plan) (d : DiaryView) (diary : IsDiaryOf plan c p hs d) where
-    -- a cell met stands at its place in the lane
+    -- a cell met stands at its position in the lane
     pub placed : (j k : ℕ) → StandsAt diary.cells j k → StandsAt (linked_cells p hs.pool) j k
     placed j k at =
         let s = known.start (hs.reader_of c) p diary.cells diary.met.met in
         subst (λ (ls : List ℕ). StandsAt ls j k) s.1 (at_start s.0 diary.cells j k at)
 
-    -- and a cell of the lane that was given, at its place among those met
+    -- and a cell of the lane that was given, at its position among those met
     pub met_at : (j k : ℕ) → StandsAt (linked_cells p hs.pool) j k → Gave k (part (Reader (hs.reader_of c)) hs.pool)
         → StandsAt diary.cells j k
     met_at j k at gave =

@@ -11,7 +11,7 @@ use Rattle.mb_world.specs.Reporting.{IsDiaryOf, IsReportOf, lane_view}
 use Rattle.mb_world.specs.PathExamples.{first_step, two_cells}
 use Rattle.mb_world.specs.WorldExamples.{IsNoDiary, IsNoReport, all_histories, all_reported, claim_left_out, diary_with, item_left_out, loss_left_out}
 use Rattle.mb_world.specs.WorldExamples.{loss_taken, lost_steps, nothing_told, report_with, two_by_two, unwon_taken}
-use Rattle.mb_world.proofs.Places.{has_at, reverse_at}
+use Rattle.mb_world.proofs.Positions.{has_at, reverse_at}
 
 -- ---- the report
 lanes_told : (p : ℕ) → p < 2 → slice_get all_reported.lanes p ≡ Some (lane_view two_by_two p all_histories all_reported)
@@ -19,7 +19,7 @@ lanes_told zero ps = refl
 lanes_told (suc zero) ps = refl
 lanes_told (suc (suc p)) ps = absurd (omega (arith, ps))
 
--- the diary of consumer c on lane p stands in its place
+-- the diary of consumer c on lane p stands at its position
 abbrev IsTold : ℕ → ℕ → Type 0
 IsTold c p =
     (d : DiaryView) × (slice_get all_reported.diaries (c * 2 + p) ≡ Some d) × IsDiaryOf two_by_two c p all_histories d

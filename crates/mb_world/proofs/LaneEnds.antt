@@ -10,7 +10,7 @@ use Rattle.mb_world.proofs.Cells.{cell-of_true}
 use Rattle.mb_world.proofs.Diaries.{met_at, passed, values_length}
 use Rattle.mb_world.proofs.Known.{Known}
 use Rattle.mb_world.proofs.Loads.{gave-link, met_given, met_link}
-use Rattle.mb_world.proofs.Places.{StandsAt, at_has, at_some, at_start, at_within}
+use Rattle.mb_world.proofs.Positions.{StandsAt, at_has, at_some, at_start, at_within}
 use Rattle.mb_world.proofs.ReaderParts.{read-loaded}
 
 module _ (plan : Plan) (hs : Histories) (known : Known plan hs) where

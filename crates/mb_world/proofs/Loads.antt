@@ -4,7 +4,7 @@ use Rattle.std.proofs.lemmas.Bool.{cases_Bool}
 use Rattle.mb_world.specs.Imports.{END, FetchAdd, Gave, Has, HasLoaded, HasMet, History, IsGift, IsReaderPath, Link, Load, MayRead, PoolAccess, PoolAct}
 use Rattle.mb_world.specs.Imports.{Reader, Store, Word, is_same_word, load, part, place_past}
 use Rattle.mb_world.specs.Fitting.{HasRead}
-use Rattle.mb_world.proofs.Places.{StandsAt, at_within}
+use Rattle.mb_world.proofs.Positions.{StandsAt, at_within}
 use Rattle.mb_world.proofs.ReaderParts.{has_part, word_is, word_same}
 
 -- who loaded a cell's link was given the cell

@@ -18,7 +18,7 @@ use Rattle.mb_world.specs.Worlds.{IsWorldLawful}
 use Rattle.mb_world.specs.Replay.{IsEntry, AnswerNames, answer_to}
 use Rattle.mb_world.specs.Waiting.{HasNothing}
 use Rattle.mb_world.proofs.ConsumerSteps.{linked_same, one_lane_of}
-use Rattle.mb_world.proofs.LastAccess.{CameFrom, Leads, Place, came_from, ended, found, place, took, waited, went}
+use Rattle.mb_world.proofs.LastAccess.{CameFrom, Leads, PathEnd, came_from, ended, found, path_end, took, waited, went}
 use Rattle.mb_world.proofs.WorldClaims.{met_all}
 use Rattle.mb_world.proofs.WorldKnown.{WorldKnown}
 
@@ -63,10 +63,10 @@ module _ (plan : Plan) (h : WorldHistory) (lawful : IsWorldLawful plan h) (known
 
   last : (x : WorldAccess) → IsBy c x → is_on c p (linked_cells p (pool_accesses h)) x ≡ true
       → (longer : IsWorldLawful plan (x ∷ h)) → c < consumers_of plan → p < plan.lanes
-      → (now : Place) × CameFrom plan.claims c p x (lane_part c p h) now
+      → (now : PathEnd) × CameFrom plan.claims c p x (lane_part c p h) now
   last x own on longer cs ps =
       let y = longer.consumers c p cs ps in (
-        place y.cells y.notes y.held,
+        path_end y.cells y.notes y.held,
         came_from plan.claims c p
             (subst (λ (l : WorldHistory). ConsumerPath plan.claims c p l y.cells y.notes y.held)
             (front x own on) y.path),
@@ -108,7 +108,7 @@ module _ (plan : Plan) (h : WorldHistory) (lawful : IsWorldLawful plan h) (known
           let more = next p y ys ks split in
           absurd (omega (arith, more, zero))
 
-  waits_there : {was now : Place} (x : WorldAccess) (r : Answer) → IsWorldLawful plan (x ∷ h) → AnswerNames plan r x h
+  waits_there : {was now : PathEnd} (x : WorldAccess) (r : Answer) → IsWorldLawful plan (x ∷ h) → AnswerNames plan r x h
       → r ≡ answer.Looked look.Nothing → c < consumers_of plan → p < plan.lanes
       → ConsumerPath plan.claims c p (lane_part c p h) was.cells was.notes was.held
       → Leads plan.claims c p x was now → HasNothing plan c p h
@@ -158,7 +158,7 @@ module _ (plan : Plan) (h : WorldHistory) (lawful : IsWorldLawful plan h) (known
   module _ (one_place : (js : List ℕ) (ms : List Note) (held : Option (List ObjectTurn))
       → ConsumerPath plan.claims c p (lane_part c p h) js ms held → (ks : List ℕ) (ns : List Note)
       → ConsumerPath plan.claims c p (lane_part c p h) ks ns None → (js ≡ ks) × (ms ≡ ns) × (held ≡ None)) where
-    finds_none : {was now : Place} (x : WorldAccess) (r : Answer) → IsWorldLawful plan (x ∷ h) → AnswerNames plan r x h
+    finds_none : {was now : PathEnd} (x : WorldAccess) (r : Answer) → IsWorldLawful plan (x ∷ h) → AnswerNames plan r x h
         → HasNothing plan c p h
         → ConsumerPath plan.claims c p (lane_part c p h) was.cells was.notes was.held
         → Leads plan.claims c p x was now → r ≡ answer.Looked look.Nothing
@@ -172,7 +172,7 @@ module _ (plan : Plan) (h : WorldHistory) (lawful : IsWorldLawful plan h) (known
             ∙ (ap (λ (zs : List ℕ). value_in (place_past p zs) (pool_accesses h)) same
             ∙ (end p ∙ ap (λ (b : Bool). cond b END 0) f.goes_on))
 
-        by : {was now : Place} → Leads plan.claims c p x was now → was.cells ≡ linked_cells p (pool_accesses h)
+        by : {was now : PathEnd} → Leads plan.claims c p x was now → was.cells ≡ linked_cells p (pool_accesses h)
             → was.held ≡ None → r ≡ answer.Looked look.Nothing
         by (waited ks ns v says e) same none =
             answered x r names ks v e ∙ ap (λ (i : ℕ). answer.Looked (look_of i)) (zero_there ks v e same)

@@ -12,12 +12,12 @@ use Rattle.mb_world.specs.Fitting.{EndsAs, HasStageIn, parts_of}
 use Rattle.mb_world.specs.Report.{DiaryView, LaneView, ReportView}
 use Rattle.mb_world.specs.Reporting.{IsDiaryOf, IsReportOf, lane_view}
 use Rattle.mb_world.proofs.Known.{Known}
-use Rattle.mb_world.proofs.Places.{StandsAt, at_has, at_one, has_at, reverse_at}
+use Rattle.mb_world.proofs.Positions.{StandsAt, at_has, at_one, has_at, reverse_at}
 use Rattle.mb_world.proofs.Diaries.{met_at, note_at, placed}
 use Rattle.mb_world.proofs.Loads.{met_given}
 use Rattle.mb_world.proofs.ReaderParts.{loaded-read}
 
--- ---- lists that have one element at each place
+-- ---- lists that have one element at each position
 -- what stands in the one stands in the other
 abbrev StandsIn : {A : Type 0} → List A → List A → Type 0
 StandsIn {A} xs ys = (j : ℕ) (x : A) → slice_get xs j ≡ Some x → slice_get ys j ≡ Some x
@@ -80,7 +80,7 @@ module _ (plan : Plan) (hs : Histories) (known : Known plan hs) where
 
   -- ---- a consumer has one diary on a lane
   module _ (c p : ℕ) (cs : c < consumers_of plan) where
-    -- cells stand at the same places of both
+    -- cells stand at the same positions of both
     same_at : (d e : DiaryView) (x : IsDiaryOf plan c p hs d) (y : IsDiaryOf plan c p hs e) (j k : ℕ)
         → StandsAt x.cells j k → StandsAt y.cells j k
     same_at d e x y j k at =
@@ -122,16 +122,16 @@ module _ (plan : Plan) (hs : Histories) (known : Known plan hs) where
       let some : 0 < plan.lanes = some_lanes (consumers_of plan) plan.lanes i less in
       let p = i % plan.lanes in
       let c = i / plan.lanes in
-      let place : c * plan.lanes + p ≡ i = omega (arith, mod-add-div i plan.lanes) in
+      let position : c * plan.lanes + p ≡ i = omega (arith, mod-add-div i plan.lanes) in
       let cs : c < consumers_of plan = (div-lt_iff_lt-mul some).1 less in
       let ps : p < plan.lanes = mod-lt i some in
       let first = x.diary c p cs ps in
       let other = y.diary c p cs ps in
       let e : Some first.0 ≡ Some d =
-      sym first.1 ∙ (ap (λ (j : ℕ). slice_get r.diaries j) place ∙ is) in
+      sym first.1 ∙ (ap (λ (j : ℕ). slice_get r.diaries j) position ∙ is) in
       let same : first.0 ≡ d = cc in
       let one = one_diary c p cs first.0 other.0 first.2 other.2 in
-      ap (λ (j : ℕ). slice_get s.diaries j) (sym place) ∙ (other.1 ∙ ap Some (sym one ∙ same))
+      ap (λ (j : ℕ). slice_get s.diaries j) (sym position) ∙ (other.1 ∙ ap Some (sym one ∙ same))
 
   same_lane : (r s : ReportView) → r.diaries ≡ s.diaries → length r.lanes ≡ length s.lanes → IsReportOf plan hs r
       → IsReportOf plan hs s → StandsIn r.lanes s.lanes

@@ -8,7 +8,7 @@ use Rattle.mb_world.specs.declared.report.Note.TheVariants.{Took, Lost, Undecide
 use Rattle.mb_world.specs.Imports.{Claims, Gave, Has, History, IsClaimPrefix, IsGift, IsOnceEach, ObjectTurn, PoolAccess, Stage, claim_part}
 use Rattle.mb_world.specs.World.{WorldHistory, claim_accesses}
 use Rattle.mb_world.specs.ConsumerPath.{has_begun, note_of}
-use Rattle.mb_world.proofs.Places.{StandsAt, at_within, get-snoc}
+use Rattle.mb_world.proofs.Positions.{StandsAt, at_within, get-snoc}
 use Rattle.mb_world.proofs.Tracks.{AreEnds, EndsIn, Tracks, ends_some}
 use mathlib.Core.List.{reverse-cons}
 

@@ -30,10 +30,10 @@ use Rattle.mb_world.specs.World.{ToCells, WorldHistory, pool_accesses}
 use Rattle.mb_world.specs.ConsumerPath.{ConsumerPath}
 use Rattle.mb_world.specs.Worlds.{ProducerAdds}
 use Rattle.mb_world.specs.Replay.{IsLaneOf, IsPushed, answer_to, answer_to_link}
-use Rattle.mb_world.specs.WorldState.{IsNoteAfter, IsSeatAfter, IsWorldAfter, WorldState}
+use Rattle.mb_world.specs.WorldState.{IsNoteAfter, IsPlaceAfter, IsWorldAfter, WorldState}
 use Rattle.mb_world.specs.EventSteps.{EventAdds, with_pool}
 use Rattle.mb_world.proofs.StateEnds.{Ends}
-use Rattle.mb_world.proofs.StatePlaces.{all_kept}
+use Rattle.mb_world.proofs.Grids.{all_kept}
 use Rattle.mb_world.proofs.StateSteps.{plan}
 
 module _ (s : WorldState) (h : WorldHistory) (is : IsWorldAfter h s) (p : ℕ) (ps : p < (plan s h is).lanes)
@@ -55,8 +55,8 @@ module _ (s : WorldState) (h : WorldHistory) (is : IsWorldAfter h s) (p : ℕ) (
     cells = cells_now;
     pool = after;
     words = is.words;
-    seats_count = is.seats_count;
-    seat = is.seat;
+    places_count = is.places_count;
+    place = is.place;
     notes_count = is.notes_count;
     note = is.note;
   }
@@ -90,9 +90,9 @@ module _ (s : WorldState) (h : WorldHistory) (is : IsWorldAfter h s) (p : ℕ) (
       cells = cells_now;
       pool = after;
       words = is.words;
-      seats_count = is.seats_count;
-      seat = all_kept (consumers_of (plan s h is)) (plan s h is).lanes (λ e q x. IsSeatAfter s.setup e q h x)
-          (λ e q x. IsSeatAfter s.setup e q (ToCells a ∷ h) x) s.seats is.seat
+      places_count = is.places_count;
+      place = all_kept (consumers_of (plan s h is)) (plan s h is).lanes (λ e q x. IsPlaceAfter s.setup e q h x)
+          (λ e q x. IsPlaceAfter s.setup e q (ToCells a ∷ h) x) s.places is.place
           (λ e q x _ _ _ y. record {
             cells = y.cells;
             notes = y.notes;

@@ -58,7 +58,7 @@ pub none_noted : (f : ℕ → Option Note) (xs : List ℕ) → ((k : ℕ) → Ha
 none_noted f [] none = refl
 none_noted f (x ∷ xs) none = rw (none x (inl refl)) (none_noted f xs (λ k has. none k (inr has)))
 
--- the note that stands at a place
+-- the note that stands at a position
 abbrev pub note_by : (ℕ → Option Note) → Option ℕ → Option Note
 note_by f None = None
 note_by f (Some k) = f k
@@ -74,7 +74,7 @@ get_nil : (j : ℕ) → slice_get {X = Note} [] j ≡ None
 get_nil zero = refl
 get_nil (suc j) = refl
 
--- where the cells with notes come first, each note has the place of its cell
+-- where the cells with notes come first, each note has the position of its cell
 pub note_placed : (f : ℕ → Option Note) (xs ys : List ℕ) (j : ℕ) → ((k : ℕ) → Has xs k → (n : Note) × (f k ≡ Some n))
     → ((k : ℕ) → Has ys k → f k ≡ None) → slice_get (filter_map f (xs ++ ys)) j ≡ note_by f (slice_get (xs ++ ys) j)
 note_placed f [] ys j some none = rw (none_noted f ys none) (get_nil j ∙ sym (none_by f ys j none))

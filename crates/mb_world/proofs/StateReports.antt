@@ -12,8 +12,8 @@ use Rattle.mb_claim.specs.declared.layout.Layout.{Layout}
 use Rattle.mb_cells.specs.State.{item_in}
 use Rattle.mb_world.specs.declared.report.Note.{Note}
 use Rattle.mb_world.specs.declared.report.Note.TheVariants.{Took, Lost, Undecided}
-use Rattle.mb_world.specs.declared.seat.Seat.{Seat}
-use Rattle.mb_world.specs.declared.seat.Seat.TheVariants as seat
+use Rattle.mb_world.specs.declared.place.Place.{Place}
+use Rattle.mb_world.specs.declared.place.Place.TheVariants.{At, Before}
 use Rattle.mb_world.specs.Imports.{Has, IsClaimPrefix, IsOnceEach, ObjectTurn, claim_part, linked_cells}
 use Rattle.mb_world.specs.Plan.{Plan, consumers_of}
 use Rattle.mb_world.specs.Report.{DiaryView, LaneView, ReportView, diary, note, notes}
@@ -25,11 +25,12 @@ use Rattle.mb_world.specs.Sound.{AreSound}
 use Rattle.mb_world.specs.World.{WorldHistory, claim_accesses, histories_of, lane_part, pool_accesses}
 use Rattle.mb_world.specs.ConsumerPath.{has_begun}
 use Rattle.mb_world.specs.Worlds.{IsOnPath}
-use Rattle.mb_world.specs.WorldState.{IsSeatAfter, IsSeatAt, IsWorldAfter, WorldState}
-use Rattle.mb_world.specs.StateReport.{AreDiariesTold, AreLanesTold, IsDiaryTold, IsLaneTold, IsWalked, begun_on, has_begun_on, is_taken_on, note_on, note_there}
+use Rattle.mb_world.specs.WorldState.{IsPlaceAfter, IsPlaceAt, IsWorldAfter, WorldState}
+use Rattle.mb_world.specs.Places.{has_begun_at}
+use Rattle.mb_world.specs.StateReport.{AreDiariesTold, AreLanesTold, IsDiaryTold, IsLaneTold, IsWalked, begun_on, is_taken_on, note_on, note_there}
 use Rattle.mb_world.proofs.Cells.{has_cell-true}
 use Rattle.mb_world.proofs.PathDiaries.{ends_length}
-use Rattle.mb_world.proofs.Places.{StandsAt, at_has, has_at, reverse_at}
+use Rattle.mb_world.proofs.Positions.{StandsAt, at_has, has_at, reverse_at}
 use Rattle.mb_world.proofs.StateNotes.{any_below-same, items_chosen, none_noted, note_by, note_placed, noted, put_cells}
 use Rattle.mb_world.proofs.Tracks.{AreEnds, EndsIn, closed, ends_more, ends_some}
 use Rattle.mb_world.proofs.WorldClaims.{end_here, met_all, on_lane, tracks}
@@ -88,7 +89,7 @@ closed_cut ks None later ls e = (later, e)
 closed_cut [] (Some xs) later ls e = (later, e)
 closed_cut (q ∷ qs) (Some xs) later ls e = (later ++ q ∷ [], append_assoc later (q ∷ []) qs ∙ e)
 
--- ---- a seat
+-- ---- a place of a consumer
 cons_some : (x : ObjectTurn) (xs : List ObjectTurn) → x ∷ xs ≢ []
 cons_some x xs e = cc
 
@@ -98,20 +99,13 @@ claim_begun false [] w = refl
 claim_begun true (x ∷ xs) w = refl
 claim_begun false (x ∷ xs) w = w.1 (cons_some x xs)
 
-seat_begun : (layout : Layout) (c : ℕ) (ks : List ℕ) (held : Option (List ObjectTurn)) (d : Seat)
-    → IsSeatAt layout c ks held d → has_begun_on d ≡ has_begun held
-seat_begun layout c [] None seat.AtHead is = refl
-seat_begun layout c [] None (seat.PastCell k) is = absurd is
-seat_begun layout c [] None (seat.AtCell k claim) is = absurd is
-seat_begun layout c [] (Some xs) seat.AtHead is = absurd is
-seat_begun layout c [] (Some xs) (seat.PastCell k) is = absurd is
-seat_begun layout c [] (Some xs) (seat.AtCell k claim) is = absurd is
-seat_begun layout c (q ∷ qs) None seat.AtHead is = absurd is
-seat_begun layout c (q ∷ qs) None (seat.PastCell k) is = refl
-seat_begun layout c (q ∷ qs) None (seat.AtCell k claim) is = absurd is
-seat_begun layout c (q ∷ qs) (Some xs) seat.AtHead is = absurd is
-seat_begun layout c (q ∷ qs) (Some xs) (seat.PastCell k) is = absurd is
-seat_begun layout c (q ∷ qs) (Some xs) (seat.AtCell k claim) is = claim_begun claim.begun xs is.2.begun
+place_begun : (layout : Layout) (c p : ℕ) (ks : List ℕ) (held : Option (List ObjectTurn)) (d : Place)
+    → IsPlaceAt layout c p ks held d → has_begun_at d ≡ has_begun held
+place_begun layout c p ks None (Before at) is = refl
+place_begun layout c p ks None (At k claim) is = absurd is
+place_begun layout c p [] (Some xs) d is = absurd is
+place_begun layout c p (q ∷ qs) (Some xs) (Before at) is = absurd is
+place_begun layout c p (q ∷ qs) (Some xs) (At k claim) is = claim_begun claim.begun xs is.2.begun
 
 -- ---- a lane
 abbrev lane_of : List ℕ → Bool → List ℕ → LaneView
@@ -121,7 +115,7 @@ lane_same : (l m : LaneView) → l.put ≡ m.put → l.ended ≡ m.ended → l.l
 lane_same l m a b c =
     ap (λ x. lane_of x l.ended l.left) a ∙ (ap (λ x. lane_of m.put x l.left) b ∙ ap (λ x. lane_of m.put m.ended x) c)
 
--- a place in the grid of the diaries
+-- a position in the grid of the diaries
 grid_within : (n w c p : ℕ) → c < n → p < w → c * w + p < n * w
 grid_within n w c p cs ps =
     let most : suc c * w ≤ n * w = mul-le-mul_right w cs in
@@ -168,8 +162,8 @@ module _ (s : WorldState) (h : WorldHistory) (is : IsWorldAfter h s) (known : Wo
 
     -- ---- one consumer on one lane
     module _ (c p : ℕ) (cs : c < consumers_of plan) (ps : p < plan.lanes) where
-      abbrev at : IsSeatAfter s.setup c p h (is.seat c p cs ps).0
-      at = (is.seat c p cs ps).2
+      abbrev at : IsPlaceAfter s.setup c p h (is.place c p cs ps).0
+      at = (is.place c p cs ps).2
 
       abbrev here : IsOnPath plan c p h
       here = record { cells = at.cells; notes = at.notes; held = at.held; path = at.path }
@@ -199,11 +193,11 @@ module _ (s : WorldState) (h : WorldHistory) (is : IsWorldAfter h s) (known : Wo
       ended_here : (k : ℕ) (n : Note) → Has (linked p) k → Ends c k n → Has with_notes k
       ended_here k n has e =
           let gave = (sound.fit c cs).met k (end_some c k n cs e) in
-          let place = has_at at.cells k (no_other plan h is.lawful known c p k here gave has) in
-          let less : place.0 < length (reverse at.notes) =
-          ended_within plan h is.lawful known c p at.cells at.notes at.held at.path place.0 k n
-          (reverse_at at.cells place.0 k place.1) e in
-          closed_at at.cells at.held place.0 k place.1
+          let position = has_at at.cells k (no_other plan h is.lawful known c p k here gave has) in
+          let less : position.0 < length (reverse at.notes) =
+          ended_within plan h is.lawful known c p at.cells at.notes at.held at.path position.0 k n
+          (reverse_at at.cells position.0 k position.1) e in
+          closed_at at.cells at.held position.0 k position.1
           (omega (
             arith,
             less,
@@ -236,7 +230,7 @@ module _ (s : WorldState) (h : WorldHistory) (is : IsWorldAfter h s) (known : Wo
           (none_noted (note_on s c) (reverse late.0) (λ k has. none_late k (has_of_reverse late.0 k has)))
           ∙ append-nil (reverse at.notes))))
 
-      -- each note has the place of its cell
+      -- each note has the position of its cell
       note_along : (j : ℕ)
           → slice_get (filter_map (note_on s c) (reverse (linked p))) j
           ≡ note_by (note_on s c) (slice_get (reverse (linked p)) j)
@@ -250,8 +244,8 @@ module _ (s : WorldState) (h : WorldHistory) (is : IsWorldAfter h s) (known : Wo
 
       begun_here : begun_on s c p ≡ has_begun at.held
       begun_here =
-          ap (λ (o : Option Seat). option_map_or has_begun_on o false) (is.seat c p cs ps).1
-          ∙ seat_begun s.setup.layout c at.cells at.held (is.seat c p cs ps).0 at.is
+          ap (λ (o : Option Place). option_map_or has_begun_at o false) (is.place c p cs ps).1
+          ∙ place_begun s.setup.layout c p at.cells at.held (is.place c p cs ps).0 at.is
 
       told_notes : (d : DiaryView) → IsDiaryTold s c p d → d.notes ≡ filter_map (note_on s c) (reverse (linked p))
       told_notes d t = t.notes ∙ ap (filter_map (note_on s c)) (walk_is p t.cells t.ended t.walked)
@@ -266,8 +260,8 @@ module _ (s : WorldState) (h : WorldHistory) (is : IsWorldAfter h s) (known : Wo
             cells = own.cells;
             met = own.met;
             notes = λ j n e. own.notes j n (subst (λ (ms : List Note). slice_get ms j ≡ Some n) same e);
-            all = λ j k n place e.
-                subst (λ (ms : List Note). j < length ms) (sym same) (own.all j k n place e);
+            all = λ j k n at_j e.
+                subst (λ (ms : List Note). j < length ms) (sym same) (own.all j k n at_j e);
             begun = ((λ b. own.begun.0 (sym begun ∙ b)), (λ z. begun ∙ own.begun.1 z));
           }
 

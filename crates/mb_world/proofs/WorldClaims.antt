@@ -13,7 +13,7 @@ use Rattle.mb_world.specs.Worlds.{IsOnPath, IsWorldLawful}
 use Rattle.mb_world.proofs.Cells.{cell-of_true, once_start}
 use Rattle.mb_world.proofs.LaneParts.{Has-of_filter, claim_has, claim_on}
 use Rattle.mb_world.proofs.PathLoads.{met_more, path_met}
-use Rattle.mb_world.proofs.Places.{at_has, at_start, has_at}
+use Rattle.mb_world.proofs.Positions.{at_has, at_start, has_at}
 use Rattle.mb_world.proofs.ReaderParts.{of_part}
 use Rattle.mb_world.proofs.Tracks.{EndsIn, Tracks, track}
 use Rattle.mb_world.proofs.WorldKnown.{WorldKnown}

@@ -17,7 +17,7 @@ use Rattle.mb_world.proofs.LaneParts.{Has-filter}
 use Rattle.mb_world.proofs.Loads.{gave-gift}
 use Rattle.mb_world.proofs.PathDiaries.{begun_open, ends_at, gave-some, noted_within, open_begun}
 use Rattle.mb_world.proofs.PathLoads.{path_gave}
-use Rattle.mb_world.proofs.Places.{StandsAt, at_has, at_reverse, reverse_at}
+use Rattle.mb_world.proofs.Positions.{StandsAt, at_has, at_reverse, reverse_at}
 use Rattle.mb_world.proofs.Tracks.{EndsIn, Tracks, closed}
 use Rattle.mb_world.proofs.WorldClaims.{end_here, met_all, met_once, on_lane, steps_there, tracks}
 use Rattle.mb_world.proofs.WorldKnown.{WorldKnown}
@@ -96,10 +96,10 @@ module _ (plan : Plan) (h : WorldHistory) (lawful : IsWorldLawful plan h) (known
 
     pub ended_within : (j k : ℕ) (n : Note) → slice_get (reverse ks) j ≡ Some k → Ends k n → j < length (reverse ns)
     ended_within j k n at e =
-        let place = at_reverse ks j k at in
+        let position = at_reverse ks j k at in
         let less =
-        noted_within plan.claims c known.stage (lane_part c p h) ks ns held once_here tracks_here j k n place
-        (ends_locally k n (at_has ks j k place) e) in
+        noted_within plan.claims c known.stage (lane_part c p h) ks ns held once_here tracks_here j k n position
+        (ends_locally k n (at_has ks j k position) e) in
         omega (arith, less, length-reverse ns)
 
     begun_tells : (has_begun held ≡ true)

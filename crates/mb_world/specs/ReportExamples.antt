@@ -59,8 +59,8 @@ taken_on_both = two_lanes
 
 -- ---- reports with which none agrees
 -- the same diaries, lane by lane
-abbrev pub turned_places : ReportView
-turned_places = two_lanes
+abbrev pub turned_diaries : ReportView
+turned_diaries = two_lanes
     (diary_on 0 0 (Took 5 ∷ []) ∷ diary_on 1 0 (Lost 0 ∷ []) ∷ diary_on 0 1 (Took 6 ∷ []) ∷ diary_on 1 1 [] ∷ [])
 
 -- the item that was lost to consumer 2 was taken by consumer 0

@@ -1,4 +1,4 @@
--- The report of what was done to the words of a mailbox, place by place.
+-- The report of what was done to the words of a mailbox, position by position.
 use Rattle.std.specs.Prelude.{ℕ, zero, suc, ◌≡◌, ◌≢◌, ◌↔◌, ◌+◌, ◌*◌, ◌<◌, Bool, true, false, not, ◌||◌, Option, Some, None, List, [], map, reverse, length, slice_get}
 use Rattle.mb_world.specs.Imports.{Gave, Has, HasMet, History, Reader, has_ended, linked_cells, part, put_list}
 use Rattle.mb_world.specs.declared.report.Note.{Note}
@@ -64,7 +64,7 @@ pub record IsDiaryOf (plan : Plan) (c p : ℕ) (hs : Histories) (d : DiaryView) 
       × ((n : Note) → EndsAs plan.claims c k n (parts_of c hs) → ⊥))
 
 -- ---- the report
--- each lane and each diary is in its place, and there are no others
+-- each lane and each diary is at its position, and there are no others
 pub record IsReportOf (plan : Plan) (hs : Histories) (r : ReportView) : Type 0 where
   pub lanes_count : length r.lanes ≡ plan.lanes
   pub diaries_count : length r.diaries ≡ consumers_of plan * plan.lanes

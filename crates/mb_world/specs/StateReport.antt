@@ -1,13 +1,11 @@
--- What the state of a world says of its report, read off its words, its seats and its notes.
+-- What the state of a world says of its report, read off its words, its places and its notes.
 use Rattle.std.specs.Prelude.{ℕ, ◌≡◌, ◌+◌, ◌*◌, ◌<◌, Bool, false, not, Option, Some, None, List, length, map, filter, slice_get}
 use Rattle.std.specs.Option.{option_map_or}
 use Rattle.std.specs.List.{filter_map}
-use Rattle.mb_claim.specs.OneClaim.{is_begun}
 use Rattle.mb_cells.specs.State.{IsAfter, PoolState, item_in}
 use Rattle.mb_world.specs.declared.report.Note.{Note}
-use Rattle.mb_world.specs.declared.seat.Seat.{Seat}
-use Rattle.mb_world.specs.declared.seat.Seat.TheVariants as seat
 use Rattle.mb_world.specs.Imports.{Entry, History, has_ended, put_list}
+use Rattle.mb_world.specs.Places.{has_begun_at}
 use Rattle.mb_world.specs.Plan.{consumers_of}
 use Rattle.mb_world.specs.Report.{DiaryView, LaneView}
 use Rattle.mb_world.specs.Reporting.{any_below, is_took, values_put}
@@ -24,7 +22,7 @@ pub record IsWalk (s : PoolState) (p : ℕ) (ks : List ℕ) (over : Bool) (pool 
 abbrev pub IsWalked : PoolState → ℕ → List ℕ → Bool → Type 0
 IsWalked s p ks ended = (pool : History) → IsAfter pool s → IsWalk s p ks ended pool
 
--- the note at a place of the list, if there is one
+-- the note at a position of the list, if there is one
 abbrev pub note_there : Option (Option Note) → Option Note
 note_there None = None
 note_there (Some o) = o
@@ -37,15 +35,9 @@ note_on s c k = note_there (slice_get s.notes (c * (plan_in s.setup).claims.cell
 abbrev pub is_taken_on : WorldState → ℕ → Bool
 is_taken_on s k = any_below (consumers_of (plan_in s.setup)) (λ c. is_took (note_on s c k))
 
--- whether the consumer on this seat holds a claim that has an access
-abbrev pub has_begun_on : Seat → Bool
-has_begun_on seat.AtHead = false
-has_begun_on (seat.PastCell k) = false
-has_begun_on (seat.AtCell k claim) = is_begun claim
-
--- so it is for consumer c on lane p
+-- whether consumer c holds a claim on lane p that has an access
 abbrev pub begun_on : WorldState → ℕ → ℕ → Bool
-begun_on s c p = option_map_or has_begun_on (slice_get s.seats (c * (plan_in s.setup).lanes + p)) false
+begun_on s c p = option_map_or has_begun_at (slice_get s.places (c * (plan_in s.setup).lanes + p)) false
 
 -- the state says this of lane p
 pub record IsLaneTold (s : WorldState) (p : ℕ) (l : LaneView) : Type 0 where

@@ -6,7 +6,7 @@ ghost use Rattle.mb_world.specs.Report.{notes};
 ghost use Rattle.mb_world.specs.Assignment.{Assignment};
 ghost use Rattle.mb_world.specs.Agreement.{AgreesWith, AreAllTaken, IsLeftBesideBegun, IsSettled};
 ghost use Rattle.mb_world.specs.ReportExamples.{first_to, to_nobody, taken_and_lost, won_not_loaded, both_undecided};
-ghost use Rattle.mb_world.specs.ReportExamples.{nobody_came, taken_on_both, turned_places, lost_to_a_third};
+ghost use Rattle.mb_world.specs.ReportExamples.{nobody_came, taken_on_both, turned_diaries, lost_to_a_third};
 ghost use Rattle.mb_world.specs.ReportExamples.{left_out_of_order, left_omitted, left_and_taken};
 ghost use Rattle.mb_world.specs.ReportExamples.{two_takers, other_value, lost_to_itself, winner_stayed_away};
 ghost use Rattle.mb_world.specs.ReportExamples.{lost_to_each_other, begun_beyond, noted_beyond};
@@ -38,11 +38,13 @@ ghost use Rattle.mb_world.specs.declared.event.Event.TheVariants as event;
 ghost use Rattle.mb_cells.specs.declared.answer.Look.TheVariants as look;
 ghost use Rattle.mb_cells.specs.declared.answer.Offer.TheVariants as offer;
 ghost use Rattle.mb_cells.specs.declared.answer.Push.TheVariants as push;
+ghost use Rattle.mb_cells.specs.declared.cursor.Cursor.TheVariants.{Past};
 ghost use Rattle.std.specs.Prelude.{false, true};
 ghost use Rattle.mb_cells.specs.Vocabulary.{one_put as item_put, put_pool, taken_pool};
-ghost use Rattle.mb_world.specs.StateReport.{IsLaneTold, IsWalk, has_begun_on, note_there};
+ghost use Rattle.mb_world.specs.Places.{has_begun_at};
+ghost use Rattle.mb_world.specs.StateReport.{IsLaneTold, IsWalk, note_there};
 ghost use Rattle.mb_world.specs.WorldState.{WorldState};
-ghost use Rattle.mb_world.specs.declared.seat.Seat.TheVariants as seat;
+ghost use Rattle.mb_world.specs.declared.place.Place.TheVariants.{Before};
 
 use crate::laws::{
     agreeing_reports_are_settled, places_tell_diaries, replays_do_not_differ, worlds_are_sound,
@@ -99,7 +101,7 @@ pub fn reports_disagree()
     ensures away { (t : Assignment) → AgreesWith t winner_stayed_away → ⊥ }
     ensures each { (t : Assignment) → AgreesWith t lost_to_each_other → ⊥ }
     ensures third { (t : Assignment) → AgreesWith t lost_to_a_third → ⊥ }
-    ensures places { (t : Assignment) → AgreesWith t turned_places → ⊥ }
+    ensures turned { (t : Assignment) → AgreesWith t turned_diaries → ⊥ }
     ensures begun { (t : Assignment) → AgreesWith t begun_beyond → ⊥ }
     ensures beyond { (t : Assignment) → AgreesWith t noted_beyond → ⊥ }
 {}
@@ -354,10 +356,10 @@ pub fn states_tell_reports()
     ensures over { IsWalk put_pool 0 (0 ∷ []) true item_put → ⊥ }
     ensures not_there { IsWalk taken_pool 0 (0 ∷ []) false item_put → ⊥ }
 
-    // A note is read at its place, and there is none past the end of the list. No claim is begun if none is held.
+    // A note is read at its position, and there is none past the end of the list. No claim is begun if none is held.
     ensures noted { note_there (Some (Some (Lost 1))) ≡ Some (Lost 1) }
     ensures nowhere { note_there None ≡ None }
-    ensures not_held { has_begun_on (seat.PastCell 0) ≡ false }
+    ensures not_held { has_begun_at (Before (Past 0)) ≡ false }
 {
     pools_hold_what_was_done();
 }

@@ -2,7 +2,7 @@ use Rattle.std.proofs.Common.{◌≡◌, ◌∙◌, ap, length, map, rules, sym,
 use Rattle.mb_mailbox.specs.Worked.{lists_in}
 use Rattle.mb_world.specs.Plan.{size_of}
 use Rattle.mb_world.specs.Setups.{plan_in}
-use Rattle.mb_rounds.specs.Behind.{terms_of}
+use Rattle.mb_mailbox.specs.ReportedRuns.{terms_of}
 use Rattle.mb_rounds.proofs.Cutting.{count_lists}
 use Rattle.mb_rounds.proofs.Played.{count_sources, played}
 use Rattle.mb_rounds.proofs.play.play.Goals as goal

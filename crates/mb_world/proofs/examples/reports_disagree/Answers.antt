@@ -101,5 +101,5 @@ returns-clause-third c t agrees =
     by (Some d) e (inl f) = let g : Some 0 ≡ Some 2 = sym e ∙ f in cc
     by (Some d) e (inr f) = cc
 
-pub returns-clause-places : goal.returns-clause-places
-returns-clause-places c t agrees = (agrees.given.losses 0 0 1 0 refl).another refl
+pub returns-clause-turned : goal.returns-clause-turned
+returns-clause-turned c t agrees = (agrees.given.losses 0 0 1 0 refl).another refl

@@ -2,8 +2,8 @@ use Rattle.std.proofs.Common.{[], ◌≡◌, ◌∙◌, ◌+◌, ◌-◌, ◌≤
 use Rattle.std.specs.Prelude.{None, Some, slice_set}
 use Rattle.mb_cells.specs.declared.answer.Look.TheVariants as look
 use Rattle.mb_mailbox.specs.declared.consumer.Poll.TheVariants as poll
-use Rattle.mb_mailbox.specs.declared.place.Place.{Place}
-use Rattle.mb_mailbox.specs.declared.place.Place.TheVariants.{At, Before}
+use Rattle.mb_world.specs.declared.place.Place.{Place}
+use Rattle.mb_world.specs.declared.place.Place.TheVariants.{At, Before}
 use Rattle.mb_mailbox.specs.Imports.{END, IsAccessAfter, IsClaimIn, MayRead, PoolSize, ReaderSeatView, TableSize, load, word_of}
 use Rattle.mb_mailbox.specs.Consumers.{IsConsumer, IsConsumerOf}
 use Rattle.mb_mailbox.specs.Mailboxes.{MailboxView}

@@ -3,15 +3,15 @@ use Rattle.mb_claim.specs.declared.access.Stage.TheVariants as stage
 use Rattle.mb_claim.specs.declared.claim.Claim.{Claim}
 use Rattle.mb_claim.specs.declared.layout.Layout.{Layout}
 use Rattle.mb_claim.specs.OneClaim.{IsClaimOn, claim_access, claim_stage}
-use Rattle.mb_world.specs.declared.seat.Seat.TheVariants as seat
+use Rattle.mb_world.specs.declared.place.Place.TheVariants.{At}
 use Rattle.mb_world.specs.Plan.{consumers_of}
 use Rattle.mb_world.specs.Setups.{plan_in}
 use Rattle.mb_world.specs.World.{claim_accesses}
 use Rattle.mb_world.specs.WorldState.{IsWorldAfter, WorldState}
 use Rattle.mb_world.specs.Replay.{with_access}
-use Rattle.mb_world.specs.EventSteps.{HasSeat}
-use Rattle.mb_world.proofs.ClaimNotes.{noted, seat_read, unnoted}
-use Rattle.mb_world.proofs.NewWorlds.{place_within}
+use Rattle.mb_world.specs.EventSteps.{HasPlace}
+use Rattle.mb_world.proofs.ClaimNotes.{noted, place_read, unnoted}
+use Rattle.mb_world.proofs.NewWorlds.{position_within}
 use Rattle.mb_world.proofs.world.World.compete.Goals as goal
 use Rattle.mb_world.proofs.world.World.compete.Goals.{in-Some, in_default-end_note}
 
@@ -21,15 +21,15 @@ step-made-requires-clause-going g c =
       setup = c.self.inside.setup;
       pool = c.self.inside.pool;
       words = c.self.inside.words;
-      seats = c.self.inside.seats.items;
+      places = c.self.inside.places.items;
       notes = c.self.inside.notes.items;
     } in
-    let first = subst (λ (w : WorldState). HasSeat c.args.c c.args.p (seat.AtCell c.args.k c.requires.0) w)
+    let first = subst (λ (w : WorldState). HasPlace c.args.c c.args.p (At c.args.k c.requires.0) w)
     (sym c.self.view_is) c.requires.1 in
-    let claim = c.in-AtCell.claim in
-    let read = seat_read s c.args.c c.args.p c.args.k c.in-AtCell.cell c.producers.result c.requires.0 claim
-    c.index_mut.result.now first c.producers.ensures c.index_mut.ensures.value c.in-AtCell.is in
-    let has = subst (λ (x : Claim). HasSeat c.args.c c.args.p (seat.AtCell c.args.k x) s) (sym read.1) first in
+    let claim = c.in-At.claim in
+    let read = place_read s c.args.c c.args.p c.args.k c.in-At.cell c.producers.result c.requires.0 claim
+    c.index_mut.result.now first c.producers.ensures c.index_mut.ensures.value c.in-At.is in
+    let has = subst (λ (x : Claim). HasPlace c.args.c c.args.p (At c.args.k x) s) (sym read.1) first in
     let not_won = subst (λ (x : Claim). claim_stage x ≢ stage.Won) (sym read.1) c.requires.2 in
     c.claims_leave_states.ensures.going s c.self.invariant.0 c.args.c c.args.p c.args.k claim
     c.self.invariant.1 has not_won
@@ -40,15 +40,15 @@ step-made-requires-clause-cell g c =
       setup = c.self.inside.setup;
       pool = c.self.inside.pool;
       words = c.self.inside.words;
-      seats = c.self.inside.seats.items;
+      places = c.self.inside.places.items;
       notes = c.self.inside.notes.items;
     } in
-    let first = subst (λ (w : WorldState). HasSeat c.args.c c.args.p (seat.AtCell c.args.k c.requires.0) w)
+    let first = subst (λ (w : WorldState). HasPlace c.args.c c.args.p (At c.args.k c.requires.0) w)
     (sym c.self.view_is) c.requires.1 in
-    let claim = c.in-AtCell.claim in
-    let read = seat_read s c.args.c c.args.p c.args.k c.in-AtCell.cell c.producers.result c.requires.0 claim
-    c.index_mut.result.now first c.producers.ensures c.index_mut.ensures.value c.in-AtCell.is in
-    let has = subst (λ (x : Claim). HasSeat c.args.c c.args.p (seat.AtCell c.args.k x) s) (sym read.1) first in
+    let claim = c.in-At.claim in
+    let read = place_read s c.args.c c.args.p c.args.k c.in-At.cell c.producers.result c.requires.0 claim
+    c.index_mut.result.now first c.producers.ensures c.index_mut.ensures.value c.in-At.is in
+    let has = subst (λ (x : Claim). HasPlace c.args.c c.args.p (At c.args.k x) s) (sym read.1) first in
     let on = c.claims_leave_states.ensures.on s c.self.invariant.0 c.args.c c.args.p c.args.k claim
     c.self.invariant.1 has in
     omega (arith, on.cell, s.setup.small)
@@ -59,15 +59,15 @@ step-made-requires-clause-held g c =
       setup = c.self.inside.setup;
       pool = c.self.inside.pool;
       words = c.self.inside.words;
-      seats = c.self.inside.seats.items;
+      places = c.self.inside.places.items;
       notes = c.self.inside.notes.items;
     } in
-    let first = subst (λ (w : WorldState). HasSeat c.args.c c.args.p (seat.AtCell c.args.k c.requires.0) w)
+    let first = subst (λ (w : WorldState). HasPlace c.args.c c.args.p (At c.args.k c.requires.0) w)
     (sym c.self.view_is) c.requires.1 in
-    let claim = c.in-AtCell.claim in
-    let read = seat_read s c.args.c c.args.p c.args.k c.in-AtCell.cell c.producers.result c.requires.0 claim
-    c.index_mut.result.now first c.producers.ensures c.index_mut.ensures.value c.in-AtCell.is in
-    let has = subst (λ (x : Claim). HasSeat c.args.c c.args.p (seat.AtCell c.args.k x) s) (sym read.1) first in
+    let claim = c.in-At.claim in
+    let read = place_read s c.args.c c.args.p c.args.k c.in-At.cell c.producers.result c.requires.0 claim
+    c.index_mut.result.now first c.producers.ensures c.index_mut.ensures.value c.in-At.is in
+    let has = subst (λ (x : Claim). HasPlace c.args.c c.args.p (At c.args.k x) s) (sym read.1) first in
     let h = c.self.invariant.0 in
     let on = c.claims_leave_states.ensures.on s h c.args.c c.args.p c.args.k claim c.self.invariant.1 has in (
       (plan_in s.setup).claims.cells,
@@ -82,18 +82,18 @@ index_mut-requires-in-Some-2 g c =
       setup = c.self.inside.setup;
       pool = c.self.inside.pool;
       words = c.self.inside.words;
-      seats = c.self.inside.seats.items;
+      places = c.self.inside.places.items;
       notes = c.self.inside.notes.items;
     } in
-    let first = subst (λ (w : WorldState). HasSeat c.args.c c.args.p (seat.AtCell c.args.k c.requires.0) w)
+    let first = subst (λ (w : WorldState). HasPlace c.args.c c.args.p (At c.args.k c.requires.0) w)
     (sym c.self.view_is) c.requires.1 in
-    let claim = c.in-AtCell.claim in
-    let read = seat_read s c.args.c c.args.p c.args.k c.in-AtCell.cell c.producers.result c.requires.0 claim
-    c.index_mut.result.now first c.producers.ensures c.index_mut.ensures.value c.in-AtCell.is in
-    let has = subst (λ (x : Claim). HasSeat c.args.c c.args.p (seat.AtCell c.args.k x) s) (sym read.1) first in
+    let claim = c.in-At.claim in
+    let read = place_read s c.args.c c.args.p c.args.k c.in-At.cell c.producers.result c.requires.0 claim
+    c.index_mut.result.now first c.producers.ensures c.index_mut.ensures.value c.in-At.is in
+    let has = subst (λ (x : Claim). HasPlace c.args.c c.args.p (At c.args.k x) s) (sym read.1) first in
     let is = c.self.invariant.1 in
     let on = c.claims_leave_states.ensures.on s c.self.invariant.0 c.args.c c.args.p c.args.k claim is has in
-    let inside = place_within c.args.c c.args.k (consumers_of (plan_in s.setup)) (plan_in s.setup).claims.cells
+    let inside = position_within c.args.c c.args.k (consumers_of (plan_in s.setup)) (plan_in s.setup).claims.cells
     has.consumer on.cell in
     rw (c.cells.ensures) (omega (arith, inside, is.notes_count, c.self.inside.notes.ok.0))
 
@@ -103,15 +103,15 @@ invariant_of-self g c =
       setup = c.self.inside.setup;
       pool = c.self.inside.pool;
       words = c.self.inside.words;
-      seats = c.self.inside.seats.items;
+      places = c.self.inside.places.items;
       notes = c.self.inside.notes.items;
     } in
-    let first = subst (λ (w : WorldState). HasSeat c.args.c c.args.p (seat.AtCell c.args.k c.requires.0) w)
+    let first = subst (λ (w : WorldState). HasPlace c.args.c c.args.p (At c.args.k c.requires.0) w)
     (sym c.self.view_is) c.requires.1 in
-    let claim = c.in-AtCell.claim in
-    let read = seat_read s c.args.c c.args.p c.args.k c.in-AtCell.cell c.producers.result c.requires.0 claim
-    c.index_mut.result.now first c.producers.ensures c.index_mut.ensures.value c.in-AtCell.is in
-    let has = subst (λ (x : Claim). HasSeat c.args.c c.args.p (seat.AtCell c.args.k x) s) (sym read.1) first in
+    let claim = c.in-At.claim in
+    let read = place_read s c.args.c c.args.p c.args.k c.in-At.cell c.producers.result c.requires.0 claim
+    c.index_mut.result.now first c.producers.ensures c.index_mut.ensures.value c.in-At.is in
+    let has = subst (λ (x : Claim). HasPlace c.args.c c.args.p (At c.args.k x) s) (sym read.1) first in
     let h = c.self.invariant.0 in
     let is = c.self.invariant.1 in
     let not_won = subst (λ (x : Claim). claim_stage x ≢ stage.Won) (sym read.1) c.requires.2 in
@@ -128,7 +128,7 @@ invariant_of-self g c =
     c.step-made.new.claim c.step-made.new.self c.step-made.result.step is has going made.consumer made.word now in
     let then = noted s h c.args.c c.args.p c.args.word c.args.k c.step-made.result.step.object
     c.step-made.result.step.turn.act c.step-made.new.claim c.step-made.new.self c.step-made.result.stage made.stage
-    c.in-AtCell.cell c.producers.result c.cells.result read.0 c.producers.ensures c.cells.ensures adds
+    c.in-At.cell c.producers.result c.cells.result read.0 c.producers.ensures c.cells.ensures adds
     c.end_note.result c.in-Some.note c.end_note.ensures c.in-Some.is in
     (with_access then.access h, then.left)
 
@@ -138,15 +138,15 @@ invariant_of-self-in_default-end_note g c =
       setup = c.self.inside.setup;
       pool = c.self.inside.pool;
       words = c.self.inside.words;
-      seats = c.self.inside.seats.items;
+      places = c.self.inside.places.items;
       notes = c.self.inside.notes.items;
     } in
-    let first = subst (λ (w : WorldState). HasSeat c.args.c c.args.p (seat.AtCell c.args.k c.requires.0) w)
+    let first = subst (λ (w : WorldState). HasPlace c.args.c c.args.p (At c.args.k c.requires.0) w)
     (sym c.self.view_is) c.requires.1 in
-    let claim = c.in-AtCell.claim in
-    let read = seat_read s c.args.c c.args.p c.args.k c.in-AtCell.cell c.producers.result c.requires.0 claim
-    c.index_mut.result.now first c.producers.ensures c.index_mut.ensures.value c.in-AtCell.is in
-    let has = subst (λ (x : Claim). HasSeat c.args.c c.args.p (seat.AtCell c.args.k x) s) (sym read.1) first in
+    let claim = c.in-At.claim in
+    let read = place_read s c.args.c c.args.p c.args.k c.in-At.cell c.producers.result c.requires.0 claim
+    c.index_mut.result.now first c.producers.ensures c.index_mut.ensures.value c.in-At.is in
+    let has = subst (λ (x : Claim). HasPlace c.args.c c.args.p (At c.args.k x) s) (sym read.1) first in
     let h = c.self.invariant.0 in
     let is = c.self.invariant.1 in
     let not_won = subst (λ (x : Claim). claim_stage x ≢ stage.Won) (sym read.1) c.requires.2 in
@@ -163,7 +163,7 @@ invariant_of-self-in_default-end_note g c =
     c.step-made.new.claim c.step-made.new.self c.step-made.result.step is has going made.consumer made.word now in
     let then = unnoted s h c.args.c c.args.p c.args.word c.args.k c.step-made.result.step.object
     c.step-made.result.step.turn.act c.step-made.new.claim c.step-made.new.self c.step-made.result.stage made.stage
-    c.in-AtCell.cell c.producers.result cells read.0 c.producers.ensures refl adds
+    c.in-At.cell c.producers.result cells read.0 c.producers.ensures refl adds
     c.end_note.result c.end_note.ensures c.in_default-end_note.not-Some in
     (with_access then.access h, then.left)
 
@@ -173,15 +173,15 @@ returns-clause-adds g c h was =
       setup = c.self.inside.setup;
       pool = c.self.inside.pool;
       words = c.self.inside.words;
-      seats = c.self.inside.seats.items;
+      places = c.self.inside.places.items;
       notes = c.self.inside.notes.items;
     } in
-    let first = subst (λ (w : WorldState). HasSeat c.args.c c.args.p (seat.AtCell c.args.k c.requires.0) w)
+    let first = subst (λ (w : WorldState). HasPlace c.args.c c.args.p (At c.args.k c.requires.0) w)
     (sym c.self.view_is) c.requires.1 in
-    let claim = c.in-AtCell.claim in
-    let read = seat_read s c.args.c c.args.p c.args.k c.in-AtCell.cell c.producers.result c.requires.0 claim
-    c.index_mut.result.now first c.producers.ensures c.index_mut.ensures.value c.in-AtCell.is in
-    let has = subst (λ (x : Claim). HasSeat c.args.c c.args.p (seat.AtCell c.args.k x) s) (sym read.1) first in
+    let claim = c.in-At.claim in
+    let read = place_read s c.args.c c.args.p c.args.k c.in-At.cell c.producers.result c.requires.0 claim
+    c.index_mut.result.now first c.producers.ensures c.index_mut.ensures.value c.in-At.is in
+    let has = subst (λ (x : Claim). HasPlace c.args.c c.args.p (At c.args.k x) s) (sym read.1) first in
     let is = subst (λ (w : WorldState). IsWorldAfter h w) (sym c.self.view_is) was in
     let not_won = subst (λ (x : Claim). claim_stage x ≢ stage.Won) (sym read.1) c.requires.2 in
     let going = c.claims_leave_states.ensures.going s h c.args.c c.args.p c.args.k claim is has not_won in
@@ -199,12 +199,12 @@ returns-clause-adds g c h was =
       | in-Some w ↦ rw (w.self-is) (noted s h c.args.c c.args.p c.args.word c.args.k c.step-made.result.step.object
           c.step-made.result.step.turn.act c.step-made.new.claim c.step-made.new.self
           c.step-made.result.stage made.stage
-          c.in-AtCell.cell c.producers.result w.cells.result read.0 c.producers.ensures w.cells.ensures adds
+          c.in-At.cell c.producers.result w.cells.result read.0 c.producers.ensures w.cells.ensures adds
           c.end_note.result w.in-Some.note c.end_note.ensures w.in-Some.is)
       | in_default-end_note w ↦ rw (w.self-is)
           (unnoted s h c.args.c c.args.p c.args.word c.args.k c.step-made.result.step.object
           c.step-made.result.step.turn.act c.step-made.new.claim c.step-made.new.self
           c.step-made.result.stage made.stage
-          c.in-AtCell.cell c.producers.result cells read.0 c.producers.ensures refl adds
+          c.in-At.cell c.producers.result cells read.0 c.producers.ensures refl adds
           c.end_note.result c.end_note.ensures w.in_default-end_note.not-Some)
     ]

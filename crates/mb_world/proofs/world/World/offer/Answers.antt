@@ -15,7 +15,7 @@ invariant_of-self g c =
       setup = c.self.inside.setup;
       pool = c.self.inside.pool;
       words = c.self.inside.words;
-      seats = c.self.inside.seats.items;
+      places = c.self.inside.places.items;
       notes = c.self.inside.notes.items;
     } in
     let lt : c.args.p < (plan_in s.setup).lanes =
@@ -31,7 +31,7 @@ returns-clause-adds g c h is =
       setup = c.self.inside.setup;
       pool = c.self.inside.pool;
       words = c.self.inside.words;
-      seats = c.self.inside.seats.items;
+      places = c.self.inside.places.items;
       notes = c.self.inside.notes.items;
     } in
     let lt : c.args.p < (plan_in s.setup).lanes =
@@ -45,7 +45,7 @@ returns-clause-kept g c h is refused =
       setup = c.self.inside.setup;
       pool = c.self.inside.pool;
       words = c.self.inside.words;
-      seats = c.self.inside.seats.items;
+      places = c.self.inside.places.items;
       notes = c.self.inside.notes.items;
     } in
     let lt : c.args.p < (plan_in s.setup).lanes =

@@ -8,4 +8,4 @@ returns c s h d p word k claim is has won =
     c.cells_stand_once.ensures.lane c.cells_stand_once.ensures.once c.cells_stand_once.ensures.within
     c.readers_follow_lanes.ensures.met c.loads_leave_pools.ensures c.worlds_are_sound.ensures.sound
     c.history_extends.ensures.consumer s h is d p has.consumer has.lane in
-    took s h is d p has.consumer has.lane known k claim has.seat won word
+    took s h is d p has.consumer has.lane known k claim has.place won word

@@ -1,4 +1,4 @@
--- What stands at a place of a report: its diaries, notes and lanes, and nothing outside of them.
+-- What stands at a position of a report: its diaries, notes and lanes, and nothing outside of them.
 use Rattle.std.proofs.Common.{◌≡◌, ◌⊎◌, ℕ, ◌+◌, ◌*◌, ◌<◌, ◌≤◌, Bool, true, false, cond, List, [], length}
 use Rattle.std.proofs.Common.{Option, Some, None, refl, ap, subst, inl, inr, arith}
 use Rattle.std.specs.Prelude.{slice_get, nat_lt}

@@ -1,4 +1,4 @@
--- The run of a round's mailbox: its terms, the workers there, and what they left.
+-- The run of workers that a report tells of: its terms, the workers, and what they left.
 use Rattle.std.specs.Prelude.{ℕ, ◌≡◌, List, length}
 use Rattle.mb_mailbox.specs.Imports.{Stream, consumer_count}
 use Rattle.mb_mailbox.specs.Called.{IsCalled}
@@ -13,7 +13,7 @@ use Rattle.mb_world.specs.Report.{ReportView}
 use Rattle.mb_world.specs.Setups.{plan_in}
 use Rattle.mb_world.specs.declared.setup.Setup.{Setup}
 
--- the terms of a round: the plan of its mailbox, the most accesses of one poll, and each consumer's random words
+-- its terms: the plan of its mailbox, the most accesses of one poll, and each consumer's random words
 pub record Terms : Type 0 where
   pub plan : Plan
   pub budget : ℕ
@@ -24,8 +24,8 @@ terms_of setup budget sources = record { plan = plan_in setup; budget = budget; 
 
 -- in a mailbox of this plan, workers led from a hub that had issued nothing to this hub: a producer for each list, and
 -- a consumer for each source
-pub record IsRunBehind (may_stop may_pass : Who → ℕ → Type 0) (terms : Terms) (lists : List (List ℕ)) (hs : Histories)
-    (r : ReportView) : Type 0 where
+pub record IsReportedRun (may_stop may_pass : Who → ℕ → Type 0) (terms : Terms) (lists : List (List ℕ))
+    (hs : Histories) (r : ReportView) : Type 0 where
   pub mailbox : MailboxView
   pub plan : plan_at mailbox ≡ terms.plan
   pub size : mailbox.cells.size ≡ size_of terms.plan
