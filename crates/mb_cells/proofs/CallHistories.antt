@@ -74,7 +74,7 @@ stages_after cells calls h a p now z t who next is q lane at =
           rw not_own (stage_other cells calls h a p q lane t who other at)
     ]
 
--- a call without an access leaves all stages, where its answer leaves that of its lane
+-- a call without an access leaves all stages, if its answer leaves that of its lane
 stages_kept : (cells : ℕ) (calls : List Call) (h : History) (p : ℕ) (f : LaneStage → LaneStage)
     → f (stage_by p calls) ≡ stage_by p calls → Tells cells calls h
     → (q : ℕ) (lane : Lane) → IsLaneAfter cells q lane (part (Producer q) h)

@@ -154,7 +154,7 @@ chained size p h es phase l at =
     ∙ ap (λ x. value_in w x) at.is)
     (chained_at p es phase f)
 
--- and the word behind it holds 0 or the end mark
+-- and the word past it holds 0 or the end mark
 pub next_is : (size : PoolSize) (p : ℕ) (h : History) (es : List Entry) (phase : Phase) → IsPoolLawful size h
     → LaneIsAt size.cells p es phase (part (Producer p) h) → value_in (place_after p es) h ≡ end_value phase
 next_is size p h es phase l at =
@@ -220,7 +220,7 @@ pub cells_at : (size : PoolSize) (p : ℕ) (h : History) (es : List Entry) (phas
 cells_at size p h es phase c at =
     linked_cells-part p h ∙ ap (linked_cells p) at.is ∙ linked_cells-part_at p size.cells es phase c at.below
 
--- the cell that follows a start of a chain: the word behind the start holds it
+-- the cell that follows a start of a chain: the word past the start holds it
 pub record IsFollowed (m : Word → ℕ) (p cells : ℕ) (es : List Entry) (ks : List ℕ) : Type 0 where
   pub cell : ℕ
   pub below : cell < cells
@@ -310,17 +310,17 @@ stays size (a ∷ h) r w v l link (inr has) some =
       | inr other ↦ value_in-other a h w other ∙ before
     ]
 
--- the place behind cells is a head or link
+-- the place past cells is a head or link
 pub link-place : (p : ℕ) (ks : List ℕ) → IsLinkWord (place_past p ks)
 link-place p [] = tt
 link-place p (k ∷ ks) = tt
 
--- a list with nothing behind it is itself
+-- a list with nothing past it is itself
 append-nil : (ks : List ℕ) → ks ++ [] ≡ ks
 append-nil [] = refl
 append-nil (k ∷ ks) = ap (λ l. k ∷ l) (append-nil ks)
 
--- the word behind the last cell holds 0 or the end mark
+-- the word past the last cell holds 0 or the end mark
 end-or-zero : (phase : Phase) → (end_value phase ≡ 0) ⊎ (end_value phase ≡ END)
 end-or-zero Open = inl refl
 end-or-zero (Offered _) = inl refl

@@ -38,7 +38,7 @@ pub lane_prefix : (cells p : ℕ) (lane : Lane) (done : History) → IsLaneAfter
     → IsLanePrefix cells p done
 lane_prefix cells p lane done x = prefix_at cells p x.entries x.phase done x.at
 
--- the last link or the head is the place behind the entries
+-- the last link or the head is the place past the entries
 link_place : (p : ℕ) (es : List Entry) → link_after p (last_of es) ≡ place_after p es
 link_place p [] = refl
 link_place p (e ∷ es) = refl

@@ -329,7 +329,7 @@ empty_sound n m heads links items lanes few small hs ks is ls =
       history = ([], empty_after n m heads links items lanes few small hs ks is ls);
     }
 
--- a pool is sound after a store and a new place of one lane, where some history leaves it
+-- a pool is sound after a store and a new place of one lane, if some history leaves it
 pub sound_after : (s : PoolState) (w : Word) (v p : ℕ) (lane : Lane) → PoolIsSound s
     → (h : History) × IsAfter h (record { words = words_with w v s.words; lanes = slice_set s.lanes p lane })
     → PoolIsSound (record { words = words_with w v s.words; lanes = slice_set s.lanes p lane })

@@ -35,7 +35,7 @@ path-older lanes test a d path =
     (λ l. IsReaderPath lanes l → IsReaderPath lanes (filter test d))
     (λ _ x. x.2) (λ _ x. x) path
 
--- where each access is in some part, and each part is a reader path, so is the whole
+-- if each access is in some part, and each part is a reader path, so is the whole
 pub path_of_parts : (lanes : ℕ) (test : ℕ → PoolAccess → Bool) (d : History)
     → ((a : PoolAccess) → Has d a → (p : ℕ) × (test p a ≡ true))
     → ((p : ℕ) → IsReaderPath lanes (filter (test p) d)) → IsReaderPath lanes d
@@ -49,7 +49,7 @@ path_of_parts lanes test (a ∷ d) all paths =
     let before = path_of_parts lanes test d (λ b has. all b (inr has)) (λ p. path-older lanes (test p) a d (paths p)) in
     (here.0, MayRead-filter lanes (test own.0) d a.word here.1, before)
 
--- the test for a cell is true where the cell is in the list, and there alone
+-- the test for a cell is true if the cell is in the list, and there alone
 has_cell-true : (ks : List ℕ) (k : ℕ) → Has ks k → has_cell ks k ≡ true
 has_cell-true [] k has = absurd has
 has_cell-true (j ∷ js) k (inl is) = let same : nat_eq j k ≡ true = eq-eqb j k is in rw same refl
@@ -235,7 +235,7 @@ has_behind : (xs js : List ℕ) (k : ℕ) → Has (xs ++ k ∷ js) k
 has_behind [] js k = inl refl
 has_behind (y ∷ xs) js k = inr (has_behind xs js k)
 
--- where a list has a cell once, what stands behind it is one list
+-- if a list has a cell once, what stands past it is one list
 one_rest : (later other ks js : List ℕ) (k : ℕ) → IsOnceEach (later ++ k ∷ ks) → later ++ k ∷ ks ≡ other ++ k ∷ js
     → ks ≡ js
 one_rest [] [] ks js k once is = tail_is ks js k is

@@ -138,7 +138,7 @@ claim_ended t kinds claim x xs known ended begun prefix =
 pub stage_for-own : (c u : ℕ) → u ≡ c → stage_for c u ≡ Won
 stage_for-own c u e = ap (λ b. cond b Won (Lost u)) (eq-eqb c u (sym e))
 
--- and of one where another was
+-- and of one if another was
 pub stage_for-other : (c u : ℕ) → u ≢ c → stage_for c u ≡ Lost u
 stage_for-other c u ne = ap (λ b. cond b Won (Lost u)) (ne_eqb c u (λ e. ne (sym e)))
 

@@ -25,7 +25,7 @@ first_turns =
     record { act = Load Value 1; word = 0 } ∷ record { act = Store Value 1; word = 0 }
     ∷ record { act = Load Value 0; word = 0 } ∷ []
 
--- behind a whole path of object 0 there would be a turn
+-- after a whole path of object 0 there would be a turn
 pub not_again : OfKind (unary_table 2) (Conciliator 2) → IsClaimLawful two_consumers begun_again → ⊥
 not_again law bad =
     let xs : List ObjectTurn = part_on 0 0 begun_again in
@@ -37,7 +37,7 @@ not_again law bad =
     (answer false 0) conciliated refl here)
 
 -- ---- on the second object
--- where a part has passed its first object, its turns on the second are a prefix of a path there
+-- if a part has passed its first object, its turns on the second are a prefix of a path there
 second_here :
     (t : QuorumTable) (c : ℕ) (k j : Kind) (ks : List Kind) (o v : ℕ) (xs : List ObjectTurn) (s : Stage)
     → OfKind t k → v < t.values
@@ -51,7 +51,7 @@ second_here t c k j ks o v xs s law l p u later x none =
     subst₂ (λ w zs. Member t c (j ∷ ks) (suc o) w zs first.stage) same.0 same.1 first.member in
     (forward t c j ks (suc o) u later first.stage member).here
 
--- consumer 0 goes on after it has won: behind a whole path of object 1 there would be a turn
+-- consumer 0 goes on after it has won: after a whole path of object 1 there would be a turn
 pub not_after_winning :
     OfKind (unary_table 2) (Conciliator 2) → OfKind (unary_table 2) Ratifier
     → IsClaimLawful two_consumers after_winning → ⊥

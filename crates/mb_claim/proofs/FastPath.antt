@@ -1,4 +1,4 @@
--- Two leading ratifiers: where the first has decided, nobody comes behind the second.
+-- Two leading ratifiers: if the first has decided, nobody comes after the second.
 use Rattle.std.proofs.lemmas.Bool.{cases_eq}
 use Rattle.std.proofs.lemmas.List.Elements.{filter_map-append}
 use Rattle.std.proofs.Common.{subst, inl, inr, ◌++◌, ◌≡◌, ◌≢◌, ◌≤◌, ℕ, true, false, List, [], ◌∷◌, sym, ◌∙◌, ap, ⊎_elim}
@@ -23,7 +23,7 @@ module _ (t : QuorumTable) (ks : List Kind) (hs : ℕ → List Access) (law : Ar
   abbrev second : Family t (Ratifier ∷ ks) 1 hs (λ a. a ≡ u)
   second = next_decided t Ratifier (Ratifier ∷ ks) 0 hs P fam (law Ratifier) c u p
 
-  -- those who would come behind it
+  -- those who would come after it
   abbrev third : Family t ks 2 hs (λ a. a ≡ u)
   third = next t Ratifier ks 1 hs (λ a. a ≡ u) second (law Ratifier)
 
@@ -65,7 +65,7 @@ module _ (t : QuorumTable) (law : AreDeciding t) (ratifying : AreRatifying t) (k
   abbrev firsts : List ClaimAccess → List Turn
   firsts h = part c (object_history k 0 h)
 
-  -- where only consumer c has come, the first ratifier does not leave it undecided
+  -- if only consumer c has come, the first ratifier does not leave it undecided
   not_passed :
       (h : List ClaimAccess) → IsClaimLawful (claims_of t kinds cells) h → ((d : ℕ) → d ≢ c → part_on d k h ≡ [])
       → (u : ℕ)
@@ -115,7 +115,7 @@ module _ (t : QuorumTable) (law : AreDeciding t) (ratifying : AreRatifying t) (k
       (sym (part-object_history c k 0 (later ++ h)) ∙ joined) here in
       joined ∙ append_nil_left (firsts later) (firsts h) none
 
-  -- where consumer c has ended its claim before any other came, nobody comes behind the second ratifier
+  -- if consumer c has ended its claim before any other came, nobody comes after the second ratifier
   pub none_behind_alone :
       (later h : List ClaimAccess) (s : Stage) → IsClaimLawful (claims_of t kinds cells) (later ++ h)
       → ((d : ℕ) → d ≢ c → part_on d k h ≡ [])

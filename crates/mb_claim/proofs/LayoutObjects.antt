@@ -170,7 +170,7 @@ cell_small layout =
     let few = objects_few layout.shape (spread (quorums_of layout).values) layout.pairs layout.few in
     omega (arith, row_words-few r kinds, mul-le (length kinds) (1 + r) MAX_OBJECTS 65 few (omega (arith, quorum.limit)))
 
--- where two rows have the same object, either tells it
+-- if two rows have the same object, either tells it
 pub told_by_row :
     (xs ys : List Kind) (o : ℕ) (d : Kind) → o < length xs → slice_get xs o ≡ slice_get ys o
     → slice_get xs o ≡ Some (get_or ys o d)

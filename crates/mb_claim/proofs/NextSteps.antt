@@ -19,7 +19,7 @@ record IsHere (t : QuorumTable) (kind : Kind) (o v : ℕ) (x : ObjectTurn) (xs :
   pub all : xs ≡ turns_on o turns
   pub prefix : IsPrefix t kind v (turn ∷ turns)
 
--- or it comes behind object o, which was passed
+-- or it comes after object o, which was passed
 record IsBehind
     (t : QuorumTable) (c : ℕ) (kind : Kind) (kinds : List Kind) (o v : ℕ) (x : ObjectTurn) (xs : List ObjectTurn)
     (s : Stage) : Type 0 where
@@ -66,7 +66,7 @@ where_is t c kind kinds o v x xs s (inr (inr (u, z ∷ later, y, p))) =
           (sym (heads x z xs (later ++ turns_on o y.turns) y.all)) p;
     })
 
--- behind an object nothing is on it
+-- after an object nothing is on it
 behind_turns :
     (t : QuorumTable) (c : ℕ) (kind : Kind) (kinds : List Kind) (o v : ℕ) (x : ObjectTurn) (xs : List ObjectTurn)
     (s : Stage)

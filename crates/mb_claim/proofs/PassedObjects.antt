@@ -33,7 +33,7 @@ module _ (t : QuorumTable) (c : ℕ) (k : Kind) (ks : List Kind) (o v : ℕ) (xs
       sym (ap (turns_at o) x.all ∙ turns_at-append o later (turns_on o x.turns)
       ∙ append_nil_left (turns_at o later) (turns_at o (turns_on o x.turns)) none ∙ turns_at-turns_on o x.turns)
 
-  -- what is behind it is what `forward` finds
+  -- what is after it is what `forward` finds
   pub forward_passes :
       (m : Member t c (k ∷ ks) o v xs s)
       → ((forward t c k ks o v xs s m).value ≡ u) × ((forward t c k ks o v xs s m).rest ≡ later)

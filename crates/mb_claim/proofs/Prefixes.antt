@@ -23,7 +23,7 @@ some_path t Ratifier v =
 some_path t LastObject v =
     (record { act = Exchange Last (v + 1) 0; word = 0 } ∷ [], true, v, (refl, inl (refl, refl)))
 
--- a whole path of an object leads to a whole path of it and the objects behind it, where these have one of each input
+-- a whole path of an object leads to a whole path of it and the objects after it, if these have one of each input
 path_on :
     (t : QuorumTable) (kind : Kind) (kinds : List Kind) (o v : ℕ)
     → ((u : ℕ) → (xs : List ObjectTurn) × (output : Out) × IsClaimPath t kinds (suc o) u xs output)

@@ -16,7 +16,7 @@ use Rattle.mb_claim.proofs.Turns.{reads_seen}
 use Rattle.mb_claim.proofs.CellFamily.{competes, family}
 use Rattle.mb_claim.proofs.PassedObjects.{Here, family_at}
 
--- a part of the objects behind those passed
+-- a part of the objects after those passed
 pub passed_then :
     (t : QuorumTable) (c : ℕ) (before after : List Kind) (o v w : ℕ) (front ys : List ObjectTurn) (s : Stage)
     → PassesAll t before o v front w → IsClaimPrefixFrom t c after (o + length before) w ys s
@@ -38,7 +38,7 @@ passed_then t c (k ∷ ks) after o v w front ys s (u, rest, x, p) q =
 
 module _ (t : QuorumTable) (kinds : List Kind) (c object : ℕ) (pc : Pc) (xs : List ObjectTurn)
     (p : StandsAt t kinds c object pc xs) where
-  -- a part from the claim's object on, behind those passed
+  -- a part from the claim's object on, after those passed
   from_here : (ys : List ObjectTurn) (s : Stage) → IsClaimPrefixFrom t c (p.kind ∷ p.after) object p.input ys s
       → IsClaimPrefixFrom t c kinds 0 c (ys ++ p.front) s
   from_here ys s q =
@@ -68,7 +68,7 @@ module _ (t : QuorumTable) (kinds : List Kind) (c object : ℕ) (pc : Pc) (xs : 
         then_here (stage_for c u)
         (inr (inl (record { turns = x ∷ p.turns; value = u; all = refl; path = path; is = refl })))
 
-    -- it does not decide: what belongs to the objects behind it follows
+    -- it does not decide: what belongs to the objects after it follows
     undecided_then :
         (u : ℕ) (s : Stage) → IsPath t p.kind p.input (x ∷ p.turns) (answer false u)
         → IsClaimPrefixFrom t c p.after (suc object) u [] s → IsClaimPrefixFrom t c kinds 0 c longer s
@@ -102,7 +102,7 @@ module _ (t : QuorumTable) (kinds : List Kind) (c object : ℕ) (pc : Pc) (xs : 
     ended law [] e false u path l = (Undecided, undecided_here u path e)
     ended law (k ∷ ks) e false u path l = (Going, passed_here law k ks e u path l)
 
-    -- where a turn goes on with the object's path, the claim's part goes on with it
+    -- if a turn goes on with the object's path, the claim's part goes on with it
     pub goes_on :
         AreDeciding t
         → ((u : ℕ) (d : Bool) → IsPath t p.kind p.input (x ∷ p.turns) (answer d u) → u < t.values)
@@ -157,7 +157,7 @@ module _ (t : QuorumTable) (law : AreDeciding t) (stepping : AreStepping t) (kin
       stepping.longer kind at.inputs (hs o) c (turn_after op word (hs o)) at.lawful at.within small
       (reads_seen op (hs o)) own_step
 
-  -- and where the turn ends the path, the output is a value of the table
+  -- and if the turn ends the path, the output is a value of the table
   pub output_below :
       (u : ℕ) (d : Bool) → IsPath t kind w (turn_after op word (hs o) ∷ turns) (answer d u) → u < t.values
   output_below u d path =

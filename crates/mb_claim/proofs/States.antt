@@ -47,7 +47,7 @@ module _
       })
       (same_act op found (object_history k object h) seen)
 
-  -- where that may follow, the access adds to the history
+  -- if that may follow, the access adds to the history
   pub access_adds : MayFollow cs (access_after c k object op word h) h → Adds cs access h
   access_adds may = adds cs h access memory.lawful (subst (λ a. MayFollow cs a h) same_access may)
 
@@ -112,7 +112,7 @@ memory_empty cs words room zeros =
       left = λ k o reg cell place. zeros (address_in cs k o reg);
     }
 
--- a word behind those of the cells is none of the claims'
+-- a word after those of the cells is none of the claims'
 pub memory_beyond :
     (cs : Claims) (at n : ℕ) (words : List ℕ) (h : List ClaimAccess) → words_in cs ≤ at → IsMemoryOf cs words h
     → IsMemoryOf cs (slice_set words at n) h

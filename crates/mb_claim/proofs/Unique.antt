@@ -83,7 +83,7 @@ one_stage_lem t law c (k ∷ ks) o v xs s r (inr (inr (u, front, x, p))) (inr (i
     one_stage_lem t law c ks (suc o) w rest s r (subst₂ (λ n zs. IsClaimPrefixFrom t c ks
     (suc o) n zs s) values rests p) q
 
--- an object is used once: behind a whole path there is no turn
+-- an object is used once: after a whole path there is no turn
 pub used_once :
     (t : QuorumTable) (k : Kind) (law : OfKind t k) (v : ℕ) (later turns all : List Turn) (out : Out)
     → IsPath t k v turns out → all ≡ later ++ turns → (all ≡ []) ⊎ IsPrefix t k v all → later ≡ []

@@ -131,7 +131,7 @@ announced_more t q v input left r after made op seen within at is some least tak
         ap (λ n. Store (Quorum n) 1 ∷ made) same ∙ next.1 in
         (at.0, (r + 1, next.0, rest_taken (t.write v) at.1.0 left r after at.1.2 least taken, stored))
 
--- where nothing is left, the whole quorum was stored, and the proposal is loaded
+-- if nothing is left, the whole quorum was stored, and the proposal is loaded
 pub announced_whole :
     (t : QuorumTable) (v input left : ℕ) (made : List Act) (op : Op) (seen : ℕ)
     → IsInRatifier t v (Announce input left) made → IsRatifierOp t (Announce input left) op → left ≡ 0
@@ -219,7 +219,7 @@ checked_one t q v u left made op seen within at is can some =
       (at.3.0, at.3.1, at.3.2 ∙ ap (λ xs. xs ++ at.3.0) (sym same)),
     )
 
--- where nothing is left, the whole read quorum was 0
+-- if nothing is left, the whole read quorum was 0
 pub checked_whole :
     (t : QuorumTable) (v u bound left : ℕ) (made : List Act) → bound ≤ t.registers → IsRest (t.read u) bound left
     → left ≡ 0 → ReadsClear t v u bound made → ReadsClear t v u t.registers made

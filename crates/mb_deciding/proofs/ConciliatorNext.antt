@@ -76,7 +76,7 @@ put_undrawn : (s v j k : ℕ) (turns : List Turn) → IsPut s v j turns → IsDr
 put_undrawn s v j k [] h d = d
 put_undrawn s v j k (x ∷ older) h d = let other : Store Value (v + 1) ≡ Load Value 0 = sym h.0 ∙ d.0 in cc
 
--- where a load comes next, no store does
+-- if a load comes next, no store does
 load_or_store :
     (s v k : ℕ) (turns : List Turn) → ((j : ℕ) × (IsMissing s j turns ⊎ IsPut s v j turns)) → IsDrawn s k turns → ⊥
 load_or_store s v k turns (j, inl h) d = missing_undrawn s j k turns h d

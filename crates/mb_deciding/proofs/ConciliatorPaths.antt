@@ -41,7 +41,7 @@ put_before s v k (x ∷ older) h =
     let deeper = found_before s v k older h.1 in
     ((subst (λ act. IsBefore v act) (sym h.0) refl, deeper.0), ap suc deeper.1)
 
--- the turns behind the last load of a path
+-- the turns after the last load of a path
 behind_last :
     (s v : ℕ) (x : Turn) (older : List Turn) (u : ℕ) → IsConciliatorPath s v (x ∷ older) u
     → AreBefore v older × (length older ≤ s + 2)

@@ -145,7 +145,7 @@ module _ (t : QuorumTable) (s : ℕ) (inputs : ℕ → ℕ) where
       (λ a g k f. among_kept a.turn.act (u + 1) (stores_in g) f)
       h l p rest is
 
-  -- where one store was made, every output is its value
+  -- if one store was made, every output is its value
   first_movers : (h : List Access) → L h → IsFirstMover (conciliator_of t s inputs) h
   first_movers h l w only p d u o =
       let end = path_last s (inputs p) (part p h) u o.1 in
@@ -204,7 +204,7 @@ module _ (t : QuorumTable) (s : ℕ) (inputs : ℕ → ℕ) where
   fits h (Quorum r) l = omega (arith, no_register r h l)
   fits h Last l = omega (arith, no_last h l)
 
--- where one store was made to a conciliator, every output is its value
+-- if one store was made to a conciliator, every output is its value
 pub one_mover :
     (o : Object) (s : ℕ) (h : List Access) → o.kind ≡ Conciliator s → IsObjectLawful o h → IsFirstMover o h
 one_mover o s h is =

@@ -172,7 +172,7 @@ clear_loads t v u n made h r l m =
 abbrev pub IsChosen : ℕ → ℕ → List Act → Type 0
 IsChosen v u made = ((u ≡ v) × Has made (Load Proposal 0)) ⊎ Has made (Load Proposal (u + 1))
 
--- where the preference was just made
+-- if the preference was just made
 pub prefers_chosen : (t : QuorumTable) (v u : ℕ) (begin : List Act) → Prefers t v u begin → IsChosen v u begin
 prefers_chosen t v u begin (inl h) = inl (h.0, subst (λ xs. Has xs (Load Proposal 0)) (sym h.1) (inr (inl refl)))
 prefers_chosen t v u begin (inr h) = inr (subst (λ xs. Has xs (Load Proposal (u + 1))) (sym h) (inl refl))

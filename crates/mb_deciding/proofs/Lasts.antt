@@ -105,7 +105,7 @@ last_prefix t v place turns op seen word at is =
     ([], answer true path.0, (refl, path.1)))
 
 -- ---- the word
--- what is left where an option may be stored
+-- what is left if an option may be stored
 kept_by : (b : Bool) (w n : ℕ) → option_map_or (λ value. value) (cond b (Some w) None) n ≡ cond b w n
 kept_by true w n = refl
 kept_by false w n = refl

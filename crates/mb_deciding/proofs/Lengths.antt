@@ -1,4 +1,4 @@
--- How long a ratifier's path is, and that no path goes on behind its end.
+-- How long a ratifier's path is, and that no path goes on after its end.
 use Rattle.std.proofs.Common.{◌≡◌, ℕ, zero, suc, ◌+◌, ◌<◌, ◌≤◌, ◌⊎◌, count_ones, ◌==◌, cond, Bool, true, false, List}
 use Rattle.std.proofs.Common.{[], ◌∷◌, ◌++◌, length, inl, inr, sym, refl, ap, ◌∙◌, subst, length-append, arith}
 use Rattle.std.specs.Int.{bit_at}
@@ -62,7 +62,7 @@ two_more n m e = omega arith
 one_more : (n m : ℕ) → n ≡ suc m → n ≡ 0 + (1 + m)
 one_more n m e = omega arith
 
--- where the preference was just made
+-- if the preference was just made
 prefers_measured : (t : QuorumTable) (v u : ℕ) (begin : List Act) → Prefers t v u begin → Measured t v 0 begin
 unfolding extra_acts
 prefers_measured t v u begin (inl p) =
@@ -227,7 +227,7 @@ path_ends t v made (x ∷ later) false false u w h k =
     absurd (omega arith)
 
 -- ---- the bound
--- a preference stands behind the announcement
+-- a preference stands after the announcement
 prefers_length :
     (t : QuorumTable) (v u : ℕ) (begin : List Act) → Prefers t v u begin → length begin ≤ count_ones (t.write v) + 2
 prefers_length t v u begin (inl p) =
@@ -235,7 +235,7 @@ prefers_length t v u begin (inl p) =
 prefers_length t v u begin (inr p) =
     omega (arith, ap length p, each_size (λ r. Store (Quorum r) 1) t.registers (t.write v))
 
--- the path has a preference, and behind that loads from registers of the preference's read quorum
+-- the path has a preference, and after that loads from registers of the preference's read quorum
 record Checked (t : QuorumTable) (v u : ℕ) (made : List Act) : Type 0 where
   pub begin : List Act
   pub loads : List Act

@@ -92,7 +92,7 @@ zeros_loads (suc n) mask ys = cond_loads (bit_at mask n == 1) n 0 (zeros_below n
 abbrev pub IsFrom : ℕ → ℕ → List ℕ → List ℕ → Type 0
 IsFrom v u loads rest = ((u ≡ v) × (loads ≡ 0 ∷ rest)) ⊎ (loads ≡ (u + 1) ∷ rest)
 
--- where the preference was just made
+-- if the preference was just made
 prefers_from :
     (t : QuorumTable) (v u : ℕ) (begin : List Act) → Prefers t v u begin
     → IsFrom v u (proposal_loads begin) (proposal_loads (announcement t v))

@@ -21,7 +21,7 @@ IsRatifierOpen t v made =
 pub open_part : (t : QuorumTable) (v : ℕ) (made : List Act) → IsRatifierOpen t v made → IsRatifierPart t v made
 open_part t v made h = (h.0, h.2.0, h.2.1, h.2.2)
 
--- a list with an element behind it is not empty
+-- a list with an element after it is not empty
 some_snoc : (xs : List Act) (x : Act) → xs ++ x ∷ [] ≢ []
 some_snoc [] x = not_empty x []
 some_snoc (y ∷ xs) x = not_empty y (xs ++ x ∷ [])

@@ -170,7 +170,7 @@ loaded_filled t inputs (a ∷ h) l p u k =
       | inr w ↦ kept (loaded_filled t inputs h (lawful_older (ratifier_of t inputs) a h l) p u w)
     ]
 
--- where a process has a preference, the proposal is not empty
+-- if a process has a preference, the proposal is not empty
 pub preference_filled :
     (t : QuorumTable) (inputs : ℕ → ℕ) (h : List Access) → IsObjectLawful (ratifier_of t inputs) h → (p v : ℕ)
     → HasPreference v (acts (part p h)) → 0 < value_in Proposal h

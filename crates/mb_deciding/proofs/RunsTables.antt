@@ -22,7 +22,7 @@ same_values (Conciliator s) t u same = same
 same_values Ratifier t u same = ap (λ (x : QuorumTable). x.values) same
 same_values LastObject t u same = ap (λ (x : QuorumTable). x.values) same
 
--- and where one is a table for the kind, the other is
+-- and if one is a table for the kind, the other is
 pub same_table : (kind : Kind) (t u : QuorumTable) → IsSameFor kind t u → IsTableFor kind u → IsTableFor kind t
 same_table (Conciliator s) t u same q = tt
 same_table Ratifier t u same q = subst (λ x. IsTableFor Ratifier x) (sym same) q

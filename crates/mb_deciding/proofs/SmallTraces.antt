@@ -13,12 +13,12 @@ use Rattle.mb_deciding.proofs.Owed.{one_end}
 use Rattle.mb_deciding.proofs.SmallHistories.{clear_lawful, clear_path, patient_lawful, patient_path, impatient_no_part}
 
 -- ---- one process
--- the input is 0, as behind the end of the list
+-- the input is 0, as after the end of the list
 same_input : (p : ℕ) → slice_index (0 ∷ []) p ≡ 0
 same_input zero = refl
 same_input (suc p) = refl
 
--- a history that is lawful where all have the input 0 is lawful for the list
+-- a history that is lawful if all have the input 0 is lawful for the list
 lawful_listed :
     (kind : Kind) (h : List Access) → IsObjectLawful (object_of (unary_table 2) kind zero_inputs) h
     → IsObjectLawful (object_of (unary_table 2) kind (slice_index (0 ∷ []))) h

@@ -35,7 +35,7 @@ loads_preference t inputs h l p r x k =
       | inr w ↦ inr (w.0, at.2 (Load Proposal (w.0 + 1)) w.1)
     ]
 
--- where a process loaded 0 from a register, no process that loaded an empty proposal has it in its write quorum
+-- if a process loaded 0 from a register, no process that loaded an empty proposal has it in its write quorum
 clear_register :
     (t : QuorumTable) (inputs : ℕ → ℕ) (h : List Access) → IsQuorumTable t → IsObjectLawful (ratifier_of t inputs) h
     → (p b r : ℕ) → Has (acts (part p h)) (Load (Quorum r) 0) → Has (acts (part b h)) (Load Proposal 0)
@@ -99,7 +99,7 @@ coherent t q inputs h l p k d u w o other =
     f.2
     (subst (λ v. IsMember (t.write v) r) (sym f.1) in_write))
 
--- where an output is undecided, another value was announced
+-- if an output is undecided, another value was announced
 other_announced :
     (t : QuorumTable) (inputs : ℕ → ℕ) (h : List Access) → IsQuorumTable t → IsObjectLawful (ratifier_of t inputs) h
     → (p u : ℕ) → HasOutput (ratifier_of t inputs) p false u h → (w : ℕ) × (w ≢ u) × IsAnnounced

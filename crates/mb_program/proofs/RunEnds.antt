@@ -25,7 +25,7 @@ not_refused : {Y : Type 0} (o : Options) (y : Y) → Refuses o (Ok y) → (why :
     → setup_refused o ≡ Some why → ⊥
 not_refused o y refuses why is = no_ok y _ ((refuses why).1 is)
 
--- a fault behind the setup
+-- a fault after the setup
 pub fault_behind : {Y : Type 0} (o : Options) (s : Setup) (e : RunFault)
     → MatchOption (setup_refused o) (IsOk {E = SetupFault} (Ok s))
     (λ why. ◌≡◌ {A = Result Setup SetupFault} (Ok s) (Err why))

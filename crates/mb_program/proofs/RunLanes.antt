@@ -47,7 +47,7 @@ cut_at cells from (x ∷ xs) (y ∷ ys) (suc p) list l all at there =
     subst (λ (k : ℕ). l.stopped ≡ false → length l.put < length list → HasFoundNone cells k l.part) next
     (cut_at cells (suc from) xs ys p list l all.1 at there)
 
--- where the gate stops nobody, the producer of a short list is not stopped
+-- if the gate stops nobody, the producer of a short list is not stopped
 not_stopped : (may_stop : Who → ℕ → Type 0) → ((w : Who) (n : ℕ) → may_stop w n → ⊥)
     → (cells p : ℕ) (list : List ℕ) (l : LaneLeft) → length list ≤ 256
     → (l.stopped ≡ true → IsStoppedPut may_stop cells p list l) → l.stopped ≡ false
@@ -63,7 +63,7 @@ not_stopped may_stop never cells p list l few is = go l.stopped refl
           | inr last ↦ omega (arith, last, few, short)
         ] in absurd none
 
--- so, where it put less than its list, a fetch-add of its found no cell
+-- so, if it put less than its list, a fetch-add of its found no cell
 pub found_none : (may_stop : Who → ℕ → Type 0) → ((w : Who) (n : ℕ) → may_stop w n → ⊥)
     → (cells : ℕ) (lists : List (List ℕ)) (lanes : List LaneLeft)
     → AreStoppedPuts may_stop cells 0 lists lanes → AreCutByCells cells 0 lists lanes
@@ -80,7 +80,7 @@ found_none may_stop never cells lists lanes stopped cut p list l at there few sh
 all_of : {X : Type 0} (P : X → Type 0) (xs : List X) → ((p : ℕ) (x : X) → slice_get xs p ≡ Some x → P x) → All P xs
 all_of P xs each = λ k d low. each k (slice_index_or xs k d) (slice_get-get_or xs k d low)
 
--- where none is over b and one is under it, the sum is under that of as many b
+-- if none is over b and one is under it, the sum is under that of as many b
 pub sum_short : {X : Type 0} (f : X → ℕ) (b : ℕ) (xs : List X) (p : ℕ) (x : X)
     → ((q : ℕ) (y : X) → slice_get xs q ≡ Some y → f y ≤ b)
     → slice_get xs p ≡ Some x → f x < b → sum_by f xs < length xs * b

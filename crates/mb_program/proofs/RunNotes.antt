@@ -62,7 +62,7 @@ of_one : {X : Type 0} (P : X → Type 0) (xs : List X) (k : ℕ) (x : X) → All
     → slice_get xs k ≡ Some x → P x
 of_one P xs k x all low at = subst P (same_some (sym (slice_get-get_or xs k x low) ∙ at)) (all k x low)
 
--- where the gate stops nobody, a consumer that was stopped has come to call 2^64 - 1
+-- if the gate stops nobody, a consumer that was stopped has come to call 2^64 - 1
 come_to_last : (may_stop : Who → ℕ → Type 0) → ((w : Who) (n : ℕ) → may_stop w n → ⊥)
     → (budget c made : ℕ) → IsStoppedPoll may_stop budget c made
     → (2 ^ 64 - 2 ≤ made) × (made ≤ budget * (2 ^ 64 - 2))

@@ -89,7 +89,7 @@ is_told producers count lanes consumers h left r same told puts fronts p low =
         → kept_at (map (λ l. Some (ended_list l)) left) p ≡ Some (ended_list l)
     kept_of left p l at = rw (slice_get-map (λ l. Some (ended_list l)) left p, at) refl
 
--- each lane of the report has ended and has its whole list, where a lane that has less tells that all the cells are put
+-- each lane of the report has ended and has its whole list, if a lane that has less tells that all the cells are put
 pub lanes_told : (producers count lanes consumers : ℕ) (h : HubView) (left : List LaneLeft) (r : ReportView)
     → producers ≡ lanes → IsReportIn lanes consumers h r → h.puts ≡ map (λ l. Some (ended_list l)) left
     → AllZip (λ list l. IsFront l.put list) (item_lists producers count) left
@@ -131,7 +131,7 @@ lanes_told producers count lanes consumers h left r same told puts fronts full p
         omega (arith, front, long, size)
 
 -- ---- the report is that of a run
--- where the gate stops nobody
+-- if the gate stops nobody
 pub run_report : {budget : ℕ} (may_stop : Who → ℕ → Type 0) → ((w : Who) (n : ℕ) → may_stop w n → ⊥)
     → (o : Options) (m : MailboxView) (old h : HubView) (r : ReportView) (lists : List (List ℕ))
     (n : ℕ) (w : Worked)

@@ -135,7 +135,7 @@ head_again law Unary m h = rw (law.read m h) refl
 head_again law Bits m h = rw (law.read m h) refl
 head_again law Middle m h = rw (law.read m h) refl
 
--- numbers that were read behind a key were spelled so
+-- numbers that were read after a key were spelled so
 list_takes : TextLaws → (n : ℕ) (key : List ℕ) (ws : List (List ℕ)) (ns : List ℕ) → list_of n key ws ≡ Ok ns
     → (ws ≡ key ∷ map decimal ns) × AllByRecursion (λ k. k < 2 ^ 64) ns
 unfolding list_of
@@ -146,7 +146,7 @@ list_takes law n key (w ∷ ws) ns e =
     let v = law.all_spelled ws ns (some_from _ _ _ g.1) in
     (ap (λ (x : List ℕ). x ∷ ws) k ∙ ap (λ (x : List (List ℕ)). key ∷ x) v.0, v.1)
 
--- numbers that are spelled behind a key are read so
+-- numbers that are spelled after a key are read so
 list_again : TextLaws → (n : ℕ) (key : List ℕ) (ns : List ℕ) → AllByRecursion (λ k. k < 2 ^ 64) ns
     → list_of n key (key ∷ map decimal ns) ≡ Ok ns
 unfolding list_of

@@ -16,7 +16,7 @@ use Rattle.mb_script.specs.Text.{has_empty, lines_of, words_in_line}
 use Rattle.mb_script.proofs.AboutLines.{For, for_cond, for_sizes}
 use Rattle.mb_script.proofs.FaultyLines.{by_lines, err_is, events_least}
 
--- other words behind `setup` are no reason for NoSetup
+-- other words after `setup` are no reason for NoSetup
 not_behind : (ws : List (List ℕ)) → For (λ e. e ≢ NoSetup) (setup_of (codes "setup" ∷ ws))
 unfolding setup_of
 not_behind ws =
@@ -48,7 +48,7 @@ no_setup_by (key ∷ ws) lines e =
     (λ made fails. let least = events_least made.plan 2 1 lines NoSetup (omega arith) fails refl
     in omega (arith, least))
 
--- so NoSetup comes only where the first word is no `setup`
+-- so NoSetup comes only if the first word is no `setup`
 no_setup_lines : (us : List (List ℕ)) → lines_script us ≡ Err NoSetup → first_word_in us ≢ Some (codes "setup")
 unfolding lines_script
 no_setup_lines [] is = λ e. cc

@@ -47,7 +47,7 @@ named_known : (plan : Plan) (r : Answer) (a : WorldAccess) (h : WorldHistory) �
 named_known plan r (ToCells a) h names = cells_known plan.claims.cells a.word a.act r names
 named_known plan r (ToClaims a) h names = let is = names.2 in (λ e. cc, λ e. cc)
 
--- ---- and so is a refusal, where the event's lane and consumer are there
+-- ---- and so is a refusal, if the event's lane and consumer are there
 abbrev IsEventIn : Plan → Event → Type 0
 IsEventIn plan (event.Offer p x) = p < plan.lanes
 IsEventIn plan (event.Push p) = p < plan.lanes

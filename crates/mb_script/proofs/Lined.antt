@@ -135,7 +135,7 @@ pub lines_end : (plan : Plan) (done : List Event) (n : ℕ) (whole : Result (Lis
 unfolding events_of
 lines_end plan done n whole same = sym same ∙ ap (λ (l : List Event). Ok l) (append-nil done)
 
--- a fault that `?` hands on, where it decides the whole
+-- a fault that `?` hands on, if it decides the whole
 pub fails_whole : {X : Type 0} (view : X → List Event) (r : Result X Fault) (e : Fault) (read : Result Event Fault)
     (whole : Result (List Event) Fault) → IsErrAnd r (λ f. f ≡ e)
     → (e ≢ NoMemory → read ≡ Err e) × (e ≢ ReadFault) × (e ≢ WriteFault) → (read ≡ Err e → whole ≡ Err e)

@@ -1,4 +1,4 @@
--- A line behind the last event that a replay script may have.
+-- A line after the last event that a replay script may have.
 use Rattle.std.proofs.Common.{◌≡◌, ℕ, suc, ◌+◌, ◌≤◌, true, List, [], ◌∷◌, ◌++◌, length, map, None, Err, refl, arith}
 use Rattle.std.specs.List.{AllByRecursion, join_with_byte, list_all}
 use Rattle.std.specs.Char.{is_ascii}

@@ -302,7 +302,7 @@ line_before : (line line2 : List ℕ) (lines lines2 : List (List ℕ)) → line 
     → line ∷ lines ≡ line2 ∷ lines2
 line_before line line2 lines lines2 e f = ap (λ (l : List ℕ). l ∷ lines) e ∙ ap (λ (t : List (List ℕ)). line2 ∷ t) f
 
--- what the lines from line n on are, where they have no fault
+-- what the lines from line n on are, if they have no fault
 abbrev Lines : Sizes → ℕ → List (List ℕ) → List Event → Type 0
 Lines z n lines events =
     (lines ≡ map (join_with_byte 32) (map event_words events)) × AllByRecursion (IsEventOf z) events

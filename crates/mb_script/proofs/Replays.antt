@@ -63,7 +63,7 @@ IsTranscribed-more events more e r was then now old text new done last same adds
           ∙ ap (λ (t : List ℕ). old ++ t) (sym all);
     }
 
--- the report behind the transcript
+-- the report after the transcript
 pub IsReplayText-made : (setup : Setup) (events : List Event) (world : WorldState)
     (report : ReportView) (none text all : List ℕ)
     → IsTranscribed events [] world none text → none ≡ [] → world.setup ≡ setup

@@ -84,7 +84,7 @@ unfolding numbers_of
 numbers_again [] h = refl
 numbers_again (n ∷ ns) h = rw (number_again n h.0, numbers_again ns h.1) refl
 
--- a value behind a test
+-- a value after a test
 guard : (b : Bool) (v n : ℕ) → cond b (Some v) None ≡ Some n → (b ≡ true) × (v ≡ n)
 guard true v n e = (refl, cc)
 guard false v n e = absurd (cc)

@@ -23,7 +23,7 @@ pub record ReadLaws : Type 0 where
   pub within : (size : PoolSize) (h : History) (p k : ℕ) → IsPoolLawful size h → Has (linked_cells p h) k
       → (p < size.lanes) × (k < size.cells)
 
--- what stands behind the cells met: the next cell, or past all of them the end mark or 0
+-- what stands past the cells met: the next cell, or past all of them the end mark or 0
 pub data Found (p : ℕ) (theirs : History) (ks : List ℕ) (v : ℕ) : Type 0 where
   a_cell : (k : ℕ) → v ≡ k + 1 → k + 1 ≢ END → IsStart (k ∷ ks) (linked_cells p theirs) → Found p theirs ks v
   the_end : v ≡ END → ks ≡ linked_cells p theirs → has_ended p theirs ≡ true → Found p theirs ks v

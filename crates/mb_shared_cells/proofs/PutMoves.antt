@@ -152,7 +152,7 @@ pub full_puts : PutLaws → (old new : LaneSeatView) (x : ℕ) → OfferMakes ol
     → put_list old.lane new.part ≡ put_list old.lane old.part
 full_puts laws old new x made = full_at laws old new x old.place.stage made
 
--- it comes where a fetch-add found no cell: now, or before
+-- it comes if a fetch-add found no cell: now, or before
 found_now : (cells n : ℕ) (b : Bool) → nat_lt n cells ≡ b → offer.Full ≡ (if b then offer.Cell n else offer.Full)
     → cells ≤ n
 found_now cells n true low told = absurd (cc)

@@ -43,7 +43,7 @@ exchange_small object word n value op reg e put small fits =
     subst (λ (o : Op). IsInWords (step_of object o n word).turn) (sym e)
     ((small, stored_small (n == 0) value put), fits)
 
--- it leaves its value where it found 0, and else what it found
+-- it leaves its value if it found 0, and else what it found
 exchanged : (b : Bool) (w n : ℕ) → either b w n ≡ option_map_or (λ value. value) (cond b (Some w) None) n
 exchanged true w n = refl
 exchanged false w n = refl

@@ -69,7 +69,7 @@ module _ (cut : CutParts) (t : TableView) (seat : SeatView) (cell : ℕ) (claim 
       (subst (λ c. IsClaimLawful cs (access_of c cell next seen word ∷ comes.0)) (sym own) comes.1) low
       (in_history comes.0 comes.2) going is
 
-  -- so where it was made it is a step of the seat
+  -- so if it was made it is a step of the seat
   pub seat_step :
       FindsTold → (now : SeatView) (word : ℕ) (follows : Claim) (next : ClaimOp) (seen : ℕ) → seat.table ≡ name_of t
       → IsNextOp t.layout claim next → now ≡ with_access (access_of seat.consumer cell next seen word) seat

@@ -43,7 +43,7 @@ all_added P views w others mine j u e =
     (λ (x : (j ≡ length views) × (w ≡ u)). subst (λ (y : ℕ × View). P y.0 y.1) (λ i. (sym x.0 i, x.1 i)) mine)
     (at_added views w u j e)
 
--- who has a part still has it, where the view that is replaced has then all parts of this consumer that it had
+-- who has a part still has it, if the view that is replaced has then all parts of this consumer that it had
 kept_by :
     (views : List View) (id j c : ℕ) (v w : View) (xs : List ClaimAccess) → IsViewAt views id v
     → (HasPart v c xs → HasPart w c xs) → HasPartAt views j c xs → Dec (j ≡ id) → HasPartAt (set views id w) j c xs

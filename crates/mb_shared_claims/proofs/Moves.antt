@@ -80,7 +80,7 @@ access_allows own_part other_parts k size slots id own at done f access within g
     )
 
 -- ---- enrolling
--- a word behind those of the cells is none of the claims'
+-- a word past those of the cells is none of the claims'
 abbrev pub OtherWords : TableSize → Type 0
 OtherWords k =
     (at n : ℕ) (words : List ℕ) (h : List ClaimAccess) → words_in (claims_of_size k) ≤ at

@@ -21,21 +21,21 @@ use Rattle.mb_world.specs.WorldState.{IsWorldAfter, WorldState}
 use Rattle.mb_world.specs.EventSteps.{EventAdds, HasSeat, seat_by, with_note_if, with_seat, with_words}
 use Rattle.mb_world.proofs.NewWorlds.{place_within}
 
--- a claim that ends leaves its cell
+-- a claim that ends with a note leaves its cell
 past_cell : (k : ℕ) (now : Claim) (z : Stage) (n : Note) → note_of z ≡ Some n → seat_by k now z ≡ seat.PastCell k
 past_cell k now stage.Going n e = absurd (cc)
 past_cell k now stage.Won n e = absurd (cc)
 past_cell k now (stage.Lost w) n e = refl
 past_cell k now stage.Undecided n e = refl
 
--- another stays there
+-- a claim without a note stays at its cell
 at_cell : (k : ℕ) (now : Claim) (z : Stage) → note_of z ≡ None → seat_by k now z ≡ seat.AtCell k now
 at_cell k now stage.Going e = refl
 at_cell k now stage.Won e = refl
 at_cell k now (stage.Lost w) e = absurd (cc)
 at_cell k now stage.Undecided e = absurd (cc)
 
--- a seat that is read is the consumer's there
+-- a seat that is read at the place of consumer c and lane p is that of the consumer there
 pub seat_found : (s : WorldState) (h : WorldHistory) → IsWorldAfter h s → (c p lanes : ℕ)
     → c < consumers_of (plan_in s.setup) → p < (plan_in s.setup).lanes → lanes ≡ (plan_in s.setup).lanes → (d : Seat)
     → d ≡ get_or s.seats (c * lanes + p) d → HasSeat c p d s
@@ -75,7 +75,7 @@ module _ (s : WorldState) (h : WorldHistory) (c p word k object : ℕ) (act : Ac
       subst (λ (y : Stage). EventAdds (event.Step c p word) (answer.Claimed k object act y)
       (with_note_if c k (note_of y) (with_seat c p (seat_by k now y) (with_words words s))) h) (sym stage_is) adds
 
-  -- with its seat and its note
+  -- the step's stage gives this note and this seat
   by_note : (o : Option Note) (d : Seat) → note_of z ≡ o → seat_by k now z ≡ d
       → EventAdds (event.Step c p word) (answer.Claimed k object act z)
       (with_note_if c k o (with_seat c p d (with_words words s))) h
@@ -85,7 +85,7 @@ module _ (s : WorldState) (h : WorldHistory) (c p word k object : ℕ) (act : Ac
       (subst (λ (e : Seat). EventAdds (event.Step c p word) (answer.Claimed k object act z)
       (with_note_if c k (note_of z) (with_seat c p e (with_words words s))) h) at by_stage)
 
-  -- the claim was changed where it stands, and then left
+  -- the claim was changed where it stands, and then left with its note
   pub noted : (o : Option Note) (n : Note) → o ≡ note_of z → o ≡ Some n
       → Adds (slice_set (slice_set s.seats (c * lanes + p) (seat.AtCell cell now)) (c * lanes + p) (seat.PastCell k))
       (slice_set s.notes (c * cells + k) (Some n))
@@ -99,7 +99,7 @@ module _ (s : WorldState) (h : WorldHistory) (c p word k object : ℕ) (act : Ac
       )
       (by_note (Some n) (seat.PastCell k) note (past_cell k now z n note))
 
-  -- or it goes on
+  -- the claim was changed where it stands, and has no note
   pub unnoted : (o : Option Note) → o ≡ note_of z → ((n : Note) → o ≡ Some n → ⊥)
       → Adds (slice_set s.seats (c * lanes + p) (seat.AtCell cell now)) s.notes
   unnoted None is none =

@@ -72,12 +72,13 @@ module _ (s : WorldState) (h : WorldHistory) (is : IsWorldAfter h s) (c p : ℕ)
   truth : IsTrueTo a h
   truth = (memory.lawful.words.0, memory.lawful.memory.0)
 
-  -- its stage by its part, before the step and after it
+  -- by the consumer's part, the claim goes on before the step
   was_going : IsClaimPrefix (plan s h is).claims c (claim_part c k (claim_accesses h)) stage.Going
   was_going =
       subst (λ xs. IsClaimPrefix (plan s h is).claims c xs stage.Going)
       (sym (part_is s h is c p cs ps known k claim here)) (prefix s h is c p cs ps known k claim here stage.Going going)
 
+  -- by that part, its stage after the step is that of the claim as it is now
   is_now : (r : Stage) → claim_stage now ≡ r
       → IsClaimPrefix (plan s h is).claims c (claim_part c k (claim_accesses (a ∷ h))) r
   is_now r e = subst (λ xs. IsClaimPrefix (plan s h is).claims c xs r) (sym part_now) (prefix_now r e)
@@ -87,7 +88,7 @@ module _ (s : WorldState) (h : WorldHistory) (is : IsWorldAfter h s) (c p : ℕ)
       → IsClaimPrefix (plan s h is).claims c (claim_part c k (claim_accesses g)) r → z ≡ r
   one_stage g z r = known.world.stage c (claim_part c k (claim_accesses g)) z r
 
-  -- where it has no end then, no claim's end changes
+  -- if the claim has not ended after the step, every claim's end is as before
   ends_stay : ((n : Note) → Ends (plan s h is).claims (a ∷ h) c k n → ⊥) → (e j : ℕ) (n : Note)
       → Ends (plan s h is).claims h e j n ↔ Ends (plan s h is).claims (a ∷ h) e j n
   ends_stay still e j n = by (cases_eq e c) (cases_eq j k)
@@ -106,7 +107,7 @@ module _ (s : WorldState) (h : WorldHistory) (is : IsWorldAfter h s) (c p : ℕ)
       by (inr m) g = step_keeps (plan s h is).claims c h k x e j n (λ f _. m f)
       by (inl f) (inr m) = step_keeps (plan s h is).claims c h k x e j n (λ _ g. m g)
 
-  -- the state, where the path goes on and the notes are these
+  -- the state after the step, if the path goes on to these cells, notes and claim
   module _ (r : Stage) (stage_is : claim_stage now ≡ r) (word : ℕ) (random : x.turn.word ≡ word)
       (ks : List ℕ) (ns : List Note) (held : Option (List ObjectTurn)) (d : Seat)
       (next : ConsumerPath (plan s h is).claims c p (a ∷ lane_part c p h) ks ns held)

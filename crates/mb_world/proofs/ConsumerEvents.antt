@@ -19,7 +19,7 @@ module _ (plan : Plan) (h : WorldHistory) (known : EventKnown plan h) (c p word 
   abbrev IsStep : WorldAccess → Type 0
   IsStep a = IsAccessOf (event.Step c p word) a h
 
-  -- such an access is of a consumer and a lane that there are
+  -- an access for which a step asks is of a consumer and a lane that there are
   record IsInside (a : WorldAccess) : Type 0 where
     pub consumer : c < consumers_of plan
     pub lane : p < plan.lanes

@@ -42,6 +42,7 @@ next_on cs c p a older ks ns held ls on (ends {ks = js} {ns = ms} {k = k} {xs = 
 next_on cs c p a older ks ns held ls on (takes {ks = js} {ns = ms} {k = k} {xs = xs} q s) =
     rw (eq-eqb c c refl, has_cell-true ls k (on (k ∷ js) ms (Some xs) s k (inl refl))) refl
 
+-- ---- an access has one maker and one lane
 -- one lane of an access
 pub one_lane_of : (h : History) (one : (p q k : ℕ) → Has (linked_cells p h) k → Has (linked_cells q h) k → p ≡ q)
     (c d p q : ℕ) (a : WorldAccess)
@@ -69,10 +70,12 @@ one_maker c d p ls (ToCells a) own on =
     let f : Reader d ≡ Reader c = sym e ∙ own in
     cc
 
+-- the same, if both made the access
 same_maker : (c d : ℕ) (a : WorldAccess) → IsBy c a → IsBy d a → c ≡ d
 same_maker c d (ToClaims a) x y = sym x ∙ y
 same_maker c d (ToCells a) x y = let f : Reader c ≡ Reader d = sym x ∙ y in cc
 
+-- ---- what producers did stays
 -- a consumer links nothing
 pub linked_same : (c q : ℕ) (a : WorldAccess) (h : WorldHistory) → IsBy c a
     → linked_cells q (pool_accesses (a ∷ h)) ≡ linked_cells q (pool_accesses h)
@@ -81,6 +84,7 @@ linked_same c q (ToCells a) h own =
     ap (λ (w : Process). cond (is_same_process (Producer q) w)
     (push_if (link_of a.word a.act) (linked_cells q (pool_accesses h))) (linked_cells q (pool_accesses h))) own
 
+-- a consumer's access is in no producer's part
 made_same : (c q : ℕ) (a : WorldAccess) (h : WorldHistory) → IsBy c a
     → part (Producer q) (pool_accesses (a ∷ h)) ≡ part (Producer q) (pool_accesses h)
 made_same c q (ToClaims a) h own = refl

@@ -1,4 +1,4 @@
--- The two parts of a consumer fit on with one more access.
+-- The two parts of a consumer still fit after one more access.
 use Rattle.std.proofs.Common.{◌≡◌, ◌≢◌, ℕ, cond, List, [], ◌∷◌, refl, sym, ◌∙◌, ap, subst, inl, inr}
 use Rattle.std.proofs.lemmas.Bool.{cases_eq, ne_eqb}
 use Rattle.mb_claim.specs.declared.access.Stage.TheVariants as stage
@@ -7,7 +7,7 @@ use Rattle.mb_world.specs.Fitting.{Fits, HasRead, HasStageIn, Parts, cells_met}
 use Rattle.mb_world.specs.PartSteps.{HasNotLeft, IsDoneWith, MayLookPast, no_parts, with_load, with_step}
 use Rattle.mb_world.proofs.Tracks.{past_item, read-cases, read-more}
 
--- nothing fits
+-- the parts of a consumer that has done nothing fit
 pub fits_empty : (cs : Claims) (c : ℕ) → Fits cs c no_parts
 fits_empty cs c = record {
   follows = tt;
@@ -30,7 +30,7 @@ module _ (cs : Claims) (c : ℕ) (x : Parts) (f : Fits cs c x) where
     abbrev a : PoolAccess
     a = load q (place_past p (cells_met p x.reads)) v
 
-    -- it is done with a cell past which it looks
+    -- the consumer is done with a cell past which it looks
     done_with : (k : ℕ) (ks : List ℕ) → MayLookPast cs c ks x → place_past p ks ≡ Link k → IsDoneWith cs c k x
     done_with k [] m e = absurd (cc)
     done_with k (j ∷ ks) m e = let same : j ≡ k = cc in subst (λ i. IsDoneWith cs c i x) same m

@@ -1,4 +1,4 @@
--- What a last object in each cell leaves undecided: no note.
+-- What a report shows of items left, if no note is undecided. With a last object in each cell none is.
 use Rattle.std.proofs.Common.{◌≡◌, ◌≢◌, ℕ, ◌<◌, true, Option, Some, None, length, refl, sym, ◌∙◌, inl, inr, get_or}
 use Rattle.std.proofs.lemmas.Option.{slice_get-get_or}
 use Rattle.mb_world.specs.declared.report.Note.{Note}
@@ -8,7 +8,7 @@ use Rattle.mb_world.specs.Report.{ReportView, items_put, is_begun, note, notes}
 use Rattle.mb_world.specs.Agreement.{AreAllTaken, HasCompeted, HasTaken, IsFinished, IsLeftBesideBegun}
 use Rattle.mb_world.specs.Headline.{IsHonest}
 
--- of a report without an undecided note that has one assignment
+-- a report that agrees with one assignment and has no undecided note
 module _ (plan : Plan) (hs : Histories) (r : ReportView) (honest : IsHonest plan hs r)
     (decided : (c p j : ℕ) → note c p j r ≢ Some Undecided) where
   -- an unfinished claim has no note
@@ -18,7 +18,7 @@ module _ (plan : Plan) (hs : Histories) (r : ReportView) (honest : IsHonest plan
   no_note d p j none unfinished (Lost w) e = unfinished (inr (w, e))
   no_note d p j none unfinished Undecided e = decided d p j e
 
-  -- so it is begun, and the next of its diary
+  -- so an unfinished claim is begun, and the next of its diary
   begun_next : (d p j : ℕ) → ((e : ℕ) → HasTaken e p j r → ⊥) → (IsFinished d p j r → ⊥) → HasCompeted d p j r
       → (length (notes d p r) ≡ j) × (is_begun d p r ≡ true)
   begun_next d p j none unfinished (inl before) =

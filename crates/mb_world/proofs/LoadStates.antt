@@ -21,7 +21,7 @@ use Rattle.mb_world.proofs.WorldClaims.{met_all}
 
 module _ (s : WorldState) (h : WorldHistory) (is : IsWorldAfter h s) (c p : ℕ) (cs : c < consumers_of (plan s h is))
     (ps : p < (plan s h is).lanes) (known : StepKnown s h c p) where
-  -- it was given each cell that it met
+  -- the consumer was given each cell that it met
   pub given : (ks : List ℕ) (ns : List Note) (held : Option (List ObjectTurn))
       → ConsumerPath (plan s h is).claims c p (lane_part c p h) ks ns held → (k : ℕ) → Has ks k
       → Gave k (part (Reader c) (pool_accesses h))

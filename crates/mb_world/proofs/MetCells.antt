@@ -66,7 +66,7 @@ met_cells q p (a ∷ older) own =
     by (inr other) older_met =
         subst (λ ks. HasMet q p ks (a ∷ older)) (sym (met_elsewhere p a older other)) older_met
 
--- and each cell that was given was met on some lane
+-- each cell that was given was met on some lane
 gave_met : (d : History) (k : ℕ) → FollowsLinks d → Gave k d → (p : ℕ) × Has (cells_met p d) k
 gave_met [] k f g = absurd g
 gave_met (a ∷ older) k f (inl g) =
@@ -78,12 +78,13 @@ gave_met (a ∷ older) k f (inl g) =
     )
 gave_met (a ∷ older) k f (inr g) = let q = gave_met older k f.1 g in (q.0, met_stay q.0 a older k q.1)
 
--- ---- the same for the part of a reader in a lawful history
+-- ---- the cells met by the part of a reader in a lawful history
 pub met_in : (q p : ℕ) (h : History) → HasMet q p (cells_met p (part (Reader q) h)) h
 met_in q p h =
     met_more q p (part (Reader q) h) h (cells_met p (part (Reader q) h)) (λ a m. (of_part q h a m).0)
     (met_cells q p (part (Reader q) h) (λ a m. (of_part q h a m).1))
 
+-- what stands once each in a list does so in its end
 once_start : (later ks : List ℕ) → IsOnceEach (later ++ ks) → IsOnceEach ks
 once_start [] ks once = once
 once_start (j ∷ later) ks once = once_start later ks once.1

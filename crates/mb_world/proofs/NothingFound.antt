@@ -1,4 +1,4 @@
--- A step of a consumer that finds nothing.
+-- A step of a consumer finds nothing exactly if it has met all cells and the lane goes on.
 use Rattle.std.proofs.Common.{◌≡◌, ◌⊎◌, ℕ, ◌+◌, ◌-◌, ◌<◌, Bool, true, false, cond, List, [], ◌∷◌, ◌++◌, Option, Some, None, refl, sym, ◌∙◌, ap, subst, inl, inr, arith}
 use Rattle.std.specs.Prelude.{filter, nat_eq}
 use Rattle.std.proofs.lemmas.Bool.{eqb-true}
@@ -22,7 +22,7 @@ use Rattle.mb_world.proofs.LastAccess.{CameFrom, Leads, Place, came_from, ended,
 use Rattle.mb_world.proofs.WorldClaims.{met_all}
 use Rattle.mb_world.proofs.WorldKnown.{WorldKnown}
 
--- only 0 tells that nothing is there yet
+-- only the value 0 tells that nothing is there yet
 nothing_told : (v : ℕ) → look_of v ≡ look.Nothing → v ≡ 0
 nothing_told v tells = by (nat_eq v 0) (nat_eq v END) refl tells
   where
@@ -32,7 +32,7 @@ nothing_told v tells = by (nat_eq v 0) (nat_eq v END) refl tells
     by false true e h = absurd (cc)
     by false false e h = absurd (cc)
 
--- a load of the link past cells is answered by what it tells
+-- the answer to a load of the link past cells is what the value tells
 link_answer : (cells p : ℕ) (ks : List ℕ) (v : ℕ)
     → answer_to cells (place_past p ks) (Load v) ≡ Some (answer.Looked (look_of v))
 link_answer cells p [] v = refl
@@ -84,7 +84,7 @@ module _ (plan : Plan) (h : WorldHistory) (lawful : IsWorldLawful plan h) (known
       let both : Some r ≡ Some (answer.Looked (look_of v)) = sym named ∙ link_answer plan.claims.cells p ks v in
       cc
 
-  -- ---- where nothing is found, all was met and the lane goes on
+  -- ---- if nothing is found, all was met and the lane goes on
   all_met : (ks : List ℕ) → IsStart ks (linked_cells p (pool_accesses h))
       → value_in (place_past p ks) (pool_accesses h) ≡ 0
       → (ks ≡ linked_cells p (pool_accesses h)) × (has_ended p (pool_accesses h) ≡ false)
@@ -154,7 +154,7 @@ module _ (plan : Plan) (h : WorldHistory) (lawful : IsWorldLawful plan h) (known
       let l = last x own on longer there.known ps in
       waits_there x r longer names is there.known ps l.1.path l.1.leads
 
-  -- ---- and where all was met and the lane goes on, nothing is found
+  -- ---- if all was met and the lane goes on, nothing is found
   module _ (one_place : (js : List ℕ) (ms : List Note) (held : Option (List ObjectTurn))
       → ConsumerPath plan.claims c p (lane_part c p h) js ms held → (ks : List ℕ) (ns : List Note)
       → ConsumerPath plan.claims c p (lane_part c p h) ks ns None → (js ≡ ks) × (ms ≡ ns) × (held ≡ None)) where

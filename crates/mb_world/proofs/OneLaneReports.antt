@@ -28,7 +28,7 @@ module _ (t : Assignment) (xs ys : List ℕ) (ds : List DiaryView) where
     pub left : ys ≡ rest t 0 r
 
   module _ (y : AgreesOnLane) where
-    -- another lane, or another consumer
+    -- consumer c has no diary on lane p, and is given nothing there
     abbrev IsOutside : ℕ → ℕ → Type 0
     IsOutside c p = (diary c p r ≡ None) × ((j : ℕ) → t p j ≡ Some c → ⊥)
 

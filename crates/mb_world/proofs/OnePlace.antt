@@ -14,6 +14,7 @@ act_value (Load v) = v
 act_value (Store v) = 0
 act_value (FetchAdd x n) = 0
 
+-- the value of a world's access, if it is a load
 abbrev value_of : WorldAccess → ℕ
 value_of (ToCells a) = act_value a.act
 value_of (ToClaims a) = 0

@@ -14,6 +14,7 @@ use Rattle.mb_world.proofs.EventKnown.{EventKnown}
 use Rattle.mb_world.proofs.ProducerEvents.{finish_never_both, finish_refused_once, offer_never_both, offer_refused_once, one_finish, one_offer, one_push, push_never_both, push_refused_once}
 
 module _ (plan : Plan) (h : WorldHistory) (known : EventKnown plan h) where
+  -- an event asks for one access at most
   one_access : (e : Event) (a b : WorldAccess) → IsAccessOf e a h → IsWorldLawful plan (a ∷ h) → IsAccessOf e b h
       → IsWorldLawful plan (b ∷ h) → a ≡ b
   one_access (event.Offer p x) a b x_a la x_b lb = one_offer plan h known p x a b x_a la x_b lb

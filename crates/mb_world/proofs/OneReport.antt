@@ -32,22 +32,25 @@ one_list {A} (x ∷ xs) (y ∷ ys) f g =
     let tails = one_list xs ys (λ j z. f (suc j) z) (λ j z. g (suc j) z) in
     rw (heads, tails) refl
 
+-- a place with an element is in the list
 within : {A : Type 0} (xs : List A) (j : ℕ) (x : A) → slice_get xs j ≡ Some x → j < length xs
 within [] j x e = absurd (cc)
 within (y ∷ xs) zero x e = omega arith
 within (y ∷ xs) (suc j) x e = let less = within xs j x e in omega (arith, less)
 
+-- if there is a diary, there is a lane
 some_lanes : (n m i : ℕ) → i < n * m → 0 < m
 some_lanes n zero i less = omega (arith, less)
 some_lanes n (suc m) i less = omega arith
 
--- and views are what they are made of
+-- a diary and a report made of these parts
 abbrev diary_of : ℕ → ℕ → List Note → Bool → DiaryView
 diary_of c p ns b = record { consumer = c; lane = p; notes = ns; begun = b }
 
 abbrev report_of : List LaneView → List DiaryView → ReportView
 report_of ls ds = record { lanes = ls; diaries = ds }
 
+-- two truth values are one, if each is true if the other is
 one_bool : (a b : Bool) → (a ≡ true → b ≡ true) → (b ≡ true → a ≡ true) → a ≡ b
 one_bool true true f g = refl
 one_bool true false f g = sym (f refl)
@@ -114,7 +117,7 @@ module _ (plan : Plan) (hs : Histories) (known : Known plan hs) where
         let made : diary_of d.consumer d.lane d.notes d.begun ≡ diary_of e.consumer e.lane e.notes e.begun = cc in
         made
 
-  -- ---- and there is one report
+  -- ---- there is one report
   same_diary : (r s : ReportView) → IsReportOf plan hs r → IsReportOf plan hs s → StandsIn r.diaries s.diaries
   same_diary r s x y i d is =
       let less : i < consumers_of plan * plan.lanes =

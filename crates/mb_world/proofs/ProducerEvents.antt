@@ -16,7 +16,7 @@ use Rattle.mb_world.specs.Worlds.{IsWorldLawful}
 use Rattle.mb_world.specs.Replay.{IsAccessOf, IsLaneOf, IsPushed, IsRefused}
 use Rattle.mb_world.proofs.EventKnown.{EventKnown}
 
--- a store, where there is one
+-- a store of a value in a word, as a push has it
 abbrev stored : Word → ℕ → Option (Word × ℕ)
 stored w v = Some (w, v)
 
@@ -28,9 +28,11 @@ abbrev stored_value : Option (Word × ℕ) → ℕ
 stored_value None = 0
 stored_value (Some s) = s.1
 
+-- two such stores that are one store in one word
 first_same : (w u : Word) (v x : ℕ) → stored w v ≡ stored u x → w ≡ u
 first_same w u v x e = ap stored_word e
 
+-- two such stores that are one store one value
 second_same : (w u : Word) (v x : ℕ) → stored w v ≡ stored u x → v ≡ x
 second_same w u v x e = ap stored_value e
 

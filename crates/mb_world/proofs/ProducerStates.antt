@@ -46,8 +46,8 @@ module _ (s : WorldState) (h : WorldHistory) (is : IsWorldAfter h s) (p : ℕ) (
   cells_now : cell_count pool ≡ (plan s h is).claims.cells
   cells_now = same.1 ∙ is.cells
 
-  -- ---- the state
-  -- without an access
+  -- ---- the state after a call
+  -- after a call without an access
   after_none : IsAfter (pool_accesses h) pool → IsWorldAfter h (with_pool pool s)
   after_none after = record {
     lawful = is.lawful;
@@ -61,7 +61,7 @@ module _ (s : WorldState) (h : WorldHistory) (is : IsWorldAfter h s) (p : ℕ) (
     note = is.note;
   }
 
-  -- with an access of the producer
+  -- after a call with an access of the producer
   module _ (a : PoolAccess) (maker : a.process ≡ Producer p) (after : IsAfter (a ∷ pool_accesses h) pool) where
     pub adds : ProducerAdds (plan s h is) a h
     adds =

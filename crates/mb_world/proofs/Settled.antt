@@ -20,7 +20,7 @@ unfinished_undecided c p j r e (inl h) = let k = h.1 in cc
 unfinished_undecided c p j r e (inr h) = let k = h.1 in cc
 
 module _ (t : Assignment) (r : ReportView) (a : AgreesWith t r) where
-  -- the winner that a loss names has not finished where nobody has taken the item
+  -- if nobody has taken the item, the winner that a loss names has not finished
   unfinished_winner : (c w p j : ℕ) → IsLossTo t c w p j r → ((d : ℕ) → HasTaken d p j r → ⊥) → IsFinished w p j r → ⊥
   unfinished_winner c w p j l none (inl h) = none w h
   unfinished_winner c w p j l none (inr h) = (a.given.losses w h.0 p j h.1).another (l.only w h.0 h.1)

@@ -113,20 +113,20 @@ module _ (cs : Claims) where
   module _ (d j : ℕ) (h : WorldHistory)
       (one : (s r : Stage) → IsClaimPrefix cs d (claim_part d j (claim_accesses h)) s
       → IsClaimPrefix cs d (claim_part d j (claim_accesses h)) r → s ≡ r) where
-    -- a claim that goes on has none
+    -- a claim that goes on has no end
     pub going_open : (n : Note) → IsClaimPrefix cs d (claim_part d j (claim_accesses h)) stage.Going → Ends h d j n → ⊥
     going_open (Took v) going e = let f = one stage.Going stage.Won going e.0 in cc
     going_open (Lost w) going e = let f = one stage.Going (stage.Lost w) going e in cc
     going_open Undecided going e = let f = one stage.Going stage.Undecided going e in cc
 
-    -- nor has one that is won before its item is loaded
+    -- a claim that is won has no end before its item is loaded
     pub won_open : (n : Note) → IsClaimPrefix cs d (claim_part d j (claim_accesses h)) stage.Won
         → ((v : ℕ) → HasItem h d j v → ⊥) → Ends h d j n → ⊥
     won_open (Took v) won unread e = unread v e.1
     won_open (Lost w) won unread e = let f = one stage.Won (stage.Lost w) won e in cc
     won_open Undecided won unread e = let f = one stage.Won stage.Undecided won e in cc
 
-    -- that of a lost claim is its loss
+    -- the end of a lost claim is its loss
     pub lost_end : (w : ℕ) (n : Note) → IsClaimPrefix cs d (claim_part d j (claim_accesses h)) (stage.Lost w)
         → Ends h d j n → Lost w ≡ n
     lost_end w (Took v) lost e = absurd (let f = one (stage.Lost w) stage.Won lost e.0 in cc)
@@ -141,7 +141,7 @@ module _ (cs : Claims) where
     undecided_end (Lost u) still e = absurd (let f = one stage.Undecided (stage.Lost u) still e in cc)
     undecided_end Undecided still e = refl
 
-    -- that of a won claim is the only value loaded from its item
+    -- the end of a won claim has the only value loaded from its item
     pub won_end : (v : ℕ) (n : Note) → IsClaimPrefix cs d (claim_part d j (claim_accesses h)) stage.Won
         → ((u : ℕ) → HasItem h d j u → v ≡ u) → Ends h d j n → Took v ≡ n
     won_end v (Took u) won only e = ap Took (only u e.1)

@@ -38,15 +38,18 @@ use Rattle.mb_world.proofs.WorldKnown.{WorldKnown}
 use mathlib.Core.List.{reverse-cons}
 
 -- ---- lists of cells
+-- a cell of the first list is in both joined
 has_left : (xs ys : List ℕ) (k : ℕ) → Has xs k → Has (xs ++ ys) k
 has_left [] ys k has = absurd has
 has_left (x ∷ xs) ys k (inl e) = inl e
 has_left (x ∷ xs) ys k (inr m) = inr (has_left xs ys k m)
 
+-- a cell of the second list is in both joined
 has_right : (xs ys : List ℕ) (k : ℕ) → Has ys k → Has (xs ++ ys) k
 has_right [] ys k has = has
 has_right (x ∷ xs) ys k has = inr (has_right xs ys k has)
 
+-- what a list with a last element has
 has_last : (xs : List ℕ) (x k : ℕ) → Has (xs ++ x ∷ []) k → Has (x ∷ xs) k
 has_last [] x k has = has
 has_last (y ∷ xs) x k (inl e) = inr (inl e)
@@ -61,7 +64,7 @@ has_of_reverse (x ∷ xs) k has =
       | inr m ↦ inr (has_of_reverse xs k m)
     ]
 
--- where each stands once, none stands in both parts
+-- if each cell stands once in a list, none stands in both of its parts
 once_apart : (xs ys : List ℕ) (k : ℕ) → IsOnceEach (xs ++ ys) → Has xs k → Has ys k → ⊥
 once_apart [] ys k once has there = has
 once_apart (x ∷ xs) ys k once (inl e) there =
@@ -69,11 +72,13 @@ once_apart (x ∷ xs) ys k once (inl e) there =
 once_apart (x ∷ xs) ys k once (inr m) there = once_apart xs ys k once.1 m there
 
 -- ---- the cells that have notes
+-- a cell on which the claim has ended was met
 closed_has : (ks : List ℕ) (z : Option (List ObjectTurn)) (k : ℕ) → Has (closed ks z) k → Has ks k
 closed_has ks None k has = has
 closed_has [] (Some xs) k has = absurd has
 closed_has (q ∷ qs) (Some xs) k has = inr has
 
+-- a cell at a place with a note is one on which the claim has ended
 closed_at : (ks : List ℕ) (z : Option (List ObjectTurn)) (j k : ℕ) → StandsAt ks j k → j < length (closed ks z)
     → Has (closed ks z) k
 closed_at ks None j k at less = at_has ks j k at
@@ -81,17 +86,19 @@ closed_at [] (Some xs) j k at less = absurd at
 closed_at (q ∷ qs) (Some xs) j k (inl at) less = absurd (omega (arith, at.0, less))
 closed_at (q ∷ qs) (Some xs) j k (inr at) less = at_has qs j k at
 
--- the cells linked later than these
+-- the lane's cells are those with notes, and cells linked later
 closed_cut : (ks : List ℕ) (z : Option (List ObjectTurn)) (later ls : List ℕ) → later ++ ks ≡ ls
     → (late : List ℕ) × (late ++ closed ks z ≡ ls)
 closed_cut ks None later ls e = (later, e)
 closed_cut [] (Some xs) later ls e = (later, e)
 closed_cut (q ∷ qs) (Some xs) later ls e = (later ++ q ∷ [], append_assoc later (q ∷ []) qs ∙ e)
 
--- ---- a seat
+-- ---- whether a seat's claim is begun
+-- a list with an element is not empty
 cons_some : (x : ObjectTurn) (xs : List ObjectTurn) → x ∷ xs ≢ []
 cons_some x xs e = cc
 
+-- a claim is begun exactly if it has steps
 claim_begun : (b : Bool) (xs : List ObjectTurn) → (b ≡ true) ↔ (xs ≢ []) → b ≡ has_begun (Some xs)
 claim_begun true [] w = absurd (w.0 refl refl)
 claim_begun false [] w = refl
@@ -113,10 +120,12 @@ seat_begun layout c (q ∷ qs) (Some xs) seat.AtHead is = absurd is
 seat_begun layout c (q ∷ qs) (Some xs) (seat.PastCell k) is = absurd is
 seat_begun layout c (q ∷ qs) (Some xs) (seat.AtCell k claim) is = claim_begun claim.begun xs is.2.begun
 
--- ---- a lane
+-- ---- a lane, and the place of a diary
+-- the view of a lane that is made of these parts
 abbrev lane_of : List ℕ → Bool → List ℕ → LaneView
 lane_of put ended left = record { put = put; ended = ended; left = left }
 
+-- views of a lane with the same parts are one
 lane_same : (l m : LaneView) → l.put ≡ m.put → l.ended ≡ m.ended → l.left ≡ m.left → l ≡ m
 lane_same l m a b c =
     ap (λ x. lane_of x l.ended l.left) a ∙ (ap (λ x. lane_of m.put x l.left) b ∙ ap (λ x. lane_of m.put m.ended x) c)

@@ -21,7 +21,7 @@ use Rattle.mb_world.specs.EventSteps.{EventAdds}
 use Rattle.mb_world.proofs.StateEnds.{Ends}
 use Rattle.mb_world.proofs.StatePlaces.{HasAll, all_kept, all_set}
 
--- what stands at a place is one
+-- at a place stands one thing
 one_there : {X : Type 0} (o : Option X) (x y : X) → o ≡ Some x → o ≡ Some y → x ≡ y
 one_there o x y e f = let both : Some x ≡ Some y = sym e ∙ f in cc
 
@@ -46,7 +46,7 @@ module _ (s : WorldState) (h : WorldHistory) (is : IsWorldAfter h s) where
   abbrev pub AreNotes : WorldHistory → List (Option Note) → Type 0
   AreNotes g os = HasAll (consumers_of plan) plan.claims.cells (λ c k o. IsNoteAfter s.setup c k g o) os
 
-  -- the seat that stands there
+  -- the seat at the place of consumer c and lane p
   pub seat_here : (c p : ℕ) (d : Seat) → c < consumers_of plan → p < plan.lanes
       → slice_get s.seats (seat_place c p) ≡ Some d → IsSeatAfter s.setup c p h d
   seat_here c p d cs ps at =
@@ -54,7 +54,7 @@ module _ (s : WorldState) (h : WorldHistory) (is : IsWorldAfter h s) where
       subst (λ (e : Seat). IsSeatAfter s.setup c p h e)
       (one_there (slice_get s.seats (seat_place c p)) old.0 d old.1 at) old.2
 
-  -- the note that stands there
+  -- the note at the place of consumer c and cell k
   pub note_here : (c k : ℕ) → c < consumers_of plan → k < plan.claims.cells
       → (o : Option Note) × (slice_get s.notes (note_place c k) ≡ Some o) × IsNoteAfter s.setup c k h o
   note_here c k cs ks = is.note c k cs ks
@@ -85,7 +85,7 @@ module _ (s : WorldState) (h : WorldHistory) (is : IsWorldAfter h s) where
       is = at;
     }
 
-    -- its seat stays
+    -- the seats stay as they are, if that of the consumer on the lane is right after the access
     pub seats_kept : (d : Seat) → slice_get s.seats (seat_place c p) ≡ Some d → IsSeatAfter s.setup c p (a ∷ h) d
         → AreSeats (a ∷ h) s.seats
     seats_kept d at now =

@@ -31,7 +31,7 @@ IsHeld c done ks None = Unit {0}
 IsHeld c done [] (Some xs) = ⊥
 IsHeld c done (k ∷ ks) (Some xs) = claim_part c k (claim_accesses done) ≡ xs
 
--- and it has not come to its end
+-- a held claim has not come to its end
 abbrev pub IsOpenHeld : Claims → ℕ → Option (List ObjectTurn) → Type 0
 IsOpenHeld cs c None = Unit {0}
 IsOpenHeld cs c (Some xs) = (s : Stage) × IsClaimPrefix cs c xs s × (note_of s ≡ None)
@@ -43,6 +43,7 @@ AreEnds E [] (n ∷ ns) = ⊥
 AreEnds E (k ∷ ks) [] = ⊥
 AreEnds E (k ∷ ks) (n ∷ ns) = E k n × AreEnds E ks ns
 
+-- if each end in one sense is one in another, cells keep their notes
 pub ends_more : (E F : ℕ → Note → Type 0) (ks : List ℕ) (ns : List Note)
     → ((k : ℕ) (n : Note) → Has ks k → E k n → F k n) → AreEnds E ks ns → AreEnds F ks ns
 ends_more E F [] [] more h = tt
@@ -58,7 +59,7 @@ ends_some E (j ∷ ks) [] k h has = absurd h
 ends_some E (j ∷ ks) (n ∷ ns) k h (inl e) = (n, subst (λ i. E i n) e h.0)
 ends_some E (j ∷ ks) (n ∷ ns) k h (inr has) = ends_some E ks ns k h.1 has
 
--- one more load
+-- what was read is read still after one more access
 pub read-more : (a : PoolAccess) (d : History) (w : Word) (v : ℕ) → HasRead w v d → HasRead w v (a ∷ d)
 read-more a d w v h = (h.0, inr h.1, h.2, h.3)
 
@@ -70,7 +71,7 @@ read-cases a d w v h = by h.1
     by (inl e) = inl (ap (λ (x : PoolAccess). x.word) e ∙ h.2)
     by (inr m) = inr (h.0, m, h.2, h.3)
 
--- the link behind cells is no item, and if it is the link of a cell, the cell is the last of these
+-- the link past cells is no item, and if it is the link of a cell, the cell is the last of these
 pub past_item : (p k : ℕ) (ks : List ℕ) → place_past p ks ≡ Item k → ⊥
 past_item p k [] e = cc
 past_item p k (j ∷ ks) e = cc
@@ -79,7 +80,7 @@ pub past_link : (p k : ℕ) (ks : List ℕ) → place_past p ks ≡ Link k → H
 past_link p k [] e = absurd (cc)
 past_link p k (j ∷ ks) e = let same : j ≡ k = cc in inl same
 
--- what a place tells of all that was done
+-- what a consumer's place on a lane tells of all that it did there
 pub record Tracks (cs : Claims) (c : ℕ) (done : WorldHistory) (ks : List ℕ) (ns : List Note)
     (held : Option (List ObjectTurn)) : Type 0 where
   pub given : (k : ℕ) → Has ks k → Gave k (pool_accesses done)
@@ -102,7 +103,7 @@ module _ (cs : Claims) (c : ℕ) where
   loaded a done k (Lost w) e = e
   loaded a done k Undecided e = e
 
-  -- and so does a step on another cell
+  -- a step of the claim on another cell keeps the ends
   stepped : (k : ℕ) (x : ObjectTurn) (done : WorldHistory) (j : ℕ) (n : Note) → (k ≡ j → ⊥)
       → EndsAs cs c j n (local c done) → EndsAs cs c j n (local c (claim_step c k x ∷ done))
   stepped k x done j (Took v) ne e = (

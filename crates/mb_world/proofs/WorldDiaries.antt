@@ -23,14 +23,14 @@ use Rattle.mb_world.proofs.WorldClaims.{end_here, met_all, met_once, on_lane, st
 use Rattle.mb_world.proofs.WorldKnown.{WorldKnown}
 use Rattle.mb_world.proofs.WorldPool.{load_lane, loads, loads_on, of_lane, on_word, read_there}
 
--- what has its note is met
+-- a cell that has its note was met, at the same place
 closed_in : (qs : List ℕ) (z : Option (List ObjectTurn)) (j k : ℕ) → StandsAt (closed qs z) j k → StandsAt qs j k
 closed_in qs None j k at = at
 closed_in [] (Some xs) j k at = at
 closed_in (q ∷ qs) (Some xs) j k at = inr at
 
 module _ (plan : Plan) (h : WorldHistory) (lawful : IsWorldLawful plan h) (known : WorldKnown plan h) where
-  -- no other cell of the lane was given
+  -- no other cell of the lane was given than those met
   pub no_other : (c p k : ℕ) (y : IsOnPath plan c p h) → Gave k (loads plan h lawful c)
       → Has (linked_cells p (pool_accesses h)) k
       → Has y.cells k

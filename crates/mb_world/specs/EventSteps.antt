@@ -1,4 +1,4 @@
--- The state of a world after an event.
+-- What an event makes of the state of a world, and states of which one part is changed.
 use Rattle.std.specs.Prelude.{ℕ, ◌≡◌, ◌+◌, ◌*◌, ◌<◌, Option, Some, None, List, slice_get, slice_set}
 use Rattle.mb_claim.specs.declared.access.Stage.TheVariants as stage
 use Rattle.mb_claim.specs.declared.claim.Claim.{Claim}
@@ -45,19 +45,19 @@ with_seat c p d s = record s { seats = slice_set s.seats (c * (plan_in s.setup).
 abbrev pub with_note : ℕ → ℕ → Note → WorldState → WorldState
 with_note c k n s = record s { notes = slice_set s.notes (c * (plan_in s.setup).claims.cells + k) (Some n) }
 
--- the same, if there is a note
+-- the state with this note of consumer c on cell k, if there is a note
 abbrev pub with_note_if : ℕ → ℕ → Option Note → WorldState → WorldState
 with_note_if c k None s = s
 with_note_if c k (Some n) s = with_note c k n s
 
--- where a consumer stands after a step of its claim on cell k
+-- the seat of a consumer after a step of its claim on cell k, by that claim and its stage after the step
 abbrev pub seat_by : ℕ → Claim → Stage → Seat
 seat_by k claim stage.Going = seat.AtCell k claim
 seat_by k claim stage.Won = seat.AtCell k claim
 seat_by k claim (stage.Lost w) = seat.PastCell k
 seat_by k claim stage.Undecided = seat.PastCell k
 
--- ---- words
+-- ---- the words of the claims, and the pool
 -- the state with these words of the claims
 abbrev pub with_words : List ℕ → WorldState → WorldState
 with_words words s = record s { words = words }

@@ -5,7 +5,7 @@ use Rattle.mb_shared_claims.specs.Types.{ClaimAccess, Handing, Standing, TableSi
 use Rattle.mb_shared_claims.specs.Views.{HasPart, HasPartAt}
 use Rattle.mb_shared_claims.proofs.examples.words_and_views_disagree.Goals as goal
 
--- where nobody did anything, nothing was done
+-- if nobody did anything, nothing was done
 nothing : ((a : ClaimAccess) (h : List ClaimAccess) → part a.consumer (a ∷ h) ≡ a ∷ part a.consumer h)
     → (h : List ClaimAccess) → ((c : ℕ) → part c h ≡ []) → h ≡ []
 nothing own [] idle = refl
