@@ -161,7 +161,7 @@ calls_once size p q k calls s made x y =
     one_lane (size_of s) b.history p q k b.after.lawful
     (subst (λ z. Has z k) (sym (b.tells.cells_linked p)) x) (subst (λ z. Has z k) (sym (b.tells.cells_linked q)) y)
 
--- and there once
+-- a cell stands once in its lane
 pub calls_once_each : (size : PoolSize) (p : ℕ) (calls : List Call) (s : PoolState) → HasMade size calls s
     → IsOnceEach (linked_cells_by p calls)
 calls_once_each size p calls s made =

@@ -14,7 +14,7 @@ use Rattle.mb_cells.proofs.Items.{lower}
 use Rattle.mb_cells.proofs.Names.{own_process}
 use Rattle.mb_cells.proofs.Parts.{Has-of_part, Has-part}
 
--- whether an item has a cell that is not linked, and whether the last fetch-add found none
+-- whether an item has a cell that is not linked
 abbrev is_pending : Phase → Bool
 is_pending Open = false
 is_pending (Offered e) = true
@@ -22,6 +22,7 @@ is_pending (Stored e) = true
 is_pending (Full e) = false
 is_pending (Ended r) = false
 
+-- whether the last fetch-add found no cell, and the lane has not ended
 abbrev found_none : Phase → Bool
 found_none Open = false
 found_none (Offered e) = false
@@ -29,7 +30,7 @@ found_none (Stored e) = false
 found_none (Full e) = true
 found_none (Ended r) = false
 
--- ---- by the phase
+-- ---- when each call is refused, by the producer's phase
 closed_at : (phase : Phase) → (stage_offer_refusal (stage_of phase) ≡ Some offer.Closed) ↔ (is_ended phase ≡ true)
 closed_at Open = (λ e. cc, λ e. cc)
 closed_at (Offered x) = (λ e. cc, λ e. cc)
@@ -94,21 +95,24 @@ done_at (Stored x) e f = absurd (cc)
 done_at (Full x) e f = refl
 done_at (Ended r) e f = absurd (cc)
 
--- ---- by the history
+-- ---- what the phase says of the history: what is pending, and what found no cell
 -- the number that an act of the counter gave
 abbrev number_of : PoolAct → ℕ
 number_of (FetchAdd x n) = n
 number_of (Store v) = 0
 number_of (Load v) = 0
 
+-- one fetch-add gave one cell
 same_cell : (p : ℕ) (e f : Entry) → fetch p e ≡ fetch p f → e.cell ≡ f.cell
 same_cell p e f is = ap (λ (a : PoolAccess). number_of a.act) is
 
+-- whether an act is a fetch-add
 abbrev is_add : PoolAct → Bool
 is_add (FetchAdd x n) = true
 is_add (Store v) = false
 is_add (Load v) = false
 
+-- a store is no fetch-add
 no_store : (p v : ℕ) (w : Word) (e : Entry) → store p w v ≡ fetch p e → ⊥
 no_store p v w e is = let f : false ≡ true = ap (λ (a : PoolAccess). is_add a.act) is in cc
 
@@ -172,7 +176,7 @@ module _ (size : PoolSize) (h : History) (p : ℕ) (lawful : IsPoolLawful size h
         lower size.cells e.cell es at.below
         (subst (λ ks. Has ks e.cell) (cells_at size p h es phase lawful.sized at) has)
 
-  -- what is pending, by the phase
+  -- if the phase says so, an item is pending
   pending_at : (es : List Entry) (phase : Phase) (at : LaneIsAt size.cells p es phase (part (Producer p) h))
       → is_pending phase ≡ true → HasPending size.cells p h
   pending_at es Open at e = absurd (cc)
@@ -191,6 +195,7 @@ module _ (size : PoolSize) (h : History) (p : ℕ) (lawful : IsPoolLawful size h
   pending_at es (Full x) at e = absurd (cc)
   pending_at es (Ended r) at e = absurd (cc)
 
+  -- a number of the phase that is a cell's is pending
   last_pending : (phase : Phase) (n : ℕ) → n < size.cells → IsLast size.cells phase n → is_pending phase ≡ true
   last_pending Open n got last = absurd last
   last_pending (Offered x) n got last = refl
@@ -198,6 +203,7 @@ module _ (size : PoolSize) (h : History) (p : ℕ) (lawful : IsPoolLawful size h
   last_pending (Full x) n got last = absurd (omega (arith, got, last))
   last_pending (Ended r) n got last = absurd (omega (arith, got, last))
 
+  -- if an item is pending, the phase says so
   pending_tells : (es : List Entry) (phase : Phase) → LaneIsAt size.cells p es phase (part (Producer p) h)
       → HasPending size.cells p h → is_pending phase ≡ true
   pending_tells es phase at pending = elim (add_of es phase at pending.entry pending.offered) [
@@ -205,7 +211,7 @@ module _ (size : PoolSize) (h : History) (p : ℕ) (lawful : IsPoolLawful size h
     | inr last ↦ last_pending phase pending.entry.cell pending.got last
   ]
 
-  -- what found no cell
+  -- if the phase says so, a fetch-add found no cell
   none_at : (es : List Entry) (phase : Phase) (at : LaneIsAt size.cells p es phase (part (Producer p) h))
       → found_none phase ≡ true → (is_ended phase ≡ false) × HasFoundNone size.cells p h
   none_at es Open at e = absurd (cc)
@@ -215,6 +221,7 @@ module _ (size : PoolSize) (h : History) (p : ℕ) (lawful : IsPoolLawful size h
       (refl, record { entry = x; offered = made es (Full x) at x (inl refl); past = at.fits })
   none_at es (Ended r) at e = absurd (cc)
 
+  -- a number of the phase that is no cell's was found by a fetch-add that found none
   last_none : (phase : Phase) (n : ℕ) → size.cells ≤ n → is_ended phase ≡ false → IsLast size.cells phase n
       → found_none phase ≡ true
   last_none Open n past still last = absurd last
@@ -223,6 +230,7 @@ module _ (size : PoolSize) (h : History) (p : ℕ) (lawful : IsPoolLawful size h
   last_none (Full x) n past still last = refl
   last_none (Ended r) n past still last = absurd (cc)
 
+  -- if a fetch-add found no cell, the phase says so
   none_tells : (es : List Entry) (phase : Phase) → LaneIsAt size.cells p es phase (part (Producer p) h)
       → is_ended phase ≡ false → HasFoundNone size.cells p h → found_none phase ≡ true
   none_tells es phase at still none = elim (add_of es phase at none.entry none.offered) [
@@ -230,7 +238,7 @@ module _ (size : PoolSize) (h : History) (p : ℕ) (lawful : IsPoolLawful size h
     | inr last ↦ last_none phase none.entry.cell none.past still last
   ]
 
-  -- ---- the calls of a lane
+  -- ---- when each call of a lane is refused, by the history
   module _ (lane : Lane) (here : IsLaneAfter size.cells p lane (part (Producer p) h)) where
     ended : has_ended p h ≡ is_ended here.phase
     ended = ended_is size.cells p h here.entries here.phase lawful.sized here.at

@@ -146,7 +146,7 @@ push_within size p lane done w v lt x is =
     by (phase.Full _) s at push = elim push [ ]
     by (phase.Ended _) s at push = elim push [ ]
 
--- and its value is a word of 64 bits
+-- the value that a push stores is a word of 64 bits
 pub push_value : (size : PoolSize) (h : History) (p : ℕ) (lane : Lane) (w : Word) (v : ℕ) → IsPoolLawful size h
     → IsLaneAfter size.cells p lane (part (Producer p) h) → push_store p lane ≡ Some (w, v) → v < 2 ^ 64
 push_value size h p lane w v l x is =
@@ -212,7 +212,7 @@ newest_within size h a l =
         subst (IsReaderPath size.lanes) (part-own (Reader r) a h own) (l.readers r) in
         word-of_pool size a.word (read_within size h r a.word (lawful-tail size a h l) path.1)
 
--- and so is each of its accesses
+-- each access of a lawful history is to a word of the pool
 pub all_within : (size : PoolSize) (h : History) (a : PoolAccess) → IsPoolLawful size h → Has h a
     → IsPoolWord size a.word
 all_within size [] a l has = absurd has

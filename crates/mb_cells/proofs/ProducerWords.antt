@@ -175,7 +175,7 @@ chained_at p es (Ended (Some e)) f =
     in_chain-counter p (e ∷ es) w (inr (inl is)) = subst (λ x. is_same_word Counter x ≡ false) (sym is) refl
     in_chain-counter p (e ∷ es) w (inr (inr i)) = in_chain-counter p es w i
 
--- and in the word past it 0 or the end mark
+-- the next link of a producer holds 0 or the end mark
 pub next_at : (p : ℕ) (es : List Entry) (phase : Phase) → AreFalling es
     → value_in (place_after p es) (part_at p es phase) ≡ end_value phase
 next_at p es Open f = groups-next p es f

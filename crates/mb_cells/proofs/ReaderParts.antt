@@ -19,7 +19,7 @@ Gave-filter test (a ∷ d) k gave =
     (λ _ g. elim g [ inl gift ↦ inl gift | inr older ↦ inr (Gave-filter test d k older) ])
     (λ _ g. inr (Gave-filter test d k g)) gave
 
--- so it led to no more words
+-- a word that some of the accesses allow to load is allowed by all
 MayRead-filter : (lanes : ℕ) (test : PoolAccess → Bool) (d : History) (w : Word) → MayRead lanes w (filter test d)
     → MayRead lanes w d
 MayRead-filter lanes test d Counter may = may
@@ -27,7 +27,7 @@ MayRead-filter lanes test d (Head p) may = may
 MayRead-filter lanes test d (Link k) may = Gave-filter test d k may
 MayRead-filter lanes test d (Item k) may = Gave-filter test d k may
 
--- what came before in a part
+-- a reader path of some of the accesses is one without the last access
 path-older : (lanes : ℕ) (test : PoolAccess → Bool) (a : PoolAccess) (d : History)
     → IsReaderPath lanes (filter test (a ∷ d)) → IsReaderPath lanes (filter test d)
 path-older lanes test a d path =
@@ -59,7 +59,7 @@ has_cell-true (j ∷ js) k (inr has) = rw (has_cell-true js k has) (or-true (nat
     or-true true = refl
     or-true false = refl
 
--- and the other way round
+-- a cell that passes the test is in the list
 pub cell-of_true : (ks : List ℕ) (k : ℕ) → has_cell ks k ≡ true → Has ks k
 cell-of_true [] k is = absurd (false≢true is)
 cell-of_true (j ∷ js) k is =
@@ -79,7 +79,7 @@ pub met-cell : (size : PoolSize) (h : History) (r p k : ℕ) (ks : List ℕ) →
 met-cell size h r p k ks l met = let s = met_start size h r p (k ∷ ks) l met in
     start-cell s.0 ks (linked_cells p h) k s.1
 
--- these are accesses of reader r in the history
+-- all these accesses are of reader r, and in the history
 abbrev pub AreOf : ℕ → History → History → Type 0
 AreOf r h d = (a : PoolAccess) → Has d a → Has h a × (a.process ≡ Reader r)
 

@@ -19,6 +19,7 @@ without : ℕ → List ℕ → List ℕ
 without m [] = []
 without m (k ∷ ks) = cond (nat_eq k m) ks (k ∷ without m ks)
 
+-- at most one element is missing
 length_without : (m : ℕ) (ks : List ℕ) → length ks ≤ suc (length (without m ks))
 unfolding without
 length_without m [] = omega arith
@@ -69,7 +70,7 @@ at_most (suc m) ks once low =
     let long = length_without m ks in
     omega arith
 
--- and a list that has all of them has no less
+-- a list that has all numbers below m has no fewer than m
 at_least : (m : ℕ) (ks : List ℕ) → ((k : ℕ) → k < m → Has ks k) → m ≤ length ks
 at_least zero ks all = omega arith
 at_least (suc m) ks all =
@@ -129,7 +130,7 @@ once_both (x ∷ xs) ys a b apart = (
   once_both xs ys a.1 b (λ k s t. apart k (inr s) t),
 )
 
--- each of them is in one of these lanes
+-- each cell of the first n lanes is in one of these lanes
 in_lane : (n : ℕ) (h : History) (k : ℕ) → Has (cells_in n h) k → (p : ℕ) × ((p < n) × Has (linked_cells p h) k)
 unfolding cells_in
 in_lane zero h k has = absurd has
@@ -147,7 +148,7 @@ lane_in (suc n) h p k low has = elim (cases_eq p n) [
   | inr other ↦ has_second (linked_cells n h) (cells_in n h) k (lane_in n h p k (omega (arith, other)) has)
 ]
 
--- and stands there once
+-- each cell of the first n lanes stands there once
 once_all : (size : PoolSize) (h : History) (n : ℕ) → IsPoolLawful size h → IsOnceEach (cells_in n h)
 unfolding cells_in
 once_all size h zero l = tt
@@ -159,6 +160,7 @@ once_all size h (suc n) l =
     let low = x.1.0 in
     omega (arith, same, low))
 
+-- all lanes together have no more items than there are cells
 pub few_in_all : (size : PoolSize) (h : History) → IsPoolLawful size h → items_put size.lanes h ≤ size.cells
 few_in_all size h l =
     let most = at_most size.cells (cells_in size.lanes h) (once_all size h size.lanes l)
@@ -179,6 +181,7 @@ got_by size h k l (a, (has, (word, (x, act)))) =
       | inr own ↦ absurd (let acts : FetchAdd x k ≡ Store (k + 1) = sym act ∙ own.0 in cc)
     ]
 
+-- if a fetch-add found no cell and each cell got is linked, all cells are put
 pub all_items : (size : PoolSize) (h : History) (p : ℕ) (e : Entry) → IsPoolLawful size h → Has h (fetch p e)
     → size.cells ≤ e.cell → AllLinked size h → items_put size.lanes h ≡ size.cells
 all_items size h p e l has high linked =
@@ -192,10 +195,11 @@ all_items size h p e l has high linked =
     lane_in size.lanes h x.0 k (cell_within size h x.0 k l at).0 at) in
     omega (arith, most, least, length_cells size.lanes h)
 
--- a store is no fetch-add, and one fetch-add has one number
+-- a store is no fetch-add
 not_fetch : (p : ℕ) (w : Word) (v : ℕ) (e : Entry) → store p w v ≡ fetch p e → ⊥
 not_fetch p w v e is = let acts : Store v ≡ FetchAdd e.value e.cell = ap (λ (z : PoolAccess). z.act) is in cc
 
+-- one fetch-add has one number
 cell_is : (p : ℕ) (x e : Entry) → fetch p x ≡ fetch p e → x.cell ≡ e.cell
 cell_is p x e is =
     let acts : FetchAdd x.value x.cell ≡ FetchAdd e.value e.cell = ap (λ (z : PoolAccess). z.act) is in cc

@@ -17,7 +17,7 @@ abbrev pub last_of : List Entry → Option ℕ
 last_of [] = None
 last_of (e ∷ _) = Some e.cell
 
--- as much of the phase as the producer has to know
+-- the stage of a producer: as much of its phase as it has to know
 abbrev pub stage_of : Phase → LaneStage
 stage_of phase.Open = stage.Open
 stage_of (phase.Offered e) = stage.Offered e.cell e.value
@@ -69,7 +69,7 @@ abbrev pub link_after : ℕ → Option ℕ → Word
 link_after p None = Head p
 link_after p (Some k) = Link k
 
--- where the next link or the end mark of the lane goes
+-- the word in which the next link or the end mark of the lane is stored
 abbrev pub next_link : ℕ → Lane → Word
 next_link p lane = link_after p lane.last
 
@@ -81,7 +81,7 @@ stage_push_store link (stage.Ended full) = None
 stage_push_store link stage.Full = None
 stage_push_store link stage.Open = None
 
--- a push stores first the item, then the link
+-- the store of a push, by the producer's place: first the item, then the link
 abbrev pub push_store : ℕ → Lane → Option (Word × ℕ)
 push_store p lane = stage_push_store (next_link p lane) lane.stage
 
@@ -151,11 +151,11 @@ abbrev pub history_after_offer : ℕ → ℕ → ℕ → Lane → History → Hi
 history_after_offer p x n lane h =
     if is_some (offer_refusal lane) then h else (fetch p (record { cell = n; value = x }) ∷ h)
 
--- the history after a push
+-- the history, or the part, after a push
 abbrev pub history_after_push : ℕ → Lane → History → History
 history_after_push p lane h = option_map_or (λ s. store p s.0 s.1 ∷ h) (push_store p lane) h
 
--- the history after a finish
+-- the history, or the part, after a finish
 abbrev pub history_after_finish : ℕ → Lane → History → History
 history_after_finish p lane h =
     if is_some (finish_refusal lane) then h else (store p (next_link p lane) END ∷ h)

@@ -11,7 +11,7 @@ use Rattle.mb_claim.proofs.KindLaws.{OfKind}
 use Rattle.mb_claim.proofs.ObjectHistories.{turns_at}
 use Rattle.mb_claim.proofs.Parts.{Member, Forward, Ends, forward}
 
--- The consumers of one cell, from object o on, if hs n is the history of object n. For each consumer: its input
+-- The consumers of one cell, from object o on, with hs n as the history of object n. For each consumer: its input
 -- to object o, what its part has from there on, and its stage. What holds of P holds of the inputs of all who have
 -- come so far.
 pub record Family (t : QuorumTable) (ks : List Kind) (o : ℕ) (hs : ℕ → List Access) (P : ℕ → Type 0) : Type 0 where
@@ -94,7 +94,7 @@ module _ (t : QuorumTable) (k : Kind) (ks : List Kind) (o : ℕ) (hs : ℕ → L
         words = fam.words;
       }
 
-  -- the same, with what held of the inputs
+  -- the consumers at the next object, with what held of the inputs
   abbrev pub next : OfKind t k → Family t ks (suc o) hs P
   next law = next_with P (λ c u out. output_holds law c false u out)
 
@@ -111,7 +111,7 @@ module _ (t : QuorumTable) (k : Kind) (ks : List Kind) (o : ℕ) (hs : ℕ → L
       HasOutput (object_of t k fam.input) c true u (hs o)
       ⊎ (HasOutput (object_of t k fam.input) c false (step c).value (hs o) × StageNames c (step c).stage u)
 
-  -- the same, by how the part ends
+  -- a stage that names u is one of these, by how the part ends
   ended_by :
       (c u : ℕ) → StageNames c (fam.stage c) u
       → Ends t c k o (fam.input c) (fam.rest c) (fam.stage c) (step c).value (step c).stage → Ended c u
@@ -125,7 +125,7 @@ module _ (t : QuorumTable) (k : Kind) (ks : List Kind) (o : ℕ) (hs : ℕ → L
   pub ended : (c u : ℕ) → StageNames c (fam.stage c) u → Ended c u
   ended c u n = ended_by c u n (step c).ends
 
-  -- the same as below, by how the part ends
+  -- an undecided claim has passed this object undecided, by how the part ends
   passed_by :
       (c : ℕ) → fam.stage c ≡ Undecided
       → Ends t c k o (fam.input c) (fam.rest c) (fam.stage c) (step c).value (step c).stage

@@ -17,12 +17,12 @@ turns_at-turns_on o (t ∷ ts) =
     ap (λ b. cons_option (cond b (Some t) None) (turns_at o (turns_on o ts))) (eq-eqb o o refl)
     ∙ ap (λ zs. t ∷ zs) (turns_at-turns_on o ts)
 
--- and there are as many
+-- there are as many turns as steps
 pub length-turns_on : (o : ℕ) (ts : List Turn) → length (turns_on o ts) ≡ length ts
 length-turns_on o [] = refl
 length-turns_on o (t ∷ ts) = ap suc (length-turns_on o ts)
 
--- and none went to another object
+-- turns on one object are none on another
 pub turns_at-turns_on_other : (o n : ℕ) (ts : List Turn) → (o ≡ n → ⊥) → turns_at n (turns_on o ts) ≡ []
 turns_at-turns_on_other o n [] ne = refl
 turns_at-turns_on_other o n (t ∷ ts) ne =

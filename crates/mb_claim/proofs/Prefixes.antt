@@ -44,7 +44,7 @@ whole_path t (kind ∷ kinds) o v =
     let all = path_on t kind kinds o v (whole_path t kinds (suc o)) first.0 first.1 first.2 first.3 in
     (all.0 ++ turns_on o first.0, all.1, all.2)
 
--- ---- what belongs is a prefix
+-- ---- what belongs to a claim is a prefix of a whole path
 -- what goes on is completed
 completed_open :
     (t : QuorumTable) (kind : Kind) (kinds : List Kind) (o v : ℕ) (xs : List ObjectTurn) (turns : List Turn)
@@ -74,7 +74,7 @@ completed t c (kind ∷ kinds) o v xs s (inr (inr (u, rest, x, p))) =
     ap (λ zs. whole.0 ++ zs) x.all ∙ sym (append_assoc whole.0 rest (turns_on o x.turns)) in
     (whole.0, whole.1, (x.turns, whole.0 ++ rest, false, u, all, x.path, inr (refl, whole.2)))
 
--- ---- what is a prefix belongs
+-- ---- a prefix of a whole path belongs to a claim
 -- Two ways to cut one list: the older part of the first reaches past that of the second, or lies within it.
 abbrev IsCut : {A : Type 0} → List A → List A → List A → List A → Type 0
 IsCut {A} later xs rest back =

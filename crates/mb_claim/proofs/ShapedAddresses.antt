@@ -5,8 +5,8 @@ use Rattle.mb_claim.specs.{row_of, shaped_words}
 use Rattle.mb_claim.proofs.Addresses.{row_words-pairs_of, words_before-pairs_of}
 use Rattle.mb_claim.proofs.LayoutObjects.{length-pairs_of}
 
--- ---- rows joined
--- they have the words of both
+-- ---- two rows joined
+-- two rows joined have the words of both
 row_words-append : (r : ℕ) (xs ys : List Kind) → row_words r (xs ++ ys) ≡ row_words r xs + row_words r ys
 row_words-append r [] ys = omega arith
 row_words-append r (x ∷ xs) ys = omega (arith, row_words-append r xs ys)
@@ -17,7 +17,7 @@ before_ahead r [] ys o h = absurd (omega (arith, h))
 before_ahead r (x ∷ xs) ys zero h = refl
 before_ahead r (x ∷ xs) ys (suc o) h = omega (arith, before_ahead r xs ys o (omega (arith, h)))
 
--- and one of the second has those of the first, too
+-- an object of the second row has those of the first before it, too
 before_behind :
     (r : ℕ) (xs ys : List Kind) (n o : ℕ) → n ≡ length xs + o
     → words_before r (xs ++ ys) n ≡ row_words r xs + words_before r ys o
@@ -25,7 +25,7 @@ before_behind r [] ys n o e = let same : n ≡ o = omega (arith, e) in omega (ar
 before_behind r (x ∷ xs) ys zero o e = absurd (omega (arith, e))
 before_behind r (x ∷ xs) ys (suc n) o e = omega (arith, before_behind r xs ys n o (omega (arith, e)))
 
--- ---- the three parts of a row
+-- ---- the words of the fast path and of the last object
 fast_words : (r : ℕ) (b : Bool) → row_words r (fast_row b) ≡ length (fast_row b) * (1 + r)
 fast_words r true = omega arith
 fast_words r false = omega arith
@@ -44,7 +44,7 @@ nothing_before : (r : ℕ) (b : Bool) → words_before r (last_row b) 0 ≡ 0
 nothing_before r true = refl
 nothing_before r false = refl
 
--- ---- the row
+-- ---- a row of any shape
 pub row_words-row_of : (r s n : ℕ) (shape : Shape) → row_words r (row_of shape s n) ≡ shaped_words r shape n
 row_words-row_of r s n shape =
     omega (

@@ -49,7 +49,7 @@ stored_here : (b : Bool) (stored : Option ℕ) (n : ℕ) → b ≡ true
 stored_here b None n e = refl
 stored_here b (Some m) n e = ap (λ a. cond a m n) e
 
--- and changes nothing if it is another
+-- what is stored in another word changes nothing
 stored_there : (b : Bool) (stored : Option ℕ) (n : ℕ) → b ≡ false
     → option_map_or (λ value. cond b value n) stored n ≡ n
 stored_there b None n e = refl
@@ -67,7 +67,7 @@ other_word op s n q e =
     stored_there (is_same_reg (reg_of_act (act_of op s)) q) (stored_by (act_of op s)) n
     (ap (λ p. is_same_reg p q) (reg_of-act_of op s) ∙ e)
 
--- the same at its cell and object, if n is what it finds
+-- what an op that finds n leaves in its word, at its cell and object
 pub own_place :
     (k o s n : ℕ) (op : Op) → s ≡ n
     → cond (eqb k k) (cond (eqb o o) (value_after (reg_of op) (act_of op s) n) n) n ≡ after_op op n
@@ -81,7 +81,7 @@ same_at true true x n h = h refl refl
 same_at true false x n h = refl
 same_at false b x n h = refl
 
--- the same at another place
+-- what it leaves in a word at another place
 pub other_place :
     (k o s n : ℕ) (op : Op) (j m : ℕ) (q : Reg) → (k ≡ j → o ≡ m → reg_of op ≡ q → ⊥)
     → cond (eqb k j) (cond (eqb o m) (value_after q (act_of op s) n) n) n ≡ n

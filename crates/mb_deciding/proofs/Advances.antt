@@ -113,7 +113,7 @@ announced_next t q v input left r made within at least =
           (each_next (λ k. Store (Quorum k) 1) (t.write v) bound r from),
     )
 
--- and that register is no longer left
+-- after a store the register is no longer left to announce
 pub announced_more :
     (t : QuorumTable) → IsQuorumTable t → (v input left r after : ℕ) (made : List Act) (op : Op) (seen : ℕ)
     → v < t.values → IsInRatifier t v (Announce input left) made → IsRatifierOp t (Announce input left) op → left ≢ 0
@@ -182,7 +182,7 @@ checked_next t q v u left r made within at least =
     let before : made ≡ zeros_below at.0 (t.read u) ++ at.3.0 = at.3.2 in
     (omega arith, (at.3.0, at.3.1, rw next (cc)))
 
--- and that register is no longer left
+-- after a load of 0 the register is no longer left to check
 pub checked_zero :
     (t : QuorumTable) → IsQuorumTable t → (v u left r after : ℕ) (made : List Act) (op : Op) (seen : ℕ) → u < t.values
     → IsInRatifier t v (Check u left) made → IsRatifierOp t (Check u left) op → seen ≡ 0 → IsLeast left r

@@ -63,7 +63,7 @@ proposal_kept v (Store (Quorum r) w) n b e = absurd b
 proposal_kept v (Store Last w) n b e = absurd b
 proposal_kept v (Exchange reg w f) n b e = absurd b
 
--- and so do quorum registers
+-- quorum registers stay empty
 register_kept : (v r : ℕ) (act : Act) (n : ℕ) → StoresInput v act → n ≡ 0 → value_after (Quorum r) act n ≡ 0
 register_kept v r (Load at x) n b e = e
 register_kept v r (Store Value w) n b e = e
@@ -72,7 +72,7 @@ register_kept v r (Store (Quorum i) w) n b e = absurd b
 register_kept v r (Store Last w) n b e = absurd b
 register_kept v r (Exchange reg w f) n b e = absurd b
 
--- and so does a last object's word
+-- a last object's word stays empty
 last_kept : (v : ℕ) (act : Act) (n : ℕ) → StoresInput v act → n ≡ 0 → value_after Last act n ≡ 0
 last_kept v (Load at x) n b e = e
 last_kept v (Store Value w) n b e = e
@@ -98,7 +98,7 @@ module _ (t : QuorumTable) (s : ℕ) (inputs : ℕ → ℕ) where
   abbrev IsFrom : List Access → ℕ → Type 0
   IsFrom h u = (b : ℕ) × (part b h ≢ []) × (inputs b ≡ u)
 
-  -- it is in a longer history too
+  -- it is an input in a longer history, too
   from_kept : (a : Access) (h : List Access) (u : ℕ) → IsFrom h u → IsFrom (a ∷ h) u
   from_kept a h u f = (f.0, some_kept f.0 a h f.1, f.2)
 
@@ -111,7 +111,7 @@ module _ (t : QuorumTable) (s : ℕ) (inputs : ℕ → ℕ) where
         | inr k ↦ (a.process, own_some a h, k)
       ]
 
-  -- and it was stored
+  -- the value in the word was stored
   value_stored : (h : List Access) → L h → (u : ℕ) → value_in Value h ≡ u + 1 → IsAmong (stores_in h) (u + 1)
   value_stored [] l u e = absurd (omega arith)
   value_stored (a ∷ h) l u e =
@@ -183,14 +183,14 @@ module _ (t : QuorumTable) (s : ℕ) (inputs : ℕ → ℕ) where
       proposal_kept (inputs a.process) a.turn.act (value_in Proposal h) (newest_stores a h l)
       (no_proposal h (lawful_older (conciliator_of t s inputs) a h l))
 
-  -- and no quorum registers
+  -- no quorum register holds anything
   no_register : (r : ℕ) (h : List Access) → L h → value_in (Quorum r) h ≡ 0
   no_register r [] l = refl
   no_register r (a ∷ h) l =
       register_kept (inputs a.process) r a.turn.act (value_in (Quorum r) h) (newest_stores a h l)
       (no_register r h (lawful_older (conciliator_of t s inputs) a h l))
 
-  -- and no last word
+  -- a last object's word holds nothing
   no_last : (h : List Access) → L h → value_in Last h ≡ 0
   no_last [] l = refl
   no_last (a ∷ h) l =

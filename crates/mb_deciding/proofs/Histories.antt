@@ -22,7 +22,7 @@ pub part_older :
 part_older t kind v x turns p =
     (p.0 ++ x ∷ [], p.1, subst (λ xs. IsPath t kind v xs p.1) (sym (append_assoc p.0 (x ∷ []) turns)) p.2)
 
--- the same, if the newest turn may be of another process
+-- a part stays a prefix without the newest turn, which may be of another process
 older_by :
     (t : QuorumTable) (kind : Kind) (v : ℕ) (own : Bool) (x : Turn) (turns : List Turn)
     → IsPrefix t kind v (cons_option (cond own (Some x) None) turns) → IsPrefix t kind v turns

@@ -62,7 +62,7 @@ two_more n m e = omega arith
 one_more : (n m : ℕ) → n ≡ suc m → n ≡ 0 + (1 + m)
 one_more n m e = omega arith
 
--- if the preference was just made
+-- with a preference just made, a path is as long as its announcement and one or two acts
 prefers_measured : (t : QuorumTable) (v u : ℕ) (begin : List Act) → Prefers t v u begin → Measured t v 0 begin
 unfolding extra_acts
 prefers_measured t v u begin (inl p) =
@@ -79,7 +79,7 @@ prefers_measured t v u begin (inr p) =
       long = one_more (length begin) (length (announcement t v)) (ap length p);
     }
 
--- after clear loads
+-- a path whose loads were clear so far is as long as its announcement, its preference and its loads
 clear_measured :
     (t : QuorumTable) (v u n : ℕ) (made : List Act) → ReadsClear t v u n made
     → Measured t v (length (zeros_below n (t.read u))) made
@@ -96,7 +96,7 @@ abbrev EndsAt : QuorumTable → ℕ → Bool → ℕ → Type 0
 EndsAt t u true n = n ≡ length (zeros_below t.registers (t.read u))
 EndsAt t u false n = (r : ℕ) × (r < t.registers) × IsMember (t.read u) r × (n ≡ suc (length (zeros_below r (t.read u))))
 
--- after a 1
+-- a path that ended in a 1 is as long, with one load more
 one_measured :
     (t : QuorumTable) (v u : ℕ) (made : List Act) → ReadsOne t v u made
     → (n : ℕ) × EndsAt t u false n × Measured t v n made
@@ -113,7 +113,7 @@ one_measured t v u (act ∷ older) h =
       },
     )
 
--- any whole path
+-- any whole path is so long
 path_measured :
     (t : QuorumTable) (v : ℕ) (made : List Act) (d : Bool) (u : ℕ) → IsRatifierPath t v made d u
     → (n : ℕ) × EndsAt t u d n × Measured t v n made
@@ -243,7 +243,7 @@ record Checked (t : QuorumTable) (v u : ℕ) (made : List Act) : Type 0 where
   pub whole : made ≡ loads ++ begin
   pub few : length loads ≤ count_ones (t.read u)
 
--- each whole path has
+-- each whole path has its preference, and after it at most one load for each register
 path_checked :
     (t : QuorumTable) (v : ℕ) (made : List Act) (d : Bool) (u : ℕ) → IsRatifierPath t v made d u → Checked t v u made
 path_checked t v made true u h =

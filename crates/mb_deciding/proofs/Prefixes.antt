@@ -47,7 +47,7 @@ open_suffix t v [] made h = h
 open_suffix t v (x ∷ later) made h =
     open_suffix t v later made (part_older t v x (later ++ made) (open_part t v (x ∷ later ++ made) h))
 
--- a whole path
+-- a whole path is a prefix
 pub path_part :
     (t : QuorumTable) (v : ℕ) (made : List Act) (d : Bool) (u : ℕ) → IsRatifierPath t v made d u
     → IsRatifierPart t v made
@@ -70,7 +70,7 @@ clear_part t v u n made within h =
       ),
     )
 
--- a preference
+-- a path up to its preference is a prefix
 prefers_part : (t : QuorumTable) (v u : ℕ) (made : List Act) → Prefers t v u made → IsRatifierPart t v made
 prefers_part t v u made h = clear_part t v u 0 made (omega arith) (made, h, refl)
 

@@ -1,4 +1,4 @@
--- The first reason to refuse a schedule, if the number of values is in range.
+-- The first reason to refuse a schedule for a number of values that is in range.
 use Rattle.std.proofs.Common.{◌≡◌, ◌≤◌, ℕ, List, length, Option, Some, None, refl, sym, ap, ◌∙◌}
 use Rattle.std.specs.Option.{option_map_or}
 use Rattle.std.proofs.lemmas.Bool.{cond_above}

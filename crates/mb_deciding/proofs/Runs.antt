@@ -29,7 +29,7 @@ history_from-push o h (x ∷ schedule) [] turn e all = absurd all
 history_from-push o h (x ∷ schedule) (y ∷ entries) turn e all =
     history_from-push o (with_entry x.1 y h) schedule entries turn e all.2
 
--- and fit where the new one stands after the accesses of the others
+-- the entries still fit, if the new one fits after the accesses of the others
 pub entries_push :
     (o : Object) (h : List Access) (schedule : List (ℕ × ℕ))
     (entries : List Entry) (turn : ℕ × ℕ) (e : Entry)
@@ -81,7 +81,7 @@ pub comes_from : (out : Option Out) (pc : Pc) → come_to out (leads.Go pc) ≡ 
 comes_from None pc = refl
 comes_from (Some x) pc = refl
 
--- and so it is what has been come to
+-- the output is the one that has been come to
 pub out_from : (out : Option Out) (pc : Pc) → out_of (next_from out pc) ≡ out
 out_from None pc = refl
 out_from (Some x) pc = refl

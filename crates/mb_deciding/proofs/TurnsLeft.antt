@@ -70,7 +70,7 @@ below_fewer act (suc n) mask r kept without member less =
           (below_fewer act n mask r kept without member (omega arith)))
     ]
 
--- so it has one register less
+-- a mask without one of its registers has one less
 pub ones_fewer :
     (n mask r kept : ℕ) → mask < 2 ^ n → kept < 2 ^ n → IsWithout mask r kept → IsMember mask r → r < n
     → count_ones mask ≡ count_ones kept + 1

@@ -12,7 +12,7 @@ use Rattle.mb_deciding.proofs.Grammar.{HasPreference, clear_loads, one_chosen, p
 use Rattle.mb_deciding.proofs.RatifierWords.{IsFounded, has_cases, own_behind, newest_load, stored_one}
 use Rattle.mb_deciding.proofs.RatifierWords.{preference_filled, loaded_stored, chosen_founded, founded_within}
 
--- ---- the fact behind the one winner
+-- ---- a clear read and an announcement exclude each other
 -- who loaded an empty proposal has announced its whole write quorum
 empty_announced :
     (t : QuorumTable) (inputs : ℕ → ℕ) (h : List Access) → IsQuorumTable t → IsObjectLawful (ratifier_of t inputs) h

@@ -34,8 +34,8 @@ IsOpen t kind input turns =
     (later : List Turn) × (later ≢ [])
     × ((output : Out) × IsPath t kind input (later ++ turns) output)
 
--- each load is true to memory. Values and random words are words of 64 bits. Each process's part is a prefix of a path
--- of its input
+-- a lawful history of one object: each load is true to memory, values and random words are words of 64 bits, and each
+-- process's part is a prefix of a path of its input, which is one of the table's values
 pub record IsObjectLawful (o : Object) (h : List Access) : Type 0 where
   pub memory : IsMemoryTrue h
   pub words : AreInWords h

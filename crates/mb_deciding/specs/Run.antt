@@ -53,7 +53,7 @@ pub record IsRun (u : ObjectSetup) (schedule : List (ℕ × ℕ)) (run : RunStat
   -- each process has an input of the table
   pub processes : length run.places ≡ length u.inputs
   pub within : (p : ℕ) → p < length u.inputs → slice_index u.inputs p < u.table.values
-  -- and each process is where its part leads
+  -- each process is where its part leads
   pub reached :
       (p : ℕ) (d : Next) → p < length run.places
       → IsReached u.table u.kind (slice_index u.inputs p) (slice_index_or run.places p d)
