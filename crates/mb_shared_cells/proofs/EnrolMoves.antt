@@ -36,7 +36,7 @@ EmptyLaw =
     → ((w : Word) → IsPoolWord size w → slice_index words (address_of size w) ≡ 0)
     → IsStateOf size words (λ who. []) []
 
--- the table at its start
+-- the words of a new table are 0
 zeros : (n i : ℕ) → slice_index (replicate n 0) i ≡ 0
 zeros zero i = refl
 zeros (suc n) zero = refl

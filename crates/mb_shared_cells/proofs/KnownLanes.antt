@@ -23,7 +23,7 @@ pub record ReadLaws : Type 0 where
   pub within : (size : PoolSize) (h : History) (p k : ℕ) → IsPoolLawful size h → Has (linked_cells p h) k
       → (p < size.lanes) × (k < size.cells)
 
--- what stands past the cells met: the next cell, or past all of them the end mark or 0
+-- the value of the link past the cells met: the next cell, or past all of them the end mark or 0
 pub data Found (p : ℕ) (theirs : History) (ks : List ℕ) (v : ℕ) : Type 0 where
   a_cell : (k : ℕ) → v ≡ k + 1 → k + 1 ≢ END → IsStart (k ∷ ks) (linked_cells p theirs) → Found p theirs ks v
   the_end : v ≡ END → ks ≡ linked_cells p theirs → has_ended p theirs ≡ true → Found p theirs ks v
@@ -69,7 +69,7 @@ found laws size r p known done theirs ks w v at_place after at met =
         a_cell k (told ∙ laws.next size h p k t.0 ks lawful cut) (λ end. omega arith)
         (t.0, cut ∙ laws.linked h p ∙ ap (linked_cells p) is)
 
--- what a look tells there
+-- a look that finds nothing tells that all cells were met and the lane goes on
 pub nothing_found : (p : ℕ) (theirs : History) (ks : List ℕ) (v : ℕ) → v ≡ 0 → Found p theirs ks v
     → (ks ≡ linked_cells p theirs) × (has_ended p theirs ≡ false)
 nothing_found p theirs ks v is (a_cell k told no_end start) = absurd (omega arith)

@@ -1,4 +1,4 @@
--- What a lane's calls put.
+-- What the calls of a lane's seat put: three calls put an item, and a full offer and a finish put nothing.
 use Rattle.std.proofs.Common.{Bool, None, Option, Some, [], ap, arith, eq-eqb, false, inl, refl, subst, sym, true, ℕ, ◌++◌, ◌+◌, ◌<◌, ◌∙◌, ◌∷◌, ◌≡◌, ◌≢◌, ◌≤◌}
 use Rattle.std.specs.Prelude.{if◌then◌else◌, nat_lt}
 use Rattle.std.proofs.lemmas.Bool.{ltb-false, ltb-true}
@@ -88,7 +88,7 @@ link_word : (p : ℕ) (last : Option ℕ) → IsLinkWord (link_after p last)
 link_word p None = tt
 link_word p (Some k) = tt
 
--- what the three calls come to
+-- what an offer that got cell k and two pushes come to
 pub record PutCell (old : LaneSeatView) (x k : ℕ) (one two : Push) (new : LaneSeatView) : Type 0 where
   pub got : k < old.table.size.cells
   pub after : IsAccessAfter old.table.size [] (fetch old.lane (record { cell = k; value = x })) old.part
@@ -152,7 +152,7 @@ pub full_puts : PutLaws → (old new : LaneSeatView) (x : ℕ) → OfferMakes ol
     → put_list old.lane new.part ≡ put_list old.lane old.part
 full_puts laws old new x made = full_at laws old new x old.place.stage made
 
--- it comes if a fetch-add found no cell: now, or before
+-- an offer returns Full if a fetch-add found no cell: now, or before
 found_now : (cells n : ℕ) (b : Bool) → nat_lt n cells ≡ b → offer.Full ≡ (if b then offer.Cell n else offer.Full)
     → cells ≤ n
 found_now cells n true low told = absurd (cc)

@@ -27,7 +27,7 @@ one_or_other (Reader p) (Producer q) = inr (λ e. cc)
 one_or_other (Reader p) (Reader q) =
     elim (cases_eq p q) [ inl e ↦ inl (ap Reader e) | inr other ↦ inr (λ e. other (cc)) ]
 
--- the same seats, but for one process
+-- the same seats, but for one process, which stands at this one
 pub moved : Process → ℕ → (Process → ℕ) → Process → ℕ
 moved who to seats x = ⊎_elim (λ _. to) (λ _. seats x) (one_or_other who x)
 
@@ -74,7 +74,7 @@ roll_enrolled size t seat own roll (Producer p) b h e =
 roll_enrolled size t seat own roll (Reader r) b h e =
     let low = slice_get_within roll.readers r b e in let is = h.readers in omega arith
 
--- and who was enrolled is out, or was taken in
+-- whoever was enrolled is out, or was taken in
 pub enrolled_out : (size : PoolSize) (t : Seating) (seat : ℕ) (own : PoolSize) (roll : Roll) (who : Process)
     → IsHub size t seat own roll → IsEnrolled t who
     → (roll_at who roll ≡ Some None) ⊎ ((done : History) × (roll_at who roll ≡ Some (Some done)))
@@ -149,7 +149,7 @@ stands_then views at was new seat who is keeps h = elim (cases_eq seat at) [
   | inr other ↦ (h.0, set_else views at seat new other ∙ h.1, h.2)
 ]
 
--- and after a seat was added
+-- who stands at a seat stands there after a seat was added
 pub stands_longer : (views : List View) (new : View) (seat : ℕ) (who : Process) → StandsAt views seat who
     → StandsAt (views ++ new ∷ []) seat who
 stands_longer views new seat who h = (h.0, at_longer views (new ∷ []) seat h.0 h.1, h.2)

@@ -143,7 +143,7 @@ roll_history size words views t seat own roll r hub = record {
   others = λ who e. r.nobody_else who (not_enrolled size t seat own roll who hub e);
 }
 
--- and then puts its part into the roll
+-- the hub that has joined a seat may put its part into the roll
 load_allows : (size : PoolSize) (slots id : ℕ) (own : PoolSize) (roll : Roll) (who : Process) (done : History)
     → Allows (KeepsCells size) slots id (HubJoins own roll who done, []) 0 (λ n. n)
     (λ n w. WasOut (HubJoins own roll who done) × (w ≡ (Hub own (roll_with_part who done roll), [])))

@@ -26,7 +26,7 @@ at_snoc (x ∷ xs) new v zero e = inl (e, omega arith)
 at_snoc (x ∷ xs) new v (suc j) e =
     ⊎_elim (λ t. let h = t.1 in inl (t.0, omega arith)) (λ t. inr (ap suc t.0, t.1)) (at_snoc xs new v j e)
 
--- and after one is added
+-- what holds of each view and of one more holds of each view after it is added
 pub all_snoc : (P : ℕ → View → Type 0) (views : List View) (new : View)
     → ((j : ℕ) (v : View) → get_elem? views j ≡ some v → P j v) → P (length views) new
     → (j : ℕ) (v : View) → get_elem? (views ++ new ∷ []) j ≡ some v → P j v
@@ -49,7 +49,7 @@ longer_has [] k b e = absurd (cc)
 longer_has (x ∷ xs) zero b e = e
 longer_has (x ∷ xs) (suc k) b e = longer_has xs k b e
 
--- and nobody else has one
+-- nobody else has a part in the longer list
 pub longer_had : (xs : PartList) (k : ℕ) (done : History) → slice_get (xs ++ None ∷ []) k ≡ Some (Some done)
     → slice_get xs k ≡ Some (Some done)
 longer_had [] zero done e = absurd (cc)
@@ -78,7 +78,7 @@ set_here [] k a b e = absurd (cc)
 set_here (x ∷ xs) zero a b e = refl
 set_here (x ∷ xs) (suc k) a b e = set_here xs k a b e
 
--- who had a part has a part
+-- who had a part has a part after one is put in
 pub set_has : (xs : PartList) (i k : ℕ) (done d : History) → slice_get xs k ≡ Some (Some d)
     → (part : History) × (slice_get (slice_set xs i (Some done)) k ≡ Some (Some part))
 set_has [] i k done d e = absurd (cc)

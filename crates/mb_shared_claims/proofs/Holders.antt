@@ -58,13 +58,13 @@ pub kept_at :
     → (HasPart v c xs → HasPart w c xs) → HasPartAt views j c xs → HasPartAt (set views id w) j c xs
 kept_at views id j c v w xs at keeps has = kept_by views id j c v w xs at keeps has (ℕ_discrete j id)
 
--- and after one is added
+-- who has a part still has it after a view is added
 pub kept_beside :
     (views : List View) (w : View) (j c : ℕ) (xs : List ClaimAccess) → HasPartAt views j c xs
     → HasPartAt (views ++ w ∷ []) j c xs
 kept_beside views w j c xs has = (has.0, at_longer views (w ∷ []) j has.0 has.1, has.2)
 
--- the part of the view added
+-- the part of the view that is added is had
 pub has_added :
     (views : List View) (w : View) (c : ℕ) (xs : List ClaimAccess) → HasPart w c xs
     → HasPartAt (views ++ w ∷ []) (length views) c xs

@@ -22,8 +22,8 @@ abbrev pub rule_of : TableSize → State (Unit {0}) View → Type 0
 rule_of k s = IsClaimsState k s.words s.views
 
 -- ---- an access of a consumer's seat
--- an access goes on: whatever the words and the history are, in which the consumer has done this, the words after it are
--- those that the longer history leaves
+-- an access goes on: whatever the words and the history are, in which the consumer has done this, the words after it
+-- are those that the longer history leaves
 abbrev pub GoesOn : TableSize → ℕ → List ClaimAccess → ℕ → (ℕ → ℕ) → (ℕ → ClaimAccess) → Type 0
 GoesOn k own done at f access =
     (words : List ℕ) (h : List ClaimAccess) → IsMemoryOf (claims_of_size k) words h → part own h ≡ done
@@ -80,7 +80,7 @@ access_allows own_part other_parts k size slots id own at done f access within g
     )
 
 -- ---- enrolling
--- a word past those of the cells is none of the claims'
+-- a word after those of the cells is none of the claims'
 abbrev pub OtherWords : TableSize → Type 0
 OtherWords k =
     (at n : ℕ) (words : List ℕ) (h : List ClaimAccess) → words_in (claims_of_size k) ≤ at
@@ -180,7 +180,7 @@ begins k empty = (
         (some-injective _ _ e) (refl, (refl, refl), zeros (roster k + 1) (roster k))
     first (suc seat) v e = absurd (some-ne-none v (sym e))
 
--- ---- the same of a table and seats that are known by equations
+-- ---- each of these steps, for a table and seats that are known by equations
 pub access_asked :
     OwnPart → OtherParts → (key k size : TableSize) (slots id own at : ℕ) (me : Seated) (done : List ClaimAccess)
     (f : ℕ → ℕ) (access : ℕ → ClaimAccess) → key ≡ k → me ≡ (Standing size own done, []) → at < roster k

@@ -1,4 +1,4 @@
--- The plan past a table after each of its steps.
+-- The plan that explains a table after each of its steps.
 use Rattle.std.proofs.Common.{◌≡◌, ◌≢◌, ℕ, suc, ◌<◌, ◌≤◌, Some, None, List, [], ◌∷◌, ◌++◌, length, set, slice_get}
 use Rattle.std.proofs.Common.{slice_index, refl, sym, ap, ◌∙◌, subst, ⊎_elim, inl, inr, arith, length-append}
 use Rattle.std.proofs.Common.{length-set, get_or-set_same, get_or-set_other, le_refl}
@@ -34,7 +34,7 @@ fits_apart k plan other drawn more seat apart Spent f = f
 abbrev pub longer : ClaimAccess → Plan → Plan
 longer a plan = record { history = a ∷ plan.history; given = plan.given; hub = plan.hub; place = plan.place }
 
--- with one number more, which stands at this seat
+-- the plan with one number more, which stands at this seat
 abbrev pub with_number : ℕ → Plan → Plan
 with_number seat plan = record {
   history = plan.history;

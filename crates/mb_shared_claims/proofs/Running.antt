@@ -149,7 +149,7 @@ module _ (t : TableView) (cell : ℕ) {M : Type 0} {K : Type 0} (seat : M → Se
           d.3 ∙ p.keeps,
         )
 
-    -- there are no more than a claim's layout allows
+    -- there are no more steps than a claim's layout allows
     pub few_steps :
         ((h : List ClaimAccess) (c k : ℕ) → IsClaimLawful (claims_in t.layout t.cells) h
         → length (part_on c k h) ≤ most_accesses t.layout)
@@ -174,7 +174,7 @@ module _ (t : TableView) (cell : ℕ) {M : Type 0} {K : Type 0} (seat : M → Se
         ap (λ xs. length (part_on c cell xs)) is.1.2 in
         omega (arith, all, one, mine, whole, p.count)
 
-    -- the same, of a chain over a layout that is the table's
+    -- steps over a layout that equals the table's are steps over the table's
     module _ (l : Layout) (same : l ≡ t.layout) where
       chain :
           (n : ℕ) (at : Claim) (now : M) → AreClaimSteps l (DrawsAndMakesNext draws makes) claim start n at now

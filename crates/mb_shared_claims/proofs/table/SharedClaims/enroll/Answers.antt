@@ -33,7 +33,7 @@ has_drawn : (size : TableSize) (me now : Seated) → me ≡ (Handing size (roll_
     → now ≡ (Drawing size (roll_of me.0), [])
 has_drawn size me now is e = e ∙ ap (λ (z : Seated). (drawn z.0, z.1)) is
 
--- and after the split
+-- the hub after the split
 has_given : (size : TableSize) (me now after : Seated) → now ≡ (Drawing size (roll_of me.0), [])
     → after ≡ (given_out now.0, now.1) → after ≡ (Handing size (roll_of me.0 ++ None ∷ []), [])
 has_given size me now after is e = e ∙ ap (λ (z : Seated). (given_out z.0, z.1)) is
