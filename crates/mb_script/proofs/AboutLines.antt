@@ -35,7 +35,7 @@ pub for_option : {A F : Type 0} (P : F → Type 0) (o : Option A) (e : F) → P 
 for_option P (Some x) e is = tt
 for_option P None e is = is
 
--- it is about line n
+-- a fault is about line n
 abbrev pub About : ℕ → Fault → Type 0
 About n e = line_of e ≡ Some n
 
@@ -96,7 +96,7 @@ at_line plan n line =
     (for_bind (About n) (event_of n (words_in_line line)) (placed plan n)
     (at_event n (words_in_line line)) (at_placed plan n))
 
--- the same of the first line
+-- what holds of each fault of a setup holds of what the first line makes
 for_made : (P : Fault → Type 0) (o : Option SetupFault) (made : Made)
     → ((f : SetupFault) → P (BadSetup 1 f)) → For P (made_of o made)
 for_made P None made bad = tt

@@ -7,7 +7,7 @@ use Rattle.std.proofs.lemmas.List.{length-map, length-take-le, map-append, take_
 use Rattle.std.specs.List.{position_or_len, before_first, after_first, onto_first}
 use Rattle.mb_script.specs.Text.{words_in_line, has_empty, number_of, numbers_of}
 
--- a space
+-- whether a byte parts words: it is a space
 abbrev pub parts : ℕ → Bool
 parts b = nat_eq b 32
 
@@ -44,7 +44,7 @@ pub words_last : (bs : List ℕ) → position_or_len parts bs ≡ length bs → 
 words_last [] none = refl
 words_last (b ∷ bs) none = last_step b bs (nat_eq b 32) none (words_last bs)
 
--- one byte more leaves a word
+-- a line with one byte more has a word still
 first_step : (b : ℕ) (ws : List (List ℕ)) (t : Bool) → 0 < length ws → 0 < length (cond t ([] ∷ ws) (onto_first b ws))
 first_step b ws true some = omega arith
 first_step b [] false some = omega (arith, some)
@@ -70,7 +70,7 @@ pub empty_behind : (ws : List (List ℕ)) (w : List ℕ) (vs all : List (List �
     → nat_eq (length w) 0 ≡ true → ws ++ w ∷ vs ≡ all → (has_empty all || long) ≡ true
 empty_behind ws w vs all long full empty cut = rw (sym cut, empty_among ws (w ∷ vs), full, empty) refl
 
--- and words none of which is empty stay so with one more
+-- words none of which is empty, and one more that is not, have no empty word
 pub none_behind : (ws : List (List ℕ)) (w : List ℕ) → has_empty ws ≡ false → nat_eq (length w) 0 ≡ false
     → has_empty (ws ++ w ∷ []) ≡ false
 none_behind ws w full some = rw (empty_among ws (w ∷ []), full, some) refl
@@ -112,19 +112,19 @@ abbrev pub bytes_left : Option (List ℕ) → ℕ
 bytes_left None = 0
 bytes_left (Some rest) = suc (length rest)
 
--- a word that is no number
+-- a word that is no number fails the whole
 pub number_fails : (done : List ℕ) (w : List ℕ) (ws : List (List ℕ)) (whole : Option (List ℕ)) → number_of w ≡ None
     → option_map (λ ns. done ++ ns) (numbers_of (w ∷ ws)) ≡ whole → None ≡ whole
 unfolding numbers_of
 number_fails done w ws whole fails same = sym (rw fails refl) ∙ same
 
--- one number before others
+-- one number more in front of others
 map_one : (done : List ℕ) (n : ℕ) (o : Option (List ℕ)) → option_map (λ (ns : List ℕ). (done ++ n ∷ []) ++ ns) o
     ≡ option_map (λ ns. done ++ ns) (option_and_then (λ ns. Some (n ∷ ns)) o)
 map_one done n None = refl
 map_one done n (Some ns) = ap (λ (l : List ℕ). Some l) (append_assoc done (n ∷ []) ns)
 
--- a word that is one
+-- a word that is a number comes after those before it
 pub number_works : (done : List ℕ) (w : List ℕ) (ws : List (List ℕ)) (n : ℕ)
     (whole : Option (List ℕ)) → number_of w ≡ Some n
     → option_map (λ ns. done ++ ns) (numbers_of (w ∷ ws)) ≡ whole
@@ -132,7 +132,7 @@ pub number_works : (done : List ℕ) (w : List ℕ) (ws : List (List ℕ)) (n : 
 unfolding numbers_of
 number_works done w ws n whole works same = map_one done n (numbers_of ws) ∙ sym (rw works refl) ∙ same
 
--- no word is left
+-- if no word is left, the numbers are those before
 pub numbers_end : (done : List ℕ) (whole : Option (List ℕ)) → option_map (λ ns. done ++ ns) (numbers_of []) ≡ whole
     → Some done ≡ whole
 unfolding numbers_of

@@ -18,11 +18,11 @@ use Rattle.mb_script.specs.Spelling.{Spells}
 use Rattle.mb_script.proofs.ReadBack.{lines_take}
 use Rattle.mb_script.proofs.AboutLines.{At, at_line, at_setup}
 
--- a number that an option has
+-- an option has one number
 some_is : (x y : ℕ) → ◌≡◌ {A = Option ℕ} (Some x) (Some y) → x ≡ y
 some_is x y e = cc
 
--- one fault
+-- a result has one fault
 pub err_is : {A : Type 0} (d e : Fault) → ◌≡◌ {A = Result A Fault} (Err d) (Err e) → d ≡ e
 err_is d e is = cc
 
@@ -66,7 +66,7 @@ events_least plan n m (line ∷ lines) e low is about =
     e low (at_line plan n line) about is
     (λ few fails. events_least plan (suc n) m lines e (below_by n few) fails about)
 
--- the same line, and a fault after it
+-- a list of lines with the same first line has the same fault, if the fault lies after it
 same_step : (many : Bool) (r : Result Event Fault) (rest rest2 : Result (List Event) Fault) (e : Fault)
     → from_line many r rest ≡ Err e → (many ≡ false → rest ≡ Err e → rest2 ≡ Err e) → from_line many r rest2 ≡ Err e
 same_step true r rest rest2 e is on = is
@@ -89,7 +89,7 @@ events_same plan n (suc k) m (line ∷ lines) bs e low is about count same =
     (λ few fails. events_same plan (suc n) k m lines h.0 e (below_by n few) fails about (omega (arith, count)) h.2) in
     subst (λ (t : List (List ℕ)). events_of plan n t ≡ Err e) (sym h.1) further
 
--- a fault after what was made
+-- what was made by the first line changes no later fault
 events_step : (made : Made) (r s : Result (List Event) Fault) (e : Fault)
     → (r >>= (λ es. Ok (script_with made es))) ≡ Err e
     → (r ≡ Err e → s ≡ Err e) → (s >>= (λ es. Ok (script_with made es))) ≡ Err e
@@ -102,7 +102,7 @@ setup_step : (r : Result Made Fault) (f g : Made → Result (List Event) Fault) 
 setup_step (Err d) f g e is on = is
 setup_step (Ok x) f g e is on = events_step x (f x) (g x) e is (on x)
 
--- a fault after the first line
+-- a fault of a line after the first is about line 1 or a later one
 least_behind : (made : Made) (r : Result (List Event) Fault) (m : ℕ) (e : Fault)
     → (r >>= (λ es. Ok (script_with made es))) ≡ Err e → (r ≡ Err e → 2 ≤ m) → 1 ≤ m
 least_behind made (Ok ys) m e is on = absurd (cc)
@@ -155,7 +155,7 @@ script_same us bs e m is about same short ascii =
     (lines_script (lines_of us)) e m is about in
     rw (le-ltb MAX_SCRIPT_LEN (length bs) short, ascii) (lines_same m (lines_of us) (lines_of bs) e read about same)
 
--- a line before the faulty one
+-- a line before the faulty one has no fault
 before_step : (n m : ℕ) (many : Bool) (r : Result Event Fault)
     (rest rest2 : Result (List Event) Fault) (e : Fault) → At n r
     → line_of e ≡ Some m → nat_lt (MAX_EVENTS + 1) n ≡ many → n < m → m ≤ MAX_EVENTS + 2 → from_line many r rest ≡ Err e

@@ -23,7 +23,7 @@ not_behind ws =
     for_cond (λ e. e ≢ NoSetup) (has_empty ws) _ _ (λ e. cc)
     (for_sizes (λ e. e ≢ NoSetup) ws (λ e. cc) (λ e. cc) (λ f e. cc))
 
--- nor are the other lines
+-- the other lines are no reason for NoSetup
 never_behind : (made : Made) (r : Result (List Event) Fault) → r ≢ Err NoSetup
     → (r >>= (λ es. Ok (script_with made es))) ≢ Err NoSetup
 never_behind made (Ok ys) never = λ is. cc
@@ -34,7 +34,7 @@ never_step : (r : Result Made Fault) (f : Made → Result (List Event) Fault) �
 never_step (Err d) f first behind = λ is. first (err_is d NoSetup is)
 never_step (Ok x) f first behind = λ is. never_behind x (f x) (behind x) is
 
--- a word that an option has
+-- an option has one word
 word_is : (w v : List ℕ) → ◌≡◌ {A = Option (List ℕ)} (Some w) (Some v) → w ≡ v
 word_is w v e = cc
 
@@ -54,7 +54,7 @@ unfolding lines_script
 no_setup_lines [] is = λ e. cc
 no_setup_lines (line ∷ lines) is = λ e. no_setup_by (words_in_line line) lines e is
 
--- another first word
+-- another first word is a reason for NoSetup
 other_by : (key : List ℕ) (ws : List (List ℕ)) (t : Bool) → bytes_eq key (codes "setup") ≡ t → key ≢ codes "setup"
     → cond t (cond (has_empty ws) (Err (BadLine 1)) (sizes_of ws)) (Err NoSetup) ≡ Err NoSetup
 other_by key ws true is other = absurd (other ((bytes_eq-Decides key (codes "setup")).0 is))
@@ -65,7 +65,7 @@ unfolding setup_of
 other_setup [] other = refl
 other_setup (key ∷ ws) other = other_by key ws _ refl (λ e. other (ap (λ (w : List ℕ). Some w) e))
 
--- and there always
+-- if the first word is no `setup`, NoSetup always comes
 always_lines : (us : List (List ℕ)) → first_word_in us ≢ Some (codes "setup") → lines_script us ≡ Err NoSetup
 unfolding lines_script
 always_lines [] other = refl

@@ -23,7 +23,7 @@ use Rattle.mb_script.specs.Scripts.{Script}
 use Rattle.mb_script.specs.Spelling.{IsEventOf, Sizes, script_in}
 use Rattle.mb_script.proofs.ReadBack.{script_takes}
 
--- ---- an access is answered by its own name
+-- ---- the answer to an access names it
 linked : (b : Bool) (v : ℕ) (r : Answer)
     → Some (if b then answer.Finished finish.Ended else answer.Pushed (push.Link v)) ≡ Some r → IsOfWorld r
 linked true v r is = (λ e. cc, λ e. cc)
@@ -47,7 +47,7 @@ named_known : (plan : Plan) (r : Answer) (a : WorldAccess) (h : WorldHistory) �
 named_known plan r (ToCells a) h names = cells_known plan.claims.cells a.word a.act r names
 named_known plan r (ToClaims a) h names = let is = names.2 in (λ e. cc, λ e. cc)
 
--- ---- and so is a refusal, if the event's lane and consumer are there
+-- ---- an event whose lane and consumer are there has another refusal than that they are not
 abbrev IsEventIn : Plan → Event → Type 0
 IsEventIn plan (event.Offer p x) = p < plan.lanes
 IsEventIn plan (event.Push p) = p < plan.lanes
@@ -81,7 +81,7 @@ replay_known plan (e ∷ es) (r ∷ rs) was now there replay = (
       (with_access replay.0 was) now there.1 replay.2,
 )
 
--- ---- the events of a script
+-- ---- the lanes and consumers of a script's events are there
 abbrev pub TablesHaveTheirValues : Type 0
 TablesHaveTheirValues = (name : TableName) (m : ℕ) → (table_of name m).values ≡ m
 

@@ -5,7 +5,7 @@ use Rattle.std.specs.Option.{unwrap_or}
 use Rattle.std.specs.List.{position_or_len, before_first, after_first, onto_first}
 use Rattle.mb_script.specs.Text.{lines_of}
 
--- LF
+-- whether a byte ends a line: it is LF
 abbrev ends : ℕ → Bool
 ends b = nat_eq b 10
 

@@ -20,7 +20,8 @@ pub too_long : (bytes : List ℕ) → MAX_SCRIPT_LEN < length bytes → fault_of
 unfolding script_of
 too_long bytes above = rw (lt-ltb MAX_SCRIPT_LEN (length bytes) above) refl
 
--- ---- no line is too long
+-- ---- a fault of a line is another than TooLong
+-- the fault is not TooLong
 abbrev IsOther : Fault → Type 0
 IsOther e = e ≡ TooLong → ⊥
 

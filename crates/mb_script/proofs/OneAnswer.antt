@@ -1,4 +1,4 @@
--- A script has one answer.
+-- A script has one answer, by the laws of tables and of worlds.
 use Rattle.std.proofs.Common.{◌≡◌, ℕ, ◌<◌, ◌≤◌, Bool, true, false, ◌||◌, nat_lt, List, [], ◌++◌, Option, Some, None, Ok, refl, sym, ap₂, ◌∙◌, subst, arith}
 use Rattle.std.specs.Prelude.{if◌then◌else◌}
 use Rattle.std.proofs.lemmas.Bool.{ltb-false}
@@ -27,7 +27,7 @@ use Rattle.mb_script.specs.Scripts.{Script, script_of}
 use Rattle.mb_script.specs.Transcript.{transcript_text}
 use Rattle.mb_script.proofs.ReadBack.{script_takes}
 
--- ---- the laws below, by one name each
+-- ---- the laws of the crates below, one name for each
 abbrev pub TablesAreLawful : Type 0
 TablesAreLawful = (name : TableName) (m : ℕ) → m ≤ MAX_VALUES → IsQuorumTable (table_of name m)
 
@@ -97,7 +97,7 @@ cells_few bytes s read =
     subst (λ (t : Script). t.plan.claims.cells < END) (sym spelled.3)
     (let below : z.cells < END = omega (arith, few) in below)
 
--- ---- the text
+-- ---- one text, and one answer
 pub one_text : (plan : Plan) (es : List Event) (t u : List ℕ) → ReplaysDoNotDiffer → ReplaysAreLawful → WorldsAreSound
     → ReportsDoNotDiffer → IsQuorumTable plan.claims.table → IsWorldLawful plan [] → IsReplayText plan es t
     → IsReplayText plan es u → t ≡ u

@@ -52,7 +52,7 @@ table_takes word Unary false false true p q r e = absurd (cc)
 table_takes word Bits false false true p q r e = absurd (cc)
 table_takes word t false false false p q r e = absurd (cc)
 
--- so is the word of a shape
+-- a word that was read as a shape is that shape's
 word_takes : (word : List ℕ) (f : Shape) (a b c : Bool)
     → bytes_eq word (codes "fast") ≡ a → bytes_eq word (codes "last") ≡ b
     → bytes_eq word (codes "fastlast") ≡ c
@@ -107,7 +107,7 @@ two_takes n (a ∷ b ∷ []) x e =
     (ok_is made x g.2)
     (ap (λ (w : List ℕ). w ∷ b ∷ []) p.0 ∙ ap (λ (w : List ℕ). decimal f.0 ∷ w ∷ []) q.0, p.1, q.1)
 
--- three numbers
+-- the type of three numbers
 abbrev Three : Type 0
 Three = ℕ × ℕ × ℕ
 
@@ -136,7 +136,8 @@ three_takes n (a ∷ b ∷ c ∷ []) x e =
       r.1,
     )
 
--- ---- the first line; what is done after each step of `sizes_of` stands below, the last first
+-- ---- the first line
+-- the first definitions say what is left to do after each step of `sizes_of`, the last step first
 abbrev with_pairs : ℕ → ℕ → ℕ → Shape → TableName → ℕ → Result Made Fault
 with_pairs p c m f t k = made_of (setup_refusal p c m k) (made_from f p c m k t)
 
@@ -156,12 +157,12 @@ abbrev with_table : List ℕ → List ℕ → List ℕ → List ℕ → List (Li
 with_table producers consumers cells pairs shape t =
     ok_or (shape_named shape) (BadLine 1) >>= with_shape producers consumers cells pairs t
 
--- what was not refused
+-- what a first line made was not refused
 made_takes : (o : Option SetupFault) (x y : Made) → made_of o x ≡ Ok y → (o ≡ None) × (x ≡ y)
 made_takes None x y e = (refl, ok_is x y e)
 made_takes (Some f) x y e = absurd (cc)
 
--- sizes of a world that make this
+-- sizes of a world that make this, and are not refused
 abbrev pub Sized : Made → Sizes → Type 0
 Sized made z = (setup_refusal z.producers z.consumers z.cells z.pairs ≡ None) × (made_for z ≡ made)
 
@@ -212,14 +213,14 @@ setup_take (key ∷ ws) made e =
     (c.0, ap (λ (w : List ℕ). w ∷ ws) ((bytes_eq-Decides key (codes "setup")).0 a.0) ∙ c.1, c.2)
 
 -- ---- the line of an event
--- its numbers below 2^64
+-- the numbers of an event are below 2^64
 abbrev Small : Event → Type 0
 Small (Offer lane item) = (lane < 2 ^ 64) × (item < 2 ^ 64)
 Small (Push lane) = lane < 2 ^ 64
 Small (Finish lane) = lane < 2 ^ 64
 Small (Step consumer lane word) = (consumer < 2 ^ 64) × (lane < 2 ^ 64) × (word < 2 ^ 64)
 
--- words that spell an event
+-- the words spell this event, and its numbers are below 2^64
 abbrev SpellsOne : List (List ℕ) → Event → Type 0
 SpellsOne ws e = (ws ≡ event_words e) × Small e
 
@@ -228,7 +229,7 @@ key_is : (key name : List ℕ) (ws vs : List (List ℕ)) → bytes_eq key name �
 key_is key name ws vs is same =
     ap (λ (w : List ℕ). w ∷ ws) ((bytes_eq-Decides key name).0 is) ∙ ap (λ (t : List (List ℕ)). name ∷ t) same
 
--- by the key
+-- what was read of words spells an event, by their key
 by_key : (n : ℕ) (key : List ℕ) (ws : List (List ℕ)) (e : Event) (o p f s : Bool) → bytes_eq key (codes "offer") ≡ o
     → bytes_eq key (codes "push") ≡ p → bytes_eq key (codes "finish") ≡ f → bytes_eq key (codes "step") ≡ s
     → cond o (two_numbers n ws >>= (λ x. Ok (Offer x.0 x.1)))
@@ -296,7 +297,7 @@ line_takes z n line e read =
     sym (join_with_byte-slice_split 32 line) ∙ ap (join_with_byte 32) c.0 in
     subst (λ (f : Event). (line ≡ join_with_byte 32 (event_words f)) × IsEventOf z f) d.0 (spelled, d.1)
 
--- ---- all lines
+-- ---- all lines of a script
 -- one line in front of others
 line_before : (line line2 : List ℕ) (lines lines2 : List (List ℕ)) → line ≡ line2 → lines ≡ lines2
     → line ∷ lines ≡ line2 ∷ lines2
@@ -353,7 +354,7 @@ lines_take (line ∷ lines) s read =
       script_is z a.0 b.0 set.2.1,
     )
 
--- what is read was spelled so
+-- a script that was read was spelled so
 pub script_takes : (bytes : List ℕ) (s : Script) → script_of bytes ≡ Ok s → Spells (lines_of bytes) s
 unfolding script_of
 script_takes bytes s e =
@@ -363,7 +364,7 @@ script_takes bytes s e =
     let b = passed (list_all is_ascii bytes) NotAscii read s a.1 in
     lines_take (lines_of bytes) s b.1
 
--- the same of a call's result
+-- what a call found in bytes was spelled so
 pub is_found : {A : Type 0} (bytes : List ℕ) (r : Result (code.Script A) Fault)
     → Gives (λ s. view s) r (script_of bytes)
     → IfOk r (λ s. Spells (lines_of bytes) (view s))

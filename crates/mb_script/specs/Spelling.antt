@@ -34,7 +34,7 @@ event_words (Push lane) = codes "push" ∷ decimal lane ∷ []
 event_words (Finish lane) = codes "finish" ∷ decimal lane ∷ []
 event_words (Step consumer lane word) = codes "step" ∷ decimal consumer ∷ decimal lane ∷ decimal word ∷ []
 
--- the lines: one space between each two words
+-- the lines of a script: one space between each two words
 abbrev pub script_lines : Sizes → List Event → List (List ℕ)
 script_lines z events = map (join_with_byte 32) (setup_words z ∷ map event_words events)
 
