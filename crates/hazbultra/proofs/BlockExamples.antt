@@ -19,7 +19,7 @@ IsThere (Some x) = Unit {0}
 pub none_owns_nothing : (alloc : Global) (at : Ptr) → block_owns alloc at None ≡ ftrue
 none_owns_nothing alloc at = refl
 
--- and one that leads to a thing owns something
+-- a block that leads to a thing owns something
 pub some_owns_something
     : (alloc : Global) (at : Ptr) (x : the_row.Denot) → block_owns alloc at (Some x) ≡ ftrue → ⊥
 some_owns_something alloc at x same = subst IsNothing (sym same) tt

@@ -23,7 +23,7 @@ pub too_long : (bytes : List ℕ) → MAX_SCRIPT_LEN < length bytes → fault_of
 unfolding script_of
 too_long bytes above = rw (lt-ltb MAX_SCRIPT_LEN (length bytes) above) refl
 
--- ---- no line is too long
+-- ---- a fault of a line is another than TooLong
 abbrev IsOther : RatifyFault → Type 0
 IsOther e = e ≡ TooLong → ⊥
 
@@ -66,7 +66,7 @@ other_in_lines lines =
     (other_in_list 3 (codes "turns") third.0)
     (λ turns. for_cond IsOther (length third.1 == 0) _ _ tt (λ is. absurd (cc))))))))
 
--- and `ratify` does not refuse a script for its length
+-- `ratify` does not refuse a script for its length
 other_refusal : (o : Option Fault) → option_map fault_from o ≡ Some TooLong → ⊥
 other_refusal None is = absurd (cc)
 other_refusal (Some refusal.BadValues) is = absurd (cc)

@@ -22,6 +22,7 @@ use Rattle.mb_program.specs.CommandLine.{IsProgramApp, TextsAt, program, program
 abbrev moved : TextsAt → TextsAt
 moved names = texts_at (map (λ (n : Bor Text). n.now) names.now)
 
+-- a parser with its words put elsewhere
 abbrev moved_parser : ValueParser → ValueParser
 moved_parser (vp.Names names) = vp.Names (moved names)
 moved_parser vp.String = vp.String
@@ -35,11 +36,12 @@ moved_parser vp.Float = vp.Float
 moved_parser vp.Char = vp.Char
 moved_parser (vp.Values values) = vp.Values values
 
+-- the change of every parser to one with its words put elsewhere
 abbrev swap : Swap
 swap None = None
 swap (Some p) = Some (moved_parser p)
 
--- it accepts the same values
+-- names that lie elsewhere accept the same values
 same_words : (i : Bool) (t : Text) (names : List (Bor Text))
     → list_any (λ (n : Bor Text). same_text i n.now t)
     (map somewhere (map (λ (n : Bor Text). n.now) names))

@@ -1,4 +1,5 @@
--- In a run no producer is stopped, and none is cut: each has put its whole list.
+-- In a run whose gate stops nobody no producer is stopped, so one that put less than its list found no cell. What sums
+-- and beginnings of lists say of that.
 use Rattle.std.proofs.Common.{◌≡◌, ◌+◌, ◌*◌, ◌++◌, ◌<◌, ◌≤◌, ℕ, zero, suc, Bool, true, false, List, [], ◌∷◌, Some, inl, inr, length, slice_get, refl, sym, ap, ◌∙◌, subst, arith}
 use Rattle.std.specs.Prelude.{slice_index_or}
 use Rattle.std.specs.List.{All, sum_by}
@@ -63,7 +64,7 @@ not_stopped may_stop never cells p list l few is = go l.stopped refl
           | inr last ↦ omega (arith, last, few, short)
         ] in absurd none
 
--- so, if it put less than its list, a fetch-add of its found no cell
+-- so, if a producer put less than its list, a fetch-add of it found no cell
 pub found_none : (may_stop : Who → ℕ → Type 0) → ((w : Who) (n : ℕ) → may_stop w n → ⊥)
     → (cells : ℕ) (lists : List (List ℕ)) (lanes : List LaneLeft)
     → AreStoppedPuts may_stop cells 0 lists lanes → AreCutByCells cells 0 lists lanes
@@ -76,7 +77,8 @@ found_none may_stop never cells lists lanes stopped cut p list l at there few sh
     (not_stopped may_stop never cells (0 + p) list l few
     (stopped_at may_stop cells 0 lists lanes p list l stopped at there)) short)
 
--- ---- sums
+-- ---- what holds of each element, for all, and for a sum
+-- what holds at each place holds of all
 all_of : {X : Type 0} (P : X → Type 0) (xs : List X) → ((p : ℕ) (x : X) → slice_get xs p ≡ Some x → P x) → All P xs
 all_of P xs each = λ k d low. each k (slice_index_or xs k d) (slice_get-get_or xs k d low)
 
@@ -105,7 +107,7 @@ pub front_within : (put list : List ℕ) → IsFront put list → length put ≤
 front_within put list front =
     let e = sym (length-append put front.0) ∙ ap length front.1 in omega (arith, e)
 
--- that is not shorter is the list
+-- a beginning that is not shorter than the list is the list
 pub front_whole : (put list : List ℕ) → IsFront put list → (length put < length list → ⊥) → put ≡ list
 front_whole put list front never = go front.0 front.1
   where

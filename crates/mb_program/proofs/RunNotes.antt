@@ -51,13 +51,13 @@ noted_at from (x ∷ xs) (suc p) l ledger has at =
     let next : from + suc p ≡ suc from + p = omega arith in
     ap (λ (k : ℕ). length (notes_on k ledger.notes)) next ∙ noted_at (suc from) xs p l ledger has.1 at
 
--- there is one at each place
+-- at each place of a list is an element
 one_at : {X : Type 0} (xs : List X) (k : ℕ) → k < length xs → (x : X) × (slice_get xs k ≡ Some x)
 one_at [] k low = absurd (omega (arith, low))
 one_at (x ∷ xs) zero low = (x, refl)
 one_at (x ∷ xs) (suc k) low = one_at xs k (omega (arith, low))
 
--- what holds of all holds of that one
+-- what holds of all holds of the element at a place
 of_one : {X : Type 0} (P : X → Type 0) (xs : List X) (k : ℕ) (x : X) → All P xs → k < length xs
     → slice_get xs k ≡ Some x → P x
 of_one P xs k x all low at = subst P (same_some (sym (slice_get-get_or xs k x low) ∙ at)) (all k x low)

@@ -48,7 +48,7 @@ list_of producers count p low =
 same_some : {X : Type 0} {x y : X} → ◌≡◌ {A = Option X} (Some x) (Some y) → x ≡ y
 same_some e = cc
 
--- the one beside it
+-- an element at the same place of the list beside
 pub beside : {X Y : Type 0} (R : X → Y → Type 0) (xs : List X) (ys : List Y) (p : ℕ) (x : X)
     → AllZip R xs ys → slice_get xs p ≡ Some x
     → (y : Y) × (slice_get ys p ≡ Some y) × R x y
@@ -61,7 +61,7 @@ beside {X} {Y} R xs ys p x zip at = go (slice_get ys p) refl
     go None none is = absurd (subst (λ o. IsSomeAnd o (R x)) none is)
     go (Some y) some is = (y, some, subst (λ o. IsSomeAnd o (R x)) some is)
 
--- ---- the lanes
+-- ---- the lanes of the report
 -- lane p of the report, and what its producer left
 record IsTold (count lanes consumers : ℕ) (h : HubView) (left : List LaneLeft) (r : ReportView) (p : ℕ) : Type 0 where
   one : LaneLeft
@@ -131,7 +131,7 @@ lanes_told producers count lanes consumers h left r same told puts fronts full p
         omega (arith, front, long, size)
 
 -- ---- the report is that of a run
--- if the gate stops nobody
+-- if the gate stops nobody, the report is that of a run
 pub run_report : {budget : ℕ} (may_stop : Who → ℕ → Type 0) → ((w : Who) (n : ℕ) → may_stop w n → ⊥)
     → (o : Options) (m : MailboxView) (old h : HubView) (r : ReportView) (lists : List (List ℕ))
     (n : ℕ) (w : Worked)
@@ -244,7 +244,8 @@ run_report {budget} may_stop never o m old h r lists n w few asked plan size emp
         let long : length (items_of p o.items) ≡ o.items = length-map-range_with_len (λ i. 1000 * p + i) 0 o.items in
         (t.one, t.there, ap length (sym (ap (λ (v : LaneView). v.put) is ∙ put) ∙ lane.2.whole) ∙ long)
 
--- all that was given is there
+-- ---- what a gathering could fail for
+-- all that was issued was taken in
 pub nothing_missing : {may_stop : Who → ℕ → Type 0} {budget : ℕ} (m : MailboxView) (old h : HubView)
     (lists : List (List ℕ)) (n : ℕ) (w : Worked)
     → old ≡ hub_empty m → IsWorked may_stop budget lists n w old h → count_missing h.puts + count_missing h.ledgers ≡ 0

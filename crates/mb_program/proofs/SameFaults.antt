@@ -33,7 +33,7 @@ module _ (s : Swap) (same : ReadsSame s) where
   abbrev f : Rule → Rule
   f = swapped s
 
-  -- ---- one use
+  -- ---- one use of an argument
   values_same : (a : Rule) (values : List Text) → values_fault (f a) values ≡ values_fault a values
   values_same a [] = refl
   values_same a (v ∷ values) =
@@ -224,7 +224,7 @@ module _ (s : Swap) (same : ReadsSame s) where
         (ap (λ x. walk_fault other names x words) (walked_swapped s same top.rules names w word)
         ∙ walk_same names (walked top.rules names w word) words)
 
-    -- ---- after the walk
+    -- ---- the faults after the walk
     check_same : (rows : List Row) (has_subcommand : Bool)
         → check_fault other rows has_subcommand ≡ check_fault top rows has_subcommand
     check_same rows has_subcommand =

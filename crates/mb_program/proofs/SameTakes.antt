@@ -34,7 +34,7 @@ module _ (s : Swap) (same : ReadsSame s) where
   abbrev f : Rule → Rule
   f = swapped s
 
-  -- ---- one use
+  -- ---- one use of an argument
   values_same : (a : Rule) (values : List Text) → values_pass (f a) values ≡ values_pass a values
   values_same a [] = refl
   values_same a (v ∷ values) =
@@ -212,7 +212,7 @@ module _ (s : Swap) (same : ReadsSame s) where
         (ap (λ x. walk_passes other names x words) (walked_swapped s same top.rules names w word)
         ∙ walk_same names (walked top.rules names w word) words)
 
-    -- ---- after the walk
+    -- ---- the tests after the walk
     valid_same : (rows : List Row) (has_subcommand : Bool)
         → is_valid other rows has_subcommand ≡ is_valid top rows has_subcommand
     valid_same rows has_subcommand =

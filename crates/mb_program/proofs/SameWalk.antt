@@ -22,7 +22,7 @@ Swap = Option ValueParser → Option ValueParser
 abbrev pub swapped : Swap → Rule → Rule
 swapped s a = record a { parser = s a.parser }
 
--- they read, accept and refuse values as before
+-- the changed parsers read, accept and refuse values as before
 pub record ReadsSame (s : Swap) : Type 0 where
   pub reading : (o : Option ValueParser)
       → reading_of (parser_of_value (s o)) ≡ reading_of (parser_of_value o)
@@ -50,7 +50,7 @@ module _ (s : Swap) (same : ReadsSame s) where
   abbrev f : Rule → Rule
   f = swapped s
 
-  -- ---- one use
+  -- ---- one use of an argument
   pub used_swapped : (a : Rule) (values : List Text) (rows : List Row)
       → used (f a) values rows ≡ used a values rows
   used_swapped a values rows =
@@ -243,7 +243,7 @@ module _ (s : Swap) (same : ReadsSame s) where
         → walk d names h words ≡ walk c names h words
     walk_swapped names h words = steps_swapped names (walk_from h) words
 
-  -- ---- after the walk
+  -- ---- the rows after the walk
   pub with_default_swapped : (rows : List Row) (a : Rule)
       → with_default rows (f a) ≡ with_default rows a
   with_default_swapped rows a =

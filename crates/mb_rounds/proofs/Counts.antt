@@ -8,6 +8,7 @@ use mathlib.Core.Bool.{cond}
 use Rattle.mb_world.specs.Assignment.{items_where, is_consumer}
 use Rattle.mb_rounds.specs.Carried.{times}
 
+-- how often x is the one value y: once or never
 abbrev pub one : ℕ → ℕ → ℕ
 one x y = cond (nat_eq x y) 1 0
 
@@ -17,7 +18,7 @@ times_both x xs ys = sum_by-append (λ y. one x y) xs ys
 pub times_first : (x y : ℕ) (ys : List ℕ) → times x (y ∷ ys) ≡ one x y + times x ys
 times_first x y ys = sum_by-cons (λ z. one x z) y ys
 
--- f 0 + .. + f (n - 1)
+-- the sum f 0 + .. + f (n - 1)
 abbrev pub sum_below : ℕ → (ℕ → ℕ) → ℕ
 sum_below zero f = 0
 sum_below (suc n) f = sum_below n f + f n
@@ -69,10 +70,11 @@ sum_more (suc n) (suc d) f g v low here others =
 
 -- ---- items that an assignment gives out
 module _ (x n : ℕ) where
-  -- what each of the first n is given, and what nobody is given
+  -- how often x is given to one of the first n
   abbrev pub shares : (ℕ → Option ℕ) → List ℕ → ℕ
   shares t items = sum_below n (λ c. times x (items_where (λ j. is_consumer c (t j)) items))
 
+  -- how often x is given to nobody
   abbrev pub rests : (ℕ → Option ℕ) → List ℕ → ℕ
   rests t items = times x (items_where (λ j. is_none (t j)) items)
 
@@ -99,7 +101,7 @@ module _ (x n : ℕ) where
         ap (λ (z : Option ℕ). times x (if is_none z then y ∷ left else left)) e,
       )
 
-  -- both together are all that there is, if nobody else is given any
+  -- both together are how often x is there, if nobody else is given any
   pub given_and_left : (t : ℕ → Option ℕ) (items : List ℕ) → ((j c : ℕ) → j < length items → t j ≡ Some c → c < n)
       → shares t items + rests t items ≡ times x items
   given_and_left t [] few = let z = sum_none n in omega (arith, z)

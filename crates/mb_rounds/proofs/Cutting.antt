@@ -15,6 +15,7 @@ pub count_lists : {Z : Type 0} (vs : List (Vec ℕ Z)) → length vs ≡ length 
 count_lists [] = refl
 count_lists (v ∷ vs) = let t = count_lists vs in omega (arith, t)
 
+-- one list more is cut off the front of what is left
 pub dealt_more : {Z : Type 0} (vs : List (Vec ℕ Z)) (v : Vec ℕ Z) (back rest items : List ℕ) (n : ℕ)
     → v.items ≡ take n rest → back ≡ drop n rest → concat (lists_in vs) ++ rest ≡ items
     → concat (lists_in (vs ++ v ∷ [])) ++ back ≡ items

@@ -51,6 +51,7 @@ zip_put (list ∷ lists) (l ∷ ls) (v ∷ vs) z count each =
     let put : l.put ≡ v.put = sym (ap (λ (w : LaneView). w.put) same ∙ here.2) in
     (subst (λ items. IsFront items list) put z.0, zip_put lists ls vs z.1 (omega arith) (λ p k e. each (suc p) k e))
 
+-- what the report has of each lane is a beginning of the list dealt to its producer
 pub fronts_told : (lanes consumers : ℕ) (lists : List (List ℕ)) (ls : List LaneLeft) (h : HubView) (r : ReportView)
     → lanes ≡ length lists → IsReportIn lanes consumers h r
     → h.puts ≡ map (λ l. Some (ended_list l)) ls
