@@ -64,11 +64,13 @@ module _ (s : WorldState) (h : WorldHistory) (c p word k object : ℕ) (act : Ac
     (adds : EventAdds (event.Step c p word) (answer.Claimed k object act (claim_stage now))
     (with_note_if c k (note_of (claim_stage now))
     (with_seat c p (seat_by k now (claim_stage now)) (with_words words s))) h) where
+  -- the step adds the state with these seats and notes, and with the words that the access left
   abbrev Adds : List Seat → List (Option Note) → Type 0
   Adds seats notes =
       EventAdds (event.Step c p word) (answer.Claimed k object act z)
       (record { setup = s.setup; pool = s.pool; words = words; seats = seats; notes = notes }) h
 
+  -- the state as the step leaves it, for a stage that equals that of the claim now
   by_stage : EventAdds (event.Step c p word) (answer.Claimed k object act z)
       (with_note_if c k (note_of z) (with_seat c p (seat_by k now z) (with_words words s))) h
   by_stage =

@@ -33,12 +33,15 @@ value_at p j k pool at =
     ∙ ap (option_map (λ (e : Entry). e.value)) (mapped_at (entry_of (λ i. item_of i pool)) (linked_cells p pool) j k at)
 
 module _ (plan : Plan) (hs : Histories) (known : Known plan hs) where
+  -- the claim of consumer c on cell k has ended so
   abbrev Ends : ℕ → ℕ → Note → Type 0
   Ends c k n = EndsAs plan.claims c k n (parts_of c hs)
 
+  -- the claim of consumer c on cell k has this stage
   abbrev Comes : ℕ → ℕ → Stage → Type 0
   Comes c k s = HasStageIn plan.claims c k s (parts_of c hs)
 
+  -- a claim has one stage
   one_stage : (c k : ℕ) (s r : Stage) → Comes c k s → Comes c k r → s ≡ r
   one_stage c k s r = known.stage c (claim_part c k hs.claims) s r
 

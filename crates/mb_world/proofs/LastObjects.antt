@@ -26,12 +26,14 @@ module _ (plan : Plan) (hs : Histories) (r : ReportView) (honest : IsHonest plan
       (slice_get-get_or (notes d p r) j Undecided before))
   begun_next d p j none unfinished (inr next) = next
 
+  -- so an item that was competed for and left is left beside a begun claim
   pub beside : IsLeftBesideBegun r
   beside c p j inside competed none =
       let s = honest.settled c p j inside competed none in
       let next = begun_next s.0 p j none s.2 s.1 in
       (s.0, next.0, next.1)
 
+  -- an item that is given to somebody, or left, on a lane without a begun claim is taken
   taken_by : (p : ℕ) → ((d : ℕ) → is_begun d p r ≡ true → ⊥) → (c j : ℕ) → j < length (items_put p r)
       → HasCompeted c p j r → (given : Option ℕ) → honest.assignment p j ≡ given → (d : ℕ) × HasTaken d p j r
   taken_by p idle c j inside competed (Some d) e = (d, (honest.given.taken d p j).1 e)
@@ -40,5 +42,6 @@ module _ (plan : Plan) (hs : Histories) (r : ReportView) (honest : IsHonest plan
       (λ d has. let both : None ≡ Some d = sym e ∙ (honest.given.taken d p j).0 has in cc) in
       absurd (idle b.0 b.2)
 
+  -- so on a lane without a begun claim each item that was competed for is taken
   pub taken : AreAllTaken r
   taken p idle c j inside competed = taken_by p idle c j inside competed (honest.assignment p j) refl

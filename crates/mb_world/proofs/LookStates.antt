@@ -96,6 +96,7 @@ module _ (s : WorldState) (h : WorldHistory) (is : IsWorldAfter h s) (c p : ℕ)
   link_at [] ns None seat.AtHead (cursor.Past i) path on b = absurd b
   link_at (k ∷ ks) ns None (seat.PastCell j) (cursor.Head q) path on b = absurd b
 
+  -- what this seat says
   at_link : AtLink d at
   at_link =
       let y = seat_here s h is c p d cs ps here in link_at y.cells y.notes y.held d at y.path y.is before
@@ -118,19 +119,23 @@ module _ (s : WorldState) (h : WorldHistory) (is : IsWorldAfter h s) (c p : ℕ)
   pub within : IsWithin at s.pool
   within = within_by at_link.cells at_link.notes at at_link.path at_link.word
 
+  -- a consumer that was given these cells may load the link past them
   may_past : (ks : List ℕ) → ((k : ℕ) → Has ks k → Gave k (part (Reader c) (pool_accesses h)))
       → MayRead (plan s h is).lanes (place_past p ks) (part (Reader c) (pool_accesses h))
   may_past [] gave = ps
   may_past (k ∷ ks) gave = gave k (inl refl)
 
+  -- the consumer may load the word at the cursor
   may : MayRead (plan s h is).lanes (word_of at) (part (Reader c) (pool_accesses h))
   may =
       subst (λ (w : Word). MayRead (plan s h is).lanes w (part (Reader c) (pool_accesses h))) (sym at_link.word)
       (may_past at_link.cells (given s h is c p cs ps known at_link.cells at_link.notes None at_link.path))
 
+  -- what the word holds
   abbrev v : ℕ
   v = value_in (word_of at) (pool_accesses h)
 
+  -- the load of that word
   abbrev a : WorldAccess
   a = loaded s h is c p cs ps known (word_of at) may
 

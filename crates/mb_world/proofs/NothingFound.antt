@@ -61,6 +61,7 @@ module _ (plan : Plan) (h : WorldHistory) (lawful : IsWorldLawful plan h) (known
       ap (λ (ls : List ℕ). filter (is_on c p ls) (x ∷ h)) (linked_same c p x h own)
       ∙ ap (λ (b : Bool). cond b (x ∷ lane_part c p h) (lane_part c p h)) on
 
+  -- an access of the consumer on the lane comes from a place and leads to one
   last : (x : WorldAccess) → IsBy c x → is_on c p (linked_cells p (pool_accesses h)) x ≡ true
       → (longer : IsWorldLawful plan (x ∷ h)) → c < consumers_of plan → p < plan.lanes
       → (now : Place) × CameFrom plan.claims c p x (lane_part c p h) now
@@ -72,10 +73,12 @@ module _ (plan : Plan) (h : WorldHistory) (lawful : IsWorldLawful plan h) (known
             (front x own on) y.path),
       )
 
+  -- a load of a link found what the link held
   loaded : (x : WorldAccess) → IsWorldLawful plan (x ∷ h) → (ks : List ℕ) (v : ℕ) → x ≡ link_load c p ks v
       → v ≡ value_in (place_past p ks) (pool_accesses h)
   loaded x longer ks v e = (subst (λ y. IsWorldLawful plan (y ∷ h)) e longer).cells_memory.0
 
+  -- the answer that names a load of a link is what its value tells
   answered : (x : WorldAccess) (r : Answer) → AnswerNames plan r x h → (ks : List ℕ) (v : ℕ) → x ≡ link_load c p ks v
       → r ≡ answer.Looked (look_of v)
   answered x r names ks v e =
@@ -85,6 +88,7 @@ module _ (plan : Plan) (h : WorldHistory) (lawful : IsWorldLawful plan h) (known
       cc
 
   -- ---- if nothing is found, all was met and the lane goes on
+  -- if the link past these cells holds 0, they are all of the lane, which has not ended
   all_met : (ks : List ℕ) → IsStart ks (linked_cells p (pool_accesses h))
       → value_in (place_past p ks) (pool_accesses h) ≡ 0
       → (ks ≡ linked_cells p (pool_accesses h)) × (has_ended p (pool_accesses h) ≡ false)
@@ -108,6 +112,7 @@ module _ (plan : Plan) (h : WorldHistory) (lawful : IsWorldLawful plan h) (known
           let more = next p y ys ks split in
           absurd (omega (arith, more, zero))
 
+  -- an access whose answer is that nothing is found waits past all cells
   waits_there : {was now : Place} (x : WorldAccess) (r : Answer) → IsWorldLawful plan (x ∷ h) → AnswerNames plan r x h
       → r ≡ answer.Looked look.Nothing → c < consumers_of plan → p < plan.lanes
       → ConsumerPath plan.claims c p (lane_part c p h) was.cells was.notes was.held
@@ -142,6 +147,7 @@ module _ (plan : Plan) (h : WorldHistory) (lawful : IsWorldLawful plan h) (known
       let other : answer.Took k v ≡ r = cc in
       let both = other ∙ is in absurd (cc)
 
+  -- if a step's answer is that nothing is found, there is nothing
   pub nothing_there : (r : Answer) (a : Option WorldAccess) → IsEntry plan (event.Step c p word) r a h
       → r ≡ answer.Looked look.Nothing → HasNothing plan c p h
   nothing_there r None (inl (past, e)) is = let other = sym e ∙ is in absurd (cc)
@@ -158,6 +164,7 @@ module _ (plan : Plan) (h : WorldHistory) (lawful : IsWorldLawful plan h) (known
   module _ (one_place : (js : List ℕ) (ms : List Note) (held : Option (List ObjectTurn))
       → ConsumerPath plan.claims c p (lane_part c p h) js ms held → (ks : List ℕ) (ns : List Note)
       → ConsumerPath plan.claims c p (lane_part c p h) ks ns None → (js ≡ ks) × (ms ≡ ns) × (held ≡ None)) where
+    -- if there is nothing, the answer to each access of the consumer there says so
     finds_none : {was now : Place} (x : WorldAccess) (r : Answer) → IsWorldLawful plan (x ∷ h) → AnswerNames plan r x h
         → HasNothing plan c p h
         → ConsumerPath plan.claims c p (lane_part c p h) was.cells was.notes was.held
@@ -182,6 +189,7 @@ module _ (plan : Plan) (h : WorldHistory) (lawful : IsWorldLawful plan h) (known
         by (ended ks ns k xs y n s q note e) same none = absurd (cc)
         by (took ks ns k xs v won e) same none = absurd (cc)
 
+    -- if there is nothing, a step's answer says so
     pub nothing_found : (r : Answer) (a : Option WorldAccess) → IsEntry plan (event.Step c p word) r a h
         → HasNothing plan c p h → r ≡ answer.Looked look.Nothing
     nothing_found r None (inl (past, e)) f = absurd (omega (arith, past, f.lane))

@@ -12,6 +12,7 @@ use Rattle.mb_world.proofs.Lists.{items_where-none}
 use Rattle.mb_world.proofs.ReportLists.{no_diary, no_lane, not_noted}
 
 module _ (t : Assignment) (xs ys : List ℕ) (ds : List DiaryView) where
+  -- the report of one lane with these items put and left, and these diaries
   abbrev r : ReportView
   r = report_of xs ys ds
 
@@ -105,6 +106,7 @@ module _ (t : Assignment) (xs ys : List ℕ) (ds : List DiaryView) where
     left zero = y.left
     left (suc p) = refl
 
+    -- a report that agrees so far agrees with the assignment
     pub agrees_on_lane : AgreesWith t r
     agrees_on_lane = record {
       given = record {

@@ -22,6 +22,7 @@ use Rattle.mb_world.proofs.ReaderParts.{loaded-read}
 abbrev StandsIn : {A : Type 0} → List A → List A → Type 0
 StandsIn {A} xs ys = (j : ℕ) (x : A) → slice_get xs j ≡ Some x → slice_get ys j ≡ Some x
 
+-- two lists that have the same at each place are one
 one_list : {A : Type 0} (xs ys : List A) → StandsIn xs ys → StandsIn ys xs → xs ≡ ys
 one_list [] [] f g = refl
 one_list [] (y ∷ ys) f g = absurd (let e : None ≡ Some y = g 0 y refl in cc)
@@ -58,6 +59,7 @@ one_bool false true f g = g refl
 one_bool false false f g = refl
 
 module _ (plan : Plan) (hs : Histories) (known : Known plan hs) where
+  -- the claim of consumer c on cell k has ended so
   abbrev Ends : ℕ → ℕ → Note → Type 0
   Ends c k n = EndsAs plan.claims c k n (parts_of c hs)
 
@@ -108,6 +110,7 @@ module _ (plan : Plan) (hs : Histories) (known : Known plan hs) where
         let at = has_at x.cells q.0 q.1 in
         y.begun.1 (q.0, at_has y.cells at.0 q.0 (same_at d e x y at.0 q.0 at.1), q.2, q.3)
 
+    -- two diaries of a consumer on a lane are one
     pub one_diary : (d e : DiaryView) → IsDiaryOf plan c p hs d → IsDiaryOf plan c p hs e → d ≡ e
     one_diary d e x y =
         let consumers : d.consumer ≡ e.consumer = x.consumer ∙ sym y.consumer in
@@ -118,6 +121,7 @@ module _ (plan : Plan) (hs : Histories) (known : Known plan hs) where
         made
 
   -- ---- there is one report
+  -- two reports have the same diaries
   same_diary : (r s : ReportView) → IsReportOf plan hs r → IsReportOf plan hs s → StandsIn r.diaries s.diaries
   same_diary r s x y i d is =
       let less : i < consumers_of plan * plan.lanes =
@@ -136,6 +140,7 @@ module _ (plan : Plan) (hs : Histories) (known : Known plan hs) where
       let one = one_diary c p cs first.0 other.0 first.2 other.2 in
       ap (λ (j : ℕ). slice_get s.diaries j) (sym place) ∙ (other.1 ∙ ap Some (sym one ∙ same))
 
+  -- two reports with one list of diaries have the same lanes
   same_lane : (r s : ReportView) → r.diaries ≡ s.diaries → length r.lanes ≡ length s.lanes → IsReportOf plan hs r
       → IsReportOf plan hs s → StandsIn r.lanes s.lanes
   same_lane r s diaries lanes x y p l is =
@@ -144,6 +149,7 @@ module _ (plan : Plan) (hs : Histories) (known : Known plan hs) where
       let views : lane_view plan p hs s ≡ lane_view plan p hs r = rw (diaries, lanes) refl in
       y.lane p less ∙ (ap Some views ∙ e)
 
+  -- two reports of the same histories are one
   pub one_report : (r s : ReportView) → IsReportOf plan hs r → IsReportOf plan hs s → r ≡ s
   one_report r s x y =
       let diaries = one_list r.diaries s.diaries (same_diary r s x y) (same_diary s r y x) in

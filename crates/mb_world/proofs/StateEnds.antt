@@ -23,12 +23,15 @@ module _ (cs : Claims) where
   module _ (c : ℕ) (h : WorldHistory) where
     -- ---- a load
     module _ (w : Word) (v : ℕ) where
+      -- the history with a load
       abbrev loaded : WorldHistory
       loaded = ToCells (load c w v) ∷ h
 
+      -- the loads of its consumer have it more
       own_loads : part (Reader c) (pool_accesses loaded) ≡ load c w v ∷ part (Reader c) (pool_accesses h)
       own_loads = rw (reader_same c) refl
 
+      -- the loads of other consumers stay
       other_loads : (d : ℕ) → (d ≡ c → ⊥) → part (Reader d) (pool_accesses loaded) ≡ part (Reader d) (pool_accesses h)
       other_loads d other = rw (ne_eqb d c other) refl
 
@@ -54,6 +57,7 @@ module _ (cs : Claims) where
               ]
           by (inr other) = inl (subst (λ (l : History). HasRead (Item j) u l) (other_loads d other) read)
 
+      -- a value that was loaded from an item before is loaded in it, too
       pub more_loads : (d j u : ℕ) → HasItem h d j u → HasItem loaded d j u
       more_loads d j u read = by (cases_eq d c)
         where
@@ -64,6 +68,7 @@ module _ (cs : Claims) where
               (subst (λ (l : History). HasRead (Item j) u l) (sym own_loads) (mine.0, inr mine.1, mine.2, mine.3))
           by (inr other) = subst (λ (l : History). HasRead (Item j) u l) (sym (other_loads d other)) read
 
+      -- the load is one of the item, if it is of that word
       pub this_load : (j : ℕ) → w ≡ Item j → HasItem loaded c j v
       this_load j is =
           subst (λ (l : History). HasRead (Item j) v l) (sym own_loads) (load c w v, inl refl, is, refl)
@@ -79,9 +84,11 @@ module _ (cs : Claims) where
 
     -- ---- a step of a claim on cell k
     module _ (k : ℕ) (x : ObjectTurn) where
+      -- the history with a step
       abbrev stepped : WorldHistory
       stepped = claim_step c k x ∷ h
 
+      -- the claims of other consumers and on other cells stay
       other_part : (d j : ℕ) → (d ≡ c → j ≡ k → ⊥)
           → claim_part d j (claim_accesses stepped) ≡ claim_part d j (claim_accesses h)
       other_part d j other = by (cases_eq c d)
@@ -135,6 +142,7 @@ module _ (cs : Claims) where
         let same : w ≡ u = cc in ap Lost same
     lost_end w Undecided lost e = absurd (let f = one (stage.Lost w) stage.Undecided lost e in cc)
 
+    -- the end of an undecided claim is Undecided
     pub undecided_end : (n : Note) → IsClaimPrefix cs d (claim_part d j (claim_accesses h)) stage.Undecided
         → Ends h d j n → Undecided ≡ n
     undecided_end (Took v) still e = absurd (let f = one stage.Undecided stage.Won still e.0 in cc)

@@ -105,6 +105,7 @@ claim_begun false [] w = refl
 claim_begun true (x ∷ xs) w = refl
 claim_begun false (x ∷ xs) w = w.1 (cons_some x xs)
 
+-- a seat's claim is begun exactly if that of the consumer's path is
 seat_begun : (layout : Layout) (c : ℕ) (ks : List ℕ) (held : Option (List ObjectTurn)) (d : Seat)
     → IsSeatAt layout c ks held d → has_begun_on d ≡ has_begun held
 seat_begun layout c [] None seat.AtHead is = refl

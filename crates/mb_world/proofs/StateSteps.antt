@@ -31,18 +31,23 @@ pub still_sound : (e : Event) (r : Answer) (now : WorldState) (h : WorldHistory)
 still_sound e r now h adds = (with_access adds.access h, adds.left)
 
 module _ (s : WorldState) (h : WorldHistory) (is : IsWorldAfter h s) where
+  -- the plan of the world
   abbrev pub plan : Plan
   plan = plan_in s.setup
 
+  -- the place of the seat of consumer c on lane p
   abbrev pub seat_place : ℕ → ℕ → ℕ
   seat_place c p = c * plan.lanes + p
 
+  -- the place of the note of consumer c on cell k
   abbrev pub note_place : ℕ → ℕ → ℕ
   note_place c k = c * plan.claims.cells + k
 
+  -- the seats are those of the consumers after the history
   abbrev pub AreSeats : WorldHistory → List Seat → Type 0
   AreSeats g ds = HasAll (consumers_of plan) plan.lanes (λ c p d. IsSeatAfter s.setup c p g d) ds
 
+  -- the notes are those of the consumers after the history
   abbrev pub AreNotes : WorldHistory → List (Option Note) → Type 0
   AreNotes g os = HasAll (consumers_of plan) plan.claims.cells (λ c k o. IsNoteAfter s.setup c k g o) os
 
@@ -62,6 +67,7 @@ module _ (s : WorldState) (h : WorldHistory) (is : IsWorldAfter h s) where
   module _ (c p : ℕ) (cs : c < consumers_of plan) (ps : p < plan.lanes) (a : WorldAccess)
       (adds : ConsumerAdds plan c p a h) where
     -- ---- seats
+    -- another seat stays
     other_seat : (e q : ℕ) (x : Seat) → (e ≡ c → q ≡ p → ⊥) → IsSeatAfter s.setup e q h x
         → IsSeatAfter s.setup e q (a ∷ h) x
     other_seat e q x other y = record {
@@ -118,10 +124,12 @@ module _ (s : WorldState) (h : WorldHistory) (is : IsWorldAfter h s) where
         (λ e q x. IsSeatAfter s.setup e q (a ∷ h) x) s.seats is.seat c p cs ps is.seats_count d now
         (λ e q x _ _ other old. other_seat e q x other old)
 
+    -- there are as many seats as before
     pub seats_count : (d : Seat) → length (slice_set s.seats (seat_place c p) d) ≡ consumers_of plan * plan.lanes
     seats_count d = length-set s.seats (seat_place c p) d ∙ is.seats_count
 
     -- ---- notes
+    -- a note stays, if the ends of its claim do
     note_kept : (e j : ℕ) (o : Option Note) → ((n : Note) → Ends plan.claims h e j n ↔ Ends plan.claims (a ∷ h) e j n)
         → IsNoteAfter s.setup e j h o → IsNoteAfter s.setup e j (a ∷ h) o
     note_kept e j o same old n = ((λ f. (same n).0 ((old n).0 f)), (λ f. (old n).1 ((same n).1 f)))
@@ -136,6 +144,7 @@ module _ (s : WorldState) (h : WorldHistory) (is : IsWorldAfter h s) where
 
     -- that of its claim on cell k is written
     module _ (k : ℕ) (ks : k < plan.claims.cells) (n : Note) where
+      -- the notes with the one that is written are right after the access
       pub notes_set : Ends plan.claims (a ∷ h) c k n → ((m : Note) → Ends plan.claims (a ∷ h) c k m → n ≡ m)
           → ((e j : ℕ) (m : Note) → (e ≡ c → j ≡ k → ⊥) → Ends plan.claims h e j m ↔ Ends plan.claims (a ∷ h) e j m)
           → AreNotes (a ∷ h) (slice_set s.notes (note_place c k) (Some n))
@@ -150,11 +159,13 @@ module _ (s : WorldState) (h : WorldHistory) (is : IsWorldAfter h s) where
             λ e. let one = only m e in cc,
           )
 
+      -- there are as many notes as before
       pub notes_count : length (slice_set s.notes (note_place c k) (Some n))
           ≡ consumers_of plan * plan.claims.cells
       notes_count = length-set s.notes (note_place c k) (Some n) ∙ is.notes_count
 
     -- ---- the state
+    -- the state with these words, seats and notes is what the longer history leaves
     pub state_after : (words : List ℕ) (seats : List Seat) (notes : List (Option Note))
         → IsAfter (pool_accesses (a ∷ h)) s.pool → IsMemoryOf plan.claims words (claim_accesses (a ∷ h))
         → length seats ≡ consumers_of plan * plan.lanes → AreSeats (a ∷ h) seats

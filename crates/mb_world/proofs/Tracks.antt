@@ -52,6 +52,7 @@ ends_more E F (k ∷ ks) [] more h = absurd h
 ends_more E F (k ∷ ks) (n ∷ ns) more h =
     (more k n (inl refl) h.0, ends_more E F ks ns (λ i m has. more i m (inr has)) h.1)
 
+-- each cell has an end
 pub ends_some : (E : ℕ → Note → Type 0) (ks : List ℕ) (ns : List Note) (k : ℕ) → AreEnds E ks ns → Has ks k
     → (n : Note) × E k n
 ends_some E [] ns k h has = absurd has
@@ -118,6 +119,7 @@ module _ (cs : Claims) (c : ℕ) where
       subst (λ xs. IsClaimPrefix cs c xs stage.Undecided)
       (sym (part-elsewhere c j (claim_access c k x) (claim_accesses done) ne)) e
 
+  -- a claim that has a note at its last step has ended so
   noted_end : (k : ℕ) (done : WorldHistory) (s : Stage) (n : Note)
       → IsClaimPrefix cs c (claim_part c k (claim_accesses done)) s → note_of s ≡ Some n
       → EndsAs cs c k n (local c done)
@@ -132,16 +134,20 @@ module _ (cs : Claims) (c : ℕ) where
   module _ (k : ℕ) (ks : List ℕ) (ns : List Note) (xs : List ObjectTurn) (x : ObjectTurn) (older : WorldHistory)
       (once : IsOnceEach (k ∷ ks)) (z : Stage)
       (q : IsClaimPrefix cs c (x ∷ xs) z) (y : Tracks cs c older (k ∷ ks) ns (Some xs)) where
+    -- what was done, with the step
     abbrev Now : WorldHistory
     Now = claim_step c k x ∷ older
 
+    -- the held claim has the step more
     step_own : claim_part c k (claim_accesses Now) ≡ x ∷ xs
     step_own = part-own c k (claim_access c k x) (claim_accesses older) refl refl ∙ ap (λ zs. x ∷ zs) y.is_held
 
+    -- there is no claim on other cells than those met
     step_none : (j : ℕ) → (Has (k ∷ ks) j → ⊥) → claim_part c j (claim_accesses Now) ≡ []
     step_none j not_met = part-elsewhere c j (claim_access c k x) (claim_accesses older) (λ e. not_met (inl e))
         ∙ y.none j not_met
 
+    -- each claim is a prefix of a claim path still
     step_prefix : (j : ℕ) → claim_part c j (claim_accesses Now) ≢ []
         → (s : Stage) × IsClaimPrefix cs c (claim_part c j (claim_accesses Now)) s
     step_prefix j some = by (cases_eq k j)
@@ -161,17 +167,20 @@ module _ (cs : Claims) (c : ℕ) where
     another : (j : ℕ) → Has ks j → k ≡ j → ⊥
     another j has e = once.0 (subst (Has ks) (sym e) has)
 
+    -- the claims of items that were loaded are won still
     step_won : (j v : ℕ) → HasRead (Item j) v (pool_accesses older)
         → IsClaimPrefix cs c (claim_part c j (claim_accesses Now)) stage.Won
     step_won j v h =
         subst (λ zs. IsClaimPrefix cs c zs stage.Won)
         (sym (part-elsewhere c j (claim_access c k x) (claim_accesses older) (another j (y.items j v h)))) (y.won j v h)
 
+    -- the claims before have their notes still
     step_ended : AreEnds (EndsIn cs c Now) ks ns
     step_ended =
         ends_more (EndsIn cs c older) (EndsIn cs c Now) ks ns
         (λ j n has. stepped k x older j n (another j has)) y.ended
 
+  -- a place tells this of each path to it
   pub track : {p : ℕ} {done : WorldHistory} {ks : List ℕ} {ns : List Note} {held : Option (List ObjectTurn)}
       → IsOnceEach ks → ConsumerPath cs c p done ks ns held → Tracks cs c done ks ns held
   track once begins = record {

@@ -40,6 +40,7 @@ module _ (plan : Plan) (h : WorldHistory) (lawful : IsWorldLawful plan h) (known
       let s = known.start c p y.cells (met_all c p y) in
       once_start s.0 y.cells (subst IsOnceEach (sym s.1) (known.once p))
 
+  -- what a consumer's place on a lane tells of its part there
   pub tracks : (c p : ℕ) (y : IsOnPath plan c p h) → Tracks plan.claims c (lane_part c p h) y.cells y.notes y.held
   tracks c p y = track plan.claims c (met_once c p y) y.path
 
@@ -67,6 +68,7 @@ module _ (plan : Plan) (h : WorldHistory) (lawful : IsWorldLawful plan h) (known
       → claim_part c k (claim_accesses (lane_part c p h)) ≡ claim_part c k (claim_accesses h)
   steps_there c p k here = claim_on c p (linked_cells p (pool_accesses h)) k h here
 
+  -- so the history of the claims is lawful
   pub claims_lawful : IsClaimLawful plan.claims (claim_accesses h)
   claims_lawful = record {
     memory = lawful.claims_memory;
