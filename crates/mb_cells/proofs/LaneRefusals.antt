@@ -31,6 +31,7 @@ found_none (Full e) = true
 found_none (Ended r) = false
 
 -- ---- when each call is refused, by the producer's phase
+-- an offer is refused as Closed exactly after the end mark
 closed_at : (phase : Phase) → (stage_offer_refusal (stage_of phase) ≡ Some offer.Closed) ↔ (is_ended phase ≡ true)
 closed_at Open = (λ e. cc, λ e. cc)
 closed_at (Offered x) = (λ e. cc, λ e. cc)
@@ -39,6 +40,7 @@ closed_at (Full x) = (λ e. cc, λ e. cc)
 closed_at (Ended None) = (λ e. refl, λ e. refl)
 closed_at (Ended (Some x)) = (λ e. refl, λ e. refl)
 
+-- an offer is refused as Busy exactly while an item is pending
 busy_at : (phase : Phase) → (stage_offer_refusal (stage_of phase) ≡ Some offer.Busy) ↔ (is_pending phase ≡ true)
 busy_at Open = (λ e. cc, λ e. cc)
 busy_at (Offered x) = (λ e. refl, λ e. refl)
@@ -47,6 +49,7 @@ busy_at (Full x) = (λ e. cc, λ e. cc)
 busy_at (Ended None) = (λ e. cc, λ e. cc)
 busy_at (Ended (Some x)) = (λ e. cc, λ e. cc)
 
+-- an offer is refused as Full exactly after a fetch-add that found no cell
 full_at : (phase : Phase) → (stage_offer_refusal (stage_of phase) ≡ Some offer.Full) ↔ (found_none phase ≡ true)
 full_at Open = (λ e. cc, λ e. cc)
 full_at (Offered x) = (λ e. cc, λ e. cc)
@@ -55,6 +58,7 @@ full_at (Full x) = (λ e. refl, λ e. refl)
 full_at (Ended None) = (λ e. cc, λ e. cc)
 full_at (Ended (Some x)) = (λ e. cc, λ e. cc)
 
+-- any other offer is not refused
 free_at : (phase : Phase) → is_ended phase ≡ false → is_pending phase ≡ false → found_none phase ≡ false
     → stage_offer_refusal (stage_of phase) ≡ None
 free_at Open e f g = refl
@@ -63,6 +67,7 @@ free_at (Stored x) e f g = absurd (cc)
 free_at (Full x) e f g = absurd (cc)
 free_at (Ended r) e f g = absurd (cc)
 
+-- a push stores nothing exactly if no item is pending
 idle_at : (link : Word) (phase : Phase) → (stage_push_store link (stage_of phase) ≡ None) ↔ (is_pending phase ≡ false)
 idle_at link Open = (λ e. refl, λ e. refl)
 idle_at link (Offered x) = (λ e. cc, λ e. cc)
@@ -71,6 +76,7 @@ idle_at link (Full x) = (λ e. refl, λ e. refl)
 idle_at link (Ended None) = (λ e. refl, λ e. refl)
 idle_at link (Ended (Some x)) = (λ e. refl, λ e. refl)
 
+-- a finish is refused as Closed exactly after the end mark
 over_at : (phase : Phase) → (stage_finish_refusal (stage_of phase) ≡ Some finish.Closed) ↔ (is_ended phase ≡ true)
 over_at Open = (λ e. cc, λ e. cc)
 over_at (Offered x) = (λ e. cc, λ e. cc)
@@ -79,6 +85,7 @@ over_at (Full x) = (λ e. cc, λ e. cc)
 over_at (Ended None) = (λ e. refl, λ e. refl)
 over_at (Ended (Some x)) = (λ e. refl, λ e. refl)
 
+-- a finish is refused as Busy exactly while an item is pending
 held_at : (phase : Phase) → (stage_finish_refusal (stage_of phase) ≡ Some finish.Busy) ↔ (is_pending phase ≡ true)
 held_at Open = (λ e. cc, λ e. cc)
 held_at (Offered x) = (λ e. refl, λ e. refl)
@@ -87,6 +94,7 @@ held_at (Full x) = (λ e. cc, λ e. cc)
 held_at (Ended None) = (λ e. cc, λ e. cc)
 held_at (Ended (Some x)) = (λ e. cc, λ e. cc)
 
+-- any other finish is not refused
 done_at : (phase : Phase) → is_ended phase ≡ false → is_pending phase ≡ false
     → stage_finish_refusal (stage_of phase) ≡ None
 done_at Open e f = refl
@@ -132,6 +140,7 @@ IsLast cells (Stored x) n = n < cells
 IsLast cells (Full x) n = cells ≤ n
 IsLast cells (Ended r) n = cells ≤ n
 
+-- each fetch-add of a producer gave the cell of an entry, or the number of its phase
 add_at : (cells p : ℕ) (es : List Entry) (phase : Phase) (d : History) → LaneIsAt cells p es phase d → (e : Entry)
     → Has (part_at p es phase) (fetch p e) → Has (cells_of es) e.cell ⊎ IsLast cells phase e.cell
 add_at cells p es Open d at e has = inl (add_in p es e has)
@@ -264,18 +273,21 @@ module _ (size : PoolSize) (h : History) (p : ℕ) (lawful : IsPoolLawful size h
       | inr e ↦ e
     ]
 
+    -- an offer is refused as Closed exactly if the lane has ended
     pub closed : (offer_refusal lane ≡ Some offer.Closed) ↔ (has_ended p h ≡ true)
     closed = (
       λ e. ended ∙ (closed_at here.phase).0 (sym offers ∙ e),
       λ e. offers ∙ (closed_at here.phase).1 (sym ended ∙ e),
     )
 
+    -- an offer is refused as Busy exactly if an item is pending
     pub busy : (offer_refusal lane ≡ Some offer.Busy) ↔ HasPending size.cells p h
     busy = (
       λ e. pending_at here.entries here.phase here.at ((busy_at here.phase).0 (sym offers ∙ e)),
       λ pending. offers ∙ (busy_at here.phase).1 (pending_tells here.entries here.phase here.at pending),
     )
 
+    -- an offer is refused as Full exactly if a fetch-add found no cell, and the lane has not ended
     pub full : (offer_refusal lane ≡ Some offer.Full) ↔ ((has_ended p h ≡ false) × HasFoundNone size.cells p h)
     full = (
       λ e.
@@ -286,12 +298,14 @@ module _ (size : PoolSize) (h : History) (p : ℕ) (lawful : IsPoolLawful size h
           ∙ (full_at here.phase).1 (none_tells here.entries here.phase here.at (sym ended ∙ none.0) none.1),
     )
 
+    -- any other offer is not refused
     pub free : has_ended p h ≡ false → (HasPending size.cells p h → ⊥) → (HasFoundNone size.cells p h → ⊥)
         → offer_refusal lane ≡ None
     free still pending none =
         let e = sym ended ∙ still in
         offers ∙ free_at here.phase e (not_pending pending) (not_none e none)
 
+    -- a push stores nothing exactly if no item is pending
     pub idle : (push_store p lane ≡ None) ↔ (HasPending size.cells p h → ⊥)
     idle = (
       λ e pending.
@@ -301,17 +315,20 @@ module _ (size : PoolSize) (h : History) (p : ℕ) (lawful : IsPoolLawful size h
       λ none. pushes ∙ (idle_at (next_link p lane) here.phase).1 (not_pending none),
     )
 
+    -- a finish is refused as Closed exactly if the lane has ended
     pub over : (finish_refusal lane ≡ Some finish.Closed) ↔ (has_ended p h ≡ true)
     over = (
       λ e. ended ∙ (over_at here.phase).0 (sym finishes ∙ e),
       λ e. finishes ∙ (over_at here.phase).1 (sym ended ∙ e),
     )
 
+    -- a finish is refused as Busy exactly if an item is pending
     pub held : (finish_refusal lane ≡ Some finish.Busy) ↔ HasPending size.cells p h
     held = (
       λ e. pending_at here.entries here.phase here.at ((held_at here.phase).0 (sym finishes ∙ e)),
       λ pending. finishes ∙ (held_at here.phase).1 (pending_tells here.entries here.phase here.at pending),
     )
 
+    -- any other finish is not refused
     pub may_finish : has_ended p h ≡ false → (HasPending size.cells p h → ⊥) → finish_refusal lane ≡ None
     may_finish still pending = finishes ∙ done_at here.phase (sym ended ∙ still) (not_pending pending)

@@ -225,12 +225,14 @@ gave_link size h r k v l has =
     may-now size.lanes (part (Reader r) h) (load r (Link k) v) (l.readers r)
     (Has-part (Reader r) h (load r (Link k) v) has (is_same_process-refl (Reader r)))
 
+-- who loaded the item of a cell was given the cell
 pub gave_item : (size : PoolSize) (h : History) (r k v : ℕ) → IsPoolLawful size h → HasLoaded r (Item k) v h
     → Gave k (part (Reader r) h)
 gave_item size h r k v l has =
     may-now size.lanes (part (Reader r) h) (load r (Item k) v) (l.readers r)
     (Has-part (Reader r) h (load r (Item k) v) has (is_same_process-refl (Reader r)))
 
+-- a cell in the middle of a list is in it
 has_behind : (xs js : List ℕ) (k : ℕ) → Has (xs ++ k ∷ js) k
 has_behind [] js k = inl refl
 has_behind (y ∷ xs) js k = inr (has_behind xs js k)

@@ -122,9 +122,11 @@ one_all =
 abbrev IsBothPart : ℕ → ℕ → Type 0
 IsBothPart c k = IsClaimPart (two_with true true) c k (part_on c k through_all)
 
+-- it holds of consumer 0
 zero_here : IsBothPart 0 0
 zero_here = ((omega arith), (omega arith), (Won, zero_all))
 
+-- it holds of consumer 1
 one_here : IsBothPart 1 0
 one_here = ((omega arith), (omega arith), (Lost 0, one_all))
 
@@ -132,6 +134,7 @@ one_here = ((omega arith), (omega arith), (Lost 0, one_all))
 exchange_two : IsInWords (record { act = Exchange Last 2 1; word = 0 })
 exchange_two = ((omega arith, tt), (omega arith))
 
+-- what the first exchange finds and stores are words
 exchange_one : IsInWords (record { act = Exchange Last 1 0; word = 0 })
 exchange_one = ((omega arith, omega arith), (omega arith))
 
@@ -140,6 +143,7 @@ pass_parts : (o : ℕ) (h : List ClaimAccess) → AreAll IsBothPart h → AreAll
 pass_parts o h older =
     (one_here, (one_here, (zero_here, (zero_here, (one_here, (zero_here, (one_here, (zero_here, older))))))))
 
+-- the accesses of both on such a ratifier are of words
 pass_words : (o : ℕ) (h : List ClaimAccess) → AreInWords h → AreInWords (both_pass o h)
 pass_words o h older =
     (one_word, (two_put, (one_word, (one_put, (zero_word, (zero_word, (one_put, (one_put, older))))))))

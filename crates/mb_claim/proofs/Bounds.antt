@@ -55,10 +55,12 @@ pub most-append :
 most-append t [] ys = omega arith
 most-append t (kind ∷ xs) ys = omega (arith, most-append t xs ys)
 
+-- a fast path takes what it adds to a row
 fast_most : (t : QuorumTable) (b : Bool) → most_on_objects t (fast_row b) ≡ fast_steps t b
 fast_most t true = omega arith
 fast_most t false = omega arith
 
+-- a last object takes what it adds to a row
 last_most : (t : QuorumTable) (b : Bool) → most_on_objects t (last_row b) ≡ last_steps b
 last_most t true = omega arith
 last_most t false = omega arith

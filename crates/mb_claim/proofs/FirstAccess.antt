@@ -85,6 +85,7 @@ module _ (layout : Layout) (law : AreDeciding (quorums_of layout)) (claim : Clai
   abbrev behind_fast : List Kind
   behind_fast = pairs_of (spread (quorums_of layout).values) layout.pairs ++ last_row layout.shape.last
 
+  -- the first of these
   abbrev first : (rest : List Kind) × (behind_fast ≡ Conciliator (spread (quorums_of layout).values) ∷ rest)
   first = first_object (spread (quorums_of layout).values) layout.pairs (last_row layout.shape.last) layout.some
 

@@ -54,6 +54,7 @@ fast_few : (b : Bool) → length (fast_row b) ≤ 2
 fast_few true = omega arith
 fast_few false = omega arith
 
+-- after the pairs there is one object at most
 pub last_few : (b : Bool) → length (last_row b) ≤ 1
 last_few true = omega arith
 last_few false = omega arith
@@ -82,6 +83,7 @@ fast_kind true ys (suc zero) h = refl
 fast_kind true ys (suc (suc o)) h = absurd (omega (arith, h))
 fast_kind false ys o h = absurd (omega (arith, h))
 
+-- an object of a row's fast path
 pub in_fast :
     (shape : Shape) (s n o : ℕ) → o < length (fast_row shape.fast) → slice_get (row_of shape s n) o ≡ Some Ratifier
 in_fast shape s n o h = fast_kind shape.fast (pairs_of s n ++ last_row shape.last) o h
@@ -99,6 +101,7 @@ last_kind : (b : Bool) → 0 < length (last_row b) → slice_get (last_row b) 0 
 last_kind true h = refl
 last_kind false h = absurd (omega (arith, h))
 
+-- the last object of a row
 pub at_last :
     (shape : Shape) (s n o : ℕ) → o ≡ length (fast_row shape.fast) + 2 * n → o < length (row_of shape s n)
     → slice_get (row_of shape s n) o ≡ Some LastObject
@@ -132,17 +135,20 @@ fit_behind [] ys f g o kind e = g o kind e
 fit_behind (x ∷ xs) ys f g zero kind e = f 0 kind e
 fit_behind (x ∷ xs) ys f g (suc o) kind e = fit_behind xs ys (λ n k h. f (suc n) k h) g o kind e
 
+-- the kinds of a fast path fit
 fit_fast : (b : Bool) (o : ℕ) (kind : Kind) → slice_get (fast_row b) o ≡ Some kind → IsFitKind kind
 fit_fast true zero kind e = subst IsFitKind (same_Some Ratifier kind e) tt
 fit_fast true (suc zero) kind e = subst IsFitKind (same_Some Ratifier kind e) tt
 fit_fast true (suc (suc o)) kind e = absurd (none-some kind e)
 fit_fast false o kind e = absurd (none-some kind e)
 
+-- the kind of a last object fits
 fit_last : (b : Bool) (o : ℕ) (kind : Kind) → slice_get (last_row b) o ≡ Some kind → IsFitKind kind
 fit_last true zero kind e = subst IsFitKind (same_Some LastObject kind e) tt
 fit_last true (suc o) kind e = absurd (none-some kind e)
 fit_last false o kind e = absurd (none-some kind e)
 
+-- the kinds of a row fit
 pub fit_in_row :
     (shape : Shape) (s n o : ℕ) (kind : Kind) → s ≤ 63 → slice_get (row_of shape s n) o ≡ Some kind → IsFitKind kind
 fit_in_row shape s n o kind h e =

@@ -93,6 +93,7 @@ no_more t law c kind kinds o v x y xs s h b =
     (ap (λ zs. h.turn ∷ zs) same) (inr h.prefix) in
     cc
 
+-- after one list of steps two next steps are on one object, by one op
 pub one_next :
     (t : QuorumTable) → AreDeciding t → OneOp t
     → (c : ℕ) (kinds : List Kind) (o v : ℕ) (x y : ObjectTurn) (xs : List ObjectTurn) (s r : Stage)

@@ -26,25 +26,30 @@ before_behind r (x ∷ xs) ys zero o e = absurd (omega (arith, e))
 before_behind r (x ∷ xs) ys (suc n) o e = omega (arith, before_behind r xs ys n o (omega (arith, e)))
 
 -- ---- the words of the fast path and of the last object
+-- how many words a fast path has
 fast_words : (r : ℕ) (b : Bool) → row_words r (fast_row b) ≡ length (fast_row b) * (1 + r)
 fast_words r true = omega arith
 fast_words r false = omega arith
 
+-- how many words lie before an object of a fast path
 fast_before : (r : ℕ) (b : Bool) (o : ℕ) → o < length (fast_row b) → words_before r (fast_row b) o ≡ o * (1 + r)
 fast_before r true zero h = omega arith
 fast_before r true (suc zero) h = omega arith
 fast_before r true (suc (suc o)) h = absurd (omega (arith, h))
 fast_before r false o h = absurd (omega (arith, h))
 
+-- how many words a last object has
 last_words : (r : ℕ) (b : Bool) → row_words r (last_row b) ≡ length (last_row b)
 last_words r true = omega arith
 last_words r false = omega arith
 
+-- before a last object nothing lies in its part
 nothing_before : (r : ℕ) (b : Bool) → words_before r (last_row b) 0 ≡ 0
 nothing_before r true = refl
 nothing_before r false = refl
 
 -- ---- a row of any shape
+-- how many words a row has
 pub row_words-row_of : (r s n : ℕ) (shape : Shape) → row_words r (row_of shape s n) ≡ shaped_words r shape n
 row_words-row_of r s n shape =
     omega (

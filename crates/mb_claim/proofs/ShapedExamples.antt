@@ -64,9 +64,11 @@ fast_lost =
 abbrev IsFastPart : ℕ → ℕ → Type 0
 IsFastPart c k = IsClaimPart (two_with true false) c k (part_on c k lost_at_second)
 
+-- it holds of consumer 0
 first : IsFastPart 0 0
 first = ((omega arith), (omega arith), (Won, fast_won))
 
+-- it holds of consumer 1
 second : IsFastPart 1 0
 second = ((omega arith), (omega arith), (Lost 0, fast_lost))
 
@@ -254,9 +256,11 @@ still_going =
 abbrev IsLastPart : ℕ → ℕ → Type 0
 IsLastPart c k = IsClaimPart (two_with false true) c k (part_on c k last_decides)
 
+-- it holds of consumer 0
 zero_here : IsLastPart 0 0
 zero_here = ((omega arith), (omega arith), (Won, last_won))
 
+-- it holds of consumer 1
 one_here : IsLastPart 1 0
 one_here = ((omega arith), (omega arith), (Lost 0, last_lost))
 
@@ -264,6 +268,7 @@ one_here = ((omega arith), (omega arith), (Lost 0, last_lost))
 found_word : IsInWords (record { act = Exchange Last 2 1; word = 0 })
 found_word = ((omega arith, tt), (omega arith))
 
+-- what the first exchange finds and stores are words
 put_word : IsInWords (record { act = Exchange Last 1 0; word = 0 })
 put_word = ((omega arith, omega arith), (omega arith))
 

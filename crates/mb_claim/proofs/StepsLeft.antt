@@ -19,6 +19,7 @@ most_from t (k ∷ ks) (suc o) kind e = most_from t ks o kind e
 pub won_ended : Won ≢ Going
 won_ended e = cc
 
+-- a claim that is lost has ended
 pub lost_ended : (winner : ℕ) → Lost winner ≢ Going
 lost_ended winner e = cc
 

@@ -42,6 +42,7 @@ among_longer : (o : Option ℕ) (n : ℕ) (stored : List ℕ) → IsAmong stored
 among_longer None n stored h = h
 among_longer (Some w) n stored h = inr h
 
+-- a value that was stored is so after one more act
 among_kept : (act : Act) (n : ℕ) (stored : List ℕ) → IsAmong stored n → IsAmong (cons_option (stored_by act) stored) n
 among_kept act n stored h = among_longer (stored_by act) n stored h
 

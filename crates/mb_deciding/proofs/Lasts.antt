@@ -236,12 +236,14 @@ module _ (t : QuorumTable) (inputs : ℕ → ℕ) where
       ap (λ act. value_after Value act (value_in Value h)) (newest_exchange a h l)
       ∙ untouched _ (value_in Value h) ∙ no_value h (lawful_older (last_of t inputs) a h l)
 
+  -- a proposal is not there
   no_proposal : (h : List Access) → L h → value_in Proposal h ≡ 0
   no_proposal [] l = refl
   no_proposal (a ∷ h) l =
       ap (λ act. value_after Proposal act (value_in Proposal h)) (newest_exchange a h l)
       ∙ untouched _ (value_in Proposal h) ∙ no_proposal h (lawful_older (last_of t inputs) a h l)
 
+  -- a quorum register is not there
   no_register : (r : ℕ) (h : List Access) → L h → value_in (Quorum r) h ≡ 0
   no_register r [] l = refl
   no_register r (a ∷ h) l =

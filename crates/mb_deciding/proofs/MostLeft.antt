@@ -42,6 +42,7 @@ ones_within a b within =
 rest_within : (mask bound left : ℕ) → IsRest mask bound left → count_ones left ≤ count_ones mask
 rest_within mask bound left rest = ones_within left mask (λ k member. ((rest k).0 member).1)
 
+-- no more accesses are left at a place than an object of its kind allows
 pub most_left :
     (t : QuorumTable) (kind : Kind) (v : ℕ) (pc : Pc) (turns : List Turn) → v < t.values → PcIsAt t kind v pc turns
     → turns_left t pc ≤ most_turns t kind

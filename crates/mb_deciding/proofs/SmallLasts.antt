@@ -27,6 +27,7 @@ first_part (suc (suc (suc p))) some =
     let z = skipped (suc (suc (suc p))) 0 0 [] (λ e. omega (arith, e)) in
     absurd (some (x ∙ y ∙ z))
 
+-- the history in which process 0 comes first is lawful
 pub first_lawful : IsObjectLawful small_last first_decides
 first_lawful =
     record {
@@ -54,12 +55,14 @@ torn_refused p =
     let x = (last_alone (unary_table 3) 0 (turn 0 (Load Last 0) ∷ []) (turn 0 (Store Last 1)) p).1 in
     let same : Store Last 1 ≡ Exchange Last 1 x.0 = x.1 in cc
 
+-- a process exchanges the word for its own input
 pub another_refused : IsPrefix (unary_table 3) LastObject 0 (turn 0 (Exchange Last 2 0) ∷ []) → ⊥
 another_refused p =
     let x = (last_alone (unary_table 3) 0 [] (turn 0 (Exchange Last 2 0)) p).1 in
     let same : Exchange Last 2 0 ≡ Exchange Last 1 x.0 = x.1 in
     let put : ◌≡◌ {A = ℕ} 2 1 = cc in absurd (omega (arith, put))
 
+-- a process makes one exchange
 pub twice_refused : IsPrefix (unary_table 3) LastObject 0
     (turn 0 (Exchange Last 1 1) ∷ turn 0 (Exchange Last 1 0) ∷ []) → ⊥
 twice_refused p =
@@ -67,11 +70,13 @@ twice_refused p =
     (last_alone (unary_table 3) 0 (turn 0 (Exchange Last 1 0) ∷ []) (turn 0 (Exchange Last 1 1)) p).0 in cc
 
 -- ---- whole paths and their outputs
+-- a process that found the word empty has its own input as its output
 pub own_output :
     (d : Bool) (u : ℕ) → IsPath (unary_table 3) LastObject 1 (turn 0 (Exchange Last 2 0) ∷ []) (answer d u)
     → (d ≡ true) × (u ≡ 1)
 own_output d u path = (path.0, same_value 1 (turn 0 (Exchange Last 2 0)) u 1 path.1 (inl (refl, refl)))
 
+-- a process that found a value has that value as its output
 pub met_output :
     (d : Bool) (u : ℕ) → IsPath (unary_table 3) LastObject 1 (turn 0 (Exchange Last 2 1) ∷ []) (answer d u)
     → (d ≡ true) × (u ≡ 0)
