@@ -7,10 +7,12 @@ use Rattle.std.specs.Global.{Global}
 use Rattle.hazbultra.specs.Blocks.{block_owns, maybe_thing_coded}
 use Rattle.hazbultra.specs.contracts.thing.Thing.{the_row}
 
+-- the formula says that nothing is owned
 abbrev IsNothing : Fml → Type 0
 IsNothing ftrue = Unit {0}
 IsNothing _ = ⊥
 
+-- there is something
 abbrev IsThere : {X : Type 0} → Option X → Type 0
 IsThere None = ⊥
 IsThere (Some x) = Unit {0}

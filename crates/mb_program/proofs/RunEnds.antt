@@ -15,9 +15,11 @@ use Rattle.mb_program.proofs.RunSetups.{no_refusal}
 abbrev Refuses : {Y : Type 0} → Options → Result Y RunFault → Type 0
 Refuses o r = (why : SetupFault) → (r ≡ Err (BadSetup why)) ↔ (setup_refused o ≡ Some why)
 
+-- a result is no fault
 no_ok : {Y : Type 0} (y : Y) (e : RunFault) → ◌≡◌ {A = Result Y RunFault} (Ok y) (Err e) → ⊥
 no_ok y e is = absurd (cc)
 
+-- a result has one fault
 pub same_err : {Y : Type 0} (e f : RunFault) → ◌≡◌ {A = Result Y RunFault} (Err e) (Err f) → e ≡ f
 same_err e f is = cc
 

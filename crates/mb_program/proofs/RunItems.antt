@@ -6,6 +6,7 @@ use Rattle.std.proofs.lemmas.List.{map-append}
 use Rattle.mb_mailbox.specs.Worked.{lists_in}
 use Rattle.mb_program.specs.Running.{items_of, item_lists}
 
+-- the numbers from a on, with one more
 range_more : (a n : ℕ) → range_with_len a (suc n) ≡ range_with_len a n ++ (a + n) ∷ []
 range_more a zero = let e : a + 0 ≡ a = omega arith in rw e refl
 range_more a (suc n) = ap (λ xs. a ∷ xs)

@@ -13,6 +13,7 @@ use Rattle.mb_mailbox.specs.Worked.{AreCutByCells, AreStoppedPuts, IsStoppedPut,
 use Rattle.mb_mailbox.specs.declared.gate.Who.{Who}
 
 -- ---- what is told of all the lanes is told of each
+-- what is told of producers that were stopped
 stopped_at : (may_stop : Who → ℕ → Type 0) (cells from : ℕ) (lists : List (List ℕ))
     (lanes : List LaneLeft) (p : ℕ) (list : List ℕ) (l : LaneLeft)
     → AreStoppedPuts may_stop cells from lists lanes → slice_get lists p ≡ Some list → slice_get lanes p ≡ Some l
@@ -31,6 +32,7 @@ stopped_at may_stop cells from (x ∷ xs) (y ∷ ys) (suc p) list l all at there
     subst (λ (k : ℕ). l.stopped ≡ true → IsStoppedPut may_stop cells k list l) next
     (stopped_at may_stop cells (suc from) xs ys p list l all.1 at there)
 
+-- what is told of producers that found no cell
 cut_at : (cells from : ℕ) (lists : List (List ℕ)) (lanes : List LaneLeft) (p : ℕ) (list : List ℕ) (l : LaneLeft)
     → AreCutByCells cells from lists lanes → slice_get lists p ≡ Some list → slice_get lanes p ≡ Some l
     → l.stopped ≡ false → length l.put < length list → HasFoundNone cells (from + p) l.part
@@ -103,6 +105,7 @@ sum_short f b (y ∷ ys) (suc p) x each at less =
     omega (arith, here, rest, sum, more)
 
 -- ---- a beginning of a list
+-- a beginning of a list is no longer than the list
 pub front_within : (put list : List ℕ) → IsFront put list → length put ≤ length list
 front_within put list front =
     let e = sym (length-append put front.0) ∙ ap length front.1 in omega (arith, e)

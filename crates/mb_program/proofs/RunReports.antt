@@ -45,6 +45,7 @@ list_of producers count p low =
     let same : 0 + p ≡ p = omega arith in place_of (λ p. items_of p count) 0 producers p low
     ∙ ap (λ k. Some (items_of k count)) same
 
+-- two `Some` that are one have one value
 same_some : {X : Type 0} {x y : X} → ◌≡◌ {A = Option X} (Some x) (Some y) → x ≡ y
 same_some e = cc
 
@@ -70,6 +71,7 @@ record IsTold (count lanes consumers : ℕ) (h : HubView) (left : List LaneLeft)
   told : slice_get r.lanes p ≡ Some (lane_in consumers p h)
   kept : kept_at h.puts p ≡ Some (ended_list one)
 
+-- each lane of the report is as its producer left it
 is_told : (producers count lanes consumers : ℕ) (h : HubView) (left : List LaneLeft) (r : ReportView)
     → producers ≡ lanes → IsReportIn lanes consumers h r → h.puts ≡ map (λ l. Some (ended_list l)) left
     → AllZip (λ list l. IsFront l.put list) (item_lists producers count) left
@@ -257,6 +259,7 @@ nothing_missing m old h lists n w empty worked =
     let no_ledger = ap count_missing ledgers ∙ none_missing (λ c. c.ledger) worked.consumers in
     omega (arith, no_put, no_ledger)
 
+-- a gathering that failed for what is missing did not fail for memory
 pub not_missing : (f : GatherFault) (a b : ℕ) → f ≡ Missing a b → f ≡ NoMemory → ⊥
 not_missing f a b e g = let both : Missing a b ≡ NoMemory = sym e ∙ g in cc
 

@@ -30,6 +30,7 @@ any_swapped s p same [] = refl
 any_swapped s p same (a ∷ c) = ap₂ (λ x y. x || y) (same a) (any_swapped s p same c)
 
 module _ (s : Swap) (same : ReadsSame s) where
+  -- an argument with another parser
   abbrev f : Rule → Rule
   f = swapped s
 
@@ -80,6 +81,7 @@ module _ (s : Swap) (same : ReadsSame s) where
 
   -- ---- the walk, over the arguments c
   module _ (c : List Rule) (again : Bool) where
+    -- the arguments with other parsers
     abbrev d : List Rule
     d = map f c
 
@@ -184,6 +186,7 @@ module _ (s : Swap) (same : ReadsSame s) where
 
   -- ---- the walk of a command
   module _ (top : Shape) where
+    -- the command with other parsers
     abbrev other : Shape
     other = with_swapped s top
 

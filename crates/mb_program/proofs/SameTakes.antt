@@ -31,6 +31,7 @@ all_swapped s p q same [] = refl
 all_swapped s p q same (a ∷ c) = ap₂ (λ x y. x && y) (same a) (all_swapped s p q same c)
 
 module _ (s : Swap) (same : ReadsSame s) where
+  -- an argument with another parser
   abbrev f : Rule → Rule
   f = swapped s
 
@@ -83,6 +84,7 @@ module _ (s : Swap) (same : ReadsSame s) where
 
   -- ---- the walk, over the arguments c
   module _ (c : List Rule) (again : Bool) where
+    -- the arguments with other parsers
     abbrev d : List Rule
     d = map f c
 
@@ -172,6 +174,7 @@ module _ (s : Swap) (same : ReadsSame s) where
 
   -- ---- the walk of a command
   module _ (top : Shape) where
+    -- the command with other parsers
     abbrev other : Shape
     other = with_swapped s top
 

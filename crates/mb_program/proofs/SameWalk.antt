@@ -15,6 +15,7 @@ use Rattle.clap.specs.Walk.{subcommand, subcommand_met, subcommand_or_other, tak
 use Rattle.clap.specs.Walk.{used_by_id, value, values_or_missing, waits, walk, walk_from, walked, walked_from, with_default, word_met}
 use Rattle.clap.specs.declared.builder.value_parser.ValueParser.{ValueParser}
 
+-- a change of parsers
 abbrev pub Swap : Type 0
 Swap = Option ValueParser → Option ValueParser
 
@@ -47,6 +48,7 @@ found_swapped s p same (a ∷ c) =
     go false e = e
 
 module _ (s : Swap) (same : ReadsSame s) where
+  -- an argument with another parser
   abbrev f : Rule → Rule
   f = swapped s
 
@@ -64,6 +66,7 @@ module _ (s : Swap) (same : ReadsSame s) where
 
   -- ---- the walk, over the arguments c
   module _ (c : List Rule) where
+    -- the arguments with other parsers
     abbrev d : List Rule
     d = map f c
 

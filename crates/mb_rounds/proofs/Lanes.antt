@@ -14,11 +14,13 @@ use Rattle.mb_rounds.specs.Carried.{times}
 use Rattle.mb_rounds.specs.Round.{IsPlayed}
 use Rattle.mb_rounds.proofs.Counts.{given_and_left, sum_below, sum_same}
 
+-- past a list stands nothing
 get_none : {X : Type 0} (xs : List X) (i : ℕ) → length xs ≤ i → slice_get xs i ≡ None
 get_none [] i far = refl
 get_none (x ∷ xs) zero far = absurd (omega arith)
 get_none (x ∷ xs) (suc i) far = get_none xs i (omega arith)
 
+-- a place with an element is in the list
 get_below : {X : Type 0} (xs : List X) (i : ℕ) (x : X) → slice_get xs i ≡ Some x → i < length xs
 get_below [] i x e = absurd (cc)
 get_below (y ∷ xs) zero x e = omega arith
@@ -31,6 +33,7 @@ chosen_none false o e = refl
 
 module _ {may_stop may_pass : Who → ℕ → Type 0} (terms : Terms) (lists : List (List ℕ)) (r : ReportView)
     (played : IsPlayed may_stop may_pass terms lists r) where
+  -- the plan of the round's mailbox
   abbrev plan : Plan
   plan = terms.plan
 

@@ -56,6 +56,7 @@ least_step n m false (Ok x) (Err d) e low at about is on = let more = on refl is
 below_by : (n : ℕ) → nat_lt (MAX_EVENTS + 1) n ≡ false → suc n ≤ MAX_EVENTS + 2
 below_by n test = let low : n ≤ MAX_EVENTS + 1 = grind (arith, nat_tests, test) in omega (arith, low)
 
+-- a fault of the lines from line n on is about none before
 pub events_least : (plan : Plan) (n m : ℕ) (us : List (List ℕ)) (e : Fault) → n ≤ MAX_EVENTS + 2
     → events_of plan n us ≡ Err e
     → line_of e ≡ Some m → n ≤ m
@@ -96,6 +97,7 @@ events_step : (made : Made) (r s : Result (List Event) Fault) (e : Fault)
 events_step made (Ok ys) s e is on = absurd (cc)
 events_step made (Err d) s e is on = rw (on (ap (λ (f : Fault). Err f) (err_is d e is))) refl
 
+-- a script with the same first line has the same fault of its events
 setup_step : (r : Result Made Fault) (f g : Made → Result (List Event) Fault) (e : Fault)
     → (r >>= (λ made. f made >>= (λ es. Ok (script_with made es)))) ≡ Err e → ((x : Made) → f x ≡ Err e → g x ≡ Err e)
     → (r >>= (λ made. g made >>= (λ es. Ok (script_with made es)))) ≡ Err e
@@ -188,6 +190,7 @@ events_well made (Ok ys) s e is on = absurd (cc)
 events_well made (Err d) s e is on =
     let so = on (ap (λ (f : Fault). Err f) (err_is d e is)) in (script_with made so.0, rw (so.1) refl)
 
+-- a script with the same first line, and events without a fault, has no fault
 setup_well : (r : Result Made Fault) (f g : Made → Result (List Event) Fault) (e : Fault) (m : ℕ)
     → At 1 r → line_of e ≡ Some m
     → 1 < m → (r >>= (λ made. f made >>= (λ es. Ok (script_with made es)))) ≡ Err e
@@ -209,6 +212,7 @@ last_step n m false (Err d) rest e low at about is on =
 last_step n m false (Ok x) (Ok ys) e low at about is on = absurd (cc)
 last_step n m false (Ok x) (Err d) e low at about is on = on refl is
 
+-- a fault of events is about no line after the last that may be read
 events_last : (plan : Plan) (n m : ℕ) (us : List (List ℕ)) (e : Fault) → n ≤ MAX_EVENTS + 2
     → events_of plan n us ≡ Err e
     → line_of e ≡ Some m → m ≤ MAX_EVENTS + 2

@@ -29,6 +29,7 @@ never_behind : (made : Made) (r : Result (List Event) Fault) → r ≢ Err NoSet
 never_behind made (Ok ys) never = λ is. cc
 never_behind made (Err d) never = λ is. never (ap (λ (f : Fault). Err f) (err_is d NoSetup is))
 
+-- a script is not without a setup, if neither its first line nor the others say so
 never_step : (r : Result Made Fault) (f : Made → Result (List Event) Fault) → For (λ e. e ≢ NoSetup) r
     → ((x : Made) → f x ≢ Err NoSetup) → (r >>= (λ made. f made >>= (λ es. Ok (script_with made es)))) ≢ Err NoSetup
 never_step (Err d) f first behind = λ is. first (err_is d NoSetup is)
@@ -38,6 +39,7 @@ never_step (Ok x) f first behind = λ is. never_behind x (f x) (behind x) is
 word_is : (w v : List ℕ) → ◌≡◌ {A = Option (List ℕ)} (Some w) (Some v) → w ≡ v
 word_is w v e = cc
 
+-- if the first word is `setup`, NoSetup does not come
 no_setup_by : (ws lines : List (List ℕ)) → first_of ws ≡ Some (codes "setup")
     → (setup_of ws >>= (λ made. events_of made.plan 2 lines >>= (λ es. Ok (script_with made es)))) ≢ Err NoSetup
 no_setup_by [] lines e = absurd (cc)
@@ -60,6 +62,7 @@ other_by : (key : List ℕ) (ws : List (List ℕ)) (t : Bool) → bytes_eq key (
 other_by key ws true is other = absurd (other ((bytes_eq-Decides key (codes "setup")).0 is))
 other_by key ws false is other = refl
 
+-- a first line with another first word is no setup
 other_setup : (ws : List (List ℕ)) → first_of ws ≢ Some (codes "setup") → setup_of ws ≡ Err NoSetup
 unfolding setup_of
 other_setup [] other = refl
@@ -71,6 +74,7 @@ unfolding lines_script
 always_lines [] other = refl
 always_lines (line ∷ lines) other = rw (other_setup (words_in_line line) other) refl
 
+-- NoSetup tells that the first word is no `setup`
 pub no_setup_told : (bytes : List ℕ) → script_of bytes ≡ Err NoSetup
     → first_word_in (lines_of bytes) ≢ Some (codes "setup")
 unfolding script_of
@@ -79,6 +83,7 @@ no_setup_told bytes is =
     (by_lines (nat_lt MAX_SCRIPT_LEN (length bytes)) (list_all is_ascii bytes)
     (lines_script (lines_of bytes)) NoSetup 1 is refl)
 
+-- a text of few bytes of ASCII whose first word is no `setup` has NoSetup
 pub no_setup_always : (bytes : List ℕ) → length bytes ≤ MAX_SCRIPT_LEN → list_all is_ascii bytes ≡ true
     → first_word_in (lines_of bytes) ≢ Some (codes "setup") → script_of bytes ≡ Err NoSetup
 unfolding script_of

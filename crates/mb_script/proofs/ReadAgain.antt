@@ -219,6 +219,7 @@ event_fit z (Step consumer lane word) sized is =
       ),
     )
 
+-- the words of all events may stand on lines
 events_fit : (z : Sizes) (events : List Event) → setup_refusal z.producers z.consumers z.cells z.pairs ≡ None
     → AllByRecursion (IsEventOf z) events → AllByRecursion IsWordLine (map event_words events)
 events_fit z [] sized are = tt

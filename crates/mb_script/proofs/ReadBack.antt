@@ -73,6 +73,7 @@ word_takes word f false false true p q r e =
     subst (λ g. word ∷ [] ≡ shape_words g) same (ap (λ (w : List ℕ). w ∷ []) is)
 word_takes word f false false false p q r e = absurd (cc)
 
+-- words that were read as a shape are that shape's
 shape_takes : (words : List (List ℕ)) (f : Shape) → shape_named words ≡ Some f
     → words ≡ shape_words f
 shape_takes [] f e =
@@ -85,12 +86,14 @@ shape_takes (word ∷ other ∷ words) f e = absurd (cc)
 at_takes : (n : ℕ) (w : List ℕ) (x : ℕ) → number_at n w ≡ Ok x → (w ≡ decimal x) × (x < 2 ^ 64)
 at_takes n w x e = number_takes w x (some_from _ _ _ e)
 
+-- one number that was read was spelled so
 one_takes : (n : ℕ) (ws : List (List ℕ)) (x : ℕ) → one_number n ws ≡ Ok x → (ws ≡ decimal x ∷ []) × (x < 2 ^ 64)
 unfolding one_number
 one_takes n [] x e = absurd (cc)
 one_takes n (a ∷ b ∷ ws) x e = absurd (cc)
 one_takes n (a ∷ []) x e = let t = at_takes n a x e in (ap (λ (w : List ℕ). w ∷ []) t.0, t.1)
 
+-- two numbers that were read were spelled so
 two_takes : (n : ℕ) (ws : List (List ℕ)) (x : ℕ × ℕ) → two_numbers n ws ≡ Ok x
     → (ws ≡ decimal x.0 ∷ decimal x.1 ∷ []) × (x.0 < 2 ^ 64) × (x.1 < 2 ^ 64)
 unfolding two_numbers
@@ -111,6 +114,7 @@ two_takes n (a ∷ b ∷ []) x e =
 abbrev Three : Type 0
 Three = ℕ × ℕ × ℕ
 
+-- three numbers that were read were spelled so
 three_takes : (n : ℕ) (ws : List (List ℕ)) (x : Three) → three_numbers n ws ≡ Ok x
     → (ws ≡ decimal x.0 ∷ decimal x.1 ∷ decimal x.2 ∷ []) × (x.0 < 2 ^ 64) × (x.1 < 2 ^ 64) × (x.2 < 2 ^ 64)
 unfolding three_numbers
@@ -166,6 +170,7 @@ made_takes (Some f) x y e = absurd (cc)
 abbrev pub Sized : Made → Sizes → Type 0
 Sized made z = (setup_refusal z.producers z.consumers z.cells z.pairs ≡ None) × (made_for z ≡ made)
 
+-- words after `setup` that were read spell sizes
 sizes_take : (ws : List (List ℕ)) (made : Made) → sizes_of ws ≡ Ok made
     → (z : Sizes) × (codes "setup" ∷ ws ≡ setup_words z) × Sized made z
 unfolding sizes_of
@@ -201,6 +206,7 @@ sizes_take (producers ∷ consumers ∷ cells ∷ pairs ∷ name ∷ shape) made
     ∷ decimal k.0 ∷ table_name t.0 ∷ ws) shaped in
     (z, whole, sized)
 
+-- a first line that was read spells sizes
 setup_take : (ws : List (List ℕ)) (made : Made) → setup_of ws ≡ Ok made → (z : Sizes)
     × (ws ≡ setup_words z) × Sized made z
 unfolding setup_of
@@ -257,6 +263,7 @@ by_key n key ws e false false false true is_o is_p is_f is_s read =
     (key_is key (codes "step") ws _ is_s t.0, (t.1, t.2, t.3))
 by_key n key ws e false false false false is_o is_p is_f is_s read = absurd (cc)
 
+-- the words of an event that was read spell it
 event_takes : (n : ℕ) (ws : List (List ℕ)) (e : Event) → event_of n ws ≡ Ok e → SpellsOne ws e
 unfolding event_of
 event_takes n [] e read = absurd (cc)
@@ -275,6 +282,7 @@ place_takes z n (Step consumer lane word) low has small = (
   small.2,
 )
 
+-- an event that was placed is one of that world
 placed_takes : (z : Sizes) (n : ℕ) (d e : Event) → placed (plan_for z) n d ≡ Ok e → Small d → (d ≡ e) × IsEventOf z d
 unfolding placed
 placed_takes z n d e read small =
@@ -309,6 +317,7 @@ Lines z n lines events =
     (lines ≡ map (join_with_byte 32) (map event_words events)) × AllByRecursion (IsEventOf z) events
     × (n ≤ MAX_EVENTS + 2 → n + length events ≤ MAX_EVENTS + 2)
 
+-- lines that were read as events spell them
 pub events_take : (z : Sizes) (n : ℕ) (lines : List (List ℕ)) (events : List Event)
     → events_of (plan_for z) n lines ≡ Ok events
     → Lines z n lines events
@@ -333,6 +342,7 @@ script_is : (z : Sizes) (made : Made) (events : List Event) → made_for z ≡ m
     → script_with made events ≡ script_in z events
 script_is z made events e = ap (λ (m : Made). script_with m events) (sym e)
 
+-- lines that were read as a script spell it
 pub lines_take : (lines : List (List ℕ)) (s : Script) → lines_script lines ≡ Ok s → Spells lines s
 unfolding lines_script
 lines_take [] s read = absurd (cc)

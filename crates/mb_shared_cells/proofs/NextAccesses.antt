@@ -16,7 +16,7 @@ pool_word size (Head p) x = x
 pool_word size (Link k) x = x
 pool_word size (Item k) x = x
 
--- the laws of one access more
+-- an access with which its producer's path goes on keeps the history lawful
 abbrev pub ProducerLaw : Type 0
 ProducerLaw =
     (size : PoolSize) (h : History) (a : PoolAccess) (p : ℕ) → IsPoolLawful size h → a.process ≡ Producer p

@@ -36,6 +36,7 @@ stored_small : (b : Bool) (w : ℕ) → w < 18446744073709551616
 stored_small true w small = small
 stored_small false w small = tt
 
+-- an exchange's turn is of words
 pub exchange_small :
     (object word n value : ℕ) (op : Op) (reg : Reg) → op ≡ to.Exchange reg value → value < 18446744073709551616
     → n < 18446744073709551616 → word < 18446744073709551616 → IsInWords (step_of object op n word).turn
@@ -48,6 +49,7 @@ exchanged : (b : Bool) (w n : ℕ) → either b w n ≡ option_map_or (λ value.
 exchanged true w n = refl
 exchanged false w n = refl
 
+-- what an exchange leaves is what its op leaves
 pub exchange_after :
     (value n : ℕ) (op : Op) (reg : Reg) → op ≡ to.Exchange reg value → either (n == 0) value n ≡ after_op op n
 exchange_after value n op reg e =

@@ -10,6 +10,7 @@ use Rattle.mb_shared_claims.specs.Seats.{SeatView, TableView, name_of, claims_at
 use Rattle.mb_shared_claims.specs.SeatSteps.{access_of, with_access, IsSeatStep, MayComeNext}
 
 -- ---- the laws of claims that are used here
+-- the next access of a claim leaves the words of the longer history
 abbrev pub KeepsMemory : Type 0
 KeepsMemory =
     (layout : Layout) (cells k : ℕ) (claim : Claim) (next : ClaimOp) (word : ℕ) (words : List ℕ) (h : List ClaimAccess)
@@ -19,6 +20,7 @@ KeepsMemory =
     → let a = access_in cs (consumer_of claim) k next.object next.op word words in
     IsInWords a.step.turn → IsMemoryOf cs (words_after cs k next.object next.op words) (a ∷ h)
 
+-- a claim can go on with what an access found that came after a lawful history
 abbrev pub FindsTold : Type 0
 FindsTold =
     (layout : Layout) (cells k : ℕ) (claim : Claim) (next : ClaimOp) (seen word : ℕ) (h : List ClaimAccess)
@@ -26,9 +28,11 @@ FindsTold =
     → k < cells → IsClaimIn layout claim (part_on (consumer_of claim) k h) → claim_stage claim ≡ Going
     → IsNextOp layout claim next → CanClaimFind layout claim next seen
 
+-- what a consumer did on a cell is the same in its part as in the whole history
 abbrev pub CutParts : Type 0
 CutParts = (c k : ℕ) (h : List ClaimAccess) → part_on c k (part c h) ≡ part_on c k h
 
+-- an access adds its step to its consumer's part on its cell
 abbrev pub OwnCell : Type 0
 OwnCell =
     (a : ClaimAccess) (h : List ClaimAccess)

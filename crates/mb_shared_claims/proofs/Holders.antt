@@ -53,6 +53,7 @@ kept_by views id j c v w xs at keeps has (yes same) =
     (w, at_replaced views id v w at, keeps (subst (λ u. HasPart u c xs) is has.2))
 kept_by views id j c v w xs at keeps has (no apart) = (has.0, set_else views id j w apart ∙ has.1, has.2)
 
+-- who has a part still has it after a view is replaced that keeps this consumer's parts
 pub kept_at :
     (views : List View) (id j c : ℕ) (v w : View) (xs : List ClaimAccess) → IsViewAt views id v
     → (HasPart v c xs → HasPart w c xs) → HasPartAt views j c xs → HasPartAt (set views id w) j c xs

@@ -13,10 +13,11 @@ use Rattle.mb_shared_claims.proofs.Rolls.{moved-here, moved-else}
 use Rattle.mb_shared_claims.proofs.Holders.{all_set, all_added, kept_at, kept_beside, has_added, has_replaced}
 use Rattle.mb_shared_claims.proofs.Holders.{at_replaced}
 
--- what an access adds to the parts, as the laws of claims say it
+-- an access is in front of its consumer's part
 abbrev pub OwnPart : Type 0
 OwnPart = (a : ClaimAccess) (h : List ClaimAccess) → part a.consumer (a ∷ h) ≡ a ∷ part a.consumer h
 
+-- an access leaves the parts of all other consumers
 abbrev pub OtherParts : Type 0
 OtherParts = (c : ℕ) (a : ClaimAccess) (h : List ClaimAccess) → a.consumer ≢ c → part c (a ∷ h) ≡ part c h
 
@@ -106,6 +107,7 @@ module _ (k : TableSize) (words : List ℕ) (views : List View) (plan : Plan) (s
       same_count : slice_index (set words at n) (roster k) ≡ count
       same_count = get_or-set_other words at (roster k) n 0 (λ e. omega arith)
 
+      -- after an access the plan with a longer history explains the table
       pub after_access : IsStateOf k (set words at n) (set views id after) (longer a plan)
       after_access = record {
         memory = memory;
@@ -131,6 +133,7 @@ module _ (k : TableSize) (words : List ℕ) (views : List View) (plan : Plan) (s
     count_now : slice_index (set words (roster k) more) (roster k) ≡ more
     count_now = let wide = s.wide in get_or-set_same words (roster k) more 0 (omega arith)
 
+    -- after a number is drawn the same plan explains the table
     pub after_drawing :
         IsStateOf k (set words (roster k) more) (set views id (Drawing size roll)) plan
     after_drawing = record {
@@ -220,6 +223,7 @@ module _ (k : TableSize) (words : List ℕ) (views : List View) (plan : Plan) (s
         (omega arith, moved-here plan.place plan.given (length seats), sym (s.others plan.given (le_refl plan.given))))
         seat has.0 has.1 c xs has.2
 
+    -- after a number is given the plan with it explains the table
     pub after_giving : IsStateOf k words (seats ++ right ∷ []) given_plan
     after_giving =
         let counted : count ≡ suc plan.given = drawing_fits.2 in
@@ -330,6 +334,7 @@ module _ (k : TableSize) (words : List ℕ) (views : List View) (plan : Plan) (s
         (λ d ys h. absurd h)
         seat has.0 has.1 c xs has.2
 
+    -- after a seat is joined the plan in which its consumer stands at the hub explains the table
     pub after_taking : IsStateOf k words joined taken_plan
     after_taking = record {
       memory = s.memory;
@@ -371,6 +376,7 @@ module _ (k : TableSize) (words : List ℕ) (views : List View) (plan : Plan) (s
         ⊎_elim (λ (t : (c ≡ own) × (Some done ≡ Some xs)). inl (t.0, cc)) inr
         (get-set roll own c (Some done) (Some xs) e)
 
+    -- after its part is put in the same plan explains the table
     pub after_settling : IsStateOf k words (set views id (Handing size filled)) plan
     after_settling = record {
       memory = s.memory;

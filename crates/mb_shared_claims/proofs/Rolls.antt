@@ -56,10 +56,12 @@ module _ {A : Type 0} where
 pub moved : (ℕ → ℕ) → ℕ → ℕ → ℕ → ℕ
 moved place c to d = cond (eqb d c) to (place d)
 
+-- it has the new value at that number
 pub moved-here : (place : ℕ → ℕ) (c to : ℕ) → moved place c to c ≡ to
 unfolding moved
 moved-here place c to = ap (λ b. cond b to (place c)) (eq-eqb c c refl)
 
+-- it has the old value at any other
 pub moved-else : (place : ℕ → ℕ) (c to d : ℕ) → d ≢ c → moved place c to d ≡ place d
 unfolding moved
 moved-else place c to d n = ap (λ b. cond b to (place d)) (ne_eqb d c n)
