@@ -104,6 +104,7 @@ HasTakenBack h (Some (OfConsumer c)) k =
     × (k ≡ record h { hub = with_taken_consumer c.consumer.consumer h.hub })
 HasTakenBack h _ k = ⊥
 
+-- ---- random words
 -- the words that a generator of eight rounds gives from now on
 abbrev pub words_of_generator : ChaCha → Stream
 words_of_generator rng = stream_of (steps_u32 (next_word 4)) rng

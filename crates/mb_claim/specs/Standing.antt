@@ -1,4 +1,4 @@
--- Where a claim stands: the objects that it has passed, and its place on the next one.
+-- Where a claim stands: the objects that it has passed, its place on the next one, and the access that it makes there.
 use Rattle.std.specs.Prelude.{ℕ, suc, ◌≡◌, ◌≢◌, ◌<◌, ◌↔◌, true, List, [], ◌∷◌, ◌++◌, length}
 use Rattle.mb_quorum.specs.Vocabulary.{QuorumTable}
 use Rattle.mb_deciding.specs.Vocabulary.{PcIsAt, turn_after}

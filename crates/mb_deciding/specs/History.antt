@@ -42,7 +42,7 @@ stored_by (Load reg value) = None
 stored_by (Store reg value) = Some value
 stored_by (Exchange reg value found) = if found == 0 then Some value else None
 
--- ---- memory: by what an act loads and by what it stores, and by nothing else
+-- ---- memory, by what acts load and store alone
 -- what a word that held n holds after an act
 abbrev pub value_after : Reg → Act → ℕ → ℕ
 value_after reg act n =
@@ -62,6 +62,7 @@ abbrev pub IsMemoryTrue : List Access → Type 0
 IsMemoryTrue [] = Unit {0}
 IsMemoryTrue (a ∷ older) = ReadsLast a.turn.act older × IsMemoryTrue older
 
+-- ---- acts of one op, and words of 64 bits
 -- two acts of one op: both load one word, or both store one value in one word, or both exchange it for one value. They
 -- can differ only in what they find
 abbrev pub IsSameOp : Act → Act → Type 0
@@ -90,6 +91,7 @@ abbrev pub AreInWords : List Access → Type 0
 AreInWords [] = Unit {0}
 AreInWords (a ∷ older) = IsInWords a.turn × AreInWords older
 
+-- ---- what one process did
 -- the turn, if the process made the access
 abbrev pub turn_by : ℕ → Access → Option Turn
 turn_by process a = if a.process == process then Some a.turn else None

@@ -1,4 +1,5 @@
--- Deciding objects: whole paths of one process, their prefixes, and lawful histories of one object.
+-- Deciding objects: whole paths of one process, their prefixes, and lawful histories of one object. Also what its words
+-- can hold, and how many turns a process makes at most.
 use Rattle.std.specs.Prelude.{◌≡◌, ◌≢◌, ℕ, zero, suc, ◌+◌, ◌<◌, ◌≤◌, max, count_ones, Bool, true, false, List, [], ◌++◌}
 use Rattle.mb_deciding.specs.OneObject.{Object}
 use Rattle.mb_quorum.specs.Quorum.{QuorumTable, IsMember}

@@ -1,4 +1,4 @@
--- The place of one process in an object, what it has made so far, and what it does next.
+-- The place of one process in an object, what it has made so far, what it does next, and what it may find then.
 use Rattle.std.specs.Prelude.{◌≡◌, ◌≢◌, ℕ, ◌+◌, ◌<◌, ◌≤◌, ◌^◌, ◌↔◌, List, [], ◌∷◌}
 use Rattle.mb_quorum.specs.Quorum.{QuorumTable, IsMember}
 use Rattle.mb_deciding.specs.Types.{Reg, Value, Proposal, Quorum, Last, Act, Load, Store, Exchange, Op, Turn, Access}

@@ -1,4 +1,4 @@
--- What is kept in the hub and in each seat, and how callers see it.
+-- What is kept in the hub and in each seat, how callers see it, and which accesses a seat can make.
 use Rattle.std.specs.Prelude.{[], length, ℕ, ◌<◌, ◌∷◌, ◌≡◌}
 use Rattle.atomic_table.specs.Seated.{TableId}
 use Rattle.mb_cells.specs.Vocabulary.{History, IsLaneAfter, IsLanePrefix, IsLaneWord, MayRead, fetch, store}
@@ -13,6 +13,7 @@ use Rattle.mb_shared_cells.specs.declared.views.Roll.{Roll}
 use Rattle.mb_shared_cells.specs.declared.views.View.{View}
 use Rattle.mb_shared_cells.specs.declared.views.View.TheVariants.{Empty, Hub, HubDraws, HubJoins, Member}
 
+-- ---- the fields of a view
 -- the size in a view, or 0 if it has none
 abbrev pub size_in : View → PoolSize
 size_in (Hub size roll) = size
@@ -62,6 +63,7 @@ done_in Empty = []
 abbrev pub name_in : TableId → SeatState → CellsName
 name_in id me = record { id = id; size = size_in me.0 }
 
+-- ---- what is kept, and how callers see it
 -- what is kept in the hub: it counts the lanes' numbers that it gave, and the parts that it took in are those of some
 -- lawful history
 pub record IsHubSeat (me : SeatState) (given : ℕ) : Type 0 where
@@ -100,6 +102,7 @@ reader_shown id me = record {
   part = done_in me.0;
 }
 
+-- ---- which accesses a seat can make
 -- the seat is a reader's, which may load the word
 pub record CanLoad (size : PoolSize) (word : Word) (me : SeatState) : Type 0 where
   pub reader : ℕ

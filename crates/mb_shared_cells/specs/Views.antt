@@ -12,6 +12,7 @@ use Rattle.mb_shared_cells.specs.declared.views.Roll.{Roll}
 use Rattle.mb_shared_cells.specs.declared.views.View.{View}
 use Rattle.mb_shared_cells.specs.declared.views.View.TheVariants.{Empty, Hub, HubDraws, HubJoins, Member}
 
+-- ---- a seat, and the hub's roll of parts
 -- parts by the number of their process: None if its seat is out
 abbrev pub PartList : Type 0
 PartList = List (Option History)
@@ -46,6 +47,7 @@ abbrev pub roll_with_part : Process → History → Roll → Roll
 roll_with_part (Producer p) done roll = record roll { lanes = slice_set roll.lanes p (Some done) }
 roll_with_part (Reader r) done roll = record roll { readers = slice_set roll.readers r (Some done) }
 
+-- ---- one access
 -- an access of a process
 abbrev pub access_by : Process → Word → PoolAct → PoolAccess
 access_by who word act = record { process = who; word = word; act = act }
@@ -89,6 +91,7 @@ CameAfter word act Empty = Unit {0}
 abbrev pub MakesAccess : Word → PoolAct → SeatState → SeatState → Type 0
 MakesAccess word act v w = CameAfter word act v.0 × (w ≡ (view_after word act v.0, v.1))
 
+-- ---- how a seat is issued, and returned
 -- the view of the hub after it has drawn the next lane's number
 abbrev pub hub_after_draw : View → View
 hub_after_draw (Hub size roll) = HubDraws size roll
