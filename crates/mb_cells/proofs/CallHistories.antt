@@ -37,7 +37,7 @@ told_nothing cells = record {
   stages = λ p lane at. ap (λ (l : Lane). l.stage) (same_lane cells p lane new_lane [] at (start_lane cells p));
 }
 
--- the lanes of other producers stand where they stood
+-- the stages of other producers' lanes stay
 stage_other : (cells : ℕ) (calls : List Call) (h : History) (a : PoolAccess) (p q : ℕ) (lane : Lane)
     → Tells cells calls h → a.process ≡ Producer p → q ≢ p
     → IsLaneAfter cells q lane (part (Producer q) (a ∷ h)) → lane.stage ≡ stage_by q calls
@@ -46,7 +46,7 @@ stage_other cells calls h a p q lane t who ne at =
     subst (λ x. is_same_process (Producer q) x ≡ false) (sym who) (ne_eqb q p ne) in
     t.stages q lane (subst (IsLaneAfter cells q lane) (part-other (Producer q) a h not_own) at)
 
--- the lane of the producer stands where its access puts it
+-- the stage of the producer's lane is that to which its access leads
 stage_own : (cells : ℕ) (h : History) (a : PoolAccess) (p : ℕ) (lane now : Lane) → a.process ≡ Producer p
     → IsLaneAfter cells p now (a ∷ part (Producer p) h)
     → IsLaneAfter cells p lane (part (Producer p) (a ∷ h)) → lane.stage ≡ now.stage

@@ -5,7 +5,7 @@ use Rattle.mb_cells.specs.{Word, ending, ends_lane, ends_refused, fetch, fills_c
 use Rattle.mb_cells.specs.{takes_cell}
 use Rattle.mb_cells.specs.Place.{Ended, Full, Offered, Open, Stored}
 
--- where a producer stands that has done this
+-- a producer that has done this stands at some place
 pub record IsSomewhere (cells p : ℕ) (done : History) : Type 0 where
   pub entries : List Entry
   pub phase : Phase

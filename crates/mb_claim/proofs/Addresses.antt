@@ -166,7 +166,7 @@ words_before-pairs_of r s (suc n) zero j (suc (suc o)) e f h = absurd (omega ari
 words_before-pairs_of r s (suc n) (suc i) j (suc (suc o)) e f h =
     let g = words_before-pairs_of r s n i j o (omega arith) f (omega arith) in omega arith
 
--- where a word of a pair lies
+-- the address of a word of a pair
 pub pair_address :
     (r s n k i j : ℕ) (reg : Reg) → i < n → j < 2
     → address_of r (pairs_of s n) k (2 * i + j) reg ≡ k * (n * (2 + r)) + i * (2 + r) + (j + offset reg)

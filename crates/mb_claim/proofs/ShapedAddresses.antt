@@ -70,7 +70,7 @@ address_in_row r s n k o shape reg before e =
     ap (λ w. k * w) (row_words-row_of r s n shape) in
     omega (arith, cells, e)
 
--- where a word of the fast path lies
+-- the address of a word of the fast path
 pub fast_address :
     (r s n k i : ℕ) (shape : Shape) (reg : Reg) → i < length (fast_row shape.fast)
     → address_of r (row_of shape s n) k i reg ≡ k * shaped_words r shape n + (i * (1 + r) + offset reg)
@@ -82,7 +82,7 @@ fast_address r s n k i shape reg h =
       fast_before r shape.fast i h,
     ))
 
--- where a word of a pair lies
+-- the address of a word of a pair
 pub shaped_address :
     (r s n k i j o : ℕ) (shape : Shape) (reg : Reg) → i < n → j < 2 → o ≡ length (fast_row shape.fast) + (2 * i + j)
     → address_of r (row_of shape s n) k o reg
@@ -97,7 +97,7 @@ shaped_address r s n k i j o shape reg h f e =
       words_before-pairs_of r s n i j (2 * i + j) refl f h,
     ))
 
--- where the last word lies
+-- the address of the last word
 pub last_address :
     (r s n k : ℕ) (shape : Shape) (reg : Reg)
     → address_of r (row_of shape s n) k (length (fast_row shape.fast) + 2 * n) reg

@@ -15,7 +15,7 @@ use Rattle.mb_claim.proofs.Words.{own_place, other_place, same_act, same_find}
 module _
     (cs : Claims) (words : List ℕ) (h : List ClaimAccess) (memory : IsMemoryOf cs words h) (c k object : ℕ) (op : Op)
     (word : ℕ) (cell : k < cs.cells) (place : IsWordIn cs object (reg_of op)) where
-  -- where the word of the access lies
+  -- the address of the word of the access
   abbrev address : ℕ
   address = address_in cs k object (reg_of op)
 

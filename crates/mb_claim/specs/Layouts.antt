@@ -35,7 +35,7 @@ words_in cs = cs.cells * row_words cs.table.registers cs.kinds
 abbrev pub IsWordIn : Claims → ℕ → Reg → Type 0
 IsWordIn cs o reg = IsWordOf cs.table.registers cs.kinds o reg
 
--- where a word of object o of cell k lies
+-- the address of a word of object o of cell k
 abbrev pub address_in : Claims → ℕ → ℕ → Reg → ℕ
 address_in cs k o reg = address_of cs.table.registers cs.kinds k o reg
 
@@ -82,7 +82,7 @@ cell_words layout = row_words (quorums_of layout).registers (kinds_of layout)
 abbrev pub HasWord : Layout → ℕ → Reg → Type 0
 HasWord layout o reg = IsWordOf (quorums_of layout).registers (kinds_of layout) o reg
 
--- where a word of object o of cell k lies
+-- the address of a word of object o of cell k
 abbrev pub word_address : Layout → ℕ → ℕ → Reg → ℕ
 word_address layout k o reg = address_of (quorums_of layout).registers (kinds_of layout) k o reg
 

@@ -8,7 +8,7 @@ use Rattle.mb_claim.specs.Layouts.{quorums_of, kinds_of, claims_in, most_on_obje
 use Rattle.mb_claim.specs.States.{IsMemoryOf, step_of}
 use Rattle.mb_claim.specs.Standing.{IsClaimOf}
 
--- whose claim it is
+-- the consumer of a claim
 abbrev pub consumer_of : Claim → ℕ
 consumer_of claim = claim.consumer
 

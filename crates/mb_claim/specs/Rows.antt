@@ -59,7 +59,7 @@ abbrev pub shaped_words : ℕ → Shape → ℕ → ℕ
 shaped_words r shape n =
     length (fast_row shape.fast) * (1 + r) + n * (2 + r) + length (last_row shape.last)
 
--- where a word of object o of cell k lies
+-- the address of a word of object o of cell k
 abbrev pub address_of : ℕ → List Kind → ℕ → ℕ → Reg → ℕ
 address_of r kinds k o reg = k * row_words r kinds + (words_before r kinds o + offset reg)
 

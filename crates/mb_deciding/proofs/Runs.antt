@@ -109,14 +109,14 @@ module _ (u : ObjectSetup) (schedule : List (ℕ × ℕ)) (state : RunState) (ru
         reached = rw same run.reached;
       }
 
-  -- where the run has a process at a place
+  -- a process that the run has at a place is at it by its part
   pub place_at :
       (p : ℕ) (x : Next) (pc : Pc) → p < length state.places → x ≡ get_or state.places p x → x ≡ leads.Go pc
       → PcIsAt u.table u.kind (get_or u.inputs p 0) pc (part p past)
   place_at p x pc below is go =
       subst (λ n. IsReached u.table u.kind (get_or u.inputs p 0) n (part p past)) (sym is ∙ go) (run.reached p x below)
 
-  -- where the run has a process at its output
+  -- a process that the run has at an output has ended
   pub ended_at :
       (p : ℕ) (x : Next) (out : Out) → p < length state.places → x ≡ get_or state.places p x → x ≡ leads.Out out
       → HasEnded (object_in u) p past

@@ -14,13 +14,13 @@ IsMissing s (suc k) [] = ⊥
 IsMissing s (suc k) (turn ∷ older) =
     (turn.act ≡ Load Value 0) × (StoresOn s k turn.word → ⊥) × IsMissing s k older
 
--- these turns, and then a load of 0 on attempt k, whose word stores
+-- the turns of attempts that do not store, and then a load of 0 on attempt k, whose word stores
 abbrev pub IsDrawn : ℕ → ℕ → List Turn → Type 0
 IsDrawn s k [] = ⊥
 IsDrawn s k (turn ∷ older) =
     (turn.act ≡ Load Value 0) × StoresOn s k turn.word × IsMissing s k older
 
--- these turns, and then a store of the input v
+-- the turns of attempts, of which the last stores, and then a store of the input v
 abbrev pub IsPut : ℕ → ℕ → ℕ → List Turn → Type 0
 IsPut s v k [] = ⊥
 IsPut s v k (turn ∷ older) = (turn.act ≡ Store Value (v + 1)) × IsDrawn s k older

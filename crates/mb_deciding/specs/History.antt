@@ -86,7 +86,7 @@ IsActInWords act =
 abbrev pub IsInWords : Turn → Type 0
 IsInWords turn = IsActInWords turn.act × (turn.word < 2 ^ 64)
 
--- so it is with the turn of each access of a history
+-- each access of a history loads and stores words of 64 bits, and its random word is one
 abbrev pub AreInWords : List Access → Type 0
 AreInWords [] = Unit {0}
 AreInWords (a ∷ older) = IsInWords a.turn × AreInWords older

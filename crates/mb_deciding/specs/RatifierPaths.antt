@@ -35,7 +35,7 @@ abbrev pub ReadsClear : QuorumTable → ℕ → ℕ → ℕ → List Act → Typ
 ReadsClear t v u bound acts =
     (begin : List Act) × Prefers t v u begin × (acts ≡ zeros_below bound (t.read u) ++ begin)
 
--- a process has done so, and then loaded 1 from the next register of that read quorum
+-- a process has its preference, loaded 0 from some registers of its read quorum, and then 1 from a register of it
 abbrev pub ReadsOne : QuorumTable → ℕ → ℕ → List Act → Type 0
 ReadsOne t v u [] = ⊥
 ReadsOne t v u (act ∷ older) =

@@ -1,4 +1,4 @@
--- The run behind a report, from what `work` and `gather` tell of it.
+-- The run that led to a report, from what `work` and `gather` tell of it.
 use Rattle.std.proofs.Common.{◌≡◌, ◌∙◌, ℕ, List, ap, map, refl, subst}
 use Rattle.std.specs.List.{range_with_len}
 use Rattle.std.proofs.lemmas.Simd.{map-map}

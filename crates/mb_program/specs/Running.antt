@@ -124,7 +124,7 @@ pub record IsRun {X W : Type 0} (o : Options) (sink : IoModel W) (writer writer'
   -- a failed write comes exactly if the writer failed in this call, and it failed once
   pub write_failed : result ≡ Err WriteFault → sink.failures writer' ≡ one_more (sink.failures writer)
   pub write_worked : result ≢ Err WriteFault → sink.failures writer' ≡ sink.failures writer
-  -- after it a prefix of such a text was written, after any other fault nothing
+  -- after a failed write a prefix of such a text was written, after any other fault nothing
   pub front : result ≡ Err WriteFault →
       (text : List ℕ) × IsRunText o text × AppendsFront (sink.bytes writer) (sink.bytes writer') text
   pub untouched : IfErr result (λ e. e ≢ WriteFault → writer' ≡ writer)

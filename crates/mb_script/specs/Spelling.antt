@@ -45,7 +45,7 @@ IsEventOf z (Push lane) = lane < z.producers
 IsEventOf z (Finish lane) = lane < z.producers
 IsEventOf z (Step consumer lane word) = (lane < z.producers) × (consumer < z.consumers) × (word < 2 ^ 64)
 
--- there is such a world, the events are its own, and they are not too many
+-- the script may be spelled so: there is a world of these sizes, the events are its own, and they are not too many
 pub record IsScript (z : Sizes) (events : List Event) : Type 0 where
   pub sizes : setup_refusal z.producers z.consumers z.cells z.pairs ≡ None
   pub known : AllByRecursion (IsEventOf z) events

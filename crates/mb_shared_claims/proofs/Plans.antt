@@ -44,7 +44,7 @@ with_number seat plan = record {
   place = moved plan.place plan.given seat;
 }
 
--- where a number stands at another seat
+-- the plan in which number c stands at this seat
 abbrev pub with_place : ℕ → ℕ → Plan → Plan
 with_place c seat plan = record {
   history = plan.history;

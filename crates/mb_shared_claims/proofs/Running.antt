@@ -82,7 +82,7 @@ module _ (t : TableView) (cell : ℕ) {M : Type 0} {K : Type 0} (seat : M → Se
       (own_cell : OwnCell) (finds : FindsTold)
       (low : cell < t.cells) (named : (seat start).table ≡ name_of t) (own : consumer_of claim ≡ (seat start).consumer)
       (stands : IsClaimIn t.layout claim (part_on (seat start).consumer cell (seat start).part)) where
-    -- where so many accesses led
+    -- what so many accesses led to: steps of the seat, and a claim that has made its consumer's part
     pub record Arrived (n : ℕ) (at : Claim) (now : M) : Type 0 where
       pub steps : AreSeatSteps t.layout cell claim (seat start) (stream start) n at (seat now) (stream now)
       pub keeps : kept now ≡ kept start

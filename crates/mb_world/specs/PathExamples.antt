@@ -25,15 +25,15 @@ abbrev pub first_step : ObjectTurn
 first_step = record { object = 0; turn = record { act = act.Load Value 0; word = 0 } }
 
 -- ---- histories that are on its path
--- nothing is linked yet
+-- consumer 0 has loaded the head, and nothing is linked yet
 abbrev pub waited : WorldHistory
 waited = link_load 0 0 [] 0 ∷ []
 
--- then the head leads to cell 0
+-- then the head that it loads leads to cell 0
 abbrev pub found : WorldHistory
 found = link_load 0 0 [] 1 ∷ waited
 
--- then the claim on cell 0 is begun
+-- then its claim on cell 0 is begun
 abbrev pub begun : WorldHistory
 begun = claim_step 0 0 first_step ∷ found
 
@@ -45,11 +45,11 @@ won_steps = map (λ a. a.step) won_alone
 abbrev pub won_last : ObjectTurn
 won_last = record { object = 1; turn = record { act = act.Load (Quorum 1) 0; word = 0 } }
 
--- or the claim goes to its end and is won
+-- or its claim on cell 0 goes to its end and is won
 abbrev pub won : WorldHistory
 won = map (claim_step 0 0) won_steps ++ found
 
--- then the item 5 is taken
+-- then consumer 0 takes the item 5
 abbrev pub taken : WorldHistory
 taken = item_load 0 0 5 ∷ won
 
@@ -95,18 +95,18 @@ gone_back = link_load 0 0 [] 1 ∷ taken
 abbrev pub claimed_unseen : Parts
 claimed_unseen = record { reads = []; claimed = λ k. first_step ∷ [] }
 
--- after the head led to cell 0, and without a claim there, this load is made
+-- the parts of a consumer that makes this load after the head led to cell 0, without a claim there
 abbrev pub read_on : PoolAccess → Parts
 read_on a = record { reads = a ∷ load 0 (Head 0) 1 ∷ []; claimed = λ k. [] }
 
--- it is a load of the item
+-- the parts with a load of the item, without a claim
 abbrev pub read_unclaimed : Parts
 read_unclaimed = read_on (load 0 (Item 0) 5)
 
--- it is a load of the link
+-- the parts with a load of the link, without a claim
 abbrev pub passed_without_claim : Parts
 passed_without_claim = read_on (load 0 (Link 0) 0)
 
--- it is a load of the head again
+-- the parts with a load of the head again, without a claim
 abbrev pub read_head_again : Parts
 read_head_again = read_on (load 0 (Head 0) 1)

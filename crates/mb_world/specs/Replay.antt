@@ -68,7 +68,7 @@ AnswerNames plan r (ToClaims a) h =
 abbrev pub IsLaneOf : Plan → ℕ → Lane → WorldHistory → Type 0
 IsLaneOf plan p lane h = IsLaneAfter plan.claims.cells p lane (part (Producer p) (pool_accesses h))
 
--- there is no such lane, and the answer says so
+-- there is no lane p, and the answer says so
 abbrev pub HasNoLane : Plan → ℕ → Answer → Type 0
 HasNoLane plan p r = (plan.lanes ≤ p) × (r ≡ answer.NoLane)
 

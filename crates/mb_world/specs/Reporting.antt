@@ -55,7 +55,7 @@ pub record IsDiaryOf (plan : Plan) (c p : ℕ) (hs : Histories) (d : DiaryView) 
   -- note j is the end of its claim on the j-th of them
   pub notes : (j : ℕ) (n : Note) → slice_get d.notes j ≡ Some n →
       (k : ℕ) × (slice_get (reverse cells) j ≡ Some k) × EndsAs plan.claims c k n (parts_of c hs)
-  -- and each claim there that has ended has its note
+  -- each claim there that has ended has its note
   pub all : (j k : ℕ) (n : Note) → slice_get (reverse cells) j ≡ Some k →
       EndsAs plan.claims c k n (parts_of c hs) → j < length d.notes
   -- begun: a claim there that has not ended has an access

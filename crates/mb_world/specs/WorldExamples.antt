@@ -55,7 +55,7 @@ offered = link_load 0 0 [] 0 ∷ one_taken
 abbrev pub one_stored : WorldHistory
 one_stored = stores 0 (Item 0) 5 ∷ offered
 
--- then it has linked the cell, so the item is put
+-- then producer 0 has linked the cell, so the item is put
 abbrev pub one_put : WorldHistory
 one_put = stores 0 (Head 0) 1 ∷ one_stored
 
@@ -67,11 +67,11 @@ both_put = stores 1 (Head 1) 2 ∷ stores 1 (Item 1) 6 ∷ ToCells (fetch 1 six)
 abbrev pub first_found : WorldHistory
 first_found = link_load 0 0 [] 1 ∷ both_put
 
--- it has won the claim there
+-- consumer 0 has won the claim on the item 5
 abbrev pub first_won : WorldHistory
 first_won = map (claim_step 0 0) won_steps ++ first_found
 
--- it has taken the item
+-- consumer 0 has taken the item 5
 abbrev pub first_taken : WorldHistory
 first_taken = item_load 0 0 5 ∷ first_won
 
@@ -87,7 +87,7 @@ first_lost = map (claim_step 1 0) lost_steps ++ link_load 1 0 [] 1 ∷ first_tak
 abbrev pub second_met : WorldHistory
 second_met = link_load 1 1 [] 2 ∷ first_lost
 
--- it has begun a claim there
+-- consumer 1 has begun a claim on the item 6
 abbrev pub second_begun : WorldHistory
 second_begun = claim_step 1 1 first_step ∷ second_met
 
