@@ -1,3 +1,4 @@
+-- Proof of `play`: runs the claims of all consumers on one cell.
 use Rattle.std.proofs.Common.{◌≡◌, ℕ, ◌<◌, ◌≤◌, subst, Bool, nat_le, None, List, length, get_or, arith}
 use Rattle.std.specs.List.{position_or_len}
 use Rattle.std.proofs.lemmas.List.Sums.{fails_before_first}

@@ -1,3 +1,5 @@
+-- Proof of `examples::answers_fit_their_script`: only a script without fault has an answer, and it has one line for
+-- each process.
 use Rattle.std.proofs.Common.{◌≡◌, ℕ, List, [], ◌∷◌, codes, Option, Some, None, Result, Ok, refl, ap, sym, ◌∙◌, subst}
 use Rattle.mb_deciding.specs.declared.object.Out.{Out}
 use Rattle.mb_deciding.specs.declared.trace.Entry.{Entry}

@@ -1,3 +1,5 @@
+-- Proof of `examples::reports_have_begun_claims`: what last objects promise of reports: small reports that keep it, and
+-- one that does not.
 use Rattle.std.proofs.Common.{◌≡◌, ℕ, zero, suc, true, false, None, [], ◌∷◌, refl, sym, ap, ◌∙◌, inl, arith}
 use Rattle.std.specs.Option.{option_map_or}
 use Rattle.std.proofs.lemmas.Bool.{false≢true}

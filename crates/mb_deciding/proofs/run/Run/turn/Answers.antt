@@ -1,3 +1,4 @@
+-- Proof of `Run::turn`: adds one turn of a process, with the random word of this turn.
 use Rattle.std.proofs.Common.{◌≡◌, ℕ, ◌<◌, List, ◌∷◌, get_or, set, length, ap, sym, ◌∙◌, subst, arith}
 use Rattle.std.proofs.lemmas.List.{set-get_or}
 use Rattle.mb_deciding.specs.{ObjectSetup, setup_of, object_in, ReadsLast, part, IsPrefix, CanFind, act_of}

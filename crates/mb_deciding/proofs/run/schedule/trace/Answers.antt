@@ -1,3 +1,4 @@
+-- Proof of `trace`: the trace of a schedule on the machine's object.
 use Rattle.std.proofs.Common.{◌≡◌, ℕ, ◌<◌, ◌≤◌, nat_le, None, List, length, get_or, map, sym, ◌∙◌, subst, arith}
 use Rattle.std.specs.List.{position_or_len}
 use Rattle.std.proofs.lemmas.List.{get_or-map, length-map}
