@@ -12,7 +12,7 @@ use Rattle.mb_cells.specs.Memory.{History}
 use Rattle.mb_cells.specs.LanePath.{Entry, fetch, store}
 use Rattle.mb_cells.specs.Place.{LaneIsAt, Phase}
 
--- ---- a place
+-- ---- the place of a producer
 -- the cell that was linked last
 abbrev pub last_of : List Entry → Option ℕ
 last_of [] = None

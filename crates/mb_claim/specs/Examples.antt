@@ -62,7 +62,7 @@ own_number_again = access_at 1 1 (Store (Quorum 1) 1) ∷ access_at 1 0 (Load Va
 abbrev pub of_a_stranger : List ClaimAccess
 of_a_stranger = access_at 2 0 (Load Value 0) ∷ []
 
--- ---- runs
+-- ---- steps and entries of a run
 -- two consumers that make these steps have these entries and stages
 abbrev pub IsPlayedByTwo : List (ℕ × ℕ) → List ClaimEntry → List Stage → Type 0
 IsPlayedByTwo steps entries stages = IsPlayed two_consumers steps entries stages

@@ -80,7 +80,7 @@ Enters t (kind ∷ kinds) o v xs n w =
     ⊎ ((u : ℕ) × (later : List ObjectTurn) × Passes t kind o v xs u later
     × Enters t kinds (suc o) u later n w)
 
--- ---- claims
+-- ---- the paths of a claim, through all objects of its cell
 -- a whole claim path of consumer c: its first input is its own number
 abbrev pub IsWholeClaim : Claims → ℕ → List ObjectTurn → Out → Type 0
 IsWholeClaim cs c xs output = IsClaimPath cs.table cs.kinds 0 c xs output

@@ -92,7 +92,7 @@ one_least mask r s l m =
       ])
     ]
 
--- ---- announcing
+-- ---- a process that announces its input
 -- before its first access a process has all of its write quorum left
 pub begin_announces :
     (t : QuorumTable) (v input : ℕ) (made : List Act) → IsInRatifier t v (Begin input) made
@@ -152,7 +152,7 @@ announced_whole t v input left made op seen at is none can =
         let before : made ≡ stores_below bound (t.write v) = at.1.3 in
         cc
 
--- ---- the preference
+-- ---- a process that gets its preference
 -- a store of the input in an empty proposal
 pub prefers_own :
     (t : QuorumTable) (v input : ℕ) (made : List Act) (op : Op) (seen : ℕ) → IsInRatifier t v (Propose input) made
@@ -169,7 +169,7 @@ pub prefers_found :
 prefers_found t v u seen e =
     (Load Proposal seen ∷ announcement t v, inr (ap (λ n. Load Proposal n ∷ announcement t v) e), refl)
 
--- ---- checking
+-- ---- a process that checks its preference
 -- a load of 0 from the least register that is left goes on with the check
 pub checked_next :
     (t : QuorumTable) → IsQuorumTable t → (v u left r : ℕ) (made : List Act) → u < t.values

@@ -61,7 +61,7 @@ pub turn_follows :
     → Follows s v x.act turns
 turn_follows s v later turns x u h = (suffix_follow s v later (x ∷ turns) (path_follow s v (later ++ x ∷ turns) u h)).0
 
--- ---- one op
+-- ---- what was done before names one op
 -- the newest word stores, or it does not
 missing_undrawn : (s j k : ℕ) (turns : List Turn) → IsMissing s j turns → IsDrawn s k turns → ⊥
 missing_undrawn s zero k [] h d = d

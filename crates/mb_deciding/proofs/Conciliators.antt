@@ -15,7 +15,7 @@ abbrev IsAmong : List ℕ → ℕ → Type 0
 IsAmong [] n = ⊥
 IsAmong (x ∷ xs) n = (n ≡ x) ⊎ IsAmong xs n
 
--- ---- one act
+-- ---- what one act stores and leaves
 -- a value in the word was there before, or is the input
 act_value :
     (v u : ℕ) (act : Act) (n : ℕ) → StoresInput v act → value_after Value act n ≡ u + 1 → (n ≡ u + 1) ⊎ (v ≡ u)
@@ -82,7 +82,7 @@ last_kept v (Store (Quorum r) w) n b e = absurd b
 last_kept v (Store Last w) n b e = absurd b
 last_kept v (Exchange reg w f) n b e = absurd b
 
--- ---- histories
+-- ---- what lawful histories leave in the words, and the promises
 module _ (t : QuorumTable) (s : ℕ) (inputs : ℕ → ℕ) where
   -- the history is lawful for this conciliator
   abbrev L : List Access → Type 0

@@ -55,7 +55,7 @@ has_each act (suc n) mask r h m =
     (has_each act n mask r (omega arith) m) in
     elim (cases_eq r n) [ inl e ↦ here e | inr e ↦ below e ]
 
--- ---- paths
+-- ---- what came before each act of a path
 -- one more act, if that came before it
 behind_cond :
     (t : QuorumTable) (v : ℕ) (b : Bool) (x : Act) (xs : List Act) → (b ≡ true → Behind t v x xs) → AllBehind t v xs

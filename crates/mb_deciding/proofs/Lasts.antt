@@ -11,7 +11,7 @@ use Rattle.mb_deciding.specs.{IsPrefix, IsOpen, IsObjectLawful, CanHold, IsValid
 use Rattle.mb_deciding.specs.{CanFind, act_of, seen_by, most_turns}
 use Rattle.mb_deciding.proofs.Histories.{not_empty, lawful_older, own_turns, own_some, some_kept, since_newest}
 
--- ---- paths
+-- ---- the paths of a last object
 -- a path is one turn
 pub last_only :
     (v : ℕ) (later older : List Turn) (x : Turn) (u : ℕ) → IsLastPath v (later ++ x ∷ older) u

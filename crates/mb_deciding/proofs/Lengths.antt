@@ -13,7 +13,7 @@ use Rattle.mb_deciding.proofs.Sizes.{each_size}
 use Rattle.mb_deciding.proofs.Outputs.{proposal_loads, IsFrom, zeros_loads, clear_from, one_from, clear_only}
 use Rattle.mb_deciding.proofs.Outputs.{from_unique}
 
--- ---- registers
+-- ---- how many acts there are for registers
 -- one more act, or none
 cond_length :
     (b : Bool) (x : Act) (xs : List Act)
@@ -42,7 +42,7 @@ each_more act (suc n) mask r l m =
       )
     ]
 
--- ---- paths
+-- ---- how long whole paths are, and that they end once
 -- a value loaded from the proposal gives one act, and an empty proposal two
 extra_acts : ℕ → ℕ
 extra_acts zero = 2
@@ -226,7 +226,7 @@ path_ends t v made (x ∷ later) false false u w h k =
     (clear_only t v w k.0 one.0 1 (later ++ made) k.4 (has_later later made (Load (Quorum one.0) 1) one.2)).1 in
     absurd (omega arith)
 
--- ---- the bound
+-- ---- how long prefixes of paths are at most
 -- a preference stands after the announcement
 prefers_length :
     (t : QuorumTable) (v u : ℕ) (begin : List Act) → Prefers t v u begin → length begin ≤ count_ones (t.write v) + 2

@@ -21,7 +21,7 @@ use Rattle.mb_deciding.proofs.Conciliators.{valid as conciliator_valid, fits as 
 same_answer : (a b : Out) → (a.decided ≡ b.decided) × (a.value ≡ b.value) → a ≡ b
 same_answer a b e = ap₂ answer e.0 e.1
 
--- ---- a ratifier
+-- ---- the paths of a ratifier
 -- a path has an act
 some_path : (t : QuorumTable) (v : ℕ) (made : List Act) (d : Bool) (u : ℕ) → IsRatifierPath t v made d u → made ≢ []
 some_path t v made d u h =
@@ -66,7 +66,7 @@ unique_ratifier t v turns later a b h k =
           (subst (λ xs. IsRatifierPath t v (xs ++ acts turns) b.decided b.value) none whole)),
     )
 
--- ---- a conciliator
+-- ---- the paths of a conciliator
 -- each input has a path: a process that finds its input in the word at once
 opens_conciliator : (t : QuorumTable) (s v : ℕ) → IsOpen t (Conciliator s) v []
 opens_conciliator t s v =

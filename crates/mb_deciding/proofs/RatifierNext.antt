@@ -27,7 +27,7 @@ abbrev AllFollow : QuorumTable → ℕ → List Act → Type 0
 AllFollow t v [] = Unit {0}
 AllFollow t v (a ∷ made) = Follows t v a made × AllFollow t v made
 
--- ---- paths
+-- ---- each act of a path follows what was done before
 -- one more store of the announcement
 follow_cond :
     (t : QuorumTable) (v : ℕ) (b : Bool) (x : Act) (xs : List Act) → (b ≡ true → Follows t v x xs) → AllFollow t v xs
@@ -90,7 +90,7 @@ pub act_follows :
     → IsRatifierPath t v (later ++ a ∷ made) d u → Follows t v a made
 act_follows t v later made a d u h = (suffix_follow t v later (a ∷ made) (path_follow t v (later ++ a ∷ made) d u h)).0
 
--- ---- one op
+-- ---- what was done before names one op
 -- two registers with the same number of registers below them are one
 same_register :
     (act : ℕ → Act) (mask r s : ℕ) → IsMember mask r → IsMember mask s

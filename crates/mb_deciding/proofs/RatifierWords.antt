@@ -58,7 +58,7 @@ newest_behind t inputs a h l =
     (subst (λ turns. AllBehind t (inputs a.process) (acts turns)) (own_turns a h)
     (part_behind t (inputs a.process) (part a.process (a ∷ h)) (l.parts a.process (own_some a h)).1)).0
 
--- ---- one access
+-- ---- what one access leaves in the words
 -- a store leaves its value
 same_register : (r w n : ℕ) → value_after (Quorum r) (Store (Quorum r) w) n ≡ w
 same_register r w n = ap (λ b. cond b w n) (eq-eqb r r refl)
@@ -121,7 +121,7 @@ register_origin t v r (Store (Quorum i) w) older n b h =
       | inr k ↦ inl k
     ]
 
--- ---- the proposal and the quorum registers
+-- ---- what the proposal and the quorum registers hold, and who stored it
 -- a register that a process stored holds 1
 pub stored_one :
     (t : QuorumTable) (inputs : ℕ → ℕ) (h : List Access) → IsObjectLawful (ratifier_of t inputs) h → (p r : ℕ)

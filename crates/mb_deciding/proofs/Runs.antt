@@ -42,7 +42,7 @@ entries_push o h (x ∷ schedule) [] turn e all is here = absurd all
 entries_push o h (x ∷ schedule) (y ∷ entries) turn e all is here =
     (all.0, all.1, entries_push o (with_entry x.1 y h) schedule entries turn e all.2 is here)
 
--- ---- places
+-- ---- what a turn does to the places of processes
 -- a load of what is left there is true to memory
 pub reads_seen : (op : Op) (h : List Access) → ReadsLast (act_of op (seen_by op h)) h
 reads_seen (to.Load reg) h = refl
@@ -86,7 +86,7 @@ pub out_from : (out : Option Out) (pc : Pc) → out_of (next_from out pc) ≡ ou
 out_from None pc = refl
 out_from (Some x) pc = refl
 
--- ---- the run
+-- ---- a run after one more turn
 module _ (u : ObjectSetup) (schedule : List (ℕ × ℕ)) (state : RunState) (run : IsRun u schedule state) where
   -- what the accesses of the entries were
   abbrev past : List Access

@@ -12,7 +12,7 @@ use Rattle.mb_quorum.specs.Unary.{unary_table}
 use Rattle.mb_deciding.proofs.Histories.{not_empty}
 use Rattle.mb_deciding.proofs.Grammar.{part_behind}
 
--- ---- one process
+-- ---- the history of one process
 -- the turns of process 0 are those that it made
 own_turns : (turns : List Turn) → part 0 (history_of_one turns) ≡ turns
 own_turns [] = refl
@@ -52,7 +52,7 @@ part_alone :
 part_alone t kind turns some l =
     subst (IsPrefix t kind 0) (own_turns turns) (l.parts 0 (λ e. some (sym (own_turns turns) ∙ e))).1
 
--- ---- a ratifier
+-- ---- histories of a ratifier
 -- the run that met no 1 decides its input
 pub clear_path : IsPath (unary_table 2) Ratifier 0 clear_run (answer true 0)
 clear_path = (Store Proposal 1 ∷ Load Proposal 0 ∷ Store (Quorum 0) 1 ∷ [], inl (refl, refl), refl)
@@ -84,7 +84,7 @@ hasty_refused l =
 pub invented_refused : IsObjectLawful (object_of (unary_table 2) Ratifier zero_inputs) (history_of_one invented_run) → ⊥
 invented_refused l = let none : ◌≡◌ {A = ℕ} 1 0 = l.memory.0 in absurd (omega arith)
 
--- ---- a conciliator
+-- ---- histories of a conciliator
 -- the run that stores on attempt 2 has its input as its output
 pub patient_path : IsPath (unary_table 2) (Conciliator 2) 0 patient_run (answer false 0)
 patient_path = (

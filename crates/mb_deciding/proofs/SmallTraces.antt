@@ -12,7 +12,7 @@ use Rattle.mb_deciding.proofs.Histories.{not_empty}
 use Rattle.mb_deciding.proofs.Owed.{one_end}
 use Rattle.mb_deciding.proofs.SmallHistories.{clear_lawful, clear_path, patient_lawful, patient_path, impatient_no_part}
 
--- ---- one process
+-- ---- the traces of one process
 -- the input is 0, as after the end of the list
 same_input : (p : ℕ) → slice_index (0 ∷ []) p ≡ 0
 same_input zero = refl
@@ -55,7 +55,7 @@ unfinished kind turns later x out whole (d, u, path) =
     not_empty x later
     (one_end (unary_table 2) kind 0 turns (x ∷ later) (answer d u) out path whole).0
 
--- ---- a ratifier
+-- ---- traces of a ratifier
 -- the first turn of `clear_run`
 abbrev first_turn : Turn
 first_turn = turn 0 (Store (Quorum 0) 1)
@@ -164,7 +164,7 @@ hidden_refused bad = bad.entries.2.2.2.1.1 (true, 0, clear_path)
 pub withheld_refused : IsTraceOfOne Ratifier 4 0 clear_entries None → ⊥
 withheld_refused bad = bad.outputs 0 None (omega arith) (true, 0, clear_path)
 
--- ---- a conciliator
+-- ---- traces of a conciliator
 -- the first turns of `patient_run`
 abbrev missed_turn : Turn
 missed_turn = turn 3 (Load Value 0)

@@ -68,7 +68,7 @@ keeps_out t inputs h q l p u bound b r later made is clear empty other below in_
     (has_later later made (Load (Quorum r) 0) (clear_loads t (inputs p) u bound made clear r below in_read)) in
     clear_register t inputs h q l p b r loaded empty in_write
 
--- ---- the laws
+-- ---- the promises of a ratifier
 -- the value of an output is the input of a process that loaded an empty proposal
 output_founded :
     (t : QuorumTable) (inputs : ℕ → ℕ) (h : List Access) → IsObjectLawful (ratifier_of t inputs) h

@@ -84,7 +84,7 @@ stored_over = exchange_by 2 2 ∷ exchange_by 1 1 ∷ exchange_by 0 0 ∷ []
 abbrev pub loaded_then_stored : List Turn
 loaded_then_stored = turn 0 (Store Last 1) ∷ turn 0 (Load Last 0) ∷ []
 
--- ---- traces
+-- ---- entries and traces of process 0
 -- n turns of process 0, each with this random word
 abbrev pub turns_of_one : ℕ → ℕ → List (ℕ × ℕ)
 turns_of_one zero word = []

@@ -33,7 +33,7 @@ IsSameFor LastObject t u = t ≡ u
 abbrev pub bare_table : ℕ → QuorumTable
 bare_table m = record { values = m; registers = 0; write = λ v. 0; read = λ v. 0 }
 
--- ---- a run
+-- ---- what a run holds after the turns of a schedule
 -- the output, if the process has it
 abbrev pub out_of : Next → Option Out
 out_of (leads.Go pc) = None

@@ -169,7 +169,7 @@ module _ (s : Swap) (same : ReadsSame s) where
     positional_same stray (Some a) h =
         ap (λ (x : Kinds). cond (is_pending a h.pending && takes_several a) [] x) (settle_same h)
 
-  -- ---- defaults
+  -- ---- faults of defaults
   default_same : (rows : List Row) (a : Rule) → default_fault rows (f a) ≡ default_fault rows a
   default_same rows a =
       ap (λ (x : Kinds). cond (has_row a.id rows || is_empty a.defaults) []

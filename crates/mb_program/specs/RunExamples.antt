@@ -9,7 +9,7 @@ use Rattle.mb_program.specs.Program.{IsProgramRun}
 use Rattle.mb_program.specs.declared.options.Options.{Options}
 use Rattle.mb_program.specs.declared.outcome.ProgramExit.{ProgramExit}
 
--- ---- options
+-- ---- options and words of `run`
 -- the options of `run` if no further word is given
 abbrev pub asked : Options
 asked = record {
@@ -26,7 +26,7 @@ asked = record {
 abbrev pub run_words : List Text → List Text
 run_words more = codes "mailbox" ∷ codes "run" ∷ more
 
--- ---- reports
+-- ---- what a small run may report
 -- histories in which nothing was done
 abbrev pub nothing_done : Histories
 nothing_done = record { claims = []; pool = []; reader_of = λ c. c }

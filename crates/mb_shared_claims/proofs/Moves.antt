@@ -80,7 +80,7 @@ access_allows own_part other_parts k size slots id own at done f access within g
       ),
     )
 
--- ---- enrolling
+-- ---- the hub gives a seat out
 -- a word after those of the cells is none of the claims'
 abbrev pub OtherWords : TableSize → Type 0
 OtherWords k =
@@ -119,7 +119,7 @@ pub give_allows :
 give_allows k size id roll state held is =
     (_, after_giving k state.words state.views held.0 held.1 size id roll is)
 
--- ---- taking a seat in
+-- ---- the hub takes a seat in
 -- the hub may join a consumer's seat
 pub take_allows :
     (k size its : TableSize) (id other own : ℕ) (roll : Roll) (done : List ClaimAccess)

@@ -158,7 +158,7 @@ module _ (k : TableSize) (words : List ℕ) (views : List View) (plan : Plan) (s
           (hub_fits.0, hub_fits.1, is_more ∙ ap suc hub_fits.2));
     }
 
-  -- ---- and gives it out
+  -- ---- the hub gives out the number that it has drawn
   module _ (size : TableSize) (id : ℕ) (roll : Roll) (is : IsViewAt views id (Drawing size roll)) where
     drawing_fits : FitsTable k plan count id (Drawing size roll)
     drawing_fits = s.fits id (Drawing size roll) is
@@ -353,7 +353,7 @@ module _ (k : TableSize) (words : List ℕ) (views : List View) (plan : Plan) (s
           tt;
     }
 
-  -- ---- and puts its part into the roll
+  -- ---- the hub puts the part of the seat taken in into its roll
   module _ (size : TableSize) (id own : ℕ) (roll : Roll) (done : List ClaimAccess)
       (is : IsViewAt views id (Taking size roll own done)) where
     taking_fits : FitsTable k plan count id (Taking size roll own done)

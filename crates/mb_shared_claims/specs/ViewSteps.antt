@@ -22,7 +22,7 @@ abbrev pub part_of : View → List ClaimAccess
 part_of (Standing size own done) = done
 part_of _ = []
 
--- ---- a claim's access
+-- ---- an access of a consumer's seat
 -- a consumer's seat with one access more
 abbrev pub with_one_more : ClaimAccess → View → View
 with_one_more a (Standing size own done) = Standing size own (a ∷ done)
@@ -42,7 +42,7 @@ ComesAfterView a v = Unit {0}
 abbrev pub makes : ClaimAccess → Seated → Seated → Type 0
 makes a me now = (now ≡ (with_one_more a me.0, me.1)) × ComesAfterView a me.0
 
--- ---- enrolling
+-- ---- how a seat is given out
 -- the view of the hub after it has drawn the next number
 abbrev pub drawn : View → View
 drawn (Handing size roll) = Drawing size roll
@@ -62,7 +62,7 @@ newcomer v = Spent
 abbrev pub draws : ℕ → Seated → Seated → Type 0
 draws found me now = (found ≡ length (roll_of me.0)) × (now ≡ (drawn me.0, me.1))
 
--- ---- taking a seat in
+-- ---- how a seat is taken in
 -- the view of the hub after a seat was joined to it: the seat's part is beside the roll
 abbrev pub took_in : View → View → View
 took_in (Handing size roll) (Standing other own done) = Taking size roll own done

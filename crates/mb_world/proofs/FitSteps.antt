@@ -25,7 +25,7 @@ module _ (cs : Claims) (c : ℕ) (x : Parts) (f : Fits cs c x) where
     λ v r. let e = f.ended k v r in e.2 (goes e.0 e.1),
   )
 
-  -- ---- a load of a link
+  -- ---- the parts fit after a load of a link
   module _ (q p v : ℕ) (may : MayLookPast cs c (cells_met p x.reads) x) where
     -- the load of the link past the cells met
     abbrev a : PoolAccess
@@ -66,7 +66,7 @@ module _ (cs : Claims) (c : ℕ) (x : Parts) (f : Fits cs c x) where
       ];
     }
 
-  -- ---- a load of an item
+  -- ---- the parts fit after a load of an item
   module _ (q k v : ℕ) (here : HasStageIn cs c k stage.Won x) where
     -- the load of the item
     abbrev b : PoolAccess
@@ -88,7 +88,7 @@ module _ (cs : Claims) (c : ℕ) (x : Parts) (f : Fits cs c x) where
       ];
     }
 
-  -- ---- a step of a claim
+  -- ---- the parts fit after a step of a claim
   module _ (k : ℕ) (t : ObjectTurn) (gave : Gave k x.reads) (here : HasNotLeft k x) where
     -- the parts with the step
     abbrev now : Parts

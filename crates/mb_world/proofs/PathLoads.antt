@@ -44,7 +44,7 @@ gift_is (Head p) j k g = omega (arith, g.0)
 gift_is (Link p) j k g = omega (arith, g.0)
 gift_is (Item p) j k g = absurd g
 
--- ---- the cells met
+-- ---- which cells a load more meets
 -- a load of the link past those met before meets the cell that it gives
 pub met_there : (p : ℕ) (ks : List ℕ) (a : PoolAccess) (older : History) → cells_met p older ≡ ks
     → a.word ≡ place_past p ks
@@ -71,7 +71,7 @@ abbrev pub FollowsLane : ℕ → History → Type 0
 FollowsLane p [] = Unit {0}
 FollowsLane p (a ∷ older) = (IsLinkWord a.word → a.word ≡ place_past p (cells_met p older)) × FollowsLane p older
 
--- ---- along a path
+-- ---- what was met and loaded along a path
 module _ (cs : Claims) (c : ℕ) where
   -- the cells to which the path leads were met
   pub path_met : {p : ℕ} {done : WorldHistory} {ks : List ℕ} {ns : List Note} {held : Option (List ObjectTurn)}

@@ -124,7 +124,7 @@ module _ (s : WorldState) (h : WorldHistory) (is : IsWorldAfter h s) (p : ℕ) (
   lane_of =
       subst (λ (n : ℕ). IsLaneAfter n p lane_here (part (Producer p) (pool_accesses h))) is.cells at
 
-  -- ---- offers
+  -- ---- what offers make of the world
   -- the number that the counter holds
   abbrev n : ℕ
   n = value_in Counter (pool_accesses h)
@@ -159,7 +159,7 @@ module _ (s : WorldState) (h : WorldHistory) (is : IsWorldAfter h s) (p : ℕ) (
         left = after_none later;
       }
 
-  -- ---- pushes
+  -- ---- what pushes make of the world
   -- a cell that is to be linked is no end mark
   link_is_no_mark : (cell : ℕ) (done : Phase) → PhaseFits (plan s h is).claims.cells done
       → lane.Stored cell ≡ stage_of done → cell + 1 ≢ END
@@ -229,7 +229,7 @@ module _ (s : WorldState) (h : WorldHistory) (is : IsWorldAfter h s) (p : ℕ) (
       by lane.Full e t later = rests (ap (stage_push_store (next_link p lane_here)) e) t later
       by lane.Open e t later = rests (ap (stage_push_store (next_link p lane_here)) e) t later
 
-  -- ---- finishes
+  -- ---- what finishes make of the world
   record IsMark (w : Word) : Type 0 where
     pub link : IsLinkWord w
     pub named : answer_to (plan s h is).claims.cells w (Store END) ≡ Some (answer.Finished finish.Ended)

@@ -21,7 +21,7 @@ module _ (cs : Claims) where
   HasItem h d j v = HasRead (Item j) v (part (Reader d) (pool_accesses h))
 
   module _ (c : ℕ) (h : WorldHistory) where
-    -- ---- a load
+    -- ---- what a load makes of the ends
     module _ (w : Word) (v : ℕ) where
       -- the history with a load
       abbrev loaded : WorldHistory
@@ -82,7 +82,7 @@ module _ (cs : Claims) where
       load_keeps d j (Lost u) other = ((λ e. e), (λ e. e))
       load_keeps d j Undecided other = ((λ e. e), (λ e. e))
 
-    -- ---- a step of a claim on cell k
+    -- ---- what a step of a claim on cell k makes of the ends
     module _ (k : ℕ) (x : ObjectTurn) where
       -- the history with a step
       abbrev stepped : WorldHistory
@@ -116,7 +116,7 @@ module _ (cs : Claims) where
             λ e. subst (λ xs. IsClaimPrefix cs d xs stage.Undecided) same e,
           )
 
-  -- ---- at most one end
+  -- ---- a claim has at most one end
   module _ (d j : ℕ) (h : WorldHistory)
       (one : (s r : Stage) → IsClaimPrefix cs d (claim_part d j (claim_accesses h)) s
       → IsClaimPrefix cs d (claim_part d j (claim_accesses h)) r → s ≡ r) where

@@ -154,7 +154,7 @@ module _ (s : WorldState) (h : WorldHistory) (is : IsWorldAfter h s) (known : Wo
     walk_is : (p : ℕ) (ks : List ℕ) (over : Bool) → IsWalked s.pool p ks over → ks ≡ reverse (linked p)
     walk_is p ks over w = sym (w (pool_accesses h) is.pool).cells ∙ put_cells p (pool_accesses h)
 
-    -- ---- one note
+    -- ---- the note of a cell is the end of the claim there
     note_of_end : (c k : ℕ) (n : Note) → c < consumers_of plan → k < plan.claims.cells → Ends c k n
         → note_on s c k ≡ Some n
     note_of_end c k n cs less e = let q = is.note c k cs less in ap note_there q.1 ∙ (q.2 n).1 e
@@ -176,7 +176,7 @@ module _ (s : WorldState) (h : WorldHistory) (is : IsWorldAfter h s) (known : Wo
         by (Lost u) w = let d = same (stage.Lost u) w in cc
         by Undecided w = let d = same stage.Undecided w in cc
 
-    -- ---- one consumer on one lane
+    -- ---- the diary of one consumer on one lane
     module _ (c p : ℕ) (cs : c < consumers_of plan) (ps : p < plan.lanes) where
       abbrev at : IsSeatAfter s.setup c p h (is.seat c p cs ps).0
       at = (is.seat c p cs ps).2
@@ -281,7 +281,7 @@ module _ (s : WorldState) (h : WorldHistory) (is : IsWorldAfter h s) (known : Wo
             begun = ((λ b. own.begun.0 (sym begun ∙ b)), (λ z. begun ∙ own.begun.1 z));
           }
 
-    -- ---- the report
+    -- ---- the whole report
     module _ (r : ReportView) (lanes : AreLanesTold s plan.lanes r.lanes)
         (diaries : AreDiariesTold s (consumers_of plan * plan.lanes) r.diaries) where
       note_is : (c p j k : ℕ) → c < consumers_of plan → p < plan.lanes → slice_get (reverse (linked p)) j ≡ Some k

@@ -66,7 +66,7 @@ module _ (s : WorldState) (h : WorldHistory) (is : IsWorldAfter h s) where
 
   module _ (c p : ℕ) (cs : c < consumers_of plan) (ps : p < plan.lanes) (a : WorldAccess)
       (adds : ConsumerAdds plan c p a h) where
-    -- ---- seats
+    -- ---- the seats after the access
     -- another seat stays
     other_seat : (e q : ℕ) (x : Seat) → (e ≡ c → q ≡ p → ⊥) → IsSeatAfter s.setup e q h x
         → IsSeatAfter s.setup e q (a ∷ h) x
@@ -128,7 +128,7 @@ module _ (s : WorldState) (h : WorldHistory) (is : IsWorldAfter h s) where
     pub seats_count : (d : Seat) → length (slice_set s.seats (seat_place c p) d) ≡ consumers_of plan * plan.lanes
     seats_count d = length-set s.seats (seat_place c p) d ∙ is.seats_count
 
-    -- ---- notes
+    -- ---- the notes after the access
     -- a note stays, if the ends of its claim do
     note_kept : (e j : ℕ) (o : Option Note) → ((n : Note) → Ends plan.claims h e j n ↔ Ends plan.claims (a ∷ h) e j n)
         → IsNoteAfter s.setup e j h o → IsNoteAfter s.setup e j (a ∷ h) o
@@ -164,7 +164,7 @@ module _ (s : WorldState) (h : WorldHistory) (is : IsWorldAfter h s) where
           ≡ consumers_of plan * plan.claims.cells
       notes_count = length-set s.notes (note_place c k) (Some n) ∙ is.notes_count
 
-    -- ---- the state
+    -- ---- the state after the access
     -- the state with these words, seats and notes is what the longer history leaves
     pub state_after : (words : List ℕ) (seats : List Seat) (notes : List (Option Note))
         → IsAfter (pool_accesses (a ∷ h)) s.pool → IsMemoryOf plan.claims words (claim_accesses (a ∷ h))

@@ -50,7 +50,7 @@ module _ (plan : Plan) (h : WorldHistory) (lawful : IsWorldLawful plan h) where
   read_here c p w v r =
       (r.0, Has-of_filter (of_lane p) (loads c) r.0 (subst (λ (d : History). Has d r.0) (loads_on c p) r.1), r.2, r.3)
 
-  -- ---- the reader paths
+  -- ---- the loads of a consumer are a reader path
   lane_path : (c p : ℕ) → c < consumers_of plan → p < plan.lanes
       → IsReaderPath plan.lanes (filter (of_lane p) (loads c))
   lane_path c p cs ps =

@@ -24,7 +24,7 @@ parts_of c hs = record {
 abbrev pub HasRead : Word → ℕ → History → Type 0
 HasRead w v reads = (a : PoolAccess) × Has reads a × (a.word ≡ w) × (a.act ≡ Load v)
 
--- ---- the links
+-- ---- which cells loads give, and how they follow the links
 -- the cell that a load of a head or link gives: 0 gives none yet, and the end mark none at all
 abbrev pub cell_given : PoolAct → Option ℕ
 cell_given (Load v) = if nat_eq v 0 || nat_eq v END then None else Some (v - 1)
@@ -45,7 +45,7 @@ FollowsLinks [] = Unit {0}
 FollowsLinks (a ∷ older) =
     (IsLinkWord a.word → (p : ℕ) × (a.word ≡ place_past p (cells_met p older))) × FollowsLinks older
 
--- ---- the claims
+-- ---- the stages and ends of a consumer's claims
 -- the claim of consumer c on cell k has this stage, by the steps in its parts
 abbrev pub HasStageIn : Claims → ℕ → ℕ → Stage → Parts → Type 0
 HasStageIn cs c k s x = IsClaimPrefix cs c (x.claimed k) s
@@ -56,7 +56,7 @@ EndsAs cs c k (Took v) x = HasStageIn cs c k stage.Won x × HasRead (Item k) v x
 EndsAs cs c k (Lost w) x = HasStageIn cs c k (stage.Lost w) x
 EndsAs cs c k Undecided x = HasStageIn cs c k stage.Undecided x
 
--- ---- the fit of the two
+-- ---- when the two parts fit
 -- the two parts of consumer c fit each other
 pub record Fits (cs : Claims) (c : ℕ) (x : Parts) : Type 0 where
   -- on each lane its loads follow the links from the head

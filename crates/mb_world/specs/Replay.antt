@@ -97,7 +97,7 @@ IsRefused plan (event.Finish p) r h = HasNoLane plan p r ⊎ ((p < plan.lanes) �
 IsRefused plan (event.Step c p word) r h =
     HasNoLane plan p r ⊎ ((p < plan.lanes) × (consumers_of plan ≤ c) × (r ≡ answer.NoConsumer))
 
--- ---- the replay
+-- ---- the replay of a list of events
 -- after a history, the event has this answer with this access, which keeps the history lawful, or with none
 abbrev pub IsEntry : Plan → Event → Answer → Option WorldAccess → WorldHistory → Type 0
 IsEntry plan e r None h = IsRefused plan e r h

@@ -191,7 +191,7 @@ unwon_taken = diary_with 1 1 (Took 6 ∷ [])
 abbrev pub claim_left_out : DiaryView
 claim_left_out = diary_with 1 1 []
 
--- ---- events
+-- ---- events of the world, and their answers
 -- the first events, which lead to `one_put`
 abbrev pub first_events : List Event
 first_events =
