@@ -43,6 +43,7 @@ module _ {M : Type 0} (layout : Layout) (parts : PartsOf (quorums_of layout) (ki
       }
 
   module _ (claim : Claim) (going : claim_stage claim ≡ Going) (start : M) where
+    -- after so many accesses the claim is at the place to which they led
     pub place_after :
         (n : ℕ) (at : Pc) (before : M)
         → AreSteps (quorums_of layout) (DrawsAndMakes draws makes claim.object) claim.place start n (leads.Go at) before
@@ -50,23 +51,28 @@ module _ {M : Type 0} (layout : Layout) (parts : PartsOf (quorums_of layout) (ki
     place_after zero at before steps = let is : leads.Go at ≡ leads.Go claim.place = steps.0 in cc
     place_after (suc n) at before steps = refl
 
+    -- it goes on
     pub stage_after : (n : ℕ) (at : Pc) → claim_stage (stood_after n at claim) ≡ Going
     stage_after zero at = going
     stage_after (suc n) at = going
 
+    -- it is on the same object
     pub object_after : (n : ℕ) (at : Pc) → (stood_after n at claim).object ≡ claim.object
     object_after zero at = refl
     object_after (suc n) at = refl
 
+    -- it is the same consumer's
     consumer_after : (n : ℕ) (at : Pc) → consumer_of (stood_after n at claim) ≡ consumer_of claim
     consumer_after zero at = refl
     consumer_after (suc n) at = refl
 
+    -- put at a place, and begun, it is the first claim put there
     moved_after : (n : ℕ) (at follows : Pc) → stood_at follows true (stood_after n at claim)
         ≡ stood_at follows true claim
     moved_after zero at follows = refl
     moved_after (suc n) at follows = refl
 
+    -- the accesses of the place are accesses of the claim
     pub all_go_on :
         (n : ℕ) (follows : Pc) (now : M)
         → AreSteps (quorums_of layout) (DrawsAndMakes draws makes claim.object) claim.place start n
@@ -94,6 +100,7 @@ module _ {M : Type 0} (layout : Layout) (parts : PartsOf (quorums_of layout) (ki
           (sym (place_after n at before older)) step))),
     )
 
+    -- at least one access leads to the claim at the new place, begun
     pub moved_on :
         (n : ℕ) (follows : Pc) (now : M) → n ≢ 0
         → AreSteps (quorums_of layout) (DrawsAndMakes draws makes claim.object) claim.place start n
@@ -111,6 +118,7 @@ module _ {M : Type 0} (layout : Layout) (parts : PartsOf (quorums_of layout) (ki
         (ap (λ pc. stood_at pc claim.begun claim) (sym (place_after zero at now steps)), steps.1)
     stayed (suc n) at now none steps = absurd (omega (arith, none))
 
+    -- the claim after them is the first one at that place
     stands_there :
         (n : ℕ) (at : Pc) (before : M)
         → AreSteps (quorums_of layout) (DrawsAndMakes draws makes claim.object) claim.place start n (leads.Go at) before
@@ -156,6 +164,7 @@ module _ {M : Type 0} (layout : Layout) (parts : PartsOf (quorums_of layout) (ki
 -- two chains in a row are one
 module _ {M : Type 0} (layout : Layout) (makes : M → ℕ → ClaimOp → ℕ → M → Type 0) (claim : Claim) (start : M) (m : ℕ)
     (between : Claim) (mid : M) (first : AreClaimSteps layout makes claim start m between mid) where
+  -- accesses after accesses are accesses in a row
   pub joined :
       (n : ℕ) (follows : Claim) (now : M) → AreClaimSteps layout makes between mid n follows now
       → AreClaimSteps layout makes claim start (n + m) follows now

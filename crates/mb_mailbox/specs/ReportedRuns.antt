@@ -19,11 +19,12 @@ pub record Terms : Type 0 where
   pub budget : ℕ
   pub sources : List Stream
 
+-- the terms of a round whose mailbox has this setup
 abbrev pub terms_of : Setup → ℕ → List Stream → Terms
 terms_of setup budget sources = record { plan = plan_in setup; budget = budget; sources = sources }
 
--- in a mailbox of this plan, workers led from a hub that had issued nothing to this hub: a producer for each list, and
--- a consumer for each source
+-- the run of workers that led to a round's report: in a mailbox of its plan, from a hub that had issued nothing to this
+-- hub, with a producer for each list, and a consumer for each source
 pub record IsReportedRun (may_stop may_pass : Who → ℕ → Type 0) (terms : Terms) (lists : List (List ℕ))
     (hs : Histories) (r : ReportView) : Type 0 where
   pub mailbox : MailboxView

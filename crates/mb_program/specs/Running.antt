@@ -20,11 +20,11 @@ use Rattle.mb_program.specs.declared.fault.RunFault.TheVariants.{BadSetup, Write
 use Rattle.mb_program.specs.declared.options.Options.{Options}
 
 -- ---- the mailbox that the options ask for
--- why it is refused, if it is. It has a cell for each item
+-- why the mailbox is refused, if it is. It has a cell for each item
 abbrev pub setup_refused : Options → Option SetupFault
 setup_refused o = setup_refusal o.producers o.consumers (o.producers * o.items) o.pairs
 
--- what it is made of. Its cells have the shape that is asked for
+-- what the mailbox is made of. Its cells have the shape that is asked for
 abbrev pub plan_asked : Options → Plan
 plan_asked o = shaped_plan o.shape o.producers o.consumers (o.producers * o.items) o.pairs Bits
 
@@ -34,21 +34,21 @@ pub record AreFew (o : Options) : Type 0 where
   pub consumers : o.consumers ≤ 64
   pub items : o.items ≤ 256
 
--- ---- the items
+-- ---- the items that producers put
 -- what producer p puts, in order
 abbrev pub items_of : ℕ → ℕ → List ℕ
 items_of p count = map (λ i. 1000 * p + i) (range_with_len 0 count)
 
--- what each of the producers puts
+-- the lists of all producers
 abbrev pub item_lists : ℕ → ℕ → List (List ℕ)
 item_lists producers count = map (λ p. items_of p count) (range_with_len 0 producers)
 
--- ---- the random words
--- those of each consumer's source, from its beginning
+-- ---- the random words that are drawn
+-- the words of each consumer's source, from its beginning
 abbrev pub words_asked : Options → List Stream
 words_asked o = map (λ c. words_from (source_from o.seed c)) (range_with_len 0 o.consumers)
 
--- ---- the report
+-- ---- the report of a run
 -- lane p has ended, and all items of producer p are put on it
 pub record IsLaneOf (p count : ℕ) (l : LaneView) : Type 0 where
   pub ended : l.ended ≡ true
@@ -83,7 +83,7 @@ pub record IsRunReport (o : Options) (r : ReportView) : Type 0 where
   -- the report is that of the histories, and one assignment agrees with it
   pub report : IsReportOf (plan_asked o) histories r
   pub honest : IsHonest (plan_asked o) histories r
-  -- and they are those of a run of workers that no gate stops
+  -- report and histories are those of a run with the budget and the seed that are asked for, which no gate stops
   pub run : IsReportedRun (λ _ _. ⊥) (λ _ _. Unit {0}) (terms_asked o) (item_lists o.producers o.items) histories r
   -- each producer has put its items, and nothing else
   pub lanes : (p : ℕ) → p < o.producers
@@ -97,7 +97,8 @@ pub record IsRunReport (o : Options) (r : ReportView) : Type 0 where
 abbrev pub IsRunText : Options → List ℕ → Type 0
 IsRunText o text = (r : ReportView) × IsRunReport o r × (text ≡ report_text r)
 
--- ---- one call, with its writer before it and after it
+-- ---- a call of the command
+-- one call of the command `run` has this result, with its writer before it and after it
 pub record IsRun {X W : Type 0} (o : Options) (sink : IoModel W) (writer writer' : W)
     (result : Result X RunFault) : Type 0 where
   -- the text of such a report was written, and nothing else
@@ -108,7 +109,7 @@ pub record IsRun {X W : Type 0} (o : Options) (sink : IoModel W) (writer writer'
   -- a failed write comes exactly if the writer failed in this call, and it failed once
   pub write_failed : result ≡ Err WriteFault → sink.failures writer' ≡ one_more (sink.failures writer)
   pub write_worked : result ≢ Err WriteFault → sink.failures writer' ≡ sink.failures writer
-  -- after it a prefix of such a text was written, after any other fault nothing
+  -- after a failed write a prefix of such a text was written, after any other fault nothing
   pub front : result ≡ Err WriteFault →
       (text : List ℕ) × IsRunText o text × AppendsFront (sink.bytes writer) (sink.bytes writer') text
   pub untouched : IfErr result (λ e. e ≢ WriteFault → writer' ≡ writer)

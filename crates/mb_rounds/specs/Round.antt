@@ -43,15 +43,15 @@ abbrev pub ledgers_of : ℕ → ReportView → List (List ℕ)
 ledgers_of zero r = []
 ledgers_of (suc n) r = ledgers_of n r ++ taken_below (length r.lanes) n r ∷ []
 
--- for each lane the items that nobody took, and then those of its list that were not put
+-- the items that stay: for each lane those that nobody took, and then those of its list that were not put
 abbrev pub staying : List (List ℕ) → List LaneView → List ℕ
 staying [] _ = []
 staying _ [] = []
 staying (list ∷ lists) (lane ∷ lanes) = (lane.left ++ drop (length lane.put) list) ++ staying lists lanes
 
--- the oldest of the items carried, at most as many as there are cells, were dealt to the producers. They went into a
--- mailbox of these terms. What each consumer took there is given out. What nobody took or nobody put is carried, before
--- what was not dealt
+-- one round: the oldest of the items carried, as many as there are cells if there are so many, were dealt to the
+-- producers. They went into a mailbox of these terms. What each consumer took there is given out. What nobody took or
+-- nobody put is carried, before what was not dealt
 pub record IsRound (may_stop may_pass : Who → ℕ → Type 0) (terms : Terms) (was : List ℕ)
     (taken : List (List ℕ)) (r : ReportView)
     (now : List ℕ) : Type 0 where

@@ -23,21 +23,21 @@ use Rattle.mb_world.specs.Places.{place_after}
 use Rattle.mb_world.specs.EventSteps.{EventAdds, HasPlace, with_note_if, with_place, with_words}
 use Rattle.mb_world.proofs.NewWorlds.{position_within}
 
--- a claim that ends leaves its cell
+-- a claim that ends with a note leaves its cell
 past_cell : (k : ℕ) (now : Claim) (z : Stage) (n : Note) → note_of z ≡ Some n → place_after k now z ≡ Before (Past k)
 past_cell k now stage.Going n e = absurd (cc)
 past_cell k now stage.Won n e = absurd (cc)
 past_cell k now (stage.Lost w) n e = refl
 past_cell k now stage.Undecided n e = refl
 
--- another stays there
+-- a claim without a note stays at its cell
 at_cell : (k : ℕ) (now : Claim) (z : Stage) → note_of z ≡ None → place_after k now z ≡ At k now
 at_cell k now stage.Going e = refl
 at_cell k now stage.Won e = refl
 at_cell k now (stage.Lost w) e = absurd (cc)
 at_cell k now stage.Undecided e = absurd (cc)
 
--- a place that is read is the consumer's there
+-- a place that is read at the position of consumer c and lane p is that of the consumer there
 pub place_found : (s : WorldState) (h : WorldHistory) → IsWorldAfter h s → (c p lanes : ℕ)
     → c < consumers_of (plan_in s.setup) → p < (plan_in s.setup).lanes → lanes ≡ (plan_in s.setup).lanes → (d : Place)
     → d ≡ get_or s.places (c * lanes + p) d → HasPlace c p d s
@@ -66,18 +66,20 @@ module _ (s : WorldState) (h : WorldHistory) (c p word k object : ℕ) (act : Ac
     (adds : EventAdds (event.Step c p word) (answer.Claimed k object act (claim_stage now))
     (with_note_if c k (note_of (claim_stage now))
     (with_place c p (place_after k now (claim_stage now)) (with_words words s))) h) where
+  -- the step adds the state with these places and notes, and with the words that the access left
   abbrev Adds : List Place → List (Option Note) → Type 0
   Adds places notes =
       EventAdds (event.Step c p word) (answer.Claimed k object act z)
       (record { setup = s.setup; pool = s.pool; words = words; places = places; notes = notes }) h
 
+  -- the state as the step leaves it, for a stage that equals that of the claim now
   by_stage : EventAdds (event.Step c p word) (answer.Claimed k object act z)
       (with_note_if c k (note_of z) (with_place c p (place_after k now z) (with_words words s))) h
   by_stage =
       subst (λ (y : Stage). EventAdds (event.Step c p word) (answer.Claimed k object act y)
       (with_note_if c k (note_of y) (with_place c p (place_after k now y) (with_words words s))) h) (sym stage_is) adds
 
-  -- with its place and its note
+  -- the step's stage gives this note and this place
   by_note : (o : Option Note) (d : Place) → note_of z ≡ o → place_after k now z ≡ d
       → EventAdds (event.Step c p word) (answer.Claimed k object act z)
       (with_note_if c k o (with_place c p d (with_words words s))) h
@@ -87,7 +89,7 @@ module _ (s : WorldState) (h : WorldHistory) (c p word k object : ℕ) (act : Ac
       (subst (λ (e : Place). EventAdds (event.Step c p word) (answer.Claimed k object act z)
       (with_note_if c k (note_of z) (with_place c p e (with_words words s))) h) at by_stage)
 
-  -- the claim was changed where it stands, and then left
+  -- the claim was changed where it stands, and then left with its note
   pub noted : (o : Option Note) (n : Note) → o ≡ note_of z → o ≡ Some n
       → Adds (slice_set (slice_set s.places (c * lanes + p) (At cell now)) (c * lanes + p) (Before (Past k)))
       (slice_set s.notes (c * cells + k) (Some n))
@@ -101,7 +103,7 @@ module _ (s : WorldState) (h : WorldHistory) (c p word k object : ℕ) (act : Ac
       )
       (by_note (Some n) (Before (Past k)) note (past_cell k now z n note))
 
-  -- or it goes on
+  -- the claim was changed where it stands, and has no note
   pub unnoted : (o : Option Note) → o ≡ note_of z → ((n : Note) → o ≡ Some n → ⊥)
       → Adds (slice_set s.places (c * lanes + p) (At cell now)) s.notes
   unnoted None is none =

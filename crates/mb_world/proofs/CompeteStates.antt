@@ -37,15 +37,19 @@ module _ (s : WorldState) (h : WorldHistory) (is : IsWorldAfter h s) (c p : ℕ)
     (keeps : consumer_of now ≡ consumer_of claim)
     (made : IsClaimOn (layout_of s.setup) (plan s h is).claims.cells k now words
     (claim_access claim k x ∷ claim_accesses h)) where
+  -- what the seat of a consumer that holds this claim says
   abbrev at : AtCell s h is c p cs ps known k claim here
   at = at_cell s h is c p cs ps known k claim here
 
+  -- the access, as one of the world
   abbrev a : WorldAccess
   a = claim_step c k x
 
+  -- the access, as one to the claims
   abbrev step : ClaimAccess
   step = path.claim_access c k x
 
+  -- the words are those that the longer history of the claims leaves
   memory : IsMemoryOf (plan s h is).claims words (claim_accesses (a ∷ h))
   memory =
       subst (λ (i : ℕ). IsMemoryOf (plan s h is).claims words (path.claim_access i k x ∷ claim_accesses h)) at.own
@@ -57,39 +61,45 @@ module _ (s : WorldState) (h : WorldHistory) (is : IsWorldAfter h s) (c p : ℕ)
       part-own c k step (claim_accesses h) refl refl
       ∙ ap (λ xs. x ∷ xs) (part_is s h is c p cs ps known k claim here)
 
+  -- the claim is still the consumer's
   own_now : consumer_of now ≡ c
   own_now = keeps ∙ at.own
 
+  -- the claim has made the consumer's steps, with this one
   is_in : IsClaimIn (layout_of s.setup) now (x ∷ at.steps)
   is_in =
       subst (λ (xs : List ObjectTurn). IsClaimIn (layout_of s.setup) now xs)
       (ap (λ (i : ℕ). part_on i k (claim_access claim k x ∷ claim_accesses h)) own_now
       ∙ (ap (λ (i : ℕ). part_on c k (path.claim_access i k x ∷ claim_accesses h)) at.own ∙ part_now)) made.standing
 
+  -- with this step, the consumer's steps are a prefix of its claim path
   prefix_now : (r : Stage) → claim_stage now ≡ r → IsClaimPrefix (plan s h is).claims c (x ∷ at.steps) r
   prefix_now r e =
       subst (λ (z : Stage). IsClaimPrefix (plan s h is).claims c (x ∷ at.steps) z) e
       (subst (λ (i : ℕ). IsClaimPrefix (plan s h is).claims i (x ∷ at.steps) (claim_stage now)) own_now is_in.prefix)
 
+  -- the access is true to memory, and of words
   truth : IsTrueTo a h
   truth = (memory.lawful.words.0, memory.lawful.memory.0)
 
-  -- its stage by its part, before the step and after it
+  -- by the consumer's part, the claim goes on before the step
   was_going : IsClaimPrefix (plan s h is).claims c (claim_part c k (claim_accesses h)) stage.Going
   was_going =
       subst (λ xs. IsClaimPrefix (plan s h is).claims c xs stage.Going)
       (sym (part_is s h is c p cs ps known k claim here)) (prefix s h is c p cs ps known k claim here stage.Going going)
 
+  -- by that part, its stage after the step is that of the claim as it is now
   is_now : (r : Stage) → claim_stage now ≡ r
       → IsClaimPrefix (plan s h is).claims c (claim_part c k (claim_accesses (a ∷ h))) r
   is_now r e = subst (λ xs. IsClaimPrefix (plan s h is).claims c xs r) (sym part_now) (prefix_now r e)
 
+  -- the consumer's part on the cell has one stage
   one_stage : (g : WorldHistory) (z r : Stage)
       → IsClaimPrefix (plan s h is).claims c (claim_part c k (claim_accesses g)) z
       → IsClaimPrefix (plan s h is).claims c (claim_part c k (claim_accesses g)) r → z ≡ r
   one_stage g z r = known.world.stage c (claim_part c k (claim_accesses g)) z r
 
-  -- where it has no end then, no claim's end changes
+  -- if the claim has not ended after the step, every claim's end is as before
   ends_stay : ((n : Note) → Ends (plan s h is).claims (a ∷ h) c k n → ⊥) → (e j : ℕ) (n : Note)
       → Ends (plan s h is).claims h e j n ↔ Ends (plan s h is).claims (a ∷ h) e j n
   ends_stay still e j n = by (cases_eq e c) (cases_eq j k)
@@ -108,14 +118,16 @@ module _ (s : WorldState) (h : WorldHistory) (is : IsWorldAfter h s) (c p : ℕ)
       by (inr m) g = step_keeps (plan s h is).claims c h k x e j n (λ f _. m f)
       by (inl f) (inr m) = step_keeps (plan s h is).claims c h k x e j n (λ _ g. m g)
 
-  -- the state, where the path goes on and the notes are these
+  -- the state after the step, if the path goes on to these cells, notes and claim
   module _ (r : Stage) (stage_is : claim_stage now ≡ r) (word : ℕ) (random : x.turn.word ≡ word)
       (ks : List ℕ) (ns : List Note) (held : Option (List ObjectTurn)) (d : Place)
       (next : ConsumerPath (plan s h is).claims c p (a ∷ lane_part c p h) ks ns held)
       (placed : IsPlaceAt (layout_of s.setup) c p ks held d) where
+    -- what the access adds to the history
     pub adds : ConsumerAdds (plan s h is) c p a h
     adds = known.goes a ks ns held truth next
 
+    -- the event adds the state with the consumer's seat and these notes
     claim_adds : (notes : List (Option Note)) → length notes ≡ consumers_of (plan s h is) * (plan s h is).claims.cells
         → AreNotes s h is (a ∷ h) notes
         → EventAdds (event.Step c p word) (answer.Claimed k x.object x.turn.act r)
@@ -144,11 +156,13 @@ module _ (s : WorldState) (h : WorldHistory) (is : IsWorldAfter h s) (c p : ℕ)
           are_notes;
     }
 
+    -- if the claim has not ended, the notes stay as they are
     pub keeps_notes : ((n : Note) → Ends (plan s h is).claims (a ∷ h) c k n → ⊥)
         → EventAdds (event.Step c p word) (answer.Claimed k x.object x.turn.act r)
         (with_place c p d (record s { words = words })) h
     keeps_notes still = claim_adds s.notes is.notes_count (notes_kept s h is c p cs ps a adds (ends_stay still))
 
+    -- if the claim has ended with a note, that is the one note which is written
     pub sets_note : (n : Note) → Ends (plan s h is).claims (a ∷ h) c k n
         → ((m : Note) → Ends (plan s h is).claims (a ∷ h) c k m → n ≡ m)
         → EventAdds (event.Step c p word) (answer.Claimed k x.object x.turn.act r)
@@ -159,6 +173,7 @@ module _ (s : WorldState) (h : WorldHistory) (is : IsWorldAfter h s) (c p : ℕ)
         (notes_set s h is c p cs ps a adds k (below s h is c p cs ps known k claim here) n end only
         (λ e j m other. step_keeps (plan s h is).claims c h k x e j m other))
 
+  -- the state after the step, by the stage of the claim
   pub competed : (r : Stage) → claim_stage now ≡ r → (word : ℕ) → x.turn.word ≡ word
       → EventAdds (event.Step c p word) (answer.Claimed k x.object x.turn.act r)
       (with_note_if c k (note_of r) (with_place c p (place_after k now r) (record s { words = words }))) h

@@ -25,7 +25,7 @@ values_length p pool =
     length-map (put_list p pool) (λ (e : Entry). e.value)
     ∙ (length-reverse (map (entry_of items) (linked_cells p pool)) ∙ length-map (linked_cells p pool) (entry_of items))
 
--- and each stands at the position of its cell
+-- each value stands at the position of its cell
 value_at : (p j k : ℕ) (pool : History) → StandsAt (linked_cells p pool) j k
     → slice_get (values_put p pool) j ≡ Some (item_of k pool)
 value_at p j k pool at =
@@ -33,12 +33,15 @@ value_at p j k pool at =
     ∙ ap (option_map (λ (e : Entry). e.value)) (mapped_at (entry_of (λ i. item_of i pool)) (linked_cells p pool) j k at)
 
 module _ (plan : Plan) (hs : Histories) (known : Known plan hs) where
+  -- the claim of consumer c on cell k has ended so
   abbrev Ends : ℕ → ℕ → Note → Type 0
   Ends c k n = EndsAs plan.claims c k n (parts_of c hs)
 
+  -- the claim of consumer c on cell k has this stage
   abbrev Comes : ℕ → ℕ → Stage → Type 0
   Comes c k s = HasStageIn plan.claims c k s (parts_of c hs)
 
+  -- a claim has one stage
   one_stage : (c k : ℕ) (s r : Stage) → Comes c k s → Comes c k r → s ≡ r
   one_stage c k s r = known.stage c (claim_part c k hs.claims) s r
 
@@ -48,7 +51,7 @@ module _ (plan : Plan) (hs : Histories) (known : Known plan hs) where
   going_on c k going (Lost w) end = let e = one_stage c k stage.Going (stage.Lost w) going end in cc
   going_on c k going Undecided end = let e = one_stage c k stage.Going stage.Undecided going end in cc
 
-  -- nor has one that is won before the item is loaded
+  -- a claim that is won has no end before the item is loaded
   not_taken : (c k : ℕ) → Comes c k stage.Won → ((v : ℕ) → HasRead (Item k) v (parts_of c hs).reads → ⊥)
       → (n : Note) → Ends c k n → ⊥
   not_taken c k won never (Took v) end = never v end.1
@@ -68,7 +71,7 @@ module _ (plan : Plan) (hs : Histories) (known : Known plan hs) where
       by_stage (stage.Lost w) q = inl (Lost w, q)
       by_stage stage.Undecided q = inl (Undecided, q)
 
-  -- past a cell its claim has ended
+  -- a consumer that loaded a cell's link has ended its claim there
   ended_past : (c k v : ℕ) → c < consumers_of plan → HasLoaded (hs.reader_of c) (Link k) v hs.pool
       → (n : Note) × Ends c k n
   ended_past c k v cs loaded = by_stage (fit.ended k v read).0 (fit.ended k v read).1 (fit.ended k v read).2

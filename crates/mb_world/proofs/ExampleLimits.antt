@@ -25,7 +25,7 @@ module _ (one_stage : (c : ℕ) (xs : List ObjectTurn) (s r : Stage) → IsClaim
     → IsClaimPrefix two_cells c xs r → s ≡ r)
     (going : (c : ℕ) (x : ObjectTurn) (xs : List ObjectTurn) (s : Stage) → IsClaimPrefix two_cells c (x ∷ xs) s
     → IsClaimPrefix two_cells c xs stage.Going) where
-  -- an access to which the place of its consumer on its lane does not lead
+  -- an access to which the place of its consumer on its lane does not lead may not follow
   pub not_next : (c p : ℕ) → c < 2 → p < 2 → (a : WorldAccess) (h : WorldHistory)
       → lane_part c p (a ∷ h) ≡ a ∷ lane_part c p h → (was : PathEnd)
       → ConsumerPath two_cells c p (lane_part c p h) was.cells was.notes was.held
@@ -45,7 +45,7 @@ module _ (one_stage : (c : ℕ) (xs : List ObjectTurn) (s r : Stage) → IsClaim
   no_item c p k v ks ns now (last.waited js ms u says e) = item_is_no_link c p k v u ks e
   no_item c p k v ks ns now (last.found js ms j ne new e) = item_is_no_link c p k v (j + 1) ks e
 
-  -- nor from a claim that goes on
+  -- from a claim that goes on no item is loaded
   pub no_item_yet : (c p k v : ℕ) (ks : List ℕ) (ns : List Note) (xs : List ObjectTurn)
       → IsClaimPrefix two_cells c xs stage.Going → (now : PathEnd)
       → Leads two_cells c p (item_load c k v) (path_end ks ns (Some xs)) now → ⊥
@@ -60,7 +60,7 @@ module _ (one_stage : (c : ℕ) (xs : List ObjectTurn) (s r : Stage) → IsClaim
   no_step c p k x ks ns now (last.waited js ms u says e) = cc
   no_step c p k x ks ns now (last.found js ms j ne new e) = cc
 
-  -- and from a claim no link is loaded
+  -- from a claim no link is loaded
   pub no_link : (c p k v : ℕ) (ks : List ℕ) (ns : List Note) (xs : List ObjectTurn) (now : PathEnd)
       → Leads two_cells c p (link_load c p (k ∷ ks) v) (path_end (k ∷ ks) ns (Some xs)) now → ⊥
   no_link c p k v ks ns xs now (last.went is ms i ys x s w still e) = cc
@@ -79,7 +79,7 @@ not_on zero ps e = cc
 not_on (suc zero) ps e = cc
 not_on (suc (suc p)) ps e = omega (arith, ps)
 
--- and no access is to the head of a lane that is not there
+-- no access is to the head of a lane that is not there
 pub no_such_lane : IsWorldLawful two_by_two (no_lane ∷ all_done) → ⊥
 no_such_lane lawful =
     let on : IsOnLane two_by_two 0 no_lane (no_lane ∷ all_done) = lawful.no_others 0 no_lane (inl refl) refl in

@@ -34,6 +34,7 @@ module _ (s : WorldState) (h : WorldHistory) (is : IsWorldAfter h s) (c p : ℕ)
     pub own : consumer_of claim ≡ c
     pub is_in : IsClaimIn (layout_of s.setup) claim steps
 
+  -- what the seat says, by the consumer's path
   cell_at : (ks : List ℕ) (ns : List Note) (held : Option (List ObjectTurn))
       → ConsumerPath (plan s h is).claims c p (lane_part c p h) ks ns held
       → IsPlaceAt (layout_of s.setup) c p ks held (At k claim) → AtCell
@@ -50,10 +51,12 @@ module _ (s : WorldState) (h : WorldHistory) (is : IsWorldAfter h s) (c p : ℕ)
     is_in = on.2;
   }
 
+  -- what the seat of this consumer says
   pub at_cell : AtCell
   at_cell =
       let y = place_here s h is c p (At k claim) cs ps here in cell_at y.cells y.notes y.held y.path y.is
 
+  -- the consumer's part on the lane is on a path
   abbrev on_path : IsOnPath (plan s h is) c p h
   on_path = record {
     cells = k ∷ at_cell.cells;
@@ -70,9 +73,11 @@ module _ (s : WorldState) (h : WorldHistory) (is : IsWorldAfter h s) (c p : ℕ)
   pub part_is : claim_part c k (claim_accesses h) ≡ at_cell.steps
   part_is = held_so.0
 
+  -- the cell is one of the pool's
   pub below : k < (plan s h is).claims.cells
   below = held_so.1
 
+  -- the steps are a prefix of the claim path, with the claim's stage
   pub prefix : (r : Stage) → claim_stage claim ≡ r → IsClaimPrefix (plan s h is).claims c at_cell.steps r
   prefix r e =
       subst (λ (z : Stage). IsClaimPrefix (plan s h is).claims c at_cell.steps z) e

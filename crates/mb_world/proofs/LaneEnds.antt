@@ -60,6 +60,7 @@ module _ (plan : Plan) (hs : Histories) (known : Known plan hs) where
       by_word (Item k) link on loaded = absurd link
 
   module _ (c p : ℕ) (cs : c < consumers_of plan) (d : DiaryView) (diary : IsDiaryOf plan c p hs d) where
+    -- so a consumer that has loaded the end mark has a note at each position
     pub ends_noted : (j : ℕ) → HasMetEnd (hs.reader_of c) p hs.pool → j < length (values_put p hs.pool)
         → j < length d.notes
     ends_noted j end inside = noted_there (cases_lt (suc j) (length (linked_cells p hs.pool)))

@@ -13,23 +13,29 @@ pub record PathEnd : Type 0 where
   pub notes : List Note
   pub held : Option (List ObjectTurn)
 
+-- the end of a path with these cells, notes and steps
 abbrev pub path_end : List ℕ → List Note → Option (List ObjectTurn) → PathEnd
 path_end ks ns held = record { cells = ks; notes = ns; held = held }
 
 module _ (cs : Claims) (c p : ℕ) where
   -- the access leads from one place to the next
   pub data Leads (a : WorldAccess) : PathEnd → PathEnd → Type 0 where
+    -- a load of a link that leads to no cell
     waited : (ks : List ℕ) (ns : List Note) (v : ℕ) → (v ≡ 0) ⊎ (v ≡ END) → a ≡ link_load c p ks v
         → Leads a (path_end ks ns None) (path_end ks ns None)
+    -- a load of a link that leads to a cell
     found : (ks : List ℕ) (ns : List Note) (k : ℕ) → k + 1 ≢ END → IsClaimPrefix cs c [] stage.Going
         → a ≡ link_load c p ks (k + 1)
         → Leads a (path_end ks ns None) (path_end (k ∷ ks) ns (Some []))
+    -- a step of the claim, which has no note then
     went : (ks : List ℕ) (ns : List Note) (k : ℕ) (xs : List ObjectTurn) (x : ObjectTurn) (s : Stage)
         → IsClaimPrefix cs c (x ∷ xs) s → note_of s ≡ None → a ≡ claim_step c k x
         → Leads a (path_end (k ∷ ks) ns (Some xs)) (path_end (k ∷ ks) ns (Some (x ∷ xs)))
+    -- the last step of a claim that has a note then
     ended : (ks : List ℕ) (ns : List Note) (k : ℕ) (xs : List ObjectTurn) (x : ObjectTurn) (n : Note) (s : Stage)
         → IsClaimPrefix cs c (x ∷ xs) s → note_of s ≡ Some n → a ≡ claim_step c k x
         → Leads a (path_end (k ∷ ks) ns (Some xs)) (path_end (k ∷ ks) (n ∷ ns) None)
+    -- the load of the item of a claim that is won
     took : (ks : List ℕ) (ns : List Note) (k : ℕ) (xs : List ObjectTurn) (v : ℕ) → IsClaimPrefix cs c xs stage.Won
         → a ≡ item_load c k v
         → Leads a (path_end (k ∷ ks) ns (Some xs)) (path_end (k ∷ ks) (Took v ∷ ns) None)

@@ -21,7 +21,7 @@ use Rattle.mb_world.proofs.WorldClaims.{met_all}
 
 module _ (s : WorldState) (h : WorldHistory) (is : IsWorldAfter h s) (c p : ℕ) (cs : c < consumers_of (plan s h is))
     (ps : p < (plan s h is).lanes) (known : StepKnown s h c p) where
-  -- it was given each cell that it met
+  -- the consumer was given each cell that it met
   pub given : (ks : List ℕ) (ns : List Note) (held : Option (List ObjectTurn))
       → ConsumerPath (plan s h is).claims c p (lane_part c p h) ks ns held → (k : ℕ) → Has ks k
       → Gave k (part (Reader c) (pool_accesses h))
@@ -35,22 +35,27 @@ module _ (s : WorldState) (h : WorldHistory) (is : IsWorldAfter h s) (c p : ℕ)
     abbrev pub found : ℕ
     found = value_in w (pool_accesses h)
 
+    -- the load, as an access of the world
     abbrev pub loaded : WorldAccess
     loaded = ToCells (load c w found)
 
+    -- the load leaves the pool as it is
     pool_after : IsAfter (load c w found ∷ pool_accesses h) s.pool
     pool_after =
         known.stays w (pool_accesses h) c is.pool
         (subst (λ (n : ℕ). MayRead n w (part (Reader c) (pool_accesses h))) (sym is.lanes) may)
 
+    -- the load is true to memory
     truth : IsTrueTo loaded h
     truth = (pool_after.lawful.fits.0, refl)
 
     module _ (ks : List ℕ) (ns : List Note) (held : Option (List ObjectTurn))
         (next : ConsumerPath (plan s h is).claims c p (loaded ∷ lane_part c p h) ks ns held) where
+      -- what the load adds to the history
       pub adds : ConsumerAdds (plan s h is) c p loaded h
       adds = known.goes loaded ks ns held truth next
 
+      -- the event adds the state with these places and notes, and with the pool and the words as they are
       pub load_adds : (word : ℕ) (r : Answer) (places : List Place) (notes : List (Option Note))
           → answer_to (plan s h is).claims.cells w (Load found) ≡ Some r
           → length places ≡ length s.places → ArePlaces s h is (loaded ∷ h) places

@@ -31,8 +31,8 @@ use Rattle.mb_world.proofs.StateSteps.{AreNotes, notes_kept, own_place, plan, pl
 use Rattle.mb_world.proofs.StepKnown.{StepKnown}
 use Rattle.mb_world.proofs.WorldClaims.{on_lane}
 
--- ---- what a link tells
--- no cell
+-- ---- what the value of a link tells
+-- a link that leads to no cell holds 0 or the end mark
 pub none_told : (v : ℕ) → ((k : ℕ) → look_of v ≡ look.Cell k → ⊥) → (v ≡ 0) ⊎ (v ≡ END)
 none_told v other = by (nat_eq v 0) (nat_eq v END) refl refl
   where
@@ -41,7 +41,7 @@ none_told v other = by (nat_eq v 0) (nat_eq v END) refl refl
     by false true e f = inr (eqb-true v END f)
     by false false e f = absurd (other (v - 1) (rw (e, f) refl))
 
--- this cell
+-- a link that leads to cell k holds k + 1, and that is no end mark
 pub cell_told : (v k : ℕ) → look_of v ≡ look.Cell k → (v ≡ k + 1) × (k + 1 ≢ END)
 cell_told v k tells = by (nat_eq v 0) (nat_eq v END) refl refl tells
   where
@@ -56,10 +56,12 @@ cell_told v k tells = by (nat_eq v 0) (nat_eq v END) refl refl tells
         let more : v ≡ k + 1 = omega (arith, same, some) in
         (more, λ g. no_end (more ∙ g))
 
+-- the answer that names a load at a cursor is what the value tells
 told : (cells : ℕ) (at : Cursor) (v : ℕ) → answer_to cells (word_of at) (Load v) ≡ Some (answer.Looked (look_of v))
 told cells (cursor.Head q) v = refl
 told cells (cursor.Past q) v = refl
 
+-- a cursor stands at no item word
 not_item : (at : Cursor) (k : ℕ) → word_of at ≡ Item k → ⊥
 not_item (cursor.Head q) k e = cc
 not_item (cursor.Past q) k e = cc
@@ -81,11 +83,12 @@ module _ (s : WorldState) (h : WorldHistory) (is : IsWorldAfter h s) (c p : ℕ)
   link_at [] ns (Some xs) path on = absurd on
   link_at (k ∷ ks) ns (Some xs) path on = absurd on
 
+  -- what this place says
   at_link : AtLink
   at_link =
       let y = place_here s h is c p (Before at) cs ps here in link_at y.cells y.notes y.held y.path y.is
 
-  -- which is one of the pool's
+  -- the link is a word of the pool
   within_by : (ks : List ℕ) (ns : List Note) (it : Cursor)
       → ConsumerPath (plan s h is).claims c p (lane_part c p h) ks ns None → word_of it ≡ place_past p ks
       → IsWithin it s.pool
@@ -103,19 +106,23 @@ module _ (s : WorldState) (h : WorldHistory) (is : IsWorldAfter h s) (c p : ℕ)
   pub within : IsWithin at s.pool
   within = within_by at_link.cells at_link.notes at at_link.path at_link.word
 
+  -- a consumer that was given these cells may load the link past them
   may_past : (ks : List ℕ) → ((k : ℕ) → Has ks k → Gave k (part (Reader c) (pool_accesses h)))
       → MayRead (plan s h is).lanes (place_past p ks) (part (Reader c) (pool_accesses h))
   may_past [] gave = ps
   may_past (k ∷ ks) gave = gave k (inl refl)
 
+  -- the consumer may load the word at the cursor
   may : MayRead (plan s h is).lanes (word_of at) (part (Reader c) (pool_accesses h))
   may =
       subst (λ (w : Word). MayRead (plan s h is).lanes w (part (Reader c) (pool_accesses h))) (sym at_link.word)
       (may_past at_link.cells (given s h is c p cs ps known at_link.cells at_link.notes None at_link.path))
 
+  -- what the word holds
   abbrev v : ℕ
   v = value_in (word_of at) (pool_accesses h)
 
+  -- the load of that word
   abbrev a : WorldAccess
   a = loaded s h is c p cs ps known (word_of at) may
 
@@ -158,7 +165,7 @@ module _ (s : WorldState) (h : WorldHistory) (is : IsWorldAfter h s) (c p : ℕ)
       (refl, own, fresh)))
       refl (notes_stay (Some []) (k ∷ at_link.cells) next)
 
-  -- it leads to none
+  -- the link leads to no cell
   pub looked_in_vain : (word : ℕ) (z : Look) → look_of v ≡ z → ((k : ℕ) → z ≡ look.Cell k → ⊥)
       → EventAdds (event.Step c p word) (answer.Looked z) s h
   looked_in_vain word z tells none =

@@ -47,6 +47,7 @@ module _ (setup : Setup)
   no_end c k cs (Lost w) e = let d = one_stage c (stage.Lost w) stage.Going e (fresh c cs) in cc
   no_end c k cs Undecided e = let d = one_stage c stage.Undecided stage.Going e (fresh c cs) in cc
 
+  -- a world of zeros, with all consumers at the heads and without a note, is what the empty history leaves
   pub empty_after : (pool : PoolState) (words : List ℕ) (places : List Place) (notes : List (Option Note))
       → IsWorldLawful (plan_in setup) []
       → lane_count pool ≡ (plan_in setup).lanes → cell_count pool ≡ (plan_in setup).claims.cells

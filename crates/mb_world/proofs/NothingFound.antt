@@ -1,4 +1,4 @@
--- A step of a consumer that finds nothing.
+-- A step of a consumer finds nothing exactly if it has met all cells and the lane goes on.
 use Rattle.std.proofs.Common.{◌≡◌, ◌⊎◌, ℕ, ◌+◌, ◌-◌, ◌<◌, Bool, true, false, cond, List, [], ◌∷◌, ◌++◌, Option, Some, None, refl, sym, ◌∙◌, ap, subst, inl, inr, arith}
 use Rattle.std.specs.Prelude.{filter, nat_eq}
 use Rattle.std.proofs.lemmas.Bool.{eqb-true}
@@ -22,7 +22,7 @@ use Rattle.mb_world.proofs.LastAccess.{CameFrom, Leads, PathEnd, came_from, ende
 use Rattle.mb_world.proofs.WorldClaims.{met_all}
 use Rattle.mb_world.proofs.WorldKnown.{WorldKnown}
 
--- only 0 tells that nothing is there yet
+-- only the value 0 tells that nothing is there yet
 nothing_told : (v : ℕ) → look_of v ≡ look.Nothing → v ≡ 0
 nothing_told v tells = by (nat_eq v 0) (nat_eq v END) refl tells
   where
@@ -32,7 +32,7 @@ nothing_told v tells = by (nat_eq v 0) (nat_eq v END) refl tells
     by false true e h = absurd (cc)
     by false false e h = absurd (cc)
 
--- a load of the link past cells is answered by what it tells
+-- the answer to a load of the link past cells is what the value tells
 link_answer : (cells p : ℕ) (ks : List ℕ) (v : ℕ)
     → answer_to cells (place_past p ks) (Load v) ≡ Some (answer.Looked (look_of v))
 link_answer cells p [] v = refl
@@ -61,6 +61,7 @@ module _ (plan : Plan) (h : WorldHistory) (lawful : IsWorldLawful plan h) (known
       ap (λ (ls : List ℕ). filter (is_on c p ls) (x ∷ h)) (linked_same c p x h own)
       ∙ ap (λ (b : Bool). cond b (x ∷ lane_part c p h) (lane_part c p h)) on
 
+  -- an access of the consumer on the lane comes from a place and leads to one
   last : (x : WorldAccess) → IsBy c x → is_on c p (linked_cells p (pool_accesses h)) x ≡ true
       → (longer : IsWorldLawful plan (x ∷ h)) → c < consumers_of plan → p < plan.lanes
       → (now : PathEnd) × CameFrom plan.claims c p x (lane_part c p h) now
@@ -72,10 +73,12 @@ module _ (plan : Plan) (h : WorldHistory) (lawful : IsWorldLawful plan h) (known
             (front x own on) y.path),
       )
 
+  -- a load of a link found what the link held
   loaded : (x : WorldAccess) → IsWorldLawful plan (x ∷ h) → (ks : List ℕ) (v : ℕ) → x ≡ link_load c p ks v
       → v ≡ value_in (place_past p ks) (pool_accesses h)
   loaded x longer ks v e = (subst (λ y. IsWorldLawful plan (y ∷ h)) e longer).cells_memory.0
 
+  -- the answer that names a load of a link is what its value tells
   answered : (x : WorldAccess) (r : Answer) → AnswerNames plan r x h → (ks : List ℕ) (v : ℕ) → x ≡ link_load c p ks v
       → r ≡ answer.Looked (look_of v)
   answered x r names ks v e =
@@ -84,7 +87,8 @@ module _ (plan : Plan) (h : WorldHistory) (lawful : IsWorldLawful plan h) (known
       let both : Some r ≡ Some (answer.Looked (look_of v)) = sym named ∙ link_answer plan.claims.cells p ks v in
       cc
 
-  -- ---- where nothing is found, all was met and the lane goes on
+  -- ---- if nothing is found, all was met and the lane goes on
+  -- if the link past these cells holds 0, they are all of the lane, which has not ended
   all_met : (ks : List ℕ) → IsStart ks (linked_cells p (pool_accesses h))
       → value_in (place_past p ks) (pool_accesses h) ≡ 0
       → (ks ≡ linked_cells p (pool_accesses h)) × (has_ended p (pool_accesses h) ≡ false)
@@ -108,6 +112,7 @@ module _ (plan : Plan) (h : WorldHistory) (lawful : IsWorldLawful plan h) (known
           let more = next p y ys ks split in
           absurd (omega (arith, more, zero))
 
+  -- an access whose answer is that nothing is found waits past all cells
   waits_there : {was now : PathEnd} (x : WorldAccess) (r : Answer) → IsWorldLawful plan (x ∷ h) → AnswerNames plan r x h
       → r ≡ answer.Looked look.Nothing → c < consumers_of plan → p < plan.lanes
       → ConsumerPath plan.claims c p (lane_part c p h) was.cells was.notes was.held
@@ -142,6 +147,7 @@ module _ (plan : Plan) (h : WorldHistory) (lawful : IsWorldLawful plan h) (known
       let other : answer.Took k v ≡ r = cc in
       let both = other ∙ is in absurd (cc)
 
+  -- if a step's answer is that nothing is found, there is nothing
   pub nothing_there : (r : Answer) (a : Option WorldAccess) → IsEntry plan (event.Step c p word) r a h
       → r ≡ answer.Looked look.Nothing → HasNothing plan c p h
   nothing_there r None (inl (past, e)) is = let other = sym e ∙ is in absurd (cc)
@@ -154,10 +160,11 @@ module _ (plan : Plan) (h : WorldHistory) (lawful : IsWorldLawful plan h) (known
       let l = last x own on longer there.known ps in
       waits_there x r longer names is there.known ps l.1.path l.1.leads
 
-  -- ---- and where all was met and the lane goes on, nothing is found
+  -- ---- if all was met and the lane goes on, nothing is found
   module _ (one_place : (js : List ℕ) (ms : List Note) (held : Option (List ObjectTurn))
       → ConsumerPath plan.claims c p (lane_part c p h) js ms held → (ks : List ℕ) (ns : List Note)
       → ConsumerPath plan.claims c p (lane_part c p h) ks ns None → (js ≡ ks) × (ms ≡ ns) × (held ≡ None)) where
+    -- if there is nothing, the answer to each access of the consumer there says so
     finds_none : {was now : PathEnd} (x : WorldAccess) (r : Answer) → IsWorldLawful plan (x ∷ h) → AnswerNames plan r x h
         → HasNothing plan c p h
         → ConsumerPath plan.claims c p (lane_part c p h) was.cells was.notes was.held
@@ -182,6 +189,7 @@ module _ (plan : Plan) (h : WorldHistory) (lawful : IsWorldLawful plan h) (known
         by (ended ks ns k xs y n s q note e) same none = absurd (cc)
         by (took ks ns k xs v won e) same none = absurd (cc)
 
+    -- if there is nothing, a step's answer says so
     pub nothing_found : (r : Answer) (a : Option WorldAccess) → IsEntry plan (event.Step c p word) r a h
         → HasNothing plan c p h → r ≡ answer.Looked look.Nothing
     nothing_found r None (inl (past, e)) f = absurd (omega (arith, past, f.lane))

@@ -14,6 +14,7 @@ act_value (Load v) = v
 act_value (Store v) = 0
 act_value (FetchAdd x n) = 0
 
+-- the value of a world's access, if it is a load
 abbrev value_of : WorldAccess → ℕ
 value_of (ToCells a) = act_value a.act
 value_of (ToClaims a) = 0
@@ -32,10 +33,12 @@ module _ (cs : Claims) (c p : ℕ) where
     not_cell v k (inl e) ne f = absurd (omega (arith, e, f))
     not_cell v k (inr e) ne f = ne (sym f ∙ e)
 
+    -- a claim that is won makes no more steps
     ended_won : (x : ObjectTurn) (xs : List ObjectTurn) (s : Stage) → IsClaimPrefix cs c (x ∷ xs) s
         → IsClaimPrefix cs c xs stage.Won → ⊥
     ended_won x xs s q won = let e = one_stage xs stage.Going stage.Won (going x xs s q) won in cc
 
+    -- after the same steps a claim has a note or none
     noted_once : (xs : List ObjectTurn) (s r : Stage) (n : Note) → IsClaimPrefix cs c xs s → IsClaimPrefix cs c xs r
         → note_of s ≡ None → note_of r ≡ Some n → ⊥
     noted_once xs s r n q w e f = let same = ap note_of (one_stage xs s r q w) in cc
@@ -88,6 +91,7 @@ module _ (cs : Claims) (c p : ℕ) where
     value_in_load : (w : Word) (v u : ℕ) → ToCells (load c w v) ≡ ToCells (load c w u) → v ≡ u
     value_in_load w v u e = ap value_of e
 
+    -- one access has one step
     step_in : (k : ℕ) (x y : ObjectTurn) → claim_step c k x ≡ claim_step c k y → x ≡ y
     step_in k x y e = let f : claim_access c k x ≡ claim_access c k y = cc in ap (λ (z : ClaimAccess). z.step) f
 
@@ -97,6 +101,7 @@ module _ (cs : Claims) (c p : ℕ) where
       steps = λ k x y e f. step_in k x y (sym e ∙ f);
     }
 
+    -- who has done nothing stands at the head
     at_first : {ks : List ℕ} {ns : List Note} {z : Option (List ObjectTurn)} → ConsumerPath cs c p [] ks ns z
         → path_end ks ns z ≡ path_end [] [] None
     at_first begins = refl

@@ -22,7 +22,7 @@ no_diary c xs ys ds past = at_position c xs ys ds ∙ slice_get_past ds c past
 pub not_noted : (c p j : ℕ) (r : ReportView) (n : Note) → diary c p r ≡ None → note c p j r ≡ Some n → ⊥
 not_noted c p j r n none e = let q : slice_get {X = Note} [] j ≡ Some n = rw none at e in cc
 
--- and does not compete
+-- who has no diary does not compete
 pub not_competing : (c p j : ℕ) (r : ReportView) → diary c p r ≡ None → HasCompeted c p j r → ⊥
 not_competing c p j r none (inl h) =
     let e : notes c p r ≡ [] = ap (λ (o : Option DiaryView). option_map_or (λ d. d.notes) o []) none in

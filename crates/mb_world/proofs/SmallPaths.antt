@@ -41,7 +41,7 @@ module _ (one_stage : (xs : List ObjectTurn) (s r : Stage) → IsClaimPrefix two
   abbrev Next : WorldAccess → PathEnd → PathEnd → Type 0
   Next a was now = Leads two_cells 0 0 a was now
 
-  -- ---- where they lead
+  -- ---- where the paths lead
   pub waited_path : Path waited [] [] None
   waited_path = waits (inl refl) begins
 
@@ -109,7 +109,7 @@ module _ (one_stage : (xs : List ObjectTurn) (s r : Stage) → IsClaimPrefix two
       no_path (item_load 0 0 5) begun (path_end (0 ∷ []) [] (Some (first_step ∷ []))) begun_path
       (no_item (first_step ∷ []) first_goes)
 
-  -- nor from a link
+  -- from a link no item is loaded
   no_item_twice : (ks : List ℕ) (ns : List Note) (now : PathEnd) → Next (item_load 0 0 5) (path_end ks ns None) now → ⊥
   no_item_twice ks ns now (last.waited js ms v says e) = item_is_no_link 0 5 v ks e
   no_item_twice ks ns now (last.found js ms k ne new e) = item_is_no_link 0 5 (k + 1) ks e
@@ -157,7 +157,7 @@ module _ (one_stage : (xs : List ObjectTurn) (s r : Stage) → IsClaimPrefix two
   passed_won_none = no_path (link_load 0 0 (0 ∷ []) 0) won (path_end (0 ∷ []) [] (Some won_steps)) won_path
       (no_link 0 won_steps)
 
-  -- from behind a cell the head is not loaded again
+  -- past a cell the head is not loaded again
   no_head : (now : PathEnd) → Next (link_load 0 0 [] 1) (path_end (0 ∷ []) (Took 5 ∷ []) None) now → ⊥
   no_head now (last.waited ks ns v says e) = let f : Head 0 ≡ Link 0 = ap word_of e in cc
   no_head now (last.found ks ns k ne new e) = let f : Head 0 ≡ Link 0 = ap word_of e in cc

@@ -13,7 +13,7 @@ use Rattle.mb_world.specs.StateReport.{AreDiariesTold, AreLanesTold, IsDiaryTold
 use Rattle.mb_world.specs.WorldState.{WorldState}
 use Rattle.mb_world.proofs.Positions.{get-last, get-left}
 
--- what stands after the list
+-- an element put at the end of a list stands at the position past the list
 get_end : {A : Type 0} (xs : List A) (y : A) (i : ℕ) → i ≡ length xs → slice_get (xs ++ y ∷ []) i ≡ Some y
 get_end {A} xs y i e = subst (λ j. slice_get (xs ++ y ∷ []) j ≡ Some y) (sym e) (get-last xs y)
 

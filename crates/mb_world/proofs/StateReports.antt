@@ -39,15 +39,18 @@ use Rattle.mb_world.proofs.WorldKnown.{WorldKnown}
 use mathlib.Core.List.{reverse-cons}
 
 -- ---- lists of cells
+-- a cell of the first list is in both joined
 has_left : (xs ys : List ℕ) (k : ℕ) → Has xs k → Has (xs ++ ys) k
 has_left [] ys k has = absurd has
 has_left (x ∷ xs) ys k (inl e) = inl e
 has_left (x ∷ xs) ys k (inr m) = inr (has_left xs ys k m)
 
+-- a cell of the second list is in both joined
 has_right : (xs ys : List ℕ) (k : ℕ) → Has ys k → Has (xs ++ ys) k
 has_right [] ys k has = has
 has_right (x ∷ xs) ys k has = inr (has_right xs ys k has)
 
+-- what a list with a last element has
 has_last : (xs : List ℕ) (x k : ℕ) → Has (xs ++ x ∷ []) k → Has (x ∷ xs) k
 has_last [] x k has = has
 has_last (y ∷ xs) x k (inl e) = inr (inl e)
@@ -62,7 +65,7 @@ has_of_reverse (x ∷ xs) k has =
       | inr m ↦ inr (has_of_reverse xs k m)
     ]
 
--- where each stands once, none stands in both parts
+-- if each cell stands once in a list, none stands in both of its parts
 once_apart : (xs ys : List ℕ) (k : ℕ) → IsOnceEach (xs ++ ys) → Has xs k → Has ys k → ⊥
 once_apart [] ys k once has there = has
 once_apart (x ∷ xs) ys k once (inl e) there =
@@ -70,11 +73,13 @@ once_apart (x ∷ xs) ys k once (inl e) there =
 once_apart (x ∷ xs) ys k once (inr m) there = once_apart xs ys k once.1 m there
 
 -- ---- the cells that have notes
+-- a cell on which the claim has ended was met
 closed_has : (ks : List ℕ) (z : Option (List ObjectTurn)) (k : ℕ) → Has (closed ks z) k → Has ks k
 closed_has ks None k has = has
 closed_has [] (Some xs) k has = absurd has
 closed_has (q ∷ qs) (Some xs) k has = inr has
 
+-- a cell at a place with a note is one on which the claim has ended
 closed_at : (ks : List ℕ) (z : Option (List ObjectTurn)) (j k : ℕ) → StandsAt ks j k → j < length (closed ks z)
     → Has (closed ks z) k
 closed_at ks None j k at less = at_has ks j k at
@@ -82,23 +87,26 @@ closed_at [] (Some xs) j k at less = absurd at
 closed_at (q ∷ qs) (Some xs) j k (inl at) less = absurd (omega (arith, at.0, less))
 closed_at (q ∷ qs) (Some xs) j k (inr at) less = at_has qs j k at
 
--- the cells linked later than these
+-- the lane's cells are those with notes, and cells linked later
 closed_cut : (ks : List ℕ) (z : Option (List ObjectTurn)) (later ls : List ℕ) → later ++ ks ≡ ls
     → (late : List ℕ) × (late ++ closed ks z ≡ ls)
 closed_cut ks None later ls e = (later, e)
 closed_cut [] (Some xs) later ls e = (later, e)
 closed_cut (q ∷ qs) (Some xs) later ls e = (later ++ q ∷ [], append_assoc later (q ∷ []) qs ∙ e)
 
--- ---- a place of a consumer
+-- ---- whether the claim at a place is begun
+-- a list with an element is not empty
 cons_some : (x : ObjectTurn) (xs : List ObjectTurn) → x ∷ xs ≢ []
 cons_some x xs e = cc
 
+-- a claim is begun exactly if it has steps
 claim_begun : (b : Bool) (xs : List ObjectTurn) → (b ≡ true) ↔ (xs ≢ []) → b ≡ has_begun (Some xs)
 claim_begun true [] w = absurd (w.0 refl refl)
 claim_begun false [] w = refl
 claim_begun true (x ∷ xs) w = refl
 claim_begun false (x ∷ xs) w = w.1 (cons_some x xs)
 
+-- the claim at a place is begun exactly if that of the consumer's path is
 place_begun : (layout : Layout) (c p : ℕ) (ks : List ℕ) (held : Option (List ObjectTurn)) (d : Place)
     → IsPlaceAt layout c p ks held d → has_begun_at d ≡ has_begun held
 place_begun layout c p ks None (Before at) is = refl
@@ -107,10 +115,12 @@ place_begun layout c p [] (Some xs) d is = absurd is
 place_begun layout c p (q ∷ qs) (Some xs) (Before at) is = absurd is
 place_begun layout c p (q ∷ qs) (Some xs) (At k claim) is = claim_begun claim.begun xs is.2.begun
 
--- ---- a lane
+-- ---- a lane, and the place of a diary
+-- the view of a lane that is made of these parts
 abbrev lane_of : List ℕ → Bool → List ℕ → LaneView
 lane_of put ended left = record { put = put; ended = ended; left = left }
 
+-- views of a lane with the same parts are one
 lane_same : (l m : LaneView) → l.put ≡ m.put → l.ended ≡ m.ended → l.left ≡ m.left → l ≡ m
 lane_same l m a b c =
     ap (λ x. lane_of x l.ended l.left) a ∙ (ap (λ x. lane_of m.put x l.left) b ∙ ap (λ x. lane_of m.put m.ended x) c)
@@ -138,7 +148,7 @@ module _ (s : WorldState) (h : WorldHistory) (is : IsWorldAfter h s) (known : Wo
     walk_is : (p : ℕ) (ks : List ℕ) (over : Bool) → IsWalked s.pool p ks over → ks ≡ reverse (linked p)
     walk_is p ks over w = sym (w (pool_accesses h) is.pool).cells ∙ put_cells p (pool_accesses h)
 
-    -- ---- one note
+    -- ---- the note of a cell is the end of the claim there
     note_of_end : (c k : ℕ) (n : Note) → c < consumers_of plan → k < plan.claims.cells → Ends c k n
         → note_on s c k ≡ Some n
     note_of_end c k n cs less e = let q = is.note c k cs less in ap note_there q.1 ∙ (q.2 n).1 e
@@ -160,7 +170,7 @@ module _ (s : WorldState) (h : WorldHistory) (is : IsWorldAfter h s) (known : Wo
         by (Lost u) w = let d = same (stage.Lost u) w in cc
         by Undecided w = let d = same stage.Undecided w in cc
 
-    -- ---- one consumer on one lane
+    -- ---- the diary of one consumer on one lane
     module _ (c p : ℕ) (cs : c < consumers_of plan) (ps : p < plan.lanes) where
       abbrev at : IsPlaceAfter s.setup c p h (is.place c p cs ps).0
       at = (is.place c p cs ps).2
@@ -265,7 +275,7 @@ module _ (s : WorldState) (h : WorldHistory) (is : IsWorldAfter h s) (known : Wo
             begun = ((λ b. own.begun.0 (sym begun ∙ b)), (λ z. begun ∙ own.begun.1 z));
           }
 
-    -- ---- the report
+    -- ---- the whole report
     module _ (r : ReportView) (lanes : AreLanesTold s plan.lanes r.lanes)
         (diaries : AreDiariesTold s (consumers_of plan * plan.lanes) r.diaries) where
       note_is : (c p j k : ℕ) → c < consumers_of plan → p < plan.lanes → slice_get (reverse (linked p)) j ≡ Some k

@@ -21,7 +21,7 @@ use Rattle.mb_world.specs.EventSteps.{EventAdds}
 use Rattle.mb_world.proofs.StateEnds.{Ends}
 use Rattle.mb_world.proofs.Grids.{HasAll, all_kept, all_set}
 
--- what stands at a position is one
+-- at a position stands one thing
 one_there : {X : Type 0} (o : Option X) (x y : X) → o ≡ Some x → o ≡ Some y → x ≡ y
 one_there o x y e f = let both : Some x ≡ Some y = sym e ∙ f in cc
 
@@ -31,22 +31,27 @@ pub still_sound : (e : Event) (r : Answer) (now : WorldState) (h : WorldHistory)
 still_sound e r now h adds = (with_access adds.access h, adds.left)
 
 module _ (s : WorldState) (h : WorldHistory) (is : IsWorldAfter h s) where
+  -- the plan of the world
   abbrev pub plan : Plan
   plan = plan_in s.setup
 
+  -- the position of the place of consumer c on lane p
   abbrev pub place_position : ℕ → ℕ → ℕ
   place_position c p = c * plan.lanes + p
 
+  -- the position of the note of consumer c on cell k
   abbrev pub note_position : ℕ → ℕ → ℕ
   note_position c k = c * plan.claims.cells + k
 
+  -- the places are those of the consumers after the history
   abbrev pub ArePlaces : WorldHistory → List Place → Type 0
   ArePlaces g ds = HasAll (consumers_of plan) plan.lanes (λ c p d. IsPlaceAfter s.setup c p g d) ds
 
+  -- the notes are those of the consumers after the history
   abbrev pub AreNotes : WorldHistory → List (Option Note) → Type 0
   AreNotes g os = HasAll (consumers_of plan) plan.claims.cells (λ c k o. IsNoteAfter s.setup c k g o) os
 
-  -- the place that stands there
+  -- the place at the position of consumer c and lane p
   pub place_here : (c p : ℕ) (d : Place) → c < consumers_of plan → p < plan.lanes
       → slice_get s.places (place_position c p) ≡ Some d → IsPlaceAfter s.setup c p h d
   place_here c p d cs ps at =
@@ -54,14 +59,15 @@ module _ (s : WorldState) (h : WorldHistory) (is : IsWorldAfter h s) where
       subst (λ (e : Place). IsPlaceAfter s.setup c p h e)
       (one_there (slice_get s.places (place_position c p)) old.0 d old.1 at) old.2
 
-  -- the note that stands there
+  -- the note at the place of consumer c and cell k
   pub note_here : (c k : ℕ) → c < consumers_of plan → k < plan.claims.cells
       → (o : Option Note) × (slice_get s.notes (note_position c k) ≡ Some o) × IsNoteAfter s.setup c k h o
   note_here c k cs ks = is.note c k cs ks
 
   module _ (c p : ℕ) (cs : c < consumers_of plan) (ps : p < plan.lanes) (a : WorldAccess)
       (adds : ConsumerAdds plan c p a h) where
-    -- ---- places
+    -- ---- the places after the access
+    -- another place stays
     other_place : (e q : ℕ) (x : Place) → (e ≡ c → q ≡ p → ⊥) → IsPlaceAfter s.setup e q h x
         → IsPlaceAfter s.setup e q (a ∷ h) x
     other_place e q x other y = record {
@@ -85,7 +91,7 @@ module _ (s : WorldState) (h : WorldHistory) (is : IsWorldAfter h s) where
       is = at;
     }
 
-    -- its place stays
+    -- the places stay as they are, if that of the consumer on the lane is right after the access
     pub places_kept : (d : Place) → slice_get s.places (place_position c p) ≡ Some d
         → IsPlaceAfter s.setup c p (a ∷ h) d
         → ArePlaces (a ∷ h) s.places
@@ -119,10 +125,12 @@ module _ (s : WorldState) (h : WorldHistory) (is : IsWorldAfter h s) where
         (λ e q x. IsPlaceAfter s.setup e q (a ∷ h) x) s.places is.place c p cs ps is.places_count d now
         (λ e q x _ _ other old. other_place e q x other old)
 
+    -- there are as many places as before
     pub places_count : (d : Place) → length (slice_set s.places (place_position c p) d) ≡ consumers_of plan * plan.lanes
     places_count d = length-set s.places (place_position c p) d ∙ is.places_count
 
-    -- ---- notes
+    -- ---- the notes after the access
+    -- a note stays, if the ends of its claim do
     note_kept : (e j : ℕ) (o : Option Note) → ((n : Note) → Ends plan.claims h e j n ↔ Ends plan.claims (a ∷ h) e j n)
         → IsNoteAfter s.setup e j h o → IsNoteAfter s.setup e j (a ∷ h) o
     note_kept e j o same old n = ((λ f. (same n).0 ((old n).0 f)), (λ f. (old n).1 ((same n).1 f)))
@@ -137,6 +145,7 @@ module _ (s : WorldState) (h : WorldHistory) (is : IsWorldAfter h s) where
 
     -- that of its claim on cell k is written
     module _ (k : ℕ) (ks : k < plan.claims.cells) (n : Note) where
+      -- the notes with the one that is written are right after the access
       pub notes_set : Ends plan.claims (a ∷ h) c k n → ((m : Note) → Ends plan.claims (a ∷ h) c k m → n ≡ m)
           → ((e j : ℕ) (m : Note) → (e ≡ c → j ≡ k → ⊥) → Ends plan.claims h e j m ↔ Ends plan.claims (a ∷ h) e j m)
           → AreNotes (a ∷ h) (slice_set s.notes (note_position c k) (Some n))
@@ -151,11 +160,13 @@ module _ (s : WorldState) (h : WorldHistory) (is : IsWorldAfter h s) where
             λ e. let one = only m e in cc,
           )
 
+      -- there are as many notes as before
       pub notes_count : length (slice_set s.notes (note_position c k) (Some n))
           ≡ consumers_of plan * plan.claims.cells
       notes_count = length-set s.notes (note_position c k) (Some n) ∙ is.notes_count
 
-    -- ---- the state
+    -- ---- the state after the access
+    -- the state with these words, places and notes is what the longer history leaves
     pub state_after : (words : List ℕ) (places : List Place) (notes : List (Option Note))
         → IsAfter (pool_accesses (a ∷ h)) s.pool → IsMemoryOf plan.claims words (claim_accesses (a ∷ h))
         → length places ≡ consumers_of plan * plan.lanes → ArePlaces (a ∷ h) places

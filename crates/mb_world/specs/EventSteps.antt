@@ -1,4 +1,4 @@
--- The state of a world after an event.
+-- What an event makes of the state of a world, and states of which one part is changed.
 use Rattle.std.specs.Prelude.{ℕ, ◌≡◌, ◌+◌, ◌*◌, ◌<◌, Option, Some, None, List, slice_get, slice_set}
 use Rattle.mb_cells.specs.State.{PoolState}
 use Rattle.mb_world.specs.declared.event.Answer.{Answer}
@@ -33,12 +33,12 @@ with_place c p d s = record s { places = slice_set s.places (c * (plan_in s.setu
 abbrev pub with_note : ℕ → ℕ → Note → WorldState → WorldState
 with_note c k n s = record s { notes = slice_set s.notes (c * (plan_in s.setup).claims.cells + k) (Some n) }
 
--- the same, if there is a note
+-- the state with this note of consumer c on cell k, if there is a note
 abbrev pub with_note_if : ℕ → ℕ → Option Note → WorldState → WorldState
 with_note_if c k None s = s
 with_note_if c k (Some n) s = with_note c k n s
 
--- ---- words
+-- ---- the words of the claims, and the pool
 -- the state with these words of the claims
 abbrev pub with_words : List ℕ → WorldState → WorldState
 with_words words s = record s { words = words }

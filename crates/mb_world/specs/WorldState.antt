@@ -17,8 +17,9 @@ use Rattle.mb_world.specs.World.{WorldHistory, claim_accesses, histories_of, lan
 use Rattle.mb_world.specs.ConsumerPath.{ConsumerPath}
 use Rattle.mb_world.specs.Worlds.{IsWorldLawful}
 
--- the pool of cells, the words of the claims, where each consumer stands on each lane, and its note on each cell. The
--- place of consumer c on lane p is at c times the lanes plus p. Its note on cell k is at c times the cells plus k
+-- the state of a world: its setup, the pool of cells, the words of the claims, where each consumer stands on each lane,
+-- and its note on each cell. The place of consumer c on lane p is at c times the lanes plus p. Its note on cell k is at c
+-- times the cells plus k
 pub record WorldState : Type 0 where
   pub setup : Setup
   pub pool : PoolState

@@ -1,3 +1,4 @@
+-- Proof of `report_of`: the report of a mailbox whose producers have put all their items.
 use Rattle.std.proofs.Common.{◌∙◌, Err, ap, arith}
 use Rattle.mb_world.specs.Plan.{size_of}
 use Rattle.mb_program.proofs.RunEnds.{fault_behind, same_err}

@@ -1,3 +1,4 @@
+-- Proof of `play`: the report of a mailbox of this setup whose producers are to put these lists.
 use Rattle.std.proofs.Common.{◌≡◌, ◌∙◌, ap, length, map, rules, sym, vec_len}
 use Rattle.mb_mailbox.specs.Worked.{lists_in}
 use Rattle.mb_world.specs.Plan.{size_of}

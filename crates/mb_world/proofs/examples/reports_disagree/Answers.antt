@@ -1,3 +1,4 @@
+-- Proof of `examples::reports_disagree`: reports with which no assignment agrees.
 use Rattle.std.proofs.Common.{◌≡◌, ◌⊎◌, ℕ, zero, suc, ◌∷◌, [], List, Bool, Option, Some, None, false, true, refl, sym, ◌∙◌, inl, inr, arith}
 use Rattle.std.specs.Prelude.{if◌then◌else◌}
 use Rattle.std.specs.Option.{is_none}

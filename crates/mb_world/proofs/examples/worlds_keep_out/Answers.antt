@@ -1,3 +1,4 @@
+-- Proof of `examples::worlds_keep_out`: accesses that may not follow in the small world.
 use Rattle.std.proofs.Common.{◌≡◌, [], ◌∷◌, Some, None, refl, arith}
 use Rattle.mb_quorum.specs.declared.table.TableName.TheVariants.{Unary}
 use Rattle.mb_cells.specs.LanePath.{fetch}

@@ -1,3 +1,4 @@
+-- Proof of `laws::paths_lead_to_one_place`: what a consumer has done on a lane leads to at most one place.
 use Rattle.std.proofs.Common.{ap}
 use Rattle.mb_world.proofs.LastAccess.{PathEnd, older_path, path_end}
 use Rattle.mb_world.proofs.OnePlace.{one_place}

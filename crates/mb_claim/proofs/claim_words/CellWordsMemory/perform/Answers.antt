@@ -1,3 +1,4 @@
+-- Proof of `CellWords::perform`: makes an access to a word of the cell, and keeps it as the step made.
 use Rattle.std.proofs.Common.{◌≡◌, ◌<◌, ◌≤◌, ◌*◌, ℕ, List, length, refl, ◌∙◌, ap, ap₂, slice_index, slice_set, arith}
 use Rattle.std.proofs.lemmas.List.{get_or_read}
 use Rattle.mb_claim.specs.ObjectTypes.{Reg, Act}

@@ -1,3 +1,5 @@
+-- Proof of `Layout::address`: where the word of the object of the cell lies, counted in words from the first word of
+-- cell 0.
 use Rattle.std.proofs.Common.{◌≡◌, ◌*◌, ◌+◌, ◌≤◌, ◌<◌, ℕ, length, slice_index, arith, ◌∙◌, ap₂}
 use Rattle.std.proofs.lemmas.Nat.{mul-le}
 use Rattle.std.proofs.lemmas.Option.{slice_get_within}

@@ -1,3 +1,4 @@
+-- Proof of `World::apply`: makes the one access that the event asks for, or none if the event is refused.
 use Rattle.std.proofs.Common.{sym, ◌∙◌, subst}
 use Rattle.mb_world.specs.declared.event.Event.{Event}
 use Rattle.mb_world.specs.declared.event.Event.TheVariants as event

@@ -1,3 +1,5 @@
+-- Proof of `World::compete`: the claim of consumer `c` on cell `k` is not won: the consumer makes the claim's next
+-- access.
 use Rattle.std.proofs.Common.{◌≢◌, ◌∷◌, refl, sym, subst, arith}
 use Rattle.mb_claim.specs.declared.access.Stage.TheVariants as stage
 use Rattle.mb_claim.specs.declared.claim.Claim.{Claim}

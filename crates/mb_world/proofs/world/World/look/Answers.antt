@@ -1,3 +1,4 @@
+-- Proof of `World::look`: consumer `c` holds no claim on lane `p`: it loads the link at the cursor.
 use Rattle.std.proofs.Common.{[], sym, ◌∙◌, subst}
 use Rattle.mb_claim.specs.OneClaim.{IsClaimIn}
 use Rattle.mb_claim.specs.declared.layout.Layout.{Layout}

@@ -1,3 +1,4 @@
+-- Proof of `World::new`: a world of this setup before the first event.
 use Rattle.std.proofs.Common.{◌≡◌, ◌≢◌, ◌<◌, [], None, ◌*◌, ◌∙◌, ap, ap₂, subst, subst₂, arith}
 use Rattle.std.proofs.Math.ListN.{replicate}
 use Rattle.mb_claim.specs.Layouts.{claims_in, consumer_count, kinds_of, pair_count, shape_of}

@@ -1,3 +1,4 @@
+-- Proof of `World::offer`: the producer of lane `p` takes a cell for the item.
 use Rattle.std.proofs.Common.{◌<◌, sym, ◌∙◌, ap, subst}
 use Rattle.mb_cells.specs.State.{PoolState}
 use Rattle.mb_world.specs.declared.event.Answer.TheVariants as answer

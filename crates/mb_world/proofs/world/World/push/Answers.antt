@@ -1,3 +1,4 @@
+-- Proof of `World::push`: the producer of lane `p` stores the item that it offered, or links its cell.
 use Rattle.std.proofs.Common.{◌<◌, sym, subst}
 use Rattle.mb_world.specs.declared.event.Answer.TheVariants as answer
 use Rattle.mb_world.specs.declared.event.Event.TheVariants as event

@@ -1,3 +1,4 @@
+-- Proof of `World::step`: makes the next access of consumer `c` on lane `p`, with this random word.
 use Rattle.std.proofs.Common.{◌<◌, sym, ◌∙◌, subst}
 use Rattle.mb_world.specs.declared.place.Place.{Place}
 use Rattle.mb_world.specs.declared.place.Place.TheVariants.{At}

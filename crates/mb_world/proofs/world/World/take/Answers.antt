@@ -1,3 +1,4 @@
+-- Proof of `World::take`: the claim of consumer `c` on cell `k` is won: the consumer loads the item.
 use Rattle.std.proofs.Common.{sym, subst, arith}
 use Rattle.mb_cells.specs.Memory.{value_in}
 use Rattle.mb_cells.specs.declared.cursor.Cursor.TheVariants.{Past}

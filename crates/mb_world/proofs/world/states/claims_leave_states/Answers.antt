@@ -1,3 +1,4 @@
+-- Proof of `states::claims_leave_states`: a step of a consumer's claim.
 use Rattle.std.proofs.Common.{refl}
 use Rattle.mb_claim.specs.OneClaim.{claim_stage}
 use Rattle.mb_world.proofs.CompeteStates.{competed}

@@ -1,3 +1,4 @@
+-- Proof of `states::looks_leave_states`: a look of a consumer that holds no claim.
 use Rattle.mb_world.proofs.LookStates.{looked_in_vain, looked_on, within}
 use Rattle.mb_world.proofs.StepKnown.{step_known}
 use Rattle.mb_world.proofs.world.states.looks_leave_states.Goals as goal
