@@ -37,7 +37,7 @@ module _ (s : WorldState) (h : WorldHistory) (is : IsWorldAfter h s) (c p : ℕ)
     (keeps : consumer_of now ≡ consumer_of claim)
     (made : IsClaimOn (layout_of s.setup) (plan s h is).claims.cells k now words
     (claim_access claim k x ∷ claim_accesses h)) where
-  -- what the seat of a consumer that holds this claim says
+  -- what the place of a consumer that holds this claim says
   abbrev at : AtCell s h is c p cs ps known k claim here
   at = at_cell s h is c p cs ps known k claim here
 
@@ -127,7 +127,7 @@ module _ (s : WorldState) (h : WorldHistory) (is : IsWorldAfter h s) (c p : ℕ)
     pub adds : ConsumerAdds (plan s h is) c p a h
     adds = known.goes a ks ns held truth next
 
-    -- the event adds the state with the consumer's seat and these notes
+    -- the event adds the state with the consumer's place and these notes
     claim_adds : (notes : List (Option Note)) → length notes ≡ consumers_of (plan s h is) * (plan s h is).claims.cells
         → AreNotes s h is (a ∷ h) notes
         → EventAdds (event.Step c p word) (answer.Claimed k x.object x.turn.act r)

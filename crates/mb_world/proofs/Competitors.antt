@@ -30,7 +30,7 @@ module _ (plan : Plan) (hs : Histories) (known : Known plan hs)
   diary : IsDiaryOf plan c p hs d
   diary = (is.diary c p cs ps).2
 
-  -- cell k stands at place j of the lane
+  -- cell k stands at position j of the lane
   on_lane : StandsAt (linked_cells p hs.pool) j k
   on_lane = at_reverse (linked_cells p hs.pool) j k here
 

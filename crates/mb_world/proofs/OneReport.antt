@@ -22,7 +22,7 @@ use Rattle.mb_world.proofs.ReaderParts.{loaded-read}
 abbrev StandsIn : {A : Type 0} → List A → List A → Type 0
 StandsIn {A} xs ys = (j : ℕ) (x : A) → slice_get xs j ≡ Some x → slice_get ys j ≡ Some x
 
--- two lists that have the same at each place are one
+-- two lists that have the same at each position are one
 one_list : {A : Type 0} (xs ys : List A) → StandsIn xs ys → StandsIn ys xs → xs ≡ ys
 one_list [] [] f g = refl
 one_list [] (y ∷ ys) f g = absurd (let e : None ≡ Some y = g 0 y refl in cc)
@@ -33,7 +33,7 @@ one_list {A} (x ∷ xs) (y ∷ ys) f g =
     let tails = one_list xs ys (λ j z. f (suc j) z) (λ j z. g (suc j) z) in
     rw (heads, tails) refl
 
--- a place with an element is in the list
+-- a position with an element is in the list
 within : {A : Type 0} (xs : List A) (j : ℕ) (x : A) → slice_get xs j ≡ Some x → j < length xs
 within [] j x e = absurd (cc)
 within (y ∷ xs) zero x e = omega arith

@@ -20,7 +20,7 @@ ends_length E [] (n ∷ ns) h = absurd h
 ends_length E (k ∷ ks) [] h = absurd h
 ends_length E (k ∷ ks) (n ∷ ns) h = ap suc (ends_length E ks ns h.1)
 
--- a note stands at the place of its cell
+-- a note stands at the position of its cell
 pub ends_at : (E : ℕ → Note → Type 0) (ks : List ℕ) (ns : List Note) (j : ℕ) (n : Note) → AreEnds E ks ns
     → slice_get (reverse ns) j ≡ Some n → (k : ℕ) × StandsAt ks j k × E k n
 ends_at E [] [] j n h e = absurd (cc)

@@ -37,7 +37,7 @@ module _ (plan : Plan) (hs : Histories) (r : ReportView) (is : IsReportOf plan h
       by_lane true = slice_get_past r.diaries (c * length r.lanes + p) beyond
       by_lane false = refl
 
-  -- the diary at a place is that of the consumer on the lane
+  -- the diary at a position is that of the consumer on the lane
   pub diary_is : (c p : ℕ) (cs : c < consumers_of plan) (ps : p < plan.lanes) → diary c p r
       ≡ Some (is.diary c p cs ps).0
   diary_is c p cs ps = rw (is.lanes_count, lt-ltb p plan.lanes ps) (is.diary c p cs ps).1

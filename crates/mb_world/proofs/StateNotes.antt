@@ -63,7 +63,7 @@ abbrev pub note_by : (ℕ → Option Note) → Option ℕ → Option Note
 note_by f None = None
 note_by f (Some k) = f k
 
--- at no place of cells without notes stands a note
+-- at no position of cells without notes stands a note
 none_by : (f : ℕ → Option Note) (xs : List ℕ) (j : ℕ) → ((k : ℕ) → Has xs k → f k ≡ None)
     → note_by f (slice_get xs j) ≡ None
 none_by f [] zero none = refl

@@ -79,7 +79,7 @@ closed_has ks None k has = has
 closed_has [] (Some xs) k has = absurd has
 closed_has (q ∷ qs) (Some xs) k has = inr has
 
--- a cell at a place with a note is one on which the claim has ended
+-- a cell at a position with a note is one on which the claim has ended
 closed_at : (ks : List ℕ) (z : Option (List ObjectTurn)) (j k : ℕ) → StandsAt ks j k → j < length (closed ks z)
     → Has (closed ks z) k
 closed_at ks None j k at less = at_has ks j k at
@@ -115,7 +115,7 @@ place_begun layout c p [] (Some xs) d is = absurd is
 place_begun layout c p (q ∷ qs) (Some xs) (Before at) is = absurd is
 place_begun layout c p (q ∷ qs) (Some xs) (At k claim) is = claim_begun claim.begun xs is.2.begun
 
--- ---- a lane, and the place of a diary
+-- ---- a lane, and the position of a diary
 -- the view of a lane that is made of these parts
 abbrev lane_of : List ℕ → Bool → List ℕ → LaneView
 lane_of put ended left = record { put = put; ended = ended; left = left }

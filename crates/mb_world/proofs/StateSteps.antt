@@ -59,7 +59,7 @@ module _ (s : WorldState) (h : WorldHistory) (is : IsWorldAfter h s) where
       subst (λ (e : Place). IsPlaceAfter s.setup c p h e)
       (one_there (slice_get s.places (place_position c p)) old.0 d old.1 at) old.2
 
-  -- the note at the place of consumer c and cell k
+  -- the note at the position of consumer c and cell k
   pub note_here : (c k : ℕ) → c < consumers_of plan → k < plan.claims.cells
       → (o : Option Note) × (slice_get s.notes (note_position c k) ≡ Some o) × IsNoteAfter s.setup c k h o
   note_here c k cs ks = is.note c k cs ks

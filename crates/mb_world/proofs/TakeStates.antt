@@ -28,7 +28,7 @@ module _ (s : WorldState) (h : WorldHistory) (is : IsWorldAfter h s) (c p : ℕ)
     (ps : p < (plan s h is).lanes) (known : StepKnown s h c p) (k : ℕ) (claim : Claim)
     (here : slice_get s.places (c * (plan s h is).lanes + p) ≡ Some (At k claim))
     (won : claim_stage claim ≡ stage.Won) where
-  -- what the seat of a consumer that holds this claim says
+  -- what the place of a consumer that holds this claim says
   abbrev at : AtCell s h is c p cs ps known k claim here
   at = at_cell s h is c p cs ps known k claim here
 

@@ -23,7 +23,7 @@ use Rattle.mb_world.proofs.WorldClaims.{end_here, met_all, met_once, on_lane, st
 use Rattle.mb_world.proofs.WorldKnown.{WorldKnown}
 use Rattle.mb_world.proofs.WorldPool.{load_lane, loads, loads_on, of_lane, on_word, read_there}
 
--- a cell that has its note was met, at the same place
+-- a cell that has its note was met, at the same position
 closed_in : (qs : List ℕ) (z : Option (List ObjectTurn)) (j k : ℕ) → StandsAt (closed qs z) j k → StandsAt qs j k
 closed_in qs None j k at = at
 closed_in [] (Some xs) j k at = at

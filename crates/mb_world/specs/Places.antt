@@ -8,12 +8,12 @@ use Rattle.mb_world.specs.declared.place.Place.{Place}
 use Rattle.mb_world.specs.declared.place.Place.TheVariants.{At, Before}
 use Rattle.mb_world.specs.Imports.{Stage}
 
--- whether a claim is held there that has made an access
+-- whether the consumer at this place holds a claim that has an access
 abbrev pub has_begun_at : Place → Bool
 has_begun_at (Before at) = false
 has_begun_at (At k claim) = is_begun claim
 
--- a consumer's place after an access of its claim on cell k, if the claim has come to this stage
+-- the place of a consumer after a step of its claim on cell k, by that claim and its stage after the step
 abbrev pub place_after : ℕ → Claim → Stage → Place
 place_after k claim stage.Going = At k claim
 place_after k claim stage.Won = At k claim
