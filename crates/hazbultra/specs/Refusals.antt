@@ -37,7 +37,7 @@ IsPart (Some (OfConsumer c)) = Unit {0}
 IsPart _ = ⊥
 
 -- a handle leads to a producer or a consumer whose mailbox has another id than the hub's
-abbrev pub IsOfAnother : BoundHubView → Option Thing → Type 0
-IsOfAnother h (Some (OfProducer p)) = h.id ≢ p.id
-IsOfAnother h (Some (OfConsumer c)) = h.id ≢ c.consumer.id
-IsOfAnother h _ = ⊥
+abbrev pub IsOfAnotherMailbox : BoundHubView → Option Thing → Type 0
+IsOfAnotherMailbox h (Some (OfProducer p)) = h.id ≢ p.id
+IsOfAnotherMailbox h (Some (OfConsumer c)) = h.id ≢ c.consumer.id
+IsOfAnotherMailbox h _ = ⊥

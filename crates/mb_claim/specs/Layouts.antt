@@ -79,8 +79,8 @@ abbrev pub cell_words : Layout → ℕ
 cell_words layout = row_words (quorums_of layout).registers (kinds_of layout)
 
 -- a cell of a layout has an object o, which has the word
-abbrev pub HasWord : Layout → ℕ → Reg → Type 0
-HasWord layout o reg = IsWordOf (quorums_of layout).registers (kinds_of layout) o reg
+abbrev pub IsWordInLayout : Layout → ℕ → Reg → Type 0
+IsWordInLayout layout o reg = IsWordOf (quorums_of layout).registers (kinds_of layout) o reg
 
 -- the address of a word of object o of cell k
 abbrev pub word_address : Layout → ℕ → ℕ → Reg → ℕ

@@ -11,7 +11,7 @@ use Rattle.mb_mailbox.specs.Imports.{Stream}
 use Rattle.mb_mailbox.specs.Called.{WasPassed, WasPolled, WerePassed, WerePolled}
 use Rattle.mb_mailbox.specs.Calls.{ArePassed}
 use Rattle.mb_mailbox.specs.Consumers.{ConsumerView}
-use Rattle.mb_mailbox.specs.HubRuns.{ArePollJobs, ArePutJobs}
+use Rattle.mb_mailbox.specs.Given.{ArePollJobs, ArePutJobs}
 use Rattle.mb_mailbox.specs.Hubs.{HubView, IsHub, new_producer, put_list_of}
 use Rattle.mb_mailbox.specs.Jobs.{HasReadEnds, HasReadToEnd, IsFront, IsOnLanes, IsPollEnd, IsPutEnd, IsStopBefore, IsStoppedPoll, accesses_made, ends_met}
 use Rattle.mb_mailbox.specs.Mailboxes.{MailboxView}

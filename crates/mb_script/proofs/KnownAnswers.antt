@@ -16,7 +16,7 @@ use Rattle.mb_world.specs.declared.event.Answer.TheVariants as answer
 use Rattle.mb_world.specs.declared.event.Event.{Event}
 use Rattle.mb_world.specs.declared.event.Event.TheVariants as event
 use Rattle.mb_world.specs.Plan.{Plan, consumers_of}
-use Rattle.mb_world.specs.Replay.{IsEntry, IsRefused, IsReplay, AnswerNames, answer_to, with_access}
+use Rattle.mb_world.specs.Replay.{HasAnswer, IsRefused, IsReplay, AnswerNames, answer_to, with_access}
 use Rattle.mb_world.specs.World.{ToCells, ToClaims, WorldAccess, WorldHistory}
 use Rattle.mb_script.specs.Replaying.{IsAnswer, IsOfWorld}
 use Rattle.mb_script.specs.Scripts.{Script}
@@ -72,7 +72,7 @@ refused_known plan (event.Step c p word) r h there (inr why) = absurd (omega (ar
 
 -- its answer is another than that they are not
 entry_known : (plan : Plan) (e : Event) (r : Answer) (a : Option WorldAccess) (h : WorldHistory) → IsEventIn plan e
-    → IsEntry plan e r a h → IsOfWorld r
+    → HasAnswer plan e r a h → IsOfWorld r
 entry_known plan e r None h there entry = refused_known plan e r h there entry
 entry_known plan e r (Some a) h there entry = named_known plan r a h entry.1
 

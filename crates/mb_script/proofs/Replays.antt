@@ -6,7 +6,7 @@ use Rattle.mb_world.specs.declared.event.Event.{Event}
 use Rattle.mb_world.specs.declared.setup.Setup.{Setup}
 use Rattle.mb_world.specs.EventSteps.{EventAdds}
 use Rattle.mb_world.specs.Plan.{Plan}
-use Rattle.mb_world.specs.Replay.{IsEntry, IsReplay, with_access}
+use Rattle.mb_world.specs.Replay.{HasAnswer, IsReplay, with_access}
 use Rattle.mb_world.specs.Headline.{IsHonest}
 use Rattle.mb_world.specs.Report.{ReportView}
 use Rattle.mb_world.specs.Reporting.{IsReportOf}
@@ -20,9 +20,10 @@ use Rattle.mb_script.specs.Transcript.{entry_text, transcript_text}
 
 -- a replay with one event more at its end
 pub IsReplay-more : (plan : Plan) (e : Event) (r : Answer) (a : Option WorldAccess) (es : List Event) (rs : List Answer)
-    (was now : WorldHistory) → IsReplay plan es rs was now → IsEntry plan e r a now
+    (was now : WorldHistory) → IsReplay plan es rs was now → HasAnswer plan e r a now
     → IsReplay plan (es ++ e ∷ []) (rs ++ r ∷ []) was (with_access a now)
-IsReplay-more plan e r a [] [] was now here entry = (a, subst (IsEntry plan e r a) here entry, ap (with_access a) here)
+IsReplay-more plan e r a [] [] was now here entry =
+    (a, subst (HasAnswer plan e r a) here entry, ap (with_access a) here)
 IsReplay-more plan e r a [] (s ∷ rs) was now here entry = absurd here
 IsReplay-more plan e r a (d ∷ es) [] was now here entry = absurd here
 IsReplay-more plan e r a (d ∷ es) (s ∷ rs) was now here entry =

@@ -63,11 +63,11 @@ FitsView size t roster seat Empty = Unit {0}
 
 -- the view has a part of the process
 abbrev pub HasProcess : View → Process → Type 0
-HasProcess (Hub size roll) who = (done : History) × (roll_at who roll ≡ Some (Some done))
-HasProcess (HubDraws size roll) who = (done : History) × (roll_at who roll ≡ Some (Some done))
-HasProcess (HubJoins size roll other done) who =
-    (other ≡ who) ⊎ ((part : History) × (roll_at who roll ≡ Some (Some part)))
-HasProcess (Member size other known done) who = other ≡ who
+HasProcess (Hub own roll) who = (done : History) × (roll_at who roll ≡ Some (Some done))
+HasProcess (HubDraws own roll) who = (done : History) × (roll_at who roll ≡ Some (Some done))
+HasProcess (HubJoins own roll joined done) who =
+    (joined ≡ who) ⊎ ((part : History) × (roll_at who roll ≡ Some (Some part)))
+HasProcess (Member own seated known done) who = seated ≡ who
 HasProcess Empty who = ⊥
 
 -- the view of the seat has a part of the process

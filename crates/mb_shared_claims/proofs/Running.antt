@@ -2,7 +2,7 @@
 use Rattle.std.proofs.Common.{◌≡◌, ◌<◌, ◌≤◌, ◌+◌, ℕ, zero, suc, List, ◌∷◌, length, refl, sym, ap, ◌∙◌, subst, arith}
 use Rattle.rand_core.specs.Stream.{Stream, next_u64}
 use Rattle.mb_deciding.specs.Vocabulary.{reg_of}
-use Rattle.mb_claim.specs.Vocabulary.{HasWord, claims_in, claim_stage, consumer_of, IsClaimIn, IsClaimLawful, IsNextOp, part, part_on}
+use Rattle.mb_claim.specs.Vocabulary.{IsWordInLayout, claims_in, claim_stage, consumer_of, IsClaimIn, IsClaimLawful, IsNextOp, part, part_on}
 use Rattle.mb_claim.specs.Vocabulary.{AreClaimSteps, DrawsAndMakesNext, most_accesses}
 use Rattle.mb_shared_claims.specs.Types.{Claim, ClaimAccess, ClaimOp, Going, Layout, ObjectTurn, Op}
 use Rattle.mb_shared_claims.specs.ViewSteps.{ComesAfter}
@@ -55,14 +55,14 @@ IsMade t cell next seen word seat now =
 -- the next access may be made from the seat
 abbrev pub CanMake : TableView → ℕ → ClaimOp → SeatView → Type 0
 CanMake t cell next seat =
-    (seat.table ≡ name_of t) × (cell < t.cells) × HasWord t.layout next.object (reg_of next.op)
+    (seat.table ≡ name_of t) × (cell < t.cells) × IsWordInLayout t.layout next.object (reg_of next.op)
     × MayComeNext (claims_in t.layout t.cells) seat.consumer cell seat.part next
 
 -- the word of a claim's next access is one of its layout
 abbrev pub HasNextWord : Type 0
 HasNextWord =
     (layout : Layout) (claim : Claim) (next : ClaimOp) (xs : List ObjectTurn) → IsClaimIn layout claim xs
-    → claim_stage claim ≡ Going → IsNextOp layout claim next → HasWord layout next.object (reg_of next.op)
+    → claim_stage claim ≡ Going → IsNextOp layout claim next → IsWordInLayout layout next.object (reg_of next.op)
 
 module _ (t : TableView) (cell : ℕ) {M : Type 0} {K : Type 0} (seat : M → SeatView) (stream : M → Stream) (word : M → ℕ)
     (kept : M → K) (draws : M → ℕ → M → Type 0) (makes : M → ℕ → Op → ℕ → M → Type 0) where

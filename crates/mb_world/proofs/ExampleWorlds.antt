@@ -198,28 +198,30 @@ module _ (laws : Laws) where
       first_won_lawful (omega arith) (omega arith) (omega arith, refl) first_path).lawful
 
   -- ---- consumer 1 loses the item 5
-  abbrev came : WorldHistory
-  came = link_load 1 0 [] 1 ∷ first_taken
+  -- consumer 1 has met the item 5, which consumer 0 has taken
+  abbrev first_met : WorldHistory
+  first_met = link_load 1 0 [] 1 ∷ first_taken
 
-  came_path : ConsumerPath two_cells 1 0 (lane_part 1 0 came) (0 ∷ []) [] (Some [])
-  came_path = finds (λ e. cc) second_fresh begins
+  first_met_path : ConsumerPath two_cells 1 0 (lane_part 1 0 first_met) (0 ∷ []) [] (Some [])
+  first_met_path = finds (λ e. cc) second_fresh begins
 
-  came_lawful : IsWorldLawful two_by_two came
-  came_lawful =
+  first_met_lawful : IsWorldLawful two_by_two first_met
+  first_met_lawful =
       (laws.consumer first_taken 1 0 (link_load 1 0 [] 1) (0 ∷ []) [] (Some []) first_taken_lawful (omega arith)
-      (omega arith) (omega arith, refl) came_path).lawful
+      (omega arith) (omega arith, refl) first_met_path).lawful
 
   abbrev almost : List ObjectTurn
   almost = drop 1 lost_steps
 
-  almost_true : AreTrueTo 1 0 almost came
+  almost_true : AreTrueTo 1 0 almost first_met
   almost_true =
       let loads : ((1 < 2 ^ 64) × Unit {0}) × (0 < 2 ^ 64) = ((omega arith, tt), omega arith) in
       let stores : (Unit {0} × (1 < 2 ^ 64)) × (0 < 2 ^ 64) = ((tt, omega arith), omega arith) in
       ((loads, refl), ((stores, tt), ((loads, refl), tt)))
 
-  almost_lost : Claiming 1 0 0 [] [] almost came
-  almost_lost = claims_on 1 0 0 (omega arith) (omega arith) [] [] came came_lawful came_path almost stage.Going
+  almost_lost : Claiming 1 0 0 [] [] almost first_met
+  almost_lost =
+      claims_on 1 0 0 (omega arith) (omega arith) [] [] first_met first_met_lawful first_met_path almost stage.Going
       (laws.going 1 won_last almost (stage.Lost 0) laws.lost) refl almost_true
 
   lost_path : ConsumerPath two_cells 1 0 (lane_part 1 0 first_lost) (0 ∷ []) (Lost 0 ∷ []) None
@@ -227,8 +229,8 @@ module _ (laws : Laws) where
 
   pub first_lost_lawful : IsWorldLawful two_by_two first_lost
   first_lost_lawful =
-      (laws.consumer (map (claim_step 1 0) almost ++ came) 1 0 (claim_step 1 0 won_last) (0 ∷ []) (Lost 0 ∷ []) None
-      almost_lost.lawful (omega arith) (omega arith) (((omega arith, tt), omega arith), refl) lost_path).lawful
+      (laws.consumer (map (claim_step 1 0) almost ++ first_met) 1 0 (claim_step 1 0 won_last) (0 ∷ []) (Lost 0 ∷ [])
+      None almost_lost.lawful (omega arith) (omega arith) (((omega arith, tt), omega arith), refl) lost_path).lawful
 
   -- ---- consumer 1 begins a claim on the item 6
   met_path : ConsumerPath two_cells 1 1 (lane_part 1 1 second_met) (1 ∷ []) [] (Some [])

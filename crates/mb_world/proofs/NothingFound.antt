@@ -15,7 +15,7 @@ use Rattle.mb_world.specs.Plan.{Plan, consumers_of}
 use Rattle.mb_world.specs.World.{IsBy, WorldAccess, WorldHistory, is_on, lane_part, pool_accesses}
 use Rattle.mb_world.specs.ConsumerPath.{ConsumerPath, link_load}
 use Rattle.mb_world.specs.Worlds.{IsWorldLawful}
-use Rattle.mb_world.specs.Replay.{IsEntry, AnswerNames, answer_to}
+use Rattle.mb_world.specs.Replay.{HasAnswer, AnswerNames, answer_to}
 use Rattle.mb_world.specs.Waiting.{HasNothing}
 use Rattle.mb_world.proofs.ConsumerSteps.{linked_same, one_lane_of}
 use Rattle.mb_world.proofs.LastAccess.{CameFrom, Leads, PathEnd, came_from, ended, found, path_end, took, waited, went}
@@ -148,7 +148,7 @@ module _ (plan : Plan) (h : WorldHistory) (lawful : IsWorldLawful plan h) (known
       let both = other ∙ is in absurd (cc)
 
   -- if a step's answer is that nothing is found, there is nothing
-  pub nothing_there : (r : Answer) (a : Option WorldAccess) → IsEntry plan (event.Step c p word) r a h
+  pub nothing_there : (r : Answer) (a : Option WorldAccess) → HasAnswer plan (event.Step c p word) r a h
       → r ≡ answer.Looked look.Nothing → HasNothing plan c p h
   nothing_there r None (inl (past, e)) is = let other = sym e ∙ is in absurd (cc)
   nothing_there r None (inr (below, past, e)) is = let other = sym e ∙ is in absurd (cc)
@@ -190,7 +190,7 @@ module _ (plan : Plan) (h : WorldHistory) (lawful : IsWorldLawful plan h) (known
         by (took ks ns k xs v won e) same none = absurd (cc)
 
     -- if there is nothing, a step's answer says so
-    pub nothing_found : (r : Answer) (a : Option WorldAccess) → IsEntry plan (event.Step c p word) r a h
+    pub nothing_found : (r : Answer) (a : Option WorldAccess) → HasAnswer plan (event.Step c p word) r a h
         → HasNothing plan c p h → r ≡ answer.Looked look.Nothing
     nothing_found r None (inl (past, e)) f = absurd (omega (arith, past, f.lane))
     nothing_found r None (inr (below, past, e)) f = absurd (omega (arith, past, f.consumer))

@@ -8,7 +8,7 @@ use Rattle.mb_world.specs.Imports.{Stage, claim_part}
 use Rattle.mb_world.specs.Plan.{Plan}
 use Rattle.mb_world.specs.World.{ToCells, ToClaims, WorldAccess, WorldHistory, claim_accesses}
 use Rattle.mb_world.specs.Worlds.{IsWorldLawful}
-use Rattle.mb_world.specs.Replay.{IsAccessOf, IsEntry, IsRefused, IsReplay, AnswerNames, with_access}
+use Rattle.mb_world.specs.Replay.{IsAccessOf, HasAnswer, IsRefused, IsReplay, AnswerNames, with_access}
 use Rattle.mb_world.proofs.ConsumerEvents.{one_step_access, step_never_both, step_refused_once}
 use Rattle.mb_world.proofs.EventKnown.{EventKnown}
 use Rattle.mb_world.proofs.ProducerEvents.{finish_never_both, finish_refused_once, offer_never_both, offer_refused_once, one_finish, one_offer, one_push, push_never_both, push_refused_once}
@@ -46,8 +46,8 @@ module _ (plan : Plan) (h : WorldHistory) (known : EventKnown plan h) where
       e ∙ (ap (λ (z : Stage). answer.Claimed a.cell a.step.object a.step.turn.act z) same ∙ sym f)
 
   -- an event has one answer, and one access or none
-  pub one_entry : (e : Event) (r s : Answer) (a b : Option WorldAccess) → IsEntry plan e r a h → IsEntry plan e s b h
-      → (r ≡ s) × (a ≡ b)
+  pub one_entry : (e : Event) (r s : Answer) (a b : Option WorldAccess) → HasAnswer plan e r a h
+      → HasAnswer plan e s b h → (r ≡ s) × (a ≡ b)
   one_entry e r s None None x y = (refused_once e r s x y, refl)
   one_entry e r s None (Some b) x y = absurd (never_both e r b x y.0 y.2)
   one_entry e r s (Some a) None x y = absurd (never_both e s a y x.0 x.2)
@@ -58,7 +58,7 @@ module _ (plan : Plan) (h : WorldHistory) (known : EventKnown plan h) where
 module _ (plan : Plan) (known : (h : WorldHistory) → IsWorldLawful plan h → EventKnown plan h) where
   -- an entry keeps the history lawful
   lawful_on : (e : Event) (r : Answer) (a : Option WorldAccess) (h : WorldHistory) → IsWorldLawful plan h
-      → IsEntry plan e r a h
+      → HasAnswer plan e r a h
       → IsWorldLawful plan (with_access a h)
   lawful_on e r None h lawful x = lawful
   lawful_on e r (Some a) h lawful x = x.2

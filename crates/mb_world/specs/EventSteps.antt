@@ -9,13 +9,13 @@ use Rattle.mb_world.specs.Plan.{consumers_of}
 use Rattle.mb_world.specs.Setups.{plan_in}
 use Rattle.mb_world.specs.World.{WorldAccess, WorldHistory}
 use Rattle.mb_world.specs.WorldState.{IsWorldAfter, WorldState}
-use Rattle.mb_world.specs.Replay.{IsEntry, with_access}
+use Rattle.mb_world.specs.Replay.{HasAnswer, with_access}
 
 -- after a history, the event has this answer and leaves a world in this state. It is the state of the history with the
 -- event's access, or of the same history if the event has none
 pub record EventAdds (e : Event) (r : Answer) (now : WorldState) (h : WorldHistory) : Type 0 where
   pub access : Option WorldAccess
-  pub entry : IsEntry (plan_in now.setup) e r access h
+  pub entry : HasAnswer (plan_in now.setup) e r access h
   pub left : IsWorldAfter (with_access access h) now
 
 -- ---- places and notes

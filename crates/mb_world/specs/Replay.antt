@@ -99,14 +99,14 @@ IsRefused plan (event.Step c p word) r h =
 
 -- ---- the replay of a list of events
 -- after a history, the event has this answer with this access, which keeps the history lawful, or with none
-abbrev pub IsEntry : Plan → Event → Answer → Option WorldAccess → WorldHistory → Type 0
-IsEntry plan e r None h = IsRefused plan e r h
-IsEntry plan e r (Some a) h = IsAccessOf e a h × AnswerNames plan r a h × IsWorldLawful plan (a ∷ h)
+abbrev pub HasAnswer : Plan → Event → Answer → Option WorldAccess → WorldHistory → Type 0
+HasAnswer plan e r None h = IsRefused plan e r h
+HasAnswer plan e r (Some a) h = IsAccessOf e a h × AnswerNames plan r a h × IsWorldLawful plan (a ∷ h)
 
 -- after a history, the event is refused, or has an access
 abbrev pub IsRefusedOrMade : Plan → Event → WorldHistory → Type 0
 IsRefusedOrMade plan e h =
-    ((r : Answer) × IsRefused plan e r h) ⊎ ((r : Answer) × (a : WorldAccess) × IsEntry plan e r (Some a) h)
+    ((r : Answer) × IsRefused plan e r h) ⊎ ((r : Answer) × (a : WorldAccess) × HasAnswer plan e r (Some a) h)
 
 -- the history with the access, if there is one
 abbrev pub with_access : Option WorldAccess → WorldHistory → WorldHistory
@@ -119,4 +119,4 @@ IsReplay plan [] [] was now = now ≡ was
 IsReplay plan [] (r ∷ rs) was now = ⊥
 IsReplay plan (e ∷ es) [] was now = ⊥
 IsReplay plan (e ∷ es) (r ∷ rs) was now =
-    (a : Option WorldAccess) × IsEntry plan e r a was × IsReplay plan es rs (with_access a was) now
+    (a : Option WorldAccess) × HasAnswer plan e r a was × IsReplay plan es rs (with_access a was) now

@@ -22,7 +22,7 @@ use Rattle.mb_world.specs.Report.{DiaryView, ReportView}
 use Rattle.mb_world.specs.Reporting.{IsDiaryOf, IsReportOf}
 use Rattle.mb_world.specs.World.{ToCells, WorldAccess, WorldHistory, histories_of}
 use Rattle.mb_world.specs.Worlds.{IsWorldLawful}
-use Rattle.mb_world.specs.Replay.{IsEntry}
+use Rattle.mb_world.specs.Replay.{HasAnswer}
 use Rattle.mb_world.specs.ConsumerPath.{claim_step, item_load, link_load}
 use Rattle.mb_world.specs.PathExamples.{first_step, two_cells, won_steps}
 
@@ -205,7 +205,7 @@ first_answers =
 
 -- after this history the event has this answer, with an access or with none
 abbrev pub Answers : Event → Answer → WorldHistory → Type 0
-Answers e r h = (a : Option WorldAccess) × IsEntry two_by_two e r a h
+Answers e r h = (a : Option WorldAccess) × HasAnswer two_by_two e r a h
 
 -- the answer to the first step of consumer 1 on its claim on cell 1
 abbrev pub first_claimed : Answer

@@ -23,7 +23,7 @@ ghost use Rattle.mb_world.specs.Worlds.{IsWorldLawful};
 ghost use Rattle.mb_world.specs.Sound.{AreSound};
 ghost use Rattle.mb_world.specs.Reporting.{IsReportOf};
 ghost use Rattle.mb_world.specs.Headline.{NothingFollowsEnds};
-ghost use Rattle.mb_world.specs.Replay.{IsEntry, IsReplay};
+ghost use Rattle.mb_world.specs.Replay.{HasAnswer, IsReplay};
 ghost use Rattle.mb_world.specs.WorldExamples.{two_by_two, offered, both_put, one_put, first_taken, second_met};
 ghost use Rattle.mb_world.specs.WorldExamples.{second_begun, all_done, all_histories, all_reported, report_with};
 ghost use Rattle.mb_world.specs.WorldExamples.{MayNotFollow, taken_unwon, taken_again, taken_lost, unmet_claimed};
@@ -297,22 +297,22 @@ pub fn events_are_replayed()
     ensures first { IsReplay two_by_two first_events first_answers [] one_put }
 
     // An item is stored.
-    ensures pushed { IsEntry two_by_two
+    ensures pushed { HasAnswer two_by_two
         (event.Push 0) (answer.Pushed (push.Item 0)) (Some (stores 0 (Item 0) 5)) offered }
 
     // A step that finds a cell, one of a claim, and one that takes an item.
-    ensures found { IsEntry two_by_two
+    ensures found { HasAnswer two_by_two
         (event.Step 1 1 7) (answer.Looked (look.Cell 1)) (Some (link_load 1 1 [] 2)) first_lost }
-    ensures claimed { IsEntry two_by_two
+    ensures claimed { HasAnswer two_by_two
         (event.Step 1 1 0) first_claimed (Some (claim_step 1 1 first_step)) second_met }
-    ensures took { IsEntry two_by_two
+    ensures took { HasAnswer two_by_two
         (event.Step 0 0 7) (answer.Took 0 5) (Some (item_load 0 0 5)) first_won }
 
     // Refusals in their order.
-    ensures closed { IsEntry two_by_two
+    ensures closed { HasAnswer two_by_two
         (event.Offer 0 7) (answer.Offered offer.Closed) None all_done }
-    ensures no_lane { IsEntry two_by_two (event.Step 2 2 0) answer.NoLane None all_done }
-    ensures no_consumer { IsEntry two_by_two (event.Step 2 1 0) answer.NoConsumer None all_done }
+    ensures no_lane { HasAnswer two_by_two (event.Step 2 2 0) answer.NoLane None all_done }
+    ensures no_consumer { HasAnswer two_by_two (event.Step 2 1 0) answer.NoConsumer None all_done }
 {
     worlds_go_on();
 }
@@ -333,7 +333,7 @@ pub fn events_are_not_misanswered()
     ensures order { Answers (event.Step 2 2 0) answer.NoConsumer all_done → ⊥ }
 
     // The random word is the event's.
-    ensures word { IsEntry two_by_two
+    ensures word { HasAnswer two_by_two
         (event.Step 1 1 1) first_claimed (Some (claim_step 1 1 first_step)) second_met → ⊥ }
 
     // An event has no answer.
