@@ -9,8 +9,8 @@ pub(crate) enum Worker<D: Drop, P: Promise<D>> {
     Inline(D),
 }
 
-/// A producer's.
+/// The worker of a producer.
 pub(crate) type PutWorker<G, A> = Worker<PutDone<A>, Puts<G, A>>;
 
-/// A consumer's.
+/// The worker of a consumer.
 pub(crate) type PollWorker<G, R, A> = Worker<PollDone<A>, Polls<G, R, A>>;
