@@ -13,18 +13,18 @@ use Rattle.mb_world.specs.Report.{ReportView}
 use Rattle.mb_world.specs.Setups.{plan_in}
 use Rattle.mb_world.specs.declared.setup.Setup.{Setup}
 
--- its terms: the plan of its mailbox, the most accesses of one poll, and each consumer's random words
+-- the terms of a run: the plan of its mailbox, the most accesses of one poll, and each consumer's random words
 pub record Terms : Type 0 where
   pub plan : Plan
   pub budget : ℕ
   pub sources : List Stream
 
--- the terms of a round whose mailbox has this setup
+-- the terms of a run in a mailbox of this setup
 abbrev pub terms_of : Setup → ℕ → List Stream → Terms
 terms_of setup budget sources = record { plan = plan_in setup; budget = budget; sources = sources }
 
--- the run of workers that led to a round's report: in a mailbox of its plan, from a hub that had issued nothing to this
--- hub, with a producer for each list, and a consumer for each source
+-- the run of workers that led to a report: in a mailbox of its plan, from a hub that had issued nothing to this hub,
+-- with a producer for each list, and a consumer for each source
 pub record IsReportedRun (may_stop may_pass : Who → ℕ → Type 0) (terms : Terms) (lists : List (List ℕ))
     (hs : Histories) (r : ReportView) : Type 0 where
   pub mailbox : MailboxView

@@ -24,6 +24,7 @@ pub words_given : (o : Options) (rngs : List ChaCha) → rngs ≡ map (source_fr
 words_given o rngs are = ap (map words_from) are
     ∙ map-map words_from (source_from o.seed) (range_with_len 0 o.consumers)
 
+-- the report and the histories are those of a run of these options
 pub reported_run : {budget n : ℕ} {lists : List (List ℕ)} {words : List Stream} (o : Options)
     (m : MailboxView) (old h : HubView) (r : ReportView) (w : Worked)
     → budget ≡ o.budget → plan_at m ≡ plan_asked o → m.cells.size ≡ size_of (plan_asked o) → old ≡ hub_empty m
