@@ -25,7 +25,8 @@ module _ {G Z : Type 0} (may_stop may_pass : G → Who → ℕ → Type 0) (gate
       subst (λ (g : G). IsPutEnd (may_stop g) (may_pass g) j d) p.1
       (subst (λ (i : PutJob Z). IsPutEnd (may_stop h.promise.gate.value)
       (may_pass h.promise.gate.value) i d) p.0 k)
-  put_kept j (worker.Inline e) d p k = subst (λ (e : PutDone Z). IsPutEnd (may_stop gate) (may_pass gate) j e) (sym k) p.0
+  put_kept j (worker.Inline e) d p k =
+      subst (λ (e : PutDone Z). IsPutEnd (may_stop gate) (may_pass gate) j e) (sym k) p.0
 
 module _ {G R Z : Type 0} (may_stop may_pass : G → Who → ℕ → Type 0) (stream : R → Stream) (gate : G) where
   pub poll_kept : (from end budget : ℕ) (j : PollJob R Z) (b : Worker (PollDone Z) (Polls G R Z)) (d : PollDone Z)

@@ -34,7 +34,8 @@ invariant_of-self g c =
     (subst (λ z. AreSteps c.args.lane 0 None (g.R.Rng.stream c.args.rng.now)
     (g.R.Rng.stream c.args.rng.now) s z) (sym hold)
     (no_steps c.args.lane (g.R.Rng.stream c.args.rng.now) s)) in
-    let new = at_views c.run_claim.new.reader c.run_claim.new.seat c.run_claim.new.places.items c.run_claim.new.notes.lists in
+    let new = at_views c.run_claim.new.reader c.run_claim.new.seat c.run_claim.new.places.items
+    c.run_claim.new.notes.lists in
     (so.is, c.run_claim.ensures.wide)
 
 pub returns-in-At-clause-no_lane : goal.returns-in-At-clause-no_lane
@@ -47,7 +48,8 @@ returns-in-At-clause-no_lane g c =
     (subst (λ z. AreSteps c.args.lane 0 None (g.R.Rng.stream c.args.rng.now)
     (g.R.Rng.stream c.args.rng.now) s z) (sym hold)
     (no_steps c.args.lane (g.R.Rng.stream c.args.rng.now) s)) in
-    let new = at_views c.run_claim.new.reader c.run_claim.new.seat c.run_claim.new.places.items c.run_claim.new.notes.lists in
+    let new = at_views c.run_claim.new.reader c.run_claim.new.seat c.run_claim.new.places.items
+    c.run_claim.new.notes.lists in
     let lanes : c.len.result ≡ c.args.mailbox.now.cells.size.lanes =
     c.len.ensures.value ∙ c.self.invariant.0.places_count
     ∙ ap (λ (z : PoolSize). z.lanes) (cells_size c.args.mailbox.now s c.args.self.now c.self.view_is c.requires.of) in (
@@ -66,7 +68,8 @@ returns-in-At-clause-refused g c =
     (subst (λ z. AreSteps c.args.lane 0 None (g.R.Rng.stream c.args.rng.now)
     (g.R.Rng.stream c.args.rng.now) s z) (sym hold)
     (no_steps c.args.lane (g.R.Rng.stream c.args.rng.now) s)) in
-    let new = at_views c.run_claim.new.reader c.run_claim.new.seat c.run_claim.new.places.items c.run_claim.new.notes.lists in
+    let new = at_views c.run_claim.new.reader c.run_claim.new.seat c.run_claim.new.places.items
+    c.run_claim.new.notes.lists in
     λ f. absurd (not_no_lane c.args.lane 0 c.args.budget c.run_claim.result
     (g.R.Rng.stream c.args.rng.now) (g.R.Rng.stream c.run_claim.new.rng) s new so f)
 
@@ -80,7 +83,8 @@ returns-in-At-clause-polled g c =
     (subst (λ z. AreSteps c.args.lane 0 None (g.R.Rng.stream c.args.rng.now)
     (g.R.Rng.stream c.args.rng.now) s z) (sym hold)
     (no_steps c.args.lane (g.R.Rng.stream c.args.rng.now) s)) in
-    let new = at_views c.run_claim.new.reader c.run_claim.new.seat c.run_claim.new.places.items c.run_claim.new.notes.lists in
+    let new = at_views c.run_claim.new.reader c.run_claim.new.seat c.run_claim.new.places.items
+    c.run_claim.new.notes.lists in
     let sum : c.args.budget + 0 ≡ c.args.budget = omega arith in
     λ _. subst (λ o. IsPollOf c.args.lane c.args.budget c.run_claim.result
     (g.R.Rng.stream c.args.rng.now) (g.R.Rng.stream c.run_claim.new.rng) o new) c.self.view_is
@@ -97,7 +101,8 @@ returns-in-At-clause-told g c =
     (subst (λ z. AreSteps c.args.lane 0 None (g.R.Rng.stream c.args.rng.now)
     (g.R.Rng.stream c.args.rng.now) s z) (sym hold)
     (no_steps c.args.lane (g.R.Rng.stream c.args.rng.now) s)) in
-    let new = at_views c.run_claim.new.reader c.run_claim.new.seat c.run_claim.new.places.items c.run_claim.new.notes.lists in
+    let new = at_views c.run_claim.new.reader c.run_claim.new.seat c.run_claim.new.places.items
+    c.run_claim.new.notes.lists in
     λ _. pursuit_tells c.args.lane 0 c.args.budget c.run_claim.result (g.R.Rng.stream c.args.rng.now)
     (g.R.Rng.stream c.run_claim.new.rng) s c.args.self.now new so
 
@@ -111,7 +116,8 @@ returns-in-At-clause-of g c =
     (subst (λ z. AreSteps c.args.lane 0 None (g.R.Rng.stream c.args.rng.now)
     (g.R.Rng.stream c.args.rng.now) s z) (sym hold)
     (no_steps c.args.lane (g.R.Rng.stream c.args.rng.now) s)) in
-    let new = at_views c.run_claim.new.reader c.run_claim.new.seat c.run_claim.new.places.items c.run_claim.new.notes.lists in
+    let new = at_views c.run_claim.new.reader c.run_claim.new.seat c.run_claim.new.places.items
+    c.run_claim.new.notes.lists in
     still_of c.args.mailbox.now c.args.lane 0 c.args.budget c.run_claim.result
     (g.R.Rng.stream c.args.rng.now) (g.R.Rng.stream c.run_claim.new.rng) s new so
     (subst (λ o. IsConsumerOf c.args.mailbox.now o) (sym c.self.view_is) c.requires.of)
