@@ -34,7 +34,7 @@ impl fmt::Display for HubFault {
     fn fmt<W: fmt::Write>(&self, f: &mut fmt::Formatter<W>) -> fmt::Result {
         f.write_str(match self {
             HubFault::AllGiven => "all numbers of the mailbox were given",
-            HubFault::NoMemory => "memory was refused",
+            HubFault::NoMemory => "out of memory",
         })
     }
 }
