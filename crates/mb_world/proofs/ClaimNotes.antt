@@ -60,18 +60,11 @@ place_read s c p k cell lanes claim read d has lanes_is is reads =
     sym reads ∙ (is ∙ (ap (λ (l : ℕ). get_or s.places (c * l + p) d) lanes_is ∙ there)) in
     (cc, cc)
 
-module _ (s : WorldState) (h : WorldHistory) (c p word k object : ℕ) (act : Act) (now : Claim) (words : List ℕ)
-    (z : Stage) (stage_is : z ≡ claim_stage now) (cell lanes cells : ℕ) (cell_is : cell ≡ k)
-    (lanes_is : lanes ≡ (plan_in s.setup).lanes) (cells_is : cells ≡ (plan_in s.setup).claims.cells)
+module _ {h : WorldHistory} {c p word k object : ℕ} {act : Act} {z : Stage}
+    (s : WorldState) (now : Claim) (words : List ℕ) (stage_is : z ≡ claim_stage now)
     (adds : EventAdds (event.Step c p word) (answer.Claimed k object act (claim_stage now))
     (with_note_if c k (note_of (claim_stage now))
     (with_place c p (place_after k now (claim_stage now)) (with_words words s))) h) where
-  -- the step adds the state with these places and notes, and with the words that the access left
-  abbrev Adds : List Place → List (Option Note) → Type 0
-  Adds places notes =
-      EventAdds (event.Step c p word) (answer.Claimed k object act z)
-      (record { setup = s.setup; pool = s.pool; words = words; places = places; notes = notes }) h
-
   -- the state as the step leaves it, for a stage that equals that of the claim now
   by_stage : EventAdds (event.Step c p word) (answer.Claimed k object act z)
       (with_note_if c k (note_of z) (with_place c p (place_after k now z) (with_words words s))) h
@@ -90,10 +83,14 @@ module _ (s : WorldState) (h : WorldHistory) (c p word k object : ℕ) (act : Ac
       (with_note_if c k (note_of z) (with_place c p e (with_words words s))) h) at by_stage)
 
   -- the claim was changed where it stands, and then left with its note
-  pub noted : (o : Option Note) (n : Note) → o ≡ note_of z → o ≡ Some n
-      → Adds (slice_set (slice_set s.places (c * lanes + p) (At cell now)) (c * lanes + p) (Before (Past k)))
-      (slice_set s.notes (c * cells + k) (Some n))
-  noted o n is some =
+  pub noted : (cell : ℕ) {lanes cells : ℕ} {o : Option Note} {n : Note} → lanes ≡ (plan_in s.setup).lanes
+      → cells ≡ (plan_in s.setup).claims.cells → o ≡ note_of z → o ≡ Some n
+      → EventAdds (event.Step c p word) (answer.Claimed k object act z) (record s {
+        words = words;
+        places = slice_set (slice_set s.places (c * lanes + p) (At cell now)) (c * lanes + p) (Before (Past k));
+        notes = slice_set s.notes (c * cells + k) (Some n);
+      }) h
+  noted cell {n = n} lanes_is cells_is is some =
       let note = sym is ∙ some in
       rw (
         lanes_is,
@@ -104,8 +101,10 @@ module _ (s : WorldState) (h : WorldHistory) (c p word k object : ℕ) (act : Ac
       (by_note (Some n) (Before (Past k)) note (past_cell k now z n note))
 
   -- the claim was changed where it stands, and has no note
-  pub unnoted : (o : Option Note) → o ≡ note_of z → ((n : Note) → o ≡ Some n → ⊥)
-      → Adds (slice_set s.places (c * lanes + p) (At cell now)) s.notes
-  unnoted None is none =
+  pub unnoted : {cell lanes : ℕ} → cell ≡ k → lanes ≡ (plan_in s.setup).lanes
+      → (o : Option Note) → o ≡ note_of z → ((n : Note) → o ≡ Some n → ⊥)
+      → EventAdds (event.Step c p word) (answer.Claimed k object act z)
+      (record s { words = words; places = slice_set s.places (c * lanes + p) (At cell now) }) h
+  unnoted cell_is lanes_is None is none =
       rw (lanes_is, cell_is) (by_note None (At k now) (sym is) (at_cell k now z (sym is)))
-  unnoted (Some n) is none = absurd (none n refl)
+  unnoted cell_is lanes_is (Some n) is none = absurd (none n refl)
