@@ -4,7 +4,7 @@ use Rattle.mb_claim.specs.declared.access.Stage.TheVariants as stage
 use Rattle.mb_claim.specs.Vocabulary.{claim_stage, most_accesses, shape_of}
 use Rattle.mb_mailbox.specs.declared.consumer.Poll.TheVariants as poll
 use Rattle.mb_world.specs.declared.place.Place.TheVariants.{At}
-use Rattle.mb_mailbox.specs.Imports.{CellsName, IsClaimIn, Lost, ReaderSeatView, SeatView, TableSize, Took, Undecided, name_of, part_on}
+use Rattle.mb_mailbox.specs.Imports.{CellsName, IsClaimIn, Lost, ReaderSeatView, TableSize, Took, Undecided, name_of, part_on}
 use Rattle.mb_mailbox.specs.Mailboxes.{MailboxView}
 use Rattle.mb_mailbox.specs.Moves.{moved_to}
 use Rattle.mb_mailbox.specs.Pursuits.{HasCompeted, consumer_with, holding}
