@@ -1,13 +1,12 @@
 -- The accesses of a place on a claim's object are accesses of the claim.
 use Rattle.std.proofs.Common.{◌≡◌, ◌≢◌, ◌+◌, ◌∙◌, arith, ℕ, zero, suc, Bool, true, List, ◌∷◌, refl, sym, subst, ap}
-use Rattle.mb_quorum.specs.Vocabulary.{QuorumTable}
 use Rattle.mb_deciding.specs.declared.access.Op.{Op}
 use Rattle.mb_deciding.specs.declared.place.pc.Next.TheVariants as leads
 use Rattle.mb_deciding.specs.Vocabulary.{PcIsAt, IsReached, CanFind, IsOpAt}
 use Rattle.mb_deciding.specs.OneStep.{IsStep}
 use Rattle.mb_deciding.specs.ManySteps.{AreSteps, DrawsAndMakes}
 use Rattle.mb_claim.specs.{Kind, Turn, Out, Pc, Claim, ClaimOp, Going, Layout, ObjectTurn, claim_stage, consumer_of, quorums_of, kinds_of}
-use Rattle.mb_claim.specs.{IsClaimStep, IsClaimIn, CanClaimFind, step_of}
+use Rattle.mb_claim.specs.{IsClaimStep, IsClaimIn, step_of}
 use Rattle.mb_claim.specs.ManyClaimSteps.{stood_at, AreClaimSteps, DrawsAndMakesNext}
 use Rattle.mb_claim.proofs.ClaimSteps.{PartsOf, same_object, claim_going}
 

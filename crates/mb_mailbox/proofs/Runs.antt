@@ -8,7 +8,7 @@ use Rattle.std.proofs.lemmas.List.Elements.{All-cons, All-head, All-tail}
 use Rattle.mb_cells.specs.Vocabulary.{HasFoundNone}
 use Rattle.mb_shared_cells.specs.Vocabulary.{CellsName}
 use Rattle.mb_mailbox.specs.Imports.{Stream}
-use Rattle.mb_mailbox.specs.Called.{WasPassed, WasPolled, WerePassed, WerePolled}
+use Rattle.mb_mailbox.specs.Called.{WasPassed, WerePassed, WerePolled}
 use Rattle.mb_mailbox.specs.Calls.{ArePassed}
 use Rattle.mb_mailbox.specs.Consumers.{ConsumerView}
 use Rattle.mb_mailbox.specs.Given.{ArePollJobs, ArePutJobs}

@@ -6,7 +6,7 @@ use Rattle.mb_claim.specs.Vocabulary.{IsWordInLayout, claims_in, claim_stage, co
 use Rattle.mb_claim.specs.Vocabulary.{AreClaimSteps, DrawsAndMakesNext, most_accesses}
 use Rattle.mb_shared_claims.specs.Types.{Claim, ClaimAccess, ClaimOp, Going, Layout, ObjectTurn, Op}
 use Rattle.mb_shared_claims.specs.ViewSteps.{ComesAfter}
-use Rattle.mb_shared_claims.specs.Seats.{SeatView, TableView, claims_at, name_of}
+use Rattle.mb_shared_claims.specs.Seats.{SeatView, TableView, name_of}
 use Rattle.mb_shared_claims.specs.SeatSteps.{IsSeatStep, MayComeNext, access_of, with_access}
 use Rattle.mb_shared_claims.specs.ManySeatSteps.{AreSeatSteps}
 use Rattle.mb_shared_claims.proofs.ClaimMoves.{CutParts, FindsTold, KeepsMemory, OwnCell, may_come, seat_step, stands_on}

@@ -1,6 +1,6 @@
 -- Proof of `SharedClaims::run`: makes accesses of a claim of the seat's consumer on a cell, each with the next word of
 -- `rng`.
-use Rattle.std.proofs.Common.{◌≡◌, ◌<◌, ap, refl, sym, ◌∙◌, subst}
+use Rattle.std.proofs.Common.{◌≡◌, ◌<◌, ap, sym, ◌∙◌, subst}
 use Rattle.mb_deciding.specs.Vocabulary.{reg_of}
 use Rattle.mb_claim.specs.Vocabulary.{IsWordInLayout, IsClaimIn, claims_in, part_on}
 use Rattle.mb_shared_claims.specs.Seats.{SeatView, TableView, name_of}
