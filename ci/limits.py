@@ -20,7 +20,7 @@ LIMITS = {
     "lines of clauses over 100 columns": 10,
     "heads of more than 20 imports": 50,
     "lines of imports over 200 columns": 1,
-    "lines of proofs over 120 columns": 140,
+    "lines of proofs over 120 columns": 45,
 }
 # The rules of the product fix the parameters of this one.
 FIXED_FUNCTION = "work"

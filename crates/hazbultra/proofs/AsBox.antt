@@ -29,9 +29,11 @@ thing_box = record {
   };
 }
 
+-- the parts of a box of a thing, as the walks take them
 abbrev pub parts_slot : Slot 0
 parts_slot = plain (λ _. parts.the_row thing.the_row heap_row.the_row ghosts)
 
+-- a block that may lead to a thing, as the walks take it
 abbrev pub block_slot : Slot 0
 block_slot = plain (λ _. block.the_row)
 

@@ -7,10 +7,12 @@ use Rattle.std.specs.Global.{Global}
 use Rattle.hazbultra.specs.Blocks.{block_owns, maybe_thing_coded}
 use Rattle.hazbultra.specs.contracts.thing.Thing.{the_row}
 
+-- the formula says that nothing is owned
 abbrev IsNothing : Fml → Type 0
 IsNothing ftrue = Unit {0}
 IsNothing _ = ⊥
 
+-- there is something
 abbrev IsThere : {X : Type 0} → Option X → Type 0
 IsThere None = ⊥
 IsThere (Some x) = Unit {0}
@@ -19,7 +21,7 @@ IsThere (Some x) = Unit {0}
 pub none_owns_nothing : (alloc : Global) (at : Ptr) → block_owns alloc at None ≡ ftrue
 none_owns_nothing alloc at = refl
 
--- and one that leads to a thing owns something
+-- a block that leads to a thing owns something
 pub some_owns_something
     : (alloc : Global) (at : Ptr) (x : the_row.Denot) → block_owns alloc at (Some x) ≡ ftrue → ⊥
 some_owns_something alloc at x same = subst IsNothing (sym same) tt

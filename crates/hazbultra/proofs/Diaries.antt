@@ -13,6 +13,7 @@ share_of : (share : Option ℕ) (all count : ℕ) → 0 < count → SomeIff shar
 share_of None all count some is = absurd (is some)
 share_of (Some s) all count some is = is.1
 
+-- the number of diaries divided by that of lanes is the number of consumers
 pub consumers_told : (n : ℕ) (r : ReportView) (share : Option ℕ) (all count : ℕ) → HasConsumers n r
     → all ≡ length r.diaries → count ≡ length r.lanes
     → SomeIff share (0 < count) (all / count) → unwrap_or share 0 ≡ n

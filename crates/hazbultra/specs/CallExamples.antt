@@ -3,7 +3,8 @@ use Rattle.std.specs.Prelude.{ℕ, [], false, replicate}
 use Rattle.mb_world.specs.Report.{ReportView}
 use Rattle.hazbultra.specs.declared.boundary.SetupIn.{SetupIn}
 
--- these numbers of producers and of cells, one consumer and one pair, over the quorum table of this number
+-- what C asks for: these numbers of producers and of cells, one consumer and one pair, over the quorum table of this
+-- number
 abbrev pub asks : ℕ → ℕ → ℕ → SetupIn
 asks producers cells table = record {
   producers = producers;

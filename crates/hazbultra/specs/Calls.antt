@@ -1,4 +1,4 @@
--- What a call does to what its handles lead to.
+-- What a call does to what its handles lead to, and the numbers with which C names tables and results.
 use Rattle.std.specs.Prelude.{◌≡◌, ℕ, if◌then◌else◌, nat_eq, Option, None, Some, slice_get}
 use Rattle.rand_core.specs.Steps.{steps_u32, stream_of}
 use Rattle.rand_core.specs.Stream.{Stream}
@@ -16,36 +16,40 @@ use Rattle.hazbultra.specs.declared.thing.Thing.TheVariants.{OfProducer, OfRepor
 use Rattle.hazbultra.specs.declared.thing.SeededConsumer.{SeededConsumer}
 
 -- ---- what a handle leads to
+-- a handle leads to a hub
 abbrev pub IsHub : Option Thing → Type 0
 IsHub (Some (OfHub h)) = Unit {0}
 IsHub _ = ⊥
 
+-- a handle leads to a producer
 abbrev pub IsProducer : Option Thing → Type 0
 IsProducer (Some (OfProducer p)) = Unit {0}
 IsProducer _ = ⊥
 
+-- a handle leads to a consumer
 abbrev pub IsConsumer : Option Thing → Type 0
 IsConsumer (Some (OfConsumer c)) = Unit {0}
 IsConsumer _ = ⊥
 
+-- a handle leads to a report
 abbrev pub IsReport : Option Thing → Type 0
 IsReport (Some (OfReport r)) = Unit {0}
 IsReport _ = ⊥
 
--- ---- before and after
+-- ---- what handles lead to before a call and after it
 -- a handle led to a hub, and leads to a hub, for which R holds
 abbrev pub HubWent : (BoundHubView → BoundHubView → Type 0) → Option Thing → Option Thing → Type 0
 HubWent R (Some (OfHub h)) (Some (OfHub k)) = R h k
 HubWent R _ _ = ⊥
 
--- the same for a producer, which stays one of its mailbox
+-- a handle led to a producer, and leads to one of the same mailbox, for which R holds
 abbrev pub ProducerWent
     : (BoundProducerView → BoundProducerView → Type 0) → Option Thing → Option Thing → Type 0
 ProducerWent R (Some (OfProducer p)) (Some (OfProducer q)) =
     (q.id ≡ p.id) × (q.mailbox ≡ p.mailbox) × R p q
 ProducerWent R _ _ = ⊥
 
--- and for a consumer
+-- a handle led to a consumer, and leads to one of the same mailbox, for which R holds
 abbrev pub ConsumerWent
     : (SeededConsumer → SeededConsumer → Type 0) → Option Thing → Option Thing → Type 0
 ConsumerWent R (Some (OfConsumer c)) (Some (OfConsumer d)) =
@@ -58,7 +62,7 @@ abbrev pub HubGave
 HubGave R (Some (OfHub h)) (Some (OfProducer p)) = R h p
 HubGave R _ _ = ⊥
 
--- and to a consumer, for which R holds
+-- a handle led to a hub, and another leads to a consumer, for which R holds
 abbrev pub HubGaveConsumer
     : (BoundHubView → SeededConsumer → Type 0) → Option Thing → Option Thing → Type 0
 HubGaveConsumer R (Some (OfHub h)) (Some (OfConsumer c)) = R h c
@@ -74,17 +78,17 @@ abbrev pub HubMade : (BoundHubView → Type 0) → Option Thing → Type 0
 HubMade R (Some (OfHub h)) = R h
 HubMade R _ = ⊥
 
--- to a producer
+-- a handle leads to a producer for which R holds
 abbrev pub ProducerMade : (BoundProducerView → Type 0) → Option Thing → Type 0
 ProducerMade R (Some (OfProducer p)) = R p
 ProducerMade R _ = ⊥
 
--- to a consumer
+-- a handle leads to a consumer for which R holds
 abbrev pub ConsumerMade : (SeededConsumer → Type 0) → Option Thing → Type 0
 ConsumerMade R (Some (OfConsumer c)) = R c
 ConsumerMade R _ = ⊥
 
--- and to a report
+-- a handle leads to a report for which R holds
 abbrev pub ReportHas : (ReportView → Type 0) → Option Thing → Type 0
 ReportHas R (Some (OfReport r)) = R r
 ReportHas R _ = ⊥
@@ -100,11 +104,12 @@ HasTakenBack h (Some (OfConsumer c)) k =
     × (k ≡ record h { hub = with_taken_consumer c.consumer.consumer h.hub })
 HasTakenBack h _ k = ⊥
 
+-- ---- random words
 -- the words that a generator of eight rounds gives from now on
 abbrev pub words_of_generator : ChaCha → Stream
 words_of_generator rng = stream_of (steps_u32 (next_word 4)) rng
 
--- ---- numbers of C
+-- ---- what numbers mean to C
 -- the quorum table of this number
 abbrev pub table_numbered : ℕ → Option TableName
 table_numbered n =

@@ -10,14 +10,15 @@ use Rattle.hazbultra.specs.declared.boundary.SetupIn.{SetupIn}
 use Rattle.hazbultra.specs.declared.thing.Thing.{Thing}
 use Rattle.hazbultra.specs.declared.thing.Thing.TheVariants.{OfConsumer, OfProducer}
 
--- ---- of a setup, by the numbers of `hazbultra.h`
+-- ---- the refusals of a setup, by the numbers of `hazbultra.h`
+-- the code of a fault of a setup
 abbrev pub setup_code : SetupFault → ℕ
 setup_code setup.BadProducers = 33
 setup_code setup.BadConsumers = 34
 setup_code setup.BadCells = 35
 setup_code setup.BadRounds = 36
 
--- a table number that names no table is the first reason of all
+-- the code of the first reason, if there is one: that the table number names no table, or else this fault of the setup
 abbrev pub first_refusal : Option TableName → Option SetupFault → Option ℕ
 first_refusal None why = Some 32
 first_refusal (Some name) None = None
@@ -28,15 +29,15 @@ abbrev pub refusal_of : SetupIn → Option ℕ
 refusal_of s =
     first_refusal (table_numbered s.table) (large_refusal s.producers s.consumers s.cells s.pairs)
 
--- ---- of a handle
--- it leads to a producer or a consumer, which a hub takes back
+-- ---- the refusals of a handle that a hub takes back
+-- a handle leads to a producer or a consumer
 abbrev pub IsPart : Option Thing → Type 0
 IsPart (Some (OfProducer p)) = Unit {0}
 IsPart (Some (OfConsumer c)) = Unit {0}
 IsPart _ = ⊥
 
--- and the mailbox of that has another number than the hub's
-abbrev pub IsOfAnother : BoundHubView → Option Thing → Type 0
-IsOfAnother h (Some (OfProducer p)) = h.id ≢ p.id
-IsOfAnother h (Some (OfConsumer c)) = h.id ≢ c.consumer.id
-IsOfAnother h _ = ⊥
+-- a handle leads to a producer or a consumer whose mailbox has another id than the hub's
+abbrev pub IsOfAnotherMailbox : BoundHubView → Option Thing → Type 0
+IsOfAnotherMailbox h (Some (OfProducer p)) = h.id ≢ p.id
+IsOfAnotherMailbox h (Some (OfConsumer c)) = h.id ≢ c.consumer.id
+IsOfAnotherMailbox h _ = ⊥

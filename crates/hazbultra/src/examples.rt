@@ -11,7 +11,7 @@ ghost use Rattle.hazbultra.specs.Calls.{HasTakenBack, HubGave, HubTold, HubWent,
 ghost use Rattle.hazbultra.specs.Calls.{ProducerWent, answer_told, table_numbered};
 ghost use Rattle.hazbultra.specs.CallExamples.{asks, report_of};
 ghost use Rattle.hazbultra.specs.Handles.{holds};
-ghost use Rattle.hazbultra.specs.Refusals.{IsOfAnother, IsPart, refusal_of};
+ghost use Rattle.hazbultra.specs.Refusals.{IsOfAnotherMailbox, IsPart, refusal_of};
 ghost use Rattle.hazbultra.specs.Reports.{HasConsumers, items_asked, note_out};
 ghost use Rattle.hazbultra.specs.declared.thing.Thing.{Thing};
 ghost use Rattle.hazbultra.specs.declared.thing.Thing.TheVariants.{OfHub, OfNothing, OfProducer};
@@ -41,19 +41,19 @@ pub fn handles_lead_to_things()
         → HubTold (λ h r. r.lanes ≡ []) (Some (OfHub h)) (Some (OfHub h)) → ⊥ }
 {}
 
-/// What a hub takes back: a producer of its own number, and nothing else.
+/// What a hub takes back: a producer or a consumer whose mailbox has the hub's id, and nothing else.
 pub fn hubs_take_their_own_back()
     ensures part { (p : BoundProducerView) → IsPart (Some (OfProducer p)) }
     ensures no_part { (h : BoundHubView) → IsPart (Some (OfHub h)) → ⊥ }
     ensures another { (h : BoundHubView) (p : BoundProducerView) → h.id ≡ 1 → p.id ≡ 2
-        → IsOfAnother h (Some (OfProducer p)) }
+        → IsOfAnotherMailbox h (Some (OfProducer p)) }
     ensures own { (h : BoundHubView) (p : BoundProducerView) → h.id ≡ p.id
-        → IsOfAnother h (Some (OfProducer p)) → ⊥ }
+        → IsOfAnotherMailbox h (Some (OfProducer p)) → ⊥ }
     ensures nothing { (h : BoundHubView) → HasTakenBack h None h → ⊥ }
     ensures stranger { (h k : BoundHubView) (p : BoundProducerView) → h.id ≢ p.id
         → HasTakenBack h (Some (OfProducer p)) k → ⊥ }
 
-    // If the numbers differ, nothing is asked of the caller. If they are equal, the mailbox has to be one.
+    // If the ids differ, nothing is asked of the caller. If they are equal, the mailbox has to be one.
     ensures other_number { (h : BoundHubView) (p : BoundProducerView) → h.id ≢ p.id
         → IsApartFrom h (Some (OfProducer p)) }
     ensures one_number { (h : BoundHubView) (p : BoundProducerView) → h.id ≡ p.id

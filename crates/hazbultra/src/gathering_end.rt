@@ -7,7 +7,7 @@ ghost use Rattle.mb_mailbox.specs.Gathering.{UndecidedHasCompany, count_missing}
 ghost use Rattle.mb_mailbox.specs.declared.gather.GatherFault.TheVariants.{Missing, NoMemory};
 ghost use Rattle.hazbultra.specs.Apart.{AreApart, IsApartFrom};
 ghost use Rattle.hazbultra.specs.Calls.{HasTakenBack, HubMade, HubTold, HubWent, IsHub};
-ghost use Rattle.hazbultra.specs.Refusals.{IsOfAnother, IsPart};
+ghost use Rattle.hazbultra.specs.Refusals.{IsOfAnotherMailbox, IsPart};
 ghost use Rattle.hazbultra.specs.declared.codes.TheConstants.{BAD_HANDLE, DONE, MISSING};
 ghost use Rattle.hazbultra.specs.declared.codes.TheConstants.{NO_MEMORY, OTHER_MAILBOX};
 
@@ -31,7 +31,7 @@ pub extern "C" fn hz_take_back(hub: &mut Handle, part: &mut Handle) -> u32
     ensures bad { (result ≡ BAD_HANDLE)
         ↔ (IsHub hub.old.block.thing × IsPart part.old.block.thing → ⊥) }
     ensures other { (result ≡ OTHER_MAILBOX)
-        ↔ HubMade (λ h. IsOfAnother h part.old.block.thing) hub.old.block.thing }
+        ↔ HubMade (λ h. IsOfAnotherMailbox h part.old.block.thing) hub.old.block.thing }
     ensures codes { (result ≡ DONE) ⊎ (result ≡ BAD_HANDLE) ⊎ (result ≡ OTHER_MAILBOX) }
     ensures same_hub { result ≢ DONE → hub.new.block.thing ≡ hub.old.block.thing }
     ensures same { result ≢ DONE → part.new.block.thing ≡ part.old.block.thing }
@@ -53,7 +53,7 @@ fn take_back(hub: &mut BoundHub<Global>, part: &mut Handle) -> u32
     ensures taken { result ≡ DONE → HasTakenBack hub.old part.old.block.thing hub.new }
     ensures gone { result ≡ DONE → part.new.block.thing ≡ None }
     ensures bad { (result ≡ BAD_HANDLE) ↔ (IsPart part.old.block.thing → ⊥) }
-    ensures other { (result ≡ OTHER_MAILBOX) ↔ IsOfAnother hub.old part.old.block.thing }
+    ensures other { (result ≡ OTHER_MAILBOX) ↔ IsOfAnotherMailbox hub.old part.old.block.thing }
     ensures codes { (result ≡ DONE) ⊎ (result ≡ BAD_HANDLE) ⊎ (result ≡ OTHER_MAILBOX) }
     ensures same_hub { result ≢ DONE → hub.new ≡ hub.old }
     ensures same { result ≢ DONE → part.new.block.thing ≡ part.old.block.thing }

@@ -27,7 +27,7 @@ address-apart size (Item p) (Head q) a b e = absurd (omega (arith, e, b))
 address-apart size (Item p) (Link q) a b e = absurd (omega (arith, e, b))
 address-apart size (Item p) (Item q) a b e = ap Item (omega (arith, e))
 
--- and lie in the block
+-- each word of the pool lies in the block
 pub address-within : (size : PoolSize) (w : Word) → IsPoolWord size w → address_of size w < pool_words size
 address-within size Counter b = omega arith
 address-within size (Head p) b = omega (arith, b)

@@ -37,7 +37,7 @@ told_nothing cells = record {
   stages = λ p lane at. ap (λ (l : Lane). l.stage) (same_lane cells p lane new_lane [] at (start_lane cells p));
 }
 
--- the lanes of other producers stand where they stood
+-- the stages of other producers' lanes stay
 stage_other : (cells : ℕ) (calls : List Call) (h : History) (a : PoolAccess) (p q : ℕ) (lane : Lane)
     → Tells cells calls h → a.process ≡ Producer p → q ≢ p
     → IsLaneAfter cells q lane (part (Producer q) (a ∷ h)) → lane.stage ≡ stage_by q calls
@@ -46,7 +46,7 @@ stage_other cells calls h a p q lane t who ne at =
     subst (λ x. is_same_process (Producer q) x ≡ false) (sym who) (ne_eqb q p ne) in
     t.stages q lane (subst (IsLaneAfter cells q lane) (part-other (Producer q) a h not_own) at)
 
--- the lane of the producer stands where its access puts it
+-- the stage of the producer's lane is that to which its access leads
 stage_own : (cells : ℕ) (h : History) (a : PoolAccess) (p : ℕ) (lane now : Lane) → a.process ≡ Producer p
     → IsLaneAfter cells p now (a ∷ part (Producer p) h)
     → IsLaneAfter cells p lane (part (Producer p) (a ∷ h)) → lane.stage ≡ now.stage
@@ -74,7 +74,7 @@ stages_after cells calls h a p now z t who next is q lane at =
           rw not_own (stage_other cells calls h a p q lane t who other at)
     ]
 
--- a call without an access leaves all stages, where its answer leaves that of its lane
+-- a call without an access leaves all stages, if its answer leaves that of its lane
 stages_kept : (cells : ℕ) (calls : List Call) (h : History) (p : ℕ) (f : LaneStage → LaneStage)
     → f (stage_by p calls) ≡ stage_by p calls → Tells cells calls h
     → (q : ℕ) (lane : Lane) → IsLaneAfter cells q lane (part (Producer q) h)
@@ -102,7 +102,7 @@ told_no_offer cells calls h p x r gives adds keeps t = record {
   stages = stages_kept cells calls h p (stage_by_offer x r) keeps t;
 }
 
--- an offer without an access
+-- an offer without an access is told
 told_refusal : (cells : ℕ) (calls : List Call) (h : History) (p x : ℕ) (lane : Lane) (r : Offer)
     → Tells cells calls h → IsLaneAfter cells p lane (part (Producer p) h)
     → stage_offer_refusal lane.stage ≡ Some r → Tells cells (Offered p x r ∷ calls) h
@@ -177,7 +177,7 @@ told_fetch cells calls h p x lane t here going =
           })
     ]
 
--- an offer
+-- every offer is told
 pub told_offer : (cells : ℕ) (calls : List Call) (h : History) (p x : ℕ) (lane : Lane) → Tells cells calls h
     → IsLaneAfter cells p lane (part (Producer p) h)
     → Tells cells (Offered p x (offer_answer cells (value_in Counter h) lane) ∷ calls)
@@ -197,13 +197,13 @@ value_in-link : (p : ℕ) (last : Option ℕ) (v : ℕ) (h : History)
 value_in-link p None v h = refl
 value_in-link p (Some k) v h = refl
 
--- and offers nothing
+-- a link store offers nothing
 item_of-link : (p : ℕ) (last : Option ℕ) (v k : ℕ) (h : History)
     → item_of k (store p (link_after p last) v ∷ h) ≡ item_of k h
 item_of-link p None v k h = refl
 item_of-link p (Some j) v k h = refl
 
--- it links its cell
+-- a link store links its cell
 linked_cells-link : (p q : ℕ) (last : Option ℕ) (k : ℕ) (h : History) → k + 1 ≢ END
     → linked_cells q (store p (link_after p last) (k + 1) ∷ h) ≡ cond (nat_eq q p) (k ∷ linked_cells q h)
     (linked_cells q h)
@@ -213,7 +213,7 @@ linked_cells-link p q (Some j) k h ne =
     let no_end : nat_eq (k + 1) END ≡ false = ne_eqb (k + 1) END ne in let m : (k + 1) - 1 ≡ k = omega arith in
     rw (no_end, m) refl
 
--- and ends no lane
+-- a link store ends no lane
 has_ended-link : (p q : ℕ) (last : Option ℕ) (k : ℕ) (h : History) → k + 1 ≢ END
     → has_ended q (store p (link_after p last) (k + 1) ∷ h) ≡ has_ended q h
 has_ended-link p q None k h ne = let no_end : nat_eq (k + 1) END ≡ false = ne_eqb (k + 1) END ne in
@@ -227,7 +227,7 @@ linked_cells-end : (p q : ℕ) (last : Option ℕ) (h : History)
 linked_cells-end p q None h = same_twice (nat_eq q p) (linked_cells q h)
 linked_cells-end p q (Some j) h = same_twice (nat_eq q p) (linked_cells q h)
 
--- and ends its lane
+-- the end mark ends its lane
 has_ended-end : (p q : ℕ) (last : Option ℕ) (h : History)
     → has_ended q (store p (link_after p last) END ∷ h) ≡ cond (nat_eq q p) true (has_ended q h)
 has_ended-end p q None h = refl
@@ -246,7 +246,7 @@ stored_below cells p lane done cell (phase.Full e) f x y = absurd (let z = sym x
 stored_below cells p lane done cell (phase.Ended None) f x y = absurd (let z = sym x ∙ y in cc)
 stored_below cells p lane done cell (phase.Ended (Some e)) f x y = absurd (let z = sym x ∙ y in cc)
 
--- a push that stores the item
+-- a push that stores the item is told
 told_item : (cells : ℕ) (calls : List Call) (h : History) (p : ℕ) (lane : Lane) (cell item : ℕ) → Tells cells calls h
     → IsLaneAfter cells p lane (part (Producer p) h) → lane.stage ≡ stage.Offered cell item
     → Tells cells (Pushed p (push.Item cell) ∷ calls) (store p (Item cell) item ∷ h)
@@ -263,7 +263,7 @@ told_item cells calls h p lane cell item t here is =
           (λ q. stage.Stored cell) t refl next (ap stage_after_push is);
     }
 
--- a push that stores the link
+-- a push that stores the link is told
 told_link : (cells : ℕ) (calls : List Call) (h : History) (p : ℕ) (lane : Lane) (cell : ℕ) → cells < END
     → Tells cells calls h → IsLaneAfter cells p lane (part (Producer p) h) → lane.stage ≡ stage.Stored cell
     → Tells cells (Pushed p (push.Link cell) ∷ calls) (store p (next_link p lane) (cell + 1) ∷ h)
@@ -283,7 +283,7 @@ told_link cells calls h p lane cell sized t here is =
           (λ q. stage.Open) t refl next (ap stage_after_push is);
     }
 
--- a push that makes no store
+-- a push that makes no store is told
 told_idle : (cells : ℕ) (calls : List Call) (h : History) (p : ℕ) → Tells cells calls h
     → Tells cells (Pushed p push.Idle ∷ calls) h
 told_idle cells calls h p t = record {
@@ -294,7 +294,7 @@ told_idle cells calls h p t = record {
   stages = stages_kept cells calls h p (stage_by_push push.Idle) refl t;
 }
 
--- a push
+-- every push is told
 pub told_push : (cells : ℕ) (calls : List Call) (h : History) (p : ℕ) (lane : Lane) → cells < END
     → Tells cells calls h → IsLaneAfter cells p lane (part (Producer p) h)
     → Tells cells (Pushed p (push_answer lane) ∷ calls) (history_after_push p lane h)
@@ -338,7 +338,7 @@ told_end cells calls h p lane t here going =
           (ap (λ z. stage.Ended (is_full z)) (t.stages p lane here));
     }
 
--- a finish
+-- every finish is told
 pub told_finish : (cells : ℕ) (calls : List Call) (h : History) (p : ℕ) (lane : Lane) → Tells cells calls h
     → IsLaneAfter cells p lane (part (Producer p) h)
     → Tells cells (Finished p (finish_answer lane) ∷ calls) (history_after_finish p lane h)

@@ -26,7 +26,7 @@ lead_words h s p (k ∷ j ∷ ks) after lt low lead = (
   lead_words h s p (j ∷ ks) after lt (λ i has. low i (inr has)) lead.1,
 )
 
--- the word behind a lane's last cell is as its history has it
+-- the word past a lane's last cell is as its history has it
 last_word : (h : History) (s : PoolState) (p : ℕ) (ks : List ℕ) → IsAfter h s → p < lane_count s
     → ((k : ℕ) → Has ks k → k < cell_count s)
     → word_in (word_of (cursor_past p ks)) s.words ≡ value_in (place_past p ks) h
@@ -161,7 +161,7 @@ calls_once size p q k calls s made x y =
     one_lane (size_of s) b.history p q k b.after.lawful
     (subst (λ z. Has z k) (sym (b.tells.cells_linked p)) x) (subst (λ z. Has z k) (sym (b.tells.cells_linked q)) y)
 
--- and there once
+-- a cell stands once in its lane
 pub calls_once_each : (size : PoolSize) (p : ℕ) (calls : List Call) (s : PoolState) → HasMade size calls s
     → IsOnceEach (linked_cells_by p calls)
 calls_once_each size p calls s made =

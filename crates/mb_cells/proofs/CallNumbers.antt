@@ -66,7 +66,7 @@ given_full cells n stage.Open past is =
       | inr high ↦ ltb-false n cells high
     ]
 
--- Full comes only where the fetch-adds before it handed out all cells
+-- Full comes only if the fetch-adds before it handed out all cells
 pub calls_full : (size : PoolSize) (p x : ℕ) (older : List Call) (s : PoolState)
     → HasMade size (Offered p x offer.Full ∷ older) s → size.cells ≤ fetch_adds_by older
 calls_full size p x older s (was, (made, (lt, meets, same))) =
@@ -101,7 +101,7 @@ calls_given size k (Offered p x offer.Closed ∷ older) s (was, (made, leads)) f
 calls_given size k (Pushed p r ∷ older) s (was, (made, leads)) few low = calls_given size k older was made few low
 calls_given size k (Finished p r ∷ older) s (was, (made, leads)) few low = calls_given size k older was made few low
 
--- Full comes only where each cell was handed out
+-- Full comes only if each cell was handed out
 pub calls_handed_out : (size : PoolSize) (p x k : ℕ) (older : List Call) (s : PoolState)
     → HasMade size (Offered p x offer.Full ∷ older) s → k < size.cells → WasGivenBy k older
 calls_handed_out size p x k older s (was, (made, leads)) low =

@@ -12,7 +12,7 @@ pub record IsCounted (h : History) : Type 0 where
   pub adds : (a : PoolAccess) (v : ℕ) → Has h a → a.word ≡ Counter → stored_by a.act ≡ Some v
       → is_fetch_add a.act ≡ true
 
--- so it was before
+-- so it was before the last access
 pub counted-tail : (a : PoolAccess) (h : History) → IsCounted (a ∷ h) → IsCounted h
 counted-tail a h c = record { memory = c.memory.1; adds = λ b v has. c.adds b v (inr has) }
 
@@ -35,7 +35,7 @@ pub record IsFetchAdd (act : PoolAct) : Type 0 where
   pub found : ℕ
   pub is : act ≡ FetchAdd item found
 
--- the test tells it
+-- the test for a fetch-add tells one
 pub fetch-add : (act : PoolAct) → is_fetch_add act ≡ true → IsFetchAdd act
 fetch-add (FetchAdd x n) is = record { item = x; found = n; is = refl }
 fetch-add _ is = absurd (false≢true is)
@@ -103,7 +103,7 @@ fetch-found a h p e c is =
     let read : ReadsLast Counter (FetchAdd e.value e.cell) h = subst (λ x. ReadsLast x.word x.act h) is c.memory.0 in
     read
 
--- so the number that it gave is below the counter from then on
+-- so the number that a fetch-add gave is below the counter from then on
 pub fetch-below : (h : History) (p : ℕ) (e : Entry) → IsCounted h → Has h (fetch p e) → e.cell < value_in Counter h
 fetch-below [] p e c has = absurd has
 fetch-below (b ∷ h) p e c (inl is) =
@@ -147,7 +147,7 @@ rising (a ∷ h) c = (
   rising h (counted-tail a h c),
 )
 
--- and so they do in each part
+-- in each part, too, the numbers rise
 pub rising-part : (who : Process) (h : History) → AreRising h → AreRising (part who h)
 rising-part who [] r = tt
 rising-part who (a ∷ h) r =

@@ -28,7 +28,7 @@ abbrev pub refusals : ℕ → ℕ → History → ℕ
 refusals cells zero h = 0
 refusals cells (suc n) h = cond (has_refused n cells h) 1 0 + refusals cells n h
 
--- at most all of them
+-- no more producers were refused than there are
 refusals-bound : (cells n : ℕ) (h : History) → refusals cells n h ≤ n
 refusals-bound cells zero h = omega arith
 refusals-bound cells (suc n) h =
@@ -48,7 +48,7 @@ one-more : (b c : Bool) → (b ≡ true → c ≡ true) → cond {A = ℕ} b 1 0
 one-more true c h = rw (h refl) (omega arith)
 one-more false c h = omega arith
 
--- the count does not fall
+-- the count of producers refused does not fall
 refusals-more : (cells n : ℕ) (a : PoolAccess) (h : History) → refusals cells n h ≤ refusals cells n (a ∷ h)
 refusals-more cells zero a h = omega arith
 refusals-more cells (suc n) a h =
@@ -58,7 +58,7 @@ refusals-more cells (suc n) a h =
       one-more (has_refused n cells h) (has_refused n cells (a ∷ h)) (refused-more n cells a h),
     )
 
--- and rises with a producer that is refused for the first time
+-- it rises with a producer that is refused for the first time
 refusals-new : (cells n p : ℕ) (a : PoolAccess) (h : History) → p < n → has_refused p cells h ≡ false
     → has_refused p cells (a ∷ h) ≡ true → refusals cells n h + 1 ≤ refusals cells n (a ∷ h)
 refusals-new cells zero p a h lt before now = absurd (omega arith)
@@ -75,7 +75,7 @@ refusals-new cells (suc n) p a h lt before now =
           omega (arith, refusals-new cells n p a h (omega arith) before now, more)
     ]
 
--- who was refused is told by the own part
+-- whether a producer was refused is told by its own part
 refused-part : (p cells : ℕ) (h : History) → has_refused p cells h ≡ has_refused p cells (part (Producer p) h)
 refused-part p cells [] = refl
 refused-part p cells (a ∷ h) =
@@ -154,7 +154,7 @@ counted size (a ∷ h) l =
           ]
     ]
 
--- and so at most cells and lanes
+-- so the counter is at most the cells and the lanes
 pub counter_bound : (size : PoolSize) (h : History) → IsPoolLawful size h → value_in Counter h ≤ size.cells + size.lanes
 counter_bound size h l = omega (arith, counted size h l, refusals-bound size.cells size.lanes h)
 

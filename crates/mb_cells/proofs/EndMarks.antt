@@ -1,4 +1,4 @@
--- The end mark: nothing follows it, it stands behind the last cell, and who loaded it was told that the lane has ended.
+-- The end mark: nothing follows it, it stands past the last cell, and who loaded it was told that the lane has ended.
 use Rattle.std.proofs.Common.{Bool, List, [], ap, arith, cond, eq-eqb, false, inl, inr, ne_eqb, refl, subst, sym, true, ℕ, ◌++◌, ◌+◌, ◌<◌, ◌||◌, ◌∙◌, ◌∷◌, ◌≡◌}
 use Rattle.std.specs.Prelude.{nat_eq}
 use Rattle.std.proofs.lemmas.Bool.{cases_Bool, false≢true}
@@ -47,7 +47,7 @@ has_ended-part p (a ∷ h) =
       | inr other ↦ rw other (has_ended-part p h)
     ]
 
--- a store to the next link marks the end where it is the end mark
+-- a store to the next link marks the end if it is the end mark
 marks-link : (p : ℕ) (es : List Entry) (v : ℕ) → marks_end (place_after p es) (Store v) ≡ nat_eq v END
 marks-link p [] v = refl
 marks-link p (e ∷ es) v = refl
@@ -68,7 +68,7 @@ has_ended-part_at p cells es (Stored e) c b = rw (eq-eqb p p refl) (open-groups 
 has_ended-part_at p cells es (Full e) c b = rw (eq-eqb p p refl) (open-groups p cells es c b)
 has_ended-part_at p cells es (Ended r) c b = rw (eq-eqb p p refl, marks-link p es END) refl
 
--- a lane has ended where its producer stands at the end
+-- a lane has ended if its producer stands at the end
 pub ended_is : (cells p : ℕ) (h : History) (es : List Entry) (phase : Phase) → cells < END
     → LaneIsAt cells p es phase (part (Producer p) h) → has_ended p h ≡ is_ended phase
 ended_is cells p h es phase c at =
@@ -99,12 +99,12 @@ after_end size (a ∷ later) older p l ended =
       | inr other ↦ part-other (Producer p) a later other ∙ none
     ]
 
--- the place behind cells is that behind their entries
+-- the place past cells is that past their entries
 place_cells : (p : ℕ) (es : List Entry) → place_past p (cells_of es) ≡ place_after p es
 place_cells p [] = refl
 place_cells p (e ∷ es) = refl
 
--- the word behind the last cell, by the end
+-- the word past the last cell, by the end
 ended-value : (phase : Phase) → end_value phase ≡ cond (is_ended phase) END 0
 ended-value Open = refl
 ended-value (Offered _) = refl
@@ -112,7 +112,7 @@ ended-value (Stored _) = refl
 ended-value (Full _) = refl
 ended-value (Ended _) = refl
 
--- the word behind the last cell of a lane
+-- the word past the last cell of a lane
 pub end_word : (size : PoolSize) (h : History) (p : ℕ) → IsPoolLawful size h
     → value_in (place_past p (linked_cells p h)) h ≡ cond (has_ended p h) END 0
 end_word size h p l =

@@ -12,23 +12,23 @@ use Rattle.mb_cells.proofs.PoolSteps.{empty_after, finish_made, offer_made, push
 abbrev pub taken_place : Lane
 taken_place = record { last = None; stage = stage.Offered 0 8 }
 
--- that has stored the item
+-- the place of a producer that has stored the item
 abbrev pub filled_place : Lane
 filled_place = record { last = None; stage = stage.Stored 0 }
 
--- that has linked the cell
+-- the place of a producer that has linked the cell
 abbrev pub put_place : Lane
 put_place = record { last = Some 0; stage = stage.Open }
 
--- that has ended its lane
+-- the place of a producer that has ended its lane
 abbrev pub ended_place : Lane
 ended_place = record { last = Some 0; stage = stage.Ended false }
 
--- that found no cell
+-- the place of a producer that found no cell
 abbrev pub full_place : Lane
 full_place = record { last = None; stage = stage.Full }
 
--- no cell was linked
+-- the last cell of a lane in which none was linked
 abbrev pub no_link : Option ℕ
 no_link = None
 
@@ -36,7 +36,7 @@ no_link = None
 pub not_linked : (k : ℕ) → no_link ≡ Some k → ⊥
 not_linked k e = cc
 
--- the item is stored
+-- the pool in which the item is stored
 abbrev pub filled_pool : PoolState
 filled_pool = one_cell 1 0 0 8 None (stage.Stored 0)
 
@@ -52,7 +52,7 @@ offer_one = offer_made new_pool 0 8 new_lane (omega arith) refl refl (omega arit
 pub taken_after : IsAfter one_taken taken_pool
 taken_after = (offer_one [] new_lane new_after (new_after.lanes 0 new_lane (omega arith))).1
 
--- which is a pool
+-- the pool whose cell was taken is sound
 taken_sound : PoolIsSound taken_pool
 taken_sound =
     record { heads = refl; links = refl; lanes = omega arith; cells = omega arith; history = (one_taken, taken_after) }
@@ -65,7 +65,7 @@ fill_one = push_made taken_pool 0 taken_place (Item 0, 8) (omega arith) taken_so
 filled_after : IsAfter (store 0 (Item 0) 8 ∷ one_taken) filled_pool
 filled_after = (fill_one one_taken taken_place taken_after (taken_after.lanes 0 taken_place (omega arith))).1
 
--- which is a pool
+-- the pool in which the item is stored is sound
 filled_sound : PoolIsSound filled_pool
 filled_sound = record {
   heads = refl;
@@ -85,7 +85,7 @@ put_after =
     (link_one (store 0 (Item 0) 8 ∷ one_taken) filled_place filled_after
     (filled_after.lanes 0 filled_place (omega arith))).1
 
--- which is a pool
+-- the pool in which the item is put is sound
 pub put_sound : PoolIsSound put_pool
 put_sound =
     record { heads = refl; links = refl; lanes = omega arith; cells = omega arith; history = (one_put, put_after) }
@@ -98,7 +98,7 @@ end_one = finish_made put_pool 0 put_place (omega arith) put_sound refl refl
 pub ended_after : IsAfter (store 0 (Link 0) END ∷ one_put) ended_pool
 ended_after = (end_one one_put put_place put_after (put_after.lanes 0 put_place (omega arith))).1
 
--- one lane and no cell
+-- a new pool of one lane and no cell
 pub no_cell_after : IsAfter [] (no_cell 0 stage.Open)
 no_cell_after = empty_after 1 0 (0 ∷ []) [] [] (new_lane ∷ []) (omega arith) (omega arith) refl refl refl refl
 

@@ -48,7 +48,7 @@ pub same-maker : (p q : ℕ) (e f : Entry) → fetch p e ≡ fetch q f → p ≡
 same-maker p q e f is =
     let e : Producer p ≡ Producer q = ap (λ (a : PoolAccess). a.process) is in cc
 
--- where producer p is
+-- producer p stands at one place of its path
 pub place_of : (size : PoolSize) (h : History) (p : ℕ) → IsPoolLawful size h
     → IsSomewhere size.cells p (part (Producer p) h)
 place_of size h p l = somewhere size.cells p (part (Producer p) h) (l.producers p)
@@ -154,7 +154,7 @@ chained size p h es phase l at =
     ∙ ap (λ x. value_in w x) at.is)
     (chained_at p es phase f)
 
--- and the word behind it holds 0 or the end mark
+-- the next link of a producer holds 0 or the end mark
 pub next_is : (size : PoolSize) (p : ℕ) (h : History) (es : List Entry) (phase : Phase) → IsPoolLawful size h
     → LaneIsAt size.cells p es phase (part (Producer p) h) → value_in (place_after p es) h ≡ end_value phase
 next_is size p h es phase l at =
@@ -202,7 +202,7 @@ linked_cells-groups p cells (e ∷ es) c b =
     rw (eq-eqb p p refl, link_of-cell p es e.cell cells c b.0)
     (ap (λ l. e.cell ∷ l) (linked_cells-groups p cells es c b.1))
 
--- and so does all that was done
+-- all that a producer has done links the cells of its entries
 linked_cells-part_at : (p cells : ℕ) (es : List Entry) (phase : Phase) → cells < END → AllCellsBelow cells es
     → linked_cells p (part_at p es phase) ≡ cells_of es
 linked_cells-part_at p cells es Open c b = linked_cells-groups p cells es c b
@@ -220,7 +220,7 @@ pub cells_at : (size : PoolSize) (p : ℕ) (h : History) (es : List Entry) (phas
 cells_at size p h es phase c at =
     linked_cells-part p h ∙ ap (linked_cells p) at.is ∙ linked_cells-part_at p size.cells es phase c at.below
 
--- the cell that follows a start of a chain: the word behind the start holds it
+-- the cell that follows a start of a chain: the word past the start holds it
 pub record IsFollowed (m : Word → ℕ) (p cells : ℕ) (es : List Entry) (ks : List ℕ) : Type 0 where
   pub cell : ℕ
   pub below : cell < cells
@@ -310,17 +310,17 @@ stays size (a ∷ h) r w v l link (inr has) some =
       | inr other ↦ value_in-other a h w other ∙ before
     ]
 
--- the place behind cells is a head or link
+-- the place past cells is a head or link
 pub link-place : (p : ℕ) (ks : List ℕ) → IsLinkWord (place_past p ks)
 link-place p [] = tt
 link-place p (k ∷ ks) = tt
 
--- a list with nothing behind it is itself
+-- a list with nothing past it is itself
 append-nil : (ks : List ℕ) → ks ++ [] ≡ ks
 append-nil [] = refl
 append-nil (k ∷ ks) = ap (λ l. k ∷ l) (append-nil ks)
 
--- the word behind the last cell holds 0 or the end mark
+-- the word past the last cell holds 0 or the end mark
 end-or-zero : (phase : Phase) → (end_value phase ≡ 0) ⊎ (end_value phase ≡ END)
 end-or-zero Open = inl refl
 end-or-zero (Offered _) = inl refl

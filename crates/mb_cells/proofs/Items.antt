@@ -19,7 +19,7 @@ record IsEntryOf (p k : ℕ) (es : List Entry) : Type 0 where
   pub fetched : Has (groups p es) (fetch p entry)
   pub holds : (m : Word → ℕ) → IsChained m p es → m (Item k) ≡ entry.value
 
--- each linked cell has one
+-- each linked cell has an entry
 linked_entry : (p k : ℕ) (es : List Entry) → Has (cells_of es) k → IsEntryOf p k es
 linked_entry p k [] has = absurd has
 linked_entry p k (e ∷ es) (inl is) = record {
@@ -97,7 +97,7 @@ item_after-older k (FetchAdd y n) h x low told =
     rw other refl
 item_after-older k _ h x low told = refl
 
--- and so does each access
+-- each access leaves the items of the cells that were handed out
 item_of-older : (k : ℕ) (b : PoolAccess) (h d : History) → k < value_in Counter h → ReadsLast b.word b.act h
     → item_of k (b ∷ d) ≡ item_of k d
 item_of-older k b h d low told =
@@ -271,14 +271,14 @@ item_load size (a ∷ h) r k v l (inr has) =
       is_put = linked_cells-more x.lane a h k x.is_put;
     }
 
--- which is the item offered
+-- a loaded item is the item offered for its cell
 pub item_value : (size : PoolSize) (h : History) (r k v : ℕ) → IsPoolLawful size h → HasLoaded r (Item k) v h
     → v ≡ item_of k h
 item_value size h r k v l has =
     let x = item_load size h r k v l has in
     x.value ∙ sym (item_of-fetch h x.lane x.entry (lawful-counted size h l) x.fetched) ∙ ap (λ k. item_of k h) x.cell
 
--- and the cell is put
+-- the cell of a loaded item is put
 pub item_put : (size : PoolSize) (h : History) (r k v : ℕ) → IsPoolLawful size h → HasLoaded r (Item k) v h
     → (p : ℕ) × Has (linked_cells p h) k
 item_put size h r k v l has = let x = item_load size h r k v l has in (x.lane, x.is_put)

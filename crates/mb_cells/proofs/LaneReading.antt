@@ -29,7 +29,7 @@ look-cell k ne =
     let back : (k + 1) - 1 ≡ k = omega arith in
     rw (zero_no, end_no, back)
 
--- what is read behind these cells is read behind the head after them
+-- what is read past these cells is read from the head on, with these cells before it
 pub reads_back : (m : Word → ℕ) (f : ℕ → ℕ) (p : ℕ) (ks : List ℕ) (rest : List Entry) (end : Look)
     → ((k : ℕ) → Has ks k → (k + 1 ≢ END) × (m (Item k) ≡ f k)) → LeadThrough m p ks
     → Reads (λ c. look_of (m (word_of c))) (λ k. m (Item k)) (cursor_past p ks) rest end
@@ -47,7 +47,7 @@ below_end : (cells : ℕ) (k : ℕ) (es : List Entry) → cells < END → AllCel
     → k + 1 ≢ END
 below_end cells k es c b has = let low : k < cells = lower cells k es b has in λ e. absurd (omega arith)
 
--- the word behind the last cell tells the end
+-- the word past the last cell tells the end
 pub end_look : (b : Bool) → look_of (cond b END 0) ≡ (if b then look.Ended else look.Nothing)
 end_look true = refl
 end_look false = refl
@@ -88,7 +88,7 @@ next_load size h r p k v later ks l is has =
       | inr e ↦ inr (e ∙ next_cell size h p k later ks l is)
     ]
 
--- and behind its last cell
+-- a load past a lane's last cell tells whether the lane has ended
 pub end_load : (size : PoolSize) (h : History) (r p v : ℕ) → IsPoolLawful size h
     → HasLoaded r (place_past p (linked_cells p h)) v h → (v ≡ 0) ⊎ ((v ≡ END) × (has_ended p h ≡ true))
 end_load size h r p v l has =

@@ -14,7 +14,7 @@ use Rattle.mb_cells.proofs.Items.{lower}
 use Rattle.mb_cells.proofs.Names.{own_process}
 use Rattle.mb_cells.proofs.Parts.{Has-of_part, Has-part}
 
--- whether an item has a cell that is not linked, and whether the last fetch-add found none
+-- whether an item has a cell that is not linked
 abbrev is_pending : Phase → Bool
 is_pending Open = false
 is_pending (Offered e) = true
@@ -22,6 +22,7 @@ is_pending (Stored e) = true
 is_pending (Full e) = false
 is_pending (Ended r) = false
 
+-- whether the last fetch-add found no cell, and the lane has not ended
 abbrev found_none : Phase → Bool
 found_none Open = false
 found_none (Offered e) = false
@@ -29,7 +30,8 @@ found_none (Stored e) = false
 found_none (Full e) = true
 found_none (Ended r) = false
 
--- ---- by the phase
+-- ---- when each call is refused, by the producer's phase
+-- an offer is refused as Closed exactly after the end mark
 closed_at : (phase : Phase) → (stage_offer_refusal (stage_of phase) ≡ Some offer.Closed) ↔ (is_ended phase ≡ true)
 closed_at Open = (λ e. cc, λ e. cc)
 closed_at (Offered x) = (λ e. cc, λ e. cc)
@@ -38,6 +40,7 @@ closed_at (Full x) = (λ e. cc, λ e. cc)
 closed_at (Ended None) = (λ e. refl, λ e. refl)
 closed_at (Ended (Some x)) = (λ e. refl, λ e. refl)
 
+-- an offer is refused as Busy exactly while an item is pending
 busy_at : (phase : Phase) → (stage_offer_refusal (stage_of phase) ≡ Some offer.Busy) ↔ (is_pending phase ≡ true)
 busy_at Open = (λ e. cc, λ e. cc)
 busy_at (Offered x) = (λ e. refl, λ e. refl)
@@ -46,6 +49,7 @@ busy_at (Full x) = (λ e. cc, λ e. cc)
 busy_at (Ended None) = (λ e. cc, λ e. cc)
 busy_at (Ended (Some x)) = (λ e. cc, λ e. cc)
 
+-- an offer is refused as Full exactly after a fetch-add that found no cell
 full_at : (phase : Phase) → (stage_offer_refusal (stage_of phase) ≡ Some offer.Full) ↔ (found_none phase ≡ true)
 full_at Open = (λ e. cc, λ e. cc)
 full_at (Offered x) = (λ e. cc, λ e. cc)
@@ -54,6 +58,7 @@ full_at (Full x) = (λ e. refl, λ e. refl)
 full_at (Ended None) = (λ e. cc, λ e. cc)
 full_at (Ended (Some x)) = (λ e. cc, λ e. cc)
 
+-- any other offer is not refused
 free_at : (phase : Phase) → is_ended phase ≡ false → is_pending phase ≡ false → found_none phase ≡ false
     → stage_offer_refusal (stage_of phase) ≡ None
 free_at Open e f g = refl
@@ -62,6 +67,7 @@ free_at (Stored x) e f g = absurd (cc)
 free_at (Full x) e f g = absurd (cc)
 free_at (Ended r) e f g = absurd (cc)
 
+-- a push stores nothing exactly if no item is pending
 idle_at : (link : Word) (phase : Phase) → (stage_push_store link (stage_of phase) ≡ None) ↔ (is_pending phase ≡ false)
 idle_at link Open = (λ e. refl, λ e. refl)
 idle_at link (Offered x) = (λ e. cc, λ e. cc)
@@ -70,6 +76,7 @@ idle_at link (Full x) = (λ e. refl, λ e. refl)
 idle_at link (Ended None) = (λ e. refl, λ e. refl)
 idle_at link (Ended (Some x)) = (λ e. refl, λ e. refl)
 
+-- a finish is refused as Closed exactly after the end mark
 over_at : (phase : Phase) → (stage_finish_refusal (stage_of phase) ≡ Some finish.Closed) ↔ (is_ended phase ≡ true)
 over_at Open = (λ e. cc, λ e. cc)
 over_at (Offered x) = (λ e. cc, λ e. cc)
@@ -78,6 +85,7 @@ over_at (Full x) = (λ e. cc, λ e. cc)
 over_at (Ended None) = (λ e. refl, λ e. refl)
 over_at (Ended (Some x)) = (λ e. refl, λ e. refl)
 
+-- a finish is refused as Busy exactly while an item is pending
 held_at : (phase : Phase) → (stage_finish_refusal (stage_of phase) ≡ Some finish.Busy) ↔ (is_pending phase ≡ true)
 held_at Open = (λ e. cc, λ e. cc)
 held_at (Offered x) = (λ e. refl, λ e. refl)
@@ -86,6 +94,7 @@ held_at (Full x) = (λ e. cc, λ e. cc)
 held_at (Ended None) = (λ e. cc, λ e. cc)
 held_at (Ended (Some x)) = (λ e. cc, λ e. cc)
 
+-- any other finish is not refused
 done_at : (phase : Phase) → is_ended phase ≡ false → is_pending phase ≡ false
     → stage_finish_refusal (stage_of phase) ≡ None
 done_at Open e f = refl
@@ -94,21 +103,24 @@ done_at (Stored x) e f = absurd (cc)
 done_at (Full x) e f = refl
 done_at (Ended r) e f = absurd (cc)
 
--- ---- by the history
+-- ---- what the phase says of the history: what is pending, and what found no cell
 -- the number that an act of the counter gave
 abbrev number_of : PoolAct → ℕ
 number_of (FetchAdd x n) = n
 number_of (Store v) = 0
 number_of (Load v) = 0
 
+-- one fetch-add gave one cell
 same_cell : (p : ℕ) (e f : Entry) → fetch p e ≡ fetch p f → e.cell ≡ f.cell
 same_cell p e f is = ap (λ (a : PoolAccess). number_of a.act) is
 
+-- whether an act is a fetch-add
 abbrev is_add : PoolAct → Bool
 is_add (FetchAdd x n) = true
 is_add (Store v) = false
 is_add (Load v) = false
 
+-- a store is no fetch-add
 no_store : (p v : ℕ) (w : Word) (e : Entry) → store p w v ≡ fetch p e → ⊥
 no_store p v w e is = let f : false ≡ true = ap (λ (a : PoolAccess). is_add a.act) is in cc
 
@@ -128,6 +140,7 @@ IsLast cells (Stored x) n = n < cells
 IsLast cells (Full x) n = cells ≤ n
 IsLast cells (Ended r) n = cells ≤ n
 
+-- each fetch-add of a producer gave the cell of an entry, or the number of its phase
 add_at : (cells p : ℕ) (es : List Entry) (phase : Phase) (d : History) → LaneIsAt cells p es phase d → (e : Entry)
     → Has (part_at p es phase) (fetch p e) → Has (cells_of es) e.cell ⊎ IsLast cells phase e.cell
 add_at cells p es Open d at e has = inl (add_in p es e has)
@@ -172,7 +185,7 @@ module _ (size : PoolSize) (h : History) (p : ℕ) (lawful : IsPoolLawful size h
         lower size.cells e.cell es at.below
         (subst (λ ks. Has ks e.cell) (cells_at size p h es phase lawful.sized at) has)
 
-  -- what is pending, by the phase
+  -- if the phase says so, an item is pending
   pending_at : (es : List Entry) (phase : Phase) (at : LaneIsAt size.cells p es phase (part (Producer p) h))
       → is_pending phase ≡ true → HasPending size.cells p h
   pending_at es Open at e = absurd (cc)
@@ -191,6 +204,7 @@ module _ (size : PoolSize) (h : History) (p : ℕ) (lawful : IsPoolLawful size h
   pending_at es (Full x) at e = absurd (cc)
   pending_at es (Ended r) at e = absurd (cc)
 
+  -- a number of the phase that is a cell's is pending
   last_pending : (phase : Phase) (n : ℕ) → n < size.cells → IsLast size.cells phase n → is_pending phase ≡ true
   last_pending Open n got last = absurd last
   last_pending (Offered x) n got last = refl
@@ -198,6 +212,7 @@ module _ (size : PoolSize) (h : History) (p : ℕ) (lawful : IsPoolLawful size h
   last_pending (Full x) n got last = absurd (omega (arith, got, last))
   last_pending (Ended r) n got last = absurd (omega (arith, got, last))
 
+  -- if an item is pending, the phase says so
   pending_tells : (es : List Entry) (phase : Phase) → LaneIsAt size.cells p es phase (part (Producer p) h)
       → HasPending size.cells p h → is_pending phase ≡ true
   pending_tells es phase at pending = elim (add_of es phase at pending.entry pending.offered) [
@@ -205,7 +220,7 @@ module _ (size : PoolSize) (h : History) (p : ℕ) (lawful : IsPoolLawful size h
     | inr last ↦ last_pending phase pending.entry.cell pending.got last
   ]
 
-  -- what found no cell
+  -- if the phase says so, a fetch-add found no cell
   none_at : (es : List Entry) (phase : Phase) (at : LaneIsAt size.cells p es phase (part (Producer p) h))
       → found_none phase ≡ true → (is_ended phase ≡ false) × HasFoundNone size.cells p h
   none_at es Open at e = absurd (cc)
@@ -215,6 +230,7 @@ module _ (size : PoolSize) (h : History) (p : ℕ) (lawful : IsPoolLawful size h
       (refl, record { entry = x; offered = made es (Full x) at x (inl refl); past = at.fits })
   none_at es (Ended r) at e = absurd (cc)
 
+  -- a number of the phase that is no cell's was found by a fetch-add that found none
   last_none : (phase : Phase) (n : ℕ) → size.cells ≤ n → is_ended phase ≡ false → IsLast size.cells phase n
       → found_none phase ≡ true
   last_none Open n past still last = absurd last
@@ -223,6 +239,7 @@ module _ (size : PoolSize) (h : History) (p : ℕ) (lawful : IsPoolLawful size h
   last_none (Full x) n past still last = refl
   last_none (Ended r) n past still last = absurd (cc)
 
+  -- if a fetch-add found no cell, the phase says so
   none_tells : (es : List Entry) (phase : Phase) → LaneIsAt size.cells p es phase (part (Producer p) h)
       → is_ended phase ≡ false → HasFoundNone size.cells p h → found_none phase ≡ true
   none_tells es phase at still none = elim (add_of es phase at none.entry none.offered) [
@@ -230,7 +247,7 @@ module _ (size : PoolSize) (h : History) (p : ℕ) (lawful : IsPoolLawful size h
     | inr last ↦ last_none phase none.entry.cell none.past still last
   ]
 
-  -- ---- the calls of a lane
+  -- ---- when each call of a lane is refused, by the history
   module _ (lane : Lane) (here : IsLaneAfter size.cells p lane (part (Producer p) h)) where
     ended : has_ended p h ≡ is_ended here.phase
     ended = ended_is size.cells p h here.entries here.phase lawful.sized here.at
@@ -256,18 +273,21 @@ module _ (size : PoolSize) (h : History) (p : ℕ) (lawful : IsPoolLawful size h
       | inr e ↦ e
     ]
 
+    -- an offer is refused as Closed exactly if the lane has ended
     pub closed : (offer_refusal lane ≡ Some offer.Closed) ↔ (has_ended p h ≡ true)
     closed = (
       λ e. ended ∙ (closed_at here.phase).0 (sym offers ∙ e),
       λ e. offers ∙ (closed_at here.phase).1 (sym ended ∙ e),
     )
 
+    -- an offer is refused as Busy exactly if an item is pending
     pub busy : (offer_refusal lane ≡ Some offer.Busy) ↔ HasPending size.cells p h
     busy = (
       λ e. pending_at here.entries here.phase here.at ((busy_at here.phase).0 (sym offers ∙ e)),
       λ pending. offers ∙ (busy_at here.phase).1 (pending_tells here.entries here.phase here.at pending),
     )
 
+    -- an offer is refused as Full exactly if a fetch-add found no cell, and the lane has not ended
     pub full : (offer_refusal lane ≡ Some offer.Full) ↔ ((has_ended p h ≡ false) × HasFoundNone size.cells p h)
     full = (
       λ e.
@@ -278,12 +298,14 @@ module _ (size : PoolSize) (h : History) (p : ℕ) (lawful : IsPoolLawful size h
           ∙ (full_at here.phase).1 (none_tells here.entries here.phase here.at (sym ended ∙ none.0) none.1),
     )
 
+    -- any other offer is not refused
     pub free : has_ended p h ≡ false → (HasPending size.cells p h → ⊥) → (HasFoundNone size.cells p h → ⊥)
         → offer_refusal lane ≡ None
     free still pending none =
         let e = sym ended ∙ still in
         offers ∙ free_at here.phase e (not_pending pending) (not_none e none)
 
+    -- a push stores nothing exactly if no item is pending
     pub idle : (push_store p lane ≡ None) ↔ (HasPending size.cells p h → ⊥)
     idle = (
       λ e pending.
@@ -293,17 +315,20 @@ module _ (size : PoolSize) (h : History) (p : ℕ) (lawful : IsPoolLawful size h
       λ none. pushes ∙ (idle_at (next_link p lane) here.phase).1 (not_pending none),
     )
 
+    -- a finish is refused as Closed exactly if the lane has ended
     pub over : (finish_refusal lane ≡ Some finish.Closed) ↔ (has_ended p h ≡ true)
     over = (
       λ e. ended ∙ (over_at here.phase).0 (sym finishes ∙ e),
       λ e. finishes ∙ (over_at here.phase).1 (sym ended ∙ e),
     )
 
+    -- a finish is refused as Busy exactly if an item is pending
     pub held : (finish_refusal lane ≡ Some finish.Busy) ↔ HasPending size.cells p h
     held = (
       λ e. pending_at here.entries here.phase here.at ((held_at here.phase).0 (sym finishes ∙ e)),
       λ pending. finishes ∙ (held_at here.phase).1 (pending_tells here.entries here.phase here.at pending),
     )
 
+    -- any other finish is not refused
     pub may_finish : has_ended p h ≡ false → (HasPending size.cells p h → ⊥) → finish_refusal lane ≡ None
     may_finish still pending = finishes ∙ done_at here.phase (sym ended ∙ still) (not_pending pending)

@@ -24,7 +24,7 @@ some_lane cells p done prefix =
       record { entries = s.entries; phase = s.phase; at = s.at; last = refl; stage = refl },
     )
 
--- and only one
+-- what a producer has done leads to one place only
 pub same_lane : (cells p : ℕ) (lane other : Lane) (done : History) → IsLaneAfter cells p lane done
     → IsLaneAfter cells p other done → lane ≡ other
 same_lane cells p lane other done x y =
@@ -38,7 +38,7 @@ pub lane_prefix : (cells p : ℕ) (lane : Lane) (done : History) → IsLaneAfter
     → IsLanePrefix cells p done
 lane_prefix cells p lane done x = prefix_at cells p x.entries x.phase done x.at
 
--- the last link or the head is the place behind the entries
+-- the last link or the head is the place past the entries
 link_place : (p : ℕ) (es : List Entry) → link_after p (last_of es) ≡ place_after p es
 link_place p [] = refl
 link_place p (e ∷ es) = refl
@@ -56,7 +56,7 @@ open_of (phase.Full e) is = absurd (cc)
 open_of (phase.Ended None) is = absurd (cc)
 open_of (phase.Ended (Some e)) is = absurd (cc)
 
--- after an offer's fetch-add
+-- the producer's place after an offer's fetch-add
 pub offered_lane : (cells p : ℕ) (lane : Lane) (done : History) (e : Entry) → IsLaneAfter cells p lane done
     → offer_refusal lane ≡ None
     → IsLaneAfter cells p (lane_after_offer cells e.value e.cell lane) (fetch p e ∷ done)
@@ -125,7 +125,7 @@ pushed_at cells p lane done es (phase.Ended None) s at last stage is =
 pushed_at cells p lane done es (phase.Ended (Some e)) s at last stage is =
     absurd (let n : None ≡ Some s = sym (ap (stage_push_store (next_link p lane)) stage) ∙ is in cc)
 
--- after a push's store
+-- the producer's place after a push's store
 pub pushed_lane : (cells p : ℕ) (lane : Lane) (done : History) (s : Word × ℕ) → IsLaneAfter cells p lane done
     → push_store p lane ≡ Some s → IsLaneAfter cells p (lane_after_push lane) (store p s.0 s.1 ∷ done)
 pushed_lane cells p lane done s x is = pushed_at cells p lane done x.entries x.phase s x.at x.last x.stage is

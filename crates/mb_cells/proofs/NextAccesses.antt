@@ -27,7 +27,7 @@ fetch_step cells p es fs was now a e is (ends_lane _) =
 fetch_step cells p es fs was now a e is (ends_refused _ f) =
     absurd (let acts : Store END ≡ FetchAdd e.value e.cell = ap (λ (x : PoolAccess). x.act) is in cc)
 
--- a fetch-add comes next only where an offer is not refused
+-- a fetch-add comes next only if an offer is not refused
 pub fetches_only : (cells p : ℕ) (lane : Lane) (done : History) (e : Entry) → IsLaneAfter cells p lane done
     → IsLanePrefix cells p (fetch p e ∷ done) → offer_refusal lane ≡ None
 fetches_only cells p lane done e x prefix =
@@ -64,7 +64,7 @@ store_step cells p es fs was now a w v is (ends_refused _ f) =
     let acts : Store END ≡ Store v = ap (λ (x : PoolAccess). x.act) is in
     inr (refl, (sym (ap (λ (x : PoolAccess). x.word) is), cc))
 
--- a store comes next only where a push or a finish makes it
+-- a store comes next only if a push or a finish makes it
 pub stores_only : (cells p : ℕ) (lane : Lane) (done : History) (w : Word) (v : ℕ) → IsLaneAfter cells p lane done
     → IsLanePrefix cells p (store p w v ∷ done)
     → (push_store p lane ≡ Some (w, v)) ⊎ ((finish_refusal lane ≡ None) × ((w ≡ next_link p lane) × (v ≡ END)))
@@ -86,7 +86,7 @@ kinds_only cells p lane done a x prefix =
     let n = steps_only cells p x.entries x.phase a done x.at prefix in
     step_kind cells p x.entries n.entries x.phase n.then a n.step
 
--- the place behind the entries is a word of the pool
+-- the place past the entries is a word of the pool
 place-word : (size : PoolSize) (p : ℕ) (es : List Entry) → p < size.lanes → AllCellsBelow size.cells es
     → IsLaneWord size (place_after p es)
 place-word size p [] lt b = lt
@@ -146,7 +146,7 @@ push_within size p lane done w v lt x is =
     by (phase.Full _) s at push = elim push [ ]
     by (phase.Ended _) s at push = elim push [ ]
 
--- and its value is a word of 64 bits
+-- the value that a push stores is a word of 64 bits
 pub push_value : (size : PoolSize) (h : History) (p : ℕ) (lane : Lane) (w : Word) (v : ℕ) → IsPoolLawful size h
     → IsLaneAfter size.cells p lane (part (Producer p) h) → push_store p lane ≡ Some (w, v) → v < 2 ^ 64
 push_value size h p lane w v l x is =
@@ -212,7 +212,7 @@ newest_within size h a l =
         subst (IsReaderPath size.lanes) (part-own (Reader r) a h own) (l.readers r) in
         word-of_pool size a.word (read_within size h r a.word (lawful-tail size a h l) path.1)
 
--- and so is each of its accesses
+-- each access of a lawful history is to a word of the pool
 pub all_within : (size : PoolSize) (h : History) (a : PoolAccess) → IsPoolLawful size h → Has h a
     → IsPoolWord size a.word
 all_within size [] a l has = absurd has

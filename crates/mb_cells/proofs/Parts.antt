@@ -25,7 +25,7 @@ Has-part who (b ∷ h) a (inr m) t =
     cond_both (is_same_process who b.process) (b ∷ part who h) (part who h) (λ l. Has l a)
     (λ _. inr (Has-part who h a m t)) (λ _. Has-part who h a m t)
 
--- and no other than the history has
+-- a part has no other access than the history has
 pub Has-of_part : (who : Process) (h : History) (a : PoolAccess) → Has (part who h) a → Has h a
 Has-of_part who [] a m = m
 Has-of_part who (b ∷ h) a m =

@@ -5,7 +5,7 @@ use Rattle.mb_cells.specs.{Word, ending, ends_lane, ends_refused, fetch, fills_c
 use Rattle.mb_cells.specs.{takes_cell}
 use Rattle.mb_cells.specs.Place.{Ended, Full, Offered, Open, Stored}
 
--- where a producer stands that has done this
+-- a producer that has done this stands at some place
 pub record IsSomewhere (cells p : ℕ) (done : History) : Type 0 where
   pub entries : List Entry
   pub phase : Phase
@@ -23,7 +23,7 @@ in_groups cells p (e ∷ es) (x ∷ y ∷ []) done b h =
     record { entries = es; phase = Offered e; at = record { below = b.1; fits = b.0; is = cc } }
 in_groups cells p (e ∷ es) (x ∷ y ∷ z ∷ later) done b h = in_groups cells p es later done b.1 (cc)
 
--- so with a fetch-add that found no cell behind them
+-- what was done of groups and a fetch-add that found no cell is at a place
 in_refusal : (cells p : ℕ) (es : List Entry) (r : Option Entry) (later done : History) → AllCellsBelow cells es
     → FindsNoCell cells r → later ++ done ≡ refusal p r (groups p es) → IsSomewhere cells p done
 in_refusal cells p es None later done b f h = in_groups cells p es later done b h
@@ -31,7 +31,7 @@ in_refusal cells p es (Some e) [] done b f h =
     record { entries = es; phase = Full e; at = record { below = b; fits = f; is = h } }
 in_refusal cells p es (Some e) (x ∷ later) done b f h = in_groups cells p es later done b (cc)
 
--- so with the end mark behind it
+-- what was done of these and the end mark is at a place
 in_ending : (cells p : ℕ) (es : List Entry) (r : Option Entry) (ended : Bool) (later done : History)
     → AllCellsBelow cells es → FindsNoCell cells r
     → later ++ done ≡ ending p (place_after p es) ended (refusal p r (groups p es)) → IsSomewhere cells p done
@@ -197,7 +197,7 @@ steps_once cells p es fs gs was now then a b is (ends_lane _) (finds_none _ f y)
 steps_once cells p es fs gs was now then a b is (ends_lane _) (ends_lane _) = (refl, refl)
 steps_once cells p es fs gs was now then a b is (ends_refused _ e) (ends_refused _ f) = (refl, refl)
 
--- nothing done is the start
+-- a producer that has done nothing is at the start
 at_start : (cells p : ℕ) (es : List Entry) (phase : Phase) → LaneIsAt cells p es phase [] → (es ≡ []) × (phase ≡ Open)
 at_start cells p [] Open at = (refl, refl)
 at_start cells p (e ∷ es) Open at = absurd (let is : [] ≡ groups p (e ∷ es) = at.is in cc)
@@ -259,7 +259,7 @@ step_kind cells p es fs was now a (links_cell _ e) = inr (place_after p es, (e.c
 step_kind cells p es fs was now a (ends_lane _) = inr (place_after p es, (END, refl))
 step_kind cells p es fs was now a (ends_refused _ e) = inr (place_after p es, (END, refl))
 
--- and so is each access that led to a place
+-- each access that led to a place is a fetch-add or a store
 pub kind_at : (cells p : ℕ) (d : History) (es : List Entry) (phase : Phase) (a : PoolAccess)
     → LaneIsAt cells p es phase d → Has d a → IsFetchOrStore p a
 kind_at cells p [] es phase a at has = absurd has

@@ -80,7 +80,7 @@ words_with-same (Head p) v ws has = get_or-set_same ws.heads p v 0 has
 words_with-same (Link k) v ws has = get_or-set_same ws.links k v 0 has
 words_with-same (Item k) v ws has = get_or-set_same ws.items k v 0 has
 
--- and each other word what it held
+-- each other word holds what it held
 words_with-other : (w x : Word) (v : ℕ) (ws : PoolWords) → is_same_word w x ≡ false
     → word_in x (words_with w v ws) ≡ word_in x ws
 words_with-other Counter Counter v ws differs = absurd (false≢true (sym differs))
@@ -112,21 +112,21 @@ words_with-items ws (Head q) v = refl
 words_with-items ws (Link k) v = refl
 words_with-items ws (Item k) v = length-set ws.items k v
 
--- and of heads
+-- a store leaves the number of heads
 pub words_with-heads : (ws : PoolWords) (w : Word) (v : ℕ) → length (words_with w v ws).heads ≡ length ws.heads
 words_with-heads ws Counter v = refl
 words_with-heads ws (Head q) v = length-set ws.heads q v
 words_with-heads ws (Link k) v = refl
 words_with-heads ws (Item k) v = refl
 
--- and of links
+-- a store leaves the number of links
 pub words_with-links : (ws : PoolWords) (w : Word) (v : ℕ) → length (words_with w v ws).links ≡ length ws.links
 words_with-links ws Counter v = refl
 words_with-links ws (Head q) v = refl
 words_with-links ws (Link k) v = length-set ws.links k v
 words_with-links ws (Item k) v = refl
 
--- a store of producer p
+-- the pool after a store of producer p
 store_after : (h : History) (s : PoolState) (p : ℕ) (w : Word) (v : ℕ) (lane : Lane) → IsAfter h s → p < lane_count s
     → HasWord w s.words → v < 2 ^ 64
     → IsLaneAfter (cell_count s) p lane (store p w v ∷ part (Producer p) h)
@@ -135,7 +135,7 @@ store_after h s p w v lane was lt has fits now =
     access_after h (store p w v) s p lane (words_with w v s.words) was refl lt
     (words_with-items s.words w v) fits tt now (words_after (size_of s) s.words h (store p w v) v has refl was.words)
 
--- a fetch-add of producer p
+-- the pool after a fetch-add of producer p
 fetch_after : (h : History) (s : PoolState) (p x : ℕ) (lane : Lane) → IsAfter h s → p < lane_count s → x < 2 ^ 64
     → s.words.counter < 2 ^ 64
     → IsLaneAfter (cell_count s) p lane
@@ -195,7 +195,7 @@ push_fits s p lane st lt sound read is =
       push_value (size_of s) h p lane st.0 st.1 was.lawful here is,
     )
 
--- a push that makes a store
+-- what a push that makes a store leaves
 pub push_made : (s : PoolState) (p : ℕ) (lane : Lane) (st : Word × ℕ) → p < lane_count s → PoolIsSound s
     → lane ≡ slice_index_or s.lanes p lane → push_store p lane ≡ Some st
     → PushMeets s p (push_answer lane)
@@ -329,7 +329,7 @@ empty_sound n m heads links items lanes few small hs ks is ls =
       history = ([], empty_after n m heads links items lanes few small hs ks is ls);
     }
 
--- a pool is sound after a store and a new place of one lane, where some history leaves it
+-- a pool is sound after a store and a new place of one lane, if some history leaves it
 pub sound_after : (s : PoolState) (w : Word) (v p : ℕ) (lane : Lane) → PoolIsSound s
     → (h : History) × IsAfter h (record { words = words_with w v s.words; lanes = slice_set s.lanes p lane })
     → PoolIsSound (record { words = words_with w v s.words; lanes = slice_set s.lanes p lane })

@@ -10,13 +10,13 @@ abbrev pub AreFalling : List Entry → Type 0
 AreFalling [] = Unit {0}
 AreFalling (e ∷ es) = AllCellsBelow e.cell es × AreFalling es
 
--- where all fetch-adds gave less than n, all cells are below n
+-- if all fetch-adds gave less than n, all cells are below n
 has_fetch : (p n : ℕ) (es : List Entry) → ((f : Entry) → Has (groups p es) (fetch p f) → f.cell < n)
     → AllCellsBelow n es
 has_fetch p n [] h = tt
 has_fetch p n (e ∷ es) h = (h e (inr (inr (inl refl))), has_fetch p n es (λ f m. h f (inr (inr (inr m)))))
 
--- where the numbers rise, the cells of the groups fall
+-- if the numbers rise, the cells of the groups fall
 falling : (p : ℕ) (es : List Entry) → AreRising (groups p es) → AreFalling es
 falling p [] r = tt
 falling p (e ∷ es) r =
@@ -35,7 +35,7 @@ IsAbove es (Ended r) = Unit {0}
 abbrev pub IsFallingAt : List Entry → Phase → Type 0
 IsFallingAt es phase = AreFalling es × IsAbove es phase
 
--- where the numbers rise, the cells fall at each place
+-- if the numbers rise, the cells fall at each place
 pub falling_at : (p : ℕ) (es : List Entry) (phase : Phase) → AreRising (part_at p es phase) → IsFallingAt es phase
 falling_at p es Open r = (falling p es r, tt)
 falling_at p es (Offered e) r = (falling p es r.1, has_fetch p e.cell es (λ f m. r.0 p p e f refl m))
@@ -75,7 +75,7 @@ record IsApart (n : ℕ) (w : Word) : Type 0 where
   item : is_same_word (Item n) w ≡ false
   link : is_same_word (Link n) w ≡ false
 
--- the place behind smaller cells is no word of this cell
+-- the place past smaller cells is no word of this cell
 apart-place : (p n : ℕ) (es : List Entry) → AllCellsBelow n es → IsApart n (place_after p es)
 apart-place p n [] b = record { counter = refl; item = refl; link = refl }
 apart-place p n (e ∷ es) b = record { counter = refl; item = refl; link = below-ne n e.cell b.0 }
@@ -88,7 +88,7 @@ apart p n (e ∷ es) w b (inr (inl is)) =
     subst (IsApart n) (sym is) (record { counter = refl; item = below-ne n e.cell b.0; link = refl })
 apart p n (e ∷ es) w b (inr (inr i)) = apart p n es w b.1 i
 
--- the place behind the last cell is no word of the chain
+-- the place past the last cell is no word of the chain
 apart-next : (p : ℕ) (es : List Entry) (w : Word) → AreFalling es → IsInChain p es w
     → is_same_word (place_after p es) w ≡ false
 apart-next p [] w f i = absurd i
@@ -175,7 +175,7 @@ chained_at p es (Ended (Some e)) f =
     in_chain-counter p (e ∷ es) w (inr (inl is)) = subst (λ x. is_same_word Counter x ≡ false) (sym is) refl
     in_chain-counter p (e ∷ es) w (inr (inr i)) = in_chain-counter p es w i
 
--- and in the word behind it 0 or the end mark
+-- the next link of a producer holds 0 or the end mark
 pub next_at : (p : ℕ) (es : List Entry) (phase : Phase) → AreFalling es
     → value_in (place_after p es) (part_at p es phase) ≡ end_value phase
 next_at p es Open f = groups-next p es f
@@ -199,7 +199,7 @@ owned-more q h k (Head p) more o = o
 owned-more q h k (Link c) more o = (o.0, (o.1.0, more (fetch q o.0) o.1.1))
 owned-more q h k (Item c) more o = (o.0, (o.1.0, more (fetch q o.0) o.1.1))
 
--- a producer owns the place behind its groups
+-- a producer owns the place past its groups
 owned-place : (q : ℕ) (es : List Entry) → IsOwned q (groups q es) (place_after q es)
 owned-place q [] = refl
 owned-place q (e ∷ es) = (e, (refl, inr (inr (inl refl))))
@@ -217,7 +217,7 @@ groups-owned q (e ∷ es) a v (inr (inr (inl at))) is = absurd (cc)
 groups-owned q (e ∷ es) a v (inr (inr (inr has))) is =
     owned-more q (groups q es) (groups q (e ∷ es)) a.word (λ b m. inr (inr (inr m))) (groups-owned q es a v has is)
 
--- a producer owns the word behind its last cell
+-- a producer owns the word past its last cell
 pub owned_next : (q : ℕ) (es : List Entry) (phase : Phase) → IsOwned q (part_at q es phase) (place_after q es)
 owned_next q es Open = owned-place q es
 owned_next q es (Offered e) = owned-more q (groups q es) (part_at q es (Offered e)) (place_after q es) (λ b m. inr m)

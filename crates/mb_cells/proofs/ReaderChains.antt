@@ -46,7 +46,7 @@ met-of lanes r (a ∷ d) k mine path (inl gift) =
         )
     by older _ _ e f g may = absurd g
 
--- so it is in a lawful history
+-- in a lawful history a cell that a reader was given lies on a chain that it met
 pub on_chain : (size : PoolSize) (h : History) (r k : ℕ) → IsPoolLawful size h → Gave k (part (Reader r) h)
     → (p : ℕ) × ((ks : List ℕ) × HasMet r p (k ∷ ks) h)
 on_chain size h r k l gave =

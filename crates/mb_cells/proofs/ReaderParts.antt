@@ -19,7 +19,7 @@ Gave-filter test (a ∷ d) k gave =
     (λ _ g. elim g [ inl gift ↦ inl gift | inr older ↦ inr (Gave-filter test d k older) ])
     (λ _ g. inr (Gave-filter test d k g)) gave
 
--- so it led to no more words
+-- a word that some of the accesses allow to load is allowed by all
 MayRead-filter : (lanes : ℕ) (test : PoolAccess → Bool) (d : History) (w : Word) → MayRead lanes w (filter test d)
     → MayRead lanes w d
 MayRead-filter lanes test d Counter may = may
@@ -27,7 +27,7 @@ MayRead-filter lanes test d (Head p) may = may
 MayRead-filter lanes test d (Link k) may = Gave-filter test d k may
 MayRead-filter lanes test d (Item k) may = Gave-filter test d k may
 
--- what came before in a part
+-- a reader path of some of the accesses is one without the last access
 path-older : (lanes : ℕ) (test : PoolAccess → Bool) (a : PoolAccess) (d : History)
     → IsReaderPath lanes (filter test (a ∷ d)) → IsReaderPath lanes (filter test d)
 path-older lanes test a d path =
@@ -35,7 +35,7 @@ path-older lanes test a d path =
     (λ l. IsReaderPath lanes l → IsReaderPath lanes (filter test d))
     (λ _ x. x.2) (λ _ x. x) path
 
--- where each access is in some part, and each part is a reader path, so is the whole
+-- if each access is in some part, and each part is a reader path, so is the whole
 pub path_of_parts : (lanes : ℕ) (test : ℕ → PoolAccess → Bool) (d : History)
     → ((a : PoolAccess) → Has d a → (p : ℕ) × (test p a ≡ true))
     → ((p : ℕ) → IsReaderPath lanes (filter (test p) d)) → IsReaderPath lanes d
@@ -49,7 +49,7 @@ path_of_parts lanes test (a ∷ d) all paths =
     let before = path_of_parts lanes test d (λ b has. all b (inr has)) (λ p. path-older lanes (test p) a d (paths p)) in
     (here.0, MayRead-filter lanes (test own.0) d a.word here.1, before)
 
--- the test for a cell is true where the cell is in the list, and there alone
+-- the test for a cell is true if the cell is in the list, and there alone
 has_cell-true : (ks : List ℕ) (k : ℕ) → Has ks k → has_cell ks k ≡ true
 has_cell-true [] k has = absurd has
 has_cell-true (j ∷ js) k (inl is) = let same : nat_eq j k ≡ true = eq-eqb j k is in rw same refl
@@ -59,7 +59,7 @@ has_cell-true (j ∷ js) k (inr has) = rw (has_cell-true js k has) (or-true (nat
     or-true true = refl
     or-true false = refl
 
--- and the other way round
+-- a cell that passes the test is in the list
 pub cell-of_true : (ks : List ℕ) (k : ℕ) → has_cell ks k ≡ true → Has ks k
 cell-of_true [] k is = absurd (false≢true is)
 cell-of_true (j ∷ js) k is =
@@ -79,7 +79,7 @@ pub met-cell : (size : PoolSize) (h : History) (r p k : ℕ) (ks : List ℕ) →
 met-cell size h r p k ks l met = let s = met_start size h r p (k ∷ ks) l met in
     start-cell s.0 ks (linked_cells p h) k s.1
 
--- these are accesses of reader r in the history
+-- all these accesses are of reader r, and in the history
 abbrev pub AreOf : ℕ → History → History → Type 0
 AreOf r h d = (a : PoolAccess) → Has d a → Has h a × (a.process ≡ Reader r)
 
@@ -225,17 +225,19 @@ gave_link size h r k v l has =
     may-now size.lanes (part (Reader r) h) (load r (Link k) v) (l.readers r)
     (Has-part (Reader r) h (load r (Link k) v) has (is_same_process-refl (Reader r)))
 
+-- who loaded the item of a cell was given the cell
 pub gave_item : (size : PoolSize) (h : History) (r k v : ℕ) → IsPoolLawful size h → HasLoaded r (Item k) v h
     → Gave k (part (Reader r) h)
 gave_item size h r k v l has =
     may-now size.lanes (part (Reader r) h) (load r (Item k) v) (l.readers r)
     (Has-part (Reader r) h (load r (Item k) v) has (is_same_process-refl (Reader r)))
 
+-- a cell in the middle of a list is in it
 has_behind : (xs js : List ℕ) (k : ℕ) → Has (xs ++ k ∷ js) k
 has_behind [] js k = inl refl
 has_behind (y ∷ xs) js k = inr (has_behind xs js k)
 
--- where a list has a cell once, what stands behind it is one list
+-- if a list has a cell once, what stands past it is one list
 one_rest : (later other ks js : List ℕ) (k : ℕ) → IsOnceEach (later ++ k ∷ ks) → later ++ k ∷ ks ≡ other ++ k ∷ js
     → ks ≡ js
 one_rest [] [] ks js k once is = tail_is ks js k is

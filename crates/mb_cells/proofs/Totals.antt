@@ -19,6 +19,7 @@ without : ℕ → List ℕ → List ℕ
 without m [] = []
 without m (k ∷ ks) = cond (nat_eq k m) ks (k ∷ without m ks)
 
+-- at most one element is missing
 length_without : (m : ℕ) (ks : List ℕ) → length ks ≤ suc (length (without m ks))
 unfolding without
 length_without m [] = omega arith
@@ -27,6 +28,7 @@ length_without m (k ∷ ks) =
     cond_both (nat_eq k m) ks (k ∷ without m ks) (λ l. suc (length ks) ≤ suc (length l)) (λ _. omega arith)
     (λ _. omega arith)
 
+-- without one of its elements a list is shorter
 shorter_without : (m : ℕ) (ks : List ℕ) → Has ks m → suc (length (without m ks)) ≤ length ks
 unfolding without
 shorter_without m [] has = absurd has
@@ -35,6 +37,7 @@ shorter_without m (k ∷ ks) has =
     (λ f. ⊎_elim (λ (e : k ≡ m). absurd (false≢true (sym f ∙ eq-eqb k m e)))
     (λ (r : Has ks m). let s = shorter_without m ks r in omega arith) has)
 
+-- what is left is in the list, and is another
 has_without : (m : ℕ) (ks : List ℕ) (j : ℕ) → IsOnceEach ks → Has (without m ks) j → Has ks j × (j ≢ m)
 unfolding without
 has_without m [] j once h = absurd h
@@ -44,6 +47,7 @@ has_without m (k ∷ ks) j once h =
     (λ f had. ⊎_elim (λ (e : k ≡ j). (inl e, λ z. false≢true (sym f ∙ eq-eqb k m (e ∙ z))))
     (λ (r : Has (without m ks) j). let t = has_without m ks j once.1 r in (inr t.0, t.1)) had) h
 
+-- another element is left
 still_without : (m : ℕ) (ks : List ℕ) (j : ℕ) → Has ks j → j ≢ m → Has (without m ks) j
 unfolding without
 still_without m [] j has apart = absurd has
@@ -52,6 +56,7 @@ still_without m (k ∷ ks) j has apart =
     (λ t. ⊎_elim (λ (e : k ≡ j). absurd (apart (sym e ∙ eqb-true k m t))) (λ (r : Has ks j). r) has)
     (λ f. ⊎_elim (λ (e : k ≡ j). inl e) (λ (r : Has ks j). inr (still_without m ks j r apart)) has)
 
+-- what is left stands once each
 once_without : (m : ℕ) (ks : List ℕ) → IsOnceEach ks → IsOnceEach (without m ks)
 unfolding without
 once_without m [] once = tt
@@ -69,7 +74,7 @@ at_most (suc m) ks once low =
     let long = length_without m ks in
     omega arith
 
--- and a list that has all of them has no less
+-- a list that has all numbers below m has no fewer than m
 at_least : (m : ℕ) (ks : List ℕ) → ((k : ℕ) → k < m → Has ks k) → m ≤ length ks
 at_least zero ks all = omega arith
 at_least (suc m) ks all =
@@ -82,11 +87,13 @@ length_put : (p : ℕ) (h : History) → length (put_list p h) ≡ length (linke
 length_put p h =
     length-reverse (map (λ k. entry_at k h) (linked_cells p h)) ∙ length-map (linked_cells p h) (λ k. entry_at k h)
 
+-- a lane has no more cells than the pool
 pub few_cells : (size : PoolSize) (h : History) (p : ℕ) → IsPoolLawful size h
     → length (linked_cells p h) ≤ size.cells
 few_cells size h p l =
     at_most size.cells (linked_cells p h) (once_each size h p l) (λ k has. (cell_within size h p k l has).1)
 
+-- no more items are put into a lane than the pool has cells
 pub few_items : (size : PoolSize) (h : History) (p : ℕ) → IsPoolLawful size h → length (put_list p h) ≤ size.cells
 few_items size h p l = omega (arith, few_cells size h p l, length_put p h)
 
@@ -95,6 +102,7 @@ cells_in : ℕ → History → List ℕ
 cells_in zero h = []
 cells_in (suc n) h = linked_cells n h ++ cells_in n h
 
+-- they are as many as the items put there
 length_cells : (n : ℕ) (h : History) → length (cells_in n h) ≡ items_put n h
 unfolding cells_in
 length_cells zero h = refl
@@ -106,21 +114,25 @@ length_cells (suc n) h =
       length_put n h,
     )
 
+-- a cell of the first list is in both joined
 has_first : (xs ys : List ℕ) (k : ℕ) → Has xs k → Has (xs ++ ys) k
 has_first [] ys k has = absurd has
 has_first (x ∷ xs) ys k (inl e) = inl e
 has_first (x ∷ xs) ys k (inr has) = inr (has_first xs ys k has)
 
+-- a cell of the second list is in both joined
 has_second : (xs ys : List ℕ) (k : ℕ) → Has ys k → Has (xs ++ ys) k
 has_second [] ys k has = has
 has_second (x ∷ xs) ys k has = inr (has_second xs ys k has)
 
+-- a cell of both joined is in one of them
 has_either : (xs ys : List ℕ) (k : ℕ) → Has (xs ++ ys) k → Has xs k ⊎ Has ys k
 has_either [] ys k has = inr has
 has_either (x ∷ xs) ys k (inl e) = inl (inl e)
 has_either (x ∷ xs) ys k (inr has) =
     ⊎_elim (λ t. inl (inr t)) (λ t. inr t) (has_either xs ys k has)
 
+-- lists without a cell in common, each with its cells once, have them once when joined
 once_both : (xs ys : List ℕ) → IsOnceEach xs → IsOnceEach ys → ((k : ℕ) → Has xs k → Has ys k → ⊥)
     → IsOnceEach (xs ++ ys)
 once_both [] ys a b apart = b
@@ -129,7 +141,7 @@ once_both (x ∷ xs) ys a b apart = (
   once_both xs ys a.1 b (λ k s t. apart k (inr s) t),
 )
 
--- each of them is in one of these lanes
+-- each cell of the first n lanes is in one of these lanes
 in_lane : (n : ℕ) (h : History) (k : ℕ) → Has (cells_in n h) k → (p : ℕ) × ((p < n) × Has (linked_cells p h) k)
 unfolding cells_in
 in_lane zero h k has = absurd has
@@ -139,6 +151,7 @@ in_lane (suc n) h k has =
     let x = in_lane n h k t in let low = x.1.0 in (x.0, (omega arith, x.1.1)))
     (has_either (linked_cells n h) (cells_in n h) k has)
 
+-- each cell of one of these lanes is among them
 lane_in : (n : ℕ) (h : History) (p k : ℕ) → p < n → Has (linked_cells p h) k → Has (cells_in n h) k
 unfolding cells_in
 lane_in zero h p k low has = absurd (omega arith)
@@ -147,7 +160,7 @@ lane_in (suc n) h p k low has = elim (cases_eq p n) [
   | inr other ↦ has_second (linked_cells n h) (cells_in n h) k (lane_in n h p k (omega (arith, other)) has)
 ]
 
--- and stands there once
+-- each cell of the first n lanes stands there once
 once_all : (size : PoolSize) (h : History) (n : ℕ) → IsPoolLawful size h → IsOnceEach (cells_in n h)
 unfolding cells_in
 once_all size h zero l = tt
@@ -159,6 +172,7 @@ once_all size h (suc n) l =
     let low = x.1.0 in
     omega (arith, same, low))
 
+-- all lanes together have no more items than there are cells
 pub few_in_all : (size : PoolSize) (h : History) → IsPoolLawful size h → items_put size.lanes h ≤ size.cells
 few_in_all size h l =
     let most = at_most size.cells (cells_in size.lanes h) (once_all size h size.lanes l)
@@ -179,6 +193,7 @@ got_by size h k l (a, (has, (word, (x, act)))) =
       | inr own ↦ absurd (let acts : FetchAdd x k ≡ Store (k + 1) = sym act ∙ own.0 in cc)
     ]
 
+-- if a fetch-add found no cell and each cell got is linked, all cells are put
 pub all_items : (size : PoolSize) (h : History) (p : ℕ) (e : Entry) → IsPoolLawful size h → Has h (fetch p e)
     → size.cells ≤ e.cell → AllLinked size h → items_put size.lanes h ≡ size.cells
 all_items size h p e l has high linked =
@@ -192,10 +207,11 @@ all_items size h p e l has high linked =
     lane_in size.lanes h x.0 k (cell_within size h x.0 k l at).0 at) in
     omega (arith, most, least, length_cells size.lanes h)
 
--- a store is no fetch-add, and one fetch-add has one number
+-- a store is no fetch-add
 not_fetch : (p : ℕ) (w : Word) (v : ℕ) (e : Entry) → store p w v ≡ fetch p e → ⊥
 not_fetch p w v e is = let acts : Store v ≡ FetchAdd e.value e.cell = ap (λ (z : PoolAccess). z.act) is in cc
 
+-- one fetch-add has one number
 cell_is : (p : ℕ) (x e : Entry) → fetch p x ≡ fetch p e → x.cell ≡ e.cell
 cell_is p x e is =
     let acts : FetchAdd x.value x.cell ≡ FetchAdd e.value e.cell = ap (λ (z : PoolAccess). z.act) is in cc
@@ -208,6 +224,7 @@ in_groups p (x ∷ es) e (inr (inl is)) = absurd (not_fetch p (Item x.cell) x.va
 in_groups p (x ∷ es) e (inr (inr (inl is))) = inl (cell_is p x e is)
 in_groups p (x ∷ es) e (inr (inr (inr has))) = inr (in_groups p es e has)
 
+-- if nothing is to be pushed, each cell that the producer got is one of its entries
 in_part : (cells p : ℕ) (es : List Entry) (phase : Phase) (lane : Lane) (done : History) (e : Entry)
     → LaneIsAt cells p es phase done → lane.stage ≡ stage_of phase → push_store p lane ≡ None
     → Has done (fetch p e) → e.cell < cells → Has (cells_of es) e.cell
@@ -230,6 +247,7 @@ in_part cells p es phase lane done e at stage idle has low =
     by (Ended (Some x)) a idle (inr (inl is)) = absurd (past x a.fits is)
     by (Ended (Some x)) a idle (inr (inr has)) = in_groups p es e has
 
+-- if nothing is to be pushed, each cell that the producer got is linked
 pub idle_linked : (size : PoolSize) (h : History) (p : ℕ) (lane : Lane) (e : Entry) → IsPoolLawful size h
     → IsLaneAfter size.cells p lane (part (Producer p) h) → push_store p lane ≡ None → Has h (fetch p e)
     → e.cell < size.cells → Has (linked_cells p h) e.cell

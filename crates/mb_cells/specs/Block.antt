@@ -10,7 +10,7 @@ use Rattle.mb_cells.specs.Standing.{IsPoolWord}
 abbrev pub pool_words : PoolSize → ℕ
 pool_words size = 1 + size.lanes + size.cells + size.cells
 
--- where a word lies: the counter first, then the heads, the links and the items
+-- the address of a word: the counter comes first, then the heads, the links and the items
 abbrev pub address_of : PoolSize → Word → ℕ
 address_of size Counter = 0
 address_of size (Head p) = 1 + p
@@ -23,7 +23,7 @@ pub record IsMemoryOf (size : PoolSize) (words : List ℕ) (h : History) : Type 
   pub room : pool_words size ≤ length words
   pub left : (w : Word) → IsPoolWord size w → slice_index words (address_of size w) ≡ value_in w h
 
--- and each process has done its part of that history
+-- the words are those of a lawful history, and each process has done its part of that history
 pub record IsStateOf (size : PoolSize) (words : List ℕ) (parts : Process → History)
     (h : History) : Type 0 where
   pub memory : IsMemoryOf size words h
@@ -35,6 +35,6 @@ block_after size a words =
     slice_set words (address_of size a.word)
     (unwrap_or (stored_by a.act) (slice_index words (address_of size a.word)))
 
--- the parts after an access
+-- the parts of all processes after an access: that of its process has it in front
 abbrev pub parts_after : PoolAccess → (Process → History) → Process → History
 parts_after a parts who = if is_same_process who a.process then a ∷ parts who else parts who

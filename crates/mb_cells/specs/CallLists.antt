@@ -79,7 +79,7 @@ has_ended_by p (Pushed q r ∷ older) = has_ended_by p older
 has_ended_by p (Finished q r ∷ older) =
     if nat_eq p q then is_end r || has_ended_by p older else has_ended_by p older
 
--- what comes after the last cell of lane p
+-- what a look past the last cell of lane p returns
 abbrev pub lane_end_by : ℕ → List Call → Look
 lane_end_by p calls = if has_ended_by p calls then look.Ended else look.Nothing
 

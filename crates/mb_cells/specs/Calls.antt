@@ -1,4 +1,4 @@
--- What each call of a pool does, for every history that leaves the old state.
+-- What each call of a lane does to a pool, for every history that leaves the old state, and that loads leave the pool.
 use Rattle.std.specs.Prelude.{IsSome, ℕ, ◌∷◌, ◌≡◌}
 use Rattle.mb_cells.specs.Types.{Counter, Finish, Lane, Offer, Producer, Push, Reader, Word}
 use Rattle.mb_cells.specs.Memory.{History, part, value_in}
@@ -15,28 +15,28 @@ OfferMeets old p x answer new =
     → (answer ≡ offer_answer (cell_count old) (value_in Counter h) lane)
     × IsAfter (history_after_offer p x (value_in Counter h) lane h) new
 
--- a push, by the place of producer p
+-- a push, by the place of producer p: the answer, and the history that leaves the new state
 abbrev pub PushMeets : PoolState → ℕ → Push → PoolState → Type 0
 PushMeets old p answer new =
     (h : History) (lane : Lane) → IsAfter h old
     → IsLaneAfter (cell_count old) p lane (part (Producer p) h)
     → (answer ≡ push_answer lane) × IsAfter (history_after_push p lane h) new
 
--- a finish, by the place of producer p
+-- a finish, by the place of producer p: the answer, and the history that leaves the new state
 abbrev pub FinishMeets : PoolState → ℕ → Finish → PoolState → Type 0
 FinishMeets old p answer new =
     (h : History) (lane : Lane) → IsAfter h old
     → IsLaneAfter (cell_count old) p lane (part (Producer p) h)
     → (answer ≡ finish_answer lane) × IsAfter (history_after_finish p lane h) new
 
--- a call that is refused by the place of producer p, without an access, changes nothing
+-- an offer that is refused by the place of producer p makes no access, and changes nothing
 abbrev pub OfferKeeps : PoolState → ℕ → PoolState → Type 0
 OfferKeeps old p new =
     (h : History) (lane : Lane) → IsAfter h old
     → IsLaneAfter (cell_count old) p lane (part (Producer p) h)
     → IsSome (offer_refusal lane) → new ≡ old
 
--- nor does a finish that is refused
+-- a finish that is refused by the place of producer p makes no access, and changes nothing
 abbrev pub FinishKeeps : PoolState → ℕ → PoolState → Type 0
 FinishKeeps old p new =
     (h : History) (lane : Lane) → IsAfter h old

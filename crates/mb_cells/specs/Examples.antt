@@ -42,7 +42,7 @@ one_read =
 abbrev pub one_offered : List Call
 one_offered = Offered 0 8 (offer.Cell 0) ∷ []
 
--- it was put, and the lane was ended
+-- the item was put, and the lane was ended
 abbrev pub one_ended : List Call
 one_ended = Finished 0 finish.Ended ∷ Pushed 0 (push.Link 0) ∷ Pushed 0 (push.Item 0) ∷ one_offered
 
@@ -58,15 +58,15 @@ one_cell counter head link item last at = record {
 abbrev pub new_pool : PoolState
 new_pool = one_cell 0 0 0 0 None stage.Open
 
--- the cell was taken
+-- the pool after the offer: the cell was taken
 abbrev pub taken_pool : PoolState
 taken_pool = one_cell 1 0 0 0 None (stage.Offered 0 8)
 
--- the item is put
+-- the pool after both pushes: the item is put
 abbrev pub put_pool : PoolState
 put_pool = one_cell 1 1 0 8 (Some 0) stage.Open
 
--- the lane is ended
+-- the pool after the finish: the lane is ended
 abbrev pub ended_pool : PoolState
 ended_pool = one_cell 1 1 END 8 (Some 0) (stage.Ended false)
 
@@ -77,6 +77,6 @@ no_cell counter at = record {
   lanes = record { last = None; stage = at } ∷ [];
 }
 
--- its offer returned Full
+-- the pool without a cell, after an offer that returned Full
 abbrev pub full_pool : PoolState
 full_pool = no_cell 1 stage.Full

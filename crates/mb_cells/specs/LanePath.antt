@@ -9,7 +9,7 @@ pub record Entry : Type 0 where
   pub cell : ℕ
   pub value : ℕ
 
--- where the next link goes, after these entries (the last first): the last link, or the lane's head
+-- the word of the next link, after these entries (the last first): the last link, or the lane's head
 abbrev pub place_after : ℕ → List Entry → Word
 place_after p [] = Head p
 place_after p (e ∷ _) = Link e.cell
@@ -22,19 +22,19 @@ fetch p e = record { process = Producer p; word = Counter; act = FetchAdd e.valu
 abbrev pub store : ℕ → Word → ℕ → PoolAccess
 store p w v = record { process = Producer p; word = w; act = Store v }
 
--- for each entry a fetch-add, then a store of the item, then a store of its link
+-- what puts these entries: for each a fetch-add, then a store of the item, then a store of its link
 abbrev pub groups : ℕ → List Entry → History
 groups p [] = []
 groups p (e ∷ es) =
     store p (place_after p es) (e.cell + 1) ∷ store p (Item e.cell) e.value ∷ fetch p e
     ∷ groups p es
 
--- then at most one fetch-add that found no cell
+-- after that history, at most one fetch-add that found no cell
 abbrev pub refusal : ℕ → Option Entry → History → History
 refusal p None h = h
 refusal p (Some e) h = fetch p e ∷ h
 
--- then at most one end mark, in the last link or the head
+-- after that history, at most one store of the end mark, in the last link or the head
 abbrev pub ending : ℕ → Word → Bool → History → History
 ending p w false h = h
 ending p w true h = store p w END ∷ h

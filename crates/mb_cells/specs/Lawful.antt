@@ -12,7 +12,7 @@ ActFits (Load v) = v < 2 ^ 64
 ActFits (Store v) = v < 2 ^ 64
 ActFits (FetchAdd x n) = (x < 2 ^ 64) × (n < 2 ^ 64)
 
--- each producer has a lane. Readers have any numbers
+-- the process is there: each producer has a lane. Readers have any numbers
 abbrev pub ProcessFits : ℕ → Process → Type 0
 ProcessFits lanes (Producer p) = p < lanes
 ProcessFits lanes (Reader r) = Unit {0}

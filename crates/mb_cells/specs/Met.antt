@@ -1,4 +1,4 @@
--- What a reader has met.
+-- What a reader has met on a lane, and what it has loaded there.
 use Rattle.std.specs.Prelude.{Bool, List, [], false, filter, nat_eq, ℕ, ◌++◌, ◌+◌, ◌||◌, ◌∷◌, ◌≡◌, ◌≢◌}
 use Rattle.mb_cells.specs.Types.{Counter, END, Head, Item, Link, Load, PoolAccess, Reader, Word}
 use Rattle.mb_cells.specs.Memory.{Has, History, part}
@@ -24,8 +24,7 @@ load r w v = record { process = Reader r; word = w; act = Load v }
 abbrev pub HasLoaded : ℕ → Word → ℕ → History → Type 0
 HasLoaded r w v h = Has h (load r w v)
 
--- the reader has met these cells (the last first) on lane p: from the head on, the link to each
--- of them was loaded.
+-- the reader has met these cells (the last first) on lane p: from the head on, the link to each of them was loaded.
 -- The end mark is no link
 abbrev pub HasMet : ℕ → ℕ → List ℕ → History → Type 0
 HasMet r p [] h = Unit {0}

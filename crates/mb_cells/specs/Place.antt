@@ -6,11 +6,11 @@ use Rattle.mb_cells.specs.LanePath.{AllCellsBelow, Entry, FindsNoCell, fetch, gr
 
 -- what a producer has done since its last link store
 pub data Phase : Type 0 where
-  -- nothing
+  -- nothing yet
   Open : Phase
   -- a fetch-add that gave a cell
   Offered : Entry → Phase
-  -- and a store of the item
+  -- a fetch-add that gave a cell, and a store of the item
   Stored : Entry → Phase
   -- a fetch-add that gave no cell
   Full : Entry → Phase

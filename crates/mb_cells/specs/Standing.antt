@@ -1,4 +1,4 @@
--- A producer's place as a plain value: what each call returns there, and what follows.
+-- A producer's place as a plain value: what each call returns there, and what follows. Also which words a pool has.
 use Rattle.std.specs.Prelude.{Bool, List, None, Option, Some, [], false, if◌then◌else◌, is_some, nat_lt, true, unwrap_or, ℕ, ◌+◌, ◌<◌, ◌∷◌, ◌≡◌}
 use Rattle.std.specs.Option.{option_map_or}
 use Rattle.mb_cells.specs.declared.lane.LaneStage.TheVariants as stage
@@ -12,12 +12,13 @@ use Rattle.mb_cells.specs.Memory.{History}
 use Rattle.mb_cells.specs.LanePath.{Entry, fetch, store}
 use Rattle.mb_cells.specs.Place.{LaneIsAt, Phase}
 
+-- ---- the place of a producer
 -- the cell that was linked last
 abbrev pub last_of : List Entry → Option ℕ
 last_of [] = None
 last_of (e ∷ _) = Some e.cell
 
--- as much of the phase as the producer has to know
+-- the stage of a producer: as much of its phase as it has to know
 abbrev pub stage_of : Phase → LaneStage
 stage_of phase.Open = stage.Open
 stage_of (phase.Offered e) = stage.Offered e.cell e.value
@@ -38,6 +39,7 @@ pub record IsLaneAfter (cells p : ℕ) (lane : Lane) (done : History) : Type 0 w
 abbrev pub new_lane : Lane
 new_lane = record { last = None; stage = stage.Open }
 
+-- ---- an offer at a place
 -- the answer of an offer without an access, by the stage
 abbrev pub stage_offer_refusal : LaneStage → Option Offer
 stage_offer_refusal (stage.Ended full) = Some offer.Closed
@@ -64,12 +66,13 @@ abbrev pub lane_after_offer : ℕ → ℕ → ℕ → Lane → Lane
 lane_after_offer cells item n lane =
     record { last = lane.last; stage = if nat_lt n cells then stage.Offered n item else stage.Full }
 
+-- ---- a push at a place
 -- the last link of lane p, or its head
 abbrev pub link_after : ℕ → Option ℕ → Word
 link_after p None = Head p
 link_after p (Some k) = Link k
 
--- where the next link or the end mark of the lane goes
+-- the word in which the next link or the end mark of the lane is stored
 abbrev pub next_link : ℕ → Lane → Word
 next_link p lane = link_after p lane.last
 
@@ -81,7 +84,7 @@ stage_push_store link (stage.Ended full) = None
 stage_push_store link stage.Full = None
 stage_push_store link stage.Open = None
 
--- a push stores first the item, then the link
+-- the store of a push, by the producer's place: first the item, then the link
 abbrev pub push_store : ℕ → Lane → Option (Word × ℕ)
 push_store p lane = stage_push_store (next_link p lane) lane.stage
 
@@ -118,6 +121,7 @@ abbrev pub lane_after_push : Lane → Lane
 lane_after_push lane =
     record { last = last_after_push lane.last lane.stage; stage = stage_after_push lane.stage }
 
+-- ---- a finish at a place
 -- the answer of a finish without an access, by the stage
 abbrev pub stage_finish_refusal : LaneStage → Option Finish
 stage_finish_refusal (stage.Ended full) = Some finish.Closed
@@ -146,20 +150,22 @@ is_full stage.Open = false
 abbrev pub lane_after_finish : Lane → Lane
 lane_after_finish lane = record { last = lane.last; stage = stage.Ended (is_full lane.stage) }
 
+-- ---- the history after each call
 -- the history, or the part, after an offer of x whose fetch-add finds n
 abbrev pub history_after_offer : ℕ → ℕ → ℕ → Lane → History → History
 history_after_offer p x n lane h =
     if is_some (offer_refusal lane) then h else (fetch p (record { cell = n; value = x }) ∷ h)
 
--- the history after a push
+-- the history, or the part, after a push
 abbrev pub history_after_push : ℕ → Lane → History → History
 history_after_push p lane h = option_map_or (λ s. store p s.0 s.1 ∷ h) (push_store p lane) h
 
--- the history after a finish
+-- the history, or the part, after a finish
 abbrev pub history_after_finish : ℕ → Lane → History → History
 history_after_finish p lane h =
     if is_some (finish_refusal lane) then h else (store p (next_link p lane) END ∷ h)
 
+-- ---- the words of a pool
 -- a word of a pool of this size
 abbrev pub IsPoolWord : PoolSize → Word → Type 0
 IsPoolWord size Counter = Unit {0}

@@ -15,7 +15,7 @@ pub record PoolWords : Type 0 where
   pub links : List ℕ
   pub items : List ℕ
 
--- the words, and the places of the producers
+-- the state of a pool: its words, and the places of its producers
 pub record PoolState : Type 0 where
   pub words : PoolWords
   pub lanes : List Lane
@@ -24,11 +24,11 @@ pub record PoolState : Type 0 where
 abbrev pub lane_count : PoolState → ℕ
 lane_count s = length s.lanes
 
--- how many cells it has
+-- how many cells a pool has
 abbrev pub cell_count : PoolState → ℕ
 cell_count s = length s.words.items
 
--- how large it is
+-- how large a pool is
 abbrev pub size_of : PoolState → PoolSize
 size_of s = pool_size (lane_count s) (cell_count s)
 
@@ -39,7 +39,7 @@ HasWord (Head p) ws = p < length ws.heads
 HasWord (Link k) ws = k < length ws.links
 HasWord (Item k) ws = k < length ws.items
 
--- what the word holds
+-- what a word of the pool holds
 abbrev pub word_in : Word → PoolWords → ℕ
 word_in Counter ws = ws.counter
 word_in (Head p) ws = slice_index ws.heads p
@@ -73,7 +73,7 @@ pub record PoolIsSound (s : PoolState) : Type 0 where
   pub cells : cell_count s < 2 ^ 32
   pub history : (h : History) × IsAfter h s
 
--- an offer changes no word that a reader sees
+-- both states have the same heads, links and items, which are all that a reader sees
 pub record IsShownAlike (old new : PoolState) : Type 0 where
   pub heads : new.words.heads ≡ old.words.heads
   pub links : new.words.links ≡ old.words.links
@@ -88,7 +88,7 @@ abbrev pub IsWithin : Cursor → PoolState → Type 0
 IsWithin (cursor.Head p) s = p < lane_count s
 IsWithin (cursor.Past k) s = k < cell_count s
 
--- the answer of a look
+-- the answer of a look at this cursor
 abbrev pub look_in : Cursor → PoolState → Look
 look_in at s = look_of (word_in (word_of at) s.words)
 

@@ -1,4 +1,4 @@
--- Different places have different addresses.
+-- Different words have different addresses, and how many words lie before an object.
 use Rattle.std.proofs.Common.{◌≡◌, ◌+◌, ◌*◌, ◌<◌, ◌≤◌, ◌⊎◌, ℕ, zero, suc, List, [], ◌∷◌, refl, sym, ap, subst, inl, inr}
 use Rattle.std.proofs.Common.{Some, length, slice_get}
 use Rattle.std.proofs.Common.{arith, mul-le-mul_right, suc-mul}
@@ -111,7 +111,7 @@ within r kinds cells k o reg p l =
     let s : suc k * row_words r kinds ≡ k * row_words r kinds + row_words r kinds = suc-mul k (row_words r kinds) in
     omega arith
 
--- ---- object by object
+-- ---- how many words objects have, and how many lie before one
 -- an object has few words
 pub width_few : (r : ℕ) (k : Kind) → width r k ≤ 1 + r
 width_few r (Conciliator s) = omega arith
@@ -123,7 +123,7 @@ pub words_before-first : (r : ℕ) (kinds : List Kind) → words_before r kinds 
 words_before-first r [] = refl
 words_before-first r (k ∷ ks) = refl
 
--- one more object has its words
+-- before the next object lie the words of one more
 pub words_before-next :
     (r : ℕ) (kinds : List Kind) (o : ℕ) (kind : Kind) → slice_get kinds o ≡ Some kind
     → words_before r kinds (suc o) ≡ words_before r kinds o + width r kind
@@ -133,21 +133,22 @@ words_before-next r (k ∷ ks) zero kind e =
     omega (arith, same, words_before-first r ks)
 words_before-next r (k ∷ ks) (suc o) kind e = omega (arith, words_before-next r ks o kind e)
 
--- those before the end are all
+-- the words before the end of a row are all
 pub words_before-all : (r : ℕ) (kinds : List Kind) → words_before r kinds (length kinds) ≡ row_words r kinds
 words_before-all r [] = refl
 words_before-all r (k ∷ ks) = omega (arith, words_before-all r ks)
 
--- so many objects have few words
+-- before object o lie at most o times the words of a ratifier
 pub words_before-few : (r : ℕ) (kinds : List Kind) (o : ℕ) → words_before r kinds o ≤ o * (1 + r)
 words_before-few r [] o = omega arith
 words_before-few r (k ∷ ks) zero = omega arith
 words_before-few r (k ∷ ks) (suc o) = omega (arith, width_few r k, words_before-few r ks o, suc-mul o (1 + r))
 
+-- a row has at most the words of as many ratifiers
 pub row_words-few : (r : ℕ) (kinds : List Kind) → row_words r kinds ≤ length kinds * (1 + r)
 row_words-few r kinds = omega (arith, words_before-all r kinds, words_before-few r kinds (length kinds))
 
--- ---- pairs
+-- ---- the words of a row of pairs
 -- a pair has the words of its two objects
 pub row_words-pairs_of : (r s n : ℕ) → row_words r (pairs_of s n) ≡ n * (2 + r)
 row_words-pairs_of r s zero = omega arith
@@ -165,7 +166,7 @@ words_before-pairs_of r s (suc n) zero j (suc (suc o)) e f h = absurd (omega ari
 words_before-pairs_of r s (suc n) (suc i) j (suc (suc o)) e f h =
     let g = words_before-pairs_of r s n i j o (omega arith) f (omega arith) in omega arith
 
--- where a word of a pair lies
+-- the address of a word of a pair
 pub pair_address :
     (r s n k i j : ℕ) (reg : Reg) → i < n → j < 2
     → address_of r (pairs_of s n) k (2 * i + j) reg ≡ k * (n * (2 + r)) + i * (2 + r) + (j + offset reg)

@@ -14,7 +14,7 @@ none_left : (t : QuorumTable) (c o v : ℕ) (xs : List ObjectTurn) (s : Stage) �
 none_left t c o v xs s (inl p) = p.0
 none_left t c o v xs s (inr p) = p.0
 
--- no consumer makes more turns on the objects that are left
+-- no consumer makes more turns on the objects that are left than they allow
 rest_bounded :
     (t : QuorumTable) (hs : ℕ → List Access) → AreDeciding t
     → (ks : List Kind) (o : ℕ) (P : ℕ → Type 0) (fam : Family t ks o hs P) (c : ℕ)
@@ -30,7 +30,7 @@ rest_bounded t hs law (k ∷ ks) o P fam c =
       rest_bounded t hs law ks (suc o) P (next t k ks o hs P fam (law k)) c,
     )
 
--- no claim makes more accesses
+-- no claim makes more accesses than its objects allow
 pub claim_bounded :
     (cs : Claims) → AreDeciding cs.table → (h : List ClaimAccess) (c k : ℕ) → IsClaimLawful cs h
     → length (part_on c k h) ≤ most_on_objects cs.table cs.kinds
@@ -55,10 +55,12 @@ pub most-append :
 most-append t [] ys = omega arith
 most-append t (kind ∷ xs) ys = omega (arith, most-append t xs ys)
 
+-- a fast path takes what it adds to a row
 fast_most : (t : QuorumTable) (b : Bool) → most_on_objects t (fast_row b) ≡ fast_steps t b
 fast_most t true = omega arith
 fast_most t false = omega arith
 
+-- a last object takes what it adds to a row
 last_most : (t : QuorumTable) (b : Bool) → most_on_objects t (last_row b) ≡ last_steps b
 last_most t true = omega arith
 last_most t false = omega arith

@@ -8,21 +8,21 @@ use Rattle.mb_claim.specs.{Claims, ClaimAccess, step_by, part_on, access_on, obj
 use Rattle.mb_claim.specs.{IsMemoryTrue, AreInWords, on_cell, IsClaimPart, IsClaimLawful}
 use Rattle.mb_claim.proofs.Lists.{filter_map-filter_map, filter_map_agree}
 
--- a pick from the accesses that pass a test is a pick from all, where the others give nothing
+-- a pick from the accesses that pass a test is a pick from all, if the others give nothing
 picks :
     {B : Type 0} (g : ClaimAccess → Option B) (b : Bool) (a : ClaimAccess) → (b ≡ false → g a ≡ None)
     → option_and_then g (cond b (Some a) None) ≡ g a
 picks g true a none = refl
 picks g false a none = sym (none refl)
 
--- a pick from the accesses that pass a test gives nothing, where these give nothing
+-- a pick from the accesses that pass a test gives nothing, if these give nothing
 drops :
     {B : Type 0} (g : ClaimAccess → Option B) (b : Bool) (a : ClaimAccess) → (b ≡ true → g a ≡ None)
     → option_and_then g (cond b (Some a) None) ≡ None
 drops g true a none = none refl
 drops g false a none = refl
 
--- where each element gives nothing, nothing is picked
+-- if each element gives nothing, nothing is picked
 none_picked : {A B : Type 0} (h : List A) → filter_map {X = A} {Y = B} (λ a. None) h ≡ []
 none_picked [] = refl
 none_picked (a ∷ h) = none_picked h

@@ -93,15 +93,15 @@ module _ (t : QuorumTable) (kinds : List Kind) (c object : ℕ) (pc : Pc) (xs : 
         place = at;
       }
 
-  -- it was the last one and did not decide
+  -- the object was the last one and did not decide
   undecided_last :
       (u : ℕ) → IsPath t p.kind p.input (x ∷ p.turns) (answer false u) → slice_get kinds (suc object) ≡ None
       → IsClaimPrefixFrom t c kinds 0 c (record { object = object; turn = x } ∷ xs) Undecided
   undecided_last u path last =
       undecided_here t kinds c object pc xs p x u path (none_of p.after (sym next_kind ∙ last))
 
--- ---- the claim
--- a claim that stands at its place makes a part that goes on
+-- ---- a claim with an access: it goes on, or has ended
+-- what is asked of the objects: a claim that stands at its place makes a part that goes on
 abbrev pub PartsOf : QuorumTable → List Kind → Type 0
 PartsOf t kinds = (c object : ℕ) (pc : Pc) (xs : List ObjectTurn) → StandsAt t kinds c object pc xs
     → IsClaimPrefixFrom t c kinds 0 c xs Going
@@ -138,12 +138,12 @@ claim_ended t kinds claim x xs known ended begun prefix =
 pub stage_for-own : (c u : ℕ) → u ≡ c → stage_for c u ≡ Won
 stage_for-own c u e = ap (λ b. cond b Won (Lost u)) (eq-eqb c u (sym e))
 
--- and of one where another was
+-- the stage of a consumer, if another number was decided
 pub stage_for-other : (c u : ℕ) → u ≢ c → stage_for c u ≡ Lost u
 stage_for-other c u ne = ap (λ b. cond b Won (Lost u)) (ne_eqb c u (λ e. ne (sym e)))
 
--- ---- the first object
--- a claim without an access stands on it
+-- ---- a claim at its beginning, and after an object's end
+-- a claim without an access stands on the first object
 pub stands_first :
     (t : QuorumTable) (kinds : List Kind) (kind : Kind) (c : ℕ) (pc : Pc) → slice_get kinds 0 ≡ Some kind → c < t.values
     → PcIsAt t kind c pc [] → StandsAt t kinds c 0 pc []
@@ -205,7 +205,7 @@ claim_decided t kinds claim object pc xs p x u known begun ended is path =
     (record { object = object; turn = x } ∷ xs) s) (sym is)
     (decided_here t kinds claim.consumer object pc xs p x u path))
 
--- ---- calls
+-- ---- the object on which a claim stands, as calls ask for it
 -- a process at a place is at one that fits the table
 at_place : (t : QuorumTable) (kind : Kind) (v : ℕ) (pc : Pc) (turns : List Turn)
     → PcIsAt t kind v pc turns → IsPlace t pc
@@ -232,7 +232,7 @@ on_object layout claim xs of going =
       place = at_place (quorums_of layout) p.kind p.input claim.place p.turns p.place;
     }
 
--- and so on the one that its next access goes to
+-- that object is the one of the claim's next access
 pub stands_next :
     (layout : Layout) (claim : Claim) (next : ClaimOp) (xs : List ObjectTurn)
     → IsClaimOf (quorums_of layout) (kinds_of layout) claim xs → claim.stage ≡ Going

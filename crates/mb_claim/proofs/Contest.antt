@@ -1,4 +1,4 @@
--- A claim is undecided only where each ratifier saw two values.
+-- A claim is undecided only if each ratifier saw two values.
 use Rattle.std.proofs.Common.{◌≡◌, ◌≢◌, ◌+◌, ℕ, zero, suc, false, Some, List, [], ◌∷◌, refl, sym, ◌∙◌, ap, subst, inl}
 use Rattle.std.proofs.Common.{slice_get, arith}
 use Rattle.std.proofs.lemmas.Option.{none-some, same_Some}
@@ -68,7 +68,7 @@ module _
   enter_next law' c n w ne q =
       let came = (step t k ks o hs P fam c).came ne in enter c n w came.nonempty (came.enters n w q)
 
--- where a claim is undecided, each ratifier from object o on has seen two values
+-- if a claim is undecided, each ratifier from object o on has seen two values
 pub contention :
     (t : QuorumTable) (hs : ℕ → List Access) → AreDeciding t → AreRatifying t
     → (E : ℕ → ℕ → ℕ → Type 0) (ks : List Kind) (o : ℕ) (P : ℕ → Type 0) (fam : Family t ks o hs P)

@@ -18,14 +18,14 @@ use Rattle.mb_claim.proofs.Unique.{used_once}
 use Rattle.mb_claim.proofs.PassedObjects.{forward_passes}
 use Rattle.mb_claim.proofs.LawfulExamples.{conciliated, ratified}
 
--- ---- begun again
--- the first three turns of that history, which are a whole path
+-- ---- consumer 0 begins again on an object that it has left
+-- the first three turns of `begun_again`, which are a whole path
 abbrev first_turns : List Turn
 first_turns =
     record { act = Load Value 1; word = 0 } ∷ record { act = Store Value 1; word = 0 }
     ∷ record { act = Load Value 0; word = 0 } ∷ []
 
--- behind a whole path of object 0 there would be a turn
+-- after a whole path of object 0 there would be a turn
 pub not_again : OfKind (unary_table 2) (Conciliator 2) → IsClaimLawful two_consumers begun_again → ⊥
 not_again law bad =
     let xs : List ObjectTurn = part_on 0 0 begun_again in
@@ -36,8 +36,8 @@ not_again law bad =
     (used_once (unary_table 2) (Conciliator 2) law 0 (again ∷ []) first_turns (turns_at 0 xs)
     (answer false 0) conciliated refl here)
 
--- ---- on the second object
--- where a part has passed its first object, its turns on the second are a prefix of a path there
+-- ---- consumer 0 goes on after it has won
+-- if a part has passed its first object, its turns on the second are a prefix of a path there
 second_here :
     (t : QuorumTable) (c : ℕ) (k j : Kind) (ks : List Kind) (o v : ℕ) (xs : List ObjectTurn) (s : Stage)
     → OfKind t k → v < t.values
@@ -51,7 +51,7 @@ second_here t c k j ks o v xs s law l p u later x none =
     subst₂ (λ w zs. Member t c (j ∷ ks) (suc o) w zs first.stage) same.0 same.1 first.member in
     (forward t c j ks (suc o) u later first.stage member).here
 
--- consumer 0 goes on after it has won: behind a whole path of object 1 there would be a turn
+-- consumer 0 goes on after it has won: after a whole path of object 1 there would be a turn
 pub not_after_winning :
     OfKind (unary_table 2) (Conciliator 2) → OfKind (unary_table 2) Ratifier
     → IsClaimLawful two_consumers after_winning → ⊥
@@ -67,7 +67,7 @@ not_after_winning law ratifier bad =
     (used_once (unary_table 2) Ratifier ratifier 0 (again ∷ []) (turns_at 1 (part_on 0 0 won_and_lost))
     (turns_at 1 later) (answer true 0) ratified refl here)
 
--- ---- the own number as next input
+-- ---- consumer 1 comes to the second object with its own number
 -- what a process with input 0 does up to its preference begins with its announcement
 prefers_last :
     (u : ℕ) (begin : List Act) → Prefers (unary_table 2) 0 u begin
@@ -75,7 +75,7 @@ prefers_last :
 prefers_last u begin (inl p) = (Store Proposal 1 ∷ Load Proposal 0 ∷ [], p.1)
 prefers_last u begin (inr p) = (Load Proposal (u + 1) ∷ [], p)
 
--- and so does one whose reads met no 1
+-- what it does up to its end begins so, if its reads met no 1
 clear_last :
     (u bound : ℕ) (made : List Act) → ReadsClear (unary_table 2) 0 u bound made
     → (front : List Act) × (made ≡ front ++ Store (Quorum 0) 1 ∷ [])
@@ -87,7 +87,7 @@ clear_last u bound made (begin, prefers, all) =
           ∙ sym (append_assoc zeros last.0 (Store (Quorum 0) 1 ∷ [])),
     )
 
--- or whose last read met a 1
+-- what it does up to its end begins so, if its last read met a 1
 one_last :
     (u : ℕ) (made : List Act) → ReadsOne (unary_table 2) 0 u made
     → (front : List Act) × (made ≡ front ++ Store (Quorum 0) 1 ∷ [])
@@ -95,7 +95,7 @@ one_last u [] p = absurd p
 one_last u (act ∷ older) (r, is, member, below, clear) =
     let last = clear_last u r older clear in (act ∷ last.0, ap (λ acts. act ∷ acts) last.1)
 
--- each whole path is one of the two
+-- so each whole path of input 0 begins with that announcement
 path_last :
     (made : List Act) (d : Bool) (u : ℕ) → IsRatifierPath (unary_table 2) 0 made d u
     → (front : List Act) × (made ≡ front ++ Store (Quorum 0) 1 ∷ [])
@@ -132,7 +132,7 @@ not_own_number law bad =
     (record { turns = turns_at 0 xs; all = refl; path = (refl, (refl, (0, (omega arith), inl tt))) }) refl in
     ⊎_elim (λ none. not_empty stored [] none) (λ begun. no_path_behind begun.0 begun.1 begun.2) here
 
--- ---- a stranger
+-- ---- a consumer comes that is none of the claims'
 -- there are two consumers, and this is the third
 pub no_stranger : IsClaimLawful two_consumers of_a_stranger → ⊥
 no_stranger bad = let two : 2 < 2 = (bad.parts 2 0 (λ none. not_empty _ _ none)).0 in omega (arith, two)

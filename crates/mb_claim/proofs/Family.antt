@@ -11,7 +11,7 @@ use Rattle.mb_claim.proofs.KindLaws.{OfKind}
 use Rattle.mb_claim.proofs.ObjectHistories.{turns_at}
 use Rattle.mb_claim.proofs.Parts.{Member, Forward, Ends, forward}
 
--- The consumers of one cell, from object o on, where hs n is the history of object n. For each consumer: its input
+-- The consumers of one cell, from object o on, with hs n as the history of object n. For each consumer: its input
 -- to object o, what its part has from there on, and its stage. What holds of P holds of the inputs of all who have
 -- come so far.
 pub record Family (t : QuorumTable) (ks : List Kind) (o : ℕ) (hs : ℕ → List Access) (P : ℕ → Type 0) : Type 0 where
@@ -29,11 +29,11 @@ names_decided : (c a u : ℕ) (b : Bool) → eqb c a ≡ b → StageNames c (con
 names_decided c a u true e n = n ∙ eqb-true c a e
 names_decided c a u false e n = n
 
--- where a was decided, the winner that is named is a
+-- if a was decided, the winner that is named is a
 names_stage : (c a u : ℕ) (s : Stage) → s ≡ stage_for c a → StageNames c s u → u ≡ a
 names_stage c a u s e n = names_decided c a u (eqb c a) refl (subst (λ r. StageNames c r u) e n)
 
--- where a value was decided, the claim is not undecided
+-- if a value was decided, the claim is not undecided
 decided_undecided : (c a : ℕ) (b : Bool) → Undecided ≡ cond b Won (Lost a) → ⊥
 decided_undecided c a true e = cc
 decided_undecided c a false e = cc
@@ -94,24 +94,24 @@ module _ (t : QuorumTable) (k : Kind) (ks : List Kind) (o : ℕ) (hs : ℕ → L
         words = fam.words;
       }
 
-  -- the same, with what held of the inputs
+  -- the consumers at the next object, with what held of the inputs
   abbrev pub next : OfKind t k → Family t ks (suc o) hs P
   next law = next_with P (λ c u out. output_holds law c false u out)
 
-  -- the consumers at the next object, where u was decided here
+  -- the consumers at the next object, if u was decided here
   abbrev pub next_decided :
       OfKind t k → (c u : ℕ) → HasOutput (object_of t k fam.input) c true u (hs o) → Family t ks (suc o) hs (λ a. a ≡ u)
   next_decided law c u p =
       next_with (λ a. a ≡ u) (λ b a out.
       ((output_holds law b false a out).0, (law fam.input).coherence (hs o) lawful_here c b false u a p out))
 
-  -- a stage that names u: u was decided here, or behind this object
+  -- a stage that names u: u was decided here, or after this object
   abbrev pub Ended : ℕ → ℕ → Type 0
   Ended c u =
       HasOutput (object_of t k fam.input) c true u (hs o)
       ⊎ (HasOutput (object_of t k fam.input) c false (step c).value (hs o) × StageNames c (step c).stage u)
 
-  -- the same, by how the part ends
+  -- a stage that names u is one of these, by how the part ends
   ended_by :
       (c u : ℕ) → StageNames c (fam.stage c) u
       → Ends t c k o (fam.input c) (fam.rest c) (fam.stage c) (step c).value (step c).stage → Ended c u
@@ -125,7 +125,7 @@ module _ (t : QuorumTable) (k : Kind) (ks : List Kind) (o : ℕ) (hs : ℕ → L
   pub ended : (c u : ℕ) → StageNames c (fam.stage c) u → Ended c u
   ended c u n = ended_by c u n (step c).ends
 
-  -- the same as below, by how the part ends
+  -- an undecided claim has passed this object undecided, by how the part ends
   passed_by :
       (c : ℕ) → fam.stage c ≡ Undecided
       → Ends t c k o (fam.input c) (fam.rest c) (fam.stage c) (step c).value (step c).stage
@@ -140,7 +140,7 @@ module _ (t : QuorumTable) (k : Kind) (ks : List Kind) (o : ℕ) (hs : ℕ → L
       → HasOutput (object_of t k fam.input) c false (step c).value (hs o) × ((step c).stage ≡ Undecided)
   passed c e = passed_by c e (step c).ends
 
--- where no object is left, no winner is named
+-- if no object is left, no winner is named
 pub none_named :
     (t : QuorumTable) (c o v u : ℕ) (xs : List ObjectTurn) (s : Stage) → Member t c [] o v xs s → StageNames c s u → ⊥
 none_named t c o v u xs s (inl x) n = subst (λ r. StageNames c r u) x.1 n

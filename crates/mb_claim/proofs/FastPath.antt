@@ -1,4 +1,4 @@
--- Two leading ratifiers: where the first has decided, nobody comes behind the second.
+-- Two leading ratifiers: if the first has decided, nobody comes after the second.
 use Rattle.std.proofs.lemmas.Bool.{cases_eq}
 use Rattle.std.proofs.lemmas.List.Elements.{filter_map-append}
 use Rattle.std.proofs.Common.{subst, inl, inr, ◌++◌, ◌≡◌, ◌≢◌, ◌≤◌, ℕ, true, false, List, [], ◌∷◌, sym, ◌∙◌, ap, ⊎_elim}
@@ -23,11 +23,11 @@ module _ (t : QuorumTable) (ks : List Kind) (hs : ℕ → List Access) (law : Ar
   abbrev second : Family t (Ratifier ∷ ks) 1 hs (λ a. a ≡ u)
   second = next_decided t Ratifier (Ratifier ∷ ks) 0 hs P fam (law Ratifier) c u p
 
-  -- those who would come behind it
+  -- those who would come after the second ratifier
   abbrev third : Family t ks 2 hs (λ a. a ≡ u)
   third = next t Ratifier ks 1 hs (λ a. a ≡ u) second (law Ratifier)
 
-  -- there is none: the second ratifier decides
+  -- nobody comes after it: the second ratifier decides
   nobody : (d : ℕ) → third.rest d ≢ [] → ⊥
   nobody d ne =
       let f = step t Ratifier ks 1 hs (λ a. a ≡ u) second d in
@@ -42,7 +42,7 @@ module _ (t : QuorumTable) (ks : List Kind) (hs : ℕ → List Access) (law : Ar
   none_behind d o l =
       third.turns d o l ∙ ap (turns_at o) (⊎_elim (λ e. e) (λ ne. absurd (nobody d ne)) (nil_or (third.rest d)))
 
--- the same of a lawful history of claims
+-- in a lawful history of claims, too, nobody comes after the second ratifier if the first has decided
 pub fast_path_lem :
     (t : QuorumTable) → AreDeciding t → AreRatifying t
     → (ks : List Kind) (cells : ℕ) (h : List ClaimAccess) (k c u : ℕ)
@@ -54,7 +54,7 @@ fast_path_lem t law ratifying ks cells h k c u lawful p =
     (competes (claims_of t (Ratifier ∷ Ratifier ∷ ks) cells) h k law lawful)
     (family (claims_of t (Ratifier ∷ Ratifier ∷ ks) cells) h k law lawful) c u p
 
--- ---- a consumer that was alone
+-- ---- a consumer that ended its claim before any other came
 module _ (t : QuorumTable) (law : AreDeciding t) (ratifying : AreRatifying t) (ks : List Kind) (cells : ℕ)
     (k c : ℕ) where
   -- a layout that begins with two ratifiers
@@ -65,7 +65,7 @@ module _ (t : QuorumTable) (law : AreDeciding t) (ratifying : AreRatifying t) (k
   abbrev firsts : List ClaimAccess → List Turn
   firsts h = part c (object_history k 0 h)
 
-  -- where only consumer c has come, the first ratifier does not leave it undecided
+  -- if only consumer c has come, the first ratifier does not leave it undecided
   not_passed :
       (h : List ClaimAccess) → IsClaimLawful (claims_of t kinds cells) h → ((d : ℕ) → d ≢ c → part_on d k h ≡ [])
       → (u : ℕ)
@@ -115,7 +115,7 @@ module _ (t : QuorumTable) (law : AreDeciding t) (ratifying : AreRatifying t) (k
       (sym (part-object_history c k 0 (later ++ h)) ∙ joined) here in
       joined ∙ append_nil_left (firsts later) (firsts h) none
 
-  -- where consumer c has ended its claim before any other came, nobody comes behind the second ratifier
+  -- if consumer c has ended its claim before any other came, nobody comes after the second ratifier
   pub none_behind_alone :
       (later h : List ClaimAccess) (s : Stage) → IsClaimLawful (claims_of t kinds cells) (later ++ h)
       → ((d : ℕ) → d ≢ c → part_on d k h ≡ [])

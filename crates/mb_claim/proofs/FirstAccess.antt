@@ -16,12 +16,12 @@ no_turns_on : (o : ℕ) (turns : List Turn) → turns_on o turns ≡ [] → turn
 no_turns_on o [] none = refl
 no_turns_on o (x ∷ turns) none = absurd (not_empty _ _ none)
 
--- a layout has a first object, a conciliator
+-- a row that begins with pairs has a first object, a conciliator
 first_object : (s n : ℕ) (ys : List Kind) → 1 ≤ n → (rest : List Kind) × (pairs_of s n ++ ys ≡ Conciliator s ∷ rest)
 first_object s zero ys some = absurd (omega (arith, some))
 first_object s (suc n) ys some = (Ratifier ∷ (pairs_of s n ++ ys), refl)
 
--- with a fast path that is a ratifier
+-- with a fast path or without, a row has a first object
 first_kind : (b : Bool) (kind : Kind) (rest ys : List Kind) → ys ≡ kind ∷ rest
     → (first : Kind) × (behind : List Kind) × (fast_row b ++ ys ≡ first ∷ behind)
 first_kind true kind rest ys is = (Ratifier, Ratifier ∷ ys, refl)
@@ -81,14 +81,15 @@ not_true false never = refl
 
 module _ (layout : Layout) (law : AreDeciding (quorums_of layout)) (claim : Claim)
     (of : IsClaimOf (quorums_of layout) (kinds_of layout) claim []) where
-  -- its pairs and what comes after them
+  -- the layout's pairs and what comes after them
   abbrev behind_fast : List Kind
   behind_fast = pairs_of (spread (quorums_of layout).values) layout.pairs ++ last_row layout.shape.last
 
+  -- the first of these
   abbrev first : (rest : List Kind) × (behind_fast ≡ Conciliator (spread (quorums_of layout).values) ∷ rest)
   first = first_object (spread (quorums_of layout).values) layout.pairs (last_row layout.shape.last) layout.some
 
-  -- its first object, and those after it
+  -- the layout's first object, and those after it
   abbrev any_first : (kind : Kind) × (rest : List Kind) × (kinds_of layout ≡ kind ∷ rest)
   any_first = first_kind layout.shape.fast (Conciliator (spread (quorums_of layout).values)) first.0 behind_fast first.1
 
@@ -105,7 +106,7 @@ module _ (layout : Layout) (law : AreDeciding (quorums_of layout)) (claim : Clai
         is = refl;
       })))
 
-  -- and is not begun
+  -- the claim is not begun
   pub fresh_begun : claim.begun ≡ false
   fresh_begun = not_true claim.begun (λ e. of.begun.0 e refl)
 
@@ -115,7 +116,7 @@ module _ (layout : Layout) (law : AreDeciding (quorums_of layout)) (claim : Clai
       stands_at_first (quorums_of layout) law claim.consumer of.known (kinds_of layout) claim.object claim.place
       (of.stands fresh_going)
 
-  -- its next access, and what that may find
+  -- without a fast path, its next access loads the conciliator's word, and finds no more than the number of consumers
   pub fresh_next :
       layout.shape.fast ≡ false → (op : Op) → IsOpAt (quorums_of layout) claim.place op
       → (claim.object ≡ 0) × (op ≡ to.Load Value)

@@ -1,4 +1,4 @@
--- The first place in a list at which a test holds, where there is none.
+-- What it means that a list has no first place at which a test holds.
 use Rattle.std.proofs.Common.{◌≡◌, ℕ, ◌<◌, ◌≤◌, Bool, true, false, nat_lt, nat_le, cond, Some, None, refl, arith}
 use Rattle.std.proofs.lemmas.Bool.Decides.{nat_tests}
 

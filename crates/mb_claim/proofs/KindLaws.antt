@@ -4,11 +4,11 @@ use Rattle.mb_quorum.specs.Vocabulary.{QuorumTable}
 use Rattle.mb_deciding.specs.Vocabulary.{IsSameOp, ReadsLast, IsPrefix, object_of, IsDeciding, IsRatifying}
 use Rattle.mb_claim.specs.{Access, Act, Kind, Ratifier, Turn}
 
--- those of one kind
+-- what objects of one kind owe
 abbrev pub OfKind : QuorumTable → Kind → Type 0
 OfKind t kind = (inputs : ℕ → ℕ) → IsDeciding (object_of t kind inputs)
 
--- those of each kind
+-- what objects of each kind owe
 abbrev pub AreDeciding : QuorumTable → Type 0
 AreDeciding t = (kind : Kind) → OfKind t kind
 
@@ -17,10 +17,10 @@ abbrev pub OneOp : QuorumTable → Type 0
 OneOp t = (kind : Kind) (v : ℕ) (turns : List Turn) (a b : Turn) → IsPrefix t kind v (a ∷ turns)
     → IsPrefix t kind v (b ∷ turns) → IsSameOp a.act b.act
 
--- and after one history acts of one op are one
+-- acts of one op after one history are one act
 abbrev pub OneAct : Type 0
 OneAct = (a b : Act) (h : List Access) → IsSameOp a b → ReadsLast a h → ReadsLast b h → a ≡ b
 
--- and ratifiers besides
+-- what ratifiers owe besides
 abbrev pub AreRatifying : QuorumTable → Type 0
 AreRatifying t = (inputs : ℕ → ℕ) → IsRatifying (object_of t Ratifier inputs)

@@ -37,7 +37,7 @@ pub begins_fast :
     → row_of shape s n ≡ Ratifier ∷ Ratifier ∷ (pairs_of s n ++ last_row shape.last)
 begins_fast shape s n has = ap (λ b. fast_row b ++ (pairs_of s n ++ last_row shape.last)) has
 
--- so a conciliator comes after them
+-- so in a row with a fast path each conciliator comes after its two ratifiers
 pub conciliator_behind :
     (ks : List Kind) (o s : ℕ) → slice_get (Ratifier ∷ Ratifier ∷ ks) o ≡ Some (Conciliator s) → 2 ≤ o
 conciliator_behind ks zero s e = absurd (cc)

@@ -10,7 +10,7 @@ use Rattle.mb_claim.specs.{ClaimAccess, Won, Lost, Undecided, part_on, turns_on,
 use Rattle.mb_claim.specs.{IsClaimLawful, pairs_of, two_consumers, won_and_lost, both_undecided}
 use Rattle.mb_claim.proofs.ObjectHistories.{turns_at}
 
--- ---- which parts there are
+-- ---- what holds of each access holds of each part
 -- what holds of the consumer and the cell of each access
 abbrev pub AreAll : (ℕ → ℕ → Type 0) → List ClaimAccess → Type 0
 AreAll P [] = Unit {0}
@@ -25,18 +25,18 @@ known_by P c k a xs true true e f this older some = subst₂ P (eqb-true a.consu
 known_by P c k a xs true false e f this older some = older some
 known_by P c k a xs false q e f this older some = older some
 
--- it holds of each consumer and cell with a part
+-- what holds of each access holds of each consumer and cell with a part
 pub known : (P : ℕ → ℕ → Type 0) (c k : ℕ) (h : List ClaimAccess) → AreAll P h → part_on c k h ≢ [] → P c k
 known P c k [] all some = absurd (some refl)
 known P c k (a ∷ h) all some =
     known_by P c k a (part_on c k h) (eqb a.consumer c) (eqb a.cell k) refl refl all.0 (known P c k h all.1) some
 
--- ---- one wins, and one loses
+-- ---- consumer 0 wins, and consumer 1 loses
 -- consumer 0 on the conciliator: it stored its own number
 pub conciliated : IsPath (unary_table 2) (Conciliator 2) 0 (turns_at 0 (part_on 0 0 won_and_lost)) (answer false 0)
 conciliated = (refl, (refl, (0, (omega arith), inr (refl, (refl, (omega arith), tt)))))
 
--- and on the ratifier: it met no 1
+-- consumer 0 on the ratifier: it met no 1
 pub ratified : IsPath (unary_table 2) Ratifier 0 (turns_at 1 (part_on 0 0 won_and_lost)) (answer true 0)
 ratified = (Store Proposal 1 ∷ Load Proposal 0 ∷ Store (Quorum 0) 1 ∷ [], inl (refl, refl), refl)
 

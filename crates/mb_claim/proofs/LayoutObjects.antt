@@ -1,4 +1,4 @@
--- The objects of a layout.
+-- The objects of a layout: how many there are, of which kinds, and that their numbers and words are few.
 use Rattle.std.proofs.Common.{◌≡◌, ◌<◌, ◌≤◌, ◌+◌, ◌*◌, ℕ, zero, suc, Bool, true, false, Some, List, [], ◌∷◌, ◌++◌, drop, length, slice_get, set}
 use Rattle.std.proofs.Common.{refl, ◌∙◌, sym, ap, subst, get_or, append-nil, length-append, arith}
 use Rattle.std.proofs.lemmas.Option.{none-some, same_Some, slice_get-get_or, get_or_from_slice_get}
@@ -28,7 +28,7 @@ first_of_pair s (suc n) i (suc zero) e h = absurd (omega arith)
 first_of_pair s (suc n) zero (suc (suc o)) e h = absurd (omega arith)
 first_of_pair s (suc n) (suc i) (suc (suc o)) e h = first_of_pair s n i o (omega arith) (omega arith)
 
--- and its second
+-- the second object of a pair
 pub second_of_pair : (s n i o : ℕ) → o ≡ 2 * i + 1 → i < n → slice_get (pairs_of s n) o ≡ Some Ratifier
 second_of_pair s zero i o e h = absurd (omega arith)
 second_of_pair s (suc n) i zero e h = absurd (omega arith)
@@ -36,14 +36,14 @@ second_of_pair s (suc n) i (suc zero) e h = refl
 second_of_pair s (suc n) zero (suc (suc o)) e h = absurd (omega arith)
 second_of_pair s (suc n) (suc i) (suc (suc o)) e h = second_of_pair s n i o (omega arith) (omega arith)
 
--- ---- rows
--- what stands in front of others
+-- ---- the objects of a row
+-- an element of the first of two lists joined
 get_ahead : (xs ys : List Kind) (o : ℕ) → o < length xs → slice_get (xs ++ ys) o ≡ slice_get xs o
 get_ahead [] ys o h = absurd (omega (arith, h))
 get_ahead (x ∷ xs) ys zero h = refl
 get_ahead (x ∷ xs) ys (suc o) h = get_ahead xs ys o (omega (arith, h))
 
--- and after them
+-- an element of the second of two lists joined
 get_behind : (xs ys : List Kind) (n o : ℕ) → n ≡ length xs + o → slice_get (xs ++ ys) n ≡ slice_get ys o
 get_behind [] ys n o e = let same : n ≡ o = omega (arith, e) in ap (slice_get ys) same
 get_behind (x ∷ xs) ys zero o e = absurd (omega (arith, e))
@@ -54,11 +54,12 @@ fast_few : (b : Bool) → length (fast_row b) ≤ 2
 fast_few true = omega arith
 fast_few false = omega arith
 
+-- after the pairs there is one object at most
 pub last_few : (b : Bool) → length (last_row b) ≤ 1
 last_few true = omega arith
 last_few false = omega arith
 
--- so many objects in a row
+-- how many objects a row has
 pub length-row_of :
     (shape : Shape) (s n : ℕ)
     → length (row_of shape s n) ≡ length (fast_row shape.fast) + 2 * n + length (last_row shape.last)
@@ -82,6 +83,7 @@ fast_kind true ys (suc zero) h = refl
 fast_kind true ys (suc (suc o)) h = absurd (omega (arith, h))
 fast_kind false ys o h = absurd (omega (arith, h))
 
+-- an object of a row's fast path
 pub in_fast :
     (shape : Shape) (s n o : ℕ) → o < length (fast_row shape.fast) → slice_get (row_of shape s n) o ≡ Some Ratifier
 in_fast shape s n o h = fast_kind shape.fast (pairs_of s n ++ last_row shape.last) o h
@@ -94,11 +96,12 @@ in_pairs shape s n o place e h =
     get_behind (fast_row shape.fast) (pairs_of s n ++ last_row shape.last) o place e
     ∙ get_ahead (pairs_of s n) (last_row shape.last) place (omega (arith, length-pairs_of s n, h))
 
--- the last
+-- the last object
 last_kind : (b : Bool) → 0 < length (last_row b) → slice_get (last_row b) 0 ≡ Some LastObject
 last_kind true h = refl
 last_kind false h = absurd (omega (arith, h))
 
+-- the last object of a row
 pub at_last :
     (shape : Shape) (s n o : ℕ) → o ≡ length (fast_row shape.fast) + 2 * n → o < length (row_of shape s n)
     → slice_get (row_of shape s n) o ≡ Some LastObject
@@ -107,6 +110,7 @@ at_last shape s n o e h =
     ∙ get_behind (pairs_of s n) (last_row shape.last) (2 * n) 0 (omega (arith, length-pairs_of s n))
     ∙ last_kind shape.last (omega (arith, length-row_of shape s n, e, h))
 
+-- ---- what is small enough in a layout
 -- the quorum table of a layout is one
 pub quorums_lawful : (layout : Layout) → IsQuorumTable (quorums_of layout)
 quorums_lawful layout = chosen_lawful layout.table
@@ -115,14 +119,14 @@ quorums_lawful layout = chosen_lawful layout.table
 pub consumers_within : (layout : Layout) → (1 ≤ consumer_count layout) × (consumer_count layout ≤ MAX_VALUES)
 consumers_within layout = chosen_within layout.table
 
--- the kinds of a row fit
+-- the kinds of a row of pairs fit
 pub fit_in_pairs : (s n o : ℕ) (kind : Kind) → s ≤ 63 → slice_get (pairs_of s n) o ≡ Some kind → IsFitKind kind
 fit_in_pairs s zero o kind h e = absurd (none-some kind e)
 fit_in_pairs s (suc n) zero kind h e = subst IsFitKind (same_Some (Conciliator s) kind e) h
 fit_in_pairs s (suc n) (suc zero) kind h e = subst IsFitKind (same_Some Ratifier kind e) tt
 fit_in_pairs s (suc n) (suc (suc o)) kind h e = fit_in_pairs s n o kind h e
 
--- and those of a list all of whose kinds fit
+-- two lists joined fit, if the kinds of both do
 fit_behind :
     (xs ys : List Kind) → ((o : ℕ) (kind : Kind) → slice_get xs o ≡ Some kind → IsFitKind kind)
     → ((o : ℕ) (kind : Kind) → slice_get ys o ≡ Some kind → IsFitKind kind) → (o : ℕ) (kind : Kind)
@@ -131,17 +135,20 @@ fit_behind [] ys f g o kind e = g o kind e
 fit_behind (x ∷ xs) ys f g zero kind e = f 0 kind e
 fit_behind (x ∷ xs) ys f g (suc o) kind e = fit_behind xs ys (λ n k h. f (suc n) k h) g o kind e
 
+-- the kinds of a fast path fit
 fit_fast : (b : Bool) (o : ℕ) (kind : Kind) → slice_get (fast_row b) o ≡ Some kind → IsFitKind kind
 fit_fast true zero kind e = subst IsFitKind (same_Some Ratifier kind e) tt
 fit_fast true (suc zero) kind e = subst IsFitKind (same_Some Ratifier kind e) tt
 fit_fast true (suc (suc o)) kind e = absurd (none-some kind e)
 fit_fast false o kind e = absurd (none-some kind e)
 
+-- the kind of a last object fits
 fit_last : (b : Bool) (o : ℕ) (kind : Kind) → slice_get (last_row b) o ≡ Some kind → IsFitKind kind
 fit_last true zero kind e = subst IsFitKind (same_Some LastObject kind e) tt
 fit_last true (suc o) kind e = absurd (none-some kind e)
 fit_last false o kind e = absurd (none-some kind e)
 
+-- the kinds of a row fit
 pub fit_in_row :
     (shape : Shape) (s n o : ℕ) (kind : Kind) → s ≤ 63 → slice_get (row_of shape s n) o ≡ Some kind → IsFitKind kind
 fit_in_row shape s n o kind h e =
@@ -170,7 +177,7 @@ cell_small layout =
     let few = objects_few layout.shape (spread (quorums_of layout).values) layout.pairs layout.few in
     omega (arith, row_words-few r kinds, mul-le (length kinds) (1 + r) MAX_OBJECTS 65 few (omega (arith, quorum.limit)))
 
--- where two rows have the same object, either tells it
+-- if two rows have the same object, either tells it
 pub told_by_row :
     (xs ys : List Kind) (o : ℕ) (d : Kind) → o < length xs → slice_get xs o ≡ slice_get ys o
     → slice_get xs o ≡ Some (get_or ys o d)

@@ -24,21 +24,21 @@ append_nils xs ys p q = ap (λ zs. zs ++ ys) p ∙ q
 pub append_nil_left : {A : Type 0} (xs ys : List A) → xs ≡ [] → xs ++ ys ≡ ys
 append_nil_left xs ys p = ap (λ zs. zs ++ ys) p
 
--- and behind another
+-- an empty list after another
 pub append_nil_right : {A : Type 0} (xs ys : List A) → ys ≡ [] → xs ++ ys ≡ xs
 append_nil_right xs ys p = ap (λ zs. xs ++ zs) p ∙ append-nil xs
 
--- where two lists joined are empty, the first is
+-- if two lists joined are empty, the first is
 pub append_nil_parts : {A : Type 0} (xs ys : List A) → xs ++ ys ≡ [] → xs ≡ []
 append_nil_parts [] ys e = refl
 append_nil_parts (x ∷ xs) ys e = absurd (not_empty x (xs ++ ys) e)
 
--- and so is the second
+-- if two lists joined are empty, the second is
 pub append_nil_rest : {A : Type 0} (xs ys : List A) → xs ++ ys ≡ [] → ys ≡ []
 append_nil_rest [] ys e = e
 append_nil_rest (x ∷ xs) ys e = absurd (not_empty x (xs ++ ys) e)
 
--- the first element, or d where there is none
+-- the first element, or d if there is none
 abbrev head_or : {A : Type 0} → A → List A → A
 head_or d [] = d
 head_or d (x ∷ xs) = x
@@ -52,7 +52,7 @@ tail_of (x ∷ xs) = xs
 pub heads : {A : Type 0} (x y : A) (xs ys : List A) → x ∷ xs ≡ y ∷ ys → x ≡ y
 heads x y xs ys e = ap (head_or x) e
 
--- and equal rests
+-- equal lists have equal rests
 pub tails : {A : Type 0} (x y : A) (xs ys : List A) → x ∷ xs ≡ y ∷ ys → xs ≡ ys
 tails x y xs ys e = ap tail_of e
 
@@ -79,13 +79,13 @@ filter_map_agree f g e [] = refl
 filter_map_agree f g e (a ∷ h) =
     ap (λ o. cons_option o (filter_map f h)) (e a) ∙ ap (cons_option (g a)) (filter_map_agree f g e h)
 
--- ---- the element at a place
--- the element behind a front
+-- ---- elements at places
+-- the element that follows a list
 pub get_at : {A : Type 0} (xs : List A) (a : A) (ys : List A) → slice_get (xs ++ a ∷ ys) (length xs) ≡ Some a
 get_at [] a ys = refl
 get_at (x ∷ xs) a ys = get_at xs a ys
 
--- what stands in a list behind that
+-- the elements that follow a list and one element more
 pub get_behind : {A : Type 0} (xs : List A) (a : A) (ys : List A)
     → slice_get (xs ++ a ∷ ys) (suc (length xs)) ≡ slice_get ys 0
 get_behind [] a ys = refl

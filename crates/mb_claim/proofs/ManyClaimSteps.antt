@@ -1,13 +1,12 @@
 -- The accesses of a place on a claim's object are accesses of the claim.
 use Rattle.std.proofs.Common.{◌≡◌, ◌≢◌, ◌+◌, ◌∙◌, arith, ℕ, zero, suc, Bool, true, List, ◌∷◌, refl, sym, subst, ap}
-use Rattle.mb_quorum.specs.Vocabulary.{QuorumTable}
 use Rattle.mb_deciding.specs.declared.access.Op.{Op}
 use Rattle.mb_deciding.specs.declared.place.pc.Next.TheVariants as leads
 use Rattle.mb_deciding.specs.Vocabulary.{PcIsAt, IsReached, CanFind, IsOpAt}
 use Rattle.mb_deciding.specs.OneStep.{IsStep}
 use Rattle.mb_deciding.specs.ManySteps.{AreSteps, DrawsAndMakes}
 use Rattle.mb_claim.specs.{Kind, Turn, Out, Pc, Claim, ClaimOp, Going, Layout, ObjectTurn, claim_stage, consumer_of, quorums_of, kinds_of}
-use Rattle.mb_claim.specs.{IsClaimStep, IsClaimIn, CanClaimFind, step_of}
+use Rattle.mb_claim.specs.{IsClaimStep, IsClaimIn, step_of}
 use Rattle.mb_claim.specs.ManyClaimSteps.{stood_at, AreClaimSteps, DrawsAndMakesNext}
 use Rattle.mb_claim.proofs.ClaimSteps.{PartsOf, same_object, claim_going}
 
@@ -43,6 +42,7 @@ module _ {M : Type 0} (layout : Layout) (parts : PartsOf (quorums_of layout) (ki
       }
 
   module _ (claim : Claim) (going : claim_stage claim ≡ Going) (start : M) where
+    -- after so many accesses the claim is at the place to which they led
     pub place_after :
         (n : ℕ) (at : Pc) (before : M)
         → AreSteps (quorums_of layout) (DrawsAndMakes draws makes claim.object) claim.place start n (leads.Go at) before
@@ -50,23 +50,28 @@ module _ {M : Type 0} (layout : Layout) (parts : PartsOf (quorums_of layout) (ki
     place_after zero at before steps = let is : leads.Go at ≡ leads.Go claim.place = steps.0 in cc
     place_after (suc n) at before steps = refl
 
+    -- it goes on
     pub stage_after : (n : ℕ) (at : Pc) → claim_stage (stood_after n at claim) ≡ Going
     stage_after zero at = going
     stage_after (suc n) at = going
 
+    -- it is on the same object
     pub object_after : (n : ℕ) (at : Pc) → (stood_after n at claim).object ≡ claim.object
     object_after zero at = refl
     object_after (suc n) at = refl
 
+    -- it is the same consumer's
     consumer_after : (n : ℕ) (at : Pc) → consumer_of (stood_after n at claim) ≡ consumer_of claim
     consumer_after zero at = refl
     consumer_after (suc n) at = refl
 
+    -- put at a place, and begun, it is the first claim put there
     moved_after : (n : ℕ) (at follows : Pc) → stood_at follows true (stood_after n at claim)
         ≡ stood_at follows true claim
     moved_after zero at follows = refl
     moved_after (suc n) at follows = refl
 
+    -- the accesses of the place are accesses of the claim
     pub all_go_on :
         (n : ℕ) (follows : Pc) (now : M)
         → AreSteps (quorums_of layout) (DrawsAndMakes draws makes claim.object) claim.place start n
@@ -94,6 +99,7 @@ module _ {M : Type 0} (layout : Layout) (parts : PartsOf (quorums_of layout) (ki
           (sym (place_after n at before older)) step))),
     )
 
+    -- at least one access leads to the claim at the new place, begun
     pub moved_on :
         (n : ℕ) (follows : Pc) (now : M) → n ≢ 0
         → AreSteps (quorums_of layout) (DrawsAndMakes draws makes claim.object) claim.place start n
@@ -111,6 +117,7 @@ module _ {M : Type 0} (layout : Layout) (parts : PartsOf (quorums_of layout) (ki
         (ap (λ pc. stood_at pc claim.begun claim) (sym (place_after zero at now steps)), steps.1)
     stayed (suc n) at now none steps = absurd (omega (arith, none))
 
+    -- the claim after them is the first one at that place
     stands_there :
         (n : ℕ) (at : Pc) (before : M)
         → AreSteps (quorums_of layout) (DrawsAndMakes draws makes claim.object) claim.place start n (leads.Go at) before
@@ -156,6 +163,7 @@ module _ {M : Type 0} (layout : Layout) (parts : PartsOf (quorums_of layout) (ki
 -- two chains in a row are one
 module _ {M : Type 0} (layout : Layout) (makes : M → ℕ → ClaimOp → ℕ → M → Type 0) (claim : Claim) (start : M) (m : ℕ)
     (between : Claim) (mid : M) (first : AreClaimSteps layout makes claim start m between mid) where
+  -- accesses after accesses are accesses in a row
   pub joined :
       (n : ℕ) (follows : Claim) (now : M) → AreClaimSteps layout makes between mid n follows now
       → AreClaimSteps layout makes claim start (n + m) follows now

@@ -40,5 +40,6 @@ module _ (layout : Layout) (claim : Claim) (xs : List ObjectTurn) (of : IsClaimI
       in omega (arith, none)
   by_stage Undecided e = let none = ended_left layout claim Undecided e (λ u. cc) in omega (arith, none)
 
+  -- no more accesses are left than a claim on this layout makes
   pub most_steps : steps_left layout claim ≤ most_accesses layout
   most_steps = by_stage claim.stage refl

@@ -19,7 +19,7 @@ record IsHere (t : QuorumTable) (kind : Kind) (o v : ℕ) (x : ObjectTurn) (xs :
   pub all : xs ≡ turns_on o turns
   pub prefix : IsPrefix t kind v (turn ∷ turns)
 
--- or it comes behind object o, which was passed
+-- the last step is one after object o, which was passed
 record IsBehind
     (t : QuorumTable) (c : ℕ) (kind : Kind) (kinds : List Kind) (o v : ℕ) (x : ObjectTurn) (xs : List ObjectTurn)
     (s : Stage) : Type 0 where
@@ -30,7 +30,7 @@ record IsBehind
   pub path : IsPath t kind v turns (answer false value)
   pub rest : IsClaimPrefixFrom t c kinds (suc o) value (x ∷ later) s
 
--- it is one of the two
+-- a step of turns on object o alone is the last one there
 here :
     (t : QuorumTable) (kind : Kind) (o v : ℕ) (x : ObjectTurn) (xs : List ObjectTurn) (turns : List Turn)
     → x ∷ xs ≡ turns_on o turns → IsPrefix t kind v turns → IsHere t kind o v x xs
@@ -44,6 +44,7 @@ here t kind o v x xs (b ∷ turns) e p =
       prefix = p;
     }
 
+-- the last step of a prefix is one of the two
 where_is :
     (t : QuorumTable) (c : ℕ) (kind : Kind) (kinds : List Kind) (o v : ℕ) (x : ObjectTurn) (xs : List ObjectTurn)
     (s : Stage)
@@ -66,7 +67,7 @@ where_is t c kind kinds o v x xs s (inr (inr (u, z ∷ later, y, p))) =
           (sym (heads x z xs (later ++ turns_on o y.turns) y.all)) p;
     })
 
--- behind an object nothing is on it
+-- if the last step is after object o, the turns there are those with which it was passed
 behind_turns :
     (t : QuorumTable) (c : ℕ) (kind : Kind) (kinds : List Kind) (o v : ℕ) (x : ObjectTurn) (xs : List ObjectTurn)
     (s : Stage)
@@ -80,7 +81,7 @@ behind_turns t c kind kinds o v x xs s y =
     ∙ (turns_at-append o y.later (turns_on o y.turns)
     ∙ (ap (λ zs. zs ++ turns_at o (turns_on o y.turns)) later ∙ turns_at-turns_on o y.turns))
 
--- a whole path is not gone on with
+-- after one list of steps, not both can come next
 no_more :
     (t : QuorumTable) (law : AreDeciding t) (c : ℕ) (kind : Kind) (kinds : List Kind) (o v : ℕ) (x y : ObjectTurn)
     (xs : List ObjectTurn) (s : Stage) → IsHere t kind o v x xs → IsBehind t c kind kinds o v y xs s → ⊥
@@ -92,6 +93,7 @@ no_more t law c kind kinds o v x y xs s h b =
     (ap (λ zs. h.turn ∷ zs) same) (inr h.prefix) in
     cc
 
+-- after one list of steps two next steps are on one object, by one op
 pub one_next :
     (t : QuorumTable) → AreDeciding t → OneOp t
     → (c : ℕ) (kinds : List Kind) (o v : ℕ) (x y : ObjectTurn) (xs : List ObjectTurn) (s r : Stage)

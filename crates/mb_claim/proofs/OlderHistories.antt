@@ -32,7 +32,7 @@ module _ (cs : Claims) where
         parts = λ c k. part_older c k a.step (part_on c k h) (eqb a.consumer c) (eqb a.cell k) (lawful.parts c k);
       }
 
-  -- and without any later accesses
+  -- a lawful history stays lawful without any of its last accesses
   pub older_history_lawful : (later h : List ClaimAccess) → IsClaimLawful cs (later ++ h) → IsClaimLawful cs h
   older_history_lawful [] h lawful = lawful
   older_history_lawful (a ∷ later) h lawful = older_history_lawful later h (older_lawful a (later ++ h) lawful)

@@ -78,7 +78,7 @@ module _ (cs : Claims) (law : AreDeciding cs.table) (one : OneOp cs.table) (act 
       older_lawful cs
       (record { consumer = c; cell = 0; step = record { object = o; turn = record { act = a; word = word } } }) h l
 
-  -- and before all
+  -- what came before the accesses of a run is lawful
   entries_older :
       (steps : List (ℕ × ℕ)) (es : List ClaimEntry) (h : List ClaimAccess)
       → IsClaimLawful cs (history_from steps es h) → IsClaimLawful cs h
@@ -106,7 +106,7 @@ module _ (cs : Claims) (law : AreDeciding cs.table) (one : OneOp cs.table) (act 
       (subst (λ d. IsClaimLawful cs (history_from steps fs (with_entry step.1 d h))) (sym first) m) x.2
       (subst (λ d. AreEntriesOf cs steps fs (with_entry step.1 d h)) (sym first) y.2))
 
-  -- and one list of stages
+  -- steps have one list of entries and one of stages
   pub one_run :
       (steps : List (ℕ × ℕ)) (es fs : List ClaimEntry) (ss rs : List Stage)
       → IsPlayed cs steps es ss → IsPlayed cs steps fs rs → (es ≡ fs) × (ss ≡ rs)

@@ -1,4 +1,4 @@
--- One consumer's part: what it does on its first object, and what is left of it behind that object.
+-- One consumer's part: what it does on its first object, and what is left of it after that object.
 use Rattle.std.proofs.Common.{◌≡◌, ◌≢◌, ◌<◌, ◌⊎◌, ℕ, suc, true, false, cond, Some, None, List, [], ◌∷◌, ◌++◌, length}
 use Rattle.std.proofs.Common.{◌+◌, length-append, refl, sym, ◌∙◌, ap, subst, inl, inr, arith}
 use Rattle.std.specs.List.{cons_option}
@@ -17,12 +17,12 @@ turns_at-turns_on o (t ∷ ts) =
     ap (λ b. cons_option (cond b (Some t) None) (turns_at o (turns_on o ts))) (eq-eqb o o refl)
     ∙ ap (λ zs. t ∷ zs) (turns_at-turns_on o ts)
 
--- and there are as many
+-- there are as many turns as steps
 pub length-turns_on : (o : ℕ) (ts : List Turn) → length (turns_on o ts) ≡ length ts
 length-turns_on o [] = refl
 length-turns_on o (t ∷ ts) = ap suc (length-turns_on o ts)
 
--- and none went to another object
+-- turns on one object are none on another
 pub turns_at-turns_on_other : (o n : ℕ) (ts : List Turn) → (o ≡ n → ⊥) → turns_at n (turns_on o ts) ≡ []
 turns_at-turns_on_other o n [] ne = refl
 turns_at-turns_on_other o n (t ∷ ts) ne =
@@ -64,11 +64,11 @@ passed_turns t c k ks o v xs s u rest x p =
     (nothing_before t c ks (suc o) u o rest s (omega arith) p)
     ∙ turns_at-turns_on o x.turns)
 
--- a consumer's part from object o on; or nothing, where it has not come so far
+-- a consumer's part from object o on; or nothing, if it has not come so far
 abbrev pub Member : QuorumTable → ℕ → List Kind → ℕ → ℕ → List ObjectTurn → Stage → Type 0
 Member t c ks o v xs s = ((xs ≡ []) × (s ≡ Going)) ⊎ IsClaimPrefixFrom t c ks o v xs s
 
--- the consumer has come to the object behind this one
+-- the consumer has come to the object after this one
 pub record Came (t : QuorumTable) (k : Kind) (ks : List Kind) (o v : ℕ) (xs : List ObjectTurn) (value : ℕ)
     (rest : List ObjectTurn) : Type 0 where
   pub path : IsPath t k v (turns_at o xs) (answer false value)
@@ -82,7 +82,7 @@ Ends t c k o v xs s value stage =
     ⊎ (((a : ℕ) × IsPath t k v (turns_at o xs) (answer true a) × (s ≡ stage_for c a))
     ⊎ (IsPath t k v (turns_at o xs) (answer false value) × (stage ≡ s)))
 
--- one consumer's part, taken one object further: the value, the part and the stage behind its first object, and how
+-- one consumer's part, taken one object further: the value, the part and the stage after its first object, and how
 -- it ends
 pub record Forward (t : QuorumTable) (c : ℕ) (k : Kind) (ks : List Kind) (o v : ℕ) (xs : List ObjectTurn)
     (s : Stage) : Type 0 where

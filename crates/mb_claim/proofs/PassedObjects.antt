@@ -33,7 +33,7 @@ module _ (t : QuorumTable) (c : ℕ) (k : Kind) (ks : List Kind) (o v : ℕ) (xs
       sym (ap (turns_at o) x.all ∙ turns_at-append o later (turns_on o x.turns)
       ∙ append_nil_left (turns_at o later) (turns_at o (turns_on o x.turns)) none ∙ turns_at-turns_on o x.turns)
 
-  -- what is behind it is what `forward` finds
+  -- what is left of the part after that object is what `forward` finds
   pub forward_passes :
       (m : Member t c (k ∷ ks) o v xs s)
       → ((forward t c k ks o v xs s m).value ≡ u) × ((forward t c k ks o v xs s m).rest ≡ later)
@@ -62,7 +62,7 @@ pub record Here (t : QuorumTable) (kind : Kind) (hs : ℕ → List Access) (c o 
   pub same : part c (hs o) ≡ turns
   pub within : inputs c < t.values
 
--- the same of one consumer among all
+-- one consumer among all has one way past its first object
 step_passes :
     (t : QuorumTable) (k : Kind) (ks : List Kind) (o : ℕ) (hs : ℕ → List Access) (P : ℕ → Type 0)
     (fam : Family t (k ∷ ks) o hs P) (law : OfKind t k) (c : ℕ) → fam.input c < t.values

@@ -1,4 +1,4 @@
--- Who comes behind an object was left undecided by it.
+-- A consumer that comes after an object was left undecided by it.
 use Rattle.std.proofs.Common.{◌≡◌, ◌≢◌, ◌<◌, ◌≤◌, ℕ, suc, false, List, [], ◌∷◌, inl, inr, sym, ◌∙◌, ap, subst, arith}
 use Rattle.mb_quorum.specs.Vocabulary.{QuorumTable}
 use Rattle.mb_deciding.specs.Vocabulary.{answer, IsPath}
@@ -16,7 +16,7 @@ pub record Left (t : QuorumTable) (c : ℕ) (kind : Kind) (ks : List Kind) (o v 
   pub prefix : IsClaimPrefixFrom t c ks (suc o) value later s
   pub ahead : (n : ℕ) → o < n → turns_at n xs ≡ turns_at n later
 
--- whose part has a turn on an object behind it
+-- a consumer whose part has a turn on a later object was left undecided by object o
 pub left_behind :
     (t : QuorumTable) (c : ℕ) (kind : Kind) (ks : List Kind) (o v n : ℕ) (xs : List ObjectTurn) (s : Stage) → o < n
     → IsClaimPrefixFrom t c (kind ∷ ks) o v xs s → turns_at n xs ≢ [] → Left t c kind ks o v xs s
@@ -35,7 +35,7 @@ left_behind t c kind ks o v n xs s below (inr (inr (u, later, x, p))) some =
           (turns_at-turns_on_other o m x.turns (λ e. omega (arith, e, l)));
     }
 
--- so who comes behind two ratifiers was left undecided by both
+-- so who comes after two ratifiers was left undecided by both
 pub left_by_both :
     (t : QuorumTable) (c : ℕ) (ks : List Kind) (v n : ℕ) (xs : List ObjectTurn) (s : Stage) → 2 ≤ n
     → IsClaimPrefixFrom t c (Ratifier ∷ Ratifier ∷ ks) 0 v xs s → turns_at n xs ≢ []

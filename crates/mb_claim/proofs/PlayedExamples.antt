@@ -16,7 +16,7 @@ use Rattle.mb_claim.proofs.LawfulExamples.{conciliated, ratified, won, lawful}
 use Rattle.mb_claim.proofs.Parts.{forward}
 use Rattle.mb_claim.proofs.Unique.{one_stage_lem}
 
--- ---- one wins
+-- ---- consumer 0 wins: which entries and stages such a run has
 -- a turn with the random word 0
 abbrev turn : Act → Turn
 turn act = record { act = act; word = 0 }
@@ -34,7 +34,7 @@ going_first turns later x path =
     inl
     (record { turns = turns; all = refl; going = (x ∷ later, not_empty x later, (answer false 0, path)); is = refl })
 
--- and then before the end of what it does on the ratifier
+-- before the end of what it does on the ratifier it goes on
 going_second :
     (turns later : List Turn) (x : Turn) → IsPath (unary_table 2) Ratifier 0 (x ∷ later ++ turns) (answer true 0)
     → IsClaimPrefixFrom (unary_table 2) 0 (pairs_of 2 1) 0 0 (turns_on 1 turns ++ turns_on 0 drawn) Going
@@ -141,7 +141,7 @@ module _ (law : AreDeciding (unary_table 2)) where
       let done = bad.fits.1 in
       done.2 (one_stage_lem (unary_table 2) law 0 (pairs_of 2 1) 0 0 [] done.0 Going done.1.1 (idle 0 zero_known))
 
-  -- and nothing else
+  -- after the end comes nothing but `Done`
   pub late_refused : IsPlayedByTwo eight_steps (won_and (entry.Access 0 1 (Load (Quorum 1) 0))) (Won ∷ Going ∷ []) → ⊥
   late_refused bad = not_after_winning (law (Conciliator 2)) (law Ratifier) bad.lawful
 
@@ -156,7 +156,7 @@ module _ (law : AreDeciding (unary_table 2)) where
 pub silent_refused : IsPlayedByTwo (step ∷ []) [] (Going ∷ Going ∷ []) → ⊥
 silent_refused bad = bad.fits
 
--- that is of the step's consumer
+-- the entry is one of the step's consumer
 pub another_refused : IsPlayedByTwo ((1, 0) ∷ []) (entry.Access 0 0 (Load Value 0) ∷ []) (Going ∷ Going ∷ []) → ⊥
 another_refused bad = let same : 0 ≡ 1 = bad.fits.0 in absurd (omega (arith, same))
 

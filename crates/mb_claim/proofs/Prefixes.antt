@@ -23,7 +23,7 @@ some_path t Ratifier v =
 some_path t LastObject v =
     (record { act = Exchange Last (v + 1) 0; word = 0 } ∷ [], true, v, (refl, inl (refl, refl)))
 
--- a whole path of an object leads to a whole path of it and the objects behind it, where these have one of each input
+-- a whole path of an object leads to a whole path of it and the objects after it, if these have one of each input
 path_on :
     (t : QuorumTable) (kind : Kind) (kinds : List Kind) (o v : ℕ)
     → ((u : ℕ) → (xs : List ObjectTurn) × (output : Out) × IsClaimPath t kinds (suc o) u xs output)
@@ -44,7 +44,7 @@ whole_path t (kind ∷ kinds) o v =
     let all = path_on t kind kinds o v (whole_path t kinds (suc o)) first.0 first.1 first.2 first.3 in
     (all.0 ++ turns_on o first.0, all.1, all.2)
 
--- ---- what belongs is a prefix
+-- ---- what belongs to a claim is a prefix of a whole path
 -- what goes on is completed
 completed_open :
     (t : QuorumTable) (kind : Kind) (kinds : List Kind) (o v : ℕ) (xs : List ObjectTurn) (turns : List Turn)
@@ -74,7 +74,7 @@ completed t c (kind ∷ kinds) o v xs s (inr (inr (u, rest, x, p))) =
     ap (λ zs. whole.0 ++ zs) x.all ∙ sym (append_assoc whole.0 rest (turns_on o x.turns)) in
     (whole.0, whole.1, (x.turns, whole.0 ++ rest, false, u, all, x.path, inr (refl, whole.2)))
 
--- ---- what is a prefix belongs
+-- ---- a prefix of a whole path belongs to a claim
 -- Two ways to cut one list: the older part of the first reaches past that of the second, or lies within it.
 abbrev IsCut : {A : Type 0} → List A → List A → List A → List A → Type 0
 IsCut {A} later xs rest back =

@@ -24,7 +24,7 @@ history_from-push cs h (x ∷ steps) [] step e all = absurd all
 history_from-push cs h (x ∷ steps) (y ∷ entries) step e all =
     history_from-push cs (with_entry x.1 y h) steps entries step e all.2
 
--- and fit where the new one stands after the accesses of the others
+-- the entries still fit, if the new one fits after the accesses of the others
 entries_push :
     (cs : Claims) (h : List ClaimAccess) (steps : List (ℕ × ℕ)) (entries : List ClaimEntry) (step : ℕ
     × ℕ) (e : ClaimEntry)
@@ -49,7 +49,7 @@ module _
   inside : c < length board.claims
   inside = let e = ran.consumers in omega arith
 
-  -- it is the consumer's
+  -- the claim is the consumer's
   claim_own : consumer_of claim ≡ c
   claim_own = ap consumer_of is ∙ ran.own c claim inside
 
@@ -92,11 +92,11 @@ module _
       (made : ObjectTurn)
       (random : made.turn.word ≡ word) (words : List ℕ)
       (now : IsClaimOn layout 1 0 after words (claim_access claim 0 made ∷ past)) where
-    -- its entry
+    -- the entry of the step
     abbrev made_entry : ClaimEntry
     made_entry = entry.Access c made.object made.turn.act
 
-    -- the history with its access
+    -- the run's history with the access
     same : history_of (steps ++ (c, word) ∷ []) (board.entries ++ made_entry ∷ []) ≡ claim_access claim 0 made ∷ past
     same =
         history_from-push (claims_in layout 1) [] steps board.entries (c, word) made_entry ran.fits
@@ -117,7 +117,7 @@ module _
         let old : d < length board.claims = rw length-set at below in
         ap consumer_of (get_or-set_other board.claims c d after e other) ∙ ran.own d e old
 
-    -- and has made its part
+    -- each claim has made its consumer's part
     standing_after :
         (d : ℕ) (e : Claim) → d < length (set board.claims c after) → (d ≡ c) ⊎ (d ≢ c)
         → IsClaimIn layout (get_or (set board.claims c after) d e) (part_on d 0 (claim_access claim 0 made ∷ past))

@@ -5,8 +5,8 @@ use Rattle.mb_claim.specs.{row_of, shaped_words}
 use Rattle.mb_claim.proofs.Addresses.{row_words-pairs_of, words_before-pairs_of}
 use Rattle.mb_claim.proofs.LayoutObjects.{length-pairs_of}
 
--- ---- rows joined
--- they have the words of both
+-- ---- two rows joined
+-- two rows joined have the words of both
 row_words-append : (r : ℕ) (xs ys : List Kind) → row_words r (xs ++ ys) ≡ row_words r xs + row_words r ys
 row_words-append r [] ys = omega arith
 row_words-append r (x ∷ xs) ys = omega (arith, row_words-append r xs ys)
@@ -17,7 +17,7 @@ before_ahead r [] ys o h = absurd (omega (arith, h))
 before_ahead r (x ∷ xs) ys zero h = refl
 before_ahead r (x ∷ xs) ys (suc o) h = omega (arith, before_ahead r xs ys o (omega (arith, h)))
 
--- and one of the second has those of the first, too
+-- an object of the second row has those of the first before it, too
 before_behind :
     (r : ℕ) (xs ys : List Kind) (n o : ℕ) → n ≡ length xs + o
     → words_before r (xs ++ ys) n ≡ row_words r xs + words_before r ys o
@@ -25,26 +25,31 @@ before_behind r [] ys n o e = let same : n ≡ o = omega (arith, e) in omega (ar
 before_behind r (x ∷ xs) ys zero o e = absurd (omega (arith, e))
 before_behind r (x ∷ xs) ys (suc n) o e = omega (arith, before_behind r xs ys n o (omega (arith, e)))
 
--- ---- the three parts of a row
+-- ---- the words of the fast path and of the last object
+-- how many words a fast path has
 fast_words : (r : ℕ) (b : Bool) → row_words r (fast_row b) ≡ length (fast_row b) * (1 + r)
 fast_words r true = omega arith
 fast_words r false = omega arith
 
+-- how many words lie before an object of a fast path
 fast_before : (r : ℕ) (b : Bool) (o : ℕ) → o < length (fast_row b) → words_before r (fast_row b) o ≡ o * (1 + r)
 fast_before r true zero h = omega arith
 fast_before r true (suc zero) h = omega arith
 fast_before r true (suc (suc o)) h = absurd (omega (arith, h))
 fast_before r false o h = absurd (omega (arith, h))
 
+-- how many words a last object has
 last_words : (r : ℕ) (b : Bool) → row_words r (last_row b) ≡ length (last_row b)
 last_words r true = omega arith
 last_words r false = omega arith
 
+-- before a last object nothing lies in its part
 nothing_before : (r : ℕ) (b : Bool) → words_before r (last_row b) 0 ≡ 0
 nothing_before r true = refl
 nothing_before r false = refl
 
--- ---- the row
+-- ---- a row of any shape
+-- how many words a row has
 pub row_words-row_of : (r s n : ℕ) (shape : Shape) → row_words r (row_of shape s n) ≡ shaped_words r shape n
 row_words-row_of r s n shape =
     omega (
@@ -65,7 +70,7 @@ address_in_row r s n k o shape reg before e =
     ap (λ w. k * w) (row_words-row_of r s n shape) in
     omega (arith, cells, e)
 
--- where a word of the fast path lies
+-- the address of a word of the fast path
 pub fast_address :
     (r s n k i : ℕ) (shape : Shape) (reg : Reg) → i < length (fast_row shape.fast)
     → address_of r (row_of shape s n) k i reg ≡ k * shaped_words r shape n + (i * (1 + r) + offset reg)
@@ -77,7 +82,7 @@ fast_address r s n k i shape reg h =
       fast_before r shape.fast i h,
     ))
 
--- where a word of a pair lies
+-- the address of a word of a pair
 pub shaped_address :
     (r s n k i j o : ℕ) (shape : Shape) (reg : Reg) → i < n → j < 2 → o ≡ length (fast_row shape.fast) + (2 * i + j)
     → address_of r (row_of shape s n) k o reg
@@ -92,7 +97,7 @@ shaped_address r s n k i j o shape reg h f e =
       words_before-pairs_of r s n i j (2 * i + j) refl f h,
     ))
 
--- where the last word lies
+-- the address of the last word
 pub last_address :
     (r s n k : ℕ) (shape : Shape) (reg : Reg)
     → address_of r (row_of shape s n) k (length (fast_row shape.fast) + 2 * n) reg

@@ -22,7 +22,7 @@ fast_kinds = Ratifier ∷ Ratifier ∷ Conciliator 2 ∷ Ratifier ∷ []
 won_there : IsPath (unary_table 2) Ratifier 0 (turns_at 0 (part_on 0 0 lost_at_second)) (answer true 0)
 won_there = (Store Proposal 1 ∷ Load Proposal 0 ∷ Store (Quorum 0) 1 ∷ [], inl (refl, refl), refl)
 
--- it has won
+-- consumer 0 has won
 pub fast_won : IsClaimPrefixFrom (unary_table 2) 0 fast_kinds 0 0 (part_on 0 0 lost_at_second) Won
 fast_won =
     inr (inl (record {
@@ -33,7 +33,7 @@ fast_won =
       is = refl;
     }))
 
--- consumer 1 there: it prefers 0, and meets its own announcement
+-- consumer 1 on the first ratifier: it prefers 0, and meets its own announcement
 left_there : IsPath (unary_table 2) Ratifier 1 (turns_at 0 (part_on 1 0 lost_at_second)) (answer false 0)
 left_there = (
   1,
@@ -43,7 +43,7 @@ left_there = (
   (Load Proposal 1 ∷ Store (Quorum 1) 1 ∷ [], inr refl, refl),
 )
 
--- it goes to the second ratifier with 0, and has lost to it
+-- consumer 1 goes to the second ratifier with 0, and has lost to consumer 0
 pub fast_lost : IsClaimPrefixFrom (unary_table 2) 1 fast_kinds 0 1 (part_on 1 0 lost_at_second) (Lost 0)
 fast_lost =
     let xs : List ObjectTurn = part_on 1 0 lost_at_second in
@@ -64,9 +64,11 @@ fast_lost =
 abbrev IsFastPart : ℕ → ℕ → Type 0
 IsFastPart c k = IsClaimPart (two_with true false) c k (part_on c k lost_at_second)
 
+-- it holds of consumer 0
 first : IsFastPart 0 0
 first = ((omega arith), (omega arith), (Won, fast_won))
 
+-- it holds of consumer 1
 second : IsFastPart 1 0
 second = ((omega arith), (omega arith), (Lost 0, fast_lost))
 
@@ -126,7 +128,7 @@ both_refused bad =
     (left_by_both (unary_table 2) 0 (Conciliator 2 ∷ Ratifier ∷ []) 0 2 xs mine.2.0 (omega arith) mine.2.1
     (λ none. not_empty _ _ none)).2
 
--- and the second
+-- who comes to the conciliator has passed the second ratifier
 pub one_refused : IsClaimLawful (two_with true false) past_one_ratifier → ⊥
 one_refused bad =
     let xs : List ObjectTurn = part_on 1 0 past_one_ratifier in
@@ -173,7 +175,7 @@ zero_passes h s later is end =
       )),
     ))
 
--- and so does consumer 1
+-- consumer 1 does the same
 one_passes :
     (h : List ClaimAccess) (s : Stage) (later : List ObjectTurn)
     → part_on 1 0 h ≡ later ++ part_on 1 0 both_undecided
@@ -235,7 +237,7 @@ last_lost =
       is = refl;
     })))
 
--- before that they were going on
+-- before the last object the claim of consumer 0 was going on
 pub still_going : IsClaimPrefixFrom (unary_table 2) 0 last_kinds 0 0 (part_on 0 0 both_undecided) Going
 still_going =
     zero_passes both_undecided Going [] refl
@@ -254,9 +256,11 @@ still_going =
 abbrev IsLastPart : ℕ → ℕ → Type 0
 IsLastPart c k = IsClaimPart (two_with false true) c k (part_on c k last_decides)
 
+-- it holds of consumer 0
 zero_here : IsLastPart 0 0
 zero_here = ((omega arith), (omega arith), (Won, last_won))
 
+-- it holds of consumer 1
 one_here : IsLastPart 1 0
 one_here = ((omega arith), (omega arith), (Lost 0, last_lost))
 
@@ -264,6 +268,7 @@ one_here = ((omega arith), (omega arith), (Lost 0, last_lost))
 found_word : IsInWords (record { act = Exchange Last 2 1; word = 0 })
 found_word = ((omega arith, tt), (omega arith))
 
+-- what the first exchange finds and stores are words
 put_word : IsInWords (record { act = Exchange Last 1 0; word = 0 })
 put_word = ((omega arith, omega arith), (omega arith))
 

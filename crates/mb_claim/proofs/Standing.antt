@@ -16,7 +16,7 @@ use Rattle.mb_claim.proofs.Turns.{reads_seen}
 use Rattle.mb_claim.proofs.CellFamily.{competes, family}
 use Rattle.mb_claim.proofs.PassedObjects.{Here, family_at}
 
--- a part of the objects behind those passed
+-- a part of the objects after those passed
 pub passed_then :
     (t : QuorumTable) (c : ℕ) (before after : List Kind) (o v w : ℕ) (front ys : List ObjectTurn) (s : Stage)
     → PassesAll t before o v front w → IsClaimPrefixFrom t c after (o + length before) w ys s
@@ -38,7 +38,7 @@ passed_then t c (k ∷ ks) after o v w front ys s (u, rest, x, p) q =
 
 module _ (t : QuorumTable) (kinds : List Kind) (c object : ℕ) (pc : Pc) (xs : List ObjectTurn)
     (p : StandsAt t kinds c object pc xs) where
-  -- a part from the claim's object on, behind those passed
+  -- a part from the claim's object on, after those passed
   from_here : (ys : List ObjectTurn) (s : Stage) → IsClaimPrefixFrom t c (p.kind ∷ p.after) object p.input ys s
       → IsClaimPrefixFrom t c kinds 0 c (ys ++ p.front) s
   from_here ys s q =
@@ -51,7 +51,7 @@ module _ (t : QuorumTable) (kinds : List Kind) (c object : ℕ) (pc : Pc) (xs : 
     abbrev longer : List ObjectTurn
     longer = record { object = object; turn = x } ∷ xs
 
-    -- they are those on this object, and those before
+    -- the claim's turns are those on this object, and those before
     pub longer_is : longer ≡ turns_on object (x ∷ p.turns) ++ p.front
     longer_is = ap (λ zs. record { object = object; turn = x } ∷ zs) p.all
 
@@ -61,21 +61,21 @@ module _ (t : QuorumTable) (kinds : List Kind) (c object : ℕ) (pc : Pc) (xs : 
     then_here s q = subst (λ zs. IsClaimPrefixFrom t c kinds 0 c zs s) (sym longer_is)
         (from_here (turns_on object (x ∷ p.turns)) s q)
 
-    -- the turn ends the path on this object, which decides
+    -- if the turn ends the path on this object, which decides, the claim has ended
     pub decided_here : (u : ℕ) → IsPath t p.kind p.input (x ∷ p.turns) (answer true u)
         → IsClaimPrefixFrom t c kinds 0 c longer (stage_for c u)
     decided_here u path =
         then_here (stage_for c u)
         (inr (inl (record { turns = x ∷ p.turns; value = u; all = refl; path = path; is = refl })))
 
-    -- it does not decide: what belongs to the objects behind it follows
+    -- if the object does not decide, the claim's stage is that of the objects after it
     undecided_then :
         (u : ℕ) (s : Stage) → IsPath t p.kind p.input (x ∷ p.turns) (answer false u)
         → IsClaimPrefixFrom t c p.after (suc object) u [] s → IsClaimPrefixFrom t c kinds 0 c longer s
     undecided_then u s path behind =
         then_here s (inr (inr (u, [], record { turns = x ∷ p.turns; all = refl; path = path }, behind)))
 
-    -- and there are none
+    -- if it does not decide, and is the last one, the claim is undecided
     pub undecided_here :
         (u : ℕ) → IsPath t p.kind p.input (x ∷ p.turns) (answer false u) → p.after ≡ []
         → IsClaimPrefixFrom t c kinds 0 c longer Undecided
@@ -83,7 +83,7 @@ module _ (t : QuorumTable) (kinds : List Kind) (c object : ℕ) (pc : Pc) (xs : 
         undecided_then u Undecided path
         (subst (λ ks. IsClaimPrefixFrom t c ks (suc object) u [] Undecided) (sym last) (refl, refl))
 
-    -- or the next one is still to be begun
+    -- if it does not decide, and another comes after it, the claim goes on
     passed_here :
         AreDeciding t → (k : Kind) (ks : List Kind) → p.after ≡ k ∷ ks
         → (u : ℕ) → IsPath t p.kind p.input (x ∷ p.turns) (answer false u) → u < t.values
@@ -93,7 +93,7 @@ module _ (t : QuorumTable) (kinds : List Kind) (c object : ℕ) (pc : Pc) (xs : 
         (subst (λ js. IsClaimPrefixFrom t c js (suc object) u [] Going) (sym next)
         (inl (record { turns = []; all = refl; going = (law k (λ p. p)).opens u l; is = refl })))
 
-    -- the turn ends the path on this object
+    -- if the turn ends the path on this object, the claim's part has a stage
     ended :
         AreDeciding t → (ks : List Kind) → p.after ≡ ks → (d : Bool) (u : ℕ)
         → IsPath t p.kind p.input (x ∷ p.turns) (answer d u) → u < t.values
@@ -102,7 +102,7 @@ module _ (t : QuorumTable) (kinds : List Kind) (c object : ℕ) (pc : Pc) (xs : 
     ended law [] e false u path l = (Undecided, undecided_here u path e)
     ended law (k ∷ ks) e false u path l = (Going, passed_here law k ks e u path l)
 
-    -- where a turn goes on with the object's path, the claim's part goes on with it
+    -- if a turn goes on with the object's path, the claim's part goes on with it
     pub goes_on :
         AreDeciding t
         → ((u : ℕ) (d : Bool) → IsPath t p.kind p.input (x ∷ p.turns) (answer d u) → u < t.values)
@@ -147,7 +147,7 @@ module _ (t : QuorumTable) (law : AreDeciding t) (stepping : AreStepping t) (kin
       stepping.steps kind at.inputs (hs o) c pc op word at.lawful
       (subst₂ (λ v ts. PcIsAt t kind v pc ts) (sym at.own) (sym at.same) place) is
 
-  -- and so with the claim's path on this object
+  -- the turn goes on with the claim's path on this object
   pub part_here : IsPrefix t kind w (turn_after op word (hs o) ∷ turns)
   part_here = subst₂ (λ v ts. IsPrefix t kind v (turn_after op word (hs o) ∷ ts)) at.own at.same own_step
 
@@ -157,7 +157,7 @@ module _ (t : QuorumTable) (law : AreDeciding t) (stepping : AreStepping t) (kin
       stepping.longer kind at.inputs (hs o) c (turn_after op word (hs o)) at.lawful at.within small
       (reads_seen op (hs o)) own_step
 
-  -- and where the turn ends the path, the output is a value of the table
+  -- if the turn ends the path, the output is a value of the table
   pub output_below :
       (u : ℕ) (d : Bool) → IsPath t kind w (turn_after op word (hs o) ∷ turns) (answer d u) → u < t.values
   output_below u d path =
@@ -203,7 +203,7 @@ may_follow cs law stepping h c k object pc op word lawful cell p is words =
           (part_here cs.table law stepping p.1.kind hs c object p.1.input p.1.turns at pc op word words p.1.place is);
     }
 
--- and it finds a value with which the place can go on
+-- that access finds a value with which the place can go on
 pub finds_there :
     (cs : Claims) → AreDeciding cs.table → AreStepping cs.table
     → (h : List ClaimAccess) (c k object : ℕ) (pc : Pc) (op : Op)

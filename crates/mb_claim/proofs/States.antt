@@ -15,7 +15,7 @@ use Rattle.mb_claim.proofs.Words.{own_place, other_place, same_act, same_find}
 module _
     (cs : Claims) (words : List ℕ) (h : List ClaimAccess) (memory : IsMemoryOf cs words h) (c k object : ℕ) (op : Op)
     (word : ℕ) (cell : k < cs.cells) (place : IsWordIn cs object (reg_of op)) where
-  -- where the word of the access lies
+  -- the address of the word of the access
   abbrev address : ℕ
   address = address_in cs k object (reg_of op)
 
@@ -27,7 +27,7 @@ module _
   abbrev access : ClaimAccess
   access = access_in cs c k object op word words
 
-  -- it lies within the words
+  -- the word of the access lies within the words
   below : address < length words
   below =
       let a = within cs.table.registers cs.kinds cs.cells k object (reg_of op) place cell in
@@ -47,7 +47,7 @@ module _
       })
       (same_act op found (object_history k object h) seen)
 
-  -- where that may follow, the access adds to the history
+  -- if the access may follow, it adds to the history
   pub access_adds : MayFollow cs (access_after c k object op word h) h → Adds cs access h
   access_adds may = adds cs h access memory.lawful (subst (λ a. MayFollow cs a h) same_access may)
 
@@ -95,7 +95,7 @@ module _
         memory_after (access_adds (may_follow cs law stepping h c k object pc op word memory.lawful cell stands is
         (subst (λ (a : ClaimAccess). IsInWords a.step.turn) (sym same_access) small)))
 
-    -- its place can go on with what is found
+    -- the claim's place can go on with the value that is found
     pub memory_found : CanFind cs.table pc op found
     memory_found =
         same_find cs.table pc op found (object_history k object h) is seen
@@ -112,7 +112,7 @@ memory_empty cs words room zeros =
       left = λ k o reg cell place. zeros (address_in cs k o reg);
     }
 
--- a word behind those of the cells is none of the claims'
+-- a word after those of the cells is none of the claims'
 pub memory_beyond :
     (cs : Claims) (at n : ℕ) (words : List ℕ) (h : List ClaimAccess) → words_in cs ≤ at → IsMemoryOf cs words h
     → IsMemoryOf cs (slice_set words at n) h

@@ -7,7 +7,7 @@ use Rattle.mb_deciding.specs.Vocabulary.{turns_left, most_turns}
 use Rattle.mb_claim.specs.{Kind, Claim, Layout, Stage, Going, Won, Lost, Undecided, quorums_of, kinds_of}
 use Rattle.mb_claim.specs.{most_on_objects, steps_left, steps_left_at}
 
--- the objects from one on allow what it allows and what those behind it allow
+-- the objects from one on allow what it allows and what those after it allow
 pub most_from :
     (t : QuorumTable) (kinds : List Kind) (o : ℕ) (kind : Kind) → slice_get kinds o ≡ Some kind
     → most_on_objects t (drop o kinds) ≡ most_turns t kind + most_on_objects t (drop (suc o) kinds)
@@ -19,6 +19,7 @@ most_from t (k ∷ ks) (suc o) kind e = most_from t ks o kind e
 pub won_ended : Won ≢ Going
 won_ended e = cc
 
+-- a claim that is lost has ended
 pub lost_ended : (winner : ℕ) → Lost winner ≢ Going
 lost_ended winner e = cc
 
@@ -30,7 +31,7 @@ ended_left layout claim Won e ended = ap (λ s. steps_left_at layout s claim.obj
 ended_left layout claim (Lost winner) e ended = ap (λ s. steps_left_at layout s claim.object claim.place) e
 ended_left layout claim Undecided e ended = ap (λ s. steps_left_at layout s claim.object claim.place) e
 
--- those of a claim that is going
+-- what is left to a claim that is going is by its object and place
 pub going_left :
     (layout : Layout) (claim : Claim) → claim.stage ≡ Going
     → steps_left layout claim ≡ steps_left_at layout Going claim.object claim.place
@@ -46,12 +47,12 @@ module _ (layout : Layout) (old now : Claim) (going : old.stage ≡ Going) where
       let behind = ap (λ o. most_on_objects (quorums_of layout) (drop (suc o) (kinds_of layout))) same in
       omega (arith, going_left layout old going, going_left layout now goes, behind, fewer)
 
-  -- it has come to an end
+  -- the claim has come to an end
   pub fewer_ended :
       now.stage ≢ Going → 0 < turns_left (quorums_of layout) old.place → steps_left layout now < steps_left layout old
   fewer_ended ended some = omega (arith, going_left layout old going, ended_left layout now now.stage refl ended, some)
 
-  -- it has passed to the next object, if there is one
+  -- the claim has passed to the next object, if there is one
   pub fewer_passed :
       0 < turns_left (quorums_of layout) old.place
       → (next : Option Kind) → slice_get (kinds_of layout) (old.object + 1) ≡ next

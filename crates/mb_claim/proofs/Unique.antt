@@ -35,12 +35,12 @@ module _ (t : QuorumTable) (k : Kind) (law : OfKind t k) (c o v : ℕ) (xs : Lis
   pub not_ended : GoesOnIn t k o v xs s → ⊥
   not_ended x = open_closed t k law v x.turns ys out (only t k o v xs x.turns x.all ∙ sym here) x.going path
 
-  -- one whose first object decided has no other output there
+  -- a part whose first object decided has no other output there
   pub decided_as : (x : DecidesIn t c k o v xs s) → answer true x.value ≡ out
   decided_as x =
       same_out t k law v x.turns ys (answer true x.value) out (only t k o v xs x.turns x.all ∙ sym here) x.path path
 
-  -- and so it did not leave it undecided
+  -- a part whose first object decided was not left undecided there
   pub not_undecided : DecidesIn t c k o v xs s → out.decided ≡ false → ⊥
   not_undecided x e = true≢false (ap (λ (a : Out). a.decided) (decided_as x) ∙ e)
 
@@ -83,7 +83,7 @@ one_stage_lem t law c (k ∷ ks) o v xs s r (inr (inr (u, front, x, p))) (inr (i
     one_stage_lem t law c ks (suc o) w rest s r (subst₂ (λ n zs. IsClaimPrefixFrom t c ks
     (suc o) n zs s) values rests p) q
 
--- an object is used once: behind a whole path there is no turn
+-- an object is used once: after a whole path there is no turn
 pub used_once :
     (t : QuorumTable) (k : Kind) (law : OfKind t k) (v : ℕ) (later turns all : List Turn) (out : Out)
     → IsPath t k v turns out → all ≡ later ++ turns → (all ≡ []) ⊎ IsPrefix t k v all → later ≡ []

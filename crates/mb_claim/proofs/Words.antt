@@ -43,13 +43,13 @@ reg_of-act_of (to.Load q) s = refl
 reg_of-act_of (to.Store q m) s = refl
 reg_of-act_of (to.Exchange q m) s = refl
 
--- what is stored stays where the word is the same
+-- what is stored stays if the word is the same
 stored_here : (b : Bool) (stored : Option ℕ) (n : ℕ) → b ≡ true
     → option_map_or (λ value. cond b value n) stored n ≡ option_map_or (λ value. value) stored n
 stored_here b None n e = refl
 stored_here b (Some m) n e = ap (λ a. cond a m n) e
 
--- and changes nothing where it is another
+-- what is stored in another word changes nothing
 stored_there : (b : Bool) (stored : Option ℕ) (n : ℕ) → b ≡ false
     → option_map_or (λ value. cond b value n) stored n ≡ n
 stored_there b None n e = refl
@@ -67,7 +67,7 @@ other_word op s n q e =
     stored_there (is_same_reg (reg_of_act (act_of op s)) q) (stored_by (act_of op s)) n
     (ap (λ p. is_same_reg p q) (reg_of-act_of op s) ∙ e)
 
--- the same at its cell and object, where n is what it finds
+-- what an op that finds n leaves in its word, at its cell and object
 pub own_place :
     (k o s n : ℕ) (op : Op) → s ≡ n
     → cond (eqb k k) (cond (eqb o o) (value_after (reg_of op) (act_of op s) n) n) n ≡ after_op op n
@@ -75,13 +75,13 @@ own_place k o s n op e =
     ap₂ (λ a b. cond a (cond b (value_after (reg_of op) (act_of op s) n) n) n) (eq-eqb k k refl) (eq-eqb o o refl)
     ∙ (ap (λ m. value_after (reg_of op) (act_of op m) n) e ∙ own_word op n)
 
--- a value that stays where both tests pass stays
+-- a value that stays if both tests pass stays
 same_at : (a b : Bool) (x n : ℕ) → (a ≡ true → b ≡ true → x ≡ n) → cond a (cond b x n) n ≡ n
 same_at true true x n h = h refl refl
 same_at true false x n h = refl
 same_at false b x n h = refl
 
--- the same at another place
+-- what it leaves in a word at another place
 pub other_place :
     (k o s n : ℕ) (op : Op) (j m : ℕ) (q : Reg) → (k ≡ j → o ≡ m → reg_of op ≡ q → ⊥)
     → cond (eqb k j) (cond (eqb o m) (value_after q (act_of op s) n) n) n ≡ n
@@ -91,7 +91,7 @@ other_place k o s n op j m q ne =
     (λ t. absurd (ne (eqb-true k j a) (eqb-true o m b) (same_reg-true (reg_of op) q t))) (λ f. f)
     (cases_Bool (is_same_reg (reg_of op) q))))
 
--- an op makes the same act where it finds the same
+-- an op makes the same act if it finds the same
 pub same_act : (op : Op) (n : ℕ) (h : List Access) → n ≡ value_in (reg_of op) h → act_of op (seen_by op h) ≡ act_of op n
 same_act (to.Load q) n h e = ap (λ m. Loaded q m) (sym e)
 same_act (to.Store q m) n h e = refl

@@ -3,7 +3,8 @@ use Rattle.std.specs.Prelude.{ℕ, List}
 use Rattle.mb_quorum.specs.Vocabulary.{QuorumTable, IsQuorumTable}
 use Rattle.mb_claim.specs.ObjectTypes.{Kind}
 
--- the quorum table, whose values are the consumers, the objects of each cell, and how many cells there are
+-- the claims: their quorum table, whose values are the consumers, the objects of each cell, and how many cells there
+-- are
 pub record Claims : Type 0 where
   pub table : QuorumTable
   pub kinds : List Kind
@@ -13,6 +14,6 @@ pub record Claims : Type 0 where
 abbrev pub claims_of : QuorumTable → List Kind → ℕ → Claims
 claims_of t kinds cells = record { table = t; kinds = kinds; cells = cells }
 
--- the table is a quorum table
+-- the claims' table is a quorum table
 abbrev pub ClaimsAreSound : Claims → Type 0
 ClaimsAreSound cs = IsQuorumTable cs.table

@@ -23,7 +23,7 @@ pub record IsBoard (layout : Layout) (steps : List (ℕ × ℕ)) (board : BoardS
   pub consumers : length board.claims ≡ consumer_count layout
   pub own : (c : ℕ) (d : Claim) → c < length board.claims
       → consumer_of (slice_index_or board.claims c d) ≡ c
-  -- which has made the consumer's part
+  -- the claim of a consumer has made the consumer's part
   pub standing :
       (c : ℕ) (d : Claim) → c < length board.claims
       → IsClaimIn layout (slice_index_or board.claims c d) (part_on c 0

@@ -13,9 +13,9 @@ abbrev pub IsClaimPart : Claims → ℕ → ℕ → List ObjectTurn → Type 0
 IsClaimPart cs c k xs = (c < cs.table.values) × (k < cs.cells) × ((s : Stage)
     × IsClaimPrefix cs c xs s)
 
--- Each load is true to memory. Values and random words are words of 64 bits. What a consumer did on a cell is a prefix
--- of its claim path there, with its own number as first input. There are no consumers and cells but those of the
--- claims: the consumers are the values of the quorum table.
+-- A lawful history of claims. Each load is true to memory. Values and random words are words of 64 bits. What a
+-- consumer did on a cell is a prefix of its claim path there, with its own number as first input. There are no
+-- consumers and cells but those of the claims: the consumers are the values of the quorum table.
 pub record IsClaimLawful (cs : Claims) (h : List ClaimAccess) : Type 0 where
   -- each load has what the older accesses left
   pub memory : IsMemoryTrue h
@@ -33,7 +33,7 @@ HasStage cs c k s h = (c < cs.table.values) × IsClaimPrefix cs c (part_on c k h
 pub record MayFollow (cs : Claims) (a : ClaimAccess) (h : List ClaimAccess) : Type 0 where
   -- it is of one of the consumers
   pub consumer : a.consumer < cs.table.values
-  -- on one of the cells
+  -- it is on one of the cells
   pub cell : a.cell < cs.cells
   -- its value and its random word are below 2 ^ 64
   pub words : IsInWords a.step.turn
@@ -55,6 +55,6 @@ pub record Adds (cs : Claims) (a : ClaimAccess) (h : List ClaimAccess) : Type 0 
   pub own : part_on a.consumer a.cell (a ∷ h) ≡ a.step ∷ part_on a.consumer a.cell h
   -- all other parts stay
   pub others : (c k : ℕ) → (a.consumer ≡ c → a.cell ≡ k → ⊥) → part_on c k (a ∷ h) ≡ part_on c k h
-  -- and each word has what the access leaves in it
+  -- each word has what the access leaves in it
   pub words : (k o : ℕ) (reg : Reg) → left_at k o reg (a ∷ h) ≡ left_after k o reg a
       (left_at k o reg h)

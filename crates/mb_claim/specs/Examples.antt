@@ -1,5 +1,5 @@
 -- Histories of claims on one cell, for two consumers and one pair over the unary table. Some are lawful, and some are
--- not. And runs of such claims.
+-- not. Below them stand the steps and entries of a run of such claims.
 use Rattle.std.specs.Prelude.{ℕ, List, [], ◌∷◌}
 use Rattle.mb_quorum.specs.Unary.{unary_table}
 use Rattle.mb_claim.specs.declared.run.ClaimEntry.TheVariants as entry
@@ -18,21 +18,21 @@ abbrev pub access_at : ℕ → ℕ → Act → ClaimAccess
 access_at c o act =
     record { consumer = c; cell = 0; step = record { object = o; turn = record { act = act; word = 0 } } }
 
--- consumer 0 alone wins
+-- consumer 0 comes alone, and wins
 abbrev pub won_alone : List ClaimAccess
 won_alone =
     access_at 0 1 (Load (Quorum 1) 0) ∷ access_at 0 1 (Store Proposal 1) ∷ access_at 0 1 (Load Proposal 0)
     ∷ access_at 0 1 (Store (Quorum 0) 1)
     ∷ access_at 0 0 (Load Value 1) ∷ access_at 0 0 (Store Value 1) ∷ access_at 0 0 (Load Value 0) ∷ []
 
--- and then consumer 1 comes and loses
+-- after that consumer 1 comes, and loses
 abbrev pub won_and_lost : List ClaimAccess
 won_and_lost =
     access_at 1 1 (Load (Quorum 1) 0) ∷ access_at 1 1 (Load Proposal 1) ∷ access_at 1 1 (Store
     (Quorum 0) 1) ∷ access_at 1 0 (Load Value 1)
     ∷ won_alone
 
--- both take the conciliator's word for empty, one after the other, and then each finds the other's announcement
+-- both find the conciliator's word empty, one after the other, and then each finds the other's announcement
 abbrev pub both_undecided : List ClaimAccess
 both_undecided =
     access_at 1 1 (Load (Quorum 0) 1) ∷ access_at 1 1 (Store Proposal 2)
@@ -43,7 +43,7 @@ both_undecided =
     ∷ access_at 0 0 (Load Value 1) ∷ access_at 0 0 (Store Value 1)
     ∷ access_at 1 0 (Load Value 0) ∷ access_at 0 0 (Load Value 0) ∷ []
 
--- ---- not lawful
+-- ---- histories that are not lawful
 -- consumer 0 has its output from object 0, pauses, and begins there again
 abbrev pub begun_again : List ClaimAccess
 begun_again =
@@ -62,8 +62,8 @@ own_number_again = access_at 1 1 (Store (Quorum 1) 1) ∷ access_at 1 0 (Load Va
 abbrev pub of_a_stranger : List ClaimAccess
 of_a_stranger = access_at 2 0 (Load Value 0) ∷ []
 
--- ---- runs
--- the entries and stages of these steps of two consumers
+-- ---- steps and entries of a run
+-- two consumers that make these steps have these entries and stages
 abbrev pub IsPlayedByTwo : List (ℕ × ℕ) → List ClaimEntry → List Stage → Type 0
 IsPlayedByTwo steps entries stages = IsPlayed two_consumers steps entries stages
 
@@ -71,7 +71,7 @@ IsPlayedByTwo steps entries stages = IsPlayed two_consumers steps entries stages
 abbrev pub step : ℕ × ℕ
 step = (0, 0)
 
--- eight of them: those of `won_alone`, and one more
+-- eight steps of consumer 0: those of `won_alone`, and one more
 abbrev pub eight_steps : List (ℕ × ℕ)
 eight_steps = step ∷ step ∷ step ∷ step ∷ step ∷ step ∷ step ∷ step ∷ []
 

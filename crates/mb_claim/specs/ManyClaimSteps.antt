@@ -1,5 +1,5 @@
 -- Accesses of a claim, one after the other, in a memory with a source of random words.
-use Rattle.std.specs.Prelude.{ℕ, zero, suc, ◌≡◌, Bool, true}
+use Rattle.std.specs.Prelude.{ℕ, zero, suc, ◌≡◌, Bool}
 use Rattle.mb_claim.specs.ObjectTypes.{Pc}
 use Rattle.mb_claim.specs.Types.{Claim, ClaimOp, Going, Layout}
 use Rattle.mb_deciding.specs.declared.access.Op.{Op}

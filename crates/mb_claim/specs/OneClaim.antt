@@ -8,11 +8,11 @@ use Rattle.mb_claim.specs.Layouts.{quorums_of, kinds_of, claims_in, most_on_obje
 use Rattle.mb_claim.specs.States.{IsMemoryOf, step_of}
 use Rattle.mb_claim.specs.Standing.{IsClaimOf}
 
--- whose claim it is
+-- the consumer of a claim
 abbrev pub consumer_of : Claim → ℕ
 consumer_of claim = claim.consumer
 
--- how far it has come
+-- how far a claim has come
 abbrev pub claim_stage : Claim → Stage
 claim_stage claim = claim.stage
 
@@ -27,30 +27,30 @@ placed_at pc claim =
       begun = claim.begun;
     }
 
--- whether it has made an access
+-- whether a claim has made an access
 abbrev pub is_begun : Claim → Bool
 is_begun claim = claim.begun
 
--- it stands on one of the layout's objects, at a place there
+-- a claim stands on one of the layout's objects, at a place there
 pub record IsOnObject (layout : Layout) (claim : Claim) : Type 0 where
   -- the layout has the object
   pub object : claim.object < length (kinds_of layout)
-  -- and the place fits its table
+  -- the place fits the layout's quorum table
   pub place : IsPlace (quorums_of layout) claim.place
 
--- while it is going, its calls may be made with this layout
+-- while a claim is going, its calls may be made with this layout
 abbrev pub FitsLayout : Layout → Claim → Type 0
 FitsLayout layout claim = claim_stage claim ≡ Going → IsOnObject layout claim
 
--- the access that it makes next
+-- the access that a claim makes next
 pub record IsNextOp (layout : Layout) (claim : Claim) (next : ClaimOp) : Type 0 where
-  -- on the object on which it stands
+  -- it is on the object on which the claim stands
   pub object : next.object ≡ claim.object
-  -- the load, store or exchange of its place there
+  -- it is the load, store or exchange of the claim's place there
   pub op : IsOpAt (quorums_of layout) claim.place next.op
 
--- what that access may find: a load or an exchange finds a value that the word can hold. In a conciliator that is not 0
--- if the claim has stored there
+-- what a claim's next access may find: a load or an exchange finds a value that the word can hold. In a conciliator
+-- that is not 0 if the claim has stored there
 abbrev pub CanClaimFind : Layout → Claim → ClaimOp → ℕ → Type 0
 CanClaimFind layout claim next seen = CanFind (quorums_of layout) claim.place next.op seen
 
@@ -69,7 +69,7 @@ pub record IsClaimStep (layout : Layout) (claim : Claim) (makes : ClaimOp → �
   -- it is the one that comes next, and it was made
   pub is : IsNextOp layout claim next
   pub made : makes next seen
-  -- if it can find that, it is one more on the claim's path
+  -- if the access can find that value, it is one more on the claim's path
   pub path :
       (xs : List ObjectTurn) → IsClaimIn layout claim xs → CanClaimFind layout claim next seen
       → IsClaimIn layout follows (step_of next.object next.op seen word ∷ xs)
@@ -96,9 +96,9 @@ claim_access claim k step = record { consumer = consumer_of claim; cell = k; ste
 -- the words, and the claim on cell k, fit one lawful history of the layout's claims on `cells` cells
 pub record IsClaimOn (layout : Layout) (cells k : ℕ) (claim : Claim) (words : List ℕ)
     (h : List ClaimAccess) : Type 0 where
-  -- the cell is one of them
+  -- the cell is one of these
   pub cell : k < cells
   -- the history leaves the words
   pub memory : IsMemoryOf (claims_in layout cells) words h
-  -- and the claim has made its consumer's part on the cell
+  -- the claim has made its consumer's part on the cell
   pub standing : IsClaimIn layout claim (part_on (consumer_of claim) k h)

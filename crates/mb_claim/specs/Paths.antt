@@ -37,18 +37,18 @@ pub record GoesOnIn (t : QuorumTable) (kind : Kind) (o v : ℕ) (xs : List Objec
   -- all that it did from here on, it did on this object
   pub turns : List Turn
   pub all : xs ≡ turns_on o turns
-  -- and it goes on to a whole path there
+  -- these turns go on to a whole path there
   pub going : IsOpen t kind v turns
   pub is : s ≡ Going
 
--- object o has decided
+-- object o has decided, and the stage is what its value makes of consumer c
 pub record DecidesIn (t : QuorumTable) (c : ℕ) (kind : Kind) (o v : ℕ) (xs : List ObjectTurn)
     (s : Stage) : Type 0 where
   -- all that it did from here on, it did on this object
   pub turns : List Turn
   pub value : ℕ
   pub all : xs ≡ turns_on o turns
-  -- and that is a whole path with a decided output
+  -- these turns are a whole path with a decided output
   pub path : IsPath t kind v turns (answer true value)
   pub is : s ≡ stage_for c value
 
@@ -59,7 +59,7 @@ pub record Passes
   -- its first turns are those on this object
   pub turns : List Turn
   pub all : xs ≡ later ++ turns_on o turns
-  -- and make a whole path with an undecided output
+  -- these turns are a whole path with an undecided output
   pub path : IsPath t kind v turns (answer false u)
 
 -- a prefix of a path of consumer c through objects with numbers from o on, with input v, and its stage
@@ -80,7 +80,7 @@ Enters t (kind ∷ kinds) o v xs n w =
     ⊎ ((u : ℕ) × (later : List ObjectTurn) × Passes t kind o v xs u later
     × Enters t kinds (suc o) u later n w)
 
--- ---- claims
+-- ---- the paths of a claim, through all objects of its cell
 -- a whole claim path of consumer c: its first input is its own number
 abbrev pub IsWholeClaim : Claims → ℕ → List ObjectTurn → Out → Type 0
 IsWholeClaim cs c xs output = IsClaimPath cs.table cs.kinds 0 c xs output

@@ -5,7 +5,7 @@ use Rattle.mb_claim.specs.AllClaims.{Claims}
 use Rattle.mb_claim.specs.Types.{ClaimAccess, Stage, Going, ClaimEntry}
 use Rattle.mb_claim.specs.Claiming.{IsClaimLawful, HasStage}
 
--- whose entry it is
+-- the consumer of an entry
 abbrev pub entry_consumer : ClaimEntry → ℕ
 entry_consumer (entry.Access consumer object act) = consumer
 entry_consumer (entry.Done consumer) = consumer
@@ -27,7 +27,7 @@ history_from [] entries h = h
 history_from (step ∷ steps) [] h = h
 history_from (step ∷ steps) (e ∷ entries) h = history_from steps entries (with_entry step.1 e h)
 
--- the accesses of the entries
+-- the history of the entries of a run, each with the random word of its step
 abbrev pub history_of : List (ℕ × ℕ) → List ClaimEntry → List ClaimAccess
 history_of steps entries = history_from steps entries []
 

@@ -15,7 +15,7 @@ abbrev pub fast_row : Bool → List Kind
 fast_row true = Ratifier ∷ Ratifier ∷ []
 fast_row false = []
 
--- and what comes after them: the last object, if there is one
+-- what comes after the pairs: the last object, if there is one
 abbrev pub last_row : Bool → List Kind
 last_row true = LastObject ∷ []
 last_row false = []
@@ -24,11 +24,11 @@ last_row false = []
 abbrev pub row_of : Shape → ℕ → ℕ → List Kind
 row_of shape s n = fast_row shape.fast ++ (pairs_of s n ++ last_row shape.last)
 
--- pairs alone
+-- the shape with pairs alone
 abbrev pub plain : Shape
 plain = record { fast = false; last = false }
 
--- ---- addresses
+-- ---- the words of a cell: how many, and where
 -- how many words an object has, with r quorum registers
 abbrev pub width : ℕ → Kind → ℕ
 width r (Conciliator s) = 1
@@ -59,7 +59,7 @@ abbrev pub shaped_words : ℕ → Shape → ℕ → ℕ
 shaped_words r shape n =
     length (fast_row shape.fast) * (1 + r) + n * (2 + r) + length (last_row shape.last)
 
--- where a word of object o of cell k lies
+-- the address of a word of object o of cell k
 abbrev pub address_of : ℕ → List Kind → ℕ → ℕ → Reg → ℕ
 address_of r kinds k o reg = k * row_words r kinds + (words_before r kinds o + offset reg)
 

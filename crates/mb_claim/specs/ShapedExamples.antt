@@ -13,13 +13,14 @@ abbrev pub two_with : Bool → Bool → Claims
 two_with fast last = claims_of (unary_table 2) (row_of (record { fast = fast; last = last }) 2 1) 1
 
 -- ---- a fast path
--- consumer 0 comes alone, and the first ratifier decides
+-- lawful: consumer 0 comes alone, and the first ratifier decides
 abbrev pub won_at_once : List ClaimAccess
 won_at_once =
     access_at 0 0 (Load (Quorum 1) 0) ∷ access_at 0 0 (Store Proposal 1) ∷ access_at 0 0 (Load Proposal 0)
     ∷ access_at 0 0 (Store (Quorum 0) 1) ∷ []
 
--- then consumer 1 comes: the first ratifier leaves it undecided with the winner's number, and the second decides that
+-- lawful: then consumer 1 comes. The first ratifier leaves it undecided with the winner's number, and the second
+-- decides that number
 abbrev pub lost_at_second : List ClaimAccess
 lost_at_second =
     access_at 1 1 (Load (Quorum 1) 0) ∷ access_at 1 1 (Store Proposal 1) ∷ access_at 1 1 (Load Proposal 0)
@@ -27,32 +28,33 @@ lost_at_second =
     ∷ access_at 1 0 (Load (Quorum 1) 1) ∷ access_at 1 0 (Load Proposal 1) ∷ access_at 1 0 (Store
     (Quorum 1) 1) ∷ won_at_once
 
--- consumer 0 begins with the conciliator
+-- not lawful: consumer 0 begins with the conciliator
 abbrev pub past_both_ratifiers : List ClaimAccess
 past_both_ratifiers = access_at 0 2 (Load Value 0) ∷ []
 
--- consumer 1 goes to the conciliator after the first ratifier
+-- not lawful: consumer 1 goes to the conciliator after the first ratifier
 abbrev pub past_one_ratifier : List ClaimAccess
 past_one_ratifier =
     access_at 1 2 (Load Value 0) ∷ access_at 1 0 (Load (Quorum 1) 1) ∷ access_at 1 0 (Load Proposal 1)
     ∷ access_at 1 0 (Store (Quorum 1) 1) ∷ won_at_once
 
 -- ---- a last object
--- the pair has left both undecided. Consumer 0 comes first to the last object and wins, and consumer 1 finds its number
+-- lawful: the pair has left both undecided. Consumer 0 comes first to the last object and wins, and consumer 1 finds
+-- its number
 abbrev pub last_decides : List ClaimAccess
 last_decides =
     access_at 1 2 (Exchange Last 2 1) ∷ access_at 0 2 (Exchange Last 1 0) ∷ both_undecided
 
--- consumer 1 finds the word empty, too
+-- not lawful: consumer 1 finds the word empty, too
 abbrev pub last_found_empty_twice : List ClaimAccess
 last_found_empty_twice =
     access_at 1 2 (Exchange Last 2 0) ∷ access_at 0 2 (Exchange Last 1 0) ∷ both_undecided
 
--- consumer 0 begins with the last object
+-- not lawful: consumer 0 begins with the last object
 abbrev pub last_comes_first : List ClaimAccess
 last_comes_first = access_at 0 2 (Exchange Last 1 0) ∷ []
 
--- ---- both
+-- ---- a fast path and a last object
 -- on ratifier o each consumer announces its number, finds no proposal, and then meets the other's announcement
 abbrev pub both_pass : ℕ → List ClaimAccess → List ClaimAccess
 both_pass o before =
@@ -61,18 +63,18 @@ both_pass o before =
     ∷ access_at 1 o (Load Proposal 0) ∷ access_at 0 o (Load Proposal 0)
     ∷ access_at 1 o (Store (Quorum 1) 1) ∷ access_at 0 o (Store (Quorum 0) 1) ∷ before
 
--- the fast path leaves both undecided, and the conciliator each its own number
+-- the fast path leaves both undecided, and each has its own number from the conciliator
 abbrev pub through_three : List ClaimAccess
 through_three =
     access_at 1 2 (Load Value 2) ∷ access_at 1 2 (Store Value 2)
     ∷ access_at 0 2 (Load Value 1) ∷ access_at 0 2 (Store Value 1)
     ∷ access_at 1 2 (Load Value 0) ∷ access_at 0 2 (Load Value 0) ∷ both_pass 1 (both_pass 0 [])
 
--- the pair's ratifier leaves both undecided, too. The last object decides for consumer 0
+-- lawful: the pair's ratifier leaves both undecided, too. The last object decides for consumer 0
 abbrev pub through_all : List ClaimAccess
 through_all =
     access_at 1 4 (Exchange Last 2 1) ∷ access_at 0 4 (Exchange Last 1 0) ∷ both_pass 3 through_three
 
--- consumer 0 goes from the fast path to the last object
+-- not lawful: consumer 0 goes from the fast path to the last object
 abbrev pub past_the_pair : List ClaimAccess
 past_the_pair = access_at 0 4 (Exchange Last 1 0) ∷ both_pass 1 (both_pass 0 [])

@@ -1,4 +1,4 @@
--- Where a claim stands: the objects that it has passed, and its place on the next one.
+-- Where a claim stands: the objects that it has passed, its place on the next one, and the access that it makes there.
 use Rattle.std.specs.Prelude.{ℕ, suc, ◌≡◌, ◌≢◌, ◌<◌, ◌↔◌, true, List, [], ◌∷◌, ◌++◌, length}
 use Rattle.mb_quorum.specs.Vocabulary.{QuorumTable}
 use Rattle.mb_deciding.specs.Vocabulary.{PcIsAt, turn_after}
@@ -37,7 +37,7 @@ pub record StandsAt (t : QuorumTable) (kinds : List Kind) (c object : ℕ) (pc :
   pub within : input < t.values
   pub place : PcIsAt t kind input pc turns
 
--- the claim of consumer c on cell k stands there
+-- the claim of consumer c on cell k stands on this object, at this place
 abbrev pub HasPlace : Claims → ℕ → ℕ → ℕ → Pc → List ClaimAccess → Type 0
 HasPlace cs c k object pc h = (c < cs.table.values)
     × StandsAt cs.table cs.kinds c object pc (part_on c k h)
@@ -45,13 +45,13 @@ HasPlace cs c k object pc h = (c < cs.table.values)
 -- the claim is that of a consumer that has made these turns
 pub record IsClaimOf (t : QuorumTable) (kinds : List Kind) (claim : Claim)
     (xs : List ObjectTurn) : Type 0 where
-  -- it is one of the consumers
+  -- the claim's consumer is one of the table's
   pub known : claim.consumer < t.values
   -- the turns are a prefix of its claim path, with its stage
   pub prefix : IsClaimPrefixFrom t claim.consumer kinds 0 claim.consumer xs claim.stage
   -- it is begun exactly if it has made any
   pub begun : (claim.begun ≡ true) ↔ (xs ≢ [])
-  -- and while it goes on it stands at its place
+  -- while it goes on it stands at its place
   pub stands : claim.stage ≡ Going → StandsAt t kinds claim.consumer claim.object claim.place xs
 
 -- the access of consumer c to object o of cell k that an op makes after a history

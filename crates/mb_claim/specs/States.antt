@@ -29,7 +29,7 @@ abbrev pub step_of : ℕ → Op → ℕ → ℕ → ObjectTurn
 step_of o op n word = record { object = o; turn = record { act = act_of op n; word = word } }
 
 -- ---- an op on object o of cell k, made on these words
--- what it finds
+-- what the op finds
 abbrev pub found_in : Claims → ℕ → ℕ → Op → List ℕ → ℕ
 found_in cs k o op words = slice_index words (address_in cs k o (reg_of op))
 
@@ -42,7 +42,7 @@ access_in cs c k o op word words = record {
       (found_in cs k o op words) word;
 }
 
--- the words that it leaves
+-- the words that the op leaves
 abbrev pub words_after : Claims → ℕ → ℕ → Op → List ℕ → List ℕ
 words_after cs k o op words = slice_set words (address_in cs k o (reg_of op)) (after_op op
     (found_in cs k o op words))

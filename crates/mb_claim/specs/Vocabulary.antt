@@ -10,7 +10,7 @@ pub use Rattle.mb_claim.specs.Standing.{PassesAll, HasPlace, access_after, Stand
 pub use Rattle.mb_claim.specs.Layouts.{pairs_of, fast_row, last_row, row_of, plain, shape_of, fast_steps, last_steps, shaped_steps}
 pub use Rattle.mb_claim.specs.Layouts.{quorums_of, pair_count, kinds_of, width, offset, words_before}
 pub use Rattle.mb_claim.specs.Layouts.{row_words, shaped_words, address_of, IsWordOf, words_in, IsWordIn, address_in, most_on_objects}
-pub use Rattle.mb_claim.specs.Layouts.{max_steps, claims_in, consumer_count, cell_words, HasWord, word_address}
+pub use Rattle.mb_claim.specs.Layouts.{max_steps, claims_in, consumer_count, cell_words, IsWordInLayout, word_address}
 pub use Rattle.mb_claim.specs.Layouts.{most_accesses}
 pub use Rattle.mb_claim.specs.States.{after_op, step_of, found_in, access_in, words_after, IsMemoryOf}
 pub use Rattle.mb_claim.specs.OneClaim.{consumer_of, claim_stage, is_begun, FitsLayout, CanClaimFind, IsClaimIn}

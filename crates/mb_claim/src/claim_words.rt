@@ -31,7 +31,7 @@ impl<A: Allocator + Drop> ClaimWords<A> {
     ghost use Rattle.std.specs.Prelude.{◌≡◌, ◌<◌, ◌≤◌, ◌*◌, ℕ, List, [], ◌∷◌, IfOk, true, length};
     ghost use Rattle.mb_deciding.specs.Vocabulary.{reg_of};
     ghost use Rattle.mb_claim.specs.{ClaimAccess, Going, MAX_LARGE_CELLS, IsMemoryOf, IsClaimOn, claims_in, claim_access};
-    ghost use Rattle.mb_claim.specs.{consumer_of, claim_stage, is_begun, steps_left, HasWord, word_address, cell_words};
+    ghost use Rattle.mb_claim.specs.{consumer_of, claim_stage, is_begun, steps_left, IsWordInLayout, word_address, cell_words};
 
     /// The words of `cells` cells, before the first access.
     pub fn new(alloc: A, layout: &Layout, cells: u32) -> Result<ClaimWords<A>, AllocError>
@@ -103,9 +103,9 @@ struct CellWords<'a, A: Allocator + Drop> {
 impl<'a, A: Allocator + Drop> Memory for CellWords<'a, A> {
     ghost use Rattle.std.specs.Prelude.{◌≡◌, ◌<◌, ◌≤◌, ◌*◌, ℕ, length, slice_index, slice_set};
     ghost use Rattle.mb_deciding.specs.Vocabulary.{act_of, reg_of, IsActInWords};
-    ghost use Rattle.mb_claim.specs.{MAX_LARGE_CELLS, HasWord, word_address, cell_words, after_op, step_of};
+    ghost use Rattle.mb_claim.specs.{MAX_LARGE_CELLS, IsWordInLayout, word_address, cell_words, after_op, step_of};
 
-    ghost can_make = { λ m object op. HasWord m.layout.now object (reg_of op)
+    ghost can_make = { λ m object op. IsWordInLayout m.layout.now object (reg_of op)
         × (m.cell < MAX_LARGE_CELLS)
         × ((cells : ℕ) × (m.cell < cells)
         × (cells * cell_words m.layout.now ≤ length m.words.now.items)) };

@@ -74,7 +74,7 @@ impl Layout {
     ghost use Rattle.mb_deciding.specs.Run.{IsFitKind};
     ghost use Rattle.mb_deciding.specs.Vocabulary.{spread};
     ghost use Rattle.mb_claim.specs.{Reg, width, quorums_of, kinds_of, pairs_of, row_of, plain, pair_count, shape_of, offset};
-    ghost use Rattle.mb_claim.specs.{consumer_count, cell_words, word_address, HasWord, most_accesses, layout_refusal};
+    ghost use Rattle.mb_claim.specs.{consumer_count, cell_words, word_address, IsWordInLayout, most_accesses, layout_refusal};
     ghost use Rattle.mb_claim.specs.declared.layout.TheConstants.{MAX_LARGE_CELLS, MAX_OBJECTS};
 
     /// The layout for `consumers` consumers, with `pairs` pairs of objects and nothing beside them, over the quorum
@@ -211,7 +211,7 @@ impl Layout {
     pub fn words(&self, cells: u32) -> usize
         requires { cells ≤ MAX_LARGE_CELLS }
         ensures exact { result ≡ cells * cell_words self.now }
-        ensures within { (k o : ℕ) (reg : Reg) → HasWord self.now o reg → k < cells
+        ensures within { (k o : ℕ) (reg : Reg) → IsWordInLayout self.now o reg → k < cells
             → word_address self.now k o reg < result }
     {
         addresses_are_apart();
@@ -222,11 +222,11 @@ impl Layout {
     #[inline(always)]
     pub fn address(&self, cell: u32, object: u32, reg: Reg) -> usize
         requires cell { cell < MAX_LARGE_CELLS }
-        requires word { HasWord self.now object reg }
+        requires word { IsWordInLayout self.now object reg }
         ensures exact { result ≡ word_address self.now cell object reg }
 
         // No other word lies there.
-        ensures apart { (k o : ℕ) (other : Reg) → HasWord self.now o other
+        ensures apart { (k o : ℕ) (other : Reg) → IsWordInLayout self.now o other
             → word_address self.now k o other ≡ result
             → (k ≡ cell) × (o ≡ object) × (other ≡ reg) }
     {

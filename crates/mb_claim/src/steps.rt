@@ -16,7 +16,7 @@ ghost use Rattle.mb_claim.specs.{object_history, StandsAt, HasPlace, access_afte
 ghost use Rattle.mb_claim.specs.{address_of, row_words, IsWordOf, pairs_of, fast_row, row_of, shaped_words};
 ghost use Rattle.mb_claim.specs.{IsMemoryOf, found_in, access_in};
 ghost use Rattle.mb_claim.specs.{words_after, Layout, Claim, ClaimOp, claims_in, consumer_of, claim_stage, FitsLayout};
-ghost use Rattle.mb_claim.specs.{HasWord, IsClaimIn, IsNextOp, CanClaimFind, claim_access, step_of};
+ghost use Rattle.mb_claim.specs.{IsWordInLayout, IsClaimIn, IsNextOp, CanClaimFind, claim_access, step_of};
 
 use mb_deciding::laws::objects_keep_their_promises;
 use mb_deciding::steps::{
@@ -147,7 +147,7 @@ pub fn claims_make_steps()
     // Its next word is one of the cell's.
     ensures word { (layout : Layout) (claim : Claim) (next : ClaimOp) (xs : List ObjectTurn)
         → IsClaimIn layout claim xs → claim_stage claim ≡ Going → IsNextOp layout claim next
-        → HasWord layout next.object (reg_of next.op) }
+        → IsWordInLayout layout next.object (reg_of next.op) }
 
     // It can go on with the value that it finds there.
     ensures found { (layout : Layout) (cells k : ℕ) (claim : Claim) (next : ClaimOp)

@@ -22,7 +22,7 @@ no_acts (x ∷ xs) e = absurd (not_empty x.act (acts xs) e)
 pub turns_for : List Act → List Turn
 turns_for xs = map (λ x. record { act = x; word = 0 }) xs
 
--- they have these acts
+-- turns made for acts have these acts
 pub acts-turns_for : (xs : List Act) → acts (turns_for xs) ≡ xs
 unfolding turns_for
 acts-turns_for [] = refl

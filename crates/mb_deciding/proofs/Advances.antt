@@ -92,7 +92,7 @@ one_least mask r s l m =
       ])
     ]
 
--- ---- announcing
+-- ---- a process that announces its input
 -- before its first access a process has all of its write quorum left
 pub begin_announces :
     (t : QuorumTable) (v input : ℕ) (made : List Act) → IsInRatifier t v (Begin input) made
@@ -113,7 +113,7 @@ announced_next t q v input left r made within at least =
           (each_next (λ k. Store (Quorum k) 1) (t.write v) bound r from),
     )
 
--- and that register is no longer left
+-- after a store the register is no longer left to announce
 pub announced_more :
     (t : QuorumTable) → IsQuorumTable t → (v input left r after : ℕ) (made : List Act) (op : Op) (seen : ℕ)
     → v < t.values → IsInRatifier t v (Announce input left) made → IsRatifierOp t (Announce input left) op → left ≢ 0
@@ -131,7 +131,7 @@ announced_more t q v input left r after made op seen within at is some least tak
         ap (λ n. Store (Quorum n) 1 ∷ made) same ∙ next.1 in
         (at.0, (r + 1, next.0, rest_taken (t.write v) at.1.0 left r after at.1.2 least taken, stored))
 
--- where nothing is left, the whole quorum was stored, and the proposal is loaded
+-- if nothing is left, the whole quorum was stored, and the proposal is loaded
 pub announced_whole :
     (t : QuorumTable) (v input left : ℕ) (made : List Act) (op : Op) (seen : ℕ)
     → IsInRatifier t v (Announce input left) made → IsRatifierOp t (Announce input left) op → left ≡ 0
@@ -152,7 +152,7 @@ announced_whole t v input left made op seen at is none can =
         let before : made ≡ stores_below bound (t.write v) = at.1.3 in
         cc
 
--- ---- the preference
+-- ---- a process that gets its preference
 -- a store of the input in an empty proposal
 pub prefers_own :
     (t : QuorumTable) (v input : ℕ) (made : List Act) (op : Op) (seen : ℕ) → IsInRatifier t v (Propose input) made
@@ -169,7 +169,7 @@ pub prefers_found :
 prefers_found t v u seen e =
     (Load Proposal seen ∷ announcement t v, inr (ap (λ n. Load Proposal n ∷ announcement t v) e), refl)
 
--- ---- checking
+-- ---- a process that checks its preference
 -- a load of 0 from the least register that is left goes on with the check
 pub checked_next :
     (t : QuorumTable) → IsQuorumTable t → (v u left r : ℕ) (made : List Act) → u < t.values
@@ -182,7 +182,7 @@ checked_next t q v u left r made within at least =
     let before : made ≡ zeros_below at.0 (t.read u) ++ at.3.0 = at.3.2 in
     (omega arith, (at.3.0, at.3.1, rw next (cc)))
 
--- and that register is no longer left
+-- after a load of 0 the register is no longer left to check
 pub checked_zero :
     (t : QuorumTable) → IsQuorumTable t → (v u left r after : ℕ) (made : List Act) (op : Op) (seen : ℕ) → u < t.values
     → IsInRatifier t v (Check u left) made → IsRatifierOp t (Check u left) op → seen ≡ 0 → IsLeast left r
@@ -219,7 +219,7 @@ checked_one t q v u left made op seen within at is can some =
       (at.3.0, at.3.1, at.3.2 ∙ ap (λ xs. xs ++ at.3.0) (sym same)),
     )
 
--- where nothing is left, the whole read quorum was 0
+-- if nothing is left, the whole read quorum was 0
 pub checked_whole :
     (t : QuorumTable) (v u bound left : ℕ) (made : List Act) → bound ≤ t.registers → IsRest (t.read u) bound left
     → left ≡ 0 → ReadsClear t v u bound made → ReadsClear t v u t.registers made

@@ -16,7 +16,7 @@ Follows s v (Load Last x) made = ⊥
 Follows s v (Store Last w) made = ⊥
 Follows s v (Exchange reg w f) made = ⊥
 
--- so it is with each of the turns
+-- so it is with each turn of a list
 abbrev AllFollow : ℕ → ℕ → List Turn → Type 0
 AllFollow s v [] = Unit {0}
 AllFollow s v (x ∷ made) = Follows s v x.act made × AllFollow s v made
@@ -29,19 +29,19 @@ missing_follow s v (suc k) [] h = absurd h
 missing_follow s v (suc k) (x ∷ older) h =
     (subst (λ act. Follows s v act older) (sym h.0) (k, inl h.2), missing_follow s v k older h.2)
 
--- and the turn whose word stores
+-- with the turn whose word stores they follow, too
 drawn_follow : (s v k : ℕ) (turns : List Turn) → IsDrawn s k turns → AllFollow s v turns
 drawn_follow s v k [] h = absurd h
 drawn_follow s v k (x ∷ older) h =
     (subst (λ act. Follows s v act older) (sym h.0) (k, inl h.2), missing_follow s v k older h.2)
 
--- and the store
+-- with the store they follow, too
 put_follow : (s v k : ℕ) (turns : List Turn) → IsPut s v k turns → AllFollow s v turns
 put_follow s v k [] h = absurd h
 put_follow s v k (x ∷ older) h =
     (subst (λ act. Follows s v act older) (sym h.0) (refl, (k, h.1)), drawn_follow s v k older h.1)
 
--- any whole path
+-- the turns of a whole path follow
 path_follow : (s v : ℕ) (turns : List Turn) (u : ℕ) → IsConciliatorPath s v turns u → AllFollow s v turns
 path_follow s v [] u h = absurd h
 path_follow s v (x ∷ older) u h =
@@ -50,18 +50,18 @@ path_follow s v (x ∷ older) u h =
       | inr p ↦ (subst (λ act. Follows s v act older) (sym h.0) (h.1.0, inr p), put_follow s v h.1.0 older p)
     ]
 
--- an older part of a list
+-- the turns of an older part of a list follow
 suffix_follow : (s v : ℕ) (later turns : List Turn) → AllFollow s v (later ++ turns) → AllFollow s v turns
 suffix_follow s v [] turns h = h
 suffix_follow s v (x ∷ later) turns h = suffix_follow s v later turns h.1
 
--- a turn of a path
+-- each turn of a path follows what was done before
 pub turn_follows :
     (s v : ℕ) (later turns : List Turn) (x : Turn) (u : ℕ) → IsConciliatorPath s v (later ++ x ∷ turns) u
     → Follows s v x.act turns
 turn_follows s v later turns x u h = (suffix_follow s v later (x ∷ turns) (path_follow s v (later ++ x ∷ turns) u h)).0
 
--- ---- one op
+-- ---- what was done before names one op
 -- the newest word stores, or it does not
 missing_undrawn : (s j k : ℕ) (turns : List Turn) → IsMissing s j turns → IsDrawn s k turns → ⊥
 missing_undrawn s zero k [] h d = d
@@ -76,7 +76,7 @@ put_undrawn : (s v j k : ℕ) (turns : List Turn) → IsPut s v j turns → IsDr
 put_undrawn s v j k [] h d = d
 put_undrawn s v j k (x ∷ older) h d = let other : Store Value (v + 1) ≡ Load Value 0 = sym h.0 ∙ d.0 in cc
 
--- where a load comes next, no store does
+-- if a load comes next, no store does
 load_or_store :
     (s v k : ℕ) (turns : List Turn) → ((j : ℕ) × (IsMissing s j turns ⊎ IsPut s v j turns)) → IsDrawn s k turns → ⊥
 load_or_store s v k turns (j, inl h) d = missing_undrawn s j k turns h d

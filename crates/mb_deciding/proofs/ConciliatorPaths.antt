@@ -13,7 +13,7 @@ IsBefore v (Store (Quorum r) w) = ⊥
 IsBefore v (Store Last w) = ⊥
 IsBefore v (Exchange reg w f) = ⊥
 
--- each of the turns is such
+-- each turn of a list is such
 abbrev AreBefore : ℕ → List Turn → Type 0
 AreBefore v [] = Unit {0}
 AreBefore v (x ∷ older) = IsBefore v x.act × AreBefore v older
@@ -27,21 +27,21 @@ missing_before s v (suc k) (x ∷ older) h =
     let deeper = missing_before s v k older h.2 in
     ((subst (λ act. IsBefore v act) (sym h.0) refl, deeper.0), ap suc deeper.1)
 
--- and the turn whose word stores
+-- so is the turn whose word stores, and there is one for each attempt
 found_before : (s v k : ℕ) (turns : List Turn) → IsDrawn s k turns → AreBefore v turns × (length turns ≡ suc k)
 found_before s v k [] h = absurd h
 found_before s v k (x ∷ older) h =
     let deeper = missing_before s v k older h.2 in
     ((subst (λ act. IsBefore v act) (sym h.0) refl, deeper.0), ap suc deeper.1)
 
--- and the store
+-- so is the store
 put_before : (s v k : ℕ) (turns : List Turn) → IsPut s v k turns → AreBefore v turns × (length turns ≡ suc (suc k))
 put_before s v k [] h = absurd h
 put_before s v k (x ∷ older) h =
     let deeper = found_before s v k older h.1 in
     ((subst (λ act. IsBefore v act) (sym h.0) refl, deeper.0), ap suc deeper.1)
 
--- the turns behind the last load of a path
+-- the turns after the last load of a path
 behind_last :
     (s v : ℕ) (x : Turn) (older : List Turn) (u : ℕ) → IsConciliatorPath s v (x ∷ older) u
     → AreBefore v older × (length older ≤ s + 2)
@@ -57,7 +57,7 @@ pub path_length : (s v : ℕ) (turns : List Turn) (u : ℕ) → IsConciliatorPat
 path_length s v [] u h = absurd h
 path_length s v (x ∷ older) u h = omega (arith, (behind_last s v x older u h).1)
 
--- an older part of a list
+-- so is each turn of an older part of a list
 suffix_before : (v : ℕ) (later turns : List Turn) → AreBefore v (later ++ turns) → AreBefore v turns
 suffix_before v [] turns h = h
 suffix_before v (x ∷ later) turns h = suffix_before v later turns h.1
@@ -93,7 +93,7 @@ StoresInput v (Store (Quorum r) w) = ⊥
 StoresInput v (Store Last w) = ⊥
 StoresInput v (Exchange reg w f) = ⊥
 
--- so does each act before the end
+-- each act before the end stores nothing but the input
 before_stores : (v : ℕ) (act : Act) → IsBefore v act → StoresInput v act
 before_stores v (Load reg x) h = tt
 before_stores v (Store Value w) h = h
@@ -102,7 +102,7 @@ before_stores v (Store (Quorum r) w) h = h
 before_stores v (Store Last w) h = h
 before_stores v (Exchange reg w f) h = h
 
--- and each act of a path
+-- each act of a path stores nothing but the input
 pub path_stores :
     (s v : ℕ) (x : Turn) (older later : List Turn) (u : ℕ) → IsConciliatorPath s v (later ++ x ∷ older) u
     → StoresInput v x.act

@@ -15,7 +15,7 @@ abbrev IsAmong : List ℕ → ℕ → Type 0
 IsAmong [] n = ⊥
 IsAmong (x ∷ xs) n = (n ≡ x) ⊎ IsAmong xs n
 
--- ---- one act
+-- ---- what one act stores and leaves
 -- a value in the word was there before, or is the input
 act_value :
     (v u : ℕ) (act : Act) (n : ℕ) → StoresInput v act → value_after Value act n ≡ u + 1 → (n ≡ u + 1) ⊎ (v ≡ u)
@@ -42,6 +42,7 @@ among_longer : (o : Option ℕ) (n : ℕ) (stored : List ℕ) → IsAmong stored
 among_longer None n stored h = h
 among_longer (Some w) n stored h = inr h
 
+-- a value that was stored is so after one more act
 among_kept : (act : Act) (n : ℕ) (stored : List ℕ) → IsAmong stored n → IsAmong (cons_option (stored_by act) stored) n
 among_kept act n stored h = among_longer (stored_by act) n stored h
 
@@ -63,7 +64,7 @@ proposal_kept v (Store (Quorum r) w) n b e = absurd b
 proposal_kept v (Store Last w) n b e = absurd b
 proposal_kept v (Exchange reg w f) n b e = absurd b
 
--- and so do quorum registers
+-- quorum registers stay empty
 register_kept : (v r : ℕ) (act : Act) (n : ℕ) → StoresInput v act → n ≡ 0 → value_after (Quorum r) act n ≡ 0
 register_kept v r (Load at x) n b e = e
 register_kept v r (Store Value w) n b e = e
@@ -72,7 +73,7 @@ register_kept v r (Store (Quorum i) w) n b e = absurd b
 register_kept v r (Store Last w) n b e = absurd b
 register_kept v r (Exchange reg w f) n b e = absurd b
 
--- and so does a last object's word
+-- a last object's word stays empty
 last_kept : (v : ℕ) (act : Act) (n : ℕ) → StoresInput v act → n ≡ 0 → value_after Last act n ≡ 0
 last_kept v (Load at x) n b e = e
 last_kept v (Store Value w) n b e = e
@@ -81,7 +82,7 @@ last_kept v (Store (Quorum r) w) n b e = absurd b
 last_kept v (Store Last w) n b e = absurd b
 last_kept v (Exchange reg w f) n b e = absurd b
 
--- ---- histories
+-- ---- what lawful histories leave in the words, and the promises
 module _ (t : QuorumTable) (s : ℕ) (inputs : ℕ → ℕ) where
   -- the history is lawful for this conciliator
   abbrev L : List Access → Type 0
@@ -98,7 +99,7 @@ module _ (t : QuorumTable) (s : ℕ) (inputs : ℕ → ℕ) where
   abbrev IsFrom : List Access → ℕ → Type 0
   IsFrom h u = (b : ℕ) × (part b h ≢ []) × (inputs b ≡ u)
 
-  -- it is in a longer history too
+  -- it is an input in a longer history, too
   from_kept : (a : Access) (h : List Access) (u : ℕ) → IsFrom h u → IsFrom (a ∷ h) u
   from_kept a h u f = (f.0, some_kept f.0 a h f.1, f.2)
 
@@ -111,7 +112,7 @@ module _ (t : QuorumTable) (s : ℕ) (inputs : ℕ → ℕ) where
         | inr k ↦ (a.process, own_some a h, k)
       ]
 
-  -- and it was stored
+  -- the value in the word was stored
   value_stored : (h : List Access) → L h → (u : ℕ) → value_in Value h ≡ u + 1 → IsAmong (stores_in h) (u + 1)
   value_stored [] l u e = absurd (omega arith)
   value_stored (a ∷ h) l u e =
@@ -145,7 +146,7 @@ module _ (t : QuorumTable) (s : ℕ) (inputs : ℕ → ℕ) where
       (λ a g k f. among_kept a.turn.act (u + 1) (stores_in g) f)
       h l p rest is
 
-  -- where one store was made, every output is its value
+  -- if one store was made, every output is its value
   first_movers : (h : List Access) → L h → IsFirstMover (conciliator_of t s inputs) h
   first_movers h l w only p d u o =
       let end = path_last s (inputs p) (part p h) u o.1 in
@@ -183,14 +184,14 @@ module _ (t : QuorumTable) (s : ℕ) (inputs : ℕ → ℕ) where
       proposal_kept (inputs a.process) a.turn.act (value_in Proposal h) (newest_stores a h l)
       (no_proposal h (lawful_older (conciliator_of t s inputs) a h l))
 
-  -- and no quorum registers
+  -- no quorum register holds anything
   no_register : (r : ℕ) (h : List Access) → L h → value_in (Quorum r) h ≡ 0
   no_register r [] l = refl
   no_register r (a ∷ h) l =
       register_kept (inputs a.process) r a.turn.act (value_in (Quorum r) h) (newest_stores a h l)
       (no_register r h (lawful_older (conciliator_of t s inputs) a h l))
 
-  -- and no last word
+  -- a last object's word holds nothing
   no_last : (h : List Access) → L h → value_in Last h ≡ 0
   no_last [] l = refl
   no_last (a ∷ h) l =
@@ -204,7 +205,7 @@ module _ (t : QuorumTable) (s : ℕ) (inputs : ℕ → ℕ) where
   fits h (Quorum r) l = omega (arith, no_register r h l)
   fits h Last l = omega (arith, no_last h l)
 
--- where one store was made to a conciliator, every output is its value
+-- if one store was made to a conciliator, every output is its value
 pub one_mover :
     (o : Object) (s : ℕ) (h : List Access) → o.kind ≡ Conciliator s → IsObjectLawful o h → IsFirstMover o h
 one_mover o s h is =

@@ -1,4 +1,4 @@
--- What the acts of a ratifier's path have behind them.
+-- What came before each act of a ratifier's path.
 use Rattle.std.proofs.Common.{◌≡◌, ◌≢◌, ℕ, zero, suc, ◌+◌, ◌<◌, ◌==◌, cond, Bool, true, false, List, [], ◌∷◌, ◌++◌, ◌⊎◌}
 use Rattle.std.proofs.Common.{inl, inr, sym, refl, ap, subst, arith}
 use Rattle.std.specs.Int.{bit_at}
@@ -13,7 +13,7 @@ use Rattle.mb_deciding.proofs.Acts.{acts-append, has_later}
 abbrev pub HasPreference : ℕ → List Act → Type 0
 HasPreference v made = Has made (Store Proposal (v + 1)) ⊎ ((u : ℕ) × Has made (Load Proposal (u + 1)))
 
--- what lies behind an act of a process with input v
+-- what came before an act of a process with input v
 abbrev pub Behind : QuorumTable → ℕ → Act → List Act → Type 0
 Behind t v (Store Value w) older = ⊥
 Behind t v (Store Proposal w) older = (w ≡ v + 1) × Has older (Load Proposal 0)
@@ -25,7 +25,7 @@ Behind t v (Store Last w) older = ⊥
 Behind t v (Load Last x) older = ⊥
 Behind t v (Exchange reg w f) older = ⊥
 
--- it lies behind each act of the list
+-- so it is with each act of a list
 abbrev pub AllBehind : QuorumTable → ℕ → List Act → Type 0
 AllBehind t v [] = Unit {0}
 AllBehind t v (a ∷ older) = Behind t v a older × AllBehind t v older
@@ -55,15 +55,15 @@ has_each act (suc n) mask r h m =
     (has_each act n mask r (omega arith) m) in
     elim (cases_eq r n) [ inl e ↦ here e | inr e ↦ below e ]
 
--- ---- paths
--- one more act with something behind it
+-- ---- what came before each act of a path
+-- one more act, if that came before it
 behind_cond :
     (t : QuorumTable) (v : ℕ) (b : Bool) (x : Act) (xs : List Act) → (b ≡ true → Behind t v x xs) → AllBehind t v xs
     → AllBehind t v (cond b (x ∷ xs) xs)
 behind_cond t v true x xs f h = (f refl, h)
 behind_cond t v false x xs f h = h
 
--- the announcement
+-- so it is with the announcement
 stores_behind : (t : QuorumTable) (v n : ℕ) → AllBehind t v (stores_below n (t.write v))
 stores_behind t v zero = tt
 stores_behind t v (suc n) =
@@ -71,7 +71,7 @@ stores_behind t v (suc n) =
     (λ b. (refl, eqb-true (bit_at (t.write v) n) 1 b))
     (stores_behind t v n)
 
--- a preference stays one
+-- a preference is one still after more acts
 preference_later : (v : ℕ) (xs ys : List Act) → HasPreference v ys → HasPreference v (xs ++ ys)
 preference_later v xs ys (inl h) = inl (has_later xs ys (Store Proposal (v + 1)) h)
 preference_later v xs ys (inr h) = inr (h.0, has_later xs ys (Load Proposal (h.0 + 1)) h.1)
@@ -83,7 +83,7 @@ behind_cond_append :
 behind_cond_append t v true x xs ys f h = (f, h)
 behind_cond_append t v false x xs ys f h = h
 
--- the loads of a check
+-- so it is with the loads of a check
 zeros_behind :
     (t : QuorumTable) (v n mask : ℕ) (begin : List Act) → HasPreference v begin → AllBehind t v begin
     → AllBehind t v (zeros_below n mask ++ begin)
@@ -98,7 +98,7 @@ all_stored :
     (t : QuorumTable) (v r : ℕ) → r < t.registers → IsMember (t.write v) r → Has (announcement t v) (Store (Quorum r) 1)
 all_stored t v r h m = has_each (λ k. Store (Quorum k) 1) t.registers (t.write v) r h m
 
--- a path up to its preference
+-- so it is with a path up to its preference, which it then has
 prefers_behind :
     (t : QuorumTable) (v u : ℕ) (begin : List Act) → Prefers t v u begin → HasPreference v begin × AllBehind t v begin
 prefers_behind t v u begin (inl h) =
@@ -117,32 +117,32 @@ clear_behind t v u n made h =
     subst (λ xs. HasPreference v xs × AllBehind t v xs) (sym h.2)
     (preference_later v (zeros_below n (t.read u)) h.0 begins.0, zeros_behind t v n (t.read u) h.0 begins.0 begins.1)
 
--- a path that ended in a 1
+-- so it is with a path that ended in a 1
 one_behind : (t : QuorumTable) (v u : ℕ) (made : List Act) → ReadsOne t v u made → AllBehind t v made
 one_behind t v u [] h = tt
 one_behind t v u (act ∷ older) h =
     let begins = clear_behind t v u h.0 older h.4 in
     (subst (λ a. Behind t v a older) (sym h.1) begins.0, begins.1)
 
--- any whole path
+-- so it is with any whole path
 path_behind :
     (t : QuorumTable) (v : ℕ) (made : List Act) (d : Bool) (u : ℕ) → IsRatifierPath t v made d u → AllBehind t v made
 path_behind t v made true u h = (clear_behind t v u t.registers made h).1
 path_behind t v made false u h = one_behind t v u made h
 
--- an older part of a list
+-- so it is with an older part of a list
 suffix_behind : (t : QuorumTable) (v : ℕ) (later made : List Act) → AllBehind t v (later ++ made) → AllBehind t v made
 suffix_behind t v [] made h = h
 suffix_behind t v (x ∷ later) made h = suffix_behind t v later made h.1
 
--- a prefix of a path
+-- so it is with a prefix of a path
 pub part_behind :
     (t : QuorumTable) (v : ℕ) (turns : List Turn) → IsPrefix t Ratifier v turns → AllBehind t v (acts turns)
 part_behind t v turns p =
     suffix_behind t v (acts p.0) (acts turns)
     (subst (AllBehind t v) (acts-append p.0 turns) (path_behind t v (acts (p.0 ++ turns)) p.1.decided p.1.value p.2))
 
--- what lies behind one act of the list
+-- what came before one act of the list
 pub behind_at :
     (t : QuorumTable) (v : ℕ) (made : List Act) (a : Act) → AllBehind t v made → Has made a
     → (older : List Act) × Behind t v a older × ((c : Act) → Has older c → Has made c)
@@ -172,17 +172,17 @@ clear_loads t v u n made h r l m =
 abbrev pub IsChosen : ℕ → ℕ → List Act → Type 0
 IsChosen v u made = ((u ≡ v) × Has made (Load Proposal 0)) ⊎ Has made (Load Proposal (u + 1))
 
--- where the preference was just made
+-- a preference that was just made is the input or was loaded
 pub prefers_chosen : (t : QuorumTable) (v u : ℕ) (begin : List Act) → Prefers t v u begin → IsChosen v u begin
 prefers_chosen t v u begin (inl h) = inl (h.0, subst (λ xs. Has xs (Load Proposal 0)) (sym h.1) (inr (inl refl)))
 prefers_chosen t v u begin (inr h) = inr (subst (λ xs. Has xs (Load Proposal (u + 1))) (sym h) (inl refl))
 
--- later
+-- what was chosen is chosen still after more acts
 pub chosen_later : (v u : ℕ) (xs ys : List Act) → IsChosen v u ys → IsChosen v u (xs ++ ys)
 chosen_later v u xs ys (inl h) = inl (h.0, has_later xs ys (Load Proposal 0) h.1)
 chosen_later v u xs ys (inr h) = inr (has_later xs ys (Load Proposal (u + 1)) h)
 
--- after clear loads
+-- so it is after clear loads
 clear_chosen : (t : QuorumTable) (v u n : ℕ) (made : List Act) → ReadsClear t v u n made → IsChosen v u made
 clear_chosen t v u n made h =
     subst (λ xs. IsChosen v u xs) (sym h.2) (chosen_later v u (zeros_below n (t.read u)) h.0

@@ -22,7 +22,7 @@ pub part_older :
 part_older t kind v x turns p =
     (p.0 ++ x ∷ [], p.1, subst (λ xs. IsPath t kind v xs p.1) (sym (append_assoc p.0 (x ∷ []) turns)) p.2)
 
--- the same, where the newest turn may be of another process
+-- a part stays a prefix without the newest turn, which may be of another process
 older_by :
     (t : QuorumTable) (kind : Kind) (v : ℕ) (own : Bool) (x : Turn) (turns : List Turn)
     → IsPrefix t kind v (cons_option (cond own (Some x) None) turns) → IsPrefix t kind v turns
@@ -89,7 +89,7 @@ longer o h p turn l within words reads prefix =
 pub none_lawful : (o : Object) → IsObjectLawful o []
 none_lawful o = record { memory = tt; words = tt; parts = λ p some. absurd (some refl) }
 
--- what holds once a turn is made, and stays, holds where that is the newest turn of a process
+-- what holds once a turn is made, and stays, holds if that is the newest turn of a process
 pub since_newest :
     (o : Object) (P : List Access → Type 0) (last : Turn)
     → ((a : Access) (h : List Access) → IsObjectLawful o (a ∷ h) → a.turn ≡ last → P (a ∷ h))

@@ -11,7 +11,7 @@ use Rattle.mb_deciding.specs.{IsPrefix, IsOpen, IsObjectLawful, CanHold, IsValid
 use Rattle.mb_deciding.specs.{CanFind, act_of, seen_by, most_turns}
 use Rattle.mb_deciding.proofs.Histories.{not_empty, lawful_older, own_turns, own_some, some_kept, since_newest}
 
--- ---- paths
+-- ---- the paths of a last object
 -- a path is one turn
 pub last_only :
     (v : ℕ) (later older : List Turn) (x : Turn) (u : ℕ) → IsLastPath v (later ++ x ∷ older) u
@@ -21,7 +21,7 @@ last_only v [] (y ∷ older) x u h = absurd h
 last_only v (z ∷ []) older x u h = absurd h
 last_only v (z ∷ y ∷ later) older x u h = absurd h
 
--- which exchanges the word for the input
+-- a path's one turn exchanges the word for the input
 pub last_act :
     (v : ℕ) (x : Turn) (u : ℕ) → IsLastPath v (x ∷ []) u → (found : ℕ) × (x.act ≡ Exchange Last (v + 1) found)
 last_act v x u (inl h) = (0, h.1)
@@ -104,8 +104,8 @@ last_prefix t v place turns op seen word at is =
     (subst (λ a. IsPrefix t LastObject v (record { act = a; word = word } ∷ [])) act
     ([], answer true path.0, (refl, path.1)))
 
--- ---- the word
--- what is left where an option may be stored
+-- ---- what one exchange leaves in the words
+-- a word that a value may be stored in holds that value, or what it held
 kept_by : (b : Bool) (w n : ℕ) → option_map_or (λ value. value) (cond b (Some w) None) n ≡ cond b w n
 kept_by true w n = refl
 kept_by false w n = refl
@@ -115,7 +115,7 @@ pub empty_exchanged : (w n : ℕ) → n ≡ 0 → value_after Last (Exchange Las
 empty_exchanged w n none =
     kept_by (n == 0) w n ∙ ap (λ b. cond b w n) (eq-eqb n 0 none)
 
--- and of another leaves it
+-- an exchange of a word that is not 0 leaves it
 pub filled_exchanged : (w n : ℕ) → n ≢ 0 → value_after Last (Exchange Last w n) n ≡ n
 filled_exchanged w n some =
     kept_by (n == 0) w n ∙ ap (λ b. cond b w n) (ne_eqb n 0 some)
@@ -141,14 +141,14 @@ module _ (t : QuorumTable) (inputs : ℕ → ℕ) where
       let found : x.0 ≡ value_in Last h = subst (λ act. ReadsLast act h) x.1 l.memory.0 in
       x.1 ∙ ap (λ n. Exchange Last (inputs a.process + 1) n) found
 
-  -- what it leaves in the word
+  -- what the newest exchange leaves in the word
   after_newest :
       (a : Access) (h : List Access) → L (a ∷ h)
       → value_in Last (a ∷ h)
       ≡ value_after Last (Exchange Last (inputs a.process + 1) (value_in Last h)) (value_in Last h)
   after_newest a h l = ap (λ act. value_after Last act (value_in Last h)) (newest_exchange a h l)
 
-  -- a value stays
+  -- a value in the word stays
   pub value_stays : (a : Access) (h : List Access) → L (a ∷ h) → value_in Last h ≢ 0
       → value_in Last (a ∷ h) ≡ value_in Last h
   value_stays a h l some =
@@ -164,7 +164,7 @@ module _ (t : QuorumTable) (inputs : ℕ → ℕ) where
   abbrev IsFrom : List Access → ℕ → Type 0
   IsFrom h u = (b : ℕ) × (part b h ≢ []) × (inputs b ≡ u)
 
-  -- so is what stands there
+  -- what stands in the word is the input of a process with an access
   value_from : (h : List Access) → L h → (u : ℕ) → value_in Last h ≡ u + 1 → IsFrom h u
   value_from [] l u e = absurd (omega (arith, e))
   value_from (a ∷ h) l u e =
@@ -204,6 +204,7 @@ module _ (t : QuorumTable) (inputs : ℕ → ℕ) where
       (λ a g k same. at_once (inputs p) u x path a g k same)
       (λ a g k holds. value_stays a g k (λ none. omega (arith, none, holds)) ∙ holds) h l p [] is
 
+  -- ---- the promises of a last object
   -- validity
   pub last_valid : (h : List Access) → L h → IsValid (last_of t inputs) h
   last_valid h l p d u o = value_from h l u (output_holds h l p u (part p h) refl o.1)
@@ -235,12 +236,14 @@ module _ (t : QuorumTable) (inputs : ℕ → ℕ) where
       ap (λ act. value_after Value act (value_in Value h)) (newest_exchange a h l)
       ∙ untouched _ (value_in Value h) ∙ no_value h (lawful_older (last_of t inputs) a h l)
 
+  -- a proposal is not there
   no_proposal : (h : List Access) → L h → value_in Proposal h ≡ 0
   no_proposal [] l = refl
   no_proposal (a ∷ h) l =
       ap (λ act. value_after Proposal act (value_in Proposal h)) (newest_exchange a h l)
       ∙ untouched _ (value_in Proposal h) ∙ no_proposal h (lawful_older (last_of t inputs) a h l)
 
+  -- a quorum register is not there
   no_register : (r : ℕ) (h : List Access) → L h → value_in (Quorum r) h ≡ 0
   no_register r [] l = refl
   no_register r (a ∷ h) l =

@@ -1,4 +1,4 @@
--- How long a ratifier's path is, and that no path goes on behind its end.
+-- How long a ratifier's path is, and that no path goes on after its end.
 use Rattle.std.proofs.Common.{◌≡◌, ℕ, zero, suc, ◌+◌, ◌<◌, ◌≤◌, ◌⊎◌, count_ones, ◌==◌, cond, Bool, true, false, List}
 use Rattle.std.proofs.Common.{[], ◌∷◌, ◌++◌, length, inl, inr, sym, refl, ap, ◌∙◌, subst, length-append, arith}
 use Rattle.std.specs.Int.{bit_at}
@@ -13,7 +13,7 @@ use Rattle.mb_deciding.proofs.Sizes.{each_size}
 use Rattle.mb_deciding.proofs.Outputs.{proposal_loads, IsFrom, zeros_loads, clear_from, one_from, clear_only}
 use Rattle.mb_deciding.proofs.Outputs.{from_unique}
 
--- ---- registers
+-- ---- how many acts there are for registers
 -- one more act, or none
 cond_length :
     (b : Bool) (x : Act) (xs : List Act)
@@ -42,7 +42,7 @@ each_more act (suc n) mask r l m =
       )
     ]
 
--- ---- paths
+-- ---- how long whole paths are, and that they end once
 -- a value loaded from the proposal gives one act, and an empty proposal two
 extra_acts : ℕ → ℕ
 extra_acts zero = 2
@@ -62,7 +62,7 @@ two_more n m e = omega arith
 one_more : (n m : ℕ) → n ≡ suc m → n ≡ 0 + (1 + m)
 one_more n m e = omega arith
 
--- where the preference was just made
+-- with a preference just made, a path is as long as its announcement and one or two acts
 prefers_measured : (t : QuorumTable) (v u : ℕ) (begin : List Act) → Prefers t v u begin → Measured t v 0 begin
 unfolding extra_acts
 prefers_measured t v u begin (inl p) =
@@ -79,7 +79,7 @@ prefers_measured t v u begin (inr p) =
       long = one_more (length begin) (length (announcement t v)) (ap length p);
     }
 
--- after clear loads
+-- a path whose loads were clear so far is as long as its announcement, its preference and its loads
 clear_measured :
     (t : QuorumTable) (v u n : ℕ) (made : List Act) → ReadsClear t v u n made
     → Measured t v (length (zeros_below n (t.read u))) made
@@ -96,7 +96,7 @@ abbrev EndsAt : QuorumTable → ℕ → Bool → ℕ → Type 0
 EndsAt t u true n = n ≡ length (zeros_below t.registers (t.read u))
 EndsAt t u false n = (r : ℕ) × (r < t.registers) × IsMember (t.read u) r × (n ≡ suc (length (zeros_below r (t.read u))))
 
--- after a 1
+-- a path that ended in a 1 is as long, with one load more
 one_measured :
     (t : QuorumTable) (v u : ℕ) (made : List Act) → ReadsOne t v u made
     → (n : ℕ) × EndsAt t u false n × Measured t v n made
@@ -113,7 +113,7 @@ one_measured t v u (act ∷ older) h =
       },
     )
 
--- any whole path
+-- any whole path is so long
 path_measured :
     (t : QuorumTable) (v : ℕ) (made : List Act) (d : Bool) (u : ℕ) → IsRatifierPath t v made d u
     → (n : ℕ) × EndsAt t u d n × Measured t v n made
@@ -226,8 +226,8 @@ path_ends t v made (x ∷ later) false false u w h k =
     (clear_only t v w k.0 one.0 1 (later ++ made) k.4 (has_later later made (Load (Quorum one.0) 1) one.2)).1 in
     absurd (omega arith)
 
--- ---- the bound
--- a preference stands behind the announcement
+-- ---- how long prefixes of paths are at most
+-- a preference stands after the announcement
 prefers_length :
     (t : QuorumTable) (v u : ℕ) (begin : List Act) → Prefers t v u begin → length begin ≤ count_ones (t.write v) + 2
 prefers_length t v u begin (inl p) =
@@ -235,7 +235,7 @@ prefers_length t v u begin (inl p) =
 prefers_length t v u begin (inr p) =
     omega (arith, ap length p, each_size (λ r. Store (Quorum r) 1) t.registers (t.write v))
 
--- the path has a preference, and behind that loads from registers of the preference's read quorum
+-- the path has a preference, and after that loads from registers of the preference's read quorum
 record Checked (t : QuorumTable) (v u : ℕ) (made : List Act) : Type 0 where
   pub begin : List Act
   pub loads : List Act
@@ -243,7 +243,7 @@ record Checked (t : QuorumTable) (v u : ℕ) (made : List Act) : Type 0 where
   pub whole : made ≡ loads ++ begin
   pub few : length loads ≤ count_ones (t.read u)
 
--- each whole path has
+-- each whole path has its preference, and after it at most one load for each register
 path_checked :
     (t : QuorumTable) (v : ℕ) (made : List Act) (d : Bool) (u : ℕ) → IsRatifierPath t v made d u → Checked t v u made
 path_checked t v made true u h =

@@ -8,6 +8,7 @@ use Rattle.mb_deciding.proofs.Advances.{IsTaken, announced_more}
 use Rattle.mb_deciding.proofs.OneStep.{ratifier_step}
 
 module _ {M : Type 0} where
+  -- one access more at the end of a row
   pub one_more :
       (t : QuorumTable) (draws : M → ℕ → M → Type 0) (makes : M → ℕ → Op → ℕ → M → Type 0) (object : ℕ) (pc : Pc)
       (start : M) (n : ℕ) (at : Pc) (before mid now : M) (word : ℕ) (follows : Next)

@@ -21,7 +21,7 @@ cond_within x xs ys true false both less = let e = both refl in absurd (cc)
 cond_within x xs ys false true both less = omega (arith, less)
 cond_within x xs ys false false both less = less
 
--- so it is below a bound, if each register of the one is in the other
+-- below a bound a mask has no more registers than another that has all of its own
 below_within :
     (act : ℕ → Act) (n a b : ℕ) → ((k : ℕ) → IsMember a k → IsMember b k)
     → length (acts_below act n a) ≤ length (acts_below act n b)
@@ -38,10 +38,11 @@ ones_within a b within =
     ap count_ones (sym (mod-eq_of_lt (self_below a))) ∙ sym (each_exact act a a) in
     omega (arith, all, below_within act a a b within, each_size act a b)
 
--- nor has what is left of it
+-- what is left of a mask has no more registers than the mask
 rest_within : (mask bound left : ℕ) → IsRest mask bound left → count_ones left ≤ count_ones mask
 rest_within mask bound left rest = ones_within left mask (λ k member. ((rest k).0 member).1)
 
+-- no more accesses are left at a place than an object of its kind allows
 pub most_left :
     (t : QuorumTable) (kind : Kind) (v : ℕ) (pc : Pc) (turns : List Turn) → v < t.values → PcIsAt t kind v pc turns
     → turns_left t pc ≤ most_turns t kind

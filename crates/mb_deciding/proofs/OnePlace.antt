@@ -71,7 +71,7 @@ some_part t (Conciliator s) v turns (InConciliator (Look input)) op q at is = (
       ([], answer false 0, (refl, look_ends s v input 1 0 turns at.1 (omega arith))),
 )
 
--- so it is one
+-- two places with the same turns have one next op
 pub one_next :
     (t : QuorumTable) (kind : Kind) (v : ℕ) (turns : List Turn) (pc other : Pc) (op next : Op) → IsQuorumTable t
     → PcIsAt t kind v pc turns → PcIsAt t kind v other turns → IsOpAt t pc op → IsOpAt t other next → op ≡ next

@@ -6,7 +6,7 @@ use Rattle.mb_deciding.specs.{RatifierPlace, Begin, Announce, PcIsAt, IsConcilia
 use Rattle.mb_deciding.specs.{ConciliatorReaches, RatifierReaches, LastReaches, IsLastOp, IsStep}
 use Rattle.mb_deciding.proofs.Advances.{find_anywhere, begin_op, begin_announces}
 
--- in a conciliator
+-- an access made at a place in a conciliator is one step
 pub conciliator_step :
     (t : QuorumTable) (place : ConciliatorPlace) (makes : Op → ℕ → Type 0) (op : Op) (seen word : ℕ) (follows : Next)
     → IsConciliatorOp place op → makes op seen → ConciliatorReaches t place seen word follows
@@ -22,7 +22,7 @@ conciliator_step t place makes op seen word follows is made reaches =
     reached Ratifier v turns at can = absurd at
     reached LastObject v turns at can = absurd at
 
--- in a ratifier
+-- an access made at a place in a ratifier is one step
 pub ratifier_step :
     (t : QuorumTable) (place : RatifierPlace) (makes : Op → ℕ → Type 0) (op : Op) (seen word : ℕ) (follows : Next)
     → IsRatifierOp t place op → makes op seen → RatifierReaches t place seen follows
@@ -38,7 +38,7 @@ ratifier_step t place makes op seen word follows is made reaches =
     reached LastObject v turns at can = absurd at
     reached Ratifier v turns at can = reaches v turns op word at is can
 
--- in a last object
+-- an access made at a place in a last object is one step
 pub last_step :
     (t : QuorumTable) (place : LastPlace) (makes : Op → ℕ → Type 0) (op : Op) (seen word : ℕ) (follows : Next)
     → IsLastOp place op → makes op seen → LastReaches t place seen follows

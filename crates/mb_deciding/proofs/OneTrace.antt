@@ -17,7 +17,7 @@ use Rattle.mb_deciding.proofs.RatifierNext.{Follows, act_follows, one_op}
 use Rattle.mb_deciding.proofs.ConciliatorNext.{turn_follows, one_op as conciliator_op}
 
 -- ---- the next act
--- a turn of a ratifier's path
+-- a turn of a ratifier's path follows what was done before
 ratifier_follows :
     (t : QuorumTable) (v : ℕ) (turns : List Turn) (x : Turn) → IsPrefix t Ratifier v (x ∷ turns)
     → Follows t v x.act (acts turns)
@@ -59,7 +59,7 @@ one_act o word p h a b l m =
     same_act a b h op l.memory.0 m.memory.0
 
 -- ---- one entry
--- and one output, or none
+-- a process has one output, or none
 one_out :
     (o : Object) (h : List Access) (p : ℕ) (a b : Option Out)
     → IsOutputOf o p a h → IsOutputOf o p b h → a ≡ b
@@ -105,7 +105,7 @@ entry_older :
 entry_older o word (entry.Done p) h l = l
 entry_older o word (entry.Access p a out) h l = lawful_older o (access p word a) h l
 
--- and before all
+-- what came before the accesses of a schedule is lawful
 entries_older :
     (o : Object) (schedule : List (ℕ × ℕ)) (es : List Entry) (h : List Access)
     → IsObjectLawful o (history_from schedule es h) → IsObjectLawful o h
@@ -137,7 +137,7 @@ one_list o (turn ∷ schedule) (e ∷ es) (f ∷ fs) h l m x y =
     (subst (λ d. AreEntriesOf o schedule fs (with_entry turn.1 d h)) (sym first) y.2) in
     ap₂ (λ d ds. d ∷ ds) first later
 
--- entries and outputs
+-- a schedule has one list of entries and one of outputs
 pub one_trace :
     (u : ObjectSetup) (schedule : List (ℕ × ℕ)) (es fs : List Entry) (outs others : List (Option Out))
     → IsTrace u schedule es outs → IsTrace u schedule fs others → (es ≡ fs) × (outs ≡ others)

@@ -92,7 +92,7 @@ zeros_loads (suc n) mask ys = cond_loads (bit_at mask n == 1) n 0 (zeros_below n
 abbrev pub IsFrom : ℕ → ℕ → List ℕ → List ℕ → Type 0
 IsFrom v u loads rest = ((u ≡ v) × (loads ≡ 0 ∷ rest)) ⊎ (loads ≡ (u + 1) ∷ rest)
 
--- where the preference was just made
+-- with a preference just made, it is that of what was loaded from the proposal
 prefers_from :
     (t : QuorumTable) (v u : ℕ) (begin : List Act) → Prefers t v u begin
     → IsFrom v u (proposal_loads begin) (proposal_loads (announcement t v))
@@ -109,7 +109,7 @@ from_unique v u w loads rest (inr h) (inl k) =
 from_unique v u w loads rest (inr h) (inr k) =
     let e : u + 1 ≡ w + 1 = (let f : (u + 1) ∷ rest ≡ (w + 1) ∷ rest = sym h ∙ k in cc) in omega arith
 
--- after clear loads
+-- after clear loads the preference is that of what was loaded from the proposal
 pub clear_from :
     (t : QuorumTable) (v u n : ℕ) (made : List Act) → ReadsClear t v u n made
     → IsFrom v u (proposal_loads made) (proposal_loads (announcement t v))
@@ -118,7 +118,7 @@ clear_from t v u n made clear =
     ap proposal_loads clear.2 ∙ zeros_loads n (t.read u) clear.0 in
     subst (λ xs. IsFrom v u xs (proposal_loads (announcement t v))) (sym e) (prefers_from t v u clear.0 clear.1)
 
--- after a 1
+-- after a 1, too, the preference is that of what was loaded from the proposal
 pub one_from :
     (t : QuorumTable) (v u : ℕ) (made : List Act) → ReadsOne t v u made
     → IsFrom v u (proposal_loads made) (proposal_loads (announcement t v))

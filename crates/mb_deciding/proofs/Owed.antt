@@ -1,4 +1,4 @@
--- What both kinds of object owe.
+-- What ratifiers and conciliators owe, and that objects of each kind keep their promises.
 use Rattle.std.proofs.Common.{◌≡◌, ◌≢◌, ℕ, ◌+◌, ◌<◌, ◌≤◌, Bool, true, false, List, [], ◌∷◌, ◌++◌, length, inl, inr, sym}
 use Rattle.std.proofs.Common.{refl, ap, ap₂, ◌∙◌, subst, append-nil, length-append, true≢false, arith}
 use Rattle.mb_deciding.specs.{Value, Proposal, Act, Load, Store, Turn, Access, Out, Kind, Conciliator, Ratifier, LastObject, Object}
@@ -21,7 +21,7 @@ use Rattle.mb_deciding.proofs.Conciliators.{valid as conciliator_valid, fits as 
 same_answer : (a b : Out) → (a.decided ≡ b.decided) × (a.value ≡ b.value) → a ≡ b
 same_answer a b e = ap₂ answer e.0 e.1
 
--- ---- a ratifier
+-- ---- the paths of a ratifier
 -- a path has an act
 some_path : (t : QuorumTable) (v : ℕ) (made : List Act) (d : Bool) (u : ℕ) → IsRatifierPath t v made d u → made ≢ []
 some_path t v made d u h =
@@ -34,7 +34,7 @@ some_path t v made d u h =
 lone_path : QuorumTable → ℕ → List Act
 lone_path t v = zeros_below t.registers (t.read v) ++ (Store Proposal (v + 1) ∷ Load Proposal 0 ∷ announcement t v)
 
--- it decides its input
+-- such a process decides its input
 lone_path_decides : (t : QuorumTable) (v : ℕ) → IsRatifierPath t v (lone_path t v) true v
 unfolding lone_path
 lone_path_decides t v = (Store Proposal (v + 1) ∷ Load Proposal 0 ∷ announcement t v, inl (refl, refl), refl)
@@ -66,8 +66,8 @@ unique_ratifier t v turns later a b h k =
           (subst (λ xs. IsRatifierPath t v (xs ++ acts turns) b.decided b.value) none whole)),
     )
 
--- ---- a conciliator
--- a process that finds its input in the word at once
+-- ---- the paths of a conciliator
+-- each input has a path: a process that finds its input in the word at once
 opens_conciliator : (t : QuorumTable) (s v : ℕ) → IsOpen t (Conciliator s) v []
 opens_conciliator t s v =
     let x : Turn = record { act = Load Value (v + 1); word = 0 } in
@@ -81,7 +81,7 @@ unique_conciliator t s v turns later a b h k =
     let e = conciliator_ends s v turns later a.value b.value h.1 k.1 in
     (e.0, same_answer a b (h.0 ∙ sym k.0, e.1))
 
--- ---- both
+-- ---- objects of each kind
 -- a path ends once, with one output
 pub one_end :
     (t : QuorumTable) (kind : Kind) (v : ℕ) (turns later : List Turn) (a b : Out) → IsPath t kind v turns a
@@ -107,14 +107,14 @@ ratifier_turns t inputs h p l within prefix =
           omega (arith, length-acts (part p h), announces, long.1, largest_bound t.read t.values prefix.1.value known))
     ]
 
--- nor on a conciliator
+-- a process has no more turns on a conciliator
 conciliator_turns :
     (t : QuorumTable) (s v : ℕ) (turns : List Turn) → IsPrefix t (Conciliator s) v turns
     → length turns ≤ most_turns t (Conciliator s)
 conciliator_turns t s v turns prefix =
     omega (arith, length-append prefix.0 turns, conciliator_length s v (prefix.0 ++ turns) prefix.1.value prefix.2.1)
 
--- nor any process
+-- a process has no more turns on an object of any kind
 pub bounded :
     (o : Object) (h : List Access) (p : ℕ) → IsObjectLawful o h
     → length (part p h) ≤ most_turns o.table o.kind
@@ -132,7 +132,7 @@ bounded o h p l =
     by_kind Ratifier lawful within prefix = ratifier_turns o.table o.inputs h p lawful within prefix
     by_kind LastObject lawful within prefix = last_turns o.table (o.inputs p) (part p h) prefix
 
--- what each kind of object owes
+-- an object of each kind keeps its promises
 promises_kept_by : (t : QuorumTable) (kind : Kind) (inputs : ℕ → ℕ) → IsQuorumTable t → IsDeciding
     (object_of t kind inputs)
 promises_kept_by t (Conciliator s) inputs law =
@@ -163,6 +163,6 @@ promises_kept_by t LastObject inputs law =
       coherence = last_coherent t inputs;
     }
 
--- so does every object
+-- every object over a quorum table keeps its promises
 pub promises_kept : (o : Object) → ObjectIsSound o → IsDeciding o
 promises_kept o law = promises_kept_by o.table o.kind o.inputs law

@@ -21,7 +21,7 @@ IsRatifierOpen t v made =
 pub open_part : (t : QuorumTable) (v : ℕ) (made : List Act) → IsRatifierOpen t v made → IsRatifierPart t v made
 open_part t v made h = (h.0, h.2.0, h.2.1, h.2.2)
 
--- a list with an element behind it is not empty
+-- a list with an element after it is not empty
 some_snoc : (xs : List Act) (x : Act) → xs ++ x ∷ [] ≢ []
 some_snoc [] x = not_empty x []
 some_snoc (y ∷ xs) x = not_empty y (xs ++ x ∷ [])
@@ -47,7 +47,7 @@ open_suffix t v [] made h = h
 open_suffix t v (x ∷ later) made h =
     open_suffix t v later made (part_older t v x (later ++ made) (open_part t v (x ∷ later ++ made) h))
 
--- a whole path
+-- a whole path is a prefix
 pub path_part :
     (t : QuorumTable) (v : ℕ) (made : List Act) (d : Bool) (u : ℕ) → IsRatifierPath t v made d u
     → IsRatifierPart t v made
@@ -70,7 +70,7 @@ clear_part t v u n made within h =
       ),
     )
 
--- a preference
+-- a path up to its preference is a prefix
 prefers_part : (t : QuorumTable) (v u : ℕ) (made : List Act) → Prefers t v u made → IsRatifierPart t v made
 prefers_part t v u made h = clear_part t v u 0 made (omega arith) (made, h, refl)
 

@@ -22,12 +22,12 @@ Follows t v (Exchange reg w f) made = ⊥
 Follows t v (Load Proposal x) made = made ≡ announcement t v
 Follows t v (Load (Quorum r) x) made = (u : ℕ) × IsMember (t.read u) r × ReadsClear t v u r made
 
--- so it is with each act of the list
+-- so it is with each act of a list
 abbrev AllFollow : QuorumTable → ℕ → List Act → Type 0
 AllFollow t v [] = Unit {0}
 AllFollow t v (a ∷ made) = Follows t v a made × AllFollow t v made
 
--- ---- paths
+-- ---- each act of a path follows what was done before
 -- one more store of the announcement
 follow_cond :
     (t : QuorumTable) (v : ℕ) (b : Bool) (x : Act) (xs : List Act) → (b ≡ true → Follows t v x xs) → AllFollow t v xs
@@ -35,7 +35,7 @@ follow_cond :
 follow_cond t v true x xs f h = (f refl, h)
 follow_cond t v false x xs f h = h
 
--- the announcement
+-- the acts of the announcement follow
 stores_follow : (t : QuorumTable) (v n : ℕ) → n ≤ t.registers → AllFollow t v (stores_below n (t.write v))
 stores_follow t v zero within = tt
 stores_follow t v (suc n) within =
@@ -43,7 +43,7 @@ stores_follow t v (suc n) within =
     (λ b. (refl, omega arith, eqb-true (bit_at (t.write v) n) 1 b, refl))
     (stores_follow t v n (omega arith))
 
--- a path up to its preference
+-- the acts of a path up to its preference follow
 prefers_follow : (t : QuorumTable) (v u : ℕ) (begin : List Act) → Prefers t v u begin → AllFollow t v begin
 prefers_follow t v u begin (inl h) =
     subst (λ made. AllFollow t v made) (sym h.1) ((refl, refl), (refl, stores_follow t v t.registers (omega arith)))
@@ -57,7 +57,7 @@ check_cond :
 check_cond t v true x xs ys f h = (f refl, h)
 check_cond t v false x xs ys f h = h
 
--- the loads of a check
+-- the loads of a check follow
 zeros_follow :
     (t : QuorumTable) (v u n : ℕ) (begin : List Act) → Prefers t v u begin
     → AllFollow t v (zeros_below n (t.read u) ++ begin)
@@ -71,7 +71,7 @@ zeros_follow t v u (suc n) begin p =
 clear_follow : (t : QuorumTable) (v u n : ℕ) (made : List Act) → ReadsClear t v u n made → AllFollow t v made
 clear_follow t v u n made h = subst (λ xs. AllFollow t v xs) (sym h.2) (zeros_follow t v u n h.0 h.1)
 
--- any whole path
+-- the acts of a whole path follow
 path_follow :
     (t : QuorumTable) (v : ℕ) (made : List Act) (d : Bool) (u : ℕ) → IsRatifierPath t v made d u → AllFollow t v made
 path_follow t v made true u h = clear_follow t v u t.registers made h
@@ -79,18 +79,18 @@ path_follow t v [] false u h = tt
 path_follow t v (act ∷ older) false u h =
     (subst (λ a. Follows t v a older) (sym h.1) (u, h.2, h.4), clear_follow t v u h.0 older h.4)
 
--- an older part of a list
+-- the acts of an older part of a list follow
 suffix_follow : (t : QuorumTable) (v : ℕ) (later made : List Act) → AllFollow t v (later ++ made) → AllFollow t v made
 suffix_follow t v [] made h = h
 suffix_follow t v (x ∷ later) made h = suffix_follow t v later made h.1
 
--- an act of a path
+-- each act of a path follows what was done before
 pub act_follows :
     (t : QuorumTable) (v : ℕ) (later made : List Act) (a : Act) (d : Bool) (u : ℕ)
     → IsRatifierPath t v (later ++ a ∷ made) d u → Follows t v a made
 act_follows t v later made a d u h = (suffix_follow t v later (a ∷ made) (path_follow t v (later ++ a ∷ made) d u h)).0
 
--- ---- one op
+-- ---- what was done before names one op
 -- two registers with the same number of registers below them are one
 same_register :
     (act : ℕ → Act) (mask r s : ℕ) → IsMember mask r → IsMember mask s

@@ -18,7 +18,7 @@ kept_by :
 kept_by true x turns c k = inr k
 kept_by false x turns c k = k
 
--- nor does any access
+-- an access takes no act away
 has_kept :
     (p : ℕ) (a : Access) (h : List Access) (c : Act) → Has (acts (part p h)) c → Has (acts (part p (a ∷ h))) c
 has_kept p a h c k = kept_by (a.process == p) a.turn (part p h) c k
@@ -41,7 +41,7 @@ has_cases p a h c k =
       | inr w ↦ inr w
     ]
 
--- what lies behind an act of a process
+-- what came before an act of a process
 pub own_behind :
     (t : QuorumTable) (inputs : ℕ → ℕ) (h : List Access) → IsObjectLawful (ratifier_of t inputs) h → (p : ℕ) (c : Act)
     → Has (acts (part p h)) c
@@ -50,7 +50,7 @@ own_behind t inputs h l p c k =
     behind_at t (inputs p) (acts (part p h)) c
     (part_behind t (inputs p) (part p h) (l.parts p (has_turns (part p h) c k)).1) k
 
--- what lies behind the newest access
+-- what came before the newest access
 newest_behind :
     (t : QuorumTable) (inputs : ℕ → ℕ) (a : Access) (h : List Access) → IsObjectLawful (ratifier_of t inputs) (a ∷ h)
     → Behind t (inputs a.process) a.turn.act (acts (part a.process h))
@@ -58,7 +58,7 @@ newest_behind t inputs a h l =
     (subst (λ turns. AllBehind t (inputs a.process) (acts turns)) (own_turns a h)
     (part_behind t (inputs a.process) (part a.process (a ∷ h)) (l.parts a.process (own_some a h)).1)).0
 
--- ---- one access
+-- ---- what one access leaves in the words
 -- a store leaves its value
 same_register : (r w n : ℕ) → value_after (Quorum r) (Store (Quorum r) w) n ≡ w
 same_register r w n = ap (λ b. cond b w n) (eq-eqb r r refl)
@@ -106,7 +106,7 @@ cond_origin : (b : Bool) (w n : ℕ) → 0 < cond b w n → (b ≡ true) ⊎ (0 
 cond_origin true w n h = inl refl
 cond_origin false w n h = inr h
 
--- the same for a quorum register
+-- a quorum register that is not 0 was so before, or was stored now
 register_origin :
     (t : QuorumTable) (v r : ℕ) (act : Act) (older : List Act) (n : ℕ) → Behind t v act older
     → 0 < value_after (Quorum r) act n → (0 < n) ⊎ (Store (Quorum r) 1 ≡ act)
@@ -121,7 +121,7 @@ register_origin t v r (Store (Quorum i) w) older n b h =
       | inr k ↦ inl k
     ]
 
--- ---- the proposal and the quorum registers
+-- ---- what the proposal and the quorum registers hold, and who stored it
 -- a register that a process stored holds 1
 pub stored_one :
     (t : QuorumTable) (inputs : ℕ → ℕ) (h : List Access) → IsObjectLawful (ratifier_of t inputs) h → (p r : ℕ)
@@ -170,7 +170,7 @@ loaded_filled t inputs (a ∷ h) l p u k =
       | inr w ↦ kept (loaded_filled t inputs h (lawful_older (ratifier_of t inputs) a h l) p u w)
     ]
 
--- where a process has a preference, the proposal is not empty
+-- if a process has a preference, the proposal is not empty
 pub preference_filled :
     (t : QuorumTable) (inputs : ℕ → ℕ) (h : List Access) → IsObjectLawful (ratifier_of t inputs) h → (p v : ℕ)
     → HasPreference v (acts (part p h)) → 0 < value_in Proposal h
@@ -181,7 +181,7 @@ preference_filled t inputs h l p v (inr k) = loaded_filled t inputs h l p k.0 k.
 abbrev pub IsFounded : (ℕ → ℕ) → List Access → ℕ → Type 0
 IsFounded inputs h u = (b : ℕ) × (inputs b ≡ u) × Has (acts (part b h)) (Load Proposal 0)
 
--- it did in a longer history too
+-- in a longer history, too, it has a founder
 founded_kept :
     (inputs : ℕ → ℕ) (a : Access) (h : List Access) (u : ℕ) → IsFounded inputs h u → IsFounded inputs (a ∷ h) u
 founded_kept inputs a h u f = (f.0, f.1, has_kept f.0 a h (Load Proposal 0) f.2)
@@ -198,7 +198,7 @@ proposal_founded t inputs (a ∷ h) l u e =
       | inr w ↦ founded_kept inputs a h u (a.process, w.0, w.1)
     ]
 
--- so is a value that was loaded from it
+-- a value that was loaded from the proposal has a founder
 loaded_founded :
     (t : QuorumTable) (inputs : ℕ → ℕ) (h : List Access) → IsObjectLawful (ratifier_of t inputs) h → (p u : ℕ)
     → Has (acts (part p h)) (Load Proposal (u + 1)) → IsFounded inputs h u
@@ -211,7 +211,7 @@ loaded_founded t inputs (a ∷ h) l p u k =
       | inr w ↦ founded_kept inputs a h u (loaded_founded t inputs h older p u w)
     ]
 
--- and a value that a process chose
+-- a value that a process chose has a founder
 pub chosen_founded :
     (t : QuorumTable) (inputs : ℕ → ℕ) (h : List Access) → IsObjectLawful (ratifier_of t inputs) h → (p u : ℕ)
     → IsChosen (inputs p) u (acts (part p h)) → IsFounded inputs h u
@@ -260,7 +260,7 @@ cond_small : (b : Bool) (w n : ℕ) → w ≡ 1 → n ≤ 1 → cond b w n ≤ 1
 cond_small true w n e h = omega arith
 cond_small false w n e h = h
 
--- each act keeps it so
+-- each act keeps a quorum register at most 1
 small_kept :
     (t : QuorumTable) (v r : ℕ) (act : Act) (older : List Act) (n : ℕ) → Behind t v act older → n ≤ 1
     → value_after (Quorum r) act n ≤ 1
@@ -305,7 +305,7 @@ no_value t v (Store (Quorum i) w) older n b e = e
 no_value t v (Store Last w) older n b e = absurd b
 no_value t v (Exchange reg w f) older n b e = absurd b
 
--- nor in a last object's
+-- a ratifier's act stores nothing in a last object's word
 no_last :
     (t : QuorumTable) (v : ℕ) (act : Act) (older : List Act) (n : ℕ) → Behind t v act older → n ≤ 0
     → value_after Last act n ≤ 0
@@ -316,7 +316,7 @@ no_last t v (Store (Quorum i) w) older n b e = e
 no_last t v (Store Last w) older n b e = absurd b
 no_last t v (Exchange reg w f) older n b e = absurd b
 
--- so that one is empty, too
+-- so a last object's word is empty
 last_empty :
     (t : QuorumTable) (inputs : ℕ → ℕ) (h : List Access) → IsObjectLawful (ratifier_of t inputs) h
     → value_in Last h ≤ 0

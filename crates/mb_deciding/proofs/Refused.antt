@@ -1,4 +1,4 @@
--- The first reason to refuse a schedule, where the number of values is in range.
+-- The first reason to refuse a schedule for a number of values that is in range.
 use Rattle.std.proofs.Common.{◌≡◌, ◌≤◌, ℕ, List, length, Option, Some, None, refl, sym, ap, ◌∙◌}
 use Rattle.std.specs.Option.{option_map_or}
 use Rattle.std.proofs.lemmas.Bool.{cond_above}
@@ -15,7 +15,7 @@ refusal_in-of m v inputs processes others least most same own =
     (refusal_in m inputs processes) most refl
     ∙ cond_above m 1 (Some BadValues) _ _ least refl))
 
--- the first of two reasons, where neither is one
+-- the first of two reasons, if neither is one
 none_of :
     (x y : Option ℕ)
     → option_map_or (λ i. Some (BadInput i)) x (option_map_or (λ i. Some (NoSuchProcess i)) y None) ≡ None
@@ -24,7 +24,7 @@ none_of None None e = (refl, refl)
 none_of None (Some j) e = absurd (let f : Some (NoSuchProcess j) ≡ None = e in cc)
 none_of (Some i) y e = absurd (let f : Some (BadInput i) ≡ None = e in cc)
 
--- where there is no reason, no input and no process is the first bad one
+-- if there is no reason, no input and no process is the first bad one
 pub none_first :
     (m : ℕ) (inputs processes : List ℕ) → None ≡ refusal_in m inputs processes
     → (None ≡ first_from m inputs) × (None ≡ first_from (length inputs) processes)

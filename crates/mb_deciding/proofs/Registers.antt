@@ -43,7 +43,7 @@ rest_least mask bound left r rest least =
     let own = (rest r).0 least.member in
     record { above = own.0; member = own.1; least = λ k above below m. least.least k below ((rest k).1 (above, m)) }
 
--- where nothing is left, no register is at or above the bound
+-- if nothing is left, no register is at or above the bound
 pub rest_none : (mask bound left : ℕ) → IsRest mask bound left → left ≡ 0 → IsNoneFrom mask bound
 rest_none mask bound left rest e k above m = none_empty left k e ((rest k).1 (above, m))
 

@@ -29,7 +29,7 @@ history_from-push o h (x ∷ schedule) [] turn e all = absurd all
 history_from-push o h (x ∷ schedule) (y ∷ entries) turn e all =
     history_from-push o (with_entry x.1 y h) schedule entries turn e all.2
 
--- and fit where the new one stands after the accesses of the others
+-- the entries still fit, if the new one fits after the accesses of the others
 pub entries_push :
     (o : Object) (h : List Access) (schedule : List (ℕ × ℕ))
     (entries : List Entry) (turn : ℕ × ℕ) (e : Entry)
@@ -42,7 +42,7 @@ entries_push o h (x ∷ schedule) [] turn e all is here = absurd all
 entries_push o h (x ∷ schedule) (y ∷ entries) turn e all is here =
     (all.0, all.1, entries_push o (with_entry x.1 y h) schedule entries turn e all.2 is here)
 
--- ---- places
+-- ---- what a turn does to the places of processes
 -- a load of what is left there is true to memory
 pub reads_seen : (op : Op) (h : List Access) → ReadsLast (act_of op (seen_by op h)) h
 reads_seen (to.Load reg) h = refl
@@ -81,12 +81,12 @@ pub comes_from : (out : Option Out) (pc : Pc) → come_to out (leads.Go pc) ≡ 
 comes_from None pc = refl
 comes_from (Some x) pc = refl
 
--- and so it is what has been come to
+-- the output is the one that has been come to
 pub out_from : (out : Option Out) (pc : Pc) → out_of (next_from out pc) ≡ out
 out_from None pc = refl
 out_from (Some x) pc = refl
 
--- ---- the run
+-- ---- a run after one more turn
 module _ (u : ObjectSetup) (schedule : List (ℕ × ℕ)) (state : RunState) (run : IsRun u schedule state) where
   -- what the accesses of the entries were
   abbrev past : List Access
@@ -109,14 +109,14 @@ module _ (u : ObjectSetup) (schedule : List (ℕ × ℕ)) (state : RunState) (ru
         reached = rw same run.reached;
       }
 
-  -- where the run has a process at a place
+  -- a process that the run has at a place is at it by its part
   pub place_at :
       (p : ℕ) (x : Next) (pc : Pc) → p < length state.places → x ≡ get_or state.places p x → x ≡ leads.Go pc
       → PcIsAt u.table u.kind (get_or u.inputs p 0) pc (part p past)
   place_at p x pc below is go =
       subst (λ n. IsReached u.table u.kind (get_or u.inputs p 0) n (part p past)) (sym is ∙ go) (run.reached p x below)
 
-  -- where the run has a process at its output
+  -- a process that the run has at an output has ended
   pub ended_at :
       (p : ℕ) (x : Next) (out : Out) → p < length state.places → x ≡ get_or state.places p x → x ≡ leads.Out out
       → HasEnded (object_in u) p past

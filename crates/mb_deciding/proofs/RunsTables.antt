@@ -22,7 +22,7 @@ same_values (Conciliator s) t u same = same
 same_values Ratifier t u same = ap (λ (x : QuorumTable). x.values) same
 same_values LastObject t u same = ap (λ (x : QuorumTable). x.values) same
 
--- and where one is a table for the kind, the other is
+-- if an object does the same over two tables, and one is a table for its kind, the other is
 pub same_table : (kind : Kind) (t u : QuorumTable) → IsSameFor kind t u → IsTableFor kind u → IsTableFor kind t
 same_table (Conciliator s) t u same q = tt
 same_table Ratifier t u same q = subst (λ x. IsTableFor Ratifier x) (sym same) q
@@ -36,7 +36,7 @@ ratifier_place t v (InRatifier place) turns at = at.0
 ratifier_place t v (InConciliator place) turns at = absurd at
 ratifier_place t v (InLast place) turns at = absurd at
 
--- its next turn goes on with a path
+-- the next turn of a process at a place goes on with its path
 pub place_leads :
     (t : QuorumTable) (kind : Kind) (inputs : ℕ → ℕ) (h : List Access) (p : ℕ) (pc : Pc) (op : Op) (word : ℕ)
     → IsTableFor kind t → IsObjectLawful (object_of t kind inputs) h → PcIsAt t kind (inputs p) pc (part p h)
@@ -71,7 +71,7 @@ place_open t (Conciliator s) v (InRatifier place) turns q at = absurd at
 place_open t (Conciliator s) v (InLast place) turns q at = absurd at
 place_open t LastObject v pc turns q at = at_open t LastObject v pc turns q at
 
--- so it is no whole path
+-- what a process at a place has made is no whole path
 pub place_unfinished :
     (t : QuorumTable) (kind : Kind) (v : ℕ) (pc : Pc) (turns : List Turn) (out : Out) → IsTableFor kind t
     → PcIsAt t kind v pc turns → IsPath t kind v turns out → ⊥

@@ -49,7 +49,7 @@ each_exact act (suc n) mask =
     (each_exact act n mask) (bit_at mask n == 1) refl
     ∙ sym (below_next n mask)
 
--- so it has no more acts than the quorum has registers
+-- so a list with an act for each register has no more acts than the quorum has registers
 pub each_size : (act : ℕ → Act) (n mask : ℕ) → length (acts_below act n mask) ≤ count_ones mask
 each_size act n mask =
     let whole : count_ones mask ≡ count_ones (mask / 2 ^ n) + count_ones (mask % 2 ^ n) =

@@ -12,8 +12,8 @@ use Rattle.mb_quorum.specs.Unary.{unary_table}
 use Rattle.mb_deciding.proofs.Histories.{not_empty}
 use Rattle.mb_deciding.proofs.Grammar.{part_behind}
 
--- ---- one process
--- its turns are those that it made
+-- ---- the history of one process
+-- the turns of process 0 are those that it made
 own_turns : (turns : List Turn) → part 0 (history_of_one turns) ≡ turns
 own_turns [] = refl
 own_turns (x ∷ turns) = ap (λ xs. x ∷ xs) (own_turns turns)
@@ -45,19 +45,19 @@ lawful_alone t kind turns memory words within prefix =
           ];
     }
 
--- and what is lawful is one
+-- the turns of a lawful history are a prefix of a path
 part_alone :
     (t : QuorumTable) (kind : Kind) (turns : List Turn) → turns ≢ []
     → IsObjectLawful (object_of t kind zero_inputs) (history_of_one turns) → IsPrefix t kind 0 turns
 part_alone t kind turns some l =
     subst (IsPrefix t kind 0) (own_turns turns) (l.parts 0 (λ e. some (sym (own_turns turns) ∙ e))).1
 
--- ---- a ratifier
+-- ---- histories of a ratifier
 -- the run that met no 1 decides its input
 pub clear_path : IsPath (unary_table 2) Ratifier 0 clear_run (answer true 0)
 clear_path = (Store Proposal 1 ∷ Load Proposal 0 ∷ Store (Quorum 0) 1 ∷ [], inl (refl, refl), refl)
 
--- it is lawful
+-- the clear run is lawful
 pub clear_lawful : IsObjectLawful (object_of (unary_table 2) Ratifier zero_inputs) (history_of_one clear_run)
 clear_lawful =
     lawful_alone (unary_table 2) Ratifier clear_run (refl, (tt, (refl, (tt, tt)))) (
@@ -70,7 +70,7 @@ clear_lawful =
     (omega arith)
     ([], answer true 0, clear_path)
 
--- and decides its input
+-- the clear run decides its input
 pub clear_output : HasOutput (object_of (unary_table 2) Ratifier zero_inputs) 0 true 0 (history_of_one clear_run)
 clear_output = clear_path
 
@@ -84,7 +84,7 @@ hasty_refused l =
 pub invented_refused : IsObjectLawful (object_of (unary_table 2) Ratifier zero_inputs) (history_of_one invented_run) → ⊥
 invented_refused l = let none : ◌≡◌ {A = ℕ} 1 0 = l.memory.0 in absurd (omega arith)
 
--- ---- a conciliator
+-- ---- histories of a conciliator
 -- the run that stores on attempt 2 has its input as its output
 pub patient_path : IsPath (unary_table 2) (Conciliator 2) 0 patient_run (answer false 0)
 patient_path = (
@@ -125,7 +125,7 @@ patient_lawful =
     (omega arith)
     ([], answer false 0, patient_path)
 
--- and has its input as its output
+-- the patient run has its input as its output
 pub patient_output : HasOutput (object_of (unary_table 2) (Conciliator 2) zero_inputs) 0 false 0
     (history_of_one patient_run)
 patient_output = patient_path
@@ -164,11 +164,11 @@ impatient_no_path (x ∷ y ∷ z ∷ later) u h =
       | inr put ↦ missing_no_store 2 h.1.0 0 later (turn 3 (Load Value 0) ∷ []) (turn 3 (Store Value 1)) refl put.1.2
     ]
 
--- it is no prefix of a path
+-- the impatient run is no prefix of a path
 pub impatient_no_part : IsPrefix (unary_table 2) (Conciliator 2) 0 impatient_run → ⊥
 impatient_no_part prefix = impatient_no_path prefix.0 prefix.1.value prefix.2.1
 
--- and the history is not lawful
+-- the history of the impatient run is not lawful
 pub impatient_refused : IsObjectLawful (object_of (unary_table 2) (Conciliator 2) zero_inputs)
     (history_of_one impatient_run) → ⊥
 impatient_refused l =

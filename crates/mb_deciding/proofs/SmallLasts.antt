@@ -9,7 +9,7 @@ use Rattle.mb_deciding.specs.{IsObjectLawful, small_last, first_decides, found_e
 use Rattle.mb_deciding.specs.{loaded_then_stored}
 use Rattle.mb_deciding.proofs.Lasts.{last_alone, same_value}
 
--- ---- lawful
+-- ---- a history that is lawful
 -- an access of another process adds nothing to a part
 skipped : (p q found : ℕ) (h : List Access) → q ≢ p → part p (exchange_by q found ∷ h) ≡ part p h
 skipped p q found h other =
@@ -27,6 +27,7 @@ first_part (suc (suc (suc p))) some =
     let z = skipped (suc (suc (suc p))) 0 0 [] (λ e. omega (arith, e)) in
     absurd (some (x ∙ y ∙ z))
 
+-- the history in which process 0 comes first is lawful
 pub first_lawful : IsObjectLawful small_last first_decides
 first_lawful =
     record {
@@ -38,40 +39,44 @@ first_lawful =
       parts = first_part;
     }
 
--- ---- not lawful
+-- ---- histories that are not lawful
 -- the second exchange would find the value of the first
 pub empty_refused : IsObjectLawful small_last found_empty_twice → ⊥
 empty_refused l = let none : ◌≡◌ {A = ℕ} 0 1 = l.memory.0 in absurd (omega (arith, none))
 
--- and the third, too
+-- the third exchange would find the value of the first, too
 pub over_refused : IsObjectLawful small_last stored_over → ⊥
 over_refused l = let other : ◌≡◌ {A = ℕ} 2 1 = l.memory.0 in absurd (omega (arith, other))
 
--- ---- no paths
+-- ---- turns that are no path
 -- a path is one exchange
 pub torn_refused : IsPrefix (unary_table 3) LastObject 0 loaded_then_stored → ⊥
 torn_refused p =
     let x = (last_alone (unary_table 3) 0 (turn 0 (Load Last 0) ∷ []) (turn 0 (Store Last 1)) p).1 in
     let same : Store Last 1 ≡ Exchange Last 1 x.0 = x.1 in cc
 
+-- a process exchanges the word for its own input
 pub another_refused : IsPrefix (unary_table 3) LastObject 0 (turn 0 (Exchange Last 2 0) ∷ []) → ⊥
 another_refused p =
     let x = (last_alone (unary_table 3) 0 [] (turn 0 (Exchange Last 2 0)) p).1 in
     let same : Exchange Last 2 0 ≡ Exchange Last 1 x.0 = x.1 in
     let put : ◌≡◌ {A = ℕ} 2 1 = cc in absurd (omega (arith, put))
 
+-- a process makes one exchange
 pub twice_refused : IsPrefix (unary_table 3) LastObject 0
     (turn 0 (Exchange Last 1 1) ∷ turn 0 (Exchange Last 1 0) ∷ []) → ⊥
 twice_refused p =
     let none : turn 0 (Exchange Last 1 0) ∷ [] ≡ [] =
     (last_alone (unary_table 3) 0 (turn 0 (Exchange Last 1 0) ∷ []) (turn 0 (Exchange Last 1 1)) p).0 in cc
 
--- ---- outputs
+-- ---- whole paths and their outputs
+-- a process that found the word empty has its own input as its output
 pub own_output :
     (d : Bool) (u : ℕ) → IsPath (unary_table 3) LastObject 1 (turn 0 (Exchange Last 2 0) ∷ []) (answer d u)
     → (d ≡ true) × (u ≡ 1)
 own_output d u path = (path.0, same_value 1 (turn 0 (Exchange Last 2 0)) u 1 path.1 (inl (refl, refl)))
 
+-- a process that found a value has that value as its output
 pub met_output :
     (d : Bool) (u : ℕ) → IsPath (unary_table 3) LastObject 1 (turn 0 (Exchange Last 2 1) ∷ []) (answer d u)
     → (d ≡ true) × (u ≡ 0)

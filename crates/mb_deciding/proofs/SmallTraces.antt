@@ -12,13 +12,13 @@ use Rattle.mb_deciding.proofs.Histories.{not_empty}
 use Rattle.mb_deciding.proofs.Owed.{one_end}
 use Rattle.mb_deciding.proofs.SmallHistories.{clear_lawful, clear_path, patient_lawful, patient_path, impatient_no_part}
 
--- ---- one process
--- the input is 0, as behind the end of the list
+-- ---- the traces of one process
+-- the input is 0, as after the end of the list
 same_input : (p : ℕ) → slice_index (0 ∷ []) p ≡ 0
 same_input zero = refl
 same_input (suc p) = refl
 
--- a history that is lawful where all have the input 0 is lawful for the list
+-- a history that is lawful if all have the input 0 is lawful for the list
 lawful_listed :
     (kind : Kind) (h : List Access) → IsObjectLawful (object_of (unary_table 2) kind zero_inputs) h
     → IsObjectLawful (object_of (unary_table 2) kind (slice_index (0 ∷ []))) h
@@ -55,20 +55,20 @@ unfinished kind turns later x out whole (d, u, path) =
     not_empty x later
     (one_end (unary_table 2) kind 0 turns (x ∷ later) (answer d u) out path whole).0
 
--- ---- a ratifier
+-- ---- traces of a ratifier
 -- the first turn of `clear_run`
 abbrev first_turn : Turn
 first_turn = turn 0 (Store (Quorum 0) 1)
 
--- the second of them
+-- the second turn of the clear run
 abbrev second_turn : Turn
 second_turn = turn 0 (Load Proposal 0)
 
--- the third
+-- the third turn of the clear run
 abbrev third_turn : Turn
 third_turn = turn 0 (Store Proposal 1)
 
--- and the last
+-- the last turn of the clear run
 abbrev last_turn : Turn
 last_turn = turn 0 (Load (Quorum 1) 0)
 
@@ -76,21 +76,21 @@ last_turn = turn 0 (Load (Quorum 1) 0)
 abbrev HasNone : List Turn → Type 0
 HasNone turns = (d : Bool) × (u : ℕ) × IsPath (unary_table 2) Ratifier 0 turns (answer d u) → ⊥
 
--- none before the first
+-- there is no output before the first turn
 none_at_first : HasNone []
 none_at_first = unfinished Ratifier [] (third_turn ∷ second_turn ∷ first_turn ∷ []) last_turn (answer true 0) clear_path
 
--- nor after one
+-- there is no output after one turn
 none_after_one : HasNone (first_turn ∷ [])
 none_after_one =
     unfinished Ratifier (first_turn ∷ []) (third_turn ∷ second_turn ∷ []) last_turn (answer true 0) clear_path
 
--- nor after two
+-- there is no output after two turns
 none_after_two : HasNone (second_turn ∷ first_turn ∷ [])
 none_after_two =
     unfinished Ratifier (second_turn ∷ first_turn ∷ []) (third_turn ∷ []) last_turn (answer true 0) clear_path
 
--- nor after three
+-- there is no output after three turns
 none_after_three : HasNone (third_turn ∷ second_turn ∷ first_turn ∷ [])
 none_after_three =
     unfinished Ratifier (third_turn ∷ second_turn ∷ first_turn ∷ []) [] last_turn (answer true 0) clear_path
@@ -126,13 +126,13 @@ clear_traced =
 pub silent_refused : IsTraceOfOne Ratifier 1 0 [] None → ⊥
 silent_refused bad = bad.entries
 
--- that is of the turn's process
+-- the entry is one of the turn's process
 pub another_refused :
     IsTrace (setup_of (unary_table 2) Ratifier (0 ∷ 0 ∷ [])) ((1, 0) ∷ []) (entry_of_one (Store (Quorum 0) 1) ∷ [])
     (None ∷ None ∷ []) → ⊥
 another_refused bad = let same : 0 ≡ 1 = bad.entries.0 in absurd (omega (arith, same))
 
--- which has an input
+-- each process of a turn has an input
 pub stranger_refused :
     IsTrace (setup_of (unary_table 2) Ratifier []) ((0, 0) ∷ []) (entry_of_one (Store (Quorum 0) 1) ∷ []) [] → ⊥
 stranger_refused bad = let below : 0 < 0 = bad.known 0 (0, 0) (omega arith) in absurd (omega (arith, below))
@@ -141,7 +141,7 @@ stranger_refused bad = let below : 0 < 0 = bad.known 0 (0, 0) (omega arith) in a
 pub early_refused : IsTraceOfOne Ratifier 1 0 (entry.Done 0 ∷ []) None → ⊥
 early_refused bad = none_at_first bad.entries.1
 
--- and nothing else
+-- after the output comes nothing but `Done`
 pub late_refused :
     IsTraceOfOne Ratifier 5 0 (clear_entries ++ entry_of_one (Load (Quorum 1) 0) ∷ []) (Some (answer true 0)) → ⊥
 late_refused bad = bad.entries.2.2.2.2.1.0 (true, 0, clear_path)
@@ -152,7 +152,7 @@ pub hasty_refused :
     → ⊥
 hasty_refused bad = none_after_one (true, 0, bad.entries.1.1)
 
--- and is not kept back there
+-- the output is not left out of its entry
 pub hidden_refused :
     IsTraceOfOne Ratifier 4 0
     (entry_of_one (Store (Quorum 0) 1) ∷ entry_of_one (Load Proposal 0) ∷ entry_of_one (Store Proposal 1) ∷ entry_of_one
@@ -160,20 +160,20 @@ pub hidden_refused :
     (Some (answer true 0)) → ⊥
 hidden_refused bad = bad.entries.2.2.2.1.1 (true, 0, clear_path)
 
--- nor in the end
+-- the output is not left out in the end
 pub withheld_refused : IsTraceOfOne Ratifier 4 0 clear_entries None → ⊥
 withheld_refused bad = bad.outputs 0 None (omega arith) (true, 0, clear_path)
 
--- ---- a conciliator
+-- ---- traces of a conciliator
 -- the first turns of `patient_run`
 abbrev missed_turn : Turn
 missed_turn = turn 3 (Load Value 0)
 
--- then its store
+-- then the store of the patient run
 abbrev put_turn : Turn
 put_turn = turn 3 (Store Value 1)
 
--- and its last turn
+-- then the last turn of the patient run
 abbrev met_turn : Turn
 met_turn = turn 3 (Load Value 1)
 
@@ -208,7 +208,7 @@ missed_put : MeetsNone (put_turn ∷ missed_turn ∷ missed_turn ∷ missed_turn
 missed_put = unfinished (Conciliator 2) (put_turn ∷ missed_turn ∷ missed_turn ∷ missed_turn ∷ []) [] met_turn
     (answer false 0) patient_path
 
--- the five accesses
+-- the five accesses of the patient run are its trace
 pub patient_traced : IsTraceOfOne (Conciliator 2) 5 3 patient_entries (Some (answer false 0))
 patient_traced =
     record {

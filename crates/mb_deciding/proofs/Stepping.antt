@@ -67,13 +67,13 @@ at_open t LastObject v (InConciliator place) turns q at = absurd at
 at_open t LastObject v (InLast place) turns q at =
     subst (λ xs. IsOpen t LastObject v xs) (sym at.1.1) (opens_last t v)
 
--- so it is a prefix
+-- so what a process at a place has made is a prefix of a path
 pub at_part :
     (t : QuorumTable) (kind : Kind) (v : ℕ) (pc : Pc) (turns : List Turn) → IsQuorumTable t → PcIsAt t kind v pc turns
     → IsPrefix t kind v turns
 at_part t kind v pc turns q at = open_turns t kind v turns (at_open t kind v pc turns q at)
 
--- and no whole path
+-- what a process at a place has made is no whole path
 pub at_unfinished :
     (t : QuorumTable) (kind : Kind) (v : ℕ) (pc : Pc) (turns : List Turn) (out : Out) → IsQuorumTable t
     → PcIsAt t kind v pc turns → IsPath t kind v turns out → ⊥

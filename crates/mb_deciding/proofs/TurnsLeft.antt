@@ -14,7 +14,7 @@ use Rattle.mb_deciding.specs.{Quorum, Act, Load, Pc, InRatifier, InConciliator, 
 use Rattle.mb_deciding.specs.{Put, Look, acts_below, IsPlace, HasLimits, turns_left}
 use Rattle.mb_deciding.proofs.Sizes.{each_exact}
 
--- ---- masks
+-- ---- a mask without one register
 -- what is left of a mask without one register
 abbrev pub IsWithout : ℕ → ℕ → ℕ → Type 0
 IsWithout mask r kept = (k : ℕ) → IsMember kept k ↔ (IsMember mask k × (k ≢ r))
@@ -70,7 +70,7 @@ below_fewer act (suc n) mask r kept without member less =
           (below_fewer act n mask r kept without member (omega arith)))
     ]
 
--- so it has one register less
+-- a mask without one of its registers has one less
 pub ones_fewer :
     (n mask r kept : ℕ) → mask < 2 ^ n → kept < 2 ^ n → IsWithout mask r kept → IsMember mask r → r < n
     → count_ones mask ≡ count_ones kept + 1
@@ -87,7 +87,7 @@ pub some_ones : (mask : ℕ) → mask ≢ 0 → 0 < count_ones mask
 some_ones mask some =
     elim (cases_eq (count_ones mask) 0) [ inl e ↦ absurd (some (zero_from_ones mask e)) | inr more ↦ omega arith ]
 
--- ---- limits
+-- ---- how many attempts a limit leaves
 -- a larger power has a larger exponent
 below_power : (k b : ℕ) → 2 ^ k ≤ 2 ^ b → k ≤ b
 below_power k b le =
@@ -118,7 +118,7 @@ attempts_fewer s k limit modulus now next =
     let later : suc k ≤ s = next.0 in
     omega (arith, attempts_left s k limit modulus now, attempts_left s (suc k) (limit * 2) modulus next)
 
--- ---- places
+-- ---- each place has an access left
 -- a place has an access left
 pub some_left : (t : QuorumTable) (pc : Pc) → IsPlace t pc → 0 < turns_left t pc
 some_left t (InRatifier (Begin input)) fit = omega arith

@@ -12,7 +12,7 @@ use Rattle.mb_deciding.proofs.Grammar.{HasPreference, clear_loads, one_chosen, p
 use Rattle.mb_deciding.proofs.RatifierWords.{IsFounded, has_cases, own_behind, newest_load, stored_one}
 use Rattle.mb_deciding.proofs.RatifierWords.{preference_filled, loaded_stored, chosen_founded, founded_within}
 
--- ---- the fact behind the one winner
+-- ---- a clear read and an announcement exclude each other
 -- who loaded an empty proposal has announced its whole write quorum
 empty_announced :
     (t : QuorumTable) (inputs : ℕ → ℕ) (h : List Access) → IsQuorumTable t → IsObjectLawful (ratifier_of t inputs) h
@@ -35,7 +35,7 @@ loads_preference t inputs h l p r x k =
       | inr w ↦ inr (w.0, at.2 (Load Proposal (w.0 + 1)) w.1)
     ]
 
--- where a process loaded 0 from a register, no process that loaded an empty proposal has it in its write quorum
+-- if a process loaded 0 from a register, no process that loaded an empty proposal has it in its write quorum
 clear_register :
     (t : QuorumTable) (inputs : ℕ → ℕ) (h : List Access) → IsQuorumTable t → IsObjectLawful (ratifier_of t inputs) h
     → (p b r : ℕ) → Has (acts (part p h)) (Load (Quorum r) 0) → Has (acts (part b h)) (Load Proposal 0)
@@ -68,7 +68,7 @@ keeps_out t inputs h q l p u bound b r later made is clear empty other below in_
     (has_later later made (Load (Quorum r) 0) (clear_loads t (inputs p) u bound made clear r below in_read)) in
     clear_register t inputs h q l p b r loaded empty in_write
 
--- ---- the laws
+-- ---- the promises of a ratifier
 -- the value of an output is the input of a process that loaded an empty proposal
 output_founded :
     (t : QuorumTable) (inputs : ℕ → ℕ) (h : List Access) → IsObjectLawful (ratifier_of t inputs) h
@@ -99,7 +99,7 @@ coherent t q inputs h l p k d u w o other =
     f.2
     (subst (λ v. IsMember (t.write v) r) (sym f.1) in_write))
 
--- where an output is undecided, another value was announced
+-- if an output is undecided, another value was announced
 other_announced :
     (t : QuorumTable) (inputs : ℕ → ℕ) (h : List Access) → IsQuorumTable t → IsObjectLawful (ratifier_of t inputs) h
     → (p u : ℕ) → HasOutput (ratifier_of t inputs) p false u h → (w : ℕ) × (w ≢ u) × IsAnnounced

@@ -6,7 +6,7 @@ use Rattle.mb_deciding.specs.Types.{Value, Load, Store, Turn}
 abbrev pub StoresOn : ℕ → ℕ → ℕ → Type 0
 StoresOn s k word = word % 2 ^ s < 2 ^ k
 
--- a load of 0 for each attempt below k, whose word does not store
+-- the turns of the attempts below k that do not store: a load of 0 for each
 abbrev pub IsMissing : ℕ → ℕ → List Turn → Type 0
 IsMissing s zero [] = Unit {0}
 IsMissing s zero (turn ∷ older) = ⊥
@@ -14,13 +14,13 @@ IsMissing s (suc k) [] = ⊥
 IsMissing s (suc k) (turn ∷ older) =
     (turn.act ≡ Load Value 0) × (StoresOn s k turn.word → ⊥) × IsMissing s k older
 
--- after that a load of 0 on attempt k, whose word stores
+-- the turns of attempts that do not store, and then a load of 0 on attempt k, whose word stores
 abbrev pub IsDrawn : ℕ → ℕ → List Turn → Type 0
 IsDrawn s k [] = ⊥
 IsDrawn s k (turn ∷ older) =
     (turn.act ≡ Load Value 0) × StoresOn s k turn.word × IsMissing s k older
 
--- after that a store of the input v
+-- the turns of attempts, of which the last stores, and then a store of the input v
 abbrev pub IsPut : ℕ → ℕ → ℕ → List Turn → Type 0
 IsPut s v k [] = ⊥
 IsPut s v k (turn ∷ older) = (turn.act ≡ Store Value (v + 1)) × IsDrawn s k older

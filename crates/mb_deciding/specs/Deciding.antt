@@ -24,14 +24,15 @@ IsAccepted o h =
     (v : ℕ) → ((q : ℕ) → part q h ≢ [] → o.inputs q ≡ v)
     → (p : ℕ) (d : Bool) (u : ℕ) → HasOutput o p d u h → (d ≡ true) × (u ≡ v)
 
--- a ratifier has an output (0, u) only if u itself and another value were announced
+-- contention, of a ratifier: it has an output (0, u) only if u itself and another value were announced
 abbrev pub IsContested : Object → List Access → Type 0
 IsContested o h =
     (p u : ℕ) → HasOutput o p false u h
     → IsAnnounced o u h × ((w : ℕ) × (w ≢ u) × IsAnnounced o w h)
 
--- a process has read the read quorum of u below the bound and met no 1, whatever it did later. Then no process that
--- loaded an empty proposal with an input other than u has such a register in its write quorum
+-- what a clear read rules out, on a ratifier: if a process has read the read quorum of u below the bound and met no 1,
+-- whatever it did later, then no process that loaded an empty proposal with an input other than u has such a register
+-- in its write quorum
 abbrev pub ChecksKeepOut : Object → List Access → Type 0
 ChecksKeepOut o h =
     (p u bound b r : ℕ) (later made : List Act)
@@ -48,7 +49,7 @@ abbrev pub IsFirstMover : Object → List Access → Type 0
 IsFirstMover o h =
     (w : ℕ) → stores_in h ≡ w ∷ [] → (p : ℕ) (d : Bool) (u : ℕ) → HasOutput o p d u h → w ≡ u + 1
 
--- what an object promises
+-- what an object promises, of any kind
 pub record IsDeciding (o : Object) : Type 0 where
   -- each input has a path, with at least one turn
   pub opens : (v : ℕ) → v < o.table.values → IsOpen o.table o.kind v []
@@ -57,7 +58,7 @@ pub record IsDeciding (o : Object) : Type 0 where
       (v : ℕ) (turns later : List Turn) (a b : Out)
       → IsPath o.table o.kind v turns a → IsPath o.table o.kind v (later ++ turns) b
       → (later ≡ []) × (a ≡ b)
-  -- no process has more turns
+  -- no process has more turns than the most of its kind
   pub bounded :
       (h : List Access) (p : ℕ) → IsObjectLawful o h → length (part p h) ≤ most_turns o.table o.kind
   -- a word holds only values that it can hold
@@ -68,9 +69,9 @@ pub record IsDeciding (o : Object) : Type 0 where
   -- coherence, in every lawful history
   pub coherence : (h : List Access) → IsObjectLawful o h → IsCoherent o h
 
--- what a ratifier promises besides
+-- what a ratifier promises beside that
 pub record IsRatifying (o : Object) : Type 0 where
   -- acceptance, in every lawful history
   pub acceptance : (h : List Access) → IsObjectLawful o h → IsAccepted o h
-  -- and an undecided output was contested
+  -- an undecided output was contested, in every lawful history
   pub contested : (h : List Access) → IsObjectLawful o h → IsContested o h

@@ -1,5 +1,5 @@
--- Small histories of process 0 alone, with the input 0, and its traces: some are lawful, and some are not. And
--- histories of a last object that several processes use.
+-- Small histories of process 0 alone, with the input 0, and its traces: some are lawful, and some are not. Between them
+-- stand histories of a last object that several processes use.
 use Rattle.std.specs.Prelude.{ℕ, zero, suc, ◌+◌, true, false, List, [], ◌∷◌, map, Option, Some, None}
 use Rattle.mb_quorum.specs.Unary.{unary_table}
 use Rattle.mb_deciding.specs.Types.{Value, Proposal, Quorum, Last, Act, Load, Store, Exchange, Turn, Access, Out, Kind, Entry}
@@ -16,7 +16,7 @@ zero_inputs process = 0
 abbrev pub small_ratifier : Object
 small_ratifier = ratifier_of (unary_table 2) zero_inputs
 
--- and a conciliator with three attempts
+-- a conciliator with three attempts. Every input is 0
 abbrev pub small_conciliator : Object
 small_conciliator = conciliator_of (unary_table 2) 2 zero_inputs
 
@@ -51,7 +51,7 @@ patient_run =
     turn 3 (Load Value 1) ∷ turn 3 (Store Value 1) ∷ turn 3 (Load Value 0) ∷ turn 3
     (Load Value 0) ∷ turn 3 (Load Value 0) ∷ []
 
--- it stores on attempt 0
+-- a conciliator with s = 2: the random word 3 stores on attempt 0, which it may not
 abbrev pub impatient_run : List Turn
 impatient_run = turn 3 (Store Value 1) ∷ turn 3 (Load Value 0) ∷ []
 
@@ -84,7 +84,7 @@ stored_over = exchange_by 2 2 ∷ exchange_by 1 1 ∷ exchange_by 0 0 ∷ []
 abbrev pub loaded_then_stored : List Turn
 loaded_then_stored = turn 0 (Store Last 1) ∷ turn 0 (Load Last 0) ∷ []
 
--- ---- traces
+-- ---- entries and traces of process 0
 -- n turns of process 0, each with this random word
 abbrev pub turns_of_one : ℕ → ℕ → List (ℕ × ℕ)
 turns_of_one zero word = []
@@ -106,20 +106,20 @@ clear_entries =
     (Store Proposal 1)
     ∷ entry.Access 0 (Load (Quorum 1) 0) (Some (answer true 0)) ∷ []
 
--- the same, with the output left out
+-- the entries of `clear_run`, with the output left out
 abbrev pub hidden_entries : List Entry
 hidden_entries =
     entry_of_one (Store (Quorum 0) 1) ∷ entry_of_one (Load Proposal 0) ∷ entry_of_one
     (Store Proposal 1)
     ∷ entry_of_one (Load (Quorum 1) 0) ∷ []
 
--- and those of `patient_run`
+-- the entries of `patient_run`
 abbrev pub patient_entries : List Entry
 patient_entries =
     entry_of_one (Load Value 0) ∷ entry_of_one (Load Value 0) ∷ entry_of_one
     (Load Value 0) ∷ entry_of_one (Store Value 1)
     ∷ entry.Access 0 (Load Value 1) (Some (answer false 0)) ∷ []
 
--- and those of `impatient_run`
+-- the entries of `impatient_run`
 abbrev pub impatient_entries : List Entry
 impatient_entries = entry_of_one (Load Value 0) ∷ entry_of_one (Store Value 1) ∷ []

@@ -42,7 +42,7 @@ stored_by (Load reg value) = None
 stored_by (Store reg value) = Some value
 stored_by (Exchange reg value found) = if found == 0 then Some value else None
 
--- ---- memory: by what an act loads and by what it stores, and by nothing else
+-- ---- memory, by what acts load and store alone
 -- what a word that held n holds after an act
 abbrev pub value_after : Reg → Act → ℕ → ℕ
 value_after reg act n =
@@ -57,13 +57,14 @@ value_in reg (a ∷ older) = value_after reg a.turn.act (value_in reg older)
 abbrev pub ReadsLast : Act → List Access → Type 0
 ReadsLast act older = IfSome (loaded_by act) (λ value. value ≡ value_in (reg_of_act act) older)
 
--- so does each act of a history
+-- each act of a history that loads has the value that the older accesses left
 abbrev pub IsMemoryTrue : List Access → Type 0
 IsMemoryTrue [] = Unit {0}
 IsMemoryTrue (a ∷ older) = ReadsLast a.turn.act older × IsMemoryTrue older
 
--- both load one word, or both store one value in one word, or both exchange it for one value. They can differ only in
--- what they find
+-- ---- acts of one op, and words of 64 bits
+-- two acts of one op: both load one word, or both store one value in one word, or both exchange it for one value. They
+-- can differ only in what they find
 abbrev pub IsSameOp : Act → Act → Type 0
 IsSameOp (Load reg x) (Load other y) = reg ≡ other
 IsSameOp (Load reg x) (Store other y) = ⊥
@@ -81,15 +82,16 @@ IsActInWords act =
     IfSome (loaded_by act) (λ value. value < 2 ^ 64)
     × IfSome (stored_by act) (λ value. value < 2 ^ 64)
 
--- and the random word is one
+-- what a turn loads and stores, and its random word, are words of 64 bits
 abbrev pub IsInWords : Turn → Type 0
 IsInWords turn = IsActInWords turn.act × (turn.word < 2 ^ 64)
 
--- so does each access
+-- each access of a history loads and stores words of 64 bits, and its random word is one
 abbrev pub AreInWords : List Access → Type 0
 AreInWords [] = Unit {0}
 AreInWords (a ∷ older) = IsInWords a.turn × AreInWords older
 
+-- ---- what one process did
 -- the turn, if the process made the access
 abbrev pub turn_by : ℕ → Access → Option Turn
 turn_by process a = if a.process == process then Some a.turn else None

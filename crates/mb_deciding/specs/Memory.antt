@@ -4,7 +4,7 @@ use Rattle.mb_deciding.specs.Types.{Reg, Value, Proposal, Quorum, Last, Op, Acce
 use Rattle.mb_deciding.specs.History.{value_in, IsActInWords}
 use Rattle.mb_deciding.specs.Place.{act_of, seen_by}
 
--- there is such a word
+-- an object's memory has such a word
 abbrev pub IsReg : Reg → Type 0
 IsReg Value = Unit {0}
 IsReg Proposal = Unit {0}

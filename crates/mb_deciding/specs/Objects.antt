@@ -1,4 +1,5 @@
--- Deciding objects: whole paths of one process, their prefixes, and lawful histories of one object.
+-- Deciding objects: whole paths of one process, their prefixes, and lawful histories of one object. Also what its words
+-- can hold, and how many turns a process makes at most.
 use Rattle.std.specs.Prelude.{◌≡◌, ◌≢◌, ℕ, zero, suc, ◌+◌, ◌<◌, ◌≤◌, max, count_ones, Bool, true, false, List, [], ◌++◌}
 use Rattle.mb_deciding.specs.OneObject.{Object}
 use Rattle.mb_quorum.specs.Quorum.{QuorumTable, IsMember}
@@ -34,8 +35,8 @@ IsOpen t kind input turns =
     (later : List Turn) × (later ≢ [])
     × ((output : Out) × IsPath t kind input (later ++ turns) output)
 
--- each load is true to memory. Values and random words are words of 64 bits. Each process's part is a prefix of a path
--- of its input
+-- a lawful history of one object: each load is true to memory, values and random words are words of 64 bits, and each
+-- process's part is a prefix of a path of its input, which is one of the table's values
 pub record IsObjectLawful (o : Object) (h : List Access) : Type 0 where
   pub memory : IsMemoryTrue h
   pub words : AreInWords h

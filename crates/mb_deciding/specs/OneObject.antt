@@ -25,7 +25,7 @@ conciliator_of t s inputs = object_of t (Conciliator s) inputs
 abbrev pub last_of : QuorumTable → (ℕ → ℕ) → Object
 last_of t inputs = object_of t LastObject inputs
 
--- its table is a quorum table
+-- the object's table is a quorum table
 abbrev pub ObjectIsSound : Object → Type 0
 ObjectIsSound o = IsQuorumTable o.table
 
@@ -39,6 +39,6 @@ pub record ObjectSetup : Type 0 where
 abbrev pub setup_of : QuorumTable → Kind → List ℕ → ObjectSetup
 setup_of t kind inputs = record { table = t; kind = kind; inputs = inputs }
 
--- its object
+-- the object of a setup
 abbrev pub object_in : ObjectSetup → Object
 object_in u = object_of u.table u.kind (slice_index u.inputs)

@@ -23,14 +23,15 @@ RatifierReaches t place seen follows =
     → IsRatifierOp t place op → CanFind t (InRatifier place) op seen
     → IsReached t Ratifier v follows (record { act = act_of op seen; word = word } ∷ turns)
 
--- and one at the place in a conciliator, with this random word
+-- a process at the place in a conciliator, whose next access found this value and had this random word, has reached
+-- what follows
 abbrev pub ConciliatorReaches : QuorumTable → ConciliatorPlace → ℕ → ℕ → Next → Type 0
 ConciliatorReaches t place seen word follows =
     (s v : ℕ) (turns : List Turn) (op : Op) → PcIsAt t (Conciliator s) v (InConciliator place) turns
     → IsConciliatorOp place op → CanFind t (InConciliator place) op seen
     → IsReached t (Conciliator s) v follows (record { act = act_of op seen; word = word } ∷ turns)
 
--- and one at the place in a last object
+-- a process at the place in a last object, whose next access found this value, has reached what follows
 abbrev pub LastReaches : QuorumTable → LastPlace → ℕ → Next → Type 0
 LastReaches t place seen follows =
     (v : ℕ) (turns : List Turn) (op : Op) (word : ℕ) → PcIsAt t LastObject v (InLast place) turns
@@ -46,7 +47,7 @@ pub record IsStep (t : QuorumTable) (pc : Pc) (makes : Op → ℕ → Type 0) (w
   -- it is the one that comes next, and it was made
   pub is : IsOpAt t pc op
   pub made : makes op seen
-  -- if it can find that, a process that was at the place has reached what follows
+  -- if the access can find that value, a process that was at the place has reached what follows
   pub reached :
       (kind : Kind) (v : ℕ) (turns : List Turn) → PcIsAt t kind v pc turns → CanFind t pc op seen
       → IsReached t kind v follows (record { act = act_of op seen; word = word } ∷ turns)

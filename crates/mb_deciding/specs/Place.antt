@@ -1,4 +1,4 @@
--- The place of one process in an object, what it has made so far, and what it does next.
+-- The place of one process in an object, what it has made so far, what it does next, and what it may find then.
 use Rattle.std.specs.Prelude.{◌≡◌, ◌≢◌, ℕ, ◌+◌, ◌<◌, ◌≤◌, ◌^◌, ◌↔◌, List, [], ◌∷◌}
 use Rattle.mb_quorum.specs.Quorum.{QuorumTable, IsMember}
 use Rattle.mb_deciding.specs.Types.{Reg, Value, Proposal, Quorum, Last, Act, Load, Store, Exchange, Op, Turn, Access}
@@ -105,7 +105,7 @@ IsOpAt t (InRatifier place) op = IsRatifierOp t place op
 IsOpAt t (InConciliator place) op = IsConciliatorOp place op
 IsOpAt t (InLast place) op = IsLastOp place op
 
--- the act, with the value that was loaded
+-- the act of an op, with the value that it found
 abbrev pub act_of : Op → ℕ → Act
 act_of (to.Load reg) seen = Load reg seen
 act_of (to.Store reg value) seen = Store reg value

@@ -5,7 +5,7 @@ use Rattle.std.specs.Int.{bit_at}
 use Rattle.mb_quorum.specs.Quorum.{QuorumTable, IsMember}
 use Rattle.mb_deciding.specs.Types.{Proposal, Quorum, Act, Load, Store}
 
--- for each register of the quorum below the bound, the act. The registers rise with time
+-- an act for each register of the quorum below the bound. The registers rise with time
 abbrev pub acts_below : (ℕ → Act) → ℕ → ℕ → List Act
 acts_below act zero mask = []
 acts_below act (suc r) mask =
@@ -30,12 +30,12 @@ Prefers t v u acts =
     ((u ≡ v) × (acts ≡ Store Proposal (v + 1) ∷ Load Proposal 0 ∷ announcement t v))
     ⊎ (acts ≡ Load Proposal (u + 1) ∷ announcement t v)
 
--- after that the registers of the preference's read quorum below the bound were loaded, and all were 0
+-- a process has its preference, and then loaded the registers of its read quorum below the bound, and all were 0
 abbrev pub ReadsClear : QuorumTable → ℕ → ℕ → ℕ → List Act → Type 0
 ReadsClear t v u bound acts =
     (begin : List Act) × Prefers t v u begin × (acts ≡ zeros_below bound (t.read u) ++ begin)
 
--- after that 1 was loaded from a register of that read quorum
+-- a process has its preference, loaded 0 from some registers of its read quorum, and then 1 from a register of it
 abbrev pub ReadsOne : QuorumTable → ℕ → ℕ → List Act → Type 0
 ReadsOne t v u [] = ⊥
 ReadsOne t v u (act ∷ older) =

@@ -1,4 +1,4 @@
--- One object with its processes, in the course of a schedule.
+-- One object with its processes, in the course of a schedule, and which tables it can have.
 use Rattle.std.specs.Prelude.{◌≡◌, ℕ, ◌<◌, ◌≤◌, List, [], length, slice_index, slice_index_or, Option, Some, None}
 use Rattle.mb_quorum.specs.Quorum.{QuorumTable, IsQuorumTable}
 use Rattle.mb_deciding.specs.OneObject.{ObjectSetup, object_in}
@@ -10,6 +10,7 @@ use Rattle.mb_deciding.specs.Place.{IsReached}
 use Rattle.mb_deciding.specs.Trace.{history_of, AreEntriesOf}
 use Rattle.mb_deciding.specs.Memory.{IsMemory}
 
+-- ---- the kind of an object, and its table
 -- the number of attempts fits a place
 abbrev pub IsFitKind : Kind → Type 0
 IsFitKind (Conciliator s) = s ≤ 63
@@ -32,6 +33,7 @@ IsSameFor LastObject t u = t ≡ u
 abbrev pub bare_table : ℕ → QuorumTable
 bare_table m = record { values = m; registers = 0; write = λ v. 0; read = λ v. 0 }
 
+-- ---- what a run holds after the turns of a schedule
 -- the output, if the process has it
 abbrev pub out_of : Next → Option Out
 out_of (leads.Go pc) = None
@@ -53,7 +55,7 @@ pub record IsRun (u : ObjectSetup) (schedule : List (ℕ × ℕ)) (run : RunStat
   -- each process has an input of the table
   pub processes : length run.places ≡ length u.inputs
   pub within : (p : ℕ) → p < length u.inputs → slice_index u.inputs p < u.table.values
-  -- and each process is where its part leads
+  -- each process is where its part leads
   pub reached :
       (p : ℕ) (d : Next) → p < length run.places
       → IsReached u.table u.kind (slice_index u.inputs p) (slice_index_or run.places p d)

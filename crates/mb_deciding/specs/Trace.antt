@@ -6,6 +6,7 @@ use Rattle.mb_deciding.specs.Types.{Access, Out, Entry}
 use Rattle.mb_deciding.specs.declared.trace.Entry.TheVariants as entry
 use Rattle.mb_deciding.specs.Objects.{IsObjectLawful, HasOutput}
 
+-- the process of an entry
 abbrev pub process_of : Entry → ℕ
 process_of (entry.Access process act out) = process
 process_of (entry.Done process) = process
@@ -23,7 +24,7 @@ history_from (turn ∷ schedule) [] h = h
 history_from (turn ∷ schedule) (e ∷ entries) h =
     history_from schedule entries (with_entry turn.1 e h)
 
--- the accesses of the entries
+-- the history of the entries of a schedule, each with the random word of its turn
 abbrev pub history_of : List (ℕ × ℕ) → List Entry → List Access
 history_of schedule entries = history_from schedule entries []
 

@@ -5,12 +5,12 @@ use Rattle.mb_claim.specs.declared.access.ClaimOp.{ClaimOp}
 use Rattle.mb_claim.specs.declared.access.Stage.TheVariants as stage
 use Rattle.mb_mailbox.specs.Imports.{Claim, IsClaimIn, SeatView, Stage, Stream, TableSize, ToClaims, access_of, claim_stage, claims_at, consumer_of, next_u64, note_of, part_on, with_access}
 use Rattle.mb_mailbox.specs.declared.consumer.Poll.{Poll}
-use Rattle.mb_mailbox.specs.declared.place.Place.{Place}
-use Rattle.mb_mailbox.specs.declared.place.Place.TheVariants.{At}
+use Rattle.mb_world.specs.declared.place.Place.{Place}
+use Rattle.mb_world.specs.declared.place.Place.TheVariants.{At}
 use Rattle.mb_mailbox.specs.Consumers.{ConsumerView, IsConsumer, parts_of}
 use Rattle.mb_mailbox.specs.ConsumerStep.{ConsumerStep, stage_answer}
 use Rattle.mb_mailbox.specs.Moves.{HasLoads, HasPlace, HasTurns, moved_to}
-use Rattle.mb_mailbox.specs.NoteLists.{place_after}
+use Rattle.mb_world.specs.Places.{place_after}
 use Rattle.mb_mailbox.specs.Pursuits.{HasCompeted}
 use Rattle.mb_mailbox.specs.Steps.{AreSteps, with_note}
 use Rattle.mb_mailbox.proofs.Lists.{set_here, set_same, set_twice, some_same}

@@ -4,8 +4,8 @@ use Rattle.std.specs.Prelude.{Some, slice_get}
 use Rattle.mb_mailbox.specs.Imports.{Claim, ReaderSeatView, SeatView, Stream}
 use Rattle.mb_mailbox.specs.declared.consumer.Poll.{Poll}
 use Rattle.mb_mailbox.specs.declared.consumer.Poll.TheVariants as poll
-use Rattle.mb_mailbox.specs.declared.place.Place.{Place}
-use Rattle.mb_mailbox.specs.declared.place.Place.TheVariants.{At}
+use Rattle.mb_world.specs.declared.place.Place.{Place}
+use Rattle.mb_world.specs.declared.place.Place.TheVariants.{At}
 use Rattle.std.specs.Prelude.{List}
 use Rattle.mb_mailbox.specs.Consumers.{ConsumerView, IsConsumerOf}
 use Rattle.mb_mailbox.specs.Mailboxes.{MailboxView}

@@ -14,8 +14,7 @@ use Rattle.mb_world.specs.Reporting.{values_put}
 use Rattle.mb_mailbox.specs.Imports.{History, Stream}
 use Rattle.mb_mailbox.specs.Called.{IsCalled, WerePolled}
 use Rattle.mb_mailbox.specs.Consumers.{ConsumerView, IsConsumerOf}
-use Rattle.mb_mailbox.specs.Given.{AreAllGiven, AreGiven}
-use Rattle.mb_mailbox.specs.HubRuns.{ArePollJobs, ArePutJobs}
+use Rattle.mb_mailbox.specs.Given.{AreAllGiven, AreGiven, ArePollJobs, ArePutJobs}
 use Rattle.mb_mailbox.specs.Hubs.{HubView, IsHub, IsHubOf}
 use Rattle.mb_mailbox.specs.Jobs.{HasReadToEnd, IsOnLanes, IsPollEnd, IsPutEnd, ends_met}
 use Rattle.mb_mailbox.specs.Mailboxes.{MailboxView}

@@ -11,9 +11,9 @@ use Rattle.mb_mailbox.specs.Imports.{Lost, Note, ObjectTurn, Parts, PoolAccess, 
 use Rattle.mb_mailbox.specs.Imports.{claims_in, consumer_of, load, note_of, part_on, place_past, with_load}
 use Rattle.mb_mailbox.specs.Consumers.{AreEnds, ConsumerView, ConsumerIsAt, ConsumerIsBefore, IsConsumer, StandsOn, parts_of}
 use Rattle.mb_mailbox.specs.Moves.{HasLoads, HasPlace, HasTurns, reads_with_item, moved_to}
-use Rattle.mb_mailbox.specs.NoteLists.{place_after}
-use Rattle.mb_mailbox.specs.declared.place.Place.{Place}
-use Rattle.mb_mailbox.specs.declared.place.Place.TheVariants.{At, Before}
+use Rattle.mb_world.specs.Places.{place_after}
+use Rattle.mb_world.specs.declared.place.Place.{Place}
+use Rattle.mb_world.specs.declared.place.Place.TheVariants.{At, Before}
 use Rattle.mb_mailbox.specs.Laws.{Laws}
 use Rattle.mb_mailbox.proofs.KnownLoads.{Known, past_item, read-cases, read-more}
 use Rattle.mb_mailbox.proofs.Lists.{get_some, get_within, some_same}

@@ -1,37 +1,41 @@
 -- From the jobs through what was begun to the ends.
 use Rattle.std.proofs.Common.{◌≡◌, ℕ, [], false, true, sym, ap, ◌∙◌, subst}
 use Rattle.mb_mailbox.specs.Imports.{Stream}
-use Rattle.mb_mailbox.specs.Begun.{PollKeeps, PollPromises, PutKeeps, PutPromises}
+use Rattle.mb_mailbox.specs.Begun.{Keeps, PollPromises, PutPromises}
 use Rattle.mb_mailbox.specs.Consumers.{ConsumerView}
 use Rattle.mb_mailbox.specs.Jobs.{IsPollEnd, IsPutEnd, ends_met}
 use Rattle.mb_mailbox.specs.declared.gate.Who.{Who}
-use Rattle.mb_mailbox.specs.declared.crew.worker.PollWorker.{PollWorker}
-use Rattle.mb_mailbox.specs.declared.crew.worker.PollWorker.TheVariants as poll
-use Rattle.mb_mailbox.specs.declared.crew.worker.PutWorker.{PutWorker}
-use Rattle.mb_mailbox.specs.declared.crew.worker.PutWorker.TheVariants as put
+use Rattle.mb_mailbox.specs.declared.crew.worker.Worker.{Worker}
+use Rattle.mb_mailbox.specs.declared.crew.worker.Worker.TheVariants as worker
 use Rattle.mb_mailbox.specs.declared.crew.jobs.PollDone.{PollDone}
 use Rattle.mb_mailbox.specs.declared.crew.jobs.PollJob.{PollJob}
+use Rattle.mb_mailbox.specs.declared.crew.jobs.Polls.{Polls}
 use Rattle.mb_mailbox.specs.declared.crew.jobs.PutDone.{PutDone}
 use Rattle.mb_mailbox.specs.declared.crew.jobs.PutJob.{PutJob}
+use Rattle.mb_mailbox.specs.declared.crew.jobs.Puts.{Puts}
 use Rattle.mb_mailbox.proofs.EndsMet.{none_met}
 use Rattle.mb_mailbox.proofs.Marks.{clear}
 
 module _ {G Z : Type 0} (may_stop may_pass : G → Who → ℕ → Type 0) (gate : G) where
-  pub put_kept : (j : PutJob Z) (b : PutWorker G Z) (d : PutDone Z)
-      → PutPromises may_stop may_pass gate j b → PutKeeps may_stop may_pass b d
+  pub put_kept : (j : PutJob Z) (b : Worker (PutDone Z) (Puts G Z)) (d : PutDone Z)
+      → PutPromises may_stop may_pass gate j b
+      → Keeps (λ p d. IsPutEnd (may_stop p.gate.value) (may_pass p.gate.value) p.job.value d) b d
       → IsPutEnd (may_stop gate) (may_pass gate) j d
-  put_kept j (put.Spawned h) d p k =
+  put_kept j (worker.Spawned h) d p k =
       subst (λ (g : G). IsPutEnd (may_stop g) (may_pass g) j d) p.1
       (subst (λ (i : PutJob Z). IsPutEnd (may_stop h.promise.gate.value)
       (may_pass h.promise.gate.value) i d) p.0 k)
-  put_kept j (put.Inline e) d p k = subst (λ (e : PutDone Z). IsPutEnd (may_stop gate) (may_pass gate) j e) (sym k) p.0
+  put_kept j (worker.Inline e) d p k =
+      subst (λ (e : PutDone Z). IsPutEnd (may_stop gate) (may_pass gate) j e) (sym k) p.0
 
 module _ {G R Z : Type 0} (may_stop may_pass : G → Who → ℕ → Type 0) (stream : R → Stream) (gate : G) where
-  pub poll_kept : (from end budget : ℕ) (j : PollJob R Z) (b : PollWorker G R Z) (d : PollDone Z)
+  pub poll_kept : (from end budget : ℕ) (j : PollJob R Z) (b : Worker (PollDone Z) (Polls G R Z)) (d : PollDone Z)
       → PollPromises may_stop may_pass stream gate from end budget j b
-      → PollKeeps may_stop may_pass stream b d → IsPollEnd (may_stop gate) (may_pass gate) from end
+      → Keeps (λ p d. IsPollEnd (may_stop p.gate.value) (may_pass p.gate.value) p.from p.end p.budget
+      (stream p.rng.value) p.consumer.value d) b d
+      → IsPollEnd (may_stop gate) (may_pass gate) from end
       budget (stream j.rng) j.consumer d
-  poll_kept from end budget j (poll.Spawned h) d p k =
+  poll_kept from end budget j (worker.Spawned h) d p k =
       let its = may_stop h.promise.gate.value in
       let lets = may_pass h.promise.gate.value in
       let one = h.promise.consumer.value in
@@ -42,7 +46,7 @@ module _ {G R Z : Type 0} (may_stop may_pass : G → Who → ℕ → Type 0) (st
       (subst (λ (n : ℕ). IsPollEnd its lets from end n (stream rng) one d) p.most
       (subst (λ (n : ℕ). IsPollEnd its lets from n h.promise.budget (stream rng) one d) p.last
       (subst (λ (n : ℕ). IsPollEnd its lets n h.promise.end h.promise.budget (stream rng) one d) p.first k)))))
-  poll_kept from end budget j (poll.Inline e) d p k =
+  poll_kept from end budget j (worker.Inline e) d p k =
       subst (λ (e : PollDone Z). IsPollEnd (may_stop gate) (may_pass gate) from end budget
       (stream j.rng) j.consumer e) (sym k) p.0
 

@@ -105,7 +105,7 @@ fresh laws size r p k h reads follows ne lawful is =
     let once : IsOnceEach (k ∷ cells_met p reads) = subst IsOnceEach met (now.once p) in
     let was = laws.older size (a ∷ []) h lawful in (
       λ gave.
-          let all = laws.all size r p h was (subst FollowsLinks (sym is) follows) in
+          let all = laws.has_met_all size r p h was (subst FollowsLinks (sym is) follows) in
           once.0 (subst (λ (d : History). Has (cells_met p d) k) is (all.all k (subst (Gave k) (sym is) gave) here)),
       now,
     )

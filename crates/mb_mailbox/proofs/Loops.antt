@@ -7,7 +7,8 @@ use Rattle.std.proofs.lemmas.List.{length-append, map-append}
 use Rattle.std.proofs.lemmas.List.Elements.{All-cons, All-head, All-push, All-tail}
 use Rattle.std.proofs.lemmas.List.Sums.{sum_by-append, sum_by-cons}
 use Rattle.mb_mailbox.specs.Consumers.{ConsumerView}
-use Rattle.mb_mailbox.specs.HubRuns.{ArePollJobs, ArePutJobs, HasNumber, with_taken_consumers, with_taken_producers}
+use Rattle.mb_mailbox.specs.Given.{ArePollJobs, ArePutJobs, HasNumber}
+use Rattle.mb_mailbox.specs.HubRuns.{with_taken_consumers, with_taken_producers}
 use Rattle.mb_mailbox.specs.Hubs.{HubView, IsNewConsumer, new_producer, with_taken_consumer, with_taken_producer}
 use Rattle.mb_mailbox.specs.Mailboxes.{MailboxView}
 use Rattle.mb_mailbox.specs.Producers.{ProducerView}

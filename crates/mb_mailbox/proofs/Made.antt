@@ -15,7 +15,7 @@ use Rattle.mb_mailbox.specs.LaneNotes.{NotesView}
 use Rattle.mb_mailbox.specs.NoteLists.{HasAllRoom, NotesGrow}
 use Rattle.mb_mailbox.specs.ConsumerStep.{ConsumerStep, link_answer, stage_answer}
 use Rattle.mb_mailbox.specs.Steps.{IsStep, note_with, with_note}
-use Rattle.mb_mailbox.specs.declared.place.Place.{Place}
+use Rattle.mb_world.specs.declared.place.Place.{Place}
 
 -- the consumer with these seats, places and notes
 abbrev pub at_views : ReaderSeatView → SeatView → List Place → List (List Note) → ConsumerView

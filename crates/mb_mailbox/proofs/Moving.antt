@@ -7,8 +7,8 @@ use Rattle.mb_mailbox.specs.Imports.{Link, Lost, MayLookPast, MayRead, Note, Obj
 use Rattle.mb_mailbox.specs.Imports.{claims_in, consumer_of, load, note_of, place_past, with_load, word_of}
 use Rattle.mb_mailbox.specs.Consumers.{AreEnds, ConsumerView, ConsumerIsAt, ConsumerIsBefore, IsConsumer, parts_of}
 use Rattle.mb_mailbox.specs.Moves.{HasLoads, HasPlace, HasTurns, reads_with_link, moved_to}
-use Rattle.mb_mailbox.specs.declared.place.Place.{Place}
-use Rattle.mb_mailbox.specs.declared.place.Place.TheVariants.{At, Before}
+use Rattle.mb_world.specs.declared.place.Place.{Place}
+use Rattle.mb_world.specs.declared.place.Place.TheVariants.{At, Before}
 use Rattle.mb_mailbox.specs.Laws.{Laws}
 use Rattle.mb_mailbox.proofs.KnownLoads.{Known, fresh, known, past_apart, past_item, past_link, read-cases, read-more}
 use Rattle.mb_mailbox.proofs.Lists.{get_some, get_within}

@@ -7,7 +7,7 @@ use Rattle.mb_mailbox.specs.Consumers.{IsConsumer, StandsOn, parts_of}
 use Rattle.mb_mailbox.specs.LaneNotes.{NotesView}
 use Rattle.mb_mailbox.specs.Mailboxes.{MailboxView}
 use Rattle.mb_mailbox.specs.NewConsumers.{AreHeads, AreNoNotes}
-use Rattle.mb_mailbox.specs.declared.place.Place.{Place}
+use Rattle.mb_world.specs.declared.place.Place.{Place}
 use Rattle.mb_mailbox.proofs.Made.{at_views}
 
 abbrev pub new_reader : MailboxView → ℕ → PartList → ReaderSeatView

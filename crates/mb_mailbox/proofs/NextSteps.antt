@@ -7,7 +7,7 @@ use Rattle.mb_mailbox.specs.Imports.{Claim, Claims, Cursor, IsClaimPrefix, Item,
 use Rattle.mb_mailbox.specs.Imports.{claim_stage, claims_at, claims_in, consumer_of, load, look_of, part_on, word_of}
 use Rattle.mb_mailbox.specs.declared.consumer.Poll.{Poll}
 use Rattle.mb_mailbox.specs.declared.consumer.Poll.TheVariants as poll
-use Rattle.mb_mailbox.specs.declared.place.Place.TheVariants.{At, Before}
+use Rattle.mb_world.specs.declared.place.Place.TheVariants.{At, Before}
 use Rattle.mb_mailbox.specs.Consumers.{ConsumerView, IsConsumer, parts_of}
 use Rattle.mb_mailbox.specs.ConsumerStep.{ConsumerStep, IsLastMet, link_answer, stage_answer}
 use Rattle.mb_mailbox.specs.ConsumerStep.{competes, looks, takes}

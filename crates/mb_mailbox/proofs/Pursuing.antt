@@ -7,12 +7,12 @@ use Rattle.mb_shared_cells.specs.Vocabulary.{ItemMakes}
 use Rattle.mb_mailbox.specs.Imports.{Claim, Item, Note, ReaderSeatView, SeatView, Stage, Stream, ToCells, Took, claim_stage, claims_at, load, note_of}
 use Rattle.mb_mailbox.specs.declared.consumer.Poll.{Poll}
 use Rattle.mb_mailbox.specs.declared.consumer.Poll.TheVariants as poll
-use Rattle.mb_mailbox.specs.declared.place.Place.{Place}
-use Rattle.mb_mailbox.specs.declared.place.Place.TheVariants.{At, Before}
+use Rattle.mb_world.specs.declared.place.Place.{Place}
+use Rattle.mb_world.specs.declared.place.Place.TheVariants.{At, Before}
 use Rattle.mb_mailbox.specs.Consumers.{ConsumerView, IsConsumer, parts_of}
 use Rattle.mb_mailbox.specs.ConsumerStep.{ConsumerStep, stage_answer}
 use Rattle.mb_mailbox.specs.Moves.{HasPlace, moved_to, reads_with_item}
-use Rattle.mb_mailbox.specs.NoteLists.{place_after}
+use Rattle.mb_world.specs.Places.{place_after}
 use Rattle.mb_mailbox.specs.Pursuits.{HasCompeted, IsOfClaim, IsPursuit, competed, holding}
 use Rattle.mb_mailbox.specs.Steps.{AreSteps, HasNoteOnEach, outcome, with_note}
 use Rattle.mb_mailbox.proofs.Lists.{set_here, set_twice}

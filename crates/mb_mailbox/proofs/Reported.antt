@@ -10,10 +10,11 @@ use Rattle.mb_world.specs.Plan.{Histories, Plan, consumers_of}
 use Rattle.mb_world.specs.Report.{DiaryView, ReportView, diary, note}
 use Rattle.mb_world.specs.Reporting.{HasMetAll, IsDiaryOf, IsReportOf, any_below, is_took, is_taken, lane_view, values_put}
 use Rattle.mb_mailbox.specs.Imports.{Claim, IsClaimIn, IsClaimPrefix, Note, ObjectTurn, Parts, Stage, cells_met, claim_stage, consumer_of}
-use Rattle.mb_mailbox.specs.Gathering.{IsReportIn, begun_in, diary_in, has_begun_at, is_taken_in, items_in, lane_in, notes_in}
+use Rattle.mb_world.specs.Places.{has_begun_at}
+use Rattle.mb_mailbox.specs.Gathering.{IsReportIn, begun_in, diary_in, is_taken_in, items_in, lane_in, notes_in}
 use Rattle.mb_mailbox.specs.Hubs.{HubView, ConsumerRecordView}
 use Rattle.mb_mailbox.specs.Mailboxes.{MailboxView, plan_at}
-use Rattle.mb_mailbox.specs.declared.place.Place.{Place}
+use Rattle.mb_world.specs.declared.place.Place.{Place}
 use Rattle.mb_mailbox.proofs.Lists.{get_some}
 use Rattle.mb_mailbox.proofs.TakenIn.{Keeps, Tells}
 use Rattle.mb_mailbox.proofs.ToldDiaries.{diary_is}

@@ -8,10 +8,10 @@ use Rattle.std.proofs.lemmas.List.Elements.{All-cons, All-head, All-tail}
 use Rattle.mb_cells.specs.Vocabulary.{HasFoundNone}
 use Rattle.mb_shared_cells.specs.Vocabulary.{CellsName}
 use Rattle.mb_mailbox.specs.Imports.{Stream}
-use Rattle.mb_mailbox.specs.Called.{WasPassed, WasPolled, WerePassed, WerePolled}
+use Rattle.mb_mailbox.specs.Called.{WasPassed, WerePassed, WerePolled}
 use Rattle.mb_mailbox.specs.Calls.{ArePassed}
 use Rattle.mb_mailbox.specs.Consumers.{ConsumerView}
-use Rattle.mb_mailbox.specs.HubRuns.{ArePollJobs, ArePutJobs}
+use Rattle.mb_mailbox.specs.Given.{ArePollJobs, ArePutJobs}
 use Rattle.mb_mailbox.specs.Hubs.{HubView, IsHub, new_producer, put_list_of}
 use Rattle.mb_mailbox.specs.Jobs.{HasReadEnds, HasReadToEnd, IsFront, IsOnLanes, IsPollEnd, IsPutEnd, IsStopBefore, IsStoppedPoll, accesses_made, ends_met}
 use Rattle.mb_mailbox.specs.Mailboxes.{MailboxView}
@@ -33,7 +33,8 @@ abbrev pub left_by : ConsumerView → Bool → ConsumerLeft
 left_by s stopped = record { ledger = record { places = s.places; notes = s.notes }; reads = s.reader.part; claimed = s.seat.part; stopped = stopped }
 
 -- the end marks that a consumer has loaded, by its number
-met_at : (from end c : ℕ) (s : ConsumerView) → s.reader.reader ≡ c → HasReadEnds from end s → HasMetEnds from end c s.reader.part
+met_at : (from end c : ℕ) (s : ConsumerView) → s.reader.reader ≡ c → HasReadEnds from end s
+    → HasMetEnds from end c s.reader.part
 met_at from end c s is r = record {
   marks = r.marks;
   within = r.within;
@@ -43,7 +44,8 @@ met_at from end c s is r = record {
   once = r.once;
 }
 
-behind : (stopped : Bool) (list put : List ℕ) (full : ℕ) → (stopped ≡ false → length put + full ≡ length list) → (stopped ≡ true → full ≡ 0)
+behind : (stopped : Bool) (list put : List ℕ) (full : ℕ) → (stopped ≡ false → length put + full ≡ length list)
+    → (stopped ≡ true → full ≡ 0)
     → full ≡ items_behind stopped list put
 behind true list put full rest none = none refl
 behind false list put full rest none = let e = rest refl in omega (arith, e)
@@ -64,7 +66,8 @@ module _ {Z : Type 0} (m : MailboxView) (may_stop may_pass : Who → ℕ → Typ
     pub full : d.stopped ≡ false → length d.producer.items + d.full ≡ length v.items
     pub found : d.stopped ≡ false → d.full ≢ 0 → HasFoundNone m.cells.size.cells p d.producer.seat.part
     pub none : d.stopped ≡ true → d.full ≡ 0
-    pub stop : d.stopped ≡ true → d.aborted ≡ false → IsStoppedPut may_stop m.cells.size.cells p v.items (lane_left d.producer d.stopped)
+    pub stop : d.stopped ≡ true → d.aborted ≡ false
+        → IsStoppedPut may_stop m.cells.size.cells p v.items (lane_left d.producer d.stopped)
     pub passed : d.aborted ≡ false → WasPassed may_pass p v.items (lane_left d.producer d.stopped)
 
   abbrev pub AreAt : ℕ → List (Vec ℕ Z) → List (PutDone Z) → Type 0
@@ -72,7 +75,8 @@ module _ {Z : Type 0} (m : MailboxView) (may_stop may_pass : Who → ℕ → Typ
   AreAt p (v ∷ vs) (d ∷ ds) = IsPutEndAt p v d × AreAt (suc p) vs ds
   AreAt p _ _ = ⊥
 
-  end_at : (p : ℕ) (v : Vec ℕ Z) (j : PutJob Z) (d : PutDone Z) → j.producer ≡ new_producer m p → j.list ≡ v → IsPutEnd may_stop may_pass j d → IsPutEndAt p v d
+  end_at : (p : ℕ) (v : Vec ℕ Z) (j : PutJob Z) (d : PutDone Z) → j.producer ≡ new_producer m p → j.list ≡ v
+      → IsPutEnd may_stop may_pass j d → IsPutEndAt p v d
   end_at p v j d is list e =
       let lane : d.producer.seat.lane ≡ p = e.same.lane ∙ ap (λ (s : ProducerView). s.seat.lane) is in
       let table : d.producer.seat.table ≡ m.cells = e.same.table ∙ ap (λ (s : ProducerView). s.seat.table) is in
@@ -101,7 +105,8 @@ module _ {Z : Type 0} (m : MailboxView) (may_stop may_pass : Who → ℕ → Typ
         };
       }
 
-  are_at : (p : ℕ) (vs : List (Vec ℕ Z)) (js : List (PutJob Z)) (ds : List (PutDone Z)) → ArePutJobs m p vs js → AllZip (IsPutEnd may_stop may_pass) js ds → AreAt p vs ds
+  are_at : (p : ℕ) (vs : List (Vec ℕ Z)) (js : List (PutJob Z)) (ds : List (PutDone Z)) → ArePutJobs m p vs js
+      → AllZip (IsPutEnd may_stop may_pass) js ds → AreAt p vs ds
   are_at p [] [] [] a z = tt
   are_at p [] [] (d ∷ ds) a z = absurd z
   are_at p [] (j ∷ js) ds a z = absurd a
@@ -109,13 +114,15 @@ module _ {Z : Type 0} (m : MailboxView) (may_stop may_pass : Who → ℕ → Typ
   are_at p (v ∷ vs) (j ∷ js) [] a z = absurd z
   are_at p (v ∷ vs) (j ∷ js) (d ∷ ds) a z = (end_at p v j d a.0 a.1 z.0, are_at (suc p) vs js ds a.2 z.1)
 
-  count_lanes : (p : ℕ) (vs : List (Vec ℕ Z)) (ds : List (PutDone Z)) → AreAt p vs ds → CountFrom (λ (s : ProducerView). s.seat.lane) p (producers ds)
+  count_lanes : (p : ℕ) (vs : List (Vec ℕ Z)) (ds : List (PutDone Z)) → AreAt p vs ds
+      → CountFrom (λ (s : ProducerView). s.seat.lane) p (producers ds)
   count_lanes p [] [] a = tt
   count_lanes p [] (d ∷ ds) a = absurd a
   count_lanes p (v ∷ vs) [] a = absurd a
   count_lanes p (v ∷ vs) (d ∷ ds) a = (a.0.lane, count_lanes (suc p) vs ds a.1)
 
-  fronts_of : (p : ℕ) (vs : List (Vec ℕ Z)) (ds : List (PutDone Z)) → AreAt p vs ds → AllZip (λ list l. IsFront l.put list) (lists_in vs) (lanes_of ds)
+  fronts_of : (p : ℕ) (vs : List (Vec ℕ Z)) (ds : List (PutDone Z)) → AreAt p vs ds
+      → AllZip (λ list l. IsFront l.put list) (lists_in vs) (lanes_of ds)
   fronts_of p [] [] a = tt
   fronts_of p [] (d ∷ ds) a = absurd a
   fronts_of p (v ∷ vs) [] a = absurd a
@@ -129,7 +136,8 @@ module _ {Z : Type 0} (m : MailboxView) (may_stop may_pass : Who → ℕ → Typ
   ended_of p (v ∷ vs) (d ∷ ds) a =
       λ i. Some (record { items = d.producer.items; ended = a.0.over i }) ∷ ended_of (suc p) vs ds a.1 i
 
-  parts_of_lanes : (ds : List (PutDone Z)) → map (λ (s : ProducerView). Some s.seat.part) (producers ds) ≡ map (λ (l : LaneLeft). Some l.part) (lanes_of ds)
+  parts_of_lanes : (ds : List (PutDone Z))
+      → map (λ (s : ProducerView). Some s.seat.part) (producers ds) ≡ map (λ (l : LaneLeft). Some l.part) (lanes_of ds)
   parts_of_lanes [] = refl
   parts_of_lanes (d ∷ ds) = ap (λ l. Some d.producer.seat.part ∷ l) (parts_of_lanes ds)
 
@@ -143,7 +151,8 @@ module _ {Z : Type 0} (m : MailboxView) (may_stop may_pass : Who → ℕ → Typ
       let one = behind d.stopped v.items d.producer.items d.full a.0.full a.0.none in
       sum_by-cons (λ (d : PutDone Z). d.full) d ds ∙ (λ i. one i + beyond_of (suc p) vs ds a.1 i)
 
-  cut_of : (p : ℕ) (vs : List (Vec ℕ Z)) (ds : List (PutDone Z)) → AreAt p vs ds → AreCutByCells m.cells.size.cells p (lists_in vs) (lanes_of ds)
+  cut_of : (p : ℕ) (vs : List (Vec ℕ Z)) (ds : List (PutDone Z)) → AreAt p vs ds
+      → AreCutByCells m.cells.size.cells p (lists_in vs) (lanes_of ds)
   cut_of p [] [] a = tt
   cut_of p [] (d ∷ ds) a = absurd a
   cut_of p (v ∷ vs) [] a = absurd a
@@ -151,7 +160,8 @@ module _ {Z : Type 0} (m : MailboxView) (may_stop may_pass : Who → ℕ → Typ
       (λ f short. let here = a.0.full f in a.0.found f (λ z. omega (arith, here, z, short)), cut_of (suc p) vs ds a.1)
 
   -- which producers were stopped, if the run is not aborted
-  stops_of : (p : ℕ) (vs : List (Vec ℕ Z)) (ds : List (PutDone Z)) → AreAt p vs ds → All (λ (d : PutDone Z). d.aborted ≡ false) ds
+  stops_of : (p : ℕ) (vs : List (Vec ℕ Z)) (ds : List (PutDone Z)) → AreAt p vs ds
+      → All (λ (d : PutDone Z). d.aborted ≡ false) ds
       → AreStoppedPuts may_stop m.cells.size.cells p (lists_in vs) (lanes_of ds)
   stops_of p [] [] a on = tt
   stops_of p [] (d ∷ ds) a on = absurd a
@@ -208,18 +218,21 @@ module _ {Z : Type 0} (m : MailboxView) (may_stop may_pass : Who → ℕ → Typ
     numbered stream from end budget (suc c) js ds a.1 z.1,
   )
 
-  count_seats : (from end budget c : ℕ) (ds : List (PollDone Z)) → AreNumbered from end budget c ds → CountFrom (λ (s : ConsumerView). s.seat.consumer) c (consumers ds)
+  count_seats : (from end budget c : ℕ) (ds : List (PollDone Z)) → AreNumbered from end budget c ds
+      → CountFrom (λ (s : ConsumerView). s.seat.consumer) c (consumers ds)
   count_seats from end budget c [] a = tt
   count_seats from end budget c (d ∷ ds) a = (a.0.consumer, count_seats from end budget (suc c) ds a.1)
 
-  count_readers : (from end budget c : ℕ) (ds : List (PollDone Z)) → AreNumbered from end budget c ds → CountFrom (λ (s : ConsumerView). s.reader.reader) c (consumers ds)
+  count_readers : (from end budget c : ℕ) (ds : List (PollDone Z)) → AreNumbered from end budget c ds
+      → CountFrom (λ (s : ConsumerView). s.reader.reader) c (consumers ds)
   count_readers from end budget c [] a = tt
   count_readers from end budget c (d ∷ ds) a = (a.0.reader, count_readers from end budget (suc c) ds a.1)
 
   abbrev pub left_of : List (PollDone Z) → List ConsumerLeft
   left_of ds = map (λ d. left_by d.consumer d.stopped) ds
 
-  poll_stops_of : (from end budget c : ℕ) (ds : List (PollDone Z)) → AreNumbered from end budget c ds → All (λ (d : PollDone Z). d.aborted ≡ false) ds
+  poll_stops_of : (from end budget c : ℕ) (ds : List (PollDone Z)) → AreNumbered from end budget c ds
+      → All (λ (d : PollDone Z). d.aborted ≡ false) ds
       → AreStoppedPolls may_stop budget c (left_of ds)
   poll_stops_of from end budget c [] a on = tt
   poll_stops_of from end budget c (d ∷ ds) a on =
@@ -233,7 +246,8 @@ module _ {Z : Type 0} (m : MailboxView) (may_stop may_pass : Who → ℕ → Typ
   -- each consumer polls with the words of its own source
   polled_of : {R : Type 0} (stream : R → Stream) (from end budget c : ℕ) (js : List (PollJob R Z)) (ds : List (PollDone Z)) → ArePollJobs m c js
       → AllZip (λ (j : PollJob R Z) (d : PollDone Z). IsPollEnd may_stop may_pass from end budget (stream j.rng) j.consumer d) js ds
-      → All (λ (d : PollDone Z). d.aborted ≡ false) ds → WerePolled may_stop may_pass from end budget c (sources_of stream js) (left_of ds)
+      → All (λ (d : PollDone Z). d.aborted ≡ false) ds
+      → WerePolled may_stop may_pass from end budget c (sources_of stream js) (left_of ds)
   polled_of stream from end budget c [] [] a z on = tt
   polled_of stream from end budget c [] (d ∷ ds) a z on = absurd z
   polled_of stream from end budget c (j ∷ js) [] a z on = absurd z
@@ -253,7 +267,8 @@ module _ {Z : Type 0} (m : MailboxView) (may_stop may_pass : Who → ℕ → Typ
         polled_of stream from end budget (suc c) js ds a.1 z.1 (All-tail F d ds on),
       )
 
-  only_of : (from end budget c : ℕ) (ds : List (PollDone Z)) → AreNumbered from end budget c ds → All (λ (d : PollDone Z). d.aborted ≡ false) ds
+  only_of : (from end budget c : ℕ) (ds : List (PollDone Z)) → AreNumbered from end budget c ds
+      → All (λ (d : PollDone Z). d.aborted ≡ false) ds
       → All (λ (x : ConsumerLeft). IsOnLanes from end x.reads) (left_of ds)
   only_of from end budget c [] a on = λ k d low. absurd (omega (arith, low))
   only_of from end budget c (d ∷ ds) a on =
@@ -268,11 +283,13 @@ module _ {Z : Type 0} (m : MailboxView) (may_stop may_pass : Who → ℕ → Typ
       All-cons (λ (x : ConsumerLeft). x.stopped ≡ false → ends_met x.reads ≡ end - from) (left_by d.consumer d.stopped) (left_of ds)
       a.0.ends (ends_of from end budget (suc c) ds a.1)
 
-  mets_of : (from end budget c : ℕ) (ds : List (PollDone Z)) → AreNumbered from end budget c ds → HaveMetEnds from end c (left_of ds)
+  mets_of : (from end budget c : ℕ) (ds : List (PollDone Z)) → AreNumbered from end budget c ds
+      → HaveMetEnds from end c (left_of ds)
   mets_of from end budget c [] a = tt
   mets_of from end budget c (d ∷ ds) a = (met_at from end c d.consumer a.0.reader a.0.marked, mets_of from end budget (suc c) ds a.1)
 
-  unread_of : (from end budget c : ℕ) (ds : List (PollDone Z)) → AreNumbered from end budget c ds → All (λ (d : PollDone Z). d.aborted ≡ false) ds
+  unread_of : (from end budget c : ℕ) (ds : List (PollDone Z)) → AreNumbered from end budget c ds
+      → All (λ (d : PollDone Z). d.aborted ≡ false) ds
       → All (λ (x : ConsumerLeft). x.stopped ≡ true → ends_met x.reads < end - from) (left_of ds)
   unread_of from end budget c [] a on = λ k d low. absurd (omega (arith, low))
   unread_of from end budget c (d ∷ ds) a on =
@@ -317,7 +334,8 @@ module _ {Z : Type 0} (m : MailboxView) (may_stop may_pass : Who → ℕ → Typ
       count = length-map es (λ (d : PollDone Z). left_by d.consumer d.stopped) ∙ sym (length-map es (λ (d : PollDone Z). d.consumer)) ∙ sym polls_count;
     }
       where
-        turned : {Y : Type 0} (f : ConsumerView → Y) (r : ConsumerLeft → Y) → ((s : ConsumerView) (b : Bool) → f s ≡ r (left_by s b)) → (es : List (PollDone Z))
+        turned : {Y : Type 0} (f : ConsumerView → Y) (r : ConsumerLeft → Y)
+            → ((s : ConsumerView) (b : Bool) → f s ≡ r (left_by s b)) → (es : List (PollDone Z))
             → map f (consumers es) ≡ map r (left_of es)
         turned f r same [] = refl
         turned f r same (d ∷ ds) = λ i. same d.consumer d.stopped i ∷ turned f r same ds i
@@ -328,20 +346,24 @@ module _ {Z : Type 0} (m : MailboxView) (may_stop may_pass : Who → ℕ → Typ
     pub run_cut : AreCutByCells m.cells.size.cells (length h.puts) (lists_in vs) (lanes_of ds)
     run_cut = cut_of (length h.puts) vs ds ats
 
-    pub run_stops : All (λ (d : PutDone Z). d.aborted ≡ false) ds → AreStoppedPuts may_stop m.cells.size.cells (length h.puts) (lists_in vs) (lanes_of ds)
+    pub run_stops : All (λ (d : PutDone Z). d.aborted ≡ false) ds
+        → AreStoppedPuts may_stop m.cells.size.cells (length h.puts) (lists_in vs) (lanes_of ds)
     run_stops on = stops_of (length h.puts) vs ds ats on
 
     pub run_passes : All (λ (d : PutDone Z). d.aborted ≡ false) ds
         → WerePassed may_pass (length h.puts) (lists_in vs) (lanes_of ds)
     run_passes on = passes_of (length h.puts) vs ds ats on
 
-    pub run_polled : All (λ (d : PollDone Z). d.aborted ≡ false) es → WerePolled may_stop may_pass from end budget (length h.ledgers) (sources_of stream ks) (left_of es)
+    pub run_polled : All (λ (d : PollDone Z). d.aborted ≡ false) es
+        → WerePolled may_stop may_pass from end budget (length h.ledgers) (sources_of stream ks) (left_of es)
     run_polled on = polled_of stream from end budget (length h.ledgers) ks es polling polled on
 
-    pub run_poll_stops : All (λ (d : PollDone Z). d.aborted ≡ false) es → AreStoppedPolls may_stop budget (length h.ledgers) (left_of es)
+    pub run_poll_stops : All (λ (d : PollDone Z). d.aborted ≡ false) es
+        → AreStoppedPolls may_stop budget (length h.ledgers) (left_of es)
     run_poll_stops on = poll_stops_of from end budget (length h.ledgers) es nums on
 
-    pub run_only : All (λ (d : PollDone Z). d.aborted ≡ false) es → All (λ (x : ConsumerLeft). IsOnLanes from end x.reads) (left_of es)
+    pub run_only : All (λ (d : PollDone Z). d.aborted ≡ false) es
+        → All (λ (x : ConsumerLeft). IsOnLanes from end x.reads) (left_of es)
     run_only on = only_of from end budget (length h.ledgers) es nums on
 
     pub run_ends : All (λ (x : ConsumerLeft). x.stopped ≡ false → ends_met x.reads ≡ end - from) (left_of es)

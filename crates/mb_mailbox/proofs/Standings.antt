@@ -8,8 +8,8 @@ use Rattle.mb_mailbox.specs.Imports.{Layout, Lost, Note, Parts, Stage, Took, Und
 use Rattle.mb_mailbox.specs.Consumers.{AreEnds, ConsumerView, IsConsumer, StandsOn, parts_of}
 use Rattle.mb_mailbox.specs.Moves.{moved_to}
 use Rattle.mb_mailbox.specs.Steps.{notes_on, with_note}
-use Rattle.mb_mailbox.specs.declared.place.Place.{Place}
-use Rattle.mb_mailbox.specs.declared.place.Place.TheVariants.{At, Before}
+use Rattle.mb_world.specs.declared.place.Place.{Place}
+use Rattle.mb_world.specs.declared.place.Place.TheVariants.{At, Before}
 use Rattle.mb_mailbox.proofs.Lists.{get_some, get_within, set_get, set_length, some_same}
 
 -- ---- ends

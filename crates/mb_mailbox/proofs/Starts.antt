@@ -4,8 +4,8 @@ use Rattle.std.specs.Prelude.{Some, None, slice_get, sum_by}
 use Rattle.mb_claim.specs.declared.access.Stage.TheVariants as stage
 use Rattle.mb_shared_claims.specs.Vocabulary.{AreSeatSteps, IsSeatStep}
 use Rattle.mb_mailbox.specs.Imports.{Claim, ClaimTable, IsClaimIn, Layout, ReaderSeatView, SeatView, Stream, TableSize, claim_stage, consumer_of, next_u64, note_of, part_on}
-use Rattle.mb_mailbox.specs.declared.place.Place.{Place}
-use Rattle.mb_mailbox.specs.declared.place.Place.TheVariants.{At}
+use Rattle.mb_world.specs.declared.place.Place.{Place}
+use Rattle.mb_world.specs.declared.place.Place.TheVariants.{At}
 use Rattle.mb_mailbox.specs.Consumers.{ConsumerView, IsConsumer, IsConsumerOf}
 use Rattle.mb_mailbox.specs.Mailboxes.{MailboxView}
 use Rattle.mb_mailbox.specs.Moves.{HasLoads, HasPlace}

@@ -16,7 +16,7 @@ use Rattle.mb_mailbox.specs.Consumers.{StandsOn}
 use Rattle.mb_mailbox.specs.Gathering.{count_missing, ended_in, items_in, kept_at}
 use Rattle.mb_mailbox.specs.Hubs.{HubView, IsHub, IsHubOf, IsLedger, IsPutList, ConsumerRecordView, PutListView, parts_by}
 use Rattle.mb_mailbox.specs.Mailboxes.{MailboxView, plan_at}
-use Rattle.mb_mailbox.specs.declared.place.Place.{Place}
+use Rattle.mb_world.specs.declared.place.Place.{Place}
 use Rattle.mb_mailbox.proofs.Lists.{some_same}
 
 -- ---- lists of what is there or not

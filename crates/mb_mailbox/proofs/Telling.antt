@@ -12,13 +12,13 @@ use Rattle.mb_mailbox.specs.Imports.{Claim, ClaimAccess, Cursor, END, HasMet, Hi
 use Rattle.mb_mailbox.specs.Imports.{has_ended, linked_cells, load, look_of, part, place_past, word_of}
 use Rattle.mb_mailbox.specs.declared.consumer.Poll.{Poll}
 use Rattle.mb_mailbox.specs.declared.consumer.Poll.TheVariants as poll
-use Rattle.mb_mailbox.specs.declared.place.Place.TheVariants.{Before}
+use Rattle.mb_world.specs.declared.place.Place.TheVariants.{Before}
 use Rattle.mb_mailbox.specs.Consumers.{ConsumerView, IsConsumer, parts_of}
 use Rattle.mb_mailbox.specs.ConsumerStep.{stage_answer}
 use Rattle.mb_mailbox.specs.Laws.{Laws}
 use Rattle.mb_mailbox.specs.Moves.{HasLoads, HasPlace, moved_to}
-use Rattle.mb_mailbox.specs.NoteLists.{place_after}
-use Rattle.mb_mailbox.specs.declared.place.Place.{Place}
+use Rattle.mb_world.specs.Places.{place_after}
+use Rattle.mb_world.specs.declared.place.Place.{Place}
 use Rattle.mb_cells.specs.declared.cursor.Cursor.TheVariants.{Past}
 use Rattle.mb_mailbox.proofs.Lists.{set_here}
 use Rattle.mb_mailbox.specs.Steps.{AnswerTells, HasLoadedEnd, HasNoteOnEach, HasReadWhole, notes_on}

@@ -10,9 +10,9 @@ use Rattle.mb_world.specs.Reporting.{HasMetAll, IsDiaryOf}
 use Rattle.mb_mailbox.specs.Imports.{Claim, Claims, EndsAs, Has, IsClaimIn, IsClaimPrefix, Layout, Lost, Note, ObjectTurn, Parts, Stage, Took, Undecided}
 use Rattle.mb_mailbox.specs.Imports.{cells_met, claim_stage, consumer_of, is_begun, note_of}
 use Rattle.mb_mailbox.specs.Consumers.{AreEnds, ConsumerIsAt, StandsOn}
-use Rattle.mb_mailbox.specs.Gathering.{has_begun_at}
-use Rattle.mb_mailbox.specs.declared.place.Place.{Place}
-use Rattle.mb_mailbox.specs.declared.place.Place.TheVariants.{At, Before}
+use Rattle.mb_world.specs.Places.{has_begun_at}
+use Rattle.mb_world.specs.declared.place.Place.{Place}
+use Rattle.mb_world.specs.declared.place.Place.TheVariants.{At, Before}
 use Rattle.mb_mailbox.proofs.Standings.{same_length}
 use Rattle.mb_mailbox.proofs.Turned.{FromEnd, at_end, end_within, from_end}
 

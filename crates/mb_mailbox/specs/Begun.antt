@@ -4,14 +4,14 @@ use Rattle.mb_mailbox.specs.declared.gate.Who.{Who}
 use Rattle.mb_mailbox.specs.Imports.{Stream}
 use Rattle.mb_mailbox.specs.Consumers.{ConsumerView}
 use Rattle.mb_mailbox.specs.Jobs.{IsPollEnd, IsPutEnd}
-use Rattle.mb_mailbox.specs.declared.crew.worker.PollWorker.{PollWorker}
-use Rattle.mb_mailbox.specs.declared.crew.worker.PollWorker.TheVariants as poll
-use Rattle.mb_mailbox.specs.declared.crew.worker.PutWorker.{PutWorker}
-use Rattle.mb_mailbox.specs.declared.crew.worker.PutWorker.TheVariants as put
+use Rattle.mb_mailbox.specs.declared.crew.worker.Worker.{Worker}
+use Rattle.mb_mailbox.specs.declared.crew.worker.Worker.TheVariants as worker
 use Rattle.mb_mailbox.specs.declared.crew.jobs.PollDone.{PollDone}
 use Rattle.mb_mailbox.specs.declared.crew.jobs.PollJob.{PollJob}
+use Rattle.mb_mailbox.specs.declared.crew.jobs.Polls.{Polls}
 use Rattle.mb_mailbox.specs.declared.crew.jobs.PutDone.{PutDone}
 use Rattle.mb_mailbox.specs.declared.crew.jobs.PutJob.{PutJob}
+use Rattle.mb_mailbox.specs.declared.crew.jobs.Puts.{Puts}
 
 -- the lanes, the budget, the source, the consumer and the gate of a promise are these
 pub record IsPromiseOf {G R : Type 0} (g : G) (f e b : ℕ) (r : R) (s : ConsumerView) (from end budget : ℕ) (rng : R)
@@ -26,27 +26,20 @@ pub record IsPromiseOf {G R : Type 0} (g : G) (f e b : ℕ) (r : R) (s : Consume
 module _ {G Z : Type 0} (may_stop may_pass : G → Who → ℕ → Type 0) where
   -- a producer's thread promises what comes of its job. If no thread could be made, the worker was ended here. Then
   -- it has its end, which says that the run is aborted
-  abbrev pub PutPromises : G → PutJob Z → PutWorker G Z → Type 0
-  PutPromises gate j (put.Spawned h) = (h.promise.job.value ≡ j) × (h.promise.gate.value ≡ gate)
-  PutPromises gate j (put.Inline d) = IsPutEnd (may_stop gate) (may_pass gate) j d × (d.aborted ≡ true)
-
-  -- this is the end of what was begun
-  abbrev pub PutKeeps : PutWorker G Z → PutDone Z → Type 0
-  PutKeeps (put.Spawned h) d = IsPutEnd (may_stop h.promise.gate.value)
-      (may_pass h.promise.gate.value) h.promise.job.value d
-  PutKeeps (put.Inline e) d = d ≡ e
+  abbrev pub PutPromises : G → PutJob Z → Worker (PutDone Z) (Puts G Z) → Type 0
+  PutPromises gate j (worker.Spawned h) = (h.promise.job.value ≡ j) × (h.promise.gate.value ≡ gate)
+  PutPromises gate j (worker.Inline d) = IsPutEnd (may_stop gate) (may_pass gate) j d × (d.aborted ≡ true)
 
 module _ {G R Z : Type 0} (may_stop may_pass : G → Who → ℕ → Type 0) (stream : R → Stream) where
-  abbrev pub PollPromises : G → ℕ → ℕ → ℕ → PollJob R Z → PollWorker G R Z → Type 0
-  PollPromises gate from end budget j (poll.Spawned h) =
+  abbrev pub PollPromises : G → ℕ → ℕ → ℕ → PollJob R Z → Worker (PollDone Z) (Polls G R Z) → Type 0
+  PollPromises gate from end budget j (worker.Spawned h) =
       IsPromiseOf gate from end budget j.rng j.consumer
       h.promise.from h.promise.end h.promise.budget h.promise.rng.value h.promise.consumer.value h.promise.gate.value
-  PollPromises gate from end budget j (poll.Inline d) =
+  PollPromises gate from end budget j (worker.Inline d) =
       IsPollEnd (may_stop gate) (may_pass gate) from end budget (stream j.rng) j.consumer d × (d.aborted ≡ true)
 
-  abbrev pub PollKeeps : PollWorker G R Z → PollDone Z → Type 0
-  PollKeeps (poll.Spawned h) d =
-      IsPollEnd (may_stop h.promise.gate.value) (may_pass h.promise.gate.value) h.promise.from
-      h.promise.end h.promise.budget
-      (stream h.promise.rng.value) h.promise.consumer.value d
-  PollKeeps (poll.Inline e) d = d ≡ e
+module _ {D P : Type 0} (kept_by : P → D → Type 0) where
+  -- this is the end of what was begun
+  abbrev pub Keeps : Worker D P → D → Type 0
+  Keeps (worker.Spawned h) d = kept_by h.promise d
+  Keeps (worker.Inline e) d = d ≡ e

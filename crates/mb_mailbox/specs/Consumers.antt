@@ -4,8 +4,8 @@ use Rattle.mb_mailbox.specs.Imports.{Claim, Claims, Cursor, EndsAs, Fits, HasNot
 use Rattle.mb_mailbox.specs.Imports.{Parts, ReaderSeatView, SeatView, TableSize, cells_met, claim_stage}
 use Rattle.mb_mailbox.specs.Imports.{claims_in, consumer_of, name_of, note_of, part_on, place_past, word_of}
 use Rattle.mb_mailbox.specs.Mailboxes.{MailboxView}
-use Rattle.mb_mailbox.specs.declared.place.Place.{Place}
-use Rattle.mb_mailbox.specs.declared.place.Place.TheVariants.{At, Before}
+use Rattle.mb_world.specs.declared.place.Place.{Place}
+use Rattle.mb_world.specs.declared.place.Place.TheVariants.{At, Before}
 
 -- its seat among the readers of the cells, its seat among the consumers of the claims, its place on each lane, and
 -- its notes there

@@ -7,15 +7,14 @@ use Rattle.mb_shared_claims.specs.Vocabulary.{taken_part}
 use Rattle.mb_world.specs.Agreement.{HasCompeted}
 use Rattle.mb_world.specs.Assignment.{items_where}
 use Rattle.mb_world.specs.Headline.{IsHonest}
+use Rattle.mb_world.specs.Places.{has_begun_at}
 use Rattle.mb_world.specs.Plan.{Histories}
 use Rattle.mb_world.specs.Report.{DiaryView, LaneView, ReportView, note}
 use Rattle.mb_world.specs.Reporting.{IsReportOf, any_below, is_took}
 use Rattle.mb_world.specs.Sound.{AreSound}
-use Rattle.mb_mailbox.specs.Imports.{HasFoundNone, History, Note, Undecided, consumer_part, is_begun}
+use Rattle.mb_mailbox.specs.Imports.{HasFoundNone, History, Note, Undecided, consumer_part}
 use Rattle.mb_mailbox.specs.Hubs.{HubView}
 use Rattle.mb_mailbox.specs.Mailboxes.{MailboxView, plan_at}
-use Rattle.mb_mailbox.specs.declared.place.Place.{Place}
-use Rattle.mb_mailbox.specs.declared.place.Place.TheVariants.{At, Before}
 
 -- ---- what is missing
 -- how many of those given were not taken in
@@ -42,12 +41,7 @@ abbrev pub notes_in : ℕ → ℕ → HubView → List Note
 notes_in c p h =
     option_map_or (λ l. option_map_or (λ ns. ns) (slice_get l.notes p) []) (kept_at h.ledgers c) []
 
--- whether a claim is held there that has made an access
-abbrev pub has_begun_at : Place → Bool
-has_begun_at (Before at) = false
-has_begun_at (At k claim) = is_begun claim
-
--- whether consumer c was taken in with such a claim on lane p
+-- whether consumer c was taken in with a claim on lane p that has made an access
 abbrev pub begun_in : ℕ → ℕ → HubView → Bool
 begun_in c p h =
     option_map_or (λ l. option_map_or has_begun_at (slice_get l.places p) false)

@@ -9,7 +9,7 @@ use Rattle.mb_mailbox.specs.Imports.{TableSize, claims_at, claims_in, has_ended,
 use Rattle.mb_mailbox.specs.Mailboxes.{MailboxView}
 use Rattle.mb_mailbox.specs.Consumers.{ConsumerView, StandsOn}
 use Rattle.mb_mailbox.specs.Producers.{ProducerView}
-use Rattle.mb_mailbox.specs.declared.place.Place.{Place}
+use Rattle.mb_world.specs.declared.place.Place.{Place}
 
 -- what is kept of a producer that was taken in: its items, and whether it has ended its lane
 pub record PutListView : Type 0 where

@@ -1,4 +1,5 @@
--- What the laws of the crates below say of the two parts of one consumer, under one name each.
+-- The laws of the crates below on which a consumer's moves stand, one name for each: of lawful histories of cells, of
+-- parts, of claims, of the cells that loads met, and of the two parts of a consumer, which fit on.
 use Rattle.std.specs.Prelude.{ℕ, ◌≡◌, ◌≢◌, ◌⊎◌, ◌+◌, ◌<◌, ◌≤◌, List, ◌∷◌, ◌++◌, length}
 use Rattle.mb_quorum.specs.Vocabulary.{IsQuorumTable}
 use Rattle.mb_claim.specs.Vocabulary.{quorums_of}
@@ -11,6 +12,7 @@ use Rattle.mb_mailbox.specs.Imports.{HasStageIn, History, IsClaimPrefix, IsOnceE
 use Rattle.mb_mailbox.specs.Imports.{Link, MayLookPast, ObjectTurn, Parts, PoolAccess, PoolSize, Reader, Stage}
 use Rattle.mb_mailbox.specs.Imports.{cells_met, linked_cells, load, part, part_on, place_past, with_load, with_step}
 
+-- what these laws say
 pub record Laws : Type 0 where
   -- ---- lawful histories of cells
   pub start : (size : PoolSize) (h : History) (r p : ℕ) (ks : List ℕ) → IsPoolLawful size h
@@ -59,7 +61,7 @@ pub record Laws : Type 0 where
       → Has (cells_met p (part (Reader q) h)) k → Has (linked_cells p h) k
   pub once : (size : PoolSize) (q p : ℕ) (h : History) → IsPoolLawful size h
       → IsOnceEach (cells_met p (part (Reader q) h))
-  pub all : (size : PoolSize) (q p : ℕ) (h : History) → IsPoolLawful size h
+  pub has_met_all : (size : PoolSize) (q p : ℕ) (h : History) → IsPoolLawful size h
       → FollowsLinks (part (Reader q) h) → HasMetAll q p (cells_met p (part (Reader q) h)) h
   -- ---- parts that fit on
   pub looks : (cs : Claims) (c q p v : ℕ) (x : Parts) → Fits cs c x

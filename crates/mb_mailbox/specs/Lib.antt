@@ -25,6 +25,7 @@ pub mod Called
 pub mod HubRuns
 pub mod Given
 pub mod Gathering
+pub mod ReportedRuns
 pub mod Filling
 pub mod GatheringExamples
 pub mod WorkExamples

@@ -5,7 +5,7 @@ use Rattle.mb_mailbox.specs.Imports.{Claim, ClaimAccess, History, IsClaimIn, Ite
 use Rattle.mb_mailbox.specs.Imports.{ObjectTurn, Reader, TableSize, load, word_of, Cursor}
 use Rattle.mb_mailbox.specs.Consumers.{ConsumerView}
 use Rattle.mb_mailbox.specs.Steps.{with_note}
-use Rattle.mb_mailbox.specs.declared.place.Place.{Place}
+use Rattle.mb_world.specs.declared.place.Place.{Place}
 
 -- it stands at this place on lane p
 abbrev pub HasPlace : ℕ → Place → ConsumerView → Type 0

@@ -3,8 +3,8 @@ use Rattle.std.specs.Prelude.{ℕ, ◌≡◌, ◌≤◌, List, [], Some, Vec, le
 use Rattle.mb_cells.specs.declared.cursor.Cursor.TheVariants.{Head}
 use Rattle.mb_mailbox.specs.Imports.{Note}
 use Rattle.mb_mailbox.specs.LaneNotes.{NotesView}
-use Rattle.mb_mailbox.specs.declared.place.Place.{Place}
-use Rattle.mb_mailbox.specs.declared.place.Place.TheVariants.{Before}
+use Rattle.mb_world.specs.declared.place.Place.{Place}
+use Rattle.mb_world.specs.declared.place.Place.TheVariants.{Before}
 
 -- the places are before the heads of this many lanes
 pub record AreHeads (lanes : ℕ) (places : List Place) : Type 0 where

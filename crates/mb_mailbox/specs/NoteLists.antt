@@ -1,13 +1,8 @@
--- The notes of a consumer, which have their room from the beginning; and a consumer's place after an access of a
--- claim.
+-- The notes of a consumer, which have their room from the beginning.
 use Rattle.std.specs.Prelude.{ℕ, ◌≡◌, ◌<◌, ◌≤◌, Option, length, sum_by}
-use Rattle.mb_claim.specs.declared.access.Stage.TheVariants as stage
-use Rattle.mb_cells.specs.declared.cursor.Cursor.TheVariants.{Past}
-use Rattle.mb_mailbox.specs.Imports.{Claim, Note, Stage}
+use Rattle.mb_mailbox.specs.Imports.{Note}
 use Rattle.mb_mailbox.specs.LaneNotes.{NotesView}
 use Rattle.mb_mailbox.specs.Steps.{with_note}
-use Rattle.mb_mailbox.specs.declared.place.Place.{Place}
-use Rattle.mb_mailbox.specs.declared.place.Place.TheVariants.{At, Before}
 
 -- there is such a lane, and room for one more note
 pub record HasRoom (p : ℕ) (notes : NotesView) : Type 0 where
@@ -22,10 +17,3 @@ HasAllRoom cells notes = cells ≤ notes.room
 pub record NotesGrow (p : ℕ) (note : Option Note) (old new : NotesView) : Type 0 where
   pub lists : new.lists ≡ with_note p note old.lists
   pub room : new.room ≡ old.room
-
--- a consumer's place after an access of its claim on cell k, if the claim has come to this stage
-abbrev pub place_after : ℕ → Claim → Stage → Place
-place_after k claim stage.Going = At k claim
-place_after k claim stage.Won = At k claim
-place_after k claim (stage.Lost w) = Before (Past k)
-place_after k claim stage.Undecided = Before (Past k)

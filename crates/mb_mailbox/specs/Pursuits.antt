@@ -3,13 +3,13 @@ use Rattle.std.specs.Prelude.{ℕ, ◌≡◌, ◌≢◌, ◌+◌, ◌≤◌, Lis
 use Rattle.mb_mailbox.specs.Imports.{Claim, ReaderSeatView, SeatView, Stream, claim_stage, note_of}
 use Rattle.mb_mailbox.specs.declared.consumer.Poll.{Poll}
 use Rattle.mb_mailbox.specs.declared.consumer.Poll.TheVariants as poll
-use Rattle.mb_mailbox.specs.declared.place.Place.{Place}
-use Rattle.mb_mailbox.specs.declared.place.Place.TheVariants.{At}
+use Rattle.mb_world.specs.declared.place.Place.{Place}
+use Rattle.mb_world.specs.declared.place.Place.TheVariants.{At}
 use Rattle.mb_mailbox.specs.Consumers.{ConsumerView, IsConsumer}
 use Rattle.mb_mailbox.specs.ConsumerStep.{stage_answer}
 use Rattle.mb_mailbox.specs.LaneNotes.{NotesView}
 use Rattle.mb_mailbox.specs.Moves.{moved_to}
-use Rattle.mb_mailbox.specs.NoteLists.{place_after}
+use Rattle.mb_world.specs.Places.{place_after}
 use Rattle.mb_mailbox.specs.Steps.{AreSteps, HasNoteOnEach, outcome}
 
 -- ---- the consumer of these fields

@@ -5,10 +5,10 @@ mod polls;
 mod pursuit;
 
 use crate::notes::Notes;
-use crate::place::Place;
 use arrayvec::ArrayVec;
 use mb_shared_cells::ReaderSeat;
 use mb_shared_claims::ClaimSeat;
+use mb_world::Place;
 use std::alloc::Allocator;
 use std::marker::Model;
 

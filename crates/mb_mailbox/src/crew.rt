@@ -69,7 +69,7 @@ impl fmt::Display for WorkFault {
         f.write_str(match self {
             WorkFault::AllGiven => "more numbers are asked for than the mailbox has left",
             WorkFault::BadBudget => "the budget is 0",
-            WorkFault::NoMemory => "memory was refused",
+            WorkFault::NoMemory => "out of memory",
             WorkFault::NoThread => "a thread could not be started",
         })
     }

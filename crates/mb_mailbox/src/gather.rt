@@ -36,7 +36,7 @@ impl fmt::Display for GatherFault {
                 f,
                 "{producers} producers and {consumers} consumers were not taken in"
             ),
-            GatherFault::NoMemory => f.write_str("memory was refused"),
+            GatherFault::NoMemory => f.write_str("out of memory"),
         }
     }
 }

@@ -5,7 +5,6 @@ ghost use Rattle.mb_mailbox.specs.NewConsumers.{AreHeads};
 use crate::consumer::Consumer;
 use crate::mailbox::Mailbox;
 use crate::notes::Notes;
-use crate::place::Place;
 use crate::producer::Producer;
 use crate::spare::trim;
 use crate::taken::{ConsumerRecord, Kept, PutList};
@@ -15,6 +14,7 @@ use mb_cells::laws::{lanes_share_cells, parts_tell_lanes};
 use mb_cells::steps::parts_have_accesses;
 use mb_shared_cells::CellHub;
 use mb_shared_claims::ClaimHub;
+use mb_world::Place;
 use mb_world::steps::parts_fit_on;
 use std::alloc::Allocator;
 use std::error::Error;
@@ -34,7 +34,7 @@ impl fmt::Display for HubFault {
     fn fmt<W: fmt::Write>(&self, f: &mut fmt::Formatter<W>) -> fmt::Result {
         f.write_str(match self {
             HubFault::AllGiven => "all numbers of the mailbox were given",
-            HubFault::NoMemory => "memory was refused",
+            HubFault::NoMemory => "out of memory",
         })
     }
 }

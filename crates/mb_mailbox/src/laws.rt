@@ -5,7 +5,8 @@ ghost use Rattle.mb_claim.specs.Vocabulary.{shape_of};
 ghost use Rattle.mb_mailbox.specs.Imports.{Claim, Note, Stream, Undecided, has_ended};
 ghost use Rattle.mb_mailbox.specs.Calls.{AreCalls, Call};
 ghost use Rattle.mb_mailbox.specs.Consumers.{ConsumerView, IsConsumer};
-ghost use Rattle.mb_mailbox.specs.Gathering.{UndecidedHasCompany, begun_in, count_missing, ended_in, has_begun_at};
+ghost use Rattle.mb_world.specs.Places.{has_begun_at};
+ghost use Rattle.mb_mailbox.specs.Gathering.{UndecidedHasCompany, begun_in, count_missing, ended_in};
 ghost use Rattle.mb_mailbox.specs.Gathering.{IsGathered, IsReportIn, items_in, notes_in};
 ghost use Rattle.mb_mailbox.specs.Mailboxes.{MailboxView};
 ghost use Rattle.mb_mailbox.specs.Steps.{AreDrawn, HasNoteOnEach};
@@ -14,8 +15,8 @@ ghost use Rattle.mb_world.specs.Report.{ReportView, note};
 ghost use Rattle.mb_mailbox.specs.GatheringExamples.{alone_undecided, two_undecided};
 ghost use Rattle.mb_mailbox.specs.Hubs.{HubView, with_taken_consumer, with_taken_producer};
 ghost use Rattle.mb_mailbox.specs.Producers.{ProducerView};
-ghost use Rattle.mb_mailbox.specs.declared.place.Place.{Place};
-ghost use Rattle.mb_mailbox.specs.declared.place.Place.TheVariants.{At};
+ghost use Rattle.mb_world.specs.declared.place.Place.{Place};
+ghost use Rattle.mb_world.specs.declared.place.Place.TheVariants.{At};
 
 use mb_world::laws::{last_objects_settle_items, shaped_setups_have_last_objects};
 

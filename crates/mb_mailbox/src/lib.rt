@@ -42,7 +42,6 @@ mod hub;
 pub mod laws;
 mod mailbox;
 mod notes;
-mod place;
 mod producer;
 mod spare;
 mod taken;

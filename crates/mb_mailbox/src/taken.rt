@@ -1,9 +1,8 @@
 //! What a hub keeps of the producers and consumers that it took in.
 use crate::notes::Notes;
-use crate::place::Place;
 use arrayvec::ArrayVec;
 use mb_cells::NoMemory;
-use mb_world::Note;
+use mb_world::{Note, Place};
 use std::alloc::Allocator;
 use std::marker::Model;
 
@@ -51,7 +50,7 @@ impl<A: Allocator + Drop> Model for ConsumerRecord<A> {
 impl<A: Allocator + Drop> ConsumerRecord<A> {
     ghost use Rattle.std.specs.Prelude.{◌≡◌, false, map, slice_get, true};
     ghost use Rattle.std.specs.Option.{option_map_or};
-    ghost use Rattle.mb_mailbox.specs.Gathering.{has_begun_at};
+    ghost use Rattle.mb_world.specs.Places.{has_begun_at};
     ghost use Rattle.mb_mailbox.specs.Steps.{notes_on};
 
     /// Whether it holds a claim on lane `p` and the claim has made an access.

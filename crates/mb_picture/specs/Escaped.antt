@@ -3,7 +3,7 @@ use Rattle.std.specs.Prelude.{ℕ, List, [], ◌∷◌, ◌++◌, ◌==◌, ◌&
 use Rattle.std.specs.Fmt.{decimal}
 use Rattle.std.specs.List.{flat_map}
 
--- what stands for a byte. It is a reference for <, >, &, the quote 34 and the apostrophe 39, the byte itself if it is
+-- what is written for a byte: a reference for <, >, &, the quote 34 and the apostrophe 39, the byte itself if it is
 -- any other printable ASCII, and else a question mark.
 abbrev pub escaped : ℕ → List ℕ
 escaped b =
@@ -15,11 +15,11 @@ escaped b =
     else if nat_lt 31 b && nat_lt b 127 then b ∷ []
     else codes "?"
 
--- what stands for each byte, one after the other
+-- what is written for a text: what is for each byte, one after the other
 abbrev pub escaped_text : List ℕ → List ℕ
 escaped_text bytes = flat_map escaped bytes
 
--- a text of this class at this place
+-- the element of a text of this class at this place
 abbrev pub text_element : List ℕ → ℕ → ℕ → List ℕ → List ℕ
 text_element class x y plain =
     codes "<text class='" ++ class ++ codes "' x='" ++ decimal x ++ codes "' y='" ++ decimal y ++ codes "'>"

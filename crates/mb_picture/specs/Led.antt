@@ -1,4 +1,4 @@
--- The line that leads to a mark.
+-- The line of a picture that leads to a mark: from the last store of the word that it loaded.
 use Rattle.std.specs.Prelude.{◌≡◌, ℕ, ◌<◌, ◌==◌, List, [], ◌∷◌, ◌++◌, length, slice_get, Option, Some, None, option_and_then, if◌then◌else◌}
 use Rattle.mb_picture.specs.declared.picture.Word.{Word}
 use Rattle.mb_picture.specs.declared.picture.Deed.{Deed}
@@ -6,7 +6,7 @@ use Rattle.mb_picture.specs.declared.picture.Deed.TheVariants.{Load, Store, Add,
 use Rattle.mb_picture.specs.declared.picture.Mark.{Mark}
 use Rattle.mb_picture.specs.declared.picture.Line.{Line}
 
--- the word that was loaded
+-- the word that a deed loaded, if it loaded one
 abbrev pub loaded_by : Deed → Option Word
 loaded_by (Load word found) = Some word
 loaded_by (Store word value) = None
@@ -14,7 +14,7 @@ loaded_by (Add word found) = Some word
 loaded_by (Exchange word value found) = Some word
 loaded_by Nothing = None
 
--- the word that was stored in. An exchange stores only if it found 0.
+-- the word that a deed stored in, if it stored in one. An exchange stores only if it found 0.
 abbrev pub stored_by : Deed → Option Word
 stored_by (Load word found) = None
 stored_by (Store word value) = Some word
@@ -37,6 +37,7 @@ abbrev pub IsLedFrom : List Mark → Option Word → Option ℕ → Type 0
 IsLedFrom marks None from = from ≡ None
 IsLedFrom marks (Some word) from = IsLastStore marks word (length marks) from
 
+-- the line to this row, if one leads there
 abbrev pub lines_to : ℕ → Option ℕ → List Line
 lines_to row None = []
 lines_to row (Some from) = record { from = from; to = row } ∷ []

@@ -1,6 +1,6 @@
 //! The text in a mark, and above a column.
 
-use crate::picture::{Deed, Note, Value, Who, Word};
+use crate::picture::{Deed, Remark, Value, Who, Word};
 use mb_cells::NoMemory;
 use mb_deciding::Reg;
 use std::alloc::Allocator;
@@ -66,26 +66,26 @@ pub fn push_deed<A: Allocator>(text: &mut String<A>, deed: Deed) -> Result<(), N
 }
 
 /// Appends the result of the event. A plain event has none.
-pub fn push_note<A: Allocator>(text: &mut String<A>, note: Note) -> Result<(), NoMemory> {
-    match note {
-        Note::Plain => Ok(()),
-        Note::Offer(item) => write!(text, "offer {item}"),
-        Note::Put => text.push_str("put"),
-        Note::Ends | Note::Ended => text.push_str("ended"),
-        Note::Full => text.push_str("full"),
-        Note::Busy => text.push_str("busy"),
-        Note::Closed => text.push_str("closed"),
-        Note::Idle => text.push_str("idle"),
-        Note::Empty => text.push_str("nothing"),
-        Note::Found => text.push_str("found"),
-        Note::Won => text.push_str("won"),
-        Note::Lost(winner) => write!(text, "lost to {winner}"),
-        Note::Undecided => text.push_str("undecided"),
-        Note::Took => text.push_str("took"),
-        Note::Decided(value) => write!(text, "decided {value}"),
-        Note::Kept(value) => write!(text, "undecided {value}"),
-        Note::Done => text.push_str("done"),
-        Note::Refused => text.push_str("refused"),
+pub fn push_remark<A: Allocator>(text: &mut String<A>, remark: Remark) -> Result<(), NoMemory> {
+    match remark {
+        Remark::Plain => Ok(()),
+        Remark::Offer(item) => write!(text, "offer {item}"),
+        Remark::Put => text.push_str("put"),
+        Remark::Ends | Remark::Ended => text.push_str("ended"),
+        Remark::Full => text.push_str("full"),
+        Remark::Busy => text.push_str("busy"),
+        Remark::Closed => text.push_str("closed"),
+        Remark::Idle => text.push_str("idle"),
+        Remark::Empty => text.push_str("nothing"),
+        Remark::Found => text.push_str("found"),
+        Remark::Won => text.push_str("won"),
+        Remark::Lost(winner) => write!(text, "lost to {winner}"),
+        Remark::Undecided => text.push_str("undecided"),
+        Remark::Took => text.push_str("took"),
+        Remark::Decided(value) => write!(text, "decided {value}"),
+        Remark::Kept(value) => write!(text, "undecided {value}"),
+        Remark::Done => text.push_str("done"),
+        Remark::Refused => text.push_str("refused"),
     }
 }
 

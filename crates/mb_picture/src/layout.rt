@@ -5,7 +5,7 @@
 ghost use Rattle.std.specs.Prelude.{◌≡◌, ◌+◌, ◌*◌, ◌/◌, ◌<◌, ◌≤◌, ◌^◌};
 ghost use Rattle.mb_picture.specs.declared.picture.TheConstants.{MAX_ROWS};
 
-use crate::label::{push_deed, push_note, push_where, push_who};
+use crate::label::{push_deed, push_remark, push_where, push_who};
 use crate::picture::{Line, Mark, Picture, Who};
 use mb_cells::NoMemory;
 use std::alloc::Allocator;
@@ -170,7 +170,7 @@ fn mark_letters<A: Allocator + Copy>(alloc: A, mark: Mark) -> Result<usize, NoMe
     let mut text = String::new(alloc);
     push_deed(&mut text, mark.deed)?;
     let first = text.len();
-    push_note(&mut text, mark.note)?;
+    push_remark(&mut text, mark.remark)?;
     let gap = if first == 0 || text.len() == first {
         0
     } else {

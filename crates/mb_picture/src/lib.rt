@@ -16,7 +16,9 @@ mod style;
 mod svg;
 
 pub use escape::push_escaped;
-pub use picture::{Deed, Frame, Kind, Line, MAX_ROWS, Mark, Note, Picture, Tone, Value, Who, Word};
+pub use picture::{
+    Deed, Frame, Kind, Line, MAX_ROWS, Mark, Picture, Remark, Tone, Value, Who, Word,
+};
 pub use ratify::ratify_picture;
 pub use replay::replay_picture;
 pub use svg::svg_of;

@@ -71,9 +71,9 @@ pub enum Deed {
     Nothing,
 }
 
-/// The result of an event.
+/// What is remarked of an event: its result.
 #[derive(Clone, Copy)]
-pub enum Note {
+pub enum Remark {
     /// Nothing to be said.
     Plain,
     /// This item has a cell.
@@ -141,7 +141,7 @@ pub struct Mark {
     /// What it did to a word.
     pub deed: Deed,
     /// Its result.
-    pub note: Note,
+    pub remark: Remark,
     /// Whether a claim begins with it.
     pub opens: bool,
     /// Whether the claim ends with it.
@@ -214,18 +214,19 @@ impl Deed {
     }
 }
 
-impl Note {
+impl Remark {
     /// How it looks.
     pub fn tone(self) -> Tone {
         match self {
-            Note::Plain | Note::Offer(_) | Note::Put | Note::Found => Tone::Plain,
-            Note::Full | Note::Busy | Note::Closed | Note::Idle | Note::Empty => Tone::Quiet,
-            Note::Done | Note::Refused => Tone::Quiet,
-            Note::Ends | Note::Ended => Tone::Ended,
-            Note::Won | Note::Decided(_) => Tone::Won,
-            Note::Lost(_) => Tone::Lost,
-            Note::Undecided | Note::Kept(_) => Tone::Undecided,
-            Note::Took => Tone::Took,
+            Remark::Plain | Remark::Offer(_) | Remark::Put | Remark::Found => Tone::Plain,
+            Remark::Full | Remark::Busy | Remark::Closed | Remark::Idle | Remark::Empty =>
+                Tone::Quiet,
+            Remark::Done | Remark::Refused => Tone::Quiet,
+            Remark::Ends | Remark::Ended => Tone::Ended,
+            Remark::Won | Remark::Decided(_) => Tone::Won,
+            Remark::Lost(_) => Tone::Lost,
+            Remark::Undecided | Remark::Kept(_) => Tone::Undecided,
+            Remark::Took => Tone::Took,
         }
     }
 }
@@ -288,8 +289,8 @@ fn push_frame<A: Allocator>(
         if frame.column == mark.column && !frame.ended {
             frame.last = row;
             frame.ended = mark.ends;
-            if let Tone::Won | Tone::Lost | Tone::Undecided = mark.note.tone() {
-                frame.tone = mark.note.tone();
+            if let Tone::Won | Tone::Lost | Tone::Undecided = mark.remark.tone() {
+                frame.tone = mark.remark.tone();
             }
         }
     }

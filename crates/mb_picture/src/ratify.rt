@@ -1,7 +1,7 @@
 //! The picture of a ratifier.
 
 use crate::label::push_count;
-use crate::picture::{Deed, Kind, MAX_ROWS, Mark, Note, Picture, Value, Who, Word};
+use crate::picture::{Deed, Kind, MAX_ROWS, Mark, Picture, Remark, Value, Who, Word};
 use crate::report::MAX_LINES;
 use mb_cells::NoMemory;
 use mb_deciding::{Act, Entry, Out, Trace};
@@ -26,26 +26,26 @@ fn access(act: Act) -> Deed {
     }
 }
 
-fn out_note(out: Option<Out>) -> Note {
+fn out_remark(out: Option<Out>) -> Remark {
     match out {
-        None => Note::Plain,
-        Some(out) if out.decided => Note::Decided(out.value),
-        Some(out) => Note::Kept(out.value),
+        None => Remark::Plain,
+        Some(out) if out.decided => Remark::Decided(out.value),
+        Some(out) => Remark::Kept(out.value),
     }
 }
 
 /// The mark of an entry in this column, in which some access was made before or not.
 fn mark_of(column: usize, entry: Entry, begun: bool) -> Mark {
-    let (deed, note) = match entry {
-        Entry::Access { act, out, .. } => (access(act), out_note(out)),
-        Entry::Done { .. } => (Deed::Nothing, Note::Done),
+    let (deed, remark) = match entry {
+        Entry::Access { act, out, .. } => (access(act), out_remark(out)),
+        Entry::Done { .. } => (Deed::Nothing, Remark::Done),
     };
     Mark {
         column,
         deed,
-        note,
+        remark,
         opens: !begun,
-        ends: matches!(note, Note::Decided(_) | Note::Kept(_)),
+        ends: matches!(remark, Remark::Decided(_) | Remark::Kept(_)),
     }
 }
 

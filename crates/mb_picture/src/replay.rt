@@ -1,7 +1,7 @@
 //! The picture of a replay.
 
 use crate::label::push_count;
-use crate::picture::{Deed, Kind, MAX_ROWS, Mark, Note, Picture, Value, Who, Word};
+use crate::picture::{Deed, Kind, MAX_ROWS, Mark, Picture, Remark, Value, Who, Word};
 use crate::report::push_shown;
 use mb_cells::{Finish, Look, NoMemory, Offer, Push};
 use mb_claim::Stage;
@@ -12,7 +12,7 @@ use std::alloc::Allocator;
 
 /// Who acts in a column, and what its next marks rest on.
 #[derive(Clone, Copy)]
-struct Seat {
+struct Column {
     who: Who,
     /// The link that it loads or stores next.
     link: Word,
@@ -32,16 +32,16 @@ fn maker(event: Event) -> Who {
     }
 }
 
-/// Adds a seat, if it makes some event.
-fn push_seat<A: Allocator + Copy>(
-    seats: &mut Vec<Seat, A>,
+/// Adds the column of this producer or consumer, if it makes some event.
+fn push_column<A: Allocator + Copy>(
+    columns: &mut Vec<Column, A>,
     events: &[Event],
     who: Who,
     lane: u64,
 ) -> Result<(), NoMemory> {
     for event in events {
         if maker(*event) == who {
-            seats.push(Seat {
+            columns.push(Column {
                 who,
                 link: Word::Head(lane),
                 item: 0,
@@ -53,70 +53,76 @@ fn push_seat<A: Allocator + Copy>(
     Ok(())
 }
 
-/// The seats of those who make these events: producers first, and each consumer once for each lane that it steps on.
-fn seats_of<A: Allocator + Copy>(
+/// The columns of those who make these events: producers first, and each consumer once for each lane that it steps on.
+fn columns_of<A: Allocator + Copy>(
     alloc: A,
     producers: u64,
     consumers: u64,
     events: &[Event],
-) -> Result<Vec<Seat, A>, NoMemory> {
-    let mut seats = Vec::new(alloc);
+) -> Result<Vec<Column, A>, NoMemory> {
+    let mut columns = Vec::new(alloc);
     for lane in 0..producers {
-        push_seat(&mut seats, events, Who::Producer(lane), lane)?;
+        push_column(&mut columns, events, Who::Producer(lane), lane)?;
     }
     for consumer in 0..consumers {
         for lane in 0..producers {
-            push_seat(&mut seats, events, Who::Consumer { consumer, lane }, lane)?;
+            push_column(&mut columns, events, Who::Consumer { consumer, lane }, lane)?;
         }
     }
-    Ok(seats)
+    Ok(columns)
 }
 
 /// What an offer did and came to. The counter holds how often it was added to.
-fn offered(seat: &mut Seat, answer: Offer, item: u64, added: u64) -> (Deed, Note) {
+fn offered(column: &mut Column, answer: Offer, item: u64, added: u64) -> (Deed, Remark) {
     match answer {
         Offer::Cell(cell) => {
-            seat.item = item;
-            (Deed::Add(Word::Counter, u64::from(cell)), Note::Offer(item))
+            column.item = item;
+            (
+                Deed::Add(Word::Counter, u64::from(cell)),
+                Remark::Offer(item),
+            )
         }
-        Offer::Full if seat.full => (Deed::Nothing, Note::Full),
+        Offer::Full if column.full => (Deed::Nothing, Remark::Full),
         Offer::Full => {
-            seat.full = true;
-            (Deed::Add(Word::Counter, added), Note::Full)
+            column.full = true;
+            (Deed::Add(Word::Counter, added), Remark::Full)
         }
-        Offer::Busy => (Deed::Nothing, Note::Busy),
-        Offer::Closed => (Deed::Nothing, Note::Closed),
+        Offer::Busy => (Deed::Nothing, Remark::Busy),
+        Offer::Closed => (Deed::Nothing, Remark::Closed),
     }
 }
 
-fn pushed(seat: &mut Seat, answer: Push) -> (Deed, Note) {
+/// What a push did and came to. The store of a link goes to the column's next link.
+fn pushed(column: &mut Column, answer: Push) -> (Deed, Remark) {
     match answer {
         Push::Item(cell) => (
-            Deed::Store(Word::Item(cell), Value::Number(seat.item)),
-            Note::Plain,
+            Deed::Store(Word::Item(cell), Value::Number(column.item)),
+            Remark::Plain,
         ),
         Push::Link(cell) => {
-            let word = seat.link;
-            seat.link = Word::Link(cell);
-            (Deed::Store(word, Value::Cell(cell)), Note::Put)
+            let word = column.link;
+            column.link = Word::Link(cell);
+            (Deed::Store(word, Value::Cell(cell)), Remark::Put)
         }
-        Push::Idle => (Deed::Nothing, Note::Idle),
+        Push::Idle => (Deed::Nothing, Remark::Idle),
     }
 }
 
-fn finished(seat: &Seat, answer: Finish) -> (Deed, Note) {
+/// What a finish did and came to.
+fn finished(column: &Column, answer: Finish) -> (Deed, Remark) {
     match answer {
-        Finish::Ended => (Deed::Store(seat.link, Value::End), Note::Ends),
-        Finish::Busy => (Deed::Nothing, Note::Busy),
-        Finish::Closed => (Deed::Nothing, Note::Closed),
+        Finish::Ended => (Deed::Store(column.link, Value::End), Remark::Ends),
+        Finish::Busy => (Deed::Nothing, Remark::Busy),
+        Finish::Closed => (Deed::Nothing, Remark::Closed),
     }
 }
 
-fn looked(seat: &Seat, answer: Look) -> (Deed, Note) {
+/// What a look did and came to.
+fn looked(column: &Column, answer: Look) -> (Deed, Remark) {
     match answer {
-        Look::Nothing => (Deed::Load(seat.link, Value::Number(0)), Note::Empty),
-        Look::Cell(cell) => (Deed::Load(seat.link, Value::Cell(cell)), Note::Found),
-        Look::Ended => (Deed::Load(seat.link, Value::End), Note::Ended),
+        Look::Nothing => (Deed::Load(column.link, Value::Number(0)), Remark::Empty),
+        Look::Cell(cell) => (Deed::Load(column.link, Value::Cell(cell)), Remark::Found),
+        Look::Ended => (Deed::Load(column.link, Value::End), Remark::Ended),
     }
 }
 
@@ -137,40 +143,41 @@ fn access(cell: u32, object: u32, act: Act) -> Deed {
     }
 }
 
-fn stage_note(stage: Stage) -> Note {
+/// What is remarked of the stage to which an access led a claim.
+fn stage_remark(stage: Stage) -> Remark {
     match stage {
-        Stage::Going => Note::Plain,
-        Stage::Won => Note::Won,
-        Stage::Lost(winner) => Note::Lost(winner),
-        Stage::Undecided => Note::Undecided,
+        Stage::Going => Remark::Plain,
+        Stage::Won => Remark::Won,
+        Stage::Lost(winner) => Remark::Lost(winner),
+        Stage::Undecided => Remark::Undecided,
     }
 }
 
-/// What the event did and came to, by its answer. It leaves the seat as it stands after the event.
-fn told(seat: &mut Seat, event: Event, answer: Answer, added: u64) -> (Deed, Note) {
+/// What the event did and came to, by its answer. It leaves the column as it stands after the event.
+fn told(column: &mut Column, event: Event, answer: Answer, added: u64) -> (Deed, Remark) {
     match answer {
-        Answer::NoLane | Answer::NoConsumer => (Deed::Nothing, Note::Refused),
+        Answer::NoLane | Answer::NoConsumer => (Deed::Nothing, Remark::Refused),
         Answer::Offered(answer) => match event {
-            Event::Offer { item, .. } => offered(seat, answer, item, added),
-            _ => (Deed::Nothing, Note::Refused),
+            Event::Offer { item, .. } => offered(column, answer, item, added),
+            _ => (Deed::Nothing, Remark::Refused),
         },
-        Answer::Pushed(answer) => pushed(seat, answer),
-        Answer::Finished(answer) => finished(seat, answer),
-        Answer::Looked(answer) => looked(seat, answer),
+        Answer::Pushed(answer) => pushed(column, answer),
+        Answer::Finished(answer) => finished(column, answer),
+        Answer::Looked(answer) => looked(column, answer),
         Answer::Claimed {
             cell,
             object,
             act,
             stage,
         } => {
-            seat.link = Word::Link(cell);
-            (access(cell, object, act), stage_note(stage))
+            column.link = Word::Link(cell);
+            (access(cell, object, act), stage_remark(stage))
         }
         Answer::Took { cell, item } => {
-            seat.link = Word::Link(cell);
+            column.link = Word::Link(cell);
             (
                 Deed::Load(Word::Item(cell), Value::Number(item)),
-                Note::Took,
+                Remark::Took,
             )
         }
     }
@@ -190,20 +197,20 @@ fn additions(marks: &[Mark]) -> u64 {
 /// Draws an event with its answer.
 fn draw<A: Allocator + Copy>(
     picture: &mut Picture<A>,
-    seats: &mut [Seat],
+    columns: &mut [Column],
     event: Event,
     answer: Answer,
 ) -> Result<(), NoMemory> {
     let added = additions(&picture.marks);
-    for (column, seat) in seats.iter_mut().enumerate() {
-        if seat.who == maker(event) {
-            let (deed, note) = told(seat, event, answer, added);
+    for (number, column) in columns.iter_mut().enumerate() {
+        if column.who == maker(event) {
+            let (deed, remark) = told(column, event, answer, added);
             return picture.push(Mark {
-                column,
+                column: number,
                 deed,
-                note,
-                opens: matches!(note, Note::Found),
-                ends: matches!(note, Note::Lost(_) | Note::Undecided | Note::Took),
+                remark,
+                opens: matches!(remark, Remark::Found),
+                ends: matches!(remark, Remark::Lost(_) | Remark::Undecided | Remark::Took),
             });
         }
     }
@@ -218,19 +225,19 @@ fn draw_all<A: Allocator + Copy>(
     script: &Script<A>,
 ) -> Result<(), NoMemory> {
     let drawn = script.events.len().min(MAX_ROWS);
-    let mut seats = seats_of(
+    let mut columns = columns_of(
         alloc,
         script.setup.producers(),
         script.setup.consumers(),
         &script.events[..drawn],
     )?;
-    for seat in &seats {
-        picture.columns.push(seat.who)?;
+    for column in &columns {
+        picture.columns.push(column.who)?;
     }
     for (row, event) in script.events.iter().enumerate() {
         let answer = world.apply(*event);
         if row < drawn {
-            draw(picture, &mut seats, *event, answer)?;
+            draw(picture, &mut columns, *event, answer)?;
         } else {
             picture.hidden = picture.hidden.saturating_add(1);
         }

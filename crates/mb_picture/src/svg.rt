@@ -4,7 +4,7 @@ mod legend;
 mod shapes;
 
 use crate::escape::push_escaped;
-use crate::label::{push_deed, push_note, push_where, push_who};
+use crate::label::{push_deed, push_remark, push_where, push_who};
 use crate::layout::{LEFT, Layout, Place, TOP, layout_of, middle};
 use crate::picture::{Deed, Mark, Picture, Tone, Who};
 use crate::style::STYLE;
@@ -78,7 +78,7 @@ fn push_label<A: Allocator + Copy>(
     place: Place,
     y: usize,
 ) -> Result<(), NoMemory> {
-    let tone = mark.note.tone();
+    let tone = mark.remark.tone();
     let stores = mark.deed.stored().is_some();
     push_ground(text, class_of(tone, stores), stores, place, y)?;
     let mut label = String::new(alloc);
@@ -111,20 +111,20 @@ fn push_mark<A: Allocator + Copy>(
         Deed::Nothing => "g e",
         _ => {
             push_label(alloc, text, mark, place, y)?;
-            if is_dark(mark.note.tone()) {
+            if is_dark(mark.remark.tone()) {
                 "b e in"
             } else {
                 "b e"
             }
         }
     };
-    let mut note = String::new(alloc);
-    push_note(&mut note, mark.note)?;
-    if note.is_empty() {
+    let mut remark = String::new(alloc);
+    push_remark(&mut remark, mark.remark)?;
+    if remark.is_empty() {
         return Ok(());
     }
     let right = place.left.saturating_add(place.width).saturating_sub(6);
-    push_text(text, class, right, y.saturating_add(4), &note)
+    push_text(text, class, right, y.saturating_add(4), &remark)
 }
 
 /// Boxes, lines and marks, in this order, so that no line runs over a mark.

@@ -20,14 +20,14 @@ alone_taken name Ratify = refl
 alone_taken name Replay = refl
 alone_taken name (Run options) = refl
 
--- and finds it
+-- clap finds a command that stands alone
 alone_found : (name : Text) (choice : Choice) → command_in (name ∷ choice_name choice ∷ []) ≡ Some (choice_name choice)
 unfolding clap_on_literals
 alone_found name Ratify = refl
 alone_found name Replay = refl
 alone_found name (Run options) = refl
 
--- the name of what was entered
+-- the name of the subcommand that was entered, by its rows
 rows_name : (m : ArgMatches) → option_map (λ (found : _). found.0) (subcommand_rows_of m) ≡ subcommand_name_of m
 rows_name m = grind (arith, common_steps)
 
@@ -59,14 +59,14 @@ pub found_in : (app : App) (words : List Text) (m : ArgMatches) → IsProgramApp
 found_in app words m is_program matches =
     (matches (program_is_simple app is_program)).1 ∙ commands_same app words is_program
 
--- so they name the command that clap finds
+-- so the matches name the command that clap finds
 pub named_in : (app : App) (words : List Text) (m : ArgMatches) (choice : Choice) → IsProgramApp app
     → HasMatchesOf app words m
     → command_in words ≡ Some (choice_name choice) → subcommand_name_of m ≡ Some (choice_name choice)
 named_in app words m choice is_program matches named =
     sym (rows_name m) ∙ ap (option_map (λ found. found.0)) (found_in app words m is_program matches) ∙ named
 
--- and no other
+-- the matches name no other command than clap finds
 pub told_in : (app : App) (words : List Text) (m : ArgMatches) (choice : Choice) → IsProgramApp app
     → HasMatchesOf app words m
     → subcommand_name_of m ≡ Some (choice_name choice) → command_in words ≡ Some (choice_name choice)

@@ -20,5 +20,5 @@ pub mod RunItems
 pub mod RunLanes
 pub mod RunNotes
 pub mod RunReports
-pub mod RunsBehind
+pub mod ReportedRuns
 pub mod RunEnds

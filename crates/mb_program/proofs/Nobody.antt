@@ -1,4 +1,4 @@
--- A ratifier script of nobody.
+-- A ratifier script without a process.
 use Rattle.std.proofs.Common.{◌≡◌, ℕ, [], codes, Ok, refl, arith}
 use Rattle.mb_quorum.specs.declared.table.TableName.TheVariants.{Unary}
 use Rattle.mb_script.specs.Vocabulary.{number_of, numbers_of}
@@ -9,12 +9,12 @@ use Rattle.mb_program.specs.RatifyScript.{Script, script_of, three_lines, line_w
 abbrev pub nobody : ℕ → Script
 nobody m = record { table = Unary; values = m; inputs = []; turns = [] }
 
--- its bytes say so
+-- the bytes of that script say so
 pub reads_two : script_of (codes "ratify unary 2\ninputs\nturns\n") ≡ Ok (nobody 2)
 unfolding script_of three_lines line_words head_of list_of number_of numbers_of
 reads_two = refl
 
--- its answer is empty
+-- the answer to that script is empty
 pub nobody_answered : IsAnswer (codes "ratify unary 2\ninputs\nturns\n") []
 nobody_answered = record {
   script = nobody 2;

@@ -15,7 +15,7 @@ use Rattle.mb_program.specs.RunOptions.{number_from}
 abbrev most : ℕ
 most = 2 ^ 64 - 1
 
--- it writes none: the default is given
+-- a text that writes no number gives the default
 read_out : (default : ℕ) (t : Text) → (IsUnsignedIn 0 most t → ⊥) → number_from 0 most default (Some t) ≡ default
 read_out default t outside = go (is_unsigned_in 0 most t) refl
   where

@@ -22,6 +22,7 @@ use Rattle.mb_program.specs.CommandLine.{IsProgramApp, TextsAt, program, program
 abbrev moved : TextsAt → TextsAt
 moved names = texts_at (map (λ (n : Bor Text). n.now) names.now)
 
+-- a parser with its words put elsewhere
 abbrev moved_parser : ValueParser → ValueParser
 moved_parser (vp.Names names) = vp.Names (moved names)
 moved_parser vp.String = vp.String
@@ -35,11 +36,12 @@ moved_parser vp.Float = vp.Float
 moved_parser vp.Char = vp.Char
 moved_parser (vp.Values values) = vp.Values values
 
+-- the change of every parser to one with its words put elsewhere
 abbrev swap : Swap
 swap None = None
 swap (Some p) = Some (moved_parser p)
 
--- it accepts the same values
+-- names that lie elsewhere accept the same values
 same_words : (i : Bool) (t : Text) (names : List (Bor Text))
     → list_any (λ (n : Bor Text). same_text i n.now t)
     (map somewhere (map (λ (n : Bor Text). n.now) names))
@@ -47,6 +49,7 @@ same_words : (i : Bool) (t : Text) (names : List (Bor Text))
 same_words i t [] = refl
 same_words i t (n ∷ names) = ap (λ x. same_text i n.now t || x) (same_words i t names)
 
+-- a parser with its words elsewhere accepts the same values
 same_accepts : (i : Bool) (p : ValueParser) (t : Text)
     → accepts i (moved_parser p) t ≡ accepts i p t
 same_accepts i (vp.Names names) t = same_words i t names.now
@@ -61,6 +64,7 @@ same_accepts i vp.Float t = refl
 same_accepts i vp.Char t = refl
 same_accepts i (vp.Values values) t = refl
 
+-- it reads values in the same way
 same_reading : (p : ValueParser) → reading_of (moved_parser p) ≡ reading_of p
 same_reading (vp.Names names) = refl
 same_reading vp.String = refl
@@ -74,6 +78,7 @@ same_reading vp.Float = refl
 same_reading vp.Char = refl
 same_reading (vp.Values values) = refl
 
+-- it refuses values for the same kind of reason
 same_kind : (p : ValueParser) → refused_kind (moved_parser p) ≡ refused_kind p
 same_kind (vp.Names names) = refl
 same_kind vp.String = refl
@@ -87,21 +92,25 @@ same_kind vp.Float = refl
 same_kind vp.Char = refl
 same_kind (vp.Values values) = refl
 
+-- that holds of an argument's parser, if it has one
 reading_kept : (o : Option ValueParser)
     → reading_of (parser_of_value (swap o)) ≡ reading_of (parser_of_value o)
 reading_kept None = refl
 reading_kept (Some p) = same_reading p
 
+-- an argument accepts the same values
 accepts_kept : (i : Bool) (o : Option ValueParser) (t : Text)
     → accepts i (parser_of_value (swap o)) t ≡ accepts i (parser_of_value o) t
 accepts_kept i None t = refl
 accepts_kept i (Some p) t = same_accepts i p t
 
+-- an argument refuses values for the same kind of reason
 kind_kept : (o : Option ValueParser)
     → refused_kind (parser_of_value (swap o)) ≡ refused_kind (parser_of_value o)
 kind_kept None = refl
 kind_kept (Some p) = same_kind p
 
+-- so the change is one to parsers that do as the old ones
 reads_same : ReadsSame swap
 reads_same = record { reading = reading_kept; accepts = accepts_kept; kind = kind_kept }
 
@@ -110,6 +119,7 @@ built_moved : (names : TextsAt)
     → below_swapped swap (built (program_with names)) ≡ built (program_with (moved names))
 built_moved names = refl
 
+-- the program over names that lie elsewhere, with that change, is the program
 there : (names : TextsAt) → map (λ (n : Bor Text). n.now) names.now ≡ shape_names
     → below_swapped swap (built (program_with names)) ≡ built program
 there names says =
@@ -125,6 +135,7 @@ unfolding clap_on_literals
 program_is_free app is = ap is_simple_and_free is.2 ∙ refl
 
 -- ---- what clap makes of the words
+-- clap finds the same command
 pub commands_same : (app : App) (words : List Text) → IsProgramApp app
     → subcommand_of app words ≡ subcommand_of program words
 commands_same app words is =
@@ -133,6 +144,7 @@ commands_same app words is =
     ap (λ x. subcommand_of x words) is.2 ∙ sym (entered_same swap reads_same (built at) stop)
     ∙ ap (λ x. entered x stop) (there is.0 is.1)
 
+-- clap takes the same words
 pub takes_alike : (app : App) (words : List Text) → IsProgramApp app
     → takes app words ≡ takes program words
 takes_alike app words is =
@@ -143,6 +155,7 @@ takes_alike app words is =
     ∙ ap (λ x. is_simple at && built_takes x nothing_held (argument_words at words))
     (there is.0 is.1)
 
+-- clap refuses words for the same reasons
 pub faults_alike : (app : App) (words : List Text) → IsProgramApp app
     → fault_of app words ≡ fault_of program words
 faults_alike app words is =

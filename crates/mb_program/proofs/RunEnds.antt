@@ -11,21 +11,24 @@ use Rattle.mb_program.specs.declared.options.Options.{Options}
 use Rattle.mb_program.specs.Running.{IsRun, IsRunText, setup_refused}
 use Rattle.mb_program.proofs.RunSetups.{no_refusal}
 
--- a result with a report is no refusal of the setup
+-- a result refuses the setup exactly if the options do, for the same reason
 abbrev Refuses : {Y : Type 0} → Options → Result Y RunFault → Type 0
 Refuses o r = (why : SetupFault) → (r ≡ Err (BadSetup why)) ↔ (setup_refused o ≡ Some why)
 
+-- a result is no fault
 no_ok : {Y : Type 0} (y : Y) (e : RunFault) → ◌≡◌ {A = Result Y RunFault} (Ok y) (Err e) → ⊥
 no_ok y e is = absurd (cc)
 
+-- a result has one fault
 pub same_err : {Y : Type 0} (e f : RunFault) → ◌≡◌ {A = Result Y RunFault} (Err e) (Err f) → e ≡ f
 same_err e f is = cc
 
+-- if a run has a result, its setup is not refused
 not_refused : {Y : Type 0} (o : Options) (y : Y) → Refuses o (Ok y) → (why : SetupFault)
     → setup_refused o ≡ Some why → ⊥
 not_refused o y refuses why is = no_ok y _ ((refuses why).1 is)
 
--- a fault behind the setup
+-- a fault that comes after the setup was made is no refusal of it
 pub fault_behind : {Y : Type 0} (o : Options) (s : Setup) (e : RunFault)
     → MatchOption (setup_refused o) (IsOk {E = SetupFault} (Ok s))
     (λ why. ◌≡◌ {A = Result Setup SetupFault} (Ok s) (Err why))
@@ -36,7 +39,7 @@ fault_behind {Y} o s e made other = λ why. (
       ∙ no_refusal (setup_refused o) s made in absurd (cc),
 )
 
--- it never comes to write
+-- a run that fails before it writes leaves its writer
 fault_first : {X Y W : Type 0} (o : Options) (sink : IoModel W) (w : W) (e : RunFault)
     → e ≢ WriteFault → Refuses {Y = Y} o (Err e)
     → IsRun {X = X} o sink w w (Err e)
@@ -57,7 +60,7 @@ from_err : {X F : Type 0} (P : Result X F → Type 0) (r : Result X F) (e : F) �
 from_err P (Ok x) e is here = absurd is
 from_err P (Err f) e is here = subst (λ f. P (Err f)) (sym is) here
 
--- there is no report
+-- a run without a report ends so
 pub ends_without_report : {X Y W : Type 0} (o : Options) (sink : IoModel W) (w : W)
     (r : Result X RunFault) (e : RunFault)
     → IsErrAnd r (λ f. f ≡ e) → ◌≢◌ {A = Result Y RunFault} (Err e) (Err WriteFault)
@@ -66,7 +69,7 @@ ends_without_report {X} {Y} {W} o sink w r e is other refuses =
     from_err (λ r. IsRun o sink w w r) r e is
     (fault_first {X = X} {Y = Y} o sink w e (λ same. other (ap (λ f. Err f) same)) refuses)
 
--- there is no memory for its text
+-- a run without memory for its text ends so
 pub ends_without_text : {X Y W : Type 0} (o : Options) (sink : IoModel W) (w : W)
     (r : Result X RunFault) (e : RunFault) (y : Y)
     → IsErrAnd r (λ f. f ≡ e) → e ≡ NoMemory → Refuses o (Ok y) → IsRun o sink w w r
@@ -79,7 +82,7 @@ ends_without_text {X} {Y} {W} o sink w r e y is none refuses =
       λ is. absurd (not_refused o y refuses why is),
     ))))
 
--- it is written
+-- a run whose text is written ends so
 pub ends_written : {X Y W : Type 0} (o : Options) (sink : IoModel W) (w w' : W) (x : X) (y : Y)
     (text : List ℕ) → Refuses o (Ok y)
     → IsRunText o text → Appends (sink.bytes w) (sink.bytes w') text → sink.failures w'
@@ -93,7 +96,7 @@ ends_written {X} o sink w w' x y text refuses is appends worked = record {
   untouched = tt;
 }
 
--- a write failed
+-- a run of which a write failed ends so
 pub ends_half_written : {X Y W : Type 0} (o : Options) (sink : IoModel W) (w w' : W)
     (r : Result X RunFault) (e : RunFault) (y : Y) (text : List ℕ)
     → IsErrAnd r (λ f. f ≡ e) → e ≡ WriteFault → Refuses o (Ok y) → IsRunText o text

@@ -1,4 +1,4 @@
--- The lists of items grow by one.
+-- Lists that are made of numbers grow by one: items, and lists of items.
 use Rattle.std.proofs.Common.{◌≡◌, ◌+◌, ◌*◌, ◌++◌, ℕ, zero, suc, List, [], ◌∷◌, map, refl, sym, ap, ◌∙◌, arith}
 use Rattle.std.specs.List.{range_with_len}
 use Rattle.std.specs.Prelude.{Vec}
@@ -6,12 +6,13 @@ use Rattle.std.proofs.lemmas.List.{map-append}
 use Rattle.mb_mailbox.specs.Worked.{lists_in}
 use Rattle.mb_program.specs.Running.{items_of, item_lists}
 
+-- the numbers from a on, with one more
 range_more : (a n : ℕ) → range_with_len a (suc n) ≡ range_with_len a n ++ (a + n) ∷ []
 range_more a zero = let e : a + 0 ≡ a = omega arith in rw e refl
 range_more a (suc n) = ap (λ xs. a ∷ xs)
     (range_more (a + 1) n ∙ (let e : a + 1 + n ≡ a + suc n = omega arith in rw e refl))
 
--- one value more
+-- a list made of one number more has one value more
 pub map_more : {X : Type 0} (f : ℕ → X) (n : ℕ) → map f (range_with_len 0 (n + 1))
     ≡ map f (range_with_len 0 n) ++ f n ∷ []
 map_more f n =
@@ -21,11 +22,11 @@ map_more f n =
     ∙ ap (map f) (range_more 0 n ∙ ap (λ k. range_with_len 0 n ++ k ∷ []) last)
     ∙ map-append f (range_with_len 0 n) (n ∷ [])
 
--- one item more
+-- a producer's list with one item more
 pub items_more : (p n : ℕ) (xs : List ℕ) → xs ≡ items_of p n → xs ++ (1000 * p + n) ∷ [] ≡ items_of p (n + 1)
 items_more p n xs is = ap (λ ys. ys ++ (1000 * p + n) ∷ []) is ∙ sym (map_more (λ i. 1000 * p + i) n)
 
--- one list more
+-- the lists with one producer more
 pub lists_more : {Z : Type 0} (p count : ℕ) (vs : List (Vec ℕ Z)) (v : Vec ℕ Z) → lists_in vs
     ≡ item_lists p count → v.items ≡ items_of p count
     → lists_in (vs ++ v ∷ []) ≡ item_lists (p + 1) count

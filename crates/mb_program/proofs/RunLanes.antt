@@ -1,4 +1,5 @@
--- In a run no producer is stopped, and none is cut: each has put its whole list.
+-- In a run whose gate stops nobody no producer is stopped, so one that put less than its list found no cell. What sums
+-- and beginnings of lists say of that.
 use Rattle.std.proofs.Common.{◌≡◌, ◌+◌, ◌*◌, ◌++◌, ◌<◌, ◌≤◌, ℕ, zero, suc, Bool, true, false, List, [], ◌∷◌, Some, inl, inr, length, slice_get, refl, sym, ap, ◌∙◌, subst, arith}
 use Rattle.std.specs.Prelude.{slice_index_or}
 use Rattle.std.specs.List.{All, sum_by}
@@ -12,6 +13,7 @@ use Rattle.mb_mailbox.specs.Worked.{AreCutByCells, AreStoppedPuts, IsStoppedPut,
 use Rattle.mb_mailbox.specs.declared.gate.Who.{Who}
 
 -- ---- what is told of all the lanes is told of each
+-- what is told of producers that were stopped
 stopped_at : (may_stop : Who → ℕ → Type 0) (cells from : ℕ) (lists : List (List ℕ))
     (lanes : List LaneLeft) (p : ℕ) (list : List ℕ) (l : LaneLeft)
     → AreStoppedPuts may_stop cells from lists lanes → slice_get lists p ≡ Some list → slice_get lanes p ≡ Some l
@@ -30,6 +32,7 @@ stopped_at may_stop cells from (x ∷ xs) (y ∷ ys) (suc p) list l all at there
     subst (λ (k : ℕ). l.stopped ≡ true → IsStoppedPut may_stop cells k list l) next
     (stopped_at may_stop cells (suc from) xs ys p list l all.1 at there)
 
+-- what is told of producers that found no cell
 cut_at : (cells from : ℕ) (lists : List (List ℕ)) (lanes : List LaneLeft) (p : ℕ) (list : List ℕ) (l : LaneLeft)
     → AreCutByCells cells from lists lanes → slice_get lists p ≡ Some list → slice_get lanes p ≡ Some l
     → l.stopped ≡ false → length l.put < length list → HasFoundNone cells (from + p) l.part
@@ -47,7 +50,7 @@ cut_at cells from (x ∷ xs) (y ∷ ys) (suc p) list l all at there =
     subst (λ (k : ℕ). l.stopped ≡ false → length l.put < length list → HasFoundNone cells k l.part) next
     (cut_at cells (suc from) xs ys p list l all.1 at there)
 
--- where the gate stops nobody, the producer of a short list is not stopped
+-- if the gate stops nobody, the producer of a short list is not stopped
 not_stopped : (may_stop : Who → ℕ → Type 0) → ((w : Who) (n : ℕ) → may_stop w n → ⊥)
     → (cells p : ℕ) (list : List ℕ) (l : LaneLeft) → length list ≤ 256
     → (l.stopped ≡ true → IsStoppedPut may_stop cells p list l) → l.stopped ≡ false
@@ -63,7 +66,7 @@ not_stopped may_stop never cells p list l few is = go l.stopped refl
           | inr last ↦ omega (arith, last, few, short)
         ] in absurd none
 
--- so, where it put less than its list, a fetch-add of its found no cell
+-- so, if a producer put less than its list, a fetch-add of it found no cell
 pub found_none : (may_stop : Who → ℕ → Type 0) → ((w : Who) (n : ℕ) → may_stop w n → ⊥)
     → (cells : ℕ) (lists : List (List ℕ)) (lanes : List LaneLeft)
     → AreStoppedPuts may_stop cells 0 lists lanes → AreCutByCells cells 0 lists lanes
@@ -76,11 +79,12 @@ found_none may_stop never cells lists lanes stopped cut p list l at there few sh
     (not_stopped may_stop never cells (0 + p) list l few
     (stopped_at may_stop cells 0 lists lanes p list l stopped at there)) short)
 
--- ---- sums
+-- ---- what holds of each element, for all, and for a sum
+-- what holds at each place holds of all
 all_of : {X : Type 0} (P : X → Type 0) (xs : List X) → ((p : ℕ) (x : X) → slice_get xs p ≡ Some x → P x) → All P xs
 all_of P xs each = λ k d low. each k (slice_index_or xs k d) (slice_get-get_or xs k d low)
 
--- where none is over b and one is under it, the sum is under that of as many b
+-- if none is over b and one is under it, the sum is under that of as many b
 pub sum_short : {X : Type 0} (f : X → ℕ) (b : ℕ) (xs : List X) (p : ℕ) (x : X)
     → ((q : ℕ) (y : X) → slice_get xs q ≡ Some y → f y ≤ b)
     → slice_get xs p ≡ Some x → f x < b → sum_by f xs < length xs * b
@@ -101,11 +105,12 @@ sum_short f b (y ∷ ys) (suc p) x each at less =
     omega (arith, here, rest, sum, more)
 
 -- ---- a beginning of a list
+-- a beginning of a list is no longer than the list
 pub front_within : (put list : List ℕ) → IsFront put list → length put ≤ length list
 front_within put list front =
     let e = sym (length-append put front.0) ∙ ap length front.1 in omega (arith, e)
 
--- that is not shorter is the list
+-- a beginning that is not shorter than the list is the list
 pub front_whole : (put list : List ℕ) → IsFront put list → (length put < length list → ⊥) → put ≡ list
 front_whole put list front never = go front.0 front.1
   where

@@ -14,16 +14,19 @@ use Rattle.mb_mailbox.specs.Worked.{AreStoppedPolls, ConsumerLeft, HasNoteAtEach
 use Rattle.mb_mailbox.specs.declared.gate.Who.{Who}
 use Rattle.mb_program.specs.Running.{HasNotedAll, accesses_by}
 
+-- two `Some` that are one have one value
 same_some : {X : Type 0} {x y : X} → ◌≡◌ {A = Option X} (Some x) (Some y) → x ≡ y
 same_some e = cc
 
 -- ---- what is told of all is told of each
+-- the part that was taken in of a consumer
 taken_at : (cs : List ConsumerLeft) (c : ℕ) (one : ConsumerLeft) → slice_get cs c ≡ Some one
     → taken_part (map (λ x. Some x.claimed) cs) c ≡ one.claimed
 taken_at [] c one at = absurd (cc)
 taken_at (x ∷ xs) zero one at = ap (λ (y : ConsumerLeft). y.claimed) (same_some at)
 taken_at (x ∷ xs) (suc c) one at = taken_at xs c one at
 
+-- what is told of consumers that were stopped
 stopped_at : (may_stop : Who → ℕ → Type 0) (budget from : ℕ) (cs : List ConsumerLeft) (c : ℕ)
     (one : ConsumerLeft) → AreStoppedPolls may_stop budget from cs
     → slice_get cs c ≡ Some one → one.stopped ≡ true
@@ -40,6 +43,7 @@ stopped_at may_stop budget from (x ∷ xs) (suc c) one all at =
     subst (λ (k : ℕ). one.stopped ≡ true → IsStoppedPoll may_stop budget k (length one.reads + length one.claimed)) next
     (stopped_at may_stop budget (suc from) xs c one all.1 at)
 
+-- what is told of consumers that read to the end
 noted_at : (from : ℕ) (lanes : List LaneLeft) (p : ℕ) (l : LaneLeft) (ledger : ConsumerRecordView)
     → HasNoteAtEach from lanes ledger → slice_get lanes p ≡ Some l
     → length (notes_on (from + p) ledger.notes) ≡ length l.put
@@ -51,18 +55,18 @@ noted_at from (x ∷ xs) (suc p) l ledger has at =
     let next : from + suc p ≡ suc from + p = omega arith in
     ap (λ (k : ℕ). length (notes_on k ledger.notes)) next ∙ noted_at (suc from) xs p l ledger has.1 at
 
--- there is one at each place
+-- at each place of a list is an element
 one_at : {X : Type 0} (xs : List X) (k : ℕ) → k < length xs → (x : X) × (slice_get xs k ≡ Some x)
 one_at [] k low = absurd (omega (arith, low))
 one_at (x ∷ xs) zero low = (x, refl)
 one_at (x ∷ xs) (suc k) low = one_at xs k (omega (arith, low))
 
--- what holds of all holds of that one
+-- what holds of all holds of the element at a place
 of_one : {X : Type 0} (P : X → Type 0) (xs : List X) (k : ℕ) (x : X) → All P xs → k < length xs
     → slice_get xs k ≡ Some x → P x
 of_one P xs k x all low at = subst P (same_some (sym (slice_get-get_or xs k x low) ∙ at)) (all k x low)
 
--- where the gate stops nobody, a consumer that was stopped has come to call 2^64 - 1
+-- if the gate stops nobody, a consumer that was stopped has come to call 2^64 - 1
 come_to_last : (may_stop : Who → ℕ → Type 0) → ((w : Who) (n : ℕ) → may_stop w n → ⊥)
     → (budget c made : ℕ) → IsStoppedPoll may_stop budget c made
     → (2 ^ 64 - 2 ≤ made) × (made ≤ budget * (2 ^ 64 - 2))
@@ -77,6 +81,7 @@ come_to_last may_stop never budget c made was =
     ]
 
 -- ---- the notes of the report
+-- each consumer has a note at each item, or has made as many accesses
 pub notes_told : (may_stop : Who → ℕ → Type 0) (budget : ℕ) → ((w : Who) (n : ℕ) → may_stop w n → ⊥)
     → (count : ℕ) (m : MailboxView) (h : HubView) (r : ReportView)
     (left : List LaneLeft) (cs : List ConsumerLeft) (g : IsGathered m h r)

@@ -20,8 +20,9 @@ use Rattle.mb_mailbox.specs.declared.crew.Worked.{Worked}
 use Rattle.mb_mailbox.specs.Hubs.{HubView, IsHubOf, hub_empty}
 use Rattle.mb_mailbox.specs.Mailboxes.{MailboxView, plan_at}
 use Rattle.mb_mailbox.specs.Jobs.{IsFront}
+use Rattle.mb_mailbox.specs.ReportedRuns.{IsReportedRun}
 use Rattle.mb_mailbox.specs.Worked.{AreCutByCells, AreStoppedPolls, AreStoppedPuts, AsksTooMany, HasNoteAtEach, IsWorked, LaneLeft, ended_list}
-use Rattle.mb_program.specs.Running.{AreFew, HasNotedAll, IsLaneOf, IsRunBehind, IsRunReport, item_lists, items_of, plan_asked}
+use Rattle.mb_program.specs.Running.{AreFew, HasNotedAll, IsLaneOf, IsRunReport, item_lists, items_of, plan_asked, terms_asked}
 use Rattle.mb_program.specs.declared.options.Options.{Options}
 use Rattle.mb_program.proofs.RunLanes.{found_none, front_whole, front_within, sum_short}
 use Rattle.mb_program.proofs.RunNotes.{notes_told}
@@ -45,10 +46,11 @@ list_of producers count p low =
     let same : 0 + p ≡ p = omega arith in place_of (λ p. items_of p count) 0 producers p low
     ∙ ap (λ k. Some (items_of k count)) same
 
+-- two `Some` that are one have one value
 same_some : {X : Type 0} {x y : X} → ◌≡◌ {A = Option X} (Some x) (Some y) → x ≡ y
 same_some e = cc
 
--- the one beside it
+-- an element at the same place of the list beside
 pub beside : {X Y : Type 0} (R : X → Y → Type 0) (xs : List X) (ys : List Y) (p : ℕ) (x : X)
     → AllZip R xs ys → slice_get xs p ≡ Some x
     → (y : Y) × (slice_get ys p ≡ Some y) × R x y
@@ -61,7 +63,7 @@ beside {X} {Y} R xs ys p x zip at = go (slice_get ys p) refl
     go None none is = absurd (subst (λ o. IsSomeAnd o (R x)) none is)
     go (Some y) some is = (y, some, subst (λ o. IsSomeAnd o (R x)) some is)
 
--- ---- the lanes
+-- ---- the lanes of the report
 -- lane p of the report, and what its producer left
 record IsTold (count lanes consumers : ℕ) (h : HubView) (left : List LaneLeft) (r : ReportView) (p : ℕ) : Type 0 where
   one : LaneLeft
@@ -70,6 +72,7 @@ record IsTold (count lanes consumers : ℕ) (h : HubView) (left : List LaneLeft)
   told : slice_get r.lanes p ≡ Some (lane_in consumers p h)
   kept : kept_at h.puts p ≡ Some (ended_list one)
 
+-- each lane of the report is as its producer left it
 is_told : (producers count lanes consumers : ℕ) (h : HubView) (left : List LaneLeft) (r : ReportView)
     → producers ≡ lanes → IsReportIn lanes consumers h r → h.puts ≡ map (λ l. Some (ended_list l)) left
     → AllZip (λ list l. IsFront l.put list) (item_lists producers count) left
@@ -89,7 +92,7 @@ is_told producers count lanes consumers h left r same told puts fronts p low =
         → kept_at (map (λ l. Some (ended_list l)) left) p ≡ Some (ended_list l)
     kept_of left p l at = rw (slice_get-map (λ l. Some (ended_list l)) left p, at) refl
 
--- each lane of the report has ended and has its whole list, where a lane that has less tells that all the cells are put
+-- each lane of the report has ended and has its whole list, if a lane that has less tells that all the cells are put
 pub lanes_told : (producers count lanes consumers : ℕ) (h : HubView) (left : List LaneLeft) (r : ReportView)
     → producers ≡ lanes → IsReportIn lanes consumers h r → h.puts ≡ map (λ l. Some (ended_list l)) left
     → AllZip (λ list l. IsFront l.put list) (item_lists producers count) left
@@ -131,7 +134,7 @@ lanes_told producers count lanes consumers h left r same told puts fronts full p
         omega (arith, front, long, size)
 
 -- ---- the report is that of a run
--- where the gate stops nobody
+-- if the gate stops nobody, the report is that of a run
 pub run_report : {budget : ℕ} (may_stop : Who → ℕ → Type 0) → ((w : Who) (n : ℕ) → may_stop w n → ⊥)
     → (o : Options) (m : MailboxView) (old h : HubView) (r : ReportView) (lists : List (List ℕ))
     (n : ℕ) (w : Worked)
@@ -141,7 +144,8 @@ pub run_report : {budget : ℕ} (may_stop : Who → ℕ → Type 0) → ((w : Wh
     → IsWorked may_stop budget lists n w old h → IsHubOf m h
     → IsReportIn m.cells.size.lanes (consumer_count m.claims.layout) h r
     → (gathered : IsGathered m h r) → FullTakesAll m h r
-    → IsRunBehind o gathered.histories r → IsRunReport o r
+    → IsReportedRun (λ _ _. ⊥) (λ _ _. Unit {0}) (terms_asked o) (item_lists o.producers o.items) gathered.histories r
+    → IsRunReport o r
 run_report {budget} may_stop never o m old h r lists n w few asked plan size empty are sources
     worked of told gathered full run = record {
       histories = gathered.histories;
@@ -244,7 +248,8 @@ run_report {budget} may_stop never o m old h r lists n w few asked plan size emp
         let long : length (items_of p o.items) ≡ o.items = length-map-range_with_len (λ i. 1000 * p + i) 0 o.items in
         (t.one, t.there, ap length (sym (ap (λ (v : LaneView). v.put) is ∙ put) ∙ lane.2.whole) ∙ long)
 
--- all that was given is there
+-- ---- what a gathering could fail for
+-- all that was issued was taken in
 pub nothing_missing : {may_stop : Who → ℕ → Type 0} {budget : ℕ} (m : MailboxView) (old h : HubView)
     (lists : List (List ℕ)) (n : ℕ) (w : Worked)
     → old ≡ hub_empty m → IsWorked may_stop budget lists n w old h → count_missing h.puts + count_missing h.ledgers ≡ 0
@@ -256,6 +261,7 @@ nothing_missing m old h lists n w empty worked =
     let no_ledger = ap count_missing ledgers ∙ none_missing (λ c. c.ledger) worked.consumers in
     omega (arith, no_put, no_ledger)
 
+-- a gathering that failed for what is missing did not fail for memory
 pub not_missing : (f : GatherFault) (a b : ℕ) → f ≡ Missing a b → f ≡ NoMemory → ⊥
 not_missing f a b e g = let both : Missing a b ≡ NoMemory = sym e ∙ g in cc
 

@@ -30,10 +30,11 @@ any_swapped s p same [] = refl
 any_swapped s p same (a ∷ c) = ap₂ (λ x y. x || y) (same a) (any_swapped s p same c)
 
 module _ (s : Swap) (same : ReadsSame s) where
+  -- an argument with another parser
   abbrev f : Rule → Rule
   f = swapped s
 
-  -- ---- one use
+  -- ---- one use of an argument
   values_same : (a : Rule) (values : List Text) → values_fault (f a) values ≡ values_fault a values
   values_same a [] = refl
   values_same a (v ∷ values) =
@@ -80,6 +81,7 @@ module _ (s : Swap) (same : ReadsSame s) where
 
   -- ---- the walk, over the arguments c
   module _ (c : List Rule) (again : Bool) where
+    -- the arguments with other parsers
     abbrev d : List Rule
     d = map f c
 
@@ -167,7 +169,7 @@ module _ (s : Swap) (same : ReadsSame s) where
     positional_same stray (Some a) h =
         ap (λ (x : Kinds). cond (is_pending a h.pending && takes_several a) [] x) (settle_same h)
 
-  -- ---- defaults
+  -- ---- faults of defaults
   default_same : (rows : List Row) (a : Rule) → default_fault rows (f a) ≡ default_fault rows a
   default_same rows a =
       ap (λ (x : Kinds). cond (has_row a.id rows || is_empty a.defaults) []
@@ -184,6 +186,7 @@ module _ (s : Swap) (same : ReadsSame s) where
 
   -- ---- the walk of a command
   module _ (top : Shape) where
+    -- the command with other parsers
     abbrev other : Shape
     other = with_swapped s top
 
@@ -224,7 +227,7 @@ module _ (s : Swap) (same : ReadsSame s) where
         (ap (λ x. walk_fault other names x words) (walked_swapped s same top.rules names w word)
         ∙ walk_same names (walked top.rules names w word) words)
 
-    -- ---- after the walk
+    -- ---- the faults after the walk
     check_same : (rows : List Row) (has_subcommand : Bool)
         → check_fault other rows has_subcommand ≡ check_fault top rows has_subcommand
     check_same rows has_subcommand =

@@ -84,7 +84,7 @@ module _ (s : Swap) (same : ReadsSame s) where
       (sub_swapped s p.0 app.subs)
       ∙ sub_fault_same (find (λ x. answers_to p.0 (label_of x)) app.subs) p.1
 
-  -- ---- the whole
+  -- ---- the whole command line
   pub takes_same : (app : App) (h : Held) (words : List Text)
       → built_takes (below_swapped s app) h words ≡ built_takes app h words
   takes_same app h words =

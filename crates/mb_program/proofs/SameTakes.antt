@@ -31,10 +31,11 @@ all_swapped s p q same [] = refl
 all_swapped s p q same (a ∷ c) = ap₂ (λ x y. x && y) (same a) (all_swapped s p q same c)
 
 module _ (s : Swap) (same : ReadsSame s) where
+  -- an argument with another parser
   abbrev f : Rule → Rule
   f = swapped s
 
-  -- ---- one use
+  -- ---- one use of an argument
   values_same : (a : Rule) (values : List Text) → values_pass (f a) values ≡ values_pass a values
   values_same a [] = refl
   values_same a (v ∷ values) =
@@ -83,6 +84,7 @@ module _ (s : Swap) (same : ReadsSame s) where
 
   -- ---- the walk, over the arguments c
   module _ (c : List Rule) (again : Bool) where
+    -- the arguments with other parsers
     abbrev d : List Rule
     d = map f c
 
@@ -172,6 +174,7 @@ module _ (s : Swap) (same : ReadsSame s) where
 
   -- ---- the walk of a command
   module _ (top : Shape) where
+    -- the command with other parsers
     abbrev other : Shape
     other = with_swapped s top
 
@@ -212,7 +215,7 @@ module _ (s : Swap) (same : ReadsSame s) where
         (ap (λ x. walk_passes other names x words) (walked_swapped s same top.rules names w word)
         ∙ walk_same names (walked top.rules names w word) words)
 
-    -- ---- after the walk
+    -- ---- the tests after the walk
     valid_same : (rows : List Row) (has_subcommand : Bool)
         → is_valid other rows has_subcommand ≡ is_valid top rows has_subcommand
     valid_same rows has_subcommand =

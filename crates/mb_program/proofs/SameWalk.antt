@@ -15,6 +15,7 @@ use Rattle.clap.specs.Walk.{subcommand, subcommand_met, subcommand_or_other, tak
 use Rattle.clap.specs.Walk.{used_by_id, value, values_or_missing, waits, walk, walk_from, walked, walked_from, with_default, word_met}
 use Rattle.clap.specs.declared.builder.value_parser.ValueParser.{ValueParser}
 
+-- a change of parsers
 abbrev pub Swap : Type 0
 Swap = Option ValueParser → Option ValueParser
 
@@ -22,7 +23,7 @@ Swap = Option ValueParser → Option ValueParser
 abbrev pub swapped : Swap → Rule → Rule
 swapped s a = record a { parser = s a.parser }
 
--- they read, accept and refuse values as before
+-- the changed parsers read, accept and refuse values as before
 pub record ReadsSame (s : Swap) : Type 0 where
   pub reading : (o : Option ValueParser)
       → reading_of (parser_of_value (s o)) ≡ reading_of (parser_of_value o)
@@ -47,10 +48,11 @@ found_swapped s p same (a ∷ c) =
     go false e = e
 
 module _ (s : Swap) (same : ReadsSame s) where
+  -- an argument with another parser
   abbrev f : Rule → Rule
   f = swapped s
 
-  -- ---- one use
+  -- ---- one use of an argument
   pub used_swapped : (a : Rule) (values : List Text) (rows : List Row)
       → used (f a) values rows ≡ used a values rows
   used_swapped a values rows =
@@ -64,6 +66,7 @@ module _ (s : Swap) (same : ReadsSame s) where
 
   -- ---- the walk, over the arguments c
   module _ (c : List Rule) where
+    -- the arguments with other parsers
     abbrev d : List Rule
     d = map f c
 
@@ -243,7 +246,7 @@ module _ (s : Swap) (same : ReadsSame s) where
         → walk d names h words ≡ walk c names h words
     walk_swapped names h words = steps_swapped names (walk_from h) words
 
-  -- ---- after the walk
+  -- ---- the rows after the walk
   pub with_default_swapped : (rows : List Row) (a : Rule)
       → with_default rows (f a) ≡ with_default rows a
   with_default_swapped rows a =

@@ -42,13 +42,13 @@ bind_ok : {A B : Type 0} (r : Result A RatifyFault) (f : A → Result B RatifyFa
 bind_ok (Ok x) f y e = (x, refl, e)
 bind_ok (Err d) f y e = absurd (cc)
 
--- a test that had to hold
+-- a step after a test that had to hold went well, so it held
 passed : {A : Type 0} (b : Bool) (d : RatifyFault) (r : Result A RatifyFault) (y : A) → cond b r (Err d) ≡ Ok y
     → (b ≡ true) × (r ≡ Ok y)
 passed true d r y e = (refl, e)
 passed false d r y e = absurd (cc)
 
--- a test that had to fail
+-- a step after a test that had to fail went well, so it failed
 avoided : {A : Type 0} (b : Bool) (d : RatifyFault) (r : Result A RatifyFault) (y : A) → cond b (Err d) r ≡ Ok y
     → (b ≡ false) × (r ≡ Ok y)
 avoided false d r y e = (refl, e)
@@ -58,11 +58,11 @@ avoided true d r y e = absurd (cc)
 abbrev done : {A : Type 0} → A → Result A RatifyFault
 done x = Ok x
 
--- `Ok` of one value twice
+-- two `Ok` that are one have one value
 ok_is : {A : Type 0} (x y : A) → done x ≡ done y → x ≡ y
 ok_is x y e = cc
 
--- an option that had a value
+-- a step after an option that had to have a value went well, so it had one
 some_from : {A : Type 0} (o : Option A) (d : RatifyFault) (x : A) → ok_or o d ≡ Ok x → o ≡ Some x
 some_from (Some y) d x e = ap (λ (z : _). Some z) (ok_is y x e)
 some_from None d x e = absurd (cc)
@@ -135,7 +135,7 @@ head_again law Unary m h = rw (law.read m h) refl
 head_again law Bits m h = rw (law.read m h) refl
 head_again law Middle m h = rw (law.read m h) refl
 
--- numbers that were read behind a key were spelled so
+-- numbers that were read after a key were spelled so
 list_takes : TextLaws → (n : ℕ) (key : List ℕ) (ws : List (List ℕ)) (ns : List ℕ) → list_of n key ws ≡ Ok ns
     → (ws ≡ key ∷ map decimal ns) × AllByRecursion (λ k. k < 2 ^ 64) ns
 unfolding list_of
@@ -146,31 +146,32 @@ list_takes law n key (w ∷ ws) ns e =
     let v = law.all_spelled ws ns (some_from _ _ _ g.1) in
     (ap (λ (x : List ℕ). x ∷ ws) k ∙ ap (λ (x : List (List ℕ)). key ∷ x) v.0, v.1)
 
--- numbers that are spelled behind a key are read so
+-- numbers that are spelled after a key are read so
 list_again : TextLaws → (n : ℕ) (key : List ℕ) (ns : List ℕ) → AllByRecursion (λ k. k < 2 ^ 64) ns
     → list_of n key (key ∷ map decimal ns) ≡ Ok ns
 unfolding list_of
 list_again law n key ns h = rw ((bytes_eq-Decides key key).1 refl, law.all_read ns h) refl
 
--- what is done after each step of `three_lines` stands below, the last first; lines, or the words of one
+-- the type of lines, or of the words of one. What is left to do after each step of `three_lines` stands below it, the
+-- last step first
 abbrev Lines : Type 0
 Lines = List (List ℕ)
 
--- the last test
+-- after the numbers of line 3: the last test
 abbrev after_turns : TableName × ℕ → List ℕ → Lines → List ℕ → Result Script RatifyFault
 after_turns head inputs rest turns =
     cond (nat_eq (length rest) 0)
     (Ok (record { table = head.0; values = head.1; inputs = inputs; turns = turns })) (Err (BadLine 4))
 
--- from the words of line 3 on
+-- after the words of line 3
 abbrev after_third : TableName × ℕ → List ℕ → Lines × Lines → Result Script RatifyFault
 after_third head inputs third = list_of 3 (codes "turns") third.0 >>= after_turns head inputs third.1
 
--- from the inputs on
+-- after the numbers of line 2
 abbrev after_inputs : TableName × ℕ → Lines → List ℕ → Result Script RatifyFault
 after_inputs head rest inputs = line_words 3 rest >>= after_third head inputs
 
--- from the words of line 2 on
+-- after the words of line 2
 abbrev after_second : TableName × ℕ → Lines × Lines → Result Script RatifyFault
 after_second head second = list_of 2 (codes "inputs") second.0 >>= after_inputs head second.1
 
@@ -178,7 +179,7 @@ after_second head second = list_of 2 (codes "inputs") second.0 >>= after_inputs 
 abbrev after_head : Lines → TableName × ℕ → Result Script RatifyFault
 after_head rest head = line_words 2 rest >>= after_second head
 
--- from the words of line 1 on
+-- after the words of line 1
 abbrev after_first : Lines × Lines → Result Script RatifyFault
 after_first first = head_of first.0 >>= after_head first.1
 
@@ -219,7 +220,7 @@ table_word Unary = search rules
 table_word Bits = search rules
 table_word Middle = search rules
 
--- a script's words are words
+-- the words of a script may stand on lines
 words_fit : TextLaws → (s : Script) → HasSpelling s → AllByRecursion IsWordLine (script_words s)
 words_fit law s h = (
   (search rules, (table_word s.table, (law.word s.values h.values, tt))),
@@ -240,7 +241,7 @@ lines_again law s h =
       list_again law 3 (codes "turns") s.turns h.turns,
     ) refl
 
--- what is read was spelled so
+-- a script that was read was spelled so
 script_takes : TextLaws → (bytes : List ℕ) (s : Script) → script_of bytes ≡ Ok s → HasSpelling s
     × (lines_of bytes ≡ script_lines s)
 unfolding script_of
@@ -251,7 +252,7 @@ script_takes law bytes s e =
     let b = passed (list_all is_ascii bytes) NotAscii read s a.1 in
     lines_take law (lines_of bytes) s b.1
 
--- what is spelled is read so
+-- a script that is spelled is read so
 pub script_again : TextLaws → (bytes : List ℕ) (s : Script) → HasSpelling s → length bytes ≤ MAX_SCRIPT_LEN
     → lines_of bytes ≡ script_lines s → script_of bytes ≡ Ok s
 unfolding script_of
@@ -259,7 +260,7 @@ script_again law bytes s h short e =
     let ascii = law.ascii bytes (script_words s) (words_fit law s h) e in
     rw (le-ltb MAX_SCRIPT_LEN (length bytes) short, ascii, e) (lines_again law s h)
 
--- the same of a call's result
+-- what a call found in bytes was spelled so
 pub is_found : {A : Type 0} → TextLaws → (bytes : List ℕ) (r : Result (code.RatifyScript A) RatifyFault)
     → Gives (λ s. view s) r (script_of bytes)
     → IfOk r (λ s. HasSpelling (view s) × (lines_of bytes ≡ script_lines (view s)))

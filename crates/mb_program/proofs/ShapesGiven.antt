@@ -18,6 +18,7 @@ shape_read f o p gives is =
     ap (λ (q : Option (Bor Text)). shape_from (option_map (λ (s : Bor Text). s.now) q)) (sym is)
     ∙ ap shape_from (gives ∙ first_value-rows f (codes "shape"))
 
+-- a word that `get_str` gives names the shape, or else the default holds
 pub word_read : (f : Found) (o : Option (Bor Text)) (word : Bor Text) (named : Option Shape)
     (r : Shape)
     → option_map (λ (s : Bor Text). s.now) o ≡ first_value f (codes "shape") → o ≡ Some word
@@ -27,6 +28,7 @@ word_read f o word named r gives is found made =
     made ∙ ap (λ (q : Option Shape). unwrap_or q DEFAULTS.shape) found
     ∙ shape_read f o (Some word) gives is
 
+-- without a word the default holds
 pub none_read : (f : Found) (o : Option (Bor Text))
     → option_map (λ (s : Bor Text). s.now) o ≡ first_value f (codes "shape") → o ≡ None
     → DEFAULTS.shape ≡ shape_in (rows_of f)

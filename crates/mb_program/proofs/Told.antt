@@ -18,7 +18,7 @@ printed_as sink old new end text printed flag same equal wrote =
     subst (λ d. IsPrinted sink old d text flag) (sym same)
     (subst (λ b. IsPrinted sink old new text b) (sym equal) wrote)
 
--- to the second writer
+-- clap's text went to the second writer
 pub told_errors : {W E : Type 0} (sink : IoModel W) (errs : IoModel E) (writer writer' : W)
     (errors errors' new : E) (kind : ErrorKind)
     (stderr printed flag : Bool) (text : List ℕ) → Decides stderr kind → stderr ≡ true → writer'
@@ -30,7 +30,7 @@ told_errors sink errs writer writer' errors errors' new kind stderr printed flag
       λ _ _. (same, (text, printed_as errs errors new errors' text printed flag end equal wrote)),
     )
 
--- to the first
+-- clap's text went to the first writer
 pub told_output : {W E : Type 0} (sink : IoModel W) (errs : IoModel E) (writer writer' new : W)
     (errors errors' : E) (kind : ErrorKind)
     (stderr printed flag : Bool) (text : List ℕ) → Decides stderr kind → stderr ≡ false → writer'

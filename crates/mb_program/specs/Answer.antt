@@ -40,7 +40,7 @@ pub record IsAnswer (bytes text : List ℕ) : Type 0 where
   pub made : IsTraceOf script entries outputs
   pub written : text ≡ trace_text entries outputs
 
--- the answers and the faults of the command `ratify`
+-- the command `ratify`: its answers and its faults
 abbrev pub ratifying : Command RatifyFault
 ratifying = record {
   too_long = TooLong;

@@ -25,14 +25,15 @@ number_rule name default low high = record (new_rule name) {
 abbrev pub any_number : Text → Text → Rule
 any_number name default = number_rule name default 0 (2 ^ 64 - 1)
 
--- references to texts, as clap takes them
+-- the type of references to texts, as clap takes them
 abbrev pub TextsAt : Type 0
 TextsAt = Bor (List (Bor Text))
 
--- the texts with a place in memory, which is the same for all: clap reads what they say, and not where they lie
+-- a value with a place in memory, which is the same for all: clap reads what texts say, and not where they lie
 abbrev pub somewhere : {X : Type 0} → X → Bor X
 somewhere x = record { ref_ptr = (0, 0); now = x }
 
+-- texts with such places
 abbrev pub texts_at : List Text → TextsAt
 texts_at texts = somewhere (map somewhere texts)
 
@@ -59,17 +60,18 @@ run_with names =
     (number_rule (codes "budget") (codes "64") 1 MAX_BUDGET)) (any_number (codes "seed") (codes "0")))
     (named_rule (codes "shape") (codes "plain") names)
 
--- the program, which prints its version. One of its commands has to be named
+-- the program without its commands. It prints its version, and one of its commands has to be named
 abbrev pub root_command : App
 root_command =
     on_top (λ top. record top { subcommand_required = true; has_version = true }) (new_app (codes "mailbox"))
 
--- its commands: `ratify` and `replay`, which take nothing more, and `run`
+-- the program with its commands: `ratify` and `replay`, which take nothing more, and `run`, over these names of shapes
 abbrev pub program_with : TextsAt → App
 program_with names =
     with_subcommand (with_subcommand (with_subcommand root_command (new_app (codes "ratify")).top)
     (new_app (codes "replay")).top) (run_with names).top
 
+-- the program, over the names of shapes
 abbrev pub program : App
 program = program_with (texts_at shape_names)
 
@@ -78,9 +80,11 @@ abbrev pub IsHanded : (TextsAt → App) → List Text → App → Type 0
 IsHanded app_with texts app =
     (names : TextsAt) × (map (λ (n : Bor Text). n.now) names.now ≡ texts) × (app ≡ app_with names)
 
+-- the app is the command `run`, wherever the names of shapes lie
 abbrev pub IsRunApp : App → Type 0
 IsRunApp = IsHanded run_with shape_names
 
+-- the app is the program, wherever the names of shapes lie
 abbrev pub IsProgramApp : App → Type 0
 IsProgramApp = IsHanded program_with shape_names
 

@@ -1,4 +1,4 @@
--- How the program ends.
+-- How the program ends: the line of each fault, and the exit statuses.
 use Rattle.std.specs.Prelude.{ℕ, List, ◌++◌, Bool, true, false, codes}
 use Rattle.std.specs.Fmt.{decimal}
 use Rattle.clap.specs.declared.error.ErrorKind.{ErrorKind}
@@ -13,7 +13,7 @@ use Rattle.mb_program.specs.declared.fault.RunFault.TheVariants as run
 use Rattle.mb_program.specs.declared.outcome.ProgramExit.{ProgramExit}
 use Rattle.mb_program.specs.declared.outcome.ProgramExit.TheVariants as ending
 
--- a fault of a setup: its number and its name
+-- the text of a fault of a setup: its number and its name
 abbrev pub setup_fault_text : SetupFault → List ℕ
 setup_fault_text BadProducers = codes "1 BadProducers"
 setup_fault_text BadConsumers = codes "2 BadConsumers"

@@ -43,7 +43,8 @@ abbrev pub WordsName : List Text → Choice → Type 0
 WordsName words choice =
     (fault_of program words ≡ []) × (command_in words ≡ Some (choice_name choice)) × HasToldOptions words choice
 
--- the text was written whole. Or a prefix of it was written and the writer failed once, or the writer is as it was
+-- the text was written whole, if `true`. Else a prefix of it was written and the writer failed once, or the writer is
+-- as it was
 abbrev pub IsPrinted : {D : Type 0} → IoModel D → D → D → List ℕ → Bool → Type 0
 IsPrinted sink old new text true =
     Appends (sink.bytes old) (sink.bytes new) text × (sink.failures new ≡ sink.failures old)
@@ -60,7 +61,8 @@ IsTold sink errs writer writer' errors errors' kind printed =
     × (kind ≢ DisplayHelp → kind ≢ DisplayVersion
     → (writer' ≡ writer) × ((text : List ℕ) × IsPrinted errs errors errors' text printed))
 
--- ---- one run of the program, with its reader and two writers before it and after it
+-- ---- a run of the program
+-- one run of the program over these words ends so, with its reader and two writers before it and after it
 abbrev pub IsProgramRun : {R W E : Type 0} → List Text → IoModel R → IoModel W → IoModel E → R → R → W → W
     → E → E → ProgramExit → Type 0
 -- the command that the words name was carried out

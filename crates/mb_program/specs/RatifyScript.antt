@@ -40,7 +40,7 @@ unfoldable pub list_of : ℕ → List ℕ → List (List ℕ) → Result (List �
 list_of n key [] = Err (BadLine n)
 list_of n key (word ∷ words) = if bytes_eq word key then ok_or (numbers_of words) (BadNumber n) else Err (BadLine n)
 
--- the three lines in turn, so that the first faulty line decides
+-- what the three lines say, read in turn, so that the first faulty line decides
 unfoldable pub three_lines : List (List ℕ) → Result Script RatifyFault
 three_lines lines = do
   first ← line_words 1 lines

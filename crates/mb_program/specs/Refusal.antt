@@ -7,14 +7,14 @@ use Rattle.mb_program.specs.declared.fault.RatifyFault.TheVariants.{NoSuchProces
 use Rattle.mb_script.specs.declared.transfer.ReadEnd.{ReadEnd}
 use Rattle.mb_script.specs.declared.transfer.ReadEnd.TheVariants as end
 
--- each refusal keeps its name
+-- the fault of a refusal of `ratify`, which keeps its name
 abbrev pub fault_from : Fault → RatifyFault
 fault_from ratify.BadValues = BadValues
 fault_from (ratify.BadInput place) = BadInput place
 fault_from (ratify.NoSuchProcess place) = NoSuchProcess place
 fault_from ratify.NoMemory = NoMemory
 
--- each end of reading keeps its name
+-- the fault of an end of reading, which keeps its name
 abbrev pub fault_at : ReadEnd → RatifyFault
 fault_at end.TooLong = TooLong
 fault_at end.NoMemory = NoMemory

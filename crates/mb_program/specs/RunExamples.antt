@@ -1,4 +1,4 @@
--- Small runs for the examples.
+-- Options, reports and command lines of small runs, for the examples.
 use Rattle.std.specs.Prelude.{ℕ, List, [], ◌∷◌, Some, true, false, codes}
 use Rattle.clap.specs.Words.{Text}
 use Rattle.mb_world.specs.Plan.{Histories}
@@ -9,7 +9,7 @@ use Rattle.mb_program.specs.Program.{IsProgramRun}
 use Rattle.mb_program.specs.declared.options.Options.{Options}
 use Rattle.mb_program.specs.declared.outcome.ProgramExit.{ProgramExit}
 
--- ---- options
+-- ---- options and words of `run`
 -- the options of `run` if no further word is given
 abbrev pub asked : Options
 asked = record {
@@ -22,11 +22,12 @@ asked = record {
   shape = record { fast = false; last = false };
 }
 
--- `run`, and the words after it
+-- the command line of `run` with these words after it
 abbrev pub run_words : List Text → List Text
 run_words more = codes "mailbox" ∷ codes "run" ∷ more
 
--- ---- reports
+-- ---- what a small run may report
+-- histories in which nothing was done
 abbrev pub nothing_done : Histories
 nothing_done = record { claims = []; pool = []; reader_of = λ c. c }
 
@@ -37,6 +38,7 @@ report_with notes left = record {
   diaries = record { consumer = 0; lane = 0; notes = notes; begun = false } ∷ [];
 }
 
+-- options that ask for one item, one producer, one consumer and one pair
 abbrev pub one_item : Options
 one_item = record asked { producers = 1; consumers = 1; items = 1; pairs = 1 }
 
@@ -49,13 +51,15 @@ plain = meter (λ bytes. Some bytes) (λ _. 0)
 abbrev pub IsRunOver : List Text → List ℕ → List ℕ → List ℕ → List ℕ → ProgramExit → Type 0
 IsRunOver words found left output errors end = IsProgramRun words plain plain plain found left [] output [] errors end
 
+-- the command line of `ratify`
 abbrev pub ratify_words : List Text
 ratify_words = codes "mailbox" ∷ codes "ratify" ∷ []
 
+-- the command line that asks for help
 abbrev pub help_words : List Text
 help_words = codes "mailbox" ∷ codes "--help" ∷ []
 
--- with a word that no command takes
+-- the command line of `ratify` with a word that it does not take
 abbrev pub ratify_now : List Text
 ratify_now = codes "mailbox" ∷ codes "ratify" ∷ codes "now" ∷ []
 

@@ -21,7 +21,7 @@ number_from low high default (Some text) =
 abbrev pub number_in : Text → ℕ → List Row → ℕ
 number_in name default rows = number_from 0 (2 ^ 64 - 1) default (one_of name rows)
 
--- the budget, which lies in its range
+-- the budget of the rows, or else the default if it is out of its range
 abbrev pub budget_in : List Row → ℕ
 budget_in rows =
     let budget = number_in (codes "budget") DEFAULTS.budget rows in
@@ -32,10 +32,11 @@ abbrev pub shape_from : Option Text → Shape
 shape_from None = DEFAULTS.shape
 shape_from (Some word) = unwrap_or (shape_of_word word) DEFAULTS.shape
 
+-- the shape of the rows
 abbrev pub shape_in : List Row → Shape
 shape_in rows = shape_from (first_of (codes "shape") rows)
 
--- all options
+-- all options of the rows
 abbrev pub options_in : List Row → Options
 options_in rows = record {
   producers = number_in (codes "producers") DEFAULTS.producers rows;
@@ -52,7 +53,7 @@ abbrev pub HasOptions : Option (Text × List Row) → Choice → Type 0
 HasOptions found (Run options) = option_map (λ f. options_in f.1) found ≡ Some options
 HasOptions found _ = Unit {0}
 
--- they are those that the words give
+-- the options of a choice are those that the words give
 abbrev pub HasToldOptions : List Text → Choice → Type 0
 HasToldOptions words choice = HasOptions (subcommand_of program words) choice
 

@@ -12,23 +12,19 @@ use Rattle.mb_world.specs.Reporting.{IsReportOf}
 use Rattle.mb_world.specs.Setups.{setup_refusal, shaped_plan}
 use Rattle.mb_world.specs.Sound.{AreSound}
 use Rattle.mb_script.specs.Vocabulary.{AppendsFront, IoModel, one_more, report_text}
-use Rattle.mb_mailbox.specs.Imports.{Reader, Stream, consumer_count, consumer_part, part}
-use Rattle.mb_mailbox.specs.Called.{IsCalled}
-use Rattle.mb_mailbox.specs.Gathering.{IsGathered, IsReportIn}
-use Rattle.mb_mailbox.specs.Hubs.{HubView, hub_empty}
-use Rattle.mb_mailbox.specs.Mailboxes.{MailboxView, plan_at}
-use Rattle.mb_mailbox.specs.declared.crew.Worked.{Worked}
+use Rattle.mb_mailbox.specs.Imports.{Reader, Stream, consumer_part, part}
+use Rattle.mb_mailbox.specs.ReportedRuns.{IsReportedRun, Terms}
 use Rattle.mb_program.specs.Source.{source_from, words_from}
 use Rattle.mb_program.specs.declared.fault.RunFault.{RunFault}
 use Rattle.mb_program.specs.declared.fault.RunFault.TheVariants.{BadSetup, WriteFault}
 use Rattle.mb_program.specs.declared.options.Options.{Options}
 
 -- ---- the mailbox that the options ask for
--- why it is refused, if it is. It has a cell for each item
+-- why the mailbox is refused, if it is. It has a cell for each item
 abbrev pub setup_refused : Options → Option SetupFault
 setup_refused o = setup_refusal o.producers o.consumers (o.producers * o.items) o.pairs
 
--- what it is made of. Its cells have the shape that is asked for
+-- what the mailbox is made of. Its cells have the shape that is asked for
 abbrev pub plan_asked : Options → Plan
 plan_asked o = shaped_plan o.shape o.producers o.consumers (o.producers * o.items) o.pairs Bits
 
@@ -38,21 +34,21 @@ pub record AreFew (o : Options) : Type 0 where
   pub consumers : o.consumers ≤ 64
   pub items : o.items ≤ 256
 
--- ---- the items
+-- ---- the items that producers put
 -- what producer p puts, in order
 abbrev pub items_of : ℕ → ℕ → List ℕ
 items_of p count = map (λ i. 1000 * p + i) (range_with_len 0 count)
 
--- what each of the producers puts
+-- the lists of all producers
 abbrev pub item_lists : ℕ → ℕ → List (List ℕ)
 item_lists producers count = map (λ p. items_of p count) (range_with_len 0 producers)
 
--- ---- the random words
--- those of each consumer's source, from its beginning
+-- ---- the random words that are drawn
+-- the words of each consumer's source, from its beginning
 abbrev pub words_asked : Options → List Stream
 words_asked o = map (λ c. words_from (source_from o.seed c)) (range_with_len 0 o.consumers)
 
--- ---- the report
+-- ---- the report of a run
 -- lane p has ended, and all items of producer p are put on it
 pub record IsLaneOf (p count : ℕ) (l : LaneView) : Type 0 where
   pub ended : l.ended ≡ true
@@ -73,20 +69,9 @@ HasNotedAll count budget c p hs r =
     (length (notes c p r) ≡ count)
     ⊎ ((2 ^ 64 - 2 ≤ accesses_by c hs) × (accesses_by c hs ≤ budget * (2 ^ 64 - 2)))
 
--- the report and the histories come from one run in a mailbox of these options. Workers that no gate stops led from a
--- hub that has issued nothing to this hub. Each call of a consumer is a poll with the budget that is asked for. It
--- draws from the consumer's own source, of the seed that is asked for. The report is gathered from this hub, and these
--- histories are all accesses that the hub has taken in
-pub record IsRunBehind (o : Options) (hs : Histories) (r : ReportView) : Type 0 where
-  pub mailbox : MailboxView
-  pub plan : plan_at mailbox ≡ plan_asked o
-  pub hub : HubView
-  pub worked : Worked
-  pub called : IsCalled (λ _ _. ⊥) (λ _ _. Unit {0}) o.budget (item_lists o.producers o.items) (words_asked o) worked
-      (hub_empty mailbox) hub
-  pub told : IsReportIn mailbox.cells.size.lanes (consumer_count mailbox.claims.layout) hub r
-  pub gathered : IsGathered mailbox hub r
-  pub histories : gathered.histories ≡ hs
+-- the terms of the run: a mailbox of these options, the budget, and the sources of the seed that is asked for
+abbrev pub terms_asked : Options → Terms
+terms_asked o = record { plan = plan_asked o; budget = o.budget; sources = words_asked o }
 
 -- the report of a mailbox of these options, in which each producer has put all its items
 pub record IsRunReport (o : Options) (r : ReportView) : Type 0 where
@@ -98,8 +83,8 @@ pub record IsRunReport (o : Options) (r : ReportView) : Type 0 where
   -- the report is that of the histories, and one assignment agrees with it
   pub report : IsReportOf (plan_asked o) histories r
   pub honest : IsHonest (plan_asked o) histories r
-  -- and they are those of a run with the budget and the seed that are asked for
-  pub run : IsRunBehind o histories r
+  -- report and histories are those of a run with the budget and the seed that are asked for, which no gate stops
+  pub run : IsReportedRun (λ _ _. ⊥) (λ _ _. Unit {0}) (terms_asked o) (item_lists o.producers o.items) histories r
   -- each producer has put its items, and nothing else
   pub lanes : (p : ℕ) → p < o.producers
       → (l : LaneView) × (slice_get r.lanes p ≡ Some l) × IsLaneOf p o.items l
@@ -112,7 +97,8 @@ pub record IsRunReport (o : Options) (r : ReportView) : Type 0 where
 abbrev pub IsRunText : Options → List ℕ → Type 0
 IsRunText o text = (r : ReportView) × IsRunReport o r × (text ≡ report_text r)
 
--- ---- one call, with its writer before it and after it
+-- ---- a call of the command
+-- one call of the command `run` has this result, with its writer before it and after it
 pub record IsRun {X W : Type 0} (o : Options) (sink : IoModel W) (writer writer' : W)
     (result : Result X RunFault) : Type 0 where
   -- the text of such a report was written, and nothing else
@@ -123,7 +109,7 @@ pub record IsRun {X W : Type 0} (o : Options) (sink : IoModel W) (writer writer'
   -- a failed write comes exactly if the writer failed in this call, and it failed once
   pub write_failed : result ≡ Err WriteFault → sink.failures writer' ≡ one_more (sink.failures writer)
   pub write_worked : result ≢ Err WriteFault → sink.failures writer' ≡ sink.failures writer
-  -- after it a prefix of such a text was written, after any other fault nothing
+  -- after a failed write a prefix of such a text was written, after any other fault nothing
   pub front : result ≡ Err WriteFault →
       (text : List ℕ) × IsRunText o text × AppendsFront (sink.bytes writer) (sink.bytes writer') text
   pub untouched : IfErr result (λ e. e ≢ WriteFault → writer' ≡ writer)

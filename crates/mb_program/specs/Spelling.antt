@@ -5,7 +5,7 @@ use Rattle.std.specs.Fmt.{decimal}
 use Rattle.mb_script.specs.Vocabulary.{table_name}
 use Rattle.mb_program.specs.RatifyScript.{Script}
 
--- the words of each line
+-- the words of each line of a script
 abbrev pub script_words : Script → List (List (List ℕ))
 script_words s =
     (codes "ratify" ∷ table_name s.table ∷ decimal s.values ∷ [])
@@ -13,11 +13,11 @@ script_words s =
     ∷ (codes "turns" ∷ map decimal s.turns)
     ∷ []
 
--- the lines: one space between each two words
+-- the lines of a script: one space between each two words
 abbrev pub script_lines : Script → List (List ℕ)
 script_lines s = map (join_with_byte 32) (script_words s)
 
--- each number is below 2^64
+-- each number of a script is below 2^64
 pub record HasSpelling (s : Script) : Type 0 where
   pub values : s.values < 2 ^ 64
   pub inputs : AllByRecursion (λ n. n < 2 ^ 64) s.inputs

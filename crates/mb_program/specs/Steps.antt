@@ -1,4 +1,4 @@
--- Reading that may fail.
+-- What calls that read a script and may fail return.
 use Rattle.std.specs.Prelude.{Result}
 use Rattle.mb_script.specs.Vocabulary.{GivesUnless}
 use Rattle.mb_program.specs.declared.fault.RatifyFault.{RatifyFault}

@@ -7,7 +7,7 @@ use Rattle.mb_deciding.specs.declared.trace.Entry.{Entry}
 use Rattle.mb_deciding.specs.declared.trace.Entry.TheVariants.{Access, Done}
 use Rattle.mb_script.specs.Vocabulary.{act_text}
 
--- 1 if it is decided, else 0, and then the value
+-- the text of an output: 1 if it is decided, else 0, and then the value
 abbrev pub out_text : Out → List ℕ
 out_text out = cond out.decided (codes "1 ") (codes "0 ") ++ decimal out.value
 
@@ -18,7 +18,7 @@ entry_text (Access process act (Some out)) =
     decimal process ++ codes " " ++ act_text act ++ codes " out " ++ out_text out ++ codes "\n"
 entry_text (Done process) = decimal process ++ codes " done\n"
 
--- the line of a process
+-- the line of a process, with its output, if it has one
 abbrev pub process_text : ℕ → Option Out → List ℕ
 process_text process (Some out) = codes "process " ++ decimal process ++ codes ": " ++ out_text out ++ codes "\n"
 process_text process None = codes "process " ++ decimal process ++ codes ": none\n"
@@ -28,6 +28,6 @@ abbrev pub processes_text : ℕ → List (Option Out) → List ℕ
 processes_text first [] = []
 processes_text first (out ∷ outputs) = process_text first out ++ processes_text (suc first) outputs
 
--- a line for each entry, and then a line for each process
+-- the text of a trace: a line for each entry, and then a line for each process
 abbrev pub trace_text : List Entry → List (Option Out) → List ℕ
 trace_text entries outputs = flat_map entry_text entries ++ processes_text 0 outputs

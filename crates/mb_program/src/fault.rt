@@ -6,6 +6,7 @@ ghost use Rattle.mb_program.specs.Refusal.{fault_from, fault_at};
 
 use mb_script::{Fault, ReadEnd, WriteFailed};
 use mb_world::SetupFault;
+pub use std::alloc::AllocError as NoMemory;
 use std::alloc::{AllocError, AllocFailed};
 
 /// Why `ratify_text` stopped.
@@ -126,9 +127,6 @@ impl From<WriteFailed> for RunFault {
         RunFault::WriteFault
     }
 }
-
-/// Memory ran out.
-pub type NoMemory = AllocError;
 
 /// Which command failed, and why.
 #[derive(Clone, Copy, Debug, PartialEq, Eq)]

@@ -6,14 +6,14 @@ use std::alloc::Allocator;
 
 /// Where the fault lies.
 #[derive(Clone, Copy)]
-enum Place {
+enum Spot {
     /// In the whole, or outside of the script.
     Whole,
     /// On the line of this number, counted from 1.
     Line(usize),
-    /// At the input of this place, counted from 0.
+    /// At the input of this number, counted from 0.
     Input(usize),
-    /// At the turn of this place, counted from 0.
+    /// At the turn of this number, counted from 0.
     Turn(usize),
 }
 
@@ -45,38 +45,38 @@ fn of_setup(fault: SetupFault) -> &'static str {
     }
 }
 
-fn of_ratify(fault: RatifyFault) -> (Place, &'static str) {
+fn of_ratify(fault: RatifyFault) -> (Spot, &'static str) {
     match fault {
-        RatifyFault::TooLong => (Place::Whole, TOO_LONG),
-        RatifyFault::NotAscii => (Place::Whole, NOT_ASCII),
-        RatifyFault::BadLine(1) => (Place::Line(1), "expected `ratify <table> <m>`"),
-        RatifyFault::BadLine(2) => (Place::Line(2), "expected `inputs <i0> <i1> ..`"),
-        RatifyFault::BadLine(3) => (Place::Line(3), "expected `turns <p> <p> ..`"),
-        RatifyFault::BadLine(n) => (Place::Line(n), "a script has three lines"),
-        RatifyFault::BadNumber(n) => (Place::Line(n), BAD_NUMBER),
-        RatifyFault::BadValues => (Place::Line(1), "the number of values is 1 to 64"),
-        RatifyFault::BadInput(i) => (Place::Input(i), "an input is below the number of values"),
-        RatifyFault::NoSuchProcess(i) => (Place::Turn(i), "there is no process of this number"),
-        RatifyFault::NoMemory => (Place::Whole, NO_MEMORY),
-        RatifyFault::ReadFault => (Place::Whole, NO_INPUT),
-        RatifyFault::WriteFault => (Place::Whole, NO_OUTPUT),
+        RatifyFault::TooLong => (Spot::Whole, TOO_LONG),
+        RatifyFault::NotAscii => (Spot::Whole, NOT_ASCII),
+        RatifyFault::BadLine(1) => (Spot::Line(1), "expected `ratify <table> <m>`"),
+        RatifyFault::BadLine(2) => (Spot::Line(2), "expected `inputs <i0> <i1> ..`"),
+        RatifyFault::BadLine(3) => (Spot::Line(3), "expected `turns <p> <p> ..`"),
+        RatifyFault::BadLine(n) => (Spot::Line(n), "a script has three lines"),
+        RatifyFault::BadNumber(n) => (Spot::Line(n), BAD_NUMBER),
+        RatifyFault::BadValues => (Spot::Line(1), "the number of values is 1 to 64"),
+        RatifyFault::BadInput(i) => (Spot::Input(i), "an input is below the number of values"),
+        RatifyFault::NoSuchProcess(i) => (Spot::Turn(i), "there is no process of this number"),
+        RatifyFault::NoMemory => (Spot::Whole, NO_MEMORY),
+        RatifyFault::ReadFault => (Spot::Whole, NO_INPUT),
+        RatifyFault::WriteFault => (Spot::Whole, NO_OUTPUT),
     }
 }
 
-fn of_replay(fault: Fault) -> (Place, &'static str) {
+fn of_replay(fault: Fault) -> (Spot, &'static str) {
     match fault {
-        Fault::TooLong => (Place::Whole, TOO_LONG),
-        Fault::NotAscii => (Place::Whole, NOT_ASCII),
-        Fault::NoSetup | Fault::BadLine(1) => (Place::Line(1), SETUP),
-        Fault::BadLine(n) => (Place::Line(n), EVENT),
-        Fault::BadNumber(n) => (Place::Line(n), BAD_NUMBER),
-        Fault::BadSetup(n, why) => (Place::Line(n), of_setup(why)),
-        Fault::NoLane(n) => (Place::Line(n), "there is no lane of this number"),
-        Fault::NoConsumer(n) => (Place::Line(n), "there is no consumer of this number"),
-        Fault::TooManyEvents => (Place::Whole, "the script has more than 20000 events"),
-        Fault::NoMemory => (Place::Whole, NO_MEMORY),
-        Fault::ReadFault => (Place::Whole, NO_INPUT),
-        Fault::WriteFault => (Place::Whole, NO_OUTPUT),
+        Fault::TooLong => (Spot::Whole, TOO_LONG),
+        Fault::NotAscii => (Spot::Whole, NOT_ASCII),
+        Fault::NoSetup | Fault::BadLine(1) => (Spot::Line(1), SETUP),
+        Fault::BadLine(n) => (Spot::Line(n), EVENT),
+        Fault::BadNumber(n) => (Spot::Line(n), BAD_NUMBER),
+        Fault::BadSetup(n, why) => (Spot::Line(n), of_setup(why)),
+        Fault::NoLane(n) => (Spot::Line(n), "there is no lane of this number"),
+        Fault::NoConsumer(n) => (Spot::Line(n), "there is no consumer of this number"),
+        Fault::TooManyEvents => (Spot::Whole, "the script has more than 20000 events"),
+        Fault::NoMemory => (Spot::Whole, NO_MEMORY),
+        Fault::ReadFault => (Spot::Whole, NO_INPUT),
+        Fault::WriteFault => (Spot::Whole, NO_OUTPUT),
     }
 }
 
@@ -94,15 +94,15 @@ fn of_run(fault: RunFault) -> &'static str {
 /// If the fault lies in a script, the line says where, and what a good script has there. The error comes if memory runs
 /// out.
 pub fn explanation<A: Allocator>(alloc: A, failed: &Failed) -> Result<String<A>, NoMemory> {
-    let (place, words) = match *failed {
+    let (spot, words) = match *failed {
         Failed::Ratify(fault) => of_ratify(fault),
         Failed::Replay(fault) => of_replay(fault),
-        Failed::Run(fault) => (Place::Whole, of_run(fault)),
+        Failed::Run(fault) => (Spot::Whole, of_run(fault)),
     };
-    match place {
-        Place::Whole => format!(in alloc; "{words}\n"),
-        Place::Line(n) => format!(in alloc; "line {n}: {words}\n"),
-        Place::Input(i) => format!(in alloc; "input {i}: {words}\n"),
-        Place::Turn(i) => format!(in alloc; "turn {i}: {words}\n"),
+    match spot {
+        Spot::Whole => format!(in alloc; "{words}\n"),
+        Spot::Line(n) => format!(in alloc; "line {n}: {words}\n"),
+        Spot::Input(i) => format!(in alloc; "input {i}: {words}\n"),
+        Spot::Turn(i) => format!(in alloc; "turn {i}: {words}\n"),
     }
 }

@@ -8,24 +8,29 @@ use mathlib.Core.Bool.{cond}
 use Rattle.mb_world.specs.Assignment.{items_where, is_consumer}
 use Rattle.mb_rounds.specs.Carried.{times}
 
+-- how often x is the one value y: once or never
 abbrev pub one : ℕ → ℕ → ℕ
 one x y = cond (nat_eq x y) 1 0
 
+-- how often a value is in two lists joined
 pub times_both : (x : ℕ) (xs ys : List ℕ) → times x (xs ++ ys) ≡ times x xs + times x ys
 times_both x xs ys = sum_by-append (λ y. one x y) xs ys
 
+-- how often a value is in a list, by its first element
 pub times_first : (x y : ℕ) (ys : List ℕ) → times x (y ∷ ys) ≡ one x y + times x ys
 times_first x y ys = sum_by-cons (λ z. one x z) y ys
 
--- f 0 + .. + f (n - 1)
+-- the sum f 0 + .. + f (n - 1)
 abbrev pub sum_below : ℕ → (ℕ → ℕ) → ℕ
 sum_below zero f = 0
 sum_below (suc n) f = sum_below n f + f n
 
+-- a sum begins with its first term
 pub sum_first : (n : ℕ) (f : ℕ → ℕ) → sum_below (suc n) f ≡ f 0 + sum_below n (λ k. f (suc k))
 sum_first zero f = omega arith
 sum_first (suc n) f = let t = sum_first n f in omega (arith, t)
 
+-- sums of the same terms are one
 pub sum_same : (n : ℕ) (f g : ℕ → ℕ) → ((k : ℕ) → k < n → f k ≡ g k) → sum_below n f ≡ sum_below n g
 sum_same zero f g same = refl
 sum_same (suc n) f g same =
@@ -33,10 +38,12 @@ sum_same (suc n) f g same =
     let e = same n (omega arith) in
     omega (arith, t, e)
 
+-- a sum of nothing is 0
 pub sum_none : (n : ℕ) → sum_below n (λ k. 0) ≡ 0
 sum_none zero = refl
 sum_none (suc n) = let t = sum_none n in omega (arith, t)
 
+-- the sum of two terms each is the sum of both sums
 pub sum_both : (n : ℕ) (f g : ℕ → ℕ) → sum_below n (λ k. f k + g k) ≡ sum_below n f + sum_below n g
 sum_both zero f g = refl
 sum_both (suc n) f g = let t = sum_both n f g in omega (arith, t)
@@ -69,13 +76,15 @@ sum_more (suc n) (suc d) f g v low here others =
 
 -- ---- items that an assignment gives out
 module _ (x n : ℕ) where
-  -- what each of the first n is given, and what nobody is given
+  -- how often x is given to one of the first n
   abbrev pub shares : (ℕ → Option ℕ) → List ℕ → ℕ
   shares t items = sum_below n (λ c. times x (items_where (λ j. is_consumer c (t j)) items))
 
+  -- how often x is given to nobody
   abbrev pub rests : (ℕ → Option ℕ) → List ℕ → ℕ
   rests t items = times x (items_where (λ j. is_none (t j)) items)
 
+  -- a first item that nobody is given is among those left
   first_left : (t : ℕ → Option ℕ) (y : ℕ) (ys : List ℕ) → t 0 ≡ None
       → (shares t (y ∷ ys) ≡ shares (λ j. t (suc j)) ys) × (rests t (y ∷ ys) ≡ one x y + rests (λ j. t (suc j)) ys)
   first_left t y ys e =
@@ -86,6 +95,7 @@ module _ (x n : ℕ) where
         ap (λ (z : Option ℕ). times x (if is_none z then y ∷ left else left)) e ∙ times_first x y left,
       )
 
+  -- a first item that is given is among the shares
   first_given : (t : ℕ → Option ℕ) (y : ℕ) (ys : List ℕ) (d : ℕ) → t 0 ≡ Some d → d < n
       → (shares t (y ∷ ys) ≡ one x y + shares (λ j. t (suc j)) ys) × (rests t (y ∷ ys) ≡ rests (λ j. t (suc j)) ys)
   first_given t y ys d e known =
@@ -99,7 +109,7 @@ module _ (x n : ℕ) where
         ap (λ (z : Option ℕ). times x (if is_none z then y ∷ left else left)) e,
       )
 
-  -- both together are all that there is, if nobody else is given any
+  -- both together are how often x is there, if nobody else is given any
   pub given_and_left : (t : ℕ → Option ℕ) (items : List ℕ) → ((j c : ℕ) → j < length items → t j ≡ Some c → c < n)
       → shares t items + rests t items ≡ times x items
   given_and_left t [] few = let z = sum_none n in omega (arith, z)

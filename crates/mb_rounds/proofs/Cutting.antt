@@ -6,15 +6,18 @@ use Rattle.std.specs.List.{concat}
 use Rattle.mb_mailbox.specs.Worked.{lists_in}
 use Rattle.mb_rounds.proofs.Whole.{concat_push}
 
+-- the lists with one more at the end
 pub lists_push : {Z : Type 0} (vs : List (Vec ℕ Z)) (v : Vec ℕ Z) → lists_in (vs ++ v ∷ [])
     ≡ lists_in vs ++ v.items ∷ []
 lists_push [] v = refl
 lists_push (w ∷ vs) v = ap (λ ls. w.items ∷ ls) (lists_push vs v)
 
+-- there are as many lists as vectors
 pub count_lists : {Z : Type 0} (vs : List (Vec ℕ Z)) → length vs ≡ length (lists_in vs)
 count_lists [] = refl
 count_lists (v ∷ vs) = let t = count_lists vs in omega (arith, t)
 
+-- one list more is cut off the front of what is left
 pub dealt_more : {Z : Type 0} (vs : List (Vec ℕ Z)) (v : Vec ℕ Z) (back rest items : List ℕ) (n : ℕ)
     → v.items ≡ take n rest → back ≡ drop n rest → concat (lists_in vs) ++ rest ≡ items
     → concat (lists_in (vs ++ v ∷ [])) ++ back ≡ items

@@ -10,6 +10,7 @@ use Rattle.mb_mailbox.specs.Worked.{LaneLeft, ended_list}
 use Rattle.mb_world.specs.Report.{LaneView, ReportView}
 use Rattle.mb_rounds.specs.Round.{IsPutOf}
 
+-- lists side by side are of one length
 pub zip_length : {A B : Type 0} (R : A → B → Type 0) (xs : List A) (ys : List B) → AllZip R xs ys
     → length xs ≡ length ys
 zip_length R [] [] z = refl
@@ -17,18 +18,21 @@ zip_length R [] (y ∷ ys) z = absurd z
 zip_length R (x ∷ xs) [] z = absurd z
 zip_length R (x ∷ xs) (y ∷ ys) z = let t = zip_length R xs ys z.1 in omega (arith, t)
 
+-- what is made of the elements stands at their places
 pub get_map : {A B : Type 0} (f : A → B) (xs : List A) (i : ℕ) (x : A) → slice_get xs i ≡ Some x
     → slice_get (map f xs) i ≡ Some (f x)
 get_map f [] i x e = absurd (cc)
 get_map f (y ∷ xs) zero x e = let f_same : y ≡ x = cc in ap (λ z. Some (f z)) f_same
 get_map f (y ∷ xs) (suc i) x e = get_map f xs i x e
 
+-- what is made of the element at a place stands there
 pub get_map_at : {A B : Type 0} (f : A → B) (xs : List A) (i : ℕ) (x : A) → i < length xs → get_or xs i x ≡ x
     → slice_get (map f xs) i ≡ Some (f x)
 get_map_at f [] i x low e = absurd (omega arith)
 get_map_at f (y ∷ xs) zero x low e = ap (λ z. Some (f z)) e
 get_map_at f (y ∷ xs) (suc i) x low e = get_map_at f xs i x (omega arith) e
 
+-- a place with an element is in the list
 get_below : {X : Type 0} (xs : List X) (i : ℕ) (x : X) → slice_get xs i ≡ Some x → i < length xs
 get_below [] i x e = absurd (cc)
 get_below (y ∷ xs) zero x e = omega arith
@@ -51,6 +55,7 @@ zip_put (list ∷ lists) (l ∷ ls) (v ∷ vs) z count each =
     let put : l.put ≡ v.put = sym (ap (λ (w : LaneView). w.put) same ∙ here.2) in
     (subst (λ items. IsFront items list) put z.0, zip_put lists ls vs z.1 (omega arith) (λ p k e. each (suc p) k e))
 
+-- what the report has of each lane is a beginning of the list dealt to its producer
 pub fronts_told : (lanes consumers : ℕ) (lists : List (List ℕ)) (ls : List LaneLeft) (h : HubView) (r : ReportView)
     → lanes ≡ length lists → IsReportIn lanes consumers h r
     → h.puts ≡ map (λ l. Some (ended_list l)) ls

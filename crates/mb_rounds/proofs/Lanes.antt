@@ -9,28 +9,31 @@ use Rattle.mb_world.specs.Agreement.{HasCompeted, ledger}
 use Rattle.mb_world.specs.Assignment.{is_consumer, items_where}
 use Rattle.mb_world.specs.Plan.{Plan, consumers_of}
 use Rattle.mb_world.specs.Report.{DiaryView, LaneView, ReportView, diary, is_begun, items_left, items_put, notes}
-use Rattle.mb_rounds.specs.Behind.{Terms}
+use Rattle.mb_mailbox.specs.ReportedRuns.{Terms}
 use Rattle.mb_rounds.specs.Carried.{times}
 use Rattle.mb_rounds.specs.Round.{IsPlayed}
 use Rattle.mb_rounds.proofs.Counts.{given_and_left, sum_below, sum_same}
 
+-- past a list stands nothing
 get_none : {X : Type 0} (xs : List X) (i : ℕ) → length xs ≤ i → slice_get xs i ≡ None
 get_none [] i far = refl
 get_none (x ∷ xs) zero far = absurd (omega arith)
 get_none (x ∷ xs) (suc i) far = get_none xs i (omega arith)
 
+-- a place with an element is in the list
 get_below : {X : Type 0} (xs : List X) (i : ℕ) (x : X) → slice_get xs i ≡ Some x → i < length xs
 get_below [] i x e = absurd (cc)
 get_below (y ∷ xs) zero x e = omega arith
 get_below (y ∷ xs) (suc i) x e = let t = get_below xs i x e in omega (arith, t)
 
--- a test of a value that chooses nothing both times
+-- a choice between no value and no value
 chosen_none : {X : Type 0} (b : Bool) (o : Option X) → o ≡ None → (if b then o else None) ≡ None
 chosen_none true o e = e
 chosen_none false o e = refl
 
 module _ {may_stop may_pass : Who → ℕ → Type 0} (terms : Terms) (lists : List (List ℕ)) (r : ReportView)
     (played : IsPlayed may_stop may_pass terms lists r) where
+  -- the plan of the round's mailbox
   abbrev plan : Plan
   plan = terms.plan
 
@@ -46,7 +49,7 @@ module _ {may_stop may_pass : Who → ℕ → Type 0} (terms : Terms) (lists : L
       let same : c * length r.lanes ≡ c * plan.lanes = ap (λ k. c * k) lanes in
       omega (arith, count, few, same)))
 
-  -- who competed is one of the consumers
+  -- who is no consumer has not competed
   competitor_is_known : (c p j : ℕ) → HasCompeted c p j r → consumers_of plan ≤ c → ⊥
   competitor_is_known c p j competed far =
       let none = no_diary c p far in
@@ -56,6 +59,7 @@ module _ {may_stop may_pass : Who → ℕ → Type 0} (terms : Terms) (lists : L
       ⊎_elim (λ low. let n = ap length no_notes in omega (arith, low, n))
       (λ t. false≢true (sym not_begun ∙ t.1)) competed
 
+  -- who competed is one of the consumers
   known : (c p j : ℕ) → HasCompeted c p j r → c < consumers_of plan
   known c p j competed = below c (consumers_of plan) (competitor_is_known c p j competed)
     where

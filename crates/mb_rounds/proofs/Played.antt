@@ -14,7 +14,7 @@ use Rattle.mb_world.specs.Plan.{Plan, size_of}
 use Rattle.mb_world.specs.Report.{ReportView}
 use Rattle.mb_world.specs.Reporting.{IsReportOf}
 use Rattle.mb_world.specs.Sound.{AreSound}
-use Rattle.mb_rounds.specs.Behind.{Terms}
+use Rattle.mb_mailbox.specs.ReportedRuns.{Terms}
 use Rattle.mb_rounds.specs.Round.{IsPlayed}
 use Rattle.mb_rounds.proofs.Fronts.{fronts_told}
 
@@ -22,6 +22,7 @@ use Rattle.mb_rounds.proofs.Fronts.{fronts_told}
 pub count_sources : {X : Type 0} (stream : X → Stream) (rngs : List X) → length rngs ≡ length (map stream rngs)
 count_sources stream rngs = sym (length-map rngs stream)
 
+-- workers that led from a new hub to the hub of a report have played the round
 pub played : (m : MailboxView) (old h : HubView) (r : ReportView) (terms : Terms) (lists : List (List ℕ))
     (may_stop may_pass : Who → ℕ → Type 0) (sources : ℕ) (w : Worked)
     → plan_at m ≡ terms.plan → m.cells.size ≡ size_of terms.plan → terms.plan.lanes ≡ length lists

@@ -7,20 +7,23 @@ use Rattle.std.proofs.lemmas.List.Elements.{filter_map-append}
 use Rattle.mb_world.specs.Report.{LaneView}
 use Rattle.mb_rounds.specs.Round.{staying}
 
+-- the next place
 next : (i : ℕ) → i + 1 ≡ suc i
 next i = omega arith
 
+-- the elements up to a place, with the one there
 one_after : {X : Type 0} (xs : List X) (i : ℕ) (x : X) → i < length xs → get_or xs i x ≡ x
     → take (suc i) xs ≡ take i xs ++ x ∷ []
 one_after [] i x low e = absurd (omega arith)
 one_after (y ∷ xs) zero x low e = ap (λ z. z ∷ []) e
 one_after (y ∷ xs) (suc i) x low e = ap (λ l. y ∷ l) (one_after xs i x (omega arith) e)
 
+-- the same, with the place as code counts it
 one_more : {X : Type 0} (xs : List X) (i : ℕ) (x : X) → i < length xs → get_or xs i x ≡ x
     → take (i + 1) xs ≡ take i xs ++ x ∷ []
 one_more xs i x low e = ap (λ k. take k xs) (next i) ∙ one_after xs i x low e
 
--- an element for which there is a value adds it, and one for which there is none adds nothing
+-- an element for which there is a value adds it
 pub read_some : {X : Type 0} (f : X → Option ℕ) (xs : List X) (i : ℕ) (x : X) (v : ℕ) (before read : List ℕ)
     → i < length xs → get_or xs i x ≡ x → f x ≡ Some v → read ≡ before ++ filter_map f (take i xs)
     → read ++ v ∷ [] ≡ before ++ filter_map f (take (i + 1) xs)
@@ -34,6 +37,7 @@ read_some f xs i x v before read low here value so_far =
     only : {X : Type 0} (f : X → Option ℕ) (x : X) (v : ℕ) → f x ≡ Some v → filter_map f (x ∷ []) ≡ v ∷ []
     only f x v e = rw e refl
 
+-- an element for which there is no value adds nothing
 pub read_none : {X : Type 0} (f : X → Option ℕ) (xs : List X) (i : ℕ) (x : X) (before read : List ℕ)
     → i < length xs → get_or xs i x ≡ x → f x ≡ None → read ≡ before ++ filter_map f (take i xs)
     → read ≡ before ++ filter_map f (take (i + 1) xs)
@@ -48,6 +52,7 @@ read_none f xs i x before read low here value so_far =
     only f x e = rw e refl
 
 -- ---- lanes and lists side by side
+-- one lane and its list more
 stays_after : (lists : List (List ℕ)) (lanes : List LaneView) (p : ℕ) (list : List ℕ) (lane : LaneView)
     → slice_get lists p ≡ Some list → p < length lanes → get_or lanes p lane ≡ lane
     → staying (take (suc p) lists) (take (suc p) lanes)
@@ -62,6 +67,7 @@ stays_after (l ∷ lists) (k ∷ lanes) (suc p) list lane e low here =
     ∙ sym (append_assoc (k.left ++ drop (length k.put) l) (staying (take p lists) (take p lanes))
     (lane.left ++ drop (length lane.put) list))
 
+-- the same, with the place as code counts it
 pub stays_more : (lists : List (List ℕ)) (lanes : List LaneView) (p : ℕ) (list : List ℕ) (lane : LaneView)
     → slice_get lists p ≡ Some list → p < length lanes → get_or lanes p lane ≡ lane
     → staying (take (p + 1) lists) (take (p + 1) lanes)

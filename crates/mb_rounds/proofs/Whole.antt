@@ -7,12 +7,13 @@ use Rattle.mb_mailbox.specs.declared.gate.Who.{Who}
 use Rattle.mb_world.specs.Agreement.{ledger}
 use Rattle.mb_world.specs.Plan.{consumers_of}
 use Rattle.mb_world.specs.Report.{LaneView, ReportView}
-use Rattle.mb_rounds.specs.Behind.{Terms}
+use Rattle.mb_mailbox.specs.ReportedRuns.{Terms}
 use Rattle.mb_rounds.specs.Carried.{AreSameItems, times}
 use Rattle.mb_rounds.specs.Round.{IsPutOf, IsRound, ledgers_of, staying, taken_below}
 use Rattle.mb_rounds.proofs.Counts.{sum_below, sum_first, sum_same, sum_swap, times_both}
 use Rattle.mb_rounds.proofs.Lanes.{lane_adds_up}
 
+-- the lists joined, with one more at the end
 pub concat_push : (lists : List (List ℕ)) (list : List ℕ) → concat (lists ++ list ∷ []) ≡ concat lists ++ list
 concat_push [] list = append_nothing list
   where
@@ -21,6 +22,7 @@ concat_push [] list = append_nothing list
     append_nothing (x ∷ xs) = ap (λ l. x ∷ l) (append_nothing xs)
 concat_push (l ∷ lists) list = ap (λ z. l ++ z) (concat_push lists list) ∙ sym (append_assoc l (concat lists) list)
 
+-- what a consumer took is what it took of each lane
 taken_adds_up : (x n c : ℕ) (r : ReportView) → times x (taken_below n c r) ≡ sum_below n (λ p. times x (ledger c p r))
 taken_adds_up x zero c r = refl
 taken_adds_up x (suc n) c r =
@@ -28,6 +30,7 @@ taken_adds_up x (suc n) c r =
     let b = times_both x (taken_below n c r) (ledger c n r) in
     omega (arith, t, b)
 
+-- what consumers took is what each of them took
 ledgers_add_up : (x n : ℕ) (r : ReportView)
     → times x (concat (ledgers_of n r)) ≡ sum_below n (λ c. times x (taken_below (length r.lanes) c r))
 ledgers_add_up x zero r = refl
@@ -58,6 +61,7 @@ lanes_add_up x given (list ∷ lists) (l ∷ ls) z each =
     let c = times_both x list (concat lists) in
     omega (arith, rest, here, own, beyond, first, a, b, c)
 
+-- a round gives out, and lets stay, what was carried before it
 pub round_adds_up : {may_stop may_pass : Who → ℕ → Type 0} (terms : Terms) (was : List ℕ)
     (taken : List (List ℕ)) (r : ReportView)
     (now : List ℕ) → IsRound may_stop may_pass terms was taken r now → AreSameItems was (concat taken ++ now)

@@ -3,16 +3,16 @@ use Rattle.std.specs.Prelude.{ℕ, ◌≡◌, ◌++◌, List, [], nat_eq}
 use Rattle.std.specs.List.{count_by}
 use Rattle.mb_world.specs.declared.setup.Setup.{Setup}
 
--- the setup of each round's mailbox, and the items carried, the oldest first
+-- what rounds keep: the setup of each round's mailbox, and the items carried, the oldest first
 pub record RoundsView : Type 0 where
   pub setup : Setup
   pub carried : List ℕ
 
--- nothing is carried
+-- rounds that carry nothing
 abbrev pub none_carried : Setup → RoundsView
 none_carried setup = record { setup = setup; carried = [] }
 
--- these items are carried, too, after all others
+-- rounds that carry these items, too, after all others
 abbrev pub with_items : List ℕ → RoundsView → RoundsView
 with_items items r = record { setup = r.setup; carried = r.carried ++ items }
 

@@ -1,5 +1,4 @@
 pub mod Carried
-pub mod Behind
 pub mod Round
 pub mod Turns
 pub mod TurnExamples

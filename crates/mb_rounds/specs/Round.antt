@@ -10,7 +10,7 @@ use Rattle.mb_world.specs.Report.{LaneView, ReportView}
 use Rattle.mb_world.specs.Reporting.{IsReportOf}
 use Rattle.mb_world.specs.Sound.{AreSound}
 use Rattle.mb_world.specs.declared.report.Note.{Note}
-use Rattle.mb_rounds.specs.Behind.{IsRunBehind, Terms}
+use Rattle.mb_mailbox.specs.ReportedRuns.{IsReportedRun, Terms}
 
 -- what was put on a lane is a beginning of the list dealt to its producer
 abbrev pub IsPutOf : List ℕ → LaneView → Type 0
@@ -27,7 +27,7 @@ pub record IsPlayed (may_stop may_pass : Who → ℕ → Type 0) (terms : Terms)
   -- one assignment of items to consumers agrees with the whole report
   pub honest : IsHonest terms.plan histories r
   -- it was done by a producer for each list and a consumer for each source, which go on until they are done or stopped
-  pub run : IsRunBehind may_stop may_pass terms lists histories r
+  pub run : IsReportedRun may_stop may_pass terms lists histories r
 
 -- the items that notes say were taken
 abbrev pub taken_in : List Note → List ℕ
@@ -43,15 +43,15 @@ abbrev pub ledgers_of : ℕ → ReportView → List (List ℕ)
 ledgers_of zero r = []
 ledgers_of (suc n) r = ledgers_of n r ++ taken_below (length r.lanes) n r ∷ []
 
--- for each lane the items that nobody took, and then those of its list that were not put
+-- the items that stay: for each lane those that nobody took, and then those of its list that were not put
 abbrev pub staying : List (List ℕ) → List LaneView → List ℕ
 staying [] _ = []
 staying _ [] = []
 staying (list ∷ lists) (lane ∷ lanes) = (lane.left ++ drop (length lane.put) list) ++ staying lists lanes
 
--- the oldest of the items carried, at most as many as there are cells, were dealt to the producers. They went into a
--- mailbox of these terms. What each consumer took there is given out. What nobody took or nobody put is carried, before
--- what was not dealt
+-- one round: the oldest of the items carried, as many as there are cells if there are so many, were dealt to the
+-- producers. They went into a mailbox of these terms. What each consumer took there is given out. What nobody took or
+-- nobody put is carried, before what was not dealt
 pub record IsRound (may_stop may_pass : Who → ℕ → Type 0) (terms : Terms) (was : List ℕ)
     (taken : List (List ℕ)) (r : ReportView)
     (now : List ℕ) : Type 0 where

@@ -3,12 +3,13 @@ use Rattle.std.specs.Prelude.{ℕ, List, [], ◌∷◌, true}
 use Rattle.mb_mailbox.specs.Mailboxes.{MailboxView, plan_at}
 use Rattle.mb_mailbox.specs.declared.gate.Who.{Who}
 use Rattle.mb_world.specs.Report.{ReportView}
-use Rattle.mb_rounds.specs.Behind.{Terms}
+use Rattle.mb_mailbox.specs.ReportedRuns.{Terms}
 
--- what a gate may stop, or let pass: no call of any worker, or each call
+-- what a gate may stop, or let pass: no call of any worker
 abbrev pub at_no_call : Who → ℕ → Type 0
 at_no_call who call = ⊥
 
+-- what a gate may stop, or let pass: each call of each worker
 abbrev pub at_each_call : Who → ℕ → Type 0
 at_each_call who call = Unit {0}
 

@@ -6,7 +6,7 @@ ghost use Rattle.mb_mailbox.specs.Hubs.{hub_empty};
 ghost use Rattle.mb_mailbox.specs.Mailboxes.{MailboxView, plan_at};
 ghost use Rattle.mb_world.specs.Plan.{consumers_of, size_of};
 ghost use Rattle.mb_world.specs.Report.{ReportView};
-ghost use Rattle.mb_rounds.specs.Behind.{Terms};
+ghost use Rattle.mb_mailbox.specs.ReportedRuns.{Terms};
 ghost use Rattle.mb_rounds.specs.Round.{IsPlayed, IsRound, ledgers_of};
 ghost use Rattle.mb_rounds.specs.RoundExamples.{at_each_call, at_no_call, idle_terms, no_lanes, one_lane};
 

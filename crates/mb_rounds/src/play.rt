@@ -3,7 +3,7 @@ ghost use Rattle.std.specs.Prelude.{◌≡◌, ◌<◌, ◌≤◌, ◌≢◌, Er
 ghost use Rattle.mb_mailbox.specs.Worked.{lists_in};
 ghost use Rattle.mb_world.specs.Plan.{consumers_of};
 ghost use Rattle.mb_world.specs.Setups.{plan_in};
-ghost use Rattle.mb_rounds.specs.Behind.{terms_of};
+ghost use Rattle.mb_mailbox.specs.ReportedRuns.{terms_of};
 ghost use Rattle.mb_rounds.specs.Round.{IsPlayed};
 ghost use Rattle.mb_rounds.specs.declared.rounds.RoundFault.TheVariants.{BadBudget, TooManySources};
 

@@ -35,7 +35,7 @@ impl fmt::Display for RoundFault {
         f.write_str(match self {
             RoundFault::TooManySources => "there are more sources than consumers",
             RoundFault::BadBudget => "the budget is 0",
-            RoundFault::NoMemory => "memory was refused",
+            RoundFault::NoMemory => "out of memory",
             RoundFault::NoThread => "a thread could not be started",
         })
     }

@@ -20,34 +20,40 @@ use Rattle.mb_script.specs.Text.{has_empty, words_in_line}
 abbrev pub For : {A F : Type 0} → (F → Type 0) → Result A F → Type 0
 For P r = IfErr r P
 
+-- what holds of each fault of two steps holds of both in a row
 pub for_bind : {A B F : Type 0} (P : F → Type 0) (r : Result A F) (f : A → Result B F)
     → For P r → ((x : A) → For P (f x))
     → For P (r >>= f)
 for_bind P (Ok x) f first behind = behind x
 for_bind P (Err e) f first behind = first
 
+-- what holds of each fault of two results holds of a choice between them
 pub for_cond : {A F : Type 0} (P : F → Type 0) (b : Bool) (r s : Result A F) → For P r
     → For P s → For P (cond b r s)
 for_cond P true r s p q = p
 for_cond P false r s p q = q
 
+-- what holds of a fault holds of an option that has it if it is empty
 pub for_option : {A F : Type 0} (P : F → Type 0) (o : Option A) (e : F) → P e → For P (ok_or o e)
 for_option P (Some x) e is = tt
 for_option P None e is = is
 
--- it is about line n
+-- a fault is about line n
 abbrev pub About : ℕ → Fault → Type 0
 About n e = line_of e ≡ Some n
 
+-- each fault of the result is about line n
 abbrev pub At : {A : Type 0} → ℕ → Result A Fault → Type 0
 At n r = For (About n) r
 
+-- a fault of a line's only number is about that line
 at_one : (n : ℕ) (ws : List (List ℕ)) → At n (one_number n ws)
 unfolding one_number
 at_one n [] = refl
 at_one n (a ∷ []) = for_option (About n) _ (BadNumber n) refl
 at_one n (a ∷ b ∷ ws) = refl
 
+-- a fault of a line's two numbers is about that line
 at_two : (n : ℕ) (ws : List (List ℕ)) → At n (two_numbers n ws)
 unfolding two_numbers
 at_two n [] = refl
@@ -58,6 +64,7 @@ at_two n (a ∷ b ∷ []) =
     (λ x. for_bind (About n) (number_at n b) (λ y. Ok (x, y)) (for_option (About n) _ (BadNumber n) refl) (λ y. tt))
 at_two n (a ∷ b ∷ c ∷ ws) = refl
 
+-- a fault of a line's three numbers is about that line
 at_three : (n : ℕ) (ws : List (List ℕ)) → At n (three_numbers n ws)
 unfolding three_numbers
 at_three n [] = refl
@@ -70,6 +77,7 @@ at_three n (a ∷ b ∷ c ∷ []) =
     (λ y. for_bind (About n) (number_at n c) (λ z. Ok (x, y, z)) (number c) (λ z. tt)))
 at_three n (a ∷ b ∷ c ∷ d ∷ ws) = refl
 
+-- a fault of a line's event is about that line
 at_event : (n : ℕ) (ws : List (List ℕ)) → At n (event_of n ws)
 unfolding event_of
 at_event n [] = refl
@@ -83,12 +91,14 @@ at_event n (key ∷ ws) =
     (for_cond (About n) (bytes_eq key (codes "step")) _ _
     (for_bind (About n) (three_numbers n ws) _ (at_three n ws) (λ x. tt)) refl)))
 
+-- a fault of an event's place is about its line
 at_placed : (plan : Plan) (n : ℕ) (e : Event) → At n (placed plan n e)
 unfolding placed
 at_placed plan n e =
     for_cond (About n) (nat_lt (lane_of e) plan.lanes) _ _
     (for_cond (About n) (has_consumer plan (consumer_in e)) _ _ tt refl) refl
 
+-- a fault of line n is about line n
 pub at_line : (plan : Plan) (n : ℕ) (line : List ℕ) → At n (event_at plan n line)
 unfolding event_at
 at_line plan n line =
@@ -96,12 +106,13 @@ at_line plan n line =
     (for_bind (About n) (event_of n (words_in_line line)) (placed plan n)
     (at_event n (words_in_line line)) (at_placed plan n))
 
--- the same of the first line
+-- what holds of each fault of a setup holds of what the first line makes
 for_made : (P : Fault → Type 0) (o : Option SetupFault) (made : Made)
     → ((f : SetupFault) → P (BadSetup 1 f)) → For P (made_of o made)
 for_made P None made bad = tt
 for_made P (Some fault) made bad = bad fault
 
+-- what holds of the three kinds of fault of a setup holds of each fault of its words
 pub for_sizes : (P : Fault → Type 0) (ws : List (List ℕ)) → P (BadLine 1) → P (BadNumber 1)
     → ((f : SetupFault) → P (BadSetup 1 f))
     → For P (sizes_of ws)
@@ -121,6 +132,7 @@ for_sizes P (producers ∷ consumers ∷ cells ∷ pairs ∷ name ∷ shape) lin
     (λ m. for_bind P (number_at 1 pairs) _ (read pairs)
     (λ k. for_made P (setup_refusal p c m k) (made_from f p c m k t) bad))))))
 
+-- a fault of the first line is about line 1
 pub at_setup : (ws : List (List ℕ)) → At 1 (setup_of ws)
 unfolding setup_of
 at_setup [] = refl

@@ -10,13 +10,13 @@ pub bind_ok : {A B : Type 0} (r : Result A Fault) (f : A → Result B Fault) (y 
 bind_ok (Ok x) f y e = (x, refl, e)
 bind_ok (Err d) f y e = absurd (cc)
 
--- a test that had to hold
+-- a step after a test that had to hold went well, so it held
 pub passed : {A : Type 0} (b : Bool) (d : Fault) (r : Result A Fault) (y : A) → cond b r (Err d) ≡ Ok y
     → (b ≡ true) × (r ≡ Ok y)
 passed true d r y e = (refl, e)
 passed false d r y e = absurd (cc)
 
--- a test that had to fail
+-- a step after a test that had to fail went well, so it failed
 pub avoided : {A : Type 0} (b : Bool) (d : Fault) (r : Result A Fault) (y : A) → cond b (Err d) r ≡ Ok y
     → (b ≡ false) × (r ≡ Ok y)
 avoided false d r y e = (refl, e)
@@ -26,11 +26,11 @@ avoided true d r y e = absurd (cc)
 abbrev well : {A : Type 0} → A → Result A Fault
 well x = Ok x
 
--- `Ok` of one value twice
+-- two `Ok` that are one have one value
 pub ok_is : {A : Type 0} (x y : A) → well x ≡ well y → x ≡ y
 ok_is x y e = cc
 
--- an option that had a value
+-- a step after an option that had to have a value went well, so it had one
 pub some_from : {A : Type 0} (o : Option A) (d : Fault) (x : A) → ok_or o d ≡ Ok x → o ≡ Some x
 some_from (Some y) d x e = ap (λ (z : _). Some z) (ok_is y x e)
 some_from None d x e = absurd (cc)

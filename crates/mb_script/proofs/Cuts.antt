@@ -7,7 +7,7 @@ use Rattle.std.proofs.lemmas.List.{length-map, length-take-le, map-append, take_
 use Rattle.std.specs.List.{position_or_len, before_first, after_first, onto_first}
 use Rattle.mb_script.specs.Text.{words_in_line, has_empty, number_of, numbers_of}
 
--- a space
+-- whether a byte parts words: it is a space
 abbrev pub parts : ℕ → Bool
 parts b = nat_eq b 32
 
@@ -26,7 +26,7 @@ cut_step b bs false within rest =
     let cut = rest (omega arith) in
     rw (cut, two, one) refl
 
--- where there is a space, the first word stands before it
+-- if there is a space, the first word stands before it
 pub words_cut : (bs : List ℕ) → position_or_len parts bs < length bs
     → words_in_line bs ≡ before_first parts bs ∷ words_in_line (after_first parts bs)
 words_cut [] within = absurd (omega arith)
@@ -39,12 +39,12 @@ last_step : (b : ℕ) (bs : List ℕ) (t : Bool) → cond (not t) (1 + position_
 last_step b bs true none rest = absurd (omega arith)
 last_step b bs false none rest = ap (onto_first b) (rest (omega arith))
 
--- where there is none, the line is its only word
+-- if there is none, the line is its only word
 pub words_last : (bs : List ℕ) → position_or_len parts bs ≡ length bs → words_in_line bs ≡ bs ∷ []
 words_last [] none = refl
 words_last (b ∷ bs) none = last_step b bs (nat_eq b 32) none (words_last bs)
 
--- one byte more leaves a word
+-- a line with one byte more has a word still
 first_step : (b : ℕ) (ws : List (List ℕ)) (t : Bool) → 0 < length ws → 0 < length (cond t ([] ∷ ws) (onto_first b ws))
 first_step b ws true some = omega arith
 first_step b [] false some = omega (arith, some)
@@ -60,17 +60,17 @@ any_step : (a b c t : Bool) → a ≡ (b || c) → (t || a) ≡ ((t || b) || c)
 any_step a b c true e = refl
 any_step a b c false e = e
 
--- an empty word among the first words or behind them
+-- an empty word among the first words or after them
 empty_among : (ws vs : List (List ℕ)) → has_empty (ws ++ vs) ≡ (has_empty ws || has_empty vs)
 empty_among [] vs = refl
 empty_among (w ∷ ws) vs = any_step _ (has_empty ws) (has_empty vs) (nat_eq (length w) 0) (empty_among ws vs)
 
--- behind words none of which is empty an empty one is found
+-- after words none of which is empty an empty one is found
 pub empty_behind : (ws : List (List ℕ)) (w : List ℕ) (vs all : List (List ℕ)) (long : Bool) → has_empty ws ≡ false
     → nat_eq (length w) 0 ≡ true → ws ++ w ∷ vs ≡ all → (has_empty all || long) ≡ true
 empty_behind ws w vs all long full empty cut = rw (sym cut, empty_among ws (w ∷ vs), full, empty) refl
 
--- and words none of which is empty stay so with one more
+-- words none of which is empty, and one more that is not, have no empty word
 pub none_behind : (ws : List (List ℕ)) (w : List ℕ) → has_empty ws ≡ false → nat_eq (length w) 0 ≡ false
     → has_empty (ws ++ w ∷ []) ≡ false
 none_behind ws w full some = rw (empty_among ws (w ∷ []), full, some) refl
@@ -80,7 +80,7 @@ or_true : (a b : Bool) → b ≡ true → (a || b) ≡ true
 or_true true b e = refl
 or_true false b e = e
 
--- so many words, one more, and a line behind it are too many
+-- so many words, one more, and a line after it are too many
 pub too_many : (ws : List (List ℕ)) (w bs : List ℕ) (all : List (List ℕ)) (most : ℕ) → length ws + 1 ≡ most
     → ws ++ w ∷ words_in_line bs ≡ all → (has_empty all || nat_lt most (length all)) ≡ true
 too_many ws w bs all most count cut =
@@ -107,24 +107,24 @@ word_kept ws i w low =
 pub words_taken : (ws : List (Bor (List ℕ))) (i : ℕ) → i ≤ length ws → length (map (λ x. x.now) (take i ws)) ≡ i
 words_taken ws i low = length-map (take i ws) (λ (x : Bor (List ℕ)). x.now) ∙ length-take-le i ws low
 
--- how much is left, and one more where a word is left
+-- how much is left, and one more if a word is left
 abbrev pub bytes_left : Option (List ℕ) → ℕ
 bytes_left None = 0
 bytes_left (Some rest) = suc (length rest)
 
--- a word that is no number
+-- a word that is no number fails the whole
 pub number_fails : (done : List ℕ) (w : List ℕ) (ws : List (List ℕ)) (whole : Option (List ℕ)) → number_of w ≡ None
     → option_map (λ ns. done ++ ns) (numbers_of (w ∷ ws)) ≡ whole → None ≡ whole
 unfolding numbers_of
 number_fails done w ws whole fails same = sym (rw fails refl) ∙ same
 
--- one number before others
+-- one number more in front of others
 map_one : (done : List ℕ) (n : ℕ) (o : Option (List ℕ)) → option_map (λ (ns : List ℕ). (done ++ n ∷ []) ++ ns) o
     ≡ option_map (λ ns. done ++ ns) (option_and_then (λ ns. Some (n ∷ ns)) o)
 map_one done n None = refl
 map_one done n (Some ns) = ap (λ (l : List ℕ). Some l) (append_assoc done (n ∷ []) ns)
 
--- a word that is one
+-- a word that is a number comes after those before it
 pub number_works : (done : List ℕ) (w : List ℕ) (ws : List (List ℕ)) (n : ℕ)
     (whole : Option (List ℕ)) → number_of w ≡ Some n
     → option_map (λ ns. done ++ ns) (numbers_of (w ∷ ws)) ≡ whole
@@ -132,7 +132,7 @@ pub number_works : (done : List ℕ) (w : List ℕ) (ws : List (List ℕ)) (n : 
 unfolding numbers_of
 number_works done w ws n whole works same = map_one done n (numbers_of ws) ∙ sym (rw works refl) ∙ same
 
--- no word is left
+-- if no word is left, the numbers are those before
 pub numbers_end : (done : List ℕ) (whole : Option (List ℕ)) → option_map (λ ns. done ++ ns) (numbers_of []) ≡ whole
     → Some done ≡ whole
 unfolding numbers_of

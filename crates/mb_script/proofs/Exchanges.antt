@@ -4,7 +4,7 @@ use Rattle.mb_script.specs.declared.transfer.TheConstants.{MAX_SCRIPT_LEN}
 use Rattle.mb_script.specs.Devices.{ConsumesCount, Had}
 use Rattle.mb_script.specs.CommandIo.{AreApart, Command}
 
--- where one byte past the limit was read, what the reader had is too long a script
+-- if one byte past the limit was read, what the reader had is too long a script
 pub too_long_read : {F : Type 0} (command : Command F)
     → ((bytes : List ℕ) → MAX_SCRIPT_LEN < length bytes → command.fault_of bytes ≡ Some command.too_long)
     → (old new : Option (List ℕ)) → ConsumesCount (MAX_SCRIPT_LEN + 1) old new

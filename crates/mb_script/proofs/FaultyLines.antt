@@ -1,4 +1,4 @@
--- The first faulty line of a replay script: what stands behind it, and before it.
+-- The first faulty line of a replay script: what stands after it, and before it.
 use Rattle.std.proofs.Common.{◌≡◌, ℕ, suc, zero, ◌+◌, ◌<◌, ◌≤◌, Bool, true, false, cond, nat_lt, List, [], ◌∷◌, length, take, Option, Some, Result, Ok, Err, refl, ap, sym, ◌∙◌, subst, arith}
 use Rattle.std.specs.List.{list_all}
 use Rattle.std.specs.Char.{is_ascii}
@@ -18,11 +18,11 @@ use Rattle.mb_script.specs.Spelling.{Spells}
 use Rattle.mb_script.proofs.ReadBack.{lines_take}
 use Rattle.mb_script.proofs.AboutLines.{At, at_line, at_setup}
 
--- a number that an option has
+-- an option has one number
 some_is : (x y : ℕ) → ◌≡◌ {A = Option ℕ} (Some x) (Some y) → x ≡ y
 some_is x y e = cc
 
--- one fault
+-- a result has one fault
 pub err_is : {A : Type 0} (d e : Fault) → ◌≡◌ {A = Result A Fault} (Err d) (Err e) → d ≡ e
 err_is d e is = cc
 
@@ -36,7 +36,7 @@ same_head : {X : Type 0} (k : ℕ) (a : X) (us bs : List X) → take (suc k) (a 
 same_head k a us [] e = absurd (cc)
 same_head k a us (b ∷ bs) e = (bs, cc, cc)
 
--- a line, and what stands behind it
+-- a line, and what stands after it
 abbrev from_line : Bool → Result Event Fault → Result (List Event) Fault → Result (List Event) Fault
 from_line many r rest = cond many (Err TooManyEvents) (r >>= (λ event. rest >>= (λ events. Ok (event ∷ events))))
 
@@ -56,6 +56,7 @@ least_step n m false (Ok x) (Err d) e low at about is on = let more = on refl is
 below_by : (n : ℕ) → nat_lt (MAX_EVENTS + 1) n ≡ false → suc n ≤ MAX_EVENTS + 2
 below_by n test = let low : n ≤ MAX_EVENTS + 1 = grind (arith, nat_tests, test) in omega (arith, low)
 
+-- a fault of the lines from line n on is about none before
 pub events_least : (plan : Plan) (n m : ℕ) (us : List (List ℕ)) (e : Fault) → n ≤ MAX_EVENTS + 2
     → events_of plan n us ≡ Err e
     → line_of e ≡ Some m → n ≤ m
@@ -66,7 +67,7 @@ events_least plan n m (line ∷ lines) e low is about =
     e low (at_line plan n line) about is
     (λ few fails. events_least plan (suc n) m lines e (below_by n few) fails about)
 
--- the same line, and a fault behind it
+-- a list of lines with the same first line has the same fault, if the fault lies after it
 same_step : (many : Bool) (r : Result Event Fault) (rest rest2 : Result (List Event) Fault) (e : Fault)
     → from_line many r rest ≡ Err e → (many ≡ false → rest ≡ Err e → rest2 ≡ Err e) → from_line many r rest2 ≡ Err e
 same_step true r rest rest2 e is on = is
@@ -89,27 +90,28 @@ events_same plan n (suc k) m (line ∷ lines) bs e low is about count same =
     (λ few fails. events_same plan (suc n) k m lines h.0 e (below_by n few) fails about (omega (arith, count)) h.2) in
     subst (λ (t : List (List ℕ)). events_of plan n t ≡ Err e) (sym h.1) further
 
--- a fault after what was made
+-- what was made by the first line changes no later fault
 events_step : (made : Made) (r s : Result (List Event) Fault) (e : Fault)
     → (r >>= (λ es. Ok (script_with made es))) ≡ Err e
     → (r ≡ Err e → s ≡ Err e) → (s >>= (λ es. Ok (script_with made es))) ≡ Err e
 events_step made (Ok ys) s e is on = absurd (cc)
 events_step made (Err d) s e is on = rw (on (ap (λ (f : Fault). Err f) (err_is d e is))) refl
 
+-- a script with the same first line has the same fault of its events
 setup_step : (r : Result Made Fault) (f g : Made → Result (List Event) Fault) (e : Fault)
     → (r >>= (λ made. f made >>= (λ es. Ok (script_with made es)))) ≡ Err e → ((x : Made) → f x ≡ Err e → g x ≡ Err e)
     → (r >>= (λ made. g made >>= (λ es. Ok (script_with made es)))) ≡ Err e
 setup_step (Err d) f g e is on = is
 setup_step (Ok x) f g e is on = events_step x (f x) (g x) e is (on x)
 
--- a fault behind the first line
+-- a fault of a line after the first is about line 1 or a later one
 least_behind : (made : Made) (r : Result (List Event) Fault) (m : ℕ) (e : Fault)
     → (r >>= (λ es. Ok (script_with made es))) ≡ Err e → (r ≡ Err e → 2 ≤ m) → 1 ≤ m
 least_behind made (Ok ys) m e is on = absurd (cc)
 least_behind made (Err d) m e is on =
     let more = on (ap (λ (f : Fault). Err f) (err_is d e is)) in omega (arith, more)
 
--- a fault is about line 1 or one behind
+-- a fault is about line 1 or one after
 setup_least : (r : Result Made Fault) (f : Made → Result (List Event) Fault) (m : ℕ) (e : Fault)
     → At 1 r → line_of e ≡ Some m
     → (r >>= (λ made. f made >>= (λ es. Ok (script_with made es)))) ≡ Err e → ((x : Made) → f x ≡ Err e → 2 ≤ m) → 1 ≤ m
@@ -145,7 +147,7 @@ by_lines true ascii read e m is about = let none = ap line_of (err_is TooLong e 
 by_lines false true read e m is about = is
 by_lines false false read e m is about = let none = ap line_of (err_is NotAscii e is) ∙ about in absurd (cc)
 
--- what stands behind the first faulty line counts for nothing
+-- what stands after the first faulty line counts for nothing
 pub script_same : (us bs : List ℕ) (e : Fault) (m : ℕ) → script_of us ≡ Err e → line_of e ≡ Some m
     → take m (lines_of us) ≡ take m (lines_of bs) → length bs ≤ MAX_SCRIPT_LEN → list_all is_ascii bs ≡ true
     → script_of bs ≡ Err e
@@ -155,7 +157,7 @@ script_same us bs e m is about same short ascii =
     (lines_script (lines_of us)) e m is about in
     rw (le-ltb MAX_SCRIPT_LEN (length bs) short, ascii) (lines_same m (lines_of us) (lines_of bs) e read about same)
 
--- a line before the faulty one
+-- a line before the faulty one has no fault
 before_step : (n m : ℕ) (many : Bool) (r : Result Event Fault)
     (rest rest2 : Result (List Event) Fault) (e : Fault) → At n r
     → line_of e ≡ Some m → nat_lt (MAX_EVENTS + 1) n ≡ many → n < m → m ≤ MAX_EVENTS + 2 → from_line many r rest ≡ Err e
@@ -180,7 +182,7 @@ events_before plan n (suc k) m (line ∷ lines) e low is about count =
     (events_of plan (suc n) (take k lines)) e (at_line plan n line) about refl (omega (arith, count)) low is
     (λ fails. events_before plan (suc n) k m lines e low fails about (omega (arith, count)))
 
--- of the first line, and what stands behind it
+-- of the first line, and what stands after it
 events_well : (made : Made) (r s : Result (List Event) Fault) (e : Fault)
     → (r >>= (λ es. Ok (script_with made es))) ≡ Err e
     → (r ≡ Err e → (es : List Event) × (s ≡ Ok es)) → (t : Script) × ((s >>= (λ es. Ok (script_with made es))) ≡ Ok t)
@@ -188,6 +190,7 @@ events_well made (Ok ys) s e is on = absurd (cc)
 events_well made (Err d) s e is on =
     let so = on (ap (λ (f : Fault). Err f) (err_is d e is)) in (script_with made so.0, rw (so.1) refl)
 
+-- a script with the same first line, and events without a fault, has no fault
 setup_well : (r : Result Made Fault) (f g : Made → Result (List Event) Fault) (e : Fault) (m : ℕ)
     → At 1 r → line_of e ≡ Some m
     → 1 < m → (r >>= (λ made. f made >>= (λ es. Ok (script_with made es)))) ≡ Err e
@@ -197,7 +200,7 @@ setup_well (Err d) f g e m at about more is on =
     let same = one_line d e 1 m at (err_is d e is) about in absurd (omega (arith, same, more))
 setup_well (Ok x) f g e m at about more is on = events_well x (f x) (g x) e is (on x)
 
--- a fault is about no line behind the last that may be read
+-- a fault is about no line after the last that may be read
 last_step : (n m : ℕ) (many : Bool) (r : Result Event Fault) (rest : Result (List Event) Fault)
     (e : Fault) → n ≤ MAX_EVENTS + 2
     → At n r → line_of e ≡ Some m → from_line many r rest ≡ Err e → (many ≡ false → rest ≡ Err e → m ≤ MAX_EVENTS + 2)
@@ -209,6 +212,7 @@ last_step n m false (Err d) rest e low at about is on =
 last_step n m false (Ok x) (Ok ys) e low at about is on = absurd (cc)
 last_step n m false (Ok x) (Err d) e low at about is on = on refl is
 
+-- a fault of events is about no line after the last that may be read
 events_last : (plan : Plan) (n m : ℕ) (us : List (List ℕ)) (e : Fault) → n ≤ MAX_EVENTS + 2
     → events_of plan n us ≡ Err e
     → line_of e ≡ Some m → m ≤ MAX_EVENTS + 2

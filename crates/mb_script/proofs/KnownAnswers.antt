@@ -16,19 +16,21 @@ use Rattle.mb_world.specs.declared.event.Answer.TheVariants as answer
 use Rattle.mb_world.specs.declared.event.Event.{Event}
 use Rattle.mb_world.specs.declared.event.Event.TheVariants as event
 use Rattle.mb_world.specs.Plan.{Plan, consumers_of}
-use Rattle.mb_world.specs.Replay.{IsEntry, IsRefused, IsReplay, AnswerNames, answer_to, with_access}
+use Rattle.mb_world.specs.Replay.{HasAnswer, IsRefused, IsReplay, AnswerNames, answer_to, with_access}
 use Rattle.mb_world.specs.World.{ToCells, ToClaims, WorldAccess, WorldHistory}
 use Rattle.mb_script.specs.Replaying.{IsAnswer, IsOfWorld}
 use Rattle.mb_script.specs.Scripts.{Script}
 use Rattle.mb_script.specs.Spelling.{IsEventOf, Sizes, script_in}
 use Rattle.mb_script.proofs.ReadBack.{script_takes}
 
--- ---- an access is answered by its own name
+-- ---- the answer to an access names it
+-- an answer to a store in a link says nothing of missing lanes or consumers
 linked : (b : Bool) (v : ℕ) (r : Answer)
     → Some (if b then answer.Finished finish.Ended else answer.Pushed (push.Link v)) ≡ Some r → IsOfWorld r
 linked true v r is = (λ e. cc, λ e. cc)
 linked false v r is = (λ e. cc, λ e. cc)
 
+-- nor does an answer to an access to the cells
 cells_known : (cells : ℕ) (w : Word) (act : PoolAct) (r : Answer) → answer_to cells w act ≡ Some r → IsOfWorld r
 cells_known cells Counter (FetchAdd x n) r is = (λ e. cc, λ e. cc)
 cells_known cells Counter (Load v) r is = absurd (cc)
@@ -43,17 +45,20 @@ cells_known cells (Item k) (FetchAdd x n) r is = absurd (cc)
 cells_known cells (Item k) (Load v) r is = (λ e. cc, λ e. cc)
 cells_known cells (Item k) (Store v) r is = (λ e. cc, λ e. cc)
 
+-- no answer that names an access does
 named_known : (plan : Plan) (r : Answer) (a : WorldAccess) (h : WorldHistory) → AnswerNames plan r a h → IsOfWorld r
 named_known plan r (ToCells a) h names = cells_known plan.claims.cells a.word a.act r names
 named_known plan r (ToClaims a) h names = let is = names.2 in (λ e. cc, λ e. cc)
 
--- ---- and so is a refusal, where the event's lane and consumer are there
+-- ---- an event whose lane and consumer are there has another refusal than that they are not
+-- the event's lane and consumer are there
 abbrev IsEventIn : Plan → Event → Type 0
 IsEventIn plan (event.Offer p x) = p < plan.lanes
 IsEventIn plan (event.Push p) = p < plan.lanes
 IsEventIn plan (event.Finish p) = p < plan.lanes
 IsEventIn plan (event.Step c p word) = (p < plan.lanes) × (c < consumers_of plan)
 
+-- its refusal is another than that they are not
 refused_known : (plan : Plan) (e : Event) (r : Answer) (h : WorldHistory) → IsEventIn plan e
     → IsRefused plan e r h → IsOfWorld r
 refused_known plan (event.Offer p x) r h there (inl none) = absurd (omega (arith, there, none.0))
@@ -65,11 +70,13 @@ refused_known plan (event.Finish p) r h there (inr why) = let is = why.1.4 in (�
 refused_known plan (event.Step c p word) r h there (inl none) = absurd (omega (arith, there.0, none.0))
 refused_known plan (event.Step c p word) r h there (inr why) = absurd (omega (arith, there.1, why.1))
 
+-- its answer is another than that they are not
 entry_known : (plan : Plan) (e : Event) (r : Answer) (a : Option WorldAccess) (h : WorldHistory) → IsEventIn plan e
-    → IsEntry plan e r a h → IsOfWorld r
+    → HasAnswer plan e r a h → IsOfWorld r
 entry_known plan e r None h there entry = refused_known plan e r h there entry
 entry_known plan e r (Some a) h there entry = named_known plan r a h entry.1
 
+-- so are all answers of a replay of such events
 replay_known : (plan : Plan) (es : List Event) (rs : List Answer) (was now : WorldHistory)
     → AllByRecursion (IsEventIn plan) es → IsReplay plan es rs was now → AllByRecursion IsOfWorld rs
 replay_known plan [] [] was now there replay = tt
@@ -81,10 +88,12 @@ replay_known plan (e ∷ es) (r ∷ rs) was now there replay = (
       (with_access replay.0 was) now there.1 replay.2,
 )
 
--- ---- the events of a script
+-- ---- the lanes and consumers of a script's events are there
+-- the tables have as many values as are asked for
 abbrev pub TablesHaveTheirValues : Type 0
 TablesHaveTheirValues = (name : TableName) (m : ℕ) → (table_of name m).values ≡ m
 
+-- an event that is spelled has its lane and its consumer in the script's world
 event_there : TablesHaveTheirValues → (z : Sizes) (events : List Event) (e : Event) → IsEventOf z e
     → IsEventIn (script_in z events).plan e
 event_there values z events (event.Offer p x) of = of.0
@@ -93,11 +102,13 @@ event_there values z events (event.Finish p) of = of
 event_there values z events (event.Step c p word) of =
     (of.0, subst (λ n. c < n) (sym (values z.table z.consumers)) of.1)
 
+-- so have all events of a script
 all_there : TablesHaveTheirValues → (z : Sizes) (events es : List Event) → AllByRecursion (IsEventOf z) es
     → AllByRecursion (IsEventIn (script_in z events).plan) es
 all_there values z events [] of = tt
 all_there values z events (e ∷ es) of = (event_there values z events e of.0, all_there values z events es of.1)
 
+-- so no answer to a script says that a lane or a consumer is missing
 pub answers_known : TablesHaveTheirValues → (bytes text : List ℕ) (a : IsAnswer bytes text)
     → AllByRecursion IsOfWorld a.replayed.answers
 answers_known values bytes text a =

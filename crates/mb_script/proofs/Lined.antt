@@ -22,7 +22,7 @@ abbrev pub onto : List Event → Result (List Event) Fault → Result (List Even
 onto done (Ok events) = Ok (done ++ events)
 onto done (Err e) = Err e
 
--- whatever the key
+-- a choice by the key between four equal results
 any_key : (o p f s : Bool) (r : Result Event Fault) → cond o r (cond p r (cond f r (cond s r r))) ≡ r
 any_key true p f s r = refl
 any_key false true f s r = refl
@@ -49,13 +49,13 @@ unfolding event_at
 bad_by plan n line true is bad = rw is refl
 bad_by plan n line false is bad = rw (is, long_event n (words_in_line line) (ltb-true _ _ bad)) refl
 
--- is a bad line
+-- a line with an empty word, or with too many words, is a bad line
 pub bad_event : (plan : Plan) (n : ℕ) (line : List ℕ)
     → (has_empty (words_in_line line) || nat_lt 8 (length (words_in_line line))) ≡ true
     → event_at plan n line ≡ Err (BadLine n)
 bad_event plan n line bad = bad_by plan n line _ refl bad
 
--- whatever the table
+-- after a table's name, be it one or none, the line is bad
 bad_either : (o : Option TableName)
     → ◌≡◌ {A = Result Made Fault} (ok_or o (BadLine 1) >>= (λ t. Err (BadLine 1))) (Err (BadLine 1))
 bad_either None = refl
@@ -73,7 +73,7 @@ long_setup (a ∷ b ∷ c ∷ d ∷ e ∷ []) long = absurd (omega (arith, long)
 long_setup (a ∷ b ∷ c ∷ d ∷ e ∷ f ∷ []) long = absurd (omega (arith, long))
 long_setup (a ∷ b ∷ c ∷ d ∷ e ∷ f ∷ g ∷ ws) long = bad_either (table_named e)
 
--- and none has so few
+-- no setup has so few words
 pub short_setup : (ws : List (List ℕ)) → length ws < 5 → sizes_of ws ≡ Err (BadLine 1)
 unfolding sizes_of
 short_setup [] short = refl
@@ -83,7 +83,7 @@ short_setup (a ∷ b ∷ c ∷ []) short = refl
 short_setup (a ∷ b ∷ c ∷ d ∷ []) short = refl
 short_setup (a ∷ b ∷ c ∷ d ∷ e ∷ ws) short = absurd (omega (arith, short))
 
--- the same of the first line
+-- a first line with an empty word, or with too many words, is bad
 bad_setup_by : (ws : List (List ℕ)) (empty : Bool) → has_empty ws ≡ empty
     → (empty || nat_lt 8 (suc (length ws))) ≡ true → setup_of (codes "setup" ∷ ws) ≡ Err (BadLine 1)
 unfolding setup_of
@@ -107,7 +107,7 @@ pub line_too_many : (plan : Plan) (done : List Event) (n : ℕ) (line : List ℕ
 unfolding events_of
 line_too_many plan done n line lines whole above same = sym same ∙ rw (lt-ltb (MAX_EVENTS + 1) n above) refl
 
--- a faulty line
+-- a faulty line fails the whole
 pub line_fails : (plan : Plan) (done : List Event) (n : ℕ) (line : List ℕ) (lines : List (List ℕ)) (e : Fault)
     (whole : Result (List Event) Fault) → n ≤ MAX_EVENTS + 1 → onto done (events_of plan n (line ∷ lines)) ≡ whole
     → event_at plan n line ≡ Err e → whole ≡ Err e
@@ -121,7 +121,7 @@ onto_one : (done : List Event) (event : Event) (r : Result (List Event) Fault)
 onto_one done event (Ok events) = ap (λ (l : List Event). Ok l) (append_assoc done (event ∷ []) events)
 onto_one done event (Err e) = refl
 
--- a line with an event
+-- a line with an event adds it to those before
 pub line_works : (plan : Plan) (done : List Event) (n : ℕ) (line : List ℕ) (lines : List (List ℕ)) (event : Event)
     (whole : Result (List Event) Fault) → n ≤ MAX_EVENTS + 1 → onto done (events_of plan n (line ∷ lines)) ≡ whole
     → event_at plan n line ≡ Ok event → onto (done ++ event ∷ []) (events_of plan (suc n) lines) ≡ whole
@@ -129,13 +129,13 @@ unfolding events_of
 line_works plan done n line lines event whole below same works =
     onto_one done event (events_of plan (suc n) lines) ∙ sym (rw (le-ltb (MAX_EVENTS + 1) n below, works) refl) ∙ same
 
--- no line is left
+-- if no line is left, the events are those before
 pub lines_end : (plan : Plan) (done : List Event) (n : ℕ) (whole : Result (List Event) Fault)
     → onto done (events_of plan n []) ≡ whole → whole ≡ Ok done
 unfolding events_of
 lines_end plan done n whole same = sym same ∙ ap (λ (l : List Event). Ok l) (append-nil done)
 
--- a fault that `?` hands on, where it decides the whole
+-- a fault that `?` hands on, if it decides the whole
 pub fails_whole : {X : Type 0} (view : X → List Event) (r : Result X Fault) (e : Fault) (read : Result Event Fault)
     (whole : Result (List Event) Fault) → IsErrAnd r (λ f. f ≡ e)
     → (e ≢ NoMemory → read ≡ Err e) × (e ≢ ReadFault) × (e ≢ WriteFault) → (read ≡ Err e → whole ≡ Err e)

@@ -5,7 +5,7 @@ use Rattle.std.specs.Option.{unwrap_or}
 use Rattle.std.specs.List.{position_or_len, before_first, after_first, onto_first}
 use Rattle.mb_script.specs.Text.{lines_of}
 
--- LF
+-- whether a byte ends a line: it is LF
 abbrev ends : ℕ → Bool
 ends b = nat_eq b 10
 
@@ -23,7 +23,7 @@ cut_step b bs false within rest =
     let cut = rest (omega arith) in
     rw (cut, two, one) refl
 
--- where there is an LF, the first line stands before it
+-- if there is an LF, the first line stands before it
 pub lines_cut : (bs : List ℕ) → position_or_len ends bs < length bs
     → lines_of bs ≡ before_first ends bs ∷ lines_of (after_first ends bs)
 lines_cut [] within = absurd (omega arith)
@@ -37,7 +37,7 @@ last_step b bs true none rest = absurd (omega arith)
 last_step b [] false none rest = refl
 last_step b (x ∷ bs) false none rest = ap (onto_first b) (rest (omega arith) (omega arith))
 
--- where there is no LF, the text is its only line
+-- if there is no LF, the text is its only line
 pub lines_last : (bs : List ℕ) → position_or_len ends bs ≡ length bs → 0 < length bs → lines_of bs ≡ bs ∷ []
 lines_last [] none some = absurd (omega arith)
 lines_last (b ∷ bs) none some = last_step b bs (nat_eq b 10) none (lines_last bs)

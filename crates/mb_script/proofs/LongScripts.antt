@@ -20,7 +20,8 @@ pub too_long : (bytes : List ℕ) → MAX_SCRIPT_LEN < length bytes → fault_of
 unfolding script_of
 too_long bytes above = rw (lt-ltb MAX_SCRIPT_LEN (length bytes) above) refl
 
--- ---- no line is too long
+-- ---- a fault of a line is another than TooLong
+-- the fault is not TooLong
 abbrev IsOther : Fault → Type 0
 IsOther e = e ≡ TooLong → ⊥
 
@@ -30,6 +31,7 @@ other_at n (Ok x) about = tt
 other_at n (Err e) about = λ is.
     let none : ◌≡◌ {A = Option ℕ} None (Some n) = subst (λ (f : Fault). line_of f ≡ Some n) is about in absurd (cc)
 
+-- it holds of the faults of events
 other_in_events : (plan : Plan) (n : ℕ) (lines : List (List ℕ)) → For IsOther (events_of plan n lines)
 unfolding events_of
 other_in_events plan n [] = tt
@@ -38,6 +40,7 @@ other_in_events plan n (line ∷ lines) =
     (for_bind IsOther (event_at plan n line) _ (other_at n _ (at_line plan n line))
     (λ e. for_bind IsOther (events_of plan (suc n) lines) _ (other_in_events plan (suc n) lines) (λ es. tt)))
 
+-- it holds of the faults of all lines
 other_in_lines : (lines : List (List ℕ)) → For IsOther (lines_script lines)
 unfolding lines_script
 other_in_lines [] = λ is. absurd (cc)
@@ -50,6 +53,7 @@ fault_other : (r : Result Script Fault) → For IsOther r → fault_in r ≡ Som
 fault_other (Ok s) other is = absurd (cc)
 fault_other (Err e) other is = other (let same : ◌≡◌ {A = Option Fault} (Some e) (Some TooLong) = is in cc)
 
+-- a text whose fault is TooLong has more bytes than the limit, by its tests
 long_test : (long ascii : Bool) (lines : List (List ℕ))
     → fault_in (if long then Err TooLong else if ascii then lines_script lines else Err NotAscii)
     ≡ Some TooLong → long ≡ true
@@ -57,6 +61,7 @@ long_test true ascii lines is = refl
 long_test false true lines is = absurd (fault_other (lines_script lines) (other_in_lines lines) is)
 long_test false false lines is = absurd (cc)
 
+-- only a text of more bytes than the limit is too long
 pub only_long : (bytes : List ℕ) → fault_of bytes ≡ Some TooLong → MAX_SCRIPT_LEN < length bytes
 unfolding script_of
 only_long bytes is = ltb-true MAX_SCRIPT_LEN (length bytes) (long_test _ (list_all is_ascii bytes) (lines_of bytes) is)

@@ -8,7 +8,7 @@ use Rattle.std.proofs.lemmas.Bool.{ltb-true, lt-ltb}
 use Rattle.std.proofs.lemmas.Str.Parse.{IsNumeralModel, numerals_by_value, tells_all_ascii_digits, parse_plain}
 use Rattle.mb_script.specs.Text.{number_of}
 
--- digits by their value
+-- `all_ascii_digits` and `digits_value` say what digits are and what they are worth
 pub own : IsNumeralModel (λ ds. all_ascii_digits ds ≡ true) (digits_value 10)
 own = numerals_by_value (λ ds. all_ascii_digits ds ≡ true) tells_all_ascii_digits
 
@@ -24,7 +24,7 @@ by_tests false true small v nonempty (Ok x) some is_led ok = absurd (cc (ok.0.0)
 by_tests false true small v nonempty (Err x) some is_led ok = refl
 by_tests digits false small v nonempty r some is_led ok = absurd (cc)
 
--- the bound as a test
+-- a bound below 2^64 is told by its test
 bound_by_test : {E : Type 0} (r : Result ℕ E) (P Q : Type 0) (v : ℕ) → OkIff r (P × Q × (v < 2 ^ 64)) v
     → OkIff r (P × Q × (nat_lt v (2 ^ 64) ≡ true)) v
 bound_by_test (Ok x) P Q v ok = ((ok.0.0, ok.0.1, lt-ltb _ _ ok.0.2), ok.1)

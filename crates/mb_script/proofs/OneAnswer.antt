@@ -1,4 +1,4 @@
--- A script has one answer.
+-- A script has one answer, by the laws of tables and of worlds.
 use Rattle.std.proofs.Common.{◌≡◌, ℕ, ◌<◌, ◌≤◌, Bool, true, false, ◌||◌, nat_lt, List, [], ◌++◌, Option, Some, None, Ok, refl, sym, ap₂, ◌∙◌, subst, arith}
 use Rattle.std.specs.Prelude.{if◌then◌else◌}
 use Rattle.std.proofs.lemmas.Bool.{ltb-false}
@@ -27,7 +27,7 @@ use Rattle.mb_script.specs.Scripts.{Script, script_of}
 use Rattle.mb_script.specs.Transcript.{transcript_text}
 use Rattle.mb_script.proofs.ReadBack.{script_takes}
 
--- ---- the laws below, by one name each
+-- ---- the laws of the crates below, one name for each
 abbrev pub TablesAreLawful : Type 0
 TablesAreLawful = (name : TableName) (m : ℕ) → m ≤ MAX_VALUES → IsQuorumTable (table_of name m)
 
@@ -53,6 +53,7 @@ ReportsDoNotDiffer = (plan : Plan) (hs : Histories) (r s : ReportView) → AreSo
     → IsReportOf plan hs s → r ≡ s
 
 -- ---- the numbers of a setup that is not refused
+-- a setup that is not refused has no test of its consumers failed
 few_consumers : (a b x : Bool) (rest : Option SetupFault)
     → (if a then Some BadProducers else if b || x then Some BadConsumers else rest) ≡ None → x ≡ false
 few_consumers true b x rest is = absurd (cc)
@@ -60,6 +61,7 @@ few_consumers false true x rest is = absurd (cc)
 few_consumers false false true rest is = absurd (cc)
 few_consumers false false false rest is = refl
 
+-- it has no test of its cells failed
 few_cells : (a b x : Bool) (rest : Option SetupFault)
     → (if a then Some BadProducers else if b then Some BadConsumers else if x then Some BadCells
     else rest) ≡ None → x ≡ false
@@ -68,12 +70,14 @@ few_cells false true x rest is = absurd (cc)
 few_cells false false true rest is = absurd (cc)
 few_cells false false false rest is = refl
 
+-- it has no more consumers than a table has values
 consumers_fit : (p c m k : ℕ) → setup_refusal p c m k ≡ None → c ≤ MAX_VALUES
 consumers_fit p c m k is =
     ltb-false MAX_VALUES c (few_consumers (nat_lt p 1 || nat_lt MAX_PRODUCERS p) (nat_lt c 1) (nat_lt MAX_VALUES c)
     (if nat_lt MAX_CELLS m then Some BadCells else if nat_lt k 1 || nat_lt MAX_PAIRS k then Some
     BadRounds else None) is)
 
+-- it has no more cells than a script may have
 cells_fit : (p c m k : ℕ) → setup_refusal p c m k ≡ None → m ≤ MAX_CELLS
 cells_fit p c m k is =
     ltb-false MAX_CELLS m (few_cells (nat_lt p 1 || nat_lt MAX_PRODUCERS p)
@@ -89,6 +93,7 @@ table_lawful tables bytes s read =
     subst (λ (t : Script). IsQuorumTable t.plan.claims.table) (sym spelled.3)
     (tables z.table z.consumers (consumers_fit z.producers z.consumers z.cells z.pairs spelled.1.sizes))
 
+-- the end mark is the link of no cell of a script's world
 cells_few : (bytes : List ℕ) (s : Script) → script_of bytes ≡ Ok s → s.plan.claims.cells < END
 cells_few bytes s read =
     let spelled = script_takes bytes s read in
@@ -97,7 +102,8 @@ cells_few bytes s read =
     subst (λ (t : Script). t.plan.claims.cells < END) (sym spelled.3)
     (let below : z.cells < END = omega (arith, few) in below)
 
--- ---- the text
+-- ---- one text, and one answer
+-- the replay of events has one text
 pub one_text : (plan : Plan) (es : List Event) (t u : List ℕ) → ReplaysDoNotDiffer → ReplaysAreLawful → WorldsAreSound
     → ReportsDoNotDiffer → IsQuorumTable plan.claims.table → IsWorldLawful plan [] → IsReplayText plan es t
     → IsReplayText plan es u → t ≡ u
@@ -109,6 +115,7 @@ one_text plan es t u same lawful sound reports table begins a b =
     a.written ∙ ap₂ (λ (rs : List Answer) (r : ReportView). transcript_text es rs ++ report_text r)
     both.0 report ∙ sym b.written
 
+-- a script has one answer
 pub one_answer : (bytes t u : List ℕ) (s : Script) → TablesAreLawful → WorldsBegin
     → ReplaysDoNotDiffer → ReplaysAreLawful
     → WorldsAreSound → ReportsDoNotDiffer → script_of bytes ≡ Ok s → IsReplayText s.plan s.events t

@@ -43,7 +43,7 @@ second false y e = e
 small_by : (most n : ℕ) → most ≤ 256 → nat_lt most n ≡ false → n < 2 ^ 64
 small_by most n low e = let small : n ≤ most = grind (arith, nat_tests, e) in omega (arith, low, small)
 
--- so their numbers have a spelling
+-- so the numbers of a setup that is not refused have a spelling
 pub sizes_small : (p c m k : ℕ) → setup_refusal p c m k ≡ None
     → (p < 2 ^ 64) × (c < 2 ^ 64) × (m < 2 ^ 64) × (k < 2 ^ 64)
 sizes_small p c m k e =
@@ -60,18 +60,18 @@ pub consumers_are : (shape : Shape) (p c m k : ℕ) (t : TableName)
     → consumers_of (shaped_plan shape p c m k t) ≡ c
 consumers_are shape p c m k t = named_values t c
 
--- the plan of sizes
+-- the plan that sizes make
 abbrev pub plan_for : Sizes → Plan
 plan_for z = (made_for z).plan
 
--- the word of a shape
+-- the words of a shape are read so
 shape_again : (fast last : Bool) → shape_named (words_with fast last) ≡ Some (shape_with fast last)
 shape_again false false = refl
 shape_again true false = refl
 shape_again false true = refl
 shape_again true true = refl
 
--- the words after `setup`
+-- the words after `setup` are read so
 sizes_again : (shape : Shape) (p c m k : ℕ) (t : TableName) → setup_refusal p c m k ≡ None
     → sizes_of (decimal p ∷ decimal c ∷ decimal m ∷ decimal k ∷ table_name t ∷ shape_words shape)
     ≡ Ok (made_from shape p c m k t)
@@ -95,7 +95,7 @@ table_word Unary = search rules
 table_word Bits = search rules
 table_word Middle = search rules
 
--- and that of a shape
+-- the words of a shape may stand on a line
 shape_fit : (fast last : Bool) → AllByRecursion IsWord (words_with fast last)
 shape_fit false false = tt
 shape_fit true false = (search rules, tt)
@@ -125,7 +125,7 @@ setup_is : (ws : List (List ℕ)) → has_empty ws ≡ false → setup_of (codes
 unfolding setup_of
 setup_is ws e = rw e refl
 
--- the first line
+-- the first line is read so
 pub setup_again : (z : Sizes) → setup_refusal z.producers z.consumers z.cells z.pairs ≡ None
     → setup_of (words_in_line (join_with_byte 32 (setup_words z))) ≡ Ok (made_for z)
 setup_again z e =
@@ -137,7 +137,7 @@ setup_again z e =
     rw cut (setup_is behind (none_empty behind fit.1)
     ∙ sizes_again z.shape z.producers z.consumers z.cells z.pairs z.table e)
 
--- a line of words
+-- a line of words is read by its words
 line_is : (plan : Plan) (n : ℕ) (w : List ℕ) (ws : List (List ℕ)) → AllByRecursion IsWord (w ∷ ws)
     → event_at plan n (join_with_byte 32 (w ∷ ws)) ≡ (event_of n (w ∷ ws) >>= placed plan n)
 unfolding event_at
@@ -148,7 +148,7 @@ lane_small : (z : Sizes) (l : ℕ) → setup_refusal z.producers z.consumers z.c
     → l < z.producers → l < 2 ^ 64
 lane_small z l e low = let s = sizes_small z.producers z.consumers z.cells z.pairs e in omega (arith, low, s.0)
 
--- the line of an event
+-- the line of an event is read so
 pub event_again : (z : Sizes) (n : ℕ) (e : Event)
     → setup_refusal z.producers z.consumers z.cells z.pairs ≡ None → IsEventOf z e
     → event_at (plan_for z) n (join_with_byte 32 (event_words e)) ≡ Ok e
@@ -181,7 +181,7 @@ event_again z n (Step consumer lane word) sized is =
       lt-ltb consumer z.consumers is.1,
     ) refl
 
--- the lines from line n on
+-- the lines from line n on are read so
 pub events_again : (z : Sizes) (n : ℕ) (events : List Event)
     → setup_refusal z.producers z.consumers z.cells z.pairs ≡ None
     → AllByRecursion (IsEventOf z) events → n + length events ≤ MAX_EVENTS + 2
@@ -195,7 +195,7 @@ events_again z n (e ∷ events) sized are few =
       events_again z (suc n) events sized are.1 (omega (arith, few)),
     ) refl
 
--- all lines
+-- all lines are read so
 pub lines_again : (z : Sizes) (events : List Event) → IsScript z events
     → lines_script (script_lines z events) ≡ Ok (script_in z events)
 unfolding lines_script
@@ -219,12 +219,13 @@ event_fit z (Step consumer lane word) sized is =
       ),
     )
 
+-- the words of all events may stand on lines
 events_fit : (z : Sizes) (events : List Event) → setup_refusal z.producers z.consumers z.cells z.pairs ≡ None
     → AllByRecursion (IsEventOf z) events → AllByRecursion IsWordLine (map event_words events)
 events_fit z [] sized are = tt
 events_fit z (e ∷ events) sized are = (event_fit z e sized are.0, events_fit z events sized are.1)
 
--- what is spelled is read so
+-- a script that is spelled is read so
 pub script_again : (bytes : List ℕ) (z : Sizes) (events : List Event) → IsScript z events
     → length bytes ≤ MAX_SCRIPT_LEN
     → lines_of bytes ≡ script_lines z events → script_of bytes ≡ Ok (script_in z events)

@@ -52,7 +52,7 @@ table_takes word Unary false false true p q r e = absurd (cc)
 table_takes word Bits false false true p q r e = absurd (cc)
 table_takes word t false false false p q r e = absurd (cc)
 
--- so is the word of a shape
+-- a word that was read as a shape is that shape's
 word_takes : (word : List ℕ) (f : Shape) (a b c : Bool)
     → bytes_eq word (codes "fast") ≡ a → bytes_eq word (codes "last") ≡ b
     → bytes_eq word (codes "fastlast") ≡ c
@@ -73,6 +73,7 @@ word_takes word f false false true p q r e =
     subst (λ g. word ∷ [] ≡ shape_words g) same (ap (λ (w : List ℕ). w ∷ []) is)
 word_takes word f false false false p q r e = absurd (cc)
 
+-- words that were read as a shape are that shape's
 shape_takes : (words : List (List ℕ)) (f : Shape) → shape_named words ≡ Some f
     → words ≡ shape_words f
 shape_takes [] f e =
@@ -85,12 +86,14 @@ shape_takes (word ∷ other ∷ words) f e = absurd (cc)
 at_takes : (n : ℕ) (w : List ℕ) (x : ℕ) → number_at n w ≡ Ok x → (w ≡ decimal x) × (x < 2 ^ 64)
 at_takes n w x e = number_takes w x (some_from _ _ _ e)
 
+-- one number that was read was spelled so
 one_takes : (n : ℕ) (ws : List (List ℕ)) (x : ℕ) → one_number n ws ≡ Ok x → (ws ≡ decimal x ∷ []) × (x < 2 ^ 64)
 unfolding one_number
 one_takes n [] x e = absurd (cc)
 one_takes n (a ∷ b ∷ ws) x e = absurd (cc)
 one_takes n (a ∷ []) x e = let t = at_takes n a x e in (ap (λ (w : List ℕ). w ∷ []) t.0, t.1)
 
+-- two numbers that were read were spelled so
 two_takes : (n : ℕ) (ws : List (List ℕ)) (x : ℕ × ℕ) → two_numbers n ws ≡ Ok x
     → (ws ≡ decimal x.0 ∷ decimal x.1 ∷ []) × (x.0 < 2 ^ 64) × (x.1 < 2 ^ 64)
 unfolding two_numbers
@@ -107,10 +110,11 @@ two_takes n (a ∷ b ∷ []) x e =
     (ok_is made x g.2)
     (ap (λ (w : List ℕ). w ∷ b ∷ []) p.0 ∙ ap (λ (w : List ℕ). decimal f.0 ∷ w ∷ []) q.0, p.1, q.1)
 
--- three numbers
+-- the type of three numbers
 abbrev Three : Type 0
 Three = ℕ × ℕ × ℕ
 
+-- three numbers that were read were spelled so
 three_takes : (n : ℕ) (ws : List (List ℕ)) (x : Three) → three_numbers n ws ≡ Ok x
     → (ws ≡ decimal x.0 ∷ decimal x.1 ∷ decimal x.2 ∷ []) × (x.0 < 2 ^ 64) × (x.1 < 2 ^ 64) × (x.2 < 2 ^ 64)
 unfolding three_numbers
@@ -136,7 +140,8 @@ three_takes n (a ∷ b ∷ c ∷ []) x e =
       r.1,
     )
 
--- ---- the first line; what is done after each step of `sizes_of` stands below, the last first
+-- ---- the first line
+-- the first definitions say what is left to do after each step of `sizes_of`, the last step first
 abbrev with_pairs : ℕ → ℕ → ℕ → Shape → TableName → ℕ → Result Made Fault
 with_pairs p c m f t k = made_of (setup_refusal p c m k) (made_from f p c m k t)
 
@@ -156,15 +161,16 @@ abbrev with_table : List ℕ → List ℕ → List ℕ → List ℕ → List (Li
 with_table producers consumers cells pairs shape t =
     ok_or (shape_named shape) (BadLine 1) >>= with_shape producers consumers cells pairs t
 
--- what was not refused
+-- what a first line made was not refused
 made_takes : (o : Option SetupFault) (x y : Made) → made_of o x ≡ Ok y → (o ≡ None) × (x ≡ y)
 made_takes None x y e = (refl, ok_is x y e)
 made_takes (Some f) x y e = absurd (cc)
 
--- sizes of a world that make this
+-- sizes of a world that make this, and are not refused
 abbrev pub Sized : Made → Sizes → Type 0
 Sized made z = (setup_refusal z.producers z.consumers z.cells z.pairs ≡ None) × (made_for z ≡ made)
 
+-- words after `setup` that were read spell sizes
 sizes_take : (ws : List (List ℕ)) (made : Made) → sizes_of ws ≡ Ok made
     → (z : Sizes) × (codes "setup" ∷ ws ≡ setup_words z) × Sized made z
 unfolding sizes_of
@@ -200,6 +206,7 @@ sizes_take (producers ∷ consumers ∷ cells ∷ pairs ∷ name ∷ shape) made
     ∷ decimal k.0 ∷ table_name t.0 ∷ ws) shaped in
     (z, whole, sized)
 
+-- a first line that was read spells sizes
 setup_take : (ws : List (List ℕ)) (made : Made) → setup_of ws ≡ Ok made → (z : Sizes)
     × (ws ≡ setup_words z) × Sized made z
 unfolding setup_of
@@ -212,14 +219,14 @@ setup_take (key ∷ ws) made e =
     (c.0, ap (λ (w : List ℕ). w ∷ ws) ((bytes_eq-Decides key (codes "setup")).0 a.0) ∙ c.1, c.2)
 
 -- ---- the line of an event
--- its numbers below 2^64
+-- the numbers of an event are below 2^64
 abbrev Small : Event → Type 0
 Small (Offer lane item) = (lane < 2 ^ 64) × (item < 2 ^ 64)
 Small (Push lane) = lane < 2 ^ 64
 Small (Finish lane) = lane < 2 ^ 64
 Small (Step consumer lane word) = (consumer < 2 ^ 64) × (lane < 2 ^ 64) × (word < 2 ^ 64)
 
--- words that spell an event
+-- the words spell this event, and its numbers are below 2^64
 abbrev SpellsOne : List (List ℕ) → Event → Type 0
 SpellsOne ws e = (ws ≡ event_words e) × Small e
 
@@ -228,7 +235,7 @@ key_is : (key name : List ℕ) (ws vs : List (List ℕ)) → bytes_eq key name �
 key_is key name ws vs is same =
     ap (λ (w : List ℕ). w ∷ ws) ((bytes_eq-Decides key name).0 is) ∙ ap (λ (t : List (List ℕ)). name ∷ t) same
 
--- by the key
+-- what was read of words spells an event, by their key
 by_key : (n : ℕ) (key : List ℕ) (ws : List (List ℕ)) (e : Event) (o p f s : Bool) → bytes_eq key (codes "offer") ≡ o
     → bytes_eq key (codes "push") ≡ p → bytes_eq key (codes "finish") ≡ f → bytes_eq key (codes "step") ≡ s
     → cond o (two_numbers n ws >>= (λ x. Ok (Offer x.0 x.1)))
@@ -256,6 +263,7 @@ by_key n key ws e false false false true is_o is_p is_f is_s read =
     (key_is key (codes "step") ws _ is_s t.0, (t.1, t.2, t.3))
 by_key n key ws e false false false false is_o is_p is_f is_s read = absurd (cc)
 
+-- the words of an event that was read spell it
 event_takes : (n : ℕ) (ws : List (List ℕ)) (e : Event) → event_of n ws ≡ Ok e → SpellsOne ws e
 unfolding event_of
 event_takes n [] e read = absurd (cc)
@@ -274,6 +282,7 @@ place_takes z n (Step consumer lane word) low has small = (
   small.2,
 )
 
+-- an event that was placed is one of that world
 placed_takes : (z : Sizes) (n : ℕ) (d e : Event) → placed (plan_for z) n d ≡ Ok e → Small d → (d ≡ e) × IsEventOf z d
 unfolding placed
 placed_takes z n d e read small =
@@ -296,18 +305,19 @@ line_takes z n line e read =
     sym (join_with_byte-slice_split 32 line) ∙ ap (join_with_byte 32) c.0 in
     subst (λ (f : Event). (line ≡ join_with_byte 32 (event_words f)) × IsEventOf z f) d.0 (spelled, d.1)
 
--- ---- all lines
+-- ---- all lines of a script
 -- one line in front of others
 line_before : (line line2 : List ℕ) (lines lines2 : List (List ℕ)) → line ≡ line2 → lines ≡ lines2
     → line ∷ lines ≡ line2 ∷ lines2
 line_before line line2 lines lines2 e f = ap (λ (l : List ℕ). l ∷ lines) e ∙ ap (λ (t : List (List ℕ)). line2 ∷ t) f
 
--- what the lines from line n on are, where they have no fault
+-- what the lines from line n on are, if they have no fault
 abbrev Lines : Sizes → ℕ → List (List ℕ) → List Event → Type 0
 Lines z n lines events =
     (lines ≡ map (join_with_byte 32) (map event_words events)) × AllByRecursion (IsEventOf z) events
     × (n ≤ MAX_EVENTS + 2 → n + length events ≤ MAX_EVENTS + 2)
 
+-- lines that were read as events spell them
 pub events_take : (z : Sizes) (n : ℕ) (lines : List (List ℕ)) (events : List Event)
     → events_of (plan_for z) n lines ≡ Ok events
     → Lines z n lines events
@@ -332,6 +342,7 @@ script_is : (z : Sizes) (made : Made) (events : List Event) → made_for z ≡ m
     → script_with made events ≡ script_in z events
 script_is z made events e = ap (λ (m : Made). script_with m events) (sym e)
 
+-- lines that were read as a script spell it
 pub lines_take : (lines : List (List ℕ)) (s : Script) → lines_script lines ≡ Ok s → Spells lines s
 unfolding lines_script
 lines_take [] s read = absurd (cc)
@@ -353,7 +364,7 @@ lines_take (line ∷ lines) s read =
       script_is z a.0 b.0 set.2.1,
     )
 
--- what is read was spelled so
+-- a script that was read was spelled so
 pub script_takes : (bytes : List ℕ) (s : Script) → script_of bytes ≡ Ok s → Spells (lines_of bytes) s
 unfolding script_of
 script_takes bytes s e =
@@ -363,7 +374,7 @@ script_takes bytes s e =
     let b = passed (list_all is_ascii bytes) NotAscii read s a.1 in
     lines_take (lines_of bytes) s b.1
 
--- the same of a call's result
+-- what a call found in bytes was spelled so
 pub is_found : {A : Type 0} (bytes : List ℕ) (r : Result (code.Script A) Fault)
     → Gives (λ s. view s) r (script_of bytes)
     → IfOk r (λ s. Spells (lines_of bytes) (view s))

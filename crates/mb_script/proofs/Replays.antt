@@ -6,7 +6,7 @@ use Rattle.mb_world.specs.declared.event.Event.{Event}
 use Rattle.mb_world.specs.declared.setup.Setup.{Setup}
 use Rattle.mb_world.specs.EventSteps.{EventAdds}
 use Rattle.mb_world.specs.Plan.{Plan}
-use Rattle.mb_world.specs.Replay.{IsEntry, IsReplay, with_access}
+use Rattle.mb_world.specs.Replay.{HasAnswer, IsReplay, with_access}
 use Rattle.mb_world.specs.Headline.{IsHonest}
 use Rattle.mb_world.specs.Report.{ReportView}
 use Rattle.mb_world.specs.Reporting.{IsReportOf}
@@ -18,17 +18,18 @@ use Rattle.mb_script.specs.ReportText.{report_text}
 use Rattle.mb_script.specs.Transcribed.{IsTranscribed}
 use Rattle.mb_script.specs.Transcript.{entry_text, transcript_text}
 
--- the event comes last
+-- a replay with one event more at its end
 pub IsReplay-more : (plan : Plan) (e : Event) (r : Answer) (a : Option WorldAccess) (es : List Event) (rs : List Answer)
-    (was now : WorldHistory) → IsReplay plan es rs was now → IsEntry plan e r a now
+    (was now : WorldHistory) → IsReplay plan es rs was now → HasAnswer plan e r a now
     → IsReplay plan (es ++ e ∷ []) (rs ++ r ∷ []) was (with_access a now)
-IsReplay-more plan e r a [] [] was now here entry = (a, subst (IsEntry plan e r a) here entry, ap (with_access a) here)
+IsReplay-more plan e r a [] [] was now here entry =
+    (a, subst (HasAnswer plan e r a) here entry, ap (with_access a) here)
 IsReplay-more plan e r a [] (s ∷ rs) was now here entry = absurd here
 IsReplay-more plan e r a (d ∷ es) [] was now here entry = absurd here
 IsReplay-more plan e r a (d ∷ es) (s ∷ rs) was now here entry =
     (here.0, here.1, IsReplay-more plan e r a es rs (with_access here.0 was) now here.2 entry)
 
--- and so does its line
+-- the transcript then has its line at its end
 pub transcript_text-more : (plan : Plan) (e : Event) (r : Answer) (es : List Event) (rs : List Answer)
     (was now : WorldHistory) → IsReplay plan es rs was now
     → transcript_text (es ++ e ∷ []) (rs ++ r ∷ []) ≡ transcript_text es rs ++ entry_text e r
@@ -63,7 +64,7 @@ IsTranscribed-more events more e r was then now old text new done last same adds
           ∙ ap (λ (t : List ℕ). old ++ t) (sym all);
     }
 
--- the report behind the transcript
+-- the transcript and the report of a world are the text of a replay
 pub IsReplayText-made : (setup : Setup) (events : List Event) (world : WorldState)
     (report : ReportView) (none text all : List ℕ)
     → IsTranscribed events [] world none text → none ≡ [] → world.setup ≡ setup

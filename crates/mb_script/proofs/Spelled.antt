@@ -73,7 +73,7 @@ lead : (n : ℕ) → n < 2 ^ 64 → (nat_lt 48 (slice_index (decimal n) 0) || na
 lead zero h = rw (decimal_digit 0 (lit< tt)) refl
 lead (suc n) h = rw (lt-ltb 48 (get_or (decimal (suc n)) 0 0) (first_decimal (suc n) (omega arith) h)) refl
 
--- what is spelled is read again
+-- a number that is spelled is read so
 pub number_again : (n : ℕ) → n < 2 ^ 64 → number_of (decimal n) ≡ Some n
 unfolding number_of
 number_again n h = rw (digits_decimal own n h, lead n h, digits_value-decimal own n h, lt-ltb n (2 ^ 64) h) refl
@@ -84,7 +84,7 @@ unfolding numbers_of
 numbers_again [] h = refl
 numbers_again (n ∷ ns) h = rw (number_again n h.0, numbers_again ns h.1) refl
 
--- a value behind a test
+-- what is left of a value after a test had the test hold
 guard : (b : Bool) (v n : ℕ) → cond b (Some v) None ≡ Some n → (b ≡ true) × (v ≡ n)
 guard true v n e = (refl, cc)
 guard false v n e = absurd (cc)
@@ -101,7 +101,7 @@ led (c ∷ cs) h = (
   ],
 )
 
--- what is read was spelled so
+-- a number that was read was spelled so
 pub number_takes : (w : List ℕ) (n : ℕ) → number_of w ≡ Some n → (w ≡ decimal n) × (n < 2 ^ 64)
 unfolding number_of
 number_takes w n e =
@@ -122,7 +122,7 @@ bind_some None f y e = absurd (cc)
 abbrev some : {A : Type 0} → A → Option A
 some x = Some x
 
--- `Some` of one value twice
+-- two `Some` that are one have one value
 some_is : {A : Type 0} (x y : A) → some x ≡ some y → x ≡ y
 some_is x y e = cc
 

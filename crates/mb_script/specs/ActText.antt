@@ -6,15 +6,15 @@ use Rattle.mb_deciding.specs.declared.access.Reg.TheVariants.{Value, Proposal, Q
 use Rattle.mb_deciding.specs.declared.access.Act.{Act}
 use Rattle.mb_deciding.specs.declared.access.Act.TheVariants.{Load, Store, Exchange}
 
--- a conciliator's word, the proposal, a quorum register by its index, or the word of a last object
+-- the text of a word: a conciliator's, the proposal, a quorum register by its index, or that of a last object
 abbrev pub reg_text : Reg → List ℕ
 reg_text Value = codes "c"
 reg_text Proposal = codes "p"
 reg_text (Quorum i) = codes "q" ++ decimal i
 reg_text Last = codes "l"
 
--- What was done, where, and the value of the word. For an exchange it is the value that is stored if the word is 0.
--- After it comes the value that was found.
+-- the text of an act: what was done, to which word, and the value of the word. For an exchange it is the value that is
+-- stored if the word is 0, and after it comes the value that was found.
 abbrev pub act_text : Act → List ℕ
 act_text (Load reg value) = codes "load " ++ reg_text reg ++ codes " " ++ decimal value
 act_text (Store reg value) = codes "store " ++ reg_text reg ++ codes " " ++ decimal value

@@ -4,7 +4,7 @@ use Rattle.std.specs.Io.KnownBytes.{Appends, IsAtEnd}
 use Rattle.mb_script.specs.declared.transfer.TheConstants.{MAX_SCRIPT_LEN}
 use Rattle.mb_script.specs.Devices.{AppendsFront, ConsumesCount, ConsumesUpTo, Had, one_more}
 
--- the answers of a command, and its names for the faults that all commands share
+-- a command: its answers, and its names for the faults that all commands share
 pub record Command (F : Type 0) : Type 1 where
   pub too_long : F
   pub no_memory : F
@@ -20,6 +20,7 @@ pub record IoModel (D : Type 0) : Type 0 where
   pub bytes : D → Option (List ℕ)
   pub failures : D → ℕ
 
+-- the model of a device with these bytes and this count of failures
 abbrev pub meter : {D : Type 0} → (D → Option (List ℕ)) → (D → ℕ) → IoModel D
 meter bytes failures = record { bytes = bytes; failures = failures }
 
@@ -27,7 +28,7 @@ meter bytes failures = record { bytes = bytes; failures = failures }
 abbrev pub LiesIn : {F : Type 0} → Command F → F → Type 0
 LiesIn command e = (e ≢ command.no_memory) × (e ≢ command.read_fault) × (e ≢ command.write_fault)
 
--- one call, with its reader and its writer before it and after it
+-- one call of a command did this, with its reader and its writer before it and after it
 pub record IsCommandIo {F X R W : Type 0} (command : Command F) (source : IoModel R) (sink : IoModel W)
     (reader reader' : R) (writer writer' : W) (result : Result X F) : Type 0 where
   -- what the reader had is a script, and its answer was written

@@ -6,7 +6,7 @@ use Rattle.mb_script.specs.declared.transfer.ReadEnd.{ReadEnd}
 use Rattle.mb_script.specs.declared.transfer.ReadEnd.TheVariants as end
 use Rattle.mb_script.specs.Steps.{GivesUnless}
 
--- each end of reading keeps its name
+-- the fault of an end of reading, which keeps its name
 abbrev pub fault_at : ReadEnd → Fault
 fault_at end.TooLong = TooLong
 fault_at end.NoMemory = NoMemory

@@ -18,7 +18,7 @@ pub record IsAnswer (bytes text : List ℕ) : Type 0 where
 abbrev pub IsOfWorld : Answer → Type 0
 IsOfWorld r = (r ≢ NoLane) × (r ≢ NoConsumer)
 
--- the fault of what was read
+-- the fault of what was read, if it is one
 abbrev pub fault_in : Result Script Fault → Option Fault
 fault_in (Err e) = Some e
 fault_in (Ok s) = None
@@ -27,7 +27,7 @@ fault_in (Ok s) = None
 abbrev pub fault_of : List ℕ → Option Fault
 fault_of bytes = fault_in (script_of bytes)
 
--- the answers and the faults of the command `replay`
+-- the command `replay`: its answers and its faults
 abbrev pub replaying : Command Fault
 replaying = record {
   too_long = TooLong;

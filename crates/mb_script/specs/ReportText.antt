@@ -6,17 +6,17 @@ use Rattle.mb_world.specs.declared.report.Note.{Note}
 use Rattle.mb_world.specs.declared.report.Note.TheVariants.{Took, Lost, Undecided}
 use Rattle.mb_world.specs.Report.{DiaryView, LaneView, ReportView}
 
--- each item after a space
+-- the text of items: each after a space
 abbrev pub items_text : List ℕ → List ℕ
 items_text items = flat_map (λ x. codes " " ++ decimal x) items
 
--- the first line of a lane: whether it has ended, and the items put
+-- the first line of a lane: its number, whether it has ended, and the items put
 abbrev pub put_text : ℕ → LaneView → List ℕ
 put_text p l =
     codes "lane " ++ decimal p ++ (if l.ended then codes " ended put" else codes " open put") ++ items_text l.put
     ++ codes "\n"
 
--- the second: the items left
+-- the second line of a lane: its number, and the items left
 abbrev pub left_text : ℕ → LaneView → List ℕ
 left_text p l = codes "left " ++ decimal p ++ items_text l.left ++ codes "\n"
 
@@ -25,7 +25,7 @@ abbrev pub lanes_text : ℕ → List LaneView → List ℕ
 lanes_text first [] = []
 lanes_text first (l ∷ ls) = put_text first l ++ left_text first l ++ lanes_text (suc first) ls
 
--- a note after a space
+-- the text of a note, after a space
 abbrev pub note_text : Note → List ℕ
 note_text (Took item) = codes " took " ++ decimal item
 note_text (Lost winner) = codes " lost " ++ decimal winner
@@ -37,6 +37,6 @@ diary_text d =
     codes "diary " ++ decimal d.consumer ++ codes " " ++ decimal d.lane ++ flat_map note_text d.notes
     ++ (if d.begun then codes " begun\n" else codes "\n")
 
--- the lanes in their order, and the diaries in theirs
+-- the text of a report: the lanes in their order, and then the diaries in theirs
 abbrev pub report_text : ReportView → List ℕ
 report_text r = lanes_text 0 r.lanes ++ flat_map diary_text r.diaries

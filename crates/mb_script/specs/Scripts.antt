@@ -22,29 +22,29 @@ use Rattle.mb_script.specs.Shapes.{shape_named}
 use Rattle.mb_script.specs.Tables.{table_named}
 use Rattle.mb_script.specs.Text.{lines_of, words_in_line, has_empty, number_of}
 
--- what a first line makes: what a world is made of, how many pairs of deciding objects each cell has,
--- and what it has beside them
+-- what a first line makes: what a world is made of, how many pairs of deciding objects each cell has, and what it has
+-- beside them
 pub record Made : Type 0 where
   pub plan : Plan
   pub pairs : ℕ
   pub shape : Shape
 
--- the same of a setup of the code
+-- what a setup of the code makes
 abbrev pub made_in : Setup → Made
 made_in setup = record { plan = plan_in setup; pairs = pairs_in setup; shape = shape_in setup }
 
--- of these numbers, over the quorum table of this name, with cells of this shape
+-- what these numbers make, over the quorum table of this name, with cells of this shape
 abbrev pub made_from : Shape → ℕ → ℕ → ℕ → ℕ → TableName → Made
 made_from shape p c m k t = record { plan = shaped_plan shape p c m k t; pairs = k; shape = shape }
 
--- the same, and what is to happen, in its order
+-- a script: what its first line makes, and its events, in their order
 pub record Script : Type 0 where
   pub plan : Plan
   pub pairs : ℕ
   pub shape : Shape
   pub events : List Event
 
--- the script of a world and its events
+-- the script of what a first line makes, and of these events
 abbrev pub script_with : Made → List Event → Script
 script_with made events = record {
   plan = made.plan;
@@ -53,35 +53,38 @@ script_with made events = record {
   events = events;
 }
 
--- a script of the code
+-- what a script of the code says
 abbrev pub view : {A : Type 0} → code.Script A → Script
 view s = script_with (made_in s.setup) s.events.items
 
 -- ---- the numbers of line n, if there are as many as there should be
+-- the number of a word of line n
 abbrev pub number_at : ℕ → List ℕ → Result ℕ Fault
 number_at n word = ok_or (number_of word) (BadNumber n)
 
+-- the number of a line's only word
 unfoldable pub one_number : ℕ → List (List ℕ) → Result ℕ Fault
 one_number n (a ∷ []) = number_at n a
 one_number n words = Err (BadLine n)
 
+-- the numbers of a line's two words
 unfoldable pub two_numbers : ℕ → List (List ℕ) → Result (ℕ × ℕ) Fault
 two_numbers n (a ∷ b ∷ []) = number_at n a >>= (λ x. number_at n b >>= (λ y. Ok (x, y)))
 two_numbers n words = Err (BadLine n)
 
+-- the numbers of a line's three words
 unfoldable pub three_numbers : ℕ → List (List ℕ) → Result (ℕ × ℕ × ℕ) Fault
 three_numbers n (a ∷ b ∷ c ∷ []) =
     number_at n a >>= (λ x. number_at n b >>= (λ y. number_at n c >>= (λ z. Ok (x, y, z))))
 three_numbers n words = Err (BadLine n)
 
--- ---- the first line: `setup`, four numbers, the name of a table, and the shape of cells that have more
--- than pairs
--- what they make, or why they make nothing
+-- ---- the first line: `setup`, four numbers, a table's name, and the shape of cells that have more than pairs
+-- what a setup makes that is refused for this reason, or is not
 abbrev pub made_of : Option SetupFault → Made → Result Made Fault
 made_of None made = Ok made
 made_of (Some fault) made = Err (BadSetup 1 fault)
 
--- the words after `setup`
+-- what the words after `setup` make, or the first fault of them
 unfoldable pub sizes_of : List (List ℕ) → Result Made Fault
 sizes_of (producers ∷ consumers ∷ cells ∷ pairs ∷ name ∷ shape) = do
   t ← ok_or (table_named name) (BadLine 1)
@@ -93,7 +96,8 @@ sizes_of (producers ∷ consumers ∷ cells ∷ pairs ∷ name ∷ shape) = do
   made_of (setup_refusal p c m k) (made_from f p c m k t)
 sizes_of words = Err (BadLine 1)
 
--- the words of the line. What else is wrong with it counts only if its first word is `setup`
+-- what the words of the first line make, or their first fault. What else is wrong counts only if the first word is
+-- `setup`
 unfoldable pub setup_of : List (List ℕ) → Result Made Fault
 setup_of [] = Err NoSetup
 setup_of (key ∷ words) =
@@ -112,23 +116,24 @@ event_of n (key ∷ words) =
     else if bytes_eq key (codes "step") then three_numbers n words >>= (λ x. Ok (Step x.0 x.1 x.2))
     else Err (BadLine n)
 
--- the lane of an event, and its consumer, if it has one
+-- the lane of an event
 abbrev pub lane_of : Event → ℕ
 lane_of (Offer lane item) = lane
 lane_of (Push lane) = lane
 lane_of (Finish lane) = lane
 lane_of (Step consumer lane word) = lane
 
+-- the consumer of an event, if it has one
 abbrev pub consumer_in : Event → Option ℕ
 consumer_in (Step consumer lane word) = Some consumer
 consumer_in event = None
 
--- whether there is such a consumer
+-- whether a world has this consumer, if an event has one
 abbrev pub has_consumer : Plan → Option ℕ → Bool
 has_consumer plan None = true
 has_consumer plan (Some consumer) = nat_lt consumer (consumers_of plan)
 
--- an event of this world
+-- an event of line n, if its lane and its consumer are there in this world
 unfoldable pub placed : Plan → ℕ → Event → Result Event Fault
 placed plan n event =
     if nat_lt (lane_of event) plan.lanes
@@ -149,7 +154,8 @@ events_of plan n (line ∷ lines) =
     if nat_lt (MAX_EVENTS + 1) n then Err TooManyEvents
     else event_at plan n line >>= (λ event. events_of plan (suc n) lines >>= (λ events. Ok (event ∷ events)))
 
--- ---- the whole
+-- ---- the whole script
+-- what the lines of a script say, or their first fault
 unfoldable pub lines_script : List (List ℕ) → Result Script Fault
 lines_script [] = Err NoSetup
 lines_script (line ∷ lines) =

@@ -4,21 +4,23 @@ use Rattle.std.specs.Str.{bytes_eq}
 use Rattle.mb_claim.specs.declared.shape.Shape.{Shape}
 use Rattle.mb_claim.specs.Rows.{plain}
 
--- with a fast path or not, and with a last object or not
+-- the shape with a fast path or without, and with a last object or without
 abbrev pub shape_with : Bool → Bool → Shape
 shape_with fast last = record { fast = fast; last = last }
 
--- the words of a shape: none if cells have pairs alone, and else one
+-- the words of a shape with a fast path or without, and with a last object or without: none if it has neither, and else
+-- one
 abbrev pub words_with : Bool → Bool → List (List ℕ)
 words_with false false = []
 words_with true false = codes "fast" ∷ []
 words_with false true = codes "last" ∷ []
 words_with true true = codes "fastlast" ∷ []
 
+-- the words of a shape
 abbrev pub shape_words : Shape → List (List ℕ)
 shape_words shape = words_with shape.fast shape.last
 
--- the shape of a word
+-- the shape that a word names, if it names one
 abbrev pub shape_of_word : List ℕ → Option Shape
 shape_of_word word =
     if bytes_eq word (codes "fast") then Some (shape_with true false)

@@ -34,7 +34,7 @@ event_words (Push lane) = codes "push" ∷ decimal lane ∷ []
 event_words (Finish lane) = codes "finish" ∷ decimal lane ∷ []
 event_words (Step consumer lane word) = codes "step" ∷ decimal consumer ∷ decimal lane ∷ decimal word ∷ []
 
--- the lines: one space between each two words
+-- the lines of a script: one space between each two words
 abbrev pub script_lines : Sizes → List Event → List (List ℕ)
 script_lines z events = map (join_with_byte 32) (setup_words z ∷ map event_words events)
 
@@ -45,7 +45,7 @@ IsEventOf z (Push lane) = lane < z.producers
 IsEventOf z (Finish lane) = lane < z.producers
 IsEventOf z (Step consumer lane word) = (lane < z.producers) × (consumer < z.consumers) × (word < 2 ^ 64)
 
--- there is such a world, the events are its own, and they are not too many
+-- the script may be spelled so: there is a world of these sizes, the events are its own, and they are not too many
 pub record IsScript (z : Sizes) (events : List Event) : Type 0 where
   pub sizes : setup_refusal z.producers z.consumers z.cells z.pairs ≡ None
   pub known : AllByRecursion (IsEventOf z) events

@@ -4,13 +4,13 @@ use Rattle.std.specs.Str.{bytes_eq}
 use Rattle.mb_quorum.specs.declared.table.TableName.{TableName}
 use Rattle.mb_quorum.specs.declared.table.TableName.TheVariants.{Unary, Bits, Middle}
 
--- the name of a table
+-- the name of a table in bytes
 abbrev pub table_name : TableName → List ℕ
 table_name Unary = codes "unary"
 table_name Bits = codes "bits"
 table_name Middle = codes "middle"
 
--- the table of a name
+-- the table that a word names, if it names one
 abbrev pub table_named : List ℕ → Option TableName
 table_named word =
     if bytes_eq word (codes "unary") then Some Unary

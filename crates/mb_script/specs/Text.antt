@@ -5,12 +5,12 @@ use Rattle.std.specs.List.{AllByRecursion, slice_split, onto_first, list_all, li
 use Rattle.std.specs.Str.{all_ascii_digits}
 use Rattle.std.specs.Str.Parse.{digits_value}
 
--- LF ends a line. What comes after the last LF is a line too, unless it is empty.
+-- the lines of a text. LF ends a line. What comes after the last LF is a line too, unless it is empty.
 abbrev pub lines_of : List ℕ → List (List ℕ)
 lines_of [] = []
 lines_of (b ∷ bytes) = if b == 10 then [] ∷ lines_of bytes else onto_first b (lines_of bytes)
 
--- a line is cut at each space
+-- the words of a line, which is cut at each space
 abbrev pub words_in_line : List ℕ → List (List ℕ)
 words_in_line line = slice_split (λ b. b == 32) line
 
@@ -23,7 +23,7 @@ words_behind (Some rest) = words_in_line rest
 abbrev pub has_empty : List (List ℕ) → Bool
 has_empty words = list_any (λ w. length w == 0) words
 
--- digits. The first is 0 only in 0 itself
+-- whether a word is a numeral: digits alone, the first of them 0 only in 0 itself
 abbrev pub is_numeral : List ℕ → Bool
 is_numeral word = all_ascii_digits word && (nat_lt 48 (slice_index word 0) || length word == 1)
 
@@ -38,11 +38,11 @@ numbers_of [] = Some []
 numbers_of (w ∷ ws) =
     option_and_then (λ n. option_and_then (λ ns. Some (n ∷ ns)) (numbers_of ws)) (number_of w)
 
--- what may stand between two spaces of a line: some bytes of ASCII, none of them a space
+-- a word that may stand between two spaces of a line: some bytes of ASCII, none of them a space
 abbrev pub IsWord : List ℕ → Type 0
 IsWord w = AllByRecursion (λ b. (b == 32) ≡ false) w × ((length w == 0) ≡ false) × (list_all is_ascii w ≡ true)
 
--- the words of a line: at least one
+-- words that may stand on one line: at least one
 abbrev pub IsWordLine : List (List ℕ) → Type 0
 IsWordLine [] = ⊥
 IsWordLine (w ∷ ws) = AllByRecursion IsWord (w ∷ ws)

@@ -17,35 +17,35 @@ use Rattle.mb_world.specs.declared.event.Event.{Event}
 use Rattle.mb_world.specs.declared.event.Event.TheVariants as event
 use Rattle.mb_script.specs.ActText.{act_text}
 
--- ---- an event
--- its words, except the random word of a step
+-- ---- the text of an event
+-- the words of an event, except the random word of a step
 abbrev pub event_text : Event → List ℕ
 event_text (event.Offer lane item) = codes "offer " ++ decimal lane ++ codes " " ++ decimal item
 event_text (event.Push lane) = codes "push " ++ decimal lane
 event_text (event.Finish lane) = codes "finish " ++ decimal lane
 event_text (event.Step consumer lane word) = codes "step " ++ decimal consumer ++ codes " " ++ decimal lane
 
--- ---- its answer
--- the cell of the item, or why it has none
+-- ---- the text of an answer
+-- the answer to an offer: the cell of the item, or why it has none
 abbrev pub offer_text : Offer → List ℕ
 offer_text (offer.Cell cell) = codes "cell " ++ decimal cell
 offer_text offer.Full = codes "full"
 offer_text offer.Busy = codes "busy"
 offer_text offer.Closed = codes "closed"
 
--- the cell whose item was stored, or that was linked
+-- the answer to a push: the cell whose item was stored, or that was linked
 abbrev pub push_text : Push → List ℕ
 push_text (push.Item cell) = codes "item " ++ decimal cell
 push_text (push.Link cell) = codes "link " ++ decimal cell
 push_text push.Idle = codes "idle"
 
--- whether the lane has ended, or why not
+-- the answer to a finish: whether the lane has ended, or why not
 abbrev pub finish_text : Finish → List ℕ
 finish_text finish.Ended = codes "ended"
 finish_text finish.Busy = codes "busy"
 finish_text finish.Closed = codes "closed"
 
--- what the link says
+-- the answer to a look: what the link says
 abbrev pub look_text : Look → List ℕ
 look_text look.Nothing = codes "nothing"
 look_text (look.Cell cell) = codes "found " ++ decimal cell
@@ -58,7 +58,7 @@ stage_text stage.Won = codes " won"
 stage_text (stage.Lost winner) = codes " lost " ++ decimal winner
 stage_text stage.Undecided = codes " undecided"
 
--- the answer. The first two do not come if the script's lanes and consumers are the world's
+-- the answer to an event. The first two do not come if the script's lanes and consumers are the world's
 abbrev pub answer_text : Answer → List ℕ
 answer_text NoLane = codes "no lane"
 answer_text NoConsumer = codes "no consumer"
@@ -70,7 +70,7 @@ answer_text (Claimed cell object act stage) =
     codes "cell " ++ decimal cell ++ codes " o" ++ decimal object ++ codes " " ++ act_text act ++ stage_text stage
 answer_text (Took cell item) = codes "took " ++ decimal item
 
--- ---- the lines
+-- ---- the lines of a transcript
 -- the line of an event with its answer
 abbrev pub entry_text : Event → Answer → List ℕ
 entry_text e r = event_text e ++ codes " " ++ answer_text r ++ codes "\n"

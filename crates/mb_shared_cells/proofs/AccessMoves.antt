@@ -102,7 +102,7 @@ kept_by_access laws size words views id own who known done word act n h at withi
       },
     )
 
--- so a seat may make the step
+-- so a seat may make the step of an access that goes on
 pub access_allows : AccessLaws → (size : PoolSize) (slots id : ℕ) (who : Process) (known : PartList) (done : History)
     (word : Word) (act : ℕ → PoolAct) (f : ℕ → ℕ) → IsPoolWord size word → GoesOn size who done word act f
     → Allows (KeepsCells size) slots id (Member size who known done, []) (address_of size word) f
@@ -130,7 +130,7 @@ access_allows laws size slots id who known done word act f within goes s h _ at 
       ),
     )
 
--- the same, at what is known by equations
+-- a seat may make that step, if table, seat and access are known by equations
 pub access_asked : AccessLaws → (key size : PoolSize) (slots id i : ℕ) (me : SeatState) (who : Process)
     (known : PartList) (done : History) (word : Word) (act : ℕ → PoolAct) (f : ℕ → ℕ) (picked : Word)
     (picks : ℕ → PoolAct) → key ≡ size → me ≡ (Member size who known done, []) → i ≡ address_of size word
@@ -143,7 +143,7 @@ access_asked laws key size slots id i me who known done word act f picked picks 
     (λ i. (sym same i, sym is i, sym there i, sym of i, sym acts i))
     (access_allows laws size slots id who known done word act f within goes)
 
--- and for a store, whose step announces the number stored
+-- a seat may make the step of a store, which announces the number stored
 pub store_asked : AccessLaws → (key size : PoolSize) (slots id i value : ℕ) (me : SeatState) (who : Process)
     (known : PartList) (done : History) (word : Word) (act : ℕ → PoolAct) (picked : Word)
     (picks : ℕ → PoolAct) → key ≡ size → me ≡ (Member size who known done, []) → i ≡ address_of size word

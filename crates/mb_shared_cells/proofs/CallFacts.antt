@@ -30,21 +30,25 @@ pub record LaneLaws : Type 0 where
       → finish_refusal lane ≡ None
       → IsLaneAfter cells p (lane_after_finish lane) (store p (next_link p lane) END ∷ done)
 
+-- what a push stores is in range
 abbrev pub PushWithin : Type 0
 PushWithin =
     (size : PoolSize) (p : ℕ) (lane : Lane) (done : History) (w : Word) (v : ℕ) → p < size.lanes
     → IsLaneAfter size.cells p lane done → push_store p lane ≡ Some (w, v) → IsLaneWord size w
 
+-- the next link is in range
 abbrev pub LinkWithin : Type 0
 LinkWithin =
     (size : PoolSize) (p : ℕ) (lane : Lane) (done : History) → p < size.lanes
     → IsLaneAfter size.cells p lane done → IsLaneWord size (next_link p lane)
 
+-- what a reader may load is in range
 abbrev pub LoadWithin : Type 0
 LoadWithin =
     (size : PoolSize) (h : History) (r : ℕ) (w : Word) → IsPoolLawful size h
     → MayRead size.lanes w (part (Reader r) h) → IsLaneWord size w
 
+-- a lane's seat whose offer is not refused can make its fetch-add
 pub can_fetch : LaneLaws → (size : PoolSize) (me : SeatState) (number : ℕ) (lane : Lane) (x : ℕ)
     → IsLaneSeat me number lane → size_in me.0 ≡ size → offer_refusal lane ≡ None → CanFetch size x me
 can_fetch laws size me number lane x s same free =
@@ -57,6 +61,7 @@ can_fetch laws size me number lane x s same free =
           (laws.offered cells number lane (done_in me.0) (record { cell = n; value = x }) s.stands free);
     })
 
+-- a lane's seat can make the store of its push
 pub can_push : LaneLaws → PushWithin → (size : PoolSize) (me : SeatState) (number : ℕ) (lane : Lane) (w : Word) (v : ℕ)
     → IsLaneSeat me number lane → size_in me.0 ≡ size → push_store number lane ≡ Some (w, v) → CanStore size w v me
 can_push laws within size me number lane w v s same some =
@@ -69,6 +74,7 @@ can_push laws within size me number lane w v s same some =
       within = within own number lane (done_in me.0) w v s.within s.stands some;
     })
 
+-- a lane's seat whose finish is not refused can store the end mark
 pub can_finish : LaneLaws → LinkWithin → (size : PoolSize) (me : SeatState) (number : ℕ) (lane : Lane) (w : Word)
     → IsLaneSeat me number lane → size_in me.0 ≡ size → finish_refusal lane ≡ None → w ≡ next_link number lane
     → CanStore size w END me
@@ -82,6 +88,7 @@ can_finish laws within size me number lane w s same free is =
       within = within own number lane (done_in me.0) s.within s.stands;
     })
 
+-- a reader's seat can load a word that the reader may load
 pub can_load : LoadWithin → (size : PoolSize) (me : SeatState) (w : Word) → IsReaderSeat me → size_in me.0 ≡ size
     → MayRead size.lanes w (done_in me.0) → CanLoad size w me
 can_load within size me w s same may =
@@ -106,10 +113,12 @@ pub record CellLaws : Type 0 where
   pub within : (size : PoolSize) (h : History) (p k : ℕ) → IsPoolLawful size h → Has (linked_cells p h) k
       → (p < size.lanes) × (k < size.cells)
 
+-- a look that finds a cell gives it
 pub gift : (at : Cursor) (v k : ℕ) → v ≡ k + 1 → v ≢ END → IsGift k (word_of at) (Load v)
 gift (cursor.Head p) v k is some = (is, some)
 gift (cursor.Past j) v k is some = (is, some)
 
+-- the cell that a look finds is one of the pool's
 pub cell_within : CellLaws → (size : PoolSize) (r : ℕ) (known : PartList) (done : History) (at : Cursor) (v : ℕ)
     → IsAccessAfter size known (access_by (Reader r) (word_of at) (Load v)) done → v ≢ 0 → v ≢ END
     → v - 1 < size.cells
@@ -133,6 +142,7 @@ pub record KnownLaws : Type 0 where
       → value_in (Link k) h ≡ value_in (Link k) (part (Producer p) h)
   pub linked : (h : History) (p : ℕ) → linked_cells p h ≡ linked_cells p (part (Producer p) h)
 
+-- a cell that passes the test is in the list
 has_cell_has : (ks : List ℕ) (k : ℕ) → has_cell ks k ≡ true → Has ks k
 has_cell_has [] k e = absurd (cc)
 has_cell_has (j ∷ js) k e = elim (eqb_tells j k) [
@@ -140,6 +150,7 @@ has_cell_has (j ∷ js) k e = elim (eqb_tells j k) [
   | inr t ↦ inr (has_cell_has js k (subst (λ b. (b || has_cell js k) ≡ true) t.0 e))
 ]
 
+-- what a history leaves in a word of a lane is what the lane's part leaves there
 left_there : KnownLaws → (size : PoolSize) (h : History) (p : ℕ) (w : Word) → IsPoolLawful size h
     → is_of_lane p (linked_cells p (part (Producer p) h)) w ≡ true
     → value_in w h ≡ value_in w (part (Producer p) h)
@@ -151,6 +162,7 @@ left_there laws size h p (Link k) l own =
 left_there laws size h p (Item k) l own =
     laws.item size h p k l (has_cell_has _ k (subst (λ ks. has_cell ks k ≡ true) (sym (laws.linked h p)) own))
 
+-- a load on a lane that is known finds what that lane's part left there
 pub known_tells : KnownLaws → (size : PoolSize) (r : ℕ) (known : PartList) (done : History) (w : Word) (v : ℕ)
     → IsAccessAfter size known (access_by (Reader r) w (Load v)) done → (p : ℕ) (theirs : History)
     → slice_get known p ≡ Some (Some theirs) → is_of_lane p (linked_cells p theirs) w ≡ true

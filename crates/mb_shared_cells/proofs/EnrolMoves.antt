@@ -30,18 +30,20 @@ MoreLaw =
     → ((i : ℕ) → i < pool_words size → slice_index more i ≡ slice_index words i)
     → pool_words size ≤ length more → IsStateOf size more parts h
 
+-- the empty history is lawful
 abbrev pub EmptyLaw : Type 0
 EmptyLaw =
     (size : PoolSize) (words : List ℕ) → size.cells < END → pool_words size ≤ length words
     → ((w : Word) → IsPoolWord size w → slice_index words (address_of size w) ≡ 0)
     → IsStateOf size words (λ who. []) []
 
--- the table at its start
+-- the words of a new table are 0
 zeros : (n i : ℕ) → slice_index (replicate n 0) i ≡ 0
 zeros zero i = refl
 zeros (suc n) zero = refl
 zeros (suc n) (suc i) = zeros n i
 
+-- a new table keeps the rule
 pub begins : EmptyLaw → (size : PoolSize) → size.cells < END
     → IsCellsState size (replicate (roster_of size + 1) 0) (Hub size empty_roll ∷ [])
 begins law size fits =
@@ -137,6 +139,7 @@ draw_allows law size slots id own roll room small s h _ at _ =
       refl,
     )
 
+-- the hub may draw a number, if table, seat and word are known by equations
 pub draw_asked : MoreLaw → (key size : PoolSize) (slots id i : ℕ) (me : SeatState) (own : PoolSize) (roll : Roll)
     → key ≡ size → me ≡ (Hub own roll, []) → i ≡ roster_of size → length roll.lanes < size.lanes
     → size.lanes < 2 ^ 32
@@ -158,22 +161,27 @@ grown : Process → Roll → Roll
 grown (Producer p) roll = roll_with_lane roll
 grown (Reader r) roll = roll_with_reader roll
 
+-- the view of the hub that is about to give this process a seat
 before : Process → PoolSize → Roll → View
 before (Producer p) own roll = HubDraws own roll
 before (Reader r) own roll = Hub own roll
 
+-- what this process will know of lanes
 known_by : Process → Roll → PartList
 known_by (Producer p) roll = []
 known_by (Reader r) roll = roll.lanes
 
+-- how many lanes are enrolled then
 lanes_after : Process → ℕ → ℕ
 lanes_after (Producer p) n = n + 1
 lanes_after (Reader r) n = n
 
+-- how many readers are enrolled then
 readers_after : Process → ℕ → ℕ
 readers_after (Producer p) n = n
 readers_after (Reader r) n = n + 1
 
+-- the seating with this process at this seat
 seating_after : Process → ℕ → Seating → Seating
 seating_after who to t = record {
   history = t.history;
@@ -183,6 +191,7 @@ seating_after who to t = record {
   seat_of = moved who to t.seat_of;
 }
 
+-- who was enrolled is so then
 still_enrolled : (who : Process) (to : ℕ) (t : Seating) (x : Process) → IsEnrolled t x
     → IsEnrolled (seating_after who to t) x
 unfolding lanes_after readers_after seating_after
@@ -191,12 +200,14 @@ still_enrolled (Producer p) to t (Reader q) e = e
 still_enrolled (Reader p) to t (Producer q) e = e
 still_enrolled (Reader p) to t (Reader q) e = omega arith
 
+-- this process is enrolled then
 next_enrolled : (size : PoolSize) (seat : ℕ) (own : PoolSize) (roll : Roll) (who : Process) (to : ℕ) (t : Seating)
     → IsHub size t seat own roll → IsNext who roll → IsEnrolled (seating_after who to t) who
 unfolding lanes_after readers_after seating_after IsNext
 next_enrolled size seat own roll (Producer p) to t h is = let n = h.lanes in omega arith
 next_enrolled size seat own roll (Reader r) to t h is = let n = h.readers in omega arith
 
+-- it was not enrolled before
 next_not_enrolled : (size : PoolSize) (seat : ℕ) (own : PoolSize) (roll : Roll) (who : Process) (t : Seating)
     → IsHub size t seat own roll → IsNext who roll → IsEnrolled t who → ⊥
 unfolding IsNext
@@ -217,18 +228,21 @@ enrolled_before size seat own roll (Reader p) to t (Reader q) h is e =
     let n = h.readers in
     elim (cases_eq q t.readers) [ inl same ↦ inr (ap Reader (is ∙ n ∙ sym same)) | inr other ↦ inl (omega arith) ]
 
+-- the roll has as many lanes then
 grown_lanes : (who : Process) (roll : Roll) (n : ℕ) → length roll.lanes ≡ n
     → length (grown who roll).lanes ≡ lanes_after who n
 unfolding lanes_after grown
 grown_lanes (Producer p) roll n e = omega (arith, length-append roll.lanes (None ∷ []))
 grown_lanes (Reader r) roll n e = e
 
+-- the roll has as many readers then
 grown_readers : (who : Process) (roll : Roll) (n : ℕ) → length roll.readers ≡ n
     → length (grown who roll).readers ≡ readers_after who n
 unfolding readers_after grown
 grown_readers (Producer p) roll n e = e
 grown_readers (Reader r) roll n e = omega (arith, length-append roll.readers (None ∷ []))
 
+-- a part in that roll was in the roll before
 grown_had : (who : Process) (roll : Roll) (x : Process) (done : History)
     → roll_at x (grown who roll) ≡ Some (Some done) → roll_at x roll ≡ Some (Some done)
 unfolding grown
@@ -237,12 +251,14 @@ grown_had (Producer p) roll (Reader q) done e = e
 grown_had (Reader p) roll (Producer q) done e = e
 grown_had (Reader p) roll (Reader q) done e = longer_had roll.readers q done e
 
+-- whom the hub's view had it has still
 before_keeps : (who : Process) (own : PoolSize) (roll : Roll) (x : Process) → HasProcess (before who own roll) x
     → HasProcess (Hub own (grown who roll)) x
 unfolding before grown
 before_keeps (Producer p) own roll x h = (h.0, with_lane-has roll x (Some h.0) h.1)
 before_keeps (Reader p) own roll x h = (h.0, with_reader-has roll x (Some h.0) h.1)
 
+-- the hub's view before fits as a hub's, and so does the roster
 before_fits : (size : PoolSize) (t : Seating) (roster seat : ℕ) (who : Process) (own : PoolSize) (roll : Roll)
     → FitsView size t roster seat (before who own roll)
     → IsHub size t seat own roll × (roster ≡ lanes_after who t.lanes)
@@ -335,6 +351,7 @@ hands_out size id own roll who is s h at =
       },
     )
 
+-- the hub may split off a lane's seat
 pub lane_splits : (size : PoolSize) (id : ℕ) (v : View) (own : PoolSize) (roll : Roll) → v ≡ HubDraws own roll
     → Splits (KeepsCells size) id v (hub_after_split v) (newcomer v)
 unfolding IsNext grown before known_by
@@ -342,6 +359,7 @@ lane_splits size id v own roll is =
     subst (λ (u : View). Splits (KeepsCells size) id u (hub_after_split u) (newcomer u)) (sym is)
     (hands_out size id own roll (Producer (length roll.lanes)) refl)
 
+-- the hub may split off a reader's seat
 pub reader_splits : (size : PoolSize) (id : ℕ) (v : View) (own : PoolSize) (roll : Roll) → v ≡ Hub own roll
     → Splits (KeepsCells size) id v (hub_after_split v) (newcomer v)
 unfolding IsNext grown before known_by
@@ -362,6 +380,7 @@ with_lane_history size roll h r = record { lawful = r.lawful; parts = had; other
     none (Producer p) e = r.others (Producer p) (longer_none roll.lanes p e)
     none (Reader q) e = r.others (Reader q) e
 
+-- a roll with one reader more is that of the same history
 pub with_reader_history : (size : PoolSize) (roll : Roll) (h : History) → IsRollOf size roll h
     → IsRollOf size (roll_with_reader roll) h
 with_reader_history size roll h r = record { lawful = r.lawful; parts = had; others = none }

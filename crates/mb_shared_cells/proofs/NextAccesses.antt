@@ -16,21 +16,24 @@ pool_word size (Head p) x = x
 pool_word size (Link k) x = x
 pool_word size (Item k) x = x
 
--- the laws of one access more
+-- an access with which its producer's path goes on keeps the history lawful
 abbrev pub ProducerLaw : Type 0
 ProducerLaw =
     (size : PoolSize) (h : History) (a : PoolAccess) (p : ℕ) → IsPoolLawful size h → a.process ≡ Producer p
     → p < size.lanes → ActFits a.act → ReadsLast a.word a.act h
     → IsLanePrefix size.cells p (a ∷ part (Producer p) h) → IsPoolLawful size (a ∷ h)
 
+-- a load of a word that its reader may load keeps the history lawful
 abbrev pub ReaderLaw : Type 0
 ReaderLaw =
     (size : PoolSize) (h : History) (r : ℕ) (w : Word) → IsPoolLawful size h
     → MayRead size.lanes w (part (Reader r) h) → IsPoolLawful size (load r w (value_in w h) ∷ h)
 
+-- the counter is at most the cells and the lanes
 abbrev pub CounterLaw : Type 0
 CounterLaw = (size : PoolSize) (h : History) → IsPoolLawful size h → value_in Counter h ≤ size.cells + size.lanes
 
+-- a load goes on, whatever it finds
 pub load_goes : ReaderLaw → (size : PoolSize) (r : ℕ) (done : History) (w : Word) → MayRead size.lanes w done
     → GoesOn size (Reader r) done w (λ n. Load n) (λ n. n)
 load_goes law size r done w may h n lawful mine lane is low = (
@@ -39,6 +42,7 @@ load_goes law size r done w may h n lawful mine lane is low = (
   refl,
 )
 
+-- a store goes on, if its producer's path does
 pub store_goes : ProducerLaw → (size : PoolSize) (p : ℕ) (done : History) (w : Word) (value : ℕ) → value < 2 ^ 64
     → IsLanePrefix size.cells p (store p w value ∷ done)
     → GoesOn size (Producer p) done w (λ _. Store value) (λ _. value)

@@ -1,4 +1,4 @@
--- What a lane's calls put.
+-- What the calls of a lane's seat put: three calls put an item, and a full offer and a finish put nothing.
 use Rattle.std.proofs.Common.{Bool, None, Option, Some, [], ap, arith, eq-eqb, false, inl, refl, subst, sym, true, ℕ, ◌++◌, ◌+◌, ◌<◌, ◌∙◌, ◌∷◌, ◌≡◌, ◌≢◌, ◌≤◌}
 use Rattle.std.specs.Prelude.{if◌then◌else◌, nat_lt}
 use Rattle.std.proofs.lemmas.Bool.{ltb-false, ltb-true}
@@ -57,6 +57,7 @@ pub record GotCell (old : LaneSeatView) (x k : ℕ) (new : LaneSeatView) : Type 
     part = fetch old.lane (record { cell = k; value = x }) ∷ old.part;
   }
 
+-- one answer has one cell
 same_cell : (n k : ℕ) → offer.Cell k ≡ offer.Cell n → n ≡ k
 same_cell n k e = cc
 
@@ -84,11 +85,12 @@ got_at old x k new (stage.Stored c) made = absurd (cc)
 got_at old x k new stage.Full made = absurd (cc)
 got_at old x k new (stage.Ended f) made = absurd (cc)
 
+-- the next link is a head or link
 link_word : (p : ℕ) (last : Option ℕ) → IsLinkWord (link_after p last)
 link_word p None = tt
 link_word p (Some k) = tt
 
--- what the three calls come to
+-- what an offer that got cell k and two pushes come to
 pub record PutCell (old : LaneSeatView) (x k : ℕ) (one two : Push) (new : LaneSeatView) : Type 0 where
   pub got : k < old.table.size.cells
   pub after : IsAccessAfter old.table.size [] (fetch old.lane (record { cell = k; value = x })) old.part
@@ -100,6 +102,7 @@ pub record PutCell (old : LaneSeatView) (x k : ℕ) (one two : Push) (new : Lane
         ∷ fetch old.lane (record { cell = k; value = x }) ∷ old.part;
   }
 
+-- an offer that got cell k and two pushes come to that
 pub three_calls : (old offered stored new : LaneSeatView) (x k : ℕ) (one two : Push)
     → OfferMakes old x (offer.Cell k) offered → PushMakes offered one stored → PushMakes stored two new
     → PutCell old x k one two new
@@ -119,6 +122,7 @@ three_calls old offered stored new x k one two offers stores links =
       is = b.1.1;
     }
 
+-- they put the item in that cell
 pub item_put : PutLaws → (old new : LaneSeatView) (x k : ℕ) (one two : Push) → PutCell old x k one two new
     → put_list old.lane new.part ≡ put_list old.lane old.part ++ record { cell = k; value = x } ∷ []
 item_put laws old new x k one two c =
@@ -148,16 +152,18 @@ full_at laws old new x (stage.Stored c) made = absurd (cc)
 full_at laws old new x stage.Full made = ap (λ (v : LaneSeatView). put_list old.lane v.part) made.1
 full_at laws old new x (stage.Ended f) made = absurd (cc)
 
+-- an offer that returns Full puts nothing
 pub full_puts : PutLaws → (old new : LaneSeatView) (x : ℕ) → OfferMakes old x offer.Full new
     → put_list old.lane new.part ≡ put_list old.lane old.part
 full_puts laws old new x made = full_at laws old new x old.place.stage made
 
--- it comes where a fetch-add found no cell: now, or before
+-- an offer returns Full if a fetch-add found no cell: now, or before
 found_now : (cells n : ℕ) (b : Bool) → nat_lt n cells ≡ b → offer.Full ≡ (if b then offer.Cell n else offer.Full)
     → cells ≤ n
 found_now cells n true low told = absurd (cc)
 found_now cells n false low told = ltb-false n cells low
 
+-- a producer at the stage Full has made a fetch-add that found no cell
 found_before : (cells p : ℕ) (lane : Lane) (done : History) → IsLaneAfter cells p lane done → lane.stage ≡ stage.Full
     → (e : Entry) × (Has done (fetch p e) × (cells ≤ e.cell))
 found_before cells p lane done after is =
@@ -191,6 +197,7 @@ found_at old new x stage.Full after is made =
     (e.0, (subst (λ (v : LaneSeatView). Has v.part (fetch old.lane e.0)) (sym made.1) e.1.0, e.1.1))
 found_at old new x (stage.Ended f) after is made = absurd (cc)
 
+-- after an offer that returns Full the producer has made a fetch-add that found no cell
 pub full_found : (old new : LaneSeatView) (x : ℕ) → IsLaneAfter old.table.size.cells old.lane old.place old.part
     → OfferMakes old x offer.Full new
     → (e : Entry) × (Has new.part (fetch old.lane e) × (old.table.size.cells ≤ e.cell))
@@ -210,6 +217,7 @@ end_at laws old new (stage.Offered c i) made = absurd (cc)
 end_at laws old new (stage.Stored c) made = absurd (cc)
 end_at laws old new (stage.Ended f) made = absurd (cc)
 
+-- a finish that ends the lane puts nothing
 pub end_puts : PutLaws → (old new : LaneSeatView) → FinishMakes old finish.Ended new
     → put_list old.lane new.part ≡ put_list old.lane old.part
 end_puts laws old new made = end_at laws old new old.place.stage made

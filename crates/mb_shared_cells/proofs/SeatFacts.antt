@@ -16,6 +16,7 @@ use Rattle.mb_shared_cells.specs.Views.{IsAccessAfter, IsRollOf, MakesAccess, Pa
 use Rattle.mb_shared_cells.specs.declared.views.Roll.{Roll}
 use Rattle.mb_shared_cells.specs.declared.views.View.TheVariants.{Hub}
 
+-- what is kept in a hub
 pub hub_is : (me : SeatState) (size : PoolSize) (roll : Roll) (given : ℕ) → me ≡ (Hub size roll, [])
     → given ≡ length roll.lanes → (h : History) × IsRollOf size roll h → IsHubSeat me given
 hub_is me size roll given is count history =
@@ -25,6 +26,7 @@ hub_is me size roll given is count history =
 abbrev pub OwnLaw : Type 0
 OwnLaw = (h : History) (a : PoolAccess) → part a.process (a ∷ h) ≡ a ∷ part a.process h
 
+-- some lawful history has the part with the access
 history_then : OwnLaw → (size : PoolSize) (who : Process) (known : PartList) (done : History) (word : Word)
     (act : PoolAct) → IsAccessAfter size known (access_by who word act) done
     → HasHistory size who (access_by who word act ∷ done)
@@ -61,6 +63,7 @@ lane_makes id then me new number was now word act s m same =
     let m' = subst (λ (z : SeatState). MakesAccess word act z new) s.is m in
     (m'.0, λ i. lane_shown (same i) (m'.1 i) number now)
 
+-- a reader's seat keeps what it has to after an access
 pub reader_then : OwnLaw → (me new : SeatState) (word : Word) (act : PoolAct) → IsReaderSeat me
     → MakesAccess word act me new → IsReaderSeat new
 reader_then law me new word act s m =
@@ -72,6 +75,7 @@ reader_then law me new word act s m =
       history = history_then law size (Reader (number_in me.0)) (known_in me.0) (done_in me.0) word act m'.0;
     })
 
+-- an access of a reader's seat, as callers see it
 pub reader_makes : (id then : TableId) (me new : SeatState) (word : Word) (act : PoolAct) → IsReaderSeat me
     → MakesAccess word act me new → then ≡ id
     → IsAccessAfter (size_in me.0) (known_in me.0) (access_by (Reader (number_in me.0)) word act) (done_in me.0)

@@ -27,10 +27,11 @@ one_or_other (Reader p) (Producer q) = inr (λ e. cc)
 one_or_other (Reader p) (Reader q) =
     elim (cases_eq p q) [ inl e ↦ inl (ap Reader e) | inr other ↦ inr (λ e. other (cc)) ]
 
--- the same seats, but for one process
+-- the same seats, but for one process, which stands at this one
 pub moved : Process → ℕ → (Process → ℕ) → Process → ℕ
 moved who to seats x = ⊎_elim (λ _. to) (λ _. seats x) (one_or_other who x)
 
+-- the process stands at its new seat
 pub moved-here : (who : Process) (to : ℕ) (seats : Process → ℕ) → moved who to seats who ≡ to
 unfolding moved
 moved-here who to seats = here (one_or_other who who)
@@ -39,6 +40,7 @@ moved-here who to seats = here (one_or_other who who)
     here (inl e) = refl
     here (inr other) = absurd (other refl)
 
+-- any other stands where it stood
 pub moved-else : (who : Process) (to : ℕ) (seats : Process → ℕ) (x : Process) → who ≢ x
     → moved who to seats x ≡ seats x
 unfolding moved
@@ -74,13 +76,14 @@ roll_enrolled size t seat own roll (Producer p) b h e =
 roll_enrolled size t seat own roll (Reader r) b h e =
     let low = slice_get_within roll.readers r b e in let is = h.readers in omega arith
 
--- and who was enrolled is out, or was taken in
+-- whoever was enrolled is out, or was taken in
 pub enrolled_out : (size : PoolSize) (t : Seating) (seat : ℕ) (own : PoolSize) (roll : Roll) (who : Process)
     → IsHub size t seat own roll → IsEnrolled t who
     → (roll_at who roll ≡ Some None) ⊎ ((done : History) × (roll_at who roll ≡ Some (Some done)))
 enrolled_out size t seat own roll (Producer p) h low = let is = h.lanes in out_or_in roll.lanes p (omega arith)
 enrolled_out size t seat own roll (Reader r) h low = let is = h.readers in out_or_in roll.readers r (omega arith)
 
+-- what is known of lanes is known still
 knows_still : (t u : Seating) (roster more seat : ℕ) → Spares t u roster more seat → (known : PartList)
     → KnowsTaken t known → KnowsTaken u known
 knows_still t u roster more seat s known h p theirs at =
@@ -88,6 +91,7 @@ knows_still t u roster more seat s known h p theirs at =
     let k = s.stand (Producer p) x.0 (inr x.1) in
     (s.enrolled (Producer p) x.0, k.0 ∙ x.1 ∙ sym s.hubs, x.2 ∙ sym k.1)
 
+-- the hub's view is that of the hub still
 hub_still : (size : PoolSize) (t u : Seating) (roster more seat : ℕ) → Spares t u roster more seat
     → (own : PoolSize) (roll : Roll) → IsHub size t seat own roll → IsHub size u seat own roll
 hub_still size t u roster more seat s own roll h =
@@ -102,6 +106,7 @@ hub_still size t u roster more seat s own roll h =
           (z.0 ∙ y.0, y.1 ∙ sym z.1);
     }
 
+-- the part of a seat is its process's still
 part_still : (t u : Seating) (roster more seat : ℕ) → Spares t u roster more seat → (who : Process) (done : History)
     → HasPart t seat who done → HasPart u seat who done
 part_still t u roster more seat s who done h =
@@ -149,7 +154,7 @@ stands_then views at was new seat who is keeps h = elim (cases_eq seat at) [
   | inr other ↦ (h.0, set_else views at seat new other ∙ h.1, h.2)
 ]
 
--- and after a seat was added
+-- who stands at a seat stands there after a seat was added
 pub stands_longer : (views : List View) (new : View) (seat : ℕ) (who : Process) → StandsAt views seat who
     → StandsAt (views ++ new ∷ []) seat who
 stands_longer views new seat who h = (h.0, at_longer views (new ∷ []) seat h.0 h.1, h.2)
@@ -166,11 +171,13 @@ pub with_part-lanes : (who : Process) (done : History) (roll : Roll)
 with_part-lanes (Producer p) done roll = length-set roll.lanes p (Some done)
 with_part-lanes (Reader r) done roll = refl
 
+-- there are as many readers in it
 pub with_part-readers : (who : Process) (done : History) (roll : Roll)
     → length (roll_with_part who done roll).readers ≡ length roll.readers
 with_part-readers (Producer p) done roll = refl
 with_part-readers (Reader r) done roll = length-set roll.readers r (Some done)
 
+-- a part in it is the one put in, or was there
 pub with_part-had : (who : Process) (done : History) (roll : Roll) (x : Process) (d : History)
     → roll_at x (roll_with_part who done roll) ≡ Some (Some d)
     → ((who ≡ x) × (done ≡ d)) ⊎ (roll_at x roll ≡ Some (Some d))
@@ -181,11 +188,13 @@ with_part-had (Reader p) done roll (Producer q) d e = inr e
 with_part-had (Reader p) done roll (Reader q) d e =
     ⊎_elim (λ t. inl (ap Reader t.0, cc)) (λ t. inr t) (set_had roll.readers p q (Some done) (Some d) e)
 
+-- the part put in is there
 pub with_part-here : (who : Process) (done : History) (roll : Roll) (b : Option History)
     → roll_at who roll ≡ Some b → roll_at who (roll_with_part who done roll) ≡ Some (Some done)
 with_part-here (Producer p) done roll b e = set_here roll.lanes p (Some done) b e
 with_part-here (Reader r) done roll b e = set_here roll.readers r (Some done) b e
 
+-- who had a part in it has one
 pub with_part-has : (who : Process) (done : History) (roll : Roll) (x : Process) (d : History)
     → roll_at x roll ≡ Some (Some d)
     → (part : History) × (roll_at x (roll_with_part who done roll) ≡ Some (Some part))
@@ -200,6 +209,7 @@ pub with_lane-has : (roll : Roll) (x : Process) (b : Option History) → roll_at
 with_lane-has roll (Producer p) b e = longer_has roll.lanes p b e
 with_lane-has roll (Reader r) b e = e
 
+-- a roll with one reader more has what it had
 pub with_reader-has : (roll : Roll) (x : Process) (b : Option History) → roll_at x roll ≡ Some b
     → roll_at x (roll_with_reader roll) ≡ Some b
 with_reader-has roll (Producer p) b e = e
@@ -215,6 +225,7 @@ view_there size t roster seat (HubJoins own roll other done) who f (inr h) = (f.
 view_there size t roster seat (Member own other known done) who f e = ap t.seat_of (sym e) ∙ f.2.here
 view_there size t roster seat Empty who f h = absurd h
 
+-- a process whose part a seat has stands at that seat
 pub stands_there : (size : PoolSize) (words : List ℕ) (views : List View) (t : Seating) (seat : ℕ) (who : Process)
     → IsTableState size words views t → StandsAt views seat who → t.seat_of who ≡ seat
 stands_there size words views t seat who r h =

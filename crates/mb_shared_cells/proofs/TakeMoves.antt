@@ -110,6 +110,7 @@ takes_in size id other own its roll who known done s h at apart there =
       },
     )
 
+-- the hub may join a seat, if both are known by equations
 pub join_asked : (key : PoolSize) (id other : ℕ) (v w : View) (own its : PoolSize) (roll : Roll) (who : Process)
     (known : PartList) (done : History) → v ≡ Hub own roll → w ≡ Member its who known done
     → Joins (KeepsCells key) id v other w (hub_after_join v w) Empty
@@ -127,6 +128,7 @@ loaded_keeps who own done roll x out (inl e) = (
 )
 loaded_keeps who own done roll x out (inr h) = with_part-has who done roll x h.0 h.1
 
+-- who has no place in the roll was not enrolled
 not_enrolled : (size : PoolSize) (t : Seating) (seat : ℕ) (own : PoolSize) (roll : Roll) (who : Process)
     → IsHub size t seat own roll → roll_at who roll ≡ None → IsEnrolled t who → ⊥
 not_enrolled size t seat own roll (Producer p) h none e =
@@ -143,7 +145,7 @@ roll_history size words views t seat own roll r hub = record {
   others = λ who e. r.nobody_else who (not_enrolled size t seat own roll who hub e);
 }
 
--- and then puts its part into the roll
+-- the hub that has joined a seat may put its part into the roll
 load_allows : (size : PoolSize) (slots id : ℕ) (own : PoolSize) (roll : Roll) (who : Process) (done : History)
     → Allows (KeepsCells size) slots id (HubJoins own roll who done, []) 0 (λ n. n)
     (λ n w. WasOut (HubJoins own roll who done) × (w ≡ (Hub own (roll_with_part who done roll), [])))
@@ -185,6 +187,7 @@ load_allows size slots id own roll who done s h _ at _ =
       ((mine.3, (t.history, roll_history size s.words views t id own (roll_with_part who done roll) r hub_now)), refl),
     )
 
+-- the hub may put the part in, if it is known by equations
 pub load_asked : (key : PoolSize) (slots id : ℕ) (me : SeatState) (own : PoolSize) (roll : Roll) (who : Process)
     (done : History) → me ≡ (HubJoins own roll who done, [])
     → Allows (KeepsCells key) slots id me 0 (λ n. n) (λ n w. WasOut me.0 × (w ≡ (hub_after_load me.0, me.1)))

@@ -18,6 +18,7 @@ all_set P views at new others mine j v e =
     (λ (x : (j ≢ at) × (get_elem? views j ≡ some v)). others j v x.0 x.1)
     (at_set views at j new v e)
 
+-- a view of the longer list was there, or is the new one
 at_snoc : (views : List View) (new v : View) (j : ℕ) → get_elem? (views ++ new ∷ []) j ≡ some v
     → ((get_elem? views j ≡ some v) × (j < length views)) ⊎ ((j ≡ length views) × (new ≡ v))
 at_snoc [] new v zero e = inr (refl, some-injective new v e)
@@ -26,7 +27,7 @@ at_snoc (x ∷ xs) new v zero e = inl (e, omega arith)
 at_snoc (x ∷ xs) new v (suc j) e =
     ⊎_elim (λ t. let h = t.1 in inl (t.0, omega arith)) (λ t. inr (ap suc t.0, t.1)) (at_snoc xs new v j e)
 
--- and after one is added
+-- what holds of each view and of one more holds of each view after it is added
 pub all_snoc : (P : ℕ → View → Type 0) (views : List View) (new : View)
     → ((j : ℕ) (v : View) → get_elem? views j ≡ some v → P j v) → P (length views) new
     → (j : ℕ) (v : View) → get_elem? (views ++ new ∷ []) j ≡ some v → P j v
@@ -37,6 +38,7 @@ all_snoc P views new others mine j v e =
     subst (λ (y : ℕ × View). P y.0 y.1) (λ i. (sym x.0 i, x.1 i)) mine)
     (at_snoc views new v j e)
 
+-- a seat with a view is one of the list
 pub at_within : (views : List View) (j : ℕ) (v : View) → get_elem? views j ≡ some v → j < length views
 at_within [] j v e = absurd (some-ne-none v (sym e))
 at_within (x ∷ xs) zero v e = omega arith
@@ -49,7 +51,7 @@ longer_has [] k b e = absurd (cc)
 longer_has (x ∷ xs) zero b e = e
 longer_has (x ∷ xs) (suc k) b e = longer_has xs k b e
 
--- and nobody else has one
+-- nobody else has a part in the longer list
 pub longer_had : (xs : PartList) (k : ℕ) (done : History) → slice_get (xs ++ None ∷ []) k ≡ Some (Some done)
     → slice_get xs k ≡ Some (Some done)
 longer_had [] zero done e = absurd (cc)
@@ -57,6 +59,7 @@ longer_had [] (suc k) done e = absurd (cc)
 longer_had (x ∷ xs) zero done e = e
 longer_had (x ∷ xs) (suc k) done e = longer_had xs k done e
 
+-- who has no place in the longer list had none
 pub longer_none : (xs : PartList) (k : ℕ) → slice_get (xs ++ None ∷ []) k ≡ None → slice_get xs k ≡ None
 longer_none [] k e = refl
 longer_none (x ∷ xs) zero e = absurd (cc)
@@ -72,13 +75,14 @@ set_had (x ∷ xs) (suc i) zero a b e = inr e
 set_had (x ∷ xs) (suc i) (suc k) a b e =
     ⊎_elim (λ t. inl (ap suc t.0, t.1)) (λ t. inr t) (set_had xs i k a b e)
 
+-- the part put in is there
 pub set_here : (xs : PartList) (k : ℕ) (a b : Option History) → slice_get xs k ≡ Some b
     → slice_get (slice_set xs k a) k ≡ Some a
 set_here [] k a b e = absurd (cc)
 set_here (x ∷ xs) zero a b e = refl
 set_here (x ∷ xs) (suc k) a b e = set_here xs k a b e
 
--- who had a part has a part
+-- who had a part has a part after one is put in
 pub set_has : (xs : PartList) (i k : ℕ) (done d : History) → slice_get xs k ≡ Some (Some d)
     → (part : History) × (slice_get (slice_set xs i (Some done)) k ≡ Some (Some part))
 set_has [] i k done d e = absurd (cc)
@@ -95,6 +99,7 @@ out_or_in (None ∷ rest) zero low = inl refl
 out_or_in (Some done ∷ rest) zero low = inr (done, refl)
 out_or_in (x ∷ rest) (suc k) low = out_or_in rest k (omega arith)
 
+-- who has no place in a list is past it
 pub none_past : (xs : PartList) (k : ℕ) → slice_get xs k ≡ None → length xs ≤ k
 none_past [] k e = omega arith
 none_past (x ∷ xs) zero e = absurd (cc)

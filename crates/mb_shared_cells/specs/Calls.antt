@@ -1,4 +1,4 @@
--- What each call of a seat does: the access of the same call of a pool, or none if that makes none.
+-- What each call of a seat does: the access that the same call of a pool makes, or none if that makes none.
 use Rattle.std.specs.Prelude.{None, Option, Some, [], ℕ, ◌∷◌, ◌≡◌}
 use Rattle.mb_cells.specs.Vocabulary.{fetch, finish_refusal, lane_after_finish, lane_after_offer}
 use Rattle.mb_cells.specs.Vocabulary.{lane_after_push, load, look_of, next_link, offer_by_found}
@@ -30,7 +30,8 @@ ReaderMakes a old new =
     IsAccessAfter old.table.size old.known a old.part
     × (new ≡ record old { part = a ∷ old.part })
 
--- an offer of x that its producer's place refuses makes no access. Any other is a fetch-add, which finds some number
+-- an offer of x, by the refusal of its producer's place. Refused it makes no access. Else it is a fetch-add, which
+-- finds some number
 abbrev pub OfferBy : Option Offer → LaneSeatView → ℕ → Offer → LaneSeatView → Type 0
 OfferBy (Some refusal) old x answer new = (answer ≡ refusal) × (new ≡ old)
 OfferBy None old x answer new =
@@ -38,26 +39,29 @@ OfferBy None old x answer new =
     × LaneMakes (fetch old.lane (record { cell = n; value = x }))
     (lane_after_offer old.table.size.cells x n old.place) old new
 
+-- an offer of x, by the place of the seat's producer
 abbrev pub OfferMakes : LaneSeatView → ℕ → Offer → LaneSeatView → Type 0
 OfferMakes old x answer new = OfferBy (offer_refusal old.place) old x answer new
 
--- a push makes the store that its producer's place names, or none
+-- a push, by the store that its producer's place names: it makes that store, or none
 abbrev pub PushBy : Option (Word × ℕ) → LaneSeatView → Push → LaneSeatView → Type 0
 PushBy None old answer new = (answer ≡ push.Idle) × (new ≡ old)
 PushBy (Some s) old answer new =
     (answer ≡ push_answer old.place)
     × LaneMakes (store old.lane s.0 s.1) (lane_after_push old.place) old new
 
+-- a push, by the place of the seat's producer
 abbrev pub PushMakes : LaneSeatView → Push → LaneSeatView → Type 0
 PushMakes old answer new = PushBy (push_store old.lane old.place) old answer new
 
--- a finish that its producer's place refuses makes no access. Any other stores the end mark
+-- a finish, by the refusal of its producer's place. Refused it makes no access. Else it stores the end mark
 abbrev pub FinishBy : Option Finish → LaneSeatView → Finish → LaneSeatView → Type 0
 FinishBy (Some refusal) old answer new = (answer ≡ refusal) × (new ≡ old)
 FinishBy None old answer new =
     (answer ≡ finish.Ended)
     × LaneMakes (store old.lane (next_link old.lane old.place) END) (lane_after_finish old.place) old new
 
+-- a finish, by the place of the seat's producer
 abbrev pub FinishMakes : LaneSeatView → Finish → LaneSeatView → Type 0
 FinishMakes old answer new = FinishBy (finish_refusal old.place) old answer new
 

@@ -30,7 +30,7 @@ abbrev pub IsEnrolled : Seating → Process → Type 0
 IsEnrolled t (Producer p) = p < t.lanes
 IsEnrolled t (Reader r) = r < t.readers
 
--- the hub's roll has a place for each process enrolled, and the parts in it are those of the history
+-- the view is the hub's: its roll has a place for each process enrolled, and the parts in it are those of the history
 pub record IsHub (size : PoolSize) (t : Seating) (seat : ℕ) (own : PoolSize) (roll : Roll) : Type 0 where
   pub sized : own ≡ size
   pub here : seat ≡ t.hub
@@ -63,14 +63,14 @@ FitsView size t roster seat Empty = Unit {0}
 
 -- the view has a part of the process
 abbrev pub HasProcess : View → Process → Type 0
-HasProcess (Hub size roll) who = (done : History) × (roll_at who roll ≡ Some (Some done))
-HasProcess (HubDraws size roll) who = (done : History) × (roll_at who roll ≡ Some (Some done))
-HasProcess (HubJoins size roll other done) who =
-    (other ≡ who) ⊎ ((part : History) × (roll_at who roll ≡ Some (Some part)))
-HasProcess (Member size other known done) who = other ≡ who
+HasProcess (Hub own roll) who = (done : History) × (roll_at who roll ≡ Some (Some done))
+HasProcess (HubDraws own roll) who = (done : History) × (roll_at who roll ≡ Some (Some done))
+HasProcess (HubJoins own roll joined done) who =
+    (joined ≡ who) ⊎ ((part : History) × (roll_at who roll ≡ Some (Some part)))
+HasProcess (Member own seated known done) who = seated ≡ who
 HasProcess Empty who = ⊥
 
--- the view of the seat has it
+-- the view of the seat has a part of the process
 abbrev pub StandsAt : List View → ℕ → Process → Type 0
 StandsAt views seat who = (v : View) × (get_elem? views seat ≡ some v) × HasProcess v who
 
@@ -93,5 +93,6 @@ pub record IsTableState (size : PoolSize) (words : List ℕ) (views : List View)
 abbrev pub IsCellsState : PoolSize → List ℕ → List View → Type 0
 IsCellsState size words views = (t : Seating) × IsTableState size words views t
 
+-- the state of a table keeps the rule: its words and views are those of some history
 abbrev pub KeepsCells : PoolSize → State (Unit {0}) View → Type 0
 KeepsCells size s = IsCellsState size s.words s.views

@@ -1,4 +1,4 @@
--- What is kept in the hub and in each seat, and how callers see it.
+-- What is kept in the hub and in each seat, how callers see it, and which accesses a seat can make.
 use Rattle.std.specs.Prelude.{[], length, ℕ, ◌<◌, ◌∷◌, ◌≡◌}
 use Rattle.atomic_table.specs.Seated.{TableId}
 use Rattle.mb_cells.specs.Vocabulary.{History, IsLaneAfter, IsLanePrefix, IsLaneWord, MayRead, fetch, store}
@@ -13,7 +13,8 @@ use Rattle.mb_shared_cells.specs.declared.views.Roll.{Roll}
 use Rattle.mb_shared_cells.specs.declared.views.View.{View}
 use Rattle.mb_shared_cells.specs.declared.views.View.TheVariants.{Empty, Hub, HubDraws, HubJoins, Member}
 
--- the fields of a view, each 0 or empty if it has no such field
+-- ---- the fields of a view
+-- the size in a view, or 0 if it has none
 abbrev pub size_in : View → PoolSize
 size_in (Hub size roll) = size
 size_in (HubDraws size roll) = size
@@ -21,6 +22,7 @@ size_in (HubJoins size roll who done) = size
 size_in (Member size who known done) = size
 size_in Empty = record { lanes = 0; cells = 0 }
 
+-- the roll in a view, or an empty one if it has none
 abbrev pub roll_in : View → Roll
 roll_in (Hub size roll) = roll
 roll_in (HubDraws size roll) = roll
@@ -28,10 +30,12 @@ roll_in (HubJoins size roll who done) = roll
 roll_in (Member size who known done) = empty_roll
 roll_in Empty = empty_roll
 
+-- the number of a process among the producers, or among the readers
 abbrev pub number_of : Process → ℕ
 number_of (Producer p) = p
 number_of (Reader r) = r
 
+-- the number of the process in a view, or 0 if it has none
 abbrev pub number_in : View → ℕ
 number_in (Hub size roll) = 0
 number_in (HubDraws size roll) = 0
@@ -39,6 +43,7 @@ number_in (HubJoins size roll who done) = 0
 number_in (Member size who known done) = number_of who
 number_in Empty = 0
 
+-- the lanes known in a view, or none if it has no such list
 abbrev pub known_in : View → PartList
 known_in (Hub size roll) = []
 known_in (HubDraws size roll) = []
@@ -46,6 +51,7 @@ known_in (HubJoins size roll who done) = []
 known_in (Member size who known done) = known
 known_in Empty = []
 
+-- the part in a view, or an empty one if it has none
 abbrev pub done_in : View → History
 done_in (Hub size roll) = []
 done_in (HubDraws size roll) = []
@@ -53,34 +59,41 @@ done_in (HubJoins size roll who done) = done
 done_in (Member size who known done) = done
 done_in Empty = []
 
+-- the name of the table of a seat, by its table's identity
 abbrev pub name_in : TableId → SeatState → CellsName
 name_in id me = record { id = id; size = size_in me.0 }
 
--- the hub counts the lanes' numbers that it gave, and the parts that it took in are those of some lawful history
+-- ---- what is kept, and how callers see it
+-- what is kept in the hub: it counts the lanes' numbers that it gave, and the parts that it took in are those of some
+-- lawful history
 pub record IsHubSeat (me : SeatState) (given : ℕ) : Type 0 where
   pub is : me ≡ (Hub (size_in me.0) (roll_in me.0), [])
   pub count : given ≡ length (roll_in me.0).lanes
   pub history : (h : History) × IsRollOf (size_in me.0) (roll_in me.0) h
 
+-- the hub as callers see it
 abbrev pub hub_shown : TableId → SeatState → CellHubView
 hub_shown id me = record { table = name_in id me; roll = roll_in me.0 }
 
--- the lane is one of the table's, its producer stands at the place, and some lawful history has its part
+-- what is kept in a lane's seat: the lane is one of the table's, its producer stands at the place, and some lawful
+-- history has its part
 pub record IsLaneSeat (me : SeatState) (number : ℕ) (place : Lane) : Type 0 where
   pub is : me ≡ (Member (size_in me.0) (Producer number) [] (done_in me.0), [])
   pub within : number < (size_in me.0).lanes
   pub stands : IsLaneAfter (size_in me.0).cells number place (done_in me.0)
   pub history : HasHistory (size_in me.0) (Producer number) (done_in me.0)
 
+-- a lane's seat as callers see it
 abbrev pub lane_shown : TableId → SeatState → ℕ → Lane → LaneSeatView
 lane_shown id me number place =
     record { table = name_in id me; lane = number; place = place; part = done_in me.0 }
 
--- some lawful history has the reader's part
+-- what is kept in a reader's seat: some lawful history has the reader's part
 pub record IsReaderSeat (me : SeatState) : Type 0 where
   pub is : me ≡ (Member (size_in me.0) (Reader (number_in me.0)) (known_in me.0) (done_in me.0), [])
   pub history : HasHistory (size_in me.0) (Reader (number_in me.0)) (done_in me.0)
 
+-- a reader's seat as callers see it
 abbrev pub reader_shown : TableId → SeatState → ReaderSeatView
 reader_shown id me = record {
   table = name_in id me;
@@ -89,6 +102,7 @@ reader_shown id me = record {
   part = done_in me.0;
 }
 
+-- ---- which accesses a seat can make
 -- the seat is a reader's, which may load the word
 pub record CanLoad (size : PoolSize) (word : Word) (me : SeatState) : Type 0 where
   pub reader : ℕ

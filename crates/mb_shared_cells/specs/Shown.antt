@@ -1,4 +1,4 @@
--- What callers see of a table, its hub and its seats.
+-- What callers see of a table, its hub and its seats, and that a part is that of some lawful history.
 use Rattle.std.specs.Prelude.{ℕ, ◌≡◌}
 use Rattle.atomic_table.specs.Seated.{TableId}
 use Rattle.mb_cells.specs.Vocabulary.{History, IsPoolLawful, part}
@@ -8,12 +8,12 @@ use Rattle.mb_cells.specs.declared.size.PoolSize.{PoolSize}
 use Rattle.mb_shared_cells.specs.Views.{PartList}
 use Rattle.mb_shared_cells.specs.declared.views.Roll.{Roll}
 
--- which table it is, and its size
+-- the name of a table: which it is, and its size
 pub record CellsName : Type 0 where
   pub id : TableId
   pub size : PoolSize
 
--- the hub: what it has taken in
+-- the hub: of which table it is, and its roll, with the parts that it has taken in
 pub record CellHubView : Type 0 where
   pub table : CellsName
   pub roll : Roll

@@ -12,7 +12,8 @@ use Rattle.mb_shared_cells.specs.declared.views.Roll.{Roll}
 use Rattle.mb_shared_cells.specs.declared.views.View.{View}
 use Rattle.mb_shared_cells.specs.declared.views.View.TheVariants.{Empty, Hub, HubDraws, HubJoins, Member}
 
--- parts by number: None if the seat is out
+-- ---- a seat, and the hub's roll of parts
+-- parts by the number of their process: None if its seat is out
 abbrev pub PartList : Type 0
 PartList = List (Option History)
 
@@ -20,10 +21,11 @@ PartList = List (Option History)
 abbrev pub SeatState : Type 0
 SeatState = Me (Unit {0}) View
 
--- nobody was enrolled
+-- the roll of a hub that has enrolled nobody
 abbrev pub empty_roll : Roll
 empty_roll = record { lanes = []; readers = [] }
 
+-- the view of the hub of a new table
 abbrev pub first_view : PoolSize → View
 first_view size = Hub size empty_roll
 
@@ -32,18 +34,20 @@ abbrev pub roll_at : Process → Roll → Option (Option History)
 roll_at (Producer p) roll = slice_get roll.lanes p
 roll_at (Reader r) roll = slice_get roll.readers r
 
--- one number more, whose seat is out
+-- the roll with one lane more, whose seat is out
 abbrev pub roll_with_lane : Roll → Roll
 roll_with_lane roll = record roll { lanes = roll.lanes ++ None ∷ [] }
 
+-- the roll with one reader more, whose seat is out
 abbrev pub roll_with_reader : Roll → Roll
 roll_with_reader roll = record roll { readers = roll.readers ++ None ∷ [] }
 
--- the part of a process, put at its number
+-- the roll with the part of a process put at its number
 abbrev pub roll_with_part : Process → History → Roll → Roll
 roll_with_part (Producer p) done roll = record roll { lanes = slice_set roll.lanes p (Some done) }
 roll_with_part (Reader r) done roll = record roll { readers = slice_set roll.readers r (Some done) }
 
+-- ---- one access
 -- an access of a process
 abbrev pub access_by : Process → Word → PoolAct → PoolAccess
 access_by who word act = record { process = who; word = word; act = act }
@@ -67,7 +71,7 @@ pub record IsRollOf (size : PoolSize) (roll : Roll) (h : History) : Type 0 where
   pub parts : (who : Process) (done : History) → roll_at who roll ≡ Some (Some done) → part who h ≡ done
   pub others : (who : Process) → roll_at who roll ≡ None → part who h ≡ []
 
--- a lane's or reader's seat has made one access more
+-- the view of a seat after an access: that of a lane or a reader has it in its part
 abbrev pub view_after : Word → PoolAct → View → View
 view_after word act (Hub size roll) = Hub size roll
 view_after word act (HubDraws size roll) = HubDraws size roll
@@ -75,7 +79,7 @@ view_after word act (HubJoins size roll who done) = HubJoins size roll who done
 view_after word act (Member size who known done) = Member size who known (access_by who word act ∷ done)
 view_after word act Empty = Empty
 
--- and the access came after what that seat had done
+-- the access came after what the seat of this view had done
 abbrev pub CameAfter : Word → PoolAct → View → Type 0
 CameAfter word act (Hub size roll) = Unit {0}
 CameAfter word act (HubDraws size roll) = Unit {0}
@@ -83,11 +87,12 @@ CameAfter word act (HubJoins size roll who done) = Unit {0}
 CameAfter word act (Member size who known done) = IsAccessAfter size known (access_by who word act) done
 CameAfter word act Empty = Unit {0}
 
--- what the step of an access says
+-- what the step of an access says of its seat, before it and after it
 abbrev pub MakesAccess : Word → PoolAct → SeatState → SeatState → Type 0
 MakesAccess word act v w = CameAfter word act v.0 × (w ≡ (view_after word act v.0, v.1))
 
--- the hub has drawn the next lane's number
+-- ---- how a seat is issued, and returned
+-- the view of the hub after it has drawn the next lane's number
 abbrev pub hub_after_draw : View → View
 hub_after_draw (Hub size roll) = HubDraws size roll
 hub_after_draw (HubDraws size roll) = HubDraws size roll
@@ -95,11 +100,11 @@ hub_after_draw (HubJoins size roll who done) = HubJoins size roll who done
 hub_after_draw (Member size who known done) = Member size who known done
 hub_after_draw Empty = Empty
 
--- what the step on the roster says
+-- what the step on the roster says of the hub, before it and after it
 abbrev pub DrawsNumber : Step (Unit {0}) → SeatState → ℕ → SeatState → Type 0
 DrawsNumber s v found w = w ≡ (hub_after_draw v.0, v.1)
 
--- a seat was split off from the hub's: a lane's if its number was drawn, else a reader's
+-- the view of the hub after a seat was split off: a lane's if its number was drawn, else a reader's
 abbrev pub hub_after_split : View → View
 hub_after_split (Hub size roll) = Hub size (roll_with_reader roll)
 hub_after_split (HubDraws size roll) = Hub size (roll_with_lane roll)
@@ -123,6 +128,7 @@ hub_beside size roll (HubJoins other rest who done) = Hub size roll
 hub_beside size roll (Member other who known done) = HubJoins size roll who done
 hub_beside size roll Empty = Hub size roll
 
+-- the view of the hub after a seat was joined to it, whose part then is beside the roll
 abbrev pub hub_after_join : View → View → View
 hub_after_join (Hub size roll) w = hub_beside size roll w
 hub_after_join (HubDraws size roll) w = HubDraws size roll
@@ -130,7 +136,7 @@ hub_after_join (HubJoins size roll who done) w = HubJoins size roll who done
 hub_after_join (Member size who known done) w = Member size who known done
 hub_after_join Empty w = Empty
 
--- the hub with that part in its roll
+-- the view of the hub after the load: the part beside its roll is in it
 abbrev pub hub_after_load : View → View
 hub_after_load (Hub size roll) = Hub size roll
 hub_after_load (HubDraws size roll) = HubDraws size roll
@@ -147,6 +153,6 @@ WasOut (HubJoins size roll who done) =
 WasOut (Member size who known done) = Unit {0}
 WasOut Empty = Unit {0}
 
--- what the load after a join says
+-- what the load after a join says of the hub, before it and after it
 abbrev pub TakesPart : Step (Unit {0}) → SeatState → ℕ → SeatState → Type 0
 TakesPart s v found w = WasOut v.0 × (w ≡ (hub_after_load v.0, v.1))

@@ -23,19 +23,20 @@ pub load_small :
 load_small object word n op reg e small fits =
     subst (λ (o : Op). IsInWords (step_of object o n word).turn) (sym e) ((small, tt), fits)
 
--- and what a store puts there
+-- what a store puts there is a word
 pub store_small :
     (object word n value : ℕ) (op : Op) (reg : Reg) → op ≡ to.Store reg value → value < 18446744073709551616
     → word < 18446744073709551616 → IsInWords (step_of object op n word).turn
 store_small object word n value op reg e small fits =
     subst (λ (o : Op). IsInWords (step_of object o n word).turn) (sym e) ((tt, small), fits)
 
--- and an exchange: what it finds and what it puts there
+-- what an exchange puts there is a word, if it puts anything
 stored_small : (b : Bool) (w : ℕ) → w < 18446744073709551616
     → IfSome (cond b (Some w) None) (λ value. value < 18446744073709551616)
 stored_small true w small = small
 stored_small false w small = tt
 
+-- an exchange's turn is of words
 pub exchange_small :
     (object word n value : ℕ) (op : Op) (reg : Reg) → op ≡ to.Exchange reg value → value < 18446744073709551616
     → n < 18446744073709551616 → word < 18446744073709551616 → IsInWords (step_of object op n word).turn
@@ -43,11 +44,12 @@ exchange_small object word n value op reg e put small fits =
     subst (λ (o : Op). IsInWords (step_of object o n word).turn) (sym e)
     ((small, stored_small (n == 0) value put), fits)
 
--- it leaves its value where it found 0, and else what it found
+-- an exchange leaves its value if it found 0, and else what it found
 exchanged : (b : Bool) (w n : ℕ) → either b w n ≡ option_map_or (λ value. value) (cond b (Some w) None) n
 exchanged true w n = refl
 exchanged false w n = refl
 
+-- what an exchange leaves is what its op leaves
 pub exchange_after :
     (value n : ℕ) (op : Op) (reg : Reg) → op ≡ to.Exchange reg value → either (n == 0) value n ≡ after_op op n
 exchange_after value n op reg e =

@@ -9,7 +9,8 @@ use Rattle.mb_shared_claims.specs.ViewSteps.{ComesAfter}
 use Rattle.mb_shared_claims.specs.Seats.{SeatView, TableView, name_of, claims_at}
 use Rattle.mb_shared_claims.specs.SeatSteps.{access_of, with_access, IsSeatStep, MayComeNext}
 
--- ---- the laws of claims, as they are offered
+-- ---- the laws of claims that are used here
+-- the next access of a claim leaves the words of the longer history
 abbrev pub KeepsMemory : Type 0
 KeepsMemory =
     (layout : Layout) (cells k : ℕ) (claim : Claim) (next : ClaimOp) (word : ℕ) (words : List ℕ) (h : List ClaimAccess)
@@ -19,6 +20,7 @@ KeepsMemory =
     → let a = access_in cs (consumer_of claim) k next.object next.op word words in
     IsInWords a.step.turn → IsMemoryOf cs (words_after cs k next.object next.op words) (a ∷ h)
 
+-- a claim can go on with what an access found that came after a lawful history
 abbrev pub FindsTold : Type 0
 FindsTold =
     (layout : Layout) (cells k : ℕ) (claim : Claim) (next : ClaimOp) (seen word : ℕ) (h : List ClaimAccess)
@@ -26,9 +28,11 @@ FindsTold =
     → k < cells → IsClaimIn layout claim (part_on (consumer_of claim) k h) → claim_stage claim ≡ Going
     → IsNextOp layout claim next → CanClaimFind layout claim next seen
 
+-- what a consumer did on a cell is the same in its part as in the whole history
 abbrev pub CutParts : Type 0
 CutParts = (c k : ℕ) (h : List ClaimAccess) → part_on c k (part c h) ≡ part_on c k h
 
+-- an access adds its step to its consumer's part on its cell
 abbrev pub OwnCell : Type 0
 OwnCell =
     (a : ClaimAccess) (h : List ClaimAccess)
@@ -50,7 +54,7 @@ module _ (cut : CutParts) (t : TableView) (seat : SeatView) (cell : ℕ) (claim 
       (ap (part_on seat.consumer cell) (sym all) ∙ cut seat.consumer cell h
       ∙ ap (λ c. part_on c cell h) (sym own)) stands
 
-  -- so its next access may come
+  -- so the claim's next access may come next from its seat
   pub may_come :
       KeepsMemory → (next : ClaimOp) → IsNextOp t.layout claim next → MayComeNext cs seat.consumer cell seat.part next
   may_come keeps next is word words h memory all =
@@ -60,7 +64,7 @@ module _ (cut : CutParts) (t : TableView) (seat : SeatView) (cell : ℕ) (claim 
       (access_in cs c cell next.object next.op word words ∷ h)) own
       (keeps t.layout t.cells cell claim next word words h memory low (in_history h all) going is)
 
-  -- and it can go on with what that is told to have found
+  -- the claim can go on with what that access is told to have found
   can_find :
       FindsTold → (next : ClaimOp) (seen word : ℕ) → IsNextOp t.layout claim next
       → ComesAfter cs (access_of seat.consumer cell next seen word) seat.part → CanClaimFind t.layout claim next seen
@@ -69,7 +73,7 @@ module _ (cut : CutParts) (t : TableView) (seat : SeatView) (cell : ℕ) (claim 
       (subst (λ c. IsClaimLawful cs (access_of c cell next seen word ∷ comes.0)) (sym own) comes.1) low
       (in_history comes.0 comes.2) going is
 
-  -- so where it was made it is a step of the seat
+  -- if that access was made, it is a step of the seat
   pub seat_step :
       FindsTold → (now : SeatView) (word : ℕ) (follows : Claim) (next : ClaimOp) (seen : ℕ) → seat.table ≡ name_of t
       → IsNextOp t.layout claim next → now ≡ with_access (access_of seat.consumer cell next seen word) seat

@@ -6,11 +6,13 @@ use Rattle.mb_shared_claims.specs.Views.{claims_of_size, Roll, WasTaken, IsOut, 
 use Rattle.mb_shared_claims.specs.Rule.{IsClaimsState}
 use Rattle.mb_shared_claims.specs.Seats.{count_out, taken_part, AreOfOneHistory}
 
+-- one number more, whose seat is out
 pub count_out-snoc : (roll : Roll) → count_out (roll ++ None ∷ []) ≡ count_out roll + 1
 count_out-snoc [] = refl
 count_out-snoc (Some done ∷ rest) = count_out-snoc rest
 count_out-snoc (None ∷ rest) = let x = count_out-snoc rest in omega arith
 
+-- one seat fewer is out after its part is in the roll
 pub count_out-set :
     (roll : Roll) (c : ℕ) (done : List ClaimAccess) → IsOut roll c
     → count_out (set roll c (Some done)) + 1 ≡ count_out roll
@@ -20,12 +22,13 @@ count_out-set (Some p ∷ rest) zero done e = absurd (cc)
 count_out-set (None ∷ rest) (suc c) done e = let x = count_out-set rest c done e in omega arith
 count_out-set (Some p ∷ rest) (suc c) done e = count_out-set rest c done e
 
+-- no more seats are out than numbers were given
 pub count_out_le : (roll : Roll) → count_out roll ≤ length roll
 count_out_le [] = le_refl 0
 count_out_le (None ∷ rest) = let x = count_out_le rest in omega arith
 count_out_le (Some p ∷ rest) = let x = count_out_le rest in omega arith
 
--- where no seat is out, the part of each number is in the roll
+-- if no seat is out, the part of each number is in the roll
 all_in :
     (roll : Roll) (c : ℕ) → count_out roll ≡ 0
     → ((done : List ClaimAccess) × WasTaken roll c done × (taken_part roll c ≡ done))

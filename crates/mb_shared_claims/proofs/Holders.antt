@@ -43,7 +43,7 @@ all_added P views w others mine j u e =
     (λ (x : (j ≡ length views) × (w ≡ u)). subst (λ (y : ℕ × View). P y.0 y.1) (λ i. (sym x.0 i, x.1 i)) mine)
     (at_added views w u j e)
 
--- who has a part still has it, where the view that is replaced has then all parts of this consumer that it had
+-- who has a part still has it, if the view that is replaced has then all parts of this consumer that it had
 kept_by :
     (views : List View) (id j c : ℕ) (v w : View) (xs : List ClaimAccess) → IsViewAt views id v
     → (HasPart v c xs → HasPart w c xs) → HasPartAt views j c xs → Dec (j ≡ id) → HasPartAt (set views id w) j c xs
@@ -53,18 +53,19 @@ kept_by views id j c v w xs at keeps has (yes same) =
     (w, at_replaced views id v w at, keeps (subst (λ u. HasPart u c xs) is has.2))
 kept_by views id j c v w xs at keeps has (no apart) = (has.0, set_else views id j w apart ∙ has.1, has.2)
 
+-- who has a part still has it after a view is replaced that keeps this consumer's parts
 pub kept_at :
     (views : List View) (id j c : ℕ) (v w : View) (xs : List ClaimAccess) → IsViewAt views id v
     → (HasPart v c xs → HasPart w c xs) → HasPartAt views j c xs → HasPartAt (set views id w) j c xs
 kept_at views id j c v w xs at keeps has = kept_by views id j c v w xs at keeps has (ℕ_discrete j id)
 
--- and after one is added
+-- who has a part still has it after a view is added
 pub kept_beside :
     (views : List View) (w : View) (j c : ℕ) (xs : List ClaimAccess) → HasPartAt views j c xs
     → HasPartAt (views ++ w ∷ []) j c xs
 kept_beside views w j c xs has = (has.0, at_longer views (w ∷ []) j has.0 has.1, has.2)
 
--- the part of the view added
+-- the part of the view that is added is had
 pub has_added :
     (views : List View) (w : View) (c : ℕ) (xs : List ClaimAccess) → HasPart w c xs
     → HasPartAt (views ++ w ∷ []) (length views) c xs

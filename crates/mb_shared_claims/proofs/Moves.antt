@@ -22,8 +22,8 @@ abbrev pub rule_of : TableSize → State (Unit {0}) View → Type 0
 rule_of k s = IsClaimsState k s.words s.views
 
 -- ---- an access of a consumer's seat
--- an access goes on: whatever the words and the history are, in which the consumer has done this, the words after it are
--- those that the longer history leaves
+-- an access goes on: whatever the words and the history are, in which the consumer has done this, the words after it
+-- are those that the longer history leaves
 abbrev pub GoesOn : TableSize → ℕ → List ClaimAccess → ℕ → (ℕ → ℕ) → (ℕ → ClaimAccess) → Type 0
 GoesOn k own done at f access =
     (words : List ℕ) (h : List ClaimAccess) → IsMemoryOf (claims_of_size k) words h → part own h ≡ done
@@ -48,6 +48,7 @@ goes_on k own cell word done next f access may is_f is_access small words h memo
       ap (λ a. a.consumer) (is_access n),
     )
 
+-- a consumer's seat may make an access that goes on
 pub access_allows :
     OwnPart → OtherParts → (k size : TableSize) (slots id own at : ℕ) (done : List ClaimAccess) (f : ℕ → ℕ)
     (access : ℕ → ClaimAccess) → at < roster k → GoesOn k own done at f access
@@ -79,13 +80,14 @@ access_allows own_part other_parts k size slots id own at done f access within g
       ),
     )
 
--- ---- enrolling
--- a word behind those of the cells is none of the claims'
+-- ---- the hub gives a seat out
+-- a word after those of the cells is none of the claims'
 abbrev pub OtherWords : TableSize → Type 0
 OtherWords k =
     (at n : ℕ) (words : List ℕ) (h : List ClaimAccess) → words_in (claims_of_size k) ≤ at
     → IsMemoryOf (claims_of_size k) words h → IsMemoryOf (claims_of_size k) (set words at n) h
 
+-- the hub may draw the next number
 pub draw_allows :
     (k size : TableSize) → OtherWords k → (slots id : ℕ) (roll : Roll) → length roll < consumer_count k.layout
     → length roll < 2 ^ 32
@@ -110,19 +112,22 @@ draw_allows k size others slots id roll room small state held _ is _ =
       (counted, refl),
     )
 
+-- the hub may give the number drawn to a new seat
 pub give_allows :
     (k size : TableSize) (id : ℕ) (roll : Roll)
     → Splits (rule_of k) id (Drawing size roll) (Handing size (roll ++ None ∷ [])) (Standing size (length roll) [])
 give_allows k size id roll state held is =
     (_, after_giving k state.words state.views held.0 held.1 size id roll is)
 
--- ---- taking a seat in
+-- ---- the hub takes a seat in
+-- the hub may join a consumer's seat
 pub take_allows :
     (k size its : TableSize) (id other own : ℕ) (roll : Roll) (done : List ClaimAccess)
     → Joins (rule_of k) id (Handing size roll) other (Standing its own done) (Taking size roll own done) Spent
 take_allows k size its id other own roll done state held is apart there =
     (_, after_taking k state.words state.views held.0 held.1 size its id other own roll done apart is there)
 
+-- the hub may put the part of the joined seat into the roll
 pub settle_allows :
     (k size : TableSize) (slots id own : ℕ) (roll : Roll) (done : List ClaimAccess)
     → Allows (rule_of k) slots id (Taking size roll own done, []) 0 (λ n. n)
@@ -146,6 +151,7 @@ BeginsWithZeros k =
     (words : List ℕ) → words_in (claims_of_size k) ≤ length words → ((i : ℕ) → slice_index words i ≡ 0)
     → IsMemoryOf (claims_of_size k) words []
 
+-- a new table keeps the rule
 pub begins : (k : TableSize) → BeginsWithZeros k → IsClaimsState k (replicate (roster k + 1) 0) (Handing k [] ∷ [])
 begins k empty = (
   record { history = []; given = 0; hub = 0; place = λ _. 0 },
@@ -180,7 +186,8 @@ begins k empty = (
         (some-injective _ _ e) (refl, (refl, refl), zeros (roster k + 1) (roster k))
     first (suc seat) v e = absurd (some-ne-none v (sym e))
 
--- ---- the same of a table and seats that are known by equations
+-- ---- each of these steps, for a table and seats that are known by equations
+-- the access of a consumer's seat
 pub access_asked :
     OwnPart → OtherParts → (key k size : TableSize) (slots id own at : ℕ) (me : Seated) (done : List ClaimAccess)
     (f : ℕ → ℕ) (access : ℕ → ClaimAccess) → key ≡ k → me ≡ (Standing size own done, []) → at < roster k
@@ -191,6 +198,7 @@ access_asked own_part other_parts key k size slots id own at me done f access sa
     Allows (rule_of z.0) slots id z.1 at f (λ found now. makes (access found) z.1 now))
     (λ i. (sym same i, sym is i)) (access_allows own_part other_parts k size slots id own at done f access within goes)
 
+-- the drawing of a number
 pub draw_asked :
     (key k size : TableSize) → OtherWords k → (slots id at : ℕ) (me : Seated) (roll : Roll) → key ≡ k
     → me ≡ (Handing size roll, []) → at ≡ roster k → length roll < consumer_count k.layout → length roll < 2 ^ 32
@@ -200,12 +208,14 @@ draw_asked key k size others slots id at me roll same is is_at room small =
     Allows (rule_of z.0) slots id z.1 z.2 (λ n. (n + 1) % 2 ^ 64) (λ found now. draws found z.1 now))
     (λ i. (sym same i, sym is i, sym is_at i)) (draw_allows k size others slots id roll room small)
 
+-- the giving of a number
 pub give_asked :
     (key size : TableSize) (id : ℕ) (v : View) (roll : Roll) → v ≡ Drawing size roll
     → Splits (rule_of key) id v (given_out v) (newcomer v)
 give_asked key size id v roll is =
     subst (λ u. Splits (rule_of key) id u (given_out u) (newcomer u)) (sym is) (give_allows key size id roll)
 
+-- the joining of a seat
 pub take_asked :
     (key size its : TableSize) (id other own : ℕ) (v w : View) (roll : Roll) (done : List ClaimAccess)
     → v ≡ Handing size roll → w ≡ Standing its own done → Joins (rule_of key) id v other w (took_in v w) Spent
@@ -213,6 +223,7 @@ take_asked key size its id other own v w roll done is that =
     subst (λ (z : View × View). Joins (rule_of key) id z.0 other z.1 (took_in z.0 z.1) Spent)
     (λ i. (sym is i, sym that i)) (take_allows key size its id other own roll done)
 
+-- the putting in of its part
 pub settle_asked :
     (key size : TableSize) (slots id own : ℕ) (me : Seated) (roll : Roll) (done : List ClaimAccess)
     → me ≡ (Taking size roll own done, [])

@@ -1,4 +1,4 @@
--- The plan behind a table after each of its steps.
+-- The plan that explains a table after each of its steps.
 use Rattle.std.proofs.Common.{◌≡◌, ◌≢◌, ℕ, suc, ◌<◌, ◌≤◌, Some, None, List, [], ◌∷◌, ◌++◌, length, set, slice_get}
 use Rattle.std.proofs.Common.{slice_index, refl, sym, ap, ◌∙◌, subst, ⊎_elim, inl, inr, arith, length-append}
 use Rattle.std.proofs.Common.{length-set, get_or-set_same, get_or-set_other, le_refl}
@@ -13,10 +13,11 @@ use Rattle.mb_shared_claims.proofs.Rolls.{moved-here, moved-else}
 use Rattle.mb_shared_claims.proofs.Holders.{all_set, all_added, kept_at, kept_beside, has_added, has_replaced}
 use Rattle.mb_shared_claims.proofs.Holders.{at_replaced}
 
--- what an access adds to the parts, as the laws of claims say it
+-- an access is in front of its consumer's part
 abbrev pub OwnPart : Type 0
 OwnPart = (a : ClaimAccess) (h : List ClaimAccess) → part a.consumer (a ∷ h) ≡ a ∷ part a.consumer h
 
+-- an access leaves the parts of all other consumers
 abbrev pub OtherParts : Type 0
 OtherParts = (c : ℕ) (a : ClaimAccess) (h : List ClaimAccess) → a.consumer ≢ c → part c (a ∷ h) ≡ part c h
 
@@ -34,7 +35,7 @@ fits_apart k plan other drawn more seat apart Spent f = f
 abbrev pub longer : ClaimAccess → Plan → Plan
 longer a plan = record { history = a ∷ plan.history; given = plan.given; hub = plan.hub; place = plan.place }
 
--- with one number more, which stands at this seat
+-- the plan with one number more, which stands at this seat
 abbrev pub with_number : ℕ → Plan → Plan
 with_number seat plan = record {
   history = plan.history;
@@ -43,7 +44,7 @@ with_number seat plan = record {
   place = moved plan.place plan.given seat;
 }
 
--- where a number stands at another seat
+-- the plan in which number c stands at this seat
 abbrev pub with_place : ℕ → ℕ → Plan → Plan
 with_place c seat plan = record {
   history = plan.history;
@@ -106,6 +107,7 @@ module _ (k : TableSize) (words : List ℕ) (views : List View) (plan : Plan) (s
       same_count : slice_index (set words at n) (roster k) ≡ count
       same_count = get_or-set_other words at (roster k) n 0 (λ e. omega arith)
 
+      -- after an access the plan with a longer history explains the table
       pub after_access : IsStateOf k (set words at n) (set views id after) (longer a plan)
       after_access = record {
         memory = memory;
@@ -131,6 +133,7 @@ module _ (k : TableSize) (words : List ℕ) (views : List View) (plan : Plan) (s
     count_now : slice_index (set words (roster k) more) (roster k) ≡ more
     count_now = let wide = s.wide in get_or-set_same words (roster k) more 0 (omega arith)
 
+    -- after a number is drawn the same plan explains the table
     pub after_drawing :
         IsStateOf k (set words (roster k) more) (set views id (Drawing size roll)) plan
     after_drawing = record {
@@ -155,7 +158,7 @@ module _ (k : TableSize) (words : List ℕ) (views : List View) (plan : Plan) (s
           (hub_fits.0, hub_fits.1, is_more ∙ ap suc hub_fits.2));
     }
 
-  -- ---- and gives it out
+  -- ---- the hub gives out the number that it has drawn
   module _ (size : TableSize) (id : ℕ) (roll : Roll) (is : IsViewAt views id (Drawing size roll)) where
     drawing_fits : FitsTable k plan count id (Drawing size roll)
     drawing_fits = s.fits id (Drawing size roll) is
@@ -220,6 +223,7 @@ module _ (k : TableSize) (words : List ℕ) (views : List View) (plan : Plan) (s
         (omega arith, moved-here plan.place plan.given (length seats), sym (s.others plan.given (le_refl plan.given))))
         seat has.0 has.1 c xs has.2
 
+    -- after a number is given the plan with it explains the table
     pub after_giving : IsStateOf k words (seats ++ right ∷ []) given_plan
     after_giving =
         let counted : count ≡ suc plan.given = drawing_fits.2 in
@@ -330,6 +334,7 @@ module _ (k : TableSize) (words : List ℕ) (views : List View) (plan : Plan) (s
         (λ d ys h. absurd h)
         seat has.0 has.1 c xs has.2
 
+    -- after a seat is joined the plan in which its consumer stands at the hub explains the table
     pub after_taking : IsStateOf k words joined taken_plan
     after_taking = record {
       memory = s.memory;
@@ -348,7 +353,7 @@ module _ (k : TableSize) (words : List ℕ) (views : List View) (plan : Plan) (s
           tt;
     }
 
-  -- ---- and puts its part into the roll
+  -- ---- the hub puts the part of the seat taken in into its roll
   module _ (size : TableSize) (id own : ℕ) (roll : Roll) (done : List ClaimAccess)
       (is : IsViewAt views id (Taking size roll own done)) where
     taking_fits : FitsTable k plan count id (Taking size roll own done)
@@ -371,6 +376,7 @@ module _ (k : TableSize) (words : List ℕ) (views : List View) (plan : Plan) (s
         ⊎_elim (λ (t : (c ≡ own) × (Some done ≡ Some xs)). inl (t.0, cc)) inr
         (get-set roll own c (Some done) (Some xs) e)
 
+    -- after its part is put in the same plan explains the table
     pub after_settling : IsStateOf k words (set views id (Handing size filled)) plan
     after_settling = record {
       memory = s.memory;

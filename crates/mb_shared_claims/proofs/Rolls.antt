@@ -19,13 +19,13 @@ module _ {A : Type 0} where
   get_front (x ∷ xs) ys zero a e = e
   get_front (x ∷ xs) ys (suc k) a e = get_front xs ys k a e
 
-  -- an element that was replaced
+  -- an element that was replaced is the new one
   pub get-set_same : (xs : List A) (i : ℕ) (a b : A) → slice_get xs i ≡ Some b → slice_get (set xs i a) i ≡ Some a
   get-set_same [] i a b e = absurd (cc)
   get-set_same (x ∷ xs) zero a b e = refl
   get-set_same (x ∷ xs) (suc i) a b e = get-set_same xs i a b e
 
-  -- another element
+  -- another element stays
   pub get-set_other : (xs : List A) (i k : ℕ) (a : A) → k ≢ i → slice_get (set xs i a) k ≡ slice_get xs k
   get-set_other [] i k a n = refl
   get-set_other (x ∷ xs) zero zero a n = absurd (n refl)
@@ -33,7 +33,7 @@ module _ {A : Type 0} where
   get-set_other (x ∷ xs) (suc i) zero a n = refl
   get-set_other (x ∷ xs) (suc i) (suc k) a n = get-set_other xs i k a (λ e. n (ap suc e))
 
-  -- either of them
+  -- an element of the new list is the new one, or one of the old list
   pub get-set :
       (xs : List A) (i k : ℕ) (a b : A) → slice_get (set xs i a) k ≡ Some b
       → ((k ≡ i) × (a ≡ b)) ⊎ (slice_get xs k ≡ Some b)
@@ -56,10 +56,12 @@ module _ {A : Type 0} where
 pub moved : (ℕ → ℕ) → ℕ → ℕ → ℕ → ℕ
 moved place c to d = cond (eqb d c) to (place d)
 
+-- it has the new value at that number
 pub moved-here : (place : ℕ → ℕ) (c to : ℕ) → moved place c to c ≡ to
 unfolding moved
 moved-here place c to = ap (λ b. cond b to (place c)) (eq-eqb c c refl)
 
+-- it has the old value at any other
 pub moved-else : (place : ℕ → ℕ) (c to d : ℕ) → d ≢ c → moved place c to d ≡ place d
 unfolding moved
 moved-else place c to d n = ap (λ b. cond b to (place d)) (ne_eqb d c n)

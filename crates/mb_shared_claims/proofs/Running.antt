@@ -2,11 +2,11 @@
 use Rattle.std.proofs.Common.{◌≡◌, ◌<◌, ◌≤◌, ◌+◌, ℕ, zero, suc, List, ◌∷◌, length, refl, sym, ap, ◌∙◌, subst, arith}
 use Rattle.rand_core.specs.Stream.{Stream, next_u64}
 use Rattle.mb_deciding.specs.Vocabulary.{reg_of}
-use Rattle.mb_claim.specs.Vocabulary.{HasWord, claims_in, claim_stage, consumer_of, IsClaimIn, IsClaimLawful, IsNextOp, part, part_on}
+use Rattle.mb_claim.specs.Vocabulary.{IsWordInLayout, claims_in, claim_stage, consumer_of, IsClaimIn, IsClaimLawful, IsNextOp, part, part_on}
 use Rattle.mb_claim.specs.Vocabulary.{AreClaimSteps, DrawsAndMakesNext, most_accesses}
 use Rattle.mb_shared_claims.specs.Types.{Claim, ClaimAccess, ClaimOp, Going, Layout, ObjectTurn, Op}
 use Rattle.mb_shared_claims.specs.ViewSteps.{ComesAfter}
-use Rattle.mb_shared_claims.specs.Seats.{SeatView, TableView, claims_at, name_of}
+use Rattle.mb_shared_claims.specs.Seats.{SeatView, TableView, name_of}
 use Rattle.mb_shared_claims.specs.SeatSteps.{IsSeatStep, MayComeNext, access_of, with_access}
 use Rattle.mb_shared_claims.specs.ManySeatSteps.{AreSeatSteps}
 use Rattle.mb_shared_claims.proofs.ClaimMoves.{CutParts, FindsTold, KeepsMemory, OwnCell, may_come, seat_step, stands_on}
@@ -18,25 +18,31 @@ pub record Frame (N P : Type 0) : Type 0 where
   pub seat : N
   pub rng : P
 
+-- the frame of a table, a cell, a seat and a source
 frame : {N P : Type 0} → TableView → ℕ → N → P → Frame N P
 frame t k n p = record { table = t; cell = k; seat = n; rng = p }
 
 module _ {N P : Type 0} {a b : Frame N P} where
+  -- frames with the same parts are one
   pub same_frame : a.table ≡ b.table → a.cell ≡ b.cell → a.seat ≡ b.seat → a.rng ≡ b.rng → a ≡ b
   unfolding frame
   same_frame e f g h =
       ap (λ x. frame x a.cell a.seat a.rng) e ∙ ap (λ x. frame b.table x a.seat a.rng) f
       ∙ ap (λ x. frame b.table b.cell x a.rng) g ∙ ap (λ x. frame b.table b.cell b.seat x) h
 
+  -- one frame has one table
   pub same_table : a ≡ b → a.table ≡ b.table
   same_table e = ap (λ (k : Frame N P). k.table) e
 
+  -- one frame has one cell
   pub same_cell : a ≡ b → a.cell ≡ b.cell
   same_cell e = ap (λ (k : Frame N P). k.cell) e
 
+  -- one frame has one seat
   pub same_seat : a ≡ b → a.seat ≡ b.seat
   same_seat e = ap (λ (k : Frame N P). k.seat) e
 
+  -- one frame has one source
   pub same_rng : a ≡ b → a.rng ≡ b.rng
   same_rng e = ap (λ (k : Frame N P). k.rng) e
 
@@ -49,13 +55,14 @@ IsMade t cell next seen word seat now =
 -- the next access may be made from the seat
 abbrev pub CanMake : TableView → ℕ → ClaimOp → SeatView → Type 0
 CanMake t cell next seat =
-    (seat.table ≡ name_of t) × (cell < t.cells) × HasWord t.layout next.object (reg_of next.op)
+    (seat.table ≡ name_of t) × (cell < t.cells) × IsWordInLayout t.layout next.object (reg_of next.op)
     × MayComeNext (claims_in t.layout t.cells) seat.consumer cell seat.part next
 
+-- the word of a claim's next access is one of its layout
 abbrev pub HasNextWord : Type 0
 HasNextWord =
     (layout : Layout) (claim : Claim) (next : ClaimOp) (xs : List ObjectTurn) → IsClaimIn layout claim xs
-    → claim_stage claim ≡ Going → IsNextOp layout claim next → HasWord layout next.object (reg_of next.op)
+    → claim_stage claim ≡ Going → IsNextOp layout claim next → IsWordInLayout layout next.object (reg_of next.op)
 
 module _ (t : TableView) (cell : ℕ) {M : Type 0} {K : Type 0} (seat : M → SeatView) (stream : M → Stream) (word : M → ℕ)
     (kept : M → K) (draws : M → ℕ → M → Type 0) (makes : M → ℕ → Op → ℕ → M → Type 0) where
@@ -75,7 +82,7 @@ module _ (t : TableView) (cell : ℕ) {M : Type 0} {K : Type 0} (seat : M → Se
       (own_cell : OwnCell) (finds : FindsTold)
       (low : cell < t.cells) (named : (seat start).table ≡ name_of t) (own : consumer_of claim ≡ (seat start).consumer)
       (stands : IsClaimIn t.layout claim (part_on (seat start).consumer cell (seat start).part)) where
-    -- where so many accesses led
+    -- what so many accesses led to: steps of the seat, and a claim that has made its consumer's part
     pub record Arrived (n : ℕ) (at : Claim) (now : M) : Type 0 where
       pub steps : AreSeatSteps t.layout cell claim (seat start) (stream start) n at (seat now) (stream now)
       pub keeps : kept now ≡ kept start
@@ -85,6 +92,7 @@ module _ (t : TableView) (cell : ℕ) {M : Type 0} {K : Type 0} (seat : M → Se
       pub count : length (part_on (seat now).consumer cell (seat now).part)
           ≡ n + length (part_on (seat start).consumer cell (seat start).part)
 
+    -- accesses of a claim are steps of the seat
     pub arrives :
         (n : ℕ) (at : Claim) (now : M) → AreClaimSteps t.layout (DrawsAndMakesNext draws makes) claim start n at now
         → Arrived n at now
@@ -149,7 +157,7 @@ module _ (t : TableView) (cell : ℕ) {M : Type 0} {K : Type 0} (seat : M → Se
           d.3 ∙ p.keeps,
         )
 
-    -- there are no more than a claim's layout allows
+    -- there are no more steps than a claim's layout allows
     pub few_steps :
         ((h : List ClaimAccess) (c k : ℕ) → IsClaimLawful (claims_in t.layout t.cells) h
         → length (part_on c k h) ≤ most_accesses t.layout)
@@ -174,19 +182,22 @@ module _ (t : TableView) (cell : ℕ) {M : Type 0} {K : Type 0} (seat : M → Se
         ap (λ xs. length (part_on c cell xs)) is.1.2 in
         omega (arith, all, one, mine, whole, p.count)
 
-    -- the same, of a chain over a layout that is the table's
+    -- steps over a layout that equals the table's are steps over the table's
     module _ (l : Layout) (same : l ≡ t.layout) where
+      -- accesses over the equal layout are accesses over the table's
       chain :
           (n : ℕ) (at : Claim) (now : M) → AreClaimSteps l (DrawsAndMakesNext draws makes) claim start n at now
           → AreClaimSteps t.layout (DrawsAndMakesNext draws makes) claim start n at now
       chain n at now steps = subst (λ x. AreClaimSteps x (DrawsAndMakesNext draws makes) claim start
           n at now) same steps
 
+      -- so they are steps of the seat
       pub arrives_in :
           (n : ℕ) (at : Claim) (now : M) → AreClaimSteps l (DrawsAndMakesNext draws makes) claim start n at now
           → Arrived n at now
       arrives_in n at now steps = arrives n at now (chain n at now steps)
 
+      -- the claim's next access may be made from the seat there
       pub may_go_on_in :
           KeepsMemory → HasNextWord → (n w : ℕ) (at : Claim) (before mid : M) (next : ClaimOp)
           → AreClaimSteps l (DrawsAndMakesNext draws makes) claim start n at before → claim_stage at ≡ Going
@@ -195,6 +206,7 @@ module _ (t : TableView) (cell : ℕ) {M : Type 0} {K : Type 0} (seat : M → Se
           may_go_on keeps has n w at before mid next (chain n at before steps) going draw
           (subst (λ x. IsNextOp x at next) same is)
 
+      -- there are no more than the table's layout allows
       pub few_steps_in :
           ((h : List ClaimAccess) (c k : ℕ) → IsClaimLawful (claims_in t.layout t.cells) h
           → length (part_on c k h) ≤ most_accesses t.layout)

@@ -6,7 +6,7 @@ use Rattle.mb_claim.specs.Vocabulary.{part, words_in, consumer_count, IsMemoryOf
 use Rattle.mb_shared_claims.specs.Types.{ClaimAccess, TableSize, View, Handing, Drawing, Standing, Taking, Spent}
 use Rattle.mb_shared_claims.specs.Views.{claims_of_size, Roll, IsOut, IsViewAt, HasPartAt}
 
--- where the word lies that counts the numbers drawn: after the words of the cells
+-- the address of the roster, the word that counts the numbers drawn: after the words of the cells
 abbrev pub roster : TableSize → ℕ
 roster size = words_in (claims_of_size size)
 
@@ -43,7 +43,7 @@ pub record IsStateOf (k : TableSize) (words : List ℕ) (views : List View) (pla
   pub wide : length words ≡ roster k + 1
   -- there are at most as many numbers as consumers
   pub few : slice_index words (roster k) ≤ consumer_count k.layout
-  -- and each number given was drawn
+  -- each number given was drawn
   pub drawn : plan.given ≤ slice_index words (roster k)
   -- each number given has its part of the history at its seat
   pub stands : (c : ℕ) → c < plan.given → HasPartAt views (plan.place c) c (part c plan.history)
@@ -53,9 +53,9 @@ pub record IsStateOf (k : TableSize) (words : List ℕ) (views : List View) (pla
       → (c < plan.given) × (plan.place c ≡ seat) × (xs ≡ part c plan.history)
   -- nobody else has done anything
   pub others : (c : ℕ) → plan.given ≤ c → part c plan.history ≡ []
-  -- and each view fits the table
+  -- each view fits the table
   pub fits : (seat : ℕ) (v : View) → IsViewAt views seat v → FitsTable k plan (slice_index words (roster k)) seat v
 
--- some plan explains them
+-- some plan explains the words and the views
 abbrev pub IsClaimsState : TableSize → List ℕ → List View → Type 0
 IsClaimsState k words views = (plan : Plan) × IsStateOf k words views plan

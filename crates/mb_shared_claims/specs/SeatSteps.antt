@@ -29,7 +29,7 @@ pub record IsSeatStep
   pub adds : now ≡ with_access (access_of seat.consumer cell next seen word) seat
   -- it came after a lawful history of all claims, in which the seat's consumer had done its part and nothing else
   pub comes : ComesAfter (claims_at seat.table) (access_of seat.consumer cell next seen word) seat.part
-  -- and the claim is the one after it, whatever led to the claim before
+  -- the claim that follows is the one after that access, whatever led to the claim before
   pub path :
       (xs : List ObjectTurn) → IsClaimIn layout claim xs
       → IsClaimIn layout follows (step_of next.object next.op seen word ∷ xs)

@@ -8,7 +8,7 @@ use Rattle.mb_shared_claims.specs.ViewSteps.{Seated, roll_of, part_of}
 use Rattle.mb_shared_claims.specs.Rule.{roster}
 
 -- ---- what callers see
--- which table it is, the objects of each cell, and how many cells there are
+-- a table: which it is, the objects of each cell, and how many cells there are
 pub record TableView : Type 0 where
   pub id : TableId
   pub layout : Layout

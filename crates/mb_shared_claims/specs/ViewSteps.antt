@@ -22,7 +22,7 @@ abbrev pub part_of : View → List ClaimAccess
 part_of (Standing size own done) = done
 part_of _ = []
 
--- ---- a claim's access
+-- ---- an access of a consumer's seat
 -- a consumer's seat with one access more
 abbrev pub with_one_more : ClaimAccess → View → View
 with_one_more a (Standing size own done) = Standing size own (a ∷ done)
@@ -33,7 +33,7 @@ abbrev pub ComesAfter : Claims → ClaimAccess → List ClaimAccess → Type 0
 ComesAfter cs a done =
     (h : List ClaimAccess) × IsClaimLawful cs (a ∷ h) × (part a.consumer h ≡ done)
 
--- it came after a lawful history with the part of the view
+-- the access came after a lawful history with the part of the view
 abbrev pub ComesAfterView : ClaimAccess → View → Type 0
 ComesAfterView a (Standing size own done) = ComesAfter (claims_of_size size) a done
 ComesAfterView a v = Unit {0}
@@ -42,18 +42,18 @@ ComesAfterView a v = Unit {0}
 abbrev pub makes : ClaimAccess → Seated → Seated → Type 0
 makes a me now = (now ≡ (with_one_more a me.0, me.1)) × ComesAfterView a me.0
 
--- ---- enrolling
--- the hub has drawn the next number
+-- ---- how a seat is given out
+-- the view of the hub after it has drawn the next number
 abbrev pub drawn : View → View
 drawn (Handing size roll) = Drawing size roll
 drawn v = v
 
--- and gives it out: its place in the roll is empty
+-- the view of the hub after it has given that number out: its place in the roll is empty
 abbrev pub given_out : View → View
 given_out (Drawing size roll) = Handing size (roll ++ None ∷ [])
 given_out v = v
 
--- to a seat whose consumer has done nothing
+-- the view of the seat to which it was given, whose consumer has done nothing
 abbrev pub newcomer : View → View
 newcomer (Drawing size roll) = Standing size (length roll) []
 newcomer v = Spent
@@ -62,13 +62,13 @@ newcomer v = Spent
 abbrev pub draws : ℕ → Seated → Seated → Type 0
 draws found me now = (found ≡ length (roll_of me.0)) × (now ≡ (drawn me.0, me.1))
 
--- ---- taking a seat in
--- the part of the seat is beside the roll
+-- ---- how a seat is taken in
+-- the view of the hub after a seat was joined to it: the seat's part is beside the roll
 abbrev pub took_in : View → View → View
 took_in (Handing size roll) (Standing other own done) = Taking size roll own done
 took_in v w = v
 
--- and then in its place in the roll
+-- the view of the hub after that part was put in its place in the roll
 abbrev pub settled : View → View
 settled (Taking size roll own done) = Handing size (slice_set roll own (Some done))
 settled v = v

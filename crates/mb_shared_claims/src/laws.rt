@@ -6,7 +6,7 @@
 ghost use Rattle.std.specs.Prelude.{ℕ, suc, ◌≡◌, ◌≢◌, ◌+◌, ◌<◌, ◌≤◌, Some, None, List, [], ◌∷◌, ◌++◌, length};
 ghost use Rattle.std.specs.Prelude.{replicate, slice_index, slice_set};
 ghost use Rattle.mb_deciding.specs.Vocabulary.{IsInWords, reg_of};
-ghost use Rattle.mb_claim.specs.Vocabulary.{part, consumer_count, HasWord, IsMemoryOf, access_in, words_after};
+ghost use Rattle.mb_claim.specs.Vocabulary.{part, consumer_count, IsWordInLayout, IsMemoryOf, access_in, words_after};
 ghost use Rattle.mb_shared_claims.specs.{ClaimAccess, ClaimOp, TableSize, View, Handing, Drawing, Standing, Taking, Spent};
 ghost use Rattle.mb_shared_claims.specs.{claims_of_size, Roll, IsViewAt, HasPartAt, roster, IsClaimsState, MayComeNext};
 
@@ -52,7 +52,7 @@ pub fn steps_keep_states()
         (next : ClaimOp) → let cs = claims_of_size k in
         let a = access_in cs own cell next.object next.op word words in
         IsClaimsState k words views → IsViewAt views id (Standing size own done)
-        → cell < k.cells → HasWord k.layout next.object (reg_of next.op)
+        → cell < k.cells → IsWordInLayout k.layout next.object (reg_of next.op)
         → MayComeNext cs own cell done next → IsInWords a.step.turn
         → IsClaimsState k (words_after cs cell next.object next.op words)
         (slice_set views id (Standing size own (a ∷ done))) }

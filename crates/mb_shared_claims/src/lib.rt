@@ -31,4 +31,5 @@ pub mod view;
 
 pub use hub::{AllGiven, ClaimHub};
 pub use seat::ClaimSeat;
-pub use table::{NoMemory, SharedClaims};
+pub use std::alloc::AllocError as NoMemory;
+pub use table::SharedClaims;

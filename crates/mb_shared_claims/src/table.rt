@@ -10,11 +10,8 @@ use atomic_table::Table;
 use mb_claim::Layout;
 use mb_claim::laws::layouts_are_sound;
 use mb_claim::steps::{addresses_are_apart, histories_begin_with_zeros, other_words_are_free};
-use std::alloc::{AllocError, Allocator};
+use std::alloc::{AllocError as NoMemory, Allocator};
 use std::marker::Model;
-
-/// Why there is no table: memory ran out.
-pub type NoMemory = AllocError;
 
 /// The words of the claims on some cells, which threads share, and the roster after them. As many threads as there are
 /// seats may use it at once, each by a `&`.

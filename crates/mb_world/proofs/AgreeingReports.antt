@@ -134,7 +134,7 @@ won_agrees = agrees_on_lane to_nobody (5 ∷ []) (5 ∷ []) won_diaries (record 
   left = refl;
 })
 
--- ---- both are undecided
+-- ---- both consumers are undecided
 abbrev undecided_diaries : List DiaryView
 undecided_diaries = diary_of 0 (Undecided ∷ []) false ∷ diary_of 1 (Undecided ∷ []) false ∷ []
 
@@ -173,7 +173,7 @@ undecided_agrees = agrees_on_lane to_nobody (5 ∷ []) (5 ∷ []) undecided_diar
   left = refl;
 })
 
--- ---- nobody came
+-- ---- nobody came for the items
 pub untouched_agrees : AgreesWith to_nobody nobody_came
 untouched_agrees = agrees_on_lane to_nobody (10 ∷ 11 ∷ []) (10 ∷ 11 ∷ []) (diary_of 0 [] false ∷ []) (record {
   elsewhere = λ p j. refl;

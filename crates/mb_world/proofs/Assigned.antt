@@ -1,4 +1,4 @@
--- The assignment that stands behind a report whose notes are right.
+-- The assignment with which a report agrees if its notes are right.
 use Rattle.std.proofs.Common.{◌≡◌, ◌≢◌, ◌⊎◌, ℕ, ◌<◌, ◌≤◌, Bool, true, false, not, length, Option, Some, None, refl, sym, ◌∙◌, ap, inl, inr}
 use Rattle.std.specs.Prelude.{slice_get, nat_eq}
 use Rattle.std.specs.Option.{is_none}
@@ -18,7 +18,7 @@ winner_named c (Took x) = Some c
 winner_named c (Lost w) = Some w
 winner_named c Undecided = None
 
--- what the notes of a report of n consumers must keep so that an assignment stands behind it
+-- what the notes of a report of n consumers must keep so that an assignment agrees with it
 pub record AreNotesRight (n : ℕ) (r : ReportView) : Type 0 where
   pub value : (c p j x : ℕ) → note c p j r ≡ Some (Took x) → slice_get (items_put p r) j ≡ Some x
   pub within : (c p : ℕ) → length (notes c p r) ≤ length (items_put p r)

@@ -7,12 +7,13 @@ use Rattle.mb_claim.specs.declared.claim.Claim.{Claim}
 use Rattle.mb_claim.specs.History.{part_on}
 use Rattle.mb_claim.specs.OneClaim.{IsClaimIn, IsClaimOn, claim_access, claim_stage, consumer_of}
 use Rattle.mb_claim.specs.States.{IsMemoryOf}
+use Rattle.mb_cells.specs.declared.cursor.Cursor.TheVariants.{Past}
 use Rattle.mb_world.specs.declared.event.Answer.TheVariants as answer
 use Rattle.mb_world.specs.declared.event.Event.TheVariants as event
 use Rattle.mb_world.specs.declared.report.Note.{Note}
 use Rattle.mb_world.specs.declared.report.Note.TheVariants.{Lost, Undecided}
-use Rattle.mb_world.specs.declared.seat.Seat.{Seat}
-use Rattle.mb_world.specs.declared.seat.Seat.TheVariants as seat
+use Rattle.mb_world.specs.declared.place.Place.{Place}
+use Rattle.mb_world.specs.declared.place.Place.TheVariants.{At, Before}
 use Rattle.mb_world.specs.Imports.{ClaimAccess, IsClaimPrefix, ObjectTurn, Stage, claim_part}
 use Rattle.mb_world.specs.Plan.{consumers_of}
 use Rattle.mb_world.specs.Setups.{layout_of}
@@ -20,30 +21,35 @@ use Rattle.mb_world.specs.World.{WorldAccess, WorldHistory, claim_accesses, lane
 use Rattle.mb_world.specs.ConsumerPath.{ConsumerPath, claim_step, ends, goes, note_of}
 use Rattle.mb_world.specs.ConsumerPath as path
 use Rattle.mb_world.specs.Worlds.{ConsumerAdds, IsTrueTo}
-use Rattle.mb_world.specs.WorldState.{IsSeatAt, IsWorldAfter, WorldState}
-use Rattle.mb_world.specs.EventSteps.{EventAdds, seat_by, with_note_if, with_seat}
+use Rattle.mb_world.specs.WorldState.{IsPlaceAt, IsWorldAfter, WorldState}
+use Rattle.mb_world.specs.Places.{place_after}
+use Rattle.mb_world.specs.EventSteps.{EventAdds, with_note_if, with_place}
 use Rattle.mb_world.proofs.Claimed.{part-own}
 use Rattle.mb_world.proofs.HeldStates.{AtCell, at_cell, below, part_is, prefix, unread}
 use Rattle.mb_world.proofs.StateEnds.{Ends, going_open, lost_end, step_keeps, undecided_end, won_open}
-use Rattle.mb_world.proofs.StateSteps.{AreNotes, notes_count, notes_kept, notes_set, own_seat, plan, seats_count, seats_set, state_after}
+use Rattle.mb_world.proofs.StateSteps.{AreNotes, notes_count, notes_kept, notes_set, own_place, plan, places_count, places_set, state_after}
 use Rattle.mb_world.proofs.StepKnown.{StepKnown}
 
 module _ (s : WorldState) (h : WorldHistory) (is : IsWorldAfter h s) (c p : ℕ) (cs : c < consumers_of (plan s h is))
     (ps : p < (plan s h is).lanes) (known : StepKnown s h c p) (k : ℕ) (claim : Claim)
-    (here : slice_get s.seats (c * (plan s h is).lanes + p) ≡ Some (seat.AtCell k claim))
+    (here : slice_get s.places (c * (plan s h is).lanes + p) ≡ Some (At k claim))
     (going : claim_stage claim ≡ stage.Going) (words : List ℕ) (now : Claim) (x : ObjectTurn)
     (keeps : consumer_of now ≡ consumer_of claim)
     (made : IsClaimOn (layout_of s.setup) (plan s h is).claims.cells k now words
     (claim_access claim k x ∷ claim_accesses h)) where
+  -- what the place of a consumer that holds this claim says
   abbrev at : AtCell s h is c p cs ps known k claim here
   at = at_cell s h is c p cs ps known k claim here
 
+  -- the access, as one of the world
   abbrev a : WorldAccess
   a = claim_step c k x
 
+  -- the access, as one to the claims
   abbrev step : ClaimAccess
   step = path.claim_access c k x
 
+  -- the words are those that the longer history of the claims leaves
   memory : IsMemoryOf (plan s h is).claims words (claim_accesses (a ∷ h))
   memory =
       subst (λ (i : ℕ). IsMemoryOf (plan s h is).claims words (path.claim_access i k x ∷ claim_accesses h)) at.own
@@ -55,39 +61,45 @@ module _ (s : WorldState) (h : WorldHistory) (is : IsWorldAfter h s) (c p : ℕ)
       part-own c k step (claim_accesses h) refl refl
       ∙ ap (λ xs. x ∷ xs) (part_is s h is c p cs ps known k claim here)
 
+  -- the claim is still the consumer's
   own_now : consumer_of now ≡ c
   own_now = keeps ∙ at.own
 
+  -- the claim has made the consumer's steps, with this one
   is_in : IsClaimIn (layout_of s.setup) now (x ∷ at.steps)
   is_in =
       subst (λ (xs : List ObjectTurn). IsClaimIn (layout_of s.setup) now xs)
       (ap (λ (i : ℕ). part_on i k (claim_access claim k x ∷ claim_accesses h)) own_now
       ∙ (ap (λ (i : ℕ). part_on c k (path.claim_access i k x ∷ claim_accesses h)) at.own ∙ part_now)) made.standing
 
+  -- with this step, the consumer's steps are a prefix of its claim path
   prefix_now : (r : Stage) → claim_stage now ≡ r → IsClaimPrefix (plan s h is).claims c (x ∷ at.steps) r
   prefix_now r e =
       subst (λ (z : Stage). IsClaimPrefix (plan s h is).claims c (x ∷ at.steps) z) e
       (subst (λ (i : ℕ). IsClaimPrefix (plan s h is).claims i (x ∷ at.steps) (claim_stage now)) own_now is_in.prefix)
 
+  -- the access is true to memory, and of words
   truth : IsTrueTo a h
   truth = (memory.lawful.words.0, memory.lawful.memory.0)
 
-  -- its stage by its part, before the step and after it
+  -- by the consumer's part, the claim goes on before the step
   was_going : IsClaimPrefix (plan s h is).claims c (claim_part c k (claim_accesses h)) stage.Going
   was_going =
       subst (λ xs. IsClaimPrefix (plan s h is).claims c xs stage.Going)
       (sym (part_is s h is c p cs ps known k claim here)) (prefix s h is c p cs ps known k claim here stage.Going going)
 
+  -- by that part, its stage after the step is that of the claim as it is now
   is_now : (r : Stage) → claim_stage now ≡ r
       → IsClaimPrefix (plan s h is).claims c (claim_part c k (claim_accesses (a ∷ h))) r
   is_now r e = subst (λ xs. IsClaimPrefix (plan s h is).claims c xs r) (sym part_now) (prefix_now r e)
 
+  -- the consumer's part on the cell has one stage
   one_stage : (g : WorldHistory) (z r : Stage)
       → IsClaimPrefix (plan s h is).claims c (claim_part c k (claim_accesses g)) z
       → IsClaimPrefix (plan s h is).claims c (claim_part c k (claim_accesses g)) r → z ≡ r
   one_stage g z r = known.world.stage c (claim_part c k (claim_accesses g)) z r
 
-  -- where it has no end then, no claim's end changes
+  -- if the claim has not ended after the step, every claim's end is as before
   ends_stay : ((n : Note) → Ends (plan s h is).claims (a ∷ h) c k n → ⊥) → (e j : ℕ) (n : Note)
       → Ends (plan s h is).claims h e j n ↔ Ends (plan s h is).claims (a ∷ h) e j n
   ends_stay still e j n = by (cases_eq e c) (cases_eq j k)
@@ -106,14 +118,16 @@ module _ (s : WorldState) (h : WorldHistory) (is : IsWorldAfter h s) (c p : ℕ)
       by (inr m) g = step_keeps (plan s h is).claims c h k x e j n (λ f _. m f)
       by (inl f) (inr m) = step_keeps (plan s h is).claims c h k x e j n (λ _ g. m g)
 
-  -- the state, where the path goes on and the notes are these
+  -- the state after the step, if the path goes on to these cells, notes and claim
   module _ (r : Stage) (stage_is : claim_stage now ≡ r) (word : ℕ) (random : x.turn.word ≡ word)
-      (ks : List ℕ) (ns : List Note) (held : Option (List ObjectTurn)) (d : Seat)
+      (ks : List ℕ) (ns : List Note) (held : Option (List ObjectTurn)) (d : Place)
       (next : ConsumerPath (plan s h is).claims c p (a ∷ lane_part c p h) ks ns held)
-      (seated : IsSeatAt (layout_of s.setup) c ks held d) where
+      (placed : IsPlaceAt (layout_of s.setup) c p ks held d) where
+    -- what the access adds to the history
     pub adds : ConsumerAdds (plan s h is) c p a h
     adds = known.goes a ks ns held truth next
 
+    -- the event adds the state with the consumer's place and these notes
     claim_adds : (notes : List (Option Note)) → length notes ≡ consumers_of (plan s h is) * (plan s h is).claims.cells
         → AreNotes s h is (a ∷ h) notes
         → EventAdds (event.Step c p word) (answer.Claimed k x.object x.turn.act r)
@@ -121,7 +135,7 @@ module _ (s : WorldState) (h : WorldHistory) (is : IsWorldAfter h s) (c p : ℕ)
           setup = s.setup;
           pool = s.pool;
           words = words;
-          seats = slice_set s.seats (c * (plan s h is).lanes + p) d;
+          places = slice_set s.places (c * (plan s h is).lanes + p) d;
           notes = notes;
         }) h
     claim_adds notes count are_notes = record {
@@ -136,44 +150,47 @@ module _ (s : WorldState) (h : WorldHistory) (is : IsWorldAfter h s) (c p : ℕ)
         ),
         adds.lawful,
       );
-      left = state_after s h is c p cs ps a adds words (slice_set s.seats (c * (plan s h is).lanes + p) d) notes
-          is.pool memory (seats_count s h is c p cs ps a adds d)
-          (seats_set s h is c p cs ps a adds d (own_seat s h is c p cs ps a adds ks ns held d next seated)) count
+      left = state_after s h is c p cs ps a adds words (slice_set s.places (c * (plan s h is).lanes + p) d) notes
+          is.pool memory (places_count s h is c p cs ps a adds d)
+          (places_set s h is c p cs ps a adds d (own_place s h is c p cs ps a adds ks ns held d next placed)) count
           are_notes;
     }
 
+    -- if the claim has not ended, the notes stay as they are
     pub keeps_notes : ((n : Note) → Ends (plan s h is).claims (a ∷ h) c k n → ⊥)
         → EventAdds (event.Step c p word) (answer.Claimed k x.object x.turn.act r)
-        (with_seat c p d (record s { words = words })) h
+        (with_place c p d (record s { words = words })) h
     keeps_notes still = claim_adds s.notes is.notes_count (notes_kept s h is c p cs ps a adds (ends_stay still))
 
+    -- if the claim has ended with a note, that is the one note which is written
     pub sets_note : (n : Note) → Ends (plan s h is).claims (a ∷ h) c k n
         → ((m : Note) → Ends (plan s h is).claims (a ∷ h) c k m → n ≡ m)
         → EventAdds (event.Step c p word) (answer.Claimed k x.object x.turn.act r)
-        (with_note_if c k (Some n) (with_seat c p d (record s { words = words }))) h
+        (with_note_if c k (Some n) (with_place c p d (record s { words = words }))) h
     sets_note n end only =
         claim_adds (slice_set s.notes (c * (plan s h is).claims.cells + k) (Some n))
         (notes_count s h is c p cs ps a adds k (below s h is c p cs ps known k claim here) n)
         (notes_set s h is c p cs ps a adds k (below s h is c p cs ps known k claim here) n end only
         (λ e j m other. step_keeps (plan s h is).claims c h k x e j m other))
 
+  -- the state after the step, by the stage of the claim
   pub competed : (r : Stage) → claim_stage now ≡ r → (word : ℕ) → x.turn.word ≡ word
       → EventAdds (event.Step c p word) (answer.Claimed k x.object x.turn.act r)
-      (with_note_if c k (note_of r) (with_seat c p (seat_by k now r) (record s { words = words }))) h
+      (with_note_if c k (note_of r) (with_place c p (place_after k now r) (record s { words = words }))) h
   competed stage.Going e word random =
-      keeps_notes stage.Going e word random (k ∷ at.cells) at.notes (Some (x ∷ at.steps)) (seat.AtCell k now)
+      keeps_notes stage.Going e word random (k ∷ at.cells) at.notes (Some (x ∷ at.steps)) (At k now)
       (goes stage.Going (prefix_now stage.Going e) refl at.path) (refl, own_now, is_in)
       (λ n. going_open (plan s h is).claims c k (a ∷ h) (one_stage (a ∷ h)) n (is_now stage.Going e))
   competed stage.Won e word random =
-      keeps_notes stage.Won e word random (k ∷ at.cells) at.notes (Some (x ∷ at.steps)) (seat.AtCell k now)
+      keeps_notes stage.Won e word random (k ∷ at.cells) at.notes (Some (x ∷ at.steps)) (At k now)
       (goes stage.Won (prefix_now stage.Won e) refl at.path) (refl, own_now, is_in)
       (λ n. won_open (plan s h is).claims c k (a ∷ h) (one_stage (a ∷ h)) n (is_now stage.Won e)
       (unread s h is c p cs ps known k claim here))
   competed (stage.Lost w) e word random =
-      sets_note (stage.Lost w) e word random (k ∷ at.cells) (Lost w ∷ at.notes) None (seat.PastCell k)
+      sets_note (stage.Lost w) e word random (k ∷ at.cells) (Lost w ∷ at.notes) None (Before (Past k))
       (ends (stage.Lost w) (prefix_now (stage.Lost w) e) refl at.path) refl (Lost w) (is_now (stage.Lost w) e)
       (λ n. lost_end (plan s h is).claims c k (a ∷ h) (one_stage (a ∷ h)) w n (is_now (stage.Lost w) e))
   competed stage.Undecided e word random =
-      sets_note stage.Undecided e word random (k ∷ at.cells) (Undecided ∷ at.notes) None (seat.PastCell k)
+      sets_note stage.Undecided e word random (k ∷ at.cells) (Undecided ∷ at.notes) None (Before (Past k))
       (ends stage.Undecided (prefix_now stage.Undecided e) refl at.path) refl Undecided (is_now stage.Undecided e)
       (λ n. undecided_end (plan s h is).claims c k (a ∷ h) (one_stage (a ∷ h)) n (is_now stage.Undecided e))

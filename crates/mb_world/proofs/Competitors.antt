@@ -13,21 +13,24 @@ use Rattle.mb_world.specs.Fitting.{EndsAs, parts_of}
 use Rattle.mb_world.specs.Reporting.{IsDiaryOf, IsReportOf}
 use Rattle.mb_world.proofs.Diaries.{met_at, note_at, open_last, placed}
 use Rattle.mb_world.proofs.Known.{Known}
-use Rattle.mb_world.proofs.Places.{StandsAt, at_one, at_reverse, has_at}
+use Rattle.mb_world.proofs.Positions.{StandsAt, at_one, at_reverse, has_at}
 use Rattle.mb_world.proofs.Recorded.{competed_in}
-use Rattle.mb_world.proofs.ReportPlaces.{begun_is, notes_is}
+use Rattle.mb_world.proofs.ReportPositions.{begun_is, notes_is}
 use Rattle.mb_world.proofs.Diaries as diaries
 
 module _ (plan : Plan) (hs : Histories) (known : Known plan hs)
     (fresh : (c : ℕ) → c < consumers_of plan → IsClaimPrefix plan.claims c [] stage.Going)
     (r : ReportView) (is : IsReportOf plan hs r) (c p j k : ℕ) (cs : c < consumers_of plan) (ps : p < plan.lanes)
     (here : slice_get (reverse (linked_cells p hs.pool)) j ≡ Some k) where
+  -- the diary of consumer c on lane p, in the report
   abbrev d : DiaryView
   d = (is.diary c p cs ps).0
 
+  -- it is the diary of the histories
   diary : IsDiaryOf plan c p hs d
   diary = (is.diary c p cs ps).2
 
+  -- cell k stands at position j of the lane
   on_lane : StandsAt (linked_cells p hs.pool) j k
   on_lane = at_reverse (linked_cells p hs.pool) j k here
 
@@ -42,10 +45,11 @@ module _ (plan : Plan) (hs : Histories) (known : Known plan hs)
   end_made i (Lost w) e = not_fresh i (stage.Lost w) e (λ f. cc)
   end_made i Undecided e = not_fresh i stage.Undecided e (λ f. cc)
 
-  -- the cell at the place of a note is that of the item
+  -- the cell at the position of a note is that of the item
   cell_at : (i : ℕ) → StandsAt diary.cells j i → i ≡ k
   cell_at i at = at_one (linked_cells p hs.pool) j i k (placed plan hs known c p cs d diary j i at) on_lane
 
+  -- who competed by its diary has an access to the claim on cell k
   has_access : (j < length d.notes) ⊎ ((length d.notes ≡ j) × (d.begun ≡ true)) → claim_part c k hs.claims ≢ []
   has_access (inl before) =
       let n = get_or d.notes j Undecided in
@@ -58,6 +62,7 @@ module _ (plan : Plan) (hs : Histories) (known : Known plan hs)
       let there : StandsAt diary.cells j q.0 = subst (λ i. StandsAt diary.cells i q.0) (sym last.0 ∙ next.0) at.1 in
       subst (λ i. claim_part c i hs.claims ≢ []) (cell_at q.0 there) q.2
 
+  -- who competed by its diary has an access there, and the other way round
   pub competes : HasCompeted c p j r ↔ (claim_part c k hs.claims ≢ [])
   competes = (
     λ h. has_access (by h),

@@ -12,14 +12,15 @@ use Rattle.mb_world.specs.Worlds.{IsWorldLawful}
 use Rattle.mb_world.specs.Replay.{HasRandom, IsAccessOf, IsRefused}
 use Rattle.mb_world.proofs.ConsumerSteps.{linked_same, one_lane_of}
 use Rattle.mb_world.proofs.EventKnown.{EventKnown}
-use Rattle.mb_world.proofs.LastAccess.{place}
+use Rattle.mb_world.proofs.LastAccess.{path_end}
 use Rattle.mb_world.proofs.OnePlace.{AreAlike, one_more}
 
 module _ (plan : Plan) (h : WorldHistory) (known : EventKnown plan h) (c p word : ℕ) where
+  -- the access is one for which the step asks
   abbrev IsStep : WorldAccess → Type 0
   IsStep a = IsAccessOf (event.Step c p word) a h
 
-  -- such an access is of a consumer and a lane that there are
+  -- an access for which a step asks is of a consumer and a lane that there are
   record IsInside (a : WorldAccess) : Type 0 where
     pub consumer : c < consumers_of plan
     pub lane : p < plan.lanes
@@ -31,11 +32,13 @@ module _ (plan : Plan) (h : WorldHistory) (known : EventKnown plan h) (c p word 
       let same = one_lane_of (pool_accesses h) known.one_lane c c there.lane p a on made.1 in
       record { consumer = there.known; lane = subst (λ (q : ℕ). q < plan.lanes) same there.below }
 
+  -- a step that is refused has no access
   pub step_never_both : (r : Answer) (a : WorldAccess) → IsRefused plan (event.Step c p word) r h → IsStep a
       → IsWorldLawful plan (a ∷ h) → ⊥
   step_never_both r a (inl (past, _)) made lawful = let i = inside a made lawful in omega (arith, past, i.lane)
   step_never_both r a (inr (_, past, _)) made lawful = let i = inside a made lawful in omega (arith, past, i.consumer)
 
+  -- a step has one refusal
   pub step_refused_once : (r s : Answer) → IsRefused plan (event.Step c p word) r h
       → IsRefused plan (event.Step c p word) s h
       → r ≡ s
@@ -44,6 +47,7 @@ module _ (plan : Plan) (h : WorldHistory) (known : EventKnown plan h) (c p word 
   step_refused_once r s (inr (ps, _, _)) (inl (past, _)) = absurd (omega (arith, past, ps))
   step_refused_once r s (inr (_, _, e)) (inr (_, _, f)) = e ∙ sym f
 
+  -- the access comes in front of the consumer's part on the lane
   own_front : (a : WorldAccess) → IsStep a → lane_part c p (a ∷ h) ≡ a ∷ lane_part c p h
   own_front a made =
       ap (λ (ls : List ℕ). filter (is_on c p ls) (a ∷ h)) (linked_same c p a h made.0)
@@ -51,18 +55,22 @@ module _ (plan : Plan) (h : WorldHistory) (known : EventKnown plan h) (c p word 
 
   module _ (a b : WorldAccess) (made_a : IsStep a) (la : IsWorldLawful plan (a ∷ h)) (made_b : IsStep b)
       (lb : IsWorldLawful plan (b ∷ h)) where
+    -- a load found what its word held
     loaded : (x : WorldAccess) → IsWorldLawful plan (x ∷ h) → (w : Word) (v : ℕ) → x ≡ ToCells (load c w v)
         → v ≡ value_in w (pool_accesses h)
     loaded x lawful w v e = (subst (λ z. IsWorldLawful plan (z ∷ h)) e lawful).cells_memory.0
 
+    -- with a step of a claim the history of the claims is lawful
     claimed : (x : WorldAccess) → IsWorldLawful plan (x ∷ h) → (k : ℕ) (t : ObjectTurn) → x ≡ claim_step c k t
         → IsClaimLawful plan.claims (claim_access c k t ∷ claim_accesses h)
     claimed x lawful k t e =
         subst (λ z. IsClaimLawful plan.claims (claim_accesses (z ∷ h))) e (known.claims x lawful)
 
+    -- a step of a claim has the event's random word
     random : (x : WorldAccess) → HasRandom word x → (k : ℕ) (t : ObjectTurn) → x ≡ claim_step c k t → t.turn.word ≡ word
     random x with_word k t e = subst (λ z. HasRandom word z) e with_word
 
+    -- two accesses for which the step asks are alike
     alike : AreAlike plan.claims c p a b
     alike = record {
       loads = λ w v u e f. loaded a la w v e ∙ sym (loaded b lb w u f);
@@ -73,13 +81,14 @@ module _ (plan : Plan) (h : WorldHistory) (known : EventKnown plan h) (c p word 
           (random a made_a.2 k x e ∙ sym (random b made_b.2 k y f)));
     }
 
+    -- so they are one
     pub one_step_access : a ≡ b
     one_step_access =
         let i = inside a made_a la in
         let x = la.consumers c p i.consumer i.lane in
         let y = lb.consumers c p i.consumer i.lane in
         one_more plan.claims c p (known.one_stage c) (known.going c) (lane_part c p h) a b
-        (place x.cells x.notes x.held) (place y.cells y.notes y.held) alike
+        (path_end x.cells x.notes x.held) (path_end y.cells y.notes y.held) alike
         (subst (λ (l : WorldHistory). ConsumerPath plan.claims c p l x.cells x.notes x.held)
         (own_front a made_a) x.path)
         (subst (λ (l : WorldHistory). ConsumerPath plan.claims c p l y.cells y.notes y.held)

@@ -17,6 +17,7 @@ use Rattle.mb_world.proofs.ReaderParts.{reader_is}
 use Rattle.mb_world.proofs.WorldFollows.{past_lane}
 
 -- ---- the next access of a consumer's path is its own, on that lane
+-- it is made by the consumer
 next_by : (cs : Claims) (c p : ℕ) (a : WorldAccess) (older : WorldHistory) (ks : List ℕ) (ns : List Note)
     (held : Option (List ObjectTurn))
     → ConsumerPath cs c p (a ∷ older) ks ns held → IsBy c a
@@ -26,6 +27,7 @@ next_by cs c p a older ks ns held (goes z q still s) = refl
 next_by cs c p a older ks ns held (ends z q note s) = refl
 next_by cs c p a older ks ns held (takes q s) = refl
 
+-- it is on the lane
 next_on : (cs : Claims) (c p : ℕ) (a : WorldAccess) (older : WorldHistory) (ks : List ℕ) (ns : List Note)
     (held : Option (List ObjectTurn)) (ls : List ℕ)
     → ((js : List ℕ) (ms : List Note) (g : Option (List ObjectTurn)) → ConsumerPath cs c p older js ms g → (k : ℕ)
@@ -42,6 +44,7 @@ next_on cs c p a older ks ns held ls on (ends {ks = js} {ns = ms} {k = k} {xs = 
 next_on cs c p a older ks ns held ls on (takes {ks = js} {ns = ms} {k = k} {xs = xs} q s) =
     rw (eq-eqb c c refl, has_cell-true ls k (on (k ∷ js) ms (Some xs) s k (inl refl))) refl
 
+-- ---- an access has one maker and one lane
 -- one lane of an access
 pub one_lane_of : (h : History) (one : (p q k : ℕ) → Has (linked_cells p h) k → Has (linked_cells q h) k → p ≡ q)
     (c d p q : ℕ) (a : WorldAccess)
@@ -69,10 +72,12 @@ one_maker c d p ls (ToCells a) own on =
     let f : Reader d ≡ Reader c = sym e ∙ own in
     cc
 
+-- the same, if both made the access
 same_maker : (c d : ℕ) (a : WorldAccess) → IsBy c a → IsBy d a → c ≡ d
 same_maker c d (ToClaims a) x y = sym x ∙ y
 same_maker c d (ToCells a) x y = let f : Reader c ≡ Reader d = sym x ∙ y in cc
 
+-- ---- what producers did stays
 -- a consumer links nothing
 pub linked_same : (c q : ℕ) (a : WorldAccess) (h : WorldHistory) → IsBy c a
     → linked_cells q (pool_accesses (a ∷ h)) ≡ linked_cells q (pool_accesses h)
@@ -81,6 +86,7 @@ linked_same c q (ToCells a) h own =
     ap (λ (w : Process). cond (is_same_process (Producer q) w)
     (push_if (link_of a.word a.act) (linked_cells q (pool_accesses h))) (linked_cells q (pool_accesses h))) own
 
+-- a consumer's access is in no producer's part
 made_same : (c q : ℕ) (a : WorldAccess) (h : WorldHistory) → IsBy c a
     → part (Producer q) (pool_accesses (a ∷ h)) ≡ part (Producer q) (pool_accesses h)
 made_same c q (ToClaims a) h own = refl
@@ -96,17 +102,21 @@ module _ (plan : Plan) (h : WorldHistory) (lawful : IsWorldLawful plan h)
     (c p : ℕ) (cs : c < consumers_of plan) (ps : p < plan.lanes) (a : WorldAccess) (may : IsTrueTo a h)
     (ks : List ℕ) (ns : List Note) (held : Option (List ObjectTurn))
     (next : ConsumerPath plan.claims c p (a ∷ lane_part c p h) ks ns held) where
+  -- the access is the consumer's
   pub own : IsBy c a
   own = next_by plan.claims c p a (lane_part c p h) ks ns held next
 
+  -- the access is on the lane
   pub on : is_on c p (linked_cells p (pool_accesses h)) a ≡ true
   on = next_on plan.claims c p a (lane_part c p h) ks ns held (linked_cells p (pool_accesses h)) (start c p) next
 
+  -- the consumer's part on the lane has the access more
   pub own_part : lane_part c p (a ∷ h) ≡ a ∷ lane_part c p h
   own_part =
       ap (λ (ls : List ℕ). filter (is_on c p ls) (a ∷ h)) (linked_same c p a h own)
       ∙ ap (λ (b : Bool). cond b (a ∷ lane_part c p h) (lane_part c p h)) on
 
+  -- all other parts of consumers stay
   pub other_parts : (d q : ℕ) → ((d ≡ c) → (q ≡ p) → ⊥) → lane_part d q (a ∷ h) ≡ lane_part d q h
   other_parts d q other =
       ap (λ (ls : List ℕ). filter (is_on d q ls) (a ∷ h)) (linked_same c q a h own)
@@ -120,6 +130,7 @@ module _ (plan : Plan) (h : WorldHistory) (lawful : IsWorldLawful plan h)
           (one_lane_of (pool_accesses h) one d c q p a e on))
       by (inr e) = ap (λ (b : Bool). cond b (a ∷ lane_part d q h) (lane_part d q h)) e
 
+  -- each part of a consumer is on a path still
   paths : (d q : ℕ) → d < consumers_of plan → q < plan.lanes → IsOnPath plan d q (a ∷ h)
   paths d q ds qs = by (cases_eq d c) (cases_eq q p)
     where
@@ -146,6 +157,7 @@ module _ (plan : Plan) (h : WorldHistory) (lawful : IsWorldLawful plan h)
       by (inr n) f = same (λ e _. n e)
       by (inl e) (inr n) = same (λ _ f. n f)
 
+  -- no access of a consumer is outside its parts
   on_lanes : (d : ℕ) (x : WorldAccess) → Has (a ∷ h) x → IsBy d x → IsOnLane plan d x (a ∷ h)
   on_lanes d x (inl e) by_d =
       let same : c ≡ d = same_maker c d x (subst (IsBy c) e own) by_d in
@@ -166,22 +178,27 @@ module _ (plan : Plan) (h : WorldHistory) (lawful : IsWorldLawful plan h)
         on = subst (λ (ls : List ℕ). is_on d y.lane ls x ≡ true) (sym (linked_same c y.lane a h own)) y.on;
       }
 
+  -- the accesses to the cells are in range
   fits_cells : (b : WorldAccess) → IsBy c b → IsTrueTo b h → AllFit plan.lanes (pool_accesses (b ∷ h))
   fits_cells (ToCells b) by_c true_to = (true_to.0, subst (ProcessFits plan.lanes) (sym by_c) tt, lawful.cells_fit)
   fits_cells (ToClaims b) by_c true_to = lawful.cells_fit
 
+  -- the accesses to the claims are of words
   fits_claims : (b : WorldAccess) → IsTrueTo b h → claim.AreInWords (claim_accesses (b ∷ h))
   fits_claims (ToCells b) true_to = lawful.claims_fit
   fits_claims (ToClaims b) true_to = (true_to.0, lawful.claims_fit)
 
+  -- the accesses to the cells are true to memory
   tells_cells : (b : WorldAccess) → IsTrueTo b h → memory.IsMemoryTrue (pool_accesses (b ∷ h))
   tells_cells (ToCells b) true_to = (true_to.1, lawful.cells_memory)
   tells_cells (ToClaims b) true_to = lawful.cells_memory
 
+  -- the accesses to the claims are true to memory
   tells_claims : (b : WorldAccess) → IsTrueTo b h → claim.IsMemoryTrue (claim_accesses (b ∷ h))
   tells_claims (ToCells b) true_to = lawful.claims_memory
   tells_claims (ToClaims b) true_to = (true_to.1, lawful.claims_memory)
 
+  -- the longer history is lawful
   pub goes_on : IsWorldLawful plan (a ∷ h)
   goes_on = record {
     sized = lawful.sized;

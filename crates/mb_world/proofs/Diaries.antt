@@ -14,7 +14,7 @@ use Rattle.mb_world.specs.Report.{DiaryView}
 use Rattle.mb_world.specs.Fitting.{EndsAs, Fits, HasStageIn, HasRead, parts_of}
 use Rattle.mb_world.specs.Reporting.{IsDiaryOf, values_put}
 use Rattle.mb_world.proofs.Known.{Known}
-use Rattle.mb_world.proofs.Places.{StandsAt, at_has, at_once, at_one, at_reverse, at_some, at_start, at_within, has_at, mapped_at, reverse_at}
+use Rattle.mb_world.proofs.Positions.{StandsAt, at_has, at_once, at_one, at_reverse, at_some, at_start, at_within, has_at, mapped_at, reverse_at}
 use Rattle.mb_world.proofs.Loads.{met_link, read_or_not}
 use Rattle.mb_world.proofs.ReaderParts.{loaded-read, read-loaded}
 
@@ -25,7 +25,7 @@ values_length p pool =
     length-map (put_list p pool) (λ (e : Entry). e.value)
     ∙ (length-reverse (map (entry_of items) (linked_cells p pool)) ∙ length-map (linked_cells p pool) (entry_of items))
 
--- and each stands in the place of its cell
+-- each value stands at the position of its cell
 value_at : (p j k : ℕ) (pool : History) → StandsAt (linked_cells p pool) j k
     → slice_get (values_put p pool) j ≡ Some (item_of k pool)
 value_at p j k pool at =
@@ -33,12 +33,15 @@ value_at p j k pool at =
     ∙ ap (option_map (λ (e : Entry). e.value)) (mapped_at (entry_of (λ i. item_of i pool)) (linked_cells p pool) j k at)
 
 module _ (plan : Plan) (hs : Histories) (known : Known plan hs) where
+  -- the claim of consumer c on cell k has ended so
   abbrev Ends : ℕ → ℕ → Note → Type 0
   Ends c k n = EndsAs plan.claims c k n (parts_of c hs)
 
+  -- the claim of consumer c on cell k has this stage
   abbrev Comes : ℕ → ℕ → Stage → Type 0
   Comes c k s = HasStageIn plan.claims c k s (parts_of c hs)
 
+  -- a claim has one stage
   one_stage : (c k : ℕ) (s r : Stage) → Comes c k s → Comes c k r → s ≡ r
   one_stage c k s r = known.stage c (claim_part c k hs.claims) s r
 
@@ -48,7 +51,7 @@ module _ (plan : Plan) (hs : Histories) (known : Known plan hs) where
   going_on c k going (Lost w) end = let e = one_stage c k stage.Going (stage.Lost w) going end in cc
   going_on c k going Undecided end = let e = one_stage c k stage.Going stage.Undecided going end in cc
 
-  -- nor has one that is won before the item is loaded
+  -- a claim that is won has no end before the item is loaded
   not_taken : (c k : ℕ) → Comes c k stage.Won → ((v : ℕ) → HasRead (Item k) v (parts_of c hs).reads → ⊥)
       → (n : Note) → Ends c k n → ⊥
   not_taken c k won never (Took v) end = never v end.1
@@ -68,7 +71,7 @@ module _ (plan : Plan) (hs : Histories) (known : Known plan hs) where
       by_stage (stage.Lost w) q = inl (Lost w, q)
       by_stage stage.Undecided q = inl (Undecided, q)
 
-  -- past a cell its claim has ended
+  -- a consumer that loaded a cell's link has ended its claim there
   ended_past : (c k v : ℕ) → c < consumers_of plan → HasLoaded (hs.reader_of c) (Link k) v hs.pool
       → (n : Note) × Ends c k n
   ended_past c k v cs loaded = by_stage (fit.ended k v read).0 (fit.ended k v read).1 (fit.ended k v read).2
@@ -86,13 +89,13 @@ module _ (plan : Plan) (hs : Histories) (known : Known plan hs) where
       by_stage stage.Undecided q over = (Undecided, q)
 
   module _ (c p : ℕ) (cs : c < consumers_of plan) (d : DiaryView) (diary : IsDiaryOf plan c p hs d) where
-    -- a cell met stands at its place in the lane
+    -- a cell met stands at its position in the lane
     pub placed : (j k : ℕ) → StandsAt diary.cells j k → StandsAt (linked_cells p hs.pool) j k
     placed j k at =
         let s = known.start (hs.reader_of c) p diary.cells diary.met.met in
         subst (λ (ls : List ℕ). StandsAt ls j k) s.1 (at_start s.0 diary.cells j k at)
 
-    -- and a cell of the lane that was given, at its place among those met
+    -- and a cell of the lane that was given, at its position among those met
     pub met_at : (j k : ℕ) → StandsAt (linked_cells p hs.pool) j k → Gave k (part (Reader (hs.reader_of c)) hs.pool)
         → StandsAt diary.cells j k
     met_at j k at gave =

@@ -36,7 +36,7 @@ pub record EventKnown (plan : Plan) (h : WorldHistory) : Type 0 where
       → IsClaimLawful plan.claims (b ∷ claim_accesses h) → a.consumer ≡ b.consumer → a.cell ≡ b.cell
       → a.step.turn.word ≡ b.step.turn.word → a ≡ b
 
--- by these laws
+-- these laws give it for each lawful history
 module _ (plan : Plan)
     (sound : (h : WorldHistory) → IsWorldLawful plan h → AreSound plan (histories_of h))
     (lane : (cells p : ℕ) (done : History) → IsLanePrefix cells p done → (lane : Lane) × IsLaneAfter cells p lane done)

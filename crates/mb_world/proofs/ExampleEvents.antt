@@ -1,4 +1,4 @@
--- Places of producer 0 in the small world of the examples, where its lane refuses an event.
+-- Places of producer 0 in the small world of the examples at which its lane refuses an event.
 use Rattle.std.proofs.Common.{false, [], ◌∷◌, None, Some, refl, arith}
 use Rattle.mb_cells.specs.declared.lane.Lane.{Lane}
 use Rattle.mb_cells.specs.declared.lane.LaneStage.TheVariants as stage
@@ -6,6 +6,7 @@ use Rattle.mb_cells.specs.Place.{Ended, Offered, Open}
 use Rattle.mb_world.specs.Replay.{IsLaneOf}
 use Rattle.mb_world.specs.WorldExamples.{all_done, five, offered, one_put, two_by_two}
 
+-- it has a cell, and the item is not stored
 abbrev pub busy : Lane
 busy = record { last = None; stage = stage.Offered 0 5 }
 
@@ -18,6 +19,7 @@ busy_there = record {
   stage = refl;
 }
 
+-- it has linked one cell, and has nothing to store
 abbrev pub idle : Lane
 idle = record { last = Some 0; stage = stage.Open }
 
@@ -30,6 +32,7 @@ idle_there = record {
   stage = refl;
 }
 
+-- it has ended its lane
 abbrev pub closed : Lane
 closed = record { last = Some 0; stage = stage.Ended false }
 

@@ -1,4 +1,4 @@
--- The report of the small world of the examples, and what is none.
+-- The report of the small world of the examples, and diaries and reports that are not its own.
 use Rattle.std.proofs.Common.{◌≡◌, ◌+◌, ◌*◌, ◌<◌, ℕ, zero, suc, true, false, List, [], ◌∷◌, Option, Some, None, refl, sym, ap, subst, inl, inr, arith}
 use Rattle.std.specs.Prelude.{slice_get}
 use Rattle.mb_claim.specs.declared.access.Stage.TheVariants as stage
@@ -11,19 +11,20 @@ use Rattle.mb_world.specs.Reporting.{IsDiaryOf, IsReportOf, lane_view}
 use Rattle.mb_world.specs.PathExamples.{first_step, two_cells}
 use Rattle.mb_world.specs.WorldExamples.{IsNoDiary, IsNoReport, all_histories, all_reported, claim_left_out, diary_with, item_left_out, loss_left_out}
 use Rattle.mb_world.specs.WorldExamples.{loss_taken, lost_steps, nothing_told, report_with, two_by_two, unwon_taken}
-use Rattle.mb_world.proofs.Places.{has_at, reverse_at}
+use Rattle.mb_world.proofs.Positions.{has_at, reverse_at}
 
--- ---- the report
+-- ---- the report of the small world
 lanes_told : (p : ℕ) → p < 2 → slice_get all_reported.lanes p ≡ Some (lane_view two_by_two p all_histories all_reported)
 lanes_told zero ps = refl
 lanes_told (suc zero) ps = refl
 lanes_told (suc (suc p)) ps = absurd (omega (arith, ps))
 
--- the diary of consumer c on lane p stands in its place
+-- the diary of consumer c on lane p stands at its position
 abbrev IsTold : ℕ → ℕ → Type 0
 IsTold c p =
     (d : DiaryView) × (slice_get all_reported.diaries (c * 2 + p) ≡ Some d) × IsDiaryOf two_by_two c p all_histories d
 
+-- the diary of consumer 1 on lane 1: a claim is begun
 abbrev begun_there : DiaryView
 begun_there = record { consumer = 1; lane = 1; notes = []; begun = true }
 
@@ -42,7 +43,7 @@ module _ (took : IsDiaryOf two_by_two 0 0 all_histories (diary_with 0 0 (Took 5 
   pub all_told : IsReportOf two_by_two all_histories all_reported
   all_told = record { lanes_count = refl; diaries_count = refl; lane = lanes_told; diary = told }
 
--- ---- what is none
+-- ---- diaries that are not its own
 -- what consumer 1 has loaded
 abbrev reads : History
 reads = part (Reader 1) all_histories.pool
@@ -54,7 +55,7 @@ given_first = inr (inr (inl (refl, λ e. cc)))
 given_second : Gave 1 reads
 given_second = inr (inl (refl, λ e. cc))
 
--- and has loaded no item
+-- consumer 1 has loaded no item
 no_item : (k v : ℕ) → HasRead (Item k) v reads → ⊥
 no_item k v (a, inl e, w, _) = let f : Link 0 ≡ Item k = subst (λ (b : PoolAccess). b.word ≡ Item k) (sym e) w in cc
 no_item k v (a, inr (inl e), w, _) =
@@ -63,7 +64,7 @@ no_item k v (a, inr (inr (inl e)), w, _) =
     let f : Head 0 ≡ Item k = subst (λ (b : PoolAccess). b.word ≡ Item k) (sym e) w in cc
 no_item k v (a, inr (inr (inr none)), w, _) = none
 
--- so it has not taken any
+-- so a diary in which it has taken one is not its own
 not_taken : (p x : ℕ) → IsNoDiary 1 p (diary_with 1 p (Took x ∷ []))
 not_taken p x d = let n = d.notes 0 (Took x) refl in no_item n.0 x n.2.1
 
@@ -99,7 +100,8 @@ no_rest one_stage goes d =
     d.begun.1 (1, d.met.all 1 given_second (inl refl), (λ none. cc), λ n end. no_end one_stage goes n end) in
     cc
 
--- ---- reports
+-- ---- reports that are not its own
+-- the items left on a lane, if there is such a lane
 abbrev left_of : Option LaneView → List ℕ
 left_of None = []
 left_of (Some l) = l.left
@@ -110,6 +112,7 @@ not_empty x xs e = cc
 pub no_item_left_out : IsNoReport item_left_out
 no_item_left_out r = not_empty 6 [] (ap left_of (r.lane 1 (omega arith)))
 
+-- a diary of a list, or else this one
 abbrev diary_or : DiaryView → Option DiaryView → DiaryView
 diary_or other None = other
 diary_or other (Some d) = d

@@ -17,10 +17,11 @@ use Rattle.mb_world.specs.ConsumerPath.{ConsumerPath, begins, claim_step, ends, 
 use Rattle.mb_world.specs.PathExamples.{first_step, two_cells, won_last, won_steps}
 use Rattle.mb_world.specs.WorldExamples.{all_done, both_put, first_found, first_lost, first_taken, first_won, five, lost_steps, offered, one_put, second_begun, second_met, six, stores, two_by_two}
 
--- the steps of consumer 1 where both are undecided, and the last of them
+-- the steps of consumer 1 in the history that leaves both undecided
 abbrev pub undecided_steps : List ObjectTurn
 undecided_steps = claim_part 1 0 both_undecided
 
+-- the last of these steps
 abbrev undecided_last : ObjectTurn
 undecided_last = record { object = 1; turn = record { act = act.Load (Quorum 0) 1; word = 0 } }
 
@@ -29,7 +30,7 @@ abbrev pub AreTrueTo : ℕ → ℕ → List ObjectTurn → WorldHistory → Type
 AreTrueTo c k [] h = Unit {0}
 AreTrueTo c k (x ∷ xs) h = IsTrueTo (claim_step c k x) (map (claim_step c k) xs ++ h) × AreTrueTo c k xs h
 
--- what the laws give
+-- what the laws of worlds, lanes and claims give for the small world
 pub record Laws : Type 0 where
   pub empty : IsWorldLawful two_by_two []
   pub consumer : (h : WorldHistory) (c p : ℕ) (a : WorldAccess) (ks : List ℕ) (ns : List Note)
@@ -47,7 +48,7 @@ pub record Laws : Type 0 where
   pub undecided : IsClaimPrefix two_cells 1 undecided_steps stage.Undecided
 
 module _ (laws : Laws) where
-  -- after so many steps of a claim
+  -- the steps of a claim that has no note lead on, one after another
   pub record Claiming (c p k : ℕ) (ks : List ℕ) (ns : List Note) (xs : List ObjectTurn)
       (h : WorldHistory) : Type 0 where
     pub lawful : IsWorldLawful two_by_two (map (claim_step c k) xs ++ h)
@@ -92,7 +93,7 @@ module _ (laws : Laws) where
       first_of (take 5 (drop 1 undecided_steps)) first_step
       (laws.going 1 undecided_last (drop 1 undecided_steps) stage.Undecided laws.undecided)
 
-  -- ---- the items are put
+  -- ---- both items are put
   pub taken_lawful : IsWorldLawful two_by_two (ToCells (fetch 0 five) ∷ [])
   taken_lawful =
       let at : LaneIsAt 2 0 [] (Offered five) (fetch 0 five ∷ []) = record {
@@ -154,7 +155,7 @@ module _ (laws : Laws) where
       laws.producer (stores 1 (Item 1) 6 ∷ ToCells (fetch 1 six) ∷ one_put) 1 (store 1 (Head 1) 2) stored_too refl
       (omega arith) (omega arith) tt (laws.prefix 1 (six ∷ []) Open second_group at)
 
-  -- ---- consumer 0 wins and takes the first
+  -- ---- consumer 0 wins and takes the item 5
   found_path : ConsumerPath two_cells 0 0 (lane_part 0 0 first_found) (0 ∷ []) [] (Some [])
   found_path = finds (λ e. cc) first_fresh waited_path
 
@@ -196,29 +197,31 @@ module _ (laws : Laws) where
       (laws.consumer first_won 0 0 (item_load 0 0 5) (0 ∷ []) (Took 5 ∷ []) None
       first_won_lawful (omega arith) (omega arith) (omega arith, refl) first_path).lawful
 
-  -- ---- consumer 1 loses it
-  abbrev came : WorldHistory
-  came = link_load 1 0 [] 1 ∷ first_taken
+  -- ---- consumer 1 loses the item 5
+  -- consumer 1 has met the item 5, which consumer 0 has taken
+  abbrev first_met : WorldHistory
+  first_met = link_load 1 0 [] 1 ∷ first_taken
 
-  came_path : ConsumerPath two_cells 1 0 (lane_part 1 0 came) (0 ∷ []) [] (Some [])
-  came_path = finds (λ e. cc) second_fresh begins
+  first_met_path : ConsumerPath two_cells 1 0 (lane_part 1 0 first_met) (0 ∷ []) [] (Some [])
+  first_met_path = finds (λ e. cc) second_fresh begins
 
-  came_lawful : IsWorldLawful two_by_two came
-  came_lawful =
+  first_met_lawful : IsWorldLawful two_by_two first_met
+  first_met_lawful =
       (laws.consumer first_taken 1 0 (link_load 1 0 [] 1) (0 ∷ []) [] (Some []) first_taken_lawful (omega arith)
-      (omega arith) (omega arith, refl) came_path).lawful
+      (omega arith) (omega arith, refl) first_met_path).lawful
 
   abbrev almost : List ObjectTurn
   almost = drop 1 lost_steps
 
-  almost_true : AreTrueTo 1 0 almost came
+  almost_true : AreTrueTo 1 0 almost first_met
   almost_true =
       let loads : ((1 < 2 ^ 64) × Unit {0}) × (0 < 2 ^ 64) = ((omega arith, tt), omega arith) in
       let stores : (Unit {0} × (1 < 2 ^ 64)) × (0 < 2 ^ 64) = ((tt, omega arith), omega arith) in
       ((loads, refl), ((stores, tt), ((loads, refl), tt)))
 
-  almost_lost : Claiming 1 0 0 [] [] almost came
-  almost_lost = claims_on 1 0 0 (omega arith) (omega arith) [] [] came came_lawful came_path almost stage.Going
+  almost_lost : Claiming 1 0 0 [] [] almost first_met
+  almost_lost =
+      claims_on 1 0 0 (omega arith) (omega arith) [] [] first_met first_met_lawful first_met_path almost stage.Going
       (laws.going 1 won_last almost (stage.Lost 0) laws.lost) refl almost_true
 
   lost_path : ConsumerPath two_cells 1 0 (lane_part 1 0 first_lost) (0 ∷ []) (Lost 0 ∷ []) None
@@ -226,10 +229,10 @@ module _ (laws : Laws) where
 
   pub first_lost_lawful : IsWorldLawful two_by_two first_lost
   first_lost_lawful =
-      (laws.consumer (map (claim_step 1 0) almost ++ came) 1 0 (claim_step 1 0 won_last) (0 ∷ []) (Lost 0 ∷ []) None
-      almost_lost.lawful (omega arith) (omega arith) (((omega arith, tt), omega arith), refl) lost_path).lawful
+      (laws.consumer (map (claim_step 1 0) almost ++ first_met) 1 0 (claim_step 1 0 won_last) (0 ∷ []) (Lost 0 ∷ [])
+      None almost_lost.lawful (omega arith) (omega arith) (((omega arith, tt), omega arith), refl) lost_path).lawful
 
-  -- ---- and begins a claim on the other item
+  -- ---- consumer 1 begins a claim on the item 6
   met_path : ConsumerPath two_cells 1 1 (lane_part 1 1 second_met) (1 ∷ []) [] (Some [])
   met_path = finds (λ e. cc) second_fresh begins
 

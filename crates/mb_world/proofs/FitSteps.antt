@@ -1,4 +1,4 @@
--- The two parts of a consumer fit on with one more access.
+-- The two parts of a consumer still fit after one more access.
 use Rattle.std.proofs.Common.{◌≡◌, ◌≢◌, ℕ, cond, List, [], ◌∷◌, refl, sym, ◌∙◌, ap, subst, inl, inr}
 use Rattle.std.proofs.lemmas.Bool.{cases_eq, ne_eqb}
 use Rattle.mb_claim.specs.declared.access.Stage.TheVariants as stage
@@ -7,7 +7,7 @@ use Rattle.mb_world.specs.Fitting.{Fits, HasRead, HasStageIn, Parts, cells_met}
 use Rattle.mb_world.specs.PartSteps.{HasNotLeft, IsDoneWith, MayLookPast, no_parts, with_load, with_step}
 use Rattle.mb_world.proofs.Tracks.{past_item, read-cases, read-more}
 
--- nothing fits
+-- the parts of a consumer that has done nothing fit
 pub fits_empty : (cs : Claims) (c : ℕ) → Fits cs c no_parts
 fits_empty cs c = record {
   follows = tt;
@@ -25,22 +25,25 @@ module _ (cs : Claims) (c : ℕ) (x : Parts) (f : Fits cs c x) where
     λ v r. let e = f.ended k v r in e.2 (goes e.0 e.1),
   )
 
-  -- ---- a load of a link
+  -- ---- the parts fit after a load of a link
   module _ (q p v : ℕ) (may : MayLookPast cs c (cells_met p x.reads) x) where
+    -- the load of the link past the cells met
     abbrev a : PoolAccess
     a = load q (place_past p (cells_met p x.reads)) v
 
-    -- it is done with a cell past which it looks
+    -- the consumer is done with a cell past which it looks
     done_with : (k : ℕ) (ks : List ℕ) → MayLookPast cs c ks x → place_past p ks ≡ Link k → IsDoneWith cs c k x
     done_with k [] m e = absurd (cc)
     done_with k (j ∷ ks) m e = let same : j ≡ k = cc in subst (λ i. IsDoneWith cs c i x) same m
 
+    -- the claims past which the consumer looked have ended
     ended : (k u : ℕ) → HasRead (Link k) u (a ∷ x.reads) → (s : Stage) × HasStageIn cs c k s x × (s ≢ stage.Going)
     ended k u r = elim (read-cases a x.reads (Link k) u r) [
       | inl e ↦ (done_with k (cells_met p x.reads) may e).ended
       | inr old ↦ f.ended k u old
     ]
 
+    -- and if one of these is won, its item was loaded
     taken : (k u : ℕ) → HasRead (Link k) u (a ∷ x.reads) → HasStageIn cs c k stage.Won x
         → (y : ℕ) × HasRead (Item k) y (a ∷ x.reads)
     taken k u r won =
@@ -50,6 +53,7 @@ module _ (cs : Claims) (c : ℕ) (x : Parts) (f : Fits cs c x) where
         ] in
         (item.0, read-more a x.reads (Item k) item.0 item.1)
 
+    -- the parts fit with that load
     pub fits_past : Fits cs c (with_load a x)
     fits_past = record {
       follows = ((λ _. (p, refl)), f.follows);
@@ -62,11 +66,13 @@ module _ (cs : Claims) (c : ℕ) (x : Parts) (f : Fits cs c x) where
       ];
     }
 
-  -- ---- a load of an item
+  -- ---- the parts fit after a load of an item
   module _ (q k v : ℕ) (here : HasStageIn cs c k stage.Won x) where
+    -- the load of the item
     abbrev b : PoolAccess
     b = load q (Item k) v
 
+    -- the parts fit with that load
     pub fits_taken : Fits cs c (with_load b x)
     fits_taken = record {
       follows = ((λ link. absurd link), f.follows);
@@ -82,26 +88,33 @@ module _ (cs : Claims) (c : ℕ) (x : Parts) (f : Fits cs c x) where
       ];
     }
 
-  -- ---- a step of a claim
+  -- ---- the parts fit after a step of a claim
   module _ (k : ℕ) (t : ObjectTurn) (gave : Gave k x.reads) (here : HasNotLeft k x) where
+    -- the parts with the step
     abbrev now : Parts
     now = with_step k t x
 
+    -- the claims on other cells stay
     other_cell : (j : ℕ) → (j ≡ k → ⊥) → now.claimed j ≡ x.claimed j
     other_cell j ne = ap (λ b. cond b (t ∷ x.claimed j) (x.claimed j)) (ne_eqb j k ne)
 
+    -- the link of the cell was not loaded
     not_here : (j u : ℕ) → HasRead (Link j) u x.reads → j ≡ k → ⊥
     not_here j u r e = here.1 u (subst (λ i. HasRead (Link i) u x.reads) e r)
 
+    -- the item of the cell was not loaded
     not_taken : (j u : ℕ) → HasRead (Item j) u x.reads → j ≡ k → ⊥
     not_taken j u r e = here.0 u (subst (λ i. HasRead (Item i) u x.reads) e r)
 
+    -- the stages of claims on other cells stay
     there : (j : ℕ) (r : Stage) → (j ≡ k → ⊥) → HasStageIn cs c j r x → HasStageIn cs c j r now
     there j r ne q = subst (λ xs. IsClaimPrefix cs c xs r) (sym (other_cell j ne)) q
 
+    -- those stages are no others than before
     back : (j : ℕ) (r : Stage) → (j ≡ k → ⊥) → HasStageIn cs c j r now → HasStageIn cs c j r x
     back j r ne q = subst (λ xs. IsClaimPrefix cs c xs r) (other_cell j ne) q
 
+    -- the parts fit with the step
     pub fits_stepped : Fits cs c now
     fits_stepped = record {
       follows = f.follows;

@@ -15,6 +15,7 @@ goes_from : (t : QuorumTable) (kinds : List Kind) (c : ℕ) → kinds ≢ [] →
 goes_from t [] c some opens = absurd (some refl)
 goes_from t (kind ∷ kinds) c some opens = inl (record { turns = []; all = refl; going = opens kind; is = refl })
 
+-- a claim of a consumer on a cell with objects goes on before its first access
 pub fresh_goes : (cs : Claims) → IsQuorumTable cs.table → ((o : Object) → IsQuorumTable o.table → IsDeciding o)
     → cs.kinds ≢ []
     → (c : ℕ) → c < cs.table.values → IsClaimPrefix cs c [] stage.Going

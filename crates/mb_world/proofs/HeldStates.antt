@@ -6,17 +6,17 @@ use Rattle.mb_claim.specs.declared.claim.Claim.{Claim}
 use Rattle.mb_claim.specs.OneClaim.{IsClaimIn, IsClaimOn, claim_stage, consumer_of}
 use Rattle.mb_claim.specs.History.{part_on}
 use Rattle.mb_world.specs.declared.report.Note.{Note}
-use Rattle.mb_world.specs.declared.seat.Seat.TheVariants as seat
+use Rattle.mb_world.specs.declared.place.Place.TheVariants.{At}
 use Rattle.mb_world.specs.Imports.{IsClaimPrefix, IsOnceEach, Item, ObjectTurn, Stage, Word, claim_part, has_cell, is_of_lane, linked_cells}
 use Rattle.mb_world.specs.Plan.{consumers_of}
 use Rattle.mb_world.specs.Setups.{layout_of}
 use Rattle.mb_world.specs.World.{WorldHistory, claim_accesses, lane_part, pool_accesses}
 use Rattle.mb_world.specs.ConsumerPath.{ConsumerPath, finds, goes, note_of}
 use Rattle.mb_world.specs.Worlds.{IsOnPath}
-use Rattle.mb_world.specs.WorldState.{IsSeatAt, IsWorldAfter, WorldState}
+use Rattle.mb_world.specs.WorldState.{IsPlaceAt, IsWorldAfter, WorldState}
 use Rattle.mb_world.proofs.Cells.{has_cell-true}
 use Rattle.mb_world.proofs.StateEnds.{HasItem}
-use Rattle.mb_world.proofs.StateSteps.{plan, seat_here}
+use Rattle.mb_world.proofs.StateSteps.{plan, place_here}
 use Rattle.mb_world.proofs.StepKnown.{StepKnown}
 use Rattle.mb_world.proofs.WorldClaims.{met_once, on_lane, tracks}
 use Rattle.mb_world.proofs.WorldDiaries.{held_is}
@@ -24,8 +24,8 @@ use Rattle.mb_world.proofs.WorldPool.{read_there}
 
 module _ (s : WorldState) (h : WorldHistory) (is : IsWorldAfter h s) (c p : ℕ) (cs : c < consumers_of (plan s h is))
     (ps : p < (plan s h is).lanes) (known : StepKnown s h c p) (k : ℕ) (claim : Claim)
-    (here : slice_get s.seats (c * (plan s h is).lanes + p) ≡ Some (seat.AtCell k claim)) where
-  -- such a seat holds a claim
+    (here : slice_get s.places (c * (plan s h is).lanes + p) ≡ Some (At k claim)) where
+  -- a consumer there holds a claim
   pub record AtCell : Type 0 where
     pub cells : List ℕ
     pub notes : List Note
@@ -34,9 +34,10 @@ module _ (s : WorldState) (h : WorldHistory) (is : IsWorldAfter h s) (c p : ℕ)
     pub own : consumer_of claim ≡ c
     pub is_in : IsClaimIn (layout_of s.setup) claim steps
 
+  -- what the seat says, by the consumer's path
   cell_at : (ks : List ℕ) (ns : List Note) (held : Option (List ObjectTurn))
       → ConsumerPath (plan s h is).claims c p (lane_part c p h) ks ns held
-      → IsSeatAt (layout_of s.setup) c ks held (seat.AtCell k claim) → AtCell
+      → IsPlaceAt (layout_of s.setup) c p ks held (At k claim) → AtCell
   cell_at [] ns None path on = absurd on
   cell_at [] ns (Some xs) path on = absurd on
   cell_at (j ∷ ks) ns None path on = absurd on
@@ -50,10 +51,12 @@ module _ (s : WorldState) (h : WorldHistory) (is : IsWorldAfter h s) (c p : ℕ)
     is_in = on.2;
   }
 
+  -- what the seat of this consumer says
   pub at_cell : AtCell
   at_cell =
-      let y = seat_here s h is c p (seat.AtCell k claim) cs ps here in cell_at y.cells y.notes y.held y.path y.is
+      let y = place_here s h is c p (At k claim) cs ps here in cell_at y.cells y.notes y.held y.path y.is
 
+  -- the consumer's part on the lane is on a path
   abbrev on_path : IsOnPath (plan s h is) c p h
   on_path = record {
     cells = k ∷ at_cell.cells;
@@ -70,9 +73,11 @@ module _ (s : WorldState) (h : WorldHistory) (is : IsWorldAfter h s) (c p : ℕ)
   pub part_is : claim_part c k (claim_accesses h) ≡ at_cell.steps
   part_is = held_so.0
 
+  -- the cell is one of the pool's
   pub below : k < (plan s h is).claims.cells
   below = held_so.1
 
+  -- the steps are a prefix of the claim path, with the claim's stage
   pub prefix : (r : Stage) → claim_stage claim ≡ r → IsClaimPrefix (plan s h is).claims c at_cell.steps r
   prefix r e =
       subst (λ (z : Stage). IsClaimPrefix (plan s h is).claims c at_cell.steps z) e

@@ -10,7 +10,7 @@ use Rattle.mb_world.proofs.Cells.{cell-of_true}
 use Rattle.mb_world.proofs.Diaries.{met_at, passed, values_length}
 use Rattle.mb_world.proofs.Known.{Known}
 use Rattle.mb_world.proofs.Loads.{gave-link, met_given, met_link}
-use Rattle.mb_world.proofs.Places.{StandsAt, at_has, at_some, at_start, at_within}
+use Rattle.mb_world.proofs.Positions.{StandsAt, at_has, at_some, at_start, at_within}
 use Rattle.mb_world.proofs.ReaderParts.{read-loaded}
 
 module _ (plan : Plan) (hs : Histories) (known : Known plan hs) where
@@ -60,6 +60,7 @@ module _ (plan : Plan) (hs : Histories) (known : Known plan hs) where
       by_word (Item k) link on loaded = absurd link
 
   module _ (c p : ℕ) (cs : c < consumers_of plan) (d : DiaryView) (diary : IsDiaryOf plan c p hs d) where
+    -- so a consumer that has loaded the end mark has a note at each position
     pub ends_noted : (j : ℕ) → HasMetEnd (hs.reader_of c) p hs.pool → j < length (values_put p hs.pool)
         → j < length d.notes
     ends_noted j end inside = noted_there (cases_lt (suc j) (length (linked_cells p hs.pool)))

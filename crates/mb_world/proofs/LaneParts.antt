@@ -6,7 +6,7 @@ use Rattle.mb_world.specs.Imports.{ClaimAccess, Gave, Has, History, ObjectTurn, 
 use Rattle.mb_world.specs.World.{ToCells, ToClaims, WorldHistory, claim_accesses, is_on, pool_accesses}
 use Rattle.mb_world.proofs.Claimed.{part-another, part-elsewhere, part-own}
 
--- ---- lists
+-- ---- filtered lists
 pub Has-filter : {A : Type 0} (test : A → Bool) (xs : List A) (a : A) → Has xs a → test a ≡ true
     → Has (filter test xs) a
 Has-filter test [] a m e = m
@@ -37,7 +37,7 @@ pub filter_same : {A : Type 0} (f g : A → Bool) (xs : List A) → ((x : A) →
 filter_same f g [] same = refl
 filter_same f g (x ∷ xs) same = rw (same x (inl refl), filter_same f g xs (λ y m. same y (inr m))) refl
 
--- ---- a world's accesses
+-- ---- the loads and the claims of a consumer's part on a lane
 pub pool_has : (h : WorldHistory) (a : PoolAccess) → Has (pool_accesses h) a → Has h (ToCells a)
 pool_has [] a has = absurd has
 pool_has (ToCells b ∷ h) a (inl e) = inl (ap ToCells e)
@@ -116,7 +116,7 @@ claim_has c k (ToClaims a ∷ h) some = by (cases_eq a.consumer c) (cases_eq a.c
     by (inr other) cell older =
         let q = older (λ e. some (part-another c k a (claim_accesses h) other ∙ e)) in (q.0, inr q.1, q.2, q.3)
 
--- what a part gave the whole gave
+-- a cell that some of the accesses gave is given by all
 pub gave-filter : (test : PoolAccess → Bool) (d : History) (k : ℕ) → Gave k (filter test d) → Gave k d
 gave-filter test [] k gave = gave
 gave-filter test (a ∷ d) k gave =

@@ -17,19 +17,21 @@ use Rattle.mb_world.proofs.StateNotes.{put_cells}
 use Rattle.mb_world.specs.Reporting.{values_put}
 use Rattle.mb_world.specs.StateReport.{IsWalk, IsWalked}
 
+-- the cells and the values of entries of a put list
 abbrev pub cells_in : List Entry → List ℕ
 cells_in es = map (λ (e : Entry). e.cell) es
 
 abbrev pub values_in : List Entry → List ℕ
 values_in es = map (λ (e : Entry). e.value) es
 
--- looks from the cursor on give what is put on the lane behind these cells
+-- looks from the cursor on give what is put on the lane past these cells
 pub record WalksTo (s : PoolState) (p : ℕ) (ks : List ℕ) (at : Cursor) (pool : History) : Type 0 where
   pub rest : List Entry
   pub cells : cells_in (put_list p pool) ≡ ks ++ cells_in rest
   pub values : values_put p pool ≡ map (λ k. item_in k s) ks ++ values_in rest
   pub reads : Reads (λ c. look_in c s) (λ k. item_in k s) at rest (lane_end p pool)
 
+-- looks from the cursor on do so after each history that leaves the pool
 abbrev pub WalksOn : PoolState → ℕ → List ℕ → Cursor → Type 0
 WalksOn s p ks at = (pool : History) → IsAfter pool s → WalksTo s p ks at pool
 
@@ -72,7 +74,7 @@ walk_step s p k ks at pool seen (e ∷ es) cells values reads =
           reads.2;
     }
 
--- one cell further
+-- if a cell is found, the walk goes on past it
 pub walk_goes : (s : PoolState) (p k : ℕ) (ks : List ℕ) (at : Cursor) → look_in at s ≡ look.Cell k → WalksOn s p ks at
     → WalksOn s p (ks ++ k ∷ []) (cursor.Past k)
 walk_goes s p k ks at seen walks pool after =
@@ -105,7 +107,7 @@ walk_end s p ks at ended pool seen [] cells values reads = record {
 }
 walk_end s p ks at ended pool seen (e ∷ es) cells values reads = absurd (is_cell ended e.cell (sym reads.0 ∙ seen))
 
--- and where no cell is found, all were met
+-- if no cell is found, all were met
 pub walk_ends : (s : PoolState) (p : ℕ) (ks : List ℕ) (at : Cursor) (ended : Bool)
     → look_in at s ≡ (if ended then look.Ended else look.Nothing) → WalksOn s p ks at → IsWalked s p ks ended
 walk_ends s p ks at ended seen walks pool after =
@@ -127,7 +129,7 @@ listed (x ∷ xs) q is = elim (cases_Bool (eqb q x)) [
   | inr other ↦ inr (listed xs q (sym (ap (λ b. b || list_any (eqb q) xs) other) ∙ is))
 ]
 
--- where one more is found, fewer than the cells of the pool were met
+-- if one more is found, fewer than the cells of the pool were met
 pub walk_fits : (s : PoolState) (p k n : ℕ) (ks : List ℕ) (at : Cursor) → look_in at s ≡ look.Cell k → WalksOn s p ks at
     → (pool : History) → IsAfter pool s → IsOnceEach (linked_cells p pool)
     → ((i : ℕ) → Has (linked_cells p pool) i → i < n) → length ks < n

@@ -8,55 +8,61 @@ use Rattle.mb_world.specs.World.{WorldAccess, WorldHistory}
 use Rattle.mb_world.specs.ConsumerPath.{ConsumerPath, claim_step, ends, finds, goes, item_load, link_load, note_of, takes, waits}
 
 -- a place on a lane, as one value
-pub record Place : Type 0 where
+pub record PathEnd : Type 0 where
   pub cells : List ℕ
   pub notes : List Note
   pub held : Option (List ObjectTurn)
 
-abbrev pub place : List ℕ → List Note → Option (List ObjectTurn) → Place
-place ks ns held = record { cells = ks; notes = ns; held = held }
+-- the end of a path with these cells, notes and steps
+abbrev pub path_end : List ℕ → List Note → Option (List ObjectTurn) → PathEnd
+path_end ks ns held = record { cells = ks; notes = ns; held = held }
 
 module _ (cs : Claims) (c p : ℕ) where
   -- the access leads from one place to the next
-  pub data Leads (a : WorldAccess) : Place → Place → Type 0 where
+  pub data Leads (a : WorldAccess) : PathEnd → PathEnd → Type 0 where
+    -- a load of a link that leads to no cell
     waited : (ks : List ℕ) (ns : List Note) (v : ℕ) → (v ≡ 0) ⊎ (v ≡ END) → a ≡ link_load c p ks v
-        → Leads a (place ks ns None) (place ks ns None)
+        → Leads a (path_end ks ns None) (path_end ks ns None)
+    -- a load of a link that leads to a cell
     found : (ks : List ℕ) (ns : List Note) (k : ℕ) → k + 1 ≢ END → IsClaimPrefix cs c [] stage.Going
         → a ≡ link_load c p ks (k + 1)
-        → Leads a (place ks ns None) (place (k ∷ ks) ns (Some []))
+        → Leads a (path_end ks ns None) (path_end (k ∷ ks) ns (Some []))
+    -- a step of the claim, which has no note then
     went : (ks : List ℕ) (ns : List Note) (k : ℕ) (xs : List ObjectTurn) (x : ObjectTurn) (s : Stage)
         → IsClaimPrefix cs c (x ∷ xs) s → note_of s ≡ None → a ≡ claim_step c k x
-        → Leads a (place (k ∷ ks) ns (Some xs)) (place (k ∷ ks) ns (Some (x ∷ xs)))
+        → Leads a (path_end (k ∷ ks) ns (Some xs)) (path_end (k ∷ ks) ns (Some (x ∷ xs)))
+    -- the last step of a claim that has a note then
     ended : (ks : List ℕ) (ns : List Note) (k : ℕ) (xs : List ObjectTurn) (x : ObjectTurn) (n : Note) (s : Stage)
         → IsClaimPrefix cs c (x ∷ xs) s → note_of s ≡ Some n → a ≡ claim_step c k x
-        → Leads a (place (k ∷ ks) ns (Some xs)) (place (k ∷ ks) (n ∷ ns) None)
+        → Leads a (path_end (k ∷ ks) ns (Some xs)) (path_end (k ∷ ks) (n ∷ ns) None)
+    -- the load of the item of a claim that is won
     took : (ks : List ℕ) (ns : List Note) (k : ℕ) (xs : List ObjectTurn) (v : ℕ) → IsClaimPrefix cs c xs stage.Won
         → a ≡ item_load c k v
-        → Leads a (place (k ∷ ks) ns (Some xs)) (place (k ∷ ks) (Took v ∷ ns) None)
+        → Leads a (path_end (k ∷ ks) ns (Some xs)) (path_end (k ∷ ks) (Took v ∷ ns) None)
 
   -- what was done before the last access led to a place, from which that leads on
-  pub record CameFrom (a : WorldAccess) (older : WorldHistory) (now : Place) : Type 0 where
-    pub was : Place
+  pub record CameFrom (a : WorldAccess) (older : WorldHistory) (now : PathEnd) : Type 0 where
+    pub was : PathEnd
     pub path : ConsumerPath cs c p older was.cells was.notes was.held
     pub leads : Leads a was now
 
   pub came_from : {a : WorldAccess} {older : WorldHistory} {ks : List ℕ} {ns : List Note} {held : Option
       (List ObjectTurn)}
-      → ConsumerPath cs c p (a ∷ older) ks ns held → CameFrom a older (place ks ns held)
+      → ConsumerPath cs c p (a ∷ older) ks ns held → CameFrom a older (path_end ks ns held)
   came_from (waits {ks = ks} {ns = ns} {v = v} says s) =
-      record { was = place ks ns None; path = s; leads = waited ks ns v says refl }
+      record { was = path_end ks ns None; path = s; leads = waited ks ns v says refl }
   came_from (finds {ks = ks} {ns = ns} {k = k} ne fresh s) =
-      record { was = place ks ns None; path = s; leads = found ks ns k ne fresh refl }
+      record { was = path_end ks ns None; path = s; leads = found ks ns k ne fresh refl }
   came_from (goes {ks = ks} {ns = ns} {k = k} {xs = xs} {x = x} z q still s) =
-      record { was = place (k ∷ ks) ns (Some xs); path = s; leads = went ks ns k xs x z q still refl }
+      record { was = path_end (k ∷ ks) ns (Some xs); path = s; leads = went ks ns k xs x z q still refl }
   came_from (ends {ks = ks} {ns = ns} {k = k} {xs = xs} {x = x} {n = n} z q note s) =
-      record { was = place (k ∷ ks) ns (Some xs); path = s; leads = ended ks ns k xs x n z q note refl }
+      record { was = path_end (k ∷ ks) ns (Some xs); path = s; leads = ended ks ns k xs x n z q note refl }
   came_from (takes {ks = ks} {ns = ns} {k = k} {xs = xs} {v = v} q s) =
-      record { was = place (k ∷ ks) ns (Some xs); path = s; leads = took ks ns k xs v q refl }
+      record { was = path_end (k ∷ ks) ns (Some xs); path = s; leads = took ks ns k xs v q refl }
 
   -- what came before led to a place
-  pub older_path : (later older : WorldHistory) (now : Place)
+  pub older_path : (later older : WorldHistory) (now : PathEnd)
       → ConsumerPath cs c p (later ++ older) now.cells now.notes now.held
-      → (was : Place) × ConsumerPath cs c p older was.cells was.notes was.held
+      → (was : PathEnd) × ConsumerPath cs c p older was.cells was.notes was.held
   older_path [] older now path = (now, path)
   older_path (a ∷ later) older now path = let last = came_from path in older_path later older last.was last.path

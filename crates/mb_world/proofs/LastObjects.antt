@@ -1,4 +1,4 @@
--- What a last object in each cell leaves undecided: no note.
+-- What a report shows of items left, if no note is undecided. With a last object in each cell none is.
 use Rattle.std.proofs.Common.{◌≡◌, ◌≢◌, ℕ, ◌<◌, true, Option, Some, None, length, refl, sym, ◌∙◌, inl, inr, get_or}
 use Rattle.std.proofs.lemmas.Option.{slice_get-get_or}
 use Rattle.mb_world.specs.declared.report.Note.{Note}
@@ -8,7 +8,7 @@ use Rattle.mb_world.specs.Report.{ReportView, items_put, is_begun, note, notes}
 use Rattle.mb_world.specs.Agreement.{AreAllTaken, HasCompeted, HasTaken, IsFinished, IsLeftBesideBegun}
 use Rattle.mb_world.specs.Headline.{IsHonest}
 
--- of a report without an undecided note that has one assignment
+-- a report that agrees with one assignment and has no undecided note
 module _ (plan : Plan) (hs : Histories) (r : ReportView) (honest : IsHonest plan hs r)
     (decided : (c p j : ℕ) → note c p j r ≢ Some Undecided) where
   -- an unfinished claim has no note
@@ -18,7 +18,7 @@ module _ (plan : Plan) (hs : Histories) (r : ReportView) (honest : IsHonest plan
   no_note d p j none unfinished (Lost w) e = unfinished (inr (w, e))
   no_note d p j none unfinished Undecided e = decided d p j e
 
-  -- so it is begun, and the next of its diary
+  -- so an unfinished claim is begun, and the next of its diary
   begun_next : (d p j : ℕ) → ((e : ℕ) → HasTaken e p j r → ⊥) → (IsFinished d p j r → ⊥) → HasCompeted d p j r
       → (length (notes d p r) ≡ j) × (is_begun d p r ≡ true)
   begun_next d p j none unfinished (inl before) =
@@ -26,12 +26,14 @@ module _ (plan : Plan) (hs : Histories) (r : ReportView) (honest : IsHonest plan
       (slice_get-get_or (notes d p r) j Undecided before))
   begun_next d p j none unfinished (inr next) = next
 
+  -- so an item that was competed for and left is left beside a begun claim
   pub beside : IsLeftBesideBegun r
   beside c p j inside competed none =
       let s = honest.settled c p j inside competed none in
       let next = begun_next s.0 p j none s.2 s.1 in
       (s.0, next.0, next.1)
 
+  -- an item that is given to somebody, or left, on a lane without a begun claim is taken
   taken_by : (p : ℕ) → ((d : ℕ) → is_begun d p r ≡ true → ⊥) → (c j : ℕ) → j < length (items_put p r)
       → HasCompeted c p j r → (given : Option ℕ) → honest.assignment p j ≡ given → (d : ℕ) × HasTaken d p j r
   taken_by p idle c j inside competed (Some d) e = (d, (honest.given.taken d p j).1 e)
@@ -40,5 +42,6 @@ module _ (plan : Plan) (hs : Histories) (r : ReportView) (honest : IsHonest plan
       (λ d has. let both : None ≡ Some d = sym e ∙ (honest.given.taken d p j).0 has in cc) in
       absurd (idle b.0 b.2)
 
+  -- so on a lane without a begun claim each item that was competed for is taken
   pub taken : AreAllTaken r
   taken p idle c j inside competed = taken_by p idle c j inside competed (honest.assignment p j) refl

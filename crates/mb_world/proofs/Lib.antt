@@ -1,10 +1,10 @@
 -- In the order of reading: a file stands on files above it.
 
--- Lists, places and cells
+-- Lists, positions and cells
 pub mod Lists
-pub mod Places
+pub mod Positions
 pub mod Cells
-pub mod ReportPlaces
+pub mod ReportPositions
 pub mod ReportLists
 -- What one consumer loaded, and what its diary shows
 pub mod ReaderParts
@@ -49,7 +49,7 @@ pub mod NothingFound
 -- The state of a world, and its report
 pub mod NewWorlds
 pub mod FreshClaims
-pub mod StatePlaces
+pub mod Grids
 pub mod StateNotes
 pub mod LaneWalks
 pub mod StateLists

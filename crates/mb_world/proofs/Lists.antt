@@ -1,4 +1,4 @@
--- Items at chosen positions, and a search below a bound.
+-- Items at chosen positions, and the last number below a bound that passes a test.
 use Rattle.std.proofs.Common.{◌≡◌, ◌⊎◌, ℕ, zero, suc, ◌<◌, ◌≤◌, Bool, true, false, not, ◌||◌, cond, List, [], ◌∷◌, length, Option, Some, None, refl, sym, inl, inr, arith}
 use Rattle.std.proofs.lemmas.Bool.{cases_eq}
 use Rattle.std.specs.Prelude.{slice_get}
@@ -52,16 +52,18 @@ abbrev pub last_below : ℕ → (ℕ → Bool) → Option ℕ
 last_below zero f = None
 last_below (suc n) f = cond (f n) (Some n) (last_below n f)
 
+-- the last number is below the bound and passes, if one more number is tested
 at_top : (n : ℕ) (f : ℕ → Bool) (c : ℕ) → (last_below n f ≡ Some c → (c < n) × (f c ≡ true)) → (b : Bool) → f n ≡ b
     → cond b (Some n) (last_below n f) ≡ Some c → (c < suc n) × (f c ≡ true)
 at_top n f c below true h k = let same : n ≡ c = cc in (omega arith, rw (← same) h)
 at_top n f c below false h k = let b = below k in (omega arith, b.1)
 
--- it is below n and passes
+-- the last number is below n and passes
 pub last_below-at : (n : ℕ) (f : ℕ → Bool) (c : ℕ) → last_below n f ≡ Some c → (c < n) × (f c ≡ true)
 last_below-at zero f c e = absurd (cc)
 last_below-at (suc n) f c e = at_top n f c (last_below-at n f c) (f n) refl e
 
+-- a number is found, if one more number is tested
 some_top : (n : ℕ) (f : ℕ → Bool) (c : ℕ) → (c < n → (d : ℕ) × (last_below n f ≡ Some d)) → c < suc n → f c ≡ true
     → (b : Bool) → f n ≡ b → (d : ℕ) × (cond b (Some n) (last_below n f) ≡ Some d)
 some_top n f c below h e true k = (n, refl)
@@ -71,16 +73,17 @@ some_top n f c below h e false k = below (apart (cases_eq c n))
     apart (inl same) = absurd (let e2 : f n ≡ true = rw (← same) e in cc)
     apart (inr other) = omega arith
 
--- where one number below n passes, one is found
+-- if one number below n passes, one is found
 pub last_below-some : (n : ℕ) (f : ℕ → Bool) (c : ℕ) → c < n → f c ≡ true → (d : ℕ) × (last_below n f ≡ Some d)
 last_below-some zero f c h e = absurd (omega arith)
 last_below-some (suc n) f c h e = some_top n f c (λ below. last_below-some n f c below e) h e (f n) refl
 
+-- none is found exactly if none passes, if one more number is tested
 none_top : (b : Bool) (o : Option ℕ) (n : ℕ) (a : Bool) → is_none o ≡ not a → is_none (cond b (Some n) o) ≡ not (b || a)
 none_top true o n a h = refl
 none_top false o n a h = h
 
--- none is found exactly where none passes
+-- no number is found exactly if none passes
 pub last_below-none : (n : ℕ) (f : ℕ → Bool) → is_none (last_below n f) ≡ not (any_below n f)
 last_below-none zero f = refl
 last_below-none (suc n) f = none_top (f n) (last_below n f) n (any_below n f) (last_below-none n f)

@@ -4,7 +4,7 @@ use Rattle.std.proofs.lemmas.Bool.{cases_Bool}
 use Rattle.mb_world.specs.Imports.{END, FetchAdd, Gave, Has, HasLoaded, HasMet, History, IsGift, IsReaderPath, Link, Load, MayRead, PoolAccess, PoolAct}
 use Rattle.mb_world.specs.Imports.{Reader, Store, Word, is_same_word, load, part, place_past}
 use Rattle.mb_world.specs.Fitting.{HasRead}
-use Rattle.mb_world.proofs.Places.{StandsAt, at_within}
+use Rattle.mb_world.proofs.Positions.{StandsAt, at_within}
 use Rattle.mb_world.proofs.ReaderParts.{has_part, word_is, word_same}
 
 -- who loaded a cell's link was given the cell
@@ -48,6 +48,7 @@ met_link q p h (a ∷ b ∷ ks) j k met (inr (inr at)) less =
     met_link q p h (b ∷ ks) j k met.2 (inr at) (omega (arith, at_within ks j k at))
 
 -- ---- whether a word was loaded can be told
+-- a word was loaded, or it was not
 abbrev pub IsTold : Word → History → Type 0
 IsTold w d = ((v : ℕ) × HasRead w v d) ⊎ ((v : ℕ) → HasRead w v d → ⊥)
 
@@ -55,7 +56,7 @@ IsTold w d = ((v : ℕ) × HasRead w v d) ⊎ ((v : ℕ) → HasRead w v d → �
 older_read : (b : PoolAccess) (d : History) (w : Word) → (v : ℕ) × HasRead w v d → (v : ℕ) × HasRead w v (b ∷ d)
 older_read b d w h = (h.0, (h.1.0, inr h.1.1, h.1.2, h.1.3))
 
--- an access that is no load of the word adds none
+-- after an access that is no load of the word it can be told still
 other_access : (b : PoolAccess) (d : History) (w : Word) → ((u : ℕ) → b.word ≡ w → b.act ≡ Load u → ⊥) → IsTold w d
     → IsTold w (b ∷ d)
 other_access b d w other (inl h) = inl (older_read b d w h)
@@ -65,6 +66,7 @@ other_access b d w other (inr n) = inr (λ u h. none u h.0 h.1 h.2 h.3)
     none u a (inl e) ew ea = other u (ap (λ (y : PoolAccess). y.word) e ∙ ew) (ap (λ (y : PoolAccess). y.act) e ∙ ea)
     none u a (inr m) ew ea = n u (a, m, ew, ea)
 
+-- after an access to the word it can be told still
 by_act : (d : History) (b : PoolAccess) (w : Word) (x : PoolAct) → b.word ≡ w → b.act ≡ x → IsTold w d
     → IsTold w (b ∷ d)
 by_act d b w (Load v) same is rest = inl (v, (b, inl refl, same, is))

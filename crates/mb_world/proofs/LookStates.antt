@@ -16,24 +16,23 @@ use Rattle.mb_cells.specs.State.{IsWithin}
 use Rattle.mb_world.specs.declared.event.Answer.TheVariants as answer
 use Rattle.mb_world.specs.declared.event.Event.TheVariants as event
 use Rattle.mb_world.specs.declared.report.Note.{Note}
-use Rattle.mb_world.specs.declared.seat.Seat.{Seat}
-use Rattle.mb_world.specs.declared.seat.Seat.TheVariants as seat
-use Rattle.mb_world.specs.Imports.{END, Has, Gave, IsClaimPrefix, Item, Head, Link, Load, MayRead, ObjectTurn, Reader, Stage, Word, load, part, place_past}
+use Rattle.mb_world.specs.declared.place.Place.TheVariants.{At, Before}
+use Rattle.mb_world.specs.Imports.{END, Has, Gave, IsClaimPrefix, Item, Load, MayRead, ObjectTurn, Reader, Stage, Word, load, part, place_past}
 use Rattle.mb_world.specs.Plan.{consumers_of}
 use Rattle.mb_world.specs.Setups.{layout_of}
 use Rattle.mb_world.specs.World.{ToCells, WorldAccess, WorldHistory, lane_part, pool_accesses}
 use Rattle.mb_world.specs.ConsumerPath.{ConsumerPath, finds, link_load, waits}
-use Rattle.mb_world.specs.WorldState.{IsSeatAt, IsWorldAfter, WorldState}
+use Rattle.mb_world.specs.WorldState.{IsPlaceAt, IsWorldAfter, WorldState}
 use Rattle.mb_world.specs.Replay.{answer_to}
-use Rattle.mb_world.specs.EventSteps.{EventAdds, StandsBefore, with_seat}
+use Rattle.mb_world.specs.EventSteps.{EventAdds, with_place}
 use Rattle.mb_world.proofs.LoadStates.{adds, given, load_adds, loaded}
 use Rattle.mb_world.proofs.StateEnds.{load_keeps}
-use Rattle.mb_world.proofs.StateSteps.{AreNotes, notes_kept, own_seat, plan, seat_here, seats_kept, seats_set}
+use Rattle.mb_world.proofs.StateSteps.{AreNotes, notes_kept, own_place, plan, place_here, places_kept, places_set}
 use Rattle.mb_world.proofs.StepKnown.{StepKnown}
 use Rattle.mb_world.proofs.WorldClaims.{on_lane}
 
--- ---- what a link tells
--- no cell
+-- ---- what the value of a link tells
+-- a link that leads to no cell holds 0 or the end mark
 pub none_told : (v : ℕ) → ((k : ℕ) → look_of v ≡ look.Cell k → ⊥) → (v ≡ 0) ⊎ (v ≡ END)
 none_told v other = by (nat_eq v 0) (nat_eq v END) refl refl
   where
@@ -42,7 +41,7 @@ none_told v other = by (nat_eq v 0) (nat_eq v END) refl refl
     by false true e f = inr (eqb-true v END f)
     by false false e f = absurd (other (v - 1) (rw (e, f) refl))
 
--- this cell
+-- a link that leads to cell k holds k + 1, and that is no end mark
 pub cell_told : (v k : ℕ) → look_of v ≡ look.Cell k → (v ≡ k + 1) × (k + 1 ≢ END)
 cell_told v k tells = by (nat_eq v 0) (nat_eq v END) refl refl tells
   where
@@ -57,48 +56,39 @@ cell_told v k tells = by (nat_eq v 0) (nat_eq v END) refl refl tells
         let more : v ≡ k + 1 = omega (arith, same, some) in
         (more, λ g. no_end (more ∙ g))
 
+-- the answer that names a load at a cursor is what the value tells
 told : (cells : ℕ) (at : Cursor) (v : ℕ) → answer_to cells (word_of at) (Load v) ≡ Some (answer.Looked (look_of v))
 told cells (cursor.Head q) v = refl
 told cells (cursor.Past q) v = refl
 
+-- a cursor stands at no item word
 not_item : (at : Cursor) (k : ℕ) → word_of at ≡ Item k → ⊥
 not_item (cursor.Head q) k e = cc
 not_item (cursor.Past q) k e = cc
 
 module _ (s : WorldState) (h : WorldHistory) (is : IsWorldAfter h s) (c p : ℕ) (cs : c < consumers_of (plan s h is))
-    (ps : p < (plan s h is).lanes) (known : StepKnown s h c p) (d : Seat) (at : Cursor)
-    (here : slice_get s.seats (c * (plan s h is).lanes + p) ≡ Some d) (before : StandsBefore p d at) where
-  -- such a seat stands before a link
-  pub record AtLink (e : Seat) (it : Cursor) : Type 0 where
+    (ps : p < (plan s h is).lanes) (known : StepKnown s h c p) (at : Cursor)
+    (here : slice_get s.places (c * (plan s h is).lanes + p) ≡ Some (Before at)) where
+  -- its path holds no claim
+  pub record AtLink : Type 0 where
     pub cells : List ℕ
     pub notes : List Note
     pub path : ConsumerPath (plan s h is).claims c p (lane_part c p h) cells notes None
-    pub word : word_of it ≡ place_past p cells
-    pub seat : IsSeatAt (layout_of s.setup) c cells None e
+    pub word : word_of at ≡ place_past p cells
 
-  link_at : (ks : List ℕ) (ns : List Note) (held : Option (List ObjectTurn)) (e : Seat) (it : Cursor)
+  link_at : (ks : List ℕ) (ns : List Note) (held : Option (List ObjectTurn))
       → ConsumerPath (plan s h is).claims c p (lane_part c p h) ks ns held
-      → IsSeatAt (layout_of s.setup) c ks held e → StandsBefore p e it → AtLink e it
-  link_at [] ns None seat.AtHead (cursor.Head q) path on b =
-      record { cells = []; notes = ns; path = path; word = ap Head b; seat = tt }
-  link_at (k ∷ ks) ns None (seat.PastCell j) (cursor.Past i) path on b =
-      record { cells = k ∷ ks; notes = ns; path = path; word = ap Link (b ∙ on); seat = on }
-  link_at [] ns None (seat.PastCell j) it path on b = absurd on
-  link_at [] ns None (seat.AtCell j claim) it path on b = absurd on
-  link_at [] ns (Some xs) e it path on b = absurd on
-  link_at (k ∷ ks) ns None seat.AtHead it path on b = absurd on
-  link_at (k ∷ ks) ns None (seat.AtCell j claim) it path on b = absurd on
-  link_at (k ∷ ks) ns (Some xs) seat.AtHead it path on b = absurd on
-  link_at (k ∷ ks) ns (Some xs) (seat.PastCell j) it path on b = absurd on
-  link_at (k ∷ ks) ns (Some xs) (seat.AtCell j claim) it path on b = absurd b
-  link_at [] ns None seat.AtHead (cursor.Past i) path on b = absurd b
-  link_at (k ∷ ks) ns None (seat.PastCell j) (cursor.Head q) path on b = absurd b
+      → IsPlaceAt (layout_of s.setup) c p ks held (Before at) → AtLink
+  link_at ks ns None path on = record { cells = ks; notes = ns; path = path; word = on }
+  link_at [] ns (Some xs) path on = absurd on
+  link_at (k ∷ ks) ns (Some xs) path on = absurd on
 
-  at_link : AtLink d at
+  -- what this place says
+  at_link : AtLink
   at_link =
-      let y = seat_here s h is c p d cs ps here in link_at y.cells y.notes y.held d at y.path y.is before
+      let y = place_here s h is c p (Before at) cs ps here in link_at y.cells y.notes y.held y.path y.is
 
-  -- which is one of the pool's
+  -- the link is a word of the pool
   within_by : (ks : List ℕ) (ns : List Note) (it : Cursor)
       → ConsumerPath (plan s h is).claims c p (lane_part c p h) ks ns None → word_of it ≡ place_past p ks
       → IsWithin it s.pool
@@ -116,19 +106,23 @@ module _ (s : WorldState) (h : WorldHistory) (is : IsWorldAfter h s) (c p : ℕ)
   pub within : IsWithin at s.pool
   within = within_by at_link.cells at_link.notes at at_link.path at_link.word
 
+  -- a consumer that was given these cells may load the link past them
   may_past : (ks : List ℕ) → ((k : ℕ) → Has ks k → Gave k (part (Reader c) (pool_accesses h)))
       → MayRead (plan s h is).lanes (place_past p ks) (part (Reader c) (pool_accesses h))
   may_past [] gave = ps
   may_past (k ∷ ks) gave = gave k (inl refl)
 
+  -- the consumer may load the word at the cursor
   may : MayRead (plan s h is).lanes (word_of at) (part (Reader c) (pool_accesses h))
   may =
       subst (λ (w : Word). MayRead (plan s h is).lanes w (part (Reader c) (pool_accesses h))) (sym at_link.word)
       (may_past at_link.cells (given s h is c p cs ps known at_link.cells at_link.notes None at_link.path))
 
+  -- what the word holds
   abbrev v : ℕ
   v = value_in (word_of at) (pool_accesses h)
 
+  -- the load of that word
   abbrev a : WorldAccess
   a = loaded s h is c p cs ps known (word_of at) may
 
@@ -154,7 +148,7 @@ module _ (s : WorldState) (h : WorldHistory) (is : IsWorldAfter h s) (c p : ℕ)
   -- the link leads to cell k
   pub looked_on : (word k : ℕ) (claim : Claim) → look_of v ≡ look.Cell k → consumer_of claim ≡ c
       → claim_stage claim ≡ stage.Going → IsClaimIn (layout_of s.setup) claim []
-      → EventAdds (event.Step c p word) (answer.Looked (look.Cell k)) (with_seat c p (seat.AtCell k claim) s) h
+      → EventAdds (event.Step c p word) (answer.Looked (look.Cell k)) (with_place c p (At k claim) s) h
   looked_on word k claim tells own going fresh =
       let q = cell_told v k tells in
       let still : IsClaimPrefix (plan s h is).claims c [] stage.Going =
@@ -163,24 +157,24 @@ module _ (s : WorldState) (h : WorldHistory) (is : IsWorldAfter h s) (c p : ℕ)
       let next = on_link (Some []) (k ∷ at_link.cells) (k + 1) q.0 (finds q.1 still at_link.path) in
       let more = adds s h is c p cs ps known (word_of at) may (k ∷ at_link.cells) at_link.notes (Some []) next in
       load_adds s h is c p cs ps known (word_of at) may (k ∷ at_link.cells) at_link.notes (Some []) next word
-      (answer.Looked (look.Cell k)) (slice_set s.seats (c * (plan s h is).lanes + p) (seat.AtCell k claim)) s.notes
+      (answer.Looked (look.Cell k)) (slice_set s.places (c * (plan s h is).lanes + p) (At k claim)) s.notes
       (told (plan s h is).claims.cells at v ∙ ap (λ (z : Look). Some (answer.Looked z)) tells)
-      (length-set s.seats (c * (plan s h is).lanes + p) (seat.AtCell k claim))
-      (seats_set s h is c p cs ps a more (seat.AtCell k claim)
-      (own_seat s h is c p cs ps a more (k ∷ at_link.cells) at_link.notes (Some []) (seat.AtCell k claim) next
+      (length-set s.places (c * (plan s h is).lanes + p) (At k claim))
+      (places_set s h is c p cs ps a more (At k claim)
+      (own_place s h is c p cs ps a more (k ∷ at_link.cells) at_link.notes (Some []) (At k claim) next
       (refl, own, fresh)))
       refl (notes_stay (Some []) (k ∷ at_link.cells) next)
 
-  -- it leads to none
+  -- the link leads to no cell
   pub looked_in_vain : (word : ℕ) (z : Look) → look_of v ≡ z → ((k : ℕ) → z ≡ look.Cell k → ⊥)
       → EventAdds (event.Step c p word) (answer.Looked z) s h
   looked_in_vain word z tells none =
       let next = on_link None at_link.cells v refl (waits (none_told v (λ k e. none k (sym tells ∙ e))) at_link.path) in
       let more = adds s h is c p cs ps known (word_of at) may at_link.cells at_link.notes None next in
       load_adds s h is c p cs ps known (word_of at) may at_link.cells at_link.notes None next word
-      (answer.Looked z) s.seats s.notes
+      (answer.Looked z) s.places s.notes
       (told (plan s h is).claims.cells at v ∙ ap (λ (y : Look). Some (answer.Looked y)) tells)
       refl
-      (seats_kept s h is c p cs ps a more d here
-      (own_seat s h is c p cs ps a more at_link.cells at_link.notes None d next at_link.seat))
+      (places_kept s h is c p cs ps a more (Before at) here
+      (own_place s h is c p cs ps a more at_link.cells at_link.notes None (Before at) next at_link.word))
       refl (notes_stay None at_link.cells next)

@@ -22,7 +22,7 @@ module _ (plan : Plan) (h : WorldHistory) (p : ℕ) (ps : p < plan.lanes) (lane 
     abbrev done : History
     done = part (Producer p) (pool_accesses h)
 
-    -- ---- an offer
+    -- ---- an offer that is not refused has an access
     module _ (x : ℕ) (xs : x < 2 ^ 64) (small : value_in Counter (pool_accesses h) < 2 ^ 64)
         (next : (e : Entry) → offer_refusal lane ≡ None → IsLanePrefix plan.claims.cells p (fetch p e ∷ done)) where
       by_offer : (z : Option _) → offer_refusal lane ≡ z → IsRefusedOrMade plan (event.Offer p x) h
@@ -39,7 +39,7 @@ module _ (plan : Plan) (h : WorldHistory) (p : ℕ) (ps : p < plan.lanes) (lane 
       pub offer_made : IsRefusedOrMade plan (event.Offer p x) h
       offer_made = by_offer (offer_refusal lane) refl
 
-    -- ---- a push
+    -- ---- a push that has something to store has an access
     module _ (next : (s : Word × ℕ) → push_store p lane ≡ Some s
         → IsLanePrefix plan.claims.cells p (store p s.0 s.1 ∷ done))
         (fits : (w : Word) (v : ℕ) → push_store p lane ≡ Some (w, v) → v < 2 ^ 64)
@@ -72,7 +72,7 @@ module _ (plan : Plan) (h : WorldHistory) (p : ℕ) (ps : p < plan.lanes) (lane 
       pub push_made : IsRefusedOrMade plan (event.Push p) h
       push_made = by_push (push_store p lane) refl
 
-    -- ---- a finish
+    -- ---- a finish that is not refused has an access
     module _ (next : finish_refusal lane ≡ None
         → IsLanePrefix plan.claims.cells p (store p (next_link p lane) END ∷ done))
       where

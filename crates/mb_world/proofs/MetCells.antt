@@ -8,7 +8,7 @@ use Rattle.mb_world.specs.Fitting.{FollowsLinks, cell_given, cells_met, parts_of
 use Rattle.mb_world.specs.Reporting.{HasMetAll}
 use Rattle.mb_world.proofs.Known.{Known}
 use Rattle.mb_world.proofs.PathLoads.{met_elsewhere, met_more, met_there, one_given}
-use Rattle.mb_world.proofs.Places.{at_has, at_start, has_at}
+use Rattle.mb_world.proofs.Positions.{at_has, at_start, has_at}
 use Rattle.mb_world.proofs.ReaderParts.{access_is, of_part, word_is}
 use Rattle.mb_world.proofs.WorldFollows.{met_stay}
 
@@ -66,7 +66,7 @@ met_cells q p (a ∷ older) own =
     by (inr other) older_met =
         subst (λ ks. HasMet q p ks (a ∷ older)) (sym (met_elsewhere p a older other)) older_met
 
--- and each cell that was given was met on some lane
+-- each cell that was given was met on some lane
 gave_met : (d : History) (k : ℕ) → FollowsLinks d → Gave k d → (p : ℕ) × Has (cells_met p d) k
 gave_met [] k f g = absurd g
 gave_met (a ∷ older) k f (inl g) =
@@ -78,12 +78,14 @@ gave_met (a ∷ older) k f (inl g) =
     )
 gave_met (a ∷ older) k f (inr g) = let q = gave_met older k f.1 g in (q.0, met_stay q.0 a older k q.1)
 
--- ---- the same for the part of a reader in a lawful history
+-- ---- the cells met by the part of a reader in a lawful history
+-- the cells that a reader's part met were met in the history
 pub met_in : (q p : ℕ) (h : History) → HasMet q p (cells_met p (part (Reader q) h)) h
 met_in q p h =
     met_more q p (part (Reader q) h) h (cells_met p (part (Reader q) h)) (λ a m. (of_part q h a m).0)
     (met_cells q p (part (Reader q) h) (λ a m. (of_part q h a m).1))
 
+-- what stands once each in a list does so in its end
 once_start : (later ks : List ℕ) → IsOnceEach (later ++ ks) → IsOnceEach ks
 once_start [] ks once = once
 once_start (j ∷ later) ks once = once_start later ks once.1
@@ -91,6 +93,7 @@ once_start (j ∷ later) ks once = once_start later ks once.1
 module _ (q : ℕ) (h : History)
     (start : (p : ℕ) (ks : List ℕ) → HasMet q p ks h → IsStart ks (linked_cells p h))
     (one_lane : (p r k : ℕ) → Has (linked_cells p h) k → Has (linked_cells r h) k → p ≡ r) where
+  -- they are cells of the lane
   pub on_lane_in : (p k : ℕ) → Has (cells_met p (part (Reader q) h)) k → Has (linked_cells p h) k
   on_lane_in p k has =
       let s = start p (cells_met p (part (Reader q) h)) (met_in q p h) in
@@ -99,11 +102,13 @@ module _ (q : ℕ) (h : History)
       (at_has (s.0 ++ cells_met p (part (Reader q) h)) at.0 k
       (at_start s.0 (cells_met p (part (Reader q) h)) at.0 k at.1))
 
+  -- they stand there once each
   pub once_in : (p : ℕ) → IsOnceEach (linked_cells p h) → IsOnceEach (cells_met p (part (Reader q) h))
   once_in p once =
       let s = start p (cells_met p (part (Reader q) h)) (met_in q p h) in
       once_start s.0 (cells_met p (part (Reader q) h)) (subst IsOnceEach (sym s.1) once)
 
+  -- they are all that the reader met on the lane, if its loads follow the links
   pub all_met_in : (p : ℕ) → FollowsLinks (part (Reader q) h) → HasMetAll q p (cells_met p (part (Reader q) h)) h
   all_met_in p follows = record {
     met = met_in q p h;
@@ -114,14 +119,17 @@ module _ (q : ℕ) (h : History)
   }
 
 module _ (plan : Plan) (hs : Histories) (known : Known plan hs) (c p : ℕ) (cs : c < consumers_of plan) where
+  -- the loads of consumer c
   abbrev reads : History
   reads = (parts_of c hs).reads
 
+  -- the cells that they met on a lane were met in the history
   met_on : (q : ℕ) → HasMet (hs.reader_of c) q (cells_met q reads) hs.pool
   met_on q =
       met_more (hs.reader_of c) q reads hs.pool (cells_met q reads) (λ a m. (of_part (hs.reader_of c) hs.pool a m).0)
       (met_cells (hs.reader_of c) q reads (λ a m. (of_part (hs.reader_of c) hs.pool a m).1))
 
+  -- they are cells of the lane
   on_lane : (q k : ℕ) → Has (cells_met q reads) k → Has (linked_cells q hs.pool) k
   on_lane q k has =
       let s = known.start (hs.reader_of c) q (cells_met q reads) (met_on q) in
@@ -129,6 +137,7 @@ module _ (plan : Plan) (hs : Histories) (known : Known plan hs) (c p : ℕ) (cs 
       subst (λ (ls : List ℕ). Has ls k) s.1
       (at_has (s.0 ++ cells_met q reads) at.0 k (at_start s.0 (cells_met q reads) at.0 k at.1))
 
+  -- they are all that the consumer met on lane p
   pub all_met : HasMetAll (hs.reader_of c) p (cells_met p reads) hs.pool
   all_met = record {
     met = met_on p;

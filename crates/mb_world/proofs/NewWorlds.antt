@@ -9,19 +9,19 @@ use Rattle.mb_claim.specs.declared.access.Stage.TheVariants as stage
 use Rattle.mb_cells.specs.State.{IsAfter, PoolState, cell_count, lane_count}
 use Rattle.mb_world.specs.declared.report.Note.{Note}
 use Rattle.mb_world.specs.declared.report.Note.TheVariants.{Took, Lost, Undecided}
-use Rattle.mb_world.specs.declared.seat.Seat.{Seat}
-use Rattle.mb_world.specs.declared.seat.Seat.TheVariants as seat
+use Rattle.mb_world.specs.declared.place.Place.{Place}
 use Rattle.mb_world.specs.declared.setup.Setup.{Setup}
 use Rattle.mb_world.specs.Imports.{IsClaimPrefix, Stage}
 use Rattle.mb_world.specs.Plan.{consumers_of}
-use Rattle.mb_world.specs.Setups.{plan_in}
+use Rattle.mb_world.specs.Setups.{layout_of, plan_in}
 use Rattle.mb_world.specs.Fitting.{EndsAs, parts_of}
 use Rattle.mb_world.specs.World.{histories_of}
 use Rattle.mb_world.specs.ConsumerPath.{begins}
 use Rattle.mb_world.specs.Worlds.{IsWorldLawful}
-use Rattle.mb_world.specs.WorldState.{IsWorldAfter}
+use Rattle.mb_world.specs.Places.{AreAtHeads}
+use Rattle.mb_world.specs.WorldState.{IsPlaceAt, IsWorldAfter}
 
--- a place in a list of equal elements
+-- a position in a list of equal elements
 get-replicate : {X : Type 0} (n i : ℕ) (x : X) → i < n → slice_get (replicate n x) i ≡ Some x
 get-replicate zero i x less = absurd (omega (arith, less))
 get-replicate (suc n) zero x less = refl
@@ -32,9 +32,9 @@ pub none_alone : {X : Type 0} (P : Option X → Type 0) → ((x : X) → P (Some
 none_alone P never None h = refl
 none_alone P never (Some x) h = absurd (never x h)
 
--- the place of a row and a column lies within the rows
-pub place_within : (c p rows columns : ℕ) → c < rows → p < columns → c * columns + p < rows * columns
-place_within c p rows columns cs ps = omega (arith, mul-le-mul_right columns cs, ps)
+-- the position of a row and a column lies within the rows
+pub position_within : (c p rows columns : ℕ) → c < rows → p < columns → c * columns + p < rows * columns
+position_within c p rows columns cs ps = omega (arith, mul-le-mul_right columns cs, ps)
 
 module _ (setup : Setup)
     (fresh : (c : ℕ) → c < consumers_of (plan_in setup) → IsClaimPrefix (plan_in setup).claims c [] stage.Going)
@@ -47,29 +47,33 @@ module _ (setup : Setup)
   no_end c k cs (Lost w) e = let d = one_stage c (stage.Lost w) stage.Going e (fresh c cs) in cc
   no_end c k cs Undecided e = let d = one_stage c stage.Undecided stage.Going e (fresh c cs) in cc
 
-  pub empty_after : (pool : PoolState) (words : List ℕ) (seats : List Seat) (notes : List (Option Note))
+  -- a world of zeros, with all consumers at the heads and without a note, is what the empty history leaves
+  pub empty_after : (pool : PoolState) (words : List ℕ) (places : List Place) (notes : List (Option Note))
       → IsWorldLawful (plan_in setup) []
       → lane_count pool ≡ (plan_in setup).lanes → cell_count pool ≡ (plan_in setup).claims.cells
       → IsAfter [] pool → IsMemoryOf (plan_in setup).claims words []
-      → seats ≡ replicate (consumers_of (plan_in setup) * (plan_in setup).lanes) seat.AtHead
+      → AreAtHeads (plan_in setup).lanes (consumers_of (plan_in setup) * (plan_in setup).lanes) places
       → notes ≡ replicate (consumers_of (plan_in setup) * (plan_in setup).claims.cells) None
-      → IsWorldAfter [] (record { setup = setup; pool = pool; words = words; seats = seats; notes = notes })
-  empty_after pool words seats notes lawful lanes cells pool_after words_after seats_are notes_are = record {
+      → IsWorldAfter [] (record { setup = setup; pool = pool; words = words; places = places; notes = notes })
+  empty_after pool words places notes lawful lanes cells pool_after words_after heads notes_are = record {
     lawful = lawful;
     lanes = lanes;
     cells = cells;
     pool = pool_after;
     words = words_after;
-    seats_count = ap length seats_are
-        ∙ length-replicate (consumers_of (plan_in setup) * (plan_in setup).lanes) seat.AtHead;
-    seat = λ c p cs ps. (
-      seat.AtHead,
-      subst (λ (ds : List Seat). slice_get ds (c * (plan_in setup).lanes + p) ≡ Some seat.AtHead) (sym seats_are)
-          (get-replicate (consumers_of (plan_in setup) * (plan_in setup).lanes)
-          (c * (plan_in setup).lanes + p) seat.AtHead
-          (place_within c p (consumers_of (plan_in setup)) (plan_in setup).lanes cs ps)),
-      record { cells = []; notes = []; held = None; path = begins; is = tt },
-    );
+    places_count = heads.count;
+    place = λ c p cs ps.
+        let q = heads.each c p ps (position_within c p (consumers_of (plan_in setup)) (plan_in setup).lanes cs ps) in (
+          q.0,
+          q.1,
+          record {
+            cells = [];
+            notes = [];
+            held = None;
+            path = begins;
+            is = subst (λ (d : Place). IsPlaceAt (layout_of setup) c p [] None d) (sym q.2) refl;
+          },
+        );
     notes_count = ap length notes_are
         ∙ length-replicate (consumers_of (plan_in setup) * (plan_in setup).claims.cells) None;
     note = λ c k cs ks. (
@@ -78,7 +82,7 @@ module _ (setup : Setup)
           (sym notes_are)
           (get-replicate (consumers_of (plan_in setup) * (plan_in setup).claims.cells)
           (c * (plan_in setup).claims.cells + k) None
-          (place_within c k (consumers_of (plan_in setup)) (plan_in setup).claims.cells cs ks)),
+          (position_within c k (consumers_of (plan_in setup)) (plan_in setup).claims.cells cs ks)),
       λ n. ((λ e. absurd (cc)), (λ e. absurd (no_end c k cs n e))),
     );
   }

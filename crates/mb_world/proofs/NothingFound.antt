@@ -1,4 +1,4 @@
--- A step of a consumer that finds nothing.
+-- A step of a consumer finds nothing exactly if it has met all cells and the lane goes on.
 use Rattle.std.proofs.Common.{◌≡◌, ◌⊎◌, ℕ, ◌+◌, ◌-◌, ◌<◌, Bool, true, false, cond, List, [], ◌∷◌, ◌++◌, Option, Some, None, refl, sym, ◌∙◌, ap, subst, inl, inr, arith}
 use Rattle.std.specs.Prelude.{filter, nat_eq}
 use Rattle.std.proofs.lemmas.Bool.{eqb-true}
@@ -15,14 +15,14 @@ use Rattle.mb_world.specs.Plan.{Plan, consumers_of}
 use Rattle.mb_world.specs.World.{IsBy, WorldAccess, WorldHistory, is_on, lane_part, pool_accesses}
 use Rattle.mb_world.specs.ConsumerPath.{ConsumerPath, link_load}
 use Rattle.mb_world.specs.Worlds.{IsWorldLawful}
-use Rattle.mb_world.specs.Replay.{IsEntry, AnswerNames, answer_to}
+use Rattle.mb_world.specs.Replay.{HasAnswer, AnswerNames, answer_to}
 use Rattle.mb_world.specs.Waiting.{HasNothing}
 use Rattle.mb_world.proofs.ConsumerSteps.{linked_same, one_lane_of}
-use Rattle.mb_world.proofs.LastAccess.{CameFrom, Leads, Place, came_from, ended, found, place, took, waited, went}
+use Rattle.mb_world.proofs.LastAccess.{CameFrom, Leads, PathEnd, came_from, ended, found, path_end, took, waited, went}
 use Rattle.mb_world.proofs.WorldClaims.{met_all}
 use Rattle.mb_world.proofs.WorldKnown.{WorldKnown}
 
--- only 0 tells that nothing is there yet
+-- only the value 0 tells that nothing is there yet
 nothing_told : (v : ℕ) → look_of v ≡ look.Nothing → v ≡ 0
 nothing_told v tells = by (nat_eq v 0) (nat_eq v END) refl tells
   where
@@ -32,7 +32,7 @@ nothing_told v tells = by (nat_eq v 0) (nat_eq v END) refl tells
     by false true e h = absurd (cc)
     by false false e h = absurd (cc)
 
--- a load of the link past cells is answered by what it tells
+-- the answer to a load of the link past cells is what the value tells
 link_answer : (cells p : ℕ) (ks : List ℕ) (v : ℕ)
     → answer_to cells (place_past p ks) (Load v) ≡ Some (answer.Looked (look_of v))
 link_answer cells p [] v = refl
@@ -61,21 +61,24 @@ module _ (plan : Plan) (h : WorldHistory) (lawful : IsWorldLawful plan h) (known
       ap (λ (ls : List ℕ). filter (is_on c p ls) (x ∷ h)) (linked_same c p x h own)
       ∙ ap (λ (b : Bool). cond b (x ∷ lane_part c p h) (lane_part c p h)) on
 
+  -- an access of the consumer on the lane comes from a place and leads to one
   last : (x : WorldAccess) → IsBy c x → is_on c p (linked_cells p (pool_accesses h)) x ≡ true
       → (longer : IsWorldLawful plan (x ∷ h)) → c < consumers_of plan → p < plan.lanes
-      → (now : Place) × CameFrom plan.claims c p x (lane_part c p h) now
+      → (now : PathEnd) × CameFrom plan.claims c p x (lane_part c p h) now
   last x own on longer cs ps =
       let y = longer.consumers c p cs ps in (
-        place y.cells y.notes y.held,
+        path_end y.cells y.notes y.held,
         came_from plan.claims c p
             (subst (λ (l : WorldHistory). ConsumerPath plan.claims c p l y.cells y.notes y.held)
             (front x own on) y.path),
       )
 
+  -- a load of a link found what the link held
   loaded : (x : WorldAccess) → IsWorldLawful plan (x ∷ h) → (ks : List ℕ) (v : ℕ) → x ≡ link_load c p ks v
       → v ≡ value_in (place_past p ks) (pool_accesses h)
   loaded x longer ks v e = (subst (λ y. IsWorldLawful plan (y ∷ h)) e longer).cells_memory.0
 
+  -- the answer that names a load of a link is what its value tells
   answered : (x : WorldAccess) (r : Answer) → AnswerNames plan r x h → (ks : List ℕ) (v : ℕ) → x ≡ link_load c p ks v
       → r ≡ answer.Looked (look_of v)
   answered x r names ks v e =
@@ -84,7 +87,8 @@ module _ (plan : Plan) (h : WorldHistory) (lawful : IsWorldLawful plan h) (known
       let both : Some r ≡ Some (answer.Looked (look_of v)) = sym named ∙ link_answer plan.claims.cells p ks v in
       cc
 
-  -- ---- where nothing is found, all was met and the lane goes on
+  -- ---- if nothing is found, all was met and the lane goes on
+  -- if the link past these cells holds 0, they are all of the lane, which has not ended
   all_met : (ks : List ℕ) → IsStart ks (linked_cells p (pool_accesses h))
       → value_in (place_past p ks) (pool_accesses h) ≡ 0
       → (ks ≡ linked_cells p (pool_accesses h)) × (has_ended p (pool_accesses h) ≡ false)
@@ -108,7 +112,8 @@ module _ (plan : Plan) (h : WorldHistory) (lawful : IsWorldLawful plan h) (known
           let more = next p y ys ks split in
           absurd (omega (arith, more, zero))
 
-  waits_there : {was now : Place} (x : WorldAccess) (r : Answer) → IsWorldLawful plan (x ∷ h) → AnswerNames plan r x h
+  -- an access whose answer is that nothing is found waits past all cells
+  waits_there : {was now : PathEnd} (x : WorldAccess) (r : Answer) → IsWorldLawful plan (x ∷ h) → AnswerNames plan r x h
       → r ≡ answer.Looked look.Nothing → c < consumers_of plan → p < plan.lanes
       → ConsumerPath plan.claims c p (lane_part c p h) was.cells was.notes was.held
       → Leads plan.claims c p x was now → HasNothing plan c p h
@@ -142,7 +147,8 @@ module _ (plan : Plan) (h : WorldHistory) (lawful : IsWorldLawful plan h) (known
       let other : answer.Took k v ≡ r = cc in
       let both = other ∙ is in absurd (cc)
 
-  pub nothing_there : (r : Answer) (a : Option WorldAccess) → IsEntry plan (event.Step c p word) r a h
+  -- if a step's answer is that nothing is found, there is nothing
+  pub nothing_there : (r : Answer) (a : Option WorldAccess) → HasAnswer plan (event.Step c p word) r a h
       → r ≡ answer.Looked look.Nothing → HasNothing plan c p h
   nothing_there r None (inl (past, e)) is = let other = sym e ∙ is in absurd (cc)
   nothing_there r None (inr (below, past, e)) is = let other = sym e ∙ is in absurd (cc)
@@ -154,11 +160,13 @@ module _ (plan : Plan) (h : WorldHistory) (lawful : IsWorldLawful plan h) (known
       let l = last x own on longer there.known ps in
       waits_there x r longer names is there.known ps l.1.path l.1.leads
 
-  -- ---- and where all was met and the lane goes on, nothing is found
+  -- ---- if all was met and the lane goes on, nothing is found
   module _ (one_place : (js : List ℕ) (ms : List Note) (held : Option (List ObjectTurn))
       → ConsumerPath plan.claims c p (lane_part c p h) js ms held → (ks : List ℕ) (ns : List Note)
       → ConsumerPath plan.claims c p (lane_part c p h) ks ns None → (js ≡ ks) × (ms ≡ ns) × (held ≡ None)) where
-    finds_none : {was now : Place} (x : WorldAccess) (r : Answer) → IsWorldLawful plan (x ∷ h) → AnswerNames plan r x h
+    -- if there is nothing, the answer to each access of the consumer there says so
+    finds_none : {was now : PathEnd} (x : WorldAccess) (r : Answer) → IsWorldLawful plan (x ∷ h)
+        → AnswerNames plan r x h
         → HasNothing plan c p h
         → ConsumerPath plan.claims c p (lane_part c p h) was.cells was.notes was.held
         → Leads plan.claims c p x was now → r ≡ answer.Looked look.Nothing
@@ -172,7 +180,7 @@ module _ (plan : Plan) (h : WorldHistory) (lawful : IsWorldLawful plan h) (known
             ∙ (ap (λ (zs : List ℕ). value_in (place_past p zs) (pool_accesses h)) same
             ∙ (end p ∙ ap (λ (b : Bool). cond b END 0) f.goes_on))
 
-        by : {was now : Place} → Leads plan.claims c p x was now → was.cells ≡ linked_cells p (pool_accesses h)
+        by : {was now : PathEnd} → Leads plan.claims c p x was now → was.cells ≡ linked_cells p (pool_accesses h)
             → was.held ≡ None → r ≡ answer.Looked look.Nothing
         by (waited ks ns v says e) same none =
             answered x r names ks v e ∙ ap (λ (i : ℕ). answer.Looked (look_of i)) (zero_there ks v e same)
@@ -182,7 +190,8 @@ module _ (plan : Plan) (h : WorldHistory) (lawful : IsWorldLawful plan h) (known
         by (ended ks ns k xs y n s q note e) same none = absurd (cc)
         by (took ks ns k xs v won e) same none = absurd (cc)
 
-    pub nothing_found : (r : Answer) (a : Option WorldAccess) → IsEntry plan (event.Step c p word) r a h
+    -- if there is nothing, a step's answer says so
+    pub nothing_found : (r : Answer) (a : Option WorldAccess) → HasAnswer plan (event.Step c p word) r a h
         → HasNothing plan c p h → r ≡ answer.Looked look.Nothing
     nothing_found r None (inl (past, e)) f = absurd (omega (arith, past, f.lane))
     nothing_found r None (inr (below, past, e)) f = absurd (omega (arith, past, f.consumer))

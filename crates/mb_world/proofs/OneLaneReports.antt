@@ -12,6 +12,7 @@ use Rattle.mb_world.proofs.Lists.{items_where-none}
 use Rattle.mb_world.proofs.ReportLists.{no_diary, no_lane, not_noted}
 
 module _ (t : Assignment) (xs ys : List ℕ) (ds : List DiaryView) where
+  -- the report of one lane with these items put and left, and these diaries
   abbrev r : ReportView
   r = report_of xs ys ds
 
@@ -28,7 +29,7 @@ module _ (t : Assignment) (xs ys : List ℕ) (ds : List DiaryView) where
     pub left : ys ≡ rest t 0 r
 
   module _ (y : AgreesOnLane) where
-    -- another lane, or another consumer
+    -- consumer c has no diary on lane p, and is given nothing there
     abbrev IsOutside : ℕ → ℕ → Type 0
     IsOutside c p = (diary c p r ≡ None) × ((j : ℕ) → t p j ≡ Some c → ⊥)
 
@@ -105,6 +106,7 @@ module _ (t : Assignment) (xs ys : List ℕ) (ds : List DiaryView) where
     left zero = y.left
     left (suc p) = refl
 
+    -- a report that agrees so far agrees with the assignment
     pub agrees_on_lane : AgreesWith t r
     agrees_on_lane = record {
       given = record {

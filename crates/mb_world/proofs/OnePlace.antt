@@ -6,7 +6,7 @@ use Rattle.mb_world.specs.declared.report.Note.TheVariants.{Took}
 use Rattle.mb_world.specs.Imports.{ClaimAccess, Claims, END, FetchAdd, IsClaimPrefix, Item, Load, ObjectTurn, PoolAct, Stage, Store, Word, load, place_past}
 use Rattle.mb_world.specs.World.{ToCells, ToClaims, WorldAccess, WorldHistory}
 use Rattle.mb_world.specs.ConsumerPath.{ConsumerPath, begins, claim_access, claim_step, item_load, link_load, note_of}
-use Rattle.mb_world.proofs.LastAccess.{Leads, Place, came_from, ended, found, place, took, waited, went}
+use Rattle.mb_world.proofs.LastAccess.{Leads, PathEnd, came_from, ended, found, path_end, took, waited, went}
 
 -- the value of a load
 abbrev act_value : PoolAct → ℕ
@@ -14,6 +14,7 @@ act_value (Load v) = v
 act_value (Store v) = 0
 act_value (FetchAdd x n) = 0
 
+-- the value of a world's access, if it is a load
 abbrev value_of : WorldAccess → ℕ
 value_of (ToCells a) = act_value a.act
 value_of (ToClaims a) = 0
@@ -32,16 +33,18 @@ module _ (cs : Claims) (c p : ℕ) where
     not_cell v k (inl e) ne f = absurd (omega (arith, e, f))
     not_cell v k (inr e) ne f = ne (sym f ∙ e)
 
+    -- a claim that is won makes no more steps
     ended_won : (x : ObjectTurn) (xs : List ObjectTurn) (s : Stage) → IsClaimPrefix cs c (x ∷ xs) s
         → IsClaimPrefix cs c xs stage.Won → ⊥
     ended_won x xs s q won = let e = one_stage xs stage.Going stage.Won (going x xs s q) won in cc
 
+    -- after the same steps a claim has a note or none
     noted_once : (xs : List ObjectTurn) (s r : Stage) (n : Note) → IsClaimPrefix cs c xs s → IsClaimPrefix cs c xs r
         → note_of s ≡ None → note_of r ≡ Some n → ⊥
     noted_once xs s r n q w e f = let same = ap note_of (one_stage xs s r q w) in cc
 
     -- from one place they are one access, and lead to one place
-    pub one_next : {a b : WorldAccess} {was x y : Place} → AreAlike a b → Leads cs c p a was x → Leads cs c p b was y
+    pub one_next : {a b : WorldAccess} {was x y : PathEnd} → AreAlike a b → Leads cs c p a was x → Leads cs c p b was y
         → (a ≡ b) × (x ≡ y)
     one_next l (waited ks ns v says e) (waited _ _ u tells f) =
         (e ∙ (ap (λ (i : ℕ). link_load c p ks i) (l.loads (place_past p ks) v u e f) ∙ sym f), refl)
@@ -52,12 +55,12 @@ module _ (cs : Claims) (c p : ℕ) where
     one_next l (found ks ns k ne _ e) (found _ _ j me _ f) =
         let more = l.loads (place_past p ks) (k + 1) (j + 1) e f in
         let same : k ≡ j = omega (arith, more) in
-        (e ∙ (ap (λ (i : ℕ). link_load c p ks i) more ∙ sym f), ap (λ (i : ℕ). place (i ∷ ks) ns (Some [])) same)
+        (e ∙ (ap (λ (i : ℕ). link_load c p ks i) more ∙ sym f), ap (λ (i : ℕ). path_end (i ∷ ks) ns (Some [])) same)
     one_next l (went ks ns k xs x s q still e) (went _ _ _ _ y r w calm f) =
         let same = l.steps k x y e f in (
           e ∙ (ap (λ (z : ObjectTurn). claim_step c k z) same ∙ sym f),
           ap
-              (λ (z : ObjectTurn). place (k ∷ ks) ns (Some (z ∷ xs))) same,
+              (λ (z : ObjectTurn). path_end (k ∷ ks) ns (Some (z ∷ xs))) same,
         )
     one_next l (went ks ns k xs x s q still e) (ended _ _ _ _ y n r w note f) =
         let same = l.steps k x y e f in
@@ -75,19 +78,20 @@ module _ (cs : Claims) (c p : ℕ) where
         let one : n ≡ m = cc in (
           e ∙ (ap (λ (z : ObjectTurn). claim_step c k z) same ∙ sym f),
           ap
-              (λ (z : Note). place (k ∷ ks) (z ∷ ns) None) one,
+              (λ (z : Note). path_end (k ∷ ks) (z ∷ ns) None) one,
         )
     one_next l (ended ks ns k xs x n s q note e) (took _ _ _ _ v won f) = absurd (ended_won x xs s q won)
     one_next l (took ks ns k xs v won e) (went _ _ _ _ y r w calm f) = absurd (ended_won y xs r w won)
     one_next l (took ks ns k xs v won e) (ended _ _ _ _ y m r w wrote f) = absurd (ended_won y xs r w won)
     one_next l (took ks ns k xs v won e) (took _ _ _ _ u lost f) =
         let same = l.loads (Item k) v u e f in
-        (e ∙ (ap (λ (i : ℕ). item_load c k i) same ∙ sym f), ap (λ (i : ℕ). place (k ∷ ks) (Took i ∷ ns) None) same)
+        (e ∙ (ap (λ (i : ℕ). item_load c k i) same ∙ sym f), ap (λ (i : ℕ). path_end (k ∷ ks) (Took i ∷ ns) None) same)
 
     -- the same access is alike
     value_in_load : (w : Word) (v u : ℕ) → ToCells (load c w v) ≡ ToCells (load c w u) → v ≡ u
     value_in_load w v u e = ap value_of e
 
+    -- one access has one step
     step_in : (k : ℕ) (x y : ObjectTurn) → claim_step c k x ≡ claim_step c k y → x ≡ y
     step_in k x y e = let f : claim_access c k x ≡ claim_access c k y = cc in ap (λ (z : ClaimAccess). z.step) f
 
@@ -97,26 +101,27 @@ module _ (cs : Claims) (c p : ℕ) where
       steps = λ k x y e f. step_in k x y (sym e ∙ f);
     }
 
+    -- who has done nothing stands at the head
     at_first : {ks : List ℕ} {ns : List Note} {z : Option (List ObjectTurn)} → ConsumerPath cs c p [] ks ns z
-        → place ks ns z ≡ place [] [] None
+        → path_end ks ns z ≡ path_end [] [] None
     at_first begins = refl
 
     -- what was done leads to one place
-    pub one_place : (done : WorldHistory) (x y : Place) → ConsumerPath cs c p done x.cells x.notes x.held
+    pub one_place : (done : WorldHistory) (x y : PathEnd) → ConsumerPath cs c p done x.cells x.notes x.held
         → ConsumerPath cs c p done y.cells y.notes y.held → x ≡ y
     one_place [] x y s r = at_first s ∙ sym (at_first r)
     one_place (a ∷ older) x y s r =
         let m = came_from cs c p s in
         let n = came_from cs c p r in
         let same : m.was ≡ n.was = one_place older m.was n.was m.path n.path in
-        (one_next (alike_same a) (subst (λ (z : Place). Leads cs c p a z x) same m.leads) n.leads).1
+        (one_next (alike_same a) (subst (λ (z : PathEnd). Leads cs c p a z x) same m.leads) n.leads).1
 
     -- and goes on with one access
-    pub one_more : (done : WorldHistory) (a b : WorldAccess) (x y : Place) → AreAlike a b
+    pub one_more : (done : WorldHistory) (a b : WorldAccess) (x y : PathEnd) → AreAlike a b
         → ConsumerPath cs c p (a ∷ done) x.cells x.notes x.held
         → ConsumerPath cs c p (b ∷ done) y.cells y.notes y.held → a ≡ b
     one_more done a b x y alike s r =
         let m = came_from cs c p s in
         let n = came_from cs c p r in
         let same : m.was ≡ n.was = one_place done m.was n.was m.path n.path in
-        (one_next alike (subst (λ (z : Place). Leads cs c p a z x) same m.leads) n.leads).0
+        (one_next alike (subst (λ (z : PathEnd). Leads cs c p a z x) same m.leads) n.leads).0

@@ -8,12 +8,13 @@ use Rattle.mb_world.specs.Imports.{Stage, claim_part}
 use Rattle.mb_world.specs.Plan.{Plan}
 use Rattle.mb_world.specs.World.{ToCells, ToClaims, WorldAccess, WorldHistory, claim_accesses}
 use Rattle.mb_world.specs.Worlds.{IsWorldLawful}
-use Rattle.mb_world.specs.Replay.{IsAccessOf, IsEntry, IsRefused, IsReplay, AnswerNames, with_access}
+use Rattle.mb_world.specs.Replay.{IsAccessOf, HasAnswer, IsRefused, IsReplay, AnswerNames, with_access}
 use Rattle.mb_world.proofs.ConsumerEvents.{one_step_access, step_never_both, step_refused_once}
 use Rattle.mb_world.proofs.EventKnown.{EventKnown}
 use Rattle.mb_world.proofs.ProducerEvents.{finish_never_both, finish_refused_once, offer_never_both, offer_refused_once, one_finish, one_offer, one_push, push_never_both, push_refused_once}
 
 module _ (plan : Plan) (h : WorldHistory) (known : EventKnown plan h) where
+  -- an event asks for one access at most
   one_access : (e : Event) (a b : WorldAccess) → IsAccessOf e a h → IsWorldLawful plan (a ∷ h) → IsAccessOf e b h
       → IsWorldLawful plan (b ∷ h) → a ≡ b
   one_access (event.Offer p x) a b x_a la x_b lb = one_offer plan h known p x a b x_a la x_b lb
@@ -21,6 +22,7 @@ module _ (plan : Plan) (h : WorldHistory) (known : EventKnown plan h) where
   one_access (event.Finish p) a b x_a la x_b lb = one_finish plan h known p a b x_a la x_b lb
   one_access (event.Step c p word) a b x_a la x_b lb = one_step_access plan h known c p word a b x_a la x_b lb
 
+  -- an event that is refused has no access
   pub never_both : (e : Event) (r : Answer) (a : WorldAccess) → IsRefused plan e r h → IsAccessOf e a h
       → IsWorldLawful plan (a ∷ h) → ⊥
   never_both (event.Offer p x) r a refused made lawful = offer_never_both plan h known p x r a refused made lawful
@@ -29,6 +31,7 @@ module _ (plan : Plan) (h : WorldHistory) (known : EventKnown plan h) where
   never_both (event.Step c p word) r a refused made lawful =
       step_never_both plan h known c p word r a refused made lawful
 
+  -- an event has one refusal
   refused_once : (e : Event) (r s : Answer) → IsRefused plan e r h → IsRefused plan e s h → r ≡ s
   refused_once (event.Offer p x) r s a b = offer_refused_once plan h known p x r s a b
   refused_once (event.Push p) r s a b = push_refused_once plan h known p r s a b
@@ -42,8 +45,9 @@ module _ (plan : Plan) (h : WorldHistory) (known : EventKnown plan h) where
       let same = known.one_stage a.consumer (a.step ∷ claim_part a.consumer a.cell (claim_accesses h)) x y q w in
       e ∙ (ap (λ (z : Stage). answer.Claimed a.cell a.step.object a.step.turn.act z) same ∙ sym f)
 
-  pub one_entry : (e : Event) (r s : Answer) (a b : Option WorldAccess) → IsEntry plan e r a h → IsEntry plan e s b h
-      → (r ≡ s) × (a ≡ b)
+  -- an event has one answer, and one access or none
+  pub one_entry : (e : Event) (r s : Answer) (a b : Option WorldAccess) → HasAnswer plan e r a h
+      → HasAnswer plan e s b h → (r ≡ s) × (a ≡ b)
   one_entry e r s None None x y = (refused_once e r s x y, refl)
   one_entry e r s None (Some b) x y = absurd (never_both e r b x y.0 y.2)
   one_entry e r s (Some a) None x y = absurd (never_both e s a y x.0 x.2)
@@ -54,11 +58,12 @@ module _ (plan : Plan) (h : WorldHistory) (known : EventKnown plan h) where
 module _ (plan : Plan) (known : (h : WorldHistory) → IsWorldLawful plan h → EventKnown plan h) where
   -- an entry keeps the history lawful
   lawful_on : (e : Event) (r : Answer) (a : Option WorldAccess) (h : WorldHistory) → IsWorldLawful plan h
-      → IsEntry plan e r a h
+      → HasAnswer plan e r a h
       → IsWorldLawful plan (with_access a h)
   lawful_on e r None h lawful x = lawful
   lawful_on e r (Some a) h lawful x = x.2
 
+  -- a replay keeps the history lawful
   pub replay_lawful : (es : List Event) (rs : List Answer) (was now : WorldHistory) → IsWorldLawful plan was
       → IsReplay plan es rs was now → IsWorldLawful plan now
   replay_lawful [] [] was now lawful same = subst (IsWorldLawful plan) (sym same) lawful
@@ -67,6 +72,7 @@ module _ (plan : Plan) (known : (h : WorldHistory) → IsWorldLawful plan h → 
   replay_lawful (e ∷ es) (r ∷ rs) was now lawful (a, entry, rest) =
       replay_lawful es rs (with_access a was) now (lawful_on e r a was lawful entry) rest
 
+  -- events have one list of answers, and lead to one history
   pub one_replay : (es : List Event) (rs ss : List Answer) (was now then : WorldHistory) → IsWorldLawful plan was
       → IsReplay plan es rs was now → IsReplay plan es ss was then → (rs ≡ ss) × (now ≡ then)
   one_replay [] [] [] was now then lawful x y = (refl, x ∙ sym y)

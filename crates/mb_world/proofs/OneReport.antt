@@ -12,16 +12,17 @@ use Rattle.mb_world.specs.Fitting.{EndsAs, HasStageIn, parts_of}
 use Rattle.mb_world.specs.Report.{DiaryView, LaneView, ReportView}
 use Rattle.mb_world.specs.Reporting.{IsDiaryOf, IsReportOf, lane_view}
 use Rattle.mb_world.proofs.Known.{Known}
-use Rattle.mb_world.proofs.Places.{StandsAt, at_has, at_one, has_at, reverse_at}
+use Rattle.mb_world.proofs.Positions.{StandsAt, at_has, at_one, has_at, reverse_at}
 use Rattle.mb_world.proofs.Diaries.{met_at, note_at, placed}
 use Rattle.mb_world.proofs.Loads.{met_given}
 use Rattle.mb_world.proofs.ReaderParts.{loaded-read}
 
--- ---- lists that have one element at each place
+-- ---- lists that have one element at each position
 -- what stands in the one stands in the other
 abbrev StandsIn : {A : Type 0} → List A → List A → Type 0
 StandsIn {A} xs ys = (j : ℕ) (x : A) → slice_get xs j ≡ Some x → slice_get ys j ≡ Some x
 
+-- two lists that have the same at each position are one
 one_list : {A : Type 0} (xs ys : List A) → StandsIn xs ys → StandsIn ys xs → xs ≡ ys
 one_list [] [] f g = refl
 one_list [] (y ∷ ys) f g = absurd (let e : None ≡ Some y = g 0 y refl in cc)
@@ -32,22 +33,25 @@ one_list {A} (x ∷ xs) (y ∷ ys) f g =
     let tails = one_list xs ys (λ j z. f (suc j) z) (λ j z. g (suc j) z) in
     rw (heads, tails) refl
 
+-- a position with an element is in the list
 within : {A : Type 0} (xs : List A) (j : ℕ) (x : A) → slice_get xs j ≡ Some x → j < length xs
 within [] j x e = absurd (cc)
 within (y ∷ xs) zero x e = omega arith
 within (y ∷ xs) (suc j) x e = let less = within xs j x e in omega (arith, less)
 
+-- if there is a diary, there is a lane
 some_lanes : (n m i : ℕ) → i < n * m → 0 < m
 some_lanes n zero i less = omega (arith, less)
 some_lanes n (suc m) i less = omega arith
 
--- and views are what they are made of
+-- a diary and a report made of these parts
 abbrev diary_of : ℕ → ℕ → List Note → Bool → DiaryView
 diary_of c p ns b = record { consumer = c; lane = p; notes = ns; begun = b }
 
 abbrev report_of : List LaneView → List DiaryView → ReportView
 report_of ls ds = record { lanes = ls; diaries = ds }
 
+-- two truth values are one, if each is true if the other is
 one_bool : (a b : Bool) → (a ≡ true → b ≡ true) → (b ≡ true → a ≡ true) → a ≡ b
 one_bool true true f g = refl
 one_bool true false f g = sym (f refl)
@@ -55,6 +59,7 @@ one_bool false true f g = g refl
 one_bool false false f g = refl
 
 module _ (plan : Plan) (hs : Histories) (known : Known plan hs) where
+  -- the claim of consumer c on cell k has ended so
   abbrev Ends : ℕ → ℕ → Note → Type 0
   Ends c k n = EndsAs plan.claims c k n (parts_of c hs)
 
@@ -80,7 +85,7 @@ module _ (plan : Plan) (hs : Histories) (known : Known plan hs) where
 
   -- ---- a consumer has one diary on a lane
   module _ (c p : ℕ) (cs : c < consumers_of plan) where
-    -- cells stand at the same places of both
+    -- cells stand at the same positions of both
     same_at : (d e : DiaryView) (x : IsDiaryOf plan c p hs d) (y : IsDiaryOf plan c p hs e) (j k : ℕ)
         → StandsAt x.cells j k → StandsAt y.cells j k
     same_at d e x y j k at =
@@ -105,6 +110,7 @@ module _ (plan : Plan) (hs : Histories) (known : Known plan hs) where
         let at = has_at x.cells q.0 q.1 in
         y.begun.1 (q.0, at_has y.cells at.0 q.0 (same_at d e x y at.0 q.0 at.1), q.2, q.3)
 
+    -- two diaries of a consumer on a lane are one
     pub one_diary : (d e : DiaryView) → IsDiaryOf plan c p hs d → IsDiaryOf plan c p hs e → d ≡ e
     one_diary d e x y =
         let consumers : d.consumer ≡ e.consumer = x.consumer ∙ sym y.consumer in
@@ -114,7 +120,8 @@ module _ (plan : Plan) (hs : Histories) (known : Known plan hs) where
         let made : diary_of d.consumer d.lane d.notes d.begun ≡ diary_of e.consumer e.lane e.notes e.begun = cc in
         made
 
-  -- ---- and there is one report
+  -- ---- there is one report
+  -- two reports have the same diaries
   same_diary : (r s : ReportView) → IsReportOf plan hs r → IsReportOf plan hs s → StandsIn r.diaries s.diaries
   same_diary r s x y i d is =
       let less : i < consumers_of plan * plan.lanes =
@@ -122,17 +129,18 @@ module _ (plan : Plan) (hs : Histories) (known : Known plan hs) where
       let some : 0 < plan.lanes = some_lanes (consumers_of plan) plan.lanes i less in
       let p = i % plan.lanes in
       let c = i / plan.lanes in
-      let place : c * plan.lanes + p ≡ i = omega (arith, mod-add-div i plan.lanes) in
+      let position : c * plan.lanes + p ≡ i = omega (arith, mod-add-div i plan.lanes) in
       let cs : c < consumers_of plan = (div-lt_iff_lt-mul some).1 less in
       let ps : p < plan.lanes = mod-lt i some in
       let first = x.diary c p cs ps in
       let other = y.diary c p cs ps in
       let e : Some first.0 ≡ Some d =
-      sym first.1 ∙ (ap (λ (j : ℕ). slice_get r.diaries j) place ∙ is) in
+      sym first.1 ∙ (ap (λ (j : ℕ). slice_get r.diaries j) position ∙ is) in
       let same : first.0 ≡ d = cc in
       let one = one_diary c p cs first.0 other.0 first.2 other.2 in
-      ap (λ (j : ℕ). slice_get s.diaries j) (sym place) ∙ (other.1 ∙ ap Some (sym one ∙ same))
+      ap (λ (j : ℕ). slice_get s.diaries j) (sym position) ∙ (other.1 ∙ ap Some (sym one ∙ same))
 
+  -- two reports with one list of diaries have the same lanes
   same_lane : (r s : ReportView) → r.diaries ≡ s.diaries → length r.lanes ≡ length s.lanes → IsReportOf plan hs r
       → IsReportOf plan hs s → StandsIn r.lanes s.lanes
   same_lane r s diaries lanes x y p l is =
@@ -141,6 +149,7 @@ module _ (plan : Plan) (hs : Histories) (known : Known plan hs) where
       let views : lane_view plan p hs s ≡ lane_view plan p hs r = rw (diaries, lanes) refl in
       y.lane p less ∙ (ap Some views ∙ e)
 
+  -- two reports of the same histories are one
   pub one_report : (r s : ReportView) → IsReportOf plan hs r → IsReportOf plan hs s → r ≡ s
   one_report r s x y =
       let diaries = one_list r.diaries s.diaries (same_diary r s x y) (same_diary s r y x) in

@@ -8,16 +8,19 @@ use Rattle.mb_world.specs.declared.report.Note.TheVariants.{Took, Lost, Undecide
 use Rattle.mb_world.specs.Imports.{Claims, Gave, Has, History, IsClaimPrefix, IsGift, IsOnceEach, ObjectTurn, PoolAccess, Stage, claim_part}
 use Rattle.mb_world.specs.World.{WorldHistory, claim_accesses}
 use Rattle.mb_world.specs.ConsumerPath.{has_begun, note_of}
-use Rattle.mb_world.proofs.Places.{StandsAt, at_within, get-snoc}
+use Rattle.mb_world.proofs.Positions.{StandsAt, at_within, get-snoc}
 use Rattle.mb_world.proofs.Tracks.{AreEnds, EndsIn, Tracks, ends_some}
 use mathlib.Core.List.{reverse-cons}
 
+-- ---- ends of claims along cells, and what was given
+-- ends stand beside cells, one for each
 pub ends_length : (E : ℕ → Note → Type 0) (ks : List ℕ) (ns : List Note) → AreEnds E ks ns → length ns ≡ length ks
 ends_length E [] [] h = refl
 ends_length E [] (n ∷ ns) h = absurd h
 ends_length E (k ∷ ks) [] h = absurd h
 ends_length E (k ∷ ks) (n ∷ ns) h = ap suc (ends_length E ks ns h.1)
 
+-- a note stands at the position of its cell
 pub ends_at : (E : ℕ → Note → Type 0) (ks : List ℕ) (ns : List Note) (j : ℕ) (n : Note) → AreEnds E ks ns
     → slice_get (reverse ns) j ≡ Some n → (k : ℕ) × StandsAt ks j k × E k n
 ends_at E [] [] j n h e = absurd (cc)
@@ -33,12 +36,13 @@ ends_at E (k ∷ ks) (m ∷ ns) j n h e =
     by (inl g) older = let q = older g in (q.0, inr q.1, q.2)
     by (inr g) older = (k, inl (g.0 ∙ (length-reverse ns ∙ ends_length E ks ns h.1), refl), subst (E k) g.1 h.0)
 
+-- a cell that was given was given by some access
 pub gave-some : (d : History) (k : ℕ) → Gave k d → (a : PoolAccess) × Has d a × IsGift k a.word a.act
 gave-some [] k g = absurd g
 gave-some (a ∷ d) k (inl g) = (a, inl refl, g)
 gave-some (a ∷ d) k (inr g) = let q = gave-some d k g in (q.0, inr q.1, q.2)
 
--- ---- by the place alone
+-- ---- what the notes and the claim held at a place say
 module _ (cs : Claims) (c : ℕ)
     (one_stage : (c : ℕ) (xs : List ObjectTurn) (s r : Stage) → IsClaimPrefix cs c xs s → IsClaimPrefix cs c xs r
     → s ≡ r) where
@@ -61,6 +65,7 @@ module _ (cs : Claims) (c : ℕ)
       by (stage.Lost u) q still m w = cc
       by stage.Undecided q still m w = cc
 
+  -- a claim that has ended has its note
   pub noted_within : (done : WorldHistory) (ks : List ℕ) (ns : List Note) (held : Option (List ObjectTurn))
       → IsOnceEach ks → Tracks cs c done ks ns held
       → (j k : ℕ) (n : Note) → StandsAt ks j k → EndsIn cs c done k n → j < length ns
@@ -72,9 +77,11 @@ module _ (cs : Claims) (c : ℕ)
   noted_within done (q ∷ qs) ns (Some xs) once y j k n (inr at) e =
       omega (arith, at_within qs j k at, ends_length (EndsIn cs c done) qs ns y.ended)
 
+  -- cell k is one of these, has steps of the claim there, and the claim has no end
   abbrev pub IsOpenAt : WorldHistory → List ℕ → ℕ → Type 0
   IsOpenAt done ks k = Has ks k × (claim_part c k (claim_accesses done) ≢ []) × ((n : Note) → EndsIn cs c done k n → ⊥)
 
+  -- if a claim is begun, some claim with an access has no end
   pub begun_open : (done : WorldHistory) (ks : List ℕ) (ns : List Note) (held : Option (List ObjectTurn))
       → IsOnceEach ks → Tracks cs c done ks ns held
       → has_begun held ≡ true → (k : ℕ) × IsOpenAt done ks k
@@ -84,6 +91,7 @@ module _ (cs : Claims) (c : ℕ)
   begun_open done (q ∷ qs) ns (Some (x ∷ xs)) once y b =
       (q, (inl refl, (λ e. let d : x ∷ xs ≡ [] = sym y.is_held ∙ e in cc), open_end done q qs ns (x ∷ xs) once y))
 
+  -- if a claim with an access has no end, it is the one that is begun
   pub open_begun : (done : WorldHistory) (ks : List ℕ) (ns : List Note) (held : Option (List ObjectTurn))
       → Tracks cs c done ks ns held
       → (k : ℕ) → IsOpenAt done ks k → has_begun held ≡ true

@@ -19,13 +19,16 @@ met_more q p d h (k ∷ ks) more met =
     (more (load q (place_past p ks) (k + 1)) met.0, met.1, met_more q p d h ks more met.2)
 
 -- ---- what a load gives
+-- 0 and the end mark give no cell
 pub none_given : (v : ℕ) → (v ≡ 0) ⊎ (v ≡ END) → cell_given (Load v) ≡ None
 none_given v (inl e) = rw e refl
 none_given v (inr e) = rw e refl
 
+-- k + 1 gives cell k
 pub one_given : (k : ℕ) → k + 1 ≢ END → cell_given (Load (k + 1)) ≡ Some k
 one_given k ne = rw (ne_eqb (k + 1) 0 (λ e. omega (arith, e)), ne_eqb (k + 1) END ne) (ap Some (omega arith))
 
+-- a load of 0 or of the end mark is no gift
 not_gift : (w : Word) (k v : ℕ) → (v ≡ 0) ⊎ (v ≡ END) → IsGift k w (Load v) → ⊥
 not_gift Counter k v says g = g
 not_gift (Head p) k v (inl e) g = absurd (omega (arith, g.0))
@@ -34,13 +37,14 @@ not_gift (Link p) k v (inl e) g = absurd (omega (arith, g.0))
 not_gift (Link p) k v (inr e) g = g.1 e
 not_gift (Item p) k v says g = g
 
+-- a load of k + 1 is a gift of no other cell than k
 gift_is : (w : Word) (j k : ℕ) → IsGift j w (Load (k + 1)) → k ≡ j
 gift_is Counter j k g = absurd g
 gift_is (Head p) j k g = omega (arith, g.0)
 gift_is (Link p) j k g = omega (arith, g.0)
 gift_is (Item p) j k g = absurd g
 
--- ---- the cells met
+-- ---- which cells a load more meets
 -- a load of the link past those met before meets the cell that it gives
 pub met_there : (p : ℕ) (ks : List ℕ) (a : PoolAccess) (older : History) → cells_met p older ≡ ks
     → a.word ≡ place_past p ks
@@ -57,6 +61,7 @@ pub met_elsewhere : (p : ℕ) (a : PoolAccess) (older : History)
 met_elsewhere p a older other =
     ap (λ b. cond b (push_if (cell_given a.act) (cells_met p older)) (cells_met p older)) other
 
+-- an item is no link past cells
 item_elsewhere : (p k : ℕ) (ks : List ℕ) → is_same_word (Item k) (place_past p ks) ≡ false
 item_elsewhere p k [] = refl
 item_elsewhere p k (j ∷ ks) = refl
@@ -66,9 +71,9 @@ abbrev pub FollowsLane : ℕ → History → Type 0
 FollowsLane p [] = Unit {0}
 FollowsLane p (a ∷ older) = (IsLinkWord a.word → a.word ≡ place_past p (cells_met p older)) × FollowsLane p older
 
--- ---- along a path
+-- ---- what was met and loaded along a path
 module _ (cs : Claims) (c : ℕ) where
-  -- the cells that it leads to were met
+  -- the cells to which the path leads were met
   pub path_met : {p : ℕ} {done : WorldHistory} {ks : List ℕ} {ns : List Note} {held : Option (List ObjectTurn)}
       → ConsumerPath cs c p done ks ns held → HasMet c p ks (pool_accesses done)
   path_met begins = tt
@@ -86,7 +91,7 @@ module _ (cs : Claims) (c : ℕ) where
   path_met {p} (takes {older} {ks} {ns} {k} {xs} {v} q s) =
       met_more c p (pool_accesses older) (load c (Item k) v ∷ pool_accesses older) (k ∷ ks) (λ b m. inr m) (path_met s)
 
-  -- they are the cells met
+  -- they are all the cells met
   pub path_cells : {p : ℕ} {done : WorldHistory} {ks : List ℕ} {ns : List Note} {held : Option (List ObjectTurn)}
       → ConsumerPath cs c p done ks ns held → cells_met p (pool_accesses done) ≡ ks
   path_cells begins = refl
@@ -102,7 +107,7 @@ module _ (cs : Claims) (c : ℕ) where
       met_elsewhere p (load c (Item k) v) (pool_accesses older) (item_elsewhere p k (cells_met p (pool_accesses older)))
       ∙ path_cells s
 
-  -- its loads of links follow them
+  -- the path's loads of links follow the cells met
   pub path_follows : {p : ℕ} {done : WorldHistory} {ks : List ℕ} {ns : List Note} {held : Option (List ObjectTurn)}
       → ConsumerPath cs c p done ks ns held → FollowsLane p (pool_accesses done)
   path_follows begins = tt
@@ -125,7 +130,7 @@ module _ (cs : Claims) (c : ℕ) where
   path_given k (ends z q note s) has = path_given k s has
   path_given k (takes q s) has = inr (path_given k s has)
 
-  -- and no other
+  -- each cell that was given is one of those met
   pub path_gave : {p : ℕ} {done : WorldHistory} {ks : List ℕ} {ns : List Note} {held : Option (List ObjectTurn)} (j : ℕ)
       → ConsumerPath cs c p done ks ns held → Gave j (pool_accesses done) → Has ks j
   path_gave j begins g = absurd g
@@ -138,12 +143,13 @@ module _ (cs : Claims) (c : ℕ) where
   path_gave j (takes q s) (inl g) = absurd g
   path_gave j (takes q s) (inr g) = path_gave j s g
 
-  -- its loads are a reader path
+  -- a reader that was given these cells may load the link past them
   may_past : (lanes p : ℕ) (d : History) (ks : List ℕ) → p < lanes → ((k : ℕ) → Has ks k → Gave k d)
       → MayRead lanes (place_past p ks) d
   may_past lanes p d [] below given = below
   may_past lanes p d (k ∷ ks) below given = given k (inl refl)
 
+  -- the path's loads are a reader path
   pub path_reads : (lanes : ℕ) {p : ℕ} {done : WorldHistory} {ks : List ℕ} {ns : List Note} {held : Option
       (List ObjectTurn)}
       → p < lanes → ConsumerPath cs c p done ks ns held → IsReaderPath lanes (pool_accesses done)

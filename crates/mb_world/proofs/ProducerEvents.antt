@@ -16,21 +16,25 @@ use Rattle.mb_world.specs.Worlds.{IsWorldLawful}
 use Rattle.mb_world.specs.Replay.{IsAccessOf, IsLaneOf, IsPushed, IsRefused}
 use Rattle.mb_world.proofs.EventKnown.{EventKnown}
 
--- a store, where there is one
+-- a store of a value in a word, as a push has it
 abbrev stored : Word → ℕ → Option (Word × ℕ)
 stored w v = Some (w, v)
 
+-- the word of such a store
 abbrev stored_word : Option (Word × ℕ) → Word
 stored_word None = Counter
 stored_word (Some s) = s.0
 
+-- the value of such a store
 abbrev stored_value : Option (Word × ℕ) → ℕ
 stored_value None = 0
 stored_value (Some s) = s.1
 
+-- two such stores that are one store in one word
 first_same : (w u : Word) (v x : ℕ) → stored w v ≡ stored u x → w ≡ u
 first_same w u v x e = ap stored_word e
 
+-- two such stores that are one store one value
 second_same : (w u : Word) (v x : ℕ) → stored w v ≡ stored u x → v ≡ x
 second_same w u v x e = ap stored_value e
 
@@ -46,7 +50,8 @@ module _ (plan : Plan) (h : WorldHistory) (known : EventKnown plan h) (p : ℕ) 
       (eq-eqb p p refl))
       (lawful.producers p)
 
-  -- ---- offers
+  -- ---- offers have one access or one refusal
+  -- an offer has one access
   pub one_offer : (x : ℕ) (a b : WorldAccess) → IsAccessOf (event.Offer p x) a h → IsWorldLawful plan (a ∷ h)
       → IsAccessOf (event.Offer p x) b h → IsWorldLawful plan (b ∷ h) → a ≡ b
   one_offer x a b (n, is_a) la (m, is_b) lb =
@@ -59,6 +64,7 @@ module _ (plan : Plan) (h : WorldHistory) (known : EventKnown plan h) (p : ℕ) 
       (number n a is_a la ∙ sym (number m b is_b lb))
       ∙ sym is_b)
 
+  -- an offer that is refused has no access
   pub offer_never_both : (x : ℕ) (r : Answer) (a : WorldAccess) → IsRefused plan (event.Offer p x) r h
       → IsAccessOf (event.Offer p x) a h → IsWorldLawful plan (a ∷ h) → ⊥
   offer_never_both x r a refused (n, is_a) la = by refused
@@ -76,6 +82,7 @@ module _ (plan : Plan) (h : WorldHistory) (known : EventKnown plan h) (p : ℕ) 
           let f : None ≡ Some why = sym free ∙ refuses in
           cc
 
+  -- an offer has one refusal
   pub offer_refused_once : (x : ℕ) (r s : Answer) → IsRefused plan (event.Offer p x) r h
       → IsRefused plan (event.Offer p x) s h
       → r ≡ s
@@ -88,7 +95,7 @@ module _ (plan : Plan) (h : WorldHistory) (known : EventKnown plan h) (p : ℕ) 
       let one : why ≡ because = cc in
       e ∙ (ap answer.Offered one ∙ sym f)
 
-  -- ---- pushes and finishes
+  -- ---- pushes and finishes have one access or one refusal
   -- a push stores no end mark in a link
   no_mark_of : (link w : Word) (done : Phase) → PhaseFits plan.claims.cells done
       → stage_push_store link (stage_of done) ≡ stored w END
@@ -102,6 +109,7 @@ module _ (plan : Plan) (h : WorldHistory) (known : EventKnown plan h) (p : ℕ) 
   no_mark_of link w (phase.Ended None) fits e is_link = cc
   no_mark_of link w (phase.Ended (Some x)) fits e is_link = cc
 
+  -- no push stores an end mark in a head or link
   pub no_mark : (lane : Lane) (w : Word) → IsLaneOf plan p lane h → push_store p lane ≡ stored w END → IsLinkWord w → ⊥
   no_mark lane w at e is_link =
       no_mark_of (next_link p lane) w at.phase at.at.fits
@@ -115,6 +123,7 @@ module _ (plan : Plan) (h : WorldHistory) (known : EventKnown plan h) (p : ℕ) 
       by None ne = ne refl
       by (Some k) ne = ne refl
 
+  -- a push has one access
   pub one_push : (a b : WorldAccess) → IsAccessOf (event.Push p) a h → IsWorldLawful plan (a ∷ h)
       → IsAccessOf (event.Push p) b h → IsWorldLawful plan (b ∷ h) → a ≡ b
   one_push a b (w, v, push_a, is_a) la (u, x, push_b, is_b) lb =
@@ -137,6 +146,7 @@ module _ (plan : Plan) (h : WorldHistory) (known : EventKnown plan h) (p : ℕ) 
       same : stored w v ≡ stored u x
       same = sym (pushes w v a push_a is_a la) ∙ pushes u x b push_b is_b lb
 
+  -- a push that is refused has no access
   pub push_never_both : (r : Answer) (a : WorldAccess) → IsRefused plan (event.Push p) r h
       → IsAccessOf (event.Push p) a h
       → IsWorldLawful plan (a ∷ h) → ⊥
@@ -152,12 +162,14 @@ module _ (plan : Plan) (h : WorldHistory) (known : EventKnown plan h) (p : ℕ) 
         | inr mark ↦ not_pushed lane w v mark.1.0 mark.1.1 pushed
       ]
 
+  -- a push has one refusal
   pub push_refused_once : (r s : Answer) → IsRefused plan (event.Push p) r h → IsRefused plan (event.Push p) s h → r ≡ s
   push_refused_once r s (inl (_, e)) (inl (_, f)) = e ∙ sym f
   push_refused_once r s (inl (past, _)) (inr (ps, _)) = absurd (omega (arith, past, ps))
   push_refused_once r s (inr (ps, _)) (inl (past, _)) = absurd (omega (arith, past, ps))
   push_refused_once r s (inr (_, (lane, at, idle, e))) (inr (_, (other, there, still, f))) = e ∙ sym f
 
+  -- a finish has one access
   pub one_finish : (a b : WorldAccess) → IsAccessOf (event.Finish p) a h → IsWorldLawful plan (a ∷ h)
       → IsAccessOf (event.Finish p) b h → IsWorldLawful plan (b ∷ h) → a ≡ b
   one_finish a b (w, link_a, is_a) la (u, link_b, is_b) lb =
@@ -177,6 +189,7 @@ module _ (plan : Plan) (h : WorldHistory) (known : EventKnown plan h) (p : ℕ) 
             | inr mark ↦ mark.1.0
           ]
 
+  -- a finish that is refused has no access
   pub finish_never_both : (r : Answer) (a : WorldAccess) → IsRefused plan (event.Finish p) r h
       → IsAccessOf (event.Finish p) a h
       → IsWorldLawful plan (a ∷ h) → ⊥
@@ -193,6 +206,7 @@ module _ (plan : Plan) (h : WorldHistory) (known : EventKnown plan h) (p : ℕ) 
             | inr mark ↦ let f : None ≡ Some why = sym mark.0 ∙ refuses in cc
           ]
 
+  -- a finish has one refusal
   pub finish_refused_once : (r s : Answer) → IsRefused plan (event.Finish p) r h
       → IsRefused plan (event.Finish p) s h → r ≡ s
   finish_refused_once r s (inl (_, e)) (inl (_, f)) = e ∙ sym f

@@ -30,24 +30,26 @@ use Rattle.mb_world.specs.World.{ToCells, WorldHistory, pool_accesses}
 use Rattle.mb_world.specs.ConsumerPath.{ConsumerPath}
 use Rattle.mb_world.specs.Worlds.{ProducerAdds}
 use Rattle.mb_world.specs.Replay.{IsLaneOf, IsPushed, answer_to, answer_to_link}
-use Rattle.mb_world.specs.WorldState.{IsNoteAfter, IsSeatAfter, IsWorldAfter, WorldState}
+use Rattle.mb_world.specs.WorldState.{IsNoteAfter, IsPlaceAfter, IsWorldAfter, WorldState}
 use Rattle.mb_world.specs.EventSteps.{EventAdds, with_pool}
 use Rattle.mb_world.proofs.StateEnds.{Ends}
-use Rattle.mb_world.proofs.StatePlaces.{all_kept}
+use Rattle.mb_world.proofs.Grids.{all_kept}
 use Rattle.mb_world.proofs.StateSteps.{plan}
 
 module _ (s : WorldState) (h : WorldHistory) (is : IsWorldAfter h s) (p : ℕ) (ps : p < (plan s h is).lanes)
     (goes : (a : PoolAccess) → a.process ≡ Producer p
     → IsPoolLawful (size_of (plan s h is)) (a ∷ pool_accesses h) → ProducerAdds (plan s h is) a h)
     (pool : PoolState) (same : SameSize s.pool pool) where
+  -- the pool has the plan's lanes
   lanes_now : lane_count pool ≡ (plan s h is).lanes
   lanes_now = same.0 ∙ is.lanes
 
+  -- the pool has the plan's cells
   cells_now : cell_count pool ≡ (plan s h is).claims.cells
   cells_now = same.1 ∙ is.cells
 
-  -- ---- the state
-  -- without an access
+  -- ---- the state after a call
+  -- after a call without an access
   after_none : IsAfter (pool_accesses h) pool → IsWorldAfter h (with_pool pool s)
   after_none after = record {
     lawful = is.lawful;
@@ -55,13 +57,13 @@ module _ (s : WorldState) (h : WorldHistory) (is : IsWorldAfter h s) (p : ℕ) (
     cells = cells_now;
     pool = after;
     words = is.words;
-    seats_count = is.seats_count;
-    seat = is.seat;
+    places_count = is.places_count;
+    place = is.place;
     notes_count = is.notes_count;
     note = is.note;
   }
 
-  -- with an access of the producer
+  -- after a call with an access of the producer
   module _ (a : PoolAccess) (maker : a.process ≡ Producer p) (after : IsAfter (a ∷ pool_accesses h) pool) where
     pub adds : ProducerAdds (plan s h is) a h
     adds =
@@ -90,9 +92,9 @@ module _ (s : WorldState) (h : WorldHistory) (is : IsWorldAfter h s) (p : ℕ) (
       cells = cells_now;
       pool = after;
       words = is.words;
-      seats_count = is.seats_count;
-      seat = all_kept (consumers_of (plan s h is)) (plan s h is).lanes (λ e q x. IsSeatAfter s.setup e q h x)
-          (λ e q x. IsSeatAfter s.setup e q (ToCells a ∷ h) x) s.seats is.seat
+      places_count = is.places_count;
+      place = all_kept (consumers_of (plan s h is)) (plan s h is).lanes (λ e q x. IsPlaceAfter s.setup e q h x)
+          (λ e q x. IsPlaceAfter s.setup e q (ToCells a ∷ h) x) s.places is.place
           (λ e q x _ _ _ y. record {
             cells = y.cells;
             notes = y.notes;
@@ -109,23 +111,29 @@ module _ (s : WorldState) (h : WorldHistory) (is : IsWorldAfter h s) (p : ℕ) (
     }
 
   -- ---- the producer's place
+  -- the place of the producer, as the pool has it
   abbrev lane_here : Lane
   lane_here = slice_index_or s.pool.lanes p new_lane
 
+  -- it is the place to which its part leads
   at : IsLaneAfter (cell_count s.pool) p lane_here (part (Producer p) (pool_accesses h))
   at = is.pool.lanes p new_lane (omega (arith, ps, is.lanes))
 
+  -- it is its place after the history
   lane_of : IsLaneOf (plan s h is) p lane_here h
   lane_of =
       subst (λ (n : ℕ). IsLaneAfter n p lane_here (part (Producer p) (pool_accesses h))) is.cells at
 
-  -- ---- offers
+  -- ---- what offers make of the world
+  -- the number that the counter holds
   abbrev n : ℕ
   n = value_in Counter (pool_accesses h)
 
+  -- the fetch-add for an item, which finds that number
   abbrev taken : ℕ → PoolAccess
   taken x = fetch p (record { cell = n; value = x })
 
+  -- what an offer makes of the world
   pub offered : (x : ℕ) (z : Offer) → OfferMeets s.pool p x z pool
       → EventAdds (event.Offer p x) (answer.Offered z) (with_pool pool s) h
   offered x z meets =
@@ -151,7 +159,8 @@ module _ (s : WorldState) (h : WorldHistory) (is : IsWorldAfter h s) (p : ℕ) (
         left = after_none later;
       }
 
-  -- ---- pushes
+  -- ---- what pushes make of the world
+  -- a cell that is to be linked is no end mark
   link_is_no_mark : (cell : ℕ) (done : Phase) → PhaseFits (plan s h is).claims.cells done
       → lane.Stored cell ≡ stage_of done → cell + 1 ≢ END
   link_is_no_mark cell phase.Open fits e = absurd (cc)
@@ -164,9 +173,11 @@ module _ (s : WorldState) (h : WorldHistory) (is : IsWorldAfter h s) (p : ℕ) (
 
   -- what a push stores, and its answer
   pub record IsPush (w : Word) (v : ℕ) (z : Push) : Type 0 where
+    -- what a push makes of the world
     pub pushed : IsPushed w v
     pub named : answer_to (plan s h is).claims.cells w (Store v) ≡ Some (answer.Pushed z)
 
+  -- a store of a link is what a push stores, and its answer names the cell
   pushes_link : (last : Option ℕ) (cell : ℕ) → cell + 1 ≢ END → IsPush (link_after p last) (cell + 1) (push.Link cell)
   pushes_link last cell other = by last
     where
@@ -218,11 +229,12 @@ module _ (s : WorldState) (h : WorldHistory) (is : IsWorldAfter h s) (p : ℕ) (
       by lane.Full e t later = rests (ap (stage_push_store (next_link p lane_here)) e) t later
       by lane.Open e t later = rests (ap (stage_push_store (next_link p lane_here)) e) t later
 
-  -- ---- finishes
+  -- ---- what finishes make of the world
   record IsMark (w : Word) : Type 0 where
     pub link : IsLinkWord w
     pub named : answer_to (plan s h is).claims.cells w (Store END) ≡ Some (answer.Finished finish.Ended)
 
+  -- the end mark goes to a head or link
   marks : (last : Option ℕ) → IsMark (link_after p last)
   marks last = by last
     where
@@ -233,9 +245,11 @@ module _ (s : WorldState) (h : WorldHistory) (is : IsWorldAfter h s) (p : ℕ) (
       by None = record { link = tt; named = told }
       by (Some k) = record { link = tt; named = told }
 
+  -- the store of the end mark
   abbrev marked : PoolAccess
   marked = store p (next_link p lane_here) END
 
+  -- what a finish makes of the world
   pub finished : (z : Finish) → FinishMeets s.pool p z pool
       → EventAdds (event.Finish p) (answer.Finished z) (with_pool pool s) h
   finished z meets =

@@ -12,7 +12,7 @@ use Rattle.mb_world.proofs.Cells.{cell-of_true, has_cell-true}
 use Rattle.mb_world.proofs.LaneParts.{filter_same}
 use Rattle.mb_world.proofs.ReaderParts.{reader_is}
 
--- a lane after an access: another's stays, its own may have one cell more
+-- a lane after an access of producer p: that of another stays, and its own may have one cell more
 linked_other : (p q : ℕ) (a : PoolAccess) (h : History) → a.process ≡ Producer p → (q ≡ p → ⊥)
     → linked_cells q (a ∷ h) ≡ linked_cells q h
 linked_other p q a h own other =
@@ -28,6 +28,7 @@ linked_own p a h own =
     (linked_cells p h)) own
     ∙ ap (λ (b : Bool). cond b (push_if (link_of a.word a.act) (linked_cells p h)) (linked_cells p h)) (eq-eqb p p refl)
 
+-- a cell that is linked stays linked
 linked_more : (q : ℕ) (a : PoolAccess) (h : History) (k : ℕ) → Has (linked_cells q h) k → Has (linked_cells q (a ∷ h)) k
 linked_more q a h k has =
     cond_both (is_same_process (Producer q) a.process) (push_if (link_of a.word a.act) (linked_cells q h))
@@ -38,6 +39,7 @@ linked_more q a h k has =
     by None = has
     by (Some j) = inr has
 
+-- an access of a producer is in no consumer's part
 is_on_none : (c q p : ℕ) (ls : List ℕ) (a : PoolAccess) → a.process ≡ Producer p → is_on c q ls (ToCells a) ≡ false
 is_on_none c q p ls a own = ap (λ (w : Process). is_same_process (Reader c) w && is_of_lane q ls a.word) own
 
@@ -54,7 +56,7 @@ module _ (plan : Plan) (h : WorldHistory) (lawful : IsWorldLawful plan h)
     (one : (p q k : ℕ) → Has (linked_cells p (a ∷ pool_accesses h)) k → Has (linked_cells q (a ∷ pool_accesses h)) k
     → p ≡ q)
     (once : (p : ℕ) → IsOnceEach (linked_cells p (a ∷ pool_accesses h))) where
-  -- a cell that is linked_cells now was on no lane
+  -- a cell that the access links was on no lane
   new_cell : (k : ℕ) → link_of a.word a.act ≡ Some k → (q : ℕ) → Has (linked_cells q (pool_accesses h)) k → ⊥
   new_cell k is q has = by (cases_eq q p)
     where
@@ -70,7 +72,7 @@ module _ (plan : Plan) (h : WorldHistory) (lawful : IsWorldLawful plan h)
           ne (one q p k (linked_more q a (pool_accesses h) k has)
           (subst (λ (ls : List ℕ). Has ls k) (sym own) (inl refl)))
 
-  -- no access of a consumer is on it
+  -- no access of a consumer is on that cell
   on_same : (c q k : ℕ) → link_of a.word a.act ≡ Some k → (x : WorldAccess) → Has h x
       → is_on c q (k ∷ linked_cells q (pool_accesses h)) x ≡ is_on c q (linked_cells q (pool_accesses h)) x
   on_same c q k is (ToClaims x) has = by (cases_Bool (nat_eq x.consumer c))

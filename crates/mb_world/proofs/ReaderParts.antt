@@ -4,7 +4,7 @@ use Rattle.std.proofs.lemmas.Bool.{cond_both}
 use Rattle.mb_world.specs.Imports.{Counter, Has, HasLoaded, Head, History, Item, Link, Load, PoolAccess, PoolAct, Process, Producer, Reader, Word, is_same_process, is_same_word, load, part}
 use Rattle.mb_world.specs.Fitting.{HasRead}
 
--- ---- names
+-- ---- a process, a word and an access are told by their parts
 pub reader_same : (q : ℕ) → is_same_process (Reader q) (Reader q) ≡ true
 reader_same q = eq-eqb q q refl
 
@@ -41,7 +41,8 @@ pub access_is : (a : PoolAccess) (who : Process) (w : Word) (act : PoolAct) → 
     → a ≡ record { process = who; word = w; act = act }
 access_is a who w act e f g = rw (← e, ← f, ← g) refl
 
--- ---- parts
+-- ---- the part of a reader
+-- a reader's access is in its part
 pub has_part : (q : ℕ) (h : History) (a : PoolAccess) → Has h a → a.process ≡ Reader q → Has (part (Reader q) h) a
 has_part q [] a has by_q = absurd has
 has_part q (b ∷ h) a (inl e) by_q =
@@ -54,6 +55,7 @@ has_part q (b ∷ h) a (inr has) by_q =
     (λ (l : History). Has l a)
     (λ _. inr (has_part q h a has by_q)) (λ _. has_part q h a has by_q)
 
+-- an access of a reader's part is the reader's
 pub of_part : (q : ℕ) (h : History) (a : PoolAccess) → Has (part (Reader q) h) a → Has h a × (a.process ≡ Reader q)
 of_part q [] a has = absurd has
 of_part q (b ∷ h) a has =
@@ -74,7 +76,7 @@ of_part q (b ∷ h) a has =
 pub read-loaded : (q : ℕ) (h : History) (w : Word) (v : ℕ) → HasLoaded q w v h → HasRead w v (part (Reader q) h)
 read-loaded q h w v has = (load q w v, has_part q h (load q w v) has refl, refl, refl)
 
--- and nothing else
+-- what a reader's part has the reader loaded
 pub loaded-read : (q : ℕ) (h : History) (w : Word) (v : ℕ) → HasRead w v (part (Reader q) h) → HasLoaded q w v h
 loaded-read q h w v read =
     let own = of_part q h read.0 read.1 in

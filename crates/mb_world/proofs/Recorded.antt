@@ -20,10 +20,11 @@ use Rattle.mb_world.proofs.Assigned.{AreNotesRight, winner_named}
 use Rattle.mb_world.proofs.Diaries.{begun_within, competes_at, met_at, note_at, placed, value_of, within}
 use Rattle.mb_world.proofs.Known.{Known}
 use Rattle.mb_world.proofs.LaneEnds.{ends_noted}
-use Rattle.mb_world.proofs.Places.{at_one}
-use Rattle.mb_world.proofs.ReportPlaces.{IsInside, begun_is, diary_none, inside, left_is, no_lane, note_in, notes_is, put_is}
+use Rattle.mb_world.proofs.Positions.{at_one}
+use Rattle.mb_world.proofs.ReportPositions.{IsInside, begun_is, diary_none, inside, left_is, no_lane, note_in, notes_is, put_is}
 
 module _ (plan : Plan) (hs : Histories) (known : Known plan hs) where
+  -- this is the diary of consumer c on lane p
   abbrev Diary : ℕ → ℕ → DiaryView → Type 0
   Diary c p d = IsDiaryOf plan c p hs d
 
@@ -76,12 +77,14 @@ module _ (plan : Plan) (hs : Histories) (known : Known plan hs) where
     competed_in c p j cs ps (inr next) = inr
         (rw (notes_is plan hs r is c p cs ps) next.0, rw (begun_is plan hs r is c p cs ps) next.1)
 
+    -- a note of an item taken has its value
     value : (c p j x : ℕ) → note c p j r ≡ Some (Took x) → slice_get (items_put p r) j ≡ Some x
     value c p j x e =
         let i = note_in plan hs r is c p j (Took x) e in
         let d = is.diary c p i.0 i.1 in
         rw (put_is plan hs r is p i.1) (value_of plan hs known c p i.0 d.0 d.2 j x i.2)
 
+    -- there are no more notes than items
     notes_within : (c p : ℕ) → length (notes c p r) ≤ length (items_put p r)
     notes_within c p = by_cases (cases_lt p plan.lanes) (cases_lt c (consumers_of plan))
       where
@@ -93,6 +96,7 @@ module _ (plan : Plan) (hs : Histories) (known : Known plan hs) where
         by_cases (inr past) o = rw (diary_none plan hs r is c p (inl past)) (omega arith)
         by_cases (inl ps) (inr past) = rw (diary_none plan hs r is c p (inr past)) (omega arith)
 
+    -- a claim that is begun is on an item
     claims_within : (c p : ℕ) → is_begun c p r ≡ true → length (notes c p r) < length (items_put p r)
     claims_within c p b =
         let d = is.diary c p there.0 there.1 in
@@ -102,6 +106,7 @@ module _ (plan : Plan) (hs : Histories) (known : Known plan hs) where
         there : IsInside plan c p
         there = inside plan hs r is c p (λ none. let q : false ≡ true = rw none at b in cc)
 
+    -- a loss names another consumer, which competed
     lost : (c w p j : ℕ) → note c p j r ≡ Some (Lost w) → (w ≢ c) × HasCompeted w p j r
     lost c w p j e = by_winner (cases_lt w (consumers_of plan))
       where
@@ -121,6 +126,7 @@ module _ (plan : Plan) (hs : Histories) (known : Known plan hs) where
             let some = (known.winner a.0).competed c w (stage.Lost w) (i.0, a.2) refl in
             absurd (omega (arith, (known.claimant w a.0 some).0))
 
+    -- notes at one position of a lane name one winner
     one : (c d p j : ℕ) (n m : Note) (u w : ℕ) → note c p j r ≡ Some n → note d p j r ≡ Some m
         → winner_named c n ≡ Some u → winner_named d m ≡ Some w → u ≡ w
     one c d p j n m u w e f en fm =
@@ -130,6 +136,7 @@ module _ (plan : Plan) (hs : Histories) (known : Known plan hs) where
         let y = is.diary d p k.0 k.1 in
         one_winner c d p j x.0 y.0 n m u w i.0 k.0 x.2 y.2 i.2 k.2 en fm
 
+    -- the items left are those of which no note says that they were taken
     left_all : (p : ℕ) → items_left p r ≡ items_where (λ j. not (is_taken (consumers_of plan) p j r)) (items_put p r)
     left_all p = by_lane (cases_lt p plan.lanes)
       where
@@ -138,6 +145,7 @@ module _ (plan : Plan) (hs : Histories) (known : Known plan hs) where
         by_lane (inl ps) = rw (put_is plan hs r is p ps) (left_is plan hs r is p ps)
         by_lane (inr past) = rw (no_lane plan hs r is p past) refl
 
+    -- so the notes of the report are right
     pub right : AreNotesRight (consumers_of plan) r
     right = record {
       value = value;

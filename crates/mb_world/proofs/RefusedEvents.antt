@@ -14,7 +14,8 @@ use Rattle.mb_world.specs.Replay.{IsLaneOf, IsRefused}
 
 module _ (plan : Plan) (h : WorldHistory) (p : ℕ) (ps : p < plan.lanes)
     (place : (lane : Lane) × IsLaneOf plan p lane h) where
-  -- ---- offers
+  -- ---- when offers are refused
+  -- an offer is refused so exactly if its producer's place says so
   pub offer_refused : (x : ℕ) (why : Offer) (X : Type 0)
       → ((lane : Lane) → IsLaneOf plan p lane h → (offer_refusal lane ≡ Some why) ↔ X)
       → IsRefused plan (event.Offer p x) (answer.Offered why) h ↔ X
@@ -28,13 +29,15 @@ module _ (plan : Plan) (h : WorldHistory) (p : ℕ) (ps : p < plan.lanes)
       from : X → IsRefused plan (event.Offer p x) (answer.Offered why) h
       from is = inr (ps, (place.0, why, place.1, (says place.0 place.1).1 is, refl))
 
+  -- an offer that its producer's place does not refuse is not refused
   pub offer_free : (x : ℕ) (r : Answer) → ((lane : Lane) → IsLaneOf plan p lane h → offer_refusal lane ≡ None)
       → IsRefused plan (event.Offer p x) r h → ⊥
   offer_free x r free (inl (past, e)) = omega (arith, past, ps)
   offer_free x r free (inr (_, (lane, why, at, refuses, e))) =
       let f : None ≡ Some why = sym (free lane at) ∙ refuses in cc
 
-  -- ---- pushes
+  -- ---- when pushes are refused
+  -- a push is refused exactly if its producer's place has nothing to store
   pub push_refused : (r : Answer) (X : Type 0)
       → ((lane : Lane) → IsLaneOf plan p lane h → (push_store p lane ≡ None) ↔ X)
       → IsRefused plan (event.Push p) r h ↔ ((r ≡ answer.Pushed push.Idle) × X)
@@ -47,7 +50,8 @@ module _ (plan : Plan) (h : WorldHistory) (p : ℕ) (ps : p < plan.lanes)
       from : (r ≡ answer.Pushed push.Idle) × X → IsRefused plan (event.Push p) r h
       from (e, is) = inr (ps, (place.0, place.1, (says place.0 place.1).1 is, e))
 
-  -- ---- finishes
+  -- ---- when finishes are refused
+  -- a finish is refused so exactly if its producer's place says so
   pub finish_refused : (why : Finish) (X : Type 0)
       → ((lane : Lane) → IsLaneOf plan p lane h → (finish_refusal lane ≡ Some why) ↔ X)
       → IsRefused plan (event.Finish p) (answer.Finished why) h ↔ X
@@ -61,6 +65,7 @@ module _ (plan : Plan) (h : WorldHistory) (p : ℕ) (ps : p < plan.lanes)
       from : X → IsRefused plan (event.Finish p) (answer.Finished why) h
       from is = inr (ps, (place.0, why, place.1, (says place.0 place.1).1 is, refl))
 
+  -- a finish that its producer's place does not refuse is not refused
   pub finish_free : (r : Answer) → ((lane : Lane) → IsLaneOf plan p lane h → finish_refusal lane ≡ None)
       → IsRefused plan (event.Finish p) r h → ⊥
   finish_free r free (inl (past, e)) = omega (arith, past, ps)

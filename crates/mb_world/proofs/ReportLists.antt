@@ -9,20 +9,20 @@ use Rattle.mb_world.specs.Report.{DiaryView, ReportView, diary, is_begun, note, 
 use Rattle.mb_world.specs.Agreement.{HasCompeted}
 use Rattle.mb_world.specs.ReportExamples.{report_of}
 
--- the diary of consumer c on lane 0 stands at place c
-pub at_place : (c : ℕ) (xs ys : List ℕ) (ds : List DiaryView) → diary c 0 (report_of xs ys ds) ≡ slice_get ds c
-at_place c xs ys ds =
+-- the diary of consumer c on lane 0 stands at position c
+pub at_position : (c : ℕ) (xs ys : List ℕ) (ds : List DiaryView) → diary c 0 (report_of xs ys ds) ≡ slice_get ds c
+at_position c xs ys ds =
     let e : c * 1 + 0 ≡ c = omega arith in ap (slice_get ds) e
 
 -- there is no other consumer
 pub no_diary : (c : ℕ) (xs ys : List ℕ) (ds : List DiaryView) → length ds ≤ c → diary c 0 (report_of xs ys ds) ≡ None
-no_diary c xs ys ds past = at_place c xs ys ds ∙ slice_get_past ds c past
+no_diary c xs ys ds past = at_position c xs ys ds ∙ slice_get_past ds c past
 
 -- who has no diary has no note
 pub not_noted : (c p j : ℕ) (r : ReportView) (n : Note) → diary c p r ≡ None → note c p j r ≡ Some n → ⊥
 not_noted c p j r n none e = let q : slice_get {X = Note} [] j ≡ Some n = rw none at e in cc
 
--- and does not compete
+-- who has no diary does not compete
 pub not_competing : (c p j : ℕ) (r : ReportView) → diary c p r ≡ None → HasCompeted c p j r → ⊥
 not_competing c p j r none (inl h) =
     let e : notes c p r ≡ [] = ap (λ (o : Option DiaryView). option_map_or (λ d. d.notes) o []) none in

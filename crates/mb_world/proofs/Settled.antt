@@ -20,11 +20,12 @@ unfinished_undecided c p j r e (inl h) = let k = h.1 in cc
 unfinished_undecided c p j r e (inr h) = let k = h.1 in cc
 
 module _ (t : Assignment) (r : ReportView) (a : AgreesWith t r) where
-  -- the winner that a loss names has not finished where nobody has taken the item
+  -- if nobody has taken the item, the winner that a loss names has not finished
   unfinished_winner : (c w p j : ℕ) → IsLossTo t c w p j r → ((d : ℕ) → HasTaken d p j r → ⊥) → IsFinished w p j r → ⊥
   unfinished_winner c w p j l none (inl h) = none w h
   unfinished_winner c w p j l none (inr h) = (a.given.losses w h.0 p j h.1).another (l.only w h.0 h.1)
 
+  -- an item that was competed for and not taken is contested, whatever the competitor's note
   at_note : (c p j : ℕ) → HasCompeted c p j r → ((d : ℕ) → HasTaken d p j r → ⊥) → (n : Option Note)
       → note c p j r ≡ n → IsContested p j r
   at_note c p j competed none None e = (c, competed, unfinished_none c p j r e)
@@ -33,6 +34,7 @@ module _ (t : Assignment) (r : ReportView) (a : AgreesWith t r) where
       let loss = a.given.losses c w p j e in (w, loss.competed, unfinished_winner c w p j loss none)
   at_note c p j competed none (Some Undecided) e = (c, competed, unfinished_undecided c p j r e)
 
+  -- so the report is settled
   pub settled : IsSettled r
   settled c p j inside competed none = at_note c p j competed none (note c p j r) refl
 
@@ -40,6 +42,7 @@ module _ (t : Assignment) (r : ReportView) (a : AgreesWith t r) where
   given_alike : (u : Assignment) → AgreesWith u r → (p j c : ℕ) → t p j ≡ Some c → u p j ≡ Some c
   given_alike u b p j c e = (b.given.taken c p j).0 ((a.given.taken c p j).1 e)
 
+-- two assignments with which a report agrees are one
 pub unique : (t u : Assignment) (r : ReportView) → AgreesWith t r → AgreesWith u r → (p j : ℕ) → t p j ≡ u p j
 unique t u r a b p j = by (t p j) (u p j) refl refl
   where

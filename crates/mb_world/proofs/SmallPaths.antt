@@ -9,7 +9,7 @@ use Rattle.mb_world.specs.World.{ToCells, ToClaims, WorldAccess, WorldHistory}
 use Rattle.mb_world.specs.ConsumerPath.{ConsumerPath, begins, claim_step, finds, goes, item_load, link_load, note_of, takes, waits}
 use Rattle.mb_world.specs.PathExamples.{IsOnNoPath, begun, claimed_another, claimed_unmet, first_step, found, gone_back, passed_going, passed_unclaimed}
 use Rattle.mb_world.specs.PathExamples.{passed_won, taken, taken_early, taken_twice, taken_unclaimed, two_cells, waited, won, won_last, won_steps}
-use Rattle.mb_world.proofs.LastAccess.{Leads, Place, came_from, place}
+use Rattle.mb_world.proofs.LastAccess.{Leads, PathEnd, came_from, path_end}
 use Rattle.mb_world.proofs.LastAccess as last
 use Rattle.mb_world.proofs.OnePlace.{one_place}
 
@@ -38,10 +38,10 @@ module _ (one_stage : (xs : List ObjectTurn) (s r : Stage) → IsClaimPrefix two
   abbrev Path : WorldHistory → List ℕ → List Note → Option (List ObjectTurn) → Type 0
   Path done ks ns held = ConsumerPath two_cells 0 0 done ks ns held
 
-  abbrev Next : WorldAccess → Place → Place → Type 0
+  abbrev Next : WorldAccess → PathEnd → PathEnd → Type 0
   Next a was now = Leads two_cells 0 0 a was now
 
-  -- ---- where they lead
+  -- ---- where the paths lead
   pub waited_path : Path waited [] [] None
   waited_path = waits (inl refl) begins
 
@@ -83,84 +83,84 @@ module _ (one_stage : (xs : List ObjectTurn) (s r : Stage) → IsClaimPrefix two
 
   -- ---- what leads nowhere
   -- what follows a path is the next access of its place
-  no_path : (a : WorldAccess) (older : WorldHistory) (was : Place) → Path older was.cells was.notes was.held
-      → ((now : Place) → Next a was now → ⊥) → IsOnNoPath (a ∷ older)
+  no_path : (a : WorldAccess) (older : WorldHistory) (was : PathEnd) → Path older was.cells was.notes was.held
+      → ((now : PathEnd) → Next a was now → ⊥) → IsOnNoPath (a ∷ older)
   no_path a older was path never ks ns held next =
       let last = came_from two_cells 0 0 next in
       let same = one_place two_cells 0 0 one_stage going older last.was was last.path path in
-      never (place ks ns held) (subst (λ (z : Place). Next a z (place ks ns held)) same last.leads)
+      never (path_end ks ns held) (subst (λ (z : PathEnd). Next a z (path_end ks ns held)) same last.leads)
 
   not_won : (xs : List ObjectTurn) → IsClaimPrefix two_cells 0 xs stage.Going
       → IsClaimPrefix two_cells 0 xs stage.Won → ⊥
   not_won xs q w = let e = one_stage xs stage.Going stage.Won q w in cc
 
   -- from a claim that goes on no item is loaded
-  no_item : (xs : List ObjectTurn) → IsClaimPrefix two_cells 0 xs stage.Going → (now : Place)
-      → Next (item_load 0 0 5) (place (0 ∷ []) [] (Some xs)) now → ⊥
+  no_item : (xs : List ObjectTurn) → IsClaimPrefix two_cells 0 xs stage.Going → (now : PathEnd)
+      → Next (item_load 0 0 5) (path_end (0 ∷ []) [] (Some xs)) now → ⊥
   no_item xs q now (last.went ks ns k ys x s w still e) = cc
   no_item xs q now (last.ended ks ns k ys x n s w note e) = cc
   no_item xs q now (last.took ks ns k ys v end e) = not_won xs q end
 
   pub taken_unclaimed_none : IsOnNoPath taken_unclaimed
-  taken_unclaimed_none = no_path (item_load 0 0 5) found (place (0 ∷ []) [] (Some [])) found_path (no_item [] fresh)
+  taken_unclaimed_none = no_path (item_load 0 0 5) found (path_end (0 ∷ []) [] (Some [])) found_path (no_item [] fresh)
 
   pub taken_early_none : IsOnNoPath taken_early
   taken_early_none =
-      no_path (item_load 0 0 5) begun (place (0 ∷ []) [] (Some (first_step ∷ []))) begun_path
+      no_path (item_load 0 0 5) begun (path_end (0 ∷ []) [] (Some (first_step ∷ []))) begun_path
       (no_item (first_step ∷ []) first_goes)
 
-  -- nor from a link
-  no_item_twice : (ks : List ℕ) (ns : List Note) (now : Place) → Next (item_load 0 0 5) (place ks ns None) now → ⊥
+  -- from a link no item is loaded
+  no_item_twice : (ks : List ℕ) (ns : List Note) (now : PathEnd) → Next (item_load 0 0 5) (path_end ks ns None) now → ⊥
   no_item_twice ks ns now (last.waited js ms v says e) = item_is_no_link 0 5 v ks e
   no_item_twice ks ns now (last.found js ms k ne new e) = item_is_no_link 0 5 (k + 1) ks e
 
   pub taken_twice_none : IsOnNoPath taken_twice
-  taken_twice_none = no_path (item_load 0 0 5) taken (place (0 ∷ []) (Took 5 ∷ []) None) taken_path
+  taken_twice_none = no_path (item_load 0 0 5) taken (path_end (0 ∷ []) (Took 5 ∷ []) None) taken_path
       (no_item_twice (0 ∷ []) (Took 5 ∷ []))
 
   -- from a link no claim is made
-  no_step : (k : ℕ) (x : ObjectTurn) (ks : List ℕ) (ns : List Note) (now : Place)
-      → Next (claim_step 0 k x) (place ks ns None) now → ⊥
+  no_step : (k : ℕ) (x : ObjectTurn) (ks : List ℕ) (ns : List Note) (now : PathEnd)
+      → Next (claim_step 0 k x) (path_end ks ns None) now → ⊥
   no_step k x ks ns now (last.waited js ms v says e) = cc
   no_step k x ks ns now (last.found js ms j ne new e) = cc
 
   pub claimed_unmet_none : IsOnNoPath claimed_unmet
-  claimed_unmet_none = no_path (claim_step 0 0 first_step) waited (place [] [] None) waited_path
+  claimed_unmet_none = no_path (claim_step 0 0 first_step) waited (path_end [] [] None) waited_path
       (no_step 0 first_step [] [])
 
   -- from a cell no claim is made on another
-  no_other : (now : Place) → Next (claim_step 0 1 first_step) (place (0 ∷ []) [] (Some [])) now → ⊥
+  no_other : (now : PathEnd) → Next (claim_step 0 1 first_step) (path_end (0 ∷ []) [] (Some [])) now → ⊥
   no_other now (last.went ks ns k ys x s w still e) = one_is_not_zero (ap cell_of e)
   no_other now (last.ended ks ns k ys x n s w note e) = one_is_not_zero (ap cell_of e)
   no_other now (last.took ks ns k ys v end e) = cc
 
   pub claimed_another_none : IsOnNoPath claimed_another
-  claimed_another_none = no_path (claim_step 0 1 first_step) found (place (0 ∷ []) [] (Some [])) found_path no_other
+  claimed_another_none = no_path (claim_step 0 1 first_step) found (path_end (0 ∷ []) [] (Some [])) found_path no_other
 
   -- from a claim no link is loaded
-  no_link : (v : ℕ) (xs : List ObjectTurn) (now : Place)
-      → Next (link_load 0 0 (0 ∷ []) v) (place (0 ∷ []) [] (Some xs)) now → ⊥
+  no_link : (v : ℕ) (xs : List ObjectTurn) (now : PathEnd)
+      → Next (link_load 0 0 (0 ∷ []) v) (path_end (0 ∷ []) [] (Some xs)) now → ⊥
   no_link v xs now (last.went ks ns k ys x s w still e) = cc
   no_link v xs now (last.ended ks ns k ys x n s w note e) = cc
   no_link v xs now (last.took ks ns k ys u end e) = let f : Link 0 ≡ Item 0 = ap word_of e in cc
 
   pub passed_unclaimed_none : IsOnNoPath passed_unclaimed
   passed_unclaimed_none =
-      no_path (link_load 0 0 (0 ∷ []) 0) found (place (0 ∷ []) [] (Some [])) found_path (no_link 0 [])
+      no_path (link_load 0 0 (0 ∷ []) 0) found (path_end (0 ∷ []) [] (Some [])) found_path (no_link 0 [])
 
   pub passed_going_none : IsOnNoPath passed_going
   passed_going_none =
-      no_path (link_load 0 0 (0 ∷ []) 0) begun (place (0 ∷ []) [] (Some (first_step ∷ []))) begun_path
+      no_path (link_load 0 0 (0 ∷ []) 0) begun (path_end (0 ∷ []) [] (Some (first_step ∷ []))) begun_path
       (no_link 0 (first_step ∷ []))
 
   pub passed_won_none : IsOnNoPath passed_won
-  passed_won_none = no_path (link_load 0 0 (0 ∷ []) 0) won (place (0 ∷ []) [] (Some won_steps)) won_path
+  passed_won_none = no_path (link_load 0 0 (0 ∷ []) 0) won (path_end (0 ∷ []) [] (Some won_steps)) won_path
       (no_link 0 won_steps)
 
-  -- from behind a cell the head is not loaded again
-  no_head : (now : Place) → Next (link_load 0 0 [] 1) (place (0 ∷ []) (Took 5 ∷ []) None) now → ⊥
+  -- past a cell the head is not loaded again
+  no_head : (now : PathEnd) → Next (link_load 0 0 [] 1) (path_end (0 ∷ []) (Took 5 ∷ []) None) now → ⊥
   no_head now (last.waited ks ns v says e) = let f : Head 0 ≡ Link 0 = ap word_of e in cc
   no_head now (last.found ks ns k ne new e) = let f : Head 0 ≡ Link 0 = ap word_of e in cc
 
   pub gone_back_none : IsOnNoPath gone_back
-  gone_back_none = no_path (link_load 0 0 [] 1) taken (place (0 ∷ []) (Took 5 ∷ []) None) taken_path no_head
+  gone_back_none = no_path (link_load 0 0 [] 1) taken (path_end (0 ∷ []) (Took 5 ∷ []) None) taken_path no_head

@@ -21,14 +21,17 @@ module _ (cs : Claims) where
   HasItem h d j v = HasRead (Item j) v (part (Reader d) (pool_accesses h))
 
   module _ (c : ℕ) (h : WorldHistory) where
-    -- ---- a load
+    -- ---- what a load makes of the ends
     module _ (w : Word) (v : ℕ) where
+      -- the history with a load
       abbrev loaded : WorldHistory
       loaded = ToCells (load c w v) ∷ h
 
+      -- the loads of its consumer have it more
       own_loads : part (Reader c) (pool_accesses loaded) ≡ load c w v ∷ part (Reader c) (pool_accesses h)
       own_loads = rw (reader_same c) refl
 
+      -- the loads of other consumers stay
       other_loads : (d : ℕ) → (d ≡ c → ⊥) → part (Reader d) (pool_accesses loaded) ≡ part (Reader d) (pool_accesses h)
       other_loads d other = rw (ne_eqb d c other) refl
 
@@ -54,6 +57,7 @@ module _ (cs : Claims) where
               ]
           by (inr other) = inl (subst (λ (l : History). HasRead (Item j) u l) (other_loads d other) read)
 
+      -- a value that was loaded from an item before is loaded in it, too
       pub more_loads : (d j u : ℕ) → HasItem h d j u → HasItem loaded d j u
       more_loads d j u read = by (cases_eq d c)
         where
@@ -64,11 +68,12 @@ module _ (cs : Claims) where
               (subst (λ (l : History). HasRead (Item j) u l) (sym own_loads) (mine.0, inr mine.1, mine.2, mine.3))
           by (inr other) = subst (λ (l : History). HasRead (Item j) u l) (sym (other_loads d other)) read
 
+      -- the load is one of the item, if it is of that word
       pub this_load : (j : ℕ) → w ≡ Item j → HasItem loaded c j v
       this_load j is =
           subst (λ (l : History). HasRead (Item j) v l) (sym own_loads) (load c w v, inl refl, is, refl)
 
-      -- it leaves the end of each claim but where it loads the item
+      -- a load leaves the end of each claim, but of one whose item it loads
       pub load_keeps : (d j : ℕ) (n : Note) → (d ≡ c → w ≡ Item j → ⊥) → Ends h d j n ↔ Ends loaded d j n
       load_keeps d j (Took u) other = (
         λ e. (e.0, more_loads d j u e.1),
@@ -77,11 +82,13 @@ module _ (cs : Claims) where
       load_keeps d j (Lost u) other = ((λ e. e), (λ e. e))
       load_keeps d j Undecided other = ((λ e. e), (λ e. e))
 
-    -- ---- a step of a claim on cell k
+    -- ---- what a step of a claim on cell k makes of the ends
     module _ (k : ℕ) (x : ObjectTurn) where
+      -- the history with a step
       abbrev stepped : WorldHistory
       stepped = claim_step c k x ∷ h
 
+      -- the claims of other consumers and on other cells stay
       other_part : (d j : ℕ) → (d ≡ c → j ≡ k → ⊥)
           → claim_part d j (claim_accesses stepped) ≡ claim_part d j (claim_accesses h)
       other_part d j other = by (cases_eq c d)
@@ -109,24 +116,24 @@ module _ (cs : Claims) where
             λ e. subst (λ xs. IsClaimPrefix cs d xs stage.Undecided) same e,
           )
 
-  -- ---- at most one end
+  -- ---- a claim has at most one end
   module _ (d j : ℕ) (h : WorldHistory)
       (one : (s r : Stage) → IsClaimPrefix cs d (claim_part d j (claim_accesses h)) s
       → IsClaimPrefix cs d (claim_part d j (claim_accesses h)) r → s ≡ r) where
-    -- a claim that goes on has none
+    -- a claim that goes on has no end
     pub going_open : (n : Note) → IsClaimPrefix cs d (claim_part d j (claim_accesses h)) stage.Going → Ends h d j n → ⊥
     going_open (Took v) going e = let f = one stage.Going stage.Won going e.0 in cc
     going_open (Lost w) going e = let f = one stage.Going (stage.Lost w) going e in cc
     going_open Undecided going e = let f = one stage.Going stage.Undecided going e in cc
 
-    -- nor has one that is won before its item is loaded
+    -- a claim that is won has no end before its item is loaded
     pub won_open : (n : Note) → IsClaimPrefix cs d (claim_part d j (claim_accesses h)) stage.Won
         → ((v : ℕ) → HasItem h d j v → ⊥) → Ends h d j n → ⊥
     won_open (Took v) won unread e = unread v e.1
     won_open (Lost w) won unread e = let f = one stage.Won (stage.Lost w) won e in cc
     won_open Undecided won unread e = let f = one stage.Won stage.Undecided won e in cc
 
-    -- that of a lost claim is its loss
+    -- the end of a lost claim is its loss
     pub lost_end : (w : ℕ) (n : Note) → IsClaimPrefix cs d (claim_part d j (claim_accesses h)) (stage.Lost w)
         → Ends h d j n → Lost w ≡ n
     lost_end w (Took v) lost e = absurd (let f = one (stage.Lost w) stage.Won lost e.0 in cc)
@@ -135,13 +142,14 @@ module _ (cs : Claims) where
         let same : w ≡ u = cc in ap Lost same
     lost_end w Undecided lost e = absurd (let f = one (stage.Lost w) stage.Undecided lost e in cc)
 
+    -- the end of an undecided claim is Undecided
     pub undecided_end : (n : Note) → IsClaimPrefix cs d (claim_part d j (claim_accesses h)) stage.Undecided
         → Ends h d j n → Undecided ≡ n
     undecided_end (Took v) still e = absurd (let f = one stage.Undecided stage.Won still e.0 in cc)
     undecided_end (Lost u) still e = absurd (let f = one stage.Undecided (stage.Lost u) still e in cc)
     undecided_end Undecided still e = refl
 
-    -- that of a won claim is the only value loaded from its item
+    -- the end of a won claim has the only value loaded from its item
     pub won_end : (v : ℕ) (n : Note) → IsClaimPrefix cs d (claim_part d j (claim_accesses h)) stage.Won
         → ((u : ℕ) → HasItem h d j u → v ≡ u) → Ends h d j n → Took v ≡ n
     won_end v (Took u) won only e = ap Took (only u e.1)

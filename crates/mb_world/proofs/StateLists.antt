@@ -1,15 +1,19 @@
--- The lists of a report, told one by one.
-use Rattle.std.proofs.Common.{◌≡◌, ℕ, suc, ◌+◌, ◌*◌, ◌<◌, ◌≤◌, ◌++◌, List, [], ◌∷◌, length, Some, sym, ◌∙◌, ap, subst, inl, inr, arith, length-append}
+-- Lists whose elements are made one by one: those of a report, and the places of a new world.
+use Rattle.std.proofs.Common.{◌≡◌, ℕ, ◌+◌, ◌*◌, ◌<◌, ◌++◌, List, [], ◌∷◌, length, Some, refl, sym, ◌∙◌, subst, inl, inr, arith, length-append}
 use Rattle.std.specs.Prelude.{slice_get}
 use Rattle.std.proofs.lemmas.Bool.{cases_lt}
-use Rattle.std.proofs.Math.Nat.{mul-le-mul_right}
+use Rattle.std.proofs.lemmas.Nat.{same_from_place}
+use Rattle.mb_cells.specs.declared.cursor.Cursor.TheVariants.{Head}
+use Rattle.mb_world.specs.declared.place.Place.{Place}
+use Rattle.mb_world.specs.declared.place.Place.TheVariants.{Before}
+use Rattle.mb_world.specs.Places.{AreAtHeads}
 use Rattle.mb_world.specs.Report.{DiaryView, LaneView}
 use Rattle.mb_world.specs.Setups.{plan_in}
 use Rattle.mb_world.specs.StateReport.{AreDiariesTold, AreLanesTold, IsDiaryTold, IsLaneTold}
 use Rattle.mb_world.specs.WorldState.{WorldState}
-use Rattle.mb_world.proofs.Places.{get-last, get-left}
+use Rattle.mb_world.proofs.Positions.{get-last, get-left}
 
--- what stands behind the list
+-- an element put at the end of a list stands at the position past the list
 get_end : {A : Type 0} (xs : List A) (y : A) (i : ℕ) → i ≡ length xs → slice_get (xs ++ y ∷ []) i ≡ Some y
 get_end {A} xs y i e = subst (λ j. slice_get (xs ++ y ∷ []) j ≡ Some y) (sym e) (get-last xs y)
 
@@ -27,38 +31,34 @@ lanes_more s n l ls told here = record {
   ];
 }
 
-not_before : (w c e p q : ℕ) → p < w → e * w + q ≡ c * w + p → e < c → q < w → ⊥
-not_before w c e p q ps same less qs =
-    let most : suc e * w ≤ c * w = mul-le-mul_right w less in
-    let more : suc e * w ≡ e * w + w = grind arith in
-    omega (arith, most, more, same, ps, qs)
-
--- a place in the grid is of one row and one column
-row_is : (w c e p q : ℕ) → p < w → q < w → e * w + q ≡ c * w + p → e ≡ c
-row_is w c e p q ps qs same = elim (cases_lt e c) [
-  | inl less ↦ absurd (not_before w c e p q ps same less qs)
-  | inr not ↦ elim (cases_lt c e) [
-    | inl more ↦ absurd (not_before w e c q p qs (sym same) more ps)
-    | inr least ↦ omega (arith, not, least)
-  ]
+-- the elements of a grid with one more, at row c and column p
+grid_more : {A : Type 0} (P : ℕ → ℕ → A → Type 0) (w c p : ℕ) (xs : List A) (y : A) → p < w
+    → length xs ≡ c * w + p → ((e q : ℕ) → q < w → e * w + q < c * w + p
+    → (x : A) × (slice_get xs (e * w + q) ≡ Some x) × P e q x) → P c p y
+    → (e q : ℕ) → q < w → e * w + q < c * w + (p + 1)
+    → (x : A) × (slice_get (xs ++ y ∷ []) (e * w + q) ≡ Some x) × P e q x
+grid_more P w c p xs y ps count each here e q qs less = elim (cases_lt (e * w + q) (c * w + p)) [
+  | inl old ↦ let x = each e q qs old in (x.0, get-left xs (y ∷ []) (e * w + q) x.0 x.1, x.2)
+  | inr new ↦
+      let same : e * w + q ≡ c * w + p = omega (arith, less, new) in
+      let at = same_from_place e q c p w qs ps same in (
+        y,
+        get_end xs y (e * w + q) (same ∙ sym count),
+        subst (λ i. P i q y) (sym at.0) (subst (λ i. P c i y) (sym at.1) here),
+      )
 ]
 
 pub diaries_more : (s : WorldState) (c p : ℕ) (d : DiaryView) (ds : List DiaryView) → p < (plan_in s.setup).lanes
     → AreDiariesTold s (c * (plan_in s.setup).lanes + p) ds → IsDiaryTold s c p d
     → AreDiariesTold s (c * (plan_in s.setup).lanes + (p + 1)) (ds ++ d ∷ [])
-diaries_more s c p d ds ps told here =
-    let w = (plan_in s.setup).lanes in
-    record {
-      count = omega (arith, length-append ds (d ∷ []), told.count);
-      each = λ e q qs less. elim (cases_lt (e * w + q) (c * w + p)) [
-        | inl old ↦ let x = told.each e q qs old in (x.0, get-left ds (d ∷ []) (e * w + q) x.0 x.1, x.2)
-        | inr new ↦
-            let same : e * w + q ≡ c * w + p = omega (arith, less, new) in
-            let row : e ≡ c = row_is w c e p q ps qs same in
-            let column : q ≡ p = omega (arith, same, ap (λ i. i * w) row) in (
-              d,
-              get_end ds d (e * w + q) (same ∙ sym told.count),
-              subst (λ i. IsDiaryTold s i q d) (sym row) (subst (λ i. IsDiaryTold s c i d) (sym column) here),
-            )
-      ];
-    }
+diaries_more s c p d ds ps told here = record {
+  count = omega (arith, length-append ds (d ∷ []), told.count);
+  each = grid_more (IsDiaryTold s) (plan_in s.setup).lanes c p ds d ps told.count told.each here;
+}
+
+pub heads_more : (lanes c p : ℕ) (places : List Place) → p < lanes → AreAtHeads lanes (c * lanes + p) places
+    → AreAtHeads lanes (c * lanes + (p + 1)) (places ++ Before (Head p) ∷ [])
+heads_more lanes c p places ps heads = record {
+  count = omega (arith, length-append places (Before (Head p) ∷ []), heads.count);
+  each = grid_more (λ e q d. d ≡ Before (Head q)) lanes c p places (Before (Head p)) ps heads.count heads.each refl;
+}

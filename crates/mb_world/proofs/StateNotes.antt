@@ -58,11 +58,12 @@ pub none_noted : (f : ℕ → Option Note) (xs : List ℕ) → ((k : ℕ) → Ha
 none_noted f [] none = refl
 none_noted f (x ∷ xs) none = rw (none x (inl refl)) (none_noted f xs (λ k has. none k (inr has)))
 
--- the note that stands at a place
+-- the note that stands at a position
 abbrev pub note_by : (ℕ → Option Note) → Option ℕ → Option Note
 note_by f None = None
 note_by f (Some k) = f k
 
+-- at no position of cells without notes stands a note
 none_by : (f : ℕ → Option Note) (xs : List ℕ) (j : ℕ) → ((k : ℕ) → Has xs k → f k ≡ None)
     → note_by f (slice_get xs j) ≡ None
 none_by f [] zero none = refl
@@ -74,7 +75,7 @@ get_nil : (j : ℕ) → slice_get {X = Note} [] j ≡ None
 get_nil zero = refl
 get_nil (suc j) = refl
 
--- where the cells with notes come first, each note has the place of its cell
+-- if the cells with notes come first, each note has the position of its cell
 pub note_placed : (f : ℕ → Option Note) (xs ys : List ℕ) (j : ℕ) → ((k : ℕ) → Has xs k → (n : Note) × (f k ≡ Some n))
     → ((k : ℕ) → Has ys k → f k ≡ None) → slice_get (filter_map f (xs ++ ys)) j ≡ note_by f (slice_get (xs ++ ys) j)
 note_placed f [] ys j some none = rw (none_noted f ys none) (get_nil j ∙ sym (none_by f ys j none))
@@ -97,11 +98,13 @@ items_chosen item t test (k ∷ ks) same =
     by rest true = ap (λ zs. item k ∷ zs) rest
     by rest false = rest
 
+-- the cells of entries, with one more at the end
 cells_snoc : (es : List Entry) (e : Entry)
     → map (λ (e : Entry). e.cell) (es ++ e ∷ []) ≡ map (λ (e : Entry). e.cell) es ++ e.cell ∷ []
 cells_snoc [] e = refl
 cells_snoc (d ∷ es) e = ap (λ zs. d.cell ∷ zs) (cells_snoc es e)
 
+-- the cells of the entries that are made of cells are these cells
 entry_cells : (pool : History) (ks : List ℕ)
     → map (λ (e : Entry). e.cell) (reverse (map (λ k. entry_at k pool) ks)) ≡ reverse ks
 entry_cells pool [] = refl
@@ -114,7 +117,7 @@ entry_cells pool (k ∷ ks) =
 pub put_cells : (p : ℕ) (pool : History) → map (λ (e : Entry). e.cell) (put_list p pool) ≡ reverse (linked_cells p pool)
 put_cells p pool = entry_cells pool (linked_cells p pool)
 
--- a note of an item taken
+-- a note of an item taken is told from others
 pub took_some : (o : Option Note) (n : Note) (v : ℕ) → o ≡ Some n → n ≡ Took v → is_took o ≡ true
 took_some o n v e same = rw (e, same) refl
 
@@ -130,7 +133,7 @@ take_more f (x ∷ xs) (suc i) d less = by (f x) refl (take_more f xs i d (omega
     by None e rest = rw e rest
     by (Some n) e rest = rw e (ap (λ zs. n ∷ zs) rest)
 
--- one cell further: its note is read
+-- one cell further: it has a note, which is added
 pub note_read : (f : ℕ → Option Note) (xs : List ℕ) (i d : ℕ) (ns : List Note) (n : Note) → i < length xs
     → ns ≡ filter_map f (take i xs) → f (get_or xs i d) ≡ Some n → ns ++ n ∷ [] ≡ filter_map f (take (i + 1) xs)
 note_read f xs i d ns n less old here =
@@ -139,6 +142,7 @@ note_read f xs i d ns n less old here =
     ∙ (ap (λ ms. filter_map f (take i xs) ++ ms) (one_noted f (get_or xs i d) n here)
     ∙ ap (λ ms. ms ++ n ∷ []) (sym old))))
 
+-- one cell further: it has no note, and none is added
 pub note_missed : (f : ℕ → Option Note) (xs : List ℕ) (i d : ℕ) (ns : List Note) → i < length xs
     → ns ≡ filter_map f (take i xs) → ((n : Note) → f (get_or xs i d) ≡ Some n → ⊥)
     → ns ≡ filter_map f (take (i + 1) xs)

@@ -12,8 +12,8 @@ use Rattle.mb_claim.specs.declared.layout.Layout.{Layout}
 use Rattle.mb_cells.specs.State.{item_in}
 use Rattle.mb_world.specs.declared.report.Note.{Note}
 use Rattle.mb_world.specs.declared.report.Note.TheVariants.{Took, Lost, Undecided}
-use Rattle.mb_world.specs.declared.seat.Seat.{Seat}
-use Rattle.mb_world.specs.declared.seat.Seat.TheVariants as seat
+use Rattle.mb_world.specs.declared.place.Place.{Place}
+use Rattle.mb_world.specs.declared.place.Place.TheVariants.{At, Before}
 use Rattle.mb_world.specs.Imports.{Has, IsClaimPrefix, IsOnceEach, ObjectTurn, claim_part, linked_cells}
 use Rattle.mb_world.specs.Plan.{Plan, consumers_of}
 use Rattle.mb_world.specs.Report.{DiaryView, LaneView, ReportView, diary, note, notes}
@@ -25,11 +25,12 @@ use Rattle.mb_world.specs.Sound.{AreSound}
 use Rattle.mb_world.specs.World.{WorldHistory, claim_accesses, histories_of, lane_part, pool_accesses}
 use Rattle.mb_world.specs.ConsumerPath.{has_begun}
 use Rattle.mb_world.specs.Worlds.{IsOnPath}
-use Rattle.mb_world.specs.WorldState.{IsSeatAfter, IsSeatAt, IsWorldAfter, WorldState}
-use Rattle.mb_world.specs.StateReport.{AreDiariesTold, AreLanesTold, IsDiaryTold, IsLaneTold, IsWalked, begun_on, has_begun_on, is_taken_on, note_on, note_there}
+use Rattle.mb_world.specs.WorldState.{IsPlaceAfter, IsPlaceAt, IsWorldAfter, WorldState}
+use Rattle.mb_world.specs.Places.{has_begun_at}
+use Rattle.mb_world.specs.StateReport.{AreDiariesTold, AreLanesTold, IsDiaryTold, IsLaneTold, IsWalked, begun_on, is_taken_on, note_on, note_there}
 use Rattle.mb_world.proofs.Cells.{has_cell-true}
 use Rattle.mb_world.proofs.PathDiaries.{ends_length}
-use Rattle.mb_world.proofs.Places.{StandsAt, at_has, has_at, reverse_at}
+use Rattle.mb_world.proofs.Positions.{StandsAt, at_has, has_at, reverse_at}
 use Rattle.mb_world.proofs.StateNotes.{any_below-same, items_chosen, none_noted, note_by, note_placed, noted, put_cells}
 use Rattle.mb_world.proofs.Tracks.{AreEnds, EndsIn, closed, ends_more, ends_some}
 use Rattle.mb_world.proofs.WorldClaims.{end_here, met_all, on_lane, tracks}
@@ -38,15 +39,18 @@ use Rattle.mb_world.proofs.WorldKnown.{WorldKnown}
 use mathlib.Core.List.{reverse-cons}
 
 -- ---- lists of cells
+-- a cell of the first list is in both joined
 has_left : (xs ys : List ℕ) (k : ℕ) → Has xs k → Has (xs ++ ys) k
 has_left [] ys k has = absurd has
 has_left (x ∷ xs) ys k (inl e) = inl e
 has_left (x ∷ xs) ys k (inr m) = inr (has_left xs ys k m)
 
+-- a cell of the second list is in both joined
 has_right : (xs ys : List ℕ) (k : ℕ) → Has ys k → Has (xs ++ ys) k
 has_right [] ys k has = has
 has_right (x ∷ xs) ys k has = inr (has_right xs ys k has)
 
+-- what a list with a last element has
 has_last : (xs : List ℕ) (x k : ℕ) → Has (xs ++ x ∷ []) k → Has (x ∷ xs) k
 has_last [] x k has = has
 has_last (y ∷ xs) x k (inl e) = inr (inl e)
@@ -61,7 +65,7 @@ has_of_reverse (x ∷ xs) k has =
       | inr m ↦ inr (has_of_reverse xs k m)
     ]
 
--- where each stands once, none stands in both parts
+-- if each cell stands once in a list, none stands in both of its parts
 once_apart : (xs ys : List ℕ) (k : ℕ) → IsOnceEach (xs ++ ys) → Has xs k → Has ys k → ⊥
 once_apart [] ys k once has there = has
 once_apart (x ∷ xs) ys k once (inl e) there =
@@ -69,11 +73,13 @@ once_apart (x ∷ xs) ys k once (inl e) there =
 once_apart (x ∷ xs) ys k once (inr m) there = once_apart xs ys k once.1 m there
 
 -- ---- the cells that have notes
+-- a cell on which the claim has ended was met
 closed_has : (ks : List ℕ) (z : Option (List ObjectTurn)) (k : ℕ) → Has (closed ks z) k → Has ks k
 closed_has ks None k has = has
 closed_has [] (Some xs) k has = absurd has
 closed_has (q ∷ qs) (Some xs) k has = inr has
 
+-- a cell at a position with a note is one on which the claim has ended
 closed_at : (ks : List ℕ) (z : Option (List ObjectTurn)) (j k : ℕ) → StandsAt ks j k → j < length (closed ks z)
     → Has (closed ks z) k
 closed_at ks None j k at less = at_has ks j k at
@@ -81,47 +87,45 @@ closed_at [] (Some xs) j k at less = absurd at
 closed_at (q ∷ qs) (Some xs) j k (inl at) less = absurd (omega (arith, at.0, less))
 closed_at (q ∷ qs) (Some xs) j k (inr at) less = at_has qs j k at
 
--- the cells linked later than these
+-- the lane's cells are those with notes, and cells linked later
 closed_cut : (ks : List ℕ) (z : Option (List ObjectTurn)) (later ls : List ℕ) → later ++ ks ≡ ls
     → (late : List ℕ) × (late ++ closed ks z ≡ ls)
 closed_cut ks None later ls e = (later, e)
 closed_cut [] (Some xs) later ls e = (later, e)
 closed_cut (q ∷ qs) (Some xs) later ls e = (later ++ q ∷ [], append_assoc later (q ∷ []) qs ∙ e)
 
--- ---- a seat
+-- ---- whether the claim at a place is begun
+-- a list with an element is not empty
 cons_some : (x : ObjectTurn) (xs : List ObjectTurn) → x ∷ xs ≢ []
 cons_some x xs e = cc
 
+-- a claim is begun exactly if it has steps
 claim_begun : (b : Bool) (xs : List ObjectTurn) → (b ≡ true) ↔ (xs ≢ []) → b ≡ has_begun (Some xs)
 claim_begun true [] w = absurd (w.0 refl refl)
 claim_begun false [] w = refl
 claim_begun true (x ∷ xs) w = refl
 claim_begun false (x ∷ xs) w = w.1 (cons_some x xs)
 
-seat_begun : (layout : Layout) (c : ℕ) (ks : List ℕ) (held : Option (List ObjectTurn)) (d : Seat)
-    → IsSeatAt layout c ks held d → has_begun_on d ≡ has_begun held
-seat_begun layout c [] None seat.AtHead is = refl
-seat_begun layout c [] None (seat.PastCell k) is = absurd is
-seat_begun layout c [] None (seat.AtCell k claim) is = absurd is
-seat_begun layout c [] (Some xs) seat.AtHead is = absurd is
-seat_begun layout c [] (Some xs) (seat.PastCell k) is = absurd is
-seat_begun layout c [] (Some xs) (seat.AtCell k claim) is = absurd is
-seat_begun layout c (q ∷ qs) None seat.AtHead is = absurd is
-seat_begun layout c (q ∷ qs) None (seat.PastCell k) is = refl
-seat_begun layout c (q ∷ qs) None (seat.AtCell k claim) is = absurd is
-seat_begun layout c (q ∷ qs) (Some xs) seat.AtHead is = absurd is
-seat_begun layout c (q ∷ qs) (Some xs) (seat.PastCell k) is = absurd is
-seat_begun layout c (q ∷ qs) (Some xs) (seat.AtCell k claim) is = claim_begun claim.begun xs is.2.begun
+-- the claim at a place is begun exactly if that of the consumer's path is
+place_begun : (layout : Layout) (c p : ℕ) (ks : List ℕ) (held : Option (List ObjectTurn)) (d : Place)
+    → IsPlaceAt layout c p ks held d → has_begun_at d ≡ has_begun held
+place_begun layout c p ks None (Before at) is = refl
+place_begun layout c p ks None (At k claim) is = absurd is
+place_begun layout c p [] (Some xs) d is = absurd is
+place_begun layout c p (q ∷ qs) (Some xs) (Before at) is = absurd is
+place_begun layout c p (q ∷ qs) (Some xs) (At k claim) is = claim_begun claim.begun xs is.2.begun
 
--- ---- a lane
+-- ---- a lane, and the position of a diary
+-- the view of a lane that is made of these parts
 abbrev lane_of : List ℕ → Bool → List ℕ → LaneView
 lane_of put ended left = record { put = put; ended = ended; left = left }
 
+-- views of a lane with the same parts are one
 lane_same : (l m : LaneView) → l.put ≡ m.put → l.ended ≡ m.ended → l.left ≡ m.left → l ≡ m
 lane_same l m a b c =
     ap (λ x. lane_of x l.ended l.left) a ∙ (ap (λ x. lane_of m.put x l.left) b ∙ ap (λ x. lane_of m.put m.ended x) c)
 
--- a place in the grid of the diaries
+-- a position in the grid of the diaries
 grid_within : (n w c p : ℕ) → c < n → p < w → c * w + p < n * w
 grid_within n w c p cs ps =
     let most : suc c * w ≤ n * w = mul-le-mul_right w cs in
@@ -144,7 +148,7 @@ module _ (s : WorldState) (h : WorldHistory) (is : IsWorldAfter h s) (known : Wo
     walk_is : (p : ℕ) (ks : List ℕ) (over : Bool) → IsWalked s.pool p ks over → ks ≡ reverse (linked p)
     walk_is p ks over w = sym (w (pool_accesses h) is.pool).cells ∙ put_cells p (pool_accesses h)
 
-    -- ---- one note
+    -- ---- the note of a cell is the end of the claim there
     note_of_end : (c k : ℕ) (n : Note) → c < consumers_of plan → k < plan.claims.cells → Ends c k n
         → note_on s c k ≡ Some n
     note_of_end c k n cs less e = let q = is.note c k cs less in ap note_there q.1 ∙ (q.2 n).1 e
@@ -166,10 +170,10 @@ module _ (s : WorldState) (h : WorldHistory) (is : IsWorldAfter h s) (known : Wo
         by (Lost u) w = let d = same (stage.Lost u) w in cc
         by Undecided w = let d = same stage.Undecided w in cc
 
-    -- ---- one consumer on one lane
+    -- ---- the diary of one consumer on one lane
     module _ (c p : ℕ) (cs : c < consumers_of plan) (ps : p < plan.lanes) where
-      abbrev at : IsSeatAfter s.setup c p h (is.seat c p cs ps).0
-      at = (is.seat c p cs ps).2
+      abbrev at : IsPlaceAfter s.setup c p h (is.place c p cs ps).0
+      at = (is.place c p cs ps).2
 
       abbrev here : IsOnPath plan c p h
       here = record { cells = at.cells; notes = at.notes; held = at.held; path = at.path }
@@ -199,11 +203,11 @@ module _ (s : WorldState) (h : WorldHistory) (is : IsWorldAfter h s) (known : Wo
       ended_here : (k : ℕ) (n : Note) → Has (linked p) k → Ends c k n → Has with_notes k
       ended_here k n has e =
           let gave = (sound.fit c cs).met k (end_some c k n cs e) in
-          let place = has_at at.cells k (no_other plan h is.lawful known c p k here gave has) in
-          let less : place.0 < length (reverse at.notes) =
-          ended_within plan h is.lawful known c p at.cells at.notes at.held at.path place.0 k n
-          (reverse_at at.cells place.0 k place.1) e in
-          closed_at at.cells at.held place.0 k place.1
+          let position = has_at at.cells k (no_other plan h is.lawful known c p k here gave has) in
+          let less : position.0 < length (reverse at.notes) =
+          ended_within plan h is.lawful known c p at.cells at.notes at.held at.path position.0 k n
+          (reverse_at at.cells position.0 k position.1) e in
+          closed_at at.cells at.held position.0 k position.1
           (omega (
             arith,
             less,
@@ -236,7 +240,7 @@ module _ (s : WorldState) (h : WorldHistory) (is : IsWorldAfter h s) (known : Wo
           (none_noted (note_on s c) (reverse late.0) (λ k has. none_late k (has_of_reverse late.0 k has)))
           ∙ append-nil (reverse at.notes))))
 
-      -- each note has the place of its cell
+      -- each note has the position of its cell
       note_along : (j : ℕ)
           → slice_get (filter_map (note_on s c) (reverse (linked p))) j
           ≡ note_by (note_on s c) (slice_get (reverse (linked p)) j)
@@ -250,8 +254,8 @@ module _ (s : WorldState) (h : WorldHistory) (is : IsWorldAfter h s) (known : Wo
 
       begun_here : begun_on s c p ≡ has_begun at.held
       begun_here =
-          ap (λ (o : Option Seat). option_map_or has_begun_on o false) (is.seat c p cs ps).1
-          ∙ seat_begun s.setup.layout c at.cells at.held (is.seat c p cs ps).0 at.is
+          ap (λ (o : Option Place). option_map_or has_begun_at o false) (is.place c p cs ps).1
+          ∙ place_begun s.setup.layout c p at.cells at.held (is.place c p cs ps).0 at.is
 
       told_notes : (d : DiaryView) → IsDiaryTold s c p d → d.notes ≡ filter_map (note_on s c) (reverse (linked p))
       told_notes d t = t.notes ∙ ap (filter_map (note_on s c)) (walk_is p t.cells t.ended t.walked)
@@ -266,12 +270,12 @@ module _ (s : WorldState) (h : WorldHistory) (is : IsWorldAfter h s) (known : Wo
             cells = own.cells;
             met = own.met;
             notes = λ j n e. own.notes j n (subst (λ (ms : List Note). slice_get ms j ≡ Some n) same e);
-            all = λ j k n place e.
-                subst (λ (ms : List Note). j < length ms) (sym same) (own.all j k n place e);
+            all = λ j k n at_j e.
+                subst (λ (ms : List Note). j < length ms) (sym same) (own.all j k n at_j e);
             begun = ((λ b. own.begun.0 (sym begun ∙ b)), (λ z. begun ∙ own.begun.1 z));
           }
 
-    -- ---- the report
+    -- ---- the whole report
     module _ (r : ReportView) (lanes : AreLanesTold s plan.lanes r.lanes)
         (diaries : AreDiariesTold s (consumers_of plan * plan.lanes) r.diaries) where
       note_is : (c p j k : ℕ) → c < consumers_of plan → p < plan.lanes → slice_get (reverse (linked p)) j ≡ Some k

@@ -8,20 +8,20 @@ use Rattle.mb_cells.specs.State.{IsAfter}
 use Rattle.mb_world.specs.declared.event.Answer.{Answer}
 use Rattle.mb_world.specs.declared.event.Event.{Event}
 use Rattle.mb_world.specs.declared.report.Note.{Note}
-use Rattle.mb_world.specs.declared.seat.Seat.{Seat}
+use Rattle.mb_world.specs.declared.place.Place.{Place}
 use Rattle.mb_world.specs.Imports.{ObjectTurn}
 use Rattle.mb_world.specs.Plan.{Plan, consumers_of}
 use Rattle.mb_world.specs.Setups.{layout_of, plan_in}
 use Rattle.mb_world.specs.World.{WorldAccess, WorldHistory, claim_accesses, lane_part, pool_accesses}
 use Rattle.mb_world.specs.ConsumerPath.{ConsumerPath}
 use Rattle.mb_world.specs.Worlds.{ConsumerAdds}
-use Rattle.mb_world.specs.WorldState.{IsNoteAfter, IsSeatAfter, IsSeatAt, WorldIsSound, IsWorldAfter, WorldState}
+use Rattle.mb_world.specs.WorldState.{IsNoteAfter, IsPlaceAfter, IsPlaceAt, WorldIsSound, IsWorldAfter, WorldState}
 use Rattle.mb_world.specs.Replay.{with_access}
 use Rattle.mb_world.specs.EventSteps.{EventAdds}
 use Rattle.mb_world.proofs.StateEnds.{Ends}
-use Rattle.mb_world.proofs.StatePlaces.{HasAll, all_kept, all_set}
+use Rattle.mb_world.proofs.Grids.{HasAll, all_kept, all_set}
 
--- what stands at a place is one
+-- at a position stands one thing
 one_there : {X : Type 0} (o : Option X) (x y : X) → o ≡ Some x → o ≡ Some y → x ≡ y
 one_there o x y e f = let both : Some x ≡ Some y = sym e ∙ f in cc
 
@@ -31,40 +31,46 @@ pub still_sound : (e : Event) (r : Answer) (now : WorldState) (h : WorldHistory)
 still_sound e r now h adds = (with_access adds.access h, adds.left)
 
 module _ (s : WorldState) (h : WorldHistory) (is : IsWorldAfter h s) where
+  -- the plan of the world
   abbrev pub plan : Plan
   plan = plan_in s.setup
 
-  abbrev pub seat_place : ℕ → ℕ → ℕ
-  seat_place c p = c * plan.lanes + p
+  -- the position of the place of consumer c on lane p
+  abbrev pub place_position : ℕ → ℕ → ℕ
+  place_position c p = c * plan.lanes + p
 
-  abbrev pub note_place : ℕ → ℕ → ℕ
-  note_place c k = c * plan.claims.cells + k
+  -- the position of the note of consumer c on cell k
+  abbrev pub note_position : ℕ → ℕ → ℕ
+  note_position c k = c * plan.claims.cells + k
 
-  abbrev pub AreSeats : WorldHistory → List Seat → Type 0
-  AreSeats g ds = HasAll (consumers_of plan) plan.lanes (λ c p d. IsSeatAfter s.setup c p g d) ds
+  -- the places are those of the consumers after the history
+  abbrev pub ArePlaces : WorldHistory → List Place → Type 0
+  ArePlaces g ds = HasAll (consumers_of plan) plan.lanes (λ c p d. IsPlaceAfter s.setup c p g d) ds
 
+  -- the notes are those of the consumers after the history
   abbrev pub AreNotes : WorldHistory → List (Option Note) → Type 0
   AreNotes g os = HasAll (consumers_of plan) plan.claims.cells (λ c k o. IsNoteAfter s.setup c k g o) os
 
-  -- the seat that stands there
-  pub seat_here : (c p : ℕ) (d : Seat) → c < consumers_of plan → p < plan.lanes
-      → slice_get s.seats (seat_place c p) ≡ Some d → IsSeatAfter s.setup c p h d
-  seat_here c p d cs ps at =
-      let old = is.seat c p cs ps in
-      subst (λ (e : Seat). IsSeatAfter s.setup c p h e)
-      (one_there (slice_get s.seats (seat_place c p)) old.0 d old.1 at) old.2
+  -- the place at the position of consumer c and lane p
+  pub place_here : (c p : ℕ) (d : Place) → c < consumers_of plan → p < plan.lanes
+      → slice_get s.places (place_position c p) ≡ Some d → IsPlaceAfter s.setup c p h d
+  place_here c p d cs ps at =
+      let old = is.place c p cs ps in
+      subst (λ (e : Place). IsPlaceAfter s.setup c p h e)
+      (one_there (slice_get s.places (place_position c p)) old.0 d old.1 at) old.2
 
-  -- the note that stands there
+  -- the note at the position of consumer c and cell k
   pub note_here : (c k : ℕ) → c < consumers_of plan → k < plan.claims.cells
-      → (o : Option Note) × (slice_get s.notes (note_place c k) ≡ Some o) × IsNoteAfter s.setup c k h o
+      → (o : Option Note) × (slice_get s.notes (note_position c k) ≡ Some o) × IsNoteAfter s.setup c k h o
   note_here c k cs ks = is.note c k cs ks
 
   module _ (c p : ℕ) (cs : c < consumers_of plan) (ps : p < plan.lanes) (a : WorldAccess)
       (adds : ConsumerAdds plan c p a h) where
-    -- ---- seats
-    other_seat : (e q : ℕ) (x : Seat) → (e ≡ c → q ≡ p → ⊥) → IsSeatAfter s.setup e q h x
-        → IsSeatAfter s.setup e q (a ∷ h) x
-    other_seat e q x other y = record {
+    -- ---- the places after the access
+    -- another place stays
+    other_place : (e q : ℕ) (x : Place) → (e ≡ c → q ≡ p → ⊥) → IsPlaceAfter s.setup e q h x
+        → IsPlaceAfter s.setup e q (a ∷ h) x
+    other_place e q x other y = record {
       cells = y.cells;
       notes = y.notes;
       held = y.held;
@@ -73,11 +79,11 @@ module _ (s : WorldState) (h : WorldHistory) (is : IsWorldAfter h s) where
       is = y.is;
     }
 
-    -- the seat to which its path leads with the access
-    pub own_seat : (ks : List ℕ) (ns : List Note) (held : Option (List ObjectTurn)) (d : Seat)
-        → ConsumerPath plan.claims c p (a ∷ lane_part c p h) ks ns held → IsSeatAt (layout_of s.setup) c ks held d
-        → IsSeatAfter s.setup c p (a ∷ h) d
-    own_seat ks ns held d next at = record {
+    -- the place to which its path leads with the access
+    pub own_place : (ks : List ℕ) (ns : List Note) (held : Option (List ObjectTurn)) (d : Place)
+        → ConsumerPath plan.claims c p (a ∷ lane_part c p h) ks ns held → IsPlaceAt (layout_of s.setup) c p ks held d
+        → IsPlaceAfter s.setup c p (a ∷ h) d
+    own_place ks ns held d next at = record {
       cells = ks;
       notes = ns;
       held = held;
@@ -85,43 +91,46 @@ module _ (s : WorldState) (h : WorldHistory) (is : IsWorldAfter h s) where
       is = at;
     }
 
-    -- its seat stays
-    pub seats_kept : (d : Seat) → slice_get s.seats (seat_place c p) ≡ Some d → IsSeatAfter s.setup c p (a ∷ h) d
-        → AreSeats (a ∷ h) s.seats
-    seats_kept d at now =
-        all_kept (consumers_of plan) plan.lanes (λ e q x. IsSeatAfter s.setup e q h x)
-        (λ e q x. IsSeatAfter s.setup e q (a ∷ h) x) s.seats is.seat keeps
+    -- the places stay as they are, if that of the consumer on the lane is right after the access
+    pub places_kept : (d : Place) → slice_get s.places (place_position c p) ≡ Some d
+        → IsPlaceAfter s.setup c p (a ∷ h) d
+        → ArePlaces (a ∷ h) s.places
+    places_kept d at now =
+        all_kept (consumers_of plan) plan.lanes (λ e q x. IsPlaceAfter s.setup e q h x)
+        (λ e q x. IsPlaceAfter s.setup e q (a ∷ h) x) s.places is.place keeps
       where
-        keeps : (e q : ℕ) (x : Seat) → e < consumers_of plan → q < plan.lanes
-            → slice_get s.seats (seat_place e q) ≡ Some x → IsSeatAfter s.setup e q h x
-            → IsSeatAfter s.setup e q (a ∷ h) x
+        keeps : (e q : ℕ) (x : Place) → e < consumers_of plan → q < plan.lanes
+            → slice_get s.places (place_position e q) ≡ Some x → IsPlaceAfter s.setup e q h x
+            → IsPlaceAfter s.setup e q (a ∷ h) x
         keeps e q x es qs there old = by (cases_eq e c) (cases_eq q p)
           where
-            by : (e ≡ c) ⊎ (e ≡ c → ⊥) → (q ≡ p) ⊎ (q ≡ p → ⊥) → IsSeatAfter s.setup e q (a ∷ h) x
+            by : (e ≡ c) ⊎ (e ≡ c → ⊥) → (q ≡ p) ⊎ (q ≡ p → ⊥) → IsPlaceAfter s.setup e q (a ∷ h) x
             by (inl f) (inl g) =
-                let here : slice_get s.seats (seat_place c p) ≡ Some x =
-                subst (λ (i : ℕ). slice_get s.seats (seat_place c i) ≡ Some x) g
-                (subst (λ (i : ℕ). slice_get s.seats (seat_place i q) ≡ Some x) f there) in
-                let own : IsSeatAfter s.setup c p (a ∷ h) x =
-                subst (λ (y : Seat). IsSeatAfter s.setup c p (a ∷ h) y)
-                (one_there (slice_get s.seats (seat_place c p)) d x at here) now in
-                subst (λ (i : ℕ). IsSeatAfter s.setup i q (a ∷ h) x) (sym f)
-                (subst (λ (i : ℕ). IsSeatAfter s.setup c i (a ∷ h) x) (sym g) own)
-            by (inr n) g = other_seat e q x (λ f _. n f) old
-            by (inl f) (inr n) = other_seat e q x (λ _ g. n g) old
+                let here : slice_get s.places (place_position c p) ≡ Some x =
+                subst (λ (i : ℕ). slice_get s.places (place_position c i) ≡ Some x) g
+                (subst (λ (i : ℕ). slice_get s.places (place_position i q) ≡ Some x) f there) in
+                let own : IsPlaceAfter s.setup c p (a ∷ h) x =
+                subst (λ (y : Place). IsPlaceAfter s.setup c p (a ∷ h) y)
+                (one_there (slice_get s.places (place_position c p)) d x at here) now in
+                subst (λ (i : ℕ). IsPlaceAfter s.setup i q (a ∷ h) x) (sym f)
+                (subst (λ (i : ℕ). IsPlaceAfter s.setup c i (a ∷ h) x) (sym g) own)
+            by (inr n) g = other_place e q x (λ f _. n f) old
+            by (inl f) (inr n) = other_place e q x (λ _ g. n g) old
 
-    -- its seat changes
-    pub seats_set : (d : Seat) → IsSeatAfter s.setup c p (a ∷ h) d
-        → AreSeats (a ∷ h) (slice_set s.seats (seat_place c p) d)
-    seats_set d now =
-        all_set (consumers_of plan) plan.lanes (λ e q x. IsSeatAfter s.setup e q h x)
-        (λ e q x. IsSeatAfter s.setup e q (a ∷ h) x) s.seats is.seat c p cs ps is.seats_count d now
-        (λ e q x _ _ other old. other_seat e q x other old)
+    -- its place changes
+    pub places_set : (d : Place) → IsPlaceAfter s.setup c p (a ∷ h) d
+        → ArePlaces (a ∷ h) (slice_set s.places (place_position c p) d)
+    places_set d now =
+        all_set (consumers_of plan) plan.lanes (λ e q x. IsPlaceAfter s.setup e q h x)
+        (λ e q x. IsPlaceAfter s.setup e q (a ∷ h) x) s.places is.place c p cs ps is.places_count d now
+        (λ e q x _ _ other old. other_place e q x other old)
 
-    pub seats_count : (d : Seat) → length (slice_set s.seats (seat_place c p) d) ≡ consumers_of plan * plan.lanes
-    seats_count d = length-set s.seats (seat_place c p) d ∙ is.seats_count
+    -- there are as many places as before
+    pub places_count : (d : Place) → length (slice_set s.places (place_position c p) d) ≡ consumers_of plan * plan.lanes
+    places_count d = length-set s.places (place_position c p) d ∙ is.places_count
 
-    -- ---- notes
+    -- ---- the notes after the access
+    -- a note stays, if the ends of its claim do
     note_kept : (e j : ℕ) (o : Option Note) → ((n : Note) → Ends plan.claims h e j n ↔ Ends plan.claims (a ∷ h) e j n)
         → IsNoteAfter s.setup e j h o → IsNoteAfter s.setup e j (a ∷ h) o
     note_kept e j o same old n = ((λ f. (same n).0 ((old n).0 f)), (λ f. (old n).1 ((same n).1 f)))
@@ -136,9 +145,10 @@ module _ (s : WorldState) (h : WorldHistory) (is : IsWorldAfter h s) where
 
     -- that of its claim on cell k is written
     module _ (k : ℕ) (ks : k < plan.claims.cells) (n : Note) where
+      -- the notes with the one that is written are right after the access
       pub notes_set : Ends plan.claims (a ∷ h) c k n → ((m : Note) → Ends plan.claims (a ∷ h) c k m → n ≡ m)
           → ((e j : ℕ) (m : Note) → (e ≡ c → j ≡ k → ⊥) → Ends plan.claims h e j m ↔ Ends plan.claims (a ∷ h) e j m)
-          → AreNotes (a ∷ h) (slice_set s.notes (note_place c k) (Some n))
+          → AreNotes (a ∷ h) (slice_set s.notes (note_position c k) (Some n))
       notes_set now only same =
           all_set (consumers_of plan) plan.claims.cells (λ e j o. IsNoteAfter s.setup e j h o)
           (λ e j o. IsNoteAfter s.setup e j (a ∷ h) o) s.notes is.note c k cs ks is.notes_count (Some n) written
@@ -150,25 +160,27 @@ module _ (s : WorldState) (h : WorldHistory) (is : IsWorldAfter h s) where
             λ e. let one = only m e in cc,
           )
 
-      pub notes_count : length (slice_set s.notes (note_place c k) (Some n))
+      -- there are as many notes as before
+      pub notes_count : length (slice_set s.notes (note_position c k) (Some n))
           ≡ consumers_of plan * plan.claims.cells
-      notes_count = length-set s.notes (note_place c k) (Some n) ∙ is.notes_count
+      notes_count = length-set s.notes (note_position c k) (Some n) ∙ is.notes_count
 
-    -- ---- the state
-    pub state_after : (words : List ℕ) (seats : List Seat) (notes : List (Option Note))
+    -- ---- the state after the access
+    -- the state with these words, places and notes is what the longer history leaves
+    pub state_after : (words : List ℕ) (places : List Place) (notes : List (Option Note))
         → IsAfter (pool_accesses (a ∷ h)) s.pool → IsMemoryOf plan.claims words (claim_accesses (a ∷ h))
-        → length seats ≡ consumers_of plan * plan.lanes → AreSeats (a ∷ h) seats
+        → length places ≡ consumers_of plan * plan.lanes → ArePlaces (a ∷ h) places
         → length notes ≡ consumers_of plan * plan.claims.cells → AreNotes (a ∷ h) notes
         → IsWorldAfter (a ∷ h)
-        (record { setup = s.setup; pool = s.pool; words = words; seats = seats; notes = notes })
-    state_after words seats notes pool memory seat_count are_seats note_count are_notes = record {
+        (record { setup = s.setup; pool = s.pool; words = words; places = places; notes = notes })
+    state_after words places notes pool memory place_count are_places note_count are_notes = record {
       lawful = adds.lawful;
       lanes = is.lanes;
       cells = is.cells;
       pool = pool;
       words = memory;
-      seats_count = seat_count;
-      seat = are_seats;
+      places_count = place_count;
+      place = are_places;
       notes_count = note_count;
       note = are_notes;
     }

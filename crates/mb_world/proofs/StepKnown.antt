@@ -1,4 +1,5 @@
--- What the laws of claims, of cells and of worlds give for a step of consumer c on lane p, where a history leaves a state.
+-- What the laws of claims, of cells and of worlds give for a step of consumer c on lane p, in a state that a history
+-- leaves.
 use Rattle.std.specs.Prelude.{ℕ, ◌≡◌, ◌<◌, List, ◌∷◌, Option}
 use Rattle.mb_quorum.specs.Quorum.{IsQuorumTable}
 use Rattle.mb_cells.specs.Calls.{LoadGoesOn}
@@ -22,10 +23,10 @@ pub record StepKnown (s : WorldState) (h : WorldHistory) (c p : ℕ) : Type 0 wh
   pub goes : (a : WorldAccess) (ks : List ℕ) (ns : List Note) (held : Option (List ObjectTurn)) → IsTrueTo a h
       → ConsumerPath (plan_in s.setup).claims c p (a ∷ lane_part c p h) ks ns held
       → ConsumerAdds (plan_in s.setup) c p a h
-  -- a load leaves the pool
+  -- a load leaves the pool as it is
   pub stays : (w : Word) → LoadGoesOn w s.pool
 
--- by these laws
+-- these laws give it for each state that a history leaves
 module _ (tables : (layout : Layout) → IsQuorumTable (quorums_of layout))
     (one_stage : (cs : Claims) (c : ℕ) (xs : List ObjectTurn) (s r : Stage) → IsQuorumTable cs.table
     → IsClaimPrefix cs c xs s → IsClaimPrefix cs c xs r → s ≡ r)

@@ -6,45 +6,53 @@ use Rattle.mb_claim.specs.declared.access.Stage.TheVariants as stage
 use Rattle.mb_claim.specs.declared.claim.Claim.{Claim}
 use Rattle.mb_claim.specs.OneClaim.{claim_stage}
 use Rattle.mb_cells.specs.Memory.{value_in}
+use Rattle.mb_cells.specs.declared.cursor.Cursor.TheVariants.{Past}
 use Rattle.mb_world.specs.declared.event.Answer.TheVariants as answer
 use Rattle.mb_world.specs.declared.event.Event.TheVariants as event
 use Rattle.mb_world.specs.declared.report.Note.TheVariants.{Took}
-use Rattle.mb_world.specs.declared.seat.Seat.TheVariants as seat
+use Rattle.mb_world.specs.declared.place.Place.TheVariants.{At, Before}
 use Rattle.mb_world.specs.Imports.{IsClaimPrefix, Item, MayRead, Reader, claim_part, part}
 use Rattle.mb_world.specs.Plan.{consumers_of}
 use Rattle.mb_world.specs.World.{WorldAccess, WorldHistory, claim_accesses, lane_part, pool_accesses}
 use Rattle.mb_world.specs.ConsumerPath.{ConsumerPath, takes}
 use Rattle.mb_world.specs.Worlds.{ConsumerAdds}
 use Rattle.mb_world.specs.WorldState.{IsWorldAfter, WorldState}
-use Rattle.mb_world.specs.EventSteps.{EventAdds, with_note, with_seat}
+use Rattle.mb_world.specs.EventSteps.{EventAdds, with_note, with_place}
 use Rattle.mb_world.proofs.HeldStates.{AtCell, at_cell, below, part_is, prefix, unread}
 use Rattle.mb_world.proofs.LoadStates.{adds, given, load_adds, loaded}
 use Rattle.mb_world.proofs.StateEnds.{HasItem, item_loads, load_keeps, this_load, won_end}
-use Rattle.mb_world.proofs.StateSteps.{AreNotes, notes_set, own_seat, plan, seats_set}
+use Rattle.mb_world.proofs.StateSteps.{AreNotes, notes_set, own_place, plan, places_set}
 use Rattle.mb_world.proofs.StepKnown.{StepKnown}
 
 module _ (s : WorldState) (h : WorldHistory) (is : IsWorldAfter h s) (c p : ℕ) (cs : c < consumers_of (plan s h is))
     (ps : p < (plan s h is).lanes) (known : StepKnown s h c p) (k : ℕ) (claim : Claim)
-    (here : slice_get s.seats (c * (plan s h is).lanes + p) ≡ Some (seat.AtCell k claim))
+    (here : slice_get s.places (c * (plan s h is).lanes + p) ≡ Some (At k claim))
     (won : claim_stage claim ≡ stage.Won) where
+  -- what the place of a consumer that holds this claim says
   abbrev at : AtCell s h is c p cs ps known k claim here
   at = at_cell s h is c p cs ps known k claim here
 
+  -- the consumer may load the item
   may : MayRead (plan s h is).lanes (Item k) (part (Reader c) (pool_accesses h))
   may = given s h is c p cs ps known (k ∷ at.cells) at.notes (Some at.steps) at.path k (inl refl)
 
+  -- what the item's word holds
   abbrev v : ℕ
   v = value_in (Item k) (pool_accesses h)
 
+  -- the load of the item
   abbrev a : WorldAccess
   a = loaded s h is c p cs ps known (Item k) may
 
+  -- with that load the consumer's path goes on past the cell
   next : ConsumerPath (plan s h is).claims c p (a ∷ lane_part c p h) (k ∷ at.cells) (Took v ∷ at.notes) None
   next = takes (prefix s h is c p cs ps known k claim here stage.Won won) at.path
 
+  -- what the load adds to the history
   abbrev more : ConsumerAdds (plan s h is) c p a h
   more = adds s h is c p cs ps known (Item k) may (k ∷ at.cells) (Took v ∷ at.notes) None next
 
+  -- the consumer's claim is won, by its part
   is_won : IsClaimPrefix (plan s h is).claims c (claim_part c k (claim_accesses h)) stage.Won
   is_won =
       subst (λ xs. IsClaimPrefix (plan s h is).claims c xs stage.Won)
@@ -58,6 +66,7 @@ module _ (s : WorldState) (h : WorldHistory) (is : IsWorldAfter h s) (c p : ℕ)
     | inr new ↦ new.2
   ]
 
+  -- the notes with the one that the item was taken are right
   noted : AreNotes s h is (a ∷ h) (slice_set s.notes (c * (plan s h is).claims.cells + k) (Some (Took v)))
   noted =
       notes_set s h is c p cs ps a more k (below s h is c p cs ps known k claim here) (Took v)
@@ -67,13 +76,14 @@ module _ (s : WorldState) (h : WorldHistory) (is : IsWorldAfter h s) (c p : ℕ)
       (λ e j n other. load_keeps (plan s h is).claims c h (Item k) v e j n
       (λ own same. let f : k ≡ j = cc in other own (sym f)))
 
+  -- the state after the load
   pub took : (word : ℕ) → EventAdds (event.Step c p word) (answer.Took k v)
-      (with_note c k (Took v) (with_seat c p (seat.PastCell k) s)) h
+      (with_note c k (Took v) (with_place c p (Before (Past k)) s)) h
   took word =
       load_adds s h is c p cs ps known (Item k) may (k ∷ at.cells) (Took v ∷ at.notes) None next word
-      (answer.Took k v) (slice_set s.seats (c * (plan s h is).lanes + p) (seat.PastCell k))
+      (answer.Took k v) (slice_set s.places (c * (plan s h is).lanes + p) (Before (Past k)))
       (slice_set s.notes (c * (plan s h is).claims.cells + k) (Some (Took v))) refl
-      (length-set s.seats (c * (plan s h is).lanes + p) (seat.PastCell k))
-      (seats_set s h is c p cs ps a more (seat.PastCell k)
-      (own_seat s h is c p cs ps a more (k ∷ at.cells) (Took v ∷ at.notes) None (seat.PastCell k) next refl))
+      (length-set s.places (c * (plan s h is).lanes + p) (Before (Past k)))
+      (places_set s h is c p cs ps a more (Before (Past k))
+      (own_place s h is c p cs ps a more (k ∷ at.cells) (Took v ∷ at.notes) None (Before (Past k)) next refl))
       (length-set s.notes (c * (plan s h is).claims.cells + k) (Some (Took v))) noted

@@ -31,7 +31,7 @@ IsHeld c done ks None = Unit {0}
 IsHeld c done [] (Some xs) = ⊥
 IsHeld c done (k ∷ ks) (Some xs) = claim_part c k (claim_accesses done) ≡ xs
 
--- and it has not come to its end
+-- a held claim has not come to its end
 abbrev pub IsOpenHeld : Claims → ℕ → Option (List ObjectTurn) → Type 0
 IsOpenHeld cs c None = Unit {0}
 IsOpenHeld cs c (Some xs) = (s : Stage) × IsClaimPrefix cs c xs s × (note_of s ≡ None)
@@ -43,6 +43,7 @@ AreEnds E [] (n ∷ ns) = ⊥
 AreEnds E (k ∷ ks) [] = ⊥
 AreEnds E (k ∷ ks) (n ∷ ns) = E k n × AreEnds E ks ns
 
+-- if each end in one sense is one in another, cells keep their notes
 pub ends_more : (E F : ℕ → Note → Type 0) (ks : List ℕ) (ns : List Note)
     → ((k : ℕ) (n : Note) → Has ks k → E k n → F k n) → AreEnds E ks ns → AreEnds F ks ns
 ends_more E F [] [] more h = tt
@@ -51,6 +52,7 @@ ends_more E F (k ∷ ks) [] more h = absurd h
 ends_more E F (k ∷ ks) (n ∷ ns) more h =
     (more k n (inl refl) h.0, ends_more E F ks ns (λ i m has. more i m (inr has)) h.1)
 
+-- each cell has an end
 pub ends_some : (E : ℕ → Note → Type 0) (ks : List ℕ) (ns : List Note) (k : ℕ) → AreEnds E ks ns → Has ks k
     → (n : Note) × E k n
 ends_some E [] ns k h has = absurd has
@@ -58,7 +60,7 @@ ends_some E (j ∷ ks) [] k h has = absurd h
 ends_some E (j ∷ ks) (n ∷ ns) k h (inl e) = (n, subst (λ i. E i n) e h.0)
 ends_some E (j ∷ ks) (n ∷ ns) k h (inr has) = ends_some E ks ns k h.1 has
 
--- one more load
+-- what was read is read still after one more access
 pub read-more : (a : PoolAccess) (d : History) (w : Word) (v : ℕ) → HasRead w v d → HasRead w v (a ∷ d)
 read-more a d w v h = (h.0, inr h.1, h.2, h.3)
 
@@ -70,7 +72,7 @@ read-cases a d w v h = by h.1
     by (inl e) = inl (ap (λ (x : PoolAccess). x.word) e ∙ h.2)
     by (inr m) = inr (h.0, m, h.2, h.3)
 
--- the link behind cells is no item, and if it is the link of a cell, the cell is the last of these
+-- the link past cells is no item, and if it is the link of a cell, the cell is the last of these
 pub past_item : (p k : ℕ) (ks : List ℕ) → place_past p ks ≡ Item k → ⊥
 past_item p k [] e = cc
 past_item p k (j ∷ ks) e = cc
@@ -79,7 +81,7 @@ pub past_link : (p k : ℕ) (ks : List ℕ) → place_past p ks ≡ Link k → H
 past_link p k [] e = absurd (cc)
 past_link p k (j ∷ ks) e = let same : j ≡ k = cc in inl same
 
--- what a place tells of all that was done
+-- what a consumer's place on a lane tells of all that it did there
 pub record Tracks (cs : Claims) (c : ℕ) (done : WorldHistory) (ks : List ℕ) (ns : List Note)
     (held : Option (List ObjectTurn)) : Type 0 where
   pub given : (k : ℕ) → Has ks k → Gave k (pool_accesses done)
@@ -102,7 +104,7 @@ module _ (cs : Claims) (c : ℕ) where
   loaded a done k (Lost w) e = e
   loaded a done k Undecided e = e
 
-  -- and so does a step on another cell
+  -- a step of the claim on another cell keeps the ends
   stepped : (k : ℕ) (x : ObjectTurn) (done : WorldHistory) (j : ℕ) (n : Note) → (k ≡ j → ⊥)
       → EndsAs cs c j n (local c done) → EndsAs cs c j n (local c (claim_step c k x ∷ done))
   stepped k x done j (Took v) ne e = (
@@ -117,6 +119,7 @@ module _ (cs : Claims) (c : ℕ) where
       subst (λ xs. IsClaimPrefix cs c xs stage.Undecided)
       (sym (part-elsewhere c j (claim_access c k x) (claim_accesses done) ne)) e
 
+  -- a claim that has a note at its last step has ended so
   noted_end : (k : ℕ) (done : WorldHistory) (s : Stage) (n : Note)
       → IsClaimPrefix cs c (claim_part c k (claim_accesses done)) s → note_of s ≡ Some n
       → EndsAs cs c k n (local c done)
@@ -131,16 +134,20 @@ module _ (cs : Claims) (c : ℕ) where
   module _ (k : ℕ) (ks : List ℕ) (ns : List Note) (xs : List ObjectTurn) (x : ObjectTurn) (older : WorldHistory)
       (once : IsOnceEach (k ∷ ks)) (z : Stage)
       (q : IsClaimPrefix cs c (x ∷ xs) z) (y : Tracks cs c older (k ∷ ks) ns (Some xs)) where
+    -- what was done, with the step
     abbrev Now : WorldHistory
     Now = claim_step c k x ∷ older
 
+    -- the held claim has the step more
     step_own : claim_part c k (claim_accesses Now) ≡ x ∷ xs
     step_own = part-own c k (claim_access c k x) (claim_accesses older) refl refl ∙ ap (λ zs. x ∷ zs) y.is_held
 
+    -- there is no claim on other cells than those met
     step_none : (j : ℕ) → (Has (k ∷ ks) j → ⊥) → claim_part c j (claim_accesses Now) ≡ []
     step_none j not_met = part-elsewhere c j (claim_access c k x) (claim_accesses older) (λ e. not_met (inl e))
         ∙ y.none j not_met
 
+    -- each claim is a prefix of a claim path still
     step_prefix : (j : ℕ) → claim_part c j (claim_accesses Now) ≢ []
         → (s : Stage) × IsClaimPrefix cs c (claim_part c j (claim_accesses Now)) s
     step_prefix j some = by (cases_eq k j)
@@ -160,17 +167,20 @@ module _ (cs : Claims) (c : ℕ) where
     another : (j : ℕ) → Has ks j → k ≡ j → ⊥
     another j has e = once.0 (subst (Has ks) (sym e) has)
 
+    -- the claims of items that were loaded are won still
     step_won : (j v : ℕ) → HasRead (Item j) v (pool_accesses older)
         → IsClaimPrefix cs c (claim_part c j (claim_accesses Now)) stage.Won
     step_won j v h =
         subst (λ zs. IsClaimPrefix cs c zs stage.Won)
         (sym (part-elsewhere c j (claim_access c k x) (claim_accesses older) (another j (y.items j v h)))) (y.won j v h)
 
+    -- the claims before have their notes still
     step_ended : AreEnds (EndsIn cs c Now) ks ns
     step_ended =
         ends_more (EndsIn cs c older) (EndsIn cs c Now) ks ns
         (λ j n has. stepped k x older j n (another j has)) y.ended
 
+  -- a place tells this of each path to it
   pub track : {p : ℕ} {done : WorldHistory} {ks : List ℕ} {ns : List Note} {held : Option (List ObjectTurn)}
       → IsOnceEach ks → ConsumerPath cs c p done ks ns held → Tracks cs c done ks ns held
   track once begins = record {

@@ -13,14 +13,14 @@ use Rattle.mb_world.specs.Worlds.{IsOnPath, IsWorldLawful}
 use Rattle.mb_world.proofs.Cells.{cell-of_true, once_start}
 use Rattle.mb_world.proofs.LaneParts.{Has-of_filter, claim_has, claim_on}
 use Rattle.mb_world.proofs.PathLoads.{met_more, path_met}
-use Rattle.mb_world.proofs.Places.{at_has, at_start, has_at}
+use Rattle.mb_world.proofs.Positions.{at_has, at_start, has_at}
 use Rattle.mb_world.proofs.ReaderParts.{of_part}
 use Rattle.mb_world.proofs.Tracks.{EndsIn, Tracks, track}
 use Rattle.mb_world.proofs.WorldKnown.{WorldKnown}
 use Rattle.mb_world.proofs.WorldPool.{loads, loads_on, of_lane, read_here}
 
 module _ (plan : Plan) (h : WorldHistory) (lawful : IsWorldLawful plan h) (known : WorldKnown plan h) where
-  -- what was met on a lane
+  -- the cells to which a consumer's path leads were met
   pub met_all : (c p : ℕ) (y : IsOnPath plan c p h) → HasMet c p y.cells (pool_accesses h)
   met_all c p y =
       met_more c p (pool_accesses (lane_part c p h)) (pool_accesses h) y.cells
@@ -34,12 +34,13 @@ module _ (plan : Plan) (h : WorldHistory) (lawful : IsWorldLawful plan h) (known
       let at = has_at y.cells k has in
       subst (λ (ls : List ℕ). Has ls k) s.1 (at_has (s.0 ++ y.cells) at.0 k (at_start s.0 y.cells at.0 k at.1))
 
-  -- each once
+  -- the cells met are met once each
   pub met_once : (c p : ℕ) (y : IsOnPath plan c p h) → IsOnceEach y.cells
   met_once c p y =
       let s = known.start c p y.cells (met_all c p y) in
       once_start s.0 y.cells (subst IsOnceEach (sym s.1) (known.once p))
 
+  -- what a consumer's place on a lane tells of its part there
   pub tracks : (c p : ℕ) (y : IsOnPath plan c p h) → Tracks plan.claims c (lane_part c p h) y.cells y.notes y.held
   tracks c p y = track plan.claims c (met_once c p y) y.path
 
@@ -67,6 +68,7 @@ module _ (plan : Plan) (h : WorldHistory) (lawful : IsWorldLawful plan h) (known
       → claim_part c k (claim_accesses (lane_part c p h)) ≡ claim_part c k (claim_accesses h)
   steps_there c p k here = claim_on c p (linked_cells p (pool_accesses h)) k h here
 
+  -- so the history of the claims is lawful
   pub claims_lawful : IsClaimLawful plan.claims (claim_accesses h)
   claims_lawful = record {
     memory = lawful.claims_memory;

@@ -17,20 +17,20 @@ use Rattle.mb_world.proofs.LaneParts.{Has-filter}
 use Rattle.mb_world.proofs.Loads.{gave-gift}
 use Rattle.mb_world.proofs.PathDiaries.{begun_open, ends_at, gave-some, noted_within, open_begun}
 use Rattle.mb_world.proofs.PathLoads.{path_gave}
-use Rattle.mb_world.proofs.Places.{StandsAt, at_has, at_reverse, reverse_at}
+use Rattle.mb_world.proofs.Positions.{StandsAt, at_has, at_reverse, reverse_at}
 use Rattle.mb_world.proofs.Tracks.{EndsIn, Tracks, closed}
 use Rattle.mb_world.proofs.WorldClaims.{end_here, met_all, met_once, on_lane, steps_there, tracks}
 use Rattle.mb_world.proofs.WorldKnown.{WorldKnown}
 use Rattle.mb_world.proofs.WorldPool.{load_lane, loads, loads_on, of_lane, on_word, read_there}
 
--- what has its note is met
+-- a cell that has its note was met, at the same position
 closed_in : (qs : List ℕ) (z : Option (List ObjectTurn)) (j k : ℕ) → StandsAt (closed qs z) j k → StandsAt qs j k
 closed_in qs None j k at = at
 closed_in [] (Some xs) j k at = at
 closed_in (q ∷ qs) (Some xs) j k at = inr at
 
 module _ (plan : Plan) (h : WorldHistory) (lawful : IsWorldLawful plan h) (known : WorldKnown plan h) where
-  -- no other cell of the lane was given
+  -- no other cell of the lane was given than those met
   pub no_other : (c p k : ℕ) (y : IsOnPath plan c p h) → Gave k (loads plan h lawful c)
       → Has (linked_cells p (pool_accesses h)) k
       → Has y.cells k
@@ -49,24 +49,31 @@ module _ (plan : Plan) (h : WorldHistory) (lawful : IsWorldLawful plan h) (known
 
   module _ (c p : ℕ) (ks : List ℕ) (ns : List Note) (held : Option (List ObjectTurn))
       (path : ConsumerPath plan.claims c p (lane_part c p h) ks ns held) where
+    -- the consumer's part on the lane, as one on a path
     abbrev here : IsOnPath plan c p h
     here = record { cells = ks; notes = ns; held = held; path = path }
 
+    -- a claim of the consumer has ended so
     abbrev Ends : ℕ → Note → Type 0
     Ends k n = EndsAs plan.claims c k n (parts_of c (histories_of h))
 
+    -- a claim of the consumer has ended so by its part on the lane
     abbrev EndsHere : ℕ → Note → Type 0
     EndsHere k n = EndsIn plan.claims c (lane_part c p h) k n
 
+    -- what the place tells of that part
     tracks_here : Tracks plan.claims c (lane_part c p h) ks ns held
     tracks_here = tracks plan h lawful known c p here
 
+    -- the cells met are met once each
     once_here : IsOnceEach ks
     once_here = met_once plan h lawful known c p here
 
+    -- they are cells of the lane
     cell_here : (k : ℕ) → Has ks k → has_cell (linked_cells p (pool_accesses h)) k ≡ true
     cell_here k has = has_cell-true (linked_cells p (pool_accesses h)) k (on_lane plan h lawful known c p k here has)
 
+    -- the steps on them in that part are all of the consumer's there
     same_steps : (k : ℕ) → Has ks k
         → claim_part c k (claim_accesses (lane_part c p h)) ≡ claim_part c k (claim_accesses h)
     same_steps k has = steps_there plan h lawful known c p k (cell_here k has)
@@ -75,6 +82,7 @@ module _ (plan : Plan) (h : WorldHistory) (lawful : IsWorldLawful plan h) (known
     ends_globally : (k : ℕ) (n : Note) → Has ks k → EndsHere k n → Ends k n
     ends_globally k n has e = end_here plan h lawful known c p k n (cell_here k has) e
 
+    -- an end of a claim on such a cell is one by the part on the lane
     ends_locally : (k : ℕ) (n : Note) → Has ks k → Ends k n → EndsHere k n
     ends_locally k (Took v) has e = (
       subst (λ xs. IsClaimPrefix plan.claims c xs stage.Won) (sym (same_steps k has)) e.0,
@@ -87,6 +95,7 @@ module _ (plan : Plan) (h : WorldHistory) (lawful : IsWorldLawful plan h) (known
     ends_locally k Undecided has e =
         subst (λ xs. IsClaimPrefix plan.claims c xs stage.Undecided) (sym (same_steps k has)) e
 
+    -- each note is the end of the claim on the cell at its place
     notes_tell : (j : ℕ) (n : Note) → slice_get (reverse ns) j ≡ Some n
         → (k : ℕ) × (slice_get (reverse ks) j ≡ Some k) × Ends k n
     notes_tell j n e =
@@ -94,12 +103,13 @@ module _ (plan : Plan) (h : WorldHistory) (lawful : IsWorldLawful plan h) (known
         let at = closed_in ks held j q.0 q.1 in
         (q.0, reverse_at ks j q.0 at, ends_globally q.0 n (at_has ks j q.0 at) q.2)
 
+    -- a claim that has ended has its note
     pub ended_within : (j k : ℕ) (n : Note) → slice_get (reverse ks) j ≡ Some k → Ends k n → j < length (reverse ns)
     ended_within j k n at e =
-        let place = at_reverse ks j k at in
+        let position = at_reverse ks j k at in
         let less =
-        noted_within plan.claims c known.stage (lane_part c p h) ks ns held once_here tracks_here j k n place
-        (ends_locally k n (at_has ks j k place) e) in
+        noted_within plan.claims c known.stage (lane_part c p h) ks ns held once_here tracks_here j k n position
+        (ends_locally k n (at_has ks j k position) e) in
         omega (arith, less, length-reverse ns)
 
     begun_tells : (has_begun held ≡ true)
@@ -111,6 +121,7 @@ module _ (plan : Plan) (h : WorldHistory) (lawful : IsWorldLawful plan h) (known
           (z.1, (λ e. z.2 (sym (same_steps z.0 z.1) ∙ e)), (λ n e. z.3 n (ends_globally z.0 n z.1 e))),
     )
 
+    -- so the diary of the place is that of the consumer on the lane
     pub diary_is : IsDiaryOf plan c p (histories_of h) (diary_at c p ns held)
     diary_is = record {
       consumer = refl;

@@ -29,7 +29,7 @@ module _ (plan : Plan) (h : WorldHistory) (lawful : IsWorldLawful plan h) (known
   stage_of_end c k (Lost w) e = (stage.Lost w, e, λ d. cc)
   stage_of_end c k Undecided e = (stage.Undecided, e, λ d. cc)
 
-  -- where it is won, the item was loaded
+  -- if a claim that has ended is won, its item was loaded
   item_of_end : (c k : ℕ) (n : Note) → Ends c k n → Comes c k stage.Won
       → (y : ℕ) × HasRead (Item k) y (loads plan h lawful c)
   item_of_end c k (Took v) e won = (v, e.1)

@@ -30,11 +30,13 @@ met_stay p a older k has =
     by None = has
     by (Some j) = inr has
 
--- ---- one lane
+-- ---- the loads of one lane
 module _ (p : ℕ) (ls : List ℕ) where
+  -- whether an access is to a word of the lane
   abbrev test : PoolAccess → Bool
   test a = is_of_lane p ls a.word
 
+  -- the cells that these loads met on the lane are linked there
   abbrev AreLinked : History → Type 0
   AreLinked d = (k : ℕ) → Has (cells_met p (filter test d)) k → Has ls k
 
@@ -67,7 +69,7 @@ module _ (p : ℕ) (ls : List ℕ) where
               (past_lane p (cells_met p older) ls
               (λ k has. older_linked a older all k (subst (λ ks. Has ks k) (sym same) has)))
 
--- ---- the whole
+-- ---- all loads of a consumer
 module _ (plan : Plan) (h : WorldHistory) (lawful : IsWorldLawful plan h) (known : WorldKnown plan h) where
   abbrev cells_of : ℕ → List ℕ
   cells_of p = linked_cells p (pool_accesses h)

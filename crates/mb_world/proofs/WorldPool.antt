@@ -21,7 +21,7 @@ module _ (plan : Plan) (h : WorldHistory) (lawful : IsWorldLawful plan h) where
   abbrev pub loads : ℕ → History
   loads c = part (Reader c) (pool_accesses h)
 
-  -- those on lane p are those of its part there
+  -- a consumer's loads on lane p are those of its part there
   pub loads_on : (c p : ℕ) → pool_accesses (lane_part c p h) ≡ filter (of_lane p) (loads c)
   loads_on c p = pool_on c p (linked_cells p (pool_accesses h)) h
 
@@ -30,6 +30,7 @@ module _ (plan : Plan) (h : WorldHistory) (lawful : IsWorldLawful plan h) where
   load_lane q a has =
       let own = of_part q (pool_accesses h) a has in lawful.no_others q (ToCells a) (pool_has h a own.0) own.1
 
+  -- such a load is of a word of that lane
   pub on_word : (q : ℕ) (a : PoolAccess) (on : IsOnLane plan q (ToCells a) h) → of_lane on.lane a ≡ true
   on_word q a on = (and_parts (is_same_process (Reader q) a.process) (of_lane on.lane a) on.on).1
 
@@ -44,12 +45,12 @@ module _ (plan : Plan) (h : WorldHistory) (lawful : IsWorldLawful plan h) where
     r.3,
   )
 
-  -- and one of the part there is a load
+  -- a load of the part there is one of the consumer
   pub read_here : (c p : ℕ) (w : Word) (v : ℕ) → HasRead w v (pool_accesses (lane_part c p h)) → HasRead w v (loads c)
   read_here c p w v r =
       (r.0, Has-of_filter (of_lane p) (loads c) r.0 (subst (λ (d : History). Has d r.0) (loads_on c p) r.1), r.2, r.3)
 
-  -- ---- the reader paths
+  -- ---- the loads of a consumer are a reader path
   lane_path : (c p : ℕ) → c < consumers_of plan → p < plan.lanes
       → IsReaderPath plan.lanes (filter (of_lane p) (loads c))
   lane_path c p cs ps =

@@ -1,4 +1,4 @@
--- What a report claims: one assignment of items to competitors agrees with all of it.
+-- When an assignment of items to competitors agrees with a report, and what a report says of items that nobody took.
 use Rattle.std.specs.Prelude.{ℕ, ◌≡◌, ◌≢◌, ◌↔◌, ◌⊎◌, ◌<◌, ◌≤◌, true, Option, Some, None, List, length}
 use Rattle.std.specs.List.{filter_map}
 use Rattle.mb_world.specs.declared.report.Note.{Note}
@@ -20,20 +20,21 @@ ledger c p r = filter_map item_taken (notes c p r)
 abbrev pub HasTaken : ℕ → ℕ → ℕ → ReportView → Type 0
 HasTaken c p j r = (x : ℕ) × (note c p j r ≡ Some (Took x))
 
--- c has lost it to w
+-- c has lost the item at position j of lane p to w
 abbrev pub HasLostTo : ℕ → ℕ → ℕ → ℕ → ReportView → Type 0
 HasLostTo c w p j r = note c p j r ≡ Some (Lost w)
 
--- c competed for it: c has a note there, or c's notes end just before it and a claim after them is begun. In a lawful
--- mailbox whose cells have objects this says: c made an access to the claim there
+-- c competed for the item at position j of lane p: c has a note there, or c's notes end just before it and a claim
+-- after them is begun. In a lawful mailbox whose cells have objects this says: c made an access to the claim there
 abbrev pub HasCompeted : ℕ → ℕ → ℕ → ReportView → Type 0
 HasCompeted c p j r = (j < length (notes c p r)) ⊎ ((length (notes c p r) ≡ j) × (is_begun c p r ≡ true))
 
--- c's claim on it is finished: taken or lost. Every other claim, also an undecided one, is unfinished
+-- c's claim on that item is finished: taken or lost. Every other claim, also an undecided one, is unfinished
 abbrev pub IsFinished : ℕ → ℕ → ℕ → ReportView → Type 0
 IsFinished c p j r = HasTaken c p j r ⊎ ((w : ℕ) × HasLostTo c w p j r)
 
--- what c's loss to w says: w is another, w competed, all losses of that item name w, and it is w's or nobody's
+-- what it says that c has lost the item to w: w is another, w competed, all losses of that item name w, and the item is
+-- given to w or to nobody
 pub record IsLossTo (t : Assignment) (c w p j : ℕ) (r : ReportView) : Type 0 where
   pub another : w ≢ c
   pub competed : HasCompeted w p j r
@@ -45,7 +46,7 @@ pub record IsLossTo (t : Assignment) (c w p j : ℕ) (r : ReportView) : Type 0 w
 pub record AreGiven (t : Assignment) (r : ReportView) : Type 0 where
   -- an item is taken exactly by the consumer that it is given to
   pub taken : (c p j : ℕ) → HasTaken c p j r ↔ (t p j ≡ Some c)
-  -- and with its value
+  -- a consumer's ledger has the values of the items that it was given, in the order put
   pub ledgers : (c p : ℕ) → ledger c p r ≡ share t c p r
   -- only items are given, and only to competitors
   pub competitors : (c p j : ℕ) → t p j ≡ Some c → (j < length (items_put p r)) × HasCompeted c p j r
@@ -53,7 +54,7 @@ pub record AreGiven (t : Assignment) (r : ReportView) : Type 0 where
   pub losses : (c w p j : ℕ) → HasLostTo c w p j r → IsLossTo t c w p j r
   -- notes are on items
   pub within : (c p : ℕ) → length (notes c p r) ≤ length (items_put p r)
-  -- and so is a claim that is begun after them
+  -- a claim that is begun after a consumer's notes is on an item
   pub begun_within : (c p : ℕ) → is_begun c p r ≡ true → length (notes c p r) < length (items_put p r)
 
 -- the items that are given to nobody are reported as left

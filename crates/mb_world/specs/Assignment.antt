@@ -13,7 +13,7 @@ items_where test [] = []
 items_where test (x ∷ xs) =
     if test 0 then x ∷ items_where (λ j. test (suc j)) xs else items_where (λ j. test (suc j)) xs
 
--- whether this is consumer c
+-- whether an item is given to consumer c, by what the assignment has for it
 abbrev pub is_consumer : ℕ → Option ℕ → Bool
 is_consumer c None = false
 is_consumer c (Some d) = nat_eq d c
@@ -22,6 +22,6 @@ is_consumer c (Some d) = nat_eq d c
 abbrev pub share : Assignment → ℕ → ℕ → ReportView → List ℕ
 share t c p r = items_where (λ j. is_consumer c (t p j)) (items_put p r)
 
--- the rest of lane p: those that it gives to nobody
+-- the rest of lane p: the items put there that the assignment gives to nobody, in the order put
 abbrev pub rest : Assignment → ℕ → ReportView → List ℕ
 rest t p r = items_where (λ j. is_none (t p j)) (items_put p r)

@@ -1,4 +1,4 @@
--- The path of a consumer on a lane.
+-- The path of a consumer on a lane, and the diary to which it leads.
 use Rattle.std.specs.Prelude.{ℕ, ◌≡◌, ◌≢◌, ◌+◌, ◌⊎◌, Bool, true, false, Option, Some, None, List, [], ◌∷◌, reverse}
 use Rattle.mb_claim.specs.declared.access.Stage.TheVariants as stage
 use Rattle.mb_world.specs.declared.report.Note.{Note}
@@ -14,10 +14,11 @@ note_of stage.Won = None
 note_of (stage.Lost w) = Some (Lost w)
 note_of stage.Undecided = Some Undecided
 
--- a step of the claim of consumer c on cell k
+-- a step of the claim of consumer c on cell k, as an access to the claims
 abbrev pub claim_access : ℕ → ℕ → ObjectTurn → ClaimAccess
 claim_access c k x = record { consumer = c; cell = k; step = x }
 
+-- the same step, as an access of a world
 abbrev pub claim_step : ℕ → ℕ → ObjectTurn → WorldAccess
 claim_step c k x = ToClaims (claim_access c k x)
 

@@ -1,63 +1,44 @@
--- The state of a world after an event.
+-- What an event makes of the state of a world, and states of which one part is changed.
 use Rattle.std.specs.Prelude.{ℕ, ◌≡◌, ◌+◌, ◌*◌, ◌<◌, Option, Some, None, List, slice_get, slice_set}
-use Rattle.mb_claim.specs.declared.access.Stage.TheVariants as stage
-use Rattle.mb_claim.specs.declared.claim.Claim.{Claim}
-use Rattle.mb_cells.specs.declared.cursor.Cursor.{Cursor}
-use Rattle.mb_cells.specs.declared.cursor.Cursor.TheVariants as cursor
 use Rattle.mb_cells.specs.State.{PoolState}
 use Rattle.mb_world.specs.declared.event.Answer.{Answer}
 use Rattle.mb_world.specs.declared.event.Event.{Event}
 use Rattle.mb_world.specs.declared.report.Note.{Note}
-use Rattle.mb_world.specs.declared.seat.Seat.{Seat}
-use Rattle.mb_world.specs.declared.seat.Seat.TheVariants as seat
-use Rattle.mb_world.specs.Imports.{Stage}
+use Rattle.mb_world.specs.declared.place.Place.{Place}
 use Rattle.mb_world.specs.Plan.{consumers_of}
 use Rattle.mb_world.specs.Setups.{plan_in}
 use Rattle.mb_world.specs.World.{WorldAccess, WorldHistory}
 use Rattle.mb_world.specs.WorldState.{IsWorldAfter, WorldState}
-use Rattle.mb_world.specs.Replay.{IsEntry, with_access}
+use Rattle.mb_world.specs.Replay.{HasAnswer, with_access}
 
 -- after a history, the event has this answer and leaves a world in this state. It is the state of the history with the
 -- event's access, or of the same history if the event has none
 pub record EventAdds (e : Event) (r : Answer) (now : WorldState) (h : WorldHistory) : Type 0 where
   pub access : Option WorldAccess
-  pub entry : IsEntry (plan_in now.setup) e r access h
+  pub entry : HasAnswer (plan_in now.setup) e r access h
   pub left : IsWorldAfter (with_access access h) now
 
--- ---- seats and notes
--- consumer c is on this seat of lane p
-pub record HasSeat (c p : ℕ) (d : Seat) (s : WorldState) : Type 0 where
+-- ---- places and notes
+-- consumer c stands at this place on lane p
+pub record HasPlace (c p : ℕ) (d : Place) (s : WorldState) : Type 0 where
   pub consumer : c < consumers_of (plan_in s.setup)
   pub lane : p < (plan_in s.setup).lanes
-  pub seat : slice_get s.seats (c * (plan_in s.setup).lanes + p) ≡ Some d
+  pub place : slice_get s.places (c * (plan_in s.setup).lanes + p) ≡ Some d
 
--- a consumer on this seat of lane p stands before the link at the cursor
-abbrev pub StandsBefore : ℕ → Seat → Cursor → Type 0
-StandsBefore p seat.AtHead (cursor.Head q) = q ≡ p
-StandsBefore p (seat.PastCell k) (cursor.Past j) = j ≡ k
-StandsBefore p _ _ = ⊥
-
--- the state with this seat of consumer c on lane p
-abbrev pub with_seat : ℕ → ℕ → Seat → WorldState → WorldState
-with_seat c p d s = record s { seats = slice_set s.seats (c * (plan_in s.setup).lanes + p) d }
+-- the state with this place of consumer c on lane p
+abbrev pub with_place : ℕ → ℕ → Place → WorldState → WorldState
+with_place c p d s = record s { places = slice_set s.places (c * (plan_in s.setup).lanes + p) d }
 
 -- the state with this note of consumer c on cell k
 abbrev pub with_note : ℕ → ℕ → Note → WorldState → WorldState
 with_note c k n s = record s { notes = slice_set s.notes (c * (plan_in s.setup).claims.cells + k) (Some n) }
 
--- the same, if there is a note
+-- the state with this note of consumer c on cell k, if there is a note
 abbrev pub with_note_if : ℕ → ℕ → Option Note → WorldState → WorldState
 with_note_if c k None s = s
 with_note_if c k (Some n) s = with_note c k n s
 
--- where a consumer stands after a step of its claim on cell k
-abbrev pub seat_by : ℕ → Claim → Stage → Seat
-seat_by k claim stage.Going = seat.AtCell k claim
-seat_by k claim stage.Won = seat.AtCell k claim
-seat_by k claim (stage.Lost w) = seat.PastCell k
-seat_by k claim stage.Undecided = seat.PastCell k
-
--- ---- words
+-- ---- the words of the claims, and the pool
 -- the state with these words of the claims
 abbrev pub with_words : List ℕ → WorldState → WorldState
 with_words words s = record s { words = words }

@@ -24,7 +24,7 @@ parts_of c hs = record {
 abbrev pub HasRead : Word → ℕ → History → Type 0
 HasRead w v reads = (a : PoolAccess) × Has reads a × (a.word ≡ w) × (a.act ≡ Load v)
 
--- ---- the links
+-- ---- which cells loads give, and how they follow the links
 -- the cell that a load of a head or link gives: 0 gives none yet, and the end mark none at all
 abbrev pub cell_given : PoolAct → Option ℕ
 cell_given (Load v) = if nat_eq v 0 || nat_eq v END then None else Some (v - 1)
@@ -45,17 +45,18 @@ FollowsLinks [] = Unit {0}
 FollowsLinks (a ∷ older) =
     (IsLinkWord a.word → (p : ℕ) × (a.word ≡ place_past p (cells_met p older))) × FollowsLinks older
 
--- ---- the claims
+-- ---- the stages and ends of a consumer's claims
 -- the claim of consumer c on cell k has this stage, by the steps in its parts
 abbrev pub HasStageIn : Claims → ℕ → ℕ → Stage → Parts → Type 0
 HasStageIn cs c k s x = IsClaimPrefix cs c (x.claimed k) s
 
--- how it has ended: won, and the item was loaded, or lost, or undecided
+-- the claim of consumer c on cell k has ended as the note says: won, and the item was loaded, or lost, or undecided
 abbrev pub EndsAs : Claims → ℕ → ℕ → Note → Parts → Type 0
 EndsAs cs c k (Took v) x = HasStageIn cs c k stage.Won x × HasRead (Item k) v x.reads
 EndsAs cs c k (Lost w) x = HasStageIn cs c k (stage.Lost w) x
 EndsAs cs c k Undecided x = HasStageIn cs c k stage.Undecided x
 
+-- ---- when the two parts fit
 -- the two parts of consumer c fit each other
 pub record Fits (cs : Claims) (c : ℕ) (x : Parts) : Type 0 where
   -- on each lane its loads follow the links from the head
@@ -64,8 +65,8 @@ pub record Fits (cs : Claims) (c : ℕ) (x : Parts) : Type 0 where
   pub met : (k : ℕ) → x.claimed k ≢ [] → Gave k x.reads
   -- if it loaded a cell's link, its claim there has ended
   pub ended : (k v : ℕ) → HasRead (Link k) v x.reads → (s : Stage) × HasStageIn cs c k s x × (s ≢ stage.Going)
-  -- and if that is won, it loaded the item
+  -- if it loaded a cell's link, and its claim there is won, it loaded the item
   pub taken : (k v : ℕ) → HasRead (Link k) v x.reads → HasStageIn cs c k stage.Won x
       → (y : ℕ) × HasRead (Item k) y x.reads
-  -- it loaded an item, there or of the last cell met, only if its claim on that cell is won. How often is not asked
+  -- it loaded a cell's item only if its claim there is won. How often is not asked
   pub won : (k v : ℕ) → HasRead (Item k) v x.reads → HasStageIn cs c k stage.Won x

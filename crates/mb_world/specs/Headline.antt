@@ -1,4 +1,4 @@
--- What a report shows of a mailbox, whatever the order of the accesses and whatever the random words.
+-- What the main theorem says of a report, whatever the order of the accesses and whatever the random words.
 use Rattle.std.specs.Prelude.{ℕ, ◌≡◌, ◌<◌, true, IsSome, [], ◌++◌, length}
 use Rattle.mb_world.specs.Imports.{END, HasLoaded, History, IsLinkWord, Producer, Word, has_ended, is_of_lane, linked_cells, part}
 use Rattle.mb_world.specs.Plan.{Histories, Plan, consumers_of}
@@ -16,7 +16,7 @@ pub record NothingFollowsEnds (plan : Plan) (hs : Histories) (r : ReportView) : 
   -- after a lane's end mark its producer makes no access
   pub silent : (later older : History) (p : ℕ) → later ++ older ≡ hs.pool → has_ended p older ≡ true →
       part (Producer p) later ≡ []
-  -- and a consumer that has loaded it has a note at each position of the lane
+  -- a consumer that has loaded a lane's end mark has a note at each position of the lane
   pub noted : (c p j : ℕ) → c < consumers_of plan → p < plan.lanes → HasMetEnd (hs.reader_of c) p hs.pool →
       j < length (items_put p r) → IsSome (note c p j r)
 

@@ -16,6 +16,7 @@ pub mod Replay
 pub mod PathExamples
 pub mod WorldExamples
 pub mod PartSteps
+pub mod Places
 pub mod WorldState
 pub mod StateReport
 pub mod EventSteps

@@ -1,5 +1,5 @@
 -- What consumer 0 does on lane 0, with two consumers, two cells and one pair of objects over the unary table. Some of
--- it is on its path, and some of it on none.
+-- it is on its path, some of it on none, and some of its parts do not fit.
 use Rattle.std.specs.Prelude.{ℕ, Option, List, [], ◌∷◌, ◌++◌, map}
 use Rattle.mb_deciding.specs.declared.access.Act.TheVariants as act
 use Rattle.mb_deciding.specs.declared.access.Reg.TheVariants.{Quorum, Value}
@@ -11,11 +11,11 @@ use Rattle.mb_world.specs.Fitting.{Parts}
 use Rattle.mb_world.specs.World.{WorldHistory}
 use Rattle.mb_world.specs.ConsumerPath.{ConsumerPath, claim_step, item_load, link_load}
 
--- the claims of the two consumers
+-- the claims of the two consumers on the two cells
 abbrev pub two_cells : Claims
 two_cells = claims_of two_consumers.table two_consumers.kinds 2
 
--- no path leads through this
+-- no path of consumer 0 on lane 0 leads through this
 abbrev pub IsOnNoPath : WorldHistory → Type 0
 IsOnNoPath done = (ks : List ℕ) (ns : List Note) (held : Option (List ObjectTurn))
     → ConsumerPath two_cells 0 0 done ks ns held → ⊥
@@ -24,59 +24,65 @@ IsOnNoPath done = (ks : List ℕ) (ns : List Note) (held : Option (List ObjectTu
 abbrev pub first_step : ObjectTurn
 first_step = record { object = 0; turn = record { act = act.Load Value 0; word = 0 } }
 
--- ---- on the path
--- nothing is linked yet
+-- ---- histories that are on its path
+-- consumer 0 has loaded the head, and nothing is linked yet
 abbrev pub waited : WorldHistory
 waited = link_load 0 0 [] 0 ∷ []
 
--- then cell 0 is found, and its claim begun
+-- then the head that it loads leads to cell 0
 abbrev pub found : WorldHistory
 found = link_load 0 0 [] 1 ∷ waited
 
+-- then its claim on cell 0 is begun
 abbrev pub begun : WorldHistory
 begun = claim_step 0 0 first_step ∷ found
 
--- or the claim goes to its end and is won, and the item 5 is taken
+-- all steps of a claim on cell 0 that is won
 abbrev pub won_steps : List ObjectTurn
 won_steps = map (λ a. a.step) won_alone
 
--- its last step finds no register of another consumer set
+-- the last of these steps: it finds no register of another consumer set
 abbrev pub won_last : ObjectTurn
 won_last = record { object = 1; turn = record { act = act.Load (Quorum 1) 0; word = 0 } }
 
+-- or its claim on cell 0 goes to its end and is won
 abbrev pub won : WorldHistory
 won = map (claim_step 0 0) won_steps ++ found
 
+-- then consumer 0 takes the item 5
 abbrev pub taken : WorldHistory
 taken = item_load 0 0 5 ∷ won
 
--- ---- on no path
--- the item is loaded before the claim is begun, and before it is won
+-- ---- histories that are on no path
+-- the item is loaded before the claim is begun
 abbrev pub taken_unclaimed : WorldHistory
 taken_unclaimed = item_load 0 0 5 ∷ found
 
+-- the item is loaded before the claim is won
 abbrev pub taken_early : WorldHistory
 taken_early = item_load 0 0 5 ∷ begun
 
--- it is loaded again
+-- the item is loaded again
 abbrev pub taken_twice : WorldHistory
 taken_twice = item_load 0 0 5 ∷ taken
 
--- a claim on a cell that was not met: before any, and beside the one that was
+-- a claim is begun on a cell before any cell was met
 abbrev pub claimed_unmet : WorldHistory
 claimed_unmet = claim_step 0 0 first_step ∷ waited
 
+-- a claim is begun on another cell than the one that was met
 abbrev pub claimed_another : WorldHistory
 claimed_another = claim_step 0 1 first_step ∷ found
 
--- the link of the cell is loaded while the claim goes on, and before it is begun
+-- the link of the cell is loaded while the claim goes on
 abbrev pub passed_going : WorldHistory
 passed_going = link_load 0 0 (0 ∷ []) 0 ∷ begun
 
+-- the link of the cell is loaded before the claim is begun
 abbrev pub passed_unclaimed : WorldHistory
 passed_unclaimed = link_load 0 0 (0 ∷ []) 0 ∷ found
 
--- it is loaded when the claim is won, and before the item is
+-- the link of the cell is loaded when the claim is won, and before the item is
 abbrev pub passed_won : WorldHistory
 passed_won = link_load 0 0 (0 ∷ []) 0 ∷ won
 
@@ -89,15 +95,18 @@ gone_back = link_load 0 0 [] 1 ∷ taken
 abbrev pub claimed_unseen : Parts
 claimed_unseen = record { reads = []; claimed = λ k. first_step ∷ [] }
 
--- after the head led to cell 0, and without a claim there: the item, the link, the head again
+-- the parts of a consumer that makes this load after the head led to cell 0, without a claim there
 abbrev pub read_on : PoolAccess → Parts
 read_on a = record { reads = a ∷ load 0 (Head 0) 1 ∷ []; claimed = λ k. [] }
 
+-- the parts with a load of the item, without a claim
 abbrev pub read_unclaimed : Parts
 read_unclaimed = read_on (load 0 (Item 0) 5)
 
+-- the parts with a load of the link, without a claim
 abbrev pub passed_without_claim : Parts
 passed_without_claim = read_on (load 0 (Link 0) 0)
 
+-- the parts with a load of the head again, without a claim
 abbrev pub read_head_again : Parts
 read_head_again = read_on (load 0 (Head 0) 1)

@@ -4,12 +4,13 @@ use Rattle.mb_deciding.specs.declared.object.Kind.{Kind}
 use Rattle.mb_deciding.specs.declared.object.Kind.TheVariants.{LastObject}
 use Rattle.mb_world.specs.Imports.{ClaimAccess, Claims, History, PoolSize, pool_size}
 
--- the claims on its cells, whose quorum table has the consumers as its values, and how many lanes it has
+-- what a mailbox is made of: the claims on its cells, whose quorum table has the consumers as its values, and how many
+-- lanes it has
 pub record Plan : Type 0 where
   pub claims : Claims
   pub lanes : ℕ
 
--- how many consumers it has
+-- how many consumers a mailbox has
 abbrev pub consumers_of : Plan → ℕ
 consumers_of plan = plan.claims.table.values
 
@@ -17,7 +18,7 @@ consumers_of plan = plan.claims.table.values
 abbrev pub HasLastObject : Plan → Type 0
 HasLastObject plan = (front : List Kind) × (plan.claims.kinds ≡ front ++ LastObject ∷ [])
 
--- how many lanes and cells it has
+-- how many lanes and cells a mailbox has
 abbrev pub size_of : Plan → PoolSize
 size_of plan = pool_size plan.lanes plan.claims.cells
 

@@ -1,4 +1,4 @@
--- The replay of events. Each event has one entry: an answer, with one access or with none.
+-- The replay of events. Each event has one answer, with one access or with none.
 use Rattle.std.specs.Prelude.{ℕ, ◌≡◌, ◌≢◌, ◌-◌, ◌<◌, ◌≤◌, ◌⊎◌, true, if◌then◌else◌, nat_eq, Option, Some, None, List, [], ◌∷◌}
 use Rattle.mb_cells.specs.declared.answer.Finish.{Finish}
 use Rattle.mb_cells.specs.declared.answer.Finish.TheVariants as finish
@@ -40,7 +40,7 @@ IsAccessOf (event.Finish p) a h = (w : Word) × IsLinkWord w × (a ≡ ToCells (
 IsAccessOf (event.Step c p word) a h =
     IsBy c a × (is_on c p (linked_cells p (pool_accesses h)) a ≡ true) × HasRandom word a
 
--- ---- the answer that names it
+-- ---- the answer that names an access
 -- a store to a head or link is of the end mark, or links a cell
 abbrev pub answer_to_link : ℕ → Answer
 answer_to_link v = if nat_eq v END then answer.Finished finish.Ended else answer.Pushed (push.Link (v - 1))
@@ -64,23 +64,25 @@ AnswerNames plan r (ToClaims a) h =
     × (r ≡ answer.Claimed a.cell a.step.object a.step.turn.act s)
 
 -- ---- the answers without an access
--- the value is the place of producer p
+-- after a history, the value is the place of producer p
 abbrev pub IsLaneOf : Plan → ℕ → Lane → WorldHistory → Type 0
 IsLaneOf plan p lane h = IsLaneAfter plan.claims.cells p lane (part (Producer p) (pool_accesses h))
 
--- there is no such lane
+-- there is no lane p, and the answer says so
 abbrev pub HasNoLane : Plan → ℕ → Answer → Type 0
 HasNoLane plan p r = (plan.lanes ≤ p) × (r ≡ answer.NoLane)
 
--- the producer's place refuses the event
+-- after a history, the place of producer p refuses an offer with this answer
 abbrev pub RefusesOffer : Plan → ℕ → Answer → WorldHistory → Type 0
 RefusesOffer plan p r h =
     (lane : Lane) × (why : Offer) × IsLaneOf plan p lane h × (offer_refusal lane ≡ Some why) × (r ≡ answer.Offered why)
 
+-- after a history, producer p has nothing to store, so its place refuses a push with this answer
 abbrev pub RefusesPush : Plan → ℕ → Answer → WorldHistory → Type 0
 RefusesPush plan p r h =
     (lane : Lane) × IsLaneOf plan p lane h × (push_store p lane ≡ None) × (r ≡ answer.Pushed push.Idle)
 
+-- after a history, the place of producer p refuses a finish with this answer
 abbrev pub RefusesFinish : Plan → ℕ → Answer → WorldHistory → Type 0
 RefusesFinish plan p r h =
     (lane : Lane) × (why : Finish) × IsLaneOf plan p lane h × (finish_refusal lane ≡ Some why)
@@ -95,16 +97,16 @@ IsRefused plan (event.Finish p) r h = HasNoLane plan p r ⊎ ((p < plan.lanes) �
 IsRefused plan (event.Step c p word) r h =
     HasNoLane plan p r ⊎ ((p < plan.lanes) × (consumers_of plan ≤ c) × (r ≡ answer.NoConsumer))
 
--- ---- the replay
+-- ---- the replay of a list of events
 -- after a history, the event has this answer with this access, which keeps the history lawful, or with none
-abbrev pub IsEntry : Plan → Event → Answer → Option WorldAccess → WorldHistory → Type 0
-IsEntry plan e r None h = IsRefused plan e r h
-IsEntry plan e r (Some a) h = IsAccessOf e a h × AnswerNames plan r a h × IsWorldLawful plan (a ∷ h)
+abbrev pub HasAnswer : Plan → Event → Answer → Option WorldAccess → WorldHistory → Type 0
+HasAnswer plan e r None h = IsRefused plan e r h
+HasAnswer plan e r (Some a) h = IsAccessOf e a h × AnswerNames plan r a h × IsWorldLawful plan (a ∷ h)
 
 -- after a history, the event is refused, or has an access
 abbrev pub IsRefusedOrMade : Plan → Event → WorldHistory → Type 0
 IsRefusedOrMade plan e h =
-    ((r : Answer) × IsRefused plan e r h) ⊎ ((r : Answer) × (a : WorldAccess) × IsEntry plan e r (Some a) h)
+    ((r : Answer) × IsRefused plan e r h) ⊎ ((r : Answer) × (a : WorldAccess) × HasAnswer plan e r (Some a) h)
 
 -- the history with the access, if there is one
 abbrev pub with_access : Option WorldAccess → WorldHistory → WorldHistory
@@ -117,4 +119,4 @@ IsReplay plan [] [] was now = now ≡ was
 IsReplay plan [] (r ∷ rs) was now = ⊥
 IsReplay plan (e ∷ es) [] was now = ⊥
 IsReplay plan (e ∷ es) (r ∷ rs) was now =
-    (a : Option WorldAccess) × IsEntry plan e r a was × IsReplay plan es rs (with_access a was) now
+    (a : Option WorldAccess) × HasAnswer plan e r a was × IsReplay plan es rs (with_access a was) now

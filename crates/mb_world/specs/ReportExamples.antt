@@ -1,4 +1,4 @@
--- Reports of one lane: some with which an assignment agrees, and some with which none does.
+-- Reports of one lane or two: some with which an assignment agrees, and some with which none does.
 use Rattle.std.specs.Prelude.{ℕ, zero, suc, Bool, true, false, Some, None, List, [], ◌∷◌}
 use Rattle.mb_world.specs.declared.report.Note.{Note}
 use Rattle.mb_world.specs.declared.report.Note.TheVariants.{Took, Lost, Undecided}
@@ -32,12 +32,12 @@ taken_and_lost = report_of (5 ∷ []) [] (diary_of 0 (Took 5 ∷ []) false ∷ d
 abbrev pub won_not_loaded : ReportView
 won_not_loaded = report_of (5 ∷ []) (5 ∷ []) (diary_of 0 [] true ∷ diary_of 1 (Lost 0 ∷ []) false ∷ [])
 
--- both are undecided
+-- both consumers are undecided
 abbrev pub both_undecided : ReportView
 both_undecided = report_of (5 ∷ []) (5 ∷ [])
     (diary_of 0 (Undecided ∷ []) false ∷ diary_of 1 (Undecided ∷ []) false ∷ [])
 
--- nobody came
+-- nobody came for the two items
 abbrev pub nobody_came : ReportView
 nobody_came = report_of (10 ∷ 11 ∷ []) (10 ∷ 11 ∷ []) (diary_of 0 [] false ∷ [])
 
@@ -57,10 +57,10 @@ abbrev pub taken_on_both : ReportView
 taken_on_both = two_lanes
     (diary_on 0 0 (Took 5 ∷ []) ∷ diary_on 0 1 (Took 6 ∷ []) ∷ diary_on 1 0 (Lost 0 ∷ []) ∷ diary_on 1 1 [] ∷ [])
 
--- ---- reports with which none agrees
--- the same diaries, lane by lane
-abbrev pub turned_places : ReportView
-turned_places = two_lanes
+-- ---- reports with which no assignment agrees
+-- the report of the two lanes, if its diaries stood lane by lane
+abbrev pub turned_diaries : ReportView
+turned_diaries = two_lanes
     (diary_on 0 0 (Took 5 ∷ []) ∷ diary_on 1 0 (Lost 0 ∷ []) ∷ diary_on 0 1 (Took 6 ∷ []) ∷ diary_on 1 1 [] ∷ [])
 
 -- the item that was lost to consumer 2 was taken by consumer 0

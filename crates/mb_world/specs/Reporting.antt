@@ -1,4 +1,4 @@
--- The report of what was done to the words of a mailbox, place by place.
+-- The report of what was done to the words of a mailbox, position by position.
 use Rattle.std.specs.Prelude.{ℕ, zero, suc, ◌≡◌, ◌≢◌, ◌↔◌, ◌+◌, ◌*◌, ◌<◌, Bool, true, false, not, ◌||◌, Option, Some, None, List, [], map, reverse, length, slice_get}
 use Rattle.mb_world.specs.Imports.{Gave, Has, HasMet, History, Reader, has_ended, linked_cells, part, put_list}
 use Rattle.mb_world.specs.declared.report.Note.{Note}
@@ -8,7 +8,7 @@ use Rattle.mb_world.specs.Report.{DiaryView, LaneView, ReportView, note}
 use Rattle.mb_world.specs.Assignment.{items_where}
 use Rattle.mb_world.specs.Fitting.{EndsAs, parts_of}
 
--- ---- a lane
+-- ---- what is reported of a lane
 -- the values of the items put into lane p, the first linked first
 abbrev pub values_put : ℕ → History → List ℕ
 values_put p pool = map (λ e. e.value) (put_list p pool)
@@ -38,7 +38,7 @@ lane_view plan p hs r = record {
   left = items_where (λ j. not (is_taken (consumers_of plan) p j r)) (values_put p hs.pool);
 }
 
--- ---- a diary
+-- ---- what the diary of a consumer on a lane has
 -- the cells that reader q met on lane p (the last first). Links lead from the head to each of them, and it was given no
 -- other cell of the lane
 pub record HasMetAll (q p : ℕ) (ks : List ℕ) (pool : History) : Type 0 where
@@ -55,7 +55,7 @@ pub record IsDiaryOf (plan : Plan) (c p : ℕ) (hs : Histories) (d : DiaryView) 
   -- note j is the end of its claim on the j-th of them
   pub notes : (j : ℕ) (n : Note) → slice_get d.notes j ≡ Some n →
       (k : ℕ) × (slice_get (reverse cells) j ≡ Some k) × EndsAs plan.claims c k n (parts_of c hs)
-  -- and each claim there that has ended has its note
+  -- each claim there that has ended has its note
   pub all : (j k : ℕ) (n : Note) → slice_get (reverse cells) j ≡ Some k →
       EndsAs plan.claims c k n (parts_of c hs) → j < length d.notes
   -- begun: a claim there that has not ended has an access
@@ -63,8 +63,8 @@ pub record IsDiaryOf (plan : Plan) (c p : ℕ) (hs : Histories) (d : DiaryView) 
       ((k : ℕ) × Has cells k × ((parts_of c hs).claimed k ≢ [])
       × ((n : Note) → EndsAs plan.claims c k n (parts_of c hs) → ⊥))
 
--- ---- the report
--- each lane and each diary is in its place, and there are no others
+-- ---- the whole report
+-- each lane and each diary is at its position, and there are no others
 pub record IsReportOf (plan : Plan) (hs : Histories) (r : ReportView) : Type 0 where
   pub lanes_count : length r.lanes ≡ plan.lanes
   pub diaries_count : length r.diaries ≡ consumers_of plan * plan.lanes

@@ -23,7 +23,7 @@ shaped_plan shape producers consumers cells pairs name = record {
   lanes = producers;
 }
 
--- and if each cell has pairs alone
+-- the plan of these numbers over the quorum table of this name, if each cell has pairs alone
 abbrev pub plan_of : ℕ → ℕ → ℕ → ℕ → TableName → Plan
 plan_of = shaped_plan plain
 
@@ -39,7 +39,7 @@ plan_in setup = record { claims = claims_in setup.layout setup.cells; lanes = se
 abbrev pub pairs_in : Setup → ℕ
 pairs_in setup = pair_count setup.layout
 
--- what each cell has beside them
+-- what each cell has beside its pairs
 abbrev pub shape_in : Setup → Shape
 shape_in setup = shape_of setup.layout
 
@@ -52,10 +52,10 @@ refusal_above most producers consumers cells pairs =
     else if nat_lt pairs 1 || nat_lt MAX_PAIRS pairs then Some BadRounds
     else None
 
--- of a script's setup
+-- the first reason to refuse a script's setup, if there is one
 abbrev pub setup_refusal : ℕ → ℕ → ℕ → ℕ → Option SetupFault
 setup_refusal = refusal_above MAX_CELLS
 
--- and of a large one
+-- the first reason to refuse a large setup, if there is one
 abbrev pub large_refusal : ℕ → ℕ → ℕ → ℕ → Option SetupFault
 large_refusal = refusal_above MAX_LARGE_CELLS

@@ -4,7 +4,7 @@ use Rattle.mb_world.specs.Imports.{IsClaimLawful, IsPoolLawful, IsQuorumTable}
 use Rattle.mb_world.specs.Plan.{Histories, Plan, consumers_of, size_of}
 use Rattle.mb_world.specs.Fitting.{Fits, parts_of}
 
--- its quorum table and each of the two histories are lawful, and each consumer's two parts fit
+-- a mailbox's quorum table and each of its two histories are lawful, and each consumer's two parts fit
 pub record AreSound (plan : Plan) (hs : Histories) : Type 0 where
   pub table : IsQuorumTable plan.claims.table
   pub claims_lawful : IsClaimLawful plan.claims hs.claims

@@ -1,30 +1,29 @@
--- What the state of a world says of its report, read off its words, its seats and its notes.
+-- What the state of a world says of its report, read off its words, its places and its notes.
 use Rattle.std.specs.Prelude.{ℕ, ◌≡◌, ◌+◌, ◌*◌, ◌<◌, Bool, false, not, Option, Some, None, List, length, map, filter, slice_get}
 use Rattle.std.specs.Option.{option_map_or}
 use Rattle.std.specs.List.{filter_map}
-use Rattle.mb_claim.specs.OneClaim.{is_begun}
 use Rattle.mb_cells.specs.State.{IsAfter, PoolState, item_in}
 use Rattle.mb_world.specs.declared.report.Note.{Note}
-use Rattle.mb_world.specs.declared.seat.Seat.{Seat}
-use Rattle.mb_world.specs.declared.seat.Seat.TheVariants as seat
 use Rattle.mb_world.specs.Imports.{Entry, History, has_ended, put_list}
+use Rattle.mb_world.specs.Places.{has_begun_at}
 use Rattle.mb_world.specs.Plan.{consumers_of}
 use Rattle.mb_world.specs.Report.{DiaryView, LaneView}
 use Rattle.mb_world.specs.Reporting.{any_below, is_took, values_put}
 use Rattle.mb_world.specs.Setups.{plan_in}
 use Rattle.mb_world.specs.WorldState.{WorldState}
 
--- the cells of lane p, the first linked first, with their items, and whether the end mark comes after them
+-- after a history of the pool, lane p has these cells, the first linked first. Their items are those that the state
+-- holds, and `over` says whether the end mark comes after them
 pub record IsWalk (s : PoolState) (p : ℕ) (ks : List ℕ) (over : Bool) (pool : History) : Type 0 where
   pub cells : map (λ (e : Entry). e.cell) (put_list p pool) ≡ ks
   pub values : values_put p pool ≡ map (λ k. item_in k s) ks
   pub ended : has_ended p pool ≡ over
 
--- so it is by each history that leaves the pool
+-- after each history that leaves the pool in this state, lane p has these cells, and has ended or not
 abbrev pub IsWalked : PoolState → ℕ → List ℕ → Bool → Type 0
 IsWalked s p ks ended = (pool : History) → IsAfter pool s → IsWalk s p ks ended pool
 
--- the note at a place of the list, if there is one
+-- the note at a position of the list, if there is one
 abbrev pub note_there : Option (Option Note) → Option Note
 note_there None = None
 note_there (Some o) = o
@@ -37,24 +36,18 @@ note_on s c k = note_there (slice_get s.notes (c * (plan_in s.setup).claims.cell
 abbrev pub is_taken_on : WorldState → ℕ → Bool
 is_taken_on s k = any_below (consumers_of (plan_in s.setup)) (λ c. is_took (note_on s c k))
 
--- whether the consumer on this seat holds a claim that has an access
-abbrev pub has_begun_on : Seat → Bool
-has_begun_on seat.AtHead = false
-has_begun_on (seat.PastCell k) = false
-has_begun_on (seat.AtCell k claim) = is_begun claim
-
--- so it is for consumer c on lane p
+-- whether consumer c holds a claim on lane p that has an access
 abbrev pub begun_on : WorldState → ℕ → ℕ → Bool
-begun_on s c p = option_map_or has_begun_on (slice_get s.seats (c * (plan_in s.setup).lanes + p)) false
+begun_on s c p = option_map_or has_begun_at (slice_get s.places (c * (plan_in s.setup).lanes + p)) false
 
--- the state says this of lane p
+-- the state tells this of lane p
 pub record IsLaneTold (s : WorldState) (p : ℕ) (l : LaneView) : Type 0 where
   pub cells : List ℕ
   pub walked : IsWalked s.pool p cells l.ended
   pub put : l.put ≡ map (λ k. item_in k s.pool) cells
   pub left : l.left ≡ map (λ k. item_in k s.pool) (filter (λ k. not (is_taken_on s k)) cells)
 
--- and this of consumer c there
+-- the state tells this diary of consumer c on lane p
 pub record IsDiaryTold (s : WorldState) (c p : ℕ) (d : DiaryView) : Type 0 where
   pub consumer : d.consumer ≡ c
   pub lane : d.lane ≡ p
@@ -64,13 +57,13 @@ pub record IsDiaryTold (s : WorldState) (c p : ℕ) (d : DiaryView) : Type 0 whe
   pub notes : d.notes ≡ filter_map (note_on s c) cells
   pub begun : d.begun ≡ begun_on s c p
 
--- so it is for the first n pairs of consumers and lanes, in the order of their diaries
+-- the state tells these diaries of the first n pairs of consumers and lanes, in their order
 pub record AreDiariesTold (s : WorldState) (n : ℕ) (ds : List DiaryView) : Type 0 where
   pub count : length ds ≡ n
   pub each : (c p : ℕ) → p < (plan_in s.setup).lanes → c * (plan_in s.setup).lanes + p < n →
       (d : DiaryView) × (slice_get ds (c * (plan_in s.setup).lanes + p) ≡ Some d) × IsDiaryTold s c p d
 
--- and for the first n lanes
+-- the state tells this of the first n lanes
 pub record AreLanesTold (s : WorldState) (n : ℕ) (ls : List LaneView) : Type 0 where
   pub count : length ls ≡ n
   pub each : (p : ℕ) → p < n → (l : LaneView) × (slice_get ls p ≡ Some l) × IsLaneTold s p l

@@ -14,5 +14,5 @@ pub record HasNothing (plan : Plan) (c p : ℕ) (h : WorldHistory) : Type 0 wher
   -- its path has led past all cells that are linked there, and it holds no claim
   pub notes : List Note
   pub path : ConsumerPath plan.claims c p (lane_part c p h) (linked_cells p (pool_accesses h)) notes None
-  -- and the lane has not ended
+  -- the lane has not ended
   pub goes_on : has_ended p (pool_accesses h) ≡ false

@@ -9,23 +9,23 @@ pub data WorldAccess : Type 0 where
   ToCells : PoolAccess → WorldAccess
   ToClaims : ClaimAccess → WorldAccess
 
--- a finite list of them, the newest first
+-- a history of a world: a finite list of its accesses, the newest first
 abbrev pub WorldHistory : Type 0
 WorldHistory = List WorldAccess
 
--- those to the cells
+-- the accesses to the cells
 abbrev pub pool_accesses : WorldHistory → History
 pool_accesses [] = []
 pool_accesses (ToCells a ∷ older) = a ∷ pool_accesses older
 pool_accesses (ToClaims a ∷ older) = pool_accesses older
 
--- those to the claims
+-- the accesses to the claims
 abbrev pub claim_accesses : WorldHistory → List ClaimAccess
 claim_accesses [] = []
 claim_accesses (ToCells a ∷ older) = claim_accesses older
 claim_accesses (ToClaims a ∷ older) = a ∷ claim_accesses older
 
--- both, with no order between the two
+-- both histories of a world, with no order between the two
 abbrev pub histories_of : WorldHistory → Histories
 histories_of h = record { claims = claim_accesses h; pool = pool_accesses h; reader_of = λ c. c }
 
@@ -40,6 +40,6 @@ abbrev pub is_on : ℕ → ℕ → List ℕ → WorldAccess → Bool
 is_on c p ks (ToCells a) = is_same_process (Reader c) a.process && is_of_lane p ks a.word
 is_on c p ks (ToClaims a) = nat_eq a.consumer c && has_cell ks a.cell
 
--- the part of consumer c on lane p
+-- the part of consumer c on lane p: its accesses there
 abbrev pub lane_part : ℕ → ℕ → WorldHistory → WorldHistory
 lane_part c p h = filter (is_on c p (linked_cells p (pool_accesses h))) h

@@ -22,18 +22,19 @@ use Rattle.mb_world.specs.Report.{DiaryView, ReportView}
 use Rattle.mb_world.specs.Reporting.{IsDiaryOf, IsReportOf}
 use Rattle.mb_world.specs.World.{ToCells, WorldAccess, WorldHistory, histories_of}
 use Rattle.mb_world.specs.Worlds.{IsWorldLawful}
-use Rattle.mb_world.specs.Replay.{IsEntry}
+use Rattle.mb_world.specs.Replay.{HasAnswer}
 use Rattle.mb_world.specs.ConsumerPath.{claim_step, item_load, link_load}
 use Rattle.mb_world.specs.PathExamples.{first_step, two_cells, won_steps}
 
--- the world
+-- the world: two lanes, and the claims of two consumers on two cells
 abbrev pub two_by_two : Plan
 two_by_two = record { claims = two_cells; lanes = 2 }
 
--- the item 5, in cell 0, and the item 6, in cell 1
+-- the item 5, in cell 0
 abbrev pub five : Entry
 five = record { cell = 0; value = 5 }
 
+-- the item 6, in cell 1
 abbrev pub six : Entry
 six = record { cell = 1; value = 6 }
 
@@ -42,21 +43,23 @@ abbrev pub stores : ℕ → Word → ℕ → WorldAccess
 stores p w v = ToCells (store p w v)
 
 -- ---- what was done
--- producer 0 has taken a cell for the item 5, and consumer 0 has found nothing on its lane
+-- producer 0 has taken a cell for the item 5
 abbrev pub one_taken : WorldHistory
 one_taken = ToCells (fetch 0 five) ∷ []
 
+-- then consumer 0 has found nothing on its lane
 abbrev pub offered : WorldHistory
 offered = link_load 0 0 [] 0 ∷ one_taken
 
--- the item is stored, and put
+-- then producer 0 has stored the item in its cell
 abbrev pub one_stored : WorldHistory
 one_stored = stores 0 (Item 0) 5 ∷ offered
 
+-- then producer 0 has linked the cell, so the item is put
 abbrev pub one_put : WorldHistory
 one_put = stores 0 (Head 0) 1 ∷ one_stored
 
--- producer 1 has put another
+-- producer 1 has put the item 6
 abbrev pub both_put : WorldHistory
 both_put = stores 1 (Head 1) 2 ∷ stores 1 (Item 1) 6 ∷ ToCells (fetch 1 six) ∷ one_put
 
@@ -64,24 +67,27 @@ both_put = stores 1 (Head 1) 2 ∷ stores 1 (Item 1) 6 ∷ ToCells (fetch 1 six)
 abbrev pub first_found : WorldHistory
 first_found = link_load 0 0 [] 1 ∷ both_put
 
--- it has won and taken it
+-- consumer 0 has won the claim on the item 5
 abbrev pub first_won : WorldHistory
 first_won = map (claim_step 0 0) won_steps ++ first_found
 
+-- consumer 0 has taken the item 5
 abbrev pub first_taken : WorldHistory
 first_taken = item_load 0 0 5 ∷ first_won
 
--- consumer 1 has come and lost it
+-- the steps with which consumer 1 loses the item 5
 abbrev pub lost_steps : List ObjectTurn
 lost_steps = claim_part 1 0 won_and_lost
 
+-- consumer 1 has come and lost it
 abbrev pub first_lost : WorldHistory
 first_lost = map (claim_step 1 0) lost_steps ++ link_load 1 0 [] 1 ∷ first_taken
 
--- it has found the item 6, and begun a claim there
+-- consumer 1 has found the item 6
 abbrev pub second_met : WorldHistory
 second_met = link_load 1 1 [] 2 ∷ first_lost
 
+-- consumer 1 has begun a claim on the item 6
 abbrev pub second_begun : WorldHistory
 second_begun = claim_step 1 1 first_step ∷ second_met
 
@@ -89,18 +95,20 @@ second_begun = claim_step 1 1 first_step ∷ second_met
 abbrev pub all_done : WorldHistory
 all_done = link_load 1 0 (0 ∷ []) END ∷ stores 0 (Link 0) END ∷ second_begun
 
+-- what was done in all, as two histories with no order between them
 abbrev pub all_histories : Histories
 all_histories = histories_of all_done
 
 -- ---- what may not follow
--- the access does not keep the history lawful
+-- the access may not follow on what was done in all: the history would not be lawful
 abbrev pub MayNotFollow : WorldAccess → Type 0
 MayNotFollow a = IsWorldLawful two_by_two (a ∷ all_done) → ⊥
 
--- consumer 1 loads the item 6 while its claim goes on, and consumer 0 the item 5 again
+-- consumer 1 loads the item 6 while its claim goes on
 abbrev pub taken_unwon : WorldAccess
 taken_unwon = item_load 1 1 6
 
+-- consumer 0 loads the item 5 again
 abbrev pub taken_again : WorldAccess
 taken_again = item_load 0 0 5
 
@@ -124,10 +132,11 @@ end_missed = link_load 0 0 (0 ∷ []) 0
 abbrev pub offered_late : WorldAccess
 offered_late = ToCells (fetch 0 (record { cell = 2; value = 7 }))
 
--- a consumer and a lane that the world does not have
+-- a consumer that the world does not have loads the head of lane 1
 abbrev pub stranger : WorldAccess
 stranger = link_load 2 1 [] 2
 
+-- consumer 0 loads the head of a lane that the world does not have
 abbrev pub no_lane : WorldAccess
 no_lane = link_load 0 2 [] 0
 
@@ -145,16 +154,16 @@ report_with left d = record {
       ∷ record { consumer = 1; lane = 1; notes = []; begun = true } ∷ [];
 }
 
--- the report
+-- the report of what was done in all
 abbrev pub all_reported : ReportView
 all_reported = report_with (6 ∷ []) (diary_with 1 0 (Lost 0 ∷ []))
 
--- ---- what is not
--- this is no report of it
+-- ---- what is no report, and no diary
+-- this is no report of what was done in all
 abbrev pub IsNoReport : ReportView → Type 0
 IsNoReport r = IsReportOf two_by_two all_histories r → ⊥
 
--- and this is no diary of consumer c on lane p
+-- this is no diary of consumer c on lane p
 abbrev pub IsNoDiary : ℕ → ℕ → DiaryView → Type 0
 IsNoDiary c p d = IsDiaryOf two_by_two c p all_histories d → ⊥
 
@@ -162,30 +171,33 @@ IsNoDiary c p d = IsDiaryOf two_by_two c p all_histories d → ⊥
 abbrev pub item_left_out : ReportView
 item_left_out = report_with [] (diary_with 1 0 (Lost 0 ∷ []))
 
--- there is nothing in it
+-- a report with nothing in it
 abbrev pub nothing_told : ReportView
 nothing_told = record { lanes = []; diaries = [] }
 
--- a consumer has no note on the item that it has lost, or says that it took it
+-- consumer 1 has no note on the item that it has lost
 abbrev pub loss_left_out : DiaryView
 loss_left_out = diary_with 1 0 []
 
+-- consumer 1 says that it took the item that it has lost
 abbrev pub loss_taken : DiaryView
 loss_taken = diary_with 1 0 (Took 5 ∷ [])
 
--- it says that it took the item on which its claim goes on, or does not say that the claim is begun
+-- consumer 1 says that it took the item on which its claim goes on
 abbrev pub unwon_taken : DiaryView
 unwon_taken = diary_with 1 1 (Took 6 ∷ [])
 
+-- consumer 1 does not say that its claim is begun
 abbrev pub claim_left_out : DiaryView
 claim_left_out = diary_with 1 1 []
 
--- ---- events
--- the first events, which lead to `one_put`, and their answers
+-- ---- events of the world, and their answers
+-- the first events, which lead to `one_put`
 abbrev pub first_events : List Event
 first_events =
     event.Offer 0 5 ∷ event.Step 0 0 9 ∷ event.Finish 0 ∷ event.Push 0 ∷ event.Push 0 ∷ event.Push 0 ∷ []
 
+-- the answers to these events
 abbrev pub first_answers : List Answer
 first_answers =
     answer.Offered (offer.Cell 0) ∷ answer.Looked look.Nothing ∷ answer.Finished finish.Busy
@@ -193,7 +205,7 @@ first_answers =
 
 -- after this history the event has this answer, with an access or with none
 abbrev pub Answers : Event → Answer → WorldHistory → Type 0
-Answers e r h = (a : Option WorldAccess) × IsEntry two_by_two e r a h
+Answers e r h = (a : Option WorldAccess) × HasAnswer two_by_two e r a h
 
 -- the answer to the first step of consumer 1 on its claim on cell 1
 abbrev pub first_claimed : Answer

@@ -1,14 +1,15 @@
 -- The state of a world, and the histories that leave it.
-use Rattle.std.specs.Prelude.{ℕ, ◌≡◌, ◌↔◌, ◌<◌, ◌+◌, ◌*◌, Option, Some, None, List, [], ◌∷◌, length, slice_get}
+use Rattle.std.specs.Prelude.{ℕ, ◌≡◌, ◌↔◌, ◌<◌, ◌+◌, ◌*◌, Option, Some, None, List, ◌∷◌, length, slice_get}
 use Rattle.mb_claim.specs.declared.layout.Layout.{Layout}
 use Rattle.mb_claim.specs.OneClaim.{IsClaimIn, consumer_of}
 use Rattle.mb_claim.specs.States.{IsMemoryOf}
+use Rattle.mb_cells.specs.Reading.{word_of}
 use Rattle.mb_cells.specs.State.{IsAfter, PoolState, cell_count, lane_count}
 use Rattle.mb_world.specs.declared.report.Note.{Note}
-use Rattle.mb_world.specs.declared.seat.Seat.{Seat}
-use Rattle.mb_world.specs.declared.seat.Seat.TheVariants as seat
+use Rattle.mb_world.specs.declared.place.Place.{Place}
+use Rattle.mb_world.specs.declared.place.Place.TheVariants.{At, Before}
 use Rattle.mb_world.specs.declared.setup.Setup.{Setup}
-use Rattle.mb_world.specs.Imports.{ObjectTurn}
+use Rattle.mb_world.specs.Imports.{ObjectTurn, place_past}
 use Rattle.mb_world.specs.Plan.{consumers_of}
 use Rattle.mb_world.specs.Setups.{layout_of, plan_in}
 use Rattle.mb_world.specs.Fitting.{EndsAs, parts_of}
@@ -16,30 +17,31 @@ use Rattle.mb_world.specs.World.{WorldHistory, claim_accesses, histories_of, lan
 use Rattle.mb_world.specs.ConsumerPath.{ConsumerPath}
 use Rattle.mb_world.specs.Worlds.{IsWorldLawful}
 
--- the pool of cells, the words of the claims, where each consumer stands on each lane, and its note on each cell. The
--- seat of consumer c on lane p is at c times the lanes plus p. Its note on cell k is at c times the cells plus k
+-- the state of a world: its setup, the pool of cells, the words of the claims, where each consumer stands on each lane,
+-- and its note on each cell. The place of consumer c on lane p is at c times the lanes plus p. Its note on cell k is at c
+-- times the cells plus k
 pub record WorldState : Type 0 where
   pub setup : Setup
   pub pool : PoolState
   pub words : List ℕ
-  pub seats : List Seat
+  pub places : List Place
   pub notes : List (Option Note)
 
--- the seat is that of consumer c, if its path has met these cells and holds a claim with these steps, or none
-abbrev pub IsSeatAt : Layout → ℕ → List ℕ → Option (List ObjectTurn) → Seat → Type 0
-IsSeatAt layout c [] None seat.AtHead = Unit {0}
-IsSeatAt layout c (k ∷ ks) None (seat.PastCell cell) = cell ≡ k
-IsSeatAt layout c (k ∷ ks) (Some xs) (seat.AtCell cell claim) =
+-- the place is that of consumer c on lane p, if its path there has met these cells and holds a claim with these steps,
+-- or none
+abbrev pub IsPlaceAt : Layout → ℕ → ℕ → List ℕ → Option (List ObjectTurn) → Place → Type 0
+IsPlaceAt layout c p ks None (Before at) = word_of at ≡ place_past p ks
+IsPlaceAt layout c p (k ∷ ks) (Some xs) (At cell claim) =
     (cell ≡ k) × (consumer_of claim ≡ c) × IsClaimIn layout claim xs
-IsSeatAt layout c _ _ _ = ⊥
+IsPlaceAt layout c p _ _ _ = ⊥
 
--- the seat of consumer c on lane p after a history
-pub record IsSeatAfter (setup : Setup) (c p : ℕ) (h : WorldHistory) (d : Seat) : Type 0 where
+-- the place of consumer c on lane p after a history
+pub record IsPlaceAfter (setup : Setup) (c p : ℕ) (h : WorldHistory) (d : Place) : Type 0 where
   pub cells : List ℕ
   pub notes : List Note
   pub held : Option (List ObjectTurn)
   pub path : ConsumerPath (plan_in setup).claims c p (lane_part c p h) cells notes held
-  pub is : IsSeatAt (layout_of setup) c cells held d
+  pub is : IsPlaceAt (layout_of setup) c p cells held d
 
 -- the note of consumer c on cell k after a history: how its claim there has ended, if it has
 abbrev pub IsNoteAfter : Setup → ℕ → ℕ → WorldHistory → Option Note → Type 0
@@ -53,9 +55,9 @@ pub record IsWorldAfter (h : WorldHistory) (s : WorldState) : Type 0 where
   pub cells : cell_count s.pool ≡ (plan_in s.setup).claims.cells
   pub pool : IsAfter (pool_accesses h) s.pool
   pub words : IsMemoryOf (plan_in s.setup).claims s.words (claim_accesses h)
-  pub seats_count : length s.seats ≡ consumers_of (plan_in s.setup) * (plan_in s.setup).lanes
-  pub seat : (c p : ℕ) → c < consumers_of (plan_in s.setup) → p < (plan_in s.setup).lanes →
-      (d : Seat) × (slice_get s.seats (c * (plan_in s.setup).lanes + p) ≡ Some d) × IsSeatAfter s.setup c p h d
+  pub places_count : length s.places ≡ consumers_of (plan_in s.setup) * (plan_in s.setup).lanes
+  pub place : (c p : ℕ) → c < consumers_of (plan_in s.setup) → p < (plan_in s.setup).lanes →
+      (d : Place) × (slice_get s.places (c * (plan_in s.setup).lanes + p) ≡ Some d) × IsPlaceAfter s.setup c p h d
   pub notes_count : length s.notes ≡ consumers_of (plan_in s.setup) * (plan_in s.setup).claims.cells
   pub note : (c k : ℕ) → c < consumers_of (plan_in s.setup) → k < (plan_in s.setup).claims.cells →
       (o : Option Note) × (slice_get s.notes (c * (plan_in s.setup).claims.cells + k) ≡ Some o)

@@ -37,11 +37,11 @@ pub record IsWorldLawful (plan : Plan) (h : WorldHistory) : Type 0 where
   pub producers : (p : ℕ) → IsLanePrefix plan.claims.cells p (part (Producer p) (pool_accesses h))
   -- each consumer's part on each lane is a prefix of a consumer path
   pub consumers : (c p : ℕ) → c < consumers_of plan → p < plan.lanes → IsOnPath plan c p h
-  -- and no access of a consumer is outside these
+  -- no access of a consumer is outside its parts on the lanes
   pub no_others : (c : ℕ) (a : WorldAccess) → Has h a → IsBy c a → IsOnLane plan c a h
 
 -- ---- one more access
--- its values are below 2^64, and it reads what was stored last in its word
+-- the access's values are below 2^64, and it reads what was stored last in its word
 abbrev pub IsTrueTo : WorldAccess → WorldHistory → Type 0
 IsTrueTo (ToCells a) h = ActFits a.act × cell.ReadsLast a.word a.act (pool_accesses h)
 IsTrueTo (ToClaims a) h =

@@ -6,7 +6,7 @@ ghost use Rattle.mb_world.specs.Report.{notes};
 ghost use Rattle.mb_world.specs.Assignment.{Assignment};
 ghost use Rattle.mb_world.specs.Agreement.{AgreesWith, AreAllTaken, IsLeftBesideBegun, IsSettled};
 ghost use Rattle.mb_world.specs.ReportExamples.{first_to, to_nobody, taken_and_lost, won_not_loaded, both_undecided};
-ghost use Rattle.mb_world.specs.ReportExamples.{nobody_came, taken_on_both, turned_places, lost_to_a_third};
+ghost use Rattle.mb_world.specs.ReportExamples.{nobody_came, taken_on_both, turned_diaries, lost_to_a_third};
 ghost use Rattle.mb_world.specs.ReportExamples.{left_out_of_order, left_omitted, left_and_taken};
 ghost use Rattle.mb_world.specs.ReportExamples.{two_takers, other_value, lost_to_itself, winner_stayed_away};
 ghost use Rattle.mb_world.specs.ReportExamples.{lost_to_each_other, begun_beyond, noted_beyond};
@@ -23,7 +23,7 @@ ghost use Rattle.mb_world.specs.Worlds.{IsWorldLawful};
 ghost use Rattle.mb_world.specs.Sound.{AreSound};
 ghost use Rattle.mb_world.specs.Reporting.{IsReportOf};
 ghost use Rattle.mb_world.specs.Headline.{NothingFollowsEnds};
-ghost use Rattle.mb_world.specs.Replay.{IsEntry, IsReplay};
+ghost use Rattle.mb_world.specs.Replay.{HasAnswer, IsReplay};
 ghost use Rattle.mb_world.specs.WorldExamples.{two_by_two, offered, both_put, one_put, first_taken, second_met};
 ghost use Rattle.mb_world.specs.WorldExamples.{second_begun, all_done, all_histories, all_reported, report_with};
 ghost use Rattle.mb_world.specs.WorldExamples.{MayNotFollow, taken_unwon, taken_again, taken_lost, unmet_claimed};
@@ -38,11 +38,13 @@ ghost use Rattle.mb_world.specs.declared.event.Event.TheVariants as event;
 ghost use Rattle.mb_cells.specs.declared.answer.Look.TheVariants as look;
 ghost use Rattle.mb_cells.specs.declared.answer.Offer.TheVariants as offer;
 ghost use Rattle.mb_cells.specs.declared.answer.Push.TheVariants as push;
+ghost use Rattle.mb_cells.specs.declared.cursor.Cursor.TheVariants.{Past};
 ghost use Rattle.std.specs.Prelude.{false, true};
 ghost use Rattle.mb_cells.specs.Vocabulary.{one_put as item_put, put_pool, taken_pool};
-ghost use Rattle.mb_world.specs.StateReport.{IsLaneTold, IsWalk, has_begun_on, note_there};
+ghost use Rattle.mb_world.specs.Places.{has_begun_at};
+ghost use Rattle.mb_world.specs.StateReport.{IsLaneTold, IsWalk, note_there};
 ghost use Rattle.mb_world.specs.WorldState.{WorldState};
-ghost use Rattle.mb_world.specs.declared.seat.Seat.TheVariants as seat;
+ghost use Rattle.mb_world.specs.declared.place.Place.TheVariants.{Before};
 
 use crate::laws::{
     agreeing_reports_are_settled, places_tell_diaries, replays_do_not_differ, worlds_are_sound,
@@ -99,7 +101,7 @@ pub fn reports_disagree()
     ensures away { (t : Assignment) → AgreesWith t winner_stayed_away → ⊥ }
     ensures each { (t : Assignment) → AgreesWith t lost_to_each_other → ⊥ }
     ensures third { (t : Assignment) → AgreesWith t lost_to_a_third → ⊥ }
-    ensures places { (t : Assignment) → AgreesWith t turned_places → ⊥ }
+    ensures turned { (t : Assignment) → AgreesWith t turned_diaries → ⊥ }
     ensures begun { (t : Assignment) → AgreesWith t begun_beyond → ⊥ }
     ensures beyond { (t : Assignment) → AgreesWith t noted_beyond → ⊥ }
 {}
@@ -295,22 +297,22 @@ pub fn events_are_replayed()
     ensures first { IsReplay two_by_two first_events first_answers [] one_put }
 
     // An item is stored.
-    ensures pushed { IsEntry two_by_two
+    ensures pushed { HasAnswer two_by_two
         (event.Push 0) (answer.Pushed (push.Item 0)) (Some (stores 0 (Item 0) 5)) offered }
 
     // A step that finds a cell, one of a claim, and one that takes an item.
-    ensures found { IsEntry two_by_two
+    ensures found { HasAnswer two_by_two
         (event.Step 1 1 7) (answer.Looked (look.Cell 1)) (Some (link_load 1 1 [] 2)) first_lost }
-    ensures claimed { IsEntry two_by_two
+    ensures claimed { HasAnswer two_by_two
         (event.Step 1 1 0) first_claimed (Some (claim_step 1 1 first_step)) second_met }
-    ensures took { IsEntry two_by_two
+    ensures took { HasAnswer two_by_two
         (event.Step 0 0 7) (answer.Took 0 5) (Some (item_load 0 0 5)) first_won }
 
     // Refusals in their order.
-    ensures closed { IsEntry two_by_two
+    ensures closed { HasAnswer two_by_two
         (event.Offer 0 7) (answer.Offered offer.Closed) None all_done }
-    ensures no_lane { IsEntry two_by_two (event.Step 2 2 0) answer.NoLane None all_done }
-    ensures no_consumer { IsEntry two_by_two (event.Step 2 1 0) answer.NoConsumer None all_done }
+    ensures no_lane { HasAnswer two_by_two (event.Step 2 2 0) answer.NoLane None all_done }
+    ensures no_consumer { HasAnswer two_by_two (event.Step 2 1 0) answer.NoConsumer None all_done }
 {
     worlds_go_on();
 }
@@ -331,7 +333,7 @@ pub fn events_are_not_misanswered()
     ensures order { Answers (event.Step 2 2 0) answer.NoConsumer all_done → ⊥ }
 
     // The random word is the event's.
-    ensures word { IsEntry two_by_two
+    ensures word { HasAnswer two_by_two
         (event.Step 1 1 1) first_claimed (Some (claim_step 1 1 first_step)) second_met → ⊥ }
 
     // An event has no answer.
@@ -354,10 +356,10 @@ pub fn states_tell_reports()
     ensures over { IsWalk put_pool 0 (0 ∷ []) true item_put → ⊥ }
     ensures not_there { IsWalk taken_pool 0 (0 ∷ []) false item_put → ⊥ }
 
-    // A note is read at its place, and there is none past the end of the list. No claim is begun if none is held.
+    // A note is read at its position, and there is none past the end of the list. No claim is begun if none is held.
     ensures noted { note_there (Some (Some (Lost 1))) ≡ Some (Lost 1) }
     ensures nowhere { note_there None ≡ None }
-    ensures not_held { has_begun_on (seat.PastCell 0) ≡ false }
+    ensures not_held { has_begun_at (Before (Past 0)) ≡ false }
 {
     pools_hold_what_was_done();
 }

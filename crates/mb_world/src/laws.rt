@@ -26,7 +26,7 @@ ghost use Rattle.mb_world.specs.declared.event.Answer.{Answer};
 ghost use Rattle.mb_world.specs.declared.event.Answer.TheVariants as answer;
 ghost use Rattle.mb_world.specs.declared.event.Event.{Event};
 ghost use Rattle.mb_world.specs.declared.event.Event.TheVariants as event;
-ghost use Rattle.mb_world.specs.Replay.{IsAccessOf, IsEntry, IsRefused, IsRefusedOrMade, IsReplay};
+ghost use Rattle.mb_world.specs.Replay.{IsAccessOf, HasAnswer, IsRefused, IsRefusedOrMade, IsReplay};
 ghost use Rattle.mb_world.specs.World.{WorldAccess, WorldHistory, claim_accesses, histories_of, lane_part};
 ghost use Rattle.mb_world.specs.World.{pool_accesses};
 ghost use Rattle.mb_world.specs.Imports.{HasFoundNone, HasPending, has_ended};
@@ -190,7 +190,7 @@ pub fn places_tell_diaries()
 pub fn nothing_is_exact()
     ensures { (plan : Plan) (h : WorldHistory) (c p word : ℕ) (r : Answer) (a : Option WorldAccess)
         → IsQuorumTable plan.claims.table → IsWorldLawful plan h
-        → IsEntry plan (event.Step c p word) r a h
+        → HasAnswer plan (event.Step c p word) r a h
         → (r ≡ answer.Looked look.Nothing) ↔ HasNothing plan c p h }
 {
     prefixes_have_one_stage();
@@ -209,7 +209,7 @@ pub fn replays_do_not_differ()
         → IsAccessOf e a h → IsWorldLawful plan (a ∷ h) → ⊥ }
     ensures entry { (plan : Plan) (e : Event) (r s : Answer) (a b : Option WorldAccess)
         (h : WorldHistory) → IsQuorumTable plan.claims.table → IsWorldLawful plan h
-        → IsEntry plan e r a h → IsEntry plan e s b h → (r ≡ s) × (a ≡ b) }
+        → HasAnswer plan e r a h → HasAnswer plan e s b h → (r ≡ s) × (a ≡ b) }
     ensures replay { (plan : Plan) (es : List Event) (rs ss : List Answer)
         (was now then : WorldHistory) → IsQuorumTable plan.claims.table → IsWorldLawful plan was
         → IsReplay plan es rs was now → IsReplay plan es ss was then → (rs ≡ ss) × (now ≡ then) }

@@ -9,14 +9,14 @@
 mod event;
 pub mod examples;
 pub mod laws;
+mod place;
 mod report;
-mod seat;
 mod setup;
 pub mod steps;
 mod world;
 
 pub use event::{Answer, Event};
+pub use place::Place;
 pub use report::{Diary, LaneReport, Note, Report};
-pub use seat::Seat;
 pub use setup::{MAX_PRODUCERS, Setup, SetupFault};
 pub use world::World;

@@ -1,14 +1,17 @@
 //! The world: all words under one caller.
+ghost use Rattle.std.specs.Prelude.{◌*◌, IfOk};
+ghost use Rattle.mb_world.specs.Places.{AreAtHeads};
+
 mod events;
 mod reports;
 mod states;
 mod step_event;
 
+use crate::place::Place;
 use crate::report::Note;
-use crate::seat::Seat;
 use crate::setup::Setup;
 use crate::steps::history_extends;
-use mb_cells::{NoMemory, Pool};
+use mb_cells::{Cursor, NoMemory, Pool};
 use mb_claim::ClaimWords;
 use mb_claim::laws::{layouts_are_sound, prefixes_have_one_stage};
 use mb_deciding::laws::objects_keep_their_promises;
@@ -23,7 +26,7 @@ pub struct World<A: Allocator + Drop> {
     pool: Pool<A>,
     words: ClaimWords<A>,
     /// Where each consumer stands on each lane, consumer by consumer.
-    seats: Vec<Seat, A>,
+    places: Vec<Place, A>,
     /// The note of each consumer on each cell, if it has one, consumer by consumer.
     notes: Vec<Option<Note>, A>,
 }
@@ -37,7 +40,7 @@ impl<A: Allocator + Drop> Model for World<A> {
       setup = w.setup;
       pool = w.pool;
       words = w.words;
-      seats = w.seats.items;
+      places = w.places.items;
       notes = w.notes.items;
     } };
 
@@ -45,7 +48,7 @@ impl<A: Allocator + Drop> Model for World<A> {
       setup = w.setup;
       pool = w.pool;
       words = w.words;
-      seats = w.seats.items;
+      places = w.places.items;
       notes = w.notes.items;
     }) };
 }
@@ -67,17 +70,34 @@ impl<A: Allocator + Clone + Drop> World<A> {
         let layout = setup.layout();
         let lanes = setup.producers() as u32;
         let cells = setup.cells() as u32;
-        let consumers = layout.consumers() as usize;
+        let consumers = layout.consumers();
         let pool = Pool::new(alloc.clone()?, lanes, cells)?;
         let words = ClaimWords::new(alloc.clone()?, &layout, cells)?;
-        let seats = vec![in alloc.clone()?; Seat::AtHead; consumers * lanes as usize]?;
-        let notes = vec![in alloc; None; consumers * cells as usize]?;
+        let places = before_heads(alloc.clone()?, consumers, lanes)?;
+        let notes = vec![in alloc; None; consumers as usize * cells as usize]?;
         Ok(World {
             setup,
             pool,
             words,
-            seats,
+            places,
             notes,
         })
     }
+}
+
+/// The places of so many consumers that have done nothing, consumer by consumer: before the head of each lane.
+fn before_heads<A: Allocator + Drop>(
+    alloc: A,
+    consumers: u32,
+    lanes: u32,
+) -> Result<Vec<Place, A>, NoMemory>
+    ensures { IfOk result (λ places. AreAtHeads lanes (consumers * lanes) places.items) }
+{
+    let mut places = Vec::with_capacity(alloc, consumers as usize * lanes as usize)?;
+    for c in 0..consumers {
+        for p in 0..lanes {
+            places.push(Place::Before(Cursor::Head(p)))?;
+        }
+    }
+    Ok(places)
 }

@@ -1,5 +1,5 @@
 -- What a tally counts.
-use Rattle.std.specs.Prelude.{ℕ, ◌≡◌, ◌+◌, ◌%◌, ◌^◌, ◌≤◌, List, length}
+use Rattle.std.specs.Prelude.{ℕ, ◌≡◌, ◌+◌, ◌%◌, ◌^◌, ◌≤◌, length}
 use Rattle.std.specs.List.{All, sum_by}
 use Rattle.mb_world.specs.Report.{LaneView, ReportView}
 use Rattle.test_audit.specs.declared.rules.Tally.{Tally}
@@ -14,13 +14,13 @@ abbrev pub both : Tally → Tally → Tally
 both a b = counts ((a.put + b.put) % 2 ^ 64) ((a.took + b.took) % 2 ^ 64) ((a.left + b.left) % 2 ^ 64)
     ((a.lost + b.lost) % 2 ^ 64) ((a.undecided + b.undecided) % 2 ^ 64) ((a.under_way + b.under_way) % 2 ^ 64)
 
--- it counts the items put on a lane, and those left. All others are taken
+-- a tally counts the items put on a lane, and those left. All others are taken
 pub record IsLaneCount (lane : LaneView) (t : Tally) : Type 0 where
   pub put : t.put ≡ length lane.put
   pub left : t.left ≡ length lane.left
   pub took : t.took + t.left ≡ t.put
 
--- no lane has more items left than put, and it counts the same over all lanes of a report, modulo 2^64
+-- no lane has more items left than put, and a tally counts these over all lanes of a report, modulo 2^64
 pub record IsReportCount (report : ReportView) (t : Tally) : Type 0 where
   pub put : t.put ≡ sum_by (λ (l : LaneView). length l.put) report.lanes % 2 ^ 64
   pub left : t.left ≡ sum_by (λ (l : LaneView). length l.left) report.lanes % 2 ^ 64

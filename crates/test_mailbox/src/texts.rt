@@ -11,13 +11,13 @@ fn text_of_mailboxes(rt: HostRuntime) -> Result<(), Fail> {
         &GatherFault::Missing(2, 1),
         "2 producers and 1 consumers were not taken in",
     )?;
-    check_display(&rt, &GatherFault::NoMemory, "memory was refused")?;
+    check_display(&rt, &GatherFault::NoMemory, "out of memory")?;
     check_display(
         &rt,
         &HubFault::AllGiven,
         "all numbers of the mailbox were given",
     )?;
-    check_display(&rt, &HubFault::NoMemory, "memory was refused")
+    check_display(&rt, &HubFault::NoMemory, "out of memory")
 }
 
 #[test]
@@ -28,6 +28,6 @@ fn text_of_workers(rt: HostRuntime) -> Result<(), Fail> {
         "more numbers are asked for than the mailbox has left",
     )?;
     check_display(&rt, &WorkFault::BadBudget, "the budget is 0")?;
-    check_display(&rt, &WorkFault::NoMemory, "memory was refused")?;
+    check_display(&rt, &WorkFault::NoMemory, "out of memory")?;
     check_display(&rt, &WorkFault::NoThread, "a thread could not be started")
 }

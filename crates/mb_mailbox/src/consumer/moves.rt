@@ -11,12 +11,12 @@ ghost use Rattle.mb_mailbox.specs.Consumers.{ConsumerView, IsConsumer, parts_of}
 ghost use Rattle.mb_mailbox.specs.ConsumerStep.{ConsumerStep, link_answer, stage_answer};
 ghost use Rattle.mb_mailbox.specs.Laws.{Laws};
 ghost use Rattle.mb_mailbox.specs.Moves.{HasLoads, HasPlace, HasTurns, reads_with_item, reads_with_link, moved_to};
-ghost use Rattle.mb_mailbox.specs.NoteLists.{place_after};
+ghost use Rattle.mb_world.specs.Places.{place_after};
 ghost use Rattle.mb_mailbox.specs.Steps.{AnswerTells, HasNoteOnEach};
 ghost use Rattle.mb_mailbox.specs.declared.consumer.Poll.TheVariants as poll;
 ghost use Rattle.mb_shared_cells.specs.Vocabulary.{LookMakes};
 ghost use Rattle.mb_cells.specs.declared.answer.Look.TheVariants as look;
-ghost use Rattle.mb_mailbox.specs.declared.place.Place.TheVariants.{At, Before};
+ghost use Rattle.mb_world.specs.declared.place.Place.TheVariants.{At, Before};
 
 use mb_cells::laws::{cells_stand_once, lanes_share_cells, looks_tell_links, readers_follow_lanes};
 use mb_cells::steps::{

@@ -3,14 +3,13 @@ ghost use Rattle.std.specs.Prelude.{◌≡◌, ◌<◌, Some, slice_get, slice_s
 ghost use Rattle.arrayvec.specs.ArrayVec.{array_vec_len};
 ghost use Rattle.mb_cells.specs.declared.cursor.Cursor.TheVariants.{Past};
 ghost use Rattle.mb_mailbox.specs.NoteLists.{HasRoom, NotesGrow};
-ghost use Rattle.mb_mailbox.specs.declared.place.Place.TheVariants.{At, Before};
+ghost use Rattle.mb_world.specs.declared.place.Place.TheVariants.{At, Before};
 
 use crate::notes::Notes;
-use crate::place::Place;
 use arrayvec::ArrayVec;
 use mb_cells::Cursor;
 use mb_claim::Claim;
-use mb_world::Note;
+use mb_world::{Note, Place};
 use std::alloc::Allocator;
 
 /// The place on lane `p`.

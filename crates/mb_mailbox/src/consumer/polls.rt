@@ -4,10 +4,10 @@ use super::places::place_at;
 use super::pursuit::{PendingClaim, run_claim};
 use super::{Consumer, Poll};
 use crate::mailbox::Mailbox;
-use crate::place::Place;
 use mb_cells::Look;
 use mb_cells::laws::looks_tell_links;
 use mb_claim::Claim;
+use mb_world::Place;
 use rand_core::Rng;
 use std::alloc::Allocator;
 

@@ -13,19 +13,18 @@ ghost use Rattle.mb_mailbox.specs.NoteLists.{HasAllRoom, HasRoom, NotesGrow};
 ghost use Rattle.mb_mailbox.specs.Pursuits.{IsPursuit, consumer_with, holding};
 ghost use Rattle.mb_mailbox.specs.Steps.{AreSteps};
 ghost use Rattle.mb_mailbox.specs.declared.consumer.Poll.TheVariants as poll;
-ghost use Rattle.mb_mailbox.specs.declared.place.Place.TheVariants.{Before};
+ghost use Rattle.mb_world.specs.declared.place.Place.TheVariants.{Before};
 
 use super::Poll;
 use super::moves::{consumers_move_on, places_tell_steps};
 use super::places::{leave, stay};
 use crate::mailbox::Mailbox;
 use crate::notes::Notes;
-use crate::place::Place;
 use arrayvec::ArrayVec;
 use mb_claim::{Claim, Stage};
 use mb_shared_cells::ReaderSeat;
 use mb_shared_claims::ClaimSeat;
-use mb_world::Note;
+use mb_world::{Note, Place};
 use rand_core::Rng;
 use std::alloc::Allocator;
 

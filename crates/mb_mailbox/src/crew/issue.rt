@@ -1,10 +1,10 @@
 //! The numbers that are given to a run, in order.
 ghost use Rattle.std.specs.Prelude.{◌≡◌, ◌+◌, ◌≤◌, [], length, map, true, vec_capacity, vec_len};
-ghost use Rattle.mb_mailbox.specs.Given.{AreGiven, AreAllGiven};
 ghost use Rattle.mb_mailbox.specs.Rooms.{HasJobRoom};
 ghost use Rattle.mb_mailbox.specs.Imports.{consumer_count};
 ghost use Rattle.mb_mailbox.specs.Hubs.{IsHubOf};
-ghost use Rattle.mb_mailbox.specs.HubRuns.{ArePollJobs, ArePutJobs, ArePutJobsOfFront, with_consumers, with_producers};
+ghost use Rattle.mb_mailbox.specs.Given.{AreAllGiven, AreGiven, ArePollJobs, ArePutJobs, ArePutJobsOfFront};
+ghost use Rattle.mb_mailbox.specs.HubRuns.{with_consumers, with_producers};
 
 use super::jobs::{PollJob, PutJob};
 use super::room::WorkerInputs;

@@ -7,7 +7,7 @@ ghost use Rattle.mb_mailbox.specs.Begun.{PollPromises, PutPromises};
 ghost use Rattle.mb_mailbox.specs.Producers.{IsProducerOf};
 
 use super::jobs::{Lanes, PollDone, PollJob, Polls, PutDone, PutJob, Puts};
-use super::worker::{PollWorker, PutWorker};
+use super::worker::{PollWorker, PutWorker, Worker};
 use super::workers::{poll_lanes, put_list};
 use crate::gate::Gate;
 use crate::mailbox::Mailbox;
@@ -37,10 +37,10 @@ fn start_put<'s, E: 's, A: Allocator + Drop + Send + Sync + 's, G: Gate + 's>(
         ensures { IsPutEnd (G.may_stop gate.entry.now) (G.may_pass gate.entry.now) job result }
     { put_list(mailbox, job, gate, running) };
     match scope.spawn_with(promise, body) {
-        Ok(handle) => PutWorker::Spawned(handle),
+        Ok(handle) => Worker::Spawned(handle),
         Err(refused) => {
             running.store(false, Ordering::SeqCst);
-            PutWorker::Inline(PutDone {
+            Worker::Inline(PutDone {
                 aborted: true,
                 ..(refused.value)()
             })
@@ -104,10 +104,10 @@ fn start_poll<
             lanes.end lanes.budget (R.stream job.rng) job.consumer result }
     { poll_lanes(mailbox, job, lanes, gate, running) };
     match scope.spawn_with(promise, body) {
-        Ok(handle) => PollWorker::Spawned(handle),
+        Ok(handle) => Worker::Spawned(handle),
         Err(refused) => {
             running.store(false, Ordering::SeqCst);
-            PollWorker::Inline(PollDone {
+            Worker::Inline(PollDone {
                 aborted: true,
                 ..(refused.value)()
             })

@@ -7,7 +7,7 @@ ghost use Rattle.mb_mailbox.specs.Rooms.{HasRoom};
 ghost use Rattle.mb_mailbox.specs.Runs.{AreEndsOf, AreOf};
 
 use super::jobs::{Lanes, PollDone, PollJob, PutDone, PutJob};
-use super::join::{join_polls, join_puts};
+use super::join::join_all;
 use super::room::{WorkerBuffers, WorkerInputs, WorkerResults};
 use super::spawn::{start_polls, start_puts};
 use super::workers::{poll_nothing, put_nothing};
@@ -59,8 +59,8 @@ fn run_in<
         scope, mailbox, polls, lanes, gate, running, poll_room, &putting,
     );
     WorkerResults {
-        puts: join_puts(rt, putting, put_ends),
-        polls: join_polls(rt, polling, poll_ends),
+        puts: join_all(rt, putting, put_ends),
+        polls: join_all(rt, polling, poll_ends),
     }
 }
 

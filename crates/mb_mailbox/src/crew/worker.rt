@@ -1,20 +1,16 @@
 //! Workers that were begun.
 use super::jobs::{PollDone, Polls, PutDone, Puts};
-use crate::gate::Gate;
-use rand_core::Rng;
-use std::alloc::Allocator;
-use std::thread::PromisedHandle;
+use std::thread::{Promise, PromisedHandle};
 
-/// A producer's worker that was begun. It has a thread of its own. If no thread could be made, it was ended here.
+/// A worker that was begun. It has a thread of its own. If no thread could be made, it was ended here.
 #[derive(Drop)]
-pub(crate) enum PutWorker<G: Gate, A: Allocator + Drop> {
-    Spawned(PromisedHandle<PutDone<A>, Puts<G, A>>),
-    Inline(PutDone<A>),
+pub(crate) enum Worker<D: Drop, P: Promise<D>> {
+    Spawned(PromisedHandle<D, P>),
+    Inline(D),
 }
 
-/// A consumer's worker that was begun, in the same way.
-#[derive(Drop)]
-pub(crate) enum PollWorker<G: Gate, R: Rng + Drop, A: Allocator + Drop> {
-    Spawned(PromisedHandle<PollDone<A>, Polls<G, R, A>>),
-    Inline(PollDone<A>),
-}
+/// The worker of a producer.
+pub(crate) type PutWorker<G, A> = Worker<PutDone<A>, Puts<G, A>>;
+
+/// The worker of a consumer.
+pub(crate) type PollWorker<G, R, A> = Worker<PollDone<A>, Polls<G, R, A>>;

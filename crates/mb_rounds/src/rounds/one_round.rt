@@ -16,7 +16,7 @@ impl<A: Allocator + Clone + Drop + Send + Sync> Rounds<A> {
     ghost use Rattle.mb_mailbox.specs.Worked.{lists_in};
     ghost use Rattle.mb_world.specs.Plan.{consumers_of};
     ghost use Rattle.mb_world.specs.Setups.{plan_in};
-    ghost use Rattle.mb_rounds.specs.Behind.{terms_of};
+    ghost use Rattle.mb_mailbox.specs.ReportedRuns.{terms_of};
     ghost use Rattle.mb_rounds.specs.Carried.{AreSameItems};
     ghost use Rattle.mb_rounds.specs.Round.{IsRound};
     ghost use Rattle.mb_rounds.specs.declared.rounds.RoundFault.TheVariants.{BadBudget, TooManySources};

@@ -81,12 +81,12 @@ struct DrawingWords<'a, A: Allocator + Drop, R: Rng> {
 impl<'a, A: Allocator + Drop, R: Rng> Memory for DrawingWords<'a, A, R> {
     ghost use Rattle.std.specs.Prelude.{◌≡◌, ◌<◌};
     ghost use Rattle.mb_deciding.specs.Vocabulary.{reg_of};
-    ghost use Rattle.mb_claim.specs.Vocabulary.{HasWord, claims_in};
+    ghost use Rattle.mb_claim.specs.Vocabulary.{IsWordInLayout, claims_in};
     ghost use Rattle.mb_shared_claims.specs.{name_of, MayComeNext, ComesAfter, access_of, with_access};
 
     ghost can_make = { λ m object op. (m.seat.now.table ≡ name_of m.table.now)
         × (m.cell < m.table.now.cells)
-        × HasWord m.table.now.layout object (reg_of op)
+        × IsWordInLayout m.table.now.layout object (reg_of op)
         × MayComeNext (claims_in m.table.now.layout m.table.now.cells) m.seat.now.consumer m.cell
         m.seat.now.part (record { object = object; op = op }) };
 

@@ -14,7 +14,7 @@ use std::marker::Brand;
 impl<A: Allocator + Drop> SharedClaims<A> {
     ghost use Rattle.std.specs.Prelude.{◌≡◌, ◌≢◌, ◌<◌, ℕ, true};
     ghost use Rattle.mb_deciding.specs.Vocabulary.{reg_of};
-    ghost use Rattle.mb_claim.specs.Vocabulary.{HasWord, IsClaimIn, claim_stage, claims_in, consumer_of, is_begun};
+    ghost use Rattle.mb_claim.specs.Vocabulary.{IsWordInLayout, IsClaimIn, claim_stage, claims_in, consumer_of, is_begun};
     ghost use Rattle.mb_claim.specs.Vocabulary.{part_on, shape_of, steps_left};
     ghost use Rattle.mb_claim.specs.declared.access.Stage.TheVariants.{Undecided};
     ghost use Rattle.mb_shared_claims.specs.{Going, name_of, IsSeatStep, MayComeNext, ComesAfter, access_of, with_access};
@@ -70,7 +70,7 @@ impl<A: Allocator + Drop> SharedClaims<A> {
     ) -> u64
         requires table { seat.old.table ≡ name_of self.now }
         requires cell { cell < self.now.cells }
-        requires word { HasWord self.now.layout next.object (reg_of next.op) }
+        requires word { IsWordInLayout self.now.layout next.object (reg_of next.op) }
         requires next { MayComeNext (claims_in self.now.layout self.now.cells) seat.old.consumer
             cell seat.old.part next }
         requires access { (found : ℕ) → W.access found ≡ access_of
@@ -127,12 +127,12 @@ struct SeatWords<'a, A: Allocator + Drop> {
 impl<'a, A: Allocator + Drop> Memory for SeatWords<'a, A> {
     ghost use Rattle.std.specs.Prelude.{◌≡◌, ◌<◌};
     ghost use Rattle.mb_deciding.specs.Vocabulary.{reg_of};
-    ghost use Rattle.mb_claim.specs.Vocabulary.{HasWord, claims_in};
+    ghost use Rattle.mb_claim.specs.Vocabulary.{IsWordInLayout, claims_in};
     ghost use Rattle.mb_shared_claims.specs.{name_of, MayComeNext, ComesAfter, access_of, with_access};
 
     ghost can_make = { λ m object op. (m.seat.now.table ≡ name_of m.table.now)
         × (m.cell < m.table.now.cells)
-        × HasWord m.table.now.layout object (reg_of op)
+        × IsWordInLayout m.table.now.layout object (reg_of op)
         × MayComeNext (claims_in m.table.now.layout m.table.now.cells) m.seat.now.consumer m.cell
         m.seat.now.part (record { object = object; op = op }) };
 

@@ -1,8 +1,8 @@
-//! The report of a world, read off its words, its seats and its notes.
+//! The report of a world, read off its words, its places and its notes.
 use super::World;
 use crate::laws::{last_objects_settle_items, shaped_setups_have_last_objects, worlds_are_sound};
+use crate::place::Place;
 use crate::report::{Diary, LaneReport, Note, Report};
-use crate::seat::Seat;
 use mb_cells::laws::{cells_stand_once, pools_show_lanes, readers_follow_lanes};
 use mb_cells::{Cursor, Look, NoMemory};
 use mb_claim::laws::{layouts_are_sound, prefixes_have_one_stage};
@@ -185,9 +185,9 @@ impl<A: Allocator + Clone + Drop> World<A> {
         requires lane { p < (plan_in self.now.setup).lanes }
         ensures { result ≡ begun_on self.now c p }
     {
-        match self.seats[c as usize * self.setup.producers() as usize + p as usize] {
-            Seat::AtCell { cell: _, claim } => claim.begun(),
-            Seat::AtHead | Seat::PastCell(_) => false,
+        match self.places[c as usize * self.setup.producers() as usize + p as usize] {
+            Place::At { cell: _, claim } => claim.begun(),
+            Place::Before(_) => false,
         }
     }
 }

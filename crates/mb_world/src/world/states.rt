@@ -10,6 +10,7 @@ ghost use Rattle.mb_cells.specs.declared.answer.Look.TheVariants as look;
 ghost use Rattle.mb_cells.specs.declared.answer.Offer.{Offer};
 ghost use Rattle.mb_cells.specs.declared.answer.Push.{Push};
 ghost use Rattle.mb_cells.specs.declared.cursor.Cursor.{Cursor};
+ghost use Rattle.mb_cells.specs.declared.cursor.Cursor.TheVariants.{Past};
 ghost use Rattle.mb_cells.specs.Calls.{FinishKeeps, FinishMeets, OfferKeeps, OfferMeets, PushMeets};
 ghost use Rattle.mb_cells.specs.Memory.{value_in};
 ghost use Rattle.mb_cells.specs.Reading.{look_after};
@@ -18,16 +19,15 @@ ghost use Rattle.mb_world.specs.declared.event.Answer.{Answer};
 ghost use Rattle.mb_world.specs.declared.event.Answer.TheVariants as answer;
 ghost use Rattle.mb_world.specs.declared.event.Event.TheVariants as event;
 ghost use Rattle.mb_world.specs.declared.report.Note.TheVariants.{Took};
-ghost use Rattle.mb_world.specs.declared.seat.Seat.{Seat};
-ghost use Rattle.mb_world.specs.declared.seat.Seat.TheVariants as seat;
+ghost use Rattle.mb_world.specs.declared.place.Place.TheVariants.{At, Before};
 ghost use Rattle.mb_world.specs.Imports.{Item, ObjectTurn};
 ghost use Rattle.mb_world.specs.Setups.{layout_of, plan_in};
 ghost use Rattle.mb_world.specs.World.{WorldHistory, claim_accesses, pool_accesses};
 ghost use Rattle.mb_world.specs.ConsumerPath.{note_of};
 ghost use Rattle.mb_world.specs.WorldState.{IsWorldAfter, WorldState};
 ghost use Rattle.mb_world.specs.Replay.{IsRefused};
-ghost use Rattle.mb_world.specs.EventSteps.{EventAdds, HasSeat, StandsBefore, seat_by, with_note, with_note_if, with_pool};
-ghost use Rattle.mb_world.specs.EventSteps.{with_seat, with_words};
+ghost use Rattle.mb_world.specs.Places.{place_after};
+ghost use Rattle.mb_world.specs.EventSteps.{EventAdds, HasPlace, with_note, with_note_if, with_place, with_pool, with_words};
 
 use crate::laws::worlds_are_sound;
 use crate::steps::history_extends;
@@ -38,20 +38,20 @@ use mb_claim::laws::{layouts_are_sound, prefixes_have_one_stage};
 /// A look of a consumer that holds no claim.
 pub(super) fn looks_leave_states()
     // The consumer stands before a link of the pool.
-    ensures within { (s : WorldState) (h : WorldHistory) (c p : ℕ) (d : Seat) (at : Cursor)
-        → IsWorldAfter h s → HasSeat c p d s → StandsBefore p d at → IsWithin at s.pool }
+    ensures within { (s : WorldState) (h : WorldHistory) (c p : ℕ) (at : Cursor)
+        → IsWorldAfter h s → HasPlace c p (Before at) s → IsWithin at s.pool }
 
     // If the link leads to a cell, the consumer then holds a new claim there.
-    ensures found { (s : WorldState) (h : WorldHistory) (c p word k : ℕ) (d : Seat) (at : Cursor)
-        (claim : Claim) → IsWorldAfter h s → HasSeat c p d s → StandsBefore p d at
+    ensures found { (s : WorldState) (h : WorldHistory) (c p word k : ℕ) (at : Cursor)
+        (claim : Claim) → IsWorldAfter h s → HasPlace c p (Before at) s
         → look_after at (pool_accesses h) ≡ look.Cell k → consumer_of claim ≡ c
         → claim_stage claim ≡ stage.Going → IsClaimIn (layout_of s.setup) claim []
         → EventAdds (event.Step c p word) (answer.Looked (look.Cell k))
-        (with_seat c p (seat.AtCell k claim) s) h }
+        (with_place c p (At k claim) s) h }
 
     // If it leads to none, the state stays.
-    ensures waited { (s : WorldState) (h : WorldHistory) (c p word : ℕ) (d : Seat) (at : Cursor)
-        (z : Look) → IsWorldAfter h s → HasSeat c p d s → StandsBefore p d at
+    ensures waited { (s : WorldState) (h : WorldHistory) (c p word : ℕ) (at : Cursor)
+        (z : Look) → IsWorldAfter h s → HasPlace c p (Before at) s
         → look_after at (pool_accesses h) ≡ z → ((k : ℕ) → z ≢ look.Cell k)
         → EventAdds (event.Step c p word) (answer.Looked z) s h }
 {
@@ -67,10 +67,10 @@ pub(super) fn looks_leave_states()
 /// The item load of a consumer whose claim is won.
 pub(super) fn takes_leave_states()
     ensures { (s : WorldState) (h : WorldHistory) (c p word k : ℕ) (claim : Claim)
-        → IsWorldAfter h s → HasSeat c p (seat.AtCell k claim) s → claim_stage claim ≡ stage.Won
+        → IsWorldAfter h s → HasPlace c p (At k claim) s → claim_stage claim ≡ stage.Won
         → let v = value_in (Item k) (pool_accesses h) in
         EventAdds (event.Step c p word) (answer.Took k v)
-        (with_note c k (Took v) (with_seat c p (seat.PastCell k) s)) h }
+        (with_note c k (Took v) (with_place c p (Before (Past k)) s)) h }
 {
     layouts_are_sound();
     prefixes_have_one_stage();
@@ -85,26 +85,26 @@ pub(super) fn takes_leave_states()
 pub(super) fn claims_leave_states()
     // A claim that is held and not won goes on.
     ensures going { (s : WorldState) (h : WorldHistory) (c p k : ℕ) (claim : Claim)
-        → IsWorldAfter h s → HasSeat c p (seat.AtCell k claim) s → claim_stage claim ≢ stage.Won
+        → IsWorldAfter h s → HasPlace c p (At k claim) s → claim_stage claim ≢ stage.Won
         → claim_stage claim ≡ stage.Going }
 
     // The words and the claim belong to one history of the claims.
     ensures on { (s : WorldState) (h : WorldHistory) (c p k : ℕ) (claim : Claim)
-        → IsWorldAfter h s → HasSeat c p (seat.AtCell k claim) s
+        → IsWorldAfter h s → HasPlace c p (At k claim) s
         → IsClaimOn (layout_of s.setup) (plan_in s.setup).claims.cells k claim s.words
         (claim_accesses h) }
 
     // The step leads to these words and this claim, and so to this state.
     ensures competed { (s : WorldState) (h : WorldHistory) (c p word k : ℕ) (claim now : Claim)
         (words : List ℕ) (x : ObjectTurn)
-        → IsWorldAfter h s → HasSeat c p (seat.AtCell k claim) s → claim_stage claim ≡ stage.Going
+        → IsWorldAfter h s → HasPlace c p (At k claim) s → claim_stage claim ≡ stage.Going
         → consumer_of now ≡ consumer_of claim → x.turn.word ≡ word
         → IsClaimOn (layout_of s.setup) (plan_in s.setup).claims.cells k now words
         (claim_access claim k x ∷ claim_accesses h)
         → EventAdds (event.Step c p word)
         (answer.Claimed k x.object x.turn.act (claim_stage now))
         (with_note_if c k (note_of (claim_stage now))
-        (with_seat c p (seat_by k now (claim_stage now)) (with_words words s))) h }
+        (with_place c p (place_after k now (claim_stage now)) (with_words words s))) h }
 {
     layouts_are_sound();
     prefixes_have_one_stage();

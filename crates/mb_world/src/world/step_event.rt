@@ -5,8 +5,8 @@ ghost use Rattle.mb_world.specs.ConsumerPath.{note_of};
 use super::World;
 use super::states::{claims_leave_states, looks_leave_states, takes_leave_states};
 use crate::event::Answer;
+use crate::place::Place;
 use crate::report::Note;
-use crate::seat::Seat;
 use mb_cells::{Cursor, Look};
 use mb_claim::{Claim, Stage};
 use std::alloc::Allocator;
@@ -17,13 +17,12 @@ impl<A: Allocator + Drop> World<A> {
     ghost use Rattle.mb_claim.specs.declared.claim.Claim.{Claim};
     ghost use Rattle.mb_claim.specs.OneClaim.{claim_stage};
     ghost use Rattle.mb_world.specs.declared.event.Event.TheVariants as event;
-    ghost use Rattle.mb_world.specs.declared.seat.Seat.{Seat};
-    ghost use Rattle.mb_world.specs.declared.seat.Seat.TheVariants as seat;
+    ghost use Rattle.mb_world.specs.declared.place.Place.TheVariants.{At, Before};
     ghost use Rattle.mb_world.specs.Plan.{consumers_of};
     ghost use Rattle.mb_world.specs.Setups.{plan_in};
     ghost use Rattle.mb_world.specs.World.{WorldHistory};
     ghost use Rattle.mb_world.specs.WorldState.{IsWorldAfter};
-    ghost use Rattle.mb_world.specs.EventSteps.{EventAdds, HasSeat, StandsBefore};
+    ghost use Rattle.mb_world.specs.EventSteps.{EventAdds, HasPlace};
 
     /// Makes the next access of consumer `c` on lane `p`, with this random word.
     #[inline(always)]
@@ -35,10 +34,9 @@ impl<A: Allocator + Drop> World<A> {
         ensures setup { self.new.setup ≡ self.old.setup }
     {
         let at = c as usize * self.setup.producers() as usize + p as usize;
-        match self.seats[at] {
-            Seat::AtHead => self.look(c, p, Cursor::head(p)),
-            Seat::PastCell(k) => self.look(c, p, Cursor::past(k)),
-            Seat::AtCell { cell, claim } => match claim.stage() {
+        match self.places[at] {
+            Place::Before(cursor) => self.look(c, p, cursor),
+            Place::At { cell, claim } => match claim.stage() {
                 Stage::Won => self.take(c, p, cell),
                 _ => self.compete(c, p, cell, word),
             },
@@ -48,7 +46,7 @@ impl<A: Allocator + Drop> World<A> {
     /// Consumer `c` holds no claim on lane `p`: it loads the link at the cursor.
     #[inline(always)]
     fn look(&mut self, c: u32, p: u32, cursor: Cursor) -> Answer
-        requires { (d : Seat) × HasSeat c p d self.old × StandsBefore p d cursor }
+        requires { HasPlace c p (Before cursor) self.old }
         ensures adds { (h : WorldHistory) (word : ℕ) → IsWorldAfter h self.old
             → EventAdds (event.Step c p word) result self.new h }
         ensures setup { self.new.setup ≡ self.old.setup }
@@ -58,7 +56,7 @@ impl<A: Allocator + Drop> World<A> {
         if let Look::Cell(cell) = look {
             let claim = Claim::new(self.setup.as_layout(), c);
             let at = c as usize * self.setup.producers() as usize + p as usize;
-            self.seats[at] = Seat::AtCell { cell, claim };
+            self.places[at] = Place::At { cell, claim };
         }
         Answer::Looked(look)
     }
@@ -66,7 +64,7 @@ impl<A: Allocator + Drop> World<A> {
     /// The claim of consumer `c` on cell `k` is won: the consumer loads the item.
     #[inline(always)]
     fn take(&mut self, c: u32, p: u32, k: u32) -> Answer
-        requires { (claim : Claim) × HasSeat c p (seat.AtCell k claim) self.old
+        requires { (claim : Claim) × HasPlace c p (At k claim) self.old
             × (claim_stage claim ≡ stage.Won) }
         ensures adds { (h : WorldHistory) (word : ℕ) → IsWorldAfter h self.old
             → EventAdds (event.Step c p word) result self.new h }
@@ -76,7 +74,7 @@ impl<A: Allocator + Drop> World<A> {
         takes_leave_states();
         let item = self.pool.item(k);
         let at = c as usize * self.setup.producers() as usize + p as usize;
-        self.seats[at] = Seat::PastCell(k);
+        self.places[at] = Place::Before(Cursor::Past(k));
         let noted = c as usize * self.setup.cells() as usize + k as usize;
         self.notes[noted] = Some(Note::Took(item));
         Answer::Took { cell: k, item }
@@ -85,7 +83,7 @@ impl<A: Allocator + Drop> World<A> {
     /// The claim of consumer `c` on cell `k` is not won: the consumer makes the claim's next access.
     #[inline(always)]
     fn compete(&mut self, c: u32, p: u32, k: u32, word: u64) -> Answer
-        requires { (claim : Claim) × HasSeat c p (seat.AtCell k claim) self.old
+        requires { (claim : Claim) × HasPlace c p (At k claim) self.old
             × (claim_stage claim ≢ stage.Won) }
         ensures adds { (h : WorldHistory) → IsWorldAfter h self.old
             → EventAdds (event.Step c p word) result self.new h }
@@ -93,12 +91,12 @@ impl<A: Allocator + Drop> World<A> {
     {
         claims_leave_states();
         let at = c as usize * self.setup.producers() as usize + p as usize;
-        let Seat::AtCell { cell: _, claim } = &mut self.seats[at] else {
+        let Place::At { cell: _, claim } = &mut self.places[at] else {
             unreachable!()
         };
         let made = self.words.step(self.setup.as_layout(), claim, k, word);
         if let Some(note) = end_note(made.stage) {
-            self.seats[at] = Seat::PastCell(k);
+            self.places[at] = Place::Before(Cursor::Past(k));
             let noted = c as usize * self.setup.cells() as usize + k as usize;
             self.notes[noted] = Some(note);
         }

@@ -1,3 +1,4 @@
+-- Proof of `copy_notes`: copies the first notes, as many as there is room for in `to`.
 use Rattle.std.proofs.Common.{◌≡◌, ◌∙◌, ◌<◌, ◌+◌, ◌++◌, [], ◌∷◌, ap, arith, drop, length, map}
 use Rattle.std.proofs.Common.{sym, take}
 use Rattle.std.proofs.lemmas.List.{drop-drop, drop-set-lt, map_more, take-append-drop, take-map}

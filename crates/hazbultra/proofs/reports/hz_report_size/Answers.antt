@@ -1,3 +1,4 @@
+-- Proof of `hz_report_size`: writes how many lanes a report has, and how many consumers.
 use Rattle.std.proofs.Common.{◌≡◌, ◌∙◌, Some, arith, length, rules, subst, sym}
 use Rattle.hazbultra.specs.Calls.{ReportHas}
 use Rattle.hazbultra.specs.Reports.{HasConsumers}

@@ -1,3 +1,5 @@
+-- Proof of `examples::calls_make_their_access`: the answer of a call, and the pool that it leaves, are those of its
+-- access.
 use Rattle.std.proofs.Common.{[], ap, arith, refl, ◌∷◌, ◌≡◌}
 use Rattle.mb_cells.proofs.examples.calls_make_their_access.Goals as goal
 use Rattle.mb_cells.specs.{Counter, END, Head, Item, Link, PoolState, ended_pool, new_lane, one_put, one_taken, put_pool, store}

@@ -1,3 +1,4 @@
+-- Proof of `examples::calls_put_one_item`: the calls that put one item and end its lane, and what they say.
 use Rattle.std.proofs.Common.{List, [], arith, inl, inr, refl, ℕ, ◌∷◌, ◌≡◌}
 use Rattle.mb_cells.specs.declared.answer.Offer.TheVariants as offer
 use Rattle.mb_cells.specs.declared.answer.Push.TheVariants as push

@@ -1,3 +1,5 @@
+-- Proof of `examples::full_raises_the_counter_once`: the first Full raises the counter, and a later one changes
+-- nothing.
 use Rattle.std.proofs.Common.{[], ap, arith, refl, ◌≡◌}
 use Rattle.mb_cells.specs.declared.lane.LaneStage.TheVariants as stage
 use Rattle.mb_cells.proofs.examples.full_raises_the_counter_once.Goals as goal

@@ -1,3 +1,5 @@
+-- Proof of `examples::histories_stay_in_range`: a lawful history has only lanes of the pool, and only values of 64
+-- bits.
 use Rattle.std.proofs.Common.{arith, ◌<◌}
 use Rattle.mb_cells.proofs.examples.histories_stay_in_range.Goals as goal
 

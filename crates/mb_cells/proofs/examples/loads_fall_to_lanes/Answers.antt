@@ -1,3 +1,4 @@
+-- Proof of `examples::loads_fall_to_lanes`: a reader's load of a head belongs to that lane.
 use Rattle.std.proofs.Common.{refl}
 use Rattle.mb_cells.proofs.examples.loads_fall_to_lanes.Goals as goal
 

@@ -1,3 +1,5 @@
+-- Proof of `examples::memory_makes_nothing_up`: a load gives only what was stored, and the counter gives each number
+-- once.
 use Rattle.std.proofs.Common.{arith, refl, ◌≡◌}
 use Rattle.mb_cells.proofs.examples.memory_makes_nothing_up.Goals as goal
 

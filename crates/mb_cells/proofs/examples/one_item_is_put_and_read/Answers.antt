@@ -1,3 +1,4 @@
+-- Proof of `examples::one_item_is_put_and_read`: one item is put and read, and the lane ends.
 use Rattle.std.proofs.Common.{None, [], arith, inl, inr, refl, ◌∷◌}
 use Rattle.mb_cells.proofs.examples.one_item_is_put_and_read.Goals as goal
 use Rattle.mb_cells.specs.{END, Gave, Head, History, LaneIsAt, IsPoolLawful, Item, Link, eight, fetch, load, one_put, one_taken, pool_size, store}

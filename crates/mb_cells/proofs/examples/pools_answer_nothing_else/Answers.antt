@@ -1,3 +1,4 @@
+-- Proof of `examples::pools_answer_nothing_else`: calls of a pool have no other answers, and leave no other pool.
 use Rattle.std.proofs.Common.{[], arith, ◌<◌, ◌≡◌, ◌≤◌}
 use Rattle.mb_cells.specs.declared.answer.Finish.TheVariants as finish
 use Rattle.mb_cells.specs.declared.answer.Look.TheVariants as look

@@ -1,3 +1,4 @@
+-- Proof of `examples::pools_have_bounds`: a pool has the words and cursors of its lanes and cells.
 use Rattle.std.proofs.Common.{ap, arith, refl, ◌<◌, ◌≡◌}
 use Rattle.std.specs.Prelude.{slice_index}
 use Rattle.mb_cells.proofs.examples.pools_have_bounds.Goals as goal

@@ -1,3 +1,5 @@
+-- Proof of `examples::pools_hold_what_was_done`: a history leaves its values in the words and its producers at their
+-- places.
 use Rattle.std.proofs.Common.{ap, arith, refl, ◌≡◌}
 use Rattle.mb_cells.proofs.examples.pools_hold_what_was_done.Goals as goal
 use Rattle.mb_cells.specs.{Counter, Head, Lane, new_lane, one_put, pool_size}

@@ -1,3 +1,4 @@
+-- Proof of `examples::producers_keep_their_order`: the part of a producer that goes wrong is no prefix of a lane path.
 use Rattle.std.proofs.Common.{None, Option, Some, [], ap, arith, false, inl, inr, refl, ℕ, ◌<◌, ◌∷◌, ◌≡◌}
 use Rattle.mb_cells.specs.declared.answer.Offer.TheVariants as offer
 use Rattle.mb_cells.specs.declared.answer.Finish.TheVariants as finish

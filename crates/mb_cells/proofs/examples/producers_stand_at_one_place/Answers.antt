@@ -1,3 +1,5 @@
+-- Proof of `examples::producers_stand_at_one_place`: a producer is at one place: what it linked last, and what it has
+-- done since.
 use Rattle.std.proofs.Common.{None, Option, Some, [], ap, arith, inl, inr, ℕ, ◌∷◌, ◌≡◌}
 use Rattle.mb_cells.specs.declared.lane.LaneStage.TheVariants as stage
 use Rattle.mb_cells.proofs.examples.producers_stand_at_one_place.Goals as goal

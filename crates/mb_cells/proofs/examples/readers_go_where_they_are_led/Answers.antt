@@ -1,3 +1,4 @@
+-- Proof of `examples::readers_go_where_they_are_led`: a reader goes where its own loads led it.
 use Rattle.std.proofs.Common.{ap, arith, inl, inr, refl, ℕ, ◌+◌, ◌<◌, ◌≡◌}
 use Rattle.mb_cells.proofs.examples.readers_go_where_they_are_led.Goals as goal
 use Rattle.mb_cells.specs.{Load, PoolAccess}

@@ -1,3 +1,5 @@
+-- Proof of `examples::words_lie_in_one_block`: the words of a pool lie in one block: the counter, the heads, the links
+-- and the items.
 use Rattle.std.proofs.Common.{[], arith, refl, slice_index, suc, zero, ◌∷◌, ◌≡◌, ◌≤◌}
 use Rattle.mb_cells.proofs.examples.words_lie_in_one_block.Goals as goal
 use Rattle.mb_cells.specs.{Counter, Head, IsPoolWord, Item, Link, Word, address_of, one_put, pool_size, value_in}

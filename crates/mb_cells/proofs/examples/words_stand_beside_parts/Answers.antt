@@ -1,3 +1,5 @@
+-- Proof of `examples::words_stand_beside_parts`: beside the words stand the parts of all processes: each has done its
+-- own part of the history, and nothing else.
 use Rattle.std.proofs.Common.{[], arith, length, refl, slice_index, suc, zero, ◌∷◌, ◌≡◌, ap}
 use Rattle.mb_cells.proofs.examples.words_stand_beside_parts.Goals as goal
 use Rattle.mb_cells.specs.{Counter, Head, History, IsPoolWord, Item, Link, Producer, Reader, Word, address_of, one_put, pool_size, value_in}

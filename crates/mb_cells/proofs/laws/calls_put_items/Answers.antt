@@ -1,3 +1,4 @@
+-- Proof of `laws::calls_put_items`: what any list of calls does, said by the calls and their answers alone.
 use Rattle.mb_cells.proofs.laws.calls_put_items.Goals as goal
 use Rattle.mb_cells.proofs.CallLaws.{calls_answer, calls_once, calls_once_each, calls_read, calls_within}
 use Rattle.mb_cells.proofs.CallNumbers.{calls_cell, calls_counter, calls_full, calls_handed_out}

@@ -1,3 +1,4 @@
+-- Proof of `laws::lanes_refuse_by_what_was_done`: a lane refuses a call exactly because of what its producer has done.
 use Rattle.mb_cells.proofs.LaneRefusals.{busy, closed, free, full, held, idle, may_finish, over}
 use Rattle.mb_cells.proofs.laws.lanes_refuse_by_what_was_done.Goals as goal
 

@@ -1,3 +1,4 @@
+-- Proof of `laws::lanes_share_cells`: all lanes together have at most as many items as the pool has cells.
 use Rattle.mb_cells.proofs.laws.lanes_share_cells.Goals as goal
 use Rattle.mb_cells.proofs.Totals.{all_items, few_in_all, idle_linked}
 

@@ -1,3 +1,4 @@
+-- Proof of `laws::parts_tell_lanes`: a producer's own part says what its words hold and what its lane has.
 use Rattle.std.proofs.Common.{refl}
 use Rattle.mb_cells.proofs.laws.parts_tell_lanes.Goals as goal
 use Rattle.mb_cells.specs.{Head, Item, Link}

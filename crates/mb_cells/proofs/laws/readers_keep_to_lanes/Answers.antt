@@ -1,3 +1,4 @@
+-- Proof of `laws::readers_keep_to_lanes`: a reader's loads, cut by lanes, give parts that are each a reader path.
 use Rattle.mb_cells.proofs.laws.readers_keep_to_lanes.Goals as goal
 use Rattle.mb_cells.proofs.ReaderParts.{lane_path, path_of_parts, some_lane_on}
 

@@ -1,3 +1,5 @@
+-- Proof of `laws::words_lead_through_lanes`: the words lead from a lane's head through the cells put, to the end mark
+-- or to 0.
 use Rattle.mb_cells.proofs.laws.words_lead_through_lanes.Goals as goal
 use Rattle.mb_cells.proofs.EndMarks.{end_word}
 use Rattle.mb_cells.proofs.Items.{item_left}

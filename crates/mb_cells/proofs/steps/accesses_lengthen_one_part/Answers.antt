@@ -1,3 +1,5 @@
+-- Proof of `steps::accesses_lengthen_one_part`: what one access adds to a history: one access to one part, and at most
+-- one value in one word.
 use Rattle.std.proofs.Common.{refl, sym}
 use Rattle.mb_cells.proofs.steps.accesses_lengthen_one_part.Goals as goal
 use Rattle.mb_cells.specs.{Counter}

@@ -1,3 +1,4 @@
+-- Proof of `steps::accesses_stay_within`: all accesses go to words of the pool, also those that may come next.
 use Rattle.mb_cells.proofs.steps.accesses_stay_within.Goals as goal
 use Rattle.mb_cells.proofs.NextAccesses.{all_within, link_within, push_value, push_within, read_within}
 

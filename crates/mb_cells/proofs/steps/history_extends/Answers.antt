@@ -1,3 +1,4 @@
+-- Proof of `steps::history_extends`: lawful histories grow by one access after another.
 use Rattle.mb_cells.proofs.steps.history_extends.Goals as goal
 use Rattle.mb_cells.proofs.OneStep.{empty_lawful, older_lawful, producer_step, reader_step}
 

@@ -1,3 +1,4 @@
+-- Proof of `steps::loads_leave_pools`: a load by a reader that may load the word leaves the pool as it is.
 use Rattle.std.proofs.Common.{refl, sym, ℕ, ◌∙◌, ◌∷◌, ◌≡◌}
 use Rattle.mb_cells.proofs.steps.loads_leave_pools.Goals as goal
 use Rattle.mb_cells.specs.{History, LoadGoesOn, PoolState, Word, load, size_of, value_in}

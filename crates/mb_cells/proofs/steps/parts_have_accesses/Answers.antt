@@ -1,3 +1,4 @@
+-- Proof of `steps::parts_have_accesses`: a part has the accesses of its process, and no others.
 use Rattle.mb_cells.proofs.steps.parts_have_accesses.Goals as goal
 use Rattle.mb_cells.proofs.Names.{own_process}
 use Rattle.mb_cells.proofs.Parts.{Has-of_part, Has-part, part_by}

@@ -1,3 +1,4 @@
+-- Proof of `steps::places_lead_on`: a prefix of a lane path puts its producer at one place.
 use Rattle.mb_cells.proofs.steps.places_lead_on.Goals as goal
 use Rattle.mb_cells.proofs.OneStep.{start_at}
 use Rattle.mb_cells.proofs.Places.{goes_on, one_place, prefix_at, somewhere, steps_only}

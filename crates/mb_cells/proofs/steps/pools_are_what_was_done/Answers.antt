@@ -1,3 +1,4 @@
+-- Proof of `steps::pools_are_what_was_done`: what a history leaves is one pool.
 use Rattle.std.proofs.Common.{ap, arith, subst, sym, ◌∙◌, ◌≡◌}
 use Rattle.std.proofs.Math.ListN.{get_or}
 use Rattle.std.proofs.lemmas.List.{ext_get_or}

@@ -1,3 +1,4 @@
+-- Proof of `steps::put_lists_grow`: the put list of a lane grows by the entry of each link store, and by nothing else.
 use Rattle.std.proofs.Common.{refl}
 use Rattle.mb_cells.proofs.steps.put_lists_grow.Goals as goal
 use Rattle.mb_cells.specs.{Item}

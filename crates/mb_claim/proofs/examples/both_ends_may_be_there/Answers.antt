@@ -1,3 +1,4 @@
+-- Proof of `examples::both_ends_may_be_there`: histories with a fast path before the pair and a last object after it.
 use Rattle.std.proofs.Common.{arith}
 use Rattle.mb_claim.proofs.BothExamples.{both_lawful, zero_all, one_all, past_refused}
 use Rattle.mb_claim.proofs.examples.both_ends_may_be_there.Goals as goal

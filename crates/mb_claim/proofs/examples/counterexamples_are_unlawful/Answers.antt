@@ -1,3 +1,4 @@
+-- Proof of `examples::counterexamples_are_unlawful`: histories that are not lawful.
 use Rattle.std.proofs.Common.{arith}
 use Rattle.mb_quorum.specs.Unary.{unary_table}
 use Rattle.mb_quorum.specs.UnaryLaw.{unary_lawful}

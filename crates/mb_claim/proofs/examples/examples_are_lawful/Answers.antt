@@ -1,3 +1,4 @@
+-- Proof of `examples::examples_are_lawful`: histories that are lawful.
 use Rattle.std.proofs.Common.{refl, arith}
 use Rattle.mb_quorum.specs.Unary.{unary_table}
 use Rattle.mb_quorum.specs.UnaryLaw.{unary_lawful}

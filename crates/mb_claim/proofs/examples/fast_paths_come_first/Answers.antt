@@ -1,3 +1,4 @@
+-- Proof of `examples::fast_paths_come_first`: histories with a fast path before the pair.
 use Rattle.std.proofs.Common.{arith}
 use Rattle.mb_claim.proofs.ShapedExamples.{fast_lawful, fast_won, fast_lost, both_refused, one_refused}
 use Rattle.mb_claim.proofs.examples.fast_paths_come_first.Goals as goal

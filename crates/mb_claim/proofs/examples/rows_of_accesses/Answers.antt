@@ -1,4 +1,5 @@
-use Rattle.std.proofs.Common.{◌≡◌, ◌∙◌, ap, refl, sym}
+-- Proof of `examples::rows_of_accesses`: accesses of one claim, one after the other, in a memory that counts them.
+use Rattle.std.proofs.Common.{◌∙◌, ap, refl, sym}
 use Rattle.mb_claim.specs.{claim_stage}
 use Rattle.mb_claim.proofs.examples.rows_of_accesses.Goals as goal
 

@@ -1,3 +1,4 @@
+-- Proof of `examples::runs_are_told_from_others`: a run, and entries and stages that do not make a run.
 use Rattle.std.proofs.Common.{arith}
 use Rattle.mb_quorum.specs.Unary.{unary_table}
 use Rattle.mb_quorum.specs.UnaryLaw.{unary_lawful}

@@ -1,3 +1,4 @@
+-- Proof of `laws::cells_stand_alone`: a lawful history, cut down to one cell, is lawful.
 use Rattle.std.proofs.Common.{ap}
 use Rattle.mb_deciding.specs.Vocabulary.{value_in}
 use Rattle.mb_claim.proofs.Cells.{cut_lawful, kept, gone, object_kept}

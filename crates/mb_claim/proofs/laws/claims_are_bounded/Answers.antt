@@ -1,3 +1,4 @@
+-- Proof of `laws::claims_are_bounded`: a claim makes at most the accesses that its objects allow together.
 use Rattle.std.proofs.Common.{◌≤◌, length, subst, arith}
 use Rattle.mb_deciding.specs.Vocabulary.{object_of}
 use Rattle.mb_claim.specs.{part_on, quorums_of}

@@ -1,3 +1,5 @@
+-- Proof of `laws::claims_have_steps_left`: a claim that is going has an access to make, and one that has ended has
+-- none.
 use Rattle.std.proofs.Common.{refl, arith}
 use Rattle.mb_claim.specs.{quorums_of}
 use Rattle.mb_claim.proofs.MostSteps.{most_steps}

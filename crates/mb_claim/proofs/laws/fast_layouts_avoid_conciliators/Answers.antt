@@ -1,3 +1,5 @@
+-- Proof of `laws::fast_layouts_avoid_conciliators`: in a layout with a fast path: if object 0 has decided for one
+-- consumer, nobody comes to a conciliator of that cell.
 use Rattle.std.proofs.Common.{◌≡◌, ◌≤◌, true, false, ◌∷◌, ◌++◌, ℕ, List, Some, sym, ap, ◌∙◌, subst, slice_get}
 use Rattle.mb_deciding.specs.Vocabulary.{answer, IsPath, spread}
 use Rattle.mb_claim.specs.{Kind, Conciliator, Ratifier, Layout, pairs_of, last_row, quorums_of, kinds_of, claims_of}
@@ -8,7 +10,7 @@ use Rattle.mb_claim.proofs.ObjectHistories.{turns_at, part-object_history}
 use Rattle.mb_claim.proofs.PassedRatifiers.{left_by_both}
 use Rattle.mb_claim.proofs.laws.fast_layouts_avoid_conciliators.Goals as goal
 
--- the objects behind the fast path
+-- the objects after the fast path
 abbrev behind : Layout → List Kind
 behind layout = pairs_of (spread (quorums_of layout).values) layout.pairs ++ last_row layout.shape.last
 

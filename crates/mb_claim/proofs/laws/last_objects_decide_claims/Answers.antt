@@ -1,3 +1,4 @@
+-- Proof of `laws::last_objects_decide_claims`: a claim in a row that ends with a last object is never undecided.
 use Rattle.std.proofs.Common.{◌++◌, subst}
 use Rattle.mb_deciding.specs.Vocabulary.{spread}
 use Rattle.mb_claim.specs.{Undecided, Stage, pairs_of, fast_row, quorums_of, kinds_of, part_on, IsClaimPrefixFrom}

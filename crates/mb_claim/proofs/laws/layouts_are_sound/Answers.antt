@@ -1,3 +1,5 @@
+-- Proof of `laws::layouts_are_sound`: a layout has a quorum table with 1 to `MAX_VALUES` values, and 1 to `MAX_PAIRS`
+-- pairs.
 use Rattle.mb_claim.proofs.LayoutObjects.{quorums_lawful, consumers_within}
 use Rattle.mb_claim.proofs.laws.layouts_are_sound.Goals as goal
 

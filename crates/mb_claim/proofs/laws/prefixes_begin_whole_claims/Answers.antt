@@ -1,3 +1,4 @@
+-- Proof of `laws::prefixes_begin_whole_claims`: the prefixes of claims are exactly the beginnings of whole claim paths.
 use Rattle.std.proofs.Common.{◌++◌, refl}
 use Rattle.mb_claim.proofs.Prefixes.{completed, begun, whole_stage, ended_path}
 use Rattle.mb_claim.proofs.laws.prefixes_begin_whole_claims.Goals as goal

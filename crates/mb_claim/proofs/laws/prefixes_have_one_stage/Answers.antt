@@ -1,3 +1,4 @@
+-- Proof of `laws::prefixes_have_one_stage`: a prefix of a claim path has one stage.
 use Rattle.mb_deciding.specs.Vocabulary.{object_of}
 use Rattle.mb_claim.proofs.Unique.{one_stage_lem}
 use Rattle.mb_claim.proofs.laws.prefixes_have_one_stage.Goals as goal

@@ -1,3 +1,5 @@
+-- Proof of `laws::steps_have_one_run`: steps have one run at most: the entries and the stages are determined by the
+-- claims and the steps.
 use Rattle.mb_deciding.specs.Vocabulary.{object_of}
 use Rattle.mb_claim.proofs.OneRun.{one_run}
 use Rattle.mb_claim.proofs.laws.steps_have_one_run.Goals as goal

@@ -1,3 +1,4 @@
+-- Proof of `play`: runs the claims of all consumers on one cell.
 use Rattle.std.proofs.Common.{◌≡◌, ℕ, ◌<◌, ◌≤◌, subst, Bool, nat_le, None, List, length, get_or, arith}
 use Rattle.std.specs.List.{position_or_len}
 use Rattle.std.proofs.lemmas.List.Sums.{fails_before_first}
@@ -6,7 +7,7 @@ use Rattle.mb_claim.proofs.FirstPlaces.{below_by_test, none_inside}
 use Rattle.mb_claim.proofs.LayoutObjects.{quorums_lawful}
 use Rattle.mb_claim.proofs.plays.play.Goals as goal
 
--- where no step is of a stranger, each is of a consumer below the bound
+-- if no step is of a stranger, each is of a consumer below the bound
 all_known : (bound : ℕ) (steps : List (ℕ × ℕ)) → None ≡ stranger_in bound steps → (k : ℕ) (d : ℕ × ℕ) → k < length steps
     → (get_or steps k d).0 < bound
 all_known bound steps none k d inside =

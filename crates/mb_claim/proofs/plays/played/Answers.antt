@@ -1,3 +1,4 @@
+-- Proof of `played`: the run of steps that are all of consumers of the layout.
 use Rattle.std.proofs.Common.{List, map, sym, subst, Ok, Err, IfOk, Result}
 use Rattle.std.proofs.lemmas.List.{take_all}
 use Rattle.mb_claim.specs.{ClaimEntry, Stage, IsBoard, claims_in, claim_stage, IsPlayed}

@@ -1,3 +1,4 @@
+-- Loop invariants of `played`: the run of steps that are all of consumers of the layout.
 use Rattle.std.proofs.Common.{take}
 use Rattle.mb_claim.specs.{IsBoard}
 use Rattle.mb_claim.proofs.plays.played.Given as goal

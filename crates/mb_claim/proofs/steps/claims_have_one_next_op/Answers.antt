@@ -1,3 +1,4 @@
+-- Proof of `steps::claims_have_one_next_op`: what a claim has done determines its next op, whatever memory holds.
 use Rattle.mb_deciding.specs.Vocabulary.{object_of}
 use Rattle.mb_claim.proofs.NextSteps.{older_goes, one_next}
 use Rattle.mb_claim.proofs.OneRun.{one_access}

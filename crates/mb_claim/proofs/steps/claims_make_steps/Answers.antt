@@ -1,3 +1,4 @@
+-- Proof of `steps::claims_make_steps`: what a claim promises callers that make its accesses on words of their own.
 use Rattle.std.proofs.Common.{sym, subst}
 use Rattle.mb_deciding.specs.Vocabulary.{CanFind}
 use Rattle.mb_claim.specs.{Op, part_on, quorums_of, claims_in, claim_access, step_of, object_history}

@@ -1,3 +1,5 @@
+-- Proof of `steps::places_make_steps`: the next access of a claim's place, with the value that the history leaves in
+-- its word, may follow.
 use Rattle.mb_deciding.specs.Vocabulary.{object_of}
 use Rattle.mb_claim.specs.{Claims, ClaimsAreSound}
 use Rattle.mb_claim.proofs.Standing.{AreStepping, may_follow, finds_there}

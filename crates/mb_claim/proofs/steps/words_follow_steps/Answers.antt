@@ -1,3 +1,4 @@
+-- Proof of `steps::words_follow_steps`: a claim at its place makes one access on words that a history leaves.
 use Rattle.std.proofs.Common.{ℕ, List}
 use Rattle.mb_deciding.specs.Vocabulary.{object_of, IsOpAt, reg_of}
 use Rattle.mb_claim.specs.{Op, Pc, ClaimAccess, Claims, ClaimsAreSound, IsWordIn, HasPlace}

@@ -1,3 +1,4 @@
+-- Proof of `spread`: the last attempt of a conciliator for m values: one more than the least b with `m <= 2^b`.
 use Rattle.std.proofs.Common.{◌≡◌, subst, arith}
 use Rattle.mb_quorum.specs.Vocabulary.{IsLeastWidth}
 use Rattle.mb_deciding.proofs.attempts.spread.Goals as goal

@@ -1,3 +1,4 @@
+-- Proof of `examples::rows_of_accesses`: accesses of one process, one after the other, in a memory that counts them.
 use Rattle.std.proofs.Common.{◌≡◌, ◌+◌, ◌∙◌, ap, refl}
 use Rattle.mb_deciding.specs.declared.place.pc.Next.TheVariants as leads
 use Rattle.mb_deciding.proofs.examples.rows_of_accesses.Goals as goal

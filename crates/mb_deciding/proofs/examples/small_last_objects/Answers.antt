@@ -1,3 +1,4 @@
+-- Proof of `examples::small_last_objects`: small histories of a last object.
 use Rattle.std.proofs.Common.{refl, inl, inr}
 use Rattle.mb_deciding.proofs.SmallLasts.{first_lawful, empty_refused, over_refused, torn_refused, another_refused}
 use Rattle.mb_deciding.proofs.SmallLasts.{twice_refused, own_output, met_output}

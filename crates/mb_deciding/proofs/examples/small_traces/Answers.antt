@@ -1,3 +1,4 @@
+-- Proof of `examples::small_traces`: small traces of one process with the input 0.
 use Rattle.std.proofs.Common.{arith}
 use Rattle.mb_deciding.specs.{Proposal, Quorum}
 use Rattle.mb_deciding.proofs.SmallTraces.{clear_traced, patient_traced, silent_refused, another_refused}

@@ -1,3 +1,5 @@
+-- Proof of `steps::history_extends`: the empty history is lawful, and one more turn of a process whose path goes on
+-- keeps a history lawful.
 use Rattle.mb_deciding.proofs.Histories.{longer, none_lawful}
 use Rattle.mb_deciding.proofs.steps.history_extends.Goals as goal
 

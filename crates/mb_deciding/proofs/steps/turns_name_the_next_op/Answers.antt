@@ -1,3 +1,5 @@
+-- Proof of `steps::turns_name_the_next_op`: the turns that a process has made determine its next op, whatever memory
+-- holds.
 use Rattle.mb_deciding.proofs.SameOp.{same_act}
 use Rattle.mb_deciding.proofs.OneTrace.{next_op}
 use Rattle.mb_deciding.proofs.OnePlace.{one_next}

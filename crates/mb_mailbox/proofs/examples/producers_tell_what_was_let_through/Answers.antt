@@ -1,4 +1,4 @@
-use Rattle.std.proofs.Common.{◌≡◌, ◌≤◌, ◌++◌, ◌∙◌, Bool, List, [], ◌∷◌, ℕ, ap, arith, false, length, subst, sym, true}
+use Rattle.std.proofs.Common.{◌≡◌, ◌≤◌, ◌++◌, ◌∙◌, Bool, List, ℕ, ap, arith, false, length, subst, sym, true}
 use Rattle.mb_mailbox.proofs.examples.producers_tell_what_was_let_through.Goals as goal
 
 not_both : (b : Bool) → b ≡ true → b ≡ false → ⊥

@@ -4,11 +4,12 @@ use Rattle.std.specs.Option.{option_map_or}
 use Rattle.std.proofs.lemmas.List.{length-reverse}
 use Rattle.mb_mailbox.specs.Imports.{Claim, Note, cells_met, claims_in}
 use Rattle.mb_mailbox.specs.Consumers.{ConsumerView, IsConsumer, parts_of}
-use Rattle.mb_mailbox.specs.Gathering.{has_begun_at, kept_at}
+use Rattle.mb_world.specs.Places.{has_begun_at}
+use Rattle.mb_mailbox.specs.Gathering.{kept_at}
 use Rattle.mb_mailbox.specs.Hubs.{ConsumerRecordView, ledger_of}
 use Rattle.mb_mailbox.specs.Steps.{HasNoteOnEach, notes_on}
-use Rattle.mb_mailbox.specs.declared.place.Place.{Place}
-use Rattle.mb_mailbox.specs.declared.place.Place.TheVariants.{At, Before}
+use Rattle.mb_world.specs.declared.place.Place.{Place}
+use Rattle.mb_world.specs.declared.place.Place.TheVariants.{At, Before}
 use Rattle.mb_mailbox.proofs.Moving.{holds}
 use Rattle.mb_mailbox.proofs.Standings.{same_length}
 use Rattle.mb_mailbox.proofs.laws.noted_lanes_hold_no_claim.Goals as goal

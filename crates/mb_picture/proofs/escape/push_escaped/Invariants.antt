@@ -1,3 +1,4 @@
+-- Loop invariants of `push_escaped`: appends the text as XML has it.
 use Rattle.std.proofs.Common.{◌≡◌, ◌++◌, take, string_bytes}
 use Rattle.mb_picture.specs.Escaped.{escaped_text}
 use Rattle.mb_picture.proofs.escape.push_escaped.Given as goal

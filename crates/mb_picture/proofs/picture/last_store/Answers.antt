@@ -1,3 +1,4 @@
+-- Proof of `last_store`: the row of the last mark that stored in this word.
 use Rattle.std.proofs.Common.{◌≡◌, ◌<◌, ◌+◌, ℕ, Bool, true, List, length, get_or, Option, Some, None, arith, rules, sym, ap, subst, ◌∙◌}
 use Rattle.std.specs.Bool.{Decides}
 use Rattle.std.specs.Option.{option_and_then, option_eq}

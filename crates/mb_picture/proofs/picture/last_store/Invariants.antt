@@ -1,3 +1,4 @@
+-- Loop invariants of `last_store`: the row of the last mark that stored in this word.
 use Rattle.mb_picture.specs.Led.{IsLastStore}
 use Rattle.mb_picture.proofs.picture.last_store.Given as goal
 

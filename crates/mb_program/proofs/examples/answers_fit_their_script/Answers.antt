@@ -1,3 +1,5 @@
+-- Proof of `examples::answers_fit_their_script`: only a script without fault has an answer, and it has one line for
+-- each process.
 use Rattle.std.proofs.Common.{◌≡◌, ℕ, List, [], ◌∷◌, codes, Option, Some, None, Result, Ok, refl, ap, sym, ◌∙◌, subst}
 use Rattle.mb_deciding.specs.declared.object.Out.{Out}
 use Rattle.mb_deciding.specs.declared.trace.Entry.{Entry}
@@ -15,7 +17,7 @@ reads_none : script_of (codes "ratify unary 0\ninputs\nturns\n") ≡ Ok (nobody 
 unfolding script_of three_lines line_words head_of list_of number_of numbers_of
 reads_none = refl
 
--- what is read once is read so again
+-- bytes say one script
 same : (bytes : List ℕ) (s t : Script) → script_of bytes ≡ Ok s → script_of bytes ≡ Ok t → s ≡ t
 same bytes s t e f = let both : ◌≡◌ {A = Result Script RatifyFault} (Ok s) (Ok t) = sym e ∙ f in cc
 

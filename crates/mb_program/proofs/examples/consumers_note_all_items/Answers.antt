@@ -1,3 +1,5 @@
+-- Proof of `examples::consumers_note_all_items`: a consumer of a run has a note at each item, or the histories have
+-- many accesses of it.
 use Rattle.std.proofs.Common.{◌≡◌, ◌-◌, ◌^◌, ◌≤◌, suc, Bool, true, false, List, [], ◌∷◌, Option, Some, None, length, inl, inr, refl, arith}
 use Rattle.std.specs.Prelude.{filter}
 use Rattle.std.specs.List.{filter_map}

@@ -1,3 +1,4 @@
+-- Proof of `examples::one_command_is_named`: one command has to be named, and `ratify` takes no further word.
 use Rattle.std.proofs.Common.{refl}
 use Rattle.clap.proofs.OnLiterals.{clap_on_literals}
 use Rattle.mb_program.proofs.examples.one_command_is_named.Goals as goal

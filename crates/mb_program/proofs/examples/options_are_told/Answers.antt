@@ -1,3 +1,4 @@
+-- Proof of `examples::options_are_told`: the options that the words of `run` give, and the defaults of the others.
 use Rattle.std.proofs.Common.{refl, ◌≡◌, ◌∙◌, ap, sym, arith, ℕ, Option}
 use Rattle.std.specs.Option.{option_map_or}
 use Rattle.clap.proofs.OnLiterals.{clap_on_literals}

@@ -1,3 +1,5 @@
+-- Proof of `examples::runs_do_what_the_words_ask`: what the program does with its words: a script of no process, one
+-- with a fault, words that clap refuses, and help.
 use Rattle.std.proofs.Common.{◌≡◌, ℕ, Bool, true, false, List, [], ◌∷◌, codes, length, Some, Ok, Err, inl, inr, refl, sym, ap, ◌∙◌, subst, arith}
 use Rattle.std.specs.Fmt.{digits}
 use Rattle.clap.proofs.OnLiterals.{clap_on_literals}
@@ -77,7 +79,7 @@ pub returns-clause-fault : goal.returns-clause-fault
 unfolding digits
 returns-clause-fault c = ((Ratify, names_ratify, (Err (BadLine 1), refused, refl)), (true, (refl, refl)))
 
--- ---- half a line
+-- ---- a fault of which half a line was written
 not_half : (whole : Bool) → IsPrinted plain [] (codes "fault") (fault_line (failed.Ratify (BadLine 1))) whole → ⊥
 unfolding digits
 not_half true printed = let long : 5 ≡ 18 = ap (λ (l : List ℕ). length l) printed.0 in omega (arith, long)
@@ -87,7 +89,7 @@ not_half false (inr same) = let long : 5 ≡ 0 = ap (λ (l : List ℕ). length l
 pub returns-clause-half_a_line : goal.returns-clause-half_a_line
 returns-clause-half_a_line c = λ run. absurd (not_half run.1.0 run.1.1)
 
--- ---- refusals
+-- ---- words that clap refuses
 told : IsTold plain plain [] [] [] (codes "usage") MissingSubcommand true
 told = (
   λ help. elim help [ inl is ↦ absurd (cc) | inr is ↦ absurd (cc) ],
@@ -111,7 +113,7 @@ pub returns-clause-refused_and_done : goal.returns-clause-refused_and_done
 returns-clause-refused_and_done c = λ run.
     let both : ◌≡◌ {A = Kinds} (UnknownArgument ∷ []) [] = sym one_word_more ∙ run.0.1.0 in absurd (cc)
 
--- ---- help
+-- ---- help that is asked for
 told_help : IsTold plain plain [] (codes "help") [] [] DisplayHelp true
 told_help = (
   λ _. (refl, (codes "help", (refl, refl))),

@@ -1,3 +1,5 @@
+-- Proof of `examples::runs_draw_from_their_seed`: the random words of each consumer of a run are the first words of its
+-- own source, in order.
 use Rattle.std.proofs.Common.{◌≡◌, ◌+◌, ◌<◌, ℕ, zero, suc, List, [], ◌∷◌, map, sym, ap, ◌∙◌, subst, arith}
 use Rattle.std.specs.Prelude.{Some, slice_get}
 use Rattle.std.proofs.lemmas.List.{nil_from_length}

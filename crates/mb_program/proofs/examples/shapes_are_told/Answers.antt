@@ -1,3 +1,4 @@
+-- Proof of `examples::shapes_are_told`: the word of `--shape`, and the shape that it asks for.
 use Rattle.std.proofs.Common.{◌≡◌, ◌∙◌, refl, ap, sym, Bool, true, false, Option}
 use Rattle.std.specs.Option.{option_map_or}
 use Rattle.clap.proofs.OnLiterals.{clap_on_literals}

@@ -1,8 +1,9 @@
+-- Proof of `report_of`: the report of a mailbox whose producers have put all their items.
 use Rattle.std.proofs.Common.{◌∙◌, Err, ap, arith}
 use Rattle.mb_world.specs.Plan.{size_of}
 use Rattle.mb_program.proofs.RunEnds.{fault_behind, same_err}
 use Rattle.mb_program.proofs.RunReports.{asks_enough, not_missing, nothing_missing, run_report}
-use Rattle.mb_program.proofs.RunsBehind.{run_behind, words_given}
+use Rattle.mb_program.proofs.ReportedRuns.{reported_run, words_given}
 use Rattle.mb_program.proofs.run.report_of.Goals as goal
 
 pub fault_of_work-requires-clause-numbers : goal.fault_of_work-requires-clause-numbers
@@ -37,12 +38,14 @@ returns-in-Ok-clause-report g c =
     c.in_ok-mailbox.ensures.empty c.in_ok-lists.ensures.lists
     c.in_ok-lists.ensures.consumers c.in_default.ensures.worked c.work-worked.ensures.of
     c.in-Ok.ensures.lists c.in-Ok.ensures.headline c.in-Ok.ensures.full
-    (run_behind c.args.options c.in_ok-mailbox.mailbox c.in_ok-mailbox.hub c.work-worked.new.hub
+    (reported_run c.args.options c.in_ok-mailbox.mailbox c.in_ok-mailbox.hub c.work-worked.new.hub
     c.in-Ok.report c.in_default.field-0
     c.in_ok-lists.ensures.budget (c.in_ok-mailbox.ensures.plan ∙ c.in_ok-setup.ensures.made)
+    (c.in_ok-mailbox.ensures.size ∙ ap size_of c.in_ok-setup.ensures.made)
     c.in_ok-mailbox.ensures.empty c.in_ok-lists.ensures.lists
-    (words_given c.args.options _ c.in_ok-lists.ensures.words) c.in_default.ensures.called
-    c.in-Ok.ensures.lists c.in-Ok.ensures.headline)
+    (words_given c.args.options _ c.in_ok-lists.ensures.words) c.in_ok-lists.ensures.consumers
+    c.in_default.ensures.worked c.work-worked.ensures.of c.in_default.ensures.called
+    c.in-Ok.ensures.lists c.in-Ok.ensures.headline c.in-Ok.ensures.full)
 
 pub unreachable-requires : goal.unreachable-requires
 unreachable-requires g c =

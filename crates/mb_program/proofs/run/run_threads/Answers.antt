@@ -1,3 +1,5 @@
+-- Proof of `run_threads`: lets producers and consumers work in threads, one for each, and writes the report of what
+-- they did and nothing else.
 use Rattle.std.proofs.Common.{◌∙◌, refl}
 use Rattle.mb_program.specs.declared.fault.RunFault.TheVariants.{NoMemory, WriteFault}
 use Rattle.mb_program.proofs.RunEnds.{ends_half_written, ends_without_report, ends_without_text, ends_written}

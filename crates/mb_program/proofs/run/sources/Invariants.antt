@@ -1,3 +1,4 @@
+-- Loop invariants of `sources`: the sources of all consumers, one for each.
 use Rattle.std.proofs.Common.{◌≡◌, map}
 use Rattle.std.specs.Prelude.{vec_len}
 use Rattle.std.specs.List.{range_with_len}

@@ -1,3 +1,4 @@
+-- Loop invariants of `push_processes`: appends the line of each process.
 use Rattle.std.proofs.Common.{◌≡◌, ◌++◌, drop, string_bytes}
 use Rattle.mb_program.specs.TraceText.{processes_text}
 use Rattle.mb_program.proofs.trace_text.push_processes.Given as goal

@@ -1,3 +1,5 @@
+-- Proof of `examples::rounds_may_be_idle`: a round over a mailbox with no lane and no cell, in which no consumer works:
+-- nothing is given out, and both items stay.
 use Rattle.std.proofs.Common.{◌≡◌, ◌∙◌, ◌*◌, [], ap, arith, refl, sym}
 use Rattle.mb_mailbox.specs.Imports.{consumer_count}
 use Rattle.mb_mailbox.specs.Hubs.{hub_empty}

@@ -1,3 +1,4 @@
+-- Loop invariants of `copies_of`: a copy of each list.
 use Rattle.std.specs.Prelude.{◌≡◌, take, vec_len}
 use Rattle.mb_mailbox.specs.Worked.{lists_in}
 use Rattle.mb_rounds.proofs.hands.copies_of.Given as goal

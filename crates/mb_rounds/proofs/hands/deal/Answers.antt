@@ -1,3 +1,4 @@
+-- Proof of `deal`: the items in their order, cut into `count` lists of about the same length.
 use Rattle.std.proofs.Common.{◌∙◌, ◌++◌, ◌-◌, ◌/◌, ap, arith, length, refl}
 use Rattle.std.specs.List.{concat}
 use Rattle.mb_mailbox.specs.Worked.{lists_in}

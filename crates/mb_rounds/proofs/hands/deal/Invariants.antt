@@ -1,3 +1,4 @@
+-- Loop invariants of `deal`: the items in their order, cut into `count` lists of about the same length.
 use Rattle.std.specs.Prelude.{◌≡◌, ◌++◌, length, vec_len}
 use Rattle.std.specs.List.{concat}
 use Rattle.mb_mailbox.specs.Worked.{lists_in}

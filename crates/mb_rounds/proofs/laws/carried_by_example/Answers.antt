@@ -1,3 +1,4 @@
+-- Proof of `laws::carried_by_example`: what is carried, by example.
 use Rattle.std.proofs.Common.{[], ◌∷◌, refl, arith}
 use Rattle.mb_rounds.specs.TurnExamples.{two_rounds}
 use Rattle.mb_rounds.proofs.Counts.{times_first}

@@ -1,3 +1,4 @@
+-- Proof of `add_taken`: adds the items that these notes say were taken.
 use Rattle.std.proofs.Common.{◌≡◌, ◌∙◌, ap, sym, refl, rules, Option, Some, None}
 use Rattle.mb_world.specs.Agreement.{item_taken}
 use Rattle.mb_rounds.proofs.Reading.{read_none, read_some}

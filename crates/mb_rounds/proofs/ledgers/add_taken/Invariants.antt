@@ -1,3 +1,4 @@
+-- Loop invariants of `add_taken`: adds the items that these notes say were taken.
 use Rattle.std.specs.Prelude.{◌≡◌, ◌++◌, take}
 use Rattle.mb_rounds.specs.Round.{taken_in}
 use Rattle.mb_rounds.proofs.ledgers.add_taken.Given as goal

@@ -1,3 +1,4 @@
+-- Loop invariants of `ledger`: what this consumer took, lane by lane.
 use Rattle.std.specs.Prelude.{◌≡◌}
 use Rattle.mb_rounds.specs.Round.{taken_below}
 use Rattle.mb_rounds.proofs.ledgers.ledger.Given as goal

@@ -1,3 +1,4 @@
+-- Loop invariants of `stay`: for each list the items put that nobody took, and then those that were not put.
 use Rattle.std.specs.Prelude.{◌≡◌, take}
 use Rattle.mb_mailbox.specs.Worked.{lists_in}
 use Rattle.mb_rounds.specs.Round.{staying}

@@ -1,8 +1,9 @@
+-- Proof of `play`: the report of a mailbox of this setup whose producers are to put these lists.
 use Rattle.std.proofs.Common.{◌≡◌, ◌∙◌, ap, length, map, rules, sym, vec_len}
 use Rattle.mb_mailbox.specs.Worked.{lists_in}
 use Rattle.mb_world.specs.Plan.{size_of}
 use Rattle.mb_world.specs.Setups.{plan_in}
-use Rattle.mb_rounds.specs.Behind.{terms_of}
+use Rattle.mb_mailbox.specs.ReportedRuns.{terms_of}
 use Rattle.mb_rounds.proofs.Cutting.{count_lists}
 use Rattle.mb_rounds.proofs.Played.{count_sources, played}
 use Rattle.mb_rounds.proofs.play.play.Goals as goal

@@ -1,3 +1,4 @@
+-- Proof of `examples::producers_are_answered`: the events of a producer with their answers.
 use Rattle.std.proofs.Common.{refl}
 use Rattle.std.specs.Fmt.{digits}
 use Rattle.mb_script.proofs.examples.producers_are_answered.Goals as goal

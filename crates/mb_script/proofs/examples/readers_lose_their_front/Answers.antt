@@ -1,3 +1,5 @@
+-- Proof of `examples::readers_lose_their_front`: a reader loses bytes from its front: just a number of them, or at most
+-- that number.
 use Rattle.std.proofs.Common.{◌≡◌, ◌++◌, ℕ, List, [], ◌∷◌, codes, length, get_or, refl, ap, arith, length-append}
 use Rattle.mb_script.proofs.examples.readers_lose_their_front.Goals as goal
 

@@ -1,3 +1,5 @@
+-- Proof of `laws::first_faulty_lines_decide`: the first faulty line of a script decides: the lines after it do not
+-- count.
 use Rattle.mb_script.proofs.FaultyLines.{script_before, script_same}
 use Rattle.mb_script.proofs.laws.first_faulty_lines_decide.Goals as goal
 

@@ -1,3 +1,5 @@
+-- Proof of `laws::scripts_have_one_answer`: a script has at most one answer: its events have at most one replay, and
+-- what they did has at most one report.
 use Rattle.std.proofs.Common.{◌≡◌, Result, Ok, sym, ◌∙◌, subst}
 use Rattle.mb_script.specs.declared.fault.Fault.{Fault}
 use Rattle.mb_script.specs.ReplayText.{IsReplayText}

@@ -1,3 +1,5 @@
+-- Loop invariants of `push_transcript`: applies the events in their order, and appends the line of each with its
+-- answer.
 use Rattle.std.proofs.Common.{◌≡◌, take, string_bytes}
 use Rattle.mb_world.specs.World.{WorldHistory}
 use Rattle.mb_world.specs.WorldState.{IsWorldAfter}

@@ -1,3 +1,4 @@
+-- Loop invariants of `push_lanes`: appends the two lines of each lane.
 use Rattle.std.proofs.Common.{◌≡◌, ◌++◌, drop, string_bytes}
 use Rattle.mb_script.specs.ReportText.{lanes_text}
 use Rattle.mb_script.proofs.report_lines.push_lanes.Given as goal

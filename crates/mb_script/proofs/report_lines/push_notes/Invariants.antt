@@ -1,3 +1,4 @@
+-- Loop invariants of `push_notes`: appends each note.
 use Rattle.std.proofs.Common.{◌≡◌, ◌++◌, take, string_bytes}
 use Rattle.std.specs.List.{flat_map}
 use Rattle.mb_script.specs.ReportText.{note_text}

@@ -1,3 +1,4 @@
+-- Proof of `split_word`: the first word of a line, which may be empty, and the words after it, if there are any.
 use Rattle.std.proofs.Common.{◌≡◌, ◌+◌, ℕ, List, ◌∷◌, lit<, arith, length, length-drop, ap, ◌∙◌}
 use Rattle.std.specs.List.{position_or_len}
 use Rattle.mb_script.specs.Text.{words_in_line}

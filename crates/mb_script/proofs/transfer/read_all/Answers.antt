@@ -1,3 +1,4 @@
+-- Proof of `read_all`: reads to the end, but stops after the first byte past the limit, `MAX_SCRIPT_LEN`.
 use Rattle.std.proofs.Common.{arith, ◌+◌, ◌++◌, length, take}
 use Rattle.std.proofs.lemmas.Grind.{common_steps}
 use Rattle.mb_script.proofs.KnownBytes.{Consumes-twice}

@@ -1,3 +1,4 @@
+-- Proof of `write_all`: writes the whole text.
 use Rattle.std.proofs.Common.{arith, ◌∙◌}
 use Rattle.std.proofs.lemmas.Grind.{common_steps}
 use Rattle.mb_script.proofs.KnownBytes.{Appends-more, part-rest}

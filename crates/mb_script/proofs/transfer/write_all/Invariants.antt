@@ -1,3 +1,4 @@
+-- Loop invariants of `write_all`: writes the whole text.
 use Rattle.std.proofs.Common.{◌≡◌, ◌≤◌, ◌-◌, length, take}
 use Rattle.std.specs.Io.KnownBytes.{Appends}
 use Rattle.mb_script.proofs.transfer.write_all.Given as goal

@@ -1,3 +1,4 @@
+-- Proof of `examples::seats_make_their_access`: calls of seats: each makes its access, and returns what that found.
 use Rattle.std.proofs.Common.{Option, Some, None, [], arith, ap, refl, ◌∷◌, ◌≡◌, ℕ, length, subst}
 use Rattle.mb_cells.specs.Vocabulary.{History, loaded_by, look_of, offer_by_found, one_taken, store}
 use Rattle.mb_cells.specs.declared.access.Word.TheVariants.{Head, Item}

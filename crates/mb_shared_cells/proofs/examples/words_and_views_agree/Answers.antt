@@ -1,3 +1,5 @@
+-- Proof of `examples::words_and_views_agree`: words and views of a table of one lane and one cell: the counter, the
+-- head, the link, the item, and the roster.
 use Rattle.std.proofs.Common.{Some, None, [], arith, refl, sym, ◌∷◌, ◌≡◌, subst, suc, zero, ℕ, slice_index, nat_eq, false}
 use Rattle.std.proofs.Math.Dec.{eqb-suc-zero}
 use mathlib.Core.Option.{some, some-injective, some-ne-none}

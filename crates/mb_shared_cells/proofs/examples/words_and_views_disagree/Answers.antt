@@ -1,3 +1,4 @@
+-- Proof of `examples::words_and_views_disagree`: words and views that no history and no hub made.
 use Rattle.std.proofs.Common.{[], arith, ap, refl, sym, ◌≡◌, ◌∙◌, ◌<◌}
 use Rattle.mb_cells.specs.Vocabulary.{one_put, part, value_in}
 use Rattle.mb_cells.specs.declared.access.Process.TheVariants.{Producer}

@@ -1,3 +1,5 @@
+-- Proof of `laws::full_offers_and_end_marks_put_nothing`: an offer that returns Full puts nothing, and neither does the
+-- end mark.
 use Rattle.mb_shared_cells.proofs.PutMoves.{PutLaws, end_puts, full_found, full_puts}
 use Rattle.mb_shared_cells.proofs.laws.full_offers_and_end_marks_put_nothing.Goals as goal
 

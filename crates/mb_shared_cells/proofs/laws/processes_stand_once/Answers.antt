@@ -1,3 +1,4 @@
+-- Proof of `laws::processes_stand_once`: no process is in two views.
 use Rattle.std.proofs.Common.{sym, ◌∙◌}
 use Rattle.mb_shared_cells.proofs.Seatings.{stands_there}
 use Rattle.mb_shared_cells.proofs.laws.processes_stand_once.Goals as goal

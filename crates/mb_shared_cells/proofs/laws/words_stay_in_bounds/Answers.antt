@@ -1,3 +1,5 @@
+-- Proof of `laws::words_stay_in_bounds`: at every moment the counter is at most the number of cells and lanes together,
+-- and the roster at most the number of lanes.
 use Rattle.std.proofs.Common.{subst, sym, ℕ, ◌+◌, ◌≤◌}
 use Rattle.mb_cells.specs.declared.access.Word.TheVariants.{Counter}
 use Rattle.mb_shared_cells.proofs.laws.words_stay_in_bounds.Goals as goal

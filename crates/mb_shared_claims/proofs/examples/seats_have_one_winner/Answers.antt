@@ -1,3 +1,4 @@
+-- Proof of `examples::seats_have_one_winner`: if two seats have both won a cell, they are one consumer's.
 use Rattle.std.proofs.Common.{arith, refl, ◌≡◌, ◌∙◌, subst, ap}
 use Rattle.mb_claim.specs.declared.access.Stage.TheVariants.{Won}
 use Rattle.mb_claim.specs.Vocabulary.{IsClaimPrefix, part_on}

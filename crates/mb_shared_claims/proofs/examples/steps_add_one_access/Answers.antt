@@ -1,3 +1,4 @@
+-- Proof of `examples::steps_add_one_access`: a step is one access more in the part of its seat.
 use Rattle.std.proofs.Common.{[], arith, ap, refl, ◌≡◌, length}
 use Rattle.mb_shared_claims.specs.ViewSteps.{Seated, part_of}
 use Rattle.mb_shared_claims.specs.Seats.{SeatView}

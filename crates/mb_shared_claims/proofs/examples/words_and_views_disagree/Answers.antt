@@ -1,3 +1,4 @@
+-- Proof of `examples::words_and_views_disagree`: words and views that do not come from a history and a hub.
 use Rattle.std.proofs.Common.{[], arith, ap, refl, sym, ◌∷◌, ◌≡◌, ◌∙◌, ℕ, List, subst, suc, zero, Some, None}
 use mathlib.Core.Option.{some-injective, some-ne-none}
 use Rattle.mb_claim.specs.Vocabulary.{left_at, part}
@@ -5,7 +6,7 @@ use Rattle.mb_shared_claims.specs.Types.{ClaimAccess, Handing, Standing, TableSi
 use Rattle.mb_shared_claims.specs.Views.{HasPart, HasPartAt}
 use Rattle.mb_shared_claims.proofs.examples.words_and_views_disagree.Goals as goal
 
--- where nobody did anything, nothing was done
+-- if nobody did anything, nothing was done
 nothing : ((a : ClaimAccess) (h : List ClaimAccess) → part a.consumer (a ∷ h) ≡ a ∷ part a.consumer h)
     → (h : List ClaimAccess) → ((c : ℕ) → part c h ≡ []) → h ≡ []
 nothing own [] idle = refl

@@ -1,3 +1,4 @@
+-- Proof of `laws::steps_keep_states`: each kind of step leads from a state to a state.
 use Rattle.std.proofs.Common.{◌≡◌, suc, length, slice_index, refl, sym, ◌∙◌}
 use Rattle.std.proofs.Common.{arith, le_refl}
 use Rattle.atomic_table.proofs.Lists.{set_else}

@@ -1,3 +1,4 @@
+-- Proof of `examples::assignments_are_told`: assignments with which a report does not agree.
 use Rattle.std.proofs.Common.{refl}
 use Rattle.mb_world.proofs.examples.assignments_are_told.Goals as goal
 

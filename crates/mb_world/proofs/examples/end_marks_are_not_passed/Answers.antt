@@ -1,3 +1,5 @@
+-- Proof of `examples::end_marks_are_not_passed`: what breaks the rule of end marks: a note that is missing, and an
+-- access of the lane's producer after its mark.
 use Rattle.std.proofs.Common.{◌≡◌, true, false, [], ◌∷◌, refl, inl, arith}
 use Rattle.mb_cells.specs.LanePath.{fetch}
 use Rattle.mb_world.specs.Imports.{Link, PoolAccess}

@@ -1,3 +1,4 @@
+-- Proof of `examples::events_are_not_misanswered`: answers that events do not have.
 use Rattle.std.proofs.Common.{◌≡◌, [], Some, None, arith}
 use Rattle.mb_quorum.specs.declared.table.TableName.TheVariants.{Unary}
 use Rattle.mb_cells.specs.declared.answer.Look.TheVariants as look

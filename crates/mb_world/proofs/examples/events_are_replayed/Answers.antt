@@ -1,3 +1,4 @@
+-- Proof of `examples::events_are_replayed`: events and their answers.
 use Rattle.std.proofs.Common.{[], Some, None, refl, inl, inr, arith}
 use Rattle.mb_cells.specs.declared.answer.Finish.TheVariants as finish
 use Rattle.mb_cells.specs.declared.answer.Offer.TheVariants as offer

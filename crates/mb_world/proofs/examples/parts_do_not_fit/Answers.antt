@@ -1,3 +1,4 @@
+-- Proof of `examples::parts_do_not_fit`: two parts of consumer 0 that do not fit.
 use Rattle.std.proofs.Common.{◌≡◌, ℕ, zero, suc, [], ◌∷◌, refl, ap, inl, arith}
 use Rattle.std.proofs.lemmas.Bool.{ne_eqb}
 use Rattle.mb_claim.specs.Examples.{two_consumers}

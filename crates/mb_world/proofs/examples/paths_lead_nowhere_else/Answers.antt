@@ -1,3 +1,4 @@
+-- Proof of `examples::paths_lead_nowhere_else`: what is on no path of a consumer.
 use Rattle.std.proofs.Common.{arith}
 use Rattle.mb_quorum.specs.declared.table.TableName.TheVariants.{Unary}
 use Rattle.mb_claim.specs.Examples.{two_consumers}

@@ -1,3 +1,5 @@
+-- Proof of `examples::paths_lead_on`: the path of a consumer on its lane, from a link that leads nowhere yet to an item
+-- taken.
 use Rattle.std.proofs.Common.{arith}
 use Rattle.mb_quorum.specs.declared.table.TableName.TheVariants.{Unary}
 use Rattle.mb_claim.specs.Examples.{two_consumers}

@@ -1,3 +1,4 @@
+-- Proof of `examples::reports_agree`: reports that agree with an assignment.
 use Rattle.mb_world.proofs.AgreeingReports.{taken_agrees, undecided_agrees, untouched_agrees, won_agrees}
 use Rattle.mb_world.proofs.examples.reports_agree.Goals as goal
 

@@ -1,3 +1,4 @@
+-- Proof of `examples::reports_disagree`: reports with which no assignment agrees.
 use Rattle.std.proofs.Common.{◌≡◌, ◌⊎◌, ℕ, zero, suc, ◌∷◌, [], List, Bool, Option, Some, None, false, true, refl, sym, ◌∙◌, inl, inr, arith}
 use Rattle.std.specs.Prelude.{if◌then◌else◌}
 use Rattle.std.specs.Option.{is_none}
@@ -101,5 +102,5 @@ returns-clause-third c t agrees =
     by (Some d) e (inl f) = let g : Some 0 ≡ Some 2 = sym e ∙ f in cc
     by (Some d) e (inr f) = cc
 
-pub returns-clause-places : goal.returns-clause-places
-returns-clause-places c t agrees = (agrees.given.losses 0 0 1 0 refl).another refl
+pub returns-clause-turned : goal.returns-clause-turned
+returns-clause-turned c t agrees = (agrees.given.losses 0 0 1 0 refl).another refl

@@ -1,3 +1,5 @@
+-- Proof of `examples::reports_have_begun_claims`: what last objects promise of reports: small reports that keep it, and
+-- one that does not.
 use Rattle.std.proofs.Common.{◌≡◌, ℕ, zero, suc, true, false, None, [], ◌∷◌, refl, sym, ap, ◌∙◌, inl, arith}
 use Rattle.std.specs.Option.{option_map_or}
 use Rattle.std.proofs.lemmas.Bool.{false≢true}
@@ -9,7 +11,7 @@ use Rattle.mb_world.specs.ReportExamples.{both_undecided, diary_of, taken_and_lo
 use Rattle.mb_world.proofs.ReportLists.{no_diary, not_noted}
 use Rattle.mb_world.proofs.examples.reports_have_begun_claims.Goals as goal
 
--- ---- the reports that keep it
+-- ---- two reports of which both hold: the one has no begun claim, the other has one beside the item left
 beside_taken : IsLeftBesideBegun taken_and_lost
 beside_taken c zero zero inside competed none = absurd (none 0 (5, refl))
 beside_taken c zero (suc j) inside competed none = absurd (omega (arith, inside))
@@ -25,12 +27,12 @@ all_taken zero idle c zero inside competed = (0, (5, refl))
 all_taken zero idle c (suc j) inside competed = absurd (omega (arith, inside))
 all_taken (suc p) idle c j inside competed = absurd (omega (arith, inside))
 
--- its claim is begun
+-- the claim of consumer 0 is begun, so nothing is asked of the lane
 all_waiting : AreAllTaken won_not_loaded
 all_waiting zero idle c j inside competed = absurd (idle 0 refl)
 all_waiting (suc p) idle c j inside competed = absurd (omega (arith, inside))
 
--- ---- two undecided claims
+-- ---- a report of which neither holds: two claims are undecided
 no_other : (d : ℕ) → diary (suc (suc d)) 0 both_undecided ≡ None
 no_other d =
     no_diary (suc (suc d)) (5 ∷ []) (5 ∷ [])
@@ -47,6 +49,7 @@ none_begun (suc zero) e = false≢true e
 none_begun (suc (suc d)) e =
     false≢true (sym (ap (λ (o : Option DiaryView). option_map_or (λ x. x.begun) o false) (no_other d)) ∙ e)
 
+-- ---- the clauses of the example
 pub returns-clause-taken : goal.returns-clause-taken
 returns-clause-taken c = beside_taken
 

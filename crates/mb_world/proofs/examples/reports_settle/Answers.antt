@@ -1,3 +1,4 @@
+-- Proof of `examples::reports_settle`: reports that are settled.
 use Rattle.mb_world.specs.ReportExamples.{both_undecided, first_to, nobody_came, taken_and_lost, to_nobody, won_not_loaded}
 use Rattle.mb_world.proofs.examples.reports_settle.Goals as goal
 

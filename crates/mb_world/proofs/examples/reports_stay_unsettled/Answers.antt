@@ -1,3 +1,5 @@
+-- Proof of `examples::reports_stay_unsettled`: a report that is not settled: its item was competed for, nobody took it,
+-- and all claims on it are finished.
 use Rattle.std.proofs.Common.{◌≡◌, ℕ, zero, suc, ◌∷◌, [], false, None, refl, inl, inr, arith}
 use Rattle.mb_world.specs.declared.report.Note.TheVariants.{Took, Lost}
 use Rattle.mb_world.specs.Agreement.{HasCompeted, HasTaken, IsFinished}

@@ -1,3 +1,5 @@
+-- Proof of `examples::states_tell_reports`: what the state of a world says of its report, if its pool has one cell with
+-- the item 8.
 use Rattle.std.proofs.Common.{ap, arith, false, length, map, refl, slice_index, subst, true, [], ◌∷◌, ◌≡◌, ℕ, List}
 use Rattle.mb_cells.specs.State.{PoolState, item_in}
 use Rattle.mb_cells.specs.Vocabulary.{one_put, put_pool}

@@ -1,3 +1,4 @@
+-- Proof of `examples::worlds_are_not_misreported`: reports and diaries that are not of the small world.
 use Rattle.std.proofs.Common.{arith}
 use Rattle.mb_quorum.specs.declared.table.TableName.TheVariants.{Unary}
 use Rattle.mb_world.specs.PathExamples.{two_cells}

@@ -1,3 +1,4 @@
+-- Proof of `examples::worlds_are_reported`: the report of the small world.
 use Rattle.std.proofs.Common.{[], ◌∷◌, Some, None, arith}
 use Rattle.mb_quorum.specs.declared.table.TableName.TheVariants.{Unary}
 use Rattle.mb_world.specs.declared.report.Note.TheVariants.{Lost, Took}

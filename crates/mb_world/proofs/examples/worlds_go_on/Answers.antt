@@ -1,3 +1,4 @@
+-- Proof of `examples::worlds_go_on`: what was done in a small world, and where its consumers stand after it.
 use Rattle.std.proofs.Common.{arith}
 use Rattle.mb_quorum.specs.declared.table.TableName.TheVariants.{Unary}
 use Rattle.mb_world.specs.ConsumerPath.{begins}

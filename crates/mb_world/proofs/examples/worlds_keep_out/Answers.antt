@@ -1,3 +1,4 @@
+-- Proof of `examples::worlds_keep_out`: accesses that may not follow in the small world.
 use Rattle.std.proofs.Common.{◌≡◌, [], ◌∷◌, Some, None, refl, arith}
 use Rattle.mb_quorum.specs.declared.table.TableName.TheVariants.{Unary}
 use Rattle.mb_cells.specs.LanePath.{fetch}
@@ -7,7 +8,7 @@ use Rattle.mb_world.specs.World.{pool_accesses}
 use Rattle.mb_world.specs.PathExamples.{first_step, two_cells}
 use Rattle.mb_world.specs.WorldExamples.{all_done, claim_passed, offered_late, second_begun, stores, taken_again, taken_lost, taken_unwon, two_by_two, unmet_claimed}
 use Rattle.mb_world.specs.Plan.{size_of}
-use Rattle.mb_world.proofs.LastAccess.{place}
+use Rattle.mb_world.proofs.LastAccess.{path_end}
 use Rattle.mb_world.proofs.ExampleLimits.{no_item, no_item_yet, no_link, no_step, no_stranger, no_such_lane, not_next}
 use Rattle.mb_world.proofs.examples.worlds_keep_out.Goals as goal
 
@@ -16,7 +17,7 @@ returns-clause-unwon c = not_next
     (λ d xs s r. c.prefixes_have_one_stage.ensures two_cells d xs s r
     (c.named_tables_are_lawful.ensures.lawful Unary 2 (omega arith)))
     (c.claims_have_one_next_op.ensures.going two_cells) 1 1 (omega arith) (omega arith) taken_unwon
-    all_done refl (place (1 ∷ []) [] (Some (first_step ∷ []))) c.worlds_go_on.ensures.begun
+    all_done refl (path_end (1 ∷ []) [] (Some (first_step ∷ []))) c.worlds_go_on.ensures.begun
     (no_item_yet (λ d xs s r. c.prefixes_have_one_stage.ensures two_cells d xs s r
     (c.named_tables_are_lawful.ensures.lawful Unary 2 (omega arith)))
     (c.claims_have_one_next_op.ensures.going two_cells) 1 1 1 6 (1 ∷ []) [] (first_step ∷ [])
@@ -27,7 +28,7 @@ returns-clause-lost c = not_next
     (λ d xs s r. c.prefixes_have_one_stage.ensures two_cells d xs s r
     (c.named_tables_are_lawful.ensures.lawful Unary 2 (omega arith)))
     (c.claims_have_one_next_op.ensures.going two_cells) 1 0 (omega arith) (omega arith) taken_lost
-    all_done refl (place (0 ∷ []) (Lost 0 ∷ []) None) c.worlds_go_on.ensures.lost
+    all_done refl (path_end (0 ∷ []) (Lost 0 ∷ []) None) c.worlds_go_on.ensures.lost
     (no_item (λ d xs s r. c.prefixes_have_one_stage.ensures two_cells d xs s r
     (c.named_tables_are_lawful.ensures.lawful Unary 2 (omega arith)))
     (c.claims_have_one_next_op.ensures.going two_cells) 1 0 0 5 (0 ∷ []) (Lost 0 ∷ []))
@@ -37,7 +38,7 @@ returns-clause-again c = not_next
     (λ d xs s r. c.prefixes_have_one_stage.ensures two_cells d xs s r
     (c.named_tables_are_lawful.ensures.lawful Unary 2 (omega arith)))
     (c.claims_have_one_next_op.ensures.going two_cells) 0 0 (omega arith) (omega arith) taken_again
-    all_done refl (place (0 ∷ []) (Took 5 ∷ []) None) c.worlds_go_on.ensures.took
+    all_done refl (path_end (0 ∷ []) (Took 5 ∷ []) None) c.worlds_go_on.ensures.took
     (no_item (λ d xs s r. c.prefixes_have_one_stage.ensures two_cells d xs s r
     (c.named_tables_are_lawful.ensures.lawful Unary 2 (omega arith)))
     (c.claims_have_one_next_op.ensures.going two_cells) 0 0 0 5 (0 ∷ []) (Took 5 ∷ []))
@@ -47,7 +48,7 @@ returns-clause-unmet c = not_next
     (λ d xs s r. c.prefixes_have_one_stage.ensures two_cells d xs s r
     (c.named_tables_are_lawful.ensures.lawful Unary 2 (omega arith)))
     (c.claims_have_one_next_op.ensures.going two_cells) 0 1 (omega arith) (omega arith)
-    unmet_claimed all_done refl (place [] [] None) c.worlds_go_on.ensures.away
+    unmet_claimed all_done refl (path_end [] [] None) c.worlds_go_on.ensures.away
     (no_step (λ d xs s r. c.prefixes_have_one_stage.ensures two_cells d xs s r
     (c.named_tables_are_lawful.ensures.lawful Unary 2 (omega arith)))
     (c.claims_have_one_next_op.ensures.going two_cells) 0 1 1 first_step [] [])
@@ -57,7 +58,7 @@ returns-clause-passed c = not_next
     (λ d xs s r. c.prefixes_have_one_stage.ensures two_cells d xs s r
     (c.named_tables_are_lawful.ensures.lawful Unary 2 (omega arith)))
     (c.claims_have_one_next_op.ensures.going two_cells) 1 1 (omega arith) (omega arith) claim_passed
-    all_done refl (place (1 ∷ []) [] (Some (first_step ∷ []))) c.worlds_go_on.ensures.begun
+    all_done refl (path_end (1 ∷ []) [] (Some (first_step ∷ []))) c.worlds_go_on.ensures.begun
     (no_link (λ d xs s r. c.prefixes_have_one_stage.ensures two_cells d xs s r
     (c.named_tables_are_lawful.ensures.lawful Unary 2 (omega arith)))
     (c.claims_have_one_next_op.ensures.going two_cells) 1 1 1 0 [] [] (first_step ∷ []))

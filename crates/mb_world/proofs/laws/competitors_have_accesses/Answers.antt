@@ -1,3 +1,5 @@
+-- Proof of `laws::competitors_have_accesses`: by the report a consumer competed for an item exactly if it made an
+-- access to its claim there.
 use Rattle.mb_world.specs.Plan.{size_of}
 use Rattle.mb_world.proofs.Competitors.{competes}
 use Rattle.mb_world.proofs.FreshClaims.{fresh_goes}

@@ -1,3 +1,5 @@
+-- Proof of `laws::events_are_refused_for_what_was_done`: what a producer has done decides whether its event is refused,
+-- and with which answer.
 use Rattle.std.proofs.Common.{false, true, ◌≡◌}
 use Rattle.mb_cells.specs.declared.answer.Finish.TheVariants as finish
 use Rattle.mb_cells.specs.declared.answer.Offer.TheVariants as offer

@@ -1,3 +1,5 @@
+-- Proof of `laws::events_of_producers_are_refused_or_made`: a producer's event that is not refused has an access that
+-- keeps the history lawful.
 use Rattle.std.proofs.Common.{◌≡◌, ◌<◌, ◌^◌, ◌∷◌, arith}
 use Rattle.mb_cells.specs.LanePath.{fetch, store}
 use Rattle.mb_cells.specs.Memory.{ReadsLast, value_in}

@@ -1,3 +1,4 @@
+-- Proof of `laws::histories_have_one_report`: there is at most one report of what was done.
 use Rattle.mb_world.specs.Plan.{size_of}
 use Rattle.mb_world.proofs.Known.{Known}
 use Rattle.mb_world.proofs.OneReport.{one_report}

@@ -1,9 +1,10 @@
+-- Proof of `laws::last_objects_settle_items`: if each cell has a last object, no note is undecided.
 use Rattle.std.proofs.Common.{subst}
 use Rattle.mb_claim.specs.AllClaims.{claims_of}
 use Rattle.mb_claim.specs.declared.access.Stage.TheVariants as stage
 use Rattle.mb_world.specs.Imports.{IsClaimPrefix, claim_part}
 use Rattle.mb_world.proofs.LastObjects.{beside, taken}
-use Rattle.mb_world.proofs.ReportPlaces.{undecided_in}
+use Rattle.mb_world.proofs.ReportPositions.{undecided_in}
 use Rattle.mb_world.proofs.laws.last_objects_settle_items.Goals as goal
 
 pub returns-clause-notes : goal.returns-clause-notes

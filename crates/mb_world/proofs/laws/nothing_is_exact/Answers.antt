@@ -1,3 +1,4 @@
+-- Proof of `laws::nothing_is_exact`: a step returns that it found nothing exactly if there is nothing.
 use Rattle.std.proofs.Common.{ℕ, List, Option, None}
 use Rattle.mb_world.specs.declared.report.Note.{Note}
 use Rattle.mb_world.specs.Imports.{IsPoolLawful, ObjectTurn}

@@ -1,3 +1,4 @@
+-- Proof of `laws::parts_tell_cells_met`: the cells that a consumer's own loads met on a lane are all that it met there.
 use Rattle.mb_world.specs.Plan.{size_of}
 use Rattle.mb_world.proofs.Known.{Known}
 use Rattle.mb_world.proofs.MetCells.{all_met}

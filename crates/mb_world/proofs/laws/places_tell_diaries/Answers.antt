@@ -1,3 +1,5 @@
+-- Proof of `laws::places_tell_diaries`: the diary of a consumer on a lane follows from the place to which its path
+-- there has led.
 use Rattle.mb_world.specs.Imports.{IsPoolLawful}
 use Rattle.mb_world.specs.Plan.{size_of}
 use Rattle.mb_world.specs.World.{pool_accesses}

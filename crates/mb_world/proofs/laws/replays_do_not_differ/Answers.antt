@@ -1,3 +1,4 @@
+-- Proof of `laws::replays_do_not_differ`: after a lawful history, events have at most one replay.
 use Rattle.mb_world.proofs.EventKnown.{event_known}
 use Rattle.mb_world.proofs.OneReplay.{never_both, one_entry, one_replay, replay_lawful}
 use Rattle.mb_world.proofs.laws.replays_do_not_differ.Goals as goal

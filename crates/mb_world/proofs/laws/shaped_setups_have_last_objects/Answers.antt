@@ -1,3 +1,5 @@
+-- Proof of `laws::shaped_setups_have_last_objects`: if the shape of a setup or plan has a last object, each of its
+-- cells ends with one.
 use Rattle.std.proofs.Common.{◌≡◌, ℕ, true, List, sym, ap, ◌∙◌, [], ◌∷◌, ◌++◌, append_assoc}
 use Rattle.mb_deciding.specs.Spread.{spread}
 use Rattle.mb_deciding.specs.declared.object.Kind.{Kind}

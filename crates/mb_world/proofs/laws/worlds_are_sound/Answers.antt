@@ -1,3 +1,5 @@
+-- Proof of `laws::worlds_are_sound`: a lawful history of a world, cut into that of its claims and that of its cells, is
+-- sound.
 use Rattle.mb_world.specs.Imports.{IsPoolLawful}
 use Rattle.mb_world.specs.Plan.{size_of}
 use Rattle.mb_world.specs.World.{histories_of, pool_accesses}

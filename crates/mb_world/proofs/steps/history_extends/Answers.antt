@@ -1,3 +1,4 @@
+-- Proof of `steps::history_extends`: lawful histories of a world grow by one access after another.
 use Rattle.std.specs.Prelude.{ℕ, List, [], ◌∷◌, Option, None, ◌≡◌}
 use Rattle.mb_world.specs.declared.report.Note.{Note}
 use Rattle.mb_world.specs.Imports.{Has, IsOnceEach, IsPoolLawful, ObjectTurn, linked_cells}

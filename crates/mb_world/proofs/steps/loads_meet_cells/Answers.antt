@@ -1,3 +1,5 @@
+-- Proof of `steps::loads_meet_cells`: the cells that a reader's own loads met on a lane: how they grow load by load,
+-- and what they are in a lawful history with these loads.
 use Rattle.std.proofs.Common.{◌≡◌, ◌≢◌, ◌∙◌, ◌+◌, false, ap, inl, inr, refl}
 use Rattle.std.proofs.lemmas.Bool.{cases_Bool}
 use Rattle.mb_world.specs.Imports.{Reader, Word, is_same_word, load, part, place_past, push_if}

@@ -1,3 +1,5 @@
+-- Proof of `steps::parts_fit_on`: the two parts of a consumer still fit after each access that it may make, whatever it
+-- finds.
 use Rattle.mb_claim.specs.declared.access.Stage.TheVariants as stage
 use Rattle.mb_world.proofs.FitSteps.{fits_empty, fits_past, fits_stepped, fits_taken, not_left}
 use Rattle.mb_world.proofs.steps.parts_fit_on.Goals as goal

@@ -1,3 +1,4 @@
+-- Proof of `audit`: audits a report of `producers` producers and `consumers` consumers.
 use Rattle.std.proofs.Common.{ap, arith, rules, ◌∙◌, ◌≡◌, ◌<◌, ◌≤◌, length, slice_index_or, subst}
 use Rattle.std.proofs.lemmas.Grind.{common_steps}
 use Rattle.std.proofs.lemmas.List.Elements.{All-more}

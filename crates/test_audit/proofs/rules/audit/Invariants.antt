@@ -1,3 +1,4 @@
+-- Loop invariants of `audit`: audits a report of `producers` producers and `consumers` consumers.
 use Rattle.std.specs.Prelude.{◌≡◌, ◌+◌, ◌%◌, ◌^◌, ◌≤◌, length, take}
 use Rattle.std.specs.List.{All, sum_by}
 use Rattle.mb_world.specs.Report.{LaneView}

@@ -1,3 +1,4 @@
+-- Loop invariants of `audit_lane`: audits one lane and all its diaries.
 use Rattle.std.specs.Prelude.{◌≡◌, ◌+◌}
 use Rattle.test_audit.proofs.rules.audit_lane.Given as goal
 

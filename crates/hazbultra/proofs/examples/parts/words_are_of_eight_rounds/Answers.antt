@@ -1,3 +1,4 @@
+-- Proof of `words_are_of_eight_rounds`: the words of a source begin with its first one.
 use Rattle.std.proofs.Common.{◌≡◌, ap, arith, refl}
 use Rattle.std.specs.Prelude.{[]}
 use Rattle.rand_chacha.specs.ChaCha.{word_at}

@@ -1,3 +1,4 @@
+-- Proof of `Pool::finish`: stores the end mark of lane `p`.
 use Rattle.std.proofs.Common.{subst, sym, ◌<◌, ◌∙◌}
 use Rattle.mb_cells.proofs.pool.Pool.finish.Goals as goal
 use Rattle.mb_cells.specs.{END, PoolState, history_after_finish, lane_after_finish, lane_count, next_link}

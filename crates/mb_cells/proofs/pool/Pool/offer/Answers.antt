@@ -1,3 +1,4 @@
+-- Proof of `Pool::offer`: takes the next cell for item `x` of lane `p`, by one fetch-add of the counter.
 use Rattle.std.proofs.Common.{arith, subst, sym, ◌+◌, ◌<◌, ◌∙◌}
 use Rattle.mb_cells.proofs.pool.Pool.offer.Goals as goal
 use Rattle.mb_cells.specs.{Counter, PoolState, cell_count, history_after_offer, lane_after_offer, lane_count, value_in}

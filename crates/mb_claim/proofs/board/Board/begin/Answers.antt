@@ -1,3 +1,5 @@
+-- Proof of `Board::begin`: a board with all words 0 and each claim before its first access, and room for `steps`
+-- entries.
 use Rattle.std.proofs.Common.{◌≡◌, ◌∙◌, [], sym, arith}
 use Rattle.mb_claim.specs.{Claim, consumer_of, IsClaimIn}
 use Rattle.mb_claim.proofs.Lists.{all_push, length-push}

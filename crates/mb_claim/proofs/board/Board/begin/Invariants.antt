@@ -1,3 +1,5 @@
+-- Loop invariants of `Board::begin`: a board with all words 0 and each claim before its first access, and room for
+-- `steps` entries.
 use Rattle.std.proofs.Common.{◌≡◌, ◌<◌, ℕ, [], length, get_or}
 use Rattle.mb_claim.specs.{Claim, consumer_of, IsClaimIn}
 use Rattle.mb_claim.proofs.board.Board.begin.Given as goal

@@ -1,3 +1,4 @@
+-- Loop invariants of `Board::finish`: the entries, and how far each claim has come.
 use Rattle.std.proofs.Common.{◌≡◌, map, take}
 use Rattle.mb_claim.specs.{claim_stage}
 use Rattle.mb_claim.proofs.board.Board.finish.Given as goal

@@ -1,3 +1,4 @@
+-- Proof of `Claim::after`: goes on after the next access, and returns how far the claim has come.
 use Rattle.std.proofs.Common.{◌∷◌, sym, subst}
 use Rattle.mb_claim.specs.ObjectTypes.{Turn}
 use Rattle.mb_deciding.specs.Vocabulary.{act_of}

@@ -1,3 +1,4 @@
+-- Proof of `Claim::follow`: goes on with what an access on the claim's object led to.
 use Rattle.std.proofs.Common.{◌≡◌, ℕ, Bool, true, false, ◌∷◌, List, Option, Some, slice_get, refl, sym, ap, ◌∙◌}
 use Rattle.std.proofs.Common.{subst, ◌+◌, ◌<◌}
 use Rattle.std.proofs.lemmas.Bool.{not-true, not-false}

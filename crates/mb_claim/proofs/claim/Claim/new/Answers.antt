@@ -1,3 +1,4 @@
+-- Proof of `Claim::new`: the claim of a consumer that has made no access.
 use Rattle.std.proofs.Common.{[], refl, arith}
 use Rattle.std.proofs.lemmas.Bool.{false≢true}
 use Rattle.mb_claim.specs.{quorums_of, kinds_of, claims_in}

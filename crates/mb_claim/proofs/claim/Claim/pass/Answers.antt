@@ -1,3 +1,4 @@
+-- Proof of `Claim::pass`: goes on to the next object, if there is one.
 use Rattle.std.proofs.Common.{arith}
 use Rattle.mb_deciding.specs.Vocabulary.{spread}
 use Rattle.mb_claim.specs.{quorums_of}

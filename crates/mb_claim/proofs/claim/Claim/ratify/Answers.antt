@@ -1,4 +1,6 @@
-use Rattle.std.proofs.Common.{◌≡◌, ◌+◌, arith, refl}
+-- Proof of `Claim::ratify`: goes through the claim's object, if that is a ratifier in which the consumer announces its
+-- input.
+use Rattle.std.proofs.Common.{arith, refl}
 use Rattle.mb_claim.proofs.claim.Claim.ratify.Goals as goal
 
 pub step-requires-clause-may : goal.step-requires-clause-may

@@ -1,3 +1,5 @@
+-- Proof of `Claim::run`: makes accesses, each with a random word drawn for it, until the claim has ended or `most` were
+-- made.
 use Rattle.std.proofs.Common.{◌≡◌, ◌+◌, ◌-◌, ◌∙◌, arith, subst}
 use Rattle.mb_claim.specs.{AreClaimSteps, DrawsAndMakesNext}
 use Rattle.mb_claim.proofs.ManyClaimSteps.{joined}

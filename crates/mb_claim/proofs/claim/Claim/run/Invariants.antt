@@ -1,3 +1,5 @@
+-- Loop invariants of `Claim::run`: makes accesses, each with a random word drawn for it, until the claim has ended or
+-- `most` were made.
 use Rattle.std.proofs.Common.{◌≡◌, ◌+◌, ℕ}
 use Rattle.mb_claim.specs.{Going, FitsLayout, claim_stage, consumer_of, AreClaimSteps, DrawsAndMakesNext}
 use Rattle.mb_claim.proofs.claim.Claim.run.Given as goal

@@ -1,4 +1,5 @@
-use Rattle.std.proofs.Common.{◌≡◌, ◌≢◌, ◌+◌, ℕ, arith, sym, subst}
+-- Proof of `Claim::run_conciliator`: makes accesses on the claim's object, a conciliator, from this place on.
+use Rattle.std.proofs.Common.{◌≡◌, ◌≢◌, arith, sym, subst}
 use Rattle.mb_deciding.specs.Vocabulary.{IsOpAt, IsPlace}
 use Rattle.mb_deciding.specs.ManySteps.{AreSteps, DrawsAndMakes}
 use Rattle.mb_deciding.specs.declared.place.pc.Next.TheVariants as leads

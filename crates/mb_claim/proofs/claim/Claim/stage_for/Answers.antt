@@ -1,3 +1,4 @@
+-- Proof of `Claim::stage_for`: the stage of the claim if its object decided this value.
 use Rattle.std.proofs.Common.{sym}
 use Rattle.mb_claim.proofs.ClaimSteps.{stage_for-own, stage_for-other}
 use Rattle.mb_claim.proofs.StepsLeft.{won_ended, lost_ended}

@@ -1,3 +1,4 @@
+-- Proof of `Claim::step`: makes the next access in this memory, and returns how far the claim has come.
 use Rattle.std.proofs.Common.{refl}
 use Rattle.mb_claim.specs.ObjectTypes.{Turn}
 use Rattle.mb_deciding.specs.Vocabulary.{act_of}

@@ -1,15 +1,16 @@
+-- Proof of `CellWords::perform`: makes an access to a word of the cell, and keeps it as the step made.
 use Rattle.std.proofs.Common.{◌≡◌, ◌<◌, ◌≤◌, ◌*◌, ℕ, List, length, refl, ◌∙◌, ap, ap₂, slice_index, slice_set, arith}
 use Rattle.std.proofs.lemmas.List.{get_or_read}
 use Rattle.mb_claim.specs.ObjectTypes.{Reg, Act}
 use Rattle.mb_deciding.specs.Vocabulary.{reg_of}
 use Rattle.mb_claim.specs.Types.{ObjectTurn, Layout}
-use Rattle.mb_claim.specs.Layouts.{quorums_of, kinds_of, cell_words, word_address, HasWord}
+use Rattle.mb_claim.specs.Layouts.{quorums_of, kinds_of, cell_words, word_address, IsWordInLayout}
 use Rattle.mb_claim.proofs.Addresses.{within}
 use Rattle.mb_claim.proofs.claim_words.CellWordsMemory.perform.Goals as goal
 
 -- the word lies among those of so many cells
 inside :
-    (layout : Layout) (cells cell object : ℕ) (reg : Reg) (words : List ℕ) (at : ℕ) → HasWord layout object reg
+    (layout : Layout) (cells cell object : ℕ) (reg : Reg) (words : List ℕ) (at : ℕ) → IsWordInLayout layout object reg
     → cell < cells → cells * cell_words layout ≤ length words → at
     ≡ word_address layout cell object reg → at < length words
 inside layout cells cell object reg words at word below room is =

@@ -1,3 +1,4 @@
+-- Proof of `ClaimWords::step`: makes the next access of a claim on its cell, with the random word of this step.
 use Rattle.std.proofs.Common.{◌≡◌, ◌∷◌, sym, ◌∙◌, ap, subst, arith}
 use Rattle.mb_deciding.specs.Vocabulary.{IsActInWords, act_of}
 use Rattle.mb_claim.specs.{ClaimAccess, part_on, claims_in, consumer_of, IsClaimIn, CanClaimFind, IsMemoryOf, found_in}

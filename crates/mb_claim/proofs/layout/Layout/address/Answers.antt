@@ -1,14 +1,16 @@
+-- Proof of `Layout::address`: where the word of the object of the cell lies, counted in words from the first word of
+-- cell 0.
 use Rattle.std.proofs.Common.{◌≡◌, ◌*◌, ◌+◌, ◌≤◌, ◌<◌, ℕ, length, slice_index, arith, ◌∙◌, ap₂}
 use Rattle.std.proofs.lemmas.Nat.{mul-le}
 use Rattle.std.proofs.lemmas.Option.{slice_get_within}
 use Rattle.mb_deciding.specs.Vocabulary.{spread}
-use Rattle.mb_claim.specs.{Reg, Layout, quorums_of, kinds_of, row_words, words_before, offset, HasWord, MAX_LARGE_CELLS}
+use Rattle.mb_claim.specs.{Reg, Layout, quorums_of, kinds_of, row_words, words_before, offset, IsWordInLayout, MAX_LARGE_CELLS}
 use Rattle.mb_claim.specs.declared.layout.TheConstants.{MAX_OBJECTS}
 use Rattle.mb_claim.proofs.Addresses.{within}
 use Rattle.mb_claim.proofs.LayoutObjects.{objects_few, cell_small}
 use Rattle.mb_claim.proofs.layout.Layout.address.Goals as goal
 
-module _ (layout : Layout) (o : ℕ) (reg : Reg) (word : HasWord layout o reg) where
+module _ (layout : Layout) (o : ℕ) (reg : Reg) (word : IsWordInLayout layout o reg) where
   -- the object is one of the row
   in_row : o < length (kinds_of layout)
   in_row = slice_get_within (kinds_of layout) o word.0 word.1

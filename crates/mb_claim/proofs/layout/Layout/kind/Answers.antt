@@ -1,3 +1,4 @@
+-- Proof of `Layout::kind`: the kind of an object, or none if the cells have no such object.
 use Rattle.std.proofs.Common.{sym, arith}
 use Rattle.std.proofs.lemmas.Option.{slice_get_past}
 use Rattle.mb_claim.specs.{kinds_of}

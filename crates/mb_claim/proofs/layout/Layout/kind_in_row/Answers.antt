@@ -1,3 +1,4 @@
+-- Proof of `Layout::kind_in_row`: the kind of an object of the row: of the fast path, of a pair, or the last.
 use Rattle.std.proofs.Common.{◌<◌, ◌*◌, ◌-◌, ◌∙◌, ◌/◌, arith}
 use Rattle.mb_claim.proofs.LayoutObjects.{length-row_of, last_few, first_of_pair, second_of_pair, in_pairs, at_last}
 use Rattle.mb_claim.proofs.layout.Layout.kind_in_row.Goals as goal

@@ -1,3 +1,4 @@
+-- Proof of `Layout::kind_of`: the kind of an object that each cell has.
 use Rattle.std.proofs.Common.{arith}
 use Rattle.mb_deciding.specs.Vocabulary.{spread}
 use Rattle.mb_claim.specs.{Conciliator, quorums_of, kinds_of}

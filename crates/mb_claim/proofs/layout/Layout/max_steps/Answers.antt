@@ -1,3 +1,4 @@
+-- Proof of `Layout::max_steps`: the most accesses that a claim can make.
 use Rattle.std.proofs.Common.{◌≡◌, ◌≤◌, ◌+◌, suc, drop, arith, ap, ◌∙◌, subst}
 use Rattle.mb_deciding.specs.Vocabulary.{most_turns, largest_quorum}
 use Rattle.mb_deciding.specs.Run.{IsFitKind}

@@ -1,3 +1,4 @@
+-- Loop invariants of `Layout::max_steps`: the most accesses that a claim can make.
 use Rattle.std.proofs.Common.{◌≡◌, ◌≤◌, ◌+◌, ◌*◌, drop}
 use Rattle.mb_deciding.specs.Vocabulary.{largest_quorum}
 use Rattle.mb_claim.specs.{quorums_of, kinds_of, most_on_objects}

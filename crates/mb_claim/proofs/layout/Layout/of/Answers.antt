@@ -1,3 +1,4 @@
+-- Proof of `Layout::of`: the layout with this table, these pairs and this shape.
 use Rattle.std.proofs.Common.{◌≡◌, ◌<◌, ◌≤◌, ℕ, suc, ◌+◌, length, slice_get, slice_index, set, arith, sym, ap}
 use Rattle.std.proofs.Common.{subst, subst₂, ◌∙◌}
 use Rattle.std.proofs.lemmas.Nat.{mul-le}

@@ -1,3 +1,4 @@
+-- Proof of `Layout::words`: how many words `cells` cells have.
 use Rattle.std.proofs.Common.{◌*◌, ◌≤◌, ◌<◌, arith, sym, subst}
 use Rattle.std.proofs.lemmas.Nat.{mul-le}
 use Rattle.mb_claim.specs.{quorums_of, kinds_of, address_of, MAX_LARGE_CELLS}

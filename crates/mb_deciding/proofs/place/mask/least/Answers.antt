@@ -1,3 +1,4 @@
+-- Proof of `least`: the least register in a mask that is not empty.
 use Rattle.std.proofs.Common.{◌≡◌, arith, w64}
 use Rattle.std.specs.Int.{bit_at}
 use Rattle.std.proofs.lemmas.Nat.Bits.{bit_at-trailing_zeros}

@@ -1,3 +1,4 @@
+-- Proof of `without`: the mask without this register.
 use Rattle.std.proofs.Common.{◌≡◌, ◌≢◌, ◌<◌, ◌*◌, ◌%◌, ◌^◌, arith, w64, sym, ◌∙◌, subst, bit_and}
 use Rattle.std.specs.Int.{bit_at, bit_not}
 use Rattle.std.proofs.lemmas.Nat.{and_le_l}

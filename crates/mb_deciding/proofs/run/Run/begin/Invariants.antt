@@ -1,3 +1,4 @@
+-- Loop invariants of `Run::begin`: a run before its first turn, with room for `turns` entries.
 use Rattle.std.proofs.Common.{◌≡◌, ◌<◌, ℕ, get_or, length, []}
 use Rattle.mb_quorum.specs.Quorum.{QuorumTable}
 use Rattle.mb_deciding.specs.{Next, IsReached, IsSameFor}

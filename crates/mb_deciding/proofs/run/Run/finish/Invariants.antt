@@ -1,3 +1,4 @@
+-- Loop invariants of `Run::finish`: the entries, and the output of each process.
 use Rattle.std.proofs.Common.{◌≡◌, map, take}
 use Rattle.mb_deciding.specs.{out_of}
 use Rattle.mb_deciding.proofs.run.Run.finish.Given as goal

@@ -1,3 +1,4 @@
+-- Proof of `Run::turn`: adds one turn of a process, with the random word of this turn.
 use Rattle.std.proofs.Common.{◌≡◌, ℕ, ◌<◌, List, ◌∷◌, get_or, set, length, ap, sym, ◌∙◌, subst, arith}
 use Rattle.std.proofs.lemmas.List.{set-get_or}
 use Rattle.mb_deciding.specs.{ObjectSetup, setup_of, object_in, ReadsLast, part, IsPrefix, CanFind, act_of}
@@ -11,7 +12,7 @@ use Rattle.mb_deciding.proofs.run.Run.turn.Goals as goal
 below_same : (state run : RunState) (p : ℕ) → state ≡ run → p < length run.places → p < length state.places
 below_same state run p same below = subst (λ (s : RunState). p < length s.places) (sym same) below
 
--- the same of the turns
+-- what equals a run of a schedule is one
 run_same :
     (state run : RunState) (u : ObjectSetup) (schedule : List (ℕ × ℕ)) → state ≡ run → IsRun u schedule run
     → IsRun u schedule state

@@ -1,3 +1,4 @@
+-- Proof of `ratify`: runs one ratifier for m values over the named table.
 use Rattle.std.proofs.Common.{IfOk, get_or, refl, sym, subst}
 use Rattle.std.proofs.lemmas.List.{map-id}
 use Rattle.std.proofs.lemmas.Result.{IfOk-weaker}

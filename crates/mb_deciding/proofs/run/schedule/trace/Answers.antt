@@ -1,3 +1,4 @@
+-- Proof of `trace`: the trace of a schedule on the machine's object.
 use Rattle.std.proofs.Common.{◌≡◌, ℕ, ◌<◌, ◌≤◌, nat_le, None, List, length, get_or, map, sym, ◌∙◌, subst, arith}
 use Rattle.std.specs.List.{position_or_len}
 use Rattle.std.proofs.lemmas.List.{get_or-map, length-map}
@@ -8,7 +9,7 @@ use Rattle.mb_deciding.proofs.Refused.{none_first}
 use Rattle.mb_deciding.proofs.FirstPlaces.{below_by_test, none_inside}
 use Rattle.mb_deciding.proofs.run.schedule.trace.Goals as goal
 
--- where no number is the first that is not below the bound, each is below it
+-- if no number is the first that is not below the bound, each is below it
 all_below : (bound : ℕ) (numbers : List ℕ) → None ≡ first_from bound numbers → (k d : ℕ) → k < length numbers
     → get_or numbers k d < bound
 all_below bound numbers none k d inside =

@@ -1,3 +1,4 @@
+-- Proof of `traced`: the trace of a schedule that is not refused.
 use Rattle.std.proofs.Common.{◌≡◌, ℕ, List, Option, map, take, sym, ap, ◌∙◌, subst, Ok, Err, IfOk, Result, length}
 use Rattle.std.proofs.Common.{get_or, ◌<◌, arith}
 use Rattle.std.proofs.lemmas.List.{take_all, length-map, get_or-map}

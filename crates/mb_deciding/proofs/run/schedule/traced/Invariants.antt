@@ -1,3 +1,4 @@
+-- Loop invariants of `traced`: the trace of a schedule that is not refused.
 use Rattle.std.proofs.Common.{map, take}
 use Rattle.mb_quorum.specs.Quorum.{QuorumTable}
 use Rattle.mb_deciding.specs.{setup_of, IsSameFor, IsRun}

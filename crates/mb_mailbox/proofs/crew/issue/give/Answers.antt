@@ -1,6 +1,7 @@
 use Rattle.std.proofs.Common.{◌≡◌, ap, arith, length, subst, ◌∙◌}
 use Rattle.mb_mailbox.specs.Hubs.{HubView}
-use Rattle.mb_mailbox.specs.HubRuns.{ArePollJobs, with_consumers}
+use Rattle.mb_mailbox.specs.Given.{ArePollJobs}
+use Rattle.mb_mailbox.specs.HubRuns.{with_consumers}
 use Rattle.mb_mailbox.proofs.HubRuns.{same_by_producers}
 use Rattle.mb_mailbox.proofs.crew.issue.give.Goals as goal
 use Rattle.std.proofs.Common.{refl, ℕ}

@@ -1,7 +1,8 @@
 use Rattle.std.proofs.Common.{◌≡◌, ◌++◌, ◌+◌, ◌≤◌, length, map, vec_len, vec_capacity}
 use Rattle.std.specs.Vec.Iter.{into_iter_items, into_iter_len}
 use Rattle.mb_mailbox.specs.Hubs.{IsHubOf}
-use Rattle.mb_mailbox.specs.HubRuns.{ArePollJobs, with_consumers}
+use Rattle.mb_mailbox.specs.Given.{ArePollJobs}
+use Rattle.mb_mailbox.specs.HubRuns.{with_consumers}
 use Rattle.mb_mailbox.proofs.crew.issue.give_consumers.Given as goal
 
 abbrev pub invariant-loop-rng : goal.invariant-loop-rng

@@ -1,7 +1,8 @@
 use Rattle.std.proofs.Common.{◌≡◌, ◌++◌, ◌+◌, ◌≤◌, length, vec_len, vec_capacity}
 use Rattle.std.specs.Vec.Iter.{into_iter_items, into_iter_len}
 use Rattle.mb_mailbox.specs.Hubs.{IsHubOf}
-use Rattle.mb_mailbox.specs.HubRuns.{ArePutJobs, with_producers}
+use Rattle.mb_mailbox.specs.Given.{ArePutJobs}
+use Rattle.mb_mailbox.specs.HubRuns.{with_producers}
 use Rattle.mb_mailbox.proofs.crew.issue.give_producers.Given as goal
 
 abbrev pub invariant-loop-list : goal.invariant-loop-list

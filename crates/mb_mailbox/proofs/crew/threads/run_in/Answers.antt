@@ -1,19 +1,19 @@
 use Rattle.std.proofs.Common.{arith}
-use Rattle.mb_mailbox.specs.Begun.{PollKeeps, PollPromises, PutKeeps, PutPromises}
+use Rattle.mb_mailbox.specs.Begun.{Keeps, PollPromises, PutPromises}
 use Rattle.mb_mailbox.specs.Jobs.{IsPollEnd, IsPutEnd}
 use Rattle.mb_mailbox.proofs.Kept.{poll_kept, put_kept}
 use Rattle.mb_mailbox.proofs.Zips.{zip_length, zip_through}
 use Rattle.mb_mailbox.proofs.crew.threads.run_in.Goals as goal
 
-pub join_puts-requires-clause-room : goal.join_puts-requires-clause-room
-join_puts-requires-clause-room g c =
+pub join_all-requires-clause-room : goal.join_all-requires-clause-room
+join_all-requires-clause-room g c =
     let same = zip_length (PutPromises g.G.Gate.may_stop g.G.Gate.may_pass c.args.gate.now)
     c.args.jobs.puts.items c.start_puts-putting.result.items
     c.start_puts-putting.ensures.promised in
     omega (arith, same, c.start_puts-putting.result.ok.0, c.args.jobs.puts.ok.0, c.requires.room.ends.puts)
 
-pub join_polls-requires-clause-room : goal.join_polls-requires-clause-room
-join_polls-requires-clause-room g c =
+pub join_all-requires-2-clause-room : goal.join_all-requires-2-clause-room
+join_all-requires-2-clause-room g c =
     let same = zip_length (PollPromises g.G.Gate.may_stop g.G.Gate.may_pass g.R.Rng.stream
     c.args.gate.now c.args.lanes.from c.args.lanes.end c.args.lanes.budget)
     c.args.jobs.polls.items c.start_polls-polling.result.items
@@ -23,19 +23,21 @@ join_polls-requires-clause-room g c =
 pub returns : goal.returns
 returns g c = record {
   puts = zip_through (PutPromises g.G.Gate.may_stop g.G.Gate.may_pass c.args.gate.now)
-      (PutKeeps g.G.Gate.may_stop g.G.Gate.may_pass)
+      (Keeps (λ p d. IsPutEnd (g.G.Gate.may_stop p.gate.value) (g.G.Gate.may_pass p.gate.value)
+      p.job.value d))
       (IsPutEnd (g.G.Gate.may_stop c.args.gate.now) (g.G.Gate.may_pass c.args.gate.now))
       (put_kept g.G.Gate.may_stop g.G.Gate.may_pass c.args.gate.now) c.args.jobs.puts.items
-      c.start_puts-putting.result.items c.join_puts.result.items
-      c.start_puts-putting.ensures.promised c.join_puts.ensures;
+      c.start_puts-putting.result.items c.join_all.result.items
+      c.start_puts-putting.ensures.promised c.join_all.ensures;
   polls = zip_through (PollPromises g.G.Gate.may_stop g.G.Gate.may_pass g.R.Rng.stream
       c.args.gate.now c.args.lanes.from c.args.lanes.end c.args.lanes.budget)
-      (PollKeeps g.G.Gate.may_stop g.G.Gate.may_pass g.R.Rng.stream)
+      (Keeps (λ p d. IsPollEnd (g.G.Gate.may_stop p.gate.value) (g.G.Gate.may_pass p.gate.value)
+      p.from p.end p.budget (g.R.Rng.stream p.rng.value) p.consumer.value d))
       (λ j d. IsPollEnd (g.G.Gate.may_stop c.args.gate.now) (g.G.Gate.may_pass c.args.gate.now)
       c.args.lanes.from c.args.lanes.end c.args.lanes.budget (g.R.Rng.stream j.rng) j.consumer
       d)
       (poll_kept g.G.Gate.may_stop g.G.Gate.may_pass g.R.Rng.stream c.args.gate.now
       c.args.lanes.from c.args.lanes.end c.args.lanes.budget) c.args.jobs.polls.items
       c.start_polls-polling.result.items
-      c.join_polls.result.items c.start_polls-polling.ensures c.join_polls.ensures;
+      c.join_all-2.result.items c.start_polls-polling.ensures c.join_all-2.ensures;
 }

@@ -1,3 +1,4 @@
+-- Proof of `push_text`: appends a text.
 use Rattle.std.proofs.Common.{◌≡◌, List, ℕ, ◌++◌, append_assoc, codes, string_bytes, ◌∙◌}
 use Rattle.std.specs.Prelude.{if◌then◌else◌, Result, Ok, Err, OnOk, is_ok}
 use Rattle.mb_picture.specs.Escaped.{text_element}

@@ -1,3 +1,5 @@
+-- Proof of `Rounds::round`: runs one round over a mailbox of its own, with a thread for each producer of the setup and
+-- for each source of random words.
 use Rattle.mb_rounds.proofs.Whole.{round_adds_up}
 use Rattle.mb_rounds.proofs.rounds.Rounds.round.Goals as goal
 

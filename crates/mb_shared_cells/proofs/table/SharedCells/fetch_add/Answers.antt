@@ -1,3 +1,4 @@
+-- Proof of `SharedCells::fetch_add`: adds one to the counter for an item, with a lane's seat.
 use Rattle.std.proofs.Common.{ap, arith, refl, subst, sym, ◌∙◌}
 use Rattle.mb_cells.specs.declared.access.PoolAct.TheVariants.{FetchAdd}
 use Rattle.mb_cells.specs.declared.access.Process.TheVariants.{Producer}

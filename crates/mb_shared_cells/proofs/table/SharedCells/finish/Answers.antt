@@ -1,3 +1,4 @@
+-- Proof of `SharedCells::finish`: stores the end mark of the lane.
 use Rattle.std.proofs.Common.{ap, refl, subst, sym, ◌∙◌, ◌∷◌}
 use Rattle.mb_cells.specs.Vocabulary.{IsLaneAfter, store}
 use Rattle.mb_cells.specs.declared.access.PoolAct.TheVariants.{Store}

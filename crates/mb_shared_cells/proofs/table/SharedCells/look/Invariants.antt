@@ -1,3 +1,5 @@
+-- Choices for the calls of `SharedCells::look`: what comes after the cursor, by one load: nothing yet, a cell, or the
+-- end mark.
 use Rattle.mb_cells.specs.declared.access.PoolAct.TheVariants.{Load}
 use Rattle.mb_shared_cells.proofs.table.SharedCells.look.Given as goal
 

@@ -1,3 +1,4 @@
+-- Proof of `SharedCells::offer`: takes the next cell for item `x`, by one fetch-add of the counter.
 use Rattle.std.proofs.Common.{ap, refl, subst, sym, ◌∙◌, ◌∷◌, ◌≡◌}
 use Rattle.mb_cells.specs.Vocabulary.{IsLaneAfter, fetch, lane_after_offer}
 use Rattle.mb_cells.specs.declared.access.PoolAct.TheVariants.{FetchAdd}

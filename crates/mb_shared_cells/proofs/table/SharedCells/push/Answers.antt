@@ -1,3 +1,4 @@
+-- Proof of `SharedCells::push`: stores the item that was offered, and at the next call its link.
 use Rattle.std.proofs.Common.{ap, refl, subst, sym, ◌∙◌, ◌∷◌}
 use Rattle.mb_cells.specs.Vocabulary.{IsLaneAfter, store}
 use Rattle.mb_cells.specs.declared.access.PoolAct.TheVariants.{Store}

@@ -1,3 +1,4 @@
+-- Choices for the calls of `SharedCells::push`: stores the item that was offered, and at the next call its link.
 use Rattle.mb_cells.specs.declared.access.PoolAct.TheVariants.{Store}
 use Rattle.mb_shared_cells.proofs.table.SharedCells.push.Given as goal
 

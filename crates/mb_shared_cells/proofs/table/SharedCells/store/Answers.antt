@@ -1,3 +1,4 @@
+-- Proof of `SharedCells::store`: stores a value in a word with a lane's seat.
 use Rattle.std.proofs.Common.{ap, arith, subst, sym, ◌∙◌}
 use Rattle.mb_cells.specs.Vocabulary.{address_of}
 use Rattle.mb_cells.specs.declared.access.PoolAct.TheVariants.{Store}

@@ -1,3 +1,5 @@
+-- Proof of `SharedClaims::enroll`: the seat of the next number: 0 first, then 1, and so on to the last of the layout's
+-- consumers.
 use Rattle.std.proofs.Common.{◌≡◌, ◌<◌, ◌++◌, sym, ap, ◌∙◌, subst, [], ◌∷◌, None, length, length-append, arith}
 use Rattle.mb_shared_claims.specs.Types.{TableSize, Handing, Drawing, Standing}
 use Rattle.mb_shared_claims.specs.Views.{claims_of_size}
@@ -33,7 +35,7 @@ has_drawn : (size : TableSize) (me now : Seated) → me ≡ (Handing size (roll_
     → now ≡ (Drawing size (roll_of me.0), [])
 has_drawn size me now is e = e ∙ ap (λ (z : Seated). (drawn z.0, z.1)) is
 
--- and after the split
+-- the hub after the split
 has_given : (size : TableSize) (me now after : Seated) → now ≡ (Drawing size (roll_of me.0), [])
     → after ≡ (given_out now.0, now.1) → after ≡ (Handing size (roll_of me.0 ++ None ∷ []), [])
 has_given size me now after is e = e ∙ ap (λ (z : Seated). (given_out z.0, z.1)) is

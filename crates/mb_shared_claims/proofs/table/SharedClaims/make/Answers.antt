@@ -1,3 +1,4 @@
+-- Proof of `SharedClaims::make`: makes an access of a claim that may come next.
 use Rattle.std.proofs.Common.{[], sym, ap, ◌∙◌, ◌==◌}
 use prog.Atomic.{either}
 use Rattle.mb_deciding.specs.Vocabulary.{reg_of}

@@ -1,3 +1,5 @@
+-- Proof of `SharedClaims::new`: a table of this layout with `cells` cells, all words 0, and its hub, which has given no
+-- number.
 use Rattle.std.proofs.Common.{rules, ◌≡◌, ◌+◌, length, sym, ap, ◌∙◌, subst, [], ◌∷◌, replicate}
 use Rattle.mb_shared_claims.specs.Types.{TableSize, Handing}
 use Rattle.mb_shared_claims.specs.Views.{claims_of_size}

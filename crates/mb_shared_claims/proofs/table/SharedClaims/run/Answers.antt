@@ -1,6 +1,8 @@
-use Rattle.std.proofs.Common.{◌≡◌, ◌<◌, ap, refl, sym, ◌∙◌, subst}
+-- Proof of `SharedClaims::run`: makes accesses of a claim of the seat's consumer on a cell, each with the next word of
+-- `rng`.
+use Rattle.std.proofs.Common.{◌≡◌, ◌<◌, ap, sym, ◌∙◌, subst}
 use Rattle.mb_deciding.specs.Vocabulary.{reg_of}
-use Rattle.mb_claim.specs.Vocabulary.{HasWord, IsClaimIn, claims_in, part_on}
+use Rattle.mb_claim.specs.Vocabulary.{IsWordInLayout, IsClaimIn, claims_in, part_on}
 use Rattle.mb_shared_claims.specs.Seats.{SeatView, TableView, name_of}
 use Rattle.mb_shared_claims.specs.SeatSteps.{MayComeNext}
 use Rattle.mb_shared_claims.specs.ManySeatSteps.{AreSeatSteps}
@@ -33,7 +35,7 @@ run-requires-clause-may g c n word at before mid next steps going drawn is =
       can.0.0 ∙ ap name_of (sym (same_table can.1)),
       subst (λ k. k < mid.table.now.cells) (sym (same_cell can.1))
           (subst (λ (v : TableView). c.args.cell < v.cells) (sym (same_table can.1)) can.0.1),
-      subst (λ (v : TableView). HasWord v.layout next.object (reg_of next.op)) (sym (same_table can.1)) can.0.2,
+      subst (λ (v : TableView). IsWordInLayout v.layout next.object (reg_of next.op)) (sym (same_table can.1)) can.0.2,
       subst (λ (v : TableView). MayComeNext (claims_in v.layout v.cells) mid.seat.now.consumer
           mid.cell mid.seat.now.part next) (sym (same_table can.1))
           (subst (λ k. MayComeNext (claims_in c.args.self.now.layout c.args.self.now.cells)

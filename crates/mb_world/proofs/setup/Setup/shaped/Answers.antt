@@ -1,3 +1,4 @@
+-- Proof of `Setup::shaped`: the same setup, but each cell has this shape.
 use Rattle.std.proofs.Common.{◌≡◌, ℕ, ap, ◌∙◌, List}
 use Rattle.mb_quorum.specs.Quorum.{QuorumTable}
 use Rattle.mb_quorum.specs.Tables.{table_of}

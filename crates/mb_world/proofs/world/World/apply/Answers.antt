@@ -1,8 +1,9 @@
+-- Proof of `World::apply`: makes the one access that the event asks for, or none if the event is refused.
 use Rattle.std.proofs.Common.{sym, ◌∙◌, subst}
 use Rattle.mb_world.specs.declared.event.Event.{Event}
 use Rattle.mb_world.specs.declared.event.Event.TheVariants as event
 use Rattle.mb_world.specs.declared.setup.Setup.{Setup}
-use Rattle.mb_world.specs.Replay.{IsEntry, IsRefused}
+use Rattle.mb_world.specs.Replay.{HasAnswer, IsRefused}
 use Rattle.mb_world.specs.Setups.{layout_of, plan_in}
 use Rattle.mb_world.proofs.world.World.apply.Goals as goal
 
@@ -15,8 +16,8 @@ pub returns-else-consumer-consumers-clause-nothing : goal.returns-else-consumer-
 returns-else-consumer-consumers-clause-nothing g c h d p word is same =
     let setup = c.args.self.now.setup in
     let made = c.step.ensures.adds h is in
-    let entry = subst (λ (e : Event). IsEntry (plan_in setup) e c.step.result made.access h) (sym c.in-Step.is ∙ same)
-    (subst (λ (z : Setup). IsEntry (plan_in z)
+    let entry = subst (λ (e : Event). HasAnswer (plan_in setup) e c.step.result made.access h) (sym c.in-Step.is ∙ same)
+    (subst (λ (z : Setup). HasAnswer (plan_in z)
     (event.Step c.in-Step.consumer c.in-Step.lane c.in-Step.word) c.step.result
     made.access h) c.step.ensures.setup made.entry) in
     c.nothing_is_exact.ensures (plan_in setup) h d p word c.step.result made.access

@@ -1,3 +1,4 @@
+-- Proof of `World::diaries`: the diaries of all consumers on all lanes.
 use Rattle.std.proofs.Common.{◌∙◌, ap, subst, ◌<◌}
 use Rattle.mb_world.specs.Setups.{plan_in}
 use Rattle.mb_world.specs.WorldState.{WorldState}

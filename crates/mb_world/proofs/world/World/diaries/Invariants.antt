@@ -1,3 +1,4 @@
+-- Loop invariants of `World::diaries`: the diaries of all consumers on all lanes.
 use Rattle.std.proofs.Common.{◌*◌, ◌+◌}
 use Rattle.mb_world.specs.Setups.{plan_in}
 use Rattle.mb_world.specs.StateReport.{AreDiariesTold}

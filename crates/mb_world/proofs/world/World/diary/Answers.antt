@@ -1,3 +1,4 @@
+-- Proof of `World::diary`: the diary of consumer `c` on lane `p`.
 use Rattle.std.proofs.Common.{◌≡◌, take, refl, sym, ◌∙◌, ap}
 use Rattle.std.specs.List.{filter_map}
 use Rattle.std.proofs.lemmas.List.{take_all}

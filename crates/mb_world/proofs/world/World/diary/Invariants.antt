@@ -1,3 +1,4 @@
+-- Loop invariants of `World::diary`: the diary of consumer `c` on lane `p`.
 use Rattle.std.proofs.Common.{◌≡◌, take}
 use Rattle.std.specs.List.{filter_map}
 use Rattle.mb_world.specs.StateReport.{note_on}

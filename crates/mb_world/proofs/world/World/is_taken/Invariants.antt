@@ -1,3 +1,4 @@
+-- Loop invariants of `World::is_taken`: whether a consumer has taken the item of cell `k`.
 use Rattle.std.proofs.Common.{◌≡◌, false}
 use Rattle.mb_world.specs.Reporting.{any_below, is_took}
 use Rattle.mb_world.specs.StateReport.{note_on}

@@ -1,3 +1,4 @@
+-- Proof of `World::lane`: the report of lane `p`.
 use Rattle.std.proofs.Common.{◌≡◌, List, ℕ, take, map, filter, not, ◌∙◌, ap}
 use Rattle.std.proofs.lemmas.List.{take_all}
 use Rattle.mb_cells.specs.State.{item_in}

@@ -1,3 +1,4 @@
+-- Loop invariants of `World::lane_cells`: the cells of lane `p`, along the links from its head.
 use Rattle.std.proofs.Common.{◌<◌, ◌-◌, All, length}
 use Rattle.mb_cells.specs.State.{IsWithin}
 use Rattle.mb_world.specs.Setups.{plan_in}

@@ -1,3 +1,4 @@
+-- Proof of `World::lanes`: the reports of all lanes.
 use Rattle.mb_world.proofs.StateLists.{lanes_more}
 use Rattle.mb_world.proofs.world.World.lanes.Goals as goal
 

@@ -1,3 +1,4 @@
+-- Loop invariants of `World::lanes`: the reports of all lanes.
 use Rattle.mb_world.specs.StateReport.{AreLanesTold}
 use Rattle.mb_world.proofs.world.World.lanes.Given as goal
 

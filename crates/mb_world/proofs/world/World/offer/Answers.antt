@@ -1,59 +1,19 @@
-use Rattle.std.proofs.Common.{◌<◌, sym, ◌∙◌, ap, subst}
-use Rattle.mb_cells.specs.State.{PoolState}
-use Rattle.mb_world.specs.declared.event.Answer.TheVariants as answer
-use Rattle.mb_world.specs.declared.event.Event.TheVariants as event
-use Rattle.mb_world.specs.Setups.{plan_in}
-use Rattle.mb_world.specs.Replay.{IsRefused}
-use Rattle.mb_world.specs.EventSteps.{with_pool}
-use Rattle.mb_world.specs.WorldState.{IsWorldAfter, WorldState}
+-- Proof of `World::offer`: the producer of lane `p` takes a cell for the item.
 use Rattle.mb_world.proofs.StateSteps.{still_sound}
 use Rattle.mb_world.proofs.world.World.offer.Goals as goal
 
 pub invariant_of-self : goal.invariant_of-self
 invariant_of-self g c =
-    let s : WorldState = record {
-      setup = c.self.inside.setup;
-      pool = c.self.inside.pool;
-      words = c.self.inside.words;
-      seats = c.self.inside.seats.items;
-      notes = c.self.inside.notes.items;
-    } in
-    let lt : c.args.p < (plan_in s.setup).lanes =
-    subst (λ (w : WorldState). c.args.p < (plan_in w.setup).lanes) (sym c.self.view_is) c.requires in
-    let h = c.self.invariant.0 in
-    still_sound (event.Offer c.args.p c.args.item) (answer.Offered c.offer.result) (with_pool c.offer.new.self s) h
-    (c.calls_leave_states.ensures.offered s h c.args.p c.args.item c.offer.result c.offer.new.self c.self.invariant.1 lt
-    c.offer.ensures.meets c.offer.ensures.size)
+    still_sound _ _ _ _ (c.calls_leave_states.ensures.offered _ _ c.args.p c.args.item c.offer.result c.offer.new.self
+    c.self.invariant.1 (rw (← c.self.view_is) at c.requires) c.offer.ensures.meets c.offer.ensures.size)
 
 pub returns-clause-adds : goal.returns-clause-adds
 returns-clause-adds g c h is =
-    let s : WorldState = record {
-      setup = c.self.inside.setup;
-      pool = c.self.inside.pool;
-      words = c.self.inside.words;
-      seats = c.self.inside.seats.items;
-      notes = c.self.inside.notes.items;
-    } in
-    let lt : c.args.p < (plan_in s.setup).lanes =
-    subst (λ (w : WorldState). c.args.p < (plan_in w.setup).lanes) (sym c.self.view_is) c.requires in
-    c.calls_leave_states.ensures.offered s h c.args.p c.args.item c.offer.result c.offer.new.self
-    (subst (λ (w : WorldState). IsWorldAfter h w) (sym c.self.view_is) is) lt c.offer.ensures.meets c.offer.ensures.size
+    c.calls_leave_states.ensures.offered _ h c.args.p c.args.item c.offer.result c.offer.new.self
+    (rw (← c.self.view_is) at is) (rw (← c.self.view_is) at c.requires) c.offer.ensures.meets c.offer.ensures.size
 
 pub returns-clause-kept : goal.returns-clause-kept
 returns-clause-kept g c h is refused =
-    let s : WorldState = record {
-      setup = c.self.inside.setup;
-      pool = c.self.inside.pool;
-      words = c.self.inside.words;
-      seats = c.self.inside.seats.items;
-      notes = c.self.inside.notes.items;
-    } in
-    let lt : c.args.p < (plan_in s.setup).lanes =
-    subst (λ (w : WorldState). c.args.p < (plan_in w.setup).lanes) (sym c.self.view_is) c.requires in
-    ap (λ (pool : PoolState). with_pool pool s)
-    (c.calls_leave_states.ensures.offer_refused s h c.args.p c.args.item
-    (answer.Offered c.offer.result) c.offer.new.self
-    (subst (λ (w : WorldState). IsWorldAfter h w) (sym c.self.view_is) is) lt
-    (subst (λ (w : WorldState). IsRefused (plan_in w.setup) (event.Offer c.args.p c.args.item)
-    (answer.Offered c.offer.result) h)
-    (sym c.self.view_is) refused) c.offer.ensures.kept) ∙ c.self.view_is
+    rw (c.calls_leave_states.ensures.offer_refused _ h c.args.p c.args.item _ c.offer.new.self
+    (rw (← c.self.view_is) at is) (rw (← c.self.view_is) at c.requires) (rw (← c.self.view_is) at refused)
+    c.offer.ensures.kept) c.self.view_is

@@ -1,3 +1,5 @@
+-- Proof of `World::report`: what was put, what was taken and what is left: the report of every history that leaves this
+-- world.
 use Rattle.std.proofs.Common.{◌≢◌, []}
 use Rattle.mb_claim.specs.Layouts.{kinds_of, pair_count, shape_of}
 use Rattle.mb_deciding.specs.Spread.{spread}

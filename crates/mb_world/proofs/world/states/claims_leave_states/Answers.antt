@@ -1,3 +1,4 @@
+-- Proof of `states::claims_leave_states`: a step of a consumer's claim.
 use Rattle.std.proofs.Common.{refl}
 use Rattle.mb_claim.specs.OneClaim.{claim_stage}
 use Rattle.mb_world.proofs.CompeteStates.{competed}
@@ -11,7 +12,7 @@ returns-clause-going c s h d p k claim is has not_won =
     c.cells_stand_once.ensures.lane c.cells_stand_once.ensures.once c.cells_stand_once.ensures.within
     c.readers_follow_lanes.ensures.met c.loads_leave_pools.ensures c.worlds_are_sound.ensures.sound
     c.history_extends.ensures.consumer s h is d p has.consumer has.lane in
-    goes_unless_won s h is d p has.consumer has.lane known k claim has.seat not_won
+    goes_unless_won s h is d p has.consumer has.lane known k claim has.place not_won
 
 pub returns-clause-on : goal.returns-clause-on
 returns-clause-on c s h d p k claim is has =
@@ -19,7 +20,7 @@ returns-clause-on c s h d p k claim is has =
     c.cells_stand_once.ensures.lane c.cells_stand_once.ensures.once c.cells_stand_once.ensures.within
     c.readers_follow_lanes.ensures.met c.loads_leave_pools.ensures c.worlds_are_sound.ensures.sound
     c.history_extends.ensures.consumer s h is d p has.consumer has.lane in
-    claim_on s h is d p has.consumer has.lane known k claim has.seat
+    claim_on s h is d p has.consumer has.lane known k claim has.place
 
 pub returns-clause-competed : goal.returns-clause-competed
 returns-clause-competed c s h d p word k claim now words x is has going keeps random made =
@@ -27,5 +28,5 @@ returns-clause-competed c s h d p word k claim now words x is has going keeps ra
     c.cells_stand_once.ensures.lane c.cells_stand_once.ensures.once c.cells_stand_once.ensures.within
     c.readers_follow_lanes.ensures.met c.loads_leave_pools.ensures c.worlds_are_sound.ensures.sound
     c.history_extends.ensures.consumer s h is d p has.consumer has.lane in
-    competed s h is d p has.consumer has.lane known k claim has.seat going words now x keeps made (claim_stage now)
+    competed s h is d p has.consumer has.lane known k claim has.place going words now x keeps made (claim_stage now)
     refl word random

@@ -1,3 +1,4 @@
+-- Proof of `states::takes_leave_states`: the item load of a consumer whose claim is won.
 use Rattle.mb_world.proofs.StepKnown.{step_known}
 use Rattle.mb_world.proofs.TakeStates.{took}
 use Rattle.mb_world.proofs.world.states.takes_leave_states.Goals as goal
@@ -8,4 +9,4 @@ returns c s h d p word k claim is has won =
     c.cells_stand_once.ensures.lane c.cells_stand_once.ensures.once c.cells_stand_once.ensures.within
     c.readers_follow_lanes.ensures.met c.loads_leave_pools.ensures c.worlds_are_sound.ensures.sound
     c.history_extends.ensures.consumer s h is d p has.consumer has.lane in
-    took s h is d p has.consumer has.lane known k claim has.seat won word
+    took s h is d p has.consumer has.lane known k claim has.place won word

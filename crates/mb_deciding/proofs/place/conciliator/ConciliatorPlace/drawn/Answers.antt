@@ -1,3 +1,4 @@
+-- Proof of `ConciliatorPlace::drawn`: what follows the load of a process that has not stored.
 use Rattle.std.proofs.Common.{◌≡◌, ◌≤◌, ◌<◌, ◌-◌, ◌*◌, ◌%◌, ℕ, suc, ◌∷◌, sym, ap, ◌∙◌, subst, bit_and}
 use Rattle.std.proofs.lemmas.Nat.{and_mask}
 use Rattle.mb_deciding.specs.{Value, Op, Act, Load, Conciliator, Draw, Put, InConciliator, PcIsAt, IsConciliatorPlace}

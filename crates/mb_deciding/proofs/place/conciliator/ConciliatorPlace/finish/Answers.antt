@@ -1,3 +1,5 @@
+-- Proof of `ConciliatorPlace::finish`: goes on from the store of the input, until the process has its output or the
+-- budget `left` is used up.
 use Rattle.std.proofs.Common.{◌≡◌, ◌+◌, arith, suc, sym}
 use Rattle.mb_deciding.proofs.ManySteps.{one_more}
 use Rattle.mb_deciding.proofs.place.conciliator.ConciliatorPlace.finish.Goals as goal

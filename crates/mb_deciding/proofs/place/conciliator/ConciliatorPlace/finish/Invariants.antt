@@ -1,3 +1,5 @@
+-- Loop invariants of `ConciliatorPlace::finish`: goes on from the store of the input, until the process has its output
+-- or the budget `left` is used up.
 use Rattle.std.proofs.Common.{◌≡◌, ◌+◌, ℕ}
 use Rattle.mb_deciding.specs.{InConciliator, IsConciliatorPlace, AreSteps, DrawsAndMakes}
 use Rattle.mb_deciding.specs.declared.place.pc.Next.TheVariants as leads

@@ -1,3 +1,5 @@
+-- Proof of `ConciliatorPlace::run`: makes accesses in a conciliator until the process has its output or the budget
+-- `left` is used up.
 use Rattle.std.proofs.Common.{◌≡◌, ◌+◌, arith, suc, refl, sym, subst}
 use Rattle.mb_quorum.specs.Quorum.{QuorumTable}
 use Rattle.mb_deciding.specs.{Value, InConciliator, Draw, IsConciliatorPlace, AreSteps, DrawsAndMakes}

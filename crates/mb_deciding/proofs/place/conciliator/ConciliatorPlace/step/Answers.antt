@@ -1,3 +1,4 @@
+-- Proof of `ConciliatorPlace::step`: makes the next access in a conciliator for `values` values.
 use Rattle.std.proofs.Common.{◌+◌, refl}
 use Rattle.mb_deciding.specs.{Value, InConciliator, Draw, Put, Look}
 use Rattle.mb_deciding.specs.declared.access.Op.TheVariants as to

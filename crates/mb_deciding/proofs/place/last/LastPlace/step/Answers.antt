@@ -1,3 +1,4 @@
+-- Proof of `LastPlace::step`: makes the exchange of the place, and returns the output.
 use Rattle.mb_deciding.proofs.OneStep.{last_step}
 use Rattle.mb_deciding.proofs.place.last.LastPlace.step.Goals as goal
 

@@ -1,3 +1,4 @@
+-- Proof of `Pc::after`: what the access leads to.
 use Rattle.std.proofs.Common.{sym}
 use Rattle.mb_deciding.proofs.place.pc.Pc.after.Goals as goal
 

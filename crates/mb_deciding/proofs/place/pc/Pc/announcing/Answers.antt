@@ -1,3 +1,5 @@
+-- Proof of `Pc::announcing`: the same place, with the registers of the input's write quorum already taken from the
+-- table.
 use Rattle.std.proofs.Common.{count_ones, ap, arith}
 use Rattle.mb_deciding.proofs.Sizes.{largest_bound}
 use Rattle.mb_deciding.proofs.place.pc.Pc.announcing.Goals as goal

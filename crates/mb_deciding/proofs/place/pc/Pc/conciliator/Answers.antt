@@ -1,3 +1,5 @@
+-- Proof of `Pc::conciliator`: the place of a process with this input before its first access to a conciliator whose
+-- last attempt is `s`.
 use Rattle.std.proofs.Common.{◌≡◌, ◌^◌, ℕ, refl, arith}
 use Rattle.std.proofs.lemmas.Nat.{one_shl}
 use Rattle.mb_deciding.specs.{HasLimits}

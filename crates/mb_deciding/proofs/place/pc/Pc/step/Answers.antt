@@ -1,3 +1,4 @@
+-- Proof of `Pc::step`: makes the next access, to the object with this number in this memory.
 use Rattle.std.proofs.Common.{sym}
 use Rattle.mb_deciding.proofs.place.pc.Pc.step.Goals as goal
 

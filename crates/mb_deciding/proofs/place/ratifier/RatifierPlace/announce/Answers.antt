@@ -1,3 +1,4 @@
+-- Proof of `RatifierPlace::announce`: makes the next access of a process that announces its input.
 use Rattle.std.proofs.Common.{refl}
 use Rattle.mb_deciding.specs.{Proposal, Quorum, Announce}
 use Rattle.mb_deciding.specs.declared.access.Op.TheVariants as to

@@ -1,3 +1,5 @@
+-- Proof of `RatifierPlace::check`: goes on from the store of a proposal or the check of a preference, until the process
+-- has its output or the budget `left` is used up.
 use Rattle.std.proofs.Common.{◌≡◌, ◌+◌, arith, suc}
 use Rattle.mb_deciding.proofs.ManySteps.{one_more}
 use Rattle.mb_deciding.proofs.place.ratifier.RatifierPlace.check.Goals as goal

@@ -1,3 +1,5 @@
+-- Loop invariants of `RatifierPlace::check`: goes on from the store of a proposal or the check of a preference, until
+-- the process has its output or the budget `left` is used up.
 use Rattle.std.proofs.Common.{◌≡◌, ◌+◌, ℕ}
 use Rattle.mb_deciding.specs.{InRatifier, IsRatifierPlace, AreSteps, DrawsAndMakes}
 use Rattle.mb_deciding.specs.declared.place.pc.Next.TheVariants as leads

@@ -1,3 +1,4 @@
+-- Proof of `RatifierPlace::find`: makes one access more, and goes on from there.
 use Rattle.std.proofs.Common.{◌≡◌, ◌+◌, arith, refl}
 use Rattle.mb_quorum.specs.Quorum.{QuorumTable}
 use Rattle.mb_deciding.specs.{InRatifier, DrawsAndMakes}

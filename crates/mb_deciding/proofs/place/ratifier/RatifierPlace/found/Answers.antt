@@ -1,3 +1,4 @@
+-- Proof of `RatifierPlace::found`: what follows the load of the proposal, when no register is left to set.
 use Rattle.std.proofs.Common.{◌≡◌, ◌≤◌, ◌<◌, ◌-◌, ◌∷◌, count_ones, ap, ◌∙◌, arith}
 use Rattle.mb_deciding.specs.{Proposal, Load, acts, announcement, IsRest, act_of}
 use Rattle.mb_deciding.proofs.Registers.{rest_whole}

@@ -1,3 +1,4 @@
+-- Proof of `RatifierPlace::next`: the access that the process makes next.
 use Rattle.std.proofs.Common.{sym, subst}
 use Rattle.mb_deciding.specs.{Announce, IsRatifierOp}
 use Rattle.mb_deciding.proofs.Advances.{begin_op}

@@ -1,3 +1,4 @@
+-- Proof of `RatifierPlace::proposed`: what follows the store of the input in the proposal.
 use Rattle.std.proofs.Common.{◌∷◌, count_ones, ap, arith}
 use Rattle.mb_deciding.specs.{acts, IsRest, act_of}
 use Rattle.mb_deciding.proofs.Registers.{rest_whole}

@@ -1,3 +1,5 @@
+-- Proof of `RatifierPlace::run`: makes accesses in a ratifier until the process has its output or the budget `left` is
+-- used up.
 use Rattle.std.proofs.Common.{◌≡◌, ◌+◌, arith, suc}
 use Rattle.mb_quorum.specs.Quorum.{IsQuorumTable, QuorumTable}
 use Rattle.mb_deciding.specs.{InRatifier, Announce, DrawsAndMakes}

@@ -1,3 +1,5 @@
+-- Loop invariants of `RatifierPlace::run`: makes accesses in a ratifier until the process has its output or the budget
+-- `left` is used up.
 use Rattle.std.proofs.Common.{◌≡◌, ◌+◌, ◌<◌, ℕ}
 use Rattle.mb_deciding.specs.{InRatifier, Announce, AreSteps, DrawsAndMakes}
 use Rattle.mb_deciding.specs.declared.place.pc.Next.TheVariants as leads

@@ -1,3 +1,4 @@
+-- Proof of `RatifierPlace::step`: makes the next access.
 use Rattle.std.proofs.Common.{◌+◌, refl}
 use Rattle.mb_deciding.specs.{Proposal, Quorum, Propose, Check}
 use Rattle.mb_deciding.specs.declared.access.Op.TheVariants as to

@@ -1,3 +1,4 @@
+-- Proof of `ConciliatorMachine::step`: makes the next access of a process at its place in a conciliator.
 use Rattle.mb_deciding.proofs.run.machine.ConciliatorMachineMachine.step.Goals as goal
 
 pub returns : goal.returns

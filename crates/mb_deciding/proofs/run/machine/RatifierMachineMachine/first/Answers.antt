@@ -1,3 +1,4 @@
+-- Proof of `RatifierMachine::first`: the place of a process in a ratifier before its first access.
 use Rattle.std.proofs.Common.{[], sym, subst}
 use Rattle.mb_deciding.specs.{Ratifier, PcIsAt}
 use Rattle.mb_deciding.proofs.run.machine.RatifierMachineMachine.first.Goals as goal

@@ -1,3 +1,4 @@
+-- Proof of `RatifierMachine::step`: makes the next access of a process at its place in a ratifier.
 use Rattle.std.proofs.Common.{sym, subst}
 use Rattle.mb_deciding.specs.{IsStep, next_from}
 use Rattle.mb_deciding.proofs.RunsTables.{ratifier_place}

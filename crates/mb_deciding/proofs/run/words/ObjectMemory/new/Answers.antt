@@ -1,3 +1,4 @@
+-- Proof of `ObjectMemory::new`: words that hold nothing yet.
 use Rattle.std.proofs.Common.{◌≡◌, refl, replicate}
 use Rattle.std.proofs.lemmas.List.{get_or-replicate}
 use Rattle.mb_deciding.specs.{Reg, Value, Proposal, Quorum, Last, IsReg, word_of}

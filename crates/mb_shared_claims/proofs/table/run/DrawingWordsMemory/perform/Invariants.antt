@@ -1,3 +1,4 @@
+-- Choices for the calls of `DrawingWords::perform`: makes an access from the seat.
 use Rattle.mb_shared_claims.specs.SeatSteps.{access_of}
 use Rattle.mb_shared_claims.proofs.table.run.DrawingWordsMemory.perform.Given as goal
 

@@ -1,4 +1,4 @@
--- The run of a round's mailbox: its terms, the workers there, and what they left.
+-- The run of workers that a report tells of: its terms, the workers, and what they left.
 use Rattle.std.specs.Prelude.{ℕ, ◌≡◌, List, length}
 use Rattle.mb_mailbox.specs.Imports.{Stream, consumer_count}
 use Rattle.mb_mailbox.specs.Called.{IsCalled}
@@ -13,19 +13,20 @@ use Rattle.mb_world.specs.Report.{ReportView}
 use Rattle.mb_world.specs.Setups.{plan_in}
 use Rattle.mb_world.specs.declared.setup.Setup.{Setup}
 
--- the terms of a round: the plan of its mailbox, the most accesses of one poll, and each consumer's random words
+-- the terms of a run: the plan of its mailbox, the most accesses of one poll, and each consumer's random words
 pub record Terms : Type 0 where
   pub plan : Plan
   pub budget : ℕ
   pub sources : List Stream
 
+-- the terms of a run in a mailbox of this setup
 abbrev pub terms_of : Setup → ℕ → List Stream → Terms
 terms_of setup budget sources = record { plan = plan_in setup; budget = budget; sources = sources }
 
--- in a mailbox of this plan, workers led from a hub that had issued nothing to this hub: a producer for each list, and
--- a consumer for each source
-pub record IsRunBehind (may_stop may_pass : Who → ℕ → Type 0) (terms : Terms) (lists : List (List ℕ)) (hs : Histories)
-    (r : ReportView) : Type 0 where
+-- the run of workers that led to a report: in a mailbox of its plan, from a hub that had issued nothing to this hub,
+-- with a producer for each list, and a consumer for each source
+pub record IsReportedRun (may_stop may_pass : Who → ℕ → Type 0) (terms : Terms) (lists : List (List ℕ))
+    (hs : Histories) (r : ReportView) : Type 0 where
   pub mailbox : MailboxView
   pub plan : plan_at mailbox ≡ terms.plan
   pub size : mailbox.cells.size ≡ size_of terms.plan

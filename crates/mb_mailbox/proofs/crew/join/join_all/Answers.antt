@@ -1,8 +1,8 @@
 use Rattle.std.proofs.Common.{arith}
 use Rattle.std.proofs.lemmas.Grind.{common_steps}
-use Rattle.mb_mailbox.specs.Begun.{PollKeeps}
+use Rattle.mb_mailbox.specs.Begun.{Keeps}
 use Rattle.mb_mailbox.proofs.Zips.{next_seen, zip_more}
-use Rattle.mb_mailbox.proofs.crew.join.join_polls.Goals as goal
+use Rattle.mb_mailbox.proofs.crew.join.join_all.Goals as goal
 
 pub loop-one-preserved : goal.loop-one-preserved
 loop-one-preserved g c = record {
@@ -10,7 +10,7 @@ loop-one-preserved g c = record {
   left = grind (arith, common_steps);
   room = grind (arith, common_steps);
   kept = rw c.push_reserved.ensures.items
-      (zip_more (PollKeeps g.G.Gate.may_stop g.G.Gate.may_pass g.R.Rng.stream) c.loop-one.yielded
-      c.loop-one.done.items c.in-Some.one c.poll_end.result c.loop-one.invariant.kept
-      c.poll_end.ensures);
+      (zip_more (Keeps g.P.Promise.kept_by) c.loop-one.yielded
+      c.loop-one.done.items c.in-Some.one c.join.result c.loop-one.invariant.kept
+      c.join.ensures);
 }

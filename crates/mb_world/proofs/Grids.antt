@@ -1,9 +1,9 @@
--- Tables of rows and columns in one list, of which an element changes.
+-- Grids, of rows and columns in one list, of which no element changes, or one.
 use Rattle.std.proofs.Common.{◌≡◌, ◌⊎◌, ℕ, zero, suc, ◌+◌, ◌*◌, ◌<◌, List, [], ◌∷◌, length, Some, refl, sym, ◌∙◌, ap, subst, inl, inr, arith}
 use Rattle.std.specs.Prelude.{slice_get, slice_set}
 use Rattle.std.proofs.lemmas.Bool.{cases_eq}
 use Rattle.std.proofs.lemmas.Nat.{same_from_place}
-use Rattle.mb_world.proofs.NewWorlds.{place_within}
+use Rattle.mb_world.proofs.NewWorlds.{position_within}
 
 pub get_set_same : {X : Type 0} (xs : List X) (i : ℕ) (x : X) → i < length xs → slice_get (slice_set xs i x) i ≡ Some x
 get_set_same [] i x less = absurd (omega arith)
@@ -34,7 +34,7 @@ module _ {X : Type 0} (rows columns : ℕ) where
     module _ (c p : ℕ) (cs : c < rows) (ps : p < columns) (count : length xs ≡ rows * columns) (y : X) (new : Q c p y)
         (keeps : (d q : ℕ) (x : X) → d < rows → q < columns → (d ≡ c → q ≡ p → ⊥) → P d q x → Q d q x) where
       inside : c * columns + p < length xs
-      inside = omega (arith, count, place_within c p rows columns cs ps)
+      inside = omega (arith, count, position_within c p rows columns cs ps)
 
       pub all_set : HasAll Q (slice_set xs (c * columns + p) y)
       all_set d q ds qs = by (cases_eq (d * columns + q) (c * columns + p))

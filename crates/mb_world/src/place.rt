@@ -2,9 +2,9 @@
 use mb_cells::Cursor;
 use mb_claim::Claim;
 
-/// Where a consumer stands on a lane.
+/// Where a consumer stands on a lane, and the claim that it holds there.
 #[derive(Clone, Copy, PartialEq, Eq, Debug)]
-pub(crate) enum Place {
+pub enum Place {
     /// It is before the link at this cursor.
     Before(Cursor),
     /// It is at this cell, with its claim there.
@@ -13,6 +13,6 @@ pub(crate) enum Place {
 
 impl Default for Place {
     fn default() -> Place {
-        Place::Before(Cursor::head(0))
+        Place::Before(Cursor::Head(0))
     }
 }

@@ -1,4 +1,4 @@
--- What stands at a place of a report: its diaries, notes and lanes, and nothing outside of them.
+-- What stands at a position of a report: its diaries, notes and lanes, and nothing outside of them.
 use Rattle.std.proofs.Common.{◌≡◌, ◌⊎◌, ℕ, ◌+◌, ◌*◌, ◌<◌, ◌≤◌, Bool, true, false, cond, List, [], length}
 use Rattle.std.proofs.Common.{Option, Some, None, refl, ap, subst, inl, inr, arith}
 use Rattle.std.specs.Prelude.{slice_get, nat_lt}
@@ -18,9 +18,11 @@ abbrev pub IsInside : Plan → ℕ → ℕ → Type 0
 IsInside plan c p = (c < consumers_of plan) × (p < plan.lanes)
 
 module _ (plan : Plan) (hs : Histories) (r : ReportView) (is : IsReportOf plan hs r) where
+  -- there is no lane but those of the mailbox
   pub no_lane : (p : ℕ) → plan.lanes ≤ p → slice_get r.lanes p ≡ None
   no_lane p past = slice_get_past r.lanes p (omega (arith, is.lanes_count))
 
+  -- there is no diary outside of the mailbox
   pub diary_none : (c p : ℕ) → (plan.lanes ≤ p) ⊎ (consumers_of plan ≤ c) → diary c p r ≡ None
   diary_none c p (inl past) = rw (le-ltb p (length r.lanes) (omega (arith, is.lanes_count))) refl
   diary_none c p (inr past) = by_lane (nat_lt p (length r.lanes))
@@ -35,24 +37,30 @@ module _ (plan : Plan) (hs : Histories) (r : ReportView) (is : IsReportOf plan h
       by_lane true = slice_get_past r.diaries (c * length r.lanes + p) beyond
       by_lane false = refl
 
+  -- the diary at a position is that of the consumer on the lane
   pub diary_is : (c p : ℕ) (cs : c < consumers_of plan) (ps : p < plan.lanes) → diary c p r
       ≡ Some (is.diary c p cs ps).0
   diary_is c p cs ps = rw (is.lanes_count, lt-ltb p plan.lanes ps) (is.diary c p cs ps).1
 
+  -- its notes are those of the report there
   pub notes_is : (c p : ℕ) (cs : c < consumers_of plan) (ps : p < plan.lanes)
       → notes c p r ≡ (is.diary c p cs ps).0.notes
   notes_is c p cs ps = ap (λ (o : Option DiaryView). option_map_or (λ d. d.notes) o []) (diary_is c p cs ps)
 
+  -- its claim is begun exactly if the report says so
   pub begun_is : (c p : ℕ) (cs : c < consumers_of plan) (ps : p < plan.lanes)
       → is_begun c p r ≡ (is.diary c p cs ps).0.begun
   begun_is c p cs ps = ap (λ (o : Option DiaryView). option_map_or (λ d. d.begun) o false) (diary_is c p cs ps)
 
+  -- the items put on a lane are those of the history
   pub put_is : (p : ℕ) → p < plan.lanes → items_put p r ≡ values_put p hs.pool
   put_is p ps = rw (is.lane p ps) refl
 
+  -- the items left are those of the lane's view
   pub left_is : (p : ℕ) → p < plan.lanes → items_left p r ≡ (lane_view plan p hs r).left
   left_is p ps = rw (is.lane p ps) refl
 
+  -- if there is a diary, there are such a consumer and such a lane
   pub inside : (c p : ℕ) → (diary c p r ≡ None → ⊥) → IsInside plan c p
   inside c p some = by_cases (cases_lt c (consumers_of plan)) (cases_lt p plan.lanes)
     where
@@ -62,6 +70,7 @@ module _ (plan : Plan) (hs : Histories) (r : ReportView) (is : IsReportOf plan h
       by_cases (inr past) o = absurd (some (diary_none c p (inr past)))
       by_cases (inl cs) (inr past) = absurd (some (diary_none c p (inl past)))
 
+  -- a note of the report is in a diary of the mailbox
   pub note_in : (c p j : ℕ) (n : Note) → note c p j r ≡ Some n
       → (cs : c < consumers_of plan) × (ps : p < plan.lanes) × (slice_get (is.diary c p cs ps).0.notes j ≡ Some n)
   note_in c p j n e = (

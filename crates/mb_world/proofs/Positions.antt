@@ -1,4 +1,4 @@
--- Places in lists of which the last element came first: they count from the right, as the reversed list has them.
+-- Positions in lists of which the last element came first: they count from the right, as the reversed list has them.
 use Rattle.std.proofs.Common.{◌≡◌, ◌⊎◌, ℕ, zero, suc, ◌<◌, List, [], ◌∷◌, ◌++◌, length, Some, refl, sym, ◌∙◌, ap, subst, inl, inr, arith}
 use Rattle.std.proofs.lemmas.Bool.{cases_lt}
 use Rattle.std.proofs.lemmas.List.{length-map, length-reverse}
@@ -22,7 +22,7 @@ get-snoc [] y (suc j) x e = absurd (cc)
 get-snoc (a ∷ xs) y zero x e = inl e
 get-snoc (a ∷ xs) y (suc j) x e = elim (get-snoc xs y j x e) [ inl h ↦ inl h | inr h ↦ inr (ap suc h.0, h.1) ]
 
--- the element at place j
+-- the element at position j
 abbrev pub StandsAt : List ℕ → ℕ → ℕ → Type 0
 StandsAt [] j k = ⊥
 StandsAt (x ∷ xs) j k = ((j ≡ length xs) × (x ≡ k)) ⊎ StandsAt xs j k
@@ -67,7 +67,7 @@ at_some (x ∷ xs) j h = elim (cases_lt j (length xs)) [
   | inr past ↦ (x, inl (omega arith, refl))
 ]
 
--- one element at a place
+-- one element at a position
 pub at_one : (xs : List ℕ) (j k m : ℕ) → StandsAt xs j k → StandsAt xs j m → k ≡ m
 at_one [] j k m h g = absurd h
 at_one (x ∷ xs) j k m (inl h) (inl g) = sym h.1 ∙ g.1
@@ -75,7 +75,7 @@ at_one (x ∷ xs) j k m (inl h) (inr g) = absurd (omega (arith, h.0, at_within x
 at_one (x ∷ xs) j k m (inr h) (inl g) = absurd (omega (arith, g.0, at_within xs j k h))
 at_one (x ∷ xs) j k m (inr h) (inr g) = at_one xs j k m h g
 
--- one place of an element that stands once
+-- one position of an element that stands once
 pub at_once : (xs : List ℕ) (i j k : ℕ) → IsOnceEach xs → StandsAt xs i k → StandsAt xs j k → i ≡ j
 at_once [] i j k once h g = absurd h
 at_once (x ∷ xs) i j k once (inl h) (inl g) = h.0 ∙ sym g.0
@@ -83,12 +83,12 @@ at_once (x ∷ xs) i j k once (inl h) (inr g) = absurd (once.0 (subst (Has xs) (
 at_once (x ∷ xs) i j k once (inr h) (inl g) = absurd (once.0 (subst (Has xs) (sym g.1) (at_has xs i k h)))
 at_once (x ∷ xs) i j k once (inr h) (inr g) = at_once xs i j k once.1 h g
 
--- what a list began with keeps its places
+-- what a list began with keeps its positions
 pub at_start : (later ks : List ℕ) (j k : ℕ) → StandsAt ks j k → StandsAt (later ++ ks) j k
 at_start [] ks j k h = h
 at_start (x ∷ later) ks j k h = inr (at_start later ks j k h)
 
--- what is made of the elements keeps their places
+-- what is made of the elements keeps their positions
 pub mapped_at : {A : Type 0} (f : ℕ → A) (xs : List ℕ) (j k : ℕ) → StandsAt xs j k
     → slice_get (reverse (map f xs)) j ≡ Some (f k)
 mapped_at f [] j k h = absurd h
