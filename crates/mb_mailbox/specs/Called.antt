@@ -18,13 +18,13 @@ pub record WasPassed (may_pass : Who → ℕ → Type 0) (p : ℕ) (list : List 
   pub put : ArePassed may_pass (who.Producer p) (length l.put)
   pub full : l.stopped ≡ false → length l.put < length list → may_pass (who.Producer p) (suc (length l.put))
 
--- the gate did so with each producer of the lanes from p on
+-- the gate let each producer of these lanes, from p on, through before each of its calls
 abbrev pub WerePassed : (Who → ℕ → Type 0) → ℕ → List (List ℕ) → List LaneLeft → Type 0
 WerePassed may_pass p [] [] = Unit {0}
 WerePassed may_pass p (list ∷ lists) (l ∷ ls) = WasPassed may_pass p list l × WerePassed may_pass (suc p) lists ls
 WerePassed may_pass p _ _ = ⊥
 
--- consumer c had made no access. It made its calls with the words of this source, and left this
+-- consumer c, which had made no access before, made its calls with the words of this source. `l` is what it came to
 pub record WasPolled (may_stop may_pass : Who → ℕ → Type 0) (from end budget c : ℕ) (source : Stream) (l : ConsumerLeft)
     : Type 0 where
   pub first : ConsumerView
@@ -37,7 +37,8 @@ pub record WasPolled (may_stop may_pass : Who → ℕ → Type 0) (from end budg
   pub claimed : l.claimed ≡ last.seat.part
   pub ledger : l.ledger ≡ record { places = last.places; notes = last.notes }
 
--- each of these consumers did so, with the numbers from c on: one for each of these sources, in their order
+-- each of these consumers, with the numbers from c on, made its calls with the words of its own source. There is one
+-- consumer for each of these sources, in their order
 abbrev pub WerePolled : (Who → ℕ → Type 0) → (Who → ℕ → Type 0) → ℕ → ℕ → ℕ → ℕ → List Stream
     → List ConsumerLeft → Type 0
 WerePolled may_stop may_pass from end budget c [] [] = Unit {0}

@@ -7,17 +7,17 @@ use Rattle.mb_mailbox.specs.declared.consumer.Poll.{Poll}
 use Rattle.mb_mailbox.specs.declared.gate.Who.{Who}
 use Rattle.mb_mailbox.specs.declared.gate.Who.TheVariants as who
 
--- the gate may let this worker pass before each of its calls 1, 2, .. up to this number
+-- before each of the worker's calls 1, 2, .. up to this number, the gate may let the worker pass
 abbrev pub ArePassed : (Who → ℕ → Type 0) → Who → ℕ → Type 0
 ArePassed may_pass w calls = (n : ℕ) → 1 ≤ n → n ≤ calls → may_pass w n
 
--- a call of a consumer: the lane that it polled, and the answer
+-- a call of a consumer: the lane that it polls, and the answer of the poll
 pub record Call : Type 0 where
   pub lane : ℕ
   pub answer : Poll
 
--- it is a poll of a lane from `from` on and below `end`, with this budget. It has fewer accesses than that only if it
--- has an answer
+-- the call is a poll of a lane from `from` on and below `end`, with this budget. It makes fewer accesses than the
+-- budget only if it comes to an answer
 pub record IsCall (from end budget : ℕ) (c : Call) (s t : Stream) (old new : ConsumerView) : Type 0 where
   pub low : from ≤ c.lane
   pub high : c.lane < end
@@ -31,7 +31,7 @@ AreCalls from end budget (c ∷ older) s t old new =
     (u : Stream) × (mid : ConsumerView) × AreCalls from end budget older s u old mid
     × IsCall from end budget c u t mid new
 
--- this many calls were made so, and the gate let each through
+-- a consumer made this many calls, one after the other, and the gate let each through
 pub record HasCalled (may_pass : Who → ℕ → Type 0) (from end budget calls : ℕ) (s t : Stream) (old new : ConsumerView)
     : Type 0 where
   pub made : List Call

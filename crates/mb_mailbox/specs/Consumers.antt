@@ -7,33 +7,35 @@ use Rattle.mb_mailbox.specs.Mailboxes.{MailboxView}
 use Rattle.mb_world.specs.declared.place.Place.{Place}
 use Rattle.mb_world.specs.declared.place.Place.TheVariants.{At, Before}
 
--- its seat among the readers of the cells, its seat among the consumers of the claims, its place on each lane, and
--- its notes there
+-- what proofs see of a consumer: its seat among the readers of the cells, its seat among the consumers of the claims,
+-- its place on each lane, and its notes there
 pub record ConsumerView : Type 0 where
   pub reader : ReaderSeatView
   pub seat : SeatView
   pub places : List Place
   pub notes : List (List Note)
 
--- what it loaded from the cells, and what it did for its claims
+-- the two parts of a consumer with these seats: what it loaded from the cells, and what it did for its claim on each
+-- cell
 abbrev pub parts_of : ReaderSeatView → SeatView → Parts
 parts_of reader seat =
     record { reads = reader.part; claimed = λ k. part_on seat.consumer k seat.part }
 
--- the claims on these cells (the last first) have ended with these notes
+-- the claims of consumer c on these cells (the last first) have ended with these notes
 abbrev pub AreEnds : Claims → ℕ → List ℕ → List Note → Parts → Type 0
 AreEnds cs c [] [] x = Unit {0}
 AreEnds cs c (k ∷ ks) (n ∷ ns) x = EndsAs cs c k n x × AreEnds cs c ks ns x
 AreEnds cs c _ _ x = ⊥
 
--- it stands before the link of the last cell that it met on lane p, or before the lane's head. It has a note on each
--- cell
+-- the consumer stands before the link of the last cell that it met on lane p, or before the lane's head. It has a
+-- note on each cell that it met there
 pub record ConsumerIsBefore (cs : Claims) (c p : ℕ) (x : Parts) (notes : List Note) (at : Cursor)
     : Type 0 where
   pub word : word_of at ≡ place_past p (cells_met p x.reads)
   pub ended : AreEnds cs c (cells_met p x.reads) (reverse notes) x
 
--- it holds a claim on the last cell that it met there. That cell has no note, and each cell before it has one
+-- the consumer holds a claim on cell k, the last that it met on lane p. That cell has no note, and each cell before
+-- it has one
 pub record ConsumerIsAt (layout : Layout) (cs : Claims) (c p : ℕ) (x : Parts) (notes : List Note) (k : ℕ)
     (claim : Claim) : Type 0 where
   pub cells : List ℕ
@@ -44,17 +46,17 @@ pub record ConsumerIsAt (layout : Layout) (cs : Claims) (c p : ℕ) (x : Parts) 
   pub unnoted : note_of (claim_stage claim) ≡ None
   pub left : HasNotLeft k x
 
--- where consumer c stands on lane p, by its parts and its notes there
+-- consumer c stands at this place on lane p, by its parts and its notes there
 abbrev pub StandsOn : Layout → Claims → ℕ → ℕ → Parts → List Note → Place → Type 0
 StandsOn layout cs c p x notes (Before at) = ConsumerIsBefore cs c p x notes at
 StandsOn layout cs c p x notes (At k claim) = ConsumerIsAt layout cs c p x notes k claim
 
--- what each consumer keeps
+-- this holds of each consumer
 pub record IsConsumer (s : ConsumerView) : Type 0 where
-  -- the size of its tables
+  -- the consumer knows the size of its table of claims
   pub size : TableSize
   pub table : s.seat.table.size ≡ Some size
-  -- its number is its reader's
+  -- its reader's seat has the same number as its seat of the claims
   pub same : s.reader.reader ≡ s.seat.consumer
   -- its two parts fit each other
   pub fit : Fits (claims_in size.layout size.cells) s.seat.consumer (parts_of s.reader s.seat)

@@ -4,18 +4,19 @@ use Rattle.mb_world.specs.Report.{DiaryView, LaneView}
 use Rattle.mb_mailbox.specs.Imports.{Note}
 use Rattle.mb_mailbox.specs.Hubs.{ConsumerRecordView, PutListView}
 
--- the list with the element at place n changed, if there is one
+-- the list with the element at place n changed by f, if there is such an element
 abbrev pub changed_at : {X : Type 0} → List X → ℕ → (X → X) → List X
 changed_at [] n f = []
 changed_at (x ∷ xs) zero f = f x ∷ xs
 changed_at (x ∷ xs) (suc n) f = x ∷ changed_at xs n f
 
--- what these make of x, numbered from n on. The last one is applied first
+-- what the elements of a list make of x, one after the other. They have the numbers from n on, and the last one is
+-- applied first
 abbrev pub in_turn : {X Y : Type 0} → (ℕ → Y → X → X) → ℕ → List Y → X → X
 in_turn f n [] x = x
 in_turn f n (y ∷ ys) x = f n y (in_turn f (suc n) ys x)
 
--- the list with each element from place n on changed by the next of these
+-- the list whose elements from place n on are changed, each by the next of these
 abbrev pub changed_from : {X Y : Type 0} → (Y → X → X) → ℕ → List Y → List X → List X
 changed_from change n ys xs = in_turn (λ i y zs. changed_at zs i (change y)) n ys xs
 

@@ -28,15 +28,15 @@ count_missing (None ∷ xs) = suc (count_missing xs)
 abbrev pub kept_at : {X : Type 0} → List (Option X) → ℕ → Option X
 kept_at xs n = option_map_or (λ o. o) (slice_get xs n) None
 
--- the items of the producer of lane p
+-- the items of the producer of lane p, or none if it was not taken in
 abbrev pub items_in : ℕ → HubView → List ℕ
 items_in p h = option_map_or (λ l. l.items) (kept_at h.puts p) []
 
--- whether it has ended the lane
+-- whether the producer of lane p was taken in and has ended the lane
 abbrev pub ended_in : ℕ → HubView → Bool
 ended_in p h = option_map_or (λ l. l.ended) (kept_at h.puts p) false
 
--- the notes of consumer c on lane p
+-- the notes of consumer c on lane p, or none if it was not taken in
 abbrev pub notes_in : ℕ → ℕ → HubView → List Note
 notes_in c p h =
     option_map_or (λ l. option_map_or (λ ns. ns) (slice_get l.notes p) []) (kept_at h.ledgers c) []
@@ -64,10 +64,11 @@ lane_in n p h = record {
 abbrev pub diary_in : ℕ → ℕ → HubView → DiaryView
 diary_in c p h = record { consumer = c; lane = p; notes = notes_in c p h; begun = begun_in c p h }
 
--- the lane and the diary before the lists that the hub keeps are moved in: the items put, and the notes
+-- the lane as in the report, but without the items put. They are moved in later, from the list that the hub keeps
 abbrev pub lane_outline : ℕ → ℕ → HubView → LaneView
 lane_outline n p h = record (lane_in n p h) { put = [] }
 
+-- the diary as in the report, but without the notes. They are moved in later, from the list that the hub keeps
 abbrev pub diary_outline : ℕ → ℕ → HubView → DiaryView
 diary_outline c p h = record (diary_in c p h) { notes = [] }
 
@@ -82,12 +83,13 @@ pub record AreDiariesOutlined (lanes : ℕ) (h : HubView) (n : ℕ) (ds : List D
   pub each : (c p : ℕ) → p < lanes → c * lanes + p < n
       → slice_get ds (c * lanes + p) ≡ Some (diary_outline c p h)
 
--- the report before those lists are moved in
+-- this is the outline of the hub's report: the report before items and notes are moved in
 pub record IsOutlineIn (lanes consumers : ℕ) (h : HubView) (r : ReportView) : Type 0 where
   pub each_lane : AreLanesOutlined consumers h lanes r.lanes
   pub each_diary : AreDiariesOutlined lanes h (consumers * lanes) r.diaries
 
--- the lists and diaries are those of the producers and consumers that were taken in. Each is in its place
+-- this is the report of what the hub has taken in: each lane is that of its producer, and each diary that of its
+-- consumer. Each is in its place
 pub record IsReportIn (lanes consumers : ℕ) (h : HubView) (r : ReportView) : Type 0 where
   pub lanes_count : length r.lanes ≡ lanes
   pub diaries_count : length r.diaries ≡ consumers * lanes
@@ -95,18 +97,18 @@ pub record IsReportIn (lanes consumers : ℕ) (h : HubView) (r : ReportView) : T
   pub diary : (c p : ℕ) → c < consumers → p < lanes
       → slice_get r.diaries (c * lanes + p) ≡ Some (diary_in c p h)
 
--- ---- what it shows
--- what all that were taken in did, and that the report is honest about it
+-- ---- what a report shows
+-- all that were taken in made two histories which are sound, and the report is honest about them
 pub record IsGathered (m : MailboxView) (h : HubView) (r : ReportView) : Type 0 where
   -- what was done to the words of the claims and to those of the cells; consumer c is reader c
   pub histories : Histories
   pub reader : (c : ℕ) → histories.reader_of c ≡ c
-  -- each part of them is what the hub has taken in
+  -- each part of these histories is what the hub has taken in
   pub claims : (c : ℕ) → consumer_part c histories.claims ≡ taken_part h.claims.roll c
   pub pool : IsRollOf m.cells.size h.cells.roll histories.pool
-  -- they are lawful, and the two parts of each consumer fit
+  -- both histories are lawful, and the two parts of each consumer fit
   pub sound : AreSound (plan_at m) histories
-  -- the report is theirs
+  -- the report is that of these histories
   pub report : IsReportOf (plan_at m) histories r
   -- One assignment of items to competitors accounts for the whole report. Each ledger has exactly the items given, in
   -- the order put. The rest is reported as left. Nothing follows an end mark. If nobody took an item that was

@@ -7,17 +7,17 @@ use Rattle.mb_mailbox.specs.Imports.{Note, Undecided}
 abbrev pub diary_of : ℕ → List Note → DiaryView
 diary_of c notes = record { consumer = c; lane = 0; notes = notes; begun = false }
 
--- one item on lane 0, which is left, with these diaries
+-- the report of one item on lane 0, which is left, with these diaries
 abbrev pub one_left : List DiaryView → ReportView
 one_left diaries = record {
   lanes = record { put = 7 ∷ []; ended = false; left = 7 ∷ [] } ∷ [];
   diaries = diaries;
 }
 
--- one of two consumers has an undecided note, and the other did nothing
+-- in this report one of two consumers has an undecided note, and the other did nothing
 abbrev pub alone_undecided : ReportView
 alone_undecided = one_left (diary_of 0 (Undecided ∷ []) ∷ diary_of 1 [] ∷ [])
 
--- both have one
+-- in this report both consumers have an undecided note
 abbrev pub two_undecided : ReportView
 two_undecided = one_left (diary_of 0 (Undecided ∷ []) ∷ diary_of 1 (Undecided ∷ []) ∷ [])

@@ -11,7 +11,7 @@ use Rattle.mb_mailbox.specs.declared.crew.jobs.PutJob.{PutJob}
 use Rattle.mb_mailbox.specs.declared.crew.room.WorkerInputs.{WorkerInputs}
 
 -- ---- the jobs of lists and of consumers, with numbers in a row
--- a consumer of the mailbox with this number, which has made no access
+-- the consumer is one of the mailbox, has this number, and has made no access
 pub record HasNumber (m : MailboxView) (c : ℕ) (s : ConsumerView) : Type 0 where
   pub cells : s.reader.table ≡ m.cells
   pub reader : s.reader.reader ≡ c
@@ -26,7 +26,7 @@ module _ {Z : Type 0} where
   ArePutJobs m p (v ∷ vs) (j ∷ js) = (j.producer ≡ new_producer m p) × (j.list ≡ v) × ArePutJobs m (suc p) vs js
   ArePutJobs m p _ _ = ⊥
 
-  -- the jobs are those of a front of the lists
+  -- the jobs are those of a beginning of these lists, and of new producers with the numbers from p on
   pub record ArePutJobsOfFront (m : MailboxView) (p : ℕ) (lists : List (Vec ℕ Z))
       (jobs : List (PutJob Z)) : Type 0 where
     pub front : List (Vec ℕ Z)
@@ -34,14 +34,15 @@ module _ {Z : Type 0} where
     pub whole : front ++ rest ≡ lists
     pub are : ArePutJobs m p front jobs
 
-  -- the jobs are those of consumers with the numbers from c on
+  -- the jobs are those of consumers with the numbers from c on, which have made no access
   abbrev pub ArePollJobs : {R : Type 0} → MailboxView → ℕ → List (PollJob R Z) → Type 0
   ArePollJobs m c [] = Unit {0}
   ArePollJobs m c (j ∷ js) = HasNumber m c j.consumer × ArePollJobs m (suc c) js
 
 -- ---- the jobs for which a hub has given numbers
 module _ {R Z : Type 0} where
-  -- the jobs are those of a front of these lists, and of at most this many consumers, with the next numbers
+  -- the jobs are those of a beginning of these lists, and of at most this many consumers, with the next numbers. The
+  -- hub has given these numbers
   pub record AreGiven (m : MailboxView) (lists : List (Vec ℕ Z)) (sources : ℕ) (jobs : WorkerInputs R Z)
       (old new : HubView) : Type 0 where
     pub puts : ArePutJobsOfFront m (length old.puts) lists jobs.puts.items

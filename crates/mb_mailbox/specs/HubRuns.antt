@@ -4,7 +4,7 @@ use Rattle.mb_mailbox.specs.Consumers.{ConsumerView}
 use Rattle.mb_mailbox.specs.Hubs.{HubView, with_consumer, with_producer, with_taken_consumer, with_taken_producer}
 use Rattle.mb_mailbox.specs.Producers.{ProducerView}
 
--- ---- what it gives: one for each element of the list
+-- ---- what a hub gives: one for each element of the list
 -- the hub after it has given a producer for each element of the list
 abbrev pub with_producers : {X : Type 0} → List X → HubView → HubView
 with_producers [] h = h
@@ -15,7 +15,7 @@ abbrev pub with_consumers : {X : Type 0} → List X → HubView → HubView
 with_consumers [] h = h
 with_consumers (x ∷ xs) h = with_consumers xs (with_consumer h)
 
--- ---- what it takes in
+-- ---- what a hub takes in
 -- the hub after it has taken in these producers
 abbrev pub with_taken_producers : List ProducerView → HubView → HubView
 with_taken_producers [] h = h

@@ -16,33 +16,34 @@ pub record PutListView : Type 0 where
   pub items : List ℕ
   pub ended : Bool
 
--- what is kept of a consumer that was taken in: its place on each lane, and its notes there
+-- what is kept of a consumer that was taken in: its place on each lane, and its notes there. Names here call this
+-- record a ledger
 pub record ConsumerRecordView : Type 0 where
   pub places : List Place
   pub notes : List (List Note)
 
--- the parts of consumer c
+-- the two parts of consumer c, if it made these loads and these accesses to the claims
 abbrev pub parts_by : ℕ → History → List ClaimAccess → Parts
 parts_by c reads done = record { reads = reads; claimed = λ k. part_on c k done }
 
--- the hubs of both tables, the put lists of the producers that were taken in, and the ledgers of the consumers that
--- were. Both lists go by the numbers given
+-- a hub: the hubs of both tables, the put lists of producers, and the records of consumers. Place n of a list is that
+-- of number n. It is empty until the producer or consumer of that number is taken in
 pub record HubView : Type 0 where
   pub cells : CellHubView
   pub claims : ClaimHubView
   pub puts : List (Option PutListView)
   pub ledgers : List (Option ConsumerRecordView)
 
--- the put list is that of the producer of lane p, which did this in a pool of this many cells
+-- the put list is that of the producer of lane p, whose part in a pool of this many cells is `done`
 pub record IsPutList (cells p : ℕ) (done : History) (l : PutListView) : Type 0 where
   pub items : l.items ≡ values_put p done
   pub ended : l.ended ≡ has_ended p done
-  -- it has linked each cell that it got
+  -- the producer has linked each cell that it got
   pub linked : (e : Entry) → Has done (fetch p e) → e.cell < cells
       → Has (linked_cells p done) e.cell
 
--- the ledger is that of consumer c, which did this, if there are this many lanes. Its two parts fit each other. They
--- determine its place on each lane and its notes there
+-- the record is that of consumer c, with these two parts, if there are `count` lanes. The two parts fit each other.
+-- They determine the consumer's place on each lane and its notes there
 pub record IsLedger
     (table : ClaimTable) (count c : ℕ) (reads : History) (done : List ClaimAccess) (l : ConsumerRecordView)
     : Type 0 where
@@ -56,7 +57,7 @@ pub record IsLedger
       → StandsOn size.layout (claims_in size.layout size.cells) c p (parts_by c reads done)
       notes place
 
--- a hub that has given no number
+-- the hub of this mailbox that has given no number
 abbrev pub hub_empty : MailboxView → HubView
 hub_empty m = record {
   cells = record { table = m.cells; roll = empty_roll };
@@ -65,16 +66,17 @@ hub_empty m = record {
   ledgers = [];
 }
 
--- what each hub keeps. The number of a producer is that of its lane. The number of a consumer is that of its reader
--- and of its seat
+-- this holds of each hub. The number of a producer is that of its lane. The number of a consumer is that of its
+-- reader's seat, and that of its seat of the claims
 pub record IsHub (h : HubView) : Type 0 where
   pub lanes : length h.puts ≡ length h.cells.roll.lanes
   pub readers : length h.ledgers ≡ length h.cells.roll.readers
   pub seats : length h.ledgers ≡ length h.claims.roll
-  -- there are no more than the mailbox has
+  -- no more lanes were given than the mailbox has, and no more consumers
   pub few_lanes : length h.puts ≤ h.cells.table.size.lanes
   pub few_consumers : length h.ledgers ≤ (claims_at h.claims.table).table.values
-  -- what was done determines what is kept of each that was taken in
+  -- the part of a producer that was taken in determines its put list. The two parts of a consumer that was taken in
+  -- determine its record
   pub put : (p : ℕ) (l : PutListView) → slice_get h.puts p ≡ Some (Some l)
       → (done : History) × (slice_get h.cells.roll.lanes p ≡ Some (Some done))
       × IsPutList h.cells.table.size.cells p done l
@@ -83,25 +85,28 @@ pub record IsHub (h : HubView) : Type 0 where
       × ((done : List ClaimAccess) × (slice_get h.claims.roll c ≡ Some (Some done))
       × IsLedger h.claims.table h.cells.table.size.lanes c reads done l)
 
--- the hub is the mailbox's
+-- the hub is one of this mailbox: both have the same tables
 pub record IsHubOf (m : MailboxView) (h : HubView) : Type 0 where
   pub cells : h.cells.table ≡ m.cells
   pub claims : h.claims.table ≡ name_of m.claims
 
--- ---- what it gives
+-- ---- what a hub gives
+-- the producer of lane p, which has done nothing
 abbrev pub new_producer : MailboxView → ℕ → ProducerView
 new_producer m p = record {
   seat = record { table = m.cells; lane = p; place = new_lane; part = [] };
   items = [];
 }
 
+-- the hub after it has given one more producer
 abbrev pub with_producer : HubView → HubView
 with_producer h = record h {
   cells = record { table = h.cells.table; roll = roll_with_lane h.cells.roll };
   puts = h.puts ++ None ∷ [];
 }
 
--- the consumer of the next number, which has done nothing
+-- the consumer has the hub's next number, and has done nothing. Its reader's seat knows the parts of the lanes that
+-- the hub has taken in
 pub record IsNewConsumer (m : MailboxView) (h : HubView) (s : ConsumerView) : Type 0 where
   pub reader : s.reader ≡ record {
     table = m.cells;
@@ -112,6 +117,7 @@ pub record IsNewConsumer (m : MailboxView) (h : HubView) (s : ConsumerView) : Ty
   pub seat : s.seat ≡ record { table = name_of m.claims; consumer = length h.ledgers; part = [] }
   pub notes : (p : ℕ) (notes : List Note) → slice_get s.notes p ≡ Some notes → notes ≡ []
 
+-- the hub after it has given one more consumer
 abbrev pub with_consumer : HubView → HubView
 with_consumer h = record h {
   cells = record { table = h.cells.table; roll = roll_with_reader h.cells.roll };
@@ -119,13 +125,16 @@ with_consumer h = record h {
   ledgers = h.ledgers ++ None ∷ [];
 }
 
--- ---- what it takes in
+-- ---- what a hub takes in
+-- what the hub keeps of this producer
 abbrev pub put_list_of : ProducerView → PutListView
 put_list_of s = record { items = s.items; ended = has_ended s.seat.lane s.seat.part }
 
+-- what the hub keeps of this consumer
 abbrev pub ledger_of : ConsumerView → ConsumerRecordView
 ledger_of s = record { places = s.places; notes = s.notes }
 
+-- the hub after it has taken in this producer
 abbrev pub with_taken_producer : ProducerView → HubView → HubView
 with_taken_producer s h = record h {
   cells = record {
@@ -135,6 +144,7 @@ with_taken_producer s h = record h {
   puts = slice_set h.puts s.seat.lane (Some (put_list_of s));
 }
 
+-- the hub after it has taken in this consumer
 abbrev pub with_taken_consumer : ConsumerView → HubView → HubView
 with_taken_consumer s h = record h {
   cells = record {

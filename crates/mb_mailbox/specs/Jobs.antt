@@ -13,7 +13,7 @@ use Rattle.mb_mailbox.specs.declared.crew.jobs.PollDone.{PollDone}
 use Rattle.mb_mailbox.specs.declared.crew.jobs.PutDone.{PutDone}
 use Rattle.mb_mailbox.specs.declared.crew.jobs.PutJob.{PutJob}
 
--- a worker is stopped before this call of it: the gate may stop it there, or it is call 2^64 - 1
+-- a worker may be stopped before its call of this number: the gate may stop it there, or the number is 2^64 - 1
 abbrev pub IsStopBefore : (Who → ℕ → Type 0) → Who → ℕ → Type 0
 IsStopBefore may_stop w call = may_stop w call ⊎ (call ≡ 2 ^ 64 - 1)
 
@@ -25,21 +25,22 @@ accesses_made s = length s.reader.part + length s.seat.part
 abbrev pub IsFront : List ℕ → List ℕ → Type 0
 IsFront front whole = (rest : List ℕ) × (front ++ rest ≡ whole)
 
--- it has the same tables and the same numbers
+-- the consumer has the same tables and the same numbers as before
 pub record IsSameConsumer (old new : ConsumerView) : Type 0 where
   pub cells : new.reader.table ≡ old.reader.table
   pub reader : new.reader.reader ≡ old.reader.reader
   pub claims : new.seat.table ≡ old.seat.table
   pub consumer : new.seat.consumer ≡ old.seat.consumer
 
--- the consumer has met the end mark of lane p past these cells, and has a note on each of them
+-- the consumer has loaded the end mark of lane p past cells that it met there, and has as many notes there as these
+-- cells
 pub record HasReadToEnd (p : ℕ) (s : ConsumerView) : Type 0 where
   pub cells : List ℕ
   pub met : HasMet s.reader.reader p cells s.reader.part
   pub end : HasLoaded s.reader.reader (place_past p cells) END s.reader.part
   pub notes : length (notes_on p s.notes) ≡ length cells
 
--- it is so on each lane that is marked
+-- the consumer has read each marked lane to its end, and has a note on each cell there
 abbrev pub HasReadMarked : List Bool → ConsumerView → Type 0
 HasReadMarked marks s = (p : ℕ) → slice_index_or marks p false ≡ true → HasReadToEnd p s
 
@@ -48,13 +49,13 @@ abbrev pub count_marks : List Bool → ℕ
 count_marks [] = 0
 count_marks (b ∷ bs) = from_bool b + count_marks bs
 
--- a look that says that the lane has ended
+-- whether a look says that the lane has ended
 abbrev pub is_ended : Look → Bool
 is_ended look.Nothing = false
 is_ended look.Ended = true
 is_ended (look.Cell k) = false
 
--- a load of a head or a link that finds the end mark
+-- whether an access of this word is a load of a head or a link that finds the end mark
 abbrev pub tells_end : Word → PoolAct → Bool
 tells_end (Head p) (Load v) = is_ended (look_of v)
 tells_end (Link k) (Load v) = is_ended (look_of v)
@@ -78,8 +79,8 @@ pub record HasReadEnds (from end : ℕ) (s : ConsumerView) : Type 0 where
 abbrev pub IsOnLanes : ℕ → ℕ → History → Type 0
 IsOnLanes from end reads = (a : PoolAccess) (p : ℕ) → Has reads a → a.word ≡ Head p → (from ≤ p) × (p < end)
 
--- it was stopped before a call. It has made at least as many accesses as it had calls before that one, and at most
--- the budget times as many
+-- consumer c was stopped before a call, and has made `made` accesses. These are at least as many as it had calls
+-- before that one, and at most the budget times as many
 pub record IsStoppedPoll (may_stop : Who → ℕ → Type 0) (budget c made : ℕ) : Type 0 where
   pub call : ℕ
   pub first : 1 ≤ call
@@ -87,8 +88,8 @@ pub record IsStoppedPoll (may_stop : Who → ℕ → Type 0) (budget c made : �
   pub most : made ≤ budget * (call - 1)
   pub stop : IsStopBefore may_stop (who.Consumer c) call
 
--- a consumer has made calls, and the gate let each through. The first draws from this source, and each other from
--- what the call before it left. If it was stopped, it was stopped before the next call
+-- a consumer has made calls, and the gate let each through. The first call draws from this source, and each other
+-- from what the call before it left of the source. If the consumer was stopped, it was so before the next call
 pub record HasPolled (may_stop may_pass : Who → ℕ → Type 0) (from end budget : ℕ) (source : Stream) (stopped : Bool)
     (old new : ConsumerView) : Type 0 where
   pub calls : ℕ
@@ -97,11 +98,12 @@ pub record HasPolled (may_stop may_pass : Who → ℕ → Type 0) (from end budg
   pub stop : stopped ≡ true → IsStopBefore may_stop (who.Consumer old.seat.consumer) (suc calls)
 
 module _ {Z : Type 0} (may_stop may_pass : Who → ℕ → Type 0) where
-  -- the producer put a beginning of its list, and ended its lane. If it was not stopped, `full` counts the rest of
-  -- the list. If that is not 0, a fetch-add of its own found no cell. If it was stopped, `full` is 0. If it was
-  -- stopped and the run is not aborted, there is a rest, and it was stopped before the call of the next item. Then it has
-  -- a fetch-add that found no cell only if it had one before. If the run is not aborted, the gate let each of its calls
-  -- through. There is one for each item that it put, and one for the item that found no cell, if there is one
+  -- `d` is the end of job `j`: the producer put a beginning of its list, and ended its lane. If it was not stopped,
+  -- `full` counts the rest of the list. If that is not 0, a fetch-add of the producer found no cell. If it was
+  -- stopped, `full` is 0. If it was stopped and the run is not aborted, there is a rest, and it was stopped before
+  -- the call of the next item. Then it has a fetch-add that found no cell only if it had one before. If the run is
+  -- not aborted, the gate let each of its calls through. There is one for each item that it put, and one for the item
+  -- that found no cell, if there is one
   pub record IsPutEnd (j : PutJob Z) (d : PutDone Z) : Type 0 where
     pub same : IsSameLane j.producer d.producer
     pub over : is_over d.producer ≡ true
@@ -117,12 +119,12 @@ module _ {Z : Type 0} (may_stop may_pass : Who → ℕ → Type 0) where
     pub passed_full : d.aborted ≡ false → d.stopped ≡ false → d.full ≢ 0
         → may_pass (who.Producer j.producer.seat.lane) (suc (length d.producer.items))
 
-  -- if the consumer was not stopped, it has read each lane from `from` on and below `end` to its end mark. If the run
-  -- is not aborted, it has made its calls with this budget and the words of this source, and nothing else. The rest is
-  -- of a consumer that had made no access before. If it was not stopped, it has loaded as many end marks as there are of
-  -- these lanes. Stopped or not, it has loaded as many end marks as it has read of these lanes to their ends. If the
-  -- run is not aborted, it has looked at the heads of these lanes alone. If it was stopped and the run is not aborted,
-  -- it was stopped before a call, and has loaded fewer end marks
+  -- `d` is the end of consumer `s`: if it was not stopped, it has read each lane from `from` on and below `end` to
+  -- its end mark. If the run is not aborted, it has made its calls with this budget and the words of this source, and
+  -- nothing else. The rest is of a consumer that had made no access before. If it was not stopped, it has loaded as
+  -- many end marks as there are of these lanes. Stopped or not, it has loaded as many end marks as it has read of
+  -- these lanes to their ends. If the run is not aborted, it has looked at the heads of these lanes alone. If it was
+  -- stopped and the run is not aborted, it was stopped before a call, and has loaded fewer end marks
   pub record IsPollEnd (from end budget : ℕ) (source : Stream) (s : ConsumerView) (d : PollDone Z) : Type 0 where
     pub same : IsSameConsumer s d.consumer
     pub read : d.stopped ≡ false → (p : ℕ) → from ≤ p → p < end → HasReadToEnd p d.consumer

@@ -8,23 +8,24 @@ use Rattle.mb_mailbox.specs.declared.notes.Mark.TheVariants as mark
 use Rattle.mb_mailbox.specs.declared.notes.Noted.{Noted}
 use Rattle.mb_mailbox.specs.declared.notes.Noted.TheVariants as beside
 
--- the notes of each lane, and how many there is room for on all lanes together
+-- what proofs see of a consumer's notes: those on each lane, and how many there is room for on all lanes together
 pub record NotesView : Type 0 where
   pub lists : List (List Note)
   pub room : ℕ
 
--- the lane of a note with its lane, and the note
+-- the lane of a note that has its lane beside it
 abbrev pub lane_of : Noted → ℕ
 lane_of (beside.Took p x) = p
 lane_of (beside.Lost p w) = p
 lane_of (beside.Undecided p) = p
 
+-- the note of a note that has its lane beside it
 abbrev pub note_in : Noted → Note
 note_in (beside.Took p x) = Took x
 note_in (beside.Lost p w) = Lost w
 note_in (beside.Undecided p) = Undecided
 
--- a note with lane p
+-- the note with lane p beside it
 abbrev pub noted : ℕ → Note → Noted
 noted p (Took x) = beside.Took p x
 noted p (Lost w) = beside.Lost p w
@@ -57,7 +58,7 @@ abbrev pub words_among : List Mark → ℕ
 words_among [] = 0
 words_among (m ∷ ms) = words_in m + words_among ms
 
--- the note of a mark with its word
+-- the note that this mark and this word stand for
 abbrev pub told : Mark → ℕ → Noted
 told (mark.Took p) x = beside.Took p x
 told (mark.Lost p w) x = beside.Lost p w
@@ -73,10 +74,11 @@ abbrev pub told_from : ℕ → List Mark → List ℕ → List Noted
 told_from t [] ws = []
 told_from t (m ∷ ms) ws = told m (word_at ws t) ∷ told_from (t + words_in m) ms ws
 
+-- the notes of all these marks and words, in the order of time
 abbrev pub all_told : List Mark → List ℕ → List Noted
 all_told ms ws = told_from 0 ms ws
 
--- the marks have just these words, and each of them is of one of the first `lanes` lanes
+-- the marks have just these words, and each mark is of one of the first `lanes` lanes. There are at most 16 lanes
 pub record AreMarked (lanes : ℕ) (ms : List Mark) (ws : List ℕ) : Type 0 where
   pub few : lanes ≤ 16
   pub words : words_among ms ≡ length ws

@@ -7,15 +7,15 @@ use Rattle.mb_mailbox.specs.Consumers.{ConsumerView}
 use Rattle.mb_mailbox.specs.Steps.{with_note}
 use Rattle.mb_world.specs.declared.place.Place.{Place}
 
--- it stands at this place on lane p
+-- the consumer stands at this place on lane p
 abbrev pub HasPlace : ℕ → Place → ConsumerView → Type 0
 HasPlace p place s = slice_get s.places p ≡ Some place
 
--- some lawful history of the cells has its loads
+-- some lawful history of the cells has the consumer's loads as its reader's part
 abbrev pub HasLoads : ConsumerView → Type 0
 HasLoads s = HasHistory s.reader.table.size (Reader s.reader.reader) s.reader.part
 
--- the claim has made these turns
+-- the claim has made these turns, on the layout of the consumer's table
 abbrev pub HasTurns : ConsumerView → Claim → List ObjectTurn → Type 0
 HasTurns s claim xs =
     (size : TableSize) → s.seat.table.size ≡ Some size → IsClaimIn size.layout claim xs
@@ -30,9 +30,10 @@ moved_to p place note reads made s = record {
   notes = with_note p note s.notes;
 }
 
--- its loads with one more of the link at a cursor, and its loads with one more of an item
+-- the consumer's loads, with one more: of the link at this cursor
 abbrev pub reads_with_link : ConsumerView → Cursor → ℕ → History
 reads_with_link s at v = load s.reader.reader (word_of at) v ∷ s.reader.part
 
+-- the consumer's loads, with one more: of the item of cell k
 abbrev pub reads_with_item : ConsumerView → ℕ → ℕ → History
 reads_with_item s k v = load s.reader.reader (Item k) v ∷ s.reader.part

@@ -6,18 +6,18 @@ use Rattle.mb_mailbox.specs.LaneNotes.{NotesView}
 use Rattle.mb_world.specs.declared.place.Place.{Place}
 use Rattle.mb_world.specs.declared.place.Place.TheVariants.{Before}
 
--- the places are before the heads of this many lanes
+-- these are places before the heads of this many lanes
 pub record AreHeads (lanes : ℕ) (places : List Place) : Type 0 where
   pub count : length places ≡ lanes
   pub each : (p : ℕ) (place : Place) → slice_get places p ≡ Some place → place ≡ Before (Head p)
 
--- no note on any of this many lanes, and room for at least `most` notes
+-- there is no note on any of this many lanes, and room for at least `most` notes
 pub record AreNoNotes (lanes most : ℕ) (notes : NotesView) : Type 0 where
   pub count : length notes.lists ≡ lanes
   pub empty : (p : ℕ) (list : List Note) → slice_get notes.lists p ≡ Some list → list ≡ []
   pub room : most ≤ notes.room
 
--- `lanes` empty lists, one for each lane
+-- these are `lanes` empty lists, one for each lane
 pub record AreEmptyLists {Z : Type 0} (lanes : ℕ) (lists : List (Vec Note Z)) : Type 0 where
   pub count : length lists ≡ lanes
   pub empty : (p : ℕ) (v : Vec Note Z) → slice_get lists p ≡ Some v → v.items ≡ []

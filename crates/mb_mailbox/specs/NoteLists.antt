@@ -4,7 +4,7 @@ use Rattle.mb_mailbox.specs.Imports.{Note}
 use Rattle.mb_mailbox.specs.LaneNotes.{NotesView}
 use Rattle.mb_mailbox.specs.Steps.{with_note}
 
--- there is such a lane, and room for one more note
+-- lane p is a lane of these notes, and there is room for one more note
 pub record HasRoom (p : ℕ) (notes : NotesView) : Type 0 where
   pub lane : p < length notes.lists
   pub room : sum_by length notes.lists < notes.room

@@ -4,7 +4,7 @@ use Rattle.mb_shared_cells.specs.Vocabulary.{HasHistory, LaneSeatView}
 use Rattle.mb_mailbox.specs.Imports.{Producer}
 use Rattle.mb_mailbox.specs.Producers.{ProducerView}
 
--- some lawful history has the seat's part, and the producer stands at the place of that part
+-- some lawful history has the seat's part, and the seat's place is the one to which that part leads
 pub record HasPart (s : LaneSeatView) : Type 0 where
   pub history : HasHistory s.table.size (Producer s.lane) s.part
   pub place : IsLaneAfter s.table.size.cells s.lane s.place s.part

@@ -6,12 +6,12 @@ use Rattle.mb_world.specs.Reporting.{values_put}
 use Rattle.mb_mailbox.specs.Imports.{END, Item, has_ended}
 use Rattle.mb_mailbox.specs.Mailboxes.{MailboxView}
 
--- its seat, and the items, the first put first
+-- what proofs see of a producer: its seat, and the items that it put, the first put first
 pub record ProducerView : Type 0 where
   pub seat : LaneSeatView
   pub items : List ℕ
 
--- what each producer keeps: its items are those that its part puts into the lane, and no item waits for its link
+-- this holds of each producer: its items are those that its part puts into the lane, and no item waits for its link
 pub record IsProducer (s : ProducerView) : Type 0 where
   pub items : s.items ≡ values_put s.seat.lane s.seat.part
   pub idle : push_store s.seat.lane s.seat.place ≡ None
@@ -20,20 +20,20 @@ pub record IsProducer (s : ProducerView) : Type 0 where
 pub record IsProducerOf (m : MailboxView) (s : ProducerView) : Type 0 where
   pub table : s.seat.table ≡ m.cells
 
--- it has the same table and lane
+-- the producer has the same table and lane as before
 pub record IsSameLane (old new : ProducerView) : Type 0 where
   pub table : new.seat.table ≡ old.seat.table
   pub lane : new.seat.lane ≡ old.seat.lane
 
--- whether its lane has ended, by what it did
+-- whether the producer's lane has ended, by the producer's part
 abbrev pub is_over : ProducerView → Bool
 is_over s = has_ended s.seat.lane s.seat.part
 
--- a fetch-add of its own found no cell
+-- a fetch-add of the producer found no cell
 abbrev pub FoundNoCell : ProducerView → Type 0
 FoundNoCell s = HasFoundNone s.seat.table.size.cells s.seat.lane s.seat.part
 
--- x was put in cell k: three accesses more, and x at the end of its items
+-- the producer put x into cell k: it made three accesses more, and has x at the end of its items
 pub record IsPutInto (k x : ℕ) (old new : ProducerView) : Type 0 where
   pub same : IsSameLane old new
   pub within : k < old.seat.table.size.cells
@@ -43,7 +43,7 @@ pub record IsPutInto (k x : ℕ) (old new : ProducerView) : Type 0 where
       ∷ fetch old.seat.lane (record { cell = k; value = x }) ∷ old.seat.part
   pub items : new.items ≡ old.items ++ x ∷ []
 
--- a fetch-add for x, the first of its own that found no cell, and nothing else
+-- the producer made a fetch-add for x, the first of its own that found no cell, and did nothing else
 pub record IsFirstPastCells (x : ℕ) (old new : ProducerView) : Type 0 where
   pub first : FoundNoCell old → ⊥
   pub same : IsSameLane old new
@@ -52,7 +52,7 @@ pub record IsFirstPastCells (x : ℕ) (old new : ProducerView) : Type 0 where
   pub part : new.seat.part ≡ fetch old.seat.lane (record { cell = found; value = x }) ∷ old.seat.part
   pub items : new.items ≡ old.items
 
--- nothing at all, since a fetch-add of its own found no cell before
+-- the producer did nothing at all, since a fetch-add of its own had found no cell before
 pub record IsPastCells (old new : ProducerView) : Type 0 where
   pub before : FoundNoCell old
   pub same : new ≡ old
@@ -61,7 +61,7 @@ pub record IsPastCells (old new : ProducerView) : Type 0 where
 abbrev pub HasNoCellFor : ℕ → ProducerView → ProducerView → Type 0
 HasNoCellFor x old new = IsFirstPastCells x old new ⊎ IsPastCells old new
 
--- the end mark was stored, and nothing else was done
+-- the producer stored the end mark, and did nothing else
 pub record IsEndOfLane (old new : ProducerView) : Type 0 where
   pub same : IsSameLane old new
   pub part : new.seat.part ≡ store old.seat.lane (next_link old.seat.lane old.seat.place) END ∷ old.seat.part

@@ -12,7 +12,8 @@ use Rattle.mb_mailbox.specs.Moves.{moved_to}
 use Rattle.mb_world.specs.Places.{place_after}
 use Rattle.mb_mailbox.specs.Steps.{AreSteps, HasNoteOnEach, outcome}
 
--- ---- the consumer of these fields
+-- ---- a consumer by its fields
+-- the consumer with these seats, places and notes
 abbrev pub consumer_with : ReaderSeatView → SeatView → List Place → NotesView → ConsumerView
 consumer_with reader seat places notes =
     record { reader = reader; seat = seat; places = places; notes = notes.lists }
@@ -28,7 +29,8 @@ competed p k claim seat s =
     moved_to p (place_after k claim (claim_stage claim)) (note_of (claim_stage claim)) s.reader.part
     seat.part s
 
--- from a start on, this many accesses led a consumer there
+-- n accesses on lane p led from the consumer `from` to `s` as it is after its claim on cell k came to `claim`. Its
+-- seat of the claims is then `seat`
 pub record HasCompeted (p k n : ℕ) (claim : Claim) (t u : Stream) (from s : ConsumerView)
     (seat : SeatView) : Type 0 where
   pub same : seat ≡ record s.seat { part = seat.part }
@@ -36,14 +38,15 @@ pub record HasCompeted (p k n : ℕ) (claim : Claim) (t u : Stream) (from s : Co
   pub is : IsConsumer (competed p k claim seat s)
 
 -- ---- the rest of a poll
--- what a poll can return after it has held a claim
+-- a poll can return this answer after it has held a claim
 abbrev pub IsOfClaim : Poll → Type 0
 IsOfClaim poll.Nothing = ⊥
 IsOfClaim poll.Ended = ⊥
 IsOfClaim poll.NoLane = ⊥
 IsOfClaim _ = Unit {0}
 
--- after n accesses on lane p, no more than `most` further ones come to this answer
+-- after n accesses on lane p, at most `most` further ones come to this answer. If the poll is spent, they are just as
+-- many
 pub record IsPursuit (p n most : ℕ) (answer : Poll) (t u : Stream) (from new : ConsumerView)
     : Type 0 where
   pub made : ℕ

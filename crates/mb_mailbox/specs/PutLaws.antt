@@ -10,7 +10,7 @@ use Rattle.mb_cells.specs.Vocabulary.{Entry, HasFoundNone, IsLaneAfter, IsLinkWo
 use Rattle.mb_cells.specs.Vocabulary.{fetch, finish_refusal, offer_refusal, put_list, store}
 use Rattle.mb_mailbox.specs.Imports.{END, Has, History, IsPoolLawful, Item, PoolSize, Producer, has_ended, part}
 
--- what is known of the parts and of the lanes of lawful histories
+-- the laws on which a producer's calls stand: of the parts and of the lanes of lawful histories
 pub record PutLaws : Type 0 where
   pub few : (size : PoolSize) (h : History) (p : ℕ) → IsPoolLawful size h → length (put_list p h) ≤ size.cells
   pub put : (size : PoolSize) (h : History) (p : ℕ) → IsPoolLawful size h

@@ -33,8 +33,8 @@ pub record IsReportedRun (may_stop may_pass : Who → ℕ → Type 0) (terms : T
   pub hub : HubView
   pub of : IsHubOf mailbox hub
   pub counts : Worked
-  -- a worker was stopped only before a call at which the gate may stop it, or before call 2^64 - 1. Each other producer
-  -- has put its list, or a fetch-add of it found no cell. Each other consumer has a note at each item
+  -- a worker was stopped only before a call at which the gate may stop it, or before call 2^64 - 1. Each other
+  -- producer has put its list, or a fetch-add of its own found no cell. Each other consumer has a note at each item
   pub worked : IsWorked may_stop terms.budget lists (length terms.sources) counts (hub_empty mailbox) hub
   -- each call of a consumer is a poll with this budget, and draws from the consumer's own source
   pub called : IsCalled may_stop may_pass terms.budget lists terms.sources counts (hub_empty mailbox) hub

@@ -12,7 +12,7 @@ use Rattle.mb_mailbox.specs.Consumers.{ConsumerView, parts_of}
 use Rattle.mb_mailbox.specs.ConsumerStep.{ConsumerStep}
 
 -- ---- random words
--- the words (the last first) are the next of the source `s`, and `t` is what is left after them
+-- the words (the last first) are the next of the source `s`, and `t` is the source after them
 abbrev pub AreDrawn : Stream → List ℕ → Stream → Type 0
 AreDrawn s [] t = t ≡ s
 AreDrawn s (w ∷ ws) t = (u : Stream) × AreDrawn s ws u × ((w, t) ≡ next_u64 u)
@@ -44,17 +44,18 @@ note_with (Some (poll.Lost w)) = Some (Lost w)
 note_with (Some poll.Undecided) = Some Undecided
 note_with _ = None
 
--- the notes of a lane
+-- the notes on lane p, or none if there is no such lane
 abbrev pub notes_on : ℕ → List (List Note) → List Note
 notes_on p notes = option_map_or (λ ns. ns) (slice_get notes p) []
 
--- the notes with one more on lane p, if there is one
+-- the notes of all lanes, with one more on lane p if there is a note to add
 abbrev pub with_note : ℕ → Option Note → List (List Note) → List (List Note)
 with_note p None notes = notes
 with_note p (Some n) notes = slice_set notes p (notes_on p notes ++ n ∷ [])
 
--- these accesses were made, the newest first, and nothing else. The parts have just these more. The notes have just
--- the one more that comes with the answer, if one does
+-- ---- what accesses make of a consumer
+-- the consumer made these accesses on lane p, the newest first, and nothing else. Its parts have just these more. Its
+-- notes have just the one more that comes with the answer, if one does
 pub record HasDone (p : ℕ) (done : WorldHistory) (answer : Option Poll) (old new : ConsumerView)
     : Type 0 where
   pub reader : new.reader ≡ record old.reader { part = pool_accesses done ++ old.reader.part }
@@ -62,7 +63,7 @@ pub record HasDone (p : ℕ) (done : WorldHistory) (answer : Option Poll) (old n
   pub notes : new.notes ≡ with_note p (note_with answer) old.notes
 
 -- ---- steps and polls
--- one step on lane p: one access and what it comes to
+-- the consumer made one step on lane p: one access, which comes to this answer or to none
 pub record IsStep (p : ℕ) (answer : Option Poll) (s t : Stream) (old new : ConsumerView)
     : Type 0 where
   pub access : WorldAccess
@@ -70,7 +71,7 @@ pub record IsStep (p : ℕ) (answer : Option Poll) (s t : Stream) (old new : Con
   pub leads : LeadTo p answer (access ∷ []) old
   pub drawn : AreDrawn s (drawn_words (access ∷ [])) t
 
--- n steps on lane p. The last comes to this answer, or to none yet
+-- the consumer made n steps on lane p. The last comes to this answer, or to none yet
 pub record AreSteps (p n : ℕ) (answer : Option Poll) (s t : Stream) (old new : ConsumerView)
     : Type 0 where
   pub accesses : WorldHistory
@@ -84,7 +85,7 @@ abbrev pub outcome : Poll → Option Poll
 outcome poll.Spent = None
 outcome answer = Some answer
 
--- a poll of lane p with this budget and this answer
+-- the consumer made a poll of lane p with this budget and this answer
 pub record IsPollOf (p budget : ℕ) (answer : Poll) (s t : Stream) (old new : ConsumerView)
     : Type 0 where
   -- the accesses that it made, the newest first. The parts have just these more, and a note comes with the answer
@@ -103,20 +104,20 @@ pub record IsPollOf (p budget : ℕ) (answer : Poll) (s t : Stream) (old new : C
 abbrev pub HasNoteOnEach : ℕ → ConsumerView → Type 0
 HasNoteOnEach p s = length (notes_on p s.notes) ≡ length (cells_met p s.reader.part)
 
--- it has loaded the end mark past the last cell that it met there, or at the lane's head
+-- the consumer has loaded the end mark past the last cell that it met on lane p, or at the lane's head
 abbrev pub HasLoadedEnd : ℕ → ConsumerView → Type 0
 HasLoadedEnd p s = HasRead (place_past p (cells_met p s.reader.part)) END s.reader.part
 
--- it has met all cells of lane p. Its producer did `theirs`, and the consumer has as many notes there as that put
--- items. `over` says whether the lane has ended
+-- the consumer has met all cells of lane p. The lane's producer did `theirs`, and the consumer has as many notes
+-- there as that put items. `over` says whether the lane has ended
 pub record HasReadWhole (p : ℕ) (theirs : History) (over : Bool) (s : ConsumerView) : Type 0 where
   pub cells : cells_met p s.reader.part ≡ linked_cells p theirs
   pub notes : length (notes_on p s.notes) ≡ length (values_put p theirs)
   pub ended : has_ended p theirs ≡ over
 
--- what an answer says of lane p
+-- this holds of lane p after accesses with this answer
 pub record AnswerTells (p : ℕ) (answer : Option Poll) (old new : ConsumerView) : Type 0 where
-  -- if there is one, the consumer holds no claim there, and has a note on each cell that it met
+  -- if there is an answer, the consumer holds no claim there, and has a note on each cell that it met
   pub noted : answer ≢ None → HasNoteOnEach p new
   -- if the answer is `Ended`, the consumer has loaded the end mark
   pub ended : answer ≡ Some poll.Ended → HasLoadedEnd p new

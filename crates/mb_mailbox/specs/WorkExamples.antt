@@ -10,14 +10,14 @@ use Rattle.mb_mailbox.specs.Producers.{ProducerView}
 use Rattle.mb_mailbox.specs.Worked.{ConsumerLeft, LaneLeft}
 use Rattle.mb_mailbox.specs.declared.gate.Who.{Who}
 
--- the producer of lane 0 at this place, which has done this and put these items
+-- the producer of lane 0 at this place, with this part and these items. Its pool has one lane and one cell
 abbrev pub producer_of_one : CellsName → Lane → History → List ℕ → ProducerView
 producer_of_one name place done items = record {
   seat = record { table = record name { size = pool_size 1 1 }; lane = 0; place = place; part = done };
   items = items;
 }
 
--- it has done nothing
+-- the producer of lane 0 that has done nothing
 abbrev pub idle_producer : CellsName → ProducerView
 idle_producer name = producer_of_one name new_lane [] []
 
@@ -29,31 +29,31 @@ has_linked = record { last = Some 0; stage = stage.Open }
 abbrev pub fetched : ℕ → ℕ → History
 fetched n x = fetch 0 (record { cell = n; value = x }) ∷ []
 
--- 7 is put into cell 0
+-- the part of a producer that has put 7 into cell 0
 abbrev pub seven_put : History
 seven_put = store 0 (Head 0) 1 ∷ store 0 (Item 0) 7 ∷ fetched 0 7
 
--- the cell is linked before its item is stored
+-- a part in which the cell is linked before its item is stored. No put does this
 abbrev pub linked_early : History
 linked_early = store 0 (Item 0) 7 ∷ store 0 (Head 0) 1 ∷ fetched 0 7
 
--- what a producer that was not stopped left: these items, and what it did
+-- what a producer that was not stopped came to: these items, and this part
 abbrev pub lane_left : List ℕ → History → LaneLeft
 lane_left items done = record { put = items; part = done; stopped = false }
 
--- what a producer that was stopped left
+-- what a producer that was stopped came to: these items, and this part
 abbrev pub stopped_lane : List ℕ → History → LaneLeft
 stopped_lane items done = record { put = items; part = done; stopped = true }
 
--- a ledger with these notes on lane 0
+-- the record of a consumer with these notes on lane 0
 abbrev pub ledger_with : List Note → ConsumerRecordView
 ledger_with notes = record { places = []; notes = notes ∷ [] }
 
--- what a stopped consumer left, if it has loaded this of the cells
+-- what a stopped consumer came to, if it has loaded this from the cells
 abbrev pub reader_left : History → ConsumerLeft
 reader_left reads = record { ledger = ledger_with []; reads = reads; claimed = []; stopped = true }
 
--- what this consumer left, which was stopped
+-- what this consumer came to, if it was stopped
 abbrev pub stopped_as : ConsumerView → ConsumerLeft
 stopped_as s = record {
   ledger = record { places = s.places; notes = s.notes };

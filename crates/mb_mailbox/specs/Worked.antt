@@ -12,18 +12,18 @@ use Rattle.mb_mailbox.specs.declared.gate.Who.{Who}
 use Rattle.mb_mailbox.specs.declared.gate.Who.TheVariants as who
 use Rattle.mb_mailbox.specs.declared.crew.Worked.{Worked}
 
--- there are more lists than lanes left, or more sources than numbers of consumers left
+-- there are more lists than lanes that were not given yet, or more sources than numbers of consumers that were not
 abbrev pub AsksTooMany : MailboxView → ℕ → ℕ → HubView → Type 0
 AsksTooMany m lists sources h =
     (m.cells.size.lanes - length h.puts < lists) ⊎ (consumer_count m.claims.layout - length h.ledgers < sources)
 
--- what a producer that was taken in left: the items that it put, its part, and whether it was stopped
+-- what a producer of a run came to: the items that it put, its part, and whether it was stopped
 pub record LaneLeft : Type 0 where
   pub put : List ℕ
   pub part : History
   pub stopped : Bool
 
--- what a consumer that was taken in left: its ledger, its two parts, and whether it was stopped
+-- what a consumer of a run came to: what the hub keeps of it, its two parts, and whether it was stopped
 pub record ConsumerLeft : Type 0 where
   pub ledger : ConsumerRecordView
   pub reads : History
@@ -34,12 +34,12 @@ pub record ConsumerLeft : Type 0 where
 abbrev pub ended_list : LaneLeft → PutListView
 ended_list l = record { items = l.put; ended = true }
 
--- the lists of a `Vec` of them
+-- the elements of each of these vectors
 abbrev pub lists_in : {Z : Type 0} → List (Vec ℕ Z) → List (List ℕ)
 lists_in vs = map (λ v. v.items) vs
 
--- the next numbers were given, one for each list and one for each source, and all of them were taken in. Each of
--- these lanes has ended, with a beginning of its list. The hub still has what it had taken in
+-- the hub gave the next numbers, one for each list and one for each source, and took all of them in. Each of these
+-- lanes has ended, with a beginning of its list. The hub still has what it had taken in before
 pub record IsRunOf (lists : List (List ℕ)) (sources : ℕ) (lanes : List LaneLeft) (consumers : List ConsumerLeft)
     (old new : HubView) : Type 0 where
   pub puts : new.puts ≡ old.puts ++ map (λ l. Some (ended_list l)) lanes
@@ -50,13 +50,14 @@ pub record IsRunOf (lists : List (List ℕ)) (sources : ℕ) (lanes : List LaneL
   pub claimed : new.claims.roll ≡ old.claims.roll ++ map (λ c. Some c.claimed) consumers
   pub count : length consumers ≡ sources
 
--- all that was given was taken in
+-- a producer was given for each list and a consumer for each source, and all of them were taken in
 pub record WereTakenIn (lists : List (List ℕ)) (sources : ℕ) (old new : HubView) : Type 0 where
   pub lanes : List LaneLeft
   pub consumers : List ConsumerLeft
   pub run : IsRunOf lists sources lanes consumers old new
 
--- the same, if only a front of these lists and at most this many consumers were given
+-- numbers were given only for a beginning of these lists, and for at most this many sources. All that was given was
+-- taken in
 pub record WereTakenInEarly (lists : List (List ℕ)) (sources : ℕ) (old new : HubView) : Type 0 where
   pub front : List (List ℕ)
   pub rest : List (List ℕ)
@@ -66,18 +67,19 @@ pub record WereTakenInEarly (lists : List (List ℕ)) (sources : ℕ) (old new :
   pub taken : WereTakenIn front given old new
 
 -- ---- items that were not put because no cell was left
--- how many items of its list a producer did not put, if it was not stopped
+-- how many items of its list a producer did not put. This is 0 if the producer was stopped
 abbrev pub items_behind : Bool → List ℕ → List ℕ → ℕ
 items_behind true list put = 0
 items_behind false list put = length list - length put
 
--- how many items these are of all lists
+-- how many items of all lists the producers that were not stopped did not put
 abbrev pub items_beyond : List (List ℕ) → List LaneLeft → ℕ
 items_beyond [] _ = 0
 items_beyond _ [] = 0
 items_beyond (list ∷ lists) (l ∷ ls) = items_behind l.stopped list l.put + items_beyond lists ls
 
--- the lanes from p on: if a producer was not stopped and put less than its list, a fetch-add of its own found no cell
+-- if the producer of a lane from p on was not stopped and put less than its list, a fetch-add of its own found no
+-- cell
 abbrev pub AreCutByCells : ℕ → ℕ → List (List ℕ) → List LaneLeft → Type 0
 AreCutByCells cells p [] [] = Unit {0}
 AreCutByCells cells p (list ∷ lists) (l ∷ ls) =
@@ -86,7 +88,7 @@ AreCutByCells cells p (list ∷ lists) (l ∷ ls) =
 AreCutByCells cells p _ _ = ⊥
 
 -- ---- notes
--- on the lanes from p on the consumer has a note at each item
+-- on each of these lanes, from p on, the consumer has as many notes as there are items: one at each
 abbrev pub HasNoteAtEach : ℕ → List LaneLeft → ConsumerRecordView → Type 0
 HasNoteAtEach p [] ledger = Unit {0}
 HasNoteAtEach p (l ∷ ls) ledger = (length (notes_on p ledger.notes) ≡ length l.put) × HasNoteAtEach (suc p) ls ledger
@@ -99,7 +101,7 @@ pub record HasMetEnd (c p : ℕ) (reads : History) : Type 0 where
   pub met : HasMet c p cells reads
   pub end : HasLoaded c (place_past p cells) END reads
 
--- some lanes are marked, perhaps none, each of them from `from` on and below `end`. The consumer has loaded the end
+-- some lanes are marked, perhaps none, each of them from `from` on and below `end`. Consumer c has loaded the end
 -- mark of each. It has loaded as many end marks as lanes are marked. Since a cell stands in one lane, it has loaded
 -- each of these once, and no other
 pub record HasMetEnds (from end c : ℕ) (reads : History) : Type 0 where
@@ -108,7 +110,8 @@ pub record HasMetEnds (from end c : ℕ) (reads : History) : Type 0 where
   pub met : (p : ℕ) → slice_index_or marks p false ≡ true → HasMetEnd c p reads
   pub once : ends_met reads ≡ count_marks marks
 
--- it is so for each of these consumers, with the numbers from c on
+-- each of these consumers, with the numbers from c on, has loaded the end marks of some lanes from `from` on and
+-- below `end`: each once, and no other end mark
 abbrev pub HaveMetEnds : ℕ → ℕ → ℕ → List ConsumerLeft → Type 0
 HaveMetEnds from end c [] = Unit {0}
 HaveMetEnds from end c (l ∷ ls) = HasMetEnds from end c l.reads × HaveMetEnds from end (suc c) ls
@@ -121,7 +124,8 @@ pub record IsStoppedPut (may_stop : Who → ℕ → Type 0) (cells p : ℕ) (lis
   pub had_cells : HasFoundNone cells p l.part → ⊥
   pub stop : IsStopBefore may_stop (who.Producer p) (suc (length l.put))
 
--- each producer of the lanes from p on that was stopped was stopped like this
+-- each producer of a lane from p on that was stopped was so before the put of its list's next item. Each of its
+-- fetch-adds found a cell
 abbrev pub AreStoppedPuts : (Who → ℕ → Type 0) → ℕ → ℕ → List (List ℕ) → List LaneLeft → Type 0
 AreStoppedPuts may_stop cells p [] [] = Unit {0}
 AreStoppedPuts may_stop cells p (list ∷ lists) (l ∷ ls) =
@@ -136,8 +140,9 @@ AreStoppedPolls may_stop budget c (l ∷ ls) =
     (l.stopped ≡ true → IsStoppedPoll may_stop budget c (length l.reads + length l.claimed))
     × AreStoppedPolls may_stop budget (suc c) ls
 
--- all that was given was taken in, and these are the counts. The gate may stop these workers before these calls, and
--- a poll makes at most `budget` accesses
+-- ---- the whole of a run
+-- a run came to its end: all that was given was taken in, and `w` has the counts. `may_stop` says before which calls
+-- the gate may stop which worker. A poll makes at most `budget` accesses
 pub record IsWorked (may_stop : Who → ℕ → Type 0) (budget : ℕ) (lists : List (List ℕ)) (sources : ℕ)
     (w : Worked) (old new : HubView)
     : Type 0 where

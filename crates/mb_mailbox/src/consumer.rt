@@ -70,7 +70,7 @@ impl<A: Allocator + Drop> Consumer<A> {
     ghost use Rattle.mb_mailbox.specs.Moves.{HasLoads};
 
     /// The two parts of a consumer fit each other. They determine its place on each lane and its notes there. Each of
-    /// them is the consumer's part of some lawful history. It computes nothing: its contract is a law of all
+    /// them is the consumer's part of some lawful history. This computes nothing: its contract is a law of all
     /// consumers.
     pub fn keeps_its_parts(&self)
         ensures parts { IsConsumer self.now }

@@ -170,13 +170,14 @@ pub fn consumers_left<A: Allocator + Drop, B: Allocator + Drop>(
     (mailbox.claims.layout().consumers() as usize).saturating_sub(hub.ledgers.len())
 }
 
+/// How many lanes the hub has given.
 fn lanes_given<A: Allocator + Drop>(hub: &Hub<A>) -> usize
     ensures { result ≡ length hub.now.puts }
 {
     hub.puts.len()
 }
 
-/// A mailbox has at most 16 lanes. It computes nothing: its contract is a law of all mailboxes.
+/// A mailbox has at most 16 lanes. This computes nothing: its contract is a law of all mailboxes.
 fn lanes_are_few<B: Allocator + Drop>(mailbox: &Mailbox<B>)
     ensures { mailbox.now.cells.size.lanes ≤ 16 }
 {
@@ -184,7 +185,7 @@ fn lanes_are_few<B: Allocator + Drop>(mailbox: &Mailbox<B>)
     let _ = &mailbox.cells;
 }
 
-/// The numbers of consumers have 32 bits. It computes nothing: its contract is a law of all mailboxes.
+/// The numbers of consumers have 32 bits. This computes nothing: its contract is a law of all mailboxes.
 fn consumers_are_few<B: Allocator + Drop>(mailbox: &Mailbox<B>)
     ensures { consumer_count mailbox.now.claims.layout < 2 ^ 32 }
 {
@@ -206,7 +207,7 @@ fn next_lanes(given: usize, lists: usize, budget: u64) -> Lanes
     }
 }
 
-/// A run, after room was taken for all its lists.
+/// The rest of [`work`], after numbers and budget were tested and room was taken for all the run's lists.
 fn work_with<
     A: Allocator + Clone + Drop + Send + Sync,
     W: Threads + Wait + Sync,
@@ -266,8 +267,8 @@ fn work_with<
     }
 }
 
-/// Takes all of them in, and returns what the run came to. There is a fault exactly if one of the ends says that the
-/// run is aborted.
+/// Takes the workers of all these ends in, and returns what the run came to. There is a fault exactly if one of the
+/// ends says that the run is aborted.
 fn settle<A: Allocator + Drop, B: Allocator + Drop>(
     mailbox: &Mailbox<B>,
     hub: &mut Hub<A>,

@@ -32,14 +32,15 @@ use mb_claim::laws::prefixes_have_one_stage;
 
 /// What a consumer does next on a lane, and what that comes to.
 pub fn consumers_go_on()
-    // It looks at the head. Nothing is there yet, or the lane has ended, or it has met a cell, without an answer.
+    // The consumer looks at the head. Nothing is there yet, or the lane has ended, or it has met a cell, without an
+    // answer.
     ensures waits { (cs : Claims)
         → ConsumerStep cs 0 0 nothing_done (head_loaded 0) (Some poll.Nothing) }
     ensures ends { (cs : Claims)
         → ConsumerStep cs 0 0 nothing_done (head_loaded END) (Some poll.Ended) }
     ensures finds { (cs : Claims) → ConsumerStep cs 0 0 nothing_done (head_loaded 5) None }
 
-    // Its claim there is going. The last step may lose it, and then the consumer looks on.
+    // The consumer's claim on the cell is going. The last step may lose it, and then the consumer looks on.
     ensures loses { (cs : Claims) (t : ObjectTurn) (xs : List ObjectTurn)
         → IsClaimPrefix cs 0 xs stage.Going → IsClaimPrefix cs 0 (t ∷ xs) (stage.Lost 1)
         → ConsumerStep cs 0 0 (met_four xs) (claim_step 0 4 t) (Some (poll.Lost 1)) }
@@ -47,7 +48,7 @@ pub fn consumers_go_on()
         → IsClaimPrefix cs 0 xs (stage.Lost 1)
         → ConsumerStep cs 0 0 (met_four xs) (link_loaded 0) (Some poll.Nothing) }
 
-    // It is won: the item is taken.
+    // The claim is won: the consumer takes the item.
     ensures takes { (cs : Claims) (xs : List ObjectTurn) → IsClaimPrefix cs 0 xs stage.Won
         → ConsumerStep cs 0 0 (met_four xs) (item_load 0 4 8) (Some (poll.Took 8)) }
 {
@@ -56,17 +57,17 @@ pub fn consumers_go_on()
 
 /// What a consumer does not do, and which answers it does not get.
 pub fn consumers_keep_to_their_path()
-    // It does not load the head of another lane, and it does not return `Nothing` if a cell is linked.
+    // The consumer does not load the head of another lane, and it does not return `Nothing` if a cell is linked.
     ensures other_lane { (cs : Claims)
         → ConsumerStep cs 0 0 nothing_done (link_load 0 1 [] 0) (Some poll.Nothing) → ⊥ }
     ensures linked { (cs : Claims)
         → ConsumerStep cs 0 0 nothing_done (head_loaded 5) (Some poll.Nothing) → ⊥ }
 
-    // It makes no access of a claim on a cell that it has not met.
+    // The consumer makes no access of a claim on a cell that it has not met.
     ensures unmet { (cs : Claims) (t : ObjectTurn) (xs : List ObjectTurn) (answer : Option Poll)
         → ConsumerStep cs 0 0 (met_four xs) (claim_step 0 3 t) answer → ⊥ }
 
-    // It does not look past a claim that is going, nor past one that is won if the item was not loaded.
+    // The consumer does not look past a claim that is going, nor past one that is won if the item was not loaded.
     ensures passed { (cs : Claims) (xs : List ObjectTurn) (answer : Option Poll)
         → IsQuorumTable cs.table → IsClaimPrefix cs 0 xs stage.Going
         → ConsumerStep cs 0 0 (met_four xs) (link_loaded 0) answer → ⊥ }
@@ -74,7 +75,7 @@ pub fn consumers_keep_to_their_path()
         → IsClaimPrefix cs 0 xs stage.Won
         → ConsumerStep cs 0 0 (met_four xs) (link_loaded 0) answer → ⊥ }
 
-    // It does not load an item that another has won, and a claim that is won is not undecided.
+    // The consumer does not load an item that another has won, and a claim that is won is not undecided.
     ensures lost { (cs : Claims) (xs : List ObjectTurn) (answer : Option Poll)
         → IsQuorumTable cs.table → IsClaimPrefix cs 0 xs (stage.Lost 1)
         → ConsumerStep cs 0 0 (met_four xs) (item_load 0 4 8) answer → ⊥ }
@@ -85,7 +86,7 @@ pub fn consumers_keep_to_their_path()
     prefixes_have_one_stage();
 }
 
-/// What a poll is not. It ends with its first answer. It is spent, or has another answer, only by its accesses.
+/// What a poll is not. A poll ends with its first answer. It is spent, or has another answer, only by its accesses.
 pub fn polls_end_with_their_answer()
     ensures goes_on { (s : ConsumerView) (a : WorldAccess) (answer : Option Poll)
         → LeadTo 0 answer (a ∷ link_load s.seat.consumer 0 [] 0 ∷ []) s → ⊥ }
@@ -95,7 +96,7 @@ pub fn polls_end_with_their_answer()
         → IsPollOf 0 2 (poll.Took 5) s t old old → ⊥ }
 {}
 
-/// What a put adds if its item is linked.
+/// A put whose item is linked makes three accesses: it stores the item before it links the cell. It keeps the item.
 pub fn puts_make_three_accesses()
     ensures linked { (name : CellsName) → IsPutInto 0 7 (idle_producer name)
         (producer_of_one name has_linked seven_put (7 ∷ [])) }
@@ -120,7 +121,7 @@ pub fn puts_are_full_for_a_reason()
         → ⊥ }
 {}
 
-/// What workers leave: items that were not put, a lane that is cut short, and notes.
+/// What the workers of a run came to: items that were not put, a lane that is cut short, and notes.
 pub fn workers_are_counted()
     ensures beyond { items_beyond ((1 ∷ 2 ∷ 3 ∷ []) ∷ []) (lane_left (1 ∷ []) [] ∷ []) ≡ 2 }
     ensures stopped { items_beyond ((1 ∷ 2 ∷ 3 ∷ []) ∷ []) (stopped_lane (1 ∷ []) [] ∷ []) ≡ 0 }

@@ -26,7 +26,7 @@ use std::marker::Model;
 pub enum HubFault {
     /// All numbers of the setup were given.
     AllGiven,
-    /// The allocator refused the memory that it needs.
+    /// The allocator refused the memory that the producer or consumer needs.
     NoMemory,
 }
 
@@ -85,8 +85,8 @@ impl<A: Allocator + Drop> Hub<A> {
     ghost use Rattle.mb_mailbox.specs.Hubs.{with_taken_consumer, with_taken_producer};
     ghost use Rattle.mb_mailbox.specs.Producers.{IsProducerOf};
 
-    /// What every hub keeps. The parts of the cells that it has taken in are those of one lawful history. It computes
-    /// nothing: its contract is a law of all hubs.
+    /// This holds of every hub. The parts of the cells that it has taken in are those of one lawful history. This
+    /// computes nothing: its contract is a law of all hubs.
     pub fn has_history(&self)
         ensures kept { IsHub self.now }
         ensures pool { (pool : History)

@@ -11,17 +11,18 @@
 //!    cell's number in the last link of its lane. From that third access on every consumer can meet the item.
 //! 2. [`Consumer::poll`] loads the link before which the consumer stands. If it leads to a cell, the consumer goes
 //!    through that cell's deciding objects in order. It begins with its own number, and goes on with the number that
-//!    the last one gave. With a fast path two ratifiers come first. Then come pairs of a conciliator and a ratifier,
-//!    and then the last object, if there is one. The first object that decides ends the claim. It is won if the number
-//!    is the consumer's own, else lost to the consumer of that number. After a row without a last object it may be
-//!    undecided. A consumer that has won loads the item. Then the consumer stands before that cell's link.
+//!    the object before returned. With a fast path two ratifiers come first. Then come pairs of a conciliator and a
+//!    ratifier, and then the last object, if there is one. The first object that decides ends the claim. The claim is
+//!    won if the number is the consumer's own, else lost to the consumer of that number. After a row without a last
+//!    object it may be undecided. A consumer that has won loads the item. Then the consumer stands before that cell's
+//!    link.
 //! 3. [`Producer::finish`] stores an end mark in place of the next link. A consumer that meets it has met the whole
 //!    lane.
 //! 4. The [`Hub`] takes everybody in, and [`Mailbox::gather`] makes the report of what each of them kept.
 //!
 //! # Why at most one takes an item
 //!
-//! If a ratifier decides on a number for one consumer, it gives that number to all that come through it. So does a
+//! If a ratifier decides on a number for one consumer, it returns that number to all that come through it. So does a
 //! last object. So all claims on a cell that are decided name one winner. Lanes and claims need no common order:
 //! docs/MODEL.md says why.
 //!

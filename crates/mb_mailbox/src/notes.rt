@@ -82,6 +82,7 @@ impl Mark {
 }
 
 impl Noted {
+    /// The lane of the note.
     fn lane(self) -> u32
         ensures { result ≡ lane_of self }
     {
@@ -92,6 +93,7 @@ impl Noted {
         }
     }
 
+    /// The note without its lane.
     fn note(self) -> Note
         ensures { result ≡ note_in self }
     {
@@ -167,7 +169,7 @@ impl<A: Allocator + Clone + Drop> Notes<A> {
     ghost use Rattle.std.specs.Prelude.{◌≡◌, ◌≤◌, IfOk, map};
     ghost use Rattle.mb_mailbox.specs.NewConsumers.{AreNoNotes};
 
-    /// No note yet on this many lanes, and room for this many notes.
+    /// The notes of a new consumer: none yet on this many lanes, and room for this many.
     pub(crate) fn new(alloc: A, lanes: u32, room: usize) -> Result<Notes<A>, NoMemory>
         requires { lanes ≤ 16 }
         ensures { IfOk result (λ notes. AreNoNotes lanes room notes) }

@@ -24,12 +24,14 @@ impl<A: Allocator + Drop> Model for PutList<A> {
 /// The notes of a consumer that was taken in.
 #[derive(Drop)]
 pub(crate) enum Kept<A: Allocator + Drop> {
+    /// Marks and words, as the consumer had them.
     Marked(Notes<A>),
     /// A list for each lane.
     Cut(Vec<Vec<Note, A>, A>),
 }
 
-/// What is kept of a consumer that was taken in: its place on each lane, and its notes there.
+/// What is kept of a consumer that was taken in: its place on each lane, and its notes there. Fields call it a
+/// ledger.
 #[derive(Drop)]
 pub(crate) struct ConsumerRecord<A: Allocator + Drop> {
     pub(crate) places: ArrayVec<Place, 16>,
@@ -53,7 +55,7 @@ impl<A: Allocator + Drop> ConsumerRecord<A> {
     ghost use Rattle.mb_world.specs.Places.{has_begun_at};
     ghost use Rattle.mb_mailbox.specs.Steps.{notes_on};
 
-    /// Whether it holds a claim on lane `p` and the claim has made an access.
+    /// Whether the consumer holds a claim on lane `p` and the claim has made an access.
     pub(crate) fn begun(&self, p: u32) -> bool
         ensures { result ≡ option_map_or has_begun_at (slice_get self.now.ledger.places p) false }
     {
@@ -63,7 +65,7 @@ impl<A: Allocator + Drop> ConsumerRecord<A> {
         }
     }
 
-    /// Its note on the item at position `j` of lane `p`.
+    /// The consumer's note on the item at position `j` of lane `p`.
     pub(crate) fn note(&self, p: u32, j: usize) -> Option<Note>
         requires cut { self.now.is_cut ≡ true }
         ensures { result ≡ slice_get (notes_on p self.now.ledger.notes) j }
@@ -74,7 +76,8 @@ impl<A: Allocator + Drop> ConsumerRecord<A> {
         }
     }
 
-    /// How many items of lane `p` it took, if its notes are cut. It only says how much room to take.
+    /// How many items of lane `p` the consumer took, if its notes are cut by lane. It only says how much room to
+    /// take.
     pub(crate) fn count_taken(&self, p: u32) -> usize {
         let mut count: usize = 0;
         if let Kept::Cut(lists) = &self.notes {

@@ -27,7 +27,7 @@ use mb_claim::steps::accesses_lengthen_one_part;
 use mb_shared_cells::laws::known_lanes_are_read_whole;
 use mb_world::steps::{loads_meet_cells, parts_fit_on};
 
-/// What the laws of the crates below say of the parts of one consumer.
+/// The laws of the crates below on which a consumer's moves stand, in one record.
 fn laws_hold()
     ensures { Laws }
 {
@@ -46,7 +46,7 @@ fn laws_hold()
 
 /// What an access makes of a consumer, and what its place lets it do.
 pub(super) fn consumers_move_on()
-    // Before a link it may load that link.
+    // Before a link the consumer may load that link.
     ensures may_look { (s : ConsumerView) (p : ℕ) (at : Cursor) → IsConsumer s → HasLoads s
         → HasPlace p (Before at) s
         → MayRead s.reader.table.size.lanes (word_of at) s.reader.part }
@@ -56,7 +56,7 @@ pub(super) fn consumers_move_on()
         → HasPlace p (Before at) s → (v ≡ 0) ⊎ (v ≡ END)
         → IsConsumer (moved_to p (Before at) None (reads_with_link s at v) s.seat.part s) }
 
-    // If it leads to a cell, the consumer then holds a new claim there.
+    // If the link leads to a cell, the consumer then holds a new claim there.
     ensures finds { (s : ConsumerView) (p k : ℕ) (at : Cursor) (claim : Claim) → IsConsumer s
         → HasLoads s → HasPlace p (Before at) s → k + 1 ≢ END
         → IsAccessAfter s.reader.table.size s.reader.known
@@ -65,8 +65,8 @@ pub(super) fn consumers_move_on()
         → HasTurns s claim []
         → IsConsumer (moved_to p (At k claim) None (reads_with_link s at (k + 1)) s.seat.part s) }
 
-    // A claim that it holds is its own, is on a cell that it was given, and goes on or is won. There is room for its
-    // note.
+    // A claim that the consumer holds is its own, is on a cell that its loads gave, and goes on or is won. There is
+    // room for its note.
     ensures own { (s : ConsumerView) (p k : ℕ) (claim : Claim) → IsConsumer s
         → HasPlace p (At k claim) s → consumer_of claim ≡ s.seat.consumer }
     ensures turns { (s : ConsumerView) (p k : ℕ) (claim : Claim) → IsConsumer s
@@ -90,7 +90,7 @@ pub(super) fn consumers_move_on()
         → IsConsumer (moved_to p (place_after k now (claim_stage now)) (note_of (claim_stage now))
         s.reader.part made s) }
 
-    // If the claim is won, it loads the item.
+    // If the claim is won, the consumer loads the item, and then stands past the cell with a note.
     ensures takes { (s : ConsumerView) (p k v : ℕ) (claim : Claim) → IsConsumer s → HasLoads s
         → HasPlace p (At k claim) s → claim_stage claim ≡ stage.Won
         → IsConsumer (moved_to p (Before (Past k)) (Some (Took v)) (reads_with_item s k v)
@@ -101,13 +101,13 @@ pub(super) fn consumers_move_on()
 
 /// The next access of a consumer on a lane, by its place there.
 pub(super) fn places_tell_steps()
-    // Before a link it is the load of that link.
+    // Before a link the next access is the load of that link.
     ensures looks { (s : ConsumerView) (p v : ℕ) (at : Cursor) → IsConsumer s
         → HasPlace p (Before at) s
         → ConsumerStep (claims_at s.seat.table) s.seat.consumer p (parts_of s.reader s.seat)
         (ToCells (load s.reader.reader (word_of at) v)) (link_answer (look_of v)) }
 
-    // With a claim that goes on it is the claim's access, which leads to a stage.
+    // With a claim that goes on, the next access is the claim's. It leads to a stage.
     ensures competes { (s : ConsumerView) (p k word seen : ℕ) (claim now : Claim) (next : ClaimOp)
         → IsConsumer s → HasPlace p (At k claim) s → claim_stage claim ≡ stage.Going
         → consumer_of now ≡ s.seat.consumer
@@ -116,7 +116,7 @@ pub(super) fn places_tell_steps()
         → ConsumerStep (claims_at s.seat.table) s.seat.consumer p (parts_of s.reader s.seat)
         (ToClaims a) (stage_answer (claim_stage now)) }
 
-    // With a claim that is won it is the load of the item.
+    // With a claim that is won, the next access is the load of the item.
     ensures takes { (s : ConsumerView) (p k v : ℕ) (claim : Claim) → IsConsumer s
         → HasPlace p (At k claim) s → claim_stage claim ≡ stage.Won
         → ConsumerStep (claims_at s.seat.table) s.seat.consumer p (parts_of s.reader s.seat)
@@ -127,13 +127,13 @@ pub(super) fn places_tell_steps()
 
 /// What the answers of a consumer's accesses say of their lane.
 pub(super) fn answers_tell_lanes()
-    // Before a link it has a note on each cell that it met on the lane.
+    // Before a link the consumer has a note on each cell that it met on the lane.
     ensures noted { (s : ConsumerView) (p : ℕ) (at : Cursor) → IsConsumer s
         → HasPlace p (Before at) s
         → HasNoteOnEach p s }
 
     // If a link leads to no cell, the consumer has a note on each cell that it met. If the lane was taken in before
-    // the consumer was given, it has met all that was put there.
+    // the consumer was given, the consumer has met all that was put there.
     ensures nothing { (s : ConsumerView) (p : ℕ) (at : Cursor) (now : ReaderSeatView) → IsConsumer s
         → HasLoads s → HasPlace p (Before at) s → LookMakes s.reader at look.Nothing now
         → AnswerTells p (Some poll.Nothing) s (record s { reader = now }) }

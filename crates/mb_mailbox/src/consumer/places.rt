@@ -12,7 +12,7 @@ use mb_claim::Claim;
 use mb_world::{Note, Place};
 use std::alloc::Allocator;
 
-/// The place on lane `p`.
+/// The consumer's place on lane `p`.
 #[inline(always)]
 pub(super) fn place_at(places: &ArrayVec<Place, 16>, p: usize) -> Place
     requires { p < array_vec_len places.now }
@@ -21,7 +21,7 @@ pub(super) fn place_at(places: &ArrayVec<Place, 16>, p: usize) -> Place
     places.as_slice()[p]
 }
 
-/// Puts a place there.
+/// Makes this the place on lane `p`.
 #[inline(always)]
 fn set_place(places: &mut ArrayVec<Place, 16>, p: usize, place: Place)
     requires { p < array_vec_len places.old }
@@ -30,7 +30,7 @@ fn set_place(places: &mut ArrayVec<Place, 16>, p: usize, place: Place)
     places.as_mut_slice()[p] = place;
 }
 
-/// Stands at cell `k` on lane `p`, with this claim there.
+/// Makes the place on lane `p` be at cell `k`, with this claim there.
 #[inline(always)]
 pub(super) fn stay(places: &mut ArrayVec<Place, 16>, p: usize, k: u32, claim: Claim)
     requires { p < array_vec_len places.old }
@@ -39,7 +39,7 @@ pub(super) fn stay(places: &mut ArrayVec<Place, 16>, p: usize, k: u32, claim: Cl
     set_place(places, p, Place::At { cell: k, claim });
 }
 
-/// Stands past cell `k` on this lane, with this note of it.
+/// Makes the place on this lane be past cell `k`, and adds this note to the lane's.
 #[inline(always)]
 pub(super) fn leave<A: Allocator + Drop>(
     places: &mut ArrayVec<Place, 16>,

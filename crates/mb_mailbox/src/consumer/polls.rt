@@ -38,8 +38,8 @@ impl<A: Allocator + Drop> Consumer<A> {
         ensures polled { result ≢ NoLane
             → IsPollOf lane budget result (R.stream rng.old) (R.stream rng.new) self.old self.new }
 
-        // With a budget for a whole claim, its link and its item, it is never spent. So it leaves no claim held on
-        // the lane (`told: noted`). If each cell has a last object, it is never undecided.
+        // With a budget for a whole claim, its link and its item, the poll is never spent. So it leaves no claim held
+        // on the lane (`told: noted`). If each cell has a last object, the answer is never `Undecided`.
         ensures unspent { most_accesses mailbox.now.claims.layout + 2 ≤ budget → result ≢ Spent }
         ensures decided { (shape_of mailbox.now.claims.layout).last ≡ true → result ≢ Undecided }
 

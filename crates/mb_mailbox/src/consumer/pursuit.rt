@@ -28,7 +28,7 @@ use mb_world::{Note, Place};
 use rand_core::Rng;
 use std::alloc::Allocator;
 
-/// Loads the item of cell `k`, and moves past the cell on this lane.
+/// Loads the item of cell `k`, makes the place on this lane be past the cell, and adds the note.
 #[inline(always)]
 fn take<A: Allocator + Drop, B: Allocator + Drop>(
     places: &mut ArrayVec<Place, 16>,
@@ -90,7 +90,8 @@ pub(super) fn run_claim<A: Allocator + Drop, B: Allocator + Drop, R: Rng>(
         (consumer_with reader.new seat.new places.new.items notes.new) }
     ensures wide { HasAllRoom reader.new.table.size.cells notes.new }
 
-    // A claim ends after no more accesses than its layout allows. With a last object it is decided then.
+    // A claim ends after no more accesses than its layout allows. If its cell has a last object, the claim is decided
+    // then.
     ensures few { result ≡ poll.Spent → most ≤ most_accesses mailbox.now.claims.layout }
     ensures decided { (shape_of mailbox.now.claims.layout).last ≡ true → result ≢ poll.Undecided }
 {

@@ -23,7 +23,7 @@ pub(super) struct WorkTotals {
     pub(super) aborted: bool,
 }
 
-/// Takes the producers in, in order.
+/// Takes the producers of these ends in, in order, and adds up what their ends say.
 pub(super) fn take_puts<A: Allocator + Drop, B: Allocator + Drop>(
     mailbox: &Mailbox<B>,
     hub: &mut Hub<A>,
@@ -62,7 +62,7 @@ pub(super) fn take_puts<A: Allocator + Drop, B: Allocator + Drop>(
     }
 }
 
-/// Takes the consumers in, in order.
+/// Takes the consumers of these ends in, in order, and adds up what their ends say.
 pub(super) fn take_polls<A: Allocator + Drop, B: Allocator + Drop>(
     mailbox: &Mailbox<B>,
     hub: &mut Hub<A>,
@@ -97,7 +97,7 @@ pub(super) fn take_polls<A: Allocator + Drop, B: Allocator + Drop>(
     }
 }
 
-/// Takes all of them in, the producers first.
+/// Takes the producers of all ends in and then the consumers, and adds up what the ends say.
 pub(super) fn take_all<A: Allocator + Drop, B: Allocator + Drop>(
     mailbox: &Mailbox<B>,
     hub: &mut Hub<A>,

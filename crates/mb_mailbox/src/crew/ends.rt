@@ -17,7 +17,7 @@ use mb_cells::steps::parts_have_accesses;
 use mb_world::steps::loads_meet_cells;
 
 /// If a consumer has loaded the end mark past all cells that it met on a lane, with a note on each, it has read the
-/// lane to its end. It still has after each poll of another lane.
+/// lane to its end. After each poll of another lane this still holds of the lane.
 pub(super) fn ends_are_kept()
     ensures read { (s : ConsumerView) (p : ℕ) → HasLoads s → HasLoadedEnd p s → HasNoteOnEach p s
         → HasReadToEnd p s }
@@ -31,7 +31,8 @@ pub(super) fn ends_are_kept()
     readers_follow_lanes();
 }
 
-/// If the consumer and the lane were taken in, it has as many notes there as the lane has items.
+/// If a consumer has read a lane to its end, and it and the lane's producer were taken in, it has as many notes there
+/// as the lane has items.
 pub(super) fn ends_tell_notes()
     ensures { (size : PoolSize) (roll : Roll) (h : History) (p : ℕ) (done : History)
         (s : ConsumerView)

@@ -13,8 +13,8 @@ use crate::mailbox::Mailbox;
 use rand_core::Rng;
 use std::alloc::Allocator;
 
-/// Gives a producer for each list, in order, and puts its job to `jobs`, which has room for all. If the allocator
-/// refuses what one of them needs, it ends there.
+/// Gives a producer for each list, in order, and adds its job to `jobs`, which has room for all. If the allocator
+/// refuses what one of them needs, this stops there and returns `false`.
 pub(super) fn give_producers<A: Allocator + Clone + Drop, B: Allocator + Drop>(
     alloc: &A,
     mailbox: &Mailbox<B>,
@@ -46,7 +46,8 @@ pub(super) fn give_producers<A: Allocator + Clone + Drop, B: Allocator + Drop>(
     true
 }
 
-/// Gives a consumer for each source, in order, in the same way.
+/// Gives a consumer for each source, in order, and adds its job to `jobs`, which has room for all. If the allocator
+/// refuses what one of them needs, this stops there and returns `false`.
 pub(super) fn give_consumers<R: Rng + Drop, A: Allocator + Clone + Drop, B: Allocator + Drop>(
     alloc: &A,
     mailbox: &Mailbox<B>,
@@ -77,7 +78,8 @@ pub(super) fn give_consumers<R: Rng + Drop, A: Allocator + Clone + Drop, B: Allo
     true
 }
 
-/// Gives all producers and then all consumers, in the same way.
+/// Gives a producer for each list and then a consumer for each source. If the allocator refuses what one of them
+/// needs, this stops there and returns `false`.
 pub(super) fn give<R: Rng + Drop, A: Allocator + Clone + Drop, B: Allocator + Drop>(
     alloc: &A,
     mailbox: &Mailbox<B>,

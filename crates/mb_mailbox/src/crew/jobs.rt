@@ -31,8 +31,8 @@ pub(crate) struct PutJob<A: Allocator + Drop> {
 }
 
 /// The end of a producer's worker. The producer has ended its lane. `full` says how many items of its list it did not
-/// put because no cell was left. `stopped` says whether it was stopped before the end of its list. `aborted` says whether
-/// the run is aborted: a thread could not be started, its own or another's.
+/// put because no cell was left. `stopped` says whether it was stopped before the end of its list. `aborted` says
+/// whether the run is aborted: a thread could not be started, its own or another's.
 #[derive(Drop)]
 pub(crate) struct PutDone<A: Allocator + Drop> {
     pub(crate) producer: Producer<A>,
@@ -54,7 +54,7 @@ impl<G: Gate, A: Allocator + Drop> Promise<PutDone<A>> for Puts<G, A> {
     ghost kept_by = { λ p d. IsPutEnd (G.may_stop p.gate.value) (G.may_pass p.gate.value) p.job.value d };
 }
 
-/// A consumer and its source of random words.
+/// A consumer that is to poll, and its source of random words.
 #[derive(Drop)]
 pub(crate) struct PollJob<R: Drop, A: Allocator + Drop> {
     pub(crate) consumer: Consumer<A>,

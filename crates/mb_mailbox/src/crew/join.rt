@@ -17,7 +17,7 @@ fn join<W: Threads, D: Drop, P: Promise<D>>(rt: &W, one: Worker<D, P>) -> D
     }
 }
 
-/// Joins the threads. `done` has room for all.
+/// The ends of all these workers, in their order, after their threads are joined. `done` has room for all.
 pub(super) fn join_all<W: Threads, A: Allocator + Drop, D: Drop, P: Promise<D>>(
     rt: &W,
     begun: Vec<Worker<D, P>, A>,

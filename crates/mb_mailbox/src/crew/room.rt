@@ -8,14 +8,14 @@ use crate::gate::Gate;
 use rand_core::Rng;
 use std::alloc::{AllocError, Allocator};
 
-/// Room for the jobs.
+/// The jobs of producers and those of consumers.
 #[derive(Drop)]
 pub(crate) struct WorkerInputs<R: Drop, A: Allocator + Drop> {
     pub(crate) puts: Vec<PutJob<A>, A>,
     pub(crate) polls: Vec<PollJob<R, A>, A>,
 }
 
-/// Room for the workers that were begun, and for their ends.
+/// The workers that were begun, of producers and of consumers, and room for their ends.
 #[derive(Drop)]
 pub(crate) struct WorkerBuffers<G: Gate, R: Rng + Drop, A: Allocator + Drop> {
     pub(crate) puts: Vec<PutWorker<G, A>, A>,
@@ -30,7 +30,7 @@ pub(crate) struct WorkerResults<A: Allocator + Drop> {
     pub(crate) polls: Vec<PollDone<A>, A>,
 }
 
-/// Room for this many jobs.
+/// Takes room for this many jobs.
 pub(super) fn room_for_jobs<R: Drop, A: Allocator + Clone + Drop>(
     alloc: &A,
     puts: usize,
@@ -44,7 +44,7 @@ pub(super) fn room_for_jobs<R: Drop, A: Allocator + Clone + Drop>(
     })
 }
 
-/// Room for this many workers and their ends.
+/// Takes room for this many workers and their ends.
 pub(super) fn room_for_workers<G: Gate, R: Rng + Drop, A: Allocator + Clone + Drop>(
     alloc: &A,
     puts: usize,

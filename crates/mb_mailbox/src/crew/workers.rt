@@ -18,8 +18,8 @@ use std::alloc::Allocator;
 use std::sync::atomic::{AtomicBool, Ordering};
 use std::thread::yield_now;
 
-/// How many items were linked, and whether the producer was stopped before the end of its list. `aborted` says whether it
-/// was stopped because the run is aborted.
+/// What came of a list: how many items were linked, and whether the producer was stopped before the end of the list.
+/// `aborted` says whether it was stopped because the run is aborted.
 #[derive(Clone, Copy)]
 struct Linked {
     count: usize,
@@ -27,7 +27,8 @@ struct Linked {
     aborted: bool,
 }
 
-/// Puts items up to the first that is refused.
+/// Puts items in order, up to the first that finds no cell. This stops before a put if the gate does not let the worker
+/// through, or if the run is aborted.
 fn put_items<A: Allocator + Drop, B: Allocator + Drop, G: Gate>(
     mailbox: &Mailbox<B>,
     producer: &mut Producer<A>,
@@ -162,6 +163,7 @@ fn next_lane(ended: &[bool], at: u32, from: u32, end: u32) -> Option<u32>
     None
 }
 
+/// Marks this lane: it has ended.
 fn mark(ended: &mut [bool; 16], lane: u32)
     requires { lane < 16 }
     ensures { ended.new ≡ slice_set ended.old lane true }
@@ -169,7 +171,7 @@ fn mark(ended: &mut [bool; 16], lane: u32)
     ended[lane as usize] = true;
 }
 
-/// Polls a lane that has not ended, and marks it if it has.
+/// Polls a lane that is not marked, and marks it if the answer is `Ended`.
 fn poll_lane<A: Allocator + Drop, B: Allocator + Drop, R: Rng>(
     mailbox: &Mailbox<B>,
     consumer: &mut Consumer<A>,
@@ -281,7 +283,7 @@ pub(super) fn poll_lanes<A: Allocator + Drop, B: Allocator + Drop, R: Rng + Drop
     }
 }
 
-/// A consumer that polls nothing.
+/// The end of a consumer that polls nothing.
 pub(super) fn poll_nothing<A: Allocator + Drop, R: Drop>(job: PollJob<R, A>) -> PollDone<A>
     ensures consumer { result.consumer ≡ job.consumer }
     ensures stopped { result.stopped ≡ true }

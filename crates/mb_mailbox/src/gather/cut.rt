@@ -11,7 +11,7 @@ use mb_shared_claims::ClaimHub;
 use std::alloc::Allocator;
 use std::marker::Model;
 
-/// A hub with notes that are all cut.
+/// A hub that keeps the notes of all its consumers cut by lane.
 #[derive(Drop)]
 pub(crate) struct CutHub<A: Allocator + Drop> {
     pub(crate) cells: CellHub,
@@ -71,7 +71,7 @@ impl<A: Allocator + Drop> CutHub<A> {
 impl<A: Allocator + Clone + Drop> Hub<A> {
     ghost use Rattle.std.specs.Prelude.{◌≡◌, IfErr, IfOk};
 
-    /// Cuts all notes. If the memory is refused, the hub comes back as it was.
+    /// Cuts the notes of all consumers by lane. If the memory is refused, the hub comes back as it was.
     pub(super) fn cut(self, alloc: A) -> Result<CutHub<A>, Hub<A>>
         ensures cut { IfOk result (λ h. h ≡ self) }
         ensures refused { IfErr result (λ h. h ≡ self) }
@@ -99,7 +99,7 @@ impl<A: Allocator + Clone + Drop> Hub<A> {
     }
 }
 
-/// Cuts the notes of all consumers that were taken in.
+/// Cuts by lane the notes of all consumers that were taken in.
 fn cut_all<A: Allocator + Clone + Drop>(
     ledgers: &mut Vec<Option<ConsumerRecord<A>>, A>,
     alloc: A,
@@ -114,7 +114,7 @@ fn cut_all<A: Allocator + Clone + Drop>(
     Ok(())
 }
 
-/// Cuts the notes of this consumer, if it was taken in.
+/// Cuts by lane the notes of this consumer, if it was taken in.
 fn cut_one<A: Allocator + Clone + Drop>(
     ledger: &mut Option<ConsumerRecord<A>>,
     alloc: A,

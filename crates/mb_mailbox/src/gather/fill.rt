@@ -21,7 +21,7 @@ pub(super) fn fill_lanes<A: Allocator + Drop>(
     }
 }
 
-/// Moves the notes of each consumer into its diaries. It has one for each of this many lanes.
+/// Moves the notes of each consumer into its diaries. A consumer has one diary for each of this many lanes.
 pub(super) fn fill_diaries<A: Allocator + Drop>(
     diaries: &mut Vec<Diary<A>, A>,
     lanes: u32,
@@ -40,7 +40,7 @@ pub(super) fn fill_diaries<A: Allocator + Drop>(
     }
 }
 
-/// Moves the notes of a consumer, if it is there, into the diaries from this place on.
+/// Moves the notes of a consumer, if it was taken in, into the diaries from this place on.
 fn fill_row<A: Allocator + Drop>(
     diaries: &mut Vec<Diary<A>, A>,
     first: usize,
@@ -72,7 +72,7 @@ fn fill_notes<A: Allocator + Drop>(
     }
 }
 
-/// Moves the items of a producer, if it is there, into its lane.
+/// Moves the items of a producer, if it was taken in, into its lane.
 fn fill_lane<A: Allocator + Drop>(lane: &mut LaneReport<A>, kept: Option<PutList<A>>)
     ensures { lane.new ≡ with_items kept lane.old }
 {

@@ -30,7 +30,7 @@ impl<A: Allocator + Drop> CutHub<A> {
         }
     }
 
-    /// The ledger of consumer `c`, if it was taken in.
+    /// What the hub keeps of consumer `c`, if it was taken in.
     fn ledger(&self, c: u32) -> Option<&ConsumerRecord<A>>
         ensures ledger { option_map (λ k. k.now.ledger) result ≡ kept_at self.now.ledgers c }
         ensures cut { IfSome result (λ k. k.now.is_cut ≡ true) }

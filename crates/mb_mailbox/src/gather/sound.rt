@@ -18,12 +18,14 @@ use mb_world::laws::{
 };
 use mb_world::steps::parts_fit_on;
 
-/// If nothing is missing, all that was given was taken in.
+/// If no producer and no consumer is missing, what is gathered is sound, and its report is honest.
 pub(super) fn gathering_is_sound()
+    // If no consumer is missing, no seat of the claims is out.
     ensures all_in { (h : HubView) → IsHub h → count_missing h.ledgers ≡ 0
         → count_out h.claims.roll ≡ 0 }
 
-    // Closing the tables gives these histories. The report of what the hub has taken in is theirs.
+    // The tables, once closed, have one history each, in which all parts are those that the hub has taken in. The
+    // report of what the hub has taken in is that of these histories.
     ensures headline { (m : MailboxView) (h : HubView) (r : ReportView) (pool : History)
         → IsMailbox m → IsHub h → IsHubOf m h
         → count_missing h.puts ≡ 0 → count_missing h.ledgers ≡ 0

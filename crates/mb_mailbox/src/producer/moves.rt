@@ -19,7 +19,7 @@ use mb_cells::steps::{
 
 /// What a call makes of a producer.
 pub(super) fn producers_move_on()
-    // An offer that returned a cell, and two pushes.
+    // An offer that returned a cell, and two pushes after it, put the item. They do not end the lane.
     ensures linked { (s : ProducerView) (x k : ℕ) (one two : Push) (a b now : LaneSeatView)
         → IsProducer s → OfferMakes s.seat x (offer.Cell k) a → PushMakes a one b
         → PushMakes b two now
@@ -35,7 +35,8 @@ pub(super) fn producers_move_on()
         → PushMakes b two now
         → is_over (record { seat = now; items = s.items ++ x ∷ [] }) ≡ is_over s }
 
-    // An offer that returned something else.
+    // An offer that returned something else put nothing. `Full` says that no cell was found, and `Closed` that the
+    // lane has ended. `Busy` never comes.
     ensures full { (s : ProducerView) (x : ℕ) (now : LaneSeatView) → IsProducer s → HasPart s.seat
         → OfferMakes s.seat x offer.Full now → HasNoCellFor x s (with_seat now s) }
     ensures found { (s : ProducerView) (x : ℕ) (now : LaneSeatView) → HasPart s.seat
@@ -59,7 +60,7 @@ pub(super) fn producers_move_on()
     ensures never_busy { (s : ProducerView) (x : ℕ) (now : LaneSeatView) → IsProducer s
         → OfferMakes s.seat x offer.Busy now → ⊥ }
 
-    // A finish.
+    // A finish ends the lane, or is refused since the lane has ended. `Busy` never comes.
     ensures finished { (s : ProducerView) (now : LaneSeatView)
         → FinishMakes s.seat finish.Ended now → IsEndOfLane s (with_seat now s) }
     ensures finish_kept { (s : ProducerView) (answer : Finish) (now : LaneSeatView) → IsProducer s
@@ -81,7 +82,7 @@ pub(super) fn producers_move_on()
     lanes_keep_to_their_parts();
 }
 
-/// What is known of the parts and of the lanes of lawful histories.
+/// The laws of the crates below on which a producer's calls stand, in one record.
 fn lanes_keep_to_their_parts()
     ensures { PutLaws }
 {
