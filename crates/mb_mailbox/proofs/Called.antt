@@ -10,16 +10,18 @@ use Rattle.mb_mailbox.specs.declared.gate.Who.{Who}
 use Rattle.mb_mailbox.specs.declared.gate.Who.TheVariants as who
 
 module _ (may_pass : Who → ℕ → Type 0) where
+  -- no call was made, so the gate let each call through
   pub none_passed : (w : Who) (calls : ℕ) → calls ≡ 0 → ArePassed may_pass w calls
   none_passed w calls none n low high = absurd (omega (arith, none, low, high))
 
+  -- the gate let one call more through
   pub passed_more : (w : Who) (calls now : ℕ) → now ≡ suc calls → ArePassed may_pass w calls
       → may_pass w now → ArePassed may_pass w now
   passed_more w calls now e was one n low high =
       ⊎_elim (λ (h : n ≤ calls). was n low h) (λ (h : n ≡ suc calls). subst (λ (k : ℕ). may_pass w k) (e ∙ sym h) one)
       (le-suc_iff.0 (subst (λ (k : ℕ). n ≤ k) e high))
 
-  -- a consumer that has made no call
+  -- a consumer has made no call
   pub none_called : (from end budget calls : ℕ) (s : Stream) (old : ConsumerView) → calls ≡ 0
       → HasCalled may_pass from end budget calls s s old old
   none_called from end budget calls s old none = record {
@@ -29,7 +31,7 @@ module _ (may_pass : Who → ℕ → Type 0) where
     passed = none_passed (who.Consumer old.seat.consumer) calls none;
   }
 
-  -- a consumer that has made one more call
+  -- a consumer has made one more call
   pub called_more : (from end budget calls now lane : ℕ) (answer : Poll) (s u t : Stream)
       (old mid new : ConsumerView) → now ≡ suc calls
       → HasCalled may_pass from end budget calls s u old mid → from ≤ lane → lane < end

@@ -1,4 +1,4 @@
--- A producer that finds no cell, or ends its lane.
+-- What a producer's offer makes of it if it returns `Full`, and what a finish does.
 use Rattle.std.proofs.Common.{◌≡◌, ℕ, ◌≤◌, Bool, true, false, cond, List, [], ◌∷◌, map, refl, sym, ap, ◌∙◌, subst, inl, inr}
 use Rattle.std.specs.Prelude.{Option, Some, None, nat_lt}
 use Rattle.std.proofs.lemmas.Bool.{eq-eqb, ltb-false}
@@ -17,13 +17,13 @@ use Rattle.mb_mailbox.specs.Producers.{FoundNoCell, HasNoCellFor, IsEndOfLane, I
 use Rattle.mb_mailbox.specs.PutLaws.{PutLaws}
 use Rattle.mb_mailbox.proofs.Putting.{fetch_keeps, link_word}
 
--- the place of its part in the whole history
+-- the producer stands at the place to which its part of the whole history leads
 there : (s : ProducerView) (h : HasPart s.seat)
     → IsLaneAfter s.seat.table.size.cells s.seat.lane s.seat.place
     (part (Producer s.seat.lane) h.history.0)
 there s h = subst (λ d. IsLaneAfter s.seat.table.size.cells s.seat.lane s.seat.place d) (sym h.history.2) h.place
 
--- what its part has found, the whole history has found, and the other way round
+-- a fetch-add of the producer that found no cell is in the whole history, too
 in_all : PutLaws → (s : ProducerView) (h : HasPart s.seat) → FoundNoCell s
     → HasFoundNone s.seat.table.size.cells s.seat.lane h.history.0
 in_all laws s h none = record {
@@ -33,6 +33,7 @@ in_all laws s h none = record {
   past = none.past;
 }
 
+-- if the producer's place refuses an offer with `Full`, a fetch-add of its own found no cell
 none_by : PutLaws → (s : ProducerView) (h : HasPart s.seat) → offer_refusal s.seat.place
     ≡ Some offer.Full → FoundNoCell s
 none_by laws s h e =
@@ -77,6 +78,7 @@ data Found (old : LaneSeatView) (x : ℕ) (now : LaneSeatView) : Type 0 where
       }
       → Found old x now
 
+-- if a fetch-add was made and the offer returned `Full`, the number found is past the cells
 found_by : (old : LaneSeatView) (x n : ℕ) (now : LaneSeatView) (b : Bool)
     → stage_offer_refusal old.place.stage ≡ None → nat_lt n old.table.size.cells ≡ b
     → offer.Full ≡ cond b (offer.Cell n) offer.Full
@@ -88,6 +90,7 @@ found_by : (old : LaneSeatView) (x n : ℕ) (now : LaneSeatView) (b : Bool)
 found_by old x n now true unrefused low told m = absurd (cc)
 found_by old x n now false unrefused low told m = finds n unrefused (ltb-false n old.table.size.cells low) m.0 m.1
 
+-- what an offer that returned `Full` did, by the stage of the producer's place
 found_at : (old : LaneSeatView) (x : ℕ) (now : LaneSeatView) (at : LaneStage) → old.place.stage ≡ at
     → OfferBy (stage_offer_refusal at) old x offer.Full now → Found old x now
 found_at old x now stage.Open e m = found_by old x m.0 now (nat_lt m.0 old.table.size.cells)
@@ -97,9 +100,11 @@ found_at old x now (stage.Stored c) e m = absurd (cc)
 found_at old x now stage.Full e m = was e m.1
 found_at old x now (stage.Ended f) e m = absurd (cc)
 
+-- what an offer that returned `Full` did
 found : (s : ProducerView) (x : ℕ) (now : LaneSeatView) → OfferMakes s.seat x offer.Full now → Found s.seat x now
 found s x now m = found_at s.seat x now s.seat.place.stage refl m
 
+-- if an offer returned `Full`, there was no cell for the item
 pub is_full : PutLaws → (s : ProducerView) (x : ℕ) (now : LaneSeatView) → HasPart s.seat
     → OfferMakes s.seat x offer.Full now → HasNoCellFor x s (with_seat now s)
 is_full laws s x now h m = by (found s x now m)
@@ -118,6 +123,7 @@ is_full laws s x now h m = by (found s x now m)
       items = refl;
     })
 
+-- after an offer that returned `Full`, a fetch-add of the producer has found no cell
 pub found_none : PutLaws → (s : ProducerView) (x : ℕ) (now : LaneSeatView) → HasPart s.seat
     → OfferMakes s.seat x offer.Full now → FoundNoCell (with_seat now s)
 found_none laws s x now h m = by (found s x now m)
@@ -130,6 +136,7 @@ found_none laws s x now h m = by (found s x now m)
       past = past;
     })
 
+-- an offer that returned `Full` leaves the table and the lane as they were
 pub full_lane : (s : ProducerView) (x : ℕ) (now : LaneSeatView) → OfferMakes s.seat x offer.Full now
     → IsSameLane s (with_seat now s)
 full_lane s x now m = by (found s x now m)
@@ -154,7 +161,7 @@ stays_full laws s x answer now h m none going =
     ((laws.full s.seat.table.size h.history.0 s.seat.lane s.seat.place h.history.1 place).1
     (laws.ended h.history.0 s.seat.lane ∙ ap (has_ended s.seat.lane) h.history.2 ∙ going, in_all laws s h none)) m
 
--- an offer that finds no cell does not end the lane
+-- an offer that returned `Full` does not end the lane
 pub full_stays : (s : ProducerView) (x : ℕ) (now : LaneSeatView)
     → OfferMakes s.seat x offer.Full now → is_over (with_seat now s) ≡ is_over s
 full_stays s x now m = by (found s x now m)
@@ -164,6 +171,7 @@ full_stays s x now m = by (found s x now m)
     by (finds n unrefused past after is) = ap (λ (v : LaneSeatView). has_ended v.lane v.part) is
         ∙ rw (eq-eqb s.seat.lane s.seat.lane refl) refl
 
+-- after an offer that returned `Full` the producer is still as producers are
 pub full_still : PutLaws → (s : ProducerView) (x : ℕ) (now : LaneSeatView) → IsProducer s
     → OfferMakes s.seat x offer.Full now → IsProducer (with_seat now s)
 full_still laws s x now i m = by (found s x now m)
@@ -177,6 +185,7 @@ full_still laws s x now i m = by (found s x now m)
     })
 
 -- ---- a finish
+-- a finish that returned `Ended` stored the end mark, and did nothing else
 pub is_end : (s : ProducerView) (now : LaneSeatView) → FinishMakes s.seat finish.Ended now
     → IsEndOfLane s (with_seat now s)
 is_end s now m = by s.seat.place.stage m
@@ -196,6 +205,7 @@ is_end s now m = by s.seat.place.stage m
     by (stage.Stored c) m = absurd (cc)
     by (stage.Ended f) m = absurd (cc)
 
+-- after a finish the producer is still as producers are
 pub finish_still : PutLaws → (s : ProducerView) (answer : Finish) (now : LaneSeatView)
     → IsProducer s → FinishMakes s.seat answer now → IsProducer (with_seat now s)
 finish_still laws s answer now i m = by s.seat.place.stage m
@@ -231,13 +241,14 @@ finish_not_busy s now i m = by s.seat.place.stage m i.idle
     by (stage.Stored c) m e = absurd (cc)
     by (stage.Ended f) m e = absurd (cc)
 
--- after a finish the lane has ended
+-- if the end mark was stored in a head or a link, the lane has ended
 marks : (p : ℕ) (w : Word) (h : History) → IsLinkWord w → has_ended p (store p w END ∷ h) ≡ true
 marks p (Head q) h l = rw (eq-eqb p p refl) refl
 marks p (Link q) h l = rw (eq-eqb p p refl) refl
 marks p (Item q) h l = absurd l
 marks p Counter h l = absurd l
 
+-- after a finish the lane has ended
 pub ends_over : PutLaws → (s : ProducerView) (answer : Finish) (now : LaneSeatView) → IsProducer s
     → HasPart s.seat → FinishMakes s.seat answer now
     → is_over (with_seat now s) ≡ true
@@ -261,6 +272,7 @@ ends_over laws s answer now i h m = by s.seat.place.stage refl m i.idle
         ∙ (laws.over s.seat.table.size h.history.0 s.seat.lane s.seat.place h.history.1
         (there s h)).0 (ap stage_finish_refusal e)
 
+-- a finish leaves the table and the lane as they were
 pub finish_lane : (s : ProducerView) (answer : Finish) (now : LaneSeatView)
     → FinishMakes s.seat answer now → IsSameLane s (with_seat now s)
 finish_lane s answer now m = by s.seat.place.stage m
@@ -279,6 +291,7 @@ finish_lane s answer now m = by s.seat.place.stage m
     by (stage.Stored c) m = is _ m.1 refl refl
     by (stage.Ended f) m = is _ m.1 refl refl
 
+-- a finish that returned `Closed` did nothing, and the stage of the producer's place refused it
 finish_by : (old now : LaneSeatView) (at : LaneStage) → FinishBy (stage_finish_refusal at) old finish.Closed now
     → (now ≡ old) × (stage_finish_refusal at ≡ Some finish.Closed)
 finish_by old now stage.Open m = absurd (cc)
@@ -287,9 +300,11 @@ finish_by old now (stage.Offered c i) m = absurd (cc)
 finish_by old now (stage.Stored c) m = absurd (cc)
 finish_by old now (stage.Ended f) m = (m.1, refl)
 
+-- a finish that returned `Closed` did nothing
 pub finish_same : (s : ProducerView) (now : LaneSeatView) → FinishMakes s.seat finish.Closed now → now ≡ s.seat
 finish_same s now m = (finish_by s.seat now s.seat.place.stage m).0
 
+-- if a finish returned `Closed`, the lane had ended
 pub finish_is_closed : PutLaws → (s : ProducerView) (now : LaneSeatView) → HasPart s.seat
     → FinishMakes s.seat finish.Closed now → has_ended s.seat.lane s.seat.part ≡ true
 finish_is_closed laws s now h m =
@@ -302,11 +317,13 @@ finish_is_closed laws s now h m =
 same_finish : (a b : Finish) → Some a ≡ Some b → a ≡ b
 same_finish a b e = cc
 
+-- a finish that is refused returns the refusal
 answered : (o : Option Finish) (r : Finish) (old : LaneSeatView) (answer : Finish)
     (now : LaneSeatView) → o ≡ Some r → FinishBy o old answer now → answer ≡ r
 answered (Some q) r old answer now e m = m.0 ∙ same_finish q r e
 answered None r old answer now e m = absurd (cc)
 
+-- if the lane has ended, a finish returns `Closed`
 pub finish_is_over : PutLaws → (s : ProducerView) (answer : Finish) (now : LaneSeatView)
     → HasPart s.seat → FinishMakes s.seat answer now
     → has_ended s.seat.lane s.seat.part ≡ true → answer ≡ finish.Closed

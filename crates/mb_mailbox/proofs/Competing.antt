@@ -17,7 +17,8 @@ use Rattle.mb_mailbox.proofs.Lists.{set_here, set_same, set_twice, some_same}
 use Rattle.mb_mailbox.proofs.Made.{claim_made}
 use Rattle.mb_mailbox.proofs.Polls.{steps_more}
 
--- the law on which the steps stand
+-- after an access of its claim the consumer is as consumers are, and by `IsNext` that access is its next one. These
+-- are clauses of src/consumer/moves.rt
 abbrev pub MovesOn : Type 0
 MovesOn = (s : ConsumerView) (p k word seen : ℕ) (claim now : Claim) (next : ClaimOp)
     → IsConsumer s → HasLoads s → HasPlace p (At k claim) s
@@ -51,6 +52,7 @@ still p k claim stage.Won s e none =
 still p k claim (stage.Lost w) s e none = absurd (cc)
 still p k claim stage.Undecided s e none = absurd (cc)
 
+-- before the claim's first access the consumer is at the claim, after the steps that led there
 pub competed_none : (p k n : ℕ) (claim : Claim) (t u : Stream) (from s : ConsumerView) (seat : SeatView) → s.seat ≡ seat
     → HasPlace p (At k claim) s → note_of (claim_stage claim) ≡ None → IsConsumer s → AreSteps p n None t u from s
     → HasCompeted p k n claim t u from s seat
@@ -63,7 +65,7 @@ competed_none p k n claim t u from s seat is e none i m =
       is = subst IsConsumer (sym same.0) i;
     })
 
--- one access more
+-- after one more access of the claim, the steps are one more
 pub competed_more : MovesOn → IsNext → (s from : ConsumerView) (p k n word seen : ℕ)
     (was now : Claim) (next : ClaimOp) (seat new : SeatView) (size : TableSize)
     (there : Place) (t u v : Stream) → slice_get s.places p ≡ Some there → HasLoads s → s.seat.table.size ≡ Some size

@@ -15,7 +15,8 @@ use Rattle.mb_mailbox.proofs.Lists.{get_within, some_same}
 use Rattle.mb_mailbox.proofs.Totals.{put_total, summed, total}
 use Rattle.mb_mailbox.proofs.Turned.{get_left}
 
--- ---- sums
+-- ---- how many items are put
+-- the report has as many items as the pool's history puts on all lanes
 pub counted : (plan : Plan) (hs : Histories) (r : ReportView) → IsReportOf plan hs r → put_count r
     ≡ items_put plan.lanes hs.pool
 counted plan hs r is =
@@ -29,6 +30,7 @@ counted plan hs r is =
         ap (λ (v : LaneView). length v.put) same ∙ length-map (put_list p hs.pool) (λ (z : Entry). z.value)
 
 -- ---- the place of a note
+-- if a choice with `None` is something, its test holds and it is the other
 some_chosen : {X : Type 0} (b : Bool) (o : Option X) (x : X) → (if b then o else None) ≡ Some x
     → (b ≡ true) × (o ≡ Some x)
 some_chosen true o x e = (refl, e)
@@ -41,6 +43,7 @@ in_diary : (o : Option DiaryView) (j : ℕ) (n : Note)
 in_diary None j n e = absurd (cc)
 in_diary (Some d) j n e = (d, refl, e)
 
+-- this note stands in the report: in the diary of consumer c on lane p, at position j
 pub record IsNoted (plan : Plan) (r : ReportView) (c p j : ℕ) (n : Note) : Type 0 where
   pub consumer : c < consumers_of plan
   pub lane : p < plan.lanes
@@ -48,6 +51,7 @@ pub record IsNoted (plan : Plan) (r : ReportView) (c p j : ℕ) (n : Note) : Typ
   pub there : slice_get r.diaries (c * plan.lanes + p) ≡ Some diary
   pub here : slice_get diary.notes j ≡ Some n
 
+-- a note that the report has at a position stands in a diary there
 pub is_noted : (plan : Plan) (hs : Histories) (r : ReportView) → IsReportOf plan hs r
     → (c p j : ℕ) (n : Note) → note c p j r ≡ Some n
     → IsNoted plan r c p j n

@@ -20,11 +20,12 @@ pub holds_it : (p k : ℕ) (claim : Claim) (s : ConsumerView) → slice_get s.pl
     ≡ Some (At k claim) → holding p k claim s ≡ s
 holds_it p k claim s e = ap (λ (ps : List Place). record s { places = ps }) (set_same s.places p (At k claim) e)
 
--- there was such a lane
+-- a poll that has held a claim does not return `NoLane`
 pub not_no_lane : (p n most : ℕ) (x : Poll) (t u : Stream) (from new : ConsumerView)
     → IsPursuit p n most x t u from new → x ≡ poll.NoLane → ⊥
 not_no_lane p n most x t u from new so e = subst IsOfClaim e so.kind
 
+-- the accesses before the claim and those after it make the poll
 pub poll_by : (p n most budget : ℕ) (x : Poll) (t u : Stream) (from new : ConsumerView) → most + n
     ≡ budget → IsPursuit p n most x t u from new
     → IsPollOf p budget x t u from new
@@ -32,6 +33,7 @@ poll_by p n most budget x t u from new sum so =
     let few = so.within in
     poll_of p (so.made + n) budget x t u from new so.steps (omega arith) (λ e. ap (λ z. z + n) (so.spent e) ∙ sum)
 
+-- what the answer of a poll that has held a claim says
 tells_by : (p : ℕ) (x : Poll) (old new : ConsumerView) → IsOfClaim x
     → (x ≢ poll.Spent → HasNoteOnEach p new) → AnswerTells p (outcome x) old new
 tells_by p (poll.Took v) old new kind has = tells_item p v old new (has (λ f. cc))
@@ -52,12 +54,13 @@ tells_by p poll.Ended old new kind has = absurd kind
 tells_by p poll.Spent old new kind has = tells_none p old new
 tells_by p poll.NoLane old new kind has = absurd kind
 
+-- what the rest of a poll says of the lane
 pub pursuit_tells : (p n most : ℕ) (x : Poll) (t u : Stream) (from old new : ConsumerView)
     → IsPursuit p n most x t u from new
     → AnswerTells p (outcome x) old new
 pursuit_tells p n most x t u from old new so = tells_by p x old new so.kind so.noted
 
--- it is of the same mailbox
+-- after the poll the consumer is one of the same mailbox
 pub still_of : (m : MailboxView) (p n most : ℕ) (x : Poll) (t u : Stream) (from new : ConsumerView)
     → IsPursuit p n most x t u from new
     → IsConsumerOf m from → IsConsumerOf m new

@@ -1,4 +1,4 @@
--- A consumer that has read a lane to its end.
+-- What a poll keeps and adds, and a consumer that has read a lane to its end.
 use Rattle.std.proofs.Common.{◌≡◌, ◌≢◌, ℕ, zero, suc, ◌+◌, ◌<◌, ◌≤◌, List, [], ◌∷◌, ◌++◌, length, map, refl, sym, ap, ◌∙◌, subst, inr, arith}
 use Rattle.std.specs.Prelude.{Option, Some, None, slice_get, slice_set}
 use Rattle.std.specs.Option.{option_map_or}
@@ -19,11 +19,13 @@ use Rattle.mb_mailbox.specs.Steps.{HasLoadedEnd, HasNoteOnEach, IsPollOf, LeadTo
 use Rattle.mb_mailbox.specs.declared.consumer.Poll.{Poll}
 use Rattle.mb_mailbox.specs.declared.consumer.Poll.TheVariants as poll
 
--- ---- longer parts
+-- ---- what a part has, a longer one has
+-- a longer part has each access of the part
 has_more : (later : History) (h : History) (a : PoolAccess) → Has h a → Has (later ++ h) a
 has_more [] h a has = has
 has_more (b ∷ later) h a has = inr (has_more later h a has)
 
+-- a longer part has the loads by which cells were met
 met_more : (r p : ℕ) (later : History) (ks : List ℕ) (h : History) → HasMet r p ks h → HasMet r p ks (later ++ h)
 met_more r p later [] h met = tt
 met_more r p later (k ∷ ks) h met = (
@@ -33,7 +35,7 @@ met_more r p later (k ∷ ks) h met = (
       met.2,
 )
 
--- ---- the notes of another lane
+-- ---- what a poll of a lane leaves alone
 get_other : {X : Type 0} (xs : List X) (i k : ℕ) (a : X) → k ≢ i → slice_get (slice_set xs i a) k ≡ slice_get xs k
 get_other [] i k a ne = refl
 get_other (x ∷ xs) zero zero a ne = absurd (ne refl)
@@ -41,6 +43,7 @@ get_other (x ∷ xs) zero (suc k) a ne = refl
 get_other (x ∷ xs) (suc i) zero a ne = refl
 get_other (x ∷ xs) (suc i) (suc k) a ne = get_other xs i k a (λ h. ne (ap suc h))
 
+-- a note on another lane leaves the notes on this one
 notes_kept : (p q : ℕ) (o : Option Note) (notes : List (List Note)) → q ≢ p
     → notes_on q (with_note p o notes) ≡ notes_on q notes
 notes_kept p q None notes ne = refl
@@ -48,6 +51,7 @@ notes_kept p q (Some n) notes ne =
     ap (λ (o : Option (List Note)). option_map_or (λ (l : List Note). l) o [])
     (get_other notes p q (notes_on p notes ++ n ∷ []) ne)
 
+-- a poll leaves the consumer's tables and numbers
 pub same_by : (p budget : ℕ) (answer : Poll) (s t : Stream) (old new : ConsumerView)
     → IsPollOf p budget answer s t old new → IsSameConsumer old new
 same_by p budget answer s t old new i = record {
@@ -57,6 +61,7 @@ same_by p budget answer s t old new i = record {
   consumer = ap (λ r. r.consumer) i.done.seat;
 }
 
+-- a lane that was read to its end still is, after a poll of another lane
 pub kept_by : (p q budget : ℕ) (answer : Poll) (s t : Stream) (old new : ConsumerView)
     → IsPollOf p budget answer s t old new → q ≢ p
     → HasReadToEnd q old → HasReadToEnd q new
@@ -72,13 +77,14 @@ kept_by p q budget answer s t old new i ne o =
           ∙ ap (λ (l : List Note). length l) (notes_kept p q (note_with (outcome answer)) old.notes ne) ∙ o.notes;
     }
 
--- ---- its accesses
+-- ---- how many accesses a poll makes
+-- each access is to the cells or to the claims
 both : (done : WorldHistory) → length (pool_accesses done) + length (claim_accesses done) ≡ length done
 both [] = refl
 both (ToCells a ∷ older) = let e = both older in omega (arith, e)
 both (ToClaims a ∷ older) = let e = both older in omega (arith, e)
 
--- a poll that is spent at once has a budget of 0
+-- a poll without an access has a budget of 0
 none_made : (p budget : ℕ) (answer : Poll) (s : ConsumerView) → LeadTo p (outcome answer) [] s
     → (answer ≡ poll.Spent → 0 ≡ budget) → 0 ≡ budget
 none_made p budget poll.Spent s lead spent = spent refl
@@ -89,6 +95,7 @@ none_made p budget poll.Nothing s lead spent = absurd (cc)
 none_made p budget poll.Ended s lead spent = absurd (cc)
 none_made p budget poll.NoLane s lead spent = absurd (cc)
 
+-- a poll with a budget makes an access
 some_made : (p budget : ℕ) (answer : Poll) (done : WorldHistory) (s : ConsumerView) → 0 < budget
     → LeadTo p (outcome answer) done s
     → (answer ≡ poll.Spent → length done ≡ budget) → 0 < length done
@@ -96,6 +103,7 @@ some_made p budget answer [] s able lead spent = let none = none_made p budget a
     in omega (arith, able, none)
 some_made p budget answer (a ∷ older) s able lead spent = omega arith
 
+-- a poll with a budget adds an access to the consumer's
 pub made_by : (p budget : ℕ) (answer : Poll) (s t : Stream) (old new : ConsumerView) → 0 < budget
     → IsPollOf p budget answer s t old new
     → accesses_made old < accesses_made new
@@ -108,6 +116,7 @@ made_by p budget answer s t old new able i =
     let all = both i.accesses in
     omega (arith, some, reads, claimed, all)
 
+-- a poll adds no more accesses than its budget
 pub most_by : (p budget : ℕ) (answer : Poll) (s t : Stream) (old new : ConsumerView)
     → IsPollOf p budget answer s t old new
     → accesses_made new ≤ accesses_made old + budget
@@ -120,10 +129,12 @@ most_by p budget answer s t old new i =
     let all = both i.accesses in
     omega (arith, within, reads, claimed, all)
 
--- ---- from its loads
+-- ---- a lane that a consumer has read to its end
 module _ (met : (q p : ℕ) (h : History) → HasMet q p (cells_met p (part (Reader q) h)) h)
     (own : (h : History) (r p : ℕ) (ks : List ℕ) → HasMet r p ks h → HasMet r p ks (part (Reader r) h))
     (of : (h : History) (who : Process) (a : PoolAccess) → Has (part who h) a → Has h a × (a.process ≡ who)) where
+  -- if a consumer has loaded the end mark past all cells that it met, with a note on each, it has read the lane to
+  -- its end
   pub read_by : (s : ConsumerView) (p : ℕ) → HasLoads s → HasLoadedEnd p s → HasNoteOnEach p s → HasReadToEnd p s
   read_by s p loads end noted =
       let r = s.reader.reader in
@@ -140,12 +151,13 @@ module _ (met : (q p : ℕ) (h : History) → HasMet q p (cells_met p (part (Rea
         notes = noted;
       }
 
--- ---- after it was taken in
+-- ---- a lane and a consumer that were taken in
 module _ (whole : (h : History) (r p : ℕ) (ks : List ℕ) → HasMet r p ks (part (Reader r) h) → HasMet r p ks h)
     (of : (h : History) (who : Process) (a : PoolAccess) → Has (part who h) a → Has h a × (a.process ≡ who))
     (last : (size : PoolSize) (h : History) (r p : ℕ) (ks : List ℕ) → IsPoolLawful size h
     → HasMet r p ks h → HasLoaded r (place_past p ks) END h → ks ≡ linked_cells p h)
     (linked : (h : History) (p : ℕ) → linked_cells p h ≡ linked_cells p (part (Producer p) h)) where
+  -- a consumer that has read the lane to its end has as many notes there as the lane has items
   pub notes_by : (size : PoolSize) (roll : Roll) (h : History) (p : ℕ) (done : History)
       (s : ConsumerView) → IsRollOf size roll h
       → slice_get roll.lanes p ≡ Some (Some done) → slice_get roll.readers s.reader.reader ≡ Some (Some s.reader.part)

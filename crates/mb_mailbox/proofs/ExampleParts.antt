@@ -5,15 +5,17 @@ use Rattle.mb_mailbox.specs.Imports.{HasRead, Head, Item, Link, ObjectTurn, ToCe
 use Rattle.mb_mailbox.specs.ConsumerStep.{IsLastMet}
 use Rattle.mb_mailbox.specs.Examples.{met_four}
 
--- the word of an access to the cells, and the cell and the step of one to the claims
+-- the word of an access to the cells
 abbrev pub word_in : WorldAccess → Option Word
 word_in (ToCells a) = Some a.word
 word_in (ToClaims a) = None
 
+-- the cell of an access to the claims
 abbrev pub cell_in : WorldAccess → Option ℕ
 cell_in (ToCells a) = None
 cell_in (ToClaims a) = Some a.cell
 
+-- the step of an access to the claims
 abbrev pub step_in : WorldAccess → Option ObjectTurn
 step_in (ToCells a) = None
 step_in (ToClaims a) = Some a.step
@@ -23,11 +25,12 @@ abbrev pub value_loaded : WorldAccess → Option ℕ
 value_loaded (ToCells a) = loaded_by a.act
 value_loaded (ToClaims a) = None
 
--- it has loaded the lane's head alone
+-- the consumer has loaded the head of lane 0 alone
 pub only_head : (w : Word) (v : ℕ) → HasRead w v (load 0 (Head 0) 5 ∷ []) → Head 0 ≡ w
 only_head w v (a, inl same, word, act) = let e : (load 0 (Head 0) 5).word ≡ a.word = cc in e ∙ word
 only_head w v (a, inr none, word, act) = absurd none
 
+-- so cell 4 is the last that it met, and neither item nor link was loaded
 pub last_met : (xs : List ObjectTurn) → IsLastMet 0 4 (met_four xs)
 last_met xs = record {
   cells = [];

@@ -1,4 +1,4 @@
--- Lists that are moved into the outline of a report.
+-- The items and notes that are moved into the outline of a report, list by list, make the whole report.
 use Rattle.std.proofs.Common.{◌≡◌, ◌≢◌, ℕ, zero, suc, ◌+◌, ◌*◌, ◌<◌, ◌≤◌, List, [], ◌∷◌, ◌++◌, length, get_or, set, refl, sym, ap, ◌∙◌, subst, arith}
 use Rattle.std.specs.Prelude.{Option, Some, None, slice_get}
 use Rattle.std.specs.Option.{option_map, option_map_or}
@@ -14,7 +14,8 @@ use Rattle.mb_mailbox.proofs.Listed.{within_grid}
 use Rattle.mb_mailbox.proofs.Lists.{get_some, some_same}
 use Rattle.mb_mailbox.proofs.TakenIn.{kept_of}
 
--- ---- the last one first
+-- ---- a list that is applied from its last element on
+-- the last element of a longer list is applied before all others
 turn_last : {X Y : Type 0} (f : ℕ → Y → X → X) (n : ℕ) (ys : List Y) (y : Y) (x : X)
     → in_turn f n (ys ++ y ∷ []) x ≡ in_turn f n ys (f (n + length ys) y x)
 turn_last f n [] y x = let same : n ≡ n + 0 = omega arith in ap (λ i. f i y x) same
@@ -22,12 +23,14 @@ turn_last f n (z ∷ ys) y x =
     let same : suc n + length ys ≡ n + suc (length ys) = omega arith in
     ap (f n z) (turn_last f (suc n) ys y x ∙ ap (λ i. in_turn f (suc n) ys (f i y x)) same)
 
+-- what a loop keeps that takes the last element of its list at each turn
 pub turned_by : {X Y : Type 0} (f : ℕ → Y → X → X) (n : ℕ) (ys zs : List Y) (y : Y) (x new rest : X)
     → zs ≡ ys ++ y ∷ [] → new ≡ f (n + length ys) y x → in_turn f n zs x ≡ rest → in_turn f n ys new ≡ rest
 turned_by f n ys zs y x new rest e made same =
     ap (in_turn f n ys) made ∙ sym (turn_last f n ys y x) ∙ ap (λ us. in_turn f n us x) (sym e) ∙ same
 
--- ---- one place
+-- ---- a change of one element
+-- an element that is set to what a change makes of it is a change at its place
 set_changed : {X : Type 0} (xs : List X) (i : ℕ) (f : X → X) (x new : X) → i < length xs → x ≡ get_or xs i x
     → new ≡ f x → set xs i new ≡ changed_at xs i f
 set_changed [] i f x new low is made = absurd (omega arith)
@@ -35,6 +38,7 @@ set_changed (y ∷ xs) zero f x new low is made = ap (λ z. z ∷ xs) (made ∙ 
 set_changed (y ∷ xs) (suc i) f x new low is made =
     ap (λ zs. y ∷ zs) (set_changed xs i f x new (omega (arith, low)) is made)
 
+-- what a loop keeps that takes the last element of its list at each turn, and changes the element at its place
 pub turned : {X Y : Type 0} (change : Y → X → X) (n : ℕ) (ys zs : List Y) (y : Y) (xs rest : List X) (i : ℕ) (x new : X)
     → zs ≡ ys ++ y ∷ [] → i ≡ n + length ys → i < length xs → x ≡ get_or xs i x → new ≡ change y x
     → changed_from change n zs xs ≡ rest → changed_from change n ys (set xs i new) ≡ rest
@@ -42,34 +46,38 @@ turned change n ys zs y xs rest i x new e at low is made same =
     turned_by (λ j z us. changed_at us j (change z)) n ys zs y xs (set xs i new) rest e
     (set_changed xs i (change y) x new low is made ∙ ap (λ j. changed_at xs j (change y)) at) same
 
--- ---- how many there are
+-- ---- the lengths stay
 changed_length : {X : Type 0} (xs : List X) (i : ℕ) (f : X → X) → length (changed_at xs i f) ≡ length xs
 changed_length [] i f = refl
 changed_length (x ∷ xs) zero f = refl
 changed_length (x ∷ xs) (suc i) f = ap suc (changed_length xs i f)
 
+-- if each turn keeps the length, all turns do
 turns_length : {X Y : Type 0} (f : ℕ → Y → List X → List X)
     → ((n : ℕ) (y : Y) (xs : List X) → length (f n y xs) ≡ length xs)
     → (n : ℕ) (ys : List Y) (xs : List X) → length (in_turn f n ys xs) ≡ length xs
 turns_length f keeps n [] xs = refl
 turns_length f keeps n (y ∷ ys) xs = keeps n y (in_turn f (suc n) ys xs) ∙ turns_length f keeps (suc n) ys xs
 
+-- a list whose elements are changed keeps its length
 pub all_length : {X Y : Type 0} (change : Y → X → X) (n : ℕ) (ys : List Y) (xs : List X)
     → length (changed_from change n ys xs) ≡ length xs
 all_length change n ys xs =
     turns_length (λ i y zs. changed_at zs i (change y)) (λ i y zs. changed_length zs i (change y)) n ys xs
 
+-- the notes of one consumer leave the number of diaries as it is
 pub row_length : (first : ℕ) (o : Option ConsumerRecordView) (ds : List DiaryView)
     → length (with_row first o ds) ≡ length ds
 row_length first None ds = refl
 row_length first (Some l) ds = all_length with_notes first l.notes ds
 
+-- the notes of all consumers leave the number of diaries as it is
 rows_length : (lanes c : ℕ) (os : List (Option ConsumerRecordView)) (ds : List DiaryView)
     → length (with_rows lanes c os ds) ≡ length ds
 rows_length lanes c os ds =
     turns_length (λ d o es. with_row (d * lanes) o es) (λ d o es. row_length (d * lanes) o es) c os ds
 
--- ---- the element at a place
+-- ---- the element at a place, in a list with changes
 changed_here : {X : Type 0} (xs : List X) (i : ℕ) (f : X → X)
     → slice_get (changed_at xs i f) i ≡ option_map f (slice_get xs i)
 changed_here [] i f = refl
@@ -85,6 +93,7 @@ changed_else (x ∷ xs) (suc i) zero f ne = refl
 changed_else (x ∷ xs) (suc i) (suc k) f ne = changed_else xs i k f (λ e. ne (ap suc e))
 
 module _ {X Y : Type 0} (change : Y → X → X) where
+  -- no element before the changes is changed
   before : (n k : ℕ) (ys : List Y) (xs : List X) → k < n → slice_get (changed_from change n ys xs) k ≡ slice_get xs k
   before n k [] xs low = refl
   before n k (y ∷ ys) xs low =
@@ -92,6 +101,7 @@ module _ {X Y : Type 0} (change : Y → X → X) where
       changed_else (changed_from change (suc n) ys xs) n k (change y) other
       ∙ before (suc n) k ys xs (omega (arith, low))
 
+  -- no element past the changes is changed
   past : (n k : ℕ) (ys : List Y) (xs : List X) → n + length ys ≤ k
       → slice_get (changed_from change n ys xs) k ≡ slice_get xs k
   past n k [] xs high = refl
@@ -100,6 +110,7 @@ module _ {X Y : Type 0} (change : Y → X → X) where
       changed_else (changed_from change (suc n) ys xs) n k (change y) other
       ∙ past (suc n) k ys xs (omega (arith, high))
 
+  -- an element within the changes is changed by the one at its place
   within : (n j k : ℕ) (ys : List Y) (xs : List X) (y : Y) → slice_get ys j ≡ Some y → k ≡ n + j
       → slice_get (changed_from change n ys xs) k ≡ option_map (change y) (slice_get xs k)
   within n j k [] xs y e at = absurd (cc)
@@ -114,12 +125,14 @@ module _ {X Y : Type 0} (change : Y → X → X) where
       changed_else (changed_from change (suc n) ys xs) n k (change z) other
       ∙ within (suc n) j k ys xs y e (omega (arith, at))
 
+-- if there is nothing at a place, the place is past the list
 none_past : {X : Type 0} (xs : List X) (k : ℕ) → slice_get xs k ≡ None → length xs ≤ k
 none_past [] k e = omega arith
 none_past (x ∷ xs) zero e = absurd (cc)
 none_past (x ∷ xs) (suc k) e = let low = none_past xs k e in omega (arith, low)
 
--- ---- lanes
+-- ---- the lanes of the report
+-- the outline of a lane with the items put is the lane
 put_is : (n p : ℕ) (h : HubView) (z : Option (Option PutListView)) → slice_get h.puts p ≡ z → (xs : List ℕ)
     → xs ≡ option_map_or (λ (l : PutListView). l.items) (kept_of z) []
     → record (lane_in n p h) { put = xs } ≡ lane_in n p h
@@ -127,6 +140,7 @@ put_is n p h z e xs is =
     ap (λ (ys : List ℕ). record (lane_in n p h) { put = ys })
     (is ∙ ap (λ o. option_map_or (λ (l : PutListView). l.items) (kept_of o) []) (sym e))
 
+-- after the items are moved in, the lane stands in the report
 lane_told : (n p : ℕ) (h : HubView) (ls : List LaneView) → slice_get ls p ≡ Some (lane_outline n p h)
     → slice_get (changed_from with_items 0 h.puts ls) p ≡ Some (lane_in n p h)
 lane_told n p h ls out = by (slice_get h.puts p) refl
@@ -144,7 +158,7 @@ lane_told n p h ls out = by (slice_get h.puts p) refl
     by (Some o) e = within with_items 0 p p h.puts ls o e (omega arith) ∙ ap (option_map (with_items o)) out ∙ end o e
 
 -- ---- the diaries of one consumer
--- its diary of lane q, with its notes if it was taken in
+-- a consumer's diary of lane q, with the consumer's notes if it was taken in
 abbrev noted : ℕ → Option ConsumerRecordView → Option DiaryView → Option DiaryView
 noted q None z = z
 noted q (Some l) z = option_map (with_notes (notes_on q l.notes)) z
@@ -153,11 +167,13 @@ noted q (Some l) z = option_map (with_notes (notes_on q l.notes)) z
 abbrev IsFull : ℕ → Option ConsumerRecordView → Type 0
 IsFull lanes o = (l : ConsumerRecordView) → o ≡ Some l → length l.notes ≡ lanes
 
+-- a consumer's notes change no diary before the consumer's first
 row_before : (first k : ℕ) (o : Option ConsumerRecordView) (ds : List DiaryView) → k < first
     → slice_get (with_row first o ds) k ≡ slice_get ds k
 row_before first k None ds low = refl
 row_before first k (Some l) ds low = before with_notes first k l.notes ds low
 
+-- a consumer's notes change no diary past the consumer's last
 row_past : (lanes first k : ℕ) (o : Option ConsumerRecordView) (ds : List DiaryView)
     → IsFull lanes o → first + lanes ≤ k
     → slice_get (with_row first o ds) k ≡ slice_get ds k
@@ -165,6 +181,7 @@ row_past lanes first k None ds full high = refl
 row_past lanes first k (Some l) ds full high =
     past with_notes first k l.notes ds (let count = full l refl in omega (arith, count, high))
 
+-- the diary of lane q gets the consumer's notes on that lane
 row_within : (lanes first q k : ℕ) (o : Option ConsumerRecordView) (ds : List DiaryView) → IsFull lanes o → q < lanes
     → k ≡ first + q → slice_get (with_row first o ds) k ≡ noted q o (slice_get ds k)
 row_within lanes first q k None ds full low at = refl
@@ -174,10 +191,12 @@ row_within lanes first q k (Some l) ds full low at =
     ∙ ap (λ (ns : List Note). option_map (with_notes ns) (slice_get ds k))
     (sym (ap (λ (z : Option (List Note)). option_map_or (λ (ns : List Note). ns) z []) t.1))
 
--- ---- the diaries of all
+-- ---- the diaries of all consumers
+-- each consumer that was taken in has notes for this many lanes
 abbrev pub AreFull : ℕ → List (Option ConsumerRecordView) → Type 0
 AreFull lanes os = (c : ℕ) (l : ConsumerRecordView) → slice_get os c ≡ Some (Some l) → length l.notes ≡ lanes
 
+-- what holds of all consumers holds of the first, and by `rest_full` of the others
 first_full : (lanes : ℕ) (o : Option ConsumerRecordView) (os : List (Option ConsumerRecordView))
     → AreFull lanes (o ∷ os) → IsFull lanes o
 first_full lanes o os full l e = full 0 l (ap Some e)
@@ -186,16 +205,18 @@ rest_full : (lanes : ℕ) (o : Option ConsumerRecordView) (os : List (Option Con
     → AreFull lanes os
 rest_full lanes o os full c l e = full (suc c) l e
 
+-- the diaries of the next consumer begin past those of this one
 pub next_row : (c lanes : ℕ) → suc c * lanes ≡ c * lanes + lanes
 next_row c lanes = grind arith
 
--- a later row stands past this one
+-- the diaries of a later consumer stand past those of this one
 row_end : (lanes c m k : ℕ) → c < m → m * lanes ≤ k → c * lanes + lanes ≤ k
 row_end lanes c m k less high =
     let most : suc c * lanes ≤ m * lanes = mul-le-mul_right lanes less in
     let more = next_row c lanes in
     omega (arith, most, more, high)
 
+-- the notes of the consumers from c on change no diary before those of consumer c
 rows_before : (lanes c k : ℕ) (os : List (Option ConsumerRecordView)) (ds : List DiaryView) → k < c * lanes
     → slice_get (with_rows lanes c os ds) k ≡ slice_get ds k
 rows_before lanes c k [] ds low = refl
@@ -203,6 +224,7 @@ rows_before lanes c k (o ∷ os) ds low =
     row_before (c * lanes) k o (with_rows lanes (suc c) os ds) low
     ∙ rows_before lanes (suc c) k os ds (let more = next_row c lanes in omega (arith, low, more))
 
+-- the notes of consumers change no diary past those of the last one
 rows_past : (lanes c k : ℕ) (os : List (Option ConsumerRecordView)) (ds : List DiaryView) → AreFull lanes os
     → (c + length os) * lanes ≤ k → slice_get (with_rows lanes c os ds) k ≡ slice_get ds k
 rows_past lanes c k [] ds full high = refl
@@ -212,6 +234,7 @@ rows_past lanes c k (o ∷ os) ds full high =
     (row_end lanes c (c + suc (length os)) k (omega arith) high)
     ∙ rows_past lanes (suc c) k os ds (rest_full lanes o os full) (subst (λ (m : ℕ). m * lanes ≤ k) same high)
 
+-- the diary of a consumer on lane q gets that consumer's notes on the lane
 rows_within : (lanes c j q k : ℕ) (os : List (Option ConsumerRecordView)) (ds : List DiaryView)
     (o : Option ConsumerRecordView)
     → AreFull lanes os → slice_get os j ≡ Some o → q < lanes → k ≡ (c + j) * lanes + q
@@ -231,6 +254,7 @@ rows_within lanes c (suc j) q k (z ∷ os) ds o full e low at =
     ∙ rows_within lanes (suc c) j q k os ds o (rest_full lanes z os full) e low
     (at ∙ ap (λ m. m * lanes + q) same)
 
+-- the outline of a diary with its notes is the diary
 notes_is : (c p : ℕ) (h : HubView) (z : Option (Option ConsumerRecordView)) → slice_get h.ledgers c
     ≡ z → (ns : List Note)
     → ns ≡ option_map_or (λ (l : ConsumerRecordView). notes_on p l.notes) (kept_of z) []
@@ -239,6 +263,7 @@ notes_is c p h z e ns is =
     ap (λ (ms : List Note). record (diary_in c p h) { notes = ms })
     (is ∙ ap (λ o. option_map_or (λ (l : ConsumerRecordView). notes_on p l.notes) (kept_of o) []) (sym e))
 
+-- after the notes are moved in, the diary stands in the report
 diary_told : (lanes c p : ℕ) (h : HubView) (ds : List DiaryView) → AreFull lanes h.ledgers → p < lanes
     → slice_get ds (c * lanes + p) ≡ Some (diary_outline c p h)
     → slice_get (with_rows lanes 0 h.ledgers ds) (c * lanes + p) ≡ Some (diary_in c p h)
@@ -266,6 +291,7 @@ diary_told lanes c p h ds full low out = by (slice_get h.ledgers c) refl
         rows_within lanes 0 c p (c * lanes + p) h.ledgers ds o full e low here ∙ ap (noted p o) out ∙ end o e
 
 -- ---- the report
+-- the outline with all items and notes moved in is the report
 pub report_filled : (lanes consumers : ℕ) (h : HubView) (o r : ReportView) → IsOutlineIn lanes consumers h o
     → AreFull lanes h.ledgers → r.lanes ≡ changed_from with_items 0 h.puts o.lanes
     → r.diaries ≡ with_rows lanes 0 h.ledgers o.diaries → IsReportIn lanes consumers h r
@@ -283,6 +309,7 @@ report_filled lanes consumers h o r out full ls ds = record {
 pub full_ledgers : (h : HubView) → IsHub h → AreFull h.cells.table.size.lanes h.ledgers
 full_ledgers h i c l e = (i.taken c l e).2.2.notes_count
 
+-- the outline has a place for the diary of each consumer on each lane
 pub rows_fit : (m : MailboxView) (h : HubView) (o : ReportView) (lanes : ℕ) → IsHub h → IsHubOf m h
     → lanes ≡ m.cells.size.lanes
     → IsOutlineIn h.cells.table.size.lanes (claims_at h.claims.table).table.values h o
@@ -295,6 +322,7 @@ rows_fit m h o lanes i of same out =
     let count = out.each_diary.count in
     subst (λ (n : ℕ). length h.ledgers * n ≤ length o.diaries) (sym wide) (omega (arith, most, count))
 
+-- the outline with all items and notes moved in is the report of this mailbox's hub
 pub report_of : (m : MailboxView) (h : HubView) (o r : ReportView) (lanes : ℕ) → IsHub h → IsHubOf m h
     → lanes ≡ m.cells.size.lanes
     → IsOutlineIn h.cells.table.size.lanes (claims_at h.claims.table).table.values h o

@@ -1,4 +1,5 @@
--- What a run comes to: from what was given, from what came of it, and from what was taken in.
+-- What a run of workers comes to. It follows from the numbers given, from the ends of the workers, and from what the
+-- hub has taken in.
 use Rattle.std.proofs.Common.{◌≡◌, ℕ, suc, Bool, true, ◌+◌, ◌-◌, ◌^◌, ◌≤◌, List, [], ◌∷◌, ◌++◌, length, map, min, refl, sym, ap, ◌∙◌, subst, false, arith, ◌<◌}
 use Rattle.std.specs.Int.{from_bool}
 use Rattle.std.specs.Prelude.{Vec, Some, slice_get}
@@ -36,11 +37,13 @@ use Rattle.mb_mailbox.proofs.Noted.{all_noted}
 use Rattle.mb_mailbox.proofs.Runs.{lane_left, lanes_of, left_by, left_of, nums, run_beyond, run_cut, run_ends, run_met, run_of, run_only, run_passes, run_poll_stops, run_polled, run_stops, run_unread}
 use Rattle.mb_mailbox.proofs.Zips.{zip_length}
 
+-- anything holds of all elements of the empty list
 nothing : {X : Type 0} (P : X → Type 0) → All P []
 nothing P k d low = absurd (omega (arith, low))
 
--- ---- all of the mailbox
+-- ---- all producers and consumers of a run are of the mailbox
 module _ {Z : Type 0} (m : MailboxView) where
+  -- the producers of new jobs are of the mailbox
   puts_at : (p : ℕ) (vs : List (Vec ℕ Z)) (js : List (PutJob Z)) → ArePutJobs m p vs js
       → All (λ (j : PutJob Z). IsProducerOf m j.producer) js
   puts_at p [] [] a = nothing (λ (j : PutJob Z). IsProducerOf m j.producer)
@@ -58,6 +61,7 @@ module _ {Z : Type 0} (m : MailboxView) where
   put_count p (v ∷ vs) [] a = absurd a
   put_count p (v ∷ vs) (j ∷ js) a = ap suc (put_count (suc p) vs js a.2)
 
+  -- a producer is of the mailbox at its job's end, too
   put_ends_at : (may_stop may_pass : Who → ℕ → Type 0) (js : List (PutJob Z))
       (ds : List (PutDone Z)) → All (λ (j : PutJob Z). IsProducerOf m j.producer) js
       → AllZip (IsPutEnd may_stop may_pass) js ds
@@ -72,6 +76,7 @@ module _ {Z : Type 0} (m : MailboxView) where
       (put_ends_at may_stop may_pass js ds (All-tail P j js a) z.1)
 
 module _ {R Z : Type 0} (m : MailboxView) where
+  -- the consumers of new jobs are of the mailbox
   polls_at : (c : ℕ) (js : List (PollJob R Z)) → ArePollJobs m c js
       → All (λ (j : PollJob R Z). IsConsumerOf m j.consumer) js
   polls_at c [] a = nothing (λ (j : PollJob R Z). IsConsumerOf m j.consumer)
@@ -81,6 +86,7 @@ module _ {R Z : Type 0} (m : MailboxView) where
         claims = a.0.claims;
       }) (polls_at (suc c) js a.1)
 
+  -- the jobs for which the hub gave numbers are of the mailbox
   pub jobs_at : (vs : List (Vec ℕ Z)) (sources : ℕ) (jobs : WorkerInputs R Z) (h mid : HubView)
       → AreGiven m vs sources jobs h mid → AreOf m jobs
   jobs_at vs sources jobs h mid g = record {
@@ -88,6 +94,7 @@ module _ {R Z : Type 0} (m : MailboxView) where
     polls = polls_at (length h.ledgers) jobs.polls.items g.polls;
   }
 
+  -- a consumer is of the mailbox at its job's end, too
   poll_ends_at : (may_stop may_pass : Who → ℕ → Type 0) (stream : R → Stream) (from end budget : ℕ)
       (js : List (PollJob R Z)) (ds : List (PollDone Z))
       → All (λ (j : PollJob R Z). IsConsumerOf m j.consumer) js
@@ -107,6 +114,7 @@ module _ {R Z : Type 0} (m : MailboxView) where
       })
       (poll_ends_at may_stop may_pass stream from end budget js ds (All-tail P j js a) z.1)
 
+  -- the ends of such jobs are of the mailbox
   pub ends_at : (may_stop may_pass : Who → ℕ → Type 0) (stream : R → Stream) (from end budget : ℕ)
       (jobs : WorkerInputs R Z) (ends : WorkerResults Z) → AreOf m jobs
       → AreEndsOf may_stop may_pass stream from end budget jobs ends
@@ -136,6 +144,7 @@ append_none : {X : Type 0} (xs : List X) → xs ≡ xs ++ []
 append_none [] = refl
 append_none (x ∷ xs) = ap (λ l. x ∷ l) (append_none xs)
 
+-- a run for which nothing was given has taken in all that was given
 pub nothing_taken : (lists : List (List ℕ)) (sources : ℕ) (h : HubView) → WereTakenInEarly lists sources h h
 nothing_taken lists sources h = record {
   front = [];
@@ -158,7 +167,8 @@ nothing_taken lists sources h = record {
   };
 }
 
--- ---- counts
+-- ---- counts of those that were stopped
+-- a sum over a mapped list is the sum over the list, if each element counts the same
 sum_same : {X Y : Type 0} (f : X → ℕ) (g : Y → ℕ) (h : X → Y) → ((x : X) → f x ≡ g (h x))
     → (xs : List X) → sum_by f xs ≡ sum_by g (map h xs)
 sum_same f g h e [] = refl
@@ -169,6 +179,7 @@ at_most_one : (b : Bool) → from_bool b ≤ 1
 at_most_one true = omega arith
 at_most_one false = omega arith
 
+-- at most as many elements pass a test as there are
 at_most_each : {X : Type 0} (f : X → Bool) (xs : List X) → sum_by (λ x. from_bool (f x)) xs ≤ length xs
 at_most_each f [] = omega arith
 at_most_each f (x ∷ xs) =
@@ -184,6 +195,7 @@ module _ {R Z : Type 0} (m : MailboxView) (may_stop may_pass : Who → ℕ → T
     (hub : IsHub h) (given : AreGiven m items sources jobs h mid)
     (came : AreEndsOf may_stop may_pass stream from end budget jobs ends)
     (is : now ≡ with_taken ends mid) where
+  -- the run is one for the lists of its jobs
   its : (vs : List (Vec ℕ Z)) → ArePutJobs m (length h.puts) vs jobs.puts.items
       → IsRunOf (lists_in vs) (length jobs.polls.items)
       (lanes_of m may_stop may_pass ends.puts.items)
@@ -196,6 +208,7 @@ module _ {R Z : Type 0} (m : MailboxView) (may_stop may_pass : Who → ℕ → T
       (run_of m may_stop may_pass stream h from end budget vs jobs.puts.items ends.puts.items
       jobs.polls.items ends.polls.items hub are given.polls came.puts came.polls)
 
+  -- all that was given was taken in, also if the hub could not give all numbers
   pub early : WereTakenInEarly (lists_in items) sources h now
   early = record {
     front = lists_in given.puts.front;
@@ -211,10 +224,11 @@ module _ {R Z : Type 0} (m : MailboxView) (may_stop may_pass : Who → ℕ → T
   }
 
   module _ (rngs : List R) (count : length rngs ≡ sources) (all : AreAllGiven m items rngs jobs h) where
-    -- as many jobs as sources
+    -- there are as many consumers' jobs as sources
     polls_count : length jobs.polls.items ≡ sources
     polls_count = sym (length-map jobs.polls.items (λ (j : PollJob R Z). j.rng)) ∙ ap length all.polls ∙ count
 
+    -- if the hub gave all numbers, the run is one for all lists and all sources
     run : IsRunOf (lists_in items) sources (lanes_of m may_stop may_pass ends.puts.items)
         (left_of m may_stop may_pass ends.polls.items) h now
     run = subst (λ (n : ℕ). IsRunOf (lists_in items) n
@@ -222,6 +236,7 @@ module _ {R Z : Type 0} (m : MailboxView) (may_stop may_pass : Who → ℕ → T
         (left_of m may_stop may_pass ends.polls.items) h now)
         polls_count (its items all.puts)
 
+    -- then all that was given was taken in
     pub taken : WereTakenIn (lists_in items) sources h now
     taken = record {
       lanes = lanes_of m may_stop may_pass ends.puts.items;
@@ -229,6 +244,7 @@ module _ {R Z : Type 0} (m : MailboxView) (may_stop may_pass : Who → ℕ → T
       run = run;
     }
 
+    -- then there are as many lanes as lists
     few : length (lanes_of m may_stop may_pass ends.puts.items) ≡ length items
     few = sym (zip_length _ (lists_in items) (lanes_of m may_stop may_pass ends.puts.items)
         run.fronts) ∙ length-map items (λ (v : Vec ℕ Z). v.items)
@@ -253,7 +269,8 @@ module _ {R Z : Type 0} (m : MailboxView) (may_stop may_pass : Who → ℕ → T
         (s : ConsumerView) → IsRollOf size roll h
         → slice_get roll.lanes p ≡ Some (Some done) → slice_get roll.readers s.reader.reader ≡ Some (Some s.reader.part)
         → HasReadToEnd p s → length (notes_on p s.notes) ≡ length (values_put p done)) where
-      -- no more workers are stopped than there are
+      -- `stopped` is the number of workers that were stopped. It is below 2^64, since there are no more workers than
+      -- lists and sources
       total : w.stopped ≡ sum_by (λ (l : LaneLeft). from_bool l.stopped) (lanes_of m may_stop may_pass ends.puts.items)
           + sum_by (λ (c : ConsumerLeft). from_bool c.stopped) (left_of m may_stop may_pass ends.polls.items)
       total =
@@ -267,12 +284,14 @@ module _ {R Z : Type 0} (m : MailboxView) (may_stop may_pass : Who → ℕ → T
           let lanes = few in
           omega (arith, stopped, puts, polls, most, others, lanes, count, small)
 
+      -- the run's lanes end past as many lanes as there are lists
       far : end ≡ length h.puts + length (lists_in items)
       far = last ∙ ap (λ (n : ℕ). length h.puts + n) (sym (length-map items (λ (v : Vec ℕ Z). v.items)))
 
       cells : m.cells.size.cells ≡ now.cells.table.size.cells
       cells = ap (λ t. t.size.cells) (sym of.cells)
 
+      -- if the run is not aborted, this is what it comes to
       pub worked : IsWorked may_stop budget (lists_in items) sources w h now
       worked = record {
         lanes = lanes_of m may_stop may_pass ends.puts.items;
@@ -329,7 +348,7 @@ module _ {R Z : Type 0} (m : MailboxView) (may_stop may_pass : Who → ℕ → T
             jobs.polls.items ends.polls.items hub all.puts given.polls came.puts came.polls);
       }
 
-      -- the sources of the jobs are those that were given
+      -- the sources of the jobs are those that were passed in, and as many as those (`many`)
       streams : map (λ (j : PollJob R Z). stream j.rng) jobs.polls.items ≡ map stream rngs
       streams = sym (map-map stream (λ (j : PollJob R Z). j.rng) jobs.polls.items)
           ∙ ap (λ (l : List R). map stream l) all.polls
@@ -337,6 +356,7 @@ module _ {R Z : Type 0} (m : MailboxView) (may_stop may_pass : Who → ℕ → T
       many : length (map stream rngs) ≡ sources
       many = length-map rngs stream ∙ count
 
+      -- if the run is not aborted, these are its calls
       pub called : IsCalled may_stop may_pass budget (lists_in items) (map stream rngs) w h now
       called = record {
         lanes = lanes_of m may_stop may_pass ends.puts.items;

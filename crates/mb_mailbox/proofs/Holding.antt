@@ -21,7 +21,7 @@ use Rattle.mb_mailbox.proofs.Moving.{holds, loads_known}
 use Rattle.mb_mailbox.proofs.Standings.{Leaves, end_kept, ends_more, moves, same_length, with_one}
 use Rattle.mb_mailbox.proofs.Totals.{sum_less, total}
 
--- a note after others is the first of them backwards
+-- a note at the end of a list is the first of the list turned round
 snoc_back : (ns : List Note) (n : Note) → reverse (ns ++ n ∷ []) ≡ n ∷ reverse ns
 snoc_back ns n = reverse-append ns (n ∷ [])
 
@@ -33,6 +33,7 @@ goes_on (stage.Lost w) e ne = absurd (cc)
 goes_on stage.Undecided e ne = absurd (cc)
 
 module _ (s : ConsumerView) (p k : ℕ) (claim : Claim) (i : IsConsumer s) (e : HasPlace p (At k claim) s) where
+  -- the claims of the consumer's table, the consumer's number, and its parts
   abbrev cs : Claims
   cs = claims_in i.size.layout i.size.cells
 
@@ -42,26 +43,33 @@ module _ (s : ConsumerView) (p k : ℕ) (claim : Claim) (i : IsConsumer s) (e : 
   abbrev x : Parts
   x = parts_of s.reader s.seat
 
+  -- the claim is the consumer's own
   pub own_claim : consumer_of claim ≡ c
   own_claim = (holds s p k claim i e).2.own
 
+  -- the claim has made the turns of the consumer's part on the cell
   pub turns_made : HasTurns s claim (part_on c k s.seat.part)
   turns_made = λ size is. let same : i.size ≡ size = some_same i.size size (sym i.table ∙ is) in
       subst (λ (z : TableSize). IsClaimIn z.layout claim (part_on c k s.seat.part)) same (holds s p k claim i e).2.path
 
+  -- if the claim is not won, it goes on
   pub stage_held : claim_stage claim ≢ stage.Won → claim_stage claim ≡ stage.Going
   stage_held ne = goes_on (claim_stage claim) (holds s p k claim i e).2.unnoted ne
 
+  -- the cell was met on this lane
   has_here : Has (cells_met p s.reader.part) k
   has_here = subst (λ ks. Has ks k) (sym (holds s p k claim i e).2.met) (inl refl)
 
   module _ (laws : Laws) (h : HasLoads s) where
+    -- what is known of the consumer's loads
     abbrev known : Known s.reader.table.size s.reader.part
     known = loads_known laws s h
 
+    -- the consumer's loads gave it the cell
     pub given : Gave k s.reader.part
     given = known.given p k has_here
 
+    -- the cell is one of the pool
     pub within : k < s.reader.table.size.cells
     within = known.within p k has_here
 
@@ -83,6 +91,7 @@ module _ (s : ConsumerView) (p k : ℕ) (claim : Claim) (i : IsConsumer s) (e : 
             let long : length (cells_met q s.reader.part) ≡ length (j ∷ a.cells) = ap length a.met in
             omega (arith, same, long, turned)
 
+    -- on this lane there are fewer notes than cells met
     noted_here : (ns : List Note) → slice_get s.notes p ≡ Some ns → length ns < length (cells_met p s.reader.part)
     noted_here ns f =
         let o : ConsumerIsAt i.size.layout cs c p x ns k claim = i.lanes p (At k claim) ns e f in
@@ -91,6 +100,7 @@ module _ (s : ConsumerView) (p k : ℕ) (claim : Claim) (i : IsConsumer s) (e : 
         let turned : length (reverse ns) ≡ length ns = length-reverse ns in
         omega (arith, long, same, turned)
 
+    -- so all lanes together have fewer notes than the pool has cells
     pub room : sum_by length s.notes < s.reader.table.size.cells
     room =
         let low : p < length s.notes = subst (λ n. p < n) (i.places_count ∙ sym i.notes_count)
@@ -112,6 +122,7 @@ module _ (s : ConsumerView) (p k : ℕ) (claim : Claim) (i : IsConsumer s) (e : 
     -- ---- an access of the claim
     module _ (word seen : ℕ) (now : Claim) (next : ClaimOp) (own_now : consumer_of now ≡ c)
         (turns_now : HasTurns s now (part_on c k (access_of c k next seen word ∷ s.seat.part))) where
+      -- the access, the consumer's part with it, and the two parts then
       abbrev a : ClaimAccess
       a = access_of c k next seen word
 
@@ -121,9 +132,11 @@ module _ (s : ConsumerView) (p k : ℕ) (claim : Claim) (i : IsConsumer s) (e : 
       abbrev y : Parts
       y = record { reads = s.reader.part; claimed = λ j. part_on c j made }
 
+      -- the part on each other cell is as it was
       else : (j : ℕ) → (j ≡ k → ⊥) → part_on c j made ≡ part_on c j s.seat.part
       else j ne = laws.other_cells c j a s.seat.part (λ u v. ne (sym v))
 
+      -- with the access at its head, the part on this cell is the part after the access
       stepped : (j : ℕ) → cond (nat_eq j k) (a.step ∷ x.claimed j) (x.claimed j) ≡ part_on c j made
       stepped j = ⊎_elim
           (λ (same : j ≡ k).
@@ -134,6 +147,7 @@ module _ (s : ConsumerView) (p k : ℕ) (claim : Claim) (i : IsConsumer s) (e : 
           ap (λ b. cond b (a.step ∷ x.claimed j) (x.claimed j)) (ne_eqb j k ne) ∙ sym (else j ne))
           (cases_eq j k)
 
+      -- the two parts still fit
       fits : Fits cs c y
       fits =
           subst (λ (f : ℕ → List ObjectTurn). Fits cs c (record {
@@ -142,6 +156,7 @@ module _ (s : ConsumerView) (p k : ℕ) (claim : Claim) (i : IsConsumer s) (e : 
           })) (λ z j. stepped j z)
           (laws.claims cs c k a.step x i.fit given (holds s p k claim i e).2.left)
 
+      -- the access leaves each other lane alone
       others : (q : ℕ) → q ≢ p → Leaves q x y
       others q ne = record {
         met = refl;
@@ -151,16 +166,20 @@ module _ (s : ConsumerView) (p k : ℕ) (claim : Claim) (i : IsConsumer s) (e : 
         left = λ j has l. l;
       }
 
+      -- the claims on the cells before this one end as they did
       ends : (ns : List Note) (o : ConsumerIsAt i.size.layout cs c p x ns k claim) → AreEnds cs c o.cells (reverse ns) y
       ends ns o = ends_more cs c x y o.cells (reverse ns)
           (λ j n has. end_kept cs c j n x y (sym (else j (before_else ns o j has))) (λ u r. r)) o.ended
 
+      -- the claim after the access is the one of the longer part
       path : IsClaimIn i.size.layout now (y.claimed k)
       path = turns_now i.size i.table
 
+      -- the stage of that claim is the one of the longer part
       prefix : HasStageIn cs c k (claim_stage now) y
       prefix = subst (λ d. IsClaimPrefix cs d (y.claimed k) (claim_stage now)) own_now path.prefix
 
+      -- the consumer stands at the place, and has the note, that the stage says
       stands : (st : Stage) → claim_stage now ≡ st → (ns : List Note) → slice_get s.notes p ≡ Some ns
           → StandsOn i.size.layout cs c p y (with_one (note_of st) ns) (place_after k now st)
       stands stage.Going is ns f = held ns f (ap note_of is)
@@ -213,6 +232,7 @@ module _ (s : ConsumerView) (p k : ℕ) (claim : Claim) (i : IsConsumer s) (e : 
                     (λ j. (sym o.met j, sym (snoc_back ns n) j)) (end, ends ns o);
               }
 
+      -- so after the access the consumer is as consumers are
       pub competes : IsConsumer (moved_to p (place_after k now (claim_stage now))
           (note_of (claim_stage now)) s.reader.part made s)
       competes = moves s p (At k claim) (place_after k now (claim_stage now))
@@ -221,24 +241,29 @@ module _ (s : ConsumerView) (p k : ℕ) (claim : Claim) (i : IsConsumer s) (e : 
 
     -- ---- the load of the item
     module _ (v : ℕ) (won : claim_stage claim ≡ stage.Won) where
+      -- the load, and the two parts with it
       abbrev b : PoolAccess
       b = load s.reader.reader (Item k) v
 
       abbrev z : Parts
       z = with_load b x
 
+      -- the consumer's claim on the cell is won
       has_won : HasStageIn cs c k stage.Won x
       has_won =
           let o = (holds s p k claim i e).2 in
           subst (λ st. IsClaimPrefix cs c (x.claimed k) st) won
           (subst (λ d. IsClaimPrefix cs d (x.claimed k) (claim_stage claim)) o.own o.path.prefix)
 
+      -- the item is not the link before which the consumer stands on a lane
       no_link : (q : ℕ) → Item k ≢ place_past q (cells_met q s.reader.part)
       no_link q f = past_item q k (cells_met q s.reader.part) (sym f)
 
+      -- equal items are those of equal cells
       same_item : (j : ℕ) → Item k ≡ Item j → k ≡ j
       same_item j f = cc
 
+      -- the load leaves each other lane alone
       left_else : (q : ℕ) → q ≢ p → Leaves q x z
       left_else q ne = record {
         met = laws.elsewhere q b s.reader.part (no_link q);
@@ -254,6 +279,7 @@ module _ (s : ConsumerView) (p k : ℕ) (claim : Claim) (i : IsConsumer s) (e : 
         );
       }
 
+      -- so after the load the consumer is as consumers are, and stands past the cell with a note
       pub takes : IsConsumer (moved_to p (Before (Past k)) (Some (Took v)) (reads_with_item s k v) s.seat.part s)
       takes =
           let same : cells_met p (b ∷ s.reader.part)

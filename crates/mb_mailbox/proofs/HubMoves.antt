@@ -1,4 +1,4 @@
--- A hub gives a producer, and takes it in.
+-- A hub gives a producer or a consumer, and takes it in.
 use Rattle.std.proofs.Common.{◌≡◌, ◌≢◌, ◌⊎◌, ℕ, zero, suc, ◌<◌, ◌≤◌, List, [], ◌∷◌, ◌++◌, length, refl, sym, ap, ◌∙◌, subst, inl, inr, ⊎_elim, arith}
 use Rattle.std.specs.Prelude.{Option, Some, None, slice_get, slice_set}
 use Rattle.std.proofs.lemmas.List.{length-append}
@@ -12,13 +12,15 @@ use Rattle.mb_mailbox.specs.Consumers.{ConsumerView, IsConsumer}
 use Rattle.mb_mailbox.specs.Producers.{IsProducer, ProducerView}
 use Rattle.mb_mailbox.proofs.Lists.{get_some, get_within, set_get, set_length, some_same}
 
--- ---- lists with one more at their end
+-- ---- lists with one more at their end, or with one set
+-- an element keeps its place in a list with one more at its end
 get_more : {X : Type 0} (xs : List X) (x : X) (p : ℕ) (a : X) → slice_get xs p ≡ Some a
     → slice_get (xs ++ x ∷ []) p ≡ Some a
 get_more [] x p a e = absurd (cc)
 get_more (y ∷ xs) x zero a e = e
 get_more (y ∷ xs) x (suc p) a e = get_more xs x p a e
 
+-- an element of a list with one more at its end is an element of the list, or is the last
 get_older : {X : Type 0} (xs : List X) (x : X) (p : ℕ) (a : X) → slice_get (xs ++ x ∷ []) p ≡ Some a
     → (slice_get xs p ≡ Some a) ⊎ (x ≡ a)
 get_older [] x zero a e = inr (some_same x a e)
@@ -32,6 +34,7 @@ set_here [] k a b e = absurd (cc)
 set_here (x ∷ xs) zero a b e = refl
 set_here (x ∷ xs) (suc k) a b e = set_here xs k a b e
 
+-- if another element is set, an element stays
 set_there : {X : Type 0} (xs : List X) (i k : ℕ) (a b : X) → k ≢ i → slice_get xs k ≡ Some b
     → slice_get (slice_set xs i a) k ≡ Some b
 set_there [] i k a b ne e = e
@@ -40,6 +43,7 @@ set_there (x ∷ xs) zero (suc k) a b ne e = e
 set_there (x ∷ xs) (suc i) zero a b ne e = e
 set_there (x ∷ xs) (suc i) (suc k) a b ne e = set_there xs i k a b (λ h. ne (ap suc h)) e
 
+-- two lists of one length have one length with one more each
 longer : {X Y : Type 0} (xs : List X) (ys : List Y) (x : X) (y : Y) → length xs ≡ length ys
     → length (xs ++ x ∷ []) ≡ length (ys ++ y ∷ [])
 longer xs ys x y e =
@@ -47,13 +51,15 @@ longer xs ys x y e =
     let b = length-append ys (y ∷ []) in
     omega arith
 
--- the hub that has given nothing
+-- an empty list has nothing at any place
 none_there : {X : Type 0} (p : ℕ) (x : X) → slice_get [] p ≡ Some x → ⊥
 none_there p x e = cc
 
 none_at : {X : Type 0} (xs : List X) (p : ℕ) (x : X) → xs ≡ [] → slice_get xs p ≡ Some x → ⊥
 none_at {X} xs p x none e = none_there p x (subst (λ (ys : List X). slice_get ys p ≡ Some x) none e)
 
+-- ---- a new hub, and producers
+-- a hub that has given nothing is as hubs are
 pub new_hub : (cells : CellHubView) (claims : ClaimHubView) (puts : List (Option PutListView))
     (ledgers : List (Option ConsumerRecordView))
     → cells.roll ≡ empty_roll → claims.roll ≡ [] → puts ≡ [] → ledgers ≡ []
@@ -71,7 +77,7 @@ new_hub cells claims puts ledgers roll seats no_puts no_ledgers =
       taken = λ c l e. absurd (none_at ledgers c (Some l) no_ledgers e);
     }
 
--- the hub that has given one more
+-- a hub that has given one producer more is still as hubs are
 pub gave_producer : (h : HubView) → IsHub h → length h.puts < h.cells.table.size.lanes → IsHub (with_producer h)
 gave_producer h i low = record {
   lanes = longer h.puts h.cells.roll.lanes None None i.lanes;
@@ -101,14 +107,14 @@ is_out h p i out =
         let f : None ≡ Some t.0 = some_same None (Some t.0) (sym out ∙ t.1) in
         absurd (cc)
 
--- the part of a producer determines what is kept of it
+-- the part of a producer determines its put list
 pub kept_list : (s : ProducerView) → IsProducer s
     → ((e : Entry) → Has s.seat.part (fetch s.seat.lane e) → e.cell < s.seat.table.size.cells
     → Has (linked_cells s.seat.lane s.seat.part) e.cell)
     → IsPutList s.seat.table.size.cells s.seat.lane s.seat.part (put_list_of s)
 kept_list s own linked = record { items = own.items; ended = refl; linked = linked }
 
--- the hub that has taken it in
+-- a hub that has taken in a producer is still as hubs are
 pub took_producer : (h : HubView) (s : ProducerView) → IsHub h
     → IsPutList h.cells.table.size.cells s.seat.lane s.seat.part (put_list_of s)
     → slice_get h.cells.roll.lanes s.seat.lane ≡ Some None
@@ -137,7 +143,7 @@ took_producer h s i own out =
     }
 
 -- ---- consumers
--- the hub that has given one more
+-- a hub that has given one consumer more is still as hubs are
 pub gave_consumer : (h : HubView) → IsHub h
     → length h.ledgers < (claims_at h.claims.table).table.values → IsHub (with_consumer h)
 gave_consumer h i low = record {
@@ -172,7 +178,7 @@ seat_is_out h c i out =
         let f : None ≡ Some t.2.0 = some_same None (Some t.2.0) (sym out ∙ t.2.1) in
         absurd (cc)
 
--- the hub that has taken it in
+-- a hub that has taken in a consumer is still as hubs are
 pub took_consumer : (h : HubView) (s : ConsumerView) → IsHub h → IsConsumer s → s.seat.table ≡ h.claims.table
     → s.reader.table ≡ h.cells.table → slice_get h.cells.roll.readers s.reader.reader ≡ Some None
     → slice_get h.claims.roll s.seat.consumer ≡ Some None

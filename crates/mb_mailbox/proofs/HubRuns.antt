@@ -8,6 +8,7 @@ use Rattle.mb_mailbox.specs.HubRuns.{with_consumers, with_producers, with_taken_
 use Rattle.mb_mailbox.specs.Producers.{ProducerView}
 
 -- ---- one more at the end of the list
+-- for a list with one more at its end, a hub gives or takes in one more after the others. There are four such lemmas
 pub producers_snoc : {X : Type 0} (xs : List X) (x : X) (h : HubView)
     → with_producers (xs ++ x ∷ []) h ≡ with_producer (with_producers xs h)
 producers_snoc [] x h = refl
@@ -34,6 +35,7 @@ abbrev pub outs : {X Y : Type 0} → List X → List (Option Y)
 outs [] = []
 outs (x ∷ xs) = None ∷ outs xs
 
+-- the list in which each element of `xs` sets the place of its number to its value
 abbrev pub filled : {X Y : Type 0} → (X → ℕ) → (X → Y) → List X → List Y → List Y
 filled at val [] ys = ys
 filled at val (x ∷ xs) ys = filled at val xs (slice_set ys (at x) (val x))
@@ -43,6 +45,7 @@ abbrev pub CountFrom : {X : Type 0} → (X → ℕ) → ℕ → List X → Type 
 CountFrom at n [] = Unit {0}
 CountFrom at n (x ∷ xs) = (at x ≡ n) × CountFrom at (suc n) xs
 
+-- if the element after the first n is set, the others stay
 set_next : {Y : Type 0} (base rest : List Y) (old new : Y) (n : ℕ) → length base ≡ n
     → slice_set (base ++ old ∷ rest) n new ≡ base ++ new ∷ rest
 set_next [] rest old new zero e = refl
@@ -50,6 +53,7 @@ set_next [] rest old new (suc n) e = absurd (cc)
 set_next (b ∷ base) rest old new zero e = absurd (cc)
 set_next (b ∷ base) rest old new (suc n) e = ap (λ l. b ∷ l) (set_next base rest old new n (omega (arith, e)))
 
+-- if the elements of `xs` have the numbers after the base, the places that are out get their values in order
 pub fills : {X Y : Type 0} (at : X → ℕ) (val : X → Option Y) (xs : List X) (base : List (Option Y))
     (n : ℕ) → length base ≡ n → CountFrom at n xs
     → filled at val xs (base ++ outs xs) ≡ base ++ map val xs
@@ -73,8 +77,10 @@ append_none : {Y : Type 0} (ys : List Y) → ys ≡ ys ++ []
 append_none [] = refl
 append_none (y ∷ ys) = ap (λ l. y ∷ l) (append_none ys)
 
--- ---- one field of a hub, over a whole list
+-- ---- one list or field of a hub, after a whole list was given or taken in
 module _ {X Y : Type 0} (f : HubView → List (Option Y)) where
+  -- if each producer given adds a place that is out to a list of the hub, many producers add as many such places. The
+  -- next lemma is of consumers
   pub given_by_producers : ((h : HubView) → f (with_producer h) ≡ f h ++ None ∷ [])
       → (xs : List X) (h : HubView) → f (with_producers xs h) ≡ f h ++ outs xs
   given_by_producers more [] h = append_none (f h)
@@ -90,6 +96,8 @@ module _ {X Y : Type 0} (f : HubView → List (Option Y)) where
       ∙ append_assoc (f h) (None ∷ []) (outs xs)
 
 module _ {Y : Type 0} (f : HubView → List (Option Y)) where
+  -- if each producer taken in sets the place of its number in a list of the hub, many producers fill their places.
+  -- The next lemma is of consumers
   pub taken_by_producers : (at : ProducerView → ℕ) (val : ProducerView → Option Y)
       → ((s : ProducerView) (h : HubView) → f (with_taken_producer s h) ≡ slice_set (f h) (at s) (val s))
       → (ss : List ProducerView) (h : HubView) → f (with_taken_producers ss h) ≡ filled at val ss (f h)
@@ -105,6 +113,7 @@ module _ {Y : Type 0} (f : HubView → List (Option Y)) where
       taken_by_consumers at val step ss (with_taken_consumer s h) ∙ ap (filled at val ss) (step s h)
 
 module _ {Y : Type 0} (f : HubView → Y) where
+  -- a field that no call of one kind changes stays, however many calls there are. There is a lemma for each kind
   pub same_by_producers : {X : Type 0} → ((h : HubView) → f (with_producer h) ≡ f h)
       → (xs : List X) (h : HubView) → f (with_producers xs h) ≡ f h
   same_by_producers same [] h = refl
@@ -130,6 +139,7 @@ module _ {Y : Type 0} (f : HubView → Y) where
 -- ---- a whole run: this many producers and consumers are given, and all of them are taken in
 module _ {J K : Type 0} (js : List J) (ks : List K) (ss : List ProducerView)
     (cs : List ConsumerView) (h : HubView) where
+  -- the hub after all were given, and after all were taken in
   abbrev pub given : HubView
   given = with_consumers ks (with_producers js h)
 
@@ -137,6 +147,7 @@ module _ {J K : Type 0} (js : List J) (ks : List K) (ss : List ProducerView)
   after = with_taken_consumers cs (with_taken_producers ss given)
 
   module _ (count : length js ≡ length ss) (from : CountFrom (λ s. s.seat.lane) (length h.puts) ss) where
+    -- the put lists of these producers stand after the older ones
     pub run_puts : after.puts ≡ h.puts ++ map (λ s. Some (put_list_of s)) ss
     run_puts =
         same_by_taken_consumers (λ v. v.puts) (λ s v. refl) cs (with_taken_producers ss given)
@@ -147,6 +158,7 @@ module _ {J K : Type 0} (js : List J) (ks : List K) (ss : List ProducerView)
         ∙ ap (λ l. h.puts ++ l) (outs_alike js ss count))
         ∙ fills (λ (s : ProducerView). s.seat.lane) (λ s. Some (put_list_of s)) ss h.puts (length h.puts) refl from
 
+    -- the parts of these producers stand after the older ones
     pub run_parts : length h.puts ≡ length h.cells.roll.lanes → after.cells.roll.lanes
         ≡ h.cells.roll.lanes ++ map (λ s. Some s.seat.part) ss
     run_parts same =
@@ -159,10 +171,12 @@ module _ {J K : Type 0} (js : List J) (ks : List K) (ss : List ProducerView)
         ∙ fills (λ (s : ProducerView). s.seat.lane) (λ s. Some s.seat.part) ss h.cells.roll.lanes
         (length h.puts) (sym same) from
 
+  -- what the hub keeps of a consumer
   abbrev pub ledger_of : ConsumerView → ConsumerRecordView
   ledger_of s = record { places = s.places; notes = s.notes }
 
   module _ (count : length ks ≡ length cs) where
+    -- the records of these consumers stand after the older ones
     pub run_ledgers : CountFrom (λ s. s.seat.consumer) (length h.ledgers) cs → after.ledgers
         ≡ h.ledgers ++ map (λ s. Some (ledger_of s)) cs
     run_ledgers from =
@@ -176,6 +190,7 @@ module _ {J K : Type 0} (js : List J) (ks : List K) (ss : List ProducerView)
         ∙ fills (λ (s : ConsumerView). s.seat.consumer) (λ s. Some (ledger_of s)) cs h.ledgers
         (length h.ledgers) refl from
 
+    -- the readers' parts of these consumers stand after the older ones
     pub run_readers : length h.ledgers ≡ length h.cells.roll.readers
         → CountFrom (λ s. s.reader.reader) (length h.ledgers) cs
         → after.cells.roll.readers ≡ h.cells.roll.readers ++ map (λ s. Some s.reader.part) cs
@@ -190,6 +205,7 @@ module _ {J K : Type 0} (js : List J) (ks : List K) (ss : List ProducerView)
         ∙ fills (λ (s : ConsumerView). s.reader.reader) (λ s. Some s.reader.part) cs
         h.cells.roll.readers (length h.ledgers) (sym same) from
 
+  -- the parts of these consumers at the claims stand after the older ones
   pub run_claimed : length ks ≡ length cs → length h.ledgers ≡ length h.claims.roll
       → CountFrom (λ s. s.seat.consumer) (length h.ledgers) cs
       → after.claims.roll ≡ h.claims.roll ++ map (λ s. Some s.seat.part) cs
@@ -204,6 +220,7 @@ module _ {J K : Type 0} (js : List J) (ks : List K) (ss : List ProducerView)
       ∙ fills (λ (s : ConsumerView). s.seat.consumer) (λ s. Some s.seat.part) cs h.claims.roll
       (length h.ledgers) (sym same) from
 
+  -- the table of the cells stays
   pub run_table : after.cells.table ≡ h.cells.table
   run_table =
       same_by_taken_consumers (λ v. v.cells.table) (λ s v. refl) cs (with_taken_producers ss given)

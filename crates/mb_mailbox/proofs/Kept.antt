@@ -1,4 +1,4 @@
--- From the jobs through what was begun to the ends.
+-- The end of each worker is that of its job, whether its thread ran it or not.
 use Rattle.std.proofs.Common.{◌≡◌, ℕ, [], false, true, sym, ap, ◌∙◌, subst}
 use Rattle.mb_mailbox.specs.Imports.{Stream}
 use Rattle.mb_mailbox.specs.Begun.{Keeps, PollPromises, PutPromises}
@@ -17,6 +17,7 @@ use Rattle.mb_mailbox.proofs.EndsMet.{none_met}
 use Rattle.mb_mailbox.proofs.Marks.{clear}
 
 module _ {G Z : Type 0} (may_stop may_pass : G → Who → ℕ → Type 0) (gate : G) where
+  -- a producer's end is that of its job, by what its worker promised
   pub put_kept : (j : PutJob Z) (b : Worker (PutDone Z) (Puts G Z)) (d : PutDone Z)
       → PutPromises may_stop may_pass gate j b
       → Keeps (λ p d. IsPutEnd (may_stop p.gate.value) (may_pass p.gate.value) p.job.value d) b d
@@ -29,6 +30,7 @@ module _ {G Z : Type 0} (may_stop may_pass : G → Who → ℕ → Type 0) (gate
       subst (λ (e : PutDone Z). IsPutEnd (may_stop gate) (may_pass gate) j e) (sym k) p.0
 
 module _ {G R Z : Type 0} (may_stop may_pass : G → Who → ℕ → Type 0) (stream : R → Stream) (gate : G) where
+  -- a consumer's end is that of its job, by what its worker promised
   pub poll_kept : (from end budget : ℕ) (j : PollJob R Z) (b : Worker (PollDone Z) (Polls G R Z)) (d : PollDone Z)
       → PollPromises may_stop may_pass stream gate from end budget j b
       → Keeps (λ p d. IsPollEnd (may_stop p.gate.value) (may_pass p.gate.value) p.from p.end p.budget
@@ -50,7 +52,7 @@ module _ {G R Z : Type 0} (may_stop may_pass : G → Who → ℕ → Type 0) (st
       subst (λ (e : PollDone Z). IsPollEnd (may_stop gate) (may_pass gate) from end budget
       (stream j.rng) j.consumer e) (sym k) p.0
 
--- a consumer that was not run
+-- a consumer that was not run has an end that says so
 pub not_run : {Z : Type 0} (may_stop may_pass : Who → ℕ → Type 0) (from end budget : ℕ)
     (source : Stream) (s : ConsumerView) (d : PollDone Z) → d.consumer ≡ s
     → d.stopped ≡ true → d.aborted ≡ true → IsPollEnd may_stop may_pass from end budget source s d
@@ -75,7 +77,7 @@ not_run may_stop may_pass from end budget source s d is stopped aborted = record
   polled = λ f. let no : true ≡ false = sym aborted ∙ f in absurd (cc);
 }
 
--- if the run is aborted, less is said of the end
+-- an end stays right if it says, too, that the run is aborted: less is said of it then
 pub still_off : {Z : Type 0} (may_stop may_pass : Who → ℕ → Type 0) (from end budget : ℕ)
     (source : Stream) (s : ConsumerView) (d : PollDone Z)
     → IsPollEnd may_stop may_pass from end budget source s d

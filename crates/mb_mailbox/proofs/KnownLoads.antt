@@ -25,6 +25,7 @@ loaded laws r v w h read =
     let o = laws.of h (Reader r) a read.1 in
     subst (λ (x : PoolAccess). Has h x) (λ i. record { process = o.1 i; word = read.2 i; act = read.3 i }) o.0
 
+-- in a lawful history this is known of each reader's part
 known_of : Laws → (size : PoolSize) (r : ℕ) (h : History) → IsPoolLawful size h → Known size (part (Reader r) h)
 known_of laws size r h lawful =
     let on : (p k : ℕ) → Has (cells_met p (part (Reader r) h)) k
@@ -59,6 +60,7 @@ known_of laws size r h lawful =
       item = λ k v read. laws.item size h r k v lawful (loaded laws r v (Item k) h read);
     }
 
+-- this is known of loads that are a reader's part of a lawful history
 pub known : Laws → (size : PoolSize) (r : ℕ) (h reads : History) → IsPoolLawful size h
     → part (Reader r) h ≡ reads → Known size reads
 known laws size r h reads lawful is = subst (Known size) is (known_of laws size r h lawful)

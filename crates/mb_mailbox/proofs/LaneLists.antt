@@ -1,4 +1,4 @@
--- One list of notes, cut by lane.
+-- A list of notes with their lanes, cut by lane: how it grows by a note, and how the notes are filed into lists.
 use Rattle.std.proofs.Common.{◌≡◌, ◌≢◌, ℕ, zero, suc, ◌+◌, ◌<◌, ◌≤◌, List, [], ◌∷◌, ◌++◌, length, map, refl, sym, ap, ◌∙◌, append-nil, Bool, true, false, arith}
 use Rattle.std.specs.Prelude.{Option, Some, None, Vec, if◌then◌else◌, nat_eq, slice_get, slice_set, sum_by}
 use Rattle.std.specs.Option.{option_map_or}
@@ -13,6 +13,7 @@ use Rattle.mb_mailbox.specs.NewConsumers.{AreEmptyLists}
 use Rattle.mb_mailbox.proofs.Lists.{map_get, map_set, some_same}
 
 -- ---- how many lanes there are
+-- a list that is cut has as many lists as lanes
 lanes_count : (p n : ℕ) (xs : List Noted) → length (on_lanes p n xs) ≡ n
 lanes_count p zero xs = refl
 lanes_count p (suc n) xs = ap suc (lanes_count (suc p) n xs)
@@ -20,7 +21,8 @@ lanes_count p (suc n) xs = ap suc (lanes_count (suc p) n xs)
 pub lanes_counted : (n : ℕ) (xs : List Noted) → length (by_lane n xs) ≡ n
 lanes_counted n xs = lanes_count 0 n xs
 
--- ---- no notes
+-- ---- an empty list, cut by lane
+-- each lane's list is empty
 no_list : (p n q : ℕ) (l : List Note) → slice_get (on_lanes p n []) q ≡ Some l → l ≡ []
 no_list p zero q l e = absurd (cc)
 no_list p (suc n) zero l e = sym (some_same [] l e)
@@ -29,6 +31,7 @@ no_list p (suc n) (suc q) l e = no_list (suc p) n q l e
 pub no_lists : (n q : ℕ) (l : List Note) → slice_get (by_lane n []) q ≡ Some l → l ≡ []
 no_lists n q l e = no_list 0 n q l e
 
+-- all lanes together have no note
 no_sum : (p n : ℕ) → sum_by length (on_lanes p n []) ≡ 0
 no_sum p zero = refl
 no_sum p (suc n) =
@@ -39,7 +42,8 @@ no_sum p (suc n) =
 pub none_counted : (n : ℕ) → sum_by length (by_lane n []) ≡ 0
 none_counted n = no_sum 0 n
 
--- ---- one note more
+-- ---- a list with one note more, cut by lane
+-- a note with lane p beside it has lane p, and by `note_noted` is that note
 pub lane_noted : (p : ℕ) (n : Note) → lane_of (noted p n) ≡ p
 lane_noted p (Took x) = refl
 lane_noted p (Lost w) = refl
@@ -50,6 +54,7 @@ note_noted p (Took x) = refl
 note_noted p (Lost w) = refl
 note_noted p Undecided = refl
 
+-- a note at the end of a list comes to the end of its lane's list, if it is of this lane
 on_end : (q : ℕ) (xs : List Noted) (x : Noted) → on_lane q (xs ++ x ∷ []) ≡ on_lane q xs ++ on_lane q (x ∷ [])
 on_end q [] x = refl
 on_end q (y ∷ ys) x = by (nat_eq q (lane_of y)) (on_end q ys x)
@@ -60,24 +65,27 @@ on_end q (y ∷ ys) x = by (nat_eq q (lane_of y)) (on_end q ys x)
     by true rest = ap (λ zs. note_in y ∷ zs) rest
     by false rest = rest
 
+-- a note of this lane is added to the lane's list
 on_here : (q : ℕ) (xs : List Noted) (x : Noted) → lane_of x ≡ q → on_lane q (xs ++ x ∷ [])
     ≡ on_lane q xs ++ note_in x ∷ []
 on_here q xs x e =
     on_end q xs x
     ∙ ap (λ b. on_lane q xs ++ (if b then note_in x ∷ [] else [])) (eq-eqb q (lane_of x) (sym e))
 
+-- a note of another lane changes nothing on this one
 on_other : (q : ℕ) (xs : List Noted) (x : Noted) → (lane_of x ≡ q → ⊥) → on_lane q (xs ++ x ∷ []) ≡ on_lane q xs
 on_other q xs x ne =
     on_end q xs x
     ∙ ap (λ b. on_lane q xs ++ (if b then note_in x ∷ [] else [])) (ne_eqb q (lane_of x) (λ e. ne (sym e)))
     ∙ append-nil (on_lane q xs)
 
--- lanes past the note's lane have no more notes
+-- a note changes nothing on lanes past its own
 on_rest : (p n : ℕ) (xs : List Noted) (x : Noted) → lane_of x < p → on_lanes p n (xs ++ x ∷ []) ≡ on_lanes p n xs
 on_rest p zero xs x low = refl
 on_rest p (suc n) xs x low = λ i.
     on_other p xs x (λ e. omega (arith, low, e)) i ∷ on_rest (suc p) n xs x (omega (arith, low)) i
 
+-- among the lanes from p on, a note is added to the list of its lane
 on_more : (p n q : ℕ) (xs : List Noted) (x : Noted) → lane_of x ≡ p + q
     → on_lanes p n (xs ++ x ∷ []) ≡ with_note q (Some (note_in x)) (on_lanes p n xs)
 on_more p zero q xs x e = refl
@@ -88,26 +96,30 @@ on_more p (suc n) (suc q) xs x e =
     let other : lane_of x ≡ p → ⊥ = λ f. omega (arith, e, f) in
     λ i. on_other p xs x other i ∷ on_more (suc p) n q xs x (omega (arith, e)) i
 
+-- a note is added to the list of its lane
 pub cut_more : (n : ℕ) (xs : List Noted) (x : Noted) → by_lane n (xs ++ x ∷ [])
     ≡ with_note (lane_of x) (Some (note_in x)) (by_lane n xs)
 cut_more n xs x = on_more 0 n (lane_of x) xs x (omega arith)
 
+-- a note with lane p beside it is added to the list of lane p
 pub noted_more : (n p : ℕ) (note : Note) (xs : List Noted) → by_lane n (xs ++ noted p note ∷ [])
     ≡ with_note p (Some note) (by_lane n xs)
 noted_more n p note xs =
     cut_more n xs (noted p note)
     ∙ (λ i. with_note (lane_noted p note i) (Some (note_noted p note i)) (by_lane n xs))
 
--- if there is no such lane, nothing changes
+-- an element that is set past a list changes nothing
 set_past : {X : Type 0} (xs : List X) (p : ℕ) (x : X) → length xs ≤ p → slice_set xs p x ≡ xs
 set_past [] p x e = refl
 set_past (y ∷ ys) zero x e = absurd (omega (arith, e))
 set_past (y ∷ ys) (suc p) x e = ap (λ zs. y ∷ zs) (set_past ys p x (omega (arith, e)))
 
+-- a note on a lane that is not there changes nothing
 pub note_past : (p : ℕ) (n : Note) (ls : List (List Note)) → length ls ≤ p → with_note p (Some n) ls ≡ ls
 note_past p n ls e = set_past ls p (notes_on p ls ++ n ∷ []) e
 
--- ---- all lanes together
+-- ---- how many notes there are on all lanes together
+-- with one note more there is one more
 pub sum_more : (ls : List (List Note)) (p : ℕ) (n : Note) → p < length ls
     → sum_by length (with_note p (Some n) ls) ≡ suc (sum_by length ls)
 sum_more [] p n low = absurd (omega (arith, low))
@@ -123,11 +135,13 @@ sum_more (l ∷ ls) (suc p) n low =
     omega (arith, new, old, rest)
 
 -- ---- the list after one note more
+-- what a push keeps: the note is added to the list of its lane
 pub grown : (lanes p : ℕ) (note : Note) (x : Noted) (xs ys : List Noted) → ys ≡ xs ++ x ∷ [] → x ≡ noted p note
     → by_lane lanes ys ≡ with_note p (Some note) (by_lane lanes xs)
 grown lanes p note x xs ys e f =
     ap (by_lane lanes) (e ∙ ap (λ (z : Noted). xs ++ z ∷ []) f) ∙ noted_more lanes p note xs
 
+-- what a push keeps: there are as many notes on all lanes as in the one list
 pub counted_on : (lanes p : ℕ) (note : Note) (x : Noted) (xs ys : List Noted) → ys ≡ xs ++ x ∷ [] → x ≡ noted p note
     → p < length (by_lane lanes xs) → length xs ≡ sum_by length (by_lane lanes xs) → length ys
     ≡ sum_by length (by_lane lanes ys)
@@ -137,7 +151,8 @@ counted_on lanes p note x xs ys e f low is =
     let long : length ys ≡ length xs + 1 = ap length e ∙ length-append xs (x ∷ []) in
     omega (arith, more, new, long, is)
 
--- ---- a list for each lane
+-- ---- the lists into which notes are filed, one for each lane
+-- empty lists, one for each lane, are the empty list cut by lane
 none_from : {Z : Type 0} (p n : ℕ) (vs : List (Vec Note Z)) → length vs ≡ n
     → ((q : ℕ) (v : Vec Note Z) → slice_get vs q ≡ Some v → v.items ≡ [])
     → map (λ (v : Vec Note Z). v.items) vs ≡ on_lanes p n []
@@ -151,7 +166,7 @@ pub none_cut : {Z : Type 0} (n : ℕ) (vs : List (Vec Note Z)) → AreEmptyLists
     → map (λ (v : Vec Note Z). v.items) vs ≡ by_lane n []
 none_cut n vs none = none_from 0 n vs none.count none.empty
 
--- the list of a lane
+-- the notes on a lane are the list at its place
 on_own : {Z : Type 0} (vs : List (Vec Note Z)) (p : ℕ) (v : Vec Note Z) → slice_get vs p ≡ Some v
     → notes_on p (map (λ (v : Vec Note Z). v.items) vs) ≡ v.items
 on_own {Z} vs p v e =
@@ -167,6 +182,7 @@ filed_on {Z} vs p n v w e put =
     ∙ ap (λ (l : List Note). slice_set (map (λ (v : Vec Note Z). v.items) vs) p l)
     (put ∙ ap (λ (l : List Note). l ++ n ∷ []) (sym (on_own vs p v e)))
 
+-- a note of a lane without a list goes nowhere
 pub filed_past : {Z : Type 0} (vs : List (Vec Note Z)) (p : ℕ) (n : Note) → length vs ≤ p
     → map (λ (v : Vec Note Z). v.items) vs ≡ with_note p (Some n) (map (λ (v : Vec Note Z). v.items) vs)
 filed_past {Z} vs p n past =
@@ -174,7 +190,7 @@ filed_past {Z} vs p n past =
     ≡ length vs = length-map vs (λ (v : Vec Note Z). v.items) in
     sym (note_past p n (map (λ (v : Vec Note Z). v.items) vs) (omega (arith, count, past)))
 
--- ---- a list that is taken
+-- ---- a list that is set, and a list that is not there
 set_else : {X : Type 0} (xs : List X) (i k : ℕ) (a : X) → k ≢ i → slice_get (slice_set xs i a) k ≡ slice_get xs k
 set_else [] i k a ne = refl
 set_else (x ∷ xs) zero zero a ne = absurd (ne refl)
@@ -182,6 +198,7 @@ set_else (x ∷ xs) zero (suc k) a ne = refl
 set_else (x ∷ xs) (suc i) zero a ne = refl
 set_else (x ∷ xs) (suc i) (suc k) a ne = set_else xs i k a (λ e. ne (ap suc e))
 
+-- a list that is set leaves the notes on other lanes as they are
 pub own_else : {Z : Type 0} (vs : List (Vec Note Z)) (p q : ℕ) (w : Vec Note Z) → q ≢ p
     → notes_on q (map (λ (v : Vec Note Z). v.items) (slice_set vs p w))
     ≡ notes_on q (map (λ (v : Vec Note Z). v.items) vs)
@@ -190,11 +207,13 @@ own_else {Z} vs p q w ne =
     ∙ ap (λ (o : Option (List Note)). option_map_or (λ (l : List Note). l) o [])
     (set_else (map (λ (v : Vec Note Z). v.items) vs) p q w.items ne)
 
+-- there is nothing past a list
 get_past : {X : Type 0} (xs : List X) (p : ℕ) → length xs ≤ p → slice_get xs p ≡ None
 get_past [] p e = refl
 get_past (x ∷ xs) zero e = absurd (omega (arith, e))
 get_past (x ∷ xs) (suc p) e = get_past xs p (omega (arith, e))
 
+-- on a lane without a list there are no notes
 pub own_past : {Z : Type 0} (vs : List (Vec Note Z)) (p : ℕ) → length vs ≤ p
     → notes_on p (map (λ (v : Vec Note Z). v.items) vs) ≡ []
 own_past {Z} vs p past =

@@ -1,4 +1,4 @@
--- Lists with one more element at their end: what is counted and chosen in them, and what is said of them.
+-- Lists with one more element at their end: what is missing or chosen in them, and diaries in a row.
 use Rattle.std.proofs.Common.{◌≡◌, ◌⊎◌, ℕ, zero, suc, ◌+◌, ◌*◌, ◌<◌, ◌≤◌, ◌||◌, Bool, true, false, List, [], ◌∷◌, ◌++◌, length, get_or, take, refl, sym, ◌∙◌, ap, inl, inr, arith, append-nil}
 use Rattle.std.specs.Prelude.{Option, Some, None, if◌then◌else◌}
 use Rattle.std.proofs.lemmas.Bool.{cases_eq, cases_lt}
@@ -13,12 +13,14 @@ use Rattle.mb_mailbox.specs.Hubs.{HubView}
 use Rattle.mb_mailbox.proofs.Turned.{get_end, get_left}
 
 -- ---- what is missing
+-- a list with one more at its end has as many missing as the list and that one
 count_end : {X : Type 0} (xs : List (Option X)) (x : Option X) → count_missing (xs ++ x ∷ [])
     ≡ count_missing xs + count_missing (x ∷ [])
 count_end [] x = omega arith
 count_end (Some y ∷ xs) x = count_end xs x
 count_end (None ∷ xs) x = omega (arith, count_end xs x)
 
+-- what a loop keeps that counts what is missing
 pub count_more : {X : Type 0} (xs : List (Option X)) (i : ℕ) (x : Option X) → i < length xs → x ≡ get_or xs i x
     → count_missing (take (i + 1) xs) ≡ count_missing (take i xs) + count_missing (x ∷ [])
 count_more xs i x low is =
@@ -26,6 +28,7 @@ count_more xs i x low is =
     ∙ ap (λ y. count_missing (take i xs) + count_missing (y ∷ [])) (sym is)
 
 -- ---- items at chosen positions
+-- of a list with one more at its end the items of the list are chosen, and that one if it is
 chosen_end : (f : ℕ → Bool) (xs : List ℕ) (x : ℕ) → items_where f (xs ++ x ∷ []) ≡ items_where f xs
     ++ (if f (length xs) then x ∷ [] else [])
 chosen_end f [] x = refl
@@ -39,12 +42,14 @@ chosen_end f (y ∷ xs) x = by (f 0) (chosen_end (λ j. f (suc j)) xs x)
     by true rest = ap (λ zs. y ∷ zs) rest
     by false rest = rest
 
+-- what a loop keeps that chooses items
 chosen_more : (f : ℕ → Bool) (xs left : List ℕ) (i : ℕ) → i < length xs → left ≡ items_where f (take i xs)
     → left ++ (if f i then get_or xs i 0 ∷ [] else []) ≡ items_where f (take (i + 1) xs)
 chosen_more f xs left i low old =
     sym (ap (items_where f) (take_more xs i 0 low) ∙ chosen_end f (take i xs) (get_or xs i 0)
     ∙ (λ j. sym old j ++ (if f (length-take-le i xs (omega arith) j) then get_or xs i 0 ∷ [] else [])))
 
+-- at this turn of the loop the item is chosen, and by `chosen_none` it is not
 pub chosen_one : (f : ℕ → Bool) (xs left : List ℕ) (i : ℕ) → i < length xs → left
     ≡ items_where f (take i xs) → f i ≡ true
     → left ++ get_or xs i 0 ∷ [] ≡ items_where f (take (i + 1) xs)
@@ -79,6 +84,7 @@ pub took_some : (o : Option Note) (n : Note) (v : ℕ) → o ≡ Some n → n �
 took_some o n v e same = rw (e, same) refl
 
 -- ---- diaries, consumer by consumer
+-- a place in a row is not one in an earlier row
 not_before : (w c e p q : ℕ) → p < w → e * w + q ≡ c * w + p → e < c → q < w → ⊥
 not_before w c e p q ps same less qs =
     let most : suc e * w ≤ c * w = mul-le-mul_right w less in
@@ -95,6 +101,7 @@ row_is w c e p q ps qs same = elim (cases_lt e c) [
   ]
 ]
 
+-- what a loop keeps that makes diaries, consumer by consumer and lane by lane
 pub diaries_more : (w : ℕ) (h : HubView) (c p : ℕ) (d : DiaryView) (ds : List DiaryView) → p < w
     → AreDiariesOutlined w h (c * w + p) ds → d ≡ diary_outline c p h
     → AreDiariesOutlined w h (c * w + (p + 1)) (ds ++ d ∷ [])

@@ -1,10 +1,11 @@
--- Lists with one element put in.
+-- Lists with one element set, elements at places, and lists that are mapped.
 use Rattle.std.proofs.Common.{◌≡◌, ◌≢◌, ◌⊎◌, ℕ, zero, suc, ◌<◌, List, [], ◌∷◌, get_or, map, length, refl, sym, ap, inl, inr, ⊎_elim, arith}
 use Rattle.std.specs.Prelude.{Some, slice_get, slice_set}
 
 pub some_same : {X : Type 0} (a b : X) → Some a ≡ Some b → a ≡ b
 some_same a b e = cc
 
+-- an element of a list with one set is that one, or stands elsewhere in the list
 pub set_get : {X : Type 0} (xs : List X) (i k : ℕ) (a b : X) → slice_get (slice_set xs i a) k ≡ Some b
     → ((k ≡ i) × (a ≡ b)) ⊎ ((k ≢ i) × (slice_get xs k ≡ Some b))
 set_get [] i k a b e = absurd (cc)
@@ -14,49 +15,58 @@ set_get (x ∷ xs) (suc i) zero a b e = inr ((λ h. omega arith), e)
 set_get (x ∷ xs) (suc i) (suc k) a b e =
     ⊎_elim (λ t. inl (ap suc t.0, t.1)) (λ t. let n = t.0 in inr ((λ h. n (omega arith)), t.1)) (set_get xs i k a b e)
 
+-- a list with an element set keeps its length
 pub set_length : {X : Type 0} (xs : List X) (i : ℕ) (a : X) → length (slice_set xs i a) ≡ length xs
 set_length [] i a = refl
 set_length (x ∷ xs) zero a = refl
 set_length (x ∷ xs) (suc i) a = ap suc (set_length xs i a)
 
+-- an element that is set to itself changes nothing
 pub set_same : {X : Type 0} (xs : List X) (i : ℕ) (a : X) → slice_get xs i ≡ Some a → slice_set xs i a ≡ xs
 set_same [] i a e = refl
 set_same (x ∷ xs) zero a e = let f : x ≡ a = cc in ap (λ y. y ∷ xs) (sym f)
 set_same (x ∷ xs) (suc i) a e = ap (λ ys. x ∷ ys) (set_same xs i a e)
 
+-- of two elements set at one place the last counts
 pub set_twice : {X : Type 0} (xs : List X) (i : ℕ) (a b : X) → slice_set (slice_set xs i a) i b ≡ slice_set xs i b
 set_twice [] i a b = refl
 set_twice (x ∷ xs) zero a b = refl
 set_twice (x ∷ xs) (suc i) a b = ap (λ ys. x ∷ ys) (set_twice xs i a b)
 
+-- an element that is set stands at its place
 pub set_here : {X : Type 0} (xs : List X) (i : ℕ) (a b : X) → slice_get xs i ≡ Some b
     → slice_get (slice_set xs i a) i ≡ Some a
 set_here [] i a b e = absurd (cc)
 set_here (x ∷ xs) zero a b e = refl
 set_here (x ∷ xs) (suc i) a b e = set_here xs i a b e
 
+-- there is an element at each place within a list
 pub get_some : {X : Type 0} (xs : List X) (i : ℕ) → i < length xs → (a : X) × (slice_get xs i ≡ Some a)
 get_some [] i low = absurd (omega arith)
 get_some (x ∷ xs) zero low = (x, refl)
 get_some (x ∷ xs) (suc i) low = get_some xs i (omega arith)
 
+-- a place with an element is within the list
 pub get_within : {X : Type 0} (xs : List X) (i : ℕ) (a : X) → slice_get xs i ≡ Some a → i < length xs
 get_within [] i a e = absurd (cc)
 get_within (x ∷ xs) zero a e = omega arith
 get_within (x ∷ xs) (suc i) a e = let low = get_within xs i a e in omega arith
 
+-- a mapped list has the mapped element at each place
 pub map_get : {X Y : Type 0} (f : X → Y) (xs : List X) (i : ℕ) (a : X) → slice_get xs i ≡ Some a
     → slice_get (map f xs) i ≡ Some (f a)
 map_get f [] i a e = absurd (cc)
 map_get f (x ∷ xs) zero a e = let g : x ≡ a = cc in ap (λ y. Some (f y)) g
 map_get f (x ∷ xs) (suc i) a e = map_get f xs i a e
 
+-- an element set before a list is mapped is the mapped one set after it
 pub map_set : {X Y : Type 0} (f : X → Y) (xs : List X) (i : ℕ) (a : X)
     → map f (slice_set xs i a) ≡ slice_set (map f xs) i (f a)
 map_set f [] i a = refl
 map_set f (x ∷ xs) zero a = refl
 map_set f (x ∷ xs) (suc i) a = ap (λ ys. f x ∷ ys) (map_set f xs i a)
 
+-- the element at a place, read with a default, is the one there
 pub get_or_is : {X : Type 0} (xs : List X) (i : ℕ) (d a : X) → slice_get xs i ≡ Some a → get_or xs i d ≡ a
 get_or_is [] i d a e = absurd (cc)
 get_or_is (x ∷ xs) zero d a e = some_same x a e

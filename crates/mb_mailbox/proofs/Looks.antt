@@ -13,10 +13,12 @@ abbrev word_in : WorldAccess → Option Word
 word_in (ToCells a) = Some a.word
 word_in (ToClaims a) = None
 
+-- the link past cells of lane p is the head of no other lane
 past_head : (p q : ℕ) (ks : List ℕ) → place_past p ks ≡ Head q → q ≡ p
 past_head p q [] e = cc
 past_head p q (k ∷ ks) e = absurd (cc)
 
+-- a step on lane p loads no other lane's head
 step_on : (cs : Claims) (c p : ℕ) (x : Parts) (b : PoolAccess) (answer : Option Poll) (q : ℕ)
     → ConsumerStep cs c p x (ToCells b) answer
     → b.word ≡ Head q → q ≡ p
@@ -32,6 +34,7 @@ step_on cs c p x b answer q (takes k v last won e told) w =
     let no : Item k ≡ Head q = sym word ∙ w in
     absurd (cc)
 
+-- steps on lane p load no other lane's head
 on_lane : (p : ℕ) (answer : Option Poll) (done : WorldHistory) (s : ConsumerView) (a : PoolAccess)
     (q : ℕ) → LeadTo p answer done s
     → Has (pool_accesses done) a → a.word ≡ Head q → q ≡ p
@@ -41,11 +44,13 @@ on_lane p answer (ToCells b ∷ older) s a q lead (inl is) w = step_on _ _ p _ b
 on_lane p answer (ToCells b ∷ older) s a q lead (inr has) w = on_lane p None older s a q lead.1 has w
 on_lane p answer (ToClaims b ∷ older) s a q lead has w = on_lane p None older s a q lead.1 has w
 
+-- an access of two parts together is of one of them
 had : (xs ys : History) (a : PoolAccess) → Has (xs ++ ys) a → Has xs a ⊎ Has ys a
 had [] ys a h = inr h
 had (x ∷ xs) ys a (inl is) = inl (inl is)
 had (x ∷ xs) ys a (inr h) = ⊎_elim (λ (t : Has xs a). inl (inr t)) (λ (t : Has ys a). inr t) (had xs ys a h)
 
+-- a poll of lane p loads no other lane's head
 pub only_by : (p budget : ℕ) (answer : Poll) (s t : Stream) (old new : ConsumerView)
     → IsPollOf p budget answer s t old new
     → (from end : ℕ) → from ≤ p → p < end → IsOnLanes from end old.reader.part → IsOnLanes from end new.reader.part
@@ -59,10 +64,11 @@ only_by p budget answer s t old new i from end low high was a q has w =
     (λ (t : Has old.reader.part a). was a q t w)
     (had (pool_accesses i.accesses) old.reader.part a there)
 
--- a consumer that has made no access has looked nowhere
+-- a part without an access has no access
 no_access : (h : History) (n : ℕ) (a : PoolAccess) → length h + n ≡ 0 → Has h a → ⊥
 no_access [] n a e has = has
 no_access (x ∷ h) n a e has = omega (arith, e)
 
+-- a consumer that has made no access has loaded no head
 pub none_on : (from end : ℕ) (s : ConsumerView) → accesses_made s ≡ 0 → IsOnLanes from end s.reader.part
 none_on from end s none a p has w = absurd (no_access s.reader.part (length s.seat.part) a none has)

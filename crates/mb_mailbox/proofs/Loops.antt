@@ -1,4 +1,4 @@
--- What the loops of a run keep, after one more element.
+-- What the loops of a run keep when one more element is done.
 use Rattle.std.proofs.Common.{◌≡◌, ℕ, suc, ◌+◌, ◌<◌, ◌||◌, Bool, true, false, refl, List, [], ◌∷◌, ◌++◌, ◌-◌, ◌*◌, ◌≤◌, length, map, min, sym, ap, ◌∙◌, subst, arith}
 use Rattle.std.specs.Prelude.{Vec}
 use Rattle.std.proofs.Math.Nat.{mul-suc}
@@ -16,8 +16,9 @@ use Rattle.mb_mailbox.specs.declared.crew.jobs.PollJob.{PollJob}
 use Rattle.mb_mailbox.specs.declared.crew.jobs.PutJob.{PutJob}
 use Rattle.mb_mailbox.proofs.HubRuns.{taken_consumers_snoc, taken_producers_snoc}
 
--- ---- jobs
+-- ---- jobs for which numbers are given
 module _ {Z : Type 0} (m : MailboxView) where
+  -- the next producer and the next list are one more job
   pub put_jobs_more : (p n : ℕ) (vs : List (Vec ℕ Z)) (js : List (PutJob Z)) (v : Vec ℕ Z)
       (j : PutJob Z) → ArePutJobs m p vs js
       → n ≡ p + length js → j.producer ≡ new_producer m n → j.list ≡ v → ArePutJobs m p (vs ++ v ∷ []) (js ++ j ∷ [])
@@ -28,6 +29,7 @@ module _ {Z : Type 0} (m : MailboxView) where
   put_jobs_more p n (w ∷ ws) (i ∷ js) v j a e is list =
       (a.0, a.1, put_jobs_more (suc p) n ws js v j a.2 (omega (arith, e)) is list)
 
+  -- the next consumer is one more job
   pub poll_jobs_more : {R : Type 0} (c n : ℕ) (js : List (PollJob R Z)) (j : PollJob R Z) → ArePollJobs m c js
       → n ≡ c + length js → HasNumber m n j.consumer → ArePollJobs m c (js ++ j ∷ [])
   poll_jobs_more c n [] j a e has = (subst (λ (k : ℕ). HasNumber m k j.consumer) (omega (arith, e)) has, tt)
@@ -46,6 +48,7 @@ new_number m h s i = record {
 
 -- ---- what is taken in
 module _ {X : Type 0} (f : X → ProducerView) (h : HubView) where
+  -- the hub has taken in one producer more
   pub took_producer_more : (xs : List X) (x : X) (was now : HubView) → was
       ≡ with_taken_producers (map f xs) h → now ≡ with_taken_producer (f x) was
       → now ≡ with_taken_producers (map f (xs ++ x ∷ [])) h
@@ -54,6 +57,7 @@ module _ {X : Type 0} (f : X → ProducerView) (h : HubView) where
       ∙ ap (λ (l : List ProducerView). with_taken_producers l h) (sym (map-append f xs (x ∷ [])))
 
 module _ {X : Type 0} (f : X → ConsumerView) (h : HubView) where
+  -- the hub has taken in one consumer more
   pub took_consumer_more : (xs : List X) (x : X) (was now : HubView) → was
       ≡ with_taken_consumers (map f xs) h → now ≡ with_taken_consumer (f x) was
       → now ≡ with_taken_consumers (map f (xs ++ x ∷ [])) h
@@ -62,6 +66,7 @@ module _ {X : Type 0} (f : X → ConsumerView) (h : HubView) where
       ∙ ap (λ (l : List ConsumerView). with_taken_consumers l h) (sym (map-append f xs (x ∷ [])))
 
 -- ---- a sum that stays at its bound
+-- a sum that stops at its bound is still so with one more
 pub full_more : {X : Type 0} (f : X → ℕ) (most was now : ℕ) (xs : List X) (x : X) → was ≡ min most (sum_by f xs)
     → now ≡ min (was + f x) most → now ≡ min most (sum_by f (xs ++ x ∷ []))
 full_more f most was now xs x e is =
@@ -70,6 +75,7 @@ full_more f most was now xs x e is =
     omega (arith, e, is, whole, last)
 
 -- ---- accesses with a budget for each call
+-- with one call more, the accesses are at most one budget more
 pub budget_more : (budget call base old new : ℕ) → 1 ≤ call → old ≤ base + budget * (call - 1) → new ≤ old + budget
     → new ≤ base + budget * (call + 1 - 1)
 budget_more budget call base old new first was step =
@@ -78,6 +84,7 @@ budget_more budget call base old new first was step =
     omega (arith, was, step, more)
 
 -- ---- whether the run is aborted
+-- if no end so far says that the run is aborted, and this one does not, none does. Here the test is `aborted`
 on_yet : {X : Type 0} (f : X → Bool) (was aborted : Bool) (xs : List X) (x : X)
     → (was ≡ false → All (λ x. f x ≡ false) xs) → f x ≡ aborted
     → (was || aborted) ≡ false → All (λ x. f x ≡ false) (xs ++ x ∷ [])
@@ -85,11 +92,13 @@ on_yet f true aborted xs x e is h = absurd (cc)
 on_yet f false true xs x e is h = absurd (cc)
 on_yet f false false xs x e is h = All-push (λ x. f x ≡ false) xs x (e refl) is
 
+-- if the loop's `aborted` is still false, no end up to this one says that the run is aborted
 pub on_more : {X : Type 0} (f : X → Bool) (was now : Bool) (xs : List X) (x : X)
     → (was ≡ false → All (λ x. f x ≡ false) xs)
     → now ≡ (was || f x) → now ≡ false → All (λ x. f x ≡ false) (xs ++ x ∷ [])
 on_more f was now xs x e is h = on_yet f was (f x) xs x e refl (sym is ∙ h)
 
+-- a list with one more at its end is not empty
 pub some_seen : {X : Type 0} (xs : List X) (x : X) → 0 < length (xs ++ x ∷ [])
 some_seen xs x = let all = length-append xs (x ∷ []) in omega (arith, all)
 
@@ -100,9 +109,11 @@ all_but_last P (y ∷ ys) x a =
     let rest = all_but_last P ys x (All-tail P y (ys ++ x ∷ []) a)
     in (All-cons P y ys (All-head P y (ys ++ x ∷ []) a) rest.0, rest.1)
 
+-- if neither test holds, `or` of them does not
 neither : (was aborted now : Bool) → now ≡ (was || aborted) → was ≡ false → aborted ≡ false → now ≡ false
 neither was aborted now is a b = is ∙ (λ i. a i || b i)
 
+-- if no end up to this one says that the run is aborted, the loop's `aborted` is still false
 pub told_more : {X : Type 0} (f : X → Bool) (was now : Bool) (xs : List X) (x : X)
     → (All (λ x. f x ≡ false) xs → was ≡ false)
     → now ≡ (was || f x) → All (λ x. f x ≡ false) (xs ++ x ∷ []) → now ≡ false

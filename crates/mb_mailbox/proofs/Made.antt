@@ -34,6 +34,7 @@ moved_has P s p place o reads made reader seat places notes done e f g h =
     subst P (λ i. at_views (sym e i) (sym f i) (sym g i) (sym h i)) done
 
 -- ---- looks
+-- a load of the link before which the consumer stands is a step
 pub look_made : (s old : ConsumerView) (p : ℕ) (at : Cursor) (reader : ReaderSeatView)
     (places : List Place) (l : Look) (answer : Option Poll)
     → s ≡ old → LookMakes s.reader at l reader → answer ≡ link_answer l → note_with answer ≡ None
@@ -55,6 +56,7 @@ look_made s old p at reader places l answer is m e quiet next t =
     })
 
 -- ---- items
+-- a load of the item of a claim that is won is a step
 pub item_made : (s old : ConsumerView) (p k v : ℕ) (reader : ReaderSeatView) (places : List Place)
     (notes : List (List Note))
     → s ≡ old → ItemMakes s.reader k v reader → notes ≡ with_note p (Some (Took v)) s.notes
@@ -71,12 +73,14 @@ item_made s old p k v reader places notes is m put next t =
     })
 
 -- ---- claims
+-- the answer of a claim's access has the note of the stage
 note_of_answer : (st : Stage) → note_with (stage_answer st) ≡ note_of st
 note_of_answer stage.Going = refl
 note_of_answer stage.Won = refl
 note_of_answer (stage.Lost w) = refl
 note_of_answer stage.Undecided = refl
 
+-- an access of the consumer's claim is a step, which draws one random word
 pub claim_made : (s old : ConsumerView) (p word : ℕ) (a : ClaimAccess) (st : Stage)
     (seat : SeatView) (places : List Place)
     (notes : List (List Note)) (answer : Option Poll) → s ≡ old → seat ≡ with_access a s.seat → a.step.turn.word ≡ word
@@ -109,6 +113,7 @@ pub room_stays : (p cells : ℕ) (o : Option Note) (old new : NotesView) → Not
 room_stays p cells o old new g wide = let same = g.room in omega (arith, same, wide)
 
 -- ---- a consumer of the mailbox
+-- the sizes of the consumer's tables are those of the mailbox: of the claims', and by `cells_size` of the cells'
 pub claims_size : (m : MailboxView) (s now : ConsumerView) → s ≡ now → IsConsumerOf m now
     → s.seat.table.size ≡ Some (record { layout = m.claims.layout; cells = m.claims.cells })
 claims_size m s now is of = ap (λ (v : ConsumerView). v.seat.table.size) is ∙ ap (λ (t : ClaimTable). t.size) of.claims

@@ -1,4 +1,4 @@
--- Notes as marks and words.
+-- Notes as marks and words: what one more mark, with or without a word, adds to them.
 use Rattle.std.proofs.Common.{◌≡◌, ℕ, zero, suc, ◌+◌, ◌<◌, ◌≤◌, List, [], ◌∷◌, ◌++◌, length, refl, ap, ◌∙◌, append-nil, arith}
 use Rattle.std.proofs.lemmas.List.{length-append}
 use Rattle.std.specs.Prelude.{Option, Some, None}
@@ -8,7 +8,8 @@ use Rattle.mb_mailbox.specs.declared.notes.Mark.{Mark}
 use Rattle.mb_mailbox.specs.declared.notes.Mark.TheVariants as mark
 use Rattle.mb_mailbox.specs.declared.notes.Noted.{Noted}
 
--- ---- how many
+-- ---- how many notes, marks and words there are
+-- there are as many notes as marks
 pub told_length : (t : ℕ) (ms : List Mark) (ws : List ℕ) → length (told_from t ms ws) ≡ length ms
 told_length t [] ws = refl
 told_length t (m ∷ ms) ws = ap suc (told_length (t + words_in m) ms ws)
@@ -19,15 +20,18 @@ one_word (mark.Lost p w) = omega arith
 one_word (mark.LostFar p) = omega arith
 one_word (mark.Undecided p) = omega arith
 
+-- there are no more words than marks
 pub few_words : (ms : List Mark) → words_among ms ≤ length ms
 few_words [] = omega arith
 few_words (m ∷ ms) = let one = one_word m in let rest = few_words ms in omega (arith, one, rest)
 
+-- a mark at the end adds the words that it needs
 pub among_end : (ms : List Mark) (m : Mark) → words_among (ms ++ m ∷ []) ≡ words_among ms + words_in m
 among_end [] m = omega arith
 among_end (x ∷ ms) m = let rest = among_end ms m in omega (arith, rest)
 
--- ---- one mark more
+-- ---- a mark at the end
+-- a mark at the end adds the note of the mark and the next word
 told_end : (t : ℕ) (ms : List Mark) (m : Mark) (ws : List ℕ)
     → told_from t (ms ++ m ∷ []) ws ≡ told_from t ms ws ++ told m (word_at ws (t + words_among ms)) ∷ []
 told_end t [] m ws =
@@ -39,22 +43,26 @@ told_end t (x ∷ ms) m ws =
     (told_end (t + words_in x) ms m ws
     ∙ ap (λ (n : ℕ). told_from (t + words_in x) ms ws ++ told m (word_at ws n) ∷ []) same)
 
+-- the same for all marks: the last note has the word after those of the marks before
 pub told_last : (ms : List Mark) (m : Mark) (ws : List ℕ)
     → all_told (ms ++ m ∷ []) ws ≡ all_told ms ws ++ told m (word_at ws (words_among ms)) ∷ []
 told_last ms m ws =
     let same : 0 + words_among ms ≡ words_among ms = omega arith in
     told_end 0 ms m ws ∙ ap (λ (n : ℕ). all_told ms ws ++ told m (word_at ws n) ∷ []) same
 
--- ---- one word more
+-- ---- a word at the end
+-- a word at the end leaves the words before it
 word_kept : (ws : List ℕ) (w t : ℕ) → t < length ws → word_at (ws ++ w ∷ []) t ≡ word_at ws t
 word_kept [] w t low = absurd (omega (arith, low))
 word_kept (x ∷ ws) w zero low = refl
 word_kept (x ∷ ws) w (suc t) low = word_kept ws w t (omega (arith, low))
 
+-- the word at the end is the last
 word_last : (ws : List ℕ) (w : ℕ) → word_at (ws ++ w ∷ []) (length ws) ≡ w
 word_last [] w = refl
 word_last (x ∷ ws) w = word_last ws w
 
+-- a word at the end leaves the note of a mark that has its words
 told_kept : (m : Mark) (ws : List ℕ) (w t : ℕ) → t + words_in m ≤ length ws
     → told m (word_at (ws ++ w ∷ []) t) ≡ told m (word_at ws t)
 told_kept (mark.Took p) ws w t low = ap (told (mark.Took p)) (word_kept ws w t (omega (arith, low)))
@@ -62,19 +70,22 @@ told_kept (mark.Lost p u) ws w t low = refl
 told_kept (mark.LostFar p) ws w t low = ap (told (mark.LostFar p)) (word_kept ws w t (omega (arith, low)))
 told_kept (mark.Undecided p) ws w t low = refl
 
+-- a word at the end leaves the notes of marks that have their words
 told_more : (t : ℕ) (ms : List Mark) (ws : List ℕ) (w : ℕ) → t + words_among ms ≤ length ws
     → told_from t ms (ws ++ w ∷ []) ≡ told_from t ms ws
 told_more t [] ws w low = refl
 told_more t (m ∷ ms) ws w low = λ i.
     told_kept m ws w t (omega (arith, low)) i ∷ told_more (t + words_in m) ms ws w (omega (arith, low)) i
 
--- ---- one note more
+-- ---- a note at the end: its mark, and its word if it needs one
+-- a mark that needs no word has one note, whatever the word
 told_any : (m : Mark) (x y : ℕ) → words_in m ≡ 0 → told m x ≡ told m y
 told_any (mark.Took p) x y e = absurd (omega (arith, e))
 told_any (mark.Lost p u) x y e = refl
 told_any (mark.LostFar p) x y e = absurd (omega (arith, e))
 told_any (mark.Undecided p) x y e = refl
 
+-- the note at the end is the one of its mark and its word
 pub told_push : (ms : List Mark) (ws : List ℕ) (m : Mark) (o : Option ℕ) → words_among ms ≡ length ws
     → words_in m ≡ option_map_or (λ w. 1) o 0
     → all_told (ms ++ m ∷ []) (ws ++ option_map_or (λ w. w ∷ []) o [])
@@ -89,6 +100,7 @@ told_push ms ws m (Some w) even one =
     ++ told m (word_at (ws ++ w ∷ []) (even i)) ∷ [])
     ∙ ap (λ (x : ℕ). all_told ms ws ++ told m x ∷ []) (word_last ws w)
 
+-- the marks still have just their words
 pub words_push : (ms : List Mark) (ws : List ℕ) (m : Mark) (o : Option ℕ) → words_among ms ≡ length ws
     → words_in m ≡ option_map_or (λ w. 1) o 0
     → words_among (ms ++ m ∷ []) ≡ length (ws ++ option_map_or (λ w. w ∷ []) o [])

@@ -32,13 +32,14 @@ AreClear [] = Unit {0}
 AreClear (false ∷ xs) = AreClear xs
 AreClear (true ∷ xs) = ⊥
 
+-- if nothing is marked, no place is
 pub clear : (xs : List Bool) (p : ℕ) → AreClear xs → slice_index_or xs p false ≡ true → ⊥
 clear [] p a e = absurd (cc)
 clear (true ∷ xs) p a e = absurd a
 clear (false ∷ xs) zero a e = absurd (cc)
 clear (false ∷ xs) (suc p) a e = clear xs p a e
 
--- within the list, a mark does not depend on the default past the end
+-- within the list, a place is marked whatever is taken for places past the end
 pub within : (xs : List Bool) (p : ℕ) → p < length xs → slice_index_or xs p true ≡ true
     → slice_index_or xs p false ≡ true
 within [] p low e = absurd (omega (arith, low))
@@ -46,6 +47,7 @@ within (x ∷ xs) zero low e = e
 within (x ∷ xs) (suc p) low e = within xs p (omega (arith, low)) e
 
 -- ---- how many are marked
+-- one more mark is one more
 pub marks_more : (xs : List Bool) (k : ℕ) → slice_index_or xs k true ≡ false
     → count_marks (slice_set xs k true) ≡ count_marks xs + 1
 marks_more [] k e = absurd (cc)
@@ -53,6 +55,7 @@ marks_more (true ∷ xs) zero e = absurd (cc)
 marks_more (false ∷ xs) zero e = omega arith
 marks_more (x ∷ xs) (suc k) e = let rest = marks_more xs k e in omega (arith, rest)
 
+-- if all marks are within these bounds, there are no more marks than places
 pub marks_most : (xs : List Bool) (from end : ℕ)
     → ((p : ℕ) → slice_index_or xs p false ≡ true → (from ≤ p) × (p < end))
     → count_marks xs ≤ end - from
@@ -67,6 +70,7 @@ marks_most (false ∷ xs) from end m =
     (λ p e. (let t = (m (suc p) e).0 in omega (arith, t), let t = (m (suc p) e).1 in omega (arith, t))) in
     omega (arith, rest)
 
+-- if each place within these bounds is marked, there are no fewer marks than places
 marks_least : (xs : List Bool) (from end : ℕ)
     → ((p : ℕ) → from ≤ p → p < end → slice_index_or xs p false ≡ true)
     → end ≤ from + count_marks xs

@@ -1,4 +1,4 @@
--- A consumer moves on by one access.
+-- A consumer that stands before a link moves on by a load of that link.
 use Rattle.std.proofs.Common.{◌≡◌, ◌≢◌, ◌⊎◌, ℕ, ◌+◌, ◌<◌, List, [], ◌∷◌, reverse, refl, sym, ap, ◌∙◌, subst, inl, ⊎_elim}
 use Rattle.std.specs.Prelude.{Some, None, slice_get}
 use Rattle.mb_claim.specs.declared.access.Stage.TheVariants as stage
@@ -24,7 +24,7 @@ list_there : (s : ConsumerView) (p : ℕ) (place : Place) → (i : IsConsumer s)
 list_there s p place i e =
     get_some s.notes p (subst (λ n. p < n) (i.places_count ∙ sym i.notes_count) (get_within s.places p place e))
 
--- what its place on a lane says of its parts
+-- what a place before a link says of the consumer's parts, and by `holds` what a place with a claim says
 pub before : (s : ConsumerView) (p : ℕ) (at : Cursor) (i : IsConsumer s) → slice_get s.places p ≡ Some (Before at)
     → (ns : List Note) × (slice_get s.notes p ≡ Some ns)
     × ConsumerIsBefore (claims_in i.size.layout i.size.cells) s.seat.consumer p
@@ -38,6 +38,7 @@ pub holds : (s : ConsumerView) (p k : ℕ) (claim : Claim) (i : IsConsumer s) �
 holds s p k claim i e = let l = list_there s p (At k claim) i e in (l.0, l.1, i.lanes p (At k claim) l.0 e l.1)
 
 -- ---- before a link
+-- the consumer may load the link before which it stands
 pub may_look : Laws → (s : ConsumerView) (p : ℕ) (at : Cursor) → IsConsumer s → HasLoads s → HasPlace p (Before at) s
     → MayRead s.reader.table.size.lanes (word_of at) s.reader.part
 may_look laws s p at i h e =
@@ -66,6 +67,7 @@ done_with laws layout cells c k Undecided x e = record {
       (x.claimed k) stage.Undecided stage.Won (laws.table layout) e won in absurd (cc);
 }
 
+-- if the claims on all these cells have ended, the consumer may look past the last of them
 pub may_past : Laws → (layout : Layout) (cells c : ℕ) (ks : List ℕ) (ns : List Note) (x : Parts)
     → AreEnds (claims_in layout cells) c ks ns x
     → MayLookPast (claims_in layout cells) c ks x
@@ -75,6 +77,7 @@ may_past laws layout cells c (k ∷ ks) (n ∷ ns) x e = done_with laws layout c
 
 module _ (laws : Laws) (s : ConsumerView) (p : ℕ) (at : Cursor) (i : IsConsumer s) (h : HasLoads s)
     (e : HasPlace p (Before at) s) where
+  -- the claims of the consumer's table, the consumer's number, its parts, and the cells that it met on the lane
   abbrev cs : Claims
   cs = claims_in i.size.layout i.size.cells
 
@@ -87,21 +90,25 @@ module _ (laws : Laws) (s : ConsumerView) (p : ℕ) (at : Cursor) (i : IsConsume
   abbrev ks : List ℕ
   ks = cells_met p s.reader.part
 
+  -- the load that finds v, and the parts with it
   abbrev a : ℕ → PoolAccess
   a v = load s.reader.reader (place_past p ks) v
 
   abbrev y : ℕ → Parts
   y v = with_load (a v) x
 
+  -- the two parts still fit
   fits : (v : ℕ) → Fits cs c (y v)
   fits v = let b = before s p at i e in
       laws.looks cs c s.reader.reader p v x i.fit
       (may_past laws i.size.layout i.size.cells c ks (reverse b.0) x b.2.ended)
 
+  -- the link is not the one before which the consumer stands on another lane
   elsewhere : (q : ℕ) → q ≢ p → place_past p ks ≡ place_past q (cells_met q s.reader.part) → ⊥
   elsewhere q ne = past_apart p q ks (cells_met q s.reader.part)
       (λ k m n. (loads_known laws s h).apart p q k m n) (λ f. ne (sym f))
 
+  -- the load leaves each other lane alone
   others : (v q : ℕ) → q ≢ p → Leaves q x (y v)
   others v q ne = record {
     met = laws.elsewhere q (a v) s.reader.part (elsewhere q ne);
@@ -114,6 +121,7 @@ module _ (laws : Laws) (s : ConsumerView) (p : ℕ) (at : Cursor) (i : IsConsume
     );
   }
 
+  -- the claims on the cells met end as they did
   ends : (v : ℕ) (ns : List Note) → slice_get s.notes p ≡ Some ns → AreEnds cs c ks (reverse ns) (y v)
   ends v ns f =
       ends_more cs c x (y v) ks (reverse ns)
@@ -121,15 +129,18 @@ module _ (laws : Laws) (s : ConsumerView) (p : ℕ) (at : Cursor) (i : IsConsume
       (λ u r. read-more (a v) s.reader.part (Item k) u r))
       (i.lanes p (Before at) ns e f).ended
 
+  -- the consumer stands before the link past the cells met
   word : word_of at ≡ place_past p ks
   word = (before s p at i e).2.word
 
+  -- what holds after a load of that link holds after a load at the cursor
   with_word : (v : ℕ) (place : Place) → IsConsumer (moved_to p place None (a v ∷ s.reader.part) s.seat.part s)
       → IsConsumer (moved_to p place None (reads_with_link s at v) s.seat.part s)
   with_word v place done =
       subst (λ w. IsConsumer (moved_to p place None (load s.reader.reader w v ∷ s.reader.part)
       s.seat.part s)) (sym word) done
 
+  -- if the link leads to no cell, the consumer stays, and is as consumers are
   pub waits : (v : ℕ) → (v ≡ 0) ⊎ (v ≡ END)
       → IsConsumer (moved_to p (Before at) None (reads_with_link s at v) s.seat.part s)
   waits v says =
@@ -142,6 +153,7 @@ module _ (laws : Laws) (s : ConsumerView) (p : ℕ) (at : Cursor) (i : IsConsume
       })
       (others v))
 
+  -- if the link leads to a cell, the consumer holds a new claim there, and is as consumers are
   pub finds : (k : ℕ) (claim : Claim) → k + 1 ≢ END
       → IsAccessAfter s.reader.table.size s.reader.known (load s.reader.reader (word_of at) (k + 1)) s.reader.part
       → consumer_of claim ≡ c → claim_stage claim ≡ stage.Going → HasTurns s claim []

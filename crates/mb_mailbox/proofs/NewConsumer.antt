@@ -10,6 +10,7 @@ use Rattle.mb_mailbox.specs.NewConsumers.{AreHeads, AreNoNotes}
 use Rattle.mb_world.specs.declared.place.Place.{Place}
 use Rattle.mb_mailbox.proofs.Made.{at_views}
 
+-- the seats of consumer n that has done nothing: its reader's, and by `new_seat` the one of the claims
 abbrev pub new_reader : MailboxView → ℕ → PartList → ReaderSeatView
 new_reader m n known = record { table = m.cells; reader = n; known = known; part = [] }
 
@@ -17,6 +18,7 @@ abbrev pub new_seat : MailboxView → ℕ → SeatView
 new_seat m n = record { table = name_of m.claims; consumer = n; part = [] }
 
 module _ (lanes cells : ℕ) (fresh : NotesView) (none : AreNoNotes lanes cells fresh) where
+  -- a consumer that has done nothing is as consumers are
   pub is_new : ((cs : Claims) (c : ℕ) → Fits cs c no_parts)
       → (m : MailboxView) (n : ℕ) (known : PartList) (places : List Place) → AreHeads lanes places
       → lanes ≡ m.cells.size.lanes → IsConsumer (at_views (new_reader m n known) (new_seat m n) places fresh.lists)

@@ -24,6 +24,7 @@ named s p a answer i =
     ap (λ (z : Option TableSize). claims_at (record { id = s.seat.table.id; size = z })) (sym i.table) in
     subst (λ (cs : Claims). ConsumerStep cs s.seat.consumer p (parts_of s.reader s.seat) a answer) is
 
+-- before a link the load of that link is the next access
 pub looks_next : Laws → (s : ConsumerView) (p v : ℕ) (at : Cursor) → IsConsumer s → HasPlace p (Before at) s
     → ConsumerStep (claims_at s.seat.table) s.seat.consumer p (parts_of s.reader s.seat)
     (ToCells (load s.reader.reader (word_of at) v)) (link_answer (look_of v))
@@ -50,6 +51,7 @@ stage_held s p k claim now i e is =
     (part_on s.seat.consumer k s.seat.part) z.1)
     (λ j. (o.2.own j, is j)) o.2.path.prefix
 
+-- with a claim that goes on the claim's access is the next one
 pub competes_next : Laws → (s : ConsumerView) (p k word seen : ℕ) (claim now : Claim)
     (next : ClaimOp) → IsConsumer s → HasPlace p (At k claim) s
     → claim_stage claim ≡ stage.Going → consumer_of now ≡ s.seat.consumer
@@ -68,6 +70,7 @@ competes_next laws s p k word seen claim now next i e going own turns =
     (subst (λ xs. IsClaimPrefix cs s.seat.consumer xs (claim_stage now))
     (laws.own_cell a s.seat.part) prefix) refl refl)
 
+-- with a claim that is won the load of the item is the next access
 pub takes_next : (s : ConsumerView) (p k v : ℕ) (claim : Claim) → IsConsumer s
     → HasPlace p (At k claim) s → claim_stage claim ≡ stage.Won
     → ConsumerStep (claims_at s.seat.table) s.seat.consumer p (parts_of s.reader s.seat)

@@ -19,7 +19,7 @@ use Rattle.mb_mailbox.specs.declared.gate.Who.{Who}
 use Rattle.mb_mailbox.specs.declared.crew.jobs.PollDone.{PollDone}
 use Rattle.mb_mailbox.proofs.Runs.{AreNumbered, left_by, left_of}
 
--- the element after the base
+-- the element after the first n has place n
 get_next : {X : Type 0} (base rest : List X) (x : X) (n : ℕ) → length base ≡ n → slice_get (base ++ x ∷ rest) n ≡ Some x
 get_next [] rest x zero e = refl
 get_next [] rest x (suc n) e = absurd (cc)
@@ -34,6 +34,7 @@ module _ (now : HubView) (hub : IsHub now) (pool : History) (roll : IsRollOf now
     (s : ConsumerView) → IsRollOf size roll h
     → slice_get roll.lanes p ≡ Some (Some done) → slice_get roll.readers s.reader.reader ≡ Some (Some s.reader.part)
     → HasReadToEnd p s → length (notes_on p s.notes) ≡ length (values_put p done)) where
+  -- a consumer that has read these lanes to their ends has a note at each of their items
   noted_by : (s : ConsumerView) → slice_get now.cells.roll.readers s.reader.reader ≡ Some (Some s.reader.part)
       → (ls : List LaneLeft) (base : List (Option PutListView)) (p : ℕ) → length base ≡ p
       → now.puts ≡ base ++ map (λ (l : LaneLeft). Some (ended_list l)) ls
@@ -57,6 +58,7 @@ module _ (now : HubView) (hub : IsHub now) (pool : History) (roll : IsRollOf now
       (old : List (Option PutListView)) (ls : List LaneLeft)
       (is : now.puts ≡ old ++ map (λ (l : LaneLeft). Some (ended_list l)) ls)
       (from end budget : ℕ) (first : from ≡ length old) (last : end ≡ length old + length ls) where
+    -- each consumer of the run that was not stopped has a note at each item
     pub all_noted : (es : List (PollDone Z)) (base : List (Option History)) (c : ℕ) → length base ≡ c
         → now.cells.roll.readers ≡ base ++ map (λ (x : ConsumerLeft). Some x.reads)
         (left_of m may_stop may_pass es) → AreNumbered m may_stop may_pass from end budget c es

@@ -1,4 +1,4 @@
--- Steps on a lane, one after another.
+-- Steps on a lane, one after another, and the poll that they make.
 use Rattle.std.proofs.Common.{◌≤◌, ◌≡◌, ℕ, ◌+◌, [], ◌∷◌, refl, sym, ap, ◌∙◌, subst, arith}
 use Rattle.std.specs.Prelude.{Option, None, slice_get}
 use Rattle.mb_mailbox.specs.Imports.{ReaderSeatView, SeatView, Stream, ToCells, ToClaims, WorldAccess, WorldHistory, claims_at}
@@ -8,7 +8,7 @@ use Rattle.mb_mailbox.specs.Consumers.{ConsumerView, parts_of}
 use Rattle.mb_mailbox.specs.ConsumerStep.{ConsumerStep}
 use Rattle.mb_mailbox.specs.Steps.{AnswerTells, AreDrawn, AreSteps, HasDone, IsPollOf, IsStep, LeadTo, note_with, outcome, with_note, drawn_words}
 
--- one access more
+-- after one more access the parts and notes are those with it
 done_more : (p : ℕ) (a : WorldAccess) (done : WorldHistory) (answer : Option Poll)
     (old now new : ConsumerView) → HasDone p done None old now
     → HasDone p (a ∷ []) answer now new → HasDone p (a ∷ done) answer old new
@@ -23,6 +23,7 @@ done_more p (ToClaims b) done answer old now new was h = record {
   notes = h.notes ∙ ap (with_note p (note_with answer)) was.notes;
 }
 
+-- after one more access each access is still the next one by the parts before it
 lead_more : (p : ℕ) (a : WorldAccess) (done : WorldHistory) (answer : Option Poll)
     (old now : ConsumerView) → HasDone p done None old now
     → LeadTo p None done old → LeadTo p answer (a ∷ []) now → LeadTo p answer (a ∷ done) old
@@ -33,12 +34,14 @@ lead_more p a done answer old now was lead step = (
   lead,
 )
 
+-- after one more access the words drawn are those with its word
 drawn_more : (a : WorldAccess) (done : WorldHistory) (s t u : Stream) → AreDrawn s (drawn_words done) t
     → AreDrawn t (drawn_words (a ∷ [])) u
     → AreDrawn s (drawn_words (a ∷ done)) u
 drawn_more (ToCells b) done s t u was d = subst (λ z. AreDrawn s (drawn_words done) z) (sym d) was
 drawn_more (ToClaims b) done s t u was d = (d.0, subst (λ z. AreDrawn s (drawn_words done) z) (sym d.1) was, d.2)
 
+-- n steps and one more are n + 1 steps
 pub steps_more : (p n : ℕ) (answer : Option Poll) (s t u : Stream) (old now new : ConsumerView)
     → AreSteps p n None s t old now → IsStep p answer t u now new
     → AreSteps p (n + 1) answer s u old new
@@ -52,6 +55,7 @@ steps_more p n answer s t u old now new m st =
       count = omega arith;
     }
 
+-- no step changes nothing
 pub no_steps : (p : ℕ) (s : Stream) (old : ConsumerView) → AreSteps p 0 None s s old old
 no_steps p s old = record {
   accesses = [];
@@ -65,11 +69,13 @@ no_steps p s old = record {
   count = refl;
 }
 
+-- one step is a row of one
 pub history_extends : (p : ℕ) (answer : Option Poll) (s t : Stream) (old new : ConsumerView)
     → IsStep p answer s t old new → AreSteps p 1 answer s t old new
 history_extends p answer s t old new st = steps_more p 0 answer s s t old old new (no_steps p s old) st
 
 -- ---- polls
+-- steps within the budget make a poll, if they are as many as the budget when the poll is spent
 pub poll_of : (p n budget : ℕ) (x : Poll) (s t : Stream) (old new : ConsumerView)
     → AreSteps p n (outcome x) s t old new → n ≤ budget
     → (x ≡ poll.Spent → n ≡ budget) → IsPollOf p budget x s t old new
@@ -82,7 +88,7 @@ poll_of p n budget x s t old new m few all = record {
   spent = λ e. m.count ∙ all e;
 }
 
--- an answer says the same of a lane if the consumer before knew the same of the lanes
+-- an answer says of a lane what it said, if the consumer knew the same parts of lanes before
 pub told_from : (p : ℕ) (answer : Option Poll) (old now new : ConsumerView) → now.reader.known ≡ old.reader.known
     → AnswerTells p answer now new → AnswerTells p answer old new
 told_from p answer old now new same tells = record {

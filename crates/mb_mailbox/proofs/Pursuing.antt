@@ -1,4 +1,4 @@
--- What a poll that kept a claim in a variable comes to: it ends past the cell, or is at it again.
+-- What a poll that kept a claim in a variable comes to: it stands past the cell, or is at the cell again.
 use Rattle.std.proofs.Common.{◌≡◌, ◌≢◌, ℕ, ◌+◌, ◌≤◌, List, refl, sym, ap, ◌∙◌, subst, arith}
 use Rattle.std.specs.Prelude.{Option, Some, None, slice_get, slice_set}
 use Rattle.mb_claim.specs.declared.access.Stage.TheVariants as stage
@@ -20,8 +20,9 @@ use Rattle.mb_mailbox.proofs.Made.{at_views, item_made}
 use Rattle.mb_mailbox.proofs.Polls.{steps_more}
 use Rattle.mb_mailbox.proofs.Telling.{noted}
 
--- a consumer that holds a claim on lane p and then is at another place there
+-- `b` has the consumer's fields with a place on lane p that is out of date. The consumer holds this claim there
 module _ (b : ConsumerView) (p k : ℕ) (claim : Claim) where
+  -- the consumer that holds the claim
   abbrev s : ConsumerView
   s = holding p k claim b
 
@@ -36,7 +37,7 @@ module _ (b : ConsumerView) (p k : ℕ) (claim : Claim) where
       ∙ (λ j. at_views b.reader (sym same j)
       ((set_twice b.places p (At k claim) (place_after k now st) ∙ sym e) j) (sym f j))
 
-  -- the same after the item is loaded
+  -- ---- the claim is won, and the item is loaded
   module _ (v : ℕ) (now : Claim) (seat : SeatView) (reader : ReaderSeatView) (places : List Place)
       (notes : List (List Note)) (t u : Stream)
       (from : ConsumerView) (n : ℕ) (there : Place)
@@ -44,12 +45,15 @@ module _ (b : ConsumerView) (p k : ℕ) (claim : Claim) where
       (won : claim_stage now ≡ stage.Won) (so : HasCompeted p k n now t u from s seat)
       (makes : ItemMakes b.reader k v reader)
       (e : places ≡ slice_set b.places p (Before (Past k))) (f : notes ≡ with_note p (Some (Took v)) b.notes) where
+    -- the consumer before that load
     abbrev mid : ConsumerView
     mid = moved_to p (At k now) None b.reader.part seat.part s
 
+    -- accesses of the claim led to the consumer before the load
     mid_is : competed p k now seat s ≡ mid
     mid_is = ap (λ z. moved_to p (place_after k now z) (note_of z) b.reader.part seat.part s) won
 
+    -- before the load the consumer is as consumers are, and at the cell (`mid_at`)
     pub mid_consumer : IsConsumer mid
     mid_consumer = subst IsConsumer mid_is so.is
 
@@ -57,12 +61,15 @@ module _ (b : ConsumerView) (p k : ℕ) (claim : Claim) where
     mid_at = set_here (slice_set b.places p (At k claim)) p (At k now) (At k claim)
         (set_here b.places p (At k claim) there at)
 
+    -- the consumer after the load
     abbrev new : ConsumerView
     new = at_views reader seat places notes
 
+    -- that consumer has the seat of the claims that the accesses made
     new_is : at_views reader (record b.seat { part = seat.part }) places notes ≡ new
     new_is = ap (λ (z : SeatView). at_views reader z places notes) (sym so.same)
 
+    -- the load is one more step, and comes to the item
     pub took_steps : ConsumerStep (claims_at mid.seat.table) mid.seat.consumer p
         (parts_of mid.reader mid.seat) (ToCells (load mid.reader.reader (Item k) v))
         (Some (poll.Took v))
@@ -76,6 +83,7 @@ module _ (b : ConsumerView) (p k : ℕ) (claim : Claim) where
         (at_views reader (record b.seat { part = seat.part }) places notes) was
         (item_made mid mid p k v reader places notes refl makes f next u))
 
+    -- after the load the consumer is as consumers are
     pub took_is : IsConsumer (moved_to p (Before (Past k)) (Some (Took v)) (reads_with_item mid k v)
         mid.seat.part mid) → IsConsumer new
     took_is i =
@@ -84,6 +92,7 @@ module _ (b : ConsumerView) (p k : ℕ) (claim : Claim) where
         ((ap (λ ps. slice_set ps p (Before (Past k))) (set_twice b.places p (At k claim) (At k now))
         ∙ set_twice b.places p (At k now) (Before (Past k)) ∙ sym e) j) (sym f j)) i
 
+    -- after the load the consumer has a note on each cell that it met
     pub took_noted : IsConsumer new → HasNoteOnEach p new
     took_noted i = noted new p (Past k) i (ap (λ ps. slice_get ps p) e ∙ set_here b.places p (Before (Past k)) there at)
 
@@ -105,7 +114,8 @@ module _ (b : ConsumerView) (p k : ℕ) (claim : Claim) where
           is = took_is i;
         }
 
-  -- if the claim has ended otherwise, the poll ends past the cell
+  -- ---- the claim has ended otherwise, or goes on
+  -- if the claim is lost or undecided, the poll ends past the cell
   pub pursued_past : (most made n : ℕ) (now : Claim) (st : Stage) (note : Note) (answer : Poll)
       (t u : Stream) (from : ConsumerView)
       (seat : SeatView) (places : List Place) (notes : List (List Note)) (there : Place)

@@ -1,4 +1,4 @@
--- The end of a producer's worker.
+-- The end of a producer's worker: what it put is a beginning of its list, and what a finish keeps of the fetch-adds.
 use Rattle.std.proofs.Common.{◌≡◌, ◌≢◌, ◌≤◌, ⊎_elim, ℕ, Bool, true, false, List, take, drop, refl, sym, ap, subst, inr}
 use Rattle.std.proofs.lemmas.List.{take-append-drop}
 use Rattle.mb_cells.specs.declared.answer.Finish.{Finish}
@@ -12,6 +12,7 @@ use Rattle.mb_mailbox.specs.Imports.{END, Has, History}
 use Rattle.mb_mailbox.specs.Jobs.{IsFront}
 use Rattle.mb_mailbox.specs.Producers.{FoundNoCell, IsEndOfLane, ProducerView}
 
+-- the first n items are a beginning of the list
 pub front_take : (n : ℕ) (xs : List ℕ) → IsFront (take n xs) xs
 front_take n xs = (drop n xs, take-append-drop n xs)
 
@@ -30,12 +31,13 @@ found_still finish.Ended old new ended closed busy none =
 found_still finish.Closed old new ended closed busy none = subst FoundNoCell (sym (closed refl)) none
 found_still finish.Busy old new ended closed busy none = absurd (busy refl)
 
--- if a fetch-add has found no cell after a finish, it had before: a finish makes no fetch-add
+-- whether an act is a fetch-add
 abbrev pub is_fetch : PoolAct → Bool
 is_fetch (FetchAdd v k) = true
 is_fetch (Store v) = false
 is_fetch (Load v) = false
 
+-- if a fetch-add has found no cell after a finish, one had before: a finish makes no fetch-add
 pub found_before : (r : Finish) (old new : ProducerView) → (r ≡ finish.Ended → IsEndOfLane old new)
     → (r ≡ finish.Closed → new ≡ old) → r ≢ finish.Busy
     → FoundNoCell new → FoundNoCell old

@@ -1,4 +1,4 @@
--- A producer moves on by its calls.
+-- What a producer's offer and its two pushes make of it, and what an offer does that is refused.
 use Rattle.std.proofs.Common.{◌≡◌, ◌≢◌, ℕ, ◌+◌, ◌<◌, Bool, true, false, cond, List, [], ◌∷◌, ◌++◌, length, map, refl, sym, ap, ◌∙◌, subst, arith}
 use Rattle.std.specs.Prelude.{Option, Some, None, nat_lt}
 use Rattle.std.proofs.lemmas.Bool.{ltb-true, eq-eqb, ne_eqb}
@@ -21,6 +21,7 @@ use Rattle.mb_mailbox.specs.PutLaws.{PutLaws}
 abbrev pub producer_at : LaneSeatView → List ℕ → ProducerView
 producer_at seat items = record { seat = seat; items = items }
 
+-- the link after a cell, or the lane's head, is a link
 pub link_word : (p : ℕ) (last : Option ℕ) → IsLinkWord (link_after p last)
 link_word p None = tt
 link_word p (Some k) = tt
@@ -33,7 +34,7 @@ no_mark p k (Link q) h l ne = rw (eq-eqb p p refl) (rw (ne_eqb (k + 1) END ne) r
 no_mark p k (Item q) h l ne = absurd l
 no_mark p k Counter h l ne = absurd l
 
--- an offer that returned a cell made its fetch-add
+-- an offer that returned cell k made a fetch-add that found this cell
 record Took (old : LaneSeatView) (x k : ℕ) (new : LaneSeatView) : Type 0 where
   pub low : k < old.table.size.cells
   pub is : new ≡ record old {
@@ -42,6 +43,7 @@ record Took (old : LaneSeatView) (x k : ℕ) (new : LaneSeatView) : Type 0 where
   }
   pub after : IsAccessAfter old.table.size [] (fetch old.lane (record { cell = k; value = x })) old.part
 
+-- if a fetch-add was made and the offer returned a cell, the number found is that cell's
 took_by : (old : LaneSeatView) (x k n : ℕ) (new : LaneSeatView) (b : Bool) → nat_lt n old.table.size.cells ≡ b
     → offer.Cell k ≡ cond b (offer.Cell n) offer.Full
     → LaneMakes (fetch old.lane (record { cell = n; value = x })) (record {
@@ -58,6 +60,7 @@ took_by old x k n new true low told m =
     })
 took_by old x k n new false low told m = absurd (cc)
 
+-- what an offer that returned a cell did, by the stage of the producer's place
 took_at : (old : LaneSeatView) (x k : ℕ) (new : LaneSeatView) (at : LaneStage)
     → OfferBy (stage_offer_refusal at) old x (offer.Cell k) new → Took old x k new
 took_at old x k new stage.Open m = took_by old x k m.0 new (nat_lt m.0 old.table.size.cells) refl m.1 m.2
@@ -84,6 +87,7 @@ fetch_keeps laws old e a =
 
 module _ (laws : PutLaws) (s : ProducerView) (x k : ℕ) (one two : Push) (a b now : LaneSeatView) (i : IsProducer s)
     (o : OfferMakes s.seat x (offer.Cell k) a) (f : PushMakes a one b) (g : PushMakes b two now) where
+  -- the lane, the entry, the part with the item stored, and the part with the cell linked, too
   abbrev p : ℕ
   p = s.seat.lane
 
@@ -96,9 +100,11 @@ module _ (laws : PutLaws) (s : ProducerView) (x k : ℕ) (one two : Push) (a b n
   abbrev linked_part : History
   linked_part = store p (next_link p s.seat.place) (k + 1) ∷ h
 
+  -- what the offer did
   took : Took s.seat x k a
   took = took_at s.seat x k a s.seat.place.stage o
 
+  -- the first push stored the item
   first : LaneMakes (store p (Item k) x) (record { last = s.seat.place.last; stage = stage.Stored k })
       (record s.seat {
         place = record { last = s.seat.place.last; stage = stage.Offered k x };
@@ -106,10 +112,12 @@ module _ (laws : PutLaws) (s : ProducerView) (x k : ℕ) (one two : Push) (a b n
       }) b
   first = (subst (λ v. PushMakes v one b) took.is f).1
 
+  -- the second push stored the link
   second : LaneMakes (store p (next_link p s.seat.place) (k + 1)) (record { last = Some k; stage = stage.Open })
       (record s.seat { place = record { last = s.seat.place.last; stage = stage.Stored k }; part = h }) now
   second = (subst (λ v. PushMakes v two now) first.1 g).1
 
+  -- so the item was put into the cell
   pub is_put : IsPutInto k x s (record { seat = now; items = s.items ++ x ∷ [] })
   is_put = record {
     same = record {
@@ -121,6 +129,7 @@ module _ (laws : PutLaws) (s : ProducerView) (x k : ℕ) (one two : Push) (a b n
     items = refl;
   }
 
+  -- the put list has the entry at its end
   grown : put_list p linked_part ≡ put_list p s.seat.part ++ e ∷ []
   grown =
       let size = s.seat.table.size in
@@ -130,17 +139,20 @@ module _ (laws : PutLaws) (s : ProducerView) (x k : ℕ) (one two : Push) (a b n
       laws.link h p k (next_link p s.seat.place) (link_word p s.seat.place.last) no_end
       ∙ (λ j. (laws.item (fetch p e ∷ s.seat.part) p p k x ∙ fetch_keeps laws s.seat e took.after) j ++ entry j ∷ [])
 
+  -- the values put are the producer's items and this one
   values : values_put p linked_part ≡ s.items ++ x ∷ []
   values = ap (λ (l : List Entry). map (λ (z : Entry). z.value) l) grown
       ∙ map-append (λ (z : Entry). z.value) (put_list p s.seat.part) (e ∷ [])
       ∙ ap (λ (l : List ℕ). l ++ x ∷ []) (sym i.items)
 
+  -- so the producer is still as producers are
   pub still : IsProducer (record { seat = now; items = s.items ++ x ∷ [] })
   still = record {
     items = sym values ∙ ap (λ (v : LaneSeatView). values_put v.lane v.part) (sym second.1);
     idle = ap (λ (v : LaneSeatView). push_store v.lane v.place) second.1;
   }
 
+  -- there was room for the item: the lane has no more entries than the pool has cells
   pub room : length s.items < s.seat.table.size.cells
   room =
       let size = s.seat.table.size in
@@ -156,7 +168,7 @@ module _ (laws : PutLaws) (s : ProducerView) (x k : ℕ) (one two : Push) (a b n
       ∙ length-map (put_list p s.seat.part) (λ (z : Entry). z.value) in
       omega arith
 
-  -- the two links and the fetch-add are no end mark
+  -- none of the three accesses stores an end mark
   pub over_stays : is_over (record { seat = now; items = s.items ++ x ∷ [] }) ≡ is_over s
   over_stays =
       let no_end : k + 1 ≢ END = let low = took.low in let few = first.0.lawful.sized in λ z. omega arith in
@@ -164,10 +176,11 @@ module _ (laws : PutLaws) (s : ProducerView) (x k : ℕ) (one two : Push) (a b n
       ∙ no_mark p k (next_link p s.seat.place) h (link_word p s.seat.place.last) no_end
       ∙ rw (eq-eqb p p refl) refl
 
--- ---- other answers of an offer
+-- ---- an offer that returned `Closed` or `Busy`
 same_offer : (a b : Offer) → Some a ≡ Some b → a ≡ b
 same_offer a b e = cc
 
+-- an offer that returned `Closed` did nothing, and the stage of the producer's place refused it
 refused_closed : (old : LaneSeatView) (x : ℕ) (now : LaneSeatView) (at : LaneStage)
     → OfferBy (stage_offer_refusal at) old x offer.Closed now
     → (now ≡ old) × (stage_offer_refusal at ≡ Some offer.Closed)
@@ -181,9 +194,11 @@ refused_closed old x now (stage.Stored c) m = absurd (cc)
 refused_closed old x now stage.Full m = absurd (cc)
 refused_closed old x now (stage.Ended f) m = (m.1, refl)
 
+-- an offer that returned `Closed` did nothing
 pub is_refused : (s : ProducerView) (x : ℕ) (now : LaneSeatView) → OfferMakes s.seat x offer.Closed now → now ≡ s.seat
 is_refused s x now m = (refused_closed s.seat x now s.seat.place.stage m).0
 
+-- if an offer returned `Closed`, the lane had ended
 pub is_closed : PutLaws → (s : ProducerView) (x : ℕ) (now : LaneSeatView) → HasPart s.seat
     → OfferMakes s.seat x offer.Closed now
     → has_ended s.seat.lane s.seat.part ≡ true
@@ -200,6 +215,7 @@ answered : (o : Option Offer) (r : Offer) (old : LaneSeatView) (x : ℕ) (answer
 answered (Some q) r old x answer now e m = m.0 ∙ same_offer q r e
 answered None r old x answer now e m = absurd (cc)
 
+-- if the lane has ended, an offer returns `Closed`
 pub offer_is_over : PutLaws → (s : ProducerView) (x : ℕ) (answer : Offer) (now : LaneSeatView)
     → HasPart s.seat → OfferMakes s.seat x answer now
     → has_ended s.seat.lane s.seat.part ≡ true → answer ≡ offer.Closed
@@ -211,6 +227,7 @@ offer_is_over laws s x answer now h m over =
     ((laws.closed s.seat.table.size g p s.seat.place h.history.1 place).1
     (laws.ended g p ∙ ap (has_ended p) h.history.2 ∙ over)) m
 
+-- an offer never returns `Busy`, since no item waits for its link
 pub not_busy : (s : ProducerView) (x : ℕ) (now : LaneSeatView) → IsProducer s → OfferMakes s.seat x offer.Busy now → ⊥
 not_busy s x now i m = by s.seat.place.stage m i.idle
   where

@@ -26,13 +26,14 @@ use Rattle.mb_mailbox.specs.declared.crew.jobs.PutJob.{PutJob}
 use Rattle.mb_mailbox.proofs.HubRuns.{CountFrom, after, run_claimed, run_ledgers, run_parts, run_puts, run_readers}
 use Rattle.mb_mailbox.proofs.Zips.{zip_length}
 
+-- what a producer came to, and by `left_by` what a consumer came to
 abbrev pub lane_left : ProducerView → Bool → LaneLeft
 lane_left s stopped = record { put = s.items; part = s.seat.part; stopped = stopped }
 
 abbrev pub left_by : ConsumerView → Bool → ConsumerLeft
 left_by s stopped = record { ledger = record { places = s.places; notes = s.notes }; reads = s.reader.part; claimed = s.seat.part; stopped = stopped }
 
--- the end marks that a consumer has loaded, by its number
+-- consumer c has met the end marks that it has read to, by its number
 met_at : (from end c : ℕ) (s : ConsumerView) → s.reader.reader ≡ c → HasReadEnds from end s
     → HasMetEnds from end c s.reader.part
 met_at from end c s is r = record {
@@ -44,6 +45,7 @@ met_at from end c s is r = record {
   once = r.once;
 }
 
+-- `full` counts the items that the producer did not put
 behind : (stopped : Bool) (list put : List ℕ) (full : ℕ) → (stopped ≡ false → length put + full ≡ length list)
     → (stopped ≡ true → full ≡ 0)
     → full ≡ items_behind stopped list put
@@ -51,6 +53,7 @@ behind true list put full rest none = none refl
 behind false list put full rest none = let e = rest refl in omega (arith, e)
 
 module _ {Z : Type 0} (m : MailboxView) (may_stop may_pass : Who → ℕ → Type 0) where
+  -- the producers of these ends, and by `lanes_of` what they came to
   abbrev pub producers : List (PutDone Z) → List ProducerView
   producers ds = map (λ d. d.producer) ds
 
@@ -70,11 +73,13 @@ module _ {Z : Type 0} (m : MailboxView) (may_stop may_pass : Who → ℕ → Typ
         → IsStoppedPut may_stop m.cells.size.cells p v.items (lane_left d.producer d.stopped)
     pub passed : d.aborted ≡ false → WasPassed may_pass p v.items (lane_left d.producer d.stopped)
 
+  -- these are the ends of the jobs of these lists, on the lanes from p on
   abbrev pub AreAt : ℕ → List (Vec ℕ Z) → List (PutDone Z) → Type 0
   AreAt p [] [] = Unit {0}
   AreAt p (v ∷ vs) (d ∷ ds) = IsPutEndAt p v d × AreAt (suc p) vs ds
   AreAt p _ _ = ⊥
 
+  -- the end of a new producer's job is such an end
   end_at : (p : ℕ) (v : Vec ℕ Z) (j : PutJob Z) (d : PutDone Z) → j.producer ≡ new_producer m p → j.list ≡ v
       → IsPutEnd may_stop may_pass j d → IsPutEndAt p v d
   end_at p v j d is list e =
@@ -105,6 +110,7 @@ module _ {Z : Type 0} (m : MailboxView) (may_stop may_pass : Who → ℕ → Typ
         };
       }
 
+  -- the ends of new producers' jobs are such ends
   are_at : (p : ℕ) (vs : List (Vec ℕ Z)) (js : List (PutJob Z)) (ds : List (PutDone Z)) → ArePutJobs m p vs js
       → AllZip (IsPutEnd may_stop may_pass) js ds → AreAt p vs ds
   are_at p [] [] [] a z = tt
@@ -114,6 +120,7 @@ module _ {Z : Type 0} (m : MailboxView) (may_stop may_pass : Who → ℕ → Typ
   are_at p (v ∷ vs) (j ∷ js) [] a z = absurd z
   are_at p (v ∷ vs) (j ∷ js) (d ∷ ds) a z = (end_at p v j d a.0 a.1 z.0, are_at (suc p) vs js ds a.2 z.1)
 
+  -- the producers of such ends are those of the lanes from p on
   count_lanes : (p : ℕ) (vs : List (Vec ℕ Z)) (ds : List (PutDone Z)) → AreAt p vs ds
       → CountFrom (λ (s : ProducerView). s.seat.lane) p (producers ds)
   count_lanes p [] [] a = tt
@@ -121,6 +128,7 @@ module _ {Z : Type 0} (m : MailboxView) (may_stop may_pass : Who → ℕ → Typ
   count_lanes p (v ∷ vs) [] a = absurd a
   count_lanes p (v ∷ vs) (d ∷ ds) a = (a.0.lane, count_lanes (suc p) vs ds a.1)
 
+  -- each of these producers put a beginning of its list
   fronts_of : (p : ℕ) (vs : List (Vec ℕ Z)) (ds : List (PutDone Z)) → AreAt p vs ds
       → AllZip (λ list l. IsFront l.put list) (lists_in vs) (lanes_of ds)
   fronts_of p [] [] a = tt
@@ -128,6 +136,7 @@ module _ {Z : Type 0} (m : MailboxView) (may_stop may_pass : Who → ℕ → Typ
   fronts_of p (v ∷ vs) [] a = absurd a
   fronts_of p (v ∷ vs) (d ∷ ds) a = (a.0.front, fronts_of (suc p) vs ds a.1)
 
+  -- what the hub keeps of each of these producers says that its lane has ended
   ended_of : (p : ℕ) (vs : List (Vec ℕ Z)) (ds : List (PutDone Z)) → AreAt p vs ds
       → map (λ (s : ProducerView). Some (put_list_of s)) (producers ds) ≡ map (λ (l : LaneLeft). Some (ended_list l)) (lanes_of ds)
   ended_of p [] [] a = refl
@@ -136,12 +145,13 @@ module _ {Z : Type 0} (m : MailboxView) (may_stop may_pass : Who → ℕ → Typ
   ended_of p (v ∷ vs) (d ∷ ds) a =
       λ i. Some (record { items = d.producer.items; ended = a.0.over i }) ∷ ended_of (suc p) vs ds a.1 i
 
+  -- what these producers came to has their parts
   parts_of_lanes : (ds : List (PutDone Z))
       → map (λ (s : ProducerView). Some s.seat.part) (producers ds) ≡ map (λ (l : LaneLeft). Some l.part) (lanes_of ds)
   parts_of_lanes [] = refl
   parts_of_lanes (d ∷ ds) = ap (λ l. Some d.producer.seat.part ∷ l) (parts_of_lanes ds)
 
-  -- what is not put
+  -- together the ends count in `full` all items that were not put
   beyond_of : (p : ℕ) (vs : List (Vec ℕ Z)) (ds : List (PutDone Z)) → AreAt p vs ds
       → sum_by (λ (d : PutDone Z). d.full) ds ≡ items_beyond (lists_in vs) (lanes_of ds)
   beyond_of p [] [] a = refl
@@ -151,6 +161,7 @@ module _ {Z : Type 0} (m : MailboxView) (may_stop may_pass : Who → ℕ → Typ
       let one = behind d.stopped v.items d.producer.items d.full a.0.full a.0.none in
       sum_by-cons (λ (d : PutDone Z). d.full) d ds ∙ (λ i. one i + beyond_of (suc p) vs ds a.1 i)
 
+  -- if one of these producers was not stopped and put less than its list, it found no cell
   cut_of : (p : ℕ) (vs : List (Vec ℕ Z)) (ds : List (PutDone Z)) → AreAt p vs ds
       → AreCutByCells m.cells.size.cells p (lists_in vs) (lanes_of ds)
   cut_of p [] [] a = tt
@@ -181,6 +192,7 @@ module _ {Z : Type 0} (m : MailboxView) (may_stop may_pass : Who → ℕ → Typ
       (a.0.passed (All-head F d ds on), passes_of (suc p) vs ds a.1 (All-tail F d ds on))
 
   -- ---- consumers
+  -- the consumers of these ends, and by `left_of` below what they came to
   abbrev pub consumers : List (PollDone Z) → List ConsumerView
   consumers ds = map (λ d. d.consumer) ds
 
@@ -195,10 +207,12 @@ module _ {Z : Type 0} (m : MailboxView) (may_stop may_pass : Who → ℕ → Typ
     pub unread : d.stopped ≡ true → d.aborted ≡ false → ends_met d.consumer.reader.part < end - from
     pub only : d.aborted ≡ false → IsOnLanes from end d.consumer.reader.part
 
+  -- these are the ends of the jobs of consumers with the numbers from c on
   abbrev pub AreNumbered : ℕ → ℕ → ℕ → ℕ → List (PollDone Z) → Type 0
   AreNumbered from end budget c [] = Unit {0}
   AreNumbered from end budget c (d ∷ ds) = IsPollEndAt from end budget c d × AreNumbered from end budget (suc c) ds
 
+  -- the ends of the jobs of new consumers are such ends
   numbered : {R : Type 0} (stream : R → Stream) (from end budget c : ℕ) (js : List (PollJob R Z)) (ds : List (PollDone Z)) → ArePollJobs m c js
       → AllZip (λ (j : PollJob R Z) (d : PollDone Z). IsPollEnd may_stop may_pass from end budget (stream j.rng) j.consumer d) js ds → AreNumbered from end budget c ds
   numbered stream from end budget c [] [] a z = tt
@@ -218,6 +232,7 @@ module _ {Z : Type 0} (m : MailboxView) (may_stop may_pass : Who → ℕ → Typ
     numbered stream from end budget (suc c) js ds a.1 z.1,
   )
 
+  -- the consumers of such ends have the numbers from c on, at the claims and as readers
   count_seats : (from end budget c : ℕ) (ds : List (PollDone Z)) → AreNumbered from end budget c ds
       → CountFrom (λ (s : ConsumerView). s.seat.consumer) c (consumers ds)
   count_seats from end budget c [] a = tt
@@ -231,6 +246,7 @@ module _ {Z : Type 0} (m : MailboxView) (may_stop may_pass : Who → ℕ → Typ
   abbrev pub left_of : List (PollDone Z) → List ConsumerLeft
   left_of ds = map (λ d. left_by d.consumer d.stopped) ds
 
+  -- which consumers were stopped, if the run is not aborted
   poll_stops_of : (from end budget c : ℕ) (ds : List (PollDone Z)) → AreNumbered from end budget c ds
       → All (λ (d : PollDone Z). d.aborted ≡ false) ds
       → AreStoppedPolls may_stop budget c (left_of ds)
@@ -267,6 +283,7 @@ module _ {Z : Type 0} (m : MailboxView) (may_stop may_pass : Who → ℕ → Typ
         polled_of stream from end budget (suc c) js ds a.1 z.1 (All-tail F d ds on),
       )
 
+  -- if the run is not aborted, each consumer has looked at the heads of these lanes alone
   only_of : (from end budget c : ℕ) (ds : List (PollDone Z)) → AreNumbered from end budget c ds
       → All (λ (d : PollDone Z). d.aborted ≡ false) ds
       → All (λ (x : ConsumerLeft). IsOnLanes from end x.reads) (left_of ds)
@@ -276,6 +293,7 @@ module _ {Z : Type 0} (m : MailboxView) (may_stop may_pass : Who → ℕ → Typ
       All-cons (λ (x : ConsumerLeft). IsOnLanes from end x.reads) (left_by d.consumer d.stopped) (left_of ds) (a.0.only (All-head F d ds on))
       (only_of from end budget (suc c) ds a.1 (All-tail F d ds on))
 
+  -- a consumer that was not stopped has loaded as many end marks as there are lanes
   ends_of : (from end budget c : ℕ) (ds : List (PollDone Z)) → AreNumbered from end budget c ds
       → All (λ (x : ConsumerLeft). x.stopped ≡ false → ends_met x.reads ≡ end - from) (left_of ds)
   ends_of from end budget c [] a = λ k d low. absurd (omega (arith, low))
@@ -283,11 +301,13 @@ module _ {Z : Type 0} (m : MailboxView) (may_stop may_pass : Who → ℕ → Typ
       All-cons (λ (x : ConsumerLeft). x.stopped ≡ false → ends_met x.reads ≡ end - from) (left_by d.consumer d.stopped) (left_of ds)
       a.0.ends (ends_of from end budget (suc c) ds a.1)
 
+  -- each consumer has met the end marks that it has read to
   mets_of : (from end budget c : ℕ) (ds : List (PollDone Z)) → AreNumbered from end budget c ds
       → HaveMetEnds from end c (left_of ds)
   mets_of from end budget c [] a = tt
   mets_of from end budget c (d ∷ ds) a = (met_at from end c d.consumer a.0.reader a.0.marked, mets_of from end budget (suc c) ds a.1)
 
+  -- if the run is not aborted, a consumer that was stopped has loaded fewer end marks than there are lanes
   unread_of : (from end budget c : ℕ) (ds : List (PollDone Z)) → AreNumbered from end budget c ds
       → All (λ (d : PollDone Z). d.aborted ≡ false) ds
       → All (λ (x : ConsumerLeft). x.stopped ≡ true → ends_met x.reads < end - from) (left_of ds)
@@ -297,7 +317,7 @@ module _ {Z : Type 0} (m : MailboxView) (may_stop may_pass : Who → ℕ → Typ
       All-cons (λ (x : ConsumerLeft). x.stopped ≡ true → ends_met x.reads < end - from) (left_by d.consumer d.stopped) (left_of ds)
       (λ t. a.0.unread t (All-head F d ds on)) (unread_of from end budget (suc c) ds a.1 (All-tail F d ds on))
 
-  -- ---- a whole run
+  -- ---- a whole run: each lemma `run_X` is the lemma `X` above, over all ends of the run
   module _ {R : Type 0} (stream : R → Stream) (h : HubView) (from end budget : ℕ) (vs : List (Vec ℕ Z)) (js : List (PutJob Z)) (ds : List (PutDone Z))
       (ks : List (PollJob R Z)) (es : List (PollDone Z)) (i : IsHub h) (putting : ArePutJobs m (length h.puts) vs js)
       (polling : ArePollJobs m (length h.ledgers) ks) (put : AllZip (IsPutEnd may_stop may_pass) js ds)

@@ -1,4 +1,4 @@
--- A consumer's place after an access.
+-- A consumer's places and notes after an access, on the lane of the access and on the others.
 use Rattle.std.proofs.Common.{◌≡◌, ◌≢◌, ℕ, ◌<◌, List, [], ◌∷◌, ◌++◌, length, reverse, refl, sym, ap, ◌∙◌, subst, inl, inr, ⊎_elim, arith}
 use Rattle.std.specs.Prelude.{Option, Some, None, slice_get}
 use Rattle.std.specs.Option.{option_map_or}
@@ -12,7 +12,8 @@ use Rattle.mb_world.specs.declared.place.Place.{Place}
 use Rattle.mb_world.specs.declared.place.Place.TheVariants.{At, Before}
 use Rattle.mb_mailbox.proofs.Lists.{get_some, get_within, set_get, set_length, some_same}
 
--- ---- ends
+-- ---- claims that have ended with notes
+-- if each claim ends as before, all of them do
 pub ends_more : (cs : Claims) (c : ℕ) (x y : Parts) (ks : List ℕ) (ns : List Note)
     → ((k : ℕ) (n : Note) → Has ks k → EndsAs cs c k n x → EndsAs cs c k n y) → AreEnds cs c ks ns x
     → AreEnds cs c ks ns y
@@ -22,12 +23,14 @@ ends_more cs c x y (k ∷ ks) [] more e = absurd e
 ends_more cs c x y (k ∷ ks) (n ∷ ns) more e =
     (more k n (inl refl) e.0, ends_more cs c x y ks ns (λ j m has. more j m (inr has)) e.1)
 
+-- a claim ends as before if its steps stay, and an item that was loaded still is
 pub end_kept : (cs : Claims) (c k : ℕ) (n : Note) (x y : Parts) → x.claimed k ≡ y.claimed k
     → ((v : ℕ) → HasRead (Item k) v x.reads → HasRead (Item k) v y.reads) → EndsAs cs c k n x → EndsAs cs c k n y
 end_kept cs c k (Took v) x y same more e = (subst (λ xs. IsClaimPrefix cs c xs stage.Won) same e.0, more v e.1)
 end_kept cs c k (Lost w) x y same more e = subst (λ xs. IsClaimPrefix cs c xs (stage.Lost w)) same e
 end_kept cs c k Undecided x y same more e = subst (λ xs. IsClaimPrefix cs c xs stage.Undecided) same e
 
+-- there is a note for each cell
 pub same_length : (cs : Claims) (c : ℕ) (ks : List ℕ) (ns : List Note) (x : Parts)
     → AreEnds cs c ks ns x → length ns ≡ length ks
 same_length cs c [] [] x e = refl
@@ -35,7 +38,7 @@ same_length cs c [] (n ∷ ns) x e = absurd e
 same_length cs c (k ∷ ks) [] x e = absurd e
 same_length cs c (k ∷ ks) (n ∷ ns) x e = omega (arith, same_length cs c ks ns x e.1)
 
--- the note of a stage determines the claim's end
+-- a claim whose stage has a note has ended with this note
 pub ends_by : (cs : Claims) (c k : ℕ) (s : Stage) (n : Note) (x : Parts) → note_of s ≡ Some n
     → HasStageIn cs c k s x → EndsAs cs c k n x
 ends_by cs c k stage.Going n x e has = absurd (cc)
@@ -43,13 +46,15 @@ ends_by cs c k stage.Won n x e has = absurd (cc)
 ends_by cs c k (stage.Lost w) n x e has = subst (λ m. EndsAs cs c k m x) (some_same (Lost w) n e) has
 ends_by cs c k stage.Undecided n x e has = subst (λ m. EndsAs cs c k m x) (some_same Undecided n e) has
 
--- ---- what an access leaves alone on a lane
+-- ---- lanes on which nothing changes
+-- an access changes the parts x to y, and leaves lane q alone
 pub record Leaves (q : ℕ) (x y : Parts) : Type 0 where
   pub met : cells_met q y.reads ≡ cells_met q x.reads
   pub claims : (k : ℕ) → Has (cells_met q x.reads) k → x.claimed k ≡ y.claimed k
   pub more : (k v : ℕ) → HasRead (Item k) v x.reads → HasRead (Item k) v y.reads
   pub left : (k : ℕ) → Has (cells_met q x.reads) k → HasNotLeft k x → HasNotLeft k y
 
+-- on such a lane the consumer stands as before
 pub stands_still : (layout : Layout) (cs : Claims) (c q : ℕ) (x y : Parts) (notes : List Note)
     (place : Place) → Leaves q x y
     → StandsOn layout cs c q x notes place → StandsOn layout cs c q y notes place
@@ -74,14 +79,17 @@ stands_still layout cs c q x y notes (At k claim) l o =
     }
 
 -- ---- the consumer after an access
+-- the notes with one more, if there is a note to add
 abbrev pub with_one : Option Note → List Note → List Note
 with_one None notes = notes
 with_one (Some n) notes = notes ++ n ∷ []
 
+-- a note leaves the number of lists
 count_with : (p : ℕ) (o : Option Note) (lists : List (List Note)) → length (with_note p o lists) ≡ length lists
 count_with p None lists = refl
 count_with p (Some n) lists = set_length lists p (notes_on p lists ++ n ∷ [])
 
+-- the list of lane p has the note at its end
 list_with : (p : ℕ) (o : Option Note) (lists : List (List Note)) (ns ms : List Note) → slice_get lists p ≡ Some ns
     → slice_get (with_note p o lists) p ≡ Some ms → with_one o ns ≡ ms
 list_with p None lists ns ms e f = some_same ns ms (sym e ∙ f)
@@ -90,12 +98,15 @@ list_with p (Some n) lists ns ms e f =
     ⊎_elim (λ t. ap (λ l. l ++ n ∷ []) (sym on) ∙ t.1) (λ t. absurd (t.0 refl))
     (set_get lists p p (notes_on p lists ++ n ∷ []) ms f)
 
+-- the list of another lane stays
 list_else : (p q : ℕ) (o : Option Note) (lists : List (List Note)) (ms : List Note) → q ≢ p
     → slice_get (with_note p o lists) q ≡ Some ms → slice_get lists q ≡ Some ms
 list_else p q None lists ms ne f = f
 list_else p q (Some n) lists ms ne f =
     ⊎_elim (λ t. absurd (ne t.0)) (λ t. t.1) (set_get lists p q (notes_on p lists ++ n ∷ []) ms f)
 
+-- after an access on lane p the consumer is as consumers are, if its parts fit, it stands there as it should, and the
+-- access leaves the other lanes alone
 pub moves : (s : ConsumerView) (p : ℕ) (was place : Place) (o : Option Note) (reads : History)
     (made : List ClaimAccess) (i : IsConsumer s)
     → slice_get s.places p ≡ Some was

@@ -17,7 +17,7 @@ use Rattle.mb_mailbox.proofs.Competing.{IsNext, MovesOn, competed_more, competed
 use Rattle.mb_mailbox.proofs.Lists.{get_some, set_here, set_length}
 use Rattle.mb_mailbox.proofs.Moving.{holds}
 
--- the fields of a consumer that is to have this claim in its place
+-- these are the fields of a consumer that holds this claim. Its place on lane p may be out of date
 pub record Start (m : MailboxView) (p k : ℕ) (claim : Claim) (reader : ReaderSeatView)
     (seat : SeatView) (places : List Place)
     (notes : NotesView) : Type 0 where
@@ -29,15 +29,19 @@ pub record Start (m : MailboxView) (p k : ℕ) (claim : Claim) (reader : ReaderS
 
 module _ (m : MailboxView) (p k : ℕ) (claim : Claim) (reader : ReaderSeatView) (seat : SeatView) (places : List Place)
     (notes : NotesView) (start : Start m p k claim reader seat places notes) where
+  -- the consumer with the claim in its place
   abbrev s : ConsumerView
   s = holding p k claim (consumer_with reader seat places notes)
 
+  -- the lane has some place
   pub there : (place : Place) × (slice_get places p ≡ Some place)
   there = get_some places p start.lane
 
+  -- the consumer stands at the claim
   pub here : HasPlace p (At k claim) s
   here = set_here places p (At k claim) there.0 there.1
 
+  -- if there are fewer notes than cells, there is room for one more
   pub start_room : sum_by length s.notes < reader.table.size.cells → HasRoom p notes
   start_room few = record {
     lane = subst (λ n. p < n) (sym (set_length places p (At k claim)) ∙ start.held.places_count
@@ -45,17 +49,20 @@ module _ (m : MailboxView) (p k : ℕ) (claim : Claim) (reader : ReaderSeatView)
     room = let wide = start.wide in omega (arith, few, wide);
   }
 
+  -- the consumer's table of claims is that of the mailbox
   pub table : seat.table.size ≡ Some (record { layout = m.claims.layout; cells = m.claims.cells })
   table = ap (λ (t : ClaimTable). t.size) start.of.claims
 
+  -- the claim has no note yet
   pub unnoted : note_of (claim_stage claim) ≡ None
   unnoted = (holds s p k claim start.held here).2.unnoted
 
+  -- the steps so far led to the claim
   pub begun : (from : ConsumerView) (n : ℕ) (t u : Stream) → AreSteps p n None t u from s
       → HasCompeted p k n claim t u from s seat
   begun from n t u so = competed_none p k n claim t u from s seat (λ j. seat) here unnoted start.held so
 
-  -- one more access
+  -- the claim makes one more access
   pub stepped : MovesOn → IsNext → (now : MailboxView) → now ≡ m
       → (from : ConsumerView) (made n word : ℕ) (was next : Claim) (before after : SeatView)
       (t u v : Stream) → claim_stage was ≡ stage.Going → HasCompeted p k (made + n) was t u from s before
@@ -83,7 +90,7 @@ module _ (m : MailboxView) (p k : ℕ) (claim : Claim) (reader : ReaderSeatView)
   ran_own layout u own (suc made) follows after v (at, before, w, word, older, going, drawn, step, still, stands) =
       still ∙ ran_own layout u own made at before w older ∙ sym (ap (λ (z : SeatView). z.consumer) step.adds)
 
-  -- these accesses led the consumer on
+  -- after accesses in a row, the steps led to the claim as it is then
   pub ran :
       MovesOn → IsNext → (now : MailboxView) → now ≡ m → consumer_of claim ≡ seat.consumer
       → (from : ConsumerView) (n : ℕ) (t u : Stream)

@@ -1,4 +1,4 @@
--- What was taken in, in the histories that have its parts.
+-- What a hub has taken in, beside the histories that have its parts.
 use Rattle.std.proofs.Common.{◌≡◌, ℕ, zero, suc, ◌<◌, ◌≤◌, false, List, [], ◌∷◌, length, map, refl, sym, ap, ◌∙◌, subst, arith}
 use Rattle.std.specs.Prelude.{Option, Some, None, slice_get}
 use Rattle.std.specs.Option.{option_map_or}
@@ -19,12 +19,13 @@ use Rattle.mb_mailbox.specs.Mailboxes.{MailboxView, plan_at}
 use Rattle.mb_world.specs.declared.place.Place.{Place}
 use Rattle.mb_mailbox.proofs.Lists.{some_same}
 
--- ---- lists of what is there or not
--- if nothing is missing, there is one at each number given, and none past them
+-- ---- lists whose places are out or taken in
+-- at this place something was taken in, or the place is past the list
 pub data At {X : Type 0} (xs : List (Option X)) (n : ℕ) : Type 0 where
   here : (x : X) → slice_get xs n ≡ Some (Some x) → At xs n
   past : slice_get xs n ≡ None → length xs ≤ n → At xs n
 
+-- if nothing is missing, something was taken in at each place, or the place is past the list
 pub at : {X : Type 0} (xs : List (Option X)) (n : ℕ) → count_missing xs ≡ 0 → At xs n
 at [] n e = past refl (omega arith)
 at (Some x ∷ xs) zero e = here x refl
@@ -35,6 +36,7 @@ at (Some x ∷ xs) (suc n) e = by (at xs n e)
     by (here y f) = here y f
     by (past f low) = past f (omega arith)
 
+-- there is nothing past a list
 nothing_there : {X : Type 0} (xs : List X) (n : ℕ) → length xs ≤ n → slice_get xs n ≡ None
 nothing_there [] n low = refl
 nothing_there (x ∷ xs) zero low = absurd (omega arith)
@@ -51,6 +53,7 @@ none_out (None ∷ roll) all =
     let e : None ≡ Some t.0 = some_same None (Some t.0) t.1 in
     absurd (cc)
 
+-- the part at a place of the roll is the part taken in
 taken_is : (roll : Roll) (c : ℕ) (done : List ClaimAccess) → slice_get roll c ≡ Some (Some done)
     → taken_part roll c ≡ done
 taken_is [] c done e = absurd (cc)
@@ -59,6 +62,7 @@ taken_is (None ∷ roll) zero done e = let f : None ≡ Some done = some_same No
 taken_is (Some d ∷ roll) (suc c) done e = taken_is roll c done e
 taken_is (None ∷ roll) (suc c) done e = taken_is roll c done e
 
+-- no part was taken in past the roll
 taken_none : (roll : Roll) (c : ℕ) → length roll ≤ c → taken_part roll c ≡ []
 taken_none [] c low = refl
 taken_none (x ∷ roll) zero low = absurd (omega arith)
@@ -70,7 +74,8 @@ abbrev pub kept_of : {X : Type 0} → Option (Option X) → Option X
 kept_of {X} o = option_map_or (λ (z : Option X). z) o None
 
 -- ---- consumers
--- its parts of the histories determine what is kept of consumer c. One that was never given has done nothing
+-- consumer c's parts of the histories determine what the hub keeps of it. A consumer that was never given has done
+-- nothing
 pub data Keeps (m : MailboxView) (h : HubView) (hs : Histories) (c : ℕ) : Type 0 where
   was_in : (l : ConsumerRecordView) → kept_at h.ledgers c ≡ Some l
       → length l.places ≡ m.cells.size.lanes → length l.notes ≡ m.cells.size.lanes
@@ -81,6 +86,7 @@ pub data Keeps (m : MailboxView) (h : HubView) (hs : Histories) (c : ℕ) : Type
       → Keeps m h hs c
   never : kept_at h.ledgers c ≡ None → no_parts ≡ parts_in c hs → Keeps m h hs c
 
+-- the two histories, in which consumer c is reader c
 abbrev pub histories_in : List ClaimAccess → History → Histories
 histories_in claims pool = record { claims = claims; pool = pool; reader_of = λ c. c }
 
@@ -91,10 +97,12 @@ module _ (m : MailboxView) (h : HubView) (claims : List ClaimAccess) (pool : His
   abbrev hs : Histories
   hs = histories_in claims pool
 
+  -- the steps on a cell are those of the part that was taken in
   steps : (c : ℕ) (done : List ClaimAccess) → taken_part h.claims.roll c ≡ done → (k : ℕ)
       → part_on c k done ≡ part_on c k claims
   steps c done e k = ap (λ l. part_on c k l) (sym (made c ∙ e)) ∙ cut c k claims
 
+  -- what the hub keeps of a consumer that was taken in is right by the histories
   kept : (c : ℕ) (l : ConsumerRecordView) (reads : History) (done : List ClaimAccess)
       → slice_get h.ledgers c ≡ Some (Some l)
       → part (Reader c) pool ≡ reads → taken_part h.claims.roll c ≡ done
@@ -116,6 +124,7 @@ module _ (m : MailboxView) (h : HubView) (claims : List ClaimAccess) (pool : His
       subst (λ (z : TableSize × Parts). StandsOn z.0.layout (claims_in z.0.layout z.0.cells) c p z.1 notes place)
       (λ j. (size j, parts j)) (k.lanes p place notes f g))
 
+  -- if no consumer is missing, this holds of each
   pub keeps : count_missing h.ledgers ≡ 0 → (c : ℕ) → Keeps m h hs c
   keeps all c = by (at h.ledgers c all)
     where
@@ -129,6 +138,7 @@ module _ (m : MailboxView) (h : HubView) (claims : List ClaimAccess) (pool : His
           let none : taken_part h.claims.roll c ≡ [] = taken_none h.claims.roll c (subst (λ n. n ≤ c) i.seats low) in
           never (ap kept_of e) (λ j. record { reads = sym reads j; claimed = λ k. steps c [] none k j })
 
+-- if no consumer is missing, no seat of the claims is out
 pub all_in : (h : HubView) → IsHub h → count_missing h.ledgers ≡ 0 → count_out h.claims.roll ≡ 0
 all_in h i all = none_out h.claims.roll (λ c low. by c low (at h.ledgers c all))
   where
@@ -138,7 +148,7 @@ all_in h i all = none_out h.claims.roll (λ c low. by c low (at h.ledgers c all)
     by c low (past e most) = let same = i.seats in absurd (omega arith)
 
 -- ---- producers
--- the pool determines what is kept of the producer of lane p
+-- the pool's history determines what the hub keeps of the producer of lane p
 pub record Tells (m : MailboxView) (h : HubView) (pool : History) (p : ℕ) : Type 0 where
   pub items : items_in p h ≡ values_put p pool
   pub ended : ended_in p h ≡ has_ended p pool
@@ -150,9 +160,11 @@ module _ (m : MailboxView) (h : HubView) (pool : History) (i : IsHub h) (of : Is
     (ended : (p : ℕ) → has_ended p pool ≡ has_ended p (part (Producer p) pool))
     (linked : (p : ℕ) → linked_cells p pool ≡ linked_cells p (part (Producer p) pool))
     (all : (who : Process) (a : PoolAccess) → Has pool a → a.process ≡ who → Has (part who pool) a) where
+  -- the values put by a producer's part are those of the history
   values : (p : ℕ) (done : History) → part (Producer p) pool ≡ done → values_put p done ≡ values_put p pool
   values p done e = ap (λ (l : List Entry). map (λ (z : Entry). z.value) l) (ap (put_list p) (sym e) ∙ sym (put p))
 
+  -- what the hub keeps of a producer that was taken in is right by the history
   told : (p : ℕ) (l : PutListView) (done : History) → slice_get h.puts p ≡ Some (Some l) → part (Producer p) pool ≡ done
       → IsPutList h.cells.table.size.cells p done l → Tells m h pool p
   told p l done e d k = record {
@@ -165,6 +177,7 @@ module _ (m : MailboxView) (h : HubView) (pool : History) (i : IsHub h) (of : Is
         (subst (λ (t : CellsName). entry.cell < t.size.cells) (sym of.cells) low));
   }
 
+  -- a lane that was never given has no items, and no end mark
   silent : (p : ℕ) → slice_get h.puts p ≡ None → part (Producer p) pool ≡ [] → Tells m h pool p
   silent p e none = record {
     items = ap (λ o. option_map_or (λ (l : PutListView). l.items) (kept_of o) []) e ∙ values p [] none;
@@ -174,6 +187,7 @@ module _ (m : MailboxView) (h : HubView) (pool : History) (i : IsHub h) (of : Is
         absurd (subst (λ z. Has z (fetch p entry)) none (all (Producer p) (fetch p entry) has refl));
   }
 
+  -- if no producer is missing, this holds of each lane
   pub tells : count_missing h.puts ≡ 0 → (p : ℕ) → Tells m h pool p
   tells none p = by (at h.puts p none)
     where

@@ -1,4 +1,4 @@
--- What the answers of a consumer say of the lane.
+-- What the answers of a consumer's accesses say of their lane.
 use Rattle.std.proofs.Common.{◌≡◌, ◌≢◌, ◌⊎◌, ℕ, Bool, true, false, List, [], ◌∷◌, length, map, reverse, refl, sym, ap, ◌∙◌, subst, inl, inr}
 use Rattle.std.specs.Prelude.{Option, Some, None, slice_get}
 use Rattle.std.specs.Option.{option_map_or}
@@ -25,7 +25,7 @@ use Rattle.mb_mailbox.specs.Steps.{AnswerTells, HasLoadedEnd, HasNoteOnEach, Has
 use Rattle.mb_mailbox.proofs.Moving.{before}
 use Rattle.mb_mailbox.proofs.Standings.{same_length}
 
--- before a link it has a note on each cell met
+-- before a link the consumer has a note on each cell that it met on the lane
 pub noted : (s : ConsumerView) (p : ℕ) (at : Cursor) → IsConsumer s → HasPlace p (Before at) s → HasNoteOnEach p s
 noted s p at i e =
     let b = before s p at i e in
@@ -35,14 +35,14 @@ noted s p at i e =
     ∙ same_length (claims_in i.size.layout i.size.cells) s.seat.consumer (cells_met p s.reader.part)
     (reverse b.0) (parts_of s.reader s.seat) b.2.ended
 
--- there are as many items as cells
+-- a lane has as many items put as cells linked
 items_count : (p : ℕ) (h : History) → length (values_put p h) ≡ length (linked_cells p h)
 items_count p h =
     length-map (put_list p h) (λ (e : Entry). e.value)
     ∙ length-reverse (map (λ k. entry_at k h) (linked_cells p h))
     ∙ length-map (linked_cells p h) (λ k. entry_at k h)
 
--- its own part has the loads by which it met its cells
+-- the consumer's own part has the loads by which it met its cells
 met_by_part : Laws → (s : ConsumerView) (p : ℕ) → HasLoads s
     → HasMet s.reader.reader p (cells_met p s.reader.part) s.reader.part
 met_by_part laws s p h =
@@ -57,18 +57,22 @@ module _ (laws : Laws) (s : ConsumerView) (p : ℕ) (at : Cursor) (now : ReaderS
       part = load s.reader.reader (word_of at) v
           ∷ s.reader.part;
     }) where
+  -- the consumer stands before the link past the cells met
   pub word : word_of at ≡ place_past p (cells_met p s.reader.part)
   word = (before s p at i e).2.word
 
+  -- a load that finds no cell leaves the cells met as they are
   met_still : cells_met p now.part ≡ cells_met p s.reader.part
   met_still =
       ap (λ (r : ReaderSeatView). cells_met p r.part) is
       ∙ ap (λ w. cells_met p (load s.reader.reader w v ∷ s.reader.part)) word
       ∙ laws.none s.reader.reader p v s.reader.part none
 
+  -- after the load the consumer has a note on each cell that it met
   pub noted_still : HasNoteOnEach p (record s { reader = now })
   noted_still = noted s p at i e ∙ ap length (sym met_still)
 
+  -- if the cells met are all cells of the lane, the consumer has read the whole lane
   pub read_whole : (theirs : History) (over : Bool)
       → (cells_met p s.reader.part ≡ linked_cells p theirs) × (has_ended p theirs ≡ over)
       → HasReadWhole p theirs over (record s { reader = now })
@@ -78,6 +82,7 @@ module _ (laws : Laws) (s : ConsumerView) (p : ℕ) (at : Cursor) (now : ReaderS
     ended = so.1;
   }
 
+  -- a load that found the end mark has loaded the lane's
   pub loaded_end : v ≡ END → HasLoadedEnd p (record s { reader = now })
   loaded_end end = (
     load s.reader.reader (word_of at) v,
@@ -87,9 +92,11 @@ module _ (laws : Laws) (s : ConsumerView) (p : ℕ) (at : Cursor) (now : ReaderS
   )
 
 -- ---- answers
+-- equal answers are equal polls
 some_poll : (a b : Poll) → Some a ≡ Some b → a ≡ b
 some_poll a b e = cc
 
+-- what the answer `Nothing` says
 pub tells_nothing : Laws → ((v : ℕ) → look_of v ≡ look.Nothing → v ≡ 0)
     → (s : ConsumerView) (p : ℕ) (at : Cursor) (now : ReaderSeatView) → IsConsumer s → HasLoads s
     → HasPlace p (Before at) s
@@ -108,6 +115,7 @@ tells_nothing laws zero_by s p at now i h e m whole =
       known_ended = λ theirs k f. absurd (cc);
     }
 
+-- what the answer `Ended` says
 pub tells_end : Laws → ((v : ℕ) → look_of v ≡ look.Ended → v ≡ END)
     → (s : ConsumerView) (p : ℕ) (at : Cursor) (now : ReaderSeatView) → IsConsumer s → HasLoads s
     → HasPlace p (Before at) s
@@ -136,7 +144,7 @@ tells_none p old new = record {
   known_ended = λ theirs k f. absurd (cc);
 }
 
--- the answer of an item
+-- what the answer of a load of an item says
 pub tells_item : (p v : ℕ) (old new : ConsumerView) → HasNoteOnEach p new → AnswerTells p (Some (poll.Took v)) old new
 tells_item p v old new has = record {
   noted = λ _. has;
@@ -145,7 +153,7 @@ tells_item p v old new has = record {
   known_ended = λ theirs k f. absurd (cc);
 }
 
--- the answer of a claim. If there is one, the claim has its note
+-- what the answer of a claim's access says. If there is an answer, the claim has its note
 pub tells_stage : (p : ℕ) (st : Stage) (old new : ConsumerView)
     → (stage_answer st ≢ None → HasNoteOnEach p new) → AnswerTells p (stage_answer st) old new
 tells_stage p stage.Going old new has = tells_none p old new
@@ -163,7 +171,7 @@ tells_stage p stage.Undecided old new has = record {
   known_ended = λ theirs k f. absurd (cc);
 }
 
--- a claim with an answer leads past its cell. Then all cells met have their notes
+-- a claim's access with an answer leads past the cell. Then all cells met have their notes
 pub noted_after : (s : ConsumerView) (p k : ℕ) (claim : Claim) (st : Stage) (o : Option Note)
     (reads : History) (made : List ClaimAccess) (was : Place)
     → slice_get s.places p ≡ Some was → stage_answer st ≢ None

@@ -5,15 +5,18 @@ use Rattle.std.proofs.lemmas.List.Sums.{sum_by-cons}
 use Rattle.mb_cells.specs.Vocabulary.{items_put, put_list}
 use Rattle.mb_mailbox.specs.Imports.{History}
 
+-- the sum of f over the first n numbers
 pub total : (ℕ → ℕ) → ℕ → ℕ
 total f zero = 0
 total f (suc n) = f n + total f n
 
+-- a sum is its first term and the sum of the others
 pub shift : (f : ℕ → ℕ) (n : ℕ) → total f (suc n) ≡ f 0 + total (λ j. f (suc j)) n
 unfolding total
 shift f zero = refl
 shift f (suc n) = omega (arith, shift f n)
 
+-- a sum over a list is one over places, if each element counts as its place does
 pub summed : {X : Type 0} (g : X → ℕ) (f : ℕ → ℕ) (xs : List X)
     → ((j : ℕ) (x : X) → slice_get xs j ≡ Some x → g x ≡ f j)
     → sum_by g xs ≡ total f (length xs)
@@ -26,6 +29,7 @@ summed g f (x ∷ xs) each =
     let next = sum_by-cons g x xs in
     omega (arith, rest, here, whole, next)
 
+-- the items put on n lanes are the sum of those on each
 pub put_total : (n : ℕ) (pool : History) → items_put n pool ≡ total (λ p. length (put_list p pool)) n
 unfolding total
 put_total zero pool = refl
@@ -37,6 +41,7 @@ unfolding total
 total_most f g zero each = omega arith
 total_most f g (suc n) each = let here = each n in let rest = total_most f g n each in omega (arith, here, rest)
 
+-- if each element counts at most as its place does, so does the sum
 pub sum_most : {X : Type 0} (g : X → ℕ) (f : ℕ → ℕ) (xs : List X)
     → ((j : ℕ) (x : X) → slice_get xs j ≡ Some x → g x ≤ f j)
     → sum_by g xs ≤ total f (length xs)

@@ -2,6 +2,7 @@
 use Rattle.std.proofs.Common.{◌≡◌, List, [], ◌∷◌, ◌++◌, length, refl, sym, ap, ◌∙◌, append_assoc, arith}
 use Rattle.std.specs.List.{AllZip}
 
+-- a relation that holds place by place still does with one more pair at the end
 pub zip_more : {A B : Type 0} (R : A → B → Type 0) (xs : List A) (ys : List B) (x : A) (y : B) → AllZip R xs ys → R x y
     → AllZip R (xs ++ x ∷ []) (ys ++ y ∷ [])
 zip_more R [] [] x y z one = (one, tt)
@@ -20,6 +21,7 @@ zip_through R S T step (x ∷ xs) [] zs r s = absurd r
 zip_through R S T step (x ∷ xs) (y ∷ ys) [] r s = absurd s
 zip_through R S T step (x ∷ xs) (y ∷ ys) (z ∷ zs) r s = (step x y z r.0 s.0, zip_through R S T step xs ys zs r.1 s.1)
 
+-- a relation that holds place by place may be weakened
 pub zip_as : {A B : Type 0} (R S : A → B → Type 0) → ((a : A) (b : B) → R a b → S a b)
     → (xs : List A) (ys : List B) → AllZip R xs ys → AllZip S xs ys
 zip_as R S step [] [] z = tt
@@ -27,6 +29,7 @@ zip_as R S step [] (y ∷ ys) z = absurd z
 zip_as R S step (x ∷ xs) [] z = absurd z
 zip_as R S step (x ∷ xs) (y ∷ ys) z = (step x y z.0, zip_as R S step xs ys z.1)
 
+-- the two lists have one length
 pub zip_length : {A B : Type 0} (R : A → B → Type 0) (xs : List A) (ys : List B) → AllZip R xs ys
     → length xs ≡ length ys
 zip_length R [] [] z = refl
