@@ -5,6 +5,8 @@ use Rattle.mb_mailbox.specs.declared.crew.Worked.{Worked}
 use Rattle.mb_mailbox.proofs.Final.{called, early, ends_at, jobs_at, put_count, room_for, some_worker, taken, worked}
 use Rattle.mb_mailbox.proofs.crew.work_with.Goals as goal
 
+-- `end_all` ends the jobs if a number was refused, and else `run` runs them. Each asks that the jobs are of the
+-- mailbox, and that there is room for their workers
 pub end_all-ends-requires-clause-of : goal.end_all-ends-requires-clause-of
 end_all-ends-requires-clause-of g c κs within =
     jobs_at c.args.mailbox.now c.args.items.items _ c.give.new.jobs c.args.hub.now c.give.new.hub c.give.ensures.given
@@ -50,6 +52,7 @@ returns-then-not-give-clause-no_memory g c = λ e.
     c.give.new.jobs c.end_all-ends.result c.args.hub.now c.give.new.hub c.take_all.new.hub
     c.has_history.ensures.kept c.give.ensures.given (c.end_all-ends.ensures 0 0 0) c.take_all.ensures.hub
 
+-- the hypotheses of `worked` and `called` are the same: the contracts of the calls made, in their order
 pub returns-in-Ok-clause-worked : goal.returns-in-Ok-clause-worked
 returns-in-Ok-clause-worked g c =
     let first = c.next_lanes-lanes.ensures.from in

@@ -5,6 +5,7 @@ use Rattle.mb_mailbox.specs.ConsumerStep.{competes, looks, takes}
 use Rattle.mb_mailbox.proofs.ExampleParts.{last_met}
 use Rattle.mb_mailbox.proofs.examples.consumers_go_on.Goals as goal
 
+-- the first three are looks at the head, which find nothing, the end mark and cell 4
 pub returns-clause-waits : goal.returns-clause-waits
 returns-clause-waits c = λ cs. looks 0 tt refl refl
 

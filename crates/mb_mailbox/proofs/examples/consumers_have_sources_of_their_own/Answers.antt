@@ -10,12 +10,13 @@ use Rattle.mb_mailbox.specs.WorkExamples.{any_call}
 use Rattle.mb_mailbox.proofs.Called.{none_called}
 use Rattle.mb_mailbox.proofs.examples.consumers_have_sources_of_their_own.Goals as goal
 
+-- the law of `calls_draw_the_first_words`
 abbrev Law : Type 0
 Law = (from end budget : ℕ) (made : List Call) (source left : Stream) (old new : ConsumerView)
     → AreCalls from end budget made source left old new → old.seat.part ≡ []
     → AreDrawn source (map (λ a. a.step.turn.word) new.seat.part) left
 
--- the one word that it has drawn is the first of its source
+-- the one word that a consumer has drawn is the first of its source
 first_word : Law → (c : ℕ) (s : Stream) (l : ConsumerLeft) (a : ClaimAccess) → l.claimed ≡ a ∷ []
     → WasPolled any_call any_call 0 1 5 c s l
     → a.step.turn.word ≡ (next_u64 s).0

@@ -9,10 +9,12 @@ use Rattle.mb_mailbox.specs.Examples.{head_loaded, link_loaded, met_four, nothin
 use Rattle.mb_mailbox.proofs.ExampleParts.{cell_in, only_head, step_in, value_loaded, word_in}
 use Rattle.mb_mailbox.proofs.examples.consumers_keep_to_their_path.Goals as goal
 
+-- the law of `prefixes_have_one_stage`
 abbrev OneStage : Type 0
 OneStage = (cs : Claims) (c : ℕ) (xs : List ObjectTurn) (s r : Stage) → IsQuorumTable cs.table
     → IsClaimPrefix cs c xs s → IsClaimPrefix cs c xs r → s ≡ r
 
+-- Each lemma goes by the rules of a step. An access that is not that of the rule has another word, cell or kind
 other_lane : (cs : Claims) → ConsumerStep cs 0 0 nothing_done (link_load 0 1 [] 0) (Some poll.Nothing) → ⊥
 other_lane cs (looks v past e answer) = let w : Some (Head 1) ≡ Some (Head 0) = ap word_in e in absurd (cc)
 other_lane cs (competes k t now last going after e answer) = let w : Some (Head 1) ≡ None = ap word_in e in absurd (cc)

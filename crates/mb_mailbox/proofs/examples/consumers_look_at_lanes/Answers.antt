@@ -3,6 +3,7 @@ use Rattle.mb_cells.specs.declared.access.PoolAccess.{PoolAccess}
 use Rattle.mb_mailbox.specs.Imports.{Head, Link, Word, load}
 use Rattle.mb_mailbox.proofs.examples.consumers_look_at_lanes.Goals as goal
 
+-- the lane of a head
 abbrev lane_of : Word → ℕ
 lane_of (Head p) = p
 lane_of _ = 0

@@ -8,6 +8,7 @@ use Rattle.mb_mailbox.specs.Worked.{HasMetEnd, HasMetEnds}
 use Rattle.mb_mailbox.proofs.Marks.{marks_most}
 use Rattle.mb_mailbox.proofs.examples.consumers_read_to_the_end.Goals as goal
 
+-- the lane of a head, the number of a reader, and the value loaded
 abbrev lane_of : Word → ℕ
 lane_of (Head p) = p
 lane_of _ = 0
@@ -20,13 +21,15 @@ abbrev value_of : PoolAct → ℕ
 value_of (Load v) = v
 value_of _ = 0
 
+-- reader 0 has met cell 4 on lane 1, and the end mark past it
 abbrev past_four : History
 past_four = load 0 (Link 4) END ∷ load 0 (Head 1) 5 ∷ []
 
+-- reader 0 has loaded the end mark in the head of lane 0 twice
 abbrev twice : History
 twice = load 0 (Head 0) END ∷ load 0 (Head 0) END ∷ []
 
--- no cell was loaded from a link or the head of lane 2
+-- these loads found no cell in the head of lane 2, nor in a link past cells of it
 no_link : (ks : List ℕ) (v : ℕ) → v ≢ END → HasLoaded 0 (place_past 2 ks) v past_four → ⊥
 no_link [] v ne has = elim has [
   | inl same ↦ (let no : Link 4 ≡ Head 2 = ap (λ (x : PoolAccess). x.word) same in absurd (cc))
@@ -39,6 +42,7 @@ no_link (k ∷ ks) v ne has = elim has [
   | inr (inr none) ↦ none
 ]
 
+-- these loads found no end mark of lane 2
 no_end : (ks : List ℕ) → HasMet 0 2 ks past_four → HasLoaded 0 (place_past 2 ks) END past_four → ⊥
 no_end [] met has = elim has [
   | inl same ↦ (let no : Link 4 ≡ Head 2 = ap (λ (x : PoolAccess). x.word) same in absurd (cc))
@@ -47,7 +51,7 @@ no_end [] met has = elim has [
 ]
 no_end (k ∷ ks) met has = no_link ks (k + 1) met.1 met.0
 
--- another reader has loaded no end mark here
+-- reader 1 has loaded no end mark here
 other : (w : Word) → HasLoaded 1 w END past_four → ⊥
 other w has = elim has [
   | inl same ↦ (let no : 0 ≡ 1 = ap (λ (x : PoolAccess). reader_of x.process) same in absurd (omega (arith, no)))
@@ -55,7 +59,7 @@ other w has = elim has [
   | inr (inr none) ↦ none
 ]
 
--- the end of lane 1 is not met by loads of the head of lane 0
+-- loads of the head of lane 0 are not of the end mark of lane 1
 elsewhere : (ks : List ℕ) → HasLoaded 0 (place_past 1 ks) END twice → ⊥
 elsewhere [] has = elim has [
   | inl same ↦ (let no : 0 ≡ 1 = ap (λ (x : PoolAccess). lane_of x.word) same in absurd (omega (arith, no)))
@@ -68,7 +72,7 @@ elsewhere (k ∷ ks) has = elim has [
   | inr (inr none) ↦ none
 ]
 
--- if one end is met twice, only lane 0 is marked
+-- if one end mark is loaded twice, only lane 0 is marked
 first_alone : (h : HasMetEnds 0 2 0 twice) (p : ℕ) → slice_index_or h.marks p false ≡ true → p < 2 → p < 1
 first_alone h zero e low = omega arith
 first_alone h (suc zero) e low = absurd (let at = h.met 1 e in elsewhere at.cells at.end)
@@ -81,6 +85,7 @@ returns-clause-past_a_cell c = record {
   end = inl refl;
 }
 
+-- if reader 0 has not met cell 4, the end mark past that cell is not one of lane 1
 unmet : (ks : List ℕ) → HasMet 0 1 ks (load 0 (Link 4) END ∷ [])
     → HasLoaded 0 (place_past 1 ks) END (load 0 (Link 4) END ∷ []) → ⊥
 unmet [] met has = elim has [
@@ -123,12 +128,13 @@ returns-clause-both c = (
     met (suc zero) e = record { cells = []; met = tt; end = inl refl }
     met (suc (suc p)) e = absurd (cc)
 
--- the marks of one lane alone, and of none
+-- if lane 1 alone is marked, each marked lane is within the bounds
 only_second : (p : ℕ) → slice_index_or (false ∷ true ∷ []) p false ≡ true → (0 ≤ p) × (p < 2)
 only_second zero e = absurd (cc)
 only_second (suc zero) e = (omega arith, omega arith)
 only_second (suc (suc p)) e = absurd (cc)
 
+-- if lane 1 alone is marked, the end mark of each marked lane is loaded
 second_met : (p : ℕ) → slice_index_or (false ∷ true ∷ []) p false ≡ true → HasMetEnd 0 p (load 0 (Head 1) END ∷ [])
 second_met zero e = absurd (cc)
 second_met (suc zero) e = record { cells = []; met = tt; end = inl refl }
@@ -148,6 +154,7 @@ not_below (k ∷ ks) has = elim has [
   | inr none ↦ none
 ]
 
+-- so no lane from 1 on and below 2 is marked
 none_below : (h : HasMetEnds 1 2 0 (load 0 (Head 0) END ∷ [])) (p : ℕ)
     → slice_index_or h.marks p false ≡ true → (1 ≤ p) × (p < 1)
 none_below h zero e = absurd (let low = (h.within 0 e).0 in omega (arith, low))
@@ -163,14 +170,17 @@ returns-clause-below c = λ h.
 pub returns-clause-nothing : goal.returns-clause-nothing
 returns-clause-nothing c = record { marks = []; within = λ p e. absurd (cc); met = λ p e. absurd (cc); once = refl }
 
+-- if lane 0 alone is marked, each marked lane is within the bounds
 first_alone_marked : (p : ℕ) → slice_index_or (true ∷ []) p false ≡ true → (0 ≤ p) × (p < 1)
 first_alone_marked zero e = (omega arith, omega arith)
 first_alone_marked (suc p) e = absurd (cc)
 
+-- if lane 0 alone is marked, the end mark of each marked lane is loaded
 head_met : (c p : ℕ) → slice_index_or (true ∷ []) p false ≡ true → HasMetEnd c p (load c (Head 0) END ∷ [])
 head_met c zero e = record { cells = []; met = tt; end = inl refl }
 head_met c (suc p) e = absurd (cc)
 
+-- a consumer that has loaded the end mark in the head of lane 0 has met that end mark
 by_itself : (c : ℕ) → HasMetEnds 0 1 c (load c (Head 0) END ∷ [])
 by_itself c = record { marks = true ∷ []; within = first_alone_marked; met = head_met c; once = refl }
 
@@ -184,6 +194,7 @@ of_another w has = elim has [
   | inr none ↦ none
 ]
 
+-- so no lane is marked for reader 4
 none_of_it : (h : HasMetEnds 0 1 4 (load 3 (Head 0) END ∷ [])) (p : ℕ)
     → slice_index_or h.marks p false ≡ true → (0 ≤ p) × (p < 0)
 none_of_it h p e = absurd (let at = h.met p e in of_another (place_past p at.cells) at.end)

@@ -5,6 +5,7 @@ use Rattle.mb_mailbox.specs.declared.crew.jobs.PollDone.{PollDone}
 use Rattle.mb_mailbox.specs.declared.crew.jobs.PutDone.{PutDone}
 use Rattle.mb_mailbox.proofs.examples.one_end_tells_that_a_run_is_off.Goals as goal
 
+-- no test fails in the empty list, and by `one_on` none in a list of one that passes
 none_on : {X : Type 0} (f : X → Bool) → All (λ x. f x ≡ false) []
 none_on f k d low = absurd (omega (arith, low))
 

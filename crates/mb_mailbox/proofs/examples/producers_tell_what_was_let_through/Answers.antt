@@ -1,6 +1,7 @@
 use Rattle.std.proofs.Common.{◌≡◌, ◌≤◌, ◌++◌, ◌∙◌, Bool, List, ℕ, ap, arith, false, length, subst, sym, true}
 use Rattle.mb_mailbox.proofs.examples.producers_tell_what_was_let_through.Goals as goal
 
+-- a bit is not set and unset
 not_both : (b : Bool) → b ≡ true → b ≡ false → ⊥
 not_both b set unset = let both : true ≡ false = sym set ∙ unset in absurd (cc)
 

@@ -7,12 +7,13 @@ use Rattle.mb_mailbox.specs.WorkExamples.{seven_put}
 use Rattle.mb_mailbox.proofs.PutEnds.{is_fetch}
 use Rattle.mb_mailbox.proofs.examples.workers_are_stopped_by_the_gate.Goals as goal
 
+-- the number that a fetch-add found
 abbrev number_of : PoolAct → ℕ
 number_of (FetchAdd v k) = k
 number_of (Store v) = 0
 number_of (Load v) = 0
 
--- its one fetch-add has the number 0. So it found a cell in a pool of one
+-- the producer's one fetch-add found 0. So it found a cell in a pool of one
 found_one : HasFoundNone 1 0 seven_put → ⊥
 found_one f = elim f.offered [
   | inl is ↦ (let no : false ≡ true = ap (λ (a : PoolAccess). is_fetch a.act) is in absurd (cc))

@@ -11,9 +11,11 @@ drawn_after : (s t u : Stream) (ws vs : List ℕ) → AreDrawn s ws t → AreDra
 drawn_after s t u ws [] was now = subst (λ z. AreDrawn s ws z) (sym now) was
 drawn_after s t u ws (v ∷ vs) was now = (now.0, drawn_after s t now.0 ws vs was now.1, now.2)
 
+-- the random words of these accesses
 abbrev words : List ClaimAccess → List ℕ
 words done = map (λ a. a.step.turn.word) done
 
+-- calls from no access on draw the first words of the source
 first_words : (from end budget : ℕ) (made : List Call) (s t : Stream) (old new : ConsumerView)
     → AreCalls from end budget made s t old new
     → old.seat.part ≡ [] → AreDrawn s (words new.seat.part) t

@@ -5,6 +5,7 @@ use Rattle.std.proofs.Math.Nat.{mul-le-mul_right}
 use Rattle.mb_mailbox.proofs.Lists.{some_same}
 use Rattle.mb_mailbox.proofs.laws.hubs_have_one_report.Goals as goal
 
+-- two lists of one length with the same elements at each place are equal
 lists_same : {X : Type 0} (xs ys : List X) → length xs ≡ length ys
     → ((i : ℕ) → i < length xs → slice_get xs i ≡ slice_get ys i) → xs ≡ ys
 lists_same [] [] e each = refl

@@ -14,7 +14,7 @@ use Rattle.mb_mailbox.proofs.Moving.{holds}
 use Rattle.mb_mailbox.proofs.Standings.{same_length}
 use Rattle.mb_mailbox.proofs.laws.noted_lanes_hold_no_claim.Goals as goal
 
--- a claim that is held is on a cell that has no note
+-- a consumer with a note on each cell that it met holds no claim: the cell of a held claim has no note
 no_claim : (s : ConsumerView) (p k : ℕ) (claim : Claim) → IsConsumer s → HasNoteOnEach p s
     → slice_get s.places p ≢ Some (At k claim)
 no_claim s p k claim i each at =
@@ -34,7 +34,7 @@ no_claim s p k claim i each at =
 pub returns-clause-place : goal.returns-clause-place
 returns-clause-place c = no_claim
 
--- no claim is begun there: if it has a place on the lane, that is before a link
+-- no claim is begun there: if the consumer has a place on the lane, that is before a link
 none_begun : (s : ConsumerView) (p : ℕ) → IsConsumer s → HasNoteOnEach p s
     → option_map_or has_begun_at (slice_get s.places p) false ≡ false
 none_begun s p i each = by (slice_get s.places p) refl
@@ -44,7 +44,7 @@ none_begun s p i each = by (slice_get s.places p) refl
     by (Some (Before at)) e = refl
     by (Some (At k claim)) e = absurd (no_claim s p k claim i each e)
 
--- after one was put at a number, it is kept there, if there is such a number
+-- an element that is set at a number is kept there, if there is such a number
 kept_there : {X : Type 0} (xs : List (Option X)) (n : ℕ) (x : X)
     → (kept_at (slice_set xs n (Some x)) n ≡ Some x) ⊎ (kept_at (slice_set xs n (Some x)) n ≡ None)
 kept_there [] n x = inr refl

@@ -19,6 +19,7 @@ HasCompetedBy o =
     ⊎ ((length (option_map_or (λ (d : DiaryView). d.notes) o []) ≡ 0)
     × (option_map_or (λ (d : DiaryView). d.begun) o false ≡ true))
 
+-- only consumer 0 has competed
 no_company : (d : ℕ) → d ≢ 0 → HasCompetedBy (slice_get (diary_of 0 (Undecided ∷ []) ∷ diary_of 1 [] ∷ []) d) → ⊥
 no_company zero ne h = ne refl
 no_company (suc zero) ne (inl h) = omega arith
@@ -32,16 +33,19 @@ returns-clause-alone c = λ h.
     no_company t.1.0 t.1.1 (subst HasCompetedBy
     (at_place t.1.0 (diary_of 0 (Undecided ∷ []) ∷ diary_of 1 [] ∷ [])) t.1.2)
 
--- a note stands on lane 0
+-- there is no diary on another lane than 0
 no_lane : (d p : ℕ) (ds : List DiaryView) → diary d (suc p) (one_left ds) ≡ None
 no_lane d p ds = rw (le-ltb (suc p) 1 (omega arith)) refl
 
+-- the note at position j of a diary
 abbrev note_in : Option DiaryView → ℕ → Option Note
 note_in o j = slice_get (option_map_or (λ (d : DiaryView). d.notes) o []) j
 
+-- the diaries of two consumers that are both undecided
 abbrev both : List DiaryView
 both = diary_of 0 (Undecided ∷ []) ∷ diary_of 1 (Undecided ∷ []) ∷ []
 
+-- an undecided note of one of them has the other for company
 company : (d j : ℕ) → note_in (slice_get both d) j ≡ Some Undecided
     → HasCompeted d 0 j two_undecided × ((e : ℕ) × (e ≢ d) × HasCompeted e 0 j two_undecided)
 company zero zero h = (inl (omega arith), (1, (λ e. absurd (omega arith)), inl (omega arith)))

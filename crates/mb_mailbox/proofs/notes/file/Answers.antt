@@ -6,6 +6,7 @@ use Rattle.mb_mailbox.proofs.LaneLists.{filed_on}
 use Rattle.mb_mailbox.proofs.Lists.{get_or_is, get_some}
 use Rattle.mb_mailbox.proofs.notes.file.Goals as goal
 
+-- `was` says that the list taken out is the one of the note's lane
 pub returns-in_ok-push : goal.returns-in_ok-push
 returns-in_ok-push g c =
     let vs = c.args.lists.now.items in

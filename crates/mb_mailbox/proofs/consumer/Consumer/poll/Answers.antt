@@ -21,6 +21,7 @@ use Rattle.mb_mailbox.proofs.consumer.Consumer.poll.Goals as goal
 
 -- a poll that goes on with the claim of its place
 module _ (g : Over) (c : goal.After-run_claim g) where
+  -- the consumer before the poll, and after it
   abbrev at_claim : ConsumerView
   at_claim = at_views c.self.inside.reader c.self.inside.seat c.self.inside.places.items c.self.inside.notes.lists
 
@@ -28,6 +29,7 @@ module _ (g : Over) (c : goal.After-run_claim g) where
   past_claim = at_views c.run_claim.new.reader c.run_claim.new.seat c.run_claim.new.places.items
       c.run_claim.new.notes.lists
 
+  -- the poll is the rest of a poll, after no access
   goes_on : IsPursuit c.args.lane 0 c.args.budget c.run_claim.result (g.R.Rng.stream c.args.rng.now)
       (g.R.Rng.stream c.run_claim.new.rng) at_claim past_claim
   goes_on =
@@ -39,12 +41,14 @@ module _ (g : Over) (c : goal.After-run_claim g) where
 
 -- a poll that loads a link
 module _ (g : Over) (c : After-look g) where
+  -- the consumer before the load, and after it
   abbrev seen : ConsumerView
   seen = at_views c.self.inside.reader c.self.inside.seat c.self.inside.places.items c.self.inside.notes.lists
 
   abbrev looked : ConsumerView
   looked = at_views c.look.new.seat seen.seat seen.places seen.notes
 
+  -- the consumer stands before the link
   place_is : HasPlace c.args.lane (Before c.in-Before.at) seen
   place_is = c.place_at.ensures ∙ ap (λ (z : Place). Some z) c.in-Before.is
 
@@ -74,10 +78,12 @@ module _ (g : Over) (c : After-look g) where
 
 -- a poll that then goes on with a new claim
 module _ (g : Over) (c : goal.After-run_claim-2 g) where
+  -- the consumer after the poll
   abbrev past_new : ConsumerView
   past_new = at_views c.run_claim-2.new.reader c.run_claim-2.new.seat c.run_claim-2.new.places.items
       c.run_claim-2.new.notes.lists
 
+  -- the poll is the rest of a poll, after one access: the load of the link
   goes_on_new : IsPursuit c.args.lane 1 (c.args.budget - 1) c.run_claim-2.result (g.R.Rng.stream c.args.rng.now)
       (g.R.Rng.stream c.run_claim-2.new.rng) c.args.self.now past_new
   goes_on_new =
@@ -86,6 +92,8 @@ module _ (g : Over) (c : goal.After-run_claim-2 g) where
       (slice_set c.self.inside.places.items c.args.lane (At c.in-Cell.cell c.new-claim.result))
       (look.Cell c.in-Cell.cell) c.in-Cell.ensures.makes refl)
 
+-- The clauses in `At` are of a poll that goes on with a held claim. Those in `Nothing` and `Ended` are of a link that
+-- leads to no cell. The others are of a new claim
 pub run_claim-requires-clause-held : goal.run_claim-requires-clause-held
 run_claim-requires-clause-held g c =
     let s = at_views c.self.inside.reader c.self.inside.seat c.self.inside.places.items c.self.inside.notes.lists in

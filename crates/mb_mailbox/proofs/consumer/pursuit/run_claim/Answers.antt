@@ -21,12 +21,14 @@ use Rattle.mb_mailbox.proofs.consumer.pursuit.run_claim.Goals as goal
 
 -- the consumer of these fields, with the claim in its place
 module _ (g : Over) (c : After-has_history g) where
+  -- the fields as a consumer, whose place may be out of date, and the consumer with the claim
   abbrev base : ConsumerView
   base = consumer_with c.args.reader.now c.args.seat.now c.args.places.now.items c.args.notes.now
 
   abbrev with_claim : ConsumerView
   with_claim = holding c.args.held.lane c.args.held.cell c.args.held.claim base
 
+  -- the claim may go on from these fields
   start : Start c.args.mailbox.now c.args.held.lane c.args.held.cell c.args.held.claim c.args.reader.now
       c.args.seat.now c.args.places.now.items c.args.notes.now
   start = record {
@@ -37,20 +39,24 @@ module _ (g : Over) (c : After-has_history g) where
     loads = c.has_history.ensures;
   }
 
+  -- the consumer stands at the claim
   stands : HasPlace c.args.held.lane (At c.args.held.cell c.args.held.claim) with_claim
   stands = here c.args.mailbox.now c.args.held.lane c.args.held.cell c.args.held.claim c.args.reader.now
       c.args.seat.now c.args.places.now.items c.args.notes.now start
 
+  -- the consumer's loads gave it the cell
   given : Gave c.args.held.cell c.args.reader.now.part
   given = c.consumers_move_on.ensures.given with_claim c.args.held.lane c.args.held.cell c.args.held.claim
       start.held start.loads stands
 
+  -- there is room for the claim's note
   has_room : HasRoom c.args.held.lane c.args.notes.now
   has_room = start_room c.args.mailbox.now c.args.held.lane c.args.held.cell c.args.held.claim c.args.reader.now
       c.args.seat.now c.args.places.now.items c.args.notes.now start
       (c.consumers_move_on.ensures.room with_claim c.args.held.lane c.args.held.cell c.args.held.claim
       start.held start.loads stands)
 
+  -- the lane has some place
   was_there : (place : Place) × (slice_get c.args.places.now.items c.args.held.lane ≡ Some place)
   was_there = there c.args.mailbox.now c.args.held.lane c.args.held.cell c.args.held.claim c.args.reader.now
       c.args.seat.now c.args.places.now.items c.args.notes.now start
@@ -85,6 +91,7 @@ few_made g c all = subst (λ z. z ≤ most_accesses c.args.mailbox.now.claims.la
 -- after accesses of the claim
 module _ (g : Over) (c : After-run-made g) (start : Start c.args.mailbox.now c.args.held.lane c.args.held.cell
     c.args.held.claim c.args.reader.now c.args.seat.now c.args.places.now.items c.args.notes.now) where
+  -- the consumer with the claim
   abbrev held : ConsumerView
   held = holding c.args.held.lane c.args.held.cell c.args.held.claim
       (consumer_with c.args.reader.now c.args.seat.now c.args.places.now.items c.args.notes.now)
@@ -106,6 +113,8 @@ module _ (g : Over) (c : After-run-made g) (start : Start c.args.mailbox.now c.a
       c.mailbox.view_is own from n t (g.R.Rng.stream c.args.rng.now) m c.run-made.result c.run-made.new.claim
       c.run-made.new.seat (g.R.Rng.stream c.run-made.new.rng) c.run-made.ensures.steps)
 
+-- The clauses in `Won` are of a claim that was won before. The others are of its stage after the accesses made here:
+-- won with an access left (`then-made-most`) or with none, going, lost or undecided
 pub take-requires-clause-may : goal.take-requires-clause-may
 take-requires-clause-may g c = given g (goal.at.take-requires-clause-may g c).After-has_history
 

@@ -7,6 +7,7 @@ use Rattle.mb_mailbox.specs.Hubs.{IsHubOf}
 use Rattle.mb_mailbox.specs.HubRuns.{with_taken_consumers}
 use Rattle.mb_mailbox.proofs.crew.collect.take_polls.Given as goal
 
+-- after the ends yielded so far: their consumers are taken in, and what they say is added up
 abbrev pub invariant-loop-end : goal.invariant-loop-end
 invariant-loop-end g l = record {
   rest : l.yielded ++ into_iter_items l.end-iterator ≡ l.fn.ends.items;

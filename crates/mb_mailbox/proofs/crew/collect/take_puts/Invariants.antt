@@ -7,6 +7,7 @@ use Rattle.mb_mailbox.specs.HubRuns.{with_taken_producers}
 use Rattle.mb_mailbox.specs.Producers.{IsProducerOf}
 use Rattle.mb_mailbox.proofs.crew.collect.take_puts.Given as goal
 
+-- after the ends yielded so far: their producers are taken in, and what they say is added up
 abbrev pub invariant-loop-end : goal.invariant-loop-end
 invariant-loop-end g l = record {
   rest : l.yielded ++ into_iter_items l.end-iterator ≡ l.fn.ends.items;

@@ -6,6 +6,7 @@ use Rattle.mb_mailbox.proofs.HubRuns.{same_by_producers}
 use Rattle.mb_mailbox.proofs.crew.issue.give.Goals as goal
 use Rattle.std.proofs.Common.{refl, ℕ}
 
+-- in both proofs `same` says that producers leave the number of consumers given as it is
 pub give_consumers-requires-clause-left : goal.give_consumers-requires-clause-left
 give_consumers-requires-clause-left g c =
     let same : length c.give_producers.new.hub.ledgers ≡ length c.args.hub.now.ledgers =

@@ -34,6 +34,7 @@ loop-rng-preserved g c =
       ledgers = omega (arith, count, len, longer);
     }
 
+-- the iterator is empty, so all sources were yielded
 pub returns-clause-all : goal.returns-clause-all
 returns-clause-all g c = λ done.
     let none = nil_from_length c.loop-rng.rng-iterator.rest.items

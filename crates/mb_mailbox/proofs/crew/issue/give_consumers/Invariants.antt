@@ -5,6 +5,7 @@ use Rattle.mb_mailbox.specs.Given.{ArePollJobs}
 use Rattle.mb_mailbox.specs.HubRuns.{with_consumers}
 use Rattle.mb_mailbox.proofs.crew.issue.give_consumers.Given as goal
 
+-- after the sources yielded so far: each has a job with a new consumer, and the hub has given as many
 abbrev pub invariant-loop-rng : goal.invariant-loop-rng
 invariant-loop-rng g l = record {
   rest : l.yielded ++ into_iter_items l.rng-iterator ≡ l.fn.rngs.items;

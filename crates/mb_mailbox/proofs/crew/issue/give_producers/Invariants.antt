@@ -5,6 +5,7 @@ use Rattle.mb_mailbox.specs.Given.{ArePutJobs}
 use Rattle.mb_mailbox.specs.HubRuns.{with_producers}
 use Rattle.mb_mailbox.proofs.crew.issue.give_producers.Given as goal
 
+-- after the lists yielded so far: each has a job with a new producer, and the hub has given as many
 abbrev pub invariant-loop-list : goal.invariant-loop-list
 invariant-loop-list g l = record {
   rest : l.yielded ++ into_iter_items l.list-iterator ≡ l.fn.items.items;

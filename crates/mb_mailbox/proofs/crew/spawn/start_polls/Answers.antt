@@ -28,6 +28,7 @@ start_poll-requires-clause-of g c κs within = All-head
     (subst (All (λ j. IsConsumerOf c.args.mailbox.now j.consumer)) c.in-Some.ensures.steps.0
     c.loop-job.invariant.all_of)
 
+-- the iterator is empty, so all jobs were yielded
 pub returns : goal.returns
 returns g c =
     let none = nil_from_length c.loop-job.job-iterator.rest.items

@@ -5,6 +5,7 @@ use Rattle.mb_mailbox.specs.Consumers.{IsConsumerOf}
 use Rattle.mb_mailbox.specs.Begun.{PollPromises}
 use Rattle.mb_mailbox.proofs.crew.spawn.start_polls.Given as goal
 
+-- after the jobs yielded so far: each has its worker in `begun`, which has room for the rest
 abbrev pub invariant-loop-job : goal.invariant-loop-job
 invariant-loop-job g l = record {
   rest : l.yielded ++ into_iter_items l.job-iterator ≡ l.fn.jobs.items;

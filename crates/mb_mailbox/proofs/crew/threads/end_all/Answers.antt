@@ -4,6 +4,7 @@ use Rattle.mb_mailbox.proofs.Kept.{not_run}
 use Rattle.mb_mailbox.proofs.Zips.{zip_as}
 use Rattle.mb_mailbox.proofs.crew.threads.end_all.Goals as goal
 
+-- a consumer that was not run has an end that says so, for any lanes and any budget
 pub returns : goal.returns
 returns g c = λ from end budget. record {
   puts = c.end_puts.ensures;

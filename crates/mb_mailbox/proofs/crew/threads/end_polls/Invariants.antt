@@ -3,6 +3,7 @@ use Rattle.std.specs.Vec.Iter.{into_iter_items, into_iter_len}
 use Rattle.std.specs.List.{AllZip}
 use Rattle.mb_mailbox.proofs.crew.threads.end_polls.Given as goal
 
+-- after the jobs yielded so far: each has its end in `done`, which has room for the rest
 abbrev pub invariant-loop-job : goal.invariant-loop-job
 invariant-loop-job g l = record {
   rest : l.yielded ++ into_iter_items l.job-iterator ≡ l.fn.jobs.items;

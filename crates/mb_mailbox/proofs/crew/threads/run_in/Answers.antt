@@ -5,6 +5,7 @@ use Rattle.mb_mailbox.proofs.Kept.{poll_kept, put_kept}
 use Rattle.mb_mailbox.proofs.Zips.{zip_length, zip_through}
 use Rattle.mb_mailbox.proofs.crew.threads.run_in.Goals as goal
 
+-- in each proof `same` says that there are as many workers as jobs
 pub join_all-requires-clause-room : goal.join_all-requires-clause-room
 join_all-requires-clause-room g c =
     let same = zip_length (PutPromises g.G.Gate.may_stop g.G.Gate.may_pass c.args.gate.now)
@@ -20,6 +21,7 @@ join_all-requires-2-clause-room g c =
     c.start_polls-polling.ensures in
     omega (arith, same, c.start_polls-polling.result.ok.0, c.args.jobs.polls.ok.0, c.requires.room.ends.polls)
 
+-- each job has its promise, and each promise its end. So each job has its end
 pub returns : goal.returns
 returns g c = record {
   puts = zip_through (PutPromises g.G.Gate.may_stop g.G.Gate.may_pass c.args.gate.now)

@@ -9,6 +9,7 @@ use Rattle.mb_mailbox.proofs.Marks.{clear, marks_all, marks_fewer, within}
 use Rattle.mb_mailbox.proofs.crew.workers.poll_lanes.Goals as goal
 use Rattle.mb_mailbox.proofs.crew.workers.poll_lanes.Goals.{else-loop-call-test, then-loop-call-test+in-Some+else-not-load+then-not-enter}
 
+-- no lane is marked
 abbrev sixteen : List Bool
 sixteen = false ∷ false ∷ false ∷ false ∷ false ∷ false ∷ false ∷ false ∷ false ∷ false ∷ false
     ∷ false ∷ false ∷ false ∷ false ∷ false ∷ []
@@ -63,6 +64,7 @@ loop-call-preserved g c =
           c.in-Some.ensures.some.0 c.poll_lane-poll.ensures.polled (search rules);
     }
 
+-- the loop came to a turn on which all lanes have ended, and by `returns-in-None` all have after the loop
 pub returns-in_default : goal.returns-in_default
 returns-in_default g c = record {
   same = c.loop-call.invariant.same;
@@ -131,6 +133,7 @@ returns-in-None g c = record {
   };
 }
 
+-- a lane has not ended: the consumer was stopped
 pub returns : goal.returns
 returns g c =
     let i = c.loop-call.invariant in

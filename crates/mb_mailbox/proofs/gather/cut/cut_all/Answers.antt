@@ -4,6 +4,8 @@ use Rattle.std.specs.Prelude.{Some, slice_get}
 use Rattle.mb_mailbox.proofs.CutLists.{all_cut, cut_more, ledgers_count, ledgers_same}
 use Rattle.mb_mailbox.proofs.gather.cut.cut_all.Goals as goal
 
+-- in each proof `now`, `was` and `same` say that the list has as many places as at first, and `here` that the place
+-- of c is one of them
 pub index_mut-requires : goal.index_mut-requires
 index_mut-requires g c =
     let now = ledgers_count c.loop-c.ledgers.items in

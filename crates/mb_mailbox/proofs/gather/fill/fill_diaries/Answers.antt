@@ -8,6 +8,8 @@ use Rattle.mb_mailbox.proofs.Filled.{next_row, row_length, turned_by}
 use Rattle.mb_mailbox.proofs.Turned.{get_end, get_left}
 use Rattle.mb_mailbox.proofs.gather.fill.fill_diaries.Goals as goal
 
+-- In each proof `new` is the list without its last record, which is moved in at this turn. `more` says that it is one
+-- shorter
 pub fill_row-requires-clause-room : goal.fill_row-requires-clause-room
 fill_row-requires-clause-room g c = λ k e.
     let new = c.pop.new.self.items in

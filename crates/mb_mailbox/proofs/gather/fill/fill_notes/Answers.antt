@@ -5,6 +5,7 @@ use Rattle.mb_mailbox.specs.Filling.{changed_from, with_notes}
 use Rattle.mb_mailbox.proofs.Filled.{turned}
 use Rattle.mb_mailbox.proofs.gather.fill.fill_notes.Goals as goal
 
+-- `new` is the list without its last list of notes, which is moved in at this turn
 pub loop-notes-preserved : goal.loop-notes-preserved
 loop-notes-preserved g c =
     let new = c.pop.new.self.items in

@@ -32,6 +32,7 @@ fits : (m : MailboxView) (h : HubView) (hs : Histories) (d : ℕ) → Fits (plan
 fits m h hs d none (Keeps.was_in l e places lists fit stands) = fit
 fits m h hs d none (Keeps.never e empty) = subst (λ (x : Parts). Fits (plan_at m).claims d x) empty none
 
+-- the turns of a claim of consumer d are a prefix of a claim of d
 path : (m : MailboxView) (d : ℕ) (claim : Claim) (xs : List ObjectTurn)
     → IsClaimIn m.claims.layout claim xs → consumer_of claim ≡ d
     → IsClaimPrefix (plan_at m).claims d xs (claim_stage claim)
@@ -92,9 +93,11 @@ second_of fast s zero rest some = absurd (omega arith)
 second_of true s (suc n) rest some = refl
 second_of false s (suc n) rest some = refl
 
+-- the second object of each shape is a ratifier, if there is a pair
 ratifier : (shape : Shape) (s n : ℕ) → 1 ≤ n → slice_get (row_of shape s n) 1 ≡ Some Ratifier
 ratifier shape s n some = second_of shape.fast s n (last_row shape.last) some
 
+-- a cell with a second object has objects
 some_kinds : (kinds : List Kind) → slice_get kinds 1 ≡ Some Ratifier → kinds ≢ []
 some_kinds [] e none = absurd (cc)
 some_kinds (k ∷ kinds) e none = absurd (cc)

@@ -12,6 +12,8 @@ use Rattle.mb_mailbox.proofs.HubMoves.{gave_consumer}
 use Rattle.mb_mailbox.proofs.NewConsumer.{is_new, new_reader, new_seat}
 use Rattle.mb_mailbox.proofs.hub.Hub.consumer.Goals as goal
 
+-- Each proof begins with the same terms: the hub h and the mailbox m by their fields, whose tables are the same
+-- (`table`, `claims`), and the new seats `reader` and `seat`
 pub invariant_of-result : goal.invariant_of-result
 invariant_of-result g c =
     let h : HubView = record {

@@ -12,6 +12,8 @@ use Rattle.mb_mailbox.proofs.Made.{at_views}
 use Rattle.mb_mailbox.proofs.HubMoves.{seat_is_out, took_consumer}
 use Rattle.mb_mailbox.proofs.hub.Hub.take_consumer.Goals as goal
 
+-- Each proof begins with the same terms: the hub h and the consumer s by their fields. Then `cells`, `seats` and
+-- `ledgers` say that each field of the hub is that of the hub that has taken s in
 pub invariant_of-self : goal.invariant_of-self
 invariant_of-self g c =
     let h : HubView = record {

@@ -10,6 +10,8 @@ use Rattle.mb_mailbox.specs.Producers.{ProducerView}
 use Rattle.mb_mailbox.proofs.HubMoves.{is_out, kept_list, took_producer}
 use Rattle.mb_mailbox.proofs.hub.Hub.take_producer.Goals as goal
 
+-- Each proof begins with the same terms: the hub h and the producer s by their fields. Then `cells` and `lists` say
+-- that each field of the hub is that of the hub that has taken s in
 pub invariant_of-self : goal.invariant_of-self
 invariant_of-self g c =
     let h : HubView = record {

@@ -5,6 +5,7 @@ use Rattle.mb_mailbox.specs.Ledgers.{ledgers_in}
 use Rattle.mb_mailbox.proofs.HubMoves.{new_hub}
 use Rattle.mb_mailbox.proofs.mailbox.Mailbox.new.Goals as goal
 
+-- all lists of the new hub are empty
 pub invariant_of-hub : goal.invariant_of-hub
 invariant_of-hub g c = (
   new_hub c.in_ok-cells.lanes_hub c.in_ok-claims.claims_hub c.in_ok-puts.puts.items

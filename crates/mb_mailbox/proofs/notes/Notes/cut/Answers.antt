@@ -16,6 +16,7 @@ loop-mark-init g c = record {
   few = omega arith;
 }
 
+-- the note `is` is that of mark m and the next word, and goes to the list of its lane
 pub loop-mark-preserved : goal.loop-mark-preserved
 loop-mark-preserved g c =
     let lanes = c.self.inside.lanes in
