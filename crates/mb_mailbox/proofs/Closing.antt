@@ -171,7 +171,7 @@ full_stays s x now m = by (found s x now m)
     by (finds n unrefused past after is) = ap (λ (v : LaneSeatView). has_ended v.lane v.part) is
         ∙ rw (eq-eqb s.seat.lane s.seat.lane refl) refl
 
--- after an offer that returned `Full` the producer is still as producers are
+-- after an offer that returned `Full` the producer keeps what producers keep
 pub full_still : PutLaws → (s : ProducerView) (x : ℕ) (now : LaneSeatView) → IsProducer s
     → OfferMakes s.seat x offer.Full now → IsProducer (with_seat now s)
 full_still laws s x now i m = by (found s x now m)
@@ -205,7 +205,7 @@ is_end s now m = by s.seat.place.stage m
     by (stage.Stored c) m = absurd (cc)
     by (stage.Ended f) m = absurd (cc)
 
--- after a finish the producer is still as producers are
+-- after a finish the producer keeps what producers keep
 pub finish_still : PutLaws → (s : ProducerView) (answer : Finish) (now : LaneSeatView)
     → IsProducer s → FinishMakes s.seat answer now → IsProducer (with_seat now s)
 finish_still laws s answer now i m = by s.seat.place.stage m

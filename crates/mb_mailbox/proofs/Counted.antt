@@ -30,7 +30,7 @@ counted plan hs r is =
         ap (λ (v : LaneView). length v.put) same ∙ length-map (put_list p hs.pool) (λ (z : Entry). z.value)
 
 -- ---- the place of a note
--- if a choice with `None` is something, its test holds and it is the other
+-- if a choice between o and `None` is x, the test holds, and o is x
 some_chosen : {X : Type 0} (b : Bool) (o : Option X) (x : X) → (if b then o else None) ≡ Some x
     → (b ≡ true) × (o ≡ Some x)
 some_chosen true o x e = (refl, e)

@@ -30,7 +30,7 @@ pub only_head : (w : Word) (v : ℕ) → HasRead w v (load 0 (Head 0) 5 ∷ []) 
 only_head w v (a, inl same, word, act) = let e : (load 0 (Head 0) 5).word ≡ a.word = cc in e ∙ word
 only_head w v (a, inr none, word, act) = absurd none
 
--- so cell 4 is the last that it met, and neither item nor link was loaded
+-- cell 4 is the last cell that the consumer met, and it has loaded neither the item nor the link there
 pub last_met : (xs : List ObjectTurn) → IsLastMet 0 4 (met_four xs)
 last_met xs = record {
   cells = [];

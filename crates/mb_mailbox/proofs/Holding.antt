@@ -33,7 +33,7 @@ goes_on (stage.Lost w) e ne = absurd (cc)
 goes_on stage.Undecided e ne = absurd (cc)
 
 module _ (s : ConsumerView) (p k : ℕ) (claim : Claim) (i : IsConsumer s) (e : HasPlace p (At k claim) s) where
-  -- the claims of the consumer's table, the consumer's number, and its parts
+  -- cs are the claims of the consumer's table, c is the consumer's number, and x has its parts
   abbrev cs : Claims
   cs = claims_in i.size.layout i.size.cells
 
@@ -100,7 +100,7 @@ module _ (s : ConsumerView) (p k : ℕ) (claim : Claim) (i : IsConsumer s) (e : 
         let turned : length (reverse ns) ≡ length ns = length-reverse ns in
         omega (arith, long, same, turned)
 
-    -- so all lanes together have fewer notes than the pool has cells
+    -- all lanes together have fewer notes than the pool has cells
     pub room : sum_by length s.notes < s.reader.table.size.cells
     room =
         let low : p < length s.notes = subst (λ n. p < n) (i.places_count ∙ sym i.notes_count)
@@ -122,7 +122,7 @@ module _ (s : ConsumerView) (p k : ℕ) (claim : Claim) (i : IsConsumer s) (e : 
     -- ---- an access of the claim
     module _ (word seen : ℕ) (now : Claim) (next : ClaimOp) (own_now : consumer_of now ≡ c)
         (turns_now : HasTurns s now (part_on c k (access_of c k next seen word ∷ s.seat.part))) where
-      -- the access, the consumer's part with it, and the two parts then
+      -- a is the access, `made` the consumer's part with it, and y has the two parts then
       abbrev a : ClaimAccess
       a = access_of c k next seen word
 
@@ -232,7 +232,7 @@ module _ (s : ConsumerView) (p k : ℕ) (claim : Claim) (i : IsConsumer s) (e : 
                     (λ j. (sym o.met j, sym (snoc_back ns n) j)) (end, ends ns o);
               }
 
-      -- so after the access the consumer is as consumers are
+      -- after the access the consumer keeps what consumers keep
       pub competes : IsConsumer (moved_to p (place_after k now (claim_stage now))
           (note_of (claim_stage now)) s.reader.part made s)
       competes = moves s p (At k claim) (place_after k now (claim_stage now))
@@ -241,7 +241,7 @@ module _ (s : ConsumerView) (p k : ℕ) (claim : Claim) (i : IsConsumer s) (e : 
 
     -- ---- the load of the item
     module _ (v : ℕ) (won : claim_stage claim ≡ stage.Won) where
-      -- the load, and the two parts with it
+      -- b is the load, and z has the two parts with it
       abbrev b : PoolAccess
       b = load s.reader.reader (Item k) v
 
@@ -279,7 +279,7 @@ module _ (s : ConsumerView) (p k : ℕ) (claim : Claim) (i : IsConsumer s) (e : 
         );
       }
 
-      -- so after the load the consumer is as consumers are, and stands past the cell with a note
+      -- after the load the consumer keeps what consumers keep, and stands past the cell with a note
       pub takes : IsConsumer (moved_to p (Before (Past k)) (Some (Took v)) (reads_with_item s k v) s.seat.part s)
       takes =
           let same : cells_met p (b ∷ s.reader.part)

@@ -59,7 +59,7 @@ none_at : {X : Type 0} (xs : List X) (p : ℕ) (x : X) → xs ≡ [] → slice_g
 none_at {X} xs p x none e = none_there p x (subst (λ (ys : List X). slice_get ys p ≡ Some x) none e)
 
 -- ---- a new hub, and producers
--- a hub that has given nothing is as hubs are
+-- a hub that has given nothing keeps what hubs keep
 pub new_hub : (cells : CellHubView) (claims : ClaimHubView) (puts : List (Option PutListView))
     (ledgers : List (Option ConsumerRecordView))
     → cells.roll ≡ empty_roll → claims.roll ≡ [] → puts ≡ [] → ledgers ≡ []
@@ -77,7 +77,7 @@ new_hub cells claims puts ledgers roll seats no_puts no_ledgers =
       taken = λ c l e. absurd (none_at ledgers c (Some l) no_ledgers e);
     }
 
--- a hub that has given one producer more is still as hubs are
+-- a hub that has given one producer more keeps what hubs keep
 pub gave_producer : (h : HubView) → IsHub h → length h.puts < h.cells.table.size.lanes → IsHub (with_producer h)
 gave_producer h i low = record {
   lanes = longer h.puts h.cells.roll.lanes None None i.lanes;
@@ -114,7 +114,7 @@ pub kept_list : (s : ProducerView) → IsProducer s
     → IsPutList s.seat.table.size.cells s.seat.lane s.seat.part (put_list_of s)
 kept_list s own linked = record { items = own.items; ended = refl; linked = linked }
 
--- a hub that has taken in a producer is still as hubs are
+-- a hub that has taken in a producer keeps what hubs keep
 pub took_producer : (h : HubView) (s : ProducerView) → IsHub h
     → IsPutList h.cells.table.size.cells s.seat.lane s.seat.part (put_list_of s)
     → slice_get h.cells.roll.lanes s.seat.lane ≡ Some None
@@ -143,7 +143,7 @@ took_producer h s i own out =
     }
 
 -- ---- consumers
--- a hub that has given one consumer more is still as hubs are
+-- a hub that has given one consumer more keeps what hubs keep
 pub gave_consumer : (h : HubView) → IsHub h
     → length h.ledgers < (claims_at h.claims.table).table.values → IsHub (with_consumer h)
 gave_consumer h i low = record {
@@ -178,7 +178,7 @@ seat_is_out h c i out =
         let f : None ≡ Some t.2.0 = some_same None (Some t.2.0) (sym out ∙ t.2.1) in
         absurd (cc)
 
--- a hub that has taken in a consumer is still as hubs are
+-- a hub that has taken in a consumer keeps what hubs keep
 pub took_consumer : (h : HubView) (s : ConsumerView) → IsHub h → IsConsumer s → s.seat.table ≡ h.claims.table
     → s.reader.table ≡ h.cells.table → slice_get h.cells.roll.readers s.reader.reader ≡ Some None
     → slice_get h.claims.roll s.seat.consumer ≡ Some None

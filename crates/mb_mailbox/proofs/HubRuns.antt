@@ -139,7 +139,7 @@ module _ {Y : Type 0} (f : HubView → Y) where
 -- ---- a whole run: this many producers and consumers are given, and all of them are taken in
 module _ {J K : Type 0} (js : List J) (ks : List K) (ss : List ProducerView)
     (cs : List ConsumerView) (h : HubView) where
-  -- the hub after all were given, and after all were taken in
+  -- `given` is the hub after all were given, and `after` the hub after all were taken in
   abbrev pub given : HubView
   given = with_consumers ks (with_producers js h)
 

@@ -84,7 +84,7 @@ budget_more budget call base old new first was step =
     omega (arith, was, step, more)
 
 -- ---- whether the run is aborted
--- if no end so far says that the run is aborted, and this one does not, none does. Here the test is `aborted`
+-- if neither the ends before nor this one say that the run is aborted, none does
 on_yet : {X : Type 0} (f : X → Bool) (was aborted : Bool) (xs : List X) (x : X)
     → (was ≡ false → All (λ x. f x ≡ false) xs) → f x ≡ aborted
     → (was || aborted) ≡ false → All (λ x. f x ≡ false) (xs ++ x ∷ [])

@@ -77,7 +77,8 @@ may_past laws layout cells c (k ∷ ks) (n ∷ ns) x e = done_with laws layout c
 
 module _ (laws : Laws) (s : ConsumerView) (p : ℕ) (at : Cursor) (i : IsConsumer s) (h : HasLoads s)
     (e : HasPlace p (Before at) s) where
-  -- the claims of the consumer's table, the consumer's number, its parts, and the cells that it met on the lane
+  -- cs are the claims of the consumer's table, c is the consumer's number, x has its parts, and ks are the cells that
+  -- it met on the lane
   abbrev cs : Claims
   cs = claims_in i.size.layout i.size.cells
 
@@ -90,7 +91,7 @@ module _ (laws : Laws) (s : ConsumerView) (p : ℕ) (at : Cursor) (i : IsConsume
   abbrev ks : List ℕ
   ks = cells_met p s.reader.part
 
-  -- the load that finds v, and the parts with it
+  -- a v is the load that finds v, and y v has the parts with it
   abbrev a : ℕ → PoolAccess
   a v = load s.reader.reader (place_past p ks) v
 
@@ -140,7 +141,7 @@ module _ (laws : Laws) (s : ConsumerView) (p : ℕ) (at : Cursor) (i : IsConsume
       subst (λ w. IsConsumer (moved_to p place None (load s.reader.reader w v ∷ s.reader.part)
       s.seat.part s)) (sym word) done
 
-  -- if the link leads to no cell, the consumer stays, and is as consumers are
+  -- if the link leads to no cell, the consumer stays, and keeps what consumers keep
   pub waits : (v : ℕ) → (v ≡ 0) ⊎ (v ≡ END)
       → IsConsumer (moved_to p (Before at) None (reads_with_link s at v) s.seat.part s)
   waits v says =
@@ -153,7 +154,7 @@ module _ (laws : Laws) (s : ConsumerView) (p : ℕ) (at : Cursor) (i : IsConsume
       })
       (others v))
 
-  -- if the link leads to a cell, the consumer holds a new claim there, and is as consumers are
+  -- if the link leads to a cell, the consumer holds a new claim there, and keeps what consumers keep
   pub finds : (k : ℕ) (claim : Claim) → k + 1 ≢ END
       → IsAccessAfter s.reader.table.size s.reader.known (load s.reader.reader (word_of at) (k + 1)) s.reader.part
       → consumer_of claim ≡ c → claim_stage claim ≡ stage.Going → HasTurns s claim []

@@ -53,7 +53,7 @@ module _ (b : ConsumerView) (p k : ℕ) (claim : Claim) where
     mid_is : competed p k now seat s ≡ mid
     mid_is = ap (λ z. moved_to p (place_after k now z) (note_of z) b.reader.part seat.part s) won
 
-    -- before the load the consumer is as consumers are, and at the cell (`mid_at`)
+    -- before the load the consumer keeps what consumers keep, and stands at the cell (`mid_at`)
     pub mid_consumer : IsConsumer mid
     mid_consumer = subst IsConsumer mid_is so.is
 
@@ -83,7 +83,7 @@ module _ (b : ConsumerView) (p k : ℕ) (claim : Claim) where
         (at_views reader (record b.seat { part = seat.part }) places notes) was
         (item_made mid mid p k v reader places notes refl makes f next u))
 
-    -- after the load the consumer is as consumers are
+    -- after the load the consumer keeps what consumers keep
     pub took_is : IsConsumer (moved_to p (Before (Past k)) (Some (Took v)) (reads_with_item mid k v)
         mid.seat.part mid) → IsConsumer new
     took_is i =
@@ -96,7 +96,7 @@ module _ (b : ConsumerView) (p k : ℕ) (claim : Claim) where
     pub took_noted : IsConsumer new → HasNoteOnEach p new
     took_noted i = noted new p (Past k) i (ap (λ ps. slice_get ps p) e ∙ set_here b.places p (Before (Past k)) there at)
 
-    -- so the poll ends with the item
+    -- the poll ends with the item
     pub pursued_took : (most made m : ℕ) → n ≡ made + m → made + 1 ≤ most
         → ConsumerStep (claims_at mid.seat.table) mid.seat.consumer p (parts_of mid.reader mid.seat)
         (ToCells (load mid.reader.reader (Item k) v)) (Some (poll.Took v))

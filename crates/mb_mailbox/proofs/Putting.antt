@@ -87,7 +87,7 @@ fetch_keeps laws old e a =
 
 module _ (laws : PutLaws) (s : ProducerView) (x k : ℕ) (one two : Push) (a b now : LaneSeatView) (i : IsProducer s)
     (o : OfferMakes s.seat x (offer.Cell k) a) (f : PushMakes a one b) (g : PushMakes b two now) where
-  -- the lane, the entry, the part with the item stored, and the part with the cell linked, too
+  -- p is the lane, e the entry, h the part with the item stored, and `linked_part` the part with the cell linked, too
   abbrev p : ℕ
   p = s.seat.lane
 
@@ -117,7 +117,7 @@ module _ (laws : PutLaws) (s : ProducerView) (x k : ℕ) (one two : Push) (a b n
       (record s.seat { place = record { last = s.seat.place.last; stage = stage.Stored k }; part = h }) now
   second = (subst (λ v. PushMakes v two now) first.1 g).1
 
-  -- so the item was put into the cell
+  -- the item was put into the cell
   pub is_put : IsPutInto k x s (record { seat = now; items = s.items ++ x ∷ [] })
   is_put = record {
     same = record {
@@ -145,7 +145,7 @@ module _ (laws : PutLaws) (s : ProducerView) (x k : ℕ) (one two : Push) (a b n
       ∙ map-append (λ (z : Entry). z.value) (put_list p s.seat.part) (e ∷ [])
       ∙ ap (λ (l : List ℕ). l ++ x ∷ []) (sym i.items)
 
-  -- so the producer is still as producers are
+  -- after the put the producer keeps what producers keep
   pub still : IsProducer (record { seat = now; items = s.items ++ x ∷ [] })
   still = record {
     items = sym values ∙ ap (λ (v : LaneSeatView). values_put v.lane v.part) (sym second.1);

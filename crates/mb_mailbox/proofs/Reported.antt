@@ -70,7 +70,7 @@ module _ (plan : Plan) (c p : ℕ) (hs : Histories) (empty : no_parts ≡ parts_
   no_cells : cells_met p (parts_in c hs).reads ≡ []
   no_cells = ap (λ (x : Parts). cells_met p x.reads) (sym empty)
 
-  -- so the empty diary is that of the histories
+  -- the empty diary is that of the histories
   pub silent_diary : IsDiaryOf plan c p hs (record { consumer = c; lane = p; notes = []; begun = false })
   silent_diary = record {
     consumer = refl;
@@ -117,7 +117,7 @@ diary_told m h hs c p low one path met (Keeps.never e empty) =
     (λ i. record { consumer = c; lane = p; notes = noted i; begun = begun i })
     (silent_diary (plan_at m) c p hs empty met)
 
--- so the hub's report is that of the histories
+-- the hub's report is that of the histories
 pub report_is : (m : MailboxView) (h : HubView) (hs : Histories) (r : ReportView)
     → IsReportIn m.cells.size.lanes (consumers_of (plan_at m)) h r
     → ((p : ℕ) → Tells m h hs.pool p)

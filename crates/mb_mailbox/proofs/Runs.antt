@@ -33,7 +33,7 @@ lane_left s stopped = record { put = s.items; part = s.seat.part; stopped = stop
 abbrev pub left_by : ConsumerView → Bool → ConsumerLeft
 left_by s stopped = record { ledger = record { places = s.places; notes = s.notes }; reads = s.reader.part; claimed = s.seat.part; stopped = stopped }
 
--- consumer c has met the end marks that it has read to, by its number
+-- a consumer that has read lanes to their end marks has met these end marks, under its number c
 met_at : (from end c : ℕ) (s : ConsumerView) → s.reader.reader ≡ c → HasReadEnds from end s
     → HasMetEnds from end c s.reader.part
 met_at from end c s is r = record {
@@ -301,7 +301,7 @@ module _ {Z : Type 0} (m : MailboxView) (may_stop may_pass : Who → ℕ → Typ
       All-cons (λ (x : ConsumerLeft). x.stopped ≡ false → ends_met x.reads ≡ end - from) (left_by d.consumer d.stopped) (left_of ds)
       a.0.ends (ends_of from end budget (suc c) ds a.1)
 
-  -- each consumer has met the end marks that it has read to
+  -- each consumer has met the end marks of the lanes that it has read to their ends
   mets_of : (from end budget c : ℕ) (ds : List (PollDone Z)) → AreNumbered from end budget c ds
       → HaveMetEnds from end c (left_of ds)
   mets_of from end budget c [] a = tt
@@ -317,7 +317,7 @@ module _ {Z : Type 0} (m : MailboxView) (may_stop may_pass : Who → ℕ → Typ
       All-cons (λ (x : ConsumerLeft). x.stopped ≡ true → ends_met x.reads < end - from) (left_by d.consumer d.stopped) (left_of ds)
       (λ t. a.0.unread t (All-head F d ds on)) (unread_of from end budget (suc c) ds a.1 (All-tail F d ds on))
 
-  -- ---- a whole run: each lemma `run_X` is the lemma `X` above, over all ends of the run
+  -- ---- a whole run: each lemma `run_X` below is the lemma `X_of` above, over all ends of the run
   module _ {R : Type 0} (stream : R → Stream) (h : HubView) (from end budget : ℕ) (vs : List (Vec ℕ Z)) (js : List (PutJob Z)) (ds : List (PutDone Z))
       (ks : List (PollJob R Z)) (es : List (PollDone Z)) (i : IsHub h) (putting : ArePutJobs m (length h.puts) vs js)
       (polling : ArePollJobs m (length h.ledgers) ks) (put : AllZip (IsPutEnd may_stop may_pass) js ds)
@@ -338,6 +338,7 @@ module _ {Z : Type 0} (m : MailboxView) (may_stop may_pass : Who → ℕ → Typ
     polls_count = zip_length (λ (j : PollJob R Z) (d : PollDone Z). IsPollEnd may_stop may_pass from end budget (stream j.rng) j.consumer d) ks es polled
         ∙ sym (length-map es (λ (d : PollDone Z). d.consumer))
 
+    -- the run is one for these lists and as many sources as consumers' jobs
     pub run_of : IsRunOf (lists_in vs) (length ks) (lanes_of ds) (left_of es) h now
     run_of = record {
       puts = run_puts js ks (producers ds) (consumers es) h puts_count (count_lanes (length h.puts) vs ds ats)

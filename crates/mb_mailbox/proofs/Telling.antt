@@ -82,7 +82,7 @@ module _ (laws : Laws) (s : ConsumerView) (p : ℕ) (at : Cursor) (now : ReaderS
     ended = so.1;
   }
 
-  -- a load that found the end mark has loaded the lane's
+  -- if the load found the end mark, the consumer has loaded the end mark of the lane
   pub loaded_end : v ≡ END → HasLoadedEnd p (record s { reader = now })
   loaded_end end = (
     load s.reader.reader (word_of at) v,
@@ -91,7 +91,7 @@ module _ (laws : Laws) (s : ConsumerView) (p : ℕ) (at : Cursor) (now : ReaderS
     ap Load end,
   )
 
--- ---- answers
+-- ---- what each answer says
 -- equal answers are equal polls
 some_poll : (a b : Poll) → Some a ≡ Some b → a ≡ b
 some_poll a b e = cc

@@ -11,7 +11,7 @@ get_left [] ys j x e = absurd (cc)
 get_left (a ∷ xs) ys zero x e = e
 get_left (a ∷ xs) ys (suc j) x e = get_left xs ys j x e
 
--- the element at the end has the list's length as its place, and by `get_end` any number equal to it
+-- an element at the end stands at the place of the list's length, and by `get_end` at each number equal to it
 get_last : {X : Type 0} (xs : List X) (y : X) → slice_get (xs ++ y ∷ []) (length xs) ≡ Some y
 get_last [] y = refl
 get_last (a ∷ xs) y = get_last xs y

@@ -51,14 +51,14 @@ abbrev pub StandsOn : Layout → Claims → ℕ → ℕ → Parts → List Note 
 StandsOn layout cs c p x notes (Before at) = ConsumerIsBefore cs c p x notes at
 StandsOn layout cs c p x notes (At k claim) = ConsumerIsAt layout cs c p x notes k claim
 
--- this holds of each consumer
+-- this is what each consumer keeps
 pub record IsConsumer (s : ConsumerView) : Type 0 where
   -- the consumer knows the size of its table of claims
   pub size : TableSize
   pub table : s.seat.table.size ≡ Some size
-  -- its reader's seat has the same number as its seat of the claims
+  -- the reader's seat has the same number as the seat of the claims
   pub same : s.reader.reader ≡ s.seat.consumer
-  -- its two parts fit each other
+  -- the two parts of the consumer fit each other
   pub fit : Fits (claims_in size.layout size.cells) s.seat.consumer (parts_of s.reader s.seat)
   -- the two parts determine its place on each lane, and its notes there
   pub places_count : length s.places ≡ s.reader.table.size.lanes

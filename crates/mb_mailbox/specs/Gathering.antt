@@ -68,7 +68,7 @@ diary_in c p h = record { consumer = c; lane = p; notes = notes_in c p h; begun 
 abbrev pub lane_outline : ℕ → ℕ → HubView → LaneView
 lane_outline n p h = record (lane_in n p h) { put = [] }
 
--- the diary as in the report, but without the notes. They are moved in later, from the list that the hub keeps
+-- the diary as in the report, but without the notes. They are moved in later, from the lists that the hub keeps
 abbrev pub diary_outline : ℕ → ℕ → HubView → DiaryView
 diary_outline c p h = record (diary_in c p h) { notes = [] }
 

@@ -66,7 +66,7 @@ hub_empty m = record {
   ledgers = [];
 }
 
--- this holds of each hub. The number of a producer is that of its lane. The number of a consumer is that of its
+-- this is what each hub keeps. The number of a producer is that of its lane. The number of a consumer is that of its
 -- reader's seat, and that of its seat of the claims
 pub record IsHub (h : HubView) : Type 0 where
   pub lanes : length h.puts ≡ length h.cells.roll.lanes

@@ -13,6 +13,7 @@ use Rattle.mb_mailbox.specs.declared.crew.jobs.PollDone.{PollDone}
 use Rattle.mb_mailbox.specs.declared.crew.jobs.PutDone.{PutDone}
 use Rattle.mb_mailbox.specs.declared.crew.jobs.PutJob.{PutJob}
 
+-- ---- stops, accesses and lists
 -- a worker may be stopped before its call of this number: the gate may stop it there, or the number is 2^64 - 1
 abbrev pub IsStopBefore : (Who → ℕ → Type 0) → Who → ℕ → Type 0
 IsStopBefore may_stop w call = may_stop w call ⊎ (call ≡ 2 ^ 64 - 1)
@@ -25,6 +26,7 @@ accesses_made s = length s.reader.part + length s.seat.part
 abbrev pub IsFront : List ℕ → List ℕ → Type 0
 IsFront front whole = (rest : List ℕ) × (front ++ rest ≡ whole)
 
+-- ---- what a consumer has read
 -- the consumer has the same tables and the same numbers as before
 pub record IsSameConsumer (old new : ConsumerView) : Type 0 where
   pub cells : new.reader.table ≡ old.reader.table
@@ -79,6 +81,7 @@ pub record HasReadEnds (from end : ℕ) (s : ConsumerView) : Type 0 where
 abbrev pub IsOnLanes : ℕ → ℕ → History → Type 0
 IsOnLanes from end reads = (a : PoolAccess) (p : ℕ) → Has reads a → a.word ≡ Head p → (from ≤ p) × (p < end)
 
+-- ---- the ends of workers
 -- consumer c was stopped before a call, and has made `made` accesses. These are at least as many as it had calls
 -- before that one, and at most the budget times as many
 pub record IsStoppedPoll (may_stop : Who → ℕ → Type 0) (budget c made : ℕ) : Type 0 where

@@ -13,19 +13,19 @@ pub record NotesView : Type 0 where
   pub lists : List (List Note)
   pub room : ℕ
 
--- the lane of a note that has its lane beside it
+-- the lane that stands beside a note
 abbrev pub lane_of : Noted → ℕ
 lane_of (beside.Took p x) = p
 lane_of (beside.Lost p w) = p
 lane_of (beside.Undecided p) = p
 
--- the note of a note that has its lane beside it
+-- the note without its lane
 abbrev pub note_in : Noted → Note
 note_in (beside.Took p x) = Took x
 note_in (beside.Lost p w) = Lost w
 note_in (beside.Undecided p) = Undecided
 
--- the note with lane p beside it
+-- this note with lane p beside it
 abbrev pub noted : ℕ → Note → Noted
 noted p (Took x) = beside.Took p x
 noted p (Lost w) = beside.Lost p w

@@ -11,7 +11,7 @@ use Rattle.mb_world.specs.declared.place.Place.{Place}
 abbrev pub HasPlace : ℕ → Place → ConsumerView → Type 0
 HasPlace p place s = slice_get s.places p ≡ Some place
 
--- some lawful history of the cells has the consumer's loads as its reader's part
+-- in some lawful history of the cells, the consumer's loads are its reader's part
 abbrev pub HasLoads : ConsumerView → Type 0
 HasLoads s = HasHistory s.reader.table.size (Reader s.reader.reader) s.reader.part
 

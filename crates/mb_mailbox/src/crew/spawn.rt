@@ -17,7 +17,7 @@ use std::snapshot::Snapshot;
 use std::sync::atomic::{AtomicBool, Ordering};
 use std::thread::Scope;
 
-/// Starts a producer's thread. If no thread can be made, this makes all workers stop, and ends this one here.
+/// Starts a producer's thread. If no thread can be made, all workers are made to stop, and this one ends here.
 fn start_put<'s, E: 's, A: Allocator + Drop + Send + Sync + 's, G: Gate + 's>(
     scope: &Scope<'s, E>,
     mailbox: &'s Mailbox<A>,
@@ -69,7 +69,7 @@ pub(super) fn start_puts<'s, E: 's, A: Allocator + Drop + Send + Sync + 's, G: G
     begun
 }
 
-/// Starts a consumer's thread. If no thread can be made, this makes all workers stop, and ends this one here.
+/// Starts a consumer's thread. If no thread can be made, all workers are made to stop, and this one ends here.
 fn start_poll<
     's,
     E: 's,

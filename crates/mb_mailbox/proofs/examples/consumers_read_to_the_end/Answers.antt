@@ -154,7 +154,7 @@ not_below (k ∷ ks) has = elim has [
   | inr none ↦ none
 ]
 
--- so no lane from 1 on and below 2 is marked
+-- the consumer has met no end mark of a lane from 1 on and below 2, so none is marked
 none_below : (h : HasMetEnds 1 2 0 (load 0 (Head 0) END ∷ [])) (p : ℕ)
     → slice_index_or h.marks p false ≡ true → (1 ≤ p) × (p < 1)
 none_below h zero e = absurd (let low = (h.within 0 e).0 in omega (arith, low))
@@ -194,7 +194,7 @@ of_another w has = elim has [
   | inr none ↦ none
 ]
 
--- so no lane is marked for reader 4
+-- reader 4 has met no end mark, so no lane is marked for it
 none_of_it : (h : HasMetEnds 0 1 4 (load 3 (Head 0) END ∷ [])) (p : ℕ)
     → slice_index_or h.marks p false ≡ true → (0 ≤ p) × (p < 0)
 none_of_it h p e = absurd (let at = h.met p e in of_another (place_past p at.cells) at.end)

@@ -21,7 +21,7 @@ use Rattle.mb_mailbox.proofs.consumer.Consumer.poll.Goals as goal
 
 -- a poll that goes on with the claim of its place
 module _ (g : Over) (c : goal.After-run_claim g) where
-  -- the consumer before the poll, and after it
+  -- `at_claim` is the consumer before the poll, and `past_claim` after it
   abbrev at_claim : ConsumerView
   at_claim = at_views c.self.inside.reader c.self.inside.seat c.self.inside.places.items c.self.inside.notes.lists
 
@@ -41,7 +41,7 @@ module _ (g : Over) (c : goal.After-run_claim g) where
 
 -- a poll that loads a link
 module _ (g : Over) (c : After-look g) where
-  -- the consumer before the load, and after it
+  -- `seen` is the consumer before the load, and `looked` after it
   abbrev seen : ConsumerView
   seen = at_views c.self.inside.reader c.self.inside.seat c.self.inside.places.items c.self.inside.notes.lists
 

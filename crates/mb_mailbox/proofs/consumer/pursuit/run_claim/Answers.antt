@@ -21,7 +21,7 @@ use Rattle.mb_mailbox.proofs.consumer.pursuit.run_claim.Goals as goal
 
 -- the consumer of these fields, with the claim in its place
 module _ (g : Over) (c : After-has_history g) where
-  -- the fields as a consumer, whose place may be out of date, and the consumer with the claim
+  -- `base` is a consumer of these fields, whose place may be out of date. `with_claim` is the consumer with the claim
   abbrev base : ConsumerView
   base = consumer_with c.args.reader.now c.args.seat.now c.args.places.now.items c.args.notes.now
 

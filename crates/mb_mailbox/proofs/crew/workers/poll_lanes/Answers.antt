@@ -64,7 +64,7 @@ loop-call-preserved g c =
           c.in-Some.ensures.some.0 c.poll_lane-poll.ensures.polled (search rules);
     }
 
--- the loop came to a turn on which all lanes have ended, and by `returns-in-None` all have after the loop
+-- all lanes have ended: at a turn of the loop, and by `returns-in-None` after it
 pub returns-in_default : goal.returns-in_default
 returns-in_default g c = record {
   same = c.loop-call.invariant.same;
