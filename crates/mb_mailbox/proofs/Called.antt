@@ -1,4 +1,4 @@
--- The calls of workers, one call later.
+-- What holds of the calls of a worker still holds with one call more.
 use Rattle.std.proofs.Common.{◌≡◌, ℕ, suc, ◌<◌, ◌≤◌, ⊎_elim, [], ◌∷◌, refl, sym, ap, ◌∙◌, subst, arith}
 use Rattle.std.proofs.Math.Nat.{le-suc_iff}
 use Rattle.mb_mailbox.specs.Imports.{Stream}

@@ -1,4 +1,4 @@
--- How many items a report has on all lanes together, and who competed for an item.
+-- How many items a report has on all lanes together, and in which diary and at which place a note stands.
 use Rattle.std.proofs.Common.{◌≡◌, ℕ, ◌+◌, ◌*◌, ◌<◌, ◌≤◌, Bool, true, false, List, [], length, refl, sym, ◌∙◌, ap, subst, inl, inr, arith}
 use Rattle.std.specs.Prelude.{Option, Some, None, if◌then◌else◌, nat_lt, reverse, slice_get}
 use Rattle.std.specs.Option.{option_map_or}

@@ -124,6 +124,7 @@ module _ {R Z : Type 0} (m : MailboxView) where
     polls = poll_ends_at may_stop may_pass stream from end budget jobs.polls.items ends.polls.items a.polls e.polls;
   }
 
+-- ---- room
 -- room for this many workers is room for fewer
 pub room_for : {G R Z : Type 0} (a b c d : ℕ) (r : WorkerBuffers G R Z) → c ≤ a → d ≤ b → HasRoom a b r → HasRoom c d r
 room_for a b c d r puts polls h =

@@ -63,7 +63,7 @@ chosen_none f xs left i low old e =
     sym (append-nil left) ∙ ap (λ b. left ++ (if b then get_or xs i 0 ∷ [] else [])) (sym e)
     ∙ chosen_more f xs left i low old
 
--- ---- a consumer that took it
+-- ---- an item that a consumer took
 pub any_below_some : (n c : ℕ) (test : ℕ → Bool) → c < n → test c ≡ true → any_below n test ≡ true
 any_below_some zero c test low e = absurd (omega arith)
 any_below_some (suc n) c test low e = by (cases_eq c n) (λ under. any_below_some n c test under e)

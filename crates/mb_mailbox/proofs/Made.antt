@@ -33,7 +33,7 @@ pub moved_has : (P : ConsumerView → Type 0)
 moved_has P s p place o reads made reader seat places notes done e f g h =
     subst P (λ i. at_views (sym e i) (sym f i) (sym g i) (sym h i)) done
 
--- ---- looks
+-- ---- loads of links
 -- a load of the link before which the consumer stands is a step
 pub look_made : (s old : ConsumerView) (p : ℕ) (at : Cursor) (reader : ReaderSeatView)
     (places : List Place) (l : Look) (answer : Option Poll)
@@ -55,7 +55,7 @@ look_made s old p at reader places l answer is m e quiet next t =
       drawn = refl;
     })
 
--- ---- items
+-- ---- loads of items
 -- a load of the item of a claim that is won is a step
 pub item_made : (s old : ConsumerView) (p k v : ℕ) (reader : ReaderSeatView) (places : List Place)
     (notes : List (List Note))
@@ -72,7 +72,7 @@ item_made s old p k v reader places notes is m put next t =
       drawn = refl;
     })
 
--- ---- claims
+-- ---- accesses of claims
 -- the answer of a claim's access has the note of the stage
 note_of_answer : (st : Stage) → note_with (stage_answer st) ≡ note_of st
 note_of_answer stage.Going = refl
@@ -106,7 +106,7 @@ claim_made s old p word a st seat places notes answer is made drawn_word tells p
       drawn = (t, refl, subst (λ w. (w, u) ≡ next_u64 t) (sym drawn_word) drawn);
     })
 
--- ---- the notes
+-- ---- room for notes
 -- there is as much room as before
 pub room_stays : (p cells : ℕ) (o : Option Note) (old new : NotesView) → NotesGrow p o old new
     → HasAllRoom cells old → HasAllRoom cells new

@@ -36,7 +36,8 @@ looks_next laws s p v at i e =
     (reverse b.0) x b.2.ended)
     (λ j. ToCells (load (i.same j) (b.2.word j) v)) refl)
 
--- the cell of a claim that is held is the last cell met, and was not left
+-- the cell of a claim that the consumer holds is the last that it met, and neither the cell's item nor its link was
+-- loaded
 last : (s : ConsumerView) (p k : ℕ) (claim : Claim) (i : IsConsumer s) → HasPlace p (At k claim) s
     → IsLastMet p k (parts_of s.reader s.seat)
 last s p k claim i e = let o = holds s p k claim i e in record { cells = o.2.cells; met = o.2.met; left = o.2.left }

@@ -53,6 +53,7 @@ behind true list put full rest none = none refl
 behind false list put full rest none = let e = rest refl in omega (arith, e)
 
 module _ {Z : Type 0} (m : MailboxView) (may_stop may_pass : Who → ℕ → Type 0) where
+  -- ---- producers
   -- the producers of these ends, and by `lanes_of` what they came to
   abbrev pub producers : List (PutDone Z) → List ProducerView
   producers ds = map (λ d. d.producer) ds

@@ -35,7 +35,7 @@ unfolding total
 put_total zero pool = refl
 put_total (suc n) pool = ap (λ k. length (put_list n pool) + k) (put_total n pool)
 
--- if each is at most another, so are their sums
+-- if each term of a sum is at most that of another sum, so is the sum
 pub total_most : (f g : ℕ → ℕ) (n : ℕ) → ((j : ℕ) → f j ≤ g j) → total f n ≤ total g n
 unfolding total
 total_most f g zero each = omega arith
@@ -54,7 +54,7 @@ sum_most g f (x ∷ xs) each =
     let next = sum_by-cons g x xs in
     omega (arith, rest, here, whole, next)
 
--- if one is less, so is the sum
+-- if one element, besides, counts less than its place does, so does the sum
 pub sum_less : {X : Type 0} (g : X → ℕ) (f : ℕ → ℕ) (xs : List X) (p : ℕ) → p < length xs
     → ((j : ℕ) (x : X) → slice_get xs j ≡ Some x → g x ≤ f j)
     → ((x : X) → slice_get xs p ≡ Some x → g x < f p) → sum_by g xs < total f (length xs)

@@ -42,7 +42,7 @@ pub next_seen : {A : Type 0} (seen : List A) (x : A) (rest was all : List A) →
     → was ≡ x ∷ rest → (seen ++ x ∷ []) ++ rest ≡ all
 next_seen seen x rest was all whole first = append_assoc seen (x ∷ []) rest ∙ ap (λ l. seen ++ l) (sym first) ∙ whole
 
--- if none is left, all have been seen
+-- if none is to come, all have been seen
 pub all_seen : {A : Type 0} (seen rest all : List A) → seen ++ rest ≡ all → rest ≡ [] → seen ≡ all
 all_seen seen rest all whole none = append_nothing seen ∙ ap (λ l. seen ++ l) (sym none) ∙ whole
   where

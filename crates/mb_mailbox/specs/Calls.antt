@@ -23,8 +23,8 @@ pub record IsCall (from end budget : ℕ) (c : Call) (s t : Stream) (old new : C
   pub high : c.lane < end
   pub poll : IsPollOf c.lane budget c.answer s t old new
 
--- these calls (the newest first) were made one after the other, and nothing else. Each draws from what the call
--- before it left of the source
+-- these calls (the newest first) were made one after the other, and nothing else. Each draws the words of the source
+-- after those of the call before it
 abbrev pub AreCalls : ℕ → ℕ → ℕ → List Call → Stream → Stream → ConsumerView → ConsumerView → Type 0
 AreCalls from end budget [] s t old new = (t ≡ s) × (new ≡ old)
 AreCalls from end budget (c ∷ older) s t old new =

@@ -91,8 +91,8 @@ pub record IsStoppedPoll (may_stop : Who → ℕ → Type 0) (budget c made : �
   pub most : made ≤ budget * (call - 1)
   pub stop : IsStopBefore may_stop (who.Consumer c) call
 
--- a consumer has made calls, and the gate let each through. The first call draws from this source, and each other
--- from what the call before it left of the source. If the consumer was stopped, it was so before the next call
+-- a consumer has made calls, and the gate let each through. Each call draws the words of this source after those of
+-- the call before it. If the consumer was stopped, it was so before the next call
 pub record HasPolled (may_stop may_pass : Who → ℕ → Type 0) (from end budget : ℕ) (source : Stream) (stopped : Bool)
     (old new : ConsumerView) : Type 0 where
   pub calls : ℕ

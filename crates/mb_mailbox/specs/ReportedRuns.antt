@@ -1,4 +1,4 @@
--- The run of workers that a report tells of: its terms, the workers, and what they left.
+-- The run of workers that a report tells of: its terms, the workers, and what they came to.
 use Rattle.std.specs.Prelude.{ℕ, ◌≡◌, List, length}
 use Rattle.mb_mailbox.specs.Imports.{Stream, consumer_count}
 use Rattle.mb_mailbox.specs.Called.{IsCalled}

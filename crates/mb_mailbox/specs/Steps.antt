@@ -93,7 +93,7 @@ pub record IsPollOf (p budget : ℕ) (answer : Poll) (s t : Stream) (old new : C
   pub done : HasDone p accesses (outcome answer) old new
   -- each is the next one on the lane, and the poll ends with the first that comes to an answer
   pub lead : LeadTo p (outcome answer) accesses old
-  -- the source is left after one word for each access of a claim
+  -- `t` is the source after one word for each access of a claim
   pub drawn : AreDrawn s (drawn_words accesses) t
   -- there are no more accesses than the budget, and just as many if it is spent
   pub within : length accesses ≤ budget

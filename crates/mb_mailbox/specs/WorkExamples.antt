@@ -1,4 +1,4 @@
--- A producer in a pool of one lane and one cell, and what workers leave, by example.
+-- A producer in a pool of one lane and one cell, and what workers come to, by example.
 use Rattle.std.specs.Prelude.{ℕ, List, Some, [], ◌∷◌, false, true}
 use Rattle.mb_cells.specs.Vocabulary.{fetch, new_lane, pool_size, store}
 use Rattle.mb_cells.specs.declared.lane.Lane.{Lane}

@@ -52,7 +52,8 @@ pub struct Worked {
 /// Why no run came to its end.
 #[derive(Clone, Copy, PartialEq, Eq, Debug)]
 pub enum WorkFault {
-    /// There are more lists than lanes left, or more sources than numbers of consumers left. Nothing was given.
+    /// There are more lists than lanes that were not given yet, or more sources than numbers of consumers that were
+    /// not. Nothing was given.
     AllGiven,
     /// The budget is 0. Nothing was given.
     BadBudget,
