@@ -17,8 +17,8 @@ use Rattle.mb_mailbox.proofs.Lists.{set_here, set_same, set_twice, some_same}
 use Rattle.mb_mailbox.proofs.Made.{claim_made}
 use Rattle.mb_mailbox.proofs.Polls.{steps_more}
 
--- after an access of its claim the consumer keeps what consumers keep, and by `IsNext` that access is its next one. These
--- are clauses of src/consumer/moves.rt
+-- after an access of its claim the consumer keeps what consumers keep, and by `IsNext` that access is its next one.
+-- These are clauses of src/consumer/moves.rt
 abbrev pub MovesOn : Type 0
 MovesOn = (s : ConsumerView) (p k word seen : ℕ) (claim now : Claim) (next : ClaimOp)
     → IsConsumer s → HasLoads s → HasPlace p (At k claim) s

@@ -105,8 +105,8 @@ list_else p q None lists ms ne f = f
 list_else p q (Some n) lists ms ne f =
     ⊎_elim (λ t. absurd (ne t.0)) (λ t. t.1) (set_get lists p q (notes_on p lists ++ n ∷ []) ms f)
 
--- after an access on lane p the consumer keeps what consumers keep, if its parts fit, it stands there as it should, and the
--- access leaves the other lanes alone
+-- after an access on lane p the consumer keeps what consumers keep, if its parts fit, it stands there as it should,
+-- and the access leaves the other lanes alone
 pub moves : (s : ConsumerView) (p : ℕ) (was place : Place) (o : Option Note) (reads : History)
     (made : List ClaimAccess) (i : IsConsumer s)
     → slice_get s.places p ≡ Some was
