@@ -25,6 +25,7 @@ module _ (plan : Plan) (h : WorldHistory) (known : EventKnown plan h) (c p word 
     pub consumer : c < consumers_of plan
     pub lane : p < plan.lanes
 
+  -- an access for which a step asks, and which keeps the history lawful, is so
   inside : (a : WorldAccess) → IsStep a → IsWorldLawful plan (a ∷ h) → IsInside a
   inside a made lawful =
       let there = lawful.no_others c a (inl refl) made.0 in
@@ -81,7 +82,7 @@ module _ (plan : Plan) (h : WorldHistory) (known : EventKnown plan h) (c p word 
           (random a made_a.2 k x e ∙ sym (random b made_b.2 k y f)));
     }
 
-    -- so they are one
+    -- so two accesses for which the step asks are one
     pub one_step_access : a ≡ b
     one_step_access =
         let i = inside a made_a la in

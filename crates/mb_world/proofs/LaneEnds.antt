@@ -19,6 +19,7 @@ module _ (plan : Plan) (hs : Histories) (known : Known plan hs) where
     pub all : HasMet q p (linked_cells p hs.pool) hs.pool
     pub last : HasLoaded q (place_past p (linked_cells p hs.pool)) END hs.pool
 
+  -- a reader that has loaded the end mark of a lane has met the lane so
   met_lane : (q p : ℕ) → HasMetEnd q p hs.pool → HasMetLane q p
   met_lane q p end = by_word end.0 end.1 end.2 end.3
     where

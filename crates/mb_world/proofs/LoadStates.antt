@@ -1,4 +1,4 @@
--- One more load of a consumer, on the state of a world.
+-- What one more load of a consumer makes of the state of a world.
 use Rattle.std.proofs.Common.{◌≡◌, ℕ, ◌<◌, List, ◌∷◌, length, Option, Some, refl, sym, ◌∙◌, subst}
 use Rattle.mb_cells.specs.Memory.{value_in}
 use Rattle.mb_cells.specs.State.{IsAfter}
@@ -31,7 +31,7 @@ module _ (s : WorldState) (h : WorldHistory) (is : IsWorldAfter h s) (c p : ℕ)
       (record { cells = ks; notes = ns; held = held; path = path })) has
 
   module _ (w : Word) (may : MayRead (plan s h is).lanes w (part (Reader c) (pool_accesses h))) where
-    -- what it finds
+    -- what the load finds
     abbrev pub found : ℕ
     found = value_in w (pool_accesses h)
 

@@ -1,4 +1,4 @@
--- A step of a consumer finds nothing exactly if it has met all cells and the lane goes on.
+-- A step of a consumer finds nothing exactly if the consumer has met all cells and the lane goes on.
 use Rattle.std.proofs.Common.{◌≡◌, ◌⊎◌, ℕ, ◌+◌, ◌-◌, ◌<◌, Bool, true, false, cond, List, [], ◌∷◌, ◌++◌, Option, Some, None, refl, sym, ◌∙◌, ap, subst, inl, inr, arith}
 use Rattle.std.specs.Prelude.{filter, nat_eq}
 use Rattle.std.proofs.lemmas.Bool.{eqb-true}

@@ -1,4 +1,4 @@
--- Events have one replay.
+-- A list of events has at most one replay.
 use Rattle.std.proofs.Common.{◌≡◌, List, [], ◌∷◌, Option, Some, None, refl, sym, ◌∙◌, ap, ap₂, subst}
 use Rattle.mb_world.specs.declared.event.Answer.{Answer}
 use Rattle.mb_world.specs.declared.event.Answer.TheVariants as answer
@@ -45,7 +45,7 @@ module _ (plan : Plan) (h : WorldHistory) (known : EventKnown plan h) where
       let same = known.one_stage a.consumer (a.step ∷ claim_part a.consumer a.cell (claim_accesses h)) x y q w in
       e ∙ (ap (λ (z : Stage). answer.Claimed a.cell a.step.object a.step.turn.act z) same ∙ sym f)
 
-  -- an event has one answer, and one access or none
+  -- an event has at most one answer, with one access or with none
   pub one_entry : (e : Event) (r s : Answer) (a b : Option WorldAccess) → HasAnswer plan e r a h
       → HasAnswer plan e s b h → (r ≡ s) × (a ≡ b)
   one_entry e r s None None x y = (refused_once e r s x y, refl)
@@ -56,7 +56,7 @@ module _ (plan : Plan) (h : WorldHistory) (known : EventKnown plan h) where
       (named_once b r s (subst (λ z. AnswerNames plan r z h) same x.1) y.1, ap Some same)
 
 module _ (plan : Plan) (known : (h : WorldHistory) → IsWorldLawful plan h → EventKnown plan h) where
-  -- an entry keeps the history lawful
+  -- an event that has an answer leaves the history lawful
   lawful_on : (e : Event) (r : Answer) (a : Option WorldAccess) (h : WorldHistory) → IsWorldLawful plan h
       → HasAnswer plan e r a h
       → IsWorldLawful plan (with_access a h)

@@ -30,11 +30,11 @@ abbrev stored_value : Option (Word × ℕ) → ℕ
 stored_value None = 0
 stored_value (Some s) = s.1
 
--- two such stores that are one store in one word
+-- if two such stores are equal, they are in one word
 first_same : (w u : Word) (v x : ℕ) → stored w v ≡ stored u x → w ≡ u
 first_same w u v x e = ap stored_word e
 
--- two such stores that are one store one value
+-- if two such stores are equal, they store one value
 second_same : (w u : Word) (v x : ℕ) → stored w v ≡ stored u x → v ≡ x
 second_same w u v x e = ap stored_value e
 

@@ -1,4 +1,4 @@
--- One more access of a producer in a lawful history of a world.
+-- One more access of a producer, after which the history of a world stays lawful.
 use Rattle.std.proofs.Common.{◌≡◌, ◌⊎◌, ℕ, Bool, true, false, ◌&&◌, ◌||◌, cond, List, ◌∷◌, Option, Some, None, refl, sym, ◌∙◌, ap, subst, inl, inr, eq-eqb, eqb-true}
 use Rattle.std.specs.Prelude.{filter, nat_eq}
 use Rattle.std.proofs.lemmas.Bool.{and_parts, cases_Bool, cases_eq, cond_both, ne_eqb}
@@ -12,7 +12,7 @@ use Rattle.mb_world.proofs.Cells.{cell-of_true, has_cell-true}
 use Rattle.mb_world.proofs.LaneParts.{filter_same}
 use Rattle.mb_world.proofs.ReaderParts.{reader_is}
 
--- a lane after an access of producer p: that of another stays, and its own may have one cell more
+-- an access of producer p leaves the lane of any other producer
 linked_other : (p q : ℕ) (a : PoolAccess) (h : History) → a.process ≡ Producer p → (q ≡ p → ⊥)
     → linked_cells q (a ∷ h) ≡ linked_cells q h
 linked_other p q a h own other =
@@ -21,6 +21,7 @@ linked_other p q a h own other =
     ∙ ap (λ (b : Bool). cond b (push_if (link_of a.word a.act) (linked_cells q h)) (linked_cells q h))
     (ne_eqb q p other)
 
+-- an access of producer p adds to the lane of p the cell that it links, if it links one
 linked_own : (p : ℕ) (a : PoolAccess) (h : History) → a.process ≡ Producer p
     → linked_cells p (a ∷ h) ≡ push_if (link_of a.word a.act) (linked_cells p h)
 linked_own p a h own =
@@ -43,7 +44,7 @@ linked_more q a h k has =
 is_on_none : (c q p : ℕ) (ls : List ℕ) (a : PoolAccess) → a.process ≡ Producer p → is_on c q ls (ToCells a) ≡ false
 is_on_none c q p ls a own = ap (λ (w : Process). is_same_process (Reader c) w && is_of_lane q ls a.word) own
 
--- a cell that is on no lane makes no difference
+-- one more cell makes no difference to whether a word is of the lane, if the word is not of that cell
 word_same : (q k : ℕ) (ls : List ℕ) (w : Word) → ((j : ℕ) → (w ≡ Link j) ⊎ (w ≡ Item j) → k ≡ j → ⊥)
     → is_of_lane q (k ∷ ls) w ≡ is_of_lane q ls w
 word_same q k ls Counter apart = refl
@@ -72,7 +73,7 @@ module _ (plan : Plan) (h : WorldHistory) (lawful : IsWorldLawful plan h)
           ne (one q p k (linked_more q a (pool_accesses h) k has)
           (subst (λ (ls : List ℕ). Has ls k) (sym own) (inl refl)))
 
-  -- no access of a consumer is on that cell
+  -- the access's new cell makes no difference to which accesses of a consumer are on a lane
   on_same : (c q k : ℕ) → link_of a.word a.act ≡ Some k → (x : WorldAccess) → Has h x
       → is_on c q (k ∷ linked_cells q (pool_accesses h)) x ≡ is_on c q (linked_cells q (pool_accesses h)) x
   on_same c q k is (ToClaims x) has = by (cases_Bool (nat_eq x.consumer c))
@@ -112,6 +113,7 @@ module _ (plan : Plan) (h : WorldHistory) (lawful : IsWorldLawful plan h)
               (subst (λ (v : Word). is_of_lane l (linked_cells l (pool_accesses h)) v ≡ true) w here)))
       by (inr e) = rw e refl
 
+  -- so the parts of all consumers stay
   pub parts_stay : (d q : ℕ) → lane_part d q (ToCells a ∷ h) ≡ lane_part d q h
   parts_stay d q =
       ap (λ (b : Bool). cond b (ToCells a ∷ filter (is_on d q (linked_cells q (a ∷ pool_accesses h))) h)
@@ -132,6 +134,7 @@ module _ (plan : Plan) (h : WorldHistory) (lawful : IsWorldLawful plan h)
           ∙ by_link (link_of a.word a.act) refl
       by (inr ne) = ap (λ (ls : List ℕ). filter (is_on d q ls) h) (linked_other p q a (pool_accesses h) maker ne)
 
+  -- so the longer history is lawful
   pub producer_goes_on : IsWorldLawful plan (ToCells a ∷ h)
   producer_goes_on = record {
     sized = lawful.sized;

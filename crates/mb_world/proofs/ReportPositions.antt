@@ -42,12 +42,12 @@ module _ (plan : Plan) (hs : Histories) (r : ReportView) (is : IsReportOf plan h
       ≡ Some (is.diary c p cs ps).0
   diary_is c p cs ps = rw (is.lanes_count, lt-ltb p plan.lanes ps) (is.diary c p cs ps).1
 
-  -- its notes are those of the report there
+  -- the notes of that diary are those of the report there
   pub notes_is : (c p : ℕ) (cs : c < consumers_of plan) (ps : p < plan.lanes)
       → notes c p r ≡ (is.diary c p cs ps).0.notes
   notes_is c p cs ps = ap (λ (o : Option DiaryView). option_map_or (λ d. d.notes) o []) (diary_is c p cs ps)
 
-  -- its claim is begun exactly if the report says so
+  -- a claim is begun by that diary exactly if the report says so
   pub begun_is : (c p : ℕ) (cs : c < consumers_of plan) (ps : p < plan.lanes)
       → is_begun c p r ≡ (is.diary c p cs ps).0.begun
   begun_is c p cs ps = ap (λ (o : Option DiaryView). option_map_or (λ d. d.begun) o false) (diary_is c p cs ps)

@@ -85,7 +85,7 @@ impl<A: Allocator + Clone + Drop> World<A> {
     }
 }
 
-/// The places of so many consumers that have done nothing, consumer by consumer: before the head of each lane.
+/// The places of this many consumers that have done nothing, consumer by consumer: each is before the head of its lane.
 fn before_heads<A: Allocator + Drop>(
     alloc: A,
     consumers: u32,

@@ -8,13 +8,15 @@ use Rattle.mb_world.specs.ReportExamples.{diary_of, left_omitted, winner_stayed_
 use Rattle.mb_world.proofs.ReportLists.{no_diary, not_competing}
 use Rattle.mb_world.proofs.examples.reports_disagree.Goals as goal
 
--- two items are not chosen in another order
+-- which of the items 10 and 11 go to nobody, if a and b are what the assignment has for them
 abbrev chosen : Option ℕ → Option ℕ → List ℕ
 chosen a b = if is_none a then 10 ∷ (if is_none b then 11 ∷ [] else []) else (if is_none b then 11 ∷ [] else [])
 
+-- the items left, in the wrong order
 abbrev turned : List ℕ
 turned = 11 ∷ 10 ∷ []
 
+-- whatever the assignment has for the items, those that go to nobody are not in this order
 no_order : (a b : Option ℕ) → turned ≡ chosen a b → ⊥
 no_order None None e = cc
 no_order None (Some d) e = cc
@@ -24,22 +26,26 @@ no_order (Some c) (Some d) e = cc
 pub returns-clause-order : goal.returns-clause-order
 returns-clause-order c t agrees = no_order (t 0 0) (t 0 1) (agrees.left 0)
 
--- nobody competes without a note or a claim
+-- in `left_omitted` consumer 0 did not compete for the item: it has no note and no claim
 idle : HasCompeted 0 0 0 left_omitted → ⊥
 idle (inl h) = omega (arith, h)
 idle (inr h) = let e = h.1 in cc
 
+-- in `left_omitted` no other consumer competed for the item, as none has a diary
 nobody : (d : ℕ) → HasCompeted (suc d) 0 0 left_omitted → ⊥
 nobody d h = not_competing (suc d) 0 0 left_omitted
     (no_diary (suc d) (10 ∷ []) [] (diary_of 0 [] false ∷ []) (omega arith)) h
 
+-- in `winner_stayed_away` consumer 1 did not compete for the item
 away : HasCompeted 1 0 0 winner_stayed_away → ⊥
 away (inl h) = omega (arith, h)
 away (inr h) = let e = h.1 in cc
 
+-- the item 10, if it goes to nobody
 abbrev ten : Option ℕ → List ℕ
 ten a = if is_none a then 10 ∷ [] else []
 
+-- the items left, of which the item is left out
 abbrev nothing : List ℕ
 nothing = []
 
@@ -64,13 +70,15 @@ returns-clause-twice c t agrees =
     let f = (agrees.given.taken 1 0 0).0 (5, refl) in
     cc
 
--- another value is not chosen
+-- the item 5, if it goes to consumer 0
 abbrev five : Bool → List ℕ
 five b = if b then 5 ∷ [] else []
 
+-- the ledger with another value
 abbrev six : List ℕ
 six = 6 ∷ []
 
+-- whether the item goes to consumer 0 or not, the ledger does not have the value 6
 no_value : (b : Bool) → six ≡ five b → ⊥
 no_value true e = cc
 no_value false e = cc

@@ -1,3 +1,4 @@
+-- Proof of `before_heads`: the places of consumers that have done nothing.
 use Rattle.std.proofs.Common.{◌≡◌, ◌*◌, ◌+◌, ◌∙◌, ℕ, ap, arith, subst, sym}
 use Rattle.mb_world.specs.Places.{AreAtHeads}
 use Rattle.mb_world.proofs.StateLists.{heads_more}

@@ -1,4 +1,4 @@
--- Proof of `World::lane_cells`: the cells of lane `p`, along the links from its head.
+-- Proof of `World::lane_cells`: the cells of lane `p`, along the links from its head, and whether the lane has ended.
 use Rattle.std.proofs.Common.{◌≡◌, ◌<◌, sym, ◌∙◌, ap, subst, arith, true, false, length}
 use Rattle.std.proofs.Common.{[], ◌∷◌, length-append}
 use Rattle.std.proofs.lemmas.List.Elements.{All-push}

@@ -1,4 +1,5 @@
--- Loop invariants of `World::lane_cells`: the cells of lane `p`, along the links from its head.
+-- Loop invariants of `World::lane_cells`: the cells of lane `p`, along the links from its head, and whether the lane
+-- has ended.
 use Rattle.std.proofs.Common.{◌<◌, ◌-◌, All, length}
 use Rattle.mb_cells.specs.State.{IsWithin}
 use Rattle.mb_world.specs.Setups.{plan_in}
