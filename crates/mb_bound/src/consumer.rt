@@ -36,14 +36,14 @@ impl<A: Allocator + Drop> BoundConsumer<A> {
     ghost use Rattle.mb_mailbox.specs.Consumers.{IsConsumerOf};
     ghost use Rattle.mb_mailbox.specs.Steps.{AnswerTells, IsPollOf, outcome};
 
-    /// The number of its mailbox.
+    /// The number of the consumer's mailbox.
     pub fn id(&self) -> u64
         ensures { result ≡ self.now.id }
     {
         self.id
     }
 
-    /// A law: it is a consumer of its mailbox.
+    /// A law: the consumer is one of the mailbox that it is kept with.
     pub fn is_bound(&self)
         ensures { IsConsumerOf self.now.mailbox self.now.consumer }
     {

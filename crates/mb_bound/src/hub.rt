@@ -58,7 +58,7 @@ impl<A: Allocator + Drop> BoundHub<A> {
         consumers_left(&self.mailbox, &self.hub)
     }
 
-    /// A law: it is the hub of its mailbox.
+    /// A law: the hub is that of the mailbox that it is kept with.
     pub fn is_bound(&self)
         ensures { IsHubOf self.now.mailbox self.now.hub }
     {
