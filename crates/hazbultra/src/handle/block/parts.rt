@@ -17,6 +17,7 @@ impl<T, A: Allocator> Model for Parts<T, A> {
 }
 
 impl<T, A: Allocator> Parts<T, A> {
+    /// Takes the box apart.
     pub fn of(whole: Box<T, A>) -> Parts<T, A>
     where
         T: Drop,
@@ -26,6 +27,7 @@ impl<T, A: Allocator> Parts<T, A> {
         Parts { ptr, alloc }
     }
 
+    /// Makes a box of the parts again.
     pub fn into_box(self) -> Box<T, A>
         ensures { result.value ≡ self.value }
     {
