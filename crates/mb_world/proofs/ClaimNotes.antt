@@ -82,7 +82,8 @@ module _ {h : WorldHistory} {c p word k object : ℕ} {act : Act} {z : Stage}
       (subst (λ (e : Place). EventAdds (event.Step c p word) (answer.Claimed k object act z)
       (with_note_if c k (note_of z) (with_place c p e (with_words words s))) h) at by_stage)
 
-  -- if the claim has a note, the code writes the claim where it stands, then the place past the cell, and the note
+  -- if the claim has a note, the event leads to the state that the code writes: the claim at its place, then over it
+  -- the place past the cell, and the note
   pub noted : (cell : ℕ) {lanes cells : ℕ} {o : Option Note} {n : Note} → lanes ≡ (plan_in s.setup).lanes
       → cells ≡ (plan_in s.setup).claims.cells → o ≡ note_of z → o ≡ Some n
       → EventAdds (event.Step c p word) (answer.Claimed k object act z) (record s {
@@ -100,7 +101,7 @@ module _ {h : WorldHistory} {c p word k object : ℕ} {act : Act} {z : Stage}
       )
       (by_note (Some n) (Before (Past k)) note (past_cell k now z n note))
 
-  -- if the claim has no note, the code writes the claim where it stands, and no more
+  -- if the claim has no note, the event leads to the state that the code writes: the claim at its place, and no more
   pub unnoted : {cell lanes : ℕ} → cell ≡ k → lanes ≡ (plan_in s.setup).lanes
       → (o : Option Note) → o ≡ note_of z → ((n : Note) → o ≡ Some n → ⊥)
       → EventAdds (event.Step c p word) (answer.Claimed k object act z)

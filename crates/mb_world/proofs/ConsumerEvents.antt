@@ -39,7 +39,7 @@ module _ (plan : Plan) (h : WorldHistory) (known : EventKnown plan h) (c p word 
   step_never_both r a (inl (past, _)) made lawful = let i = inside a made lawful in omega (arith, past, i.lane)
   step_never_both r a (inr (_, past, _)) made lawful = let i = inside a made lawful in omega (arith, past, i.consumer)
 
-  -- a step has one refusal
+  -- a step has at most one answer that refuses it
   pub step_refused_once : (r s : Answer) → IsRefused plan (event.Step c p word) r h
       → IsRefused plan (event.Step c p word) s h
       → r ≡ s

@@ -10,7 +10,7 @@ use Rattle.mb_claim.specs.declared.shape.Shape.{Shape}
 use Rattle.mb_claim.specs.Paths.{IsClaimPrefixFrom}
 use Rattle.mb_world.specs.Imports.{Claims, IsClaimPrefix, Kind}
 
--- a claim on a row of objects, at least one, goes on before its first access, if each kind may be begun
+-- a claim on a row with an object goes on before its first access, if a use of each kind of object does
 goes_from : (t : QuorumTable) (kinds : List Kind) (c : ℕ) → kinds ≢ [] → ((kind : Kind) → IsOpen t kind c [])
     → IsClaimPrefixFrom t c kinds 0 c [] stage.Going
 goes_from t [] c some opens = absurd (some refl)

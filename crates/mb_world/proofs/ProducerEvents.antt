@@ -51,7 +51,7 @@ module _ (plan : Plan) (h : WorldHistory) (known : EventKnown plan h) (p : ℕ) 
       (lawful.producers p)
 
   -- ---- offers have one access or one refusal
-  -- an offer has one access
+  -- an offer has at most one access
   pub one_offer : (x : ℕ) (a b : WorldAccess) → IsAccessOf (event.Offer p x) a h → IsWorldLawful plan (a ∷ h)
       → IsAccessOf (event.Offer p x) b h → IsWorldLawful plan (b ∷ h) → a ≡ b
   one_offer x a b (n, is_a) la (m, is_b) lb =
@@ -82,7 +82,7 @@ module _ (plan : Plan) (h : WorldHistory) (known : EventKnown plan h) (p : ℕ) 
           let f : None ≡ Some why = sym free ∙ refuses in
           cc
 
-  -- an offer has one refusal
+  -- an offer has at most one answer that refuses it
   pub offer_refused_once : (x : ℕ) (r s : Answer) → IsRefused plan (event.Offer p x) r h
       → IsRefused plan (event.Offer p x) s h
       → r ≡ s
@@ -123,7 +123,7 @@ module _ (plan : Plan) (h : WorldHistory) (known : EventKnown plan h) (p : ℕ) 
       by None ne = ne refl
       by (Some k) ne = ne refl
 
-  -- a push has one access
+  -- a push has at most one access
   pub one_push : (a b : WorldAccess) → IsAccessOf (event.Push p) a h → IsWorldLawful plan (a ∷ h)
       → IsAccessOf (event.Push p) b h → IsWorldLawful plan (b ∷ h) → a ≡ b
   one_push a b (w, v, push_a, is_a) la (u, x, push_b, is_b) lb =
@@ -162,14 +162,14 @@ module _ (plan : Plan) (h : WorldHistory) (known : EventKnown plan h) (p : ℕ) 
         | inr mark ↦ not_pushed lane w v mark.1.0 mark.1.1 pushed
       ]
 
-  -- a push has one refusal
+  -- a push has at most one answer that refuses it
   pub push_refused_once : (r s : Answer) → IsRefused plan (event.Push p) r h → IsRefused plan (event.Push p) s h → r ≡ s
   push_refused_once r s (inl (_, e)) (inl (_, f)) = e ∙ sym f
   push_refused_once r s (inl (past, _)) (inr (ps, _)) = absurd (omega (arith, past, ps))
   push_refused_once r s (inr (ps, _)) (inl (past, _)) = absurd (omega (arith, past, ps))
   push_refused_once r s (inr (_, (lane, at, idle, e))) (inr (_, (other, there, still, f))) = e ∙ sym f
 
-  -- a finish has one access
+  -- a finish has at most one access
   pub one_finish : (a b : WorldAccess) → IsAccessOf (event.Finish p) a h → IsWorldLawful plan (a ∷ h)
       → IsAccessOf (event.Finish p) b h → IsWorldLawful plan (b ∷ h) → a ≡ b
   one_finish a b (w, link_a, is_a) la (u, link_b, is_b) lb =
@@ -206,7 +206,7 @@ module _ (plan : Plan) (h : WorldHistory) (known : EventKnown plan h) (p : ℕ) 
             | inr mark ↦ let f : None ≡ Some why = sym mark.0 ∙ refuses in cc
           ]
 
-  -- a finish has one refusal
+  -- a finish has at most one answer that refuses it
   pub finish_refused_once : (r s : Answer) → IsRefused plan (event.Finish p) r h
       → IsRefused plan (event.Finish p) s h → r ≡ s
   finish_refused_once r s (inl (_, e)) (inl (_, f)) = e ∙ sym f

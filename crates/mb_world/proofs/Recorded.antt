@@ -28,7 +28,7 @@ module _ (plan : Plan) (hs : Histories) (known : Known plan hs) where
   abbrev Diary : ℕ → ℕ → DiaryView → Type 0
   Diary c p d = IsDiaryOf plan c p hs d
 
-  -- the end of a claim as which a note tells it names the winner that the note names
+  -- if a claim has ended as a note says, its stage names the winner that the note names
   end_named : (c k : ℕ) (n : Note) (w : ℕ) → c < consumers_of plan → EndsAs plan.claims c k n (parts_of c hs)
       → winner_named c n ≡ Some w
       → (s : Stage) × HasStage plan.claims c k s hs.claims × StageNames c s w

@@ -125,6 +125,7 @@ pub fn reports_have_begun_claims()
 
 /// The path of a consumer on its lane, from a link that leads nowhere yet to an item taken.
 pub fn paths_lead_on()
+    // Each history leads to these cells, these notes and this claim.
     ensures waited { ConsumerPath two_cells 0 0 waited [] [] None }
     ensures found { ConsumerPath two_cells 0 0 found (0 ∷ []) [] (Some []) }
     ensures begun { ConsumerPath two_cells 0 0 begun (0 ∷ []) [] (Some (first_step ∷ [])) }
@@ -182,6 +183,7 @@ pub fn parts_do_not_fit()
 
 /// What was done in a small world, and where its consumers stand after it.
 pub fn worlds_go_on()
+    // Each history of the small world is lawful.
     ensures asked { IsWorldLawful two_by_two one_taken }
     ensures offered { IsWorldLawful two_by_two offered }
     ensures stored { IsWorldLawful two_by_two one_stored }
@@ -294,6 +296,7 @@ pub fn end_marks_are_not_passed()
 
 /// Events and their answers.
 pub fn events_are_replayed()
+    // The first events have these answers, and lead to the history in which the item 5 is put.
     ensures first { IsReplay two_by_two first_events first_answers [] one_put }
 
     // An item is stored.
@@ -347,6 +350,7 @@ pub fn events_are_not_misanswered()
 
 /// What the state of a world says of its report, if its pool has one cell with the item 8.
 pub fn states_tell_reports()
+    // Lane 0 has the cell and has not ended. So no report of the lane without the item is told.
     ensures walked { IsWalk put_pool 0 (0 ∷ []) false item_put }
     ensures told { (s : WorldState) → s.pool ≡ put_pool
         → IsLaneTold s 0 (record { put = []; ended = false; left = [] }) → ⊥ }

@@ -23,6 +23,7 @@ use mb_claim::laws::prefixes_have_one_stage;
 
 /// Lawful histories of a world grow by one access after another.
 pub fn history_extends()
+    // The history without an access is lawful, if the end mark is the link of no cell.
     ensures empty { (plan : Plan) → plan.claims.cells < END → IsWorldLawful plan [] }
 
     // An access of a consumer may follow if it is true to memory and extends the consumer's path on a lane.
@@ -47,6 +48,7 @@ pub fn history_extends()
 
 /// The two parts of a consumer still fit after each access that it may make, whatever it finds.
 pub fn parts_fit_on()
+    // The parts of a consumer that has done nothing fit.
     ensures empty { (cs : Claims) (c : ℕ) → Fits cs c no_parts }
 
     // A consumer may look for the next cell of a lane if it is done with the last one that it met there.
