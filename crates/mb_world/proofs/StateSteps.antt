@@ -1,4 +1,4 @@
--- The state of a world after one more access of a consumer: what stays of it, and what is left to be said.
+-- The state of a world after one more access of a consumer: which places and notes stay, and which are written.
 use Rattle.std.proofs.Common.{◌≡◌, ◌↔◌, ◌⊎◌, ℕ, ◌+◌, ◌*◌, ◌<◌, List, ◌∷◌, length, Option, Some, sym, ◌∙◌, subst, inl, inr}
 use Rattle.std.specs.Prelude.{slice_get, slice_set}
 use Rattle.std.proofs.lemmas.Bool.{cases_eq}

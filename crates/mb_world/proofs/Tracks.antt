@@ -201,6 +201,7 @@ module _ (cs : Claims) (c : ℕ) where
     items = λ k v h. h.1;
     links = λ k v h. h.1;
   }
+  -- the last access is a load of a link that leads to no cell
   track {p} once (waits {older} {ks} {ns} {v} says s) =
       let y = track once s in
       let a = load c (place_past p ks) v in
@@ -225,6 +226,7 @@ module _ (cs : Claims) (c : ℕ) where
         links = λ k u h. elim
             (read-cases a (pool_accesses older) (Link k) u h) [ inl e ↦ past_link p k ks e | inr m ↦ y.links k u m ];
       }
+  -- the last access is a load of a link that leads to cell k
   track {p} once (finds {older} {ks} {ns} {k} ne fresh s) =
       let y = track once.1 s in
       let a = load c (place_past p ks) (k + 1) in
@@ -252,6 +254,7 @@ module _ (cs : Claims) (c : ℕ) where
         links = λ j u h. elim
             (read-cases a (pool_accesses older) (Link j) u h) [ inl e ↦ past_link p j ks e | inr m ↦ y.links j u m ];
       }
+  -- the last access is a step of the claim, which then has no note
   track once (goes {older} {ks} {ns} {k} {xs} {x} z q still s) =
       let y = track once s in
       record {
@@ -265,6 +268,7 @@ module _ (cs : Claims) (c : ℕ) where
         items = y.items;
         links = y.links;
       }
+  -- the last access is the last step of the claim, which then has a note
   track once (ends {older} {ks} {ns} {k} {xs} {x} {n} z q note s) =
       let y = track once s in
       let own = step_own k ks ns xs x older once z q y in
@@ -282,6 +286,7 @@ module _ (cs : Claims) (c : ℕ) where
         items = λ j v h. inr (y.items j v h);
         links = λ j v h. inr (y.links j v h);
       }
+  -- the last access is the load of the item
   track once (takes {older} {ks} {ns} {k} {xs} {v} q s) =
       let y = track once s in
       let a = load c (Item k) v in

@@ -46,6 +46,7 @@ pub struct Report<A: Allocator + Drop> {
     pub diaries: Vec<Diary<A>, A>,
 }
 
+// Clauses see what a report has of a lane as plain lists.
 impl<A: Allocator + Drop> Model for LaneReport<A> {
     ghost use Rattle.mb_world.specs.Report.{LaneView};
 
@@ -54,6 +55,7 @@ impl<A: Allocator + Drop> Model for LaneReport<A> {
     ghost view = { λ l. record { put = l.put.items; ended = l.ended; left = l.left.items } };
 }
 
+// Clauses see a diary as plain numbers and a plain list.
 impl<A: Allocator + Drop> Model for Diary<A> {
     ghost use Rattle.mb_world.specs.Report.{DiaryView};
 
@@ -67,6 +69,7 @@ impl<A: Allocator + Drop> Model for Diary<A> {
     } };
 }
 
+// Clauses see a report as plain lists of lanes and diaries.
 impl<A: Allocator + Drop> Model for Report<A> {
     ghost use Rattle.mb_world.specs.Report.{ReportView};
 

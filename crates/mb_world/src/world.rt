@@ -31,6 +31,7 @@ pub struct World<A: Allocator + Drop> {
     notes: Vec<Option<Note>, A>,
 }
 
+// Clauses see the state of a world. The invariant is that some lawful history leaves it.
 impl<A: Allocator + Drop> Model for World<A> {
     ghost use Rattle.mb_world.specs.WorldState.{WorldIsSound, WorldState};
 
