@@ -13,6 +13,7 @@ pub struct BoundProducer<A: Allocator + Drop> {
     pub(crate) producer: Producer<A>,
 }
 
+// The invariant is that the producer belongs to the mailbox.
 impl<A: Allocator + Drop> Model for BoundProducer<A> {
     ghost use Rattle.std.specs.Arc.{arc_value};
     ghost use Rattle.mb_bound.specs.Bound.{BoundProducerView};
