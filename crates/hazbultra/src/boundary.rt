@@ -62,6 +62,7 @@ pub struct MissingOut {
     pub consumers: u32,
 }
 
+// A note becomes its kind and its value, as C has them.
 impl From<Note> for NoteOut {
     ghost use Rattle.std.specs.Prelude.{◌≡◌};
     ghost use Rattle.hazbultra.specs.Reports.{note_out};

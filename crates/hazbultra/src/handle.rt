@@ -76,6 +76,7 @@ impl Handle {
     }
 }
 
+// A handle that is dropped frees what it leads to.
 impl Drop for Handle {
     fn drop(self) {
         drop(self.into_box());

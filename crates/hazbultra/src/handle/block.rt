@@ -21,6 +21,7 @@ pub struct Block {
     pub ghost thing: { Option Thing } by { maybe_thing_coded },
 }
 
+// A block owns what it leads to.
 impl Model for Block {
     ghost also_owns = { λ b. block_owns b.alloc b.at b.thing };
 }

@@ -12,6 +12,7 @@ pub struct Parts<T, A: Allocator> {
     pub ghost value: { T },
 }
 
+// The parts own what a box of this value at this address owns.
 impl<T, A: Allocator> Model for Parts<T, A> {
     ghost also_owns = { λ p. box_owns (A.dealloc_token p.alloc) T.row p.ptr p.value };
 }
