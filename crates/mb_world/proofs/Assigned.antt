@@ -93,7 +93,7 @@ module _ (n : ℕ) (r : ReportView) (right : AreNotesRight n r) where
           let taken = has_taken d p j o in
           inl (ap Some (right.one d c p j (Took taken.0) (Lost w) d w taken.1 lost refl refl))
 
-  -- so the report agrees with the assignment by takers
+  -- so the report agrees with the assignment `taker`
   pub agrees : AgreesWith taker r
   agrees = record {
     given = record {

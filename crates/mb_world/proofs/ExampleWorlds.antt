@@ -114,11 +114,13 @@ module _ (laws : Laws) where
   waited_path : ConsumerPath two_cells 0 0 (link_load 0 0 [] 0 ∷ []) [] [] None
   waited_path = waits (inl refl) begins
 
+  -- so the history in which consumer 0 found nothing is lawful
   pub offered_lawful : IsWorldLawful two_by_two offered
   offered_lawful =
       (laws.consumer (ToCells (fetch 0 five) ∷ []) 0 0 (link_load 0 0 [] 0) [] [] None taken_lawful (omega arith)
       (omega arith) (omega arith, refl) waited_path).lawful
 
+  -- the history in which the item 5 is stored is lawful
   pub stored_lawful : IsWorldLawful two_by_two (stores 0 (Item 0) 5 ∷ offered)
   stored_lawful =
       let at : LaneIsAt 2 0 [] (Stored five) (store 0 (Item 0) 5 ∷ fetch 0 five ∷ []) =
@@ -130,12 +132,14 @@ module _ (laws : Laws) where
   abbrev first_group : History
   first_group = store 0 (Head 0) 1 ∷ store 0 (Item 0) 5 ∷ fetch 0 five ∷ []
 
+  -- the history in which the item 5 is put is lawful
   pub one_put_lawful : IsWorldLawful two_by_two one_put
   one_put_lawful =
       let at : LaneIsAt 2 0 (five ∷ []) Open first_group = record { below = (omega arith, tt); fits = tt; is = refl } in
       laws.producer (stores 0 (Item 0) 5 ∷ offered) 0 (store 0 (Head 0) 1) stored_lawful refl (omega arith)
       (omega arith) tt (laws.prefix 0 (five ∷ []) Open first_group at)
 
+  -- with a cell for the item 6 the history is lawful
   taken_too : IsWorldLawful two_by_two (ToCells (fetch 1 six) ∷ one_put)
   taken_too =
       let at : LaneIsAt 2 1 [] (Offered six) (fetch 1 six ∷ []) = record {
@@ -146,6 +150,7 @@ module _ (laws : Laws) where
       laws.producer one_put 1 (fetch 1 six) one_put_lawful refl (omega arith) (omega arith, omega arith) refl
       (laws.prefix 1 [] (Offered six) (fetch 1 six ∷ []) at)
 
+  -- with the item 6 stored the history is lawful
   stored_too : IsWorldLawful two_by_two (stores 1 (Item 1) 6 ∷ ToCells (fetch 1 six) ∷ one_put)
   stored_too =
       let at : LaneIsAt 2 1 [] (Stored six) (store 1 (Item 1) 6 ∷ fetch 1 six ∷ []) =
@@ -158,6 +163,7 @@ module _ (laws : Laws) where
   abbrev second_group : History
   second_group = store 1 (Head 1) 2 ∷ store 1 (Item 1) 6 ∷ fetch 1 six ∷ []
 
+  -- the history in which both items are put is lawful
   pub both_put_lawful : IsWorldLawful two_by_two both_put
   both_put_lawful =
       let at : LaneIsAt 2 1 (six ∷ []) Open second_group = record { below = (omega arith, tt); fits = tt; is = refl } in
@@ -169,6 +175,7 @@ module _ (laws : Laws) where
   found_path : ConsumerPath two_cells 0 0 (lane_part 0 0 first_found) (0 ∷ []) [] (Some [])
   found_path = finds (λ e. cc) first_fresh waited_path
 
+  -- the history in which consumer 0 found the item 5 is lawful
   pub first_found_lawful : IsWorldLawful two_by_two first_found
   first_found_lawful =
       (laws.consumer both_put 0 0 (link_load 0 0 [] 1) (0 ∷ []) [] (Some []) both_put_lawful (omega arith) (omega arith)
@@ -198,6 +205,7 @@ module _ (laws : Laws) where
   winning = claims_on 0 0 0 (omega arith) (omega arith) [] [] first_found first_found_lawful found_path won_steps
       stage.Won laws.won refl won_true
 
+  -- the history in which consumer 0 won the claim on the item 5 is lawful
   pub first_won_lawful : IsWorldLawful two_by_two first_won
   first_won_lawful = winning.lawful
 
@@ -205,6 +213,7 @@ module _ (laws : Laws) where
   pub first_path : ConsumerPath two_cells 0 0 (lane_part 0 0 first_taken) (0 ∷ []) (Took 5 ∷ []) None
   first_path = takes laws.won winning.path
 
+  -- the history in which consumer 0 took the item 5 is lawful
   pub first_taken_lawful : IsWorldLawful two_by_two first_taken
   first_taken_lawful =
       (laws.consumer first_won 0 0 (item_load 0 0 5) (0 ∷ []) (Took 5 ∷ []) None
@@ -219,6 +228,7 @@ module _ (laws : Laws) where
   first_met_path : ConsumerPath two_cells 1 0 (lane_part 1 0 first_met) (0 ∷ []) [] (Some [])
   first_met_path = finds (λ e. cc) second_fresh begins
 
+  -- with that load of consumer 1 the history is lawful
   first_met_lawful : IsWorldLawful two_by_two first_met
   first_met_lawful =
       (laws.consumer first_taken 1 0 (link_load 1 0 [] 1) (0 ∷ []) [] (Some []) first_taken_lawful (omega arith)
@@ -245,6 +255,7 @@ module _ (laws : Laws) where
   lost_path : ConsumerPath two_cells 1 0 (lane_part 1 0 first_lost) (0 ∷ []) (Lost 0 ∷ []) None
   lost_path = ends (stage.Lost 0) laws.lost refl almost_lost.path
 
+  -- the history in which consumer 1 lost the item 5 is lawful
   pub first_lost_lawful : IsWorldLawful two_by_two first_lost
   first_lost_lawful =
       (laws.consumer (map (claim_step 1 0) almost ++ first_met) 1 0 (claim_step 1 0 won_last) (0 ∷ []) (Lost 0 ∷ [])
@@ -254,6 +265,7 @@ module _ (laws : Laws) where
   met_path : ConsumerPath two_cells 1 1 (lane_part 1 1 second_met) (1 ∷ []) [] (Some [])
   met_path = finds (λ e. cc) second_fresh begins
 
+  -- the history in which consumer 1 found the item 6 is lawful
   pub met_lawful : IsWorldLawful two_by_two second_met
   met_lawful =
       (laws.consumer first_lost 1 1 (link_load 1 1 [] 2) (1 ∷ []) [] (Some []) first_lost_lawful (omega arith)
@@ -263,6 +275,7 @@ module _ (laws : Laws) where
   pub begun_path : ConsumerPath two_cells 1 1 (lane_part 1 1 second_begun) (1 ∷ []) [] (Some (first_step ∷ []))
   begun_path = goes stage.Going second_goes refl met_path
 
+  -- the history in which consumer 1 began a claim on the item 6 is lawful
   pub second_begun_lawful : IsWorldLawful two_by_two second_begun
   second_begun_lawful =
       (laws.consumer second_met 1 1 (claim_step 1 1 first_step) (1 ∷ []) [] (Some (first_step ∷ []))
@@ -274,6 +287,7 @@ module _ (laws : Laws) where
   abbrev finished : WorldHistory
   finished = stores 0 (Link 0) END ∷ second_begun
 
+  -- with the end mark the history is lawful
   ended_lawful : IsWorldLawful two_by_two finished
   ended_lawful =
       let at : LaneIsAt 2 0 (five ∷ []) (Ended None) (store 0 (Link 0) END ∷ first_group) =
@@ -285,6 +299,7 @@ module _ (laws : Laws) where
   pub ended_path : ConsumerPath two_cells 1 0 (lane_part 1 0 all_done) (0 ∷ []) (Lost 0 ∷ []) None
   ended_path = waits (inr refl) lost_path
 
+  -- what was done in all is lawful
   pub all_done_lawful : IsWorldLawful two_by_two all_done
   all_done_lawful =
       (laws.consumer finished 1 0 (link_load 1 0 (0 ∷ []) END) (0 ∷ []) (Lost 0 ∷ []) None ended_lawful (omega arith)
