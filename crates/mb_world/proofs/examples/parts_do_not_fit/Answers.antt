@@ -9,9 +9,11 @@ use Rattle.mb_world.specs.Fitting.{cells_met}
 use Rattle.mb_world.proofs.SmallPaths.{fresh}
 use Rattle.mb_world.proofs.examples.parts_do_not_fit.Goals as goal
 
+-- a cell with a claim would be given, but there is no load
 pub returns-clause-unmet : goal.returns-clause-unmet
 returns-clause-unmet c fit = fit.met 0 (λ e. cc)
 
+-- the claim would be won, but it goes on, as it has no step
 pub returns-clause-unclaimed : goal.returns-clause-unclaimed
 returns-clause-unclaimed c fit =
     let table = c.named_tables_are_lawful.ensures.lawful Unary 2 (omega arith) in
@@ -22,6 +24,7 @@ returns-clause-unclaimed c fit =
     let e = c.prefixes_have_one_stage.ensures two_consumers 0 [] stage.Going stage.Won table goes won in
     cc
 
+-- the claim would have ended, but it goes on, as it has no step
 pub returns-clause-passed : goal.returns-clause-passed
 returns-clause-passed c fit =
     let table = c.named_tables_are_lawful.ensures.lawful Unary 2 (omega arith) in

@@ -49,6 +49,7 @@ ten a = if is_none a then 10 ∷ [] else []
 abbrev nothing : List ℕ
 nothing = []
 
+-- the item goes to nobody, and would be left, or to a consumer that did not compete for it
 pub returns-clause-omitted : goal.returns-clause-omitted
 returns-clause-omitted c t agrees = by (t 0 0) refl (agrees.left 0)
   where
@@ -57,6 +58,7 @@ returns-clause-omitted c t agrees = by (t 0 0) refl (agrees.left 0)
     by (Some zero) e f = idle (agrees.given.competitors 0 0 0 e).1
     by (Some (suc d)) e f = nobody d (agrees.given.competitors (suc d) 0 0 e).1
 
+-- the item goes to consumer 0, so it would not be left
 pub returns-clause-both : goal.returns-clause-both
 returns-clause-both c t agrees = by (t 0 0) ((agrees.given.taken 0 0 0).0 (10, refl)) (agrees.left 0)
   where
@@ -64,6 +66,7 @@ returns-clause-both c t agrees = by (t 0 0) ((agrees.given.taken 0 0 0).0 (10, r
     by None e f = cc
     by (Some d) e f = cc
 
+-- the item goes to both takers
 pub returns-clause-twice : goal.returns-clause-twice
 returns-clause-twice c t agrees =
     let e = (agrees.given.taken 0 0 0).0 (5, refl) in
@@ -86,21 +89,27 @@ no_value false e = cc
 pub returns-clause-value : goal.returns-clause-value
 returns-clause-value c t agrees = no_value (is_consumer 0 (t 0 0)) (agrees.given.ledgers 0 0)
 
+-- consumer 0 has lost the item to itself
 pub returns-clause-itself : goal.returns-clause-itself
 returns-clause-itself c t agrees = (agrees.given.losses 0 0 0 0 refl).another refl
 
+-- consumer 1, to which the item was lost, did not compete for it
 pub returns-clause-away : goal.returns-clause-away
 returns-clause-away c t agrees = away (agrees.given.losses 0 1 0 0 refl).competed
 
+-- two losses of one item name two consumers
 pub returns-clause-each : goal.returns-clause-each
 returns-clause-each c t agrees = let e = (agrees.given.losses 0 1 0 0 refl).only 1 0 refl in cc
 
+-- the begun claim is on no item
 pub returns-clause-begun : goal.returns-clause-begun
 returns-clause-begun c t agrees = let e = agrees.given.begun_within 0 0 refl in omega (arith, e)
 
+-- there are more notes than items
 pub returns-clause-beyond : goal.returns-clause-beyond
 returns-clause-beyond c t agrees = let e = agrees.given.within 0 0 in omega (arith, e)
 
+-- consumer 0 took the item, and the loss says that it goes to consumer 2 or to nobody
 pub returns-clause-third : goal.returns-clause-third
 returns-clause-third c t agrees =
     by (t 0 0) ((agrees.given.taken 0 0 0).0 (5, refl)) (agrees.given.losses 1 2 0 0 refl).given
@@ -110,5 +119,6 @@ returns-clause-third c t agrees =
     by (Some d) e (inl f) = let g : Some 0 ≡ Some 2 = sym e ∙ f in cc
     by (Some d) e (inr f) = cc
 
+-- by the position of its diary, consumer 0 has lost the item of lane 1 to itself
 pub returns-clause-turned : goal.returns-clause-turned
 returns-clause-turned c t agrees = (agrees.given.losses 0 0 1 0 refl).another refl
