@@ -25,7 +25,7 @@ module _ (plan : Plan) (h : WorldHistory) (known : EventKnown plan h) (c p word 
     pub consumer : c < consumers_of plan
     pub lane : p < plan.lanes
 
-  -- an access for which a step asks, and which keeps the history lawful, is so
+  -- if an access for which a step asks keeps the history lawful, there are such a consumer and such a lane
   inside : (a : WorldAccess) → IsStep a → IsWorldLawful plan (a ∷ h) → IsInside a
   inside a made lawful =
       let there = lawful.no_others c a (inl refl) made.0 in

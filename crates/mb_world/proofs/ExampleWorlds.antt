@@ -55,7 +55,7 @@ module _ (laws : Laws) where
     pub lawful : IsWorldLawful two_by_two (map (claim_step c k) xs ++ h)
     pub path : ConsumerPath two_cells c p (lane_part c p (map (claim_step c k) xs ++ h)) (k ∷ ks) ns (Some xs)
 
-  -- steps that are a prefix of a claim path without a note, and true to memory, lead on so
+  -- steps lead on if they are true to memory and a prefix of a claim path that has no note
   pub claims_on : (c p k : ℕ) → c < 2 → p < 2 → (ks : List ℕ) (ns : List Note) (h : WorldHistory)
       → IsWorldLawful two_by_two h → ConsumerPath two_cells c p (lane_part c p h) (k ∷ ks) ns (Some [])
       → (xs : List ObjectTurn) (s : Stage) → IsClaimPrefix two_cells c xs s → note_of s ≡ None → AreTrueTo c k xs h

@@ -21,13 +21,13 @@ get_set_other (y ∷ xs) (suc i) zero x other = refl
 get_set_other (y ∷ xs) (suc i) (suc j) x other = get_set_other xs i j x (λ e. other (ap suc e))
 
 module _ {X : Type 0} (rows columns : ℕ) where
-  -- each element of the grid has what is asked at its row and its column
+  -- each element of the grid has the property P at its row and its column
   abbrev pub HasAll : (ℕ → ℕ → X → Type 0) → List X → Type 0
   HasAll P xs =
       (c p : ℕ) → c < rows → p < columns → (x : X) × (slice_get xs (c * columns + p) ≡ Some x) × P c p x
 
   module _ (P Q : ℕ → ℕ → X → Type 0) (xs : List X) (all : HasAll P xs) where
-    -- if no element changes, each has what is asked after, too
+    -- if no element changes, and each that has P has Q, all have Q
     pub all_kept : ((c p : ℕ) (x : X) → c < rows → p < columns → slice_get xs (c * columns + p) ≡ Some x → P c p x
         → Q c p x) → HasAll Q xs
     all_kept keeps c p cs ps = let old = all c p cs ps in (old.0, old.1, keeps c p old.0 cs ps old.1 old.2)
@@ -39,7 +39,7 @@ module _ {X : Type 0} (rows columns : ℕ) where
       inside : c * columns + p < length xs
       inside = omega (arith, count, position_within c p rows columns cs ps)
 
-      -- each element has what is asked after the change
+      -- if the new element has Q, and each other that has P has Q, all have Q after the change
       pub all_set : HasAll Q (slice_set xs (c * columns + p) y)
       all_set d q ds qs = by (cases_eq (d * columns + q) (c * columns + p))
         where

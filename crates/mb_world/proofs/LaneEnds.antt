@@ -14,12 +14,12 @@ use Rattle.mb_world.proofs.Positions.{StandsAt, at_has, at_some, at_start, at_wi
 use Rattle.mb_world.proofs.ReaderParts.{read-loaded}
 
 module _ (plan : Plan) (hs : Histories) (known : Known plan hs) where
-  -- a reader that has loaded the end mark of a lane has met all of its cells, and has loaded it past the last
+  -- the reader has met all cells of the lane, and has loaded the end mark past the last
   pub record HasMetLane (q p : ℕ) : Type 0 where
     pub all : HasMet q p (linked_cells p hs.pool) hs.pool
     pub last : HasLoaded q (place_past p (linked_cells p hs.pool)) END hs.pool
 
-  -- a reader that has loaded the end mark of a lane has met the lane so
+  -- a reader that has loaded the end mark of a lane has met all of its cells, and loaded the mark past the last
   met_lane : (q p : ℕ) → HasMetEnd q p hs.pool → HasMetLane q p
   met_lane q p end = by_word end.0 end.1 end.2 end.3
     where

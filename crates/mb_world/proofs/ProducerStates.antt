@@ -180,7 +180,7 @@ module _ (s : WorldState) (h : WorldHistory) (is : IsWorldAfter h s) (p : ℕ) (
     pub pushed : IsPushed w v
     pub named : answer_to (plan s h is).claims.cells w (Store v) ≡ Some (answer.Pushed z)
 
-  -- a store of the number of a cell, plus one, in the lane's next link is such a store
+  -- a push makes a store of the number of a cell, plus one, in the lane's next link, and this answer names it
   pushes_link : (last : Option ℕ) (cell : ℕ) → cell + 1 ≢ END → IsPush (link_after p last) (cell + 1) (push.Link cell)
   pushes_link last cell other = by last
     where
@@ -239,7 +239,8 @@ module _ (s : WorldState) (h : WorldHistory) (is : IsWorldAfter h s) (p : ℕ) (
     pub link : IsLinkWord w
     pub named : answer_to (plan s h is).claims.cells w (Store END) ≡ Some (answer.Finished finish.Ended)
 
-  -- the word of the lane's next link is so
+  -- the lane's next link is a head or a link, and the answer to a store of the end mark there says that the lane is
+  -- ended
   marks : (last : Option ℕ) → IsMark (link_after p last)
   marks last = by last
     where

@@ -46,7 +46,7 @@ module _ (one_stage : (xs : List ObjectTurn) (s r : Stage) → IsClaimPrefix two
   Next a was now = Leads two_cells 0 0 a was now
 
   -- ---- where the paths lead
-  -- the lemmas below say so of each history of the examples that is on a path
+  -- each history of the examples that is on a path leads to these cells, these notes and this claim
   pub waited_path : Path waited [] [] None
   waited_path = waits (inl refl) begins
 

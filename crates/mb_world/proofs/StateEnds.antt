@@ -57,7 +57,7 @@ module _ (cs : Claims) where
               ]
           by (inr other) = inl (subst (λ (l : History). HasRead (Item j) u l) (other_loads d other) read)
 
-      -- a value that was loaded from an item before is loaded in it, too
+      -- a value that was loaded from an item before is loaded in the longer history, too
       pub more_loads : (d j u : ℕ) → HasItem h d j u → HasItem loaded d j u
       more_loads d j u read = by (cases_eq d c)
         where

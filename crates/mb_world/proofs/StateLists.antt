@@ -32,7 +32,7 @@ lanes_more s n l ls told here = record {
   ];
 }
 
--- the elements of a grid with one more, at row c and column p, have what is asked at their rows and columns
+-- if the elements of a grid have the property P, and one more at row c and column p has it, all of them have it
 grid_more : {A : Type 0} (P : ℕ → ℕ → A → Type 0) (w c p : ℕ) (xs : List A) (y : A) → p < w
     → length xs ≡ c * w + p → ((e q : ℕ) → q < w → e * w + q < c * w + p
     → (x : A) × (slice_get xs (e * w + q) ≡ Some x) × P e q x) → P c p y

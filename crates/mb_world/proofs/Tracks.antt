@@ -60,7 +60,7 @@ ends_some E (j ∷ ks) [] k h has = absurd h
 ends_some E (j ∷ ks) (n ∷ ns) k h (inl e) = (n, subst (λ i. E i n) e h.0)
 ends_some E (j ∷ ks) (n ∷ ns) k h (inr has) = ends_some E ks ns k h.1 has
 
--- a value that was loaded from a word was so after one more access, too
+-- a value that older accesses loaded from a word is loaded from it after one more access, too
 pub read-more : (a : PoolAccess) (d : History) (w : Word) (v : ℕ) → HasRead w v d → HasRead w v (a ∷ d)
 read-more a d w v h = (h.0, inr h.1, h.2, h.3)
 

@@ -51,7 +51,7 @@ module _ (plan : Plan) (h : WorldHistory) (lawful : IsWorldLawful plan h) (known
     pub below : lane < plan.lanes
     pub here : has_cell (linked_cells lane (pool_accesses h)) k ≡ true
 
-  -- each claim with steps is so
+  -- each claim with steps is one of a consumer of the plan, on a cell of one of the lanes
   pub claim_lane : (c k : ℕ) → claim_part c k (claim_accesses h) ≢ [] → IsOnCell c k
   claim_lane c k some =
       let q = claim_has c k h some in

@@ -48,7 +48,7 @@ module _ (plan : Plan) (h : WorldHistory) (lawful : IsWorldLawful plan h) (known
       pub here : is_of_lane lane (linked_cells lane (pool_accesses h)) w ≡ true
       pub read : HasRead w v (pool_accesses (lane_part c lane h))
 
-    -- each value that was loaded from a word is so
+    -- each value that the consumer loaded from a word is loaded in its part on one of the lanes
     there : (w : Word) (v : ℕ) → HasRead w v (loads plan h lawful c) → IsThere w v
     there w v r =
         let on = load_lane plan h lawful c r.0 r.1 in

@@ -19,7 +19,7 @@ pub past_lane : (p : ℕ) (ks ls : List ℕ) → ((k : ℕ) → Has ks k → Has
 past_lane p [] ls on = eq-eqb p p refl
 past_lane p (k ∷ ks) ls on = has_cell-true ls k (on k (inl refl))
 
--- a cell that was met was met after one more load, too
+-- a cell that the older loads met is met with one more load, too
 pub met_stay : (p : ℕ) (a : PoolAccess) (older : History) (k : ℕ) → Has (cells_met p older) k
     → Has (cells_met p (a ∷ older)) k
 met_stay p a older k has =
@@ -40,7 +40,7 @@ module _ (p : ℕ) (ls : List ℕ) where
   abbrev AreLinked : History → Type 0
   AreLinked d = (k : ℕ) → Has (cells_met p (filter test d)) k → Has ls k
 
-  -- if the cells that these loads met are linked, those that the older loads met are
+  -- if the cells that these loads met on the lane are linked there, so are those that the older loads met
   older_linked : (a : PoolAccess) (older : History) → AreLinked (a ∷ older) → AreLinked older
   older_linked a older all k has =
       all k (cond_both (test a) (a ∷ filter test older) (filter test older) (λ (d : History). Has (cells_met p d) k)
@@ -81,7 +81,7 @@ module _ (plan : Plan) (h : WorldHistory) (lawful : IsWorldLawful plan h) (known
     pub follows : FollowsLane p (filter (of_lane plan h lawful p) d)
     pub linked : (k : ℕ) → Has (cells_met p (filter (of_lane plan h lawful p) d)) k → Has (cells_of p) k
 
-  -- if these loads do so, the older ones do
+  -- if these loads follow the links of lane p so, the older ones do, too
   older_links : (p : ℕ) (a : PoolAccess) (older : History) → IsOnLinks p (a ∷ older) → IsOnLinks p older
   older_links p a older y = record {
     follows = cond_both (of_lane plan h lawful p a) (a ∷ filter (of_lane plan h lawful p) older)
@@ -91,7 +91,7 @@ module _ (plan : Plan) (h : WorldHistory) (lawful : IsWorldLawful plan h) (known
     linked = older_linked p (cells_of p) a older y.linked;
   }
 
-  -- loads of a consumer that do so on each lane follow the links
+  -- if loads of a consumer follow the links of each lane so, they follow links
   follows_all : (c : ℕ) (d : History) → ((a : PoolAccess) → Has d a → Has (loads plan h lawful c) a)
       → ((p : ℕ) → p < plan.lanes → IsOnLinks p d) → FollowsLinks d
   follows_all c [] among lanes = tt
